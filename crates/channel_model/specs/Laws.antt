@@ -1,0 +1,89 @@
+-- The words of what holds in every legal history.
+use Rattle.std.specs.Prelude.{◌≡◌, ℕ, ◌+◌, ◌==◌, Bool, true, List, [], ◌∷◌, Option, Some, None, if◌then◌else◌}
+use Rattle.std.specs.List.{list_any}
+use Rattle.channel_model.specs.declared.acts.Act.{Act}
+use Rattle.channel_model.specs.declared.acts.Act.TheVariants.{Hand, Take, Admit, Drain, WakeClosed, Withdraw, Settle}
+use Rattle.channel_model.specs.declared.acts.Entry.{Entry}
+use Rattle.channel_model.specs.declared.standing.Party.{Party}
+use Rattle.channel_model.specs.declared.standing.Standing.{Standing}
+use Rattle.channel_model.specs.declared.standing.Receiver.{Receiver}
+use Rattle.co_base.specs.declared.names.WaitId.{WaitId}
+use Rattle.channel_model.specs.Channels.{State, Channel, Wait, start, same_wait}
+use Rattle.channel_model.specs.Effects.{after, holder_at}
+
+-- ---- whoever stands has an open wait
+
+-- a clause of the wait is at this channel
+abbrev pub names : ℕ → Wait → Bool
+names c x = list_any (λ y. y.1 == c) x.clauses
+
+-- the wait began, nobody resolved it, and a clause of it is at this channel
+abbrev pub IsStandingAt : ℕ → Option Wait → Type 0
+IsStandingAt c None = ⊥
+IsStandingAt c (Some x) = (x.resolved ≡ None) × (names c x ≡ true)
+
+abbrev pub HolderStands : (WaitId → Option Wait) → ℕ → Option Party → Type 0
+HolderStands waits c None = Unit {0}
+HolderStands waits c (Some p) = IsStandingAt c (waits p.wait)
+
+unfoldable pub OffersStand : (WaitId → Option Wait) → ℕ → List Standing → Type 0
+OffersStand waits c [] = Unit {0}
+OffersStand waits c (o ∷ os) = HolderStands waits c o.holder × OffersStand waits c os
+
+unfoldable pub ReceiversStand : (WaitId → Option Wait) → ℕ → List Receiver → Type 0
+ReceiversStand waits c [] = Unit {0}
+ReceiversStand waits c (r ∷ rs) = IsStandingAt c (waits r.party.wait) × ReceiversStand waits c rs
+
+pub record StandOpen (waits : WaitId → Option Wait) (c : ℕ) (ch : Channel) : Type 0 where
+  pub offers : OffersStand waits c ch.queue
+  pub receivers : ReceiversStand waits c ch.receivers
+
+-- each that stands at a channel has an open wait with a clause there
+abbrev pub AllStandOpen : State → Type 0
+AllStandOpen s = (c : ℕ) → StandOpen s.waits c (s.channels c)
+
+-- ---- a wait is resolved once, and settled once
+
+abbrev pub wait_of_party : Option Party → Option WaitId
+wait_of_party None = None
+wait_of_party (Some p) = Some p.wait
+
+abbrev pub first_waiting : List Receiver → Option WaitId
+first_waiting [] = None
+first_waiting (r ∷ rs) = Some r.party.wait
+
+abbrev pub first_holding : List Standing → Option WaitId
+first_holding [] = None
+first_holding (o ∷ os) = wait_of_party o.holder
+
+-- the wait that the act resolves where it comes
+abbrev pub resolves : State → Act → Option WaitId
+resolves s (Hand c p v) = first_waiting (s.channels c).receivers
+resolves s (Take c p v) = first_holding (s.channels c).queue
+resolves s (Admit c p) = wait_of_party (holder_at p (s.channels c).queue)
+resolves s (Drain c p v) = first_holding (s.channels c).queue
+resolves s (WakeClosed c p) = first_waiting (s.channels c).receivers
+resolves s (Withdraw w why) = Some w
+resolves s other = None
+
+-- the wait that the act settles
+abbrev pub settles : Act → Option WaitId
+settles (Settle w outcome) = Some w
+settles other = None
+
+abbrev pub one_if : WaitId → Option WaitId → ℕ
+one_if w None = 0
+one_if w (Some v) = if same_wait w v then 1 else 0
+
+unfoldable pub resolutions_from : WaitId → State → List Entry → ℕ
+resolutions_from w s [] = 0
+resolutions_from w s (e ∷ es) = one_if w (resolves s e.act) + resolutions_from w (after s e.who e.act) es
+
+-- how many entries of the history resolve the wait
+abbrev pub resolutions_of : WaitId → List Entry → ℕ
+resolutions_of w history = resolutions_from w start history
+
+-- how many entries of the history settle the wait
+unfoldable pub settlements_of : WaitId → List Entry → ℕ
+settlements_of w [] = 0
+settlements_of w (e ∷ es) = one_if w (settles e.act) + settlements_of w es

@@ -1,0 +1,10 @@
+pub mod Channels
+pub mod Outcomes
+pub mod Effects
+pub mod Needs
+pub mod Histories
+pub mod Owing
+pub mod Fates
+pub mod Floors
+pub mod Answers
+pub mod Laws

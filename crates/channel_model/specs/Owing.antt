@@ -1,0 +1,27 @@
+-- What a state of the channels still owes to those who wait.
+use Rattle.std.specs.Prelude.{◌≡◌, ℕ, ◌+◌, ◌<◌, Bool, true, false, not, ◌&&◌, ◌||◌, List, [], ◌∷◌, length, is_some}
+use Rattle.channel_model.specs.declared.acts.Kind.{Kind}
+use Rattle.channel_model.specs.declared.standing.Standing.{Standing}
+use Rattle.channel_model.specs.Channels.{Shape, kind_at, is_full, drops, Channel, State}
+
+-- an offer of this queue is held, with fewer offers before it than the kind keeps; n offers stand before this list
+abbrev pub owes_admission : Kind → ℕ → List Standing → Bool
+owes_admission kind n [] = false
+owes_admission kind n (o ∷ os) = (is_some o.holder && not (is_full kind n)) || owes_admission kind (n + 1) os
+
+abbrev pub stands_any : {A : Type 0} → List A → Bool
+stands_any [] = false
+stands_any (x ∷ xs) = true
+
+-- a held offer might be kept, a receiver of a closed channel was not told, an element of a cancelled channel was not
+-- removed, or more elements stand than the kind keeps
+abbrev pub owes : Kind → Channel → Bool
+owes kind ch =
+    owes_admission kind 0 ch.queue
+    || ((is_some ch.closed && stands_any ch.receivers)
+    || ((ch.voided && stands_any ch.queue)
+    || drops kind (length ch.queue)))
+
+-- no channel owes anything
+abbrev pub OwesNothing : Shape → State → Type 0
+OwesNothing shape s = (c : ℕ) → c < length shape → owes (kind_at shape c) (s.channels c) ≡ false

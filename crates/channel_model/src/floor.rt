@@ -1,0 +1,140 @@
+//! The one contract between channels and all above.
+
+ghost use Rattle.std.specs.Prelude.{◌≡◌, ℕ, ◌<◌, false, OnOk, OnErr};
+ghost use Rattle.channel_model.specs.Channels.{kind_at, is_signal};
+ghost use Rattle.channel_model.specs.Histories.{Legal};
+ghost use Rattle.channel_model.specs.Floors.{Floor, HasRoom, MayCall};
+ghost use Rattle.channel_model.specs.Answers.{OfferAnswer, GotAnswer, LookAnswer, SettleAnswer, IsOwn, IsReady};
+
+use crate::acts::Settled;
+use co_base::{ChannelId, Memory, Place, Tag, Value, WaitId};
+
+/// What an offer came to. The places are those of the acts that were made.
+#[derive(Clone, Copy, Debug, PartialEq, Eq)]
+pub enum Offered {
+    /// Handed to the first receiver, at its place; the coroutine is the receiver's.
+    Handed(Place, Tag),
+    Put(Place),
+    /// The offer waits; its wait has the name of the channel and this place.
+    Held(Place),
+    Closed(Value),
+    /// The channel has no place left.
+    Spent,
+}
+
+/// What an offer that never waits came to.
+#[derive(Clone, Copy, Debug, PartialEq, Eq)]
+pub enum TriedOffer {
+    Handed(Place, Tag),
+    Put(Place),
+    Full,
+    Closed(Value),
+    Spent,
+}
+
+/// What a receive came to.
+#[derive(Clone, Copy, Debug, PartialEq, Eq)]
+pub enum Got {
+    /// The place and the element, and the coroutine of the sender that waited with it, if one did.
+    Taken(Place, Value, Option<Tag>),
+    /// The receive waits; its wait has the name of the channel and this place.
+    Waiting(Place),
+    Closed(Value),
+    /// The channel has no place left.
+    Spent,
+}
+
+/// What a receive that never waits came to.
+#[derive(Clone, Copy, Debug, PartialEq, Eq)]
+pub enum TriedGot {
+    Taken(Place, Value, Option<Tag>),
+    Empty,
+    Closed(Value),
+}
+
+/// What the placing of a select's clause came to.
+#[derive(Clone, Copy, Debug, PartialEq, Eq)]
+pub enum Registered {
+    Stands(Place),
+    /// The other side stands at this place.
+    Partner(Place),
+    Closed(Value),
+    Spent,
+    /// The select's wait was resolved already.
+    Resolved,
+}
+
+/// The channel was closed before, with this value.
+#[derive(Clone, Copy, Debug, PartialEq, Eq)]
+pub struct AlreadyClosed {
+    pub v: Value,
+}
+
+/// What a withdraw came to.
+#[derive(Clone, Copy, Debug, PartialEq, Eq)]
+pub enum Withdrawn {
+    /// Done; the coroutine is that of the wait.
+    Done(Tag),
+    /// The wait was resolved before.
+    Late,
+}
+
+/// How far a wait is.
+#[derive(Clone, Copy, Debug, PartialEq, Eq)]
+pub enum WaitState {
+    Standing,
+    Resolved,
+    Settled,
+}
+
+/// A floor of channels, seen as what its callers have seen of it.
+///
+/// Each call makes at most one entry of its caller, and needs room for it. Between two calls of one caller, and within a
+/// call, others may make entries too, unless the floor is alone. An answer without an entry speaks of a moment
+/// of its call.
+pub trait ChannelFloor {
+    ghost view: { Self → Floor };
+
+    /// What tells one floor from another, and no call changes. No value of it is made.
+    type Anchor;
+
+    ghost anchor: { Self → Self.Anchor };
+
+    /// Makes room for so many entries.
+    fn room(&mut self, n: u32) -> Result<(), Memory>
+        ensures anchor { anchor self.new ≡ anchor self.old }
+        ensures ok { OnOk result (HasRoom n (view self.old) (view self.new)) }
+        ensures err { OnErr result (view self.new ≡ view self.old) };
+
+    /// Offers an element, and waits where the channel keeps no more.
+    fn offer(&mut self, who: Tag, c: ChannelId, value: Value) -> Offered
+        requires can { MayCall who c (view self.old) }
+        requires room { 0 < (view self.old).spare }
+        requires kind { is_signal (kind_at (view self.old).shape c) ≡ false }
+        ensures anchor { anchor self.new ≡ anchor self.old }
+        ensures answer { OfferAnswer who c value (view self.old) (view self.new) result };
+
+    /// Receives the first offer, or waits for one.
+    fn receive(&mut self, who: Tag, c: ChannelId) -> Got
+        requires can { MayCall who c (view self.old) }
+        requires room { 0 < (view self.old).spare }
+        ensures anchor { anchor self.new ≡ anchor self.old }
+        ensures answer { GotAnswer who c (view self.old) (view self.new) result };
+
+    /// How far the caller's own wait is. Makes no entry.
+    fn look(&mut self, who: Tag, w: WaitId) -> WaitState
+        requires can { MayCall who w.channel (view self.old) }
+        requires own { IsOwn who w (view self.old) }
+        ensures anchor { anchor self.new ≡ anchor self.old }
+        ensures answer { LookAnswer who w (view self.old) (view self.new) result };
+
+    /// Ends the caller's own wait, which was seen resolved. `cancelled` says that its Job was cancelled before.
+    fn settle(&mut self, who: Tag, w: WaitId, cancelled: bool) -> Settled
+        requires can { MayCall who w.channel (view self.old) }
+        requires room { 0 < (view self.old).spare }
+        requires ready { IsReady who w (view self.old) }
+        ensures anchor { anchor self.new ≡ anchor self.old }
+        ensures answer { SettleAnswer who w cancelled (view self.old) (view self.new) result };
+
+    ghost legal: { (s : Self) → Legal (view s).shape (view s).seen };
+}

@@ -1,0 +1,21 @@
+//! The model of channels: what a call may add to their history, and what the history then means.
+//!
+//! A history is a list of entries, each an act of one caller. Every act is one step on one state, and the state
+//! after a history follows from the entries alone (`specs/`). What a floor of channels promises to all above it is
+//! the trait `ChannelFloor`.
+//!
+//! - `acts`: the kinds of channels, the acts, and what a coroutine notes of its calls.
+//! - `standing`: offers and receivers that stand in a channel, and how a wait is resolved.
+//! - `floor`: the answers of calls, and the trait.
+#![tactic(auto)]
+
+mod acts;
+mod floor;
+mod standing;
+
+pub use acts::{Act, ChannelNote, Entry, Fate, Kind, Settled, Why};
+pub use floor::{
+    AlreadyClosed, ChannelFloor, Got, Offered, Registered, TriedGot, TriedOffer, WaitState,
+    Withdrawn,
+};
+pub use standing::{Party, Receiver, Resolution, Standing, outcome};
