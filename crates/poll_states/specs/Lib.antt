@@ -1,0 +1,5 @@
+pub mod Books
+pub mod Runs
+pub mod Frames
+pub mod Polls
+pub mod Parts

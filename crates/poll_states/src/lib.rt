@@ -1,0 +1,17 @@
+//! A coroutine between two moves: how far its code is, what it waits for, and the book of its calls.
+//!
+//! A poll makes at most one move of one coroutine, over any floor of channels. What a coroutine may note, move by move,
+//! is the script's meaning (`specs/Runs.antt`); a poll keeps to it whatever other coroutines do in between.
+//!
+//! - `book`: the notes of a coroutine's calls.
+//! - `frame`: a coroutine between two moves, and what is left of a run.
+//! - `polls`: one move.
+#![tactic(auto)]
+
+mod book;
+mod frame;
+mod polls;
+
+pub use book::Book;
+pub use frame::{Done, Frame, Stage, Turn};
+pub use polls::{Floors, poll};
