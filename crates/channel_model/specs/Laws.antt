@@ -1,8 +1,8 @@
 -- The words of what holds in every legal history.
-use Rattle.std.specs.Prelude.{◌≡◌, ℕ, ◌+◌, ◌==◌, Bool, true, List, [], ◌∷◌, Option, Some, None, if◌then◌else◌}
+use Rattle.std.specs.Prelude.{◌≡◌, ℕ, ◌+◌, ◌==◌, Bool, true, false, List, [], ◌∷◌, Option, Some, None, if◌then◌else◌}
 use Rattle.std.specs.List.{list_any}
 use Rattle.channel_model.specs.declared.acts.Act.{Act}
-use Rattle.channel_model.specs.declared.acts.Act.TheVariants.{Hand, Take, Admit, Drain, WakeClosed, Withdraw, Settle}
+use Rattle.channel_model.specs.declared.acts.Act.TheVariants.{Hand, Put, Offer, Await, Take, Admit, Drop, Close, Void, Drain, WakeClosed, Withdraw, Settle}
 use Rattle.channel_model.specs.declared.acts.Entry.{Entry}
 use Rattle.channel_model.specs.declared.standing.Party.{Party}
 use Rattle.channel_model.specs.declared.standing.Standing.{Standing}
@@ -87,3 +87,21 @@ resolutions_of w history = resolutions_from w start history
 unfoldable pub settlements_of : WaitId → List Entry → ℕ
 settlements_of w [] = 0
 settlements_of w (e ∷ es) = one_if w (settles e.act) + settlements_of w es
+
+-- ---- histories in which nothing is closed, dropped or taken back
+
+-- the act gives, leaves, waits for or takes an element, or ends a wait
+abbrev pub is_plain_act : Act → Bool
+is_plain_act (Hand c p v) = true
+is_plain_act (Put c p v) = true
+is_plain_act (Offer c p v w k) = true
+is_plain_act (Await c p w k) = true
+is_plain_act (Take c p v) = true
+is_plain_act (Admit c p) = false
+is_plain_act (Drop c p v) = false
+is_plain_act (Close c v) = false
+is_plain_act (Void c) = false
+is_plain_act (Drain c p v) = false
+is_plain_act (WakeClosed c p) = false
+is_plain_act (Withdraw w why) = false
+is_plain_act (Settle w outcome) = true

@@ -36,10 +36,10 @@ IsInside Failed i code = i < length code
 IsInside Cancelled i code = i < length code
 
 -- the floor has the script's channels, and the tag is one of the script's that may call
-pub record IsFor (p : Program) (tag : ℕ) (floor : Floor) : Type 0 where
+pub record IsFor (p : Program) (who : ℕ) (floor : Floor) : Type 0 where
   pub shape : floor.shape ≡ shape_of p
-  pub caller : floor.callers tag ≡ true
-  pub tag : tag < coroutine_count p
+  pub caller : floor.callers who ≡ true
+  pub runs : who < coroutine_count p
 
 -- the frame of this coroutine, as it stands on the floor
 pub record StandsOn (p : Program) (floor : Floor) (f : Frame) : Type 0 where

@@ -46,3 +46,23 @@ pub fn poll<C: ChannelFloor, W: Wakes, G: Gate>(
     gate.pass(frame.tag, 8);
     Ok(turn)
 }
+
+fn turn_of<C: ChannelFloor, W: Wakes, G: Gate>(
+    script: &Script,
+    frame: &mut Frame,
+    floors: &mut Floors<'_, C, W>,
+    gate: &G,
+) -> Turn
+    requires stands { StandsOn (program_of script.now) (C.view floors.old.channels.now) frame.old }
+    requires book { 0 < spare_of frame.old.book }
+    requires room { 0 < (C.view floors.old.channels.now).spare }
+    ensures stands { StandsOn (program_of script.now) (C.view floors.new.channels.now) frame.new }
+    ensures polled { Polled (program_of script.now) (C.view floors.old.channels.now) (C.view floors.new.channels.now) frame.old frame.new }
+    ensures turn { TurnAnswer (code_of (program_of script.now) frame.old.tag) (C.view floors.old.channels.now) (C.view floors.new.channels.now) frame.old frame.new result }
+    ensures quiet { items_of frame.new.book ≡ items_of frame.old.book → floors.new.wakes.now ≡ floors.old.wakes.now }
+    ensures anchor { C.anchor floors.new.channels.now ≡ C.anchor floors.old.channels.now }
+    ensures same_channels { floors.new.channels.ghost_name ≡ floors.old.channels.ghost_name }
+    ensures same_wakes { floors.new.wakes.ghost_name ≡ floors.old.wakes.ghost_name }
+{
+    Turn::Waits
+}
