@@ -2,10 +2,9 @@
 ghost use Rattle.std.specs.Prelude.{◌≡◌, ◌≤◌, IfOk, IsErr, OnOk, OnErr, IsTrue, ◌↔◌, Contains};
 ghost use Rattle.co_base.specs.Streams.{Rose};
 
-use std::alloc::Global;
-
 use crate::names::{Failed, Memory};
 use crate::streams::raised;
+use std::alloc::Global;
 
 /// A count of the calls, those that are to fail by their numbers from 1, and the number of failures. Either count stands still at its last value.
 #[derive(Debug, Drop)]

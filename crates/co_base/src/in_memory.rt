@@ -3,11 +3,10 @@ ghost use Rattle.std.specs.Prelude.{◌≡◌, ℕ, ◌≤◌, ◌<◌, Some, le
 ghost use Rattle.co_base.specs.Streams.{Rose, Gave, Took, IsDrained};
 ghost use Rattle.co_base.specs.FailingCalls.{after_call, after_failure};
 
-use std::alloc::Global;
-
 use crate::failing::FailingCalls;
 use crate::names::{Failed, Memory};
 use crate::streams::{Sink, Source};
+use std::alloc::Global;
 
 /// Gives its bytes in pieces of at most `step`.
 #[derive(Debug, Drop)]
@@ -24,7 +23,12 @@ impl MemorySource {
     ghost use Rattle.co_base.specs.InMemory.{SourceOver, source_faults};
 
     /// `step` is the most bytes of one call; `fails` has the numbers, from 1, of the calls that fail.
-    pub fn new(alloc: Global, bytes: &[u8], step: u32, fails: &[u32]) -> Result<MemorySource, Memory>
+    pub fn new(
+        alloc: Global,
+        bytes: &[u8],
+        step: u32,
+        fails: &[u32],
+    ) -> Result<MemorySource, Memory>
         requires { 1 ≤ step }
         ensures { IfOk result (SourceOver bytes.now step fails.now) }
     {

@@ -3,10 +3,9 @@ ghost use Rattle.std.specs.Prelude.{◌≡◌, ℕ, ◌≤◌, ◌<◌, ◌+◌,
 ghost use Rattle.std.specs.Io.KnownBytes.{ReadConsumes, WriteAppends};
 ghost use Rattle.co_base.specs.Streams.{raised as one_more, Rose, Gave, Took, IsDrained};
 
-use std::io::{ErrorKind, Read, Write};
-
 use crate::names::Failed;
 use crate::streams::{Sink, Source, raised};
+use std::io::{ErrorKind, Read, Write};
 
 /// The most tries of one call, each but the last of which was interrupted.
 const TRIES: u32 = 1_000;
@@ -56,13 +55,11 @@ impl<R: Read> Source for StdSource<R> {
         ensures bytes { ReadConsumes (R.remaining (reader_of self.old)) (R.remaining (reader_of self.new)) result buf.new }
         ensures counted { source_faults self.new ≡ (if is_ok result then source_faults self.old else one_more (source_faults self.old)) }
     {
-        match read_uninterrupted(&mut self.reader, buf) {
-            Ok(n) => Ok(n),
-            Err(Failed) => {
-                self.faults = raised(self.faults);
-                Err(Failed)
-            }
+        let given = read_uninterrupted(&mut self.reader, buf);
+        if given.is_err() {
+            self.faults = raised(self.faults);
         }
+        given
     }
 }
 

@@ -2,10 +2,9 @@
 ghost use Rattle.std.specs.Prelude.{◌≡◌, ℕ, ◌≤◌, ◌<◌, ◌+◌, Some, None, Ok, length, drop, take, min, max, ◌++◌, [], IfOk, IfSome, IsSome, OnOk, OnErr, ◌↔◌, vec_capacity};
 ghost use Rattle.co_base.specs.Streams.{Rose, Gave, Took, IsDrained};
 
-use std::alloc::Global;
-
 use crate::names::{Failed, Memory};
 use crate::streams::{Sink, Source};
+use std::alloc::Global;
 
 /// Gives its bytes, as many as there is room for.
 #[derive(Debug, Drop)]
