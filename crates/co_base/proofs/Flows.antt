@@ -1,5 +1,6 @@
 -- What several reads and writes come to.
 use Rattle.std.proofs.Common.{◌≡◌, ℕ, ◌+◌, ◌≤◌, List, ◌++◌, length, take, drop, ap, sym, ◌∙◌, append_assoc, arith, Option, Some, None}
+use Rattle.std.proofs.lemmas.List.{take-append-le, take-append-drop, drop-drop, take_all}
 use Rattle.std.proofs.Math.Seq.{take-add}
 use Rattle.co_base.specs.Streams.{Gave, Took}
 
@@ -43,3 +44,9 @@ filled_more old mid new before a b count n limit buffer filled w len front fits 
   given = rw (take-add count n filled, front) (gave_then old mid new (take count buffer) (take n (drop count filled)) w.given t);
   rises = omega (arith, w.rises);
 }
+
+pub given_at : (bytes buf piece : List ℕ) (at n : ℕ) → piece ≡ take n (drop at bytes) → length piece ≡ n → drop at bytes ≡ take n (piece ++ drop n buf) ++ drop (at + n) bytes
+given_at bytes buf piece at n e len =
+    let front : take n (piece ++ drop n buf) ≡ piece = take-append-le n piece (drop n buf) (omega arith) ∙ take_all n piece (omega arith) in
+    let back : drop (at + n) bytes ≡ drop n (drop at bytes) = sym (drop-drop n at bytes) in
+    sym (ap (λ l. l ++ drop (at + n) bytes) (front ∙ e) ∙ ap (λ l. take n (drop at bytes) ++ l) back ∙ take-append-drop n (drop at bytes))
