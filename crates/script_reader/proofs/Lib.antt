@@ -2,3 +2,7 @@ pub mod Declarations
 pub mod Filters
 pub mod Numbers
 pub mod Names
+pub mod Found
+pub mod FoundLines
+pub mod Lengths
+pub mod Soundness
