@@ -6,3 +6,4 @@ pub mod Found
 pub mod FoundLines
 pub mod Lengths
 pub mod Soundness
+pub mod Loops

@@ -181,6 +181,10 @@ unfolding open_cost
 line_cost None line = refl
 line_cost (Some b) line = refl
 
+pub blocks-cost : (s : Read) → 16 * length s.blocks ≤ cost s
+unfolding cost
+blocks-cost s = omega arith
+
 -- a line is as long as what it adds
 pub cost-after : (s : Read) (words : List (List ℕ)) (form : Form) → Says s words form → cost (after form s) ≤ cost s + text_length words
 unfolding cost open_cost
