@@ -7,3 +7,5 @@ pub mod FoundLines
 pub mod Lengths
 pub mod Soundness
 pub mod Loops
+pub mod Again
+pub mod Spelling
