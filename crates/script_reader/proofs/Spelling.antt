@@ -1,13 +1,16 @@
 -- What is read is what is spelled.
 use Rattle.std.proofs.Common.{◌≡◌, ℕ, ◌+◌, ◌<◌, ◌≤◌, List, [], ◌∷◌, refl, ap, sym, ◌∙◌, arith, Result, Ok, Err, Bool, true, false, Option, Some, None, length, if◌then◌else◌, ◌&&◌, nat_lt, nat_le, subst, filter, map}
-use Rattle.std.specs.Prelude.{is_some}
+use Rattle.std.specs.Prelude.{is_some, IfOk, MatchResult}
 use Rattle.std.specs.List.{list_all}
 use Rattle.std.proofs.lemmas.Bool.Decides.{nat_tests}
 use lib.Chars.{codes}
 use Rattle.script_reader.specs.declared.fault.FaultKind.{FaultKind}
 use Rattle.script_reader.specs.declared.fault.FaultKind.TheVariants as kinds
 use Rattle.script_reader.specs.declared.fault.ScriptFault.{ScriptFault}
-use Rattle.script_reader.specs.Faults.{◌>>>◌, in_line}
+use Rattle.script_reader.specs.declared.script.Script.{Script}
+use Rattle.script_reader.specs.Scripts.{program_of}
+use Rattle.script_reader.specs.Faults.{◌>>>◌, in_line, Unless, GivesAt}
+use Rattle.script_reader.proofs.Loops.{unless_still}
 use Rattle.script_reader.specs.Programs.{Program, Block, block_named}
 use Rattle.script_reader.specs.Words.{all_plain, words_of, lines_of, with_words, has_items}
 use Rattle.script_reader.specs.Forms.{Read, Form, start, after, has_main}
@@ -161,3 +164,34 @@ read-from_Spells bytes p is =
     ∙ ap (λ r. collapsed true (r >>> λ s. in_line (length (lines_of bytes)) (finish s))) (lines_again 1 start is.last (lines_of bytes) is.plain is.said)
     ∙ ap (λ r. collapsed true (in_line (length (lines_of bytes)) r)) (finish_again is.last is.closed is.main)
     ∙ ap (λ q. Ok q) is.program
+
+-- ---- what a call of the reader says
+
+pub spelled : (r : Result Script ScriptFault) (bytes : List ℕ) → GivesAt program_of r (first_scripts bytes) → IfOk r (λ script. Spells bytes (program_of script))
+spelled (Ok script) bytes gives = Spells-from_read bytes (program_of script) gives
+spelled (Err fault) bytes gives = tt
+
+memory_only : (k : FaultKind) → Unless k ⊥ → k ≡ kinds.Memory
+memory_only kinds.Memory h = refl
+memory_only kinds.NotAscii h = absurd h
+memory_only kinds.UnknownWord h = absurd h
+memory_only kinds.BadNumber h = absurd h
+memory_only kinds.BadName h = absurd h
+memory_only kinds.Duplicate h = absurd h
+memory_only kinds.Undeclared h = absurd h
+memory_only kinds.NoMain h = absurd h
+memory_only kinds.NoEnd h = absurd h
+memory_only kinds.Extra h = absurd h
+memory_only kinds.TooDeep h = absurd h
+memory_only kinds.TooMany h = absurd h
+memory_only kinds.Recursive h = absurd h
+
+no_fault : (p : Program) (fault : ScriptFault) (read : Result Program ScriptFault) → read ≡ Ok p → read ≡ Err fault → ⊥
+no_fault p fault read ok bad = cc
+
+same_program : (p q : Program) (read : Result Program ScriptFault) → read ≡ Ok p → read ≡ Ok q → q ≡ p
+same_program p q read e f = cc
+
+pub complete : (r : Result Script ScriptFault) (bytes : List ℕ) (p : Program) → GivesAt program_of r (first_scripts bytes) → Spells bytes p → MatchResult r (λ script. program_of script ≡ p) (λ fault. fault.kind ≡ kinds.Memory)
+complete (Ok script) bytes p gives is = same_program p (program_of script) (first_scripts bytes) (read-from_Spells bytes p is) gives
+complete (Err fault) bytes p gives is = memory_only fault.kind (unless_still fault.kind _ ⊥ (no_fault p fault (first_scripts bytes) (read-from_Spells bytes p is)) gives)
