@@ -135,6 +135,7 @@ block_of_tag-some p ok tag h = by_test (tag == 0) refl
   where
     is_zero : (t : Bool) → (tag == 0) ≡ t → t ≡ false → 1 ≤ tag
     is_zero t e f = grind (arith, nat_tests)
+
     by_test : (t : Bool) → (tag == 0) ≡ t → (i : ℕ) × ((if t then block_named (codes "main") 0 p.blocks else slice_get p.spawns (tag - 1)) ≡ Some i) × (i < length p.blocks)
     by_test true e = main_block p ok
     by_test false e =
@@ -158,6 +159,7 @@ block_of_tag-spawn channels cs ss tag s other small is = by_test (tag == 0) (no_
     no_zero : (t : Bool) → (tag == 0) ≡ t → t ≡ false
     no_zero true e = absurd (other (grind (arith, nat_tests)))
     no_zero false e = refl
+
     by_test : (t : Bool) → t ≡ false → (if t then block_named (codes "main") 0 (map block_of cs) else slice_get (map (λ x. x.coroutine) ss) (tag - 1)) ≡ Some s.coroutine
     by_test true e = cc
     by_test false e = slice_get-map (λ (x : Spawn). x.coroutine) ss (tag - 1) ∙ ap (option_map (λ (x : Spawn). x.coroutine)) (slice_get_read ss (length ss) (tag - 1) s refl small is)

@@ -126,7 +126,6 @@ pub number_found : (low high n : ℕ) (ws rest : List (List ℕ)) → number_at 
 number_found low high n [] rest e = cc
 number_found low high n (w ∷ ws) rest e = number_in low high n w ws rest (value_at w) refl e
 
-
 few_ok : (limit count : ℕ) (u : Unit {0}) (b : Bool) (k : FaultKind) → nat_le count limit ≡ b → if◌then◌else◌ {A = Result (Unit {0}) FaultKind} b (Ok tt) (Err k) ≡ Ok u → count ≤ limit
 few_ok limit count u true k t e = no_more count limit t
 few_ok limit count u false k t e = cc

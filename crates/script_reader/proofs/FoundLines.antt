@@ -29,7 +29,7 @@ channel_found s ws f out ok =
     let c = end_found y.0 z.0 z.1 in
     let d = at_most_found 256 few m.0 m.1 in
     subst (Says s (codes "channel" ∷ ws)) (form_ok (channel_is x.0.0) f m.2)
-        (out, ap (λ l. codes "channel" ∷ l) (a.0 ∙ ap (λ l. x.0.0 ∷ l) (b ∙ ap (λ l. codes "rendezvous" ∷ l) c)), a.1, omega (arith, d))
+    (out, ap (λ l. codes "channel" ∷ l) (a.0 ∙ ap (λ l. x.0.0 ∷ l) (b ∙ ap (λ l. codes "rendezvous" ∷ l) c)), a.1, omega (arith, d))
 
 pub coroutine_found : (s : Read) (ws : List (List ℕ)) (f : Form) → s.block ≡ None → coroutine_line s ws ≡ Ok f → Says s (codes "coroutine" ∷ ws) f
 coroutine_found s ws f out ok =
@@ -40,7 +40,7 @@ coroutine_found s ws f out ok =
     let a = new_found (block_names s.blocks) ws x.0.0 x.0.1 x.1 in
     let c = end_found x.0.1 z.0 z.1 in
     subst (Says s (codes "coroutine" ∷ ws)) (form_ok (coroutine_is x.0.0) f m.2)
-        (out, ap (λ l. codes "coroutine" ∷ l) (a.0 ∙ ap (λ l. x.0.0 ∷ l) c), a.1, at_most_found 16000 count m.0 m.1)
+    (out, ap (λ l. codes "coroutine" ∷ l) (a.0 ∙ ap (λ l. x.0.0 ∷ l) c), a.1, at_most_found 16000 count m.0 m.1)
 
 pub spawn_found : (s : Read) (ws : List (List ℕ)) (f : Form) → s.block ≡ None → spawn_line s ws ≡ Ok f → Says s (codes "spawn" ∷ ws) f
 spawn_found s ws f out ok =
@@ -53,7 +53,7 @@ spawn_found s ws f out ok =
     let b = other_than_main_found ws a.0 x.0.1 y.0 a.1 y.1 in
     let c = end_found x.0.1 z.0 z.1 in
     subst (Says s (codes "spawn" ∷ ws)) (form_ok (spawn_is x.0.0) f m.2)
-        (a.0, out, ap (λ l. codes "spawn" ∷ l) (a.1 ∙ ap (λ l. a.0 ∷ l) c), a.2, b, at_most_found 16000 count m.0 m.1)
+    (a.0, out, ap (λ l. codes "spawn" ∷ l) (a.1 ∙ ap (λ l. a.0 ∷ l) c), a.2, b, at_most_found 16000 count m.0 m.1)
 
 pub send_found : (s : Read) (ws : List (List ℕ)) (f : Form) → is_some s.block ≡ true → send_line s ws ≡ Ok f → Says s (codes "send" ∷ ws) f
 send_found s ws f within ok =
@@ -64,7 +64,7 @@ send_found s ws f within ok =
     let b = number_found 0 4294967295 y.0.0 x.0.1 y.0.1 y.1 in
     let c = end_found y.0.1 z.0 z.1 in
     subst (Says s (codes "send" ∷ ws)) (form_ok (send_is x.0.0 y.0.0) f z.2)
-        (a.0, within, ap (λ l. codes "send" ∷ l) (a.1 ∙ ap (λ l. a.0 ∷ l) (b.0 ∙ ap (λ l. decimal y.0.0 ∷ l) c)), a.2, omega (arith, b.2))
+    (a.0, within, ap (λ l. codes "send" ∷ l) (a.1 ∙ ap (λ l. a.0 ∷ l) (b.0 ∙ ap (λ l. decimal y.0.0 ∷ l) c)), a.2, omega (arith, b.2))
 
 pub receive_found : (s : Read) (ws : List (List ℕ)) (f : Form) → is_some s.block ≡ true → receive_line s ws ≡ Ok f → Says s (codes "receive" ∷ ws) f
 receive_found s ws f within ok =
@@ -94,12 +94,12 @@ pub outside_found : (s : Read) (word : List ℕ) (ws : List (List ℕ)) (f : For
 unfolding outside
 outside_found s word ws f out ok =
     elim (chosen (bytes_eq word (codes "channel")) word (codes "channel") (channel_line s ws) _ f refl ok) [
-      inl h ↦ subst (λ w. Says s (w ∷ ws) f) h.0 (channel_found s ws f out h.1)
-    | inr more ↦ elim (chosen (bytes_eq word (codes "coroutine")) word (codes "coroutine") (coroutine_line s ws) _ f refl more) [
-        inl h ↦ subst (λ w. Says s (w ∷ ws) f) h.0 (coroutine_found s ws f out h.1)
-      | inr last ↦ elim (chosen (bytes_eq word (codes "spawn")) word (codes "spawn") (spawn_line s ws) _ f refl last) [
-          inl h ↦ subst (λ w. Says s (w ∷ ws) f) h.0 (spawn_found s ws f out h.1)
-        | inr none ↦ no_word f _ (Says s (word ∷ ws) f) none
+      | inl h ↦ subst (λ w. Says s (w ∷ ws) f) h.0 (channel_found s ws f out h.1)
+      | inr more ↦ elim (chosen (bytes_eq word (codes "coroutine")) word (codes "coroutine") (coroutine_line s ws) _ f refl more) [
+        | inl h ↦ subst (λ w. Says s (w ∷ ws) f) h.0 (coroutine_found s ws f out h.1)
+        | inr last ↦ elim (chosen (bytes_eq word (codes "spawn")) word (codes "spawn") (spawn_line s ws) _ f refl last) [
+          | inl h ↦ subst (λ w. Says s (w ∷ ws) f) h.0 (spawn_found s ws f out h.1)
+          | inr none ↦ no_word f _ (Says s (word ∷ ws) f) none
         ]
       ]
     ]
@@ -108,12 +108,12 @@ pub inside_found : (s : Read) (word : List ℕ) (ws : List (List ℕ)) (f : Form
 unfolding inside
 inside_found s word ws f within ok =
     elim (chosen (bytes_eq word (codes "send")) word (codes "send") (send_line s ws) _ f refl ok) [
-      inl h ↦ subst (λ w. Says s (w ∷ ws) f) h.0 (send_found s ws f within h.1)
-    | inr more ↦ elim (chosen (bytes_eq word (codes "receive")) word (codes "receive") (receive_line s ws) _ f refl more) [
-        inl h ↦ subst (λ w. Says s (w ∷ ws) f) h.0 (receive_found s ws f within h.1)
-      | inr last ↦ elim (chosen (bytes_eq word (codes "end")) word (codes "end") (end_line ws) _ f refl last) [
-          inl h ↦ subst (λ w. Says s (w ∷ ws) f) h.0 (end_line_found s ws f within h.1)
-        | inr none ↦ no_word f _ (Says s (word ∷ ws) f) none
+      | inl h ↦ subst (λ w. Says s (w ∷ ws) f) h.0 (send_found s ws f within h.1)
+      | inr more ↦ elim (chosen (bytes_eq word (codes "receive")) word (codes "receive") (receive_line s ws) _ f refl more) [
+        | inl h ↦ subst (λ w. Says s (w ∷ ws) f) h.0 (receive_found s ws f within h.1)
+        | inr last ↦ elim (chosen (bytes_eq word (codes "end")) word (codes "end") (end_line ws) _ f refl last) [
+          | inl h ↦ subst (λ w. Says s (w ∷ ws) f) h.0 (end_line_found s ws f within h.1)
+          | inr none ↦ no_word f _ (Says s (word ∷ ws) f) none
         ]
       ]
     ]

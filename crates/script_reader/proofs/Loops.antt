@@ -112,7 +112,7 @@ pub Few-from : (left : ℕ) (r : Reading) → Fits left (view r) → Few r
 Few-from left r fits = record {
   channels = omega (arith, fits.sound.few_channels, length-map r.channels.items declared_of);
   coroutines = omega (arith, fits.length, blocks-cost (view r), length-map r.coroutines.items block_of);
-  spawns = omega (arith, fits.sound.few_coroutines, length-map r.spawns.items (λ (s : Spawn). s.coroutine))
+  spawns = omega (arith, fits.sound.few_coroutines, length-map r.spawns.items (λ (s : Spawn). s.coroutine));
 }
 
 one_more : (blocks : List Block) (n i : ℕ) → block_named (codes "main") 0 blocks ≡ Some i → load (has_main (blocks ++ [])) n ≤ 16000 → 1 + n ≤ 16000
@@ -129,5 +129,5 @@ IsProgram-from s i sound out main = record {
   blocks = sound.blocks;
   spawns = sound.spawns;
   has_main = ap is_some main;
-  few_coroutines = one_more s.blocks (length s.spawns) i main (let P : Option Block → Type 0 = λ b. load (has_main (s.blocks ++ closed b)) (length s.spawns) ≤ 16000 in subst P out sound.few_coroutines)
+  few_coroutines = one_more s.blocks (length s.spawns) i main (let P : Option Block → Type 0 = λ b. load (has_main (s.blocks ++ closed b)) (length s.spawns) ≤ 16000 in subst P out sound.few_coroutines);
 }

@@ -103,7 +103,7 @@ line_sound s line ok h = record {
   blocks = ok.blocks;
   block = with_line_sound (length s.channels) s.block line ok.block h;
   spawns = ok.spawns;
-  few_coroutines = subst (λ m. load m (length s.spawns) ≤ 16000) (sym (has_main-line s.blocks s.block line)) ok.few_coroutines
+  few_coroutines = subst (λ m. load m (length s.spawns) ≤ 16000) (sym (has_main-line s.blocks s.block line)) ok.few_coroutines;
 }
 
 closed_sound : (n : ℕ) (bs : List Block) (b : Option Block) → list_all (names_channels n) bs ≡ true → block_names_channels n b ≡ true → list_all (names_channels n) (bs ++ closed b) ≡ true
@@ -121,7 +121,7 @@ IsSound-after s words (channel_is c) says ok =
       blocks = all_weaker (names_channels (length s.channels)) (names_channels (length (s.channels ++ d ∷ []))) (names_more (length s.channels) (length (s.channels ++ d ∷ [])) (omega (arith, count))) s.blocks ok.blocks;
       block = block_more (length s.channels) (length (s.channels ++ d ∷ [])) (omega (arith, count)) s.block ok.block;
       spawns = ok.spawns;
-      few_coroutines = ok.few_coroutines
+      few_coroutines = ok.few_coroutines;
     }
 IsSound-after s words (coroutine_is p) says ok =
     record {
@@ -130,7 +130,7 @@ IsSound-after s words (coroutine_is p) says ok =
       blocks = ok.blocks;
       block = refl;
       spawns = ok.spawns;
-      few_coroutines = subst (λ m. load m (length s.spawns) ≤ 16000) (sym (has_main-push s.blocks (record { name = p; code = [] }))) says.3
+      few_coroutines = subst (λ m. load m (length s.spawns) ≤ 16000) (sym (has_main-push s.blocks (record { name = p; code = [] }))) says.3;
     }
 IsSound-after s words (spawn_is i) says ok =
     record {
@@ -139,7 +139,7 @@ IsSound-after s words (spawn_is i) says ok =
       blocks = ok.blocks;
       block = ok.block;
       spawns = all_push (λ j. nat_lt j (length s.blocks)) s.spawns i ok.spawns (below i (length s.blocks) (block_within s.blocks i says.0 says.3));
-      few_coroutines = few (s.block) says.1
+      few_coroutines = few (s.block) says.1;
     }
   where
     few : (b : Option Block) → b ≡ None → load (has_main (s.blocks ++ closed b)) (length (s.spawns ++ i ∷ [])) ≤ 16000
@@ -155,7 +155,7 @@ IsSound-after s words end_is says ok =
       blocks = closed_sound (length s.channels) s.blocks s.block ok.blocks ok.block;
       block = refl;
       spawns = all_weaker (λ j. nat_lt j (length s.blocks)) (λ j. nat_lt j (length (s.blocks ++ closed s.block))) (more (length s.blocks) (length (s.blocks ++ closed s.block)) grown) s.spawns ok.spawns;
-      few_coroutines = subst (λ bs. load (has_main bs) (length s.spawns) ≤ 16000) (sym (append-nil (s.blocks ++ closed s.block))) ok.few_coroutines
+      few_coroutines = subst (λ bs. load (has_main bs) (length s.spawns) ≤ 16000) (sym (append-nil (s.blocks ++ closed s.block))) ok.few_coroutines;
     }
 
 -- ---- how many bytes blocks take at least

@@ -152,7 +152,7 @@ Spells-from_read bytes p ok =
       said = lines.1;
       closed = end.0;
       main = end.1;
-      program = end.2
+      program = end.2;
     }
 
 -- what is spelled is read so

@@ -57,18 +57,38 @@ fn read_or_fault(alloc: Global, bytes: &[u8]) -> Result<Script, ScriptFault>
     ensures memory { IfErr result (λ fault. fault.kind ≡ Memory → fault.line ≡ 0) }
 {
     if bytes.len() > MOST_BYTES {
-        return Err(ScriptFault { line: 1, kind: FaultKind::TooMany });
+        return Err(ScriptFault {
+            line: 1,
+            kind: FaultKind::TooMany,
+        });
     }
     let Ok(few) = few_lines(alloc, bytes) else {
-        return Err(ScriptFault { line: 0, kind: FaultKind::Memory });
+        return Err(ScriptFault {
+            line: 0,
+            kind: FaultKind::Memory,
+        });
     };
     if !few {
-        return Err(ScriptFault { line: 1, kind: FaultKind::UnknownWord });
+        return Err(ScriptFault {
+            line: 1,
+            kind: FaultKind::UnknownWord,
+        });
     }
     match read_text(alloc, bytes) {
         Ok(script) => Ok(script),
-        Err(ScriptFault { line: _, kind: FaultKind::Memory }) => Err(ScriptFault { line: 0, kind: FaultKind::Memory }),
-        Err(_) => Err(ScriptFault { line: 1, kind: FaultKind::UnknownWord }),
+        Err(
+            ScriptFault {
+                line: _,
+                kind: FaultKind::Memory,
+            },
+        ) => Err(ScriptFault {
+            line: 0,
+            kind: FaultKind::Memory,
+        }),
+        Err(_) => Err(ScriptFault {
+            line: 1,
+            kind: FaultKind::UnknownWord,
+        }),
     }
 }
 
@@ -83,4 +103,68 @@ pub fn read(alloc: Global, bytes: &[u8]) -> Result<Script, ScriptFault>
     ensures memory { IfErr result (λ fault. fault.kind ≡ Memory → fault.line ≡ 0) }
 {
     read_or_fault(alloc, bytes)
+}
+
+#[cfg(test)]
+mod tests {
+    use super::*;
+    use crate::script::Instruction;
+    use channel_model::Kind;
+    use std::test::Fail;
+
+    #[test]
+    fn reads_a_script(rt: HostRuntime) -> Result<(), Fail> {
+        let text =
+            b"channel a rendezvous\r\n\t \r\nchannel b_2  rendezvous\ncoroutine p\n\tsend a 4294967295\n  receive b_2\nend\n\ncoroutine main\nend\nspawn p\nspawn p";
+        let script = read(rt.alloc(), text.as_slice())?;
+        let channels = script.channels();
+        assert_eq!(rt; channels.len(), 2);
+        assert_eq!(rt; channels[1].name.as_str(), "b_2");
+        assert_eq!(rt; channels[1].kind, Kind::Rendezvous);
+        assert_eq!(rt; channels[1].places, 16_384);
+        let blocks = script.blocks();
+        assert_eq!(rt; blocks.len(), 2);
+        assert_eq!(rt; blocks[0].name.as_str(), "p");
+        let code = blocks[0].code.as_slice();
+        assert_eq!(rt; code.len(), 2);
+        assert_eq!(rt;
+            code[0],
+            Instruction::Send {
+                c: 0,
+                value: 4_294_967_295
+            }
+        );
+        assert_eq!(rt; code[1], Instruction::Receive { c: 1 });
+        assert_eq!(rt; script.spawns().len(), 2);
+        assert_eq!(rt; script.coroutines(), 3);
+        assert_eq!(rt; script.coroutine_of(0), 1);
+        assert_eq!(rt; script.coroutine_of(2), 0);
+        Ok(())
+    }
+
+    #[test]
+    fn refuses_what_is_no_script(rt: HostRuntime) -> Result<(), Fail> {
+        let texts = [
+            b"".as_slice(),
+            b"coroutine main".as_slice(),
+            b"coroutine p\nend".as_slice(),
+            b"coroutine main\nend\nspawn main".as_slice(),
+            b"channel a rendezvous\ncoroutine main\nsend a 4294967296\nend".as_slice(),
+            b"channel a rendezvous\ncoroutine main\nsend a 01\nend".as_slice(),
+            b"channel A rendezvous\ncoroutine main\nend".as_slice(),
+            b"channel a rendezvous\nchannel a rendezvous\ncoroutine main\nend".as_slice(),
+            b"coroutine main\nend # done".as_slice(),
+            b"coroutine main\x0b\nend".as_slice(),
+        ];
+        for text in texts {
+            assert_eq!(rt;
+                read(rt.alloc(), text).err(),
+                Some(ScriptFault {
+                    line: 1,
+                    kind: FaultKind::UnknownWord
+                })
+            );
+        }
+        Ok(())
+    }
 }

@@ -41,12 +41,22 @@ fn finished(reading: Reading) -> Result<Script, FaultKind>
     requires few { Few reading }
     ensures { Gives program_of result (finish (view reading)) }
 {
-    let Reading { channels, coroutines, spawns, block } = reading;
+    let Reading {
+        channels,
+        coroutines,
+        spawns,
+        block,
+    } = reading;
     if block.is_some() {
         return Err(FaultKind::NoEnd);
     }
     match place_of(&coroutines, "main") {
-        Some(main) => Ok(Script { channels, coroutines, spawns, main }),
+        Some(main) => Ok(Script {
+            channels,
+            coroutines,
+            spawns,
+            main,
+        }),
         None => Err(FaultKind::NoMain),
     }
 }
@@ -57,7 +67,10 @@ pub(crate) fn read_text(alloc: Global, bytes: &[u8]) -> Result<Script, ScriptFau
     ensures { GivesAt program_of result (reading_of bytes.now) }
 {
     let Ok(parts) = lines(alloc, bytes) else {
-        return Err(ScriptFault { line: 0, kind: FaultKind::Memory });
+        return Err(ScriptFault {
+            line: 0,
+            kind: FaultKind::Memory,
+        });
     };
     let count = parts.len() as u32;
     match lines_in(alloc, &parts) {

@@ -11,7 +11,7 @@ pub loop-rest-init : goal.loop-rest-init
 loop-rest-init c = record {
   says = ap (λ s. lines_from 1 s (texts c.args.lines.now)) c.empty-reading.ensures;
   count = omega arith;
-  fits = subst (Fits (text_length (texts c.args.lines.now))) (sym c.empty-reading.ensures) (Fits-start (text_length (texts c.args.lines.now)) c.requires)
+  fits = subst (Fits (text_length (texts c.args.lines.now))) (sym c.empty-reading.ensures) (Fits-start (text_length (texts c.args.lines.now)) c.requires);
 }
 
 pub line_in-requires : goal.line_in-requires
@@ -25,8 +25,8 @@ returns-in-Err-clause-given c =
     let rest = c.loop-rest.rest.now in
     let parts = split_off rest (record { ref_ptr = (0, 0); now = [] }) c.in-len1-up.len_at_least in
     unless_still c.in-Err.kind _ _
-        (λ bad. lines_fail c.loop-rest.number (view c.loop-rest.reading) c.in-Err.kind _ rest _ (lines_from 1 start (texts c.args.lines.now)) c.loop-rest.invariant.says parts bad)
-        c.in-Err.ensures
+    (λ bad. lines_fail c.loop-rest.number (view c.loop-rest.reading) c.in-Err.kind _ rest _ (lines_from 1 start (texts c.args.lines.now)) c.loop-rest.invariant.says parts bad)
+    c.in-Err.ensures
 
 pub loop-rest-preserved : goal.loop-rest-preserved
 loop-rest-preserved c =
@@ -36,7 +36,7 @@ loop-rest-preserved c =
     record {
       says = lines_more c.loop-rest.number (view c.loop-rest.reading) (view c.line_in.new.reading) _ rest left (lines_from 1 start (texts c.args.lines.now)) c.loop-rest.invariant.says parts c.in_default-line_in.ensures;
       count = omega (arith, c.loop-rest.invariant.count, ap length parts);
-      fits = Fits-next (view c.loop-rest.reading) (view c.line_in.new.reading) _ rest left parts c.in_default-line_in.ensures c.loop-rest.invariant.fits
+      fits = Fits-next (view c.loop-rest.reading) (view c.line_in.new.reading) _ rest left parts c.in_default-line_in.ensures c.loop-rest.invariant.fits;
     }
 
 pub returns-clause-given : goal.returns-clause-given

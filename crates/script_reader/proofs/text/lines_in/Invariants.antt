@@ -10,7 +10,7 @@ abbrev pub invariant-loop-rest : goal.invariant-loop-rest
 invariant-loop-rest l = record {
   says : lines_from l.number (view l.reading) (texts l.rest) ≡ lines_from 1 start (texts l.lines);
   count : l.number + length l.rest ≡ length l.lines + 1;
-  fits : Fits (text_length (texts l.rest)) (view l.reading)
+  fits : Fits (text_length (texts l.rest)) (view l.reading);
 }
 
 abbrev pub decreases-loop-rest : goal.decreases-loop-rest

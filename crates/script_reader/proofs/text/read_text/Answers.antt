@@ -24,5 +24,5 @@ pub returns : goal.returns
 returns c =
     let count : c.len-count.result ≡ length c.in-Ok.parts.items = search rules in
     unless_still c.in-Err-finished.kind _ _
-        (λ bad. rw count (text_end c.in-Ok.parts.items c.args.bytes.now (view c.in-Ok-lines_in.reading) c.in-Err-finished.kind c.in-Ok.ensures (rw c.deref.ensures.value at c.in-Ok-lines_in.ensures.given) bad))
-        c.in-Err-finished.ensures
+    (λ bad. rw count (text_end c.in-Ok.parts.items c.args.bytes.now (view c.in-Ok-lines_in.reading) c.in-Err-finished.kind c.in-Ok.ensures (rw c.deref.ensures.value at c.in-Ok-lines_in.ensures.given) bad))
+    c.in-Err-finished.ensures
