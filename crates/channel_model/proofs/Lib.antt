@@ -5,3 +5,5 @@ pub mod OpenWaits
 pub mod Spans
 pub mod Others
 pub mod Placed
+pub mod Resolutions
+pub mod Plain
