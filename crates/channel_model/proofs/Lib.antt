@@ -7,3 +7,4 @@ pub mod Others
 pub mod Placed
 pub mod Resolutions
 pub mod Plain
+pub mod Apart
