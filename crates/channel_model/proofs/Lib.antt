@@ -8,3 +8,5 @@ pub mod Placed
 pub mod Resolutions
 pub mod Plain
 pub mod Apart
+pub mod Alone
+pub mod Firsts
