@@ -1,0 +1,2 @@
+pub mod ListRemoval
+pub mod ListEntries
