@@ -1,5 +1,5 @@
 -- One entry more, on the lists.
-use Rattle.std.specs.Prelude.{◌≡◌, ℕ, ◌+◌, ◌<◌, ◌≤◌, Bool, true, false, List, [], ◌∷◌, ◌++◌, Option, Some, None, slice_get, length, refl, IsSome, nat_le, ◌==◌, if◌then◌else◌}
+use Rattle.std.specs.Prelude.{◌≡◌, ℕ, ◌<◌, ◌≤◌, Bool, true, false, List, [], ◌∷◌, ◌++◌, Option, Some, None, slice_get, length, refl, IsSome, nat_le, ◌==◌, if◌then◌else◌}
 use Rattle.std.specs.Option.{ForSome, option_and_then}
 use mathlib.Core.Path.{fun_ext}
 use Rattle.std.proofs.Common.{sym, ap, ◌∙◌, subst, arith}
@@ -9,7 +9,6 @@ use Rattle.std.proofs.lemmas.Option.{slice_get_past}
 use Rattle.co_base.specs.declared.names.WaitId.{WaitId}
 use Rattle.channel_model.specs.declared.acts.Kind.{Kind}
 use Rattle.channel_model.specs.declared.acts.Settled.{Settled}
-use Rattle.channel_model.specs.declared.acts.Act.{Act}
 use Rattle.channel_model.specs.declared.acts.Act.TheVariants.{Hand, Put, Offer, Await, Take, Settle}
 use Rattle.channel_model.specs.declared.acts.Entry.{Entry}
 use Rattle.channel_model.specs.declared.standing.Standing.{Standing}
@@ -18,7 +17,7 @@ use Rattle.channel_model.specs.declared.standing.Party.{Party}
 use Rattle.channel_model.specs.declared.standing.Resolution.{Resolution}
 use Rattle.channel_model.specs.declared.standing.Resolution.TheVariants as resolved
 use Rattle.channel_model.specs.Channels.{kind_at, places_at, Channel, State, Shape, Wait, is_full, is_signal}
-use Rattle.channel_model.specs.Effects.{after, without, resolve, resolve_first, resolve_holder, with_queue, put_channel, put_wait, resolved_wait, place_offer, place_receiver, name_clause, settled_wait, is_open}
+use Rattle.channel_model.specs.Effects.{after, without, resolve, resolve_holder, with_queue, put_channel, put_wait, resolved_wait, place_offer, place_receiver, name_clause, settled_wait, is_open}
 use Rattle.channel_model.specs.Needs.{Needs, HasPlace}
 use Rattle.channel_model.specs.Histories.{replay, Legal}
 use Rattle.channel_model.specs.Answers.{first_receiver, first_holder, owner_of}
@@ -208,12 +207,12 @@ pub take_at : (shape : Shape) (xs ys zs : List ListChannel) (es : List Entry) (w
     → ((d : ℕ) → channel_in ys d ≡ put_channel c (record (channel_in xs c) { queue = os }) (channel_in xs) d) → SameWaits xs ys
     → ((shape : Shape) (s : State) → AllStandOpen s → ForSome o.holder (λ p. without p.wait (s.channels c) ≡ s.channels c) → IsAt shape ys s → IsAt shape zs (resolve_holder o.holder resolved.Taken s))
     → IsAt shape zs (after (replay es) who (Take c o.place o.value))
-take_at shape xs ys zs es who c o os l at k e channels waits then =
+take_at shape xs ys zs es who c o os l at k e channels waits taken =
     let s : State = replay es in
     let q = queue_is shape xs s c o os at e in
     let mid : IsAt shape ys (with_queue c os s) =
         at_new shape xs ys s _ at k (ap (λ (t : State). with_queue c os t) (at_state shape xs s at) ∙ same_state _ _ (λ d. sym (channels d)) (λ u. sym (waits u))) in
-    subst (IsAt shape zs) (sym (take_is s c o os _ q)) (then shape (with_queue c os s) (popped_open s c o os (replay_open es) q) (popped_apart s c o os (replay_once shape es l c) q) mid)
+    subst (IsAt shape zs) (sym (take_is s c o os _ q)) (taken shape (with_queue c os s) (popped_open s c o os (replay_open es) q) (popped_apart s c o os (replay_once shape es l c) q) mid)
 
 -- the lists after the holder of an offer of channel c was resolved, which stands there no more
 pub taken_in : (c : ℕ) (p : Party) (ys zs : List ListChannel)
