@@ -77,7 +77,7 @@ pub hand_at : (shape : Shape) (xs ys : List ListChannel) (es : List Entry) (who 
     → IsAt shape ys (after (replay es) who (Hand c r.place v))
 hand_at shape xs ys es who c v r l at e h =
     subst (IsAt shape ys) (sym (first_resolved _ r (λ k. resolved.Handed k v) (replay es) (ap (λ (ch : Channel). slice_get ch.receivers 0) (at.channels_are c) ∙ e)))
-        (h shape (replay es) (replay_open es) (replay_once shape es l) at)
+    (h shape (replay es) (replay_open es) (replay_once shape es l) at)
 
 -- the lists after the first receiver was popped, and its wait resolved
 pub handed_in : (c : ℕ) (how : Resolution) (r : Receiver) (rs : List Receiver) (xs ys zs : List ListChannel)
@@ -89,8 +89,8 @@ pub handed_in : (c : ℕ) (how : Resolution) (r : Receiver) (rs : List Receiver)
     → (shape : Shape) (s : State) → AllStandOpen s → AllStandOnce s → IsAt shape xs s → IsAt shape zs (resolve r.party.wait how s)
 handed_in c how r rs xs ys zs e popped same k removed marked m shape s h once at =
     resolved_elsewhere r.party.wait how c (record (channel_in xs c) { receivers = rs }) xs ys zs shape s h at popped same k
-        (without_first_receiver (s.channels c) r rs (once c) (ap (λ (ch : Channel). ch.receivers) (at.channels_are c) ∙ e) ∙ ap (λ (ch : Channel). record ch { receivers = rs }) (at.channels_are c))
-        removed marked m
+    (without_first_receiver (s.channels c) r rs (once c) (ap (λ (ch : Channel). ch.receivers) (at.channels_are c) ∙ e) ∙ ap (λ (ch : Channel). record ch { receivers = rs }) (at.channels_are c))
+    removed marked m
 
 pub hand_to : (shape : Shape) (xs : List ListChannel) (es : List Entry) (c t : ℕ) (r : Receiver) → IsAt shape xs (replay es) → Some r ≡ slice_get (channel_in xs c).receivers 0 → owner_of (wait_in xs r.party.wait) ≡ Some t
     → first_receiver (replay es) ((replay es).channels c).receivers ≡ Some t
@@ -211,7 +211,7 @@ take_at shape xs ys zs es who c o os l at k e channels waits taken =
     let s : State = replay es in
     let q = queue_is shape xs s c o os at e in
     let mid : IsAt shape ys (with_queue c os s) =
-        at_new shape xs ys s _ at k (ap (λ (t : State). with_queue c os t) (at_state shape xs s at) ∙ same_state _ _ (λ d. sym (channels d)) (λ u. sym (waits u))) in
+    at_new shape xs ys s _ at k (ap (λ (t : State). with_queue c os t) (at_state shape xs s at) ∙ same_state _ _ (λ d. sym (channels d)) (λ u. sym (waits u))) in
     subst (IsAt shape zs) (sym (take_is s c o os _ q)) (taken shape (with_queue c os s) (popped_open s c o os (replay_open es) q) (popped_apart s c o os (replay_once shape es l c) q) mid)
 
 -- the lists after the holder of an offer of channel c was resolved, which stands there no more
@@ -222,7 +222,7 @@ pub taken_in : (c : ℕ) (p : Party) (ys zs : List ListChannel)
     → (shape : Shape) (s : State) → AllStandOpen s → without p.wait (s.channels c) ≡ s.channels c → IsAt shape ys s → IsAt shape zs (resolve p.wait (resolved.Taken p.clause) s)
 taken_in c p ys zs removed marked m shape s h gone at =
     resolved_elsewhere p.wait (resolved.Taken p.clause) c (channel_in ys c) ys ys zs shape s h at
-        (λ d. put_same c d) (λ v. refl) (record { count = refl; places = λ d. refl }) (gone ∙ at.channels_are c) removed marked m
+    (λ d. put_same c d) (λ v. refl) (record { count = refl; places = λ d. refl }) (gone ∙ at.channels_are c) removed marked m
   where
     put_same : (c d : ℕ) → channel_in ys d ≡ put_channel c (channel_in ys c) (channel_in ys) d
     put_same c d = by_test (c == d) refl

@@ -99,8 +99,8 @@ resolved_elsewhere w how c left xs ys zs shape s h at popped same k gone removed
     by_test : (d : ℕ) (b : Bool) → (c == d) ≡ b → without w (s.channels d) ≡ channel_in zs d
     by_test d true e =
         let here : without w (s.channels c) ≡ channel_in zs c =
-            gone ∙ sym (popped c ∙ ap (λ b. if b then left else channel_in xs c) (ap (λ n. c == n) (eqb-true c d e) ∙ e))
-            ∙ sym (removed c ∙ ap (λ b. if b then without w (channel_in ys c) else channel_in ys c) (not_here c cs)) in
+        gone ∙ sym (popped c ∙ ap (λ b. if b then left else channel_in xs c) (ap (λ n. c == n) (eqb-true c d e) ∙ e))
+        ∙ sym (removed c ∙ ap (λ b. if b then without w (channel_in ys c) else channel_in ys c) (not_here c cs)) in
         subst (λ n. without w (s.channels n) ≡ channel_in zs n) (eqb-true c d e) here
     by_test d false e =
         let before : s.channels d ≡ channel_in ys d = at.channels_are d ∙ sym (popped d ∙ ap (λ b. if b then left else channel_in xs d) e) in

@@ -15,5 +15,7 @@ mod list_floor;
 mod list_new;
 mod list_queries;
 mod list_removal;
+#[cfg(test)]
+mod list_tests;
 
 pub use list_floor::{ListAnchor, ListFloor};

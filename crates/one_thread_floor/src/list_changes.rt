@@ -174,7 +174,11 @@ pub fn pop_offer(channels: &mut Vec<ListChannel>, c: ChannelId) -> Standing
 }
 
 /// Resolves the holder of an offer that was taken from channel `c`, if it has one, and says whose wait it was.
-pub fn resolve_taken(channels: &mut Vec<ListChannel>, c: ChannelId, holder: Option<Party>) -> Option<Tag>
+pub fn resolve_taken(
+    channels: &mut Vec<ListChannel>,
+    c: ChannelId,
+    holder: Option<Party>,
+) -> Option<Tag>
     requires { ForSome holder (λ p. IsSome (wait_in channels.old.items p.wait)) }
     ensures state { (shape : Shape) (s : State) → AllStandOpen s → ForSome holder (λ p. without p.wait (s.channels c) ≡ s.channels c) → IsAt shape channels.old.items s → IsAt shape channels.new.items (resolve_holder holder Taken s) }
     ensures from { option_and_then (λ p. owner_of (wait_in channels.old.items p.wait)) holder ≡ result }
