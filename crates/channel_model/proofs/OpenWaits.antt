@@ -91,7 +91,7 @@ put_open c ch s h k d = put_case (c == d) refl
     put_case true e = subst (λ n. StandOpen s.waits n ch) (eqb-true c d e) k
     put_case false e = h d
 
-with_queue_open : (c : ℕ) (os : List Standing) (s : State) → AllStandOpen s → OffersStand s.waits c os → AllStandOpen (with_queue c os s)
+pub with_queue_open : (c : ℕ) (os : List Standing) (s : State) → AllStandOpen s → OffersStand s.waits c os → AllStandOpen (with_queue c os s)
 with_queue_open c os s h k = put_open c _ s h (record { offers = k; receivers = (h c).receivers })
 
 remove_first_open : (c : ℕ) (os : List Standing) (s : State) → AllStandOpen s → OffersStand s.waits c os → AllStandOpen (remove_first c os s)
@@ -195,7 +195,7 @@ after_open s who (WakeClosed c p) h = resolve_first_open (s.channels c).receiver
 after_open s who (Withdraw w why) h = resolve_open w _ s h
 after_open s who (Settle w outcome) h = keeps_open s _ (one_keeps s.waits w settled_wait settled_stands) h
 
-start_open : AllStandOpen start
+pub start_open : AllStandOpen start
 unfolding OffersStand ReceiversStand
 start_open c = record { offers = tt; receivers = tt }
 
