@@ -5,3 +5,4 @@ pub mod OpenWaits
 pub mod Spans
 pub mod Others
 pub mod Placed
+pub mod OwnWaits
