@@ -12,5 +12,6 @@ pub fn code_of(script: &Script, tag: Tag) -> &[Instruction]
     requires { tag < coroutine_count (program_of script.now) }
     ensures { result.now ≡ code_of (program_of script.now) tag }
 {
-    &[]
+    let block = script.coroutine_of(tag) as usize;
+    script.blocks()[block].code.as_slice()
 }

@@ -60,17 +60,18 @@ fn turn_of<C: ChannelFloor, W: Wakes, G: Gate>(
     ensures same_wakes { floors.new.wakes.ghost_name ≡ floors.old.wakes.ghost_name }
 {
     let code = code_of(script, frame.tag);
-    if frame.has_ended(code.len()) {
-        return Turn::Ended;
-    }
     match frame.stage {
+        Stage::Running => {
+            if frame.line >= code.len() {
+                return Turn::Ended;
+            }
+            let step = call(frame.tag, code[frame.line], floors, gate);
+            frame.go_on(step)
+        }
         Stage::Waiting(w) => match resume(frame.tag, w, floors, gate) {
             Some(step) => frame.go_on(step),
             None => Turn::Waits,
         },
-        _ => {
-            let step = call(frame.tag, code[frame.line], floors, gate);
-            frame.go_on(step)
-        }
+        Stage::Failed | Stage::Cancelled => Turn::Ended,
     }
 }
