@@ -76,7 +76,8 @@ made_from who act a b v m h =
 runs_not : {A : Type 0} (w : WaitId) → Running ≡ Waiting w → A
 runs_not w e = absurd (let k : ⊥ = cc in k)
 
-looked_only : (who : ℕ) (stage : Stage) (a b : Floor) → Looked who a b → WaitsOnly who stage a → WaitsOnly who stage b
+-- what others did in a call without an act leaves who's waits as they were
+pub looked_only : (who : ℕ) (stage : Stage) (a b : Floor) → Looked who a b → WaitsOnly who stage a → WaitsOnly who stage b
 looked_only who stage a b k only w h = only w (others_bring_none who (IsUnsettledOf who) (unsettled_comes who) w a.seen b.seen k.longer k.mine h)
 
 -- ---- the calls of a line
