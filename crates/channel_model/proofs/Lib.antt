@@ -10,3 +10,4 @@ pub mod Plain
 pub mod Apart
 pub mod Alone
 pub mod Firsts
+pub mod OwnWaits

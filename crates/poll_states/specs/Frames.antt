@@ -51,12 +51,16 @@ pub record StandsOn (p : Program) (floor : Floor) (f : Frame) : Type 0 where
   pub only : (w : WaitId) → IsUnsettledOf f.tag ((replay floor.seen).waits w) → f.stage ≡ Waiting w
   pub inside : IsInside f.stage f.line (code_of p f.tag)
 
--- no further line is run
+-- no further one of so many lines is run
+abbrev pub is_past : ℕ → ℕ → Stage → Bool
+is_past lines line Running = nat_le lines line
+is_past lines line (Waiting w) = false
+is_past lines line Failed = true
+is_past lines line Cancelled = true
+
+-- no further line of the code is run
 abbrev pub is_ended : List Instruction → ℕ → Stage → Bool
-is_ended code line Running = nat_le (length code) line
-is_ended code line (Waiting w) = false
-is_ended code line Failed = true
-is_ended code line Cancelled = true
+is_ended code line stage = is_past (length code) line stage
 
 -- an upper bound of the moves that are left
 abbrev pub moves_left : List Instruction → ℕ → Stage → ℕ
