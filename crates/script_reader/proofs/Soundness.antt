@@ -1,21 +1,20 @@
 -- What a line says keeps the script so far sound, and within what memory counts.
-use Rattle.std.proofs.Common.{◌≡◌, ℕ, ◌+◌, ◌*◌, ◌<◌, ◌≤◌, List, [], ◌∷◌, ◌++◌, refl, ap, sym, ◌∙◌, arith, Bool, true, false, Option, Some, None, length, if◌then◌else◌, ◌&&◌, nat_lt, nat_le, subst, map, length-append}
+use Rattle.std.proofs.Common.{◌≡◌, ℕ, ◌+◌, ◌*◌, ◌<◌, ◌≤◌, List, [], ◌∷◌, ◌++◌, refl, ap, sym, ◌∙◌, arith, Bool, true, false, Option, Some, None, length, if◌then◌else◌, ◌&&◌, nat_lt, subst, length-append}
 use Rattle.std.specs.Prelude.{◌||◌, is_some}
 use Rattle.std.specs.List.{list_all}
 use Rattle.std.specs.Str.{bytes_eq}
-use Rattle.std.specs.Fmt.{decimal}
 use Rattle.std.proofs.lemmas.Bool.Decides.{nat_tests}
 use Rattle.std.proofs.lemmas.List.{length-map, append-nil}
 use lib.Chars.{codes}
 use Rattle.channel_model.specs.declared.acts.Kind.TheVariants.{Rendezvous}
 use Rattle.script_reader.specs.declared.script.Instruction.{Instruction}
 use Rattle.script_reader.specs.declared.script.Instruction.TheVariants.{Send, Receive}
-use Rattle.script_reader.specs.Programs.{Block, Declared, IsProgram, is_declared, channel_of, names_channels, block_named}
+use Rattle.script_reader.specs.Programs.{Block, Declared, is_declared, channel_of, names_channels, block_named}
 use Rattle.script_reader.specs.Words.{text_length}
 use Rattle.script_reader.specs.Places.{is_name, place_from, is_main}
 use Rattle.script_reader.specs.Forms.{Read, Form, start, channel_is, coroutine_is, spawn_is, send_is, receive_is, end_is, channel_names, block_names, load, has_main, with_line, closed, after}
 use Rattle.script_reader.specs.Reading.{IsSound, block_names_channels}
-use Rattle.script_reader.specs.Grammar.{Named, Fresh, Says}
+use Rattle.script_reader.specs.Grammar.{Named, Says}
 use Rattle.script_reader.proofs.Declarations.{both_true}
 
 both : (a b : Bool) → a ≡ true → b ≡ true → (a && b) ≡ true

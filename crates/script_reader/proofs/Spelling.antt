@@ -1,5 +1,5 @@
 -- What is read is what is spelled.
-use Rattle.std.proofs.Common.{◌≡◌, ℕ, ◌+◌, ◌<◌, ◌≤◌, List, [], ◌∷◌, refl, ap, sym, ◌∙◌, arith, Result, Ok, Err, Bool, true, false, Option, Some, None, length, if◌then◌else◌, ◌&&◌, nat_lt, nat_le, subst, filter, map}
+use Rattle.std.proofs.Common.{◌≡◌, ℕ, ◌+◌, ◌≤◌, List, [], ◌∷◌, refl, ap, sym, ◌∙◌, arith, Result, Ok, Err, Bool, true, false, Option, Some, None, length, if◌then◌else◌, ◌&&◌, nat_lt, nat_le, subst}
 use Rattle.std.specs.Prelude.{is_some, IfOk, MatchResult}
 use Rattle.std.specs.List.{list_all}
 use Rattle.std.proofs.lemmas.Bool.Decides.{nat_tests}
@@ -13,9 +13,9 @@ use Rattle.script_reader.specs.Faults.{◌>>>◌, in_line, Unless, GivesAt}
 use Rattle.script_reader.proofs.Loops.{unless_still}
 use Rattle.script_reader.specs.Programs.{Program, Block, block_named}
 use Rattle.script_reader.specs.Words.{all_plain, words_of, lines_of, with_words, has_items}
-use Rattle.script_reader.specs.Forms.{Read, Form, start, after, has_main}
+use Rattle.script_reader.specs.Forms.{Read, start, after, has_main}
 use Rattle.script_reader.specs.Texts.{step, line_at, lines_from, finish, when_closed, when_main, program_so_far, reading_of, collapsed, has_few_lines, first_scripts}
-use Rattle.script_reader.specs.Grammar.{Says, SayAll, Spells}
+use Rattle.script_reader.specs.Grammar.{SayAll, Spells}
 use Rattle.script_reader.proofs.Declarations.{both_true}
 use Rattle.script_reader.proofs.Found.{ok_is}
 use Rattle.script_reader.proofs.FoundLines.{step_found}
