@@ -3,7 +3,7 @@ use Rattle.std.proofs.Common.{◌≡◌, ℕ, ◌+◌, List, [], ◌∷◌, true
 use Rattle.std.proofs.lemmas.Bool.Decides.{nat_tests}
 use Rattle.std.proofs.lemmas.Str.{IsUtf8-from_ascii}
 use Rattle.std.specs.Str.{IsUtf8}
-use Rattle.script_reader.proofs.Declarations.{both_true}
+use Rattle.script_reader.proofs.Truths.{both_true}
 use Rattle.std.specs.Prelude.{string_bytes, is_some, option_map}
 use Rattle.std.specs.Str.{bytes_eq}
 use lib.Chars.{codes}
