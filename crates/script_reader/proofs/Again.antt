@@ -1,11 +1,10 @@
 -- What is written as the grammar says is read.
-use Rattle.std.proofs.Common.{◌≡◌, ℕ, ◌+◌, ◌<◌, ◌≤◌, ◌^◌, List, [], ◌∷◌, refl, ap, sym, ◌∙◌, arith, Result, Ok, Err, Bool, true, false, Option, Some, None, length, get_or, if◌then◌else◌, ◌&&◌, nat_lt, nat_le, zero, suc}
+use Rattle.std.proofs.Common.{◌≡◌, ℕ, ◌+◌, ◌<◌, ◌≤◌, ◌^◌, List, [], ◌∷◌, refl, ap, ◌∙◌, arith, Result, Ok, Err, Bool, true, false, Option, Some, None, length, get_or, if◌then◌else◌, ◌&&◌, nat_lt, nat_le, zero, suc}
 use Rattle.std.specs.Prelude.{◌==◌, ◌||◌, not, is_some}
 use Rattle.std.proofs.lemmas.Bool.Decides.{nat_tests}
 use Rattle.std.proofs.lemmas.Fmt.{digits_decimal, digits_value-decimal, decimal_nonempty, length-decimal-le, first_decimal, decimal_digit}
 use Rattle.std.specs.Fmt.{decimal}
 use Rattle.std.specs.Str.{all_ascii_digits}
-use Rattle.std.specs.Str.Parse.{digits_value}
 use lib.Chars.{codes}
 use Rattle.script_reader.specs.declared.fault.FaultKind.{FaultKind}
 use Rattle.script_reader.specs.declared.fault.FaultKind.TheVariants.{BadName, BadNumber, TooMany, Recursive}
@@ -16,6 +15,7 @@ use Rattle.script_reader.specs.Forms.{Read, Form, channel_is, coroutine_is, spaw
 use Rattle.script_reader.specs.Texts.{step}
 use Rattle.script_reader.specs.Grammar.{Named, Fresh, Says}
 use Rattle.script_reader.proofs.Numbers.{own}
+use Rattle.script_reader.proofs.Truths.{both, le-true, lt-true}
 
 -- ---- places
 
@@ -32,22 +32,11 @@ known_again names i n rest is =
     ap (λ (r : Result (List ℕ × List (List ℕ)) FaultKind). r >>= λ x. if_found (place_from 0 x.0 names) x.1) (name_again n rest is.formed)
     ∙ ap (λ o. if_found {X = List (List ℕ)} o rest) is.first
 
-no_more : (m n : ℕ) → m ≤ n → nat_le m n ≡ true
-no_more m n h = grind (arith, nat_tests)
-
-below : (m n : ℕ) → m < n → nat_lt m n ≡ true
-below m n h = grind (arith, nat_tests)
-
 pub at_most_again : (limit count : ℕ) → count ≤ limit → at_most limit count ≡ Ok tt
-at_most_again limit count h = ap (λ b. if◌then◌else◌ {A = Result (Unit {0}) FaultKind} b (Ok tt) (Err TooMany)) (no_more count limit h)
+at_most_again limit count h = ap (λ b. if◌then◌else◌ {A = Result (Unit {0}) FaultKind} b (Ok tt) (Err TooMany)) (le-true count limit h)
 
 pub other_again : (name : List ℕ) (rest : List (List ℕ)) → is_main name ≡ false → other_than_main (name ∷ rest) ≡ Ok tt
 other_again name rest e = ap (λ b. if◌then◌else◌ {A = Result (Unit {0}) FaultKind} b (Err Recursive) (Ok tt)) e
-
-both : (a b : Bool) → a ≡ true → b ≡ true → (a && b) ≡ true
-both true true p q = refl
-both true false p q = q
-both false b p q = p
 
 one_digit : (n : ℕ) (b : ℕ) → (b ≡ 48 → n ≡ 0) → ((n == 0) || not (b == 48)) ≡ true
 one_digit n b alone = by_test (b == 48) refl
@@ -63,7 +52,7 @@ one_digit n b alone = by_test (b == 48) refl
 is_number-from : (w : List ℕ) → all_ascii_digits w ≡ true → 0 < length w → length w ≤ 10 → (get_or w 0 0 ≡ 48 → length w ≡ 1) → is_number w ≡ true
 is_number-from [] digits some few alone = absurd (omega arith)
 is_number-from (b ∷ rest) digits some few alone =
-    both (all_ascii_digits (b ∷ rest)) _ digits (both (nat_lt (length rest) 10) _ (below (length rest) 10 (omega (arith, few))) (one_digit (length rest) b (λ e. omega (arith, alone e))))
+    both (all_ascii_digits (b ∷ rest)) _ digits (both (nat_lt (length rest) 10) _ (lt-true (length rest) 10 (omega (arith, few))) (one_digit (length rest) b (λ e. omega (arith, alone e))))
 
 decimal_alone : (v : ℕ) → v < 2 ^ 32 → get_or (decimal v) 0 0 ≡ 48 → length (decimal v) ≡ 1
 decimal_alone zero h e = ap length (decimal_digit 0 (omega arith))
@@ -77,12 +66,12 @@ value_again : (v : ℕ) → v < 2 ^ 32 → value_at (decimal v) ≡ Some v
 value_again v h =
     let same = digits_value-decimal own v (omega (arith, h)) in
     ap (λ n. if is_number (decimal v) && nat_lt n (2 ^ 32) then Some n else None) same
-    ∙ ap (λ b. if b then Some v else None) (both (is_number (decimal v)) (nat_lt v (2 ^ 32)) (is_number-decimal v h) (below v (2 ^ 32) h))
+    ∙ ap (λ b. if b then Some v else None) (both (is_number (decimal v)) (nat_lt v (2 ^ 32)) (is_number-decimal v h) (lt-true v (2 ^ 32) h))
 
 pub number_again : (v : ℕ) (rest : List (List ℕ)) → v < 2 ^ 32 → number_at 0 4294967295 (decimal v ∷ rest) ≡ Ok (v, rest)
 number_again v rest h =
     ap (λ o. within {X = List (List ℕ)} 0 4294967295 o rest) (value_again v h)
-    ∙ ap (λ b. if◌then◌else◌ {A = Result (ℕ × List (List ℕ)) FaultKind} b (Ok (v, rest)) (Err BadNumber)) (both (nat_le 0 v) (nat_le v 4294967295) (no_more 0 v (omega arith)) (no_more v 4294967295 (omega (arith, h))))
+    ∙ ap (λ b. if◌then◌else◌ {A = Result (ℕ × List (List ℕ)) FaultKind} b (Ok (v, rest)) (Err BadNumber)) (both (nat_le 0 v) (nat_le v 4294967295) (le-true 0 v (omega arith)) (le-true v 4294967295 (omega (arith, h))))
 
 -- ---- lines
 

@@ -1,5 +1,5 @@
 -- What is read at a place of a line is written there as the grammar says.
-use Rattle.std.proofs.Common.{◌≡◌, ℕ, ◌+◌, ◌<◌, ◌≤◌, ◌^◌, List, [], ◌∷◌, refl, ap, sym, ◌∙◌, arith, Result, Ok, Err, Bool, true, false, Option, Some, None, length, get_or, if◌then◌else◌, ◌&&◌, nat_lt, nat_le, subst, suc}
+use Rattle.std.proofs.Common.{◌≡◌, ℕ, ◌<◌, ◌≤◌, ◌^◌, List, [], ◌∷◌, refl, ap, sym, ◌∙◌, arith, Result, Ok, Err, Bool, true, false, Option, Some, None, length, if◌then◌else◌, ◌&&◌, nat_lt, nat_le, suc}
 use Rattle.std.specs.Prelude.{◌==◌, ◌||◌, not}
 use Rattle.script_reader.specs.declared.fault.FaultKind.TheVariants.{BadNumber}
 use Rattle.std.proofs.lemmas.Bool.Decides.{nat_tests}
@@ -8,13 +8,12 @@ use Rattle.std.proofs.lemmas.Fmt.{decimal-digits_value}
 use Rattle.std.specs.Fmt.{decimal}
 use Rattle.std.specs.Str.{bytes_eq, all_ascii_digits}
 use Rattle.std.specs.Str.Parse.{digits_value}
-use lib.Chars.{codes}
 use Rattle.script_reader.specs.declared.fault.FaultKind.{FaultKind}
 use Rattle.script_reader.specs.Faults.{◌>>=◌}
 use Rattle.script_reader.specs.Places.{word_at, end_at, at_most, number_at, value_at, is_number, within, name_at, new_at, known_at, is_name, place_from, unless_found, if_found, is_main, other_than_main}
 use Rattle.script_reader.specs.Grammar.{Named, Fresh}
-use Rattle.script_reader.proofs.Declarations.{both_true}
 use Rattle.script_reader.proofs.Numbers.{own, number_digits, number_some}
+use Rattle.script_reader.proofs.Truths.{both_true, le-from_true, lt-from_true}
 
 pub bind_ok : {A B : Type 0} (r : Result A FaultKind) (f : A → Result B FaultKind) (y : B) → (r >>= f) ≡ Ok y → (x : A) × (r ≡ Ok x) × (f x ≡ Ok y)
 bind_ok (Ok x) f y e = (x, refl, e)
@@ -73,12 +72,6 @@ value_ok true true v n t e = cc
 value_ok true false v n t e = cc
 value_ok false b v n t e = cc
 
-no_more : (m n : ℕ) → nat_le m n ≡ true → m ≤ n
-no_more m n e = grind (arith, nat_tests)
-
-below_two : (m n : ℕ) → nat_lt m n ≡ true → m < n
-below_two m n e = grind (arith, nat_tests)
-
 either : (r t : Bool) → (r || not t) ≡ true → t ≡ true → r ≡ true
 either true t e f = refl
 either false true e f = e
@@ -101,7 +94,7 @@ decimal_again (b ∷ rest) n small = decimal-digits_value own (b ∷ rest) (numb
 valued : (w : List ℕ) (n : ℕ) (a b : Bool) → is_number w ≡ a → nat_lt (digits_value 10 w) (2 ^ 32) ≡ b → (if a && b then Some (digits_value 10 w) else None) ≡ Some n → (w ≡ decimal n) × (n < 2 ^ 32)
 valued w n true true p q e =
     let v : digits_value 10 w ≡ n = cc in
-    let small : digits_value 10 w < 2 ^ 32 = below_two _ _ q in
+    let small : digits_value 10 w < 2 ^ 32 = lt-from_true _ _ q in
     (sym (decimal_again w p (omega arith)) ∙ ap decimal v, omega arith)
 valued w n true false p q e = cc
 valued w n false b p q e = cc
@@ -110,8 +103,8 @@ ranged : (low high m n : ℕ) (ws rest : List (List ℕ)) (b : Bool) → (nat_le
 ranged low high m n ws rest true t e =
     let p = ok_pair m n ws rest (Ok (m, ws)) refl e in
     let two = both_true _ _ t in
-    let l : low ≤ m = no_more low m two.0 in
-    let h : m ≤ high = no_more m high two.1 in
+    let l : low ≤ m = le-from_true low m two.0 in
+    let h : m ≤ high = le-from_true m high two.1 in
     (p.0, p.1, omega (arith, p.0), omega (arith, p.0))
 ranged low high m n ws rest false t e = cc
 
@@ -127,7 +120,7 @@ number_found low high n [] rest e = cc
 number_found low high n (w ∷ ws) rest e = number_in low high n w ws rest (value_at w) refl e
 
 few_ok : (limit count : ℕ) (u : Unit {0}) (b : Bool) (k : FaultKind) → nat_le count limit ≡ b → if◌then◌else◌ {A = Result (Unit {0}) FaultKind} b (Ok tt) (Err k) ≡ Ok u → count ≤ limit
-few_ok limit count u true k t e = no_more count limit t
+few_ok limit count u true k t e = le-from_true count limit t
 few_ok limit count u false k t e = cc
 
 pub at_most_found : (limit count : ℕ) (u : Unit {0}) → at_most limit count ≡ Ok u → count ≤ limit

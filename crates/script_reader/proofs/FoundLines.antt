@@ -1,5 +1,5 @@
 -- A line that is read says what the grammar says.
-use Rattle.std.proofs.Common.{◌≡◌, ℕ, ◌+◌, ◌<◌, ◌≤◌, ◌^◌, List, [], ◌∷◌, refl, ap, sym, ◌∙◌, arith, Result, Ok, Err, Bool, true, false, Option, Some, None, length, if◌then◌else◌, subst, ◌⊎◌, inl, inr}
+use Rattle.std.proofs.Common.{◌≡◌, ℕ, ◌+◌, List, ◌∷◌, refl, ap, sym, ◌∙◌, arith, Result, Ok, Err, Bool, true, false, Option, Some, None, length, if◌then◌else◌, subst, ◌⊎◌, inl, inr}
 use Rattle.std.specs.Prelude.{◌||◌, is_some}
 use Rattle.std.specs.Fmt.{decimal}
 use Rattle.std.specs.Str.{bytes_eq}
@@ -11,7 +11,7 @@ use Rattle.script_reader.specs.Programs.{Block}
 use Rattle.script_reader.specs.Places.{word_at, end_at, at_most, number_at, new_at, known_at, is_main, other_than_main}
 use Rattle.script_reader.specs.Forms.{Read, Form, channel_is, coroutine_is, spawn_is, send_is, receive_is, end_is, channel_names, block_names, load, has_main, channel_line, coroutine_line, spawn_line, send_line, receive_line, end_line, outside, inside, form_at, after}
 use Rattle.script_reader.specs.Texts.{step}
-use Rattle.script_reader.specs.Grammar.{Named, Fresh, Says}
+use Rattle.script_reader.specs.Grammar.{Says}
 use Rattle.script_reader.proofs.Found.{bind_ok, ok_is, word_found, end_found, new_found, known_found, number_found, at_most_found, other_than_main_found}
 
 form_ok : (f g : Form) → ((Ok f) >>= λ x. Ok x) ≡ Ok g → f ≡ g

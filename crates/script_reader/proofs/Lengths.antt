@@ -1,5 +1,5 @@
 -- How long lines and words are together.
-use Rattle.std.proofs.Common.{◌≡◌, ℕ, ◌+◌, ◌-◌, ◌≤◌, List, [], ◌∷◌, Bool, true, false, refl, ap, sym, ◌∙◌, arith, length, length-take, take, get_or, if◌then◌else◌, filter}
+use Rattle.std.proofs.Common.{◌≡◌, ℕ, ◌+◌, ◌-◌, ◌≤◌, List, [], ◌∷◌, Bool, true, false, refl, arith, length, length-take, take, get_or, if◌then◌else◌, filter}
 use Rattle.std.specs.Prelude.{◌==◌}
 use Rattle.std.specs.List.{slice_split, onto_first}
 use Rattle.script_reader.specs.Words.{text_length, is_space, is_line_feed, has_items, words_of, lines_of, without_last_feed}

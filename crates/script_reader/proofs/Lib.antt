@@ -1,3 +1,4 @@
+pub mod Truths
 pub mod Declarations
 pub mod Filters
 pub mod Numbers

@@ -1,5 +1,5 @@
 -- The loop over the lines of a text, and the text's end.
-use Rattle.std.proofs.Common.{◌≡◌, ℕ, true, false, if◌then◌else◌, ◌+◌, ◌-◌, ◌*◌, ◌<◌, ◌^◌, ◌≤◌, List, [], ◌∷◌, refl, ap, sym, ◌∙◌, arith, Result, Ok, Err, Bool, Option, Some, None, length, get_or, take, drop, subst, map, ◌++◌}
+use Rattle.std.proofs.Common.{◌≡◌, ℕ, true, false, if◌then◌else◌, ◌+◌, ◌-◌, ◌<◌, ◌^◌, ◌≤◌, List, [], ◌∷◌, refl, ap, sym, ◌∙◌, arith, Result, Ok, Err, Bool, Option, Some, None, length, get_or, take, drop, subst, ◌++◌}
 use Rattle.std.proofs.lemmas.List.{take_all, length-map, append-nil}
 use Rattle.std.specs.Prelude.{is_some}
 use lib.Chars.{codes}
@@ -8,13 +8,11 @@ use Rattle.script_reader.specs.declared.fault.FaultKind.{FaultKind}
 use Rattle.script_reader.specs.declared.fault.FaultKind.TheVariants as kinds
 use Rattle.script_reader.specs.declared.fault.ScriptFault.{ScriptFault}
 use Rattle.script_reader.specs.declared.reading.Reading.{Reading}
-use Rattle.script_reader.specs.declared.script.Channel.{Channel}
-use Rattle.script_reader.specs.declared.script.Coroutine.{Coroutine}
 use Rattle.script_reader.specs.declared.script.Spawn.{Spawn}
-use Rattle.script_reader.specs.Programs.{Program, Block, IsProgram, declared_of, block_of, program_from, block_named, coroutine_count}
-use Rattle.script_reader.specs.Faults.{Unless, in_line, ◌>>>◌, ◌>>=◌}
+use Rattle.script_reader.specs.Programs.{Program, Block, IsProgram, declared_of, block_of, block_named}
+use Rattle.script_reader.specs.Faults.{Unless, in_line, ◌>>>◌}
 use Rattle.script_reader.specs.Words.{texts, text_length, all_plain, words_of, lines_of}
-use Rattle.script_reader.specs.Forms.{Read, start, after, load, has_main, closed}
+use Rattle.script_reader.specs.Forms.{Read, start, load, has_main, closed}
 use Rattle.script_reader.specs.Texts.{step, line_at, lines_from, finish, reading_of, program_so_far}
 use Rattle.script_reader.specs.Reading.{view, Few, IsSound}
 use Rattle.script_reader.proofs.Lengths.{length-text_length, text_length-lines_of, text_length-words_of}

@@ -1,10 +1,9 @@
 -- Names, and those of channels and coroutines in memory and as the text declares them.
-use Rattle.std.proofs.Common.{◌≡◌, ℕ, ◌+◌, List, [], ◌∷◌, Bool, true, false, Option, Some, None, Err, sym, ◌∙◌, refl, ap, map, if◌then◌else◌, zero, suc, ◌<◌, ◌≤◌, ◌&&◌, nat_le, arith, get_or}
-use Rattle.std.specs.Prelude.{◌==◌, ◌||◌}
+use Rattle.std.proofs.Common.{◌≡◌, ℕ, ◌+◌, List, [], ◌∷◌, true, false, Option, Some, None, Err, sym, ◌∙◌, refl, ap, map, if◌then◌else◌, zero, suc, ◌<◌, arith, get_or}
 use Rattle.std.proofs.lemmas.Bool.Decides.{nat_tests}
 use Rattle.std.proofs.lemmas.Str.{IsUtf8-from_ascii}
 use Rattle.std.specs.Str.{IsUtf8}
-use Rattle.script_reader.proofs.Declarations.{both_true}
+use Rattle.script_reader.proofs.Truths.{both_true}
 use Rattle.std.specs.Prelude.{string_bytes, is_some, option_map}
 use Rattle.std.specs.Str.{bytes_eq}
 use lib.Chars.{codes}

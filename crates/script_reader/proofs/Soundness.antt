@@ -1,33 +1,20 @@
 -- What a line says keeps the script so far sound, and within what memory counts.
-use Rattle.std.proofs.Common.{◌≡◌, ℕ, ◌+◌, ◌*◌, ◌<◌, ◌≤◌, List, [], ◌∷◌, ◌++◌, refl, ap, sym, ◌∙◌, arith, Bool, true, false, Option, Some, None, length, if◌then◌else◌, ◌&&◌, nat_lt, nat_le, subst, map, length-append}
+use Rattle.std.proofs.Common.{◌≡◌, ℕ, ◌+◌, ◌*◌, ◌<◌, ◌≤◌, List, [], ◌∷◌, ◌++◌, refl, ap, sym, ◌∙◌, arith, Bool, true, false, Option, Some, None, length, if◌then◌else◌, nat_lt, subst, length-append}
 use Rattle.std.specs.Prelude.{◌||◌, is_some}
 use Rattle.std.specs.List.{list_all}
 use Rattle.std.specs.Str.{bytes_eq}
-use Rattle.std.specs.Fmt.{decimal}
-use Rattle.std.proofs.lemmas.Bool.Decides.{nat_tests}
 use Rattle.std.proofs.lemmas.List.{length-map, append-nil}
 use lib.Chars.{codes}
 use Rattle.channel_model.specs.declared.acts.Kind.TheVariants.{Rendezvous}
 use Rattle.script_reader.specs.declared.script.Instruction.{Instruction}
 use Rattle.script_reader.specs.declared.script.Instruction.TheVariants.{Send, Receive}
-use Rattle.script_reader.specs.Programs.{Block, Declared, IsProgram, is_declared, channel_of, names_channels, block_named}
+use Rattle.script_reader.specs.Programs.{Block, Declared, is_declared, channel_of, names_channels, block_named}
 use Rattle.script_reader.specs.Words.{text_length}
 use Rattle.script_reader.specs.Places.{is_name, place_from, is_main}
 use Rattle.script_reader.specs.Forms.{Read, Form, start, channel_is, coroutine_is, spawn_is, send_is, receive_is, end_is, channel_names, block_names, load, has_main, with_line, closed, after}
 use Rattle.script_reader.specs.Reading.{IsSound, block_names_channels}
-use Rattle.script_reader.specs.Grammar.{Named, Fresh, Says}
-use Rattle.script_reader.proofs.Declarations.{both_true}
-
-both : (a b : Bool) → a ≡ true → b ≡ true → (a && b) ≡ true
-both true true p q = refl
-both true false p q = q
-both false b p q = p
-
-below : (m n : ℕ) → m < n → nat_lt m n ≡ true
-below m n h = grind (arith, nat_tests)
-
-above : (m n : ℕ) → nat_lt m n ≡ true → m < n
-above m n e = grind (arith, nat_tests)
+use Rattle.script_reader.specs.Grammar.{Named, Says}
+use Rattle.script_reader.proofs.Truths.{both, both_true, lt-from_true, lt-true}
 
 -- ---- tests of all elements
 
@@ -40,7 +27,7 @@ all_weaker p q weaker [] all = refl
 all_weaker p q weaker (x ∷ xs) all = let two = both_true (p x) (list_all p xs) all in both (q x) _ (weaker x two.0) (all_weaker p q weaker xs two.1)
 
 more : (m n : ℕ) → m ≤ n → (i : ℕ) → nat_lt i m ≡ true → nat_lt i n ≡ true
-more m n le i e = let h = above i m e in below i n (omega arith)
+more m n le i e = let h = lt-from_true i m e in lt-true i n (omega arith)
 
 names_more : (m n : ℕ) → m ≤ n → (b : Block) → names_channels m b ≡ true → names_channels n b ≡ true
 names_more m n le b e = all_weaker (λ i. nat_lt (channel_of i) m) (λ i. nat_lt (channel_of i) n) (λ i. more m n le (channel_of i)) b.code e
@@ -94,7 +81,7 @@ IsSound-start = record { few_channels = omega arith; channels = refl; blocks = r
 
 with_line_sound : (n : ℕ) (b : Option Block) (line : Instruction) → block_names_channels n b ≡ true → channel_of line < n → block_names_channels n (with_line line b) ≡ true
 with_line_sound n None line e h = refl
-with_line_sound n (Some b) line e h = all_push (λ i. nat_lt (channel_of i) n) b.code line e (below (channel_of line) n h)
+with_line_sound n (Some b) line e h = all_push (λ i. nat_lt (channel_of i) n) b.code line e (lt-true (channel_of line) n h)
 
 line_sound : (s : Read) (line : Instruction) → IsSound s → channel_of line < length s.channels → IsSound (record s { block = with_line line s.block })
 line_sound s line ok h = record {
@@ -138,7 +125,7 @@ IsSound-after s words (spawn_is i) says ok =
       channels = ok.channels;
       blocks = ok.blocks;
       block = ok.block;
-      spawns = all_push (λ j. nat_lt j (length s.blocks)) s.spawns i ok.spawns (below i (length s.blocks) (block_within s.blocks i says.0 says.3));
+      spawns = all_push (λ j. nat_lt j (length s.blocks)) s.spawns i ok.spawns (lt-true i (length s.blocks) (block_within s.blocks i says.0 says.3));
       few_coroutines = few (s.block) says.1;
     }
   where

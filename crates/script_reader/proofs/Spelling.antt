@@ -1,8 +1,7 @@
 -- What is read is what is spelled.
-use Rattle.std.proofs.Common.{◌≡◌, ℕ, ◌+◌, ◌<◌, ◌≤◌, List, [], ◌∷◌, refl, ap, sym, ◌∙◌, arith, Result, Ok, Err, Bool, true, false, Option, Some, None, length, if◌then◌else◌, ◌&&◌, nat_lt, nat_le, subst, filter, map}
+use Rattle.std.proofs.Common.{◌≡◌, ℕ, ◌+◌, List, [], ◌∷◌, refl, ap, sym, ◌∙◌, Result, Ok, Err, Bool, true, false, Option, Some, None, length, if◌then◌else◌, nat_lt, subst}
 use Rattle.std.specs.Prelude.{is_some, IfOk, MatchResult}
 use Rattle.std.specs.List.{list_all}
-use Rattle.std.proofs.lemmas.Bool.Decides.{nat_tests}
 use lib.Chars.{codes}
 use Rattle.script_reader.specs.declared.fault.FaultKind.{FaultKind}
 use Rattle.script_reader.specs.declared.fault.FaultKind.TheVariants as kinds
@@ -13,22 +12,17 @@ use Rattle.script_reader.specs.Faults.{◌>>>◌, in_line, Unless, GivesAt}
 use Rattle.script_reader.proofs.Loops.{unless_still}
 use Rattle.script_reader.specs.Programs.{Program, Block, block_named}
 use Rattle.script_reader.specs.Words.{all_plain, words_of, lines_of, with_words, has_items}
-use Rattle.script_reader.specs.Forms.{Read, Form, start, after, has_main}
+use Rattle.script_reader.specs.Forms.{Read, start, after, has_main}
 use Rattle.script_reader.specs.Texts.{step, line_at, lines_from, finish, when_closed, when_main, program_so_far, reading_of, collapsed, has_few_lines, first_scripts}
-use Rattle.script_reader.specs.Grammar.{Says, SayAll, Spells}
-use Rattle.script_reader.proofs.Declarations.{both_true}
+use Rattle.script_reader.specs.Grammar.{SayAll, Spells}
 use Rattle.script_reader.proofs.Found.{ok_is}
 use Rattle.script_reader.proofs.FoundLines.{step_found}
 use Rattle.script_reader.proofs.Again.{step_again}
+use Rattle.script_reader.proofs.Truths.{both, both_true, le-from_lt_false, le-from_true, le-true, lt-false}
 
 -- the words of one line, and those of the lines after it
 spoken : List (List ℕ) → List (List (List ℕ)) → List (List (List ℕ))
 spoken words more = if has_items words then words ∷ more else more
-
-both : (a b : Bool) → a ≡ true → b ≡ true → (a && b) ≡ true
-both true true p q = refl
-both true false p q = q
-both false b p q = p
 
 -- ---- what is read is spelled
 
@@ -105,18 +99,6 @@ finish_again s out main = ap (when_closed s) out ∙ main_again s (block_named (
 
 -- ---- the whole text
 
-no_more : (m n : ℕ) → nat_le m n ≡ true → m ≤ n
-no_more m n e = grind (arith, nat_tests)
-
-at_most : (m n : ℕ) → m ≤ n → nat_le m n ≡ true
-at_most m n h = grind (arith, nat_tests)
-
-not_below : (m n : ℕ) → nat_lt m n ≡ false → n ≤ m
-not_below m n e = grind (arith, nat_tests)
-
-not_above : (m n : ℕ) → n ≤ m → nat_lt m n ≡ false
-not_above m n h = grind (arith, nat_tests)
-
 text_found : (r : Result Read ScriptFault) (n : ℕ) (p : Program) → (r >>> λ s. in_line n (finish s)) ≡ Ok p → (s : Read) × (r ≡ Ok s) × (finish s ≡ Ok p)
 text_found (Ok s) n p e = (s, refl, ended (finish s) e)
   where
@@ -145,9 +127,9 @@ Spells-from_read bytes p ok =
     let lines = lines_found 1 start text.0 (lines_of bytes) text.1 in
     let end = closed_found text.0 p text.0.block text.2 in
     record {
-      short = not_below 1048576 (length bytes) short.0;
+      short = le-from_lt_false 1048576 (length bytes) short.0;
       plain = lines.0;
-      few_lines = no_more (length (with_words (lines_of bytes))) 250 few.0;
+      few_lines = le-from_true (length (with_words (lines_of bytes))) 250 few.0;
       last = text.0;
       said = lines.1;
       closed = end.0;
@@ -159,8 +141,8 @@ Spells-from_read bytes p ok =
 pub read-from_Spells : (bytes : List ℕ) (p : Program) → Spells bytes p → first_scripts bytes ≡ Ok p
 unfolding first_scripts reading_of
 read-from_Spells bytes p is =
-    ap (λ b. if b then Err (record { line = 1; kind = kinds.TooMany }) else collapsed (has_few_lines bytes) (reading_of bytes)) (not_above 1048576 (length bytes) is.short)
-    ∙ ap (λ b. collapsed b (reading_of bytes)) (at_most (length (with_words (lines_of bytes))) 250 is.few_lines)
+    ap (λ b. if b then Err (record { line = 1; kind = kinds.TooMany }) else collapsed (has_few_lines bytes) (reading_of bytes)) (lt-false 1048576 (length bytes) is.short)
+    ∙ ap (λ b. collapsed b (reading_of bytes)) (le-true (length (with_words (lines_of bytes))) 250 is.few_lines)
     ∙ ap (λ r. collapsed true (r >>> λ s. in_line (length (lines_of bytes)) (finish s))) (lines_again 1 start is.last (lines_of bytes) is.plain is.said)
     ∙ ap (λ r. collapsed true (in_line (length (lines_of bytes)) r)) (finish_again is.last is.closed is.main)
     ∙ ap (λ q. Ok q) is.program

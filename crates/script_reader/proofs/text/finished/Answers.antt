@@ -1,6 +1,4 @@
-use Rattle.std.proofs.Common.{◌≡◌, ℕ, List, Some, None, ap}
-use lib.Chars.{codes}
-use Rattle.script_reader.specs.Programs.{block_named, block_of}
+use Rattle.std.proofs.Common.{Some, None}
 use Rattle.script_reader.specs.Reading.{view}
 use Rattle.script_reader.proofs.Names.{block_named-found, none_open, finish-without_main}
 use Rattle.script_reader.proofs.Loops.{IsProgram-from}

@@ -1,10 +1,9 @@
-use Rattle.std.proofs.Common.{arith, ◌≡◌, ◌+◌, ◌-◌, ◌*◌, List, ℕ, length, take, drop, get_or, [], ap, refl, subst, sym}
-use denote.Ref.{Bor}
+use Rattle.std.proofs.Common.{arith, ◌-◌, length, take, drop, [], ap, subst, sym}
 use Rattle.script_reader.specs.Words.{texts, text_length}
 use Rattle.script_reader.specs.Forms.{start}
-use Rattle.script_reader.specs.Texts.{lines_from, line_at}
+use Rattle.script_reader.specs.Texts.{lines_from}
 use Rattle.script_reader.specs.Reading.{view}
-use Rattle.script_reader.proofs.Loops.{unless_still, lines_more, lines_fail, lines_end, split_off, Fits, Fits-start, Fits-line, Fits-next, Few-from, few_numbers}
+use Rattle.script_reader.proofs.Loops.{unless_still, lines_more, lines_fail, lines_end, split_off, Fits, Fits-start, Fits-next, Few-from, few_numbers}
 use Rattle.script_reader.proofs.text.lines_in.Goals as goal
 
 pub loop-rest-init : goal.loop-rest-init

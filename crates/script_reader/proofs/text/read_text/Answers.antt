@@ -1,8 +1,4 @@
-use Rattle.std.proofs.Common.{arith, ◌≡◌, ◌∙◌, ap, length, List, ℕ, Ok, Err, rules}
-use denote.Ref.{Bor}
-use Rattle.script_reader.specs.Words.{texts, lines_of}
-use Rattle.script_reader.specs.Forms.{start}
-use Rattle.script_reader.specs.Texts.{lines_from, reading_of, finish}
+use Rattle.std.proofs.Common.{arith, ◌≡◌, length, rules}
 use Rattle.script_reader.specs.Reading.{view}
 use Rattle.script_reader.specs.Scripts.{program_of}
 use Rattle.script_reader.proofs.Loops.{unless_still, few_lines, short_lines, text_fault, text_ok, text_end}
