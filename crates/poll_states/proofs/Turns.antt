@@ -8,7 +8,7 @@ use Rattle.co_base.specs.declared.names.WaitId.{WaitId}
 use Rattle.channel_model.specs.declared.acts.Act.{Act}
 use Rattle.channel_model.specs.declared.acts.ChannelNote.{ChannelNote}
 use Rattle.channel_model.specs.declared.acts.Entry.{Entry}
-use Rattle.channel_model.specs.Histories.{replay, acts_of, acts_in, Legal}
+use Rattle.channel_model.specs.Histories.{replay, replay_from, acts_of, acts_in, Legal}
 use Rattle.channel_model.specs.Floors.{Floor, Added, AtStep, entries_by}
 use Rattle.channel_model.specs.Laws.{is_plain_act}
 use Rattle.channel_model.proofs.Histories.{acts_of-append}
@@ -134,7 +134,7 @@ never_cancelled p a b f g polled h e = ⊎_elim (λ q. q) (λ q. absurd (gone_at
 -- ---- a coroutine that has not begun
 
 no_wait : (who : ℕ) (w : WaitId) (seen : List Entry) → seen ≡ [] → IsUnsettledOf who ((replay seen).waits w) → ⊥
-unfolding Rattle.channel_model.specs.Histories.replay_from
+unfolding replay_from
 no_wait who w seen e h = subst (λ l. IsUnsettledOf who ((replay l).waits w)) e h
 
 pub fresh_stands : (p : Program) (floor : Floor) (f : Frame) → IsFor p f.tag floor → floor.seen ≡ [] → f.line ≡ 0 → f.stage ≡ Running → items_of f.book ≡ [] → StandsOn p floor f
