@@ -1,5 +1,5 @@
 -- How many acts are among notes.
-use Rattle.std.specs.Prelude.{◌≡◌, ℕ, ◌+◌, List, [], ◌∷◌, length, cond, count_by, refl}
+use Rattle.std.specs.Prelude.{◌≡◌, ◌+◌, List, ◌∷◌, length, cond, count_by, refl}
 use Rattle.std.proofs.Common.{arith}
 use Rattle.std.proofs.lemmas.List.Recursion.{is_count_by}
 use Rattle.channel_model.specs.declared.acts.ChannelNote.{ChannelNote}

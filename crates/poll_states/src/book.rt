@@ -54,5 +54,8 @@ impl Book {
 pub fn acts_among(notes: &[ChannelNote]) -> usize
     ensures { result ≡ count_by is_act notes.now }
 {
-    notes.iter().filter(|note| matches!(note, ChannelNote::Made(_))).count()
+    notes
+        .iter()
+        .filter(|note| matches!(note, ChannelNote::Made(_)))
+        .count()
 }
