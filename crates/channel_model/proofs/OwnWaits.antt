@@ -40,7 +40,7 @@ begins (Withdraw w why) = None
 begins (Settle w outcome) = None
 
 -- a change of one wait that takes P from nowhere
-change_from : (P : Option Wait → Type 0) (waits : WaitId → Option Wait) (w v : WaitId) (f : Option Wait → Option Wait) → ((x : Option Wait) → P (f x) → P x) → P (put_wait w (f (waits w)) waits v) → P (waits v)
+pub change_from : (P : Option Wait → Type 0) (waits : WaitId → Option Wait) (w v : WaitId) (f : Option Wait → Option Wait) → ((x : Option Wait) → P (f x) → P x) → P (put_wait w (f (waits w)) waits v) → P (waits v)
 change_from P waits w v f k h = by_test (same_wait w v) refl h
   where
     by_test : (b : Bool) → same_wait w v ≡ b → P (if b then f (waits w) else waits v) → P (waits v)

@@ -1,5 +1,5 @@
 -- What one call leaves of a coroutine and of its waits.
-use Rattle.std.specs.Prelude.{◌≡◌, ◌≢◌, ℕ, ◌+◌, ◌<◌, true, false, List, [], ◌∷◌, ◌++◌, Option, Some, None, refl, length, is_some, slice_get, ◌⊎◌}
+use Rattle.std.specs.Prelude.{◌≡◌, ◌≢◌, ℕ, ◌<◌, true, false, List, [], ◌∷◌, ◌++◌, Option, Some, None, refl, length, is_some, ◌⊎◌}
 use Rattle.std.specs.List.{list_all}
 use Rattle.std.proofs.Common.{sym, ap, ◌∙◌, subst, arith, inl, inr, ⊎_elim}
 use Rattle.co_base.specs.declared.names.WaitId.{WaitId}
@@ -16,21 +16,20 @@ use Rattle.channel_model.specs.declared.floor.WaitState.TheVariants as state
 use Rattle.channel_model.specs.Channels.{Shape, State, Wait}
 use Rattle.channel_model.specs.Effects.{after, put_wait, name_clause, resolved_wait, settled_wait}
 use Rattle.channel_model.specs.Needs.{Needs, MaySettle}
-use Rattle.channel_model.specs.Histories.{replay, acts_of, Legal}
+use Rattle.channel_model.specs.Histories.{replay, Legal}
 use Rattle.channel_model.specs.Floors.{Floor, Looked, Made, AtStep, Added}
 use Rattle.channel_model.specs.Answers.{LookAnswer, SettleAnswer, IsReady, IsReadyWait, state_of_wait, state_of_parts, outcome_at, outcome_of_some}
 use Rattle.channel_model.specs.Outcomes.{outcome_of}
 use Rattle.channel_model.specs.Laws.{is_plain_act}
 use Rattle.channel_model.proofs.Histories.{replay_push, Legal-last, Legal-prefix}
 use Rattle.channel_model.proofs.Waits.{at_wait}
-use Rattle.channel_model.proofs.Spans.{added_made, added_looked, added_then, prefix_self, nothing_more}
+use Rattle.channel_model.proofs.Spans.{added_made, added_looked, added_then, prefix_self}
 use Rattle.channel_model.proofs.Others.{others_keep, between, Stays, ready_stays}
 use Rattle.channel_model.proofs.OwnWaits.{ComesFrom, begins, act_from, others_bring_none}
 use Rattle.channel_model.proofs.Placed.{replay_placed}
 use Rattle.script_reader.specs.declared.script.Instruction.{Instruction}
 use Rattle.poll_states.specs.declared.frame.Stage.{Stage}
 use Rattle.poll_states.specs.declared.frame.Stage.TheVariants.{Running, Waiting, Failed, Cancelled}
-use Rattle.poll_states.specs.declared.frame.Step.{Step}
 use Rattle.poll_states.specs.Books.{acts_noted}
 use Rattle.poll_states.specs.Runs.{Move, got, sent, closed, cancelled, waiting}
 use Rattle.poll_states.specs.Frames.{IsUnsettledOf, HoldsWait}
@@ -69,9 +68,9 @@ made_from who act a b v m h =
     let h' : IsUnsettledOf who ((replay (m.before ++ record { who = who; act = act } ∷ [])).waits v) = subst (λ es. IsUnsettledOf who ((replay es).waits v)) m.last h in
     let h'' : IsUnsettledOf who ((after (replay m.before) who act).waits v) = subst (λ (s : State). IsUnsettledOf who (s.waits v)) (replay_push m.before (record { who = who; act = act })) h' in
     ⊎_elim
-      (λ q. inl (others_bring_none who (IsUnsettledOf who) (unsettled_comes who) v a.seen m.before m.longer m.mine q))
-      (λ q. inr q.1)
-      (act_from who (IsUnsettledOf who) (unsettled_comes who) who v (replay m.before) act h'')
+    (λ q. inl (others_bring_none who (IsUnsettledOf who) (unsettled_comes who) v a.seen m.before m.longer m.mine q))
+    (λ q. inr q.1)
+    (act_from who (IsUnsettledOf who) (unsettled_comes who) who v (replay m.before) act h'')
 
 runs_not : {A : Type 0} (w : WaitId) → Running ≡ Waiting w → A
 runs_not w e = absurd (let k : ⊥ = cc in k)
@@ -251,7 +250,7 @@ settle_stood (settled.Undelivered v) a b = tt
 settled_now : (who : ℕ) (w : WaitId) (outcome : Settled) (a b : Floor) → Made who (Settle w outcome) a b → IsUnsettledOf who ((replay b.seen).waits w) → ⊥
 settled_now who w outcome a b m h =
     let e : (replay b.seen).waits w ≡ settled_wait ((replay m.before).waits w) =
-        ap (λ es. (replay es).waits w) m.last ∙ ap (λ (s : State). s.waits w) (replay_push m.before (record { who = who; act = Settle w outcome })) ∙ at_wait w _ (replay m.before).waits in
+    ap (λ es. (replay es).waits w) m.last ∙ ap (λ (s : State). s.waits w) (replay_push m.before (record { who = who; act = Settle w outcome })) ∙ at_wait w _ (replay m.before).waits in
     no_unsettled who _ (subst (IsUnsettledOf who) e h)
 
 -- a look and a settle

@@ -1,5 +1,5 @@
 -- What one step leaves of a frame.
-use Rattle.std.specs.Prelude.{◌≡◌, ℕ, ◌+◌, ◌<◌, ◌≤◌, Bool, true, false, List, [], ◌∷◌, ◌++◌, Some, refl, length, slice_get, ◌⊎◌}
+use Rattle.std.specs.Prelude.{◌≡◌, ℕ, ◌<◌, ◌≤◌, Bool, true, false, List, [], ◌∷◌, ◌++◌, Some, refl, length, slice_get, ◌⊎◌}
 use Rattle.std.proofs.Common.{sym, ap, ◌∙◌, subst, arith, inl, inr, ⊎_elim, get_or}
 use Rattle.std.proofs.lemmas.Bool.Decides.{nat_tests}
 use Rattle.std.proofs.lemmas.Option.{slice_get-get_or}
@@ -12,7 +12,7 @@ use Rattle.channel_model.specs.Floors.{Floor, SameSetting, MayCall, Looked, Adde
 use Rattle.channel_model.proofs.Spans.{added_none, added_looked, nothing_more}
 use Rattle.channel_model.proofs.Others.{others_keep}
 use Rattle.script_reader.specs.declared.script.Instruction.{Instruction}
-use Rattle.script_reader.specs.Programs.{Program, IsProgram, code_of, shape_of, coroutine_count, channel_of}
+use Rattle.script_reader.specs.Programs.{Program, IsProgram, code_of, coroutine_count, channel_of}
 use Rattle.script_reader.proofs.Declarations.{channel_of-within, is_signal-shape_of}
 use Rattle.poll_states.specs.declared.frame.Frame.{Frame}
 use Rattle.poll_states.specs.declared.frame.Stage.{Stage}
@@ -21,10 +21,10 @@ use Rattle.poll_states.specs.declared.frame.Step.{Step}
 use Rattle.poll_states.specs.declared.frame.Turn.{Turn}
 use Rattle.poll_states.specs.declared.frame.Turn.TheVariants as turn
 use Rattle.poll_states.specs.Books.{items_of, acts_noted}
-use Rattle.poll_states.specs.Runs.{Config, Move, Reaches, goes_on, running, waiting, hands, puts, refused, offers, takes, no_more, awaits, send_spent, receive_spent, got, sent, closed, cancelled}
-use Rattle.poll_states.specs.Frames.{config_of, IsUnsettledOf, HoldsWait, IsInside, IsFor, StandsOn, is_past, is_ended}
-use Rattle.poll_states.specs.Polls.{Falls, Polled, WaitsFor, MadeMove, TurnAnswer}
-use Rattle.poll_states.specs.Steps.{line_after, config_after, turn_after, IsCallOf, IsEndOf, HasStood, WaitsOnly, StepMade, Turned}
+use Rattle.poll_states.specs.Runs.{Config, Move, Reaches, goes_on, hands, puts, refused, offers, takes, no_more, awaits, send_spent, receive_spent, got, sent, closed, cancelled}
+use Rattle.poll_states.specs.Frames.{config_of, IsUnsettledOf, HoldsWait, IsInside, StandsOn, is_past, is_ended}
+use Rattle.poll_states.specs.Polls.{Falls, Polled, MadeMove, TurnAnswer}
+use Rattle.poll_states.specs.Steps.{line_after, config_after, turn_after, IsCallOf, IsEndOf, HasStood, StepMade, Turned}
 use Rattle.poll_states.proofs.Moves.{unsettled_stays, looked_only}
 
 pub acts_noted-append : (xs ys : List ChannelNote) → acts_noted (xs ++ ys) ≡ acts_noted xs ++ acts_noted ys

@@ -1,5 +1,5 @@
 -- What a poll does, and what its answer says.
-use Rattle.std.specs.Prelude.{◌≡◌, ℕ, ◌<◌, Bool, true, false, List, [], ◌∷◌, ◌++◌, Option, Some, None}
+use Rattle.std.specs.Prelude.{◌≡◌, ◌<◌, Bool, true, false, List, [], ◌∷◌, ◌++◌, Option, Some, None}
 use Rattle.std.specs.List.{list_all}
 use mathlib.Core.Logic.{◌⊎◌}
 use Rattle.co_base.specs.declared.names.WaitId.{WaitId}

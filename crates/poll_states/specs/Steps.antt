@@ -16,7 +16,7 @@ use Rattle.poll_states.specs.declared.frame.Stage.TheVariants.{Running, Waiting,
 use Rattle.poll_states.specs.declared.frame.Step.{Step}
 use Rattle.poll_states.specs.declared.frame.Turn.{Turn}
 use Rattle.poll_states.specs.declared.frame.Turn.TheVariants as turn
-use Rattle.poll_states.specs.Books.{items_of, acts_noted}
+use Rattle.poll_states.specs.Books.{acts_noted}
 use Rattle.poll_states.specs.Runs.{Config, Move, running, waiting}
 use Rattle.poll_states.specs.Frames.{IsUnsettledOf, HoldsWait, StandsOn}
 use Rattle.poll_states.specs.Polls.{IsGone, Polled, TurnAnswer}

@@ -12,7 +12,7 @@ ghost use Rattle.poll_states.specs.Steps.{IsCallOf, IsEndOf, StepMade, WaitsOnly
 use crate::floors::Floors;
 use crate::frame::{Stage, Step};
 use channel_model::{Act, ChannelFloor, ChannelNote, Got, Offered, Settled, WaitState};
-use co_base::{ChannelId, Gate, Tag, Value, Wakes, WaitId};
+use co_base::{ChannelId, Gate, Tag, Value, WaitId, Wakes};
 use script_reader::Instruction;
 
 /// Makes the call of a line.
@@ -93,11 +93,7 @@ fn send<C: ChannelFloor, W: Wakes>(
     }
 }
 
-fn receive<C: ChannelFloor, W: Wakes>(
-    who: Tag,
-    c: ChannelId,
-    floors: &mut Floors<'_, C, W>,
-) -> Step
+fn receive<C: ChannelFloor, W: Wakes>(who: Tag, c: ChannelId, floors: &mut Floors<'_, C, W>) -> Step
     requires can { MayCall who c (C.view floors.old.channels.now) }
     requires room { 0 < (C.view floors.old.channels.now).spare }
     requires free { WaitsOnly who Running (C.view floors.old.channels.now) }

@@ -6,7 +6,7 @@ ghost use Rattle.poll_states.specs.Frames.{is_past};
 ghost use Rattle.poll_states.specs.Steps.{line_after, turn_after};
 ghost use Rattle.poll_states.specs.declared.frame.Stage.TheVariants.{Running};
 
-use crate::book::Book;
+use crate::book::{Book, acts_among};
 use channel_model::ChannelNote;
 use co_base::{Tag, WaitId};
 use std::alloc::Global;
@@ -86,6 +86,13 @@ impl Frame {
         ensures { result ≡ length (items_of self.now.book) }
     {
         self.book.items().len()
+    }
+
+    /// How many acts its book has.
+    pub fn acts(&self) -> u64
+        ensures { result ≡ length (acts_noted (items_of self.now.book)) }
+    {
+        acts_among(self.book.items()) as u64
     }
 
     /// Whether no further one of so many lines is run: none is left, or the coroutine failed or was cancelled.
