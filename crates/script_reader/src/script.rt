@@ -42,3 +42,16 @@ pub struct Script {
     pub(crate) spawns: Vec<Spawn>,
     ghost well_formed: { IsProgram (program_from channels.items coroutines.items spawns.items) } by { Prim.hlevel props },
 }
+
+impl Script {
+    ghost use Rattle.std.specs.Prelude.{◌≡◌, map};
+    ghost use Rattle.script_reader.specs.Programs.{declared_of};
+    ghost use Rattle.script_reader.specs.Scripts.{program_of};
+
+    /// The channels that it declares.
+    pub fn channels(&self) -> &[Channel]
+        ensures { map declared_of result.now ≡ (program_of self.now).channels }
+    {
+        self.channels.as_slice()
+    }
+}
