@@ -10,3 +10,4 @@
 mod books;
 mod items;
 mod shown;
+mod table;
