@@ -8,6 +8,7 @@
 #![tactic(auto)]
 
 mod books;
+mod facts;
 mod items;
 mod shown;
 mod table;
