@@ -9,6 +9,8 @@
 
 mod books;
 mod facts;
+mod fates;
 mod items;
+mod resolutions;
 mod shown;
 mod table;
