@@ -1,3 +1,4 @@
 pub mod Rows
 pub mod Answered
 pub mod Told
+pub mod Deduced
