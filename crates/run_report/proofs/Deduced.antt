@@ -1,11 +1,11 @@
 -- What is known of places and waits tells each element with its fate.
-use Rattle.std.proofs.Common.{◌≡◌, ℕ, ◌==◌, nat_lt, Bool, true, false, not, ◌&&◌, ◌||◌, List, [], ◌∷◌, Option, Some, None, if◌then◌else◌, refl, ap, ◌∙◌}
+use Rattle.std.proofs.Common.{◌≡◌, ℕ, ◌==◌, nat_lt, Bool, not, ◌&&◌, ◌||◌, List, Option, Some, None, if◌then◌else◌, refl, ap, ◌∙◌}
 use Rattle.std.specs.List.{list_any}
 use Rattle.channel_model.specs.declared.acts.Act.{Act}
 use Rattle.channel_model.specs.declared.acts.Fate.{Fate}
 use Rattle.channel_model.specs.declared.acts.Fate.TheVariants as fate
 use Rattle.co_base.specs.declared.names.WaitId.{WaitId}
-use Rattle.channel_model.specs.Fates.{takes, hands, admits, drains, offers_at, first_some, withdraws, settles_value, settles_undelivered, element_at, wait_at, of_wait, of_offer, is_dropped, resolves_at, resolves_elsewhere, is_chosen_elsewhere, fate_at}
+use Rattle.channel_model.specs.Fates.{takes, hands, admits, drains, offers_at, first_some, withdraws, settles_value, settles_undelivered, element_at, wait_at, of_wait, of_offer, is_dropped, resolves_at, resolves_elsewhere, is_chosen_elsewhere}
 use Rattle.run_report.specs.declared.facts.Facts.{Facts}
 use Rattle.run_report.specs.Facts.{facts_of}
 use Rattle.run_report.specs.Resolutions.{is_resolved_at, is_resolved_elsewhere}
@@ -49,5 +49,5 @@ pub element_from-tables : (facts : ℕ → ℕ → Facts) (elsewhere : ℕ → �
     → element_from facts elsewhere ≡ element_of acts
 element_from-tables facts elsewhere acts f e =
     let same : (c p : ℕ) (w : WaitId) → elsewhere c p w ≡ is_chosen_elsewhere c p w acts =
-        λ c p w. e c p w ∙ (λ i. is_resolved_elsewhere (λ d q. (f d q i).wait) c p w acts) ∙ is_resolved_elsewhere-same acts c p w in
+    λ c p w. e c p w ∙ (λ i. is_resolved_elsewhere (λ d q. (f d q i).wait) c p w acts) ∙ is_resolved_elsewhere-same acts c p w in
     (λ i. element_from (λ c p. f c p i) (λ c p w. same c p w i)) ∙ (λ i c p. element_from-exact acts c p i)

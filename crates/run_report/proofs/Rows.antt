@@ -1,5 +1,5 @@
 -- Rows that grow by what stands behind their end anyway.
-use Rattle.std.proofs.Common.{◌≡◌, ◌≢◌, ℕ, ◌+◌, ◌<◌, ◌≤◌, List, [], ◌∷◌, ◌++◌, length, slice_index_or, slice_set, map, zero, suc, refl, ap, sym, ◌∙◌, Vec, inl, inr, if◌then◌else◌, arith, rules}
+use Rattle.std.proofs.Common.{◌≡◌, ◌≢◌, ℕ, ◌<◌, List, [], ◌∷◌, ◌++◌, length, slice_index_or, slice_set, zero, suc, refl, ap, sym, ◌∙◌, Vec, inl, inr, if◌then◌else◌, arith}
 use Rattle.std.proofs.lemmas.Bool.Decides.{eqb_tells}
 use Rattle.std.proofs.lemmas.List.{get_or-map}
 use Rattle.channel_model.specs.Fates.{is_at}
@@ -42,12 +42,12 @@ pub value_in-set : {T : Type 0} (rows grown : List (Vec T Global)) (c place : �
     → ((q : ℕ) → (q ≡ place → ⊥) → slice_index_or row.items q plain ≡ slice_index_or (slice_index_or (lists_of rows) c []) q plain)
     → (d q : ℕ) → value_in (lists_of (slice_set grown c row)) plain d q ≡ (if is_at d q c place then value else value_in (lists_of rows) plain d q)
 value_in-set rows grown c place row plain value within stays there others d q =
-    elim (eqb_tells c d)
-    [ inl x ↦ elim (eqb_tells place q)
-        [ inl y ↦ rw (x.0, y.0) (rw (← x.1, ← y.1) (ap (λ r. slice_index_or r place plain) (row_there grown c row within) ∙ there))
+    elim (eqb_tells c d) [
+      | inl x ↦ elim (eqb_tells place q) [
+        | inl y ↦ rw (x.0, y.0) (rw (← x.1, ← y.1) (ap (λ r. slice_index_or r place plain) (row_there grown c row within) ∙ there))
         | inr y ↦ rw (x.0, y.0) (rw (← x.1) (ap (λ r. slice_index_or r q plain) (row_there grown c row within) ∙ others q (λ e. y.1 (sym e))))
-        ]
-    | inr x ↦ rw x.0 (ap (λ r. slice_index_or r q plain) (row_elsewhere grown c d row (λ e. x.1 (sym e)) ∙ stays d))
+      ]
+      | inr x ↦ rw x.0 (ap (λ r. slice_index_or r q plain) (row_elsewhere grown c d row (λ e. x.1 (sym e)) ∙ stays d))
     ]
 
 -- what stands in the row that was read

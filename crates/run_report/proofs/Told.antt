@@ -1,5 +1,5 @@
 -- What an act tells, joined with what those before and after it tell.
-use Rattle.std.proofs.Common.{◌≡◌, ℕ, ◌==◌, Bool, true, false, ◌&&◌, ◌||◌, List, [], ◌∷◌, Option, Some, None, if◌then◌else◌, refl, sym, ap, ◌∙◌, inl, inr, arith}
+use Rattle.std.proofs.Common.{◌≡◌, ℕ, Bool, true, false, ◌&&◌, ◌||◌, List, ◌∷◌, Option, Some, None, if◌then◌else◌, refl, sym, ap, ◌∙◌, inl, inr, arith}
 use Rattle.std.proofs.Math.Bool.{or-false}
 use Rattle.std.proofs.lemmas.Bool.Decides.{eqb_tells, nat_tests}
 use Rattle.channel_model.specs.declared.acts.Act.{Act}
@@ -26,33 +26,33 @@ or-assoc false y z = refl
 
 pub joined-nothing : (x : Facts) → joined x nothing ≡ x
 joined-nothing x = λ i. record {
-    element = or_else-none x.element i;
-    wait = or_else-none x.wait i;
-    clause = or_else-none x.clause i;
-    handed = or-false x.handed i;
-    taken = or-false x.taken i;
-    admitted = or-false x.admitted i;
-    dropped = or-false x.dropped i;
-    drained = or-false x.drained i;
-    received = or-false x.received i;
-    gave_up = or-false x.gave_up i;
-    withdrawn = or-false x.withdrawn i
-  }
+  element = or_else-none x.element i;
+  wait = or_else-none x.wait i;
+  clause = or_else-none x.clause i;
+  handed = or-false x.handed i;
+  taken = or-false x.taken i;
+  admitted = or-false x.admitted i;
+  dropped = or-false x.dropped i;
+  drained = or-false x.drained i;
+  received = or-false x.received i;
+  gave_up = or-false x.gave_up i;
+  withdrawn = or-false x.withdrawn i;
+}
 
 pub joined-assoc : (x y z : Facts) → joined (joined x y) z ≡ joined x (joined y z)
 joined-assoc x y z = λ i. record {
-    element = or_else-assoc x.element y.element z.element i;
-    wait = or_else-assoc x.wait y.wait z.wait i;
-    clause = or_else-assoc x.clause y.clause z.clause i;
-    handed = or-assoc x.handed y.handed z.handed i;
-    taken = or-assoc x.taken y.taken z.taken i;
-    admitted = or-assoc x.admitted y.admitted z.admitted i;
-    dropped = or-assoc x.dropped y.dropped z.dropped i;
-    drained = or-assoc x.drained y.drained z.drained i;
-    received = or-assoc x.received y.received z.received i;
-    gave_up = or-assoc x.gave_up y.gave_up z.gave_up i;
-    withdrawn = or-assoc x.withdrawn y.withdrawn z.withdrawn i
-  }
+  element = or_else-assoc x.element y.element z.element i;
+  wait = or_else-assoc x.wait y.wait z.wait i;
+  clause = or_else-assoc x.clause y.clause z.clause i;
+  handed = or-assoc x.handed y.handed z.handed i;
+  taken = or-assoc x.taken y.taken z.taken i;
+  admitted = or-assoc x.admitted y.admitted z.admitted i;
+  dropped = or-assoc x.dropped y.dropped z.dropped i;
+  drained = or-assoc x.drained y.drained z.drained i;
+  received = or-assoc x.received y.received z.received i;
+  gave_up = or-assoc x.gave_up y.gave_up z.gave_up i;
+  withdrawn = or-assoc x.withdrawn y.withdrawn z.withdrawn i;
+}
 
 -- ---- one act
 
@@ -125,12 +125,12 @@ facts_of-cons c p (Settle w outcome) acts =
 -- the value that was joined there, seen from any place
 pub joined-at : (value : ℕ → ℕ → Facts) (c p d q : ℕ) (x : Facts) → (if is_at c p d q then joined (value d q) x else value c p) ≡ joined (value c p) (if is_at c p d q then x else nothing)
 joined-at value c p d q x =
-    elim (eqb_tells d c)
-    [ inl h ↦ elim (eqb_tells q p)
-        [ inl k ↦ rw (h.0, k.0) (rw (h.1, k.1) refl)
+    elim (eqb_tells d c) [
+      | inl h ↦ elim (eqb_tells q p) [
+        | inl k ↦ rw (h.0, k.0) (rw (h.1, k.1) refl)
         | inr k ↦ rw (h.0, k.0) (sym (joined-nothing (value c p)))
-        ]
-    | inr h ↦ rw h.0 (sym (joined-nothing (value c p)))
+      ]
+      | inr h ↦ rw h.0 (sym (joined-nothing (value c p)))
     ]
 
 -- the same, for the place that was told of

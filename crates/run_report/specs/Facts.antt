@@ -1,5 +1,5 @@
 -- What the acts say of one place, and of the wait that is named by it.
-use Rattle.std.specs.Prelude.{ℕ, Bool, true, false, ◌||◌, List, Option, Some, None, if◌then◌else◌}
+use Rattle.std.specs.Prelude.{ℕ, true, false, ◌||◌, List, Option, Some, None, if◌then◌else◌}
 use Rattle.std.specs.List.{list_any}
 use Rattle.channel_model.specs.declared.acts.Act.{Act}
 use Rattle.channel_model.specs.declared.acts.Act.TheVariants.{Hand, Put, Offer, Await, Take, Admit, Drop, Close, Void, Drain, WakeClosed, Withdraw, Settle}
@@ -26,24 +26,24 @@ facts_of c p acts =
       drained = list_any (drains c p) acts;
       received = list_any (settles_value w) acts;
       gave_up = list_any (settles_undelivered w) acts;
-      withdrawn = list_any (withdraws w) acts
+      withdrawn = list_any (withdraws w) acts;
     }
 
 -- what the one says and then the other
 abbrev pub joined : Facts → Facts → Facts
 joined x y = record {
-    element = or_else x.element y.element;
-    wait = or_else x.wait y.wait;
-    clause = or_else x.clause y.clause;
-    handed = x.handed || y.handed;
-    taken = x.taken || y.taken;
-    admitted = x.admitted || y.admitted;
-    dropped = x.dropped || y.dropped;
-    drained = x.drained || y.drained;
-    received = x.received || y.received;
-    gave_up = x.gave_up || y.gave_up;
-    withdrawn = x.withdrawn || y.withdrawn
-  }
+  element = or_else x.element y.element;
+  wait = or_else x.wait y.wait;
+  clause = or_else x.clause y.clause;
+  handed = x.handed || y.handed;
+  taken = x.taken || y.taken;
+  admitted = x.admitted || y.admitted;
+  dropped = x.dropped || y.dropped;
+  drained = x.drained || y.drained;
+  received = x.received || y.received;
+  gave_up = x.gave_up || y.gave_up;
+  withdrawn = x.withdrawn || y.withdrawn;
+}
 
 abbrev pub at_place : ℕ → ℕ → Facts → Option (WaitId × Facts)
 at_place c p facts = Some (record { channel = c; place = p }, facts)

@@ -1,5 +1,5 @@
 -- The fate of an element, from what is known of its place and of its wait.
-use Rattle.std.specs.Prelude.{ℕ, ◌==◌, nat_lt, Bool, true, false, not, ◌&&◌, ◌||◌, Option, Some, None, if◌then◌else◌}
+use Rattle.std.specs.Prelude.{ℕ, ◌==◌, nat_lt, Bool, not, ◌&&◌, ◌||◌, Option, Some, None, if◌then◌else◌}
 use Rattle.co_base.specs.declared.names.WaitId.{WaitId}
 use Rattle.channel_model.specs.declared.acts.Fate.{Fate}
 use Rattle.channel_model.specs.declared.acts.Fate.TheVariants as fate

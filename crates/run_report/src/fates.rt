@@ -74,7 +74,9 @@ fn has_received(here: Facts, wait: Facts) -> bool
 fn has_given_up(here: Facts, wait: Facts) -> bool
     ensures { result ≡ has_given_up here wait }
 {
-    here.drained || (here.handed && wait.gave_up) || (here.clause == Some(0) && has_withdrawn(here, wait))
+    here.drained
+        || (here.handed && wait.gave_up)
+        || (here.clause == Some(0) && has_withdrawn(here, wait))
 }
 
 /// Whether a select took its offer back, or chose another clause.

@@ -20,7 +20,6 @@ mod facts;
 mod fates;
 mod items;
 mod noted;
-
 mod resolutions;
 mod shown;
 mod table;

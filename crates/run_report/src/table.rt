@@ -50,7 +50,12 @@ impl<T: Copy> Table<T> {
         ensures { OnOk result ((d q : ℕ) → value_at self.new d q ≡ (if is_at d q c place then value else value_at self.old d q)) }
     {
         grow_rows(alloc, &mut self.rows, c as usize)?;
-        set_in_row(&mut self.rows[c as usize], place as usize, self.plain, value)
+        set_in_row(
+            &mut self.rows[c as usize],
+            place as usize,
+            self.plain,
+            value,
+        )
     }
 }
 
@@ -66,12 +71,7 @@ fn grow_rows<T: Copy>(alloc: Global, rows: &mut Vec<Vec<T>>, c: usize) -> Result
 }
 
 /// Sets the value at a place of a row, with the plain value at each place that comes between.
-fn set_in_row<T: Copy>(
-    row: &mut Vec<T>,
-    place: usize,
-    plain: T,
-    value: T,
-) -> Result<(), AllocError>
+fn set_in_row<T: Copy>(row: &mut Vec<T>, place: usize, plain: T, value: T) -> Result<(), AllocError>
     ensures there { OnOk result (slice_index_or row.new.items place plain ≡ value) }
     ensures others { OnOk result ((q : ℕ) → (q ≡ place → ⊥) → slice_index_or row.new.items q plain ≡ slice_index_or row.old.items q plain) }
 {

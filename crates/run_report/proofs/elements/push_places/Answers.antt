@@ -10,4 +10,4 @@ loop-place-preserved c =
     let name = (declared_of c.args.channel.now).name in
     let before = string_bytes c.loop-place.out in
     places_more (λ p. element_line name p (element_in c.args.known.now c.args.c p)) (string_bytes c.args.out.now) before (string_bytes c.push_element.new.out) c.loop-place.place c.loop-place.invariant
-      (c.in_ok-push_element.ensures ∙ ap (λ e. before ++ element_line name c.loop-place.place e) c.element.ensures)
+    (c.in_ok-push_element.ensures ∙ ap (λ e. before ++ element_line name c.loop-place.place e) c.element.ensures)

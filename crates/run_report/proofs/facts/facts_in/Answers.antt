@@ -12,7 +12,7 @@ loop-act-preserved c = λ d q.
     let i = c.loop-act.act-index in
     let before = value_at c.loop-act.table d q in
     told_more before (value_at c.add_act.new.table d q) (facts_of d q acts) d q (get_or acts i (Hand 0 0 0)) (drop (i + 1) acts) (c.in_ok-add_act.ensures d q)
-      (ap (joined before) (sym (at_drop_more (facts_of d q) acts i (Hand 0 0 0) (omega arith))) ∙ c.loop-act.invariant d q)
+    (ap (joined before) (sym (at_drop_more (facts_of d q) acts i (Hand 0 0 0) (omega arith))) ∙ c.loop-act.invariant d q)
 
 pub returns : goal.returns
 returns c = λ d q.

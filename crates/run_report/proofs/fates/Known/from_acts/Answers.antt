@@ -6,4 +6,4 @@ use Rattle.run_report.proofs.fates.Known.from_acts.Goals as goal
 pub returns : goal.returns
 returns c =
     element_from-tables (value_at c.in_ok-facts.facts) (elsewhere_in (record { facts = c.in_ok-facts.facts; resolved = c.in_ok-resolved.resolved })) c.args.acts.now
-      c.in_ok-facts.ensures c.in_ok-resolved.ensures
+    c.in_ok-facts.ensures c.in_ok-resolved.ensures
