@@ -1,0 +1,5 @@
+pub mod Rows
+pub mod Answered
+pub mod Told
+pub mod Deduced
+pub mod Lines

@@ -1,0 +1,61 @@
+-- What the report says: the lines of the elements that were not received, and the whole text.
+use Rattle.std.specs.Prelude.{ℕ, ◌+◌, List, [], ◌∷◌, ◌++◌, Option, Some, None}
+use Rattle.std.specs.List.{flat_map, range_with_len}
+use Rattle.std.specs.Fmt.{decimal}
+use lib.Chars.{codes}
+use Rattle.channel_model.specs.declared.acts.Act.{Act}
+use Rattle.channel_model.specs.declared.acts.ChannelNote.{ChannelNote}
+use Rattle.channel_model.specs.declared.acts.Fate.{Fate}
+use Rattle.channel_model.specs.declared.acts.Fate.TheVariants as fate
+use Rattle.channel_model.specs.Fates.{element_at, fate_at}
+use Rattle.script_reader.specs.Programs.{Declared, Program}
+use Rattle.poll_states.specs.Books.{acts_noted}
+use Rattle.run_report.specs.Texts.{books_text}
+
+-- ---- the elements
+
+-- the acts noted in all books
+abbrev pub acts_in : List (List ChannelNote) → List Act
+acts_in [] = []
+acts_in (book ∷ books) = acts_noted book ++ acts_in books
+
+-- an element with its fate
+abbrev pub with_fate : Option ℕ → Fate → Option (ℕ × Fate)
+with_fate None fate = None
+with_fate (Some value) fate = Some (value, fate)
+
+-- the element of a place and what became of it
+abbrev pub element_of : List Act → ℕ → ℕ → Option (ℕ × Fate)
+element_of acts c p = with_fate (element_at c p acts) (fate_at c p acts)
+
+-- ---- their lines
+
+abbrev pub fate_line : List ℕ → ℕ → ℕ → List ℕ → List ℕ
+fate_line name place value word = codes "element " ++ name ++ codes " " ++ decimal place ++ codes " " ++ decimal value ++ codes " " ++ word ++ codes "\n"
+
+-- an element that was received has no line
+abbrev pub unless_received : List ℕ → ℕ → ℕ → Fate → List ℕ
+unless_received name place value fate.Received = []
+unless_received name place value fate.Undelivered = fate_line name place value (codes "undelivered")
+unless_received name place value fate.Dropped = fate_line name place value (codes "dropped")
+unless_received name place value fate.Withdrawn = fate_line name place value (codes "withdrawn")
+unless_received name place value fate.Held = fate_line name place value (codes "held")
+
+abbrev pub element_line : List ℕ → ℕ → Option (ℕ × Fate) → List ℕ
+element_line name place None = []
+element_line name place (Some x) = unless_received name place x.0 x.1
+
+-- the lines of one channel, in the order of its places
+abbrev pub places_text : (ℕ → ℕ → Option (ℕ × Fate)) → ℕ → Declared → List ℕ
+places_text elements c channel = flat_map (λ p. element_line channel.name p (elements c p)) (range_with_len 0 channel.places)
+
+-- the lines of all channels from this one on
+abbrev pub elements_text : (ℕ → ℕ → Option (ℕ × Fate)) → ℕ → List Declared → List ℕ
+elements_text elements c [] = []
+elements_text elements c (channel ∷ channels) = places_text elements c channel ++ elements_text elements (c + 1) channels
+
+-- ---- the report
+
+-- the lines of the books, and then those of the elements
+abbrev pub report_text : Program → List (List ChannelNote) → List ℕ
+report_text program books = books_text program.channels 0 books ++ elements_text (element_of (acts_in books)) 0 program.channels

@@ -1,0 +1,88 @@
+-- What the report says: the lines of the books.
+use Rattle.std.specs.Prelude.{ℕ, ◌+◌, ◌-◌, List, [], ◌∷◌, ◌++◌, length, Option, Some, None, slice_get}
+use Rattle.std.specs.Fmt.{decimal}
+use lib.Chars.{codes}
+use Rattle.co_base.specs.declared.names.WaitId.{WaitId}
+use Rattle.channel_model.specs.declared.acts.Act.{Act}
+use Rattle.channel_model.specs.declared.acts.Act.TheVariants.{Hand, Put, Offer, Await, Take, Admit, Drop, Close, Void, Drain, WakeClosed, Withdraw, Settle}
+use Rattle.channel_model.specs.declared.acts.ChannelNote.{ChannelNote}
+use Rattle.channel_model.specs.declared.acts.ChannelNote.TheVariants as note
+use Rattle.channel_model.specs.declared.acts.Settled.{Settled}
+use Rattle.channel_model.specs.declared.acts.Settled.TheVariants as settled
+use Rattle.channel_model.specs.declared.acts.Why.{Why}
+use Rattle.channel_model.specs.declared.acts.Why.TheVariants as why
+use Rattle.script_reader.specs.Programs.{Declared}
+
+-- ---- the parts of a line
+
+-- a channel's name, or @ and the row of a done channel
+abbrev pub name_or_row : Option Declared → ℕ → List ℕ
+name_or_row (Some c) row = c.name
+name_or_row None row = codes "@" ++ decimal row
+
+-- a channel: the declared ones have names, the done channels come after them
+abbrev pub channel_text : List Declared → ℕ → List ℕ
+channel_text channels c = name_or_row (slice_get channels c) (c - length channels)
+
+-- a channel and a place of it
+abbrev pub place_text : List Declared → ℕ → ℕ → List ℕ
+place_text channels c place = channel_text channels c ++ codes " " ++ decimal place
+
+-- a wait: the channel and the place at which it began
+abbrev pub wait_text : List Declared → WaitId → List ℕ
+wait_text channels w = channel_text channels w.channel ++ codes "." ++ decimal w.place
+
+abbrev pub why_text : Why → List ℕ
+why_text why.Cancelled = codes "cancelled"
+why_text why.Revoked = codes "revoked"
+
+-- how a wait ended, with the clause first
+abbrev pub settled_text : Settled → List ℕ
+settled_text (settled.Value clause value) = codes "value " ++ decimal clause ++ codes " " ++ decimal value
+settled_text (settled.Sent clause) = codes "sent " ++ decimal clause
+settled_text (settled.Closed clause v) = codes "closed " ++ decimal clause ++ codes " " ++ decimal v
+settled_text settled.Cancelled = codes "cancelled"
+settled_text (settled.Undelivered value) = codes "undelivered " ++ decimal value
+
+-- ---- the items of a book
+
+abbrev pub act_text : List Declared → Act → List ℕ
+act_text channels (Hand c place value) = codes "hand " ++ place_text channels c place ++ codes " " ++ decimal value
+act_text channels (Put c place value) = codes "put " ++ place_text channels c place ++ codes " " ++ decimal value
+act_text channels (Offer c place value w clause) = codes "offer " ++ place_text channels c place ++ codes " " ++ decimal value ++ codes " " ++ wait_text channels w ++ codes " " ++ decimal clause
+act_text channels (Await c place w clause) = codes "await " ++ place_text channels c place ++ codes " " ++ wait_text channels w ++ codes " " ++ decimal clause
+act_text channels (Take c place value) = codes "take " ++ place_text channels c place ++ codes " " ++ decimal value
+act_text channels (Admit c place) = codes "admit " ++ place_text channels c place
+act_text channels (Drop c place value) = codes "drop " ++ place_text channels c place ++ codes " " ++ decimal value
+act_text channels (Close c v) = codes "close " ++ channel_text channels c ++ codes " " ++ decimal v
+act_text channels (Void c) = codes "void " ++ channel_text channels c
+act_text channels (Drain c place value) = codes "drain " ++ place_text channels c place ++ codes " " ++ decimal value
+act_text channels (WakeClosed c place) = codes "wakeclosed " ++ place_text channels c place
+act_text channels (Withdraw w why) = codes "withdraw " ++ wait_text channels w ++ codes " " ++ why_text why
+act_text channels (Settle w outcome) = codes "settle " ++ wait_text channels w ++ codes " " ++ settled_text outcome
+
+abbrev pub item_text : List Declared → ChannelNote → List ℕ
+item_text channels (note.Made act) = act_text channels act
+item_text channels (note.SendClosed c value v) = codes "sendclosed " ++ channel_text channels c ++ codes " " ++ decimal value ++ codes " " ++ decimal v
+item_text channels (note.TrySendClosed c value v) = codes "trysendclosed " ++ channel_text channels c ++ codes " " ++ decimal value ++ codes " " ++ decimal v
+item_text channels (note.ReceiveClosed c v) = codes "receiveclosed " ++ channel_text channels c ++ codes " " ++ decimal v
+item_text channels (note.TryReceiveClosed c v) = codes "tryreceiveclosed " ++ channel_text channels c ++ codes " " ++ decimal v
+item_text channels (note.AlreadyClosed c v) = codes "alreadyclosed " ++ channel_text channels c ++ codes " " ++ decimal v
+item_text channels (note.Full c value) = codes "full " ++ channel_text channels c ++ codes " " ++ decimal value
+item_text channels (note.Empty c) = codes "empty " ++ channel_text channels c
+item_text channels (note.Spent c) = codes "spent " ++ channel_text channels c
+item_text channels (note.Partner c place) = codes "partner " ++ place_text channels c place
+item_text channels (note.MainResolved w) = codes "resolved " ++ wait_text channels w
+item_text channels (note.Late w) = codes "late " ++ wait_text channels w
+
+-- ---- the lines of the books
+
+-- the lines of the coroutine with this tag, one for each item
+abbrev pub book_text : List Declared → ℕ → List ChannelNote → List ℕ
+book_text channels tag [] = []
+book_text channels tag (item ∷ items) = decimal tag ++ codes " " ++ item_text channels item ++ codes "\n" ++ book_text channels tag items
+
+-- the lines of all coroutines from this tag on
+abbrev pub books_text : List Declared → ℕ → List (List ChannelNote) → List ℕ
+books_text channels tag [] = []
+books_text channels tag (book ∷ books) = book_text channels tag book ++ books_text channels (tag + 1) books

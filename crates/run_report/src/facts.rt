@@ -1,0 +1,188 @@
+//! What the acts say of each place, and of the wait that is named by it.
+
+ghost use Rattle.std.specs.Prelude.{◌≡◌, ℕ, Some, OnOk, IfOk};
+ghost use Rattle.run_report.specs.Facts.{facts_of, joined, nothing, told, told_at};
+ghost use Rattle.run_report.specs.Tables.{value_at};
+
+use crate::table::Table;
+use channel_model::{Act, Settled};
+use co_base::{Value, WaitId};
+use std::alloc::{AllocError, Global};
+
+/// What the acts say of one place, and of the wait that is named by it.
+#[derive(Clone, Copy)]
+pub(crate) struct Facts {
+    /// The element that was brought to the place.
+    pub(crate) element: Option<Value>,
+    /// The wait that was placed there.
+    pub(crate) wait: Option<WaitId>,
+    /// The clause of the offer that was placed there.
+    pub(crate) clause: Option<u8>,
+    /// The element was given to a receiver at once.
+    pub(crate) handed: bool,
+    pub(crate) taken: bool,
+    pub(crate) admitted: bool,
+    pub(crate) dropped: bool,
+    pub(crate) drained: bool,
+    /// The wait of this name ended with a value.
+    pub(crate) received: bool,
+    /// The wait of this name gave its element to the undelivered handler.
+    pub(crate) gave_up: bool,
+    /// The wait of this name was withdrawn.
+    pub(crate) withdrawn: bool,
+}
+
+/// What no act says anything of.
+pub(crate) const NOTHING: Facts = Facts {
+    element: None,
+    wait: None,
+    clause: None,
+    handed: false,
+    taken: false,
+    admitted: false,
+    dropped: false,
+    drained: false,
+    received: false,
+    gave_up: false,
+    withdrawn: false,
+};
+
+/// What all these acts say of each place.
+pub(crate) fn facts_in(alloc: Global, acts: &[Act]) -> Result<Table<Facts>, AllocError>
+    ensures { IfOk result (λ table. (c p : ℕ) → value_at table c p ≡ facts_of c p acts.now) }
+{
+    let mut table = Table::new(alloc, NOTHING);
+    for act in acts {
+        add_act(alloc, &mut table, *act)?;
+    }
+    Ok(table)
+}
+
+/// Adds what one act says to what those before it said.
+fn add_act(alloc: Global, table: &mut Table<Facts>, act: Act) -> Result<(), AllocError>
+    ensures { OnOk result ((c p : ℕ) → value_at table.new c p ≡ joined (value_at table.old c p) (told_at c p (told act))) }
+{
+    match told_of(act) {
+        Some((at, facts)) => {
+            let before = table.get(at.channel, at.place);
+            table.set(alloc, at.channel, at.place, before.and(facts))
+        }
+        None => Ok(()),
+    }
+}
+
+impl Facts {
+    /// What the one says and then the other.
+    fn and(self, other: Facts) -> Facts
+        ensures { result ≡ joined self other }
+    {
+        Facts {
+            element: self.element.or(other.element),
+            wait: self.wait.or(other.wait),
+            clause: self.clause.or(other.clause),
+            handed: self.handed || other.handed,
+            taken: self.taken || other.taken,
+            admitted: self.admitted || other.admitted,
+            dropped: self.dropped || other.dropped,
+            drained: self.drained || other.drained,
+            received: self.received || other.received,
+            gave_up: self.gave_up || other.gave_up,
+            withdrawn: self.withdrawn || other.withdrawn,
+        }
+    }
+}
+
+/// The place or the wait of which the act says something, and what it says.
+fn told_of(act: Act) -> Option<(WaitId, Facts)>
+    ensures { result ≡ told act }
+{
+    let (at, facts) = match act {
+        Act::Hand { c, place, value } => (
+            WaitId { channel: c, place },
+            Facts {
+                element: Some(value),
+                handed: true,
+                ..NOTHING
+            },
+        ),
+        Act::Put { c, place, value } => (
+            WaitId { channel: c, place },
+            Facts {
+                element: Some(value),
+                ..NOTHING
+            },
+        ),
+        Act::Offer {
+            c,
+            place,
+            value,
+            main,
+            clause,
+        } => (
+            WaitId { channel: c, place },
+            Facts {
+                element: Some(value),
+                wait: Some(main),
+                clause: Some(clause),
+                ..NOTHING
+            },
+        ),
+        Act::Await {
+            c,
+            place,
+            main,
+            clause: _,
+        } => (
+            WaitId { channel: c, place },
+            Facts {
+                wait: Some(main),
+                ..NOTHING
+            },
+        ),
+        Act::Take { c, place, value: _ } => (
+            WaitId { channel: c, place },
+            Facts {
+                taken: true,
+                ..NOTHING
+            },
+        ),
+        Act::Admit { c, place } => (
+            WaitId { channel: c, place },
+            Facts {
+                admitted: true,
+                ..NOTHING
+            },
+        ),
+        Act::Drop { c, place, value: _ } => (
+            WaitId { channel: c, place },
+            Facts {
+                dropped: true,
+                ..NOTHING
+            },
+        ),
+        Act::Drain { c, place, value: _ } => (
+            WaitId { channel: c, place },
+            Facts {
+                drained: true,
+                ..NOTHING
+            },
+        ),
+        Act::Withdraw { w, why: _ } => (
+            w,
+            Facts {
+                withdrawn: true,
+                ..NOTHING
+            },
+        ),
+        Act::Settle { w, outcome } => (
+            w,
+            Facts {
+                received: matches!(outcome, Settled::Value(..)),
+                gave_up: matches!(outcome, Settled::Undelivered(_)),
+                ..NOTHING
+            },
+        ),
+        Act::Close { .. } | Act::Void { .. } | Act::WakeClosed { .. } => return None,
+    };
+    Some((at, facts))
+}

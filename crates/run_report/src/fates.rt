@@ -1,0 +1,99 @@
+//! What became of each element, from one look at all acts and a second one at those that resolve a wait.
+
+ghost use Rattle.std.specs.Prelude.{◌≡◌, IfOk};
+ghost use Rattle.run_report.specs.Elements.{element_of};
+ghost use Rattle.run_report.specs.Known.{element_in, fate_by, has_given_up, has_left, has_received, has_withdrawn};
+
+use crate::facts::{Facts, NOTHING, facts_in};
+use crate::resolutions::{Resolved, resolutions_in};
+use crate::table::Table;
+use channel_model::{Act, Fate};
+use co_base::{ChannelId, Place, Value};
+use std::alloc::{AllocError, Global};
+
+/// What is known of each place, and where each wait was resolved.
+#[derive(Drop)]
+pub(crate) struct Known {
+    facts: Table<Facts>,
+    resolved: Table<Resolved>,
+}
+
+impl Known {
+    /// What these acts make known.
+    pub(crate) fn from_acts(alloc: Global, acts: &[Act]) -> Result<Known, AllocError>
+        ensures { IfOk result (λ known. element_in known ≡ element_of acts.now) }
+    {
+        let facts = facts_in(alloc, acts)?;
+        let resolved = resolutions_in(alloc, &facts, acts)?;
+        Ok(Known { facts, resolved })
+    }
+
+    /// The element of a place, and what became of it.
+    pub(crate) fn element(&self, c: ChannelId, place: Place) -> Option<(Value, Fate)>
+        ensures { result ≡ element_in self.now c place }
+    {
+        let here = self.facts.get(c, place);
+        let value = here.element?;
+        let fate = match here.wait {
+            Some(w) => {
+                let wait = self.facts.get(w.channel, w.place);
+                let resolved = self.resolved.get(w.channel, w.place);
+                fate_by(here, wait, resolved.is_elsewhere(c, place))
+            }
+            None => fate_by(here, NOTHING, false),
+        };
+        Some((value, fate))
+    }
+}
+
+/// The fate, from what is said of the place and of its wait, and whether the wait was resolved elsewhere.
+fn fate_by(here: Facts, wait: Facts, elsewhere: bool) -> Fate
+    ensures { result ≡ fate_by here wait elsewhere }
+{
+    if has_received(here, wait) {
+        Fate::Received
+    } else if has_given_up(here, wait) {
+        Fate::Undelivered
+    } else if here.dropped {
+        Fate::Dropped
+    } else if has_left(here, wait, elsewhere) {
+        Fate::Withdrawn
+    } else {
+        Fate::Held
+    }
+}
+
+/// Whether the element was taken, or handed to a receiver that ended with a value.
+fn has_received(here: Facts, wait: Facts) -> bool
+    ensures { result ≡ has_received here wait }
+{
+    here.taken || (here.handed && wait.received)
+}
+
+/// Whether the element went to the undelivered handler.
+fn has_given_up(here: Facts, wait: Facts) -> bool
+    ensures { result ≡ has_given_up here wait }
+{
+    here.drained
+        || (here.handed && wait.gave_up)
+        || (here.clause == Some(0) && has_withdrawn(here, wait))
+}
+
+/// Whether a select took its offer back, or chose another clause.
+fn has_left(here: Facts, wait: Facts, elsewhere: bool) -> bool
+    ensures { result ≡ has_left here wait elsewhere }
+{
+    match here.clause {
+        Some(clause) => {
+            clause > 0 && (has_withdrawn(here, wait) || (!here.admitted && elsewhere))
+        }
+        None => false,
+    }
+}
+
+/// Whether the offer's wait was withdrawn before the offer was admitted.
+fn has_withdrawn(here: Facts, wait: Facts) -> bool
+    ensures { result ≡ has_withdrawn here wait }
+{
+    !here.admitted && wait.withdrawn
+}

@@ -1,0 +1,28 @@
+//! The report of a run: what each coroutine noted, and what became of the elements that nobody received.
+//!
+//! It reads the script for the names and the books for all else, so whoever has the same books gets the same report.
+//!
+//! - `text`: the whole text.
+//! - `shown`: the parts of a line.
+//! - `items`: the items of a book.
+//! - `books`: the lines of the books.
+//! - `noted`: the acts that are noted in books.
+//! - `table`: a value for each place of each channel.
+//! - `facts`: what the acts say of each place.
+//! - `resolutions`: where each wait was resolved.
+//! - `fates`: what became of each element.
+//! - `elements`: the lines of the elements that were not received.
+#![tactic(auto)]
+
+mod books;
+mod elements;
+mod facts;
+mod fates;
+mod items;
+mod noted;
+mod resolutions;
+mod shown;
+mod table;
+mod text;
+
+pub use text::report;
