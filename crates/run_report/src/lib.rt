@@ -12,11 +12,13 @@
 //! - `resolutions`: where each wait was resolved.
 //! - `fates`: what became of each element.
 //! - `elements`: the lines of the elements that were not received.
+//! - `fault`: the line that a text which is no script is answered with.
 #![tactic(auto)]
 
 mod books;
 mod elements;
 mod facts;
+mod fault;
 mod fates;
 mod items;
 mod noted;
@@ -25,4 +27,5 @@ mod shown;
 mod table;
 mod text;
 
+pub use fault::fault_line;
 pub use text::report;

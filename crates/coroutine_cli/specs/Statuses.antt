@@ -1,0 +1,105 @@
+-- What each status says of the words, of what was read and of what was written.
+use Rattle.std.specs.Prelude.{◌≡◌, ℕ, ◌≤◌, Bool, true, false, ◌&&◌, List, [], ◌∷◌, length, take, Option, Result, Ok, Err}
+use lib.Chars.{codes}
+use Rattle.std.specs.Str.{bytes_eq}
+use Rattle.co_base.specs.declared.names.WaitId.{WaitId}
+use Rattle.co_base.specs.Streams.{Rose, Gave, IsDrained, Took, TookPart}
+use Rattle.channel_model.specs.declared.acts.ChannelNote.{ChannelNote}
+use Rattle.channel_model.specs.declared.acts.Entry.{Entry}
+use Rattle.script_reader.specs.declared.fault.ScriptFault.{ScriptFault}
+use Rattle.script_reader.specs.Programs.{Program}
+use Rattle.script_reader.specs.Texts.{first_scripts}
+use Rattle.poll_states.specs.Parts.{BooksOf, IsIdle}
+use Rattle.run_report.specs.Faults.{fault_text}
+use Rattle.run_report.specs.Elements.{report_text}
+use Rattle.coroutine_cli.specs.declared.status.Ending.{Ending}
+use Rattle.coroutine_cli.specs.declared.status.Ending.TheVariants as ending
+use Rattle.coroutine_cli.specs.declared.status.Status.{Status}
+use Rattle.coroutine_cli.specs.declared.status.Status.TheVariants as status
+
+-- the number with which the process ends
+abbrev pub number_of : Status → ℕ
+number_of status.Completed = 0
+number_of status.Refused = 2
+number_of status.NoScript = 3
+number_of status.Unfinished = 4
+number_of status.ReadFault = 5
+number_of status.WriteFault = 6
+number_of status.NoMemory = 7
+
+-- the status of a call whose whole text was written
+abbrev pub status_of : Ending → Status
+status_of ending.Completed = status.Completed
+status_of ending.Unfinished = status.Unfinished
+status_of ending.NoScript = status.NoScript
+
+-- the words are run, --workers and 1
+abbrev pub is_run : List (List ℕ) → Bool
+is_run (command ∷ option ∷ value ∷ []) = bytes_eq command (codes "run") && (bytes_eq option (codes "--workers") && bytes_eq value (codes "1"))
+is_run other = false
+
+-- ---- what a text says of the input
+
+-- the input is a script, and the text the report of books that are the parts of one legal history, which came to rest;
+-- finished says that each coroutine is at the end of its code
+pub record Reports (finished : Bool) (input text : List ℕ) : Type 0 where
+  pub program : Program
+  pub is_script : first_scripts input ≡ Ok program
+  pub books : List (List ChannelNote)
+  pub history : List Entry
+  pub parts : BooksOf program books history
+  pub idle : IsIdle program books history finished
+  pub is_report : text ≡ report_text program books
+
+-- the input is no script, and the text names the fault and its line
+pub record Refuses (input text : List ℕ) : Type 0 where
+  pub fault : ScriptFault
+  pub no_script : first_scripts input ≡ Err fault
+  pub is_line : text ≡ fault_text fault
+
+abbrev pub Answers : Ending → List ℕ → List ℕ → Type 0
+Answers ending.Completed input text = Reports true input text
+Answers ending.Unfinished input text = Reports false input text
+Answers ending.NoScript input text = Refuses input text
+
+-- ---- what a status says of the call
+
+-- what contracts see of a source or of a sink: the bytes that are left or held, where they are told, and the faults
+pub record Stream : Type 0 where
+  pub bytes : Option (List ℕ)
+  pub faults : ℕ
+
+-- so much of the text was taken that this holds; the text answers the bytes that the source gave, which are all that it
+-- had, unless they are too many for a script
+pub record Serves (how : Ending) (source source' : Stream) (IsTaken : List ℕ → Type 0) : Type 0 where
+  pub input : List ℕ
+  pub given : Gave source.bytes source'.bytes input
+  pub all : length input ≤ 1048576 → IsDrained source'.bytes
+  pub text : List ℕ
+  pub answers : Answers how input text
+  pub taken : IsTaken text
+
+-- the text was written, whole
+abbrev pub Writes : Ending → Stream → Stream → Stream → Stream → Type 0
+Writes how source source' sink sink' = Serves how source source' (λ text. Took sink.bytes sink'.bytes text)
+
+-- the sink failed after a part of the text
+pub record BreaksOff (source source' sink sink' : Stream) : Type 0 where
+  pub rose : Rose sink.faults sink'.faults
+  pub how : Ending
+  pub serves : Serves how source source' (λ text. TookPart text sink.bytes sink'.bytes)
+
+-- a call with these words that found its source and its sink so, and left them so
+abbrev pub Means : Status → List (List ℕ) → Stream → Stream → Stream → Stream → Type 0
+Means status.Completed words source source' sink sink' = (is_run words ≡ true) × Writes ending.Completed source source' sink sink'
+Means status.Refused words source source' sink sink' = is_run words ≡ false
+Means status.NoScript words source source' sink sink' = (is_run words ≡ true) × Writes ending.NoScript source source' sink sink'
+Means status.Unfinished words source source' sink sink' = (is_run words ≡ true) × Writes ending.Unfinished source source' sink sink'
+Means status.ReadFault words source source' sink sink' = (is_run words ≡ true) × Rose source.faults source'.faults
+Means status.WriteFault words source source' sink sink' = (is_run words ≡ true) × BreaksOff source source' sink sink'
+Means status.NoMemory words source source' sink sink' = (is_run words ≡ true)
+
+-- what a write of this text came to
+abbrev pub IsWritten : Ending → List ℕ → Stream → Stream → Status → Type 0
+IsWritten how text sink sink' status.WriteFault = Rose sink.faults sink'.faults × TookPart text sink.bytes sink'.bytes
+IsWritten how text sink sink' result = (result ≡ status_of how) × Took sink.bytes sink'.bytes text

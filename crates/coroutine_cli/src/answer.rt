@@ -1,0 +1,64 @@
+//! The text and the status that a script is answered with.
+
+ghost use Rattle.std.specs.Prelude.{◌≡◌, IfOk, Ok, Err};
+ghost use Rattle.script_reader.specs.Faults.{Unless};
+ghost use Rattle.script_reader.specs.Scripts.{program_of};
+ghost use Rattle.script_reader.specs.Texts.{first_scripts};
+ghost use Rattle.coroutine_cli.specs.Statuses.{Answers};
+
+use crate::status::Ending;
+use co_base::{Gate, Memory};
+use engine_one::run_one;
+use run_report::{fault_line, report};
+use script_reader::{FaultKind, Script, ScriptFault, read};
+use std::alloc::Global;
+
+/// What is to be written, and how the call then ends.
+#[derive(Debug, Drop)]
+pub struct Answer {
+    pub ending: Ending,
+    pub text: Vec<u8>,
+}
+
+/// Reads the script, runs it in one thread, and makes its report; of bytes that are no script the line of their fault.
+pub fn answer_to<G: Gate>(alloc: Global, bytes: &[u8], gate: &G) -> Result<Answer, Memory>
+    ensures { IfOk result (λ answer. Answers answer.ending bytes.now answer.text.items) }
+{
+    match read(alloc, bytes) {
+        Ok(script) => run_of(alloc, &script, bytes, gate),
+        Err(fault) => fault_of(alloc, fault, bytes),
+    }
+}
+
+/// What is answered for want of a script.
+fn fault_of(alloc: Global, fault: ScriptFault, bytes: &[u8]) -> Result<Answer, Memory>
+    requires { Unless fault.kind (first_scripts bytes.now ≡ Err fault) }
+    ensures { IfOk result (λ answer. Answers answer.ending bytes.now answer.text.items) }
+{
+    if fault.kind == FaultKind::Memory {
+        return Err(Memory);
+    }
+    let text = fault_line(alloc, &fault)?;
+    Ok(Answer {
+        ending: Ending::NoScript,
+        text,
+    })
+}
+
+fn run_of<G: Gate>(alloc: Global, script: &Script, bytes: &[u8], gate: &G) -> Result<Answer, Memory>
+    requires { first_scripts bytes.now ≡ Ok (program_of script.now) }
+    ensures { IfOk result (λ answer. Answers answer.ending bytes.now answer.text.items) }
+{
+    let run = run_one(alloc, script, gate)?;
+    let text = report(alloc, script, &run.done)?;
+    if run.done.idle {
+        return Ok(Answer {
+            ending: Ending::Unfinished,
+            text,
+        });
+    }
+    Ok(Answer {
+        ending: Ending::Completed,
+        text,
+    })
+}

@@ -1,0 +1,49 @@
+//! The program: a script of coroutines from standard input, its report on standard output.
+//!
+//! - `status`: how a call of the program ends.
+//! - `words`: which words are accepted.
+//! - `answer`: the text and the status that a script is answered with.
+//! - `top`: the whole call over any source and sink.
+//! - `message`: the line on standard error.
+#![tactic(auto)]
+
+mod answer;
+mod message;
+mod status;
+mod top;
+#[cfg(test)]
+mod tests;
+mod words;
+
+use co_base::{OpenGate, StdSink, StdSource};
+use message::message_of;
+use std::process::ExitCode;
+use std::rt::Env;
+use std::{env, io};
+use top::coroutine_main;
+
+fn main(rt: HostRuntime) -> ExitCode {
+    let number = match arguments(&rt) {
+        Ok(words) => {
+            let mut source = StdSource::new(rt.stdin());
+            let mut sink = StdSink::new(rt.stdout());
+            coroutine_main(rt.alloc(), words.as_slice(), &mut source, &mut sink, &OpenGate)
+        }
+        Err(_) => 7,
+    };
+    if let Some(message) = message_of(number) {
+        let _ = eprintln!(rt; "{message}");
+    }
+    ExitCode::from(number)
+}
+
+/// The words of the command line, without the program's name.
+fn arguments(rt: &(impl Env + AllocGlobal)) -> io::Result<Vec<String>> {
+    let mut words = Vec::new(rt.alloc());
+    for word in env::args(rt)?.skip(1) {
+        if words.push(word).is_err() {
+            return Err(io::Error::from(io::ErrorKind::OutOfMemory));
+        }
+    }
+    Ok(words)
+}

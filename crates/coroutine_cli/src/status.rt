@@ -1,0 +1,61 @@
+//! How a call of the program ends.
+
+ghost use Rattle.std.specs.Prelude.{◌≡◌};
+ghost use Rattle.coroutine_cli.specs.Statuses.{number_of, status_of};
+
+/// How a call ends that has a text to write.
+#[derive(Clone, Copy, Debug, PartialEq, Eq)]
+pub enum Ending {
+    /// Each coroutine is at the end of its code; the text is the report.
+    Completed,
+    /// A coroutine waits, or had no place left; the text is the report.
+    Unfinished,
+    /// The bytes are no script; the text says which line is faulty.
+    NoScript,
+}
+
+/// How a call ends.
+#[derive(Clone, Copy, Debug, PartialEq, Eq)]
+pub enum Status {
+    Completed,
+    /// The words are not those of a command.
+    Refused,
+    NoScript,
+    Unfinished,
+    /// The source failed; nothing was written.
+    ReadFault,
+    /// The sink failed; a part of the text was written.
+    WriteFault,
+    /// No memory was found; nothing was written.
+    NoMemory,
+}
+
+impl Ending {
+    /// The status of a call whose whole text was written.
+    pub fn status(self) -> Status
+        ensures { result ≡ status_of self }
+    {
+        match self {
+            Ending::Completed => Status::Completed,
+            Ending::Unfinished => Status::Unfinished,
+            Ending::NoScript => Status::NoScript,
+        }
+    }
+}
+
+impl Status {
+    /// The number with which the process ends.
+    pub fn number(self) -> u8
+        ensures { result ≡ number_of self }
+    {
+        match self {
+            Status::Completed => 0,
+            Status::Refused => 2,
+            Status::NoScript => 3,
+            Status::Unfinished => 4,
+            Status::ReadFault => 5,
+            Status::WriteFault => 6,
+            Status::NoMemory => 7,
+        }
+    }
+}

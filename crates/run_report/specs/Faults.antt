@@ -1,0 +1,26 @@
+-- The line of a fault.
+use Rattle.std.specs.Prelude.{ℕ, List, ◌++◌}
+use Rattle.std.specs.Fmt.{decimal}
+use lib.Chars.{codes}
+use Rattle.script_reader.specs.declared.fault.FaultKind.{FaultKind}
+use Rattle.script_reader.specs.declared.fault.FaultKind.TheVariants.{NotAscii, UnknownWord, BadNumber, BadName, Duplicate, Undeclared, NoMain, NoEnd, Extra, TooDeep, TooMany, Recursive, Memory}
+use Rattle.script_reader.specs.declared.fault.ScriptFault.{ScriptFault}
+
+abbrev pub kind_text : FaultKind → List ℕ
+kind_text NotAscii = codes "NotAscii"
+kind_text UnknownWord = codes "UnknownWord"
+kind_text BadNumber = codes "BadNumber"
+kind_text BadName = codes "BadName"
+kind_text Duplicate = codes "Duplicate"
+kind_text Undeclared = codes "Undeclared"
+kind_text NoMain = codes "NoMain"
+kind_text NoEnd = codes "NoEnd"
+kind_text Extra = codes "Extra"
+kind_text TooDeep = codes "TooDeep"
+kind_text TooMany = codes "TooMany"
+kind_text Recursive = codes "Recursive"
+kind_text Memory = codes "Memory"
+
+-- the number of the faulty line, and what is wrong with it
+abbrev pub fault_text : ScriptFault → List ℕ
+fault_text fault = codes "line " ++ decimal fault.line ++ codes ": " ++ kind_text fault.kind ++ codes "\n"
