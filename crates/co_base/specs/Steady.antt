@@ -1,5 +1,5 @@
 -- What a source and a sink that never fail still have or hold.
-use Rattle.std.specs.Prelude.{◌≡◌, ℕ, ◌+◌, List, ◌++◌, Option, Some, None, Bool, true, false, drop, length, if◌then◌else◌}
+use Rattle.std.specs.Prelude.{◌≡◌, ℕ, ◌+◌, List, ◌++◌, Option, Some, None, drop, length, if◌then◌else◌}
 use Rattle.std.specs.Option.{option_map}
 use Rattle.co_base.specs.declared.steady.SteadySource.{SteadySource}
 use Rattle.co_base.specs.declared.steady.SteadySink.{SteadySink}

@@ -1,6 +1,6 @@
 //! A source and a sink over bytes in memory, which fail at the calls that they are told.
-ghost use Rattle.std.specs.Prelude.{◌≡◌, ℕ, ◌≤◌, ◌<◌, Some, length, drop, take, min, ◌++◌, [], IfOk, OnOk, OnErr, IsErr, ◌↔◌};
-ghost use Rattle.co_base.specs.Streams.{Rose, Gave, Took, IsDrained};
+ghost use Rattle.std.specs.Prelude.{◌≡◌, ◌≤◌, ◌<◌, Some, length, take, min, ◌++◌, [], IfOk, OnOk, OnErr, IsErr, ◌↔◌};
+ghost use Rattle.co_base.specs.Streams.{Rose};
 ghost use Rattle.co_base.specs.FailingCalls.{after_call, after_failure};
 
 use crate::failing::FailingCalls;

@@ -1,5 +1,5 @@
 //! A whole script out of a source.
-ghost use Rattle.std.specs.Prelude.{◌≡◌, ℕ, ◌≤◌, ◌<◌, ◌+◌, ◌^◌, Err, length, take, drop, IfOk, OnOk, OnErr};
+ghost use Rattle.std.specs.Prelude.{◌≡◌, ◌≤◌, ◌<◌, ◌+◌, ◌^◌, Err, length, take, drop, IfOk, OnOk, OnErr};
 ghost use Rattle.co_base.specs.Streams.{Rose, Gave, GaveJust, GaveAtMost, IsDrained};
 
 use crate::names::{Failed, ReadError};

@@ -1,7 +1,7 @@
 //! The edge: sources and sinks over the readers and writers of the standard library.
-ghost use Rattle.std.specs.Prelude.{◌≡◌, ℕ, ◌≤◌, ◌<◌, ◌+◌, Some, None, Ok, length, take, List, IfOk, OnOk, OnErr, [], if◌then◌else◌, is_ok};
+ghost use Rattle.std.specs.Prelude.{◌≡◌, ◌≤◌, ◌<◌, length, take, IfOk, OnErr, [], if◌then◌else◌, is_ok};
 ghost use Rattle.std.specs.Io.KnownBytes.{ReadConsumes, WriteAppends};
-ghost use Rattle.co_base.specs.Streams.{raised as one_more, Rose, Gave, Took, IsDrained};
+ghost use Rattle.co_base.specs.Streams.{one_more, Rose, Gave, Took, IsDrained};
 
 use crate::names::Failed;
 use crate::streams::{Sink, Source, raised};

@@ -1,6 +1,6 @@
 //! A source and a sink that never fail.
-ghost use Rattle.std.specs.Prelude.{◌≡◌, ℕ, ◌≤◌, ◌<◌, ◌+◌, Some, None, Ok, length, drop, take, min, max, ◌++◌, [], IfOk, IfSome, IsSome, OnOk, OnErr, ◌↔◌, vec_capacity};
-ghost use Rattle.co_base.specs.Streams.{Rose, Gave, Took, IsDrained};
+ghost use Rattle.std.specs.Prelude.{◌≡◌, ◌≤◌, ◌<◌, ◌+◌, Some, None, Ok, length, take, min, max, ◌++◌, [], IfOk, IfSome, IsSome, OnOk, OnErr, ◌↔◌, vec_capacity};
+ghost use Rattle.co_base.specs.Streams.{Rose, Took};
 
 use crate::names::{Failed, Memory};
 use crate::streams::{Sink, Source};

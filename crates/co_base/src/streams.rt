@@ -1,6 +1,6 @@
 //! Where bytes come from and where they go.
 ghost use Rattle.std.specs.Prelude.{◌≡◌, ℕ, ◌≤◌, ◌<◌, List, [], Option, length, take, IfOk, OnErr};
-ghost use Rattle.co_base.specs.Streams.{raised as one_more, Rose, Gave, Took, IsDrained};
+ghost use Rattle.co_base.specs.Streams.{one_more, Rose, Gave, Took, IsDrained};
 
 use crate::names::Failed;
 
