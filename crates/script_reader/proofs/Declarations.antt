@@ -16,7 +16,8 @@ use Rattle.script_reader.specs.declared.script.Spawn.{Spawn}
 use Rattle.script_reader.specs.declared.script.Instruction.{Instruction}
 use Rattle.script_reader.specs.declared.script.Instruction.TheVariants.{Send, Receive}
 use Rattle.script_reader.specs.Programs.{Program, program_from, block_of, Declared, Block, IsProgram, block_named, coroutine_count, block_of_tag, code_of_block, code_at, code_of, shape_of, is_rendezvous, is_declared, channel_of, names_channels}
-use Rattle.script_reader.proofs.Truths.{both_true, le-from_true, lt-from_true}
+use Rattle.script_reader.proofs.Truths.{le-from_true, lt-from_true}
+pub use Rattle.script_reader.proofs.Truths.{both_true}
 
 -- ---- tests of all elements
 
