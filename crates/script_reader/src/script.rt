@@ -92,17 +92,3 @@ impl Script {
         }
     }
 }
-
-impl Script {
-    ghost use Rattle.std.specs.Prelude.{◌≡◌, ◌≤◌, length, map};
-    ghost use Rattle.script_reader.specs.Programs.{declared_of};
-    ghost use Rattle.script_reader.specs.Scripts.{program_of};
-
-    /// The channels that it declares.
-    pub fn channels(&self) -> &[Channel]
-        ensures declared { map declared_of result.now ≡ (program_of self.now).channels }
-        ensures few { length result.now ≤ 256 }
-    {
-        self.channels.as_slice()
-    }
-}
