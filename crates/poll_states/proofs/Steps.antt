@@ -138,6 +138,7 @@ turned p a b f g step answer h lt move made t line stage book is =
       polled = record {
         tag = t;
         notes = step.note ∷ [];
+        one = omega arith;
         appended = book;
         added = made.added;
         falls = move_falls (code_of p f.tag) (config_of f) (config_of g) (step.note ∷ []) move' lt;
@@ -164,6 +165,7 @@ pub polled_same : (p : Program) (a b : Floor) (f g : Frame) → g.tag ≡ f.tag 
 polled_same p a b f g t line stage book added = record {
   tag = t;
   notes = [];
+  one = omega arith;
   appended = book ∙ sym (nothing_more (items_of f.book));
   added = added;
   falls = at_config g.line f.line g.stage f.stage line stage;

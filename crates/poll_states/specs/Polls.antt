@@ -1,5 +1,5 @@
 -- What a poll does, and what its answer says.
-use Rattle.std.specs.Prelude.{◌≡◌, ◌<◌, Bool, true, false, List, [], ◌∷◌, ◌++◌, Option, Some, None}
+use Rattle.std.specs.Prelude.{◌≡◌, ◌<◌, ◌≤◌, length, Bool, true, false, List, [], ◌∷◌, ◌++◌, Option, Some, None}
 use Rattle.std.specs.List.{list_all}
 use mathlib.Core.Logic.{◌⊎◌}
 use Rattle.co_base.specs.declared.names.WaitId.{WaitId}
@@ -44,6 +44,8 @@ IsGone (Some x) = is_gone x.resolved ≡ true
 pub record Polled (p : Program) (old new : Floor) (f g : Frame) : Type 0 where
   pub tag : g.tag ≡ f.tag
   pub notes : List ChannelNote
+  -- at most one move was made
+  pub one : length notes ≤ 1
   pub appended : items_of g.book ≡ items_of f.book ++ notes
   pub added : Added f.tag (acts_noted notes) old new
   pub falls : Falls notes (code_of p f.tag) (config_of f) (config_of g)
