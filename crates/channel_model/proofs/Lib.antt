@@ -5,3 +5,6 @@ pub mod OpenWaits
 pub mod Spans
 pub mod Others
 pub mod Placed
+pub mod Resolutions
+pub mod Plain
+pub mod Apart

@@ -195,7 +195,7 @@ after_open s who (WakeClosed c p) h = resolve_first_open (s.channels c).receiver
 after_open s who (Withdraw w why) h = resolve_open w _ s h
 after_open s who (Settle w outcome) h = keeps_open s _ (one_keeps s.waits w settled_wait settled_stands) h
 
-start_open : AllStandOpen start
+pub start_open : AllStandOpen start
 unfolding OffersStand ReceiversStand
 start_open c = record { offers = tt; receivers = tt }
 

@@ -122,5 +122,8 @@ unfolding LegalFrom replay_from
 from_placed shape s [] l h = h
 from_placed shape s (e ∷ es) l h = from_placed shape (after s e.who e.act) es l.1 (placed_after shape s e.who e.act l.0 h)
 
+pub start_placed : Placed start
+start_placed v le = refl
+
 pub replay_placed : (shape : Shape) (es : List Entry) → Legal shape es → Placed (replay es)
-replay_placed shape es l = from_placed shape start es l (λ v le. refl)
+replay_placed shape es l = from_placed shape start es l start_placed

@@ -1,12 +1,16 @@
 -- The words of what holds in every legal history.
 use Rattle.std.specs.Prelude.{◌≡◌, ℕ, ◌+◌, ◌==◌, Bool, true, false, List, [], ◌∷◌, Option, Some, None, if◌then◌else◌}
-use Rattle.std.specs.List.{list_any}
+use Rattle.std.specs.List.{list_any, list_all}
 use Rattle.channel_model.specs.declared.acts.Act.{Act}
 use Rattle.channel_model.specs.declared.acts.Act.TheVariants.{Hand, Put, Offer, Await, Take, Admit, Drop, Close, Void, Drain, WakeClosed, Withdraw, Settle}
 use Rattle.channel_model.specs.declared.acts.Entry.{Entry}
+use Rattle.channel_model.specs.declared.acts.Kind.{Kind}
+use Rattle.channel_model.specs.declared.acts.Kind.TheVariants.{Rendezvous, Buffered, Unlimited, Conflated, DropOldest, Signal}
 use Rattle.channel_model.specs.declared.standing.Party.{Party}
 use Rattle.channel_model.specs.declared.standing.Standing.{Standing}
 use Rattle.channel_model.specs.declared.standing.Receiver.{Receiver}
+use Rattle.channel_model.specs.declared.standing.Resolution.{Resolution}
+use Rattle.channel_model.specs.declared.standing.Resolution.TheVariants as resolved
 use Rattle.co_base.specs.declared.names.WaitId.{WaitId}
 use Rattle.channel_model.specs.Channels.{State, Channel, Wait, start, same_wait}
 use Rattle.channel_model.specs.Effects.{after, holder_at}
@@ -88,9 +92,9 @@ unfoldable pub settlements_of : WaitId → List Entry → ℕ
 settlements_of w [] = 0
 settlements_of w (e ∷ es) = one_if w (settles e.act) + settlements_of w es
 
--- ---- histories in which nothing is closed, dropped or taken back
+-- ---- histories in which nothing is closed, kept later, dropped or withdrawn
 
--- the act gives, leaves, waits for or takes an element, or ends a wait
+-- the act offers, receives, or ends a wait
 abbrev pub is_plain_act : Act → Bool
 is_plain_act (Hand c p v) = true
 is_plain_act (Put c p v) = true
@@ -105,3 +109,39 @@ is_plain_act (Drain c p v) = false
 is_plain_act (WakeClosed c p) = false
 is_plain_act (Withdraw w why) = false
 is_plain_act (Settle w outcome) = true
+
+abbrev pub is_plain_history : List Entry → Bool
+is_plain_history history = list_all (λ e. is_plain_act e.act) history
+
+-- the two sides of an exchange met
+abbrev pub is_exchange : Resolution → Bool
+is_exchange (resolved.Handed k v) = true
+is_exchange (resolved.Taken k) = true
+is_exchange (resolved.Admitted k) = false
+is_exchange (resolved.Closed k v) = false
+is_exchange (resolved.Withdrawn why) = false
+is_exchange resolved.Voided = false
+
+abbrev pub is_open_or_exchanged : Option Resolution → Bool
+is_open_or_exchanged None = true
+is_open_or_exchanged (Some how) = is_exchange how
+
+-- the wait did not begin, is open, or was resolved by an exchange
+abbrev pub is_plain_wait : Option Wait → Bool
+is_plain_wait None = true
+is_plain_wait (Some x) = is_open_or_exchanged x.resolved
+
+-- every channel is open, and every wait that was resolved was so by an exchange
+pub record IsPlain (s : State) : Type 0 where
+  pub not_closed : (c : ℕ) → (s.channels c).closed ≡ None
+  pub not_voided : (c : ℕ) → (s.channels c).voided ≡ false
+  pub waits : (w : WaitId) → is_plain_wait (s.waits w) ≡ true
+
+-- a channel of this kind keeps no element without a wait
+abbrev pub keeps_none : Kind → Bool
+keeps_none Rendezvous = true
+keeps_none (Buffered k) = false
+keeps_none Unlimited = false
+keeps_none Conflated = false
+keeps_none (DropOldest k) = false
+keeps_none Signal = true

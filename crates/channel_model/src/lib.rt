@@ -7,15 +7,21 @@
 //! - `acts`: the kinds of channels, the acts, and what a coroutine notes of its calls.
 //! - `standing`: offers and receivers that stand in a channel, and how a wait is resolved.
 //! - `floor`: the answers of calls, and the trait.
+//! - `laws`: what holds in every legal history.
 #![tactic(auto)]
 
 mod acts;
 mod floor;
+mod laws;
 mod standing;
 
 pub use acts::{Act, ChannelNote, Entry, Fate, Kind, Settled, Why};
 pub use floor::{
     AlreadyClosed, ChannelFloor, Got, Offered, Registered, TriedGot, TriedOffer, WaitState,
     Withdrawn,
+};
+pub use laws::{
+    a_wait_is_resolved_and_settled_at_most_once, appended_histories,
+    plain_histories_owe_nothing, whoever_stands_has_an_open_wait,
 };
 pub use standing::{Party, Receiver, Resolution, Standing, outcome};
