@@ -1,18 +1,21 @@
 -- What holds of each script: its lines name channels that it declares, each a rendezvous channel, and each tag runs a block.
-use Rattle.std.proofs.Common.{◌≡◌, ℕ, zero, suc, ◌+◌, ◌-◌, ◌<◌, ◌≤◌, Bool, true, false, ◌&&◌, nat_lt, nat_le, List, [], ◌∷◌, length, Option, Some, None, refl, ap, sym, ◌∙◌, arith, get_or, slice_get, if◌then◌else◌}
-use Rattle.std.specs.Prelude.{◌==◌, is_some}
+use Rattle.std.proofs.Common.{◌≡◌, ℕ, zero, suc, ◌+◌, ◌-◌, ◌<◌, ◌≤◌, Bool, true, false, ◌&&◌, nat_lt, nat_le, List, [], ◌∷◌, length, Option, Some, None, refl, ap, sym, ◌∙◌, arith, get_or, slice_get, map, if◌then◌else◌}
+use Rattle.std.specs.Prelude.{◌==◌, is_some, option_map}
 use Rattle.std.specs.List.{list_all}
 use Rattle.std.specs.Str.{bytes_eq}
 use Rattle.std.proofs.lemmas.Bool.Decides.{nat_tests}
 use Rattle.std.proofs.lemmas.List.{length-map, get_or-map}
-use Rattle.std.proofs.lemmas.Option.{slice_get-get_or}
+use Rattle.std.proofs.lemmas.Option.{slice_get-get_or, slice_get-map, slice_get_read}
 use lib.Chars.{codes}
 use Rattle.channel_model.specs.declared.acts.Kind.{Kind}
 use Rattle.channel_model.specs.declared.acts.Kind.TheVariants.{Rendezvous, Buffered, Unlimited, Conflated, DropOldest, Signal}
 use Rattle.channel_model.specs.Channels.{kind_at, places_at, is_full, suspends, is_signal}
+use Rattle.script_reader.specs.declared.script.Channel.{Channel}
+use Rattle.script_reader.specs.declared.script.Coroutine.{Coroutine}
+use Rattle.script_reader.specs.declared.script.Spawn.{Spawn}
 use Rattle.script_reader.specs.declared.script.Instruction.{Instruction}
 use Rattle.script_reader.specs.declared.script.Instruction.TheVariants.{Send, Receive}
-use Rattle.script_reader.specs.Programs.{Program, Declared, Block, IsProgram, block_named, coroutine_count, block_of_tag, code_of_block, code_at, code_of, shape_of, is_rendezvous, is_declared, channel_of, names_channels}
+use Rattle.script_reader.specs.Programs.{Program, program_from, block_of, Declared, Block, IsProgram, block_named, coroutine_count, block_of_tag, code_of_block, code_at, code_of, shape_of, is_rendezvous, is_declared, channel_of, names_channels}
 
 pub both_true : (a b : Bool) → (a && b) ≡ true → (a ≡ true) × (b ≡ true)
 both_true true true e = (refl, refl)
@@ -139,3 +142,26 @@ block_of_tag-some p ok tag h = by_test (tag == 0) refl
         let small : tag - 1 < length p.spawns = omega (arith, some, h) in
         let i = get_or p.spawns (tag - 1) 0 in
         (i, slice_get-get_or p.spawns (tag - 1) 0 small, below _ _ (test_below (λ j. nat_lt j (length p.blocks)) p.spawns (tag - 1) 0 ok.spawns small))
+
+-- a tag runs a block that is declared
+pub block_of_tag-within : (p : Program) → IsProgram p → (tag n : ℕ) → block_of_tag p tag ≡ Some n → n < length p.blocks
+block_of_tag-within p ok tag n e = by_test (tag == 0) e
+  where
+    by_test : (t : Bool) → (if t then block_named (codes "main") 0 p.blocks else slice_get p.spawns (tag - 1)) ≡ Some n → n < length p.blocks
+    by_test true is = let within = block_named-within (codes "main") 0 p.blocks n is in omega (arith, within)
+    by_test false is = below _ _ (test_at (λ j. nat_lt j (length p.blocks)) p.spawns (tag - 1) n ok.spawns is)
+
+-- a tag other than main's runs the block of its spawn
+pub block_of_tag-spawn : (channels : List Channel) (cs : List Coroutine) (ss : List Spawn) (tag : ℕ) (s : Spawn) → (tag ≡ 0 → ⊥) → tag - 1 < length ss → s ≡ get_or ss (tag - 1) s → block_of_tag (program_from channels cs ss) tag ≡ Some s.coroutine
+block_of_tag-spawn channels cs ss tag s other small is = by_test (tag == 0) (no_zero (tag == 0) refl)
+  where
+    no_zero : (t : Bool) → (tag == 0) ≡ t → t ≡ false
+    no_zero true e = absurd (other (grind (arith, nat_tests)))
+    no_zero false e = refl
+    by_test : (t : Bool) → t ≡ false → (if t then block_named (codes "main") 0 (map block_of cs) else slice_get (map (λ x. x.coroutine) ss) (tag - 1)) ≡ Some s.coroutine
+    by_test true e = cc
+    by_test false e = slice_get-map (λ (x : Spawn). x.coroutine) ss (tag - 1) ∙ ap (option_map (λ (x : Spawn). x.coroutine)) (slice_get_read ss (length ss) (tag - 1) s refl small is)
+
+-- a tag other than main's is that of a spawn
+pub spawned_tag : (p : Program) (ss : List Spawn) (tag : ℕ) → p.spawns ≡ map (λ s. s.coroutine) ss → tag < coroutine_count p → (tag ≡ 0 → ⊥) → tag - 1 < length ss
+spawned_tag p ss tag same small other = omega (arith, ap length same, length-map ss (λ (s : Spawn). s.coroutine), small, other)

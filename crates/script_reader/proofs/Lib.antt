@@ -1,1 +1,4 @@
 pub mod Declarations
+pub mod Filters
+pub mod Numbers
+pub mod Names

@@ -1,6 +1,7 @@
--- What a script that was read says.
+-- What a script in memory says.
 use Rattle.script_reader.specs.declared.script.Script.{Script}
 use Rattle.script_reader.specs.Programs.{Program, program_from}
 
+-- what the script says
 abbrev pub program_of : Script → Program
 program_of s = program_from s.channels.items s.coroutines.items s.spawns.items

@@ -1,5 +1,10 @@
 //! Why a text is no script.
 
+ghost use Rattle.std.specs.Prelude.{◌≡◌};
+ghost use Rattle.script_reader.specs.declared.fault.FaultKind.TheVariants.{Memory};
+
+use std::alloc::{AllocError, AllocFailed};
+
 /// What is wrong with a line.
 #[derive(Clone, Copy, Debug, PartialEq, Eq)]
 pub enum FaultKind {
@@ -26,4 +31,20 @@ pub enum FaultKind {
 pub struct ScriptFault {
     pub line: u32,
     pub kind: FaultKind,
+}
+
+impl From<AllocError> for FaultKind {
+    ghost from_gives = { λ _ kind. kind ≡ Memory };
+
+    fn from(_error: AllocError) -> FaultKind {
+        FaultKind::Memory
+    }
+}
+
+impl<T: Drop> From<AllocFailed<T>> for FaultKind {
+    ghost from_gives = { λ _ kind. kind ≡ Memory };
+
+    fn from(_error: AllocFailed<T>) -> FaultKind {
+        FaultKind::Memory
+    }
 }

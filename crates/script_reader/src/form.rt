@@ -1,0 +1,14 @@
+//! What a line says.
+
+use co_base::{ChannelId, Value};
+
+/// What a line says: new names as they stand there, and other names as their numbers.
+#[derive(Clone, Copy)]
+pub(crate) enum Spoken<'a> {
+    Channel(&'a str),
+    Coroutine(&'a str),
+    Spawn(u16),
+    Send(ChannelId, Value),
+    Receive(ChannelId),
+    End,
+}
