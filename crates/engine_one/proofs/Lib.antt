@@ -1,1 +1,5 @@
 pub mod Marks
+pub mod Lists
+pub mod Histories
+pub mod Others
+pub mod Turns

@@ -1,3 +1,4 @@
+pub mod Stages
 pub mod Books
 pub mod Runs
 pub mod Frames

@@ -2,6 +2,7 @@
 
 ghost use Rattle.std.specs.Prelude.{◌≡◌, ◌<◌, ℕ, [], OnOk, IfOk};
 ghost use Rattle.poll_states.specs.Books.{items_of};
+ghost use Rattle.poll_states.specs.Stages.{is_at_end};
 ghost use Rattle.poll_states.specs.declared.frame.Stage.TheVariants.{Running};
 
 use crate::book::Book;
@@ -70,6 +71,16 @@ impl Frame {
             Stage::Running => self.line >= lines,
             Stage::Waiting(_) => false,
             Stage::Failed | Stage::Cancelled => true,
+        }
+    }
+
+    /// Whether the coroutine is at the end of its code, which has so many lines.
+    pub fn is_at_end(&self, lines: usize) -> bool
+        ensures { result ≡ is_at_end lines self.now.line self.now.stage }
+    {
+        match self.stage {
+            Stage::Running => lines <= self.line,
+            Stage::Waiting(_) | Stage::Failed | Stage::Cancelled => false,
         }
     }
 
