@@ -2,4 +2,4 @@ pub mod Marks
 pub mod Lists
 pub mod Histories
 pub mod Others
-pub mod Turns
+pub mod TurnsMade
