@@ -3,3 +3,4 @@ pub mod Lists
 pub mod Histories
 pub mod Others
 pub mod TurnsMade
+pub mod Rounds

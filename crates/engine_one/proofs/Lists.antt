@@ -48,3 +48,8 @@ list_all-append test [] ys h k = k
 list_all-append test (x ∷ xs) ys h k =
     let parts = both_true (test x) (list_all test xs) h in
     ap (λ b. b && list_all test (xs ++ ys)) parts.0 ∙ list_all-append test xs ys parts.1 k
+
+pub within : {A : Type 0} (xs : List A) (k : ℕ) (x : A) → slice_get xs k ≡ Some x → k < length xs
+within [] k x e = cc
+within (y ∷ xs) zero x e = omega arith
+within (y ∷ xs) (suc k) x e = let h = within xs k x e in omega (arith, h)

@@ -1,5 +1,5 @@
 -- What turns come to.
-use Rattle.std.specs.Prelude.{◌≡◌, ◌≢◌, ℕ, ◌<◌, ◌⊎◌, List, Option, Some, None, slice_get}
+use Rattle.std.specs.Prelude.{◌≡◌, ◌≢◌, ℕ, ◌<◌, ◌⊎◌, Bool, true, false, List, Option, Some, None, slice_get}
 use mathlib.Core.List.{IsPrefix}
 use Rattle.channel_model.specs.Histories.{replay}
 use Rattle.channel_model.specs.Floors.{Floor}
@@ -7,7 +7,7 @@ use Rattle.script_reader.specs.Programs.{Program}
 use Rattle.poll_states.specs.declared.frame.Frame.{Frame}
 use Rattle.poll_states.specs.declared.frame.Turn.{Turn}
 use Rattle.poll_states.specs.declared.frame.Turn.TheVariants.{Ended, Waits, Ready}
-use Rattle.engine_one.specs.Coroutines.{all_moves, IsLeftAt}
+use Rattle.engine_one.specs.Coroutines.{all_moves, IsLeftAt, AllLeft}
 
 -- fewer moves are left
 abbrev pub MovesFall : Program → List Frame → List Frame → Type 0
@@ -32,3 +32,8 @@ abbrev pub TurnCameTo : Program → ℕ → Floor → Floor → List Frame → L
 TurnCameTo p tag old new frames frames' Ended = new.seen ≡ old.seen → IsLeftAt p (replay new.seen) tag (slice_get frames' tag)
 TurnCameTo p tag old new frames frames' Waits = new.seen ≡ old.seen → IsLeftAt p (replay new.seen) tag (slice_get frames' tag)
 TurnCameTo p tag old new frames frames' Ready = MovesFall p frames frames'
+
+-- a round in which a coroutine made a move leaves fewer moves; after another no coroutine can go on, unless an entry was added
+abbrev pub RoundCameTo : Program → Floor → Floor → List Frame → List Frame → Bool → Type 0
+RoundCameTo p old new frames frames' true = MovesFall p frames frames'
+RoundCameTo p old new frames frames' false = new.seen ≡ old.seen → AllLeft p (replay new.seen) frames'
