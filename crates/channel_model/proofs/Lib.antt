@@ -8,3 +8,4 @@ pub mod Placed
 pub mod Resolutions
 pub mod Plain
 pub mod Apart
+pub mod OwnWaits

@@ -1,5 +1,5 @@
 -- What is noted in a book.
-use Rattle.std.specs.Prelude.{ℕ, ◌-◌, List, [], ◌∷◌, vec_len, vec_capacity, slice_index_or}
+use Rattle.std.specs.Prelude.{ℕ, ◌-◌, Bool, true, false, List, [], ◌∷◌, vec_len, vec_capacity, slice_index_or}
 use Rattle.channel_model.specs.declared.acts.Act.{Act}
 use Rattle.channel_model.specs.declared.acts.ChannelNote.{ChannelNote}
 use Rattle.channel_model.specs.declared.acts.ChannelNote.TheVariants as note
@@ -11,6 +11,21 @@ items_of b = b.items.items
 -- room for so many notes
 abbrev pub spare_of : Book → ℕ
 spare_of b = vec_capacity b.items - vec_len b.items
+
+-- the note is of an act
+abbrev pub is_act : ChannelNote → Bool
+is_act (note.Made act) = true
+is_act (note.SendClosed c value v) = false
+is_act (note.TrySendClosed c value v) = false
+is_act (note.ReceiveClosed c v) = false
+is_act (note.TryReceiveClosed c v) = false
+is_act (note.AlreadyClosed c v) = false
+is_act (note.Full c value) = false
+is_act (note.Empty c) = false
+is_act (note.Spent c) = false
+is_act (note.Partner c place) = false
+is_act (note.MainResolved w) = false
+is_act (note.Late w) = false
 
 -- the acts among the notes
 abbrev pub acts_noted : List ChannelNote → List Act

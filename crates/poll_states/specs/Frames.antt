@@ -1,5 +1,5 @@
 -- A frame stands where its book leads, and its book is what its coroutine did.
-use Rattle.std.specs.Prelude.{◌≡◌, ℕ, ◌+◌, ◌-◌, ◌*◌, ◌<◌, ◌≤◌, nat_le, Bool, true, false, List, length}
+use Rattle.std.specs.Prelude.{◌≡◌, ℕ, ◌-◌, ◌*◌, ◌<◌, ◌≤◌, nat_le, Bool, true, false, List, length}
 use Rattle.co_base.specs.declared.names.WaitId.{WaitId}
 use Rattle.channel_model.specs.Channels.{Wait}
 use Rattle.channel_model.specs.Histories.{replay, acts_of}
@@ -51,12 +51,23 @@ pub record StandsOn (p : Program) (floor : Floor) (f : Frame) : Type 0 where
   pub only : (w : WaitId) → IsUnsettledOf f.tag ((replay floor.seen).waits w) → f.stage ≡ Waiting w
   pub inside : IsInside f.stage f.line (code_of p f.tag)
 
--- no further line is run
+-- no further one of so many lines is run
+abbrev pub is_past : ℕ → ℕ → Stage → Bool
+is_past lines line Running = nat_le lines line
+is_past lines line (Waiting w) = false
+is_past lines line Failed = true
+is_past lines line Cancelled = true
+
+-- at the end of a code of so many lines
+abbrev pub is_at_end : ℕ → ℕ → Stage → Bool
+is_at_end lines line Running = nat_le lines line
+is_at_end lines line (Waiting w) = false
+is_at_end lines line Failed = false
+is_at_end lines line Cancelled = false
+
+-- no further line of the code is run
 abbrev pub is_ended : List Instruction → ℕ → Stage → Bool
-is_ended code line Running = nat_le (length code) line
-is_ended code line (Waiting w) = false
-is_ended code line Failed = true
-is_ended code line Cancelled = true
+is_ended code line stage = is_past (length code) line stage
 
 -- an upper bound of the moves that are left
 abbrev pub moves_left : List Instruction → ℕ → Stage → ℕ

@@ -1,5 +1,5 @@
 -- What a poll does, and what its answer says.
-use Rattle.std.specs.Prelude.{◌≡◌, ℕ, ◌<◌, Bool, true, false, List, [], ◌∷◌, ◌++◌, Option, Some, None}
+use Rattle.std.specs.Prelude.{◌≡◌, ◌<◌, Bool, true, false, List, [], ◌∷◌, ◌++◌, Option, Some, None}
 use Rattle.std.specs.List.{list_all}
 use mathlib.Core.Logic.{◌⊎◌}
 use Rattle.co_base.specs.declared.names.WaitId.{WaitId}
@@ -8,7 +8,6 @@ use Rattle.channel_model.specs.declared.standing.Resolution.{Resolution}
 use Rattle.channel_model.specs.declared.standing.Resolution.TheVariants as resolved
 use Rattle.channel_model.specs.declared.floor.WaitState.TheVariants.{Standing}
 use Rattle.channel_model.specs.Channels.{Wait}
-use Rattle.channel_model.specs.Histories.{replay}
 use Rattle.channel_model.specs.Floors.{Floor, Added, AtStep}
 use Rattle.channel_model.specs.Answers.{state_of_wait}
 use Rattle.channel_model.specs.Laws.{is_plain_act}
@@ -49,8 +48,8 @@ pub record Polled (p : Program) (old new : Floor) (f g : Frame) : Type 0 where
   pub added : Added f.tag (acts_noted notes) old new
   pub falls : Falls notes (code_of p f.tag) (config_of f) (config_of g)
   pub plain : list_all is_plain_act (acts_noted notes) ≡ true
-  -- a wait that was neither withdrawn nor voided does not end as cancelled
-  pub cancelled : g.stage ≡ Cancelled → (f.stage ≡ Cancelled) ⊎ ((w : WaitId) × IsGone ((replay old.seen).waits w))
+  -- only a wait that was gone when it was settled ends as cancelled
+  pub cancelled : g.stage ≡ Cancelled → (f.stage ≡ Cancelled) ⊎ ((w : WaitId) × AtStep old new (λ s. IsGone (s.waits w)))
 
 -- the coroutine waits, and its wait stood at a moment of the poll
 pub record WaitsFor (old new : Floor) (g : Frame) : Type 0 where

@@ -1,7 +1,7 @@
 //! The notes of a coroutine's calls.
 
-ghost use Rattle.std.specs.Prelude.{◌≡◌, ◌<◌, ◌≤◌, ◌+◌, ◌++◌, ◌∷◌, [], OnOk, OnErr};
-ghost use Rattle.poll_states.specs.Books.{items_of, spare_of};
+ghost use Rattle.std.specs.Prelude.{◌≡◌, ◌<◌, ◌≤◌, ◌+◌, ◌++◌, ◌∷◌, [], OnOk, count_by};
+ghost use Rattle.poll_states.specs.Books.{items_of, spare_of, is_act};
 
 use channel_model::ChannelNote;
 use co_base::Memory;
@@ -48,4 +48,14 @@ impl Book {
     {
         self.items.push_reserved(item);
     }
+}
+
+/// How many of the notes are of acts.
+pub fn acts_among(notes: &[ChannelNote]) -> usize
+    ensures { result ≡ count_by is_act notes.now }
+{
+    notes
+        .iter()
+        .filter(|note| matches!(note, ChannelNote::Made(_)))
+        .count()
 }

@@ -5,13 +5,20 @@
 //!
 //! - `book`: the notes of a coroutine's calls.
 //! - `frame`: a coroutine between two moves, and what is left of a run.
+//! - `floors`: what polls work on.
+//! - `lines`: the lines of a coroutine.
+//! - `calls`: the calls of a coroutine on its channels.
 //! - `polls`: one move.
 #![tactic(auto)]
 
 mod book;
+mod calls;
+mod floors;
 mod frame;
+mod lines;
 mod polls;
 
 pub use book::Book;
+pub use floors::Floors;
 pub use frame::{Done, Frame, Stage, Turn};
-pub use polls::{Floors, poll};
+pub use polls::poll;

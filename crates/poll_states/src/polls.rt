@@ -1,24 +1,20 @@
 //! One move of one coroutine.
 
-ghost use Rattle.std.specs.Prelude.{◌≡◌, ◌<◌, false, Some, IfOk, slice_get};
+ghost use Rattle.std.specs.Prelude.{◌≡◌, ◌<◌, IfOk};
 ghost use Rattle.script_reader.specs.Scripts.{program_of};
 ghost use Rattle.script_reader.specs.Programs.{code_of};
-ghost use Rattle.script_reader.specs.declared.script.Instruction.TheVariants.{Send, Receive};
-ghost use Rattle.poll_states.specs.declared.frame.Stage.TheVariants.{Running, Waiting};
 ghost use Rattle.poll_states.specs.Books.{items_of, spare_of};
 ghost use Rattle.poll_states.specs.Frames.{StandsOn};
 ghost use Rattle.poll_states.specs.Polls.{Polled, TurnAnswer};
+ghost use Rattle.poll_states.specs.Steps.{Turned};
 
+use crate::calls::{call, resume};
+use crate::floors::Floors;
 use crate::frame::{Frame, Stage, Turn};
-use channel_model::{Act, ChannelFloor, ChannelNote, Got, Offered, Settled, WaitState};
-use co_base::{ChannelId, Gate, Memory, Place, Tag, Value, WaitId, Wakes};
-use script_reader::{Instruction, Script};
-
-/// What polls work on: the channels, and who asks that a coroutine be polled.
-pub struct Floors<'a, C, W> {
-    pub channels: &'a mut C,
-    pub wakes: &'a mut W,
-}
+use crate::lines::code_of;
+use channel_model::ChannelFloor;
+use co_base::{Gate, Memory, Wakes};
+use script_reader::Script;
 
 /// Makes at most one move of a coroutine: settles its wait where it was resolved, or runs its line.
 ///
@@ -47,6 +43,7 @@ pub fn poll<C: ChannelFloor, W: Wakes, G: Gate>(
     Ok(turn)
 }
 
+/// A poll for which there is memory.
 fn turn_of<C: ChannelFloor, W: Wakes, G: Gate>(
     script: &Script,
     frame: &mut Frame,
@@ -56,13 +53,25 @@ fn turn_of<C: ChannelFloor, W: Wakes, G: Gate>(
     requires stands { StandsOn (program_of script.now) (C.view floors.old.channels.now) frame.old }
     requires book { 0 < spare_of frame.old.book }
     requires room { 0 < (C.view floors.old.channels.now).spare }
-    ensures stands { StandsOn (program_of script.now) (C.view floors.new.channels.now) frame.new }
-    ensures polled { Polled (program_of script.now) (C.view floors.old.channels.now) (C.view floors.new.channels.now) frame.old frame.new }
-    ensures turn { TurnAnswer (code_of (program_of script.now) frame.old.tag) (C.view floors.old.channels.now) (C.view floors.new.channels.now) frame.old frame.new result }
+    ensures turned { Turned (program_of script.now) (C.view floors.old.channels.now) (C.view floors.new.channels.now) frame.old frame.new result }
     ensures quiet { items_of frame.new.book ≡ items_of frame.old.book → floors.new.wakes.now ≡ floors.old.wakes.now }
     ensures anchor { C.anchor floors.new.channels.now ≡ C.anchor floors.old.channels.now }
     ensures same_channels { floors.new.channels.ghost_name ≡ floors.old.channels.ghost_name }
     ensures same_wakes { floors.new.wakes.ghost_name ≡ floors.old.wakes.ghost_name }
 {
-    Turn::Waits
+    let code = code_of(script, frame.tag);
+    match frame.stage {
+        Stage::Running => {
+            if frame.line >= code.len() {
+                return Turn::Ended;
+            }
+            let step = call(frame.tag, code[frame.line], floors, gate);
+            frame.go_on(step)
+        }
+        Stage::Waiting(w) => match resume(frame.tag, w, floors, gate) {
+            Some(step) => frame.go_on(step),
+            None => Turn::Waits,
+        },
+        Stage::Failed | Stage::Cancelled => Turn::Ended,
+    }
 }

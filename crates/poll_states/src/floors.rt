@@ -1,0 +1,7 @@
+//! What polls work on.
+
+/// The channels, and who asks that a coroutine be polled.
+pub struct Floors<'a, C, W> {
+    pub channels: &'a mut C,
+    pub wakes: &'a mut W,
+}
