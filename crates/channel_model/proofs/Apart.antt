@@ -56,7 +56,7 @@ none_filtered p (x ∷ xs) e =
     let k = one_more (p x) (how_many p xs) e in
     ap (λ b. cond (not b) (x ∷ filter (λ y. not (p y)) xs) (filter (λ y. not (p y)) xs)) k.0 ∙ ap (λ ys. x ∷ ys) (none_filtered p xs k.1)
 
-same_parts : (ch : Channel) (os os' : List Standing) (rs rs' : List Receiver) → os ≡ os' → rs ≡ rs' → record ch { queue = os; receivers = rs } ≡ record ch { queue = os'; receivers = rs' }
+pub same_parts : (ch : Channel) (os os' : List Standing) (rs rs' : List Receiver) → os ≡ os' → rs ≡ rs' → record ch { queue = os; receivers = rs } ≡ record ch { queue = os'; receivers = rs' }
 same_parts ch os os' rs rs' p q = ap (λ (xs : List Standing). record ch { queue = xs; receivers = rs }) p ∙ ap (λ (xs : List Receiver). record ch { queue = os'; receivers = xs }) q
 
 -- a wait that does not stand at a channel has nothing to leave there

@@ -9,3 +9,5 @@ pub mod Resolutions
 pub mod Plain
 pub mod Apart
 pub mod OwnWaits
+pub mod Alone
+pub mod Firsts

@@ -91,7 +91,7 @@ put_open c ch s h k d = put_case (c == d) refl
     put_case true e = subst (λ n. StandOpen s.waits n ch) (eqb-true c d e) k
     put_case false e = h d
 
-with_queue_open : (c : ℕ) (os : List Standing) (s : State) → AllStandOpen s → OffersStand s.waits c os → AllStandOpen (with_queue c os s)
+pub with_queue_open : (c : ℕ) (os : List Standing) (s : State) → AllStandOpen s → OffersStand s.waits c os → AllStandOpen (with_queue c os s)
 with_queue_open c os s h k = put_open c _ s h (record { offers = k; receivers = (h c).receivers })
 
 remove_first_open : (c : ℕ) (os : List Standing) (s : State) → AllStandOpen s → OffersStand s.waits c os → AllStandOpen (remove_first c os s)

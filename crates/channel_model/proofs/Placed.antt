@@ -22,7 +22,7 @@ use Rattle.channel_model.proofs.Waits.{same_wait-eq, put_none}
 abbrev pub Placed : State → Type 0
 Placed s = (v : WaitId) → (s.channels v.channel).next ≤ v.place → s.waits v ≡ None
 
-same_number : (n : ℕ) → (n == n) ≡ true
+pub same_number : (n : ℕ) → (n == n) ≡ true
 same_number n = grind (arith, nat_tests)
 
 -- waits that a change leaves away where they are away

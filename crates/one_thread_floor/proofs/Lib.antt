@@ -1,0 +1,3 @@
+pub mod ListRemoval
+pub mod ListEntries
+pub mod ListNew

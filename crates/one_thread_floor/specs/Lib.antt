@@ -1,0 +1,2 @@
+pub mod ListStands
+pub mod ListFloors

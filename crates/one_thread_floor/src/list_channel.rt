@@ -1,0 +1,38 @@
+//! A channel as deques.
+
+ghost use Rattle.std.specs.Prelude.{◌≤◌, vec_len, vec_capacity};
+ghost use Rattle.std.specs.VecDeque.{deque_len, deque_capacity};
+
+use arrayvec::ArrayVec;
+use channel_model::{Receiver, Resolution, Standing};
+use co_base::{ChannelId, Tag, Value};
+use std::collections::VecDeque;
+
+/// A wait, with the number and the channel of each of its clauses.
+#[derive(Drop)]
+pub struct ListWait {
+    pub(crate) owner: Tag,
+    pub(crate) clauses: ArrayVec<(u8, ChannelId), 7>,
+    pub(crate) resolved: Option<Resolution>,
+    pub(crate) settled: bool,
+}
+
+/// A channel, with one slot for each place that was given out: the wait that began there, if one did.
+///
+/// Memory for all its places is taken when it is made, and touched as they are given out.
+#[derive(Drop)]
+pub struct ListChannel {
+    pub(crate) places: u32,
+    pub(crate) slots: Vec<Option<ListWait>>,
+    pub(crate) queue: VecDeque<Standing>,
+    pub(crate) receivers: VecDeque<Receiver>,
+    pub(crate) closed: Option<Value>,
+    pub(crate) voided: bool,
+    ghost few: { places ≤ 1048576 },
+    ghost slots_fit: { vec_len slots ≤ places },
+    ghost slots_room: { places ≤ vec_capacity slots },
+    ghost queue_room: { places ≤ deque_capacity queue },
+    ghost receivers_room: { places ≤ deque_capacity receivers },
+    ghost queue_fits: { deque_len queue ≤ vec_len slots },
+    ghost receivers_fit: { deque_len receivers ≤ vec_len slots },
+}

@@ -1,0 +1,27 @@
+//! A floor of channels as lists.
+
+ghost use Rattle.channel_model.specs.Histories.{Legal};
+ghost use Rattle.channel_model.proofs.Once.{Legal-prop};
+ghost use Rattle.one_thread_floor.specs.ListStands.{StandsFor};
+ghost use Rattle.std.proofs.Props.{props};
+
+use crate::list_channel::ListChannel;
+use channel_model::{Entry, Kind};
+
+/// A floor of channels that one thread calls.
+///
+/// A call costs the same however many offers or receivers stand. Only a wait with clauses at several channels is
+/// searched for at its other channels when it is resolved.
+#[derive(Drop)]
+pub struct ListFloor {
+    pub(crate) kinds: Vec<(Kind, u32)>,
+    pub(crate) channels: Vec<ListChannel>,
+    pub(crate) entries: Vec<Entry>,
+    ghost legal: { Legal kinds.items entries.items } by { Legal-prop kinds.items entries.items },
+    ghost stands: { StandsFor kinds.items channels.items entries.items } by { Prim.hlevel props },
+}
+
+/// What tells a list floor from another: the kinds of its channels.
+pub struct ListAnchor {
+    pub kinds: Vec<(Kind, u32)>,
+}

@@ -1,0 +1,70 @@
+//! A floor before its first call.
+
+ghost use Rattle.std.specs.Prelude.{◌≡◌, ◌≤◌, ℕ, length, [], true, IfOk};
+ghost use Rattle.std.specs.List.{All};
+ghost use Rattle.channel_model.specs.Channels.{empty, start};
+ghost use Rattle.one_thread_floor.specs.ListStands.{channel_of, IsAt};
+ghost use Rattle.one_thread_floor.specs.ListFloors.{floor_of, MayBeMade};
+
+use crate::list_channel::ListChannel;
+use crate::list_floor::ListFloor;
+use channel_model::{Entry, Kind};
+use co_base::Memory;
+use std::alloc::{AllocError, Global};
+use std::collections::VecDeque;
+
+/// A channel with no place given out, and memory for so many.
+fn new_channel(alloc: Global, places: u32) -> Result<ListChannel, AllocError>
+    requires { places ≤ 1048576 }
+    ensures channel { IfOk result (λ ch. channel_of ch ≡ empty) }
+    ensures places { IfOk result (λ ch. ch.places ≡ places) }
+{
+    let slots = Vec::with_capacity(alloc, places as usize)?;
+    let queue = VecDeque::with_capacity(alloc, places as usize)?;
+    let receivers = VecDeque::with_capacity(alloc, places as usize)?;
+    Ok(ListChannel {
+        places,
+        slots,
+        queue,
+        receivers,
+        closed: None,
+        voided: false,
+    })
+}
+
+fn new_channels(alloc: Global, kinds: &[(Kind, u32)]) -> Result<Vec<ListChannel>, AllocError>
+    requires { All MayBeMade kinds.now }
+    ensures { IfOk result (λ channels. IsAt kinds.now channels.items start) }
+{
+    let mut channels = Vec::with_capacity(alloc, kinds.len())?;
+    for i in 0..kinds.len() {
+        channels.push(new_channel(alloc, kinds[i].1)?)?;
+    }
+    Ok(channels)
+}
+
+impl ListFloor {
+    /// A floor with a channel of each of these kinds, with so many places. It takes the memory for all places.
+    pub fn new(alloc: Global, kinds: &[(Kind, u32)]) -> Result<ListFloor, Memory>
+        requires channels { length kinds.now ≤ 65536 }
+        requires kinds { All MayBeMade kinds.now }
+        ensures shape { IfOk result (λ f. (floor_of f).shape ≡ kinds.now) }
+        ensures seen { IfOk result (λ f. (floor_of f).seen ≡ []) }
+        ensures alone { IfOk result (λ f. (floor_of f).alone ≡ true) }
+        ensures callers { IfOk result (λ f. (t : ℕ) → (floor_of f).callers t ≡ true) }
+    {
+        let channels = new_channels(alloc, kinds)?;
+        Ok(ListFloor {
+            kinds: Vec::from_slice(alloc, kinds)?,
+            channels,
+            entries: Vec::new(alloc),
+        })
+    }
+
+    /// What was made of the floor so far.
+    pub fn entries(&self) -> &[Entry]
+        ensures { result.now ≡ (floor_of self.now).seen }
+    {
+        self.entries.as_slice()
+    }
+}

@@ -1,0 +1,119 @@
+//! What the lists of channels say.
+
+ghost use Rattle.std.specs.Prelude.{◌≡◌, ◌<◌, length, IsSome, Some, slice_get, slice_index_or, nat_le};
+ghost use Rattle.channel_model.specs.Channels.{kind_at};
+ghost use Rattle.channel_model.specs.Answers.{owner_of, state_of_wait, outcome_at};
+ghost use Rattle.one_thread_floor.specs.ListStands.{channel_in, wait_in, places_in, clauses_of};
+
+use crate::list_channel::ListChannel;
+use channel_model::{Kind, Receiver, Settled, WaitState, outcome};
+use co_base::{ChannelId, Tag, Value, WaitId};
+
+/// The kind of a channel.
+pub fn kind_at(kinds: &Vec<(Kind, u32)>, c: ChannelId) -> Kind
+    requires { c < length kinds.now.items }
+    ensures { result ≡ kind_at kinds.now.items c }
+{
+    kinds[c as usize].0
+}
+
+/// The receiver that stands first.
+pub fn first_receiver(channels: &Vec<ListChannel>, c: ChannelId) -> Option<Receiver>
+    requires { c < length channels.now.items }
+    ensures { result ≡ slice_get (channel_in channels.now.items c).receivers 0 }
+{
+    channels[c as usize].receivers.front().copied()
+}
+
+/// How many offers stand.
+pub fn queue_len(channels: &Vec<ListChannel>, c: ChannelId) -> usize
+    requires { c < length channels.now.items }
+    ensures { result ≡ length (channel_in channels.now.items c).queue }
+{
+    channels[c as usize].queue.len()
+}
+
+/// The value with which the channel was closed.
+pub fn closed_with(channels: &Vec<ListChannel>, c: ChannelId) -> Option<Value>
+    requires { c < length channels.now.items }
+    ensures { result ≡ (channel_in channels.now.items c).closed }
+{
+    channels[c as usize].closed
+}
+
+/// Whether all places were given out.
+pub fn is_spent(channels: &Vec<ListChannel>, c: ChannelId) -> bool
+    requires { c < length channels.now.items }
+    ensures { result ≡ nat_le (places_in channels.now.items c) (channel_in channels.now.items c).next }
+{
+    let channel = &channels[c as usize];
+    channel.places as usize <= channel.slots.len()
+}
+
+/// The coroutine that waits.
+pub fn owner_at(channels: &Vec<ListChannel>, w: WaitId) -> Tag
+    requires { IsSome (wait_in channels.now.items w) }
+    ensures { owner_of (wait_in channels.now.items w) ≡ Some result }
+{
+    match &channels[w.channel as usize].slots[w.place as usize] {
+        Some(wait) => wait.owner,
+        None => unreachable!(),
+    }
+}
+
+/// How far the wait is.
+pub fn state_at(channels: &Vec<ListChannel>, w: WaitId) -> WaitState
+    requires { IsSome (wait_in channels.now.items w) }
+    ensures { state_of_wait (wait_in channels.now.items w) ≡ Some result }
+{
+    match &channels[w.channel as usize].slots[w.place as usize] {
+        Some(wait) => {
+            if wait.settled {
+                WaitState::Settled
+            } else {
+                match wait.resolved {
+                    Some(_) => WaitState::Resolved,
+                    None => WaitState::Standing,
+                }
+            }
+        }
+        None => unreachable!(),
+    }
+}
+
+/// What a settle of the wait answers.
+pub fn outcome_in(channels: &Vec<ListChannel>, w: WaitId, cancelled: bool) -> Settled
+    requires { IsSome (outcome_at cancelled (wait_in channels.now.items w)) }
+    ensures { outcome_at cancelled (wait_in channels.now.items w) ≡ Some result }
+{
+    match &channels[w.channel as usize].slots[w.place as usize] {
+        Some(wait) => match wait.resolved {
+            Some(how) => outcome(how, cancelled),
+            None => unreachable!(),
+        },
+        None => unreachable!(),
+    }
+}
+
+/// How many clauses a wait has.
+pub fn clause_count(channels: &Vec<ListChannel>, w: WaitId) -> usize
+    requires { IsSome (wait_in channels.now.items w) }
+    ensures { result ≡ length (clauses_of (wait_in channels.now.items w)) }
+{
+    match &channels[w.channel as usize].slots[w.place as usize] {
+        Some(wait) => wait.clauses.len(),
+        None => 0,
+    }
+}
+
+/// The channel of a clause of a wait.
+pub fn clause_channel(channels: &Vec<ListChannel>, w: WaitId, i: usize) -> ChannelId
+    requires there { IsSome (wait_in channels.now.items w) }
+    requires within { i < length (clauses_of (wait_in channels.now.items w)) }
+    ensures { result ≡ (slice_index_or (clauses_of (wait_in channels.now.items w)) i (0, 0)).1 }
+{
+    match &channels[w.channel as usize].slots[w.place as usize] {
+        Some(wait) => wait.clauses.as_slice()[i].1,
+        None => 0,
+    }
+}

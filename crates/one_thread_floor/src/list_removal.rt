@@ -1,0 +1,120 @@
+//! How a wait that is resolved leaves the channels.
+
+ghost use Rattle.std.specs.Prelude.{◌≡◌, ℕ, ◌<◌, ◌≤◌, length, vec_len, IsSome, Some, if◌then◌else◌, filter, not, ◌&&◌, ◌==◌, ◌≢◌, option_map, slice_get};
+ghost use Rattle.std.specs.VecDeque.{deque_len, deque_capacity};
+ghost use Rattle.channel_model.specs.Channels.{same_wait};
+ghost use Rattle.channel_model.specs.Effects.{is_held_by, without, resolved_wait, put_wait};
+ghost use Rattle.co_base.specs.declared.names.WaitId.{WaitId as Id};
+ghost use Rattle.one_thread_floor.specs.ListStands.{wait_of, channel_of, wait_in, clauses_of, wait_of_slot, has_clause_elsewhere, SameShape, IsWithout, SameWaits, SameChannels};
+
+use crate::list_channel::{ListChannel, ListWait};
+use crate::list_queries::{clause_channel, clause_count};
+use channel_model::{Receiver, Resolution, Standing};
+use co_base::{ChannelId, WaitId};
+use std::collections::VecDeque;
+
+fn is_held_by(offer: &Standing, w: WaitId) -> bool
+    ensures { result ≡ is_held_by w offer.now.holder }
+{
+    match offer.holder {
+        Some(party) => w == party.wait,
+        None => false,
+    }
+}
+
+fn is_of(receiver: &Receiver, w: WaitId) -> bool
+    ensures { result ≡ same_wait w receiver.now.party.wait }
+{
+    w == receiver.party.wait
+}
+
+/// Takes the wait's offers out of a queue.
+fn drop_offers(queue: &mut VecDeque<Standing>, w: WaitId)
+    ensures bound { deque_len queue.new ≤ deque_len queue.old }
+    ensures capacity { deque_capacity queue.new ≡ deque_capacity queue.old }
+    ensures items { queue.new.items ≡ filter (λ o. not (is_held_by w o.holder)) queue.old.items }
+{
+    queue.retain(|offer| !is_held_by(offer, w));
+}
+
+/// Takes the wait's receivers out of a list.
+fn drop_receivers(receivers: &mut VecDeque<Receiver>, w: WaitId)
+    ensures bound { deque_len receivers.new ≤ deque_len receivers.old }
+    ensures capacity { deque_capacity receivers.new ≡ deque_capacity receivers.old }
+    ensures items { receivers.new.items ≡ filter (λ r. not (same_wait w r.party.wait)) receivers.old.items }
+{
+    receivers.retain(|receiver| !is_of(receiver, w));
+}
+
+/// Takes the wait out of the channel's queue and list of receivers.
+fn remove_from(channel: &mut ListChannel, w: WaitId)
+    ensures channel { channel_of channel.new ≡ without w (channel_of channel.old) }
+    ensures slots { channel.new.slots ≡ channel.old.slots }
+    ensures places { channel.new.places ≡ channel.old.places }
+{
+    drop_offers(&mut channel.queue, w);
+    drop_receivers(&mut channel.receivers, w);
+}
+
+/// Takes the wait out of channel `d`, if that is another than `c`.
+fn remove_at_other(channels: &mut Vec<ListChannel>, d: ChannelId, c: ChannelId, w: WaitId)
+    ensures channels { IsWithout w (λ x. (d == x) && not (d == c)) channels.old.items channels.new.items }
+    ensures waits { SameWaits channels.old.items channels.new.items }
+    ensures shape { SameShape channels.old.items channels.new.items }
+{
+    if d != c && (d as usize) < channels.len() {
+        remove_from(&mut channels[d as usize], w);
+    }
+}
+
+/// Takes the wait out of each channel at which it has a clause, but for channel `c`.
+fn remove_elsewhere(channels: &mut Vec<ListChannel>, c: ChannelId, w: WaitId)
+    requires { IsSome (wait_in channels.old.items w) }
+    ensures channels { IsWithout w (has_clause_elsewhere c (clauses_of (wait_in channels.old.items w))) channels.old.items channels.new.items }
+    ensures waits { SameWaits channels.old.items channels.new.items }
+    ensures shape { SameShape channels.old.items channels.new.items }
+{
+    for i in 0..clause_count(channels, w) {
+        let d = clause_channel(channels, w, i);
+        remove_at_other(channels, d, c, w);
+    }
+}
+
+fn mark_slot(slot: &mut Option<ListWait>, how: Resolution)
+    ensures { option_map wait_of slot.new ≡ resolved_wait how (option_map wait_of slot.old) }
+{
+    if let Some(wait) = slot {
+        wait.resolved = Some(how);
+    }
+}
+
+fn mark_in(channel: &mut ListChannel, place: usize, how: Resolution)
+    requires { place < vec_len channel.old.slots }
+    ensures channel { channel_of channel.new ≡ channel_of channel.old }
+    ensures places { channel.new.places ≡ channel.old.places }
+    ensures slot { option_map wait_of_slot (slice_get channel.new.slots.items place) ≡ option_map (λ x. resolved_wait how (wait_of_slot x)) (slice_get channel.old.slots.items place) }
+    ensures others { (p : ℕ) → p ≢ place → slice_get channel.new.slots.items p ≡ slice_get channel.old.slots.items p }
+{
+    mark_slot(&mut channel.slots[place], how);
+}
+
+/// Marks the wait as resolved.
+fn mark(channels: &mut Vec<ListChannel>, w: WaitId, how: Resolution)
+    requires { IsSome (wait_in channels.old.items w) }
+    ensures channels { SameChannels channels.old.items channels.new.items }
+    ensures waits { (v : Id) → wait_in channels.new.items v ≡ put_wait w (resolved_wait how (wait_in channels.old.items w)) (wait_in channels.old.items) v }
+    ensures shape { SameShape channels.old.items channels.new.items }
+{
+    mark_in(&mut channels[w.channel as usize], w.place as usize, how);
+}
+
+/// Resolves a wait that does not stand at channel `c`: it leaves each other channel at which it has a clause.
+pub fn resolve_elsewhere(channels: &mut Vec<ListChannel>, c: ChannelId, w: WaitId, how: Resolution)
+    requires { IsSome (wait_in channels.old.items w) }
+    ensures channels { IsWithout w (has_clause_elsewhere c (clauses_of (wait_in channels.old.items w))) channels.old.items channels.new.items }
+    ensures waits { (v : Id) → wait_in channels.new.items v ≡ put_wait w (resolved_wait how (wait_in channels.old.items w)) (wait_in channels.old.items) v }
+    ensures shape { SameShape channels.old.items channels.new.items }
+{
+    remove_elsewhere(channels, c, w);
+    mark(channels, w, how);
+}

@@ -1,0 +1,127 @@
+//! A channel without a buffer, from its first receiver to its last place.
+
+ghost use Rattle.std.specs.Prelude.{◌≡◌, ◌<◌, length, true, false};
+ghost use Rattle.channel_model.specs.Channels.{kind_at, is_signal};
+ghost use Rattle.channel_model.specs.Answers.{IsOwn, IsReady};
+ghost use Rattle.one_thread_floor.specs.ListFloors.{floor_of};
+
+use crate::list_floor::ListFloor;
+use crate::list_queries::kind_at;
+use channel_model::{ChannelFloor, Got, Kind, Offered, Settled, WaitState};
+use co_base::{Memory, Tag, Value, WaitId};
+
+/// Whether channel 0 is there, and carries elements.
+fn carries_elements(floor: &ListFloor) -> bool
+    ensures there { result ≡ true → 0 < length (floor_of floor.now).shape }
+    ensures elements { result ≡ true → is_signal (kind_at (floor_of floor.now).shape 0) ≡ false }
+{
+    if floor.kinds.is_empty() {
+        return false;
+    }
+    match kind_at(&floor.kinds, 0) {
+        Kind::Signal => false,
+        _ => true,
+    }
+}
+
+fn is_own(floor: &ListFloor, who: Tag, w: WaitId) -> bool
+    ensures there { result ≡ true → w.channel < length (floor_of floor.now).shape }
+    ensures own { result ≡ true → IsOwn who w (floor_of floor.now) }
+{
+    let channel = w.channel as usize;
+    let place = w.place as usize;
+    if floor.channels.len() <= channel || floor.channels[channel].slots.len() <= place {
+        return false;
+    }
+    match &floor.channels[channel].slots[place] {
+        Some(wait) => wait.owner == who,
+        None => false,
+    }
+}
+
+fn is_ready(floor: &ListFloor, who: Tag, w: WaitId) -> bool
+    ensures there { result ≡ true → w.channel < length (floor_of floor.now).shape }
+    ensures ready { result ≡ true → IsReady who w (floor_of floor.now) }
+{
+    let channel = w.channel as usize;
+    let place = w.place as usize;
+    if floor.channels.len() <= channel || floor.channels[channel].slots.len() <= place {
+        return false;
+    }
+    match &floor.channels[channel].slots[place] {
+        Some(wait) => wait.owner == who && wait.resolved.is_some() && !wait.settled,
+        None => false,
+    }
+}
+
+fn offer(floor: &mut ListFloor, who: Tag, value: Value) -> Result<Offered, Memory> {
+    if !carries_elements(floor) {
+        return Err(Memory);
+    }
+    floor.room(1)?;
+    Ok(floor.offer(who, 0, value))
+}
+
+fn receive(floor: &mut ListFloor, who: Tag) -> Result<Got, Memory> {
+    if !carries_elements(floor) {
+        return Err(Memory);
+    }
+    floor.room(1)?;
+    Ok(floor.receive(who, 0))
+}
+
+fn look(floor: &mut ListFloor, who: Tag, place: u32) -> Option<WaitState> {
+    let w = WaitId { channel: 0, place };
+    if !is_own(floor, who, w) {
+        return None;
+    }
+    Some(floor.look(who, w))
+}
+
+fn settle(
+    floor: &mut ListFloor,
+    who: Tag,
+    place: u32,
+    cancelled: bool,
+) -> Result<Option<Settled>, Memory> {
+    let w = WaitId { channel: 0, place };
+    floor.room(1)?;
+    if !is_ready(floor, who, w) {
+        return Ok(None);
+    }
+    Ok(Some(floor.settle(who, w, cancelled)))
+}
+
+#[test]
+fn two_sides_meet_in_order(rt: HostRuntime) {
+    let made = ListFloor::new(rt.alloc(), &[(Kind::Rendezvous, 4)]);
+    let mut floor = made.expect(&rt, "a floor");
+    assert_eq!(rt; receive(&mut floor, 3), Ok(Got::Waiting(0)));
+    assert_eq!(rt; receive(&mut floor, 4), Ok(Got::Waiting(1)));
+    assert_eq!(rt; look(&mut floor, 3, 0), Some(WaitState::Standing));
+    assert_eq!(rt; offer(&mut floor, 5, 70), Ok(Offered::Handed(0, 3)));
+    assert_eq!(rt; look(&mut floor, 3, 0), Some(WaitState::Resolved));
+    assert_eq!(rt; look(&mut floor, 4, 1), Some(WaitState::Standing));
+    assert_eq!(rt;
+        settle(&mut floor, 3, 0, false),
+        Ok(Some(Settled::Value(0, 70)))
+    );
+    assert_eq!(rt; look(&mut floor, 3, 0), Some(WaitState::Settled));
+    assert_eq!(rt; offer(&mut floor, 5, 71), Ok(Offered::Handed(1, 4)));
+    assert_eq!(rt;
+        settle(&mut floor, 4, 1, true),
+        Ok(Some(Settled::Undelivered(71)))
+    );
+    assert_eq!(rt; offer(&mut floor, 5, 72), Ok(Offered::Held(2)));
+    assert_eq!(rt; offer(&mut floor, 6, 73), Ok(Offered::Held(3)));
+    assert_eq!(rt; offer(&mut floor, 7, 74), Ok(Offered::Spent));
+    assert_eq!(rt; receive(&mut floor, 3), Ok(Got::Taken(2, 72, Some(5))));
+    assert_eq!(rt; receive(&mut floor, 3), Ok(Got::Taken(3, 73, Some(6))));
+    assert_eq!(rt; settle(&mut floor, 5, 2, false), Ok(Some(Settled::Sent(0))));
+    assert_eq!(rt;
+        settle(&mut floor, 6, 3, true),
+        Ok(Some(Settled::Cancelled))
+    );
+    assert_eq!(rt; receive(&mut floor, 3), Ok(Got::Spent));
+    assert_eq!(rt; floor.entries().len(), 12);
+}
