@@ -26,19 +26,9 @@ pub same_acts : (who k : ℕ) (acts : List Act) (old new : Floor) → old.alone 
 same_acts who k acts old new alone n h =
     ap (acts_of who) (h.alone alone) ∙ acts_of-append who old.seen (entries_by k acts) ∙ ap (λ l. acts_of who old.seen ++ l) (none_of who k acts n) ∙ append-nil (acts_of who old.seen)
 
-plain_entries : (who : ℕ) (acts : List Act) → list_all is_plain_act acts ≡ true → is_plain_history (entries_by who acts) ≡ true
-plain_entries who [] e = refl
-plain_entries who (a ∷ acts) e =
-    let parts = both_true (is_plain_act a) (list_all is_plain_act acts) e in
-    ap (λ b. b && is_plain_history (entries_by who acts)) parts.0 ∙ plain_entries who acts parts.1
-
-pub still_plain : (who : ℕ) (acts : List Act) (old new : Floor) → old.alone ≡ true → Added who acts old new → list_all is_plain_act acts ≡ true → is_plain_history old.seen ≡ true → is_plain_history new.seen ≡ true
-still_plain who acts old new alone h plain before =
-    ap is_plain_history (h.alone alone) ∙ list_all-append (λ (e : Entry). is_plain_act e.act) old.seen (entries_by who acts) before (plain_entries who acts plain)
-
 -- a call that made no act left the history as it was
-pub nothing_seen : (who : ℕ) (old new : Floor) → old.alone ≡ true → Added who [] old new → new.seen ≡ old.seen
-nothing_seen who old new alone h = h.alone alone ∙ append-nil old.seen
+pub nothing_added : (who : ℕ) (old new : Floor) → old.alone ≡ true → Added who [] old new → new.seen ≡ old.seen
+nothing_added who old new alone h = h.alone alone ∙ append-nil old.seen
 
 -- ---- prefixes
 

@@ -30,26 +30,11 @@ use Rattle.poll_states.specs.Parts.{IsLeft, WaitsAlone}
 use Rattle.poll_states.specs.declared.frame.Turn.{Turn}
 use Rattle.poll_states.specs.declared.frame.Turn.TheVariants.{Ended, Waits, Ready}
 use Rattle.poll_states.specs.Polls.{Polled, IsGone, is_gone, Falls, WaitsFor, MadeMove, TurnAnswer}
+use Rattle.poll_states.proofs.Turns.{other_stands, same_config, fewer_left, plain_seen, never_cancelled}
 use Rattle.engine_one.specs.Coroutines.{FrameStands, StandsAt, AllStand, IsLeftAt, frame_moves, all_moves}
 use Rattle.engine_one.specs.Progress.{MovesFall, StandsStill, Advances, OthersSame, TurnCameTo}
 use Rattle.engine_one.proofs.Lists.{slice_get-Some, slice_get-set_same, slice_get-set_other, sum_by-set_less, sum_by-set_same}
-use Rattle.engine_one.proofs.Histories.{same_acts, still_plain, nothing_seen, between_same}
-use Rattle.engine_one.proofs.Others.{others_stand}
-
--- ---- no coroutine ends as cancelled
-
-not_gone : (x : Option Wait) → is_plain_wait x ≡ true → IsGone x → ⊥
-not_gone None e h = h
-not_gone (Some x) e h = by_resolution x.resolved e h
-  where
-    by_resolution : (r : Option Resolution) → is_plain_wait (Some (record x { resolved = r })) ≡ true → is_gone r ≡ true → ⊥
-    by_resolution None e h = cc
-    by_resolution (Some (resolved.Handed k v)) e h = cc
-    by_resolution (Some (resolved.Taken k)) e h = cc
-    by_resolution (Some (resolved.Admitted k)) e h = cc
-    by_resolution (Some (resolved.Closed k v)) e h = cc
-    by_resolution (Some (resolved.Withdrawn why)) e h = cc
-    by_resolution (Some resolved.Voided) e h = cc
+use Rattle.engine_one.proofs.Histories.{same_acts, nothing_added, between_same}
 
 -- ---- the frames stand on
 
@@ -65,28 +50,28 @@ turned_stand p old new frames k f g h lt read legal stands polled =
     let added : Added k (acts_noted polled.notes) old new = subst (λ n. Added n (acts_noted polled.notes) old new) was.tag polled.added in
     record {
       count = length-set frames k g ∙ h.count;
-      each = λ j. by_test j (k == j) refl was added;
+      each = λ j. by_test j (k == j) refl was;
       alone = added.same.alone ∙ h.alone;
-      plain = still_plain k (acts_noted polled.notes) old new h.alone added polled.plain h.plain;
+      plain = plain_seen p old new f g polled h.alone h.plain;
       nobody_else = λ j le. same_acts j k (acts_noted polled.notes) old new h.alone (λ e. absurd (omega (arith, e, le, lt, h.count))) added ∙ h.nobody_else j le;
     }
   where
     goes_on : FrameStands p old k f → g.stage ≢ Cancelled
-    goes_on was e = ⊎_elim (λ q. was.goes_on q) (λ q. not_gone ((replay old.seen).waits q.0) ((replay_plain old.seen h.plain).waits q.0) q.1) (polled.cancelled e)
-    kept : (j : ℕ) (o : Option Frame) → k ≢ j → Added k (acts_noted polled.notes) old new → StandsAt p old j o → StandsAt p new j o
-    kept j None n added s = tt
-    kept j (Some x) n added s = record {
+    goes_on was e = was.goes_on (never_cancelled p old new f g polled (plain_seen p old new f g polled h.alone h.plain) e)
+    kept : (j : ℕ) (o : Option Frame) → k ≢ j → FrameStands p old k f → StandsAt p old j o → StandsAt p new j o
+    kept j None n was s = tt
+    kept j (Some x) n was s = record {
       tag = s.tag;
-      stands = others_stand p k (acts_noted polled.notes) old new x legal h.alone (λ e. n (e ∙ s.tag)) added s.stands;
+      stands = other_stands p old new f g x polled h.alone legal (λ e. n (sym was.tag ∙ e ∙ s.tag)) s.stands;
       goes_on = s.goes_on;
     }
-    by_test : (j : ℕ) (b : Bool) → (k == j) ≡ b → FrameStands p old k f → Added k (acts_noted polled.notes) old new → StandsAt p new j (slice_get (set frames k g) j)
-    by_test j true e was added =
+    by_test : (j : ℕ) (b : Bool) → (k == j) ≡ b → FrameStands p old k f → StandsAt p new j (slice_get (set frames k g) j)
+    by_test j true e was =
         let here : StandsAt p new k (slice_get (set frames k g) k) = subst (StandsAt p new k) (sym (slice_get-set_same frames k g lt)) (record { tag = polled.tag ∙ was.tag; stands = stands; goes_on = goes_on was }) in
         subst (λ n. StandsAt p new n (slice_get (set frames k g) n)) (eqb-true k j e) here
-    by_test j false e was added =
+    by_test j false e was =
         let n : k ≢ j = λ q. grind (arith, nat_tests) in
-        subst (StandsAt p new j) (sym (slice_get-set_other frames k j g n)) (kept j (slice_get frames j) n added (h.each j))
+        subst (StandsAt p new j) (sym (slice_get-set_other frames k j g n)) (kept j (slice_get frames j) n was (h.each j))
 
 -- ---- how many moves are left
 
@@ -103,27 +88,16 @@ turned_advances p old new frames k f g tags tags' alone lt read polled quiet = b
     by_notes : slice_get frames k ≡ Some f → (notes : List ChannelNote) → Added f.tag (acts_noted notes) old new → Falls notes (code_of p f.tag) (config_of f) (config_of g) → items_of g.book ≡ items_of f.book ++ notes → Advances p old new frames (set frames k g) tags tags'
     by_notes at [] added falls appended = inr (record {
       moves = sum_by-set_same (frame_moves p) frames k f g lt at (same_moves p f g polled.tag falls);
-      seen = nothing_seen f.tag old new alone added;
+      seen = nothing_added f.tag old new alone added;
       ready = quiet (appended ∙ append-nil (items_of f.book));
     })
     by_notes at (n ∷ notes) added falls appended = inl (sum_by-set_less (frame_moves p) frames k f g lt at (fewer_moves p f g polled.tag falls))
 
 -- a move that was made is one move fewer
 turned_falls : (p : Program) (old new : Floor) (frames : List Frame) (k : ℕ) (f g : Frame) → k < length frames → slice_get frames k ≡ Some f → Polled p old new f g → MadeMove f g → MovesFall p frames (set frames k g)
-turned_falls p old new frames k f g lt at polled made = by_notes polled.notes polled.falls (append_cancel_left (items_of f.book) _ _ (sym polled.appended ∙ made.noted))
-  where
-    by_notes : (notes : List ChannelNote) → Falls notes (code_of p f.tag) (config_of f) (config_of g) → notes ≡ made.note ∷ [] → MovesFall p frames (set frames k g)
-    by_notes [] falls e = cc
-    by_notes (n ∷ notes) falls e = sum_by-set_less (frame_moves p) frames k f g lt at (fewer_moves p f g polled.tag falls)
+turned_falls p old new frames k f g lt at polled made = sum_by-set_less (frame_moves p) frames k f g lt at (fewer_moves p f g polled.tag (fewer_left p old new f g polled made))
 
 -- ---- who cannot go on
-
-nothing_noted : (p : Program) (old new : Floor) (f g : Frame) → Polled p old new f g → items_of g.book ≡ items_of f.book → config_of g ≡ config_of f
-nothing_noted p old new f g polled e = by_notes polled.notes polled.falls (append_cancel_left (items_of f.book) _ _ (sym polled.appended ∙ e ∙ sym (append-nil (items_of f.book))))
-  where
-    by_notes : (notes : List ChannelNote) → Falls notes (code_of p f.tag) (config_of f) (config_of g) → notes ≡ [] → config_of g ≡ config_of f
-    by_notes [] falls q = falls
-    by_notes (n ∷ notes) falls q = cc
 
 ended_left : (k : ℕ) (code : List Instruction) (s : State) (line : ℕ) (stage : Stage) → stage ≢ Cancelled → IsInside stage line code → is_ended code line stage ≡ true → IsLeft k code s line stage
 ended_left k code s line Running n inside e = grind (arith, nat_tests)
@@ -138,7 +112,7 @@ turned_ended p old new frames k f g s h lt at polled ended e =
     let code : code_of p f.tag ≡ code_of p k = ap (code_of p) was.tag in
     let left : IsLeft k (code_of p f.tag) s f.line f.stage = ended_left k (code_of p f.tag) s f.line f.stage was.goes_on was.stands.inside ended in
     let left_here : IsLeft k (code_of p k) s f.line f.stage = subst (λ l. IsLeft k l s f.line f.stage) code left in
-    let left_then : IsLeft k (code_of p k) s g.line g.stage = subst (λ (x : Config). IsLeft k (code_of p k) s x.line x.stage) (sym (nothing_noted p old new f g polled e)) left_here in
+    let left_then : IsLeft k (code_of p k) s g.line g.stage = subst (λ (x : Config). IsLeft k (code_of p k) s x.line x.stage) (sym (same_config p old new f g polled e)) left_here in
     subst (IsLeftAt p s k) (sym (slice_get-set_same frames k g lt)) left_then
 
 standing_open : (k : ℕ) (x : Option Wait) → IsUnsettledOf k x → state_of_wait x ≡ Some state.Standing → IsOpenOf k x

@@ -1,9 +1,9 @@
 -- All coroutines of a run, on one floor.
 use Rattle.std.specs.Prelude.{◌≡◌, ◌≢◌, ℕ, ◌<◌, ◌≤◌, true, List, [], length, Option, Some, None, slice_get}
-use Rattle.std.specs.List.{sum_by}
+use Rattle.std.specs.List.{list_all, sum_by}
 use Rattle.channel_model.specs.Channels.{State}
-use Rattle.channel_model.specs.Histories.{replay, acts_of}
-use Rattle.channel_model.specs.Laws.{is_plain_history}
+use Rattle.channel_model.specs.Histories.{acts_of, acts_in}
+use Rattle.channel_model.specs.Laws.{is_plain_act}
 use Rattle.channel_model.specs.Floors.{Floor}
 use Rattle.script_reader.specs.Programs.{Program, code_of, coroutine_count}
 use Rattle.poll_states.specs.declared.frame.Frame.{Frame}
@@ -27,7 +27,7 @@ pub record AllStand (p : Program) (floor : Floor) (frames : List Frame) : Type 0
   pub count : length frames ≡ coroutine_count p
   pub each : (k : ℕ) → StandsAt p floor k (slice_get frames k)
   pub alone : floor.alone ≡ true
-  pub plain : is_plain_history floor.seen ≡ true
+  pub plain : list_all is_plain_act (acts_in floor.seen) ≡ true
   pub nobody_else : (k : ℕ) → coroutine_count p ≤ k → acts_of k floor.seen ≡ []
 
 -- the frame of coroutine k has not begun

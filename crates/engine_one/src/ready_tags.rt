@@ -1,7 +1,7 @@
 //! Who is to be polled next.
 
 ghost use Rattle.std.proofs.Props.{props};
-ghost use Rattle.std.specs.Prelude.{◌≡◌, ◌≤◌, ◌++◌, ◌==◌, [], IfOk, length, option_to_list, vec_len};
+ghost use Rattle.std.specs.Prelude.{◌≡◌, ◌<◌, ◌≤◌, ◌↔◌, ◌++◌, ◌==◌, [], IfOk, IsSome, length, option_to_list, vec_len};
 ghost use Rattle.std.specs.VecDeque.{deque_capacity};
 ghost use Rattle.engine_one.specs.Tags.{with_tag, AreMarked};
 
@@ -42,6 +42,7 @@ impl ReadyTags {
     /// Removes the first tag.
     pub fn take_first(&mut self) -> Option<Tag>
         ensures tags { self.old.tags.items ≡ option_to_list result ++ self.new.tags.items }
+        ensures variant { IsSome result ↔ (0 < length self.old.tags.items) }
         ensures count { vec_len self.new.standing ≡ vec_len self.old.standing }
     {
         let first = self.tags.pop_front();

@@ -106,7 +106,6 @@ impl Frame {
         }
     }
 
-<<<<<<< HEAD
     /// Whether the coroutine is at the end of its code, which has so many lines.
     pub fn is_at_end(&self, lines: usize) -> bool
         ensures { result ≡ is_at_end lines self.now.line self.now.stage }
@@ -114,7 +113,9 @@ impl Frame {
         match self.stage {
             Stage::Running => lines <= self.line,
             Stage::Waiting(_) | Stage::Failed | Stage::Cancelled => false,
-=======
+        }
+    }
+
     /// Notes what a call came to, and goes on as it says. Takes no memory.
     pub(crate) fn go_on(&mut self, step: Step) -> Turn
         requires book { 0 < spare_of self.old.book }
@@ -134,7 +135,6 @@ impl Frame {
             }
             Stage::Waiting(_) => Turn::Waits,
             Stage::Failed | Stage::Cancelled => Turn::Ready,
->>>>>>> ebc5a528085b7189cc4eec5e6292d6ad6b5211f5
         }
     }
 

@@ -4,9 +4,6 @@ use Rattle.poll_states.specs.declared.frame.Turn.TheVariants.{Ready}
 use Rattle.engine_one.proofs.TurnsMade.{turned_stand, turned_came, turned_ready, turned_others}
 use Rattle.engine_one.proofs.run.Run.turn.Goals as goal
 
-pub poll-requires-clause-stub : goal.poll-requires-clause-stub
-poll-requires-clause-stub g c = ?
-
 pub returns-in_err-turn-clause-stand : goal.returns-in_err-turn-clause-stand
 returns-in_err-turn-clause-stand g c = turned_stand (program_of c.args.script.now) _ _ c.args.self.now.frames.items c.args.tag c.index_mut.result.now c.poll.new.frame c.requires.stand c.requires.within c.index_mut.ensures.value (g.met.C.ChannelFloor.legal c.poll.new.floors.channels.now) c.poll.ensures.stands c.poll.ensures.polled
 
