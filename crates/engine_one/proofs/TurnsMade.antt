@@ -49,6 +49,7 @@ turned_stand p old new frames k f g h lt read legal stands polled =
     let was = frame_at p old frames k f h (slice_get-Some frames k f lt read) in
     let added : Added k (acts_noted polled.notes) old new = subst (λ n. Added n (acts_noted polled.notes) old new) was.tag polled.added in
     record {
+      shape = added.same.shape ∙ h.shape;
       count = length-set frames k g ∙ h.count;
       each = λ j. by_test j (k == j) refl was;
       alone = added.same.alone ∙ h.alone;

@@ -37,3 +37,8 @@ TurnCameTo p tag old new frames frames' Ready = MovesFall p frames frames'
 abbrev pub RoundCameTo : Program → Floor → Floor → List Frame → List Frame → Bool → Type 0
 RoundCameTo p old new frames frames' true = MovesFall p frames frames'
 RoundCameTo p old new frames frames' false = new.seen ≡ old.seen → AllLeft p (replay new.seen) frames'
+
+-- a calm round leaves no coroutine that can go on; another leaves fewer moves
+abbrev pub RoundIsCalm : Program → Floor → List Frame → List Frame → Bool → Type 0
+RoundIsCalm p new frames frames' true = AllLeft p (replay new.seen) frames'
+RoundIsCalm p new frames frames' false = MovesFall p frames frames'

@@ -21,4 +21,5 @@ mod polls;
 pub use book::Book;
 pub use floors::Floors;
 pub use frame::{Done, Frame, Stage, Turn};
+pub use lines::code_of;
 pub use polls::poll;
