@@ -1,17 +1,14 @@
 -- What one coroutine's entries leave of what others made, where nobody else makes entries.
-use Rattle.std.proofs.Common.{◌≡◌, ◌≢◌, ℕ, ◌<◌, ◌≤◌, Bool, true, false, ◌&&◌, List, [], ◌∷◌, ◌++◌, length, refl, ap, sym, ◌∙◌, subst, arith, if◌then◌else◌, length-append}
+use Rattle.std.proofs.Common.{◌≡◌, ◌≢◌, ℕ, ◌≤◌, true, false, List, [], ◌∷◌, ◌++◌, length, refl, ap, sym, ◌∙◌, arith, if◌then◌else◌, length-append}
 use Rattle.std.specs.Prelude.{◌==◌}
-use Rattle.std.specs.List.{list_all}
 use Rattle.std.proofs.lemmas.Bool.Decides.{nat_tests}
 use Rattle.std.proofs.lemmas.List.{append-nil, nil_from_length}
 use mathlib.Core.List.{IsPrefix}
 use Rattle.channel_model.specs.declared.acts.Act.{Act}
 use Rattle.channel_model.specs.declared.acts.Entry.{Entry}
 use Rattle.channel_model.specs.Histories.{acts_of}
-use Rattle.channel_model.specs.Laws.{is_plain_act, is_plain_history}
 use Rattle.channel_model.specs.Floors.{Floor, Added, entries_by}
 use Rattle.channel_model.proofs.Histories.{acts_of-append}
-use Rattle.engine_one.proofs.Lists.{both_true, list_all-append}
 
 apart : (i j : ℕ) → i ≢ j → (i == j) ≡ false
 apart i j n = grind (arith, nat_tests)

@@ -3,3 +3,5 @@ pub mod Lists
 pub mod Histories
 pub mod TurnsMade
 pub mod Rounds
+pub mod Beginnings
+pub mod Endings

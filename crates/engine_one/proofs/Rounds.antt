@@ -1,10 +1,9 @@
 -- A round as far as it has come.
-use Rattle.std.proofs.Common.{◌≡◌, ◌≢◌, ℕ, ◌+◌, ◌<◌, ◌≤◌, Bool, true, false, List, [], length, Option, Some, None, refl, ap, sym, ◌∙◌, subst, arith, slice_get, inl, inr, ⊎_elim, ◌⊎◌}
+use Rattle.std.proofs.Common.{◌≡◌, ◌≢◌, ℕ, ◌+◌, ◌<◌, ◌≤◌, Bool, true, false, List, length, Option, Some, None, refl, sym, ◌∙◌, subst, arith, slice_get, inl, inr, ⊎_elim}
 use Rattle.std.specs.Prelude.{◌==◌}
 use Rattle.std.proofs.lemmas.Bool.{eqb-true}
 use Rattle.std.proofs.lemmas.Bool.Decides.{nat_tests}
 use mathlib.Core.List.{IsPrefix}
-use Rattle.channel_model.specs.Channels.{State}
 use Rattle.channel_model.specs.Histories.{replay}
 use Rattle.channel_model.specs.Floors.{Floor}
 use Rattle.channel_model.proofs.Spans.{prefix_self, prefix_then}
@@ -12,7 +11,7 @@ use Rattle.script_reader.specs.Programs.{Program, coroutine_count}
 use Rattle.poll_states.specs.declared.frame.Frame.{Frame}
 use Rattle.poll_states.specs.declared.frame.Turn.{Turn}
 use Rattle.poll_states.specs.declared.frame.Turn.TheVariants.{Ended, Waits, Ready}
-use Rattle.engine_one.specs.Coroutines.{AllStand, IsLeftAt, AllLeft, all_moves}
+use Rattle.engine_one.specs.Coroutines.{IsLeftAt, all_moves}
 use Rattle.engine_one.specs.Progress.{MovesFall, StandsStill, Advances, OthersSame, TurnCameTo, RoundCameTo}
 use Rattle.engine_one.proofs.Lists.{within}
 use Rattle.engine_one.proofs.Histories.{between_same}

@@ -1,24 +1,19 @@
 -- A turn of one coroutine, as it leaves all frames.
-use Rattle.std.proofs.Common.{◌≡◌, ◌≢◌, ℕ, ◌+◌, ◌<◌, ◌≤◌, Bool, true, false, List, [], ◌∷◌, ◌++◌, length, get_or, set, Option, Some, None, refl, ap, sym, ◌∙◌, subst, arith, slice_get, inl, inr, ⊎_elim, ◌⊎◌, length-set}
+use Rattle.std.proofs.Common.{◌≡◌, ◌≢◌, ℕ, ◌<◌, Bool, true, false, List, [], ◌∷◌, ◌++◌, length, get_or, set, Option, Some, None, refl, ap, sym, ◌∙◌, subst, arith, slice_get, inl, inr, length-set}
 use Rattle.std.specs.Prelude.{◌==◌}
 use Rattle.std.proofs.lemmas.Bool.{eqb-true}
 use Rattle.std.proofs.lemmas.Bool.Decides.{nat_tests}
-use Rattle.std.proofs.lemmas.List.{append-nil, append_cancel_left}
+use Rattle.std.proofs.lemmas.List.{append-nil}
 use Rattle.co_base.specs.declared.names.WaitId.{WaitId}
 use Rattle.channel_model.specs.declared.acts.ChannelNote.{ChannelNote}
-use Rattle.channel_model.specs.declared.acts.Entry.{Entry}
 use Rattle.channel_model.specs.declared.standing.Resolution.{Resolution}
-use Rattle.channel_model.specs.declared.standing.Resolution.TheVariants as resolved
-use Rattle.channel_model.specs.declared.floor.WaitState.{WaitState}
 use Rattle.channel_model.specs.declared.floor.WaitState.TheVariants as state
 use Rattle.channel_model.specs.Channels.{State, Wait}
 use Rattle.channel_model.specs.Needs.{IsOpenOf}
 use Rattle.channel_model.specs.Answers.{state_of_wait, state_of_parts}
-use Rattle.channel_model.specs.Histories.{replay, acts_of, Legal}
-use Rattle.channel_model.specs.Laws.{is_plain_wait}
-use Rattle.channel_model.specs.Floors.{Floor, Added, AtStep}
-use Rattle.channel_model.proofs.Plain.{replay_plain}
-use Rattle.script_reader.specs.Programs.{Program, code_of, coroutine_count}
+use Rattle.channel_model.specs.Histories.{replay, Legal}
+use Rattle.channel_model.specs.Floors.{Floor, Added}
+use Rattle.script_reader.specs.Programs.{Program, code_of}
 use Rattle.script_reader.specs.declared.script.Instruction.{Instruction}
 use Rattle.poll_states.specs.declared.frame.Frame.{Frame}
 use Rattle.poll_states.specs.declared.frame.Stage.{Stage}
@@ -29,10 +24,10 @@ use Rattle.poll_states.specs.Frames.{StandsOn, HoldsWait, config_of, IsInside, i
 use Rattle.poll_states.specs.Parts.{IsLeft, WaitsAlone}
 use Rattle.poll_states.specs.declared.frame.Turn.{Turn}
 use Rattle.poll_states.specs.declared.frame.Turn.TheVariants.{Ended, Waits, Ready}
-use Rattle.poll_states.specs.Polls.{Polled, IsGone, is_gone, Falls, WaitsFor, MadeMove, TurnAnswer}
+use Rattle.poll_states.specs.Polls.{Polled, Falls, WaitsFor, MadeMove, TurnAnswer}
 use Rattle.poll_states.proofs.Turns.{other_stands, same_config, fewer_left, plain_seen, never_cancelled}
-use Rattle.engine_one.specs.Coroutines.{FrameStands, StandsAt, AllStand, IsLeftAt, frame_moves, all_moves}
-use Rattle.engine_one.specs.Progress.{MovesFall, StandsStill, Advances, OthersSame, TurnCameTo}
+use Rattle.engine_one.specs.Coroutines.{FrameStands, StandsAt, AllStand, IsLeftAt, frame_moves}
+use Rattle.engine_one.specs.Progress.{MovesFall, Advances, OthersSame, TurnCameTo}
 use Rattle.engine_one.proofs.Lists.{slice_get-Some, slice_get-set_same, slice_get-set_other, sum_by-set_less, sum_by-set_same}
 use Rattle.engine_one.proofs.Histories.{same_acts, nothing_added, between_same}
 

@@ -1,5 +1,5 @@
 -- All coroutines of a run, on one floor.
-use Rattle.std.specs.Prelude.{◌≡◌, ◌≢◌, ℕ, ◌<◌, ◌≤◌, true, List, [], length, Option, Some, None, slice_get}
+use Rattle.std.specs.Prelude.{◌≡◌, ◌≢◌, ℕ, ◌≤◌, true, List, [], length, Option, Some, None, slice_get}
 use Rattle.std.specs.List.{list_all, sum_by}
 use Rattle.channel_model.specs.Channels.{State}
 use Rattle.channel_model.specs.Histories.{acts_of, acts_in}

@@ -1,6 +1,5 @@
 -- What turns come to.
-use Rattle.std.specs.Prelude.{◌≡◌, ◌≢◌, ℕ, ◌<◌, ◌⊎◌, Bool, true, false, List, Option, Some, None, slice_get}
-use mathlib.Core.List.{IsPrefix}
+use Rattle.std.specs.Prelude.{◌≡◌, ◌≢◌, ℕ, ◌<◌, ◌⊎◌, Bool, true, false, List, slice_get}
 use Rattle.channel_model.specs.Histories.{replay}
 use Rattle.channel_model.specs.Floors.{Floor}
 use Rattle.script_reader.specs.Programs.{Program}

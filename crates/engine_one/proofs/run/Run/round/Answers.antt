@@ -1,4 +1,4 @@
-use Rattle.std.proofs.Common.{◌≡◌, ◌≢◌, rules, arith}
+use Rattle.std.proofs.Common.{◌≡◌, ◌≢◌, rules}
 use Rattle.script_reader.specs.Scripts.{program_of}
 use Rattle.poll_states.specs.declared.frame.Turn.TheVariants.{Ready}
 use Rattle.engine_one.proofs.Rounds.{round_waits, round_moves}

@@ -1,9 +1,5 @@
-use Rattle.std.proofs.Common.{◌≡◌, ℕ, ◌<◌, slice_get, true, false}
-use mathlib.Core.List.{IsPrefix}
-use Rattle.channel_model.specs.Histories.{replay}
 use Rattle.script_reader.specs.Scripts.{program_of}
-use Rattle.engine_one.specs.Coroutines.{AllStand, IsLeftAt}
-use Rattle.engine_one.specs.Progress.{Advances, MovesFall}
+use Rattle.engine_one.specs.Coroutines.{AllStand}
 use Rattle.engine_one.proofs.Rounds.{RoundSoFar}
 use Rattle.engine_one.proofs.run.Run.round.Given as goal
 
