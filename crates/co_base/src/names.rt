@@ -1,4 +1,6 @@
 //! Names of things, and the plain errors.
+ghost use Rattle.std.specs.Prelude.{◌≡◌};
+ghost use Rattle.co_base.specs.declared.names.ReadError.TheVariants as read_errors;
 
 use std::alloc::{AllocError, AllocFailed};
 
@@ -57,4 +59,20 @@ pub enum ReadError {
     TooLong,
     /// No memory was found.
     Memory,
+}
+
+impl From<AllocError> for ReadError {
+    ghost from_gives = { λ _ e. e ≡ read_errors.Memory };
+
+    fn from(_error: AllocError) -> ReadError {
+        ReadError::Memory
+    }
+}
+
+impl From<Memory> for ReadError {
+    ghost from_gives = { λ _ e. e ≡ read_errors.Memory };
+
+    fn from(_error: Memory) -> ReadError {
+        ReadError::Memory
+    }
 }

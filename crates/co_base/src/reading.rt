@@ -1,11 +1,10 @@
 //! A whole script out of a source.
-ghost use Rattle.std.specs.Prelude.{◌≡◌, ℕ, ◌≤◌, ◌<◌, ◌+◌, ◌^◌, Err, length, take, drop, IfOk, OnOk, OnErr};
+ghost use Rattle.std.specs.Prelude.{◌≡◌, ◌≤◌, ◌<◌, ◌+◌, ◌^◌, Err, length, take, drop, IfOk, OnOk, OnErr};
 ghost use Rattle.co_base.specs.Streams.{Rose, Gave, GaveJust, GaveAtMost, IsDrained};
-
-use std::alloc::Global;
 
 use crate::names::{Failed, ReadError};
 use crate::streams::Source;
+use std::alloc::Global;
 
 /// The most bytes that a script may have.
 pub const LONGEST_SCRIPT: usize = 1_048_576;
@@ -42,9 +41,7 @@ fn read_within<S: Source>(alloc: Global, source: &mut S, limit: usize) -> Result
     ensures bound { GaveAtMost (limit + 1) (S.left source.old) (S.left source.new) }
     ensures rises { S.faults source.old ≤ S.faults source.new }
 {
-    let Ok(mut bytes) = vec![in alloc; 0u8; limit + 1] else {
-        return Err(ReadError::Memory);
-    };
+    let mut bytes = vec![in alloc; 0u8; limit + 1]?;
     let mut count = 0usize;
     while count <= limit {
         match read_behind(source, &mut bytes, count) {
@@ -60,7 +57,11 @@ fn read_within<S: Source>(alloc: Global, source: &mut S, limit: usize) -> Result
 }
 
 // One read, behind what the buffer holds.
-fn read_behind<S: Source>(source: &mut S, bytes: &mut Vec<u8>, count: usize) -> Result<usize, Failed>
+fn read_behind<S: Source>(
+    source: &mut S,
+    bytes: &mut Vec<u8>,
+    count: usize,
+) -> Result<usize, Failed>
     requires { count ≤ length bytes.old.items }
     ensures length { length bytes.new.items ≡ length bytes.old.items }
     ensures front { take count bytes.new.items ≡ take count bytes.old.items }

@@ -1,8 +1,17 @@
 //! Where bytes come from and where they go.
 ghost use Rattle.std.specs.Prelude.{◌≡◌, ℕ, ◌≤◌, ◌<◌, List, [], Option, length, take, IfOk, OnErr};
-ghost use Rattle.co_base.specs.Streams.{Rose, Gave, Took, IsDrained};
+ghost use Rattle.co_base.specs.Streams.{one_more, Rose, Gave, Took, IsDrained};
 
 use crate::names::Failed;
+
+// A count after one more.
+pub(crate) fn raised(count: u64) -> u64
+    ensures value { result ≡ one_more count }
+    ensures rose { Rose count result }
+    ensures rises { count ≤ result }
+{
+    count.saturating_add(1)
+}
 
 /// What bytes are read from.
 ///

@@ -1,5 +1,5 @@
 //! A whole text into a sink.
-ghost use Rattle.std.specs.Prelude.{◌≡◌, ℕ, ◌≤◌, ◌<◌, length, take, OnOk, OnErr};
+ghost use Rattle.std.specs.Prelude.{◌≤◌, OnOk, OnErr};
 ghost use Rattle.co_base.specs.Streams.{Rose, Took, TookPart};
 
 use crate::names::WriteFault;
