@@ -1,5 +1,5 @@
 -- What holds of each script: its lines name channels that it declares, each a rendezvous channel, and each tag runs a block.
-use Rattle.std.proofs.Common.{◌≡◌, ℕ, zero, suc, ◌+◌, ◌-◌, ◌<◌, ◌≤◌, Bool, true, false, ◌&&◌, nat_lt, nat_le, List, [], ◌∷◌, length, Option, Some, None, refl, ap, sym, ◌∙◌, arith, get_or, slice_get, map, if◌then◌else◌}
+use Rattle.std.proofs.Common.{◌≡◌, ℕ, zero, suc, ◌+◌, ◌-◌, ◌<◌, ◌≤◌, Bool, true, false, nat_lt, nat_le, List, [], ◌∷◌, length, Option, Some, None, refl, ap, sym, ◌∙◌, arith, get_or, slice_get, map, if◌then◌else◌}
 use Rattle.std.specs.Prelude.{◌==◌, is_some, option_map}
 use Rattle.std.specs.List.{list_all}
 use Rattle.std.specs.Str.{bytes_eq}
@@ -16,17 +16,8 @@ use Rattle.script_reader.specs.declared.script.Spawn.{Spawn}
 use Rattle.script_reader.specs.declared.script.Instruction.{Instruction}
 use Rattle.script_reader.specs.declared.script.Instruction.TheVariants.{Send, Receive}
 use Rattle.script_reader.specs.Programs.{Program, program_from, block_of, Declared, Block, IsProgram, block_named, coroutine_count, block_of_tag, code_of_block, code_at, code_of, shape_of, is_rendezvous, is_declared, channel_of, names_channels}
-
-pub both_true : (a b : Bool) → (a && b) ≡ true → (a ≡ true) × (b ≡ true)
-both_true true true e = (refl, refl)
-both_true true false e = cc
-both_true false b e = cc
-
-below : (m n : ℕ) → nat_lt m n ≡ true → m < n
-below m n e = grind (arith, nat_tests)
-
-at_most : (m n : ℕ) → nat_le m n ≡ true → m ≤ n
-at_most m n e = grind (arith, nat_tests)
+use Rattle.script_reader.proofs.Truths.{le-from_true, lt-from_true}
+pub use Rattle.script_reader.proofs.Truths.{both_true}
 
 -- ---- tests of all elements
 
@@ -82,8 +73,8 @@ places_at-shape_of p ok c h =
     let d = get_or p.channels c no_channel in
     let same : places_at (shape_of p) c ≡ d.places = ap (λ (x : Kind × ℕ). x.1) (shape_at p c h) in
     let range = both_true (nat_le 1 d.places) (nat_le d.places 1048576) (both_true (is_rendezvous d.kind) _ (declared_at p ok c h)).1 in
-    let low = at_most 1 d.places range.0 in
-    let high = at_most d.places 1048576 range.1 in
+    let low = le-from_true 1 d.places range.0 in
+    let high = le-from_true d.places 1048576 range.1 in
     (omega (arith, same, low), omega (arith, same, high))
 
 -- ---- lines
@@ -99,7 +90,7 @@ in_code p ok (Some j) i x at = in_block (length p.channels) p.blocks (slice_get 
 -- a line of a coroutine names a channel that is declared
 pub channel_of-within : (p : Program) → IsProgram p → (tag i : ℕ) (x : Instruction) → slice_get (code_of p tag) i ≡ Some x → channel_of x < length (shape_of p)
 channel_of-within p ok tag i x at =
-    let h = below _ _ (in_code p ok (block_of_tag p tag) i x at) in
+    let h = lt-from_true _ _ (in_code p ok (block_of_tag p tag) i x at) in
     omega (arith, h, length-shape_of p)
 
 pub send-within : (p : Program) → IsProgram p → (tag i c v : ℕ) → slice_get (code_of p tag) i ≡ Some (Send c v) → c < length (shape_of p)
@@ -135,13 +126,14 @@ block_of_tag-some p ok tag h = by_test (tag == 0) refl
   where
     is_zero : (t : Bool) → (tag == 0) ≡ t → t ≡ false → 1 ≤ tag
     is_zero t e f = grind (arith, nat_tests)
+
     by_test : (t : Bool) → (tag == 0) ≡ t → (i : ℕ) × ((if t then block_named (codes "main") 0 p.blocks else slice_get p.spawns (tag - 1)) ≡ Some i) × (i < length p.blocks)
     by_test true e = main_block p ok
     by_test false e =
         let some = is_zero false e refl in
         let small : tag - 1 < length p.spawns = omega (arith, some, h) in
         let i = get_or p.spawns (tag - 1) 0 in
-        (i, slice_get-get_or p.spawns (tag - 1) 0 small, below _ _ (test_below (λ j. nat_lt j (length p.blocks)) p.spawns (tag - 1) 0 ok.spawns small))
+        (i, slice_get-get_or p.spawns (tag - 1) 0 small, lt-from_true _ _ (test_below (λ j. nat_lt j (length p.blocks)) p.spawns (tag - 1) 0 ok.spawns small))
 
 -- a tag runs a block that is declared
 pub block_of_tag-within : (p : Program) → IsProgram p → (tag n : ℕ) → block_of_tag p tag ≡ Some n → n < length p.blocks
@@ -149,7 +141,7 @@ block_of_tag-within p ok tag n e = by_test (tag == 0) e
   where
     by_test : (t : Bool) → (if t then block_named (codes "main") 0 p.blocks else slice_get p.spawns (tag - 1)) ≡ Some n → n < length p.blocks
     by_test true is = let within = block_named-within (codes "main") 0 p.blocks n is in omega (arith, within)
-    by_test false is = below _ _ (test_at (λ j. nat_lt j (length p.blocks)) p.spawns (tag - 1) n ok.spawns is)
+    by_test false is = lt-from_true _ _ (test_at (λ j. nat_lt j (length p.blocks)) p.spawns (tag - 1) n ok.spawns is)
 
 -- a tag other than main's runs the block of its spawn
 pub block_of_tag-spawn : (channels : List Channel) (cs : List Coroutine) (ss : List Spawn) (tag : ℕ) (s : Spawn) → (tag ≡ 0 → ⊥) → tag - 1 < length ss → s ≡ get_or ss (tag - 1) s → block_of_tag (program_from channels cs ss) tag ≡ Some s.coroutine
@@ -158,6 +150,7 @@ block_of_tag-spawn channels cs ss tag s other small is = by_test (tag == 0) (no_
     no_zero : (t : Bool) → (tag == 0) ≡ t → t ≡ false
     no_zero true e = absurd (other (grind (arith, nat_tests)))
     no_zero false e = refl
+
     by_test : (t : Bool) → t ≡ false → (if t then block_named (codes "main") 0 (map block_of cs) else slice_get (map (λ x. x.coroutine) ss) (tag - 1)) ≡ Some s.coroutine
     by_test true e = cc
     by_test false e = slice_get-map (λ (x : Spawn). x.coroutine) ss (tag - 1) ∙ ap (option_map (λ (x : Spawn). x.coroutine)) (slice_get_read ss (length ss) (tag - 1) s refl small is)

@@ -1,4 +1,12 @@
+pub mod Truths
 pub mod Declarations
 pub mod Filters
 pub mod Numbers
 pub mod Names
+pub mod Found
+pub mod FoundLines
+pub mod Lengths
+pub mod Soundness
+pub mod Loops
+pub mod Again
+pub mod Spelling

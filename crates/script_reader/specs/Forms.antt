@@ -9,7 +9,7 @@ use Rattle.script_reader.specs.declared.script.Instruction.{Instruction}
 use Rattle.script_reader.specs.declared.script.Instruction.TheVariants.{Send, Receive}
 use Rattle.script_reader.specs.Faults.{◌>>=◌}
 use Rattle.script_reader.specs.Places.{word_at, end_at, at_most, number_at, new_at, known_at, is_main, other_than_main}
-use Rattle.script_reader.specs.Programs.{Declared, Block, Program, block_named}
+use Rattle.script_reader.specs.Programs.{Declared, Block, block_named}
 
 -- the script so far: what it declares, and the block that is open
 pub record Read : Type 0 where

@@ -4,5 +4,6 @@ pub mod Words
 pub mod Places
 pub mod Forms
 pub mod Texts
+pub mod Grammar
 pub mod Reading
 pub mod Scripts

@@ -7,7 +7,7 @@ use Rattle.script_reader.specs.declared.fault.ScriptFault.{ScriptFault}
 use Rattle.script_reader.specs.Programs.{Program, Block, block_named}
 use Rattle.script_reader.specs.Faults.{◌>>=◌, ◌>>>◌, in_line}
 use Rattle.script_reader.specs.Words.{all_plain, words_of, lines_of, with_words}
-use Rattle.script_reader.specs.Forms.{Read, Form, start, form_at, after}
+use Rattle.script_reader.specs.Forms.{Read, start, form_at, after}
 
 -- the script with what these words add, or their fault
 unfoldable pub step : Read → List (List ℕ) → Result Read FaultKind

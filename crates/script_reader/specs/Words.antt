@@ -1,5 +1,5 @@
 -- A text's lines, and a line's words.
-use Rattle.std.specs.Prelude.{ℕ, ◌-◌, List, [], ◌∷◌, length, take, get_or, Bool, true, false, ◌==◌, ◌||◌, ◌&&◌, nat_le, if◌then◌else◌, map, filter}
+use Rattle.std.specs.Prelude.{ℕ, ◌+◌, ◌-◌, List, [], ◌∷◌, length, take, get_or, Bool, true, false, ◌==◌, ◌||◌, ◌&&◌, nat_le, if◌then◌else◌, map, filter}
 use Rattle.std.specs.List.{slice_split}
 use denote.Ref.{Bor}
 
@@ -41,3 +41,8 @@ words_of line = filter has_items (slice_split is_space line)
 -- the words of each line that has any
 abbrev pub with_words : List (List ℕ) → List (List (List ℕ))
 with_words lines = filter has_items (map words_of lines)
+
+-- how many bytes the parts have, with one more after each
+abbrev pub text_length : List (List ℕ) → ℕ
+text_length [] = 0
+text_length (part ∷ more) = length part + 1 + text_length more

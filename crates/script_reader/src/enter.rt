@@ -43,11 +43,18 @@ fn enter(alloc: Global, reading: &mut Reading, form: Spoken<'_>) -> Result<(), A
     match form {
         Spoken::Channel(name) => {
             let name = String::from_str(alloc, name)?;
-            reading.channels.push(Channel { name, kind: Kind::Rendezvous, places: 16_384 })?;
+            reading.channels.push(Channel {
+                name,
+                kind: Kind::Rendezvous,
+                places: 16_384,
+            })?;
         }
         Spoken::Coroutine(name) => {
             let name = String::from_str(alloc, name)?;
-            reading.block = Some(Coroutine { name, code: Vec::new(alloc) });
+            reading.block = Some(Coroutine {
+                name,
+                code: Vec::new(alloc),
+            });
         }
         Spoken::Spawn(coroutine) => reading.spawns.push(Spawn { coroutine })?,
         Spoken::Send(c, value) => push_line(&mut reading.block, Instruction::Send { c, value })?,

@@ -20,12 +20,12 @@ mod fault;
 mod form;
 mod lines;
 mod place;
-// mod reader;
+mod reader;
 mod reading;
 mod script;
-// mod text;
+mod text;
 mod words;
 
 pub use fault::{FaultKind, ScriptFault};
-// pub use reader::read;
+pub use reader::read;
 pub use script::{Channel, Coroutine, Instruction, Script, Spawn};

@@ -8,7 +8,9 @@ ghost use Rattle.script_reader.specs.Reading.{view, said, Few};
 
 use crate::fault::FaultKind;
 use crate::form::Spoken;
-use crate::place::{Named, at_most, end_of, known_of, names_main, new_of, not_main, number_of, place_of, word_of};
+use crate::place::{
+    Named, at_most, end_of, known_of, names_main, new_of, not_main, number_of, place_of, word_of,
+};
 use crate::reading::Reading;
 use crate::script::{Channel, Coroutine};
 
@@ -91,7 +93,10 @@ fn spawn_form<'a>(reading: &Reading, words: &[&'a [u8]]) -> Result<Spoken<'a>, F
     let (block, rest) = known_of(&reading.coroutines, words)?;
     not_main(words)?;
     end_of(rest)?;
-    at_most(16_000, load_of(main_declared(reading), spawn_count(reading) + 1))?;
+    at_most(
+        16_000,
+        load_of(main_declared(reading), spawn_count(reading) + 1),
+    )?;
     Ok(Spoken::Spawn(block))
 }
 
@@ -124,7 +129,11 @@ fn end_form<'a>(words: &[&'a [u8]]) -> Result<Spoken<'a>, FaultKind>
 }
 
 #[tactic(auto, unfolding(crate::specs::Forms::outside))]
-fn outside_form<'a>(reading: &Reading, word: &[u8], rest: &[&'a [u8]]) -> Result<Spoken<'a>, FaultKind>
+fn outside_form<'a>(
+    reading: &Reading,
+    word: &[u8],
+    rest: &[&'a [u8]],
+) -> Result<Spoken<'a>, FaultKind>
     requires { Few reading.now }
     ensures { Gives said result (outside (view reading.now) word.now (texts rest.now)) }
 {
@@ -140,7 +149,11 @@ fn outside_form<'a>(reading: &Reading, word: &[u8], rest: &[&'a [u8]]) -> Result
 }
 
 #[tactic(auto, unfolding(crate::specs::Forms::inside))]
-fn inside_form<'a>(reading: &Reading, word: &[u8], rest: &[&'a [u8]]) -> Result<Spoken<'a>, FaultKind>
+fn inside_form<'a>(
+    reading: &Reading,
+    word: &[u8],
+    rest: &[&'a [u8]],
+) -> Result<Spoken<'a>, FaultKind>
     requires { Few reading.now }
     ensures { Gives said result (inside (view reading.now) word.now (texts rest.now)) }
 {
@@ -156,7 +169,11 @@ fn inside_form<'a>(reading: &Reading, word: &[u8], rest: &[&'a [u8]]) -> Result<
 }
 
 /// What a line says, by its first word and the words after it.
-pub(crate) fn form_of<'a>(reading: &Reading, word: &[u8], rest: &[&'a [u8]]) -> Result<Spoken<'a>, FaultKind>
+pub(crate) fn form_of<'a>(
+    reading: &Reading,
+    word: &[u8],
+    rest: &[&'a [u8]],
+) -> Result<Spoken<'a>, FaultKind>
     requires { Few reading.now }
     ensures { Gives said result (form_at (view reading.now) (view reading.now).block word.now (texts rest.now)) }
 {

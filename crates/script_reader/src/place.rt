@@ -16,7 +16,10 @@ pub(crate) trait Named {
         ensures { result.now ≡ name_of self.now };
 }
 
-pub(crate) fn word_of<'a, 'b>(expected: &[u8], words: &'b [&'a [u8]]) -> Result<&'b [&'a [u8]], FaultKind>
+pub(crate) fn word_of<'a, 'b>(
+    expected: &[u8],
+    words: &'b [&'a [u8]],
+) -> Result<&'b [&'a [u8]], FaultKind>
     ensures { Gives (λ rest. texts rest.now) result (word_at expected.now (texts words.now)) }
 {
     match words {
@@ -28,13 +31,21 @@ pub(crate) fn word_of<'a, 'b>(expected: &[u8], words: &'b [&'a [u8]]) -> Result<
 pub(crate) fn end_of(words: &[&[u8]]) -> Result<(), FaultKind>
     ensures { Gives (λ _. tt) result (end_at (texts words.now)) }
 {
-    if words.is_empty() { Ok(()) } else { Err(FaultKind::Extra) }
+    if words.is_empty() {
+        Ok(())
+    } else {
+        Err(FaultKind::Extra)
+    }
 }
 
 pub(crate) fn at_most(limit: usize, count: usize) -> Result<(), FaultKind>
     ensures { Gives (λ _. tt) result (at_most limit count) }
 {
-    if count <= limit { Ok(()) } else { Err(FaultKind::TooMany) }
+    if count <= limit {
+        Ok(())
+    } else {
+        Err(FaultKind::TooMany)
+    }
 }
 
 fn all_digits(word: &[u8]) -> bool
@@ -54,7 +65,9 @@ fn well_written(word: &[u8]) -> bool
     ensures { result ≡ is_number word.now }
 {
     match word {
-        [first, rest @ ..] => all_digits(word) && rest.len() < 10 && (rest.is_empty() || *first != b'0'),
+        [first, rest @ ..] => all_digits(word)
+            && rest.len() < 10
+            && (rest.is_empty() || *first != b'0'),
         [] => false,
     }
 }
@@ -72,7 +85,11 @@ fn value_of(word: &[u8]) -> Option<u32>
     text.parse().ok()
 }
 
-pub(crate) fn number_of<'a, 'b>(low: u32, high: u32, words: &'b [&'a [u8]]) -> Result<(u32, &'b [&'a [u8]]), FaultKind>
+pub(crate) fn number_of<'a, 'b>(
+    low: u32,
+    high: u32,
+    words: &'b [&'a [u8]],
+) -> Result<(u32, &'b [&'a [u8]]), FaultKind>
     ensures { Gives (λ x. (x.0, texts x.1.now)) result (number_at low high (texts words.now)) }
 {
     let [word, rest @ ..] = words else {
@@ -149,7 +166,10 @@ pub(crate) fn place_of<T: Named>(items: &[T], name: &str) -> Option<u16>
     None
 }
 
-pub(crate) fn new_of<'a, 'b, T: Named>(items: &[T], words: &'b [&'a [u8]]) -> Result<(&'a str, &'b [&'a [u8]]), FaultKind>
+pub(crate) fn new_of<'a, 'b, T: Named>(
+    items: &[T],
+    words: &'b [&'a [u8]],
+) -> Result<(&'a str, &'b [&'a [u8]]), FaultKind>
     requires { length items.now ≤ 65536 }
     ensures { Gives (λ x. (x.0.now, texts x.1.now)) result (new_at (map T.name_of items.now) (texts words.now)) }
 {
@@ -160,7 +180,10 @@ pub(crate) fn new_of<'a, 'b, T: Named>(items: &[T], words: &'b [&'a [u8]]) -> Re
     }
 }
 
-pub(crate) fn known_of<'a, 'b, T: Named>(items: &[T], words: &'b [&'a [u8]]) -> Result<(u16, &'b [&'a [u8]]), FaultKind>
+pub(crate) fn known_of<'a, 'b, T: Named>(
+    items: &[T],
+    words: &'b [&'a [u8]],
+) -> Result<(u16, &'b [&'a [u8]]), FaultKind>
     requires { length items.now ≤ 65536 }
     ensures { Gives (λ x. (x.0, texts x.1.now)) result (known_at (map T.name_of items.now) (texts words.now)) }
 {

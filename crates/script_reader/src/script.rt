@@ -85,6 +85,10 @@ impl Script {
         ensures block { block_of_tag (program_of self.now) tag ≡ Some result }
         ensures declared { result < length (program_of self.now).blocks }
     {
-        if tag == 0 { self.main } else { self.spawns[tag as usize - 1].coroutine }
+        if tag == 0 {
+            self.main
+        } else {
+            self.spawns[tag as usize - 1].coroutine
+        }
     }
 }

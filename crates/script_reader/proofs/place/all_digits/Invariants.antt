@@ -1,6 +1,5 @@
 use Rattle.std.proofs.Common.{◌≡◌, length}
 use Rattle.std.specs.Str.{all_ascii_digits}
-use Rattle.script_reader.specs.Places.{all_name_bytes}
 use Rattle.script_reader.proofs.place.all_digits.Given as goal
 
 abbrev pub invariant-loop-rest : goal.invariant-loop-rest

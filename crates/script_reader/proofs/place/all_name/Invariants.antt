@@ -1,5 +1,4 @@
 use Rattle.std.proofs.Common.{◌≡◌, length}
-use Rattle.std.specs.Str.{all_ascii_digits}
 use Rattle.script_reader.specs.Places.{all_name_bytes}
 use Rattle.script_reader.proofs.place.all_name.Given as goal
 

@@ -1,4 +1,4 @@
-use Rattle.std.proofs.Common.{◌≡◌, sym, ◌∙◌}
+use Rattle.std.proofs.Common.{sym, ◌∙◌}
 use Rattle.script_reader.proofs.Numbers.{number_utf8, parsed}
 use Rattle.script_reader.proofs.place.value_of.Goals as goal
 

@@ -1,7 +1,7 @@
-use Rattle.std.proofs.Common.{rules, ◌≡◌}
+use Rattle.std.proofs.Common.{rules}
 use Rattle.std.proofs.lemmas.Iterator.Consumers.{map_from_collect}
 use Rattle.std.proofs.lemmas.Iterator.Splits.{YieldsList-from_slice_split}
-use Rattle.script_reader.specs.Words.{is_space, is_line_feed, without_last_feed}
+use Rattle.script_reader.specs.Words.{is_space}
 use Rattle.script_reader.proofs.words.pieces.Goals as goal
 
 pub returns : goal.returns

@@ -1,4 +1,4 @@
-use Rattle.std.proofs.Common.{rules, ◌≡◌, List, ◌∙◌, ap}
+use Rattle.std.proofs.Common.{rules, List, ◌∙◌, ap}
 use Rattle.std.proofs.lemmas.Fn.{filter_same}
 use Rattle.std.specs.List.{filter}
 use denote.Ref.{Bor}

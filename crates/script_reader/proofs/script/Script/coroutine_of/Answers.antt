@@ -1,7 +1,4 @@
-use Rattle.std.proofs.Common.{arith, ℕ, ◌-◌, ◌<◌, length, ◌≡◌, ap, ◌∙◌, List, map, refl}
-use Rattle.std.proofs.lemmas.List.{length-map}
-use Rattle.script_reader.specs.declared.script.Spawn.{Spawn}
-use Rattle.script_reader.specs.Programs.{coroutine_count}
+use Rattle.std.proofs.Common.{arith, refl}
 use Rattle.script_reader.specs.Scripts.{program_of}
 use Rattle.script_reader.proofs.Declarations.{block_named-within, block_of_tag-within, block_of_tag-spawn, spawned_tag}
 use Rattle.script_reader.proofs.script.Script.coroutine_of.Goals as goal

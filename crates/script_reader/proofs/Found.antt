@@ -1,0 +1,134 @@
+-- What is read at a place of a line is written there as the grammar says.
+use Rattle.std.proofs.Common.{◌≡◌, ℕ, ◌<◌, ◌≤◌, ◌^◌, List, [], ◌∷◌, refl, ap, sym, ◌∙◌, arith, Result, Ok, Err, Bool, true, false, Option, Some, None, length, if◌then◌else◌, ◌&&◌, nat_lt, nat_le, suc}
+use Rattle.std.specs.Prelude.{◌==◌, ◌||◌, not}
+use Rattle.script_reader.specs.declared.fault.FaultKind.TheVariants.{BadNumber}
+use Rattle.std.proofs.lemmas.Bool.Decides.{nat_tests}
+use Rattle.std.proofs.lemmas.Slice.Eq.{bytes_eq-Decides}
+use Rattle.std.proofs.lemmas.Fmt.{decimal-digits_value}
+use Rattle.std.specs.Fmt.{decimal}
+use Rattle.std.specs.Str.{bytes_eq, all_ascii_digits}
+use Rattle.std.specs.Str.Parse.{digits_value}
+use Rattle.script_reader.specs.declared.fault.FaultKind.{FaultKind}
+use Rattle.script_reader.specs.Faults.{◌>>=◌}
+use Rattle.script_reader.specs.Places.{word_at, end_at, at_most, number_at, value_at, is_number, within, name_at, new_at, known_at, is_name, place_from, unless_found, if_found, is_main, other_than_main}
+use Rattle.script_reader.specs.Grammar.{Named, Fresh}
+use Rattle.script_reader.proofs.Numbers.{own, number_digits, number_some}
+use Rattle.script_reader.proofs.Truths.{both_true, le-from_true, lt-from_true}
+
+pub bind_ok : {A B : Type 0} (r : Result A FaultKind) (f : A → Result B FaultKind) (y : B) → (r >>= f) ≡ Ok y → (x : A) × (r ≡ Ok x) × (f x ≡ Ok y)
+bind_ok (Ok x) f y e = (x, refl, e)
+bind_ok (Err k) f y e = cc
+
+pub ok_is : {A : Type 0} (x y : A) (r : Result A FaultKind) → r ≡ Ok x → r ≡ Ok y → x ≡ y
+ok_is x y r e f = cc
+
+ok_pair : {A B : Type 0} (a c : A) (b d : B) (r : Result (A × B) FaultKind) → r ≡ Ok (a, b) → r ≡ Ok (c, d) → (a ≡ c) × (b ≡ d)
+ok_pair {A} {B} a c b d r e f = let p = ok_is {A = A × B} (a, b) (c, d) r e f in (ap (λ (q : A × B). q.0) p, ap (λ (q : A × B). q.1) p)
+
+same : (b : Bool) (w e : List ℕ) (rest out : List (List ℕ)) (k : FaultKind) → bytes_eq w e ≡ b → (if b then Ok rest else Err k) ≡ Ok out → (w ∷ rest) ≡ e ∷ out
+same true w e rest out k t ok = let p : w ≡ e = (bytes_eq-Decides w e).0 t in let q : rest ≡ out = cc in cc
+same false w e rest out k t ok = cc
+
+pub word_found : (e : List ℕ) (ws rest : List (List ℕ)) → word_at e ws ≡ Ok rest → ws ≡ e ∷ rest
+word_found e [] rest ok = cc
+word_found e (w ∷ ws) rest ok = same (bytes_eq w e) w e ws rest _ refl ok
+
+pub end_found : (ws : List (List ℕ)) (u : Unit {0}) → end_at ws ≡ Ok u → ws ≡ []
+end_found [] u ok = refl
+end_found (w ∷ ws) u ok = cc
+
+named_ok : (b : Bool) (w n : List ℕ) (ws rest : List (List ℕ)) (k : FaultKind) → is_name w ≡ b → if◌then◌else◌ {A = Result (List ℕ × List (List ℕ)) FaultKind} b (Ok (w, ws)) (Err k) ≡ Ok (n, rest) → ((w ∷ ws) ≡ n ∷ rest) × (is_name n ≡ true)
+named_ok true w n ws rest k t ok = let p = ok_pair w n ws rest (Ok (w, ws)) refl ok in (ap (λ l. l ∷ ws) p.0 ∙ ap (λ l. n ∷ l) p.1, ap is_name (sym p.0) ∙ t)
+named_ok false w n ws rest k t ok = cc
+
+pub name_found : (ws : List (List ℕ)) (n : List ℕ) (rest : List (List ℕ)) → name_at ws ≡ Ok (n, rest) → (ws ≡ n ∷ rest) × (is_name n ≡ true)
+name_found [] n rest ok = cc
+name_found (w ∷ ws) n rest ok = named_ok (is_name w) w n ws rest _ refl ok
+
+fresh_ok : (names : List (List ℕ)) (o : Option ℕ) (w n : List ℕ) (ws rest : List (List ℕ)) → o ≡ place_from 0 w names → unless_found {X = List ℕ × List (List ℕ)} o (w, ws) ≡ Ok (n, rest) → (w ≡ n) × (ws ≡ rest) × (place_from 0 n names ≡ None)
+fresh_ok names None w n ws rest e ok = let p = ok_pair w n ws rest (Ok (w, ws)) refl ok in (p.0, p.1, ap (λ x. place_from 0 x names) (sym p.0) ∙ sym e)
+fresh_ok names (Some i) w n ws rest e ok = cc
+
+pub new_found : (names ws : List (List ℕ)) (n : List ℕ) (rest : List (List ℕ)) → new_at names ws ≡ Ok (n, rest) → (ws ≡ n ∷ rest) × Fresh names n
+new_found names ws n rest ok =
+    let x = bind_ok (name_at ws) (λ x. unless_found (place_from 0 x.0 names) x) (n, rest) ok in
+    let a = name_found ws x.0.0 x.0.1 x.1 in
+    let b = fresh_ok names _ x.0.0 n x.0.1 rest refl x.2 in
+    (a.0 ∙ ap (λ l. l ∷ x.0.1) b.0 ∙ ap (λ l. n ∷ l) b.1, record { formed = ap is_name (sym b.0) ∙ a.1; none = b.2 })
+
+known_ok : (names : List (List ℕ)) (o : Option ℕ) (w : List ℕ) (i : ℕ) (ws rest : List (List ℕ)) → o ≡ place_from 0 w names → if_found {X = List (List ℕ)} o ws ≡ Ok (i, rest) → (ws ≡ rest) × (place_from 0 w names ≡ Some i)
+known_ok names None w i ws rest e ok = cc
+known_ok names (Some j) w i ws rest e ok = let p = ok_pair j i ws rest (Ok (j, ws)) refl ok in (p.1, sym e ∙ ap (λ k. Some k) p.0)
+
+pub known_found : (names ws : List (List ℕ)) (i : ℕ) (rest : List (List ℕ)) → known_at names ws ≡ Ok (i, rest) → (n : List ℕ) × (ws ≡ n ∷ rest) × Named names i n
+known_found names ws i rest ok =
+    let x = bind_ok (name_at ws) (λ x. if_found (place_from 0 x.0 names) x.1) (i, rest) ok in
+    let a = name_found ws x.0.0 x.0.1 x.1 in
+    let b = known_ok names _ x.0.0 i x.0.1 rest refl x.2 in
+    (x.0.0, a.0 ∙ ap (λ l. x.0.0 ∷ l) b.0, record { formed = a.1; first = b.1 })
+
+value_ok : (a b : Bool) (v n : ℕ) → (a && b) ≡ true → (if a && b then Some v else None) ≡ Some n → v ≡ n
+value_ok true true v n t e = cc
+value_ok true false v n t e = cc
+value_ok false b v n t e = cc
+
+either : (r t : Bool) → (r || not t) ≡ true → t ≡ true → r ≡ true
+either true t e f = refl
+either false true e f = e
+either false false e f = f
+
+is_zero : (n : ℕ) → (n == 0) ≡ true → n ≡ 0
+is_zero n e = grind (arith, nat_tests)
+
+is_same : (n : ℕ) → n ≡ 48 → (n == 48) ≡ true
+is_same n e = grind (arith, nat_tests)
+
+-- a number that is read is written as its value is
+pub decimal_again : (w : List ℕ) → is_number w ≡ true → digits_value 10 w < 2 ^ 64 → decimal (digits_value 10 w) ≡ w
+decimal_again [] n small = cc
+decimal_again (b ∷ rest) n small = decimal-digits_value own (b ∷ rest) (number_digits (b ∷ rest) n) (number_some (b ∷ rest) n) (λ zero. ap suc (alone zero)) small
+  where
+    alone : b ≡ 48 → length rest ≡ 0
+    alone zero = is_zero (length rest) (either (length rest == 0) (b == 48) (both_true (nat_lt (length rest) 10) _ (both_true (all_ascii_digits (b ∷ rest)) _ n).1).1 (is_same b zero))
+
+valued : (w : List ℕ) (n : ℕ) (a b : Bool) → is_number w ≡ a → nat_lt (digits_value 10 w) (2 ^ 32) ≡ b → (if a && b then Some (digits_value 10 w) else None) ≡ Some n → (w ≡ decimal n) × (n < 2 ^ 32)
+valued w n true true p q e =
+    let v : digits_value 10 w ≡ n = cc in
+    let small : digits_value 10 w < 2 ^ 32 = lt-from_true _ _ q in
+    (sym (decimal_again w p (omega arith)) ∙ ap decimal v, omega arith)
+valued w n true false p q e = cc
+valued w n false b p q e = cc
+
+ranged : (low high m n : ℕ) (ws rest : List (List ℕ)) (b : Bool) → (nat_le low m && nat_le m high) ≡ b → if◌then◌else◌ {A = Result (ℕ × List (List ℕ)) FaultKind} b (Ok (m, ws)) (Err BadNumber) ≡ Ok (n, rest) → (m ≡ n) × (ws ≡ rest) × (low ≤ n) × (n ≤ high)
+ranged low high m n ws rest true t e =
+    let p = ok_pair m n ws rest (Ok (m, ws)) refl e in
+    let two = both_true _ _ t in
+    let l : low ≤ m = le-from_true low m two.0 in
+    let h : m ≤ high = le-from_true m high two.1 in
+    (p.0, p.1, omega (arith, p.0), omega (arith, p.0))
+ranged low high m n ws rest false t e = cc
+
+number_in : (low high n : ℕ) (w : List ℕ) (ws rest : List (List ℕ)) (o : Option ℕ) → value_at w ≡ o → within low high o ws ≡ Ok (n, rest) → ((w ∷ ws) ≡ decimal n ∷ rest) × (low ≤ n) × (n ≤ high)
+number_in low high n w ws rest None v e = cc
+number_in low high n w ws rest (Some m) v e =
+    let r = ranged low high m n ws rest _ refl e in
+    let x = valued w m (is_number w) (nat_lt (digits_value 10 w) (2 ^ 32)) refl refl v in
+    (ap (λ l. l ∷ ws) (x.0 ∙ ap decimal r.0) ∙ ap (λ l. decimal n ∷ l) r.1, r.2, r.3)
+
+pub number_found : (low high n : ℕ) (ws rest : List (List ℕ)) → number_at low high ws ≡ Ok (n, rest) → (ws ≡ decimal n ∷ rest) × (low ≤ n) × (n ≤ high)
+number_found low high n [] rest e = cc
+number_found low high n (w ∷ ws) rest e = number_in low high n w ws rest (value_at w) refl e
+
+few_ok : (limit count : ℕ) (u : Unit {0}) (b : Bool) (k : FaultKind) → nat_le count limit ≡ b → if◌then◌else◌ {A = Result (Unit {0}) FaultKind} b (Ok tt) (Err k) ≡ Ok u → count ≤ limit
+few_ok limit count u true k t e = le-from_true count limit t
+few_ok limit count u false k t e = cc
+
+pub at_most_found : (limit count : ℕ) (u : Unit {0}) → at_most limit count ≡ Ok u → count ≤ limit
+at_most_found limit count u e = few_ok limit count u (nat_le count limit) _ refl e
+
+other_ok : (name : List ℕ) (u : Unit {0}) (b : Bool) (k : FaultKind) → is_main name ≡ b → if◌then◌else◌ {A = Result (Unit {0}) FaultKind} b (Err k) (Ok tt) ≡ Ok u → is_main name ≡ false
+other_ok name u true k t e = cc
+other_ok name u false k t e = t
+
+pub other_than_main_found : (ws : List (List ℕ)) (name : List ℕ) (rest : List (List ℕ)) (u : Unit {0}) → ws ≡ name ∷ rest → other_than_main ws ≡ Ok u → is_main name ≡ false
+other_than_main_found ws name rest u is e = other_ok name u (is_main name) _ refl (sym (ap other_than_main is) ∙ e)
