@@ -1,6 +1,6 @@
 //! One move of one coroutine.
 
-ghost use Rattle.std.specs.Prelude.{◌≡◌, ◌<◌, IfOk};
+ghost use Rattle.std.specs.Prelude.{◌≡◌, ◌<◌, IfOk, OnErr};
 ghost use Rattle.script_reader.specs.Scripts.{program_of};
 ghost use Rattle.script_reader.specs.Programs.{code_of};
 ghost use Rattle.poll_states.specs.Books.{items_of, spare_of};
@@ -30,6 +30,7 @@ pub fn poll<C: ChannelFloor, W: Wakes, G: Gate>(
     ensures stands { StandsOn (program_of script.now) (C.view floors.new.channels.now) frame.new }
     ensures polled { Polled (program_of script.now) (C.view floors.old.channels.now) (C.view floors.new.channels.now) frame.old frame.new }
     ensures turn { IfOk result (λ turn. TurnAnswer (code_of (program_of script.now) frame.old.tag) (C.view floors.old.channels.now) (C.view floors.new.channels.now) frame.old frame.new turn) }
+    ensures memory { OnErr result (items_of frame.new.book ≡ items_of frame.old.book) }
     ensures quiet { items_of frame.new.book ≡ items_of frame.old.book → floors.new.wakes.now ≡ floors.old.wakes.now }
     ensures anchor { C.anchor floors.new.channels.now ≡ C.anchor floors.old.channels.now }
     ensures same_channels { floors.new.channels.ghost_name ≡ floors.old.channels.ghost_name }
