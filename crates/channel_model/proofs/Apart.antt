@@ -14,26 +14,10 @@ use Rattle.channel_model.specs.Channels.{Shape, State, Channel, Wait, same_wait,
 use Rattle.channel_model.specs.Effects.{after, resolve, resolve_first, resolve_holder, resolve_offer, remove_first, with_queue, without, is_held_by, put_channel, admitted, holder_at, is_open, place_offer, place_receiver}
 use Rattle.channel_model.specs.Needs.{Needs, HasPlace, MayName, JoinsWait}
 use Rattle.channel_model.specs.Histories.{replay, replay_from, Legal, LegalFrom}
-use Rattle.channel_model.specs.Laws.{IsStandingAt, HolderStands, OffersStand, ReceiversStand, AllStandOpen}
+use Rattle.channel_model.specs.Laws.{IsStandingAt, HolderStands, OffersStand, ReceiversStand, AllStandOpen, how_many, standing_of, StandsOnce, AllStandOnce}
 use Rattle.channel_model.proofs.Waits.{same_wait-eq, same_wait-refl}
 use Rattle.channel_model.proofs.OpenWaits.{after_open, start_open}
 use Rattle.channel_model.proofs.Placed.{Placed, placed_after, start_placed}
-
--- how many elements pass the test
-abbrev pub how_many : {X : Type 0} → (X → Bool) → List X → ℕ
-how_many p [] = 0
-how_many p (x ∷ xs) = cond (p x) 1 0 + how_many p xs
-
--- how many offers and receivers of the wait stand at a channel
-abbrev pub standing_of : WaitId → Channel → ℕ
-standing_of w ch = how_many (λ (o : Standing). is_held_by w o.holder) ch.queue + how_many (λ (r : Receiver). same_wait w r.party.wait) ch.receivers
-
-pub record StandsOnce (ch : Channel) : Type 0 where
-  pub once : (w : WaitId) → standing_of w ch ≤ 1
-
--- no wait stands more than once at a channel
-abbrev pub AllStandOnce : State → Type 0
-AllStandOnce s = (c : ℕ) → StandsOnce (s.channels c)
 
 -- ---- counting what passes
 

@@ -1,5 +1,5 @@
 -- The words of what holds in every legal history.
-use Rattle.std.specs.Prelude.{◌≡◌, ℕ, ◌+◌, ◌==◌, Bool, true, false, List, [], ◌∷◌, Option, Some, None, if◌then◌else◌}
+use Rattle.std.specs.Prelude.{◌≡◌, ℕ, ◌+◌, ◌≤◌, ◌==◌, Bool, true, false, cond, List, [], ◌∷◌, Option, Some, None, if◌then◌else◌}
 use Rattle.std.specs.List.{list_any, list_all}
 use Rattle.channel_model.specs.declared.acts.Act.{Act}
 use Rattle.channel_model.specs.declared.acts.Act.TheVariants.{Hand, Put, Offer, Await, Take, Admit, Drop, Close, Void, Drain, WakeClosed, Withdraw, Settle}
@@ -13,7 +13,7 @@ use Rattle.channel_model.specs.declared.standing.Resolution.{Resolution}
 use Rattle.channel_model.specs.declared.standing.Resolution.TheVariants as resolved
 use Rattle.co_base.specs.declared.names.WaitId.{WaitId}
 use Rattle.channel_model.specs.Channels.{State, Channel, Wait, start, same_wait}
-use Rattle.channel_model.specs.Effects.{after, holder_at}
+use Rattle.channel_model.specs.Effects.{after, holder_at, is_held_by}
 
 -- ---- whoever stands has an open wait
 
@@ -45,6 +45,25 @@ pub record StandOpen (waits : WaitId → Option Wait) (c : ℕ) (ch : Channel) :
 -- each that stands at a channel has an open wait with a clause there
 abbrev pub AllStandOpen : State → Type 0
 AllStandOpen s = (c : ℕ) → StandOpen s.waits c (s.channels c)
+
+-- ---- a wait stands at most once at a channel
+
+-- how many elements pass the test
+abbrev pub how_many : {X : Type 0} → (X → Bool) → List X → ℕ
+how_many p [] = 0
+how_many p (x ∷ xs) = cond (p x) 1 0 + how_many p xs
+
+-- how many offers and receivers of the wait stand at a channel
+abbrev pub standing_of : WaitId → Channel → ℕ
+standing_of w ch = how_many (λ (o : Standing). is_held_by w o.holder) ch.queue + how_many (λ (r : Receiver). same_wait w r.party.wait) ch.receivers
+
+-- no wait stands more than once at this channel
+pub record StandsOnce (ch : Channel) : Type 0 where
+  pub once : (w : WaitId) → standing_of w ch ≤ 1
+
+-- no wait stands more than once at a channel
+abbrev pub AllStandOnce : State → Type 0
+AllStandOnce s = (c : ℕ) → StandsOnce (s.channels c)
 
 -- ---- a wait is resolved once, and settled once
 

@@ -4,7 +4,7 @@ ghost use Rattle.std.specs.Prelude.{◌≡◌, ◌++◌, ◌≤◌, ◌↔◌, �
 ghost use Rattle.channel_model.specs.declared.acts.Entry.{Entry};
 ghost use Rattle.channel_model.specs.Channels.{Shape, kind_at};
 ghost use Rattle.channel_model.specs.Histories.{replay, replay_from, Legal, LegalFrom};
-ghost use Rattle.channel_model.specs.Laws.{AllStandOpen, resolutions_of, settlements_of, is_plain_history, IsPlain, keeps_none};
+ghost use Rattle.channel_model.specs.Laws.{AllStandOpen, AllStandOnce, resolutions_of, settlements_of, is_plain_history, IsPlain, keeps_none};
 ghost use Rattle.channel_model.specs.Owing.{OwesNothing};
 ghost use Rattle.co_base.specs.declared.names.WaitId.{WaitId};
 
@@ -27,6 +27,12 @@ pub fn a_wait_is_resolved_and_settled_at_most_once()
 /// with a clause at that channel.
 pub fn whoever_stands_has_an_open_wait()
     ensures { (shape : Shape) (history : List Entry) → Legal shape history → AllStandOpen (replay history) }
+{
+}
+
+/// After a legal history a wait stands at most once at a channel, among its offers and receivers together.
+pub fn a_wait_stands_at_most_once_at_a_channel()
+    ensures { (shape : Shape) (history : List Entry) → Legal shape history → AllStandOnce (replay history) }
 {
 }
 

@@ -21,7 +21,7 @@ pub use floor::{
     Withdrawn,
 };
 pub use laws::{
-    a_wait_is_resolved_and_settled_at_most_once, appended_histories,
-    plain_histories_owe_nothing, whoever_stands_has_an_open_wait,
+    a_wait_is_resolved_and_settled_at_most_once, a_wait_stands_at_most_once_at_a_channel,
+    appended_histories, plain_histories_owe_nothing, whoever_stands_has_an_open_wait,
 };
 pub use standing::{Party, Receiver, Resolution, Standing, outcome};

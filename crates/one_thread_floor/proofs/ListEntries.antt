@@ -21,11 +21,11 @@ use Rattle.channel_model.specs.Effects.{after, without, resolve, resolve_holder,
 use Rattle.channel_model.specs.Needs.{Needs, HasPlace}
 use Rattle.channel_model.specs.Histories.{replay, Legal}
 use Rattle.channel_model.specs.Answers.{first_receiver, first_holder, owner_of}
-use Rattle.channel_model.specs.Laws.{AllStandOpen}
+use Rattle.channel_model.specs.Laws.{AllStandOpen, AllStandOnce, StandsOnce}
 use Rattle.channel_model.proofs.Histories.{replay_push}
 use Rattle.channel_model.proofs.OpenWaits.{replay_open}
 use Rattle.channel_model.proofs.Placed.{same_number}
-use Rattle.channel_model.proofs.Apart.{AllStandOnce, StandsOnce, replay_once, without_first_receiver, without_first_holder}
+use Rattle.channel_model.proofs.Apart.{replay_once, without_first_receiver, without_first_holder}
 use Rattle.channel_model.proofs.Firsts.{first_receiver_is, first_resolved, receiver_there, no_receiver, owner_of_first, first_offer_is, first_stands, holder_there, popped_open, take_is, first_holder_is, holder_owner, full_suspends, at_place, may_begin}
 use Rattle.one_thread_floor.specs.declared.list_channel.ListChannel.{ListChannel}
 use Rattle.one_thread_floor.specs.ListStands.{channel_in, wait_in, IsAt, SameShape, SameWaits, SameChannels, wait_in_channel, wait_in_slot, channel_or_empty, places_in, places_of, IsWithout, has_clause_elsewhere, clauses_of}

@@ -7,8 +7,7 @@ ghost use Rattle.channel_model.specs.declared.standing.Resolution.TheVariants.{H
 ghost use Rattle.channel_model.specs.Channels.{Shape, State};
 ghost use Rattle.channel_model.specs.Effects.{without, resolve, resolve_holder, settled_wait, put_wait, put_channel, place_receiver, place_offer, name_clause};
 ghost use Rattle.channel_model.specs.Answers.{owner_of};
-ghost use Rattle.channel_model.specs.Laws.{AllStandOpen};
-ghost use Rattle.channel_model.proofs.Apart.{AllStandOnce};
+ghost use Rattle.channel_model.specs.Laws.{AllStandOpen, AllStandOnce};
 ghost use Rattle.co_base.specs.declared.names.WaitId.{WaitId as Id};
 ghost use Rattle.one_thread_floor.specs.ListStands.{places_in, wait_in_channel, wait_of, channel_of, channel_in, wait_in, IsAt, wait_of_slot, SameShape, SameWaits, SameChannels};
 
