@@ -8,6 +8,6 @@ pub mod Placed
 pub mod Resolutions
 pub mod Plain
 pub mod Apart
+pub mod OwnWaits
 pub mod Alone
 pub mod Firsts
-pub mod OwnWaits

@@ -58,6 +58,13 @@ is_past lines line (Waiting w) = false
 is_past lines line Failed = true
 is_past lines line Cancelled = true
 
+-- at the end of a code of so many lines
+abbrev pub is_at_end : ℕ → ℕ → Stage → Bool
+is_at_end lines line Running = nat_le lines line
+is_at_end lines line (Waiting w) = false
+is_at_end lines line Failed = false
+is_at_end lines line Cancelled = false
+
 -- no further line of the code is run
 abbrev pub is_ended : List Instruction → ℕ → Stage → Bool
 is_ended code line stage = is_past (length code) line stage

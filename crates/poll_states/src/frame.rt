@@ -2,7 +2,7 @@
 
 ghost use Rattle.std.specs.Prelude.{◌≡◌, ◌<◌, ◌++◌, ◌∷◌, [], length};
 ghost use Rattle.poll_states.specs.Books.{items_of, spare_of, acts_noted};
-ghost use Rattle.poll_states.specs.Frames.{is_past};
+ghost use Rattle.poll_states.specs.Frames.{is_past, is_at_end};
 ghost use Rattle.poll_states.specs.Steps.{line_after, turn_after};
 ghost use Rattle.poll_states.specs.declared.frame.Stage.TheVariants.{Running};
 
@@ -103,6 +103,16 @@ impl Frame {
             Stage::Running => self.line >= lines,
             Stage::Waiting(_) => false,
             Stage::Failed | Stage::Cancelled => true,
+        }
+    }
+
+    /// Whether the coroutine is at the end of its code, which has so many lines.
+    pub fn is_at_end(&self, lines: usize) -> bool
+        ensures { result ≡ is_at_end lines self.now.line self.now.stage }
+    {
+        match self.stage {
+            Stage::Running => lines <= self.line,
+            Stage::Waiting(_) | Stage::Failed | Stage::Cancelled => false,
         }
     }
 

@@ -1,0 +1,55 @@
+-- Lists of which one element is changed.
+use Rattle.std.proofs.Common.{◌≡◌, ◌≢◌, ℕ, ◌<◌, Bool, true, false, ◌&&◌, List, [], ◌∷◌, ◌++◌, length, get_or, set, zero, suc, Some, refl, ap, sym, ◌∙◌, arith, slice_get}
+use Rattle.std.specs.List.{list_all, sum_by}
+use Rattle.std.proofs.lemmas.List.Sums.{sum_by-set}
+
+pub slice_get-set_same : {A : Type 0} (xs : List A) (k : ℕ) (y : A) → k < length xs → slice_get (set xs k y) k ≡ Some y
+slice_get-set_same [] k y lt = absurd (omega (arith, lt))
+slice_get-set_same (x ∷ xs) zero y lt = refl
+slice_get-set_same (x ∷ xs) (suc k) y lt = slice_get-set_same xs k y (omega (arith, lt))
+
+pub slice_get-set_other : {A : Type 0} (xs : List A) (k j : ℕ) (y : A) → k ≢ j → slice_get (set xs k y) j ≡ slice_get xs j
+slice_get-set_other [] k j y n = refl
+slice_get-set_other (x ∷ xs) zero zero y n = absurd (n refl)
+slice_get-set_other (x ∷ xs) zero (suc j) y n = refl
+slice_get-set_other (x ∷ xs) (suc k) zero y n = refl
+slice_get-set_other (x ∷ xs) (suc k) (suc j) y n = slice_get-set_other xs k j y (λ e. n (ap (λ i. suc i) e))
+
+pub slice_get-Some : {A : Type 0} (xs : List A) (k : ℕ) (x : A) → k < length xs → x ≡ get_or xs k x → slice_get xs k ≡ Some x
+slice_get-Some [] k x lt e = absurd (omega (arith, lt))
+slice_get-Some (y ∷ xs) zero x lt e = ap (λ z. Some z) (sym e)
+slice_get-Some (y ∷ xs) (suc k) x lt e = slice_get-Some xs k x (omega (arith, lt)) e
+
+pub slice_get-get_or : {A : Type 0} (xs : List A) (k : ℕ) (x d : A) → slice_get xs k ≡ Some x → get_or xs k d ≡ x
+slice_get-get_or [] k x d e = cc
+slice_get-get_or (y ∷ xs) zero x d e = cc
+slice_get-get_or (y ∷ xs) (suc k) x d e = slice_get-get_or xs k x d e
+
+-- the sum falls by as much as one element does
+pub sum_by-set_less : {A : Type 0} (f : A → ℕ) (xs : List A) (k : ℕ) (x y : A) → k < length xs → slice_get xs k ≡ Some x → f y < f x → sum_by f (set xs k y) < sum_by f xs
+sum_by-set_less f xs k x y lt at less =
+    let sums = sum_by-set f xs k y x lt in
+    let here : f (get_or xs k x) ≡ f x = ap f (slice_get-get_or xs k x x at) in
+    omega (arith, sums, here, less)
+
+pub sum_by-set_same : {A : Type 0} (f : A → ℕ) (xs : List A) (k : ℕ) (x y : A) → k < length xs → slice_get xs k ≡ Some x → f y ≡ f x → sum_by f (set xs k y) ≡ sum_by f xs
+sum_by-set_same f xs k x y lt at same =
+    let sums = sum_by-set f xs k y x lt in
+    let here : f (get_or xs k x) ≡ f x = ap f (slice_get-get_or xs k x x at) in
+    omega (arith, sums, here, same)
+
+pub both_true : (a b : Bool) → (a && b) ≡ true → (a ≡ true) × (b ≡ true)
+both_true true true e = (refl, refl)
+both_true true false e = cc
+both_true false b e = cc
+
+pub list_all-append : {A : Type 0} (test : A → Bool) (xs ys : List A) → list_all test xs ≡ true → list_all test ys ≡ true → list_all test (xs ++ ys) ≡ true
+list_all-append test [] ys h k = k
+list_all-append test (x ∷ xs) ys h k =
+    let parts = both_true (test x) (list_all test xs) h in
+    ap (λ b. b && list_all test (xs ++ ys)) parts.0 ∙ list_all-append test xs ys parts.1 k
+
+pub within : {A : Type 0} (xs : List A) (k : ℕ) (x : A) → slice_get xs k ≡ Some x → k < length xs
+within [] k x e = cc
+within (y ∷ xs) zero x e = omega arith
+within (y ∷ xs) (suc k) x e = let h = within xs k x e in omega (arith, h)

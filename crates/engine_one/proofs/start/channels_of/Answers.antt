@@ -1,0 +1,6 @@
+use Rattle.script_reader.specs.Scripts.{program_of}
+use Rattle.engine_one.proofs.Beginnings.{all_may_be_made}
+use Rattle.engine_one.proofs.start.channels_of.Goals as goal
+
+pub new-requires-clause-kinds : goal.new-requires-clause-kinds
+new-requires-clause-kinds c = rw (c.deref.ensures.value, c.in_ok-kinds.ensures) (all_may_be_made (program_of c.args.script.now) c.args.script.now.well_formed)
