@@ -23,6 +23,8 @@ mod noted;
 mod resolutions;
 mod shown;
 mod table;
+#[cfg(test)]
+mod tests;
 mod text;
 
 pub use text::report;
