@@ -25,6 +25,8 @@ mod noted;
 mod resolutions;
 mod shown;
 mod table;
+#[cfg(test)]
+mod tests;
 mod text;
 
 pub use fault::fault_line;
