@@ -1,9 +1,10 @@
 //! Polls of one coroutine, of those that are to be polled, and of all.
 
-ghost use Rattle.std.specs.Prelude.{◌≡◌, ◌<◌, ◌≤◌, [], length, IfOk, OnOk};
+ghost use Rattle.std.specs.Prelude.{◌≡◌, ◌<◌, ◌≤◌, [], Ok, length, vec_len, IfOk, OnOk};
 ghost use mathlib.Core.List.{IsPrefix};
 ghost use Rattle.script_reader.specs.Scripts.{program_of};
 ghost use Rattle.engine_one.specs.Coroutines.{AllStand, all_moves};
+ghost use Rattle.engine_one.specs.Tags.{IsQueued};
 ghost use Rattle.engine_one.specs.Progress.{Advances, OthersSame, TurnCameTo, RoundCameTo};
 
 use crate::run::Run;
@@ -22,6 +23,7 @@ impl<C: ChannelFloor> Run<C> {
         ensures others { OthersSame tag self.old.frames.items self.new.frames.items }
         ensures advances { Advances (program_of script.now) (C.view self.old.channels) (C.view self.new.channels) self.old.frames.items self.new.frames.items self.old.ready.tags.items self.new.ready.tags.items }
         ensures turn { IfOk result (λ turn. TurnCameTo (program_of script.now) tag (C.view self.old.channels) (C.view self.new.channels) self.old.frames.items self.new.frames.items turn) }
+        ensures queued { result ≡ Ok Turn.Ready → IsQueued (vec_len self.new.ready.standing) tag self.new.ready.tags.items }
     {
         let mut floors = Floors {
             channels: &mut self.channels,
