@@ -10,9 +10,9 @@
 mod answer;
 mod message;
 mod status;
-mod top;
 #[cfg(test)]
 mod tests;
+mod top;
 mod words;
 
 use co_base::{OpenGate, StdSink, StdSource};
@@ -27,7 +27,13 @@ fn main(rt: HostRuntime) -> ExitCode {
         Ok(words) => {
             let mut source = StdSource::new(rt.stdin());
             let mut sink = StdSink::new(rt.stdout());
-            coroutine_main(rt.alloc(), words.as_slice(), &mut source, &mut sink, &OpenGate)
+            coroutine_main(
+                rt.alloc(),
+                words.as_slice(),
+                &mut source,
+                &mut sink,
+                &OpenGate,
+            )
         }
         Err(_) => 7,
     };

@@ -8,7 +8,8 @@ use std::alloc::Global;
 use std::test::Fail;
 
 /// A rendezvous of one sender and one receiver.
-const RENDEZVOUS: &str = "channel a rendezvous\ncoroutine p\nsend a 5\nend\ncoroutine c\nreceive a\nend\ncoroutine main\nend\nspawn p\nspawn c\n";
+const RENDEZVOUS: &str =
+    "channel a rendezvous\ncoroutine p\nsend a 5\nend\ncoroutine c\nreceive a\nend\ncoroutine main\nend\nspawn p\nspawn c\n";
 
 const RENDEZVOUS_REPORT: &str = "1 offer a 0 5 a.0 0\n1 settle a.0 sent 0\n2 take a 0 5\n";
 
@@ -49,7 +50,11 @@ fn answer(
 /// Scripts, each with its status and its text.
 const ROWS: [(&str, u8, &str); 9] = [
     (RENDEZVOUS, 0, RENDEZVOUS_REPORT),
-    ("channel a rendezvous\ncoroutine main\nreceive a\nend\n", 4, "0 await a 0 a.0 0\n"),
+    (
+        "channel a rendezvous\ncoroutine main\nreceive a\nend\n",
+        4,
+        "0 await a 0 a.0 0\n",
+    ),
     (
         "channel a rendezvous\ncoroutine main\nsend a 4294967295\nend\n",
         4,
@@ -80,7 +85,13 @@ const ROWS: [(&str, u8, &str); 9] = [
 #[test]
 fn each_script_has_its_status_and_its_text(rt: HostRuntime) -> Result<(), Fail> {
     for (script, status, text) in ROWS {
-        let (found, written) = answer(rt.alloc(), &["run", "--workers", "1"], script.as_bytes(), AT_ONCE, AT_ONCE)?;
+        let (found, written) = answer(
+            rt.alloc(),
+            &["run", "--workers", "1"],
+            script.as_bytes(),
+            AT_ONCE,
+            AT_ONCE,
+        )?;
         assert_eq!(rt; written.as_slice(), text.as_bytes());
         assert_eq!(rt; found, status);
     }
@@ -97,11 +108,17 @@ fn a_source_and_a_sink_may_be_slow_or_fail(rt: HostRuntime) -> Result<(), Fail> 
         assert_eq!(rt; written.as_slice(), RENDEZVOUS_REPORT.as_bytes());
         assert_eq!(rt; status, 0);
     }
-    let second_fails = Pace { step: 16, fails: &[2] };
+    let second_fails = Pace {
+        step: 16,
+        fails: &[2],
+    };
     let (status, written) = answer(rt.alloc(), &words, script, AT_ONCE, second_fails)?;
     assert_eq!(rt; written.as_slice(), b"1 offer a 0 5 a.".as_slice());
     assert_eq!(rt; status, 6);
-    let first_fails = Pace { step: 16, fails: &[1] };
+    let first_fails = Pace {
+        step: 16,
+        fails: &[1],
+    };
     let (status, written) = answer(rt.alloc(), &words, script, first_fails, AT_ONCE)?;
     assert!(rt; written.is_empty());
     assert_eq!(rt; status, 5);
@@ -110,7 +127,13 @@ fn a_source_and_a_sink_may_be_slow_or_fail(rt: HostRuntime) -> Result<(), Fail> 
 
 #[test]
 fn other_words_are_refused(rt: HostRuntime) -> Result<(), Fail> {
-    let refused: [&[&str]; 5] = [&[], &["go"], &["run"], &["run", "--workers", "2"], &["run", "--workers", "1", "1"]];
+    let refused: [&[&str]; 5] = [
+        &[],
+        &["go"],
+        &["run"],
+        &["run", "--workers", "2"],
+        &["run", "--workers", "1", "1"],
+    ];
     for words in refused {
         let (status, written) = answer(rt.alloc(), words, RENDEZVOUS.as_bytes(), AT_ONCE, AT_ONCE)?;
         assert!(rt; written.is_empty());
@@ -125,7 +148,13 @@ fn an_input_may_be_too_long(rt: HostRuntime) -> Result<(), Fail> {
     for _ in 0..1_048_577u32 {
         input.push(b'\n')?;
     }
-    let (status, written) = answer(rt.alloc(), &["run", "--workers", "1"], input.as_slice(), AT_ONCE, AT_ONCE)?;
+    let (status, written) = answer(
+        rt.alloc(),
+        &["run", "--workers", "1"],
+        input.as_slice(),
+        AT_ONCE,
+        AT_ONCE,
+    )?;
     assert_eq!(rt; written.as_slice(), b"line 1: TooMany\n".as_slice());
     assert_eq!(rt; status, 3);
     Ok(())

@@ -19,7 +19,6 @@ pub struct ReadyTags {
     ghost room: { vec_len standing ≤ deque_capacity tags },
 
     ghost marked: { AreMarked standing.items tags.items } by { Prim.hlevel props },
-
 }
 
 impl ReadyTags {

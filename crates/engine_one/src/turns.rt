@@ -15,7 +15,12 @@ use script_reader::Script;
 
 impl<C: ChannelFloor> Run<C> {
     /// Polls one coroutine, which is to be polled again where it made a move.
-    pub(crate) fn turn<G: Gate>(&mut self, script: &Script, gate: &G, tag: Tag) -> Result<Turn, Memory>
+    pub(crate) fn turn<G: Gate>(
+        &mut self,
+        script: &Script,
+        gate: &G,
+        tag: Tag,
+    ) -> Result<Turn, Memory>
         requires within { tag < length self.old.frames.items }
         requires stand { AllStand (program_of script.now) (C.view self.old.channels) self.old.frames.items }
         ensures stand { AllStand (program_of script.now) (C.view self.new.channels) self.new.frames.items }

@@ -18,8 +18,8 @@
 mod books;
 mod elements;
 mod facts;
-mod fault;
 mod fates;
+mod fault;
 mod items;
 mod noted;
 mod resolutions;
