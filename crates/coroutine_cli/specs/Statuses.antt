@@ -8,6 +8,7 @@ use Rattle.channel_model.specs.declared.acts.ChannelNote.{ChannelNote}
 use Rattle.channel_model.specs.declared.acts.Entry.{Entry}
 use Rattle.script_reader.specs.declared.fault.ScriptFault.{ScriptFault}
 use Rattle.script_reader.specs.Programs.{Program}
+use Rattle.script_reader.specs.Grammar.{Spells}
 use Rattle.script_reader.specs.Texts.{first_scripts}
 use Rattle.poll_states.specs.Parts.{BooksOf, IsIdle}
 use Rattle.run_report.specs.Faults.{fault_text}
@@ -45,6 +46,7 @@ is_run other = false
 pub record Reports (finished : Bool) (input text : List ℕ) : Type 0 where
   pub program : Program
   pub is_script : first_scripts input ≡ Ok program
+  pub spelled : Spells input program
   pub books : List (List ChannelNote)
   pub history : List Entry
   pub parts : BooksOf program books history
@@ -55,6 +57,7 @@ pub record Reports (finished : Bool) (input text : List ℕ) : Type 0 where
 pub record Refuses (input text : List ℕ) : Type 0 where
   pub fault : ScriptFault
   pub no_script : first_scripts input ≡ Err fault
+  pub unspelled : (p : Program) → ¬ (Spells input p)
   pub is_line : text ≡ fault_text fault
 
 abbrev pub Answers : Ending → List ℕ → List ℕ → Type 0

@@ -2,8 +2,11 @@
 
 ghost use Rattle.std.specs.Prelude.{◌≡◌, IfOk, Ok, Err};
 ghost use Rattle.script_reader.specs.Faults.{Unless};
+ghost use Rattle.script_reader.specs.Grammar.{Spells};
+ghost use Rattle.script_reader.specs.Programs.{Program};
 ghost use Rattle.script_reader.specs.Scripts.{program_of};
 ghost use Rattle.script_reader.specs.Texts.{first_scripts};
+ghost use Rattle.script_reader.specs.declared.fault.FaultKind.TheVariants.{Memory as NoMemory};
 ghost use Rattle.coroutine_cli.specs.Statuses.{Answers};
 
 use crate::status::Ending;
@@ -32,21 +35,25 @@ pub fn answer_to<G: Gate>(alloc: Global, bytes: &[u8], gate: &G) -> Result<Answe
 
 /// What is answered for want of a script.
 fn fault_of(alloc: Global, fault: ScriptFault, bytes: &[u8]) -> Result<Answer, Memory>
-    requires { Unless fault.kind (first_scripts bytes.now ≡ Err fault) }
+    requires read { Unless fault.kind (first_scripts bytes.now ≡ Err fault) }
+    requires unspelled { (p : Program) → Spells bytes.now p → fault.kind ≡ NoMemory }
     ensures { IfOk result (λ answer. Answers answer.ending bytes.now answer.text.items) }
 {
-    if fault.kind == FaultKind::Memory {
-        return Err(Memory);
+    match fault.kind {
+        FaultKind::Memory => Err(Memory),
+        _ => {
+            let text = fault_line(alloc, &fault)?;
+            Ok(Answer {
+                ending: Ending::NoScript,
+                text,
+            })
+        }
     }
-    let text = fault_line(alloc, &fault)?;
-    Ok(Answer {
-        ending: Ending::NoScript,
-        text,
-    })
 }
 
 fn run_of<G: Gate>(alloc: Global, script: &Script, bytes: &[u8], gate: &G) -> Result<Answer, Memory>
-    requires { first_scripts bytes.now ≡ Ok (program_of script.now) }
+    requires read { first_scripts bytes.now ≡ Ok (program_of script.now) }
+    requires spelled { Spells bytes.now (program_of script.now) }
     ensures { IfOk result (λ answer. Answers answer.ending bytes.now answer.text.items) }
 {
     let run = run_one(alloc, script, gate)?;

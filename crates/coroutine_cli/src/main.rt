@@ -4,11 +4,9 @@
 //! - `words`: which words are accepted.
 //! - `answer`: the text and the status that a script is answered with.
 //! - `top`: the whole call over any source and sink.
-//! - `message`: the line on standard error.
 #![tactic(auto)]
 
 mod answer;
-mod message;
 mod status;
 #[cfg(test)]
 mod tests;
@@ -16,11 +14,25 @@ mod top;
 mod words;
 
 use co_base::{OpenGate, StdSink, StdSource};
-use message::message_of;
+use status::Status;
 use std::process::ExitCode;
 use std::rt::Env;
 use std::{env, io};
+use thiserror::Error;
 use top::coroutine_main;
+
+/// What standard error says of a call that wrote no whole text.
+#[derive(Debug, Drop, Error)]
+enum Message {
+    #[error("usage: coroutine_cli run [--workers N] | check | sum --size N [--workers N]")]
+    Usage,
+    #[error("read fault")]
+    ReadFault,
+    #[error("write fault")]
+    WriteFault,
+    #[error("out of memory")]
+    NoMemory,
+}
 
 fn main(rt: HostRuntime) -> ExitCode {
     let number = match arguments(&rt) {
@@ -35,7 +47,9 @@ fn main(rt: HostRuntime) -> ExitCode {
                 &OpenGate,
             )
         }
-        Err(_) => 7,
+        Err(error) if error.kind() == io::ErrorKind::OutOfMemory => Status::NoMemory.number(),
+        // A word that is no text is none that is accepted.
+        Err(_) => Status::Refused.number(),
     };
     if let Some(message) = message_of(number) {
         let _ = eprintln!(rt; "{message}");
@@ -52,4 +66,15 @@ fn arguments(rt: &(impl Env + AllocGlobal)) -> io::Result<Vec<String>> {
         }
     }
     Ok(words)
+}
+
+/// What is told of a process that ends with this number.
+fn message_of(number: u8) -> Option<Message> {
+    match number {
+        2 => Some(Message::Usage),
+        5 => Some(Message::ReadFault),
+        6 => Some(Message::WriteFault),
+        7 => Some(Message::NoMemory),
+        _ => None,
+    }
 }
