@@ -41,6 +41,7 @@ tag_more count tag lt =
   where
     below : (i j : ℕ) → i < j → nat_lt i j ≡ true
     below i j lt = grind (arith, nat_tests)
+
     added : (b c : Bool) → b ≡ true → c ≡ false → (if b && not c then range_with_len 0 tag ++ tag ∷ [] else range_with_len 0 tag) ≡ range_with_len 0 tag ++ tag ∷ []
     added true true e f = cc
     added true false e f = refl

@@ -55,11 +55,14 @@ books_are_parts p floor frames h legal = record {
   where
     book : (k : ℕ) (o : Option Frame) → slice_get frames k ≡ o → book_at k (map book_of frames) ≡ book_in o
     book k o e = book_at-map frames k ∙ ap book_in e
+
     part : (k : ℕ) (o : Option Frame) → slice_get frames k ≡ o → StandsAt p floor k o → acts_of k floor.seen ≡ acts_noted (book_at k (map book_of frames))
     part k None e s = h.nobody_else k (omega (arith, h.count, none_past frames k e)) ∙ ap acts_noted (sym (book k None e))
     part k (Some f) e s = ap (λ n. acts_of n floor.seen) (sym s.tag) ∙ s.stands.acts ∙ ap acts_noted (sym (book k (Some f) e))
+
     reach : (k : ℕ) (f : Frame) → slice_get frames k ≡ Some f → FrameStands p floor k f → Reaches (code_of p k) (book_at k (map book_of frames)) (config_of f)
     reach k f e s = subst (λ b. Reaches (code_of p k) b (config_of f)) (sym (book k (Some f) e)) (subst (λ n. Reaches (code_of p n) (items_of f.book) (config_of f)) s.tag s.stands.reaches)
+
     run : (k : ℕ) → k < coroutine_count p → (o : Option Frame) → slice_get frames k ≡ o → StandsAt p floor k o → Runs (code_of p k) (book_at k (map book_of frames))
     run k lt None e s = absurd (omega (arith, lt, h.count, none_past frames k e))
     run k lt (Some f) e s = (config_of f, reach k f e s)
@@ -97,17 +100,22 @@ run_is_idle p floor frames idle ok h left done = record {
     flip : (b : Bool) → not b ≡ true → b ≡ false
     flip true e = cc
     flip false e = refl
+
     some : (k : ℕ) → k < coroutine_count p → slice_get frames k ≡ None → ⊥
     some k lt e = omega (arith, lt, h.count, none_past frames k e)
+
     reach : (k : ℕ) → k < coroutine_count p → (o : Option Frame) → slice_get frames k ≡ o → StandsAt p floor k o → Reaches (code_of p k) (book_at k (map book_of frames)) (config_in o)
     reach k lt None e s = absurd (some k lt e)
     reach k lt (Some f) e s = subst (λ b. Reaches (code_of p k) b (config_of f)) (sym (book_at-map frames k ∙ ap book_in e)) (subst (λ n. Reaches (code_of p n) (items_of f.book) (config_of f)) s.tag s.stands.reaches)
+
     leave : (k : ℕ) → k < coroutine_count p → (o : Option Frame) → slice_get frames k ≡ o → IsLeftAt p (replay floor.seen) k o → IsLeft k (code_of p k) (replay floor.seen) (config_in o).line (config_in o).stage
     leave k lt None e s = absurd (some k lt e)
     leave k lt (Some f) e s = s
+
     ends : (k : ℕ) → k < coroutine_count p → (o : Option Frame) → slice_get frames k ≡ o → StandsAt p floor k o → IsAtEnd p k o → config_in o ≡ running (length (code_of p k))
     ends k lt None e s q = absurd (some k lt e)
     ends k lt (Some f) e s q = at_end f.line f.stage (code_of p k) (subst (λ n. IsInside f.stage f.line (code_of p n)) s.tag s.stands.inside) q
+
     ended : (k : ℕ) (o : Option Frame) → slice_get frames k ≡ o → ((j : ℕ) → j < coroutine_count p → config_in (slice_get frames j) ≡ running (length (code_of p j))) → IsAtEnd p k o
     ended k None e all = tt
     ended k (Some f) e all = running_at_end (length (code_of p k)) (config_of f) (ap config_in (sym e) ∙ all k (omega (arith, h.count, within frames k f e)))

@@ -124,6 +124,7 @@ marked_push standing tag tags lt free h =
   where
     pushed : (other : ℕ) → stands_in (tags ++ tag ∷ []) other ≡ (stands_in tags other || ((tag == other) || false))
     pushed other = list_any-append (λ x. x == other) tags (tag ∷ [])
+
     by_test : (other : ℕ) (b : Bool) → (tag == other) ≡ b → get_or (set standing tag true) other false ≡ stands_in (tags ++ tag ∷ []) other
     by_test other true e =
         let same : tag ≡ other = eqb-true tag other e in

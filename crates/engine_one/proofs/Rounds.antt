@@ -32,10 +32,13 @@ advances_then p a b c xs ys zs r s t h k = ⊎_elim (λ u. ⊎_elim (λ v. both_
   where
     both_fall : MovesFall p xs ys → MovesFall p ys zs → Advances p a c xs zs r t
     both_fall u v = inl (omega (arith, u, v))
+
     then_still : MovesFall p xs ys → StandsStill p b c ys zs s t → Advances p a c xs zs r t
     then_still u v = let e = v.moves in inl (omega (arith, u, e))
+
     still_then : StandsStill p a b xs ys r s → MovesFall p ys zs → Advances p a c xs zs r t
     still_then u v = let e = u.moves in inl (omega (arith, e, v))
+
     both_still : StandsStill p a b xs ys r s → StandsStill p b c ys zs s t → Advances p a c xs zs r t
     both_still u v = inr (record { moves = v.moves ∙ u.moves; seen = v.seen ∙ u.seen; ready = v.ready ∙ u.ready })
 
@@ -44,6 +47,7 @@ moves_advance p a b xs ys r s h = ⊎_elim (λ (u : MovesFall p xs ys). few u) (
   where
     few : all_moves p ys < all_moves p xs → all_moves p ys ≤ all_moves p xs
     few u = omega (arith, u)
+
     same : all_moves p ys ≡ all_moves p xs → all_moves p ys ≤ all_moves p xs
     same e = omega (arith, e)
 
@@ -67,6 +71,7 @@ left_more p a b c ys zs tag ab bc others before here e k lt = by_test (k == tag)
   where
     first : b.seen ≡ a.seen
     first = between_same a.seen b.seen c.seen ab bc e
+
     by_test : (t : Bool) → (k == tag) ≡ t → IsLeftAt p (replay c.seen) k (slice_get zs k)
     by_test true q = subst (λ n. IsLeftAt p (replay c.seen) n (slice_get zs n)) (sym (eqb-true k tag q)) (here (e ∙ sym first))
     by_test false q =
@@ -88,6 +93,7 @@ round_waits p a b c xs ys zs r s t tag moved turn h longer others advances came 
     left Ended came n e = came e
     left Waits came n e = came e
     left Ready came n e = absurd (n refl)
+
     so_far_then : (moved : Bool) → SoFar p a b xs ys tag moved → SoFar p a c xs zs (tag + 1) moved
     so_far_then true k = falls_then p b c xs ys zs s t k advances
     so_far_then false k = left_more p a b c ys zs tag h.longer longer others k (left turn came n)
@@ -109,6 +115,7 @@ round_ends p a b xs ys r s tag false e count h = λ q k. at_each k (slice_get ys
   where
     beyond : (k : ℕ) (f : Frame) → slice_get ys k ≡ Some f → k < tag
     beyond k f at = omega (arith, e, count, within ys k f at)
+
     at_each : (k : ℕ) (o : Option Frame) → slice_get ys k ≡ o → (k < tag → IsLeftAt p (replay b.seen) k (slice_get ys k)) → IsLeftAt p (replay b.seen) k o
     at_each k None at left = tt
     at_each k (Some f) at left = subst (IsLeftAt p (replay b.seen) k) at (left (beyond k f at))

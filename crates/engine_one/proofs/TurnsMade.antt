@@ -54,6 +54,7 @@ turned_stand p old new frames k f g h lt read legal stands polled =
   where
     goes_on : FrameStands p old k f → g.stage ≢ Cancelled
     goes_on was e = was.goes_on (never_cancelled p old new f g polled (plain_seen p old new f g polled h.alone h.plain) e)
+
     kept : (j : ℕ) (o : Option Frame) → k ≢ j → FrameStands p old k f → StandsAt p old j o → StandsAt p new j o
     kept j None n was s = tt
     kept j (Some x) n was s = record {
@@ -61,6 +62,7 @@ turned_stand p old new frames k f g h lt read legal stands polled =
       stands = other_stands p old new f g x polled h.alone legal (λ e. n (sym was.tag ∙ e ∙ s.tag)) s.stands;
       goes_on = s.goes_on;
     }
+
     by_test : (j : ℕ) (b : Bool) → (k == j) ≡ b → FrameStands p old k f → StandsAt p new j (slice_get (set frames k g) j)
     by_test j true e was =
         let here : StandsAt p new k (slice_get (set frames k g) k) = subst (StandsAt p new k) (sym (slice_get-set_same frames k g lt)) (record { tag = polled.tag ∙ was.tag; stands = stands; goes_on = goes_on was }) in

@@ -22,7 +22,7 @@ pub returns-then-eq-clause-advances : goal.returns-then-eq-clause-advances
 returns-then-eq-clause-advances g c =
     let ready : c.in_ok-turn.turn ≡ Ready = search rules in
     turned_ready (program_of c.args.script.now) _ _ c.args.self.now.frames.items _ c.args.tag _ _ c.in_ok-turn.turn ready
-        (turned_came (program_of c.args.script.now) _ _ c.args.self.now.frames.items c.args.tag c.index_mut.result.now c.poll.new.frame c.in_ok-turn.turn c.requires.stand c.requires.within c.index_mut.ensures.value c.poll.ensures.stands c.poll.ensures.polled c.in_ok-turn.ensures.turn)
+    (turned_came (program_of c.args.script.now) _ _ c.args.self.now.frames.items c.args.tag c.index_mut.result.now c.poll.new.frame c.in_ok-turn.turn c.requires.stand c.requires.within c.index_mut.ensures.value c.poll.ensures.stands c.poll.ensures.polled c.in_ok-turn.ensures.turn)
 
 pub returns-then-eq-clause-turn : goal.returns-then-eq-clause-turn
 returns-then-eq-clause-turn g c = turned_came (program_of c.args.script.now) _ _ c.args.self.now.frames.items c.args.tag c.index_mut.result.now c.poll.new.frame c.in_ok-turn.turn c.requires.stand c.requires.within c.index_mut.ensures.value c.poll.ensures.stands c.poll.ensures.polled c.in_ok-turn.ensures.turn
