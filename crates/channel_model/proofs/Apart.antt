@@ -47,8 +47,8 @@ same_parts ch os os' rs rs' p q = ap (λ (xs : List Standing). record ch { queue
 pub without_none : (w : WaitId) (ch : Channel) → standing_of w ch ≡ 0 → without w ch ≡ ch
 without_none w ch e =
     same_parts ch _ _ _ _
-        (none_filtered (λ (o : Standing). is_held_by w o.holder) ch.queue (omega arith))
-        (none_filtered (λ (r : Receiver). same_wait w r.party.wait) ch.receivers (omega arith))
+    (none_filtered (λ (o : Standing). is_held_by w o.holder) ch.queue (omega arith))
+    (none_filtered (λ (r : Receiver). same_wait w r.party.wait) ch.receivers (omega arith))
 
 -- ---- fewer stand
 
@@ -60,10 +60,12 @@ once_fewer ch ch' f h = record { once = λ w. omega (arith, f.fewer w, h.once w)
 
 resolve_once : (w : WaitId) (how : Resolution) (s : State) → AllStandOnce s → AllStandOnce (resolve w how s)
 resolve_once w how s h c = once_fewer (s.channels c) (without w (s.channels c)) (record {
-    fewer = λ v. omega (arith,
-        filtered_less (λ (o : Standing). is_held_by v o.holder) (λ (o : Standing). not (is_held_by w o.holder)) (s.channels c).queue,
-        filtered_less (λ (r : Receiver). same_wait v r.party.wait) (λ (r : Receiver). not (same_wait w r.party.wait)) (s.channels c).receivers);
-  }) (h c)
+  fewer = λ v. omega (
+    arith,
+    filtered_less (λ (o : Standing). is_held_by v o.holder) (λ (o : Standing). not (is_held_by w o.holder)) (s.channels c).queue,
+    filtered_less (λ (r : Receiver). same_wait v r.party.wait) (λ (r : Receiver). not (same_wait w r.party.wait)) (s.channels c).receivers,
+  );
+}) (h c)
 
 first_once : (rs : List Receiver) (how : ℕ → Resolution) (s : State) → AllStandOnce s → AllStandOnce (resolve_first rs how s)
 first_once [] how s h = h
@@ -81,8 +83,8 @@ popped_less n m k r e h = omega arith
 
 popped_once : (c : ℕ) (o : Standing) (os : List Standing) (s : State) → (s.channels c).queue ≡ o ∷ os → AllStandOnce s → AllStandOnce (with_queue c os s)
 popped_once c o os s e h = put_once c _ s h (record {
-    once = λ w. popped_less _ _ _ _ (ap (how_many (λ (x : Standing). is_held_by w x.holder)) e) ((h c).once w);
-  })
+  once = λ w. popped_less _ _ _ _ (ap (how_many (λ (x : Standing). is_held_by w x.holder)) e) ((h c).once w);
+})
 
 remove_first_once : (c : ℕ) (os : List Standing) (s : State) → (s.channels c).queue ≡ os → AllStandOnce s → AllStandOnce (remove_first c os s)
 remove_first_once c [] s e h = h
@@ -215,7 +217,7 @@ without_first_receiver ch r rs h e =
     let held : Standing → Bool = λ o. is_held_by w o.holder in
     let k = spent_by_first (how_many held ch.queue) (how_many mine ch.receivers) (how_many mine rs) (same_wait w w) (h.once w) (ap (how_many mine) e) (same_wait-refl w) in
     same_parts ch _ _ _ _ (none_filtered held ch.queue k.0)
-        (ap (filter (λ (x : Receiver). not (mine x))) e ∙ ap (λ b. cond (not b) (r ∷ filter (λ (x : Receiver). not (mine x)) rs) (filter (λ (x : Receiver). not (mine x)) rs)) (same_wait-refl w) ∙ none_filtered mine rs k.1)
+    (ap (filter (λ (x : Receiver). not (mine x))) e ∙ ap (λ b. cond (not b) (r ∷ filter (λ (x : Receiver). not (mine x)) rs) (filter (λ (x : Receiver). not (mine x)) rs)) (same_wait-refl w) ∙ none_filtered mine rs k.1)
 
 held_by_own : (p : Party) (h : Option Party) → h ≡ Some p → is_held_by p.wait h ≡ true
 held_by_own p h e = ap (is_held_by p.wait) e ∙ same_wait-refl p.wait
@@ -229,4 +231,4 @@ pub without_first_holder : (ch : Channel) (o : Standing) (os : List Standing) (p
 without_first_holder ch o os p h e f =
     let held : Standing → Bool = λ x. is_held_by p.wait x.holder in
     without_none p.wait (record ch { queue = os })
-        (spent_by_holder (how_many (λ (r : Receiver). same_wait p.wait r.party.wait) ch.receivers) (how_many held ch.queue) (how_many held os) (is_held_by p.wait o.holder) (h.once p.wait) (ap (how_many held) e) (held_by_own p o.holder f))
+    (spent_by_holder (how_many (λ (r : Receiver). same_wait p.wait r.party.wait) ch.receivers) (how_many held ch.queue) (how_many held os) (is_held_by p.wait o.holder) (h.once p.wait) (ap (how_many held) e) (held_by_own p o.holder f))

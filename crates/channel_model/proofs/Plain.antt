@@ -146,8 +146,8 @@ none_admitted kind n (o ∷ os) e = or_false _ _ (and_false (is_some o.holder) (
 owes_plain : (kind : Kind) (ch : Channel) → keeps_none kind ≡ true → ch.closed ≡ None → ch.voided ≡ false → owes kind ch ≡ false
 owes_plain kind ch e f g =
     or_false _ _ (none_admitted kind 0 ch.queue e)
-        (or_false _ _ (ap (λ (x : Option ℕ). is_some x && stands_any ch.receivers) f)
-        (or_false _ _ (ap (λ (b : Bool). b && stands_any ch.queue) g) (none_dropped kind (length ch.queue) e)))
+    (or_false _ _ (ap (λ (x : Option ℕ). is_some x && stands_any ch.receivers) f)
+    (or_false _ _ (ap (λ (b : Bool). b && stands_any ch.queue) g) (none_dropped kind (length ch.queue) e)))
 
 pub plain_owes_nothing : (shape : Shape) (s : State) → IsPlain s → ((c : ℕ) → c < length shape → keeps_none (kind_at shape c) ≡ true) → OwesNothing shape s
 plain_owes_nothing shape s h k c lt = owes_plain (kind_at shape c) (s.channels c) (k c lt) (h.not_closed c) (h.not_voided c)

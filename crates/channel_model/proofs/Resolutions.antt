@@ -106,7 +106,7 @@ withdrawing : (who : ℕ) (w : WaitId) (how : Resolution) (s : State) → IsOpen
 withdrawing who w how s h v e =
     let k : w ≡ v = cc in
     subst (λ u. Turns IsResolvedWait u s.waits (resolve w how s).waits) k
-        (record { before = open_of who (s.waits w) h; now = subst IsResolvedWait (sym (at_wait w _ s.waits)) (made_withdrawn who how (s.waits w) h) })
+    (record { before = open_of who (s.waits w) h; now = subst IsResolvedWait (sym (at_wait w _ s.waits)) (made_withdrawn who how (s.waits w) h) })
 
 resolves_turns : (shape : Shape) (s : State) (who : ℕ) (act : Act) → AllStandOpen s → Needs shape s who act → (v : WaitId) → resolves s act ≡ Some v → Turns IsResolvedWait v s.waits (after s who act).waits
 resolves_turns shape s who (Hand c p x) h n v e = first_resolved c _ _ s (h c).receivers v e
@@ -138,7 +138,7 @@ settling : (who : ℕ) (outcome : Settled) (w : WaitId) (waits : WaitId → Opti
 settling who outcome w waits h v e =
     let k : w ≡ v = cc in
     subst (λ u. Turns IsSettledWait u waits (put_wait w (settled_wait (waits w)) waits)) k
-        (record { before = not_settled who outcome (waits w) h; now = subst IsSettledWait (sym (at_wait w _ waits)) (made_settled who outcome (waits w) h) })
+    (record { before = not_settled who outcome (waits w) h; now = subst IsSettledWait (sym (at_wait w _ waits)) (made_settled who outcome (waits w) h) })
 
 settles_turns : (shape : Shape) (s : State) (who : ℕ) (act : Act) → Needs shape s who act → (v : WaitId) → settles act ≡ Some v → Turns IsSettledWait v s.waits (after s who act).waits
 settles_turns shape s who (Hand c p x) n v e = cc
@@ -177,16 +177,16 @@ unfolding LegalFrom resolutions_from
 resolutions_from_bound shape w s [] h l = record { bound = omega arith; none = λ k. refl }
 resolutions_from_bound shape w s (e ∷ es) h l =
     one_more IsResolvedWait w (resolves s e.act) s.waits (after s e.who e.act).waits _ (resolves_turns shape s e.who e.act h l.0)
-        (always_keeps shape IsResolvedWait resolved_stays e.who w s e.act l.0)
-        (resolutions_from_bound shape w (after s e.who e.act) es (after_open s e.who e.act h) l.1)
+    (always_keeps shape IsResolvedWait resolved_stays e.who w s e.act l.0)
+    (resolutions_from_bound shape w (after s e.who e.act) es (after_open s e.who e.act h) l.1)
 
 settlements_from_bound : (shape : Shape) (w : WaitId) (s : State) (es : List Entry) → LegalFrom shape s es → AtMostOne IsSettledWait (s.waits w) (settlements_of w es)
 unfolding LegalFrom settlements_of
 settlements_from_bound shape w s [] l = record { bound = omega arith; none = λ k. refl }
 settlements_from_bound shape w s (e ∷ es) l =
     one_more IsSettledWait w (settles e.act) s.waits (after s e.who e.act).waits _ (settles_turns shape s e.who e.act l.0)
-        (always_keeps shape IsSettledWait settled_stays e.who w s e.act l.0)
-        (settlements_from_bound shape w (after s e.who e.act) es l.1)
+    (always_keeps shape IsSettledWait settled_stays e.who w s e.act l.0)
+    (settlements_from_bound shape w (after s e.who e.act) es l.1)
 
 pub resolutions_of_bound : (shape : Shape) (history : List Entry) (w : WaitId) → Legal shape history → resolutions_of w history ≤ 1
 resolutions_of_bound shape history w l = (resolutions_from_bound shape w start history start_open l).bound

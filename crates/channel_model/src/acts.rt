@@ -99,7 +99,10 @@ pub enum Act {
         value: Value,
     },
     /// Lets a held offer be kept, so that its sender waits no more.
-    Admit { c: ChannelId, place: Place },
+    Admit {
+        c: ChannelId,
+        place: Place,
+    },
     /// Drops the first offer of a queue that is too long.
     Drop {
         c: ChannelId,
@@ -107,9 +110,14 @@ pub enum Act {
         value: Value,
     },
     /// Closes the channel with a value.
-    Close { c: ChannelId, value: Value },
+    Close {
+        c: ChannelId,
+        value: Value,
+    },
     /// Cancels a closed channel: nothing of it is received any more.
-    Void { c: ChannelId },
+    Void {
+        c: ChannelId,
+    },
     /// Removes the first offer of a cancelled channel.
     Drain {
         c: ChannelId,
@@ -117,11 +125,20 @@ pub enum Act {
         value: Value,
     },
     /// Tells the first receiver that the channel is closed.
-    WakeClosed { c: ChannelId, place: Place },
+    WakeClosed {
+        c: ChannelId,
+        place: Place,
+    },
     /// Takes a wait back that nobody resolved.
-    Withdraw { w: WaitId, why: Why },
+    Withdraw {
+        w: WaitId,
+        why: Why,
+    },
     /// Ends a wait that was resolved.
-    Settle { w: WaitId, outcome: Settled },
+    Settle {
+        w: WaitId,
+        outcome: Settled,
+    },
 }
 
 /// An act, and the coroutine that made it.
