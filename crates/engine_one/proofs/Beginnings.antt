@@ -17,7 +17,7 @@ use Rattle.poll_states.specs.declared.frame.Stage.TheVariants.{Running, Cancelle
 use Rattle.poll_states.proofs.Turns.{fresh_stands}
 use Rattle.engine_one.specs.Tags.{stands_in, with_tag}
 use Rattle.engine_one.specs.Coroutines.{FrameStands, StandsAt, AllStand, IsFresh, IsFreshAt, AllFresh, IsUnused}
-use Rattle.engine_one.proofs.Lists.{within}
+use Rattle.engine_one.proofs.Lists.{within, pushed_at}
 
 -- ---- all tags in their order
 
@@ -85,3 +85,6 @@ all_begin p floor frames unused count fresh = record {
     at_each : (k : ℕ) (o : Option Frame) → slice_get frames k ≡ o → IsFreshAt k o → StandsAt p floor k o
     at_each k None e h = tt
     at_each k (Some f) e h = fresh_frame p floor k f unused (omega (arith, count, within frames k f e)) h
+
+pub fresh_more : (frames : List Frame) (k : ℕ) (f : Frame) → length frames ≡ k → AllFresh frames → IsFresh k f → AllFresh (frames ++ f ∷ [])
+fresh_more frames k f count all fresh = pushed_at IsFreshAt frames f (λ n. tt) all (subst (λ n. IsFresh n f) (sym count) fresh)

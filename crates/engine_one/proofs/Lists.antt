@@ -1,6 +1,6 @@
 -- Lists of which one element is changed.
-use Rattle.std.proofs.Common.{◌≡◌, ◌≢◌, ℕ, ◌<◌, Bool, true, false, ◌&&◌, List, [], ◌∷◌, ◌++◌, length, get_or, set, zero, suc, Some, refl, ap, sym, ◌∙◌, arith, slice_get}
-use Rattle.std.specs.List.{list_all, sum_by}
+use Rattle.std.proofs.Common.{Option, None, ◌≡◌, ◌≢◌, ℕ, ◌<◌, List, [], ◌∷◌, ◌++◌, length, get_or, set, zero, suc, Some, refl, ap, sym, arith, slice_get}
+use Rattle.std.specs.List.{sum_by}
 use Rattle.std.proofs.lemmas.List.Sums.{sum_by-set}
 
 pub slice_get-set_same : {A : Type 0} (xs : List A) (k : ℕ) (y : A) → k < length xs → slice_get (set xs k y) k ≡ Some y
@@ -38,18 +38,14 @@ sum_by-set_same f xs k x y lt at same =
     let here : f (get_or xs k x) ≡ f x = ap f (slice_get-get_or xs k x x at) in
     omega (arith, sums, here, same)
 
-pub both_true : (a b : Bool) → (a && b) ≡ true → (a ≡ true) × (b ≡ true)
-both_true true true e = (refl, refl)
-both_true true false e = cc
-both_true false b e = cc
-
-pub list_all-append : {A : Type 0} (test : A → Bool) (xs ys : List A) → list_all test xs ≡ true → list_all test ys ≡ true → list_all test (xs ++ ys) ≡ true
-list_all-append test [] ys h k = k
-list_all-append test (x ∷ xs) ys h k =
-    let parts = both_true (test x) (list_all test xs) h in
-    ap (λ b. b && list_all test (xs ++ ys)) parts.0 ∙ list_all-append test xs ys parts.1 k
-
 pub within : {A : Type 0} (xs : List A) (k : ℕ) (x : A) → slice_get xs k ≡ Some x → k < length xs
 within [] k x e = cc
 within (y ∷ xs) zero x e = omega arith
 within (y ∷ xs) (suc k) x e = let h = within xs k x e in omega (arith, h)
+
+-- what holds of every place holds of every place of a list that has one element more
+pub pushed_at : {A : Type 0} (P : ℕ → Option A → Type 0) (xs : List A) (y : A) → ((k : ℕ) → P k None) → ((k : ℕ) → P k (slice_get xs k)) → P (length xs) (Some y) → (k : ℕ) → P k (slice_get (xs ++ y ∷ []) k)
+pushed_at P [] y none all here zero = here
+pushed_at P [] y none all here (suc k) = none (suc k)
+pushed_at P (x ∷ xs) y none all here zero = all zero
+pushed_at P (x ∷ xs) y none all here (suc k) = pushed_at (λ n. P (suc n)) xs y (λ n. none (suc n)) (λ n. all (suc n)) here k

@@ -6,7 +6,7 @@ use Rattle.std.proofs.lemmas.Bool.Decides.{nat_tests}
 use mathlib.Core.List.{IsPrefix}
 use Rattle.channel_model.specs.Histories.{replay}
 use Rattle.channel_model.specs.Floors.{Floor}
-use Rattle.channel_model.proofs.Spans.{prefix_self, prefix_then}
+use Rattle.channel_model.proofs.Spans.{prefix_then}
 use Rattle.script_reader.specs.Programs.{Program, coroutine_count}
 use Rattle.poll_states.specs.declared.frame.Frame.{Frame}
 use Rattle.poll_states.specs.declared.frame.Turn.{Turn}
@@ -50,13 +50,6 @@ moves_advance p a b xs ys r s h = ⊎_elim (λ (u : MovesFall p xs ys). few u) (
 
     same : all_moves p ys ≡ all_moves p xs → all_moves p ys ≤ all_moves p xs
     same e = omega (arith, e)
-
-pub round_begins : (p : Program) (old : Floor) (frames : List Frame) (tags : List ℕ) → RoundSoFar p old old frames frames tags tags 0 false
-round_begins p old frames tags = record {
-  longer = prefix_self old.seen;
-  advances = inr (record { moves = refl; seen = refl; ready = refl });
-  so_far = λ e k lt. absurd (omega (arith, lt));
-}
 
 -- fewer moves are left after a turn more
 falls_then : (p : Program) (b c : Floor) (xs ys zs : List Frame) (s t : List ℕ) → MovesFall p xs ys → Advances p b c ys zs s t → MovesFall p xs zs

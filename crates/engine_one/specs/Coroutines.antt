@@ -19,11 +19,13 @@ pub record FrameStands (p : Program) (floor : Floor) (k : ℕ) (f : Frame) : Typ
   pub stands : StandsOn p floor f
   pub goes_on : f.stage ≢ Cancelled
 
+-- the same of the frame at place k, where there is one
 abbrev pub StandsAt : Program → Floor → ℕ → Option Frame → Type 0
 StandsAt p floor k None = Unit {0}
 StandsAt p floor k (Some f) = FrameStands p floor k f
 
--- the frames are those of the script's coroutines in order of their tags, and nobody else made an entry
+-- the frames are those of the script's coroutines in order of their tags, on a floor that they alone call, where no act closes
+-- a channel, drops an element or takes a wait back
 pub record AllStand (p : Program) (floor : Floor) (frames : List Frame) : Type 0 where
   pub shape : floor.shape ≡ shape_of p
   pub count : length frames ≡ coroutine_count p
@@ -39,6 +41,7 @@ pub record IsFresh (k : ℕ) (f : Frame) : Type 0 where
   pub stage : f.stage ≡ Running
   pub book : items_of f.book ≡ []
 
+-- the same of the frame at place k, where there is one
 abbrev pub IsFreshAt : ℕ → Option Frame → Type 0
 IsFreshAt k None = Unit {0}
 IsFreshAt k (Some f) = IsFresh k f
@@ -56,13 +59,15 @@ IsLeftAt p s k (Some f) = IsLeft k (code_of p k) s f.line f.stage
 abbrev pub AllLeft : Program → State → List Frame → Type 0
 AllLeft p s frames = (k : ℕ) → IsLeftAt p s k (slice_get frames k)
 
+-- an upper bound of the moves that a coroutine has left
 abbrev pub frame_moves : Program → Frame → ℕ
 frame_moves p f = moves_left (code_of p f.tag) f.line f.stage
 
--- an upper bound of the moves that are left
+-- an upper bound of the moves that all have left
 abbrev pub all_moves : Program → List Frame → ℕ
 all_moves p frames = sum_by (frame_moves p) frames
 
+-- what the coroutine noted
 abbrev pub book_of : Frame → List ChannelNote
 book_of f = items_of f.book
 
@@ -71,6 +76,7 @@ abbrev pub IsAtEnd : Program → ℕ → Option Frame → Type 0
 IsAtEnd p k None = Unit {0}
 IsAtEnd p k (Some f) = is_at_end (length (code_of p k)) f.line f.stage ≡ true
 
+-- each coroutine is at the end of its code
 abbrev pub AllAtEnd : Program → List Frame → Type 0
 AllAtEnd p frames = (k : ℕ) → IsAtEnd p k (slice_get frames k)
 

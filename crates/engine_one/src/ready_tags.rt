@@ -17,7 +17,6 @@ pub struct ReadyTags {
     standing: Vec<bool>,
     ghost few: { vec_len standing ≤ 65536 },
     ghost room: { vec_len standing ≤ deque_capacity tags },
-
     ghost marked: { AreMarked standing.items tags.items } by { Prim.hlevel props },
 }
 
@@ -32,6 +31,7 @@ impl ReadyTags {
         Ok(ReadyTags { tags, standing })
     }
 
+    /// Whether no tag is to be polled.
     pub fn is_empty(&self) -> bool
         ensures { result ≡ (length self.now.tags.items == 0) }
     {

@@ -56,7 +56,7 @@ impl<C: ChannelFloor> Run<C> {
         Ok(())
     }
 
-    /// Polls every coroutine once, in order of tags. The answer says whether one of them made a move.
+    /// Polls every coroutine once, in order of tags. The answer says whether one of them is ready to go on.
     pub(crate) fn round<G: Gate>(&mut self, script: &Script, gate: &G) -> Result<bool, Memory>
         requires { AllStand (program_of script.now) (C.view self.old.channels) self.old.frames.items }
         ensures stand { AllStand (program_of script.now) (C.view self.new.channels) self.new.frames.items }
