@@ -30,10 +30,11 @@ element_of acts c p = with_fate (element_at c p acts) (fate_at c p acts)
 
 -- ---- their lines
 
+-- the line of an element, with the word for its fate
 abbrev pub fate_line : List ℕ → ℕ → ℕ → List ℕ → List ℕ
 fate_line name place value word = codes "element " ++ name ++ codes " " ++ decimal place ++ codes " " ++ decimal value ++ codes " " ++ word ++ codes "\n"
 
--- an element that was received has no line
+-- the line of an element; one that was received has none
 abbrev pub unless_received : List ℕ → ℕ → ℕ → Fate → List ℕ
 unless_received name place value fate.Received = []
 unless_received name place value fate.Undelivered = fate_line name place value (codes "undelivered")
@@ -41,6 +42,7 @@ unless_received name place value fate.Dropped = fate_line name place value (code
 unless_received name place value fate.Withdrawn = fate_line name place value (codes "withdrawn")
 unless_received name place value fate.Held = fate_line name place value (codes "held")
 
+-- the line of a place, if it has an element
 abbrev pub element_line : List ℕ → ℕ → Option (ℕ × Fate) → List ℕ
 element_line name place None = []
 element_line name place (Some x) = unless_received name place x.0 x.1

@@ -45,6 +45,7 @@ joined x y = record {
   withdrawn = x.withdrawn || y.withdrawn;
 }
 
+-- what an act says of the place that it names
 abbrev pub at_place : ℕ → ℕ → Facts → Option (WaitId × Facts)
 at_place c p facts = Some (record { channel = c; place = p }, facts)
 

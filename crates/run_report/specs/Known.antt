@@ -16,17 +16,19 @@ abbrev pub facts_of_wait : (ℕ → ℕ → Facts) → Option WaitId → Facts
 facts_of_wait facts None = nothing
 facts_of_wait facts (Some w) = facts w.channel w.place
 
--- a received element: it was taken, or handed to a receiver that ended with a value
+-- the element was taken, or handed to a receiver that ended with a value
 abbrev pub has_received : Facts → Facts → Bool
 has_received here wait = here.taken || (here.handed && wait.received)
 
--- an offer that was not admitted and whose wait was withdrawn
+-- the offer was not admitted, and its wait was withdrawn
 abbrev pub has_withdrawn : Facts → Facts → Bool
 has_withdrawn here wait = not here.admitted && wait.withdrawn
 
+-- the element went to the undelivered handler: drained, given up by its receiver, or taken back by a plain send
 abbrev pub has_given_up : Facts → Facts → Bool
 has_given_up here wait = here.drained || ((here.handed && wait.gave_up) || of_offer (λ k. (k == 0) && has_withdrawn here wait) here.clause)
 
+-- a select took its offer back, or chose another clause
 abbrev pub has_left : Facts → Facts → Bool → Bool
 has_left here wait elsewhere = of_offer (λ k. nat_lt 0 k && (has_withdrawn here wait || (not here.admitted && elsewhere))) here.clause
 

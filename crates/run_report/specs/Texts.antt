@@ -32,11 +32,12 @@ place_text channels c place = channel_text channels c ++ codes " " ++ decimal pl
 abbrev pub wait_text : List Declared → WaitId → List ℕ
 wait_text channels w = channel_text channels w.channel ++ codes "." ++ decimal w.place
 
+-- why a wait was withdrawn
 abbrev pub why_text : Why → List ℕ
 why_text why.Cancelled = codes "cancelled"
 why_text why.Revoked = codes "revoked"
 
--- how a wait ended, with the clause first
+-- how a wait ended, the clause before the value
 abbrev pub settled_text : Settled → List ℕ
 settled_text (settled.Value clause value) = codes "value " ++ decimal clause ++ codes " " ++ decimal value
 settled_text (settled.Sent clause) = codes "sent " ++ decimal clause
@@ -46,6 +47,7 @@ settled_text (settled.Undelivered value) = codes "undelivered " ++ decimal value
 
 -- ---- the items of a book
 
+-- an act: its word, and then what it names
 abbrev pub act_text : List Declared → Act → List ℕ
 act_text channels (Hand c place value) = codes "hand " ++ place_text channels c place ++ codes " " ++ decimal value
 act_text channels (Put c place value) = codes "put " ++ place_text channels c place ++ codes " " ++ decimal value
@@ -61,6 +63,7 @@ act_text channels (WakeClosed c place) = codes "wakeclosed " ++ place_text chann
 act_text channels (Withdraw w why) = codes "withdraw " ++ wait_text channels w ++ codes " " ++ why_text why
 act_text channels (Settle w outcome) = codes "settle " ++ wait_text channels w ++ codes " " ++ settled_text outcome
 
+-- an item: an act, or the answer of a call that made none
 abbrev pub item_text : List Declared → ChannelNote → List ℕ
 item_text channels (note.Made act) = act_text channels act
 item_text channels (note.SendClosed c value v) = codes "sendclosed " ++ channel_text channels c ++ codes " " ++ decimal value ++ codes " " ++ decimal v

@@ -9,7 +9,8 @@ use std::alloc::{AllocError, Global};
 
 /// A value for each place of each channel: the plain one where none was set.
 ///
-/// A channel's row reaches up to its last place that was set, so a table takes memory for the places that were used.
+/// A channel's row reaches up to its last place that was set. Places are given out in order, so the memory that the
+/// books of a run need is linear in their items.
 #[derive(Drop)]
 pub(crate) struct Table<T> {
     rows: Vec<Vec<T>>,
