@@ -1,8 +1,6 @@
 -- What a text says of an input.
-use Rattle.std.specs.Prelude.{◌≡◌, ◌≢◌, ℕ, ◌<◌, ◌≤◌, Bool, true, false, not, List, length, Result, Ok, Err, nat_lt, if◌then◌else◌, refl}
+use Rattle.std.specs.Prelude.{◌≡◌, ◌≢◌, ℕ, ◌≤◌, List, length, Err, refl}
 use Rattle.std.proofs.Common.{arith}
-use Rattle.channel_model.specs.declared.acts.ChannelNote.{ChannelNote}
-use Rattle.channel_model.specs.declared.acts.Entry.{Entry}
 use Rattle.script_reader.specs.declared.fault.FaultKind.TheVariants.{NotAscii, UnknownWord, BadNumber, BadName, Duplicate, Undeclared, NoMain, NoEnd, Extra, TooDeep, TooMany, Recursive, Memory}
 use Rattle.script_reader.specs.declared.fault.FaultKind.{FaultKind}
 use Rattle.script_reader.specs.Faults.{Unless}
@@ -11,9 +9,7 @@ use Rattle.script_reader.specs.declared.fault.ScriptFault.{ScriptFault}
 use Rattle.script_reader.specs.Grammar.{Spells}
 use Rattle.script_reader.specs.Programs.{Program}
 use Rattle.script_reader.specs.Texts.{first_scripts}
-use Rattle.poll_states.specs.Parts.{BooksOf, IsIdle}
-use Rattle.run_report.specs.Elements.{report_text}
-use Rattle.coroutine_cli.specs.Statuses.{Reports, Refuses}
+use Rattle.coroutine_cli.specs.Statuses.{Refuses}
 
 pub first_scripts-too_long : (input : List ℕ) → length input ≡ 1048577 → first_scripts input ≡ Err (record { line = 1; kind = TooMany })
 unfolding first_scripts

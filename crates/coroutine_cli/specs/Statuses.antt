@@ -1,8 +1,7 @@
 -- What each status says of the words, of what was read and of what was written.
-use Rattle.std.specs.Prelude.{◌≡◌, ℕ, ◌≤◌, Bool, true, false, ◌&&◌, List, [], ◌∷◌, length, take, Option, Result, Ok, Err}
+use Rattle.std.specs.Prelude.{◌≡◌, ℕ, ◌≤◌, Bool, true, false, ◌&&◌, List, [], ◌∷◌, length, Option, Ok, Err}
 use lib.Chars.{codes}
 use Rattle.std.specs.Str.{bytes_eq}
-use Rattle.co_base.specs.declared.names.WaitId.{WaitId}
 use Rattle.co_base.specs.Streams.{Rose, Gave, IsDrained, Took, TookPart}
 use Rattle.channel_model.specs.declared.acts.ChannelNote.{ChannelNote}
 use Rattle.channel_model.specs.declared.acts.Entry.{Entry}
