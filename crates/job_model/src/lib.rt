@@ -1,0 +1,26 @@
+//! The model of Jobs: what a call may add to their history, and what tree of Jobs the history then leaves.
+//!
+//! A history is a list of entries, each an act of one caller. Every act is one step on one tree, and the tree
+//! after a history follows from the entries alone (`specs/`). What a floor of Jobs promises to all above it is the
+//! trait `JobFloor`.
+//!
+//! | state | begins by | ends by |
+//! |---|---|---|
+//! | New | Attach of a lazy Job | Start, Cancel |
+//! | Active | Attach, Start | EndBody, Cancel |
+//! | Completing | EndBody | Finish, Cancel |
+//! | Cancelling | Cancel, Attach under a Cancelling parent | Finish |
+//! | Completed, Cancelled | Finish | nothing |
+//!
+//! - `acts`: the states and kinds of Jobs, the acts, and what a coroutine notes of its calls.
+//! - `floor`: the answers of calls, and the trait.
+//! - `laws`: what holds in every legal history.
+#![tactic(auto)]
+
+mod acts;
+mod floor;
+
+pub use acts::{Cause, End, JobAct, JobEntry, JobKind, JobNote, JobState, Reason};
+pub use floor::{
+    AttachError, Attached, CancelledNow, Ended, Finished, JobFloor, JobView, Link,
+};
