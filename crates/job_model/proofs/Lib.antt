@@ -1,0 +1,4 @@
+pub mod Histories
+pub mod Once
+pub mod Steps
+pub mod Families

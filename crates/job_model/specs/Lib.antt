@@ -6,3 +6,4 @@ pub mod Histories
 pub mod Families
 pub mod Floors
 pub mod Answers
+pub mod Laws

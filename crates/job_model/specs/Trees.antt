@@ -1,5 +1,5 @@
 -- The tree of Jobs.
-use Rattle.std.specs.Prelude.{ℕ, ◌==◌, Bool, true, false, not, ◌&&◌, ◌||◌, List, [], ◌∷◌, filter, Option, Some, None, if◌then◌else◌}
+use Rattle.std.specs.Prelude.{ℕ, ◌==◌, ◌<◌, ◌≤◌, Bool, true, false, not, ◌&&◌, ◌||◌, List, [], ◌∷◌, filter, Option, Some, None, if◌then◌else◌}
 use Rattle.std.specs.List.{list_any}
 use Rattle.job_model.specs.declared.acts.JobState.{JobState}
 use Rattle.job_model.specs.declared.acts.JobState.TheVariants.{New, Active, Completing, Cancelling, Cancelled, Completed}
@@ -11,6 +11,11 @@ use Rattle.job_model.specs.declared.acts.Cause.TheVariants as because
 pub record Shape : Type 0 where
   pub coroutines : ℕ
   pub rows : ℕ
+
+-- there is a root, and each coroutine has a row
+pub record IsShape (shape : Shape) : Type 0 where
+  pub some : 0 < shape.coroutines
+  pub fit : shape.coroutines ≤ shape.rows
 
 pub record Job : Type 0 where
   -- none for the root

@@ -1,6 +1,7 @@
 //! The one contract between Jobs and all above.
 
 ghost use Rattle.std.specs.Prelude.{◌≡◌, ◌≢◌, ◌<◌, true, OnOk, OnErr};
+ghost use Rattle.job_model.specs.Trees.{IsShape};
 ghost use Rattle.job_model.specs.Needs.{MayEndBody, MayTell, Holds};
 ghost use Rattle.job_model.specs.Histories.{replay, Legal};
 ghost use Rattle.job_model.specs.Floors.{Floor, HasRoom, MayCall, HasClaims};
@@ -170,6 +171,7 @@ pub trait JobFloor {
         ensures anchor { anchor self.new ≡ anchor self.old }
         ensures answer { LinkAnswer who row (view self.old) (view self.new) result };
 
+    ghost shaped: { (s : Self) → IsShape (view s).shape };
     ghost legal: { (s : Self) → Legal (view s).shape (view s).seen };
     ghost claimed: { (s : Self) → HasClaims (view s) };
 }

@@ -1,0 +1,26 @@
+-- The words of what holds in every legal history.
+use Rattle.std.specs.Prelude.{◌≡◌, ℕ, ◌==◌, ◌≤◌, Bool, true, false, List, [], ◌∷◌, Option, Some, None, is_some}
+use Rattle.std.specs.List.{IsDistinct}
+use Rattle.job_model.specs.Trees.{Shape, Job, Tree, is_ended, is_among, is_none_left, living, was_told, parent_of}
+use Rattle.job_model.specs.Families.{IsEnded, children_of}
+
+-- ---- families
+
+-- a Job has a finisher exactly where it has ended; then its body has ended, and no child of it lives
+pub record IsSoundJob (j : Job) : Type 0 where
+  pub finished : is_some j.finisher ≡ is_ended j.state
+  pub bodiless : is_ended j.state ≡ true → j.body_ended ≡ true
+  pub childless : is_ended j.state ≡ true → is_none_left (living j) ≡ true
+
+abbrev pub IsSoundRow : Option Job → Type 0
+IsSoundRow None = Unit {0}
+IsSoundRow (Some j) = IsSoundJob j
+
+-- parents and children name each other, each child once; a child that was told gone has ended
+pub record HasFamilies (tree : Tree) : Type 0 where
+  pub rows : (r : ℕ) → IsSoundRow (tree r)
+  pub parents : (p c : ℕ) → is_among c (children_of (tree p)) ≡ true → parent_of (tree c) ≡ Some p
+  pub listed : (p c : ℕ) → parent_of (tree c) ≡ Some p → is_among c (children_of (tree p)) ≡ true
+  pub once : (p : ℕ) → IsDistinct (λ c d. c == d) (children_of (tree p))
+  pub root : (r : ℕ) → is_some (tree r) ≡ true → parent_of (tree r) ≡ None → r ≡ 0
+  pub gone : (p c : ℕ) → was_told c (tree p) ≡ true → IsEnded (tree c)
