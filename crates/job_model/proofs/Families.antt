@@ -17,12 +17,12 @@ use Rattle.job_model.specs.declared.acts.End.TheVariants as ends
 use Rattle.job_model.specs.declared.acts.JobAct.{JobAct}
 use Rattle.job_model.specs.declared.acts.JobAct.TheVariants.{Attach, Start, EndBody, Cancel, Finish, Gone}
 use Rattle.job_model.specs.declared.acts.JobEntry.{JobEntry}
-use Rattle.job_model.specs.Trees.{Shape, Job, Tree, root, start, parent_of, is_among, was_told, is_ended, is_cancellable, living, is_none_left}
+use Rattle.job_model.specs.Trees.{Shape, Job, Tree, root, start, parent_of, is_among, was_told, is_new, is_ended, is_cancellable, living, is_none_left}
 use Rattle.job_model.specs.Effects.{after, new_child, with_child, started, without_body, state_after_body, cancelled_for, ended_by, with_told, first_state, state_of_end, put_row, change}
 use Rattle.job_model.specs.Needs.{Needs, MayHaveChild, MayFinish, IsFinishedBy}
 use Rattle.job_model.specs.Families.{IsEnded, children_of}
 use Rattle.job_model.specs.Histories.{replay, replay_from, Legal, LegalFrom}
-use Rattle.job_model.specs.Laws.{IsSoundJob, IsSoundRow, HasFamilies}
+use Rattle.job_model.specs.Laws.{is_running, is_bodiless, IsSoundJob, IsSoundRow, HasFamilies}
 use Rattle.job_model.proofs.Steps.{RowStep, row_step}
 
 -- ---- lists of rows
@@ -217,23 +217,39 @@ not_ended Cancelling e = cc
 not_ended Cancelled e = cc
 not_ended Completed e = cc
 
+not_running : (s : JobState) → is_new s ≡ false → is_running (state_after_body s) ≡ true → ⊥
+not_running New n e = cc
+not_running Active n e = cc
+not_running Completing n e = cc
+not_running Cancelling n e = cc
+not_running Cancelled n e = cc
+not_running Completed n e = cc
+
+first_running : (cancelled lazy : Bool) → is_bodiless (first_state cancelled lazy) ≡ true → ⊥
+first_running true lazy e = cc
+first_running false true e = cc
+first_running false false e = cc
+
+end_not_running : (end : End) → is_running (state_of_end end) ≡ true → ⊥
+end_not_running (ends.Completed v) e = cc
+end_not_running (ends.Cancelled cause) e = cc
+
 step_sound : (shape : Shape) (tree : Tree) (who q : ℕ) (act : JobAct) (x y : Option Job) → RowStep shape tree who q act x y → IsSoundRow x → IsSoundRow y
 step_sound shape tree who q _ _ _ (RowStep.is_attached p kind tag cancelled m i) h =
-    let e : false ≡ is_ended (first_state cancelled kind.lazy) = sound_child cancelled kind.lazy in
-    record { finished = e; bodiless = λ f. absurd (let k : false ≡ true = e ∙ f in cc); childless = λ f. refl }
+    record { finished = sound_child cancelled kind.lazy; running = λ f. refl; bodiless = λ f. absurd (first_running cancelled kind.lazy f); childless = λ f. refl }
 step_sound shape tree who q _ _ _ (RowStep.has_child r kind tag cancelled j none m) h =
-    record { finished = h.finished; bodiless = h.bodiless; childless = λ f. absurd (let k : false ≡ true = sym m.0 ∙ f in cc) }
+    record { finished = h.finished; running = h.running; bodiless = h.bodiless; childless = λ f. absurd (let k : false ≡ true = sym m.0 ∙ f in cc) }
 step_sound shape tree who q _ _ _ (RowStep.is_started j n) h =
     let e : is_ended j.state ≡ false = ap is_ended n in
-    record { finished = h.finished ∙ e; bodiless = λ f. cc; childless = λ f. cc }
+    record { finished = h.finished ∙ e; running = λ f. h.running (ap is_running n); bodiless = λ f. cc; childless = λ f. cc }
 step_sound shape tree who q _ _ _ (RowStep.body_ends v j m) h =
-    record { finished = h.finished ∙ body_ended_is j.state; bodiless = λ f. refl; childless = λ f. h.childless (body_ended_is j.state ∙ f) }
+    record { finished = h.finished ∙ body_ended_is j.state; running = λ f. absurd (not_running j.state m.1 f); bodiless = λ f. refl; childless = λ f. h.childless (body_ended_is j.state ∙ f) }
 step_sound shape tree who q _ _ _ (RowStep.is_cancelled reason j m o) h =
-    record { finished = h.finished ∙ not_ended j.state m; bodiless = λ f. cc; childless = λ f. cc }
+    record { finished = h.finished ∙ not_ended j.state m; running = λ f. cc; bodiless = λ f. cc; childless = λ f. cc }
 step_sound shape tree who q _ _ _ (RowStep.ends end j m) h =
-    record { finished = finisher_is who end; bodiless = λ f. m.0; childless = λ f. m.1 }
+    record { finished = finisher_is who end; running = λ f. absurd (end_not_running end f); bodiless = λ f. m.0; childless = λ f. m.1 }
 step_sound shape tree who q _ _ _ (RowStep.is_told c j m p) h =
-    record { finished = h.finished; bodiless = h.bodiless; childless = λ f. none_left_of_less _ _ j.children (λ d. not_among_more d c j.told) (h.childless f) }
+    record { finished = h.finished; running = h.running; bodiless = h.bodiless; childless = λ f. none_left_of_less _ _ j.children (λ d. not_among_more d c j.told) (h.childless f) }
 step_sound shape tree who q _ _ _ (RowStep.stays act x a b c d f) h = h
 
 -- ---- families
@@ -382,7 +398,7 @@ start_root r a = by_test (r == 0) refl a
 pub start_families : HasFamilies start
 unfolding IsDistinct
 start_families = record {
-  rows = λ r. at_start IsSoundRow (record { finished = refl; bodiless = λ f. cc; childless = λ f. refl }) tt r;
+  rows = λ r. at_start IsSoundRow (record { finished = refl; running = λ f. refl; bodiless = λ f. cc; childless = λ f. refl }) tt r;
   parents = λ p c e. absurd (at_start (λ x. is_among c (children_of x) ≡ true → ⊥) (λ f. cc) (λ f. cc) p e);
   listed = λ p c e. absurd (at_start (λ x. parent_of x ≡ Some p → ⊥) (λ f. cc) (λ f. cc) c e);
   once = λ p. at_start (λ x. IsDistinct (λ c d. c == d) (children_of x)) tt tt p;

@@ -56,6 +56,12 @@ pub record HasClaims (floor : Floor) : Type 0 where
   pub attached : (r t : ℕ) → attacher r floor.seen ≡ Some t → floor.claims r ≡ Some t
   pub within : (r : ℕ) → floor.shape.rows ≤ r → floor.claims r ≡ None
 
+-- a floor as it is made
+pub record IsFreshFloor (size : Shape) (floor : Floor) : Type 0 where
+  pub shape : floor.shape ≡ size
+  pub seen : floor.seen ≡ []
+  pub claims : (r : ℕ) → floor.claims r ≡ (if r == 0 then Some 0 else None)
+
 -- who claimed these rows, which nobody had claimed; others may have claimed theirs
 pub record Claimed (who : ℕ) (rows : List ℕ) (old new : Floor) : Type 0 where
   pub kept : (r t : ℕ) → old.claims r ≡ Some t → new.claims r ≡ Some t

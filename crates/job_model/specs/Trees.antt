@@ -71,6 +71,15 @@ is_new Cancelling = false
 is_new Cancelled = false
 is_new Completed = false
 
+-- Active or Completing
+abbrev pub is_active : JobState → Bool
+is_active New = false
+is_active Active = true
+is_active Completing = true
+is_active Cancelling = false
+is_active Cancelled = false
+is_active Completed = false
+
 -- it may still be cancelled
 abbrev pub is_cancellable : JobState → Bool
 is_cancellable New = true

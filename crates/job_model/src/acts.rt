@@ -1,5 +1,8 @@
 //! The acts on Jobs, and what a coroutine notes of its calls.
 
+ghost use Rattle.std.specs.Prelude.{◌≡◌};
+ghost use Rattle.job_model.specs.Trees.{is_active, is_ended, is_cancelled, is_cancellable};
+
 use co_base::{Row, Tag, Value};
 
 /// How far a Job is.
@@ -21,6 +24,39 @@ pub enum JobState {
     Cancelling,
     Cancelled,
     Completed,
+}
+
+impl JobState {
+    /// Active or Completing.
+    pub fn is_active(self) -> bool
+        ensures { result ≡ is_active self }
+    {
+        matches!(self, JobState::Active | JobState::Completing)
+    }
+
+    /// It has ended: Completed or Cancelled.
+    pub fn is_completed(self) -> bool
+        ensures { result ≡ is_ended self }
+    {
+        matches!(self, JobState::Completed | JobState::Cancelled)
+    }
+
+    /// Cancelling or Cancelled.
+    pub fn is_cancelled(self) -> bool
+        ensures { result ≡ is_cancelled self }
+    {
+        matches!(self, JobState::Cancelling | JobState::Cancelled)
+    }
+
+    /// It may still be cancelled: New, Active or Completing.
+    pub fn is_cancellable(self) -> bool
+        ensures { result ≡ is_cancellable self }
+    {
+        matches!(
+            self,
+            JobState::New | JobState::Active | JobState::Completing
+        )
+    }
 }
 
 /// What sort of Job it is.

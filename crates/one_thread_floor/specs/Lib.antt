@@ -1,0 +1,4 @@
+pub mod TreeRows
+pub mod TreeClaims
+pub mod TreeKept
+pub mod TreeFloors
