@@ -37,7 +37,7 @@ among-push c r rows = list_any-append (λ q. c == q) rows (r ∷ []) ∙ ap (λ 
 pub among_more : (c r : ℕ) (rows : List ℕ) → is_among c rows ≡ true → is_among c (rows ++ r ∷ []) ≡ true
 among_more c r rows e = among-push c r rows ∙ ap (λ b. b || (c == r)) e
 
-same : (c : ℕ) → (c == c) ≡ true
+pub same : (c : ℕ) → (c == c) ≡ true
 same c = grind (arith, nat_tests)
 
 or_true : (b : Bool) → (b || true) ≡ true
@@ -346,7 +346,7 @@ pub attached_parent : (tree : Tree) (who p c : ℕ) (kind : JobKind) (tag : ℕ)
 attached_parent tree who p c kind tag cancelled = ap (λ b. parent_of (if b then Some (new_child p kind tag cancelled) else change p (with_child c) tree c)) (same c)
 
 -- a row that is attached and one that is not are two
-apart_rows : (tree : Tree) (c p : ℕ) (cancelled : Bool) → tree c ≡ None → MayHaveChild cancelled (tree p) → (c == p) ≡ false
+pub apart_rows : (tree : Tree) (c p : ℕ) (cancelled : Bool) → tree c ≡ None → MayHaveChild cancelled (tree p) → (c == p) ≡ false
 apart_rows tree c p cancelled none m = by_test (c == p) refl
   where
     by_test : (b : Bool) → (c == p) ≡ b → (c == p) ≡ false
@@ -388,7 +388,7 @@ after_families shape tree who act n h = record {
 pub at_start : (P : Option Job → Type 0) → P (Some root) → P None → (r : ℕ) → P (start r)
 at_start P h k r = cond_both (r == 0) (Some root) None P (λ e. h) (λ e. k)
 
-start_root : (r : ℕ) → is_some (start r) ≡ true → r ≡ 0
+pub start_root : (r : ℕ) → is_some (start r) ≡ true → r ≡ 0
 start_root r a = by_test (r == 0) refl a
   where
     by_test : (b : Bool) → (r == 0) ≡ b → is_some (if b then Some root else None) ≡ true → r ≡ 0

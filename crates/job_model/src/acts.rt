@@ -1,7 +1,7 @@
 //! The acts on Jobs, and what a coroutine notes of its calls.
 
 ghost use Rattle.std.specs.Prelude.{◌≡◌};
-ghost use Rattle.job_model.specs.Trees.{is_active, is_ended, is_cancelled, is_cancellable};
+ghost use Rattle.job_model.specs.Trees.{is_new, is_active, is_ended, is_cancelled, is_cancellable};
 
 use co_base::{Row, Tag, Value};
 
@@ -27,6 +27,12 @@ pub enum JobState {
 }
 
 impl JobState {
+    pub fn is_new(self) -> bool
+        ensures { result ≡ is_new self }
+    {
+        matches!(self, JobState::New)
+    }
+
     /// Active or Completing.
     pub fn is_active(self) -> bool
         ensures { result ≡ is_active self }

@@ -1,1 +1,3 @@
-pub mod TreeClaims
+pub mod TreeRows
+pub mod TreeFamilies
+pub mod TreeKept

@@ -37,6 +37,14 @@ pub record DrawsRow (size : TreeSize) (who : ℕ) (kind : JobKind) (tag r : ℕ)
   pub within : r < size.rows
   pub adds : AddsClaim who r old new
 
+abbrev pub DrawScopeAnswer : TreeSize → ℕ → List (Option ℕ) → List (Option ℕ) → Option ℕ → Type 0
+DrawScopeAnswer size who old new (Some r) = (size.coroutines ≤ r) × (r < size.rows) × AddsClaim who r old new
+DrawScopeAnswer size who old new None = (r : ℕ) → size.coroutines ≤ r → r < size.rows → is_some (item_in old r) ≡ true
+
+abbrev pub DrawCoroutineAnswer : TreeSize → ℕ → ℕ → List (Option ℕ) → List (Option ℕ) → Bool → Type 0
+DrawCoroutineAnswer size who tag old new true = (tag < size.rows) × AddsClaim who tag old new
+DrawCoroutineAnswer size who tag old new false = is_some (item_in old tag) ≡ true
+
 abbrev pub DrawAnswer : TreeSize → ℕ → JobKind → ℕ → List (Option ℕ) → List (Option ℕ) → Result ℕ AttachError → Type 0
 DrawAnswer size who kind tag old new (Ok r) = DrawsRow size who kind tag r old new
 DrawAnswer size who kind tag old new (Err NoRow) = (kind.scoped ≡ true) × ((r : ℕ) → size.coroutines ≤ r → r < size.rows → is_some (item_in old r) ≡ true)

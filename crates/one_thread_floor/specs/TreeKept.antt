@@ -9,8 +9,8 @@ use Rattle.one_thread_floor.specs.TreeRows.{item_in, AreRowsOf}
 use Rattle.one_thread_floor.specs.TreeClaims.{AreClaims}
 
 -- the rows are those of the tree after the entries, and each row that was attached is claimed by who attached it
-pub record StandsForTree (size : TreeSize) (next_scope : ℕ) (rows : List (Option TreeRow)) (claims : List (Option ℕ)) (entries : List JobEntry) : Type 0 where
-  pub count : length rows ≡ size.rows
-  pub rows : AreRowsOf (replay entries) rows
-  pub claims : AreClaims size next_scope claims
-  pub attached : (r t : ℕ) → attacher r entries ≡ Some t → item_in claims r ≡ Some t
+pub record StandsForTree (size : TreeSize) (next_scope : ℕ) (jobs : List (Option TreeRow)) (claimers : List (Option ℕ)) (entries : List JobEntry) : Type 0 where
+  pub count : length jobs ≡ size.rows
+  pub rows : AreRowsOf (replay entries) jobs
+  pub claims : AreClaims size next_scope claimers
+  pub attached : (r t : ℕ) → attacher r entries ≡ Some t → item_in claimers r ≡ Some t

@@ -47,7 +47,7 @@ impl JobFloor for TreeFloor {
         if above.state.is_completed() {
             return Err(AttachError::ParentEnded);
         }
-        let cancelled = above.state == JobState::Cancelling;
+        let cancelled = above.state.is_cancelled();
         attach_at(&mut self.rows, parent, row, kind, tag, cancelled);
         self.entries.push_reserved(JobEntry {
             who,
@@ -64,7 +64,7 @@ impl JobFloor for TreeFloor {
 
     fn start(&mut self, who: Tag, row: Row) -> bool {
         let job = job_at(&self.rows, row);
-        if job.state != JobState::New {
+        if !job.state.is_new() {
             return false;
         }
         let state = JobState::Active;

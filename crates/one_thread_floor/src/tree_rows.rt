@@ -1,6 +1,6 @@
 //! Reads and changes of the vector of Jobs.
 
-ghost use Rattle.std.specs.Prelude.{◌≡◌, ℕ, ◌+◌, ◌<◌, ◌==◌, length, IsSome, Some, option_map, if◌then◌else◌, is_some};
+ghost use Rattle.std.specs.Prelude.{◌≡◌, ℕ, ◌+◌, ◌<◌, ◌==◌, length, IsSome, Some, option_map, if◌then◌else◌, is_some, true};
 ghost use Rattle.job_model.specs.Effects.{state_of_end};
 ghost use Rattle.one_thread_floor.specs.TreeRows.{item_in, cause_for, end_of_row, view_of_row, link_of_row, new_row, with_newest, newest_in, living_in, parent_in, without_body_row};
 
