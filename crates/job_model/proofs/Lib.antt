@@ -3,3 +3,7 @@ pub mod Once
 pub mod Steps
 pub mod Families
 pub mod Claims
+pub mod States
+pub mod Causes
+pub mod Marks
+pub mod RowMarks
