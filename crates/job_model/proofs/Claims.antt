@@ -26,7 +26,7 @@ attacher_was P r t (x ∷ xs) e h old new = by_test (attaches r x.act) refl h (�
     by_test false k h rest = rest h (λ m. old (ap (λ b. if b then Some x.who else attacher r xs) k ∙ m)) new
 
 -- where a row is attached, it was before, or this act attaches it
-attached_was : (shape : Shape) (tree : Tree) (who q : ℕ) (act : JobAct) (x y : Option Job) (P : Type 0) → RowStep shape tree who q act x y → is_some y ≡ true → (is_some x ≡ true → P) → (attaches q act ≡ true → P) → P
+pub attached_was : (shape : Shape) (tree : Tree) (who q : ℕ) (act : JobAct) (x y : Option Job) (P : Type 0) → RowStep shape tree who q act x y → is_some y ≡ true → (is_some x ≡ true → P) → (attaches q act ≡ true → P) → P
 attached_was shape tree who q _ _ _ P (RowStep.is_attached p kind tag cancelled m i) h old new = new (same q)
 attached_was shape tree who q _ _ _ P (RowStep.has_child r kind tag cancelled j none m) h old new = old refl
 attached_was shape tree who q _ _ _ P (RowStep.is_started j n) h old new = old refl

@@ -255,7 +255,7 @@ step_sound shape tree who q _ _ _ (RowStep.stays act x a b c d f) h = h
 -- ---- families
 
 -- where a row has a child more, that child is attached by this act
-child_was : (shape : Shape) (tree : Tree) (who q c : ℕ) (act : JobAct) (x y : Option Job) (P : Type 0) → RowStep shape tree who q act x y → is_among c (children_of y) ≡ true
+pub child_was : (shape : Shape) (tree : Tree) (who q c : ℕ) (act : JobAct) (x y : Option Job) (P : Type 0) → RowStep shape tree who q act x y → is_among c (children_of y) ≡ true
     → (is_among c (children_of x) ≡ true → P)
     → ((kind : JobKind) (tag : ℕ) (cancelled : Bool) → act ≡ Attach q c kind tag cancelled → P) → P
 child_was shape tree who q c _ _ _ P (RowStep.is_attached p kind tag cancelled m i) h old new = cc
@@ -269,7 +269,7 @@ child_was shape tree who q c _ _ _ P (RowStep.is_told d j m p) h old new = old h
 child_was shape tree who q c _ _ _ P (RowStep.stays act x a b d e f) h old new = old h
 
 -- where a row has a parent, it had that parent before, or this act attaches it there
-parent_was : (shape : Shape) (tree : Tree) (who q p : ℕ) (act : JobAct) (x y : Option Job) (P : Type 0) → RowStep shape tree who q act x y → parent_of y ≡ Some p
+pub parent_was : (shape : Shape) (tree : Tree) (who q p : ℕ) (act : JobAct) (x y : Option Job) (P : Type 0) → RowStep shape tree who q act x y → parent_of y ≡ Some p
     → (parent_of x ≡ Some p → P)
     → ((kind : JobKind) (tag : ℕ) (cancelled : Bool) → act ≡ Attach p q kind tag cancelled → P) → P
 parent_was shape tree who q p _ _ _ P (RowStep.is_attached r kind tag cancelled m i) h old new =
@@ -283,7 +283,7 @@ parent_was shape tree who q p _ _ _ P (RowStep.is_told d j m o) h old new = old 
 parent_was shape tree who q p _ _ _ P (RowStep.stays act x a b d e f) h old new = old h
 
 -- where a child was told gone, it was before, or this act tells it
-told_was : (shape : Shape) (tree : Tree) (who q c : ℕ) (act : JobAct) (x y : Option Job) (P : Type 0) → RowStep shape tree who q act x y → was_told c y ≡ true
+pub told_was : (shape : Shape) (tree : Tree) (who q c : ℕ) (act : JobAct) (x y : Option Job) (P : Type 0) → RowStep shape tree who q act x y → was_told c y ≡ true
     → (was_told c x ≡ true → P)
     → (act ≡ Gone c → IsFinishedBy who (tree c) → P) → P
 told_was shape tree who q c _ _ _ P (RowStep.is_attached p kind tag cancelled m i) h old new = cc

@@ -7,3 +7,4 @@ pub mod States
 pub mod Causes
 pub mod Marks
 pub mod RowMarks
+pub mod Ends

@@ -271,7 +271,7 @@ told_set shape tree who r h n (Some p) e =
     ∙ ap (was_told r) (changed_here p (with_told r) tree)
     ∙ told_now r (tree p) (listed_some r (tree p) (h.listed p r e))
 
-tell_mark : IsMark tells (λ tree r. was_told r (parent_row tree r))
+pub tell_mark : IsMark tells (λ tree r. was_told r (parent_row tree r))
 tell_mark = record {
   kept = λ shape tree who act r n m. told_kept shape tree who act r n (parent_of (tree r)) refl m;
   sets = λ shape tree who act r h n e. sets_told shape tree who act r h n e;
@@ -300,13 +300,13 @@ tell_mark = record {
 start_mark : IsMark starts (λ tree r. has_started (tree r))
 start_mark = row_mark starts has_started (record { lasts = started_lasts; sets = start_sets; unset = start_unset })
 
-body_mark : IsMark ends_body (λ tree r. has_ended_body (tree r))
+pub body_mark : IsMark ends_body (λ tree r. has_ended_body (tree r))
 body_mark = row_mark ends_body has_ended_body (record { lasts = bodiless_lasts; sets = body_sets; unset = body_unset })
 
 cancel_mark : IsMark cancels (λ tree r. is_past_cancelling (tree r))
 cancel_mark = row_mark cancels is_past_cancelling (record { lasts = past_lasts; sets = cancel_sets; unset = cancel_unset })
 
-finish_mark : IsMark finishes (λ tree r. has_ended (tree r))
+pub finish_mark : IsMark finishes (λ tree r. has_ended (tree r))
 finish_mark = row_mark finishes has_ended (record { lasts = end_lasts; sets = finish_sets; unset = finish_unset })
 
 pub each_once : (shape : Shape) (history : List JobEntry) (r : ℕ) → Legal shape history → OncePerRow r history
