@@ -8,3 +8,4 @@ pub mod Causes
 pub mod Marks
 pub mod RowMarks
 pub mod Ends
+pub mod Reasons

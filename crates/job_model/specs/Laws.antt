@@ -34,13 +34,19 @@ is_bodiless Cancelling = false
 is_bodiless Cancelled = true
 is_bodiless Completed = true
 
+abbrev pub is_cause : Cause → Bool
+is_cause because.None = false
+is_cause because.Request = true
+is_cause (because.Failure f) = true
+
 -- a Job has a finisher exactly where it has ended, and then no child of it lives; in each state but Cancelling it is
--- fixed whether its body has ended
+-- fixed whether its body has ended; it has a cause exactly where it is Cancelling or Cancelled
 pub record IsSoundJob (j : Job) : Type 0 where
   pub finished : is_some j.finisher ≡ is_ended j.state
   pub running : is_running j.state ≡ true → j.body_ended ≡ false
   pub bodiless : is_bodiless j.state ≡ true → j.body_ended ≡ true
   pub childless : is_ended j.state ≡ true → is_none_left (living j) ≡ true
+  pub caused : is_cause j.cause ≡ is_cancelled j.state
 
 abbrev pub IsSoundRow : Option Job → Type 0
 IsSoundRow None = Unit {0}
