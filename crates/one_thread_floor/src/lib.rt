@@ -17,6 +17,8 @@ mod tree_floor;
 mod tree_new;
 mod tree_row;
 mod tree_rows;
+#[cfg(test)]
+mod tree_tests;
 
 pub use tree_floor::TreeFloor;
 pub use tree_row::TreeSize;
