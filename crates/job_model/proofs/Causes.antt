@@ -19,7 +19,8 @@ use Rattle.job_model.specs.Needs.{end_of}
 use Rattle.job_model.specs.Histories.{replay, replay_from, Legal, LegalFrom}
 use Rattle.job_model.specs.Laws.{cause_given, cause_given_from, cause_given_in, cause_kept}
 use Rattle.job_model.proofs.Steps.{RowStep, row_step}
-use Rattle.job_model.proofs.Families.{same, at_start}
+use Rattle.job_model.proofs.Rows.{same}
+use Rattle.job_model.proofs.Families.{at_start}
 
 first_given : (cancelled lazy : Bool) → (if is_cancelled (first_state cancelled lazy) then Some (first_cause cancelled) else None) ≡ (if cancelled then Some because.Request else None)
 first_given true lazy = refl

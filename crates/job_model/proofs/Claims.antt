@@ -9,7 +9,8 @@ use Rattle.job_model.specs.Effects.{after}
 use Rattle.job_model.specs.Histories.{replay, replay_from, Legal, LegalFrom}
 use Rattle.job_model.specs.Floors.{Floor, attacher, HasClaims}
 use Rattle.job_model.proofs.Steps.{RowStep, row_step}
-use Rattle.job_model.proofs.Families.{start_root, same}
+use Rattle.job_model.proofs.Families.{start_root}
+use Rattle.job_model.proofs.Rows.{same}
 
 -- who attached a row did so before the last entry, or by it
 pub attacher_was : (P : Type 0) (r t : ℕ) (es : List JobEntry) (e : JobEntry) → attacher r (es ++ e ∷ []) ≡ Some t → (attacher r es ≡ Some t → P) → (attaches r e.act ≡ true → e.who ≡ t → P) → P

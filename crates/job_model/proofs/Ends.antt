@@ -19,7 +19,9 @@ use Rattle.job_model.specs.Histories.{replay, replay_from, Legal, LegalFrom}
 use Rattle.job_model.specs.Laws.{HasFamilies, IsSoundRow, has, has_ended_body, has_ended, IsByEntries}
 use Rattle.job_model.proofs.Steps.{RowStep, row_step}
 use Rattle.job_model.proofs.Histories.{replay-append, Legal-append, LegalFrom-cons, replay_from-cons}
-use Rattle.job_model.proofs.Families.{Lasts, act_keeps, history_keeps, ended_lasts, after_families, from_families, start_families, replay_families, at_start, told_was, parent_was, changed_here, same}
+use Rattle.job_model.proofs.Lasting.{Lasts, act_keeps, history_keeps, ended_lasts}
+use Rattle.job_model.proofs.Families.{after_families, from_families, start_families, replay_families, at_start, told_was, parent_was, changed_here}
+use Rattle.job_model.proofs.Rows.{same}
 use Rattle.job_model.proofs.Marks.{IsMark, attach_mark}
 use Rattle.job_model.proofs.RowMarks.{body_mark, finish_mark, tell_mark}
 use Rattle.job_model.proofs.Claims.{attached_was}

@@ -1,6 +1,10 @@
 pub mod Histories
 pub mod Once
+pub mod Spans
 pub mod Steps
+pub mod Rows
+pub mod Lasting
+pub mod Sound
 pub mod Families
 pub mod Claims
 pub mod States

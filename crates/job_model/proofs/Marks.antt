@@ -21,7 +21,9 @@ use Rattle.job_model.specs.Needs.{Needs, MayEndBody, MayBeCancelled, MayFinish, 
 use Rattle.job_model.specs.Histories.{replay, replay_from, Legal, LegalFrom}
 use Rattle.job_model.specs.Laws.{HasFamilies, count_of, has, has_ended_body, has_ended, OncePerRow, IsByEntries}
 use Rattle.job_model.proofs.Steps.{RowStep, row_step}
-use Rattle.job_model.proofs.Families.{same, Lasts, act_keeps, attached_lasts, ended_lasts, parent_lasts, after_families, start_families, start_root, at_start, among_more, among_last, among_before}
+use Rattle.job_model.proofs.Rows.{same, among_more, among_last, among_before}
+use Rattle.job_model.proofs.Lasting.{Lasts, act_keeps, attached_lasts, ended_lasts, parent_lasts}
+use Rattle.job_model.proofs.Families.{after_families, start_families, start_root, at_start}
 
 -- ---- marks in general
 

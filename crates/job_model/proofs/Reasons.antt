@@ -18,7 +18,9 @@ use Rattle.job_model.specs.Families.{children_of}
 use Rattle.job_model.specs.Histories.{replay, replay_from, Legal, LegalFrom}
 use Rattle.job_model.specs.Laws.{HasFamilies, IsSoundRow, is_cause}
 use Rattle.job_model.proofs.Histories.{replay-append, Legal-append}
-use Rattle.job_model.proofs.Families.{Lasts, history_keeps, parent_lasts, replay_families, failure_is_cause, body_cancelled, end_cancelled}
+use Rattle.job_model.proofs.Lasting.{Lasts, history_keeps, parent_lasts}
+use Rattle.job_model.proofs.Families.{replay_families}
+use Rattle.job_model.proofs.Sound.{failure_is_cause, body_cancelled, end_cancelled}
 
 -- ---- the parent is cancelled
 

@@ -18,7 +18,9 @@ use Rattle.job_model.specs.Families.{children_of}
 use Rattle.job_model.specs.Histories.{replay, replay_from, Legal, LegalFrom}
 use Rattle.job_model.specs.Laws.{HasFamilies, count_of, has, has_ended_body, has_ended, OncePerRow, IsByEntries}
 use Rattle.job_model.proofs.Steps.{RowStep, row_step}
-use Rattle.job_model.proofs.Families.{same, Lasts, act_keeps, parent_lasts, among_more, among_last, among_before, after_families, start_families, at_start, changed_here}
+use Rattle.job_model.proofs.Rows.{same, among_more, among_last, among_before}
+use Rattle.job_model.proofs.Lasting.{Lasts, act_keeps, parent_lasts}
+use Rattle.job_model.proofs.Families.{after_families, start_families, at_start, changed_here}
 use Rattle.job_model.proofs.Marks.{IsMark, IsRowMark, row_mark, attach_mark, at_most_once, has_started, is_past_cancelling}
 
 -- ---- start

@@ -11,7 +11,8 @@ use Rattle.job_model.specs.Effects.{after, change, put_row, new_child, with_chil
 use Rattle.job_model.specs.Needs.{MayHaveChild}
 use Rattle.job_model.specs.Families.{IsEnded, newest, older, children_of, older_sibling}
 use Rattle.job_model.specs.Laws.{HasFamilies}
-use Rattle.job_model.proofs.Families.{among-push, among_last, attached_parent, apart_rows, same}
+use Rattle.job_model.proofs.Rows.{among-push, among_last, same}
+use Rattle.job_model.proofs.Families.{attached_parent, apart_rows}
 use Rattle.one_thread_floor.specs.declared.tree_row.TreeRow.{TreeRow}
 use Rattle.one_thread_floor.specs.TreeRows.{item_in, row_of_job, row_at_of, AreRowsOf, new_row, with_newest, newest_in}
 use Rattle.one_thread_floor.proofs.TreeRows.{older_kept, older_last, newest-push, kept_last, one_fewer}

@@ -13,7 +13,8 @@ use Rattle.job_model.specs.Effects.{after, change, put_row, new_child, with_chil
 use Rattle.job_model.specs.Needs.{MayHaveChild}
 use Rattle.job_model.specs.Families.{newest, newest_after, older, older_after, children_of, older_sibling}
 use Rattle.job_model.specs.Laws.{HasFamilies}
-use Rattle.job_model.proofs.Families.{among-push, among_last, attached_parent, same}
+use Rattle.job_model.proofs.Rows.{among-push, among_last, same}
+use Rattle.job_model.proofs.Families.{attached_parent}
 use Rattle.one_thread_floor.specs.declared.tree_row.TreeRow.{TreeRow}
 use Rattle.one_thread_floor.specs.TreeRows.{item_in, row_of_job, row_at_of, AreRowsOf, new_row, with_newest, newest_in}
 
