@@ -91,7 +91,7 @@ end_only shape tree who q _ _ _ (RowStep.ends end j m) h e = absurd (let k : tru
 end_only shape tree who q _ _ _ (RowStep.is_told d j m p) h e = h
 end_only shape tree who q _ _ _ (RowStep.stays act x a b c d f) h e = h
 
-told_only : (shape : Shape) (tree : Tree) (who : ℕ) (act : JobAct) (r : ℕ) → HasFamilies tree → Needs shape tree who act → (o : Option ℕ) → parent_of (after tree who act r) ≡ o → was_told r (row_of (after tree who act) o) ≡ true → tells r act ≡ false → was_told r (parent_row tree r) ≡ true
+pub told_only : (shape : Shape) (tree : Tree) (who : ℕ) (act : JobAct) (r : ℕ) → HasFamilies tree → Needs shape tree who act → (o : Option ℕ) → parent_of (after tree who act r) ≡ o → was_told r (row_of (after tree who act) o) ≡ true → tells r act ≡ false → was_told r (parent_row tree r) ≡ true
 told_only shape tree who act r k n None e h f = cc
 told_only shape tree who act r k n (Some p) e h f =
     told_was shape tree who p r act _ _ _ (row_step shape tree who act p n) h

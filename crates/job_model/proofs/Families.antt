@@ -117,7 +117,7 @@ root_step shape tree who q _ _ _ (RowStep.stays act x b c d f g) h a e = h a e
 pub changed_here : (r : ℕ) (f : Job → Job) (tree : Tree) → change r f tree r ≡ option_map f (tree r)
 changed_here r f tree = ap (λ b. if b then option_map f (tree r) else tree r) (same r)
 
-finished_ended : (who : ℕ) (x : Option Job) → IsFinishedBy who x → IsSoundRow x → IsEnded x
+pub finished_ended : (who : ℕ) (x : Option Job) → IsFinishedBy who x → IsSoundRow x → IsEnded x
 finished_ended who None f h = absurd f
 finished_ended who (Some j) f h = sym h.finished ∙ ap is_some f
 

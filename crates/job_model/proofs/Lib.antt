@@ -13,3 +13,4 @@ pub mod Marks
 pub mod RowMarks
 pub mod Ends
 pub mod Reasons
+pub mod Own

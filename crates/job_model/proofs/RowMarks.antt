@@ -213,7 +213,7 @@ finish_sets shape tree who q _ _ _ (RowStep.ends end j m) e = ended_end end
 finish_sets shape tree who q _ _ _ (RowStep.is_told d j m p) e = cc
 finish_sets shape tree who q _ _ _ (RowStep.stays act x a b c d f) e = cc
 
-live_before : (s : JobState) (j : Job) (end : End) → end_of s j ≡ Some end → is_ended s ≡ false
+pub live_before : (s : JobState) (j : Job) (end : End) → end_of s j ≡ Some end → is_ended s ≡ false
 live_before New j end e = cc
 live_before Active j end e = cc
 live_before Completing j end e = refl
