@@ -14,3 +14,4 @@ pub mod RowMarks
 pub mod Ends
 pub mod Reasons
 pub mod Own
+pub mod Short

@@ -33,10 +33,10 @@ pub record IsMark (acts : ℕ → JobAct → Bool) (mark : Tree → ℕ → Bool
   pub sets : (shape : Shape) (tree : Tree) (who : ℕ) (act : JobAct) (r : ℕ) → HasFamilies tree → Needs shape tree who act → acts r act ≡ true → mark (after tree who act) r ≡ true
   pub unset : (shape : Shape) (tree : Tree) (who : ℕ) (act : JobAct) (r : ℕ) → Needs shape tree who act → acts r act ≡ true → mark tree r ≡ false
 
-count-cons : (acts : ℕ → JobAct → Bool) (r : ℕ) (e : JobEntry) (es : List JobEntry) (b : Bool) → acts r e.act ≡ b → count_of acts r (e ∷ es) ≡ (if b then 1 else 0) + count_of acts r es
+pub count-cons : (acts : ℕ → JobAct → Bool) (r : ℕ) (e : JobEntry) (es : List JobEntry) (b : Bool) → acts r e.act ≡ b → count_of acts r (e ∷ es) ≡ (if b then 1 else 0) + count_of acts r es
 count-cons acts r e es b h = sum_by-cons (λ (x : JobEntry). if acts r x.act then 1 else 0) e es ∙ ap (λ c. (if c then 1 else 0) + count_of acts r es) h
 
-none_later : (acts : ℕ → JobAct → Bool) (mark : Tree → ℕ → Bool) → IsMark acts mark → (shape : Shape) (tree : Tree) (es : List JobEntry) (r : ℕ) → LegalFrom shape tree es → mark tree r ≡ true → count_of acts r es ≡ 0
+pub none_later : (acts : ℕ → JobAct → Bool) (mark : Tree → ℕ → Bool) → IsMark acts mark → (shape : Shape) (tree : Tree) (es : List JobEntry) (r : ℕ) → LegalFrom shape tree es → mark tree r ≡ true → count_of acts r es ≡ 0
 unfolding LegalFrom
 none_later acts mark k shape tree [] r l m = refl
 none_later acts mark k shape tree (e ∷ es) r l m = by_test (acts r e.act) refl (none_later acts mark k shape (after tree e.who e.act) es r l.1 (k.kept shape tree e.who e.act r l.0 m))

@@ -299,13 +299,13 @@ tell_mark = record {
 
 -- ---- at most once
 
-start_mark : IsMark starts (λ tree r. has_started (tree r))
+pub start_mark : IsMark starts (λ tree r. has_started (tree r))
 start_mark = row_mark starts has_started (record { lasts = started_lasts; sets = start_sets; unset = start_unset })
 
 pub body_mark : IsMark ends_body (λ tree r. has_ended_body (tree r))
 body_mark = row_mark ends_body has_ended_body (record { lasts = bodiless_lasts; sets = body_sets; unset = body_unset })
 
-cancel_mark : IsMark cancels (λ tree r. is_past_cancelling (tree r))
+pub cancel_mark : IsMark cancels (λ tree r. is_past_cancelling (tree r))
 cancel_mark = row_mark cancels is_past_cancelling (record { lasts = past_lasts; sets = cancel_sets; unset = cancel_unset })
 
 pub finish_mark : IsMark finishes (λ tree r. has_ended (tree r))

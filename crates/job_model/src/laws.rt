@@ -1,11 +1,11 @@
 //! What holds in every legal history.
 
-ghost use Rattle.std.specs.Prelude.{◌≡◌, ℕ, ◌++◌, ◌∷◌, ◌↔◌, true, List, Some};
+ghost use Rattle.std.specs.Prelude.{◌≡◌, ℕ, ◌*◌, ◌<◌, ◌≤◌, ◌++◌, length, is_some, ◌∷◌, ◌↔◌, true, List, Some};
 ghost use Rattle.job_model.specs.declared.acts.End.{End as AnEnd};
 ghost use Rattle.job_model.specs.declared.acts.Reason.{Reason as AReason};
 ghost use Rattle.job_model.specs.declared.acts.JobAct.TheVariants.{Finish};
 ghost use Rattle.job_model.specs.declared.acts.JobEntry.{JobEntry as Entry};
-ghost use Rattle.job_model.specs.Trees.{Shape, parent_of, state_of};
+ghost use Rattle.job_model.specs.Trees.{Shape, IsShape, parent_of, state_of};
 ghost use Rattle.job_model.specs.Acts.{finishes};
 ghost use Rattle.job_model.specs.Needs.{Holds};
 ghost use Rattle.job_model.specs.Histories.{replay, replay_from, Legal, LegalFrom};
@@ -68,5 +68,12 @@ pub fn a_row_is_what_its_entries_say()
 /// A reason for a Cancel that holds goes on to hold, whatever comes.
 pub fn a_reason_goes_on_to_hold()
     ensures { (shape : Shape) (xs ys : List Entry) (who row : ℕ) (reason : AReason) → Legal shape (xs ++ ys) → Holds shape (replay xs) who row reason → Holds shape (replay (xs ++ ys)) who row reason }
+{
+}
+
+/// After a legal history only rows below the number of rows are attached, and it has at most six entries for each row.
+pub fn a_legal_history_is_short()
+    ensures within { (shape : Shape) (history : List Entry) (row : ℕ) → IsShape shape → Legal shape history → is_some (replay history row) ≡ true → row < shape.rows }
+    ensures short { (shape : Shape) (history : List Entry) → IsShape shape → Legal shape history → length history ≤ 6 * shape.rows }
 {
 }

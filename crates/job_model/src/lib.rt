@@ -26,8 +26,8 @@ pub use floor::{
     AttachError, Attached, CancelledNow, Ended, Finished, JobFloor, JobView, Link,
 };
 pub use laws::{
-    a_job_keeps_its_first_cause, a_reason_goes_on_to_hold, a_row_is_what_its_entries_say,
-    appended_histories, children_finish_before_their_parent,
+    a_job_keeps_its_first_cause, a_legal_history_is_short, a_reason_goes_on_to_hold,
+    a_row_is_what_its_entries_say, appended_histories, children_finish_before_their_parent,
     descendants_of_an_ended_job_have_ended, each_act_is_done_with_a_row_at_most_once,
     families_are_in_order, states_go_forward,
 };
