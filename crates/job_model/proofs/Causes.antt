@@ -1,7 +1,7 @@
 -- A Job keeps the cause that it was given first.
 use Rattle.std.specs.Prelude.{◌≡◌, ℕ, ◌==◌, Bool, true, false, List, [], ◌∷◌, Option, Some, None, if◌then◌else◌, refl}
 use Rattle.std.specs.Option.{option_or}
-use Rattle.std.proofs.Common.{sym, ap, ◌∙◌, subst}
+use Rattle.std.proofs.Common.{sym, ap, ◌∙◌}
 use Rattle.std.proofs.lemmas.Bool.{eqb-true}
 use Rattle.job_model.specs.declared.acts.JobState.{JobState}
 use Rattle.job_model.specs.declared.acts.JobState.TheVariants.{New, Active, Completing, Cancelling, Cancelled, Completed}
@@ -12,7 +12,7 @@ use Rattle.job_model.specs.declared.acts.End.TheVariants as ends
 use Rattle.job_model.specs.declared.acts.JobAct.{JobAct}
 use Rattle.job_model.specs.declared.acts.JobAct.TheVariants.{Attach, Start, EndBody, Cancel, Finish, Gone}
 use Rattle.job_model.specs.declared.acts.JobEntry.{JobEntry}
-use Rattle.job_model.specs.Trees.{Shape, Job, Tree, root, start, is_cancelled, is_cancellable}
+use Rattle.job_model.specs.Trees.{Shape, Job, Tree, start, is_cancelled, is_cancellable}
 use Rattle.job_model.specs.Acts.{attaches, cancels}
 use Rattle.job_model.specs.Effects.{after, first_state, first_cause, state_after_body, state_of_end, cause_of_reason}
 use Rattle.job_model.specs.Needs.{end_of}

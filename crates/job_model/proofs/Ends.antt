@@ -1,6 +1,5 @@
 -- What the tree says by its entries, and that children end before their parent.
 use Rattle.std.specs.Prelude.{◌≡◌, ℕ, ◌==◌, Bool, true, false, not, ◌||◌, List, [], ◌∷◌, ◌++◌, filter, Option, Some, None, option_map, is_some, if◌then◌else◌, refl}
-use Rattle.std.specs.List.{list_any}
 use Rattle.std.proofs.Common.{sym, ap, ◌∙◌, subst}
 use Rattle.std.proofs.lemmas.Bool.{eqb-true}
 use Rattle.job_model.specs.declared.acts.JobState.TheVariants.{New, Active, Completing, Cancelling, Cancelled, Completed}
@@ -8,9 +7,9 @@ use Rattle.job_model.specs.declared.acts.JobState.{JobState}
 use Rattle.job_model.specs.declared.acts.End.{End}
 use Rattle.job_model.specs.declared.acts.End.TheVariants as ends
 use Rattle.job_model.specs.declared.acts.JobAct.{JobAct}
-use Rattle.job_model.specs.declared.acts.JobAct.TheVariants.{Attach, Start, EndBody, Cancel, Finish, Gone}
+use Rattle.job_model.specs.declared.acts.JobAct.TheVariants.{Finish}
 use Rattle.job_model.specs.declared.acts.JobEntry.{JobEntry}
-use Rattle.job_model.specs.Trees.{Shape, Job, Tree, root, start, is_ended, is_among, is_none_left, living, parent_of, parent_row, row_of, was_told}
+use Rattle.job_model.specs.Trees.{Shape, Job, Tree, root, start, is_ended, is_among, is_none_left, parent_of, parent_row, row_of, was_told}
 use Rattle.job_model.specs.Acts.{attaches, ends_body, finishes, tells}
 use Rattle.job_model.specs.Effects.{after, first_state, state_after_body, ended_by}
 use Rattle.job_model.specs.Needs.{Needs, MayFinish, MayHaveChild}
@@ -19,8 +18,8 @@ use Rattle.job_model.specs.Histories.{replay, replay_from, Legal, LegalFrom}
 use Rattle.job_model.specs.Laws.{HasFamilies, IsSoundRow, has, has_ended_body, has_ended, IsByEntries}
 use Rattle.job_model.proofs.Steps.{RowStep, row_step}
 use Rattle.job_model.proofs.Histories.{replay-append, Legal-append, LegalFrom-cons, replay_from-cons}
-use Rattle.job_model.proofs.Lasting.{Lasts, act_keeps, history_keeps, ended_lasts}
-use Rattle.job_model.proofs.Families.{after_families, from_families, start_families, replay_families, at_start, told_was, parent_was, changed_here}
+use Rattle.job_model.proofs.Lasting.{act_keeps, ended_lasts}
+use Rattle.job_model.proofs.Families.{after_families, start_families, replay_families, at_start, told_was, parent_was, changed_here}
 use Rattle.job_model.proofs.Rows.{same}
 use Rattle.job_model.proofs.Marks.{IsMark, attach_mark}
 use Rattle.job_model.proofs.RowMarks.{body_mark, finish_mark, tell_mark}
@@ -96,8 +95,8 @@ told_only shape tree who act r k n None e h f = cc
 told_only shape tree who act r k n (Some p) e h f =
     told_was shape tree who p r act _ _ _ (row_step shape tree who act p n) h
     (λ o. parent_was shape tree who r p act _ _ _ (row_step shape tree who act r n) e
-      (λ q. ap (λ u. was_told r (row_of tree u)) q ∙ o)
-      (λ kind tag cancelled g. absurd (newly (subst (Needs shape tree who) g n).0 o)))
+    (λ q. ap (λ u. was_told r (row_of tree u)) q ∙ o)
+    (λ kind tag cancelled g. absurd (newly (subst (Needs shape tree who) g n).0 o)))
     (λ g by. absurd (let m : true ≡ false = sym (ap (tells r) g ∙ same r) ∙ f in cc))
   where
     newly : tree r ≡ None → was_told r (tree p) ≡ true → ⊥
@@ -143,6 +142,7 @@ nothing_lives f c (x ∷ xs) n a = by_test (f x) refl n (λ k m. nothing_lives f
     by_place : (b : Bool) → (c == x) ≡ b → f x ≡ false → (b || is_among c xs) ≡ true → (is_among c xs ≡ true → f c ≡ false) → f c ≡ false
     by_place true e g m rest = ap f (eqb-true c x e) ∙ g
     by_place false e g m rest = rest m
+
     by_test : (b : Bool) → f x ≡ b → is_none_left (if b then x ∷ filter f xs else filter f xs) ≡ true → (is_none_left (filter f xs) ≡ true → is_among c xs ≡ true → f c ≡ false) → f c ≡ false
     by_test true g k rest = cc
     by_test false g k rest = by_place (c == x) refl g a (rest k)
@@ -197,6 +197,7 @@ child_before tree p c end h m q = h.gone p c (told_of_done c (tree p) m (h.liste
     was_true : (b : Bool) → not b ≡ false → b ≡ true
     was_true true k = refl
     was_true false k = cc
+
     told_of_done : (c : ℕ) (x : Option Job) → MayFinish end x → is_among c (children_of x) ≡ true → was_told c x ≡ true
     told_of_done c None m a = absurd m
     told_of_done c (Some j) m a = was_true (is_among c j.told) (nothing_lives (λ d. not (is_among d j.told)) c j.children m.1 a)

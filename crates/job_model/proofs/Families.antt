@@ -1,30 +1,21 @@
 -- Every act keeps families in order.
-use Rattle.std.specs.Prelude.{◌≡◌, ◌≢◌, ℕ, ◌==◌, Bool, true, false, not, ◌&&◌, ◌||◌, List, [], ◌∷◌, ◌++◌, filter, Option, Some, None, option_map, is_some, if◌then◌else◌, refl}
-use Rattle.std.specs.List.{list_any, IsDistinct}
+use Rattle.std.specs.Prelude.{◌≡◌, ℕ, ◌==◌, Bool, true, false, List, [], ◌∷◌, Option, Some, None, option_map, is_some, if◌then◌else◌, refl}
+use Rattle.std.specs.List.{IsDistinct}
 use Rattle.std.specs.Cmp.{IsEquivalence}
 use Rattle.std.proofs.Common.{sym, ap, ◌∙◌, subst, arith}
 use Rattle.std.proofs.lemmas.Bool.{eqb-true, cond_both}
 use Rattle.std.proofs.lemmas.Bool.Decides.{nat_tests}
-use Rattle.std.proofs.lemmas.List.Folds.{list_any-append}
 use Rattle.std.proofs.lemmas.Map.Keys.{IsDistinct-push}
-use Rattle.job_model.specs.declared.acts.JobState.{JobState}
-use Rattle.job_model.specs.declared.acts.JobState.TheVariants.{New, Active, Completing, Cancelling, Cancelled, Completed}
 use Rattle.job_model.specs.declared.acts.JobKind.{JobKind}
-use Rattle.job_model.specs.declared.acts.Cause.{Cause}
-use Rattle.job_model.specs.declared.acts.Cause.TheVariants as because
-use Rattle.job_model.specs.declared.acts.Reason.{Reason}
-use Rattle.job_model.specs.declared.acts.Reason.TheVariants as reasons
-use Rattle.job_model.specs.declared.acts.End.{End}
-use Rattle.job_model.specs.declared.acts.End.TheVariants as ends
 use Rattle.job_model.specs.declared.acts.JobAct.{JobAct}
-use Rattle.job_model.specs.declared.acts.JobAct.TheVariants.{Attach, Start, EndBody, Cancel, Finish, Gone}
+use Rattle.job_model.specs.declared.acts.JobAct.TheVariants.{Attach, Gone}
 use Rattle.job_model.specs.declared.acts.JobEntry.{JobEntry}
-use Rattle.job_model.specs.Trees.{Shape, Job, Tree, root, start, parent_of, is_among, was_told, is_new, is_ended, is_cancelled, is_cancellable, is_failure, living, is_none_left}
-use Rattle.job_model.specs.Effects.{after, new_child, with_child, started, without_body, state_after_body, cancelled_for, ended_by, with_told, first_state, first_cause, cause_of, cause_of_reason, state_of_end, put_row, change}
-use Rattle.job_model.specs.Needs.{Needs, MayHaveChild, MayFinish, IsFinishedBy, IsFailedChild, Holds, end_of}
+use Rattle.job_model.specs.Trees.{Shape, Job, Tree, root, start, parent_of, is_among, was_told}
+use Rattle.job_model.specs.Effects.{after, new_child, with_child, change}
+use Rattle.job_model.specs.Needs.{Needs, MayHaveChild, IsFinishedBy}
 use Rattle.job_model.specs.Families.{IsEnded, children_of}
 use Rattle.job_model.specs.Histories.{replay, replay_from, Legal, LegalFrom}
-use Rattle.job_model.specs.Laws.{is_cause, is_running, is_bodiless, IsSoundJob, IsSoundRow, HasFamilies}
+use Rattle.job_model.specs.Laws.{IsSoundRow, HasFamilies}
 use Rattle.job_model.proofs.Steps.{RowStep, row_step}
 use Rattle.job_model.proofs.Rows.{same, among_last, among_before}
 use Rattle.job_model.proofs.Lasting.{act_keeps, ended_lasts, parent_lasts, listed_lasts}
@@ -148,18 +139,18 @@ pub after_families : (shape : Shape) (tree : Tree) (who : ℕ) (act : JobAct) �
 after_families shape tree who act n h = record {
   rows = λ r. step_sound shape tree who r act _ _ (row_step shape tree who act r n) (h.rows r);
   parents = λ p c e. child_was shape tree who p c act _ _ _ (row_step shape tree who act p n) e
-    (λ o. act_keeps _ (parent_lasts p) shape tree who act c n (h.parents p c o))
-    (λ kind tag cancelled f. subst (λ a. parent_of (after tree who a c) ≡ Some p) (sym f) (attached_parent tree who p c kind tag cancelled));
+      (λ o. act_keeps _ (parent_lasts p) shape tree who act c n (h.parents p c o))
+      (λ kind tag cancelled f. subst (λ a. parent_of (after tree who a c) ≡ Some p) (sym f) (attached_parent tree who p c kind tag cancelled));
   listed = λ p c e. parent_was shape tree who c p act _ _ _ (row_step shape tree who act c n) e
-    (λ o. act_keeps _ (listed_lasts c) shape tree who act p n (h.listed p c o))
-    (λ kind tag cancelled f.
+      (λ o. act_keeps _ (listed_lasts c) shape tree who act p n (h.listed p c o))
+      (λ kind tag cancelled f.
       let m : Needs shape tree who (Attach p c kind tag cancelled) = subst (Needs shape tree who) f n in
       subst (λ a. is_among c (children_of (after tree who a p)) ≡ true) (sym f) (attached_listed tree who p c kind tag cancelled m.0 m.1));
   once = λ p. once_step shape tree who p act _ _ (row_step shape tree who act p n) (h.parents p) (h.once p);
   root = λ r a e. root_step shape tree who r act _ _ (row_step shape tree who act r n) (h.root r) a e;
   gone = λ p c e. told_was shape tree who p c act _ _ _ (row_step shape tree who act p n) e
-    (λ o. act_keeps IsEnded ended_lasts shape tree who act c n (h.gone p c o))
-    (λ f by. act_keeps IsEnded ended_lasts shape tree who act c n (finished_ended who (tree c) by (h.rows c)));
+      (λ o. act_keeps IsEnded ended_lasts shape tree who act c n (h.gone p c o))
+      (λ f by. act_keeps IsEnded ended_lasts shape tree who act c n (finished_ended who (tree c) by (h.rows c)));
 }
 
 -- ---- the start

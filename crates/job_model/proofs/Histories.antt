@@ -1,7 +1,6 @@
 -- Histories that go on.
 use Rattle.std.specs.Prelude.{◌≡◌, ◌↔◌, ℕ, ◌==◌, true, false, List, [], ◌∷◌, ◌++◌, if◌then◌else◌, refl}
 use Rattle.std.proofs.Common.{ap}
-use Rattle.job_model.specs.declared.acts.JobAct.{JobAct}
 use Rattle.job_model.specs.declared.acts.JobEntry.{JobEntry}
 use Rattle.job_model.specs.Trees.{Shape, Tree, start}
 use Rattle.job_model.specs.Effects.{after}

@@ -1,29 +1,22 @@
 -- Each act is done with a row at most once, and the tree says whether it was.
-use Rattle.std.specs.Prelude.{◌≡◌, ℕ, ◌+◌, ◌==◌, ◌≤◌, Bool, true, false, not, ◌||◌, List, [], ◌∷◌, ◌++◌, Option, Some, None, option_map, is_some, count_by, if◌then◌else◌, refl}
-use Rattle.std.specs.List.{list_any}
+use Rattle.std.specs.Prelude.{◌≡◌, ℕ, ◌+◌, ◌≤◌, Bool, true, false, not, List, [], ◌∷◌, Option, Some, None, is_some, if◌then◌else◌, refl}
 use Rattle.std.proofs.Common.{sym, ap, ◌∙◌, subst, arith}
 use Rattle.std.proofs.lemmas.List.Sums.{sum_by-cons}
 use Rattle.std.proofs.lemmas.Bool.{eqb-true}
-use Rattle.std.proofs.lemmas.Bool.Decides.{nat_tests}
-use Rattle.job_model.specs.declared.acts.JobState.{JobState}
-use Rattle.job_model.specs.declared.acts.JobState.TheVariants.{New, Active, Completing, Cancelling, Cancelled, Completed}
 use Rattle.job_model.specs.declared.acts.JobKind.{JobKind}
-use Rattle.job_model.specs.declared.acts.Reason.{Reason}
-use Rattle.job_model.specs.declared.acts.End.{End}
-use Rattle.job_model.specs.declared.acts.End.TheVariants as ends
 use Rattle.job_model.specs.declared.acts.JobAct.{JobAct}
 use Rattle.job_model.specs.declared.acts.JobAct.TheVariants.{Attach, Start, EndBody, Cancel, Finish, Gone}
 use Rattle.job_model.specs.declared.acts.JobEntry.{JobEntry}
-use Rattle.job_model.specs.Trees.{Shape, Job, Tree, root, start, is_new, is_ended, is_cancellable, is_among, state_of, parent_of, parent_row, row_of, was_told}
-use Rattle.job_model.specs.Acts.{attaches, starts, ends_body, cancels, finishes, tells}
-use Rattle.job_model.specs.Effects.{after, change, change_parent, put_row, with_child, with_told, new_child, started, without_body, state_after_body, state_of_end, cancelled_for, cause_of_reason, ended_by, first_state}
-use Rattle.job_model.specs.Needs.{Needs, MayEndBody, MayBeCancelled, MayFinish, MayTell, IsFinishedBy, end_of}
-use Rattle.job_model.specs.Histories.{replay, replay_from, Legal, LegalFrom}
-use Rattle.job_model.specs.Laws.{HasFamilies, count_of, has, has_ended_body, has_ended, OncePerRow, IsByEntries}
+use Rattle.job_model.specs.Trees.{Shape, Job, Tree, is_new, is_cancellable}
+use Rattle.job_model.specs.Acts.{attaches}
+use Rattle.job_model.specs.Effects.{after, change, with_child, new_child}
+use Rattle.job_model.specs.Needs.{Needs}
+use Rattle.job_model.specs.Histories.{LegalFrom}
+use Rattle.job_model.specs.Laws.{HasFamilies, count_of}
 use Rattle.job_model.proofs.Steps.{RowStep, row_step}
-use Rattle.job_model.proofs.Rows.{same, among_more, among_last, among_before}
-use Rattle.job_model.proofs.Lasting.{Lasts, act_keeps, attached_lasts, ended_lasts, parent_lasts}
-use Rattle.job_model.proofs.Families.{after_families, start_families, start_root, at_start}
+use Rattle.job_model.proofs.Rows.{same}
+use Rattle.job_model.proofs.Lasting.{Lasts, act_keeps, attached_lasts}
+use Rattle.job_model.proofs.Families.{after_families}
 
 -- ---- marks in general
 
@@ -86,6 +79,7 @@ attach_mark = record {
     sets_attached shape tree who (Cancel q reason) r n e = cc
     sets_attached shape tree who (Finish q end) r n e = cc
     sets_attached shape tree who (Gone q) r n e = cc
+
     unset_attached : (shape : Shape) (tree : Tree) (who : ℕ) (act : JobAct) (r : ℕ) → Needs shape tree who act → attaches r act ≡ true → is_some (tree r) ≡ false
     unset_attached shape tree who (Attach p q kind tag cancelled) r n e = ap (λ u. is_some (tree u)) (eqb-true r q e) ∙ ap is_some n.0
     unset_attached shape tree who (Start q) r n e = cc

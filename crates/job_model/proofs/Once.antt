@@ -11,7 +11,7 @@ use Rattle.job_model.specs.declared.acts.JobAct.TheVariants.{Attach, Start, EndB
 use Rattle.job_model.specs.declared.acts.JobEntry.{JobEntry}
 use Rattle.job_model.specs.Trees.{Shape, Job, Tree, start, parent_row}
 use Rattle.job_model.specs.Effects.{after}
-use Rattle.job_model.specs.Needs.{Needs, IsRowFor, MayHaveChild, MayEndBody, MayBeCancelled, MayFinish, IsFinishedBy, MayTell, IsCancelled, IsFailedChild, Holds}
+use Rattle.job_model.specs.Needs.{Needs, IsRowFor, MayHaveChild, MayEndBody, MayBeCancelled, MayFinish, IsFinishedBy, IsCancelled, IsFailedChild, Holds}
 use Rattle.job_model.specs.Histories.{LegalFrom, Legal}
 
 MatchBool-prop : (b : Bool) {P Q : Type 0} → IsProp P → IsProp Q → IsProp (MatchBool b P Q)

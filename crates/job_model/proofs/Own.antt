@@ -1,8 +1,8 @@
 -- What later calls leave of a caller's own Jobs.
-use Rattle.std.specs.Prelude.{◌≡◌, ◌≢◌, ℕ, ◌==◌, Bool, true, false, ◌||◌, List, [], ◌∷◌, ◌++◌, Option, Some, None, if◌then◌else◌, refl}
+use Rattle.std.specs.Prelude.{◌≡◌, ℕ, ◌==◌, Bool, true, false, ◌||◌, List, [], ◌∷◌, ◌++◌, Option, Some, None, if◌then◌else◌, refl}
 use Rattle.std.specs.List.{list_any}
 use mathlib.Core.List.{IsPrefix}
-use Rattle.std.proofs.Common.{sym, ap, ◌∙◌, subst, arith}
+use Rattle.std.proofs.Common.{sym, ap, ◌∙◌, subst}
 use Rattle.std.proofs.lemmas.Bool.{eq-eqb, eqb-true}
 use Rattle.job_model.specs.declared.acts.JobState.{JobState}
 use Rattle.job_model.specs.declared.acts.JobState.TheVariants.{New, Active, Completing, Cancelling, Cancelled, Completed}
@@ -22,7 +22,7 @@ use Rattle.job_model.specs.Laws.{HasFamilies}
 use Rattle.job_model.proofs.Histories.{replay-append, Legal-append, acts_of-append}
 use Rattle.job_model.proofs.Rows.{same}
 use Rattle.job_model.proofs.Steps.{RowStep, row_step}
-use Rattle.job_model.proofs.Lasting.{Lasts, act_keeps, history_keeps, ended_lasts}
+use Rattle.job_model.proofs.Lasting.{Lasts, history_keeps}
 use Rattle.job_model.proofs.Families.{after_families, replay_families, finished_ended}
 use Rattle.job_model.proofs.RowMarks.{live_before}
 use Rattle.job_model.proofs.Ends.{told_only}
@@ -45,9 +45,11 @@ none_now t who e es h = by_test (e.who == who) refl h
     left_false : (a b : Bool) → (a || b) ≡ false → a ≡ false
     left_false true b k = k
     left_false false b k = refl
+
     right_false : (a b : Bool) → (a || b) ≡ false → b ≡ false
     right_false true b k = cc
     right_false false b k = k
+
     by_test : (b : Bool) → (e.who == who) ≡ b → list_any t (if b then e.act ∷ acts_of who es else acts_of who es) ≡ false → (e.who ≡ who → t e.act ≡ false) × (list_any t (acts_of who es) ≡ false)
     by_test true k m = (λ u. left_false (t e.act) (list_any t (acts_of who es)) m, right_false (t e.act) (list_any t (acts_of who es)) m)
     by_test false k m = (λ u. absurd (let v : true ≡ false = sym (eq-eqb e.who who u) ∙ k in cc), m)
@@ -141,9 +143,9 @@ untold_step shape tree n who r act k m f h e = by_test (was_told r (parent_row (
     by_test true u false v = absurd (let w : true ≡ false = sym (told_only shape tree n act r k m (parent_of (after tree n act r)) refl u v) ∙ e in cc)
     by_test true u true v =
         gone_names r act _ v (λ q is at.
-          let told : Needs shape tree n (Gone q) = subst (Needs shape tree n) is m in
-          let by : n ≡ who = same_finisher who n (tree r) h (subst (λ z. IsFinishedBy n (tree z)) (sym at) told.0) in
-          absurd (let w : true ≡ false = sym v ∙ f by in cc))
+        let told : Needs shape tree n (Gone q) = subst (Needs shape tree n) is m in
+        let by : n ≡ who = same_finisher who n (tree r) h (subst (λ z. IsFinishedBy n (tree z)) (sym at) told.0) in
+        absurd (let w : true ≡ false = sym v ∙ f by in cc))
 
 pub tell_step : (shape : Shape) (tree : Tree) (n who r : ℕ) (act : JobAct) → HasFamilies tree → Needs shape tree n act → (n ≡ who → tells r act ≡ false) → MayTell who r tree → MayTell who r (after tree n act)
 tell_step shape tree n who r act k m f h = (finisher_step shape tree n who r act _ _ (row_step shape tree n act r m) (finished_ended who (tree r) h.0 (k.rows r)) h.0, untold_step shape tree n who r act k m f h.0 h.1, h.2)

@@ -1,22 +1,19 @@
 -- A reason that holds goes on to hold.
-use Rattle.std.specs.Prelude.{◌≡◌, ℕ, zero, suc, ◌==◌, Bool, true, false, ◌&&◌, ◌||◌, List, [], ◌∷◌, ◌++◌, Option, Some, None, is_some, refl}
+use Rattle.std.specs.Prelude.{◌≡◌, ℕ, zero, suc, ◌==◌, Bool, true, false, ◌&&◌, ◌||◌, List, ◌++◌, Option, Some, None, is_some, refl}
 use Rattle.std.proofs.Common.{sym, ap, ◌∙◌, subst}
 use Rattle.job_model.specs.declared.acts.JobState.{JobState}
 use Rattle.job_model.specs.declared.acts.JobState.TheVariants.{New, Active, Completing, Cancelling, Cancelled, Completed}
-use Rattle.job_model.specs.declared.acts.Cause.{Cause}
-use Rattle.job_model.specs.declared.acts.Cause.TheVariants as because
 use Rattle.job_model.specs.declared.acts.Reason.{Reason}
 use Rattle.job_model.specs.declared.acts.Reason.TheVariants as reasons
 use Rattle.job_model.specs.declared.acts.End.{End}
 use Rattle.job_model.specs.declared.acts.End.TheVariants as ends
-use Rattle.job_model.specs.declared.acts.JobAct.{JobAct}
 use Rattle.job_model.specs.declared.acts.JobEntry.{JobEntry}
-use Rattle.job_model.specs.Trees.{Shape, Job, Tree, is_cancelled, is_cancellable, is_ended, is_failure, is_failure_of, is_supervisor, is_among, parent_of, parent_row, row_of, tag_of}
-use Rattle.job_model.specs.Effects.{after, state_after_body, state_of_end}
-use Rattle.job_model.specs.Needs.{Needs, IsCancelled, IsFailedChild, Holds, any_below, ended_by_failure, end_of}
+use Rattle.job_model.specs.Trees.{Shape, Job, Tree, is_cancelled, is_cancellable, is_ended, is_failure_of, is_supervisor, is_among, parent_of, parent_row, row_of, tag_of}
+use Rattle.job_model.specs.Effects.{state_after_body, state_of_end}
+use Rattle.job_model.specs.Needs.{IsCancelled, IsFailedChild, Holds, any_below, ended_by_failure}
 use Rattle.job_model.specs.Families.{children_of}
 use Rattle.job_model.specs.Histories.{replay, replay_from, Legal, LegalFrom}
-use Rattle.job_model.specs.Laws.{HasFamilies, IsSoundRow, is_cause}
+use Rattle.job_model.specs.Laws.{HasFamilies, IsSoundRow}
 use Rattle.job_model.proofs.Histories.{replay-append, Legal-append}
 use Rattle.job_model.proofs.Lasting.{Lasts, history_keeps, parent_lasts}
 use Rattle.job_model.proofs.Families.{replay_families}
@@ -184,9 +181,10 @@ holds_from shape tree es who r (reasons.Child c) k l h =
     let failed = history_keeps (HasFailed r) (failed_lasts r) shape tree es c l (h.0, failed_is_cancelled r (tree c) (k.rows c) h.0) in
     let plain = history_keeps IsPlain plain_lasts shape tree es r l (listed_attached c (tree r) (k.listed r c (failed_parent r (tree c) h.0)), h.1) in
     (failed.0, plain.1)
-holds_from shape tree es who r (reasons.Own f) k l h =
-    (history_keeps _ (tag_lasts who) shape tree es r l h.0,
-    or_more (f == r) _ _ (or_more (f == who) _ _ (any_more shape.rows (λ q. ended_by_failure f (tree q)) (λ q. ended_by_failure f (replay_from tree es q)) (λ q e. history_keeps _ (failure_lasts f) shape tree es q l e))) h.1)
+holds_from shape tree es who r (reasons.Own f) k l h = (
+  history_keeps _ (tag_lasts who) shape tree es r l h.0,
+  or_more (f == r) _ _ (or_more (f == who) _ _ (any_more shape.rows (λ q. ended_by_failure f (tree q)) (λ q. ended_by_failure f (replay_from tree es q)) (λ q e. history_keeps _ (failure_lasts f) shape tree es q l e))) h.1,
+)
 
 pub reason_holds_on : (shape : Shape) (xs ys : List JobEntry) (who r : ℕ) (reason : Reason) → Legal shape (xs ++ ys) → Holds shape (replay xs) who r reason → Holds shape (replay (xs ++ ys)) who r reason
 reason_holds_on shape xs ys who r reason l h =

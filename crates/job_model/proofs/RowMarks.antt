@@ -1,6 +1,5 @@
 -- The marks that the six acts leave.
-use Rattle.std.specs.Prelude.{◌≡◌, ◌≢◌, ℕ, ◌==◌, Bool, true, false, not, ◌||◌, List, [], ◌∷◌, ◌++◌, Option, Some, None, option_map, is_some, if◌then◌else◌, refl}
-use Rattle.std.specs.List.{list_any}
+use Rattle.std.specs.Prelude.{◌≡◌, ℕ, true, false, not, List, Option, Some, None, option_map, is_some, refl}
 use Rattle.std.proofs.Common.{sym, ap, ◌∙◌, subst}
 use Rattle.std.proofs.lemmas.Bool.{eqb-true}
 use Rattle.job_model.specs.declared.acts.JobState.{JobState}
@@ -10,18 +9,18 @@ use Rattle.job_model.specs.declared.acts.End.TheVariants as ends
 use Rattle.job_model.specs.declared.acts.JobAct.{JobAct}
 use Rattle.job_model.specs.declared.acts.JobAct.TheVariants.{Attach, Start, EndBody, Cancel, Finish, Gone}
 use Rattle.job_model.specs.declared.acts.JobEntry.{JobEntry}
-use Rattle.job_model.specs.Trees.{Shape, Job, Tree, root, start, is_new, is_ended, is_cancellable, is_among, parent_of, parent_row, row_of, was_told}
+use Rattle.job_model.specs.Trees.{Shape, Job, Tree, start, is_new, is_ended, is_cancellable, is_among, parent_of, parent_row, row_of, was_told}
 use Rattle.job_model.specs.Acts.{attaches, starts, ends_body, cancels, finishes, tells}
 use Rattle.job_model.specs.Effects.{after, change_parent, with_told, state_after_body, state_of_end}
-use Rattle.job_model.specs.Needs.{Needs, MayTell, IsFinishedBy, end_of}
+use Rattle.job_model.specs.Needs.{Needs, IsFinishedBy, end_of}
 use Rattle.job_model.specs.Families.{children_of}
-use Rattle.job_model.specs.Histories.{replay, replay_from, Legal, LegalFrom}
-use Rattle.job_model.specs.Laws.{HasFamilies, count_of, has, has_ended_body, has_ended, OncePerRow, IsByEntries}
-use Rattle.job_model.proofs.Steps.{RowStep, row_step}
-use Rattle.job_model.proofs.Rows.{same, among_more, among_last, among_before}
+use Rattle.job_model.specs.Histories.{Legal}
+use Rattle.job_model.specs.Laws.{HasFamilies, has_ended_body, has_ended, OncePerRow}
+use Rattle.job_model.proofs.Steps.{RowStep}
+use Rattle.job_model.proofs.Rows.{among_more, among_last}
 use Rattle.job_model.proofs.Lasting.{Lasts, act_keeps, parent_lasts}
-use Rattle.job_model.proofs.Families.{after_families, start_families, at_start, changed_here}
-use Rattle.job_model.proofs.Marks.{IsMark, IsRowMark, row_mark, attach_mark, at_most_once, has_started, is_past_cancelling}
+use Rattle.job_model.proofs.Families.{start_families, changed_here}
+use Rattle.job_model.proofs.Marks.{IsMark, row_mark, attach_mark, at_most_once, has_started, is_past_cancelling}
 
 -- ---- start
 
@@ -289,6 +288,7 @@ tell_mark = record {
     sets_told shape tree who (EndBody q v) r h n e = cc
     sets_told shape tree who (Cancel q reason) r h n e = cc
     sets_told shape tree who (Finish q end) r h n e = cc
+
     unset_told : (shape : Shape) (tree : Tree) (who : ℕ) (act : JobAct) (r : ℕ) → Needs shape tree who act → tells r act ≡ true → was_told r (parent_row tree r) ≡ false
     unset_told shape tree who (Gone q) r n e = subst (λ u. was_told u (parent_row tree u) ≡ false) (sym (eqb-true r q e)) n.1
     unset_told shape tree who (Attach p q kind tag cancelled) r n e = cc

@@ -1,31 +1,10 @@
 -- Lists of rows.
-use Rattle.std.specs.Prelude.{◌≡◌, ◌≢◌, ℕ, ◌==◌, Bool, true, false, not, ◌&&◌, ◌||◌, List, [], ◌∷◌, ◌++◌, filter, Option, Some, None, option_map, is_some, if◌then◌else◌, refl}
-use Rattle.std.specs.List.{list_any, IsDistinct}
-use Rattle.std.specs.Cmp.{IsEquivalence}
+use Rattle.std.specs.Prelude.{◌≡◌, ℕ, ◌==◌, Bool, true, false, not, ◌||◌, List, [], ◌∷◌, ◌++◌, filter, if◌then◌else◌, refl}
 use Rattle.std.proofs.Common.{sym, ap, ◌∙◌, subst, arith}
-use Rattle.std.proofs.lemmas.Bool.{eqb-true, cond_both}
+use Rattle.std.proofs.lemmas.Bool.{eqb-true}
 use Rattle.std.proofs.lemmas.Bool.Decides.{nat_tests}
 use Rattle.std.proofs.lemmas.List.Folds.{list_any-append}
-use Rattle.std.proofs.lemmas.Map.Keys.{IsDistinct-push}
-use Rattle.job_model.specs.declared.acts.JobState.{JobState}
-use Rattle.job_model.specs.declared.acts.JobState.TheVariants.{New, Active, Completing, Cancelling, Cancelled, Completed}
-use Rattle.job_model.specs.declared.acts.JobKind.{JobKind}
-use Rattle.job_model.specs.declared.acts.Cause.{Cause}
-use Rattle.job_model.specs.declared.acts.Cause.TheVariants as because
-use Rattle.job_model.specs.declared.acts.Reason.{Reason}
-use Rattle.job_model.specs.declared.acts.Reason.TheVariants as reasons
-use Rattle.job_model.specs.declared.acts.End.{End}
-use Rattle.job_model.specs.declared.acts.End.TheVariants as ends
-use Rattle.job_model.specs.declared.acts.JobAct.{JobAct}
-use Rattle.job_model.specs.declared.acts.JobAct.TheVariants.{Attach, Start, EndBody, Cancel, Finish, Gone}
-use Rattle.job_model.specs.declared.acts.JobEntry.{JobEntry}
-use Rattle.job_model.specs.Trees.{Shape, Job, Tree, root, start, parent_of, is_among, was_told, is_new, is_ended, is_cancelled, is_cancellable, is_failure, living, is_none_left}
-use Rattle.job_model.specs.Effects.{after, new_child, with_child, started, without_body, state_after_body, cancelled_for, ended_by, with_told, first_state, first_cause, cause_of, cause_of_reason, state_of_end, put_row, change}
-use Rattle.job_model.specs.Needs.{Needs, MayHaveChild, MayFinish, IsFinishedBy, IsFailedChild, Holds, end_of}
-use Rattle.job_model.specs.Families.{IsEnded, children_of}
-use Rattle.job_model.specs.Histories.{replay, replay_from, Legal, LegalFrom}
-use Rattle.job_model.specs.Laws.{is_cause, is_running, is_bodiless, IsSoundJob, IsSoundRow, HasFamilies}
-use Rattle.job_model.proofs.Steps.{RowStep, row_step}
+use Rattle.job_model.specs.Trees.{is_among, is_none_left}
 
 pub among-push : (c r : ℕ) (rows : List ℕ) → is_among c (rows ++ r ∷ []) ≡ (is_among c rows || (c == r))
 among-push c r rows = list_any-append (λ q. c == q) rows (r ∷ []) ∙ ap (λ b. is_among c rows || b) (or_false (c == r))

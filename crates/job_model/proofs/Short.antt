@@ -1,13 +1,12 @@
 -- A legal history is short: at most six entries a row.
-use Rattle.std.specs.Prelude.{◌≡◌, ℕ, ◌+◌, ◌*◌, ◌==◌, ◌<◌, ◌≤◌, Bool, true, false, ◌&&◌, ◌||◌, List, [], ◌∷◌, length, map, Option, Some, None, MatchBool, is_some, if◌then◌else◌, refl}
+use Rattle.std.specs.Prelude.{◌≡◌, ℕ, ◌+◌, ◌*◌, ◌==◌, ◌<◌, ◌≤◌, Bool, true, false, ◌&&◌, ◌||◌, List, [], ◌∷◌, length, map, Option, Some, None, MatchBool, is_some, refl}
 use Rattle.std.specs.List.{list_any, IsDistinct, AllByRecursion}
-use Rattle.std.proofs.Common.{sym, ap, ◌∙◌, subst, arith}
+use Rattle.std.proofs.Common.{sym, ap, ◌∙◌, arith}
 use Rattle.std.proofs.lemmas.Bool.{eqb-true, eq-eqb}
 use Rattle.std.proofs.lemmas.Bool.Decides.{nat_tests}
 use Rattle.std.proofs.lemmas.Map.Steps.{length-le_from_distinct_below}
 use Rattle.job_model.specs.declared.acts.JobState.TheVariants.{New}
 use Rattle.job_model.specs.declared.acts.JobKind.{JobKind}
-use Rattle.job_model.specs.declared.acts.End.{End}
 use Rattle.job_model.specs.declared.acts.JobAct.{JobAct}
 use Rattle.job_model.specs.declared.acts.JobAct.TheVariants.{Attach, Start, EndBody, Cancel, Finish, Gone}
 use Rattle.job_model.specs.declared.acts.JobEntry.{JobEntry}
@@ -16,12 +15,12 @@ use Rattle.job_model.specs.Acts.{attaches, starts, ends_body, cancels, finishes,
 use Rattle.job_model.specs.Effects.{after}
 use Rattle.job_model.specs.Needs.{Needs, IsRowFor, MayEndBody, MayBeCancelled, MayFinish, IsFinishedBy}
 use Rattle.job_model.specs.Histories.{replay, replay_from, Legal, LegalFrom}
-use Rattle.job_model.specs.Laws.{HasFamilies, count_of, has_ended_body, has_ended}
+use Rattle.job_model.specs.Laws.{HasFamilies, count_of}
 use Rattle.job_model.proofs.Rows.{same}
-use Rattle.job_model.proofs.Steps.{RowStep, row_step}
+use Rattle.job_model.proofs.Steps.{row_step}
 use Rattle.job_model.proofs.Families.{after_families, start_families, start_root}
 use Rattle.job_model.proofs.Claims.{attached_was}
-use Rattle.job_model.proofs.Marks.{IsMark, none_later, attach_mark, has_started, is_past_cancelling, count-cons}
+use Rattle.job_model.proofs.Marks.{none_later, attach_mark, count-cons}
 use Rattle.job_model.proofs.RowMarks.{start_mark, body_mark, cancel_mark, finish_mark, tell_mark}
 
 -- ---- a number for each act on each row
@@ -124,6 +123,7 @@ other_number k r a lk e = by_number ((6 * r + k) == number_of a) refl
         let u : is_kind k r a ≡ true = ap (λ b. b && (r == row_named a)) f ∙ eq-eqb r (row_named a) same_row in
         let v : true ≡ false = sym u ∙ e in cc
     by_kind false f h = two_kinds k (kind_of a) r (row_named a) lk (kind_below a) (not_equal k (kind_of a) f) h
+
     by_number : (b : Bool) → ((6 * r + k) == number_of a) ≡ b → ((6 * r + k) == number_of a) ≡ false
     by_number true f = absurd (by_kind (k == kind_of a) refl (eqb-true (6 * r + k) (number_of a) f))
     by_number false f = f

@@ -1,5 +1,5 @@
 -- States go forward.
-use Rattle.std.specs.Prelude.{◌≡◌, ℕ, Bool, true, false, List, [], ◌∷◌, ◌++◌, Option, Some, None, refl}
+use Rattle.std.specs.Prelude.{◌≡◌, ℕ, true, List, [], ◌∷◌, ◌++◌, Option, Some, None, refl}
 use Rattle.std.proofs.Common.{sym, ap, ◌∙◌, subst}
 use Rattle.job_model.specs.declared.acts.JobState.{JobState}
 use Rattle.job_model.specs.declared.acts.JobState.TheVariants.{New, Active, Completing, Cancelling, Cancelled, Completed}
@@ -7,9 +7,9 @@ use Rattle.job_model.specs.declared.acts.End.{End}
 use Rattle.job_model.specs.declared.acts.End.TheVariants as ends
 use Rattle.job_model.specs.declared.acts.JobAct.{JobAct}
 use Rattle.job_model.specs.declared.acts.JobEntry.{JobEntry}
-use Rattle.job_model.specs.Trees.{Shape, Job, Tree, start, is_new, is_ended, is_cancellable, state_of}
+use Rattle.job_model.specs.Trees.{Shape, Job, Tree, is_ended, is_cancellable, state_of}
 use Rattle.job_model.specs.Effects.{after, state_after_body, state_of_end}
-use Rattle.job_model.specs.Needs.{MayFinish, end_of}
+use Rattle.job_model.specs.Needs.{end_of}
 use Rattle.job_model.specs.Histories.{replay, replay_from, Legal, LegalFrom}
 use Rattle.job_model.specs.Families.{IsEnded}
 use Rattle.job_model.specs.Laws.{is_step, GoesTo, RowGoesTo}

@@ -1,5 +1,5 @@
 -- What an act makes of one row.
-use Rattle.std.specs.Prelude.{◌≡◌, ◌≢◌, ℕ, ◌==◌, Bool, true, false, List, [], ◌∷◌, ◌++◌, Option, Some, None, option_map, if◌then◌else◌, refl}
+use Rattle.std.specs.Prelude.{◌≡◌, ℕ, ◌==◌, Bool, true, false, Option, Some, None, option_map, if◌then◌else◌, refl}
 use Rattle.std.proofs.Common.{sym, ap, ◌∙◌, subst, arith}
 use Rattle.std.proofs.lemmas.Bool.{eqb-true}
 use Rattle.std.proofs.lemmas.Bool.Decides.{nat_tests}
@@ -11,7 +11,7 @@ use Rattle.job_model.specs.declared.acts.JobAct.{JobAct}
 use Rattle.job_model.specs.declared.acts.JobAct.TheVariants.{Attach, Start, EndBody, Cancel, Finish, Gone}
 use Rattle.job_model.specs.Trees.{Shape, Job, Tree, parent_of, state_of}
 use Rattle.job_model.specs.Acts.{attaches, starts, ends_body, cancels, finishes}
-use Rattle.job_model.specs.Effects.{after, change, change_parent, put_row, new_child, with_child, started, without_body, cancelled_for, cause_of_reason, ended_by, with_told}
+use Rattle.job_model.specs.Effects.{after, change_parent, new_child, with_child, started, without_body, cancelled_for, cause_of_reason, ended_by, with_told}
 use Rattle.job_model.specs.Needs.{Needs, IsRowFor, MayHaveChild, MayEndBody, MayBeCancelled, MayFinish, MayTell, Holds}
 
 -- an act of who, allowed on the tree, makes y of what x was at row q
@@ -45,6 +45,7 @@ attach_step shape tree who q p r kind tag cancelled none m i = by_row (r == q) r
         let k : q ≡ p = sym (eqb-true p q e) in
         subst (λ u. RowStep shape tree who q (Attach u r kind tag cancelled) (tree q) (option_map (with_child r) (tree u))) k (child_at shape tree who q r kind tag cancelled (tree q) none (subst (λ u. MayHaveChild cancelled (tree u)) (sym k) m))
     by_parent false f e = stays (Attach p r kind tag cancelled) (tree q) (not_named r q f) refl refl refl refl
+
     by_row : (b : Bool) → (r == q) ≡ b → RowStep shape tree who q (Attach p r kind tag cancelled) (tree q) (if b then Some (new_child p kind tag cancelled) else (if p == q then option_map (with_child r) (tree p) else tree q))
     by_row true e =
         let k : q ≡ r = sym (eqb-true r q e) in

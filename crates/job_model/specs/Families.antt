@@ -1,5 +1,5 @@
 -- Who stands below whom, and in which order children stand.
-use Rattle.std.specs.Prelude.{◌≡◌, ℕ, ◌==◌, Bool, true, false, List, [], ◌∷◌, Option, Some, None, if◌then◌else◌}
+use Rattle.std.specs.Prelude.{◌≡◌, ℕ, ◌==◌, true, false, List, [], ◌∷◌, Option, Some, None, if◌then◌else◌}
 use Rattle.job_model.specs.Trees.{Job, Tree, parent_of, parent_row, is_cancellable, is_ended}
 
 -- d is a child of the row, or a child of one that is below the row

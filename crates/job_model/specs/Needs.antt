@@ -9,7 +9,7 @@ use Rattle.job_model.specs.declared.acts.End.{End}
 use Rattle.job_model.specs.declared.acts.End.TheVariants as ends
 use Rattle.job_model.specs.declared.acts.JobAct.{JobAct}
 use Rattle.job_model.specs.declared.acts.JobAct.TheVariants.{Attach, Start, EndBody, Cancel, Finish, Gone}
-use Rattle.job_model.specs.Trees.{Shape, Job, Tree, is_new, is_cancellable, is_cancelling, is_cancelled, is_ended, is_failure, is_failure_of, state_of, tag_of, parent_of, is_supervisor, row_of, parent_row, is_none_left, was_told, living}
+use Rattle.job_model.specs.Trees.{Shape, Job, Tree, is_new, is_cancellable, is_cancelling, is_cancelled, is_ended, is_failure, is_failure_of, state_of, tag_of, is_supervisor, parent_row, is_none_left, was_told, living}
 
 -- ---- parts of the needs
 

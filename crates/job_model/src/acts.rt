@@ -118,15 +118,28 @@ pub enum JobAct {
         cancelled: bool,
     },
     /// Lets a New Job run.
-    Start { row: Row },
+    Start {
+        row: Row,
+    },
     /// The body has ended, with this result.
-    EndBody { row: Row, value: Value },
+    EndBody {
+        row: Row,
+        value: Value,
+    },
     /// Begins the cancellation of a Job.
-    Cancel { row: Row, reason: Reason },
+    Cancel {
+        row: Row,
+        reason: Reason,
+    },
     /// Ends a Job whose body has ended and none of whose children lives.
-    Finish { row: Row, end: End },
+    Finish {
+        row: Row,
+        end: End,
+    },
     /// Tells the parent of an ended Job that it is gone.
-    Gone { row: Row },
+    Gone {
+        row: Row,
+    },
 }
 
 /// An act, and the coroutine that made it.
@@ -141,18 +154,11 @@ pub struct JobEntry {
 pub enum JobNote {
     Made(JobAct),
     /// It saw that this Job is Cancelling.
-    Saw {
-        row: Row,
-    },
+    Saw { row: Row },
     /// It saw that this Job ended so.
-    SawEnd {
-        row: Row,
-        end: End,
-    },
+    SawEnd { row: Row, end: End },
     /// Its body fails with this code.
-    Fail {
-        code: Value,
-    },
+    Fail { code: Value },
     /// All rows for scopes are claimed.
     NoRow,
     /// The coroutine's row is claimed.

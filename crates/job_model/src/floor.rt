@@ -172,6 +172,8 @@ pub trait JobFloor {
         ensures answer { LinkAnswer who row (view self.old) (view self.new) result };
 
     ghost shaped: { (s : Self) → IsShape (view s).shape };
+
     ghost legal: { (s : Self) → Legal (view s).shape (view s).seen };
+
     ghost claimed: { (s : Self) → HasClaims (view s) };
 }

@@ -22,9 +22,7 @@ mod floor;
 mod laws;
 
 pub use acts::{Cause, End, JobAct, JobEntry, JobKind, JobNote, JobState, Reason};
-pub use floor::{
-    AttachError, Attached, CancelledNow, Ended, Finished, JobFloor, JobView, Link,
-};
+pub use floor::{AttachError, Attached, CancelledNow, Ended, Finished, JobFloor, JobView, Link};
 pub use laws::{
     a_job_keeps_its_first_cause, a_legal_history_is_short, a_reason_goes_on_to_hold,
     a_row_is_what_its_entries_say, appended_histories, children_finish_before_their_parent,
