@@ -1,20 +1,20 @@
 -- The rows after a child is attached, and after one is told gone.
-use Rattle.std.specs.Prelude.{◌≡◌, ℕ, ◌+◌, ◌==◌, ◌<◌, ◌≤◌, Bool, true, false, not, ◌||◌, List, [], ◌∷◌, ◌++◌, length, filter, Option, Some, None, option_map, is_some, if◌then◌else◌, refl}
+use Rattle.std.specs.Prelude.{◌≡◌, ℕ, ◌+◌, ◌==◌, Bool, true, false, not, ◌||◌, List, [], ◌∷◌, ◌++◌, length, Option, Some, None, option_map, if◌then◌else◌, refl}
 use Rattle.std.specs.List.{IsDistinct}
 use Rattle.std.proofs.Common.{sym, ap, ◌∙◌, subst, arith}
 use Rattle.std.proofs.lemmas.Bool.{eqb-true}
 use Rattle.std.proofs.lemmas.Bool.Decides.{nat_tests}
 use Rattle.job_model.specs.declared.acts.JobKind.{JobKind}
 use Rattle.job_model.specs.declared.acts.JobAct.TheVariants.{Attach}
-use Rattle.job_model.specs.Trees.{Job, Tree, is_among, living, parent_of, row_of, parent_row, was_told}
+use Rattle.job_model.specs.Trees.{Job, Tree, is_among, living, parent_of, row_of, was_told}
 use Rattle.job_model.specs.Effects.{after, change, put_row, new_child, with_child, with_told}
 use Rattle.job_model.specs.Needs.{MayHaveChild}
 use Rattle.job_model.specs.Families.{IsEnded, newest, older, children_of, older_sibling}
 use Rattle.job_model.specs.Laws.{HasFamilies}
 use Rattle.job_model.proofs.Rows.{among-push, among_last, same}
-use Rattle.job_model.proofs.Families.{attached_parent, apart_rows}
+use Rattle.job_model.proofs.Families.{apart_rows}
 use Rattle.one_thread_floor.specs.declared.tree_row.TreeRow.{TreeRow}
-use Rattle.one_thread_floor.specs.TreeRows.{item_in, row_of_job, row_at_of, AreRowsOf, new_row, with_newest, newest_in}
+use Rattle.one_thread_floor.specs.TreeRows.{item_in, row_of_job, AreRowsOf, new_row, with_newest, newest_in}
 use Rattle.one_thread_floor.proofs.TreeRows.{older_kept, older_last, newest-push, kept_last, one_fewer}
 
 -- ---- a child more
@@ -72,7 +72,7 @@ old_sibling tree p r q kind tag cancelled h none m (Some u) e = by_test (p == u)
     by_test true f =
         let k : p ≡ u = eqb-true p u f in
         subst (λ v. older q (children_of (attached_tree p r kind tag cancelled tree v)) ≡ older q (children_of (tree v))) k
-            (ap (older q) (parent_children tree p r kind tag cancelled none m) ∙ older_kept None q r (children_of (tree p)) (h.listed p q (e ∙ ap (λ v. Some v) (sym k))))
+        (ap (older q) (parent_children tree p r kind tag cancelled none m) ∙ older_kept None q r (children_of (tree p)) (h.listed p q (e ∙ ap (λ v. Some v) (sym k))))
     by_test false f = ap (older q) (other_children tree p r u kind tag cancelled none f)
 
 attached_at : (tree : Tree) (p r : ℕ) (kind : JobKind) (tag : ℕ) (cancelled : Bool) → attached_tree p r kind tag cancelled tree r ≡ Some (new_child p kind tag cancelled)
@@ -99,6 +99,7 @@ parent_stays tree p r q kind tag cancelled f = ap (λ b. parent_of (if b then So
     same_parent : (x : Option Job) → parent_of (option_map (with_child r) x) ≡ parent_of x
     same_parent None = refl
     same_parent (Some j) = refl
+
     by_test : (b : Bool) → (p == q) ≡ b → parent_of (if b then option_map (with_child r) (tree p) else tree q) ≡ parent_of (tree q)
     by_test true e = same_parent (tree p) ∙ ap (λ u. parent_of (tree u)) (eqb-true p q e)
     by_test false e = refl
@@ -116,12 +117,14 @@ attached_rows tree who p r kind tag cancelled xs ys h none m are put q = by_row 
   where
     tree' : Tree
     tree' = attached_tree p r kind tag cancelled tree
+
     by_parent : (b : Bool) → (r == q) ≡ false → (p == q) ≡ b → item_in ys q ≡ (if b then option_map (with_newest r) (item_in xs p) else item_in xs q)
         → item_in ys q ≡ option_map (row_of_job (older_sibling (attached_tree p r kind tag cancelled tree) q)) (if b then option_map (with_child r) (tree p) else tree q)
     by_parent true f e i =
         i ∙ ap (option_map (with_newest r)) (are p) ∙ above_row (older_sibling tree p) r (tree p) (not_told tree p r h none)
         ∙ ap (λ o. option_map (row_of_job o) (option_map (with_child r) (tree p))) (ap (older_sibling tree) (eqb-true p q e) ∙ sym (sibling_stays tree p r q kind tag cancelled h none m f))
     by_parent false f e i = i ∙ are q ∙ ap (λ o. option_map (row_of_job o) (tree q)) (sym (sibling_stays tree p r q kind tag cancelled h none m f))
+
     by_row : (b : Bool) → (r == q) ≡ b → item_in ys q ≡ (if b then Some (new_row p (newest_in (item_in xs p)) tag kind cancelled) else (if p == q then option_map (with_newest r) (item_in xs p) else item_in xs q))
         → item_in ys q ≡ option_map (row_of_job (older_sibling (attached_tree p r kind tag cancelled tree) q)) (if b then Some (new_child p kind tag cancelled) else (if p == q then option_map (with_child r) (tree p) else tree q))
     by_row true e i =
@@ -136,6 +139,7 @@ not_last c d told e = ap not (among-push d c told ∙ ap (λ b. is_among d told 
   where
     apart : (u v : ℕ) → (v == u) ≡ false → (u == v) ≡ false
     apart u v f = grind (arith, nat_tests)
+
     or_false : (b : Bool) → (b || false) ≡ b
     or_false true = refl
     or_false false = refl

@@ -1,6 +1,6 @@
 -- One entry more, on the rows and the claims.
-use Rattle.std.specs.Prelude.{◌≡◌, ◌≢◌, ℕ, zero, suc, ◌+◌, ◌==◌, ◌<◌, ◌≤◌, Bool, true, false, not, ◌&&◌, ◌||◌, List, [], ◌∷◌, ◌++◌, length, filter, Option, Some, None, option_map, is_some, IsSome, if◌then◌else◌, refl}
-use Rattle.std.specs.List.{IsDistinct, list_any}
+use Rattle.std.specs.Prelude.{◌≡◌, ◌≢◌, ℕ, zero, suc, ◌+◌, ◌==◌, ◌<◌, ◌≤◌, Bool, true, false, not, ◌&&◌, ◌||◌, List, [], ◌∷◌, ◌++◌, length, Option, Some, None, option_map, is_some, IsSome, if◌then◌else◌, refl}
+use Rattle.std.specs.List.{IsDistinct}
 use Rattle.std.proofs.Common.{sym, ap, ◌∙◌, subst, arith}
 use Rattle.std.proofs.Common.{inl, inr}
 use Rattle.std.proofs.lemmas.Bool.{eqb-true, cases_lt}
@@ -18,7 +18,7 @@ use Rattle.job_model.specs.declared.acts.JobEntry.{JobEntry}
 use Rattle.job_model.specs.Trees.{Shape, Job, Tree, start, is_among, living, is_none_left, is_childless, is_done, is_new, is_ended, is_cancelled, is_cancelling, is_cancellable, parent_of, parent_row, row_of, was_told, state_of}
 use Rattle.job_model.specs.Acts.{attaches}
 use Rattle.job_model.specs.Effects.{after, change_parent, with_told, cause_of_reason, cause_of}
-use Rattle.job_model.specs.Needs.{Needs, MayHaveChild, MayEndBody, MayBeCancelled, MayFinish, IsFinishedBy, end_of}
+use Rattle.job_model.specs.Needs.{Needs, MayHaveChild, MayBeCancelled, MayFinish, IsFinishedBy, end_of}
 use Rattle.job_model.specs.Families.{children_of, older_sibling}
 use Rattle.job_model.specs.Histories.{replay, replay_from, Legal, LegalFrom}
 use Rattle.job_model.specs.Floors.{Floor, Made, attacher, is_claimed_by}
@@ -28,7 +28,7 @@ use Rattle.job_model.proofs.Families.{replay_families}
 use Rattle.job_model.proofs.Claims.{attacher_was, attached_by}
 use Rattle.one_thread_floor.specs.declared.tree_row.TreeSize.{TreeSize}
 use Rattle.one_thread_floor.specs.declared.tree_row.TreeRow.{TreeRow}
-use Rattle.one_thread_floor.specs.TreeRows.{item_in, flat, row_of_job, AreRowsOf, cause_in, cause_for, end_of_row, living_in, parent_in}
+use Rattle.one_thread_floor.specs.TreeRows.{item_in, row_of_job, AreRowsOf, cause_in, cause_for, end_of_row, living_in, parent_in}
 use Rattle.one_thread_floor.specs.TreeClaims.{shape_of, AreClaims, AddsClaim}
 use Rattle.one_thread_floor.specs.TreeKept.{StandsForTree}
 use Rattle.one_thread_floor.proofs.TreeRows.{changed_rows}
@@ -223,7 +223,7 @@ pub told_rows : (tree : Tree) (who r p n : ℕ) (xs ys : List (Option TreeRow)) 
 told_rows tree who r p n xs ys x h e t are is less put =
     subst (λ o. AreRowsOf (change_parent o (with_told r) tree) ys) (sym e)
     (changed_rows tree p (with_told r) (λ (y : TreeRow). record y { living = n }) xs ys x (record { parent = λ j. refl; children = λ j. refl })
-      (λ o j k. told_row o r j n (less ∙ living_is j k) (fewer tree r p j h e t k)) are is put)
+    (λ o j k. told_row o r j n (less ∙ living_is j k) (fewer tree r p j h e t k)) are is put)
   where
     living_is : (j : Job) → tree p ≡ Some j → x.living ≡ length (living j)
     living_is j k = let m : Some x ≡ Some (row_of_job (older_sibling tree p) j) = is ∙ are p ∙ ap (option_map (row_of_job (older_sibling tree p))) k in let u : x ≡ row_of_job (older_sibling tree p) j = cc in ap (λ (y : TreeRow). y.living) u

@@ -1,22 +1,16 @@
 -- The rows after a change of the tree.
-use Rattle.std.specs.Prelude.{◌≡◌, ◌≢◌, ℕ, ◌+◌, ◌==◌, ◌<◌, ◌≤◌, Bool, true, false, not, ◌||◌, List, [], ◌∷◌, ◌++◌, length, filter, Option, Some, None, option_map, is_some, if◌then◌else◌, count_by, refl}
+use Rattle.std.specs.Prelude.{◌≡◌, ℕ, ◌+◌, ◌==◌, Bool, true, false, ◌||◌, List, [], ◌∷◌, ◌++◌, length, filter, Option, Some, None, option_map, if◌then◌else◌, refl}
 use Rattle.std.specs.List.{IsDistinct, AllByRecursion}
 use Rattle.std.proofs.lemmas.List.{length-append}
 use Rattle.std.proofs.lemmas.List.Elements.{filter-append}
-use Rattle.std.proofs.Common.{sym, ap, ◌∙◌, subst, arith}
+use Rattle.std.proofs.Common.{sym, ap, ◌∙◌, arith}
 use Rattle.std.proofs.lemmas.Bool.{eqb-true}
-use Rattle.std.proofs.lemmas.Bool.Decides.{nat_tests}
-use Rattle.job_model.specs.declared.acts.JobKind.{JobKind}
-use Rattle.job_model.specs.declared.acts.JobAct.TheVariants.{Attach, Start, EndBody, Cancel, Finish, Gone}
-use Rattle.job_model.specs.Trees.{Job, Tree, is_among, living, parent_of, row_of, parent_row}
-use Rattle.job_model.specs.Effects.{after, change, put_row, new_child, with_child}
-use Rattle.job_model.specs.Needs.{MayHaveChild}
+use Rattle.job_model.specs.Trees.{Job, Tree, is_among, parent_of, row_of}
+use Rattle.job_model.specs.Effects.{change}
 use Rattle.job_model.specs.Families.{newest, newest_after, older, older_after, children_of, older_sibling}
-use Rattle.job_model.specs.Laws.{HasFamilies}
-use Rattle.job_model.proofs.Rows.{among-push, among_last, same}
-use Rattle.job_model.proofs.Families.{attached_parent}
+use Rattle.job_model.proofs.Rows.{same}
 use Rattle.one_thread_floor.specs.declared.tree_row.TreeRow.{TreeRow}
-use Rattle.one_thread_floor.specs.TreeRows.{item_in, row_of_job, row_at_of, AreRowsOf, new_row, with_newest, newest_in}
+use Rattle.one_thread_floor.specs.TreeRows.{item_in, row_of_job, AreRowsOf}
 
 -- ---- one row changes
 
@@ -64,6 +58,7 @@ changed_rows tree r f g xs ys x k h are is put q = by_test (r == q) refl (put q)
   where
     kept : older_sibling (change r f tree) q ≡ older_sibling tree q
     kept = sibling_kept r f tree k q
+
     by_test : (b : Bool) → (r == q) ≡ b → item_in ys q ≡ (if b then Some (g x) else item_in xs q) → item_in ys q ≡ option_map (row_of_job (older_sibling (change r f tree) q)) (if b then option_map f (tree r) else tree q)
     by_test true e p =
         let o : older_sibling tree r ≡ older_sibling (change r f tree) q = ap (older_sibling tree) (eqb-true r q e) ∙ sym kept in

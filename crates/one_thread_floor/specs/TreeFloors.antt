@@ -1,5 +1,5 @@
 -- What callers see of the floor of Jobs.
-use Rattle.std.specs.Prelude.{ℕ, ◌-◌, true, vec_len, vec_capacity}
+use Rattle.std.specs.Prelude.{◌-◌, true, vec_len, vec_capacity}
 use Rattle.job_model.specs.Floors.{Floor}
 use Rattle.one_thread_floor.specs.declared.tree_floor.TreeFloor.{TreeFloor}
 use Rattle.one_thread_floor.specs.TreeRows.{item_in}

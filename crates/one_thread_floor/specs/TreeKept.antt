@@ -1,8 +1,8 @@
 -- What the floor of Jobs keeps, and what its callers see of it.
-use Rattle.std.specs.Prelude.{◌≡◌, ℕ, ◌-◌, true, List, length, Option, Some, vec_len, vec_capacity}
+use Rattle.std.specs.Prelude.{◌≡◌, ℕ, List, length, Option, Some}
 use Rattle.job_model.specs.declared.acts.JobEntry.{JobEntry}
 use Rattle.job_model.specs.Histories.{replay}
-use Rattle.job_model.specs.Floors.{Floor, attacher}
+use Rattle.job_model.specs.Floors.{attacher}
 use Rattle.one_thread_floor.specs.declared.tree_row.TreeSize.{TreeSize}
 use Rattle.one_thread_floor.specs.declared.tree_row.TreeRow.{TreeRow}
 use Rattle.one_thread_floor.specs.TreeRows.{item_in, AreRowsOf}

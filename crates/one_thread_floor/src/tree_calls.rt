@@ -4,8 +4,8 @@ use crate::tree_claims::draw_row;
 use crate::tree_floor::TreeFloor;
 use crate::tree_row::{TreeRow, TreeSize};
 use crate::tree_rows::{
-    attach_at, cause_for, end_of, job_at, link_at, parent_at, put_at, row_at, state_of_end, view_of,
-    without_body,
+    attach_at, cause_for, end_of, job_at, link_at, parent_at, put_at, row_at, state_of_end,
+    view_of, without_body,
 };
 use co_base::{Memory, Row, Tag, Value};
 use job_model::{
@@ -17,7 +17,9 @@ impl JobFloor for TreeFloor {
     ghost use Rattle.one_thread_floor.specs.TreeFloors.{floor_of};
 
     ghost view = { λ f. floor_of f };
+
     type Anchor = TreeSize;
+
     ghost anchor = { λ f. f.size };
 
     fn room(&mut self, n: u32) -> Result<(), Memory> {
@@ -156,6 +158,8 @@ impl JobFloor for TreeFloor {
     }
 
     ghost shaped = { λ f. f.shaped };
+
     ghost legal = { λ f. f.legal };
+
     ghost claimed = { λ f. record { root = f.stands.claims.root; attached = f.stands.attached; within = f.stands.claims.within } };
 }

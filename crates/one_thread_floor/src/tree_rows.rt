@@ -137,13 +137,7 @@ pub fn link_at(rows: &Vec<Option<TreeRow>>, row: Row) -> Link
 }
 
 /// A child as it is attached. `next` is the child that was attached before it.
-pub fn new_row(
-    parent: Row,
-    next: Option<Row>,
-    tag: Tag,
-    kind: JobKind,
-    cancelled: bool,
-) -> TreeRow
+pub fn new_row(parent: Row, next: Option<Row>, tag: Tag, kind: JobKind, cancelled: bool) -> TreeRow
     ensures { result ≡ new_row parent next tag kind cancelled }
 {
     let state = if cancelled {
@@ -160,7 +154,11 @@ pub fn new_row(
         kind,
         state,
         body_ended: false,
-        cause: if cancelled { Cause::Request } else { Cause::None },
+        cause: if cancelled {
+            Cause::Request
+        } else {
+            Cause::None
+        },
         value: 0,
         first_child: None,
         living: 0,

@@ -1,4 +1,4 @@
-use Rattle.std.proofs.Common.{refl, sym, ap, ◌∙◌, ◌≡◌, None, Some, arith}
+use Rattle.std.proofs.Common.{sym, ◌∙◌, arith}
 use Rattle.job_model.proofs.Families.{replay_families}
 use Rattle.one_thread_floor.proofs.TreeFamilies.{attached_rows}
 use Rattle.one_thread_floor.proofs.TreeKept.{legal_more, stands_more, few_living, unclaimed, may_have_child}

@@ -22,6 +22,6 @@ invariant_of-self c =
           (may_be_cancelled _ x _ (c.job_at-job.ensures ∙ f.stands.rows c.args.row) (sym c.is_cancellable.ensures ∙ c.if-not-is_cancellable.false), c.requires.reason);
       stands = stands_still _ _ f.rows.items c.put_at.new.rows.items _ f.entries.items c.push_reserved.new.self.items _ f.stands c.push_reserved.ensures.items c.put_at.ensures.count
           (changed_rows _ c.args.row (cancelled_for (cause_of_reason (replay f.entries.items) c.args.reason)) (λ (y : TreeRow). record y { state = Cancelling; cause = cause; value = 0 }) f.rows.items c.put_at.new.rows.items x (record { parent = λ j. refl; children = λ j. refl })
-            (λ o j e. ap (λ (u : Cause). record (row_of_job o j) { state = Cancelling; cause = u; value = 0 }) (sym why)) f.stands.rows c.job_at-job.ensures c.put_at.ensures.rows)
+          (λ o j e. ap (λ (u : Cause). record (row_of_job o j) { state = Cancelling; cause = u; value = 0 }) (sym why)) f.stands.rows c.job_at-job.ensures c.put_at.ensures.rows)
           (λ r. refl);
     }

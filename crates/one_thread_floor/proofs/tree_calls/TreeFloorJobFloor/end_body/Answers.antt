@@ -17,7 +17,7 @@ invariant_of-self c =
       legal = legal_more _ f.entries.items c.push_reserved.new.self.items _ f.legal c.push_reserved.ensures.items c.requires.own;
       stands = stands_still _ _ f.rows.items c.put_at.new.rows.items _ f.entries.items c.push_reserved.new.self.items _ f.stands c.push_reserved.ensures.items c.put_at.ensures.count
           (changed_rows _ c.args.row (without_body c.args.value) (without_body_row c.args.value) f.rows.items c.put_at.new.rows.items x (record { parent = λ j. refl; children = λ j. refl }) (λ o j e. refl) f.stands.rows c.job_at-job.ensures
-            (λ q. c.put_at.ensures.rows q ∙ ap (λ (u : TreeRow). if c.args.row == q then Some u else item_in f.rows.items q) c.without_body.ensures))
+          (λ q. c.put_at.ensures.rows q ∙ ap (λ (u : TreeRow). if c.args.row == q then Some u else item_in f.rows.items q) c.without_body.ensures))
           (λ r. refl);
     }
 

@@ -1,8 +1,7 @@
-use Rattle.std.proofs.Common.{refl, sym, ap, ◌∙◌, ◌==◌, ◌≡◌, true, false, is_some, Some, if◌then◌else◌, arith}
+use Rattle.std.proofs.Common.{refl, sym, ap, ◌∙◌, ◌==◌, ◌≡◌, true, is_some, Some, if◌then◌else◌, arith}
 use Rattle.std.proofs.lemmas.Bool.{not-false}
 use Rattle.std.proofs.lemmas.Bool.Decides.{nat_tests}
 use Rattle.job_model.specs.declared.acts.JobState.{JobState}
-use Rattle.job_model.specs.Trees.{is_ended}
 use Rattle.job_model.specs.Effects.{ended_by, state_of_end}
 use Rattle.job_model.proofs.Families.{replay_families}
 use Rattle.one_thread_floor.specs.declared.tree_row.TreeRow.{TreeRow}
@@ -32,6 +31,6 @@ invariant_of-self c =
           (may_finish _ x _ c.end_of-end.result (c.job_at-job.ensures ∙ f.stands.rows c.args.row) (not-false _ c.if-not-job.false) none c.end_of-end.ensures);
       stands = stands_still _ _ f.rows.items c.put_at.new.rows.items _ f.entries.items c.push_reserved.new.self.items _ f.stands c.push_reserved.ensures.items c.put_at.ensures.count
           (changed_rows _ c.args.row (ended_by c.args.who c.end_of-end.result) (λ (y : TreeRow). record y { state = state_of_end c.end_of-end.result }) f.rows.items c.put_at.new.rows.items x (record { parent = λ j. refl; children = λ j. refl }) (λ o j e. refl) f.stands.rows c.job_at-job.ensures
-            (λ q. c.put_at.ensures.rows q ∙ ap (λ (s : JobState). if c.args.row == q then Some (record x { state = s }) else item_in f.rows.items q) c.state_of_end-state.ensures))
+          (λ q. c.put_at.ensures.rows q ∙ ap (λ (s : JobState). if c.args.row == q then Some (record x { state = s }) else item_in f.rows.items q) c.state_of_end-state.ensures))
           (λ r. refl);
     }

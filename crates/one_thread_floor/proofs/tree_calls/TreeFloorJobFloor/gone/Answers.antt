@@ -1,4 +1,4 @@
-use Rattle.std.proofs.Common.{refl, sym, ap, ◌∙◌, ◌≡◌, ◌+◌, is_some, arith}
+use Rattle.std.proofs.Common.{refl, sym, ap, ◌∙◌, is_some, arith}
 use Rattle.job_model.proofs.Families.{replay_families}
 use Rattle.one_thread_floor.proofs.TreeKept.{legal_more, stands_still, child_has_parent, parent_is, parent_attached, some_living, told_rows, item_within}
 use Rattle.one_thread_floor.proofs.tree_calls.TreeFloorJobFloor.gone.Goals as goal
