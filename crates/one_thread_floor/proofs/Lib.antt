@@ -1,3 +1,6 @@
 pub mod ListRemoval
 pub mod ListEntries
 pub mod ListNew
+pub mod TreeRows
+pub mod TreeFamilies
+pub mod TreeKept

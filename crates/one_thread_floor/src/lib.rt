@@ -1,11 +1,19 @@
-//! The floors of one thread: what a floor of channels promises, kept by plain lists.
+//! The floors of one thread, as plain lists: what a floor of channels and a floor of Jobs promise.
+//!
+//! Each keeps the list of its entries, which is the history that contracts see, and beside it a representation from
+//! which every call is answered. Both are alone: nobody but the caller makes entries.
 //!
 //! - `list_channel`: a channel as two deques and a table of waits.
 //! - `list_floor`: a floor as channels and the entries made so far; `list_new` makes one.
 //! - `list_queries`: what the lists say.
 //! - `list_removal`: how a wait that is resolved leaves the channels.
 //! - `list_changes`: how places are given out, and how the first offer or receiver goes.
-//! - `list_calls`: the calls.
+//! - `list_calls`: the calls on channels.
+//! - `tree_row`: a Job as a row of a vector.
+//! - `tree_rows`: reads and changes of the vector of Jobs.
+//! - `tree_claims`: which rows are claimed.
+//! - `tree_floor`: the floor of Jobs, and what it keeps; `tree_new` makes one.
+//! - `tree_calls`: the calls on Jobs.
 #![tactic(auto)]
 
 mod list_calls;
@@ -17,5 +25,15 @@ mod list_queries;
 mod list_removal;
 #[cfg(test)]
 mod list_tests;
+mod tree_calls;
+mod tree_claims;
+mod tree_floor;
+mod tree_new;
+mod tree_row;
+mod tree_rows;
+#[cfg(test)]
+mod tree_tests;
 
 pub use list_floor::{ListAnchor, ListFloor};
+pub use tree_floor::TreeFloor;
+pub use tree_row::TreeSize;

@@ -1,0 +1,17 @@
+pub mod Histories
+pub mod Once
+pub mod Spans
+pub mod Steps
+pub mod Rows
+pub mod Lasting
+pub mod Sound
+pub mod Families
+pub mod Claims
+pub mod States
+pub mod Causes
+pub mod Marks
+pub mod RowMarks
+pub mod Ends
+pub mod Reasons
+pub mod Own
+pub mod Short
