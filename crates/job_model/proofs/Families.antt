@@ -112,6 +112,10 @@ pub finished_ended : (who : ℕ) (x : Option Job) → IsFinishedBy who x → IsS
 finished_ended who None f h = absurd f
 finished_ended who (Some j) f h = sym h.finished ∙ ap is_some f
 
+-- the new child
+pub attached_now : (tree : Tree) (who p c : ℕ) (kind : JobKind) (tag : ℕ) (cancelled : Bool) → after tree who (Attach p c kind tag cancelled) c ≡ Some (new_child p kind tag cancelled)
+attached_now tree who p c kind tag cancelled = ap (λ b. if b then Some (new_child p kind tag cancelled) else change p (with_child c) tree c) (same c)
+
 -- the new child's parent
 pub attached_parent : (tree : Tree) (who p c : ℕ) (kind : JobKind) (tag : ℕ) (cancelled : Bool) → parent_of (after tree who (Attach p c kind tag cancelled) c) ≡ Some p
 attached_parent tree who p c kind tag cancelled = ap (λ b. parent_of (if b then Some (new_child p kind tag cancelled) else change p (with_child c) tree c)) (same c)

@@ -15,3 +15,4 @@ pub mod Ends
 pub mod Reasons
 pub mod Own
 pub mod Short
+pub mod Below
