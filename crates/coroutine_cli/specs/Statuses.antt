@@ -5,6 +5,8 @@ use Rattle.std.specs.Str.{bytes_eq}
 use Rattle.co_base.specs.Streams.{Rose, Gave, IsDrained, Took, TookPart}
 use Rattle.channel_model.specs.declared.acts.ChannelNote.{ChannelNote}
 use Rattle.channel_model.specs.declared.acts.Entry.{Entry}
+use Rattle.channel_model.specs.Laws.{resolutions_of, settlements_of}
+use Rattle.co_base.specs.declared.names.WaitId.{WaitId}
 use Rattle.script_reader.specs.declared.fault.ScriptFault.{ScriptFault}
 use Rattle.script_reader.specs.Programs.{Program}
 use Rattle.script_reader.specs.Grammar.{Spells}
@@ -50,6 +52,8 @@ pub record Reports (finished : Bool) (input text : List ℕ) : Type 0 where
   pub history : List Entry
   pub parts : BooksOf program books history
   pub idle : IsIdle program books history finished
+  -- each wait is resolved at most once, and settled at most once
+  pub once : (w : WaitId) → (resolutions_of w history ≤ 1) × (settlements_of w history ≤ 1)
   pub is_report : text ≡ report_text program books
 
 -- the input is no script, and the text names the fault and its line
