@@ -10,9 +10,7 @@ use crate::list_floor::{ListAnchor, ListFloor};
 use crate::list_queries::{
     closed_with, first_receiver, is_spent, kind_at, outcome_in, owner_at, queue_len, state_at,
 };
-use channel_model::{
-    Act, AlreadyClosed, ChannelFloor, Entry, Got, Offered, Settled, WaitState,
-};
+use channel_model::{Act, AlreadyClosed, ChannelFloor, Entry, Got, Offered, Settled, WaitState};
 use co_base::{ChannelId, Memory, Tag, Value, WaitId};
 
 impl ChannelFloor for ListFloor {
