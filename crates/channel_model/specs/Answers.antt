@@ -1,6 +1,6 @@
 -- What each answer of a floor says, by cases on the answer.
-use Rattle.std.specs.Prelude.{◌≡◌, ℕ, Bool, true, false, List, [], ◌∷◌, length, Option, Some, None, is_some}
-use Rattle.channel_model.specs.declared.acts.Act.TheVariants.{Hand, Put, Offer, Await, Take, Settle}
+use Rattle.std.specs.Prelude.{◌≡◌, ℕ, Bool, true, false, List, [], ◌∷◌, length, Option, Some, None, is_some, Result, Ok, Err}
+use Rattle.channel_model.specs.declared.acts.Act.TheVariants.{Hand, Put, Offer, Await, Take, Close, Settle}
 use Rattle.channel_model.specs.declared.acts.Settled.{Settled}
 use Rattle.channel_model.specs.declared.standing.Party.{Party}
 use Rattle.channel_model.specs.declared.standing.Standing.{Standing}
@@ -10,6 +10,7 @@ use Rattle.channel_model.specs.declared.floor.Offered.{Offered}
 use Rattle.channel_model.specs.declared.floor.Offered.TheVariants as offered
 use Rattle.channel_model.specs.declared.floor.Got.{Got}
 use Rattle.channel_model.specs.declared.floor.Got.TheVariants as got
+use Rattle.channel_model.specs.declared.floor.AlreadyClosed.{AlreadyClosed}
 use Rattle.channel_model.specs.declared.floor.WaitState.{WaitState}
 use Rattle.channel_model.specs.declared.floor.WaitState.TheVariants as state
 use Rattle.co_base.specs.declared.names.WaitId.{WaitId}
@@ -90,6 +91,12 @@ GotAnswer who c old new (got.Taken place v t) = TakenFrom who c place v t old ne
 GotAnswer who c old new (got.Waiting place) = Made who (Await c place (record { channel = c; place = place }) 0) old new
 GotAnswer who c old new (got.Closed x) = ClosedWith who c x old new × AtStep old new (IsDrainedAndClosed c)
 GotAnswer who c old new got.Spent = Looked who old new × AtStep old new (IsSpentForReceives old.shape c)
+
+-- ---- close
+
+abbrev pub CloseAnswer : ℕ → ℕ → ℕ → Floor → Floor → Result (Unit {0}) AlreadyClosed → Type 0
+CloseAnswer who c v old new (Ok done) = Made who (Close c v) old new
+CloseAnswer who c v old new (Err first) = ClosedWith who c first.v old new
 
 -- ---- look and settle
 

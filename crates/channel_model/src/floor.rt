@@ -4,7 +4,7 @@ ghost use Rattle.std.specs.Prelude.{◌≡◌, ℕ, ◌<◌, false, OnOk, OnErr}
 ghost use Rattle.channel_model.specs.Channels.{kind_at, is_signal};
 ghost use Rattle.channel_model.specs.Histories.{Legal};
 ghost use Rattle.channel_model.specs.Floors.{Floor, HasRoom, MayCall};
-ghost use Rattle.channel_model.specs.Answers.{OfferAnswer, GotAnswer, LookAnswer, SettleAnswer, IsOwn, IsReady};
+ghost use Rattle.channel_model.specs.Answers.{OfferAnswer, GotAnswer, CloseAnswer, LookAnswer, SettleAnswer, IsOwn, IsReady};
 
 use crate::acts::Settled;
 use co_base::{ChannelId, Memory, Place, Tag, Value, WaitId};
@@ -120,6 +120,13 @@ pub trait ChannelFloor {
         requires room { 0 < (view self.old).spare }
         ensures anchor { anchor self.new ≡ anchor self.old }
         ensures answer { GotAnswer who c (view self.old) (view self.new) result };
+
+    /// Closes the channel with a value. What stands there still stands, and no place is given out any more.
+    fn close(&mut self, who: Tag, c: ChannelId, v: Value) -> Result<(), AlreadyClosed>
+        requires can { MayCall who c (view self.old) }
+        requires room { 0 < (view self.old).spare }
+        ensures anchor { anchor self.new ≡ anchor self.old }
+        ensures answer { CloseAnswer who c v (view self.old) (view self.new) result };
 
     /// How far the caller's own wait is. Makes no entry.
     fn look(&mut self, who: Tag, w: WaitId) -> WaitState

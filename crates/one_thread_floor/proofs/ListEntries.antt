@@ -9,7 +9,7 @@ use Rattle.std.proofs.lemmas.Option.{slice_get_past}
 use Rattle.co_base.specs.declared.names.WaitId.{WaitId}
 use Rattle.channel_model.specs.declared.acts.Kind.{Kind}
 use Rattle.channel_model.specs.declared.acts.Settled.{Settled}
-use Rattle.channel_model.specs.declared.acts.Act.TheVariants.{Hand, Put, Offer, Await, Take, Settle}
+use Rattle.channel_model.specs.declared.acts.Act.TheVariants.{Hand, Put, Offer, Await, Take, Close, Settle}
 use Rattle.channel_model.specs.declared.acts.Entry.{Entry}
 use Rattle.channel_model.specs.declared.standing.Standing.{Standing}
 use Rattle.channel_model.specs.declared.standing.Receiver.{Receiver}
@@ -235,6 +235,18 @@ pub take_from : (shape : Shape) (xs ys : List ListChannel) (es : List Entry) (c 
     → option_and_then (λ (p : Party). owner_of (wait_in ys p.wait)) o.holder ≡ t → first_holder (replay es) ((replay es).channels c).queue ≡ t
 take_from shape xs ys es c o os t at same e h =
     first_holder_is (replay es) o os _ (queue_is shape xs (replay es) c o os at e) ∙ holder_owner (replay es) (wait_in ys) o.holder (λ w. at.waits_are w ∙ sym (same w)) ∙ h
+
+-- ---- a close
+
+pub close_needs : (shape : Shape) (xs : List ListChannel) (es : List Entry) (who c v : ℕ) → IsAt shape xs (replay es) → c < length shape → None ≡ (channel_in xs c).closed → Needs shape (replay es) who (Close c v)
+close_needs shape xs es who c v at lt not_closed = (lt, ap (λ (ch : Channel). ch.closed) (at.channels_are c) ∙ sym not_closed)
+
+pub close_at : (shape : Shape) (xs ys : List ListChannel) (es : List Entry) (who c v : ℕ) → IsAt shape xs (replay es) → SameShape xs ys
+    → ((d : ℕ) → channel_in ys d ≡ put_channel c (record (channel_in xs c) { closed = Some v }) (channel_in xs) d)
+    → SameWaits xs ys
+    → IsAt shape ys (after (replay es) who (Close c v))
+close_at shape xs ys es who c v at k channels waits =
+    at_new shape xs ys (replay es) _ at k (ap (λ (s : State). after s who (Close c v)) (at_state shape xs (replay es) at) ∙ same_state _ _ (λ d. sym (channels d)) (λ u. sym (waits u)))
 
 -- ---- a settle
 

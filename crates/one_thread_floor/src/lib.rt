@@ -7,7 +7,7 @@
 //! - `list_floor`: a floor as channels and the entries made so far; `list_new` makes one.
 //! - `list_queries`: what the lists say.
 //! - `list_removal`: how a wait that is resolved leaves the channels.
-//! - `list_changes`: how places are given out, and how the first offer or receiver goes.
+//! - `list_changes`: how places are given out, how the first offer or receiver goes, and how a channel is closed.
 //! - `list_calls`: the calls on channels.
 //! - `tree_row`: a Job as a row of a vector.
 //! - `tree_rows`: reads and changes of the vector of Jobs.

@@ -3,14 +3,14 @@
 ghost use Rattle.one_thread_floor.specs.ListFloors.{floor_of};
 
 use crate::list_changes::{
-    begin_element, begin_offer, begin_receiver, hand_to_first, mark_settled, pop_offer,
+    begin_element, begin_offer, begin_receiver, close_in, hand_to_first, mark_settled, pop_offer,
     resolve_taken,
 };
 use crate::list_floor::{ListAnchor, ListFloor};
 use crate::list_queries::{
     closed_with, first_receiver, is_spent, kind_at, outcome_in, owner_at, queue_len, state_at,
 };
-use channel_model::{Act, ChannelFloor, Entry, Got, Offered, Settled, WaitState};
+use channel_model::{Act, AlreadyClosed, ChannelFloor, Entry, Got, Offered, Settled, WaitState};
 use co_base::{ChannelId, Memory, Tag, Value, WaitId};
 
 impl ChannelFloor for ListFloor {
@@ -96,6 +96,18 @@ impl ChannelFloor for ListFloor {
             },
         });
         Got::Waiting(place)
+    }
+
+    fn close(&mut self, who: Tag, c: ChannelId, v: Value) -> Result<(), AlreadyClosed> {
+        if let Some(first) = closed_with(&self.channels, c) {
+            return Err(AlreadyClosed { v: first });
+        }
+        close_in(&mut self.channels, c, v);
+        self.entries.push_reserved(Entry {
+            who,
+            act: Act::Close { c, value: v },
+        });
+        Ok(())
     }
 
     fn look(&mut self, who: Tag, w: WaitId) -> WaitState {

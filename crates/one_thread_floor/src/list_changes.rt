@@ -1,4 +1,4 @@
-//! How places are given out, and how the first offer or receiver goes.
+//! How places are given out, how the first offer or receiver goes, and how a channel is closed.
 
 ghost use Rattle.std.specs.Prelude.{◌≡◌, ℕ, ◌<◌, length, vec_len, IsSome, Some, None, true, if◌then◌else◌, ◌==◌, ◌≢◌, ◌∷◌, option_map, slice_get};
 ghost use Rattle.std.specs.Option.{ForSome, option_and_then};
@@ -190,6 +190,24 @@ pub fn resolve_taken(
         }
         None => None,
     }
+}
+
+fn close_channel(channel: &mut ListChannel, v: Value)
+    ensures channel { channel_of channel.new ≡ record (channel_of channel.old) { closed = Some v } }
+    ensures slots { channel.new.slots ≡ channel.old.slots }
+    ensures places { channel.new.places ≡ channel.old.places }
+{
+    channel.closed = Some(v);
+}
+
+/// Closes the channel with a value. What stands there still stands.
+pub fn close_in(channels: &mut Vec<ListChannel>, c: ChannelId, v: Value)
+    requires { c < length channels.old.items }
+    ensures shape { SameShape channels.old.items channels.new.items }
+    ensures channels { (d : ℕ) → channel_in channels.new.items d ≡ put_channel c (record (channel_in channels.old.items c) { closed = Some v }) (channel_in channels.old.items) d }
+    ensures waits { SameWaits channels.old.items channels.new.items }
+{
+    close_channel(&mut channels[c as usize], v);
 }
 
 fn settle_slot(slot: &mut Option<ListWait>)

@@ -1,4 +1,4 @@
-//! A channel without a buffer, from its first receiver to its last place.
+//! A channel without a buffer, from its first receiver to its last place and its close.
 
 ghost use Rattle.std.specs.Prelude.{◌≡◌, ◌<◌, length, true, false};
 ghost use Rattle.channel_model.specs.Channels.{kind_at, is_signal};
@@ -7,7 +7,7 @@ ghost use Rattle.one_thread_floor.specs.ListFloors.{floor_of};
 
 use crate::list_floor::ListFloor;
 use crate::list_queries::kind_at;
-use channel_model::{ChannelFloor, Got, Kind, Offered, Settled, WaitState};
+use channel_model::{AlreadyClosed, ChannelFloor, Got, Kind, Offered, Settled, WaitState};
 use co_base::{Memory, Tag, Value, WaitId};
 
 /// Whether channel 0 is there, and carries elements.
@@ -70,6 +70,14 @@ fn receive(floor: &mut ListFloor, who: Tag) -> Result<Got, Memory> {
     Ok(floor.receive(who, 0))
 }
 
+fn close(floor: &mut ListFloor, who: Tag, v: Value) -> Result<Result<(), AlreadyClosed>, Memory> {
+    if !carries_elements(floor) {
+        return Err(Memory);
+    }
+    floor.room(1)?;
+    Ok(floor.close(who, 0, v))
+}
+
 fn look(floor: &mut ListFloor, who: Tag, place: u32) -> Option<WaitState> {
     let w = WaitId { channel: 0, place };
     if !is_own(floor, who, w) {
@@ -123,5 +131,9 @@ fn two_sides_meet_in_order(rt: HostRuntime) {
         Ok(Some(Settled::Cancelled))
     );
     assert_eq!(rt; receive(&mut floor, 3), Ok(Got::Spent));
-    assert_eq!(rt; floor.entries().len(), 12);
+    assert_eq!(rt; close(&mut floor, 5, 80), Ok(Ok(())));
+    assert_eq!(rt; close(&mut floor, 6, 81), Ok(Err(AlreadyClosed { v: 80 })));
+    assert_eq!(rt; offer(&mut floor, 5, 75), Ok(Offered::Closed(80)));
+    assert_eq!(rt; receive(&mut floor, 3), Ok(Got::Closed(80)));
+    assert_eq!(rt; floor.entries().len(), 13);
 }
