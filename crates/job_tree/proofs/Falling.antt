@@ -1,7 +1,7 @@
 -- Children in the order in which they were attached, each of a third of the weight of the one before.
 use Rattle.std.specs.Prelude.{◌≡◌, ◌≢◌, ℕ, ◌+◌, ◌*◌, ◌==◌, ◌≤◌, ◌<◌, Bool, true, false, ◌||◌, List, [], ◌∷◌, ◌++◌, Option, Some, None, if◌then◌else◌, refl}
 use Rattle.std.proofs.Common.{sym, ap, ◌∙◌, subst, arith}
-use Rattle.std.proofs.lemmas.Bool.{eqb-true}
+use Rattle.std.proofs.lemmas.Bool.{eqb-true, eq-eqb}
 use Rattle.job_model.specs.Trees.{is_among}
 use Rattle.job_model.specs.Families.{newest, newest_after, older, older_after}
 use Rattle.job_model.proofs.Rows.{same}
@@ -71,11 +71,11 @@ none_newest (x ∷ xs) h = cc
 
 -- ---- the one before
 
--- the child that stands right before c: whoever weighs no more than it, and is another, weighs no more than c
+-- d stands right before c: any other that weighs no more than d weighs no more than c
 pub record IsNextTo (w : ℕ → ℕ) (cs : List ℕ) (c d : ℕ) : Type 0 where
   pub among : is_among d cs ≡ true
   pub heavier : 3 * w c ≤ w d
-  pub between : (P : Type 0) (e : ℕ) → is_among e cs ≡ true → w e ≤ w d → (e ≡ d → P) → (w e ≤ w c → P) → P
+  pub between : (e : ℕ) → is_among e cs ≡ true → w e ≤ w d → (e == d) ≡ false → w e ≤ w c
 
 older_next : (w : ℕ → ℕ) (b : ℕ) (cs : List ℕ) (c d : ℕ) → IsFalling w (w b) cs → older_after (Some b) c cs ≡ Some d → IsNextTo w (b ∷ cs) c d
 older_next w b [] c d f h = cc
@@ -101,14 +101,14 @@ older_next w b (x ∷ xs) c d f h = by_test (c == x) refl h (older_next w x xs c
         subst (IsNextTo w (b ∷ x ∷ xs) c) db (record {
           among = ap (λ t. t || is_among b (x ∷ xs)) (same b);
           heavier = subst (λ z. 3 * w z ≤ w b) (sym is) f.1;
-          between = λ P e a le first later. among_cases P e b (x ∷ xs) a first (λ m. later (subst (λ z. w e ≤ w z) (sym is) (at_most e m)));
+          between = λ e a le apart. among_cases _ e b (x ∷ xs) a (λ m. absurd (let u : true ≡ false = sym (eq-eqb e b m) ∙ apart in cc)) (λ m. subst (λ z. w e ≤ w z) (sym is) (at_most e m));
         })
     by_test false k h rest =
         let r = rest h in
         record {
           among = or_right (d == b) (is_among d (x ∷ xs)) r.among;
           heavier = r.heavier;
-          between = λ P e a le first later. among_cases P e b (x ∷ xs) a (λ m. absurd (too_heavy (w e) (w b) (w d) (w x) (ap w m) le (at_most d r.among) f.0 f.1)) (λ m. r.between P e m le first later);
+          between = λ e a le apart. among_cases _ e b (x ∷ xs) a (λ m. absurd (too_heavy (w e) (w b) (w d) (w x) (ap w m) le (at_most d r.among) f.0 f.1)) (λ m. r.between e m le apart);
         }
 
 pub older_is_next : (w : ℕ → ℕ) (m : ℕ) (cs : List ℕ) (c d : ℕ) → IsFalling w m cs → older c cs ≡ Some d → IsNextTo w cs c d

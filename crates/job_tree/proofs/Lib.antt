@@ -1,3 +1,6 @@
 pub mod Covered
 pub mod Falling
 pub mod Rooms
+pub mod Ranks
+pub mod Looks
+pub mod Notes

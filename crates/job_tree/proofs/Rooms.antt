@@ -3,6 +3,7 @@ use Rattle.std.specs.Prelude.{◌≡◌, ◌≢◌, ℕ, zero, suc, ◌+◌, ◌
 use mathlib.Core.List.{IsPrefix}
 use Rattle.std.proofs.Common.{sym, ap, ◌∙◌, subst, arith}
 use Rattle.std.proofs.lemmas.Bool.{eqb-true}
+use Rattle.std.proofs.lemmas.Bool.Decides.{nat_tests}
 use Rattle.std.proofs.lemmas.List.Folds.{list_any-append}
 use Rattle.job_model.specs.declared.acts.Reason.{Reason}
 use Rattle.job_model.specs.declared.acts.JobAct.{JobAct}
@@ -26,9 +27,6 @@ use Rattle.job_tree.specs.Rooms.{count_below, uncancelled, MayCancelAll}
 
 -- ---- counts
 
-one_or_none : Bool → ℕ
-one_or_none b = if b then 1 else 0
-
 pub count_le : (n : ℕ) (t s : ℕ → Bool) → ((r : ℕ) → t r ≡ true → s r ≡ true) → count_below n t ≤ count_below n s
 count_le zero t s h = omega arith
 count_le (suc n) t s h = both (t n) (s n) (h n) (count_below n t) (count_below n s) (count_le n t s h)
@@ -37,11 +35,11 @@ count_le (suc n) t s h = both (t n) (s n) (h n) (count_below n t) (count_below n
     both true true k x y le = omega arith
     both true false k x y le = absurd (let u : false ≡ true = k refl in cc)
     both false true k x y le = omega arith
-    both false false k x y le = le
+    both false false k x y le = omega arith
 
 pub count_less : (n : ℕ) (t s : ℕ → Bool) (q : ℕ) → q < n → t q ≡ false → s q ≡ true → ((r : ℕ) → t r ≡ true → s r ≡ true) → count_below n t + 1 ≤ count_below n s
 count_less zero t s q l a b h = omega arith
-count_less (suc n) t s q l a b h = by_test (q == n) refl
+count_less (suc n) t s q l a b h = by_test (q == n) refl (λ k. count_less n t s q k a b h)
   where
     here : (x y : ℕ) → x ≤ y → 0 + x + 1 ≤ 1 + y
     here x y le = omega arith
@@ -55,13 +53,13 @@ count_less (suc n) t s q l a b h = by_test (q == n) refl
     below : (q n : ℕ) → q < suc n → (q == n) ≡ false → q < n
     below q n l e = grind (arith, nat_tests)
 
-    by_test : (b' : Bool) → (q == n) ≡ b' → (if t n then 1 else 0) + count_below n t + 1 ≤ (if s n then 1 else 0) + count_below n s
-    by_test true k =
+    by_test : (b' : Bool) → (q == n) ≡ b' → (q < n → count_below n t + 1 ≤ count_below n s) → (if t n then 1 else 0) + count_below n t + 1 ≤ (if s n then 1 else 0) + count_below n s
+    by_test true k rest =
         let is : q ≡ n = eqb-true q n k in
         let a' : t n ≡ false = subst (λ z. t z ≡ false) is a in
         let b' : s n ≡ true = subst (λ z. s z ≡ true) is b in
         rw a' (rw b' (here (count_below n t) (count_below n s) (count_le n t s h)))
-    by_test false k = later (t n) (s n) (h n) (count_below n t) (count_below n s) (count_less n t s q (below q n l k) a b h)
+    by_test false k rest = later (t n) (s n) (h n) (count_below n t) (count_below n s) (rest (below q n l k))
 
 pub count_some : (n : ℕ) (t : ℕ → Bool) (q : ℕ) → q < n → t q ≡ true → 1 ≤ count_below n t
 count_some n t q l e =
@@ -99,6 +97,9 @@ unmarked shape es r l m = by_test (has cancels r es) refl
     by_test : (b : Bool) → has cancels r es ≡ b → has cancels r es ≡ false
     by_test true k = absurd (not_cancellable (replay es r) m (marked_from shape _ es r l k))
     by_test false k = k
+
+pub marked : (shape : Shape) (es : List JobEntry) (r : ℕ) → Legal shape es → has cancels r es ≡ true → IsCancellingOrEnded (replay es r)
+marked shape es r l h = marked_from shape _ es r l h
 
 has_more : (r : ℕ) (xs ys : List JobEntry) → has cancels r (xs ++ ys) ≡ (has cancels r xs || has cancels r ys)
 has_more r xs ys = list_any-append (λ (e : JobEntry). cancels r e.act) xs ys
@@ -148,7 +149,7 @@ seen_room row a b moment spare s l w p m le room =
     let g = room.book_room in
     record { floor_room = omega arith; book_room = omega arith }
 
-now_marked : (r : ℕ) (xs : List JobEntry) (who : ℕ) (reason : Reason) → has cancels r (xs ++ record { who = who; act = Cancel r reason } ∷ []) ≡ true
+pub now_marked : (r : ℕ) (xs : List JobEntry) (who : ℕ) (reason : Reason) → has cancels r (xs ++ record { who = who; act = Cancel r reason } ∷ []) ≡ true
 now_marked r xs who reason = has_more r xs _ ∙ ap (λ b. has cancels r xs || (b || false)) (same r) ∙ or_true (has cancels r xs)
   where
     or_true : (b : Bool) → (b || true) ≡ true
