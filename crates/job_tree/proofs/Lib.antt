@@ -4,3 +4,4 @@ pub mod Rooms
 pub mod Ranks
 pub mod Looks
 pub mod Notes
+pub mod Ways

@@ -11,6 +11,8 @@ use Rattle.job_model.specs.declared.acts.JobEntry.{JobEntry}
 use Rattle.job_model.specs.declared.floor.JobView.{JobView}
 use Rattle.job_model.specs.declared.floor.Link.{Link}
 use Rattle.job_model.specs.Trees.{Shape, IsShape, Job, Tree, is_cancellable, is_ended, parent_of}
+use Rattle.job_model.specs.Acts.{cancels}
+use Rattle.job_model.specs.Laws.{has}
 use Rattle.job_model.specs.Needs.{Holds, MayBeCancelled}
 use Rattle.job_model.specs.Families.{IsCancellingOrEnded, newest, older_sibling}
 use Rattle.job_model.specs.Histories.{replay, Legal}
@@ -83,7 +85,7 @@ step_cancelled row a b l m = prefix_keeps _ cancelling_lasts b.shape m.moment b.
 pub made_cancelled : (who row : ℕ) (reason : Reason) (a b c : Floor) → Legal c.shape c.seen → Made who (Cancel row reason) [] a b → IsPrefix b.seen c.seen → IsCancellingOrEnded (replay c.seen row)
 made_cancelled who row reason a b c l m p =
     let lb = Legal-prefix c.shape b.seen p.0 (subst (Legal c.shape) (sym p.1) l) in
-    prefix_keeps _ cancelling_lasts c.shape b.seen c.seen row l p (marked c.shape b.seen row lb (ap _ m.last ∙ now_marked row m.before who reason))
+    prefix_keeps _ cancelling_lasts c.shape b.seen c.seen row l p (marked c.shape b.seen row lb (ap (has cancels row) m.last ∙ now_marked row m.before who reason))
 
 -- a look, an act that was noted, and a look
 pub noted_one : (who : ℕ) (act : JobAct) (a b c d : Floor) (items items' : List Item) → Looked who [] a b → Made who act [] b c → Looked who [] c d → items' ≡ items ++ made_note act ∷ [] → Noted who (act ∷ []) a d items items'

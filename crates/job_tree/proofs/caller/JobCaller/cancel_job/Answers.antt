@@ -1,4 +1,5 @@
-use Rattle.std.proofs.Common.{rules, sym, ◌∙◌, refl}
+use Rattle.std.proofs.Common.{sym, ap, ◌∙◌, refl}
+use Rattle.job_model.proofs.Spans.{added_made}
 use Rattle.job_tree.proofs.Looks.{in_rows, may_later, holds_later, never_none, seen_cancelled, room_seen, step_cancelled, made_cancelled, noted_one, looked_twice}
 use Rattle.job_tree.proofs.Notes.{noted_looked}
 use Rattle.job_tree.proofs.Rooms.{looked_room, cancel_room}
@@ -33,19 +34,31 @@ cancel_one-requires g c =
     }
 
 pub note-requires : goal.note-requires
-note-requires g c = (room_seen _ _ _ _ _ _ (g.met.F.JobFloor.shaped c.args.self.now.floor.now) (g.met.F.JobFloor.legal c.args.self.now.floor.now) (g.met.F.JobFloor.legal c.look.new.self) c.requires.can c.in-Some.ensures.answer (sym c.if-not-is_cancellable.ensures) c.requires.room).book_room
+note-requires g c = record {
+  room = (room_seen _ _ _ _ _ _ (g.met.F.JobFloor.shaped c.args.self.now.floor.now) (g.met.F.JobFloor.legal c.args.self.now.floor.now) (g.met.F.JobFloor.legal c.look.new.self) c.requires.can c.in-Some.ensures.answer (sym c.if-not-is_cancellable.ensures) c.requires.room).book_room;
+}
 
 pub wake_job-requires : goal.wake_job-requires
-wake_job-requires g c = ?
+wake_job-requires g c =
+    let k = c.look.ensures.answer.0 in
+    let m = added_made _ _ _ _ _ c.in-Now.ensures.answer in
+    record {
+      can = may_later _ _ _ _ m.same m.longer (g.met.F.JobFloor.legal c.cancel_one.new.self) (may_later _ _ _ _ k.same k.longer (g.met.F.JobFloor.legal c.look.new.self) c.requires.can);
+    }
 
 pub returns-in-Now-clause-answer : goal.returns-in-Now-clause-answer
 returns-in-Now-clause-answer g c = record {
-  noted = noted_one _ _ _ _ _ _ _ _ c.look.ensures.answer.0 c.in-Now.ensures.answer c.wake_job.ensures.looked ?;
-  cancelled = made_cancelled _ _ _ _ _ _ ? c.in-Now.ensures.answer c.wake_job.ensures.looked.longer;
+  noted = noted_one _ _ _ _ _ _ _ _ c.look.ensures.answer.0 c.in-Now.ensures.answer c.wake_job.ensures.looked (ap g.B.NoteBook.items c.wake_job.ensures.book ∙ c.note.ensures.items);
+  cancelled = made_cancelled _ _ _ _ _ _ (g.met.F.JobFloor.legal c.wake_job.new.self.floor.now) c.in-Now.ensures.answer c.wake_job.ensures.looked.longer;
 }
 
 pub returns-in-Now-clause-room : goal.returns-in-Now-clause-room
-returns-in-Now-clause-room g c = ?
+returns-in-Now-clause-room g c =
+    let k = c.look.ensures.answer.0 in
+    let l = g.met.F.JobFloor.legal c.look.new.self in
+    looked_room _ _ _ _ _ _ c.wake_job.ensures.looked (ap g.B.NoteBook.spare c.wake_job.ensures.book)
+    (cancel_room _ _ _ _ _ _ _ (g.met.F.JobFloor.legal c.cancel_one.new.self) (in_rows _ _ _ (g.met.F.JobFloor.shaped c.look.new.self) l (may_later _ _ _ _ k.same k.longer l c.requires.can)) c.in-Now.ensures.answer c.note.ensures.spare
+    (looked_room _ _ _ _ _ _ k refl c.requires.room))
 
 pub returns-in-Already-clause-answer : goal.returns-in-Already-clause-answer
 returns-in-Already-clause-answer g c = record {
