@@ -5,3 +5,4 @@ pub mod Ranks
 pub mod Looks
 pub mod Notes
 pub mod Ways
+pub mod Walks

@@ -156,16 +156,52 @@ now_marked r xs who reason = has_more r xs _ ∙ ap (λ b. has cancels r xs || (
     or_true true = refl
     or_true false = refl
 
--- a Cancel takes one of each
-pub cancel_room : (who row : ℕ) (reason : Reason) (a b : Floor) (spare spare' : ℕ) → Legal b.shape b.seen → row < a.shape.rows → Made who (Cancel row reason) [] a b → spare ≡ spare' + 1 → MayCancelAll a spare → MayCancelAll b spare'
-cancel_room who row reason a b spare spare' l w m e room =
+pub looked_fewer : (who : ℕ) (rows : List ℕ) (a b : Floor) → Looked who rows a b → 0 + uncancelled b ≤ uncancelled a
+looked_fewer who rows a b h =
+    let k = uncancelled_le a.shape.rows a.seen b.seen h.longer in
+    let same = same_rows a b h.same.shape in
+    omega arith
+
+pub looked_fewer_twice : (who : ℕ) (rows : List ℕ) (a b c : Floor) → Looked who rows a b → Looked who rows b c → 0 + uncancelled c ≤ uncancelled a
+looked_fewer_twice who rows a b c h k =
+    let x = looked_fewer who rows a b h in
+    let y = looked_fewer who rows b c k in
+    omega arith
+
+-- after a Cancel one row less has none
+made_fewer : (who row : ℕ) (reason : Reason) (a b : Floor) → Legal b.shape b.seen → row < a.shape.rows → Made who (Cancel row reason) [] a b → 1 + uncancelled b ≤ uncancelled a
+made_fewer who row reason a b l w m =
     let parts = Legal-last b.shape m.before _ (subst (Legal b.shape) m.last l) in
     let none = unmarked b.shape m.before row parts.0 parts.1.0 in
     let now : has cancels row b.seen ≡ true = ap (has cancels row) m.last ∙ now_marked row m.before who reason in
     let k = uncancelled_le a.shape.rows a.seen m.before m.longer in
     let less = count_less a.shape.rows (λ r. not (has cancels r b.seen)) (λ r. not (has cancels r m.before)) row w (ap not now) (ap not none) (λ r h. still_none r m.before b.seen (_, sym m.last) h) in
     let same = same_rows a b m.same.shape in
+    omega arith
+
+pub cancel_fewer : (who row : ℕ) (reason : Reason) (a b c : Floor) {d : Floor} → Looked who [] a b → Legal c.shape c.seen → row < a.shape.rows → Made who (Cancel row reason) [] b c → Looked who [] c d → 1 + uncancelled d ≤ uncancelled a
+cancel_fewer who row reason a b c {d} h l w m k =
+    let x = looked_fewer who [] a b h in
+    let y = made_fewer who row reason b c l (subst (λ (s : Shape). row < s.rows) (sym h.same.shape) w) m in
+    let z = looked_fewer who [] c d k in
+    omega arith
+
+-- a Cancel takes one of each
+pub cancel_room : (who row : ℕ) (reason : Reason) (a b : Floor) (spare spare' : ℕ) → Legal b.shape b.seen → row < a.shape.rows → Made who (Cancel row reason) [] a b → spare ≡ spare' + 1 → MayCancelAll a spare → MayCancelAll b spare'
+cancel_room who row reason a b spare spare' l w m e room =
+    let k = made_fewer who row reason a b l w m in
     let f = room.floor_room in
     let g = room.book_room in
     let s = m.spare in
     record { floor_room = omega arith; book_room = omega arith }
+
+pub uncancelled_rows : (a : Floor) → uncancelled a ≤ a.shape.rows
+uncancelled_rows a = at_most a.shape.rows (λ r. not (has cancels r a.seen))
+  where
+    one : (b : Bool) (x n : ℕ) → x ≤ n → (if b then 1 else 0) + x ≤ suc n
+    one true x n le = omega arith
+    one false x n le = omega arith
+
+    at_most : (n : ℕ) (t : ℕ → Bool) → count_below n t ≤ n
+    at_most zero t = omega arith
+    at_most (suc n) t = one (t n) (count_below n t) n (at_most n t)

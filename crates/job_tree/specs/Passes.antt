@@ -1,5 +1,5 @@
 -- Passes: a Job is cancelled with all below it.
-use Rattle.std.specs.Prelude.{◌≡◌, ℕ, ◌+◌, Bool, true, false, List, [], ◌∷◌, ◌++◌, length, Option, Some, None, if◌then◌else◌}
+use Rattle.std.specs.Prelude.{◌≡◌, ℕ, ◌+◌, ◌≤◌, Bool, true, false, List, [], ◌∷◌, ◌++◌, length, Option, Some, None, if◌then◌else◌}
 use Rattle.job_model.specs.declared.acts.JobAct.{JobAct}
 use Rattle.job_model.specs.declared.acts.JobAct.TheVariants.{Attach, Start, EndBody, Cancel, Finish, Gone}
 use Rattle.job_model.specs.declared.acts.Reason.{Reason}
@@ -10,6 +10,7 @@ use Rattle.job_model.specs.Histories.{replay}
 use Rattle.job_model.specs.Floors.{Floor, Looked, AtStep}
 use Rattle.note_book.specs.declared.book.Item.{Item}
 use Rattle.job_tree.specs.Notes.{Noted}
+use Rattle.job_tree.specs.Rooms.{uncancelled}
 use Rattle.job_tree.specs.declared.steps.Turn.{Turn}
 use Rattle.job_tree.specs.declared.steps.Turn.TheVariants.{To, Over, Up}
 
@@ -42,6 +43,7 @@ AreCancelsBelow tree row (act ∷ acts) = IsCancelBelow tree row act × AreCance
 -- whether the Cancel of one Job was made; in the end the Job is Cancelling or ended
 pub record CancelledAnswer (who row : ℕ) (reason : Reason) (old new : Floor) (items items' : List Item) (now : Bool) : Type 0 where
   pub noted : Noted who (own_cancel now row reason) old new items items'
+  pub fewer : length (own_cancel now row reason) + uncancelled new ≤ uncancelled old
   pub cancelled : IsCancellingOrEnded (replay new.seen row)
 
 -- the Jobs below the row were cancelled, so many by this call, and are all Cancelling or ended

@@ -1,6 +1,6 @@
 //! To cancel a Job and all below it.
 
-ghost use Rattle.std.specs.Prelude.{◌≡◌};
+ghost use Rattle.std.specs.Prelude.{◌≡◌, ◌<◌};
 ghost use Rattle.job_model.specs.Needs.{Holds};
 ghost use Rattle.job_model.specs.Histories.{replay};
 ghost use Rattle.job_model.specs.Families.{IsCancellingOrEnded};
@@ -35,7 +35,9 @@ impl<F: JobFloor, B: NoteBook, W: Wakes> JobCaller<'_, F, B, W> {
         ensures anchor { F.anchor self.new.floor.now ≡ F.anchor self.old.floor.now }
         ensures pass { IsPassBelow self.old.who row (F.view self.old.floor.now) (F.view self.new.floor.now) (B.items self.old.book.now) (B.items self.new.book.now) result }
         ensures room { MayCancelAll (F.view self.new.floor.now) (B.spare self.new.book.now) }
+        ensures small { result < 65536 }
     {
+        let most = u32::from(self.floor.rows());
         let mut count = 0;
         let mut at = row;
         let mut done = false;
@@ -43,6 +45,7 @@ impl<F: JobFloor, B: NoteBook, W: Wakes> JobCaller<'_, F, B, W> {
             match self.turn(at, done) {
                 Turn::To(next) => {
                     if self.cancel_job(next, Reason::Parent) {
+                        prove!(count < most);
                         count += 1;
                     }
                     at = next;

@@ -2,7 +2,7 @@ use Rattle.std.proofs.Common.{sym, ap, ◌∙◌, refl}
 use Rattle.job_model.proofs.Spans.{added_made}
 use Rattle.job_tree.proofs.Looks.{in_rows, may_later, holds_later, never_none, seen_cancelled, room_seen, step_cancelled, made_cancelled, noted_one, looked_twice}
 use Rattle.job_tree.proofs.Notes.{noted_looked}
-use Rattle.job_tree.proofs.Rooms.{looked_room, cancel_room}
+use Rattle.job_tree.proofs.Rooms.{looked_room, cancel_room, looked_fewer, looked_fewer_twice, cancel_fewer}
 use Rattle.job_tree.proofs.caller.JobCaller.cancel_job.Goals as goal
 
 pub look-requires-clause-row : goal.look-requires-clause-row
@@ -17,6 +17,7 @@ returns-in_default-clause-room g c = looked_room _ _ _ _ _ _ c.look.ensures.answ
 pub returns-then-not-is_cancellable-clause-answer : goal.returns-then-not-is_cancellable-clause-answer
 returns-then-not-is_cancellable-clause-answer g c = record {
   noted = noted_looked _ _ _ _ _ refl c.look.ensures.answer.0;
+  fewer = looked_fewer _ _ _ _ c.look.ensures.answer.0;
   cancelled = seen_cancelled _ _ _ _ _ (g.met.F.JobFloor.legal c.look.new.self) c.in-Some.ensures.answer (sym c.if-not-is_cancellable.ensures);
 }
 
@@ -49,7 +50,8 @@ wake_job-requires g c =
 pub returns-in-Now-clause-answer : goal.returns-in-Now-clause-answer
 returns-in-Now-clause-answer g c = record {
   noted = noted_one _ _ _ _ _ _ _ _ c.look.ensures.answer.0 c.in-Now.ensures.answer c.wake_job.ensures.looked (ap g.B.NoteBook.items c.wake_job.ensures.book ∙ c.note.ensures.items);
-  cancelled = made_cancelled _ _ _ _ _ _ (g.met.F.JobFloor.legal c.wake_job.new.self.floor.now) c.in-Now.ensures.answer c.wake_job.ensures.looked.longer;
+  fewer = cancel_fewer _ _ _ _ _ _ c.look.ensures.answer.0 (g.met.F.JobFloor.legal c.cancel_one.new.self) (in_rows _ _ _ (g.met.F.JobFloor.shaped c.args.self.now.floor.now) (g.met.F.JobFloor.legal c.args.self.now.floor.now) c.requires.can) c.in-Now.ensures.answer c.wake_job.ensures.looked;
+  cancelled = made_cancelled _ _ _ _ (g.F.JobFloor.view c.cancel_one.new.self) (g.F.JobFloor.view c.wake_job.new.self.floor.now) (g.met.F.JobFloor.legal c.wake_job.new.self.floor.now) c.in-Now.ensures.answer c.wake_job.ensures.looked.longer;
 }
 
 pub returns-in-Now-clause-room : goal.returns-in-Now-clause-room
@@ -63,6 +65,7 @@ returns-in-Now-clause-room g c =
 pub returns-in-Already-clause-answer : goal.returns-in-Already-clause-answer
 returns-in-Already-clause-answer g c = record {
   noted = looked_twice _ _ _ _ _ c.look.ensures.answer.0 c.in-Already.ensures.answer.0;
+  fewer = looked_fewer_twice _ _ _ _ _ c.look.ensures.answer.0 c.in-Already.ensures.answer.0;
   cancelled = step_cancelled _ _ _ (g.met.F.JobFloor.legal c.cancel_one.new.self) c.in-Already.ensures.answer.1;
 }
 
