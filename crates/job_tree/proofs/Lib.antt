@@ -4,5 +4,6 @@ pub mod Rooms
 pub mod Ranks
 pub mod Looks
 pub mod Notes
+pub mod Failures
 pub mod Ways
 pub mod Walks

@@ -3,6 +3,7 @@ use Rattle.std.specs.Prelude.{◌≡◌, ◌≢◌, ℕ, ◌+◌, ◌*◌, ◌-�
 use mathlib.Core.List.{IsPrefix}
 use Rattle.std.proofs.Common.{sym, ap, ◌∙◌, subst, arith, length-append}
 use Rattle.std.proofs.lemmas.Bool.{eq-eqb}
+use Rattle.job_model.specs.declared.acts.Reason.{Reason}
 use Rattle.job_model.specs.declared.acts.Reason.TheVariants as reasons
 use Rattle.job_model.specs.declared.acts.JobAct.{JobAct}
 use Rattle.job_model.specs.declared.acts.JobEntry.{JobEntry}
@@ -10,10 +11,10 @@ use Rattle.job_model.specs.Trees.{Shape, IsShape, Job, Tree, start, is_among, pa
 use Rattle.job_model.specs.Needs.{IsCancelled, Holds}
 use Rattle.job_model.specs.Families.{IsBelow, IsCancellingOrEnded, children_of, older_sibling}
 use Rattle.job_model.specs.Histories.{replay, Legal}
-use Rattle.job_model.specs.Floors.{Floor, SameSetting, Looked, AtStep}
+use Rattle.job_model.specs.Floors.{Floor, SameSetting, MayCall, Looked, AtStep}
 use Rattle.job_model.specs.Laws.{HasFamilies}
 use Rattle.job_model.proofs.Histories.{Legal-prefix}
-use Rattle.job_model.proofs.Spans.{prefix_self, prefix_then, nothing_more, claimed_none}
+use Rattle.job_model.proofs.Spans.{prefix_self, prefix_then, nothing_more, claimed_none, setting_then}
 use Rattle.job_model.proofs.Lasting.{Lasts, history_keeps, attached_lasts, parent_lasts}
 use Rattle.job_model.proofs.Own.{prefix_keeps}
 use Rattle.job_model.proofs.Families.{replay_families}
@@ -21,9 +22,10 @@ use Rattle.job_model.proofs.Below.{cancelling_lasts, below_kept}
 use Rattle.note_book.specs.declared.book.Item.{Item}
 use Rattle.job_tree.specs.Notes.{Noted}
 use Rattle.job_tree.specs.Rooms.{uncancelled}
-use Rattle.job_tree.specs.Passes.{IsAllCancelled, IsNewestOf, HasNoneBelow, AreCancelsBelow, IsPassBelow, own_cancel, CancelledAnswer, TurnAnswer}
+use Rattle.job_tree.specs.Passes.{IsAllCancelled, IsNewestOf, HasNoneBelow, AreCancelsBelow, IsPassBelow, IsPass, own_cancel, CancelledAnswer, TurnAnswer}
 use Rattle.job_tree.specs.declared.steps.Turn.TheVariants.{To, Over, Up}
 use Rattle.job_tree.proofs.Covered.{prefix_keeps_all}
+use Rattle.job_tree.proofs.Failures.{failure_later}
 use Rattle.job_tree.proofs.Ranks.{ranks, top_rank, are_ranks, ranks_stay}
 use Rattle.job_tree.proofs.Notes.{noted_then, noted_looked, cancels_below_kept}
 use Rattle.job_tree.proofs.Rooms.{looked_fewer, uncancelled_rows}
@@ -231,13 +233,13 @@ none_so_far who top a items = record { acts = []; noted = noted_looked who a a i
     looked_self : (who : ℕ) (a : Floor) → Looked who [] a a
     looked_self who a = record { same = record { shape = refl; alone = refl; callers = refl }; longer = prefix_self a.seen; mine = refl; alone = λ e. refl; spare = omega arith; claims = claimed_none who a a (λ r. refl) }
 
-pub so_far_looked : (who top : ℕ) (a b c : Floor) (i j : List Item) (count : ℕ) → Legal c.shape c.seen → IsPassSoFar who top a b i j count → Looked who [] b c → IsPassSoFar who top a c i j count
-so_far_looked who top a b c i j count l h k =
+pub so_far_looked : (who top : ℕ) (a b c : Floor) (i j k' : List Item) (count : ℕ) → Legal c.shape c.seen → k' ≡ j → IsPassSoFar who top a b i j count → Looked who [] b c → IsPassSoFar who top a c i k' count
+so_far_looked who top a b c i j k' count l e h k =
     let f = looked_fewer who [] b c k in
     let g = h.fewer in
     record {
       acts = h.acts ++ [];
-      noted = noted_then who h.acts [] a b c i j j h.noted (noted_looked who b c j j refl k);
+      noted = noted_then who h.acts [] a b c i j k' h.noted (noted_looked who b c j k' e k);
       cancels = subst (AreCancelsBelow (replay c.seen) top) (sym (nothing_more h.acts)) (cancels_below_kept c.shape b.seen c.seen top h.acts l k.longer h.cancels);
       counted = h.counted ∙ ap length (sym (nothing_more h.acts));
       fewer = omega arith;
@@ -266,3 +268,88 @@ so_far_cancelled who top row now a b c i j k count next l below e h m =
 
 pub so_far_small : (who top : ℕ) (a b : Floor) (i j : List Item) (count : ℕ) → IsPassSoFar who top a b i j count → count ≤ a.shape.rows
 so_far_small who top a b i j count h = let f = h.fewer in let g = uncancelled_rows a in omega arith
+
+-- ---- what a turn comes to
+
+-- the history is legal for the numbers of rows at the start
+pub legal_as : (a b : Floor) → SameSetting a b → Legal b.shape b.seen → Legal a.shape b.seen
+legal_as a b same l = subst (λ (s : Shape). Legal s b.seen) same.shape l
+
+pub to_next : (who who' top at next : ℕ) (done : Bool) (a b c : Floor) (i j : List Item) (count : ℕ) → IsShape a.shape → Legal c.shape c.seen → IsPassSoFar who top a b i j count → IsWalk a.shape b.seen top at done → (done ≡ true → (at == top) ≡ false) → Looked who' [] b c → TurnAnswer at done b c (To next) → IsNext a.shape b.seen c.seen top at done next
+to_next who who' top at next done a b c i j count s l h w apart k t =
+    turn_to a.shape b c top at done next s (legal_as a c (setting_then a b c h.noted.added.same k.same) l) w apart t
+
+pub may_next : (who who' row next : ℕ) (a c : Floor) → who' ≡ who → MayCall who row a → SameSetting a c → is_some (replay c.seen next) ≡ true → MayCall who' next c
+may_next who who' row next a c e m same h = record { caller = ap (λ (f : ℕ → Bool). f who') same.callers ∙ ap a.callers e ∙ m.caller; attached = h }
+
+pub record IsAfter (who top at : ℕ) (done : Bool) (a b d : Floor) (items items' : List Item) (next : ℕ) (over : Bool) (count : ℕ) : Type 0 where
+  pub walk : IsWalk a.shape d.seen top next over
+  pub less : left a.shape d.seen next over < left a.shape b.seen at done
+  pub so_far : IsPassSoFar who top a d items items' count
+
+looked_by : (who who' : ℕ) (b c : Floor) → who' ≡ who → Looked who' [] b c → Looked who [] b c
+looked_by who who' b c e k = subst (λ n. Looked n [] b c) e k
+
+pub after_to : (who who' who'' top at next : ℕ) (done now : Bool) (a b c d : Floor) (i j j' k : List Item) (count count' : ℕ) → who' ≡ who → who'' ≡ who → j' ≡ j → count' ≡ count + length (own_cancel now next reasons.Parent) → IsShape a.shape → Legal c.shape c.seen → Legal d.shape d.seen
+    → IsPassSoFar who top a b i j count → IsWalk a.shape b.seen top at done → (done ≡ true → (at == top) ≡ false) → Looked who' [] b c → TurnAnswer at done b c (To next) → CancelledAnswer who'' next reasons.Parent c d j' k now → IsAfter who top at done a b d i k next false count'
+after_to who who' who'' top at next done now a b c d i j j' k count count' e e' f n s lc ld h w apart look t m =
+    let next_is = to_next who who' top at next done a b c i j count s lc h w apart look t in
+    let far = so_far_looked who top a b c i j j' count lc f h (looked_by who who' b c e look) in
+    let m' : CancelledAnswer who next reasons.Parent c d j' k now = subst (λ x. CancelledAnswer x next reasons.Parent c d j' k now) e' m in
+    let far' = so_far_cancelled who top next now a c d i j' k count count' ld next_is.below n far m' in
+    let la = legal_as a d far'.noted.added.same ld in
+    let r = next_walk a.shape b.seen c.seen d.seen top at done next la m.noted.added.longer next_is m.cancelled in
+    record { walk = r.0; less = less_left a.shape b.seen d.seen top at next done false s la r.0 r.1; so_far = far' }
+
+-- there is room for one more in the count
+pub count_less_rows : (who who' who'' top next : ℕ) (a b c d : Floor) (i j j' k : List Item) (count : ℕ) → who' ≡ who → Legal c.shape c.seen → j' ≡ j → IsPassSoFar who top a b i j count → Looked who' [] b c → CancelledAnswer who'' next reasons.Parent c d j' k true → count < a.shape.rows
+count_less_rows who who' who'' top next a b c d i j j' k count e l f h look m =
+    let far = so_far_looked who top a b c i j j' count l f h (looked_by who who' b c e look) in
+    let x = far.fewer in
+    let y = m.fewer in
+    let z = uncancelled_rows a in
+    omega arith
+
+pub after_over : (who who' top at : ℕ) (done : Bool) (a b c : Floor) (i j j' : List Item) (count : ℕ) → who' ≡ who → j' ≡ j → IsShape a.shape → Legal c.shape c.seen
+    → IsPassSoFar who top a b i j count → IsWalk a.shape b.seen top at done → Looked who' [] b c → TurnAnswer at done b c Over → IsAfter who top at done a b c i j' at true count
+after_over who who' top at done a b c i j j' count e f s l h w look t =
+    let far = so_far_looked who top a b c i j j' count l f h (looked_by who who' b c e look) in
+    let la = legal_as a c far.noted.added.same l in
+    let r = turn_over a.shape b c top at done s la w t in
+    record { walk = r.0; less = less_left a.shape b.seen c.seen top at at done true s la r.0 r.1; so_far = far }
+
+pub after_up : (who who' top at p : ℕ) (done : Bool) (a b c : Floor) (i j j' : List Item) (count : ℕ) → who' ≡ who → j' ≡ j → IsShape a.shape → Legal c.shape c.seen
+    → IsPassSoFar who top a b i j count → IsWalk a.shape b.seen top at done → (done ≡ true → (at == top) ≡ false) → Looked who' [] b c → TurnAnswer at done b c (Up p) → IsAfter who top at done a b c i j' p done count
+after_up who who' top at p true a b c i j j' count e f s l h w apart look t =
+    let far = so_far_looked who top a b c i j j' count l f h (looked_by who who' b c e look) in
+    let la = legal_as a c far.noted.added.same l in
+    let r = turn_up a.shape b c top at true p s la w apart t in
+    record { walk = r.0; less = less_left a.shape b.seen c.seen top at p true true s la r.0 r.1; so_far = far }
+after_up who who' top at p false a b c i j j' count e f s l h w apart look t = absurd t
+
+pub pass_below_done : (who top : ℕ) (a b : Floor) (i j : List Item) (count : ℕ) → IsPassSoFar who top a b i j count → IsAllCancelled (replay b.seen) top → IsPassBelow who top a b i j count
+pass_below_done who top a b i j count h all = record { acts = h.acts; noted = h.noted; cancels = h.cancels; counted = h.counted; all = all }
+
+pub none_more : (n : ℕ) → n ≡ n + 0
+none_more n = omega arith
+
+-- a pass is the Cancel of its row, where it was made, and a pass below it
+pub passed : (who who' row : ℕ) (reason : Reason) (newly : Bool) (a b c : Floor) (i j k : List Item) (count next : ℕ) → who' ≡ who → next ≡ length (own_cancel newly row reason) + count → Legal c.shape c.seen → CancelledAnswer who row reason a b i j newly → IsPassBelow who' row b c j k count → IsPass who row reason newly a c i k next
+passed who who' row reason newly a b c i j k count next e n l h m =
+    let own = own_cancel newly row reason in
+    record {
+      acts = m.acts;
+      noted = noted_then who own m.acts a b c i j k h.noted (subst (λ x. Noted x m.acts b c j k) e m.noted);
+      cancels = m.cancels;
+      counted = n ∙ ap (λ x. length own + x) m.counted ∙ sym (length-append own m.acts);
+      all = m.all;
+      failed = λ f g. failure_later c.shape b.seen c.seen row l m.noted.added.longer (h.failed f g);
+    }
+
+pub one_newly : (newly : Bool) (row : ℕ) (reason : Reason) (n : ℕ) → newly ≡ true → n + 1 ≡ length (own_cancel newly row reason) + n
+one_newly true row reason n e = omega arith
+one_newly false row reason n e = cc
+
+pub none_newly : (newly : Bool) (row : ℕ) (reason : Reason) (n : ℕ) → newly ≡ false → n ≡ length (own_cancel newly row reason) + n
+none_newly true row reason n e = cc
+none_newly false row reason n e = omega arith

@@ -4,7 +4,7 @@ use Rattle.job_model.specs.declared.acts.JobAct.{JobAct}
 use Rattle.job_model.specs.declared.acts.JobAct.TheVariants.{Attach, Start, EndBody, Cancel, Finish, Gone}
 use Rattle.job_model.specs.declared.acts.Reason.{Reason}
 use Rattle.job_model.specs.declared.acts.Reason.TheVariants as reasons
-use Rattle.job_model.specs.Trees.{Job, Tree, parent_of, is_ended}
+use Rattle.job_model.specs.Trees.{Job, Tree, parent_of, is_ended, is_failure}
 use Rattle.job_model.specs.Families.{IsBelow, IsCancellingOrEnded, IsEnded, AllBelowCancelled, newest, older_sibling, children_of}
 use Rattle.job_model.specs.Histories.{replay}
 use Rattle.job_model.specs.Floors.{Floor, Looked, AtStep}
@@ -38,6 +38,18 @@ abbrev pub AreCancelsBelow : Tree → ℕ → List JobAct → Type 0
 AreCancelsBelow tree row [] = Unit {0}
 AreCancelsBelow tree row (act ∷ acts) = IsCancelBelow tree row act × AreCancelsBelow tree row acts
 
+-- a Cancel for this reason makes the cause a failure
+abbrev pub is_for_failure : Reason → Bool
+is_for_failure reasons.Request = false
+is_for_failure reasons.Parent = false
+is_for_failure (reasons.Child c) = true
+is_for_failure (reasons.Own f) = true
+
+-- its cause is a failure
+abbrev pub IsFailure : Option Job → Type 0
+IsFailure None = ⊥
+IsFailure (Some j) = is_failure j.cause ≡ true
+
 -- ---- answers
 
 -- whether the Cancel of one Job was made; in the end the Job is Cancelling or ended
@@ -45,6 +57,7 @@ pub record CancelledAnswer (who row : ℕ) (reason : Reason) (old new : Floor) (
   pub noted : Noted who (own_cancel now row reason) old new items items'
   pub fewer : length (own_cancel now row reason) + uncancelled new ≤ uncancelled old
   pub cancelled : IsCancellingOrEnded (replay new.seen row)
+  pub failed : now ≡ true → is_for_failure reason ≡ true → IsFailure (replay new.seen row)
 
 -- the Jobs below the row were cancelled, so many by this call, and are all Cancelling or ended
 pub record IsPassBelow (who row : ℕ) (old new : Floor) (items items' : List Item) (count : ℕ) : Type 0 where
@@ -61,6 +74,12 @@ pub record IsPass (who row : ℕ) (reason : Reason) (newly : Bool) (old new : Fl
   pub cancels : AreCancelsBelow (replay new.seen) row acts
   pub counted : count ≡ length (own_cancel newly row reason ++ acts)
   pub all : IsAllCancelled (replay new.seen) row
+  pub failed : newly ≡ true → is_for_failure reason ≡ true → IsFailure (replay new.seen row)
+
+-- a pass, whether it cancelled the Job itself or that had been cancelled
+pub record IsSomePass (who row : ℕ) (reason : Reason) (old new : Floor) (items items' : List Item) (count : ℕ) : Type 0 where
+  pub newly : Bool
+  pub pass : IsPass who row reason newly old new items items' count
 
 -- ---- the walk
 

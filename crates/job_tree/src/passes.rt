@@ -6,7 +6,7 @@ ghost use Rattle.job_model.specs.Histories.{replay};
 ghost use Rattle.job_model.specs.Families.{IsCancellingOrEnded};
 ghost use Rattle.job_model.specs.Floors.{MayCall};
 ghost use Rattle.job_tree.specs.Rooms.{MayCancelAll};
-ghost use Rattle.job_tree.specs.Passes.{IsPass, IsPassBelow};
+ghost use Rattle.job_tree.specs.Passes.{IsPass, IsPassBelow, IsSomePass};
 
 use crate::caller::JobCaller;
 use crate::steps::Turn;
@@ -56,6 +56,23 @@ impl<F: JobFloor, B: NoteBook, W: Wakes> JobCaller<'_, F, B, W> {
             }
         }
         count
+    }
+
+    /// Cancels a Job and all below it, the newest child first, and answers how many it cancelled. Asks that the
+    /// coroutine of each of these be polled. Takes no memory.
+    pub fn cancel_pass(&mut self, row: Row, reason: Reason) -> u32
+        requires can { MayCall self.old.who row (F.view self.old.floor.now) }
+        requires reason { Holds (F.view self.old.floor.now).shape (replay (F.view self.old.floor.now).seen) self.old.who row reason }
+        requires room { MayCancelAll (F.view self.old.floor.now) (B.spare self.old.book.now) }
+        ensures same_floor { self.new.floor.ghost_name ≡ self.old.floor.ghost_name }
+        ensures same_book { self.new.book.ghost_name ≡ self.old.book.ghost_name }
+        ensures same_wakes { self.new.wakes.ghost_name ≡ self.old.wakes.ghost_name }
+        ensures who { self.new.who ≡ self.old.who }
+        ensures anchor { F.anchor self.new.floor.now ≡ F.anchor self.old.floor.now }
+        ensures pass { IsSomePass self.old.who row reason (F.view self.old.floor.now) (F.view self.new.floor.now) (B.items self.old.book.now) (B.items self.new.book.now) result }
+        ensures room { MayCancelAll (F.view self.new.floor.now) (B.spare self.new.book.now) }
+    {
+        self.pass(row, reason).count
     }
 
     /// As `cancel_pass`, and answers besides whether the Job itself was cancelled now.

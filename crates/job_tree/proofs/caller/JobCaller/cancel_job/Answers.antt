@@ -1,6 +1,7 @@
-use Rattle.std.proofs.Common.{sym, ap, ◌∙◌, refl}
+use Rattle.std.proofs.Common.{◌≡◌, true, false, sym, ap, ◌∙◌, refl}
 use Rattle.job_model.proofs.Spans.{added_made}
 use Rattle.job_tree.proofs.Looks.{in_rows, may_later, holds_later, never_none, seen_cancelled, room_seen, step_cancelled, made_cancelled, noted_one, looked_twice}
+use Rattle.job_tree.proofs.Failures.{made_failure}
 use Rattle.job_tree.proofs.Notes.{noted_looked}
 use Rattle.job_tree.proofs.Rooms.{looked_room, cancel_room, looked_fewer, looked_fewer_twice, cancel_fewer}
 use Rattle.job_tree.proofs.caller.JobCaller.cancel_job.Goals as goal
@@ -18,6 +19,7 @@ pub returns-then-not-is_cancellable-clause-answer : goal.returns-then-not-is_can
 returns-then-not-is_cancellable-clause-answer g c = record {
   noted = noted_looked _ _ _ _ _ refl c.look.ensures.answer.0;
   fewer = looked_fewer _ _ _ _ c.look.ensures.answer.0;
+  failed = λ e f. absurd (let u : false ≡ true = e in cc);
   cancelled = seen_cancelled _ _ _ _ _ (g.met.F.JobFloor.legal c.look.new.self) c.in-Some.ensures.answer (sym c.if-not-is_cancellable.ensures);
 }
 
@@ -51,6 +53,7 @@ pub returns-in-Now-clause-answer : goal.returns-in-Now-clause-answer
 returns-in-Now-clause-answer g c = record {
   noted = noted_one _ _ _ _ _ _ _ _ c.look.ensures.answer.0 c.in-Now.ensures.answer c.wake_job.ensures.looked (ap g.B.NoteBook.items c.wake_job.ensures.book ∙ c.note.ensures.items);
   fewer = cancel_fewer _ _ _ _ _ _ c.look.ensures.answer.0 (g.met.F.JobFloor.legal c.cancel_one.new.self) (in_rows _ _ _ (g.met.F.JobFloor.shaped c.args.self.now.floor.now) (g.met.F.JobFloor.legal c.args.self.now.floor.now) c.requires.can) c.in-Now.ensures.answer c.wake_job.ensures.looked;
+  failed = λ e f. made_failure _ _ _ _ (g.F.JobFloor.view c.cancel_one.new.self) (g.F.JobFloor.view c.wake_job.new.self.floor.now) (g.met.F.JobFloor.legal c.cancel_one.new.self) (g.met.F.JobFloor.legal c.wake_job.new.self.floor.now) c.in-Now.ensures.answer c.wake_job.ensures.looked.longer f;
   cancelled = made_cancelled _ _ _ _ (g.F.JobFloor.view c.cancel_one.new.self) (g.F.JobFloor.view c.wake_job.new.self.floor.now) (g.met.F.JobFloor.legal c.wake_job.new.self.floor.now) c.in-Now.ensures.answer c.wake_job.ensures.looked.longer;
 }
 
@@ -66,6 +69,7 @@ pub returns-in-Already-clause-answer : goal.returns-in-Already-clause-answer
 returns-in-Already-clause-answer g c = record {
   noted = looked_twice _ _ _ _ _ c.look.ensures.answer.0 c.in-Already.ensures.answer.0;
   fewer = looked_fewer_twice _ _ _ _ _ c.look.ensures.answer.0 c.in-Already.ensures.answer.0;
+  failed = λ e f. absurd (let u : false ≡ true = e in cc);
   cancelled = step_cancelled _ _ _ (g.met.F.JobFloor.legal c.cancel_one.new.self) c.in-Already.ensures.answer.1;
 }
 
