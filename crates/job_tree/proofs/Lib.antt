@@ -4,6 +4,7 @@ pub mod Rooms
 pub mod Ranks
 pub mod Looks
 pub mod Notes
-pub mod Failures
+pub mod Causes
 pub mod Ways
 pub mod Walks
+pub mod Climbs

@@ -122,7 +122,7 @@ pub turn_over : (who row : ℕ) (v : JobView) (a b : Floor) → LookAnswer who r
 turn_over who row v a b k f = let m = k.1 in record { moment = m.moment; after = m.after; before = m.before; holds = none_seen (replay m.moment row) v m.holds f }
 
 -- what a link says
-link_is : (tree : Tree) (r : ℕ) (x : Option Job) (l : Link) → link_of tree r x ≡ Some l → (parent_of x ≡ Some l.parent) × (older_sibling tree r ≡ l.next)
+pub link_is : (tree : Tree) (r : ℕ) (x : Option Job) (l : Link) → link_of tree r x ≡ Some l → (parent_of x ≡ Some l.parent) × (older_sibling tree r ≡ l.next)
 link_is tree r None l e = cc
 link_is tree r (Some j) l e = by_parent j.parent e
   where

@@ -25,7 +25,7 @@ use Rattle.job_tree.specs.Rooms.{uncancelled}
 use Rattle.job_tree.specs.Passes.{IsAllCancelled, IsNewestOf, HasNoneBelow, AreCancelsBelow, IsPassBelow, IsPass, own_cancel, CancelledAnswer, TurnAnswer}
 use Rattle.job_tree.specs.declared.steps.Turn.TheVariants.{To, Over, Up}
 use Rattle.job_tree.proofs.Covered.{prefix_keeps_all}
-use Rattle.job_tree.proofs.Failures.{failure_later}
+use Rattle.job_tree.proofs.Causes.{failure_later}
 use Rattle.job_tree.proofs.Ranks.{ranks, top_rank, are_ranks, ranks_stay}
 use Rattle.job_tree.proofs.Notes.{noted_then, noted_looked, cancels_below_kept}
 use Rattle.job_tree.proofs.Rooms.{looked_fewer, uncancelled_rows}

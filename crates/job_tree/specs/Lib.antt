@@ -1,3 +1,4 @@
 pub mod Notes
 pub mod Rooms
 pub mod Passes
+pub mod Failures

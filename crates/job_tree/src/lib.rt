@@ -6,9 +6,11 @@
 //! - `caller`: who calls, and on what
 //! - `steps`: one step of a call, noted
 //! - `passes`: to cancel a Job and all below it
+//! - `failures`: to pass a failure on to the parents
 #![tactic(auto)]
 
 mod caller;
+mod failures;
 mod passes;
 mod steps;
 

@@ -1,7 +1,7 @@
 use Rattle.std.proofs.Common.{◌≡◌, true, false, sym, ap, ◌∙◌, refl}
 use Rattle.job_model.proofs.Spans.{added_made}
 use Rattle.job_tree.proofs.Looks.{in_rows, may_later, holds_later, never_none, seen_cancelled, room_seen, step_cancelled, made_cancelled, noted_one, looked_twice}
-use Rattle.job_tree.proofs.Failures.{made_failure}
+use Rattle.job_tree.proofs.Causes.{made_failure}
 use Rattle.job_tree.proofs.Notes.{noted_looked}
 use Rattle.job_tree.proofs.Rooms.{looked_room, cancel_room, looked_fewer, looked_fewer_twice, cancel_fewer}
 use Rattle.job_tree.proofs.caller.JobCaller.cancel_job.Goals as goal
