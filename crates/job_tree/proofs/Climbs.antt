@@ -53,7 +53,7 @@ supervisor_lasts b = record {
   attached = λ h x. absurd h;
 }
 
-goes_kept : (shape : Shape) (xs ys : List JobEntry) (row p : ℕ) → Legal shape ys → IsPrefix xs ys → GoesTo (replay xs) row p → GoesTo (replay ys) row p
+pub goes_kept : (shape : Shape) (xs ys : List JobEntry) (row p : ℕ) → Legal shape ys → IsPrefix xs ys → GoesTo (replay xs) row p → GoesTo (replay ys) row p
 goes_kept shape xs ys row p l pre h = record {
   parent = prefix_keeps _ (parent_lasts p) shape xs ys row l pre h.parent;
   child = prefix_keeps _ (scope_lasts false) shape xs ys row l pre h.child;
