@@ -1,5 +1,5 @@
 -- A failure goes up, step by step.
-use Rattle.std.specs.Prelude.{◌≡◌, ℕ, ◌+◌, ◌==◌, ◌≤◌, ◌<◌, Bool, true, false, List, [], ◌∷◌, ◌++◌, Option, Some, None, is_some, option_map, refl}
+use Rattle.std.specs.Prelude.{◌≡◌, ℕ, ◌+◌, ◌≤◌, ◌<◌, Bool, true, false, List, [], ◌∷◌, ◌++◌, Option, Some, None, is_some, option_map, refl}
 use mathlib.Core.List.{IsPrefix}
 use Rattle.std.proofs.Common.{sym, ap, ◌∙◌, subst, arith, append_assoc}
 use Rattle.job_model.specs.declared.acts.JobAct.{JobAct}
@@ -12,7 +12,7 @@ use Rattle.job_model.specs.Trees.{Shape, IsShape, Job, Tree, is_among, is_superv
 use Rattle.job_model.specs.Families.{children_of}
 use Rattle.job_model.specs.Needs.{IsFailedChild, Holds}
 use Rattle.job_model.specs.Histories.{replay, Legal}
-use Rattle.job_model.specs.Floors.{Floor, SameSetting, MayCall, Looked, AtStep}
+use Rattle.job_model.specs.Floors.{Floor, SameSetting, MayCall, Looked}
 use Rattle.job_model.specs.Answers.{view_of, LookAnswer, LinkAnswer}
 use Rattle.job_model.proofs.Spans.{prefix_self, prefix_then, nothing_more, setting_then, claimed_none, claimed_then}
 use Rattle.job_model.proofs.Lasting.{Lasts, attached_lasts, parent_lasts}
@@ -20,8 +20,8 @@ use Rattle.job_model.proofs.Own.{prefix_keeps}
 use Rattle.job_model.proofs.Families.{replay_families}
 use Rattle.note_book.specs.declared.book.Item.{Item}
 use Rattle.job_tree.specs.Notes.{Noted}
-use Rattle.job_tree.specs.Passes.{IsFailure, IsPass, IsAllCancelled, own_cancel}
-use Rattle.job_tree.specs.Failures.{IsScope, IsSupervisor, StaysBelow, GoesTo, FailsUp, IsFailedUp, ParentAnswer}
+use Rattle.job_tree.specs.Passes.{IsFailure, IsPass}
+use Rattle.job_tree.specs.Failures.{IsScope, IsSupervisor, StaysBelow, GoesTo, FailsUp, IsFailedUp}
 use Rattle.job_tree.proofs.Covered.{prefix_keeps_all}
 use Rattle.job_tree.proofs.Looks.{link_is}
 use Rattle.job_tree.proofs.Notes.{noted_looked, noted_then, cancels_below_kept}
@@ -161,9 +161,9 @@ climb_up who who' row at p true a b c i j k count e f l h g m =
       failed = m.failed refl refl;
       attached = parent_attached c.shape c.seen at p l (goes_kept c.shape b.seen c.seen at p l longer g).parent;
       on = λ ys more ly pre u.
-        subst (FailsUp (replay ys) row) (sym (append_assoc h.acts (Cancel p (reasons.Child at) ∷ m.acts) more))
-        (h.on ys (Cancel p (reasons.Child at) ∷ m.acts ++ more) ly (prefix_then b.seen c.seen ys longer pre)
-        (FailsUp.goes_on at p m.acts more _ (goes_kept a.shape b.seen ys at p ly (prefix_then b.seen c.seen ys longer pre) g) (prefix_keeps_all a.shape c.seen ys p ly pre m.all) (cancels_below_kept a.shape c.seen ys p m.acts ly pre m.cancels) u refl));
+          subst (FailsUp (replay ys) row) (sym (append_assoc h.acts (Cancel p (reasons.Child at) ∷ m.acts) more))
+          (h.on ys (Cancel p (reasons.Child at) ∷ m.acts ++ more) ly (prefix_then b.seen c.seen ys longer pre)
+          (FailsUp.goes_on at p m.acts more _ (goes_kept a.shape b.seen ys at p ly (prefix_then b.seen c.seen ys longer pre) g) (prefix_keeps_all a.shape c.seen ys p ly pre m.all) (cancels_below_kept a.shape c.seen ys p m.acts ly pre m.cancels) u refl));
     }
 climb_up who who' row at p false a b c i j k count e f l h g m = cc
 

@@ -1,13 +1,10 @@
 -- What a look at a Job says of it from then on.
-use Rattle.std.specs.Prelude.{◌≡◌, ℕ, ◌+◌, ◌<◌, ◌≤◌, Bool, true, false, List, [], ◌∷◌, ◌++◌, Option, Some, None, is_some, option_map, map, refl}
+use Rattle.std.specs.Prelude.{◌≡◌, ℕ, ◌<◌, Bool, true, false, List, [], ◌∷◌, ◌++◌, Option, Some, None, is_some, option_map, refl}
 use mathlib.Core.List.{IsPrefix}
-use Rattle.std.proofs.Common.{sym, ap, ◌∙◌, subst, arith}
-use Rattle.job_model.specs.declared.acts.JobState.{JobState}
-use Rattle.job_model.specs.declared.acts.JobState.TheVariants.{New, Active, Completing, Cancelling, Cancelled, Completed}
+use Rattle.std.proofs.Common.{sym, ap, ◌∙◌, subst}
 use Rattle.job_model.specs.declared.acts.Reason.{Reason}
 use Rattle.job_model.specs.declared.acts.JobAct.{JobAct}
 use Rattle.job_model.specs.declared.acts.JobAct.TheVariants.{Cancel}
-use Rattle.job_model.specs.declared.acts.JobEntry.{JobEntry}
 use Rattle.job_model.specs.declared.floor.JobView.{JobView}
 use Rattle.job_model.specs.declared.floor.Link.{Link}
 use Rattle.job_model.specs.Trees.{Shape, IsShape, Job, Tree, is_cancellable, is_ended, parent_of}

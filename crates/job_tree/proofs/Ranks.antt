@@ -2,7 +2,7 @@
 --
 -- An attached row weighs a third of each row that was attached before it. Its rank is the weight of all on its path from
 -- the root. So the rank grows from a parent to a child, and from a child to an older one by more than all below it.
-use Rattle.std.specs.Prelude.{◌≡◌, ◌≢◌, ℕ, zero, suc, ◌+◌, ◌*◌, ◌-◌, ◌==◌, ◌≤◌, ◌<◌, Bool, true, false, List, [], ◌∷◌, ◌++◌, length, Option, Some, None, is_some, if◌then◌else◌, refl}
+use Rattle.std.specs.Prelude.{◌≡◌, ℕ, zero, suc, ◌+◌, ◌*◌, ◌==◌, ◌≤◌, Bool, true, false, List, [], ◌∷◌, ◌++◌, length, Option, Some, None, is_some, if◌then◌else◌, refl}
 use mathlib.Core.List.{IsPrefix}
 use Rattle.std.proofs.Common.{sym, ap, ◌∙◌, subst, arith}
 use Rattle.std.proofs.lemmas.Bool.{eqb-true}
@@ -21,10 +21,10 @@ use Rattle.job_model.specs.Laws.{HasFamilies}
 use Rattle.job_model.proofs.Rows.{same}
 use Rattle.job_model.proofs.Steps.{RowStep, row_step}
 use Rattle.job_model.proofs.Lasting.{act_keeps, attached_lasts}
-use Rattle.job_model.proofs.Families.{parent_was, after_families, start_families, start_root, replay_families}
+use Rattle.job_model.proofs.Families.{parent_was, after_families, start_families}
 use Rattle.job_model.proofs.Claims.{attached_was}
 use Rattle.job_model.proofs.Short.{legal_is_short}
-use Rattle.job_tree.proofs.Falling.{IsFalling, falling_push, falling_same, falling_light}
+use Rattle.job_tree.proofs.Falling.{IsFalling, falling_push, falling_same}
 
 pub record Ranks : Type 0 where
   pub rank : ℕ → ℕ

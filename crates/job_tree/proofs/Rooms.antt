@@ -1,5 +1,5 @@
 -- Room for each Cancel that may still be made, as the history goes on.
-use Rattle.std.specs.Prelude.{◌≡◌, ◌≢◌, ℕ, zero, suc, ◌+◌, ◌==◌, ◌≤◌, ◌<◌, Bool, true, false, not, ◌||◌, List, [], ◌∷◌, ◌++◌, Option, Some, None, if◌then◌else◌, refl}
+use Rattle.std.specs.Prelude.{◌≡◌, ℕ, zero, suc, ◌+◌, ◌==◌, ◌≤◌, ◌<◌, Bool, true, false, not, ◌||◌, List, [], ◌∷◌, ◌++◌, Option, Some, None, if◌then◌else◌, refl}
 use mathlib.Core.List.{IsPrefix}
 use Rattle.std.proofs.Common.{sym, ap, ◌∙◌, subst, arith}
 use Rattle.std.proofs.lemmas.Bool.{eqb-true}
@@ -9,20 +9,19 @@ use Rattle.job_model.specs.declared.acts.Reason.{Reason}
 use Rattle.job_model.specs.declared.acts.JobAct.{JobAct}
 use Rattle.job_model.specs.declared.acts.JobAct.TheVariants.{Cancel}
 use Rattle.job_model.specs.declared.acts.JobEntry.{JobEntry}
-use Rattle.job_model.specs.Trees.{Shape, IsShape, Job, Tree, is_cancellable}
+use Rattle.job_model.specs.Trees.{Shape, IsShape, Job, Tree}
 use Rattle.job_model.specs.Acts.{cancels}
 use Rattle.job_model.specs.Effects.{after}
-use Rattle.job_model.specs.Needs.{Needs, MayBeCancelled}
+use Rattle.job_model.specs.Needs.{MayBeCancelled}
 use Rattle.job_model.specs.Families.{IsCancellingOrEnded}
 use Rattle.job_model.specs.Histories.{replay, replay_from, Legal, LegalFrom}
-use Rattle.job_model.specs.Floors.{Floor, Looked, Made, HasRoom}
+use Rattle.job_model.specs.Floors.{Floor, Looked, Made}
 use Rattle.job_model.specs.Laws.{has}
-use Rattle.job_model.proofs.Histories.{replay-append, Legal-append, Legal-last}
+use Rattle.job_model.proofs.Histories.{Legal-last}
 use Rattle.job_model.proofs.Rows.{same}
 use Rattle.job_model.proofs.Lasting.{history_keeps}
 use Rattle.job_model.proofs.Steps.{RowStep, row_step}
 use Rattle.job_model.proofs.Below.{cancelling_lasts}
-use Rattle.job_model.proofs.Short.{attached_within}
 use Rattle.job_tree.specs.Rooms.{count_below, uncancelled, MayCancelAll}
 
 -- ---- counts

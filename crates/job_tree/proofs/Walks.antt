@@ -1,5 +1,5 @@
 -- The walk of a pass, turn by turn.
-use Rattle.std.specs.Prelude.{◌≡◌, ◌≢◌, ℕ, ◌+◌, ◌*◌, ◌-◌, ◌==◌, ◌≤◌, ◌<◌, Bool, true, false, List, [], ◌∷◌, ◌++◌, length, Option, Some, None, is_some, if◌then◌else◌, refl}
+use Rattle.std.specs.Prelude.{◌≡◌, ◌≢◌, ℕ, ◌+◌, ◌*◌, ◌-◌, ◌==◌, ◌≤◌, ◌<◌, Bool, true, false, List, [], ◌∷◌, ◌++◌, length, Option, Some, None, is_some, refl}
 use mathlib.Core.List.{IsPrefix}
 use Rattle.std.proofs.Common.{sym, ap, ◌∙◌, subst, arith, length-append}
 use Rattle.std.proofs.lemmas.Bool.{eq-eqb}
@@ -11,8 +11,7 @@ use Rattle.job_model.specs.Trees.{Shape, IsShape, Job, Tree, start, is_among, pa
 use Rattle.job_model.specs.Needs.{IsCancelled, Holds}
 use Rattle.job_model.specs.Families.{IsBelow, IsCancellingOrEnded, children_of, older_sibling}
 use Rattle.job_model.specs.Histories.{replay, Legal}
-use Rattle.job_model.specs.Floors.{Floor, SameSetting, MayCall, Looked, AtStep}
-use Rattle.job_model.specs.Laws.{HasFamilies}
+use Rattle.job_model.specs.Floors.{Floor, SameSetting, MayCall, Looked}
 use Rattle.job_model.proofs.Histories.{Legal-prefix}
 use Rattle.job_model.proofs.Spans.{prefix_self, prefix_then, nothing_more, claimed_none, setting_then}
 use Rattle.job_model.proofs.Lasting.{Lasts, history_keeps, attached_lasts, parent_lasts}
@@ -29,7 +28,7 @@ use Rattle.job_tree.proofs.Causes.{failure_later}
 use Rattle.job_tree.proofs.Ranks.{ranks, top_rank, are_ranks, ranks_stay}
 use Rattle.job_tree.proofs.Notes.{noted_then, noted_looked, cancels_below_kept}
 use Rattle.job_tree.proofs.Rooms.{looked_fewer, uncancelled_rows}
-use Rattle.job_tree.proofs.Ways.{IsWay, way_kept, still_cancelled, IsStep, step_down, IsStepOver, step_over, step_none, IsStepUp, step_up}
+use Rattle.job_tree.proofs.Ways.{IsWay, way_kept, still_cancelled, IsStep, step_down, step_over, step_none, step_up}
 
 -- ---- where a walk stands
 
@@ -169,9 +168,10 @@ over_walk shape xs m ys top at s l p q h n =
     let lm : Legal shape m = Legal-prefix shape m q.0 (subst (Legal shape) (sym q.1) l) in
     let k = walk_kept shape xs m top at false lm p h in
     let all = step_none shape m at lm k.cancelled n in
-    let j = walk_kept shape m ys top at false l q k in
-    (record { attached = j.attached; way = j.way; cancelled = j.cancelled; all = λ e. prefix_keeps_all shape m ys at l q all },
-     more (same_walked shape xs ys at false l (prefix_then xs m ys p q) h.attached) ((are_ranks shape ys s l).heavy at j.attached))
+    let j = walk_kept shape m ys top at false l q k in (
+      record { attached = j.attached; way = j.way; cancelled = j.cancelled; all = λ e. prefix_keeps_all shape m ys at l q all },
+      more (same_walked shape xs ys at false l (prefix_then xs m ys p q) h.attached) ((are_ranks shape ys s l).heavy at j.attached),
+    )
   where
     more : {a b w : ℕ} → b ≡ a → 1 ≤ w → a < b + w
     more {a} {b} {w} e f = omega arith
@@ -183,9 +183,10 @@ up_walk shape xs m ys top at p s l pre q h apart e o =
     let up = step_up shape m top at p s lm k.way apart (k.all refl) e o in
     let r = are_ranks shape m s lm in
     let a = has_children (replay m p) at ((replay_families shape m lm).listed p at e) in
-    let j : IsWalk shape m top p true = record { attached = a; way = up.way; cancelled = up.all.here; all = λ z. up.all } in
-    (walk_kept shape m ys top p true l q j,
-     more ((ranks shape m).rank at) ((ranks shape m).weight at) ((ranks shape m).rank p) ((ranks shape m).weight p) (same_walked shape xs m at true lm pre h.attached) (r.child p at e) up.heavier (r.heavy at k.attached) (same_walked shape m ys p true l q a))
+    let j : IsWalk shape m top p true = record { attached = a; way = up.way; cancelled = up.all.here; all = λ z. up.all } in (
+      walk_kept shape m ys top p true l q j,
+      more ((ranks shape m).rank at) ((ranks shape m).weight at) ((ranks shape m).rank p) ((ranks shape m).weight p) (same_walked shape xs m at true lm pre h.attached) (r.child p at e) up.heavier (r.heavy at k.attached) (same_walked shape m ys p true l q a),
+    )
   where
     has_children : (x : Option Job) (c : ℕ) → is_among c (children_of x) ≡ true → is_some x ≡ true
     has_children None c e = cc

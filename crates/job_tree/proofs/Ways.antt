@@ -1,5 +1,5 @@
 -- The way of a walk: how far it has come, as the history goes on.
-use Rattle.std.specs.Prelude.{◌≡◌, ℕ, ◌+◌, ◌*◌, ◌==◌, ◌≤◌, ◌<◌, Bool, true, false, List, [], ◌∷◌, ◌++◌, Option, Some, None, is_some, refl}
+use Rattle.std.specs.Prelude.{◌≡◌, ℕ, ◌*◌, ◌==◌, ◌≤◌, Bool, true, false, List, [], Option, Some, None, is_some, refl}
 use mathlib.Core.List.{IsPrefix}
 use Rattle.std.proofs.Common.{sym, ap, ◌∙◌, subst, arith}
 use Rattle.std.proofs.lemmas.Bool.{eqb-true, eq-eqb}
@@ -12,15 +12,14 @@ use Rattle.job_model.specs.Needs.{IsCancelled, Holds}
 use Rattle.job_model.specs.Families.{IsBelow, IsCancellingOrEnded, IsEnded, children_of, newest, older, older_sibling}
 use Rattle.job_model.specs.Histories.{replay, Legal}
 use Rattle.job_model.specs.Laws.{HasFamilies}
-use Rattle.job_model.proofs.Lasting.{attached_lasts, parent_lasts}
+use Rattle.job_model.proofs.Lasting.{parent_lasts}
 use Rattle.job_model.proofs.Own.{prefix_keeps}
 use Rattle.job_model.proofs.Reasons.{reason_holds_on}
 use Rattle.job_model.proofs.Families.{replay_families}
 use Rattle.job_model.proofs.Ends.{descendants_ended}
-use Rattle.job_model.proofs.Below.{cancelling_lasts}
 use Rattle.job_tree.specs.Passes.{IsAllCancelled, IsNewestOf, HasNoneBelow}
 use Rattle.job_tree.proofs.Covered.{prefix_keeps_all, late_all}
-use Rattle.job_tree.proofs.Falling.{IsFalling, newest_lightest, older_is_next, oldest_heaviest, falling_light}
+use Rattle.job_tree.proofs.Falling.{newest_lightest, older_is_next, oldest_heaviest, falling_light}
 use Rattle.job_tree.proofs.Ranks.{ranks, are_ranks, ranks_stay}
 
 -- each child of p that is newer than c is Cancelling or ended with all below it

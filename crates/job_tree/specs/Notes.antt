@@ -1,5 +1,5 @@
 -- What a caller notes of its acts on Jobs.
-use Rattle.std.specs.Prelude.{◌≡◌, ℕ, List, [], ◌∷◌, ◌++◌, map}
+use Rattle.std.specs.Prelude.{◌≡◌, ℕ, List, [], ◌++◌, map}
 use Rattle.job_model.specs.declared.acts.JobAct.{JobAct}
 use Rattle.job_model.specs.declared.acts.JobNote.TheVariants as note
 use Rattle.job_model.specs.Floors.{Floor, Added}

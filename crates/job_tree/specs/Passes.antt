@@ -1,13 +1,13 @@
 -- Passes: a Job is cancelled with all below it.
-use Rattle.std.specs.Prelude.{◌≡◌, ℕ, ◌+◌, ◌≤◌, Bool, true, false, List, [], ◌∷◌, ◌++◌, length, Option, Some, None, if◌then◌else◌}
+use Rattle.std.specs.Prelude.{◌≡◌, ℕ, ◌+◌, ◌≤◌, Bool, true, false, List, [], ◌∷◌, ◌++◌, length, Option, Some, None}
 use Rattle.job_model.specs.declared.acts.JobAct.{JobAct}
 use Rattle.job_model.specs.declared.acts.JobAct.TheVariants.{Attach, Start, EndBody, Cancel, Finish, Gone}
 use Rattle.job_model.specs.declared.acts.Reason.{Reason}
 use Rattle.job_model.specs.declared.acts.Reason.TheVariants as reasons
 use Rattle.job_model.specs.Trees.{Job, Tree, parent_of, is_ended, is_failure}
-use Rattle.job_model.specs.Families.{IsBelow, IsCancellingOrEnded, IsEnded, AllBelowCancelled, newest, older_sibling, children_of}
+use Rattle.job_model.specs.Families.{IsBelow, IsCancellingOrEnded, AllBelowCancelled, newest, older_sibling}
 use Rattle.job_model.specs.Histories.{replay}
-use Rattle.job_model.specs.Floors.{Floor, Looked, AtStep}
+use Rattle.job_model.specs.Floors.{Floor, AtStep}
 use Rattle.note_book.specs.declared.book.Item.{Item}
 use Rattle.job_tree.specs.Notes.{Noted}
 use Rattle.job_tree.specs.Rooms.{uncancelled}

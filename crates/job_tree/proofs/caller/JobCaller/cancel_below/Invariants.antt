@@ -1,4 +1,4 @@
-use Rattle.std.proofs.Common.{◌≡◌, ◌<◌, ℕ}
+use Rattle.std.proofs.Common.{◌≡◌, ◌<◌}
 use Rattle.job_tree.specs.Rooms.{MayCancelAll}
 use Rattle.job_tree.proofs.Walks.{IsWalk, IsPassSoFar, left}
 use Rattle.job_tree.proofs.caller.JobCaller.cancel_below.Given as goal

@@ -1,4 +1,3 @@
-use Rattle.std.proofs.Common.{refl}
 use Rattle.job_model.proofs.Spans.{prefix_self, prefix_then}
 use Rattle.job_tree.specs.Failures.{StaysBelow}
 use Rattle.job_tree.proofs.Looks.{in_rows, may_later, never_none}
