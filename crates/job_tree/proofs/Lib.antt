@@ -8,3 +8,4 @@ pub mod Causes
 pub mod Ways
 pub mod Walks
 pub mod Climbs
+pub mod Endings

@@ -2,3 +2,4 @@ pub mod Notes
 pub mod Rooms
 pub mod Passes
 pub mod Failures
+pub mod Endings

@@ -7,11 +7,14 @@
 //! - `steps`: one step of a call, noted
 //! - `passes`: to cancel a Job and all below it
 //! - `failures`: to pass a failure on to the parents
+//! - `ends`: to end Jobs, from one upwards
 #![tactic(auto)]
 
 mod caller;
+mod ends;
 mod failures;
 mod passes;
 mod steps;
 
 pub use caller::JobCaller;
+pub use ends::Ends;
