@@ -16,17 +16,19 @@ use Rattle.job_model.specs.Families.{IsEnded}
 use Rattle.job_model.specs.Answers.{FinishAnswer}
 use Rattle.job_model.specs.Histories.{replay, Legal}
 use Rattle.job_model.specs.Laws.{HasFamilies}
-use Rattle.job_model.specs.Floors.{Floor, HasRoom, Looked, Made, AtStep, Added}
+use Rattle.job_model.specs.Floors.{Floor, SameSetting, HasRoom, Looked, Made, AtStep, Added}
 use Rattle.job_model.proofs.Histories.{replay_push, Legal-last}
-use Rattle.job_model.proofs.Spans.{nothing_more, prefix_then, added_looked, added_room, added_made, added_then}
+use Rattle.job_model.proofs.Spans.{nothing_more, prefix_then, added_looked, added_room, added_made, added_then, setting_then}
 use Rattle.job_model.proofs.Families.{changed_here, replay_families}
 use Rattle.job_model.proofs.RowMarks.{live_before}
 use Rattle.job_model.proofs.Ends.{told_only}
 use Rattle.note_book.specs.declared.book.Item.{Item}
 use Rattle.note_book.specs.Items.{job_acts_in}
 use Rattle.job_tree.specs.Notes.{made_note}
-use Rattle.job_tree.specs.Endings.{HasEnded, IsPrepared, IsEndedBy, MayNotEnd}
-use Rattle.job_tree.proofs.Climbs.{looked_self}
+use Rattle.job_tree.specs.Endings.{HasEnded, IsPrepared, IsEndedBy, MayNotEnd, EndAnswer, IsFinishedUp}
+use Rattle.job_tree.specs.declared.ends.Rise.{Rise}
+use Rattle.job_tree.specs.declared.ends.Rise.TheVariants as rise
+use Rattle.job_tree.proofs.Climbs.{looked_self, parent_attached}
 
 -- ---- who finished a Job may tell
 
@@ -129,3 +131,44 @@ was_not_now who row n a b c finished.NotYet h never k = record { added = added_t
 
 pub owed_at : (who row n : ℕ) (act act' : JobAct) (a b c d x : Floor) → HasRoom n a b → Made who act [] b c → Made who act' [] c d → IsPrefix d.seen x.seen → is_done (parent_row (replay d.seen) row) ≡ true → AtStep a x (λ tree. is_done (parent_row tree row) ≡ true)
 owed_at who row n act act' a b c d x h m k p e = record { moment = d.seen; after = (added_told who n act act' a b c d h m k).longer; before = p; holds = e }
+
+-- ---- the parents
+
+-- the Job was ended, and its parent owes its own end
+pub record IsOwed (who row p : ℕ) (a b : Floor) : Type 0 where
+  pub acts : List JobAct
+  pub added : Added who acts [] a b
+  pub parent : parent_of (replay b.seen row) ≡ Some p
+
+pub owed : {T : Type 0} (prepares : T → T → Type 0) (does : T → ℕ → End → List Item → T → Type 0) (who row p : ℕ) (a b : Floor) (e e' : T) (items items' : List Item) → EndAnswer prepares does who row a b e e' items items' (Ok (rise.To p)) → IsOwed who row p a b
+owed prepares does who row p a b e e' items items' (EndAnswer.owes _ z h q m) = record { acts = _; added = h.added; parent = q }
+
+-- the ends so far, up to this row
+pub record IsRise {T : Type 0} (prepares : T → T → Type 0) (does : T → ℕ → End → List Item → T → Type 0) (who row at : ℕ) (a b : Floor) (e e' : T) (items items' : List Item) : Type 0 where
+  pub same : SameSetting a b
+  pub attached : is_some (replay b.seen at) ≡ true
+  pub on : (c : Floor) (e'' : T) (k : List Item) (r : Result (Unit {0}) Memory) → IsFinishedUp prepares does who at b e' items' c e'' k r → IsFinishedUp prepares does who row a e items c e'' k r
+
+pub first_rise : {T : Type 0} (prepares : T → T → Type 0) (does : T → ℕ → End → List Item → T → Type 0) (who row : ℕ) (a : Floor) (e : T) (items : List Item) → is_some (replay a.seen row) ≡ true → IsRise prepares does who row row a a e e items items
+first_rise prepares does who row a e items s = record { same = record { shape = refl; alone = refl; callers = refl }; attached = s; on = λ c e'' k r h. h }
+
+pub rise_up : {T : Type 0} (prepares : T → T → Type 0) (does : T → ℕ → End → List Item → T → Type 0) (who who' row at p : ℕ) (a b c : Floor) (e e' e'' : T) (i j k : List Item) → who' ≡ who → Legal c.shape c.seen → IsRise prepares does who row at a b e e' i j → EndAnswer prepares does who' at b c e' e'' j k (Ok (rise.To p)) → IsRise prepares does who row p a c e e'' i k
+rise_up prepares does who who' row at p a b c e e' e'' i j k w l h m =
+    let o = owed prepares does who' at p b c e' e'' j k m in
+    let m' : EndAnswer prepares does who at b c e' e'' j k (Ok (rise.To p)) = subst (λ n. EndAnswer prepares does n at b c e' e'' j k (Ok (rise.To p))) w m in
+    record {
+      same = setting_then a b c h.same o.added.same;
+      attached = parent_attached c.shape c.seen at p l o.parent;
+      on = λ d x n r u. h.on d x n r (IsFinishedUp.goes_up at p b c d e' e'' x j k n r m' u);
+    }
+
+pub rise_stops : {T : Type 0} (prepares : T → T → Type 0) (does : T → ℕ → End → List Item → T → Type 0) (who who' row at : ℕ) (a b c : Floor) (e e' e'' : T) (i j k : List Item) → who' ≡ who → IsRise prepares does who row at a b e e' i j → EndAnswer prepares does who' at b c e' e'' j k (Ok rise.Stops) → IsFinishedUp prepares does who row a e i c e'' k (Ok tt)
+rise_stops prepares does who who' row at a b c e e' e'' i j k w h m =
+    h.on c e'' k (Ok tt) (IsFinishedUp.stops at b c e' e'' j k (subst (λ n. EndAnswer prepares does n at b c e' e'' j k (Ok rise.Stops)) w m))
+
+pub rise_fails : {T : Type 0} (prepares : T → T → Type 0) (does : T → ℕ → End → List Item → T → Type 0) (who who' row at : ℕ) (memory : Memory) (a b c : Floor) (e e' e'' : T) (i j k : List Item) → who' ≡ who → IsRise prepares does who row at a b e e' i j → EndAnswer prepares does who' at b c e' e'' j k (Err memory) → IsFinishedUp prepares does who row a e i c e'' k (Err memory)
+rise_fails prepares does who who' row at memory a b c e e' e'' i j k w h m =
+    h.on c e'' k (Err memory) (IsFinishedUp.no_memory memory at b c e' e'' j k (subst (λ n. EndAnswer prepares does n at b c e' e'' j k (Err memory)) w m))
+
+pub same_answer : {T : Type 0} (prepares : T → T → Type 0) (does : T → ℕ → End → List Item → T → Type 0) (who row : ℕ) (a b : Floor) (e e' : T) (i j : List Item) (x y : Rise) → x ≡ y → EndAnswer prepares does who row a b e e' i j (Ok x) → EndAnswer prepares does who row a b e e' i j (Ok y)
+same_answer prepares does who row a b e e' i j x y h k = subst (λ r. EndAnswer prepares does who row a b e e' i j (Ok r)) h k
