@@ -1,5 +1,5 @@
 -- The end of one Job, and of its parents.
-use Rattle.std.specs.Prelude.{◌≡◌, ◌≢◌, ℕ, Bool, true, false, List, [], ◌∷◌, ◌++◌, Option, Some, None, Result, Ok, Err, option_map, is_some, map, refl}
+use Rattle.std.specs.Prelude.{◌≡◌, ◌≢◌, ℕ, Bool, true, false, List, [], ◌∷◌, ◌++◌, Option, Some, None, Result, Ok, Err, option_map, is_some, refl}
 use mathlib.Core.List.{IsPrefix}
 use Rattle.std.proofs.Common.{sym, ap, ◌∙◌, subst, append_assoc}
 use Rattle.co_base.specs.declared.names.Memory.{Memory}
@@ -9,7 +9,7 @@ use Rattle.job_model.specs.declared.acts.JobAct.TheVariants.{Finish, Gone}
 use Rattle.job_model.specs.declared.acts.JobEntry.{JobEntry}
 use Rattle.job_model.specs.declared.floor.Finished.{Finished}
 use Rattle.job_model.specs.declared.floor.Finished.TheVariants as finished
-use Rattle.job_model.specs.Trees.{Shape, Job, Tree, is_ended, parent_of, parent_row, row_of, was_told, is_done}
+use Rattle.job_model.specs.Trees.{Shape, Job, Tree, parent_of, parent_row, row_of, was_told, is_done}
 use Rattle.job_model.specs.Effects.{after, ended_by}
 use Rattle.job_model.specs.Needs.{Needs, MayFinish, MayTell, IsFinishedBy}
 use Rattle.job_model.specs.Families.{IsEnded}
@@ -23,9 +23,8 @@ use Rattle.job_model.proofs.Families.{changed_here, replay_families}
 use Rattle.job_model.proofs.RowMarks.{live_before}
 use Rattle.job_model.proofs.Ends.{told_only}
 use Rattle.note_book.specs.declared.book.Item.{Item}
-use Rattle.note_book.specs.Items.{job_acts_in}
 use Rattle.job_tree.specs.Notes.{made_note}
-use Rattle.job_tree.specs.Endings.{HasEnded, IsPrepared, IsEndedBy, MayNotEnd, EndAnswer, IsFinishedUp}
+use Rattle.job_tree.specs.Endings.{HasEnded, IsEndedBy, MayNotEnd, EndAnswer, IsFinishedUp}
 use Rattle.job_tree.specs.declared.ends.Rise.{Rise}
 use Rattle.job_tree.specs.declared.ends.Rise.TheVariants as rise
 use Rattle.job_tree.proofs.Climbs.{looked_self, parent_attached}

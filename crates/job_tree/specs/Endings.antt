@@ -1,10 +1,10 @@
 -- How Jobs end, from one upwards.
-use Rattle.std.specs.Prelude.{◌≡◌, ◌≢◌, ℕ, ◌+◌, ◌≤◌, Bool, true, false, List, [], ◌∷◌, ◌++◌, length, map, Option, Some, None, Result, Ok, Err}
+use Rattle.std.specs.Prelude.{◌≡◌, ◌≢◌, ℕ, ◌+◌, ◌≤◌, true, false, List, [], ◌∷◌, ◌++◌, length, map, Some, Result, Ok, Err}
 use Rattle.co_base.specs.declared.names.Memory.{Memory}
 use Rattle.job_model.specs.declared.acts.End.{End}
 use Rattle.job_model.specs.declared.acts.JobAct.{JobAct}
 use Rattle.job_model.specs.declared.acts.JobAct.TheVariants.{Finish, Gone}
-use Rattle.job_model.specs.Trees.{Tree, parent_of, parent_row, is_done}
+use Rattle.job_model.specs.Trees.{parent_of, parent_row, is_done}
 use Rattle.job_model.specs.Families.{IsEnded}
 use Rattle.job_model.specs.Answers.{IsNotDone}
 use Rattle.job_model.specs.Histories.{replay}

@@ -1,5 +1,5 @@
-use Rattle.std.proofs.Common.{refl, sym}
-use Rattle.job_model.proofs.Spans.{prefix_self, added_looked, added_made, added_room}
+use Rattle.std.proofs.Common.{sym}
+use Rattle.job_model.proofs.Spans.{prefix_self, added_looked}
 use Rattle.job_tree.specs.Endings.{EndAnswer}
 use Rattle.job_tree.proofs.Looks.{may_later}
 use Rattle.job_tree.proofs.Climbs.{looked_self, linked_parent}
