@@ -1,0 +1,11 @@
+pub mod Covered
+pub mod Falling
+pub mod Rooms
+pub mod Ranks
+pub mod Looks
+pub mod Notes
+pub mod Causes
+pub mod Ways
+pub mod Walks
+pub mod Climbs
+pub mod Endings

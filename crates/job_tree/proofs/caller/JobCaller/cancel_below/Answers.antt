@@ -1,0 +1,177 @@
+use Rattle.std.proofs.Common.{ℕ, ◌≡◌, ◌==◌, Bool, true, false, refl, sym, ap, ◌∙◌, subst, arith, inl, inr}
+use mathlib.Core.Logic.{◌⊎◌}
+use Rattle.std.proofs.lemmas.Bool.{eqb-true}
+use Rattle.job_model.proofs.Spans.{setting_then}
+use Rattle.job_model.specs.Histories.{replay}
+use Rattle.job_tree.specs.Passes.{IsAllCancelled}
+use Rattle.job_tree.proofs.Rooms.{looked_room}
+use Rattle.job_tree.proofs.Walks.{first_walk, none_so_far, walk_not_root, legal_as, to_next, may_next, after_to, after_over, after_up, count_less_rows, pass_below_done, so_far_small, none_more}
+use Rattle.job_tree.proofs.caller.JobCaller.cancel_below.Goals as goal
+
+-- the walk goes on: it is not past all below the first row
+not_there : (done : Bool) (at row : ℕ) → ((done ≡ true × (at ≡ row → ⊥)) ⊎ (done ≡ false)) → done ≡ true → (at == row) ≡ false
+not_there done at row (inl h) e = by_test (at == row) refl
+  where
+    by_test : (b : Bool) → (at == row) ≡ b → (at == row) ≡ false
+    by_test true k = absurd (h.1 (eqb-true at row k))
+    by_test false k = k
+not_there done at row (inr h) e = absurd (let u : true ≡ false = sym e ∙ h in cc)
+
+pub loop-done-init : goal.loop-done-init
+loop-done-init g c = record {
+  same_floor = refl;
+  same_book = refl;
+  same_wakes = refl;
+  who = refl;
+  anchor = refl;
+  walk = first_walk _ _ _ c.requires.can.attached c.requires.cancelled;
+  so_far = none_so_far _ _ _ _;
+  room = c.requires.room;
+  most = c.from-most.ensures ∙ c.rows.ensures;
+  small = omega (arith, c.from-most.ensures, c.rows.type_inv);
+}
+
+pub turn-requires-clause-can : goal.turn-requires-clause-can
+turn-requires-clause-can g c =
+    let i = c.loop-done.invariant in
+    may_next _ _ _ _ _ _ i.who c.requires.can i.so_far.noted.added.same i.walk.attached
+
+pub turn-requires-clause-child : goal.turn-requires-clause-child
+turn-requires-clause-child g c = λ e.
+    let i = c.loop-done.invariant in
+    walk_not_root _ _ _ _ _ (legal_as _ _ i.so_far.noted.added.same (g.met.F.JobFloor.legal c.loop-done.self.floor.now)) i.walk (not_there _ _ _ c.if-not-at-row.either e)
+
+pub cancel_job-requires-clause-can : goal.cancel_job-requires-clause-can
+cancel_job-requires-clause-can g c =
+    let i = c.loop-done.invariant in
+    let t = c.in-To.ensures in
+    let next = to_next _ _ _ _ _ _ _ _ _ _ _ _ (g.met.F.JobFloor.shaped c.args.self.now.floor.now) (g.met.F.JobFloor.legal c.turn.new.self.floor.now) i.so_far i.walk (not_there _ _ _ c.if-not-at-row.either) t.looked t.answer in
+    may_next _ _ _ _ _ _ (t.who ∙ i.who) c.requires.can (setting_then _ _ _ i.so_far.noted.added.same t.looked.same) next.attached
+
+pub cancel_job-requires-clause-reason : goal.cancel_job-requires-clause-reason
+cancel_job-requires-clause-reason g c =
+    let i = c.loop-done.invariant in
+    let t = c.in-To.ensures in
+    (to_next _ _ _ _ _ _ _ _ _ _ _ _ (g.met.F.JobFloor.shaped c.args.self.now.floor.now) (g.met.F.JobFloor.legal c.turn.new.self.floor.now) i.so_far i.walk (not_there _ _ _ c.if-not-at-row.either) t.looked t.answer).holds
+
+pub cancel_job-requires-clause-room : goal.cancel_job-requires-clause-room
+cancel_job-requires-clause-room g c = looked_room _ _ _ _ _ _ c.turn.ensures.looked (ap g.B.NoteBook.spare c.turn.ensures.book) c.loop-done.invariant.room
+
+pub prove-unreachable-requires : goal.prove-unreachable-requires
+prove-unreachable-requires g c =
+    let i = c.loop-done.invariant in
+    let t = c.in-To.ensures in
+    let less = count_less_rows _ _ _ _ _ _ _ _ _ _ _ _ _ _ i.who (g.met.F.JobFloor.legal c.turn.new.self.floor.now) (ap g.B.NoteBook.items t.book) i.so_far t.looked c.if-cancel_job.ensures.answer in
+    omega (arith, i.most, c.if-prove.true)
+
+pub loop-done-smaller-then-cancel_job : goal.loop-done-smaller-then-cancel_job
+loop-done-smaller-then-cancel_job g c =
+    let i = c.loop-done.invariant in
+    let t = c.in-To.ensures in
+    let m = c.if-cancel_job.ensures in
+    (after_to _ _ _ _ _ _ _ true _ _ _ _ _ _ _ _ _ _ i.who (t.who ∙ i.who) (ap g.B.NoteBook.items t.book) refl (g.met.F.JobFloor.shaped c.args.self.now.floor.now) (g.met.F.JobFloor.legal c.turn.new.self.floor.now) (g.met.F.JobFloor.legal c.cancel_job.new.self.floor.now) i.so_far i.walk (not_there _ _ _ c.if-not-at-row.either) t.looked t.answer m.answer).less
+
+pub loop-done-preserved-then-cancel_job : goal.loop-done-preserved-then-cancel_job
+loop-done-preserved-then-cancel_job g c =
+    let i = c.loop-done.invariant in
+    let t = c.in-To.ensures in
+    let m = c.if-cancel_job.ensures in
+    let r = (after_to _ _ _ _ _ _ _ true _ _ _ _ _ _ _ _ _ _ i.who (t.who ∙ i.who) (ap g.B.NoteBook.items t.book) refl (g.met.F.JobFloor.shaped c.args.self.now.floor.now) (g.met.F.JobFloor.legal c.turn.new.self.floor.now) (g.met.F.JobFloor.legal c.cancel_job.new.self.floor.now) i.so_far i.walk (not_there _ _ _ c.if-not-at-row.either) t.looked t.answer m.answer) in
+    record {
+      same_floor = m.same_floor ∙ t.same_floor ∙ i.same_floor;
+      same_book = m.same_book ∙ t.same_book ∙ i.same_book;
+      same_wakes = m.same_wakes ∙ t.same_wakes ∙ i.same_wakes;
+      who = m.who ∙ t.who ∙ i.who;
+      anchor = m.anchor ∙ t.anchor ∙ i.anchor;
+      walk = r.walk;
+      so_far = r.so_far;
+      room = m.room;
+      most = i.most;
+      small = i.small;
+    }
+
+pub loop-done-smaller-else-cancel_job : goal.loop-done-smaller-else-cancel_job
+loop-done-smaller-else-cancel_job g c =
+    let i = c.loop-done.invariant in
+    let t = c.in-To.ensures in
+    let m = c.if-cancel_job.ensures in
+    (after_to _ _ _ _ _ _ _ false _ _ _ _ _ _ _ _ _ _ i.who (t.who ∙ i.who) (ap g.B.NoteBook.items t.book) (none_more c.loop-done.count) (g.met.F.JobFloor.shaped c.args.self.now.floor.now) (g.met.F.JobFloor.legal c.turn.new.self.floor.now) (g.met.F.JobFloor.legal c.cancel_job.new.self.floor.now) i.so_far i.walk (not_there _ _ _ c.if-not-at-row.either) t.looked t.answer m.answer).less
+
+pub loop-done-preserved-else-cancel_job : goal.loop-done-preserved-else-cancel_job
+loop-done-preserved-else-cancel_job g c =
+    let i = c.loop-done.invariant in
+    let t = c.in-To.ensures in
+    let m = c.if-cancel_job.ensures in
+    let r = (after_to _ _ _ _ _ _ _ false _ _ _ _ _ _ _ _ _ _ i.who (t.who ∙ i.who) (ap g.B.NoteBook.items t.book) (none_more c.loop-done.count) (g.met.F.JobFloor.shaped c.args.self.now.floor.now) (g.met.F.JobFloor.legal c.turn.new.self.floor.now) (g.met.F.JobFloor.legal c.cancel_job.new.self.floor.now) i.so_far i.walk (not_there _ _ _ c.if-not-at-row.either) t.looked t.answer m.answer) in
+    record {
+      same_floor = m.same_floor ∙ t.same_floor ∙ i.same_floor;
+      same_book = m.same_book ∙ t.same_book ∙ i.same_book;
+      same_wakes = m.same_wakes ∙ t.same_wakes ∙ i.same_wakes;
+      who = m.who ∙ t.who ∙ i.who;
+      anchor = m.anchor ∙ t.anchor ∙ i.anchor;
+      walk = r.walk;
+      so_far = r.so_far;
+      room = m.room;
+      most = i.most;
+      small = i.small;
+    }
+
+pub loop-done-smaller-in-Over : goal.loop-done-smaller-in-Over
+loop-done-smaller-in-Over g c =
+    let i = c.loop-done.invariant in
+    let t = c.in-Over.ensures in
+    (after_over _ _ _ _ _ _ _ _ _ _ _ _ i.who (ap g.B.NoteBook.items t.book) (g.met.F.JobFloor.shaped c.args.self.now.floor.now) (g.met.F.JobFloor.legal c.turn.new.self.floor.now) i.so_far i.walk t.looked t.answer).less
+
+pub loop-done-preserved-in-Over : goal.loop-done-preserved-in-Over
+loop-done-preserved-in-Over g c =
+    let i = c.loop-done.invariant in
+    let t = c.in-Over.ensures in
+    let r = (after_over _ _ _ _ _ _ _ _ _ _ _ _ i.who (ap g.B.NoteBook.items t.book) (g.met.F.JobFloor.shaped c.args.self.now.floor.now) (g.met.F.JobFloor.legal c.turn.new.self.floor.now) i.so_far i.walk t.looked t.answer) in
+    record {
+      same_floor = t.same_floor ∙ i.same_floor;
+      same_book = t.same_book ∙ i.same_book;
+      same_wakes = t.same_wakes ∙ i.same_wakes;
+      who = t.who ∙ i.who;
+      anchor = t.anchor ∙ i.anchor;
+      walk = r.walk;
+      so_far = r.so_far;
+      room = looked_room _ _ _ _ _ _ t.looked (ap g.B.NoteBook.spare t.book) i.room;
+      most = i.most;
+      small = i.small;
+    }
+
+pub loop-done-smaller : goal.loop-done-smaller
+loop-done-smaller g c =
+    let i = c.loop-done.invariant in
+    let t = c.in-Up.ensures in
+    (after_up _ _ _ _ _ _ _ _ _ _ _ _ _ i.who (ap g.B.NoteBook.items t.book) (g.met.F.JobFloor.shaped c.args.self.now.floor.now) (g.met.F.JobFloor.legal c.turn.new.self.floor.now) i.so_far i.walk (not_there _ _ _ c.if-not-at-row.either) t.looked t.answer).less
+
+pub loop-done-preserved : goal.loop-done-preserved
+loop-done-preserved g c =
+    let i = c.loop-done.invariant in
+    let t = c.in-Up.ensures in
+    let r = (after_up _ _ _ _ _ _ _ _ _ _ _ _ _ i.who (ap g.B.NoteBook.items t.book) (g.met.F.JobFloor.shaped c.args.self.now.floor.now) (g.met.F.JobFloor.legal c.turn.new.self.floor.now) i.so_far i.walk (not_there _ _ _ c.if-not-at-row.either) t.looked t.answer) in
+    record {
+      same_floor = t.same_floor ∙ i.same_floor;
+      same_book = t.same_book ∙ i.same_book;
+      same_wakes = t.same_wakes ∙ i.same_wakes;
+      who = t.who ∙ i.who;
+      anchor = t.anchor ∙ i.anchor;
+      walk = r.walk;
+      so_far = r.so_far;
+      room = looked_room _ _ _ _ _ _ t.looked (ap g.B.NoteBook.spare t.book) i.room;
+      most = i.most;
+      small = i.small;
+    }
+
+pub returns-clause-pass : goal.returns-clause-pass
+returns-clause-pass g c =
+    let i = c.loop-done.invariant in
+    let h = c.if-not-at-row.false in
+    pass_below_done _ _ _ _ _ _ _ i.so_far (subst (IsAllCancelled (replay (g.F.JobFloor.view c.loop-done.self.floor.now).seen)) h.1 (i.walk.all h.0))
+
+pub returns-clause-small : goal.returns-clause-small
+returns-clause-small g c =
+    let i = c.loop-done.invariant in
+    let k = so_far_small _ _ _ _ _ _ _ i.so_far in
+    omega (arith, i.most, i.small)

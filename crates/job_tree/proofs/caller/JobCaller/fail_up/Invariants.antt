@@ -1,0 +1,19 @@
+use Rattle.std.proofs.Common.{◌≡◌}
+use Rattle.job_tree.specs.Rooms.{MayCancelAll}
+use Rattle.job_tree.proofs.Ranks.{ranks}
+use Rattle.job_tree.proofs.Climbs.{IsClimb}
+use Rattle.job_tree.proofs.caller.JobCaller.fail_up.Given as goal
+
+abbrev pub invariant-loop-parent : goal.invariant-loop-parent
+invariant-loop-parent g l = record {
+  same_floor : l.self.floor.ghost_name ≡ l.initial.self.floor.ghost_name;
+  same_book : l.self.book.ghost_name ≡ l.initial.self.book.ghost_name;
+  same_wakes : l.self.wakes.ghost_name ≡ l.initial.self.wakes.ghost_name;
+  who : l.self.who ≡ l.initial.self.who;
+  anchor : g.F.JobFloor.anchor l.self.floor.now ≡ g.F.JobFloor.anchor l.initial.self.floor.now;
+  climb : IsClimb l.initial.self.who l.row l.at (g.F.JobFloor.view l.initial.self.floor.now) (g.F.JobFloor.view l.self.floor.now) (g.B.NoteBook.items l.initial.self.book.now) (g.B.NoteBook.items l.self.book.now);
+  room : MayCancelAll (g.F.JobFloor.view l.self.floor.now) (g.B.NoteBook.spare l.self.book.now);
+}
+
+abbrev pub decreases-loop-parent : goal.decreases-loop-parent
+decreases-loop-parent g l = (ranks (g.F.JobFloor.view l.initial.self.floor.now).shape (g.F.JobFloor.view l.self.floor.now).seen).rank l.at

@@ -1,0 +1,46 @@
+use Rattle.std.proofs.Common.{sym}
+use Rattle.job_model.proofs.Spans.{prefix_self, added_looked}
+use Rattle.job_tree.specs.Endings.{EndAnswer}
+use Rattle.job_tree.proofs.Looks.{may_later}
+use Rattle.job_tree.proofs.Climbs.{looked_self, linked_parent}
+use Rattle.job_tree.proofs.Endings.{may_tell, added_same, added_end, added_told, added_linked, root_ended, told_by, was_not_now, owed_at}
+use Rattle.job_tree.proofs.caller.JobCaller.finish_one.Goals as goal
+
+pub returns-in-Err-clause-answer : goal.returns-in-Err-clause-answer
+returns-in-Err-clause-answer g c = EndAnswer.no_memory c.in-Err.memory (record { prepared = c.ready.ensures.prepares; same = c.ready.ensures.items; added = added_looked _ _ _ _ (looked_self _ _) })
+
+pub returns-in-Err-room-clause-answer : goal.returns-in-Err-room-clause-answer
+returns-in-Err-room-clause-answer g c = EndAnswer.no_memory c.in-Err-room.memory (record { prepared = c.ready.ensures.prepares; same = c.ready.ensures.items; added = added_same _ _ _ c.in-Err-room.ensures.err })
+
+pub returns-in_default-finish-clause-answer : goal.returns-in_default-finish-clause-answer
+returns-in_default-finish-clause-answer g c =
+    let k = was_not_now _ _ _ _ _ _ _ c.in_default-room.ensures.ok c.in_default-finish.not-Now c.finish.ensures.answer in
+    EndAnswer.not_now (record { prepared = c.ready.ensures.prepares; same = c.ready.ensures.items; added = k.added }) k.why
+
+pub returns-then-row-eq0-clause-answer : goal.returns-then-row-eq0-clause-answer
+returns-then-row-eq0-clause-answer g c =
+    EndAnswer.root c.if-row-eq0.true (root_ended _ _ _ _ _ _ _ _ _ _ _ _ _ _ _ _ _ c.ready.ensures.prepares c.ready.ensures.items c.note.ensures.items c.ended.ensures.ended (added_end _ _ _ _ _ _ c.in_default-room.ensures.ok c.in-Now.ensures.answer))
+
+pub gone-told-requires-clause-can : goal.gone-told-requires-clause-can
+gone-told-requires-clause-can g c =
+    let k = added_end _ _ _ _ _ _ c.in_default-room.ensures.ok c.in-Now.ensures.answer in
+    may_later _ _ _ _ k.same k.longer (g.met.F.JobFloor.legal c.finish.new.self) c.requires.can
+
+pub gone-told-requires-clause-untold : goal.gone-told-requires-clause-untold
+gone-told-requires-clause-untold g c = may_tell _ _ _ _ _ (g.met.F.JobFloor.legal c.finish.new.self) c.in-Now.ensures.answer c.if-row-eq0.false
+
+pub returns-in-Waits-clause-answer : goal.returns-in-Waits-clause-answer
+returns-in-Waits-clause-answer g c =
+    let k = c.in-Waits.ensures.answer in
+    EndAnswer.waits c.if-row-eq0.false
+    (told_by _ _ _ _ _ _ _ _ _ _ _ _ _ _ _ _ _ _ c.ready.ensures.prepares c.ready.ensures.items c.note.ensures.items c.ended.ensures.ended c.note-2.ensures.items (added_told _ _ _ _ _ _ _ _ c.in_default-room.ensures.ok c.in-Now.ensures.answer k.made))
+    (sym k.owes)
+
+pub returns-in-Owes-clause-answer : goal.returns-in-Owes-clause-answer
+returns-in-Owes-clause-answer g c =
+    let k = c.in-Owes.ensures.answer in
+    let link = c.link.ensures.answer in
+    EndAnswer.owes c.link.result.parent c.if-row-eq0.false
+    (told_by _ _ _ _ _ _ _ _ _ _ _ _ _ _ _ _ _ _ c.ready.ensures.prepares c.ready.ensures.items c.note.ensures.items c.ended.ensures.ended c.note-2.ensures.items (added_linked _ _ _ _ _ _ (added_told _ _ _ _ _ _ _ _ c.in_default-room.ensures.ok c.in-Now.ensures.answer k.made) link.0))
+    (linked_parent _ _ _ _ (g.F.JobFloor.view c.link.new.self) (g.F.JobFloor.view c.link.new.self) (g.met.F.JobFloor.legal c.link.new.self) link (prefix_self _))
+    (owed_at _ _ _ _ _ _ _ _ _ _ c.in_default-room.ensures.ok c.in-Now.ensures.answer k.made link.0.longer (sym k.owes))

@@ -1,0 +1,5 @@
+pub mod Notes
+pub mod Rooms
+pub mod Passes
+pub mod Failures
+pub mod Endings

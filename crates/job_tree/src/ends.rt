@@ -1,0 +1,107 @@
+//! To end Jobs, from one upwards.
+
+ghost use Rattle.std.specs.Prelude.{◌≡◌, ℕ, ◌+◌, ◌≤◌, Bool, true, List, OnOk};
+ghost use Rattle.job_model.specs.declared.acts.End.{End as AnEnd};
+ghost use Rattle.job_model.specs.Floors.{MayCall};
+ghost use Rattle.note_book.specs.declared.book.Item.{Item as AnItem};
+ghost use Rattle.job_tree.specs.Endings.{HasEnded, EndAnswer, IsFinishedUp};
+
+use crate::caller::JobCaller;
+use co_base::{Memory, Row, Wakes};
+use job_model::{End, Ended, Finished, JobAct, JobFloor, JobNote};
+use note_book::{Item, NoteBook};
+
+/// What a caller does where one of its Jobs ends.
+pub trait Ends<B: NoteBook, W: Wakes> {
+    /// How many notes one end takes at most.
+    ghost most: { Self → ℕ };
+
+    ghost is_ready: { Self → Bool };
+
+    /// What `ready` may change.
+    ghost prepares: { Self → Self → Type 0 };
+
+    /// What the end of a Job does: before, the Job, its end, what is noted, and after.
+    ghost does: { Self → ℕ → AnEnd → List AnItem → Self → Type 0 };
+
+    /// Gets ready for one end, with room in the book for so many notes besides.
+    fn ready(&mut self, book: &mut B, more: u32) -> Result<(), Memory>
+        ensures most { most self.new ≡ most self.old }
+        ensures prepares { prepares self.old self.new }
+        ensures items { B.items book.new ≡ B.items book.old }
+        ensures stays { B.spare book.old ≤ B.spare book.new }
+        ensures ready { OnOk result (is_ready self.new ≡ true) }
+        ensures room { OnOk result (most self.new + more ≤ B.spare book.new) };
+
+    /// The Job has ended so. Takes no memory, and notes no act on a Job.
+    fn ended(&mut self, book: &mut B, wakes: &mut W, row: Row, end: End)
+        requires ready { is_ready self.old ≡ true }
+        requires room { most self.old ≤ B.spare book.old }
+        ensures most { most self.new ≡ most self.old }
+        ensures ended { HasEnded (most self.old) (λ items. does self.old row end items self.new) (B.items book.old) (B.items book.new) (B.spare book.old) (B.spare book.new) };
+}
+
+/// Where the end of a Job leads.
+#[derive(Clone, Copy, Debug, PartialEq, Eq)]
+pub(crate) enum Rise {
+    /// The parent may end too.
+    To(Row),
+    Stops,
+}
+
+impl<F: JobFloor, B: NoteBook, W: Wakes> JobCaller<'_, F, B, W> {
+    /// Ends one Job, where it may end, and tells its parent.
+    fn finish_one<E: Ends<B, W>>(&mut self, row: Row, ends: &mut E) -> Result<Rise, Memory>
+        requires can { MayCall self.old.who row (F.view self.old.floor.now) }
+        ensures same_floor { self.new.floor.ghost_name ≡ self.old.floor.ghost_name }
+        ensures same_book { self.new.book.ghost_name ≡ self.old.book.ghost_name }
+        ensures same_wakes { self.new.wakes.ghost_name ≡ self.old.wakes.ghost_name }
+        ensures who { self.new.who ≡ self.old.who }
+        ensures anchor { F.anchor self.new.floor.now ≡ F.anchor self.old.floor.now }
+        ensures answer { EndAnswer E.prepares E.does self.old.who row (F.view self.old.floor.now) (F.view self.new.floor.now) ends.old ends.new (B.items self.old.book.now) (B.items self.new.book.now) result }
+    {
+        if let Err(memory) = ends.ready(self.book, 2) {
+            return Err(memory);
+        }
+        if let Err(memory) = self.floor.room(2) {
+            return Err(memory);
+        }
+        let Finished::Now(end) = self.floor.finish(self.who, row) else {
+            return Ok(Rise::Stops);
+        };
+        self.book
+            .note(Item::Job(JobNote::Made(JobAct::Finish { row, end })));
+        ends.ended(self.book, self.wakes, row, end);
+        if row == 0 {
+            return Ok(Rise::Stops);
+        }
+        let told = self.floor.gone(self.who, row);
+        self.book
+            .note(Item::Job(JobNote::Made(JobAct::Gone { row })));
+        match told {
+            Ended::Waits => Ok(Rise::Stops),
+            Ended::Owes => Ok(Rise::To(self.floor.link(self.who, row).parent)),
+        }
+    }
+
+    /// Ends a Job, where it may end, and then its parents, as far as the end of a child was all that they waited for.
+    /// Memory: what was done so far stands and is noted.
+    pub fn finish_up<E: Ends<B, W>>(&mut self, row: Row, ends: &mut E) -> Result<(), Memory>
+        requires can { MayCall self.old.who row (F.view self.old.floor.now) }
+        ensures same_floor { self.new.floor.ghost_name ≡ self.old.floor.ghost_name }
+        ensures same_book { self.new.book.ghost_name ≡ self.old.book.ghost_name }
+        ensures same_wakes { self.new.wakes.ghost_name ≡ self.old.wakes.ghost_name }
+        ensures who { self.new.who ≡ self.old.who }
+        ensures anchor { F.anchor self.new.floor.now ≡ F.anchor self.old.floor.now }
+        ensures finished { IsFinishedUp E.prepares E.does self.old.who row (F.view self.old.floor.now) ends.old (B.items self.old.book.now) (F.view self.new.floor.now) ends.new (B.items self.new.book.now) result }
+    {
+        let mut at = row;
+        loop {
+            match self.finish_one(at, ends) {
+                Ok(Rise::To(parent)) => at = parent,
+                Ok(Rise::Stops) => return Ok(()),
+                Err(memory) => return Err(memory),
+            }
+        }
+    }
+}

@@ -1,0 +1,68 @@
+//! To pass a failure on to the parents.
+
+ghost use Rattle.std.specs.Prelude.{◌≡◌, []};
+ghost use Rattle.job_model.specs.Histories.{replay};
+ghost use Rattle.job_model.specs.Floors.{MayCall, Looked};
+ghost use Rattle.job_tree.specs.Rooms.{MayCancelAll};
+ghost use Rattle.job_tree.specs.Passes.{IsFailure};
+ghost use Rattle.job_tree.specs.Failures.{ParentAnswer, IsFailedUp};
+
+use crate::caller::JobCaller;
+use co_base::{Row, Wakes};
+use job_model::{JobFloor, Reason};
+use note_book::NoteBook;
+
+impl<F: JobFloor, B: NoteBook, W: Wakes> JobCaller<'_, F, B, W> {
+    /// The parent that a failure of this Job cancels.
+    fn failing_parent(&mut self, row: Row) -> Option<Row>
+        requires can { MayCall self.old.who row (F.view self.old.floor.now) }
+        ensures same_floor { self.new.floor.ghost_name ≡ self.old.floor.ghost_name }
+        ensures same_book { self.new.book.ghost_name ≡ self.old.book.ghost_name }
+        ensures same_wakes { self.new.wakes.ghost_name ≡ self.old.wakes.ghost_name }
+        ensures who { self.new.who ≡ self.old.who }
+        ensures anchor { F.anchor self.new.floor.now ≡ F.anchor self.old.floor.now }
+        ensures book { self.new.book.now ≡ self.old.book.now }
+        ensures answer { ParentAnswer self.old.who row (F.view self.old.floor.now) (F.view self.new.floor.now) result }
+    {
+        if row == 0 {
+            return None;
+        }
+        let Some(job) = self.floor.look(self.who, row) else {
+            return None;
+        };
+        if job.kind.scoped {
+            return None;
+        }
+        let parent = self.floor.link(self.who, row).parent;
+        let Some(above) = self.floor.look(self.who, parent) else {
+            return None;
+        };
+        if above.kind.supervisor {
+            return None;
+        }
+        Some(parent)
+    }
+
+    /// Cancels the parent of a Job that failed, with all below it, and so on upwards: up to the root, a scope, the child
+    /// of a supervisor, or a parent that was Cancelling or had ended before. Takes no memory.
+    pub fn fail_up(&mut self, row: Row)
+        requires can { MayCall self.old.who row (F.view self.old.floor.now) }
+        requires failed { IsFailure (replay (F.view self.old.floor.now).seen row) }
+        requires room { MayCancelAll (F.view self.old.floor.now) (B.spare self.old.book.now) }
+        ensures same_floor { self.new.floor.ghost_name ≡ self.old.floor.ghost_name }
+        ensures same_book { self.new.book.ghost_name ≡ self.old.book.ghost_name }
+        ensures same_wakes { self.new.wakes.ghost_name ≡ self.old.wakes.ghost_name }
+        ensures who { self.new.who ≡ self.old.who }
+        ensures anchor { F.anchor self.new.floor.now ≡ F.anchor self.old.floor.now }
+        ensures up { IsFailedUp self.old.who row (F.view self.old.floor.now) (F.view self.new.floor.now) (B.items self.old.book.now) (B.items self.new.book.now) }
+        ensures room { MayCancelAll (F.view self.new.floor.now) (B.spare self.new.book.now) }
+    {
+        let mut at = row;
+        while let Some(parent) = self.failing_parent(at) {
+            if !self.pass(parent, Reason::Child(at)).newly {
+                return;
+            }
+            at = parent;
+        }
+    }
+}
