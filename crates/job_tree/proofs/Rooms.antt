@@ -204,3 +204,7 @@ uncancelled_rows a = at_most a.shape.rows (λ r. not (has cancels r a.seen))
     at_most : (n : ℕ) (t : ℕ → Bool) → count_below n t ≤ n
     at_most zero t = omega arith
     at_most (suc n) t = one (t n) (count_below n t) n (at_most n t)
+
+-- room for as many entries as there are rows is room for each Cancel
+pub room_for_rows : (floor : Floor) (spare : ℕ) → floor.shape.rows ≤ floor.spare → floor.shape.rows ≤ spare → MayCancelAll floor spare
+room_for_rows floor spare f b = let k = uncancelled_rows floor in record { floor_room = omega arith; book_room = omega arith }
