@@ -1,5 +1,5 @@
 -- The first receiver and the first offer, and what an act needs of a state.
-use Rattle.std.specs.Prelude.{◌≡◌, ℕ, ◌≤◌, Bool, true, false, List, [], ◌∷◌, Option, Some, None, slice_get, refl, IsSome, MatchBool}
+use Rattle.std.specs.Prelude.{◌≡◌, ℕ, ◌≤◌, Bool, true, false, List, [], ◌∷◌, Option, Some, None, slice_get, refl, IsSome, MatchBool, is_none, is_some}
 use Rattle.std.specs.Option.{ForSome, option_and_then}
 use Rattle.std.proofs.Common.{sym, ap, subst, arith}
 use Rattle.co_base.specs.declared.names.WaitId.{WaitId}
@@ -13,9 +13,9 @@ use Rattle.channel_model.specs.declared.standing.Resolution.{Resolution}
 use Rattle.channel_model.specs.declared.standing.Resolution.TheVariants as resolved
 use Rattle.channel_model.specs.Channels.{State, Wait, is_full, suspends, is_signal}
 use Rattle.channel_model.specs.Outcomes.{outcome_of, IsOutcome}
-use Rattle.channel_model.specs.Effects.{resolve, resolve_first, resolve_holder, resolve_offer, with_queue}
-use Rattle.channel_model.specs.Needs.{MayName, JoinsWait, IsFirstReceiver, IsFirstOffer, MaySettle}
-use Rattle.channel_model.specs.Answers.{first_receiver, first_holder, owner_of, owner_of_holder, outcome_at, outcome_of_some, IsReadyWait}
+use Rattle.channel_model.specs.Effects.{resolve, resolve_first, resolve_holder, resolve_offer, with_queue, is_open}
+use Rattle.channel_model.specs.Needs.{MayName, JoinsWait, IsFirstReceiver, IsFirstOffer, IsOpenOf, MaySettle}
+use Rattle.channel_model.specs.Answers.{first_receiver, first_holder, owner_of, owner_of_holder, outcome_at, outcome_of_some, IsOwnWait, IsReadyWait, IsResolvedWait}
 use Rattle.channel_model.specs.Laws.{AllStandOpen, IsStandingAt, OffersStand, ReceiversStand, HolderStands}
 use Rattle.channel_model.proofs.Waits.{same_wait-refl}
 use Rattle.channel_model.proofs.OpenWaits.{with_queue_open}
@@ -111,3 +111,20 @@ outcome_fits (Some how) cancelled outcome e = let k : outcome_of how cancelled �
 pub may_settle : (who : ℕ) (x : Option Wait) (cancelled : Bool) (outcome : Settled) → IsReadyWait who x → outcome_at cancelled x ≡ Some outcome → MaySettle who outcome x
 may_settle who None cancelled outcome h e = absurd h
 may_settle who (Some x) cancelled outcome h e = (h.0, h.2, outcome_fits x.resolved cancelled outcome e)
+
+pub may_withdraw : (who : ℕ) (x : Option Wait) → IsOwnWait who x → is_open x ≡ true → IsOpenOf who x
+may_withdraw who None h e = absurd h
+may_withdraw who (Some x) h e = (h, open_is x.resolved e)
+  where
+    open_is : (how : Option Resolution) → is_none how ≡ true → how ≡ None
+    open_is None e = refl
+    open_is (Some r) e = cc
+
+-- a wait that is not open was resolved
+pub not_open_resolved : (x : Option Wait) → is_open x ≡ false → IsResolvedWait x
+not_open_resolved None e = cc
+not_open_resolved (Some x) e = some_is x.resolved e
+  where
+    some_is : (how : Option Resolution) → is_none how ≡ false → is_some how ≡ true
+    some_is None e = cc
+    some_is (Some r) e = refl

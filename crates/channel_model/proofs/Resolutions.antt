@@ -1,5 +1,5 @@
 -- A wait is resolved at most once, and settled at most once.
-use Rattle.std.specs.Prelude.{◌≡◌, ℕ, ◌+◌, ◌≤◌, ◌==◌, Bool, true, false, List, [], ◌∷◌, Option, Some, None, refl, if◌then◌else◌, is_some}
+use Rattle.std.specs.Prelude.{◌≡◌, ℕ, ◌+◌, ◌≤◌, ◌==◌, Bool, true, false, List, [], ◌∷◌, Option, Some, None, refl, if◌then◌else◌}
 use Rattle.std.proofs.Common.{sym, subst, arith}
 use Rattle.co_base.specs.declared.names.WaitId.{WaitId}
 use Rattle.channel_model.specs.declared.acts.Act.{Act}
@@ -14,15 +14,11 @@ use Rattle.channel_model.specs.Channels.{Shape, State, Wait, same_wait, start}
 use Rattle.channel_model.specs.Effects.{after, resolve, resolve_first, resolve_holder, resolve_offer, with_queue, put_wait, resolved_wait, name_clause, settled_wait, admitted, holder_at}
 use Rattle.channel_model.specs.Needs.{Needs, IsOpenOf, MaySettle}
 use Rattle.channel_model.specs.Histories.{LegalFrom, Legal}
+use Rattle.channel_model.specs.Answers.{IsResolvedWait}
 use Rattle.channel_model.specs.Laws.{IsStandingAt, HolderStands, OffersStand, ReceiversStand, AllStandOpen, wait_of_party, first_waiting, first_holding, resolves, settles, one_if, resolutions_from, resolutions_of, settlements_of}
 use Rattle.channel_model.proofs.Waits.{same_wait-eq, at_wait}
 use Rattle.channel_model.proofs.OpenWaits.{after_open, start_open}
 use Rattle.channel_model.proofs.Others.{Stays, other_keeps}
-
--- somebody resolved the wait
-abbrev pub IsResolvedWait : Option Wait → Type 0
-IsResolvedWait None = ⊥
-IsResolvedWait (Some x) = is_some x.resolved ≡ true
 
 abbrev pub IsSettledWait : Option Wait → Type 0
 IsSettledWait None = ⊥

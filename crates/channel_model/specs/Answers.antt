@@ -1,7 +1,8 @@
 -- What each answer of a floor says, by cases on the answer.
 use Rattle.std.specs.Prelude.{◌≡◌, ℕ, Bool, true, false, List, [], ◌∷◌, length, Option, Some, None, is_some, Result, Ok, Err}
-use Rattle.channel_model.specs.declared.acts.Act.TheVariants.{Hand, Put, Offer, Await, Take, Close, Settle}
+use Rattle.channel_model.specs.declared.acts.Act.TheVariants.{Hand, Put, Offer, Await, Take, Close, Withdraw, Settle}
 use Rattle.channel_model.specs.declared.acts.Settled.{Settled}
+use Rattle.channel_model.specs.declared.acts.Why.{Why}
 use Rattle.channel_model.specs.declared.standing.Party.{Party}
 use Rattle.channel_model.specs.declared.standing.Standing.{Standing}
 use Rattle.channel_model.specs.declared.standing.Receiver.{Receiver}
@@ -11,6 +12,8 @@ use Rattle.channel_model.specs.declared.floor.Offered.TheVariants as offered
 use Rattle.channel_model.specs.declared.floor.Got.{Got}
 use Rattle.channel_model.specs.declared.floor.Got.TheVariants as got
 use Rattle.channel_model.specs.declared.floor.AlreadyClosed.{AlreadyClosed}
+use Rattle.channel_model.specs.declared.floor.Withdrawn.{Withdrawn}
+use Rattle.channel_model.specs.declared.floor.Withdrawn.TheVariants as withdrawn
 use Rattle.channel_model.specs.declared.floor.WaitState.{WaitState}
 use Rattle.channel_model.specs.declared.floor.WaitState.TheVariants as state
 use Rattle.co_base.specs.declared.names.WaitId.{WaitId}
@@ -140,3 +143,20 @@ outcome_at cancelled (Some x) = outcome_of_some cancelled x.resolved
 abbrev pub SettleAnswer : ℕ → WaitId → Bool → Floor → Floor → Settled → Type 0
 SettleAnswer who w cancelled old new result =
     Made who (Settle w result) old new × (outcome_at cancelled ((replay old.seen).waits w) ≡ Some result)
+
+-- ---- withdraw
+
+-- somebody resolved the wait
+abbrev pub IsResolvedWait : Option Wait → Type 0
+IsResolvedWait None = ⊥
+IsResolvedWait (Some x) = is_some x.resolved ≡ true
+
+abbrev pub WithdrawAnswer : ℕ → WaitId → Why → Floor → Floor → Withdrawn → Type 0
+WithdrawAnswer who w why old new (withdrawn.Done t) = Made who (Withdraw w why) old new × (t ≡ who)
+WithdrawAnswer who w why old new withdrawn.Late = Looked who old new × IsResolvedWait ((replay new.seen).waits w)
+
+-- ---- mark
+
+-- the place that the channel gives out next
+abbrev pub MarkAnswer : ℕ → ℕ → Floor → Floor → ℕ → Type 0
+MarkAnswer who c old new result = Looked who old new × AtStep old new (λ s. (s.channels c).next ≡ result)

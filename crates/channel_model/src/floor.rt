@@ -4,9 +4,9 @@ ghost use Rattle.std.specs.Prelude.{◌≡◌, ℕ, ◌<◌, false, OnOk, OnErr}
 ghost use Rattle.channel_model.specs.Channels.{kind_at, is_signal};
 ghost use Rattle.channel_model.specs.Histories.{Legal};
 ghost use Rattle.channel_model.specs.Floors.{Floor, HasRoom, MayCall};
-ghost use Rattle.channel_model.specs.Answers.{OfferAnswer, GotAnswer, CloseAnswer, LookAnswer, SettleAnswer, IsOwn, IsReady};
+ghost use Rattle.channel_model.specs.Answers.{OfferAnswer, GotAnswer, CloseAnswer, LookAnswer, SettleAnswer, WithdrawAnswer, MarkAnswer, IsOwn, IsReady};
 
-use crate::acts::Settled;
+use crate::acts::{Settled, Why};
 use co_base::{ChannelId, Memory, Place, Tag, Value, WaitId};
 
 /// What an offer came to. The places are those of the acts that were made.
@@ -142,6 +142,20 @@ pub trait ChannelFloor {
         requires ready { IsReady who w (view self.old) }
         ensures anchor { anchor self.new ≡ anchor self.old }
         ensures answer { SettleAnswer who w cancelled (view self.old) (view self.new) result };
+
+    /// Takes the caller's own wait back, wherever it stands, unless it was resolved before.
+    fn withdraw(&mut self, who: Tag, w: WaitId, why: Why) -> Withdrawn
+        requires can { MayCall who w.channel (view self.old) }
+        requires room { 0 < (view self.old).spare }
+        requires own { IsOwn who w (view self.old) }
+        ensures anchor { anchor self.new ≡ anchor self.old }
+        ensures answer { WithdrawAnswer who w why (view self.old) (view self.new) result };
+
+    /// The place that the channel gives out next, above all that it gave out before. Makes no entry.
+    fn mark(&mut self, who: Tag, c: ChannelId) -> Place
+        requires can { MayCall who c (view self.old) }
+        ensures anchor { anchor self.new ≡ anchor self.old }
+        ensures answer { MarkAnswer who c (view self.old) (view self.new) result };
 
     ghost legal: { (s : Self) → Legal (view s).shape (view s).seen };
 }

@@ -1,12 +1,20 @@
 -- What each status says of the words, of what was read and of what was written.
-use Rattle.std.specs.Prelude.{◌≡◌, ℕ, ◌≤◌, Bool, true, false, ◌&&◌, List, [], ◌∷◌, length, Option, Ok, Err}
+use Rattle.std.specs.Prelude.{◌≡◌, ℕ, ◌≤◌, Bool, true, false, ◌&&◌, List, [], ◌∷◌, ◌++◌, length, Option, Some, None, Ok, Err}
 use lib.Chars.{codes}
 use Rattle.std.specs.Str.{bytes_eq}
 use Rattle.co_base.specs.Streams.{Rose, Gave, IsDrained, Took, TookPart}
-use Rattle.channel_model.specs.declared.acts.ChannelNote.{ChannelNote}
 use Rattle.channel_model.specs.declared.acts.Entry.{Entry}
 use Rattle.channel_model.specs.Laws.{resolutions_of, settlements_of}
 use Rattle.co_base.specs.declared.names.WaitId.{WaitId}
+use Rattle.job_model.specs.declared.acts.End.{End}
+use Rattle.job_model.specs.declared.acts.End.TheVariants as ends
+use Rattle.job_model.specs.declared.acts.JobAct.TheVariants.{Finish}
+use Rattle.job_model.specs.declared.acts.JobEntry.{JobEntry}
+use Rattle.job_model.specs.Acts.{finishes}
+use Rattle.job_model.specs.Trees.{parent_of}
+use Rattle.job_model.specs.Laws.{has}
+use Rattle.job_model.specs.Histories.{replay}
+use Rattle.note_book.specs.declared.book.Item.{Item}
 use Rattle.script_reader.specs.declared.fault.ScriptFault.{ScriptFault}
 use Rattle.script_reader.specs.Programs.{Program}
 use Rattle.script_reader.specs.Grammar.{Spells}
@@ -22,6 +30,7 @@ use Rattle.coroutine_cli.specs.declared.status.Status.TheVariants as status
 -- the number with which the process ends
 abbrev pub number_of : Status → ℕ
 number_of status.Completed = 0
+number_of status.Cancelled = 1
 number_of status.Refused = 2
 number_of status.NoScript = 3
 number_of status.Unfinished = 4
@@ -32,6 +41,7 @@ number_of status.NoMemory = 7
 -- the status of a call whose whole text was written
 abbrev pub status_of : Ending → Status
 status_of ending.Completed = status.Completed
+status_of ending.Cancelled = status.Cancelled
 status_of ending.Unfinished = status.Unfinished
 status_of ending.NoScript = status.NoScript
 
@@ -42,18 +52,33 @@ is_run other = false
 
 -- ---- what a text says of the input
 
--- the input is a script, and the text the report of books that are the parts of one legal history, which came to rest;
--- finished says that each coroutine is at the end of its code
-pub record Reports (finished : Bool) (input text : List ℕ) : Type 0 where
+-- how a run ends whose root has ended so, if it has
+abbrev pub ending_of : Option End → Ending
+ending_of None = ending.Unfinished
+ending_of (Some (ends.Completed v)) = ending.Completed
+ending_of (Some (ends.Cancelled cause)) = ending.Cancelled
+
+-- a Job's Finish in this history comes after that of each child that it ever has
+abbrev pub ChildrenEndFirst : List JobEntry → Type 0
+ChildrenEndFirst jobs = (xs ys : List JobEntry) (who row c : ℕ) (end : End) → jobs ≡ xs ++ record { who = who; act = Finish row end } ∷ ys → parent_of (replay jobs c) ≡ Some row → has finishes c xs ≡ true
+
+-- the input is a script, and the text the report of books that are the parts of one legal history of channels and of one of Jobs, which came
+-- to rest; the ending says how the root has ended
+pub record Reports (how : Ending) (input text : List ℕ) : Type 0 where
   pub program : Program
   pub is_script : first_scripts input ≡ Ok program
   pub spelled : Spells input program
-  pub books : List (List ChannelNote)
-  pub history : List Entry
-  pub parts : BooksOf program books history
-  pub idle : IsIdle program books history finished
+  pub books : List (List Item)
+  pub channels : List Entry
+  pub jobs : List JobEntry
+  pub root : Option End
+  pub parts : BooksOf program books channels jobs
+  pub idle : IsIdle program books channels jobs root
+  pub ending : ending_of root ≡ how
   -- each wait is resolved at most once, and settled at most once
-  pub once : (w : WaitId) → (resolutions_of w history ≤ 1) × (settlements_of w history ≤ 1)
+  pub once : (w : WaitId) → (resolutions_of w channels ≤ 1) × (settlements_of w channels ≤ 1)
+  -- no Job ends before its children
+  pub children_first : ChildrenEndFirst jobs
   pub is_report : text ≡ report_text program books
 
 -- the input is no script, and the text names the fault and its line
@@ -64,8 +89,9 @@ pub record Refuses (input text : List ℕ) : Type 0 where
   pub is_line : text ≡ fault_text fault
 
 abbrev pub Answers : Ending → List ℕ → List ℕ → Type 0
-Answers ending.Completed input text = Reports true input text
-Answers ending.Unfinished input text = Reports false input text
+Answers ending.Completed input text = Reports ending.Completed input text
+Answers ending.Cancelled input text = Reports ending.Cancelled input text
+Answers ending.Unfinished input text = Reports ending.Unfinished input text
 Answers ending.NoScript input text = Refuses input text
 
 -- ---- what a status says of the call
@@ -98,6 +124,7 @@ pub record BreaksOff (source source' sink sink' : Stream) : Type 0 where
 -- a call with these words that found its source and its sink so, and left them so
 abbrev pub Means : Status → List (List ℕ) → Stream → Stream → Stream → Stream → Type 0
 Means status.Completed words source source' sink sink' = (is_run words ≡ true) × Writes ending.Completed source source' sink sink'
+Means status.Cancelled words source source' sink sink' = (is_run words ≡ true) × Writes ending.Cancelled source source' sink sink'
 Means status.Refused words source source' sink sink' = is_run words ≡ false
 Means status.NoScript words source source' sink sink' = (is_run words ≡ true) × Writes ending.NoScript source source' sink sink'
 Means status.Unfinished words source source' sink sink' = (is_run words ≡ true) × Writes ending.Unfinished source source' sink sink'

@@ -7,11 +7,12 @@ ghost use Rattle.script_reader.specs.Programs.{Program};
 ghost use Rattle.script_reader.specs.Scripts.{program_of};
 ghost use Rattle.script_reader.specs.Texts.{first_scripts};
 ghost use Rattle.script_reader.specs.declared.fault.FaultKind.TheVariants.{Memory as NoMemory};
-ghost use Rattle.coroutine_cli.specs.Statuses.{Answers};
+ghost use Rattle.coroutine_cli.specs.Statuses.{Answers, ending_of};
 
 use crate::status::Ending;
 use co_base::{Gate, Memory};
 use engine_one::run_one;
+use job_model::End;
 use run_report::{fault_line, report};
 use script_reader::{FaultKind, Script, ScriptFault, read};
 use std::alloc::Global;
@@ -58,14 +59,17 @@ fn run_of<G: Gate>(alloc: Global, script: &Script, bytes: &[u8], gate: &G) -> Re
 {
     let run = run_one(alloc, script, gate)?;
     let text = report(alloc, script, &run.done)?;
-    if run.done.idle {
-        return Ok(Answer {
-            ending: Ending::Unfinished,
-            text,
-        });
+    let ending = ending_of(run.done.end);
+    Ok(Answer { ending, text })
+}
+
+/// How a run ends whose root has ended so, if it has.
+fn ending_of(root: Option<End>) -> Ending
+    ensures { result ≡ ending_of root }
+{
+    match root {
+        Some(End::Completed(_)) => Ending::Completed,
+        Some(End::Cancelled(_)) => Ending::Cancelled,
+        None => Ending::Unfinished,
     }
-    Ok(Answer {
-        ending: Ending::Completed,
-        text,
-    })
 }

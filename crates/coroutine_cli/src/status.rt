@@ -6,9 +6,11 @@ ghost use Rattle.coroutine_cli.specs.Statuses.{number_of, status_of};
 /// How a call ends that has a text to write.
 #[derive(Clone, Copy, Debug, PartialEq, Eq)]
 pub enum Ending {
-    /// Each coroutine is at the end of its code; the text is the report.
+    /// The root's Job has completed; the text is the report.
     Completed,
-    /// A coroutine waits, or had no place left; the text is the report.
+    /// The root's Job has ended as cancelled; the text is the report.
+    Cancelled,
+    /// The root's Job has not ended; the text is the report.
     Unfinished,
     /// The bytes are no script; the text says which line is faulty.
     NoScript,
@@ -18,6 +20,7 @@ pub enum Ending {
 #[derive(Clone, Copy, Debug, PartialEq, Eq)]
 pub enum Status {
     Completed,
+    Cancelled,
     /// The words are not those of a command.
     Refused,
     NoScript,
@@ -37,6 +40,7 @@ impl Ending {
     {
         match self {
             Ending::Completed => Status::Completed,
+            Ending::Cancelled => Status::Cancelled,
             Ending::Unfinished => Status::Unfinished,
             Ending::NoScript => Status::NoScript,
         }
@@ -50,6 +54,7 @@ impl Status {
     {
         match self {
             Status::Completed => 0,
+            Status::Cancelled => 1,
             Status::Refused => 2,
             Status::NoScript => 3,
             Status::Unfinished => 4,

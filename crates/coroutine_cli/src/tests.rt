@@ -7,11 +7,12 @@ use co_base::{Memory, MemorySink, MemorySource, OpenGate};
 use std::alloc::Global;
 use std::test::Fail;
 
-/// A rendezvous of one sender and one receiver.
+/// One sender and one receiver.
 const RENDEZVOUS: &str =
-    "channel a rendezvous\ncoroutine p\nsend a 5\nend\ncoroutine c\nreceive a\nend\ncoroutine main\nend\nspawn p\nspawn c\n";
+    "channel a rendezvous;coroutine p;send a 5;end;coroutine c;receive a;end;coroutine main;end;spawn p;spawn c";
 
-const RENDEZVOUS_REPORT: &str = "1 offer a 0 5 a.0 0\n1 settle a.0 sent 0\n2 take a 0 5\n";
+const RENDEZVOUS_REPORT: &str =
+    "0 attach 1 to 0 tag 1 plain;0 attach 2 to 0 tag 2 plain;0 endbody 0 0;1 offer a 0 5 a.0 0;1 settle a.0 sent 0;1 endbody 1 0;1 finish 1 completed 0;1 close @1 0;1 gone 1;1 finish 0 completed 0;1 close @0 0;2 take a 0 5;2 endbody 2 0;2 finish 2 completed 0;2 close @2 0;2 gone 2;job 0 completed 0;job 1 completed 0;job 2 completed 0";
 
 /// How a source gives and a sink takes: so many bytes in each call, and the calls that fail.
 #[derive(Clone, Copy)]
@@ -47,40 +48,92 @@ fn answer(
     Ok((status, text))
 }
 
-/// Scripts, each with its status and its text.
-const ROWS: [(&str, u8, &str); 9] = [
+/// Scripts, each with its status and its text. A `;` stands for a line feed, also at the end of each text.
+const ROWS: [(&str, u8, &str); 15] = [
+    // One sender and one receiver.
     (RENDEZVOUS, 0, RENDEZVOUS_REPORT),
     (
-        "channel a rendezvous\ncoroutine main\nreceive a\nend\n",
+        "channel a rendezvous;coroutine main;receive a;end",
         4,
-        "0 await a 0 a.0 0\n",
+        "0 await a 0 a.0 0;job 0 active",
     ),
     (
-        "channel a rendezvous\ncoroutine main\nsend a 4294967295\nend\n",
+        "channel a rendezvous;coroutine main;send a 4294967295;end",
         4,
-        "0 offer a 0 4294967295 a.0 0\nelement a 0 4294967295 held\n",
+        "0 offer a 0 4294967295 a.0 0;job 0 active;element a 0 4294967295 held",
     ),
+    // A lazy coroutine that is cancelled before it was started never runs; one that is started does.
     (
-        "channel a rendezvous\ncoroutine main\nsend a 4294967296\nend\n",
-        3,
-        "line 1: UnknownWord\n",
+        "coroutine w;result 5;end;coroutine main;lazy w as x;cancel x;lazy w as y;start y;end",
+        0,
+        "0 attach 1 to 0 tag 1 lazy;0 cancel 1 request;0 attach 2 to 0 tag 2 lazy;0 start 2;0 endbody 0 0;1 saw 1;1 endbody 1 0;1 finish 1 cancelled;1 close @1 0;1 gone 1;2 endbody 2 5;2 finish 2 completed 5;2 close @2 5;2 gone 2;2 finish 0 completed 0;2 close @0 0;job 0 completed 0;job 1 cancelled;job 2 completed 5",
+    ),
+    // A failure cancels the parent.
+    (
+        "coroutine leaf;fail 7;end;coroutine main;launch leaf;yield;yield;yield;end",
+        1,
+        "0 attach 1 to 0 tag 1 plain;0 saw 0;0 endbody 0 0;0 finish 0 failed 1;0 close @0 0;1 fail 7;1 cancel 1 own 1;1 cancel 0 child 1;1 endbody 1 0;1 finish 1 failed 1;1 close @1 0;1 gone 1;job 0 failed 1;job 1 failed 1",
     ),
     // The hand goes to the receiver that stands first.
     (
-        "channel a rendezvous\ncoroutine r\nreceive a\nend\ncoroutine s\nsend a 5\nend\ncoroutine main\nend\nspawn r\nspawn r\nspawn s\n",
+        "channel a rendezvous;coroutine r;receive a;end;coroutine s;send a 5;end;coroutine main;end;spawn r;spawn r;spawn s",
         4,
-        "1 await a 0 a.0 0\n1 settle a.0 value 0 5\n2 await a 1 a.1 0\n3 hand a 0 5\n",
+        "0 attach 1 to 0 tag 1 plain;0 attach 2 to 0 tag 2 plain;0 attach 3 to 0 tag 3 plain;0 endbody 0 0;1 await a 0 a.0 0;1 settle a.0 value 0 5;1 endbody 1 0;1 finish 1 completed 0;1 close @1 0;1 gone 1;2 await a 1 a.1 0;3 hand a 0 5;3 endbody 3 0;3 finish 3 completed 0;3 close @3 0;3 gone 3;job 0 completing;job 1 completed 0;job 2 active;job 3 completed 0",
     ),
     // Two waiting senders are received in their order, and two channels keep apart.
     (
-        "channel a rendezvous\nchannel b rendezvous\ncoroutine p\nsend a 1\nsend b 2\nend\ncoroutine q\nsend a 3\nreceive b\nend\ncoroutine main\nreceive a\nreceive a\nend\nspawn p\nspawn q\n",
+        "channel a rendezvous;channel b rendezvous;coroutine p;send a 1;send b 2;end;coroutine q;send a 3;receive b;end;coroutine main;receive a;receive a;end;spawn p;spawn q",
         0,
-        "0 await a 0 a.0 0\n0 settle a.0 value 0 1\n0 take a 1 3\n1 hand a 0 1\n1 offer b 0 2 b.0 0\n1 settle b.0 sent 0\n2 offer a 1 3 a.1 0\n2 settle a.1 sent 0\n2 take b 0 2\n",
+        "0 attach 1 to 0 tag 1 plain;0 attach 2 to 0 tag 2 plain;0 await a 0 a.0 0;0 settle a.0 value 0 1;0 take a 1 3;0 endbody 0 0;1 hand a 0 1;1 offer b 0 2 b.0 0;1 settle b.0 sent 0;1 endbody 1 0;1 finish 1 completed 0;1 close @1 0;1 gone 1;1 finish 0 completed 0;1 close @0 0;2 offer a 1 3 a.1 0;2 settle a.1 sent 0;2 take b 0 2;2 endbody 2 0;2 finish 2 completed 0;2 close @2 0;2 gone 2;job 0 completed 0;job 1 completed 0;job 2 completed 0",
     ),
-    ("", 3, "line 1: UnknownWord\n"),
-    ("coroutine main\nend\n", 0, ""),
-    ("coroutine main\n", 3, "line 1: UnknownWord\n"),
+    // A cancel pass goes to the newest child first, below Jobs that are cancelled already too.
+    (
+        "coroutine leaf;yield;yield;yield;end;coroutine mid;launch leaf as j;launch leaf;cancel j;yield;yield;end;coroutine main;launch mid as m;launch leaf;yield;cancel m;end",
+        0,
+        "0 attach 1 to 0 tag 1 plain;0 attach 4 to 0 tag 4 plain;0 cancel 1 request;0 cancel 3 parent;0 endbody 0 0;1 attach 2 to 1 tag 2 plain;1 attach 3 to 1 tag 3 plain;1 cancel 2 request;1 saw 1;1 endbody 1 0;1 finish 1 cancelled;1 close @1 0;1 gone 1;2 saw 2;2 endbody 2 0;2 finish 2 cancelled;2 close @2 0;2 gone 2;3 saw 3;3 endbody 3 0;3 finish 3 cancelled;3 close @3 0;3 gone 3;4 endbody 4 0;4 finish 4 completed 0;4 close @4 0;4 gone 4;4 finish 0 completed 0;4 close @0 0;job 0 completed 0;job 1 cancelled;job 2 cancelled;job 3 cancelled;job 4 completed 0",
+    ),
+    // Woken tags stand in the queue before the own tag.
+    (
+        "coroutine w;result 3;end;coroutine main;lazy w as x;lazy w as y;start y;start x;yield;result 4;end;spawn w",
+        0,
+        "0 attach 1 to 0 tag 1 plain;0 attach 2 to 0 tag 2 lazy;0 attach 3 to 0 tag 3 lazy;0 start 3;0 start 2;0 endbody 0 4;0 finish 0 completed 4;0 close @0 4;1 endbody 1 3;1 finish 1 completed 3;1 close @1 3;1 gone 1;2 endbody 2 3;2 finish 2 completed 3;2 close @2 3;2 gone 2;3 endbody 3 3;3 finish 3 completed 3;3 close @3 3;3 gone 3;job 0 completed 4;job 1 completed 3;job 2 completed 3;job 3 completed 3",
+    ),
+    // A lazy child under a Job that is cancelling is cancelled at once and woken.
+    (
+        "coroutine w;end;coroutine p;launch w;lazy w as z;yield;end;coroutine main;launch p as j;cancel j;end",
+        0,
+        "0 attach 1 to 0 tag 1 plain;0 cancel 1 request;0 cancel 2 parent;0 endbody 0 0;1 attach 2 to 1 tag 2 plain;1 attach 3 to 1 tag 3 lazy cancelled;1 saw 1;1 endbody 1 0;1 finish 1 cancelled;1 close @1 0;1 gone 1;1 finish 0 completed 0;1 close @0 0;2 saw 2;2 endbody 2 0;2 finish 2 cancelled;2 close @2 0;2 gone 2;3 saw 3;3 endbody 3 0;3 finish 3 cancelled;3 close @3 0;3 gone 3;job 0 completed 0;job 1 cancelled;job 2 cancelled;job 3 cancelled",
+    ),
+    // A lazy child that is never started keeps its parent.
+    (
+        "coroutine w;end;coroutine main;lazy w as x;result 1;end",
+        4,
+        "0 attach 1 to 0 tag 1 lazy;0 endbody 0 1;job 0 completing;job 1 new",
+    ),
+    // What is no script, for now with a line on channels beside one on Jobs too.
+    ("", 3, "line 1: UnknownWord"),
+    ("coroutine main", 3, "line 1: UnknownWord"),
+    (
+        "channel a rendezvous;coroutine main;send a 4294967296;end",
+        3,
+        "line 1: UnknownWord",
+    ),
+    (
+        "channel a rendezvous;coroutine main;send a 1;yield;end",
+        3,
+        "line 1: UnknownWord",
+    ),
 ];
+
+/// The text of a row.
+fn lines(alloc: Global, row: &str) -> Result<String, Memory> {
+    let mut text = String::new(alloc);
+    for c in row.chars() {
+        text.push(if c == ';' { '\n' } else { c })?;
+    }
+    text.push('\n')?;
+    Ok(text)
+}
 
 #[test]
 fn each_script_has_its_status_and_its_text(rt: HostRuntime) -> Result<(), Fail> {
@@ -88,11 +141,11 @@ fn each_script_has_its_status_and_its_text(rt: HostRuntime) -> Result<(), Fail> 
         let (found, written) = answer(
             rt.alloc(),
             &["run", "--workers", "1"],
-            script.as_bytes(),
+            lines(rt.alloc(), script)?.as_bytes(),
             AT_ONCE,
             AT_ONCE,
         )?;
-        assert_eq!(rt; written.as_slice(), text.as_bytes());
+        assert_eq!(rt; written.as_slice(), lines(rt.alloc(), text)?.as_bytes());
         assert_eq!(rt; found, status);
     }
     Ok(())
@@ -101,11 +154,13 @@ fn each_script_has_its_status_and_its_text(rt: HostRuntime) -> Result<(), Fail> 
 #[test]
 fn a_source_and_a_sink_may_be_slow_or_fail(rt: HostRuntime) -> Result<(), Fail> {
     let words = ["run", "--workers", "1"];
-    let script = RENDEZVOUS.as_bytes();
+    let text = lines(rt.alloc(), RENDEZVOUS)?;
+    let script = text.as_bytes();
+    let report = lines(rt.alloc(), RENDEZVOUS_REPORT)?;
     for step in [1, 7, 1_000] {
         let pace = Pace { step, fails: &[] };
         let (status, written) = answer(rt.alloc(), &words, script, pace, pace)?;
-        assert_eq!(rt; written.as_slice(), RENDEZVOUS_REPORT.as_bytes());
+        assert_eq!(rt; written.as_slice(), report.as_bytes());
         assert_eq!(rt; status, 0);
     }
     let second_fails = Pace {
@@ -113,7 +168,7 @@ fn a_source_and_a_sink_may_be_slow_or_fail(rt: HostRuntime) -> Result<(), Fail> 
         fails: &[2],
     };
     let (status, written) = answer(rt.alloc(), &words, script, AT_ONCE, second_fails)?;
-    assert_eq!(rt; written.as_slice(), b"1 offer a 0 5 a.".as_slice());
+    assert_eq!(rt; written.as_slice(), b"0 attach 1 to 0 ".as_slice());
     assert_eq!(rt; status, 6);
     let first_fails = Pace {
         step: 16,
@@ -135,7 +190,7 @@ fn other_words_are_refused(rt: HostRuntime) -> Result<(), Fail> {
         &["run", "--workers", "1", "1"],
     ];
     for words in refused {
-        let (status, written) = answer(rt.alloc(), words, RENDEZVOUS.as_bytes(), AT_ONCE, AT_ONCE)?;
+        let (status, written) = answer(rt.alloc(), words, b"".as_slice(), AT_ONCE, AT_ONCE)?;
         assert!(rt; written.is_empty());
         assert_eq!(rt; status, 2);
     }

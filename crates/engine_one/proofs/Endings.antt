@@ -1,121 +1,104 @@
 -- A run after its last turn.
-use Rattle.std.proofs.Common.{◌≡◌, ℕ, ◌<◌, ◌≤◌, nat_le, Bool, true, false, not, List, [], ◌∷◌, length, zero, suc, Option, Some, None, refl, ap, sym, ◌∙◌, subst, arith, slice_get, map}
-use Rattle.std.specs.Prelude.{◌↔◌}
-use Rattle.std.proofs.lemmas.Bool.Decides.{nat_tests}
+use Rattle.std.proofs.Common.{◌≡◌, ◌≢◌, ℕ, ◌<◌, ◌≤◌, List, [], ◌∷◌, length, zero, suc, Option, Some, None, refl, ap, sym, ◌∙◌, subst, arith, slice_get}
 use Rattle.std.proofs.lemmas.List.{length-map}
-use Rattle.std.proofs.lemmas.List.Folds.{list_all-map}
-use Rattle.channel_model.specs.declared.acts.ChannelNote.{ChannelNote}
-use Rattle.channel_model.specs.declared.acts.Entry.{Entry}
 use Rattle.channel_model.specs.Histories.{replay, acts_of, Legal}
-use Rattle.channel_model.specs.Laws.{is_plain_act, keeps_none}
-use Rattle.channel_model.specs.Floors.{Floor}
-use Rattle.channel_model.proofs.Plain.{replay_plain, plain_owes_nothing}
-use Rattle.script_reader.specs.declared.script.Instruction.{Instruction}
-use Rattle.script_reader.specs.Programs.{Program, IsProgram, shape_of, code_of, coroutine_count}
-use Rattle.script_reader.proofs.Declarations.{kind_at-shape_of}
+use Rattle.job_model.specs.declared.acts.End.{End}
+use Rattle.job_model.specs.Histories.{replay as replay_jobs, acts_of as job_acts_of, Legal as LegalJobs}
+use Rattle.note_book.specs.declared.book.Item.{Item}
+use Rattle.note_book.specs.Items.{channel_acts_in, job_acts_in}
+use Rattle.scope_builders.specs.Groups.{ClosesAtOnce}
+use Rattle.script_reader.specs.Programs.{Program, IsProgram, coroutine_count}
 use Rattle.poll_states.specs.declared.frame.Frame.{Frame}
-use Rattle.poll_states.specs.declared.frame.Stage.{Stage}
-use Rattle.poll_states.specs.declared.frame.Stage.TheVariants.{Running, Waiting, Failed, Cancelled}
-use Rattle.poll_states.specs.Books.{items_of, acts_noted, book_at}
-use Rattle.poll_states.specs.Runs.{Config, Reaches, Runs, running}
-use Rattle.poll_states.specs.Frames.{config_of, is_at_end, IsInside}
-use Rattle.poll_states.specs.Parts.{BooksOf, IsIdle, IsLeft}
-use Rattle.engine_one.specs.Coroutines.{FrameStands, StandsAt, AllStand, IsLeftAt, AllLeft, book_of, IsAtEnd, AllAtEnd}
-use Rattle.engine_one.proofs.Lists.{within}
+use Rattle.poll_states.specs.Settings.{base_of, job_shape, book_at}
+use Rattle.poll_states.specs.Runs.{Config, Reaches, Runs, fresh}
+use Rattle.poll_states.specs.Frames.{config_of, items_of}
+use Rattle.poll_states.specs.Parts.{BooksOf, BeginsAsAttached, IsIdle, IsLeft, end_at}
+use Rattle.engine_one.specs.Coroutines.{Scene, FrameStands, StandsAt, AllStand, IsLeftAt, AllLeft, books_of}
+use Rattle.engine_one.proofs.Calm.{calm_owes_nothing}
+use Rattle.poll_states.proofs.FirstItems.{begins_as_attached}
 
 -- ---- the books
 
 -- the book of the frame at a tag
-abbrev book_in : Option Frame → List ChannelNote
+abbrev book_in : Option Frame → List Item
 book_in None = []
-book_in (Some f) = book_of f
+book_in (Some f) = items_of f
 
-book_at-map : (frames : List Frame) (k : ℕ) → book_at k (map book_of frames) ≡ book_in (slice_get frames k)
+book_at-map : (frames : List Frame) (k : ℕ) → book_at k (books_of frames) ≡ book_in (slice_get frames k)
 book_at-map [] k = refl
 book_at-map (f ∷ frames) zero = refl
 book_at-map (f ∷ frames) (suc k) = book_at-map frames k
-
-some_frame : (frames : List Frame) (k : ℕ) → k < length frames → (f : Frame) × (slice_get frames k ≡ Some f)
-some_frame [] k lt = absurd (omega (arith, lt))
-some_frame (f ∷ frames) zero lt = (f, refl)
-some_frame (f ∷ frames) (suc k) lt = some_frame frames k (omega (arith, lt))
 
 none_past : (frames : List Frame) (k : ℕ) → slice_get frames k ≡ None → length frames ≤ k
 none_past [] k e = omega arith
 none_past (f ∷ frames) zero e = cc
 none_past (f ∷ frames) (suc k) e = let h = none_past frames k e in omega (arith, h)
 
-pub books_are_parts : (p : Program) (floor : Floor) (frames : List Frame) → AllStand p floor frames → Legal floor.shape floor.seen → BooksOf p (map book_of frames) floor.seen
-books_are_parts p floor frames h legal = record {
-  count = length-map frames book_of ∙ h.count;
-  legal = subst (λ s. Legal s floor.seen) h.shape legal;
-  parts = λ k. part k (slice_get frames k) refl (h.each k);
+-- the frame's book leads to where it is
+reach : (p : Program) (s : Scene) (frames : List Frame) (k : ℕ) (f : Frame) → slice_get frames k ≡ Some f → FrameStands p s k f → Reaches p k s.jobs.seen (book_at k (books_of frames)) (config_of f)
+reach p s frames k f e h = subst (λ b. Reaches p k s.jobs.seen b (config_of f)) (sym (book_at-map frames k ∙ ap book_in e)) (subst (λ n. Reaches p n s.jobs.seen (items_of f) (config_of f)) h.tag h.stands.reaches)
+
+pub books_are_parts : (p : Program) (s : Scene) (frames : List Frame) → AllStand p s frames → Legal s.channels.shape s.channels.seen → LegalJobs s.jobs.shape s.jobs.seen → BooksOf p (books_of frames) s.channels.seen s.jobs.seen
+books_are_parts p s frames h legal legal_jobs = record {
+  count = length-map frames items_of ∙ h.count;
+  legal_channels = subst (λ z. Legal z s.channels.seen) h.channel_shape legal;
+  legal_jobs = jobs_legal;
+  channel_parts = λ k. calls k (slice_get frames k) refl (h.each k);
+  job_parts = λ k. jobs k (slice_get frames k) refl (h.each k);
   runs = λ k lt. run k lt (slice_get frames k) refl (h.each k);
+  closes = λ k. close k (slice_get frames k) refl (h.each k);
+  begins = λ k lt n some. begin k lt n some (slice_get frames k) refl (h.each k);
 }
   where
-    book : (k : ℕ) (o : Option Frame) → slice_get frames k ≡ o → book_at k (map book_of frames) ≡ book_in o
+    jobs_legal : LegalJobs (job_shape p) s.jobs.seen
+    jobs_legal = subst (λ z. LegalJobs z s.jobs.seen) h.job_shape_is legal_jobs
+
+    book : (k : ℕ) (o : Option Frame) → slice_get frames k ≡ o → book_at k (books_of frames) ≡ book_in o
     book k o e = book_at-map frames k ∙ ap book_in e
 
-    part : (k : ℕ) (o : Option Frame) → slice_get frames k ≡ o → StandsAt p floor k o → acts_of k floor.seen ≡ acts_noted (book_at k (map book_of frames))
-    part k None e s = h.nobody_else k (omega (arith, h.count, none_past frames k e)) ∙ ap acts_noted (sym (book k None e))
-    part k (Some f) e s = ap (λ n. acts_of n floor.seen) (sym s.tag) ∙ s.stands.acts ∙ ap acts_noted (sym (book k (Some f) e))
+    calls : (k : ℕ) (o : Option Frame) → slice_get frames k ≡ o → StandsAt p s k o → acts_of k s.channels.seen ≡ channel_acts_in (book_at k (books_of frames))
+    calls k None e z = h.no_other_calls k (omega (arith, h.count, none_past frames k e)) ∙ ap channel_acts_in (sym (book k None e))
+    calls k (Some f) e z = ap (λ n. acts_of n s.channels.seen) (sym z.tag) ∙ z.stands.channel_acts ∙ ap channel_acts_in (sym (book k (Some f) e))
 
-    reach : (k : ℕ) (f : Frame) → slice_get frames k ≡ Some f → FrameStands p floor k f → Reaches (code_of p k) (book_at k (map book_of frames)) (config_of f)
-    reach k f e s = subst (λ b. Reaches (code_of p k) b (config_of f)) (sym (book k (Some f) e)) (subst (λ n. Reaches (code_of p n) (items_of f.book) (config_of f)) s.tag s.stands.reaches)
+    jobs : (k : ℕ) (o : Option Frame) → slice_get frames k ≡ o → StandsAt p s k o → job_acts_of k s.jobs.seen ≡ job_acts_in (book_at k (books_of frames))
+    jobs k None e z = h.no_other_jobs k (omega (arith, h.count, none_past frames k e)) ∙ ap job_acts_in (sym (book k None e))
+    jobs k (Some f) e z = ap (λ n. job_acts_of n s.jobs.seen) (sym z.tag) ∙ z.stands.job_acts ∙ ap job_acts_in (sym (book k (Some f) e))
 
-    run : (k : ℕ) → k < coroutine_count p → (o : Option Frame) → slice_get frames k ≡ o → StandsAt p floor k o → Runs (code_of p k) (book_at k (map book_of frames))
-    run k lt None e s = absurd (omega (arith, lt, h.count, none_past frames k e))
-    run k lt (Some f) e s = (config_of f, reach k f e s)
+    run : (k : ℕ) → k < coroutine_count p → (o : Option Frame) → slice_get frames k ≡ o → StandsAt p s k o → Runs p k s.jobs.seen (book_at k (books_of frames))
+    run k lt None e z = absurd (omega (arith, lt, h.count, none_past frames k e))
+    run k lt (Some f) e z = (config_of f, reach p s frames k f e z)
+
+    close : (k : ℕ) (o : Option Frame) → slice_get frames k ≡ o → StandsAt p s k o → ClosesAtOnce (base_of p) (book_at k (books_of frames))
+    close k None e z = subst (ClosesAtOnce (base_of p)) (sym (book k None e)) tt
+    close k (Some f) e z = subst (ClosesAtOnce (base_of p)) (sym (book k (Some f) e)) z.closes
+
+    begin : (k : ℕ) → k < coroutine_count p → k ≢ 0 → book_at k (books_of frames) ≢ [] → (o : Option Frame) → slice_get frames k ≡ o → StandsAt p s k o → BeginsAsAttached k s.jobs.seen (book_at k (books_of frames))
+    begin k lt n some None e z = absurd (omega (arith, lt, h.count, none_past frames k e))
+    begin k lt n some (Some f) e z = begins_as_attached p k s.jobs.seen (book_at k (books_of frames)) (config_of f) jobs_legal lt n (reach p s frames k f e z) some
 
 -- ---- how the run is left
 
 abbrev config_in : Option Frame → Config
-config_in None = running 0
+config_in None = fresh 0
 config_in (Some f) = config_of f
 
-at_end : (line : ℕ) (stage : Stage) (code : List Instruction) → IsInside stage line code → is_at_end (length code) line stage ≡ true → (let at : Config = record { line = line; stage = stage } in at) ≡ running (length code)
-at_end line Running code inside e = ap running (same line (length code) inside e)
-  where
-    same : (i n : ℕ) → i ≤ n → nat_le n i ≡ true → i ≡ n
-    same i n le e = grind (arith, nat_tests)
-at_end line (Waiting w) code inside e = cc
-at_end line Failed code inside e = cc
-at_end line Cancelled code inside e = cc
-
-running_at_end : (n : ℕ) (x : Config) → x ≡ running n → is_at_end n x.line x.stage ≡ true
-running_at_end n x e = subst (λ (y : Config). is_at_end n y.line y.stage ≡ true) (sym e) (reflexive n)
-  where
-    reflexive : (i : ℕ) → nat_le i i ≡ true
-    reflexive i = grind (arith, nat_tests)
-
-pub run_is_idle : (p : Program) (floor : Floor) (frames : List Frame) (idle : Bool) → IsProgram p → AllStand p floor frames → AllLeft p (replay floor.seen) frames → ((idle ≡ false) ↔ AllAtEnd p frames) → IsIdle p (map book_of frames) floor.seen (not idle)
-run_is_idle p floor frames idle ok h left done = record {
-  ends = λ k. config_in (slice_get frames k);
-  reaches = λ k lt. reach k lt (slice_get frames k) refl (h.each k);
-  left = λ k lt. leave k lt (slice_get frames k) refl (left k);
-  exactly = (λ e k lt. ends k lt (slice_get frames k) refl (h.each k) (done.0 (flip idle e) k), λ all. ap not (done.1 (λ k. ended k (slice_get frames k) refl all)));
-  nothing_owed = plain_owes_nothing (shape_of p) (replay floor.seen) (replay_plain floor.seen (sym (list_all-map is_plain_act (λ (e : Entry). e.act) floor.seen) ∙ h.plain)) (λ c lt. ap keeps_none (kind_at-shape_of p ok c lt));
+pub run_is_idle : (p : Program) (s : Scene) (frames : List Frame) (root : Option End) → IsProgram p → AllStand p s frames → AllLeft s frames → end_at (replay_jobs s.jobs.seen 0) ≡ root → IsIdle p (books_of frames) s.channels.seen s.jobs.seen root
+run_is_idle p s frames root ok h left ended = record {
+  configs = λ k. config_in (slice_get frames k);
+  reaches = λ k lt. reaches_at k lt (slice_get frames k) refl (h.each k);
+  left = λ k lt. left_at k lt (slice_get frames k) refl (left k);
+  nothing_owed = calm_owes_nothing p s.channels.seen ok h.calm;
+  rest = h.settled.rest;
+  ended = ended;
 }
   where
-    flip : (b : Bool) → not b ≡ true → b ≡ false
-    flip true e = cc
-    flip false e = refl
-
     some : (k : ℕ) → k < coroutine_count p → slice_get frames k ≡ None → ⊥
     some k lt e = omega (arith, lt, h.count, none_past frames k e)
 
-    reach : (k : ℕ) → k < coroutine_count p → (o : Option Frame) → slice_get frames k ≡ o → StandsAt p floor k o → Reaches (code_of p k) (book_at k (map book_of frames)) (config_in o)
-    reach k lt None e s = absurd (some k lt e)
-    reach k lt (Some f) e s = subst (λ b. Reaches (code_of p k) b (config_of f)) (sym (book_at-map frames k ∙ ap book_in e)) (subst (λ n. Reaches (code_of p n) (items_of f.book) (config_of f)) s.tag s.stands.reaches)
+    reaches_at : (k : ℕ) → k < coroutine_count p → (o : Option Frame) → slice_get frames k ≡ o → StandsAt p s k o → Reaches p k s.jobs.seen (book_at k (books_of frames)) (config_in o)
+    reaches_at k lt None e z = absurd (some k lt e)
+    reaches_at k lt (Some f) e z = reach p s frames k f e z
 
-    leave : (k : ℕ) → k < coroutine_count p → (o : Option Frame) → slice_get frames k ≡ o → IsLeftAt p (replay floor.seen) k o → IsLeft k (code_of p k) (replay floor.seen) (config_in o).line (config_in o).stage
-    leave k lt None e s = absurd (some k lt e)
-    leave k lt (Some f) e s = s
-
-    ends : (k : ℕ) → k < coroutine_count p → (o : Option Frame) → slice_get frames k ≡ o → StandsAt p floor k o → IsAtEnd p k o → config_in o ≡ running (length (code_of p k))
-    ends k lt None e s q = absurd (some k lt e)
-    ends k lt (Some f) e s q = at_end f.line f.stage (code_of p k) (subst (λ n. IsInside f.stage f.line (code_of p n)) s.tag s.stands.inside) q
-
-    ended : (k : ℕ) (o : Option Frame) → slice_get frames k ≡ o → ((j : ℕ) → j < coroutine_count p → config_in (slice_get frames j) ≡ running (length (code_of p j))) → IsAtEnd p k o
-    ended k None e all = tt
-    ended k (Some f) e all = running_at_end (length (code_of p k)) (config_of f) (ap config_in (sym e) ∙ all k (omega (arith, h.count, within frames k f e)))
+    left_at : (k : ℕ) → k < coroutine_count p → (o : Option Frame) → slice_get frames k ≡ o → IsLeftAt s k o → IsLeft k (book_at k (books_of frames)) (replay s.channels.seen) s.jobs.seen (config_in o).stage
+    left_at k lt None e z = absurd (some k lt e)
+    left_at k lt (Some f) e z = subst (λ b. IsLeft k b (replay s.channels.seen) s.jobs.seen f.stage) (sym (book_at-map frames k ∙ ap book_in e)) z

@@ -1,7 +1,10 @@
-pub mod Marks
 pub mod Lists
 pub mod Histories
+pub mod FreshBooks
+pub mod Marks
 pub mod TurnsMade
 pub mod Rounds
-pub mod Beginnings
+pub mod ChannelKinds
+pub mod Calm
 pub mod Endings
+pub mod Beginnings

@@ -1,3 +1,5 @@
 pub mod Tags
 pub mod Coroutines
 pub mod Progress
+pub mod Starting
+pub mod Endings

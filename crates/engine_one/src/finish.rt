@@ -1,32 +1,39 @@
 //! What a run leaves.
 
-ghost use Rattle.std.specs.Prelude.{◌≡◌, ◌↔◌, length, map, false, IfOk};
-ghost use Rattle.script_reader.specs.Scripts.{program_of};
-ghost use Rattle.script_reader.specs.Programs.{coroutine_count};
-ghost use Rattle.poll_states.specs.Books.{items_of};
-ghost use Rattle.engine_one.specs.Coroutines.{book_of, AllAtEnd};
+ghost use Rattle.std.specs.Prelude.{◌≡◌, map, IfOk};
+ghost use Rattle.job_model.specs.Histories.{replay};
+ghost use Rattle.note_book.specs.Books.{notes_of};
+ghost use Rattle.one_thread_floor.specs.TreeFloors.{floor_of};
+ghost use Rattle.poll_states.specs.Parts.{end_at};
+ghost use Rattle.engine_one.specs.Coroutines.{books_of};
+ghost use Rattle.engine_one.specs.Endings.{end_seen};
 
 use co_base::Memory;
-use poll_states::{Book, Done, Frame, code_of};
-use script_reader::Script;
+use job_model::{End, JobFloor, JobState, JobView};
+use one_thread_floor::TreeFloor;
+use poll_states::{Book, Done, Frame};
 use std::alloc::Global;
 
-/// The books in order of tags, and whether a coroutine is not at the end of its code.
-pub(crate) fn done_of(alloc: Global, script: &Script, frames: Vec<Frame>) -> Result<Done, Memory>
-    requires { length frames.items ≡ coroutine_count (program_of script.now) }
-    ensures books { IfOk result (λ done. map items_of done.books.items ≡ map book_of frames.items) }
-    ensures idle { IfOk result (λ done. (done.idle ≡ false) ↔ AllAtEnd (program_of script.now) frames.items) }
+/// The books in order of tags, and how the root has ended, if it has.
+pub(crate) fn done_of(
+    alloc: Global,
+    frames: Vec<Frame>,
+    jobs: &mut TreeFloor,
+) -> Result<Done, Memory>
+    ensures seen { (floor_of jobs.new).seen ≡ (floor_of jobs.old).seen }
+    ensures books { IfOk result (λ done. map notes_of done.books.items ≡ books_of frames.items) }
+    ensures end { IfOk result (λ done. end_at (replay (floor_of jobs.old).seen 0) ≡ done.end) }
 {
-    let idle = is_idle(script, &frames);
+    let end = end_of_root(jobs);
     Ok(Done {
         books: books_of(alloc, frames)?,
-        idle,
+        end,
     })
 }
 
 /// The books of the frames.
 fn books_of(alloc: Global, frames: Vec<Frame>) -> Result<Vec<Book>, Memory>
-    ensures { IfOk result (λ books. map items_of books.items ≡ map book_of frames.items) }
+    ensures { IfOk result (λ books. map notes_of books.items ≡ books_of frames.items) }
 {
     let mut books = Vec::with_capacity(alloc, frames.len())?;
     for frame in frames {
@@ -35,16 +42,24 @@ fn books_of(alloc: Global, frames: Vec<Frame>) -> Result<Vec<Book>, Memory>
     Ok(books)
 }
 
-/// Whether a coroutine is not at the end of its code.
-fn is_idle(script: &Script, frames: &[Frame]) -> bool
-    requires { length frames.now ≡ coroutine_count (program_of script.now) }
-    ensures { (result ≡ false) ↔ AllAtEnd (program_of script.now) frames.now }
+/// How the root has ended, if it has.
+fn end_of_root(jobs: &mut TreeFloor) -> Option<End>
+    ensures seen { (floor_of jobs.new).seen ≡ (floor_of jobs.old).seen }
+    ensures end { end_at (replay (floor_of jobs.old).seen 0) ≡ result }
 {
-    for tag in 0..script.coroutines() {
-        let lines = code_of(script, tag).len();
-        if !frames[tag as usize].is_at_end(lines) {
-            return true;
-        }
+    match jobs.look(0, 0) {
+        Some(root) => end_seen(root),
+        None => None,
     }
-    false
+}
+
+/// How a Job that looks so has ended, if it has.
+fn end_seen(job: JobView) -> Option<End>
+    ensures { result ≡ end_seen job }
+{
+    match job.state {
+        JobState::Completed => Some(End::Completed(job.value)),
+        JobState::Cancelled => Some(End::Cancelled(job.cause)),
+        JobState::New | JobState::Active | JobState::Completing | JobState::Cancelling => None,
+    }
 }

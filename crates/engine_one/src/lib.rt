@@ -1,7 +1,7 @@
-//! All coroutines of a script on one thread, over the list floor.
+//! All coroutines of a script on one thread, over the list floor of channels and the tree of Jobs.
 //!
 //! The tags that are to be polled stand in a queue, in the order in which the coroutines were woken or made a move. Where the
-//! queue is empty, a round polls every coroutine once. Where that adds no entry and leaves no tag in the queue, the run is over.
+//! queue is empty, a round polls every coroutine once. Where nothing happens in it, and it leaves no tag in the queue, the run is over.
 //!
 //! - `run`: a whole run.
 //! - `start`: a run before its first turn.

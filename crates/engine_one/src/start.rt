@@ -1,51 +1,84 @@
 //! A run before its first turn.
 
-ghost use Rattle.std.specs.Prelude.{◌≡◌, length, IfOk};
-ghost use Rattle.std.specs.List.{range_with_len};
+ghost use Rattle.std.specs.Prelude.{◌≡◌, length, IfOk, OnOk};
 ghost use Rattle.one_thread_floor.specs.ListFloors.{floor_of};
+ghost use Rattle.one_thread_floor.specs.TreeFloors.{floor_of as tree_of};
 ghost use Rattle.script_reader.specs.Scripts.{program_of};
-ghost use Rattle.script_reader.specs.Programs.{shape_of, coroutine_count};
-ghost use Rattle.engine_one.specs.Coroutines.{AllStand, AllFresh, IsUnused};
+ghost use Rattle.script_reader.specs.Programs.{coroutine_count};
+ghost use Rattle.poll_states.specs.Settings.{floor_shape};
+ghost use Rattle.engine_one.specs.Coroutines.{AllStand};
+ghost use Rattle.engine_one.specs.Starting.{AllMade, HasNoCalls, HasNoJobs};
 
 use crate::ready_tags::ReadyTags;
 use crate::run::Run;
-use channel_model::Kind;
-use co_base::{Memory, Tag};
-use one_thread_floor::ListFloor;
-use poll_states::Frame;
+use channel_model::{ChannelFloor, Kind};
+use co_base::Memory;
+use job_model::JobFloor;
+use one_thread_floor::{ListFloor, TreeFloor};
+use poll_states::{Floors, Frame, begin};
 use script_reader::Script;
 use std::alloc::Global;
 
-/// The script's coroutines and channels, with all tags to be polled in their order.
-pub(crate) fn begin(alloc: Global, script: &Script) -> Result<Run<ListFloor>, Memory>
-    ensures { IfOk result (λ run. AllStand (program_of script.now) (floor_of run.channels) run.frames.items) }
+/// The script's coroutines, channels and Jobs. Main and the spawned instances are to be polled, in their order.
+pub(crate) fn start(alloc: Global, script: &Script) -> Result<Run<ListFloor, TreeFloor>, Memory>
+    ensures { IfOk result (λ run. AllStand (program_of script.now) (record { channels = floor_of run.channels; jobs = tree_of run.jobs }) run.frames.items) }
 {
-    let channels = channels_of(alloc, script)?;
-    let frames = frames_of(alloc, script)?;
-    let ready = all_tags(alloc, script.coroutines())?;
-    Ok(Run {
-        frames,
-        channels,
-        ready,
-    })
+    let mut run = Run {
+        frames: frames_of(alloc, script)?,
+        channels: channels_of(alloc, script)?,
+        jobs: jobs_of(alloc, script)?,
+        ready: ReadyTags::new(alloc, script.coroutines())?,
+    };
+    run.begin_root(script)?;
+    Ok(run)
 }
 
-/// A floor with the channels that the script declares.
+impl<C: ChannelFloor, J: JobFloor> Run<C, J> {
+    /// Main is to be polled, and attaches what the script spawns, which is to be polled after it.
+    fn begin_root(&mut self, script: &Script) -> Result<(), Memory>
+        requires calls { HasNoCalls (program_of script.now) (C.view self.old.channels) }
+        requires jobs { HasNoJobs (program_of script.now) (J.view self.old.jobs) }
+        requires count { length self.old.frames.items ≡ coroutine_count (program_of script.now) }
+        requires made { AllMade self.old.frames.items }
+        ensures { OnOk result (AllStand (program_of script.now) (record { channels = C.view self.new.channels; jobs = J.view self.new.jobs }) self.new.frames.items) }
+    {
+        self.ready.add(0);
+        let mut floors = Floors {
+            channels: &mut self.channels,
+            jobs: &mut self.jobs,
+            wakes: &mut self.ready,
+        };
+        begin(script, &mut self.frames[0], &mut floors)?;
+        Ok(())
+    }
+}
+
+/// A floor of Jobs with a row for each coroutine.
+fn jobs_of(alloc: Global, script: &Script) -> Result<TreeFloor, Memory>
+    ensures { IfOk result (λ jobs. HasNoJobs (program_of script.now) (tree_of jobs)) }
+{
+    TreeFloor::new(alloc, script.coroutines(), 0)
+}
+
+/// A floor with the channels that the script declares, and a done channel for each row.
 fn channels_of(alloc: Global, script: &Script) -> Result<ListFloor, Memory>
-    ensures { IfOk result (λ channels. IsUnused (program_of script.now) (floor_of channels)) }
+    ensures { IfOk result (λ channels. HasNoCalls (program_of script.now) (floor_of channels)) }
 {
     let kinds = kinds_of(alloc, script)?;
     ListFloor::new(alloc, &kinds)
 }
 
-/// The kinds and places of the channels that the script declares.
+/// The kinds and places of the channels that the script declares, and of the done channels.
 fn kinds_of(alloc: Global, script: &Script) -> Result<Vec<(Kind, u32)>, Memory>
-    ensures { IfOk result (λ kinds. kinds.items ≡ shape_of (program_of script.now)) }
+    ensures { IfOk result (λ kinds. kinds.items ≡ floor_shape (program_of script.now)) }
 {
     let channels = script.channels();
-    let mut kinds = Vec::with_capacity(alloc, channels.len())?;
+    let mut kinds = Vec::new(alloc);
     for channel in channels {
         kinds.push((channel.kind, channel.places))?;
+    }
+    for _ in 0..script.coroutines() {
+        kinds.push((Kind::Signal, 1))?;
     }
     Ok(kinds)
 }
@@ -53,7 +86,7 @@ fn kinds_of(alloc: Global, script: &Script) -> Result<Vec<(Kind, u32)>, Memory>
 /// A frame for each coroutine.
 fn frames_of(alloc: Global, script: &Script) -> Result<Vec<Frame>, Memory>
     ensures count { IfOk result (λ frames. length frames.items ≡ coroutine_count (program_of script.now)) }
-    ensures fresh { IfOk result (λ frames. AllFresh frames.items) }
+    ensures made { IfOk result (λ frames. AllMade frames.items) }
 {
     let count = script.coroutines();
     let mut frames = Vec::with_capacity(alloc, count as usize)?;
@@ -61,15 +94,4 @@ fn frames_of(alloc: Global, script: &Script) -> Result<Vec<Frame>, Memory>
         frames.push(Frame::new(alloc, tag))?;
     }
     Ok(frames)
-}
-
-/// The queue of all tags below `count`, in their order.
-fn all_tags(alloc: Global, count: Tag) -> Result<ReadyTags, Memory>
-    ensures { IfOk result (λ ready. ready.tags.items ≡ range_with_len 0 count) }
-{
-    let mut ready = ReadyTags::new(alloc, count)?;
-    for tag in 0..count {
-        ready.add(tag);
-    }
-    Ok(ready)
 }

@@ -49,7 +49,7 @@ pub(crate) enum Rise {
     Stops,
 }
 
-impl<F: JobFloor, B: NoteBook, W: Wakes> JobCaller<'_, F, B, W> {
+impl<F: JobFloor, B: NoteBook, W: Wakes> JobCaller<'_, '_, '_, F, B, W> {
     /// Ends one Job, where it may end, and tells its parent.
     fn finish_one<E: Ends<B, W>>(&mut self, row: Row, ends: &mut E) -> Result<Rise, Memory>
         requires can { MayCall self.old.who row (F.view self.old.floor.now) }

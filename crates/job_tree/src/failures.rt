@@ -12,7 +12,7 @@ use co_base::{Row, Wakes};
 use job_model::{JobFloor, Reason};
 use note_book::NoteBook;
 
-impl<F: JobFloor, B: NoteBook, W: Wakes> JobCaller<'_, F, B, W> {
+impl<F: JobFloor, B: NoteBook, W: Wakes> JobCaller<'_, '_, '_, F, B, W> {
     /// The parent that a failure of this Job cancels.
     fn failing_parent(&mut self, row: Row) -> Option<Row>
         requires can { MayCall self.old.who row (F.view self.old.floor.now) }

@@ -18,3 +18,4 @@ mod steps;
 
 pub use caller::JobCaller;
 pub use ends::Ends;
+pub use passes::Passed;

@@ -16,13 +16,13 @@ use note_book::NoteBook;
 
 /// What a pass over a Job and all below it cancelled.
 #[derive(Clone, Copy, Debug, PartialEq, Eq)]
-pub(crate) struct Passed {
-    pub(crate) count: u32,
+pub struct Passed {
+    pub count: u32,
     /// The Job itself was cancelled by the pass, and not before.
-    pub(crate) newly: bool,
+    pub newly: bool,
 }
 
-impl<F: JobFloor, B: NoteBook, W: Wakes> JobCaller<'_, F, B, W> {
+impl<F: JobFloor, B: NoteBook, W: Wakes> JobCaller<'_, '_, '_, F, B, W> {
     /// Cancels all below a Job that is Cancelling or ended, and answers how many it cancelled.
     fn cancel_below(&mut self, row: Row) -> u32
         requires can { MayCall self.old.who row (F.view self.old.floor.now) }
@@ -76,7 +76,7 @@ impl<F: JobFloor, B: NoteBook, W: Wakes> JobCaller<'_, F, B, W> {
     }
 
     /// As `cancel_pass`, and answers besides whether the Job itself was cancelled now.
-    pub(crate) fn pass(&mut self, row: Row, reason: Reason) -> Passed
+    pub fn pass(&mut self, row: Row, reason: Reason) -> Passed
         requires can { MayCall self.old.who row (F.view self.old.floor.now) }
         requires reason { Holds (F.view self.old.floor.now).shape (replay (F.view self.old.floor.now).seen) self.old.who row reason }
         requires room { MayCancelAll (F.view self.old.floor.now) (B.spare self.old.book.now) }

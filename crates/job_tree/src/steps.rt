@@ -24,7 +24,7 @@ pub(crate) enum Turn {
     Up(Row),
 }
 
-impl<F: JobFloor, B: NoteBook, W: Wakes> JobCaller<'_, F, B, W> {
+impl<F: JobFloor, B: NoteBook, W: Wakes> JobCaller<'_, '_, '_, F, B, W> {
     /// Asks that the coroutine of the Job be polled.
     fn wake_job(&mut self, row: Row)
         requires can { MayCall self.old.who row (F.view self.old.floor.now) }

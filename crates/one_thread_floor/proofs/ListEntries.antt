@@ -9,7 +9,8 @@ use Rattle.std.proofs.lemmas.Option.{slice_get_past}
 use Rattle.co_base.specs.declared.names.WaitId.{WaitId}
 use Rattle.channel_model.specs.declared.acts.Kind.{Kind}
 use Rattle.channel_model.specs.declared.acts.Settled.{Settled}
-use Rattle.channel_model.specs.declared.acts.Act.TheVariants.{Hand, Put, Offer, Await, Take, Close, Settle}
+use Rattle.channel_model.specs.declared.acts.Why.{Why}
+use Rattle.channel_model.specs.declared.acts.Act.TheVariants.{Hand, Put, Offer, Await, Take, Close, Withdraw, Settle}
 use Rattle.channel_model.specs.declared.acts.Entry.{Entry}
 use Rattle.channel_model.specs.declared.standing.Standing.{Standing}
 use Rattle.channel_model.specs.declared.standing.Receiver.{Receiver}
@@ -20,13 +21,13 @@ use Rattle.channel_model.specs.Channels.{kind_at, places_at, Channel, State, Sha
 use Rattle.channel_model.specs.Effects.{after, without, resolve, resolve_holder, with_queue, put_channel, put_wait, resolved_wait, place_offer, place_receiver, name_clause, settled_wait, is_open}
 use Rattle.channel_model.specs.Needs.{Needs, HasPlace}
 use Rattle.channel_model.specs.Histories.{replay, Legal}
-use Rattle.channel_model.specs.Answers.{first_receiver, first_holder, owner_of}
+use Rattle.channel_model.specs.Answers.{first_receiver, first_holder, owner_of, IsOwnWait, IsResolvedWait}
 use Rattle.channel_model.specs.Laws.{AllStandOpen, AllStandOnce, StandsOnce}
 use Rattle.channel_model.proofs.Histories.{replay_push}
 use Rattle.channel_model.proofs.OpenWaits.{replay_open}
 use Rattle.channel_model.proofs.Placed.{same_number}
 use Rattle.channel_model.proofs.Apart.{replay_once, without_first_receiver, without_first_holder}
-use Rattle.channel_model.proofs.Firsts.{first_receiver_is, first_resolved, receiver_there, no_receiver, owner_of_first, first_offer_is, first_stands, holder_there, popped_open, take_is, first_holder_is, holder_owner, full_suspends, at_place, may_begin}
+use Rattle.channel_model.proofs.Firsts.{first_receiver_is, first_resolved, receiver_there, no_receiver, owner_of_first, first_offer_is, first_stands, holder_there, popped_open, take_is, first_holder_is, holder_owner, full_suspends, at_place, may_begin, may_withdraw, not_open_resolved}
 use Rattle.one_thread_floor.specs.declared.list_channel.ListChannel.{ListChannel}
 use Rattle.one_thread_floor.specs.ListStands.{channel_in, wait_in, IsAt, SameShape, SameWaits, SameChannels, wait_in_channel, wait_in_slot, channel_or_empty, places_in, places_of, IsWithout, has_clause_elsewhere, clauses_of}
 use Rattle.one_thread_floor.proofs.ListRemoval.{resolved_elsewhere}
@@ -256,3 +257,11 @@ pub settle_at : (shape : Shape) (xs ys : List ListChannel) (es : List Entry) (wh
     → IsAt shape ys (after (replay es) who (Settle w outcome))
 settle_at shape xs ys es who w outcome at k channels waits =
     at_new shape xs ys (replay es) _ at k (ap (λ (s : State). after s who (Settle w outcome)) (at_state shape xs (replay es) at) ∙ same_state _ _ (λ d. sym (channels d)) (λ u. sym (waits u)))
+
+-- ---- a withdraw
+
+pub withdraw_needs : (shape : Shape) (xs : List ListChannel) (es : List Entry) (who : ℕ) (w : WaitId) (why : Why) → IsAt shape xs (replay es) → IsOwnWait who ((replay es).waits w) → true ≡ is_open (wait_in xs w) → Needs shape (replay es) who (Withdraw w why)
+withdraw_needs shape xs es who w why at own e = may_withdraw who _ own (ap is_open (at.waits_are w) ∙ sym e)
+
+pub late_resolved : (shape : Shape) (xs : List ListChannel) (es : List Entry) (w : WaitId) → IsAt shape xs (replay es) → false ≡ is_open (wait_in xs w) → IsResolvedWait ((replay es).waits w)
+late_resolved shape xs es w at e = not_open_resolved _ (ap is_open (at.waits_are w) ∙ sym e)

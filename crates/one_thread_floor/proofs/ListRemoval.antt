@@ -105,3 +105,13 @@ resolved_elsewhere w how c left xs ys zs shape s h at popped same k gone removed
     by_test d false e =
         let before : s.channels d ≡ channel_in ys d = at.channels_are d ∙ sym (popped d ∙ ap (λ b. if b then left else channel_in xs d) e) in
         channel_resolved w d s (channel_in ys d) (channel_in zs d) _ h before (ap (λ x. list_any (λ (y : ℕ × ℕ). y.1 == d) (clauses_of x)) (waits w) ∙ sym (all_elsewhere c d cs e)) (removed d)
+
+-- a wait left the channel at which it began, and then each other at which it has a clause
+pub resolved_everywhere : (w : WaitId) (how : Resolution) (xs ys zs : List ListChannel)
+    → ((d : ℕ) → channel_in ys d ≡ put_channel w.channel (without w (channel_in xs w.channel)) (channel_in xs) d) → SameWaits xs ys → SameShape xs ys
+    → IsWithout w (has_clause_elsewhere w.channel (clauses_of (wait_in ys w))) ys zs
+    → ((v : WaitId) → wait_in zs v ≡ put_wait w (resolved_wait how (wait_in ys w)) (wait_in ys) v)
+    → SameShape ys zs
+    → (shape : Shape) (s : State) → AllStandOpen s → IsAt shape xs s → IsAt shape zs (resolve w how s)
+resolved_everywhere w how xs ys zs removed same k others marked m shape s h at =
+    resolved_elsewhere w how w.channel (without w (channel_in xs w.channel)) xs ys zs shape s h at removed same k (ap (without w) (at.channels_are w.channel)) others marked m

@@ -8,10 +8,15 @@ use crate::list_changes::{
 };
 use crate::list_floor::{ListAnchor, ListFloor};
 use crate::list_queries::{
-    closed_with, first_receiver, is_spent, kind_at, outcome_in, owner_at, queue_len, state_at,
+    closed_with, first_receiver, is_open_wait, is_spent, kind_at, next_place, outcome_in, owner_at,
+    queue_len, state_at,
 };
-use channel_model::{Act, AlreadyClosed, ChannelFloor, Entry, Got, Offered, Settled, WaitState};
-use co_base::{ChannelId, Memory, Tag, Value, WaitId};
+use crate::list_removal::resolve_everywhere;
+use channel_model::{
+    Act, AlreadyClosed, ChannelFloor, Entry, Got, Offered, Resolution, Settled, WaitState, Why,
+    Withdrawn,
+};
+use co_base::{ChannelId, Memory, Place, Tag, Value, WaitId};
 
 impl ChannelFloor for ListFloor {
     ghost view = { floor_of };
@@ -122,6 +127,22 @@ impl ChannelFloor for ListFloor {
             act: Act::Settle { w, outcome },
         });
         outcome
+    }
+
+    fn withdraw(&mut self, who: Tag, w: WaitId, why: Why) -> Withdrawn {
+        if !is_open_wait(&self.channels, w) {
+            return Withdrawn::Late;
+        }
+        resolve_everywhere(&mut self.channels, w, Resolution::Withdrawn(why));
+        self.entries.push_reserved(Entry {
+            who,
+            act: Act::Withdraw { w, why },
+        });
+        Withdrawn::Done(who)
+    }
+
+    fn mark(&mut self, who: Tag, c: ChannelId) -> Place {
+        next_place(&self.channels, c)
     }
 
     ghost legal = { λ f. f.legal };

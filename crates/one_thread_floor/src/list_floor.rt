@@ -10,8 +10,8 @@ use channel_model::{Entry, Kind};
 
 /// A floor of channels that one thread calls.
 ///
-/// A call costs the same however many offers or receivers stand. Only a wait with clauses at several channels is
-/// searched for at its other channels when it is resolved.
+/// A call costs the same however many offers or receivers stand, but for two searches: a wait with clauses at several
+/// channels is searched for at the others when it is resolved, and a wait that is withdrawn at all of its channels.
 #[derive(Drop)]
 pub struct ListFloor {
     pub(crate) kinds: Vec<(Kind, u32)>,

@@ -2,12 +2,13 @@
 
 ghost use Rattle.std.specs.Prelude.{◌≡◌, ◌<◌, length, IsSome, Some, slice_get, slice_index_or, nat_le};
 ghost use Rattle.channel_model.specs.Channels.{kind_at};
+ghost use Rattle.channel_model.specs.Effects.{is_open};
 ghost use Rattle.channel_model.specs.Answers.{owner_of, state_of_wait, outcome_at};
 ghost use Rattle.one_thread_floor.specs.ListStands.{channel_in, wait_in, places_in, clauses_of};
 
 use crate::list_channel::ListChannel;
 use channel_model::{Kind, Receiver, Settled, WaitState, outcome};
-use co_base::{ChannelId, Tag, Value, WaitId};
+use co_base::{ChannelId, Place, Tag, Value, WaitId};
 
 /// The kind of a channel.
 pub fn kind_at(kinds: &Vec<(Kind, u32)>, c: ChannelId) -> Kind
@@ -50,6 +51,14 @@ pub fn is_spent(channels: &Vec<ListChannel>, c: ChannelId) -> bool
     channel.places as usize <= channel.slots.len()
 }
 
+/// The place that is given out next.
+pub fn next_place(channels: &Vec<ListChannel>, c: ChannelId) -> Place
+    requires { c < length channels.now.items }
+    ensures { result ≡ (channel_in channels.now.items c).next }
+{
+    channels[c as usize].slots.len() as Place
+}
+
 /// The coroutine that waits.
 pub fn owner_at(channels: &Vec<ListChannel>, w: WaitId) -> Tag
     requires { IsSome (wait_in channels.now.items w) }
@@ -77,6 +86,17 @@ pub fn state_at(channels: &Vec<ListChannel>, w: WaitId) -> WaitState
                 }
             }
         }
+        None => unreachable!(),
+    }
+}
+
+/// Whether nobody resolved the wait yet.
+pub fn is_open_wait(channels: &Vec<ListChannel>, w: WaitId) -> bool
+    requires { IsSome (wait_in channels.now.items w) }
+    ensures { result ≡ is_open (wait_in channels.now.items w) }
+{
+    match &channels[w.channel as usize].slots[w.place as usize] {
+        Some(wait) => wait.resolved.is_none(),
         None => unreachable!(),
     }
 }

@@ -2,10 +2,11 @@
 
 ghost use Rattle.std.specs.Prelude.{◌≡◌, ℕ, ◌<◌, ◌≤◌, length, vec_len, IsSome, Some, if◌then◌else◌, filter, not, ◌&&◌, ◌==◌, ◌≢◌, option_map, slice_get};
 ghost use Rattle.std.specs.VecDeque.{deque_len, deque_capacity};
-ghost use Rattle.channel_model.specs.Channels.{same_wait};
-ghost use Rattle.channel_model.specs.Effects.{is_held_by, without, resolved_wait, put_wait};
+ghost use Rattle.channel_model.specs.Channels.{Shape, State, same_wait};
+ghost use Rattle.channel_model.specs.Effects.{is_held_by, without, resolve, resolved_wait, put_wait, put_channel};
+ghost use Rattle.channel_model.specs.Laws.{AllStandOpen};
 ghost use Rattle.co_base.specs.declared.names.WaitId.{WaitId as Id};
-ghost use Rattle.one_thread_floor.specs.ListStands.{wait_of, channel_of, wait_in, clauses_of, wait_of_slot, has_clause_elsewhere, SameShape, IsWithout, SameWaits, SameChannels};
+ghost use Rattle.one_thread_floor.specs.ListStands.{wait_of, channel_of, channel_in, wait_in, clauses_of, IsAt, wait_of_slot, has_clause_elsewhere, SameShape, IsWithout, SameWaits, SameChannels};
 
 use crate::list_channel::{ListChannel, ListWait};
 use crate::list_queries::{clause_channel, clause_count};
@@ -54,6 +55,16 @@ fn remove_from(channel: &mut ListChannel, w: WaitId)
 {
     drop_offers(&mut channel.queue, w);
     drop_receivers(&mut channel.receivers, w);
+}
+
+/// Takes the wait out of channel `c`.
+fn remove_at(channels: &mut Vec<ListChannel>, c: ChannelId, w: WaitId)
+    requires { c < length channels.old.items }
+    ensures channels { (d : ℕ) → channel_in channels.new.items d ≡ put_channel c (without w (channel_in channels.old.items c)) (channel_in channels.old.items) d }
+    ensures waits { SameWaits channels.old.items channels.new.items }
+    ensures shape { SameShape channels.old.items channels.new.items }
+{
+    remove_from(&mut channels[c as usize], w);
 }
 
 /// Takes the wait out of channel `d`, if that is another than `c`.
@@ -117,4 +128,13 @@ pub fn resolve_elsewhere(channels: &mut Vec<ListChannel>, c: ChannelId, w: WaitI
 {
     remove_elsewhere(channels, c, w);
     mark(channels, w, how);
+}
+
+/// Resolves a wait that may stand anywhere: it leaves the channel at which it began, and each other at which it has a clause.
+pub fn resolve_everywhere(channels: &mut Vec<ListChannel>, w: WaitId, how: Resolution)
+    requires { IsSome (wait_in channels.old.items w) }
+    ensures { (shape : Shape) (s : State) → AllStandOpen s → IsAt shape channels.old.items s → IsAt shape channels.new.items (resolve w how s) }
+{
+    remove_at(channels, w.channel, w);
+    resolve_elsewhere(channels, w.channel, w, how);
 }

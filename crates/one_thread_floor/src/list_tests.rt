@@ -1,14 +1,17 @@
-//! A channel without a buffer, from its first receiver to its last place and its close.
+//! A channel without a buffer, from its first receiver to its last place and its close, and waits that are withdrawn.
 
 ghost use Rattle.std.specs.Prelude.{◌≡◌, ◌<◌, length, true, false};
 ghost use Rattle.channel_model.specs.Channels.{kind_at, is_signal};
+ghost use Rattle.channel_model.specs.Floors.{MayCall};
 ghost use Rattle.channel_model.specs.Answers.{IsOwn, IsReady};
 ghost use Rattle.one_thread_floor.specs.ListFloors.{floor_of};
 
 use crate::list_floor::ListFloor;
 use crate::list_queries::kind_at;
-use channel_model::{AlreadyClosed, ChannelFloor, Got, Kind, Offered, Settled, WaitState};
-use co_base::{Memory, Tag, Value, WaitId};
+use channel_model::{
+    AlreadyClosed, ChannelFloor, Got, Kind, Offered, Settled, WaitState, Why, Withdrawn,
+};
+use co_base::{ChannelId, Memory, Place, Tag, Value, WaitId};
 
 /// Whether channel 0 is there, and carries elements.
 fn carries_elements(floor: &ListFloor) -> bool
@@ -100,6 +103,36 @@ fn settle(
     Ok(Some(floor.settle(who, w, cancelled)))
 }
 
+fn withdraw_on<F: ChannelFloor>(floor: &mut F, who: Tag, w: WaitId) -> Withdrawn
+    requires can { MayCall who w.channel (F.view floor.old) }
+    requires room { 0 < (F.view floor.old).spare }
+    requires own { IsOwn who w (F.view floor.old) }
+{
+    floor.withdraw(who, w, Why::Cancelled)
+}
+
+fn withdraw(floor: &mut ListFloor, who: Tag, place: u32) -> Result<Option<Withdrawn>, Memory> {
+    let w = WaitId { channel: 0, place };
+    floor.room(1)?;
+    if !is_own(floor, who, w) {
+        return Ok(None);
+    }
+    Ok(Some(withdraw_on(floor, who, w)))
+}
+
+fn mark_on<F: ChannelFloor>(floor: &mut F, who: Tag, c: ChannelId) -> Place
+    requires { MayCall who c (F.view floor.old) }
+{
+    floor.mark(who, c)
+}
+
+fn mark(floor: &mut ListFloor, who: Tag) -> Option<Place> {
+    if !carries_elements(floor) {
+        return None;
+    }
+    Some(mark_on(floor, who, 0))
+}
+
 #[test]
 fn two_sides_meet_in_order(rt: HostRuntime) {
     let made = ListFloor::new(rt.alloc(), &[(Kind::Rendezvous, 4)]);
@@ -136,4 +169,29 @@ fn two_sides_meet_in_order(rt: HostRuntime) {
     assert_eq!(rt; offer(&mut floor, 5, 75), Ok(Offered::Closed(80)));
     assert_eq!(rt; receive(&mut floor, 3), Ok(Got::Closed(80)));
     assert_eq!(rt; floor.entries().len(), 13);
+}
+
+#[test]
+fn a_withdraw_comes_late_or_in_time(rt: HostRuntime) {
+    let made = ListFloor::new(rt.alloc(), &[(Kind::Rendezvous, 4)]);
+    let mut floor = made.expect(&rt, "a floor");
+    assert_eq!(rt; mark(&mut floor, 1), Some(0));
+    assert_eq!(rt; receive(&mut floor, 1), Ok(Got::Waiting(0)));
+    assert_eq!(rt; mark(&mut floor, 1), Some(1));
+    assert_eq!(rt; offer(&mut floor, 2, 5), Ok(Offered::Handed(0, 1)));
+    assert_eq!(rt; withdraw(&mut floor, 1, 0), Ok(Some(Withdrawn::Late)));
+    assert_eq!(rt;
+        settle(&mut floor, 1, 0, true),
+        Ok(Some(Settled::Undelivered(5)))
+    );
+    assert_eq!(rt; receive(&mut floor, 1), Ok(Got::Waiting(1)));
+    assert_eq!(rt; receive(&mut floor, 3), Ok(Got::Waiting(2)));
+    assert_eq!(rt; withdraw(&mut floor, 3, 2), Ok(Some(Withdrawn::Done(3))));
+    assert_eq!(rt;
+        settle(&mut floor, 3, 2, true),
+        Ok(Some(Settled::Cancelled))
+    );
+    assert_eq!(rt; offer(&mut floor, 2, 6), Ok(Offered::Handed(1, 1)));
+    assert_eq!(rt; offer(&mut floor, 2, 7), Ok(Offered::Held(3)));
+    assert_eq!(rt; floor.entries().len(), 9);
 }

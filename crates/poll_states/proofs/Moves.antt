@@ -1,269 +1,319 @@
--- What one call leaves of a coroutine and of its waits.
-use Rattle.std.specs.Prelude.{◌≡◌, ◌≢◌, ℕ, ◌<◌, true, false, List, [], ◌∷◌, ◌++◌, Option, Some, None, refl, length, is_some, ◌⊎◌}
-use Rattle.std.specs.List.{list_all}
-use Rattle.std.proofs.Common.{sym, ap, ◌∙◌, subst, arith, inl, inr, ⊎_elim}
+-- What one move leaves of a coroutine that stands.
+use Rattle.std.specs.Prelude.{◌≡◌, ℕ, zero, suc, ◌+◌, ◌<◌, ◌==◌, Bool, true, false, ◌&&◌, ◌||◌, List, [], ◌∷◌, ◌++◌, length, map, Option, Some, None, is_none, is_some, slice_get, refl, if◌then◌else◌}
+use Rattle.std.specs.List.{list_all, list_any}
+use mathlib.Core.List.{IsPrefix}
+use Rattle.std.proofs.Common.{sym, ap, ◌∙◌, subst, arith, inr, ⊎_elim}
+use Rattle.std.proofs.lemmas.Bool.{eq-eqb}
+use Rattle.std.proofs.lemmas.Option.{slice_get_within}
 use Rattle.co_base.specs.declared.names.WaitId.{WaitId}
 use Rattle.channel_model.specs.declared.acts.Act.{Act}
-use Rattle.channel_model.specs.declared.acts.Act.TheVariants.{Offer, Await, Settle}
-use Rattle.channel_model.specs.declared.acts.Entry.{Entry}
 use Rattle.channel_model.specs.declared.acts.ChannelNote.{ChannelNote}
-use Rattle.channel_model.specs.declared.acts.ChannelNote.TheVariants as note
-use Rattle.channel_model.specs.declared.acts.Settled.{Settled}
-use Rattle.channel_model.specs.declared.acts.Settled.TheVariants as settled
-use Rattle.channel_model.specs.declared.standing.Resolution.{Resolution}
-use Rattle.channel_model.specs.declared.standing.Resolution.TheVariants as resolved
-use Rattle.channel_model.specs.declared.floor.WaitState.TheVariants as state
-use Rattle.channel_model.specs.Channels.{Shape, State, Wait}
-use Rattle.channel_model.specs.Effects.{after, put_wait, name_clause, resolved_wait, settled_wait}
-use Rattle.channel_model.specs.Needs.{Needs, MaySettle}
-use Rattle.channel_model.specs.Histories.{replay, Legal}
-use Rattle.channel_model.specs.Floors.{Floor, Looked, Made, AtStep, Added}
-use Rattle.channel_model.specs.Answers.{LookAnswer, SettleAnswer, IsReady, IsReadyWait, state_of_wait, state_of_parts, outcome_at, outcome_of_some}
-use Rattle.channel_model.specs.Outcomes.{outcome_of}
-use Rattle.channel_model.specs.Laws.{is_plain_act}
-use Rattle.channel_model.proofs.Histories.{replay_push, Legal-last, Legal-prefix}
-use Rattle.channel_model.proofs.Waits.{at_wait}
-use Rattle.channel_model.proofs.Spans.{added_made, added_looked, added_then, prefix_self}
-use Rattle.channel_model.proofs.Others.{others_keep, between, Stays, ready_stays}
-use Rattle.channel_model.proofs.OwnWaits.{ComesFrom, begins, act_from, others_bring_none}
-use Rattle.channel_model.proofs.Placed.{replay_placed}
+use Rattle.channel_model.specs.declared.acts.Entry.{Entry}
+use Rattle.channel_model.specs.Channels.{State, start}
+use Rattle.channel_model.specs.Effects.{after}
+use Rattle.channel_model.specs.Histories.{replay, replay_from, acts_of}
+use Rattle.channel_model.specs.Floors.{Floor as ChannelFloor, Added as AddedToChannels, HasRoom}
+use Rattle.channel_model.proofs.Histories.{acts_of-append, replay_from-append}
+use Rattle.channel_model.proofs.Spans.{added_then as channels_then, added_room, added_none as channels_none, nothing_more}
+use Rattle.channel_model.proofs.OwnWaits.{begins, act_from}
+use Rattle.job_model.specs.declared.acts.JobEntry.{JobEntry}
+use Rattle.job_model.specs.declared.acts.JobAct.{JobAct}
+use Rattle.job_model.specs.Trees.{Shape}
+use Rattle.job_model.specs.Acts.{attaches, ends_body}
+use Rattle.job_model.specs.Histories.{replay as replay_jobs, acts_of as job_acts_of, Legal}
+use Rattle.job_model.specs.Floors.{Floor, Added}
+use Rattle.job_model.specs.Laws.{has_ended}
+use Rattle.job_model.proofs.Ends.{by_entries}
+use Rattle.job_model.proofs.Spans.{added_none}
+use Rattle.note_book.specs.declared.book.Item.{Item}
+use Rattle.note_book.specs.declared.book.Item.TheVariants as item
+use Rattle.note_book.specs.Items.{channel_act, channel_acts_in, job_acts_in}
+use Rattle.note_book.proofs.Appended.{channel_acts_in-append, job_acts_in-append}
+use Rattle.scope_builders.specs.Rest.{AtRest, IsSettled}
+use Rattle.scope_builders.specs.Groups.{ClosesAtOnce}
+use Rattle.scope_builders.specs.Calls.{Did, StaysSettled}
+use Rattle.script_reader.specs.declared.script.Coroutine.{Coroutine}
+use Rattle.script_reader.specs.declared.script.Script.{Script}
 use Rattle.script_reader.specs.declared.script.Instruction.{Instruction}
+use Rattle.script_reader.specs.Scripts.{program_of}
+use Rattle.script_reader.specs.Programs.{Program, IsProgram, block_of, block_of_tag, code_of, code_at, code_of_block, coroutine_count}
+use Rattle.poll_states.specs.declared.frame.Frame.{Frame}
 use Rattle.poll_states.specs.declared.frame.Stage.{Stage}
-use Rattle.poll_states.specs.declared.frame.Stage.TheVariants.{Running, Waiting, Failed, Cancelled}
-use Rattle.poll_states.specs.Books.{acts_noted}
-use Rattle.poll_states.specs.Runs.{Move, got, sent, closed, cancelled, waiting}
-use Rattle.poll_states.specs.Frames.{IsUnsettledOf, HoldsWait}
-use Rattle.poll_states.specs.Polls.{IsGone, is_gone}
-use Rattle.poll_states.specs.Steps.{config_after, stage_of, WaitsOnly, HasStood, StepMade}
+use Rattle.poll_states.specs.declared.frame.Stage.TheVariants.{Fresh, Running, Waiting, Unwinding, Ended}
+use Rattle.poll_states.specs.declared.frame.Step.{Step}
+use Rattle.poll_states.specs.declared.frame.Turn.{Turn}
+use Rattle.poll_states.specs.Settings.{base_of, is_calm_act}
+use Rattle.poll_states.specs.Runs.{Config, Move, Reaches}
+use Rattle.poll_states.specs.Frames.{config_of, items_of, IsUnsettledOf, HoldsWait, IsInside, IsFor, StandsOn, moves_at, moves_left}
+use Rattle.poll_states.specs.Polls.{MovesOnce, NotedSome, WaitsFor, TurnAnswer}
+use Rattle.poll_states.specs.Steps.{after_step, turn_after, WaitsOnly, HasStood, ClosesNone, StepMade, HasBody, Stepped, Turned}
+use Rattle.poll_states.proofs.Waits.{unsettled_comes}
+use Rattle.poll_states.proofs.OwnJobs.{IsLive, live_later}
+use Rattle.poll_states.proofs.Reached.{is_over, is_fresh, reaches_later, reach_ends, reach_live, reach_rows, reach_fits, move_falls, Fits}
 
--- ---- unsettled waits
+-- ---- the lines of a script
 
-unsettled_settled : (who n : ℕ) (outcome : Settled) (x : Option Wait) → n ≢ who → MaySettle n outcome x → IsUnsettledOf who x → IsUnsettledOf who (settled_wait x)
-unsettled_settled who n outcome None apart m h = h
-unsettled_settled who n outcome (Some x) apart m h = absurd (apart (sym m.0 ∙ h.0))
+in_coroutines : (cs : List Coroutine) (i : ℕ) → length (code_of_block (slice_get (map block_of cs) i)) < 9223372036854775808
+in_coroutines [] zero = omega arith
+in_coroutines [] (suc i) = omega arith
+in_coroutines (c ∷ cs) zero = omega (arith, c.code.ok.0, c.code.ok.1, c.code.small)
+in_coroutines (c ∷ cs) (suc i) = in_coroutines cs i
 
--- others leave an unsettled wait unsettled
-pub unsettled_stays : (who : ℕ) → Stays who (IsUnsettledOf who)
-unsettled_stays who = record {
-  resolved = λ how x h. elim x as (λ y. IsUnsettledOf who y → IsUnsettledOf who (resolved_wait how y)) [ None ↦ λ k. k | Some y ↦ λ k. k ] h;
-  named = λ n k c x h. elim x as (λ y. IsUnsettledOf who y → IsUnsettledOf who (name_clause n k c y)) [ None ↦ λ f. absurd f | Some y ↦ λ f. f ] h;
-  settled = λ n outcome x apart m h. unsettled_settled who n outcome x apart m h;
-}
-
-no_unsettled : (who : ℕ) (x : Option Wait) → IsUnsettledOf who (settled_wait x) → ⊥
-no_unsettled who None h = h
-no_unsettled who (Some x) h = let k : true ≡ false = h.1 in cc
-
--- and begin none
-pub unsettled_comes : (who : ℕ) → ComesFrom who (IsUnsettledOf who)
-unsettled_comes who = record {
-  resolved = λ how x h. elim x as (λ y. IsUnsettledOf who (resolved_wait how y) → IsUnsettledOf who y) [ None ↦ λ k. k | Some y ↦ λ k. k ] h;
-  named = λ n k c x h. elim x as (λ y. IsUnsettledOf who (name_clause n k c y) → IsUnsettledOf who y ⊎ (n ≡ who)) [ None ↦ λ f. inr f.0 | Some y ↦ λ f. inl f ] h;
-  settled = λ x h. absurd (no_unsettled who x h);
-}
-
--- an unsettled wait after a call that made an act stood before it, or began by it
-made_from : (who : ℕ) (act : Act) (a b : Floor) (v : WaitId) → Made who act a b → IsUnsettledOf who ((replay b.seen).waits v) → IsUnsettledOf who ((replay a.seen).waits v) ⊎ (begins act ≡ Some v)
-made_from who act a b v m h =
-    let h' : IsUnsettledOf who ((replay (m.before ++ record { who = who; act = act } ∷ [])).waits v) = subst (λ es. IsUnsettledOf who ((replay es).waits v)) m.last h in
-    let h'' : IsUnsettledOf who ((after (replay m.before) who act).waits v) = subst (λ (s : State). IsUnsettledOf who (s.waits v)) (replay_push m.before (record { who = who; act = act })) h' in
-    ⊎_elim
-    (λ q. inl (others_bring_none who (IsUnsettledOf who) (unsettled_comes who) v a.seen m.before m.longer m.mine q))
-    (λ q. inr q.1)
-    (act_from who (IsUnsettledOf who) (unsettled_comes who) who v (replay m.before) act h'')
-
-runs_not : {A : Type 0} (w : WaitId) → Running ≡ Waiting w → A
-runs_not w e = absurd (let k : ⊥ = cc in k)
-
--- what others did in a call without an act leaves who's waits as they were
-pub looked_only : (who : ℕ) (stage : Stage) (a b : Floor) → Looked who a b → WaitsOnly who stage a → WaitsOnly who stage b
-looked_only who stage a b k only w h = only w (others_bring_none who (IsUnsettledOf who) (unsettled_comes who) w a.seen b.seen k.longer k.mine h)
-
--- ---- the calls of a line
-
--- the call made an act that begins no wait
-pub ran_on : (who : ℕ) (act : Act) (a b : Floor) → Made who act a b → begins act ≡ None → list_all is_plain_act (act ∷ []) ≡ true → WaitsOnly who Running a → StepMade who a b (record { note = note.Made act; stage = Running })
-ran_on who act a b m e plain free = record {
-  added = added_made who act a b m;
-  plain = plain;
-  holds = tt;
-  only = λ w h. ⊎_elim (λ q. free w q) (λ q. absurd (let k : None ≡ Some w = sym e ∙ q in cc)) (made_from who act a b w m h);
-  stood = tt;
-  cancelled = λ q. absurd (let k : ⊥ = cc in k);
-}
-
--- the call made no act, and the next line comes
-pub answered : (who : ℕ) (n : ChannelNote) (a b : Floor) → Looked who a b → acts_noted (n ∷ []) ≡ [] → WaitsOnly who Running a → StepMade who a b (record { note = n; stage = Running })
-answered who n a b k e free = record {
-  added = subst (λ l. Added who l a b) (sym e) (added_looked who a b k);
-  plain = ap (λ l. list_all is_plain_act l) e;
-  holds = tt;
-  only = looked_only who Running a b k free;
-  stood = tt;
-  cancelled = λ q. absurd (let k : ⊥ = cc in k);
-}
-
--- the call made no act, and no further line comes
-pub failed : (who : ℕ) (n : ChannelNote) (a b : Floor) → Looked who a b → acts_noted (n ∷ []) ≡ [] → WaitsOnly who Running a → StepMade who a b (record { note = n; stage = Failed })
-failed who n a b k e free = record {
-  added = subst (λ l. Added who l a b) (sym e) (added_looked who a b k);
-  plain = ap (λ l. list_all is_plain_act l) e;
-  holds = tt;
-  only = λ w h. runs_not w (looked_only who Running a b k free w h);
-  stood = tt;
-  cancelled = λ q. absurd (let k : ⊥ = cc in k);
-}
-
-abbrev wait_at : ℕ → ℕ → WaitId
-wait_at c p = record { channel = c; place = p }
-
--- a legal history that ends with this entry: the history before it is legal, and the entry might come
-last_legal : (shape : Shape) (es all : List Entry) (e : Entry) → all ≡ es ++ e ∷ [] → Legal shape all → Legal shape es × Needs shape (replay es) e.who e.act
-last_legal shape es all e is l = Legal-last shape es e (subst (Legal shape) is l)
-
--- the wait that has begun
-begun : (who c p : ℕ) (before seen : List Entry) (shape : Shape) (act : Act) → Legal shape before → p ≡ ((replay before).channels c).next
-    → seen ≡ before ++ record { who = who; act = act } ∷ []
-    → (after (replay before) who act).waits (wait_at c p) ≡ put_wait (wait_at c p) (name_clause who 0 c ((replay before).waits (wait_at c p))) (replay before).waits (wait_at c p)
-    → (replay seen).waits (wait_at c p) ≡ name_clause who 0 c None
-begun who c p before seen shape act l is last e =
-    let none : (replay before).waits (wait_at c p) ≡ None = replay_placed shape before l (wait_at c p) (omega (arith, is)) in
-    ap (λ es. (replay es).waits (wait_at c p)) last
-    ∙ ap (λ (s : State). s.waits (wait_at c p)) (replay_push before (record { who = who; act = act }))
-    ∙ e
-    ∙ at_wait (wait_at c p) _ (replay before).waits
-    ∙ ap (name_clause who 0 c) none
-
--- the call began a wait
-waits_now : (who c p : ℕ) (act : Act) (a b : Floor) → Made who act a b → begins act ≡ Some (wait_at c p) → list_all is_plain_act (act ∷ []) ≡ true → c < length a.shape → (replay b.seen).waits (wait_at c p) ≡ name_clause who 0 c None → WaitsOnly who Running a
-    → StepMade who a b (record { note = note.Made act; stage = Waiting (wait_at c p) })
-waits_now who c p act a b m e plain lt is free = record {
-  added = added_made who act a b m;
-  plain = plain;
-  holds = (subst (IsUnsettledOf who) (sym is) (refl, refl), rw (ap length m.same.shape) lt);
-  only = λ w h. ⊎_elim (λ q. runs_not w (free w q)) (λ q. (let k : Some (wait_at c p) ≡ Some w = sym e ∙ q in let same : wait_at c p ≡ w = cc in ap (λ u. Waiting u) same)) (made_from who act a b w m h);
-  stood = record { moment = b.seen; after = (added_made who act a b m).longer; before = prefix_self b.seen; holds = ap state_of_wait is };
-  cancelled = λ q. absurd (let k : ⊥ = cc in k);
-}
-
-pub offered : (who c p v : ℕ) (a b : Floor) → Legal b.shape b.seen → Made who (Offer c p v (record { channel = c; place = p }) 0) a b → c < length a.shape → WaitsOnly who Running a
-    → StepMade who a b (record { note = note.Made (Offer c p v (record { channel = c; place = p }) 0); stage = Waiting (record { channel = c; place = p }) })
-offered who c p v a b l m lt free =
-    let act : Act = Offer c p v (wait_at c p) 0 in
-    let r = last_legal b.shape m.before b.seen (record { who = who; act = act }) m.last l in
-    waits_now who c p act a b m refl refl lt (begun who c p m.before b.seen b.shape act r.0 r.1.1.first m.last refl) free
-
-pub awaited : (who c p : ℕ) (a b : Floor) → Legal b.shape b.seen → Made who (Await c p (record { channel = c; place = p }) 0) a b → c < length a.shape → WaitsOnly who Running a
-    → StepMade who a b (record { note = note.Made (Await c p (record { channel = c; place = p }) 0); stage = Waiting (record { channel = c; place = p }) })
-awaited who c p a b l m lt free =
-    let act : Act = Await c p (wait_at c p) 0 in
-    let r = last_legal b.shape m.before b.seen (record { who = who; act = act }) m.last l in
-    waits_now who c p act a b m refl refl lt (begun who c p m.before b.seen b.shape act r.0 r.1.1.first m.last refl) free
-
--- ---- the end of a wait
-
-some_resolved : (r : Option Resolution) → state_of_parts r false ≡ state.Resolved → is_some r ≡ true
-some_resolved None e = cc
-some_resolved (Some r) e = refl
-
-ready_of : (who : ℕ) (x : Option Wait) → IsUnsettledOf who x → state_of_wait x ≡ Some state.Resolved → IsReadyWait who x
-ready_of who None h e = absurd h
-ready_of who (Some x) h e =
-    let k : state_of_parts x.resolved x.settled ≡ state.Resolved = cc in
-    (h.0, some_resolved x.resolved (ap (state_of_parts x.resolved) (sym h.1) ∙ k), h.1)
-
--- at a moment of the look the wait is still unsettled
-held_at : (who : ℕ) (w : WaitId) (a b : Floor) (P : State → Type 0) → Legal b.shape b.seen → HoldsWait who (Waiting w) a → Looked who a b → (m : AtStep a b P) → IsUnsettledOf who ((replay m.moment).waits w)
-held_at who w a b P l h look m =
-    let t = between who a.seen m.moment b.seen m.after m.before look.mine in
-    let l' : Legal b.shape m.moment = Legal-prefix b.shape m.moment m.before.0 (rw m.before.1 l) in
-    others_keep b.shape who (IsUnsettledOf who) (unsettled_stays who) w a.seen m.moment l' m.after t.0 h.0
-
--- a wait that was seen resolved may be settled
-pub settle_ready : (who : ℕ) (w : WaitId) (a b : Floor) → Legal b.shape b.seen → HoldsWait who (Waiting w) a → LookAnswer who w a b state.Resolved → IsReady who w b
-settle_ready who w a b l h look =
-    let m = look.1 in
-    let t = between who a.seen m.moment b.seen m.after m.before look.0.mine in
-    others_keep b.shape who (IsReadyWait who) (ready_stays who) w m.moment b.seen l m.before t.1 (ready_of who _ (held_at who w a b _ l h look.0 m) m.holds)
-
-not_settled : (who : ℕ) (x : Option Wait) → IsUnsettledOf who x → state_of_wait x ≡ Some state.Settled → ⊥
-not_settled who None h e = h
-not_settled who (Some x) h e = (let k : Some (state_of_parts x.resolved x.settled) ≡ Some state.Settled = e in open_parts x.resolved (ap (state_of_parts x.resolved) (sym h.1) ∙ cc))
+pub code_short : (s : Script) (tag : ℕ) → length (code_of (program_of s) tag) < 9223372036854775808
+code_short s tag = by_block (block_of_tag (program_of s) tag)
   where
-    open_parts : (r : Option Resolution) → state_of_parts r false ≡ state.Settled → ⊥
-    open_parts None q = cc
-    open_parts (Some how) q = cc
+    by_block : (o : Option ℕ) → length (code_at (program_of s) o) < 9223372036854775808
+    by_block None = omega arith
+    by_block (Some i) = in_coroutines s.coroutines.items i
 
--- a wait that is not settled is not seen settled
-pub never_settled : (who : ℕ) (w : WaitId) (a b : Floor) → Legal b.shape b.seen → HoldsWait who (Waiting w) a → LookAnswer who w a b state.Settled → ⊥
-never_settled who w a b l h look = not_settled who _ (held_at who w a b _ l h look.0 look.1) look.1.holds
+pub line_short : (s : Script) (tag i : ℕ) (l : Instruction) → slice_get (code_of (program_of s) tag) i ≡ Some l → i < 9223372036854775808
+line_short s tag i l e = let lt = slice_get_within (code_of (program_of s) tag) i l e in let short = code_short s tag in omega (arith, lt, short)
 
-outcome_ends : (code : List Instruction) (i : ℕ) (w : WaitId) (how : Resolution) → Move code (waiting i w) (note.Made (Settle w (outcome_of how false)) ∷ []) (config_after i (stage_of (outcome_of how false)))
-outcome_ends code i w (resolved.Handed k v) = got i k v w
-outcome_ends code i w (resolved.Taken k) = sent i k w
-outcome_ends code i w (resolved.Admitted k) = sent i k w
-outcome_ends code i w (resolved.Closed k v) = closed i k v w
-outcome_ends code i w (resolved.Withdrawn why) = cancelled i w
-outcome_ends code i w resolved.Voided = cancelled i w
+-- ---- a coroutine that stands
 
-some_ends : (code : List Instruction) (i : ℕ) (w : WaitId) (how : Option Resolution) (outcome : Settled) → outcome_of_some false how ≡ Some outcome → Move code (waiting i w) (note.Made (Settle w outcome) ∷ []) (config_after i (stage_of outcome))
-some_ends code i w None outcome e = cc
-some_ends code i w (Some how) outcome e =
-    let k : outcome_of how false ≡ outcome = cc in
-    subst (λ o. Move code (waiting i w) (note.Made (Settle w o) ∷ []) (config_after i (stage_of o))) k (outcome_ends code i w how)
+pub stands_fits : (p : Program) (c : ChannelFloor) (j : Floor) (f : Frame) → IsProgram p → StandsOn p c j f → Fits p f.tag (config_of f)
+stands_fits p c j f ok h = reach_fits p f.tag j.seen (items_of f) (config_of f) ok h.fits.runs h.reaches
 
-pub settle_ends : (code : List Instruction) (i : ℕ) (w : WaitId) (x : Option Wait) (outcome : Settled) → outcome_at false x ≡ Some outcome → Move code (waiting i w) (note.Made (Settle w outcome) ∷ []) (config_after i (stage_of outcome))
-settle_ends code i w None outcome e = cc
-settle_ends code i w (Some x) outcome e = some_ends code i w x.resolved outcome e
+pub in_coroutine_rows : (p : Program) (c : ChannelFloor) (j : Floor) (k : ℕ) → IsFor p k c j → k < j.shape.coroutines
+in_coroutine_rows p c j k h = omega (arith, h.runs, ap (λ (s : Shape). s.coroutines) h.job_shape_is)
 
-how_gone : (how : Resolution) → stage_of (outcome_of how false) ≡ Cancelled → is_gone (Some how) ≡ true
-how_gone (resolved.Handed k v) e = cc
-how_gone (resolved.Taken k) e = cc
-how_gone (resolved.Admitted k) e = cc
-how_gone (resolved.Closed k v) e = cc
-how_gone (resolved.Withdrawn why) e = refl
-how_gone resolved.Voided e = refl
-
-some_gone : (how : Option Resolution) (outcome : Settled) → outcome_of_some false how ≡ Some outcome → stage_of outcome ≡ Cancelled → is_gone how ≡ true
-some_gone None outcome e s = cc
-some_gone (Some how) outcome e s = let k : outcome_of how false ≡ outcome = cc in how_gone how (ap stage_of k ∙ s)
-
-gone_wait : (x : Option Wait) (outcome : Settled) → outcome_at false x ≡ Some outcome → stage_of outcome ≡ Cancelled → IsGone x
-gone_wait None outcome e s = cc
-gone_wait (Some x) outcome e s = some_gone x.resolved outcome e s
-
-settle_holds : (who : ℕ) (outcome : Settled) (b : Floor) → HoldsWait who (stage_of outcome) b
-settle_holds who (settled.Value k v) b = tt
-settle_holds who (settled.Sent k) b = tt
-settle_holds who (settled.Closed k v) b = tt
-settle_holds who settled.Cancelled b = tt
-settle_holds who (settled.Undelivered v) b = tt
-
-settle_stood : (outcome : Settled) (a b : Floor) → HasStood a b (stage_of outcome)
-settle_stood (settled.Value k v) a b = tt
-settle_stood (settled.Sent k) a b = tt
-settle_stood (settled.Closed k v) a b = tt
-settle_stood settled.Cancelled a b = tt
-settle_stood (settled.Undelivered v) a b = tt
-
--- the settled wait is unsettled no more
-settled_now : (who : ℕ) (w : WaitId) (outcome : Settled) (a b : Floor) → Made who (Settle w outcome) a b → IsUnsettledOf who ((replay b.seen).waits w) → ⊥
-settled_now who w outcome a b m h =
-    let e : (replay b.seen).waits w ≡ settled_wait ((replay m.before).waits w) =
-    ap (λ es. (replay es).waits w) m.last ∙ ap (λ (s : State). s.waits w) (replay_push m.before (record { who = who; act = Settle w outcome })) ∙ at_wait w _ (replay m.before).waits in
-    no_unsettled who _ (subst (IsUnsettledOf who) e h)
-
--- a look and a settle
-pub wait_ended : (who : ℕ) (w : WaitId) (outcome : Settled) (a b c : Floor) → Looked who a b → SettleAnswer who w false b c outcome → WaitsOnly who (Waiting w) a
-    → StepMade who a c (record { note = note.Made (Settle w outcome); stage = stage_of outcome })
-wait_ended who w outcome a b c k s only = record {
-  added = added_then who [] (Settle w outcome ∷ []) a b c (added_looked who a b k) (added_made who (Settle w outcome) b c s.0);
-  plain = refl;
-  holds = settle_holds who outcome c;
-  only = λ v h. absurd (⊎_elim (λ q. settled_now who w outcome b c s.0 (at_w v (looked_only who (Waiting w) a b k only v q) h)) (λ q. cc) (made_from who (Settle w outcome) b c v s.0 h));
-  stood = settle_stood outcome a c;
-  cancelled = λ q. (w, record { moment = b.seen; after = k.longer; before = (added_made who (Settle w outcome) b c s.0).longer; holds = gone_wait _ outcome s.1 q });
+pub stands_body : (p : Program) (c : ChannelFloor) (j : Floor) (f : Frame) → StandsOn p c j f → is_over f.stage ≡ false → HasBody f.tag j
+stands_body p c j f h e = record {
+  caller = h.fits.of_jobs;
+  coroutine = in_coroutine_rows p c j f.tag h.fits;
+  not_ended = ap (list_any (ends_body f.tag)) h.job_acts ∙ reach_ends p f.tag j.seen (items_of f) (config_of f) h.reaches ∙ e;
 }
+
+pub stands_live : (p : Program) (c : ChannelFloor) (j : Floor) (f : Frame) → Legal j.shape j.seen → StandsOn p c j f → is_fresh f.stage ≡ false → IsLive (replay_jobs j.seen f.tag)
+stands_live p c j f l h e =
+    let w = reach_live p f.tag j.seen (items_of f) (config_of f) h.reaches e in
+    live_later j.shape w.moment j.seen f.tag l w.before w.live
+
+-- ---- what a Job that was named is
+
+any_of_own : (t : JobAct → Bool) (who : ℕ) (es : List JobEntry) → list_any t (job_acts_of who es) ≡ true → list_any (λ (e : JobEntry). t e.act) es ≡ true
+unfolding job_acts_of
+any_of_own t who [] h = h
+any_of_own t who (e ∷ es) h = by_test (e.who == who) h (any_of_own t who es)
   where
-    at_w : (v : WaitId) → Waiting w ≡ Waiting v → IsUnsettledOf who ((replay c.seen).waits v) → IsUnsettledOf who ((replay c.seen).waits w)
-    at_w v e h = let same : w ≡ v = cc in subst (λ u. IsUnsettledOf who ((replay c.seen).waits u)) (sym same) h
+    second : (b c : Bool) → c ≡ true → (b || c) ≡ true
+    second true c e = refl
+    second false c e = e
+
+    carry : (b c d : Bool) → (c ≡ true → d ≡ true) → (b || c) ≡ true → (b || d) ≡ true
+    carry true c d k e = refl
+    carry false c d k e = k e
+
+    by_test : (b : Bool) → list_any t (if b then e.act ∷ job_acts_of who es else job_acts_of who es) ≡ true → (list_any t (job_acts_of who es) ≡ true → list_any (λ (e : JobEntry). t e.act) es ≡ true) → (t e.act || list_any (λ (e : JobEntry). t e.act) es) ≡ true
+    by_test true k more = carry (t e.act) _ _ more k
+    by_test false k more = second (t e.act) _ (more k)
+
+-- the Job of a name was attached
+pub named_attached : (p : Program) (c : ChannelFloor) (j : Floor) (f : Frame) (i row : ℕ) → Legal j.shape j.seen → StandsOn p c j f → slice_get f.rows.items i ≡ Some row → is_some (replay_jobs j.seen row) ≡ true
+named_attached p c j f i row l h at =
+    let own : list_any (attaches row) (job_acts_of f.tag j.seen) ≡ true = ap (list_any (attaches row)) h.job_acts ∙ reach_rows p f.tag j.seen (items_of f) (config_of f) i row h.reaches at in
+    (by_entries j.shape j.seen row l).attached ∙ ap (λ b. (row == 0) || b) (any_of_own (attaches row) f.tag j.seen own) ∙ or_true (row == 0)
+  where
+    or_true : (b : Bool) → (b || true) ≡ true
+    or_true true = refl
+    or_true false = refl
+
+-- ---- settled floors
+
+pub settled_kept : (base : ℕ) (c c' : ChannelFloor) (a b : Floor) → ClosesNone c c' → b.seen ≡ a.seen → IsSettled base c a → IsSettled base c' b
+settled_kept base c c' a b same e h = record {
+  rest = subst (λ (es : List JobEntry). AtRest (replay_jobs es)) (sym e) h.rest;
+  closed = λ r. ap is_some (same (base + r)) ∙ h.closed r ∙ ap (λ (es : List JobEntry). has_ended (replay_jobs es r)) (sym e);
+}
+
+pub self_jobs : (who : ℕ) (j : Floor) → Added who [] [] j j
+self_jobs who j = added_none who j j (record { shape = refl; alone = refl; callers = refl }) refl (λ r. refl)
+
+pub self_channels : (who : ℕ) (c : ChannelFloor) → AddedToChannels who [] c c
+self_channels who c = channels_none who c c (record { shape = refl; alone = refl; callers = refl }) refl
+
+-- ---- waits of who's, where its calls began none
+
+abbrev pub begins_none : Act → Bool
+begins_none act = is_none (begins act)
+
+none_begun : (act : Act) (w : WaitId) → begins_none act ≡ true → begins act ≡ Some w → ⊥
+none_begun act w e h = let u : is_none (Some w) ≡ true = ap is_none (sym h) ∙ e in cc
+
+kept_from : (who : ℕ) (v : WaitId) (s : State) (es : List Entry) → list_all begins_none (acts_of who es) ≡ true → IsUnsettledOf who ((replay_from s es).waits v) → IsUnsettledOf who (s.waits v)
+unfolding replay_from acts_of
+kept_from who v s [] n h = h
+kept_from who v s (e ∷ es) n h = by_test (e.who == who) refl n (kept_from who v (after s e.who e.act) es)
+  where
+    both : (a b : Bool) → (a && b) ≡ true → (a ≡ true) × (b ≡ true)
+    both true true k = (refl, refl)
+    both true false k = cc
+    both false b k = cc
+
+    before : ((e.who ≡ who) × (begins e.act ≡ Some v) → ⊥) → IsUnsettledOf who ((after s e.who e.act).waits v) → IsUnsettledOf who (s.waits v)
+    before never q = ⊎_elim (λ u. u) (λ u. absurd (never u)) (act_from who (IsUnsettledOf who) (unsettled_comes who) e.who v s e.act q)
+
+    by_test : (b : Bool) → (e.who == who) ≡ b → list_all begins_none (if b then e.act ∷ acts_of who es else acts_of who es) ≡ true
+        → (list_all begins_none (acts_of who es) ≡ true → IsUnsettledOf who ((replay_from (after s e.who e.act) es).waits v) → IsUnsettledOf who ((after s e.who e.act).waits v)) → IsUnsettledOf who (s.waits v)
+    by_test true k m rest = let two = both (begins_none e.act) (list_all begins_none (acts_of who es)) m in before (λ u. none_begun e.act v two.0 u.1) (rest two.1 h)
+    by_test false k m rest = before (λ u. let t : true ≡ false = sym (eq-eqb e.who who u.0) ∙ k in cc) (rest m h)
+
+front_off : (a b c : List Act) → a ++ b ≡ a ++ c → b ≡ c
+front_off [] b c k = k
+front_off (x ∷ a) b c k = front_off a b c (let m : a ++ b ≡ a ++ c = cc in m)
+
+-- what is unsettled now was so before
+pub added_only : (who : ℕ) (acts : List Act) (a b : ChannelFloor) (w : WaitId) → AddedToChannels who acts a b → list_all begins_none acts ≡ true → IsUnsettledOf who ((replay b.seen).waits w) → IsUnsettledOf who ((replay a.seen).waits w)
+added_only who acts a b w h none u =
+    let rest : List Entry = h.longer.0 in
+    let mine : acts_of who rest ≡ acts = front_off (acts_of who a.seen) (acts_of who rest) acts (sym (acts_of-append who a.seen rest) ∙ ap (acts_of who) h.longer.1 ∙ h.mine) in
+    let u' : IsUnsettledOf who ((replay (a.seen ++ rest)).waits w) = subst (λ es. IsUnsettledOf who ((replay es).waits w)) (sym h.longer.1) u in
+    kept_from who w (replay a.seen) rest (ap (list_all begins_none) mine ∙ none) (subst (λ (s : State). IsUnsettledOf who (s.waits w)) (replay_from-append start a.seen rest) u')
+
+-- ---- a move
+
+abbrev pub is_waiting : Stage → Bool
+is_waiting Fresh = false
+is_waiting Running = false
+is_waiting (Waiting w) = true
+is_waiting (Unwinding failure) = false
+is_waiting Ended = false
+
+holds_none : (who : ℕ) (stage : Stage) (c : ChannelFloor) → is_waiting stage ≡ false → HoldsWait who stage c
+holds_none who Fresh c e = tt
+holds_none who Running c e = tt
+holds_none who (Waiting w) c e = cc
+holds_none who (Unwinding failure) c e = tt
+holds_none who Ended c e = tt
+
+stood_none : (stage : Stage) (a b : ChannelFloor) → is_waiting stage ≡ false → HasStood a b stage
+stood_none Fresh a b e = tt
+stood_none Running a b e = tt
+stood_none (Waiting w) a b e = cc
+stood_none (Unwinding failure) a b e = tt
+stood_none Ended a b e = tt
+
+not_waiting : {A : Type 0} (stage : Stage) (w : WaitId) → is_waiting stage ≡ false → stage ≡ Waiting w → A
+not_waiting stage w e h = absurd (let u : is_waiting (Waiting w) ≡ false = ap is_waiting (sym h) ∙ e in let v : ⊥ = cc in v)
+
+-- calls that began no wait, noted as a group
+pub did_stepped : (p : Program) (c c' : ChannelFloor) (j j' : Floor) (f g : Frame) (group : List Item) (rows : List ℕ) → StandsOn p c j f → Did f.tag group rows c c' j j' (items_of f) (items_of g) → g.tag ≡ f.tag
+    → Move p f.tag j'.seen (items_of f) (config_of f) group (config_of g) → list_all (is_calm_act (base_of p)) (channel_acts_in group) ≡ true → list_all begins_none (channel_acts_in group) ≡ true
+    → StaysSettled (base_of p) c c' j j' → (c.alone ≡ true → j.alone ≡ true → IsSettled (base_of p) c j → ClosesAtOnce (base_of p) group) → is_waiting f.stage ≡ false → is_waiting g.stage ≡ false → Stepped p c c' j j' f g
+did_stepped p c c' j j' f g group rows h did t move calm none settled closes e k = record {
+  tag = t;
+  notes = group;
+  appended = did.appended;
+  move = move;
+  channels = did.channels;
+  rows = rows;
+  jobs = did.jobs;
+  calm = calm;
+  settled = λ a b s. (settled a b s, closes a b s);
+  holds = holds_none f.tag g.stage c' k;
+  only = λ w u. not_waiting f.stage w e (h.only w (added_only f.tag (channel_acts_in group) c c' w did.channels none u));
+  stood = stood_none g.stage c c' k;
+}
+
+pub after_stage : (stage : Stage) (x : Config) → (after_step stage x).stage ≡ stage
+after_stage Fresh x = refl
+after_stage Running x = refl
+after_stage (Waiting w) x = refl
+after_stage (Unwinding failure) x = refl
+after_stage Ended x = refl
+
+one_note : (n : ChannelNote) → channel_acts_in (item.Channel n ∷ []) ≡ channel_act n
+one_note n = nothing_more (channel_act n)
+
+stood_then : (stage : Stage) (a b c : ChannelFloor) → b.seen ≡ a.seen → HasStood b c stage → HasStood a c stage
+stood_then Fresh a b c e h = tt
+stood_then Running a b c e h = tt
+stood_then (Waiting w) a b c e h = record { moment = h.moment; after = subst (λ es. IsPrefix es h.moment) e h.after; before = h.before; holds = h.holds }
+stood_then (Unwinding failure) a b c e h = tt
+stood_then Ended a b c e h = tt
+
+pub room_only : (who : ℕ) (stage : Stage) (a b : ChannelFloor) → b.seen ≡ a.seen → WaitsOnly who stage a → WaitsOnly who stage b
+room_only who stage a b e only w u = only w (subst (λ es. IsUnsettledOf who ((replay es).waits w)) e u)
+
+-- a call on a channel, after room was made
+pub channel_stepped : (p : Program) (c d c' : ChannelFloor) (j : Floor) (f g : Frame) (step : Step) → StandsOn p c j f → HasRoom 1 c d → StepMade f.tag (base_of p) d c' step
+    → Move p f.tag j.seen (items_of f) (config_of f) (item.Channel step.note ∷ []) (after_step step.stage (config_of f))
+    → g.tag ≡ f.tag → config_of g ≡ after_step step.stage (config_of f) → items_of g ≡ items_of f ++ item.Channel step.note ∷ [] → Stepped p c c' j j f g
+channel_stepped p c d c' j f g step h room made move t config items =
+    let stage : g.stage ≡ step.stage = ap (λ (x : Config). x.stage) config ∙ after_stage step.stage (config_of f) in
+    record {
+      tag = t;
+      notes = item.Channel step.note ∷ [];
+      appended = items;
+      move = subst (λ y. Move p f.tag j.seen (items_of f) (config_of f) (item.Channel step.note ∷ []) y) (sym config) move;
+      channels = subst (λ l. AddedToChannels f.tag l c c') (sym (one_note step.note)) (channels_then f.tag [] (channel_act step.note) c d c' (added_room f.tag 1 c d room) made.added);
+      rows = [];
+      jobs = self_jobs f.tag j;
+      calm = ap (list_all (is_calm_act (base_of p))) (one_note step.note) ∙ made.calm;
+      settled = λ a b s. (settled_kept (base_of p) c c' j j (λ n. made.closes (room.same.alone ∙ a) n ∙ ap (λ es. ((replay es).channels n).closed) room.seen) refl s, (tt, tt));
+      holds = subst (λ t. HoldsWait f.tag t c') (sym stage) made.holds;
+      only = subst (λ t. WaitsOnly f.tag t c') (sym stage) made.only;
+      stood = subst (HasStood c c') (sym stage) (stood_then step.stage c d c' room.seen made.stood);
+    }
+
+-- ---- where a move leads
+
+pub step_stands : (p : Program) (c c' : ChannelFloor) (j j' : Floor) (f g : Frame) → IsProgram p → StandsOn p c j f → Stepped p c c' j j' f g → StandsOn p c' j' g
+step_stands p c c' j j' f g ok h s =
+    let reaches : Reaches p f.tag j'.seen (items_of g) (config_of g) = Reaches.goes_on (items_of f) s.notes (items_of g) (config_of f) (config_of g) (reaches_later p f.tag j.seen j'.seen (items_of f) (config_of f) s.jobs.longer h.reaches) s.move s.appended in
+    record {
+      fits = record {
+        channel_shape = s.channels.same.shape ∙ h.fits.channel_shape;
+        job_shape_is = s.jobs.same.shape ∙ h.fits.job_shape_is;
+        of_channels = ap c'.callers s.tag ∙ ap (λ (k : ℕ → Bool). k f.tag) s.channels.same.callers ∙ h.fits.of_channels;
+        of_jobs = ap j'.callers s.tag ∙ ap (λ (k : ℕ → Bool). k f.tag) s.jobs.same.callers ∙ h.fits.of_jobs;
+        runs = subst (λ k. k < coroutine_count p) (sym s.tag) h.fits.runs;
+      };
+      reaches = subst (λ k. Reaches p k j'.seen (items_of g) (config_of g)) (sym s.tag) reaches;
+      channel_acts = ap (λ k. acts_of k c'.seen) s.tag ∙ s.channels.mine ∙ ap (λ l. l ++ channel_acts_in s.notes) h.channel_acts ∙ sym (channel_acts_in-append (items_of f) s.notes) ∙ ap channel_acts_in (sym s.appended);
+      job_acts = ap (λ k. job_acts_of k j'.seen) s.tag ∙ s.jobs.mine ∙ ap (λ l. l ++ job_acts_in s.notes) h.job_acts ∙ sym (job_acts_in-append (items_of f) s.notes) ∙ ap job_acts_in (sym s.appended);
+      holds = subst (λ k. HoldsWait k g.stage c') (sym s.tag) s.holds;
+      only = λ w u. s.only w (subst (λ k. IsUnsettledOf k ((replay c'.seen).waits w)) s.tag u);
+      inside = subst (λ k. IsInside g.stage g.line (length (code_of p k))) (sym s.tag) (reach_fits p f.tag j'.seen (items_of g) (config_of g) ok h.fits.runs reaches).inside;
+    }
+
+pub step_falls : (p : Program) (c c' : ChannelFloor) (j j' : Floor) (f g : Frame) → IsProgram p → StandsOn p c j f → Stepped p c c' j j' f g → moves_left p g < moves_left p f
+step_falls p c c' j j' f g ok h s =
+    subst (λ k. moves_at g.stage g.line (length (code_of p k)) < moves_left p f) (sym s.tag)
+    (move_falls p f.tag j'.seen (items_of f) (config_of f) s.notes (config_of g) (stands_fits p c j f ok h) s.move)
+
+pub step_noted : (p : Program) (c c' : ChannelFloor) (j j' : Floor) (f g : Frame) → Stepped p c c' j j' f g → NotedSome f.tag c c' j j' (items_of f) (items_of g)
+step_noted p c c' j j' f g s = record { group = s.notes; rows = s.rows; did = record { appended = s.appended; channels = s.channels; jobs = s.jobs } }
+
+-- ---- polls of one move
+
+pub answer_at : (p : Program) (c c' : ChannelFloor) (j j' : Floor) (f g : Frame) (stage : Stage) → g.stage ≡ stage → HasStood c c' stage → moves_left p g < moves_left p f → TurnAnswer p c c' j j' f g (turn_after stage)
+answer_at p c c' j j' f g Fresh e stood falls = ((λ u. let v : Fresh ≡ Ended = sym e ∙ u in let w : ⊥ = cc in w), falls)
+answer_at p c c' j j' f g Running e stood falls = ((λ u. let v : Running ≡ Ended = sym e ∙ u in let w : ⊥ = cc in w), falls)
+answer_at p c c' j j' f g (Waiting w) e stood falls = ((λ u. let v : Waiting w ≡ Ended = sym e ∙ u in let x : ⊥ = cc in x), WaitsFor.stood w e stood)
+answer_at p c c' j j' f g (Unwinding failure) e stood falls = ((λ u. let v : Unwinding failure ≡ Ended = sym e ∙ u in let w : ⊥ = cc in w), falls)
+answer_at p c c' j j' f g Ended e stood falls = e
+
+pub turned_once : (p : Program) (c c' : ChannelFloor) (j j' : Floor) (f g : Frame) (answer : Turn) → IsProgram p → StandsOn p c j f → Stepped p c c' j j' f g → answer ≡ turn_after g.stage → Turned p c c' j j' f g answer
+turned_once p c c' j j' f g answer ok h s is =
+    let falls = step_falls p c c' j j' f g ok h s in
+    record {
+      stands = step_stands p c c' j j' f g ok h s;
+      polled = record {
+        tag = s.tag;
+        notes = s.notes;
+        appended = s.appended;
+        moved = MovesOnce.once (config_of f) (config_of g) s.notes s.move;
+        falls = inr falls;
+        channels = s.channels;
+        rows = s.rows;
+        jobs = s.jobs;
+        calm = s.calm;
+        settled = s.settled;
+      };
+      turn = subst (λ r. TurnAnswer p c c' j j' f g r) (sym is) (answer_at p c c' j j' f g g.stage refl s.stood falls);
+    }
+
+-- after a move nothing is left quiet
+pub step_quiet : (A : Type 0) (p : Program) (c c' : ChannelFloor) (j j' : Floor) (f g : Frame) → IsProgram p → StandsOn p c j f → Stepped p c c' j j' f g → moves_left p g ≡ moves_left p f → A
+step_quiet A p c c' j j' f g ok h s e = let lt = step_falls p c c' j j' f g ok h s in absurd (omega (arith, lt, e))

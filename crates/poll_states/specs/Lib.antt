@@ -1,6 +1,7 @@
-pub mod Books
+pub mod Settings
 pub mod Runs
 pub mod Frames
+pub mod Parts
 pub mod Polls
 pub mod Steps
-pub mod Parts
+pub mod Beginnings

@@ -1,70 +1,64 @@
 -- What a poll does, and what its answer says.
-use Rattle.std.specs.Prelude.{◌≡◌, ◌<◌, ◌≤◌, length, Bool, true, false, List, [], ◌∷◌, ◌++◌, Option, Some, None}
+use Rattle.std.specs.Prelude.{◌≡◌, ◌≢◌, ℕ, ◌<◌, ◌⊎◌, true, List, [], ◌++◌, Some}
 use Rattle.std.specs.List.{list_all}
-use mathlib.Core.Logic.{◌⊎◌}
 use Rattle.co_base.specs.declared.names.WaitId.{WaitId}
-use Rattle.channel_model.specs.declared.acts.ChannelNote.{ChannelNote}
-use Rattle.channel_model.specs.declared.standing.Resolution.{Resolution}
-use Rattle.channel_model.specs.declared.standing.Resolution.TheVariants as resolved
 use Rattle.channel_model.specs.declared.floor.WaitState.TheVariants.{Standing}
-use Rattle.channel_model.specs.Channels.{Wait}
-use Rattle.channel_model.specs.Floors.{Floor, Added, AtStep}
+use Rattle.channel_model.specs.Floors.{Floor as ChannelFloor, Added as AddedToChannels, AtStep as AtChannelStep}
 use Rattle.channel_model.specs.Answers.{state_of_wait}
-use Rattle.channel_model.specs.Laws.{is_plain_act}
-use Rattle.script_reader.specs.declared.script.Instruction.{Instruction}
-use Rattle.script_reader.specs.Programs.{Program, code_of}
+use Rattle.job_model.specs.declared.acts.JobEntry.{JobEntry}
+use Rattle.job_model.specs.Floors.{Floor, Added, AtStep}
+use Rattle.note_book.specs.declared.book.Item.{Item}
+use Rattle.note_book.specs.Items.{channel_acts_in, job_acts_in}
+use Rattle.scope_builders.specs.Rest.{IsSettled}
+use Rattle.scope_builders.specs.Groups.{ClosesAtOnce}
+use Rattle.scope_builders.specs.Calls.{Did}
+use Rattle.script_reader.specs.Programs.{Program}
 use Rattle.poll_states.specs.declared.frame.Frame.{Frame}
-use Rattle.poll_states.specs.declared.frame.Stage.TheVariants.{Waiting, Cancelled}
+use Rattle.poll_states.specs.declared.frame.Stage.TheVariants.{Fresh, Running, Waiting, Ended}
 use Rattle.poll_states.specs.declared.frame.Turn.{Turn}
 use Rattle.poll_states.specs.declared.frame.Turn.TheVariants as turn
-use Rattle.poll_states.specs.Books.{items_of, acts_noted}
-use Rattle.poll_states.specs.Runs.{Config}
-use Rattle.poll_states.specs.Frames.{config_of, is_ended, moves_left}
+use Rattle.poll_states.specs.Settings.{base_of, is_calm_act}
+use Rattle.poll_states.specs.Runs.{Config, Move, at_stage}
+use Rattle.poll_states.specs.Frames.{config_of, items_of, moves_left}
+use Rattle.poll_states.specs.Parts.{IsNotStarted}
 
--- without a note the coroutine stays where it is; with one it has fewer moves left
-abbrev pub Falls : List ChannelNote → List Instruction → Config → Config → Type 0
-Falls [] code x y = y ≡ x
-Falls (n ∷ notes) code x y = moves_left code y.line y.stage < moves_left code x.line x.stage
+-- at most one line is run: nothing was done, or one move was made, or the coroutine began and made one
+pub data MovesOnce (p : Program) (k : ℕ) (seen : List JobEntry) (before : List Item) : Config → List Item → Config → Type 0 where
+  still : (x : Config) → MovesOnce p k seen before x [] x
+  once : (x y : Config) (group : List Item) → Move p k seen before x group y → MovesOnce p k seen before x group y
+  first : (x y : Config) (group : List Item) → Move p k seen before x [] (at_stage Running x) → Move p k seen before (at_stage Running x) group y → MovesOnce p k seen before x group y
 
-abbrev pub is_gone : Option Resolution → Bool
-is_gone None = false
-is_gone (Some (resolved.Handed k v)) = false
-is_gone (Some (resolved.Taken k)) = false
-is_gone (Some (resolved.Admitted k)) = false
-is_gone (Some (resolved.Closed k v)) = false
-is_gone (Some (resolved.Withdrawn why)) = true
-is_gone (Some resolved.Voided) = true
+-- the coroutine is where it was, and noted nothing; or it has fewer moves left
+abbrev pub Falls : Program → List Item → Frame → Frame → Type 0
+Falls p notes f g = ((config_of g ≡ config_of f) × (notes ≡ [])) ⊎ (moves_left p g < moves_left p f)
 
--- the wait was withdrawn, or its channel cancelled
-abbrev pub IsGone : Option Wait → Type 0
-IsGone None = ⊥
-IsGone (Some x) = is_gone x.resolved ≡ true
+-- the entries made so far stand and are noted
+pub record NotedSome (who : ℕ) (c c' : ChannelFloor) (j j' : Floor) (items items' : List Item) : Type 0 where
+  pub group : List Item
+  pub rows : List ℕ
+  pub did : Did who group rows c c' j j' items items'
 
--- the notes that a poll appended to the book are those of the entries that its coroutine added
-pub record Polled (p : Program) (old new : Floor) (f g : Frame) : Type 0 where
+-- the items that a poll appended to the book are those of at most one line, and those of the entries that its coroutine added
+pub record Polled (p : Program) (c c' : ChannelFloor) (j j' : Floor) (f g : Frame) : Type 0 where
   pub tag : g.tag ≡ f.tag
-  pub notes : List ChannelNote
-  -- at most one move was made
-  pub one : length notes ≤ 1
-  pub appended : items_of g.book ≡ items_of f.book ++ notes
-  pub added : Added f.tag (acts_noted notes) old new
-  pub falls : Falls notes (code_of p f.tag) (config_of f) (config_of g)
-  pub plain : list_all is_plain_act (acts_noted notes) ≡ true
-  -- only a wait that was gone when it was settled ends as cancelled
-  pub cancelled : g.stage ≡ Cancelled → (f.stage ≡ Cancelled) ⊎ ((w : WaitId) × AtStep old new (λ s. IsGone (s.waits w)))
+  pub notes : List Item
+  pub appended : items_of g ≡ items_of f ++ notes
+  pub moved : MovesOnce p f.tag j'.seen (items_of f) (config_of f) notes (config_of g)
+  pub falls : Falls p notes f g
+  pub channels : AddedToChannels f.tag (channel_acts_in notes) c c'
+  pub rows : List ℕ
+  pub jobs : Added f.tag (job_acts_in notes) rows j j'
+  pub calm : list_all (is_calm_act (base_of p)) (channel_acts_in notes) ≡ true
+  -- on floors that are alone: what was settled is settled, and each Job that ended has its done channel closed at once
+  pub settled : c.alone ≡ true → j.alone ≡ true → IsSettled (base_of p) c j → IsSettled (base_of p) c' j' × ClosesAtOnce (base_of p) notes
 
--- the coroutine waits, and its wait stood at a moment of the poll
-pub record WaitsFor (old new : Floor) (g : Frame) : Type 0 where
-  pub wait : WaitId
-  pub held : g.stage ≡ Waiting wait
-  pub stood : AtStep old new (λ s. state_of_wait (s.waits wait) ≡ Some Standing)
+-- why a poll answers that the coroutine waits: its wait stood at a moment of the poll, or its Job was not attached or New at one
+pub data WaitsFor (c c' : ChannelFloor) (j j' : Floor) (f g : Frame) : Type 0 where
+  stood : (w : WaitId) → g.stage ≡ Waiting w → AtChannelStep c c' (λ s. state_of_wait (s.waits w) ≡ Some Standing) → WaitsFor c c' j j' f g
+  not_started : g.stage ≡ Fresh → AtStep j j' (λ tree. IsNotStarted (tree g.tag)) → WaitsFor c c' j j' f g
 
-pub record MadeMove (f g : Frame) : Type 0 where
-  pub note : ChannelNote
-  pub noted : items_of g.book ≡ items_of f.book ++ note ∷ []
-
--- the answer of a poll of f that left g, for code
-abbrev pub TurnAnswer : List Instruction → Floor → Floor → Frame → Frame → Turn → Type 0
-TurnAnswer code old new f g turn.Ended = (is_ended code f.line f.stage ≡ true) × (items_of g.book ≡ items_of f.book)
-TurnAnswer code old new f g turn.Waits = (is_ended code f.line f.stage ≡ false) × WaitsFor old new g
-TurnAnswer code old new f g turn.Ready = (is_ended code f.line f.stage ≡ false) × MadeMove f g
+-- the answer of a poll of f that left g
+abbrev pub TurnAnswer : Program → ChannelFloor → ChannelFloor → Floor → Floor → Frame → Frame → Turn → Type 0
+TurnAnswer p c c' j j' f g turn.Ended = g.stage ≡ Ended
+TurnAnswer p c c' j j' f g turn.Waits = (g.stage ≢ Ended) × WaitsFor c c' j j' f g
+TurnAnswer p c c' j j' f g turn.Ready = (g.stage ≢ Ended) × (moves_left p g < moves_left p f)

@@ -1,54 +1,162 @@
--- What a coroutine's book may be: what its code may note, move by move, whatever its calls are answered.
-use Rattle.std.specs.Prelude.{◌≡◌, ℕ, ◌+◌, List, [], ◌∷◌, ◌++◌, Some, slice_get}
+-- What a coroutine's book may be: what its code may note, move by move, whatever its calls are answered, and what was so at its moves.
+use Rattle.std.specs.Prelude.{◌≡◌, ◌≢◌, ℕ, ◌+◌, Bool, true, false, List, [], ◌∷◌, ◌++◌, length, map, Option, Some, None, slice_get}
 use Rattle.co_base.specs.declared.names.WaitId.{WaitId}
 use Rattle.channel_model.specs.declared.acts.Act.TheVariants.{Hand, Put, Offer, Await, Take, Settle}
 use Rattle.channel_model.specs.declared.acts.Settled.TheVariants as settled
-use Rattle.channel_model.specs.declared.acts.ChannelNote.{ChannelNote}
-use Rattle.channel_model.specs.declared.acts.ChannelNote.TheVariants.{Made, SendClosed, ReceiveClosed, Spent}
+use Rattle.channel_model.specs.declared.acts.ChannelNote.TheVariants as of_channel
+use Rattle.job_model.specs.declared.acts.JobState.TheVariants.{New, Cancelling}
+use Rattle.job_model.specs.declared.acts.JobAct.{JobAct}
+use Rattle.job_model.specs.declared.acts.JobAct.TheVariants.{Attach, EndBody}
+use Rattle.job_model.specs.declared.acts.JobEntry.{JobEntry}
+use Rattle.job_model.specs.declared.acts.JobNote.TheVariants as of_job
+use Rattle.job_model.specs.declared.acts.Reason.TheVariants as reasons
+use Rattle.job_model.specs.Trees.{Job, Tree, is_active, state_of}
+use Rattle.note_book.specs.declared.book.Item.{Item}
+use Rattle.note_book.specs.declared.book.Item.TheVariants as item
+use Rattle.note_book.specs.Items.{job_acts_in}
+use Rattle.job_tree.specs.Notes.{made_note}
+use Rattle.job_tree.specs.Passes.{IsAllCancelled}
+use Rattle.scope_builders.specs.Groups.{channel_note, IsPassOf, IsBreak, IsChain}
+use Rattle.scope_builders.specs.Calls.{WasWhen, child_kind, start_of}
 use Rattle.script_reader.specs.declared.script.Instruction.{Instruction}
-use Rattle.script_reader.specs.declared.script.Instruction.TheVariants.{Send, Receive}
+use Rattle.script_reader.specs.declared.script.Instruction.TheVariants as line
+use Rattle.script_reader.specs.Programs.{Program, code_of, size_of}
 use Rattle.poll_states.specs.declared.frame.Stage.{Stage}
-use Rattle.poll_states.specs.declared.frame.Stage.TheVariants.{Running, Waiting, Failed, Cancelled}
+use Rattle.poll_states.specs.declared.frame.Stage.TheVariants.{Fresh, Running, Waiting, Unwinding, Ended}
+use Rattle.poll_states.specs.Settings.{base_of}
 
--- the line at which a coroutine is, and how it goes on there
+-- ---- where a coroutine is
+
 pub record Config : Type 0 where
+  -- the line, numbered from 0, and how the coroutine goes on there
   pub line : ℕ
   pub stage : Stage
+  -- what its Job will have as its result
+  pub result : ℕ
+  -- the rows of the Jobs that its lines named, in the order of the names
+  pub rows : List ℕ
+  -- the tag of what it launches next
+  pub free : ℕ
 
-abbrev pub running : ℕ → Config
-running i = record { line = i; stage = Running }
+-- before its first line; what it launches has the tags after its own
+abbrev pub fresh : ℕ → Config
+fresh k = record { line = 0; stage = Fresh; result = 0; rows = []; free = k + 1 }
 
-abbrev pub waiting : ℕ → WaitId → Config
-waiting i w = record { line = i; stage = Waiting w }
+abbrev pub at_stage : Stage → Config → Config
+at_stage stage x = record { line = x.line; stage = stage; result = x.result; rows = x.rows; free = x.free }
 
--- one move: where the coroutine is, what it notes, and where it is then
-pub data Move (code : List Instruction) : Config → List ChannelNote → Config → Type 0 where
+-- at the next line
+abbrev pub next : Config → Config
+next x = record { line = x.line + 1; stage = Running; result = x.result; rows = x.rows; free = x.free }
+
+abbrev pub with_result : ℕ → Config → Config
+with_result v x = record { line = x.line; stage = x.stage; result = v; rows = x.rows; free = x.free }
+
+-- a row with the next name, where the launch gives one
+abbrev pub named : Option ℕ → ℕ → List ℕ → List ℕ
+named None row rows = rows
+named (Some job) row rows = rows ++ row ∷ []
+
+-- after the launch of this block: the next tag is that past all that the child may launch
+abbrev pub past_launch : Program → ℕ → Option ℕ → Config → Config
+past_launch p block job x = record { line = x.line; stage = x.stage; result = x.result; rows = named job x.free x.rows; free = x.free + size_of p block }
+
+-- it runs this line
+pub record IsAt (p : Program) (k : ℕ) (x : Config) (line : Instruction) : Type 0 where
+  pub stage : x.stage ≡ Running
+  pub line_is : slice_get (code_of p k) x.line ≡ Some line
+
+-- ---- what is noted
+
+abbrev pub job_note : JobAct → Item
+job_note act = made_note act
+
+abbrev pub saw : ℕ → Item
+saw row = item.Job (of_job.Saw row)
+
+-- no Job was attached
+pub data IsRefusal : Item → Type 0 where
+  no_row : IsRefusal (item.Job of_job.NoRow)
+  used : IsRefusal (item.Job of_job.Used)
+  parent_ended : IsRefusal (item.Job of_job.ParentEnded)
+
+-- ---- what was so
+
+-- attached, and neither New nor Cancelling nor ended
+abbrev pub MayRun : Option Job → Type 0
+MayRun None = ⊥
+MayRun (Some j) = is_active j.state ≡ true
+
+abbrev pub IsCancelling : Option Job → Type 0
+IsCancelling o = state_of o ≡ Some Cancelling
+
+-- this was so at a moment at which k had done just what these items note
+abbrev pub WasAt : ℕ → List JobEntry → List Item → (Tree → Type 0) → Type 0
+WasAt k seen items fact = WasWhen k (job_acts_in items) seen fact
+
+-- ---- moves
+
+-- one move of k, whose book has these items before it: where it is, what it notes, and where it is then
+pub data Move (p : Program) (k : ℕ) (seen : List JobEntry) (before : List Item) : Config → List Item → Config → Type 0 where
+  -- before its first line it goes on where its Job may run, and unwinds where that is Cancelling
+  runs : (x : Config) → x.stage ≡ Fresh → WasAt k seen before (λ tree. MayRun (tree k)) → Move p k seen before x [] (at_stage Running x)
+  never_runs : (x : Config) → x.stage ≡ Fresh → WasAt k seen before (λ tree. IsCancelling (tree k)) → Move p k seen before x (saw k ∷ []) (at_stage (Unwinding None) x)
   -- at a send: the element is handed, or kept, or refused by a closed channel, and the next line comes
-  hands : (i c p v : ℕ) → slice_get code i ≡ Some (Send c v) → Move code (running i) (Made (Hand c p v) ∷ []) (running (i + 1))
-  puts : (i c p v : ℕ) → slice_get code i ≡ Some (Send c v) → Move code (running i) (Made (Put c p v) ∷ []) (running (i + 1))
-  refused : (i c v x : ℕ) → slice_get code i ≡ Some (Send c v) → Move code (running i) (SendClosed c v x ∷ []) (running (i + 1))
+  hands : (x : Config) (c q v : ℕ) → IsAt p k x (line.Send c v) → Move p k seen before x (channel_note (Hand c q v) ∷ []) (next x)
+  puts : (x : Config) (c q v : ℕ) → IsAt p k x (line.Send c v) → Move p k seen before x (channel_note (Put c q v) ∷ []) (next x)
+  refused : (x : Config) (c v w : ℕ) → IsAt p k x (line.Send c v) → Move p k seen before x (item.Channel (of_channel.SendClosed c v w) ∷ []) (next x)
   -- or the send waits at this line, at a place of its channel
-  offers : (i c p v : ℕ) → slice_get code i ≡ Some (Send c v) → Move code (running i) (Made (Offer c p v (record { channel = c; place = p }) 0) ∷ []) (waiting i (record { channel = c; place = p }))
+  offers : (x : Config) (c q v : ℕ) → IsAt p k x (line.Send c v) → Move p k seen before x (channel_note (Offer c q v (record { channel = c; place = q }) 0) ∷ []) (at_stage (Waiting (record { channel = c; place = q })) x)
   -- at a receive: an element is taken, or the channel is closed, and the next line comes
-  takes : (i c p v : ℕ) → slice_get code i ≡ Some (Receive c) → Move code (running i) (Made (Take c p v) ∷ []) (running (i + 1))
-  no_more : (i c x : ℕ) → slice_get code i ≡ Some (Receive c) → Move code (running i) (ReceiveClosed c x ∷ []) (running (i + 1))
+  takes : (x : Config) (c q v : ℕ) → IsAt p k x (line.Receive c) → Move p k seen before x (channel_note (Take c q v) ∷ []) (next x)
+  no_more : (x : Config) (c v : ℕ) → IsAt p k x (line.Receive c) → Move p k seen before x (item.Channel (of_channel.ReceiveClosed c v) ∷ []) (next x)
   -- or the receive waits at this line
-  awaits : (i c p : ℕ) → slice_get code i ≡ Some (Receive c) → Move code (running i) (Made (Await c p (record { channel = c; place = p }) 0) ∷ []) (waiting i (record { channel = c; place = p }))
-  -- at either: the channel has no place left, and no further line comes
-  send_spent : (i c v : ℕ) → slice_get code i ≡ Some (Send c v) → Move code (running i) (Spent c ∷ []) (record { line = i; stage = Failed })
-  receive_spent : (i c : ℕ) → slice_get code i ≡ Some (Receive c) → Move code (running i) (Spent c ∷ []) (record { line = i; stage = Failed })
+  awaits : (x : Config) (c q : ℕ) → IsAt p k x (line.Receive c) → Move p k seen before x (channel_note (Await c q (record { channel = c; place = q }) 0) ∷ []) (at_stage (Waiting (record { channel = c; place = q })) x)
+  -- at either: the channel has no place left, and the coroutine fails
+  send_spent : (x : Config) (c v : ℕ) → IsAt p k x (line.Send c v) → Move p k seen before x (item.Channel (of_channel.Spent c) ∷ []) (at_stage (Unwinding (Some k)) x)
+  receive_spent : (x : Config) (c : ℕ) → IsAt p k x (line.Receive c) → Move p k seen before x (item.Channel (of_channel.Spent c) ∷ []) (at_stage (Unwinding (Some k)) x)
   -- the wait ends with a value, as sent or as closed, and the next line comes
-  got : (i k v : ℕ) (w : WaitId) → Move code (waiting i w) (Made (Settle w (settled.Value k v)) ∷ []) (running (i + 1))
-  sent : (i k : ℕ) (w : WaitId) → Move code (waiting i w) (Made (Settle w (settled.Sent k)) ∷ []) (running (i + 1))
-  closed : (i k x : ℕ) (w : WaitId) → Move code (waiting i w) (Made (Settle w (settled.Closed k x)) ∷ []) (running (i + 1))
-  -- or it ends as cancelled, and no further line comes
-  cancelled : (i : ℕ) (w : WaitId) → Move code (waiting i w) (Made (Settle w settled.Cancelled) ∷ []) (record { line = i; stage = Cancelled })
+  got : (x : Config) (w : WaitId) (n v : ℕ) → x.stage ≡ Waiting w → Move p k seen before x (channel_note (Settle w (settled.Value n v)) ∷ []) (next x)
+  sent : (x : Config) (w : WaitId) (n : ℕ) → x.stage ≡ Waiting w → Move p k seen before x (channel_note (Settle w (settled.Sent n)) ∷ []) (next x)
+  closed : (x : Config) (w : WaitId) (n v : ℕ) → x.stage ≡ Waiting w → Move p k seen before x (channel_note (Settle w (settled.Closed n v)) ∷ []) (next x)
+  -- or it ends as cancelled, and the coroutine unwinds
+  cancelled : (x : Config) (w : WaitId) → x.stage ≡ Waiting w → Move p k seen before x (channel_note (Settle w settled.Cancelled) ∷ []) (at_stage (Unwinding None) x)
+  -- a yield goes on where the Job may run, and unwinds where it is Cancelling
+  yields : (x : Config) → IsAt p k x line.Yield → WasAt k seen before (λ tree. MayRun (tree k)) → Move p k seen before x [] (next x)
+  stops : (x : Config) → IsAt p k x line.Yield → WasAt k seen before (λ tree. IsCancelling (tree k)) → Move p k seen before x (saw k ∷ []) (at_stage (Unwinding None) x)
+  -- a launch attaches the Job of the next tag to the coroutine's own
+  launches : (x : Config) (block : ℕ) (lazy : Bool) (job : Option ℕ) (now : Bool) → IsAt p k x (line.Launch block lazy job) → Move p k seen before x (job_note (Attach k x.free (child_kind lazy) x.free now) ∷ []) (next (past_launch p block job x))
+  -- or none is attached, and the coroutine fails
+  launch_refused : (x : Config) (block : ℕ) (lazy : Bool) (job : Option ℕ) (note : Item) → IsAt p k x (line.Launch block lazy job) → IsRefusal note → Move p k seen before x (note ∷ []) (at_stage (Unwinding (Some k)) x)
+  -- after a start the Job is not New
+  starts : (x : Config) (job row : ℕ) (now : Bool) → IsAt p k x (line.Start job) → slice_get x.rows job ≡ Some row → WasAt k seen (before ++ start_of now row) (λ tree. state_of (tree row) ≢ Some New) → Move p k seen before x (start_of now row) (next x)
+  -- after a cancel the Job and all below it are Cancelling or ended
+  cancels : (x : Config) (job row : ℕ) (acts : List JobAct) → IsAt p k x (line.Cancel job) → slice_get x.rows job ≡ Some row → IsPassOf row reasons.Request acts → WasAt k seen (before ++ map job_note acts) (λ tree. IsAllCancelled tree row) → Move p k seen before x (map job_note acts) (next x)
+  fails : (x : Config) (v : ℕ) → IsAt p k x (line.Fail v) → Move p k seen before x (item.Job (of_job.Fail v) ∷ []) (at_stage (Unwinding (Some k)) x)
+  results : (x : Config) (v : ℕ) → IsAt p k x (line.SetResult v) → Move p k seen before x [] (next (with_result v x))
+  -- a coroutine that unwinds cancels its Job, if that is not cancelled, and all below it; before its body ends the Job is Cancelling
+  breaks : (x : Config) (failure : Option ℕ) (acts : List JobAct) (chain group : List Item) → x.stage ≡ Unwinding failure → IsBreak k failure acts → WasWhen k (job_acts_in before ++ acts) seen (λ tree. IsCancelling (tree k)) → WasAt k seen (before ++ group) (λ tree. IsChain (base_of p) tree k chain) → group ≡ map job_note acts ++ (job_note (EndBody k 0) ∷ chain) → Move p k seen before x group (at_stage Ended x)
+  -- no line is left
+  ends : (x : Config) (chain group : List Item) → x.stage ≡ Running → x.line ≡ length (code_of p k) → WasAt k seen (before ++ group) (λ tree. IsChain (base_of p) tree k chain) → group ≡ job_note (EndBody k x.result) ∷ chain → Move p k seen before x group (at_stage Ended x)
 
--- the notes are those of moves, one after the other, that lead from the first line to this configuration
-pub data Reaches (code : List Instruction) : List ChannelNote → Config → Type 0 where
-  begins : Reaches code [] (running 0)
-  goes_on : (notes group all : List ChannelNote) (x y : Config) → Reaches code notes x → Move code x group y → all ≡ notes ++ group → Reaches code all y
+-- ---- books
 
--- the book is one that this code may make
-abbrev pub Runs : List Instruction → List ChannelNote → Type 0
-Runs code book = (x : Config) × Reaches code book x
+-- the root attaches the Jobs of the spawned coroutines, in the order of their tags, up to one that is refused
+pub data Spawns (p : Program) : List ℕ → Config → List Item → Config → Type 0 where
+  done : (x : Config) → Spawns p [] x [] x
+  attaches : (block : ℕ) (blocks : List ℕ) (x y : Config) (now : Bool) (items all : List Item) → Spawns p blocks (past_launch p block None x) items y → all ≡ job_note (Attach 0 x.free (child_kind false) x.free now) ∷ items → Spawns p (block ∷ blocks) x all y
+  spawn_refused : (block : ℕ) (blocks : List ℕ) (x : Config) (note : Item) → IsRefusal note → Spawns p (block ∷ blocks) x (note ∷ []) (at_stage (Unwinding (Some 0)) x)
+
+-- how a book begins
+pub data Begins (p : Program) : ℕ → List Item → Config → Type 0 where
+  root : (items : List Item) (x : Config) → Spawns p p.spawns (fresh 0) items x → Begins p 0 items x
+  child : (k : ℕ) → k ≢ 0 → Begins p k [] (fresh k)
+
+-- the items are those of moves, one after the other, that lead from the first line to this configuration
+pub data Reaches (p : Program) (k : ℕ) (seen : List JobEntry) : List Item → Config → Type 0 where
+  begins : (items : List Item) (x : Config) → Begins p k items x → Reaches p k seen items x
+  goes_on : (before group all : List Item) (x y : Config) → Reaches p k seen before x → Move p k seen before x group y → all ≡ before ++ group → Reaches p k seen all y
+
+-- the book is one that this coroutine may make, in a run with this history of Jobs
+abbrev pub Runs : Program → ℕ → List JobEntry → List Item → Type 0
+Runs p k history book = (x : Config) × Reaches p k history book x

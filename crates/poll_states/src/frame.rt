@@ -1,14 +1,17 @@
 //! A coroutine between two moves, and what is left of a run.
 
-ghost use Rattle.std.specs.Prelude.{◌≡◌, ◌<◌, ◌++◌, ◌∷◌, [], length};
-ghost use Rattle.poll_states.specs.Books.{items_of, spare_of, acts_noted};
-ghost use Rattle.poll_states.specs.Frames.{is_past, is_at_end};
-ghost use Rattle.poll_states.specs.Steps.{line_after, turn_after};
-ghost use Rattle.poll_states.specs.declared.frame.Stage.TheVariants.{Running};
+ghost use Rattle.std.specs.Prelude.{◌≡◌, ◌+◌, ◌^◌, ◌<◌, ◌++◌, ◌∷◌, [], length, vec_len, vec_capacity};
+ghost use Rattle.note_book.specs.Books.{notes_of, spare_of};
+ghost use Rattle.note_book.specs.declared.book.Item.TheVariants as item;
+ghost use Rattle.poll_states.specs.declared.frame.Stage.TheVariants.{Fresh, Unwinding};
+ghost use Rattle.poll_states.specs.Runs.{at_stage, next, named, saw};
+ghost use Rattle.poll_states.specs.Frames.{config_of, items_of};
+ghost use Rattle.poll_states.specs.Steps.{after_step, turn_after};
 
-use crate::book::{Book, acts_among};
 use channel_model::ChannelNote;
-use co_base::{Tag, WaitId};
+use co_base::{Row, Tag, Value, WaitId};
+use job_model::{End, JobNote};
+use note_book::{Item, NoteBook, Notes};
 use std::alloc::Global;
 
 /// What a poll came to.
@@ -16,61 +19,89 @@ use std::alloc::Global;
 pub enum Turn {
     /// The body has ended.
     Ended,
-    /// A wait stands.
+    /// A wait stands, or the Job may not run yet.
     Waits,
-    /// A move was made.
+    /// Something was done.
     Ready,
 }
 
 /// How a coroutine goes on.
 #[derive(Clone, Copy, Debug, PartialEq, Eq)]
 pub enum Stage {
+    /// It has not run a line.
+    Fresh,
     /// It goes on with its line.
     Running,
     /// The call of its line waits.
     Waiting(WaitId),
-    /// A channel had no place left for its line, and no further line is run.
-    Failed,
-    /// The call of its line ended as cancelled, and no further line is run.
-    Cancelled,
+    /// Its body breaks off: by the failure of a row, or as cancelled.
+    Unwinding(Option<Row>),
+    /// Its body has ended.
+    Ended,
 }
 
-/// What a call came to: its note, and how the coroutine goes on, where it runs with its next line.
+impl Stage {
+    /// What a poll answers that left a coroutine so.
+    pub(crate) fn turn(self) -> Turn
+        ensures { result ≡ turn_after self }
+    {
+        match self {
+            Stage::Fresh | Stage::Running | Stage::Unwinding(_) => Turn::Ready,
+            Stage::Waiting(_) => Turn::Waits,
+            Stage::Ended => Turn::Ended,
+        }
+    }
+}
+
+/// What a call on a channel came to: its note, and how the coroutine goes on, where it runs with its next line.
 #[derive(Clone, Copy, Debug, PartialEq, Eq)]
 pub(crate) struct Step {
     pub(crate) note: ChannelNote,
     pub(crate) stage: Stage,
 }
 
-/// A coroutine between two moves: its tag, the line at which it is, numbered from 0 in its block, and its book.
+/// A coroutine between two moves.
 #[derive(Debug, Drop)]
 pub struct Frame {
     pub(crate) tag: Tag,
+    /// The line at which it is, numbered from 0 in its block.
     pub(crate) line: usize,
     pub(crate) stage: Stage,
-    pub(crate) book: Book,
+    /// What its Job will have as its result.
+    pub(crate) result: Value,
+    /// The rows of the Jobs that its lines named, in the order of the names.
+    pub(crate) rows: Vec<Row>,
+    /// The tag of what it launches next.
+    pub(crate) free: u32,
+    pub(crate) book: Notes,
 }
 
-/// What is left of a run: the books in order of their tags, and whether a coroutine is not at the end of its code.
+/// What is left of a run: the books in order of their tags, and how the root's Job ended, if it did.
 #[derive(Debug, Drop)]
 pub struct Done {
-    pub books: Vec<Book>,
-    pub idle: bool,
+    pub books: Vec<Notes>,
+    pub end: Option<End>,
 }
 
 impl Frame {
-    /// A coroutine that has not begun.
+    /// A coroutine that has not begun. What it launches has the tags after its own.
     pub fn new(alloc: Global, tag: Tag) -> Frame
         ensures tag { result.tag ≡ tag }
         ensures line { result.line ≡ 0 }
-        ensures stage { result.stage ≡ Running }
-        ensures book { items_of result.book ≡ [] }
+        ensures stage { result.stage ≡ Fresh }
+        ensures value { result.result ≡ 0 }
+        ensures rows { result.rows.items ≡ [] }
+        ensures free { result.free ≡ tag + 1 }
+        ensures book { notes_of result.book ≡ [] }
     {
         Frame {
             tag,
             line: 0,
-            stage: Stage::Running,
-            book: Book::new(alloc),
+            stage: Stage::Fresh,
+            result: 0,
+            rows: Vec::new(alloc),
+            free: u32::from(tag) + 1,
+            book: Notes::new(alloc),
         }
     }
 
@@ -81,71 +112,87 @@ impl Frame {
         self.tag
     }
 
+    /// Notes what a call came to, and goes on as it says. Takes no memory.
+    pub(crate) fn go_on(&mut self, step: Step)
+        requires book { 0 < spare_of self.old.book }
+        requires line { self.old.line < usize.MAX }
+        ensures tag { self.new.tag ≡ self.old.tag }
+        ensures config { config_of self.new ≡ after_step step.stage (config_of self.old) }
+        ensures items { items_of self.new ≡ items_of self.old ++ item.Channel step.note ∷ [] }
+    {
+        self.book.note(Item::Channel(step.note));
+        self.stage = step.stage;
+        match step.stage {
+            Stage::Running => self.line += 1,
+            Stage::Fresh | Stage::Waiting(_) | Stage::Unwinding(_) | Stage::Ended => {}
+        }
+    }
+
+    /// Goes on with the next line.
+    pub(crate) fn next_line(&mut self)
+        requires { self.old.line < usize.MAX }
+        ensures tag { self.new.tag ≡ self.old.tag }
+        ensures config { config_of self.new ≡ next (config_of self.old) }
+        ensures items { items_of self.new ≡ items_of self.old }
+    {
+        self.stage = Stage::Running;
+        self.line += 1;
+    }
+
+    /// Notes that the own Job was seen Cancelling, and unwinds. Takes no memory.
+    pub(crate) fn see_cancelling(&mut self)
+        requires { 0 < spare_of self.old.book }
+        ensures tag { self.new.tag ≡ self.old.tag }
+        ensures config { config_of self.new ≡ at_stage (Unwinding None) (config_of self.old) }
+        ensures items { items_of self.new ≡ items_of self.old ++ saw self.old.tag ∷ [] }
+    {
+        self.book.note(Item::Job(JobNote::Saw { row: self.tag }));
+        self.stage = Stage::Unwinding(None);
+    }
+
+    /// Breaks the body off by its own failure.
+    pub(crate) fn fail(&mut self)
+        ensures tag { self.new.tag ≡ self.old.tag }
+        ensures config { config_of self.new ≡ at_stage (Unwinding (Some self.old.tag)) (config_of self.old) }
+        ensures items { items_of self.new ≡ items_of self.old }
+    {
+        self.stage = Stage::Unwinding(Some(self.tag));
+    }
+
+    /// Gives the row of a launched Job its name, if it gets one, and passes over the tags of its instance. Takes no memory.
+    pub(crate) fn pass_launch(&mut self, job: Option<u16>, size: u16)
+        requires line { self.old.line < usize.MAX }
+        requires free { self.old.free + size < 2 ^ 16 }
+        requires room { vec_len self.old.rows < vec_capacity self.old.rows }
+        ensures tag { self.new.tag ≡ self.old.tag }
+        ensures config { config_of self.new ≡ next (record (config_of self.old) { rows = named job self.old.free self.old.rows.items; free = self.old.free + size }) }
+        ensures items { items_of self.new ≡ items_of self.old }
+    {
+        if job.is_some() {
+            self.rows.push_reserved(self.free as Row);
+        }
+        self.free += u32::from(size);
+        self.next_line();
+    }
+
     /// How many notes its book has.
     pub fn notes(&self) -> usize
-        ensures { result ≡ length (items_of self.now.book) }
+        ensures { result ≡ length (notes_of self.now.book) }
     {
         self.book.items().len()
     }
 
-    /// How many acts its book has.
-    pub fn acts(&self) -> u64
-        ensures { result ≡ length (acts_noted (items_of self.now.book)) }
-    {
-        acts_among(self.book.items()) as u64
-    }
-
-    /// Whether no further one of so many lines is run: none is left, or the coroutine failed or was cancelled.
-    pub fn has_ended(&self, lines: usize) -> bool
-        ensures { result ≡ is_past lines self.now.line self.now.stage }
-    {
-        match self.stage {
-            Stage::Running => self.line >= lines,
-            Stage::Waiting(_) => false,
-            Stage::Failed | Stage::Cancelled => true,
-        }
-    }
-
-    /// Whether the coroutine is at the end of its code, which has so many lines.
-    pub fn is_at_end(&self, lines: usize) -> bool
-        ensures { result ≡ is_at_end lines self.now.line self.now.stage }
-    {
-        match self.stage {
-            Stage::Running => lines <= self.line,
-            Stage::Waiting(_) | Stage::Failed | Stage::Cancelled => false,
-        }
-    }
-
-    /// Notes what a call came to, and goes on as it says. Takes no memory.
-    pub(crate) fn go_on(&mut self, step: Step) -> Turn
-        requires book { 0 < spare_of self.old.book }
-        requires line { self.old.line < usize.MAX }
-        ensures tag { self.new.tag ≡ self.old.tag }
-        ensures line { self.new.line ≡ line_after self.old.line step.stage }
-        ensures stage { self.new.stage ≡ step.stage }
-        ensures book { items_of self.new.book ≡ items_of self.old.book ++ step.note ∷ [] }
-        ensures turn { result ≡ turn_after step.stage }
-    {
-        self.book.note(step.note);
-        self.stage = step.stage;
-        match step.stage {
-            Stage::Running => {
-                self.line += 1;
-                Turn::Ready
-            }
-            Stage::Waiting(_) => Turn::Waits,
-            Stage::Failed | Stage::Cancelled => Turn::Ready,
-        }
-    }
-
     /// The book alone. Takes no memory.
-    pub fn into_book(self) -> Book
+    pub fn into_book(self) -> Notes
         ensures { result ≡ self.book }
     {
         let Frame {
             tag: _,
             line: _,
             stage: _,
+            result: _,
+            rows: _,
+            free: _,
             book,
         } = self;
         book

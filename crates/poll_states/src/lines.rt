@@ -3,9 +3,29 @@
 ghost use Rattle.std.specs.Prelude.{◌≡◌, ◌<◌};
 ghost use Rattle.script_reader.specs.Scripts.{program_of};
 ghost use Rattle.script_reader.specs.Programs.{code_of, coroutine_count};
+ghost use Rattle.script_reader.specs.declared.script.Instruction.TheVariants.{Fail, SetResult};
+ghost use Rattle.poll_states.specs.declared.frame.Stage.TheVariants.{Running};
+ghost use Rattle.poll_states.specs.Settings.{base_of};
+ghost use Rattle.poll_states.specs.Runs.{IsAt};
+ghost use Rattle.poll_states.specs.Frames.{config_of, StandsOn};
+ghost use Rattle.poll_states.specs.Steps.{StepAnswer};
 
-use co_base::Tag;
+use crate::calls::{receive, send};
+use crate::floors::Floors;
+use crate::frame::Frame;
+use crate::jobs::{cancel, end_body, launch, look_up, start};
+use channel_model::ChannelFloor;
+use co_base::{ChannelId, Gate, Memory, Tag, Value, Wakes};
+use job_model::{JobFloor, JobNote};
+use note_book::{Item, NoteBook};
 use script_reader::{Instruction, Script};
+
+/// The number of the first done channel.
+pub(crate) fn first_done(script: &Script) -> ChannelId
+    ensures { result ≡ base_of (program_of script.now) }
+{
+    script.channels().len() as ChannelId
+}
 
 /// The lines of the coroutine with this tag.
 pub fn code_of(script: &Script, tag: Tag) -> &[Instruction]
@@ -14,4 +34,103 @@ pub fn code_of(script: &Script, tag: Tag) -> &[Instruction]
 {
     let block = script.coroutine_of(tag) as usize;
     script.blocks()[block].code.as_slice()
+}
+
+/// Runs the line of a coroutine, or ends its body where none is left.
+pub(crate) fn run<C: ChannelFloor, J: JobFloor, W: Wakes, G: Gate>(
+    script: &Script,
+    frame: &mut Frame,
+    floors: &mut Floors<'_, C, J, W>,
+    gate: &G,
+) -> Result<(), Memory>
+    requires stands { StandsOn (program_of script.now) (C.view floors.old.channels.now) (J.view floors.old.jobs.now) frame.old }
+    requires running { frame.old.stage ≡ Running }
+    ensures came { StepAnswer (program_of script.now) (C.view floors.old.channels.now) (C.view floors.new.channels.now) (J.view floors.old.jobs.now) (J.view floors.new.jobs.now) frame.old frame.new result }
+    ensures channels_anchor { C.anchor floors.new.channels.now ≡ C.anchor floors.old.channels.now }
+    ensures jobs_anchor { J.anchor floors.new.jobs.now ≡ J.anchor floors.old.jobs.now }
+    ensures same_channels { floors.new.channels.ghost_name ≡ floors.old.channels.ghost_name }
+    ensures same_jobs { floors.new.jobs.ghost_name ≡ floors.old.jobs.ghost_name }
+    ensures same_wakes { floors.new.wakes.ghost_name ≡ floors.old.wakes.ghost_name }
+{
+    let code = code_of(script, frame.tag);
+    if frame.line >= code.len() {
+        return end_body(script, frame, floors);
+    }
+    run_line(script, frame, floors, gate, code[frame.line])
+}
+
+/// Runs this line.
+fn run_line<C: ChannelFloor, J: JobFloor, W: Wakes, G: Gate>(
+    script: &Script,
+    frame: &mut Frame,
+    floors: &mut Floors<'_, C, J, W>,
+    gate: &G,
+    line: Instruction,
+) -> Result<(), Memory>
+    requires stands { StandsOn (program_of script.now) (C.view floors.old.channels.now) (J.view floors.old.jobs.now) frame.old }
+    requires at { IsAt (program_of script.now) frame.old.tag (config_of frame.old) line }
+    ensures came { StepAnswer (program_of script.now) (C.view floors.old.channels.now) (C.view floors.new.channels.now) (J.view floors.old.jobs.now) (J.view floors.new.jobs.now) frame.old frame.new result }
+    ensures channels_anchor { C.anchor floors.new.channels.now ≡ C.anchor floors.old.channels.now }
+    ensures jobs_anchor { J.anchor floors.new.jobs.now ≡ J.anchor floors.old.jobs.now }
+    ensures same_channels { floors.new.channels.ghost_name ≡ floors.old.channels.ghost_name }
+    ensures same_jobs { floors.new.jobs.ghost_name ≡ floors.old.jobs.ghost_name }
+    ensures same_wakes { floors.new.wakes.ghost_name ≡ floors.old.wakes.ghost_name }
+{
+    match line {
+        Instruction::Send { c, value } => send(script, frame, floors, gate, c, value),
+        Instruction::Receive { c } => receive(script, frame, floors, gate, c),
+        Instruction::Yield => look_up(script, frame, floors, gate),
+        Instruction::Launch { block, lazy, job } => {
+            launch(script, frame, floors, gate, block, lazy, job)
+        }
+        Instruction::Start { job } => start(script, frame, floors, gate, job),
+        Instruction::Cancel { job } => cancel(script, frame, floors, gate, job),
+        Instruction::Fail { code } => fail(script, frame, floors, code),
+        Instruction::SetResult { value } => set_result(script, frame, floors, value),
+    }
+}
+
+/// Breaks the body off by its own failure.
+fn fail<C: ChannelFloor, J: JobFloor, W: Wakes>(
+    script: &Script,
+    frame: &mut Frame,
+    floors: &mut Floors<'_, C, J, W>,
+    code: Value,
+) -> Result<(), Memory>
+    requires stands { StandsOn (program_of script.now) (C.view floors.old.channels.now) (J.view floors.old.jobs.now) frame.old }
+    requires at { IsAt (program_of script.now) frame.old.tag (config_of frame.old) (Fail code) }
+    ensures came { StepAnswer (program_of script.now) (C.view floors.old.channels.now) (C.view floors.new.channels.now) (J.view floors.old.jobs.now) (J.view floors.new.jobs.now) frame.old frame.new result }
+    ensures channels_anchor { C.anchor floors.new.channels.now ≡ C.anchor floors.old.channels.now }
+    ensures jobs_anchor { J.anchor floors.new.jobs.now ≡ J.anchor floors.old.jobs.now }
+    ensures same_channels { floors.new.channels.ghost_name ≡ floors.old.channels.ghost_name }
+    ensures same_jobs { floors.new.jobs.ghost_name ≡ floors.old.jobs.ghost_name }
+    ensures same_wakes { floors.new.wakes.ghost_name ≡ floors.old.wakes.ghost_name }
+{
+    if let Err(memory) = frame.book.room(1) {
+        return Err(memory);
+    }
+    frame.book.note(Item::Job(JobNote::Fail { code }));
+    frame.fail();
+    Ok(())
+}
+
+/// Sets what the Job will have as its result.
+fn set_result<C: ChannelFloor, J: JobFloor, W: Wakes>(
+    script: &Script,
+    frame: &mut Frame,
+    floors: &mut Floors<'_, C, J, W>,
+    value: Value,
+) -> Result<(), Memory>
+    requires stands { StandsOn (program_of script.now) (C.view floors.old.channels.now) (J.view floors.old.jobs.now) frame.old }
+    requires at { IsAt (program_of script.now) frame.old.tag (config_of frame.old) (SetResult value) }
+    ensures came { StepAnswer (program_of script.now) (C.view floors.old.channels.now) (C.view floors.new.channels.now) (J.view floors.old.jobs.now) (J.view floors.new.jobs.now) frame.old frame.new result }
+    ensures channels_anchor { C.anchor floors.new.channels.now ≡ C.anchor floors.old.channels.now }
+    ensures jobs_anchor { J.anchor floors.new.jobs.now ≡ J.anchor floors.old.jobs.now }
+    ensures same_channels { floors.new.channels.ghost_name ≡ floors.old.channels.ghost_name }
+    ensures same_jobs { floors.new.jobs.ghost_name ≡ floors.old.jobs.ghost_name }
+    ensures same_wakes { floors.new.wakes.ghost_name ≡ floors.old.wakes.ghost_name }
+{
+    frame.result = value;
+    frame.next_line();
+    Ok(())
 }

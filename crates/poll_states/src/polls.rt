@@ -1,78 +1,189 @@
-//! One move of one coroutine.
+//! One line of one coroutine.
 
-ghost use Rattle.std.specs.Prelude.{◌≡◌, ◌<◌, IfOk, OnErr};
+ghost use Rattle.std.specs.Prelude.{◌≡◌, IfOk, OnOk};
 ghost use Rattle.script_reader.specs.Scripts.{program_of};
-ghost use Rattle.script_reader.specs.Programs.{code_of};
-ghost use Rattle.poll_states.specs.Books.{items_of, spare_of};
-ghost use Rattle.poll_states.specs.Frames.{StandsOn};
-ghost use Rattle.poll_states.specs.Polls.{Polled, TurnAnswer};
-ghost use Rattle.poll_states.specs.Steps.{Turned};
+ghost use Rattle.poll_states.specs.Frames.{items_of, moves_left, StandsOn};
+ghost use Rattle.poll_states.specs.declared.frame.Stage.TheVariants.{Fresh, Running, Waiting, Unwinding};
+ghost use Rattle.poll_states.specs.Steps.{TurnedAnswer};
+ghost use Rattle.poll_states.specs.Polls.{NotedSome, Polled, TurnAnswer};
 
-use crate::calls::{call, resume};
+use crate::calls::{resume, room};
 use crate::floors::Floors;
 use crate::frame::{Frame, Stage, Turn};
-use crate::lines::code_of;
+use crate::jobs::{OwnState, break_off, own_state};
+use crate::lines::run;
 use channel_model::ChannelFloor;
-use co_base::{Gate, Memory, Wakes};
+use co_base::{Gate, Memory, Row, WaitId, Wakes};
+use job_model::JobFloor;
+use note_book::NoteBook;
 use script_reader::Script;
 
-/// Makes at most one move of a coroutine: settles its wait where it was resolved, or runs its line.
+/// Runs at most one line of a coroutine: settles its wait where it was resolved, runs its line, or ends its body.
 ///
-/// On want of memory nothing was done. The gate is passed at the points 1 (the poll begins), 2 and 3 (before the
-/// line's call and after it), 4 and 5 (a wait was seen resolved, and before it is settled) and 8 (the poll ends).
-pub fn poll<C: ChannelFloor, W: Wakes, G: Gate>(
+/// On want of memory the entries made so far stand and are noted, and the frame may only be turned into its book or dropped. The gate is
+/// passed at the points 1 (the poll begins), 2 and 3 (before the line's first call and after its last), 4 and 5 (a wait was seen resolved, and
+/// before it is settled), 6 and 7 (before and after the pass of a `cancel` line) and 8 (the poll ends).
+pub fn poll<C: ChannelFloor, J: JobFloor, W: Wakes, G: Gate>(
     script: &Script,
     frame: &mut Frame,
-    floors: &mut Floors<'_, C, W>,
+    floors: &mut Floors<'_, C, J, W>,
     gate: &G,
 ) -> Result<Turn, Memory>
-    requires { StandsOn (program_of script.now) (C.view floors.old.channels.now) frame.old }
-    ensures stands { StandsOn (program_of script.now) (C.view floors.new.channels.now) frame.new }
-    ensures polled { Polled (program_of script.now) (C.view floors.old.channels.now) (C.view floors.new.channels.now) frame.old frame.new }
-    ensures turn { IfOk result (λ turn. TurnAnswer (code_of (program_of script.now) frame.old.tag) (C.view floors.old.channels.now) (C.view floors.new.channels.now) frame.old frame.new turn) }
-    ensures memory { OnErr result (items_of frame.new.book ≡ items_of frame.old.book) }
-    ensures quiet { items_of frame.new.book ≡ items_of frame.old.book → floors.new.wakes.now ≡ floors.old.wakes.now }
-    ensures anchor { C.anchor floors.new.channels.now ≡ C.anchor floors.old.channels.now }
+    requires { StandsOn (program_of script.now) (C.view floors.old.channels.now) (J.view floors.old.jobs.now) frame.old }
+    ensures noted { NotedSome frame.old.tag (C.view floors.old.channels.now) (C.view floors.new.channels.now) (J.view floors.old.jobs.now) (J.view floors.new.jobs.now) (items_of frame.old) (items_of frame.new) }
+    ensures stands { OnOk result (StandsOn (program_of script.now) (C.view floors.new.channels.now) (J.view floors.new.jobs.now) frame.new) }
+    ensures polled { OnOk result (Polled (program_of script.now) (C.view floors.old.channels.now) (C.view floors.new.channels.now) (J.view floors.old.jobs.now) (J.view floors.new.jobs.now) frame.old frame.new) }
+    ensures turn { IfOk result (λ turn. TurnAnswer (program_of script.now) (C.view floors.old.channels.now) (C.view floors.new.channels.now) (J.view floors.old.jobs.now) (J.view floors.new.jobs.now) frame.old frame.new turn) }
+    ensures quiet { OnOk result (moves_left (program_of script.now) frame.new ≡ moves_left (program_of script.now) frame.old → floors.new.wakes.now ≡ floors.old.wakes.now) }
+    ensures channels_anchor { C.anchor floors.new.channels.now ≡ C.anchor floors.old.channels.now }
+    ensures jobs_anchor { J.anchor floors.new.jobs.now ≡ J.anchor floors.old.jobs.now }
     ensures same_channels { floors.new.channels.ghost_name ≡ floors.old.channels.ghost_name }
+    ensures same_jobs { floors.new.jobs.ghost_name ≡ floors.old.jobs.ghost_name }
     ensures same_wakes { floors.new.wakes.ghost_name ≡ floors.old.wakes.ghost_name }
 {
     gate.pass(frame.tag, 1);
-    frame.book.room(1)?;
-    floors.channels.room(1)?;
-    let turn = turn_of(script, frame, floors, gate);
-    gate.pass(frame.tag, 8);
-    Ok(turn)
+    match turn_of(script, frame, floors, gate) {
+        Ok(turn) => {
+            gate.pass(frame.tag, 8);
+            Ok(turn)
+        }
+        Err(memory) => Err(memory),
+    }
 }
 
-/// A poll for which there is memory.
-fn turn_of<C: ChannelFloor, W: Wakes, G: Gate>(
+/// A poll between its first gate and its last.
+fn turn_of<C: ChannelFloor, J: JobFloor, W: Wakes, G: Gate>(
     script: &Script,
     frame: &mut Frame,
-    floors: &mut Floors<'_, C, W>,
+    floors: &mut Floors<'_, C, J, W>,
     gate: &G,
-) -> Turn
-    requires stands { StandsOn (program_of script.now) (C.view floors.old.channels.now) frame.old }
-    requires book { 0 < spare_of frame.old.book }
-    requires room { 0 < (C.view floors.old.channels.now).spare }
-    ensures turned { Turned (program_of script.now) (C.view floors.old.channels.now) (C.view floors.new.channels.now) frame.old frame.new result }
-    ensures quiet { items_of frame.new.book ≡ items_of frame.old.book → floors.new.wakes.now ≡ floors.old.wakes.now }
-    ensures anchor { C.anchor floors.new.channels.now ≡ C.anchor floors.old.channels.now }
+) -> Result<Turn, Memory>
+    requires { StandsOn (program_of script.now) (C.view floors.old.channels.now) (J.view floors.old.jobs.now) frame.old }
+    ensures turned { TurnedAnswer (program_of script.now) (C.view floors.old.channels.now) (C.view floors.new.channels.now) (J.view floors.old.jobs.now) (J.view floors.new.jobs.now) frame.old frame.new result }
+    ensures quiet { OnOk result (moves_left (program_of script.now) frame.new ≡ moves_left (program_of script.now) frame.old → floors.new.wakes.now ≡ floors.old.wakes.now) }
+    ensures channels_anchor { C.anchor floors.new.channels.now ≡ C.anchor floors.old.channels.now }
+    ensures jobs_anchor { J.anchor floors.new.jobs.now ≡ J.anchor floors.old.jobs.now }
     ensures same_channels { floors.new.channels.ghost_name ≡ floors.old.channels.ghost_name }
+    ensures same_jobs { floors.new.jobs.ghost_name ≡ floors.old.jobs.ghost_name }
     ensures same_wakes { floors.new.wakes.ghost_name ≡ floors.old.wakes.ghost_name }
 {
-    let code = code_of(script, frame.tag);
     match frame.stage {
-        Stage::Running => {
-            if frame.line >= code.len() {
-                return Turn::Ended;
-            }
-            let step = call(frame.tag, code[frame.line], floors, gate);
-            frame.go_on(step)
+        Stage::Fresh => first_turn(script, frame, floors, gate),
+        Stage::Running => line_turn(script, frame, floors, gate),
+        Stage::Waiting(w) => wait_turn(script, frame, floors, gate, w),
+        Stage::Unwinding(failure) => last_turn(script, frame, floors, failure),
+        Stage::Ended => Ok(Turn::Ended),
+    }
+}
+
+/// Begins, where the own Job may run, with the first line.
+fn first_turn<C: ChannelFloor, J: JobFloor, W: Wakes, G: Gate>(
+    script: &Script,
+    frame: &mut Frame,
+    floors: &mut Floors<'_, C, J, W>,
+    gate: &G,
+) -> Result<Turn, Memory>
+    requires stands { StandsOn (program_of script.now) (C.view floors.old.channels.now) (J.view floors.old.jobs.now) frame.old }
+    requires fresh { frame.old.stage ≡ Fresh }
+    ensures turned { TurnedAnswer (program_of script.now) (C.view floors.old.channels.now) (C.view floors.new.channels.now) (J.view floors.old.jobs.now) (J.view floors.new.jobs.now) frame.old frame.new result }
+    ensures quiet { OnOk result (moves_left (program_of script.now) frame.new ≡ moves_left (program_of script.now) frame.old → floors.new.wakes.now ≡ floors.old.wakes.now) }
+    ensures channels_anchor { C.anchor floors.new.channels.now ≡ C.anchor floors.old.channels.now }
+    ensures jobs_anchor { J.anchor floors.new.jobs.now ≡ J.anchor floors.old.jobs.now }
+    ensures same_channels { floors.new.channels.ghost_name ≡ floors.old.channels.ghost_name }
+    ensures same_jobs { floors.new.jobs.ghost_name ≡ floors.old.jobs.ghost_name }
+    ensures same_wakes { floors.new.wakes.ghost_name ≡ floors.old.wakes.ghost_name }
+{
+    if let Err(memory) = frame.book.room(1) {
+        return Err(memory);
+    }
+    match own_state(frame.tag, &mut *floors.jobs) {
+        OwnState::NotStarted => Ok(Turn::Waits),
+        OwnState::Cancelling => {
+            frame.see_cancelling();
+            Ok(Turn::Ready)
         }
-        Stage::Waiting(w) => match resume(frame.tag, w, floors, gate) {
-            Some(step) => frame.go_on(step),
-            None => Turn::Waits,
-        },
-        Stage::Failed | Stage::Cancelled => Turn::Ended,
+        OwnState::MayRun => {
+            frame.stage = Stage::Running;
+            match run(script, frame, floors, gate) {
+                Ok(()) => Ok(frame.stage.turn()),
+                Err(memory) => Err(memory),
+            }
+        }
+    }
+}
+
+/// Runs a line, or ends the body.
+fn line_turn<C: ChannelFloor, J: JobFloor, W: Wakes, G: Gate>(
+    script: &Script,
+    frame: &mut Frame,
+    floors: &mut Floors<'_, C, J, W>,
+    gate: &G,
+) -> Result<Turn, Memory>
+    requires stands { StandsOn (program_of script.now) (C.view floors.old.channels.now) (J.view floors.old.jobs.now) frame.old }
+    requires running { frame.old.stage ≡ Running }
+    ensures turned { TurnedAnswer (program_of script.now) (C.view floors.old.channels.now) (C.view floors.new.channels.now) (J.view floors.old.jobs.now) (J.view floors.new.jobs.now) frame.old frame.new result }
+    ensures quiet { OnOk result (moves_left (program_of script.now) frame.new ≡ moves_left (program_of script.now) frame.old → floors.new.wakes.now ≡ floors.old.wakes.now) }
+    ensures channels_anchor { C.anchor floors.new.channels.now ≡ C.anchor floors.old.channels.now }
+    ensures jobs_anchor { J.anchor floors.new.jobs.now ≡ J.anchor floors.old.jobs.now }
+    ensures same_channels { floors.new.channels.ghost_name ≡ floors.old.channels.ghost_name }
+    ensures same_jobs { floors.new.jobs.ghost_name ≡ floors.old.jobs.ghost_name }
+    ensures same_wakes { floors.new.wakes.ghost_name ≡ floors.old.wakes.ghost_name }
+{
+    match run(script, frame, floors, gate) {
+        Ok(()) => Ok(frame.stage.turn()),
+        Err(memory) => Err(memory),
+    }
+}
+
+/// Ends the wait, where it was resolved.
+fn wait_turn<C: ChannelFloor, J: JobFloor, W: Wakes, G: Gate>(
+    script: &Script,
+    frame: &mut Frame,
+    floors: &mut Floors<'_, C, J, W>,
+    gate: &G,
+    w: WaitId,
+) -> Result<Turn, Memory>
+    requires stands { StandsOn (program_of script.now) (C.view floors.old.channels.now) (J.view floors.old.jobs.now) frame.old }
+    requires waits { frame.old.stage ≡ Waiting w }
+    ensures turned { TurnedAnswer (program_of script.now) (C.view floors.old.channels.now) (C.view floors.new.channels.now) (J.view floors.old.jobs.now) (J.view floors.new.jobs.now) frame.old frame.new result }
+    ensures quiet { OnOk result (moves_left (program_of script.now) frame.new ≡ moves_left (program_of script.now) frame.old → floors.new.wakes.now ≡ floors.old.wakes.now) }
+    ensures channels_anchor { C.anchor floors.new.channels.now ≡ C.anchor floors.old.channels.now }
+    ensures jobs_anchor { J.anchor floors.new.jobs.now ≡ J.anchor floors.old.jobs.now }
+    ensures same_channels { floors.new.channels.ghost_name ≡ floors.old.channels.ghost_name }
+    ensures same_jobs { floors.new.jobs.ghost_name ≡ floors.old.jobs.ghost_name }
+    ensures same_wakes { floors.new.wakes.ghost_name ≡ floors.old.wakes.ghost_name }
+{
+    if let Err(memory) = room(&mut frame.book, &mut *floors.channels) {
+        return Err(memory);
+    }
+    match resume(frame.tag, w, floors, gate) {
+        Some(step) => {
+            frame.go_on(step);
+            Ok(Turn::Ready)
+        }
+        None => Ok(Turn::Waits),
+    }
+}
+
+/// Breaks the body off.
+fn last_turn<C: ChannelFloor, J: JobFloor, W: Wakes>(
+    script: &Script,
+    frame: &mut Frame,
+    floors: &mut Floors<'_, C, J, W>,
+    failure: Option<Row>,
+) -> Result<Turn, Memory>
+    requires stands { StandsOn (program_of script.now) (C.view floors.old.channels.now) (J.view floors.old.jobs.now) frame.old }
+    requires unwinds { frame.old.stage ≡ Unwinding failure }
+    ensures turned { TurnedAnswer (program_of script.now) (C.view floors.old.channels.now) (C.view floors.new.channels.now) (J.view floors.old.jobs.now) (J.view floors.new.jobs.now) frame.old frame.new result }
+    ensures quiet { OnOk result (moves_left (program_of script.now) frame.new ≡ moves_left (program_of script.now) frame.old → floors.new.wakes.now ≡ floors.old.wakes.now) }
+    ensures channels_anchor { C.anchor floors.new.channels.now ≡ C.anchor floors.old.channels.now }
+    ensures jobs_anchor { J.anchor floors.new.jobs.now ≡ J.anchor floors.old.jobs.now }
+    ensures same_channels { floors.new.channels.ghost_name ≡ floors.old.channels.ghost_name }
+    ensures same_jobs { floors.new.jobs.ghost_name ≡ floors.old.jobs.ghost_name }
+    ensures same_wakes { floors.new.wakes.ghost_name ≡ floors.old.wakes.ghost_name }
+{
+    match break_off(script, frame, floors, failure) {
+        Ok(()) => Ok(frame.stage.turn()),
+        Err(memory) => Err(memory),
     }
 }

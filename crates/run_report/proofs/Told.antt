@@ -1,6 +1,6 @@
 -- What an act tells, joined with what those before and after it tell.
 use Rattle.std.proofs.Common.{◌≡◌, ℕ, Bool, true, false, ◌&&◌, ◌||◌, List, ◌∷◌, Option, Some, None, if◌then◌else◌, refl, sym, ap, ◌∙◌, inl, inr, arith}
-use Rattle.std.proofs.Math.Bool.{or-false}
+use Rattle.std.proofs.Math.Bool.{or-false, or_assoc}
 use Rattle.std.proofs.lemmas.Bool.Decides.{eqb_tells, nat_tests}
 use Rattle.channel_model.specs.declared.acts.Act.{Act}
 use Rattle.channel_model.specs.declared.acts.Act.TheVariants.{Hand, Put, Offer, Await, Take, Admit, Drop, Close, Void, Drain, WakeClosed, Withdraw, Settle}
@@ -19,10 +19,6 @@ or_else-none (Some x) = refl
 or_else-assoc : {A : Type 0} (x y z : Option A) → or_else (or_else x y) z ≡ or_else x (or_else y z)
 or_else-assoc None y z = refl
 or_else-assoc (Some x) y z = refl
-
-or-assoc : (x y z : Bool) → ((x || y) || z) ≡ (x || (y || z))
-or-assoc true y z = refl
-or-assoc false y z = refl
 
 pub joined-nothing : (x : Facts) → joined x nothing ≡ x
 joined-nothing x = λ i. record {
@@ -44,14 +40,14 @@ joined-assoc x y z = λ i. record {
   element = or_else-assoc x.element y.element z.element i;
   wait = or_else-assoc x.wait y.wait z.wait i;
   clause = or_else-assoc x.clause y.clause z.clause i;
-  handed = or-assoc x.handed y.handed z.handed i;
-  taken = or-assoc x.taken y.taken z.taken i;
-  admitted = or-assoc x.admitted y.admitted z.admitted i;
-  dropped = or-assoc x.dropped y.dropped z.dropped i;
-  drained = or-assoc x.drained y.drained z.drained i;
-  received = or-assoc x.received y.received z.received i;
-  gave_up = or-assoc x.gave_up y.gave_up z.gave_up i;
-  withdrawn = or-assoc x.withdrawn y.withdrawn z.withdrawn i;
+  handed = or_assoc x.handed y.handed z.handed i;
+  taken = or_assoc x.taken y.taken z.taken i;
+  admitted = or_assoc x.admitted y.admitted z.admitted i;
+  dropped = or_assoc x.dropped y.dropped z.dropped i;
+  drained = or_assoc x.drained y.drained z.drained i;
+  received = or_assoc x.received y.received z.received i;
+  gave_up = or_assoc x.gave_up y.gave_up z.gave_up i;
+  withdrawn = or_assoc x.withdrawn y.withdrawn z.withdrawn i;
 }
 
 -- ---- one act

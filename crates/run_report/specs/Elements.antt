@@ -4,20 +4,21 @@ use Rattle.std.specs.List.{flat_map, range_with_len}
 use Rattle.std.specs.Fmt.{decimal}
 use lib.Chars.{codes}
 use Rattle.channel_model.specs.declared.acts.Act.{Act}
-use Rattle.channel_model.specs.declared.acts.ChannelNote.{ChannelNote}
 use Rattle.channel_model.specs.declared.acts.Fate.{Fate}
 use Rattle.channel_model.specs.declared.acts.Fate.TheVariants as fate
 use Rattle.channel_model.specs.Fates.{element_at, fate_at}
-use Rattle.script_reader.specs.Programs.{Declared, Program}
-use Rattle.poll_states.specs.Books.{acts_noted}
+use Rattle.note_book.specs.declared.book.Item.{Item}
+use Rattle.note_book.specs.Items.{channel_acts_in}
+use Rattle.script_reader.specs.Programs.{Declared, Program, coroutine_count}
 use Rattle.run_report.specs.Texts.{books_text}
+use Rattle.run_report.specs.Jobs.{job_acts_noted, jobs_text}
 
 -- ---- the elements
 
--- the acts noted in all books
-abbrev pub acts_in : List (List ChannelNote) → List Act
-acts_in [] = []
-acts_in (book ∷ books) = acts_noted book ++ acts_in books
+-- the acts on channels that are noted in all books
+abbrev pub channel_acts_noted : List (List Item) → List Act
+channel_acts_noted [] = []
+channel_acts_noted (book ∷ books) = channel_acts_in book ++ channel_acts_noted books
 
 -- an element with its fate
 abbrev pub with_fate : Option ℕ → Fate → Option (ℕ × Fate)
@@ -58,6 +59,11 @@ elements_text elements c (channel ∷ channels) = places_text elements c channel
 
 -- ---- the report
 
--- the lines of the books, and then those of the elements
-abbrev pub report_text : Program → List (List ChannelNote) → List ℕ
-report_text program books = books_text program.channels 0 books ++ elements_text (element_of (acts_in books)) 0 program.channels
+-- the lines of the books, then those of the Jobs, then those of the elements
+abbrev pub report_of : List Declared → ℕ → List (List Item) → List ℕ
+report_of channels coroutines books =
+    books_text channels 0 books ++ jobs_text coroutines (job_acts_noted books) ++ elements_text (element_of (channel_acts_noted books)) 0 channels
+
+-- the report of a run of this program with these books
+abbrev pub report_text : Program → List (List Item) → List ℕ
+report_text program books = report_of program.channels (coroutine_count program) books

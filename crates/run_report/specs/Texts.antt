@@ -11,7 +11,10 @@ use Rattle.channel_model.specs.declared.acts.Settled.{Settled}
 use Rattle.channel_model.specs.declared.acts.Settled.TheVariants as settled
 use Rattle.channel_model.specs.declared.acts.Why.{Why}
 use Rattle.channel_model.specs.declared.acts.Why.TheVariants as why
+use Rattle.note_book.specs.declared.book.Item.{Item}
+use Rattle.note_book.specs.declared.book.Item.TheVariants as item
 use Rattle.script_reader.specs.Programs.{Declared}
+use Rattle.run_report.specs.JobTexts.{job_note_text}
 
 -- ---- the parts of a line
 
@@ -63,29 +66,34 @@ act_text channels (WakeClosed c place) = codes "wakeclosed " ++ place_text chann
 act_text channels (Withdraw w why) = codes "withdraw " ++ wait_text channels w ++ codes " " ++ why_text why
 act_text channels (Settle w outcome) = codes "settle " ++ wait_text channels w ++ codes " " ++ settled_text outcome
 
--- an item: an act, or the answer of a call that made none
-abbrev pub item_text : List Declared → ChannelNote → List ℕ
-item_text channels (note.Made act) = act_text channels act
-item_text channels (note.SendClosed c value v) = codes "sendclosed " ++ channel_text channels c ++ codes " " ++ decimal value ++ codes " " ++ decimal v
-item_text channels (note.TrySendClosed c value v) = codes "trysendclosed " ++ channel_text channels c ++ codes " " ++ decimal value ++ codes " " ++ decimal v
-item_text channels (note.ReceiveClosed c v) = codes "receiveclosed " ++ channel_text channels c ++ codes " " ++ decimal v
-item_text channels (note.TryReceiveClosed c v) = codes "tryreceiveclosed " ++ channel_text channels c ++ codes " " ++ decimal v
-item_text channels (note.AlreadyClosed c v) = codes "alreadyclosed " ++ channel_text channels c ++ codes " " ++ decimal v
-item_text channels (note.Full c value) = codes "full " ++ channel_text channels c ++ codes " " ++ decimal value
-item_text channels (note.Empty c) = codes "empty " ++ channel_text channels c
-item_text channels (note.Spent c) = codes "spent " ++ channel_text channels c
-item_text channels (note.Partner c place) = codes "partner " ++ place_text channels c place
-item_text channels (note.MainResolved w) = codes "resolved " ++ wait_text channels w
-item_text channels (note.Late w) = codes "late " ++ wait_text channels w
+-- a note on a channel: an act, or the answer of a call that made none
+abbrev pub channel_note_text : List Declared → ChannelNote → List ℕ
+channel_note_text channels (note.Made act) = act_text channels act
+channel_note_text channels (note.SendClosed c value v) = codes "sendclosed " ++ channel_text channels c ++ codes " " ++ decimal value ++ codes " " ++ decimal v
+channel_note_text channels (note.TrySendClosed c value v) = codes "trysendclosed " ++ channel_text channels c ++ codes " " ++ decimal value ++ codes " " ++ decimal v
+channel_note_text channels (note.ReceiveClosed c v) = codes "receiveclosed " ++ channel_text channels c ++ codes " " ++ decimal v
+channel_note_text channels (note.TryReceiveClosed c v) = codes "tryreceiveclosed " ++ channel_text channels c ++ codes " " ++ decimal v
+channel_note_text channels (note.AlreadyClosed c v) = codes "alreadyclosed " ++ channel_text channels c ++ codes " " ++ decimal v
+channel_note_text channels (note.Full c value) = codes "full " ++ channel_text channels c ++ codes " " ++ decimal value
+channel_note_text channels (note.Empty c) = codes "empty " ++ channel_text channels c
+channel_note_text channels (note.Spent c) = codes "spent " ++ channel_text channels c
+channel_note_text channels (note.Partner c place) = codes "partner " ++ place_text channels c place
+channel_note_text channels (note.MainResolved w) = codes "resolved " ++ wait_text channels w
+channel_note_text channels (note.Late w) = codes "late " ++ wait_text channels w
+
+-- an item: a note on a channel or on a Job
+abbrev pub item_text : List Declared → Item → List ℕ
+item_text channels (item.Channel of_channel) = channel_note_text channels of_channel
+item_text channels (item.Job of_job) = job_note_text of_job
 
 -- ---- the lines of the books
 
 -- the lines of the coroutine with this tag, one for each item
-abbrev pub book_text : List Declared → ℕ → List ChannelNote → List ℕ
+abbrev pub book_text : List Declared → ℕ → List Item → List ℕ
 book_text channels tag [] = []
-book_text channels tag (item ∷ items) = decimal tag ++ codes " " ++ item_text channels item ++ codes "\n" ++ book_text channels tag items
+book_text channels tag (i ∷ items) = decimal tag ++ codes " " ++ item_text channels i ++ codes "\n" ++ book_text channels tag items
 
 -- the lines of all coroutines from this tag on
-abbrev pub books_text : List Declared → ℕ → List (List ChannelNote) → List ℕ
+abbrev pub books_text : List Declared → ℕ → List (List Item) → List ℕ
 books_text channels tag [] = []
 books_text channels tag (book ∷ books) = book_text channels tag book ++ books_text channels (tag + 1) books

@@ -2,11 +2,11 @@
 
 ghost use Rattle.std.specs.Prelude.{◌≡◌, ◌++◌, map, string_bytes, OnOk};
 ghost use Rattle.script_reader.specs.Programs.{declared_of};
-ghost use Rattle.poll_states.specs.Books.{items_of};
+ghost use Rattle.note_book.specs.Books.{notes_of};
 ghost use Rattle.run_report.specs.Texts.{book_text, books_text};
 
 use crate::items::ShownItem;
-use channel_model::ChannelNote;
+use note_book::Item;
 use poll_states::Book;
 use script_reader::Channel;
 use std::alloc::AllocError;
@@ -17,7 +17,7 @@ pub(crate) fn push_books(
     channels: &[Channel],
     books: &[Book],
 ) -> Result<(), AllocError>
-    ensures { OnOk result (string_bytes out.new ≡ string_bytes out.old ++ books_text (map declared_of channels.now) 0 (map items_of books.now)) }
+    ensures { OnOk result (string_bytes out.new ≡ string_bytes out.old ++ books_text (map declared_of channels.now) 0 (map notes_of books.now)) }
 {
     let mut rest = books;
     let mut tag = 0usize;
@@ -34,7 +34,7 @@ fn push_book(
     out: &mut String,
     channels: &[Channel],
     tag: usize,
-    book: &[ChannelNote],
+    book: &[Item],
 ) -> Result<(), AllocError>
     ensures { OnOk result (string_bytes out.new ≡ string_bytes out.old ++ book_text (map declared_of channels.now) tag book.now) }
 {

@@ -2,18 +2,20 @@
 
 ghost use Rattle.std.specs.Prelude.{map, Some};
 ghost use Rattle.script_reader.specs.Programs.{declared_of};
-ghost use Rattle.run_report.specs.Texts.{act_text, item_text};
+ghost use Rattle.run_report.specs.Texts.{act_text, channel_note_text, item_text};
 
+use crate::job_items::ShownJobNote;
 use crate::shown::{ShownChannel, ShownPlace, ShownSettled, ShownWait, ShownWhy};
 use channel_model::{Act, ChannelNote};
+use note_book::Item;
 use script_reader::Channel;
 use std::fmt;
 
-/// An act.
+/// An act on a channel.
 #[derive(Clone, Copy)]
-pub(crate) struct ShownAct<'a> {
-    pub(crate) channels: &'a [Channel],
-    pub(crate) act: Act,
+struct ShownAct<'a> {
+    channels: &'a [Channel],
+    act: Act,
 }
 
 impl fmt::Display for ShownAct<'_> {
@@ -93,19 +95,19 @@ impl fmt::Display for ShownAct<'_> {
     }
 }
 
-/// An item.
+/// A note on a channel.
 #[derive(Clone, Copy)]
-pub(crate) struct ShownItem<'a> {
-    pub(crate) channels: &'a [Channel],
-    pub(crate) item: ChannelNote,
+struct ShownNote<'a> {
+    channels: &'a [Channel],
+    note: ChannelNote,
 }
 
-impl fmt::Display for ShownItem<'_> {
-    ghost output = { λ s. Some (item_text (map declared_of s.channels.now) s.item) };
+impl fmt::Display for ShownNote<'_> {
+    ghost output = { λ s. Some (channel_note_text (map declared_of s.channels.now) s.note) };
 
     fn fmt<W: fmt::Write>(&self, f: &mut fmt::Formatter<W>) -> fmt::Result {
         let channels = self.channels;
-        match self.item {
+        match self.note {
             ChannelNote::Made(act) => {
                 let act = ShownAct { channels, act };
                 write!(f, "{act}")
@@ -153,6 +155,31 @@ impl fmt::Display for ShownItem<'_> {
             ChannelNote::Late { w } => {
                 let w = ShownWait { channels, w };
                 write!(f, "late {w}")
+            }
+        }
+    }
+}
+
+/// An item.
+#[derive(Clone, Copy)]
+pub(crate) struct ShownItem<'a> {
+    pub(crate) channels: &'a [Channel],
+    pub(crate) item: Item,
+}
+
+impl fmt::Display for ShownItem<'_> {
+    ghost output = { λ s. Some (item_text (map declared_of s.channels.now) s.item) };
+
+    fn fmt<W: fmt::Write>(&self, f: &mut fmt::Formatter<W>) -> fmt::Result {
+        let channels = self.channels;
+        match self.item {
+            Item::Channel(note) => {
+                let note = ShownNote { channels, note };
+                write!(f, "{note}")
+            }
+            Item::Job(note) => {
+                let note = ShownJobNote(note);
+                write!(f, "{note}")
             }
         }
     }

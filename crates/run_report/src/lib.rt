@@ -1,12 +1,15 @@
-//! The report of a run: what each coroutine noted, and what became of the elements that nobody received.
+//! The report of a run: what each coroutine noted, how each Job ended or how far it is, and what became of the elements that nobody received.
 //!
 //! It reads the script for the names and the books for all else, so whoever has the same books gets the same report.
 //!
 //! - `text`: the whole text.
 //! - `shown`: the parts of a line.
+//! - `job_items`: the acts and notes on Jobs.
 //! - `items`: the items of a book.
 //! - `books`: the lines of the books.
-//! - `noted`: the acts that are noted in books.
+//! - `job_facts`: what the acts say of each row.
+//! - `job_lines`: the lines of the Jobs.
+//! - `noted`: the acts on channels that are noted in books.
 //! - `table`: a value for each place of each channel.
 //! - `facts`: what the acts say of each place.
 //! - `resolutions`: where each wait was resolved.
@@ -21,6 +24,9 @@ mod facts;
 mod fates;
 mod fault;
 mod items;
+mod job_facts;
+mod job_items;
+mod job_lines;
 mod noted;
 mod resolutions;
 mod shown;

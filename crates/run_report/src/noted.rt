@@ -1,16 +1,18 @@
-//! The acts that are noted in books.
+//! The acts on channels that are noted in books.
 
 ghost use Rattle.std.specs.Prelude.{◌≡◌, ◌++◌, map, IfOk, OnOk};
-ghost use Rattle.poll_states.specs.Books.{acts_noted, items_of};
-ghost use Rattle.run_report.specs.Elements.{acts_in};
+ghost use Rattle.note_book.specs.Books.{notes_of};
+ghost use Rattle.note_book.specs.Items.{channel_acts_in};
+ghost use Rattle.run_report.specs.Elements.{channel_acts_noted};
 
 use channel_model::{Act, ChannelNote};
+use note_book::Item;
 use poll_states::Book;
 use std::alloc::{AllocError, Global};
 
-/// The acts that are noted in all books, one book after the other.
-pub(crate) fn acts_noted(alloc: Global, books: &[Book]) -> Result<Vec<Act>, AllocError>
-    ensures { IfOk result (λ acts. acts.items ≡ acts_in (map items_of books.now)) }
+/// The acts on channels that are noted in all books, one book after the other.
+pub(crate) fn channel_acts_noted(alloc: Global, books: &[Book]) -> Result<Vec<Act>, AllocError>
+    ensures { IfOk result (λ acts. acts.items ≡ channel_acts_noted (map notes_of books.now)) }
 {
     let mut acts = Vec::new(alloc);
     let mut rest = books;
@@ -21,13 +23,13 @@ pub(crate) fn acts_noted(alloc: Global, books: &[Book]) -> Result<Vec<Act>, Allo
     Ok(acts)
 }
 
-/// Adds the acts that are noted in one book.
-fn push_acts(acts: &mut Vec<Act>, notes: &[ChannelNote]) -> Result<(), AllocError>
-    ensures { OnOk result (acts.new.items ≡ acts.old.items ++ acts_noted notes.now) }
+/// Adds the acts on channels that are noted in one book.
+fn push_acts(acts: &mut Vec<Act>, notes: &[Item]) -> Result<(), AllocError>
+    ensures { OnOk result (acts.new.items ≡ acts.old.items ++ channel_acts_in notes.now) }
 {
     let mut rest = notes;
     while let [note, more @ ..] = rest {
-        if let ChannelNote::Made(act) = note {
+        if let Item::Channel(ChannelNote::Made(act)) = note {
             acts.push(*act)?;
         }
         rest = more;

@@ -1,32 +1,67 @@
 //! Texts of reports, line by line.
 
-use crate::text::report;
-use channel_model::{Act, ChannelNote, Settled, Why};
+ghost use Rattle.std.specs.Prelude.{◌<◌, length};
+
+use crate::text::report_of;
+use channel_model::{Act, ChannelNote, Kind, Settled, Why};
 use co_base::{Memory, WaitId};
-use poll_states::{Book, Done};
+use job_model::{Cause, End, JobAct, JobKind, JobNote, Reason};
+use note_book::{Item, NoteBook};
+use poll_states::Book;
+use script_reader::Channel;
 use std::alloc::Global;
 use std::test::Fail;
 
-const SCRIPT: &[u8] = b"channel a rendezvous\nchannel b_2 rendezvous\ncoroutine main\nend\n";
+const PLAIN: JobKind = JobKind {
+    supervisor: false,
+    scoped: false,
+    lazy: false,
+};
+
+const LAZY: JobKind = JobKind {
+    supervisor: false,
+    scoped: false,
+    lazy: true,
+};
+
+const SCOPE: JobKind = JobKind {
+    supervisor: false,
+    scoped: true,
+    lazy: false,
+};
+
+const SUPERVISOR: JobKind = JobKind {
+    supervisor: true,
+    scoped: true,
+    lazy: false,
+};
 
 const fn at(channel: u16, place: u32) -> WaitId {
     WaitId { channel, place }
 }
 
-fn put(place: u32, value: u32) -> ChannelNote {
-    ChannelNote::Made(Act::Put { c: 0, place, value })
+fn act(act: Act) -> Item {
+    Item::Channel(ChannelNote::Made(act))
 }
 
-fn hand(c: u16, place: u32, value: u32) -> ChannelNote {
-    ChannelNote::Made(Act::Hand { c, place, value })
+fn job(act: JobAct) -> Item {
+    Item::Job(JobNote::Made(act))
 }
 
-fn take(c: u16, place: u32, value: u32) -> ChannelNote {
-    ChannelNote::Made(Act::Take { c, place, value })
+fn put(place: u32, value: u32) -> Item {
+    act(Act::Put { c: 0, place, value })
 }
 
-fn offer(place: u32, value: u32, clause: u8) -> ChannelNote {
-    ChannelNote::Made(Act::Offer {
+fn hand(c: u16, place: u32, value: u32) -> Item {
+    act(Act::Hand { c, place, value })
+}
+
+fn take(c: u16, place: u32, value: u32) -> Item {
+    act(Act::Take { c, place, value })
+}
+
+fn offer(place: u32, value: u32, clause: u8) -> Item {
+    act(Act::Offer {
         c: 0,
         place,
         value,
@@ -35,8 +70,8 @@ fn offer(place: u32, value: u32, clause: u8) -> ChannelNote {
     })
 }
 
-fn wait(c: u16, place: u32, main: WaitId, clause: u8) -> ChannelNote {
-    ChannelNote::Made(Act::Await {
+fn wait(c: u16, place: u32, main: WaitId, clause: u8) -> Item {
+    act(Act::Await {
         c,
         place,
         main,
@@ -44,21 +79,68 @@ fn wait(c: u16, place: u32, main: WaitId, clause: u8) -> ChannelNote {
     })
 }
 
-fn settle(place: u32, outcome: Settled) -> ChannelNote {
-    ChannelNote::Made(Act::Settle {
+fn settle(place: u32, outcome: Settled) -> Item {
+    act(Act::Settle {
         w: at(0, place),
         outcome,
     })
 }
 
-fn withdraw(place: u32, why: Why) -> ChannelNote {
-    ChannelNote::Made(Act::Withdraw {
+fn withdraw(place: u32, why: Why) -> Item {
+    act(Act::Withdraw {
         w: at(0, place),
         why,
     })
 }
 
-fn push(alloc: Global, books: &mut Vec<Book>, notes: &[ChannelNote]) -> Result<(), Memory> {
+fn close(c: u16, value: u32) -> Item {
+    act(Act::Close { c, value })
+}
+
+/// The row is attached to the root.
+fn attach(row: u16, kind: JobKind, cancelled: bool) -> Item {
+    job(JobAct::Attach {
+        parent: 0,
+        row,
+        kind,
+        tag: row,
+        cancelled,
+    })
+}
+
+fn start(row: u16) -> Item {
+    job(JobAct::Start { row })
+}
+
+fn end_body(row: u16, value: u32) -> Item {
+    job(JobAct::EndBody { row, value })
+}
+
+fn cancel(row: u16, reason: Reason) -> Item {
+    job(JobAct::Cancel { row, reason })
+}
+
+fn finish(row: u16, end: End) -> Item {
+    job(JobAct::Finish { row, end })
+}
+
+fn gone(row: u16) -> Item {
+    job(JobAct::Gone { row })
+}
+
+fn saw(row: u16) -> Item {
+    Item::Job(JobNote::Saw { row })
+}
+
+fn channel(alloc: Global, name: &str) -> Result<Channel, Fail> {
+    Ok(Channel {
+        name: String::from_str(alloc, name)?,
+        kind: Kind::Rendezvous,
+        places: 16_384,
+    })
+}
+
+fn push(alloc: Global, books: &mut Vec<Book>, notes: &[Item]) -> Result<(), Memory> {
     let mut book = Book::new(alloc);
     for note in notes {
         book.room(1)?;
@@ -68,66 +150,73 @@ fn push(alloc: Global, books: &mut Vec<Book>, notes: &[ChannelNote]) -> Result<(
     Ok(())
 }
 
-/// What the report says of these two books.
-fn text(alloc: Global, first: &[ChannelNote], second: &[ChannelNote]) -> Result<Vec<u8>, Fail> {
-    let script = script_reader::read(alloc, SCRIPT)?;
+/// What the report says of these three books.
+fn text(alloc: Global, channels: &[Channel], rows: u16, notes: [&[Item]; 3]) -> Result<String, Fail>
+    requires { length channels.now < 65536 }
+{
     let mut books = Vec::new(alloc);
-    push(alloc, &mut books, first)?;
-    push(alloc, &mut books, second)?;
-    let done = Done { books, idle: true };
-    Ok(report(alloc, &script, &done)?)
+    push(alloc, &mut books, notes[0])?;
+    push(alloc, &mut books, notes[1])?;
+    push(alloc, &mut books, notes[2])?;
+    Ok(report_of(alloc, channels, rows, books.as_slice())?)
+}
+
+/// What the report of a script with the channels `a` and `b_2` says of these two books.
+fn text_of_two(alloc: Global, first: &[Item], second: &[Item]) -> Result<String, Fail> {
+    let channels = [channel(alloc, "a")?, channel(alloc, "b_2")?];
+    text(alloc, &channels, 2, [first, second, &[]])
 }
 
 #[test]
 fn says_what_was_noted(rt: HostRuntime) -> Result<(), Fail> {
     let w = at(0, 0);
-    let sent = text(
+    let sent = text_of_two(
         rt.alloc(),
         &[offer(0, 5, 0), settle(0, Settled::Sent(0))],
         &[take(0, 0, 5)],
     )?;
     assert_eq!(rt;
-        sent.as_slice(),
-        b"0 offer a 0 5 a.0 0\n0 settle a.0 sent 0\n1 take a 0 5\n".as_slice()
+        sent.as_bytes(),
+        b"0 offer a 0 5 a.0 0\n0 settle a.0 sent 0\n1 take a 0 5\njob 0 active\n".as_slice()
     );
-    let closing = text(
+    let closing = text_of_two(
         rt.alloc(),
         &[
             wait(1, 1, at(1, 1), 0),
             wait(2, 0, at(2, 0), 0),
-            ChannelNote::Made(Act::Close { c: 1, value: 6 }),
-            ChannelNote::Made(Act::WakeClosed { c: 1, place: 1 }),
-            ChannelNote::Made(Act::Settle {
+            close(1, 6),
+            act(Act::WakeClosed { c: 1, place: 1 }),
+            act(Act::Settle {
                 w: at(1, 1),
                 outcome: Settled::Closed(0, 6),
             }),
-            ChannelNote::Made(Act::Void { c: 1 }),
-            ChannelNote::AlreadyClosed { c: 1, v: 6 },
-            ChannelNote::Made(Act::Close { c: 12, value: 0 }),
+            act(Act::Void { c: 1 }),
+            Item::Channel(ChannelNote::AlreadyClosed { c: 1, v: 6 }),
+            close(12, 0),
         ],
         &[
-            ChannelNote::SendClosed {
+            Item::Channel(ChannelNote::SendClosed {
                 c: 1,
                 value: 7,
                 v: 6,
-            },
-            ChannelNote::TrySendClosed {
+            }),
+            Item::Channel(ChannelNote::TrySendClosed {
                 c: 1,
                 value: 8,
                 v: 6,
-            },
-            ChannelNote::ReceiveClosed { c: 1, v: 6 },
-            ChannelNote::TryReceiveClosed { c: 1, v: 6 },
-            ChannelNote::Full { c: 0, value: 9 },
-            ChannelNote::Empty { c: 0 },
-            ChannelNote::Spent { c: 1 },
-            ChannelNote::Partner { c: 0, place: 4 },
-            ChannelNote::MainResolved { w },
-            ChannelNote::Late { w: at(2, 0) },
+            }),
+            Item::Channel(ChannelNote::ReceiveClosed { c: 1, v: 6 }),
+            Item::Channel(ChannelNote::TryReceiveClosed { c: 1, v: 6 }),
+            Item::Channel(ChannelNote::Full { c: 0, value: 9 }),
+            Item::Channel(ChannelNote::Empty { c: 0 }),
+            Item::Channel(ChannelNote::Spent { c: 1 }),
+            Item::Channel(ChannelNote::Partner { c: 0, place: 4 }),
+            Item::Channel(ChannelNote::MainResolved { w }),
+            Item::Channel(ChannelNote::Late { w: at(2, 0) }),
         ],
     )?;
     assert_eq!(rt;
-        closing.as_slice(),
+        closing.as_bytes(),
         b"0 await b_2 1 b_2.1 0
 0 await @0 0 @0.0 0
 0 close b_2 6
@@ -146,6 +235,7 @@ fn says_what_was_noted(rt: HostRuntime) -> Result<(), Fail> {
 1 partner a 4
 1 resolved a.0
 1 late @0.0
+job 0 active
 "
             .as_slice()
     );
@@ -154,12 +244,12 @@ fn says_what_was_noted(rt: HostRuntime) -> Result<(), Fail> {
 
 #[test]
 fn says_what_became_of_each_element(rt: HostRuntime) -> Result<(), Fail> {
-    let held = text(rt.alloc(), &[offer(0, 4_294_967_295, 0)], &[])?;
+    let held = text_of_two(rt.alloc(), &[offer(0, 4_294_967_295, 0)], &[])?;
     assert_eq!(rt;
-        held.as_slice(),
-        b"0 offer a 0 4294967295 a.0 0\nelement a 0 4294967295 held\n".as_slice()
+        held.as_bytes(),
+        b"0 offer a 0 4294967295 a.0 0\njob 0 active\nelement a 0 4294967295 held\n".as_slice()
     );
-    let fates = text(
+    let fates = text_of_two(
         rt.alloc(),
         &[
             wait(0, 0, at(0, 0), 0),
@@ -173,7 +263,7 @@ fn says_what_became_of_each_element(rt: HostRuntime) -> Result<(), Fail> {
             wait(1, 0, at(0, 5), 2),
             settle(5, Settled::Value(2, 13)),
             offer(6, 14, 3),
-            ChannelNote::Made(Act::Admit { c: 0, place: 6 }),
+            act(Act::Admit { c: 0, place: 6 }),
             settle(6, Settled::Sent(3)),
             offer(7, 15, 1),
             withdraw(7, Why::Revoked),
@@ -183,13 +273,13 @@ fn says_what_became_of_each_element(rt: HostRuntime) -> Result<(), Fail> {
             hand(0, 0, 7),
             hand(0, 1, 8),
             put(3, 10),
-            ChannelNote::Made(Act::Drop {
+            act(Act::Drop {
                 c: 0,
                 place: 3,
                 value: 10,
             }),
             put(4, 11),
-            ChannelNote::Made(Act::Drain {
+            act(Act::Drain {
                 c: 0,
                 place: 4,
                 value: 11,
@@ -199,7 +289,7 @@ fn says_what_became_of_each_element(rt: HostRuntime) -> Result<(), Fail> {
         ],
     )?;
     assert_eq!(rt;
-        fates.as_slice(),
+        fates.as_bytes(),
         b"0 await a 0 a.0 0
 0 settle a.0 value 0 7
 0 await a 1 a.1 0
@@ -224,6 +314,7 @@ fn says_what_became_of_each_element(rt: HostRuntime) -> Result<(), Fail> {
 1 drain a 4 11
 1 hand b_2 0 13
 1 hand a 8 16
+job 0 active
 element a 1 8 undelivered
 element a 2 9 undelivered
 element a 3 10 dropped
@@ -232,6 +323,164 @@ element a 5 12 withdrawn
 element a 6 14 held
 element a 7 15 withdrawn
 element a 8 16 held
+"
+            .as_slice()
+    );
+    Ok(())
+}
+
+#[test]
+fn says_what_was_noted_of_jobs_and_how_far_they_are(rt: HostRuntime) -> Result<(), Fail> {
+    let jobs = text(
+        rt.alloc(),
+        &[],
+        12,
+        [
+            &[
+                attach(1, PLAIN, false),
+                attach(2, SCOPE, false),
+                attach(3, SUPERVISOR, false),
+                attach(4, LAZY, true),
+                attach(5, LAZY, false),
+                attach(6, LAZY, false),
+                start(6),
+                attach(7, PLAIN, false),
+                attach(8, SCOPE, true),
+                attach(9, PLAIN, false),
+                attach(11, PLAIN, false),
+                cancel(1, Reason::Request),
+                cancel(2, Reason::Parent),
+                end_body(7, 4_294_967_295),
+                cancel(9, Reason::Child(7)),
+                end_body(9, 3),
+            ],
+            &[
+                cancel(11, Reason::Own(11)),
+                finish(11, End::Cancelled(Cause::Failure(11))),
+                Item::Job(JobNote::SawEnd {
+                    row: 11,
+                    end: End::Cancelled(Cause::Failure(11)),
+                }),
+                Item::Job(JobNote::SawEnd {
+                    row: 2,
+                    end: End::Cancelled(Cause::Request),
+                }),
+                finish(2, End::Cancelled(Cause::None)),
+                finish(1, End::Completed(6)),
+                gone(1),
+            ],
+            &[
+                saw(2),
+                Item::Job(JobNote::Fail { code: 7 }),
+                Item::Job(JobNote::NoRow),
+                Item::Job(JobNote::Used),
+                Item::Job(JobNote::ParentEnded),
+                attach(12, PLAIN, false),
+            ],
+        ],
+    )?;
+    assert_eq!(rt;
+        jobs.as_bytes(),
+        b"0 attach 1 to 0 tag 1 plain
+0 attach 2 to 0 tag 2 scope
+0 attach 3 to 0 tag 3 supervisor
+0 attach 4 to 0 tag 4 lazy cancelled
+0 attach 5 to 0 tag 5 lazy
+0 attach 6 to 0 tag 6 lazy
+0 start 6
+0 attach 7 to 0 tag 7 plain
+0 attach 8 to 0 tag 8 scope cancelled
+0 attach 9 to 0 tag 9 plain
+0 attach 11 to 0 tag 11 plain
+0 cancel 1 request
+0 cancel 2 parent
+0 endbody 7 4294967295
+0 cancel 9 child 7
+0 endbody 9 3
+1 cancel 11 own 11
+1 finish 11 failed 11
+1 sawend 11 failed 11
+1 sawend 2 cancelled
+1 finish 2 cancelled
+1 finish 1 completed 6
+1 gone 1
+2 saw 2
+2 fail 7
+2 norow
+2 used
+2 parentended
+2 attach 12 to 0 tag 12 plain
+job 0 active
+job 1 completed 6
+job 2 cancelled
+job 3 active
+job 4 cancelling
+job 5 new
+job 6 active
+job 7 completing
+job 8 cancelling
+job 9 cancelling
+job 11 failed 11
+"
+            .as_slice()
+    );
+    Ok(())
+}
+
+#[test]
+fn reports_a_lazy_coroutine_that_was_cancelled_and_one_that_was_started(
+    rt: HostRuntime,
+) -> Result<(), Fail> {
+    let whole = text(
+        rt.alloc(),
+        &[],
+        3,
+        [
+            &[
+                attach(1, LAZY, false),
+                cancel(1, Reason::Request),
+                attach(2, LAZY, false),
+                start(2),
+                end_body(0, 0),
+            ],
+            &[
+                saw(1),
+                end_body(1, 0),
+                finish(1, End::Cancelled(Cause::Request)),
+                close(1, 0),
+                gone(1),
+            ],
+            &[
+                end_body(2, 5),
+                finish(2, End::Completed(5)),
+                close(2, 5),
+                gone(2),
+                finish(0, End::Completed(0)),
+                close(0, 0),
+            ],
+        ],
+    )?;
+    assert_eq!(rt;
+        whole.as_bytes(),
+        b"0 attach 1 to 0 tag 1 lazy
+0 cancel 1 request
+0 attach 2 to 0 tag 2 lazy
+0 start 2
+0 endbody 0 0
+1 saw 1
+1 endbody 1 0
+1 finish 1 cancelled
+1 close @1 0
+1 gone 1
+2 endbody 2 5
+2 finish 2 completed 5
+2 close @2 5
+2 gone 2
+2 finish 0 completed 0
+2 close @0 0
+job 0 completed 0
+job 1 cancelled
+job 2 completed 5
 "
             .as_slice()
     );

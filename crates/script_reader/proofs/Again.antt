@@ -10,10 +10,11 @@ use Rattle.script_reader.specs.declared.fault.FaultKind.{FaultKind}
 use Rattle.script_reader.specs.declared.fault.FaultKind.TheVariants.{BadName, BadNumber, TooMany, Recursive}
 use Rattle.script_reader.specs.Faults.{◌>>=◌}
 use Rattle.script_reader.specs.Programs.{Block}
-use Rattle.script_reader.specs.Places.{word_at, end_at, at_most, number_at, value_at, is_number, within, name_at, new_at, known_at, is_name, place_from, unless_found, if_found, is_main, other_than_main}
-use Rattle.script_reader.specs.Forms.{Read, Form, channel_is, coroutine_is, spawn_is, send_is, receive_is, end_is, channel_names, block_names, load, has_main, channel_line, coroutine_line, spawn_line, send_line, receive_line, end_line, outside, inside, form_at, after}
+use Rattle.script_reader.specs.Places.{word_at, end_at, at_most, number_at, value_at, is_number, within, name_at, new_at, known_at, is_name, place_from, unless_found, if_found, is_main, other_than_main, launchable, job_at}
+use Rattle.script_reader.specs.Forms.{Read, Form, channel_is, coroutine_is, spawn_is, send_is, receive_is, yield_is, launch_is, start_is, cancel_is, fail_is, result_is, end_is, channel_names, block_names, weight_of, new_load, grown_load, target_at, channel_line, coroutine_line, spawn_line, send_line, receive_line, launch_line, start_line, cancel_line, yield_line, fail_line, result_line, end_line, outside, of_job, inside, form_at, after}
 use Rattle.script_reader.specs.Texts.{step}
-use Rattle.script_reader.specs.Grammar.{Named, Fresh, Says}
+use Rattle.script_reader.specs.Grammar.{Named, Fresh, FreshJob, Says, launch_word, job_words}
+use Rattle.std.specs.Str.{bytes_eq}
 use Rattle.script_reader.proofs.Numbers.{own}
 use Rattle.script_reader.proofs.Truths.{both, le-true, lt-true}
 
@@ -80,16 +81,47 @@ channel_again s c is few =
     ap (λ (r : Result (List ℕ × List (List ℕ)) FaultKind). r >>= λ n. word_at (codes "rendezvous") n.1 >>= λ r. end_at r >>= λ u. at_most 256 (length s.channels + 1) >>= λ m. Ok (channel_is n.0)) (new_again (channel_names s.channels) c (codes "rendezvous" ∷ []) is)
     ∙ ap (λ (r : Result (Unit {0}) FaultKind). r >>= λ m. Ok (channel_is c)) (at_most_again 256 (length s.channels + 1) (omega (arith, few)))
 
-coroutine_again : (s : Read) (p : List ℕ) → Fresh (block_names s.blocks) p → load (is_main p || has_main s.blocks) (length s.spawns) ≤ 16000 → coroutine_line s (p ∷ []) ≡ Ok (coroutine_is p)
+coroutine_again : (s : Read) (p : List ℕ) → Fresh (block_names s.blocks) p → s.load + new_load p ≤ 16000 → coroutine_line s (p ∷ []) ≡ Ok (coroutine_is p)
 coroutine_again s p is few =
-    ap (λ (r : Result (List ℕ × List (List ℕ)) FaultKind). r >>= λ n. end_at n.1 >>= λ u. at_most 16000 (load (is_main n.0 || has_main s.blocks) (length s.spawns)) >>= λ m. Ok (coroutine_is n.0)) (new_again (block_names s.blocks) p [] is)
-    ∙ ap (λ (r : Result (Unit {0}) FaultKind). r >>= λ m. Ok (coroutine_is p)) (at_most_again 16000 (load (is_main p || has_main s.blocks) (length s.spawns)) few)
+    ap (λ (r : Result (List ℕ × List (List ℕ)) FaultKind). r >>= λ n. end_at n.1 >>= λ u. at_most 16000 (s.load + new_load n.0) >>= λ m. Ok (coroutine_is n.0)) (new_again (block_names s.blocks) p [] is)
+    ∙ ap (λ (r : Result (Unit {0}) FaultKind). r >>= λ m. Ok (coroutine_is p)) (at_most_again 16000 (s.load + new_load p) few)
 
-spawn_again : (s : Read) (i : ℕ) (p : List ℕ) → Named (block_names s.blocks) i p → is_main p ≡ false → load (has_main s.blocks) (length s.spawns + 1) ≤ 16000 → spawn_line s (p ∷ []) ≡ Ok (spawn_is i)
+spawn_again : (s : Read) (i : ℕ) (p : List ℕ) → Named (block_names s.blocks) i p → is_main p ≡ false → s.load + weight_of s i ≤ 16000 → spawn_line s (p ∷ []) ≡ Ok (spawn_is i)
 spawn_again s i p is other few =
-    ap (λ (r : Result (ℕ × List (List ℕ)) FaultKind). r >>= λ b. other_than_main (p ∷ []) >>= λ o. end_at b.1 >>= λ u. at_most 16000 (load (has_main s.blocks) (length s.spawns + 1)) >>= λ m. Ok (spawn_is b.0)) (known_again (block_names s.blocks) i p [] is)
-    ∙ ap (λ (r : Result (Unit {0}) FaultKind). r >>= λ o. at_most 16000 (load (has_main s.blocks) (length s.spawns + 1)) >>= λ m. Ok (spawn_is i)) (other_again p [] other)
-    ∙ ap (λ (r : Result (Unit {0}) FaultKind). r >>= λ m. Ok (spawn_is i)) (at_most_again 16000 (load (has_main s.blocks) (length s.spawns + 1)) few)
+    ap (λ (r : Result (ℕ × List (List ℕ)) FaultKind). r >>= λ b. other_than_main (p ∷ []) >>= λ o. end_at b.1 >>= λ u. at_most 16000 (s.load + weight_of s b.0) >>= λ m. Ok (spawn_is b.0)) (known_again (block_names s.blocks) i p [] is)
+    ∙ ap (λ (r : Result (Unit {0}) FaultKind). r >>= λ o. at_most 16000 (s.load + weight_of s i) >>= λ m. Ok (spawn_is i)) (other_again p [] other)
+    ∙ ap (λ (r : Result (Unit {0}) FaultKind). r >>= λ m. Ok (spawn_is i)) (at_most_again 16000 (s.load + weight_of s i) few)
+
+target_again : (s : Read) (b : Block) (i : ℕ) (p : List ℕ) (rest : List (List ℕ)) → Named (block_names s.blocks) i p → is_main p ≡ false → target_at s b (p ∷ rest) ≡ Ok (i, rest)
+target_again s b i p rest is other =
+    ap (λ (r : Result (List ℕ × List (List ℕ)) FaultKind). r >>= λ n. launchable (bytes_eq b.name n.0) (is_main n.0) (place_from 0 n.0 (block_names s.blocks)) n.1) (name_again p rest is.formed)
+    ∙ ap (λ o. launchable {X = List (List ℕ)} (bytes_eq b.name p) (is_main p) o rest) is.first
+    ∙ ap (λ m. launchable {X = List (List ℕ)} (bytes_eq b.name p) m (Some i) rest) other
+
+job_again : (names : List (List ℕ)) (j : Option (List ℕ)) → FreshJob names j → job_at names (job_words j) ≡ Ok j
+job_again names None is = refl
+job_again names (Some n) is = ap (λ (r : Result (List ℕ × List (List ℕ)) FaultKind). r >>= λ x. end_at x.1 >>= λ u. Ok (Some x.0)) (new_again names n [] is)
+
+launch_again : (lazy : Bool) (s : Read) (b : Block) (i : ℕ) (p : List ℕ) (j : Option (List ℕ)) → Named (block_names s.blocks) i p → is_main p ≡ false → FreshJob b.jobs j → s.weight + weight_of s i ≤ 16000 → grown_load s b (weight_of s i) ≤ 16000 → launch_line lazy s b (p ∷ job_words j) ≡ Ok (launch_is i lazy j)
+launch_again lazy s b i p j is other fresh light few =
+    ap (λ (r : Result (ℕ × List (List ℕ)) FaultKind). r >>= λ t. job_at b.jobs t.1 >>= λ k. at_most 16000 (s.weight + weight_of s t.0) >>= λ u. at_most 16000 (grown_load s b (weight_of s t.0)) >>= λ m. Ok (launch_is t.0 lazy k)) (target_again s b i p (job_words j) is other)
+    ∙ ap (λ (r : Result (Option (List ℕ)) FaultKind). r >>= λ k. at_most 16000 (s.weight + weight_of s i) >>= λ u. at_most 16000 (grown_load s b (weight_of s i)) >>= λ m. Ok (launch_is i lazy k)) (job_again b.jobs j fresh)
+    ∙ ap (λ (r : Result (Unit {0}) FaultKind). r >>= λ u. at_most 16000 (grown_load s b (weight_of s i)) >>= λ m. Ok (launch_is i lazy j)) (at_most_again 16000 (s.weight + weight_of s i) light)
+    ∙ ap (λ (r : Result (Unit {0}) FaultKind). r >>= λ m. Ok (launch_is i lazy j)) (at_most_again 16000 (grown_load s b (weight_of s i)) few)
+
+start_again : (b : Block) (j : ℕ) (n : List ℕ) → Named b.jobs j n → start_line b (n ∷ []) ≡ Ok (start_is j)
+start_again b j n is =
+    ap (λ (r : Result (ℕ × List (List ℕ)) FaultKind). r >>= λ c. end_at c.1 >>= λ u. Ok (start_is c.0)) (known_again b.jobs j n [] is)
+
+cancel_again : (b : Block) (j : ℕ) (n : List ℕ) → Named b.jobs j n → cancel_line b (n ∷ []) ≡ Ok (cancel_is j)
+cancel_again b j n is =
+    ap (λ (r : Result (ℕ × List (List ℕ)) FaultKind). r >>= λ c. end_at c.1 >>= λ u. Ok (cancel_is c.0)) (known_again b.jobs j n [] is)
+
+fail_again : (v : ℕ) → v < 2 ^ 32 → fail_line (decimal v ∷ []) ≡ Ok (fail_is v)
+fail_again v h = ap (λ (r : Result (ℕ × List (List ℕ)) FaultKind). r >>= λ v. end_at v.1 >>= λ u. Ok (fail_is v.0)) (number_again v [] h)
+
+result_again : (v : ℕ) → v < 2 ^ 32 → result_line (decimal v ∷ []) ≡ Ok (result_is v)
+result_again v h = ap (λ (r : Result (ℕ × List (List ℕ)) FaultKind). r >>= λ v. end_at v.1 >>= λ u. Ok (result_is v.0)) (number_again v [] h)
 
 send_again : (s : Read) (i v : ℕ) (c : List ℕ) → Named (channel_names s.channels) i c → v < 2 ^ 32 → send_line s (c ∷ decimal v ∷ []) ≡ Ok (send_is i v)
 send_again s i v c is h =
@@ -114,25 +146,53 @@ spawn_first : (s : Read) (ws : List (List ℕ)) → outside s (codes "spawn") ws
 unfolding outside
 spawn_first s ws = refl
 
-send_first : (s : Read) (ws : List (List ℕ)) → inside s (codes "send") ws ≡ send_line s ws
+send_first : (s : Read) (b : Block) (ws : List (List ℕ)) → inside s b (codes "send") ws ≡ send_line s ws
 unfolding inside
-send_first s ws = refl
+send_first s b ws = refl
 
-receive_first : (s : Read) (ws : List (List ℕ)) → inside s (codes "receive") ws ≡ receive_line s ws
+receive_first : (s : Read) (b : Block) (ws : List (List ℕ)) → inside s b (codes "receive") ws ≡ receive_line s ws
 unfolding inside
-receive_first s ws = refl
+receive_first s b ws = refl
 
-end_first : (s : Read) (ws : List (List ℕ)) → inside s (codes "end") ws ≡ end_line ws
+end_first : (s : Read) (b : Block) (ws : List (List ℕ)) → inside s b (codes "end") ws ≡ end_line ws
 unfolding inside
-end_first s ws = refl
+end_first s b ws = refl
+
+launch_first : (lazy : Bool) (s : Read) (b : Block) (ws : List (List ℕ)) → inside s b (launch_word lazy) ws ≡ launch_line lazy s b ws
+unfolding inside of_job
+launch_first false s b ws = refl
+launch_first true s b ws = refl
+
+start_first : (s : Read) (b : Block) (ws : List (List ℕ)) → inside s b (codes "start") ws ≡ start_line b ws
+unfolding inside of_job
+start_first s b ws = refl
+
+cancel_first : (s : Read) (b : Block) (ws : List (List ℕ)) → inside s b (codes "cancel") ws ≡ cancel_line b ws
+unfolding inside of_job
+cancel_first s b ws = refl
+
+yield_first : (s : Read) (b : Block) (ws : List (List ℕ)) → inside s b (codes "yield") ws ≡ yield_line ws
+unfolding inside of_job
+yield_first s b ws = refl
+
+fail_first : (s : Read) (b : Block) (ws : List (List ℕ)) → inside s b (codes "fail") ws ≡ fail_line ws
+unfolding inside of_job
+fail_first s b ws = refl
+
+result_first : (s : Read) (b : Block) (ws : List (List ℕ)) → inside s b (codes "result") ws ≡ result_line ws
+unfolding inside of_job
+result_first s b ws = refl
 
 form_outside : (s : Read) (word : List ℕ) (ws : List (List ℕ)) (b : Option Block) → b ≡ None → form_at s b word ws ≡ outside s word ws
 form_outside s word ws None e = refl
 form_outside s word ws (Some b) e = cc
 
-form_inside : (s : Read) (word : List ℕ) (ws : List (List ℕ)) (b : Option Block) → is_some b ≡ true → form_at s b word ws ≡ inside s word ws
-form_inside s word ws None e = cc
-form_inside s word ws (Some b) e = refl
+form_inside : (s : Read) (b : Block) (word : List ℕ) (ws : List (List ℕ)) → s.block ≡ Some b → form_at s s.block word ws ≡ inside s b word ws
+form_inside s b word ws e = ap (λ o. form_at s o word ws) e
+
+open_block : (o : Option Block) → is_some o ≡ true → (b : Block) × (o ≡ Some b)
+open_block None e = cc
+open_block (Some b) e = (b, refl)
 
 step_form : (s : Read) (words : List (List ℕ)) (word : List ℕ) (ws : List (List ℕ)) (f : Form) → words ≡ word ∷ ws → form_at s s.block word ws ≡ Ok f → step s words ≡ Ok (after f s)
 unfolding step
@@ -150,9 +210,33 @@ step_again s words (spawn_is i) says =
     step_form s words (codes "spawn") (p ∷ []) (spawn_is i) says.2 (form_outside s (codes "spawn") (p ∷ []) s.block says.1 ∙ spawn_first s (p ∷ []) ∙ spawn_again s i p says.3 says.4 says.5)
 step_again s words (send_is i v) says =
     let ws = says.0 ∷ decimal v ∷ [] in
-    step_form s words (codes "send") ws (send_is i v) says.2 (form_inside s (codes "send") ws s.block says.1 ∙ send_first s ws ∙ send_again s i v says.0 says.3 says.4)
+    let b = open_block s.block says.1 in
+    step_form s words (codes "send") ws (send_is i v) says.2 (form_inside s b.0 (codes "send") ws b.1 ∙ send_first s b.0 ws ∙ send_again s i v says.0 says.3 says.4)
 step_again s words (receive_is i) says =
     let ws = says.0 ∷ [] in
-    step_form s words (codes "receive") ws (receive_is i) says.2 (form_inside s (codes "receive") ws s.block says.1 ∙ receive_first s ws ∙ receive_again s i says.0 says.3)
+    let b = open_block s.block says.1 in
+    step_form s words (codes "receive") ws (receive_is i) says.2 (form_inside s b.0 (codes "receive") ws b.1 ∙ receive_first s b.0 ws ∙ receive_again s i says.0 says.3)
+step_again s words yield_is says =
+    let b = open_block s.block says.0 in
+    step_form s words (codes "yield") [] yield_is says.1 (form_inside s b.0 (codes "yield") [] b.1 ∙ yield_first s b.0 [])
+step_again s words (launch_is i lazy job) says =
+    let b = says.0 in
+    let ws = says.1 ∷ job_words job in
+    step_form s words (launch_word lazy) ws (launch_is i lazy job) says.3 (form_inside s b (launch_word lazy) ws says.2 ∙ launch_first lazy s b ws ∙ launch_again lazy s b i says.1 job says.4 says.5 says.6 says.7 says.8)
+step_again s words (start_is j) says =
+    let ws = says.1 ∷ [] in
+    step_form s words (codes "start") ws (start_is j) says.3 (form_inside s says.0 (codes "start") ws says.2 ∙ start_first s says.0 ws ∙ start_again says.0 j says.1 says.4)
+step_again s words (cancel_is j) says =
+    let ws = says.1 ∷ [] in
+    step_form s words (codes "cancel") ws (cancel_is j) says.3 (form_inside s says.0 (codes "cancel") ws says.2 ∙ cancel_first s says.0 ws ∙ cancel_again says.0 j says.1 says.4)
+step_again s words (fail_is v) says =
+    let ws = decimal v ∷ [] in
+    let b = open_block s.block says.0 in
+    step_form s words (codes "fail") ws (fail_is v) says.1 (form_inside s b.0 (codes "fail") ws b.1 ∙ fail_first s b.0 ws ∙ fail_again v says.2)
+step_again s words (result_is v) says =
+    let ws = decimal v ∷ [] in
+    let b = open_block s.block says.0 in
+    step_form s words (codes "result") ws (result_is v) says.1 (form_inside s b.0 (codes "result") ws b.1 ∙ result_first s b.0 ws ∙ result_again v says.2)
 step_again s words end_is says =
-    step_form s words (codes "end") [] end_is says.1 (form_inside s (codes "end") [] s.block says.0 ∙ end_first s [])
+    let b = open_block s.block says.0 in
+    step_form s words (codes "end") [] end_is says.1 (form_inside s b.0 (codes "end") [] b.1 ∙ end_first s b.0 [])

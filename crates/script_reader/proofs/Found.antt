@@ -1,5 +1,6 @@
 -- What is read at a place of a line is written there as the grammar says.
-use Rattle.std.proofs.Common.{◌≡◌, ℕ, ◌<◌, ◌≤◌, ◌^◌, List, [], ◌∷◌, refl, ap, sym, ◌∙◌, arith, Result, Ok, Err, Bool, true, false, Option, Some, None, length, if◌then◌else◌, ◌&&◌, nat_lt, nat_le, suc}
+use Rattle.std.proofs.Common.{◌≡◌, ℕ, ◌<◌, ◌≤◌, ◌^◌, List, [], ◌∷◌, refl, ap, sym, ◌∙◌, arith, Result, Ok, Err, Bool, true, false, Option, Some, None, length, if◌then◌else◌, ◌&&◌, nat_lt, nat_le, suc, subst}
+use lib.Chars.{codes}
 use Rattle.std.specs.Prelude.{◌==◌, ◌||◌, not}
 use Rattle.script_reader.specs.declared.fault.FaultKind.TheVariants.{BadNumber}
 use Rattle.std.proofs.lemmas.Bool.Decides.{nat_tests}
@@ -10,8 +11,10 @@ use Rattle.std.specs.Str.{bytes_eq, all_ascii_digits}
 use Rattle.std.specs.Str.Parse.{digits_value}
 use Rattle.script_reader.specs.declared.fault.FaultKind.{FaultKind}
 use Rattle.script_reader.specs.Faults.{◌>>=◌}
-use Rattle.script_reader.specs.Places.{word_at, end_at, at_most, number_at, value_at, is_number, within, name_at, new_at, known_at, is_name, place_from, unless_found, if_found, is_main, other_than_main}
-use Rattle.script_reader.specs.Grammar.{Named, Fresh}
+use Rattle.script_reader.specs.Places.{word_at, end_at, at_most, number_at, value_at, is_number, within, name_at, new_at, known_at, is_name, place_from, unless_found, if_found, is_main, other_than_main, launchable, job_at}
+use Rattle.script_reader.specs.Programs.{Block}
+use Rattle.script_reader.specs.Forms.{Read, block_names, target_at}
+use Rattle.script_reader.specs.Grammar.{Named, Fresh, FreshJob, job_words}
 use Rattle.script_reader.proofs.Numbers.{own, number_digits, number_some}
 use Rattle.script_reader.proofs.Truths.{both_true, le-from_true, lt-from_true}
 
@@ -132,3 +135,33 @@ other_ok name u false k t e = t
 
 pub other_than_main_found : (ws : List (List ℕ)) (name : List ℕ) (rest : List (List ℕ)) (u : Unit {0}) → ws ≡ name ∷ rest → other_than_main ws ≡ Ok u → is_main name ≡ false
 other_than_main_found ws name rest u is e = other_ok name u (is_main name) _ refl (sym (ap other_than_main is) ∙ e)
+
+launchable_ok : (own main : Bool) (o : Option ℕ) (i : ℕ) (ws rest : List (List ℕ)) → launchable {X = List (List ℕ)} own main o ws ≡ Ok (i, rest) → (o ≡ Some i) × (main ≡ false) × (ws ≡ rest)
+launchable_ok true main None i ws rest e = cc
+launchable_ok false main None i ws rest e = cc
+launchable_ok own true (Some j) i ws rest e = cc
+launchable_ok own false (Some j) i ws rest e = let p = ok_pair j i ws rest (Ok (j, ws)) refl e in (ap (λ k. Some k) p.0, refl, p.1)
+
+pub target_found : (s : Read) (b : Block) (ws : List (List ℕ)) (i : ℕ) (rest : List (List ℕ)) → target_at s b ws ≡ Ok (i, rest) → (n : List ℕ) × (ws ≡ n ∷ rest) × Named (block_names s.blocks) i n × (is_main n ≡ false)
+target_found s b ws i rest ok =
+    let x = bind_ok (name_at ws) (λ x. launchable (bytes_eq b.name x.0) (is_main x.0) (place_from 0 x.0 (block_names s.blocks)) x.1) (i, rest) ok in
+    let a = name_found ws x.0.0 x.0.1 x.1 in
+    let c = launchable_ok (bytes_eq b.name x.0.0) (is_main x.0.0) (place_from 0 x.0.0 (block_names s.blocks)) i x.0.1 rest x.2 in
+    (x.0.0, a.0 ∙ ap (λ l. x.0.0 ∷ l) c.2, record { formed = a.1; first = c.0 }, c.1)
+
+job_as : (b : Bool) (names : List (List ℕ)) (w : List ℕ) (ws : List (List ℕ)) (j : Option (List ℕ)) (k : FaultKind) → bytes_eq w (codes "as") ≡ b → (if b then (new_at names ws >>= λ n. end_at n.1 >>= λ u. Ok (Some n.0)) else Err k) ≡ Ok j → ((w ∷ ws) ≡ job_words j) × FreshJob names j
+job_as true names w ws j k t e =
+    let x = bind_ok (new_at names ws) (λ n. end_at n.1 >>= λ u. Ok (Some n.0)) j e in
+    let z = bind_ok (end_at x.0.1) (λ u. Ok (Some x.0.0)) j x.2 in
+    let a = new_found names ws x.0.0 x.0.1 x.1 in
+    let c = end_found x.0.1 z.0 z.1 in
+    let p : Some x.0.0 ≡ j = ok_is (Some x.0.0) j (Ok (Some x.0.0)) refl z.2 in
+    subst (λ o. ((w ∷ ws) ≡ job_words o) × FreshJob names o) p
+    (ap (λ v. v ∷ ws) ((bytes_eq-Decides w (codes "as")).0 t) ∙ ap (λ l. codes "as" ∷ l) (a.0 ∙ ap (λ l. x.0.0 ∷ l) c), a.1)
+job_as false names w ws j k t e = cc
+
+pub job_found : (names ws : List (List ℕ)) (j : Option (List ℕ)) → job_at names ws ≡ Ok j → (ws ≡ job_words j) × FreshJob names j
+job_found names [] j e =
+    let p : None ≡ j = ok_is {A = Option (List ℕ)} None j (Ok None) refl e in
+    subst (λ o. ([] ≡ job_words o) × FreshJob names o) p (refl, tt)
+job_found names (w ∷ ws) j e = job_as (bytes_eq w (codes "as")) names w ws j _ refl e

@@ -1,4 +1,6 @@
 pub mod Truths
+pub mod Layouts
+pub mod Stacks
 pub mod Declarations
 pub mod Filters
 pub mod Numbers
@@ -6,6 +8,7 @@ pub mod Names
 pub mod Found
 pub mod FoundLines
 pub mod Lengths
+pub mod Growing
 pub mod Soundness
 pub mod Loops
 pub mod Again

@@ -1,21 +1,22 @@
 -- The loop over the lines of a text, and the text's end.
-use Rattle.std.proofs.Common.{◌≡◌, ℕ, true, false, if◌then◌else◌, ◌+◌, ◌-◌, ◌<◌, ◌^◌, ◌≤◌, List, [], ◌∷◌, refl, ap, sym, ◌∙◌, arith, Result, Ok, Err, Bool, Option, Some, None, length, get_or, take, drop, subst, ◌++◌}
-use Rattle.std.proofs.lemmas.List.{take_all, length-map, append-nil}
-use Rattle.std.specs.Prelude.{is_some}
+use Rattle.std.proofs.Common.{◌≡◌, ℕ, true, false, if◌then◌else◌, ◌+◌, ◌-◌, ◌<◌, ◌^◌, ◌≤◌, List, [], ◌∷◌, refl, ap, sym, ◌∙◌, arith, Result, Ok, Err, Bool, Option, Some, None, length, get_or, take, drop, subst}
+use Rattle.std.proofs.lemmas.List.{take_all, length-map}
+use Rattle.std.specs.Prelude.{is_some, option_map, string_bytes}
 use lib.Chars.{codes}
 use denote.Ref.{Bor}
 use Rattle.script_reader.specs.declared.fault.FaultKind.{FaultKind}
 use Rattle.script_reader.specs.declared.fault.FaultKind.TheVariants as kinds
 use Rattle.script_reader.specs.declared.fault.ScriptFault.{ScriptFault}
 use Rattle.script_reader.specs.declared.reading.Reading.{Reading}
-use Rattle.script_reader.specs.declared.script.Spawn.{Spawn}
-use Rattle.script_reader.specs.Programs.{Program, Block, IsProgram, declared_of, block_of, block_named}
+use Rattle.script_reader.specs.declared.script.Coroutine.{Coroutine}
+use Rattle.script_reader.specs.Programs.{Program, Block, IsProgram, declared_of, block_of, block_named, layouts}
 use Rattle.script_reader.specs.Faults.{Unless, in_line, ◌>>>◌}
 use Rattle.script_reader.specs.Words.{texts, text_length, all_plain, words_of, lines_of}
-use Rattle.script_reader.specs.Forms.{Read, start, load, has_main, closed}
+use Rattle.script_reader.specs.Forms.{Read, start}
 use Rattle.script_reader.specs.Texts.{step, line_at, lines_from, finish, reading_of, program_so_far}
-use Rattle.script_reader.specs.Reading.{view, Few, IsSound}
+use Rattle.script_reader.specs.Reading.{view, Few, HasFewJobs, IsSound, IsOpen, closed_main, open_main}
 use Rattle.script_reader.proofs.Lengths.{length-text_length, text_length-lines_of, text_length-words_of}
+use Rattle.script_reader.proofs.Layouts.{block_named-within, layout, layout-next, count-main, length-laid_out, main_launches}
 use Rattle.script_reader.proofs.Soundness.{IsSound-start, IsSound-after, cost, cost-start, cost-after, blocks-cost}
 use Rattle.script_reader.proofs.FoundLines.{step_found}
 use Rattle.script_reader.proofs.Found.{ok_is}
@@ -106,26 +107,34 @@ pub few_numbers : (lines rest : List (Bor (List ℕ))) (n : ℕ) → text_length
 few_numbers lines rest n short count some = omega (arith, count, some, short, length-text_length (texts lines), length-map lines (λ (w : Bor (List ℕ)). w.now))
 
 -- what fits is so little that its numbers fit 16 bits
+few_jobs : (bs : List Block) (w : ℕ) (o : Option Coroutine) → w ≤ 16000 → IsOpen bs w (option_map block_of o) → HasFewJobs o
+few_jobs bs w None light ok = tt
+few_jobs bs w (Some c) light ok = omega (arith, light, ok.few_jobs, length-map c.jobs.items string_bytes)
+
 pub Few-from : (left : ℕ) (r : Reading) → Fits left (view r) → Few r
 Few-from left r fits = record {
   channels = omega (arith, fits.sound.few_channels, length-map r.channels.items declared_of);
   coroutines = omega (arith, fits.length, blocks-cost (view r), length-map r.coroutines.items block_of);
-  spawns = omega (arith, fits.sound.few_coroutines, length-map r.spawns.items (λ (s : Spawn). s.coroutine));
+  jobs = few_jobs (view r).blocks r.weight r.block fits.sound.light fits.sound.open_block;
+  weight = fits.sound.light;
+  load = fits.sound.few_coroutines;
 }
-
-one_more : (blocks : List Block) (n i : ℕ) → block_named (codes "main") 0 blocks ≡ Some i → load (has_main (blocks ++ [])) n ≤ 16000 → 1 + n ≤ 16000
-one_more blocks n i main h =
-    let is : has_main (blocks ++ []) ≡ true = ap has_main (append-nil blocks) ∙ ap is_some main in
-    let P : Bool → Type 0 = λ b. load b n ≤ 16000 in
-    subst P is h
 
 -- what is sound, closed and has a main is a script
 pub IsProgram-from : (s : Read) (i : ℕ) → IsSound s → s.block ≡ None → block_named (codes "main") 0 s.blocks ≡ Some i → IsProgram (program_so_far s)
-IsProgram-from s i sound out main = record {
-  few_channels = sound.few_channels;
-  channels = sound.channels;
-  blocks = sound.blocks;
-  spawns = sound.spawns;
-  has_main = ap is_some main;
-  few_coroutines = one_more s.blocks (length s.spawns) i main (let P : Option Block → Type 0 = λ b. load (has_main (s.blocks ++ closed b)) (length s.spawns) ≤ 16000 in subst P out sound.few_coroutines);
-}
+IsProgram-from s i sound out main =
+    let p = program_so_far s in
+    let within = block_named-within (codes "main") 0 s.blocks i main in
+    let closed : closed_main (layouts s.blocks) (block_named (codes "main") 0 s.blocks) ≡ length (layout (layouts s.blocks) i) = ap (closed_main (layouts s.blocks)) main in
+    let open_none : open_main s.weight s.block ≡ 0 = ap (open_main s.weight) out in
+    let next = layout-next s.blocks i sound.launches (omega (arith, within)) in
+    record {
+      few_channels = sound.few_channels;
+      channels = sound.channels;
+      blocks = sound.blocks;
+      jobs = sound.jobs;
+      launches = sound.launches;
+      spawns = sound.spawns;
+      has_main = ap is_some main;
+      few_coroutines = omega (arith, sound.few_coroutines, sound.load, closed, open_none, ap length next, count-main p i main, length-laid_out p s.spawns, length-laid_out p (main_launches p i));
+    }

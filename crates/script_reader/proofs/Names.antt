@@ -13,7 +13,7 @@ use Rattle.script_reader.specs.Programs.{declared_of, block_of, block_named}
 use Rattle.script_reader.specs.Places.{place_from, is_name, is_name_byte, is_lower, all_name_bytes}
 use Rattle.script_reader.specs.declared.fault.FaultKind.TheVariants.{NoMain}
 use Rattle.script_reader.specs.Texts.{finish, when_closed, when_main}
-use Rattle.script_reader.specs.Forms.{Read, channel_names, block_names, has_main}
+use Rattle.script_reader.specs.Forms.{Read, channel_names, block_names}
 
 pub names_of_channels : (cs : List Channel) → channel_names (map declared_of cs) ≡ map (λ c. string_bytes c.name) cs
 names_of_channels [] = refl
@@ -27,9 +27,6 @@ names_of_blocks (c ∷ cs) = ap (λ l. string_bytes c.name ∷ l) (names_of_bloc
 pub block_named-places : (name : List ℕ) (i : ℕ) (cs : List Coroutine) → block_named name i (map block_of cs) ≡ place_from i name (map (λ c. string_bytes c.name) cs)
 block_named-places name i [] = refl
 block_named-places name i (c ∷ cs) = ap (λ o. if bytes_eq (string_bytes c.name) name then Some i else o) (block_named-places name (i + 1) cs)
-
-pub main_of_blocks : (cs : List Coroutine) → has_main (map block_of cs) ≡ is_some (place_from 0 (codes "main") (map (λ c. string_bytes c.name) cs))
-main_of_blocks cs = ap is_some (block_named-places (codes "main") 0 cs)
 
 -- ---- names are text
 

@@ -1,36 +1,36 @@
 -- What a line says keeps the script so far sound, and within what memory counts.
-use Rattle.std.proofs.Common.{◌≡◌, ℕ, ◌+◌, ◌*◌, ◌<◌, ◌≤◌, List, [], ◌∷◌, ◌++◌, refl, ap, sym, ◌∙◌, arith, Bool, true, false, Option, Some, None, length, if◌then◌else◌, nat_lt, subst, length-append}
-use Rattle.std.specs.Prelude.{◌||◌, is_some}
-use Rattle.std.specs.List.{list_all}
+use Rattle.std.proofs.Common.{◌≡◌, ℕ, ◌+◌, ◌*◌, ◌<◌, ◌≤◌, List, [], ◌∷◌, ◌++◌, refl, ap, sym, ◌∙◌, arith, Bool, true, false, Option, Some, None, length, map, get_or, if◌then◌else◌, nat_lt, subst, length-append}
+use Rattle.std.specs.Prelude.{is_some}
 use Rattle.std.specs.Str.{bytes_eq}
-use Rattle.std.proofs.lemmas.List.{length-map, append-nil}
+use Rattle.std.proofs.lemmas.List.{length-map, map-append, get_or-map}
 use lib.Chars.{codes}
 use Rattle.channel_model.specs.declared.acts.Kind.TheVariants.{Rendezvous}
 use Rattle.script_reader.specs.declared.script.Instruction.{Instruction}
-use Rattle.script_reader.specs.declared.script.Instruction.TheVariants.{Send, Receive}
-use Rattle.script_reader.specs.Programs.{Block, Declared, is_declared, channel_of, names_channels, block_named}
+use Rattle.script_reader.specs.declared.script.Instruction.TheVariants.{Send, Receive, Yield, Launch, Start, Cancel, Fail, SetResult}
+use Rattle.script_reader.specs.Programs.{Block, Declared, is_declared, names_channel, names_channels, block_named, knows_jobs, launched, laid_out, layouts, layouts_from, sizes_in, size_in}
 use Rattle.script_reader.specs.Words.{text_length}
 use Rattle.script_reader.specs.Places.{is_name, place_from, is_main}
-use Rattle.script_reader.specs.Forms.{Read, Form, start, channel_is, coroutine_is, spawn_is, send_is, receive_is, end_is, channel_names, block_names, load, has_main, with_line, closed, after}
-use Rattle.script_reader.specs.Reading.{IsSound, block_names_channels}
-use Rattle.script_reader.specs.Grammar.{Named, Says}
-use Rattle.script_reader.proofs.Truths.{both, both_true, lt-from_true, lt-true}
+use Rattle.script_reader.specs.Forms.{Read, Form, start, channel_is, coroutine_is, spawn_is, send_is, receive_is, yield_is, launch_is, start_is, cancel_is, fail_is, result_is, end_is, channel_names, block_names, weight_of, grown_load, open_load, with_line, with_launch, closed, closed_weight, after}
+use Rattle.script_reader.specs.Reading.{IsSound, IsBlock, IsOpen, block_names_channels, jobs_after, closed_main, open_main}
+use Rattle.script_reader.specs.Grammar.{Named, Says, SayAll}
+use Rattle.script_reader.proofs.Truths.{both, lt-true}
+use Rattle.script_reader.proofs.Growing.{block_line, IsOpen-launch, open_main-launch, channels-launch, open_block, length-laid_out-push, layout-push, main-push, launch_back-push}
+use Rattle.script_reader.proofs.Layouts.{all_push, all_weaker, below_more, all_below, all_below-more, next_layout, layouts-push, length-layouts, laid_out-same}
 
--- ---- tests of all elements
+-- ---- channels of lines
 
-all_push : {X : Type 0} (test : X → Bool) (xs : List X) (x : X) → list_all test xs ≡ true → test x ≡ true → list_all test (xs ++ x ∷ []) ≡ true
-all_push test [] x all h = both (test x) true h refl
-all_push test (y ∷ ys) x all h = let two = both_true (test y) (list_all test ys) all in both (test y) _ two.0 (all_push test ys x two.1 h)
-
-all_weaker : {X : Type 0} (p q : X → Bool) → ((x : X) → p x ≡ true → q x ≡ true) → (xs : List X) → list_all p xs ≡ true → list_all q xs ≡ true
-all_weaker p q weaker [] all = refl
-all_weaker p q weaker (x ∷ xs) all = let two = both_true (p x) (list_all p xs) all in both (q x) _ (weaker x two.0) (all_weaker p q weaker xs two.1)
-
-more : (m n : ℕ) → m ≤ n → (i : ℕ) → nat_lt i m ≡ true → nat_lt i n ≡ true
-more m n le i e = let h = lt-from_true i m e in lt-true i n (omega arith)
+line_more : (m n : ℕ) → m ≤ n → (x : Instruction) → names_channel m x ≡ true → names_channel n x ≡ true
+line_more m n le (Send c v) e = below_more m n le c e
+line_more m n le (Receive c) e = below_more m n le c e
+line_more m n le Yield e = e
+line_more m n le (Launch block lazy job) e = e
+line_more m n le (Start job) e = e
+line_more m n le (Cancel job) e = e
+line_more m n le (Fail v) e = e
+line_more m n le (SetResult v) e = e
 
 names_more : (m n : ℕ) → m ≤ n → (b : Block) → names_channels m b ≡ true → names_channels n b ≡ true
-names_more m n le b e = all_weaker (λ i. nat_lt (channel_of i) m) (λ i. nat_lt (channel_of i) n) (λ i. more m n le (channel_of i)) b.code e
+names_more m n le b e = all_weaker (names_channel m) (names_channel n) (line_more m n le) b.code e
 
 block_more : (m n : ℕ) → m ≤ n → (b : Option Block) → block_names_channels m b ≡ true → block_names_channels n b ≡ true
 block_more m n le None e = refl
@@ -52,50 +52,94 @@ channel_within cs i name is = let h = place_from-within 0 name (channel_names cs
 block_within : (bs : List Block) (i : ℕ) (name : List ℕ) → Named (block_names bs) i name → i < length bs
 block_within bs i name is = let h = place_from-within 0 name (block_names bs) i is.first in omega (arith, h, length-map bs (λ (b : Block). b.name))
 
--- ---- main
-
-named_push : (name : List ℕ) (i : ℕ) (bs : List Block) (b : Block) → is_some (block_named name i (bs ++ b ∷ [])) ≡ (bytes_eq b.name name || is_some (block_named name i bs))
-named_push name i [] b = by_test (bytes_eq b.name name)
-  where
-    by_test : (t : Bool) → is_some (if◌then◌else◌ {A = Option ℕ} t (Some i) None) ≡ (t || false)
-    by_test true = refl
-    by_test false = refl
-named_push name i (x ∷ xs) b = by_test (bytes_eq x.name name) (bytes_eq b.name name) (named_push name (i + 1) xs b)
-  where
-    by_test : (t u : Bool) → is_some (block_named name (i + 1) (xs ++ b ∷ [])) ≡ (u || is_some (block_named name (i + 1) xs)) → is_some (if t then Some i else block_named name (i + 1) (xs ++ b ∷ [])) ≡ (u || is_some (if t then Some i else block_named name (i + 1) xs))
-    by_test true true e = refl
-    by_test true false e = refl
-    by_test false u e = e
-
-pub has_main-push : (bs : List Block) (b : Block) → has_main (bs ++ b ∷ []) ≡ (is_main b.name || has_main bs)
-has_main-push bs b = named_push (codes "main") 0 bs b
-
-has_main-line : (bs : List Block) (b : Option Block) (line : Instruction) → has_main (bs ++ closed (with_line line b)) ≡ has_main (bs ++ closed b)
-has_main-line bs None line = refl
-has_main-line bs (Some b) line = has_main-push bs (record { name = b.name; code = b.code ++ line ∷ [] }) ∙ sym (has_main-push bs b)
+job_within : (names : List (List ℕ)) (j : ℕ) (name : List ℕ) → Named names j name → j < length names
+job_within names j name is = let h = place_from-within 0 name names j is.first in omega (arith, h)
 
 -- ---- each form
 
 pub IsSound-start : IsSound start
-IsSound-start = record { few_channels = omega arith; channels = refl; blocks = refl; block = refl; spawns = refl; few_coroutines = omega arith }
+unfolding layouts_from
+IsSound-start = record { few_channels = omega arith; channels = refl; blocks = refl; block = refl; jobs = refl; launches = refl; open_block = tt; spawns = refl; weights = refl; load = refl; light = omega arith; few_coroutines = omega arith }
 
-with_line_sound : (n : ℕ) (b : Option Block) (line : Instruction) → block_names_channels n b ≡ true → channel_of line < n → block_names_channels n (with_line line b) ≡ true
-with_line_sound n None line e h = refl
-with_line_sound n (Some b) line e h = all_push (λ i. nat_lt (channel_of i) n) b.code line e (lt-true (channel_of line) n h)
+-- the weight of a block is the length of its layout
+weight_of-is : (s : Read) (i : ℕ) → IsSound s → i < length s.blocks → weight_of s i ≡ size_in s.blocks i
+weight_of-is s i ok h = ap (λ l. get_or l i 0) ok.weights ∙ get_or-map length (layouts s.blocks) i [] 0 (omega (arith, h, length-layouts s.blocks))
 
-line_sound : (s : Read) (line : Instruction) → IsSound s → channel_of line < length s.channels → IsSound (record s { block = with_line line s.block })
-line_sound s line ok h = record {
-  few_channels = ok.few_channels;
-  channels = ok.channels;
-  blocks = ok.blocks;
-  block = with_line_sound (length s.channels) s.block line ok.block h;
-  spawns = ok.spawns;
-  few_coroutines = subst (λ m. load m (length s.spawns) ≤ 16000) (sym (has_main-line s.blocks s.block line)) ok.few_coroutines;
-}
+-- a line that launches nothing
+line_sound : (s : Read) (b : Block) (x : Instruction) → IsSound s → s.block ≡ Some b → names_channel (length s.channels) x ≡ true → knows_jobs (length b.jobs) (x ∷ []) ≡ true → jobs_after (length b.jobs) (x ∷ []) ≡ length b.jobs → launched (x ∷ []) ≡ [] → IsSound (record s { block = with_line x s.block })
+line_sound s b x ok is names knows same none =
+    let was = subst (IsOpen s.blocks s.weight) is ok.open_block in
+    let channels = subst (λ o. block_names_channels (length s.channels) o ≡ true) is ok.block in
+    subst (λ o. IsSound (record s { block = with_line x o })) (sym is)
+    (record {
+      few_channels = ok.few_channels;
+      channels = ok.channels;
+      blocks = ok.blocks;
+      block = all_push (names_channel (length s.channels)) b.code x channels names;
+      jobs = ok.jobs;
+      launches = ok.launches;
+      open_block = block_line s.blocks s.weight b x was knows same none;
+      spawns = ok.spawns;
+      weights = ok.weights;
+      load = ok.load ∙ ap (λ o. closed_main (layouts s.blocks) (block_named (codes "main") 0 s.blocks) + open_main s.weight o + length (laid_out (layouts s.blocks) s.spawns)) is;
+      light = ok.light;
+      few_coroutines = ok.few_coroutines;
+    })
 
-closed_sound : (n : ℕ) (bs : List Block) (b : Option Block) → list_all (names_channels n) bs ≡ true → block_names_channels n b ≡ true → list_all (names_channels n) (bs ++ closed b) ≡ true
-closed_sound n bs None all e = ap (list_all (names_channels n)) (append-nil bs) ∙ all
-closed_sound n bs (Some b) all e = all_push (names_channels n) bs b all e
+-- a line that launches a block
+launch_sound : (s : Read) (b : Block) (i : ℕ) (lazy : Bool) (job : Option (List ℕ)) → IsSound s → s.block ≡ Some b → i < length s.blocks → s.weight + weight_of s i ≤ 16000 → grown_load s b (weight_of s i) ≤ 16000 → IsSound (after (launch_is i lazy job) s)
+launch_sound s b i lazy job ok is within light few =
+    let was = subst (IsOpen s.blocks s.weight) is ok.open_block in
+    let channels = subst (λ o. block_names_channels (length s.channels) o ≡ true) is ok.block in
+    let v = weight_of s i in
+    subst (λ o. IsSound (record s { block = with_launch i lazy job o; weight = s.weight + weight_of s i; load = open_load o s (weight_of s i) })) (sym is)
+    (record {
+      few_channels = ok.few_channels;
+      channels = ok.channels;
+      blocks = ok.blocks;
+      block = channels-launch (length s.channels) b i lazy job channels;
+      jobs = ok.jobs;
+      launches = ok.launches;
+      open_block = IsOpen-launch s.blocks s.weight v b i lazy job was within (weight_of-is s i ok within);
+      spawns = ok.spawns;
+      weights = ok.weights;
+      load = by_test (is_main b.name) (ok.load ∙ ap (λ o. closed_main (layouts s.blocks) (block_named (codes "main") 0 s.blocks) + open_main s.weight o + length (laid_out (layouts s.blocks) s.spawns)) is)
+          ∙ ap (λ n. closed_main (layouts s.blocks) (block_named (codes "main") 0 s.blocks) + n + length (laid_out (layouts s.blocks) s.spawns)) (sym (open_main-launch (s.weight + v) b i lazy job));
+      light = light;
+      few_coroutines = few;
+    })
+  where
+    by_test : (t : Bool) → s.load ≡ closed_main (layouts s.blocks) (block_named (codes "main") 0 s.blocks) + (if t then s.weight else 0) + length (laid_out (layouts s.blocks) s.spawns) → (if t then s.load + weight_of s i else s.load) ≡ closed_main (layouts s.blocks) (block_named (codes "main") 0 s.blocks) + (if t then s.weight + weight_of s i else 0) + length (laid_out (layouts s.blocks) s.spawns)
+    by_test true e = omega (arith, e)
+    by_test false e = e
+
+-- the end of a block
+end_sound : (s : Read) (b : Block) → IsSound s → s.block ≡ Some b → IsSound (after end_is s)
+end_sound s b ok is =
+    let was : IsBlock s.blocks s.weight b = subst (IsOpen s.blocks s.weight) is ok.open_block in
+    let channels = subst (λ o. block_names_channels (length s.channels) o ≡ true) is ok.block in
+    let n = length s.blocks in
+    let grown : length s.blocks ≤ length (s.blocks ++ b ∷ []) = omega (arith, length-append s.blocks (b ∷ [])) in
+    let weighs : s.weight ≡ length (next_layout (layouts s.blocks) b) = omega (arith, was.weighs) in
+    let from_zero : n ≡ 0 + n = omega arith in
+    let load : s.load ≡ closed_main (layouts s.blocks) (block_named (codes "main") 0 s.blocks) + open_main s.weight (Some b) + length (laid_out (layouts s.blocks) s.spawns) = ok.load ∙ ap (λ o. closed_main (layouts s.blocks) (block_named (codes "main") 0 s.blocks) + open_main s.weight o + length (laid_out (layouts s.blocks) s.spawns)) is in
+    let laid = laid_out-same (layouts s.blocks) (layouts (s.blocks ++ b ∷ [])) n s.spawns (layout-push s.blocks b) ok.spawns in
+    let main = main-push s.blocks b s.weight was.apart weighs in
+    subst (λ o. IsSound (record s { blocks = s.blocks ++ closed o; block = None; weights = s.weights ++ closed_weight o s.weight; weight = 0 })) (sym is)
+    (record {
+      few_channels = ok.few_channels;
+      channels = ok.channels;
+      blocks = all_push (names_channels (length s.channels)) s.blocks b ok.blocks channels;
+      block = refl;
+      jobs = all_push (λ x. knows_jobs 0 x.code) s.blocks b ok.jobs was.jobs;
+      launches = launch_back-push 0 s.blocks b ok.launches (ap (λ m. all_below m (launched b.code)) (sym from_zero) ∙ was.launches);
+      open_block = tt;
+      spawns = all_below-more n (length (s.blocks ++ b ∷ [])) grown s.spawns ok.spawns;
+      weights = ap (λ l. l ++ s.weight ∷ []) ok.weights ∙ ap (λ w. sizes_in s.blocks ++ w ∷ []) weighs ∙ sym (map-append length (layouts s.blocks) (next_layout (layouts s.blocks) b ∷ [])) ∙ ap (map length) (sym (layouts-push s.blocks b));
+      load = omega (arith, load, main, ap length laid);
+      light = omega arith;
+      few_coroutines = ok.few_coroutines;
+    })
 
 -- what a line says keeps the script sound
 pub IsSound-after : (s : Read) (words : List (List ℕ)) (form : Form) → Says s words form → IsSound s → IsSound (after form s)
@@ -107,43 +151,67 @@ IsSound-after s words (channel_is c) says ok =
       channels = all_push is_declared s.channels d ok.channels refl;
       blocks = all_weaker (names_channels (length s.channels)) (names_channels (length (s.channels ++ d ∷ []))) (names_more (length s.channels) (length (s.channels ++ d ∷ [])) (omega (arith, count))) s.blocks ok.blocks;
       block = block_more (length s.channels) (length (s.channels ++ d ∷ [])) (omega (arith, count)) s.block ok.block;
+      jobs = ok.jobs;
+      launches = ok.launches;
+      open_block = ok.open_block;
       spawns = ok.spawns;
+      weights = ok.weights;
+      load = ok.load;
+      light = ok.light;
       few_coroutines = ok.few_coroutines;
     }
 IsSound-after s words (coroutine_is p) says ok =
+    let b : Block = record { name = p; jobs = []; code = [] } in
+    let before : s.load ≡ closed_main (layouts s.blocks) (block_named (codes "main") 0 s.blocks) + 0 + length (laid_out (layouts s.blocks) s.spawns) = ok.load ∙ ap (λ o. closed_main (layouts s.blocks) (block_named (codes "main") 0 s.blocks) + open_main s.weight o + length (laid_out (layouts s.blocks) s.spawns)) says.0 in
     record {
       few_channels = ok.few_channels;
       channels = ok.channels;
       blocks = ok.blocks;
       block = refl;
+      jobs = ok.jobs;
+      launches = ok.launches;
+      open_block = record { apart = says.2.none; jobs = refl; names = refl; launches = refl; weighs = omega arith; few_jobs = omega arith };
       spawns = ok.spawns;
-      few_coroutines = subst (λ m. load m (length s.spawns) ≤ 16000) (sym (has_main-push s.blocks (record { name = p; code = [] }))) says.3;
+      weights = ok.weights;
+      load = by_test (is_main p) before;
+      light = omega arith;
+      few_coroutines = says.3;
     }
+  where
+    by_test : (t : Bool) → s.load ≡ closed_main (layouts s.blocks) (block_named (codes "main") 0 s.blocks) + 0 + length (laid_out (layouts s.blocks) s.spawns) → s.load + (if t then 1 else 0) ≡ closed_main (layouts s.blocks) (block_named (codes "main") 0 s.blocks) + (if t then 1 else 0) + length (laid_out (layouts s.blocks) s.spawns)
+    by_test true e = omega (arith, e)
+    by_test false e = omega (arith, e)
 IsSound-after s words (spawn_is i) says ok =
+    let within = block_within s.blocks i says.0 says.3 in
+    let long = length-laid_out-push (layouts s.blocks) s.spawns i in
     record {
       few_channels = ok.few_channels;
       channels = ok.channels;
       blocks = ok.blocks;
       block = ok.block;
-      spawns = all_push (λ j. nat_lt j (length s.blocks)) s.spawns i ok.spawns (lt-true i (length s.blocks) (block_within s.blocks i says.0 says.3));
-      few_coroutines = few (s.block) says.1;
+      jobs = ok.jobs;
+      launches = ok.launches;
+      open_block = ok.open_block;
+      spawns = all_push (λ j. nat_lt j (length s.blocks)) s.spawns i ok.spawns (lt-true i (length s.blocks) within);
+      weights = ok.weights;
+      load = omega (arith, ok.load, weight_of-is s i ok within, long);
+      light = ok.light;
+      few_coroutines = says.5;
     }
-  where
-    few : (b : Option Block) → b ≡ None → load (has_main (s.blocks ++ closed b)) (length (s.spawns ++ i ∷ [])) ≤ 16000
-    few None e = subst (λ bs. load (has_main bs) (length (s.spawns ++ i ∷ [])) ≤ 16000) (sym (append-nil s.blocks)) (subst (λ n. load (has_main s.blocks) n ≤ 16000) (sym (length-append s.spawns (i ∷ []))) says.5)
-    few (Some b) e = cc
-IsSound-after s words (send_is i v) says ok = line_sound s (Send i v) ok (channel_within s.channels i says.0 says.3)
-IsSound-after s words (receive_is i) says ok = line_sound s (Receive i) ok (channel_within s.channels i says.0 says.3)
-IsSound-after s words end_is says ok =
-    let grown : length s.blocks ≤ length (s.blocks ++ closed s.block) = omega (arith, length-append s.blocks (closed s.block)) in
-    record {
-      few_channels = ok.few_channels;
-      channels = ok.channels;
-      blocks = closed_sound (length s.channels) s.blocks s.block ok.blocks ok.block;
-      block = refl;
-      spawns = all_weaker (λ j. nat_lt j (length s.blocks)) (λ j. nat_lt j (length (s.blocks ++ closed s.block))) (more (length s.blocks) (length (s.blocks ++ closed s.block)) grown) s.spawns ok.spawns;
-      few_coroutines = subst (λ bs. load (has_main bs) (length s.spawns) ≤ 16000) (sym (append-nil (s.blocks ++ closed s.block))) ok.few_coroutines;
-    }
+IsSound-after s words (send_is i v) says ok = let b = open_block s.block says.1 in line_sound s b.0 (Send i v) ok b.1 (lt-true i (length s.channels) (channel_within s.channels i says.0 says.3)) refl refl refl
+IsSound-after s words (receive_is i) says ok = let b = open_block s.block says.1 in line_sound s b.0 (Receive i) ok b.1 (lt-true i (length s.channels) (channel_within s.channels i says.0 says.3)) refl refl refl
+IsSound-after s words yield_is says ok = let b = open_block s.block says.0 in line_sound s b.0 Yield ok b.1 refl refl refl refl
+IsSound-after s words (launch_is i lazy job) says ok = launch_sound s says.0 i lazy job ok says.2 (block_within s.blocks i says.1 says.4) says.7 says.8
+IsSound-after s words (start_is j) says ok = line_sound s says.0 (Start j) ok says.2 refl (both (nat_lt j (length says.0.jobs)) true (lt-true j (length says.0.jobs) (job_within says.0.jobs j says.1 says.4)) refl) refl refl
+IsSound-after s words (cancel_is j) says ok = line_sound s says.0 (Cancel j) ok says.2 refl (both (nat_lt j (length says.0.jobs)) true (lt-true j (length says.0.jobs) (job_within says.0.jobs j says.1 says.4)) refl) refl refl
+IsSound-after s words (fail_is v) says ok = let b = open_block s.block says.0 in line_sound s b.0 (Fail v) ok b.1 refl refl refl refl
+IsSound-after s words (result_is v) says ok = let b = open_block s.block says.0 in line_sound s b.0 (SetResult v) ok b.1 refl refl refl refl
+IsSound-after s words end_is says ok = let b = open_block s.block says.0 in end_sound s b.0 ok b.1
+
+-- what is said, line after line, keeps the script sound: its weights are those of the layouts, its load is their sum
+pub IsSound-said : (s t : Read) (lines : List (List (List ℕ))) → SayAll s lines t → IsSound s → IsSound t
+IsSound-said s t [] all ok = subst IsSound all ok
+IsSound-said s t (words ∷ more) all ok = IsSound-said (after all.0 s) t more all.2 (IsSound-after s words all.0 all.1 ok)
 
 -- ---- how many bytes blocks take at least
 
@@ -168,6 +236,12 @@ unfolding open_cost
 line_cost None line = refl
 line_cost (Some b) line = refl
 
+launch_cost : (b : Option Block) (i : ℕ) (lazy : Bool) (job : Option (List ℕ)) → open_cost (with_launch i lazy job b) ≡ open_cost b
+unfolding open_cost
+launch_cost None i lazy job = refl
+launch_cost (Some b) i lazy None = refl
+launch_cost (Some b) i lazy (Some name) = refl
+
 pub blocks-cost : (s : Read) → 16 * length s.blocks ≤ cost s
 unfolding cost
 blocks-cost s = omega arith
@@ -183,6 +257,12 @@ cost-after s words (coroutine_is p) says =
 cost-after s words (spawn_is i) says = omega arith
 cost-after s words (send_is i v) says = omega (arith, line_cost s.block (Send i v))
 cost-after s words (receive_is i) says = omega (arith, line_cost s.block (Receive i))
+cost-after s words yield_is says = omega (arith, line_cost s.block Yield)
+cost-after s words (launch_is i lazy job) says = omega (arith, launch_cost s.block i lazy job)
+cost-after s words (start_is j) says = omega (arith, line_cost s.block (Start j))
+cost-after s words (cancel_is j) says = omega (arith, line_cost s.block (Cancel j))
+cost-after s words (fail_is v) says = omega (arith, line_cost s.block (Fail v))
+cost-after s words (result_is v) says = omega (arith, line_cost s.block (SetResult v))
 cost-after s words end_is says = ended s.block says.0
   where
     ended : (b : Option Block) → is_some b ≡ true → 16 * length (s.blocks ++ closed b) + 0 ≤ 16 * length s.blocks + open_cost b + text_length words

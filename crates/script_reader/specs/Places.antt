@@ -96,3 +96,19 @@ is_main name = bytes_eq name (codes "main")
 abbrev pub other_than_main : List (List ℕ) → Result (Unit {0}) FaultKind
 other_than_main [] = Ok tt
 other_than_main (word ∷ rest) = if is_main word then Err Recursive else Ok tt
+
+-- the name of what stands before this place, which may be neither this one nor main
+abbrev pub launchable : {X : Type 0} → Bool → Bool → Option ℕ → X → Result (ℕ × X) FaultKind
+launchable own main None x = if own then Err Recursive else Err Undeclared
+launchable own main (Some i) x = if main then Err Recursive else Ok (i, x)
+
+abbrev pub job_named : List (List ℕ) → List (List ℕ) → Result (Option (List ℕ)) FaultKind
+job_named names words = do
+  name ← new_at names words
+  _ ← end_at name.1
+  Ok (Some name.0)
+
+-- `as` and a name that nothing in the list has, or no word
+abbrev pub job_at : List (List ℕ) → List (List ℕ) → Result (Option (List ℕ)) FaultKind
+job_at names [] = Ok None
+job_at names (word ∷ rest) = if bytes_eq word (codes "as") then job_named names rest else Err Extra

@@ -10,5 +10,12 @@ pub(crate) enum Spoken<'a> {
     Spawn(u16),
     Send(ChannelId, Value),
     Receive(ChannelId),
+    Yield,
+    /// The block, whether the launch is lazy, and the new name of its Job.
+    Launch(u16, bool, Option<&'a str>),
+    Start(u16),
+    Cancel(u16),
+    Fail(Value),
+    SetResult(Value),
     End,
 }

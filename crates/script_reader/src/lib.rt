@@ -11,6 +11,7 @@
 //! - `reading`: the script so far.
 //! - `lines`: the form of each line.
 //! - `enter`: what a line adds to the script so far.
+//! - `tags`: the block of each tag.
 //! - `text`: all lines of a text.
 //! - `reader`: the script of a text.
 #![tactic(auto)]
@@ -23,6 +24,7 @@ mod place;
 mod reader;
 mod reading;
 mod script;
+mod tags;
 mod text;
 mod words;
 

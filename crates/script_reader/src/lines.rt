@@ -1,15 +1,17 @@
 //! The form of each line.
 
 ghost use Rattle.std.specs.Prelude.{◌≡◌, ◌≤◌, length, string_bytes};
+ghost use Rattle.script_reader.specs.Programs.{block_of};
 ghost use Rattle.script_reader.specs.Faults.{Gives};
 ghost use Rattle.script_reader.specs.Words.{texts};
-ghost use Rattle.script_reader.specs.Forms.{channel_line, coroutine_line, spawn_line, send_line, receive_line, end_line, outside, inside, form_at, load, has_main};
+ghost use Rattle.script_reader.specs.Forms.{channel_line, coroutine_line, spawn_line, send_line, receive_line, weight_of, new_load, target_at, grown_load, launch_line, start_line, cancel_line, yield_line, fail_line, result_line, end_line, outside, of_job, inside, form_at};
 ghost use Rattle.script_reader.specs.Reading.{view, said, Few};
 
 use crate::fault::FaultKind;
 use crate::form::Spoken;
 use crate::place::{
-    Named, at_most, end_of, known_of, names_main, new_of, not_main, number_of, place_of, word_of,
+    Named, at_most, end_of, job_of, known_of, name_of, names_main, new_of, not_main, number_of,
+    place_of, word_of,
 };
 use crate::reading::Reading;
 use crate::script::{Channel, Coroutine};
@@ -38,14 +40,6 @@ fn channel_count(reading: &Reading) -> usize
     reading.channels.len()
 }
 
-fn spawn_count(reading: &Reading) -> usize
-    requires { Few reading.now }
-    ensures count { result ≡ length (view reading.now).spawns }
-    ensures few { result ≤ 16000 }
-{
-    reading.spawns.len()
-}
-
 #[tactic(auto, using(crate::proofs::Names::names_of_channels))]
 fn channel_form<'a>(reading: &Reading, words: &[&'a [u8]]) -> Result<Spoken<'a>, FaultKind>
     requires { Few reading.now }
@@ -58,19 +52,23 @@ fn channel_form<'a>(reading: &Reading, words: &[&'a [u8]]) -> Result<Spoken<'a>,
     Ok(Spoken::Channel(name))
 }
 
-#[tactic(auto, using(crate::proofs::Names::main_of_blocks))]
-fn main_declared(reading: &Reading) -> bool
-    requires { Few reading.now }
-    ensures { result ≡ has_main (view reading.now).blocks }
+/// The weight of a closed block.
+pub(crate) fn weight_of(reading: &Reading, block: u16) -> usize
+    ensures weight { result ≡ weight_of (view reading.now) block }
+    ensures fits { result ≤ 65535 }
 {
-    place_of(&reading.coroutines, "main").is_some()
+    match reading.weights.get(block as usize) {
+        Some(weight) => *weight as usize,
+        None => 0,
+    }
 }
 
-fn load_of(main: bool, spawns: usize) -> usize
-    requires { spawns ≤ 16001 }
-    ensures { result ≡ load main spawns }
+/// What a new block of this name adds to the load.
+pub(crate) fn new_load(name: &[u8]) -> usize
+    ensures load { result ≡ new_load name.now }
+    ensures few { result ≤ 1 }
 {
-    if main { 1 + spawns } else { spawns }
+    if names_main(name) { 1 } else { 0 }
 }
 
 #[tactic(auto, using(crate::proofs::Names::names_of_blocks))]
@@ -80,8 +78,7 @@ fn coroutine_form<'a>(reading: &Reading, words: &[&'a [u8]]) -> Result<Spoken<'a
 {
     let (name, rest) = new_of(&reading.coroutines, words)?;
     end_of(rest)?;
-    let main = names_main(name.as_bytes()) || main_declared(reading);
-    at_most(16_000, load_of(main, spawn_count(reading)))?;
+    at_most(16_000, reading.load + new_load(name.as_bytes()))?;
     Ok(Spoken::Coroutine(name))
 }
 
@@ -93,10 +90,7 @@ fn spawn_form<'a>(reading: &Reading, words: &[&'a [u8]]) -> Result<Spoken<'a>, F
     let (block, rest) = known_of(&reading.coroutines, words)?;
     not_main(words)?;
     end_of(rest)?;
-    at_most(
-        16_000,
-        load_of(main_declared(reading), spawn_count(reading) + 1),
-    )?;
+    at_most(16_000, reading.load + weight_of(reading, block))?;
     Ok(Spoken::Spawn(block))
 }
 
@@ -119,6 +113,97 @@ fn receive_form<'a>(reading: &Reading, words: &[&'a [u8]]) -> Result<Spoken<'a>,
     let (channel, rest) = known_of(&reading.channels, words)?;
     end_of(rest)?;
     Ok(Spoken::Receive(channel))
+}
+
+/// The block that a line of the open block launches, and the words after it.
+#[tactic(auto, using(crate::proofs::Names::names_of_blocks))]
+fn target_of<'a, 'b>(
+    reading: &Reading,
+    block: &Coroutine,
+    words: &'b [&'a [u8]],
+) -> Result<(u16, &'b [&'a [u8]]), FaultKind>
+    requires { Few reading.now }
+    ensures { Gives (λ x. (x.0, texts x.1.now)) result (target_at (view reading.now) (block_of block.now) (texts words.now)) }
+{
+    let (name, rest) = name_of(words)?;
+    match place_of(&reading.coroutines, name) {
+        None if block.name.as_str() == name => Err(FaultKind::Recursive),
+        None => Err(FaultKind::Undeclared),
+        Some(_) if names_main(name.as_bytes()) => Err(FaultKind::Recursive),
+        Some(target) => Ok((target, rest)),
+    }
+}
+
+/// The load, where the open block grows by this weight.
+pub(crate) fn grown_load(reading: &Reading, block: &Coroutine, weight: usize) -> usize
+    requires few { Few reading.now }
+    requires fits { weight ≤ 65535 }
+    ensures { result ≡ grown_load (view reading.now) (block_of block.now) weight }
+{
+    if names_main(block.name.as_bytes()) {
+        reading.load + weight
+    } else {
+        reading.load
+    }
+}
+
+fn launch_form<'a>(
+    lazy: bool,
+    reading: &Reading,
+    block: &Coroutine,
+    words: &[&'a [u8]],
+) -> Result<Spoken<'a>, FaultKind>
+    requires few { Few reading.now }
+    requires jobs { length block.now.jobs.items ≤ 16000 }
+    ensures { Gives said result (launch_line lazy (view reading.now) (block_of block.now) (texts words.now)) }
+{
+    let (target, rest) = target_of(reading, block, words)?;
+    let job = job_of(&block.jobs, rest)?;
+    let weight = weight_of(reading, target);
+    at_most(16_000, reading.weight + weight)?;
+    at_most(16_000, grown_load(reading, block, weight))?;
+    Ok(Spoken::Launch(target, lazy, job))
+}
+
+fn start_form<'a>(block: &Coroutine, words: &[&'a [u8]]) -> Result<Spoken<'a>, FaultKind>
+    requires { length block.now.jobs.items ≤ 16000 }
+    ensures { Gives said result (start_line (block_of block.now) (texts words.now)) }
+{
+    let (job, rest) = known_of(&block.jobs, words)?;
+    end_of(rest)?;
+    Ok(Spoken::Start(job))
+}
+
+fn cancel_form<'a>(block: &Coroutine, words: &[&'a [u8]]) -> Result<Spoken<'a>, FaultKind>
+    requires { length block.now.jobs.items ≤ 16000 }
+    ensures { Gives said result (cancel_line (block_of block.now) (texts words.now)) }
+{
+    let (job, rest) = known_of(&block.jobs, words)?;
+    end_of(rest)?;
+    Ok(Spoken::Cancel(job))
+}
+
+fn yield_form<'a>(words: &[&'a [u8]]) -> Result<Spoken<'a>, FaultKind>
+    ensures { Gives said result (yield_line (texts words.now)) }
+{
+    end_of(words)?;
+    Ok(Spoken::Yield)
+}
+
+fn fail_form<'a>(words: &[&'a [u8]]) -> Result<Spoken<'a>, FaultKind>
+    ensures { Gives said result (fail_line (texts words.now)) }
+{
+    let (code, rest) = number_of(0, u32::MAX, words)?;
+    end_of(rest)?;
+    Ok(Spoken::Fail(code))
+}
+
+fn result_form<'a>(words: &[&'a [u8]]) -> Result<Spoken<'a>, FaultKind>
+    ensures { Gives said result (result_line (texts words.now)) }
+{
+    let (value, rest) = number_of(0, u32::MAX, words)?;
+    end_of(rest)?;
+    Ok(Spoken::SetResult(value))
 }
 
 fn end_form<'a>(words: &[&'a [u8]]) -> Result<Spoken<'a>, FaultKind>
@@ -148,14 +233,47 @@ fn outside_form<'a>(
     }
 }
 
-#[tactic(auto, unfolding(crate::specs::Forms::inside))]
-fn inside_form<'a>(
+/// What a line of a Job says.
+#[tactic(auto, unfolding(crate::specs::Forms::of_job))]
+fn job_form<'a>(
     reading: &Reading,
+    block: &Coroutine,
     word: &[u8],
     rest: &[&'a [u8]],
 ) -> Result<Spoken<'a>, FaultKind>
-    requires { Few reading.now }
-    ensures { Gives said result (inside (view reading.now) word.now (texts rest.now)) }
+    requires few { Few reading.now }
+    requires jobs { length block.now.jobs.items ≤ 16000 }
+    ensures { Gives said result (of_job (view reading.now) (block_of block.now) word.now (texts rest.now)) }
+{
+    if word == b"launch".as_slice() {
+        launch_form(false, reading, block, rest)
+    } else if word == b"lazy".as_slice() {
+        launch_form(true, reading, block, rest)
+    } else if word == b"start".as_slice() {
+        start_form(block, rest)
+    } else if word == b"cancel".as_slice() {
+        cancel_form(block, rest)
+    } else if word == b"yield".as_slice() {
+        yield_form(rest)
+    } else if word == b"fail".as_slice() {
+        fail_form(rest)
+    } else if word == b"result".as_slice() {
+        result_form(rest)
+    } else {
+        Err(FaultKind::UnknownWord)
+    }
+}
+
+#[tactic(auto, unfolding(crate::specs::Forms::inside))]
+fn inside_form<'a>(
+    reading: &Reading,
+    block: &Coroutine,
+    word: &[u8],
+    rest: &[&'a [u8]],
+) -> Result<Spoken<'a>, FaultKind>
+    requires few { Few reading.now }
+    requires jobs { length block.now.jobs.items ≤ 16000 }
+    ensures { Gives said result (inside (view reading.now) (block_of block.now) word.now (texts rest.now)) }
 {
     if word == b"send".as_slice() {
         send_form(reading, rest)
@@ -164,7 +282,7 @@ fn inside_form<'a>(
     } else if word == b"end".as_slice() {
         end_form(rest)
     } else {
-        Err(FaultKind::UnknownWord)
+        job_form(reading, block, word, rest)
     }
 }
 
@@ -177,8 +295,8 @@ pub(crate) fn form_of<'a>(
     requires { Few reading.now }
     ensures { Gives said result (form_at (view reading.now) (view reading.now).block word.now (texts rest.now)) }
 {
-    match reading.block {
+    match &reading.block {
         None => outside_form(reading, word, rest),
-        Some(_) => inside_form(reading, word, rest),
+        Some(block) => inside_form(reading, block, word, rest),
     }
 }

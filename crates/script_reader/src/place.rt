@@ -1,10 +1,11 @@
 //! What stands at each place of a line, from left to right.
 
-ghost use Rattle.std.specs.Prelude.{◌≡◌, ◌≤◌, List, ℕ, length, map, true};
+ghost use Rattle.std.specs.Prelude.{◌≡◌, ◌≤◌, List, ℕ, length, map, true, string_bytes};
+ghost use Rattle.script_reader.specs.Reading.{name_in};
 ghost use Rattle.std.specs.Str.{all_ascii_digits};
 ghost use Rattle.script_reader.specs.Faults.{Gives};
 ghost use Rattle.script_reader.specs.Words.{texts};
-ghost use Rattle.script_reader.specs.Places.{word_at, end_at, at_most, is_number, number_at, value_at, is_name_byte, all_name_bytes, is_name, name_at, place_from, new_at, known_at, is_main, other_than_main};
+ghost use Rattle.script_reader.specs.Places.{word_at, end_at, at_most, is_number, number_at, value_at, is_name_byte, all_name_bytes, is_name, name_at, place_from, new_at, known_at, is_main, other_than_main, job_named, job_at};
 
 use crate::fault::FaultKind;
 
@@ -140,7 +141,7 @@ fn name_text(word: &[u8]) -> &str
     text
 }
 
-fn name_of<'a, 'b>(words: &'b [&'a [u8]]) -> Result<(&'a str, &'b [&'a [u8]]), FaultKind>
+pub(crate) fn name_of<'a, 'b>(words: &'b [&'a [u8]]) -> Result<(&'a str, &'b [&'a [u8]]), FaultKind>
     ensures { Gives (λ x. (x.0.now, texts x.1.now)) result (name_at (texts words.now)) }
 {
     match words {
@@ -206,5 +207,34 @@ pub(crate) fn not_main(words: &[&[u8]]) -> Result<(), FaultKind>
     match words {
         [word, ..] if names_main(*word) => Err(FaultKind::Recursive),
         _ => Ok(()),
+    }
+}
+
+impl Named for String {
+    ghost name_of = { λ s. string_bytes s };
+
+    fn name(&self) -> &str {
+        self.as_str()
+    }
+}
+
+fn job_named<'a>(names: &[String], words: &[&'a [u8]]) -> Result<Option<&'a str>, FaultKind>
+    requires { length names.now ≤ 65536 }
+    ensures { Gives name_in result (job_named (map string_bytes names.now) (texts words.now)) }
+{
+    let (name, rest) = new_of(names, words)?;
+    end_of(rest)?;
+    Ok(Some(name))
+}
+
+/// The new name of a Job, if there is a word.
+pub(crate) fn job_of<'a>(names: &[String], words: &[&'a [u8]]) -> Result<Option<&'a str>, FaultKind>
+    requires { length names.now ≤ 65536 }
+    ensures { Gives name_in result (job_at (map string_bytes names.now) (texts words.now)) }
+{
+    match words {
+        [] => Ok(None),
+        [word, rest @ ..] if *word == b"as".as_slice() => job_named(names, rest),
+        _ => Err(FaultKind::Extra),
     }
 }

@@ -2,8 +2,7 @@
 
 ghost use Rattle.std.proofs.Props.{props};
 ghost use Rattle.std.specs.Prelude.{◌≡◌, ◌<◌, length, map, Some};
-ghost use lib.Chars.{codes};
-ghost use Rattle.script_reader.specs.Programs.{program_from, IsProgram, declared_of, block_of, block_named, block_of_tag, coroutine_count};
+ghost use Rattle.script_reader.specs.Programs.{program_from, IsProgram, declared_of, block_of, block_of_tag, coroutine_count, tags_of, size_of, sizes_in};
 
 use channel_model::Kind;
 use co_base::{ChannelId, Tag, Value};
@@ -19,14 +18,40 @@ pub struct Channel {
 /// One line of a coroutine.
 #[derive(Clone, Copy, Debug, PartialEq, Eq)]
 pub enum Instruction {
-    Send { c: ChannelId, value: Value },
-    Receive { c: ChannelId },
+    Send {
+        c: ChannelId,
+        value: Value,
+    },
+    Receive {
+        c: ChannelId,
+    },
+    Yield,
+    /// Launches an instance of the block; `job` is the number of the name that its Job gets, among the names of the block.
+    Launch {
+        block: u16,
+        lazy: bool,
+        job: Option<u16>,
+    },
+    Start {
+        job: u16,
+    },
+    Cancel {
+        job: u16,
+    },
+    Fail {
+        code: Value,
+    },
+    SetResult {
+        value: Value,
+    },
 }
 
-/// A coroutine that a script declares: its name and its lines.
+/// A coroutine that a script declares: its name, the names of its Jobs, and its lines.
 #[derive(Debug, Drop)]
 pub struct Coroutine {
     pub name: String,
+    /// In the order of the lines that give them.
+    pub jobs: Vec<String>,
     pub code: Vec<Instruction>,
 }
 
@@ -42,10 +67,13 @@ pub struct Script {
     pub(crate) channels: Vec<Channel>,
     pub(crate) coroutines: Vec<Coroutine>,
     pub(crate) spawns: Vec<Spawn>,
-    /// The number of the coroutine that is main.
-    pub(crate) main: u16,
+    /// How many tags an instance of each block takes.
+    pub(crate) sizes: Vec<u16>,
+    /// The block of each tag.
+    pub(crate) tags: Vec<u16>,
     pub ghost well_formed: { IsProgram (program_from channels.items coroutines.items spawns.items) } by { Prim.hlevel props },
-    pub ghost main_first: { block_named (codes "main") 0 (map block_of coroutines.items) ≡ Some main } by { Prim.hlevel props },
+    pub ghost sized: { sizes.items ≡ sizes_in (map block_of coroutines.items) } by { Prim.hlevel props },
+    pub ghost tagged: { tags.items ≡ tags_of (program_from channels.items coroutines.items spawns.items) } by { Prim.hlevel props },
 }
 
 impl Script {
@@ -72,11 +100,12 @@ impl Script {
         self.spawns.as_slice()
     }
 
-    /// How many coroutines run: main, and one for each spawn. Their tags are the numbers below it.
+    /// How many coroutines may run: main, and each instance that is spawned or launched. Their tags are the numbers below
+    /// it.
     pub fn coroutines(&self) -> u16
         ensures { result ≡ coroutine_count (program_of self.now) }
     {
-        self.spawns.len() as u16 + 1
+        self.tags.len() as u16
     }
 
     /// The coroutine, by its place among the blocks, whose lines the tag runs.
@@ -85,10 +114,14 @@ impl Script {
         ensures block { block_of_tag (program_of self.now) tag ≡ Some result }
         ensures declared { result < length (program_of self.now).blocks }
     {
-        if tag == 0 {
-            self.main
-        } else {
-            self.spawns[tag as usize - 1].coroutine
-        }
+        self.tags[tag as usize]
+    }
+
+    /// How many tags an instance of a block takes: its own, and those of all that it launches.
+    pub fn size_of(&self, block: u16) -> u16
+        requires { block < length (program_of self.now).blocks }
+        ensures { result ≡ size_of (program_of self.now) block }
+    {
+        self.sizes[block as usize]
     }
 }

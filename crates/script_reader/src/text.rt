@@ -13,6 +13,7 @@ use crate::fault::{FaultKind, ScriptFault};
 use crate::place::place_of;
 use crate::reading::Reading;
 use crate::script::Script;
+use crate::tags::tags_in;
 use crate::words::lines;
 use std::alloc::Global;
 
@@ -36,7 +37,7 @@ fn lines_in(alloc: Global, lines: &[&[u8]]) -> Result<Reading, ScriptFault>
 }
 
 /// The script, after the last line.
-fn finished(reading: Reading) -> Result<Script, FaultKind>
+fn finished(alloc: Global, reading: Reading) -> Result<Script, FaultKind>
     requires sound { IsSound (view reading) }
     requires few { Few reading }
     ensures { Gives program_of result (finish (view reading)) }
@@ -46,17 +47,24 @@ fn finished(reading: Reading) -> Result<Script, FaultKind>
         coroutines,
         spawns,
         block,
+        weights,
+        weight: _,
+        load: _,
     } = reading;
     if block.is_some() {
         return Err(FaultKind::NoEnd);
     }
     match place_of(&coroutines, "main") {
-        Some(main) => Ok(Script {
-            channels,
-            coroutines,
-            spawns,
-            main,
-        }),
+        Some(main) => {
+            let tags = tags_in(alloc, &coroutines, &spawns, main)?;
+            Ok(Script {
+                channels,
+                coroutines,
+                spawns,
+                sizes: weights,
+                tags,
+            })
+        }
         None => Err(FaultKind::NoMain),
     }
 }
@@ -75,7 +83,7 @@ pub(crate) fn read_text(alloc: Global, bytes: &[u8]) -> Result<Script, ScriptFau
     let count = parts.len() as u32;
     match lines_in(alloc, &parts) {
         Err(fault) => Err(fault),
-        Ok(reading) => match finished(reading) {
+        Ok(reading) => match finished(alloc, reading) {
             Ok(script) => Ok(script),
             Err(kind) => Err(ScriptFault { line: count, kind }),
         },

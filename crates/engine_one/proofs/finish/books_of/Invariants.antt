@@ -1,7 +1,7 @@
 use Rattle.std.proofs.Common.{◌≡◌, map}
-use Rattle.poll_states.specs.Books.{items_of}
-use Rattle.engine_one.specs.Coroutines.{book_of}
+use Rattle.note_book.specs.Books.{notes_of}
+use Rattle.engine_one.specs.Coroutines.{books_of}
 use Rattle.engine_one.proofs.finish.books_of.Given as goal
 
 abbrev pub invariant-loop-frame : goal.invariant-loop-frame
-invariant-loop-frame l = map items_of l.books.items ≡ map book_of l.yielded
+invariant-loop-frame l = map notes_of l.books.items ≡ books_of l.yielded

@@ -1,5 +1,5 @@
 use Rattle.script_reader.specs.Scripts.{program_of}
-use Rattle.engine_one.proofs.Beginnings.{all_may_be_made}
+use Rattle.engine_one.proofs.ChannelKinds.{all_may_be_made}
 use Rattle.engine_one.proofs.start.channels_of.Goals as goal
 
 pub new-requires-clause-kinds : goal.new-requires-clause-kinds

@@ -1,34 +1,18 @@
-use Rattle.std.proofs.Common.{refl}
-use Rattle.poll_states.specs.Runs.{takes, awaits, no_more, receive_spent}
-use Rattle.poll_states.proofs.Moves.{ran_on, answered, failed, awaited}
+use Rattle.std.proofs.Common.{refl, arith}
+use Rattle.script_reader.specs.Scripts.{program_of}
+use Rattle.script_reader.proofs.Declarations.{receive-within, length-shape_of}
+use Rattle.poll_states.proofs.Moves.{line_short, channel_stepped}
+use Rattle.poll_states.proofs.Stepping.{cut_nothing, may_call, room_call, note_after}
 use Rattle.poll_states.proofs.calls.receive.Goals as goal
 
-pub returns-in-Some-clause-call : goal.returns-in-Some-clause-call
-returns-in-Some-clause-call g c = λ code i e. takes _ _ _ _ e
+pub returns-in-Err-clause-came : goal.returns-in-Err-clause-came
+returns-in-Err-clause-came g c = rw c.in-Err.ensures.err (cut_nothing _ _ _ _ refl c.room.ensures.items)
 
-pub returns-in-Some-clause-made : goal.returns-in-Some-clause-made
-returns-in-Some-clause-made g c = ran_on _ _ _ _ c.in-Taken.ensures.answer.made refl refl c.requires.free
+pub take-step-requires-clause-can : goal.take-step-requires-clause-can
+take-step-requires-clause-can g c = room_call _ _ _ _ c.in_default.ensures.ok (may_call _ _ _ _ _ c.requires.stands.fits (receive-within _ c.args.script.now.well_formed _ _ _ c.requires.at.line_is))
 
-pub returns-in_default-clause-call : goal.returns-in_default-clause-call
-returns-in_default-clause-call g c = λ code i e. takes _ _ _ _ e
+pub go_on-requires-clause-line : goal.go_on-requires-clause-line
+go_on-requires-clause-line g c = let h = line_short c.args.script.now c.args.frame.now.tag _ _ c.requires.at.line_is in omega (arith, h)
 
-pub returns-in_default-clause-made : goal.returns-in_default-clause-made
-returns-in_default-clause-made g c = ran_on _ _ _ _ c.in-Taken.ensures.answer.made refl refl c.requires.free
-
-pub returns-in-Waiting-clause-call : goal.returns-in-Waiting-clause-call
-returns-in-Waiting-clause-call g c = λ code i e. awaits _ _ _ e
-
-pub returns-in-Waiting-clause-made : goal.returns-in-Waiting-clause-made
-returns-in-Waiting-clause-made g c = awaited _ _ _ _ _ (g.met.C.ChannelFloor.legal c.receive.new.self) c.in-Waiting.ensures.answer c.requires.can.channel c.requires.free
-
-pub returns-in-Closed-clause-call : goal.returns-in-Closed-clause-call
-returns-in-Closed-clause-call g c = λ code i e. no_more _ _ _ e
-
-pub returns-in-Closed-clause-made : goal.returns-in-Closed-clause-made
-returns-in-Closed-clause-made g c = answered _ _ _ _ c.in-Closed.ensures.answer.0.looked refl c.requires.free
-
-pub returns-in-Spent-clause-call : goal.returns-in-Spent-clause-call
-returns-in-Spent-clause-call g c = λ code i e. receive_spent _ _ e
-
-pub returns-in-Spent-clause-made : goal.returns-in-Spent-clause-made
-returns-in-Spent-clause-made g c = failed _ _ _ _ c.in-Spent.ensures.answer.0 refl c.requires.free
+pub returns-clause-came : goal.returns-clause-came
+returns-clause-came g c = rw c.take-step.ensures.jobs (channel_stepped _ _ _ _ _ _ _ _ c.requires.stands c.in_default.ensures.ok (c.take-step.ensures.made _ (rw (length-shape_of (program_of c.args.script.now)) at (receive-within _ c.args.script.now.well_formed _ _ _ c.requires.at.line_is))) (c.take-step.ensures.call _ _ _ _ c.requires.at) c.go_on.ensures.tag c.go_on.ensures.config (note_after _ _ _ _ c.go_on.ensures.items c.room.ensures.items))

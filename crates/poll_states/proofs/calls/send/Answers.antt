@@ -1,34 +1,20 @@
-use Rattle.std.proofs.Common.{refl}
-use Rattle.poll_states.specs.Runs.{hands, puts, offers, refused, send_spent}
-use Rattle.poll_states.proofs.Moves.{ran_on, answered, failed, offered}
+use Rattle.std.proofs.Common.{refl, arith}
+use Rattle.script_reader.proofs.Declarations.{send-within}
+use Rattle.poll_states.proofs.Moves.{line_short, channel_stepped}
+use Rattle.poll_states.proofs.Stepping.{cut_nothing, may_call, room_call, note_after, no_signal}
 use Rattle.poll_states.proofs.calls.send.Goals as goal
 
-pub returns-in-Handed-clause-call : goal.returns-in-Handed-clause-call
-returns-in-Handed-clause-call g c = λ code i e. hands _ _ _ _ e
+pub returns-in-Err-clause-came : goal.returns-in-Err-clause-came
+returns-in-Err-clause-came g c = rw c.in-Err.ensures.err (cut_nothing _ _ _ _ refl c.room.ensures.items)
 
-pub returns-in-Handed-clause-made : goal.returns-in-Handed-clause-made
-returns-in-Handed-clause-made g c = ran_on _ _ _ _ c.in-Handed.ensures.answer.made refl refl c.requires.free
+pub offer-step-requires-clause-can : goal.offer-step-requires-clause-can
+offer-step-requires-clause-can g c = room_call _ _ _ _ c.in_default.ensures.ok (may_call _ _ _ _ _ c.requires.stands.fits (send-within _ c.args.script.now.well_formed _ _ _ _ c.requires.at.line_is))
 
-pub returns-in-Put-clause-call : goal.returns-in-Put-clause-call
-returns-in-Put-clause-call g c = λ code i e. puts _ _ _ _ e
+pub offer-step-requires-clause-kind : goal.offer-step-requires-clause-kind
+offer-step-requires-clause-kind g c = no_signal _ _ _ _ _ _ c.args.script.now.well_formed c.requires.stands.fits c.in_default.ensures.ok (send-within _ c.args.script.now.well_formed _ _ _ _ c.requires.at.line_is)
 
-pub returns-in-Put-clause-made : goal.returns-in-Put-clause-made
-returns-in-Put-clause-made g c = ran_on _ _ _ _ c.in-Put.ensures.answer refl refl c.requires.free
+pub go_on-requires-clause-line : goal.go_on-requires-clause-line
+go_on-requires-clause-line g c = let h = line_short c.args.script.now c.args.frame.now.tag _ _ c.requires.at.line_is in omega (arith, h)
 
-pub returns-in-Held-clause-call : goal.returns-in-Held-clause-call
-returns-in-Held-clause-call g c = λ code i e. offers _ _ _ _ e
-
-pub returns-in-Held-clause-made : goal.returns-in-Held-clause-made
-returns-in-Held-clause-made g c = offered _ _ _ _ _ _ (g.met.C.ChannelFloor.legal c.offer.new.self) c.in-Held.ensures.answer.0 c.requires.can.channel c.requires.free
-
-pub returns-in-Closed-clause-call : goal.returns-in-Closed-clause-call
-returns-in-Closed-clause-call g c = λ code i e. refused _ _ _ _ e
-
-pub returns-in-Closed-clause-made : goal.returns-in-Closed-clause-made
-returns-in-Closed-clause-made g c = answered _ _ _ _ c.in-Closed.ensures.answer.looked refl c.requires.free
-
-pub returns-in-Spent-clause-call : goal.returns-in-Spent-clause-call
-returns-in-Spent-clause-call g c = λ code i e. send_spent _ _ _ e
-
-pub returns-in-Spent-clause-made : goal.returns-in-Spent-clause-made
-returns-in-Spent-clause-made g c = failed _ _ _ _ c.in-Spent.ensures.answer.0 refl c.requires.free
+pub returns-clause-came : goal.returns-clause-came
+returns-clause-came g c = rw c.offer-step.ensures.jobs (channel_stepped _ _ _ _ _ _ _ _ c.requires.stands c.in_default.ensures.ok (c.offer-step.ensures.made _) (c.offer-step.ensures.call _ _ _ _ c.requires.at) c.go_on.ensures.tag c.go_on.ensures.config (note_after _ _ _ _ c.go_on.ensures.items c.room.ensures.items))

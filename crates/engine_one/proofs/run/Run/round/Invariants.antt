@@ -5,6 +5,6 @@ use Rattle.engine_one.proofs.run.Run.round.Given as goal
 
 abbrev pub invariant-loop-tag : goal.invariant-loop-tag
 invariant-loop-tag g l = record {
-  stand : AllStand (program_of l.script) (g.C.ChannelFloor.view l.self.channels) l.self.frames.items;
-  round : RoundSoFar (program_of l.script) (g.C.ChannelFloor.view l.initial.self.channels) (g.C.ChannelFloor.view l.self.channels) l.initial.self.frames.items l.self.frames.items l.initial.self.ready.tags.items l.self.ready.tags.items l.tag l.moved;
+  stand : AllStand (program_of l.script) (record { channels = g.C.ChannelFloor.view l.self.channels; jobs = g.J.JobFloor.view l.self.jobs }) l.self.frames.items;
+  round : RoundSoFar (program_of l.script) (record { channels = g.C.ChannelFloor.view l.initial.self.channels; jobs = g.J.JobFloor.view l.initial.self.jobs }) (record { channels = g.C.ChannelFloor.view l.self.channels; jobs = g.J.JobFloor.view l.self.jobs }) l.initial.self.frames.items l.self.frames.items l.initial.self.ready.tags.items l.self.ready.tags.items l.tag l.moved;
 }

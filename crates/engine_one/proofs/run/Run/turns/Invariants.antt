@@ -5,7 +5,7 @@ use Rattle.engine_one.proofs.run.Run.turns.Given as goal
 
 abbrev pub invariant-loop-tag : goal.invariant-loop-tag
 invariant-loop-tag g l = record {
-  stand : AllStand (program_of l.script) (g.C.ChannelFloor.view l.self.channels) l.self.frames.items;
+  stand : AllStand (program_of l.script) (record { channels = g.C.ChannelFloor.view l.self.channels; jobs = g.J.JobFloor.view l.self.jobs }) l.self.frames.items;
   moves : all_moves (program_of l.script) l.self.frames.items ≤ all_moves (program_of l.script) l.initial.self.frames.items;
 }
 

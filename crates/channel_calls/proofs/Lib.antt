@@ -1,0 +1,3 @@
+pub mod Dids
+pub mod Begun
+pub mod Ends

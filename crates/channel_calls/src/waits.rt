@@ -1,0 +1,86 @@
+//! To end a call that waits.
+
+ghost use Rattle.std.specs.Prelude.{◌≡◌, ◌<◌, ◌++◌, OnErr};
+ghost use Rattle.channel_model.specs.Floors.{MayCall};
+ghost use Rattle.channel_model.specs.Answers.{IsReady, SettleAnswer};
+ghost use Rattle.channel_calls.specs.Groups.{settle_group};
+ghost use Rattle.channel_calls.specs.Calls.{HoldsWait, DispatchedAnswer, CancelledAnswer};
+
+use crate::caller::Caller;
+use crate::rooms::make_room;
+use channel_model::{Act, ChannelFloor, ChannelNote, Settled, Why, Withdrawn};
+use co_base::{Memory, WaitId, Wakes};
+use note_book::{Item, NoteBook};
+
+impl<F: ChannelFloor, B: NoteBook, W: Wakes> Caller<'_, '_, '_, F, B, W> {
+    /// Settles the caller's wait, which was seen resolved, and notes it. Takes no memory.
+    fn settle(&mut self, w: WaitId, cancelled: bool) -> Settled
+        requires can { MayCall self.old.who w.channel (F.view self.old.floor.now) }
+        requires ready { IsReady self.old.who w (F.view self.old.floor.now) }
+        requires room { 0 < (F.view self.old.floor.now).spare }
+        requires book { 0 < B.spare self.old.book.now }
+        ensures same_floor { self.new.floor.ghost_name ≡ self.old.floor.ghost_name }
+        ensures same_book { self.new.book.ghost_name ≡ self.old.book.ghost_name }
+        ensures same_wakes { self.new.wakes.ghost_name ≡ self.old.wakes.ghost_name }
+        ensures who { self.new.who ≡ self.old.who }
+        ensures quiet { self.new.wakes.now ≡ self.old.wakes.now }
+        ensures anchor { F.anchor self.new.floor.now ≡ F.anchor self.old.floor.now }
+        ensures settled { SettleAnswer self.old.who w cancelled (F.view self.old.floor.now) (F.view self.new.floor.now) result }
+        ensures items { B.items self.new.book.now ≡ B.items self.old.book.now ++ settle_group w result }
+    {
+        let outcome = self.floor.settle(self.who, w, cancelled);
+        let act = Act::Settle { w, outcome };
+        self.book.note(Item::Channel(ChannelNote::Made(act)));
+        outcome
+    }
+
+    /// Ends the caller's wait, which was seen resolved. `cancelled` says that its Job was cancelled before.
+    pub fn dispatch(&mut self, w: WaitId, cancelled: bool) -> Result<Settled, Memory>
+        requires can { MayCall self.old.who w.channel (F.view self.old.floor.now) }
+        requires ready { IsReady self.old.who w (F.view self.old.floor.now) }
+        ensures same_floor { self.new.floor.ghost_name ≡ self.old.floor.ghost_name }
+        ensures same_book { self.new.book.ghost_name ≡ self.old.book.ghost_name }
+        ensures same_wakes { self.new.wakes.ghost_name ≡ self.old.wakes.ghost_name }
+        ensures who { self.new.who ≡ self.old.who }
+        ensures quiet { self.new.wakes.now ≡ self.old.wakes.now }
+        ensures anchor { F.anchor self.new.floor.now ≡ F.anchor self.old.floor.now }
+        ensures memory { OnErr result (F.view self.new.floor.now ≡ F.view self.old.floor.now) }
+        ensures answer { DispatchedAnswer self.old.who w cancelled (F.view self.old.floor.now) (F.view self.new.floor.now) (B.items self.old.book.now) (B.items self.new.book.now) result }
+    {
+        if let Err(memory) = make_room(self.floor, self.book, 1) {
+            return Err(memory);
+        }
+        Ok(self.settle(w, cancelled))
+    }
+
+    /// Ends the caller's wait as cancelled: takes it back, unless it was resolved before, and settles it.
+    pub fn cancel_wait(&mut self, w: WaitId) -> Result<Settled, Memory>
+        requires can { MayCall self.old.who w.channel (F.view self.old.floor.now) }
+        requires holds { HoldsWait self.old.who w (F.view self.old.floor.now) }
+        ensures same_floor { self.new.floor.ghost_name ≡ self.old.floor.ghost_name }
+        ensures same_book { self.new.book.ghost_name ≡ self.old.book.ghost_name }
+        ensures same_wakes { self.new.wakes.ghost_name ≡ self.old.wakes.ghost_name }
+        ensures who { self.new.who ≡ self.old.who }
+        ensures anchor { F.anchor self.new.floor.now ≡ F.anchor self.old.floor.now }
+        ensures memory { OnErr result (F.view self.new.floor.now ≡ F.view self.old.floor.now) }
+        ensures answer { CancelledAnswer self.old.who w (F.view self.old.floor.now) (F.view self.new.floor.now) (B.items self.old.book.now) (B.items self.new.book.now) result }
+    {
+        if let Err(memory) = make_room(self.floor, self.book, 2) {
+            return Err(memory);
+        }
+        let why = Why::Cancelled;
+        let was_cancelled = true;
+        match self.floor.withdraw(self.who, w, why) {
+            Withdrawn::Done(tag) => {
+                let act = Act::Withdraw { w, why };
+                self.book.note(Item::Channel(ChannelNote::Made(act)));
+                self.wakes.wake(tag);
+                Ok(self.settle(w, was_cancelled))
+            }
+            Withdrawn::Late => {
+                self.book.note(Item::Channel(ChannelNote::Late { w }));
+                Ok(self.settle(w, was_cancelled))
+            }
+        }
+    }
+}

@@ -1,0 +1,14 @@
+use Rattle.channel_model.proofs.Alone.{recorded_legal}
+use Rattle.channel_model.proofs.OpenWaits.{replay_open}
+use Rattle.one_thread_floor.proofs.ListEntries.{recorded_at, withdraw_needs}
+use Rattle.one_thread_floor.proofs.list_calls.ListFloorChannelFloor.withdraw.Goals as goal
+
+pub invariant_of-self : goal.invariant_of-self
+invariant_of-self c =
+    let xs = c.args.self.now.channels.items in
+    let es = c.args.self.now.entries.items in
+    let at = c.args.self.now.stands in
+    record {
+      legal = recorded_legal _ es c.push_reserved.new.self.items _ c.args.self.now.legal c.push_reserved.ensures.items (withdraw_needs _ xs es c.args.who c.args.w c.args.why at c.requires.own c.if-not-is_open_wait.ensures);
+      stands = recorded_at _ c.resolve_everywhere.new.channels.items es c.push_reserved.new.self.items _ c.push_reserved.ensures.items (c.resolve_everywhere.ensures _ _ (replay_open es) at);
+    }

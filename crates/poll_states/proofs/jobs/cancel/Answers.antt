@@ -1,0 +1,22 @@
+use Rattle.std.proofs.Common.{refl, arith}
+use Rattle.std.proofs.lemmas.Option.{slice_get_read}
+use Rattle.poll_states.proofs.Moves.{line_short, named_attached}
+use Rattle.poll_states.proofs.Stepping.{may_build_at, knows_cancel, all_same, has_cancelled}
+use Rattle.poll_states.proofs.jobs.cancel.Goals as goal
+
+pub cancel-answer-requires-clause-may : goal.cancel-answer-requires-clause-may
+cancel-answer-requires-clause-may g c = may_build_at _ _ _ _ _ c.args.script.now.well_formed c.requires.stands.fits c.first_done.ensures
+
+pub index-row-requires : goal.index-row-requires
+index-row-requires g c = let h = knows_cancel _ _ _ _ _ c.args.script.now.well_formed c.requires.stands c.requires.at in omega (arith, h, c.args.frame.now.rows.ok.0)
+
+pub cancel-answer-requires-clause-row : goal.cancel-answer-requires-clause-row
+cancel-answer-requires-clause-row g c = named_attached _ _ _ _ _ _ (g.met.J.JobFloor.legal c.args.floors.now.jobs.now) c.requires.stands (slice_get_read _ _ _ _ refl (knows_cancel _ _ _ _ _ c.args.script.now.well_formed c.requires.stands c.requires.at) c.index-row.ensures)
+
+pub next_line-requires : goal.next_line-requires
+next_line-requires g c = let h = line_short c.args.script.now c.args.frame.now.tag _ _ c.requires.at.line_is in omega (arith, h)
+
+pub returns-in-Ok-clause-came : goal.returns-in-Ok-clause-came
+returns-in-Ok-clause-came g c =
+    has_cancelled _ _ _ _ _ _ _ _ _ c.in-Ok.field-0 c.requires.stands c.requires.at (slice_get_read _ _ _ _ refl (knows_cancel _ _ _ _ _ c.args.script.now.well_formed c.requires.stands c.requires.at) c.index-row.ensures)
+    (all_same _ _ _ _ _ _ _ _ _ _ c.in-Ok.ensures.answer c.next_line.ensures.items) (rw c.first_done.ensures at c.in-Ok.ensures.settled) c.next_line.ensures.tag c.next_line.ensures.config

@@ -1,0 +1,22 @@
+use Rattle.std.proofs.Common.{refl, arith}
+use Rattle.std.proofs.lemmas.Option.{slice_get_read}
+use Rattle.poll_states.proofs.Moves.{line_short, named_attached}
+use Rattle.poll_states.proofs.Stepping.{may_build_at, knows_start, did_same, has_started}
+use Rattle.poll_states.proofs.jobs.start.Goals as goal
+
+pub start-answer-requires-clause-may : goal.start-answer-requires-clause-may
+start-answer-requires-clause-may g c = may_build_at _ _ _ _ _ c.args.script.now.well_formed c.requires.stands.fits c.first_done.ensures
+
+pub index-row-requires : goal.index-row-requires
+index-row-requires g c = let h = knows_start _ _ _ _ _ c.args.script.now.well_formed c.requires.stands c.requires.at in omega (arith, h, c.args.frame.now.rows.ok.0)
+
+pub start-answer-requires-clause-row : goal.start-answer-requires-clause-row
+start-answer-requires-clause-row g c = named_attached _ _ _ _ _ _ (g.met.J.JobFloor.legal c.args.floors.now.jobs.now) c.requires.stands (slice_get_read _ _ _ _ refl (knows_start _ _ _ _ _ c.args.script.now.well_formed c.requires.stands c.requires.at) c.index-row.ensures)
+
+pub next_line-requires : goal.next_line-requires
+next_line-requires g c = let h = line_short c.args.script.now c.args.frame.now.tag _ _ c.requires.at.line_is in omega (arith, h)
+
+pub returns-in-Ok-clause-came : goal.returns-in-Ok-clause-came
+returns-in-Ok-clause-came g c =
+    has_started _ _ _ _ _ _ _ _ _ c.in-Ok.field-0 c.requires.stands c.requires.at (slice_get_read _ _ _ _ refl (knows_start _ _ _ _ _ c.args.script.now.well_formed c.requires.stands c.requires.at) c.index-row.ensures)
+    (did_same _ _ _ _ _ _ _ _ _ _ c.in-Ok.ensures.answer.0 c.next_line.ensures.items) c.in-Ok.ensures.answer.1 (rw c.first_done.ensures at c.in-Ok.ensures.settled) c.next_line.ensures.tag c.next_line.ensures.config

@@ -1,0 +1,10 @@
+use Rattle.std.proofs.Common.{arith}
+use Rattle.poll_states.proofs.Moves.{line_short}
+use Rattle.poll_states.proofs.Stepping.{result_set}
+use Rattle.poll_states.proofs.lines.set_result.Goals as goal
+
+pub next_line-requires : goal.next_line-requires
+next_line-requires g c = let h = line_short c.args.script.now c.args.frame.now.tag _ _ c.requires.at.line_is in omega (arith, h)
+
+pub returns-clause-came : goal.returns-clause-came
+returns-clause-came g c = result_set _ _ _ _ _ _ c.requires.stands c.requires.at c.next_line.ensures.tag c.next_line.ensures.config c.next_line.ensures.items

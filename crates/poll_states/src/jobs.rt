@@ -1,0 +1,274 @@
+//! The lines of a coroutine on Jobs, and the end of its body.
+
+ghost use Rattle.std.specs.Prelude.{◌≡◌};
+ghost use Rattle.script_reader.specs.declared.script.Instruction.TheVariants.{Yield, Launch, Start, Cancel};
+ghost use Rattle.script_reader.specs.Scripts.{program_of};
+ghost use Rattle.poll_states.specs.declared.frame.Stage.TheVariants.{Unwinding};
+ghost use Rattle.poll_states.specs.Runs.{IsAt};
+ghost use Rattle.poll_states.specs.Frames.{config_of, StandsOn};
+ghost use Rattle.poll_states.specs.Steps.{HasBody, OwnStateSeen, IsAtEnd, StepAnswer};
+
+use crate::floors::Floors;
+use crate::frame::{Frame, Stage};
+use crate::lines::first_done;
+use channel_model::ChannelFloor;
+use co_base::{Gate, Memory, Row, Tag, Wakes};
+use job_model::{JobFloor, JobNote, JobState};
+use note_book::{Item, NoteBook};
+use scope_builders::{Builder, LaunchError};
+use script_reader::Script;
+
+/// What a coroutine sees of its own Job before its body has ended.
+#[derive(Clone, Copy, Debug, PartialEq, Eq)]
+pub(crate) enum OwnState {
+    /// It is not attached, or New.
+    NotStarted,
+    Cancelling,
+    MayRun,
+}
+
+/// Looks at the caller's own Job, whose body has not ended.
+pub(crate) fn own_state<J: JobFloor>(who: Tag, jobs: &mut J) -> OwnState
+    requires { HasBody who (J.view jobs.old) }
+    ensures anchor { J.anchor jobs.new ≡ J.anchor jobs.old }
+    ensures seen { OwnStateSeen who (J.view jobs.old) (J.view jobs.new) result }
+{
+    match jobs.look(who, who) {
+        None => OwnState::NotStarted,
+        Some(view) => match view.state {
+            JobState::New => OwnState::NotStarted,
+            JobState::Active => OwnState::MayRun,
+            JobState::Cancelling => OwnState::Cancelling,
+            JobState::Completing | JobState::Cancelled | JobState::Completed => unreachable!(),
+        },
+    }
+}
+
+/// Looks whether the own Job is Cancelling.
+pub(crate) fn look_up<C: ChannelFloor, J: JobFloor, W: Wakes, G: Gate>(
+    script: &Script,
+    frame: &mut Frame,
+    floors: &mut Floors<'_, C, J, W>,
+    gate: &G,
+) -> Result<(), Memory>
+    requires stands { StandsOn (program_of script.now) (C.view floors.old.channels.now) (J.view floors.old.jobs.now) frame.old }
+    requires at { IsAt (program_of script.now) frame.old.tag (config_of frame.old) Yield }
+    ensures came { StepAnswer (program_of script.now) (C.view floors.old.channels.now) (C.view floors.new.channels.now) (J.view floors.old.jobs.now) (J.view floors.new.jobs.now) frame.old frame.new result }
+    ensures channels_anchor { C.anchor floors.new.channels.now ≡ C.anchor floors.old.channels.now }
+    ensures jobs_anchor { J.anchor floors.new.jobs.now ≡ J.anchor floors.old.jobs.now }
+    ensures same_channels { floors.new.channels.ghost_name ≡ floors.old.channels.ghost_name }
+    ensures same_jobs { floors.new.jobs.ghost_name ≡ floors.old.jobs.ghost_name }
+    ensures same_wakes { floors.new.wakes.ghost_name ≡ floors.old.wakes.ghost_name }
+{
+    if let Err(memory) = frame.book.room(1) {
+        return Err(memory);
+    }
+    gate.pass(frame.tag, 2);
+    let state = own_state(frame.tag, &mut *floors.jobs);
+    gate.pass(frame.tag, 3);
+    match state {
+        OwnState::NotStarted => unreachable!(),
+        OwnState::Cancelling => {
+            frame.see_cancelling();
+            Ok(())
+        }
+        OwnState::MayRun => {
+            frame.next_line();
+            Ok(())
+        }
+    }
+}
+
+/// Attaches the Job of the next tag, which runs an instance of the block, and gives it its name. A refusal breaks the body off.
+pub(crate) fn launch<C: ChannelFloor, J: JobFloor, W: Wakes, G: Gate>(
+    script: &Script,
+    frame: &mut Frame,
+    floors: &mut Floors<'_, C, J, W>,
+    gate: &G,
+    block: u16,
+    lazy: bool,
+    job: Option<u16>,
+) -> Result<(), Memory>
+    requires stands { StandsOn (program_of script.now) (C.view floors.old.channels.now) (J.view floors.old.jobs.now) frame.old }
+    requires at { IsAt (program_of script.now) frame.old.tag (config_of frame.old) (Launch block lazy job) }
+    ensures came { StepAnswer (program_of script.now) (C.view floors.old.channels.now) (C.view floors.new.channels.now) (J.view floors.old.jobs.now) (J.view floors.new.jobs.now) frame.old frame.new result }
+    ensures channels_anchor { C.anchor floors.new.channels.now ≡ C.anchor floors.old.channels.now }
+    ensures jobs_anchor { J.anchor floors.new.jobs.now ≡ J.anchor floors.old.jobs.now }
+    ensures same_channels { floors.new.channels.ghost_name ≡ floors.old.channels.ghost_name }
+    ensures same_jobs { floors.new.jobs.ghost_name ≡ floors.old.jobs.ghost_name }
+    ensures same_wakes { floors.new.wakes.ghost_name ≡ floors.old.wakes.ghost_name }
+{
+    if frame.rows.reserve(1).is_err() {
+        return Err(Memory);
+    }
+    let size = script.size_of(block);
+    let free = frame.free as Tag;
+    let mut builder = Builder {
+        channels: &mut *floors.channels,
+        jobs: &mut *floors.jobs,
+        book: &mut frame.book,
+        wakes: &mut *floors.wakes,
+        who: frame.tag,
+        base: first_done(script),
+    };
+    gate.pass(frame.tag, 2);
+    let answer = builder.launch(frame.tag, free, lazy);
+    gate.pass(frame.tag, 3);
+    match answer {
+        Ok(_) => {
+            frame.pass_launch(job, size);
+            Ok(())
+        }
+        Err(error) => match error {
+            LaunchError::NoRow => unreachable!(),
+            LaunchError::Used | LaunchError::ParentEnded => {
+                frame.fail();
+                Ok(())
+            }
+            LaunchError::Memory => Err(Memory),
+        },
+    }
+}
+
+/// Starts the Job that has this name.
+pub(crate) fn start<C: ChannelFloor, J: JobFloor, W: Wakes, G: Gate>(
+    script: &Script,
+    frame: &mut Frame,
+    floors: &mut Floors<'_, C, J, W>,
+    gate: &G,
+    job: u16,
+) -> Result<(), Memory>
+    requires stands { StandsOn (program_of script.now) (C.view floors.old.channels.now) (J.view floors.old.jobs.now) frame.old }
+    requires at { IsAt (program_of script.now) frame.old.tag (config_of frame.old) (Start job) }
+    ensures came { StepAnswer (program_of script.now) (C.view floors.old.channels.now) (C.view floors.new.channels.now) (J.view floors.old.jobs.now) (J.view floors.new.jobs.now) frame.old frame.new result }
+    ensures channels_anchor { C.anchor floors.new.channels.now ≡ C.anchor floors.old.channels.now }
+    ensures jobs_anchor { J.anchor floors.new.jobs.now ≡ J.anchor floors.old.jobs.now }
+    ensures same_channels { floors.new.channels.ghost_name ≡ floors.old.channels.ghost_name }
+    ensures same_jobs { floors.new.jobs.ghost_name ≡ floors.old.jobs.ghost_name }
+    ensures same_wakes { floors.new.wakes.ghost_name ≡ floors.old.wakes.ghost_name }
+{
+    let row = frame.rows[job as usize];
+    let mut builder = Builder {
+        channels: &mut *floors.channels,
+        jobs: &mut *floors.jobs,
+        book: &mut frame.book,
+        wakes: &mut *floors.wakes,
+        who: frame.tag,
+        base: first_done(script),
+    };
+    gate.pass(frame.tag, 2);
+    let answer = builder.start(row);
+    gate.pass(frame.tag, 3);
+    match answer {
+        Ok(_) => {
+            frame.next_line();
+            Ok(())
+        }
+        Err(memory) => Err(memory),
+    }
+}
+
+/// Cancels the Job that has this name, with all below it.
+pub(crate) fn cancel<C: ChannelFloor, J: JobFloor, W: Wakes, G: Gate>(
+    script: &Script,
+    frame: &mut Frame,
+    floors: &mut Floors<'_, C, J, W>,
+    gate: &G,
+    job: u16,
+) -> Result<(), Memory>
+    requires stands { StandsOn (program_of script.now) (C.view floors.old.channels.now) (J.view floors.old.jobs.now) frame.old }
+    requires at { IsAt (program_of script.now) frame.old.tag (config_of frame.old) (Cancel job) }
+    ensures came { StepAnswer (program_of script.now) (C.view floors.old.channels.now) (C.view floors.new.channels.now) (J.view floors.old.jobs.now) (J.view floors.new.jobs.now) frame.old frame.new result }
+    ensures channels_anchor { C.anchor floors.new.channels.now ≡ C.anchor floors.old.channels.now }
+    ensures jobs_anchor { J.anchor floors.new.jobs.now ≡ J.anchor floors.old.jobs.now }
+    ensures same_channels { floors.new.channels.ghost_name ≡ floors.old.channels.ghost_name }
+    ensures same_jobs { floors.new.jobs.ghost_name ≡ floors.old.jobs.ghost_name }
+    ensures same_wakes { floors.new.wakes.ghost_name ≡ floors.old.wakes.ghost_name }
+{
+    let row = frame.rows[job as usize];
+    let mut builder = Builder {
+        channels: &mut *floors.channels,
+        jobs: &mut *floors.jobs,
+        book: &mut frame.book,
+        wakes: &mut *floors.wakes,
+        who: frame.tag,
+        base: first_done(script),
+    };
+    gate.pass(frame.tag, 2);
+    gate.pass(frame.tag, 6);
+    let answer = builder.cancel(row);
+    gate.pass(frame.tag, 7);
+    gate.pass(frame.tag, 3);
+    match answer {
+        Ok(_) => {
+            frame.next_line();
+            Ok(())
+        }
+        Err(memory) => Err(memory),
+    }
+}
+
+/// Ends the body where no line is left.
+pub(crate) fn end_body<C: ChannelFloor, J: JobFloor, W: Wakes>(
+    script: &Script,
+    frame: &mut Frame,
+    floors: &mut Floors<'_, C, J, W>,
+) -> Result<(), Memory>
+    requires stands { StandsOn (program_of script.now) (C.view floors.old.channels.now) (J.view floors.old.jobs.now) frame.old }
+    requires left { IsAtEnd (program_of script.now) frame.old }
+    ensures came { StepAnswer (program_of script.now) (C.view floors.old.channels.now) (C.view floors.new.channels.now) (J.view floors.old.jobs.now) (J.view floors.new.jobs.now) frame.old frame.new result }
+    ensures channels_anchor { C.anchor floors.new.channels.now ≡ C.anchor floors.old.channels.now }
+    ensures jobs_anchor { J.anchor floors.new.jobs.now ≡ J.anchor floors.old.jobs.now }
+    ensures same_channels { floors.new.channels.ghost_name ≡ floors.old.channels.ghost_name }
+    ensures same_jobs { floors.new.jobs.ghost_name ≡ floors.old.jobs.ghost_name }
+    ensures same_wakes { floors.new.wakes.ghost_name ≡ floors.old.wakes.ghost_name }
+{
+    let mut builder = Builder {
+        channels: &mut *floors.channels,
+        jobs: &mut *floors.jobs,
+        book: &mut frame.book,
+        wakes: &mut *floors.wakes,
+        who: frame.tag,
+        base: first_done(script),
+    };
+    match builder.end_job(frame.tag, frame.result) {
+        Ok(_) => {
+            frame.stage = Stage::Ended;
+            Ok(())
+        }
+        Err(memory) => Err(memory),
+    }
+}
+
+/// Breaks the body off, by the failure of a row or as cancelled.
+pub(crate) fn break_off<C: ChannelFloor, J: JobFloor, W: Wakes>(
+    script: &Script,
+    frame: &mut Frame,
+    floors: &mut Floors<'_, C, J, W>,
+    failure: Option<Row>,
+) -> Result<(), Memory>
+    requires stands { StandsOn (program_of script.now) (C.view floors.old.channels.now) (J.view floors.old.jobs.now) frame.old }
+    requires unwinds { frame.old.stage ≡ Unwinding failure }
+    ensures came { StepAnswer (program_of script.now) (C.view floors.old.channels.now) (C.view floors.new.channels.now) (J.view floors.old.jobs.now) (J.view floors.new.jobs.now) frame.old frame.new result }
+    ensures channels_anchor { C.anchor floors.new.channels.now ≡ C.anchor floors.old.channels.now }
+    ensures jobs_anchor { J.anchor floors.new.jobs.now ≡ J.anchor floors.old.jobs.now }
+    ensures same_channels { floors.new.channels.ghost_name ≡ floors.old.channels.ghost_name }
+    ensures same_jobs { floors.new.jobs.ghost_name ≡ floors.old.jobs.ghost_name }
+    ensures same_wakes { floors.new.wakes.ghost_name ≡ floors.old.wakes.ghost_name }
+{
+    let mut builder = Builder {
+        channels: &mut *floors.channels,
+        jobs: &mut *floors.jobs,
+        book: &mut frame.book,
+        wakes: &mut *floors.wakes,
+        who: frame.tag,
+        base: first_done(script),
+    };
+    match builder.break_job(frame.tag, failure) {
+        Ok(_) => {
+            frame.stage = Stage::Ended;
+            Ok(())
+        }
+        Err(memory) => Err(memory),
+    }
+}

@@ -1,0 +1,15 @@
+pub mod RestingSteps
+pub mod Resting
+pub mod RestingEnded
+pub mod Origins
+pub mod RestingPasses
+pub mod RestingEnds
+pub mod Dones
+pub mod Groups
+pub mod Ended
+pub mod Chains
+pub mod Breaks
+pub mod Settled
+pub mod Starts
+pub mod Requests
+pub mod Bodies

@@ -1,0 +1,29 @@
+use Rattle.std.proofs.Common.{◌≡◌, refl, ◌∙◌}
+use Rattle.scope_builders.specs.declared.done_channels.DoneChannels.{DoneChannels}
+use Rattle.scope_builders.proofs.Chains.{finished_all, rest_up, ends_as, added_as}
+use Rattle.scope_builders.proofs.parts.finish_with.Goals as goal
+
+pub returns : goal.returns
+returns g c =
+    let first = c.args.done.now in
+    let l = g.met.J.JobFloor.legal c.finish_up.new.self.floor.now in
+    let k = finished_all
+    (λ (e : DoneChannels g.row.C.Denot g.row.C-Anchor.Denot g.C.ChannelFloor). (e.channels.ghost_name ≡ first.channels.ghost_name) × (e.who ≡ first.who) × (e.base ≡ first.base) × (e.rows ≡ first.rows) × (g.C.ChannelFloor.anchor e.channels.now ≡ g.C.ChannelFloor.anchor first.channels.now))
+    (λ (e : DoneChannels g.row.C.Denot g.row.C-Anchor.Denot g.C.ChannelFloor). g.C.ChannelFloor.view e.channels.now)
+    _ _ _ _ _ _ _ _ _ _ _ _ _ (g.met.J.JobFloor.shaped c.args.caller.now.floor.now)
+    (record {
+      gets_ready = λ d e h p. ((h.0 ∙ p.0, h.1 ∙ p.1, h.2 ∙ p.2, h.3 ∙ p.3, h.4 ∙ p.4), added_as _ _ _ _ (p.1 ∙ c.requires.who) h.5);
+      ends = λ d e row end items h p. ((h.0 ∙ p.0, h.1 ∙ p.1, h.2 ∙ p.2, h.3 ∙ p.3, h.4 ∙ p.4), ends_as _ _ _ _ _ _ _ _ _ _ _ (p.1 ∙ c.requires.who) p.2 (p.3 ∙ c.requires.rows) h.5);
+    })
+    c.requires.can.attached l (refl, refl, refl, refl, refl) refl c.finish_up.ensures.finished
+    in
+    record {
+      same_floor = c.finish_up.ensures.same_floor;
+      same_book = c.finish_up.ensures.same_book;
+      same_wakes = c.finish_up.ensures.same_wakes;
+      same_channels = k.0.0;
+      channels_anchor = k.0.4;
+      jobs_anchor = c.finish_up.ensures.anchor;
+      finished = k.1;
+      rest = rest_up _ _ _ _ _ _ _ _ _ _ _ l c.finish_up.ensures.finished;
+    }

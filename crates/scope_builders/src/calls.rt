@@ -1,0 +1,190 @@
+//! The calls.
+
+ghost use Rattle.std.specs.Prelude.{◌≡◌, ◌<◌, true, is_some, OnOk};
+ghost use Rattle.job_model.specs.Needs.{Holds, MayEndBody};
+ghost use Rattle.job_model.specs.Histories.{replay};
+ghost use Rattle.scope_builders.specs.Groups.{reason_for};
+ghost use Rattle.scope_builders.specs.Calls.{MayBuild, StaysSettled, LaunchAnswer, StartedAnswer, CancelledAnswer, EndedAnswer, BrokenAnswer};
+
+use crate::builder::{Builder, LaunchError};
+use crate::parts::{break_off, finish_up, make_room, pass, wake_job};
+use channel_model::ChannelFloor;
+use co_base::{Memory, Row, Tag, Value, Wakes};
+use job_model::{AttachError, Attached, Ended, JobAct, JobFloor, JobKind, JobNote, Reason};
+use note_book::{Item, NoteBook};
+
+impl<C: ChannelFloor, J: JobFloor, B: NoteBook, W: Wakes> Builder<'_, '_, '_, '_, C, J, B, W> {
+    /// Attaches the Job of a coroutine to a parent, and wakes the coroutine unless its Job is New.
+    pub fn launch(&mut self, parent: Row, tag: Tag, lazy: bool) -> Result<Attached, LaunchError>
+        requires may { MayBuild self.old.who self.old.base (C.view self.old.channels.now) (J.view self.old.jobs.now) }
+        requires parent { is_some (replay (J.view self.old.jobs.now).seen parent) ≡ true }
+        requires tag { tag < (J.view self.old.jobs.now).shape.coroutines }
+        ensures same_channels { self.new.channels.ghost_name ≡ self.old.channels.ghost_name }
+        ensures same_jobs { self.new.jobs.ghost_name ≡ self.old.jobs.ghost_name }
+        ensures same_book { self.new.book.ghost_name ≡ self.old.book.ghost_name }
+        ensures same_wakes { self.new.wakes.ghost_name ≡ self.old.wakes.ghost_name }
+        ensures who { self.new.who ≡ self.old.who }
+        ensures base { self.new.base ≡ self.old.base }
+        ensures channels { self.new.channels.now ≡ self.old.channels.now }
+        ensures channels_anchor { C.anchor self.new.channels.now ≡ C.anchor self.old.channels.now }
+        ensures jobs_anchor { J.anchor self.new.jobs.now ≡ J.anchor self.old.jobs.now }
+        ensures settled { StaysSettled self.old.base (C.view self.old.channels.now) (C.view self.new.channels.now) (J.view self.old.jobs.now) (J.view self.new.jobs.now) }
+        ensures answer { LaunchAnswer self.old.who parent tag lazy (C.view self.old.channels.now) (C.view self.new.channels.now) (J.view self.old.jobs.now) (J.view self.new.jobs.now) (B.items self.old.book.now) (B.items self.new.book.now) result }
+    {
+        if let Err(_memory) = make_room(self.jobs, self.book, 1) {
+            return Err(LaunchError::Memory);
+        }
+        let kind = JobKind {
+            supervisor: false,
+            scoped: false,
+            lazy,
+        };
+        match self.jobs.attach(self.who, parent, kind, tag) {
+            Ok(child) => {
+                let act = JobAct::Attach {
+                    parent,
+                    row: child.row,
+                    kind,
+                    tag,
+                    cancelled: child.cancelled,
+                };
+                self.book.note(Item::Job(JobNote::Made(act)));
+                if child.cancelled || !lazy {
+                    self.wakes.wake(tag);
+                }
+                Ok(child)
+            }
+            Err(AttachError::NoRow) => Err(LaunchError::NoRow),
+            Err(AttachError::Used) => {
+                self.book.note(Item::Job(JobNote::Used));
+                Err(LaunchError::Used)
+            }
+            Err(AttachError::ParentEnded) => {
+                self.book.note(Item::Job(JobNote::ParentEnded));
+                Err(LaunchError::ParentEnded)
+            }
+        }
+    }
+
+    /// Starts a Job that is New, and wakes its coroutine. The answer says whether it was New.
+    pub fn start(&mut self, row: Row) -> Result<bool, Memory>
+        requires may { MayBuild self.old.who self.old.base (C.view self.old.channels.now) (J.view self.old.jobs.now) }
+        requires row { is_some (replay (J.view self.old.jobs.now).seen row) ≡ true }
+        ensures same_channels { self.new.channels.ghost_name ≡ self.old.channels.ghost_name }
+        ensures same_jobs { self.new.jobs.ghost_name ≡ self.old.jobs.ghost_name }
+        ensures same_book { self.new.book.ghost_name ≡ self.old.book.ghost_name }
+        ensures same_wakes { self.new.wakes.ghost_name ≡ self.old.wakes.ghost_name }
+        ensures who { self.new.who ≡ self.old.who }
+        ensures base { self.new.base ≡ self.old.base }
+        ensures channels { self.new.channels.now ≡ self.old.channels.now }
+        ensures channels_anchor { C.anchor self.new.channels.now ≡ C.anchor self.old.channels.now }
+        ensures jobs_anchor { J.anchor self.new.jobs.now ≡ J.anchor self.old.jobs.now }
+        ensures settled { StaysSettled self.old.base (C.view self.old.channels.now) (C.view self.new.channels.now) (J.view self.old.jobs.now) (J.view self.new.jobs.now) }
+        ensures answer { StartedAnswer self.old.who row (C.view self.old.channels.now) (C.view self.new.channels.now) (J.view self.old.jobs.now) (J.view self.new.jobs.now) (B.items self.old.book.now) (B.items self.new.book.now) result }
+    {
+        if let Err(memory) = make_room(self.jobs, self.book, 1) {
+            return Err(memory);
+        }
+        if !self.jobs.start(self.who, row) {
+            return Ok(false);
+        }
+        self.book
+            .note(Item::Job(JobNote::Made(JobAct::Start { row })));
+        wake_job(self.jobs, self.wakes, self.who, row);
+        Ok(true)
+    }
+
+    /// Cancels a Job with all below it, and answers how many it cancelled.
+    pub fn cancel(&mut self, row: Row) -> Result<u32, Memory>
+        requires may { MayBuild self.old.who self.old.base (C.view self.old.channels.now) (J.view self.old.jobs.now) }
+        requires row { is_some (replay (J.view self.old.jobs.now).seen row) ≡ true }
+        ensures same_channels { self.new.channels.ghost_name ≡ self.old.channels.ghost_name }
+        ensures same_jobs { self.new.jobs.ghost_name ≡ self.old.jobs.ghost_name }
+        ensures same_book { self.new.book.ghost_name ≡ self.old.book.ghost_name }
+        ensures same_wakes { self.new.wakes.ghost_name ≡ self.old.wakes.ghost_name }
+        ensures who { self.new.who ≡ self.old.who }
+        ensures base { self.new.base ≡ self.old.base }
+        ensures channels { self.new.channels.now ≡ self.old.channels.now }
+        ensures channels_anchor { C.anchor self.new.channels.now ≡ C.anchor self.old.channels.now }
+        ensures jobs_anchor { J.anchor self.new.jobs.now ≡ J.anchor self.old.jobs.now }
+        ensures settled { StaysSettled self.old.base (C.view self.old.channels.now) (C.view self.new.channels.now) (J.view self.old.jobs.now) (J.view self.new.jobs.now) }
+        ensures answer { CancelledAnswer self.old.who row (C.view self.old.channels.now) (C.view self.new.channels.now) (J.view self.old.jobs.now) (J.view self.new.jobs.now) (B.items self.old.book.now) (B.items self.new.book.now) result }
+    {
+        let rows = u32::from(self.jobs.rows());
+        if let Err(memory) = make_room(self.jobs, self.book, rows) {
+            return Err(memory);
+        }
+        let passed = pass(
+            self.jobs,
+            self.book,
+            self.wakes,
+            self.who,
+            row,
+            Reason::Request,
+        );
+        Ok(passed.count)
+    }
+
+    /// Ends the body of the caller's own Job with a value, then the Job and its parents, as far as their ends are owed.
+    pub fn end_job(&mut self, row: Row, value: Value) -> Result<Ended, Memory>
+        requires may { MayBuild self.old.who self.old.base (C.view self.old.channels.now) (J.view self.old.jobs.now) }
+        requires own { MayEndBody self.old.who (replay (J.view self.old.jobs.now).seen row) }
+        ensures same_channels { self.new.channels.ghost_name ≡ self.old.channels.ghost_name }
+        ensures same_jobs { self.new.jobs.ghost_name ≡ self.old.jobs.ghost_name }
+        ensures same_book { self.new.book.ghost_name ≡ self.old.book.ghost_name }
+        ensures same_wakes { self.new.wakes.ghost_name ≡ self.old.wakes.ghost_name }
+        ensures who { self.new.who ≡ self.old.who }
+        ensures base { self.new.base ≡ self.old.base }
+        ensures channels_anchor { C.anchor self.new.channels.now ≡ C.anchor self.old.channels.now }
+        ensures jobs_anchor { J.anchor self.new.jobs.now ≡ J.anchor self.old.jobs.now }
+        ensures settled { OnOk result (StaysSettled self.old.base (C.view self.old.channels.now) (C.view self.new.channels.now) (J.view self.old.jobs.now) (J.view self.new.jobs.now)) }
+        ensures answer { EndedAnswer self.old.who self.old.base row value (C.view self.old.channels.now) (C.view self.new.channels.now) (J.view self.old.jobs.now) (J.view self.new.jobs.now) (B.items self.old.book.now) (B.items self.new.book.now) result }
+    {
+        if let Err(memory) = make_room(self.jobs, self.book, 1) {
+            return Err(memory);
+        }
+        let ended = self.jobs.end_body(self.who, row, value);
+        let act = JobAct::EndBody { row, value };
+        self.book.note(Item::Job(JobNote::Made(act)));
+        match ended {
+            Ended::Waits => Ok(Ended::Waits),
+            Ended::Owes => match finish_up(
+                self.channels,
+                self.jobs,
+                self.book,
+                self.wakes,
+                self.who,
+                self.base,
+                row,
+            ) {
+                Ok(()) => Ok(Ended::Owes),
+                Err(memory) => Err(memory),
+            },
+        }
+    }
+
+    /// Breaks the body of the caller's own Job off: cancels the Job with all below it, by the failure of a row or as cancelled, takes a failure up
+    /// to the parents, and ends the body.
+    pub fn break_job(&mut self, row: Row, failure: Option<Row>) -> Result<Ended, Memory>
+        requires may { MayBuild self.old.who self.old.base (C.view self.old.channels.now) (J.view self.old.jobs.now) }
+        requires own { MayEndBody self.old.who (replay (J.view self.old.jobs.now).seen row) }
+        requires reason { Holds (J.view self.old.jobs.now).shape (replay (J.view self.old.jobs.now).seen) self.old.who row (reason_for failure) }
+        ensures same_channels { self.new.channels.ghost_name ≡ self.old.channels.ghost_name }
+        ensures same_jobs { self.new.jobs.ghost_name ≡ self.old.jobs.ghost_name }
+        ensures same_book { self.new.book.ghost_name ≡ self.old.book.ghost_name }
+        ensures same_wakes { self.new.wakes.ghost_name ≡ self.old.wakes.ghost_name }
+        ensures who { self.new.who ≡ self.old.who }
+        ensures base { self.new.base ≡ self.old.base }
+        ensures channels_anchor { C.anchor self.new.channels.now ≡ C.anchor self.old.channels.now }
+        ensures jobs_anchor { J.anchor self.new.jobs.now ≡ J.anchor self.old.jobs.now }
+        ensures settled { OnOk result (StaysSettled self.old.base (C.view self.old.channels.now) (C.view self.new.channels.now) (J.view self.old.jobs.now) (J.view self.new.jobs.now)) }
+        ensures answer { BrokenAnswer self.old.who self.old.base row failure (C.view self.old.channels.now) (C.view self.new.channels.now) (J.view self.old.jobs.now) (J.view self.new.jobs.now) (B.items self.old.book.now) (B.items self.new.book.now) result }
+    {
+        let rows = u32::from(self.jobs.rows());
+        if let Err(memory) = make_room(self.jobs, self.book, rows) {
+            return Err(memory);
+        }
+        break_off(self.jobs, self.book, self.wakes, self.who, row, failure);
+        self.end_job(row, 0)
+    }
+}

@@ -1,0 +1,15 @@
+//! The calls of one coroutine on its own Job and on those of others, over any floor of channels and any floor of Jobs: to launch, start and
+//! cancel coroutines, and to end a body or break it off. Each entry is noted at once, and each Job that ends has its done channel closed.
+//!
+//! - `builder`: who calls, and on what
+//! - `done_channels`: the done channels of Jobs that end
+//! - `parts`: the parts of the calls
+//! - `calls`: the calls
+#![tactic(auto)]
+
+mod builder;
+mod calls;
+mod done_channels;
+mod parts;
+
+pub use builder::{Builder, LaunchError};

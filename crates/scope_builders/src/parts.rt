@@ -1,0 +1,208 @@
+//! The parts of the calls.
+
+ghost use Rattle.std.specs.Prelude.{◌≡◌, ◌≤◌, true, is_some, [], OnOk, OnErr};
+ghost use Rattle.job_model.specs.Needs.{Holds, MayEndBody};
+ghost use Rattle.job_model.specs.Histories.{replay};
+ghost use Rattle.job_model.specs.Floors.{MayCall, HasRoom, Looked};
+ghost use Rattle.job_tree.specs.Rooms.{MayCancelAll};
+ghost use Rattle.job_tree.specs.Passes.{IsPass, IsFailure};
+ghost use Rattle.job_tree.specs.Failures.{IsFailedUp};
+ghost use Rattle.scope_builders.specs.Groups.{reason_for};
+ghost use Rattle.scope_builders.specs.Calls.{MayBuild};
+ghost use Rattle.scope_builders.specs.Parts.{IsBroken, StaysAtRest, FinishedUp, EndsAtRest};
+
+use crate::done_channels::DoneChannels;
+use channel_model::ChannelFloor;
+use co_base::{ChannelId, Memory, Row, Tag, Wakes};
+use job_model::{JobFloor, Reason};
+use job_tree::{JobCaller, Passed};
+use note_book::NoteBook;
+
+/// Makes room for so many entries on Jobs, each noted.
+pub(crate) fn make_room<J: JobFloor, B: NoteBook>(
+    jobs: &mut J,
+    book: &mut B,
+    n: u32,
+) -> Result<(), Memory>
+    ensures jobs_anchor { J.anchor jobs.new ≡ J.anchor jobs.old }
+    ensures items { B.items book.new ≡ B.items book.old }
+    ensures floor { OnOk result (HasRoom n (J.view jobs.old) (J.view jobs.new)) }
+    ensures book { OnOk result (n ≤ B.spare book.new) }
+    ensures same { OnErr result (J.view jobs.new ≡ J.view jobs.old) }
+{
+    if let Err(memory) = book.room(n) {
+        return Err(memory);
+    }
+    if let Err(memory) = jobs.room(n) {
+        return Err(memory);
+    }
+    Ok(())
+}
+
+/// Asks that the coroutine of the Job be polled.
+pub(crate) fn wake_job<J: JobFloor, W: Wakes>(jobs: &mut J, wakes: &mut W, who: Tag, row: Row)
+    requires can { MayCall who row (J.view jobs.old) }
+    ensures jobs_anchor { J.anchor jobs.new ≡ J.anchor jobs.old }
+    ensures looked { Looked who [] (J.view jobs.old) (J.view jobs.new) }
+{
+    let tag = if row == 0 { 0 } else { jobs.link(who, row).tag };
+    wakes.wake(tag);
+}
+
+/// Cancels a Job with all below it.
+pub(crate) fn pass<J: JobFloor, B: NoteBook, W: Wakes>(
+    jobs: &mut J,
+    book: &mut B,
+    wakes: &mut W,
+    who: Tag,
+    row: Row,
+    reason: Reason,
+) -> Passed
+    requires can { MayCall who row (J.view jobs.old) }
+    requires reason { Holds (J.view jobs.old).shape (replay (J.view jobs.old).seen) who row reason }
+    requires room { MayCancelAll (J.view jobs.old) (B.spare book.old) }
+    ensures jobs_anchor { J.anchor jobs.new ≡ J.anchor jobs.old }
+    ensures pass { IsPass who row reason result.newly (J.view jobs.old) (J.view jobs.new) (B.items book.old) (B.items book.new) result.count }
+    ensures room { MayCancelAll (J.view jobs.new) (B.spare book.new) }
+{
+    let mut caller = JobCaller {
+        floor: &mut *jobs,
+        book: &mut *book,
+        wakes: &mut *wakes,
+        who,
+    };
+    let passed = caller.pass(row, reason);
+    let JobCaller {
+        floor: _,
+        book: _,
+        wakes: _,
+        who: _,
+    } = caller;
+    passed
+}
+
+/// Takes the failure of a Job up to its parents.
+fn fail_up<J: JobFloor, B: NoteBook, W: Wakes>(
+    jobs: &mut J,
+    book: &mut B,
+    wakes: &mut W,
+    who: Tag,
+    row: Row,
+)
+    requires can { MayCall who row (J.view jobs.old) }
+    requires failed { IsFailure (replay (J.view jobs.old).seen row) }
+    requires room { MayCancelAll (J.view jobs.old) (B.spare book.old) }
+    ensures jobs_anchor { J.anchor jobs.new ≡ J.anchor jobs.old }
+    ensures up { IsFailedUp who row (J.view jobs.old) (J.view jobs.new) (B.items book.old) (B.items book.new) }
+{
+    let mut caller = JobCaller {
+        floor: &mut *jobs,
+        book: &mut *book,
+        wakes: &mut *wakes,
+        who,
+    };
+    caller.fail_up(row);
+    let JobCaller {
+        floor: _,
+        book: _,
+        wakes: _,
+        who: _,
+    } = caller;
+}
+
+/// Cancels the caller's own Job with all below it, by the failure of a row or as cancelled, and takes a failure up to the parents.
+pub(crate) fn break_off<J: JobFloor, B: NoteBook, W: Wakes>(
+    jobs: &mut J,
+    book: &mut B,
+    wakes: &mut W,
+    who: Tag,
+    row: Row,
+    failure: Option<Row>,
+)
+    requires can { MayCall who row (J.view jobs.old) }
+    requires own { MayEndBody who (replay (J.view jobs.old).seen row) }
+    requires reason { Holds (J.view jobs.old).shape (replay (J.view jobs.old).seen) who row (reason_for failure) }
+    requires room { MayCancelAll (J.view jobs.old) (B.spare book.old) }
+    ensures jobs_anchor { J.anchor jobs.new ≡ J.anchor jobs.old }
+    ensures broken { IsBroken who row failure (J.view jobs.old) (J.view jobs.new) (B.items book.old) (B.items book.new) }
+    ensures rest { StaysAtRest (J.view jobs.old) (J.view jobs.new) }
+{
+    match failure {
+        None => {
+            let _passed = pass(jobs, book, wakes, who, row, Reason::Request);
+        }
+        Some(failed) => {
+            if pass(jobs, book, wakes, who, row, Reason::Own(failed)).newly {
+                fail_up(jobs, book, wakes, who, row);
+            }
+        }
+    }
+}
+
+/// Ends a Job, where it may end, and then its parents, as far as the end of a child was all that they waited for, each with its
+/// done channel.
+pub(crate) fn finish_up<C: ChannelFloor, J: JobFloor, B: NoteBook, W: Wakes>(
+    channels: &mut C,
+    jobs: &mut J,
+    book: &mut B,
+    wakes: &mut W,
+    who: Tag,
+    base: ChannelId,
+    row: Row,
+) -> Result<(), Memory>
+    requires may { MayBuild who base (C.view channels.old) (J.view jobs.old) }
+    requires row { is_some (replay (J.view jobs.old).seen row) ≡ true }
+    ensures channels_anchor { C.anchor channels.new ≡ C.anchor channels.old }
+    ensures jobs_anchor { J.anchor jobs.new ≡ J.anchor jobs.old }
+    ensures finished { FinishedUp who base row (C.view channels.old) (C.view channels.new) (J.view jobs.old) (J.view jobs.new) (B.items book.old) (B.items book.new) }
+    ensures rest { OnOk result (EndsAtRest row (J.view jobs.old) (J.view jobs.new)) }
+{
+    let rows = jobs.rows();
+    let mut done = DoneChannels {
+        channels: &mut *channels,
+        who,
+        base,
+        rows,
+    };
+    let mut caller = JobCaller {
+        floor: &mut *jobs,
+        book: &mut *book,
+        wakes: &mut *wakes,
+        who,
+    };
+    let finished = finish_with(&mut caller, &mut done, row);
+    let JobCaller {
+        floor: _,
+        book: _,
+        wakes: _,
+        who: _,
+    } = caller;
+    let DoneChannels {
+        channels: _,
+        who: _,
+        base: _,
+        rows: _,
+    } = done;
+    finished
+}
+
+/// Ends a Job and its parents, with these done channels.
+fn finish_with<C: ChannelFloor, J: JobFloor, B: NoteBook, W: Wakes>(
+    caller: &mut JobCaller<'_, '_, '_, J, B, W>,
+    done: &mut DoneChannels<'_, C>,
+    row: Row,
+) -> Result<(), Memory>
+    requires can { MayCall caller.old.who row (J.view caller.old.floor.now) }
+    requires who { done.old.who ≡ caller.old.who }
+    requires rows { done.old.rows ≡ (J.view caller.old.floor.now).shape.rows }
+    ensures same_floor { caller.new.floor.ghost_name ≡ caller.old.floor.ghost_name }
+    ensures same_book { caller.new.book.ghost_name ≡ caller.old.book.ghost_name }
+    ensures same_wakes { caller.new.wakes.ghost_name ≡ caller.old.wakes.ghost_name }
+    ensures same_channels { done.new.channels.ghost_name ≡ done.old.channels.ghost_name }
+    ensures channels_anchor { C.anchor done.new.channels.now ≡ C.anchor done.old.channels.now }
+    ensures jobs_anchor { J.anchor caller.new.floor.now ≡ J.anchor caller.old.floor.now }
+    ensures finished { FinishedUp caller.old.who done.old.base row (C.view done.old.channels.now) (C.view done.new.channels.now) (J.view caller.old.floor.now) (J.view caller.new.floor.now) (B.items caller.old.book.now) (B.items caller.new.book.now) }
+    ensures rest { OnOk result (EndsAtRest row (J.view caller.old.floor.now) (J.view caller.new.floor.now)) }
+{
+    caller.finish_up(row, done)
+}

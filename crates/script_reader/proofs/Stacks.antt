@@ -1,0 +1,86 @@
+-- The table of tags, made from a stack of blocks that are not yet laid out.
+use Rattle.std.proofs.Common.{◌≡◌, ℕ, ◌-◌, ◌<◌, ◌≤◌, Bool, true, nat_lt, List, [], ◌∷◌, ◌++◌, length, Option, Some, None, refl, ap, sym, ◌∙◌, subst, arith, get_or, slice_get, map, append_assoc, append-nil, length-append}
+use Rattle.std.specs.Prelude.{option_map}
+use Rattle.std.specs.List.{list_all}
+use Rattle.std.proofs.lemmas.Option.{slice_get-map, slice_get_read}
+use Rattle.std.proofs.lemmas.List.{length-map}
+use Rattle.script_reader.specs.declared.script.Coroutine.{Coroutine}
+use Rattle.script_reader.specs.declared.script.Spawn.{Spawn}
+use Rattle.script_reader.specs.Programs.{Block, block_of, launched, laid_out, layouts, launch_back, code_of_block, tags_for}
+use Rattle.script_reader.proofs.Truths.{both, both_true, lt-from_true}
+use Rattle.script_reader.proofs.Layouts.{all_below, layout, layout-next, laid_out-append, launched_each, in_block}
+
+all_append : {X : Type 0} (test : X → Bool) (xs ys : List X) → list_all test xs ≡ true → list_all test ys ≡ true → list_all test (xs ++ ys) ≡ true
+all_append test [] ys all more = more
+all_append test (x ∷ xs) ys all more = let two = both_true (test x) (list_all test xs) all in both (test x) _ two.0 (all_append test xs ys two.1 more)
+
+-- what the lines of this block launch
+abbrev pub launched_in : List Block → ℕ → List ℕ
+launched_in bs block = launched (code_of_block (slice_get bs block))
+
+launched_below : (bs : List Block) (i : ℕ) → launch_back 0 bs ≡ true → all_below (length bs) (launched_in bs i) ≡ true
+launched_below bs i back = in_block (λ c. all_below (length bs) (launched c)) refl bs i (slice_get bs i) (launched_each (length bs) 0 bs (omega arith) back) refl
+
+-- what the stack of the blocks keeps: each is declared, and its tags come after those in the table
+pub record Stands (bs : List Block) (all tags stack : List ℕ) : Type 0 where
+  pub known : all_below (length bs) stack ≡ true
+  pub laid : tags ++ laid_out (layouts bs) stack ≡ all
+
+pub Stands-start : (bs : List Block) (spawns : List ℕ) (main : ℕ) (first second tags : List ℕ) → launch_back 0 bs ≡ true → all_below (length bs) spawns ≡ true → first ≡ launched_in bs main ++ [] → second ≡ spawns ++ first → tags ≡ main ∷ [] → Stands bs (tags_for bs spawns (Some main)) tags second
+Stands-start bs spawns main first second tags back all one two start =
+    let launches = launched_in bs main in
+    let is : second ≡ spawns ++ launches = two ∙ ap (λ l. spawns ++ l) (one ∙ append-nil launches) in
+    let l = layouts bs in
+    record {
+      known = ap (all_below (length bs)) is ∙ all_append (λ j. nat_lt j (length bs)) spawns launches all (launched_below bs main back);
+      laid = ap (λ t. t ++ laid_out l second) start ∙ ap (λ s. main ∷ laid_out l s) is ∙ ap (λ x. main ∷ x) (laid_out-append l spawns launches);
+    }
+
+pub Stands-next : (bs : List Block) (all : List ℕ) (block : ℕ) (tags more top rest next : List ℕ) → launch_back 0 bs ≡ true → top ≡ block ∷ rest → next ≡ launched_in bs block ++ rest → more ≡ tags ++ block ∷ [] → Stands bs all tags top → Stands bs all more next
+Stands-next bs all block tags more top rest next back is then_next pushed stands =
+    let l = layouts bs in
+    let launches = launched_in bs block in
+    let known = both_true (nat_lt block (length bs)) (all_below (length bs) rest) (ap (all_below (length bs)) (sym is) ∙ stands.known) in
+    let here : layout l block ≡ block ∷ laid_out l launches = layout-next bs block back (lt-from_true block (length bs) known.0) in
+    record {
+      known = ap (all_below (length bs)) then_next ∙ all_append (λ j. nat_lt j (length bs)) launches rest (launched_below bs block back) known.1;
+      laid =
+          ap (λ t. t ++ laid_out l next) pushed
+          ∙ ap (λ s. (tags ++ block ∷ []) ++ laid_out l s) then_next
+          ∙ ap (λ x. (tags ++ block ∷ []) ++ x) (laid_out-append l launches rest)
+          ∙ append_assoc tags (block ∷ []) (laid_out l launches ++ laid_out l rest)
+          ∙ ap (λ x. tags ++ (x ++ laid_out l rest)) (sym here)
+          ∙ ap (λ s. tags ++ laid_out l s) (sym is)
+          ∙ stands.laid;
+    }
+
+-- a table that grows comes nearer to its whole length
+pub nearer : (bs : List Block) (all tags more stack : List ℕ) (block : ℕ) → length all ≤ 16000 → more ≡ tags ++ block ∷ [] → Stands bs all more stack → 16000 - length more < 16000 - length tags
+nearer bs all tags more stack block few pushed stands =
+    omega (arith, few, ap length pushed, length-append tags (block ∷ []), ap length stands.laid, length-append more (laid_out (layouts bs) stack))
+
+-- what is on top of the stack is declared
+pub first_below : (cs : List Coroutine) (all tags top rest : List ℕ) (block : ℕ) → top ≡ block ∷ rest → Stands (map block_of cs) all tags top → block < length cs
+first_below cs all tags top rest block is stands =
+    let known = both_true (nat_lt block (length (map block_of cs))) (all_below (length (map block_of cs)) rest) (ap (all_below (length (map block_of cs))) (sym is) ∙ stands.known) in
+    omega (arith, lt-from_true block (length (map block_of cs)) known.0, length-map cs block_of)
+
+-- the bound on the tags, of equal lists
+pub few_same : (cs ds : List Coroutine) (ss ts : List Spawn) (main : ℕ) → ds ≡ cs → ts ≡ ss → length (tags_for (map block_of cs) (map (λ s. s.coroutine) ss) (Some main)) ≤ 16000 → length (tags_for (map block_of ds) (map (λ s. s.coroutine) ts) (Some main)) ≤ 16000
+few_same cs ds ss ts main e f h =
+    let P : List Coroutine → Type 0 = λ xs. length (tags_for (map block_of xs) (map (λ s. s.coroutine) ts) (Some main)) ≤ 16000 in
+    let Q : List Spawn → Type 0 = λ xs. length (tags_for (map block_of cs) (map (λ s. s.coroutine) xs) (Some main)) ≤ 16000 in
+    subst P (sym e) (subst Q (sym f) h)
+
+launched_some : (o : Option Coroutine) (blocks : List ℕ) → Some blocks ≡ option_map (λ (c : Coroutine). launched c.code.items) o → blocks ≡ launched (code_of_block (option_map block_of o))
+launched_some None blocks e = cc
+launched_some (Some c) blocks e = cc
+
+-- what each block launches, found once
+pub launched_at : {V : Type 0} (items : V → List ℕ) (each : List V) (cs : List Coroutine) (i : ℕ) (x : V) → map items each ≡ map (λ c. launched c.code.items) cs → i < length cs → x ≡ get_or each i x → items x ≡ launched (code_of_block (slice_get (map block_of cs) i))
+launched_at items each cs i x same h at =
+    let f = λ (c : Coroutine). launched c.code.items in
+    let long : i < length each = omega (arith, h, ap length same, length-map each items, length-map cs f) in
+    launched_some (slice_get cs i) (items x)
+    (ap (option_map items) (sym (slice_get_read each (length each) i x refl long at)) ∙ sym (slice_get-map items each i) ∙ ap (λ l. slice_get l i) same ∙ slice_get-map f cs i)
+    ∙ ap (λ o. launched (code_of_block o)) (sym (slice_get-map block_of cs i))

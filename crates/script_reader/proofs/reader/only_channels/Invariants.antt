@@ -1,0 +1,11 @@
+use Rattle.std.proofs.Common.{◌≡◌, length}
+use Rattle.std.specs.List.{list_all}
+use Rattle.script_reader.specs.Texts.{is_channel_line, has_only}
+use Rattle.script_reader.specs.Scripts.{program_of}
+use Rattle.script_reader.proofs.reader.only_channels.Given as goal
+
+abbrev pub invariant-loop-rest : goal.invariant-loop-rest
+invariant-loop-rest l = list_all (λ b. list_all is_channel_line b.code.items) l.rest ≡ has_only is_channel_line (program_of l.script)
+
+abbrev pub decreases-loop-rest : goal.decreases-loop-rest
+decreases-loop-rest l = length l.rest
