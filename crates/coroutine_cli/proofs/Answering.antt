@@ -8,6 +8,7 @@ use Rattle.run_report.specs.Faults.{fault_text}
 use Rattle.script_reader.specs.declared.fault.ScriptFault.{ScriptFault}
 use Rattle.channel_model.specs.declared.acts.Entry.{Entry}
 use Rattle.channel_model.proofs.Resolutions.{resolutions_of_bound, settlements_of_bound}
+use Rattle.channel_fates.proofs.AtMostOne.{replay_one_fate}
 use Rattle.job_model.specs.declared.acts.End.{End}
 use Rattle.job_model.specs.declared.acts.End.TheVariants as ends
 use Rattle.job_model.specs.declared.acts.JobEntry.{JobEntry}
@@ -72,6 +73,7 @@ reported p books channels jobs root how input text same script spelled parts idl
   idle = idle;
   ending = same;
   once = λ w. (resolutions_of_bound (floor_shape p) channels w parts.legal_channels, settlements_of_bound (floor_shape p) channels w parts.legal_channels);
+  one_fate = λ c place. replay_one_fate (floor_shape p) channels c place parts.legal_channels;
   children_first = children_first p jobs parts.legal_jobs;
   is_report = is;
 }

@@ -5,6 +5,8 @@ use Rattle.std.specs.Str.{bytes_eq}
 use Rattle.co_base.specs.Streams.{Rose, Gave, IsDrained, Took, TookPart}
 use Rattle.channel_model.specs.declared.acts.Entry.{Entry}
 use Rattle.channel_model.specs.Laws.{resolutions_of, settlements_of}
+use Rattle.channel_model.specs.Histories.{acts_in}
+use Rattle.channel_fates.specs.OneFate.{IsAtMostOneFate}
 use Rattle.co_base.specs.declared.names.WaitId.{WaitId}
 use Rattle.job_model.specs.declared.acts.End.{End}
 use Rattle.job_model.specs.declared.acts.End.TheVariants as ends
@@ -77,6 +79,8 @@ pub record Reports (how : Ending) (input text : List ℕ) : Type 0 where
   pub ending : ending_of root ≡ how
   -- each wait is resolved at most once, and settled at most once
   pub once : (w : WaitId) → (resolutions_of w channels ≤ 1) × (settlements_of w channels ≤ 1)
+  -- at most one of received, undelivered, dropped and withdrawn applies to each element; the others are held
+  pub one_fate : (c place : ℕ) → IsAtMostOneFate c place (acts_in channels)
   -- no Job ends before its children
   pub children_first : ChildrenEndFirst jobs
   pub is_report : text ≡ report_text program books

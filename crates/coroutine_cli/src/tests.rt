@@ -49,7 +49,7 @@ fn answer(
 }
 
 /// Scripts, each with its status and its text. A `;` stands for a line feed, also at the end of each text.
-const ROWS: [(&str, u8, &str); 15] = [
+const ROWS: [(&str, u8, &str); 19] = [
     // One sender and one receiver.
     (RENDEZVOUS, 0, RENDEZVOUS_REPORT),
     (
@@ -110,7 +110,37 @@ const ROWS: [(&str, u8, &str); 15] = [
         4,
         "0 attach 1 to 0 tag 1 lazy;0 endbody 0 1;job 0 completing;job 1 new",
     ),
-    // What is no script, for now with a line on channels beside one on Jobs too.
+    // A receiver that was cancelled before it ran makes no call; one that waits is withdrawn.
+    (
+        "channel a rendezvous;coroutine w;receive a;end;coroutine p;launch w as k;yield;cancel k;yield;end;coroutine r;receive a;receive a;end;coroutine main;launch r as j;launch p;cancel j;end",
+        0,
+        "0 attach 1 to 0 tag 1 plain;0 attach 2 to 0 tag 2 plain;0 cancel 1 request;0 endbody 0 0;1 await a 0 a.0 0;1 saw 1;1 withdraw a.0 cancelled;1 settle a.0 cancelled;1 endbody 1 0;1 finish 1 cancelled;1 close @1 0;1 gone 1;2 attach 3 to 2 tag 3 plain;2 cancel 3 request;2 endbody 2 0;2 finish 2 completed 0;2 close @2 0;2 gone 2;2 finish 0 completed 0;2 close @0 0;3 await a 1 a.1 0;3 saw 3;3 withdraw a.1 cancelled;3 settle a.1 cancelled;3 endbody 3 0;3 finish 3 cancelled;3 close @3 0;3 gone 3;job 0 completed 0;job 1 cancelled;job 2 completed 0;job 3 cancelled",
+    ),
+    // A send that was taken, then cancelled before its dispatch, is settled as cancelled though its element is received.
+    (
+        "channel a rendezvous;coroutine p;send a 5;send a 6;end;coroutine r;receive a;end;coroutine main;launch p as j;launch r;cancel j;end",
+        0,
+        "0 attach 1 to 0 tag 1 plain;0 attach 2 to 0 tag 2 plain;0 cancel 1 request;0 endbody 0 0;1 offer a 0 5 a.0 0;1 saw 1;1 settle a.0 cancelled;1 endbody 1 0;1 finish 1 cancelled;1 close @1 0;1 gone 1;1 finish 0 completed 0;1 close @0 0;2 take a 0 5;2 endbody 2 0;2 finish 2 completed 0;2 close @2 0;2 gone 2;job 0 completed 0;job 1 cancelled;job 2 completed 0",
+    ),
+    // A fresh frame runs its first line in the same poll; values pass through the registers.
+    (
+        "channel a rendezvous;channel b rendezvous;coroutine m;receive a;send b it;receive a;send b sum;end;coroutine main;send a 4294967295;receive b;send a 2;receive b;result sum;end;spawn m",
+        0,
+        "0 attach 1 to 0 tag 1 plain;0 offer a 0 4294967295 a.0 0;0 settle a.0 sent 0;0 take b 0 4294967295;0 offer a 1 2 a.1 0;0 settle a.1 sent 0;0 take b 1 1;0 endbody 0 0;0 finish 0 completed 0;0 close @0 0;1 take a 0 4294967295;1 offer b 0 4294967295 b.0 0;1 settle b.0 sent 0;1 take a 1 2;1 offer b 1 1 b.1 0;1 settle b.1 sent 0;1 endbody 1 0;1 finish 1 completed 0;1 close @1 0;1 gone 1;job 0 completed 0;job 1 completed 0",
+    ),
+    // Places run out on a send.
+    (
+        "channel a rendezvous places 1;coroutine p;send a 1;send a 2;end;coroutine main;receive a;end;spawn p",
+        1,
+        "0 attach 1 to 0 tag 1 plain;0 await a 0 a.0 0;0 settle a.0 value 0 1;0 endbody 0 0;1 hand a 0 1;1 spent a;1 cancel 1 own 1;1 cancel 0 child 1;1 endbody 1 0;1 finish 1 failed 1;1 close @1 0;1 gone 1;1 finish 0 failed 1;1 close @0 0;job 0 failed 1;job 1 failed 1",
+    ),
+    // A failure cancels the siblings that wait, and goes up to the root.
+    (
+        "channel a rendezvous;coroutine leaf;fail 7;end;coroutine sib;receive a;end;coroutine mid;launch sib;launch leaf;end;coroutine main;launch mid;end",
+        1,
+        "0 attach 1 to 0 tag 1 plain;0 endbody 0 0;1 attach 2 to 1 tag 2 plain;1 attach 3 to 1 tag 3 plain;1 endbody 1 0;2 await a 0 a.0 0;2 saw 2;2 withdraw a.0 cancelled;2 settle a.0 cancelled;2 endbody 2 0;2 finish 2 cancelled;2 close @2 0;2 gone 2;2 finish 1 failed 3;2 close @1 0;2 gone 1;2 finish 0 failed 3;2 close @0 0;3 fail 7;3 cancel 3 own 3;3 cancel 1 child 3;3 cancel 2 parent;3 cancel 0 child 1;3 endbody 3 0;3 finish 3 failed 3;3 close @3 0;3 gone 3;job 0 failed 3;job 1 failed 3;job 2 cancelled;job 3 failed 3",
+    ),
+    // What is no script.
     ("", 3, "line 1: UnknownWord"),
     ("coroutine main", 3, "line 1: UnknownWord"),
     (
@@ -118,10 +148,33 @@ const ROWS: [(&str, u8, &str); 15] = [
         3,
         "line 1: UnknownWord",
     ),
+];
+
+/// Scripts of coroutines that meet on channels while Jobs are cancelled, each with its status and the lines of its report on channels.
+const MEETINGS: [(&str, u8, &str); 4] = [
+    // A receiver is resumed, then cancelled, then dispatched: it gives its element up.
     (
-        "channel a rendezvous;coroutine main;send a 1;yield;end",
-        3,
-        "line 1: UnknownWord",
+        "channel a rendezvous;coroutine r;receive a;end;coroutine s;send a 5;end;coroutine main;launch r as j;launch s;cancel j;end",
+        0,
+        "1 await a 0 a.0 0;1 saw 1;1 settle a.0 undelivered 5;2 hand a 0 5;element a 0 5 undelivered",
+    ),
+    // A receiver is cancelled before it is resumed: the next one is handed the element.
+    (
+        "channel a rendezvous;coroutine r;receive a;end;coroutine s;send a 5;end;coroutine main;launch r as j;launch r;cancel j;launch s;end",
+        0,
+        "1 await a 0 a.0 0;1 saw 1;1 withdraw a.0 cancelled;1 settle a.0 cancelled;2 await a 1 a.1 0;2 settle a.1 value 0 5;3 hand a 1 5",
+    ),
+    // A sender that waits is cancelled: its element is undelivered.
+    (
+        "channel a rendezvous;coroutine p;send a 5;end;coroutine main;launch p as j;cancel j;end",
+        0,
+        "1 offer a 0 5 a.0 0;1 saw 1;1 withdraw a.0 cancelled;1 settle a.0 cancelled;element a 0 5 undelivered",
+    ),
+    // Places run out on a receive; two instances come from one line.
+    (
+        "channel a rendezvous places 1;coroutine r;receive a;end;coroutine main;end;spawn r 2",
+        1,
+        "1 await a 0 a.0 0;1 saw 1;1 withdraw a.0 cancelled;1 settle a.0 cancelled;2 spent a",
     ),
 ];
 
@@ -146,6 +199,52 @@ fn each_script_has_its_status_and_its_text(rt: HostRuntime) -> Result<(), Fail> 
             AT_ONCE,
         )?;
         assert_eq!(rt; written.as_slice(), lines(rt.alloc(), text)?.as_bytes());
+        assert_eq!(rt; found, status);
+    }
+    Ok(())
+}
+
+/// Whether a line of a report tells of Jobs alone.
+fn tells_of_jobs(line: &str) -> bool {
+    let of_jobs = [
+        "attach ", "start ", "endbody ", "cancel ", "finish ", "gone ", "fail ",
+    ];
+    if line.starts_with("job ") || line.contains("@") {
+        return true;
+    }
+    match line.split_once(' ') {
+        Some((_tag, rest)) => of_jobs.iter().any(|word| rest.starts_with(*word)),
+        None => false,
+    }
+}
+
+/// The lines of a report that tell of channels.
+fn on_channels(alloc: Global, report: &str) -> Result<String, Memory> {
+    let mut text = String::new(alloc);
+    for line in report.lines() {
+        if !tells_of_jobs(line) {
+            text.push_str(line)?;
+            text.push('\n')?;
+        }
+    }
+    Ok(text)
+}
+
+#[test]
+fn a_cancellation_meets_a_delivery(rt: HostRuntime) -> Result<(), Fail> {
+    for (script, status, text) in MEETINGS {
+        let (found, written) = answer(
+            rt.alloc(),
+            &["run", "--workers", "1"],
+            lines(rt.alloc(), script)?.as_bytes(),
+            AT_ONCE,
+            AT_ONCE,
+        )?;
+        let report = str::from_utf8(written.as_slice())?;
+        assert_eq!(rt;
+            on_channels(rt.alloc(), report)?.as_str(),
+            lines(rt.alloc(), text)?.as_str()
+        );
         assert_eq!(rt; found, status);
     }
     Ok(())

@@ -18,11 +18,12 @@ use Rattle.scope_builders.specs.Rest.{AtRest, IsSettled}
 use Rattle.scope_builders.specs.Groups.{ClosesAtOnce}
 use lib.Chars.{codes}
 use Rattle.script_reader.specs.declared.script.Channel.{Channel}
-use Rattle.script_reader.specs.Programs.{Program, Declared, IsProgram, coroutine_count, code_of, block_named, tags_for, declared_of, shape_of}
+use Rattle.script_reader.specs.Programs.{Program, Declared, IsProgram, coroutine_count, code_of, block_named, tags_for, spawned, declared_of, shape_of}
 use Rattle.poll_states.specs.declared.frame.Frame.{Frame}
 use Rattle.poll_states.specs.declared.frame.Stage.TheVariants.{Fresh}
 use Rattle.poll_states.specs.Settings.{base_of, is_calm_act}
 use Rattle.poll_states.specs.Runs.{Config, Reaches, begins, Begins, child}
+use Rattle.poll_states.specs.GivingUp.{GivesUpAfterSaw}
 use Rattle.poll_states.specs.Frames.{config_of, items_of, IsUnsettledOf, HoldsWait, IsInside}
 use Rattle.poll_states.specs.Beginnings.{IsNewRoot, IsOnItsFloors, Begun}
 use Rattle.engine_one.specs.Coroutines.{FrameStands, StandsAt, AllStand}
@@ -129,6 +130,7 @@ fresh_frame p c j j' k f calls jobs shape callers none lt n made = record {
     job_acts = ap (λ m. job_acts_of m j'.seen) made.tag ∙ none ∙ ap job_acts_in (sym made.book);
     holds = subst (λ stage. HoldsWait f.tag stage c) (sym stage_is) tt;
     only = λ w u. absurd (no_wait_yet f.tag c w calls.seen u);
+    gives_up = subst (GivesUpAfterSaw f.tag (replay c.seen)) (sym made.book) tt;
     inside = subst (λ stage. IsInside stage f.line (length (code_of p f.tag))) (sym stage_is) (ap (λ (x : Config). x.line) made.config);
   };
   closes = subst (ClosesAtOnce (base_of p)) (sym made.book) tt;
@@ -181,7 +183,7 @@ all_begin p c j j' frames f g calls jobs count some all at begun = record {
 pub some_coroutine : (p : Program) → IsProgram p → 0 < coroutine_count p
 some_coroutine p ok = by_main (block_named (codes "main") 0 p.blocks) ok.has_main
   where
-    by_main : (o : Option ℕ) → is_some o ≡ true → 0 < length (tags_for p.blocks p.spawns o)
+    by_main : (o : Option ℕ) → is_some o ≡ true → 0 < length (tags_for p.blocks (spawned p) o)
     by_main None e = cc
     by_main (Some main) e = omega arith
 

@@ -102,7 +102,7 @@ after_calm base s who (Close c v) e h =
 after_calm base s who (Void c) e h = cc
 after_calm base s who (Drain c p v) e h = cc
 after_calm base s who (WakeClosed c p) e h = cc
-after_calm base s who (Withdraw w why) e h = cc
+after_calm base s who (Withdraw w why) e h = resolve_calm base w _ s h
 after_calm base s who (Settle w outcome) e h = with_waits base s _ h
 
 from_calm : (base : ℕ) (s : State) (es : List Entry) → list_all (is_calm_act base) (acts_in es) ≡ true → IsCalm base s → IsCalm base (replay_from s es)

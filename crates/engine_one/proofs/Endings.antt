@@ -11,6 +11,7 @@ use Rattle.script_reader.specs.Programs.{Program, IsProgram, coroutine_count}
 use Rattle.poll_states.specs.declared.frame.Frame.{Frame}
 use Rattle.poll_states.specs.Settings.{base_of, job_shape, book_at}
 use Rattle.poll_states.specs.Runs.{Config, Reaches, Runs, fresh}
+use Rattle.poll_states.specs.GivingUp.{GivesUpAfterSaw}
 use Rattle.poll_states.specs.Frames.{config_of, items_of}
 use Rattle.poll_states.specs.Parts.{BooksOf, BeginsAsAttached, IsIdle, IsLeft, end_at}
 use Rattle.engine_one.specs.Coroutines.{Scene, FrameStands, StandsAt, AllStand, IsLeftAt, AllLeft, books_of}
@@ -47,6 +48,7 @@ books_are_parts p s frames h legal legal_jobs = record {
   job_parts = λ k. jobs k (slice_get frames k) refl (h.each k);
   runs = λ k lt. run k lt (slice_get frames k) refl (h.each k);
   closes = λ k. close k (slice_get frames k) refl (h.each k);
+  gives_up_after_saw = λ k lt. gives_up k lt (slice_get frames k) refl (h.each k);
   begins = λ k lt n some. begin k lt n some (slice_get frames k) refl (h.each k);
 }
   where
@@ -71,6 +73,10 @@ books_are_parts p s frames h legal legal_jobs = record {
     close : (k : ℕ) (o : Option Frame) → slice_get frames k ≡ o → StandsAt p s k o → ClosesAtOnce (base_of p) (book_at k (books_of frames))
     close k None e z = subst (ClosesAtOnce (base_of p)) (sym (book k None e)) tt
     close k (Some f) e z = subst (ClosesAtOnce (base_of p)) (sym (book k (Some f) e)) z.closes
+
+    gives_up : (k : ℕ) → k < coroutine_count p → (o : Option Frame) → slice_get frames k ≡ o → StandsAt p s k o → GivesUpAfterSaw k (replay s.channels.seen) (book_at k (books_of frames))
+    gives_up k lt None e z = absurd (omega (arith, lt, h.count, none_past frames k e))
+    gives_up k lt (Some f) e z = subst (GivesUpAfterSaw k (replay s.channels.seen)) (sym (book k (Some f) e)) (subst (λ n. GivesUpAfterSaw n (replay s.channels.seen) (items_of f)) z.tag z.stands.gives_up)
 
     begin : (k : ℕ) → k < coroutine_count p → k ≢ 0 → book_at k (books_of frames) ≢ [] → (o : Option Frame) → slice_get frames k ≡ o → StandsAt p s k o → BeginsAsAttached k s.jobs.seen (book_at k (books_of frames))
     begin k lt n some None e z = absurd (omega (arith, lt, h.count, none_past frames k e))

@@ -14,7 +14,7 @@ use Rattle.note_book.specs.declared.book.Item.{Item}
 use Rattle.script_reader.specs.Programs.{Program}
 use Rattle.poll_states.specs.declared.frame.Stage.TheVariants.{Fresh}
 use Rattle.poll_states.specs.Parts.{IsNotStarted}
-use Rattle.poll_states.specs.Runs.{Config, Move, runs, never_runs, hands, puts, refused, offers, takes, no_more, awaits, send_spent, receive_spent, got, sent, closed, cancelled, yields, stops, launches, launch_refused, starts, cancels, fails, results, breaks, ends, Begins, root, child, Reaches, begins, goes_on}
+use Rattle.poll_states.specs.Runs.{Config, Move, runs, never_runs, hands, puts, refused, offers, takes, no_more, awaits, send_spent, receive_spent, got, sent, closed, gives_up, cancelled, yields, stops, launches, launch_refused, starts, cancels, fails, results, breaks, ends, Begins, root, child, Reaches, begins, goes_on}
 
 -- no move leads to where a coroutine has not begun
 never_fresh : (p : Program) (k : ℕ) (seen : List JobEntry) (before : List Item) (x : Config) (group : List Item) (y : Config) → Move p k seen before x group y → y.stage ≡ Fresh → ⊥
@@ -29,9 +29,10 @@ never_fresh p k seen before x group y (no_more _ c v e) f = cc
 never_fresh p k seen before x group y (awaits _ c q e) f = cc
 never_fresh p k seen before x group y (send_spent _ c v e) f = cc
 never_fresh p k seen before x group y (receive_spent _ c e) f = cc
-never_fresh p k seen before x group y (got _ w n v e) f = cc
-never_fresh p k seen before x group y (sent _ w n e) f = cc
-never_fresh p k seen before x group y (closed _ w n v e) f = cc
+never_fresh p k seen before x group y (got _ w n v e h) f = cc
+never_fresh p k seen before x group y (sent _ w n e h) f = cc
+never_fresh p k seen before x group y (closed _ w n v e h) f = cc
+never_fresh p k seen before x group y (gives_up _ w _ e h g) f = cc
 never_fresh p k seen before x group y (cancelled _ w e) f = cc
 never_fresh p k seen before x group y (yields _ e h) f = cc
 never_fresh p k seen before x group y (stops _ e h) f = cc

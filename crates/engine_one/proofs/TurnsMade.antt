@@ -26,7 +26,7 @@ use Rattle.poll_states.specs.declared.frame.Stage.TheVariants.{Fresh, Waiting, E
 use Rattle.poll_states.specs.declared.frame.Turn.{Turn}
 use Rattle.poll_states.specs.declared.frame.Turn.TheVariants as turn
 use Rattle.poll_states.specs.Settings.{base_of, is_calm_act}
-use Rattle.poll_states.specs.Runs.{Config}
+use Rattle.poll_states.specs.Runs.{MayRun, Config}
 use Rattle.poll_states.specs.Frames.{StandsOn, HoldsWait, config_of, items_of, moves_at, moves_left, IsUnsettledOf}
 use Rattle.poll_states.specs.Parts.{IsLeft, WaitsAlone, IsNotStarted}
 use Rattle.poll_states.specs.Polls.{Polled, WaitsFor, stood, not_started, TurnAnswer}
@@ -144,8 +144,10 @@ standing_open k (Some x) u e = (u.0, by_parts x.resolved x.settled e)
     by_parts (Some how) false e = cc
 
 -- a coroutine that waits
-waits_left : (p : Program) (a b : Scene) (k : ℕ) (g : Frame) (w : WaitId) → g.tag ≡ k → StandsOn p b.channels b.jobs g → g.stage ≡ Waiting w → AtStep a.channels b.channels (λ s. state_of_wait (s.waits w) ≡ Some state.Standing) → IsSame a b → IsLeftAt b k (Some g)
-waits_left p a b k g w own stands held step same =
+waits_left : (p : Program) (a b : Scene) (k : ℕ) (g : Frame) (w : WaitId) → g.tag ≡ k → StandsOn p b.channels b.jobs g → g.stage ≡ Waiting w → AtStep a.channels b.channels (λ s. state_of_wait (s.waits w) ≡ Some state.Standing) → AtJobStep a.jobs b.jobs (λ tree. MayRun (tree g.tag)) → IsSame a b → IsLeftAt b k (Some g)
+waits_left p a b k g w own stands held step ran same =
+    let last : ran.moment ≡ a.jobs.seen = between_same a.jobs.seen ran.moment b.jobs.seen ran.after ran.before same.jobs in
+    let may_run : MayRun (replay_jobs b.jobs.seen g.tag) = subst (λ es. MayRun (replay_jobs es g.tag)) (last ∙ sym same.jobs) ran.holds in
     let moment : step.moment ≡ a.channels.seen = between_same a.channels.seen step.moment b.channels.seen step.after step.before same.channels in
     let now : state_of_wait ((replay b.channels.seen).waits w) ≡ Some state.Standing = subst (λ es. state_of_wait ((replay es).waits w) ≡ Some state.Standing) (moment ∙ sym same.channels) step.holds in
     let holds = subst (λ stage. HoldsWait g.tag stage b.channels) held stands.holds in
@@ -154,7 +156,7 @@ waits_left p a b k g w own stands held step same =
       open_now = standing_open k ((replay b.channels.seen).waits w) unsettled now;
       only = λ v u. same_wait_of v w (sym (stands.only v (subst (λ n. IsUnsettledOf n ((replay b.channels.seen).waits v)) (sym own) u)) ∙ held);
     } in
-    subst (λ stage. IsLeft k (items_of g) (replay b.channels.seen) b.jobs.seen stage) (sym held) alone
+    subst (λ stage. IsLeft k (items_of g) (replay b.channels.seen) b.jobs.seen stage) (sym held) (alone, subst (λ n. MayRun (replay_jobs b.jobs.seen n)) own may_run)
   where
     same_wait_of : (v w : WaitId) → Waiting v ≡ Waiting w → v ≡ w
     same_wait_of v w q = cc
@@ -173,7 +175,7 @@ not_started_left p a b k g legal own stands e step same =
     subst (λ stage. IsLeft k (items_of g) (replay b.channels.seen) b.jobs.seen stage) (sym e) (subst (λ n. IsLeft n (items_of g) (replay b.channels.seen) b.jobs.seen Fresh) own left)
 
 left_by : (p : Program) (a b : Scene) (k : ℕ) (f g : Frame) → LegalJobs b.jobs.shape b.jobs.seen → g.tag ≡ k → StandsOn p b.channels b.jobs g → WaitsFor a.channels b.channels a.jobs b.jobs f g → IsSame a b → IsLeftAt b k (Some g)
-left_by p a b k f g legal own stands (stood w held step) same = waits_left p a b k g w own stands held step same
+left_by p a b k f g legal own stands (stood w held step ran) same = waits_left p a b k g w own stands held step ran same
 left_by p a b k f g legal own stands (not_started e step) same = not_started_left p a b k g legal own stands e step same
 
 cannot_go_on : (p : Program) (a b : Scene) (k : ℕ) (f g : Frame) (answer : Turn) → LegalJobs b.jobs.shape b.jobs.seen → g.tag ≡ k → StandsOn p b.channels b.jobs g → TurnAnswer p a.channels b.channels a.jobs b.jobs f g answer → answer ≢ turn.Ready → IsSame a b → IsLeftAt b k (Some g)

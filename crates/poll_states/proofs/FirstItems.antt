@@ -1,29 +1,26 @@
 -- How a book begins whose coroutine has begun, and what its first item says of how the Job was attached.
 use Rattle.std.specs.Prelude.{◌≡◌, ◌≢◌, ℕ, ◌==◌, ◌⊎◌, ◌<◌, Bool, true, false, ◌||◌, List, [], ◌∷◌, ◌++◌, Option, Some, None, refl, is_some, if◌then◌else◌}
 use mathlib.Core.List.{IsPrefix}
-use Rattle.std.specs.List.{list_any}
 use Rattle.std.proofs.Common.{sym, ap, ◌∙◌, subst, inl, inr, ⊎_elim, arith}
 use Rattle.std.proofs.lemmas.Bool.Decides.{nat_tests}
 use Rattle.job_model.specs.declared.acts.JobKind.{JobKind}
 use Rattle.job_model.specs.declared.acts.JobAct.{JobAct}
 use Rattle.job_model.specs.declared.acts.JobAct.TheVariants.{Attach, Start, EndBody, Cancel, Finish, Gone}
 use Rattle.job_model.specs.declared.acts.JobEntry.{JobEntry}
-use Rattle.job_model.specs.Trees.{Job, Shape, Tree, is_active}
+use Rattle.job_model.specs.Trees.{Job, Shape}
 use Rattle.job_model.specs.Acts.{attaches, starts as starts_row}
 use Rattle.job_model.specs.Laws.{has}
-use Rattle.job_model.specs.Histories.{replay, acts_of, Legal}
+use Rattle.job_model.specs.Histories.{replay, Legal}
 use Rattle.job_model.proofs.Histories.{Legal-prefix}
 use Rattle.job_model.proofs.Ends.{by_entries}
 use Rattle.note_book.specs.declared.book.Item.{Item}
 use Rattle.scope_builders.specs.Origins.{origin_of, origin_in, or_else}
-use Rattle.scope_builders.specs.Calls.{WasWhen}
 use Rattle.scope_builders.proofs.Origins.{active_origin, origin_stays}
 use Rattle.script_reader.specs.Programs.{Program, coroutine_count}
-use Rattle.poll_states.specs.declared.frame.Stage.{Stage}
-use Rattle.poll_states.specs.declared.frame.Stage.TheVariants.{Fresh, Running, Waiting, Unwinding, Ended}
+use Rattle.poll_states.specs.declared.frame.Stage.TheVariants.{Fresh, Running, Waiting, Unwinding}
 use Rattle.poll_states.specs.Settings.{job_shape}
-use Rattle.poll_states.specs.Parts.{BeginsAsAttached, NeverRuns, IsSawFirst}
-use Rattle.poll_states.specs.Runs.{Config, MayRun, IsCancelling, saw, Move, runs, never_runs, hands, puts, refused, offers, takes, no_more, awaits, send_spent, receive_spent, got, sent, closed, cancelled, yields, stops, launches, launch_refused, starts, cancels, fails, results, breaks, ends, Begins, root, child, Reaches, begins, goes_on}
+use Rattle.poll_states.specs.Parts.{BeginsAsAttached, IsSawFirst}
+use Rattle.poll_states.specs.Runs.{Config, MayRun, IsCancelling, saw, Move, runs, never_runs, hands, puts, refused, offers, takes, no_more, awaits, send_spent, receive_spent, got, sent, closed, cancelled, gives_up, yields, stops, launches, launch_refused, starts, cancels, fails, results, breaks, ends, Begins, root, child, Reaches, begins, goes_on}
 
 -- how a coroutine that has begun began: its Job might run, or it noted that it saw it Cancelling
 pub data HasBegun (k : ℕ) (seen : List JobEntry) (items : List Item) : Type 0 where
@@ -51,10 +48,11 @@ first_move p k seen before x group y all (no_more _ c v e) f none eq = absurd (l
 first_move p k seen before x group y all (awaits _ c q e) f none eq = absurd (let z = e.stage in let q : Running ≡ Fresh = sym z ∙ f in cc)
 first_move p k seen before x group y all (send_spent _ c v e) f none eq = absurd (let z = e.stage in let q : Running ≡ Fresh = sym z ∙ f in cc)
 first_move p k seen before x group y all (receive_spent _ c e) f none eq = absurd (let z = e.stage in let q : Running ≡ Fresh = sym z ∙ f in cc)
-first_move p k seen before x group y all (got _ w n v e) f none eq = absurd (let q : Waiting w ≡ Fresh = sym e ∙ f in cc)
-first_move p k seen before x group y all (sent _ w n e) f none eq = absurd (let q : Waiting w ≡ Fresh = sym e ∙ f in cc)
-first_move p k seen before x group y all (closed _ w n v e) f none eq = absurd (let q : Waiting w ≡ Fresh = sym e ∙ f in cc)
+first_move p k seen before x group y all (got _ w n v e r) f none eq = absurd (let q : Waiting w ≡ Fresh = sym e ∙ f in cc)
+first_move p k seen before x group y all (sent _ w n e r) f none eq = absurd (let q : Waiting w ≡ Fresh = sym e ∙ f in cc)
+first_move p k seen before x group y all (closed _ w n v e r) f none eq = absurd (let q : Waiting w ≡ Fresh = sym e ∙ f in cc)
 first_move p k seen before x group y all (cancelled _ w e) f none eq = absurd (let q : Waiting w ≡ Fresh = sym e ∙ f in cc)
+first_move p k seen before x group y all (gives_up _ w _ e r g) f none eq = absurd (let q : Waiting w ≡ Fresh = sym e ∙ f in cc)
 first_move p k seen before x group y all (yields _ e h) f none eq = absurd (let z = e.stage in let q : Running ≡ Fresh = sym z ∙ f in cc)
 first_move p k seen before x group y all (stops _ e h) f none eq = absurd (let z = e.stage in let q : Running ≡ Fresh = sym z ∙ f in cc)
 first_move p k seen before x group y all (launches _ block lazy job now e) f none eq = absurd (let z = e.stage in let q : Running ≡ Fresh = sym z ∙ f in cc)

@@ -1,18 +1,20 @@
 -- What one move leaves of a coroutine that stands.
-use Rattle.std.specs.Prelude.{◌≡◌, ℕ, zero, suc, ◌+◌, ◌<◌, ◌==◌, Bool, true, false, ◌&&◌, ◌||◌, List, [], ◌∷◌, ◌++◌, length, map, Option, Some, None, is_none, is_some, slice_get, refl, if◌then◌else◌}
+use Rattle.std.specs.Prelude.{◌≡◌, ℕ, zero, suc, ◌+◌, ◌<◌, ◌==◌, ◌⊎◌, Bool, true, false, ◌&&◌, ◌||◌, not, List, [], ◌∷◌, ◌++◌, length, map, Option, Some, None, is_none, is_some, slice_get, refl, if◌then◌else◌}
 use Rattle.std.specs.List.{list_all, list_any}
 use mathlib.Core.List.{IsPrefix}
-use Rattle.std.proofs.Common.{sym, ap, ◌∙◌, subst, arith, inr, ⊎_elim}
+use Rattle.std.proofs.Common.{sym, ap, ◌∙◌, subst, arith, inl, inr, ⊎_elim}
 use Rattle.std.proofs.lemmas.Bool.{eq-eqb}
 use Rattle.std.proofs.lemmas.Option.{slice_get_within}
 use Rattle.co_base.specs.declared.names.WaitId.{WaitId}
 use Rattle.channel_model.specs.declared.acts.Act.{Act}
+use Rattle.channel_model.specs.declared.acts.Act.TheVariants.{Hand, Put, Offer, Await, Take, Admit, Drop, Close, Void, Drain, WakeClosed, Withdraw, Settle}
 use Rattle.channel_model.specs.declared.acts.ChannelNote.{ChannelNote}
 use Rattle.channel_model.specs.declared.acts.Entry.{Entry}
-use Rattle.channel_model.specs.Channels.{State, start}
-use Rattle.channel_model.specs.Effects.{after}
-use Rattle.channel_model.specs.Histories.{replay, replay_from, acts_of}
-use Rattle.channel_model.specs.Floors.{Floor as ChannelFloor, Added as AddedToChannels, HasRoom}
+use Rattle.channel_model.specs.Channels.{State, start, same_wait}
+use Rattle.channel_model.specs.Effects.{after, settled_wait}
+use Rattle.channel_model.specs.Histories.{replay, replay_from, acts_of, Legal as LegalChannels}
+use Rattle.channel_model.specs.Floors.{Floor as ChannelFloor, Added as AddedToChannels, HasRoom, entries_by}
+use Rattle.channel_model.proofs.Waits.{same_wait-eq, at_wait}
 use Rattle.channel_model.proofs.Histories.{acts_of-append, replay_from-append}
 use Rattle.channel_model.proofs.Spans.{added_then as channels_then, added_room, added_none as channels_none, nothing_more}
 use Rattle.channel_model.proofs.OwnWaits.{begins, act_from}
@@ -21,10 +23,10 @@ use Rattle.job_model.specs.declared.acts.JobAct.{JobAct}
 use Rattle.job_model.specs.Trees.{Shape}
 use Rattle.job_model.specs.Acts.{attaches, ends_body}
 use Rattle.job_model.specs.Histories.{replay as replay_jobs, acts_of as job_acts_of, Legal}
-use Rattle.job_model.specs.Floors.{Floor, Added}
+use Rattle.job_model.specs.Floors.{Floor, Added, AtStep}
 use Rattle.job_model.specs.Laws.{has_ended}
 use Rattle.job_model.proofs.Ends.{by_entries}
-use Rattle.job_model.proofs.Spans.{added_none}
+use Rattle.job_model.proofs.Spans.{added_none, added_then, prefix_then}
 use Rattle.note_book.specs.declared.book.Item.{Item}
 use Rattle.note_book.specs.declared.book.Item.TheVariants as item
 use Rattle.note_book.specs.Items.{channel_act, channel_acts_in, job_acts_in}
@@ -42,14 +44,18 @@ use Rattle.poll_states.specs.declared.frame.Stage.{Stage}
 use Rattle.poll_states.specs.declared.frame.Stage.TheVariants.{Fresh, Running, Waiting, Unwinding, Ended}
 use Rattle.poll_states.specs.declared.frame.Step.{Step}
 use Rattle.poll_states.specs.declared.frame.Turn.{Turn}
+use Rattle.poll_states.specs.declared.frame.Turn.TheVariants as turn
 use Rattle.poll_states.specs.Settings.{base_of, is_calm_act}
-use Rattle.poll_states.specs.Runs.{Config, Move, Reaches}
+use Rattle.poll_states.specs.Runs.{Config, Move, Reaches, MayRun}
 use Rattle.poll_states.specs.Frames.{config_of, items_of, IsUnsettledOf, HoldsWait, IsInside, IsFor, StandsOn, moves_at, moves_left}
-use Rattle.poll_states.specs.Polls.{MovesOnce, NotedSome, WaitsFor, TurnAnswer}
-use Rattle.poll_states.specs.Steps.{after_step, turn_after, WaitsOnly, HasStood, ClosesNone, StepMade, HasBody, Stepped, Turned}
-use Rattle.poll_states.proofs.Waits.{unsettled_comes}
+use Rattle.poll_states.specs.Polls.{MovesOnce, NotedSome, GoesOn, WaitsFor, TurnAnswer}
+use Rattle.poll_states.specs.Steps.{after_step, after_call, taking, WaitsOnly, HasStood, ClosesNone, StepMade, HasBody, Stepped, AnsweredAfter, IsAnswerAt, Turned}
+use Rattle.poll_states.proofs.Waits.{is_waiting, unsettled_comes, no_unsettled, is_close, closed_same}
+use Rattle.poll_states.specs.GivingUp.{GivesUpAfterSaw, neither}
 use Rattle.poll_states.proofs.OwnJobs.{IsLive, live_later}
-use Rattle.poll_states.proofs.Reached.{is_over, is_fresh, reaches_later, reach_ends, reach_live, reach_rows, reach_fits, move_falls, Fits}
+use Rattle.poll_states.proofs.TakenBack.{gives_up_later, gives_up_more}
+use Rattle.poll_states.proofs.GivenUp.{move_may}
+use Rattle.poll_states.proofs.Reached.{is_over, is_fresh, move_later, reaches_later, reach_ends, reach_live, reach_rows, reach_fits, move_falls, Fits}
 
 -- ---- the lines of a script
 
@@ -170,23 +176,87 @@ added_only who acts a b w h none u =
     let u' : IsUnsettledOf who ((replay (a.seen ++ rest)).waits w) = subst (λ es. IsUnsettledOf who ((replay es).waits w)) (sym h.longer.1) u in
     kept_from who w (replay a.seen) rest (ap (list_all begins_none) mine ∙ none) (subst (λ (s : State). IsUnsettledOf who (s.waits w)) (replay_from-append start a.seen rest) u')
 
+-- ---- a wait that was settled
+
+abbrev pub is_settle_of : WaitId → Act → Bool
+is_settle_of w (Settle v outcome) = same_wait v w
+is_settle_of w act = false
+
+settled_here : (who n : ℕ) (w : WaitId) (s : State) (act : Act) → is_settle_of w act ≡ true → IsUnsettledOf who ((after s n act).waits w) → ⊥
+settled_here who n w s (Hand c p v) e h = cc
+settled_here who n w s (Put c p v) e h = cc
+settled_here who n w s (Offer c p v u k) e h = cc
+settled_here who n w s (Await c p u k) e h = cc
+settled_here who n w s (Take c p v) e h = cc
+settled_here who n w s (Admit c p) e h = cc
+settled_here who n w s (Drop c p v) e h = cc
+settled_here who n w s (Close c v) e h = cc
+settled_here who n w s (Void c) e h = cc
+settled_here who n w s (Drain c p v) e h = cc
+settled_here who n w s (WakeClosed c p) e h = cc
+settled_here who n w s (Withdraw u why) e h = cc
+settled_here who n w s (Settle u outcome) e h =
+    no_unsettled who (s.waits u) (subst (IsUnsettledOf who) (at_wait u (settled_wait (s.waits u)) s.waits) (subst (λ v. IsUnsettledOf who ((after s n (Settle u outcome)).waits v)) (sym (same_wait-eq u w e)) h))
+
+ended_from : (who : ℕ) (w : WaitId) (s : State) (es : List Entry) → list_all begins_none (acts_of who es) ≡ true → list_any (is_settle_of w) (acts_of who es) ≡ true → IsUnsettledOf who ((replay_from s es).waits w) → ⊥
+unfolding replay_from acts_of
+ended_from who w s [] n k h = cc
+ended_from who w s (e ∷ es) n k h = by_test (e.who == who) n k (ended_from who w (after s e.who e.act) es)
+  where
+    both : (a b : Bool) → (a && b) ≡ true → b ≡ true
+    both true b q = q
+    both false b q = cc
+
+    either : (a b : Bool) → (a || b) ≡ true → (a ≡ true) ⊎ (b ≡ true)
+    either true b q = inl refl
+    either false b q = inr q
+
+    by_test : (b : Bool) → list_all begins_none (if b then e.act ∷ acts_of who es else acts_of who es) ≡ true → list_any (is_settle_of w) (if b then e.act ∷ acts_of who es else acts_of who es) ≡ true
+        → (list_all begins_none (acts_of who es) ≡ true → list_any (is_settle_of w) (acts_of who es) ≡ true → IsUnsettledOf who ((replay_from (after s e.who e.act) es).waits w) → ⊥) → ⊥
+    by_test true m q rest =
+        let m' = both (begins_none e.act) (list_all begins_none (acts_of who es)) m in
+        ⊎_elim (λ here. settled_here who e.who w s e.act here (kept_from who w (after s e.who e.act) es m' h)) (λ later. rest m' later h) (either (is_settle_of w e.act) (list_any (is_settle_of w) (acts_of who es)) q)
+    by_test false m q rest = rest m q h
+
+-- who settled its only wait, and began none: it has none
+pub ended_only : (who : ℕ) (acts : List Act) (a b : ChannelFloor) (w v : WaitId) → AddedToChannels who acts a b → list_all begins_none acts ≡ true → list_any (is_settle_of w) acts ≡ true → WaitsOnly who (Waiting w) a → IsUnsettledOf who ((replay b.seen).waits v) → ⊥
+ended_only who acts a b w v h none settle only u =
+    let rest : List Entry = h.longer.0 in
+    let mine : acts_of who rest ≡ acts = front_off (acts_of who a.seen) (acts_of who rest) acts (sym (acts_of-append who a.seen rest) ∙ ap (acts_of who) h.longer.1 ∙ h.mine) in
+    let was : Waiting w ≡ Waiting v = only v (added_only who acts a b v h none u) in
+    let same : w ≡ v = cc in
+    let u' : IsUnsettledOf who ((replay (a.seen ++ rest)).waits w) = subst (λ es. IsUnsettledOf who ((replay es).waits w)) (sym h.longer.1) (subst (λ n. IsUnsettledOf who ((replay b.seen).waits n)) (sym same) u) in
+    ended_from who w (replay a.seen) rest (ap (list_all begins_none) mine ∙ none) (ap (list_any (is_settle_of w)) mine ∙ settle) (subst (λ (s : State). IsUnsettledOf who (s.waits w)) (replay_from-append start a.seen rest) u')
+
+-- ---- acts that close nothing
+
+abbrev pub is_no_close : Act → Bool
+is_no_close act = not (is_close act)
+
+none_closed : (who n : ℕ) (s : State) (acts : List Act) → list_all is_no_close acts ≡ true → ((replay_from s (entries_by who acts)).channels n).closed ≡ (s.channels n).closed
+unfolding replay_from
+none_closed who n s [] e = refl
+none_closed who n s (act ∷ acts) e = by_test (is_close act) refl e (none_closed who n (after s who act) acts)
+  where
+    by_test : (b : Bool) → is_close act ≡ b → (not b && list_all is_no_close acts) ≡ true
+        → (list_all is_no_close acts ≡ true → ((replay_from (after s who act) (entries_by who acts)).channels n).closed ≡ ((after s who act).channels n).closed) → ((replay_from (after s who act) (entries_by who acts)).channels n).closed ≡ (s.channels n).closed
+    by_test true k m rest = cc
+    by_test false k m rest = rest m ∙ closed_same s who act n k
+
+pub added_closes : (who : ℕ) (acts : List Act) (a b : ChannelFloor) → AddedToChannels who acts a b → list_all is_no_close acts ≡ true → a.alone ≡ true → ClosesNone a b
+added_closes who acts a b h e alone n =
+    ap (λ es. ((replay es).channels n).closed) (h.alone alone) ∙ ap (λ (s : State). (s.channels n).closed) (replay_from-append start a.seen (entries_by who acts)) ∙ none_closed who n (replay a.seen) acts e
+
 -- ---- a move
 
-abbrev pub is_waiting : Stage → Bool
-is_waiting Fresh = false
-is_waiting Running = false
-is_waiting (Waiting w) = true
-is_waiting (Unwinding failure) = false
-is_waiting Ended = false
-
-holds_none : (who : ℕ) (stage : Stage) (c : ChannelFloor) → is_waiting stage ≡ false → HoldsWait who stage c
+pub holds_none : (who : ℕ) (stage : Stage) (c : ChannelFloor) → is_waiting stage ≡ false → HoldsWait who stage c
 holds_none who Fresh c e = tt
 holds_none who Running c e = tt
 holds_none who (Waiting w) c e = cc
 holds_none who (Unwinding failure) c e = tt
 holds_none who Ended c e = tt
 
-stood_none : (stage : Stage) (a b : ChannelFloor) → is_waiting stage ≡ false → HasStood a b stage
+pub stood_none : (stage : Stage) (a b : ChannelFloor) → is_waiting stage ≡ false → HasStood a b stage
 stood_none Fresh a b e = tt
 stood_none Running a b e = tt
 stood_none (Waiting w) a b e = cc
@@ -213,6 +283,8 @@ did_stepped p c c' j j' f g group rows h did t move calm none settled closes e k
   holds = holds_none f.tag g.stage c' k;
   only = λ w u. not_waiting f.stage w e (h.only w (added_only f.tag (channel_acts_in group) c c' w did.channels none u));
   stood = stood_none g.stage c c' k;
+  taken_back = λ w at is. not_waiting f.stage w e at;
+  ran = λ w at on. not_waiting f.stage w e at;
 }
 
 pub after_stage : (stage : Stage) (x : Config) → (after_step stage x).stage ≡ stage
@@ -237,10 +309,10 @@ room_only who stage a b e only w u = only w (subst (λ es. IsUnsettledOf who ((r
 
 -- a call on a channel, after room was made
 pub channel_stepped : (p : Program) (c d c' : ChannelFloor) (j : Floor) (f g : Frame) (step : Step) → StandsOn p c j f → HasRoom 1 c d → StepMade f.tag (base_of p) d c' step
-    → Move p f.tag j.seen (items_of f) (config_of f) (item.Channel step.note ∷ []) (after_step step.stage (config_of f))
-    → g.tag ≡ f.tag → config_of g ≡ after_step step.stage (config_of f) → items_of g ≡ items_of f ++ item.Channel step.note ∷ [] → Stepped p c c' j j f g
-channel_stepped p c d c' j f g step h room made move t config items =
-    let stage : g.stage ≡ step.stage = ap (λ (x : Config). x.stage) config ∙ after_stage step.stage (config_of f) in
+    → Move p f.tag j.seen (items_of f) (config_of f) (item.Channel step.note ∷ []) (after_call step (config_of f)) → is_waiting f.stage ≡ false
+    → g.tag ≡ f.tag → config_of g ≡ after_call step (config_of f) → items_of g ≡ items_of f ++ item.Channel step.note ∷ [] → Stepped p c c' j j f g
+channel_stepped p c d c' j f g step h room made move runs t config items =
+    let stage : g.stage ≡ step.stage = ap (λ (x : Config). x.stage) config ∙ after_stage step.stage (taking step.received (config_of f)) in
     record {
       tag = t;
       notes = item.Channel step.note ∷ [];
@@ -254,12 +326,14 @@ channel_stepped p c d c' j f g step h room made move t config items =
       holds = subst (λ t. HoldsWait f.tag t c') (sym stage) made.holds;
       only = subst (λ t. WaitsOnly f.tag t c') (sym stage) made.only;
       stood = subst (HasStood c c') (sym stage) (stood_then step.stage c d c' room.seen made.stood);
+      taken_back = λ w at is. not_waiting f.stage w runs at;
+      ran = λ w at on. not_waiting f.stage w runs at;
     }
 
 -- ---- where a move leads
 
-pub step_stands : (p : Program) (c c' : ChannelFloor) (j j' : Floor) (f g : Frame) → IsProgram p → StandsOn p c j f → Stepped p c c' j j' f g → StandsOn p c' j' g
-step_stands p c c' j j' f g ok h s =
+pub step_stands : (p : Program) (c c' : ChannelFloor) (j j' : Floor) (f g : Frame) → IsProgram p → LegalChannels c'.shape c'.seen → StandsOn p c j f → Stepped p c c' j j' f g → StandsOn p c' j' g
+step_stands p c c' j j' f g ok legal h s =
     let reaches : Reaches p f.tag j'.seen (items_of g) (config_of g) = Reaches.goes_on (items_of f) s.notes (items_of g) (config_of f) (config_of g) (reaches_later p f.tag j.seen j'.seen (items_of f) (config_of f) s.jobs.longer h.reaches) s.move s.appended in
     record {
       fits = record {
@@ -275,6 +349,9 @@ step_stands p c c' j j' f g ok h s =
       holds = subst (λ k. HoldsWait k g.stage c') (sym s.tag) s.holds;
       only = λ w u. s.only w (subst (λ k. IsUnsettledOf k ((replay c'.seen).waits w)) s.tag u);
       inside = subst (λ k. IsInside g.stage g.line (length (code_of p k))) (sym s.tag) (reach_fits p f.tag j'.seen (items_of g) (config_of g) ok h.fits.runs reaches).inside;
+      gives_up = subst (λ k. GivesUpAfterSaw k (replay c'.seen) (items_of g)) (sym s.tag) (subst (λ l. GivesUpAfterSaw f.tag (replay c'.seen) l) (sym s.appended)
+          (gives_up_more f.tag (replay c'.seen) neither (items_of f) s.notes (gives_up_later c'.shape f.tag c.seen c'.seen neither (items_of f) legal s.channels.longer h.gives_up)
+          (move_may p f.tag j'.seen (items_of f) (config_of f) s.notes (config_of g) (replay c'.seen) s.move s.taken_back)));
     }
 
 pub step_falls : (p : Program) (c c' : ChannelFloor) (j j' : Floor) (f g : Frame) → IsProgram p → StandsOn p c j f → Stepped p c c' j j' f g → moves_left p g < moves_left p f
@@ -287,32 +364,83 @@ step_noted p c c' j j' f g s = record { group = s.notes; rows = s.rows; did = re
 
 -- ---- polls of one move
 
-pub answer_at : (p : Program) (c c' : ChannelFloor) (j j' : Floor) (f g : Frame) (stage : Stage) → g.stage ≡ stage → HasStood c c' stage → moves_left p g < moves_left p f → TurnAnswer p c c' j j' f g (turn_after stage)
-answer_at p c c' j j' f g Fresh e stood falls = ((λ u. let v : Fresh ≡ Ended = sym e ∙ u in let w : ⊥ = cc in w), falls)
-answer_at p c c' j j' f g Running e stood falls = ((λ u. let v : Running ≡ Ended = sym e ∙ u in let w : ⊥ = cc in w), falls)
-answer_at p c c' j j' f g (Waiting w) e stood falls = ((λ u. let v : Waiting w ≡ Ended = sym e ∙ u in let x : ⊥ = cc in x), WaitsFor.stood w e stood)
-answer_at p c c' j j' f g (Unwinding failure) e stood falls = ((λ u. let v : Unwinding failure ≡ Ended = sym e ∙ u in let w : ⊥ = cc in w), falls)
-answer_at p c c' j j' f g Ended e stood falls = e
+-- and a look at the Jobs
+pub stepped_later : (p : Program) (c c' : ChannelFloor) (j a b : Floor) (f g : Frame) → Stepped p c c' j a f g → Added f.tag [] [] a b → Stepped p c c' j b f g
+stepped_later p c c' j a b f g s look = record {
+  tag = s.tag;
+  notes = s.notes;
+  appended = s.appended;
+  move = move_later p f.tag a.seen b.seen (items_of f) (config_of f) s.notes (config_of g) look.longer s.move;
+  channels = s.channels;
+  rows = s.rows ++ [];
+  jobs = subst (λ l. Added f.tag l (s.rows ++ []) j b) (nothing_more (job_acts_in s.notes)) (added_then f.tag (job_acts_in s.notes) [] s.rows [] j a b s.jobs look);
+  calm = s.calm;
+  settled = λ x y z. let two = s.settled x y z in (settled_kept (base_of p) c' c' a b (λ n. refl) (look.alone (s.jobs.same.alone ∙ y) ∙ nothing_more a.seen) two.0, two.1);
+  holds = s.holds;
+  only = s.only;
+  stood = s.stood;
+  taken_back = s.taken_back;
+  ran = λ w at on. let m = s.ran w at on in record { moment = m.moment; after = m.after; before = prefix_then m.moment a.seen b.seen m.before look.longer; holds = m.holds };
+}
 
-pub turned_once : (p : Program) (c c' : ChannelFloor) (j j' : Floor) (f g : Frame) (answer : Turn) → IsProgram p → StandsOn p c j f → Stepped p c c' j j' f g → answer ≡ turn_after g.stage → Turned p c c' j j' f g answer
-turned_once p c c' j j' f g answer ok h s is =
+pub not_end : (stage which : Stage) → is_over which ≡ false → stage ≡ which → stage ≡ Ended → ⊥
+not_end stage which o e u = let v : is_over Ended ≡ false = ap is_over (sym u ∙ e) ∙ o in let w : true ≡ false = v in cc
+
+-- what is answered after a line
+pub answer_at : (p : Program) (c c' : ChannelFloor) (j a b : Floor) (f g : Frame) (stage : Stage) (answer : Turn) → g.stage ≡ stage → HasStood c c' stage → IsPrefix j.seen a.seen → IsAnswerAt g.tag stage a b answer → moves_left p g < moves_left p f → TurnAnswer p c c' j b f g answer
+answer_at p c c' j a b f g Fresh answer e stood longer so falls = subst (λ r. TurnAnswer p c c' j b f g r) (sym so) (not_end g.stage Fresh refl e, falls)
+answer_at p c c' j a b f g Running answer e stood longer so falls = subst (λ r. TurnAnswer p c c' j b f g r) (sym so) (not_end g.stage Running refl e, falls)
+answer_at p c c' j a b f g (Waiting w) answer e stood longer so falls =
+    ⊎_elim
+    (λ q. subst (λ r. TurnAnswer p c c' j b f g r) (sym q.0) (not_end g.stage (Waiting w) refl e, falls))
+    (λ q. subst (λ r. TurnAnswer p c c' j b f g r) (sym q.0)
+    (not_end g.stage (Waiting w) refl e, WaitsFor.stood w e stood (record { moment = q.1.moment; after = prefix_then j.seen a.seen q.1.moment longer q.1.after; before = q.1.before; holds = q.1.holds })))
+    so
+answer_at p c c' j a b f g (Unwinding failure) answer e stood longer so falls = subst (λ r. TurnAnswer p c c' j b f g r) (sym so) (not_end g.stage (Unwinding failure) refl e, falls)
+answer_at p c c' j a b f g Ended answer e stood longer so falls = subst (λ r. TurnAnswer p c c' j b f g r) (sym so) e
+
+pub no_fresh : {A : Type 0} {stage : Stage} → is_fresh stage ≡ false → stage ≡ Fresh → A
+no_fresh o e = absurd (let u : is_fresh Fresh ≡ false = ap is_fresh (sym e) ∙ o in let v : ⊥ = cc in v)
+
+-- the Job ran where the coroutine goes on
+goes_on : (j j' : Floor) (f g : Frame) → ((w : WaitId) → f.stage ≡ Waiting w → g.stage ≡ Running → AtStep j j' (λ tree. MayRun (tree f.tag))) → (f.stage ≡ Fresh → g.stage ≡ Unwinding None) → GoesOn f g → AtStep j j' (λ tree. MayRun (tree f.tag))
+goes_on j j' f g ran fresh (GoesOn.after_wait w at on) = ran w at on
+goes_on j j' f g ran fresh (GoesOn.begins at some other) = absurd (other (fresh at))
+
+-- a move that was answered so
+pub turned_by : (p : Program) (c c' : ChannelFloor) (j j' : Floor) (f g : Frame) (answer : Turn) → IsProgram p → LegalChannels c'.shape c'.seen → StandsOn p c j f → Stepped p c c' j j' f g → (f.stage ≡ Fresh → g.stage ≡ Unwinding None) → (moves_left p g < moves_left p f → TurnAnswer p c c' j j' f g answer) → Turned p c c' j j' f g answer
+turned_by p c c' j j' f g answer ok legal h s fresh is =
     let falls = step_falls p c c' j j' f g ok h s in
     record {
-      stands = step_stands p c c' j j' f g ok h s;
+      stands = step_stands p c c' j j' f g ok legal h s;
       polled = record {
         tag = s.tag;
         notes = s.notes;
         appended = s.appended;
         moved = MovesOnce.once (config_of f) (config_of g) s.notes s.move;
         falls = inr falls;
+        ran = goes_on j j' f g s.ran fresh;
         channels = s.channels;
         rows = s.rows;
         jobs = s.jobs;
         calm = s.calm;
         settled = s.settled;
       };
-      turn = subst (λ r. TurnAnswer p c c' j j' f g r) (sym is) (answer_at p c c' j j' f g g.stage refl s.stood falls);
+      turn = is falls;
     }
+
+-- a line, and the look after it
+pub turned_line : (p : Program) (c c' : ChannelFloor) (j a b : Floor) (f g : Frame) (answer : Turn) → IsProgram p → LegalChannels c'.shape c'.seen → StandsOn p c j f → Stepped p c c' j a f g → AnsweredAfter g a b answer → is_fresh f.stage ≡ false → Turned p c c' j b f g answer
+turned_line p c c' j a b f g answer ok legal h s after begun =
+    turned_by p c c' j b f g answer ok legal h (stepped_later p c c' j a b f g s (subst (λ k. Added k [] [] a b) s.tag after.looked)) (no_fresh begun) (λ falls. answer_at p c c' j a b f g g.stage answer refl s.stood s.jobs.longer after.so falls)
+
+-- a move that unwinds
+pub turned_ready : (p : Program) (c c' : ChannelFloor) (j j' : Floor) (f g : Frame) (stage : Stage) → IsProgram p → LegalChannels c'.shape c'.seen → StandsOn p c j f → Stepped p c c' j j' f g → g.stage ≡ stage → is_over stage ≡ false → (f.stage ≡ Fresh → g.stage ≡ Unwinding None) → Turned p c c' j j' f g turn.Ready
+turned_ready p c c' j j' f g stage ok legal h s e o fresh = turned_by p c c' j j' f g turn.Ready ok legal h s fresh (λ falls. (not_end g.stage stage o e, falls))
+
+-- a move that ends the body
+pub turned_over : (p : Program) (c c' : ChannelFloor) (j j' : Floor) (f g : Frame) → IsProgram p → LegalChannels c'.shape c'.seen → StandsOn p c j f → Stepped p c c' j j' f g → g.stage ≡ Ended → is_fresh f.stage ≡ false → Turned p c c' j j' f g turn.Ended
+turned_over p c c' j j' f g ok legal h s e begun = turned_by p c c' j j' f g turn.Ended ok legal h s (no_fresh begun) (λ falls. e)
 
 -- after a move nothing is left quiet
 pub step_quiet : (A : Type 0) (p : Program) (c c' : ChannelFloor) (j j' : Floor) (f g : Frame) → IsProgram p → StandsOn p c j f → Stepped p c c' j j' f g → moves_left p g ≡ moves_left p f → A

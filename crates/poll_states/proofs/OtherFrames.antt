@@ -1,11 +1,11 @@
 -- A poll of one coroutine leaves the frame of another where it stands, on floors that are alone.
-use Rattle.std.specs.Prelude.{◌≡◌, ◌≢◌, ℕ, ◌<◌, ◌==◌, Bool, true, false, List, [], ◌∷◌, ◌++◌, refl, if◌then◌else◌, length}
+use Rattle.std.specs.Prelude.{◌≡◌, ◌≢◌, ℕ, ◌==◌, Bool, true, false, List, [], ◌∷◌, ◌++◌, refl, if◌then◌else◌, length}
 use mathlib.Core.List.{IsPrefix}
 use Rattle.std.proofs.Common.{ap, ◌∙◌, arith}
 use Rattle.std.proofs.lemmas.Bool.Decides.{nat_tests}
 use Rattle.std.proofs.lemmas.List.{append-nil}
 use Rattle.channel_model.specs.declared.acts.Act.{Act}
-use Rattle.channel_model.specs.Histories.{replay, acts_of, Legal}
+use Rattle.channel_model.specs.Histories.{acts_of, Legal}
 use Rattle.channel_model.specs.Floors.{Floor, Added, entries_by}
 use Rattle.channel_model.proofs.Histories.{acts_of-append}
 use Rattle.channel_model.proofs.Others.{others_keep}
@@ -21,7 +21,9 @@ use Rattle.poll_states.specs.declared.frame.Stage.{Stage}
 use Rattle.poll_states.specs.declared.frame.Stage.TheVariants.{Fresh, Running, Waiting, Unwinding, Ended}
 use Rattle.poll_states.specs.Frames.{config_of, items_of, IsUnsettledOf, HoldsWait, StandsOn}
 use Rattle.poll_states.specs.Polls.{Polled}
+use Rattle.poll_states.specs.GivingUp.{neither}
 use Rattle.poll_states.proofs.Waits.{unsettled_stays, unsettled_comes}
+use Rattle.poll_states.proofs.TakenBack.{gives_up_later}
 use Rattle.poll_states.proofs.Reached.{reaches_later}
 
 apart : (i j : ℕ) → i ≢ j → (i == j) ≡ false
@@ -74,4 +76,5 @@ other_stands p c c' j j' f f' g polled ca ja lc lj n h =
       holds = holds_still g.tag g.stage c c' lc channels.same.shape channels.longer same h.holds;
       only = λ w u. h.only w (others_bring_none g.tag (IsUnsettledOf g.tag) (unsettled_comes g.tag) w c.seen c'.seen channels.longer same u);
       inside = h.inside;
+      gives_up = gives_up_later c'.shape g.tag c.seen c'.seen neither (items_of g) lc channels.longer h.gives_up;
     }

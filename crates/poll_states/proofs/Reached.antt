@@ -25,12 +25,12 @@ use Rattle.scope_builders.specs.Groups.{ClosesDone, IsChain, IsPassOf, IsBreak, 
 use Rattle.scope_builders.specs.Calls.{WasWhen, start_of, child_kind}
 use Rattle.script_reader.specs.declared.script.Instruction.{Instruction}
 use Rattle.script_reader.specs.declared.script.Instruction.TheVariants as line
-use Rattle.script_reader.specs.Programs.{Program, IsProgram, code_of, coroutine_count, size_of, sizes_of, launched, knows_jobs, is_next_job, jobs_after_name}
+use Rattle.script_reader.specs.Programs.{Program, IsProgram, code_of, coroutine_count, size_of, sizes_of, spawned, launched, knows_jobs, is_next_job, jobs_after_name}
 use Rattle.script_reader.proofs.Truths.{both_true}
 use Rattle.script_reader.proofs.Layouts.{all_weaker, main_fits, launches_fit, jobs_known}
 use Rattle.poll_states.specs.declared.frame.Stage.{Stage}
 use Rattle.poll_states.specs.declared.frame.Stage.TheVariants.{Fresh, Running, Waiting, Unwinding, Ended}
-use Rattle.poll_states.specs.Runs.{Config, IsRefusal, Move, Spawns, Begins, Reaches, named, fresh, past_launch, at_stage}
+use Rattle.poll_states.specs.Runs.{Config, IsRefusal, IsGivenUp, Move, Spawns, Begins, Reaches, named, fresh, past_launch, at_stage, next}
 use Rattle.poll_states.specs.Frames.{IsInside, moves_at}
 use Rattle.poll_states.proofs.OwnJobs.{IsLive, running_live, cancelling_live}
 
@@ -51,10 +51,11 @@ move_later p k xs ys before _ _ _ le (Move.no_more x c v a) = Move.no_more x c v
 move_later p k xs ys before _ _ _ le (Move.awaits x c q a) = Move.awaits x c q a
 move_later p k xs ys before _ _ _ le (Move.send_spent x c v a) = Move.send_spent x c v a
 move_later p k xs ys before _ _ _ le (Move.receive_spent x c a) = Move.receive_spent x c a
-move_later p k xs ys before _ _ _ le (Move.got x w n v s) = Move.got x w n v s
-move_later p k xs ys before _ _ _ le (Move.sent x w n s) = Move.sent x w n s
-move_later p k xs ys before _ _ _ le (Move.closed x w n v s) = Move.closed x w n v s
+move_later p k xs ys before _ _ _ le (Move.got x w n v s r) = Move.got x w n v s (when_later _ _ xs ys _ le r)
+move_later p k xs ys before _ _ _ le (Move.sent x w n s r) = Move.sent x w n s (when_later _ _ xs ys _ le r)
+move_later p k xs ys before _ _ _ le (Move.closed x w n v s r) = Move.closed x w n v s (when_later _ _ xs ys _ le r)
 move_later p k xs ys before _ _ _ le (Move.cancelled x w s) = Move.cancelled x w s
+move_later p k xs ys before _ _ _ le (Move.gives_up x w group s r g) = Move.gives_up x w group s (when_later _ _ xs ys _ le r) g
 move_later p k xs ys before _ _ _ le (Move.yields x a w) = Move.yields x a (when_later _ _ xs ys _ le w)
 move_later p k xs ys before _ _ _ le (Move.stops x a w) = Move.stops x a (when_later _ _ xs ys _ le w)
 move_later p k xs ys before _ _ _ le (Move.launches x block lazy job now a) = Move.launches x block lazy job now a
@@ -158,10 +159,11 @@ move_open p k seen before _ _ _ (Move.no_more x c v a) = ap is_over a.stage
 move_open p k seen before _ _ _ (Move.awaits x c q a) = ap is_over a.stage
 move_open p k seen before _ _ _ (Move.send_spent x c v a) = ap is_over a.stage
 move_open p k seen before _ _ _ (Move.receive_spent x c a) = ap is_over a.stage
-move_open p k seen before _ _ _ (Move.got x w n v s) = ap is_over s
-move_open p k seen before _ _ _ (Move.sent x w n s) = ap is_over s
-move_open p k seen before _ _ _ (Move.closed x w n v s) = ap is_over s
+move_open p k seen before _ _ _ (Move.got x w n v s r) = ap is_over s
+move_open p k seen before _ _ _ (Move.sent x w n s r) = ap is_over s
+move_open p k seen before _ _ _ (Move.closed x w n v s r) = ap is_over s
 move_open p k seen before _ _ _ (Move.cancelled x w s) = ap is_over s
+move_open p k seen before _ _ _ (Move.gives_up x w group s r g) = ap is_over s
 move_open p k seen before _ _ _ (Move.yields x a w) = ap is_over a.stage
 move_open p k seen before _ _ _ (Move.stops x a w) = ap is_over a.stage
 move_open p k seen before _ _ _ (Move.launches x block lazy job now a) = ap is_over a.stage
@@ -177,6 +179,11 @@ refusal_open : (k : ℕ) (note : Item) → IsRefusal note → list_any (ends_bod
 refusal_open k _ IsRefusal.no_row = refl
 refusal_open k _ IsRefusal.used = refl
 refusal_open k _ IsRefusal.parent_ended = refl
+
+given_open : (k : ℕ) (w : WaitId) (group : List Item) → IsGivenUp w group → list_any (ends_body k) (job_acts_in group) ≡ false
+given_open k w _ (IsGivenUp.dispatched outcome e) = refl
+given_open k w _ IsGivenUp.withdrawn = refl
+given_open k w _ (IsGivenUp.late outcome e) = refl
 
 start_open : (k : ℕ) (now : Bool) (row : ℕ) → list_any (ends_body k) (job_acts_in (start_of now row)) ≡ false
 start_open k true row = refl
@@ -209,10 +216,11 @@ move_ends p k seen before _ _ _ (Move.no_more x c v a) = refl
 move_ends p k seen before _ _ _ (Move.awaits x c q a) = refl
 move_ends p k seen before _ _ _ (Move.send_spent x c v a) = refl
 move_ends p k seen before _ _ _ (Move.receive_spent x c a) = refl
-move_ends p k seen before _ _ _ (Move.got x w n v s) = refl
-move_ends p k seen before _ _ _ (Move.sent x w n s) = refl
-move_ends p k seen before _ _ _ (Move.closed x w n v s) = refl
+move_ends p k seen before _ _ _ (Move.got x w n v s r) = refl
+move_ends p k seen before _ _ _ (Move.sent x w n s r) = refl
+move_ends p k seen before _ _ _ (Move.closed x w n v s r) = refl
 move_ends p k seen before _ _ _ (Move.cancelled x w s) = refl
+move_ends p k seen before _ _ _ (Move.gives_up x w group s r g) = given_open k w group g
 move_ends p k seen before _ _ _ (Move.yields x a w) = refl
 move_ends p k seen before _ _ _ (Move.stops x a w) = refl
 move_ends p k seen before _ _ _ (Move.launches x block lazy job now a) = refl
@@ -242,7 +250,7 @@ spawns_to p _ _ _ _ (Spawns.attaches block blocks x y now items all rest is) =
 spawns_to p _ _ _ _ (Spawns.spawn_refused block blocks x note r) = record { line = refl; rows = refl; free = omega arith; stage = inr refl; no_end = λ k. refusal_open k note r }
 
 begun_open : (p : Program) (k : ℕ) (items : List Item) (x : Config) → Begins p k items x → list_any (ends_body k) (job_acts_in items) ≡ is_over x.stage
-begun_open p _ _ _ (Begins.root items x s) = let r = spawns_to p p.spawns (fresh 0) items x s in r.no_end 0 ∙ sym (⊎_elim (λ e. ap is_over e) (λ e. ap is_over e) r.stage)
+begun_open p _ _ _ (Begins.root items x s) = let r = spawns_to p (spawned p) (fresh 0) items x s in r.no_end 0 ∙ sym (⊎_elim (λ e. ap is_over e) (λ e. ap is_over e) r.stage)
 begun_open p _ _ _ (Begins.child k ne) = refl
 
 -- the coroutine ended its body exactly where it has ended
@@ -277,10 +285,11 @@ move_live p k seen before _ _ _ (Move.no_more x c v a) e = not_fresh (sym (ap is
 move_live p k seen before _ _ _ (Move.awaits x c q a) e = not_fresh (sym (ap is_fresh a.stage) ∙ e)
 move_live p k seen before _ _ _ (Move.send_spent x c v a) e = not_fresh (sym (ap is_fresh a.stage) ∙ e)
 move_live p k seen before _ _ _ (Move.receive_spent x c a) e = not_fresh (sym (ap is_fresh a.stage) ∙ e)
-move_live p k seen before _ _ _ (Move.got x w n v s) e = not_fresh (sym (ap is_fresh s) ∙ e)
-move_live p k seen before _ _ _ (Move.sent x w n s) e = not_fresh (sym (ap is_fresh s) ∙ e)
-move_live p k seen before _ _ _ (Move.closed x w n v s) e = not_fresh (sym (ap is_fresh s) ∙ e)
+move_live p k seen before _ _ _ (Move.got x w n v s r) e = not_fresh (sym (ap is_fresh s) ∙ e)
+move_live p k seen before _ _ _ (Move.sent x w n s r) e = not_fresh (sym (ap is_fresh s) ∙ e)
+move_live p k seen before _ _ _ (Move.closed x w n v s r) e = not_fresh (sym (ap is_fresh s) ∙ e)
 move_live p k seen before _ _ _ (Move.cancelled x w s) e = not_fresh (sym (ap is_fresh s) ∙ e)
+move_live p k seen before _ _ _ (Move.gives_up x w group s r g) e = not_fresh (sym (ap is_fresh s) ∙ e)
 move_live p k seen before _ _ _ (Move.yields x a w) e = not_fresh (sym (ap is_fresh a.stage) ∙ e)
 move_live p k seen before _ _ _ (Move.stops x a w) e = not_fresh (sym (ap is_fresh a.stage) ∙ e)
 move_live p k seen before _ _ _ (Move.launches x block lazy job now a) e = not_fresh (sym (ap is_fresh a.stage) ∙ e)
@@ -327,10 +336,11 @@ move_fails p k seen before _ _ _ (Move.no_more x c v a) = tt
 move_fails p k seen before _ _ _ (Move.awaits x c q a) = tt
 move_fails p k seen before _ _ _ (Move.send_spent x c v a) = refl
 move_fails p k seen before _ _ _ (Move.receive_spent x c a) = refl
-move_fails p k seen before _ _ _ (Move.got x w n v s) = tt
-move_fails p k seen before _ _ _ (Move.sent x w n s) = tt
-move_fails p k seen before _ _ _ (Move.closed x w n v s) = tt
+move_fails p k seen before _ _ _ (Move.got x w n v s r) = tt
+move_fails p k seen before _ _ _ (Move.sent x w n s r) = tt
+move_fails p k seen before _ _ _ (Move.closed x w n v s r) = tt
 move_fails p k seen before _ _ _ (Move.cancelled x w s) = tt
+move_fails p k seen before _ _ _ (Move.gives_up x w group s r g) = tt
 move_fails p k seen before _ _ _ (Move.yields x a w) = tt
 move_fails p k seen before _ _ _ (Move.stops x a w) = tt
 move_fails p k seen before _ _ _ (Move.launches x block lazy job now a) = tt
@@ -343,7 +353,7 @@ move_fails p k seen before _ _ _ (Move.breaks x failure acts chain group s b w i
 move_fails p k seen before _ _ _ (Move.ends x chain group s l i is) = tt
 
 begun_fails : (p : Program) (k : ℕ) (items : List Item) (x : Config) → Begins p k items x → IsOwnFailure k x.stage
-begun_fails p _ _ _ (Begins.root items x s) = let r = spawns_to p p.spawns (fresh 0) items x s in ⊎_elim (λ e. subst (IsOwnFailure 0) (sym e) tt) (λ e. subst (IsOwnFailure 0) (sym e) refl) r.stage
+begun_fails p _ _ _ (Begins.root items x s) = let r = spawns_to p (spawned p) (fresh 0) items x s in ⊎_elim (λ e. subst (IsOwnFailure 0) (sym e) tt) (λ e. subst (IsOwnFailure 0) (sym e) refl) r.stage
 begun_fails p _ _ _ (Begins.child k ne) = tt
 
 pub reach_fails : (p : Program) (k : ℕ) (seen : List JobEntry) (items : List Item) (x : Config) → Reaches p k seen items x → IsOwnFailure k x.stage
@@ -377,10 +387,11 @@ move_rows p k seen before _ _ _ n row P (Move.no_more x c v a) h old new = old h
 move_rows p k seen before _ _ _ n row P (Move.awaits x c q a) h old new = old h
 move_rows p k seen before _ _ _ n row P (Move.send_spent x c v a) h old new = old h
 move_rows p k seen before _ _ _ n row P (Move.receive_spent x c a) h old new = old h
-move_rows p k seen before _ _ _ n row P (Move.got x w m v s) h old new = old h
-move_rows p k seen before _ _ _ n row P (Move.sent x w m s) h old new = old h
-move_rows p k seen before _ _ _ n row P (Move.closed x w m v s) h old new = old h
+move_rows p k seen before _ _ _ n row P (Move.got x w m v s r) h old new = old h
+move_rows p k seen before _ _ _ n row P (Move.sent x w m s r) h old new = old h
+move_rows p k seen before _ _ _ n row P (Move.closed x w m v s r) h old new = old h
 move_rows p k seen before _ _ _ n row P (Move.cancelled x w s) h old new = old h
+move_rows p k seen before _ _ _ n row P (Move.gives_up x w group s r g) h old new = old h
 move_rows p k seen before _ _ _ n row P (Move.yields x a w) h old new = old h
 move_rows p k seen before _ _ _ n row P (Move.stops x a w) h old new = old h
 move_rows p k seen before _ _ _ n row P (Move.launches x block lazy job now a) h old new = named_row job x.free x.rows n row P h old (λ e. new (attach_names row x.free k lazy now e))
@@ -400,7 +411,7 @@ some_of_none i row rows e h = none_there i (subst (λ l. slice_get l i ≡ Some 
     none_there (suc i) h = absurd (let k : ⊥ = cc in k)
 
 begun_rows : (p : Program) (k : ℕ) (items : List Item) (x : Config) → Begins p k items x → x.rows ≡ []
-begun_rows p _ _ _ (Begins.root items x s) = (spawns_to p p.spawns (fresh 0) items x s).rows
+begun_rows p _ _ _ (Begins.root items x s) = (spawns_to p (spawned p) (fresh 0) items x s).rows
 begun_rows p _ _ _ (Begins.child k ne) = refl
 
 any_first : (test : JobAct → Bool) (xs ys : List JobAct) → list_any test xs ≡ true → list_any test (xs ++ ys) ≡ true
@@ -466,8 +477,8 @@ inside_le Ended i n h = h
 
 pub drop_at : (code : List Instruction) (i : ℕ) (l : Instruction) → slice_get code i ≡ Some l → drop i code ≡ l ∷ drop (i + 1) code
 drop_at code i l e =
-    let next : suc i ≡ i + 1 = omega arith in
-    drop-cons code i l (slice_get_within code i l e) ∙ ap (λ y. y ∷ drop (suc i) code) (get_or_from_slice_get code i l l e) ∙ ap (λ n. l ∷ drop n code) next
+    let one : suc i ≡ i + 1 = omega arith in
+    drop-cons code i l (slice_get_within code i l e) ∙ ap (λ y. y ∷ drop (suc i) code) (get_or_from_slice_get code i l l e) ∙ ap (λ n. l ∷ drop n code) one
 
 knows_rest : (n : ℕ) (l : Instruction) (code : List Instruction) → is_launch l ≡ false → knows_jobs n (l ∷ code) ≡ true → knows_jobs n code ≡ true
 knows_rest n (line.Send c v) code e h = h
@@ -494,8 +505,8 @@ fits_stage : (p : Program) (k : ℕ) (x : Config) (stage : Stage) → Fits p k x
 fits_stage p k x stage h i w = record { inside = i; calls = w; jobs = h.jobs; room = h.room }
 
 -- at the next line, after a line that launches nothing
-fits_next : (p : Program) (k : ℕ) (x : Config) (result : ℕ) (l : Instruction) → Fits p k x → slice_get (code_of p k) x.line ≡ Some l → is_launch l ≡ false → Fits p k (record { line = x.line + 1; stage = Running; result = result; rows = x.rows; free = x.free })
-fits_next p k x result l h at e =
+fits_next : (p : Program) (k : ℕ) (x : Config) (result it sum : ℕ) (l : Instruction) → Fits p k x → slice_get (code_of p k) x.line ≡ Some l → is_launch l ≡ false → Fits p k (record { line = x.line + 1; stage = Running; result = result; rows = x.rows; free = x.free; it = it; sum = sum })
+fits_next p k x result it sum l h at e =
     let code = code_of p k in
     let rest = drop (x.line + 1) code in
     let is : drop x.line code ≡ l ∷ rest = drop_at code x.line l at in
@@ -513,7 +524,7 @@ length-named None free rows = refl
 length-named (Some job) free rows = length-append rows (free ∷ [])
 
 fits_launch : (p : Program) (k : ℕ) (x : Config) (block : ℕ) (lazy : Bool) (job : Option ℕ) → Fits p k x → slice_get (code_of p k) x.line ≡ Some (line.Launch block lazy job)
-    → Fits p k (record { line = x.line + 1; stage = Running; result = x.result; rows = named job x.free x.rows; free = x.free + size_of p block })
+    → Fits p k (next (past_launch p block job x))
 fits_launch p k x block lazy job h at =
     let code = code_of p k in
     let rest = drop (x.line + 1) code in
@@ -529,41 +540,42 @@ fits_launch p k x block lazy job h at =
     }
 
 -- after a call that waited
-fits_waited : (p : Program) (k : ℕ) (x : Config) (o : Option Instruction) → Fits p k x → slice_get (code_of p k) x.line ≡ o → is_call o ≡ true → Fits p k (record { line = x.line + 1; stage = Running; result = x.result; rows = x.rows; free = x.free })
-fits_waited p k x None h at e = cc
-fits_waited p k x (Some (line.Send c v)) h at e = fits_next p k x x.result (line.Send c v) h at refl
-fits_waited p k x (Some (line.Receive c)) h at e = fits_next p k x x.result (line.Receive c) h at refl
-fits_waited p k x (Some line.Yield) h at e = cc
-fits_waited p k x (Some (line.Launch block lazy job)) h at e = cc
-fits_waited p k x (Some (line.Start job)) h at e = cc
-fits_waited p k x (Some (line.Cancel job)) h at e = cc
-fits_waited p k x (Some (line.Fail v)) h at e = cc
-fits_waited p k x (Some (line.SetResult v)) h at e = cc
+fits_waited : (p : Program) (k : ℕ) (x : Config) (it sum : ℕ) (o : Option Instruction) → Fits p k x → slice_get (code_of p k) x.line ≡ o → is_call o ≡ true → Fits p k (record (next x) { it = it; sum = sum })
+fits_waited p k x it sum None h at e = cc
+fits_waited p k x it sum (Some (line.Send c v)) h at e = fits_next p k x _ _ _ (line.Send c v) h at refl
+fits_waited p k x it sum (Some (line.Receive c)) h at e = fits_next p k x _ _ _ (line.Receive c) h at refl
+fits_waited p k x it sum (Some line.Yield) h at e = cc
+fits_waited p k x it sum (Some (line.Launch block lazy job)) h at e = cc
+fits_waited p k x it sum (Some (line.Start job)) h at e = cc
+fits_waited p k x it sum (Some (line.Cancel job)) h at e = cc
+fits_waited p k x it sum (Some (line.Fail v)) h at e = cc
+fits_waited p k x it sum (Some (line.SetResult v)) h at e = cc
 
 move_fits : (p : Program) (k : ℕ) (seen : List JobEntry) (before : List Item) (x : Config) (group : List Item) (y : Config) → Fits p k x → Move p k seen before x group y → Fits p k y
 move_fits p k seen before _ _ _ h (Move.runs x s w) = fits_stage p k x _ h (inside_le x.stage x.line (length (code_of p k)) h.inside) tt
 move_fits p k seen before _ _ _ h (Move.never_runs x s w) = fits_stage p k x _ h (inside_le x.stage x.line (length (code_of p k)) h.inside) tt
-move_fits p k seen before _ _ _ h (Move.hands x c q v a) = fits_next p k x x.result (line.Send c v) h a.line_is refl
-move_fits p k seen before _ _ _ h (Move.puts x c q v a) = fits_next p k x x.result (line.Send c v) h a.line_is refl
-move_fits p k seen before _ _ _ h (Move.refused x c v w a) = fits_next p k x x.result (line.Send c v) h a.line_is refl
+move_fits p k seen before _ _ _ h (Move.hands x c q v a) = fits_next p k x _ _ _ (line.Send c v) h a.line_is refl
+move_fits p k seen before _ _ _ h (Move.puts x c q v a) = fits_next p k x _ _ _ (line.Send c v) h a.line_is refl
+move_fits p k seen before _ _ _ h (Move.refused x c v w a) = fits_next p k x _ _ _ (line.Send c v) h a.line_is refl
 move_fits p k seen before _ _ _ h (Move.offers x c q v a) = fits_stage p k x _ h (slice_get_within (code_of p k) x.line (line.Send c v) a.line_is) (ap is_call a.line_is)
-move_fits p k seen before _ _ _ h (Move.takes x c q v a) = fits_next p k x x.result (line.Receive c) h a.line_is refl
-move_fits p k seen before _ _ _ h (Move.no_more x c v a) = fits_next p k x x.result (line.Receive c) h a.line_is refl
+move_fits p k seen before _ _ _ h (Move.takes x c q v a) = fits_next p k x _ _ _ (line.Receive c) h a.line_is refl
+move_fits p k seen before _ _ _ h (Move.no_more x c v a) = fits_next p k x _ _ _ (line.Receive c) h a.line_is refl
 move_fits p k seen before _ _ _ h (Move.awaits x c q a) = fits_stage p k x _ h (slice_get_within (code_of p k) x.line (line.Receive c) a.line_is) (ap is_call a.line_is)
 move_fits p k seen before _ _ _ h (Move.send_spent x c v a) = fits_stage p k x _ h (inside_le x.stage x.line (length (code_of p k)) h.inside) tt
 move_fits p k seen before _ _ _ h (Move.receive_spent x c a) = fits_stage p k x _ h (inside_le x.stage x.line (length (code_of p k)) h.inside) tt
-move_fits p k seen before _ _ _ h (Move.got x w n v s) = fits_waited p k x (slice_get (code_of p k) x.line) h refl (subst (λ t. IsWaitLine t (slice_get (code_of p k) x.line)) s h.calls)
-move_fits p k seen before _ _ _ h (Move.sent x w n s) = fits_waited p k x (slice_get (code_of p k) x.line) h refl (subst (λ t. IsWaitLine t (slice_get (code_of p k) x.line)) s h.calls)
-move_fits p k seen before _ _ _ h (Move.closed x w n v s) = fits_waited p k x (slice_get (code_of p k) x.line) h refl (subst (λ t. IsWaitLine t (slice_get (code_of p k) x.line)) s h.calls)
+move_fits p k seen before _ _ _ h (Move.got x w n v s r) = fits_waited p k x _ _ (slice_get (code_of p k) x.line) h refl (subst (λ t. IsWaitLine t (slice_get (code_of p k) x.line)) s h.calls)
+move_fits p k seen before _ _ _ h (Move.sent x w n s r) = fits_waited p k x _ _ (slice_get (code_of p k) x.line) h refl (subst (λ t. IsWaitLine t (slice_get (code_of p k) x.line)) s h.calls)
+move_fits p k seen before _ _ _ h (Move.closed x w n v s r) = fits_waited p k x _ _ (slice_get (code_of p k) x.line) h refl (subst (λ t. IsWaitLine t (slice_get (code_of p k) x.line)) s h.calls)
 move_fits p k seen before _ _ _ h (Move.cancelled x w s) = fits_stage p k x _ h (inside_le x.stage x.line (length (code_of p k)) h.inside) tt
-move_fits p k seen before _ _ _ h (Move.yields x a w) = fits_next p k x x.result line.Yield h a.line_is refl
+move_fits p k seen before _ _ _ h (Move.gives_up x w group s r g) = fits_stage p k x _ h (inside_le x.stage x.line (length (code_of p k)) h.inside) tt
+move_fits p k seen before _ _ _ h (Move.yields x a w) = fits_next p k x _ _ _ line.Yield h a.line_is refl
 move_fits p k seen before _ _ _ h (Move.stops x a w) = fits_stage p k x _ h (inside_le x.stage x.line (length (code_of p k)) h.inside) tt
 move_fits p k seen before _ _ _ h (Move.launches x block lazy job now a) = fits_launch p k x block lazy job h a.line_is
 move_fits p k seen before _ _ _ h (Move.launch_refused x block lazy job note a r) = fits_stage p k x _ h (inside_le x.stage x.line (length (code_of p k)) h.inside) tt
-move_fits p k seen before _ _ _ h (Move.starts x job row now a e w) = fits_next p k x x.result (line.Start job) h a.line_is refl
-move_fits p k seen before _ _ _ h (Move.cancels x job row acts a e pass w) = fits_next p k x x.result (line.Cancel job) h a.line_is refl
+move_fits p k seen before _ _ _ h (Move.starts x job row now a e w) = fits_next p k x _ _ _ (line.Start job) h a.line_is refl
+move_fits p k seen before _ _ _ h (Move.cancels x job row acts a e pass w) = fits_next p k x _ _ _ (line.Cancel job) h a.line_is refl
 move_fits p k seen before _ _ _ h (Move.fails x v a) = fits_stage p k x _ h (inside_le x.stage x.line (length (code_of p k)) h.inside) tt
-move_fits p k seen before _ _ _ h (Move.results x v a) = fits_next p k x v (line.SetResult v) h a.line_is refl
+move_fits p k seen before _ _ _ h (Move.results x v a) = fits_next p k x _ _ _ (line.SetResult v) h a.line_is refl
 move_fits p k seen before _ _ _ h (Move.breaks x failure acts chain group s b w i is) = fits_stage p k x _ h (inside_le x.stage x.line (length (code_of p k)) h.inside) tt
 move_fits p k seen before _ _ _ h (Move.ends x chain group s l i is) = fits_stage p k x _ h (inside_le x.stage x.line (length (code_of p k)) h.inside) tt
 
@@ -575,7 +587,7 @@ begun_calls stage o h = ⊎_elim (λ e. subst (λ s. IsWaitLine s o) (sym e) tt)
 
 begun_fits : (p : Program) (k : ℕ) (items : List Item) (x : Config) → IsProgram p → k < coroutine_count p → Begins p k items x → Fits p k x
 begun_fits p _ _ _ ok lt (Begins.root items x s) =
-    let r = spawns_to p p.spawns (fresh 0) items x s in
+    let r = spawns_to p (spawned p) (fresh 0) items x s in
     let whole : sizes_of p (launched (drop x.line (code_of p 0))) ≡ sizes_of p (launched (code_of p 0)) = ap (λ i. sizes_of p (launched (drop i (code_of p 0)))) r.line in
     record {
       inside = begun_inside x.stage x.line _ r.line r.stage;
@@ -610,10 +622,11 @@ move_falls p k seen before _ _ _ h (Move.no_more x c v a) = let lt = slice_get_w
 move_falls p k seen before _ _ _ h (Move.awaits x c q a) = let lt = slice_get_within (code_of p k) x.line (line.Receive c) a.line_is in falls_by x Running _ (length (code_of p k)) a.stage (omega (arith, lt))
 move_falls p k seen before _ _ _ h (Move.send_spent x c v a) = let lt = slice_get_within (code_of p k) x.line (line.Send c v) a.line_is in falls_by x Running _ (length (code_of p k)) a.stage (omega (arith, lt))
 move_falls p k seen before _ _ _ h (Move.receive_spent x c a) = let lt = slice_get_within (code_of p k) x.line (line.Receive c) a.line_is in falls_by x Running _ (length (code_of p k)) a.stage (omega (arith, lt))
-move_falls p k seen before _ _ _ h (Move.got x w n v s) = let lt = wait_within p k x w h s in falls_by x (Waiting w) _ (length (code_of p k)) s (omega (arith, lt))
-move_falls p k seen before _ _ _ h (Move.sent x w n s) = let lt = wait_within p k x w h s in falls_by x (Waiting w) _ (length (code_of p k)) s (omega (arith, lt))
-move_falls p k seen before _ _ _ h (Move.closed x w n v s) = let lt = wait_within p k x w h s in falls_by x (Waiting w) _ (length (code_of p k)) s (omega (arith, lt))
+move_falls p k seen before _ _ _ h (Move.got x w n v s r) = let lt = wait_within p k x w h s in falls_by x (Waiting w) _ (length (code_of p k)) s (omega (arith, lt))
+move_falls p k seen before _ _ _ h (Move.sent x w n s r) = let lt = wait_within p k x w h s in falls_by x (Waiting w) _ (length (code_of p k)) s (omega (arith, lt))
+move_falls p k seen before _ _ _ h (Move.closed x w n v s r) = let lt = wait_within p k x w h s in falls_by x (Waiting w) _ (length (code_of p k)) s (omega (arith, lt))
 move_falls p k seen before _ _ _ h (Move.cancelled x w s) = let lt = wait_within p k x w h s in falls_by x (Waiting w) _ (length (code_of p k)) s (omega (arith, lt))
+move_falls p k seen before _ _ _ h (Move.gives_up x w group s r g) = let lt = wait_within p k x w h s in falls_by x (Waiting w) _ (length (code_of p k)) s (omega (arith, lt))
 move_falls p k seen before _ _ _ h (Move.yields x a w) = let lt = slice_get_within (code_of p k) x.line line.Yield a.line_is in falls_by x Running _ (length (code_of p k)) a.stage (omega (arith, lt))
 move_falls p k seen before _ _ _ h (Move.stops x a w) = let lt = slice_get_within (code_of p k) x.line line.Yield a.line_is in falls_by x Running _ (length (code_of p k)) a.stage (omega (arith, lt))
 move_falls p k seen before _ _ _ h (Move.launches x block lazy job now a) = let lt = slice_get_within (code_of p k) x.line (line.Launch block lazy job) a.line_is in falls_by x Running _ (length (code_of p k)) a.stage (omega (arith, lt))

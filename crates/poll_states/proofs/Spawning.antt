@@ -1,5 +1,5 @@
 -- The root between two spawns.
-use Rattle.std.specs.Prelude.{◌≡◌, ℕ, zero, suc, nat_lt, ◌+◌, ◌<◌, ◌≤◌, Bool, true, false, ◌⊎◌, List, [], ◌∷◌, ◌++◌, length, Err, Some, None, is_some, option_map, map, drop, slice_get, refl}
+use Rattle.std.specs.Prelude.{◌≡◌, ℕ, zero, suc, ◌+◌, ◌-◌, ◌<◌, ◌≤◌, Bool, true, false, ◌⊎◌, List, [], ◌∷◌, ◌++◌, length, Err, Some, None, is_some, option_map, map, drop, replicate, slice_get, refl}
 use Rattle.std.proofs.Common.{sym, ap, ◌∙◌, subst, arith, append_assoc, get_or, drop-cons}
 use Rattle.std.proofs.lemmas.List.{length-map, get_or-map}
 use Rattle.std.proofs.lemmas.Option.{slice_get-get_or, slice_get-map}
@@ -20,9 +20,9 @@ use Rattle.scope_builders.specs.declared.builder.LaunchError.TheVariants as laun
 use Rattle.scope_builders.specs.Groups.{ClosesAtOnce}
 use Rattle.scope_builders.specs.Calls.{Did, StaysSettled, LaunchAnswer, child_kind}
 use Rattle.script_reader.specs.declared.script.Spawn.{Spawn}
-use Rattle.script_reader.specs.Programs.{Program, IsProgram, code_of, coroutine_count, size_of, sizes_of}
+use Rattle.script_reader.specs.Programs.{Program, IsProgram, spawn_of, spawned_by, spawned, is_spawn, code_of, coroutine_count, size_of, sizes_of}
 use Rattle.script_reader.proofs.Layouts.{main_fits, size_some, test_at}
-use Rattle.script_reader.proofs.Truths.{lt-from_true}
+use Rattle.script_reader.proofs.Truths.{both_true, lt-from_true, le-from_true}
 use Rattle.poll_states.specs.declared.frame.Frame.{Frame}
 use Rattle.poll_states.specs.declared.frame.Stage.TheVariants.{Fresh, Unwinding}
 use Rattle.poll_states.specs.Settings.{base_of}
@@ -30,13 +30,15 @@ use Rattle.poll_states.specs.Runs.{Config, Spawns, Begins, Reaches, IsRefusal, a
 use Rattle.poll_states.specs.Frames.{config_of, items_of, IsFor, IsUnsettledOf, HoldsWait, IsInside}
 use Rattle.poll_states.specs.Beginnings.{IsNewRoot, IsOnItsFloors, Begun}
 use Rattle.poll_states.specs.Steps.{IsForSpawn, HasSpawned, IsRefusedSpawn}
+use Rattle.poll_states.specs.GivingUp.{GivesUpAfterSaw, neither}
+use Rattle.poll_states.proofs.GivenUp.{spawns_may}
 use Rattle.poll_states.proofs.Moves.{self_channels, self_jobs, added_only}
 use Rattle.poll_states.proofs.Stepping.{refused_of, did_same}
 
 -- main's frame f, after some of the spawns: these are left
 pub record Spawning (p : Program) (left : List ℕ) (c c' : ChannelFloor) (j j' : Floor) (f : Frame) : Type 0 where
   pub tag : f.tag ≡ 0
-  so_far : (items : List Item) (y : Config) → Spawns p left (config_of f) items y → Spawns p p.spawns (fresh 0) (items_of f ++ items) y
+  so_far : (items : List Item) (y : Config) → Spawns p left (config_of f) items y → Spawns p (spawned p) (fresh 0) (items_of f ++ items) y
   here : config_of f ≡ record (fresh 0) { free = f.free }
   room : f.free + sizes_of p left ≤ coroutine_count p
   fits : IsFor p 0 c' j'
@@ -47,10 +49,10 @@ pub record Spawning (p : Program) (left : List ℕ) (c c' : ChannelFloor) (j j' 
   settled : StaysSettled (base_of p) c c' j j'
 
 -- before the first
-pub spawning_first : (p : Program) (c : ChannelFloor) (j : Floor) (f : Frame) → IsProgram p → IsNewRoot f → IsOnItsFloors p c j f → Spawning p p.spawns c c j j f
+pub spawning_first : (p : Program) (c : ChannelFloor) (j : Floor) (f : Frame) → IsProgram p → IsNewRoot f → IsOnItsFloors p c j f → Spawning p (spawned p) c c j j f
 spawning_first p c j f ok new on = record {
   tag = new.tag;
-  so_far = λ items y s. subst (λ l. Spawns p p.spawns (fresh 0) l y) (sym (ap (λ l. l ++ items) new.book)) (subst (λ x. Spawns p p.spawns x items y) new.config s);
+  so_far = λ items y s. subst (λ l. Spawns p (spawned p) (fresh 0) l y) (sym (ap (λ l. l ++ items) new.book)) (subst (λ x. Spawns p (spawned p) x items y) new.config s);
   here = new.config ∙ ap (λ n. record (fresh 0) { free = n }) (sym (ap (λ (x : Config). x.free) new.config));
   room = omega (arith, ap (λ (x : Config). x.free) new.config, main_fits p ok);
   fits = subst (λ k. IsFor p k c j) new.tag on.fits;
@@ -87,7 +89,7 @@ spawning_next p block left c d e j k l f g h s =
     let note : Item = job_note (Attach 0 f.free (child_kind false) f.free s.now) in
     record {
       tag = s.tag ∙ h.tag;
-      so_far = λ items y more. subst (λ n. Spawns p p.spawns (fresh 0) n y) (sym (append_assoc (items_of f) (note ∷ []) items) ∙ ap (λ n. n ++ items) (sym s.did.appended))
+      so_far = λ items y more. subst (λ n. Spawns p (spawned p) (fresh 0) n y) (sym (append_assoc (items_of f) (note ∷ []) items) ∙ ap (λ n. n ++ items) (sym s.did.appended))
           (h.so_far (note ∷ items) y (Spawns.attaches block left (config_of f) y s.now items (note ∷ items) (subst (λ x. Spawns p left x items y) s.config more) refl));
       here = s.config ∙ ap (past_launch p block None) h.here ∙ ap (λ n. record (fresh 0) { free = n }) (sym (ap (λ (x : Config). x.free) s.config));
       room = omega (arith, h.room, ap (λ (x : Config). x.free) s.config);
@@ -113,23 +115,24 @@ spawns_close p base blocks x items y (Spawns.attaches block left _ _ now more _ 
 spawns_close p base blocks x items y (Spawns.spawn_refused block left _ note r) = refusal_open base note r
 
 -- main's frame g after its spawns, at its first line or to break off
-root_begun : (p : Program) (c c' : ChannelFloor) (j j' : Floor) (f g : Frame) (rows : List ℕ) → IsNewRoot f → IsOnItsFloors p c j f → g.tag ≡ 0 → Spawns p p.spawns (fresh 0) (items_of g) (config_of g)
+root_begun : (p : Program) (c c' : ChannelFloor) (j j' : Floor) (f g : Frame) (rows : List ℕ) → IsNewRoot f → IsOnItsFloors p c j f → g.tag ≡ 0 → Spawns p (spawned p) (fresh 0) (items_of g) (config_of g)
     → HoldsWait 0 g.stage c' → IsInside g.stage g.line (length (code_of p 0)) → IsFor p 0 c' j' → channel_acts_in (items_of g) ≡ [] → AddedToChannels 0 [] c c' → Added 0 (job_acts_in (items_of g)) rows j j' → StaysSettled (base_of p) c c' j j' → Begun p c c' j j' f g
-root_begun p c c' j j' f g rows new on t spawned holds inside fits none channels jobs settled = record {
+root_begun p c c' j j' f g rows new on t spawned_so holds inside fits none channels jobs settled = record {
   tag = t ∙ sym new.tag;
   stands = record {
     fits = subst (λ k. IsFor p k c' j') (sym t) fits;
-    reaches = subst (λ k. Reaches p k j'.seen (items_of g) (config_of g)) (sym t) (Reaches.begins (items_of g) (config_of g) (Begins.root (items_of g) (config_of g) spawned));
+    reaches = subst (λ k. Reaches p k j'.seen (items_of g) (config_of g)) (sym t) (Reaches.begins (items_of g) (config_of g) (Begins.root (items_of g) (config_of g) spawned_so));
     channel_acts = ap (λ k. acts_of k c'.seen) t ∙ channels.mine ∙ nothing_more (acts_of 0 c.seen) ∙ subst (λ k. acts_of k c.seen ≡ []) new.tag on.no_channel_acts ∙ sym none;
     job_acts = ap (λ k. job_acts_of k j'.seen) t ∙ jobs.mine ∙ ap (λ l. l ++ job_acts_in (items_of g)) (subst (λ k. job_acts_of k j.seen ≡ []) new.tag on.no_job_acts);
     holds = subst (λ k. HoldsWait k g.stage c') (sym t) holds;
     only = λ w u. absurd (on.no_wait w (subst (λ k. IsUnsettledOf k ((replay c.seen).waits w)) (sym new.tag) (added_only 0 [] c c' w channels refl (subst (λ k. IsUnsettledOf k ((replay c'.seen).waits w)) t u))));
     inside = subst (λ k. IsInside g.stage g.line (length (code_of p k))) (sym t) inside;
+    gives_up = subst (λ k. GivesUpAfterSaw k (replay c'.seen) (items_of g)) (sym t) (spawns_may p 0 (spawned p) (fresh 0) (items_of g) (config_of g) (replay c'.seen) spawned_so neither);
   };
   rows = rows;
   jobs = subst (λ k. Added k (job_acts_in (items_of g)) rows j j') (sym t) jobs;
   no_calls = none;
-  closes = spawns_close p (base_of p) p.spawns (fresh 0) (items_of g) (config_of g) spawned;
+  closes = spawns_close p (base_of p) (spawned p) (fresh 0) (items_of g) (config_of g) spawned_so;
   settled = settled;
 }
 
@@ -137,7 +140,7 @@ pub begun_all : (p : Program) (c c' : ChannelFloor) (j j' : Floor) (f g : Frame)
 begun_all p c c' j j' f g new on h =
     let stage : g.stage ≡ Fresh = ap (λ (x : Config). x.stage) h.here in
     let line : g.line ≡ 0 = ap (λ (x : Config). x.line) h.here in
-    root_begun p c c' j j' f g h.rows new on h.tag (subst (λ l. Spawns p p.spawns (fresh 0) l (config_of g)) (nothing_more (items_of g)) (h.so_far [] (config_of g) (Spawns.done (config_of g))))
+    root_begun p c c' j j' f g h.rows new on h.tag (subst (λ l. Spawns p (spawned p) (fresh 0) l (config_of g)) (nothing_more (items_of g)) (h.so_far [] (config_of g) (Spawns.done (config_of g))))
     (subst (λ s. HoldsWait 0 s c') (sym stage) tt) (subst (λ s. IsInside s g.line (length (code_of p 0))) (sym stage) line) h.fits h.no_calls h.channels h.jobs h.settled
 
 refusal_quiet : (note : Item) → IsRefusal note → channel_acts_in (note ∷ []) ≡ []
@@ -150,8 +153,8 @@ begun_refused p block left c d e j k l f m g new on h s =
     let quiet = refusal_quiet s.note s.refusal in
     let stage : g.stage ≡ Unwinding (Some 0) = ap (λ (x : Config). x.stage) s.config in
     let line : g.line ≡ 0 = ap (λ (x : Config). x.line) s.config ∙ ap (λ (x : Config). x.line) h.here in
-    let spawned = h.so_far (s.note ∷ []) (at_stage (Unwinding (Some 0)) (config_of m)) (Spawns.spawn_refused block left (config_of m) s.note s.refusal) in
-    root_begun p c e j l f g (h.rows ++ s.rows) new on (s.tag ∙ h.tag) (subst (λ x. Spawns p p.spawns (fresh 0) (items_of g) x) (sym s.config) (subst (λ n. Spawns p p.spawns (fresh 0) n (at_stage (Unwinding (Some 0)) (config_of m))) (sym s.did.appended) spawned))
+    let spawned_to = h.so_far (s.note ∷ []) (at_stage (Unwinding (Some 0)) (config_of m)) (Spawns.spawn_refused block left (config_of m) s.note s.refusal) in
+    root_begun p c e j l f g (h.rows ++ s.rows) new on (s.tag ∙ h.tag) (subst (λ x. Spawns p (spawned p) (fresh 0) (items_of g) x) (sym s.config) (subst (λ n. Spawns p (spawned p) (fresh 0) n (at_stage (Unwinding (Some 0)) (config_of m))) (sym s.did.appended) spawned_to))
     (subst (λ t. HoldsWait 0 t e) (sym stage) tt) (subst (λ t. IsInside t g.line (length (code_of p 0))) (sym stage) (omega (arith, line)))
     (fits_after p d e k l (items_of m) (items_of g) (s.note ∷ []) s.rows h.fits s.did)
     (no_more_calls (items_of m) (items_of g) (s.note ∷ []) h.no_calls quiet s.did.appended)
@@ -203,21 +206,37 @@ own_fits p k c j e h = subst (λ n. IsFor p n c j) (sym e) h
 -- ---- the spawns of a script
 
 -- the next spawn
-pub next_spawn : (p : Program) (xs : List Spawn) (i : ℕ) (z : Spawn) → map (λ s. s.coroutine) xs ≡ p.spawns → i < length xs → drop i p.spawns ≡ (get_or xs i z).coroutine ∷ drop (i + 1) p.spawns
+pub next_spawn : (p : Program) (xs : List Spawn) (i : ℕ) (z : Spawn) → map spawn_of xs ≡ p.spawns → i < length xs → spawned_by (drop i p.spawns) ≡ replicate ((get_or xs i z).count - 0) (get_or xs i z).coroutine ++ spawned_by (drop (i + 1) p.spawns)
 next_spawn p xs i z e lt =
-    let long : i < length (map (λ (s : Spawn). s.coroutine) xs) = omega (arith, lt, length-map xs (λ (s : Spawn). s.coroutine)) in
-    let next : suc i ≡ i + 1 = omega arith in
-    ap (drop i) (sym e) ∙ drop-cons (map (λ (s : Spawn). s.coroutine) xs) i 0 long ∙ ap (λ n. n ∷ drop (suc i) (map (λ (s : Spawn). s.coroutine) xs)) (get_or-map (λ (s : Spawn). s.coroutine) xs i z 0 lt) ∙ ap (λ l. (get_or xs i z).coroutine ∷ drop (suc i) l) e ∙ ap (λ n. (get_or xs i z).coroutine ∷ drop n p.spawns) next
+    let long : i < length (map spawn_of xs) = omega (arith, lt, length-map xs spawn_of) in
+    let one : suc i ≡ i + 1 = omega arith in
+    let all : (get_or xs i z).count ≡ (get_or xs i z).count - 0 = omega arith in
+    let at : drop i p.spawns ≡ spawn_of (get_or xs i z) ∷ drop (i + 1) p.spawns =
+    ap (drop i) (sym e) ∙ drop-cons (map spawn_of xs) i (0, 0) long ∙ ap (λ n. n ∷ drop (suc i) (map spawn_of xs)) (get_or-map spawn_of xs i z (0, 0) lt) ∙ ap (λ l. spawn_of (get_or xs i z) ∷ drop (suc i) l) e ∙ ap (λ n. spawn_of (get_or xs i z) ∷ drop n p.spawns) one in
+    ap spawned_by at ∙ ap (λ n. replicate n (get_or xs i z).coroutine ++ spawned_by (drop (i + 1) p.spawns)) all
 
-pub spawn_block : (p : Program) (xs : List Spawn) (i : ℕ) (z : Spawn) → IsProgram p → map (λ s. s.coroutine) xs ≡ p.spawns → i < length xs → (get_or xs i z).coroutine < length p.blocks
+-- the next instance
+pub next_instance : (n made block : ℕ) (left : List ℕ) → made < n → replicate (n - made) block ++ left ≡ block ∷ (replicate (n - (made + 1)) block ++ left)
+next_instance n made block left lt = let e : n - made ≡ suc (n - (made + 1)) = omega (arith, lt) in ap (λ m. replicate m block ++ left) e
+
+pub no_instance : (n made block : ℕ) (left : List ℕ) → n ≤ made → replicate (n - made) block ++ left ≡ left
+no_instance n made block left le = let e : n - made ≡ 0 = omega (arith, le) in ap (λ m. replicate m block ++ left) e
+
+pub spawn_block : (p : Program) (xs : List Spawn) (i : ℕ) (z : Spawn) → IsProgram p → map spawn_of xs ≡ p.spawns → i < length xs → (get_or xs i z).coroutine < length p.blocks
 spawn_block p xs i z ok e lt =
-    let at : slice_get p.spawns i ≡ Some (get_or xs i z).coroutine = ap (λ l. slice_get l i) (sym e) ∙ slice_get-map (λ (s : Spawn). s.coroutine) xs i ∙ ap (λ o. option_map (λ (s : Spawn). s.coroutine) o) (slice_get-get_or xs i z lt) in
-    lt-from_true _ _ (test_at (λ i. nat_lt i (length p.blocks)) p.spawns i _ ok.spawns at)
+    let at : slice_get p.spawns i ≡ Some (spawn_of (get_or xs i z)) = ap (λ l. slice_get l i) (sym e) ∙ slice_get-map spawn_of xs i ∙ ap (λ o. option_map spawn_of o) (slice_get-get_or xs i z lt) in
+    lt-from_true _ _ (both_true _ _ (test_at (is_spawn (length p.blocks)) p.spawns i _ ok.spawns at)).0
 
-pub none_left : (p : Program) (xs : List Spawn) (i : ℕ) → map (λ s. s.coroutine) xs ≡ p.spawns → length xs ≤ i → drop i p.spawns ≡ []
-none_left p xs i e h = all_dropped p.spawns i (omega (arith, h, ap length e, length-map xs (λ (s : Spawn). s.coroutine)))
+-- a count fits
+pub spawn_count : (p : Program) (xs : List Spawn) (i : ℕ) (z : Spawn) → IsProgram p → map spawn_of xs ≡ p.spawns → i < length xs → (get_or xs i z).count ≤ 16000
+spawn_count p xs i z ok e lt =
+    let at : slice_get p.spawns i ≡ Some (spawn_of (get_or xs i z)) = ap (λ l. slice_get l i) (sym e) ∙ slice_get-map spawn_of xs i ∙ ap (λ o. option_map spawn_of o) (slice_get-get_or xs i z lt) in
+    le-from_true _ _ (both_true _ _ (both_true _ _ (test_at (is_spawn (length p.blocks)) p.spawns i _ ok.spawns at)).1).1
+
+pub none_left : (p : Program) (xs : List Spawn) (i : ℕ) → map spawn_of xs ≡ p.spawns → length xs ≤ i → spawned_by (drop i p.spawns) ≡ []
+none_left p xs i e h = ap spawned_by (all_dropped p.spawns i (omega (arith, h, ap length e, length-map xs spawn_of)))
   where
-    all_dropped : (l : List ℕ) (i : ℕ) → length l ≤ i → drop i l ≡ []
+    all_dropped : (l : List (ℕ × ℕ)) (i : ℕ) → length l ≤ i → drop i l ≡ []
     all_dropped [] zero h = refl
     all_dropped [] (suc i) h = refl
     all_dropped (x ∷ l) zero h = absurd (omega (arith, h))

@@ -32,6 +32,7 @@ use Rattle.scope_builders.specs.declared.builder.LaunchError.TheVariants as laun
 use Rattle.scope_builders.specs.Rest.{IsSettled}
 use Rattle.scope_builders.specs.Groups.{ClosesDone, IsChain, ClosesAtOnce, is_cancel, reason_for}
 use Rattle.scope_builders.specs.Calls.{MayBuild, Did, DidSome, WasAfterAll, StaysSettled, CancelledAll, EndedJob, BrokeJob, LaunchAnswer, start_of, child_kind}
+use Rattle.script_reader.specs.declared.script.Operand.{Operand}
 use Rattle.script_reader.specs.declared.script.Instruction.{Instruction}
 use Rattle.script_reader.specs.declared.script.Instruction.TheVariants as line
 use Rattle.script_reader.specs.Programs.{Program, IsProgram, code_of, coroutine_count, shape_of, size_of, sizes_of, launched, knows_jobs}
@@ -43,12 +44,13 @@ use Rattle.poll_states.specs.declared.frame.Stage.{Stage}
 use Rattle.poll_states.specs.declared.frame.Stage.TheVariants.{Fresh, Running, Unwinding, Ended}
 use Rattle.poll_states.specs.declared.jobs.OwnState.TheVariants as own
 use Rattle.poll_states.specs.Settings.{base_of, floor_shape, is_calm_act}
-use Rattle.poll_states.specs.Runs.{Config, Move, IsAt, IsRefusal, WasAt, named, at_stage, next, past_launch, with_result, saw}
+use Rattle.poll_states.specs.Runs.{Config, Move, IsAt, IsRefusal, WasAt, named, at_stage, next, past_launch, with_result, operand, saw}
 use Rattle.poll_states.specs.Frames.{config_of, items_of, IsFor, StandsOn}
 use Rattle.poll_states.specs.Steps.{OwnStateSeen, IsAtEnd, Stepped, CutShort}
 use Rattle.poll_states.proofs.OwnJobs.{live_later, live_started, live_attached, may_end_own, own_tag, same_between}
 use Rattle.poll_states.proofs.Reached.{is_any, is_over, is_fresh, drop_at, IsOwnFailure, reach_fails, pass_cancels, break_cancels}
-use Rattle.poll_states.proofs.Moves.{stands_fits, stands_live, stands_body, in_coroutine_rows, settled_kept, self_jobs, self_channels, begins_none, is_waiting, did_stepped}
+use Rattle.poll_states.proofs.Waits.{is_waiting}
+use Rattle.poll_states.proofs.Moves.{stands_fits, stands_live, stands_body, in_coroutine_rows, settled_kept, self_jobs, self_channels, begins_none, did_stepped}
 
 -- ---- the floors of a script
 
@@ -127,10 +129,10 @@ cut_some c c' j j' f g t some = record { tag = t; noted = record { group = some.
 
 -- ---- lines that call nothing
 
-pub result_set : (p : Program) (c : ChannelFloor) (j : Floor) (f g : Frame) (v : ℕ) → StandsOn p c j f → IsAt p f.tag (config_of f) (line.SetResult v) → g.tag ≡ f.tag → config_of g ≡ next (with_result v (config_of f)) → items_of g ≡ items_of f → Stepped p c c j j f g
-result_set p c j f g v h at t config items =
-    line_stepped p c c j j f g [] [] (next (with_result v (config_of f))) h (did_nothing f.tag c j (items_of f) (items_of g) [] refl refl (items ∙ sym (nothing_more (items_of f)))) t config
-    (Move.results (config_of f) v at) refl refl (λ a b s. s) (λ a b s. tt) (ap is_waiting at.stage) refl
+pub result_set : (p : Program) (c : ChannelFloor) (j : Floor) (f g : Frame) (o : Operand) → StandsOn p c j f → IsAt p f.tag (config_of f) (line.SetResult o) → g.tag ≡ f.tag → config_of g ≡ next (with_result (operand (config_of f) o) (config_of f)) → items_of g ≡ items_of f → Stepped p c c j j f g
+result_set p c j f g o h at t config items =
+    line_stepped p c c j j f g [] [] (next (with_result (operand (config_of f) o) (config_of f))) h (did_nothing f.tag c j (items_of f) (items_of g) [] refl refl (items ∙ sym (nothing_more (items_of f)))) t config
+    (Move.results (config_of f) o at) refl refl (λ a b s. s) (λ a b s. tt) (ap is_waiting at.stage) refl
 
 pub failed_by : (p : Program) (c : ChannelFloor) (j : Floor) (f g : Frame) (v : ℕ) → StandsOn p c j f → IsAt p f.tag (config_of f) (line.Fail v) → g.tag ≡ f.tag → config_of g ≡ at_stage (Unwinding (Some f.tag)) (config_of f) → items_of g ≡ items_of f ++ item.Job (of_job.Fail v) ∷ [] → Stepped p c c j j f g
 failed_by p c j f g v h at t config items =
@@ -215,11 +217,11 @@ free_short p c j f block lazy job ok h at = let fits = free_fits p c j f block l
 pub launch_config : (p : Program) (block : ℕ) (job : Option ℕ) (x : Config) (rows : List ℕ) (size : ℕ) → rows ≡ x.rows → size ≡ size_of p block → next (record x { rows = named job x.free rows; free = x.free + size }) ≡ next (past_launch p block job x)
 launch_config p block job x rows size e k = ap (λ r. next (record x { rows = named job x.free r; free = x.free + size })) e ∙ ap (λ n. next (record x { rows = named job x.free x.rows; free = x.free + n })) k
 
-pub rows_config : (x : Config) (stage : Stage) (rows : List ℕ) → rows ≡ x.rows → record { line = x.line; stage = stage; result = x.result; rows = rows; free = x.free } ≡ at_stage stage x
+pub rows_config : (x : Config) (stage : Stage) (rows : List ℕ) → rows ≡ x.rows → record x { stage = stage; rows = rows } ≡ at_stage stage x
 rows_config x stage rows e = ap (λ r. to_config r) e
   where
     to_config : List ℕ → Config
-    to_config r = record { line = x.line; stage = stage; result = x.result; rows = r; free = x.free }
+    to_config r = record x { stage = stage; rows = r }
 
 pub own_attached : (p : Program) (c : ChannelFloor) (j : Floor) (f : Frame) → Legal j.shape j.seen → StandsOn p c j f → is_fresh f.stage ≡ false → is_some (replay j.seen f.tag) ≡ true
 own_attached p c j f l h e = live_attached (replay j.seen f.tag) (stands_live p c j f l h e)

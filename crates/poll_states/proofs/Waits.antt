@@ -22,26 +22,35 @@ use Rattle.channel_model.specs.Effects.{after, put_wait, put_channel, name_claus
 use Rattle.channel_model.specs.Needs.{Needs, MaySettle}
 use Rattle.channel_model.specs.Histories.{replay, Legal}
 use Rattle.channel_model.specs.Floors.{Floor, Looked, Made, AtStep, Added}
-use Rattle.channel_model.specs.Answers.{LookAnswer, SettleAnswer, IsOwn, IsOwnWait, IsReady, IsReadyWait, state_of_wait, state_of_parts, outcome_at, outcome_of_some}
+use Rattle.channel_model.specs.Answers.{LookAnswer, IsOwn, IsOwnWait, IsReady, IsReadyWait, state_of_wait, state_of_parts, outcome_at, outcome_of_some}
 use Rattle.channel_model.specs.Outcomes.{outcome_of}
 use Rattle.channel_model.proofs.Histories.{replay_push, Legal-last, Legal-prefix}
 use Rattle.channel_model.proofs.Waits.{at_wait}
-use Rattle.channel_model.proofs.Spans.{added_made, added_looked, added_then, prefix_self}
+use Rattle.channel_model.proofs.Spans.{added_made, added_looked, prefix_self}
 use Rattle.channel_model.proofs.Others.{others_keep, between, Stays, ready_stays}
 use Rattle.channel_model.proofs.OwnWaits.{ComesFrom, begins, act_from, others_bring_none}
 use Rattle.channel_model.proofs.Placed.{replay_placed}
 use Rattle.job_model.specs.declared.acts.JobEntry.{JobEntry}
 use Rattle.note_book.specs.declared.book.Item.{Item}
-use Rattle.note_book.specs.declared.book.Item.TheVariants as item
 use Rattle.note_book.specs.Items.{channel_act}
+use Rattle.channel_calls.specs.Groups.{settle_group}
 use Rattle.script_reader.specs.Programs.{Program}
 use Rattle.poll_states.specs.declared.frame.Stage.{Stage}
-use Rattle.poll_states.specs.declared.frame.Stage.TheVariants.{Running, Waiting, Unwinding}
-use Rattle.poll_states.specs.declared.frame.Turn.TheVariants as turn
+use Rattle.poll_states.specs.declared.frame.Stage.TheVariants.{Fresh, Running, Waiting, Unwinding, Ended}
 use Rattle.poll_states.specs.Settings.{is_calm_act}
-use Rattle.poll_states.specs.Runs.{Config, Move, got, sent, closed, cancelled}
+use Rattle.poll_states.specs.Runs.{Config, Move, MayRun, WasAt, got, sent, closed, cancelled}
+use Rattle.poll_states.specs.GivingUp.{IsTakenBack, IsTakenBackBy}
 use Rattle.poll_states.specs.Frames.{IsUnsettledOf, HoldsWait}
-use Rattle.poll_states.specs.Steps.{after_step, turn_after, stage_of, WaitsOnly, HasStood, ClosesNone, StepMade, IsEndOf}
+use Rattle.poll_states.specs.Steps.{after_wait, WaitsOnly, ClosesNone, StepMade}
+
+-- ---- stages
+
+abbrev pub is_waiting : Stage → Bool
+is_waiting Fresh = false
+is_waiting Running = false
+is_waiting (Waiting w) = true
+is_waiting (Unwinding failure) = false
+is_waiting Ended = false
 
 -- ---- unsettled waits
 
@@ -57,7 +66,7 @@ unsettled_stays who = record {
   settled = λ n outcome x apart m h. unsettled_settled who n outcome x apart m h;
 }
 
-no_unsettled : (who : ℕ) (x : Option Wait) → IsUnsettledOf who (settled_wait x) → ⊥
+pub no_unsettled : (who : ℕ) (x : Option Wait) → IsUnsettledOf who (settled_wait x) → ⊥
 no_unsettled who None h = h
 no_unsettled who (Some x) h = let k : true ≡ false = h.1 in cc
 
@@ -138,7 +147,7 @@ placed_receiver_closed true r ch = refl
 placed_receiver_closed false r ch = refl
 
 -- only a Close closes
-closed_same : (s : State) (who : ℕ) (act : Act) (d : ℕ) → is_close act ≡ false → ((after s who act).channels d).closed ≡ (s.channels d).closed
+pub closed_same : (s : State) (who : ℕ) (act : Act) (d : ℕ) → is_close act ≡ false → ((after s who act).channels d).closed ≡ (s.channels d).closed
 closed_same s who (Hand c p v) d e = first_closed (s.channels c).receivers (λ k. resolved.Handed k v) s d
 closed_same s who (Put c p v) d e = put_closed c d _ s (placed_offer_closed true (record { place = p; value = v; holder = None }) (s.channels c))
 closed_same s who (Offer c p v w k) d e = put_closed c d _ s (placed_offer_closed (is_open (s.waits w)) _ (s.channels c))
@@ -165,8 +174,8 @@ looked_closes who a b k alone c = ap (λ es. ((replay es).channels c).closed) (k
 -- ---- the calls of a line
 
 -- the call made an act that begins no wait
-pub ran_on : (who base : ℕ) (act : Act) (a b : Floor) → Made who act a b → begins act ≡ None → is_close act ≡ false → list_all (is_calm_act base) (act ∷ []) ≡ true → WaitsOnly who Running a → StepMade who base a b (record { note = note.Made act; stage = Running })
-ran_on who base act a b m e f calm free = record {
+pub ran_on : (who base : ℕ) (act : Act) (taken : Option ℕ) (a b : Floor) → Made who act a b → begins act ≡ None → is_close act ≡ false → list_all (is_calm_act base) (act ∷ []) ≡ true → WaitsOnly who Running a → StepMade who base a b (record { note = note.Made act; received = taken; stage = Running })
+ran_on who base act taken a b m e f calm free = record {
   added = added_made who act a b m;
   calm = calm;
   holds = tt;
@@ -176,7 +185,7 @@ ran_on who base act a b m e f calm free = record {
 }
 
 -- the call made no act, and the next line comes
-pub answered : (who base : ℕ) (n : ChannelNote) (a b : Floor) → Looked who a b → channel_act n ≡ [] → WaitsOnly who Running a → StepMade who base a b (record { note = n; stage = Running })
+pub answered : (who base : ℕ) (n : ChannelNote) (a b : Floor) → Looked who a b → channel_act n ≡ [] → WaitsOnly who Running a → StepMade who base a b (record { note = n; received = None; stage = Running })
 answered who base n a b k e free = record {
   added = subst (λ l. Added who l a b) (sym e) (added_looked who a b k);
   calm = ap (λ l. list_all (is_calm_act base) l) e;
@@ -187,7 +196,7 @@ answered who base n a b k e free = record {
 }
 
 -- the call made no act, and the body breaks off
-pub failed : (who base : ℕ) (failure : Option ℕ) (n : ChannelNote) (a b : Floor) → Looked who a b → channel_act n ≡ [] → WaitsOnly who Running a → StepMade who base a b (record { note = n; stage = Unwinding failure })
+pub failed : (who base : ℕ) (failure : Option ℕ) (n : ChannelNote) (a b : Floor) → Looked who a b → channel_act n ≡ [] → WaitsOnly who Running a → StepMade who base a b (record { note = n; received = None; stage = Unwinding failure })
 failed who base failure n a b k e free = record {
   added = subst (λ l. Added who l a b) (sym e) (added_looked who a b k);
   calm = ap (λ l. list_all (is_calm_act base) l) e;
@@ -219,7 +228,7 @@ begun who c p before seen shape act l is last e =
 
 -- the call began a wait
 waits_now : (who base c p : ℕ) (act : Act) (a b : Floor) → Made who act a b → begins act ≡ Some (wait_at c p) → is_close act ≡ false → list_all (is_calm_act base) (act ∷ []) ≡ true → c < length a.shape → (replay b.seen).waits (wait_at c p) ≡ name_clause who 0 c None → WaitsOnly who Running a
-    → StepMade who base a b (record { note = note.Made act; stage = Waiting (wait_at c p) })
+    → StepMade who base a b (record { note = note.Made act; received = None; stage = Waiting (wait_at c p) })
 waits_now who base c p act a b m e f calm lt is free = record {
   added = added_made who act a b m;
   calm = calm;
@@ -230,14 +239,14 @@ waits_now who base c p act a b m e f calm lt is free = record {
 }
 
 pub offered : (who base c p v : ℕ) (a b : Floor) → Legal b.shape b.seen → Made who (Offer c p v (record { channel = c; place = p }) 0) a b → c < length a.shape → WaitsOnly who Running a
-    → StepMade who base a b (record { note = note.Made (Offer c p v (record { channel = c; place = p }) 0); stage = Waiting (record { channel = c; place = p }) })
+    → StepMade who base a b (record { note = note.Made (Offer c p v (record { channel = c; place = p }) 0); received = None; stage = Waiting (record { channel = c; place = p }) })
 offered who base c p v a b l m lt free =
     let act : Act = Offer c p v (wait_at c p) 0 in
     let r = last_legal b.shape m.before b.seen (record { who = who; act = act }) m.last l in
     waits_now who base c p act a b m refl refl refl lt (begun who c p m.before b.seen b.shape act r.0 r.1.1.first m.last refl) free
 
 pub awaited : (who base c p : ℕ) (a b : Floor) → Legal b.shape b.seen → Made who (Await c p (record { channel = c; place = p }) 0) a b → c < length a.shape → list_all (is_calm_act base) (Await c p (record { channel = c; place = p }) 0 ∷ []) ≡ true → WaitsOnly who Running a
-    → StepMade who base a b (record { note = note.Made (Await c p (record { channel = c; place = p }) 0); stage = Waiting (record { channel = c; place = p }) })
+    → StepMade who base a b (record { note = note.Made (Await c p (record { channel = c; place = p }) 0); received = None; stage = Waiting (record { channel = c; place = p }) })
 awaited who base c p a b l m lt calm free =
     let act : Act = Await c p (wait_at c p) 0 in
     let r = last_legal b.shape m.before b.seen (record { who = who; act = act }) m.last l in
@@ -288,64 +297,42 @@ not_settled who (Some x) h e = (let k : Some (state_of_parts x.resolved x.settle
 pub never_settled : (who : ℕ) (w : WaitId) (a b : Floor) → Legal b.shape b.seen → HoldsWait who (Waiting w) a → LookAnswer who w a b state.Settled → ⊥
 never_settled who w a b l h look = not_settled who _ (held_at who w a b _ l h look.0 look.1) look.1.holds
 
-outcome_ends : (p : Program) (k : ℕ) (seen : List JobEntry) (before : List Item) (x : Config) (w : WaitId) (how : Resolution) → x.stage ≡ Waiting w → Move p k seen before x (item.Channel (note.Made (Settle w (outcome_of how false))) ∷ []) (after_step (stage_of (outcome_of how false)) x)
-outcome_ends p k seen before x w (resolved.Handed n v) e = got x w n v e
-outcome_ends p k seen before x w (resolved.Taken n) e = sent x w n e
-outcome_ends p k seen before x w (resolved.Admitted n) e = sent x w n e
-outcome_ends p k seen before x w (resolved.Closed n v) e = closed x w n v e
-outcome_ends p k seen before x w (resolved.Withdrawn why) e = cancelled x w e
-outcome_ends p k seen before x w resolved.Voided e = cancelled x w e
+outcome_ends : (p : Program) (k : ℕ) (seen : List JobEntry) (before : List Item) (x : Config) (w : WaitId) (how : Resolution) → x.stage ≡ Waiting w → WasAt k seen before (λ tree. MayRun (tree k)) → Move p k seen before x (settle_group w (outcome_of how false)) (after_wait (outcome_of how false) x)
+outcome_ends p k seen before x w (resolved.Handed n v) e r = got x w n v e r
+outcome_ends p k seen before x w (resolved.Taken n) e r = sent x w n e r
+outcome_ends p k seen before x w (resolved.Admitted n) e r = sent x w n e r
+outcome_ends p k seen before x w (resolved.Closed n v) e r = closed x w n v e r
+outcome_ends p k seen before x w (resolved.Withdrawn why) e r = cancelled x w e
+outcome_ends p k seen before x w resolved.Voided e r = cancelled x w e
 
-some_ends : (p : Program) (k : ℕ) (seen : List JobEntry) (before : List Item) (x : Config) (w : WaitId) (how : Option Resolution) (outcome : Settled) → outcome_of_some false how ≡ Some outcome → x.stage ≡ Waiting w → Move p k seen before x (item.Channel (note.Made (Settle w outcome)) ∷ []) (after_step (stage_of outcome) x)
-some_ends p k seen before x w None outcome e s = cc
-some_ends p k seen before x w (Some how) outcome e s =
+some_ends : (p : Program) (k : ℕ) (seen : List JobEntry) (before : List Item) (x : Config) (w : WaitId) (how : Option Resolution) (outcome : Settled) → outcome_of_some false how ≡ Some outcome → x.stage ≡ Waiting w → WasAt k seen before (λ tree. MayRun (tree k)) → Move p k seen before x (settle_group w outcome) (after_wait outcome x)
+some_ends p k seen before x w None outcome e s r = cc
+some_ends p k seen before x w (Some how) outcome e s r =
     let is : outcome_of how false ≡ outcome = cc in
-    subst (λ o. Move p k seen before x (item.Channel (note.Made (Settle w o)) ∷ []) (after_step (stage_of o) x)) is (outcome_ends p k seen before x w how s)
+    subst (λ o. Move p k seen before x (settle_group w o) (after_wait o x)) is (outcome_ends p k seen before x w how s r)
 
 -- however the wait was resolved, it may end so
-pub settle_ends : (k : ℕ) (w : WaitId) (y : Option Wait) (outcome : Settled) → outcome_at false y ≡ Some outcome → IsEndOf k w (record { note = note.Made (Settle w outcome); stage = stage_of outcome })
-settle_ends k w None outcome e p seen before x s = cc
-settle_ends k w (Some y) outcome e p seen before x s = some_ends p k seen before x w y.resolved outcome e s
+pub wait_ends : (p : Program) (k : ℕ) (seen : List JobEntry) (before : List Item) (x : Config) (w : WaitId) (y : Option Wait) (outcome : Settled) → outcome_at false y ≡ Some outcome → x.stage ≡ Waiting w → WasAt k seen before (λ tree. MayRun (tree k)) → Move p k seen before x (settle_group w outcome) (after_wait outcome x)
+wait_ends p k seen before x w None outcome e s r = cc
+wait_ends p k seen before x w (Some y) outcome e s r = some_ends p k seen before x w y.resolved outcome e s r
 
-settle_holds : (who : ℕ) (outcome : Settled) (b : Floor) → HoldsWait who (stage_of outcome) b
-settle_holds who (settled.Value k v) b = tt
-settle_holds who (settled.Sent k) b = tt
-settle_holds who (settled.Closed k v) b = tt
-settle_holds who settled.Cancelled b = tt
-settle_holds who (settled.Undelivered v) b = tt
+how_taken : (how : Option Resolution) → outcome_of_some false how ≡ Some settled.Cancelled → IsTakenBackBy how
+how_taken None e = cc
+how_taken (Some (resolved.Handed n v)) e = cc
+how_taken (Some (resolved.Taken n)) e = cc
+how_taken (Some (resolved.Admitted n)) e = cc
+how_taken (Some (resolved.Closed n v)) e = cc
+how_taken (Some (resolved.Withdrawn why)) e = tt
+how_taken (Some resolved.Voided) e = tt
 
-settle_stood : (outcome : Settled) (a b : Floor) → HasStood a b (stage_of outcome)
-settle_stood (settled.Value k v) a b = tt
-settle_stood (settled.Sent k) a b = tt
-settle_stood (settled.Closed k v) a b = tt
-settle_stood settled.Cancelled a b = tt
-settle_stood (settled.Undelivered v) a b = tt
+-- a wait that ends as cancelled for a Job that runs was withdrawn or voided
+pub taken_back_of : (x : Option Wait) → outcome_at false x ≡ Some settled.Cancelled → IsTakenBack x
+taken_back_of None e = cc
+taken_back_of (Some x) e = how_taken x.resolved e
 
-pub settle_ready_turn : (outcome : Settled) → turn_after (stage_of outcome) ≡ turn.Ready
-settle_ready_turn (settled.Value k v) = refl
-settle_ready_turn (settled.Sent k) = refl
-settle_ready_turn (settled.Closed k v) = refl
-settle_ready_turn settled.Cancelled = refl
-settle_ready_turn (settled.Undelivered v) = refl
-
--- the settled wait is unsettled no more
-settled_now : (who : ℕ) (w : WaitId) (outcome : Settled) (a b : Floor) → Made who (Settle w outcome) a b → IsUnsettledOf who ((replay b.seen).waits w) → ⊥
-settled_now who w outcome a b m h =
-    let e : (replay b.seen).waits w ≡ settled_wait ((replay m.before).waits w) =
-    ap (λ es. (replay es).waits w) m.last ∙ ap (λ (s : State). s.waits w) (replay_push m.before (record { who = who; act = Settle w outcome })) ∙ at_wait w _ (replay m.before).waits in
-    no_unsettled who _ (subst (IsUnsettledOf who) e h)
-
--- a look and a settle
-pub wait_ended : (who base : ℕ) (w : WaitId) (outcome : Settled) (a b c : Floor) → Looked who a b → SettleAnswer who w false b c outcome → WaitsOnly who (Waiting w) a
-    → StepMade who base a c (record { note = note.Made (Settle w outcome); stage = stage_of outcome })
-wait_ended who base w outcome a b c k s only = record {
-  added = added_then who [] (Settle w outcome ∷ []) a b c (added_looked who a b k) (added_made who (Settle w outcome) b c s.0);
-  calm = refl;
-  holds = settle_holds who outcome c;
-  only = λ v h. absurd (⊎_elim (λ q. settled_now who w outcome b c s.0 (at_w v (looked_only who (Waiting w) a b k only v q) h)) (λ q. cc) (made_from who (Settle w outcome) b c v s.0 h));
-  stood = settle_stood outcome a c;
-  closes = λ alone d. made_closes who (Settle w outcome) b c s.0 refl (k.same.alone ∙ alone) d ∙ looked_closes who a b k alone d;
-}
-  where
-    at_w : (v : WaitId) → Waiting w ≡ Waiting v → IsUnsettledOf who ((replay c.seen).waits v) → IsUnsettledOf who ((replay c.seen).waits w)
-    at_w v e h = let same : w ≡ v = cc in subst (λ u. IsUnsettledOf who ((replay c.seen).waits u)) (sym same) h
+pub after_wait_stage : (outcome : Settled) (x : Config) → is_waiting (after_wait outcome x).stage ≡ false
+after_wait_stage (settled.Value k v) x = refl
+after_wait_stage (settled.Sent k) x = refl
+after_wait_stage (settled.Closed k v) x = refl
+after_wait_stage settled.Cancelled x = refl
+after_wait_stage (settled.Undelivered v) x = refl

@@ -15,9 +15,10 @@ use Rattle.poll_states.specs.declared.frame.Stage.{Stage}
 use Rattle.poll_states.specs.declared.frame.Stage.TheVariants.{Fresh, Running, Waiting, Unwinding, Ended}
 use Rattle.poll_states.specs.Settings.{floor_shape, job_shape}
 use Rattle.poll_states.specs.Runs.{Config, Reaches}
+use Rattle.poll_states.specs.GivingUp.{GivesUpAfterSaw}
 
 abbrev pub config_of : Frame → Config
-config_of f = record { line = f.line; stage = f.stage; result = f.result; rows = f.rows.items; free = f.free }
+config_of f = record { line = f.line; stage = f.stage; result = f.result; rows = f.rows.items; free = f.free; it = f.it; sum = f.sum }
 
 abbrev pub items_of : Frame → List Item
 items_of f = notes_of f.book
@@ -61,6 +62,7 @@ pub record StandsOn (p : Program) (channels : ChannelFloor) (jobs : Floor) (f : 
   -- a wait of its own that is not settled is the one that it waits for
   pub only : (w : WaitId) → IsUnsettledOf f.tag ((replay channels.seen).waits w) → f.stage ≡ Waiting w
   pub inside : IsInside f.stage f.line (length (code_of p f.tag))
+  pub gives_up : GivesUpAfterSaw f.tag (replay channels.seen) (items_of f)
 
 -- an upper bound of the moves that are left of a code with so many lines
 abbrev pub moves_at : Stage → ℕ → ℕ → ℕ

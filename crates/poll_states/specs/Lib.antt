@@ -1,5 +1,6 @@
 pub mod Settings
 pub mod Runs
+pub mod GivingUp
 pub mod Frames
 pub mod Parts
 pub mod Polls

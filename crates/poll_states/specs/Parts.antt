@@ -25,7 +25,8 @@ use Rattle.script_reader.specs.Programs.{Program, coroutine_count}
 use Rattle.poll_states.specs.declared.frame.Stage.{Stage}
 use Rattle.poll_states.specs.declared.frame.Stage.TheVariants.{Fresh, Running, Waiting, Unwinding, Ended}
 use Rattle.poll_states.specs.Settings.{base_of, floor_shape, job_shape, book_at}
-use Rattle.poll_states.specs.Runs.{Config, Reaches, Runs, saw}
+use Rattle.poll_states.specs.Runs.{Config, Reaches, Runs, MayRun, saw}
+use Rattle.poll_states.specs.GivingUp.{GivesUpAfterSaw}
 use Rattle.poll_states.specs.Frames.{IsUnsettledOf}
 
 -- ---- the books
@@ -55,6 +56,8 @@ pub record BooksOf (p : Program) (books : List (List Item)) (channels : List Ent
   pub runs : (k : ℕ) → k < coroutine_count p → Runs p k jobs (book_at k books)
   -- right after a Job has ended, its done channel is closed
   pub closes : (k : ℕ) → ClosesAtOnce (base_of p) (book_at k books)
+  -- a wait that ends for a cancelled Job ends after the note that it was seen Cancelling
+  pub gives_up_after_saw : (k : ℕ) → k < coroutine_count p → GivesUpAfterSaw k (replay channels) (book_at k books)
   pub begins : (k : ℕ) → k < coroutine_count p → k ≢ 0 → book_at k books ≢ [] → BeginsAsAttached k jobs (book_at k books)
 
 -- ---- how a run is left
@@ -69,11 +72,12 @@ abbrev pub IsNotStarted : Option Job → Type 0
 IsNotStarted None = Unit {0}
 IsNotStarted (Some j) = j.state ≡ New
 
--- how a coroutine is left: its Job is not attached or New, and it made no call; or it has one unsettled wait, which is open; or its body has ended
+-- how a coroutine is left: its Job is not attached or New, and it made no call; or it has one unsettled wait, which is open, and
+-- its Job runs and is not Cancelling; or its body has ended
 abbrev pub IsLeft : ℕ → List Item → State → List JobEntry → Stage → Type 0
 IsLeft k book s jobs Fresh = IsNotStarted (replay_jobs jobs k) × (book ≡ [])
 IsLeft k book s jobs Running = ⊥
-IsLeft k book s jobs (Waiting w) = WaitsAlone k w s
+IsLeft k book s jobs (Waiting w) = WaitsAlone k w s × MayRun (replay_jobs jobs k)
 IsLeft k book s jobs (Unwinding failure) = ⊥
 IsLeft k book s jobs Ended = has ends_body k jobs ≡ true
 

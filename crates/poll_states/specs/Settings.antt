@@ -24,8 +24,7 @@ job_shape p = record { coroutines = coroutine_count p; rows = coroutine_count p 
 abbrev pub book_at : ℕ → List (List Item) → List Item
 book_at k books = slice_index_or books k []
 
--- an act on channels that a script may bring about for now: nothing is withdrawn, cancelled or kept without a wait for it, nobody waits at a done
--- channel, and no other is closed
+-- an act on channels that a script may bring about for now: nothing is dropped or kept later, nobody waits at a done channel, and no other is closed
 abbrev pub is_calm_act : ℕ → Act → Bool
 is_calm_act base (Hand c p v) = true
 is_calm_act base (Put c p v) = true
@@ -38,5 +37,5 @@ is_calm_act base (Close c v) = nat_le base c
 is_calm_act base (Void c) = false
 is_calm_act base (Drain c p v) = false
 is_calm_act base (WakeClosed c p) = false
-is_calm_act base (Withdraw w why) = false
+is_calm_act base (Withdraw w why) = true
 is_calm_act base (Settle w outcome) = true

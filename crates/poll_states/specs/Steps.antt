@@ -1,5 +1,5 @@
 -- What a line of a coroutine came to, and how the coroutine goes on after it.
-use Rattle.std.specs.Prelude.{◌≡◌, ◌≢◌, ℕ, ◌+◌, ◌<◌, ◌≤◌, Bool, true, false, List, [], ◌∷◌, ◌++◌, length, Some, None, Result, Ok, Err}
+use Rattle.std.specs.Prelude.{◌≡◌, ◌≢◌, ℕ, ◌+◌, ◌<◌, ◌≤◌, ◌⊎◌, Bool, true, false, List, [], ◌∷◌, ◌++◌, length, Option, Some, None, Result, Ok, Err}
 use Rattle.std.specs.List.{list_all, list_any}
 use Rattle.co_base.specs.declared.names.Memory.{Memory}
 use Rattle.co_base.specs.declared.names.WaitId.{WaitId}
@@ -7,8 +7,8 @@ use Rattle.channel_model.specs.declared.acts.Settled.{Settled}
 use Rattle.channel_model.specs.declared.acts.Settled.TheVariants as settled
 use Rattle.channel_model.specs.declared.floor.WaitState.TheVariants.{Standing}
 use Rattle.channel_model.specs.Histories.{replay}
-use Rattle.channel_model.specs.Floors.{Floor as ChannelFloor, Added as AddedToChannels, AtStep as AtChannelStep}
-use Rattle.channel_model.specs.Answers.{state_of_wait}
+use Rattle.channel_model.specs.Floors.{Floor as ChannelFloor, Looked as LookedAtChannels, Added as AddedToChannels, AtStep as AtChannelStep}
+use Rattle.channel_model.specs.Answers.{IsReady, state_of_wait, outcome_at}
 use Rattle.job_model.specs.declared.acts.JobAct.TheVariants.{Attach}
 use Rattle.job_model.specs.declared.acts.JobEntry.{JobEntry}
 use Rattle.job_model.specs.Trees.{Tree}
@@ -21,7 +21,10 @@ use Rattle.note_book.specs.Items.{channel_act, channel_acts_in, job_acts_in}
 use Rattle.scope_builders.specs.Rest.{IsSettled}
 use Rattle.scope_builders.specs.Groups.{ClosesAtOnce}
 use Rattle.scope_builders.specs.Calls.{Did, StaysSettled, child_kind}
-use Rattle.script_reader.specs.declared.script.Instruction.{Instruction}
+use Rattle.channel_calls.specs.Groups.{settle_group}
+use Rattle.channel_calls.specs.Calls.{Did as DidOnChannels}
+use Rattle.script_reader.specs.declared.script.Operand.{Operand}
+use Rattle.script_reader.specs.declared.script.Instruction.TheVariants as line
 use Rattle.script_reader.specs.Programs.{Program, code_of, coroutine_count, size_of}
 use Rattle.poll_states.specs.declared.frame.Frame.{Frame}
 use Rattle.poll_states.specs.declared.frame.Stage.{Stage}
@@ -32,7 +35,8 @@ use Rattle.poll_states.specs.declared.frame.Turn.TheVariants as turn
 use Rattle.poll_states.specs.declared.jobs.OwnState.{OwnState}
 use Rattle.poll_states.specs.declared.jobs.OwnState.TheVariants.{NotStarted, Cancelling, MayRun}
 use Rattle.poll_states.specs.Settings.{base_of, is_calm_act}
-use Rattle.poll_states.specs.Runs.{Config, Move, IsAt, IsRefusal, MayRun as IsRunning, IsCancelling, at_stage, next, past_launch, job_note}
+use Rattle.poll_states.specs.Runs.{Config, Move, IsAt, IsRefusal, IsGivenUp, MayRun as IsRunning, IsCancelling, at_stage, next, received, operand, past_launch, job_note, saw}
+use Rattle.poll_states.specs.GivingUp.{IsTakenBack}
 use Rattle.poll_states.specs.Frames.{config_of, items_of, IsUnsettledOf, HoldsWait, IsFor, StandsOn}
 use Rattle.poll_states.specs.Parts.{IsNotStarted}
 use Rattle.poll_states.specs.Polls.{NotedSome, Polled, TurnAnswer}
@@ -47,31 +51,24 @@ after_step (Waiting w) x = at_stage (Waiting w) x
 after_step (Unwinding failure) x = at_stage (Unwinding failure) x
 after_step Ended x = at_stage Ended x
 
--- what a poll answers that left the coroutine so
-abbrev pub turn_after : Stage → Turn
-turn_after Fresh = turn.Ready
-turn_after Running = turn.Ready
-turn_after (Waiting w) = turn.Waits
-turn_after (Unwinding failure) = turn.Ready
-turn_after Ended = turn.Ended
+-- with the element that was received, if one was
+abbrev pub taking : Option ℕ → Config → Config
+taking None x = x
+taking (Some v) x = received v x
 
--- how a coroutine goes on whose wait ended so
-abbrev pub stage_of : Settled → Stage
-stage_of (settled.Value k v) = Running
-stage_of (settled.Sent k) = Running
-stage_of (settled.Closed k v) = Running
-stage_of settled.Cancelled = Unwinding None
-stage_of (settled.Undelivered v) = Running
+-- after a call that came to this
+abbrev pub after_call : Step → Config → Config
+after_call step x = after_step step.stage (taking step.received x)
 
--- the call of this line may come to this for k, in any script and at any time
-abbrev pub IsCallOf : ℕ → Instruction → Step → Type 0
-IsCallOf k line step =
-    (p : Program) (seen : List JobEntry) (before : List Item) (x : Config) → IsAt p k x line → Move p k seen before x (item.Channel step.note ∷ []) (after_step step.stage x)
+-- a send of this value to this channel may come to this for k, in any script and at any time
+abbrev pub IsSendOf : ℕ → ℕ → ℕ → Step → Type 0
+IsSendOf k c value step =
+    (p : Program) (seen : List JobEntry) (before : List Item) (x : Config) (o : Operand) → IsAt p k x (line.Send c o) → value ≡ operand x o → Move p k seen before x (item.Channel step.note ∷ []) (after_call step x)
 
--- the wait may end so for k, in any script and at any time
-abbrev pub IsEndOf : ℕ → WaitId → Step → Type 0
-IsEndOf k w step =
-    (p : Program) (seen : List JobEntry) (before : List Item) (x : Config) → x.stage ≡ Waiting w → Move p k seen before x (item.Channel step.note ∷ []) (after_step step.stage x)
+-- a receive from this channel may come to this for k, in any script and at any time
+abbrev pub IsReceiveOf : ℕ → ℕ → Step → Type 0
+IsReceiveOf k c step =
+    (p : Program) (seen : List JobEntry) (before : List Item) (x : Config) → IsAt p k x (line.Receive c) → Move p k seen before x (item.Channel step.note ∷ []) (after_call step x)
 
 -- an unsettled wait of who's is the one that the stage names
 abbrev pub WaitsOnly : ℕ → Stage → ChannelFloor → Type 0
@@ -98,6 +95,46 @@ pub record StepMade (who base : ℕ) (old new : ChannelFloor) (step : Step) : Ty
   pub stood : HasStood old new step.stage
   pub closes : old.alone ≡ true → ClosesNone old new
 
+-- ---- the ends of waits
+
+-- the wait was seen resolved, and may be settled; or it stood at a moment
+abbrev pub IsSeenSo : ℕ → WaitId → ChannelFloor → ChannelFloor → Bool → Type 0
+IsSeenSo who w old new true = IsReady who w new
+IsSeenSo who w old new false = AtChannelStep old new (λ s. state_of_wait (s.waits w) ≡ Some Standing)
+
+pub record SeenWait (who : ℕ) (w : WaitId) (old new : ChannelFloor) (resolved : Bool) : Type 0 where
+  pub looked : LookedAtChannels who old new
+  pub so : IsSeenSo who w old new resolved
+
+-- where a coroutine is whose wait ended so
+abbrev pub after_wait : Settled → Config → Config
+after_wait (settled.Value k v) x = next (received v x)
+after_wait (settled.Sent k) x = next x
+after_wait (settled.Closed k v) x = next x
+after_wait settled.Cancelled x = at_stage (Unwinding None) x
+after_wait (settled.Undelivered v) x = next x
+
+-- the wait was settled as it was resolved, and the coroutine goes on as that says
+pub record EndedWait (w : WaitId) (old new : ChannelFloor) (f g : Frame) : Type 0 where
+  pub outcome : Settled
+  pub ends : outcome_at false ((replay old.seen).waits w) ≡ Some outcome
+  pub did : DidOnChannels f.tag (settle_group w outcome) old new (items_of f) (items_of g)
+  pub config : config_of g ≡ after_wait outcome (config_of f)
+
+abbrev pub EndedWaitAnswer : WaitId → ChannelFloor → ChannelFloor → Frame → Frame → Result (Unit {0}) Memory → Type 0
+EndedWaitAnswer w old new f g (Ok done) = EndedWait w old new f g
+EndedWaitAnswer w old new f g (Err m) = DidOnChannels f.tag [] old new (items_of f) (items_of g)
+
+-- it was noted that the Job was Cancelling, and then the wait was ended for that
+pub record GaveUp (w : WaitId) (old new : ChannelFloor) (f g : Frame) : Type 0 where
+  pub group : List Item
+  pub given : IsGivenUp w group
+  pub did : DidOnChannels f.tag (saw f.tag ∷ group) old new (items_of f) (items_of g)
+
+abbrev pub GaveUpAnswer : WaitId → ChannelFloor → ChannelFloor → Frame → Frame → Result (Unit {0}) Memory → Type 0
+GaveUpAnswer w old new f g (Ok done) = GaveUp w old new f g
+GaveUpAnswer w old new f g (Err m) = DidOnChannels f.tag (saw f.tag ∷ []) old new (items_of f) (items_of g)
+
 -- ---- one's own Job
 
 -- the row of who is that of its coroutine, and who did not end its body
@@ -123,6 +160,10 @@ pub record IsAtEnd (p : Program) (f : Frame) : Type 0 where
   pub running : f.stage ≡ Running
   pub none_left : f.line ≡ length (code_of p f.tag)
 
+-- where all that was noted is that the wait ended as cancelled, it was withdrawn or voided
+abbrev pub TookBack : Stage → List Item → ChannelFloor → Type 0
+TookBack stage notes floor = (w : WaitId) → stage ≡ Waiting w → notes ≡ settle_group w settled.Cancelled → IsTakenBack ((replay floor.seen).waits w)
+
 -- one move of the coroutine of f left g
 pub record Stepped (p : Program) (c c' : ChannelFloor) (j j' : Floor) (f g : Frame) : Type 0 where
   pub tag : g.tag ≡ f.tag
@@ -137,6 +178,9 @@ pub record Stepped (p : Program) (c c' : ChannelFloor) (j j' : Floor) (f g : Fra
   pub holds : HoldsWait f.tag g.stage c'
   pub only : WaitsOnly f.tag g.stage c'
   pub stood : HasStood c c' g.stage
+  pub taken_back : TookBack f.stage notes c'
+  -- it goes on after a wait only where its Job ran at a moment
+  pub ran : (w : WaitId) → f.stage ≡ Waiting w → g.stage ≡ Running → AtStep j j' (λ tree. IsRunning (tree f.tag))
 
 -- there was no memory: the frame notes the entries that were made
 pub record CutShort (c c' : ChannelFloor) (j j' : Floor) (f g : Frame) : Type 0 where
@@ -148,6 +192,19 @@ StepAnswer p c c' j j' f g (Ok done) = Stepped p c c' j j' f g
 StepAnswer p c c' j j' f g (Err m) = CutShort c c' j j' f g
 
 -- ---- polls
+
+-- what a poll answers after a line that left the coroutine so: one that waits is to be polled again where its Job was Cancelling
+abbrev pub IsAnswerAt : ℕ → Stage → Floor → Floor → Turn → Type 0
+IsAnswerAt who Fresh old new answer = answer ≡ turn.Ready
+IsAnswerAt who Running old new answer = answer ≡ turn.Ready
+IsAnswerAt who (Waiting w) old new answer =
+    ((answer ≡ turn.Ready) × AtStep old new (λ tree. IsCancelling (tree who))) ⊎ ((answer ≡ turn.Waits) × AtStep old new (λ tree. IsRunning (tree who)))
+IsAnswerAt who (Unwinding failure) old new answer = answer ≡ turn.Ready
+IsAnswerAt who Ended old new answer = answer ≡ turn.Ended
+
+pub record AnsweredAfter (f : Frame) (old new : Floor) (answer : Turn) : Type 0 where
+  pub looked : Added f.tag [] [] old new
+  pub so : IsAnswerAt f.tag f.stage old new answer
 
 -- a poll of f left g and answered so
 pub record Turned (p : Program) (c c' : ChannelFloor) (j j' : Floor) (f g : Frame) (answer : Turn) : Type 0 where

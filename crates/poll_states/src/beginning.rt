@@ -33,13 +33,17 @@ pub fn begin<C: ChannelFloor, J: JobFloor, W: Wakes>(
     ensures same_wakes { floors.new.wakes.ghost_name ≡ floors.old.wakes.ghost_name }
 {
     for spawn in script.spawns() {
-        match spawn_one(script, frame, floors, spawn.coroutine) {
-            Ok(attached) => {
-                if !attached {
-                    return Ok(());
+        let mut made = 0u16;
+        while made < spawn.count {
+            match spawn_one(script, frame, floors, spawn.coroutine) {
+                Ok(attached) => {
+                    if !attached {
+                        return Ok(());
+                    }
                 }
+                Err(memory) => return Err(memory),
             }
-            Err(memory) => return Err(memory),
+            made += 1;
         }
     }
     Ok(())

@@ -4,14 +4,15 @@ ghost use Rattle.std.specs.Prelude.{◌≡◌, ◌+◌, ◌^◌, ◌<◌, ◌++�
 ghost use Rattle.note_book.specs.Books.{notes_of, spare_of};
 ghost use Rattle.note_book.specs.declared.book.Item.TheVariants as item;
 ghost use Rattle.poll_states.specs.declared.frame.Stage.TheVariants.{Fresh, Unwinding};
-ghost use Rattle.poll_states.specs.Runs.{at_stage, next, named, saw};
+ghost use Rattle.poll_states.specs.Runs.{at_stage, next, named, operand, received, saw};
 ghost use Rattle.poll_states.specs.Frames.{config_of, items_of};
-ghost use Rattle.poll_states.specs.Steps.{after_step, turn_after};
+ghost use Rattle.poll_states.specs.Steps.{after_call, after_wait};
 
-use channel_model::ChannelNote;
+use channel_model::{ChannelNote, Settled};
 use co_base::{Row, Tag, Value, WaitId};
 use job_model::{End, JobNote};
 use note_book::{Item, NoteBook, Notes};
+use script_reader::Operand;
 use std::alloc::Global;
 
 /// What a poll came to.
@@ -40,23 +41,11 @@ pub enum Stage {
     Ended,
 }
 
-impl Stage {
-    /// What a poll answers that left a coroutine so.
-    pub(crate) fn turn(self) -> Turn
-        ensures { result ≡ turn_after self }
-    {
-        match self {
-            Stage::Fresh | Stage::Running | Stage::Unwinding(_) => Turn::Ready,
-            Stage::Waiting(_) => Turn::Waits,
-            Stage::Ended => Turn::Ended,
-        }
-    }
-}
-
-/// What a call on a channel came to: its note, and how the coroutine goes on, where it runs with its next line.
+/// What a call on a channel came to: its note, the element that it received, and how the coroutine goes on, where it runs with its next line.
 #[derive(Clone, Copy, Debug, PartialEq, Eq)]
 pub(crate) struct Step {
     pub(crate) note: ChannelNote,
+    pub(crate) received: Option<Value>,
     pub(crate) stage: Stage,
 }
 
@@ -73,6 +62,10 @@ pub struct Frame {
     pub(crate) rows: Vec<Row>,
     /// The tag of what it launches next.
     pub(crate) free: u32,
+    /// The element that it received last.
+    pub(crate) it: Value,
+    /// All elements that it received, added up modulo 2^32.
+    pub(crate) sum: Value,
     pub(crate) book: Notes,
 }
 
@@ -92,6 +85,8 @@ impl Frame {
         ensures value { result.result ≡ 0 }
         ensures rows { result.rows.items ≡ [] }
         ensures free { result.free ≡ tag + 1 }
+        ensures it { result.it ≡ 0 }
+        ensures sum { result.sum ≡ 0 }
         ensures book { notes_of result.book ≡ [] }
     {
         Frame {
@@ -101,6 +96,8 @@ impl Frame {
             result: 0,
             rows: Vec::new(alloc),
             free: u32::from(tag) + 1,
+            it: 0,
+            sum: 0,
             book: Notes::new(alloc),
         }
     }
@@ -112,15 +109,56 @@ impl Frame {
         self.tag
     }
 
+    /// The number that an operand stands for.
+    pub(crate) fn value_of(&self, given: Operand) -> Value
+        ensures { result ≡ operand (config_of self.now) given }
+    {
+        match given {
+            Operand::Number(value) => value,
+            Operand::It => self.it,
+            Operand::Sum => self.sum,
+        }
+    }
+
+    /// Receives an element.
+    fn take_in(&mut self, value: Value)
+        ensures tag { self.new.tag ≡ self.old.tag }
+        ensures config { config_of self.new ≡ received value (config_of self.old) }
+        ensures items { items_of self.new ≡ items_of self.old }
+    {
+        self.it = value;
+        self.sum = self.sum.wrapping_add(value);
+    }
+
+    /// Goes on where its wait ended so.
+    pub(crate) fn go_on_after(&mut self, outcome: Settled)
+        requires { self.old.line < usize.MAX }
+        ensures tag { self.new.tag ≡ self.old.tag }
+        ensures config { config_of self.new ≡ after_wait outcome (config_of self.old) }
+        ensures items { items_of self.new ≡ items_of self.old }
+    {
+        match outcome {
+            Settled::Value(_, value) => {
+                self.take_in(value);
+                self.next_line();
+            }
+            Settled::Cancelled => self.stage = Stage::Unwinding(None),
+            Settled::Sent(_) | Settled::Closed(..) | Settled::Undelivered(_) => self.next_line(),
+        }
+    }
+
     /// Notes what a call came to, and goes on as it says. Takes no memory.
     pub(crate) fn go_on(&mut self, step: Step)
         requires book { 0 < spare_of self.old.book }
         requires line { self.old.line < usize.MAX }
         ensures tag { self.new.tag ≡ self.old.tag }
-        ensures config { config_of self.new ≡ after_step step.stage (config_of self.old) }
+        ensures config { config_of self.new ≡ after_call step (config_of self.old) }
         ensures items { items_of self.new ≡ items_of self.old ++ item.Channel step.note ∷ [] }
     {
         self.book.note(Item::Channel(step.note));
+        if let Some(value) = step.received {
+            self.take_in(value);
+        }
         self.stage = step.stage;
         match step.stage {
             Stage::Running => self.line += 1,
@@ -193,6 +231,8 @@ impl Frame {
             result: _,
             rows: _,
             free: _,
+            it: _,
+            sum: _,
             book,
         } = self;
         book

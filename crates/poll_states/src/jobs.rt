@@ -1,9 +1,9 @@
 //! The lines of a coroutine on Jobs, and the end of its body.
 
-ghost use Rattle.std.specs.Prelude.{◌≡◌};
+ghost use Rattle.std.specs.Prelude.{◌≡◌, OnOk};
 ghost use Rattle.script_reader.specs.declared.script.Instruction.TheVariants.{Yield, Launch, Start, Cancel};
 ghost use Rattle.script_reader.specs.Scripts.{program_of};
-ghost use Rattle.poll_states.specs.declared.frame.Stage.TheVariants.{Unwinding};
+ghost use Rattle.poll_states.specs.declared.frame.Stage.TheVariants.{Unwinding, Ended};
 ghost use Rattle.poll_states.specs.Runs.{IsAt};
 ghost use Rattle.poll_states.specs.Frames.{config_of, StandsOn};
 ghost use Rattle.poll_states.specs.Steps.{HasBody, OwnStateSeen, IsAtEnd, StepAnswer};
@@ -250,6 +250,7 @@ pub(crate) fn break_off<C: ChannelFloor, J: JobFloor, W: Wakes>(
     requires stands { StandsOn (program_of script.now) (C.view floors.old.channels.now) (J.view floors.old.jobs.now) frame.old }
     requires unwinds { frame.old.stage ≡ Unwinding failure }
     ensures came { StepAnswer (program_of script.now) (C.view floors.old.channels.now) (C.view floors.new.channels.now) (J.view floors.old.jobs.now) (J.view floors.new.jobs.now) frame.old frame.new result }
+    ensures ended { OnOk result (frame.new.stage ≡ Ended) }
     ensures channels_anchor { C.anchor floors.new.channels.now ≡ C.anchor floors.old.channels.now }
     ensures jobs_anchor { J.anchor floors.new.jobs.now ≡ J.anchor floors.old.jobs.now }
     ensures same_channels { floors.new.channels.ghost_name ≡ floors.old.channels.ghost_name }

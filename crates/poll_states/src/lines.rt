@@ -18,7 +18,7 @@ use channel_model::ChannelFloor;
 use co_base::{ChannelId, Gate, Memory, Tag, Value, Wakes};
 use job_model::{JobFloor, JobNote};
 use note_book::{Item, NoteBook};
-use script_reader::{Instruction, Script};
+use script_reader::{Instruction, Operand, Script};
 
 /// The number of the first done channel.
 pub(crate) fn first_done(script: &Script) -> ChannelId
@@ -119,7 +119,7 @@ fn set_result<C: ChannelFloor, J: JobFloor, W: Wakes>(
     script: &Script,
     frame: &mut Frame,
     floors: &mut Floors<'_, C, J, W>,
-    value: Value,
+    value: Operand,
 ) -> Result<(), Memory>
     requires stands { StandsOn (program_of script.now) (C.view floors.old.channels.now) (J.view floors.old.jobs.now) frame.old }
     requires at { IsAt (program_of script.now) frame.old.tag (config_of frame.old) (SetResult value) }
@@ -130,7 +130,7 @@ fn set_result<C: ChannelFloor, J: JobFloor, W: Wakes>(
     ensures same_jobs { floors.new.jobs.ghost_name ≡ floors.old.jobs.ghost_name }
     ensures same_wakes { floors.new.wakes.ghost_name ≡ floors.old.wakes.ghost_name }
 {
-    frame.result = value;
+    frame.result = frame.value_of(value);
     frame.next_line();
     Ok(())
 }

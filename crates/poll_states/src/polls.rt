@@ -4,10 +4,10 @@ ghost use Rattle.std.specs.Prelude.{◌≡◌, IfOk, OnOk};
 ghost use Rattle.script_reader.specs.Scripts.{program_of};
 ghost use Rattle.poll_states.specs.Frames.{items_of, moves_left, StandsOn};
 ghost use Rattle.poll_states.specs.declared.frame.Stage.TheVariants.{Fresh, Running, Waiting, Unwinding};
-ghost use Rattle.poll_states.specs.Steps.{TurnedAnswer};
+ghost use Rattle.poll_states.specs.Steps.{AnsweredAfter, TurnedAnswer};
 ghost use Rattle.poll_states.specs.Polls.{NotedSome, Polled, TurnAnswer};
 
-use crate::calls::{resume, room};
+use crate::calls::{end_wait, give_up, was_resolved};
 use crate::floors::Floors;
 use crate::frame::{Frame, Stage, Turn};
 use crate::jobs::{OwnState, break_off, own_state};
@@ -18,7 +18,8 @@ use job_model::JobFloor;
 use note_book::NoteBook;
 use script_reader::Script;
 
-/// Runs at most one line of a coroutine: settles its wait where it was resolved, runs its line, or ends its body.
+/// Runs at most one line of a coroutine: ends its wait where that was resolved or the coroutine's Job is Cancelling, runs its line, or ends its
+/// body.
 ///
 /// On want of memory the entries made so far stand and are noted, and the frame may only be turned into its book or dropped. The gate is
 /// passed at the points 1 (the poll begins), 2 and 3 (before the line's first call and after its last), 4 and 5 (a wait was seen resolved, and
@@ -105,7 +106,7 @@ fn first_turn<C: ChannelFloor, J: JobFloor, W: Wakes, G: Gate>(
         OwnState::MayRun => {
             frame.stage = Stage::Running;
             match run(script, frame, floors, gate) {
-                Ok(()) => Ok(frame.stage.turn()),
+                Ok(()) => Ok(answer(script, frame, floors)),
                 Err(memory) => Err(memory),
             }
         }
@@ -130,12 +131,38 @@ fn line_turn<C: ChannelFloor, J: JobFloor, W: Wakes, G: Gate>(
     ensures same_wakes { floors.new.wakes.ghost_name ≡ floors.old.wakes.ghost_name }
 {
     match run(script, frame, floors, gate) {
-        Ok(()) => Ok(frame.stage.turn()),
+        Ok(()) => Ok(answer(script, frame, floors)),
         Err(memory) => Err(memory),
     }
 }
 
-/// Ends the wait, where it was resolved.
+/// What a poll answers after a line. A coroutine that now waits, and whose Job is Cancelling, is to be polled again.
+fn answer<C: ChannelFloor, J: JobFloor, W: Wakes>(
+    script: &Script,
+    frame: &Frame,
+    floors: &mut Floors<'_, C, J, W>,
+) -> Turn
+    requires { StandsOn (program_of script.now) (C.view floors.old.channels.now) (J.view floors.old.jobs.now) frame.now }
+    ensures answered { AnsweredAfter frame.now (J.view floors.old.jobs.now) (J.view floors.new.jobs.now) result }
+    ensures channels { floors.new.channels.now ≡ floors.old.channels.now }
+    ensures wakes { floors.new.wakes.now ≡ floors.old.wakes.now }
+    ensures jobs_anchor { J.anchor floors.new.jobs.now ≡ J.anchor floors.old.jobs.now }
+    ensures same_channels { floors.new.channels.ghost_name ≡ floors.old.channels.ghost_name }
+    ensures same_jobs { floors.new.jobs.ghost_name ≡ floors.old.jobs.ghost_name }
+    ensures same_wakes { floors.new.wakes.ghost_name ≡ floors.old.wakes.ghost_name }
+{
+    match frame.stage {
+        Stage::Fresh | Stage::Running | Stage::Unwinding(_) => Turn::Ready,
+        Stage::Waiting(_) => match own_state(frame.tag, &mut *floors.jobs) {
+            OwnState::NotStarted => unreachable!(),
+            OwnState::Cancelling => Turn::Ready,
+            OwnState::MayRun => Turn::Waits,
+        },
+        Stage::Ended => Turn::Ended,
+    }
+}
+
+/// Ends the wait, where it was resolved or the own Job is Cancelling.
 fn wait_turn<C: ChannelFloor, J: JobFloor, W: Wakes, G: Gate>(
     script: &Script,
     frame: &mut Frame,
@@ -153,15 +180,26 @@ fn wait_turn<C: ChannelFloor, J: JobFloor, W: Wakes, G: Gate>(
     ensures same_jobs { floors.new.jobs.ghost_name ≡ floors.old.jobs.ghost_name }
     ensures same_wakes { floors.new.wakes.ghost_name ≡ floors.old.wakes.ghost_name }
 {
-    if let Err(memory) = room(&mut frame.book, &mut *floors.channels) {
+    if let Err(memory) = frame.book.room(1) {
         return Err(memory);
     }
-    match resume(frame.tag, w, floors, gate) {
-        Some(step) => {
-            frame.go_on(step);
-            Ok(Turn::Ready)
+    let resolved = was_resolved(frame.tag, w, &mut *floors.channels, gate);
+    match own_state(frame.tag, &mut *floors.jobs) {
+        OwnState::NotStarted => unreachable!(),
+        OwnState::Cancelling => match give_up(frame, floors, gate, w, resolved) {
+            Ok(()) => Ok(Turn::Ready),
+            Err(memory) => Err(memory),
+        },
+        OwnState::MayRun => {
+            if resolved {
+                match end_wait(frame, floors, gate, w) {
+                    Ok(()) => Ok(Turn::Ready),
+                    Err(memory) => Err(memory),
+                }
+            } else {
+                Ok(Turn::Waits)
+            }
         }
-        None => Ok(Turn::Waits),
     }
 }
 
@@ -183,7 +221,7 @@ fn last_turn<C: ChannelFloor, J: JobFloor, W: Wakes>(
     ensures same_wakes { floors.new.wakes.ghost_name ≡ floors.old.wakes.ghost_name }
 {
     match break_off(script, frame, floors, failure) {
-        Ok(()) => Ok(frame.stage.turn()),
+        Ok(()) => Ok(Turn::Ended),
         Err(memory) => Err(memory),
     }
 }

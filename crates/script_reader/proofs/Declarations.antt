@@ -6,6 +6,7 @@ use Rattle.std.proofs.lemmas.Option.{slice_get-get_or, slice_get_within}
 use Rattle.channel_model.specs.declared.acts.Kind.{Kind}
 use Rattle.channel_model.specs.declared.acts.Kind.TheVariants.{Rendezvous, Buffered, Unlimited, Conflated, DropOldest, Signal}
 use Rattle.channel_model.specs.Channels.{kind_at, places_at, is_full, suspends, is_signal}
+use Rattle.script_reader.specs.declared.script.Operand.{Operand}
 use Rattle.script_reader.specs.declared.script.Instruction.{Instruction}
 use Rattle.script_reader.specs.declared.script.Instruction.TheVariants.{Send, Receive}
 use Rattle.script_reader.specs.Programs.{Program, Declared, IsProgram, tags_of, block_of_tag, code_of, shape_of, is_rendezvous, is_declared, names_channel}
@@ -75,7 +76,7 @@ line-within p ok tag i x at =
     let known : names_channel (length p.channels) x ≡ true = test_at (names_channel (length p.channels)) (code_of p tag) i x (channels_known p tag ok) at in
     ap (λ n. names_channel n x) (length-shape_of p) ∙ known
 
-pub send-within : (p : Program) → IsProgram p → (tag i c v : ℕ) → slice_get (code_of p tag) i ≡ Some (Send c v) → c < length (shape_of p)
+pub send-within : (p : Program) → IsProgram p → (tag i c : ℕ) (v : Operand) → slice_get (code_of p tag) i ≡ Some (Send c v) → c < length (shape_of p)
 send-within p ok tag i c v at = lt-from_true c (length (shape_of p)) (line-within p ok tag i (Send c v) at)
 
 pub receive-within : (p : Program) → IsProgram p → (tag i c : ℕ) → slice_get (code_of p tag) i ≡ Some (Receive c) → c < length (shape_of p)

@@ -10,11 +10,13 @@ use Rattle.std.specs.Fmt.{decimal}
 use Rattle.std.specs.Str.{bytes_eq, all_ascii_digits}
 use Rattle.std.specs.Str.Parse.{digits_value}
 use Rattle.script_reader.specs.declared.fault.FaultKind.{FaultKind}
+use Rattle.script_reader.specs.declared.script.Operand.{Operand}
+use Rattle.script_reader.specs.declared.script.Operand.TheVariants.{Number, It, Sum}
 use Rattle.script_reader.specs.Faults.{◌>>=◌}
-use Rattle.script_reader.specs.Places.{word_at, end_at, at_most, number_at, value_at, is_number, within, name_at, new_at, known_at, is_name, place_from, unless_found, if_found, is_main, other_than_main, launchable, job_at}
+use Rattle.script_reader.specs.Places.{word_at, end_at, at_most, number_at, default_places, places_at, count_at, numbered, operand_at, value_at, is_number, within, name_at, new_at, known_at, is_name, place_from, unless_found, if_found, is_main, other_than_main, launchable, job_at}
 use Rattle.script_reader.specs.Programs.{Block}
 use Rattle.script_reader.specs.Forms.{Read, block_names, target_at}
-use Rattle.script_reader.specs.Grammar.{Named, Fresh, FreshJob, job_words}
+use Rattle.script_reader.specs.Grammar.{Named, Fresh, FreshJob, job_words, operand_word, IsOperand, PlacesWords, CountWords}
 use Rattle.script_reader.proofs.Numbers.{own, number_digits, number_some}
 use Rattle.script_reader.proofs.Truths.{both_true, le-from_true, lt-from_true}
 
@@ -121,6 +123,46 @@ number_in low high n w ws rest (Some m) v e =
 pub number_found : (low high n : ℕ) (ws rest : List (List ℕ)) → number_at low high ws ≡ Ok (n, rest) → (ws ≡ decimal n ∷ rest) × (low ≤ n) × (n ≤ high)
 number_found low high n [] rest e = cc
 number_found low high n (w ∷ ws) rest e = number_in low high n w ws rest (value_at w) refl e
+
+-- ---- what may be left out
+
+places_as : (b : Bool) (w : List ℕ) (ws rest : List (List ℕ)) (n : ℕ) (k : FaultKind) → bytes_eq w (codes "places") ≡ b → (if b then number_at 1 1048576 ws else Err k) ≡ Ok (n, rest) → rest ≡ [] → PlacesWords (w ∷ ws) n
+places_as true w ws rest n k t ok none =
+    let r = number_found 1 1048576 n ws rest ok in
+    (ap (λ v. v ∷ ws) ((bytes_eq-Decides w (codes "places")).0 t) ∙ ap (λ l. codes "places" ∷ l) (r.0 ∙ ap (λ l. decimal n ∷ l) none), r.1, r.2)
+places_as false w ws rest n k t ok none = cc
+
+pub places_found : (ws rest : List (List ℕ)) (n : ℕ) → places_at ws ≡ Ok (n, rest) → rest ≡ [] → PlacesWords ws n
+places_found [] rest n ok none = sym (ok_pair default_places n [] rest (Ok (default_places, [])) refl ok).0
+places_found (w ∷ ws) rest n ok none = places_as (bytes_eq w (codes "places")) w ws rest n _ refl ok none
+
+pub count_found : (ws rest : List (List ℕ)) (n : ℕ) → count_at ws ≡ Ok (n, rest) → rest ≡ [] → CountWords ws n
+count_found [] rest n ok none = sym (ok_pair 1 n [] rest (Ok (1, [])) refl ok).0
+count_found (w ∷ ws) rest n ok none = let r = number_found 1 16000 n (w ∷ ws) rest ok in (r.0 ∙ ap (λ l. decimal n ∷ l) none, r.1, r.2)
+
+-- ---- operands
+
+operand_word_found : (b : Bool) (w e : List ℕ) (ws rest : List (List ℕ)) (o v : Operand) (next : Result (Operand × List (List ℕ)) FaultKind) → operand_word o ≡ e → IsOperand o → bytes_eq w e ≡ b → (next ≡ Ok (v, rest) → ((w ∷ ws) ≡ operand_word v ∷ rest) × IsOperand v) → if◌then◌else◌ {A = Result (Operand × List (List ℕ)) FaultKind} b (Ok (o, ws)) next ≡ Ok (v, rest) → ((w ∷ ws) ≡ operand_word v ∷ rest) × IsOperand v
+operand_word_found true w e ws rest o v next is fits t more ok =
+    let p = ok_pair o v ws rest (Ok (o, ws)) refl ok in
+    subst (λ x. ((w ∷ ws) ≡ operand_word x ∷ rest) × IsOperand x) p.0 (ap (λ u. u ∷ ws) ((bytes_eq-Decides w e).0 t ∙ sym is) ∙ ap (λ l. operand_word o ∷ l) p.1, fits)
+operand_word_found false w e ws rest o v next is fits t more ok = more ok
+
+operand_number_found : (ws rest : List (List ℕ)) (v : Operand) → numbered (number_at 0 4294967295 ws) ≡ Ok (v, rest) → (ws ≡ operand_word v ∷ rest) × IsOperand v
+operand_number_found ws rest v ok =
+    let x = bind_ok {B = Operand × List (List ℕ)} (number_at 0 4294967295 ws) (λ n. Ok (Number n.0, n.1)) (v, rest) ok in
+    let r = number_found 0 4294967295 x.0.0 ws x.0.1 x.1 in
+    let p = ok_pair (Number x.0.0) v x.0.1 rest (Ok (Number x.0.0, x.0.1)) refl x.2 in
+    subst (λ o. (ws ≡ operand_word o ∷ rest) × IsOperand o) p.0 (r.0 ∙ ap (λ l. decimal x.0.0 ∷ l) p.1, omega (arith, r.2))
+
+pub operand_found : (ws rest : List (List ℕ)) (v : Operand) → operand_at ws ≡ Ok (v, rest) → (ws ≡ operand_word v ∷ rest) × IsOperand v
+operand_found [] rest v ok = cc
+operand_found (w ∷ ws) rest v ok =
+    operand_word_found (bytes_eq w (codes "it")) w (codes "it") ws rest It v _ refl tt refl
+    (λ more. operand_word_found (bytes_eq w (codes "sum")) w (codes "sum") ws rest Sum v _ refl tt refl (λ last. operand_number_found (w ∷ ws) rest v last) more)
+    ok
+
+-- ---- limits
 
 few_ok : (limit count : ℕ) (u : Unit {0}) (b : Bool) (k : FaultKind) → nat_le count limit ≡ b → if◌then◌else◌ {A = Result (Unit {0}) FaultKind} b (Ok tt) (Err k) ≡ Ok u → count ≤ limit
 few_ok limit count u true k t e = le-from_true count limit t

@@ -1,5 +1,5 @@
 -- A line that is read says what the grammar says.
-use Rattle.std.proofs.Common.{◌≡◌, ℕ, ◌+◌, List, ◌∷◌, refl, ap, sym, ◌∙◌, arith, Result, Ok, Err, Bool, true, false, Option, Some, None, length, if◌then◌else◌, subst, ◌⊎◌, inl, inr}
+use Rattle.std.proofs.Common.{◌≡◌, ℕ, ◌+◌, ◌*◌, List, ◌∷◌, refl, ap, sym, ◌∙◌, arith, Result, Ok, Err, Bool, true, false, Option, Some, None, length, if◌then◌else◌, subst, ◌⊎◌, inl, inr}
 use Rattle.std.specs.Prelude.{is_some}
 use Rattle.std.specs.Fmt.{decimal}
 use Rattle.std.specs.Str.{bytes_eq}
@@ -7,29 +7,36 @@ use Rattle.std.proofs.lemmas.Slice.Eq.{bytes_eq-Decides}
 use lib.Chars.{codes}
 use Rattle.script_reader.specs.declared.fault.FaultKind.{FaultKind}
 use Rattle.script_reader.specs.Faults.{◌>>=◌}
-use Rattle.script_reader.specs.Programs.{Block}
-use Rattle.script_reader.specs.Places.{word_at, end_at, at_most, number_at, new_at, known_at, other_than_main, job_at}
+use Rattle.script_reader.specs.Programs.{Block, places_in}
+use Rattle.script_reader.specs.Places.{word_at, end_at, at_most, number_at, places_at, count_at, operand_at, new_at, known_at, other_than_main, job_at}
 use Rattle.script_reader.specs.Forms.{Read, Form, channel_is, coroutine_is, spawn_is, send_is, receive_is, yield_is, launch_is, start_is, cancel_is, fail_is, result_is, end_is, channel_names, block_names, weight_of, new_load, grown_load, target_at, channel_line, coroutine_line, spawn_line, send_line, receive_line, launch_line, start_line, cancel_line, yield_line, fail_line, result_line, end_line, outside, of_job, inside, form_at, after}
 use Rattle.script_reader.specs.Texts.{step}
-use Rattle.script_reader.specs.Grammar.{Says, launch_word}
-use Rattle.script_reader.proofs.Found.{bind_ok, ok_is, word_found, end_found, new_found, known_found, number_found, at_most_found, other_than_main_found, target_found, job_found}
+use Rattle.script_reader.specs.Grammar.{Says, launch_word, operand_word}
+use Rattle.script_reader.proofs.Found.{bind_ok, ok_is, word_found, end_found, new_found, known_found, number_found, places_found, count_found, operand_found, at_most_found, other_than_main_found, target_found, job_found}
 
 form_ok : (f g : Form) → ((Ok f) >>= λ x. Ok x) ≡ Ok g → f ≡ g
 form_ok f g e = cc
 
+-- what says a form says one that is equal to it
+said_is : (s : Read) (words : List (List ℕ)) (f g : Form) → ((Ok f) >>= λ x. Ok x) ≡ Ok g → Says s words f → Says s words g
+said_is s words f g e says = subst (Says s words) (form_ok f g e) says
+
 pub channel_found : (s : Read) (ws : List (List ℕ)) (f : Form) → s.block ≡ None → channel_line s ws ≡ Ok f → Says s (codes "channel" ∷ ws) f
 channel_found s ws f out ok =
     let few = length s.channels + 1 in
-    let x = bind_ok (new_at (channel_names s.channels) ws) (λ n. word_at (codes "rendezvous") n.1 >>= λ r. end_at r >>= λ u. at_most 256 few >>= λ m. Ok (channel_is n.0)) f ok in
-    let y = bind_ok (word_at (codes "rendezvous") x.0.1) (λ r. end_at r >>= λ u. at_most 256 few >>= λ m. Ok (channel_is x.0.0)) f x.2 in
-    let z = bind_ok (end_at y.0) (λ u. at_most 256 few >>= λ m. Ok (channel_is x.0.0)) f y.2 in
-    let m = bind_ok (at_most 256 few) (λ u. Ok (channel_is x.0.0)) f z.2 in
+    let places = places_in s.channels in
+    let x = bind_ok (new_at (channel_names s.channels) ws) (λ n. word_at (codes "rendezvous") n.1 >>= λ r. places_at r >>= λ k. end_at k.1 >>= λ u. at_most 256 few >>= λ m. at_most 4194304 (places + k.0) >>= λ l. Ok (channel_is n.0 k.0)) f ok in
+    let y = bind_ok (word_at (codes "rendezvous") x.0.1) (λ r. places_at r >>= λ k. end_at k.1 >>= λ u. at_most 256 few >>= λ m. at_most 4194304 (places + k.0) >>= λ l. Ok (channel_is x.0.0 k.0)) f x.2 in
+    let k = bind_ok (places_at y.0) (λ k. end_at k.1 >>= λ u. at_most 256 few >>= λ m. at_most 4194304 (places + k.0) >>= λ l. Ok (channel_is x.0.0 k.0)) f y.2 in
+    let z = bind_ok (end_at k.0.1) (λ u. at_most 256 few >>= λ m. at_most 4194304 (places + k.0.0) >>= λ l. Ok (channel_is x.0.0 k.0.0)) f k.2 in
+    let m = bind_ok (at_most 256 few) (λ u. at_most 4194304 (places + k.0.0) >>= λ l. Ok (channel_is x.0.0 k.0.0)) f z.2 in
+    let l = bind_ok (at_most 4194304 (places + k.0.0)) (λ u. Ok (channel_is x.0.0 k.0.0)) f m.2 in
     let a = new_found (channel_names s.channels) ws x.0.0 x.0.1 x.1 in
     let b = word_found (codes "rendezvous") x.0.1 y.0 y.1 in
-    let c = end_found y.0 z.0 z.1 in
+    let c = places_found y.0 k.0.1 k.0.0 k.1 (end_found k.0.1 z.0 z.1) in
     let d = at_most_found 256 few m.0 m.1 in
-    subst (Says s (codes "channel" ∷ ws)) (form_ok (channel_is x.0.0) f m.2)
-    (out, ap (λ l. codes "channel" ∷ l) (a.0 ∙ ap (λ l. x.0.0 ∷ l) (b ∙ ap (λ l. codes "rendezvous" ∷ l) c)), a.1, omega (arith, d))
+    said_is s (codes "channel" ∷ ws) (channel_is x.0.0 k.0.0) f l.2
+    (y.0, out, ap (λ l. codes "channel" ∷ l) (a.0 ∙ ap (λ l. x.0.0 ∷ l) b), c, a.1, omega (arith, d), at_most_found 4194304 (places + k.0.0) l.0 l.1)
 
 pub coroutine_found : (s : Read) (ws : List (List ℕ)) (f : Form) → s.block ≡ None → coroutine_line s ws ≡ Ok f → Says s (codes "coroutine" ∷ ws) f
 coroutine_found s ws f out ok =
@@ -44,27 +51,29 @@ coroutine_found s ws f out ok =
 
 pub spawn_found : (s : Read) (ws : List (List ℕ)) (f : Form) → s.block ≡ None → spawn_line s ws ≡ Ok f → Says s (codes "spawn" ∷ ws) f
 spawn_found s ws f out ok =
-    let x = bind_ok (known_at (block_names s.blocks) ws) (λ b. other_than_main ws >>= λ o. end_at b.1 >>= λ u. at_most 16000 (s.load + weight_of s b.0) >>= λ m. Ok (spawn_is b.0)) f ok in
-    let count = s.load + weight_of s x.0.0 in
-    let y = bind_ok (other_than_main ws) (λ o. end_at x.0.1 >>= λ u. at_most 16000 count >>= λ m. Ok (spawn_is x.0.0)) f x.2 in
-    let z = bind_ok (end_at x.0.1) (λ u. at_most 16000 count >>= λ m. Ok (spawn_is x.0.0)) f y.2 in
-    let m = bind_ok (at_most 16000 count) (λ u. Ok (spawn_is x.0.0)) f z.2 in
+    let x = bind_ok (known_at (block_names s.blocks) ws) (λ b. other_than_main ws >>= λ o. count_at b.1 >>= λ k. end_at k.1 >>= λ u. at_most 16000 (s.load + k.0 * weight_of s b.0) >>= λ m. Ok (spawn_is b.0 k.0)) f ok in
+    let weight = weight_of s x.0.0 in
+    let y = bind_ok (other_than_main ws) (λ o. count_at x.0.1 >>= λ k. end_at k.1 >>= λ u. at_most 16000 (s.load + k.0 * weight) >>= λ m. Ok (spawn_is x.0.0 k.0)) f x.2 in
+    let k = bind_ok (count_at x.0.1) (λ k. end_at k.1 >>= λ u. at_most 16000 (s.load + k.0 * weight) >>= λ m. Ok (spawn_is x.0.0 k.0)) f y.2 in
+    let load = s.load + k.0.0 * weight in
+    let z = bind_ok (end_at k.0.1) (λ u. at_most 16000 load >>= λ m. Ok (spawn_is x.0.0 k.0.0)) f k.2 in
+    let m = bind_ok (at_most 16000 load) (λ u. Ok (spawn_is x.0.0 k.0.0)) f z.2 in
     let a = known_found (block_names s.blocks) ws x.0.0 x.0.1 x.1 in
     let b = other_than_main_found ws a.0 x.0.1 y.0 a.1 y.1 in
-    let c = end_found x.0.1 z.0 z.1 in
-    subst (Says s (codes "spawn" ∷ ws)) (form_ok (spawn_is x.0.0) f m.2)
-    (a.0, out, ap (λ l. codes "spawn" ∷ l) (a.1 ∙ ap (λ l. a.0 ∷ l) c), a.2, b, at_most_found 16000 count m.0 m.1)
+    let c = count_found x.0.1 k.0.1 k.0.0 k.1 (end_found k.0.1 z.0 z.1) in
+    said_is s (codes "spawn" ∷ ws) (spawn_is x.0.0 k.0.0) f m.2
+    (a.0, x.0.1, out, ap (λ l. codes "spawn" ∷ l) a.1, c, a.2, b, at_most_found 16000 load m.0 m.1)
 
 pub send_found : (s : Read) (ws : List (List ℕ)) (f : Form) → is_some s.block ≡ true → send_line s ws ≡ Ok f → Says s (codes "send" ∷ ws) f
 send_found s ws f within ok =
-    let x = bind_ok (known_at (channel_names s.channels) ws) (λ c. number_at 0 4294967295 c.1 >>= λ v. end_at v.1 >>= λ u. Ok (send_is c.0 v.0)) f ok in
-    let y = bind_ok (number_at 0 4294967295 x.0.1) (λ v. end_at v.1 >>= λ u. Ok (send_is x.0.0 v.0)) f x.2 in
+    let x = bind_ok (known_at (channel_names s.channels) ws) (λ c. operand_at c.1 >>= λ v. end_at v.1 >>= λ u. Ok (send_is c.0 v.0)) f ok in
+    let y = bind_ok (operand_at x.0.1) (λ v. end_at v.1 >>= λ u. Ok (send_is x.0.0 v.0)) f x.2 in
     let z = bind_ok (end_at y.0.1) (λ u. Ok (send_is x.0.0 y.0.0)) f y.2 in
     let a = known_found (channel_names s.channels) ws x.0.0 x.0.1 x.1 in
-    let b = number_found 0 4294967295 y.0.0 x.0.1 y.0.1 y.1 in
+    let b = operand_found x.0.1 y.0.1 y.0.0 y.1 in
     let c = end_found y.0.1 z.0 z.1 in
     subst (Says s (codes "send" ∷ ws)) (form_ok (send_is x.0.0 y.0.0) f z.2)
-    (a.0, within, ap (λ l. codes "send" ∷ l) (a.1 ∙ ap (λ l. a.0 ∷ l) (b.0 ∙ ap (λ l. decimal y.0.0 ∷ l) c)), a.2, omega (arith, b.2))
+    (a.0, within, ap (λ l. codes "send" ∷ l) (a.1 ∙ ap (λ l. a.0 ∷ l) (b.0 ∙ ap (λ l. operand_word y.0.0 ∷ l) c)), a.2, b.1)
 
 pub receive_found : (s : Read) (ws : List (List ℕ)) (f : Form) → is_some s.block ≡ true → receive_line s ws ≡ Ok f → Says s (codes "receive" ∷ ws) f
 receive_found s ws f within ok =
@@ -125,12 +134,12 @@ fail_found s ws f within ok =
 
 pub result_found : (s : Read) (ws : List (List ℕ)) (f : Form) → is_some s.block ≡ true → result_line ws ≡ Ok f → Says s (codes "result" ∷ ws) f
 result_found s ws f within ok =
-    let y = bind_ok (number_at 0 4294967295 ws) (λ v. end_at v.1 >>= λ u. Ok (result_is v.0)) f ok in
+    let y = bind_ok (operand_at ws) (λ v. end_at v.1 >>= λ u. Ok (result_is v.0)) f ok in
     let z = bind_ok (end_at y.0.1) (λ u. Ok (result_is y.0.0)) f y.2 in
-    let b = number_found 0 4294967295 y.0.0 ws y.0.1 y.1 in
+    let b = operand_found ws y.0.1 y.0.0 y.1 in
     let c = end_found y.0.1 z.0 z.1 in
     subst (Says s (codes "result" ∷ ws)) (form_ok (result_is y.0.0) f z.2)
-    (within, ap (λ l. codes "result" ∷ l) (b.0 ∙ ap (λ l. decimal y.0.0 ∷ l) c), omega (arith, b.2))
+    (within, ap (λ l. codes "result" ∷ l) (b.0 ∙ ap (λ l. operand_word y.0.0 ∷ l) c), b.1)
 
 -- ---- by the first word
 

@@ -1,5 +1,5 @@
--- How one more line of the open block, and one more block, change what blocks launch, name and weigh.
-use Rattle.std.proofs.Common.{◌≡◌, ℕ, ◌+◌, ◌<◌, ◌≤◌, List, [], ◌∷◌, ◌++◌, refl, ap, sym, ◌∙◌, arith, Bool, true, false, Option, Some, None, length, if◌then◌else◌, nat_lt, subst, length-append}
+-- How one more line of the open block, one more block, one more spawn and one more channel change what there is of each.
+use Rattle.std.proofs.Common.{◌≡◌, ℕ, zero, suc, ◌+◌, ◌*◌, ◌<◌, ◌≤◌, List, [], ◌∷◌, ◌++◌, refl, ap, sym, ◌∙◌, arith, Bool, true, false, Option, Some, None, length, if◌then◌else◌, nat_lt, subst, length-append, append_assoc, replicate}
 use Rattle.std.specs.Prelude.{◌==◌, is_some}
 use Rattle.std.specs.Str.{bytes_eq}
 use Rattle.std.proofs.lemmas.List.{append-nil, get_or_append_left}
@@ -8,7 +8,7 @@ use Rattle.std.proofs.lemmas.Slice.Eq.{bytes_eq-Decides}
 use lib.Chars.{codes}
 use Rattle.script_reader.specs.declared.script.Instruction.{Instruction}
 use Rattle.script_reader.specs.declared.script.Instruction.TheVariants.{Send, Receive, Yield, Launch, Start, Cancel, Fail, SetResult}
-use Rattle.script_reader.specs.Programs.{Block, names_channel, names_channels, block_named, knows_jobs, is_next_job, jobs_after_name, launched, launch_back, laid_out, layouts, size_in}
+use Rattle.script_reader.specs.Programs.{Block, Declared, places_in, spawned_by, names_channel, names_channels, block_named, knows_jobs, is_next_job, jobs_after_name, launched, launch_back, laid_out, layouts, size_in}
 use Rattle.script_reader.specs.Places.{place_from, is_main}
 use Rattle.script_reader.specs.Forms.{block_names, with_launch}
 use Rattle.script_reader.specs.Reading.{IsBlock, IsOpen, block_names_channels, jobs_after, closed_main, open_main}
@@ -133,7 +133,7 @@ block_line bs w b x ok knows names none =
       few_jobs = ok.few_jobs;
     }
 
-pub length-laid_out-push : (l : List (List ℕ)) (js : List ℕ) (i : ℕ) → length (laid_out l (js ++ i ∷ [])) ≡ length (laid_out l js) + length (layout l i)
+length-laid_out-push : (l : List (List ℕ)) (js : List ℕ) (i : ℕ) → length (laid_out l (js ++ i ∷ [])) ≡ length (laid_out l js) + length (layout l i)
 length-laid_out-push l js i =
     omega (arith, ap length (laid_out-append l js (i ∷ [])), length-append (laid_out l js) (laid_out l (i ∷ [])), length-append (layout l i) [])
 
@@ -167,3 +167,25 @@ channels-launch n b i lazy (Some name) e = all_push (names_channel n) b.code (La
 pub open_block : (o : Option Block) → is_some o ≡ true → (b : Block) × (o ≡ Some b)
 open_block None e = cc
 open_block (Some b) e = (b, refl)
+
+-- ---- spawns
+
+spawned_by-push : (spawns : List (ℕ × ℕ)) (s : ℕ × ℕ) → spawned_by (spawns ++ s ∷ []) ≡ spawned_by spawns ++ replicate s.1 s.0
+spawned_by-push [] s = append-nil (replicate s.1 s.0)
+spawned_by-push (x ∷ spawns) s = ap (λ l. replicate x.1 x.0 ++ l) (spawned_by-push spawns s) ∙ sym (append_assoc (replicate x.1 x.0) (spawned_by spawns) (replicate s.1 s.0))
+
+length-laid_out-replicate : (l : List (List ℕ)) (n i : ℕ) → length (laid_out l (replicate n i)) ≡ n * length (layout l i)
+length-laid_out-replicate l zero i = omega arith
+length-laid_out-replicate l (suc n) i = omega (arith, length-laid_out-replicate l n i, length-append (layout l i) (laid_out l (replicate n i)))
+
+-- one more spawn takes what so many instances take
+pub length-laid_out-spawn : (l : List (List ℕ)) (spawns : List (ℕ × ℕ)) (i n : ℕ) → length (laid_out l (spawned_by (spawns ++ (i, n) ∷ []))) ≡ length (laid_out l (spawned_by spawns)) + n * length (layout l i)
+length-laid_out-spawn l spawns i n =
+    let e = ap (λ js. length (laid_out l js)) (spawned_by-push spawns (i, n)) in
+    omega (arith, e, ap length (laid_out-append l (spawned_by spawns) (replicate n i)), length-append (laid_out l (spawned_by spawns)) (laid_out l (replicate n i)), length-laid_out-replicate l n i)
+
+-- ---- channels
+
+pub places_in-push : (cs : List Declared) (c : Declared) → places_in (cs ++ c ∷ []) ≡ places_in cs + c.places
+places_in-push [] c = omega arith
+places_in-push (d ∷ cs) c = omega (arith, places_in-push cs c)

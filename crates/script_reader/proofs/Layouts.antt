@@ -1,5 +1,5 @@
 -- The layouts of blocks, the tags of a script, and what the lines of each tag name.
-use Rattle.std.proofs.Common.{◌≡◌, ◌≢◌, ℕ, zero, suc, ◌+◌, ◌-◌, ◌<◌, ◌≤◌, Bool, true, false, nat_lt, List, [], ◌∷◌, ◌++◌, length, Option, Some, None, refl, ap, sym, ◌∙◌, subst, arith, get_or, slice_get, if◌then◌else◌, append_assoc, length-append}
+use Rattle.std.proofs.Common.{◌≡◌, ◌≢◌, ℕ, zero, suc, ◌+◌, ◌-◌, ◌<◌, ◌≤◌, Bool, true, false, nat_lt, List, [], ◌∷◌, ◌++◌, length, Option, Some, None, refl, ap, sym, ◌∙◌, subst, arith, get_or, slice_get, if◌then◌else◌, append_assoc, length-append, replicate}
 use Rattle.std.specs.Prelude.{is_some}
 use Rattle.std.specs.List.{list_all}
 use Rattle.std.proofs.lemmas.List.{get_or_append_left, get_or-map, length-map}
@@ -8,7 +8,7 @@ use Rattle.std.proofs.lemmas.Option.{slice_get_read}
 use Rattle.std.specs.Str.{bytes_eq}
 use lib.Chars.{codes}
 use Rattle.script_reader.specs.declared.script.Instruction.{Instruction}
-use Rattle.script_reader.specs.Programs.{Program, Block, IsProgram, launched, laid_out, layouts_from, layouts, size_in, sizes_in, block_named, code_of_block, tags_for, tags_of, coroutine_count, block_of_tag, code_at, code_of, size_of, sizes_of, names_channel, knows_jobs, launch_back}
+use Rattle.script_reader.specs.Programs.{Program, Block, IsProgram, launched, laid_out, layouts_from, layouts, size_in, sizes_in, block_named, code_of_block, tags_for, tags_of, coroutine_count, block_of_tag, code_at, code_of, size_of, sizes_of, names_channel, knows_jobs, launch_back, spawned_by, spawned, is_spawn}
 use Rattle.script_reader.proofs.Truths.{both, both_true, lt-from_true, lt-true, le-from_lt_false}
 
 -- ---- tests of all elements
@@ -26,6 +26,14 @@ pub all_push : {X : Type 0} (test : X → Bool) (xs : List X) (x : X) → list_a
 all_push test [] x all h = both (test x) true h refl
 all_push test (y ∷ ys) x all h = let two = both_true (test y) (list_all test ys) all in both (test y) _ two.0 (all_push test ys x two.1 h)
 
+pub all_append : {X : Type 0} (test : X → Bool) (xs ys : List X) → list_all test xs ≡ true → list_all test ys ≡ true → list_all test (xs ++ ys) ≡ true
+all_append test [] ys all more = more
+all_append test (x ∷ xs) ys all more = let two = both_true (test x) (list_all test xs) all in both (test x) _ two.0 (all_append test xs ys two.1 more)
+
+all_replicate : {X : Type 0} (test : X → Bool) (n : ℕ) (x : X) → test x ≡ true → list_all test (replicate n x) ≡ true
+all_replicate test zero x h = refl
+all_replicate test (suc n) x h = both (test x) _ h (all_replicate test n x h)
+
 pub below_more : (m n : ℕ) → m ≤ n → (i : ℕ) → nat_lt i m ≡ true → nat_lt i n ≡ true
 below_more m n le i e = let h = lt-from_true i m e in lt-true i n (omega arith)
 
@@ -35,6 +43,19 @@ all_below n js = list_all (λ j. nat_lt j n) js
 
 pub all_below-more : (m n : ℕ) → m ≤ n → (js : List ℕ) → all_below m js ≡ true → all_below n js ≡ true
 all_below-more m n le js all = all_weaker (λ j. nat_lt j m) (λ j. nat_lt j n) (below_more m n le) js all
+
+-- ---- spawned instances
+
+-- the blocks of spawns of n blocks are below n
+pub all_spawned : (n : ℕ) (spawns : List (ℕ × ℕ)) → list_all (is_spawn n) spawns ≡ true → all_below n (spawned_by spawns) ≡ true
+all_spawned n [] all = refl
+all_spawned n (s ∷ spawns) all =
+    let two = both_true (is_spawn n s) (list_all (is_spawn n) spawns) all in
+    let below = (both_true (nat_lt s.0 n) _ two.0).0 in
+    all_append (λ j. nat_lt j n) (replicate s.1 s.0) (spawned_by spawns) (all_replicate (λ j. nat_lt j n) s.1 s.0 below) (all_spawned n spawns two.1)
+
+pub is_spawn-more : (m n : ℕ) → m ≤ n → (s : ℕ × ℕ) → is_spawn m s ≡ true → is_spawn n s ≡ true
+is_spawn-more m n le s e = let two = both_true (nat_lt s.0 m) _ e in both (nat_lt s.0 n) _ (below_more m n le s.0 two.0) two.1
 
 -- ---- layouts
 
@@ -232,6 +253,10 @@ pub code_known : (test : List Instruction → Bool) → test [] ≡ true → (p 
 code_known test none p None all = none
 code_known test none p (Some i) all = in_block test none p.blocks i (slice_get p.blocks i) all refl
 
+-- what is spawned is declared
+pub spawned_known : (p : Program) → IsProgram p → all_below (length p.blocks) (spawned p) ≡ true
+spawned_known p ok = all_spawned (length p.blocks) p.spawns ok.spawns
+
 pub launched_known : (p : Program) (k : ℕ) → IsProgram p → list_all (λ j. nat_lt j (length p.blocks)) (launched (code_of p k)) ≡ true
 launched_known p k ok = code_known (λ code. all_below (length p.blocks) (launched code)) refl p (block_of_tag p k) (launched_each (length p.blocks) 0 p.blocks (omega arith) ok.launches)
 
@@ -267,15 +292,15 @@ abbrev pub main_launches : Program → ℕ → List ℕ
 main_launches p main = launched (code_of_block (slice_get p.blocks main))
 
 -- main's tag, those of the spawns, and those of what main launches
-pub tags_of-main : (p : Program) (main : ℕ) → block_named (codes "main") 0 p.blocks ≡ Some main → tags_of p ≡ main ∷ (laid_out (layouts p.blocks) p.spawns ++ laid_out (layouts p.blocks) (main_launches p main))
-tags_of-main p main is = ap (tags_for p.blocks p.spawns) is
+pub tags_of-main : (p : Program) (main : ℕ) → block_named (codes "main") 0 p.blocks ≡ Some main → tags_of p ≡ main ∷ (laid_out (layouts p.blocks) (spawned p) ++ laid_out (layouts p.blocks) (main_launches p main))
+tags_of-main p main is = ap (tags_for p.blocks (spawned p)) is
 
-pub count-main : (p : Program) (main : ℕ) → block_named (codes "main") 0 p.blocks ≡ Some main → coroutine_count p ≡ 1 + sizes_of p p.spawns + sizes_of p (main_launches p main)
+pub count-main : (p : Program) (main : ℕ) → block_named (codes "main") 0 p.blocks ≡ Some main → coroutine_count p ≡ 1 + sizes_of p (spawned p) + sizes_of p (main_launches p main)
 count-main p main is =
     let l = layouts p.blocks in
-    omega (arith, ap length (tags_of-main p main is), length-append (laid_out l p.spawns) (laid_out l (main_launches p main)), length-laid_out p p.spawns, length-laid_out p (main_launches p main))
+    omega (arith, ap length (tags_of-main p main is), length-append (laid_out l (spawned p)) (laid_out l (main_launches p main)), length-laid_out p (spawned p), length-laid_out p (main_launches p main))
 
-pub main_fits : (p : Program) → IsProgram p → 1 + sizes_of p p.spawns + sizes_of p (launched (code_of p 0)) ≤ coroutine_count p
+pub main_fits : (p : Program) → IsProgram p → 1 + sizes_of p (spawned p) + sizes_of p (launched (code_of p 0)) ≤ coroutine_count p
 main_fits p ok =
     let m = main_block p ok in
     let lines : code_of p 0 ≡ code_of_block (slice_get p.blocks m.0) = ap (λ tags. code_at p (slice_get tags 0)) (tags_of-main p m.0 m.1) in
@@ -289,10 +314,10 @@ Roomy-tags p ok =
     let n = length p.blocks in
     let js = main_launches p m.0 in
     let all : all_below n js ≡ true = in_block (λ code. all_below n (launched code)) refl p.blocks m.0 (slice_get p.blocks m.0) (launched_each n 0 p.blocks (omega arith) ok.launches) refl in
-    let room : length (layout l m.0) ≤ length (laid_out l p.spawns ++ laid_out l js) + 1 = omega (arith, ap length (layout-next p.blocks m.0 ok.launches m.2), length-append (laid_out l p.spawns) (laid_out l js)) in
+    let room : length (layout l m.0) ≤ length (laid_out l (spawned p) ++ laid_out l js) + 1 = omega (arith, ap length (layout-next p.blocks m.0 ok.launches m.2), length-append (laid_out l (spawned p)) (laid_out l js)) in
     subst (Roomy l n) (sym (tags_of-main p m.0 m.1))
-    (Roomy-first l n m.0 (laid_out l p.spawns ++ laid_out l js) m.2 room
-    (Roomy-append l n (laid_out l p.spawns) (laid_out l js) (Roomy-all p.blocks p.spawns ok.launches ok.spawns) (Roomy-all p.blocks js ok.launches all)))
+    (Roomy-first l n m.0 (laid_out l (spawned p) ++ laid_out l js) m.2 room
+    (Roomy-append l n (laid_out l (spawned p)) (laid_out l js) (Roomy-all p.blocks (spawned p) ok.launches (spawned_known p ok)) (Roomy-all p.blocks js ok.launches all)))
 
 -- the number of the block that a tag runs
 pub block_of_tag-some : (p : Program) → IsProgram p → (tag : ℕ) → tag < coroutine_count p → (i : ℕ) × (block_of_tag p tag ≡ Some i) × (i < length p.blocks)

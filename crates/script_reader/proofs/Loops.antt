@@ -9,7 +9,7 @@ use Rattle.script_reader.specs.declared.fault.FaultKind.TheVariants as kinds
 use Rattle.script_reader.specs.declared.fault.ScriptFault.{ScriptFault}
 use Rattle.script_reader.specs.declared.reading.Reading.{Reading}
 use Rattle.script_reader.specs.declared.script.Coroutine.{Coroutine}
-use Rattle.script_reader.specs.Programs.{Program, Block, IsProgram, declared_of, block_of, block_named, layouts}
+use Rattle.script_reader.specs.Programs.{Program, Block, IsProgram, spawned, declared_of, block_of, block_named, layouts}
 use Rattle.script_reader.specs.Faults.{Unless, in_line, ◌>>>◌}
 use Rattle.script_reader.specs.Words.{texts, text_length, all_plain, words_of, lines_of}
 use Rattle.script_reader.specs.Forms.{Read, start}
@@ -114,6 +114,7 @@ few_jobs bs w (Some c) light ok = omega (arith, light, ok.few_jobs, length-map c
 pub Few-from : (left : ℕ) (r : Reading) → Fits left (view r) → Few r
 Few-from left r fits = record {
   channels = omega (arith, fits.sound.few_channels, length-map r.channels.items declared_of);
+  places = fits.sound.few_places;
   coroutines = omega (arith, fits.length, blocks-cost (view r), length-map r.coroutines.items block_of);
   jobs = few_jobs (view r).blocks r.weight r.block fits.sound.light fits.sound.open_block;
   weight = fits.sound.light;
@@ -131,10 +132,11 @@ IsProgram-from s i sound out main =
     record {
       few_channels = sound.few_channels;
       channels = sound.channels;
+      few_places = sound.few_places;
       blocks = sound.blocks;
       jobs = sound.jobs;
       launches = sound.launches;
       spawns = sound.spawns;
       has_main = ap is_some main;
-      few_coroutines = omega (arith, sound.few_coroutines, sound.load, closed, open_none, ap length next, count-main p i main, length-laid_out p s.spawns, length-laid_out p (main_launches p i));
+      few_coroutines = omega (arith, sound.few_coroutines, sound.load, closed, open_none, ap length next, count-main p i main, length-laid_out p (spawned p), length-laid_out p (main_launches p i));
     }

@@ -1,5 +1,5 @@
 -- What a line says keeps the script so far sound, and within what memory counts.
-use Rattle.std.proofs.Common.{◌≡◌, ℕ, ◌+◌, ◌*◌, ◌<◌, ◌≤◌, List, [], ◌∷◌, ◌++◌, refl, ap, sym, ◌∙◌, arith, Bool, true, false, Option, Some, None, length, map, get_or, if◌then◌else◌, nat_lt, subst, length-append}
+use Rattle.std.proofs.Common.{◌≡◌, ℕ, ◌+◌, ◌*◌, ◌<◌, ◌≤◌, List, [], ◌∷◌, ◌++◌, refl, ap, sym, ◌∙◌, arith, Bool, true, false, Option, Some, None, length, map, get_or, if◌then◌else◌, nat_lt, nat_le, subst, length-append}
 use Rattle.std.specs.Prelude.{is_some}
 use Rattle.std.specs.Str.{bytes_eq}
 use Rattle.std.proofs.lemmas.List.{length-map, map-append, get_or-map}
@@ -7,15 +7,15 @@ use lib.Chars.{codes}
 use Rattle.channel_model.specs.declared.acts.Kind.TheVariants.{Rendezvous}
 use Rattle.script_reader.specs.declared.script.Instruction.{Instruction}
 use Rattle.script_reader.specs.declared.script.Instruction.TheVariants.{Send, Receive, Yield, Launch, Start, Cancel, Fail, SetResult}
-use Rattle.script_reader.specs.Programs.{Block, Declared, is_declared, names_channel, names_channels, block_named, knows_jobs, launched, laid_out, layouts, layouts_from, sizes_in, size_in}
+use Rattle.script_reader.specs.Programs.{Block, Declared, is_declared, is_spawn, spawned_by, names_channel, names_channels, block_named, knows_jobs, launched, laid_out, layouts, layouts_from, sizes_in, size_in}
 use Rattle.script_reader.specs.Words.{text_length}
 use Rattle.script_reader.specs.Places.{is_name, place_from, is_main}
 use Rattle.script_reader.specs.Forms.{Read, Form, start, channel_is, coroutine_is, spawn_is, send_is, receive_is, yield_is, launch_is, start_is, cancel_is, fail_is, result_is, end_is, channel_names, block_names, weight_of, grown_load, open_load, with_line, with_launch, closed, closed_weight, after}
 use Rattle.script_reader.specs.Reading.{IsSound, IsBlock, IsOpen, block_names_channels, jobs_after, closed_main, open_main}
-use Rattle.script_reader.specs.Grammar.{Named, Says, SayAll}
-use Rattle.script_reader.proofs.Truths.{both, lt-true}
-use Rattle.script_reader.proofs.Growing.{block_line, IsOpen-launch, open_main-launch, channels-launch, open_block, length-laid_out-push, layout-push, main-push, launch_back-push}
-use Rattle.script_reader.proofs.Layouts.{all_push, all_weaker, below_more, all_below, all_below-more, next_layout, layouts-push, length-layouts, laid_out-same}
+use Rattle.script_reader.specs.Grammar.{Named, Says, SayAll, PlacesWords, CountWords}
+use Rattle.script_reader.proofs.Truths.{both, lt-true, le-true}
+use Rattle.script_reader.proofs.Growing.{block_line, IsOpen-launch, open_main-launch, channels-launch, open_block, length-laid_out-spawn, places_in-push, layout-push, main-push, launch_back-push}
+use Rattle.script_reader.proofs.Layouts.{all_push, all_weaker, below_more, all_below, all_spawned, is_spawn-more, next_layout, layouts-push, length-layouts, laid_out-same}
 
 -- ---- channels of lines
 
@@ -57,9 +57,17 @@ job_within names j name is = let h = place_from-within 0 name names j is.first i
 
 -- ---- each form
 
+places_range : (words : List (List ℕ)) (n : ℕ) → PlacesWords words n → (1 ≤ n) × (n ≤ 1048576)
+places_range [] n is = (omega (arith, is), omega (arith, is))
+places_range (word ∷ rest) n is = (is.1, is.2)
+
+count_range : (words : List (List ℕ)) (n : ℕ) → CountWords words n → (1 ≤ n) × (n ≤ 16000)
+count_range [] n is = (omega (arith, is), omega (arith, is))
+count_range (word ∷ rest) n is = (is.1, is.2)
+
 pub IsSound-start : IsSound start
 unfolding layouts_from
-IsSound-start = record { few_channels = omega arith; channels = refl; blocks = refl; block = refl; jobs = refl; launches = refl; open_block = tt; spawns = refl; weights = refl; load = refl; light = omega arith; few_coroutines = omega arith }
+IsSound-start = record { few_channels = omega arith; channels = refl; few_places = omega arith; blocks = refl; block = refl; jobs = refl; launches = refl; open_block = tt; spawns = refl; weights = refl; load = refl; light = omega arith; few_coroutines = omega arith }
 
 -- the weight of a block is the length of its layout
 weight_of-is : (s : Read) (i : ℕ) → IsSound s → i < length s.blocks → weight_of s i ≡ size_in s.blocks i
@@ -74,6 +82,7 @@ line_sound s b x ok is names knows same none =
     (record {
       few_channels = ok.few_channels;
       channels = ok.channels;
+      few_places = ok.few_places;
       blocks = ok.blocks;
       block = all_push (names_channel (length s.channels)) b.code x channels names;
       jobs = ok.jobs;
@@ -81,7 +90,7 @@ line_sound s b x ok is names knows same none =
       open_block = block_line s.blocks s.weight b x was knows same none;
       spawns = ok.spawns;
       weights = ok.weights;
-      load = ok.load ∙ ap (λ o. closed_main (layouts s.blocks) (block_named (codes "main") 0 s.blocks) + open_main s.weight o + length (laid_out (layouts s.blocks) s.spawns)) is;
+      load = ok.load ∙ ap (λ o. closed_main (layouts s.blocks) (block_named (codes "main") 0 s.blocks) + open_main s.weight o + length (laid_out (layouts s.blocks) (spawned_by s.spawns))) is;
       light = ok.light;
       few_coroutines = ok.few_coroutines;
     })
@@ -96,6 +105,7 @@ launch_sound s b i lazy job ok is within light few =
     (record {
       few_channels = ok.few_channels;
       channels = ok.channels;
+      few_places = ok.few_places;
       blocks = ok.blocks;
       block = channels-launch (length s.channels) b i lazy job channels;
       jobs = ok.jobs;
@@ -103,13 +113,13 @@ launch_sound s b i lazy job ok is within light few =
       open_block = IsOpen-launch s.blocks s.weight v b i lazy job was within (weight_of-is s i ok within);
       spawns = ok.spawns;
       weights = ok.weights;
-      load = by_test (is_main b.name) (ok.load ∙ ap (λ o. closed_main (layouts s.blocks) (block_named (codes "main") 0 s.blocks) + open_main s.weight o + length (laid_out (layouts s.blocks) s.spawns)) is)
-          ∙ ap (λ n. closed_main (layouts s.blocks) (block_named (codes "main") 0 s.blocks) + n + length (laid_out (layouts s.blocks) s.spawns)) (sym (open_main-launch (s.weight + v) b i lazy job));
+      load = by_test (is_main b.name) (ok.load ∙ ap (λ o. closed_main (layouts s.blocks) (block_named (codes "main") 0 s.blocks) + open_main s.weight o + length (laid_out (layouts s.blocks) (spawned_by s.spawns))) is)
+          ∙ ap (λ n. closed_main (layouts s.blocks) (block_named (codes "main") 0 s.blocks) + n + length (laid_out (layouts s.blocks) (spawned_by s.spawns))) (sym (open_main-launch (s.weight + v) b i lazy job));
       light = light;
       few_coroutines = few;
     })
   where
-    by_test : (t : Bool) → s.load ≡ closed_main (layouts s.blocks) (block_named (codes "main") 0 s.blocks) + (if t then s.weight else 0) + length (laid_out (layouts s.blocks) s.spawns) → (if t then s.load + weight_of s i else s.load) ≡ closed_main (layouts s.blocks) (block_named (codes "main") 0 s.blocks) + (if t then s.weight + weight_of s i else 0) + length (laid_out (layouts s.blocks) s.spawns)
+    by_test : (t : Bool) → s.load ≡ closed_main (layouts s.blocks) (block_named (codes "main") 0 s.blocks) + (if t then s.weight else 0) + length (laid_out (layouts s.blocks) (spawned_by s.spawns)) → (if t then s.load + weight_of s i else s.load) ≡ closed_main (layouts s.blocks) (block_named (codes "main") 0 s.blocks) + (if t then s.weight + weight_of s i else 0) + length (laid_out (layouts s.blocks) (spawned_by s.spawns))
     by_test true e = omega (arith, e)
     by_test false e = e
 
@@ -122,19 +132,20 @@ end_sound s b ok is =
     let grown : length s.blocks ≤ length (s.blocks ++ b ∷ []) = omega (arith, length-append s.blocks (b ∷ [])) in
     let weighs : s.weight ≡ length (next_layout (layouts s.blocks) b) = omega (arith, was.weighs) in
     let from_zero : n ≡ 0 + n = omega arith in
-    let load : s.load ≡ closed_main (layouts s.blocks) (block_named (codes "main") 0 s.blocks) + open_main s.weight (Some b) + length (laid_out (layouts s.blocks) s.spawns) = ok.load ∙ ap (λ o. closed_main (layouts s.blocks) (block_named (codes "main") 0 s.blocks) + open_main s.weight o + length (laid_out (layouts s.blocks) s.spawns)) is in
-    let laid = laid_out-same (layouts s.blocks) (layouts (s.blocks ++ b ∷ [])) n s.spawns (layout-push s.blocks b) ok.spawns in
+    let load : s.load ≡ closed_main (layouts s.blocks) (block_named (codes "main") 0 s.blocks) + open_main s.weight (Some b) + length (laid_out (layouts s.blocks) (spawned_by s.spawns)) = ok.load ∙ ap (λ o. closed_main (layouts s.blocks) (block_named (codes "main") 0 s.blocks) + open_main s.weight o + length (laid_out (layouts s.blocks) (spawned_by s.spawns))) is in
+    let laid = laid_out-same (layouts s.blocks) (layouts (s.blocks ++ b ∷ [])) n (spawned_by s.spawns) (layout-push s.blocks b) (all_spawned n s.spawns ok.spawns) in
     let main = main-push s.blocks b s.weight was.apart weighs in
     subst (λ o. IsSound (record s { blocks = s.blocks ++ closed o; block = None; weights = s.weights ++ closed_weight o s.weight; weight = 0 })) (sym is)
     (record {
       few_channels = ok.few_channels;
       channels = ok.channels;
+      few_places = ok.few_places;
       blocks = all_push (names_channels (length s.channels)) s.blocks b ok.blocks channels;
       block = refl;
       jobs = all_push (λ x. knows_jobs 0 x.code) s.blocks b ok.jobs was.jobs;
       launches = launch_back-push 0 s.blocks b ok.launches (ap (λ m. all_below m (launched b.code)) (sym from_zero) ∙ was.launches);
       open_block = tt;
-      spawns = all_below-more n (length (s.blocks ++ b ∷ [])) grown s.spawns ok.spawns;
+      spawns = all_weaker (is_spawn n) (is_spawn (length (s.blocks ++ b ∷ []))) (is_spawn-more n (length (s.blocks ++ b ∷ [])) grown) s.spawns ok.spawns;
       weights = ap (λ l. l ++ s.weight ∷ []) ok.weights ∙ ap (λ w. sizes_in s.blocks ++ w ∷ []) weighs ∙ sym (map-append length (layouts s.blocks) (next_layout (layouts s.blocks) b ∷ [])) ∙ ap (map length) (sym (layouts-push s.blocks b));
       load = omega (arith, load, main, ap length laid);
       light = omega arith;
@@ -143,12 +154,14 @@ end_sound s b ok is =
 
 -- what a line says keeps the script sound
 pub IsSound-after : (s : Read) (words : List (List ℕ)) (form : Form) → Says s words form → IsSound s → IsSound (after form s)
-IsSound-after s words (channel_is c) says ok =
-    let d : Declared = record { name = c; kind = Rendezvous; places = 16384 } in
+IsSound-after s words (channel_is c n) says ok =
+    let d : Declared = record { name = c; kind = Rendezvous; places = n } in
+    let range = places_range says.0 n says.3 in
     let count : length (s.channels ++ d ∷ []) ≡ length s.channels + 1 = length-append s.channels (d ∷ []) in
     record {
-      few_channels = omega (arith, count, says.3);
-      channels = all_push is_declared s.channels d ok.channels refl;
+      few_channels = omega (arith, count, says.5);
+      channels = all_push is_declared s.channels d ok.channels (both (nat_le 1 n) _ (le-true 1 n range.0) (le-true n 1048576 range.1));
+      few_places = omega (arith, places_in-push s.channels d, says.6);
       blocks = all_weaker (names_channels (length s.channels)) (names_channels (length (s.channels ++ d ∷ []))) (names_more (length s.channels) (length (s.channels ++ d ∷ [])) (omega (arith, count))) s.blocks ok.blocks;
       block = block_more (length s.channels) (length (s.channels ++ d ∷ [])) (omega (arith, count)) s.block ok.block;
       jobs = ok.jobs;
@@ -162,10 +175,11 @@ IsSound-after s words (channel_is c) says ok =
     }
 IsSound-after s words (coroutine_is p) says ok =
     let b : Block = record { name = p; jobs = []; code = [] } in
-    let before : s.load ≡ closed_main (layouts s.blocks) (block_named (codes "main") 0 s.blocks) + 0 + length (laid_out (layouts s.blocks) s.spawns) = ok.load ∙ ap (λ o. closed_main (layouts s.blocks) (block_named (codes "main") 0 s.blocks) + open_main s.weight o + length (laid_out (layouts s.blocks) s.spawns)) says.0 in
+    let before : s.load ≡ closed_main (layouts s.blocks) (block_named (codes "main") 0 s.blocks) + 0 + length (laid_out (layouts s.blocks) (spawned_by s.spawns)) = ok.load ∙ ap (λ o. closed_main (layouts s.blocks) (block_named (codes "main") 0 s.blocks) + open_main s.weight o + length (laid_out (layouts s.blocks) (spawned_by s.spawns))) says.0 in
     record {
       few_channels = ok.few_channels;
       channels = ok.channels;
+      few_places = ok.few_places;
       blocks = ok.blocks;
       block = refl;
       jobs = ok.jobs;
@@ -178,25 +192,28 @@ IsSound-after s words (coroutine_is p) says ok =
       few_coroutines = says.3;
     }
   where
-    by_test : (t : Bool) → s.load ≡ closed_main (layouts s.blocks) (block_named (codes "main") 0 s.blocks) + 0 + length (laid_out (layouts s.blocks) s.spawns) → s.load + (if t then 1 else 0) ≡ closed_main (layouts s.blocks) (block_named (codes "main") 0 s.blocks) + (if t then 1 else 0) + length (laid_out (layouts s.blocks) s.spawns)
+    by_test : (t : Bool) → s.load ≡ closed_main (layouts s.blocks) (block_named (codes "main") 0 s.blocks) + 0 + length (laid_out (layouts s.blocks) (spawned_by s.spawns)) → s.load + (if t then 1 else 0) ≡ closed_main (layouts s.blocks) (block_named (codes "main") 0 s.blocks) + (if t then 1 else 0) + length (laid_out (layouts s.blocks) (spawned_by s.spawns))
     by_test true e = omega (arith, e)
     by_test false e = omega (arith, e)
-IsSound-after s words (spawn_is i) says ok =
-    let within = block_within s.blocks i says.0 says.3 in
-    let long = length-laid_out-push (layouts s.blocks) s.spawns i in
+IsSound-after s words (spawn_is i n) says ok =
+    let within = block_within s.blocks i says.0 says.5 in
+    let range = count_range says.1 n says.4 in
+    let long = length-laid_out-spawn (layouts s.blocks) s.spawns i n in
+    let weight = ap (λ w. n * w) (weight_of-is s i ok within) in
     record {
       few_channels = ok.few_channels;
       channels = ok.channels;
+      few_places = ok.few_places;
       blocks = ok.blocks;
       block = ok.block;
       jobs = ok.jobs;
       launches = ok.launches;
       open_block = ok.open_block;
-      spawns = all_push (λ j. nat_lt j (length s.blocks)) s.spawns i ok.spawns (lt-true i (length s.blocks) within);
+      spawns = all_push (is_spawn (length s.blocks)) s.spawns (i, n) ok.spawns (both (nat_lt i (length s.blocks)) _ (lt-true i (length s.blocks) within) (both (nat_le 1 n) _ (le-true 1 n range.0) (le-true n 16000 range.1)));
       weights = ok.weights;
-      load = omega (arith, ok.load, weight_of-is s i ok within, long);
+      load = omega (arith, ok.load, weight, long);
       light = ok.light;
-      few_coroutines = says.5;
+      few_coroutines = says.7;
     }
 IsSound-after s words (send_is i v) says ok = let b = open_block s.block says.1 in line_sound s b.0 (Send i v) ok b.1 (lt-true i (length s.channels) (channel_within s.channels i says.0 says.3)) refl refl refl
 IsSound-after s words (receive_is i) says ok = let b = open_block s.block says.1 in line_sound s b.0 (Receive i) ok b.1 (lt-true i (length s.channels) (channel_within s.channels i says.0 says.3)) refl refl refl
@@ -249,12 +266,12 @@ blocks-cost s = omega arith
 -- a line is as long as what it adds
 pub cost-after : (s : Read) (words : List (List ℕ)) (form : Form) → Says s words form → cost (after form s) ≤ cost s + text_length words
 unfolding cost open_cost
-cost-after s words (channel_is c) says = omega arith
+cost-after s words (channel_is c n) says = omega arith
 cost-after s words (coroutine_is p) says =
     let long : text_length words ≡ text_length (codes "coroutine" ∷ p ∷ []) = ap text_length says.1 in
     let some = named_some p says.2.formed in
     omega (arith, long, some)
-cost-after s words (spawn_is i) says = omega arith
+cost-after s words (spawn_is i n) says = omega arith
 cost-after s words (send_is i v) says = omega (arith, line_cost s.block (Send i v))
 cost-after s words (receive_is i) says = omega (arith, line_cost s.block (Receive i))
 cost-after s words yield_is says = omega (arith, line_cost s.block Yield)

@@ -13,7 +13,7 @@ use Rattle.script_reader.proofs.Loops.{unless_still}
 use Rattle.script_reader.specs.Programs.{Program, Block, block_named}
 use Rattle.script_reader.specs.Words.{all_plain, words_of, lines_of, with_words, has_items}
 use Rattle.script_reader.specs.Forms.{Read, start, after, has_main}
-use Rattle.script_reader.specs.Texts.{step, line_at, lines_from, finish, when_closed, when_main, program_so_far, reading_of, collapsed, is_unmixed, has_few_lines, may_run, first_scripts}
+use Rattle.script_reader.specs.Texts.{step, line_at, lines_from, finish, when_closed, when_main, program_so_far, reading_of, collapsed, first_scripts}
 use Rattle.script_reader.specs.Grammar.{SayAll, Spells}
 use Rattle.script_reader.proofs.Found.{ok_is}
 use Rattle.script_reader.proofs.FoundLines.{step_found}
@@ -107,16 +107,9 @@ text_found (Ok s) n p e = (s, refl, ended (finish s) e)
     ended (Err k) g = cc
 text_found (Err f) n p e = cc
 
-collapsed_found : (n : ℕ) (r : Result Program ScriptFault) (p : Program) → collapsed n r ≡ Ok p → (may_run n p ≡ true) × (r ≡ Ok p)
-collapsed_found n (Ok q) p e = by_test (may_run n q) refl e
-  where
-    program_same : (r : Result Program ScriptFault) → r ≡ Ok q → r ≡ Ok p → q ≡ p
-    program_same r f g = cc
-
-    by_test : (b : Bool) → may_run n q ≡ b → if◌then◌else◌ {A = Result Program ScriptFault} b (Ok q) (Err (record { line = 1; kind = kinds.UnknownWord })) ≡ Ok p → (may_run n p ≡ true) × (◌≡◌ {A = Result Program ScriptFault} (Ok q) (Ok p))
-    by_test true t f = (ap (may_run n) (sym (program_same (Ok q) refl f)) ∙ t, f)
-    by_test false t f = cc
-collapsed_found n (Err f) p e = cc
+collapsed_found : (r : Result Program ScriptFault) (p : Program) → collapsed r ≡ Ok p → r ≡ Ok p
+collapsed_found (Ok q) p e = e
+collapsed_found (Err f) p e = cc
 
 short_found : (b : Bool) (r : Result Program ScriptFault) (f : ScriptFault) (p : Program) → (if b then Err f else r) ≡ Ok p → (b ≡ false) × (r ≡ Ok p)
 short_found true r f p e = cc
@@ -126,17 +119,13 @@ short_found false r f p e = (refl, e)
 pub Spells-from_read : (bytes : List ℕ) (p : Program) → first_scripts bytes ≡ Ok p → Spells bytes p
 unfolding first_scripts reading_of
 Spells-from_read bytes p ok =
-    let short = short_found (nat_lt 1048576 (length bytes)) (collapsed (length (with_words (lines_of bytes))) (reading_of bytes)) _ p ok in
-    let few = collapsed_found (length (with_words (lines_of bytes))) (reading_of bytes) p short.1 in
-    let runs = both_true (is_unmixed p) (has_few_lines (length (with_words (lines_of bytes))) p) few.0 in
-    let text = text_found (lines_from 1 start (lines_of bytes)) (length (lines_of bytes)) p few.1 in
+    let short = short_found (nat_lt 1048576 (length bytes)) (collapsed (reading_of bytes)) _ p ok in
+    let text = text_found (lines_from 1 start (lines_of bytes)) (length (lines_of bytes)) p (collapsed_found (reading_of bytes) p short.1) in
     let lines = lines_found 1 start text.0 (lines_of bytes) text.1 in
     let end = closed_found text.0 p text.0.block text.2 in
     record {
       short = le-from_lt_false 1048576 (length bytes) short.0;
       plain = lines.0;
-      unmixed = runs.0;
-      few_lines = runs.1;
       last = text.0;
       said = lines.1;
       closed = end.0;
@@ -148,12 +137,10 @@ Spells-from_read bytes p ok =
 pub read-from_Spells : (bytes : List ℕ) (p : Program) → Spells bytes p → first_scripts bytes ≡ Ok p
 unfolding first_scripts reading_of
 read-from_Spells bytes p is =
-    let n = length (with_words (lines_of bytes)) in
-    ap (λ b. if b then Err (record { line = 1; kind = kinds.TooMany }) else collapsed n (reading_of bytes)) (lt-false 1048576 (length bytes) is.short)
-    ∙ ap (λ r. collapsed n (r >>> λ s. in_line (length (lines_of bytes)) (finish s))) (lines_again 1 start is.last (lines_of bytes) is.plain is.said)
-    ∙ ap (λ r. collapsed n (in_line (length (lines_of bytes)) r)) (finish_again is.last is.closed is.main)
-    ∙ ap (λ q. collapsed n (Ok q)) is.program
-    ∙ ap (λ b. if◌then◌else◌ {A = Result Program ScriptFault} b (Ok p) (Err (record { line = 1; kind = kinds.UnknownWord }))) (both (is_unmixed p) (has_few_lines n p) is.unmixed is.few_lines)
+    ap (λ b. if b then Err (record { line = 1; kind = kinds.TooMany }) else collapsed (reading_of bytes)) (lt-false 1048576 (length bytes) is.short)
+    ∙ ap (λ r. collapsed (r >>> λ s. in_line (length (lines_of bytes)) (finish s))) (lines_again 1 start is.last (lines_of bytes) is.plain is.said)
+    ∙ ap (λ r. collapsed (in_line (length (lines_of bytes)) r)) (finish_again is.last is.closed is.main)
+    ∙ ap (λ q. collapsed (Ok q)) is.program
 
 -- ---- what a call of the reader says
 

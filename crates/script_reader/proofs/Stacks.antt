@@ -1,18 +1,13 @@
 -- The table of tags, made from a stack of blocks that are not yet laid out.
-use Rattle.std.proofs.Common.{◌≡◌, ℕ, ◌-◌, ◌<◌, ◌≤◌, Bool, true, nat_lt, List, [], ◌∷◌, ◌++◌, length, Option, Some, None, refl, ap, sym, ◌∙◌, subst, arith, get_or, slice_get, map, append_assoc, append-nil, length-append}
+use Rattle.std.proofs.Common.{◌≡◌, ℕ, ◌-◌, ◌<◌, ◌≤◌, true, nat_lt, List, [], ◌∷◌, ◌++◌, length, Option, Some, None, refl, ap, sym, ◌∙◌, subst, arith, get_or, slice_get, map, append_assoc, append-nil, length-append}
 use Rattle.std.specs.Prelude.{option_map}
-use Rattle.std.specs.List.{list_all}
 use Rattle.std.proofs.lemmas.Option.{slice_get-map, slice_get_read}
 use Rattle.std.proofs.lemmas.List.{length-map}
 use Rattle.script_reader.specs.declared.script.Coroutine.{Coroutine}
 use Rattle.script_reader.specs.declared.script.Spawn.{Spawn}
-use Rattle.script_reader.specs.Programs.{Block, block_of, launched, laid_out, layouts, launch_back, code_of_block, tags_for}
-use Rattle.script_reader.proofs.Truths.{both, both_true, lt-from_true}
-use Rattle.script_reader.proofs.Layouts.{all_below, layout, layout-next, laid_out-append, launched_each, in_block}
-
-all_append : {X : Type 0} (test : X → Bool) (xs ys : List X) → list_all test xs ≡ true → list_all test ys ≡ true → list_all test (xs ++ ys) ≡ true
-all_append test [] ys all more = more
-all_append test (x ∷ xs) ys all more = let two = both_true (test x) (list_all test xs) all in both (test x) _ two.0 (all_append test xs ys two.1 more)
+use Rattle.script_reader.specs.Programs.{Block, block_of, spawn_of, spawned_by, launched, laid_out, layouts, launch_back, code_of_block, tags_for}
+use Rattle.script_reader.proofs.Truths.{both_true, lt-from_true}
+use Rattle.script_reader.proofs.Layouts.{all_append, all_below, layout, layout-next, laid_out-append, launched_each, in_block}
 
 -- what the lines of this block launch
 abbrev pub launched_in : List Block → ℕ → List ℕ
@@ -66,10 +61,10 @@ first_below cs all tags top rest block is stands =
     omega (arith, lt-from_true block (length (map block_of cs)) known.0, length-map cs block_of)
 
 -- the bound on the tags, of equal lists
-pub few_same : (cs ds : List Coroutine) (ss ts : List Spawn) (main : ℕ) → ds ≡ cs → ts ≡ ss → length (tags_for (map block_of cs) (map (λ s. s.coroutine) ss) (Some main)) ≤ 16000 → length (tags_for (map block_of ds) (map (λ s. s.coroutine) ts) (Some main)) ≤ 16000
+pub few_same : (cs ds : List Coroutine) (ss ts : List Spawn) (main : ℕ) → ds ≡ cs → ts ≡ ss → length (tags_for (map block_of cs) (spawned_by (map spawn_of ss)) (Some main)) ≤ 16000 → length (tags_for (map block_of ds) (spawned_by (map spawn_of ts)) (Some main)) ≤ 16000
 few_same cs ds ss ts main e f h =
-    let P : List Coroutine → Type 0 = λ xs. length (tags_for (map block_of xs) (map (λ s. s.coroutine) ts) (Some main)) ≤ 16000 in
-    let Q : List Spawn → Type 0 = λ xs. length (tags_for (map block_of cs) (map (λ s. s.coroutine) xs) (Some main)) ≤ 16000 in
+    let P : List Coroutine → Type 0 = λ xs. length (tags_for (map block_of xs) (spawned_by (map spawn_of ts)) (Some main)) ≤ 16000 in
+    let Q : List Spawn → Type 0 = λ xs. length (tags_for (map block_of cs) (spawned_by (map spawn_of xs)) (Some main)) ≤ 16000 in
     subst P (sym e) (subst Q (sym f) h)
 
 launched_some : (o : Option Coroutine) (blocks : List ℕ) → Some blocks ≡ option_map (λ (c : Coroutine). launched c.code.items) o → blocks ≡ launched (code_of_block (option_map block_of o))

@@ -1,27 +1,28 @@
 -- What each line says, and what it adds to the script so far.
-use Rattle.std.specs.Prelude.{ℕ, ◌+◌, List, [], ◌∷◌, ◌++◌, length, Option, Some, None, Result, Ok, Err, Bool, true, false, if◌then◌else◌, map, is_some, slice_index_or}
+use Rattle.std.specs.Prelude.{ℕ, ◌+◌, ◌*◌, List, [], ◌∷◌, ◌++◌, length, Option, Some, None, Result, Ok, Err, Bool, true, false, if◌then◌else◌, map, is_some, slice_index_or}
 use lib.Chars.{codes}
 use Rattle.std.specs.Str.{bytes_eq}
 use Rattle.channel_model.specs.declared.acts.Kind.TheVariants.{Rendezvous}
 use Rattle.script_reader.specs.declared.fault.FaultKind.{FaultKind}
 use Rattle.script_reader.specs.declared.fault.FaultKind.TheVariants.{UnknownWord}
+use Rattle.script_reader.specs.declared.script.Operand.{Operand}
 use Rattle.script_reader.specs.declared.script.Instruction.{Instruction}
 use Rattle.script_reader.specs.declared.script.Instruction.TheVariants.{Send, Receive, Yield, Launch, Start, Cancel, Fail, SetResult}
 use Rattle.script_reader.specs.Faults.{◌>>=◌}
-use Rattle.script_reader.specs.Places.{word_at, end_at, at_most, number_at, name_at, new_at, known_at, place_from, is_main, other_than_main, launchable, job_at}
-use Rattle.script_reader.specs.Programs.{Declared, Block, block_named}
+use Rattle.script_reader.specs.Places.{word_at, end_at, at_most, number_at, count_at, places_at, operand_at, name_at, new_at, known_at, place_from, is_main, other_than_main, launchable, job_at}
+use Rattle.script_reader.specs.Programs.{Declared, Block, block_named, places_in}
 
 -- the script so far: what it declares, the block that is open, and how many tags its parts take
 pub record Read : Type 0 where
   pub channels : List Declared
   pub blocks : List Block
-  pub spawns : List ℕ
+  pub spawns : List (ℕ × ℕ)
   pub block : Option Block
   -- of each block that is closed
   pub weights : List ℕ
   -- of the block that is open: 1, and the weight of each block that its lines launch so far
   pub weight : ℕ
-  -- of main so far, and of the block of each spawn so far
+  -- of main so far, and of the instances of each spawn so far
   pub load : ℕ
 
 abbrev pub start : Read
@@ -36,10 +37,12 @@ block_names bs = map (λ b. b.name) bs
 -- ---- what a line says
 
 pub data Form : Type 0 where
-  channel_is : List ℕ → Form
+  -- the new name, and the number of places
+  channel_is : List ℕ → ℕ → Form
   coroutine_is : List ℕ → Form
-  spawn_is : ℕ → Form
-  send_is : ℕ → ℕ → Form
+  -- the block, and how many instances of it
+  spawn_is : ℕ → ℕ → Form
+  send_is : ℕ → Operand → Form
   receive_is : ℕ → Form
   yield_is : Form
   -- the block, whether the launch is lazy, and the new name of its Job
@@ -47,16 +50,18 @@ pub data Form : Type 0 where
   start_is : ℕ → Form
   cancel_is : ℕ → Form
   fail_is : ℕ → Form
-  result_is : ℕ → Form
+  result_is : Operand → Form
   end_is : Form
 
 abbrev pub channel_line : Read → List (List ℕ) → Result Form FaultKind
 channel_line s words = do
   name ← new_at (channel_names s.channels) words
   rest ← word_at (codes "rendezvous") name.1
-  _ ← end_at rest
+  places ← places_at rest
+  _ ← end_at places.1
   _ ← at_most 256 (length s.channels + 1)
-  Ok (channel_is name.0)
+  _ ← at_most 4194304 (places_in s.channels + places.0)
+  Ok (channel_is name.0 places.0)
 
 -- the weight of the closed block of this number
 abbrev pub weight_of : Read → ℕ → ℕ
@@ -80,14 +85,15 @@ abbrev pub spawn_line : Read → List (List ℕ) → Result Form FaultKind
 spawn_line s words = do
   block ← known_at (block_names s.blocks) words
   _ ← other_than_main words
-  _ ← end_at block.1
-  _ ← at_most 16000 (s.load + weight_of s block.0)
-  Ok (spawn_is block.0)
+  count ← count_at block.1
+  _ ← end_at count.1
+  _ ← at_most 16000 (s.load + count.0 * weight_of s block.0)
+  Ok (spawn_is block.0 count.0)
 
 abbrev pub send_line : Read → List (List ℕ) → Result Form FaultKind
 send_line s words = do
   channel ← known_at (channel_names s.channels) words
-  value ← number_at 0 4294967295 channel.1
+  value ← operand_at channel.1
   _ ← end_at value.1
   Ok (send_is channel.0 value.0)
 
@@ -140,7 +146,7 @@ fail_line words = do
 
 abbrev pub result_line : List (List ℕ) → Result Form FaultKind
 result_line words = do
-  value ← number_at 0 4294967295 words
+  value ← operand_at words
   _ ← end_at value.1
   Ok (result_is value.0)
 
@@ -183,10 +189,6 @@ form_at s (Some b) word rest = inside s b word rest
 
 -- ---- what a line adds
 
--- each channel has so many places
-abbrev pub default_places : ℕ
-default_places = 16384
-
 -- a block with one more line
 abbrev pub with_line : Instruction → Option Block → Option Block
 with_line line None = None
@@ -211,9 +213,9 @@ open_load None s weight = s.load
 open_load (Some b) s weight = grown_load s b weight
 
 abbrev pub after : Form → Read → Read
-after (channel_is name) s = record s { channels = s.channels ++ record { name = name; kind = Rendezvous; places = default_places } ∷ [] }
+after (channel_is name places) s = record s { channels = s.channels ++ record { name = name; kind = Rendezvous; places = places } ∷ [] }
 after (coroutine_is name) s = record s { block = Some (record { name = name; jobs = []; code = [] }); weight = 1; load = s.load + new_load name }
-after (spawn_is block) s = record s { spawns = s.spawns ++ block ∷ []; load = s.load + weight_of s block }
+after (spawn_is block count) s = record s { spawns = s.spawns ++ (block, count) ∷ []; load = s.load + count * weight_of s block }
 after (send_is channel value) s = record s { block = with_line (Send channel value) s.block }
 after (receive_is channel) s = record s { block = with_line (Receive channel) s.block }
 after yield_is s = record s { block = with_line Yield s.block }

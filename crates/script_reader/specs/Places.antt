@@ -5,6 +5,8 @@ use Rattle.std.specs.Str.{bytes_eq, all_ascii_digits}
 use Rattle.std.specs.Str.Parse.{digits_value}
 use Rattle.script_reader.specs.declared.fault.FaultKind.{FaultKind}
 use Rattle.script_reader.specs.declared.fault.FaultKind.TheVariants.{UnknownWord, BadNumber, BadName, Duplicate, Undeclared, Extra, Recursive, TooMany}
+use Rattle.script_reader.specs.declared.script.Operand.{Operand}
+use Rattle.script_reader.specs.declared.script.Operand.TheVariants.{Number, It, Sum}
 use Rattle.script_reader.specs.Faults.{◌>>=◌}
 
 -- the words after the one that has to stand here
@@ -40,6 +42,33 @@ within low high (Some n) rest = if nat_le low n && nat_le n high then Ok (n, res
 abbrev pub number_at : ℕ → ℕ → List (List ℕ) → Result (ℕ × List (List ℕ)) FaultKind
 number_at low high [] = Err BadNumber
 number_at low high (word ∷ rest) = within low high (value_at word) rest
+
+-- the number of places of each channel whose line gives none
+abbrev pub default_places : ℕ
+default_places = 16384
+
+-- `places` and a number of places, or no word
+abbrev pub places_at : List (List ℕ) → Result (ℕ × List (List ℕ)) FaultKind
+places_at [] = Ok (default_places, [])
+places_at (word ∷ rest) = if bytes_eq word (codes "places") then number_at 1 1048576 rest else Err Extra
+
+-- a number of instances, or no word where there is one
+abbrev pub count_at : List (List ℕ) → Result (ℕ × List (List ℕ)) FaultKind
+count_at [] = Ok (1, [])
+count_at (word ∷ rest) = number_at 1 16000 (word ∷ rest)
+
+abbrev pub numbered : {X : Type 0} → Result (ℕ × X) FaultKind → Result (Operand × X) FaultKind
+numbered read = do
+  value ← read
+  Ok (Number value.0, value.1)
+
+-- `it`, `sum` or a number of 32 bits, and the words after it
+abbrev pub operand_at : List (List ℕ) → Result (Operand × List (List ℕ)) FaultKind
+operand_at [] = Err BadNumber
+operand_at (word ∷ rest) =
+    if bytes_eq word (codes "it") then Ok (It, rest)
+    else if bytes_eq word (codes "sum") then Ok (Sum, rest)
+    else numbered (number_at 0 4294967295 (word ∷ rest))
 
 -- ---- names
 

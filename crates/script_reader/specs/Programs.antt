@@ -1,5 +1,5 @@
 -- What a script says.
-use Rattle.std.specs.Prelude.{◌≡◌, ℕ, ◌+◌, ◌≤◌, ◌==◌, nat_lt, nat_le, Bool, true, false, ◌&&◌, List, [], ◌∷◌, ◌++◌, length, map, Option, Some, None, if◌then◌else◌, slice_get, slice_index_or, string_bytes, is_some}
+use Rattle.std.specs.Prelude.{◌≡◌, ℕ, ◌+◌, ◌≤◌, ◌==◌, nat_lt, nat_le, Bool, true, false, ◌&&◌, List, [], ◌∷◌, ◌++◌, length, map, replicate, Option, Some, None, if◌then◌else◌, slice_get, slice_index_or, string_bytes, is_some}
 use Rattle.std.specs.List.{list_all, flat_map}
 use Rattle.std.specs.Str.{bytes_eq}
 use lib.Chars.{codes}
@@ -25,11 +25,11 @@ pub record Block : Type 0 where
   pub jobs : List (List ℕ)
   pub code : List Instruction
 
--- what a script says: its channels, its coroutines, and the coroutine of each spawn
+-- what a script says: its channels, its coroutines, and of each spawn the coroutine and how many instances it has
 pub record Program : Type 0 where
   pub channels : List Declared
   pub blocks : List Block
-  pub spawns : List ℕ
+  pub spawns : List (ℕ × ℕ)
 
 abbrev pub declared_of : Channel → Declared
 declared_of c = record { name = string_bytes c.name; kind = c.kind; places = c.places }
@@ -37,9 +37,12 @@ declared_of c = record { name = string_bytes c.name; kind = c.kind; places = c.p
 abbrev pub block_of : Coroutine → Block
 block_of c = record { name = string_bytes c.name; jobs = map string_bytes c.jobs.items; code = c.code.items }
 
+abbrev pub spawn_of : Spawn → ℕ × ℕ
+spawn_of s = (s.coroutine, s.count)
+
 abbrev pub program_from : List Channel → List Coroutine → List Spawn → Program
 program_from channels coroutines spawns =
-    record { channels = map declared_of channels; blocks = map block_of coroutines; spawns = map (λ s. s.coroutine) spawns }
+    record { channels = map declared_of channels; blocks = map block_of coroutines; spawns = map spawn_of spawns }
 
 -- ---- coroutines by their tags
 
@@ -95,14 +98,23 @@ abbrev pub code_of_block : Option Block → List Instruction
 code_of_block None = []
 code_of_block (Some b) = b.code
 
--- main's instance, then the spawned instances with all that they launch, then what main launches
+-- the block of each of these spawns, as often as its count says
+abbrev pub spawned_by : List (ℕ × ℕ) → List ℕ
+spawned_by [] = []
+spawned_by (s ∷ spawns) = replicate s.1 s.0 ++ spawned_by spawns
+
+-- the block of each spawned instance, in order of tags
+abbrev pub spawned : Program → List ℕ
+spawned p = spawned_by p.spawns
+
+-- main's instance, then instances of these blocks with all that they launch, then what main launches
 abbrev pub tags_for : List Block → List ℕ → Option ℕ → List ℕ
-tags_for blocks spawns None = []
-tags_for blocks spawns (Some main) = main ∷ (laid_out (layouts blocks) spawns ++ laid_out (layouts blocks) (launched (code_of_block (slice_get blocks main))))
+tags_for blocks instances None = []
+tags_for blocks instances (Some main) = main ∷ (laid_out (layouts blocks) instances ++ laid_out (layouts blocks) (launched (code_of_block (slice_get blocks main))))
 
 -- the block of each tag
 abbrev pub tags_of : Program → List ℕ
-tags_of p = tags_for p.blocks p.spawns (block_named (codes "main") 0 p.blocks)
+tags_of p = tags_for p.blocks (spawned p) (block_named (codes "main") 0 p.blocks)
 
 -- the number of coroutines that may run
 abbrev pub coroutine_count : Program → ℕ
@@ -145,6 +157,15 @@ is_rendezvous Signal = false
 
 abbrev pub is_declared : Declared → Bool
 is_declared c = is_rendezvous c.kind && (nat_le 1 c.places && nat_le c.places 1048576)
+
+-- how many places these channels have together
+abbrev pub places_in : List Declared → ℕ
+places_in [] = 0
+places_in (c ∷ cs) = c.places + places_in cs
+
+-- a spawn of 1 to 16,000 instances of one of the n blocks
+abbrev pub is_spawn : ℕ → ℕ × ℕ → Bool
+is_spawn n s = nat_lt s.0 n && (nat_le 1 s.1 && nat_le s.1 16000)
 
 -- the line names no channel, or one of the n that are declared
 abbrev pub names_channel : ℕ → Instruction → Bool
@@ -190,9 +211,10 @@ launch_back i (b ∷ bs) = list_all (λ j. nat_lt j i) (launched b.code) && laun
 pub record IsProgram (p : Program) : Type 0 where
   pub few_channels : length p.channels ≤ 256
   pub channels : list_all is_declared p.channels ≡ true
+  pub few_places : places_in p.channels ≤ 4194304
   pub blocks : list_all (names_channels (length p.channels)) p.blocks ≡ true
   pub jobs : list_all (λ b. knows_jobs 0 b.code) p.blocks ≡ true
   pub launches : launch_back 0 p.blocks ≡ true
-  pub spawns : list_all (λ i. nat_lt i (length p.blocks)) p.spawns ≡ true
+  pub spawns : list_all (is_spawn (length p.blocks)) p.spawns ≡ true
   pub has_main : is_some (block_named (codes "main") 0 p.blocks) ≡ true
   pub few_coroutines : coroutine_count p ≤ 16000

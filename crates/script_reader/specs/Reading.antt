@@ -9,22 +9,22 @@ use Rattle.script_reader.specs.declared.reading.Reading.{Reading}
 use Rattle.script_reader.specs.declared.script.Coroutine.{Coroutine}
 use Rattle.script_reader.specs.declared.script.Instruction.{Instruction}
 use Rattle.script_reader.specs.declared.script.Instruction.TheVariants.{Send, Receive, Yield, Launch, Start, Cancel, Fail, SetResult}
-use Rattle.script_reader.specs.Programs.{Block, declared_of, block_of, is_declared, names_channels, knows_jobs, jobs_after_name, launched, launch_back, layouts, laid_out, sizes_in, block_named}
+use Rattle.script_reader.specs.Programs.{Block, declared_of, block_of, is_declared, names_channels, knows_jobs, jobs_after_name, launched, launch_back, layouts, laid_out, sizes_in, block_named, spawn_of, spawned_by, is_spawn, places_in}
 use Rattle.script_reader.specs.Places.{is_main, place_from}
 use Rattle.script_reader.specs.Forms.{Read, Form, channel_is, coroutine_is, spawn_is, send_is, receive_is, yield_is, launch_is, start_is, cancel_is, fail_is, result_is, end_is, block_names}
 
 -- what the memory holds
 abbrev pub view : Reading → Read
-view r = record { channels = map declared_of r.channels.items; blocks = map block_of r.coroutines.items; spawns = map (λ s. s.coroutine) r.spawns.items; block = option_map block_of r.block; weights = r.weights.items; weight = r.weight; load = r.load }
+view r = record { channels = map declared_of r.channels.items; blocks = map block_of r.coroutines.items; spawns = map spawn_of r.spawns.items; block = option_map block_of r.block; weights = r.weights.items; weight = r.weight; load = r.load }
 
 -- a name that may be missing
 abbrev pub name_in : Option (Bor (List ℕ)) → Option (List ℕ)
 name_in name = option_map (λ n. n.now) name
 
 abbrev pub said : Spoken → Form
-said (spoken.Channel name) = channel_is name.now
+said (spoken.Channel name places) = channel_is name.now places
 said (spoken.Coroutine name) = coroutine_is name.now
-said (spoken.Spawn block) = spawn_is block
+said (spoken.Spawn block count) = spawn_is block count
 said (spoken.Send channel value) = send_is channel value
 said (spoken.Receive channel) = receive_is channel
 said spoken.Yield = yield_is
@@ -43,6 +43,7 @@ HasFewJobs (Some c) = length c.jobs.items ≤ 16000
 -- so few that the number of each fits 16 bits
 pub record Few (r : Reading) : Type 0 where
   pub channels : length r.channels.items ≤ 256
+  pub places : places_in (map declared_of r.channels.items) ≤ 4194304
   pub coroutines : length r.coroutines.items ≤ 65536
   pub jobs : HasFewJobs r.block
   pub weight : r.weight ≤ 16000
@@ -93,13 +94,14 @@ open_main weight (Some b) = if is_main b.name then weight else 0
 pub record IsSound (s : Read) : Type 0 where
   pub few_channels : length s.channels ≤ 256
   pub channels : list_all is_declared s.channels ≡ true
+  pub few_places : places_in s.channels ≤ 4194304
   pub blocks : list_all (names_channels (length s.channels)) s.blocks ≡ true
   pub block : block_names_channels (length s.channels) s.block ≡ true
   pub jobs : list_all (λ b. knows_jobs 0 b.code) s.blocks ≡ true
   pub launches : launch_back 0 s.blocks ≡ true
   pub open_block : IsOpen s.blocks s.weight s.block
-  pub spawns : list_all (λ i. nat_lt i (length s.blocks)) s.spawns ≡ true
+  pub spawns : list_all (is_spawn (length s.blocks)) s.spawns ≡ true
   pub weights : s.weights ≡ sizes_in s.blocks
-  pub load : s.load ≡ closed_main (layouts s.blocks) (block_named (codes "main") 0 s.blocks) + open_main s.weight s.block + length (laid_out (layouts s.blocks) s.spawns)
+  pub load : s.load ≡ closed_main (layouts s.blocks) (block_named (codes "main") 0 s.blocks) + open_main s.weight s.block + length (laid_out (layouts s.blocks) (spawned_by s.spawns))
   pub light : s.weight ≤ 16000
   pub few_coroutines : s.load ≤ 16000

@@ -1,15 +1,12 @@
 -- What a whole text says, or its first fault.
-use Rattle.std.specs.Prelude.{ℕ, ◌+◌, List, [], ◌∷◌, length, Option, Some, None, Result, Ok, Err, Bool, true, false, ◌&&◌, ◌||◌, not, if◌then◌else◌, nat_lt, nat_le}
-use Rattle.std.specs.List.{list_all}
+use Rattle.std.specs.Prelude.{ℕ, ◌+◌, List, [], ◌∷◌, length, Option, Some, None, Result, Ok, Err, if◌then◌else◌, nat_lt}
 use lib.Chars.{codes}
 use Rattle.script_reader.specs.declared.fault.FaultKind.{FaultKind}
 use Rattle.script_reader.specs.declared.fault.FaultKind.TheVariants.{UnknownWord, TooMany, NotAscii, NoEnd, NoMain}
 use Rattle.script_reader.specs.declared.fault.ScriptFault.{ScriptFault}
-use Rattle.script_reader.specs.declared.script.Instruction.{Instruction}
-use Rattle.script_reader.specs.declared.script.Instruction.TheVariants.{Send, Receive, Yield, Launch, Start, Cancel, Fail, SetResult}
 use Rattle.script_reader.specs.Programs.{Program, Block, block_named}
 use Rattle.script_reader.specs.Faults.{◌>>=◌, ◌>>>◌, in_line}
-use Rattle.script_reader.specs.Words.{all_plain, words_of, lines_of, with_words}
+use Rattle.script_reader.specs.Words.{all_plain, words_of, lines_of}
 use Rattle.script_reader.specs.Forms.{Read, start, form_at, after}
 
 -- the script with what these words add, or their fault
@@ -47,41 +44,13 @@ finish s = when_closed s s.block
 unfoldable pub reading_of : List ℕ → Result Program ScriptFault
 reading_of bytes = lines_from 1 start (lines_of bytes) >>> λ s. in_line (length (lines_of bytes)) (finish s)
 
-abbrev pub is_channel_line : Instruction → Bool
-is_channel_line (Send c v) = true
-is_channel_line (Receive c) = true
-is_channel_line Yield = false
-is_channel_line (Launch block lazy job) = false
-is_channel_line (Start job) = false
-is_channel_line (Cancel job) = false
-is_channel_line (Fail v) = false
-is_channel_line (SetResult v) = false
-
-abbrev pub is_job_line : Instruction → Bool
-is_job_line line = not (is_channel_line line)
-
--- each line of each block is of this kind
-abbrev pub has_only : (Instruction → Bool) → Program → Bool
-has_only test p = list_all (λ b. list_all test b.code) p.blocks
-
--- no line that sends or receives stands beside a line of a Job
-abbrev pub is_unmixed : Program → Bool
-is_unmixed p = has_only is_job_line p || has_only is_channel_line p
-
--- few lines have words, unless no line sends or receives
-abbrev pub has_few_lines : ℕ → Program → Bool
-has_few_lines lines p = has_only is_job_line p || nat_le lines 250
-
-abbrev pub may_run : ℕ → Program → Bool
-may_run lines p = is_unmixed p && has_few_lines lines p
-
--- what so many lines with words say that may run; each other fault is told as that of its first word
-abbrev pub collapsed : ℕ → Result Program ScriptFault → Result Program ScriptFault
-collapsed lines (Ok p) = if may_run lines p then Ok p else Err (record { line = 1; kind = UnknownWord })
-collapsed lines (Err f) = Err (record { line = 1; kind = UnknownWord })
+-- what is read of a text is told; each fault is told as that of its first word
+abbrev pub collapsed : Result Program ScriptFault → Result Program ScriptFault
+collapsed (Ok p) = Ok p
+collapsed (Err f) = Err (record { line = 1; kind = UnknownWord })
 
 -- what a text says, or its fault
 unfoldable pub first_scripts : List ℕ → Result Program ScriptFault
 first_scripts bytes =
     if nat_lt 1048576 (length bytes) then Err (record { line = 1; kind = TooMany })
-    else collapsed (length (with_words (lines_of bytes))) (reading_of bytes)
+    else collapsed (reading_of bytes)

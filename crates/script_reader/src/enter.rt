@@ -4,13 +4,13 @@ ghost use Rattle.std.specs.Prelude.{◌≡◌, ◌≤◌, OnOk, option_map};
 ghost use Rattle.script_reader.specs.Faults.{Leaves};
 ghost use Rattle.script_reader.specs.Programs.{block_of};
 ghost use Rattle.script_reader.specs.Words.{texts};
-ghost use Rattle.script_reader.specs.Forms.{after, start, with_line, with_launch, open_load, launch_is, end_is};
+ghost use Rattle.script_reader.specs.Forms.{after, start, with_line, with_launch, open_load, launch_is, spawn_is, end_is};
 ghost use Rattle.script_reader.specs.Texts.{step, line_at};
 ghost use Rattle.script_reader.specs.Reading.{view, said, name_in, Few, HasFewJobs};
 
 use crate::fault::FaultKind;
 use crate::form::Spoken;
-use crate::lines::{form_of, grown_load, new_load, weight_of};
+use crate::lines::{form_of, grown_load, new_load, weight_of, weight_of_all};
 use crate::reading::Reading;
 use crate::script::{Channel, Coroutine, Instruction, Spawn};
 use crate::words::{every_plain, words};
@@ -101,6 +101,17 @@ fn enter_launch(
     Ok(())
 }
 
+/// Adds a spawn.
+fn enter_spawn(reading: &mut Reading, coroutine: u16, count: u16) -> Result<(), AllocError>
+    requires { Few reading.old }
+    ensures { OnOk result (view reading.new ≡ after (spawn_is coroutine count) (view reading.old)) }
+{
+    let load = reading.load + weight_of_all(reading, coroutine, count);
+    reading.spawns.push(Spawn { coroutine, count })?;
+    reading.load = load;
+    Ok(())
+}
+
 /// Closes the block that is open.
 fn enter_end(reading: &mut Reading) -> Result<(), AllocError>
     requires { Few reading.old }
@@ -120,12 +131,12 @@ fn enter(alloc: Global, reading: &mut Reading, form: Spoken<'_>) -> Result<(), A
     ensures { OnOk result (view reading.new ≡ after (said form.entry) (view reading.old)) }
 {
     match form {
-        Spoken::Channel(name) => {
+        Spoken::Channel(name, places) => {
             let name = String::from_str(alloc, name)?;
             reading.channels.push(Channel {
                 name,
                 kind: Kind::Rendezvous,
-                places: 16_384,
+                places,
             })?;
             Ok(())
         }
@@ -141,12 +152,7 @@ fn enter(alloc: Global, reading: &mut Reading, form: Spoken<'_>) -> Result<(), A
             reading.load = load;
             Ok(())
         }
-        Spoken::Spawn(coroutine) => {
-            let load = reading.load + weight_of(reading, coroutine);
-            reading.spawns.push(Spawn { coroutine })?;
-            reading.load = load;
-            Ok(())
-        }
+        Spoken::Spawn(coroutine, count) => enter_spawn(reading, coroutine, count),
         Spoken::Send(c, value) => push_line(&mut reading.block, Instruction::Send { c, value }),
         Spoken::Receive(c) => push_line(&mut reading.block, Instruction::Receive { c }),
         Spoken::Yield => push_line(&mut reading.block, Instruction::Yield),

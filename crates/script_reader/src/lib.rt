@@ -30,4 +30,4 @@ mod words;
 
 pub use fault::{FaultKind, ScriptFault};
 pub use reader::read;
-pub use script::{Channel, Coroutine, Instruction, Script, Spawn};
+pub use script::{Channel, Coroutine, Instruction, Operand, Script, Spawn};

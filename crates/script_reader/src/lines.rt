@@ -1,7 +1,7 @@
 //! The form of each line.
 
-ghost use Rattle.std.specs.Prelude.{◌≡◌, ◌≤◌, length, string_bytes};
-ghost use Rattle.script_reader.specs.Programs.{block_of};
+ghost use Rattle.std.specs.Prelude.{◌≡◌, ◌≤◌, ◌*◌, length, map, string_bytes};
+ghost use Rattle.script_reader.specs.Programs.{block_of, declared_of, places_in};
 ghost use Rattle.script_reader.specs.Faults.{Gives};
 ghost use Rattle.script_reader.specs.Words.{texts};
 ghost use Rattle.script_reader.specs.Forms.{channel_line, coroutine_line, spawn_line, send_line, receive_line, weight_of, new_load, target_at, grown_load, launch_line, start_line, cancel_line, yield_line, fail_line, result_line, end_line, outside, of_job, inside, form_at};
@@ -10,8 +10,8 @@ ghost use Rattle.script_reader.specs.Reading.{view, said, Few};
 use crate::fault::FaultKind;
 use crate::form::Spoken;
 use crate::place::{
-    Named, at_most, end_of, job_of, known_of, name_of, names_main, new_of, not_main, number_of,
-    place_of, word_of,
+    Named, at_most, count_of, end_of, job_of, known_of, name_of, names_main, new_of, not_main,
+    number_of, operand_of, place_of, places_of, word_of,
 };
 use crate::reading::Reading;
 use crate::script::{Channel, Coroutine};
@@ -40,6 +40,20 @@ fn channel_count(reading: &Reading) -> usize
     reading.channels.len()
 }
 
+/// How many places these channels have together.
+fn places_in(channels: &[Channel]) -> usize
+    requires { places_in (map declared_of channels.now) ≤ 4194304 }
+    ensures { result ≡ places_in (map declared_of channels.now) }
+{
+    let mut places = 0usize;
+    let mut rest = channels;
+    while let [channel, more @ ..] = rest {
+        places += channel.places as usize;
+        rest = more;
+    }
+    places
+}
+
 #[tactic(auto, using(crate::proofs::Names::names_of_channels))]
 fn channel_form<'a>(reading: &Reading, words: &[&'a [u8]]) -> Result<Spoken<'a>, FaultKind>
     requires { Few reading.now }
@@ -47,9 +61,11 @@ fn channel_form<'a>(reading: &Reading, words: &[&'a [u8]]) -> Result<Spoken<'a>,
 {
     let (name, rest) = new_of(&reading.channels, words)?;
     let rest = word_of(b"rendezvous", rest)?;
+    let (places, rest) = places_of(rest)?;
     end_of(rest)?;
     at_most(256, channel_count(reading) + 1)?;
-    Ok(Spoken::Channel(name))
+    at_most(4_194_304, places_in(&reading.channels) + places as usize)?;
+    Ok(Spoken::Channel(name, places))
 }
 
 /// The weight of a closed block.
@@ -61,6 +77,14 @@ pub(crate) fn weight_of(reading: &Reading, block: u16) -> usize
         Some(weight) => *weight as usize,
         None => 0,
     }
+}
+
+/// The weight of instances of a closed block.
+pub(crate) fn weight_of_all(reading: &Reading, block: u16, count: u16) -> usize
+    ensures weight { result ≡ count * weight_of (view reading.now) block }
+    ensures fits { result ≤ 4294836225 }
+{
+    count as usize * weight_of(reading, block)
 }
 
 /// What a new block of this name adds to the load.
@@ -89,9 +113,10 @@ fn spawn_form<'a>(reading: &Reading, words: &[&'a [u8]]) -> Result<Spoken<'a>, F
 {
     let (block, rest) = known_of(&reading.coroutines, words)?;
     not_main(words)?;
+    let (count, rest) = count_of(rest)?;
     end_of(rest)?;
-    at_most(16_000, reading.load + weight_of(reading, block))?;
-    Ok(Spoken::Spawn(block))
+    at_most(16_000, reading.load + weight_of_all(reading, block, count))?;
+    Ok(Spoken::Spawn(block, count))
 }
 
 #[tactic(auto, using(crate::proofs::Names::names_of_channels))]
@@ -100,7 +125,7 @@ fn send_form<'a>(reading: &Reading, words: &[&'a [u8]]) -> Result<Spoken<'a>, Fa
     ensures { Gives said result (send_line (view reading.now) (texts words.now)) }
 {
     let (channel, rest) = known_of(&reading.channels, words)?;
-    let (value, rest) = number_of(0, u32::MAX, rest)?;
+    let (value, rest) = operand_of(rest)?;
     end_of(rest)?;
     Ok(Spoken::Send(channel, value))
 }
@@ -201,7 +226,7 @@ fn fail_form<'a>(words: &[&'a [u8]]) -> Result<Spoken<'a>, FaultKind>
 fn result_form<'a>(words: &[&'a [u8]]) -> Result<Spoken<'a>, FaultKind>
     ensures { Gives said result (result_line (texts words.now)) }
 {
-    let (value, rest) = number_of(0, u32::MAX, words)?;
+    let (value, rest) = operand_of(words)?;
     end_of(rest)?;
     Ok(Spoken::SetResult(value))
 }

@@ -1,13 +1,14 @@
 //! What stands at each place of a line, from left to right.
 
-ghost use Rattle.std.specs.Prelude.{◌≡◌, ◌≤◌, List, ℕ, length, map, true, string_bytes};
+ghost use Rattle.std.specs.Prelude.{◌≡◌, ◌≤◌, List, ℕ, IfOk, length, map, true, string_bytes};
 ghost use Rattle.script_reader.specs.Reading.{name_in};
 ghost use Rattle.std.specs.Str.{all_ascii_digits};
 ghost use Rattle.script_reader.specs.Faults.{Gives};
 ghost use Rattle.script_reader.specs.Words.{texts};
-ghost use Rattle.script_reader.specs.Places.{word_at, end_at, at_most, is_number, number_at, value_at, is_name_byte, all_name_bytes, is_name, name_at, place_from, new_at, known_at, is_main, other_than_main, job_named, job_at};
+ghost use Rattle.script_reader.specs.Places.{word_at, end_at, at_most, is_number, number_at, value_at, places_at, count_at, operand_at, is_name_byte, all_name_bytes, is_name, name_at, place_from, new_at, known_at, is_main, other_than_main, job_named, job_at};
 
 use crate::fault::FaultKind;
+use crate::script::Operand;
 
 /// What has a name.
 pub(crate) trait Named {
@@ -91,7 +92,8 @@ pub(crate) fn number_of<'a, 'b>(
     high: u32,
     words: &'b [&'a [u8]],
 ) -> Result<(u32, &'b [&'a [u8]]), FaultKind>
-    ensures { Gives (λ x. (x.0, texts x.1.now)) result (number_at low high (texts words.now)) }
+    ensures read { Gives (λ x. (x.0, texts x.1.now)) result (number_at low high (texts words.now)) }
+    ensures few { IfOk result (λ x. x.0 ≤ high) }
 {
     let [word, rest @ ..] = words else {
         return Err(FaultKind::BadNumber);
@@ -99,6 +101,46 @@ pub(crate) fn number_of<'a, 'b>(
     match value_of(*word) {
         Some(value) if low <= value && value <= high => Ok((value, rest)),
         _ => Err(FaultKind::BadNumber),
+    }
+}
+
+/// The number of places of a channel, and the words after it.
+pub(crate) fn places_of<'a, 'b>(words: &'b [&'a [u8]]) -> Result<(u32, &'b [&'a [u8]]), FaultKind>
+    ensures { Gives (λ x. (x.0, texts x.1.now)) result (places_at (texts words.now)) }
+{
+    match words {
+        [] => Ok((16_384, words)),
+        [word, rest @ ..] if *word == b"places".as_slice() => number_of(1, 1_048_576, rest),
+        _ => Err(FaultKind::Extra),
+    }
+}
+
+/// The number of instances of a spawn, and the words after it.
+pub(crate) fn count_of<'a, 'b>(words: &'b [&'a [u8]]) -> Result<(u16, &'b [&'a [u8]]), FaultKind>
+    ensures { Gives (λ x. (x.0, texts x.1.now)) result (count_at (texts words.now)) }
+{
+    match words {
+        [] => Ok((1, words)),
+        _ => {
+            let (count, rest) = number_of(1, 16_000, words)?;
+            Ok((count as u16, rest))
+        }
+    }
+}
+
+/// What is sent, or is the result, and the words after it.
+pub(crate) fn operand_of<'a, 'b>(
+    words: &'b [&'a [u8]],
+) -> Result<(Operand, &'b [&'a [u8]]), FaultKind>
+    ensures { Gives (λ x. (x.0, texts x.1.now)) result (operand_at (texts words.now)) }
+{
+    match words {
+        [word, rest @ ..] if *word == b"it".as_slice() => Ok((Operand::It, rest)),
+        [word, rest @ ..] if *word == b"sum".as_slice() => Ok((Operand::Sum, rest)),
+        _ => {
+            let (value, rest) = number_of(0, u32::MAX, words)?;
+            Ok((Operand::Number(value), rest))
+        }
     }
 }
 

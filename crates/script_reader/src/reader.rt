@@ -1,124 +1,20 @@
 //! The script of a text.
 
-ghost use Rattle.std.specs.Prelude.{◌≡◌, length, IfOk, IfErr, MatchResult};
+ghost use Rattle.std.specs.Prelude.{◌≡◌, IfOk, IfErr, MatchResult};
 ghost use Rattle.script_reader.specs.declared.fault.FaultKind.TheVariants.{Memory};
 ghost use Rattle.script_reader.specs.Faults.{GivesAt};
-ghost use Rattle.std.specs.List.{list_all};
-ghost use Rattle.script_reader.specs.Words.{texts, has_items, words_of, lines_of, with_words};
-ghost use Rattle.script_reader.specs.Texts.{first_scripts, is_channel_line, is_job_line, has_only, may_run};
+ghost use Rattle.script_reader.specs.Texts.{first_scripts};
 ghost use Rattle.script_reader.specs.Grammar.{Spells};
 ghost use Rattle.script_reader.specs.Programs.{Program};
 ghost use Rattle.script_reader.specs.Scripts.{program_of};
 
 use crate::fault::{FaultKind, ScriptFault};
-use crate::script::{Instruction, Script};
+use crate::script::Script;
 use crate::text::read_text;
-use crate::words::{lines, words};
-use std::alloc::{AllocError, Global};
+use std::alloc::Global;
 
 /// The most bytes of a text.
 const MOST_BYTES: usize = 1_048_576;
-
-/// The most lines with words.
-const MOST_LINES: usize = 250;
-
-fn is_spoken(alloc: Global, line: &[u8]) -> Result<bool, AllocError>
-    ensures { IfOk result (λ b. b ≡ has_items (words_of line.now)) }
-{
-    let found = words(alloc, line)?;
-    Ok(!found.is_empty())
-}
-
-fn spoken_lines(alloc: Global, lines: &[&[u8]]) -> Result<usize, AllocError>
-    ensures { IfOk result (λ n. n ≡ length (with_words (texts lines.now))) }
-{
-    let mut count = 0usize;
-    let mut rest = lines;
-    while let [line, more @ ..] = rest {
-        if is_spoken(alloc, *line)? {
-            count += 1;
-        }
-        rest = more;
-    }
-    Ok(count)
-}
-
-fn count_spoken(alloc: Global, bytes: &[u8]) -> Result<usize, AllocError>
-    ensures { IfOk result (λ n. n ≡ length (with_words (lines_of bytes.now))) }
-{
-    let parts = lines(alloc, bytes)?;
-    spoken_lines(alloc, &parts)
-}
-
-fn channel_line(line: Instruction) -> bool
-    ensures { result ≡ is_channel_line line }
-{
-    matches!(
-        line,
-        Instruction::Send { c: _, value: _ } | Instruction::Receive { c: _ }
-    )
-}
-
-fn channel_lines(code: &[Instruction]) -> bool
-    ensures { result ≡ list_all is_channel_line code.now }
-{
-    let mut rest = code;
-    while let [line, more @ ..] = rest {
-        if !channel_line(*line) {
-            return false;
-        }
-        rest = more;
-    }
-    true
-}
-
-fn job_lines(code: &[Instruction]) -> bool
-    ensures { result ≡ list_all is_job_line code.now }
-{
-    let mut rest = code;
-    while let [line, more @ ..] = rest {
-        if channel_line(*line) {
-            return false;
-        }
-        rest = more;
-    }
-    true
-}
-
-/// Whether each line sends or receives.
-fn only_channels(script: &Script) -> bool
-    ensures { result ≡ has_only is_channel_line (program_of script.now) }
-{
-    let mut rest = script.blocks();
-    while let [block, more @ ..] = rest {
-        if !channel_lines(&block.code) {
-            return false;
-        }
-        rest = more;
-    }
-    true
-}
-
-/// Whether no line sends or receives.
-fn only_jobs(script: &Script) -> bool
-    ensures { result ≡ has_only is_job_line (program_of script.now) }
-{
-    let mut rest = script.blocks();
-    while let [block, more @ ..] = rest {
-        if !job_lines(&block.code) {
-            return false;
-        }
-        rest = more;
-    }
-    true
-}
-
-fn may_run(lines: usize, script: &Script) -> bool
-    ensures { result ≡ may_run lines (program_of script.now) }
-{
-    let jobs = only_jobs(script);
-    (jobs || only_channels(script)) && (jobs || lines <= MOST_LINES)
-}
 
 /// The script of a text, or its fault.
 #[tactic(auto, unfolding(crate::specs::Texts::first_scripts))]
@@ -132,14 +28,8 @@ fn read_or_fault(alloc: Global, bytes: &[u8]) -> Result<Script, ScriptFault>
             kind: FaultKind::TooMany,
         });
     }
-    let Ok(count) = count_spoken(alloc, bytes) else {
-        return Err(ScriptFault {
-            line: 0,
-            kind: FaultKind::Memory,
-        });
-    };
     match read_text(alloc, bytes) {
-        Ok(script) if may_run(count, &script) => Ok(script),
+        Ok(script) => Ok(script),
         Err(
             ScriptFault {
                 line: _,
@@ -149,7 +39,7 @@ fn read_or_fault(alloc: Global, bytes: &[u8]) -> Result<Script, ScriptFault>
             line: 0,
             kind: FaultKind::Memory,
         }),
-        _ => Err(ScriptFault {
+        Err(_) => Err(ScriptFault {
             line: 1,
             kind: FaultKind::UnknownWord,
         }),
@@ -158,9 +48,8 @@ fn read_or_fault(alloc: Global, bytes: &[u8]) -> Result<Script, ScriptFault>
 
 /// Reads a script.
 ///
-/// A text of more than 1,048,576 bytes is `line 1: TooMany`. Every other fault is told as `line 1: UnknownWord`, and so are
-/// a script with both a line of a Job and one that sends or receives, and a script with a line that sends or receives and
-/// more than 250 lines with words. Where memory runs out, the line is 0.
+/// A text of more than 1,048,576 bytes is `line 1: TooMany`. Every other fault is told as `line 1: UnknownWord`. Where memory
+/// runs out, the line is 0.
 pub fn read(alloc: Global, bytes: &[u8]) -> Result<Script, ScriptFault>
     ensures exact { GivesAt program_of result (first_scripts bytes.now) }
     ensures spelled { IfOk result (λ script. Spells bytes.now (program_of script)) }
@@ -173,16 +62,18 @@ pub fn read(alloc: Global, bytes: &[u8]) -> Result<Script, ScriptFault>
 #[cfg(test)]
 mod tests {
     use super::*;
+    use crate::script::{Instruction, Operand};
     use channel_model::Kind;
     use std::test::Fail;
 
     #[test]
     fn reads_a_script(rt: HostRuntime) -> Result<(), Fail> {
         let text =
-            b"channel a rendezvous\r\n\t \r\nchannel b_2  rendezvous\ncoroutine p\n\tsend a 4294967295\n  receive b_2\nend\n\ncoroutine main\nend\nspawn p\nspawn p";
+            b"channel a rendezvous places 1\r\n\t \r\nchannel b_2  rendezvous\ncoroutine p\n\tsend a 4294967295\n  receive b_2\nsend a it\nend\n\ncoroutine main\nend\nspawn p\nspawn p 3";
         let script = read(rt.alloc(), text.as_slice())?;
         let channels = script.channels();
         assert_eq!(rt; channels.len(), 2);
+        assert_eq!(rt; channels[0].places, 1);
         assert_eq!(rt; channels[1].name.as_str(), "b_2");
         assert_eq!(rt; channels[1].kind, Kind::Rendezvous);
         assert_eq!(rt; channels[1].places, 16_384);
@@ -190,19 +81,29 @@ mod tests {
         assert_eq!(rt; blocks.len(), 2);
         assert_eq!(rt; blocks[0].name.as_str(), "p");
         let code = blocks[0].code.as_slice();
-        assert_eq!(rt; code.len(), 2);
+        assert_eq!(rt; code.len(), 3);
         assert_eq!(rt;
             code[0],
             Instruction::Send {
                 c: 0,
-                value: 4_294_967_295
+                value: Operand::Number(4_294_967_295)
             }
         );
         assert_eq!(rt; code[1], Instruction::Receive { c: 1 });
-        assert_eq!(rt; script.spawns().len(), 2);
-        assert_eq!(rt; script.coroutines(), 3);
+        assert_eq!(rt;
+            code[2],
+            Instruction::Send {
+                c: 0,
+                value: Operand::It
+            }
+        );
+        let spawns = script.spawns();
+        assert_eq!(rt; spawns.len(), 2);
+        assert_eq!(rt; spawns[0].count, 1);
+        assert_eq!(rt; spawns[1].count, 3);
+        assert_eq!(rt; script.coroutines(), 5);
         assert_eq!(rt; script.coroutine_of(0), 1);
-        assert_eq!(rt; script.coroutine_of(2), 0);
+        assert_eq!(rt; script.coroutine_of(4), 0);
         Ok(())
     }
 
@@ -242,13 +143,62 @@ mod tests {
         let main = blocks[2].code.as_slice();
         assert_eq!(rt; main.len(), 4);
         assert_eq!(rt; main[2], Instruction::Start { job: 0 });
-        assert_eq!(rt; main[3], Instruction::SetResult { value: 4 });
+        assert_eq!(rt;
+            main[3],
+            Instruction::SetResult {
+                value: Operand::Number(4)
+            }
+        );
         assert_eq!(rt; script.size_of(1), 3);
         assert_eq!(rt; script.coroutines(), 6);
         assert_eq!(rt; script.coroutine_of(0), 2);
         assert_eq!(rt; script.coroutine_of(1), 0);
         assert_eq!(rt; script.coroutine_of(2), 1);
         assert_eq!(rt; script.coroutine_of(5), 0);
+        Ok(())
+    }
+
+    #[test]
+    fn reads_a_mixed_script(rt: HostRuntime) -> Result<(), Fail> {
+        let text =
+            b"channel a rendezvous\ncoroutine p\nreceive a\nreceive a\nresult sum\nend\ncoroutine main\nlaunch p as j\nsend a 5\nyield\nsend a 6\ncancel j\nresult it\nend\nspawn p 7999";
+        let script = read(rt.alloc(), text.as_slice())?;
+        let blocks = script.blocks();
+        assert_eq!(rt; blocks.len(), 2);
+        let p = blocks[0].code.as_slice();
+        assert_eq!(rt; p.len(), 3);
+        assert_eq!(rt;
+            p[2],
+            Instruction::SetResult {
+                value: Operand::Sum
+            }
+        );
+        let main = blocks[1].code.as_slice();
+        assert_eq!(rt; main.len(), 6);
+        assert_eq!(rt; main[2], Instruction::Yield);
+        assert_eq!(rt; main[5], Instruction::SetResult { value: Operand::It });
+        assert_eq!(rt; script.coroutines(), 8_001);
+        assert_eq!(rt; script.coroutine_of(7_999), 0);
+        Ok(())
+    }
+
+    #[test]
+    fn reads_two_long_blocks(rt: HostRuntime) -> Result<(), Fail> {
+        let mut text = Vec::new(rt.alloc());
+        text.extend_from_slice(b"channel a rendezvous places 1048576\ncoroutine p\n".as_slice())?;
+        for _ in 0..45_000 {
+            text.extend_from_slice(b"receive a\n".as_slice())?;
+        }
+        text.extend_from_slice(b"end\ncoroutine main\n".as_slice())?;
+        for _ in 0..45_000 {
+            text.extend_from_slice(b"send a sum\n".as_slice())?;
+        }
+        text.extend_from_slice(b"end\nspawn p\n".as_slice())?;
+        let script = read(rt.alloc(), &text)?;
+        let blocks = script.blocks();
+        assert_eq!(rt; blocks.len(), 2);
+        assert_eq!(rt; blocks[0].code.len(), 45_000);
+        assert_eq!(rt; blocks[1].code.len(), 45_000);
         Ok(())
     }
 
@@ -265,7 +215,20 @@ mod tests {
             b"channel a rendezvous\nchannel a rendezvous\ncoroutine main\nend".as_slice(),
             b"coroutine main\nend # done".as_slice(),
             b"coroutine main\x0b\nend".as_slice(),
-            b"channel a rendezvous\ncoroutine main\nyield\nreceive a\nend".as_slice(),
+            b"channel a rendezvous places 0\ncoroutine main\nend".as_slice(),
+            b"channel a rendezvous places 1048577\ncoroutine main\nend".as_slice(),
+            b"channel a rendezvous places\ncoroutine main\nend".as_slice(),
+            b"channel a rendezvous 5\ncoroutine main\nend".as_slice(),
+            b"channel a rendezvous places 5 6\ncoroutine main\nend".as_slice(),
+            b"channel a rendezvous places 1048576\nchannel b rendezvous places 1048576\nchannel c rendezvous places 1048576\nchannel d rendezvous places 1048576\nchannel e rendezvous places 1\ncoroutine main\nend".as_slice(),
+            b"channel a rendezvous\ncoroutine main\nsend a its\nend".as_slice(),
+            b"channel a rendezvous\ncoroutine main\nsend a\nend".as_slice(),
+            b"coroutine main\nresult it sum\nend".as_slice(),
+            b"coroutine main\nfail it\nend".as_slice(),
+            b"coroutine p\nend\ncoroutine main\nend\nspawn p 0".as_slice(),
+            b"coroutine p\nend\ncoroutine main\nend\nspawn p 1 1".as_slice(),
+            b"coroutine p\nend\ncoroutine main\nend\nspawn p 16000".as_slice(),
+            b"coroutine p\nend\ncoroutine main\nend\nspawn p x".as_slice(),
             b"coroutine main\nlaunch main\nend".as_slice(),
             b"coroutine p\nlaunch main\nend\ncoroutine main\nend".as_slice(),
             b"coroutine p\nend\ncoroutine main\nlaunch p as j\nlazy p as j\nend".as_slice(),

@@ -13,6 +13,6 @@ pub(crate) struct Reading {
     pub(crate) weights: Vec<u16>,
     /// Of the block that is open.
     pub(crate) weight: usize,
-    /// Of main and of the block of each spawn.
+    /// Of main and of the instances of each spawn.
     pub(crate) load: usize,
 }

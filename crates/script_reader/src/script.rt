@@ -2,7 +2,7 @@
 
 ghost use Rattle.std.proofs.Props.{props};
 ghost use Rattle.std.specs.Prelude.{◌≡◌, ◌<◌, length, map, Some};
-ghost use Rattle.script_reader.specs.Programs.{program_from, IsProgram, declared_of, block_of, block_of_tag, coroutine_count, tags_of, size_of, sizes_in};
+ghost use Rattle.script_reader.specs.Programs.{program_from, IsProgram, declared_of, block_of, spawn_of, block_of_tag, coroutine_count, tags_of, size_of, sizes_in};
 
 use channel_model::Kind;
 use co_base::{ChannelId, Tag, Value};
@@ -15,12 +15,22 @@ pub struct Channel {
     pub places: u32,
 }
 
+/// What a line sends, or gives as the result: a number, or the word that stands for one while the script runs.
+#[derive(Clone, Copy, Debug, PartialEq, Eq)]
+pub enum Operand {
+    Number(Value),
+    /// The word `it`.
+    It,
+    /// The word `sum`.
+    Sum,
+}
+
 /// One line of a coroutine.
 #[derive(Clone, Copy, Debug, PartialEq, Eq)]
 pub enum Instruction {
     Send {
         c: ChannelId,
-        value: Value,
+        value: Operand,
     },
     Receive {
         c: ChannelId,
@@ -42,7 +52,7 @@ pub enum Instruction {
         code: Value,
     },
     SetResult {
-        value: Value,
+        value: Operand,
     },
 }
 
@@ -55,10 +65,12 @@ pub struct Coroutine {
     pub code: Vec<Instruction>,
 }
 
-/// An instance of a coroutine that runs from the start, named by the coroutine's number in the script.
+/// Instances of a coroutine that run from the start: the coroutine's number in the script, and how many they are.
 #[derive(Clone, Copy, Debug, PartialEq, Eq)]
 pub struct Spawn {
     pub coroutine: u16,
+    /// 1 to 16,000.
+    pub count: u16,
 }
 
 /// A script that was read. Channels, coroutines and spawns are numbered from 0, each in the order of their lines.
@@ -95,7 +107,7 @@ impl Script {
 
     /// The instances that run from the start beside main, in the order of their lines. The first has the tag 1.
     pub fn spawns(&self) -> &[Spawn]
-        ensures { map (λ s. s.coroutine) result.now ≡ (program_of self.now).spawns }
+        ensures { map spawn_of result.now ≡ (program_of self.now).spawns }
     {
         self.spawns.as_slice()
     }

@@ -1,8 +1,8 @@
 //! The blocks of all tags.
 
-ghost use Rattle.std.specs.Prelude.{◌≡◌, ◌++◌, ◌<◌, ◌≤◌, OnOk, IfOk, List, ℕ, Some, true, length, map, nat_lt, reverse};
+ghost use Rattle.std.specs.Prelude.{◌≡◌, ◌++◌, ◌<◌, ◌≤◌, OnOk, IfOk, List, ℕ, Some, true, length, map, replicate, reverse};
 ghost use Rattle.std.specs.List.{list_all};
-ghost use Rattle.script_reader.specs.Programs.{block_of, launch_of, launched, launch_back, tags_for};
+ghost use Rattle.script_reader.specs.Programs.{block_of, spawn_of, launch_of, launched, launch_back, spawned_by, is_spawn, tags_for};
 
 use crate::script::{Coroutine, Instruction, Spawn};
 use std::alloc::{AllocError, Global};
@@ -62,14 +62,27 @@ fn push_blocks(stack: &mut Vec<u16>, blocks: &[u16]) -> Result<(), AllocError>
     Ok(())
 }
 
+/// Puts a block on the stack so many times.
+fn push_copies(stack: &mut Vec<u16>, block: u16, count: u16) -> Result<(), AllocError>
+    ensures { OnOk result (reverse stack.new.items ≡ replicate count block ++ reverse stack.old.items) }
+{
+    let mut pushed = 0u16;
+    while pushed < count {
+        stack.push(block)?;
+        pushed += 1;
+    }
+    Ok(())
+}
+
 /// Puts the blocks of the spawns on the stack, the first of them on top.
 fn push_spawned(stack: &mut Vec<u16>, spawns: &[Spawn]) -> Result<(), AllocError>
-    ensures { OnOk result (reverse stack.new.items ≡ map (λ s. s.coroutine) spawns.now ++ reverse stack.old.items) }
+    ensures { OnOk result (reverse stack.new.items ≡ spawned_by (map spawn_of spawns.now) ++ reverse stack.old.items) }
 {
     let mut left = spawns.len();
     while left > 0 {
         left -= 1;
-        stack.push(spawns[left].coroutine)?;
+        let Spawn { coroutine, count } = spawns[left];
+        push_copies(stack, coroutine, count)?;
     }
     Ok(())
 }
@@ -86,9 +99,9 @@ pub(crate) fn tags_in(
 ) -> Result<Vec<u16>, AllocError>
     requires back { launch_back 0 (map block_of coroutines.now) ≡ true }
     requires main { main < length coroutines.now }
-    requires spawns { list_all (λ i. nat_lt i (length (map block_of coroutines.now))) (map (λ s. s.coroutine) spawns.now) ≡ true }
-    requires few { length (tags_for (map block_of coroutines.now) (map (λ s. s.coroutine) spawns.now) (Some main)) ≤ 16000 }
-    ensures { IfOk result (λ tags. tags.items ≡ tags_for (map block_of coroutines.now) (map (λ s. s.coroutine) spawns.now) (Some main)) }
+    requires spawns { list_all (is_spawn (length (map block_of coroutines.now))) (map spawn_of spawns.now) ≡ true }
+    requires few { length (tags_for (map block_of coroutines.now) (spawned_by (map spawn_of spawns.now)) (Some main)) ≤ 16000 }
+    ensures { IfOk result (λ tags. tags.items ≡ tags_for (map block_of coroutines.now) (spawned_by (map spawn_of spawns.now)) (Some main)) }
 {
     let each = launched_by_each(alloc, coroutines)?;
     let mut tags = Vec::new(alloc);

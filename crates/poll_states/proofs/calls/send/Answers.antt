@@ -1,5 +1,6 @@
-use Rattle.std.proofs.Common.{refl, arith}
+use Rattle.std.proofs.Common.{refl, ap, arith}
 use Rattle.script_reader.proofs.Declarations.{send-within}
+use Rattle.poll_states.proofs.Waits.{is_waiting}
 use Rattle.poll_states.proofs.Moves.{line_short, channel_stepped}
 use Rattle.poll_states.proofs.Stepping.{cut_nothing, may_call, room_call, note_after, no_signal}
 use Rattle.poll_states.proofs.calls.send.Goals as goal
@@ -17,4 +18,4 @@ pub go_on-requires-clause-line : goal.go_on-requires-clause-line
 go_on-requires-clause-line g c = let h = line_short c.args.script.now c.args.frame.now.tag _ _ c.requires.at.line_is in omega (arith, h)
 
 pub returns-clause-came : goal.returns-clause-came
-returns-clause-came g c = rw c.offer-step.ensures.jobs (channel_stepped _ _ _ _ _ _ _ _ c.requires.stands c.in_default.ensures.ok (c.offer-step.ensures.made _) (c.offer-step.ensures.call _ _ _ _ c.requires.at) c.go_on.ensures.tag c.go_on.ensures.config (note_after _ _ _ _ c.go_on.ensures.items c.room.ensures.items))
+returns-clause-came g c = rw c.offer-step.ensures.jobs (channel_stepped _ _ _ _ _ _ _ _ c.requires.stands c.in_default.ensures.ok (c.offer-step.ensures.made _) (c.offer-step.ensures.call _ _ _ _ _ c.requires.at c.value_of.ensures) (ap is_waiting c.requires.at.stage) c.go_on.ensures.tag c.go_on.ensures.config (note_after _ _ _ _ c.go_on.ensures.items c.room.ensures.items))

@@ -8,13 +8,13 @@ pub returns-in-Some-clause-call : goal.returns-in-Some-clause-call
 returns-in-Some-clause-call g c = λ p seen before x at. takes x _ _ _ at
 
 pub returns-in-Some-clause-made : goal.returns-in-Some-clause-made
-returns-in-Some-clause-made g c = λ base h. ran_on _ _ _ _ _ c.in-Taken.ensures.answer.made refl refl refl c.requires.free
+returns-in-Some-clause-made g c = λ base h. ran_on _ _ _ _ _ _ c.in-Taken.ensures.answer.made refl refl refl c.requires.free
 
 pub returns-in_default-clause-call : goal.returns-in_default-clause-call
 returns-in_default-clause-call g c = λ p seen before x at. takes x _ _ _ at
 
 pub returns-in_default-clause-made : goal.returns-in_default-clause-made
-returns-in_default-clause-made g c = λ base h. ran_on _ _ _ _ _ c.in-Taken.ensures.answer.made refl refl refl c.requires.free
+returns-in_default-clause-made g c = λ base h. ran_on _ _ _ _ _ _ c.in-Taken.ensures.answer.made refl refl refl c.requires.free
 
 pub returns-in-Waiting-clause-call : goal.returns-in-Waiting-clause-call
 returns-in-Waiting-clause-call g c = λ p seen before x at. awaits x _ _ at

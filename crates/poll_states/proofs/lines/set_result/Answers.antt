@@ -1,4 +1,6 @@
-use Rattle.std.proofs.Common.{arith}
+use Rattle.std.proofs.Common.{ap, ◌∙◌, arith}
+use Rattle.poll_states.specs.Runs.{next, with_result}
+use Rattle.poll_states.specs.Frames.{config_of}
 use Rattle.poll_states.proofs.Moves.{line_short}
 use Rattle.poll_states.proofs.Stepping.{result_set}
 use Rattle.poll_states.proofs.lines.set_result.Goals as goal
@@ -7,4 +9,4 @@ pub next_line-requires : goal.next_line-requires
 next_line-requires g c = let h = line_short c.args.script.now c.args.frame.now.tag _ _ c.requires.at.line_is in omega (arith, h)
 
 pub returns-clause-came : goal.returns-clause-came
-returns-clause-came g c = result_set _ _ _ _ _ _ c.requires.stands c.requires.at c.next_line.ensures.tag c.next_line.ensures.config c.next_line.ensures.items
+returns-clause-came g c = result_set _ _ _ _ _ _ c.requires.stands c.requires.at c.next_line.ensures.tag (c.next_line.ensures.config ∙ ap (λ v. next (with_result v (config_of c.args.frame.now))) c.value_of-frame.ensures) c.next_line.ensures.items

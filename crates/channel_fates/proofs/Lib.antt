@@ -1,0 +1,13 @@
+pub mod Turning
+pub mod Appended
+pub mod Places
+pub mod Known
+pub mod Chosen
+pub mod ChosenOnce
+pub mod Endings
+pub mod Kept
+pub mod Held
+pub mod OwnPlaces
+pub mod Traced
+pub mod AtMostOne
+pub mod HeldFates

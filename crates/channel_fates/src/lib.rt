@@ -1,0 +1,7 @@
+//! What becomes of elements: each has at most one fate, in every legal history of the channels. The laws are the contracts of the functions of
+//! `laws`, whose bodies are empty.
+#![tactic(auto)]
+
+mod laws;
+
+pub use laws::{an_element_has_at_most_one_fate, an_element_without_a_fate_is_held};
