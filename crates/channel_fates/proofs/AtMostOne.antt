@@ -8,12 +8,12 @@ use Rattle.channel_model.specs.declared.acts.Act.TheVariants.{Take, Drop, Drain}
 use Rattle.channel_model.specs.declared.acts.Entry.{Entry}
 use Rattle.channel_model.specs.Channels.{Shape, State, kind_at}
 use Rattle.channel_model.specs.Histories.{replay, acts_in, Legal}
-use Rattle.channel_model.specs.Fates.{is_at, hands, takes, admits, drops_at, drains, withdraws, settles_value, settles_undelivered, resolves_at, offers_at, first_some, wait_at, is_wait, resolves_elsewhere, is_chosen_elsewhere, of_wait, of_offer, is_received, is_taken_back, is_undelivered_at, is_dropped, is_withdrawn}
+use Rattle.channel_model.specs.Fates.{is_at, hands, takes, admits, drops_at, drains, withdraws, settles_value, settles_undelivered, resolves_at, offers_at, first_some, wait_at, is_wait, resolves_elsewhere, is_chosen_elsewhere, of_wait, of_offer, is_received, is_taken_back, is_undelivered_at, is_dropped, is_withdrawn, removes}
 use Rattle.channel_model.specs.Laws.{how_many}
 use Rattle.channel_fates.specs.OneFate.{IsAtMostOneFate}
 use Rattle.channel_model.proofs.Waits.{same_wait-eq}
 use Rattle.channel_fates.proofs.Appended.{any_count, found}
-use Rattle.channel_fates.proofs.Places.{enters, leaves, Counted}
+use Rattle.channel_fates.proofs.Places.{enters, Counted}
 use Rattle.channel_fates.proofs.Known.{offers, enters_count, handed_answered, clause_offered, here}
 use Rattle.channel_fates.proofs.Chosen.{Chosen, resolver, is_this}
 use Rattle.channel_fates.proofs.Endings.{waits_or_drops}
@@ -108,13 +108,13 @@ withdrawn_is c p acts e =
 
 -- ---- counts
 
-one_leaves : (c p : ℕ) (act : Act) → cond (takes c p act) 1 0 + cond (drains c p act) 1 0 + cond (drops_at c p act) 1 0 ≡ cond (leaves c p act) 1 0
+one_leaves : (c p : ℕ) (act : Act) → cond (takes c p act) 1 0 + cond (drains c p act) 1 0 + cond (drops_at c p act) 1 0 ≡ cond (removes c p act) 1 0
 one_leaves c p (Take d q v) = omega arith
 one_leaves c p (Drop d q v) = omega arith
 one_leaves c p (Drain d q v) = omega arith
 one_leaves c p other = refl
 
-pub leaves_count : (c p : ℕ) (acts : List Act) → how_many (takes c p) acts + how_many (drains c p) acts + how_many (drops_at c p) acts ≡ how_many (leaves c p) acts
+pub leaves_count : (c p : ℕ) (acts : List Act) → how_many (takes c p) acts + how_many (drains c p) acts + how_many (drops_at c p) acts ≡ how_many (removes c p) acts
 leaves_count c p [] = refl
 leaves_count c p (a ∷ acts) = let k = one_leaves c p a in let m = leaves_count c p acts in omega arith
 

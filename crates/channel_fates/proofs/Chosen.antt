@@ -10,90 +10,15 @@ use Rattle.channel_model.specs.declared.acts.Kind.{Kind}
 use Rattle.channel_model.specs.declared.standing.Party.{Party}
 use Rattle.channel_model.specs.declared.standing.Standing.{Standing}
 use Rattle.channel_model.specs.declared.standing.Receiver.{Receiver}
-use Rattle.channel_model.specs.declared.standing.Resolution.{Resolution}
-use Rattle.channel_model.specs.Channels.{Shape, State, Channel, Wait, same_wait, kind_at, is_full}
-use Rattle.channel_model.specs.Effects.{after, resolve_first, resolve_holder, resolve_offer, remove_first, with_queue, put_wait, name_clause, settled_wait, admitted, holder_at}
+use Rattle.channel_model.specs.Channels.{Shape, State, Channel, same_wait, kind_at, is_full}
+use Rattle.channel_model.specs.Effects.{holder_at}
 use Rattle.channel_model.specs.Needs.{Needs, IsFirstOffer, IsFirstReceiver, MayBeAdmitted}
-use Rattle.channel_model.specs.Fates.{is_at, admits, withdraws, wait_at, places_wait, resolves_at}
+use Rattle.channel_model.specs.Fates.{is_at, admits, withdraws, wait_at, places_wait, resolves_at, removes}
 use Rattle.channel_model.specs.Laws.{how_many, wait_of_party, first_waiting, first_holding, resolves}
 use Rattle.channel_model.proofs.Waits.{same_wait-eq, same_wait-refl}
-use Rattle.channel_model.specs.Answers.{IsResolvedWait}
 use Rattle.channel_fates.proofs.Appended.{any_count, count_last, found, first_found, first_kept, first_last}
-use Rattle.channel_fates.proofs.Places.{enters, awaits, leaves, answers, Counted, at_both}
+use Rattle.channel_fates.proofs.Places.{enters, awaits, answers, Counted, at_both}
 use Rattle.channel_fates.proofs.Known.{puts, offers, HolderKnown, OfferKnown, ReceiverKnown, AllKnown, places_none, enters_count}
-
--- ---- how a wait was resolved stays, unless the act resolves it
-
-abbrev pub resolution_of : Option Wait → Option Resolution
-resolution_of None = None
-resolution_of (Some x) = x.resolved
-
--- the resolution is as before, or the wait is the one that the act resolves
-abbrev Resolves : Option WaitId → WaitId → (waits waits' : WaitId → Option Wait) → Type 0
-Resolves o v waits waits' = (resolution_of (waits' v) ≡ resolution_of (waits v)) ⊎ (o ≡ Some v)
-
-one_resolves : (w v : WaitId) (x : Option Wait) (waits : WaitId → Option Wait) → Resolves (Some w) v waits (put_wait w x waits)
-one_resolves w v x waits = by_test (same_wait w v) refl
-  where
-    by_test : (b : Bool) → same_wait w v ≡ b → (resolution_of (if b then x else waits v) ≡ resolution_of (waits v)) ⊎ (Some w ≡ Some v)
-    by_test true e = inr (ap (λ u. Some u) (same_wait-eq w v e))
-    by_test false e = inl refl
-
-first_resolves : (v : WaitId) (rs : List Receiver) (how : ℕ → Resolution) (s : State) → Resolves (first_waiting rs) v s.waits (resolve_first rs how s).waits
-first_resolves v [] how s = inl refl
-first_resolves v (r ∷ rs) how s = one_resolves r.party.wait v _ s.waits
-
-holder_resolves : (v : WaitId) (p : Option Party) (how : ℕ → Resolution) (s : State) → Resolves (wait_of_party p) v s.waits (resolve_holder p how s).waits
-holder_resolves v None how s = inl refl
-holder_resolves v (Some p) how s = one_resolves p.wait v _ s.waits
-
-offer_resolves : (v : WaitId) (c : ℕ) (os : List Standing) (how : ℕ → Resolution) (s : State) → Resolves (first_holding os) v s.waits (resolve_offer c os how s).waits
-offer_resolves v c [] how s = inl refl
-offer_resolves v c (o ∷ os) how s = holder_resolves v o.holder how (with_queue c os s)
-
-remove_resolves : (v : WaitId) (c : ℕ) (os : List Standing) (s : State) → resolution_of ((remove_first c os s).waits v) ≡ resolution_of (s.waits v)
-remove_resolves v c [] s = refl
-remove_resolves v c (o ∷ os) s = refl
-
--- a change of one wait that leaves its resolution
-one_leaves : (w v : WaitId) (f : Option Wait → Option Wait) (waits : WaitId → Option Wait) → ((x : Option Wait) → resolution_of (f x) ≡ resolution_of x) → resolution_of (put_wait w (f (waits w)) waits v) ≡ resolution_of (waits v)
-one_leaves w v f waits k = by_test (same_wait w v) refl
-  where
-    by_test : (b : Bool) → same_wait w v ≡ b → resolution_of (if b then f (waits w) else waits v) ≡ resolution_of (waits v)
-    by_test true e = k (waits w) ∙ ap (λ u. resolution_of (waits u)) (same_wait-eq w v e)
-    by_test false e = refl
-
-named_leaves : (who k c : ℕ) (x : Option Wait) → resolution_of (name_clause who k c x) ≡ resolution_of x
-named_leaves who k c None = refl
-named_leaves who k c (Some x) = refl
-
-settled_leaves : (x : Option Wait) → resolution_of (settled_wait x) ≡ resolution_of x
-settled_leaves None = refl
-settled_leaves (Some x) = refl
-
-pub resolution_kept : (s : State) (who : ℕ) (act : Act) (v : WaitId) → (resolution_of ((after s who act).waits v) ≡ resolution_of (s.waits v)) ⊎ (resolves s act ≡ Some v)
-resolution_kept s who (Hand c p x) v = first_resolves v (s.channels c).receivers _ s
-resolution_kept s who (Put c p x) v = inl refl
-resolution_kept s who (Offer c p x w k) v = inl (one_leaves w v (name_clause who k c) s.waits (named_leaves who k c))
-resolution_kept s who (Await c p w k) v = inl (one_leaves w v (name_clause who k c) s.waits (named_leaves who k c))
-resolution_kept s who (Take c p x) v = offer_resolves v c (s.channels c).queue _ s
-resolution_kept s who (Admit c p) v = holder_resolves v (holder_at p (s.channels c).queue) _ (with_queue c (admitted p (s.channels c).queue) s)
-resolution_kept s who (Drop c p x) v = inl (remove_resolves v c (s.channels c).queue s)
-resolution_kept s who (Close c x) v = inl refl
-resolution_kept s who (Void c) v = inl refl
-resolution_kept s who (Drain c p x) v = offer_resolves v c (s.channels c).queue _ s
-resolution_kept s who (WakeClosed c p) v = first_resolves v (s.channels c).receivers _ s
-resolution_kept s who (Withdraw w why) v = one_resolves w v _ s.waits
-resolution_kept s who (Settle w outcome) v = inl (one_leaves w v settled_wait s.waits settled_leaves)
-
-resolved_same : (x y : Option Wait) → resolution_of x ≡ resolution_of y → IsResolvedWait x → IsResolvedWait y
-resolved_same None None e h = h
-resolved_same None (Some y) e h = absurd h
-resolved_same (Some x) None e h = let f : x.resolved ≡ None = e in cc
-resolved_same (Some x) (Some y) e h = ap is_some (sym e) ∙ h
-
-pub resolved_before : (s : State) (who : ℕ) (act : Act) (v : WaitId) → IsResolvedWait ((after s who act).waits v) → IsResolvedWait (s.waits v) ⊎ (resolves s act ≡ Some v)
-resolved_before s who act v h = ⊎_elim (λ e. inl (resolved_same ((after s who act).waits v) (s.waits v) e h)) (λ e. inr e) (resolution_kept s who act v)
 
 -- ---- the wait that an act resolves is that of its place
 
@@ -184,7 +109,7 @@ this_place c p (Some x) e = let k = at_both c p x.0 x.1 e in ap (λ y. Some y) (
     pair : (a b m n : ℕ) → a ≡ m → b ≡ n → ◌≡◌ {A = ℕ × ℕ} (a, b) (m, n)
     pair a b m n e f = cc
 
-pub resolver_is : (c p : ℕ) (act : Act) → resolver c p act ≡ true → (answers c p act ≡ true) ⊎ ((leaves c p act ≡ true) ⊎ (admits c p act ≡ true))
+pub resolver_is : (c p : ℕ) (act : Act) → resolver c p act ≡ true → (answers c p act ≡ true) ⊎ ((removes c p act ≡ true) ⊎ (admits c p act ≡ true))
 resolver_is c p (Hand d q v) e = inl e
 resolver_is c p (Take d q v) e = inr (inl e)
 resolver_is c p (Admit d q) e = inr (inr e)
@@ -199,7 +124,7 @@ resolver_given c p acts ch h e =
     ⊎_elim
     (λ k. let n = any_count (answers c p) acts (f.2 (answers c p) k) in omega (arith, h.receivers))
     (λ m. ⊎_elim
-    (λ k. let n = any_count (leaves c p) acts (f.2 (leaves c p) k) in omega (arith, h.queue))
+    (λ k. let n = any_count (removes c p) acts (f.2 (removes c p) k) in omega (arith, h.queue))
     (λ k. let n = h.admitted (f.2 (admits c p) k) in omega arith)
     m)
     (resolver_is c p f.0 f.1)

@@ -11,13 +11,13 @@ use Rattle.channel_model.specs.Needs.{Needs}
 use Rattle.channel_model.specs.Fates.{admits, withdraws, wait_at, places_wait, resolves_at}
 use Rattle.channel_model.specs.Laws.{AllStandOpen, how_many, resolves}
 use Rattle.channel_model.proofs.OpenWaits.{after_open, start_open}
-use Rattle.channel_model.proofs.Resolutions.{resolved_stays}
-use Rattle.channel_fates.proofs.Turning.{Turns, resolves_turns, always_keeps}
+use Rattle.channel_model.proofs.Causes.{resolved_before}
+use Rattle.channel_model.proofs.Resolutions.{resolved_stays, Turns, resolves_turns, always_keeps}
 use Rattle.channel_model.specs.Answers.{IsResolvedWait}
 use Rattle.channel_fates.proofs.Appended.{any_kept, any_last, any_cases, any_count, found, first_kept}
 use Rattle.channel_fates.proofs.Places.{enters, awaits, Counted, counted_after, start_counted}
 use Rattle.channel_fates.proofs.Known.{puts, enters_count, AllKnown, known_after, start_known, here}
-use Rattle.channel_fates.proofs.Chosen.{Chosen, Source, Unheld, is_this, resolver, resolved_before, source_of, withdraws_only, withdrawn_now, this_place, resolver_given, wait_before, put_alone}
+use Rattle.channel_fates.proofs.Chosen.{Chosen, Source, Unheld, is_this, resolver, source_of, withdraws_only, withdrawn_now, this_place, resolver_given, wait_before, put_alone}
 
 -- what the acts say of the channels
 pub record Told (acts : List Act) (s : State) : Type 0 where

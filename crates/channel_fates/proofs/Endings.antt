@@ -1,105 +1,34 @@
 -- How waits ended, as the acts say it, and which kinds of channels had offers.
-use Rattle.std.specs.Prelude.{◌≡◌, ℕ, Bool, true, false, ◌&&◌, List, [], ◌∷◌, ◌++◌, length, Option, Some, None, refl, if◌then◌else◌, ◌⊎◌, is_some}
+use Rattle.std.specs.Prelude.{◌≡◌, ℕ, Bool, true, false, ◌&&◌, List, [], ◌∷◌, ◌++◌, length, Option, Some, None, refl, ◌⊎◌, is_some}
 use Rattle.std.specs.List.{list_any}
 use Rattle.std.proofs.Common.{sym, ap, ◌∙◌, subst, arith, inl, inr, ⊎_elim}
 use Rattle.co_base.specs.declared.names.WaitId.{WaitId}
 use Rattle.channel_model.specs.declared.acts.Act.{Act}
-use Rattle.channel_model.specs.declared.acts.Act.TheVariants.{Hand, Put, Offer, Await, Take, Admit, Drop, Close, Void, Drain, WakeClosed, Withdraw, Settle}
+use Rattle.channel_model.specs.declared.acts.Act.TheVariants.{Hand, Offer, Drop, Settle}
 use Rattle.channel_model.specs.declared.acts.Settled.{Settled}
 use Rattle.channel_model.specs.declared.acts.Settled.TheVariants as settled
 use Rattle.channel_model.specs.declared.acts.Kind.{Kind}
 use Rattle.channel_model.specs.declared.acts.Kind.TheVariants.{Rendezvous, Buffered, Unlimited, Conflated, DropOldest, Signal}
-use Rattle.channel_model.specs.declared.standing.Party.{Party}
-use Rattle.channel_model.specs.declared.standing.Standing.{Standing}
 use Rattle.channel_model.specs.declared.standing.Receiver.{Receiver}
 use Rattle.channel_model.specs.declared.standing.Resolution.{Resolution}
 use Rattle.channel_model.specs.declared.standing.Resolution.TheVariants as resolved
 use Rattle.channel_model.specs.Channels.{Shape, State, Wait, same_wait, start, kind_at, suspends, drops}
 use Rattle.channel_model.specs.Outcomes.{IsOutcome, value_given}
-use Rattle.channel_model.specs.Effects.{after, resolve, resolve_first, resolve_holder, resolve_offer, remove_first, with_queue, put_wait, resolved_wait, name_clause, admitted, holder_at}
+use Rattle.channel_model.specs.Effects.{after, resolve, resolve_first, resolved_wait}
 use Rattle.channel_model.specs.Needs.{Needs, MaySettle}
 use Rattle.channel_model.specs.Fates.{hands, drops_at, is_value, is_undelivered, settles_value, settles_undelivered, places_wait, wait_at, resolves_at}
 use Rattle.channel_model.specs.Laws.{first_waiting, resolves, settles}
 use Rattle.channel_model.proofs.Waits.{same_wait-eq, same_wait-refl, at_wait}
-use Rattle.channel_model.proofs.Resolutions.{IsSettledWait, resolved_stays, settled_stays}
-use Rattle.channel_fates.proofs.Turning.{Turns, resolves_turns, settles_turns, always_keeps}
-use Rattle.channel_model.specs.Answers.{IsResolvedWait}
+use Rattle.channel_model.proofs.Resolutions.{resolved_stays, settled_stays, Turns, resolves_turns, settles_turns, always_keeps}
+use Rattle.channel_model.specs.Answers.{IsResolvedWait, IsSettledWait}
 use Rattle.channel_fates.proofs.Appended.{any_kept, any_last, any_cases, any_count, count_last, first_kept}
 use Rattle.channel_fates.proofs.Places.{enters, counted_after, at_both}
 use Rattle.channel_fates.proofs.Known.{puts, offers, enters_count, handed_answered}
-use Rattle.channel_fates.proofs.Chosen.{Unheld, resolution_of, resolution_kept, source_of, wait_before}
+use Rattle.channel_model.proofs.Causes.{resolution_of, resolution_kept, settled_before}
+use Rattle.channel_fates.proofs.Chosen.{Unheld, source_of, wait_before}
 use Rattle.channel_fates.proofs.ChosenOnce.{Told}
 
 -- ---- settling
-
-abbrev settled_of : Option Wait → Bool
-settled_of None = false
-settled_of (Some x) = x.settled
-
--- a change of one wait that leaves whether it is settled
-one_leaves : (w v : WaitId) (f : Option Wait → Option Wait) (waits : WaitId → Option Wait) → ((x : Option Wait) → settled_of (f x) ≡ settled_of x) → settled_of (put_wait w (f (waits w)) waits v) ≡ settled_of (waits v)
-one_leaves w v f waits k = by_test (same_wait w v) refl
-  where
-    by_test : (b : Bool) → same_wait w v ≡ b → settled_of (if b then f (waits w) else waits v) ≡ settled_of (waits v)
-    by_test true e = k (waits w) ∙ ap (λ u. settled_of (waits u)) (same_wait-eq w v e)
-    by_test false e = refl
-
-resolved_leaves : (how : Resolution) (x : Option Wait) → settled_of (resolved_wait how x) ≡ settled_of x
-resolved_leaves how None = refl
-resolved_leaves how (Some x) = refl
-
-named_leaves : (who k c : ℕ) (x : Option Wait) → settled_of (name_clause who k c x) ≡ settled_of x
-named_leaves who k c None = refl
-named_leaves who k c (Some x) = refl
-
-resolve_leaves : (v w : WaitId) (how : Resolution) (s : State) → settled_of ((resolve w how s).waits v) ≡ settled_of (s.waits v)
-resolve_leaves v w how s = one_leaves w v (resolved_wait how) s.waits (resolved_leaves how)
-
-first_leaves : (v : WaitId) (rs : List Receiver) (how : ℕ → Resolution) (s : State) → settled_of ((resolve_first rs how s).waits v) ≡ settled_of (s.waits v)
-first_leaves v [] how s = refl
-first_leaves v (r ∷ rs) how s = resolve_leaves v r.party.wait (how r.party.clause) s
-
-holder_leaves : (v : WaitId) (p : Option Party) (how : ℕ → Resolution) (s : State) → settled_of ((resolve_holder p how s).waits v) ≡ settled_of (s.waits v)
-holder_leaves v None how s = refl
-holder_leaves v (Some p) how s = resolve_leaves v p.wait (how p.clause) s
-
-offer_leaves : (v : WaitId) (c : ℕ) (os : List Standing) (how : ℕ → Resolution) (s : State) → settled_of ((resolve_offer c os how s).waits v) ≡ settled_of (s.waits v)
-offer_leaves v c [] how s = refl
-offer_leaves v c (o ∷ os) how s = holder_leaves v o.holder how (with_queue c os s)
-
-remove_leaves : (v : WaitId) (c : ℕ) (os : List Standing) (s : State) → settled_of ((remove_first c os s).waits v) ≡ settled_of (s.waits v)
-remove_leaves v c [] s = refl
-remove_leaves v c (o ∷ os) s = refl
-
-one_settles : (w v : WaitId) (x : Option Wait) (waits : WaitId → Option Wait) → (settled_of (put_wait w x waits v) ≡ settled_of (waits v)) ⊎ (Some w ≡ Some v)
-one_settles w v x waits = by_test (same_wait w v) refl
-  where
-    by_test : (b : Bool) → same_wait w v ≡ b → (settled_of (if b then x else waits v) ≡ settled_of (waits v)) ⊎ (Some w ≡ Some v)
-    by_test true e = inr (ap (λ u. Some u) (same_wait-eq w v e))
-    by_test false e = inl refl
-
-settled_kept : (s : State) (who : ℕ) (act : Act) (v : WaitId) → (settled_of ((after s who act).waits v) ≡ settled_of (s.waits v)) ⊎ (settles act ≡ Some v)
-settled_kept s who (Hand c p x) v = inl (first_leaves v (s.channels c).receivers _ s)
-settled_kept s who (Put c p x) v = inl refl
-settled_kept s who (Offer c p x w k) v = inl (one_leaves w v (name_clause who k c) s.waits (named_leaves who k c))
-settled_kept s who (Await c p w k) v = inl (one_leaves w v (name_clause who k c) s.waits (named_leaves who k c))
-settled_kept s who (Take c p x) v = inl (offer_leaves v c (s.channels c).queue _ s)
-settled_kept s who (Admit c p) v = inl (holder_leaves v (holder_at p (s.channels c).queue) _ (with_queue c (admitted p (s.channels c).queue) s))
-settled_kept s who (Drop c p x) v = inl (remove_leaves v c (s.channels c).queue s)
-settled_kept s who (Close c x) v = inl refl
-settled_kept s who (Void c) v = inl refl
-settled_kept s who (Drain c p x) v = inl (offer_leaves v c (s.channels c).queue _ s)
-settled_kept s who (WakeClosed c p) v = inl (first_leaves v (s.channels c).receivers _ s)
-settled_kept s who (Withdraw w why) v = inl (resolve_leaves v w (resolved.Withdrawn why) s)
-settled_kept s who (Settle w outcome) v = one_settles w v _ s.waits
-
-settled_same : (x y : Option Wait) → settled_of x ≡ settled_of y → IsSettledWait x → IsSettledWait y
-settled_same None y e h = absurd h
-settled_same (Some x) None e h = let f : x.settled ≡ false = e in cc
-settled_same (Some x) (Some y) e h = sym e ∙ h
-
-settled_before : (s : State) (who : ℕ) (act : Act) (v : WaitId) → IsSettledWait ((after s who act).waits v) → IsSettledWait (s.waits v) ⊎ (settles act ≡ Some v)
-settled_before s who act v h = ⊎_elim (λ e. inl (settled_same ((after s who act).waits v) (s.waits v) e h)) (λ e. inr e) (settled_kept s who act v)
 
 -- the act is the Settle of the wait
 settle_of : (act : Act) (w : WaitId) → settles act ≡ Some w → (outcome : Settled) × (act ≡ Settle w outcome)

@@ -16,8 +16,7 @@ use Rattle.channel_model.specs.Needs.{Needs}
 use Rattle.channel_model.specs.Fates.{wait_at, places_wait}
 use Rattle.channel_model.specs.Laws.{how_many, resolves, wait_of_party, first_waiting, first_holding}
 use Rattle.channel_model.proofs.Waits.{same_wait-eq, same_wait-refl}
-use Rattle.channel_model.proofs.Resolutions.{resolved_stays}
-use Rattle.channel_fates.proofs.Turning.{resolves_turns, always_keeps}
+use Rattle.channel_model.proofs.Resolutions.{resolved_stays, resolves_turns, always_keeps}
 use Rattle.channel_model.specs.Answers.{IsResolvedWait}
 use Rattle.channel_model.proofs.Placed.{same_number}
 use Rattle.channel_fates.proofs.Appended.{any_cases, any_count, count_last}

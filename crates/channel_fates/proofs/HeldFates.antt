@@ -1,5 +1,5 @@
 -- An element that is held stands in its queue, or was handed to a wait that is not settled.
-use Rattle.std.specs.Prelude.{◌≡◌, ℕ, ◌≤◌, ◌==◌, nat_lt, Bool, true, false, not, ◌&&◌, ◌||◌, List, [], ◌∷◌, Option, Some, None, refl, if◌then◌else◌, ◌⊎◌, ◌↔◌}
+use Rattle.std.specs.Prelude.{◌≡◌, ℕ, ◌≤◌, ◌==◌, nat_lt, Bool, true, false, not, ◌&&◌, ◌||◌, List, [], ◌∷◌, Option, Some, None, refl, if◌then◌else◌, ◌⊎◌, ◌↔◌, is_some, is_none}
 use Rattle.std.specs.List.{list_any, AllByRecursion}
 use Rattle.std.proofs.Common.{sym, ap, ◌∙◌, subst, arith, inl, inr, ⊎_elim}
 use Rattle.std.proofs.lemmas.Bool.{eqb-true, cases_lt}
@@ -10,20 +10,20 @@ use Rattle.channel_model.specs.declared.acts.Act.{Act}
 use Rattle.channel_model.specs.declared.acts.Act.TheVariants.{Put, Await, Admit}
 use Rattle.channel_model.specs.declared.acts.Entry.{Entry}
 use Rattle.channel_model.specs.declared.acts.Fate.TheVariants as fate
+use Rattle.channel_model.specs.declared.acts.Settled.{Settled}
 use Rattle.channel_model.specs.declared.standing.Party.{Party}
 use Rattle.channel_model.specs.declared.standing.Standing.{Standing}
 use Rattle.channel_model.specs.Channels.{Shape, State, Wait}
 use Rattle.channel_model.specs.Histories.{replay, acts_in, Legal}
-use Rattle.channel_model.specs.Fates.{is_at, brings, hands, takes, admits, drops_at, drains, withdraws, settles_value, settles_undelivered, resolves_at, offers_at, places_wait, first_some, element_at, wait_at, is_wait, resolves_elsewhere, is_chosen_elsewhere, of_wait, of_offer, is_received, is_taken_back, is_undelivered_at, is_dropped, is_withdrawn, fate_at}
+use Rattle.channel_model.specs.Fates.{is_at, brings, hands, takes, admits, drops_at, drains, withdraws, settles_value, settles_undelivered, resolves_at, offers_at, places_wait, first_some, element_at, wait_at, is_wait, resolves_elsewhere, is_chosen_elsewhere, of_wait, of_offer, is_received, is_taken_back, is_undelivered_at, is_dropped, is_withdrawn, fate_at, removes}
 use Rattle.channel_model.specs.Laws.{IsStandingAt, HolderStands, OffersStand, how_many}
 use Rattle.channel_fates.specs.OneFate.{stands_in, is_unsettled, StandsOrIsUnsettled}
 use Rattle.channel_model.proofs.Waits.{same_wait-refl}
 use Rattle.channel_model.proofs.Placed.{same_number}
-use Rattle.channel_model.proofs.Resolutions.{IsSettledWait}
-use Rattle.channel_fates.proofs.Turning.{not_open}
-use Rattle.channel_model.specs.Answers.{IsResolvedWait}
+use Rattle.channel_model.proofs.Resolutions.{not_open}
+use Rattle.channel_model.specs.Answers.{IsResolvedWait, IsSettledWait}
 use Rattle.channel_fates.proofs.Appended.{any_count, count_any, none_count, found, first_found, first_there}
-use Rattle.channel_fates.proofs.Places.{enters, awaits, leaves, answers, Counted, at_both}
+use Rattle.channel_fates.proofs.Places.{enters, awaits, answers, Counted, at_both}
 use Rattle.channel_fates.proofs.Known.{puts, offers, OfferKnown, HolderKnown, came, enters_count, handed_answered, here}
 use Rattle.channel_fates.proofs.Chosen.{Chosen, Unheld, resolver, resolver_is, this_place, put_alone}
 use Rattle.channel_fates.proofs.ChosenOnce.{admitted_resolved}
@@ -93,17 +93,21 @@ standing_known waits acts c p (o ∷ os) h k e = by_test (o.place == p) refl e (
     by_test true t e m = subst (λ q. Unheld acts (c, q) ⊎ ((w : WaitId) × (wait_at c q acts ≡ Some w) × IsStandingAt c (waits w))) (eqb-true o.place p t) (standing_here waits acts c o.place o.holder h.0 k.0.0)
     by_test false t e m = m e
 
+some_not_none : (ending : Option Settled) → is_some ending ≡ true → is_none ending ≡ false
+some_not_none (Some outcome) h = refl
+some_not_none None h = cc
+
 unsettled_or : (x : Option Wait) → IsSettledWait x → is_unsettled x ≡ true → ⊥
 unsettled_or None h e = h
-unsettled_or (Some x) h e = let f : not x.settled ≡ false = ap not h in cc
+unsettled_or (Some x) h e = let f : is_none x.settled ≡ false = some_not_none x.settled h in cc
 
 settled_or : (x : Option Wait) → IsResolvedWait x → IsSettledWait x ⊎ (is_unsettled x ≡ true)
 settled_or None h = absurd h
-settled_or (Some x) h = by_test x.settled
+settled_or (Some x) h = by_end x.settled
   where
-    by_test : (b : Bool) → (b ≡ true) ⊎ (not b ≡ true)
-    by_test true = inl refl
-    by_test false = inr refl
+    by_end : (ending : Option Settled) → (is_some ending ≡ true) ⊎ (is_none ending ≡ true)
+    by_end (Some outcome) = inl refl
+    by_end None = inr refl
 
 -- ---- where an element came from
 
@@ -191,7 +195,7 @@ module _ (shape : Shape) (acts : List Act) (s : State) (t : Traced shape acts s)
       (⊎_elim (λ k. t.chosen.withdrawn o.3.0 k) (λ k. t.chosen.resolved k.0 k.1 o.3.0 k.3) o.3.2))
       (standing_known s.waits acts c p (s.channels c).queue (t.told.stand c).offers (t.told.known c).offers e)
 
-  standing_stays : place_stands p (s.channels c).queue ≡ true → how_many (leaves c p) acts ≡ 0
+  standing_stays : place_stands p (s.channels c).queue ≡ true → how_many (removes c p) acts ≡ 0
   standing_stays e = let k = any_count (λ (o : Standing). o.place == p) (s.channels c).queue e in omega (arith, counted.queue, counted.given)
 
   standing_or_handed : place_stands p (s.channels c).queue ≡ true → list_any (hands c p) acts ≡ true → ⊥
@@ -247,7 +251,7 @@ module _ (shape : Shape) (acts : List Act) (s : State) (t : Traced shape acts s)
   given : Counted c p acts (s.channels c)
   given = t.told.counted c p
 
-  nothing_left : how_many (leaves c p) acts ≡ 0
+  nothing_left : how_many (removes c p) acts ≡ 0
   nothing_left =
       let a = none_count (takes c p) acts (neither _ _ received).0 in
       let b = none_count (drains c p) acts (neither _ _ undelivered).0 in
@@ -303,7 +307,7 @@ module _ (shape : Shape) (acts : List Act) (s : State) (t : Traced shape acts s)
       ⊎_elim
       (λ k. let n = any_count (answers c p) acts (f.2 (answers c p) k) in omega (arith, given.receivers, given.given))
       (λ m. ⊎_elim
-      (λ k. let n = any_count (leaves c p) acts (f.2 (leaves c p) k) in omega (arith, nothing_left))
+      (λ k. let n = any_count (removes c p) acts (f.2 (removes c p) k) in omega (arith, nothing_left))
       (λ k. holds_not _ (f.2 (admits c p) k) none)
       m)
       (resolver_is c p f.0 f.1)

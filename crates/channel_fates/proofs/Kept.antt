@@ -13,10 +13,10 @@ use Rattle.channel_model.specs.declared.standing.Resolution.{Resolution}
 use Rattle.channel_model.specs.Channels.{Shape, State, Channel, start, kind_at, is_full}
 use Rattle.channel_model.specs.Effects.{after, resolve, resolve_first, resolve_holder, resolve_offer, remove_first, with_queue, without, is_held_by, put_channel, admitted, holder_at, is_open, place_offer, place_receiver}
 use Rattle.channel_model.specs.Needs.{Needs, IsFirstOffer, MayBeAdmitted}
-use Rattle.channel_model.specs.Fates.{is_at}
+use Rattle.channel_model.specs.Fates.{is_at, removes}
 use Rattle.channel_model.specs.Laws.{how_many}
 use Rattle.channel_fates.proofs.Appended.{count_last}
-use Rattle.channel_fates.proofs.Places.{leaves, put_by}
+use Rattle.channel_fates.proofs.Places.{put_by}
 
 -- ---- words
 
@@ -143,7 +143,7 @@ freed p q n kind (o ∷ os) m = by_test (o.place == q) refl m (freed p q (n + 1)
 put_unchanged : (c p d : ℕ) (x : Channel) (s : State) → Keeps p false false (s.channels d) x → Keeps p false false (s.channels c) (put_channel d x s.channels c)
 put_unchanged c p d x s h = put_by (λ b. Keeps p false false) d c false x s.channels h (unchanged p (s.channels c))
 
-act_keeps : (c p : ℕ) (shape : Shape) (s : State) (who : ℕ) (act : Act) → Needs shape s who act → Keeps p (leaves c p act) (frees c p act) (s.channels c) ((after s who act).channels c)
+act_keeps : (c p : ℕ) (shape : Shape) (s : State) (who : ℕ) (act : Act) → Needs shape s who act → Keeps p (removes c p act) (frees c p act) (s.channels c) ((after s who act).channels c)
 act_keeps c p shape s who (Hand d q v) n = first_keeps p c (s.channels d).receivers _ s
 act_keeps c p shape s who (Put d q v) n = put_by (λ b. Keeps p false b) d c (q == p) (place_offer true (record { place = q; value = v; holder = None }) (s.channels d)) s.channels (put_comes p q v (s.channels d)) (unchanged p (s.channels c))
 act_keeps c p shape s who (Offer d q v w k) n = put_unchanged c p d _ s (offer_comes p (is_open (s.waits w)) (record { place = q; value = v; holder = Some (record { wait = w; clause = k }) }) (s.channels d))
@@ -165,11 +165,11 @@ act_keeps c p shape s who (Settle w outcome) n = unchanged p (s.channels c)
 
 -- what was put or admitted stands, or left
 pub record KeptUntil (acts : List Act) (s : State) : Type 0 where
-  pub kept : (c p : ℕ) → how_many (frees c p) acts ≤ how_many (leaves c p) acts + free_with p (s.channels c).queue
+  pub kept : (c p : ℕ) → how_many (frees c p) acts ≤ how_many (removes c p) acts + free_with p (s.channels c).queue
 
 pub kept_after : (shape : Shape) (acts : List Act) (s : State) (who : ℕ) (act : Act) → Needs shape s who act → KeptUntil acts s → KeptUntil (acts ++ act ∷ []) (after s who act)
 kept_after shape acts s who act n h = record {
-  kept = λ c p. kept_then (how_many (frees c p) acts) _ _ _ _ _ _ _ (h.kept c p) (act_keeps c p shape s who act n).kept (count_last (frees c p) acts act) (count_last (leaves c p) acts act);
+  kept = λ c p. kept_then (how_many (frees c p) acts) _ _ _ _ _ _ _ (h.kept c p) (act_keeps c p shape s who act n).kept (count_last (frees c p) acts act) (count_last (removes c p) acts act);
 }
   where
     kept_then : (f l x y a b f' l' : ℕ) → f ≤ l + x → x + a ≤ y + b → f' ≡ f + a → l' ≡ l + b → f' ≤ l' + y

@@ -11,3 +11,5 @@ pub mod OwnPlaces
 pub mod Traced
 pub mod AtMostOne
 pub mod HeldFates
+pub mod Delivered
+pub mod FourEntries

@@ -4,14 +4,16 @@ use Rattle.std.proofs.Common.{sym, ap, ◌∙◌, subst, arith, inl, inr, ⊎_el
 use Rattle.std.proofs.lemmas.Bool.{eqb-true, ltb-true}
 use Rattle.co_base.specs.declared.names.WaitId.{WaitId}
 use Rattle.channel_model.specs.declared.acts.Act.{Act}
-use Rattle.channel_model.specs.declared.acts.Act.TheVariants.{Offer, Await}
+use Rattle.channel_model.specs.declared.acts.Act.TheVariants.{Hand, Put, Offer, Await, Take, Admit, Drop, Close, Void, Drain, WakeClosed, Withdraw, Settle}
+use Rattle.channel_model.specs.Answers.{IsOwnWait}
 use Rattle.channel_model.specs.Channels.{Shape, State, Wait, same_wait, start}
 use Rattle.channel_model.specs.Effects.{after, resolved_wait, name_clause, settled_wait}
 use Rattle.channel_model.specs.Needs.{Needs, MayName, JoinsWait, began_by_select}
 use Rattle.channel_model.specs.Fates.{is_at, wait_at, places_wait, offers_at, first_some}
 use Rattle.channel_model.proofs.Waits.{same_wait-eq, at_wait}
 use Rattle.channel_model.proofs.Others.{Stays}
-use Rattle.channel_fates.proofs.Turning.{always_keeps}
+use Rattle.channel_model.proofs.OwnWaits.{ComesFrom, begins, act_from}
+use Rattle.channel_model.proofs.Resolutions.{always_keeps}
 use Rattle.channel_model.proofs.Placed.{Placed, placed_after, start_placed}
 use Rattle.channel_fates.proofs.Appended.{any_count, first_kept, first_last}
 use Rattle.channel_fates.proofs.Places.{counted_after, at_both}
@@ -20,7 +22,7 @@ use Rattle.channel_fates.proofs.Held.{offer_of}
 use Rattle.channel_fates.proofs.Chosen.{wait_before}
 use Rattle.channel_fates.proofs.ChosenOnce.{Told}
 
-abbrev name_of : ℕ → ℕ → WaitId
+abbrev pub name_of : ℕ → ℕ → WaitId
 name_of c p = record { channel = c; place = p }
 
 -- the wait began at a select's clause
@@ -49,14 +51,14 @@ selects_stays : (who : ℕ) → Stays who Selects
 selects_stays who = record {
   resolved = λ how x h. elim x as (λ y. Selects y → Selects (resolved_wait how y)) [ None ↦ λ k. k | Some y ↦ λ k. k ] h;
   named = λ n k c x h. elim x as (λ y. Selects y → Selects (name_clause n k c y)) [ None ↦ λ f. absurd f | Some y ↦ λ f. select_more y.clauses (k, c) f ] h;
-  settled = λ n outcome x apart m h. elim x as (λ y. Selects y → Selects (settled_wait y)) [ None ↦ λ k. k | Some y ↦ λ k. k ] h;
+  settled = λ n outcome x apart m h. elim x as (λ y. Selects y → Selects (settled_wait outcome y)) [ None ↦ λ k. k | Some y ↦ λ k. k ] h;
 }
 
 plain_stays : (who : ℕ) → Stays who IsPlainWait
 plain_stays who = record {
   resolved = λ how x h. elim x as (λ y. IsPlainWait y → IsPlainWait (resolved_wait how y)) [ None ↦ λ k. k | Some y ↦ λ k. k ] h;
   named = λ n k c x h. elim x as (λ y. IsPlainWait y → IsPlainWait (name_clause n k c y)) [ None ↦ λ f. absurd f | Some y ↦ λ f. plain_more y.clauses (k, c) f ] h;
-  settled = λ n outcome x apart m h. elim x as (λ y. IsPlainWait y → IsPlainWait (settled_wait y)) [ None ↦ λ k. k | Some y ↦ λ k. k ] h;
+  settled = λ n outcome x apart m h. elim x as (λ y. IsPlainWait y → IsPlainWait (settled_wait outcome y)) [ None ↦ λ k. k | Some y ↦ λ k. k ] h;
 }
 
 -- no clause is that of a plain call and that of a select
@@ -134,6 +136,46 @@ pub record OwnPlaces (acts : List Act) (s : State) : Type 0 where
   pub placed : Placed s
   own : (c p : ℕ) (w : WaitId) → wait_at c p acts ≡ Some w → (w ≡ name_of c p) ⊎ Selects (s.waits w)
   plain : (c p : ℕ) (w : WaitId) → first_some (offers_at c p) acts ≡ Some 0 → wait_at c p acts ≡ Some w → IsPlainWait (s.waits w)
+  -- a wait begins at the place whose name it has
+  pub begun : (c p : ℕ) → (s.waits (name_of c p) ≡ None) ⊎ (wait_at c p acts ≡ Some (name_of c p))
+
+own_comes : (who : ℕ) → ComesFrom who (IsOwnWait who)
+own_comes who = record {
+  resolved = λ how x h. elim x as (λ y. IsOwnWait who (resolved_wait how y) → IsOwnWait who y) [ None ↦ λ k. k | Some y ↦ λ k. k ] h;
+  named = λ n k c x h. elim x as (λ y. IsOwnWait who (name_clause n k c y) → IsOwnWait who y ⊎ (n ≡ who)) [ None ↦ λ f. inr f | Some y ↦ λ f. inl f ] h;
+  settled = λ outcome x h. elim x as (λ y. IsOwnWait who (settled_wait outcome y) → IsOwnWait who y) [ None ↦ λ k. k | Some y ↦ λ k. k ] h;
+}
+
+-- what names a wait that may begin by it
+begins_names : (w : WaitId) (act : Act) → begins act ≡ Some w → ((d : ℕ) × (q : ℕ) × (v : ℕ) × (k : ℕ) × (act ≡ Offer d q v w k)) ⊎ ((d : ℕ) × (q : ℕ) × (k : ℕ) × (act ≡ Await d q w k))
+begins_names w (Offer d q v u k) e = let f : u ≡ w = cc in inl (d, q, v, k, ap (λ x. Offer d q v x k) f)
+begins_names w (Await d q u k) e = let f : u ≡ w = cc in inr (d, q, k, ap (λ x. Await d q x k) f)
+begins_names w (Hand d q v) e = cc
+begins_names w (Put d q v) e = cc
+begins_names w (Take d q v) e = cc
+begins_names w (Admit d q) e = cc
+begins_names w (Drop d q v) e = cc
+begins_names w (Close d v) e = cc
+begins_names w (Void d) e = cc
+begins_names w (Drain d q v) e = cc
+begins_names w (WakeClosed d q) e = cc
+begins_names w (Withdraw u why) e = cc
+begins_names w (Settle u outcome) e = cc
+
+named_begins : (who k d q : ℕ) (w : WaitId) (s : State) → MayName who k d q w s → (w ≡ name_of d q) ⊎ (s.waits w ≡ None → ⊥)
+named_begins who k d q w s may = by_test (same_wait w (name_of d q)) refl may
+  where
+    joins : (x : Option Wait) → JoinsWait who k d x → x ≡ None → ⊥
+    joins None m e = m
+    joins (Some x) m e = cc
+
+    by_test : (b : Bool) → same_wait w (name_of d q) ≡ b → MatchBool b (k ≤ 7) (JoinsWait who k d (s.waits w)) → (w ≡ name_of d q) ⊎ (s.waits w ≡ None → ⊥)
+    by_test true e m = inl (same_wait-eq w (name_of d q) e)
+    by_test false e m = inr (joins (s.waits w) m)
+
+own_there : (who : ℕ) (x : Option Wait) → IsOwnWait who x → x ≡ None → ⊥
+own_there who None h e = h
+own_there who (Some x) h e = cc
 
 module _ (shape : Shape) (acts : List Act) (s : State) (who : ℕ) (act : Act) (n : Needs shape s who act) (t : Told acts s) (h : OwnPlaces acts s) where
   own_now : (c p : ℕ) (w : WaitId) → Names c p w act → (w ≡ name_of c p) ⊎ Selects (s.waits w)
@@ -176,11 +218,39 @@ module _ (shape : Shape) (acts : List Act) (s : State) (who : ℕ) (act : Act) (
           (h.plain c p w (k ∙ ap (λ x. Some x) z) (wait_before c p acts act w (omega arith) (counted_after shape acts s who act n t.counted c p).given f))
       by_clause None k = plain_now c p w (sym (first_last (offers_at c p) acts act k) ∙ e) f
 
+  begun_before : (c p : ℕ) → (s.waits (name_of c p) ≡ None → ⊥) → wait_at c p (acts ++ act ∷ []) ≡ Some (name_of c p)
+  begun_before c p there = ⊎_elim (λ e. absurd (there e)) (λ e. first_kept (places_wait c p) acts (act ∷ []) (name_of c p) e) (h.begun c p)
+
+  begun_here : (c p d q : ℕ) → name_of c p ≡ name_of d q → q ≡ (s.channels d).next → places_wait d q act ≡ Some (name_of c p) → wait_at c p (acts ++ act ∷ []) ≡ Some (name_of c p)
+  begun_here c p d q e f m =
+      let at : wait_at d q (acts ++ act ∷ []) ≡ Some (name_of c p) = wait_placed d q acts act (s.channels d) (name_of c p) (t.counted d q) f m in
+      subst (λ (x : WaitId). wait_at x.channel x.place (acts ++ act ∷ []) ≡ Some (name_of c p)) (sym e) at
+
+  begun_now : (c p : ℕ) → begins act ≡ Some (name_of c p) → wait_at c p (acts ++ act ∷ []) ≡ Some (name_of c p)
+  begun_now c p e =
+      ⊎_elim
+      (λ o. let m : Needs shape s who (Offer o.0 o.1 o.2 (name_of c p) o.3) = subst (Needs shape s who) o.4 n in
+      ⊎_elim (λ f. begun_here c p o.0 o.1 f m.1.first (ap (places_wait o.0 o.1) o.4 ∙ ap (λ b. if b then Some (name_of c p) else None) (here o.0 o.1))) (λ f. begun_before c p f)
+      (named_begins who o.3 o.0 o.1 (name_of c p) s m.4))
+      (λ a. let m : Needs shape s who (Await a.0 a.1 (name_of c p) a.2) = subst (Needs shape s who) a.3 n in
+      ⊎_elim (λ f. begun_here c p a.0 a.1 f m.1.first (ap (places_wait a.0 a.1) a.3 ∙ ap (λ b. if b then Some (name_of c p) else None) (here a.0 a.1))) (λ f. begun_before c p f)
+      (named_begins who a.2 a.0 a.1 (name_of c p) s m.3))
+      (begins_names (name_of c p) act e)
+
+  begun_after : (c p : ℕ) → ((after s who act).waits (name_of c p) ≡ None) ⊎ (wait_at c p (acts ++ act ∷ []) ≡ Some (name_of c p))
+  begun_after c p = by_wait ((after s who act).waits (name_of c p)) refl
+    where
+      by_wait : (x : Option Wait) → (after s who act).waits (name_of c p) ≡ x → ((after s who act).waits (name_of c p) ≡ None) ⊎ (wait_at c p (acts ++ act ∷ []) ≡ Some (name_of c p))
+      by_wait None e = inl e
+      by_wait (Some x) e =
+          let own : IsOwnWait x.owner ((after s who act).waits (name_of c p)) = subst (IsOwnWait x.owner) (sym e) refl in
+          inr (⊎_elim (λ k. begun_before c p (own_there x.owner (s.waits (name_of c p)) k)) (λ k. begun_now c p k.1) (act_from x.owner (IsOwnWait x.owner) (own_comes x.owner) who (name_of c p) s act own))
+
   pub own_places_after : OwnPlaces (acts ++ act ∷ []) (after s who act)
-  own_places_after = record { placed = placed_after shape s who act n h.placed; own = own_after; plain = plain_after }
+  own_places_after = record { placed = placed_after shape s who act n h.placed; own = own_after; plain = plain_after; begun = begun_after }
 
 pub start_own_places : OwnPlaces [] start
-start_own_places = record { placed = start_placed; own = λ c p w e. cc; plain = λ c p w e f. cc }
+start_own_places = record { placed = start_placed; own = λ c p w e. cc; plain = λ c p w e f. cc; begun = λ c p. inl refl }
 
 same_name : (c p d q : ℕ) → name_of c p ≡ name_of d q → (c ≡ d) × (p ≡ q)
 same_name c p d q e = (ap (λ (w : WaitId). w.channel) e, ap (λ (w : WaitId). w.place) e)

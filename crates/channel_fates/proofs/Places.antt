@@ -14,20 +14,13 @@ use Rattle.channel_model.specs.declared.standing.Resolution.{Resolution}
 use Rattle.channel_model.specs.Channels.{Shape, State, Channel, same_wait, start, kind_at, is_full}
 use Rattle.channel_model.specs.Effects.{after, resolve_first, resolve_holder, resolve_offer, remove_first, with_queue, without, is_held_by, put_channel, admitted, holder_at, is_open, place_offer, place_receiver}
 use Rattle.channel_model.specs.Needs.{Needs, IsFirstOffer, IsFirstReceiver, MayBeAdmitted}
-use Rattle.channel_model.specs.Fates.{is_at, admits}
+use Rattle.channel_model.specs.Fates.{is_at, admits, removes}
 use Rattle.channel_model.specs.Laws.{how_many}
 use Rattle.channel_model.proofs.Waits.{same_wait-refl}
 use Rattle.channel_fates.proofs.Turning.{filtered_less}
 use Rattle.channel_fates.proofs.Appended.{any_cases, count_last}
 
 -- ---- words
-
--- the act takes the offer of this place out of its queue
-abbrev pub leaves : ℕ → ℕ → Act → Bool
-leaves c p (Take d q v) = is_at c p d q
-leaves c p (Drop d q v) = is_at c p d q
-leaves c p (Drain d q v) = is_at c p d q
-leaves c p other = false
 
 -- the act leaves an element at this place
 abbrev pub enters : ℕ → ℕ → Act → Bool
@@ -185,7 +178,7 @@ receiver_comes p q true r ch f e =
 put_unchanged : (c p d : ℕ) (x : Channel) (s : State) → Balance p false false false false (s.channels d) x → Balance p false false false false (s.channels c) (put_channel d x s.channels c)
 put_unchanged c p d x s h = put_by (λ b. Balance p false false false false) d c false x s.channels h (unchanged p (s.channels c))
 
-act_balance : (c p : ℕ) (shape : Shape) (s : State) (who : ℕ) (act : Act) → Needs shape s who act → Balance p (leaves c p act) (enters c p act) (answers c p act) (awaits c p act) (s.channels c) ((after s who act).channels c)
+act_balance : (c p : ℕ) (shape : Shape) (s : State) (who : ℕ) (act : Act) → Needs shape s who act → Balance p (removes c p act) (enters c p act) (answers c p act) (awaits c p act) (s.channels c) ((after s who act).channels c)
 act_balance c p shape s who (Hand d q v) n = receiver_answered c p d q _ _ s refl n.2
 act_balance c p shape s who (Put d q v) n =
     let o : Standing = record { place = q; value = v; holder = None } in
@@ -244,7 +237,7 @@ admits_stands c p shape s who other n e = cc
 
 -- what came to a place, stands there or left it
 pub record Counted (c p : ℕ) (acts : List Act) (ch : Channel) : Type 0 where
-  pub queue : how_many (leaves c p) acts + offers_with p ch.queue ≤ how_many (enters c p) acts
+  pub queue : how_many (removes c p) acts + offers_with p ch.queue ≤ how_many (enters c p) acts
   pub receivers : how_many (answers c p) acts + receivers_with p ch.receivers ≤ how_many (awaits c p) acts
   pub given : how_many (enters c p) acts + how_many (awaits c p) acts ≤ 1
   pub fresh : ch.next ≤ p → how_many (enters c p) acts + how_many (awaits c p) acts ≡ 0
@@ -257,9 +250,9 @@ fresh_or_given n m p x y b le one given fresh e h =
 given_once : (b x y : ℕ) → b ≤ 1 → x ≤ 1 → (1 ≤ b → x ≡ 0) → y ≡ x + b → y ≤ 1
 given_once b x y one le k e = ⊎_elim (λ lt. let z = k lt in omega arith) (λ z. omega arith) (cases_lt 0 b)
 
-counted_then : (c p : ℕ) (acts : List Act) (act : Act) (ch ch' : Channel) → Balance p (leaves c p act) (enters c p act) (answers c p act) (awaits c p act) ch ch' → (admits c p act ≡ true → 1 ≤ offers_with p ch.queue) → Counted c p acts ch → Counted c p (acts ++ act ∷ []) ch'
+counted_then : (c p : ℕ) (acts : List Act) (act : Act) (ch ch' : Channel) → Balance p (removes c p act) (enters c p act) (answers c p act) (awaits c p act) ch ch' → (admits c p act ≡ true → 1 ≤ offers_with p ch.queue) → Counted c p acts ch → Counted c p (acts ++ act ∷ []) ch'
 counted_then c p acts act ch ch' b a h =
-    let l = count_last (leaves c p) acts act in
+    let l = count_last (removes c p) acts act in
     let e = count_last (enters c p) acts act in
     let r = count_last (answers c p) acts act in
     let w = count_last (awaits c p) acts act in

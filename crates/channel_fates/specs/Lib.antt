@@ -1,1 +1,2 @@
 pub mod OneFate
+pub mod Places

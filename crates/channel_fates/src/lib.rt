@@ -4,4 +4,7 @@
 
 mod laws;
 
-pub use laws::{an_element_has_at_most_one_fate, an_element_without_a_fate_is_held};
+pub use laws::{
+    a_place_has_at_most_four_entries, an_element_has_at_most_one_fate,
+    an_element_is_delivered_at_most_once, an_element_without_a_fate_is_held,
+};

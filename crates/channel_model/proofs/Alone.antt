@@ -5,8 +5,8 @@ use Rattle.channel_model.specs.declared.acts.Act.{Act}
 use Rattle.channel_model.specs.declared.acts.Entry.{Entry}
 use Rattle.channel_model.specs.Channels.{Shape, State}
 use Rattle.channel_model.specs.Needs.{Needs}
-use Rattle.channel_model.specs.Histories.{replay, Legal}
-use Rattle.channel_model.specs.Floors.{Floor, Made, Looked, AtStep}
+use Rattle.channel_model.specs.Histories.{replay, Legal, acts_of}
+use Rattle.channel_model.specs.Floors.{Floor, Made, Looked, AtStep, AtMoment}
 use Rattle.channel_model.proofs.Histories.{Legal_push}
 use Rattle.channel_model.proofs.Spans.{nothing_more}
 
@@ -40,6 +40,10 @@ looked_alone shape who es m = record {
 -- a moment before the call's entry
 abbrev pub first_moment : (shape : Shape) (es es' rest : List Entry) (m n : ℕ) (P : State → Type 0) → es' ≡ es ++ rest → P (replay es) → AtStep (floor shape es m) (floor shape es' n) P
 first_moment shape es es' rest m n P is h = record { moment = es; after = ([], nothing_more es); before = (rest, sym is); holds = h }
+
+-- the same, with none of the call's own acts
+abbrev pub own_moment : (shape : Shape) (who : ℕ) (es es' rest : List Entry) (m n : ℕ) (P : State → Type 0) → es' ≡ es ++ rest → P (replay es) → AtMoment who [] (floor shape es m) (floor shape es' n) P
+own_moment shape who es es' rest m n P is h = record { moment = es; after = ([], nothing_more es); before = (rest, sym is); mine = sym (nothing_more (acts_of who es)); holds = h }
 
 -- the moment of a call without one
 abbrev pub here_moment : (shape : Shape) (es : List Entry) (m : ℕ) (P : State → Type 0) → P (replay es) → AtStep (floor shape es m) (floor shape es m) P

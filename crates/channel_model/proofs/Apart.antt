@@ -1,5 +1,5 @@
 -- A wait stands at most once at a channel.
-use Rattle.std.specs.Prelude.{◌≡◌, ℕ, ◌+◌, ◌≤◌, ◌==◌, Bool, true, false, not, cond, List, [], ◌∷◌, ◌++◌, filter, Option, Some, None, refl, if◌then◌else◌, MatchBool}
+use Rattle.std.specs.Prelude.{◌≡◌, ℕ, zero, suc, ◌+◌, ◌≤◌, ◌==◌, Bool, true, false, not, cond, List, [], ◌∷◌, ◌++◌, filter, Option, Some, None, slice_get, slice_set, refl, if◌then◌else◌, MatchBool}
 use Rattle.std.proofs.Common.{sym, ap, ◌∙◌, subst, arith}
 use Rattle.co_base.specs.declared.names.WaitId.{WaitId}
 use Rattle.channel_model.specs.declared.acts.Act.{Act}
@@ -25,7 +25,7 @@ kept_less : {X : Type 0} (p : X → Bool) (x : X) (xs ys : List X) (b : Bool) �
 kept_less p x xs ys true h = omega arith
 kept_less p x xs ys false h = omega arith
 
-filtered_less : {X : Type 0} (p q : X → Bool) (xs : List X) → how_many p (filter q xs) ≤ how_many p xs
+pub filtered_less : {X : Type 0} (p q : X → Bool) (xs : List X) → how_many p (filter q xs) ≤ how_many p xs
 filtered_less p q [] = omega arith
 filtered_less p q (x ∷ xs) = kept_less p x (filter q xs) xs (q x) (filtered_less p q xs)
 
@@ -125,7 +125,7 @@ unfolding OffersStand
 no_offers waits w c [] h k = refl
 no_offers waits w c (o ∷ os) h k = no_more _ _ (not_held waits w c o.holder h k.0) (no_offers waits w c os h k.1)
 
-no_receivers : (waits : WaitId → Option Wait) (w : WaitId) (c : ℕ) (rs : List Receiver) → (IsStandingAt c (waits w) → ⊥) → ReceiversStand waits c rs → how_many (λ (r : Receiver). same_wait w r.party.wait) rs ≡ 0
+pub no_receivers : (waits : WaitId → Option Wait) (w : WaitId) (c : ℕ) (rs : List Receiver) → (IsStandingAt c (waits w) → ⊥) → ReceiversStand waits c rs → how_many (λ (r : Receiver). same_wait w r.party.wait) rs ≡ 0
 unfolding ReceiversStand
 no_receivers waits w c [] h k = refl
 no_receivers waits w c (r ∷ rs) h k = no_more _ _ (not_same waits w r.party.wait c _ refl h k.0) (no_receivers waits w c rs h k.1)
@@ -155,7 +155,7 @@ new_here who k c p places w s h place may = by_test (same_wait w (record { chann
         absent_stands c (s.waits w) (h w at)
     by_test false e m = joining_stands who k c (s.waits w) m
 
-how_many_push : {X : Type 0} (p : X → Bool) (xs : List X) (y : X) → how_many p (xs ++ y ∷ []) ≡ how_many p xs + cond (p y) 1 0
+pub how_many_push : {X : Type 0} (p : X → Bool) (xs : List X) (y : X) → how_many p (xs ++ y ∷ []) ≡ how_many p xs + cond (p y) 1 0
 how_many_push p [] y = omega arith
 how_many_push p (x ∷ xs) y = let k = how_many_push p xs y in omega arith
 
@@ -232,3 +232,26 @@ without_first_holder ch o os p h e f =
     let held : Standing → Bool = λ x. is_held_by p.wait x.holder in
     without_none p.wait (record ch { queue = os })
     (spent_by_holder (how_many (λ (r : Receiver). same_wait p.wait r.party.wait) ch.receivers) (how_many held ch.queue) (how_many held os) (is_held_by p.wait o.holder) (h.once p.wait) (ap (how_many held) e) (held_by_own p o.holder f))
+
+-- one held offer fewer, where an offer is freed of its holder
+freed_one : (w : WaitId) (q : List Standing) (i : ℕ) (o : Standing) → slice_get q i ≡ Some o → is_held_by w o.holder ≡ true
+    → how_many (λ (x : Standing). is_held_by w x.holder) (slice_set q i (record o { holder = None })) + 1 ≡ how_many (λ (x : Standing). is_held_by w x.holder) q
+freed_one w [] i o at e = cc
+freed_one w (x ∷ xs) zero o at e = counted (is_held_by w x.holder) (let k : x ≡ o = cc in ap (λ (y : Standing). is_held_by w y.holder) k ∙ e)
+  where
+    counted : (b : Bool) → b ≡ true → 0 + how_many (λ (x : Standing). is_held_by w x.holder) xs + 1 ≡ cond b 1 0 + how_many (λ (x : Standing). is_held_by w x.holder) xs
+    counted true e = omega arith
+    counted false e = cc
+freed_one w (x ∷ xs) (suc i) o at e = omega (arith, freed_one w xs i o at e)
+
+spent_by_freed : (n m k : ℕ) → m + n ≤ 1 → k + 1 ≡ m → k + n ≡ 0
+spent_by_freed n m k h e = omega arith
+
+-- nor does the holder of an offer that is freed of it
+pub without_freed : (ch : Channel) (i : ℕ) (o : Standing) (p : Party) → StandsOnce ch → slice_get ch.queue i ≡ Some o → o.holder ≡ Some p
+    → without p.wait (record ch { queue = slice_set ch.queue i (record o { holder = None }) }) ≡ record ch { queue = slice_set ch.queue i (record o { holder = None }) }
+without_freed ch i o p h at e =
+    let held : Standing → Bool = λ x. is_held_by p.wait x.holder in
+    let freed : List Standing = slice_set ch.queue i (record o { holder = None }) in
+    without_none p.wait (record ch { queue = freed })
+    (spent_by_freed (how_many (λ (r : Receiver). same_wait p.wait r.party.wait) ch.receivers) (how_many held ch.queue) (how_many held freed) (h.once p.wait) (freed_one p.wait ch.queue i o at (held_by_own p o.holder e)))

@@ -8,6 +8,7 @@ use Rattle.std.proofs.lemmas.Bool.Decides.{nat_tests}
 use Rattle.channel_model.specs.declared.acts.Act.{Act}
 use Rattle.channel_model.specs.declared.acts.Act.TheVariants.{Hand, Put, Offer, Await, Take, Admit, Drop, Close, Void, Drain, WakeClosed, Withdraw, Settle}
 use Rattle.channel_model.specs.declared.acts.Entry.{Entry}
+use Rattle.channel_model.specs.declared.acts.Settled.{Settled}
 use Rattle.channel_model.specs.declared.standing.Party.{Party}
 use Rattle.channel_model.specs.declared.standing.Standing.{Standing}
 use Rattle.channel_model.specs.declared.standing.Receiver.{Receiver}
@@ -104,7 +105,7 @@ unfolding OffersStand
 resolve_offer_open c [] how s h k = h
 resolve_offer_open c (o ∷ os) how s h k = resolve_holder_open o.holder how _ (with_queue_open c os s h k.1)
 
-offers_admitted : (waits : WaitId → Option Wait) (c p : ℕ) (os : List Standing) → OffersStand waits c os → OffersStand waits c (admitted p os)
+pub offers_admitted : (waits : WaitId → Option Wait) (c p : ℕ) (os : List Standing) → OffersStand waits c os → OffersStand waits c (admitted p os)
 unfolding OffersStand
 offers_admitted waits c p [] h = h
 offers_admitted waits c p (o ∷ os) h =
@@ -158,9 +159,9 @@ one_keeps waits w f k c v h = here_or (same_wait w v) refl
     here_or true e = k c (waits w) (subst (λ u. IsStandingAt c (waits u)) (sym (same_wait-eq w v e)) h)
     here_or false e = h
 
-settled_stands : (d : ℕ) (x : Option Wait) → IsStandingAt d x → IsStandingAt d (settled_wait x)
-settled_stands d None h = h
-settled_stands d (Some x) h = h
+settled_stands : (outcome : Settled) (d : ℕ) (x : Option Wait) → IsStandingAt d x → IsStandingAt d (settled_wait outcome x)
+settled_stands outcome d None h = h
+settled_stands outcome d (Some x) h = h
 
 offer_placed : (waits : WaitId → Option Wait) (c : ℕ) (ch : Channel) (o : Standing) (b : Bool) → StandOpen waits c ch → (b ≡ true → HolderStands waits c o.holder) → StandOpen waits c (place_offer b o ch)
 offer_placed waits c ch o false h k = record { offers = h.offers; receivers = h.receivers }
@@ -193,7 +194,7 @@ after_open s who (Void c) h = put_open c _ s h (record { offers = (h c).offers; 
 after_open s who (Drain c p v) h = resolve_offer_open c (s.channels c).queue _ s h (h c).offers
 after_open s who (WakeClosed c p) h = resolve_first_open (s.channels c).receivers _ s h
 after_open s who (Withdraw w why) h = resolve_open w _ s h
-after_open s who (Settle w outcome) h = keeps_open s _ (one_keeps s.waits w settled_wait settled_stands) h
+after_open s who (Settle w outcome) h = keeps_open s _ (one_keeps s.waits w (settled_wait outcome) (settled_stands outcome)) h
 
 pub start_open : AllStandOpen start
 unfolding OffersStand ReceiversStand

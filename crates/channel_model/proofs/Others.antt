@@ -18,14 +18,14 @@ use Rattle.channel_model.specs.Needs.{Needs, MaySettle}
 use Rattle.channel_model.specs.Histories.{replay, replay_from, Legal, LegalFrom, acts_of}
 use Rattle.channel_model.proofs.Histories.{replay_from-append, LegalFrom-parts, acts_of-append}
 use Rattle.channel_model.proofs.Waits.{same_wait-eq, one_change}
-use Rattle.channel_model.specs.Answers.{IsReadyWait, IsOwnWait}
+use Rattle.channel_model.specs.Answers.{IsReadyWait, IsOwnWait, IsUnsettledOf}
 use Rattle.channel_model.proofs.Spans.{nothing_more}
 
 -- a fact of a wait of who that no other takes away
 pub record Stays (who : ℕ) (P : Option Wait → Type 0) : Type 0 where
   pub resolved : (how : Resolution) (x : Option Wait) → P x → P (resolved_wait how x)
   pub named : (n k c : ℕ) (x : Option Wait) → P x → P (name_clause n k c x)
-  pub settled : (n : ℕ) (outcome : Settled) (x : Option Wait) → n ≢ who → MaySettle n outcome x → P x → P (settled_wait x)
+  pub settled : (n : ℕ) (outcome : Settled) (x : Option Wait) → n ≢ who → MaySettle n outcome x → P x → P (settled_wait outcome x)
 
 resolve_keeps : (who : ℕ) (P : Option Wait → Type 0) → Stays who P → (v w : WaitId) (how : Resolution) (s : State) → P (s.waits v) → P ((resolve w how s).waits v)
 resolve_keeps who P k v w how s h = one_change P s.waits w v (resolved_wait how) (k.resolved how (s.waits v)) h
@@ -46,10 +46,10 @@ resolve_offer_keeps : (who : ℕ) (P : Option Wait → Type 0) → Stays who P �
 resolve_offer_keeps who P k v c [] how s h = h
 resolve_offer_keeps who P k v c (o ∷ os) how s h = resolve_holder_keeps who P k v o.holder how _ h
 
-settle_keeps : (who : ℕ) (P : Option Wait → Type 0) → Stays who P → (n : ℕ) (outcome : Settled) (w v : WaitId) (s : State) → n ≢ who → MaySettle n outcome (s.waits w) → P (s.waits v) → P (put_wait w (settled_wait (s.waits w)) s.waits v)
+settle_keeps : (who : ℕ) (P : Option Wait → Type 0) → Stays who P → (n : ℕ) (outcome : Settled) (w v : WaitId) (s : State) → n ≢ who → MaySettle n outcome (s.waits w) → P (s.waits v) → P (put_wait w (settled_wait outcome (s.waits w)) s.waits v)
 settle_keeps who P k n outcome w v s apart m h = by_test (same_wait w v) refl
   where
-    by_test : (b : Bool) → same_wait w v ≡ b → P (if b then settled_wait (s.waits w) else s.waits v)
+    by_test : (b : Bool) → same_wait w v ≡ b → P (if b then settled_wait outcome (s.waits w) else s.waits v)
     by_test true e = k.settled n outcome (s.waits w) apart m (subst (λ u. P (s.waits u)) (sym (same_wait-eq w v e)) h)
     by_test false e = h
 
@@ -114,10 +114,10 @@ pub own_stays : (who : ℕ) → Stays who (IsOwnWait who)
 own_stays who = record {
   resolved = λ how x h. elim x as (λ y. IsOwnWait who y → IsOwnWait who (resolved_wait how y)) [ None ↦ λ k. k | Some y ↦ λ k. k ] h;
   named = λ n k c x h. elim x as (λ y. IsOwnWait who y → IsOwnWait who (name_clause n k c y)) [ None ↦ λ f. absurd f | Some y ↦ λ f. f ] h;
-  settled = λ n outcome x apart m h. elim x as (λ y. IsOwnWait who y → IsOwnWait who (settled_wait y)) [ None ↦ λ k. k | Some y ↦ λ k. k ] h;
+  settled = λ n outcome x apart m h. elim x as (λ y. IsOwnWait who y → IsOwnWait who (settled_wait outcome y)) [ None ↦ λ k. k | Some y ↦ λ k. k ] h;
 }
 
-ready_settled : (who n : ℕ) (outcome : Settled) (x : Option Wait) → n ≢ who → MaySettle n outcome x → IsReadyWait who x → IsReadyWait who (settled_wait x)
+ready_settled : (who n : ℕ) (outcome : Settled) (x : Option Wait) → n ≢ who → MaySettle n outcome x → IsReadyWait who x → IsReadyWait who (settled_wait outcome x)
 ready_settled who n outcome None apart m h = h
 ready_settled who n outcome (Some x) apart m h = absurd (apart (sym m.0 ∙ h.0))
 
@@ -126,4 +126,16 @@ ready_stays who = record {
   resolved = λ how x h. elim x as (λ y. IsReadyWait who y → IsReadyWait who (resolved_wait how y)) [ None ↦ λ k. k | Some y ↦ λ k. (k.0, refl, k.2) ] h;
   named = λ n k c x h. elim x as (λ y. IsReadyWait who y → IsReadyWait who (name_clause n k c y)) [ None ↦ λ f. absurd f | Some y ↦ λ f. f ] h;
   settled = λ n outcome x apart m h. ready_settled who n outcome x apart m h;
+}
+
+unsettled_settled : (who n : ℕ) (outcome : Settled) (x : Option Wait) → n ≢ who → MaySettle n outcome x → IsUnsettledOf who x → IsUnsettledOf who (settled_wait outcome x)
+unsettled_settled who n outcome None apart m h = h
+unsettled_settled who n outcome (Some x) apart m h = absurd (apart (sym m.0 ∙ h.0))
+
+-- others leave an unsettled wait unsettled
+pub unsettled_stays : (who : ℕ) → Stays who (IsUnsettledOf who)
+unsettled_stays who = record {
+  resolved = λ how x h. elim x as (λ y. IsUnsettledOf who y → IsUnsettledOf who (resolved_wait how y)) [ None ↦ λ k. k | Some y ↦ λ k. k ] h;
+  named = λ n k c x h. elim x as (λ y. IsUnsettledOf who y → IsUnsettledOf who (name_clause n k c y)) [ None ↦ λ f. absurd f | Some y ↦ λ f. f ] h;
+  settled = λ n outcome x apart m h. unsettled_settled who n outcome x apart m h;
 }

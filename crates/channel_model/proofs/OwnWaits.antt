@@ -7,6 +7,7 @@ use Rattle.co_base.specs.declared.names.WaitId.{WaitId}
 use Rattle.channel_model.specs.declared.acts.Act.{Act}
 use Rattle.channel_model.specs.declared.acts.Act.TheVariants.{Hand, Put, Offer, Await, Take, Admit, Drop, Close, Void, Drain, WakeClosed, Withdraw, Settle}
 use Rattle.channel_model.specs.declared.acts.Entry.{Entry}
+use Rattle.channel_model.specs.declared.acts.Settled.{Settled}
 use Rattle.channel_model.specs.declared.standing.Party.{Party}
 use Rattle.channel_model.specs.declared.standing.Standing.{Standing}
 use Rattle.channel_model.specs.declared.standing.Receiver.{Receiver}
@@ -21,7 +22,7 @@ use Rattle.channel_model.proofs.Waits.{same_wait-eq}
 pub record ComesFrom (who : ℕ) (P : Option Wait → Type 0) : Type 0 where
   pub resolved : (how : Resolution) (x : Option Wait) → P (resolved_wait how x) → P x
   pub named : (n k c : ℕ) (x : Option Wait) → P (name_clause n k c x) → P x ⊎ (n ≡ who)
-  pub settled : (x : Option Wait) → P (settled_wait x) → P x
+  pub settled : (outcome : Settled) (x : Option Wait) → P (settled_wait outcome x) → P x
 
 -- the wait that the act may begin
 abbrev pub begins : Act → Option WaitId
@@ -87,7 +88,7 @@ act_from who P y n v s (Void c) h = inl h
 act_from who P y n v s (Drain c p x) h = inl (offer_from who P y v c _ _ s h)
 act_from who P y n v s (WakeClosed c p) h = inl (first_from who P y v _ _ s h)
 act_from who P y n v s (Withdraw w why) h = inl (resolve_from who P y v w _ s h)
-act_from who P y n v s (Settle w outcome) h = inl (change_from P s.waits w v settled_wait y.settled h)
+act_from who P y n v s (Settle w outcome) h = inl (change_from P s.waits w v (settled_wait outcome) (y.settled outcome) h)
 
 -- entries of others alone
 none_own : (who : ℕ) (e : Entry) (es : List Entry) (b : Bool) → (e.who == who) ≡ b → (if b then e.act ∷ acts_of who es else acts_of who es) ≡ [] → (e.who ≢ who) × (acts_of who es ≡ [])

@@ -115,7 +115,7 @@ placed_after shape s who (Void c) n h = grown s _ (put_grows s c _ (omega arith)
 placed_after shape s who (Drain c p v) n h = grown s _ (received_grows s c (s.channels c).queue _) h
 placed_after shape s who (WakeClosed c p) n h = grown s _ (first_grows _ _ s) h
 placed_after shape s who (Withdraw w why) n h = grown s _ (resolve_grows w _ s) h
-placed_after shape s who (Settle w outcome) n h = grown s (record s { waits = put_wait w (settled_wait (s.waits w)) s.waits }) (record { counts = λ c. omega arith; absent = λ v e. put_none s.waits w v settled_wait refl e }) h
+placed_after shape s who (Settle w outcome) n h = grown s (record s { waits = put_wait w (settled_wait outcome (s.waits w)) s.waits }) (record { counts = λ c. omega arith; absent = λ v e. put_none s.waits w v (settled_wait outcome) refl e }) h
 
 from_placed : (shape : Shape) (s : State) (es : List Entry) → LegalFrom shape s es → Placed s → Placed (replay_from s es)
 unfolding LegalFrom replay_from

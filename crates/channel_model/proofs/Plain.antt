@@ -7,6 +7,7 @@ use Rattle.channel_model.specs.declared.acts.Kind.TheVariants.{Rendezvous, Buffe
 use Rattle.channel_model.specs.declared.acts.Act.{Act}
 use Rattle.channel_model.specs.declared.acts.Act.TheVariants.{Hand, Put, Offer, Await, Take, Admit, Drop, Close, Void, Drain, WakeClosed, Withdraw, Settle}
 use Rattle.channel_model.specs.declared.acts.Entry.{Entry}
+use Rattle.channel_model.specs.declared.acts.Settled.{Settled}
 use Rattle.channel_model.specs.declared.standing.Party.{Party}
 use Rattle.channel_model.specs.declared.standing.Standing.{Standing}
 use Rattle.channel_model.specs.declared.standing.Receiver.{Receiver}
@@ -31,9 +32,9 @@ plain_named : (who k c : ℕ) (x : Option Wait) → PlainWait x → PlainWait (n
 plain_named who k c None h = refl
 plain_named who k c (Some x) h = h
 
-plain_settled : (x : Option Wait) → PlainWait x → PlainWait (settled_wait x)
-plain_settled None h = refl
-plain_settled (Some x) h = h
+plain_settled : (outcome : Settled) (x : Option Wait) → PlainWait x → PlainWait (settled_wait outcome x)
+plain_settled outcome None h = refl
+plain_settled outcome (Some x) h = h
 
 resolve_plain : (w : WaitId) (how : Resolution) (s : State) → is_exchange how ≡ true → IsPlain s → IsPlain (resolve w how s)
 resolve_plain w how s e h = record {
@@ -97,7 +98,7 @@ after_plain s who (Void c) e h = cc
 after_plain s who (Drain c p v) e h = cc
 after_plain s who (WakeClosed c p) e h = cc
 after_plain s who (Withdraw w why) e h = cc
-after_plain s who (Settle w outcome) e h = waits_plain s w settled_wait plain_settled h
+after_plain s who (Settle w outcome) e h = waits_plain s w (settled_wait outcome) (plain_settled outcome) h
 
 both : (a b : Bool) → (a && b) ≡ true → (a ≡ true) × (b ≡ true)
 both true b e = (refl, e)

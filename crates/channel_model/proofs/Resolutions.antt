@@ -1,58 +1,51 @@
--- A wait is resolved at most once, and settled at most once.
-use Rattle.std.specs.Prelude.{◌≡◌, ℕ, ◌+◌, ◌≤◌, ◌==◌, Bool, true, false, List, [], ◌∷◌, Option, Some, None, refl, if◌then◌else◌}
+-- What an act resolves was open, and what it ends had not ended; both stay.
+use Rattle.std.specs.Prelude.{◌≡◌, ℕ, ◌+◌, ◌==◌, true, false, List, [], ◌∷◌, Option, Some, None, refl, if◌then◌else◌}
 use Rattle.std.proofs.Common.{sym, subst, arith}
 use Rattle.co_base.specs.declared.names.WaitId.{WaitId}
 use Rattle.channel_model.specs.declared.acts.Act.{Act}
 use Rattle.channel_model.specs.declared.acts.Act.TheVariants.{Hand, Put, Offer, Await, Take, Admit, Drop, Close, Void, Drain, WakeClosed, Withdraw, Settle}
-use Rattle.channel_model.specs.declared.acts.Entry.{Entry}
 use Rattle.channel_model.specs.declared.acts.Settled.{Settled}
 use Rattle.channel_model.specs.declared.standing.Party.{Party}
 use Rattle.channel_model.specs.declared.standing.Standing.{Standing}
 use Rattle.channel_model.specs.declared.standing.Receiver.{Receiver}
 use Rattle.channel_model.specs.declared.standing.Resolution.{Resolution}
-use Rattle.channel_model.specs.Channels.{Shape, State, Wait, same_wait, start}
+use Rattle.channel_model.specs.Channels.{Shape, State, Wait}
 use Rattle.channel_model.specs.Effects.{after, resolve, resolve_first, resolve_holder, resolve_offer, with_queue, put_wait, resolved_wait, name_clause, settled_wait, admitted, holder_at}
 use Rattle.channel_model.specs.Needs.{Needs, IsOpenOf, MaySettle}
-use Rattle.channel_model.specs.Histories.{LegalFrom, Legal}
-use Rattle.channel_model.specs.Answers.{IsResolvedWait}
-use Rattle.channel_model.specs.Laws.{IsStandingAt, HolderStands, OffersStand, ReceiversStand, AllStandOpen, wait_of_party, first_waiting, first_holding, resolves, settles, one_if, resolutions_from, resolutions_of, settlements_of}
-use Rattle.channel_model.proofs.Waits.{same_wait-eq, at_wait}
-use Rattle.channel_model.proofs.OpenWaits.{after_open, start_open}
+use Rattle.channel_model.specs.Answers.{IsResolvedWait, IsSettledWait}
+use Rattle.channel_model.specs.Laws.{IsStandingAt, HolderStands, OffersStand, ReceiversStand, AllStandOpen, wait_of_party, first_waiting, first_holding, resolves, settles}
+use Rattle.channel_model.proofs.Waits.{at_wait}
 use Rattle.channel_model.proofs.Others.{Stays, other_keeps}
-
-abbrev pub IsSettledWait : Option Wait → Type 0
-IsSettledWait None = ⊥
-IsSettledWait (Some x) = x.settled ≡ true
 
 pub resolved_stays : (who : ℕ) → Stays who IsResolvedWait
 resolved_stays who = record {
   resolved = λ how x h. elim x as (λ y. IsResolvedWait y → IsResolvedWait (resolved_wait how y)) [ None ↦ λ k. k | Some y ↦ λ k. refl ] h;
   named = λ n k c x h. elim x as (λ y. IsResolvedWait y → IsResolvedWait (name_clause n k c y)) [ None ↦ λ f. absurd f | Some y ↦ λ f. f ] h;
-  settled = λ n outcome x apart m h. elim x as (λ y. IsResolvedWait y → IsResolvedWait (settled_wait y)) [ None ↦ λ k. k | Some y ↦ λ k. k ] h;
+  settled = λ n outcome x apart m h. elim x as (λ y. IsResolvedWait y → IsResolvedWait (settled_wait outcome y)) [ None ↦ λ k. k | Some y ↦ λ k. k ] h;
 }
 
 pub settled_stays : (who : ℕ) → Stays who IsSettledWait
 settled_stays who = record {
   resolved = λ how x h. elim x as (λ y. IsSettledWait y → IsSettledWait (resolved_wait how y)) [ None ↦ λ k. k | Some y ↦ λ k. k ] h;
   named = λ n k c x h. elim x as (λ y. IsSettledWait y → IsSettledWait (name_clause n k c y)) [ None ↦ λ f. absurd f | Some y ↦ λ f. f ] h;
-  settled = λ n outcome x apart m h. elim x as (λ y. IsSettledWait y → IsSettledWait (settled_wait y)) [ None ↦ λ k. k | Some y ↦ λ k. refl ] h;
+  settled = λ n outcome x apart m h. elim x as (λ y. IsSettledWait y → IsSettledWait (settled_wait outcome y)) [ None ↦ λ k. k | Some y ↦ λ k. refl ] h;
 }
 
 apart : (n : ℕ) → n ≡ n + 1 → ⊥
 apart n e = omega arith
 
 -- a fact that nobody takes away
-always_keeps : (shape : Shape) (P : Option Wait → Type 0) → ((who : ℕ) → Stays who P) → (n : ℕ) (v : WaitId) (s : State) (act : Act) → Needs shape s n act → P (s.waits v) → P ((after s n act).waits v)
+pub always_keeps : (shape : Shape) (P : Option Wait → Type 0) → ((who : ℕ) → Stays who P) → (n : ℕ) (v : WaitId) (s : State) (act : Act) → Needs shape s n act → P (s.waits v) → P ((after s n act).waits v)
 always_keeps shape P y n v s act m h = other_keeps shape (n + 1) P (y (n + 1)) n v s act (apart n) m h
 
 -- P did not hold of the wait, and holds now
-record Turns (P : Option Wait → Type 0) (v : WaitId) (waits waits' : WaitId → Option Wait) : Type 0 where
-  before : P (waits v) → ⊥
-  now : P (waits' v)
+pub record Turns (P : Option Wait → Type 0) (v : WaitId) (waits waits' : WaitId → Option Wait) : Type 0 where
+  pub before : P (waits v) → ⊥
+  pub now : P (waits' v)
 
 -- ---- what an act resolves was open, and is resolved
 
-not_open : (c : ℕ) (x : Option Wait) → IsStandingAt c x → IsResolvedWait x → ⊥
+pub not_open : (c : ℕ) (x : Option Wait) → IsStandingAt c x → IsResolvedWait x → ⊥
 not_open c None h k = h
 not_open c (Some x) h k = let e = h.0 in cc
 
@@ -104,7 +97,7 @@ withdrawing who w how s h v e =
     subst (λ u. Turns IsResolvedWait u s.waits (resolve w how s).waits) k
     (record { before = open_of who (s.waits w) h; now = subst IsResolvedWait (sym (at_wait w _ s.waits)) (made_withdrawn who how (s.waits w) h) })
 
-resolves_turns : (shape : Shape) (s : State) (who : ℕ) (act : Act) → AllStandOpen s → Needs shape s who act → (v : WaitId) → resolves s act ≡ Some v → Turns IsResolvedWait v s.waits (after s who act).waits
+pub resolves_turns : (shape : Shape) (s : State) (who : ℕ) (act : Act) → AllStandOpen s → Needs shape s who act → (v : WaitId) → resolves s act ≡ Some v → Turns IsResolvedWait v s.waits (after s who act).waits
 resolves_turns shape s who (Hand c p x) h n v e = first_resolved c _ _ s (h c).receivers v e
 resolves_turns shape s who (Put c p x) h n v e = cc
 resolves_turns shape s who (Offer c p x w k) h n v e = cc
@@ -126,17 +119,17 @@ not_settled : (who : ℕ) (outcome : Settled) (x : Option Wait) → MaySettle wh
 not_settled who outcome None h k = h
 not_settled who outcome (Some x) h k = let e = h.1 in cc
 
-made_settled : (who : ℕ) (outcome : Settled) (x : Option Wait) → MaySettle who outcome x → IsSettledWait (settled_wait x)
+made_settled : (who : ℕ) (outcome : Settled) (x : Option Wait) → MaySettle who outcome x → IsSettledWait (settled_wait outcome x)
 made_settled who outcome None h = h
 made_settled who outcome (Some x) h = refl
 
-settling : (who : ℕ) (outcome : Settled) (w : WaitId) (waits : WaitId → Option Wait) → MaySettle who outcome (waits w) → (v : WaitId) → Some w ≡ Some v → Turns IsSettledWait v waits (put_wait w (settled_wait (waits w)) waits)
+settling : (who : ℕ) (outcome : Settled) (w : WaitId) (waits : WaitId → Option Wait) → MaySettle who outcome (waits w) → (v : WaitId) → Some w ≡ Some v → Turns IsSettledWait v waits (put_wait w (settled_wait outcome (waits w)) waits)
 settling who outcome w waits h v e =
     let k : w ≡ v = cc in
-    subst (λ u. Turns IsSettledWait u waits (put_wait w (settled_wait (waits w)) waits)) k
+    subst (λ u. Turns IsSettledWait u waits (put_wait w (settled_wait outcome (waits w)) waits)) k
     (record { before = not_settled who outcome (waits w) h; now = subst IsSettledWait (sym (at_wait w _ waits)) (made_settled who outcome (waits w) h) })
 
-settles_turns : (shape : Shape) (s : State) (who : ℕ) (act : Act) → Needs shape s who act → (v : WaitId) → settles act ≡ Some v → Turns IsSettledWait v s.waits (after s who act).waits
+pub settles_turns : (shape : Shape) (s : State) (who : ℕ) (act : Act) → Needs shape s who act → (v : WaitId) → settles act ≡ Some v → Turns IsSettledWait v s.waits (after s who act).waits
 settles_turns shape s who (Hand c p x) n v e = cc
 settles_turns shape s who (Put c p x) n v e = cc
 settles_turns shape s who (Offer c p x w k) n v e = cc
@@ -150,42 +143,3 @@ settles_turns shape s who (Drain c p x) n v e = cc
 settles_turns shape s who (WakeClosed c p) n v e = cc
 settles_turns shape s who (Withdraw w why) n v e = cc
 settles_turns shape s who (Settle w outcome) n v e = settling who outcome w s.waits n v e
-
--- ---- counting
-
--- at most one, and none where P held before
-record AtMostOne (P : Option Wait → Type 0) (x : Option Wait) (n : ℕ) : Type 0 where
-  bound : n ≤ 1
-  none : P x → n ≡ 0
-
-one_more : (P : Option Wait → Type 0) (w : WaitId) (o : Option WaitId) (waits waits' : WaitId → Option Wait) (n : ℕ) → ((v : WaitId) → o ≡ Some v → Turns P v waits waits') → (P (waits w) → P (waits' w)) → AtMostOne P (waits' w) n → AtMostOne P (waits w) (one_if w o + n)
-one_more P w None waits waits' n turns keeps rest = record { bound = omega (arith, rest.bound); none = λ h. omega (arith, rest.none (keeps h)) }
-one_more P w (Some v) waits waits' n turns keeps rest = by_test (same_wait w v) refl
-  where
-    by_test : (b : Bool) → same_wait w v ≡ b → AtMostOne P (waits w) ((if b then 1 else 0) + n)
-    by_test true e =
-        let t : Turns P w waits waits' = turns w (let k : w ≡ v = same_wait-eq w v e in cc) in
-        record { bound = omega (arith, rest.none t.now); none = λ h. absurd (t.before h) }
-    by_test false e = record { bound = omega (arith, rest.bound); none = λ h. omega (arith, rest.none (keeps h)) }
-
-resolutions_from_bound : (shape : Shape) (w : WaitId) (s : State) (es : List Entry) → AllStandOpen s → LegalFrom shape s es → AtMostOne IsResolvedWait (s.waits w) (resolutions_from w s es)
-unfolding LegalFrom resolutions_from
-resolutions_from_bound shape w s [] h l = record { bound = omega arith; none = λ k. refl }
-resolutions_from_bound shape w s (e ∷ es) h l =
-    one_more IsResolvedWait w (resolves s e.act) s.waits (after s e.who e.act).waits _ (resolves_turns shape s e.who e.act h l.0)
-    (always_keeps shape IsResolvedWait resolved_stays e.who w s e.act l.0)
-    (resolutions_from_bound shape w (after s e.who e.act) es (after_open s e.who e.act h) l.1)
-
-settlements_from_bound : (shape : Shape) (w : WaitId) (s : State) (es : List Entry) → LegalFrom shape s es → AtMostOne IsSettledWait (s.waits w) (settlements_of w es)
-unfolding LegalFrom settlements_of
-settlements_from_bound shape w s [] l = record { bound = omega arith; none = λ k. refl }
-settlements_from_bound shape w s (e ∷ es) l =
-    one_more IsSettledWait w (settles e.act) s.waits (after s e.who e.act).waits _ (settles_turns shape s e.who e.act l.0)
-    (always_keeps shape IsSettledWait settled_stays e.who w s e.act l.0)
-    (settlements_from_bound shape w (after s e.who e.act) es l.1)
-
-pub resolutions_of_bound : (shape : Shape) (history : List Entry) (w : WaitId) → Legal shape history → resolutions_of w history ≤ 1
-resolutions_of_bound shape history w l = (resolutions_from_bound shape w start history start_open l).bound
-
-pub settlements_of_bound : (shape : Shape) (history : List Entry) (w : WaitId) → Legal shape history → settlements_of w history ≤ 1
-settlements_of_bound shape history w l = (settlements_from_bound shape w start history l).bound

@@ -1,7 +1,8 @@
 -- The state of the channels.
-use Rattle.std.specs.Prelude.{ℕ, ◌==◌, nat_le, nat_lt, Bool, true, false, ◌&&◌, List, [], Option, None, slice_index_or}
+use Rattle.std.specs.Prelude.{ℕ, ◌<◌, ◌≤◌, length, ◌==◌, nat_le, nat_lt, Bool, true, false, ◌&&◌, List, [], Option, None, slice_index_or}
 use Rattle.channel_model.specs.declared.acts.Kind.{Kind}
 use Rattle.channel_model.specs.declared.acts.Kind.TheVariants.{Rendezvous, Buffered, Unlimited, Conflated, DropOldest, Signal}
+use Rattle.channel_model.specs.declared.acts.Settled.{Settled}
 use Rattle.channel_model.specs.declared.standing.Standing.{Standing}
 use Rattle.channel_model.specs.declared.standing.Receiver.{Receiver}
 use Rattle.channel_model.specs.declared.standing.Resolution.{Resolution}
@@ -16,6 +17,15 @@ kind_at shape c = (slice_index_or shape c (Signal, 0)).0
 
 abbrev pub places_at : Shape → ℕ → ℕ
 places_at shape c = (slice_index_or shape c (Signal, 0)).1
+
+-- a channel has one place at least, and at most 1,048,576
+pub record HasPlaces (places : ℕ) : Type 0 where
+  pub some : 1 ≤ places
+  pub few : places ≤ 1048576
+
+-- each channel has its places
+abbrev pub IsShape : Shape → Type 0
+IsShape shape = (c : ℕ) → c < length shape → HasPlaces (places_at shape c)
 
 -- where so many offers stand, at least as many stand as the kind keeps without a wait
 abbrev pub is_full : Kind → ℕ → Bool
@@ -67,8 +77,10 @@ pub record Wait : Type 0 where
   pub owner : ℕ
   -- the number and the channel of each clause, that at which it began first
   pub clauses : List (ℕ × ℕ)
+  -- by which act it was resolved
   pub resolved : Option Resolution
-  pub settled : Bool
+  -- how it ended
+  pub settled : Option Settled
 
 -- a channel at each number, and the waits that began
 pub record State : Type 0 where

@@ -2,6 +2,7 @@
 use Rattle.std.specs.Prelude.{ℕ, ◌+◌, ◌==◌, Bool, true, false, not, List, [], ◌∷◌, ◌++◌, filter, Option, Some, None, if◌then◌else◌, is_none}
 use Rattle.channel_model.specs.declared.acts.Act.{Act}
 use Rattle.channel_model.specs.declared.acts.Act.TheVariants.{Hand, Put, Offer, Await, Take, Admit, Drop, Close, Void, Drain, WakeClosed, Withdraw, Settle}
+use Rattle.channel_model.specs.declared.acts.Settled.{Settled}
 use Rattle.channel_model.specs.declared.standing.Party.{Party}
 use Rattle.channel_model.specs.declared.standing.Standing.{Standing}
 use Rattle.channel_model.specs.declared.standing.Receiver.{Receiver}
@@ -62,7 +63,7 @@ resolve_offer c (o ∷ os) how s = resolve_holder o.holder how (with_queue c os 
 
 -- the wait begins with this clause, or has this one more
 abbrev pub name_clause : ℕ → ℕ → ℕ → Option Wait → Option Wait
-name_clause who k c None = Some (record { owner = who; clauses = (k, c) ∷ []; resolved = None; settled = false })
+name_clause who k c None = Some (record { owner = who; clauses = (k, c) ∷ []; resolved = None; settled = None })
 name_clause who k c (Some x) = Some (record x { clauses = x.clauses ++ (k, c) ∷ [] })
 
 -- nobody resolved the wait yet
@@ -93,9 +94,9 @@ abbrev pub close_value : Option ℕ → ℕ
 close_value None = 0
 close_value (Some v) = v
 
-abbrev pub settled_wait : Option Wait → Option Wait
-settled_wait None = None
-settled_wait (Some x) = Some (record x { settled = true })
+abbrev pub settled_wait : Settled → Option Wait → Option Wait
+settled_wait outcome None = None
+settled_wait outcome (Some x) = Some (record x { settled = Some outcome })
 
 -- ---- the acts
 
@@ -123,4 +124,4 @@ after s who (Void c) = record s { channels = put_channel c (record (s.channels c
 after s who (Drain c p v) = resolve_offer c (s.channels c).queue (λ k. resolved.Voided) s
 after s who (WakeClosed c p) = resolve_first (s.channels c).receivers (λ k. resolved.Closed k (close_value (s.channels c).closed)) s
 after s who (Withdraw w why) = resolve w (resolved.Withdrawn why) s
-after s who (Settle w outcome) = record s { waits = put_wait w (settled_wait (s.waits w)) s.waits }
+after s who (Settle w outcome) = record s { waits = put_wait w (settled_wait outcome (s.waits w)) s.waits }

@@ -74,6 +74,13 @@ abbrev pub settles_undelivered : WaitId → Act → Bool
 settles_undelivered w (Settle v outcome) = same_wait w v && is_undelivered outcome
 settles_undelivered w other = false
 
+-- the act takes the offer of this place out of its queue
+abbrev pub removes : ℕ → ℕ → Act → Bool
+removes c p (Take d q v) = is_at c p d q
+removes c p (Drop d q v) = is_at c p d q
+removes c p (Drain d q v) = is_at c p d q
+removes c p other = false
+
 -- the place whose wait the act resolves, if it has one
 abbrev pub resolves_at : Act → Option (ℕ × ℕ)
 resolves_at (Hand d q v) = Some (d, q)

@@ -29,6 +29,7 @@ pub record HasRoom (n : ℕ) (old new : Floor) : Type 0 where
   pub same : SameSetting old new
   pub seen : new.seen ≡ old.seen
   pub room : n ≤ new.spare
+  pub kept : old.spare ≤ new.spare
 
 -- the tag is one of the caller's, and the channel one of the floor
 pub record MayCall (who c : ℕ) (floor : Floor) : Type 0 where
@@ -58,6 +59,14 @@ pub record AtStep (old new : Floor) (P : State → Type 0) : Type 0 where
   pub moment : List Entry
   pub after : IsPrefix old.seen moment
   pub before : IsPrefix moment new.seen
+  pub holds : P (replay moment)
+
+-- this was so at a moment of the call at which who had made just these of its acts
+pub record AtMoment (who : ℕ) (acts : List Act) (old new : Floor) (P : State → Type 0) : Type 0 where
+  pub moment : List Entry
+  pub after : IsPrefix old.seen moment
+  pub before : IsPrefix moment new.seen
+  pub mine : acts_of who moment ≡ acts_of who old.seen ++ acts
   pub holds : P (replay moment)
 
 abbrev pub entries_by : ℕ → List Act → List Entry

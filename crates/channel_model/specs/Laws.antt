@@ -1,11 +1,12 @@
 -- The words of what holds in every legal history.
-use Rattle.std.specs.Prelude.{◌≡◌, ℕ, ◌+◌, ◌≤◌, ◌==◌, Bool, true, false, cond, List, [], ◌∷◌, Option, Some, None, if◌then◌else◌}
+use Rattle.std.specs.Prelude.{◌≡◌, ℕ, ◌+◌, ◌<◌, ◌≤◌, ◌==◌, nat_lt, nat_le, Bool, true, false, not, ◌&&◌, ◌⊎◌, length, cond, List, [], ◌∷◌, Option, Some, None, if◌then◌else◌}
 use Rattle.std.specs.List.{list_any, list_all}
 use Rattle.channel_model.specs.declared.acts.Act.{Act}
 use Rattle.channel_model.specs.declared.acts.Act.TheVariants.{Hand, Put, Offer, Await, Take, Admit, Drop, Close, Void, Drain, WakeClosed, Withdraw, Settle}
 use Rattle.channel_model.specs.declared.acts.Entry.{Entry}
 use Rattle.channel_model.specs.declared.acts.Kind.{Kind}
 use Rattle.channel_model.specs.declared.acts.Kind.TheVariants.{Rendezvous, Buffered, Unlimited, Conflated, DropOldest, Signal}
+use Rattle.channel_model.specs.declared.acts.Settled.{Settled}
 use Rattle.channel_model.specs.declared.standing.Party.{Party}
 use Rattle.channel_model.specs.declared.standing.Standing.{Standing}
 use Rattle.channel_model.specs.declared.standing.Receiver.{Receiver}
@@ -14,6 +15,7 @@ use Rattle.channel_model.specs.declared.standing.Resolution.TheVariants as resol
 use Rattle.co_base.specs.declared.names.WaitId.{WaitId}
 use Rattle.channel_model.specs.Channels.{State, Channel, Wait, start, same_wait}
 use Rattle.channel_model.specs.Effects.{after, holder_at, is_held_by}
+use Rattle.channel_model.specs.Needs.{began_by_select}
 
 -- ---- whoever stands has an open wait
 
@@ -110,6 +112,84 @@ resolutions_of w history = resolutions_from w start history
 unfoldable pub settlements_of : WaitId → List Entry → ℕ
 settlements_of w [] = 0
 settlements_of w (e ∷ es) = one_if w (settles e.act) + settlements_of w es
+
+-- ---- a channel is closed once, and cancelled once
+
+abbrev pub closes : ℕ → Act → Bool
+closes c (Close d v) = d == c
+closes c other = false
+
+abbrev pub voids : ℕ → Act → Bool
+voids c (Void d) = d == c
+voids c other = false
+
+-- how many entries of the history close the channel
+abbrev pub closings_of : ℕ → List Entry → ℕ
+closings_of c history = how_many (λ e. closes c e.act) history
+
+-- how many entries of the history cancel the channel
+abbrev pub voidings_of : ℕ → List Entry → ℕ
+voidings_of c history = how_many (λ e. voids c e.act) history
+
+-- ---- what stands, stands in order
+
+-- the numbers of these ascend from n on, and lie below m
+abbrev pub Ascends : {X : Type 0} → (X → ℕ) → ℕ → ℕ → List X → Type 0
+Ascends number n m [] = n ≤ m
+Ascends number n m (x ∷ xs) = (n ≤ number x) × Ascends number (number x + 1) m xs
+
+-- the places of those who stand ascend and were given out, and offers and receivers never stand together
+pub record StandsInOrder (ch : Channel) : Type 0 where
+  pub offers : Ascends (λ (o : Standing). o.place) 0 ch.next ch.queue
+  pub receivers : Ascends (λ (r : Receiver). r.place) 0 ch.next ch.receivers
+  pub one_side : (ch.queue ≡ []) ⊎ (ch.receivers ≡ [])
+
+-- ---- the clauses of a wait
+
+-- the clause is one of a select's
+abbrev pub is_select_clause : ℕ × ℕ → Bool
+is_select_clause y = nat_lt 0 y.0 && nat_le y.0 7
+
+-- a wait has at most seven clauses, which are those of one select where it has several; none has the number or the channel of
+-- another
+pub record HasClauses (x : Wait) : Type 0 where
+  pub some : 1 ≤ length x.clauses
+  pub few : length x.clauses ≤ 7
+  pub plain : began_by_select x.clauses ≡ false → length x.clauses ≡ 1
+  pub select : began_by_select x.clauses ≡ true → list_all is_select_clause x.clauses ≡ true
+  pub numbers : (k : ℕ) → how_many (λ y. y.0 == k) x.clauses ≤ 1
+  pub channels : (c : ℕ) → how_many (λ y. y.1 == c) x.clauses ≤ 1
+
+abbrev pub ClausesFit : Option Wait → Type 0
+ClausesFit None = Unit {0}
+ClausesFit (Some x) = HasClauses x
+
+-- ---- what lasts
+
+-- no receiver stands below place n, and no offer below place m
+pub record NoneBelow (n m : ℕ) (ch : Channel) : Type 0 where
+  pub given : n ≤ ch.next
+  pub given_offers : m ≤ ch.next
+  pub receivers : list_all (λ (r : Receiver). nat_le n r.place) ch.receivers ≡ true
+  pub offers : list_all (λ (o : Standing). nat_le m o.place) ch.queue ≡ true
+
+abbrev pub is_elsewhere : ℕ → Standing → Bool
+is_elsewhere p o = not (o.place == p)
+
+-- the place was given out, and no offer stands there
+pub record NoOffer (p : ℕ) (ch : Channel) : Type 0 where
+  pub given : p < ch.next
+  pub none : list_all (is_elsewhere p) ch.queue ≡ true
+
+-- the wait was resolved so
+abbrev pub IsResolvedAs : Resolution → Option Wait → Type 0
+IsResolvedAs how None = ⊥
+IsResolvedAs how (Some x) = x.resolved ≡ Some how
+
+-- the wait ended so
+abbrev pub IsSettledAs : Settled → Option Wait → Type 0
+IsSettledAs outcome None = ⊥
+IsSettledAs outcome (Some x) = x.settled ≡ Some outcome
 
 -- ---- histories in which nothing is closed, kept later, dropped or withdrawn
 

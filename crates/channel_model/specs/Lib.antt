@@ -3,8 +3,12 @@ pub mod Outcomes
 pub mod Effects
 pub mod Needs
 pub mod Histories
+pub mod Steps
 pub mod Owing
 pub mod Fates
 pub mod Floors
 pub mod Answers
+pub mod Admitted
+pub mod Puts
 pub mod Laws
+pub mod PlainOffers

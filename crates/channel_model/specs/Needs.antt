@@ -36,7 +36,7 @@ began_by_select (x ∷ xs) = nat_lt 0 x.0
 pub record MayJoin (who k c : ℕ) (x : Wait) : Type 0 where
   pub own : x.owner ≡ who
   pub select : began_by_select x.clauses ≡ true
-  pub unsettled : x.settled ≡ false
+  pub unsettled : x.settled ≡ None
   pub other_channel : list_any (λ y. y.1 == c) x.clauses ≡ false
   pub other_clause : list_any (λ y. y.0 == k) x.clauses ≡ false
   pub low : 1 ≤ k
@@ -58,7 +58,7 @@ IsOpenOf who (Some x) = (x.owner ≡ who) × (x.resolved ≡ None)
 -- the wait is who's, resolved, and not settled, and may end so
 abbrev pub MaySettle : ℕ → Settled → Option Wait → Type 0
 MaySettle who outcome None = ⊥
-MaySettle who outcome (Some x) = (x.owner ≡ who) × (x.settled ≡ false) × IsOutcome outcome x.resolved
+MaySettle who outcome (Some x) = (x.owner ≡ who) × (x.settled ≡ None) × IsOutcome outcome x.resolved
 
 -- the offer at p is held, with fewer offers before it than the kind keeps; n offers stand before this list
 abbrev pub MayBeAdmitted : Kind → ℕ → ℕ → List Standing → Type 0

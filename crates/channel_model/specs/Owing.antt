@@ -1,17 +1,42 @@
 -- What a state of the channels still owes to those who wait.
-use Rattle.std.specs.Prelude.{◌≡◌, ℕ, ◌+◌, ◌<◌, Bool, true, false, not, ◌&&◌, ◌||◌, List, [], ◌∷◌, length, is_some}
+use Rattle.std.specs.Prelude.{◌≡◌, ℕ, ◌+◌, ◌<◌, nat_le, nat_lt, Bool, true, false, not, cond, ◌&&◌, ◌||◌, List, [], ◌∷◌, length, is_some}
 use Rattle.channel_model.specs.declared.acts.Kind.{Kind}
+use Rattle.channel_model.specs.declared.acts.Kind.TheVariants.{Rendezvous, Buffered, Unlimited, Conflated, DropOldest, Signal}
 use Rattle.channel_model.specs.declared.standing.Standing.{Standing}
 use Rattle.channel_model.specs.Channels.{Shape, kind_at, is_full, drops, Channel, State}
+
+-- nobody waits with the offer
+abbrev pub is_buffered : Standing → Bool
+is_buffered o = not (is_some o.holder)
 
 -- an offer of this queue is held, with fewer offers before it than the kind keeps; n offers stand before this list
 abbrev pub owes_admission : Kind → ℕ → List Standing → Bool
 owes_admission kind n [] = false
 owes_admission kind n (o ∷ os) = (is_some o.holder && not (is_full kind n)) || owes_admission kind (n + 1) os
 
+-- the same of the offers below this place
+abbrev pub owes_admission_below : Kind → ℕ → ℕ → List Standing → Bool
+owes_admission_below kind mark n [] = false
+owes_admission_below kind mark n (o ∷ os) =
+    (is_some o.holder && (nat_lt o.place mark && not (is_full kind n))) || owes_admission_below kind mark (n + 1) os
+
+-- how many offers stand at places up to this one
+abbrev pub offers_up_to : ℕ → List Standing → ℕ
+offers_up_to mine [] = 0
+offers_up_to mine (o ∷ os) = cond (nat_le o.place mine) 1 0 + offers_up_to mine os
+
 abbrev pub stands_any : {A : Type 0} → List A → Bool
 stands_any [] = false
 stands_any (x ∷ xs) = true
+
+-- a channel of this kind never owes an admission or a drop: it keeps no element without a wait, or all elements
+abbrev pub never_owes : Kind → Bool
+never_owes Rendezvous = true
+never_owes (Buffered k) = false
+never_owes Unlimited = true
+never_owes Conflated = false
+never_owes (DropOldest k) = false
+never_owes Signal = true
 
 -- a held offer might be kept, a receiver of a closed channel was not told, an element of a cancelled channel was not
 -- removed, or more elements stand than the kind keeps

@@ -1,7 +1,7 @@
 //! The acts on channels, and what a coroutine notes of its calls.
 
-ghost use Rattle.std.specs.Prelude.{◌≡◌};
-ghost use Rattle.channel_model.specs.Channels.{is_full, suspends};
+ghost use Rattle.std.specs.Prelude.{◌≡◌, ℕ, false, nat_lt, MatchOption};
+ghost use Rattle.channel_model.specs.Channels.{is_full, suspends, drops};
 
 use co_base::{ChannelId, Place, Tag, Value, WaitId};
 
@@ -31,6 +31,17 @@ impl Kind {
             Kind::Rendezvous | Kind::Signal => true,
             Kind::Buffered(capacity) => capacity as usize <= standing,
             Kind::Unlimited | Kind::Conflated | Kind::DropOldest(_) => false,
+        }
+    }
+
+    /// How many elements it keeps, where it drops the oldest for one more.
+    pub fn drops_beyond(self) -> Option<u32>
+        ensures { MatchOption result ((n : ℕ) → drops self n ≡ false) (λ capacity. (n : ℕ) → drops self n ≡ nat_lt capacity n) }
+    {
+        match self {
+            Kind::Conflated => Some(1),
+            Kind::DropOldest(capacity) => Some(capacity),
+            Kind::Rendezvous | Kind::Buffered(_) | Kind::Unlimited | Kind::Signal => None,
         }
     }
 

@@ -1,10 +1,10 @@
 //! The one contract between channels and all above.
 
 ghost use Rattle.std.specs.Prelude.{◌≡◌, ℕ, ◌<◌, false, OnOk, OnErr};
-ghost use Rattle.channel_model.specs.Channels.{kind_at, is_signal};
+ghost use Rattle.channel_model.specs.Channels.{IsShape, kind_at, is_signal};
 ghost use Rattle.channel_model.specs.Histories.{Legal};
 ghost use Rattle.channel_model.specs.Floors.{Floor, HasRoom, MayCall};
-ghost use Rattle.channel_model.specs.Answers.{OfferAnswer, GotAnswer, CloseAnswer, LookAnswer, SettleAnswer, WithdrawAnswer, MarkAnswer, IsOwn, IsReady};
+ghost use Rattle.channel_model.specs.Answers.{OfferAnswer, TriedOfferAnswer, GotAnswer, TriedGotAnswer, CloseAnswer, WakeAnswer, VoidAnswer, DrainAnswer, LookAnswer, SettleAnswer, WithdrawAnswer, MarkAnswer, AdmitAnswer, TrimAnswer, IsOwn, IsReady, HasPut, IsSeenClosed, IsSeenVoided};
 
 use crate::acts::{Settled, Why};
 use co_base::{ChannelId, Memory, Place, Tag, Value, WaitId};
@@ -114,6 +114,14 @@ pub trait ChannelFloor {
         ensures anchor { anchor self.new ≡ anchor self.old }
         ensures answer { OfferAnswer who c value (view self.old) (view self.new) result };
 
+    /// Offers an element as `offer` does, but never waits. `Full` comes only of a channel on which a send may wait.
+    fn try_offer(&mut self, who: Tag, c: ChannelId, value: Value) -> TriedOffer
+        requires can { MayCall who c (view self.old) }
+        requires room { 0 < (view self.old).spare }
+        requires kind { is_signal (kind_at (view self.old).shape c) ≡ false }
+        ensures anchor { anchor self.new ≡ anchor self.old }
+        ensures answer { TriedOfferAnswer who c value (view self.old) (view self.new) result };
+
     /// Receives the first offer, or waits for one.
     fn receive(&mut self, who: Tag, c: ChannelId) -> Got
         requires can { MayCall who c (view self.old) }
@@ -121,12 +129,44 @@ pub trait ChannelFloor {
         ensures anchor { anchor self.new ≡ anchor self.old }
         ensures answer { GotAnswer who c (view self.old) (view self.new) result };
 
+    /// Receives the first offer, and never waits.
+    fn try_receive(&mut self, who: Tag, c: ChannelId) -> TriedGot
+        requires can { MayCall who c (view self.old) }
+        requires room { 0 < (view self.old).spare }
+        ensures anchor { anchor self.new ≡ anchor self.old }
+        ensures answer { TriedGotAnswer who c (view self.old) (view self.new) result };
+
     /// Closes the channel with a value. What stands there still stands, and no place is given out any more.
     fn close(&mut self, who: Tag, c: ChannelId, v: Value) -> Result<(), AlreadyClosed>
         requires can { MayCall who c (view self.old) }
         requires room { 0 < (view self.old).spare }
         ensures anchor { anchor self.new ≡ anchor self.old }
         ensures answer { CloseAnswer who c v (view self.old) (view self.new) result };
+
+    /// Tells the first receiver of a channel that was seen closed: its place, and its coroutine.
+    fn wake_closed(&mut self, who: Tag, c: ChannelId) -> Option<(Place, Tag)>
+        requires can { MayCall who c (view self.old) }
+        requires room { 0 < (view self.old).spare }
+        requires closed { IsSeenClosed c (view self.old) }
+        ensures anchor { anchor self.new ≡ anchor self.old }
+        ensures answer { WakeAnswer who c (view self.old) (view self.new) result };
+
+    /// Cancels a channel that was seen closed, unless it was cancelled before. What stands in its queue still stands.
+    fn void(&mut self, who: Tag, c: ChannelId) -> bool
+        requires can { MayCall who c (view self.old) }
+        requires room { 0 < (view self.old).spare }
+        requires closed { IsSeenClosed c (view self.old) }
+        ensures anchor { anchor self.new ≡ anchor self.old }
+        ensures answer { VoidAnswer who c (view self.old) (view self.new) result };
+
+    /// Removes the first offer of a channel that was seen cancelled: its place and its element, and the coroutine that
+    /// waited with it, if one did.
+    fn drain(&mut self, who: Tag, c: ChannelId) -> Option<(Place, Value, Option<Tag>)>
+        requires can { MayCall who c (view self.old) }
+        requires room { 0 < (view self.old).spare }
+        requires voided { IsSeenVoided c (view self.old) }
+        ensures anchor { anchor self.new ≡ anchor self.old }
+        ensures answer { DrainAnswer who c (view self.old) (view self.new) result };
 
     /// How far the caller's own wait is. Makes no entry.
     fn look(&mut self, who: Tag, w: WaitId) -> WaitState
@@ -157,5 +197,24 @@ pub trait ChannelFloor {
         ensures anchor { anchor self.new ≡ anchor self.old }
         ensures answer { MarkAnswer who c (view self.old) (view self.new) result };
 
+    /// Lets a held offer below the mark be kept, which has fewer offers before it than the channel keeps: its place, and
+    /// the coroutine that waits with it.
+    fn admit(&mut self, who: Tag, c: ChannelId, mark: Place) -> Option<(Place, Tag)>
+        requires can { MayCall who c (view self.old) }
+        requires room { 0 < (view self.old).spare }
+        ensures anchor { anchor self.new ≡ anchor self.old }
+        ensures answer { AdmitAnswer who c mark (view self.old) (view self.new) result };
+
+    /// Drops the first offer of a channel that drops its oldest, where more stand up to the place that an own Put took
+    /// than it keeps: its place, and its element. On a channel of another kind it answers `None`.
+    fn trim(&mut self, who: Tag, c: ChannelId, mine: Place) -> Option<(Place, Value)>
+        requires can { MayCall who c (view self.old) }
+        requires room { 0 < (view self.old).spare }
+        requires own { HasPut who c mine (view self.old) }
+        ensures anchor { anchor self.new ≡ anchor self.old }
+        ensures answer { TrimAnswer who c mine (view self.old) (view self.new) result };
+
     ghost legal: { (s : Self) → Legal (view s).shape (view s).seen };
+
+    ghost shaped: { (s : Self) → IsShape (view s).shape };
 }

@@ -21,7 +21,12 @@ pub use floor::{
     Withdrawn,
 };
 pub use laws::{
-    a_wait_is_resolved_and_settled_at_most_once, a_wait_stands_at_most_once_at_a_channel,
-    appended_histories, plain_histories_owe_nothing, whoever_stands_has_an_open_wait,
+    a_channel_is_closed_exactly_where_one_entry_closes_it,
+    a_step_is_taken_exactly_where_its_entry_may_come, a_wait_has_at_most_seven_clauses,
+    a_wait_is_resolved_and_settled_at_most_once,
+    a_wait_is_resolved_exactly_where_one_entry_resolves_it,
+    a_wait_stands_at_most_once_at_a_channel, appended_histories, plain_histories_owe_nothing,
+    those_who_stand_stand_in_order, what_was_done_stays_done, who_is_gone_never_stands_again,
+    whoever_stands_has_an_open_wait,
 };
 pub use standing::{Party, Receiver, Resolution, Standing, outcome};
