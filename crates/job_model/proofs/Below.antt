@@ -65,7 +65,8 @@ must_be_cancelled Cancelling cancelled c e k = sym k
 must_be_cancelled Cancelled cancelled c e k = cc
 must_be_cancelled Completed cancelled c e k = cc
 
-child_cancelled : (x : Option Job) (cancelled : Bool) → IsCancellingOrEnded x → MayHaveChild cancelled x → cancelled ≡ true
+-- a child of a Job that is Cancelling or ended is cancelled at once
+pub child_cancelled : (x : Option Job) (cancelled : Bool) → IsCancellingOrEnded x → MayHaveChild cancelled x → cancelled ≡ true
 child_cancelled None cancelled h m = absurd m
 child_cancelled (Some j) cancelled h m = must_be_cancelled j.state cancelled h m.0 m.1
 

@@ -8,11 +8,12 @@ use Rattle.job_model.specs.declared.acts.End.{End}
 use Rattle.job_model.specs.declared.acts.End.TheVariants as ends
 use Rattle.job_model.specs.declared.acts.JobAct.{JobAct}
 use Rattle.job_model.specs.declared.acts.JobEntry.{JobEntry}
-use Rattle.job_model.specs.Trees.{Shape, Job, Tree, parent_of, is_among, is_ended, is_cancellable}
+use Rattle.job_model.specs.Trees.{Shape, Job, Tree, parent_of, is_among, is_new, is_ended, is_cancellable}
 use Rattle.job_model.specs.Effects.{after, with_child, started, without_body, state_after_body, cancelled_for, ended_by, with_told, state_of_end}
 use Rattle.job_model.specs.Needs.{Needs, MayFinish}
 use Rattle.job_model.specs.Families.{IsEnded, children_of}
 use Rattle.job_model.specs.Histories.{replay_from, LegalFrom}
+use Rattle.job_model.specs.Answers.{IsNotNew}
 use Rattle.job_model.proofs.Steps.{RowStep, row_step}
 use Rattle.job_model.proofs.Rows.{among_more}
 
@@ -83,6 +84,30 @@ ended_lasts = record {
   finish = λ who end j m h. end_ends end;
   told = λ c j h. h;
   attached = none_ended;
+}
+
+-- a Job that is not New never is
+past_start : (s : JobState) → is_new s ≡ false → is_new (state_after_body s) ≡ false
+past_start New e = cc
+past_start Active e = refl
+past_start Completing e = refl
+past_start Cancelling e = refl
+past_start Cancelled e = refl
+past_start Completed e = refl
+
+end_not_new : (end : End) → is_new (state_of_end end) ≡ false
+end_not_new (ends.Completed v) = refl
+end_not_new (ends.Cancelled cause) = refl
+
+pub not_new_lasts : Lasts IsNotNew
+not_new_lasts = record {
+  child = λ r j live h. h;
+  start = λ j n h. refl;
+  body = λ v j h. past_start j.state h;
+  cancel = λ cause j c h. refl;
+  finish = λ who end j m h. end_not_new end;
+  told = λ c j h. h;
+  attached = λ h x. absurd h;
 }
 
 -- an attached row stays attached

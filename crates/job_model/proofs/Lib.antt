@@ -16,3 +16,11 @@ pub mod Reasons
 pub mod Own
 pub mod Short
 pub mod Below
+pub mod Needed
+pub mod Covered
+pub mod FailingUp
+pub mod Falling
+pub mod Ranks
+pub mod Siblings
+pub mod Values
+pub mod ActStates

@@ -1,5 +1,5 @@
 -- What later calls leave of a caller's own Jobs.
-use Rattle.std.specs.Prelude.{◌≡◌, ℕ, ◌==◌, Bool, true, false, ◌||◌, List, [], ◌∷◌, ◌++◌, Option, Some, None, if◌then◌else◌, refl}
+use Rattle.std.specs.Prelude.{◌≡◌, ℕ, ◌==◌, Bool, true, false, ◌||◌, List, [], ◌∷◌, ◌++◌, Option, Some, None, is_some, if◌then◌else◌, refl}
 use Rattle.std.specs.List.{list_any}
 use mathlib.Core.List.{IsPrefix}
 use Rattle.std.proofs.Common.{sym, ap, ◌∙◌, subst}
@@ -11,14 +11,14 @@ use Rattle.job_model.specs.declared.acts.End.TheVariants as ends
 use Rattle.job_model.specs.declared.acts.JobAct.{JobAct}
 use Rattle.job_model.specs.declared.acts.JobAct.TheVariants.{Attach, Start, EndBody, Cancel, Finish, Gone}
 use Rattle.job_model.specs.declared.acts.JobEntry.{JobEntry}
-use Rattle.job_model.specs.Trees.{Shape, Job, Tree, is_new, parent_of, parent_row, was_told}
+use Rattle.job_model.specs.Trees.{Shape, Job, Tree, is_new, is_cancellable, is_ended, state_of, parent_of, parent_row, was_told}
 use Rattle.job_model.specs.Acts.{ends_body, tells}
 use Rattle.job_model.specs.Effects.{after, state_after_body, state_of_end}
-use Rattle.job_model.specs.Needs.{Needs, MayEndBody, MayTell, IsFinishedBy}
-use Rattle.job_model.specs.Families.{IsEnded}
+use Rattle.job_model.specs.Needs.{Needs, OwnsBody, MayEndBody, MayTell, IsFinishedBy}
+use Rattle.job_model.specs.Families.{IsEnded, IsCancellingOrEnded}
 use Rattle.job_model.specs.Histories.{replay, replay_from, Legal, LegalFrom, acts_of}
 use Rattle.job_model.specs.Floors.{Floor, Added}
-use Rattle.job_model.specs.Laws.{HasFamilies}
+use Rattle.job_model.specs.Laws.{HasFamilies, IsSoundRow, is_bodiless, has_ended}
 use Rattle.job_model.proofs.Histories.{replay-append, Legal-append, acts_of-append}
 use Rattle.job_model.proofs.Rows.{same}
 use Rattle.job_model.proofs.Steps.{RowStep, row_step}
@@ -64,7 +64,7 @@ own_from P t who step shape tree (e ∷ es) h l n p =
     own_from P t who step shape (after tree e.who e.act) es (after_families shape tree e.who e.act l.0 h) l.1 k.1 (step shape tree e.who e.act h l.0 k.0 p)
 
 -- the acts of the caller between two histories
-acts_between : (who : ℕ) (xs rest : List JobEntry) (acts : List JobAct) → acts_of who (xs ++ rest) ≡ acts_of who xs ++ acts → acts_of who rest ≡ acts
+pub acts_between : (who : ℕ) (xs rest : List JobEntry) (acts : List JobAct) → acts_of who (xs ++ rest) ≡ acts_of who xs ++ acts → acts_of who rest ≡ acts
 acts_between who xs rest acts e = front_off (acts_of who xs) (acts_of who rest) acts (sym (acts_of-append who xs rest) ∙ e)
   where
     front_off : (a b c : List JobAct) → a ++ b ≡ a ++ c → b ≡ c
@@ -109,6 +109,67 @@ body_step shape tree n who q _ _ _ (RowStep.stays act x a b c d f) k h = h
 pub own_body_kept : (who row : ℕ) (acts : List JobAct) (rows : List ℕ) (old new : Floor) → Legal new.shape new.seen → Added who acts rows old new → list_any (ends_body row) acts ≡ false → MayEndBody who (replay old.seen row) → MayEndBody who (replay new.seen row)
 own_body_kept who row acts rows old new l a none h =
     own_kept (λ tree. MayEndBody who (tree row)) (ends_body row) who (λ shape tree n act k m f p. body_step shape tree n who row act _ _ (row_step shape tree n act row m) f p) acts rows old new l a none h
+
+owned_step : (shape : Shape) (tree : Tree) (n who q : ℕ) (act : JobAct) (x y : Option Job) → RowStep shape tree n q act x y → (n ≡ who → ends_body q act ≡ false) → OwnsBody who x → OwnsBody who y
+owned_step shape tree n who q _ _ _ (RowStep.is_attached p kind tag cancelled m i) k h = absurd h
+owned_step shape tree n who q _ _ _ (RowStep.has_child r kind tag cancelled j none m) k h = h
+owned_step shape tree n who q _ _ _ (RowStep.is_started j e) k h = h
+owned_step shape tree n who q _ _ _ (RowStep.body_ends v j m) k h = absurd (let u : true ≡ false = sym (same q) ∙ k (sym m.0 ∙ h.0) in cc)
+owned_step shape tree n who q _ _ _ (RowStep.is_cancelled reason j m o) k h = h
+owned_step shape tree n who q _ _ _ (RowStep.ends end j m) k h = absurd (let u : true ≡ false = sym m.0 ∙ h.1 in cc)
+owned_step shape tree n who q _ _ _ (RowStep.is_told d j m p) k h = h
+owned_step shape tree n who q _ _ _ (RowStep.stays act x a b c d f) k h = h
+
+-- the body is still the caller's and has not ended, where its calls did not end it
+pub owned_body_kept : (who row : ℕ) (acts : List JobAct) (rows : List ℕ) (old new : Floor) → Legal new.shape new.seen → Added who acts rows old new → list_any (ends_body row) acts ≡ false → OwnsBody who (replay old.seen row) → OwnsBody who (replay new.seen row)
+owned_body_kept who row acts rows old new l a none h =
+    own_kept (λ tree. OwnsBody who (tree row)) (ends_body row) who (λ shape tree n act k m f p. owned_step shape tree n who row act _ _ (row_step shape tree n act row m) f p) acts rows old new l a none h
+
+owned_attached : (who : ℕ) (x : Option Job) → OwnsBody who x → is_some x ≡ true
+owned_attached who None h = absurd h
+owned_attached who (Some j) h = refl
+
+pub owner_attached : (who row : ℕ) (a : Floor) → OwnsBody who (replay a.seen row) → is_some (replay a.seen row) ≡ true
+owner_attached who row a h = owned_attached who (replay a.seen row) h
+
+past_new : (s : JobState) → is_cancellable s ≡ false → is_new s ≡ false
+past_new New e = cc
+past_new Active e = refl
+past_new Completing e = refl
+past_new Cancelling e = refl
+past_new Cancelled e = refl
+past_new Completed e = refl
+
+-- a body whose Job is Cancelling may end
+pub may_end_cancelled : (who : ℕ) (x : Option Job) → OwnsBody who x → IsCancellingOrEnded x → MayEndBody who x
+may_end_cancelled who None h c = absurd h
+may_end_cancelled who (Some j) h c = (h.0, past_new j.state c, h.1)
+
+running_or_cancelling : (s : JobState) → (is_bodiless s ≡ true → true ≡ false) → is_ended s ≡ false
+running_or_cancelling New b = refl
+running_or_cancelling Active b = refl
+running_or_cancelling Completing b = refl
+running_or_cancelling Cancelling b = refl
+running_or_cancelling Cancelled b = absurd (let k : true ≡ false = b refl in cc)
+running_or_cancelling Completed b = absurd (let k : true ≡ false = b refl in cc)
+
+-- a Job whose body has not ended has not ended
+pub owned_not_ended : (who : ℕ) (x : Option Job) → OwnsBody who x → IsSoundRow x → has_ended x ≡ false
+owned_not_ended who None h s = absurd h
+owned_not_ended who (Some j) h s = running_or_cancelling j.state (λ b. sym (s.bodiless b) ∙ h.1)
+
+still_cancelling : (s : JobState) → is_cancellable s ≡ false → is_ended s ≡ false → s ≡ Cancelling
+still_cancelling New c e = cc
+still_cancelling Active c e = cc
+still_cancelling Completing c e = cc
+still_cancelling Cancelling c e = refl
+still_cancelling Cancelled c e = cc
+still_cancelling Completed c e = cc
+
+-- it is Cancelling where it is Cancelling or ended
+pub owned_cancelling : (who : ℕ) (x : Option Job) → OwnsBody who x → IsSoundRow x → IsCancellingOrEnded x → state_of x ≡ Some Cancelling
+owned_cancelling who None h s c = absurd h
+owned_cancelling who (Some j) h s c = ap (λ (t : JobState). Some t) (still_cancelling j.state c (owned_not_ended who (Some j) h s))
 
 -- ---- a Job that the caller finished
 

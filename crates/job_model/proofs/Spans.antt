@@ -1,15 +1,15 @@
 -- What several calls of one caller add to what was seen.
-use Rattle.std.specs.Prelude.{◌≡◌, ℕ, ◌==◌, Bool, true, false, ◌||◌, List, [], ◌∷◌, ◌++◌, Option, Some, None, if◌then◌else◌, refl}
+use Rattle.std.specs.Prelude.{◌≡◌, ℕ, ◌==◌, Bool, true, false, ◌||◌, List, [], ◌∷◌, ◌++◌, length, Option, Some, None, if◌then◌else◌, refl}
 use mathlib.Core.List.{IsPrefix}
-use Rattle.std.proofs.Common.{sym, ap, ◌∙◌, append_assoc, arith}
+use Rattle.std.proofs.Common.{sym, ap, ◌∙◌, append_assoc, arith, length-append}
 use Rattle.std.proofs.lemmas.Bool.Decides.{nat_tests}
 use Rattle.std.proofs.lemmas.List.Folds.{list_any-append}
 use Rattle.job_model.specs.declared.acts.JobAct.{JobAct}
 use Rattle.job_model.specs.declared.acts.JobEntry.{JobEntry}
 use Rattle.job_model.specs.Trees.{Tree, is_among}
-use Rattle.job_model.specs.Histories.{acts_of}
+use Rattle.job_model.specs.Histories.{replay, acts_of}
 use Rattle.job_model.proofs.Histories.{acts_of-append}
-use Rattle.job_model.specs.Floors.{Floor, SameSetting, HasRoom, Claimed, is_claimed_by, Looked, Made, AtStep, entries_by, Added}
+use Rattle.job_model.specs.Floors.{Floor, SameSetting, HasRoom, Claimed, is_claimed_by, Looked, Made, AtStep, AtMoment, AtEntry, entries_by, Added}
 
 pub nothing_more : {A : Type 0} (xs : List A) → xs ++ [] ≡ xs
 nothing_more [] = refl
@@ -133,5 +133,80 @@ moment_within a b c d P h m k = record {
   moment = m.moment;
   after = prefix_then a.seen b.seen m.moment h m.after;
   before = prefix_then m.moment c.seen d.seen m.before k;
+  holds = m.holds;
+}
+
+-- ---- moments of the caller's own acts
+
+no_rest : (xs ys zs : List JobAct) → (xs ++ ys) ++ zs ≡ xs → zs ≡ []
+no_rest xs ys zs e = empty zs (omega (arith, ap length e, length-append (xs ++ ys) zs, length-append xs ys))
+  where
+    empty : (l : List JobAct) → length l ≡ 0 → l ≡ []
+    empty [] e = refl
+    empty (x ∷ l) e = absurd (omega arith)
+
+-- between two histories with the same acts of who
+pub same_between : (who : ℕ) (xs m ys : List JobEntry) → IsPrefix xs m → IsPrefix m ys → acts_of who ys ≡ acts_of who xs → acts_of who m ≡ acts_of who xs
+same_between who xs m ys p q e =
+    let first : acts_of who m ≡ acts_of who xs ++ acts_of who p.0 = ap (acts_of who) (sym p.1) ∙ acts_of-append who xs p.0 in
+    let second : acts_of who ys ≡ acts_of who m ++ acts_of who q.0 = ap (acts_of who) (sym q.1) ∙ acts_of-append who m q.0 in
+    let none : acts_of who q.0 ≡ [] = no_rest (acts_of who xs) (acts_of who p.0) (acts_of who q.0) (ap (λ (l : List JobAct). l ++ acts_of who q.0) (sym first) ∙ sym second ∙ e) in
+    sym (second ∙ ap (λ (l : List JobAct). acts_of who m ++ l) none ∙ nothing_more (acts_of who m)) ∙ e
+
+-- at each moment of a call without an entry the caller had made nothing of its own
+pub looked_moment : (who : ℕ) (rows : List ℕ) (old new : Floor) (P : Tree → Type 0) → Looked who rows old new → AtStep old new P → AtMoment who [] old new P
+looked_moment who rows old new P h m = record {
+  moment = m.moment;
+  after = m.after;
+  before = m.before;
+  mine = same_between who old.seen m.moment new.seen m.after m.before h.mine ∙ sym (nothing_more (acts_of who old.seen));
+  holds = m.holds;
+}
+
+-- what was so right before an entry was so when the caller had made nothing yet
+pub made_before : (who : ℕ) (act : JobAct) (rows : List ℕ) (old new : Floor) (P : Tree → Type 0) → (m : Made who act rows old new) → P (replay m.before) → AtMoment who [] old new P
+made_before who act rows old new P m h = record {
+  moment = m.before;
+  after = m.longer;
+  before = (record { who = who; act = act } ∷ [], sym m.last);
+  mine = m.mine ∙ sym (nothing_more (acts_of who old.seen));
+  holds = h;
+}
+
+-- what is so at the end of calls was so when the caller had made all of their acts
+pub added_after : (who : ℕ) (acts : List JobAct) (rows : List ℕ) (old new : Floor) (P : Tree → Type 0) → Added who acts rows old new → P (replay new.seen) → AtMoment who acts old new P
+added_after who acts rows old new P h p = record {
+  moment = new.seen;
+  after = h.longer;
+  before = prefix_self new.seen;
+  mine = h.mine;
+  holds = p;
+}
+
+-- what was so right before an entry of one call, in longer spans
+pub entry_made : (who : ℕ) (act : JobAct) (rows : List ℕ) (old new : Floor) (P : Tree → Type 0) → (m : Made who act rows old new) → P (replay m.before) → AtEntry who [] act old new P
+entry_made who act rows old new P m h = record {
+  before = m.before;
+  after = m.longer;
+  entry = ([], nothing_more (m.before ++ record { who = who; act = act } ∷ []) ∙ sym m.last);
+  mine = m.mine ∙ sym (nothing_more (acts_of who old.seen));
+  holds = h;
+}
+
+pub entry_before : (who : ℕ) (acts : List JobAct) (act : JobAct) (a b c : Floor) (P : Tree → Type 0) → AtEntry who acts act a b P → IsPrefix b.seen c.seen → AtEntry who acts act a c P
+entry_before who acts act a b c P m p = record {
+  before = m.before;
+  after = m.after;
+  entry = prefix_then (m.before ++ record { who = who; act = act } ∷ []) b.seen c.seen m.entry p;
+  mine = m.mine;
+  holds = m.holds;
+}
+
+pub entry_after : (who : ℕ) (first acts : List JobAct) (act : JobAct) (rows : List ℕ) (a b c : Floor) (P : Tree → Type 0) → Added who first rows a b → AtEntry who acts act b c P → AtEntry who (first ++ acts) act a c P
+entry_after who first acts act rows a b c P h m = record {
+  before = m.before;
+  after = prefix_then a.seen b.seen m.before h.longer m.after;
+  entry = m.entry;
+  mine = m.mine ∙ ap (λ (l : List JobAct). l ++ acts) h.mine ∙ append_assoc (acts_of who a.seen) first acts;
   holds = m.holds;
 }

@@ -33,6 +33,8 @@ pub record HasRoom (n : ℕ) (old new : Floor) : Type 0 where
   pub seen : new.seen ≡ old.seen
   pub claims : (r : ℕ) → new.claims r ≡ old.claims r
   pub room : n ≤ new.spare
+  -- and none that there was is gone
+  pub kept : old.spare ≤ new.spare
 
 -- the tag is one of the caller's, and the row was seen attached
 pub record MayCall (who row : ℕ) (floor : Floor) : Type 0 where
@@ -97,6 +99,22 @@ pub record AtStep (old new : Floor) (P : Tree → Type 0) : Type 0 where
   pub after : IsPrefix old.seen moment
   pub before : IsPrefix moment new.seen
   pub holds : P (replay moment)
+
+-- this was so at a moment of a call at which the caller had made just these acts of its own
+pub record AtMoment (who : ℕ) (acts : List JobAct) (old new : Floor) (P : Tree → Type 0) : Type 0 where
+  pub moment : List JobEntry
+  pub after : IsPrefix old.seen moment
+  pub before : IsPrefix moment new.seen
+  pub mine : acts_of who moment ≡ acts_of who old.seen ++ acts
+  pub holds : P (replay moment)
+
+-- this was so right before the caller made this act, at which it had made just these acts of its own
+pub record AtEntry (who : ℕ) (acts : List JobAct) (act : JobAct) (old new : Floor) (P : Tree → Type 0) : Type 0 where
+  pub before : List JobEntry
+  pub after : IsPrefix old.seen before
+  pub entry : IsPrefix (before ++ record { who = who; act = act } ∷ []) new.seen
+  pub mine : acts_of who before ≡ acts_of who old.seen ++ acts
+  pub holds : P (replay before)
 
 abbrev pub entries_by : ℕ → List JobAct → List JobEntry
 entries_by who acts = map (λ act. record { who = who; act = act }) acts

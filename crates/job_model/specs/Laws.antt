@@ -6,12 +6,14 @@ use Rattle.job_model.specs.declared.acts.JobState.{JobState}
 use Rattle.job_model.specs.declared.acts.JobState.TheVariants.{New, Active, Completing, Cancelling, Cancelled, Completed}
 use Rattle.job_model.specs.declared.acts.Cause.{Cause}
 use Rattle.job_model.specs.declared.acts.Cause.TheVariants as because
+use Rattle.job_model.specs.declared.acts.End.{End}
+use Rattle.job_model.specs.declared.acts.End.TheVariants as ends
 use Rattle.job_model.specs.declared.acts.JobAct.{JobAct}
 use Rattle.job_model.specs.declared.acts.JobAct.TheVariants.{Attach, Start, EndBody, Cancel, Finish, Gone}
 use Rattle.job_model.specs.declared.acts.JobEntry.{JobEntry}
-use Rattle.job_model.specs.Trees.{Job, Tree, start, is_ended, is_cancelled, is_among, is_none_left, living, was_told, parent_of, parent_row}
+use Rattle.job_model.specs.Trees.{Job, Tree, start, is_ended, is_cancelled, is_cancellable, is_among, is_none_left, living, was_told, parent_of, parent_row}
 use Rattle.job_model.specs.Acts.{attaches, starts, ends_body, cancels, finishes, tells}
-use Rattle.job_model.specs.Effects.{after, cause_of_reason}
+use Rattle.job_model.specs.Effects.{after, first_state, cause_of_reason}
 use Rattle.job_model.specs.Families.{IsEnded, children_of}
 
 -- ---- families
@@ -84,6 +86,55 @@ abbrev pub RowGoesTo : Option Job → Option Job → Type 0
 RowGoesTo None y = Unit {0}
 RowGoesTo (Some j) None = ⊥
 RowGoesTo (Some j) (Some k) = GoesTo j.state k.state
+
+-- the row of whose Job the act is
+abbrev pub row_of_act : JobAct → ℕ
+row_of_act (Attach p q kind tag cancelled) = q
+row_of_act (Start q) = q
+row_of_act (EndBody q v) = q
+row_of_act (Cancel q reason) = q
+row_of_act (Finish q end) = q
+row_of_act (Gone q) = q
+
+-- Completing for a Job that is Active, and Cancelling for one that is Cancelling
+abbrev pub EndsBodyFrom : JobState → JobState → Type 0
+EndsBodyFrom New t = ⊥
+EndsBodyFrom Active t = t ≡ Completing
+EndsBodyFrom Completing t = ⊥
+EndsBodyFrom Cancelling t = t ≡ Cancelling
+EndsBodyFrom Cancelled t = ⊥
+EndsBodyFrom Completed t = ⊥
+
+-- Completed with a value for a Job that is Completing, and Cancelled with a cause for one that is Cancelling
+abbrev pub FinishesFrom : End → JobState → JobState → Type 0
+FinishesFrom (ends.Completed v) s t = (s ≡ Completing) × (t ≡ Completed)
+FinishesFrom (ends.Cancelled cause) s t = (s ≡ Cancelling) × (t ≡ Cancelled)
+
+-- the act takes the state of its Job from the one to the other; none is that of a row that is not attached
+abbrev pub ActTakes : JobAct → Option JobState → Option JobState → Type 0
+ActTakes (Attach p q kind tag cancelled) old new = (old ≡ None) × (new ≡ Some (first_state cancelled kind.lazy))
+ActTakes act None new = ⊥
+ActTakes act (Some s) None = ⊥
+ActTakes (Start q) (Some s) (Some t) = (s ≡ New) × (t ≡ Active)
+ActTakes (EndBody q v) (Some s) (Some t) = EndsBodyFrom s t
+ActTakes (Cancel q reason) (Some s) (Some t) = (is_cancellable s ≡ true) × (t ≡ Cancelling)
+ActTakes (Finish q end) (Some s) (Some t) = FinishesFrom end s t
+ActTakes (Gone q) (Some s) (Some t) = (is_ended s ≡ true) × (t ≡ s)
+
+-- ---- values
+
+abbrev pub has_result : JobState → Bool
+has_result New = false
+has_result Active = false
+has_result Completing = true
+has_result Cancelling = false
+has_result Cancelled = false
+has_result Completed = true
+
+-- a Job has a value in Completing and Completed alone
+abbrev pub HasNoOtherValue : Option Job → Type 0
+HasNoOtherValue None = Unit {0}
+HasNoOtherValue (Some j) = has_result j.state ≡ false → j.value ≡ 0
 
 -- ---- causes
 

@@ -3,7 +3,11 @@ pub mod Acts
 pub mod Effects
 pub mod Needs
 pub mod Histories
+pub mod Steps
 pub mod Families
+pub mod Cancels
+pub mod Failures
 pub mod Floors
 pub mod Answers
 pub mod Laws
+pub mod Done

@@ -22,6 +22,11 @@ abbrev pub MayHaveChild : Bool → Option Job → Type 0
 MayHaveChild cancelled None = ⊥
 MayHaveChild cancelled (Some j) = (is_ended j.state ≡ false) × (is_cancelling j.state ≡ cancelled)
 
+-- the body is that of who, and has not ended
+abbrev pub OwnsBody : ℕ → Option Job → Type 0
+OwnsBody who None = ⊥
+OwnsBody who (Some j) = (j.tag ≡ who) × (j.body_ended ≡ false)
+
 -- the body is that of who, may run, and has not ended
 abbrev pub MayEndBody : ℕ → Option Job → Type 0
 MayEndBody who None = ⊥
@@ -86,7 +91,8 @@ Holds shape tree who r (reasons.Own f) =
 
 -- who may make this act now
 abbrev pub Needs : Shape → Tree → ℕ → JobAct → Type 0
-Needs shape tree who (Attach p r kind tag cancelled) = (tree r ≡ None) × MayHaveChild cancelled (tree p) × (tag < shape.coroutines) × IsRowFor shape who kind tag r
+Needs shape tree who (Attach p r kind tag cancelled) =
+    (tree r ≡ None) × MayHaveChild cancelled (tree p) × (tag < shape.coroutines) × IsRowFor shape who kind tag r
 Needs shape tree who (Start r) = state_of (tree r) ≡ Some New
 Needs shape tree who (EndBody r v) = MayEndBody who (tree r)
 Needs shape tree who (Cancel r reason) = MayBeCancelled (tree r) × Holds shape tree who r reason

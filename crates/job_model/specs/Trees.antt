@@ -138,6 +138,10 @@ abbrev pub parent_of : Option Job → Option ℕ
 parent_of None = None
 parent_of (Some j) = j.parent
 
+abbrev pub kind_of : Option Job → Option JobKind
+kind_of None = None
+kind_of (Some j) = Some j.kind
+
 abbrev pub is_supervisor : Option Job → Bool
 is_supervisor None = false
 is_supervisor (Some j) = j.kind.supervisor

@@ -14,18 +14,22 @@
 //!
 //! - `acts`: the states and kinds of Jobs, the acts, and what a coroutine notes of its calls.
 //! - `floor`: the answers of calls, and the trait.
+//! - `done`: the channel that is closed as a Job ends.
 //! - `laws`: what holds in every legal history.
 #![tactic(auto)]
 
 mod acts;
+mod done;
 mod floor;
 mod laws;
 
 pub use acts::{Cause, End, JobAct, JobEntry, JobKind, JobNote, JobState, Reason};
+pub use done::done_channel;
 pub use floor::{AttachError, Attached, CancelledNow, Ended, Finished, JobFloor, JobView, Link};
 pub use laws::{
     a_job_keeps_its_first_cause, a_legal_history_is_short, a_reason_goes_on_to_hold,
-    a_row_is_what_its_entries_say, appended_histories, children_finish_before_their_parent,
-    descendants_of_an_ended_job_have_ended, each_act_is_done_with_a_row_at_most_once,
-    families_are_in_order, states_go_forward,
+    a_row_is_what_its_entries_say, a_step_is_made_exactly_where_its_need_holds, appended_histories,
+    children_finish_before_their_parent, descendants_of_an_ended_job_have_ended,
+    each_act_is_done_with_a_row_at_most_once, families_are_in_order, only_results_are_kept,
+    states_go_as_each_act_says, states_go_forward,
 };
