@@ -1,0 +1,59 @@
+-- What a call leaves: what it told is noted, the acts of these notes are the entries that it added, and all of it was so.
+use Rattle.std.specs.Prelude.{◌≡◌, ℕ, List, [], ◌∷◌, ◌++◌}
+use Rattle.channel_model.specs.declared.acts.Entry.{Entry}
+use Rattle.channel_model.specs.Histories.{acts_of}
+use Rattle.channel_model.specs.Floors.{Floor as ChannelFloor, Added as AddedToChannels}
+use Rattle.job_model.specs.declared.acts.JobAct.{JobAct}
+use Rattle.job_model.specs.declared.acts.JobAct.TheVariants.{Attach}
+use Rattle.job_model.specs.declared.acts.JobEntry.{JobEntry}
+use Rattle.job_model.specs.Histories.{acts_of as job_acts_of}
+use Rattle.job_model.specs.Floors.{Floor, Added}
+use Rattle.channel_model.specs.Channels.{Shape}
+use Rattle.note_book.specs.declared.book.Item.{Item}
+use Rattle.note_book.specs.Items.{channel_acts_in, job_acts_in}
+use Rattle.call_meaning.specs.Telling.{Told, items_in}
+use Rattle.call_meaning.specs.Stories.{Moment, IsTrue, story_of}
+
+-- how far both floors are seen
+abbrev pub seen_by : ChannelFloor → Floor → Moment
+seen_by c j = record { channels = c.seen; jobs = j.seen }
+
+-- what who told in a call was so, from the first moment on and up to the second, at which the book was this one before the call
+abbrev pub WasSo : Shape → ℕ → List Item → Moment → Moment → List Told → Type 0
+WasSo shape who items old new told =
+    acts_of who old.channels ≡ channel_acts_in items → job_acts_of who old.jobs ≡ job_acts_in items
+    → IsTrue (story_of shape who new) items old told
+
+-- a call on channels alone: it was so whatever the history of Jobs beside it
+pub record ToldOnChannels (who : ℕ) (old new : ChannelFloor) (items items' : List Item) (told : List Told) : Type 0 where
+  pub appended : items' ≡ items ++ items_in told
+  pub added : AddedToChannels who (channel_acts_in (items_in told)) old new
+  pub no_jobs : job_acts_in (items_in told) ≡ []
+  pub was_so : (jobs : List JobEntry)
+      → WasSo old.shape who items (record { channels = old.seen; jobs = jobs }) (record { channels = new.seen; jobs = jobs }) told
+
+-- a call on Jobs alone, which claimed these rows: it was so whatever the history of channels beside it
+pub record ToldOnJobs (who : ℕ) (rows : List ℕ) (old new : Floor) (items items' : List Item) (told : List Told) : Type 0 where
+  pub appended : items' ≡ items ++ items_in told
+  pub added : Added who (job_acts_in (items_in told)) rows old new
+  pub no_channels : channel_acts_in (items_in told) ≡ []
+  pub was_so : (shape : Shape) (channels : List Entry)
+      → WasSo shape who items (record { channels = channels; jobs = old.seen }) (record { channels = channels; jobs = new.seen }) told
+
+-- a call on both, which claimed these rows
+pub record ToldOnBoth (who : ℕ) (rows : List ℕ) (c c' : ChannelFloor) (j j' : Floor) (items items' : List Item) (told : List Told)
+    : Type 0 where
+  pub appended : items' ≡ items ++ items_in told
+  pub channels : AddedToChannels who (channel_acts_in (items_in told)) c c'
+  pub jobs : Added who (job_acts_in (items_in told)) rows j j'
+  pub was_so : WasSo c.shape who items (seen_by c j) (seen_by c' j') told
+
+-- ---- the rows that acts attach
+
+abbrev pub row_in : JobAct → List ℕ
+row_in (Attach parent row kind tag cancelled) = row ∷ []
+row_in other = []
+
+unfoldable pub rows_in : List JobAct → List ℕ
+rows_in [] = []
+rows_in (act ∷ acts) = row_in act ++ rows_in acts

@@ -1,0 +1,6 @@
+pub mod Telling
+pub mod Facts
+pub mod Stories
+pub mod ChannelCalls
+pub mod JobCalls
+pub mod Calls
