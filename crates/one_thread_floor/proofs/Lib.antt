@@ -1,6 +1,9 @@
 pub mod ListRemoval
 pub mod ListEntries
+pub mod ListFirsts
+pub mod ListQueues
 pub mod ListNew
 pub mod TreeRows
 pub mod TreeFamilies
 pub mod TreeKept
+pub mod Leading

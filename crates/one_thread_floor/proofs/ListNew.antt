@@ -2,13 +2,16 @@
 use Rattle.std.specs.Prelude.{◌≡◌, ℕ, zero, suc, ◌+◌, ◌<◌, List, [], ◌∷◌, ◌++◌, take, length, Some, None, slice_get, refl}
 use Rattle.std.proofs.Common.{get_or, sym, ap, ◌∙◌, subst, arith, length-append}
 use Rattle.std.proofs.lemmas.List.{take_more}
+use Rattle.std.proofs.lemmas.List.Elements.{All-get_or}
 use Rattle.std.proofs.lemmas.Option.{slice_get_past}
 use Rattle.channel_model.specs.declared.acts.Kind.{Kind}
 use Rattle.channel_model.specs.declared.acts.Kind.TheVariants.{Signal}
 use Rattle.channel_model.specs.declared.acts.Entry.{Entry}
 use Rattle.channel_model.specs.Histories.{Legal, LegalFrom, replay, replay_from}
-use Rattle.channel_model.specs.Channels.{Shape, Channel, empty, start, places_at}
+use Rattle.std.specs.List.{All}
+use Rattle.channel_model.specs.Channels.{HasPlaces, IsShape, Shape, Channel, empty, start, places_at}
 use Rattle.one_thread_floor.specs.declared.list_channel.ListChannel.{ListChannel}
+use Rattle.one_thread_floor.specs.ListFloors.{MayBeMade}
 use Rattle.one_thread_floor.specs.ListStands.{channel_of, channel_in, wait_in_channel, wait_in_slot, places_in, IsAt}
 
 places_push : (ks : Shape) (k : Kind × ℕ) (xs : List ListChannel) (ch : ListChannel) → length xs ≡ length ks → ((c : ℕ) → places_in xs c ≡ places_at ks c) → ch.places ≡ k.1 → (c : ℕ) → places_in (xs ++ ch ∷ []) c ≡ places_at (ks ++ k ∷ []) c
@@ -49,6 +52,12 @@ made_more kinds i xs ys ch lt at is e p =
     let P : Shape → Type 0 = λ ks. IsAt ks ys start in
     let Q : List ListChannel → Type 0 = λ zs. IsAt (take i kinds ++ get_or kinds i (Signal, 0) ∷ []) zs start in
     subst P (sym (take_more kinds i (Signal, 0) lt)) (subst Q (sym is) (pushed_at (take i kinds) (get_or kinds i (Signal, 0)) xs ch at e p))
+
+made_places : (kind : Kind × ℕ) → MayBeMade kind → HasPlaces kind.1
+made_places kind h = record { some = h.some; few = h.few }
+
+pub fresh_shaped : (kinds shape : Shape) → shape ≡ kinds → All MayBeMade kinds → IsShape shape
+fresh_shaped kinds shape e h = subst IsShape (sym e) (λ c lt. made_places _ (All-get_or MayBeMade kinds c (Signal, 0) lt h))
 
 pub fresh_legal : (shape : Shape) (es : List Entry) → es ≡ [] → Legal shape es
 unfolding LegalFrom

@@ -14,7 +14,7 @@ use Rattle.channel_model.specs.Effects.{without, is_held_by, resolve, put_wait, 
 use Rattle.channel_model.specs.Laws.{AllStandOpen, IsStandingAt}
 use Rattle.channel_model.proofs.Apart.{without_same, same_parts}
 use Rattle.one_thread_floor.specs.declared.list_channel.ListChannel.{ListChannel}
-use Rattle.one_thread_floor.specs.ListStands.{channel_in, wait_in, IsWithout, clauses_of, has_clause_elsewhere, IsAt, SameWaits, SameShape}
+use Rattle.one_thread_floor.specs.ListStands.{channel_in, wait_in, IsWithout, clauses_of, has_clause_elsewhere, IsAt, SameWaits, SameShape, Becomes}
 
 filter_step : {X : Type 0} (p : X → Bool) (x : X) (ys : List X) (b : Bool) → p x ≡ b → filter p ys ≡ ys → filter p (cond b (x ∷ ys) ys) ≡ cond b (x ∷ ys) ys
 filter_step p x ys true e k = ap (λ c. cond c (x ∷ filter p ys) (filter p ys)) e ∙ ap (λ zs. x ∷ zs) k
@@ -108,10 +108,10 @@ resolved_elsewhere w how c left xs ys zs shape s h at popped same k gone removed
 
 -- a wait left the channel at which it began, and then each other at which it has a clause
 pub resolved_everywhere : (w : WaitId) (how : Resolution) (xs ys zs : List ListChannel)
-    → ((d : ℕ) → channel_in ys d ≡ put_channel w.channel (without w (channel_in xs w.channel)) (channel_in xs) d) → SameWaits xs ys → SameShape xs ys
+    → Becomes w.channel (without w (channel_in xs w.channel)) xs ys
     → IsWithout w (has_clause_elsewhere w.channel (clauses_of (wait_in ys w))) ys zs
     → ((v : WaitId) → wait_in zs v ≡ put_wait w (resolved_wait how (wait_in ys w)) (wait_in ys) v)
     → SameShape ys zs
     → (shape : Shape) (s : State) → AllStandOpen s → IsAt shape xs s → IsAt shape zs (resolve w how s)
-resolved_everywhere w how xs ys zs removed same k others marked m shape s h at =
-    resolved_elsewhere w how w.channel (without w (channel_in xs w.channel)) xs ys zs shape s h at removed same k (ap (without w) (at.channels_are w.channel)) others marked m
+resolved_everywhere w how xs ys zs removed others marked m shape s h at =
+    resolved_elsewhere w how w.channel (without w (channel_in xs w.channel)) xs ys zs shape s h at removed.channels removed.waits removed.shape (ap (without w) (at.channels_are w.channel)) others marked m

@@ -32,7 +32,8 @@ use Rattle.one_thread_floor.specs.TreeRows.{item_in, row_of_job, AreRowsOf, caus
 use Rattle.one_thread_floor.specs.TreeClaims.{shape_of, AreClaims, AddsClaim}
 use Rattle.one_thread_floor.specs.TreeKept.{StandsForTree}
 use Rattle.one_thread_floor.proofs.TreeRows.{changed_rows}
-use Rattle.one_thread_floor.proofs.TreeFamilies.{living_told, told_row}
+use Rattle.job_model.proofs.Siblings.{living_told}
+use Rattle.one_thread_floor.proofs.TreeFamilies.{told_row}
 
 -- ---- an entry more
 

@@ -7,7 +7,13 @@ use Rattle.one_thread_floor.specs.declared.list_floor.ListFloor.{ListFloor}
 
 -- one thread calls it, for every tag
 abbrev pub floor_of : ListFloor → Floor
-floor_of f = record { shape = f.kinds.items; seen = f.entries.items; spare = vec_capacity f.entries - vec_len f.entries; alone = true; callers = λ t. true }
+floor_of f = record {
+  shape = f.kinds.items;
+  seen = f.entries.items;
+  spare = vec_capacity f.entries - vec_len f.entries;
+  alone = true;
+  callers = λ t. true;
+}
 
 -- the kind keeps one element at least, where it keeps a number of them
 abbrev pub has_capacity : Kind → Bool

@@ -7,8 +7,10 @@
 //! - `list_floor`: a floor as channels and the entries made so far; `list_new` makes one.
 //! - `list_queries`: what the lists say.
 //! - `list_removal`: how a wait that is resolved leaves the channels.
-//! - `list_changes`: how places are given out, how the first offer or receiver goes, and how a channel is closed.
-//! - `list_calls`: the calls on channels.
+//! - `list_changes`: how places are given out, how a channel is closed and cancelled, and how a wait is settled.
+//! - `list_firsts`: how the first receiver or the first offer goes.
+//! - `list_admission`: which offer is kept next, and how.
+//! - `list_acts`: the acts that two calls share; `list_calls`: the calls on channels.
 //! - `tree_row`: a Job as a row of a vector.
 //! - `tree_rows`: reads and changes of the vector of Jobs.
 //! - `tree_claims`: which rows are claimed.
@@ -16,9 +18,12 @@
 //! - `tree_calls`: the calls on Jobs.
 #![tactic(auto)]
 
+mod list_acts;
+mod list_admission;
 mod list_calls;
 mod list_changes;
 mod list_channel;
+mod list_firsts;
 mod list_floor;
 mod list_new;
 mod list_queries;

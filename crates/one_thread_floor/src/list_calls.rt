@@ -2,19 +2,18 @@
 
 ghost use Rattle.one_thread_floor.specs.ListFloors.{floor_of};
 
-use crate::list_changes::{
-    begin_element, begin_offer, begin_receiver, close_in, hand_to_first, mark_settled, pop_offer,
-    resolve_taken,
-};
+use crate::list_admission::{buffer_offer, leading_in};
+use crate::list_changes::{begin_offer, begin_receiver, close_in, mark_settled, void_in};
+use crate::list_firsts::{pop_offer, resolve_party, resolve_voided, wake_first};
 use crate::list_floor::{ListAnchor, ListFloor};
 use crate::list_queries::{
-    closed_with, first_receiver, is_open_wait, is_spent, kind_at, next_place, outcome_in, owner_at,
-    queue_len, state_at,
+    closed_with, first_receiver, is_open_wait, is_spent, is_voided, kind_at, next_place, offer_at,
+    outcome_in, owner_at, queue_len, state_at,
 };
 use crate::list_removal::resolve_everywhere;
 use channel_model::{
-    Act, AlreadyClosed, ChannelFloor, Entry, Got, Offered, Resolution, Settled, WaitState, Why,
-    Withdrawn,
+    Act, AlreadyClosed, ChannelFloor, Entry, Got, Offered, Resolution, Settled, TriedGot,
+    TriedOffer, WaitState, Why, Withdrawn,
 };
 use co_base::{ChannelId, Memory, Place, Tag, Value, WaitId};
 
@@ -37,24 +36,14 @@ impl ChannelFloor for ListFloor {
             return Offered::Closed(v);
         }
         if let Some(receiver) = first_receiver(&self.channels, c) {
-            let to = owner_at(&self.channels, receiver.party.wait);
-            let place = hand_to_first(&mut self.channels, c, value).place;
-            self.entries.push_reserved(Entry {
-                who,
-                act: Act::Hand { c, place, value },
-            });
+            let (place, to) = self.hand(who, c, value, receiver);
             return Offered::Handed(place, to);
         }
         if is_spent(&self.channels, c) {
             return Offered::Spent;
         }
         if !kind_at(&self.kinds, c).is_full(queue_len(&self.channels, c)) {
-            let place = begin_element(&mut self.channels, c, value);
-            self.entries.push_reserved(Entry {
-                who,
-                act: Act::Put { c, place, value },
-            });
-            return Offered::Put(place);
+            return Offered::Put(self.put(who, c, value));
         }
         let place = begin_offer(&mut self.channels, c, who, value);
         self.entries.push_reserved(Entry {
@@ -70,19 +59,27 @@ impl ChannelFloor for ListFloor {
         Offered::Held(place)
     }
 
+    fn try_offer(&mut self, who: Tag, c: ChannelId, value: Value) -> TriedOffer {
+        if let Some(v) = closed_with(&self.channels, c) {
+            return TriedOffer::Closed(v);
+        }
+        if let Some(receiver) = first_receiver(&self.channels, c) {
+            let (place, to) = self.hand(who, c, value, receiver);
+            return TriedOffer::Handed(place, to);
+        }
+        if is_spent(&self.channels, c) {
+            return TriedOffer::Spent;
+        }
+        if kind_at(&self.kinds, c).is_full(queue_len(&self.channels, c)) {
+            return TriedOffer::Full;
+        }
+        TriedOffer::Put(self.put(who, c, value))
+    }
+
     fn receive(&mut self, who: Tag, c: ChannelId) -> Got {
         if queue_len(&self.channels, c) > 0 {
-            let offer = pop_offer(&mut self.channels, c);
-            let from = resolve_taken(&mut self.channels, c, offer.holder);
-            self.entries.push_reserved(Entry {
-                who,
-                act: Act::Take {
-                    c,
-                    place: offer.place,
-                    value: offer.value,
-                },
-            });
-            return Got::Taken(offer.place, offer.value, from);
+            let (place, value, from) = self.take(who, c);
+            return Got::Taken(place, value, from);
         }
         if let Some(v) = closed_with(&self.channels, c) {
             return Got::Closed(v);
@@ -103,6 +100,17 @@ impl ChannelFloor for ListFloor {
         Got::Waiting(place)
     }
 
+    fn try_receive(&mut self, who: Tag, c: ChannelId) -> TriedGot {
+        if queue_len(&self.channels, c) > 0 {
+            let (place, value, from) = self.take(who, c);
+            return TriedGot::Taken(place, value, from);
+        }
+        match closed_with(&self.channels, c) {
+            Some(v) => TriedGot::Closed(v),
+            None => TriedGot::Empty,
+        }
+    }
+
     fn close(&mut self, who: Tag, c: ChannelId, v: Value) -> Result<(), AlreadyClosed> {
         if let Some(first) = closed_with(&self.channels, c) {
             return Err(AlreadyClosed { v: first });
@@ -115,13 +123,58 @@ impl ChannelFloor for ListFloor {
         Ok(())
     }
 
+    fn wake_closed(&mut self, who: Tag, c: ChannelId) -> Option<(Place, Tag)> {
+        let Some(receiver) = first_receiver(&self.channels, c) else {
+            return None;
+        };
+        let Some(v) = closed_with(&self.channels, c) else {
+            unreachable!()
+        };
+        let to = owner_at(&self.channels, receiver.party.wait);
+        let place = wake_first(&mut self.channels, c, v).place;
+        self.entries.push_reserved(Entry {
+            who,
+            act: Act::WakeClosed { c, place },
+        });
+        Some((place, to))
+    }
+
+    fn void(&mut self, who: Tag, c: ChannelId) -> bool {
+        if is_voided(&self.channels, c) {
+            return false;
+        }
+        void_in(&mut self.channels, c);
+        self.entries.push_reserved(Entry {
+            who,
+            act: Act::Void { c },
+        });
+        true
+    }
+
+    fn drain(&mut self, who: Tag, c: ChannelId) -> Option<(Place, Value, Option<Tag>)> {
+        if queue_len(&self.channels, c) == 0 {
+            return None;
+        }
+        let offer = pop_offer(&mut self.channels, c);
+        let from = resolve_voided(&mut self.channels, c, offer.holder);
+        self.entries.push_reserved(Entry {
+            who,
+            act: Act::Drain {
+                c,
+                place: offer.place,
+                value: offer.value,
+            },
+        });
+        Some((offer.place, offer.value, from))
+    }
+
     fn look(&mut self, who: Tag, w: WaitId) -> WaitState {
         state_at(&self.channels, w)
     }
 
     fn settle(&mut self, who: Tag, w: WaitId, cancelled: bool) -> Settled {
         let outcome = outcome_in(&self.channels, w, cancelled);
-        mark_settled(&mut self.channels, w);
+        mark_settled(&mut self.channels, w, outcome);
         self.entries.push_reserved(Entry {
             who,
             act: Act::Settle { w, outcome },
@@ -145,5 +198,56 @@ impl ChannelFloor for ListFloor {
         next_place(&self.channels, c)
     }
 
+    fn admit(&mut self, who: Tag, c: ChannelId, mark: Place) -> Option<(Place, Tag)> {
+        let index = leading_in(&mut self.channels, c);
+        let Some(offer) = offer_at(&self.channels, c, index) else {
+            return None;
+        };
+        if mark <= offer.place {
+            return None;
+        }
+        if kind_at(&self.kinds, c).is_full(index) {
+            return None;
+        }
+        let Some(party) = offer.holder else {
+            unreachable!()
+        };
+        buffer_offer(&mut self.channels, c, index, offer);
+        let how = Resolution::Admitted(party.clause);
+        let to = resolve_party(&mut self.channels, c, party, how);
+        self.entries.push_reserved(Entry {
+            who,
+            act: Act::Admit {
+                c,
+                place: offer.place,
+            },
+        });
+        Some((offer.place, to))
+    }
+
+    fn trim(&mut self, who: Tag, c: ChannelId, mine: Place) -> Option<(Place, Value)> {
+        let Some(capacity) = kind_at(&self.kinds, c).drops_beyond() else {
+            return None;
+        };
+        let Some(beyond) = offer_at(&self.channels, c, capacity as usize) else {
+            return None;
+        };
+        if mine < beyond.place {
+            return None;
+        }
+        let offer = pop_offer(&mut self.channels, c);
+        self.entries.push_reserved(Entry {
+            who,
+            act: Act::Drop {
+                c,
+                place: offer.place,
+                value: offer.value,
+            },
+        });
+        Some((offer.place, offer.value))
+    }
+
     ghost legal = { λ f. f.legal };
+
+    ghost shaped = { λ f. f.shaped };
 }

@@ -1,10 +1,12 @@
 //! A channel as deques.
 
-ghost use Rattle.std.specs.Prelude.{◌≤◌, vec_len, vec_capacity};
+ghost use Rattle.std.specs.Prelude.{◌≡◌, ◌≤◌, true, length, take, vec_len, vec_capacity};
+ghost use Rattle.std.specs.List.{list_all};
 ghost use Rattle.std.specs.VecDeque.{deque_len, deque_capacity};
+ghost use Rattle.channel_model.specs.Owing.{is_buffered};
 
 use arrayvec::ArrayVec;
-use channel_model::{Receiver, Resolution, Standing};
+use channel_model::{Receiver, Resolution, Settled, Standing};
 use co_base::{ChannelId, Tag, Value};
 use std::collections::VecDeque;
 
@@ -14,7 +16,7 @@ pub struct ListWait {
     pub(crate) owner: Tag,
     pub(crate) clauses: ArrayVec<(u8, ChannelId), 7>,
     pub(crate) resolved: Option<Resolution>,
-    pub(crate) settled: bool,
+    pub(crate) settled: Option<Settled>,
 }
 
 /// A channel, with one slot for each place that was given out: the wait that began there, if one did.
@@ -25,6 +27,8 @@ pub struct ListChannel {
     pub(crate) places: u32,
     pub(crate) slots: Vec<Option<ListWait>>,
     pub(crate) queue: VecDeque<Standing>,
+    /// At least so many offers lead the queue with which nobody waits, so that an admission need not look at them.
+    pub(crate) leading: usize,
     pub(crate) receivers: VecDeque<Receiver>,
     pub(crate) closed: Option<Value>,
     pub(crate) voided: bool,
@@ -35,4 +39,6 @@ pub struct ListChannel {
     ghost receivers_room: { places ≤ deque_capacity receivers },
     ghost queue_fits: { deque_len queue ≤ vec_len slots },
     ghost receivers_fit: { deque_len receivers ≤ vec_len slots },
+    ghost leading_fit: { leading ≤ length queue.items },
+    ghost leading_buffered: { list_all is_buffered (take leading queue.items) ≡ true },
 }

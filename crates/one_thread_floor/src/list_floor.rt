@@ -1,5 +1,6 @@
 //! A floor of channels as lists.
 
+ghost use Rattle.channel_model.specs.Channels.{IsShape};
 ghost use Rattle.channel_model.specs.Histories.{Legal};
 ghost use Rattle.channel_model.proofs.Once.{Legal-prop};
 ghost use Rattle.one_thread_floor.specs.ListStands.{StandsFor};
@@ -17,6 +18,7 @@ pub struct ListFloor {
     pub(crate) kinds: Vec<(Kind, u32)>,
     pub(crate) channels: Vec<ListChannel>,
     pub(crate) entries: Vec<Entry>,
+    ghost shaped: { IsShape kinds.items } by { Prim.hlevel props },
     ghost legal: { Legal kinds.items entries.items } by { Legal-prop kinds.items entries.items },
     ghost stands: { StandsFor kinds.items channels.items entries.items } by { Prim.hlevel props },
 }

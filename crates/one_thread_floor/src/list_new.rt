@@ -26,6 +26,7 @@ fn new_channel(alloc: Global, places: u32) -> Result<ListChannel, AllocError>
         places,
         slots,
         queue,
+        leading: 0,
         receivers,
         closed: None,
         voided: false,

@@ -7,7 +7,7 @@ ghost use Rattle.channel_model.specs.Answers.{owner_of, state_of_wait, outcome_a
 ghost use Rattle.one_thread_floor.specs.ListStands.{channel_in, wait_in, places_in, clauses_of};
 
 use crate::list_channel::ListChannel;
-use channel_model::{Kind, Receiver, Settled, WaitState, outcome};
+use channel_model::{Kind, Receiver, Settled, Standing, WaitState, outcome};
 use co_base::{ChannelId, Place, Tag, Value, WaitId};
 
 /// The kind of a channel.
@@ -26,6 +26,14 @@ pub fn first_receiver(channels: &Vec<ListChannel>, c: ChannelId) -> Option<Recei
     channels[c as usize].receivers.front().copied()
 }
 
+/// The offer that stands at this index of the queue.
+pub fn offer_at(channels: &Vec<ListChannel>, c: ChannelId, index: usize) -> Option<Standing>
+    requires { c < length channels.now.items }
+    ensures { result ≡ slice_get (channel_in channels.now.items c).queue index }
+{
+    channels[c as usize].queue.get(index).copied()
+}
+
 /// How many offers stand.
 pub fn queue_len(channels: &Vec<ListChannel>, c: ChannelId) -> usize
     requires { c < length channels.now.items }
@@ -40,6 +48,14 @@ pub fn closed_with(channels: &Vec<ListChannel>, c: ChannelId) -> Option<Value>
     ensures { result ≡ (channel_in channels.now.items c).closed }
 {
     channels[c as usize].closed
+}
+
+/// Whether the channel was cancelled.
+pub fn is_voided(channels: &Vec<ListChannel>, c: ChannelId) -> bool
+    requires { c < length channels.now.items }
+    ensures { result ≡ (channel_in channels.now.items c).voided }
+{
+    channels[c as usize].voided
 }
 
 /// Whether all places were given out.
@@ -77,7 +93,7 @@ pub fn state_at(channels: &Vec<ListChannel>, w: WaitId) -> WaitState
 {
     match &channels[w.channel as usize].slots[w.place as usize] {
         Some(wait) => {
-            if wait.settled {
+            if wait.settled.is_some() {
                 WaitState::Settled
             } else {
                 match wait.resolved {

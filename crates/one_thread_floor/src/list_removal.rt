@@ -1,12 +1,11 @@
 //! How a wait that is resolved leaves the channels.
 
-ghost use Rattle.std.specs.Prelude.{◌≡◌, ℕ, ◌<◌, ◌≤◌, length, vec_len, IsSome, Some, if◌then◌else◌, filter, not, ◌&&◌, ◌==◌, ◌≢◌, option_map, slice_get};
+ghost use Rattle.std.specs.Prelude.{◌≡◌, ◌<◌, ◌≤◌, length, vec_len, IsSome, filter, not, ◌&&◌, ◌==◌, option_map};
 ghost use Rattle.std.specs.VecDeque.{deque_len, deque_capacity};
 ghost use Rattle.channel_model.specs.Channels.{Shape, State, same_wait};
-ghost use Rattle.channel_model.specs.Effects.{is_held_by, without, resolve, resolved_wait, put_wait, put_channel};
+ghost use Rattle.channel_model.specs.Effects.{is_held_by, without, resolve, resolved_wait};
 ghost use Rattle.channel_model.specs.Laws.{AllStandOpen};
-ghost use Rattle.co_base.specs.declared.names.WaitId.{WaitId as Id};
-ghost use Rattle.one_thread_floor.specs.ListStands.{wait_of, channel_of, channel_in, wait_in, clauses_of, IsAt, wait_of_slot, has_clause_elsewhere, SameShape, IsWithout, SameWaits, SameChannels};
+ghost use Rattle.one_thread_floor.specs.ListStands.{wait_of, channel_of, channel_in, wait_in, clauses_of, IsAt, has_clause_elsewhere, SamePlaces, SameShape, IsWithout, SameWaits, SameChannels, Becomes, OneWait, OneSlot};
 
 use crate::list_channel::{ListChannel, ListWait};
 use crate::list_queries::{clause_channel, clause_count};
@@ -50,8 +49,7 @@ fn drop_receivers(receivers: &mut VecDeque<Receiver>, w: WaitId)
 /// Takes the wait out of the channel's queue and list of receivers.
 fn remove_from(channel: &mut ListChannel, w: WaitId)
     ensures channel { channel_of channel.new ≡ without w (channel_of channel.old) }
-    ensures slots { channel.new.slots ≡ channel.old.slots }
-    ensures places { channel.new.places ≡ channel.old.places }
+    ensures places { SamePlaces channel.old channel.new }
 {
     drop_offers(&mut channel.queue, w);
     drop_receivers(&mut channel.receivers, w);
@@ -60,9 +58,7 @@ fn remove_from(channel: &mut ListChannel, w: WaitId)
 /// Takes the wait out of channel `c`.
 fn remove_at(channels: &mut Vec<ListChannel>, c: ChannelId, w: WaitId)
     requires { c < length channels.old.items }
-    ensures channels { (d : ℕ) → channel_in channels.new.items d ≡ put_channel c (without w (channel_in channels.old.items c)) (channel_in channels.old.items) d }
-    ensures waits { SameWaits channels.old.items channels.new.items }
-    ensures shape { SameShape channels.old.items channels.new.items }
+    ensures { Becomes c (without w (channel_in channels.old.items c)) channels.old.items channels.new.items }
 {
     remove_from(&mut channels[c as usize], w);
 }
@@ -81,7 +77,8 @@ fn remove_at_other(channels: &mut Vec<ListChannel>, d: ChannelId, c: ChannelId, 
 /// Takes the wait out of each channel at which it has a clause, but for channel `c`.
 fn remove_elsewhere(channels: &mut Vec<ListChannel>, c: ChannelId, w: WaitId)
     requires { IsSome (wait_in channels.old.items w) }
-    ensures channels { IsWithout w (has_clause_elsewhere c (clauses_of (wait_in channels.old.items w))) channels.old.items channels.new.items }
+    ensures channels { IsWithout w (has_clause_elsewhere c (clauses_of (wait_in channels.old.items w)))
+        channels.old.items channels.new.items }
     ensures waits { SameWaits channels.old.items channels.new.items }
     ensures shape { SameShape channels.old.items channels.new.items }
 {
@@ -103,8 +100,7 @@ fn mark_in(channel: &mut ListChannel, place: usize, how: Resolution)
     requires { place < vec_len channel.old.slots }
     ensures channel { channel_of channel.new ≡ channel_of channel.old }
     ensures places { channel.new.places ≡ channel.old.places }
-    ensures slot { option_map wait_of_slot (slice_get channel.new.slots.items place) ≡ option_map (λ x. resolved_wait how (wait_of_slot x)) (slice_get channel.old.slots.items place) }
-    ensures others { (p : ℕ) → p ≢ place → slice_get channel.new.slots.items p ≡ slice_get channel.old.slots.items p }
+    ensures waits { OneSlot place (resolved_wait how) channel.old channel.new }
 {
     mark_slot(&mut channel.slots[place], how);
 }
@@ -113,7 +109,7 @@ fn mark_in(channel: &mut ListChannel, place: usize, how: Resolution)
 fn mark(channels: &mut Vec<ListChannel>, w: WaitId, how: Resolution)
     requires { IsSome (wait_in channels.old.items w) }
     ensures channels { SameChannels channels.old.items channels.new.items }
-    ensures waits { (v : Id) → wait_in channels.new.items v ≡ put_wait w (resolved_wait how (wait_in channels.old.items w)) (wait_in channels.old.items) v }
+    ensures waits { OneWait w (resolved_wait how) channels.old.items channels.new.items }
     ensures shape { SameShape channels.old.items channels.new.items }
 {
     mark_in(&mut channels[w.channel as usize], w.place as usize, how);
@@ -122,8 +118,9 @@ fn mark(channels: &mut Vec<ListChannel>, w: WaitId, how: Resolution)
 /// Resolves a wait that does not stand at channel `c`: it leaves each other channel at which it has a clause.
 pub fn resolve_elsewhere(channels: &mut Vec<ListChannel>, c: ChannelId, w: WaitId, how: Resolution)
     requires { IsSome (wait_in channels.old.items w) }
-    ensures channels { IsWithout w (has_clause_elsewhere c (clauses_of (wait_in channels.old.items w))) channels.old.items channels.new.items }
-    ensures waits { (v : Id) → wait_in channels.new.items v ≡ put_wait w (resolved_wait how (wait_in channels.old.items w)) (wait_in channels.old.items) v }
+    ensures channels { IsWithout w (has_clause_elsewhere c (clauses_of (wait_in channels.old.items w)))
+        channels.old.items channels.new.items }
+    ensures waits { OneWait w (resolved_wait how) channels.old.items channels.new.items }
     ensures shape { SameShape channels.old.items channels.new.items }
 {
     remove_elsewhere(channels, c, w);
@@ -133,7 +130,8 @@ pub fn resolve_elsewhere(channels: &mut Vec<ListChannel>, c: ChannelId, w: WaitI
 /// Resolves a wait that may stand anywhere: it leaves the channel at which it began, and each other at which it has a clause.
 pub fn resolve_everywhere(channels: &mut Vec<ListChannel>, w: WaitId, how: Resolution)
     requires { IsSome (wait_in channels.old.items w) }
-    ensures { (shape : Shape) (s : State) → AllStandOpen s → IsAt shape channels.old.items s → IsAt shape channels.new.items (resolve w how s) }
+    ensures { (shape : Shape) (s : State) → AllStandOpen s → IsAt shape channels.old.items s
+        → IsAt shape channels.new.items (resolve w how s) }
 {
     remove_at(channels, w.channel, w);
     resolve_elsewhere(channels, w.channel, w, how);

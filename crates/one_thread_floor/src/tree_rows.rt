@@ -178,7 +178,9 @@ pub fn attach_at(
     requires row { row < length rows.old.items }
     requires few { living_in (item_in rows.old.items parent) < 65535 }
     ensures count { length rows.new.items ≡ length rows.old.items }
-    ensures rows { (q : ℕ) → item_in rows.new.items q ≡ (if row == q then Some (new_row parent (newest_in (item_in rows.old.items parent)) tag kind cancelled) else (if parent == q then option_map (with_newest row) (item_in rows.old.items parent) else item_in rows.old.items q)) }
+    ensures rows { (q : ℕ) → item_in rows.new.items q ≡
+        (if row == q then Some (new_row parent (newest_in (item_in rows.old.items parent)) tag kind cancelled)
+        else (if parent == q then option_map (with_newest row) (item_in rows.old.items parent) else item_in rows.old.items q)) }
 {
     let above = job_at(rows, parent);
     put_at(

@@ -5,4 +5,4 @@ use Rattle.std.proofs.lemmas.Bool.Decides.{nat_tests}
 use Rattle.one_thread_floor.proofs.list_removal.mark.Goals as goal
 
 pub returns-clause-waits : goal.returns-clause-waits
-returns-clause-waits c = λ v. grind (arith, common_steps, gets, nat_tests, c.mark_in.ensures.others v.place, c.mark_in.ensures.slot)
+returns-clause-waits c = λ v. grind (arith, common_steps, gets, nat_tests, c.mark_in.ensures.waits.others v.place, c.mark_in.ensures.waits.slot)

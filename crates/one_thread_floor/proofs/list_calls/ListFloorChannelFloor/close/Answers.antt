@@ -1,5 +1,7 @@
+use Rattle.std.specs.Prelude.{Some}
+use Rattle.channel_model.specs.Channels.{Channel}
 use Rattle.channel_model.proofs.Alone.{recorded_legal}
-use Rattle.one_thread_floor.proofs.ListEntries.{recorded_at, close_needs, close_at}
+use Rattle.one_thread_floor.proofs.ListEntries.{recorded_at, changed_at, close_needs}
 use Rattle.one_thread_floor.proofs.list_calls.ListFloorChannelFloor.close.Goals as goal
 
 pub invariant_of-self : goal.invariant_of-self
@@ -7,9 +9,8 @@ invariant_of-self c =
     let xs = c.args.self.now.channels.items in
     let es = c.args.self.now.entries.items in
     let at = c.args.self.now.stands in
-    let ys = c.close_in.new.channels.items in
-    let e = c.close_in.ensures in
     record {
+      shaped = c.args.self.now.shaped;
       legal = recorded_legal _ es c.push_reserved.new.self.items _ c.args.self.now.legal c.push_reserved.ensures.items (close_needs _ xs es c.args.who c.args.c c.args.v at c.requires.can.channel c.in_default.ensures);
-      stands = recorded_at _ ys es c.push_reserved.new.self.items _ c.push_reserved.ensures.items (close_at _ xs ys es c.args.who c.args.c c.args.v at e.shape e.channels e.waits);
+      stands = recorded_at _ c.close_in.new.channels.items es c.push_reserved.new.self.items _ c.push_reserved.ensures.items (changed_at _ xs c.close_in.new.channels.items _ c.args.c (λ (ch : Channel). record ch { closed = Some c.args.v }) at c.close_in.ensures);
     }

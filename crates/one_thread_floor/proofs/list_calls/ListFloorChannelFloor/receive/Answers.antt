@@ -1,28 +1,8 @@
-use Rattle.std.proofs.Common.{arith, sym, ap, ◌∙◌}
+use Rattle.std.proofs.Common.{sym, ap, ◌∙◌}
 use Rattle.channel_model.specs.Channels.{Channel}
-use Rattle.channel_model.proofs.Alone.{recorded_legal, made_alone, looked_alone, here_moment}
-use Rattle.one_thread_floor.proofs.ListEntries.{recorded_at, spent_is, has_place, await_needs, empty_queue, await_at, popped_holder, take_needs, take_at, take_from}
+use Rattle.channel_model.proofs.Alone.{recorded_legal, looked_alone, here_moment}
+use Rattle.one_thread_floor.proofs.ListEntries.{recorded_at, spent_is, has_place, await_needs, empty_queue, await_at}
 use Rattle.one_thread_floor.proofs.list_calls.ListFloorChannelFloor.receive.Goals as goal
-
-pub resolve_taken-from-requires : goal.resolve_taken-from-requires
-resolve_taken-from-requires c = popped_holder _ c.args.self.now.channels.items c.pop_offer-offer.new.channels.items c.args.self.now.entries.items c.args.c c.pop_offer-offer.result _ c.args.self.now.stands c.pop_offer-offer.ensures.waits c.pop_offer-offer.ensures.first
-
-pub invariant_of-self : goal.invariant_of-self
-invariant_of-self c =
-    let o = c.pop_offer-offer.result in
-    let xs = c.args.self.now.channels.items in
-    let es = c.args.self.now.entries.items in
-    let p = c.pop_offer-offer.ensures in
-    record {
-      legal = recorded_legal _ es c.push_reserved.new.self.items _ c.args.self.now.legal c.push_reserved.ensures.items (take_needs _ xs es c.args.who c.args.c o _ c.args.self.now.stands c.requires.can.channel p.first);
-      stands = recorded_at _ c.resolve_taken-from.new.channels.items es c.push_reserved.new.self.items _ c.push_reserved.ensures.items (take_at _ xs c.pop_offer-offer.new.channels.items c.resolve_taken-from.new.channels.items es c.args.who c.args.c o _ c.args.self.now.legal c.args.self.now.stands p.shape p.first p.channels p.waits c.resolve_taken-from.ensures.state);
-    }
-
-pub returns-then-queue_len-gt0-clause-answer : goal.returns-then-queue_len-gt0-clause-answer
-returns-then-queue_len-gt0-clause-answer c = record {
-  made = made_alone _ c.args.who _ c.args.self.now.entries.items c.push_reserved.new.self.items _ _ c.push_reserved.ensures.items (omega (arith, c.push_reserved.ensures.len, c.push_reserved.ensures.capacity));
-  from = take_from _ c.args.self.now.channels.items c.pop_offer-offer.new.channels.items c.args.self.now.entries.items c.args.c c.pop_offer-offer.result _ _ c.args.self.now.stands c.pop_offer-offer.ensures.waits c.pop_offer-offer.ensures.first c.resolve_taken-from.ensures.from;
-}
 
 pub returns-then-is_spent-clause-answer : goal.returns-then-is_spent-clause-answer
 returns-then-is_spent-clause-answer c = (
@@ -34,15 +14,16 @@ returns-then-is_spent-clause-answer c = (
   }),
 )
 
-pub invariant_of-self-2 : goal.invariant_of-self-2
-invariant_of-self-2 c =
+pub invariant_of-self : goal.invariant_of-self
+invariant_of-self c =
     let xs = c.args.self.now.channels.items in
     let es = c.args.self.now.entries.items in
     let at = c.args.self.now.stands in
     let b = c.begin_receiver-place.ensures in
     let p = c.begin_receiver-place.result in
     record {
-      legal = recorded_legal _ es c.push_reserved-2.new.self.items _ c.args.self.now.legal c.push_reserved-2.ensures.items
+      shaped = c.args.self.now.shaped;
+      legal = recorded_legal _ es c.push_reserved.new.self.items _ c.args.self.now.legal c.push_reserved.ensures.items
           (await_needs _ xs es c.args.who c.args.c p c.queue_len.result at c.requires.can.channel (has_place _ xs _ c.args.c p at c.in_default.ensures c.if-is_spent.ensures b.place) c.queue_len.ensures c.if-queue_len-gt0.false);
-      stands = recorded_at _ c.begin_receiver-place.new.channels.items es c.push_reserved-2.new.self.items _ c.push_reserved-2.ensures.items (await_at _ xs c.begin_receiver-place.new.channels.items es c.args.who c.args.c p at b.shape b.place b.channels b.waits);
+      stands = recorded_at _ c.begin_receiver-place.new.channels.items es c.push_reserved.new.self.items _ c.push_reserved.ensures.items (await_at _ xs c.begin_receiver-place.new.channels.items es c.args.who c.args.c p at b.place b.change);
     }

@@ -11,6 +11,7 @@ invariant_of-self c =
     let es = c.args.self.now.entries.items in
     let m = c.mark_settled.ensures in
     record {
+      shaped = c.args.self.now.shaped;
       legal = recorded_legal _ es c.push_reserved.new.self.items _ c.args.self.now.legal c.push_reserved.ensures.items (may_settle c.args.who _ c.args.cancelled c.outcome_in-outcome.result c.requires.ready (ap (outcome_at c.args.cancelled) (c.args.self.now.stands.waits_are c.args.w) ∙ c.outcome_in-outcome.ensures));
       stands = recorded_at _ c.mark_settled.new.channels.items es c.push_reserved.new.self.items _ c.push_reserved.ensures.items (settle_at _ xs c.mark_settled.new.channels.items es c.args.who c.args.w c.outcome_in-outcome.result c.args.self.now.stands m.shape m.channels m.waits);
     }

@@ -9,6 +9,7 @@ invariant_of-self c =
     let es = c.args.self.now.entries.items in
     let at = c.args.self.now.stands in
     record {
+      shaped = c.args.self.now.shaped;
       legal = recorded_legal _ es c.push_reserved.new.self.items _ c.args.self.now.legal c.push_reserved.ensures.items (withdraw_needs _ xs es c.args.who c.args.w c.args.why at c.requires.own c.if-not-is_open_wait.ensures);
       stands = recorded_at _ c.resolve_everywhere.new.channels.items es c.push_reserved.new.self.items _ c.push_reserved.ensures.items (c.resolve_everywhere.ensures _ _ (replay_open es) at);
     }

@@ -1,0 +1,16 @@
+use Rattle.std.specs.Prelude.{true}
+use Rattle.channel_model.specs.Channels.{Channel}
+use Rattle.channel_model.proofs.Alone.{recorded_legal}
+use Rattle.one_thread_floor.proofs.ListEntries.{recorded_at, changed_at, void_needs}
+use Rattle.one_thread_floor.proofs.list_calls.ListFloorChannelFloor.void.Goals as goal
+
+pub invariant_of-self : goal.invariant_of-self
+invariant_of-self c =
+    let xs = c.args.self.now.channels.items in
+    let es = c.args.self.now.entries.items in
+    let at = c.args.self.now.stands in
+    record {
+      shaped = c.args.self.now.shaped;
+      legal = recorded_legal _ es c.push_reserved.new.self.items _ c.args.self.now.legal c.push_reserved.ensures.items (void_needs _ xs es c.args.who c.args.c at c.requires.can.channel c.requires.closed c.if-is_voided.ensures);
+      stands = recorded_at _ c.void_in.new.channels.items es c.push_reserved.new.self.items _ c.push_reserved.ensures.items (changed_at _ xs c.void_in.new.channels.items _ c.args.c (λ (ch : Channel). record ch { voided = true }) at c.void_in.ensures);
+    }

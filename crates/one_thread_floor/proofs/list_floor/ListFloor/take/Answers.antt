@@ -1,0 +1,26 @@
+use Rattle.std.proofs.Common.{arith}
+use Rattle.channel_model.proofs.Alone.{recorded_legal, made_alone}
+use Rattle.one_thread_floor.proofs.ListEntries.{recorded_at}
+use Rattle.one_thread_floor.proofs.ListFirsts.{popped_holder, take_needs, take_at, offer_is_of}
+use Rattle.one_thread_floor.proofs.list_floor.ListFloor.take.Goals as goal
+
+pub resolve_taken-from-requires : goal.resolve_taken-from-requires
+resolve_taken-from-requires c = popped_holder _ c.args.self.now.channels.items c.pop_offer-offer.new.channels.items c.args.self.now.entries.items c.args.c c.pop_offer-offer.result _ c.args.self.now.stands c.pop_offer-offer.ensures.change.waits c.pop_offer-offer.ensures.first
+
+pub invariant_of-self : goal.invariant_of-self
+invariant_of-self c =
+    let o = c.pop_offer-offer.result in
+    let xs = c.args.self.now.channels.items in
+    let es = c.args.self.now.entries.items in
+    let p = c.pop_offer-offer.ensures in
+    record {
+      shaped = c.args.self.now.shaped;
+      legal = recorded_legal _ es c.push_reserved.new.self.items _ c.args.self.now.legal c.push_reserved.ensures.items (take_needs _ xs es c.args.who c.args.c o _ c.args.self.now.stands c.requires.channel p.first);
+      stands = recorded_at _ c.resolve_taken-from.new.channels.items es c.push_reserved.new.self.items _ c.push_reserved.ensures.items (take_at _ xs c.pop_offer-offer.new.channels.items c.resolve_taken-from.new.channels.items es c.args.who c.args.c o _ c.args.self.now.legal c.args.self.now.stands p.first p.change c.resolve_taken-from.ensures.state);
+    }
+
+pub returns-clause-made : goal.returns-clause-made
+returns-clause-made c = record {
+  made = made_alone _ c.args.who _ c.args.self.now.entries.items c.push_reserved.new.self.items _ _ c.push_reserved.ensures.items (omega (arith, c.push_reserved.ensures.len, c.push_reserved.ensures.capacity));
+  from = offer_is_of _ c.args.self.now.channels.items c.pop_offer-offer.new.channels.items c.args.self.now.entries.items c.args.c c.pop_offer-offer.result _ _ c.args.self.now.stands c.pop_offer-offer.ensures.change.waits c.pop_offer-offer.ensures.first c.resolve_taken-from.ensures.from;
+}
