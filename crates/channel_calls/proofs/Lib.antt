@@ -1,3 +1,6 @@
-pub mod Dids
+pub mod Roomed
+pub mod NeverOwes
 pub mod Begun
-pub mod Ends
+pub mod SendsTold
+pub mod ReceivesTold
+pub mod EndsTold

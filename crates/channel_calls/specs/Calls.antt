@@ -1,112 +1,121 @@
--- What each call comes to.
-use Rattle.std.specs.Prelude.{◌≡◌, ℕ, Bool, true, false, List, [], ◌++◌, Option, Some, None, Result, Ok, Err}
-use mathlib.Core.List.{IsPrefix}
-use Rattle.co_base.specs.declared.names.Memory.{Memory}
+-- What each call comes to, by cases on its answer: what it tells is noted, its acts are the entries that it added, and all of it was so.
+use Rattle.std.specs.Prelude.{◌≡◌, ℕ, Bool, true, false, List, [], ◌∷◌, length, Some, Result, Ok, Err}
 use Rattle.co_base.specs.declared.names.WaitId.{WaitId}
-use Rattle.channel_model.specs.declared.acts.Entry.{Entry}
+use Rattle.co_base.specs.declared.names.Memory.{Memory}
+use Rattle.channel_model.specs.declared.acts.Act.{Act}
+use Rattle.channel_model.specs.declared.acts.Act.TheVariants.{Withdraw, Settle}
+use Rattle.channel_model.specs.declared.acts.ChannelNote.TheVariants.{SendClosed, Late}
 use Rattle.channel_model.specs.declared.acts.Settled.{Settled}
 use Rattle.channel_model.specs.declared.acts.Settled.TheVariants as settled
-use Rattle.channel_model.specs.Channels.{State, Wait}
-use Rattle.channel_model.specs.Histories.{replay, acts_of}
-use Rattle.channel_model.specs.Floors.{Floor, Added, AtStep}
-use Rattle.channel_model.specs.Answers.{IsFullAt, IsSpentForOffers, IsSpentForReceives, IsDrainedAndClosed, outcome_at}
+use Rattle.channel_model.specs.declared.acts.Why.TheVariants as why
+use Rattle.channel_model.specs.declared.floor.WaitState.TheVariants as state
+use Rattle.channel_model.specs.Channels.{Shape}
+use Rattle.channel_model.specs.Histories.{replay}
+use Rattle.channel_model.specs.Floors.{Floor, AtMoment}
+use Rattle.channel_model.specs.Answers.{IsUnsettledOf, outcome_at, state_of_wait}
 use Rattle.note_book.specs.declared.book.Item.{Item}
 use Rattle.note_book.specs.Items.{channel_acts_in}
+use Rattle.call_meaning.specs.Telling.{Told, on_channels, TakenBack, NextIs, NoneToAdmit, items_in, made, heard}
+use Rattle.call_meaning.specs.ChannelCalls.{Answer, Done, Got, Closed, Waits, NoPlace, Call, sends, receives, PlainCall}
+use Rattle.call_meaning.specs.Calls.{ToldOnChannels}
+use Rattle.channel_calls.specs.Groups.{is_cancelled_end}
+use Rattle.channel_calls.specs.declared.caller.Caller.{Caller}
 use Rattle.channel_calls.specs.declared.caller.SendAnswer.{SendAnswer}
 use Rattle.channel_calls.specs.declared.caller.SendAnswer.TheVariants as send
 use Rattle.channel_calls.specs.declared.caller.ReceiveAnswer.{ReceiveAnswer}
 use Rattle.channel_calls.specs.declared.caller.ReceiveAnswer.TheVariants as receive
-use Rattle.channel_calls.specs.Groups.{wait_at, hand_group, offer_group, send_closed_group, take_group, await_group, receive_closed_group, spent_group, settle_group, is_cancelled_end, withdraw_group, late_group}
 
--- a call of who noted these items, and added the entries of their acts to the floor
-pub record Did (who : ℕ) (group : List Item) (old new : Floor) (items items' : List Item) : Type 0 where
-  pub appended : items' ≡ items ++ group
-  pub added : Added who (channel_acts_in group) old new
+-- ---- what stays
 
--- the wait is who's, and not settled
-abbrev pub IsUnsettledOf : ℕ → Option Wait → Type 0
-IsUnsettledOf who None = ⊥
-IsUnsettledOf who (Some x) = (x.owner ≡ who) × (x.settled ≡ false)
+-- the caller still holds the same floor, book and wakes, and is the same coroutine
+pub record SameCaller {F B W A : Type 0} (anchor : F → A) (old new : Caller F B W) : Type 0 where
+  pub floor : new.floor.ghost_name ≡ old.floor.ghost_name
+  pub book : new.book.ghost_name ≡ old.book.ghost_name
+  pub wakes : new.wakes.ghost_name ≡ old.wakes.ghost_name
+  pub who : new.who ≡ old.who
+  pub anchor_is : anchor new.floor.now ≡ anchor old.floor.now
 
--- the wait was seen, is who's, and is not settled
+-- no memory was found; nothing was made or noted
+pub record IsUntouched (old new : Floor) (items items' : List Item) : Type 0 where
+  pub floor : new ≡ old
+  pub book : items' ≡ items
+
+-- ---- what is told
+
+-- the call told this
+pub record Tells (who : ℕ) (P : List Told → Type 0) (old new : Floor) (items items' : List Item) : Type 0 where
+  pub told : List Told
+  pub goes : P told
+  pub left : ToldOnChannels who old new items items' told
+
+-- a send or receive on a channel that never owes an admission or a drop goes so, and notes one item
+pub record GoesAlone (shape : Shape) (call : Call) (a : Answer) (told : List Told) : Type 0 where
+  pub goes : PlainCall shape call told a
+  pub alone : length (items_in told) ≡ 1
+
+-- ---- waits
+
+-- the wait was seen, is who's, and did not end
 abbrev pub HoldsWait : ℕ → WaitId → Floor → Type 0
 HoldsWait who w floor = IsUnsettledOf who ((replay floor.seen).waits w)
 
--- the channel is closed with this value
-abbrev pub IsClosedWith : ℕ → ℕ → State → Type 0
-IsClosedWith c v s = (s.channels c).closed ≡ Some v
+-- when the call had made these acts its wait stood; it is who's, and did not end
+pub record IsLeftWaiting (who : ℕ) (w : WaitId) (acts : List Act) (old new : Floor) : Type 0 where
+  pub stood : AtMoment who acts old new (λ s. state_of_wait (s.waits w) ≡ Some state.Standing)
+  pub holds : HoldsWait who w new
 
 -- ---- send
 
--- the element was handed to a receiver of an open channel
-pub record HandedOver (who c value : ℕ) (old new : Floor) (items items' : List Item) : Type 0 where
-  pub place : ℕ
-  pub did : Did who (hand_group c place value) old new items items'
-  pub was_open : AtStep old new (λ s. (s.channels c).closed ≡ None)
-
--- the element stands with this wait, as the channel keeps no more
-pub record OfferWaits (who c value : ℕ) (old new : Floor) (items items' : List Item) (w : WaitId) : Type 0 where
-  pub place : ℕ
-  pub named : w ≡ wait_at c place
-  pub did : Did who (offer_group c place value) old new items items'
-  pub was_full : AtStep old new (IsFullAt old.shape c)
-  pub holds : HoldsWait who w new
+-- a send that was done: it was not refused
+pub record IsSent (shape : Shape) (c v : ℕ) (told : List Told) : Type 0 where
+  pub goes : GoesAlone shape (sends c v) Done told
+  pub not_refused : (x : ℕ) → told ≡ heard (SendClosed c v x) ∷ [] → ⊥
 
 abbrev pub SentAnswer : ℕ → ℕ → ℕ → Floor → Floor → List Item → List Item → Result SendAnswer Memory → Type 0
-SentAnswer who c value old new i i' (Ok send.Sent) = HandedOver who c value old new i i'
-SentAnswer who c value old new i i' (Ok (send.Waits w)) = OfferWaits who c value old new i i' w
-SentAnswer who c value old new i i' (Ok (send.Closed v)) = Did who (send_closed_group c value v) old new i i' × IsClosedWith c v (replay new.seen)
-SentAnswer who c value old new i i' (Ok send.Spent) = Did who (spent_group c) old new i i' × AtStep old new (IsSpentForOffers old.shape c)
-SentAnswer who c value old new i i' (Err m) = Did who [] old new i i'
+SentAnswer who c v old new i i' (Ok send.Sent) = Tells who (IsSent old.shape c v) old new i i'
+SentAnswer who c v old new i i' (Ok (send.Waits w)) =
+    (t : Tells who (GoesAlone old.shape (sends c v) (Waits w)) old new i i')
+    × IsLeftWaiting who w (channel_acts_in (items_in t.told)) old new
+SentAnswer who c v old new i i' (Ok (send.Closed x)) = ToldOnChannels who old new i i' (heard (SendClosed c v x) ∷ [])
+SentAnswer who c v old new i i' (Ok send.Spent) = Tells who (GoesAlone old.shape (sends c v) NoPlace) old new i i'
+SentAnswer who c v old new i i' (Err m) = IsUntouched old new i i'
 
 -- ---- receive
 
--- the element was taken from the sender that stood first
-pub record Received (who c : ℕ) (old new : Floor) (items items' : List Item) (value : ℕ) : Type 0 where
-  pub place : ℕ
-  pub did : Did who (take_group c place value) old new items items'
-
--- a receiver stands with this wait
-pub record ReceiveWaits (who c : ℕ) (old new : Floor) (items items' : List Item) (w : WaitId) : Type 0 where
-  pub place : ℕ
-  pub named : w ≡ wait_at c place
-  pub did : Did who (await_group c place) old new items items'
-  pub holds : HoldsWait who w new
-
--- the channel is closed with this value, and was seen with nothing left to receive
-pub record ReceiveClosed (who c : ℕ) (old new : Floor) (items items' : List Item) (v : ℕ) : Type 0 where
-  pub did : Did who (receive_closed_group c v) old new items items'
-  pub is_closed : IsClosedWith c v (replay new.seen)
-  pub was_drained : AtStep old new (IsDrainedAndClosed c)
-
 abbrev pub ReceivedAnswer : ℕ → ℕ → Floor → Floor → List Item → List Item → Result ReceiveAnswer Memory → Type 0
-ReceivedAnswer who c old new i i' (Ok (receive.Value value)) = Received who c old new i i' value
-ReceivedAnswer who c old new i i' (Ok (receive.Waits w)) = ReceiveWaits who c old new i i' w
-ReceivedAnswer who c old new i i' (Ok (receive.Closed v)) = ReceiveClosed who c old new i i' v
-ReceivedAnswer who c old new i i' (Ok receive.Spent) = Did who (spent_group c) old new i i' × AtStep old new (IsSpentForReceives old.shape c)
-ReceivedAnswer who c old new i i' (Err m) = Did who [] old new i i'
+ReceivedAnswer who c old new i i' (Ok (receive.Value v)) = Tells who (GoesAlone old.shape (receives c) (Got v)) old new i i'
+ReceivedAnswer who c old new i i' (Ok (receive.Waits w)) =
+    (t : Tells who (GoesAlone old.shape (receives c) (Waits w)) old new i i')
+    × IsLeftWaiting who w (channel_acts_in (items_in t.told)) old new
+ReceivedAnswer who c old new i i' (Ok (receive.Closed x)) = Tells who (GoesAlone old.shape (receives c) (Closed x)) old new i i'
+ReceivedAnswer who c old new i i' (Ok receive.Spent) = Tells who (GoesAlone old.shape (receives c) NoPlace) old new i i'
+ReceivedAnswer who c old new i i' (Err m) = IsUntouched old new i i'
 
 -- ---- the end of a wait
 
+-- a wait that was resolved ends so: where it ends as cancelled though its Job was not, it had been withdrawn or voided
+abbrev pub end_told : WaitId → Bool → Settled → List Told
+end_told w false settled.Cancelled = on_channels (TakenBack w) ∷ made (Settle w settled.Cancelled) ∷ []
+end_told w false outcome = made (Settle w outcome) ∷ []
+end_told w true outcome = made (Settle w outcome) ∷ []
+
 abbrev pub DispatchedAnswer : ℕ → WaitId → Bool → Floor → Floor → List Item → List Item → Result Settled Memory → Type 0
 DispatchedAnswer who w cancelled old new i i' (Ok outcome) =
-    Did who (settle_group w outcome) old new i i' × (outcome_at cancelled ((replay old.seen).waits w) ≡ Some outcome)
-DispatchedAnswer who w cancelled old new i i' (Err m) = Did who [] old new i i'
+    ToldOnChannels who old new i i' (end_told w cancelled outcome) × (outcome_at cancelled ((replay old.seen).waits w) ≡ Some outcome)
+DispatchedAnswer who w cancelled old new i i' (Err m) = IsUntouched old new i i'
 
--- the wait had been resolved, and not by this call, and ends so for a Job that was cancelled
-pub record WasResolved (who : ℕ) (w : WaitId) (old new : Floor) (outcome : Settled) : Type 0 where
-  pub moment : List Entry
-  pub after : IsPrefix old.seen moment
-  pub before : IsPrefix moment new.seen
-  -- who had made no act of this call
-  pub mine : acts_of who moment ≡ acts_of who old.seen
-  pub ends : outcome_at true ((replay moment).waits w) ≡ Some outcome
+-- the channel owes no admission below its next place
+abbrev pub none_to_admit : ℕ → ℕ → List Told
+none_to_admit c mark = on_channels (NextIs c mark) ∷ on_channels (NoneToAdmit c mark) ∷ []
 
--- the wait was withdrawn, or had been resolved, and was settled for a Job that was cancelled
-pub data CancelledWait (who : ℕ) (w : WaitId) (old new : Floor) (items items' : List Item) : Settled → Type 0 where
-  withdrawn : Did who (withdraw_group w) old new items items' → CancelledWait who w old new items items' settled.Cancelled
-  late : (outcome : Settled) → is_cancelled_end outcome ≡ true → Did who (late_group w outcome) old new items items' → WasResolved who w old new outcome → CancelledWait who w old new items items' outcome
+-- the wait was withdrawn, or that came too late; then it ended so, for a Job that was cancelled
+pub data TakesBack (w : WaitId) : Settled → List Told → Type 0 where
+  withdrawn : (mark : ℕ)
+      → TakesBack w settled.Cancelled
+      (made (Withdraw w why.Cancelled) ∷ made (Settle w settled.Cancelled) ∷ none_to_admit w.channel mark)
+  late : (outcome : Settled) (mark : ℕ) → is_cancelled_end outcome ≡ true
+      → TakesBack w outcome (heard (Late w) ∷ made (Settle w outcome) ∷ none_to_admit w.channel mark)
 
 abbrev pub CancelledAnswer : ℕ → WaitId → Floor → Floor → List Item → List Item → Result Settled Memory → Type 0
-CancelledAnswer who w old new i i' (Ok outcome) = CancelledWait who w old new i i' outcome
-CancelledAnswer who w old new i i' (Err m) = Did who [] old new i i'
+CancelledAnswer who w old new i i' (Ok outcome) = Tells who (TakesBack w outcome) old new i i'
+CancelledAnswer who w old new i i' (Err m) = IsUntouched old new i i'

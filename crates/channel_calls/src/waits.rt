@@ -1,10 +1,12 @@
 //! To end a call that waits.
 
-ghost use Rattle.std.specs.Prelude.{◌≡◌, ◌<◌, ◌++◌, OnErr};
+ghost use Rattle.std.specs.Prelude.{◌≡◌, ◌<◌, ◌++◌, true};
+ghost use Rattle.channel_model.specs.Channels.{kind_at};
 ghost use Rattle.channel_model.specs.Floors.{MayCall};
 ghost use Rattle.channel_model.specs.Answers.{IsReady, SettleAnswer};
+ghost use Rattle.channel_model.specs.Owing.{never_owes};
 ghost use Rattle.channel_calls.specs.Groups.{settle_group};
-ghost use Rattle.channel_calls.specs.Calls.{HoldsWait, DispatchedAnswer, CancelledAnswer};
+ghost use Rattle.channel_calls.specs.Calls.{SameCaller, HoldsWait, DispatchedAnswer, CancelledAnswer};
 
 use crate::caller::Caller;
 use crate::rooms::make_room;
@@ -19,12 +21,8 @@ impl<F: ChannelFloor, B: NoteBook, W: Wakes> Caller<'_, '_, '_, F, B, W> {
         requires ready { IsReady self.old.who w (F.view self.old.floor.now) }
         requires room { 0 < (F.view self.old.floor.now).spare }
         requires book { 0 < B.spare self.old.book.now }
-        ensures same_floor { self.new.floor.ghost_name ≡ self.old.floor.ghost_name }
-        ensures same_book { self.new.book.ghost_name ≡ self.old.book.ghost_name }
-        ensures same_wakes { self.new.wakes.ghost_name ≡ self.old.wakes.ghost_name }
-        ensures who { self.new.who ≡ self.old.who }
+        ensures same { SameCaller F.anchor self.old self.new }
         ensures quiet { self.new.wakes.now ≡ self.old.wakes.now }
-        ensures anchor { F.anchor self.new.floor.now ≡ F.anchor self.old.floor.now }
         ensures settled { SettleAnswer self.old.who w cancelled (F.view self.old.floor.now) (F.view self.new.floor.now) result }
         ensures items { B.items self.new.book.now ≡ B.items self.old.book.now ++ settle_group w result }
     {
@@ -38,14 +36,10 @@ impl<F: ChannelFloor, B: NoteBook, W: Wakes> Caller<'_, '_, '_, F, B, W> {
     pub fn dispatch(&mut self, w: WaitId, cancelled: bool) -> Result<Settled, Memory>
         requires can { MayCall self.old.who w.channel (F.view self.old.floor.now) }
         requires ready { IsReady self.old.who w (F.view self.old.floor.now) }
-        ensures same_floor { self.new.floor.ghost_name ≡ self.old.floor.ghost_name }
-        ensures same_book { self.new.book.ghost_name ≡ self.old.book.ghost_name }
-        ensures same_wakes { self.new.wakes.ghost_name ≡ self.old.wakes.ghost_name }
-        ensures who { self.new.who ≡ self.old.who }
+        ensures same { SameCaller F.anchor self.old self.new }
         ensures quiet { self.new.wakes.now ≡ self.old.wakes.now }
-        ensures anchor { F.anchor self.new.floor.now ≡ F.anchor self.old.floor.now }
-        ensures memory { OnErr result (F.view self.new.floor.now ≡ F.view self.old.floor.now) }
-        ensures answer { DispatchedAnswer self.old.who w cancelled (F.view self.old.floor.now) (F.view self.new.floor.now) (B.items self.old.book.now) (B.items self.new.book.now) result }
+        ensures answer { DispatchedAnswer self.old.who w cancelled (F.view self.old.floor.now) (F.view self.new.floor.now)
+            (B.items self.old.book.now) (B.items self.new.book.now) result }
     {
         if let Err(memory) = make_room(self.floor, self.book, 1) {
             return Err(memory);
@@ -57,13 +51,10 @@ impl<F: ChannelFloor, B: NoteBook, W: Wakes> Caller<'_, '_, '_, F, B, W> {
     pub fn cancel_wait(&mut self, w: WaitId) -> Result<Settled, Memory>
         requires can { MayCall self.old.who w.channel (F.view self.old.floor.now) }
         requires holds { HoldsWait self.old.who w (F.view self.old.floor.now) }
-        ensures same_floor { self.new.floor.ghost_name ≡ self.old.floor.ghost_name }
-        ensures same_book { self.new.book.ghost_name ≡ self.old.book.ghost_name }
-        ensures same_wakes { self.new.wakes.ghost_name ≡ self.old.wakes.ghost_name }
-        ensures who { self.new.who ≡ self.old.who }
-        ensures anchor { F.anchor self.new.floor.now ≡ F.anchor self.old.floor.now }
-        ensures memory { OnErr result (F.view self.new.floor.now ≡ F.view self.old.floor.now) }
-        ensures answer { CancelledAnswer self.old.who w (F.view self.old.floor.now) (F.view self.new.floor.now) (B.items self.old.book.now) (B.items self.new.book.now) result }
+        requires owing { never_owes (kind_at (F.view self.old.floor.now).shape w.channel) ≡ true }
+        ensures same { SameCaller F.anchor self.old self.new }
+        ensures answer { CancelledAnswer self.old.who w (F.view self.old.floor.now) (F.view self.new.floor.now)
+            (B.items self.old.book.now) (B.items self.new.book.now) result }
     {
         if let Err(memory) = make_room(self.floor, self.book, 2) {
             return Err(memory);

@@ -15,50 +15,22 @@ use Rattle.job_model.specs.Histories.{replay, Legal}
 use Rattle.job_model.specs.Floors.{Floor, SameSetting, MayCall, Looked}
 use Rattle.job_model.specs.Answers.{view_of, LookAnswer, LinkAnswer}
 use Rattle.job_model.proofs.Spans.{prefix_self, prefix_then, nothing_more, setting_then, claimed_none, claimed_then}
-use Rattle.job_model.proofs.Lasting.{Lasts, attached_lasts, parent_lasts}
+use Rattle.job_model.proofs.Lasting.{attached_lasts, parent_lasts}
 use Rattle.job_model.proofs.Own.{prefix_keeps}
 use Rattle.job_model.proofs.Families.{replay_families}
 use Rattle.note_book.specs.declared.book.Item.{Item}
 use Rattle.job_tree.specs.Notes.{Noted}
 use Rattle.job_tree.specs.Passes.{IsFailure, IsPass}
-use Rattle.job_tree.specs.Failures.{IsScope, IsSupervisor, StaysBelow, GoesTo, FailsUp, IsFailedUp}
-use Rattle.job_tree.proofs.Covered.{prefix_keeps_all}
+use Rattle.job_tree.specs.Failures.{IsFailedUp}
+use Rattle.job_model.specs.Failures.{IsScope, IsSupervisor, StaysBelow, GoesUpTo, FailsUp}
+use Rattle.job_model.proofs.Covered.{prefix_keeps_all}
 use Rattle.job_tree.proofs.Looks.{link_is}
-use Rattle.job_tree.proofs.Notes.{noted_looked, noted_then, cancels_below_kept}
-use Rattle.job_tree.proofs.Ranks.{ranks, are_ranks, ranks_stay}
+use Rattle.job_tree.proofs.Notes.{noted_looked, noted_then}
+use Rattle.job_tree.proofs.PassesTold.{told_noted, pass_noted}
+use Rattle.job_model.proofs.FailingUp.{scope_lasts, supervisor_lasts, goes_kept, cancels_below_kept}
+use Rattle.job_model.proofs.Ranks.{ranks, are_ranks, ranks_stay}
 use Rattle.job_tree.proofs.Causes.{failure_later}
 use Rattle.job_tree.proofs.Walks.{legal_as}
-
--- ---- kinds stay
-
-scope_lasts : (b : Bool) → Lasts (IsScope b)
-scope_lasts b = record {
-  child = λ r j live h. h;
-  start = λ j n h. h;
-  body = λ v j h. h;
-  cancel = λ cause j c h. h;
-  finish = λ who end j m h. h;
-  told = λ c j h. h;
-  attached = λ h x. absurd h;
-}
-
-supervisor_lasts : (b : Bool) → Lasts (IsSupervisor b)
-supervisor_lasts b = record {
-  child = λ r j live h. h;
-  start = λ j n h. h;
-  body = λ v j h. h;
-  cancel = λ cause j c h. h;
-  finish = λ who end j m h. h;
-  told = λ c j h. h;
-  attached = λ h x. absurd h;
-}
-
-pub goes_kept : (shape : Shape) (xs ys : List JobEntry) (row p : ℕ) → Legal shape ys → IsPrefix xs ys → GoesTo (replay xs) row p → GoesTo (replay ys) row p
-goes_kept shape xs ys row p l pre h = record {
-  parent = prefix_keeps _ (parent_lasts p) shape xs ys row l pre h.parent;
-  child = prefix_keeps _ (scope_lasts false) shape xs ys row l pre h.child;
-  above = prefix_keeps _ (supervisor_lasts false) shape xs ys p l pre h.above;
-}
 
 -- ---- looks
 
@@ -121,7 +93,7 @@ no_supervisor : (x : Option Job) → IsSupervisor false x → is_supervisor x �
 no_supervisor None h = refl
 no_supervisor (Some j) h = h
 
-pub child_holds : (shape : Shape) (tree : Tree) (who row p : ℕ) → GoesTo tree row p → IsFailure (tree row) → Holds shape tree who p (reasons.Child row)
+pub child_holds : (shape : Shape) (tree : Tree) (who row p : ℕ) → GoesUpTo tree row p → IsFailure (tree row) → Holds shape tree who p (reasons.Child row)
 child_holds shape tree who row p g f = (failed_child p (tree row) g.parent f g.child, no_supervisor (tree p) g.above)
 
 -- ---- the climb so far
@@ -151,40 +123,42 @@ climb_looked who who' row at a b c i j k e f l h look =
     }
 
 -- one pass more
-pub climb_up : (who who' row at p : ℕ) (newly : Bool) (a b c : Floor) (i j k : List Item) (count : ℕ) → who' ≡ who → newly ≡ true → Legal c.shape c.seen → IsClimb who row at a b i j → GoesTo (replay b.seen) at p → IsPass who' p (reasons.Child at) newly b c j k count → IsClimb who row p a c i k
+pub climb_up : (who who' row at p : ℕ) (newly : Bool) (a b c : Floor) (i j k : List Item) (count : ℕ) → who' ≡ who → newly ≡ true → Legal c.shape c.seen → IsClimb who row at a b i j → GoesUpTo (replay b.seen) at p → IsPass who' p (reasons.Child at) newly b c j k count → IsClimb who row p a c i k
 climb_up who who' row at p true a b c i j k count e f l h g m =
-    let noted : Noted who (Cancel p (reasons.Child at) ∷ m.acts) b c j k = subst (λ x. Noted x (Cancel p (reasons.Child at) ∷ m.acts) b c j k) e m.noted in
+    let below = m.group.below in
+    let noted : Noted who (Cancel p (reasons.Child at) ∷ below) b c j k = subst (λ x. Noted x (Cancel p (reasons.Child at) ∷ below) b c j k) e (pass_noted who' p (reasons.Child at) true b c j k count m) in
     let longer = noted.added.longer in
     record {
-      acts = h.acts ++ Cancel p (reasons.Child at) ∷ m.acts;
-      noted = noted_then who h.acts (Cancel p (reasons.Child at) ∷ m.acts) a b c i j k h.noted noted;
+      acts = h.acts ++ Cancel p (reasons.Child at) ∷ below;
+      noted = noted_then who h.acts (Cancel p (reasons.Child at) ∷ below) a b c i j k h.noted noted;
       failed = m.failed refl refl;
       attached = parent_attached c.shape c.seen at p l (goes_kept c.shape b.seen c.seen at p l longer g).parent;
       on = λ ys more ly pre u.
-          subst (FailsUp (replay ys) row) (sym (append_assoc h.acts (Cancel p (reasons.Child at) ∷ m.acts) more))
-          (h.on ys (Cancel p (reasons.Child at) ∷ m.acts ++ more) ly (prefix_then b.seen c.seen ys longer pre)
-          (FailsUp.goes_on at p m.acts more _ (goes_kept a.shape b.seen ys at p ly (prefix_then b.seen c.seen ys longer pre) g) (prefix_keeps_all a.shape c.seen ys p ly pre m.all) (cancels_below_kept a.shape c.seen ys p m.acts ly pre m.cancels) u refl));
+          subst (FailsUp (replay ys) row) (sym (append_assoc h.acts (Cancel p (reasons.Child at) ∷ below) more))
+          (h.on ys (Cancel p (reasons.Child at) ∷ below ++ more) ly (prefix_then b.seen c.seen ys longer pre)
+          (FailsUp.goes_on at p below more _ (goes_kept a.shape b.seen ys at p ly (prefix_then b.seen c.seen ys longer pre) g) (prefix_keeps_all a.shape c.seen ys p ly pre m.all) (cancels_below_kept a.shape c.seen ys p below ly pre m.cancels) u refl));
     }
 climb_up who who' row at p false a b c i j k count e f l h g m = cc
 
 -- the parent was Cancelling or had ended
-pub climb_stops : (who who' row at p : ℕ) (newly : Bool) (a b c : Floor) (i j k : List Item) (count : ℕ) → who' ≡ who → newly ≡ false → Legal c.shape c.seen → IsClimb who row at a b i j → GoesTo (replay b.seen) at p → IsPass who' p (reasons.Child at) newly b c j k count → IsFailedUp who row a c i k
+pub climb_stops : (who who' row at p : ℕ) (newly : Bool) (a b c : Floor) (i j k : List Item) (count : ℕ) → who' ≡ who → newly ≡ false → Legal c.shape c.seen → IsClimb who row at a b i j → GoesUpTo (replay b.seen) at p → IsPass who' p (reasons.Child at) newly b c j k count → IsFailedUp who row a c i k
 climb_stops who who' row at p true a b c i j k count e f l h g m = cc
 climb_stops who who' row at p false a b c i j k count e f l h g m =
-    let noted : Noted who m.acts b c j k = subst (λ x. Noted x m.acts b c j k) e m.noted in
-    let all = noted_then who h.acts m.acts a b c i j k h.noted noted in
+    let below = m.group.below in
+    let noted : Noted who below b c j k = subst (λ x. Noted x below b c j k) e (pass_noted who' p (reasons.Child at) false b c j k count m) in
+    let all = noted_then who h.acts below a b c i j k h.noted noted in
     let la = legal_as a c all.added.same l in
     record {
-      acts = h.acts ++ m.acts;
-      noted = all;
-      up = h.on c.seen m.acts la noted.added.longer (FailsUp.stops at p m.acts (goes_kept c.shape b.seen c.seen at p l noted.added.longer g) m.all m.cancels);
+      acts = h.acts ++ below;
+      noted = told_noted who (h.acts ++ below) a c i k all;
+      up = h.on c.seen below la noted.added.longer (FailsUp.stops at p below (goes_kept c.shape b.seen c.seen at p l noted.added.longer g) m.all m.cancels);
     }
 
 -- no parent is cancelled
 pub climb_ends : (who row at : ℕ) (a b : Floor) (i j : List Item) → Legal b.shape b.seen → IsClimb who row at a b i j → StaysBelow (replay b.seen) at → IsFailedUp who row a b i j
 climb_ends who row at a b i j l h s = record {
   acts = h.acts;
-  noted = h.noted;
+  noted = told_noted who h.acts a b i j h.noted;
   up = subst (FailsUp (replay b.seen) row) (nothing_more h.acts) (h.on b.seen [] (legal_as a b h.noted.added.same l) (prefix_self b.seen) (FailsUp.ends at s));
 }
 

@@ -71,8 +71,8 @@ added_end who n act a b c h m = added_then who [] (act ∷ []) [] [] a b c (adde
 pub added_told : (who n : ℕ) (act act' : JobAct) (a b c d : Floor) → HasRoom n a b → Made who act [] b c → Made who act' [] c d → Added who (act ∷ act' ∷ []) [] a d
 added_told who n act act' a b c d h m k = added_then who (act ∷ []) (act' ∷ []) [] [] a c d (added_end who n act a b c h m) (added_made who act' [] c d k)
 
-pub added_linked : (who : ℕ) (act act' : JobAct) (a b c : Floor) → Added who (act ∷ act' ∷ []) [] a b → Looked who [] b c → Added who (act ∷ act' ∷ []) [] a c
-added_linked who act act' a b c h k = added_then who (act ∷ act' ∷ []) [] [] [] a b c h (added_looked who [] b c k)
+pub added_linked : (who : ℕ) (act : JobAct) (a b c : Floor) → Made who act [] a b → Looked who [] b c → Added who (act ∷ []) [] a c
+added_linked who act a b c h k = added_then who (act ∷ []) [] [] [] a b c (added_made who act [] a b h) (added_looked who [] b c k)
 
 -- ---- what was noted
 
@@ -93,25 +93,33 @@ root_ended prepares does who row end a c e e1 e2 items n0 n1 n2 most s s' p f g 
   end = end;
   ready = e1;
   ended = h.ended;
+  between = c;
   prepared = p;
+  finished = added;
   does_it = h.does_it;
   no_jobs = h.no_jobs;
+  word = added_looked who [] c c (looked_self who c);
   appended = appended_root items n0 n1 n2 h.ended (made_note (Finish row end)) f g h.appended;
-  added = added;
 }
 
-pub told_by : {T : Type 0} (prepares : T → T → Type 0) (does : T → ℕ → End → List Item → T → Type 0) (who row : ℕ) (end : End) (a c : Floor) (e e1 e2 : T) (items n0 n1 n2 n3 : List Item) (most s s' : ℕ)
-    → prepares e e1 → n0 ≡ items → n1 ≡ n0 ++ made_note (Finish row end) ∷ [] → HasEnded most (λ ended. does e1 row end ended e2) n1 n2 s s' → n3 ≡ n2 ++ made_note (Gone row) ∷ [] → Added who (Finish row end ∷ Gone row ∷ []) [] a c → IsEndedBy prepares does who row (Gone row ∷ []) a c e e2 items n3
-told_by prepares does who row end a c e e1 e2 items n0 n1 n2 n3 most s s' p f g h k added = record {
+pub told_by : {T : Type 0} (prepares : T → T → Type 0) (does : T → ℕ → End → List Item → T → Type 0) (who row : ℕ) (end : End) (a b c : Floor) (e e1 e2 : T) (items n0 n1 n2 n3 : List Item) (most s s' : ℕ)
+    → prepares e e1 → n0 ≡ items → n1 ≡ n0 ++ made_note (Finish row end) ∷ [] → HasEnded most (λ ended. does e1 row end ended e2) n1 n2 s s' → n3 ≡ n2 ++ made_note (Gone row) ∷ [] → Added who (Finish row end ∷ []) [] a b → Added who (Gone row ∷ []) [] b c → IsEndedBy prepares does who row (Gone row ∷ []) a c e e2 items n3
+told_by prepares does who row end a b c e e1 e2 items n0 n1 n2 n3 most s s' p f g h k added word = record {
   end = end;
   ready = e1;
   ended = h.ended;
+  between = b;
   prepared = p;
+  finished = added;
   does_it = h.does_it;
   no_jobs = h.no_jobs;
+  word = word;
   appended = appended_told items n0 n1 n2 n3 h.ended (made_note (Finish row end)) (made_note (Gone row)) f g h.appended k;
-  added = added;
 }
+
+-- all acts of the end of a Job
+pub end_added : {T : Type 0} (prepares : T → T → Type 0) (does : T → ℕ → End → List Item → T → Type 0) (who row : ℕ) (told : List JobAct) (a b : Floor) (e e' : T) (i j : List Item) → (h : IsEndedBy prepares does who row told a b e e' i j) → Added who (Finish row h.end ∷ told) [] a b
+end_added prepares does who row told a b e e' i j h = added_then who (Finish row h.end ∷ []) told [] [] a h.between b h.finished h.word
 
 -- the Job was not ended
 pub record WasNotNow (who row : ℕ) (a c : Floor) : Type 0 where
@@ -140,7 +148,7 @@ pub record IsOwed (who row p : ℕ) (a b : Floor) : Type 0 where
   pub parent : parent_of (replay b.seen row) ≡ Some p
 
 pub owed : {T : Type 0} (prepares : T → T → Type 0) (does : T → ℕ → End → List Item → T → Type 0) (who row p : ℕ) (a b : Floor) (e e' : T) (items items' : List Item) → EndAnswer prepares does who row a b e e' items items' (Ok (rise.To p)) → IsOwed who row p a b
-owed prepares does who row p a b e e' items items' (EndAnswer.owes _ z h q m) = record { acts = _; added = h.added; parent = q }
+owed prepares does who row p a b e e' items items' (EndAnswer.owes _ z h q m) = record { acts = _; added = end_added prepares does who row (Gone row ∷ []) a b e e' items items' h; parent = q }
 
 -- the ends so far, up to this row
 pub record IsRise {T : Type 0} (prepares : T → T → Type 0) (does : T → ℕ → End → List Item → T → Type 0) (who row at : ℕ) (a b : Floor) (e e' : T) (items items' : List Item) : Type 0 where

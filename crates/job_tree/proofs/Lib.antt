@@ -1,9 +1,7 @@
-pub mod Covered
-pub mod Falling
 pub mod Rooms
-pub mod Ranks
 pub mod Looks
 pub mod Notes
+pub mod PassesTold
 pub mod Causes
 pub mod Ways
 pub mod Walks

@@ -21,12 +21,15 @@ use Rattle.job_model.proofs.Below.{cancelling_lasts, below_kept}
 use Rattle.note_book.specs.declared.book.Item.{Item}
 use Rattle.job_tree.specs.Notes.{Noted}
 use Rattle.job_tree.specs.Rooms.{uncancelled}
-use Rattle.job_tree.specs.Passes.{IsAllCancelled, IsNewestOf, HasNoneBelow, AreCancelsBelow, IsPassBelow, IsPass, own_cancel, CancelledAnswer, TurnAnswer}
+use Rattle.job_tree.specs.Passes.{IsNewestOf, HasNoneBelow, IsPassBelow, IsPass, CancelledAnswer, TurnAnswer}
+use Rattle.job_model.specs.Cancels.{IsAllCancelled, AreCancelsBelow, own_cancel}
 use Rattle.job_tree.specs.declared.steps.Turn.TheVariants.{To, Over, Up}
-use Rattle.job_tree.proofs.Covered.{prefix_keeps_all}
+use Rattle.job_model.proofs.Covered.{prefix_keeps_all}
 use Rattle.job_tree.proofs.Causes.{failure_later}
-use Rattle.job_tree.proofs.Ranks.{ranks, top_rank, are_ranks, ranks_stay}
-use Rattle.job_tree.proofs.Notes.{noted_then, noted_looked, cancels_below_kept}
+use Rattle.job_model.proofs.Ranks.{ranks, top_rank, are_ranks, ranks_stay}
+use Rattle.job_tree.proofs.Notes.{noted_then, noted_looked}
+use Rattle.job_tree.proofs.PassesTold.{pass_told, pass_tells, pass_count}
+use Rattle.job_model.proofs.FailingUp.{cancels_below_kept}
 use Rattle.job_tree.proofs.Rooms.{looked_fewer, uncancelled_rows}
 use Rattle.job_tree.proofs.Ways.{IsWay, way_kept, still_cancelled, IsStep, step_down, step_over, step_none, step_up}
 
@@ -338,11 +341,13 @@ none_more n = omega arith
 pub passed : (who who' row : ℕ) (reason : Reason) (newly : Bool) (a b c : Floor) (i j k : List Item) (count next : ℕ) → who' ≡ who → next ≡ length (own_cancel newly row reason) + count → Legal c.shape c.seen → CancelledAnswer who row reason a b i j newly → IsPassBelow who' row b c j k count → IsPass who row reason newly a c i k next
 passed who who' row reason newly a b c i j k count next e n l h m =
     let own = own_cancel newly row reason in
+    let noted = noted_then who own m.acts a b c i j k h.noted (subst (λ x. Noted x m.acts b c j k) e m.noted) in
     record {
-      acts = m.acts;
-      noted = noted_then who own m.acts a b c i j k h.noted (subst (λ x. Noted x m.acts b c j k) e m.noted);
+      told = pass_told row reason newly m.acts;
+      group = record { below = m.acts; all = refl };
+      noted = pass_tells who row reason newly m.acts a c i k noted m.cancels m.all;
+      counted = n ∙ ap (λ x. length own + x) m.counted ∙ sym (length-append own m.acts) ∙ sym (pass_count row reason newly m.acts);
       cancels = m.cancels;
-      counted = n ∙ ap (λ x. length own + x) m.counted ∙ sym (length-append own m.acts);
       all = m.all;
       failed = λ f g. failure_later c.shape b.seen c.seen row l m.noted.added.longer (h.failed f g);
     }

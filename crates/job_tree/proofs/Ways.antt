@@ -17,10 +17,11 @@ use Rattle.job_model.proofs.Own.{prefix_keeps}
 use Rattle.job_model.proofs.Reasons.{reason_holds_on}
 use Rattle.job_model.proofs.Families.{replay_families}
 use Rattle.job_model.proofs.Ends.{descendants_ended}
-use Rattle.job_tree.specs.Passes.{IsAllCancelled, IsNewestOf, HasNoneBelow}
-use Rattle.job_tree.proofs.Covered.{prefix_keeps_all, late_all}
-use Rattle.job_tree.proofs.Falling.{newest_lightest, older_is_next, oldest_heaviest, falling_light}
-use Rattle.job_tree.proofs.Ranks.{ranks, are_ranks, ranks_stay}
+use Rattle.job_tree.specs.Passes.{IsNewestOf, HasNoneBelow}
+use Rattle.job_model.specs.Cancels.{IsAllCancelled}
+use Rattle.job_model.proofs.Covered.{prefix_keeps_all, late_all}
+use Rattle.job_model.proofs.Falling.{newest_lightest, older_is_next, oldest_heaviest, falling_light}
+use Rattle.job_model.proofs.Ranks.{ranks, are_ranks, ranks_stay}
 
 -- each child of p that is newer than c is Cancelling or ended with all below it
 abbrev pub AreNewerDone : Tree → (ℕ → ℕ) → ℕ → ℕ → Type 0

@@ -1,42 +1,21 @@
 -- Passes: a Job is cancelled with all below it.
-use Rattle.std.specs.Prelude.{◌≡◌, ℕ, ◌+◌, ◌≤◌, Bool, true, false, List, [], ◌∷◌, ◌++◌, length, Option, Some, None}
+use Rattle.std.specs.Prelude.{◌≡◌, ℕ, ◌+◌, ◌≤◌, Bool, true, false, List, [], length, Option, Some, None}
 use Rattle.job_model.specs.declared.acts.JobAct.{JobAct}
-use Rattle.job_model.specs.declared.acts.JobAct.TheVariants.{Attach, Start, EndBody, Cancel, Finish, Gone}
 use Rattle.job_model.specs.declared.acts.Reason.{Reason}
 use Rattle.job_model.specs.declared.acts.Reason.TheVariants as reasons
-use Rattle.job_model.specs.Trees.{Job, Tree, parent_of, is_ended, is_failure}
-use Rattle.job_model.specs.Families.{IsBelow, IsCancellingOrEnded, AllBelowCancelled, newest, older_sibling}
+use Rattle.job_model.specs.Trees.{Job, parent_of, is_ended, is_failure}
+use Rattle.job_model.specs.Families.{IsCancellingOrEnded, newest, older_sibling}
+use Rattle.job_model.specs.Cancels.{IsAllCancelled, own_cancel, AreCancelsBelow}
 use Rattle.job_model.specs.Histories.{replay}
 use Rattle.job_model.specs.Floors.{Floor, AtStep}
 use Rattle.note_book.specs.declared.book.Item.{Item}
+use Rattle.call_meaning.specs.Telling.{Told, items_in}
+use Rattle.call_meaning.specs.JobCalls.{Passes}
+use Rattle.call_meaning.specs.Calls.{ToldOnJobs}
 use Rattle.job_tree.specs.Notes.{Noted}
 use Rattle.job_tree.specs.Rooms.{uncancelled}
 use Rattle.job_tree.specs.declared.steps.Turn.{Turn}
 use Rattle.job_tree.specs.declared.steps.Turn.TheVariants.{To, Over, Up}
-
--- the Job and each below it is Cancelling or ended
-pub record IsAllCancelled (tree : Tree) (row : ℕ) : Type 0 where
-  pub here : IsCancellingOrEnded (tree row)
-  pub below : AllBelowCancelled tree row
-
--- the Cancel of a Job, where it was made
-abbrev pub own_cancel : Bool → ℕ → Reason → List JobAct
-own_cancel true row reason = Cancel row reason ∷ []
-own_cancel false row reason = []
-
--- a Cancel, with reason Parent, of a Job below the row
-abbrev pub IsCancelBelow : Tree → ℕ → JobAct → Type 0
-IsCancelBelow tree row (Attach p q kind tag cancelled) = ⊥
-IsCancelBelow tree row (Start q) = ⊥
-IsCancelBelow tree row (EndBody q v) = ⊥
-IsCancelBelow tree row (Cancel q reason) = (reason ≡ reasons.Parent) × IsBelow tree row q
-IsCancelBelow tree row (Finish q end) = ⊥
-IsCancelBelow tree row (Gone q) = ⊥
-
--- all of these are Cancels of Jobs below the row
-abbrev pub AreCancelsBelow : Tree → ℕ → List JobAct → Type 0
-AreCancelsBelow tree row [] = Unit {0}
-AreCancelsBelow tree row (act ∷ acts) = IsCancelBelow tree row act × AreCancelsBelow tree row acts
 
 -- a Cancel for this reason makes the cause a failure
 abbrev pub is_for_failure : Reason → Bool
@@ -67,12 +46,14 @@ pub record IsPassBelow (who row : ℕ) (old new : Floor) (items items' : List It
   pub counted : count ≡ length acts
   pub all : IsAllCancelled (replay new.seen) row
 
--- the Job was cancelled for this reason, or had been, and then those below it; all are Cancelling or ended
+-- a pass is told and noted: the Job was cancelled for this reason, or had been, and then those below it; in the end all are Cancelling or
+-- ended
 pub record IsPass (who row : ℕ) (reason : Reason) (newly : Bool) (old new : Floor) (items items' : List Item) (count : ℕ) : Type 0 where
-  pub acts : List JobAct
-  pub noted : Noted who (own_cancel newly row reason ++ acts) old new items items'
-  pub cancels : AreCancelsBelow (replay new.seen) row acts
-  pub counted : count ≡ length (own_cancel newly row reason ++ acts)
+  pub told : List Told
+  pub group : Passes row reason newly told
+  pub noted : ToldOnJobs who [] old new items items' told
+  pub counted : count ≡ length (items_in told)
+  pub cancels : AreCancelsBelow (replay new.seen) row group.below
   pub all : IsAllCancelled (replay new.seen) row
   pub failed : newly ≡ true → is_for_failure reason ≡ true → IsFailure (replay new.seen row)
 

@@ -38,7 +38,8 @@ pub trait Ends<B: NoteBook, W: Wakes> {
         requires ready { is_ready self.old ≡ true }
         requires room { most self.old ≤ B.spare book.old }
         ensures most { most self.new ≡ most self.old }
-        ensures ended { HasEnded (most self.old) (λ items. does self.old row end items self.new) (B.items book.old) (B.items book.new) (B.spare book.old) (B.spare book.new) };
+        ensures ended { HasEnded (most self.old) (λ items. does self.old row end items self.new) (B.items book.old) (B.items book.new)
+            (B.spare book.old) (B.spare book.new) };
 }
 
 /// Where the end of a Job leads.
@@ -58,7 +59,8 @@ impl<F: JobFloor, B: NoteBook, W: Wakes> JobCaller<'_, '_, '_, F, B, W> {
         ensures same_wakes { self.new.wakes.ghost_name ≡ self.old.wakes.ghost_name }
         ensures who { self.new.who ≡ self.old.who }
         ensures anchor { F.anchor self.new.floor.now ≡ F.anchor self.old.floor.now }
-        ensures answer { EndAnswer E.prepares E.does self.old.who row (F.view self.old.floor.now) (F.view self.new.floor.now) ends.old ends.new (B.items self.old.book.now) (B.items self.new.book.now) result }
+        ensures answer { EndAnswer E.prepares E.does self.old.who row (F.view self.old.floor.now)
+            (F.view self.new.floor.now) ends.old ends.new (B.items self.old.book.now) (B.items self.new.book.now) result }
     {
         if let Err(memory) = ends.ready(self.book, 2) {
             return Err(memory);
@@ -93,7 +95,8 @@ impl<F: JobFloor, B: NoteBook, W: Wakes> JobCaller<'_, '_, '_, F, B, W> {
         ensures same_wakes { self.new.wakes.ghost_name ≡ self.old.wakes.ghost_name }
         ensures who { self.new.who ≡ self.old.who }
         ensures anchor { F.anchor self.new.floor.now ≡ F.anchor self.old.floor.now }
-        ensures finished { IsFinishedUp E.prepares E.does self.old.who row (F.view self.old.floor.now) ends.old (B.items self.old.book.now) (F.view self.new.floor.now) ends.new (B.items self.new.book.now) result }
+        ensures finished { IsFinishedUp E.prepares E.does self.old.who row (F.view self.old.floor.now) ends.old
+            (B.items self.old.book.now) (F.view self.new.floor.now) ends.new (B.items self.new.book.now) result }
     {
         let mut at = row;
         loop {

@@ -54,7 +54,8 @@ impl<F: JobFloor, B: NoteBook, W: Wakes> JobCaller<'_, '_, '_, F, B, W> {
         ensures same_wakes { self.new.wakes.ghost_name ≡ self.old.wakes.ghost_name }
         ensures who { self.new.who ≡ self.old.who }
         ensures anchor { F.anchor self.new.floor.now ≡ F.anchor self.old.floor.now }
-        ensures up { IsFailedUp self.old.who row (F.view self.old.floor.now) (F.view self.new.floor.now) (B.items self.old.book.now) (B.items self.new.book.now) }
+        ensures up { IsFailedUp self.old.who row (F.view self.old.floor.now) (F.view self.new.floor.now) (B.items self.old.book.now)
+            (B.items self.new.book.now) }
         ensures room { MayCancelAll (F.view self.new.floor.now) (B.spare self.new.book.now) }
     {
         let mut at = row;

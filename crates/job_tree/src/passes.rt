@@ -33,7 +33,8 @@ impl<F: JobFloor, B: NoteBook, W: Wakes> JobCaller<'_, '_, '_, F, B, W> {
         ensures same_wakes { self.new.wakes.ghost_name ≡ self.old.wakes.ghost_name }
         ensures who { self.new.who ≡ self.old.who }
         ensures anchor { F.anchor self.new.floor.now ≡ F.anchor self.old.floor.now }
-        ensures pass { IsPassBelow self.old.who row (F.view self.old.floor.now) (F.view self.new.floor.now) (B.items self.old.book.now) (B.items self.new.book.now) result }
+        ensures pass { IsPassBelow self.old.who row (F.view self.old.floor.now) (F.view self.new.floor.now) (B.items self.old.book.now)
+            (B.items self.new.book.now) result }
         ensures room { MayCancelAll (F.view self.new.floor.now) (B.spare self.new.book.now) }
         ensures small { result < 65536 }
     {
@@ -69,7 +70,8 @@ impl<F: JobFloor, B: NoteBook, W: Wakes> JobCaller<'_, '_, '_, F, B, W> {
         ensures same_wakes { self.new.wakes.ghost_name ≡ self.old.wakes.ghost_name }
         ensures who { self.new.who ≡ self.old.who }
         ensures anchor { F.anchor self.new.floor.now ≡ F.anchor self.old.floor.now }
-        ensures pass { IsSomePass self.old.who row reason (F.view self.old.floor.now) (F.view self.new.floor.now) (B.items self.old.book.now) (B.items self.new.book.now) result }
+        ensures pass { IsSomePass self.old.who row reason (F.view self.old.floor.now) (F.view self.new.floor.now)
+            (B.items self.old.book.now) (B.items self.new.book.now) result }
         ensures room { MayCancelAll (F.view self.new.floor.now) (B.spare self.new.book.now) }
     {
         self.pass(row, reason).count
@@ -85,7 +87,8 @@ impl<F: JobFloor, B: NoteBook, W: Wakes> JobCaller<'_, '_, '_, F, B, W> {
         ensures same_wakes { self.new.wakes.ghost_name ≡ self.old.wakes.ghost_name }
         ensures who { self.new.who ≡ self.old.who }
         ensures anchor { F.anchor self.new.floor.now ≡ F.anchor self.old.floor.now }
-        ensures pass { IsPass self.old.who row reason result.newly (F.view self.old.floor.now) (F.view self.new.floor.now) (B.items self.old.book.now) (B.items self.new.book.now) result.count }
+        ensures pass { IsPass self.old.who row reason result.newly (F.view self.old.floor.now) (F.view self.new.floor.now)
+            (B.items self.old.book.now) (B.items self.new.book.now) result.count }
         ensures room { MayCancelAll (F.view self.new.floor.now) (B.spare self.new.book.now) }
     {
         let newly = self.cancel_job(row, reason);

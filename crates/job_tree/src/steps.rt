@@ -54,7 +54,8 @@ impl<F: JobFloor, B: NoteBook, W: Wakes> JobCaller<'_, '_, '_, F, B, W> {
         ensures same_wakes { self.new.wakes.ghost_name ≡ self.old.wakes.ghost_name }
         ensures who { self.new.who ≡ self.old.who }
         ensures anchor { F.anchor self.new.floor.now ≡ F.anchor self.old.floor.now }
-        ensures answer { CancelledAnswer self.old.who row reason (F.view self.old.floor.now) (F.view self.new.floor.now) (B.items self.old.book.now) (B.items self.new.book.now) result }
+        ensures answer { CancelledAnswer self.old.who row reason (F.view self.old.floor.now) (F.view self.new.floor.now)
+            (B.items self.old.book.now) (B.items self.new.book.now) result }
         ensures room { MayCancelAll (F.view self.new.floor.now) (B.spare self.new.book.now) }
     {
         let Some(job) = self.floor.look(self.who, row) else {

@@ -1,60 +1,51 @@
 -- The ends of bodies.
-use Rattle.std.specs.Prelude.{◌≡◌, ℕ, true, List, [], ◌∷◌, ◌++◌, map, Option, Some, None, Result, Ok, Err, OnOk, is_some, option_map, refl}
-use Rattle.std.proofs.Common.{sym, ap, ◌∙◌, subst, append_assoc}
+use Rattle.std.specs.Prelude.{◌≡◌, ℕ, Bool, true, false, ◌&&◌, List, [], ◌∷◌, ◌++◌, Option, Some, None, Result, Ok, Err, is_some, option_map, refl}
+use Rattle.std.specs.List.{list_all}
+use Rattle.std.proofs.Common.{sym, ap, ◌∙◌, subst, inr}
 use Rattle.co_base.specs.declared.names.Memory.{Memory}
 use Rattle.channel_model.specs.Floors.{Floor as ChannelFloor}
 use Rattle.job_model.specs.declared.acts.JobAct.{JobAct}
-use Rattle.job_model.specs.declared.acts.JobAct.TheVariants.{EndBody}
+use Rattle.job_model.specs.declared.acts.JobAct.TheVariants.{Attach, Start, EndBody, Cancel, Finish, Gone}
+use Rattle.job_model.specs.declared.acts.JobNote.{JobNote}
+use Rattle.job_model.specs.declared.acts.JobNote.TheVariants as of_job
 use Rattle.job_model.specs.declared.acts.JobEntry.{JobEntry}
 use Rattle.job_model.specs.declared.floor.Ended.{Ended}
-use Rattle.job_model.specs.declared.floor.Ended.TheVariants as ended
-use Rattle.job_model.specs.Trees.{Job, Tree, is_childless}
+use Rattle.job_model.specs.Trees.{Job, is_childless}
 use Rattle.job_model.specs.Effects.{without_body}
 use Rattle.job_model.specs.Needs.{MayEndBody}
-use Rattle.job_model.specs.Histories.{replay, acts_of, Legal}
-use Rattle.job_model.specs.Floors.{Floor, HasRoom, Added}
-use Rattle.job_model.specs.Answers.{is_owed, EndBodyAnswer}
-use Rattle.job_model.proofs.Histories.{replay_push}
-use Rattle.job_model.proofs.Spans.{prefix_self, added_made}
+use Rattle.job_model.specs.Histories.{replay, Legal}
+use Rattle.job_model.specs.Answers.{is_owed, IsNotDone, EndBodyAnswer}
+use Rattle.job_model.specs.Floors.{Floor, HasRoom, Added, AtEntry}
+use Rattle.job_model.proofs.Histories.{replay_push, Legal-last}
 use Rattle.job_model.proofs.Families.{changed_here}
-use Rattle.job_model.proofs.Own.{own_body_kept}
+use Rattle.job_model.proofs.Spans.{nothing_more, added_made, entry_made, entry_before, entry_after, added_room}
 use Rattle.note_book.specs.declared.book.Item.{Item}
-use Rattle.job_tree.specs.Notes.{made_note, Noted}
-use Rattle.scope_builders.specs.Rest.{AtRest}
-use Rattle.scope_builders.specs.Groups.{IsChain}
-use Rattle.scope_builders.specs.Calls.{Did, StaysSettled, WasWhen, owes, EndedJob, DidSome, EndedAnswer, BrokeJob, BrokenAnswer}
-use Rattle.scope_builders.specs.Parts.{StaysAtRest, EndsAtRest, AreClosed, IsBroken, FinishedUp}
-use Rattle.scope_builders.proofs.RestingEnds.{end_body_rests, end_body_waits_rests}
-use Rattle.scope_builders.proofs.Groups.{jobs_same, did_nothing, did_noted, did_then, noted_roomed, was_longer}
-use Rattle.scope_builders.proofs.Ended.{still_closed}
-use Rattle.scope_builders.proofs.Settled.{settled_quiet, settled_then, roomed_rests, roomed_added, on_ok_then}
-use Rattle.scope_builders.proofs.Breaks.{break_ends_no_body, break_ends_none, is_cancelling_yet}
+use Rattle.note_book.specs.declared.book.Item.TheVariants as item
+use Rattle.note_book.specs.Items.{job_act, job_acts_in}
+use Rattle.call_meaning.specs.Telling.{Told, on_jobs, IsCancelling, OwesNoEnd, items_in, did}
+use Rattle.call_meaning.specs.JobCalls.{Chain, EndsBody}
+use Rattle.call_meaning.specs.Calls.{ToldOnJobs, ToldOnBoth}
+use Rattle.call_meaning.proofs.JobTellings.{items_in-append, told_did, told_so, both_then, both_jobs}
+use Rattle.job_tree.specs.Notes.{made_note}
+use Rattle.scope_builders.specs.Dones.{ClosesAtOnce, KeepsDones}
+use Rattle.scope_builders.specs.Calls.{EndedJob, DidSome, EndedAnswer, BrokeJob, BrokenAnswer}
+use Rattle.scope_builders.specs.Parts.{is_cancel, IsCancelledFirst, FinishedUp}
+use Rattle.scope_builders.proofs.ChannelsTold as channels
+use Rattle.scope_builders.proofs.DonesKept.{quiet_kept, kept_then}
+use Rattle.scope_builders.proofs.Rooms.{told_roomed, added_roomed}
 
--- ---- the end of the body
+-- ---- the end of a body
 
--- the body ended, and the answer is that of this end
+-- the EndBody was told, and whether a child lived then
 pub record EndedBody (who row value : ℕ) (a b : Floor) (i j : List Item) (answer : Ended) : Type 0 where
-  pub noted : Noted who (EndBody row value ∷ []) a b i j
-  pub childless : is_childless (replay b.seen row) ≡ owes answer
-
-childless_same : (v : ℕ) (x : Option Job) → is_childless (option_map (without_body v) x) ≡ is_childless x
-childless_same v None = refl
-childless_same v (Some j) = refl
-
-owes_is : (a : Ended) → is_owed a ≡ owes a
-owes_is ended.Owes = refl
-owes_is ended.Waits = refl
+  pub noted : ToldOnJobs who [] a b i j (did (EndBody row value) ∷ [])
+  pub owes : AtEntry who [] (EndBody row value) a b (λ tree. is_childless (tree row) ≡ is_owed answer)
 
 pub ended_body : (who row value n : ℕ) (a b c : Floor) (i j k : List Item) (answer : Ended) → HasRoom n a b → EndBodyAnswer who row value b c answer → j ≡ i → k ≡ j ++ made_note (EndBody row value) ∷ [] → EndedBody who row value a c i k answer
-ended_body who row value n a b c i j k answer h m e f =
-    let entry : JobEntry = record { who = who; act = EndBody row value } in
-    record {
-      noted = noted_roomed who n (EndBody row value ∷ []) a b c i j k h e (record { appended = f; added = added_made who (EndBody row value) [] b c m.made });
-      childless = ap (λ (t : Tree). is_childless (t row)) (ap replay m.made.last ∙ replay_push m.made.before entry) ∙ ap is_childless (changed_here row (without_body value) (replay m.made.before)) ∙ childless_same value (replay m.made.before row) ∙ sym m.owes ∙ owes_is answer;
-    }
-
-was_childless : (who row value : ℕ) (a b : Floor) (i j : List Item) (answer : Ended) → EndedBody who row value a b i j answer → WasWhen who (acts_of who a.seen ++ EndBody row value ∷ []) b.seen (λ tree. is_childless (tree row) ≡ owes answer)
-was_childless who row value a b i j answer h = record { moment = b.seen; before = prefix_self b.seen; mine = h.noted.added.mine; holds = h.childless }
+ended_body who row value n a b c i j k answer h m e f = record {
+  noted = told_roomed who n [] a b c i j k (did (EndBody row value) ∷ []) h e (told_did who (EndBody row value) [] b c j k f m.made);
+  owes = entry_after who [] [] (EndBody row value) [] a b c (λ tree. is_childless (tree row) ≡ is_owed answer) (added_room who n a b h) (entry_made who (EndBody row value) [] b c (λ tree. is_childless (tree row) ≡ is_owed answer) m.made (sym m.owes));
+}
 
 -- a Job whose body may be ended is attached
 pub own_attached : (who : ℕ) (x : Option Job) → MayEndBody who x → is_some x ≡ true
@@ -62,89 +53,137 @@ own_attached who None m = absurd m
 own_attached who (Some j) m = refl
 
 pub body_added : (who row value n : ℕ) (a b c : Floor) (answer : Ended) → HasRoom n a b → EndBodyAnswer who row value b c answer → Added who (EndBody row value ∷ []) [] a c
-body_added who row value n a b c answer h m = roomed_added who n (EndBody row value ∷ []) [] a b c h (added_made who (EndBody row value) [] b c m.made)
-
--- nothing was noted
-pub did_none : (who : ℕ) (c c' : ChannelFloor) (j j' : Floor) (items items' : List Item) → c' ≡ c → j' ≡ j → items' ≡ items → DidSome who c c' j j' items items'
-did_none who c c' j j' items items' e f g = record { group = []; did = did_nothing who c c' j j' items items' e (jobs_same who j j' f) g }
+body_added who row value n a b c answer h m = added_roomed who n (EndBody row value ∷ []) [] a b c h (added_made who (EndBody row value) [] b c m.made)
 
 -- ---- end_job
 
--- a child lived
-pub ended_alone : (who base row value : ℕ) (c c' : ChannelFloor) (a b : Floor) (i j : List Item) (answer : Ended) → c' ≡ c → EndedBody who row value a b i j answer → EndedJob who base row value c c' a b i j answer
-ended_alone who base row value c c' a b i j answer e h = record {
-  chain = [];
-  childless = was_childless who row value a b i j answer h;
-  is_chain = IsChain.stops row;
-  did = did_noted who (EndBody row value ∷ []) c c' a b i j e h.noted;
-  closes = λ ca ja s. tt;
-}
+no_more : (a b : Bool) → b ≡ false → (a && b) ≡ false
+no_more true b e = e
+no_more false b e = refl
 
-ended_and_up : (who base row value : ℕ) (c c' : ChannelFloor) (j j1 j2 : Floor) (i i1 i2 : List Item) (answer : Ended) → EndedBody who row value j j1 i i1 answer → (k : FinishedUp who base row c c' j1 j2 i1 i2) → Did who (made_note (EndBody row value) ∷ k.chain) [] c c' j j2 i i2
-ended_and_up who base row value c c' j j1 j2 i i1 i2 answer h k = did_then who (made_note (EndBody row value) ∷ []) k.chain [] [] c c c' j j1 j2 i i1 i2 (did_noted who (EndBody row value ∷ []) c c j j1 i i1 refl h.noted) k.did
+still_lives : (who v : ℕ) (x : Option Job) → MayEndBody who x → is_childless x ≡ false → IsNotDone (option_map (without_body v) x)
+still_lives who v None m e = absurd m
+still_lives who v (Some j) m e = e
 
-closed_on : (who base row value : ℕ) (c : ChannelFloor) (j j1 : Floor) (i i1 : List Item) (answer : Ended) → Legal j1.shape j1.seen → EndedBody who row value j j1 i i1 answer → j.alone ≡ true → AreClosed base c j → AreClosed base c j1
-closed_on who base row value c j j1 i i1 answer l h ja s = still_closed j1.shape who base (EndBody row value ∷ []) c c j j1 l (h.noted.added.alone ja) (λ r. refl) refl s
+-- a child lived as the body ended: the Job owes no end
+body_not_done : (who row value : ℕ) (a b : Floor) (answer : Ended) → Legal b.shape b.seen → is_owed answer ≡ false → EndBodyAnswer who row value a b answer → IsNotDone (replay b.seen row)
+body_not_done who row value a b answer l n m =
+    let entry : JobEntry = record { who = who; act = EndBody row value } in
+    let need = (Legal-last b.shape m.made.before entry (subst (Legal b.shape) m.made.last l)).1 in
+    subst IsNotDone (sym (ap (λ t. t row) (ap replay m.made.last ∙ replay_push m.made.before entry) ∙ changed_here row (without_body value) (replay m.made.before)))
+    (still_lives who value (replay m.made.before row) need (sym m.owes ∙ n))
+
+pub ended_alone : (who base row value n : ℕ) (c c' : ChannelFloor) (a b d : Floor) (i j k : List Item) (answer : Ended) → HasRoom n a b → Legal d.shape d.seen → is_owed answer ≡ false → c' ≡ c → EndBodyAnswer who row value b d answer → j ≡ i → k ≡ j ++ made_note (EndBody row value) ∷ [] → EndedJob who base row value c c' a d i k answer
+unfolding items_in
+ended_alone who base row value n c c' a b d i j k answer r l o same m e f =
+    let h = ended_body who row value n a b d i j k answer r m e f in
+    subst (λ (x : ChannelFloor). EndedJob who base row value c x a d i k answer) (sym same)
+    (record {
+      told = did (EndBody row value) ∷ on_jobs (OwesNoEnd row) ∷ [];
+      group = EndsBody.ends_body (on_jobs (OwesNoEnd row) ∷ []) (Chain.stops row);
+      noted = both_jobs who [] c c a d i k (did (EndBody row value) ∷ on_jobs (OwesNoEnd row) ∷ []) (channels.nobody_called who c)
+          (told_so who [] a d i k (did (EndBody row value) ∷ []) (OwesNoEnd row) h.noted (inr (body_not_done who row value b d answer l o m)));
+      owes = h.owes;
+      dones = quiet_kept who base (EndBody row value ∷ []) [] c c a d (made_note (EndBody row value) ∷ []) l (body_added who row value n a b d answer r m) (channels.nobody_called who c) (tt, tt);
+    })
+
+body_kept : (who base row value : ℕ) (c : ChannelFloor) (a b : Floor) → Legal b.shape b.seen → Added who (EndBody row value ∷ []) [] a b → KeepsDones base c c a b (items_in (did (EndBody row value) ∷ []))
+unfolding items_in
+body_kept who base row value c a b l h = quiet_kept who base (EndBody row value ∷ []) [] c c a b (made_note (EndBody row value) ∷ []) l h (channels.nobody_called who c) (tt, tt)
+
+first_item : (row value : ℕ) (told : List Told) → items_in (did (EndBody row value) ∷ []) ++ items_in told ≡ items_in (did (EndBody row value) ∷ told)
+unfolding items_in
+first_item row value told = refl
+
+up_noted : (who base row value : ℕ) (c c' : ChannelFloor) (j j1 j2 : Floor) (i i1 i2 : List Item) (answer : Ended) (r : Result (Unit {0}) Memory) → EndedBody who row value j j1 i i1 answer → (k : FinishedUp who base row c c' j1 j2 i1 i2 r) → ToldOnBoth who [] c c' j j2 i i2 (did (EndBody row value) ∷ k.told)
+up_noted who base row value c c' j j1 j2 i i1 i2 answer r h k =
+    both_then who [] [] c c c' j j1 j2 i i1 i2 (did (EndBody row value) ∷ []) k.told (both_jobs who [] c c j j1 i i1 (did (EndBody row value) ∷ []) (channels.nobody_called who c) h.noted) k.noted
+
+up_kept : (who base row value : ℕ) (c c' : ChannelFloor) (j j1 j2 : Floor) (i i1 i2 : List Item) (r : Result (Unit {0}) Memory) → Legal j1.shape j1.seen → Added who (EndBody row value ∷ []) [] j j1 → (k : FinishedUp who base row c c' j1 j2 i1 i2 r) → KeepsDones base c c' j j2 (items_in (did (EndBody row value) ∷ k.told))
+up_kept who base row value c c' j j1 j2 i i1 i2 r l h k =
+    subst (KeepsDones base c c' j j2) (first_item row value k.told) (kept_then base c c c' j j1 j2 (items_in (did (EndBody row value) ∷ [])) (items_in k.told) refl h.same.alone (body_kept who base row value c j j1 l h) k.dones)
 
 -- no child lived: the chain of ends
-pub ended_up : (who base row value : ℕ) (c c' : ChannelFloor) (j j1 j2 : Floor) (i i1 i2 : List Item) (answer : Ended) → Legal j1.shape j1.seen → EndedBody who row value j j1 i i1 answer → FinishedUp who base row c c' j1 j2 i1 i2 → EndedJob who base row value c c' j j2 i i2 answer
-ended_up who base row value c c' j j1 j2 i i1 i2 answer l h k = record {
-  chain = k.chain;
-  childless = was_longer who (acts_of who j.seen ++ EndBody row value ∷ []) j1.seen j2.seen (λ tree. is_childless (tree row) ≡ owes answer) k.did.jobs.longer (was_childless who row value j j1 i i1 answer h);
-  is_chain = k.is_chain;
-  did = ended_and_up who base row value c c' j j1 j2 i i1 i2 answer h k;
-  closes = λ ca ja s. k.closes ca (h.noted.added.same.alone ∙ ja) (closed_on who base row value c j j1 i i1 answer l h ja s.closed);
+pub ended_up : (who base row value : ℕ) (c c' : ChannelFloor) (j j1 j2 : Floor) (i i1 i2 : List Item) (answer : Ended) → Legal j1.shape j1.seen → Added who (EndBody row value ∷ []) [] j j1 → EndedBody who row value j j1 i i1 answer → FinishedUp who base row c c' j1 j2 i1 i2 (Ok tt) → EndedJob who base row value c c' j j2 i i2 answer
+ended_up who base row value c c' j j1 j2 i i1 i2 answer l a h k = record {
+  told = did (EndBody row value) ∷ k.told;
+  group = EndsBody.ends_body k.told k.chain;
+  noted = up_noted who base row value c c' j j1 j2 i i1 i2 answer (Ok tt) h k;
+  owes = entry_before who [] (EndBody row value) j j1 j2 (λ tree. is_childless (tree row) ≡ is_owed answer) h.owes k.noted.jobs.longer;
+  dones = up_kept who base row value c c' j j1 j2 i i1 i2 (Ok tt) l a k;
 }
 
-pub ended_some : (who base row value : ℕ) (c c' : ChannelFloor) (j j1 j2 : Floor) (i i1 i2 : List Item) (answer : Ended) → EndedBody who row value j j1 i i1 answer → FinishedUp who base row c c' j1 j2 i1 i2 → DidSome who c c' j j2 i i2
-ended_some who base row value c c' j j1 j2 i i1 i2 answer h k = record { group = made_note (EndBody row value) ∷ k.chain; did = ended_and_up who base row value c c' j j1 j2 i i1 i2 answer h k }
-
-pub waits_settled : (who base row value n : ℕ) (c c' : ChannelFloor) (j j1 j2 : Floor) → HasRoom n j j1 → Legal j2.shape j2.seen → EndBodyAnswer who row value j1 j2 ended.Waits → c' ≡ c → StaysSettled base c c' j j2
-waits_settled who base row value n c c' j j1 j2 h l m e =
-    settled_quiet who base (EndBody row value ∷ []) [] c c' j j2 e l
-    (roomed_added who n (EndBody row value ∷ []) [] j j1 j2 h (added_made who (EndBody row value) [] j1 j2 m.made)) (λ r. refl)
-    (roomed_rests n j j1 j2 h (λ alone rest. end_body_waits_rests who row value j1 j2 alone l m rest))
-
-pub up_settled : (who base row value n : ℕ) (answer : Ended) (c c' : ChannelFloor) (j j1 j2 j3 : Floor) (i i2 i3 : List Item) → HasRoom n j j1 → Legal j2.shape j2.seen → EndBodyAnswer who row value j1 j2 answer → EndedBody who row value j j2 i i2 answer → FinishedUp who base row c c' j2 j3 i2 i3 → EndsAtRest row j2 j3 → StaysSettled base c c' j j3
-up_settled who base row value n answer c c' j j1 j2 j3 i i2 i3 h l m b k rest = λ ca ja s. record {
-  rest = rest (b.noted.added.same.alone ∙ ja) (end_body_rests who row value j1 j2 answer (h.same.alone ∙ ja) l m (subst (λ (es : List JobEntry). AtRest (replay es)) (sym h.seen) s.rest));
-  closed = k.closed ca (b.noted.added.same.alone ∙ ja) (closed_on who base row value c j j2 i i2 answer l b ja s.closed);
+pub ended_some : (who base row value : ℕ) (c c' : ChannelFloor) (j j1 j2 : Floor) (i i1 i2 : List Item) (answer : Ended) (r : Result (Unit {0}) Memory) → Legal j1.shape j1.seen → Added who (EndBody row value ∷ []) [] j j1 → EndedBody who row value j j1 i i1 answer → FinishedUp who base row c c' j1 j2 i1 i2 r → DidSome who base c c' j j2 i i2
+ended_some who base row value c c' j j1 j2 i i1 i2 answer r l a h k = record {
+  told = did (EndBody row value) ∷ k.told;
+  noted = up_noted who base row value c c' j j1 j2 i i1 i2 answer r h k;
+  dones = up_kept who base row value c c' j j1 j2 i i1 i2 r l a k;
 }
+
+-- no memory: nothing was done
+pub did_none : (who base : ℕ) (c c' : ChannelFloor) (j j' : Floor) (i i' : List Item) → Legal j'.shape j'.seen → c' ≡ c → ToldOnJobs who [] j j' i i' [] → DidSome who base c c' j j' i i'
+unfolding items_in
+did_none who base c c' j j' i i' l same h =
+    subst (λ (x : ChannelFloor). DidSome who base c x j j' i i') (sym same)
+    (record { told = []; noted = both_jobs who [] c c j j' i i' [] (channels.nobody_called who c) h; dones = quiet_kept who base [] [] c c j j' [] l h.added (channels.nobody_called who c) tt })
 
 -- ---- break_job
 
-pub broken_roomed : (who row n : ℕ) (failure : Option ℕ) (a b c : Floor) (i j k : List Item) → HasRoom n a b → j ≡ i → IsBroken who row failure b c j k → IsBroken who row failure a c i k
-broken_roomed who row n failure a b c i j k h e m = record { cancels = m.cancels; noted = noted_roomed who n m.cancels a b c i j k h e m.noted; breaks = m.breaks; here = m.here }
+note_quiet : (base : ℕ) (n : JobNote) (more : List Item) → list_all is_cancel (job_act n ++ job_acts_in more) ≡ true → (list_all is_cancel (job_acts_in more) ≡ true → ClosesAtOnce base more) → ClosesAtOnce base (item.Job n ∷ more)
+note_quiet base (of_job.Made (Attach p r kind tag cancelled)) more e h = cc
+note_quiet base (of_job.Made (Start r)) more e h = cc
+note_quiet base (of_job.Made (EndBody r v)) more e h = cc
+note_quiet base (of_job.Made (Cancel r reason)) more e h = (tt, h e)
+note_quiet base (of_job.Made (Finish r end)) more e h = cc
+note_quiet base (of_job.Made (Gone r)) more e h = cc
+note_quiet base (of_job.Saw row) more e h = (tt, h e)
+note_quiet base (of_job.SawEnd row end) more e h = (tt, h e)
+note_quiet base (of_job.Fail code) more e h = (tt, h e)
+note_quiet base of_job.NoRow more e h = (tt, h e)
+note_quiet base of_job.Used more e h = (tt, h e)
+note_quiet base of_job.ParentEnded more e h = (tt, h e)
 
-pub broken_own : (who row : ℕ) (failure : Option ℕ) (a b : Floor) (i j : List Item) → Legal b.shape b.seen → IsBroken who row failure a b i j → MayEndBody who (replay a.seen row) → MayEndBody who (replay b.seen row)
-broken_own who row failure a b i j l h m = own_body_kept who row h.cancels [] a b l h.noted.added (break_ends_no_body row row failure h.cancels h.breaks) m
+-- Cancels end no Job
+cancels_quiet : (base : ℕ) (items : List Item) → list_all is_cancel (job_acts_in items) ≡ true → ClosesAtOnce base items
+cancels_quiet base [] e = tt
+cancels_quiet base (item.Channel n ∷ items) e = (tt, cancels_quiet base items e)
+cancels_quiet base (item.Job n ∷ items) e = note_quiet base n items e (cancels_quiet base items)
 
-pub broken_settled : (who base row : ℕ) (failure : Option ℕ) (c c' : ChannelFloor) (a b : Floor) (i j : List Item) → c' ≡ c → Legal b.shape b.seen → IsBroken who row failure a b i j → StaysAtRest a b → StaysSettled base c c' a b
-broken_settled who base row failure c c' a b i j e l h rest = settled_quiet who base h.cancels [] c c' a b e l h.noted.added (λ r. break_ends_none row r failure h.cancels h.breaks) rest
+told_assoc : (xs ys zs : List Told) → (xs ++ ys) ++ zs ≡ xs ++ (ys ++ zs)
+told_assoc [] ys zs = refl
+told_assoc (x ∷ xs) ys zs = ap (λ (l : List Told). x ∷ l) (told_assoc xs ys zs)
 
-broke_job : (who base row : ℕ) (failure : Option ℕ) (c c' : ChannelFloor) (j j1 j2 : Floor) (i i1 i2 : List Item) (answer : Ended) → Legal j1.shape j1.seen → MayEndBody who (replay j.seen row) → IsBroken who row failure j j1 i i1 → StaysAtRest j j1 → EndedJob who base row 0 c c' j1 j2 i1 i2 answer → BrokeJob who base row failure c c' j j2 i i2 answer
-broke_job who base row failure c c' j j1 j2 i i1 i2 answer l m h rest k = record {
-  cancels = h.cancels;
-  chain = k.chain;
-  childless = subst (λ (acts : List JobAct). WasWhen who acts j2.seen (λ tree. is_childless (tree row) ≡ owes answer)) (ap (λ (x : List JobAct). x ++ EndBody row 0 ∷ []) h.noted.added.mine ∙ append_assoc (acts_of who j.seen) h.cancels (EndBody row 0 ∷ [])) k.childless;
-  breaks = h.breaks;
-  is_chain = k.is_chain;
-  did = did_then who (map made_note h.cancels) (made_note (EndBody row 0) ∷ k.chain) [] [] c c c' j j1 j2 i i1 i2 (did_noted who h.cancels c c j j1 i i1 refl h.noted) k.did;
-  cancelling = record { moment = j1.seen; before = k.did.jobs.longer; mine = h.noted.added.mine; holds = is_cancelling_yet j1.shape who row j1 l (broken_own who row failure j j1 i i1 l h m) h.here };
-  closes = λ ca ja s. k.closes ca (h.noted.added.same.alone ∙ ja) (broken_settled who base row failure c c j j1 i i1 refl l h rest ca ja s);
-}
+break_items : (cancels end : List Told) (row : ℕ) → items_in (cancels ++ on_jobs (IsCancelling row) ∷ []) ≡ items_in cancels
+unfolding items_in
+break_items cancels end row = items_in-append cancels (on_jobs (IsCancelling row) ∷ []) ∙ nothing_more (items_in cancels)
 
-pub broken : (who base row : ℕ) (failure : Option ℕ) (c c' : ChannelFloor) (j j1 j2 : Floor) (i i1 i2 : List Item) (r : Result Ended Memory) → Legal j1.shape j1.seen → MayEndBody who (replay j.seen row) → IsBroken who row failure j j1 i i1 → StaysAtRest j j1 → EndedAnswer who base row 0 c c' j1 j2 i1 i2 r → BrokenAnswer who base row failure c c' j j2 i i2 r
-broken who base row failure c c' j j1 j2 i i1 i2 (Ok answer) l m h rest k = broke_job who base row failure c c' j j1 j2 i i1 i2 answer l m h rest k
-broken who base row failure c c' j j1 j2 i i1 i2 (Err memory) l m h rest k = record {
-  group = map made_note h.cancels ++ k.group;
-  did = did_then who (map made_note h.cancels) k.group [] [] c c c' j j1 j2 i i1 i2 (did_noted who h.cancels c c j j1 i i1 refl h.noted) k.did;
-}
+-- floors that nobody else calls, while the Job is cancelled
+first_kept : (who base row : ℕ) (c : ChannelFloor) (a b : Floor) (told : List Told) → Legal b.shape b.seen → Added who (job_acts_in (items_in told)) [] a b → ClosesAtOnce base (items_in told) → KeepsDones base c c a b (items_in told)
+first_kept who base row c a b told l h quiet = quiet_kept who base (job_acts_in (items_in told)) [] c c a b (items_in told) l h (channels.nobody_called who c) quiet
 
-pub broke_settled : (who base row : ℕ) (failure : Option ℕ) (c c' : ChannelFloor) (j j1 j2 : Floor) (i i1 : List Item) (r : Result Ended Memory) → Legal j1.shape j1.seen → IsBroken who row failure j j1 i i1 → StaysAtRest j j1 → OnOk r (StaysSettled base c c' j1 j2) → OnOk r (StaysSettled base c c' j j2)
-broke_settled who base row failure c c' j j1 j2 i i1 r l h rest k =
-    on_ok_then (StaysSettled base c c' j1 j2) (StaysSettled base c c' j j2) r
-    (λ s. settled_then base c c c' j j1 j2 refl h.noted.added.same.alone (broken_settled who base row failure c c j j1 i i1 refl l h rest) s) k
+-- the body broke off
+broke_job : (who base row : ℕ) (failure : Option ℕ) (c c' : ChannelFloor) (j j1 j2 : Floor) (i i1 i2 : List Item) (answer : Ended) → Legal j1.shape j1.seen → IsCancelledFirst who row failure j j1 i i1 → EndedJob who base row 0 c c' j1 j2 i1 i2 answer → BrokeJob who base row failure c c' j j2 i i2 answer
+broke_job who base row failure c c' j j1 j2 i i1 i2 answer l h k =
+    let first : List Told = h.told ++ on_jobs (IsCancelling row) ∷ [] in
+    let is : first ++ k.told ≡ h.told ++ on_jobs (IsCancelling row) ∷ k.told = told_assoc h.told (on_jobs (IsCancelling row) ∷ []) k.told in
+    let added : Added who (job_acts_in (items_in h.told)) [] j j1 = subst (λ (l : List Item). Added who (job_acts_in l) [] j j1) (break_items h.told k.told row) h.noted.added in
+    record {
+      told = h.told ++ on_jobs (IsCancelling row) ∷ k.told;
+      group = record { cancels = h.told; end = k.told; breaks = h.breaks; ends = k.group; all = refl };
+      noted = subst (ToldOnBoth who [] c c' j j2 i i2) is (both_then who [] [] c c c' j j1 j2 i i1 i2 first k.told (both_jobs who [] c c j j1 i i1 first (channels.nobody_called who c) h.noted) k.noted);
+      owes = subst (λ (acts : List JobAct). AtEntry who acts (EndBody row 0) j j2 (λ tree. is_childless (tree row) ≡ is_owed answer)) (nothing_more (job_acts_in (items_in h.told)))
+          (entry_after who (job_acts_in (items_in h.told)) [] (EndBody row 0) [] j j1 j2 (λ tree. is_childless (tree row) ≡ is_owed answer) added k.owes);
+      dones = subst (KeepsDones base c c' j j2) (sym (items_in-append first k.told) ∙ ap items_in is)
+          (kept_then base c c c' j j1 j2 (items_in first) (items_in k.told) refl h.noted.added.same.alone (first_kept who base row c j j1 first l h.noted.added (cancels_quiet base (items_in first) (ap (λ (l : List Item). list_all is_cancel (job_acts_in l)) (break_items h.told k.told row) ∙ h.cancels))) k.dones);
+    }
 
-pub roomed_own : (who row n : ℕ) (a b : Floor) → HasRoom n a b → MayEndBody who (replay a.seen row) → MayEndBody who (replay b.seen row)
-roomed_own who row n a b h m = subst (λ (es : List JobEntry). MayEndBody who (replay es row)) (sym h.seen) m
+pub broken : (who base row : ℕ) (failure : Option ℕ) (c c' : ChannelFloor) (j j1 j2 : Floor) (i i1 i2 : List Item) (r : Result Ended Memory) → Legal j1.shape j1.seen → IsCancelledFirst who row failure j j1 i i1 → EndedAnswer who base row 0 c c' j1 j2 i1 i2 r → BrokenAnswer who base row failure c c' j j2 i i2 r
+broken who base row failure c c' j j1 j2 i i1 i2 (Ok answer) l h k = broke_job who base row failure c c' j j1 j2 i i1 i2 answer l h k
+broken who base row failure c c' j j1 j2 i i1 i2 (Err memory) l h k =
+    let first : List Told = h.told ++ on_jobs (IsCancelling row) ∷ [] in
+    record {
+      told = first ++ k.told;
+      noted = both_then who [] [] c c c' j j1 j2 i i1 i2 first k.told (both_jobs who [] c c j j1 i i1 first (channels.nobody_called who c) h.noted) k.noted;
+      dones = subst (KeepsDones base c c' j j2) (sym (items_in-append first k.told))
+          (kept_then base c c c' j j1 j2 (items_in first) (items_in k.told) refl h.noted.added.same.alone (first_kept who base row c j j1 first l h.noted.added (cancels_quiet base (items_in first) (ap (λ (l : List Item). list_all is_cancel (job_acts_in l)) (break_items h.told k.told row) ∙ h.cancels))) k.dones);
+    }

@@ -1,202 +1,229 @@
 -- The cancellations with which a body breaks off.
-use Rattle.std.specs.Prelude.{◌≡◌, ℕ, Bool, true, false, ◌||◌, List, [], ◌∷◌, ◌++◌, Option, Some, None, if◌then◌else◌, refl}
+use Rattle.std.specs.Prelude.{◌≡◌, ◌≢◌, ◌⊎◌, ℕ, Bool, true, false, ◌&&◌, ◌||◌, List, [], ◌∷◌, ◌++◌, map, Option, Some, None, is_some, refl}
 use Rattle.std.specs.List.{list_any, list_all}
-use Rattle.std.proofs.Common.{sym, ap, ◌∙◌, subst, append_assoc}
-use Rattle.std.proofs.lemmas.Bool.{and_parts, and_from}
-use Rattle.std.proofs.lemmas.List.Folds.{list_all-append}
-use Rattle.job_model.specs.declared.acts.JobState.{JobState}
-use Rattle.job_model.specs.declared.acts.JobState.TheVariants.{New, Active, Completing, Cancelling, Cancelled, Completed}
+use Rattle.std.proofs.Common.{sym, ap, ◌∙◌, subst, ⊎_elim}
+use Rattle.job_model.specs.declared.acts.JobState.TheVariants.{Cancelling}
 use Rattle.job_model.specs.declared.acts.Reason.{Reason}
 use Rattle.job_model.specs.declared.acts.Reason.TheVariants as reasons
 use Rattle.job_model.specs.declared.acts.JobAct.{JobAct}
 use Rattle.job_model.specs.declared.acts.JobAct.TheVariants.{Attach, Start, EndBody, Cancel, Finish, Gone}
-use Rattle.job_model.specs.Trees.{Job, Tree, Shape, is_cancellable, state_of}
-use Rattle.job_model.specs.Acts.{ends_body, finishes}
-use Rattle.job_model.specs.Needs.{MayEndBody}
+use Rattle.job_model.specs.Trees.{Job, Tree, is_cancellable, state_of}
+use Rattle.job_model.specs.Acts.{ends_body}
+use Rattle.job_model.specs.Needs.{OwnsBody, Holds}
 use Rattle.job_model.specs.Families.{IsCancellingOrEnded}
+use Rattle.job_model.specs.Cancels.{own_cancel, IsCancelBelow, AreCancelsBelow}
+use Rattle.job_model.specs.Failures.{FailsUp}
+use Rattle.job_model.specs.Laws.{has_ended}
 use Rattle.job_model.specs.Histories.{replay, Legal}
-use Rattle.job_model.specs.Laws.{IsSoundRow, is_bodiless}
-use Rattle.job_model.specs.Floors.{Floor}
-use Rattle.job_model.proofs.Spans.{nothing_more}
+use Rattle.job_model.specs.Floors.{Floor, HasRoom, MayCall, Looked, Added, AtStep}
+use Rattle.job_model.proofs.Spans.{nothing_more, added_looked, added_room, added_then, looked_moment}
 use Rattle.job_model.proofs.Below.{cancelling_lasts}
-use Rattle.job_model.proofs.Own.{prefix_keeps, own_body_kept}
+use Rattle.job_model.proofs.Own.{prefix_keeps, owned_body_kept, owned_not_ended, owned_cancelling, may_end_cancelled}
 use Rattle.job_model.proofs.Families.{replay_families}
 use Rattle.note_book.specs.declared.book.Item.{Item}
-use Rattle.job_tree.specs.Passes.{own_cancel, IsCancelBelow, AreCancelsBelow, IsPass}
-use Rattle.job_tree.specs.Failures.{FailsUp, IsFailedUp}
-use Rattle.job_tree.proofs.Notes.{noted_then}
-use Rattle.scope_builders.specs.Rest.{RestsBut}
-use Rattle.scope_builders.specs.Groups.{is_for_parent, is_for_family, is_cancel, reason_for, up_after, IsBreak}
-use Rattle.scope_builders.specs.Parts.{IsBroken, StaysAtRest}
-use Rattle.scope_builders.proofs.RestingPasses.{own_rests, fail_up_rests, body_not_ended}
+use Rattle.note_book.specs.Items.{job_acts_in}
+use Rattle.note_book.proofs.Appended.{job_acts_in-append}
+use Rattle.call_meaning.specs.Telling.{Told, on_jobs, IsCancelling, FailedUp, items_in, did}
+use Rattle.call_meaning.specs.Facts.{IsAlive, JobFactHolds}
+use Rattle.call_meaning.specs.JobCalls.{Passes, Breaks}
+use Rattle.call_meaning.specs.Calls.{ToldOnJobs}
+use Rattle.call_meaning.proofs.JobTellings.{items_in-append, acts_did, told_fact, told_then, told_so, told_after}
+use Rattle.job_tree.specs.Passes.{IsPass}
+use Rattle.job_tree.specs.Failures.{IsFailedUp}
+use Rattle.job_tree.proofs.Looks.{may_later, holds_later}
+use Rattle.job_tree.proofs.PassesTold.{pass_acts, pass_noted}
+use Rattle.scope_builders.specs.Parts.{is_cancel, AreCancels, IsBroken, IsCancelledFirst}
+use Rattle.scope_builders.proofs.Rooms.{told_none, told_roomed}
 
--- ---- Cancels for such reasons
+-- ---- Cancels end no body
 
-pub any_reason : Reason → Bool
-any_reason reason = true
+cancel_ends_none : (tree : Tree) (row r : ℕ) (act : JobAct) → IsCancelBelow tree row act → ends_body r act ≡ false
+cancel_ends_none tree row r (Attach p q kind tag cancelled) h = refl
+cancel_ends_none tree row r (Start q) h = refl
+cancel_ends_none tree row r (EndBody q v) h = absurd h
+cancel_ends_none tree row r (Cancel q reason) h = refl
+cancel_ends_none tree row r (Finish q end) h = refl
+cancel_ends_none tree row r (Gone q) h = refl
 
-wider : (test more : Reason → Bool) → ((reason : Reason) → test reason ≡ true → more reason ≡ true) → (acts : List JobAct) → list_all (is_cancel test) acts ≡ true → list_all (is_cancel more) acts ≡ true
-wider test more h [] e = refl
-wider test more h (act ∷ acts) e =
-    let k = and_parts (is_cancel test act) (list_all (is_cancel test) acts) e in
-    and_from (is_cancel more act) (list_all (is_cancel more) acts) (one act k.0) (wider test more h acts k.1)
+below_ends_none : (tree : Tree) (row r : ℕ) (acts : List JobAct) → AreCancelsBelow tree row acts → list_any (ends_body r) acts ≡ false
+below_ends_none tree row r [] h = refl
+below_ends_none tree row r (x ∷ xs) h = ap (λ b. b || list_any (ends_body r) xs) (cancel_ends_none tree row r x h.0) ∙ below_ends_none tree row r xs h.1
+
+append_ends_none : (r : ℕ) (xs ys : List JobAct) → list_any (ends_body r) xs ≡ false → list_any (ends_body r) ys ≡ false → list_any (ends_body r) (xs ++ ys) ≡ false
+append_ends_none r [] ys e f = f
+append_ends_none r (x ∷ xs) ys e f = by_test (ends_body r x) refl e (λ k. append_ends_none r xs ys k f)
   where
-    one : (act : JobAct) → is_cancel test act ≡ true → is_cancel more act ≡ true
-    one (Attach p q kind tag cancelled) e = cc
-    one (Start q) e = cc
-    one (EndBody q v) e = cc
-    one (Cancel q reason) e = h reason e
-    one (Finish q end) e = cc
-    one (Gone q) e = cc
+    by_test : (b : Bool) → ends_body r x ≡ b → (b || list_any (ends_body r) xs) ≡ false → (list_any (ends_body r) xs ≡ false → list_any (ends_body r) (xs ++ ys) ≡ false) → (ends_body r x || list_any (ends_body r) (xs ++ ys)) ≡ false
+    by_test true k h rest = cc
+    by_test false k h rest = ap (λ b. b || list_any (ends_body r) (xs ++ ys)) k ∙ rest h
 
--- what no Cancel is, none of these is
-pub none_in : (f : JobAct → Bool) → ((q : ℕ) (reason : Reason) → f (Cancel q reason) ≡ false) → (test : Reason → Bool) (acts : List JobAct) → list_all (is_cancel test) acts ≡ true → list_any f acts ≡ false
-none_in f n test [] e = refl
-none_in f n test (act ∷ acts) e =
-    let k = and_parts (is_cancel test act) (list_all (is_cancel test) acts) e in
-    ap (λ b. b || list_any f acts) (one act k.0) ∙ none_in f n test acts k.1
+own_ends_none : (r row : ℕ) (reason : Reason) (newly : Bool) → list_any (ends_body r) (own_cancel newly row reason) ≡ false
+own_ends_none r row reason true = refl
+own_ends_none r row reason false = refl
+
+up_ends_none : (tree : Tree) (row r : ℕ) (acts : List JobAct) → FailsUp tree row acts → list_any (ends_body r) acts ≡ false
+up_ends_none tree _ r _ (FailsUp.ends row s) = refl
+up_ends_none tree _ r _ (FailsUp.stops row p acts g a c) = below_ends_none tree p r acts c
+up_ends_none tree _ r _ (FailsUp.goes_on row p acts more all g a c u e) = ap (list_any (ends_body r)) e ∙ append_ends_none r acts more (below_ends_none tree p r acts c) (up_ends_none tree p r more u)
+
+-- ---- all of them are Cancels
+
+all_append : (xs ys : List JobAct) → list_all is_cancel xs ≡ true → list_all is_cancel ys ≡ true → list_all is_cancel (xs ++ ys) ≡ true
+all_append [] ys e f = f
+all_append (x ∷ xs) ys e f = by_test (is_cancel x) refl e (λ k. all_append xs ys k f)
   where
-    one : (act : JobAct) → is_cancel test act ≡ true → f act ≡ false
-    one (Attach p q kind tag cancelled) e = cc
-    one (Start q) e = cc
-    one (EndBody q v) e = cc
-    one (Cancel q reason) e = n q reason
-    one (Finish q end) e = cc
-    one (Gone q) e = cc
+    by_test : (b : Bool) → is_cancel x ≡ b → (b && list_all is_cancel xs) ≡ true → (list_all is_cancel xs ≡ true → list_all is_cancel (xs ++ ys) ≡ true) → (is_cancel x && list_all is_cancel (xs ++ ys)) ≡ true
+    by_test true k h rest = ap (λ b. b && list_all is_cancel (xs ++ ys)) k ∙ rest h
+    by_test false k h rest = cc
 
-pub for_parents : (tree : Tree) (row : ℕ) (acts : List JobAct) → AreCancelsBelow tree row acts → list_all (is_cancel is_for_parent) acts ≡ true
-for_parents tree row [] h = refl
-for_parents tree row (act ∷ acts) h = and_from (is_cancel is_for_parent act) (list_all (is_cancel is_for_parent) acts) (one act h.0) (for_parents tree row acts h.1)
-  where
-    one : (act : JobAct) → IsCancelBelow tree row act → is_cancel is_for_parent act ≡ true
-    one (Attach p q kind tag cancelled) h = absurd h
-    one (Start q) h = absurd h
-    one (EndBody q v) h = absurd h
-    one (Cancel q reason) h = ap is_for_parent h.0
-    one (Finish q end) h = absurd h
-    one (Gone q) h = absurd h
+below_cancels : (tree : Tree) (row : ℕ) (acts : List JobAct) → AreCancelsBelow tree row acts → list_all is_cancel acts ≡ true
+below_cancels tree row [] h = refl
+below_cancels tree row (Attach p q kind tag cancelled ∷ xs) h = absurd h.0
+below_cancels tree row (Start q ∷ xs) h = absurd h.0
+below_cancels tree row (EndBody q v ∷ xs) h = absurd h.0
+below_cancels tree row (Cancel q reason ∷ xs) h = below_cancels tree row xs h.1
+below_cancels tree row (Finish q end ∷ xs) h = absurd h.0
+below_cancels tree row (Gone q ∷ xs) h = absurd h.0
 
-parents_family : (reason : Reason) → is_for_parent reason ≡ true → is_for_family reason ≡ true
-parents_family reasons.Request e = cc
-parents_family reasons.Parent e = refl
-parents_family (reasons.Child c) e = refl
-parents_family (reasons.Own f) e = cc
+own_cancels : (row : ℕ) (reason : Reason) (newly : Bool) → list_all is_cancel (own_cancel newly row reason) ≡ true
+own_cancels row reason true = refl
+own_cancels row reason false = refl
 
-for_families : (tree : Tree) (row : ℕ) (acts : List JobAct) → AreCancelsBelow tree row acts → list_all (is_cancel is_for_family) acts ≡ true
-for_families tree row acts h = wider is_for_parent is_for_family parents_family acts (for_parents tree row acts h)
+up_cancels : (tree : Tree) (row : ℕ) (acts : List JobAct) → FailsUp tree row acts → list_all is_cancel acts ≡ true
+up_cancels tree _ _ (FailsUp.ends row s) = refl
+up_cancels tree _ _ (FailsUp.stops row p acts g a c) = below_cancels tree p acts c
+up_cancels tree _ _ (FailsUp.goes_on row p acts more all g a c u e) = ap (list_all is_cancel) e ∙ all_append acts more (below_cancels tree p acts c) (up_cancels tree p more u)
 
--- a failure goes up by Cancels with reasons Child and Parent
-goes_by_family : (tree : Tree) (row : ℕ) (acts : List JobAct) → FailsUp tree row acts → list_all (is_cancel is_for_family) acts ≡ true
-goes_by_family tree row _ (FailsUp.ends _ s) = refl
-goes_by_family tree row _ (FailsUp.stops _ p acts g a c) = for_families tree p acts c
-goes_by_family tree row _ (FailsUp.goes_on _ p acts more all g a c u e) =
-    ap (list_all (is_cancel is_for_family)) e ∙ list_all-append (is_cancel is_for_family) acts more ∙ and_from (list_all (is_cancel is_for_family) acts) (list_all (is_cancel is_for_family) more) (for_families tree p acts c) (goes_by_family tree p more u)
+pass_cancels : (who row : ℕ) (reason : Reason) (newly : Bool) (a b : Floor) (i j : List Item) (count : ℕ) → (h : IsPass who row reason newly a b i j count) → AreCancels h.told
+pass_cancels who row reason newly a b i j count h =
+    ap (list_all is_cancel) (pass_acts who row reason newly a b i j count h) ∙ all_append (own_cancel newly row reason) h.group.below (own_cancels row reason newly) (below_cancels (replay b.seen) row h.group.below h.cancels)
 
--- ---- a break is Cancels alone
+climb_acts : (row : ℕ) (up : List JobAct) → job_acts_in (items_in (map did up ++ on_jobs (FailedUp row up) ∷ [])) ≡ up
+unfolding items_in
+climb_acts row up = ap job_acts_in (items_in-append (map did up) (on_jobs (FailedUp row up) ∷ []) ∙ nothing_more (items_in (map did up))) ∙ acts_did up
 
-both : (test : Reason → Bool) (xs ys : List JobAct) → list_all (is_cancel test) xs ≡ true → list_all (is_cancel test) ys ≡ true → list_all (is_cancel test) (xs ++ ys) ≡ true
-both test xs ys a b = list_all-append (is_cancel test) xs ys ∙ and_from (list_all (is_cancel test) xs) (list_all (is_cancel test) ys) a b
+told_cancels : (xs ys : List Told) → AreCancels xs → AreCancels ys → AreCancels (xs ++ ys)
+told_cancels xs ys h k =
+    ap (list_all is_cancel) (ap job_acts_in (items_in-append xs ys) ∙ job_acts_in-append (items_in xs) (items_in ys)) ∙ all_append (job_acts_in (items_in xs)) (job_acts_in (items_in ys)) h k
 
-own_cancels : (newly : Bool) (row : ℕ) (reason : Reason) → list_all (is_cancel any_reason) (own_cancel newly row reason) ≡ true
-unfolding any_reason
-own_cancels true row reason = refl
-own_cancels false row reason = refl
+none_cancels : AreCancels []
+unfolding items_in
+none_cancels = refl
 
-up_cancels : (newly : Bool) (failure : Option ℕ) (up : List JobAct) → up_after newly failure up → list_all (is_cancel any_reason) up ≡ true
-unfolding any_reason
-up_cancels false failure up h = ap (list_all (is_cancel any_reason)) h
-up_cancels true None up h = ap (list_all (is_cancel any_reason)) h
-up_cancels true (Some f) up h = wider is_for_family any_reason (λ reason e. refl) up h
+-- the body is still the caller's after a pass
+passed_owned : (who row q : ℕ) (reason : Reason) (newly : Bool) (a b : Floor) (i j : List Item) (count : ℕ) → Legal b.shape b.seen → IsPass who q reason newly a b i j count → OwnsBody who (replay a.seen row) → OwnsBody who (replay b.seen row)
+passed_owned who row q reason newly a b i j count l h m =
+    owned_body_kept who row (own_cancel newly q reason ++ h.group.below) [] a b l (pass_noted who q reason newly a b i j count h).added
+    (append_ends_none row (own_cancel newly q reason) h.group.below (own_ends_none row q reason newly) (below_ends_none (replay b.seen) q row h.group.below h.cancels)) m
 
-break_cancels : (row : ℕ) (failure : Option ℕ) (acts : List JobAct) → IsBreak row failure acts → list_all (is_cancel any_reason) acts ≡ true
-unfolding any_reason
-break_cancels row failure acts h =
-    ap (list_all (is_cancel any_reason)) h.all
-    ∙ both any_reason (own_cancel h.newly row (reason_for failure)) (h.below ++ h.up) (own_cancels h.newly row (reason_for failure))
-    (both any_reason h.below h.up (wider is_for_parent any_reason (λ reason e. refl) h.below h.is_below) (up_cancels h.newly failure h.up h.is_up))
+-- ---- the cases
 
-pub break_ends_no_body : (row r : ℕ) (failure : Option ℕ) (acts : List JobAct) → IsBreak row failure acts → list_any (ends_body r) acts ≡ false
-break_ends_no_body row r failure acts h = none_in (ends_body r) (λ q reason. refl) any_reason acts (break_cancels row failure acts h)
+broken_asked : (who row : ℕ) (newly : Bool) (told : List Told) → Passes row reasons.Request newly told → Breaks who row None told
+broken_asked who row true told h = Breaks.asked told h
+broken_asked who row false told h = Breaks.had_been None told h
 
-pub break_ends_none : (row r : ℕ) (failure : Option ℕ) (acts : List JobAct) → IsBreak row failure acts → list_any (finishes r) acts ≡ false
-break_ends_none row r failure acts h = none_in (finishes r) (λ q reason. refl) any_reason acts (break_cancels row failure acts h)
-
--- ---- what broke off
-
-up_none : (newly : Bool) → up_after newly None []
-up_none true = refl
-up_none false = refl
-
-up_not_newly : (newly : Bool) (failure : Option ℕ) → newly ≡ false → up_after newly failure []
-up_not_newly true failure e = cc
-up_not_newly false failure e = refl
-
-up_newly : (newly : Bool) (f : ℕ) (up : List JobAct) → newly ≡ true → list_all (is_cancel is_for_family) up ≡ true → up_after newly (Some f) up
-up_newly true f up e h = h
-up_newly false f up e h = cc
-
-pub broken_request : (who row : ℕ) (newly : Bool) (a b : Floor) (i j : List Item) (count : ℕ) → IsPass who row reasons.Request newly a b i j count → IsBroken who row None a b i j
-broken_request who row newly a b i j count h = record {
-  cancels = own_cancel newly row reasons.Request ++ h.acts;
+-- on request
+pub broken_request : (who row : ℕ) (failure : Option ℕ) (newly : Bool) (a b : Floor) (i j : List Item) (count : ℕ) → failure ≡ None → Legal b.shape b.seen → OwnsBody who (replay a.seen row) → IsPass who row reasons.Request newly a b i j count → IsBroken who row failure a b i j
+broken_request who row failure newly a b i j count is l m h = record {
+  told = h.told;
+  breaks = subst (λ (f : Option ℕ). Breaks who row f h.told) (sym is) (broken_asked who row newly h.told h.group);
+  cancels = pass_cancels who row reasons.Request newly a b i j count h;
   noted = h.noted;
-  breaks = record { newly = newly; below = h.acts; up = []; is_below = for_parents (replay b.seen) row h.acts h.cancels; is_up = up_none newly; all = ap (λ (l : List JobAct). own_cancel newly row reasons.Request ++ l) (sym (nothing_more h.acts)) };
+  owned = passed_owned who row row reasons.Request newly a b i j count l h m;
   here = h.all.here;
 }
 
-pub broken_before : (who row f : ℕ) (newly : Bool) (a b : Floor) (i j : List Item) (count : ℕ) → newly ≡ false → IsPass who row (reasons.Own f) newly a b i j count → IsBroken who row (Some f) a b i j
-broken_before who row f newly a b i j count e h = record {
-  cancels = own_cancel newly row (reasons.Own f) ++ h.acts;
+own_breaks : (who row f : ℕ) (newly : Bool) (told : List Told) → (newly ≡ true → row ≢ who) → Passes row (reasons.Own f) newly told → Breaks who row (Some f) told
+own_breaks who row f true told n h = Breaks.scope_fails f told (n refl) h
+own_breaks who row f false told n h = Breaks.had_been (Some f) told h
+
+-- it was not newly cancelled, or is not the coroutine's own
+pub not_both : (newly : Bool) (row who : ℕ) → ((newly ≡ true) × (row ≢ who)) ⊎ (newly ≡ false) → newly ≡ true → row ≢ who
+not_both newly row who h n = ⊎_elim (λ a. a.1) (λ b. absurd (let k : true ≡ false = sym n ∙ b in cc)) h
+
+-- by a failure, without taking it up: the Job had been cancelled, or is a scope's
+pub broken_own : (who row f : ℕ) (failure : Option ℕ) (newly : Bool) (a b : Floor) (i j : List Item) (count : ℕ) → failure ≡ Some f → (newly ≡ true → row ≢ who) → Legal b.shape b.seen → OwnsBody who (replay a.seen row) → IsPass who row (reasons.Own f) newly a b i j count → IsBroken who row failure a b i j
+broken_own who row f failure newly a b i j count is n l m h = record {
+  told = h.told;
+  breaks = subst (λ (o : Option ℕ). Breaks who row o h.told) (sym is) (own_breaks who row f newly h.told n h.group);
+  cancels = pass_cancels who row (reasons.Own f) newly a b i j count h;
   noted = h.noted;
-  breaks = record { newly = newly; below = h.acts; up = []; is_below = for_parents (replay b.seen) row h.acts h.cancels; is_up = up_not_newly newly (Some f) e; all = ap (λ (l : List JobAct). own_cancel newly row (reasons.Own f) ++ l) (sym (nothing_more h.acts)) };
+  owned = passed_owned who row row (reasons.Own f) newly a b i j count l h m;
   here = h.all.here;
 }
 
-pub broken_now : (who row f : ℕ) (newly : Bool) (a b c : Floor) (i j k : List Item) (count : ℕ) → newly ≡ true → Legal c.shape c.seen → IsPass who row (reasons.Own f) newly a b i j count → IsFailedUp who row b c j k → IsBroken who row (Some f) a c i k
-broken_now who row f newly a b c i j k count e l h u = record {
-  cancels = (own_cancel newly row (reasons.Own f) ++ h.acts) ++ u.acts;
-  noted = noted_then who (own_cancel newly row (reasons.Own f) ++ h.acts) u.acts a b c i j k h.noted u.noted;
-  breaks = record { newly = newly; below = h.acts; up = u.acts; is_below = for_parents (replay b.seen) row h.acts h.cancels; is_up = up_newly newly f u.acts e (goes_by_family (replay c.seen) row u.acts u.up); all = append_assoc (own_cancel newly row (reasons.Own f)) h.acts u.acts };
-  here = prefix_keeps _ cancelling_lasts c.shape b.seen c.seen row l u.noted.added.longer h.all.here;
-}
+alive : (x : Option Job) → is_some x ≡ true → has_ended x ≡ false → IsAlive x
+alive None s e = cc
+alive (Some j) s e = e
 
--- ---- at rest
+owned_some : (who : ℕ) (x : Option Job) → OwnsBody who x → is_some x ≡ true
+owned_some who None h = absurd h
+owned_some who (Some j) h = refl
 
-pub rests_before : (who row f : ℕ) (newly : Bool) (a b : Floor) (i j : List Item) (count : ℕ) → newly ≡ false → Legal b.shape b.seen → IsPass who row (reasons.Own f) newly a b i j count → StaysAtRest a b
-rests_before who row f newly a b i j count e l h = λ alone rest. subst (λ (n : Bool). RestsBut None (if n then Some row else None) (replay b.seen)) e (own_rests who row f newly a b i j count alone l h rest)
+fails_so : (who row f : ℕ) (up : List JobAct) (newly : Bool) (pass : List Told) → newly ≡ true → row ≡ who → Passes row (reasons.Own f) newly pass → Breaks who row (Some f) (pass ++ (map did up ++ on_jobs (FailedUp row up) ∷ []))
+fails_so who row f up true pass n e h = Breaks.fails f up pass _ e h refl
+fails_so who row f up false pass n e h = cc
 
-pub pass_cancels : (tree : Tree) (row : ℕ) (newly : Bool) (reason : Reason) (acts : List JobAct) → AreCancelsBelow tree row acts → list_all (is_cancel any_reason) (own_cancel newly row reason ++ acts) ≡ true
-unfolding any_reason
-pass_cancels tree row newly reason acts h = both any_reason (own_cancel newly row reason) acts (own_cancels newly row reason) (wider is_for_parent any_reason (λ m e. refl) acts (for_parents tree row acts h))
+-- by a failure of the coroutine, which was taken up
+pub broken_up : (who row f : ℕ) (failure : Option ℕ) (newly : Bool) (a b c : Floor) (i j k : List Item) (count : ℕ) → failure ≡ Some f → newly ≡ true → row ≡ who → Legal b.shape b.seen → Legal c.shape c.seen → OwnsBody who (replay a.seen row)
+    → IsPass who row (reasons.Own f) newly a b i j count → IsFailedUp who row b c j k → IsBroken who row failure a c i k
+broken_up who row f failure newly a b c i j k count is n e lb lc m h u =
+    let owned_b = passed_owned who row row (reasons.Own f) newly a b i j count lb h m in
+    let up_added : Added who u.acts [] b c = subst (λ (l : List JobAct). Added who l [] b c) (acts_did u.acts) u.noted.added in
+    let owned_c = owned_body_kept who row u.acts [] b c lc up_added (up_ends_none (replay c.seen) row row u.acts u.up) owned_b in
+    let lives : IsAlive (replay c.seen row) = alive (replay c.seen row) (owned_some who (replay c.seen row) owned_c) (owned_not_ended who (replay c.seen row) owned_c ((replay_families c.shape c.seen lc).rows row)) in
+    record {
+      told = h.told ++ (map did u.acts ++ on_jobs (FailedUp row u.acts) ∷ []);
+      breaks = subst (λ (o : Option ℕ). Breaks who row o (h.told ++ (map did u.acts ++ on_jobs (FailedUp row u.acts) ∷ []))) (sym is) (fails_so who row f u.acts newly h.told n e h.group);
+      cancels = told_cancels h.told (map did u.acts ++ on_jobs (FailedUp row u.acts) ∷ []) (pass_cancels who row (reasons.Own f) newly a b i j count h) (ap (list_all is_cancel) (climb_acts row u.acts) ∙ up_cancels (replay c.seen) row u.acts u.up);
+      noted = told_then who [] [] a b c i j k h.told (map did u.acts ++ on_jobs (FailedUp row u.acts) ∷ []) h.noted (told_so who [] b c j k (map did u.acts) (FailedUp row u.acts) u.noted (u.up, lives));
+      owned = owned_c;
+      here = prefix_keeps IsCancellingOrEnded cancelling_lasts c.shape b.seen c.seen row lc up_added.longer h.all.here;
+    }
 
-pass_ends_no_body : (tree : Tree) (row r : ℕ) (newly : Bool) (reason : Reason) (acts : List JobAct) → AreCancelsBelow tree row acts → list_any (ends_body r) (own_cancel newly row reason ++ acts) ≡ false
-pass_ends_no_body tree row r newly reason acts h = none_in (ends_body r) (λ q m. refl) any_reason (own_cancel newly row reason ++ acts) (pass_cancels tree row newly reason acts h)
+-- ---- the whole first part
 
-pub pass_ends_no_job : (tree : Tree) (row r : ℕ) (newly : Bool) (reason : Reason) (acts : List JobAct) → AreCancelsBelow tree row acts → list_any (finishes r) (own_cancel newly row reason ++ acts) ≡ false
-pass_ends_no_job tree row r newly reason acts h = none_in (finishes r) (λ q m. refl) any_reason (own_cancel newly row reason ++ acts) (pass_cancels tree row newly reason acts h)
+looked_roomed : (who n : ℕ) (a b c : Floor) → Looked who [] a b → HasRoom n b c → Added who [] [] a c
+looked_roomed who n a b c h k = added_then who [] [] [] [] a b c (added_looked who [] a b h) (added_room who n b c k)
 
-pub rests_now : (who row f : ℕ) (newly : Bool) (a b c : Floor) (i j k : List Item) (count : ℕ) → newly ≡ true → Legal b.shape b.seen → Legal c.shape c.seen → MayEndBody who (replay a.seen row) → IsPass who row (reasons.Own f) newly a b i j count → IsFailedUp who row b c j k → StaysAtRest a c
-rests_now who row f newly a b c i j k count e lb lc m h u = λ alone rest.
-    let own = own_body_kept who row (own_cancel newly row (reasons.Own f) ++ h.acts) [] a b lb h.noted.added (pass_ends_no_body (replay b.seen) row row newly (reasons.Own f) h.acts h.cancels) m in
-    fail_up_rests who row b c j k (h.noted.added.same.alone ∙ alone) lc (body_not_ended b.shape b.seen who row lb own) u
-    (subst (λ (n : Bool). RestsBut None (if n then Some row else None) (replay b.seen)) e (own_rests who row f newly a b i j count alone lb h rest))
+pub owned_roomed : (who row n : ℕ) (a b c : Floor) → Legal c.shape c.seen → Looked who [] a b → HasRoom n b c → OwnsBody who (replay a.seen row) → OwnsBody who (replay c.seen row)
+owned_roomed who row n a b c l h k m = owned_body_kept who row [] [] a c l (looked_roomed who n a b c h k) refl m
 
--- ---- still Cancelling
+pub call_roomed : (who row n : ℕ) (a b c : Floor) → Legal c.shape c.seen → Looked who [] a b → HasRoom n b c → MayCall who row a → MayCall who row c
+call_roomed who row n a b c l h k m = let all = looked_roomed who n a b c h k in may_later who row a c all.same all.longer l m
 
-cancelling_yet : (s : JobState) → is_cancellable s ≡ false → (is_bodiless s ≡ true → ⊥) → s ≡ Cancelling
-cancelling_yet New e h = cc
-cancelling_yet Active e h = cc
-cancelling_yet Completing e h = cc
-cancelling_yet Cancelling e h = refl
-cancelling_yet Cancelled e h = absurd (h refl)
-cancelling_yet Completed e h = absurd (h refl)
+pub reason_roomed : (who row n : ℕ) (reason : Reason) (a b c : Floor) → Legal c.shape c.seen → Looked who [] a b → HasRoom n b c → Holds a.shape (replay a.seen) who row reason → Holds c.shape (replay c.seen) who row reason
+reason_roomed who row n reason a b c l h k m = let all = looked_roomed who n a b c h k in holds_later who row reason a c all.same all.longer l m
 
-row_cancelling : (who : ℕ) (x : Option Job) → IsSoundRow x → MayEndBody who x → IsCancellingOrEnded x → state_of x ≡ Some Cancelling
-row_cancelling who None s m h = absurd h
-row_cancelling who (Some j) s m h = ap (λ (t : JobState). Some t) (cancelling_yet j.state h (λ b. let k : true ≡ false = sym (s.bodiless b) ∙ m.2 in cc))
+-- no memory
+pub told_not : (who : ℕ) (a b c : Floor) (i j : List Item) → Looked who [] a b → c ≡ b → j ≡ i → ToldOnJobs who [] a c i j []
+told_not who a b c i j h e f = told_after who [] a b c i i j [] (added_looked who [] a b h) refl (told_none who b c i j e f)
 
--- a Job whose body may be ended is Cancelling, where it is Cancelling or ended
-pub is_cancelling_yet : (shape : Shape) (who row : ℕ) (a : Floor) → Legal shape a.seen → MayEndBody who (replay a.seen row) → IsCancellingOrEnded (replay a.seen row) → state_of (replay a.seen row) ≡ Some Cancelling
-is_cancelling_yet shape who row a l m h = row_cancelling who (replay a.seen row) ((replay_families shape a.seen l).rows row) m h
+-- the Job was cancelled so
+pub cancelled_so : (who row n : ℕ) (failure : Option ℕ) (a b c d : Floor) (i j k : List Item) → Looked who [] a b → HasRoom n b c → j ≡ i → Legal d.shape d.seen → IsBroken who row failure c d j k → IsCancelledFirst who row failure a d i k
+cancelled_so who row n failure a b c d i j k look room e l h =
+    let sound = (replay_families d.shape d.seen l).rows row in
+    record {
+      told = h.told;
+      breaks = h.breaks;
+      cancels = h.cancels;
+      noted = told_so who [] a d i k h.told (IsCancelling row) (told_after who [] a b d i i k h.told (added_looked who [] a b look) refl (told_roomed who n [] b c d i j k h.told room e h.noted)) (owned_cancelling who (replay d.seen row) h.owned sound h.here);
+      may = may_end_cancelled who (replay d.seen row) h.owned h.here;
+    }
 
-pub broken_as : (who row : ℕ) (failure failure' : Option ℕ) (a b : Floor) (i j : List Item) → failure ≡ failure' → IsBroken who row failure' a b i j → IsBroken who row failure a b i j
-broken_as who row failure failure' a b i j e h = subst (λ (o : Option ℕ). IsBroken who row o a b i j) (sym e) h
+cancelling_past : (x : Option Job) → state_of x ≡ Some Cancelling → IsCancellingOrEnded x
+cancelling_past None e = cc
+cancelling_past (Some j) e = ap is_cancellable (let k : j.state ≡ Cancelling = cc in k)
+
+-- it was seen Cancelling
+pub cancelled_seen : (who row : ℕ) (failure : Option ℕ) (a b : Floor) (i j : List Item) → j ≡ i → Legal b.shape b.seen → OwnsBody who (replay a.seen row) → Looked who [] a b → AtStep a b (λ tree. state_of (tree row) ≡ Some Cancelling) → IsCancelledFirst who row failure a b i j
+cancelled_seen who row failure a b i j e l m look at =
+    let owned = owned_body_kept who row [] [] a b l (added_looked who [] a b look) refl m in
+    let here = prefix_keeps IsCancellingOrEnded cancelling_lasts b.shape at.moment b.seen row l at.before (cancelling_past (replay at.moment row) at.holds) in
+    record {
+      told = [];
+      breaks = Breaks.seen failure;
+      cancels = none_cancels;
+      noted = told_fact who [] a b i j (IsCancelling row) e (added_looked who [] a b look) (looked_moment who [] a b (JobFactHolds (IsCancelling row)) look at);
+      may = may_end_cancelled who (replay b.seen row) owned here;
+    }

@@ -1,6 +1,3 @@
-pub mod Rest
-pub mod Origins
-pub mod Groups
-pub mod Closes
+pub mod Dones
 pub mod Calls
 pub mod Parts

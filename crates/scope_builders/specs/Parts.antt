@@ -1,41 +1,61 @@
 -- What the parts of a call come to.
-use Rattle.std.specs.Prelude.{◌≡◌, ℕ, ◌+◌, true, List, [], Option, Some, None, is_some}
-use Rattle.channel_model.specs.Histories.{replay as replay_channels}
+use Rattle.std.specs.Prelude.{◌≡◌, ℕ, Bool, true, false, List, [], ◌∷◌, ◌++◌, Option, Some, Result, OnOk}
+use Rattle.std.specs.List.{list_all}
+use Rattle.co_base.specs.declared.names.Memory.{Memory}
 use Rattle.channel_model.specs.Floors.{Floor as ChannelFloor}
 use Rattle.job_model.specs.declared.acts.JobAct.{JobAct}
+use Rattle.job_model.specs.declared.acts.JobAct.TheVariants.{Attach, Start, EndBody, Cancel, Finish, Gone}
+use Rattle.job_model.specs.declared.acts.JobState.TheVariants.{Cancelling}
+use Rattle.job_model.specs.Trees.{state_of}
+use Rattle.job_model.specs.Needs.{OwnsBody, MayEndBody}
 use Rattle.job_model.specs.Families.{IsCancellingOrEnded}
-use Rattle.job_model.specs.Laws.{has_ended}
 use Rattle.job_model.specs.Histories.{replay}
-use Rattle.job_model.specs.Floors.{Floor}
+use Rattle.job_model.specs.Floors.{Floor, Looked, AtStep}
 use Rattle.note_book.specs.declared.book.Item.{Item}
-use Rattle.job_tree.specs.Notes.{Noted}
-use Rattle.scope_builders.specs.Rest.{RestsBut, AtRest}
-use Rattle.scope_builders.specs.Groups.{IsBreak, IsChain, ClosesAtOnce}
-use Rattle.scope_builders.specs.Calls.{Did}
+use Rattle.note_book.specs.Items.{job_acts_in}
+use Rattle.call_meaning.specs.Telling.{Told, on_jobs, IsCancelling, items_in}
+use Rattle.call_meaning.specs.JobCalls.{Breaks, Chain}
+use Rattle.call_meaning.specs.Calls.{ToldOnJobs, ToldOnBoth}
+use Rattle.scope_builders.specs.Dones.{KeepsDones}
 
--- a tree at rest stays at rest
-abbrev pub StaysAtRest : Floor → Floor → Type 0
-StaysAtRest old new = old.alone ≡ true → AtRest (replay old.seen) → AtRest (replay new.seen)
+-- the Job was seen Cancelling, or nothing is said
+abbrev pub SeenAnswer : ℕ → ℕ → Floor → Floor → Bool → Type 0
+SeenAnswer who row old new true = Looked who [] old new × AtStep old new (λ tree. state_of (tree row) ≡ Some Cancelling)
+SeenAnswer who row old new false = Looked who [] old new
 
--- a tree at rest but for the end of this Job comes to rest
-abbrev pub EndsAtRest : ℕ → Floor → Floor → Type 0
-EndsAtRest row old new = old.alone ≡ true → RestsBut (Some row) None (replay old.seen) → AtRest (replay new.seen)
+abbrev pub is_cancel : JobAct → Bool
+is_cancel (Attach p r kind tag cancelled) = false
+is_cancel (Start r) = false
+is_cancel (EndBody r v) = false
+is_cancel (Cancel r reason) = true
+is_cancel (Finish r end) = false
+is_cancel (Gone r) = false
 
--- the done channels of the ended Jobs, and only these, are closed
-abbrev pub AreClosed : ℕ → ChannelFloor → Floor → Type 0
-AreClosed base channels jobs = (r : ℕ) → is_some ((replay_channels channels.seen).channels (base + r)).closed ≡ has_ended (replay jobs.seen r)
+-- what was told has no act but Cancels
+abbrev pub AreCancels : List Told → Type 0
+AreCancels told = list_all is_cancel (job_acts_in (items_in told)) ≡ true
 
--- the caller's own Job was cancelled with all below it, and a failure went up
+-- the cancellations with which a body breaks off were told; in the end its Job is Cancelling, and the body may end
 pub record IsBroken (who row : ℕ) (failure : Option ℕ) (old new : Floor) (items items' : List Item) : Type 0 where
-  pub cancels : List JobAct
-  pub noted : Noted who cancels old new items items'
-  pub breaks : IsBreak row failure cancels
+  pub told : List Told
+  pub breaks : Breaks who row failure told
+  pub cancels : AreCancels told
+  pub noted : ToldOnJobs who [] old new items items' told
+  pub owned : OwnsBody who (replay new.seen row)
   pub here : IsCancellingOrEnded (replay new.seen row)
 
--- the chain of ends from a Job upwards
-pub record FinishedUp (who base row : ℕ) (c c' : ChannelFloor) (j j' : Floor) (items items' : List Item) : Type 0 where
-  pub chain : List Item
-  pub is_chain : IsChain base (replay j'.seen) row chain
-  pub did : Did who chain [] c c' j j' items items'
-  pub closes : c.alone ≡ true → j.alone ≡ true → AreClosed base c j → ClosesAtOnce base chain
-  pub closed : c.alone ≡ true → j.alone ≡ true → AreClosed base c j → AreClosed base c' j'
+-- the Job was cancelled so, or was seen Cancelling
+pub record IsCancelledFirst (who row : ℕ) (failure : Option ℕ) (old new : Floor) (items items' : List Item) : Type 0 where
+  pub told : List Told
+  pub breaks : Breaks who row failure told
+  pub cancels : AreCancels told
+  pub noted : ToldOnJobs who [] old new items items' (told ++ on_jobs (IsCancelling row) ∷ [])
+  pub may : MayEndBody who (replay new.seen row)
+
+-- the chain of ends from a Job upwards; without memory it stops
+pub record FinishedUp (who base row : ℕ) (c c' : ChannelFloor) (j j' : Floor) (items items' : List Item)
+    (result : Result (Unit {0}) Memory) : Type 0 where
+  pub told : List Told
+  pub chain : OnOk result (Chain base row told)
+  pub noted : ToldOnBoth who [] c c' j j' items items' told
+  pub dones : KeepsDones base c c' j j' (items_in told)

@@ -10,7 +10,7 @@ pub struct Builder<'channels, 'jobs, 'book, 'wakes, C, J, B, W> {
     pub book: &'book mut B,
     pub wakes: &'wakes mut W,
     pub who: Tag,
-    /// The done channel of the row r is `base + r`.
+    /// The done channel of the row r is `done_channel(base, r)`.
     pub base: ChannelId,
 }
 

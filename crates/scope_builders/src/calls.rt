@@ -1,13 +1,13 @@
 //! The calls.
 
-ghost use Rattle.std.specs.Prelude.{◌≡◌, ◌<◌, true, is_some, OnOk};
-ghost use Rattle.job_model.specs.Needs.{Holds, MayEndBody};
+ghost use Rattle.std.specs.Prelude.{◌≡◌, ◌<◌, true, is_some};
+ghost use Rattle.job_model.specs.Needs.{Holds, OwnsBody, MayEndBody};
 ghost use Rattle.job_model.specs.Histories.{replay};
-ghost use Rattle.scope_builders.specs.Groups.{reason_for};
-ghost use Rattle.scope_builders.specs.Calls.{MayBuild, StaysSettled, LaunchAnswer, StartedAnswer, CancelledAnswer, EndedAnswer, BrokenAnswer};
+ghost use Rattle.call_meaning.specs.JobCalls.{reason_for};
+ghost use Rattle.scope_builders.specs.Calls.{SameBuilder, MayBuild, LaunchAnswer, StartedAnswer, CancelledAnswer, EndedAnswer, BrokenAnswer};
 
 use crate::builder::{Builder, LaunchError};
-use crate::parts::{break_off, finish_up, make_room, pass, wake_job};
+use crate::parts::{cancel_first, finish_up, make_room, pass, wake_job};
 use channel_model::ChannelFloor;
 use co_base::{Memory, Row, Tag, Value, Wakes};
 use job_model::{AttachError, Attached, Ended, JobAct, JobFloor, JobKind, JobNote, Reason};
@@ -19,17 +19,10 @@ impl<C: ChannelFloor, J: JobFloor, B: NoteBook, W: Wakes> Builder<'_, '_, '_, '_
         requires may { MayBuild self.old.who self.old.base (C.view self.old.channels.now) (J.view self.old.jobs.now) }
         requires parent { is_some (replay (J.view self.old.jobs.now).seen parent) ≡ true }
         requires tag { tag < (J.view self.old.jobs.now).shape.coroutines }
-        ensures same_channels { self.new.channels.ghost_name ≡ self.old.channels.ghost_name }
-        ensures same_jobs { self.new.jobs.ghost_name ≡ self.old.jobs.ghost_name }
-        ensures same_book { self.new.book.ghost_name ≡ self.old.book.ghost_name }
-        ensures same_wakes { self.new.wakes.ghost_name ≡ self.old.wakes.ghost_name }
-        ensures who { self.new.who ≡ self.old.who }
-        ensures base { self.new.base ≡ self.old.base }
+        ensures same { SameBuilder C.anchor J.anchor self.old self.new }
         ensures channels { self.new.channels.now ≡ self.old.channels.now }
-        ensures channels_anchor { C.anchor self.new.channels.now ≡ C.anchor self.old.channels.now }
-        ensures jobs_anchor { J.anchor self.new.jobs.now ≡ J.anchor self.old.jobs.now }
-        ensures settled { StaysSettled self.old.base (C.view self.old.channels.now) (C.view self.new.channels.now) (J.view self.old.jobs.now) (J.view self.new.jobs.now) }
-        ensures answer { LaunchAnswer self.old.who parent tag lazy (C.view self.old.channels.now) (C.view self.new.channels.now) (J.view self.old.jobs.now) (J.view self.new.jobs.now) (B.items self.old.book.now) (B.items self.new.book.now) result }
+        ensures answer { LaunchAnswer self.old.who parent tag lazy (J.view self.old.jobs.now) (J.view self.new.jobs.now)
+            (B.items self.old.book.now) (B.items self.new.book.now) result }
     {
         if let Err(_memory) = make_room(self.jobs, self.book, 1) {
             return Err(LaunchError::Memory);
@@ -70,17 +63,10 @@ impl<C: ChannelFloor, J: JobFloor, B: NoteBook, W: Wakes> Builder<'_, '_, '_, '_
     pub fn start(&mut self, row: Row) -> Result<bool, Memory>
         requires may { MayBuild self.old.who self.old.base (C.view self.old.channels.now) (J.view self.old.jobs.now) }
         requires row { is_some (replay (J.view self.old.jobs.now).seen row) ≡ true }
-        ensures same_channels { self.new.channels.ghost_name ≡ self.old.channels.ghost_name }
-        ensures same_jobs { self.new.jobs.ghost_name ≡ self.old.jobs.ghost_name }
-        ensures same_book { self.new.book.ghost_name ≡ self.old.book.ghost_name }
-        ensures same_wakes { self.new.wakes.ghost_name ≡ self.old.wakes.ghost_name }
-        ensures who { self.new.who ≡ self.old.who }
-        ensures base { self.new.base ≡ self.old.base }
+        ensures same { SameBuilder C.anchor J.anchor self.old self.new }
         ensures channels { self.new.channels.now ≡ self.old.channels.now }
-        ensures channels_anchor { C.anchor self.new.channels.now ≡ C.anchor self.old.channels.now }
-        ensures jobs_anchor { J.anchor self.new.jobs.now ≡ J.anchor self.old.jobs.now }
-        ensures settled { StaysSettled self.old.base (C.view self.old.channels.now) (C.view self.new.channels.now) (J.view self.old.jobs.now) (J.view self.new.jobs.now) }
-        ensures answer { StartedAnswer self.old.who row (C.view self.old.channels.now) (C.view self.new.channels.now) (J.view self.old.jobs.now) (J.view self.new.jobs.now) (B.items self.old.book.now) (B.items self.new.book.now) result }
+        ensures answer { StartedAnswer self.old.who row (J.view self.old.jobs.now) (J.view self.new.jobs.now)
+            (B.items self.old.book.now) (B.items self.new.book.now) result }
     {
         if let Err(memory) = make_room(self.jobs, self.book, 1) {
             return Err(memory);
@@ -98,17 +84,10 @@ impl<C: ChannelFloor, J: JobFloor, B: NoteBook, W: Wakes> Builder<'_, '_, '_, '_
     pub fn cancel(&mut self, row: Row) -> Result<u32, Memory>
         requires may { MayBuild self.old.who self.old.base (C.view self.old.channels.now) (J.view self.old.jobs.now) }
         requires row { is_some (replay (J.view self.old.jobs.now).seen row) ≡ true }
-        ensures same_channels { self.new.channels.ghost_name ≡ self.old.channels.ghost_name }
-        ensures same_jobs { self.new.jobs.ghost_name ≡ self.old.jobs.ghost_name }
-        ensures same_book { self.new.book.ghost_name ≡ self.old.book.ghost_name }
-        ensures same_wakes { self.new.wakes.ghost_name ≡ self.old.wakes.ghost_name }
-        ensures who { self.new.who ≡ self.old.who }
-        ensures base { self.new.base ≡ self.old.base }
+        ensures same { SameBuilder C.anchor J.anchor self.old self.new }
         ensures channels { self.new.channels.now ≡ self.old.channels.now }
-        ensures channels_anchor { C.anchor self.new.channels.now ≡ C.anchor self.old.channels.now }
-        ensures jobs_anchor { J.anchor self.new.jobs.now ≡ J.anchor self.old.jobs.now }
-        ensures settled { StaysSettled self.old.base (C.view self.old.channels.now) (C.view self.new.channels.now) (J.view self.old.jobs.now) (J.view self.new.jobs.now) }
-        ensures answer { CancelledAnswer self.old.who row (C.view self.old.channels.now) (C.view self.new.channels.now) (J.view self.old.jobs.now) (J.view self.new.jobs.now) (B.items self.old.book.now) (B.items self.new.book.now) result }
+        ensures answer { CancelledAnswer self.old.who row (J.view self.old.jobs.now) (J.view self.new.jobs.now)
+            (B.items self.old.book.now) (B.items self.new.book.now) result }
     {
         let rows = u32::from(self.jobs.rows());
         if let Err(memory) = make_room(self.jobs, self.book, rows) {
@@ -125,20 +104,14 @@ impl<C: ChannelFloor, J: JobFloor, B: NoteBook, W: Wakes> Builder<'_, '_, '_, '_
         Ok(passed.count)
     }
 
-    /// Ends the body of the caller's own Job with a value, then the Job and its parents, as far as their ends are owed.
+    /// Ends the body of the caller's own Job with a value, then the Job and its parents, as far as their ends are owed. Memory: the
+    /// entries made so far stand and are noted.
     pub fn end_job(&mut self, row: Row, value: Value) -> Result<Ended, Memory>
         requires may { MayBuild self.old.who self.old.base (C.view self.old.channels.now) (J.view self.old.jobs.now) }
         requires own { MayEndBody self.old.who (replay (J.view self.old.jobs.now).seen row) }
-        ensures same_channels { self.new.channels.ghost_name ≡ self.old.channels.ghost_name }
-        ensures same_jobs { self.new.jobs.ghost_name ≡ self.old.jobs.ghost_name }
-        ensures same_book { self.new.book.ghost_name ≡ self.old.book.ghost_name }
-        ensures same_wakes { self.new.wakes.ghost_name ≡ self.old.wakes.ghost_name }
-        ensures who { self.new.who ≡ self.old.who }
-        ensures base { self.new.base ≡ self.old.base }
-        ensures channels_anchor { C.anchor self.new.channels.now ≡ C.anchor self.old.channels.now }
-        ensures jobs_anchor { J.anchor self.new.jobs.now ≡ J.anchor self.old.jobs.now }
-        ensures settled { OnOk result (StaysSettled self.old.base (C.view self.old.channels.now) (C.view self.new.channels.now) (J.view self.old.jobs.now) (J.view self.new.jobs.now)) }
-        ensures answer { EndedAnswer self.old.who self.old.base row value (C.view self.old.channels.now) (C.view self.new.channels.now) (J.view self.old.jobs.now) (J.view self.new.jobs.now) (B.items self.old.book.now) (B.items self.new.book.now) result }
+        ensures same { SameBuilder C.anchor J.anchor self.old self.new }
+        ensures answer { EndedAnswer self.old.who self.old.base row value (C.view self.old.channels.now) (C.view self.new.channels.now)
+            (J.view self.old.jobs.now) (J.view self.new.jobs.now) (B.items self.old.book.now) (B.items self.new.book.now) result }
     {
         if let Err(memory) = make_room(self.jobs, self.book, 1) {
             return Err(memory);
@@ -163,28 +136,23 @@ impl<C: ChannelFloor, J: JobFloor, B: NoteBook, W: Wakes> Builder<'_, '_, '_, '_
         }
     }
 
-    /// Breaks the body of the caller's own Job off: cancels the Job with all below it, by the failure of a row or as cancelled, takes a failure up
-    /// to the parents, and ends the body.
+    /// Breaks the body of the caller's own Job off: cancels the Job with all below it, by the failure of a row or as cancelled, takes
+    /// the failure of a coroutine up to its parents, and ends the body. Where the Job is seen Cancelling, whoever cancelled it does
+    /// that, and this call ends the body alone. Memory: the entries made so far stand and are noted.
     pub fn break_job(&mut self, row: Row, failure: Option<Row>) -> Result<Ended, Memory>
         requires may { MayBuild self.old.who self.old.base (C.view self.old.channels.now) (J.view self.old.jobs.now) }
-        requires own { MayEndBody self.old.who (replay (J.view self.old.jobs.now).seen row) }
+        requires own { OwnsBody self.old.who (replay (J.view self.old.jobs.now).seen row) }
         requires reason { Holds (J.view self.old.jobs.now).shape (replay (J.view self.old.jobs.now).seen) self.old.who row (reason_for failure) }
-        ensures same_channels { self.new.channels.ghost_name ≡ self.old.channels.ghost_name }
-        ensures same_jobs { self.new.jobs.ghost_name ≡ self.old.jobs.ghost_name }
-        ensures same_book { self.new.book.ghost_name ≡ self.old.book.ghost_name }
-        ensures same_wakes { self.new.wakes.ghost_name ≡ self.old.wakes.ghost_name }
-        ensures who { self.new.who ≡ self.old.who }
-        ensures base { self.new.base ≡ self.old.base }
-        ensures channels_anchor { C.anchor self.new.channels.now ≡ C.anchor self.old.channels.now }
-        ensures jobs_anchor { J.anchor self.new.jobs.now ≡ J.anchor self.old.jobs.now }
-        ensures settled { OnOk result (StaysSettled self.old.base (C.view self.old.channels.now) (C.view self.new.channels.now) (J.view self.old.jobs.now) (J.view self.new.jobs.now)) }
-        ensures answer { BrokenAnswer self.old.who self.old.base row failure (C.view self.old.channels.now) (C.view self.new.channels.now) (J.view self.old.jobs.now) (J.view self.new.jobs.now) (B.items self.old.book.now) (B.items self.new.book.now) result }
+        ensures same { SameBuilder C.anchor J.anchor self.old self.new }
+        ensures answer { BrokenAnswer self.old.who self.old.base row failure
+            (C.view self.old.channels.now) (C.view self.new.channels.now) (J.view self.old.jobs.now) (J.view self.new.jobs.now)
+            (B.items self.old.book.now) (B.items self.new.book.now) result }
     {
-        let rows = u32::from(self.jobs.rows());
-        if let Err(memory) = make_room(self.jobs, self.book, rows) {
+        if let Err(memory) = cancel_first(
+            self.jobs, self.book, self.wakes, self.who, row, failure,
+        ) {
             return Err(memory);
         }
-        break_off(self.jobs, self.book, self.wakes, self.who, row, failure);
         self.end_job(row, 0)
     }
 }

@@ -1,18 +1,21 @@
 //! The done channels of Jobs that end.
 
-ghost use Rattle.std.specs.Prelude.{◌≡◌, nat_lt, []};
+ghost use Rattle.std.specs.Prelude.{◌≡◌, ◌+◌, ◌<◌, ◌≤◌, nat_lt, []};
 ghost use Rattle.std.proofs.Props.{props};
-ghost use Rattle.channel_model.specs.Floors.{Added};
-ghost use Rattle.scope_builders.specs.Groups.{value_of};
-ghost use Rattle.scope_builders.specs.Closes.{MayClose, EndsDone};
+ghost use Rattle.channel_model.specs.Channels.{places_at};
+ghost use Rattle.channel_model.specs.Floors.{Added, MayCall};
+ghost use Rattle.channel_model.specs.Answers.{IsSeenClosed};
+ghost use Rattle.call_meaning.specs.JobCalls.{value_of};
+ghost use Rattle.scope_builders.specs.Dones.{MayClose, ClosedFirst, WokenLast, EndsDone};
 
 use channel_model::{Act, ChannelFloor, ChannelNote};
 use co_base::{ChannelId, Memory, Row, Tag, Value, Wakes};
-use job_model::End;
+use job_model::{End, done_channel};
 use job_tree::Ends;
 use note_book::{Item, NoteBook};
 
-/// Closes the done channel of each Job that ends: that of the row r is `base + r`.
+/// Closes the done channel of each Job that ends, and tells who waits there. That of the row r is `done_channel(base, r)`, of one
+/// place, so that at most one receiver ever stands there.
 pub struct DoneChannels<'a, C: ChannelFloor> {
     pub channels: &'a mut C,
     pub who: Tag,
@@ -32,43 +35,92 @@ fn value_of(end: End) -> Value
     }
 }
 
+/// Closes the channel, or notes that it was closed before.
+fn close_first<C: ChannelFloor, B: NoteBook>(
+    channels: &mut C,
+    book: &mut B,
+    who: Tag,
+    c: ChannelId,
+    value: Value,
+)
+    requires can { MayCall who c (C.view channels.old) }
+    requires room { 0 < (C.view channels.old).spare }
+    requires book { 0 < B.spare book.old }
+    ensures channels_anchor { C.anchor channels.new ≡ C.anchor channels.old }
+    ensures closed { ClosedFirst who c value (C.view channels.old) (C.view channels.new) (B.items book.old) (B.items book.new) }
+    ensures spare { B.spare book.old ≡ B.spare book.new + 1 }
+    ensures left { (C.view channels.old).spare ≤ (C.view channels.new).spare + 1 }
+{
+    match channels.close(who, c, value) {
+        Ok(()) => {
+            let act = Act::Close { c, value };
+            book.note(Item::Channel(ChannelNote::Made(act)));
+        }
+        Err(first) => {
+            let note = ChannelNote::AlreadyClosed { c, v: first.v };
+            book.note(Item::Channel(note));
+        }
+    }
+}
+
+/// Tells the receiver that stands at a closed channel of one place, if one does.
+fn wake_last<C: ChannelFloor, B: NoteBook, W: Wakes>(
+    channels: &mut C,
+    book: &mut B,
+    wakes: &mut W,
+    who: Tag,
+    c: ChannelId,
+)
+    requires can { MayCall who c (C.view channels.old) }
+    requires one_place { places_at (C.view channels.old).shape c ≡ 1 }
+    requires closed { IsSeenClosed c (C.view channels.old) }
+    requires room { 0 < (C.view channels.old).spare }
+    requires book { 0 < B.spare book.old }
+    ensures channels_anchor { C.anchor channels.new ≡ C.anchor channels.old }
+    ensures woken { WokenLast who c (C.view channels.old) (C.view channels.new) (B.items book.old) (B.items book.new)
+        (B.spare book.old) (B.spare book.new) }
+{
+    if let Some((place, tag)) = channels.wake_closed(who, c) {
+        let act = Act::WakeClosed { c, place };
+        book.note(Item::Channel(ChannelNote::Made(act)));
+        wakes.wake(tag);
+    }
+}
+
 impl<C: ChannelFloor, B: NoteBook, W: Wakes> Ends<B, W> for DoneChannels<'_, C> {
-    ghost most = { λ d. 1 };
+    ghost most = { λ d. 2 };
 
-    ghost is_ready = { λ d. nat_lt 0 (C.view d.channels.now).spare };
+    ghost is_ready = { λ d. nat_lt 1 (C.view d.channels.now).spare };
 
-    ghost prepares = { λ d e. (e.channels.ghost_name ≡ d.channels.ghost_name) × (e.who ≡ d.who) × (e.base ≡ d.base) × (e.rows ≡ d.rows) × (C.anchor e.channels.now ≡ C.anchor d.channels.now) × Added d.who [] (C.view d.channels.now) (C.view e.channels.now) };
+    ghost prepares = { λ d e.
+        (e.channels.ghost_name ≡ d.channels.ghost_name) × (e.who ≡ d.who) × (e.base ≡ d.base) × (e.rows ≡ d.rows)
+        × (C.anchor e.channels.now ≡ C.anchor d.channels.now)
+        × Added d.who [] (C.view d.channels.now) (C.view e.channels.now) };
 
-    ghost does = { λ d row end items e. (e.channels.ghost_name ≡ d.channels.ghost_name) × (e.who ≡ d.who) × (e.base ≡ d.base) × (e.rows ≡ d.rows) × (C.anchor e.channels.now ≡ C.anchor d.channels.now) × EndsDone d.who d.base d.rows row end (C.view d.channels.now) (C.view e.channels.now) items };
+    ghost does = { λ d row end items e.
+        (e.channels.ghost_name ≡ d.channels.ghost_name) × (e.who ≡ d.who) × (e.base ≡ d.base) × (e.rows ≡ d.rows)
+        × (C.anchor e.channels.now ≡ C.anchor d.channels.now)
+        × EndsDone d.who d.base d.rows row end (C.view d.channels.now) (C.view e.channels.now) items };
 
     fn ready(&mut self, book: &mut B, more: u32) -> Result<(), Memory> {
-        let Some(notes) = more.checked_add(1) else {
+        let Some(notes) = more.checked_add(2) else {
             return Err(Memory);
         };
         if let Err(memory) = book.room(notes) {
             return Err(memory);
         }
-        if let Err(memory) = self.channels.room(1) {
+        if let Err(memory) = self.channels.room(2) {
             return Err(memory);
         }
         Ok(())
     }
 
-    fn ended(&mut self, book: &mut B, _wakes: &mut W, row: Row, end: End) {
+    fn ended(&mut self, book: &mut B, wakes: &mut W, row: Row, end: End) {
         if row >= self.rows {
             return;
         }
-        let c = self.base + row;
-        let value = value_of(end);
-        match self.channels.close(self.who, c, value) {
-            Ok(()) => {
-                let act = Act::Close { c, value };
-                book.note(Item::Channel(ChannelNote::Made(act)));
-            }
-            Err(first) => {
-                let note = ChannelNote::AlreadyClosed { c, v: first.v };
-                book.note(Item::Channel(note));
-            }
-        }
+        let c = done_channel(self.base, row);
+        close_first(self.channels, book, self.who, c, value_of(end));
+        wake_last(self.channels, book, wakes, self.who, c);
     }
 }

@@ -1,5 +1,6 @@
-//! The calls of one coroutine on its own Job and on those of others, over any floor of channels and any floor of Jobs: to launch, start and
-//! cancel coroutines, and to end a body or break it off. Each entry is noted at once, and each Job that ends has its done channel closed.
+//! The calls of one coroutine on its own Job and on those of others, over any floor of channels and any floor of Jobs: to launch,
+//! start and cancel coroutines, and to end a body or break it off. Each entry is noted at once, and each Job that ends has its done
+//! channel closed and whoever waits there told. What a call tells, and that it was so, is its contract (`call_meaning`).
 //!
 //! - `builder`: who calls, and on what
 //! - `done_channels`: the done channels of Jobs that end
@@ -13,3 +14,4 @@ mod done_channels;
 mod parts;
 
 pub use builder::{Builder, LaunchError};
+pub use job_model::done_channel;

@@ -1,20 +1,21 @@
 //! The parts of the calls.
 
 ghost use Rattle.std.specs.Prelude.{◌≡◌, ◌≤◌, true, is_some, [], OnOk, OnErr};
-ghost use Rattle.job_model.specs.Needs.{Holds, MayEndBody};
+ghost use Rattle.job_model.specs.Needs.{Holds, OwnsBody};
 ghost use Rattle.job_model.specs.Histories.{replay};
 ghost use Rattle.job_model.specs.Floors.{MayCall, HasRoom, Looked};
+ghost use Rattle.call_meaning.specs.JobCalls.{reason_for};
+ghost use Rattle.call_meaning.specs.Calls.{ToldOnJobs};
 ghost use Rattle.job_tree.specs.Rooms.{MayCancelAll};
 ghost use Rattle.job_tree.specs.Passes.{IsPass, IsFailure};
 ghost use Rattle.job_tree.specs.Failures.{IsFailedUp};
-ghost use Rattle.scope_builders.specs.Groups.{reason_for};
 ghost use Rattle.scope_builders.specs.Calls.{MayBuild};
-ghost use Rattle.scope_builders.specs.Parts.{IsBroken, StaysAtRest, FinishedUp, EndsAtRest};
+ghost use Rattle.scope_builders.specs.Parts.{SeenAnswer, IsBroken, IsCancelledFirst, FinishedUp};
 
 use crate::done_channels::DoneChannels;
 use channel_model::ChannelFloor;
 use co_base::{ChannelId, Memory, Row, Tag, Wakes};
-use job_model::{JobFloor, Reason};
+use job_model::{JobFloor, JobState, Reason};
 use job_tree::{JobCaller, Passed};
 use note_book::NoteBook;
 
@@ -62,7 +63,8 @@ pub(crate) fn pass<J: JobFloor, B: NoteBook, W: Wakes>(
     requires reason { Holds (J.view jobs.old).shape (replay (J.view jobs.old).seen) who row reason }
     requires room { MayCancelAll (J.view jobs.old) (B.spare book.old) }
     ensures jobs_anchor { J.anchor jobs.new ≡ J.anchor jobs.old }
-    ensures pass { IsPass who row reason result.newly (J.view jobs.old) (J.view jobs.new) (B.items book.old) (B.items book.new) result.count }
+    ensures pass { IsPass who row reason result.newly (J.view jobs.old) (J.view jobs.new)
+        (B.items book.old) (B.items book.new) result.count }
     ensures room { MayCancelAll (J.view jobs.new) (B.spare book.new) }
 {
     let mut caller = JobCaller {
@@ -110,8 +112,21 @@ fn fail_up<J: JobFloor, B: NoteBook, W: Wakes>(
     } = caller;
 }
 
-/// Cancels the caller's own Job with all below it, by the failure of a row or as cancelled, and takes a failure up to the parents.
-pub(crate) fn break_off<J: JobFloor, B: NoteBook, W: Wakes>(
+/// Whether the Job is seen Cancelling.
+fn is_cancelling<J: JobFloor>(jobs: &mut J, who: Tag, row: Row) -> bool
+    requires can { MayCall who row (J.view jobs.old) }
+    ensures jobs_anchor { J.anchor jobs.new ≡ J.anchor jobs.old }
+    ensures seen { SeenAnswer who row (J.view jobs.old) (J.view jobs.new) result }
+{
+    match jobs.look(who, row) {
+        Some(job) => matches!(job.state, JobState::Cancelling),
+        None => false,
+    }
+}
+
+/// Cancels the caller's own Job with all below it, by the failure of a row or as cancelled, and takes the failure of a coroutine up to
+/// its parents.
+fn break_off<J: JobFloor, B: NoteBook, W: Wakes>(
     jobs: &mut J,
     book: &mut B,
     wakes: &mut W,
@@ -120,23 +135,51 @@ pub(crate) fn break_off<J: JobFloor, B: NoteBook, W: Wakes>(
     failure: Option<Row>,
 )
     requires can { MayCall who row (J.view jobs.old) }
-    requires own { MayEndBody who (replay (J.view jobs.old).seen row) }
+    requires own { OwnsBody who (replay (J.view jobs.old).seen row) }
     requires reason { Holds (J.view jobs.old).shape (replay (J.view jobs.old).seen) who row (reason_for failure) }
     requires room { MayCancelAll (J.view jobs.old) (B.spare book.old) }
     ensures jobs_anchor { J.anchor jobs.new ≡ J.anchor jobs.old }
     ensures broken { IsBroken who row failure (J.view jobs.old) (J.view jobs.new) (B.items book.old) (B.items book.new) }
-    ensures rest { StaysAtRest (J.view jobs.old) (J.view jobs.new) }
 {
     match failure {
         None => {
             let _passed = pass(jobs, book, wakes, who, row, Reason::Request);
         }
         Some(failed) => {
-            if pass(jobs, book, wakes, who, row, Reason::Own(failed)).newly {
+            if pass(jobs, book, wakes, who, row, Reason::Own(failed)).newly && row == who {
                 fail_up(jobs, book, wakes, who, row);
             }
         }
     }
+}
+
+/// Cancels the caller's own Job so, unless it is seen Cancelling: then whoever cancelled it cancels what is below, and nothing is
+/// reserved.
+pub(crate) fn cancel_first<J: JobFloor, B: NoteBook, W: Wakes>(
+    jobs: &mut J,
+    book: &mut B,
+    wakes: &mut W,
+    who: Tag,
+    row: Row,
+    failure: Option<Row>,
+) -> Result<(), Memory>
+    requires can { MayCall who row (J.view jobs.old) }
+    requires own { OwnsBody who (replay (J.view jobs.old).seen row) }
+    requires reason { Holds (J.view jobs.old).shape (replay (J.view jobs.old).seen) who row (reason_for failure) }
+    ensures jobs_anchor { J.anchor jobs.new ≡ J.anchor jobs.old }
+    ensures cancelled { OnOk result
+        (IsCancelledFirst who row failure (J.view jobs.old) (J.view jobs.new) (B.items book.old) (B.items book.new)) }
+    ensures nothing { OnErr result (ToldOnJobs who [] (J.view jobs.old) (J.view jobs.new) (B.items book.old) (B.items book.new) []) }
+{
+    if is_cancelling(jobs, who, row) {
+        return Ok(());
+    }
+    let rows = u32::from(jobs.rows());
+    if let Err(memory) = make_room(jobs, book, rows) {
+        return Err(memory);
+    }
+    break_off(jobs, book, wakes, who, row, failure);
+    Ok(())
 }
 
 /// Ends a Job, where it may end, and then its parents, as far as the end of a child was all that they waited for, each with its
@@ -154,8 +197,8 @@ pub(crate) fn finish_up<C: ChannelFloor, J: JobFloor, B: NoteBook, W: Wakes>(
     requires row { is_some (replay (J.view jobs.old).seen row) ≡ true }
     ensures channels_anchor { C.anchor channels.new ≡ C.anchor channels.old }
     ensures jobs_anchor { J.anchor jobs.new ≡ J.anchor jobs.old }
-    ensures finished { FinishedUp who base row (C.view channels.old) (C.view channels.new) (J.view jobs.old) (J.view jobs.new) (B.items book.old) (B.items book.new) }
-    ensures rest { OnOk result (EndsAtRest row (J.view jobs.old) (J.view jobs.new)) }
+    ensures finished { FinishedUp who base row (C.view channels.old) (C.view channels.new) (J.view jobs.old) (J.view jobs.new)
+        (B.items book.old) (B.items book.new) result }
 {
     let rows = jobs.rows();
     let mut done = DoneChannels {
@@ -201,8 +244,8 @@ fn finish_with<C: ChannelFloor, J: JobFloor, B: NoteBook, W: Wakes>(
     ensures same_channels { done.new.channels.ghost_name ≡ done.old.channels.ghost_name }
     ensures channels_anchor { C.anchor done.new.channels.now ≡ C.anchor done.old.channels.now }
     ensures jobs_anchor { J.anchor caller.new.floor.now ≡ J.anchor caller.old.floor.now }
-    ensures finished { FinishedUp caller.old.who done.old.base row (C.view done.old.channels.now) (C.view done.new.channels.now) (J.view caller.old.floor.now) (J.view caller.new.floor.now) (B.items caller.old.book.now) (B.items caller.new.book.now) }
-    ensures rest { OnOk result (EndsAtRest row (J.view caller.old.floor.now) (J.view caller.new.floor.now)) }
+    ensures finished { FinishedUp caller.old.who done.old.base row (C.view done.old.channels.now) (C.view done.new.channels.now)
+        (J.view caller.old.floor.now) (J.view caller.new.floor.now) (B.items caller.old.book.now) (B.items caller.new.book.now) result }
 {
     caller.finish_up(row, done)
 }

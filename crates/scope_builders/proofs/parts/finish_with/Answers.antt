@@ -1,6 +1,6 @@
 use Rattle.std.proofs.Common.{◌≡◌, refl, ◌∙◌}
 use Rattle.scope_builders.specs.declared.done_channels.DoneChannels.{DoneChannels}
-use Rattle.scope_builders.proofs.Chains.{finished_all, rest_up, ends_as, added_as}
+use Rattle.scope_builders.proofs.Chains.{finished_all, ends_as, added_as}
 use Rattle.scope_builders.proofs.parts.finish_with.Goals as goal
 
 pub returns : goal.returns
@@ -25,5 +25,4 @@ returns g c =
       channels_anchor = k.0.4;
       jobs_anchor = c.finish_up.ensures.anchor;
       finished = k.1;
-      rest = rest_up _ _ _ _ _ _ _ _ _ _ _ l c.finish_up.ensures.finished;
     }

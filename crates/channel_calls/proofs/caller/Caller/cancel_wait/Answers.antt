@@ -1,10 +1,9 @@
-use Rattle.channel_calls.proofs.Dids.{did_none}
-use Rattle.channel_calls.proofs.Begun.{call_roomed}
-use Rattle.channel_calls.proofs.Ends.{own_roomed, ready_withdrawn, withdrawn_now, ready_late, late_now}
+use Rattle.channel_calls.proofs.Roomed.{call_roomed, own_roomed, untouched}
+use Rattle.channel_calls.proofs.EndsTold.{ready_withdrawn, ready_late, withdrawn_now, late_now}
 use Rattle.channel_calls.proofs.caller.Caller.cancel_wait.Goals as goal
 
 pub returns-in-Err-clause-answer : goal.returns-in-Err-clause-answer
-returns-in-Err-clause-answer g c = did_none _ _ _ _ _ c.in-Err.ensures.same c.make_room.ensures.items
+returns-in-Err-clause-answer g c = untouched _ _ _ _ c.in-Err.ensures.same c.make_room.ensures.items
 
 pub withdraw-requires-clause-can : goal.withdraw-requires-clause-can
 withdraw-requires-clause-can g c = call_roomed _ _ _ _ _ c.in_default.ensures.floor c.requires.can
@@ -20,8 +19,8 @@ settle-requires-in-Late-clause-ready g c = ready_late _ _ _ _ _ _ (g.met.F.Chann
 
 pub returns-in-Done-clause-answer : goal.returns-in-Done-clause-answer
 returns-in-Done-clause-answer g c =
-    withdrawn_now _ _ _ _ _ _ _ _ _ _ _ _ _ (g.met.F.ChannelFloor.legal c.withdraw.new.self) c.in_default.ensures.floor c.requires.holds c.in-Done.ensures.answer c.settle.ensures.settled c.make_room.ensures.items c.note.ensures.items c.settle.ensures.items
+    withdrawn_now _ _ _ _ _ _ _ _ _ _ _ _ _ (g.met.F.ChannelFloor.legal c.withdraw.new.self) (g.met.F.ChannelFloor.legal c.settle.new.self.floor.now) c.requires.owing c.in_default.ensures.floor c.requires.holds c.in-Done.ensures.answer c.settle.ensures.settled c.make_room.ensures.items c.note.ensures.items c.settle.ensures.items
 
 pub returns-in-Late-clause-answer : goal.returns-in-Late-clause-answer
 returns-in-Late-clause-answer g c =
-    late_now _ _ _ _ _ _ _ _ _ _ _ _ c.in_default.ensures.floor c.in-Late.ensures.answer c.settle-in-Late.ensures.settled c.make_room.ensures.items c.note-in-Late.ensures.items c.settle-in-Late.ensures.items
+    late_now _ _ _ _ _ _ _ _ _ _ _ _ (g.met.F.ChannelFloor.legal c.settle-in-Late.new.self.floor.now) c.requires.owing c.in_default.ensures.floor c.in-Late.ensures.answer c.settle-in-Late.ensures.settled c.make_room.ensures.items c.note-in-Late.ensures.items c.settle-in-Late.ensures.items

@@ -1,10 +1,9 @@
-use Rattle.channel_calls.proofs.Dids.{did_none}
-use Rattle.channel_calls.proofs.Begun.{call_roomed}
-use Rattle.channel_calls.proofs.Ends.{ready_roomed, dispatched}
+use Rattle.channel_calls.proofs.Roomed.{call_roomed, ready_roomed, untouched}
+use Rattle.channel_calls.proofs.EndsTold.{dispatched}
 use Rattle.channel_calls.proofs.caller.Caller.dispatch.Goals as goal
 
 pub returns-in-Err-clause-answer : goal.returns-in-Err-clause-answer
-returns-in-Err-clause-answer g c = did_none _ _ _ _ _ c.in-Err.ensures.same c.make_room.ensures.items
+returns-in-Err-clause-answer g c = untouched _ _ _ _ c.in-Err.ensures.same c.make_room.ensures.items
 
 pub settle-requires-clause-can : goal.settle-requires-clause-can
 settle-requires-clause-can g c = call_roomed _ _ _ _ _ c.in_default.ensures.floor c.requires.can

@@ -3,7 +3,7 @@ use mathlib.Core.Logic.{◌⊎◌}
 use Rattle.std.proofs.lemmas.Bool.{eqb-true}
 use Rattle.job_model.proofs.Spans.{setting_then}
 use Rattle.job_model.specs.Histories.{replay}
-use Rattle.job_tree.specs.Passes.{IsAllCancelled}
+use Rattle.job_model.specs.Cancels.{IsAllCancelled}
 use Rattle.job_tree.proofs.Rooms.{looked_room}
 use Rattle.job_tree.proofs.Walks.{first_walk, none_so_far, walk_not_root, legal_as, to_next, may_next, after_to, after_over, after_up, count_less_rows, pass_below_done, so_far_small, none_more}
 use Rattle.job_tree.proofs.caller.JobCaller.cancel_below.Goals as goal

@@ -4,7 +4,8 @@ use Rattle.job_model.proofs.Spans.{prefix_then, setting_then}
 use Rattle.job_tree.proofs.Rooms.{looked_room}
 use Rattle.job_tree.proofs.Walks.{legal_as, may_next}
 use Rattle.job_tree.proofs.Causes.{failure_later}
-use Rattle.job_tree.proofs.Climbs.{first_climb, climb_looked, climb_up, climb_stops, climb_ends, child_holds, parent_attached, goes_kept, rank_less}
+use Rattle.job_tree.proofs.Climbs.{first_climb, climb_looked, climb_up, climb_stops, climb_ends, child_holds, parent_attached, rank_less}
+use Rattle.job_model.proofs.FailingUp.{goes_kept}
 use Rattle.job_tree.proofs.caller.JobCaller.fail_up.Goals as goal
 
 not_true : (b : Bool) → not b ≡ true → b ≡ false

@@ -1,6 +1,6 @@
 use Rattle.std.proofs.Common.{◌≡◌}
 use Rattle.job_tree.specs.Rooms.{MayCancelAll}
-use Rattle.job_tree.proofs.Ranks.{ranks}
+use Rattle.job_model.proofs.Ranks.{ranks}
 use Rattle.job_tree.proofs.Climbs.{IsClimb}
 use Rattle.job_tree.proofs.caller.JobCaller.fail_up.Given as goal
 

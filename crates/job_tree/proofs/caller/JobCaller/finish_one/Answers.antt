@@ -1,9 +1,9 @@
 use Rattle.std.proofs.Common.{sym}
-use Rattle.job_model.proofs.Spans.{prefix_self, added_looked}
+use Rattle.job_model.proofs.Spans.{prefix_self, added_looked, added_made}
 use Rattle.job_tree.specs.Endings.{EndAnswer}
 use Rattle.job_tree.proofs.Looks.{may_later}
 use Rattle.job_tree.proofs.Climbs.{looked_self, linked_parent}
-use Rattle.job_tree.proofs.Endings.{may_tell, added_same, added_end, added_told, added_linked, root_ended, told_by, was_not_now, owed_at}
+use Rattle.job_tree.proofs.Endings.{may_tell, added_same, added_end, added_linked, root_ended, told_by, was_not_now, owed_at}
 use Rattle.job_tree.proofs.caller.JobCaller.finish_one.Goals as goal
 
 pub returns-in-Err-clause-answer : goal.returns-in-Err-clause-answer
@@ -33,7 +33,7 @@ pub returns-in-Waits-clause-answer : goal.returns-in-Waits-clause-answer
 returns-in-Waits-clause-answer g c =
     let k = c.in-Waits.ensures.answer in
     EndAnswer.waits c.if-row-eq0.false
-    (told_by _ _ _ _ _ _ _ _ _ _ _ _ _ _ _ _ _ _ c.ready.ensures.prepares c.ready.ensures.items c.note.ensures.items c.ended.ensures.ended c.note-2.ensures.items (added_told _ _ _ _ _ _ _ _ c.in_default-room.ensures.ok c.in-Now.ensures.answer k.made))
+    (told_by _ _ _ _ _ _ (g.F.JobFloor.view c.finish.new.self) _ _ _ _ _ _ _ _ _ _ _ _ c.ready.ensures.prepares c.ready.ensures.items c.note.ensures.items c.ended.ensures.ended c.note-2.ensures.items (added_end _ _ _ _ _ _ c.in_default-room.ensures.ok c.in-Now.ensures.answer) (added_made _ _ _ _ _ k.made))
     (sym k.owes)
 
 pub returns-in-Owes-clause-answer : goal.returns-in-Owes-clause-answer
@@ -41,6 +41,6 @@ returns-in-Owes-clause-answer g c =
     let k = c.in-Owes.ensures.answer in
     let link = c.link.ensures.answer in
     EndAnswer.owes c.link.result.parent c.if-row-eq0.false
-    (told_by _ _ _ _ _ _ _ _ _ _ _ _ _ _ _ _ _ _ c.ready.ensures.prepares c.ready.ensures.items c.note.ensures.items c.ended.ensures.ended c.note-2.ensures.items (added_linked _ _ _ _ _ _ (added_told _ _ _ _ _ _ _ _ c.in_default-room.ensures.ok c.in-Now.ensures.answer k.made) link.0))
+    (told_by _ _ _ _ _ _ (g.F.JobFloor.view c.finish.new.self) _ _ _ _ _ _ _ _ _ _ _ _ c.ready.ensures.prepares c.ready.ensures.items c.note.ensures.items c.ended.ensures.ended c.note-2.ensures.items (added_end _ _ _ _ _ _ c.in_default-room.ensures.ok c.in-Now.ensures.answer) (added_linked _ _ _ _ _ k.made link.0))
     (linked_parent _ _ _ _ (g.F.JobFloor.view c.link.new.self) (g.F.JobFloor.view c.link.new.self) (g.met.F.JobFloor.legal c.link.new.self) link (prefix_self _))
     (owed_at _ _ _ _ _ _ _ _ _ _ c.in_default-room.ensures.ok c.in-Now.ensures.answer k.made link.0.longer (sym k.owes))

@@ -1,5 +1,5 @@
 use Rattle.std.proofs.Common.{◌≡◌}
-use Rattle.job_tree.proofs.Ranks.{ranks}
+use Rattle.job_model.proofs.Ranks.{ranks}
 use Rattle.job_tree.proofs.Endings.{IsRise}
 use Rattle.job_tree.proofs.caller.JobCaller.finish_up.Given as goal
 

@@ -1,7 +1,7 @@
-use Rattle.std.proofs.Common.{refl, sym, arith, []}
+use Rattle.std.proofs.Common.{refl, sym, ◌∙◌, arith, []}
 use Rattle.job_model.proofs.Spans.{nothing_more}
-use Rattle.scope_builders.specs.Closes.{EndsDone}
-use Rattle.scope_builders.proofs.Dones.{closed_now}
+use Rattle.scope_builders.specs.Dones.{EndsDone}
+use Rattle.scope_builders.proofs.Closings.{closed_still, ends_done, ends_noted, ends_length, ends_no_jobs}
 use Rattle.scope_builders.proofs.done_channels.DoneChannelsEnds.ended.Goals as goal
 
 pub returns-then-row-self-clause-ended : goal.returns-then-row-self-clause-ended
@@ -14,22 +14,23 @@ returns-then-row-self-clause-ended g c = record {
   room = omega arith;
 }
 
-pub returns-in-Ok-clause-ended : goal.returns-in-Ok-clause-ended
-returns-in-Ok-clause-ended g c = record {
-  ended = _;
-  does_it = (refl, refl, refl, refl, c.in-Ok.ensures.anchor, closed_now _ _ _ _ _ _ _ _ c.value_of-value.ensures c.in-Ok.ensures.answer);
-  few = omega arith;
-  no_jobs = refl;
-  appended = c.note.ensures.items;
-  room = c.note.ensures.spare;
-}
-
-pub returns-in-Err-clause-ended : goal.returns-in-Err-clause-ended
-returns-in-Err-clause-ended g c = record {
-  ended = _;
-  does_it = (refl, refl, refl, refl, c.in-Err.ensures.anchor, EndsDone.before c.in-Err.first.v c.in-Err.ensures.answer);
-  few = omega arith;
-  no_jobs = refl;
-  appended = c.note-in-Err.ensures.items;
-  room = c.note-in-Err.ensures.spare;
-}
+pub returns-clause-ended : goal.returns-clause-ended
+returns-clause-ended g c =
+    let h = c.close_first.ensures.closed in
+    let w = c.wake_last.ensures.woken in
+    let count = ends_length _ _ _ _ _ _ _ _ _ _ _ h w in
+    record {
+      ended = _;
+      does_it = (
+        refl,
+        refl,
+        refl,
+        refl,
+        c.wake_last.ensures.channels_anchor ∙ c.close_first.ensures.channels_anchor,
+        ends_done _ _ _ _ _ _ _ _ _ _ _ _ _ _ _ c.if-row-self.false c.done_channel-c.ensures c.value_of.ensures h w (closed_still _ _ _ _ _ _ _ _ _ _ _ (g.met.C.ChannelFloor.legal c.wake_last.new.channels) h w),
+      );
+      few = omega (arith, w.few);
+      no_jobs = ends_no_jobs _ _ _ _ _ _ _ _ _ _ _ h w;
+      appended = ends_noted _ _ _ _ _ _ _ _ _ _ _ h w;
+      room = omega (arith, c.close_first.ensures.spare, w.room);
+    }

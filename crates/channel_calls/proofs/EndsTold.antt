@@ -1,0 +1,185 @@
+-- What the end of a wait tells: as it was resolved, or taken back.
+use Rattle.std.specs.Prelude.{◌≡◌, ℕ, Bool, true, false, List, [], ◌∷◌, ◌++◌, Option, Some, None, Ok, refl}
+use Rattle.std.proofs.Common.{sym, ap, ◌∙◌, subst}
+use Rattle.co_base.specs.declared.names.WaitId.{WaitId}
+use Rattle.channel_model.specs.declared.acts.Act.{Act}
+use Rattle.channel_model.specs.declared.acts.Act.TheVariants.{Withdraw, Settle}
+use Rattle.channel_model.specs.declared.acts.ChannelNote.TheVariants.{Late}
+use Rattle.channel_model.specs.declared.acts.Settled.{Settled}
+use Rattle.channel_model.specs.declared.acts.Settled.TheVariants as settled
+use Rattle.channel_model.specs.declared.acts.Why.TheVariants as why
+use Rattle.channel_model.specs.declared.standing.Resolution.{Resolution}
+use Rattle.channel_model.specs.declared.standing.Resolution.TheVariants as resolved
+use Rattle.channel_model.specs.Channels.{Shape, State, Wait, kind_at}
+use Rattle.channel_model.specs.Effects.{resolved_wait}
+use Rattle.channel_model.specs.Outcomes.{outcome_of}
+use Rattle.channel_model.specs.Owing.{never_owes}
+use Rattle.channel_model.specs.Histories.{replay, Legal}
+use Rattle.channel_model.specs.Floors.{Floor, HasRoom, Made}
+use Rattle.channel_model.specs.Answers.{SettleAnswer, WithdrawAnswer, IsReady, IsReadyWait, IsResolvedWait, outcome_at, outcome_of_some, IsUnsettledOf}
+use Rattle.channel_model.specs.declared.floor.Withdrawn.TheVariants as withdraws
+use Rattle.channel_model.proofs.Histories.{replay_push, Legal-last}
+use Rattle.channel_model.proofs.Waits.{at_wait}
+use Rattle.channel_model.proofs.Spans.{prefix_self}
+use Rattle.channel_model.proofs.Others.{others_keep, unsettled_stays}
+use Rattle.note_book.specs.declared.book.Item.{Item}
+use Rattle.note_book.specs.declared.book.Item.TheVariants as item
+use Rattle.call_meaning.specs.Telling.{Told, TakenBack, made, heard}
+use Rattle.call_meaning.specs.Facts.{ActHolds, IsTakenBack, is_taken_back}
+use Rattle.call_meaning.specs.Calls.{ToldOnChannels}
+use Rattle.call_meaning.specs.ChannelCalls.{GivesUp}
+use Rattle.call_meaning.proofs.ChannelsHeard.{told_then, told_roomed, told_made, told_made_after, told_met, moment_before}
+use Rattle.channel_calls.specs.Groups.{made_note, settle_group, is_cancelled_end}
+use Rattle.channel_calls.specs.Calls.{HoldsWait, DispatchedAnswer, CancelledAnswer, TakesBack, end_told, none_to_admit}
+use Rattle.channel_calls.proofs.Roomed.{holds_roomed}
+use Rattle.channel_calls.proofs.NeverOwes.{told_none_to_admit, admits_none}
+
+-- ---- a wait that is settled
+
+settle_told : (who : ℕ) (w : WaitId) (outcome : Settled) (b d : Floor) (j k : List Item) → Made who (Settle w outcome) b d → k ≡ j ++ settle_group w outcome → ToldOnChannels who b d j k (made (Settle w outcome) ∷ [])
+settle_told who w outcome b d j k m f = told_made who (Settle w outcome) b d j k m (moment_before who (Settle w outcome) b d (ActHolds (Settle w outcome)) m tt) f
+
+-- a wait that ends as cancelled though its Job was not had been withdrawn or voided
+back_resolution : (how : Resolution) → outcome_of how false ≡ settled.Cancelled → is_taken_back (Some how) ≡ true
+back_resolution (resolved.Handed k v) e = cc
+back_resolution (resolved.Taken k) e = cc
+back_resolution (resolved.Admitted k) e = cc
+back_resolution (resolved.Closed k v) e = cc
+back_resolution (resolved.Withdrawn why) e = refl
+back_resolution resolved.Voided e = refl
+
+back_how : (how : Option Resolution) → outcome_of_some false how ≡ Some settled.Cancelled → is_taken_back how ≡ true
+back_how None e = cc
+back_how (Some how) e = let k : outcome_of how false ≡ settled.Cancelled = cc in back_resolution how k
+
+back_wait : (x : Option Wait) → outcome_at false x ≡ Some settled.Cancelled → IsTakenBack x
+back_wait None e = cc
+back_wait (Some x) e = back_how x.resolved e
+
+end_is_told : (who : ℕ) (w : WaitId) (cancelled : Bool) (outcome : Settled) (b d : Floor) (j k : List Item) → SettleAnswer who w cancelled b d outcome → k ≡ j ++ settle_group w outcome → ToldOnChannels who b d j k (end_told w cancelled outcome)
+end_is_told who w false settled.Cancelled b d j k s f =
+    told_made_after who (TakenBack w) (Settle w settled.Cancelled) b d j k s.0 (λ t. tt) (moment_before who (Settle w settled.Cancelled) b d (λ t. IsTakenBack (t.waits w)) s.0 (back_wait ((replay b.seen).waits w) s.1)) f
+end_is_told who w false (settled.Value n v) b d j k s f = settle_told who w (settled.Value n v) b d j k s.0 f
+end_is_told who w false (settled.Sent n) b d j k s f = settle_told who w (settled.Sent n) b d j k s.0 f
+end_is_told who w false (settled.Closed n v) b d j k s f = settle_told who w (settled.Closed n v) b d j k s.0 f
+end_is_told who w false (settled.Undelivered v) b d j k s f = settle_told who w (settled.Undelivered v) b d j k s.0 f
+end_is_told who w true outcome b d j k s f = settle_told who w outcome b d j k s.0 f
+
+pub dispatched : (who n : ℕ) (w : WaitId) (cancelled : Bool) (a b d : Floor) (i j k : List Item) (outcome : Settled) → HasRoom n a b → SettleAnswer who w cancelled b d outcome → j ≡ i → k ≡ j ++ settle_group w outcome
+    → DispatchedAnswer who w cancelled a d i k (Ok outcome)
+dispatched who n w cancelled a b d i j k outcome h s e f =
+    (told_roomed who n a b d i j k (end_told w cancelled outcome) h e (end_is_told who w cancelled outcome b d j k s f), ap (λ es. outcome_at cancelled ((replay es).waits w)) (sym h.seen) ∙ s.1)
+
+-- ---- a wait that was withdrawn
+
+withdrawn_ready : (who : ℕ) (x : Option Wait) → IsUnsettledOf who x → IsReadyWait who (resolved_wait (resolved.Withdrawn why.Cancelled) x)
+withdrawn_ready who None h = h
+withdrawn_ready who (Some x) h = (h.0, refl, h.1)
+
+withdrawn_outcome : (who : ℕ) (x : Option Wait) (outcome : Settled) → IsUnsettledOf who x → outcome_at true (resolved_wait (resolved.Withdrawn why.Cancelled) x) ≡ Some outcome → outcome ≡ settled.Cancelled
+withdrawn_outcome who None outcome h e = absurd h
+withdrawn_outcome who (Some x) outcome h e = let k : Some settled.Cancelled ≡ Some outcome = e in cc
+
+withdrawn_at : (who : ℕ) (w : WaitId) (b c : Floor) → (m : Made who (Withdraw w why.Cancelled) b c) → (replay c.seen).waits w ≡ resolved_wait (resolved.Withdrawn why.Cancelled) ((replay m.before).waits w)
+withdrawn_at who w b c m =
+    ap (λ es. (replay es).waits w) m.last
+    ∙ ap (λ (s : State). s.waits w) (replay_push m.before (record { who = who; act = Withdraw w why.Cancelled }))
+    ∙ at_wait w _ (replay m.before).waits
+
+held_before : (who : ℕ) (w : WaitId) (act : Act) (b c : Floor) → Legal c.shape c.seen → HoldsWait who w b → (m : Made who act b c) → IsUnsettledOf who ((replay m.before).waits w)
+held_before who w act b c l h m =
+    let r = Legal-last c.shape m.before (record { who = who; act = act }) (subst (Legal c.shape) m.last l) in
+    others_keep c.shape who (IsUnsettledOf who) (unsettled_stays who) w b.seen m.before r.0 m.longer m.mine h
+
+-- it may be settled
+pub ready_withdrawn : (who n : ℕ) (w : WaitId) (t : ℕ) (a b c : Floor) → Legal c.shape c.seen → HasRoom n a b → HoldsWait who w a → WithdrawAnswer who w why.Cancelled b c (withdraws.Done t) → IsReady who w c
+ready_withdrawn who n w t a b c l h k m =
+    subst (IsReadyWait who) (sym (withdrawn_at who w b c m.0)) (withdrawn_ready who _ (held_before who w (Withdraw w why.Cancelled) b c l (holds_roomed who n w a b h k) m.0))
+
+-- the kind of the channel after a call of two steps
+same_kind : (who n c : ℕ) (act : Act) (a b d e : Floor) → HasRoom n a b → b.shape ≡ a.shape → d.shape ≡ b.shape → Made who act d e → never_owes (kind_at a.shape c) ≡ true → never_owes (kind_at e.shape c) ≡ true
+same_kind who n c act a b d e h x y m owes = ap (λ (s : Shape). never_owes (kind_at s c)) (m.same.shape ∙ y ∙ x) ∙ owes
+
+-- and ends as cancelled
+pub withdrawn_now : (who n : ℕ) (w : WaitId) (t : ℕ) (a b c d : Floor) (i j k l : List Item) (outcome : Settled) → Legal c.shape c.seen → Legal d.shape d.seen → never_owes (kind_at a.shape w.channel) ≡ true → HasRoom n a b → HoldsWait who w a
+    → WithdrawAnswer who w why.Cancelled b c (withdraws.Done t) → SettleAnswer who w true c d outcome → j ≡ i → k ≡ j ++ made_note (Withdraw w why.Cancelled) ∷ [] → l ≡ k ++ settle_group w outcome → CancelledAnswer who w a d i l (Ok outcome)
+withdrawn_now who n w t a b c d i j k l outcome legal legal_now owes h holds m s e f g =
+    let is : outcome ≡ settled.Cancelled = withdrawn_outcome who ((replay m.0.before).waits w) outcome (held_before who w (Withdraw w why.Cancelled) b c legal (holds_roomed who n w a b h holds) m.0) (ap (outcome_at true) (sym (withdrawn_at who w b c m.0)) ∙ s.1) in
+    let mark = ((replay d.seen).channels w.channel).next in
+    let kind = same_kind who n w.channel (Settle w outcome) a b c d h h.same.shape m.0.same.shape s.0 owes in
+    let two : ToldOnChannels who c d k l (made (Settle w outcome) ∷ none_to_admit w.channel mark) =
+    told_then who c d d k l l (made (Settle w outcome) ∷ []) (none_to_admit w.channel mark) (settle_told who w outcome c d k l s.0 g) (told_none_to_admit who w.channel d l legal_now kind) in
+    let all : ToldOnChannels who b d j l (made (Withdraw w why.Cancelled) ∷ made (Settle w outcome) ∷ none_to_admit w.channel mark) =
+    told_then who b c d j k l (made (Withdraw w why.Cancelled) ∷ []) (made (Settle w outcome) ∷ none_to_admit w.channel mark)
+    (told_made who (Withdraw w why.Cancelled) b c j k m.0 (moment_before who (Withdraw w why.Cancelled) b c (ActHolds (Withdraw w why.Cancelled)) m.0 tt) f) two in
+    record {
+      told = made (Withdraw w why.Cancelled) ∷ made (Settle w outcome) ∷ none_to_admit w.channel mark;
+      goes = subst (λ o. TakesBack w o (made (Withdraw w why.Cancelled) ∷ made (Settle w o) ∷ none_to_admit w.channel mark)) (sym is) (TakesBack.withdrawn mark);
+      left = told_roomed who n a b d i j l (made (Withdraw w why.Cancelled) ∷ made (Settle w outcome) ∷ none_to_admit w.channel mark) h e all;
+    }
+
+-- ---- a wait that had been resolved
+
+resolved_ready : (who : ℕ) (x : Option Wait) → IsUnsettledOf who x → IsResolvedWait x → IsReadyWait who x
+resolved_ready who None h k = h
+resolved_ready who (Some x) h k = (h.0, k, h.1)
+
+cancelled_outcome : (how : Resolution) → is_cancelled_end (outcome_of how true) ≡ true
+cancelled_outcome (resolved.Handed k v) = refl
+cancelled_outcome (resolved.Taken k) = refl
+cancelled_outcome (resolved.Admitted k) = refl
+cancelled_outcome (resolved.Closed k v) = refl
+cancelled_outcome (resolved.Withdrawn why) = refl
+cancelled_outcome resolved.Voided = refl
+
+some_cancelled : (how : Option Resolution) (outcome : Settled) → outcome_of_some true how ≡ Some outcome → is_cancelled_end outcome ≡ true
+some_cancelled None outcome e = cc
+some_cancelled (Some how) outcome e = let k : outcome_of how true ≡ outcome = cc in ap is_cancelled_end (sym k) ∙ cancelled_outcome how
+
+wait_cancelled : (x : Option Wait) (outcome : Settled) → outcome_at true x ≡ Some outcome → is_cancelled_end outcome ≡ true
+wait_cancelled None outcome e = cc
+wait_cancelled (Some x) outcome e = some_cancelled x.resolved outcome e
+
+-- it may be settled
+pub ready_late : (who n : ℕ) (w : WaitId) (a b c : Floor) → Legal c.shape c.seen → HasRoom n a b → HoldsWait who w a → WithdrawAnswer who w why.Cancelled b c withdraws.Late → IsReady who w c
+ready_late who n w a b c l h k m =
+    resolved_ready who _ (others_keep c.shape who (IsUnsettledOf who) (unsettled_stays who) w b.seen c.seen l m.0.longer m.0.mine (holds_roomed who n w a b h k)) m.1
+
+-- and ends as it was resolved
+pub late_now : (who n : ℕ) (w : WaitId) (a b c d : Floor) (i j k l : List Item) (outcome : Settled) → Legal d.shape d.seen → never_owes (kind_at a.shape w.channel) ≡ true → HasRoom n a b
+    → WithdrawAnswer who w why.Cancelled b c withdraws.Late → SettleAnswer who w true c d outcome → j ≡ i → k ≡ j ++ item.Channel (Late w) ∷ [] → l ≡ k ++ settle_group w outcome → CancelledAnswer who w a d i l (Ok outcome)
+late_now who n w a b c d i j k l outcome legal_now owes h m s e f g =
+    let mark = ((replay d.seen).channels w.channel).next in
+    let kind = same_kind who n w.channel (Settle w outcome) a b c d h h.same.shape m.0.same.shape s.0 owes in
+    let two : ToldOnChannels who c d k l (made (Settle w outcome) ∷ none_to_admit w.channel mark) =
+    told_then who c d d k l l (made (Settle w outcome) ∷ []) (none_to_admit w.channel mark) (settle_told who w outcome c d k l s.0 g) (told_none_to_admit who w.channel d l legal_now kind) in
+    let first : ToldOnChannels who b c j k (heard (Late w) ∷ []) = told_met who (Late w) b c j k refl m.0 (record { moment = c.seen; after = m.0.longer; before = prefix_self c.seen; holds = m.1 }) f in
+    record {
+      told = heard (Late w) ∷ made (Settle w outcome) ∷ none_to_admit w.channel mark;
+      goes = TakesBack.late outcome mark (wait_cancelled ((replay c.seen).waits w) outcome s.1);
+      left = told_roomed who n a b d i j l (heard (Late w) ∷ made (Settle w outcome) ∷ none_to_admit w.channel mark) h e
+          (told_then who b c d j k l (heard (Late w) ∷ []) (made (Settle w outcome) ∷ none_to_admit w.channel mark) first two);
+    }
+
+-- ---- in the words of a coroutine that gives up
+
+late_gives_up : (w : WaitId) (outcome : Settled) (mark : ℕ) → is_cancelled_end outcome ≡ true → GivesUp w (heard (Late w) ∷ made (Settle w outcome) ∷ none_to_admit w.channel mark)
+late_gives_up w (settled.Value n v) mark e = cc
+late_gives_up w (settled.Sent n) mark e = cc
+late_gives_up w (settled.Closed n v) mark e = cc
+late_gives_up w settled.Cancelled mark e = GivesUp.late (none_to_admit w.channel mark) (admits_none w.channel mark)
+late_gives_up w (settled.Undelivered v) mark e = GivesUp.late_undelivered v (none_to_admit w.channel mark) (admits_none w.channel mark)
+
+pub gives_up : (w : WaitId) (outcome : Settled) (told : List Told) → TakesBack w outcome told → GivesUp w told
+gives_up w _ _ (TakesBack.withdrawn mark) = GivesUp.withdrawn (none_to_admit w.channel mark) (admits_none w.channel mark)
+gives_up w _ _ (TakesBack.late outcome mark e) = late_gives_up w outcome mark e
+
+end_gives_up : (w : WaitId) (outcome : Settled) → is_cancelled_end outcome ≡ true → GivesUp w (made (Settle w outcome) ∷ [])
+end_gives_up w (settled.Value n v) e = cc
+end_gives_up w (settled.Sent n) e = cc
+end_gives_up w (settled.Closed n v) e = cc
+end_gives_up w settled.Cancelled e = GivesUp.dispatched
+end_gives_up w (settled.Undelivered v) e = GivesUp.undelivered v
+
+pub dispatch_gives_up : (who : ℕ) (w : WaitId) (a d : Floor) (i k : List Item) (outcome : Settled) → DispatchedAnswer who w true a d i k (Ok outcome) → GivesUp w (end_told w true outcome)
+dispatch_gives_up who w a d i k outcome h = end_gives_up w outcome (wait_cancelled ((replay a.seen).waits w) outcome h.1)

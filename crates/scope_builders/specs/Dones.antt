@@ -1,0 +1,109 @@
+-- The done channels of Jobs, and how one is closed.
+use Rattle.std.specs.Prelude.{◌≡◌, ℕ, ◌+◌, ◌<◌, ◌≤◌, true, List, [], ◌∷◌, ◌++◌, length, Option, Some, None}
+use Rattle.channel_model.specs.declared.acts.Act.TheVariants.{Close}
+use Rattle.channel_model.specs.declared.acts.ChannelNote.TheVariants.{AlreadyClosed}
+use Rattle.channel_model.specs.declared.acts.ChannelNote.TheVariants as of_channel
+use Rattle.channel_model.specs.Channels.{places_at}
+use Rattle.channel_model.specs.Floors.{Floor as ChannelFloor}
+use Rattle.channel_model.specs.Answers.{IsSeenClosed}
+use Rattle.job_model.specs.declared.acts.End.{End}
+use Rattle.job_model.specs.declared.acts.JobAct.{JobAct}
+use Rattle.job_model.specs.declared.acts.JobAct.TheVariants.{Attach, Start, EndBody, Cancel, Finish, Gone}
+use Rattle.job_model.specs.declared.acts.JobNote.{JobNote}
+use Rattle.job_model.specs.declared.acts.JobNote.TheVariants as of_job
+use Rattle.job_model.specs.Done.{done_channel}
+use Rattle.job_model.specs.Laws.{has_ended}
+use Rattle.job_model.specs.Histories.{replay}
+use Rattle.job_model.specs.Floors.{Floor}
+use Rattle.note_book.specs.declared.book.Item.{Item}
+use Rattle.note_book.specs.declared.book.Item.TheVariants as item
+use Rattle.call_meaning.specs.Telling.{Told, items_in, made, heard}
+use Rattle.call_meaning.specs.ChannelCalls.{Wakes, Closes}
+use Rattle.call_meaning.specs.JobCalls.{value_of}
+use Rattle.call_meaning.specs.Calls.{ToldOnChannels}
+
+-- the tag may close the done channels of so many rows, each of one place; a channel's number is below 65,536
+pub record MayClose (who base rows : ℕ) (channels : ChannelFloor) : Type 0 where
+  pub caller : channels.callers who ≡ true
+  pub done : base + rows ≤ length channels.shape
+  pub one_place : (r : ℕ) → r < rows → places_at channels.shape (done_channel base r) ≡ 1
+  pub few : length channels.shape ≤ 65536
+
+-- ---- one close
+
+-- this was told by a call on channels, whatever the book held before
+abbrev pub IsTold : ℕ → ChannelFloor → ChannelFloor → List Told → Type 0
+IsTold who old new told = (book : List Item) → ToldOnChannels who old new book (book ++ items_in told) told
+
+-- the channel is closed with v, or had been closed
+pub data ClosesFirst (c v : ℕ) : Told → Type 0 where
+  now : ClosesFirst c v (made (Close c v))
+  before : (u : ℕ) → ClosesFirst c v (heard (AlreadyClosed c u))
+
+-- that was told and noted, and the channel is closed
+pub record ClosedFirst (who c v : ℕ) (old new : ChannelFloor) (items items' : List Item) : Type 0 where
+  pub told : Told
+  pub first : ClosesFirst c v told
+  pub is_told : IsTold who old new (told ∷ [])
+  pub noted : items' ≡ items ++ items_in (told ∷ [])
+  pub closed : IsSeenClosed c new
+
+-- a receiver of the closed channel was told, if one stood, and then none did
+pub record WokenLast (who c : ℕ) (old new : ChannelFloor) (items items' : List Item) (spare spare' : ℕ) : Type 0 where
+  pub told : List Told
+  pub wakes : Wakes c told
+  pub is_told : IsTold who old new told
+  pub noted : items' ≡ items ++ items_in told
+  pub few : length (items_in told) ≤ 1
+  pub room : spare ≡ spare' + length (items_in told)
+
+-- the done channel of a row was closed, or had been; past the last row nothing is done
+pub data EndsDone (who base rows row : ℕ) (end : End) (old new : ChannelFloor) : List Item → Type 0 where
+  closes : (told : List Told) (items : List Item) → row < rows
+      → Closes (done_channel base row) (value_of end) told → items ≡ items_in told
+      → IsTold who old new told → IsSeenClosed (done_channel base row) new → EndsDone who base rows row end old new items
+  outside : rows ≤ row → new ≡ old → EndsDone who base rows row end old new []
+
+-- ---- where nobody else makes entries
+
+-- each done channel that is closed is that of an ended Job
+abbrev pub OnlyEndedAreClosed : ℕ → ChannelFloor → Floor → Type 0
+OnlyEndedAreClosed base c j = (r : ℕ) → r < j.shape.rows → IsSeenClosed (done_channel base r) c → has_ended (replay j.seen r) ≡ true
+
+-- the Finish that the item is, if it is one: its row and its end
+abbrev pub finish_in : JobAct → Option (ℕ × End)
+finish_in (Attach p r kind tag cancelled) = None
+finish_in (Start r) = None
+finish_in (EndBody r v) = None
+finish_in (Cancel r reason) = None
+finish_in (Finish r end) = Some (r, end)
+finish_in (Gone r) = None
+
+abbrev pub finish_in_note : JobNote → Option (ℕ × End)
+finish_in_note (of_job.Made act) = finish_in act
+finish_in_note (of_job.Saw row) = None
+finish_in_note (of_job.SawEnd row end) = None
+finish_in_note (of_job.Fail code) = None
+finish_in_note of_job.NoRow = None
+finish_in_note of_job.Used = None
+finish_in_note of_job.ParentEnded = None
+
+abbrev pub finish_of : Item → Option (ℕ × End)
+finish_of (item.Channel note) = None
+finish_of (item.Job note) = finish_in_note note
+
+-- the first of these items is the Close of the done channel, with the Job's result or 0
+abbrev pub IsClosedNext : ℕ → Option (ℕ × End) → List Item → Type 0
+IsClosedNext base None items = Unit {0}
+IsClosedNext base (Some x) [] = ⊥
+IsClosedNext base (Some x) (i ∷ items) = i ≡ item.Channel (of_channel.Made (Close (done_channel base x.0) (value_of x.1)))
+
+-- right after each Finish comes the Close of the Job's done channel
+abbrev pub ClosesAtOnce : ℕ → List Item → Type 0
+ClosesAtOnce base [] = Unit {0}
+ClosesAtOnce base (i ∷ items) = IsClosedNext base (finish_of i) items × ClosesAtOnce base items
+
+-- floors that nobody else calls keep that only done channels of ended Jobs are closed, and each Finish is closed at once
+pub record KeepsDones (base : ℕ) (c c' : ChannelFloor) (j j' : Floor) (group : List Item) : Type 0 where
+  pub only : c.alone ≡ true → j.alone ≡ true → OnlyEndedAreClosed base c j → OnlyEndedAreClosed base c' j'
+  pub at_once : c.alone ≡ true → j.alone ≡ true → OnlyEndedAreClosed base c j → ClosesAtOnce base group
