@@ -1,0 +1,11 @@
+pub mod Shapes
+pub mod Configs
+pub mod Lines
+pub mod Moves
+pub mod Endings
+pub mod Books
+pub mod Rest
+pub mod Idle
+pub mod Polls
+pub mod Origins
+pub mod Laws
