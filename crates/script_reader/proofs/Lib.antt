@@ -1,15 +1,16 @@
-pub mod Truths
-pub mod Layouts
-pub mod Stacks
-pub mod Declarations
-pub mod Filters
-pub mod Numbers
-pub mod Names
-pub mod Found
-pub mod FoundLines
-pub mod Lengths
-pub mod Growing
-pub mod Soundness
-pub mod Loops
-pub mod Again
-pub mod Spelling
+mod Cuts
+mod Numbers
+mod NameTexts
+mod Loads
+mod Lengths
+mod Kept
+mod LineLoops
+mod Sized
+mod Launchings
+mod Stacks
+mod Tables
+mod Finished
+mod Stopping
+mod WholeTexts
+mod Answered
+mod Spacing

@@ -7,8 +7,8 @@ use Rattle.std.proofs.lemmas.Str.{IsUtf8-from_ascii}
 use Rattle.std.specs.Str.{all_ascii_digits, IsUtf8}
 use Rattle.std.specs.Str.Parse.{digits_value, ParsesUnsigned}
 use Rattle.std.specs.Result.{result_ok}
-use Rattle.script_reader.specs.Places.{is_number, value_at}
-use Rattle.script_reader.proofs.Truths.{lt-true}
+use Rattle.script_grammar.specs.Places.{is_number, value_at}
+use Rattle.script_grammar.proofs.Truths.{lt-true}
 
 pub own : IsNumeralModel (λ ds. all_ascii_digits ds ≡ true) (digits_value 10)
 own = numerals_by_value _ tells_all_ascii_digits

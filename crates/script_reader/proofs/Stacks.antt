@@ -4,14 +4,13 @@ use Rattle.std.specs.Prelude.{option_map}
 use Rattle.std.proofs.lemmas.Option.{slice_get-map, slice_get_read}
 use Rattle.std.proofs.lemmas.List.{length-map}
 use Rattle.script_reader.specs.declared.script.Coroutine.{Coroutine}
-use Rattle.script_reader.specs.declared.script.Spawn.{Spawn}
-use Rattle.script_reader.specs.Programs.{Block, block_of, spawn_of, spawned_by, launched, laid_out, layouts, launch_back, code_of_block, tags_for}
-use Rattle.script_reader.proofs.Truths.{both_true, lt-from_true}
-use Rattle.script_reader.proofs.Layouts.{all_append, all_below, layout, layout-next, laid_out-append, launched_each, in_block}
-
--- what the lines of this block launch
-abbrev pub launched_in : List Block → ℕ → List ℕ
-launched_in bs block = launched (code_of_block (slice_get bs block))
+use Rattle.script_grammar.specs.Programs.{Block}
+use Rattle.script_grammar.specs.Tags.{spawned_by, launched, laid_out, layouts, code_of_block, tags_for}
+use Rattle.script_grammar.specs.Declarations.{launch_back, all_below}
+use Rattle.script_reader.specs.Programs.{block_of}
+use Rattle.script_reader.specs.TagTables.{launched_in}
+use Rattle.script_grammar.proofs.Truths.{both_true, lt-from_true}
+use Rattle.script_grammar.proofs.Layouts.{all_append, layout, layout-next, laid_out-append, launched_each, in_block}
 
 launched_below : (bs : List Block) (i : ℕ) → launch_back 0 bs ≡ true → all_below (length bs) (launched_in bs i) ≡ true
 launched_below bs i back = in_block (λ c. all_below (length bs) (launched c)) refl bs i (slice_get bs i) (launched_each (length bs) 0 bs (omega arith) back) refl
@@ -59,23 +58,3 @@ pub first_below : (cs : List Coroutine) (all tags top rest : List ℕ) (block : 
 first_below cs all tags top rest block is stands =
     let known = both_true (nat_lt block (length (map block_of cs))) (all_below (length (map block_of cs)) rest) (ap (all_below (length (map block_of cs))) (sym is) ∙ stands.known) in
     omega (arith, lt-from_true block (length (map block_of cs)) known.0, length-map cs block_of)
-
--- the bound on the tags, of equal lists
-pub few_same : (cs ds : List Coroutine) (ss ts : List Spawn) (main : ℕ) → ds ≡ cs → ts ≡ ss → length (tags_for (map block_of cs) (spawned_by (map spawn_of ss)) (Some main)) ≤ 16000 → length (tags_for (map block_of ds) (spawned_by (map spawn_of ts)) (Some main)) ≤ 16000
-few_same cs ds ss ts main e f h =
-    let P : List Coroutine → Type 0 = λ xs. length (tags_for (map block_of xs) (spawned_by (map spawn_of ts)) (Some main)) ≤ 16000 in
-    let Q : List Spawn → Type 0 = λ xs. length (tags_for (map block_of cs) (spawned_by (map spawn_of xs)) (Some main)) ≤ 16000 in
-    subst P (sym e) (subst Q (sym f) h)
-
-launched_some : (o : Option Coroutine) (blocks : List ℕ) → Some blocks ≡ option_map (λ (c : Coroutine). launched c.code.items) o → blocks ≡ launched (code_of_block (option_map block_of o))
-launched_some None blocks e = cc
-launched_some (Some c) blocks e = cc
-
--- what each block launches, found once
-pub launched_at : {V : Type 0} (items : V → List ℕ) (each : List V) (cs : List Coroutine) (i : ℕ) (x : V) → map items each ≡ map (λ c. launched c.code.items) cs → i < length cs → x ≡ get_or each i x → items x ≡ launched (code_of_block (slice_get (map block_of cs) i))
-launched_at items each cs i x same h at =
-    let f = λ (c : Coroutine). launched c.code.items in
-    let long : i < length each = omega (arith, h, ap length same, length-map each items, length-map cs f) in
-    launched_some (slice_get cs i) (items x)
-    (ap (option_map items) (sym (slice_get_read each (length each) i x refl long at)) ∙ sym (slice_get-map items each i) ∙ ap (λ l. slice_get l i) same ∙ slice_get-map f cs i)
-    ∙ ap (λ o. launched (code_of_block o)) (sym (slice_get-map block_of cs i))

@@ -1,6 +1,7 @@
 -- What a script in memory says.
+use Rattle.script_grammar.specs.Programs.{Program}
 use Rattle.script_reader.specs.declared.script.Script.{Script}
-use Rattle.script_reader.specs.Programs.{Program, program_from}
+use Rattle.script_reader.specs.Programs.{program_from}
 
 -- what the script says
 abbrev pub program_of : Script → Program

@@ -1,193 +1,215 @@
 //! What a line adds to the script so far.
 
-ghost use Rattle.std.specs.Prelude.{◌≡◌, ◌≤◌, OnOk, option_map};
-ghost use Rattle.script_reader.specs.Faults.{Leaves};
-ghost use Rattle.script_reader.specs.Programs.{block_of};
-ghost use Rattle.script_reader.specs.Words.{texts};
-ghost use Rattle.script_reader.specs.Forms.{after, start, with_line, with_launch, open_load, launch_is, spawn_is, end_is};
-ghost use Rattle.script_reader.specs.Texts.{step, line_at};
-ghost use Rattle.script_reader.specs.Reading.{view, said, name_in, Few, HasFewJobs};
+ghost use Rattle.std.specs.Prelude.{◌≡◌, ◌<◌, ◌++◌, ◌∷◌, [], ℕ, List, OnOk, IfOk, Some, true, if◌then◌else◌, length, map, option_map, string_bytes};
+ghost use Rattle.script_grammar.specs.Blocks.{gives_awaitable, listed, opened, with_line};
+ghost use Rattle.script_grammar.specs.Programs.{channel_names};
+ghost use Rattle.script_grammar.specs.Reads.{after, start, end_is};
+ghost use Rattle.script_reader.specs.Programs.{declared_of, block_of};
+ghost use Rattle.script_reader.specs.Reading.{view, said, open_of, name_in, HasFewJobs};
+ghost use Rattle.script_reader.specs.Entering.{IsNewName, IsNewJob, HasRoom, CanEnter, weight_with};
+ghost use Rattle.script_reader.specs.Holding.{IsNewBlock};
+ghost use Rattle.script_reader.specs.Limits.{open_weight};
 
-use crate::fault::FaultKind;
 use crate::form::Spoken;
-use crate::lines::{form_of, grown_load, new_load, weight_of, weight_of_all};
-use crate::reading::Reading;
-use crate::script::{Channel, Coroutine, Instruction, Spawn};
-use crate::words::{every_plain, words};
+use crate::names::Indexed;
+use crate::nesting::{enter_clause, enter_nest};
+use crate::reading::{OpenBlock, Reading};
+use crate::script::{Channel, Coroutine, Spawn};
 use channel_model::Kind;
+use script_grammar::{Instruction, Launching};
 use std::alloc::{AllocError, Global};
 
+/// The script before its first line.
 pub(crate) fn empty(alloc: Global) -> Reading
-    ensures { view result ≡ start }
+    ensures view { view result ≡ start }
+    ensures places { result.places ≡ 0 }
+    ensures load { result.load ≡ 0 }
+    ensures runs { result.runs ≡ true }
 {
     Reading {
-        channels: Vec::new(alloc),
-        coroutines: Vec::new(alloc),
+        channels: Indexed::new(alloc),
+        places: 0,
+        coroutines: Indexed::new(alloc),
         spawns: Vec::new(alloc),
-        block: None,
         weights: Vec::new(alloc),
-        weight: 0,
+        current: None,
         load: 0,
+        runs: true,
     }
 }
 
-fn push_line(block: &mut Option<Coroutine>, line: Instruction) -> Result<(), AllocError>
-    ensures { OnOk result (option_map block_of block.new ≡ with_line line (option_map block_of block.old)) }
+fn gives_awaitable(line: Instruction) -> bool
+    ensures { result ≡ gives_awaitable line }
 {
-    if let Some(open) = block {
-        open.code.push(line)?;
-    }
-    Ok(())
+    matches!(
+        line,
+        Instruction::Launch {
+            how: Launching::Async | Launching::Lazy,
+            ..
+        }
+    )
 }
 
-fn push_launch(
+fn push_name(
     alloc: Global,
-    block: &mut Option<Coroutine>,
-    target: u16,
-    lazy: bool,
+    names: &mut Indexed<String>,
     name: Option<&str>,
 ) -> Result<(), AllocError>
-    requires { HasFewJobs block.old }
-    ensures { OnOk result (option_map block_of block.new ≡ with_launch target lazy (name_in name.entry) (option_map block_of block.old)) }
+    requires new { IsNewName (map string_bytes names.old.items.items) (name_in name) }
+    requires few { length names.old.items.items < 65536 }
+    ensures { OnOk result (map string_bytes names.new.items.items ≡ map string_bytes names.old.items.items ++ listed (name_in name.entry)) }
 {
-    if let Some(open) = block {
-        let Some(name) = name else {
-            open.code.push(Instruction::Launch {
-                block: target,
-                lazy,
-                job: None,
-            })?;
-            return Ok(());
-        };
-        let job = open.jobs.len() as u16;
+    if let Some(name) = name {
         let name = String::from_str(alloc, name)?;
-        open.jobs.push(name)?;
-        open.code.push(Instruction::Launch {
-            block: target,
-            lazy,
-            job: Some(job),
-        })?;
+        names.push(alloc, name)?;
     }
     Ok(())
 }
 
-fn open_load(reading: &Reading, weight: usize) -> usize
-    requires few { Few reading.now }
-    requires fits { weight ≤ 65535 }
-    ensures { result ≡ open_load (view reading.now).block (view reading.now) weight }
-{
-    match &reading.block {
-        None => reading.load,
-        Some(open) => grown_load(reading, open, weight),
-    }
-}
-
-/// Adds a line that launches.
-fn enter_launch(
-    alloc: Global,
-    reading: &mut Reading,
-    block: u16,
-    lazy: bool,
-    name: Option<&str>,
+fn push_awaitable(
+    awaitable: &mut Vec<bool>,
+    named: bool,
+    line: Instruction,
 ) -> Result<(), AllocError>
-    requires { Few reading.old }
-    ensures { OnOk result (view reading.new ≡ after (launch_is block lazy (name_in name.entry)) (view reading.old)) }
+    ensures { OnOk result (awaitable.new.items ≡ (if named then awaitable.old.items ++ gives_awaitable line ∷ [] else awaitable.old.items)) }
 {
-    let weight = weight_of(reading, block);
-    let load = open_load(reading, weight);
-    push_launch(alloc, &mut reading.block, block, lazy, name)?;
-    reading.weight += weight;
-    reading.load = load;
+    if named {
+        awaitable.push(gives_awaitable(line))?;
+    }
     Ok(())
 }
 
-/// Adds a spawn.
-fn enter_spawn(reading: &mut Reading, coroutine: u16, count: u16) -> Result<(), AllocError>
-    requires { Few reading.old }
-    ensures { OnOk result (view reading.new ≡ after (spawn_is coroutine count) (view reading.old)) }
+/// Adds a line to a block, and the new name of its Job. The weight is that of the block with it.
+fn enter_line(
+    alloc: Global,
+    block: &mut OpenBlock,
+    line: Instruction,
+    job: Option<&str>,
+    weight: u16,
+) -> Result<(), AllocError>
+    requires new { IsNewName (map string_bytes block.old.jobs.items.items) (name_in job) }
+    requires few { length block.old.jobs.items.items < 65536 }
+    ensures { OnOk result ((weights : List ℕ) → weight ≡ weight_with weights line (open_of block.old) → open_of block.new ≡ with_line weights line (name_in job.entry) (open_of block.old)) }
 {
-    let load = reading.load + weight_of_all(reading, coroutine, count);
-    reading.spawns.push(Spawn { coroutine, count })?;
-    reading.load = load;
+    let selecting = block.clauses.is_some();
+    enter_nest(&mut block.nest, selecting, line)?;
+    enter_clause(alloc, &mut block.clauses, line)?;
+    push_awaitable(&mut block.awaitable, job.is_some(), line)?;
+    push_name(alloc, &mut block.jobs, job)?;
+    block.code.push(line)?;
+    block.weight = weight;
+    Ok(())
+}
+
+/// Adds a line to the block that is open.
+fn enter_open(
+    alloc: Global,
+    current: &mut Option<OpenBlock>,
+    line: Instruction,
+    job: Option<&str>,
+    weight: u16,
+) -> Result<(), AllocError>
+    requires new { IsNewJob (option_map open_of current.old) (name_in job) }
+    requires few { HasFewJobs current.old }
+    ensures { OnOk result ((weights : List ℕ) → weight ≡ open_weight (option_map (with_line weights line (name_in job.entry)) (option_map open_of current.old)) → option_map open_of current.new ≡ option_map (with_line weights line (name_in job.entry)) (option_map open_of current.old)) }
+{
+    match current {
+        Some(block) => enter_line(alloc, block, line, job, weight),
+        None => Ok(()),
+    }
+}
+
+/// The block of this name, after its first line.
+fn opened(alloc: Global, name: &str) -> Result<OpenBlock, AllocError>
+    ensures { IfOk result (λ block. open_of block ≡ opened name.now) }
+{
+    let name = String::from_str(alloc, name)?;
+    Ok(OpenBlock {
+        name,
+        jobs: Indexed::new(alloc),
+        awaitable: Vec::new(alloc),
+        code: Vec::new(alloc),
+        nest: Vec::new(alloc),
+        clauses: None,
+        weight: 1,
+    })
+}
+
+/// Adds a channel of a new name.
+#[tactic(auto, using(crate::proofs::NameTexts::names_of_channels))]
+fn enter_channel(
+    alloc: Global,
+    channels: &mut Indexed<Channel>,
+    name: &str,
+    kind: Kind,
+    places: u32,
+) -> Result<(), AllocError>
+    requires new { IsNewName (channel_names (map declared_of channels.old.items.items)) (Some name.now) }
+    requires few { length channels.old.items.items < 65536 }
+    ensures { OnOk result (map declared_of channels.new.items.items ≡ map declared_of channels.old.items.items ++ record { name = name.now; kind = kind; places = places } ∷ []) }
+{
+    let name = String::from_str(alloc, name)?;
+    channels.push(alloc, Channel { name, kind, places })?;
     Ok(())
 }
 
 /// Closes the block that is open.
-fn enter_end(reading: &mut Reading) -> Result<(), AllocError>
-    requires { Few reading.old }
+#[tactic(auto, using(crate::proofs::NameTexts::names_of_blocks))]
+fn enter_end(alloc: Global, reading: &mut Reading) -> Result<(), AllocError>
+    requires new { IsNewBlock (view reading.old).blocks (view reading.old).current }
+    requires few { HasRoom (length reading.old.coroutines.items.items) (view reading.old).current }
     ensures { OnOk result (view reading.new ≡ after end_is (view reading.old)) }
 {
-    let weight = reading.weight as u16;
-    reading.weight = 0;
-    if let Some(block) = reading.block.take() {
-        reading.coroutines.push(block)?;
+    if let Some(block) = reading.current.take() {
+        let OpenBlock {
+            name,
+            jobs,
+            awaitable: _,
+            code,
+            nest: _,
+            clauses: _,
+            weight,
+        } = block;
+        let Indexed {
+            items: jobs,
+            index: _,
+        } = jobs;
         reading.weights.push(weight)?;
+        reading
+            .coroutines
+            .push(alloc, Coroutine { name, jobs, code })?;
     }
     Ok(())
 }
 
-fn enter(alloc: Global, reading: &mut Reading, form: Spoken<'_>) -> Result<(), AllocError>
-    requires { Few reading.old }
-    ensures { OnOk result (view reading.new ≡ after (said form.entry) (view reading.old)) }
+/// Adds a line. The weight is that of the block that is open after it.
+pub(crate) fn enter(
+    alloc: Global,
+    reading: &mut Reading,
+    form: Spoken<'_>,
+    weight: u16,
+) -> Result<(), AllocError>
+    requires can { CanEnter (view reading.old) (said form) }
+    requires jobs { HasFewJobs reading.old.current }
+    requires channels { length reading.old.channels.items.items < 65536 }
+    requires blocks { HasRoom (length reading.old.coroutines.items.items) (view reading.old).current }
+    requires weight { weight ≡ open_weight (after (said form) (view reading.old)).current }
+    ensures view { OnOk result (view reading.new ≡ after (said form.entry) (view reading.old)) }
 {
     match form {
-        Spoken::Channel(name, places) => {
-            let name = String::from_str(alloc, name)?;
-            reading.channels.push(Channel {
-                name,
-                kind: Kind::Rendezvous,
-                places,
-            })?;
-            Ok(())
+        Spoken::Channel(name, kind, places) => {
+            enter_channel(alloc, &mut reading.channels, name, kind, places)
         }
         Spoken::Coroutine(name) => {
-            let load = reading.load + new_load(name.as_bytes());
-            let name = String::from_str(alloc, name)?;
-            reading.block = Some(Coroutine {
-                name,
-                jobs: Vec::new(alloc),
-                code: Vec::new(alloc),
-            });
-            reading.weight = 1;
-            reading.load = load;
+            let block = opened(alloc, name)?;
+            reading.current = Some(block);
             Ok(())
         }
-        Spoken::Spawn(coroutine, count) => enter_spawn(reading, coroutine, count),
-        Spoken::Send(c, value) => push_line(&mut reading.block, Instruction::Send { c, value }),
-        Spoken::Receive(c) => push_line(&mut reading.block, Instruction::Receive { c }),
-        Spoken::Yield => push_line(&mut reading.block, Instruction::Yield),
-        Spoken::Launch(block, lazy, name) => enter_launch(alloc, reading, block, lazy, name),
-        Spoken::Start(job) => push_line(&mut reading.block, Instruction::Start { job }),
-        Spoken::Cancel(job) => push_line(&mut reading.block, Instruction::Cancel { job }),
-        Spoken::Fail(code) => push_line(&mut reading.block, Instruction::Fail { code }),
-        Spoken::SetResult(value) => push_line(&mut reading.block, Instruction::SetResult { value }),
-        Spoken::End => enter_end(reading),
+        Spoken::Spawn(coroutine, count) => {
+            reading.spawns.push(Spawn { coroutine, count })?;
+            Ok(())
+        }
+        Spoken::Line(line, job) => enter_open(alloc, &mut reading.current, line, job, weight),
+        Spoken::End => enter_end(alloc, reading),
     }
-}
-
-/// Reads the words of one line.
-#[tactic(auto, unfolding(crate::specs::Texts::step))]
-fn words_in(alloc: Global, reading: &mut Reading, words: &[&[u8]]) -> Result<(), FaultKind>
-    requires { Few reading.old }
-    ensures { Leaves result (view reading.new) (step (view reading.old) (texts words.now)) }
-{
-    let [word, rest @ ..] = words else {
-        return Ok(());
-    };
-    let form = form_of(reading, *word, rest)?;
-    enter(alloc, reading, form)?;
-    Ok(())
-}
-
-/// Reads one line.
-#[tactic(auto, unfolding(crate::specs::Texts::line_at))]
-pub(crate) fn line_in(alloc: Global, reading: &mut Reading, line: &[u8]) -> Result<(), FaultKind>
-    requires { Few reading.old }
-    ensures { Leaves result (view reading.new) (line_at (view reading.old) line.now) }
-{
-    if !every_plain(line) {
-        return Err(FaultKind::NotAscii);
-    }
-    let found = words(alloc, line)?;
-    words_in(alloc, reading, &found)
 }

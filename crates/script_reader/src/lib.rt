@@ -1,33 +1,67 @@
-//! Scripts of coroutines, read from text.
+//! Scripts of coroutines: read from text, printed as text.
 //!
-//! `read` makes a script of a text, or names the first line that is at fault. `specs/Grammar.antt` says what a text
-//! spells, and the clauses of `read` that it reads just that.
+//! `read` makes a script of a text, or names its first line that is at fault; `print` writes a script out, so that it is read as
+//! the same script; `generate` makes the script whose run adds up numbers. What a text spells, and which line is first at fault,
+//! is said by the definitions of `script_grammar`.
+//!
+//! The script:
 //!
 //! - `script`: a script and its parts.
-//! - `fault`: why a text is no script.
-//! - `words`: the lines of a text, and the words of a line.
-//! - `form`: what a line says.
-//! - `place`: what stands at each place of a line, from left to right.
+//! - `names`: items that are found by their names.
 //! - `reading`: the script so far.
-//! - `lines`: the form of each line.
-//! - `enter`: what a line adds to the script so far.
-//! - `tags`: the block of each tag.
+//! - `form`: what a line says.
+//!
+//! From a text to a script:
+//!
+//! - `words`: the lines of a text, and the words of a line.
+//! - `place`, `channels`: what stands at each place of a line, from left to right.
+//! - `verbs`: first words of the lines of a coroutine.
+//! - `lines`, `blocks`: the form of each line of a coroutine.
+//! - `outside`: the form of each line outside coroutines, and of any line.
+//! - `limits`: the limits, and the totals that a line leads to.
+//! - `nesting`, `enter`: what a line adds to the script so far.
+//! - `running`: which lines run yet.
 //! - `text`: all lines of a text.
+//! - `closings`, `launches`, `sizes`, `tags`: the tables of a script.
+//! - `finish`: the script, after the last line.
 //! - `reader`: the script of a text.
+//!
+//! From a script to a text:
+//!
+//! - `lines_out`, `printed_lines`: lines as they are printed.
+//! - `printer`: a script written out.
+//! - `generator`: the script whose run adds up numbers.
 #![tactic(auto)]
 
+mod blocks;
+mod channels;
+mod closings;
 mod enter;
-mod fault;
+mod finish;
 mod form;
+mod generator;
+mod launches;
+mod limits;
 mod lines;
+mod lines_out;
+mod names;
+mod nesting;
+mod outside;
 mod place;
+mod printed_lines;
+mod printer;
 mod reader;
 mod reading;
+mod running;
 mod script;
+mod sizes;
 mod tags;
 mod text;
+mod verbs;
 mod words;
 
-pub use fault::{FaultKind, ScriptFault};
+pub use generator::generate;
+pub use printer::print;
 pub use reader::read;
-pub use script::{Channel, Coroutine, Instruction, Operand, Script, Spawn};
+pub use script::{Channel, Coroutine, Script, Spawn};
+pub use script_grammar::{FaultKind, Instruction, Launching, Operand, ScriptFault};

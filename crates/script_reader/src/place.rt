@@ -1,34 +1,17 @@
 //! What stands at each place of a line, from left to right.
 
-ghost use Rattle.std.specs.Prelude.{◌≡◌, ◌≤◌, List, ℕ, IfOk, length, map, true, string_bytes};
-ghost use Rattle.script_reader.specs.Reading.{name_in};
+ghost use Rattle.std.specs.Prelude.{◌≡◌, ◌≤◌, IfOk, map, true, string_bytes};
 ghost use Rattle.std.specs.Str.{all_ascii_digits};
-ghost use Rattle.script_reader.specs.Faults.{Gives};
-ghost use Rattle.script_reader.specs.Words.{texts};
-ghost use Rattle.script_reader.specs.Places.{word_at, end_at, at_most, is_number, number_at, value_at, places_at, count_at, operand_at, is_name_byte, all_name_bytes, is_name, name_at, place_from, new_at, known_at, is_main, other_than_main, job_named, job_at};
+ghost use Rattle.std.specs.List.{list_all};
+ghost use Rattle.script_grammar.specs.Words.{texts};
+ghost use Rattle.script_grammar.specs.Blocks.{is_main};
+ghost use Rattle.script_grammar.specs.Grammar.{is_name, is_name_byte};
+ghost use Rattle.script_grammar.specs.Places.{end_at, is_number, number_at, value_at, operand_at, name_at, new_at, known_at, other_than_main, job_named, job_at};
+ghost use Rattle.script_reader.specs.Answers.{Gives};
+ghost use Rattle.script_reader.specs.Reading.{name_in};
 
-use crate::fault::FaultKind;
-use crate::script::Operand;
-
-/// What has a name.
-pub(crate) trait Named {
-    ghost name_of: { Self → List ℕ };
-
-    fn name(&self) -> &str
-        ensures { result.now ≡ name_of self.now };
-}
-
-pub(crate) fn word_of<'a, 'b>(
-    expected: &[u8],
-    words: &'b [&'a [u8]],
-) -> Result<&'b [&'a [u8]], FaultKind>
-    ensures { Gives (λ rest. texts rest.now) result (word_at expected.now (texts words.now)) }
-{
-    match words {
-        [word, rest @ ..] if *word == expected => Ok(rest),
-        _ => Err(FaultKind::UnknownWord),
-    }
-}
+use crate::names::{Indexed, Named};
+use script_grammar::{FaultKind, Operand};
 
 pub(crate) fn end_of(words: &[&[u8]]) -> Result<(), FaultKind>
     ensures { Gives (λ _. tt) result (end_at (texts words.now)) }
@@ -37,16 +20,6 @@ pub(crate) fn end_of(words: &[&[u8]]) -> Result<(), FaultKind>
         Ok(())
     } else {
         Err(FaultKind::Extra)
-    }
-}
-
-pub(crate) fn at_most(limit: usize, count: usize) -> Result<(), FaultKind>
-    ensures { Gives (λ _. tt) result (at_most limit count) }
-{
-    if count <= limit {
-        Ok(())
-    } else {
-        Err(FaultKind::TooMany)
     }
 }
 
@@ -104,30 +77,6 @@ pub(crate) fn number_of<'a, 'b>(
     }
 }
 
-/// The number of places of a channel, and the words after it.
-pub(crate) fn places_of<'a, 'b>(words: &'b [&'a [u8]]) -> Result<(u32, &'b [&'a [u8]]), FaultKind>
-    ensures { Gives (λ x. (x.0, texts x.1.now)) result (places_at (texts words.now)) }
-{
-    match words {
-        [] => Ok((16_384, words)),
-        [word, rest @ ..] if *word == b"places".as_slice() => number_of(1, 1_048_576, rest),
-        _ => Err(FaultKind::Extra),
-    }
-}
-
-/// The number of instances of a spawn, and the words after it.
-pub(crate) fn count_of<'a, 'b>(words: &'b [&'a [u8]]) -> Result<(u16, &'b [&'a [u8]]), FaultKind>
-    ensures { Gives (λ x. (x.0, texts x.1.now)) result (count_at (texts words.now)) }
-{
-    match words {
-        [] => Ok((1, words)),
-        _ => {
-            let (count, rest) = number_of(1, 16_000, words)?;
-            Ok((count as u16, rest))
-        }
-    }
-}
-
 /// What is sent, or is the result, and the words after it.
 pub(crate) fn operand_of<'a, 'b>(
     words: &'b [&'a [u8]],
@@ -151,7 +100,7 @@ fn name_byte(byte: u8) -> bool
 }
 
 fn all_name(word: &[u8]) -> bool
-    ensures { result ≡ all_name_bytes word.now }
+    ensures { result ≡ list_all is_name_byte word.now }
 {
     let mut rest = word;
     while let [byte, more @ ..] = rest {
@@ -192,46 +141,27 @@ pub(crate) fn name_of<'a, 'b>(words: &'b [&'a [u8]]) -> Result<(&'a str, &'b [&'
     }
 }
 
-/// The number of the item that has this name.
-pub(crate) fn place_of<T: Named>(items: &[T], name: &str) -> Option<u16>
-    requires { length items.now ≤ 65536 }
-    ensures { result ≡ place_from 0 name.now (map T.name_of items.now) }
-{
-    let mut place = 0usize;
-    let mut rest = items;
-    while let [item, more @ ..] = rest {
-        if item.name() == name {
-            return Some(place as u16);
-        }
-        place += 1;
-        rest = more;
-    }
-    None
-}
-
-pub(crate) fn new_of<'a, 'b, T: Named>(
-    items: &[T],
+pub(crate) fn new_of<'a, 'b, T: Named + Drop>(
+    items: &Indexed<T>,
     words: &'b [&'a [u8]],
 ) -> Result<(&'a str, &'b [&'a [u8]]), FaultKind>
-    requires { length items.now ≤ 65536 }
-    ensures { Gives (λ x. (x.0.now, texts x.1.now)) result (new_at (map T.name_of items.now) (texts words.now)) }
+    ensures { Gives (λ x. (x.0.now, texts x.1.now)) result (new_at (map T.name_of items.now.items.items) (texts words.now)) }
 {
     let (word, rest) = name_of(words)?;
-    match place_of(items, word) {
+    match items.place(word) {
         None => Ok((word, rest)),
         Some(_) => Err(FaultKind::Duplicate),
     }
 }
 
-pub(crate) fn known_of<'a, 'b, T: Named>(
-    items: &[T],
+pub(crate) fn known_of<'a, 'b, T: Named + Drop>(
+    items: &Indexed<T>,
     words: &'b [&'a [u8]],
 ) -> Result<(u16, &'b [&'a [u8]]), FaultKind>
-    requires { length items.now ≤ 65536 }
-    ensures { Gives (λ x. (x.0, texts x.1.now)) result (known_at (map T.name_of items.now) (texts words.now)) }
+    ensures { Gives (λ x. (x.0, texts x.1.now)) result (known_at (map T.name_of items.now.items.items) (texts words.now)) }
 {
     let (word, rest) = name_of(words)?;
-    match place_of(items, word) {
+    match items.place(word) {
         Some(i) => Ok((i, rest)),
         None => Err(FaultKind::Undeclared),
     }
@@ -243,6 +173,7 @@ pub(crate) fn names_main(word: &[u8]) -> bool
     word == b"main".as_slice()
 }
 
+/// That the first of these words is not `main`.
 pub(crate) fn not_main(words: &[&[u8]]) -> Result<(), FaultKind>
     ensures { Gives (λ _. tt) result (other_than_main (texts words.now)) }
 {
@@ -252,17 +183,8 @@ pub(crate) fn not_main(words: &[&[u8]]) -> Result<(), FaultKind>
     }
 }
 
-impl Named for String {
-    ghost name_of = { λ s. string_bytes s };
-
-    fn name(&self) -> &str {
-        self.as_str()
-    }
-}
-
-fn job_named<'a>(names: &[String], words: &[&'a [u8]]) -> Result<Option<&'a str>, FaultKind>
-    requires { length names.now ≤ 65536 }
-    ensures { Gives name_in result (job_named (map string_bytes names.now) (texts words.now)) }
+fn job_named<'a>(names: &Indexed<String>, words: &[&'a [u8]]) -> Result<Option<&'a str>, FaultKind>
+    ensures { Gives name_in result (job_named (map string_bytes names.now.items.items) (texts words.now)) }
 {
     let (name, rest) = new_of(names, words)?;
     end_of(rest)?;
@@ -270,9 +192,11 @@ fn job_named<'a>(names: &[String], words: &[&'a [u8]]) -> Result<Option<&'a str>
 }
 
 /// The new name of a Job, if there is a word.
-pub(crate) fn job_of<'a>(names: &[String], words: &[&'a [u8]]) -> Result<Option<&'a str>, FaultKind>
-    requires { length names.now ≤ 65536 }
-    ensures { Gives name_in result (job_at (map string_bytes names.now) (texts words.now)) }
+pub(crate) fn job_of<'a>(
+    names: &Indexed<String>,
+    words: &[&'a [u8]],
+) -> Result<Option<&'a str>, FaultKind>
+    ensures { Gives name_in result (job_at (map string_bytes names.now.items.items) (texts words.now)) }
 {
     match words {
         [] => Ok(None),

@@ -1,18 +1,37 @@
 //! The script so far.
 
+use crate::names::Indexed;
 use crate::script::{Channel, Coroutine, Spawn};
+use script_grammar::Instruction;
 
-/// What the lines so far declare, the block that is open, and how many tags these take.
+/// The block that is open.
+#[derive(Drop)]
+pub(crate) struct OpenBlock {
+    pub(crate) name: String,
+    pub(crate) jobs: Indexed<String>,
+    /// Whether each of these Jobs may be awaited.
+    pub(crate) awaitable: Vec<bool>,
+    pub(crate) code: Vec<Instruction>,
+    /// Of each repeat, each and scope that is open, the innermost first: how often its lines run.
+    pub(crate) nest: Vec<u32>,
+    /// The channels of the clauses of the select that is open, if one is.
+    pub(crate) clauses: Option<Vec<u16>>,
+    pub(crate) weight: u16,
+}
+
+/// What the lines so far declare, and the block that is open.
 #[derive(Drop)]
 pub(crate) struct Reading {
-    pub(crate) channels: Vec<Channel>,
-    pub(crate) coroutines: Vec<Coroutine>,
+    pub(crate) channels: Indexed<Channel>,
+    /// How many places the channels have together.
+    pub(crate) places: u32,
+    pub(crate) coroutines: Indexed<Coroutine>,
     pub(crate) spawns: Vec<Spawn>,
-    pub(crate) block: Option<Coroutine>,
     /// Of each block that is closed.
     pub(crate) weights: Vec<u16>,
-    /// Of the block that is open.
-    pub(crate) weight: usize,
-    /// Of main and of the instances of each spawn.
-    pub(crate) load: usize,
+    pub(crate) current: Option<OpenBlock>,
+    /// The weight of main so far, and of all instances of the spawns.
+    pub(crate) load: u32,
+    /// Whether all lines so far run.
+    pub(crate) runs: bool,
 }

@@ -1,11 +1,19 @@
 //! A script and its parts.
 
 ghost use Rattle.std.proofs.Props.{props};
-ghost use Rattle.std.specs.Prelude.{◌≡◌, ◌<◌, length, map, Some};
-ghost use Rattle.script_reader.specs.Programs.{program_from, IsProgram, declared_of, block_of, spawn_of, block_of_tag, coroutine_count, tags_of, size_of, sizes_in};
+ghost use Rattle.std.specs.Prelude.{◌≡◌, ◌<◌, nat_le, length, map, slice_get, string_bytes, true, Some};
+ghost use Rattle.std.specs.List.{list_all};
+ghost use Rattle.script_grammar.specs.WellFormed.{IsProgram};
+ghost use Rattle.script_grammar.specs.Nesting.{closing_of};
+ghost use Rattle.script_grammar.specs.Tags.{tags_of, size_of, sizes_in, block_of_tag, coroutine_count, scope_count};
+ghost use Rattle.script_reader.specs.Programs.{program_from, declared_of, block_of, spawn_of};
+ghost use Rattle.script_reader.specs.Closings.{closing_places};
+ghost use Rattle.script_reader.specs.Lines.{block_code, does_open};
 
+use crate::names::Named;
 use channel_model::Kind;
-use co_base::{ChannelId, Tag, Value};
+use co_base::Tag;
+use script_grammar::Instruction;
 
 /// A channel that a script declares.
 #[derive(Debug, Drop)]
@@ -13,47 +21,6 @@ pub struct Channel {
     pub name: String,
     pub kind: Kind,
     pub places: u32,
-}
-
-/// What a line sends, or gives as the result: a number, or the word that stands for one while the script runs.
-#[derive(Clone, Copy, Debug, PartialEq, Eq)]
-pub enum Operand {
-    Number(Value),
-    /// The word `it`.
-    It,
-    /// The word `sum`.
-    Sum,
-}
-
-/// One line of a coroutine.
-#[derive(Clone, Copy, Debug, PartialEq, Eq)]
-pub enum Instruction {
-    Send {
-        c: ChannelId,
-        value: Operand,
-    },
-    Receive {
-        c: ChannelId,
-    },
-    Yield,
-    /// Launches an instance of the block; `job` is the number of the name that its Job gets, among the names of the block.
-    Launch {
-        block: u16,
-        lazy: bool,
-        job: Option<u16>,
-    },
-    Start {
-        job: u16,
-    },
-    Cancel {
-        job: u16,
-    },
-    Fail {
-        code: Value,
-    },
-    SetResult {
-        value: Operand,
-    },
 }
 
 /// A coroutine that a script declares: its name, the names of its Jobs, and its lines.
@@ -73,6 +40,30 @@ pub struct Spawn {
     pub count: u16,
 }
 
+impl Named for Channel {
+    ghost name_of = { λ c. string_bytes c.name };
+
+    fn name(&self) -> &str {
+        self.name.as_str()
+    }
+}
+
+impl Named for Coroutine {
+    ghost name_of = { λ c. string_bytes c.name };
+
+    fn name(&self) -> &str {
+        self.name.as_str()
+    }
+}
+
+impl Named for String {
+    ghost name_of = { λ s. string_bytes s };
+
+    fn name(&self) -> &str {
+        self.as_str()
+    }
+}
+
 /// A script that was read. Channels, coroutines and spawns are numbered from 0, each in the order of their lines.
 #[derive(Debug, Drop)]
 pub struct Script {
@@ -83,9 +74,16 @@ pub struct Script {
     pub(crate) sizes: Vec<u16>,
     /// The block of each tag.
     pub(crate) tags: Vec<u16>,
+    /// Of each block and each of its lines, the line that closes what it opens.
+    pub(crate) closings: Vec<Vec<u32>>,
+    /// How many scopes may be entered in all.
+    pub(crate) scopes: u16,
     pub ghost well_formed: { IsProgram (program_from channels.items coroutines.items spawns.items) } by { Prim.hlevel props },
     pub ghost sized: { sizes.items ≡ sizes_in (map block_of coroutines.items) } by { Prim.hlevel props },
     pub ghost tagged: { tags.items ≡ tags_of (program_from channels.items coroutines.items spawns.items) } by { Prim.hlevel props },
+    pub ghost closed: { map (λ places. places.items) closings.items ≡ map (λ c. closing_places c.code.items) coroutines.items } by { Prim.hlevel props },
+    pub ghost short: { list_all (λ c. nat_le (length c.code.items) 1048577) coroutines.items ≡ true } by { Prim.hlevel props },
+    pub ghost counted: { scopes ≡ scope_count (program_from channels.items coroutines.items spawns.items) } by { Prim.hlevel props },
 }
 
 impl Script {
@@ -120,6 +118,13 @@ impl Script {
         self.tags.len() as u16
     }
 
+    /// How many scopes may be entered. Their Jobs and those of the coroutines are at most 16,000 together.
+    pub fn scopes(&self) -> u16
+        ensures { result ≡ scope_count (program_of self.now) }
+    {
+        self.scopes
+    }
+
     /// The coroutine, by its place among the blocks, whose lines the tag runs.
     pub fn coroutine_of(&self, tag: Tag) -> u16
         requires { tag < coroutine_count (program_of self.now) }
@@ -135,5 +140,13 @@ impl Script {
         ensures { result ≡ size_of (program_of self.now) block }
     {
         self.sizes[block as usize]
+    }
+
+    /// The place of the `end` that closes what a line of a block opens: a repeat, an each, a scope or a select.
+    pub fn closing(&self, block: u16, line: u32) -> u32
+        requires { does_open (slice_get (block_code (program_of self.now) block) line) ≡ true }
+        ensures { closing_of (block_code (program_of self.now) block) line ≡ Some result }
+    {
+        self.closings[block as usize][line as usize]
     }
 }

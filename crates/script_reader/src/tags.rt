@@ -1,53 +1,43 @@
-//! The blocks of all tags.
+//! The block of each tag.
 
-ghost use Rattle.std.specs.Prelude.{◌≡◌, ◌++◌, ◌<◌, ◌≤◌, OnOk, IfOk, List, ℕ, Some, true, length, map, replicate, reverse};
-ghost use Rattle.std.specs.List.{list_all};
-ghost use Rattle.script_reader.specs.Programs.{block_of, spawn_of, launch_of, launched, launch_back, spawned_by, is_spawn, tags_for};
+ghost use Rattle.std.specs.Prelude.{◌≡◌, ◌++◌, ◌<◌, ◌≤◌, OnOk, IfOk, IsSome, ℕ, Some, None, true, length, map, replicate, reverse, slice_index_or};
+ghost use Rattle.script_grammar.specs.Tags.{spawned_by, tags_for};
+ghost use Rattle.script_grammar.specs.Declarations.{launch_back, all_below};
+ghost use Rattle.script_reader.specs.Programs.{block_of, spawn_of};
+ghost use Rattle.script_reader.specs.TagTables.{launched_in, AreLists};
 
-use crate::script::{Coroutine, Instruction, Spawn};
+use crate::launches::launched;
+use crate::script::{Coroutine, Spawn};
 use std::alloc::{AllocError, Global};
 
-/// The block that a line launches.
-fn launch_of(line: Instruction) -> Option<u16>
-    ensures { result ≡ launch_of line }
+/// A place for what each block launches.
+fn no_lists(alloc: Global, coroutines: &[Coroutine]) -> Result<Vec<Option<Vec<u16>>>, AllocError>
+    ensures { IfOk result (λ lists. AreLists lists.items (map block_of coroutines.now)) }
 {
-    match line {
-        Instruction::Launch {
-            block,
-            lazy: _,
-            job: _,
-        } => Some(block),
-        _ => None,
+    let mut lists = Vec::new(alloc);
+    for _block in 0..coroutines.len() {
+        lists.push(None)?;
     }
+    Ok(lists)
 }
 
-/// The blocks that lines launch, in their order.
-fn launched(alloc: Global, code: &[Instruction]) -> Result<Vec<u16>, AllocError>
-    ensures { IfOk result (λ blocks. blocks.items ≡ launched code.now) }
+/// Finds what a block launches, if it was not found before.
+fn find_list(
+    alloc: Global,
+    coroutines: &[Coroutine],
+    lists: &mut Vec<Option<Vec<u16>>>,
+    block: u16,
+) -> Result<(), AllocError>
+    requires lists { AreLists lists.old.items (map block_of coroutines.now) }
+    requires declared { block < length coroutines.now }
+    ensures lists { OnOk result (AreLists lists.new.items (map block_of coroutines.now)) }
+    ensures found { OnOk result (IsSome (slice_index_or lists.new.items block None)) }
 {
-    let mut blocks = Vec::new(alloc);
-    let mut rest = code;
-    while let [line, more @ ..] = rest {
-        if let Some(block) = launch_of(*line) {
-            blocks.push(block)?;
-        }
-        rest = more;
+    if lists[block as usize].is_none() {
+        let list = launched(alloc, &coroutines[block as usize].code)?;
+        lists[block as usize] = Some(list);
     }
-    Ok(blocks)
-}
-
-/// The blocks that the lines of each coroutine launch.
-fn launched_by_each(alloc: Global, coroutines: &[Coroutine]) -> Result<Vec<Vec<u16>>, AllocError>
-    ensures { IfOk result (λ each. map (λ blocks. blocks.items) each.items ≡ map (λ c. launched c.code.items) coroutines.now) }
-{
-    let mut each = Vec::new(alloc);
-    let mut rest = coroutines;
-    while let [coroutine, more @ ..] = rest {
-        let blocks = launched(alloc, &coroutine.code)?;
-        each.push(blocks)?;
-        rest = more;
-    }
-    Ok(each)
+    Ok(())
 }
 
 /// Puts blocks on the stack, the first of them on top.
@@ -60,6 +50,26 @@ fn push_blocks(stack: &mut Vec<u16>, blocks: &[u16]) -> Result<(), AllocError>
         stack.push(blocks[left])?;
     }
     Ok(())
+}
+
+/// Puts what a block launches on the stack, the first of it on top.
+fn push_launched(
+    alloc: Global,
+    coroutines: &[Coroutine],
+    lists: &mut Vec<Option<Vec<u16>>>,
+    stack: &mut Vec<u16>,
+    block: u16,
+) -> Result<(), AllocError>
+    requires lists { AreLists lists.old.items (map block_of coroutines.now) }
+    requires declared { block < length coroutines.now }
+    ensures lists { OnOk result (AreLists lists.new.items (map block_of coroutines.now)) }
+    ensures pushed { OnOk result (reverse stack.new.items ≡ launched_in (map block_of coroutines.now) block ++ reverse stack.old.items) }
+{
+    find_list(alloc, coroutines, lists, block)?;
+    match &lists[block as usize] {
+        Some(list) => push_blocks(stack, list),
+        None => unreachable!(),
+    }
 }
 
 /// Puts a block on the stack so many times.
@@ -89,8 +99,8 @@ fn push_spawned(stack: &mut Vec<u16>, spawns: &[Spawn]) -> Result<(), AllocError
 
 /// The block of each tag: main's instance, then each instance with all that it launches.
 ///
-/// The stack holds the blocks that are still to be laid out. What each block launches is found once, so that the time grows
-/// with the length of the lines and of the table.
+/// The stack holds the blocks that are still to be laid out. What a block launches is found when its first instance is laid
+/// out, so that the time grows with the length of the lines and of the table.
 pub(crate) fn tags_in(
     alloc: Global,
     coroutines: &[Coroutine],
@@ -99,19 +109,19 @@ pub(crate) fn tags_in(
 ) -> Result<Vec<u16>, AllocError>
     requires back { launch_back 0 (map block_of coroutines.now) ≡ true }
     requires main { main < length coroutines.now }
-    requires spawns { list_all (is_spawn (length (map block_of coroutines.now))) (map spawn_of spawns.now) ≡ true }
+    requires spawns { all_below (length (map block_of coroutines.now)) (spawned_by (map spawn_of spawns.now)) ≡ true }
     requires few { length (tags_for (map block_of coroutines.now) (spawned_by (map spawn_of spawns.now)) (Some main)) ≤ 16000 }
     ensures { IfOk result (λ tags. tags.items ≡ tags_for (map block_of coroutines.now) (spawned_by (map spawn_of spawns.now)) (Some main)) }
 {
-    let each = launched_by_each(alloc, coroutines)?;
+    let mut lists = no_lists(alloc, coroutines)?;
     let mut tags = Vec::new(alloc);
     tags.push(main)?;
     let mut stack = Vec::new(alloc);
-    push_blocks(&mut stack, &each[main as usize])?;
+    push_launched(alloc, coroutines, &mut lists, &mut stack, main)?;
     push_spawned(&mut stack, spawns)?;
     while let Some(block) = stack.pop() {
         tags.push(block)?;
-        push_blocks(&mut stack, &each[block as usize])?;
+        push_launched(alloc, coroutines, &mut lists, &mut stack, block)?;
     }
     Ok(tags)
 }

@@ -1,91 +1,124 @@
 //! All lines of a text.
 
-ghost use Rattle.std.specs.Prelude.{◌≡◌, ◌≤◌, length, IfOk};
-ghost use Rattle.script_reader.specs.Faults.{Gives, GivesAt};
-ghost use Rattle.script_reader.specs.Words.{texts, text_length};
-ghost use Rattle.script_reader.specs.Forms.{start};
-ghost use Rattle.script_reader.specs.Texts.{lines_from, reading_of, finish};
-ghost use Rattle.script_reader.specs.Reading.{view, Few, IsSound};
-ghost use Rattle.script_reader.specs.Scripts.{program_of};
+ghost use Rattle.std.specs.Prelude.{◌≡◌, ◌+◌, ◌≤◌, ◌&&◌, OnOk, IfOk, Ok, length};
+ghost use Rattle.script_grammar.specs.Words.{texts, lines_of};
+ghost use Rattle.script_grammar.specs.Programs.{Program};
+ghost use Rattle.script_grammar.specs.Reads.{start};
+ghost use Rattle.script_grammar.specs.WellFormed.{IsProgram};
+ghost use Rattle.script_grammar.specs.Forms.{step};
+ghost use Rattle.script_grammar.specs.Texts.{line_at, lines_from, finish, reading_of};
+ghost use Rattle.script_reader.specs.Answers.{Gives, Leaves, GivesAt};
+ghost use Rattle.script_reader.specs.Reading.{view, said};
+ghost use Rattle.script_reader.specs.Running.{form_runs};
+ghost use Rattle.script_reader.specs.Holding.{Holds, cost};
+ghost use Rattle.script_reader.specs.Stops.{stop_after, IsStop};
 
-use crate::enter::{empty, line_in};
-use crate::fault::{FaultKind, ScriptFault};
-use crate::place::place_of;
+use crate::enter::{empty, enter};
+use crate::form::Spoken;
+use crate::limits::totals_after;
+use crate::outside::form_of;
 use crate::reading::Reading;
-use crate::script::Script;
-use crate::tags::tags_in;
-use crate::words::lines;
+use crate::running::form_runs;
+use crate::words::{every_plain, fill_words, first_line, trimmed};
+use script_grammar::{FaultKind, ScriptFault};
 use std::alloc::Global;
 
-fn lines_in(alloc: Global, lines: &[&[u8]]) -> Result<Reading, ScriptFault>
-    requires { text_length (texts lines.now) ≤ 1048577 }
-    ensures given { GivesAt view result (lines_from 1 start (texts lines.now)) }
-    ensures sound { IfOk result (λ reading. IsSound (view reading)) }
-    ensures few { IfOk result Few }
+/// Whether all lines run, with one line more.
+fn runs_after(reading: &Reading, form: &Spoken<'_>) -> bool
+    ensures { result ≡ (form_runs (said form.now) && reading.now.runs) }
+{
+    form_runs(form) && reading.runs
+}
+
+/// Reads the words of one line.
+#[tactic(auto, unfolding(script_grammar::specs::Forms::step))]
+fn words_in(alloc: Global, reading: &mut Reading, words: &[&[u8]]) -> Result<(), FaultKind>
+    requires holds { Holds reading.old }
+    requires short { cost (view reading.old) ≤ 1048577 }
+    ensures left { Leaves result (view reading.new) (step (view reading.old) (texts words.now)) }
+    ensures holds { OnOk result (Holds reading.new) }
+{
+    let [word, rest @ ..] = words else {
+        return Ok(());
+    };
+    let form = form_of(reading, *word, rest)?;
+    let totals = totals_after(reading, &form)?;
+    let runs = runs_after(reading, &form);
+    enter(alloc, reading, form, totals.weight)?;
+    reading.places = totals.places;
+    reading.load = totals.load;
+    reading.runs = runs;
+    Ok(())
+}
+
+/// Reads one line. The vector is a place for its words.
+#[tactic(auto, unfolding(script_grammar::specs::Texts::line_at))]
+fn line_in<'a>(
+    alloc: Global,
+    reading: &mut Reading,
+    words: &mut Vec<&'a [u8]>,
+    line: &'a [u8],
+) -> Result<(), FaultKind>
+    requires holds { Holds reading.old }
+    requires short { cost (view reading.old) ≤ 1048577 }
+    ensures left { Leaves result (view reading.new) (line_at (view reading.old) line.now) }
+    ensures holds { OnOk result (Holds reading.new) }
+{
+    if !every_plain(line) {
+        return Err(FaultKind::NotAscii);
+    }
+    fill_words(words, line)?;
+    words_in(alloc, reading, words)
+}
+
+/// What was read of all lines.
+#[derive(Drop)]
+pub(crate) struct Whole {
+    pub(crate) reading: Reading,
+    /// How many lines there are.
+    pub(crate) lines: u32,
+    /// The first line that does not run, if there is one.
+    pub(crate) stop: Option<u32>,
+}
+
+/// The first line that does not run, with one line more, of this number.
+fn stop_after(stop: Option<u32>, number: u32, runs: bool) -> Option<u32>
+    ensures { result ≡ stop_after stop number runs }
+{
+    match stop {
+        Some(line) => Some(line),
+        None => { if runs { None } else { Some(number) } }
+    }
+}
+
+/// Reads all lines of a text.
+pub(crate) fn lines_in(alloc: Global, bytes: &[u8]) -> Result<Whole, ScriptFault>
+    requires { length bytes.now ≤ 1048576 }
+    ensures given { GivesAt (λ whole. view whole.reading) result (lines_from 1 start (lines_of bytes.now)) }
+    ensures holds { IfOk result (λ whole. Holds whole.reading) }
+    ensures short { IfOk result (λ whole. cost (view whole.reading) ≤ 1048577) }
+    ensures count { IfOk result (λ whole. whole.lines ≡ length (lines_of bytes.now)) }
+    ensures stop { IfOk result (λ whole. IsStop bytes.now whole.stop (view whole.reading)) }
 {
     let mut reading = empty(alloc);
+    let mut words = Vec::new(alloc);
     let mut number = 1u32;
-    let mut rest = lines;
-    while let [line, more @ ..] = rest {
-        if let Err(kind) = line_in(alloc, &mut reading, *line) {
+    let mut stop = None;
+    let mut rest = trimmed(bytes);
+    'lines: loop {
+        let (line, more) = first_line(rest);
+        if let Err(kind) = line_in(alloc, &mut reading, &mut words, line) {
             return Err(ScriptFault { line: number, kind });
         }
+        stop = stop_after(stop, number, reading.runs);
+        let Some(next) = more else {
+            return Ok(Whole {
+                reading,
+                lines: number,
+                stop,
+            });
+        };
         number += 1;
-        rest = more;
-    }
-    Ok(reading)
-}
-
-/// The script, after the last line.
-fn finished(alloc: Global, reading: Reading) -> Result<Script, FaultKind>
-    requires sound { IsSound (view reading) }
-    requires few { Few reading }
-    ensures { Gives program_of result (finish (view reading)) }
-{
-    let Reading {
-        channels,
-        coroutines,
-        spawns,
-        block,
-        weights,
-        weight: _,
-        load: _,
-    } = reading;
-    if block.is_some() {
-        return Err(FaultKind::NoEnd);
-    }
-    match place_of(&coroutines, "main") {
-        Some(main) => {
-            let tags = tags_in(alloc, &coroutines, &spawns, main)?;
-            Ok(Script {
-                channels,
-                coroutines,
-                spawns,
-                sizes: weights,
-                tags,
-            })
-        }
-        None => Err(FaultKind::NoMain),
-    }
-}
-
-/// Reads a text that is not too long.
-pub(crate) fn read_text(alloc: Global, bytes: &[u8]) -> Result<Script, ScriptFault>
-    requires { length bytes.now ≤ 1048576 }
-    ensures { GivesAt program_of result (reading_of bytes.now) }
-{
-    let Ok(parts) = lines(alloc, bytes) else {
-        return Err(ScriptFault {
-            line: 0,
-            kind: FaultKind::Memory,
-        });
-    };
-    let count = parts.len() as u32;
-    match lines_in(alloc, &parts) {
-        Err(fault) => Err(fault),
-        Ok(reading) => match finished(alloc, reading) {
-            Ok(script) => Ok(script),
-            Err(kind) => Err(ScriptFault { line: count, kind }),
-        },
+        rest = next;
     }
 }

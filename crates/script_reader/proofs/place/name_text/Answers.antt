@@ -1,4 +1,4 @@
-use Rattle.script_reader.proofs.Names.{name_utf8}
+use Rattle.script_reader.proofs.NameTexts.{name_utf8}
 use Rattle.script_reader.proofs.place.name_text.Goals as goal
 
 pub unreachable-requires : goal.unreachable-requires

@@ -1,5 +1,6 @@
 use Rattle.std.proofs.Common.{◌≡◌, ◌≤◌, ◌++◌, length, drop, map, reverse}
-use Rattle.script_reader.specs.Programs.{spawn_of, spawned_by}
+use Rattle.script_grammar.specs.Tags.{spawned_by}
+use Rattle.script_reader.specs.Programs.{spawn_of}
 use Rattle.script_reader.proofs.tags.push_spawned.Given as goal
 
 abbrev pub invariant-loop-left : goal.invariant-loop-left

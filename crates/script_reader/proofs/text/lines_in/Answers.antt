@@ -1,45 +1,74 @@
-use Rattle.std.proofs.Common.{arith, ◌-◌, length, take, drop, [], ap, subst, sym}
-use Rattle.script_reader.specs.Words.{texts, text_length}
-use Rattle.script_reader.specs.Forms.{start}
-use Rattle.script_reader.specs.Texts.{lines_from}
+use Rattle.std.proofs.Common.{arith, sym, ap, ◌∙◌, ◌≡◌, ◌+◌, length, subst, refl, ℕ, List}
+use Rattle.std.specs.List.{slice_split}
+use Rattle.script_grammar.specs.Words.{is_line_feed, lines_of, without_last_feed}
+use Rattle.script_grammar.specs.Programs.{places_in}
+use Rattle.script_grammar.specs.Reads.{start, load}
+use Rattle.script_grammar.specs.Texts.{lines_from}
+use Rattle.script_grammar.specs.FirstRunning.{runs_so_far, first_not_running}
+use Rattle.script_reader.proofs.Stopping.{StopsAt, stops_more, stops_end}
+use Rattle.script_reader.specs.Stops.{IsStop}
 use Rattle.script_reader.specs.Reading.{view}
-use Rattle.script_reader.proofs.Loops.{unless_still, lines_more, lines_fail, lines_end, split_off, Fits, Fits-start, Fits-next, Few-from, few_numbers}
+use Rattle.script_reader.specs.Holding.{IsKept, cost}
+use Rattle.script_reader.proofs.Kept.{IsKept-start}
+use Rattle.script_reader.proofs.Lengths.{length-without_last_feed}
+use Rattle.script_reader.proofs.LineLoops.{unless_still, lines_fail, lines_end, lines_more, few_lines, counted_more, line_cost}
 use Rattle.script_reader.proofs.text.lines_in.Goals as goal
 
-pub loop-rest-init : goal.loop-rest-init
-loop-rest-init c = record {
-  says = ap (λ s. lines_from 1 s (texts c.args.lines.now)) c.empty-reading.ensures;
-  count = omega arith;
-  fits = subst (Fits (text_length (texts c.args.lines.now))) (sym c.empty-reading.ensures) (Fits-start (text_length (texts c.args.lines.now)) c.requires);
-}
-
-pub line_in-requires : goal.line_in-requires
-line_in-requires c = Few-from (text_length (texts c.loop-rest.rest.now)) c.loop-rest.reading c.loop-rest.invariant.fits
-
-pub overflow_add-number : goal.overflow_add-number
-overflow_add-number c = omega (arith, few_numbers c.args.lines.now c.loop-rest.rest.now c.loop-rest.number c.requires c.loop-rest.invariant.count c.in-len1-up.len_at_least)
+pub lines-init : goal.lines-init
+lines-init c =
+    let empty = c.empty-reading.ensures in
+    let text = c.trimmed-rest.ensures in
+    record {
+      says = ap (λ s. lines_from 1 s (slice_split is_line_feed c.trimmed-rest.result.now)) empty.view ∙ ap (λ (l : List ℕ). lines_from 1 start (slice_split is_line_feed l)) text;
+      count = omega (arith, ap (λ (l : List ℕ). length (slice_split is_line_feed l)) text);
+      holds = record {
+        kept = subst IsKept (sym empty.view) IsKept-start;
+        places = empty.places ∙ ap (λ s. places_in s.channels) (sym empty.view);
+        load = empty.load ∙ ap load (sym empty.view);
+        runs = empty.runs ∙ ap runs_so_far (sym empty.view);
+      };
+      stop = (ap runs_so_far empty.view, ap (λ s. first_not_running 1 s (slice_split is_line_feed c.trimmed-rest.result.now)) empty.view ∙ ap (λ (l : List ℕ). first_not_running 1 start (slice_split is_line_feed l)) text);
+      short = omega (arith, c.requires, ap cost empty.view, ap length text, length-without_last_feed c.args.bytes.now);
+    }
 
 pub returns-in-Err-clause-given : goal.returns-in-Err-clause-given
 returns-in-Err-clause-given c =
-    let rest = c.loop-rest.rest.now in
-    let parts = split_off rest (record { ref_ptr = (0, 0); now = [] }) c.in-len1-up.len_at_least in
     unless_still c.in-Err.kind _ _
-    (λ bad. lines_fail c.loop-rest.number (view c.loop-rest.reading) c.in-Err.kind _ rest _ (lines_from 1 start (texts c.args.lines.now)) c.loop-rest.invariant.says parts bad)
-    c.in-Err.ensures
+    (λ bad. lines_fail c.lines.number (view c.lines.reading) c.in-Err.kind c.lines.rest.now _ _ _ c.lines.invariant.says c.first_line.ensures.cut bad)
+    c.in-Err.ensures.left
 
-pub loop-rest-preserved : goal.loop-rest-preserved
-loop-rest-preserved c =
-    let rest = c.loop-rest.rest.now in
-    let left = take (length rest - 1) (drop 1 rest) in
-    let parts = split_off rest (record { ref_ptr = (0, 0); now = [] }) c.in-len1-up.len_at_least in
+pub returns-in_default-more-clause-given : goal.returns-in_default-more-clause-given
+returns-in_default-more-clause-given c =
+    let cut = rw c.in_default-more.is at c.first_line.ensures.cut in
+    lines_end c.lines.number (view c.lines.reading) (view c.line_in.new.reading) c.lines.rest.now _ _ c.lines.invariant.says cut c.in_default.ensures.left
+
+pub returns-in_default-more-clause-short : goal.returns-in_default-more-clause-short
+returns-in_default-more-clause-short c =
+    let last = rw c.in_default-more.is at c.first_line.ensures.last in
+    omega (arith, c.lines.invariant.short, last, line_cost (view c.lines.reading) (view c.line_in.new.reading) _ c.in_default.ensures.left)
+
+pub returns-in_default-more-clause-stop : goal.returns-in_default-more-clause-stop
+returns-in_default-more-clause-stop c =
+    let cut = rw c.in_default-more.is at c.first_line.ensures.cut in
+    let last = stops_end c.args.bytes.now c.lines.stop c.lines.number (view c.lines.reading) (view c.line_in.new.reading) c.lines.rest.now _ c.line_in.new.reading.runs c.lines.invariant.stop cut c.in_default.ensures.left c.in_default.ensures.holds.runs in
+    subst (λ o. IsStop c.args.bytes.now o (view c.line_in.new.reading)) (sym c.stop_after-stop.ensures) last
+
+pub overflow_add-number : goal.overflow_add-number
+overflow_add-number c =
+    let cut = rw c.in-Some.is at c.first_line.ensures.cut in
+    let count = counted_more c.lines.number c.lines.rest.now _ c.in-Some.next (length (lines_of c.args.bytes.now)) c.lines.invariant.count cut in
+    omega (arith, count, c.requires, few_lines c.args.bytes.now)
+
+pub lines-preserved : goal.lines-preserved
+lines-preserved c =
+    let cut = rw c.in-Some.is at c.first_line.ensures.cut in
+    let less = rw c.in-Some.is at c.first_line.ensures.less in
+    let ok = c.in_default.ensures.left in
     record {
-      says = lines_more c.loop-rest.number (view c.loop-rest.reading) (view c.line_in.new.reading) _ rest left (lines_from 1 start (texts c.args.lines.now)) c.loop-rest.invariant.says parts c.in_default-line_in.ensures;
-      count = omega (arith, c.loop-rest.invariant.count, ap length parts);
-      fits = Fits-next (view c.loop-rest.reading) (view c.line_in.new.reading) _ rest left parts c.in_default-line_in.ensures c.loop-rest.invariant.fits;
+      says = lines_more c.lines.number (view c.lines.reading) (view c.line_in.new.reading) c.lines.rest.now _ c.in-Some.next _ c.lines.invariant.says cut ok;
+      count = counted_more c.lines.number c.lines.rest.now _ c.in-Some.next (length (lines_of c.args.bytes.now)) c.lines.invariant.count cut;
+      holds = c.in_default.ensures.holds;
+      stop = subst (λ o. StopsAt (first_not_running 1 start (lines_of c.args.bytes.now)) o (c.lines.number + 1) (view c.line_in.new.reading) (slice_split is_line_feed c.in-Some.next.now)) (sym c.stop_after-stop.ensures)
+          (stops_more _ c.lines.stop c.lines.number (view c.lines.reading) (view c.line_in.new.reading) c.lines.rest.now _ c.in-Some.next c.line_in.new.reading.runs c.lines.invariant.stop cut ok c.in_default.ensures.holds.runs);
+      short = omega (arith, c.lines.invariant.short, less, line_cost (view c.lines.reading) (view c.line_in.new.reading) _ ok);
     }
-
-pub returns-clause-given : goal.returns-clause-given
-returns-clause-given c = lines_end c.loop-rest.number (view c.loop-rest.reading) c.loop-rest.rest.now (lines_from 1 start (texts c.args.lines.now)) c.loop-rest.invariant.says (omega (arith, c.in_default.len_below))
-
-pub returns-clause-few : goal.returns-clause-few
-returns-clause-few c = Few-from (text_length (texts c.loop-rest.rest.now)) c.loop-rest.reading c.loop-rest.invariant.fits

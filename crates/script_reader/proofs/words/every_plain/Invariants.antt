@@ -1,5 +1,5 @@
 use Rattle.std.proofs.Common.{◌≡◌, length}
-use Rattle.script_reader.specs.Words.{all_plain}
+use Rattle.script_grammar.specs.Words.{all_plain}
 use Rattle.script_reader.proofs.words.every_plain.Given as goal
 
 abbrev pub invariant-loop-rest : goal.invariant-loop-rest

@@ -1,6 +1,6 @@
 use Rattle.std.proofs.Common.{arith, ap, length}
 use Rattle.script_reader.specs.Scripts.{program_of}
-use Rattle.script_reader.proofs.Layouts.{size_at, length-sizes_in}
+use Rattle.script_grammar.proofs.Layouts.{size_at, length-sizes_in}
 use Rattle.script_reader.proofs.script.Script.size_of.Goals as goal
 
 pub index-requires : goal.index-requires

@@ -1,0 +1,85 @@
+//! What stands at the places of a line outside blocks.
+
+ghost use Rattle.std.specs.Prelude.{◌≡◌, IfOk, ◌≤◌};
+ghost use Rattle.script_grammar.specs.Words.{texts};
+ghost use Rattle.script_grammar.specs.Places.{places_at, count_at, buffered_at, made, number_at, kind_at};
+ghost use Rattle.channel_model.specs.declared.acts.Kind.TheVariants.{Buffered, DropOldest};
+ghost use Rattle.script_reader.specs.Answers.{Gives};
+
+use crate::place::number_of;
+use channel_model::Kind;
+use script_grammar::FaultKind;
+
+/// The number of places of a channel, and the words after it.
+pub(crate) fn places_of<'a, 'b>(words: &'b [&'a [u8]]) -> Result<(u32, &'b [&'a [u8]]), FaultKind>
+    ensures { Gives (λ x. (x.0, texts x.1.now)) result (places_at (texts words.now)) }
+{
+    match words {
+        [] => Ok((16_384, words)),
+        [word, rest @ ..] if *word == b"places".as_slice() => number_of(1, 1_048_576, rest),
+        _ => Err(FaultKind::Extra),
+    }
+}
+
+/// The number of instances of a spawn, and the words after it.
+pub(crate) fn count_of<'a, 'b>(words: &'b [&'a [u8]]) -> Result<(u16, &'b [&'a [u8]]), FaultKind>
+    ensures { Gives (λ x. (x.0, texts x.1.now)) result (count_at (texts words.now)) }
+{
+    match words {
+        [] => Ok((1, words)),
+        _ => {
+            let (count, rest) = number_of(1, 16_000, words)?;
+            Ok((count as u16, rest))
+        }
+    }
+}
+
+/// A buffered channel of a capacity that stands here.
+fn sized<'a, 'b>(words: &'b [&'a [u8]]) -> Result<(Kind, &'b [&'a [u8]]), FaultKind>
+    ensures { Gives (λ x. (x.0, texts x.1.now)) result (made (λ k. Buffered k) (number_at 1 65535 (texts words.now))) }
+{
+    let (capacity, rest) = number_of(1, 65_535, words)?;
+    Ok((Kind::Buffered(capacity), rest))
+}
+
+/// A buffered channel, whose capacity may be left out, and the words after it.
+fn buffered_of<'a, 'b>(words: &'b [&'a [u8]]) -> Result<(Kind, &'b [&'a [u8]]), FaultKind>
+    ensures { Gives (λ x. (x.0, texts x.1.now)) result (buffered_at (texts words.now)) }
+{
+    match words {
+        [] => Ok((Kind::Buffered(64), words)),
+        [word, ..] if *word == b"places".as_slice() => Ok((Kind::Buffered(64), words)),
+        _ => sized(words),
+    }
+}
+
+/// A channel that drops its oldest element beyond a capacity that stands here.
+fn dropping<'a, 'b>(words: &'b [&'a [u8]]) -> Result<(Kind, &'b [&'a [u8]]), FaultKind>
+    ensures { Gives (λ x. (x.0, texts x.1.now)) result (made (λ k. DropOldest k) (number_at 1 65535 (texts words.now))) }
+{
+    let (capacity, rest) = number_of(1, 65_535, words)?;
+    Ok((Kind::DropOldest(capacity), rest))
+}
+
+/// The kind of a channel, and the words after it.
+#[tactic(auto, unfolding(script_grammar::specs::Places::kind_at))]
+pub(crate) fn kind_of<'a, 'b>(words: &'b [&'a [u8]]) -> Result<(Kind, &'b [&'a [u8]]), FaultKind>
+    ensures { Gives (λ x. (x.0, texts x.1.now)) result (kind_at (texts words.now)) }
+{
+    let [word, rest @ ..] = words else {
+        return Err(FaultKind::UnknownWord);
+    };
+    if *word == b"rendezvous".as_slice() {
+        Ok((Kind::Rendezvous, rest))
+    } else if *word == b"buffered".as_slice() {
+        buffered_of(rest)
+    } else if *word == b"unlimited".as_slice() {
+        Ok((Kind::Unlimited, rest))
+    } else if *word == b"conflated".as_slice() {
+        Ok((Kind::Conflated, rest))
+    } else if *word == b"dropoldest".as_slice() {
+        dropping(rest)
+    } else {
+        Err(FaultKind::UnknownWord)
+    }
+}
