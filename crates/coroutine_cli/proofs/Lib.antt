@@ -1,1 +1,5 @@
+pub mod WaitsSettled
+pub mod ElementsHeld
+pub mod SameFates
+pub mod PrintedFates
 pub mod Answering

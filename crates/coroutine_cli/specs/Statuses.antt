@@ -1,12 +1,15 @@
 -- What each status says of the words, of what was read and of what was written.
-use Rattle.std.specs.Prelude.{◌≡◌, ℕ, ◌≤◌, Bool, true, false, ◌&&◌, List, [], ◌∷◌, ◌++◌, length, Option, Some, None, Ok, Err}
+use Rattle.std.specs.Prelude.{◌≡◌, ◌↔◌, ℕ, ◌≤◌, Bool, true, false, ◌&&◌, List, [], ◌∷◌, ◌++◌, length, Option, Some, None}
 use lib.Chars.{codes}
 use Rattle.std.specs.Str.{bytes_eq}
 use Rattle.co_base.specs.Streams.{Rose, Gave, IsDrained, Took, TookPart}
 use Rattle.channel_model.specs.declared.acts.Entry.{Entry}
+use Rattle.channel_model.specs.declared.acts.Fate.TheVariants as fate
+use Rattle.channel_model.specs.Answers.{IsResolvedWait, IsSettledWait}
+use Rattle.channel_model.specs.Fates.{element_at, fate_at}
 use Rattle.channel_model.specs.Laws.{resolutions_of, settlements_of}
-use Rattle.channel_model.specs.Histories.{acts_in}
-use Rattle.channel_fates.specs.OneFate.{IsAtMostOneFate}
+use Rattle.channel_model.specs.Histories.{replay, acts_in}
+use Rattle.channel_fates.specs.OneFate.{IsAtMostOneFate, deliveries_of, stands_in}
 use Rattle.co_base.specs.declared.names.WaitId.{WaitId}
 use Rattle.job_model.specs.declared.acts.End.{End}
 use Rattle.job_model.specs.declared.acts.End.TheVariants as ends
@@ -15,15 +18,16 @@ use Rattle.job_model.specs.declared.acts.JobEntry.{JobEntry}
 use Rattle.job_model.specs.Acts.{finishes}
 use Rattle.job_model.specs.Trees.{parent_of}
 use Rattle.job_model.specs.Laws.{has}
-use Rattle.job_model.specs.Histories.{replay}
+use Rattle.job_model.specs.Histories.{replay as replay_jobs}
 use Rattle.note_book.specs.declared.book.Item.{Item}
-use Rattle.script_reader.specs.declared.fault.ScriptFault.{ScriptFault}
-use Rattle.script_reader.specs.Programs.{Program}
-use Rattle.script_reader.specs.Grammar.{Spells}
-use Rattle.script_reader.specs.Texts.{first_scripts}
-use Rattle.poll_states.specs.Parts.{BooksOf, IsIdle}
+use Rattle.script_grammar.specs.declared.fault.ScriptFault.{ScriptFault}
+use Rattle.script_grammar.specs.Programs.{Program}
+use Rattle.script_grammar.specs.Grammar.{Spells}
+use Rattle.script_grammar.specs.FirstRunning.{all_run, Refused}
+use Rattle.script_meaning.specs.Books.{BooksOf}
+use Rattle.script_meaning.specs.Idle.{IsIdle}
 use Rattle.run_report.specs.Faults.{fault_text}
-use Rattle.run_report.specs.Elements.{report_text}
+use Rattle.run_report.specs.Elements.{channel_acts_noted, element_of, report_text}
 use Rattle.coroutine_cli.specs.declared.status.Ending.{Ending}
 use Rattle.coroutine_cli.specs.declared.status.Ending.TheVariants as ending
 use Rattle.coroutine_cli.specs.declared.status.Status.{Status}
@@ -49,7 +53,8 @@ status_of ending.NoScript = status.NoScript
 
 -- the words are run, --workers and 1
 abbrev pub is_run : List (List ℕ) → Bool
-is_run (command ∷ option ∷ value ∷ []) = bytes_eq command (codes "run") && (bytes_eq option (codes "--workers") && bytes_eq value (codes "1"))
+is_run (command ∷ option ∷ value ∷ []) =
+    bytes_eq command (codes "run") && (bytes_eq option (codes "--workers") && bytes_eq value (codes "1"))
 is_run other = false
 
 -- ---- what a text says of the input
@@ -62,34 +67,48 @@ ending_of (Some (ends.Cancelled cause)) = ending.Cancelled
 
 -- a Job's Finish in this history comes after that of each child that it ever has
 abbrev pub ChildrenEndFirst : List JobEntry → Type 0
-ChildrenEndFirst jobs = (xs ys : List JobEntry) (who row c : ℕ) (end : End) → jobs ≡ xs ++ record { who = who; act = Finish row end } ∷ ys → parent_of (replay jobs c) ≡ Some row → has finishes c xs ≡ true
+ChildrenEndFirst jobs = (xs ys : List JobEntry) (who row c : ℕ) (end : End)
+    → jobs ≡ xs ++ record { who = who; act = Finish row end } ∷ ys → parent_of (replay_jobs jobs c) ≡ Some row
+    → has finishes c xs ≡ true
 
--- the input is a script, and the text the report of books that are the parts of one legal history of channels and of one of Jobs, which came
--- to rest; the ending says how the root has ended
+-- what becomes of waits and elements in a history
+pub record AreServed (channels : List Entry) : Type 0 where
+  -- each wait is resolved at most once, and settled at most once; one that was resolved is settled
+  pub once : (w : WaitId) → (resolutions_of w channels ≤ 1) × (settlements_of w channels ≤ 1)
+  pub none_lost : (w : WaitId) → IsResolvedWait ((replay channels).waits w) → IsSettledWait ((replay channels).waits w)
+  -- no element is given to a receiver twice
+  pub delivered_once : (c place : ℕ) → deliveries_of c place (acts_in channels) ≤ 1
+  -- of received, undelivered, dropped and withdrawn at most one applies to an element, and none exactly where it is held:
+  -- where it stands in the queue of its channel
+  pub one_fate : (c place : ℕ) → IsAtMostOneFate c place (acts_in channels)
+  pub held : (c place value : ℕ) → element_at c place (acts_in channels) ≡ Some value
+      → (fate_at c place (acts_in channels) ≡ fate.Held) ↔ (stands_in place value ((replay channels).channels c).queue ≡ true)
+
+-- the input is a script, and the text the report of books that are the parts of one legal history of channels and of one
+-- of Jobs, which came to rest; the ending says how the root has ended
 pub record Reports (how : Ending) (input text : List ℕ) : Type 0 where
   pub program : Program
-  pub is_script : first_scripts input ≡ Ok program
   pub spelled : Spells input program
+  pub lines_run : all_run program ≡ true
   pub books : List (List Item)
   pub channels : List Entry
   pub jobs : List JobEntry
   pub root : Option End
   pub parts : BooksOf program books channels jobs
-  pub idle : IsIdle program books channels jobs root
+  pub idle : IsIdle program books channels jobs parts root
   pub ending : ending_of root ≡ how
-  -- each wait is resolved at most once, and settled at most once
-  pub once : (w : WaitId) → (resolutions_of w channels ≤ 1) × (settlements_of w channels ≤ 1)
-  -- at most one of received, undelivered, dropped and withdrawn applies to each element; the others are held
-  pub one_fate : (c place : ℕ) → IsAtMostOneFate c place (acts_in channels)
+  pub served : AreServed channels
   -- no Job ends before its children
   pub children_first : ChildrenEndFirst jobs
+  -- the report says of each place which element came there in the history, and its fate
+  pub printed : (c place : ℕ) → element_of (channel_acts_noted books) c place ≡ element_of (acts_in channels) c place
   pub is_report : text ≡ report_text program books
 
--- the input is no script, and the text names the fault and its line
+-- the input is no script all of whose lines run, and the text names its first line that is faulty or does not run
 pub record Refuses (input text : List ℕ) : Type 0 where
   pub fault : ScriptFault
-  pub no_script : first_scripts input ≡ Err fault
-  pub unspelled : (p : Program) → ¬ (Spells input p)
+  pub refused : Refused input fault
+  pub no_script : (p : Program) → Spells input p → all_run p ≡ false
   pub is_line : text ≡ fault_text fault
 
 abbrev pub Answers : Ending → List ℕ → List ℕ → Type 0
@@ -104,6 +123,9 @@ Answers ending.NoScript input text = Refuses input text
 pub record Stream : Type 0 where
   pub bytes : Option (List ℕ)
   pub faults : ℕ
+
+abbrev pub stream : Option (List ℕ) → ℕ → Stream
+stream bytes faults = record { bytes = bytes; faults = faults }
 
 -- so much of the text was taken that this holds; the text answers the bytes that the source gave, which are all that it
 -- had, unless they are too many for a script
@@ -135,8 +157,3 @@ Means status.Unfinished words source source' sink sink' = (is_run words ≡ true
 Means status.ReadFault words source source' sink sink' = (is_run words ≡ true) × Rose source.faults source'.faults
 Means status.WriteFault words source source' sink sink' = (is_run words ≡ true) × BreaksOff source source' sink sink'
 Means status.NoMemory words source source' sink sink' = (is_run words ≡ true)
-
--- what a write of this text came to
-abbrev pub IsWritten : Ending → List ℕ → Stream → Stream → Status → Type 0
-IsWritten how text sink sink' status.WriteFault = Rose sink.faults sink'.faults × TookPart text sink.bytes sink'.bytes
-IsWritten how text sink sink' result = (result ≡ status_of how) × Took sink.bytes sink'.bytes text

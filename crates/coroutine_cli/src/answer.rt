@@ -1,12 +1,12 @@
 //! The text and the status that a script is answered with.
 
-ghost use Rattle.std.specs.Prelude.{◌≡◌, IfOk, Ok, Err};
-ghost use Rattle.script_reader.specs.Faults.{Unless};
-ghost use Rattle.script_reader.specs.Grammar.{Spells};
-ghost use Rattle.script_reader.specs.Programs.{Program};
+ghost use Rattle.std.specs.Prelude.{◌≡◌, true, IfOk};
+ghost use Rattle.script_grammar.specs.declared.fault.FaultKind.TheVariants.{Memory as NoMemory};
+ghost use Rattle.script_grammar.specs.Programs.{Program};
+ghost use Rattle.script_grammar.specs.Grammar.{Spells};
+ghost use Rattle.script_grammar.specs.FirstRunning.{all_run, Refused};
+ghost use Rattle.script_reader.specs.Answers.{Unless};
 ghost use Rattle.script_reader.specs.Scripts.{program_of};
-ghost use Rattle.script_reader.specs.Texts.{first_scripts};
-ghost use Rattle.script_reader.specs.declared.fault.FaultKind.TheVariants.{Memory as NoMemory};
 ghost use Rattle.coroutine_cli.specs.Statuses.{Answers, ending_of};
 
 use crate::status::Ending;
@@ -14,7 +14,8 @@ use co_base::{Gate, Memory};
 use engine_one::run_one;
 use job_model::End;
 use run_report::{fault_line, report};
-use script_reader::{FaultKind, Script, ScriptFault, read};
+use script_grammar::{FaultKind, ScriptFault};
+use script_reader::{Script, read};
 use std::alloc::Global;
 
 /// What is to be written, and how the call then ends.
@@ -36,8 +37,8 @@ pub fn answer_to<G: Gate>(alloc: Global, bytes: &[u8], gate: &G) -> Result<Answe
 
 /// What is answered for want of a script.
 fn fault_of(alloc: Global, fault: ScriptFault, bytes: &[u8]) -> Result<Answer, Memory>
-    requires read { Unless fault.kind (first_scripts bytes.now ≡ Err fault) }
-    requires unspelled { (p : Program) → Spells bytes.now p → fault.kind ≡ NoMemory }
+    requires refused { Unless fault.kind (Refused bytes.now fault) }
+    requires unspelled { (p : Program) → Spells bytes.now p → all_run p ≡ true → fault.kind ≡ NoMemory }
     ensures { IfOk result (λ answer. Answers answer.ending bytes.now answer.text.items) }
 {
     match fault.kind {
@@ -53,8 +54,8 @@ fn fault_of(alloc: Global, fault: ScriptFault, bytes: &[u8]) -> Result<Answer, M
 }
 
 fn run_of<G: Gate>(alloc: Global, script: &Script, bytes: &[u8], gate: &G) -> Result<Answer, Memory>
-    requires read { first_scripts bytes.now ≡ Ok (program_of script.now) }
     requires spelled { Spells bytes.now (program_of script.now) }
+    requires runs { all_run (program_of script.now) ≡ true }
     ensures { IfOk result (λ answer. Answers answer.ending bytes.now answer.text.items) }
 {
     let run = run_one(alloc, script, gate)?;

@@ -4,9 +4,11 @@
 //! - `words`: which words are accepted.
 //! - `answer`: the text and the status that a script is answered with.
 //! - `top`: the whole call over any source and sink.
+//! - `ends`: the code with which the process ends, and what standard error says.
 #![tactic(auto)]
 
 mod answer;
+mod ends;
 mod status;
 #[cfg(test)]
 mod tests;
@@ -14,25 +16,12 @@ mod top;
 mod words;
 
 use co_base::{OpenGate, StdSink, StdSource};
+use ends::{exit_code, message_of};
 use status::Status;
 use std::process::ExitCode;
 use std::rt::Env;
 use std::{env, io};
-use thiserror::Error;
 use top::coroutine_main;
-
-/// What standard error says of a call that wrote no whole text.
-#[derive(Debug, Drop, Error)]
-enum Message {
-    #[error("usage: coroutine_cli run [--workers N] | check | sum --size N [--workers N]")]
-    Usage,
-    #[error("read fault")]
-    ReadFault,
-    #[error("write fault")]
-    WriteFault,
-    #[error("out of memory")]
-    NoMemory,
-}
 
 fn main(rt: HostRuntime) -> ExitCode {
     let number = match arguments(&rt) {
@@ -54,7 +43,7 @@ fn main(rt: HostRuntime) -> ExitCode {
     if let Some(message) = message_of(number) {
         let _ = eprintln!(rt; "{message}");
     }
-    ExitCode::from(number)
+    exit_code(number)
 }
 
 /// The words of the command line, without the program's name.
@@ -66,15 +55,4 @@ fn arguments(rt: &(impl Env + AllocGlobal)) -> io::Result<Vec<String>> {
         }
     }
     Ok(words)
-}
-
-/// What is told of a process that ends with this number.
-fn message_of(number: u8) -> Option<Message> {
-    match number {
-        2 => Some(Message::Usage),
-        5 => Some(Message::ReadFault),
-        6 => Some(Message::WriteFault),
-        7 => Some(Message::NoMemory),
-        _ => None,
-    }
 }

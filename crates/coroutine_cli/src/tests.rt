@@ -2,6 +2,7 @@
 
 ghost use Rattle.std.specs.Prelude.{◌≤◌};
 
+use crate::ends::message_of;
 use crate::top::coroutine_main;
 use co_base::{Memory, MemorySink, MemorySource, OpenGate};
 use std::alloc::Global;
@@ -49,7 +50,7 @@ fn answer(
 }
 
 /// Scripts, each with its status and its text. A `;` stands for a line feed, also at the end of each text.
-const ROWS: [(&str, u8, &str); 19] = [
+const ROWS: [(&str, u8, &str); 20] = [
     // One sender and one receiver.
     (RENDEZVOUS, 0, RENDEZVOUS_REPORT),
     (
@@ -141,40 +142,47 @@ const ROWS: [(&str, u8, &str); 19] = [
         "0 attach 1 to 0 tag 1 plain;0 endbody 0 0;1 attach 2 to 1 tag 2 plain;1 attach 3 to 1 tag 3 plain;1 endbody 1 0;2 await a 0 a.0 0;2 saw 2;2 withdraw a.0 cancelled;2 settle a.0 cancelled;2 endbody 2 0;2 finish 2 cancelled;2 close @2 0;2 gone 2;2 finish 1 failed 3;2 close @1 0;2 gone 1;2 finish 0 failed 3;2 close @0 0;3 fail 7;3 cancel 3 own 3;3 cancel 1 child 3;3 cancel 2 parent;3 cancel 0 child 1;3 endbody 3 0;3 finish 3 failed 3;3 close @3 0;3 gone 3;job 0 failed 3;job 1 failed 3;job 2 cancelled;job 3 failed 3",
     ),
     // What is no script.
-    ("", 3, "line 1: UnknownWord"),
-    ("coroutine main", 3, "line 1: UnknownWord"),
+    ("", 3, "line 1: NoMain"),
+    ("coroutine main", 3, "line 1: NoEnd"),
     (
         "channel a rendezvous;coroutine main;send a 4294967296;end",
         3,
-        "line 1: UnknownWord",
+        "line 3: BadNumber",
     ),
+    // A line that does not run.
+    ("coroutine main;scope;end;end", 3, "line 2: UnknownWord"),
 ];
 
-/// Scripts of coroutines that meet on channels while Jobs are cancelled, each with its status and the lines of its report on channels.
-const MEETINGS: [(&str, u8, &str); 4] = [
+/// Scripts of coroutines that meet on channels while Jobs are cancelled, each with its status, the lines of its report on channels, and those on
+/// how its Jobs ended.
+const MEETINGS: [(&str, u8, &str, &str); 4] = [
     // A receiver is resumed, then cancelled, then dispatched: it gives its element up.
     (
         "channel a rendezvous;coroutine r;receive a;end;coroutine s;send a 5;end;coroutine main;launch r as j;launch s;cancel j;end",
         0,
         "1 await a 0 a.0 0;1 saw 1;1 settle a.0 undelivered 5;2 hand a 0 5;element a 0 5 undelivered",
+        "job 0 completed 0;job 1 cancelled;job 2 completed 0",
     ),
     // A receiver is cancelled before it is resumed: the next one is handed the element.
     (
         "channel a rendezvous;coroutine r;receive a;end;coroutine s;send a 5;end;coroutine main;launch r as j;launch r;cancel j;launch s;end",
         0,
         "1 await a 0 a.0 0;1 saw 1;1 withdraw a.0 cancelled;1 settle a.0 cancelled;2 await a 1 a.1 0;2 settle a.1 value 0 5;3 hand a 1 5",
+        "job 0 completed 0;job 1 cancelled;job 2 completed 0;job 3 completed 0",
     ),
     // A sender that waits is cancelled: its element is undelivered.
     (
         "channel a rendezvous;coroutine p;send a 5;end;coroutine main;launch p as j;cancel j;end",
         0,
         "1 offer a 0 5 a.0 0;1 saw 1;1 withdraw a.0 cancelled;1 settle a.0 cancelled;element a 0 5 undelivered",
+        "job 0 completed 0;job 1 cancelled",
     ),
     // Places run out on a receive; two instances come from one line.
     (
         "channel a rendezvous places 1;coroutine r;receive a;end;coroutine main;end;spawn r 2",
         1,
         "1 await a 0 a.0 0;1 saw 1;1 withdraw a.0 cancelled;1 settle a.0 cancelled;2 spent a",
+        "job 0 failed 2;job 1 cancelled;job 2 failed 2",
     ),
 ];
 
@@ -230,9 +238,21 @@ fn on_channels(alloc: Global, report: &str) -> Result<String, Memory> {
     Ok(text)
 }
 
+/// The lines of a report that say how each Job ended.
+fn on_ends(alloc: Global, report: &str) -> Result<String, Memory> {
+    let mut text = String::new(alloc);
+    for line in report.lines() {
+        if line.starts_with("job ") {
+            text.push_str(line)?;
+            text.push('\n')?;
+        }
+    }
+    Ok(text)
+}
+
 #[test]
 fn a_cancellation_meets_a_delivery(rt: HostRuntime) -> Result<(), Fail> {
-    for (script, status, text) in MEETINGS {
+    for (script, status, text, ends) in MEETINGS {
         let (found, written) = answer(
             rt.alloc(),
             &["run", "--workers", "1"],
@@ -244,6 +264,10 @@ fn a_cancellation_meets_a_delivery(rt: HostRuntime) -> Result<(), Fail> {
         assert_eq!(rt;
             on_channels(rt.alloc(), report)?.as_str(),
             lines(rt.alloc(), text)?.as_str()
+        );
+        assert_eq!(rt;
+            on_ends(rt.alloc(), report)?.as_str(),
+            lines(rt.alloc(), ends)?.as_str()
         );
         assert_eq!(rt; found, status);
     }
@@ -276,6 +300,33 @@ fn a_source_and_a_sink_may_be_slow_or_fail(rt: HostRuntime) -> Result<(), Fail> 
     let (status, written) = answer(rt.alloc(), &words, script, first_fails, AT_ONCE)?;
     assert!(rt; written.is_empty());
     assert_eq!(rt; status, 5);
+    Ok(())
+}
+
+/// What standard error says of a process that ends with this number.
+fn told(alloc: Global, number: u8) -> Result<String, Memory> {
+    match message_of(number) {
+        Some(message) => Ok(format!(in alloc; "{message}")?),
+        None => Ok(String::new(alloc)),
+    }
+}
+
+#[test]
+fn standard_error_says_why_there_is_no_text(rt: HostRuntime) -> Result<(), Fail> {
+    let usage = "usage: coroutine_cli run [--workers N] | check | sum --size N [--workers N]";
+    let rows = [
+        (0, ""),
+        (1, ""),
+        (2, usage),
+        (3, ""),
+        (4, ""),
+        (5, "read fault"),
+        (6, "write fault"),
+        (7, "out of memory"),
+    ];
+    for (number, text) in rows {
+        assert_eq!(rt; told(rt.alloc(), number)?.as_str(), text);
+    }
     Ok(())
 }
 

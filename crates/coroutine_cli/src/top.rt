@@ -2,7 +2,8 @@
 
 ghost use Rattle.std.specs.Prelude.{◌≡◌, ◌⊎◌, ℕ, List, length, Ok, Err, map, string_bytes, IfOk, MatchResult};
 ghost use Rattle.co_base.specs.Streams.{Rose};
-ghost use Rattle.coroutine_cli.specs.Statuses.{Means, number_of, Answers, Serves, IsWritten};
+ghost use Rattle.coroutine_cli.specs.Statuses.{Means, number_of, Answers, Serves, stream};
+ghost use Rattle.coroutine_cli.specs.Writing.{IsWritten};
 ghost use Rattle.coroutine_cli.specs.declared.top.NoAnswer.TheVariants as reasons;
 ghost use Rattle.coroutine_cli.specs.declared.status.Status.{Status as Outcome};
 ghost use Rattle.coroutine_cli.specs.declared.status.Status.TheVariants as statuses;
@@ -12,7 +13,7 @@ use crate::status::{Ending, Status};
 use crate::words::is_run;
 use co_base::{Gate, Memory, ReadError, Sink, Source, read_script, write_all};
 use run_report::fault_line;
-use script_reader::{FaultKind, ScriptFault};
+use script_grammar::{FaultKind, ScriptFault};
 use std::alloc::Global;
 
 /// Runs a script: the words are those of the command line without the program's name, the script comes from the source,
@@ -26,7 +27,10 @@ pub fn coroutine_main<S: Source, K: Sink, G: Gate>(
     sink: &mut K,
     gate: &G,
 ) -> u8
-    ensures status { (status : Outcome) × (result ≡ number_of status) × Means status (map string_bytes words.now) (record { bytes = S.left source.old; faults = S.faults source.old }) (record { bytes = S.left source.new; faults = S.faults source.new }) (record { bytes = K.held sink.old; faults = K.faults sink.old }) (record { bytes = K.held sink.new; faults = K.faults sink.new }) }
+    ensures status { (status : Outcome) × (result ≡ number_of status)
+        × Means status (map string_bytes words.now) (stream (S.left source.old) (S.faults source.old))
+        (stream (S.left source.new) (S.faults source.new)) (stream (K.held sink.old) (K.faults sink.old))
+        (stream (K.held sink.new) (K.faults sink.new)) }
     ensures unread { result ≡ 2 → source.new ≡ source.old }
     ensures unwritten { (result ≡ 2) ⊎ ((result ≡ 5) ⊎ (result ≡ 7)) → sink.new ≡ sink.old }
 {
@@ -41,9 +45,12 @@ fn call<S: Source, K: Sink, G: Gate>(
     sink: &mut K,
     gate: &G,
 ) -> Status
-    ensures status { Means result (map string_bytes words.now) (record { bytes = S.left source.old; faults = S.faults source.old }) (record { bytes = S.left source.new; faults = S.faults source.new }) (record { bytes = K.held sink.old; faults = K.faults sink.old }) (record { bytes = K.held sink.new; faults = K.faults sink.new }) }
+    ensures status { Means result (map string_bytes words.now)
+        (stream (S.left source.old) (S.faults source.old)) (stream (S.left source.new) (S.faults source.new))
+        (stream (K.held sink.old) (K.faults sink.old)) (stream (K.held sink.new) (K.faults sink.new)) }
     ensures unread { result ≡ statuses.Refused → source.new ≡ source.old }
-    ensures unwritten { (result ≡ statuses.Refused) ⊎ ((result ≡ statuses.ReadFault) ⊎ (result ≡ statuses.NoMemory)) → sink.new ≡ sink.old }
+    ensures unwritten { (result ≡ statuses.Refused) ⊎ ((result ≡ statuses.ReadFault) ⊎ (result ≡ statuses.NoMemory))
+        → sink.new ≡ sink.old }
 {
     if !is_run(words) {
         return Status::Refused;
@@ -68,7 +75,9 @@ fn read_and_answer<S: Source, G: Gate>(
     source: &mut S,
     gate: &G,
 ) -> Result<Answer, NoAnswer>
-    ensures answers { IfOk result (λ answer. Serves answer.ending (record { bytes = S.left source.old; faults = S.faults source.old }) (record { bytes = S.left source.new; faults = S.faults source.new }) (λ text. answer.text.items ≡ text)) }
+    ensures answers { IfOk result (λ answer. Serves answer.ending
+        (stream (S.left source.old) (S.faults source.old)) (stream (S.left source.new) (S.faults source.new))
+        (λ text. answer.text.items ≡ text)) }
     ensures fault { result ≡ Err reasons.ReadFault → Rose (S.faults source.old) (S.faults source.new) }
 {
     match read_script(alloc, source) {
@@ -102,7 +111,8 @@ fn answered(answer: Result<Answer, Memory>) -> Result<Answer, NoAnswer>
 
 /// Writes the answer.
 fn written<K: Sink>(sink: &mut K, answer: &Answer) -> Status
-    ensures { IsWritten answer.now.ending answer.now.text.items (record { bytes = K.held sink.old; faults = K.faults sink.old }) (record { bytes = K.held sink.new; faults = K.faults sink.new }) result }
+    ensures { IsWritten answer.now.ending answer.now.text.items (stream (K.held sink.old) (K.faults sink.old))
+        (stream (K.held sink.new) (K.faults sink.new)) result }
 {
     match write_all(sink, answer.text.as_slice()) {
         Ok(()) => answer.ending.status(),

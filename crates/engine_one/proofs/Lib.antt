@@ -1,10 +1,10 @@
 pub mod Lists
 pub mod Histories
-pub mod FreshBooks
+pub mod ClosedAtOnce
 pub mod Marks
+pub mod ReadyMoves
 pub mod TurnsMade
 pub mod Rounds
 pub mod ChannelKinds
-pub mod Calm
-pub mod Endings
 pub mod Beginnings
+pub mod Endings

@@ -49,3 +49,8 @@ pushed_at P [] y none all here zero = here
 pushed_at P [] y none all here (suc k) = none (suc k)
 pushed_at P (x ∷ xs) y none all here zero = all zero
 pushed_at P (x ∷ xs) y none all here (suc k) = pushed_at (λ n. P (suc n)) xs y (λ n. none (suc n)) (λ n. all (suc n)) here k
+
+pub some_at : {A : Type 0} (xs : List A) (k : ℕ) → k < length xs → (x : A) × (slice_get xs k ≡ Some x)
+some_at [] k lt = absurd (omega (arith, lt))
+some_at (x ∷ xs) zero lt = (x, refl)
+some_at (x ∷ xs) (suc k) lt = some_at xs k (omega (arith, lt))

@@ -4,10 +4,11 @@ use Rattle.std.specs.Prelude.{◌==◌, ◌||◌}
 use Rattle.std.proofs.lemmas.Bool.{eqb-true}
 use Rattle.std.proofs.lemmas.Bool.Decides.{nat_tests}
 use Rattle.channel_model.specs.Histories.{replay}
-use Rattle.script_reader.specs.Programs.{Program, coroutine_count}
+use Rattle.script_grammar.specs.Programs.{Program}
+use Rattle.script_grammar.specs.Tags.{coroutine_count}
 use Rattle.poll_states.specs.declared.frame.Frame.{Frame}
-use Rattle.poll_states.specs.Frames.{items_of}
-use Rattle.poll_states.specs.Parts.{IsLeft}
+use Rattle.poll_states.specs.Frames.{config_of, items_of}
+use Rattle.script_meaning.specs.Idle.{IsLeft}
 use Rattle.engine_one.specs.Coroutines.{Scene, IsSame, IsLeftAt, all_moves}
 use Rattle.engine_one.specs.Progress.{MovesFall, StandsStill, Advances, OthersSame, TurnCameTo, RoundCameTo, RoundIsCalm}
 use Rattle.engine_one.proofs.Lists.{within}
@@ -21,7 +22,7 @@ nothing_came a = record { channels = refl; jobs = refl }
 still_left : (a b : Scene) (k : ℕ) (o : Option Frame) → IsSame a b → IsLeftAt a k o → IsLeftAt b k o
 still_left a b k None same h = tt
 still_left a b k (Some f) same h =
-    subst (λ es. IsLeft k (items_of f) (replay es) b.jobs.seen f.stage) (sym same.channels) (subst (λ js. IsLeft k (items_of f) (replay a.channels.seen) js f.stage) (sym same.jobs) h)
+    subst (λ es. IsLeft k (config_of f) (items_of f) (replay es) b.jobs.seen f.stage) (sym same.channels) (subst (λ js. IsLeft k (config_of f) (items_of f) (replay a.channels.seen) js f.stage) (sym same.jobs) h)
 
 -- the coroutines below tag were polled
 abbrev pub SoFar : Program → Scene → Scene → List Frame → List Frame → ℕ → Bool → Type 0

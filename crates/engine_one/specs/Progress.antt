@@ -1,6 +1,6 @@
 -- What turns come to.
 use Rattle.std.specs.Prelude.{◌≡◌, ◌≢◌, ℕ, ◌<◌, ◌⊎◌, Bool, true, false, List, slice_get}
-use Rattle.script_reader.specs.Programs.{Program}
+use Rattle.script_grammar.specs.Programs.{Program}
 use Rattle.poll_states.specs.declared.frame.Frame.{Frame}
 use Rattle.engine_one.specs.Coroutines.{Scene, IsSame, all_moves, IsLeftAt, AllLeft}
 

@@ -1,11 +1,11 @@
 -- A run before the root has begun.
 use Rattle.std.specs.Prelude.{◌≡◌, ℕ, true, List, [], Option, Some, None, slice_get}
 use Rattle.channel_model.specs.Floors.{Floor as ChannelFloor}
-use Rattle.job_model.specs.Floors.{Floor}
-use Rattle.script_reader.specs.Programs.{Program}
+use Rattle.job_model.specs.Floors.{Floor, IsFreshFloor}
+use Rattle.script_grammar.specs.Programs.{Program}
 use Rattle.poll_states.specs.declared.frame.Frame.{Frame}
-use Rattle.poll_states.specs.Runs.{fresh}
-use Rattle.poll_states.specs.Settings.{floor_shape, job_shape}
+use Rattle.script_meaning.specs.Shapes.{floor_shape, job_shape}
+use Rattle.script_meaning.specs.Configs.{fresh}
 use Rattle.poll_states.specs.Frames.{config_of, items_of}
 
 -- the frame of coroutine k as it is made
@@ -30,9 +30,8 @@ pub record HasNoCalls (p : Program) (floor : ChannelFloor) : Type 0 where
   pub alone : floor.alone ≡ true
   pub callers : (tag : ℕ) → floor.callers tag ≡ true
 
--- the floor has the script's rows, the root alone is attached, and one thread calls it for every tag
+-- the floor has the script's rows, the root alone is attached and claimed, and one thread calls it for every tag
 pub record HasNoJobs (p : Program) (floor : Floor) : Type 0 where
-  pub shape : floor.shape ≡ job_shape p
-  pub seen : floor.seen ≡ []
+  pub fresh : IsFreshFloor (job_shape p) floor
   pub alone : floor.alone ≡ true
   pub callers : (tag : ℕ) → floor.callers tag ≡ true

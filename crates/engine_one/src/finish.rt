@@ -1,10 +1,10 @@
 //! What a run leaves.
 
-ghost use Rattle.std.specs.Prelude.{◌≡◌, map, IfOk};
+ghost use Rattle.std.specs.Prelude.{◌≡◌, map, is_none, IfOk};
 ghost use Rattle.job_model.specs.Histories.{replay};
 ghost use Rattle.note_book.specs.Books.{notes_of};
 ghost use Rattle.one_thread_floor.specs.TreeFloors.{floor_of};
-ghost use Rattle.poll_states.specs.Parts.{end_at};
+ghost use Rattle.call_meaning.specs.Facts.{end_at};
 ghost use Rattle.engine_one.specs.Coroutines.{books_of};
 ghost use Rattle.engine_one.specs.Endings.{end_seen};
 
@@ -23,10 +23,12 @@ pub(crate) fn done_of(
     ensures seen { (floor_of jobs.new).seen ≡ (floor_of jobs.old).seen }
     ensures books { IfOk result (λ done. map notes_of done.books.items ≡ books_of frames.items) }
     ensures end { IfOk result (λ done. end_at (replay (floor_of jobs.old).seen 0) ≡ done.end) }
+    ensures idle { IfOk result (λ done. done.idle ≡ is_none done.end) }
 {
     let end = end_of_root(jobs);
     Ok(Done {
         books: books_of(alloc, frames)?,
+        idle: end.is_none(),
         end,
     })
 }

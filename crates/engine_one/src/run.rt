@@ -1,12 +1,13 @@
 //! A whole run.
 
-ghost use Rattle.std.specs.Prelude.{◌≡◌, [], map, IfOk, OnOk};
+ghost use Rattle.std.specs.Prelude.{◌≡◌, [], true, map, is_none, IfOk, OnOk};
 ghost use Rattle.one_thread_floor.specs.ListFloors.{floor_of};
 ghost use Rattle.one_thread_floor.specs.TreeFloors.{floor_of as tree_of};
 ghost use Rattle.note_book.specs.Books.{notes_of};
 ghost use Rattle.script_reader.specs.Scripts.{program_of};
-ghost use Rattle.poll_states.specs.Parts.{BooksOf, IsIdle};
-ghost use Rattle.engine_one.specs.Coroutines.{AllStand, AllLeft};
+ghost use Rattle.script_grammar.specs.FirstRunning.{all_run};
+ghost use Rattle.engine_one.specs.Endings.{IsRunAtRest};
+ghost use Rattle.engine_one.specs.Coroutines.{AllStand, AllLeft, scene};
 ghost use Rattle.engine_one.specs.Progress.{RoundIsCalm};
 
 use crate::finish::done_of;
@@ -39,9 +40,13 @@ pub(crate) struct Run<C, J> {
 ///
 /// A turn polls the coroutine that stands first in a queue of tags, which begins with main and the spawned instances in their order. Who
 /// is woken is appended, and then the coroutine itself where it made a move and has not ended.
+///
+/// The books are those of a run with these two histories, which came to rest; nobody can go on.
 pub fn run_one<G: Gate>(alloc: Global, script: &Script, gate: &G) -> Result<ListRun, Memory>
-    ensures books { IfOk result (λ run. BooksOf (program_of script.now) (map notes_of run.done.books.items) (floor_of run.channels).seen (tree_of run.jobs).seen) }
-    ensures idle { IfOk result (λ run. IsIdle (program_of script.now) (map notes_of run.done.books.items) (floor_of run.channels).seen (tree_of run.jobs).seen run.done.end) }
+    requires { all_run (program_of script.now) ≡ true }
+    ensures run { IfOk result (λ run. IsRunAtRest (program_of script.now) (map notes_of run.done.books.items)
+        (floor_of run.channels).seen (tree_of run.jobs).seen run.done.end) }
+    ensures idle { IfOk result (λ run. run.done.idle ≡ is_none run.done.end) }
 {
     let mut run = start(alloc, script)?;
     run.run_out(script, gate)?;
@@ -62,9 +67,10 @@ pub fn run_one<G: Gate>(alloc: Global, script: &Script, gate: &G) -> Result<List
 impl Run<ListFloor, TreeFloor> {
     /// Turns and rounds, until a round is calm.
     fn run_out<G: Gate>(&mut self, script: &Script, gate: &G) -> Result<(), Memory>
-        requires { AllStand (program_of script.now) (record { channels = floor_of self.old.channels; jobs = tree_of self.old.jobs }) self.old.frames.items }
-        ensures stand { OnOk result (AllStand (program_of script.now) (record { channels = floor_of self.new.channels; jobs = tree_of self.new.jobs }) self.new.frames.items) }
-        ensures left { OnOk result (AllLeft (record { channels = floor_of self.new.channels; jobs = tree_of self.new.jobs }) self.new.frames.items) }
+        requires { AllStand (program_of script.now) (scene (floor_of self.old.channels) (tree_of self.old.jobs)) self.old.frames.items }
+        ensures stand { OnOk result (AllStand (program_of script.now)
+            (scene (floor_of self.new.channels) (tree_of self.new.jobs)) self.new.frames.items) }
+        ensures left { OnOk result (AllLeft (scene (floor_of self.new.channels) (tree_of self.new.jobs)) self.new.frames.items) }
     {
         'rounds: loop {
             self.turns(script, gate)?;
@@ -76,10 +82,14 @@ impl Run<ListFloor, TreeFloor> {
 
     /// Polls every coroutine once. The answer says whether nothing happened and no tag is to be polled.
     fn is_round_calm<G: Gate>(&mut self, script: &Script, gate: &G) -> Result<bool, Memory>
-        requires stand { AllStand (program_of script.now) (record { channels = floor_of self.old.channels; jobs = tree_of self.old.jobs }) self.old.frames.items }
+        requires stand { AllStand (program_of script.now)
+            (scene (floor_of self.old.channels) (tree_of self.old.jobs)) self.old.frames.items }
         requires none { self.old.ready.tags.items ≡ [] }
-        ensures stand { OnOk result (AllStand (program_of script.now) (record { channels = floor_of self.new.channels; jobs = tree_of self.new.jobs }) self.new.frames.items) }
-        ensures calm { IfOk result (λ calm. RoundIsCalm (program_of script.now) (record { channels = floor_of self.new.channels; jobs = tree_of self.new.jobs }) self.old.frames.items self.new.frames.items calm) }
+        ensures stand { OnOk result (AllStand (program_of script.now)
+            (scene (floor_of self.new.channels) (tree_of self.new.jobs)) self.new.frames.items) }
+        ensures calm { IfOk result (λ calm. RoundIsCalm (program_of script.now)
+            (scene (floor_of self.new.channels) (tree_of self.new.jobs)) self.old.frames.items
+            self.new.frames.items calm) }
     {
         let moved = self.round(script, gate)?;
         Ok(!moved && self.ready.is_empty())

@@ -1,12 +1,13 @@
 //! A run before its first turn.
 
-ghost use Rattle.std.specs.Prelude.{◌≡◌, length, IfOk, OnOk};
+ghost use Rattle.std.specs.Prelude.{◌≡◌, length, true, IfOk, OnOk};
 ghost use Rattle.one_thread_floor.specs.ListFloors.{floor_of};
 ghost use Rattle.one_thread_floor.specs.TreeFloors.{floor_of as tree_of};
 ghost use Rattle.script_reader.specs.Scripts.{program_of};
-ghost use Rattle.script_reader.specs.Programs.{coroutine_count};
-ghost use Rattle.poll_states.specs.Settings.{floor_shape};
-ghost use Rattle.engine_one.specs.Coroutines.{AllStand};
+ghost use Rattle.script_grammar.specs.Tags.{coroutine_count, job_count};
+ghost use Rattle.script_grammar.specs.FirstRunning.{all_run};
+ghost use Rattle.script_meaning.specs.Shapes.{floor_shape};
+ghost use Rattle.engine_one.specs.Coroutines.{AllStand, scene};
 ghost use Rattle.engine_one.specs.Starting.{AllMade, HasNoCalls, HasNoJobs};
 
 use crate::ready_tags::ReadyTags;
@@ -21,7 +22,8 @@ use std::alloc::Global;
 
 /// The script's coroutines, channels and Jobs. Main and the spawned instances are to be polled, in their order.
 pub(crate) fn start(alloc: Global, script: &Script) -> Result<Run<ListFloor, TreeFloor>, Memory>
-    ensures { IfOk result (λ run. AllStand (program_of script.now) (record { channels = floor_of run.channels; jobs = tree_of run.jobs }) run.frames.items) }
+    requires { all_run (program_of script.now) ≡ true }
+    ensures { IfOk result (λ run. AllStand (program_of script.now) (scene (floor_of run.channels) (tree_of run.jobs)) run.frames.items) }
 {
     let mut run = Run {
         frames: frames_of(alloc, script)?,
@@ -36,11 +38,13 @@ pub(crate) fn start(alloc: Global, script: &Script) -> Result<Run<ListFloor, Tre
 impl<C: ChannelFloor, J: JobFloor> Run<C, J> {
     /// Main is to be polled, and attaches what the script spawns, which is to be polled after it.
     fn begin_root(&mut self, script: &Script) -> Result<(), Memory>
+        requires lines { all_run (program_of script.now) ≡ true }
         requires calls { HasNoCalls (program_of script.now) (C.view self.old.channels) }
         requires jobs { HasNoJobs (program_of script.now) (J.view self.old.jobs) }
         requires count { length self.old.frames.items ≡ coroutine_count (program_of script.now) }
         requires made { AllMade self.old.frames.items }
-        ensures { OnOk result (AllStand (program_of script.now) (record { channels = C.view self.new.channels; jobs = J.view self.new.jobs }) self.new.frames.items) }
+        ensures { OnOk result (AllStand (program_of script.now)
+            (scene (C.view self.new.channels) (J.view self.new.jobs)) self.new.frames.items) }
     {
         self.ready.add(0);
         let mut floors = Floors {
@@ -53,11 +57,11 @@ impl<C: ChannelFloor, J: JobFloor> Run<C, J> {
     }
 }
 
-/// A floor of Jobs with a row for each coroutine.
+/// A floor of Jobs with a row for each coroutine and for each scope.
 fn jobs_of(alloc: Global, script: &Script) -> Result<TreeFloor, Memory>
     ensures { IfOk result (λ jobs. HasNoJobs (program_of script.now) (tree_of jobs)) }
 {
-    TreeFloor::new(alloc, script.coroutines(), 0)
+    TreeFloor::new(alloc, script.coroutines(), script.scopes())
 }
 
 /// A floor with the channels that the script declares, and a done channel for each row.
@@ -77,10 +81,17 @@ fn kinds_of(alloc: Global, script: &Script) -> Result<Vec<(Kind, u32)>, Memory>
     for channel in channels {
         kinds.push((channel.kind, channel.places))?;
     }
-    for _ in 0..script.coroutines() {
+    for _ in 0..rows_of(script) {
         kinds.push((Kind::Signal, 1))?;
     }
     Ok(kinds)
+}
+
+/// How many Jobs there may be.
+fn rows_of(script: &Script) -> u16
+    ensures { result ≡ job_count (program_of script.now) }
+{
+    script.coroutines() + script.scopes()
 }
 
 /// A frame for each coroutine.

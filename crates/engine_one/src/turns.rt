@@ -2,14 +2,15 @@
 
 ghost use Rattle.std.specs.Prelude.{◌≡◌, ◌<◌, ◌≤◌, [], length, IfOk, OnOk};
 ghost use Rattle.script_reader.specs.Scripts.{program_of};
-ghost use Rattle.engine_one.specs.Coroutines.{AllStand, IsLater, all_moves};
+ghost use Rattle.engine_one.specs.Coroutines.{AllStand, IsLater, all_moves, scene};
 ghost use Rattle.engine_one.specs.Progress.{Advances, OthersSame, TurnCameTo, RoundCameTo};
 
 use crate::run::Run;
 use channel_model::ChannelFloor;
 use co_base::{Gate, Memory, Tag};
 use job_model::JobFloor;
-use poll_states::{Floors, Turn, poll};
+use poll_states::{Floors, poll};
+use script_meaning::Turn;
 use script_reader::Script;
 
 impl<C: ChannelFloor, J: JobFloor> Run<C, J> {
@@ -21,12 +22,19 @@ impl<C: ChannelFloor, J: JobFloor> Run<C, J> {
         tag: Tag,
     ) -> Result<bool, Memory>
         requires within { tag < length self.old.frames.items }
-        requires stand { AllStand (program_of script.now) (record { channels = C.view self.old.channels; jobs = J.view self.old.jobs }) self.old.frames.items }
-        ensures stand { OnOk result (AllStand (program_of script.now) (record { channels = C.view self.new.channels; jobs = J.view self.new.jobs }) self.new.frames.items) }
-        ensures later { OnOk result (IsLater (record { channels = C.view self.old.channels; jobs = J.view self.old.jobs }) (record { channels = C.view self.new.channels; jobs = J.view self.new.jobs })) }
+        requires stand { AllStand (program_of script.now) (scene (C.view self.old.channels) (J.view self.old.jobs)) self.old.frames.items }
+        ensures stand { OnOk result (AllStand (program_of script.now)
+            (scene (C.view self.new.channels) (J.view self.new.jobs)) self.new.frames.items) }
+        ensures later { OnOk result (IsLater (scene (C.view self.old.channels) (J.view self.old.jobs))
+            (scene (C.view self.new.channels) (J.view self.new.jobs))) }
         ensures others { OthersSame tag self.old.frames.items self.new.frames.items }
-        ensures advances { OnOk result (Advances (program_of script.now) (record { channels = C.view self.old.channels; jobs = J.view self.old.jobs }) (record { channels = C.view self.new.channels; jobs = J.view self.new.jobs }) self.old.frames.items self.new.frames.items self.old.ready.tags.items self.new.ready.tags.items) }
-        ensures turn { IfOk result (TurnCameTo (program_of script.now) tag (record { channels = C.view self.old.channels; jobs = J.view self.old.jobs }) (record { channels = C.view self.new.channels; jobs = J.view self.new.jobs }) self.old.frames.items self.new.frames.items) }
+        ensures advances { OnOk result (Advances (program_of script.now)
+            (scene (C.view self.old.channels) (J.view self.old.jobs))
+            (scene (C.view self.new.channels) (J.view self.new.jobs)) self.old.frames.items self.new.frames.items
+            self.old.ready.tags.items self.new.ready.tags.items) }
+        ensures turn { IfOk result (TurnCameTo (program_of script.now) tag
+            (scene (C.view self.old.channels) (J.view self.old.jobs))
+            (scene (C.view self.new.channels) (J.view self.new.jobs)) self.old.frames.items self.new.frames.items) }
     {
         let before = self.frames[tag as usize].notes();
         let mut floors = Floors {
@@ -45,9 +53,11 @@ impl<C: ChannelFloor, J: JobFloor> Run<C, J> {
 
     /// Polls those that are to be polled, until there is none.
     pub(crate) fn turns<G: Gate>(&mut self, script: &Script, gate: &G) -> Result<(), Memory>
-        requires { AllStand (program_of script.now) (record { channels = C.view self.old.channels; jobs = J.view self.old.jobs }) self.old.frames.items }
-        ensures stand { OnOk result (AllStand (program_of script.now) (record { channels = C.view self.new.channels; jobs = J.view self.new.jobs }) self.new.frames.items) }
-        ensures moves { OnOk result (all_moves (program_of script.now) self.new.frames.items ≤ all_moves (program_of script.now) self.old.frames.items) }
+        requires { AllStand (program_of script.now) (scene (C.view self.old.channels) (J.view self.old.jobs)) self.old.frames.items }
+        ensures stand { OnOk result (AllStand (program_of script.now)
+            (scene (C.view self.new.channels) (J.view self.new.jobs)) self.new.frames.items) }
+        ensures moves { OnOk result
+            (all_moves (program_of script.now) self.new.frames.items ≤ all_moves (program_of script.now) self.old.frames.items) }
         ensures none { OnOk result (self.new.ready.tags.items ≡ []) }
     {
         while let Some(tag) = self.ready.take_first() {
@@ -60,10 +70,16 @@ impl<C: ChannelFloor, J: JobFloor> Run<C, J> {
 
     /// Polls every coroutine once, in order of tags. The answer says whether one of them did anything.
     pub(crate) fn round<G: Gate>(&mut self, script: &Script, gate: &G) -> Result<bool, Memory>
-        requires { AllStand (program_of script.now) (record { channels = C.view self.old.channels; jobs = J.view self.old.jobs }) self.old.frames.items }
-        ensures stand { OnOk result (AllStand (program_of script.now) (record { channels = C.view self.new.channels; jobs = J.view self.new.jobs }) self.new.frames.items) }
-        ensures advances { OnOk result (Advances (program_of script.now) (record { channels = C.view self.old.channels; jobs = J.view self.old.jobs }) (record { channels = C.view self.new.channels; jobs = J.view self.new.jobs }) self.old.frames.items self.new.frames.items self.old.ready.tags.items self.new.ready.tags.items) }
-        ensures round { IfOk result (RoundCameTo (program_of script.now) (record { channels = C.view self.old.channels; jobs = J.view self.old.jobs }) (record { channels = C.view self.new.channels; jobs = J.view self.new.jobs }) self.old.frames.items self.new.frames.items) }
+        requires { AllStand (program_of script.now) (scene (C.view self.old.channels) (J.view self.old.jobs)) self.old.frames.items }
+        ensures stand { OnOk result (AllStand (program_of script.now)
+            (scene (C.view self.new.channels) (J.view self.new.jobs)) self.new.frames.items) }
+        ensures advances { OnOk result (Advances (program_of script.now)
+            (scene (C.view self.old.channels) (J.view self.old.jobs))
+            (scene (C.view self.new.channels) (J.view self.new.jobs)) self.old.frames.items self.new.frames.items
+            self.old.ready.tags.items self.new.ready.tags.items) }
+        ensures round { IfOk result (RoundCameTo (program_of script.now)
+            (scene (C.view self.old.channels) (J.view self.old.jobs))
+            (scene (C.view self.new.channels) (J.view self.new.jobs)) self.old.frames.items self.new.frames.items) }
     {
         let mut moved = false;
         for tag in 0..script.coroutines() {

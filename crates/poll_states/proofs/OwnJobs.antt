@@ -12,10 +12,11 @@ use Rattle.job_model.specs.declared.acts.JobAct.{JobAct}
 use Rattle.job_model.specs.declared.acts.JobAct.TheVariants.{Attach, Start, EndBody, Cancel, Finish, Gone}
 use Rattle.job_model.specs.declared.acts.JobEntry.{JobEntry}
 use Rattle.job_model.specs.declared.floor.JobView.{JobView}
-use Rattle.job_model.specs.Trees.{Shape, Job, Tree, root, start, is_new, is_active, tag_of}
+use Rattle.job_model.specs.Trees.{Shape, Job, Tree, root, start, is_new, is_active, tag_of, state_of, is_ended}
 use Rattle.job_model.specs.Acts.{ends_body}
 use Rattle.job_model.specs.Effects.{after, state_after_body, state_of_end}
-use Rattle.job_model.specs.Needs.{Needs, MayEndBody}
+use Rattle.job_model.specs.Needs.{Needs, OwnsBody, MayEndBody}
+use Rattle.job_model.specs.Families.{IsEnded}
 use Rattle.job_model.specs.Histories.{replay, replay_from, Legal, LegalFrom, acts_of}
 use Rattle.job_model.specs.Floors.{Floor, Looked, AtStep}
 use Rattle.job_model.specs.Laws.{IsSoundRow, has, has_ended_body, is_bodiless}
@@ -27,8 +28,8 @@ use Rattle.job_model.proofs.Own.{prefix_keeps}
 use Rattle.job_model.proofs.Ends.{by_entries}
 use Rattle.job_model.proofs.Families.{replay_families}
 use Rattle.job_model.proofs.Spans.{nothing_more}
-use Rattle.poll_states.specs.Runs.{MayRun, IsCancelling}
-use Rattle.poll_states.specs.Parts.{IsNotStarted}
+use Rattle.call_meaning.specs.Facts.{IsRunning}
+use Rattle.script_meaning.specs.Idle.{IsNotStarted}
 use Rattle.poll_states.specs.Steps.{HasBody}
 
 -- ---- the row of a coroutine has its tag
@@ -148,7 +149,7 @@ pub live_started : (x : Option Job) → IsLive x → IsNotStarted x → ⊥
 live_started None h n = h
 live_started (Some j) h n = let u : true ≡ false = sym (ap is_new n) ∙ h in cc
 
-pub running_live : (x : Option Job) → MayRun x → IsLive x
+pub running_live : (x : Option Job) → IsRunning x → IsLive x
 running_live None h = h
 running_live (Some j) h = by_state j.state h
   where
@@ -160,13 +161,21 @@ running_live (Some j) h = by_state j.state h
     by_state Cancelled e = refl
     by_state Completed e = refl
 
-pub cancelling_live : (x : Option Job) → IsCancelling x → IsLive x
+pub cancelling_live : (x : Option Job) → state_of x ≡ Some Cancelling → IsLive x
 cancelling_live None h = cc
 cancelling_live (Some j) h = let u : j.state ≡ Cancelling = cc in ap is_new u
 
 may_end : (k : ℕ) (x : Option Job) → IsTagged k x → IsLive x → has_ended_body x ≡ false → MayEndBody k x
 may_end k None t h o = h
 may_end k (Some j) t h o = (t, h, o)
+
+owns : (k : ℕ) (x : Option Job) → IsTagged k x → is_some x ≡ true → has_ended_body x ≡ false → OwnsBody k x
+owns k None t a o = cc
+owns k (Some j) t a o = (t, o)
+
+-- an attached Job of a coroutine that did not end its body has its body
+pub owns_own : (shape : Shape) (es : List JobEntry) (k : ℕ) → k < shape.coroutines → Legal shape es → is_some (replay es k) ≡ true → list_any (ends_body k) (acts_of k es) ≡ false → OwnsBody k (replay es k)
+owns_own shape es k lt l a none = owns k (replay es k) (tag_is_row shape es k lt l) a (body_open shape es k lt l none)
 
 -- a coroutine whose Job is not New, and which did not end its body, may end it
 pub may_end_own : (shape : Shape) (es : List JobEntry) (k : ℕ) → k < shape.coroutines → Legal shape es → IsLive (replay es k) → list_any (ends_body k) (acts_of k es) ≡ false → MayEndBody k (replay es k)
@@ -223,3 +232,21 @@ bodiless_one s h = ⊎_elim (λ e. ap is_bodiless e) (λ q. ⊎_elim (λ e. ap i
 
 pub never_ended : (who : ℕ) (v : JobView) (a b : Floor) → Legal b.shape b.seen → HasBody who a → LookAnswer who who a b (Some v) → (v.state ≡ Completing) ⊎ ((v.state ≡ Cancelled) ⊎ (v.state ≡ Completed)) → ⊥
 never_ended who v a b l h look e = never_bodiless who v a b l h look (bodiless_one v.state e)
+
+-- ---- it has not ended
+
+ended_bodiless : (s : JobState) → is_ended s ≡ true → is_bodiless s ≡ true
+ended_bodiless New e = cc
+ended_bodiless Active e = cc
+ended_bodiless Completing e = cc
+ended_bodiless Cancelling e = cc
+ended_bodiless Cancelled e = refl
+ended_bodiless Completed e = refl
+
+not_over : (x : Option Job) → IsSoundRow x → has_ended_body x ≡ false → IsEnded x → ⊥
+not_over None s o e = e
+not_over (Some j) s o e = let u : true ≡ false = sym (s.bodiless (ended_bodiless j.state e)) ∙ o in cc
+
+-- a coroutine that did not end its body has not ended
+pub never_over : (shape : Shape) (es : List JobEntry) (k : ℕ) → k < shape.coroutines → Legal shape es → list_any (ends_body k) (acts_of k es) ≡ false → IsEnded (replay es k) → ⊥
+never_over shape es k lt l none e = not_over (replay es k) ((replay_families shape es l).rows k) (body_open shape es k lt l none) e

@@ -1,207 +1,264 @@
 -- The root between two spawns.
-use Rattle.std.specs.Prelude.{◌≡◌, ℕ, zero, suc, ◌+◌, ◌-◌, ◌<◌, ◌≤◌, Bool, true, false, ◌⊎◌, List, [], ◌∷◌, ◌++◌, length, Err, Some, None, is_some, option_map, map, drop, replicate, slice_get, refl}
-use Rattle.std.proofs.Common.{sym, ap, ◌∙◌, subst, arith, append_assoc, get_or, drop-cons}
+use Rattle.std.specs.Prelude.{◌≡◌, ℕ, zero, suc, ◌+◌, ◌-◌, ◌<◌, ◌≤◌, nat_lt, nat_le, Bool, true, false, ◌&&◌, ◌||◌, ◌⊎◌, List, [], ◌∷◌, ◌++◌, length, Err, Some, None, is_some, option_map, map, drop, replicate, slice_get, refl}
+use Rattle.std.specs.List.{list_any}
+use Rattle.std.proofs.Common.{sym, ap, ◌∙◌, subst, arith, append_assoc, get_or, drop-cons, ⊎_elim}
 use Rattle.std.proofs.lemmas.List.{length-map, get_or-map}
+use Rattle.std.proofs.lemmas.List.Folds.{list_any-append}
 use Rattle.std.proofs.lemmas.Option.{slice_get-get_or, slice_get-map}
-use Rattle.channel_model.specs.Histories.{replay, acts_of}
+use Rattle.std.proofs.lemmas.Bool.Decides.{nat_tests}
+use Rattle.channel_model.specs.Channels.{Shape as ChannelShape}
+use Rattle.channel_model.specs.Histories.{acts_of}
 use Rattle.channel_model.specs.Floors.{Floor as ChannelFloor, Added as AddedToChannels}
-use Rattle.channel_model.proofs.Spans.{added_then as channels_then, nothing_more}
+use Rattle.job_model.specs.declared.acts.JobAct.{JobAct}
 use Rattle.job_model.specs.declared.acts.JobAct.TheVariants.{Attach}
-use Rattle.job_model.specs.Trees.{Shape}
-use Rattle.job_model.specs.Histories.{acts_of as job_acts_of, replay as replay_jobs, Legal}
-use Rattle.job_model.specs.Floors.{Floor, Added}
+use Rattle.job_model.specs.declared.acts.JobNote.TheVariants as known
+use Rattle.job_model.specs.Trees.{Shape, is_among}
+use Rattle.job_model.specs.Acts.{ends_body}
+use Rattle.job_model.specs.Histories.{acts_of as job_acts_of, replay, Legal}
+use Rattle.job_model.specs.Floors.{Floor, Added, is_claimed_by}
 use Rattle.job_model.proofs.Ends.{by_entries}
-use Rattle.job_model.proofs.Spans.{added_then}
+use Rattle.job_model.proofs.Spans.{among-append, added_then, nothing_more}
 use Rattle.note_book.specs.declared.book.Item.{Item}
 use Rattle.note_book.specs.Items.{channel_acts_in, job_acts_in}
 use Rattle.note_book.proofs.Appended.{channel_acts_in-append, job_acts_in-append}
+use Rattle.call_meaning.specs.Telling.{Told, on_jobs, HasEnded, items_in, did, knew}
+use Rattle.call_meaning.specs.Stories.{Moment, IsTrue, story_of, beginning}
+use Rattle.call_meaning.specs.JobCalls.{child_kind, NotAttached}
+use Rattle.call_meaning.specs.Calls.{ToldOnJobs, rows_in, seen_by}
+use Rattle.call_meaning.proofs.Tellings.{true_sooner}
+use Rattle.call_meaning.proofs.JobTellings.{items_in-append, told_then, told_nothing, nobody_called}
 use Rattle.scope_builders.specs.declared.builder.LaunchError.{LaunchError}
 use Rattle.scope_builders.specs.declared.builder.LaunchError.TheVariants as launch
-use Rattle.scope_builders.specs.Groups.{ClosesAtOnce}
-use Rattle.scope_builders.specs.Calls.{Did, StaysSettled, LaunchAnswer, child_kind}
+use Rattle.scope_builders.specs.Dones.{ClosesAtOnce, KeepsDones}
+use Rattle.scope_builders.specs.Calls.{LaunchAnswer}
+use Rattle.script_grammar.specs.Programs.{Program, Block, block_names}
+use Rattle.script_grammar.specs.Grammar.{is_spawn}
+use Rattle.script_grammar.specs.Tags.{code_of, coroutine_count, size_of, sizes_of, spawned, spawned_by}
+use Rattle.script_grammar.specs.WellFormed.{IsProgram}
+use Rattle.script_grammar.proofs.Layouts.{main_fits, size_some, test_at}
+use Rattle.script_meaning.specs.declared.stage.Stage.TheVariants.{Unwinding}
+use Rattle.script_meaning.specs.Shapes.{floor_shape, base_of}
+use Rattle.script_meaning.specs.Configs.{Config, at_stage, fresh, past_launch}
+use Rattle.script_meaning.specs.Books.{Spawns, Begins, Reaches, story}
+use Rattle.script_meaning.specs.Polls.{RefusedByClaims, own_rows, jobs_by}
 use Rattle.script_reader.specs.declared.script.Spawn.{Spawn}
-use Rattle.script_reader.specs.Programs.{Program, IsProgram, spawn_of, spawned_by, spawned, is_spawn, code_of, coroutine_count, size_of, sizes_of}
-use Rattle.script_reader.proofs.Layouts.{main_fits, size_some, test_at}
-use Rattle.script_reader.proofs.Truths.{both_true, lt-from_true, le-from_true}
+use Rattle.script_reader.specs.Programs.{spawn_of}
 use Rattle.poll_states.specs.declared.frame.Frame.{Frame}
-use Rattle.poll_states.specs.declared.frame.Stage.TheVariants.{Fresh, Unwinding}
-use Rattle.poll_states.specs.Settings.{base_of}
-use Rattle.poll_states.specs.Runs.{Config, Spawns, Begins, Reaches, IsRefusal, at_stage, fresh, past_launch, job_note}
-use Rattle.poll_states.specs.Frames.{config_of, items_of, IsFor, IsUnsettledOf, HoldsWait, IsInside}
-use Rattle.poll_states.specs.Beginnings.{IsNewRoot, IsOnItsFloors, Begun}
-use Rattle.poll_states.specs.Steps.{IsForSpawn, HasSpawned, IsRefusedSpawn}
-use Rattle.poll_states.specs.GivingUp.{GivesUpAfterSaw, neither}
-use Rattle.poll_states.proofs.GivenUp.{spawns_may}
-use Rattle.poll_states.proofs.Moves.{self_channels, self_jobs, added_only}
-use Rattle.poll_states.proofs.Stepping.{refused_of, did_same}
+use Rattle.poll_states.specs.declared.floors.Floors.{Floors}
+use Rattle.poll_states.specs.Frames.{config_of, items_of, frame_of, Stands, SameFloors}
+use Rattle.poll_states.specs.Steps.{HasBody, NotedSome, CutShort, IsNewRoot, IsOnItsFloors, BegunTo, IsForSpawn, HasSpawned, IsRefusedSpawn}
+use Rattle.poll_states.proofs.Moving.{rows_in-append, own_rows-append, closes_then}
+use Rattle.poll_states.proofs.DonesLeft.{unclosed_kept}
+use Rattle.poll_states.proofs.Mild.{AllMild, Unrefused, mild_then, nothing_mild, attach_mild, mild_closes, mild_unrefused, unrefused_claims, claims_behind}
+use Rattle.poll_states.proofs.Standing.{few_coroutines}
+use Rattle.poll_states.proofs.Stepping.{self_channels, never_told_over}
 
--- main's frame f, after some of the spawns: these are left
-pub record Spawning (p : Program) (left : List ℕ) (c c' : ChannelFloor) (j j' : Floor) (f : Frame) : Type 0 where
+rows_told-append : (xs ys : List Told) → rows_in (job_acts_in (items_in (xs ++ ys))) ≡ rows_in (job_acts_in (items_in xs)) ++ rows_in (job_acts_in (items_in ys))
+rows_told-append xs ys =
+    ap (λ l. rows_in (job_acts_in l)) (items_in-append xs ys) ∙ ap rows_in (job_acts_in-append (items_in xs) (items_in ys)) ∙ rows_in-append (job_acts_in (items_in xs)) (job_acts_in (items_in ys))
+
+attached_row : (n : ℕ) (now : Bool) → rows_in (job_acts_in (items_in (did (Attach 0 n (child_kind false) n now) ∷ []))) ≡ n ∷ []
+unfolding items_in rows_in
+attached_row n now = refl
+
+attached_open : (n : ℕ) (now : Bool) → list_any (ends_body 0) (job_acts_in (items_in (did (Attach 0 n (child_kind false) n now) ∷ []))) ≡ false
+unfolding items_in
+attached_open n now = refl
+
+-- main's frame f, after some of the spawns were told: these are left
+pub record Spawning (p : Program) (left : List ℕ) (j j' : Floor) (f : Frame) : Type 0 where
   pub tag : f.tag ≡ 0
-  so_far : (items : List Item) (y : Config) → Spawns p left (config_of f) items y → Spawns p (spawned p) (fresh 0) (items_of f ++ items) y
+  told : List Told
+  so_far : (more : List Told) (y : Config) → Spawns p left (config_of f) more y → Spawns p (spawned p) (fresh 0) (told ++ more) y
   here : config_of f ≡ record (fresh 0) { free = f.free }
   room : f.free + sizes_of p left ≤ coroutine_count p
-  fits : IsFor p 0 c' j'
-  no_calls : channel_acts_in (items_of f) ≡ []
-  channels : AddedToChannels 0 [] c c'
-  rows : List ℕ
-  jobs : Added 0 (job_acts_in (items_of f)) rows j j'
-  settled : StaysSettled (base_of p) c c' j j'
+  noted : ToldOnJobs 0 (rows_in (job_acts_in (items_in told))) j j' [] (items_of f) told
+  mild : AllMild (base_of p) told
+  not_ended : list_any (ends_body 0) (job_acts_in (items_in told)) ≡ false
 
 -- before the first
-pub spawning_first : (p : Program) (c : ChannelFloor) (j : Floor) (f : Frame) → IsProgram p → IsNewRoot f → IsOnItsFloors p c j f → Spawning p (spawned p) c c j j f
-spawning_first p c j f ok new on = record {
+pub spawning_first : (p : Program) (j : Floor) (f : Frame) → IsProgram p → IsNewRoot f → Spawning p (spawned p) j j f
+unfolding items_in rows_in
+spawning_first p j f ok new = record {
   tag = new.tag;
-  so_far = λ items y s. subst (λ l. Spawns p (spawned p) (fresh 0) l y) (sym (ap (λ l. l ++ items) new.book)) (subst (λ x. Spawns p (spawned p) x items y) new.config s);
+  told = [];
+  so_far = λ more y s. subst (λ x. Spawns p (spawned p) x more y) new.config s;
   here = new.config ∙ ap (λ n. record (fresh 0) { free = n }) (sym (ap (λ (x : Config). x.free) new.config));
   room = omega (arith, ap (λ (x : Config). x.free) new.config, main_fits p ok);
-  fits = subst (λ k. IsFor p k c j) new.tag on.fits;
-  no_calls = ap channel_acts_in new.book;
-  channels = self_channels 0 c;
-  rows = [];
-  jobs = subst (λ l. Added 0 l [] j j) (sym (ap job_acts_in new.book)) (self_jobs 0 j);
-  settled = λ x y s. s;
+  noted = told_nothing 0 [] j j [] (items_of f) new.book (nobody_called 0 j);
+  mild = nothing_mild (base_of p);
+  not_ended = refl;
 }
 
-fits_after : (p : Program) (c c' : ChannelFloor) (j j' : Floor) (items items' group : List Item) (rows : List ℕ) → IsFor p 0 c j → Did 0 group rows c c' j j' items items' → IsFor p 0 c' j'
-fits_after p c c' j j' items items' group rows h did = record {
-  channel_shape = did.channels.same.shape ∙ h.channel_shape;
-  job_shape_is = did.jobs.same.shape ∙ h.job_shape_is;
-  of_channels = ap (λ (k : ℕ → Bool). k 0) did.channels.same.callers ∙ h.of_channels;
-  of_jobs = ap (λ (k : ℕ → Bool). k 0) did.jobs.same.callers ∙ h.of_jobs;
-  runs = h.runs;
-}
-
-no_more_calls : (items items' group : List Item) → channel_acts_in items ≡ [] → channel_acts_in group ≡ [] → items' ≡ items ++ group → channel_acts_in items' ≡ []
-no_more_calls items items' group e k is = ap channel_acts_in is ∙ channel_acts_in-append items group ∙ ap (λ l. l ++ channel_acts_in group) e ∙ k
-
-more_channels : (c d e : ChannelFloor) (group : List Item) → channel_acts_in group ≡ [] → AddedToChannels 0 [] c d → AddedToChannels 0 (channel_acts_in group) d e → AddedToChannels 0 [] c e
-more_channels c d e group k h m = channels_then 0 [] [] c d e h (subst (λ l. AddedToChannels 0 l d e) k m)
-
-more_jobs : (a b c : Floor) (items items' group : List Item) (rows more : List ℕ) → items' ≡ items ++ group → Added 0 (job_acts_in items) rows a b → Added 0 (job_acts_in group) more b c → Added 0 (job_acts_in items') (rows ++ more) a c
-more_jobs a b c items items' group rows more is h m = subst (λ l. Added 0 l (rows ++ more) a c) (sym (ap job_acts_in is ∙ job_acts_in-append items group)) (added_then 0 (job_acts_in items) (job_acts_in group) rows more a b c h m)
-
-more_settled : (base : ℕ) (c d e : ChannelFloor) (j k l : Floor) (rows : List ℕ) (items : List Item) → AddedToChannels 0 [] c d → Added 0 (job_acts_in items) rows j k → StaysSettled base c d j k → StaysSettled base d e k l → StaysSettled base c e j l
-more_settled base c d e j k l rows items h m s t x y z = t (h.same.alone ∙ x) (m.same.alone ∙ y) (s x y z)
-
-pub spawning_next : (p : Program) (block : ℕ) (left : List ℕ) (c d e : ChannelFloor) (j k l : Floor) (f g : Frame) → Spawning p (block ∷ left) c d j k f → HasSpawned p block d e k l f g → Spawning p left c e j l g
-spawning_next p block left c d e j k l f g h s =
-    let note : Item = job_note (Attach 0 f.free (child_kind false) f.free s.now) in
+-- after one more
+pub spawning_next : (p : Program) (block : ℕ) (left : List ℕ) (j k l : Floor) (f g : Frame) → Spawning p (block ∷ left) j k f → HasSpawned p block k l f g → Spawning p left j l g
+spawning_next p block left j k l f g h s =
+    let x : Config = config_of f in
+    let one : List Told = did (Attach 0 f.free (child_kind false) f.free s.now) ∷ [] in
     record {
       tag = s.tag ∙ h.tag;
-      so_far = λ items y more. subst (λ n. Spawns p (spawned p) (fresh 0) n y) (sym (append_assoc (items_of f) (note ∷ []) items) ∙ ap (λ n. n ++ items) (sym s.did.appended))
-          (h.so_far (note ∷ items) y (Spawns.attaches block left (config_of f) y s.now items (note ∷ items) (subst (λ x. Spawns p left x items y) s.config more) refl));
-      here = s.config ∙ ap (past_launch p block None) h.here ∙ ap (λ n. record (fresh 0) { free = n }) (sym (ap (λ (x : Config). x.free) s.config));
-      room = omega (arith, h.room, ap (λ (x : Config). x.free) s.config);
-      fits = fits_after p d e k l (items_of f) (items_of g) (note ∷ []) (f.free ∷ []) h.fits s.did;
-      no_calls = no_more_calls (items_of f) (items_of g) (note ∷ []) h.no_calls refl s.did.appended;
-      channels = more_channels c d e (note ∷ []) refl h.channels s.did.channels;
-      rows = h.rows ++ (f.free ∷ []);
-      jobs = more_jobs j k l (items_of f) (items_of g) (note ∷ []) h.rows (f.free ∷ []) s.did.appended h.jobs s.did.jobs;
-      settled = more_settled (base_of p) c d e j k l h.rows (items_of f) h.channels h.jobs h.settled s.settled;
+      told = h.told ++ one;
+      so_far = λ more y rest. subst (λ n. Spawns p (spawned p) (fresh 0) n y) (sym (append_assoc h.told one more))
+          (h.so_far (one ++ more) y (Spawns.attaches block left x y s.now more (subst (λ z. Spawns p left z more y) s.config rest)));
+      here = s.config ∙ ap (past_launch p block None) h.here ∙ ap (λ n. record (fresh 0) { free = n }) (sym (ap (λ (z : Config). z.free) s.config));
+      room = omega (arith, h.room, ap (λ (z : Config). z.free) s.config);
+      noted = subst (λ r. ToldOnJobs 0 r j l [] (items_of g) (h.told ++ one)) (sym (rows_told-append h.told one ∙ ap (λ r. rows_in (job_acts_in (items_in h.told)) ++ r) (attached_row f.free s.now)))
+          (told_then 0 (rows_in (job_acts_in (items_in h.told))) (f.free ∷ []) j k l [] (items_of f) (items_of g) h.told one h.noted s.noted);
+      mild = mild_then (base_of p) h.told one h.mild (attach_mild (base_of p) 0 f.free (child_kind false) f.free s.now);
+      not_ended = ap (λ i. list_any (ends_body 0) (job_acts_in i)) (items_in-append h.told one) ∙ ap (list_any (ends_body 0)) (job_acts_in-append (items_in h.told) (items_in one))
+          ∙ list_any-append (ends_body 0) (job_acts_in (items_in h.told)) (job_acts_in (items_in one)) ∙ ap (λ b. b || list_any (ends_body 0) (job_acts_in (items_in one))) h.not_ended ∙ attached_open f.free s.now;
     }
 
 -- ---- the root has begun
 
-refusal_open : (base : ℕ) (note : Item) → IsRefusal note → ClosesAtOnce base (note ∷ [])
-refusal_open base _ IsRefusal.no_row = (tt, tt)
-refusal_open base _ IsRefusal.used = (tt, tt)
-refusal_open base _ IsRefusal.parent_ended = (tt, tt)
-
--- no Job ends before the root's first line
-spawns_close : (p : Program) (base : ℕ) (blocks : List ℕ) (x : Config) (items : List Item) (y : Config) → Spawns p blocks x items y → ClosesAtOnce base items
-spawns_close p base blocks x items y (Spawns.done _) = tt
-spawns_close p base blocks x items y (Spawns.attaches block left _ _ now more _ s e) = subst (ClosesAtOnce base) (sym e) (tt, spawns_close p base left (past_launch p block None x) more y s)
-spawns_close p base blocks x items y (Spawns.spawn_refused block left _ note r) = refusal_open base note r
+root_row : (p : Program) → IsProgram p → 0 < coroutine_count p
+root_row p ok = omega (arith, main_fits p ok)
 
 -- main's frame g after its spawns, at its first line or to break off
-root_begun : (p : Program) (c c' : ChannelFloor) (j j' : Floor) (f g : Frame) (rows : List ℕ) → IsNewRoot f → IsOnItsFloors p c j f → g.tag ≡ 0 → Spawns p (spawned p) (fresh 0) (items_of g) (config_of g)
-    → HoldsWait 0 g.stage c' → IsInside g.stage g.line (length (code_of p 0)) → IsFor p 0 c' j' → channel_acts_in (items_of g) ≡ [] → AddedToChannels 0 [] c c' → Added 0 (job_acts_in (items_of g)) rows j j' → StaysSettled (base_of p) c c' j j' → Begun p c c' j j' f g
-root_begun p c c' j j' f g rows new on t spawned_so holds inside fits none channels jobs settled = record {
-  tag = t ∙ sym new.tag;
-  stands = record {
-    fits = subst (λ k. IsFor p k c' j') (sym t) fits;
-    reaches = subst (λ k. Reaches p k j'.seen (items_of g) (config_of g)) (sym t) (Reaches.begins (items_of g) (config_of g) (Begins.root (items_of g) (config_of g) spawned_so));
-    channel_acts = ap (λ k. acts_of k c'.seen) t ∙ channels.mine ∙ nothing_more (acts_of 0 c.seen) ∙ subst (λ k. acts_of k c.seen ≡ []) new.tag on.no_channel_acts ∙ sym none;
-    job_acts = ap (λ k. job_acts_of k j'.seen) t ∙ jobs.mine ∙ ap (λ l. l ++ job_acts_in (items_of g)) (subst (λ k. job_acts_of k j.seen ≡ []) new.tag on.no_job_acts);
-    holds = subst (λ k. HoldsWait k g.stage c') (sym t) holds;
-    only = λ w u. absurd (on.no_wait w (subst (λ k. IsUnsettledOf k ((replay c.seen).waits w)) (sym new.tag) (added_only 0 [] c c' w channels refl (subst (λ k. IsUnsettledOf k ((replay c'.seen).waits w)) t u))));
-    inside = subst (λ k. IsInside g.stage g.line (length (code_of p k))) (sym t) inside;
-    gives_up = subst (λ k. GivesUpAfterSaw k (replay c'.seen) (items_of g)) (sym t) (spawns_may p 0 (spawned p) (fresh 0) (items_of g) (config_of g) (replay c'.seen) spawned_so neither);
+root_begun : (p : Program) (c d : ChannelFloor) (j j' : Floor) (f g : Frame) (told : List Told) → IsProgram p → Legal j'.shape j'.seen → d ≡ c → IsNewRoot f → IsOnItsFloors p c j → g.tag ≡ 0 → Spawns p (spawned p) (fresh 0) told (config_of g) → ToldOnJobs 0 (rows_in (job_acts_in (items_in told))) j j' [] (items_of g) told
+    → RefusedByClaims (config_of g) (items_in told) j' → ClosesAtOnce (base_of p) (items_in told) → BegunTo p c d j j' f g
+unfolding acts_of
+root_begun p c d j j' f g told ok l e new on t spawned_so noted refused closes = subst (λ x. BegunTo p c x j j' f g) (sym e) (record {
+  begun = record {
+    tag = t ∙ sym new.tag;
+    told = told;
+    begins = subst (λ k. Begins p k told (config_of g)) (sym new.tag) (Begins.root told (config_of g) spawned_so);
+    written = noted.appended;
+    is_true = subst (λ k. IsTrue (story p k (jobs_by j')) [] (jobs_by j) told) (sym new.tag) (noted.was_so (floor_shape p) [] refl on.no_job_acts);
+    jobs = subst (λ k. Added k (job_acts_in (items_in told)) (rows_in (job_acts_in (items_in told))) j j') (sym new.tag) noted.added;
+    refused = refused;
   };
-  rows = rows;
-  jobs = subst (λ k. Added k (job_acts_in (items_of g)) rows j j') (sym t) jobs;
-  no_calls = none;
-  closes = spawns_close p (base_of p) (spawned p) (fresh 0) (items_of g) (config_of g) spawned_so;
-  settled = settled;
-}
+  stands = record {
+    lines_run = on.lines_run;
+    on = record {
+      channels = on.channels;
+      jobs = noted.added.same.shape ∙ on.jobs;
+      of_channels = ap c.callers t ∙ on.of_channels;
+      of_jobs = ap j'.callers t ∙ ap (λ (k : ℕ → Bool). k 0) noted.added.same.callers ∙ on.of_jobs;
+      in_run = subst (λ k. k < coroutine_count p) (sym t) (root_row p ok);
+      channel_acts = ap (λ k. acts_of k c.seen) t ∙ on.no_channel_acts ∙ sym noted.no_channels ∙ ap channel_acts_in (sym noted.appended);
+      job_acts = ap (λ k. job_acts_of k j'.seen) t ∙ noted.added.mine ∙ ap (λ a. a ++ job_acts_in (items_in told)) on.no_job_acts ∙ ap job_acts_in (sym noted.appended);
+      runs = record {
+        told = told;
+        written = sym noted.appended;
+        reaches = subst (λ k. Reaches p k told (config_of g)) (sym t) (Reaches.begins told (config_of g) (Begins.root told (config_of g) spawned_so));
+        is_true = subst (λ k. IsTrue (story p k (seen_by c j')) [] beginning told) (sym t)
+            (true_sooner (story p 0 (seen_by c j')) [] beginning (seen_by c j) told (record { channels = (c.seen, refl); jobs = (j.seen, refl) }) (noted.was_so (floor_shape p) c.seen on.no_channel_acts on.no_job_acts));
+      };
+      claims = λ r.
+          let rows : List ℕ = rows_in (job_acts_in (items_in told)) in
+          ap (λ k. is_claimed_by k (j'.claims r)) t ∙ noted.added.claims.mine r ∙ ap (λ b. b || is_among r rows) (on.claims r) ∙ sym (among-append r (own_rows 0 []) rows)
+          ∙ ap (is_among r) (sym (own_rows-append 0 [] (items_in told))) ∙ ap (λ i. is_among r (own_rows 0 i)) (sym noted.appended) ∙ ap (λ k. is_among r (own_rows k (items_of g))) (sym t);
+    };
+  };
+  dones = subst (λ i. KeepsDones (base_of p) c c j j' i) (sym noted.appended) (unclosed_kept 0 (base_of p) [] (job_acts_in (items_in told)) (rows_in (job_acts_in (items_in told))) c c j j' (items_in told) l (self_channels 0 c) refl noted.added closes);
+})
 
-pub begun_all : (p : Program) (c c' : ChannelFloor) (j j' : Floor) (f g : Frame) → IsNewRoot f → IsOnItsFloors p c j f → Spawning p [] c c' j j' g → Begun p c c' j j' f g
-begun_all p c c' j j' f g new on h =
-    let stage : g.stage ≡ Fresh = ap (λ (x : Config). x.stage) h.here in
-    let line : g.line ≡ 0 = ap (λ (x : Config). x.line) h.here in
-    root_begun p c c' j j' f g h.rows new on h.tag (subst (λ l. Spawns p (spawned p) (fresh 0) l (config_of g)) (nothing_more (items_of g)) (h.so_far [] (config_of g) (Spawns.done (config_of g))))
-    (subst (λ s. HoldsWait 0 s c') (sym stage) tt) (subst (λ s. IsInside s g.line (length (code_of p 0))) (sym stage) line) h.fits h.no_calls h.channels h.jobs h.settled
+-- all were attached
+pub begun_all : (p : Program) (c d : ChannelFloor) (j j' : Floor) (f g : Frame) → IsProgram p → Legal j'.shape j'.seen → d ≡ c → IsNewRoot f → IsOnItsFloors p c j → Spawning p [] j j' g → BegunTo p c d j j' f g
+begun_all p c d j j' f g ok l e new on h =
+    root_begun p c d j j' f g h.told ok l e new on h.tag (subst (λ t. Spawns p (spawned p) (fresh 0) t (config_of g)) (nothing_more h.told) (h.so_far [] (config_of g) (Spawns.done (config_of g)))) h.noted
+    (unrefused_claims (base_of p) (config_of g) h.told j' (mild_unrefused (base_of p) h.told h.mild)) (mild_closes (base_of p) (items_in h.told) h.mild)
 
-refusal_quiet : (note : Item) → IsRefusal note → channel_acts_in (note ∷ []) ≡ []
-refusal_quiet _ IsRefusal.no_row = refl
-refusal_quiet _ IsRefusal.used = refl
-refusal_quiet _ IsRefusal.parent_ended = refl
+refusal_closes : (base : ℕ) (scoped : Bool) (told : List Told) → NotAttached 0 scoped told → ClosesAtOnce base (items_in told)
+unfolding items_in
+refusal_closes base _ _ NotAttached.no_row = (tt, tt)
+refusal_closes base _ _ NotAttached.used = (tt, tt)
+refusal_closes base _ _ (NotAttached.parent_ended scoped) = (tt, tt)
 
-pub begun_refused : (p : Program) (block : ℕ) (left : List ℕ) (c d e : ChannelFloor) (j k l : Floor) (f m g : Frame) → IsNewRoot f → IsOnItsFloors p c j f → Spawning p (block ∷ left) c d j k m → IsRefusedSpawn p d e k l m g → Begun p c e j l f g
-begun_refused p block left c d e j k l f m g new on h s =
-    let quiet = refusal_quiet s.note s.refusal in
-    let stage : g.stage ≡ Unwinding (Some 0) = ap (λ (x : Config). x.stage) s.config in
-    let line : g.line ≡ 0 = ap (λ (x : Config). x.line) s.config ∙ ap (λ (x : Config). x.line) h.here in
-    let spawned_to = h.so_far (s.note ∷ []) (at_stage (Unwinding (Some 0)) (config_of m)) (Spawns.spawn_refused block left (config_of m) s.note s.refusal) in
-    root_begun p c e j l f g (h.rows ++ s.rows) new on (s.tag ∙ h.tag) (subst (λ x. Spawns p (spawned p) (fresh 0) (items_of g) x) (sym s.config) (subst (λ n. Spawns p (spawned p) (fresh 0) n (at_stage (Unwinding (Some 0)) (config_of m))) (sym s.did.appended) spawned_to))
-    (subst (λ t. HoldsWait 0 t e) (sym stage) tt) (subst (λ t. IsInside t g.line (length (code_of p 0))) (sym stage) (omega (arith, line)))
-    (fits_after p d e k l (items_of m) (items_of g) (s.note ∷ []) s.rows h.fits s.did)
-    (no_more_calls (items_of m) (items_of g) (s.note ∷ []) h.no_calls quiet s.did.appended)
-    (more_channels c d e (s.note ∷ []) quiet h.channels s.did.channels)
-    (more_jobs j k l (items_of m) (items_of g) (s.note ∷ []) h.rows s.rows s.did.appended h.jobs s.did.jobs)
-    (more_settled (base_of p) c d e j k l h.rows (items_of m) h.channels h.jobs h.settled s.settled)
+refusal_rows : (scoped : Bool) (told : List Told) → NotAttached 0 scoped told → rows_in (job_acts_in (items_in told)) ≡ []
+unfolding items_in rows_in
+refusal_rows _ _ NotAttached.no_row = refl
+refusal_rows _ _ NotAttached.used = refl
+refusal_rows _ _ (NotAttached.parent_ended scoped) = refl
+
+-- one was refused
+pub begun_refused : (p : Program) (block : ℕ) (left : List ℕ) (c d : ChannelFloor) (j k l : Floor) (f m g : Frame) → IsProgram p → Legal l.shape l.seen → d ≡ c → IsNewRoot f → IsOnItsFloors p c j → Spawning p (block ∷ left) j k m → IsRefusedSpawn k l m g → BegunTo p c d j l f g
+begun_refused p block left c d j k l f m g ok legal e new on h s =
+    let told : List Told = h.told ++ s.told in
+    let to : Spawns p (spawned p) (fresh 0) told (at_stage (Unwinding (Some 0)) (config_of m)) = h.so_far s.told _ (Spawns.refused block left (config_of m) s.told s.goes) in
+    let rows : rows_in (job_acts_in (items_in h.told)) ++ [] ≡ rows_in (job_acts_in (items_in told)) = sym (rows_told-append h.told s.told ∙ ap (λ r. rows_in (job_acts_in (items_in h.told)) ++ r) (refusal_rows false s.told s.goes)) in
+    root_begun p c d j l f g told ok legal e new on (s.tag ∙ h.tag) (subst (Spawns p (spawned p) (fresh 0) told) (sym s.config) to)
+    (subst (λ r. ToldOnJobs 0 r j l [] (items_of g) told) rows (told_then 0 (rows_in (job_acts_in (items_in h.told))) [] j k l [] (items_of m) (items_of g) h.told s.told h.noted s.noted))
+    (subst (λ i. RefusedByClaims (config_of g) i l) (sym (items_in-append h.told s.told)) (claims_behind (base_of p) (config_of g) h.told (items_in s.told) l (mild_unrefused (base_of p) h.told h.mild) s.refused))
+    (subst (ClosesAtOnce (base_of p)) (sym (items_in-append h.told s.told)) (closes_then (base_of p) (items_in h.told) (items_in s.told) (mild_closes (base_of p) (items_in h.told) h.mild) (refusal_closes (base_of p) false s.told s.goes)))
+
+-- the jobs attached so far stand and are noted
+pub begun_cut : (p : Program) (left : List ℕ) (b c d : ChannelFloor) (j k l : Floor) (f m g : Frame) → b ≡ c → d ≡ c → IsNewRoot f → Spawning p left j k m → CutShort b b k l m g → CutShort c d j l f g
+begun_cut p left b c d j k l f m g q e new h cut =
+    let n : NotedSome m.tag c c k l (items_of m) (items_of g) = subst (λ x. NotedSome m.tag x x k l (items_of m) (items_of g)) q cut.noted in
+    let same : m.tag ≡ f.tag = h.tag ∙ sym new.tag in
+    subst (λ x. CutShort c x j l f g) (sym e) (record {
+      tag = cut.tag ∙ same;
+      noted = record {
+        group = items_in h.told ++ n.group;
+        rows = rows_in (job_acts_in (items_in h.told)) ++ n.rows;
+        appended = n.appended ∙ ap (λ i. i ++ n.group) (h.noted.appended) ∙ sym (ap (λ i. i ++ (items_in h.told ++ n.group)) new.book);
+        channels = subst (λ a. AddedToChannels f.tag a c c) (sym (channel_acts_in-append (items_in h.told) n.group ∙ ap (λ a. a ++ channel_acts_in n.group) h.noted.no_channels)) (subst (λ t. AddedToChannels t (channel_acts_in n.group) c c) same n.channels);
+        jobs = subst (λ a. Added f.tag a (rows_in (job_acts_in (items_in h.told)) ++ n.rows) j l) (sym (job_acts_in-append (items_in h.told) n.group))
+            (added_then f.tag (job_acts_in (items_in h.told)) (job_acts_in n.group) (rows_in (job_acts_in (items_in h.told))) n.rows j k l (subst (λ t. Added t (job_acts_in (items_in h.told)) (rows_in (job_acts_in (items_in h.told))) j k) (sym new.tag) h.noted.added)
+            (subst (λ t. Added t (job_acts_in n.group) n.rows k l) same n.jobs));
+      };
+    })
 
 -- ---- one spawn
 
-pub for_spawn : (p : Program) (block : ℕ) (left : List ℕ) (c d : ChannelFloor) (j k : Floor) (f : Frame) → Spawning p (block ∷ left) c d j k f → IsForSpawn p block d k f
-for_spawn p block left c d j k f h = record { tag = h.tag; fits = h.fits; room = omega (arith, h.room) }
+pub for_spawn : (p : Program) (block : ℕ) (left : List ℕ) (c d : ChannelFloor) (j k : Floor) (f : Frame) → IsProgram p → d ≡ c → IsOnItsFloors p c j → Spawning p (block ∷ left) j k f → IsForSpawn p block d k f
+for_spawn p block left c d j k f ok e on h = subst (λ x. IsForSpawn p block x k f) (sym e) (record {
+  tag = h.tag;
+  channels = on.channels;
+  of_channels = on.of_channels;
+  jobs = h.noted.added.same.shape ∙ on.jobs;
+  body = record {
+    caller = ap (λ (t : ℕ → Bool). t 0) h.noted.added.same.callers ∙ on.of_jobs;
+    coroutine = omega (arith, root_row p ok, ap (λ (s : Shape). s.coroutines) (h.noted.added.same.shape ∙ on.jobs));
+    not_ended = ap (list_any (ends_body 0)) (h.noted.added.mine ∙ ap (λ a. a ++ job_acts_in (items_in h.told)) on.no_job_acts) ∙ h.not_ended;
+  };
+  channel_acts = on.no_channel_acts ∙ sym h.noted.no_channels ∙ ap channel_acts_in (sym h.noted.appended);
+  job_acts = h.noted.added.mine ∙ ap (λ a. a ++ job_acts_in (items_in h.told)) on.no_job_acts ∙ ap job_acts_in (sym h.noted.appended);
+  room = omega (arith, h.room);
+})
 
-pub root_attached : (j : Floor) → Legal j.shape j.seen → is_some (replay_jobs j.seen 0) ≡ true
+pub root_attached : (j : Floor) → Legal j.shape j.seen → is_some (replay j.seen 0) ≡ true
 root_attached j l = (by_entries j.shape j.seen 0 l).attached
 
 pub spawn_row : (p : Program) (block : ℕ) (c : ChannelFloor) (j : Floor) (f : Frame) → block < length p.blocks → IsForSpawn p block c j f → f.free < j.shape.coroutines
-spawn_row p block c j f lt h = let some = size_some p block lt in omega (arith, some, h.room, ap (λ (s : Shape). s.coroutines) h.fits.job_shape_is)
+spawn_row p block c j f lt h = let some = size_some p block lt in omega (arith, some, h.room, ap (λ (s : Shape). s.coroutines) h.jobs)
 
-pub spawn_short : (p : Program) (block : ℕ) (c : ChannelFloor) (j : Floor) (f : Frame) → IsProgram p → IsForSpawn p block c j f → f.free < 65536
-spawn_short p block c j f ok h = omega (arith, h.room, ok.few_coroutines)
+pub spawn_short : (p : Program) (block : ℕ) (c : ChannelFloor) (j : Floor) (f : Frame) → IsProgram p → IsForSpawn p block c j f → f.free + size_of p block < 65536
+spawn_short p block c j f ok h = omega (arith, h.room, few_coroutines p ok)
 
-pub has_spawned : (p : Program) (block size : ℕ) (c c' : ChannelFloor) (j j' : Floor) (f g : Frame) (now : Bool) → f.tag ≡ 0 → g.tag ≡ f.tag → config_of g ≡ record (config_of f) { free = f.free + size } → size ≡ size_of p block
-    → Did f.tag (job_note (Attach 0 f.free (child_kind false) f.free now) ∷ []) (f.free ∷ []) c c' j j' (items_of f) (items_of g) → StaysSettled (base_of p) c c' j j' → HasSpawned p block c c' j j' f g
-has_spawned p block size c c' j j' f g now at t config is did settled = record {
+pub has_spawned : (p : Program) (block size : ℕ) (j j' : Floor) (f g : Frame) (now : Bool) → f.tag ≡ 0 → g.tag ≡ f.tag → config_of g ≡ record (config_of f) { free = f.free + size } → size ≡ size_of p block
+    → ToldOnJobs f.tag (f.free ∷ []) j j' (items_of f) (items_of g) (did (Attach 0 f.free (child_kind false) f.free now) ∷ []) → HasSpawned p block j j' f g
+has_spawned p block size j j' f g now at t config is noted = record {
   tag = t;
   config = config ∙ ap (λ n. record (config_of f) { free = f.free + n }) is;
   now = now;
-  did = subst (λ k. Did k (job_note (Attach 0 f.free (child_kind false) f.free now) ∷ []) (f.free ∷ []) c c' j j' (items_of f) (items_of g)) at did;
-  settled = settled;
+  noted = subst (λ k. ToldOnJobs k (f.free ∷ []) j j' (items_of f) (items_of g) (did (Attach 0 f.free (child_kind false) f.free now) ∷ [])) at noted;
 }
 
-pub spawn_refused : (p : Program) (lazy : Bool) (tag : ℕ) (c c' : ChannelFloor) (j j' : Floor) (f g : Frame) (items' : List Item) (error : LaunchError) → (error ≡ launch.Used) ⊎ (error ≡ launch.ParentEnded) → f.tag ≡ 0 → g.tag ≡ f.tag → config_of g ≡ at_stage (Unwinding (Some f.tag)) (config_of f)
-    → LaunchAnswer f.tag 0 tag lazy c c' j j' (items_of f) items' (Err error) → items_of g ≡ items' → StaysSettled (base_of p) c c' j j' → IsRefusedSpawn p c c' j j' f g
-spawn_refused p lazy tag c c' j j' f g items' error which at t config answer e settled =
-    let r = refused_of f.tag 0 tag lazy c c' j j' (items_of f) items' error which answer in
+refused_used : (j j' : Floor) (f g : Frame) → f.tag ≡ 0 → is_some (j'.claims f.free) ≡ true → ToldOnJobs f.tag [] j j' (items_of f) (items_of g) (knew known.Used ∷ []) → g.tag ≡ f.tag → config_of g ≡ at_stage (Unwinding (Some f.tag)) (config_of f) → IsRefusedSpawn j j' f g
+unfolding items_in
+refused_used j j' f g at claimed noted t config =
+    let goes : config_of g ≡ at_stage (Unwinding (Some 0)) (config_of f) = config ∙ ap (λ n. at_stage (Unwinding (Some n)) (config_of f)) at in
     record {
       tag = t;
-      config = config ∙ ap (λ n. at_stage (Unwinding (Some n)) (config_of f)) at;
-      note = r.note;
-      refusal = r.refusal;
-      rows = r.rows;
-      did = subst (λ k. Did k (r.note ∷ []) r.rows c c' j j' (items_of f) (items_of g)) at (did_same f.tag (r.note ∷ []) r.rows c c' j j' (items_of f) items' (items_of g) r.did e);
-      settled = settled;
+      config = goes;
+      told = knew known.Used ∷ [];
+      goes = NotAttached.used;
+      noted = subst (λ k. ToldOnJobs k [] j j' (items_of f) (items_of g) (knew known.Used ∷ [])) at noted;
+      refused = record { no_row = λ e. absurd (let u : ⊥ = cc in u); used = λ e. ap (λ (x : Config). is_some (j'.claims x.free)) goes ∙ claimed; none_ended = refl };
     }
 
-pub own_fits : (p : Program) (k : ℕ) (c : ChannelFloor) (j : Floor) → k ≡ 0 → IsFor p 0 c j → IsFor p k c j
-own_fits p k c j e h = subst (λ n. IsFor p n c j) (sym e) h
+pub spawn_refused : (p : Program) (block : ℕ) (c : ChannelFloor) (j j' : Floor) (f g : Frame) (error : LaunchError) (mid : List Item) → (error ≡ launch.Used) ⊎ (error ≡ launch.ParentEnded) → Legal j'.shape j'.seen → IsForSpawn p block c j f
+    → LaunchAnswer f.tag 0 f.free false j j' (items_of f) mid (Err error) → g.tag ≡ f.tag → config_of g ≡ at_stage (Unwinding (Some f.tag)) (config_of f) → items_of g ≡ mid → IsRefusedSpawn j j' f g
+spawn_refused p block c j j' f g error mid which l h answer t config items =
+    let answer : LaunchAnswer f.tag 0 f.free false j j' (items_of f) (items_of g) (Err error) = subst (λ i. LaunchAnswer f.tag 0 f.free false j j' (items_of f) i (Err error)) (sym items) answer in
+    ⊎_elim
+    (λ k. let q = subst (λ x. LaunchAnswer f.tag 0 f.free false j j' (items_of f) (items_of g) (Err x)) k answer in refused_used j j' f g h.tag q.0 q.1 t config)
+    (λ k. let q = subst (λ x. LaunchAnswer f.tag 0 f.free false j j' (items_of f) (items_of g) (Err x)) k answer in
+    absurd (never_told_over 0 (f.free ∷ []) c j j' (items_of f) (items_of g) (knew known.ParentEnded ∷ []) l h.body h.channel_acts h.job_acts (subst (λ w. ToldOnJobs w (f.free ∷ []) j j' (items_of f) (items_of g) (on_jobs (HasEnded 0) ∷ knew known.ParentEnded ∷ [])) h.tag q)))
+    which
 
 -- ---- the spawns of a script
 
@@ -222,17 +279,6 @@ next_instance n made block left lt = let e : n - made ≡ suc (n - (made + 1)) =
 pub no_instance : (n made block : ℕ) (left : List ℕ) → n ≤ made → replicate (n - made) block ++ left ≡ left
 no_instance n made block left le = let e : n - made ≡ 0 = omega (arith, le) in ap (λ m. replicate m block ++ left) e
 
-pub spawn_block : (p : Program) (xs : List Spawn) (i : ℕ) (z : Spawn) → IsProgram p → map spawn_of xs ≡ p.spawns → i < length xs → (get_or xs i z).coroutine < length p.blocks
-spawn_block p xs i z ok e lt =
-    let at : slice_get p.spawns i ≡ Some (spawn_of (get_or xs i z)) = ap (λ l. slice_get l i) (sym e) ∙ slice_get-map spawn_of xs i ∙ ap (λ o. option_map spawn_of o) (slice_get-get_or xs i z lt) in
-    lt-from_true _ _ (both_true _ _ (test_at (is_spawn (length p.blocks)) p.spawns i _ ok.spawns at)).0
-
--- a count fits
-pub spawn_count : (p : Program) (xs : List Spawn) (i : ℕ) (z : Spawn) → IsProgram p → map spawn_of xs ≡ p.spawns → i < length xs → (get_or xs i z).count ≤ 16000
-spawn_count p xs i z ok e lt =
-    let at : slice_get p.spawns i ≡ Some (spawn_of (get_or xs i z)) = ap (λ l. slice_get l i) (sym e) ∙ slice_get-map spawn_of xs i ∙ ap (λ o. option_map spawn_of o) (slice_get-get_or xs i z lt) in
-    le-from_true _ _ (both_true _ _ (both_true _ _ (test_at (is_spawn (length p.blocks)) p.spawns i _ ok.spawns at)).1).1
-
 pub none_left : (p : Program) (xs : List Spawn) (i : ℕ) → map spawn_of xs ≡ p.spawns → length xs ≤ i → spawned_by (drop i p.spawns) ≡ []
 none_left p xs i e h = ap spawned_by (all_dropped p.spawns i (omega (arith, h, ap length e, length-map xs spawn_of)))
   where
@@ -242,5 +288,45 @@ none_left p xs i e h = ap spawned_by (all_dropped p.spawns i (omega (arith, h, a
     all_dropped (x ∷ l) zero h = absurd (omega (arith, h))
     all_dropped (x ∷ l) (suc i) h = all_dropped l i (omega (arith, h))
 
-abbrev pub spawning_at : (p : Program) (left more : List ℕ) (c d : ChannelFloor) (j k : Floor) (f : Frame) → left ≡ more → Spawning p left c d j k f → Spawning p more c d j k f
-spawning_at p left more c d j k f e h = subst (λ l. Spawning p l c d j k f) e h
+abbrev pub spawning_at : (p : Program) (left more : List ℕ) (j k : Floor) (f : Frame) → left ≡ more → Spawning p left j k f → Spawning p more j k f
+spawning_at p left more j k f e h = subst (λ l. Spawning p l j k f) e h
+
+both_true : (a b : Bool) → (a && b) ≡ true → (a ≡ true) × (b ≡ true)
+both_true true b e = (refl, e)
+both_true false b e = cc
+
+-- what the script says of a spawn
+spawn_ok : (p : Program) (xs : List Spawn) (i : ℕ) (z : Spawn) → IsProgram p → map spawn_of xs ≡ p.spawns → i < length xs → is_spawn (block_names p.blocks) (spawn_of (get_or xs i z)) ≡ true
+spawn_ok p xs i z ok e lt =
+    let at : slice_get p.spawns i ≡ Some (spawn_of (get_or xs i z)) = ap (λ l. slice_get l i) (sym e) ∙ slice_get-map spawn_of xs i ∙ ap (λ o. option_map spawn_of o) (slice_get-get_or xs i z lt) in
+    test_at (is_spawn (block_names p.blocks)) p.spawns i _ ok.spawns at
+
+pub spawn_block : (p : Program) (xs : List Spawn) (i : ℕ) (z : Spawn) → IsProgram p → map spawn_of xs ≡ p.spawns → i < length xs → (get_or xs i z).coroutine < length p.blocks
+spawn_block p xs i z ok e lt =
+    let s = get_or xs i z in
+    let first : nat_lt s.coroutine (length (block_names p.blocks)) ≡ true = (both_true _ _ (both_true _ _ (spawn_ok p xs i z ok e lt)).0).0 in
+    let low : s.coroutine < length (block_names p.blocks) = grind (arith, nat_tests) in
+    omega (arith, low, length-map p.blocks (λ (b : Block). b.name))
+
+-- a count fits
+pub spawn_count : (p : Program) (xs : List Spawn) (i : ℕ) (z : Spawn) → IsProgram p → map spawn_of xs ≡ p.spawns → i < length xs → (get_or xs i z).count ≤ 16000
+spawn_count p xs i z ok e lt =
+    let s = get_or xs i z in
+    few s.count (both_true (nat_le 1 s.count) (nat_le s.count 16000) (both_true _ _ (spawn_ok p xs i z ok e lt)).1).1
+  where
+    few : (n : ℕ) → nat_le n 16000 ≡ true → n ≤ 16000
+    few n h = grind (arith, nat_tests)
+
+-- ---- the floors that are lent
+
+pub same_self : {C J W A B : Type 0} (channels : C → A) (jobs : J → B) (a : Floors C J W) → SameFloors channels jobs a a
+same_self channels jobs a = record { channels_lent = refl; jobs_lent = refl; wakes_lent = refl; channels_are = refl; jobs_are = refl }
+
+pub same_then : {C J W A B : Type 0} (channels : C → A) (jobs : J → B) (a b c : Floors C J W) → SameFloors channels jobs a b → SameFloors channels jobs b c → SameFloors channels jobs a c
+same_then channels jobs a b c h k = record {
+  channels_lent = k.channels_lent ∙ h.channels_lent;
+  jobs_lent = k.jobs_lent ∙ h.jobs_lent;
+  wakes_lent = k.wakes_lent ∙ h.wakes_lent;
+  channels_are = k.channels_are ∙ h.channels_are;
+  jobs_are = k.jobs_are ∙ h.jobs_are;
+}

@@ -1,394 +1,352 @@
 -- What each line comes to is a move of its coroutine.
-use Rattle.std.specs.Prelude.{◌≡◌, ◌≢◌, ℕ, zero, suc, ◌+◌, ◌<◌, ◌≤◌, ◌==◌, nat_lt, nat_le, Bool, true, false, ◌&&◌, ◌||◌, ◌⊎◌, List, [], ◌∷◌, ◌++◌, length, map, drop, replicate, Option, Some, None, is_some, slice_get, refl, Err}
-use Rattle.std.specs.List.{list_all}
-use Rattle.std.proofs.Common.{sym, ap, ◌∙◌, subst, arith, length-append, ⊎_elim}
-use Rattle.std.proofs.lemmas.List.{get_or_append_left, length-replicate}
-use Rattle.channel_model.specs.declared.acts.Kind.{Kind}
-use Rattle.channel_model.specs.declared.acts.Kind.TheVariants.{Signal}
-use Rattle.channel_model.specs.Channels.{kind_at, is_signal}
-use Rattle.channel_model.specs.Floors.{Floor as ChannelFloor, Added as AddedToChannels, MayCall, HasRoom}
-use Rattle.channel_model.proofs.Spans.{nothing_more}
+use Rattle.std.specs.Prelude.{◌≡◌, ◌≢◌, ℕ, ◌+◌, ◌<◌, ◌⊎◌, Bool, true, false, List, [], ◌∷◌, ◌++◌, Option, Some, None, is_some, slice_get, refl, Ok, Err}
+use Rattle.std.specs.List.{list_any, list_all}
+use Rattle.std.proofs.Common.{sym, ap, ◌∙◌, subst, ⊎_elim}
+use Rattle.co_base.specs.declared.names.WaitId.{WaitId}
+use Rattle.channel_model.specs.declared.acts.ChannelNote.TheVariants.{SendClosed}
+use Rattle.channel_model.specs.Channels.{Shape as ChannelShape}
+use Rattle.channel_model.specs.Histories.{acts_of}
+use Rattle.channel_model.specs.Floors.{Floor as ChannelFloor, Added as AddedToChannels, AtMoment as AtChannelMoment}
+use Rattle.channel_model.proofs.Spans as spans
 use Rattle.job_model.specs.declared.acts.JobAct.{JobAct}
-use Rattle.job_model.specs.declared.acts.JobAct.TheVariants.{Attach, Start, EndBody, Cancel, Finish, Gone}
-use Rattle.job_model.specs.declared.acts.JobState.TheVariants.{New}
-use Rattle.job_model.specs.declared.acts.JobNote.TheVariants as of_job
-use Rattle.job_model.specs.declared.acts.End.{End}
+use Rattle.job_model.specs.declared.acts.JobAct.TheVariants.{Attach}
+use Rattle.job_model.specs.declared.acts.JobNote.TheVariants as known
 use Rattle.job_model.specs.declared.acts.Reason.TheVariants as reasons
 use Rattle.job_model.specs.declared.floor.Ended.{Ended as BodyEnd}
-use Rattle.job_model.specs.Trees.{Shape, Tree, state_of, tag_of}
-use Rattle.job_model.specs.Histories.{replay, acts_of, Legal}
-use Rattle.job_model.specs.Floors.{Floor, Looked, Added, AtStep}
-use Rattle.job_model.specs.Needs.{MayEndBody, Holds, any_below, ended_by_failure}
+use Rattle.job_model.specs.Acts.{ends_body}
+use Rattle.job_model.specs.Histories.{acts_of as job_acts_of, Legal}
+use Rattle.job_model.specs.Floors.{Floor, Added}
 use Rattle.job_model.proofs.Histories.{Legal-prefix}
-use Rattle.job_model.proofs.Rows.{same}
-use Rattle.job_model.proofs.Spans.{prefix_self, added_looked}
+use Rattle.job_model.specs.Trees.{Shape}
+use Rattle.job_model.specs.declared.acts.JobEntry.{JobEntry}
+use Rattle.job_model.proofs.Spans.{added_looked, looked_moment, prefix_self, nothing_more}
+use mathlib.Core.List.{IsPrefix}
 use Rattle.note_book.specs.declared.book.Item.{Item}
 use Rattle.note_book.specs.declared.book.Item.TheVariants as item
 use Rattle.note_book.specs.Items.{channel_acts_in, job_acts_in}
-use Rattle.note_book.proofs.Appended.{job_acts_in-append}
-use Rattle.job_tree.specs.Notes.{made_note}
+use Rattle.call_meaning.specs.Telling.{Told, on_jobs, MayRun, HasEnded, items_in, heard, did, knew, saw}
+use Rattle.call_meaning.specs.Stories.{IsTrue}
+use Rattle.call_meaning.specs.ChannelCalls.{Call, sends, receives, Answer, Done, Got, Closed, Waits, NoPlace, Refused, PlainCall}
+use Rattle.call_meaning.specs.JobCalls.{child_kind, NotAttached, Starts, EndsBody, BreaksOff}
+use Rattle.call_meaning.specs.Calls.{ToldOnChannels, ToldOnJobs, ToldOnBoth, seen_by, rows_in}
+use Rattle.call_meaning.proofs.JobTellings.{told_nothing, told_fact, told_knew, nobody_called, both_jobs, both_channels}
+use Rattle.channel_calls.specs.declared.caller.SendAnswer.{SendAnswer}
+use Rattle.channel_calls.specs.declared.caller.SendAnswer.TheVariants as send
+use Rattle.channel_calls.specs.declared.caller.ReceiveAnswer.{ReceiveAnswer}
+use Rattle.channel_calls.specs.declared.caller.ReceiveAnswer.TheVariants as receive
+use Rattle.channel_calls.specs.Calls.{GoesAlone, IsLeftWaiting, SentAnswer, ReceivedAnswer}
 use Rattle.scope_builders.specs.declared.builder.LaunchError.{LaunchError}
 use Rattle.scope_builders.specs.declared.builder.LaunchError.TheVariants as launch
-use Rattle.scope_builders.specs.Rest.{IsSettled}
-use Rattle.scope_builders.specs.Groups.{ClosesDone, IsChain, ClosesAtOnce, is_cancel, reason_for}
-use Rattle.scope_builders.specs.Calls.{MayBuild, Did, DidSome, WasAfterAll, StaysSettled, CancelledAll, EndedJob, BrokeJob, LaunchAnswer, start_of, child_kind}
-use Rattle.script_reader.specs.declared.script.Operand.{Operand}
-use Rattle.script_reader.specs.declared.script.Instruction.{Instruction}
-use Rattle.script_reader.specs.declared.script.Instruction.TheVariants as line
-use Rattle.script_reader.specs.Programs.{Program, IsProgram, code_of, coroutine_count, shape_of, size_of, sizes_of, launched, knows_jobs}
-use Rattle.script_reader.proofs.Truths.{both_true, lt-from_true, le-true}
-use Rattle.script_reader.proofs.Layouts.{size_some, launched_known}
-use Rattle.script_reader.proofs.Declarations.{length-shape_of, is_signal-shape_of}
+use Rattle.scope_builders.specs.Dones.{KeepsDones}
+use Rattle.scope_builders.specs.Calls.{LaunchAnswer, CancelledAll, EndedJob, BrokeJob, DidSome, start_told}
+use Rattle.script_grammar.specs.declared.instructions.Launching.{Launching}
+use Rattle.script_grammar.specs.declared.instructions.Operand.{Operand}
+use Rattle.script_grammar.specs.declared.instructions.Instruction.{Instruction}
+use Rattle.script_grammar.specs.declared.instructions.Instruction.TheVariants as line
+use Rattle.script_grammar.specs.Programs.{Program, shape_of}
+use Rattle.script_grammar.specs.Tags.{size_of}
+use Rattle.script_grammar.specs.WellFormed.{IsProgram}
+use Rattle.script_grammar.proofs.Declarations.{send-within, receive-within, length-shape_of}
+use Rattle.script_meaning.specs.declared.stage.Stage.{Stage}
+use Rattle.script_meaning.specs.declared.stage.Stage.TheVariants.{Fresh, Running, Waiting, Unwinding, Ended}
+use Rattle.script_meaning.specs.Shapes.{floor_shape, base_of}
+use Rattle.script_meaning.specs.Configs.{Config, IsAt, at_stage, next, with_result, operand, received, past_launch, named}
+use Rattle.script_meaning.specs.Lines.{is_lazy, LineCalls, After}
+use Rattle.script_meaning.specs.Moves.{Move}
+use Rattle.script_meaning.specs.Polls.{HasStood, RefusedByClaims}
+use Rattle.script_meaning.proofs.JobDebts.{AllKnown, parents_in, all_known}
+use Rattle.script_meaning.proofs.JobStories.{true_so}
 use Rattle.poll_states.specs.declared.frame.Frame.{Frame}
-use Rattle.poll_states.specs.declared.frame.Stage.{Stage}
-use Rattle.poll_states.specs.declared.frame.Stage.TheVariants.{Fresh, Running, Unwinding, Ended}
 use Rattle.poll_states.specs.declared.jobs.OwnState.TheVariants as own
-use Rattle.poll_states.specs.Settings.{base_of, floor_shape, is_calm_act}
-use Rattle.poll_states.specs.Runs.{Config, Move, IsAt, IsRefusal, WasAt, named, at_stage, next, past_launch, with_result, operand, saw}
-use Rattle.poll_states.specs.Frames.{config_of, items_of, IsFor, StandsOn}
-use Rattle.poll_states.specs.Steps.{OwnStateSeen, IsAtEnd, Stepped, CutShort}
-use Rattle.poll_states.proofs.OwnJobs.{live_later, live_started, live_attached, may_end_own, own_tag, same_between}
-use Rattle.poll_states.proofs.Reached.{is_any, is_over, is_fresh, drop_at, IsOwnFailure, reach_fails, pass_cancels, break_cancels}
-use Rattle.poll_states.proofs.Waits.{is_waiting}
-use Rattle.poll_states.proofs.Moves.{stands_fits, stands_live, stands_body, in_coroutine_rows, settled_kept, self_jobs, self_channels, begins_none, did_stepped}
+use Rattle.poll_states.specs.Frames.{config_of, items_of, Stands}
+use Rattle.poll_states.specs.Steps.{OwnStateSeen, IsAtEnd, HasBody, NotedSome, Stepped, CutShort, after_send, after_receive}
+use Rattle.poll_states.proofs.OwnJobs.{never_over}
+use Rattle.poll_states.proofs.Reached.{is_over, is_fresh}
+use Rattle.poll_states.proofs.Standing.{stands_body}
+use Rattle.poll_states.proofs.DonesLeft.{unclosed_kept}
+use Rattle.poll_states.proofs.Mild.{AllMild, Unrefused, plain_mild, saw_mild, fail_mild, nothing_mild, one_fact_mild, attach_mild, starts_mild, passes_mild, mild_no_close, mild_closes, mild_unrefused, unrefused_claims}
+use Rattle.poll_states.proofs.EndingNotes.{end_ending, break_ending, passes_ending, ending_unrefused, ending_rows}
 
--- ---- the floors of a script
+-- ---- floors that were not called
 
-pub length-floor_shape : (p : Program) → length (floor_shape p) ≡ base_of p + coroutine_count p
-length-floor_shape p = omega (arith, length-append (shape_of p) (replicate (coroutine_count p) (Signal, 1)), length-shape_of p, length-replicate {A = Kind × ℕ} (coroutine_count p) (Signal, 1))
+pub self_jobs : (who : ℕ) (j : Floor) → Added who [] [] j j
+self_jobs who j = nobody_called who j
 
-may_build : (p : Program) (k : ℕ) (c : ChannelFloor) (j : Floor) → IsProgram p → IsFor p k c j → MayBuild k (base_of p) c j
-may_build p k c j ok h =
-    let long : length c.shape ≡ base_of p + coroutine_count p = ap (λ (s : List (Kind × ℕ)). length s) h.channel_shape ∙ length-floor_shape p in
-    record {
-      of_channels = h.of_channels;
-      of_jobs = h.of_jobs;
-      done = omega (arith, long, ap (λ (s : Shape). s.rows) h.job_shape_is);
-      few = omega (arith, long, ok.few_channels, ok.few_coroutines);
-    }
+pub self_channels : (who : ℕ) (c : ChannelFloor) → AddedToChannels who [] c c
+self_channels who c = spans.added_none who c c (record { shape = refl; alone = refl; callers = refl }) refl
 
--- the caller may build with the first done channel as its base
-pub may_build_at : (p : Program) (k base : ℕ) (c : ChannelFloor) (j : Floor) → IsProgram p → IsFor p k c j → base ≡ base_of p → MayBuild k base c j
-may_build_at p k base c j ok h e = subst (λ b. MayBuild k b c j) (sym e) (may_build p k c j ok h)
-
--- a declared channel may be called
-pub may_call : (p : Program) (k n : ℕ) (c : ChannelFloor) (j : Floor) → IsFor p k c j → n < length (shape_of p) → MayCall k n c
-may_call p k n c j h lt = record { caller = h.of_channels; channel = omega (arith, lt, length-floor_shape p, length-shape_of p, ap (λ (s : List (Kind × ℕ)). length s) h.channel_shape) }
-
-pub room_call : (k n : ℕ) (c d : ChannelFloor) → HasRoom 1 c d → MayCall k n c → MayCall k n d
-room_call k n c d r h = record { caller = ap (λ (f : ℕ → Bool). f k) r.same.callers ∙ h.caller; channel = rw (ap (λ (s : List (Kind × ℕ)). length s) r.same.shape) h.channel }
-
--- and it carries elements
-pub no_signal : (p : Program) (k n : ℕ) (c d : ChannelFloor) (j : Floor) → IsProgram p → IsFor p k c j → HasRoom 1 c d → n < length (shape_of p) → is_signal (kind_at d.shape n) ≡ false
-no_signal p k n c d j ok h r lt =
-    ap (λ (s : List (Kind × ℕ)). is_signal (kind_at s n)) (r.same.shape ∙ h.channel_shape)
-    ∙ ap (λ (x : Kind × ℕ). is_signal x.0) (get_or_append_left (shape_of p) (replicate (coroutine_count p) (Signal, 1)) (Signal, 0) n lt)
-    ∙ is_signal-shape_of p ok n lt
+uncalled : (who : ℕ) (c d : ChannelFloor) → d ≡ c → AddedToChannels who [] c d
+uncalled who c d e = subst (AddedToChannels who [] c) (sym e) (self_channels who c)
 
 -- ---- moves
 
-pub note_after : (a b c : List Item) (n : Item) → c ≡ b ++ n ∷ [] → b ≡ a → c ≡ a ++ n ∷ []
-note_after a b c n e k = e ∙ ap (λ l. l ++ n ∷ []) k
+pub not_waiting : {A : Type 0} (g : Frame) (y : Config) (stage : Stage) → config_of g ≡ y → y.stage ≡ stage → (w : WaitId) → (stage ≡ Waiting w → ⊥) → g.stage ≡ Waiting w → A
+not_waiting g y stage e k w ne at = absurd (ne (sym k ∙ sym (ap (λ (x : Config). x.stage) e) ∙ at))
 
-pub did_same : (k : ℕ) (group : List Item) (rows : List ℕ) (c c' : ChannelFloor) (j j' : Floor) (items mid items' : List Item) → Did k group rows c c' j j' items mid → items' ≡ mid → Did k group rows c c' j j' items items'
-did_same k group rows c c' j j' items mid items' did e = record { appended = e ∙ did.appended; channels = did.channels; jobs = did.jobs }
-
--- a line that began no wait
-pub line_stepped : (p : Program) (c c' : ChannelFloor) (j j' : Floor) (f g : Frame) (group : List Item) (rows : List ℕ) (y : Config) → StandsOn p c j f → Did f.tag group rows c c' j j' (items_of f) (items_of g) → g.tag ≡ f.tag → config_of g ≡ y
-    → Move p f.tag j'.seen (items_of f) (config_of f) group y → list_all (is_calm_act (base_of p)) (channel_acts_in group) ≡ true → list_all begins_none (channel_acts_in group) ≡ true
-    → StaysSettled (base_of p) c c' j j' → (c.alone ≡ true → j.alone ≡ true → IsSettled (base_of p) c j → ClosesAtOnce (base_of p) group) → is_waiting f.stage ≡ false → is_waiting y.stage ≡ false → Stepped p c c' j j' f g
-line_stepped p c c' j j' f g group rows y h did t config move calm none settled closes e k =
-    did_stepped p c c' j j' f g group rows h did t (subst (λ z. Move p f.tag j'.seen (items_of f) (config_of f) group z) (sym config) move) calm none settled closes e (ap (λ (z : Config). is_waiting z.stage) config ∙ k)
-
-pub looked_settled : (k base : ℕ) (c : ChannelFloor) (a b : Floor) → Looked k [] a b → StaysSettled base c c a b
-looked_settled k base c a b look x y s = settled_kept base c c a b (λ n. refl) (look.alone y) s
-
--- nothing was called
-did_nothing : (k : ℕ) (c : ChannelFloor) (j : Floor) (items items' : List Item) (group : List Item) → channel_acts_in group ≡ [] → job_acts_in group ≡ [] → items' ≡ items ++ group → Did k group [] c c j j items items'
-did_nothing k c j items items' group e d is = record {
-  appended = is;
-  channels = subst (λ l. AddedToChannels k l c c) (sym e) (self_channels k c);
-  jobs = subst (λ l. Added k l [] j j) (sym d) (self_jobs k j);
+-- mild notes of a move
+pub mild_step : (p : Program) (c c' : ChannelFloor) (j j' : Floor) (f g : Frame) (told : List Told) (y : Config) → Legal j'.shape j'.seen → Move p f.tag (config_of f) told y → ToldOnBoth f.tag (rows_in (job_acts_in (items_in told))) c c' j j' (items_of f) (items_of g) told → AllMild (base_of p) told
+    → g.tag ≡ f.tag → config_of g ≡ y → ((w : WaitId) → g.stage ≡ Waiting w → HasStood c c' w) → Stepped p c c' j j' f g
+mild_step p c c' j j' f g told y l move noted mild t config stood = record {
+  tag = t;
+  told = told;
+  move = subst (Move p f.tag (config_of f) told) (sym config) move;
+  noted = noted;
+  refused = unrefused_claims (base_of p) (config_of f) told j' (mild_unrefused (base_of p) told mild);
+  dones = unclosed_kept f.tag (base_of p) (channel_acts_in (items_in told)) (job_acts_in (items_in told)) (rows_in (job_acts_in (items_in told))) c c' j j' (items_in told) l noted.channels
+      (mild_no_close (base_of p) (items_in told) mild) noted.jobs (mild_closes (base_of p) (items_in told) mild);
+  stood = stood;
 }
 
-did_look : (k : ℕ) (c : ChannelFloor) (a b : Floor) (items items' : List Item) (group : List Item) → Looked k [] a b → channel_acts_in group ≡ [] → job_acts_in group ≡ [] → items' ≡ items ++ group → Did k group [] c c a b items items'
-did_look k c a b items items' group look e d is = record {
-  appended = is;
-  channels = subst (λ l. AddedToChannels k l c c) (sym e) (self_channels k c);
-  jobs = subst (λ l. Added k l [] a b) (sym d) (added_looked k [] a b look);
+no_rows : (told : List Told) → job_acts_in (items_in told) ≡ [] → rows_in (job_acts_in (items_in told)) ≡ []
+unfolding rows_in
+no_rows told e = ap rows_in e
+
+-- a call on channels alone
+pub channels_noted : (who : ℕ) (c c' : ChannelFloor) (j : Floor) (i i' : List Item) (told : List Told) → ToldOnChannels who c c' i i' told → ToldOnBoth who (rows_in (job_acts_in (items_in told))) c c' j j i i' told
+channels_noted who c c' j i i' told h = subst (λ (l : List ℕ). ToldOnBoth who l c c' j j i i' told) (sym (no_rows told h.no_jobs)) (both_channels who c c' j j i i' told (self_jobs who j) h)
+
+-- a call on Jobs alone
+pub jobs_noted : (who : ℕ) (rows : List ℕ) (c d : ChannelFloor) (j j' : Floor) (i i' : List Item) (told : List Told) → d ≡ c → rows ≡ rows_in (job_acts_in (items_in told)) → ToldOnJobs who rows j j' i i' told → ToldOnBoth who (rows_in (job_acts_in (items_in told))) c d j j' i i' told
+jobs_noted who rows c d j j' i i' told e k h = subst (λ (l : List ℕ). ToldOnBoth who l c d j j' i i' told) k (both_jobs who rows c d j j' i i' told (uncalled who c d e) h)
+
+-- what a call told is known
+pub known_of : (c c' : ChannelFloor) (j j' : Floor) (who : ℕ) (rows : List ℕ) (i i' : List Item) (told : List Told) → Legal j'.shape j'.seen → acts_of who c.seen ≡ channel_acts_in i → job_acts_of who j.seen ≡ job_acts_in i → ToldOnBoth who rows c c' j j' i i' told → AllKnown (parents_in j'.seen) told
+known_of c c' j j' who rows i i' told l e f h = all_known j'.shape who j'.seen (job_acts_in i) told l (true_so _ i (seen_by c j) told (h.was_so e f))
+
+-- ---- want of memory
+
+pub cut_nothing : (c d : ChannelFloor) (j k : Floor) (f g : Frame) → d ≡ c → k ≡ j → g.tag ≡ f.tag → items_of g ≡ items_of f → CutShort c d j k f g
+cut_nothing c d j k f g e h t is = record {
+  tag = t;
+  noted = record {
+    group = [];
+    rows = [];
+    appended = is ∙ sym (spans.nothing_more (items_of f));
+    channels = uncalled f.tag c d e;
+    jobs = subst (Added f.tag [] [] j) (sym h) (self_jobs f.tag j);
+  };
 }
 
-pub cut_nothing : (c : ChannelFloor) (j : Floor) (f g : Frame) → g.tag ≡ f.tag → items_of g ≡ items_of f → CutShort c c j j f g
-cut_nothing c j f g t e = record { tag = t; noted = record { group = []; rows = []; did = did_nothing f.tag c j (items_of f) (items_of g) [] refl refl (e ∙ sym (nothing_more (items_of f))) } }
+pub cut_jobs : (c d : ChannelFloor) (j j' : Floor) (f g : Frame) → d ≡ c → g.tag ≡ f.tag → ToldOnJobs f.tag [] j j' (items_of f) (items_of g) [] → CutShort c d j j' f g
+unfolding items_in
+cut_jobs c d j j' f g e t h = record { tag = t; noted = record { group = []; rows = []; appended = h.appended; channels = uncalled f.tag c d e; jobs = h.added } }
 
-pub cut_did : (c c' : ChannelFloor) (j j' : Floor) (f g : Frame) → g.tag ≡ f.tag → Did f.tag [] [] c c' j j' (items_of f) (items_of g) → CutShort c c' j j' f g
-cut_did c c' j j' f g t did = record { tag = t; noted = record { group = []; rows = []; did = did } }
+pub cut_some : (base : ℕ) (c c' : ChannelFloor) (j j' : Floor) (f g : Frame) → g.tag ≡ f.tag → DidSome f.tag base c c' j j' (items_of f) (items_of g) → CutShort c c' j j' f g
+cut_some base c c' j j' f g t h = record { tag = t; noted = record { group = items_in h.told; rows = []; appended = h.noted.appended; channels = h.noted.channels; jobs = h.noted.jobs } }
 
-pub cut_some : (c c' : ChannelFloor) (j j' : Floor) (f g : Frame) → g.tag ≡ f.tag → DidSome f.tag c c' j j' (items_of f) (items_of g) → CutShort c c' j j' f g
-cut_some c c' j j' f g t some = record { tag = t; noted = record { group = some.group; rows = []; did = some.did } }
+-- ---- send and receive
+
+left_waiting : (who : ℕ) (acts : _) (w : WaitId) (c c' : ChannelFloor) → IsLeftWaiting who w acts c c' → HasStood c c' w
+left_waiting who acts w c c' h = record { moment = h.stood.moment; after = h.stood.after; before = h.stood.before; holds = h.stood.holds }
+
+called : (p : Program) (c c' : ChannelFloor) (j : Floor) (f g : Frame) (i : Instruction) (told : List Told) (a : Answer) (y : Config) → Legal j.shape j.seen → IsAt p f.tag (config_of f) i → LineCalls p f.tag (config_of f) i told a → After p f.tag (config_of f) i a y → ToldOnChannels f.tag c c' (items_of f) (items_of g) told
+    → AllMild (base_of p) told → g.tag ≡ f.tag → config_of g ≡ y → ((w : WaitId) → y.stage ≡ Waiting w → HasStood c c' w) → Stepped p c c' j j f g
+called p c c' j f g i told a y l at call after noted mild t config stood =
+    mild_step p c c' j j f g told y l (Move.calls (config_of f) y i told a at call after) (channels_noted f.tag c c' j (items_of f) (items_of g) told noted) mild t config
+    (λ w e. stood w (sym (ap (λ (x : Config). x.stage) config) ∙ e))
+
+waits_never : {A : Type 0} (w : WaitId) → Running ≡ Waiting w → A
+waits_never w e = absurd (let u : ⊥ = cc in u)
+
+unwinds_never : {A : Type 0} (failure : Option ℕ) (w : WaitId) → Unwinding failure ≡ Waiting w → A
+unwinds_never failure w e = absurd (let u : ⊥ = cc in u)
+
+same_wait_stood : (c c' : ChannelFloor) (v w : WaitId) → HasStood c c' v → Waiting v ≡ Waiting w → HasStood c c' w
+same_wait_stood c c' v w h e = let same : v ≡ w = cc in subst (HasStood c c') same h
+
+plain_at : (p : Program) (shape : ChannelShape) (n v u : ℕ) (told : List Told) (a : Answer) → shape ≡ floor_shape p → v ≡ u → PlainCall shape (sends n v) told a → PlainCall (floor_shape p) (sends n u) told a
+plain_at p shape n v u told a e k h = subst (λ s. PlainCall s (sends n u) told a) e (subst (λ m. PlainCall shape (sends n m) told a) k h)
+
+pub has_sent : (p : Program) (c c' : ChannelFloor) (j : Floor) (f g : Frame) (n v : ℕ) (o : Operand) (answer : SendAnswer) (mid : List Item) → IsProgram p → Legal j.shape j.seen → Stands p c j f → IsAt p f.tag (config_of f) (line.Send n o) → v ≡ operand (config_of f) o
+    → SentAnswer f.tag n v c c' (items_of f) mid (Ok answer) → g.tag ≡ f.tag → config_of g ≡ after_send f.tag answer (config_of f) → items_of g ≡ mid → Stepped p c c' j j f g
+has_sent p c c' j f g n v o answer mid ok l h at is sent t config items = by_answer answer (subst (λ l. SentAnswer f.tag n v c c' (items_of f) l (Ok answer)) (sym items) sent) config
+  where
+    low : n < base_of p
+    low = subst (λ m. n < m) (length-shape_of p) (send-within p ok f.tag (config_of f).line n o at.line_is)
+
+    say : (a : Answer) (told : List Told) (y : Config) → PlainCall c.shape (sends n v) told a → After p f.tag (config_of f) (line.Send n o) a y → ToldOnChannels f.tag c c' (items_of f) (items_of g) told → config_of g ≡ y → ((w : WaitId) → y.stage ≡ Waiting w → HasStood c c' w) → Stepped p c c' j j f g
+    say a told y call after noted e stood =
+        let plain : PlainCall (floor_shape p) (sends n (operand (config_of f) o)) told a = plain_at p c.shape n v (operand (config_of f) o) told a h.on.channels is call in
+        called p c c' j f g (line.Send n o) told a y l at (LineCalls.send n o told a plain) after noted (plain_mild (base_of p) (floor_shape p) (sends n (operand (config_of f) o)) told a low plain) t e stood
+
+    by_answer : (answer : SendAnswer) → SentAnswer f.tag n v c c' (items_of f) (items_of g) (Ok answer) → config_of g ≡ after_send f.tag answer (config_of f) → Stepped p c c' j j f g
+    by_answer send.Sent m e = say Done m.told _ m.goes.goes.goes (After.sent n o) m.left e (λ w k. waits_never w k)
+    by_answer (send.Waits w) m e = say (Waits w) m.0.told _ m.0.goes.goes (After.waits (line.Send n o) w) m.0.left e (λ u k. same_wait_stood c c' w u (left_waiting f.tag _ w c c' m.1) k)
+    by_answer (send.Closed x) m e = say Done (heard (SendClosed n v x) ∷ []) _ (PlainCall.refused (sends n v) _ Done (Refused.send n v x)) (After.sent n o) m e (λ w k. waits_never w k)
+    by_answer send.Spent m e = say NoPlace m.told _ m.goes.goes (After.no_place (line.Send n o)) m.left e (λ w k. unwinds_never _ w k)
+
+pub has_received : (p : Program) (c c' : ChannelFloor) (j : Floor) (f g : Frame) (n : ℕ) (answer : ReceiveAnswer) (mid : List Item) → IsProgram p → Legal j.shape j.seen → Stands p c j f → IsAt p f.tag (config_of f) (line.Receive n)
+    → ReceivedAnswer f.tag n c c' (items_of f) mid (Ok answer) → g.tag ≡ f.tag → config_of g ≡ after_receive f.tag answer (config_of f) → items_of g ≡ mid → Stepped p c c' j j f g
+has_received p c c' j f g n answer mid ok l h at got t config items = by_answer answer (subst (λ l. ReceivedAnswer f.tag n c c' (items_of f) l (Ok answer)) (sym items) got) config
+  where
+    low : n < base_of p
+    low = subst (λ m. n < m) (length-shape_of p) (receive-within p ok f.tag (config_of f).line n at.line_is)
+
+    say : (a : Answer) (told : List Told) (y : Config) → PlainCall c.shape (receives n) told a → After p f.tag (config_of f) (line.Receive n) a y → ToldOnChannels f.tag c c' (items_of f) (items_of g) told → config_of g ≡ y → ((w : WaitId) → y.stage ≡ Waiting w → HasStood c c' w) → Stepped p c c' j j f g
+    say a told y call after noted e stood =
+        let plain : PlainCall (floor_shape p) (receives n) told a = subst (λ s. PlainCall s (receives n) told a) h.on.channels call in
+        called p c c' j f g (line.Receive n) told a y l at (LineCalls.receive n told a plain) after noted (plain_mild (base_of p) (floor_shape p) (receives n) told a low plain) t e stood
+
+    by_answer : (answer : ReceiveAnswer) → ReceivedAnswer f.tag n c c' (items_of f) (items_of g) (Ok answer) → config_of g ≡ after_receive f.tag answer (config_of f) → Stepped p c c' j j f g
+    by_answer (receive.Value v) m e = say (Got v) m.told _ m.goes.goes (After.got n v) m.left e (λ w k. waits_never w k)
+    by_answer (receive.Waits w) m e = say (Waits w) m.0.told _ m.0.goes.goes (After.waits (line.Receive n) w) m.0.left e (λ u k. same_wait_stood c c' w u (left_waiting f.tag _ w c c' m.1) k)
+    by_answer (receive.Closed v) m e = say (Closed v) m.told _ m.goes.goes (After.no_more n v) m.left e (λ w k. waits_never w k)
+    by_answer receive.Spent m e = say NoPlace m.told _ m.goes.goes (After.no_place (line.Receive n)) m.left e (λ w k. unwinds_never _ w k)
 
 -- ---- lines that call nothing
 
-pub result_set : (p : Program) (c : ChannelFloor) (j : Floor) (f g : Frame) (o : Operand) → StandsOn p c j f → IsAt p f.tag (config_of f) (line.SetResult o) → g.tag ≡ f.tag → config_of g ≡ next (with_result (operand (config_of f) o) (config_of f)) → items_of g ≡ items_of f → Stepped p c c j j f g
-result_set p c j f g o h at t config items =
-    line_stepped p c c j j f g [] [] (next (with_result (operand (config_of f) o) (config_of f))) h (did_nothing f.tag c j (items_of f) (items_of g) [] refl refl (items ∙ sym (nothing_more (items_of f)))) t config
-    (Move.results (config_of f) o at) refl refl (λ a b s. s) (λ a b s. tt) (ap is_waiting at.stage) refl
+still_told : (who : ℕ) (j : Floor) (i i' : List Item) → i' ≡ i → ToldOnJobs who [] j j i i' []
+still_told who j i i' e = told_nothing who [] j j i i' e (self_jobs who j)
 
-pub failed_by : (p : Program) (c : ChannelFloor) (j : Floor) (f g : Frame) (v : ℕ) → StandsOn p c j f → IsAt p f.tag (config_of f) (line.Fail v) → g.tag ≡ f.tag → config_of g ≡ at_stage (Unwinding (Some f.tag)) (config_of f) → items_of g ≡ items_of f ++ item.Job (of_job.Fail v) ∷ [] → Stepped p c c j j f g
-failed_by p c j f g v h at t config items =
-    line_stepped p c c j j f g (item.Job (of_job.Fail v) ∷ []) [] (at_stage (Unwinding (Some f.tag)) (config_of f)) h (did_nothing f.tag c j (items_of f) (items_of g) (item.Job (of_job.Fail v) ∷ []) refl refl items) t config
-    (Move.fails (config_of f) v at) refl refl (λ a b s. s) (λ a b s. (tt, tt)) (ap is_waiting at.stage) refl
+pub result_set : (p : Program) (c : ChannelFloor) (j : Floor) (f g : Frame) (o : Operand) → Legal j.shape j.seen → IsAt p f.tag (config_of f) (line.SetResult o) → g.tag ≡ f.tag → config_of g ≡ next (with_result (operand (config_of f) o) (config_of f)) → items_of g ≡ items_of f → Stepped p c c j j f g
+unfolding items_in rows_in
+result_set p c j f g o l at t config items =
+    mild_step p c c j j f g [] _ l (Move.results (config_of f) o at) (jobs_noted f.tag [] c c j j (items_of f) (items_of g) [] refl refl (still_told f.tag j (items_of f) (items_of g) items)) (nothing_mild (base_of p)) t config
+    (λ w e. not_waiting g _ Running config refl w (λ k. waits_never w k) e)
+
+pub failed_by : (p : Program) (c : ChannelFloor) (j : Floor) (f g : Frame) (v : ℕ) → Legal j.shape j.seen → IsAt p f.tag (config_of f) (line.Fail v) → g.tag ≡ f.tag → config_of g ≡ at_stage (Unwinding (Some f.tag)) (config_of f) → items_of g ≡ items_of f ++ item.Job (known.Fail v) ∷ [] → Stepped p c c j j f g
+unfolding items_in rows_in
+failed_by p c j f g v l at t config items =
+    mild_step p c c j j f g (knew (known.Fail v) ∷ []) _ l (Move.fails (config_of f) v at)
+    (jobs_noted f.tag [] c c j j (items_of f) (items_of g) _ refl refl (told_knew f.tag [] j j (items_of f) (items_of g) (known.Fail v) refl items (self_jobs f.tag j) (record { moment = j.seen; after = prefix_self j.seen; before = prefix_self j.seen; mine = sym (nothing_more _); holds = tt })))
+    (fail_mild (base_of p) v) t config (λ w e. not_waiting g _ (Unwinding (Some f.tag)) config refl w (λ k. unwinds_never (Some f.tag) w k) e)
 
 -- ---- looks at one's own Job
 
-pub was_at : (k : ℕ) (items : List Item) (a b : Floor) (fact : Tree → Type 0) → Looked k [] a b → AtStep a b fact → acts_of k a.seen ≡ job_acts_in items → WasAt k b.seen items fact
-was_at k items a b fact look m mine = record { moment = m.moment; before = m.before; mine = same_between k a.seen m.moment b.seen m.after m.before look.mine ∙ mine; holds = m.holds }
+-- the own Job was seen Cancelling, and that was noted
+pub saw_noted : (c : ChannelFloor) (a b : Floor) (k : ℕ) (i i' : List Item) → OwnStateSeen k a b own.Cancelling → i' ≡ i ++ item.Job (known.Saw k) ∷ [] → ToldOnBoth k [] c c a b i i' (saw k ∷ [])
+saw_noted c a b k i i' s is = both_jobs k [] c c a b i i' (saw k ∷ []) (self_channels k c) (told_knew k [] a b i i' (known.Saw k) refl is (added_looked k [] a b s.looked) (looked_moment k [] a b _ s.looked s.was))
 
--- a coroutine that has begun does not see its Job New
-pub never_new : (p : Program) (c : ChannelFloor) (a b : Floor) (f : Frame) → Legal a.shape a.seen → Legal b.shape b.seen → StandsOn p c a f → is_fresh f.stage ≡ false → OwnStateSeen f.tag a b own.NotStarted → ⊥
-never_new p c a b f l l' h e s =
-    let m = s.was in
-    live_started (replay m.moment f.tag) (live_later b.shape a.seen m.moment f.tag (Legal-prefix b.shape m.moment m.before.0 (rw m.before.1 l')) m.after (stands_live p c a f l h e)) m.holds
+-- it was seen running
+pub may_run_noted : (c : ChannelFloor) (a b : Floor) (k : ℕ) (i i' : List Item) → OwnStateSeen k a b own.MayRun → i' ≡ i → ToldOnBoth k [] c c a b i i' (on_jobs (MayRun k) ∷ [])
+may_run_noted c a b k i i' s is = both_jobs k [] c c a b i i' _ (self_channels k c) (told_fact k [] a b i i' (MayRun k) is (added_looked k [] a b s.looked) (looked_moment k [] a b _ s.looked s.was))
 
-pub stopped : (p : Program) (c : ChannelFloor) (a b : Floor) (f g : Frame) → StandsOn p c a f → IsAt p f.tag (config_of f) line.Yield → OwnStateSeen f.tag a b own.Cancelling → g.tag ≡ f.tag → config_of g ≡ at_stage (Unwinding None) (config_of f) → items_of g ≡ items_of f ++ saw f.tag ∷ [] → Stepped p c c a b f g
-stopped p c a b f g h at s t config items =
-    line_stepped p c c a b f g (saw f.tag ∷ []) [] (at_stage (Unwinding None) (config_of f)) h (did_look f.tag c a b (items_of f) (items_of g) (saw f.tag ∷ []) s.looked refl refl items) t config
-    (Move.stops (config_of f) at (was_at f.tag (items_of f) a b _ s.looked s.was h.job_acts)) refl refl (looked_settled f.tag (base_of p) c a b s.looked) (λ x y z. (tt, tt)) (ap is_waiting at.stage) refl
+saw_step : (p : Program) (c : ChannelFloor) (a b : Floor) (f g : Frame) → Legal b.shape b.seen → Move p f.tag (config_of f) (saw f.tag ∷ []) (at_stage (Unwinding None) (config_of f)) → OwnStateSeen f.tag a b own.Cancelling → g.tag ≡ f.tag → config_of g ≡ at_stage (Unwinding None) (config_of f) → items_of g ≡ items_of f ++ item.Job (known.Saw f.tag) ∷ [] → Stepped p c c a b f g
+unfolding items_in rows_in
+saw_step p c a b f g l move s t config items =
+    mild_step p c c a b f g (saw f.tag ∷ []) _ l move (saw_noted c a b f.tag (items_of f) (items_of g) s items) (saw_mild (base_of p) f.tag [] (nothing_mild (base_of p))) t config (λ w e. not_waiting g _ (Unwinding None) config refl w (λ k. unwinds_never None w k) e)
 
-pub yielded : (p : Program) (c : ChannelFloor) (a b : Floor) (f g : Frame) → StandsOn p c a f → IsAt p f.tag (config_of f) line.Yield → OwnStateSeen f.tag a b own.MayRun → g.tag ≡ f.tag → config_of g ≡ next (config_of f) → items_of g ≡ items_of f → Stepped p c c a b f g
-yielded p c a b f g h at s t config items =
-    line_stepped p c c a b f g [] [] (next (config_of f)) h (did_look f.tag c a b (items_of f) (items_of g) [] s.looked refl refl (items ∙ sym (nothing_more (items_of f)))) t config
-    (Move.yields (config_of f) at (was_at f.tag (items_of f) a b _ s.looked s.was h.job_acts)) refl refl (looked_settled f.tag (base_of p) c a b s.looked) (λ x y z. tt) (ap is_waiting at.stage) refl
+run_step : (p : Program) (c : ChannelFloor) (a b : Floor) (f g : Frame) (y : Config) → Legal b.shape b.seen → Move p f.tag (config_of f) (on_jobs (MayRun f.tag) ∷ []) y → y.stage ≡ Running → OwnStateSeen f.tag a b own.MayRun → g.tag ≡ f.tag → config_of g ≡ y → items_of g ≡ items_of f → Stepped p c c a b f g
+unfolding items_in rows_in
+run_step p c a b f g y l move runs s t config items =
+    mild_step p c c a b f g (on_jobs (MayRun f.tag) ∷ []) y l move (may_run_noted c a b f.tag (items_of f) (items_of g) s items) (one_fact_mild (base_of p) (MayRun f.tag)) t config (λ w e. not_waiting g y Running config runs w (λ k. waits_never w k) e)
+
+pub stopped : (p : Program) (c : ChannelFloor) (a b : Floor) (f g : Frame) → Legal b.shape b.seen → IsAt p f.tag (config_of f) line.Yield → OwnStateSeen f.tag a b own.Cancelling → g.tag ≡ f.tag → config_of g ≡ at_stage (Unwinding None) (config_of f) → items_of g ≡ items_of f ++ item.Job (known.Saw f.tag) ∷ [] → Stepped p c c a b f g
+stopped p c a b f g l at s t config items = saw_step p c a b f g l (Move.stops_at_yield (config_of f) at) s t config items
+
+pub yielded : (p : Program) (c : ChannelFloor) (a b : Floor) (f g : Frame) → Legal b.shape b.seen → IsAt p f.tag (config_of f) line.Yield → OwnStateSeen f.tag a b own.MayRun → g.tag ≡ f.tag → config_of g ≡ next (config_of f) → items_of g ≡ items_of f → Stepped p c c a b f g
+yielded p c a b f g l at s t config items = run_step p c a b f g _ l (Move.yields (config_of f) at) refl s t config items
 
 -- the same before the first line
-pub never_begun : (p : Program) (c : ChannelFloor) (a b : Floor) (f g : Frame) → StandsOn p c a f → f.stage ≡ Fresh → OwnStateSeen f.tag a b own.Cancelling → g.tag ≡ f.tag → config_of g ≡ at_stage (Unwinding None) (config_of f) → items_of g ≡ items_of f ++ saw f.tag ∷ [] → Stepped p c c a b f g
-never_begun p c a b f g h fresh s t config items =
-    line_stepped p c c a b f g (saw f.tag ∷ []) [] (at_stage (Unwinding None) (config_of f)) h (did_look f.tag c a b (items_of f) (items_of g) (saw f.tag ∷ []) s.looked refl refl items) t config
-    (Move.never_runs (config_of f) fresh (was_at f.tag (items_of f) a b _ s.looked s.was h.job_acts)) refl refl (looked_settled f.tag (base_of p) c a b s.looked) (λ x y z. (tt, tt)) (ap is_waiting fresh) refl
+pub never_begun : (p : Program) (c : ChannelFloor) (a b : Floor) (f g : Frame) → Legal b.shape b.seen → f.stage ≡ Fresh → OwnStateSeen f.tag a b own.Cancelling → g.tag ≡ f.tag → config_of g ≡ at_stage (Unwinding None) (config_of f) → items_of g ≡ items_of f ++ item.Job (known.Saw f.tag) ∷ [] → Stepped p c c a b f g
+never_begun p c a b f g l fresh s t config items = saw_step p c a b f g l (Move.never_runs (config_of f) fresh) s t config items
 
-pub has_begun : (p : Program) (c : ChannelFloor) (a b : Floor) (f g : Frame) → StandsOn p c a f → f.stage ≡ Fresh → OwnStateSeen f.tag a b own.MayRun → g.tag ≡ f.tag → config_of g ≡ at_stage Running (config_of f) → items_of g ≡ items_of f → Stepped p c c a b f g
-has_begun p c a b f g h fresh s t config items =
-    line_stepped p c c a b f g [] [] (at_stage Running (config_of f)) h (did_look f.tag c a b (items_of f) (items_of g) [] s.looked refl refl (items ∙ sym (nothing_more (items_of f)))) t config
-    (Move.runs (config_of f) fresh (was_at f.tag (items_of f) a b _ s.looked s.was h.job_acts)) refl refl (looked_settled f.tag (base_of p) c a b s.looked) (λ x y z. tt) (ap is_waiting fresh) refl
+pub has_begun : (p : Program) (c : ChannelFloor) (a b : Floor) (f g : Frame) → Legal b.shape b.seen → f.stage ≡ Fresh → OwnStateSeen f.tag a b own.MayRun → g.tag ≡ f.tag → config_of g ≡ at_stage Running (config_of f) → items_of g ≡ items_of f → Stepped p c c a b f g
+has_begun p c a b f g l fresh s t config items = run_step p c a b f g _ l (Move.runs (config_of f) fresh) refl s t config items
 
--- ---- launches
+-- ---- launch
 
-launched_at : (test : ℕ → Bool) (code : List Instruction) (i block : ℕ) (lazy : Bool) (job : Option ℕ) → list_all test (launched code) ≡ true → slice_get code i ≡ Some (line.Launch block lazy job) → test block ≡ true
-launched_at test [] zero block lazy job all at = cc
-launched_at test [] (suc i) block lazy job all at = cc
-launched_at test (l ∷ code) zero block lazy job all at = let is : l ≡ line.Launch block lazy job = cc in (both_true (test block) (list_all test (launched code)) (ap (λ k. list_all test (launched (k ∷ code))) (sym is) ∙ all)).0
-launched_at test (l ∷ code) (suc i) block lazy job all at = launched_at test code i block lazy job (later l all) at
-  where
-    later : (l : Instruction) → list_all test (launched (l ∷ code)) ≡ true → list_all test (launched code) ≡ true
-    later (line.Send c v) h = h
-    later (line.Receive c) h = h
-    later line.Yield h = h
-    later (line.Launch b z n) h = (both_true (test b) (list_all test (launched code)) h).1
-    later (line.Start n) h = h
-    later (line.Cancel n) h = h
-    later (line.Fail v) h = h
-    later (line.SetResult v) h = h
+pub has_launched : (p : Program) (c d : ChannelFloor) (j j' : Floor) (f g : Frame) (block size : ℕ) (how : Launching) (lazy : Bool) (job : Option ℕ) (now : Bool) → d ≡ c → Legal j'.shape j'.seen → IsAt p f.tag (config_of f) (line.Launch block how job) → lazy ≡ is_lazy how → size ≡ size_of p block
+    → ToldOnJobs f.tag (f.free ∷ []) j j' (items_of f) (items_of g) (did (Attach f.tag f.free (child_kind lazy) f.free now) ∷ []) → g.tag ≡ f.tag → config_of g ≡ next (record (config_of f) { rows = named job f.free f.rows.items; free = f.free + size }) → Stepped p c d j j' f g
+unfolding items_in rows_in
+has_launched p c d j j' f g block size how lazy job now e l at same is noted t config =
+    let told : List Told = did (Attach f.tag f.free (child_kind (is_lazy how)) f.free now) ∷ [] in
+    mild_step p c d j j' f g told (next (past_launch p block job (config_of f))) l (Move.launches (config_of f) block how job now at)
+    (jobs_noted f.tag (f.free ∷ []) c d j j' (items_of f) (items_of g) told e refl (subst (λ b. ToldOnJobs f.tag (f.free ∷ []) j j' (items_of f) (items_of g) (did (Attach f.tag f.free (child_kind b) f.free now) ∷ [])) same noted))
+    (attach_mild (base_of p) f.tag f.free (child_kind (is_lazy how)) f.free now) t (config ∙ ap (λ n. next (record (config_of f) { rows = named job f.free f.rows.items; free = f.free + n })) is) (λ w k. not_waiting g _ Running config refl w (λ u. waits_never w u) k)
 
-pub launched_block : (p : Program) (k i block : ℕ) (lazy : Bool) (job : Option ℕ) → IsProgram p → slice_get (code_of p k) i ≡ Some (line.Launch block lazy job) → block < length p.blocks
-launched_block p k i block lazy job ok at = lt-from_true block (length p.blocks) (launched_at (λ j. nat_lt j (length p.blocks)) (code_of p k) i block lazy job (launched_known p k ok) at)
+-- a coroutine whose body has not ended is not told that its Job has
+pub never_told_over : (who : ℕ) (rows : List ℕ) (c : ChannelFloor) (j j' : Floor) (i i' : List Item) (more : List Told) → Legal j'.shape j'.seen → HasBody who j → acts_of who c.seen ≡ channel_acts_in i → job_acts_of who j.seen ≡ job_acts_in i → ToldOnJobs who rows j j' i i' (on_jobs (HasEnded who) ∷ more) → ⊥
+unfolding IsTrue
+never_told_over who rows c j j' i i' more l body e f h =
+    let so = h.was_so c.shape c.seen e f in
+    let at : List JobEntry = so.0.jobs in
+    let q : IsPrefix at j'.seen = so.1.not_after.jobs in
+    let lt : who < j'.shape.coroutines = subst (λ n. who < n) (sym (ap (λ (s : Shape). s.coroutines) h.added.same.shape)) body.coroutine in
+    never_over j'.shape at who lt (Legal-prefix j'.shape at q.0 (rw q.1 l)) (ap (list_any (ends_body who)) (so.1.job_acts ∙ sym f) ∙ body.not_ended) so.1.holds
 
--- the tags of what it launches are left
-pub free_fits : (p : Program) (c : ChannelFloor) (j : Floor) (f : Frame) (block : ℕ) (lazy : Bool) (job : Option ℕ) → IsProgram p → StandsOn p c j f → IsAt p f.tag (config_of f) (line.Launch block lazy job) → f.free + size_of p block ≤ coroutine_count p
-free_fits p c j f block lazy job ok h at =
-    let fits = stands_fits p c j f ok h in
-    let code = code_of p f.tag in
-    let rest = drop (f.line + 1) code in
-    let is : drop f.line code ≡ line.Launch block lazy job ∷ rest = drop_at code f.line (line.Launch block lazy job) at.line_is in
-    let taken : sizes_of p (launched (drop f.line code)) ≡ size_of p block + sizes_of p (launched rest) = ap (λ l. sizes_of p (launched l)) is in
-    omega (arith, fits.room, taken)
+refused_step : (p : Program) (c d : ChannelFloor) (j j' : Floor) (f g : Frame) (block : ℕ) (how : Launching) (job : Option ℕ) → d ≡ c → IsAt p f.tag (config_of f) (line.Launch block how job) → is_some (j'.claims f.free) ≡ true → ToldOnJobs f.tag [] j j' (items_of f) (items_of g) (knew known.Used ∷ [])
+    → Legal j'.shape j'.seen → g.tag ≡ f.tag → config_of g ≡ at_stage (Unwinding (Some f.tag)) (config_of f) → Stepped p c d j j' f g
+unfolding items_in rows_in
+refused_step p c d j j' f g block how job e at claimed noted l t config = record {
+  tag = t;
+  told = knew known.Used ∷ [];
+  move = subst (Move p f.tag (config_of f) (knew known.Used ∷ [])) (sym config) (Move.launch_refused (config_of f) block how job _ at NotAttached.used);
+  noted = jobs_noted f.tag [] c d j j' (items_of f) (items_of g) _ e refl noted;
+  refused = record { no_row = λ k. absurd (let u : ⊥ = cc in u); used = λ k. claimed; none_ended = refl };
+  dones = unclosed_kept f.tag (base_of p) [] [] [] c d j j' _ l (uncalled f.tag c d e) refl noted.added (tt, tt);
+  stood = λ w k. not_waiting g _ (Unwinding (Some f.tag)) config refl w (λ u. unwinds_never (Some f.tag) w u) k;
+}
 
-free_below : (p : Program) (c : ChannelFloor) (j : Floor) (f : Frame) (block : ℕ) (lazy : Bool) (job : Option ℕ) → IsProgram p → StandsOn p c j f → IsAt p f.tag (config_of f) (line.Launch block lazy job) → f.free < coroutine_count p
-free_below p c j f block lazy job ok h at =
-    let some = size_some p block (launched_block p f.tag f.line block lazy job ok at.line_is) in
-    let fits = free_fits p c j f block lazy job ok h at in
-    omega (arith, some, fits)
+pub launch_refused : (p : Program) (c d : ChannelFloor) (j j' : Floor) (f g : Frame) (block : ℕ) (how : Launching) (lazy : Bool) (job : Option ℕ) (error : LaunchError) (mid : List Item) → (error ≡ launch.Used) ⊎ (error ≡ launch.ParentEnded) → d ≡ c → Legal j.shape j.seen → Legal j'.shape j'.seen → Stands p c j f → IsAt p f.tag (config_of f) (line.Launch block how job)
+    → LaunchAnswer f.tag f.tag f.free lazy j j' (items_of f) mid (Err error) → g.tag ≡ f.tag → config_of g ≡ at_stage (Unwinding (Some f.tag)) (config_of f) → items_of g ≡ mid → Stepped p c d j j' f g
+launch_refused p c d j j' f g block how lazy job error mid which e l l' h at answer t config items =
+    let answer : LaunchAnswer f.tag f.tag f.free lazy j j' (items_of f) (items_of g) (Err error) = subst (λ i. LaunchAnswer f.tag f.tag f.free lazy j j' (items_of f) i (Err error)) (sym items) answer in
+    ⊎_elim
+    (λ k. let q = subst (λ x. LaunchAnswer f.tag f.tag f.free lazy j j' (items_of f) (items_of g) (Err x)) k answer in refused_step p c d j j' f g block how job e at q.0 q.1 l' t config)
+    (λ k. let q = subst (λ x. LaunchAnswer f.tag f.tag f.free lazy j j' (items_of f) (items_of g) (Err x)) k answer in
+    absurd (never_told_over f.tag (f.free ∷ []) c j j' (items_of f) (items_of g) _ l' (stands_body p c j f l h (ap is_over at.stage)) h.on.channel_acts h.on.job_acts q))
+    which
 
-pub free_row : (p : Program) (c : ChannelFloor) (j : Floor) (f : Frame) (block : ℕ) (lazy : Bool) (job : Option ℕ) → IsProgram p → StandsOn p c j f → IsAt p f.tag (config_of f) (line.Launch block lazy job) → f.free < j.shape.coroutines
-free_row p c j f block lazy job ok h at = let below = free_below p c j f block lazy job ok h at in omega (arith, below, ap (λ (s : Shape). s.coroutines) h.fits.job_shape_is)
+-- ---- start and cancel
 
-pub free_short : (p : Program) (c : ChannelFloor) (j : Floor) (f : Frame) (block : ℕ) (lazy : Bool) (job : Option ℕ) → IsProgram p → StandsOn p c j f → IsAt p f.tag (config_of f) (line.Launch block lazy job) → f.free + size_of p block < 65536
-free_short p c j f block lazy job ok h at = let fits = free_fits p c j f block lazy job ok h at in omega (arith, fits, ok.few_coroutines)
+started_group : (now : Bool) (row : ℕ) → Starts row (start_told now row)
+started_group true row = Starts.now
+started_group false row = Starts.before
 
-pub launch_config : (p : Program) (block : ℕ) (job : Option ℕ) (x : Config) (rows : List ℕ) (size : ℕ) → rows ≡ x.rows → size ≡ size_of p block → next (record x { rows = named job x.free rows; free = x.free + size }) ≡ next (past_launch p block job x)
-launch_config p block job x rows size e k = ap (λ r. next (record x { rows = named job x.free r; free = x.free + size })) e ∙ ap (λ n. next (record x { rows = named job x.free x.rows; free = x.free + n })) k
+started_rows : (now : Bool) (row : ℕ) → [] ≡ rows_in (job_acts_in (items_in (start_told now row)))
+unfolding items_in rows_in
+started_rows true row = refl
+started_rows false row = refl
 
-pub rows_config : (x : Config) (stage : Stage) (rows : List ℕ) → rows ≡ x.rows → record x { stage = stage; rows = rows } ≡ at_stage stage x
-rows_config x stage rows e = ap (λ r. to_config r) e
-  where
-    to_config : List ℕ → Config
-    to_config r = record x { stage = stage; rows = r }
+pub has_started : (p : Program) (c d : ChannelFloor) (j j' : Floor) (f g : Frame) (job row : ℕ) (now : Bool) → d ≡ c → Legal j'.shape j'.seen → IsAt p f.tag (config_of f) (line.Start job) → slice_get f.rows.items job ≡ Some row
+    → ToldOnJobs f.tag [] j j' (items_of f) (items_of g) (start_told now row) → g.tag ≡ f.tag → config_of g ≡ next (config_of f) → Stepped p c d j j' f g
+has_started p c d j j' f g job row now e l at is noted t config =
+    mild_step p c d j j' f g (start_told now row) _ l (Move.starts (config_of f) job row _ at is (started_group now row))
+    (jobs_noted f.tag [] c d j j' (items_of f) (items_of g) (start_told now row) e (started_rows now row) noted) (starts_mild (base_of p) row _ (started_group now row)) t config
+    (λ w k. not_waiting g _ Running config refl w (λ u. waits_never w u) k)
 
-pub own_attached : (p : Program) (c : ChannelFloor) (j : Floor) (f : Frame) → Legal j.shape j.seen → StandsOn p c j f → is_fresh f.stage ≡ false → is_some (replay j.seen f.tag) ≡ true
-own_attached p c j f l h e = live_attached (replay j.seen f.tag) (stands_live p c j f l h e)
-
-pub has_launched : (p : Program) (c c' : ChannelFloor) (j j' : Floor) (f g : Frame) (block : ℕ) (lazy : Bool) (job : Option ℕ) (now : Bool) → StandsOn p c j f → IsAt p f.tag (config_of f) (line.Launch block lazy job)
-    → Did f.tag (made_note (Attach f.tag f.free (child_kind lazy) f.free now) ∷ []) (f.free ∷ []) c c' j j' (items_of f) (items_of g) → StaysSettled (base_of p) c c' j j'
-    → g.tag ≡ f.tag → config_of g ≡ next (past_launch p block job (config_of f)) → Stepped p c c' j j' f g
-has_launched p c c' j j' f g block lazy job now h at did settled t config =
-    line_stepped p c c' j j' f g (made_note (Attach f.tag f.free (child_kind lazy) f.free now) ∷ []) (f.free ∷ []) (next (past_launch p block job (config_of f))) h did t config
-    (Move.launches (config_of f) block lazy job now at) refl refl settled (λ x y z. (tt, tt)) (ap is_waiting at.stage) refl
-
-refusal_quiet : (note : Item) → IsRefusal note → channel_acts_in (note ∷ []) ≡ []
-refusal_quiet _ IsRefusal.no_row = refl
-refusal_quiet _ IsRefusal.used = refl
-refusal_quiet _ IsRefusal.parent_ended = refl
-
-refusal_closes : (base : ℕ) (note : Item) → IsRefusal note → ClosesAtOnce base (note ∷ [])
-refusal_closes base _ IsRefusal.no_row = (tt, tt)
-refusal_closes base _ IsRefusal.used = (tt, tt)
-refusal_closes base _ IsRefusal.parent_ended = (tt, tt)
-
-was_refused : (p : Program) (c c' : ChannelFloor) (j j' : Floor) (f g : Frame) (block : ℕ) (lazy : Bool) (job : Option ℕ) (note : Item) (rows : List ℕ) → StandsOn p c j f → IsAt p f.tag (config_of f) (line.Launch block lazy job) → IsRefusal note
-    → Did f.tag (note ∷ []) rows c c' j j' (items_of f) (items_of g) → StaysSettled (base_of p) c c' j j'
-    → g.tag ≡ f.tag → config_of g ≡ at_stage (Unwinding (Some f.tag)) (config_of f) → Stepped p c c' j j' f g
-was_refused p c c' j j' f g block lazy job note rows h at r did settled t config =
-    line_stepped p c c' j j' f g (note ∷ []) rows (at_stage (Unwinding (Some f.tag)) (config_of f)) h did t config
-    (Move.launch_refused (config_of f) block lazy job note at r) (ap (list_all (is_calm_act (base_of p))) (refusal_quiet note r)) (ap (list_all begins_none) (refusal_quiet note r)) settled (λ x y z. refusal_closes (base_of p) note r) (ap is_waiting at.stage) refl
-
--- what a refusal noted
-pub record Refused (who : ℕ) (c c' : ChannelFloor) (j j' : Floor) (items items' : List Item) : Type 0 where
-  pub note : Item
-  pub rows : List ℕ
-  pub refusal : IsRefusal note
-  pub did : Did who (note ∷ []) rows c c' j j' items items'
-
-pub refused_of : (who parent tag : ℕ) (lazy : Bool) (c c' : ChannelFloor) (j j' : Floor) (items items' : List Item) (e : LaunchError) → (e ≡ launch.Used) ⊎ (e ≡ launch.ParentEnded) → LaunchAnswer who parent tag lazy c c' j j' items items' (Err e) → Refused who c c' j j' items items'
-refused_of who parent tag lazy c c' j j' items items' launch.NoRow h a = absurd a
-refused_of who parent tag lazy c c' j j' items items' launch.Used h a = record { note = item.Job of_job.Used; rows = []; refusal = IsRefusal.used; did = a.0 }
-refused_of who parent tag lazy c c' j j' items items' launch.ParentEnded h a = record { note = item.Job of_job.ParentEnded; rows = tag ∷ []; refusal = IsRefusal.parent_ended; did = a.0 }
-refused_of who parent tag lazy c c' j j' items items' launch.Memory h a = absurd (⊎_elim (λ e. cc) (λ e. cc) h)
-
-pub refused_stepped : (p : Program) (c c' : ChannelFloor) (j j' : Floor) (f g : Frame) (block : ℕ) (lazy : Bool) (job : Option ℕ) (items' : List Item) → StandsOn p c j f → IsAt p f.tag (config_of f) (line.Launch block lazy job) → Refused f.tag c c' j j' (items_of f) items' → items_of g ≡ items'
-    → StaysSettled (base_of p) c c' j j' → g.tag ≡ f.tag → config_of g ≡ at_stage (Unwinding (Some f.tag)) (config_of f) → Stepped p c c' j j' f g
-refused_stepped p c c' j j' f g block lazy job items' h at r e settled t config =
-    was_refused p c c' j j' f g block lazy job r.note r.rows h at r.refusal (did_same f.tag (r.note ∷ []) r.rows c c' j j' (items_of f) items' (items_of g) r.did e) settled t config
-
--- ---- starts and cancels
-
--- the name was given
-pub knows_start : (p : Program) (c : ChannelFloor) (j : Floor) (f : Frame) (job : ℕ) → IsProgram p → StandsOn p c j f → IsAt p f.tag (config_of f) (line.Start job) → job < length f.rows.items
-knows_start p c j f job ok h at =
-    let code = code_of p f.tag in
-    let known = subst (λ l. knows_jobs (length f.rows.items) l ≡ true) (drop_at code f.line (line.Start job) at.line_is) (stands_fits p c j f ok h).jobs in
-    lt-from_true job (length f.rows.items) (both_true (nat_lt job (length f.rows.items)) (knows_jobs (length f.rows.items) (drop (f.line + 1) code)) known).0
-
-pub knows_cancel : (p : Program) (c : ChannelFloor) (j : Floor) (f : Frame) (job : ℕ) → IsProgram p → StandsOn p c j f → IsAt p f.tag (config_of f) (line.Cancel job) → job < length f.rows.items
-knows_cancel p c j f job ok h at =
-    let code = code_of p f.tag in
-    let known = subst (λ l. knows_jobs (length f.rows.items) l ≡ true) (drop_at code f.line (line.Cancel job) at.line_is) (stands_fits p c j f ok h).jobs in
-    lt-from_true job (length f.rows.items) (both_true (nat_lt job (length f.rows.items)) (knows_jobs (length f.rows.items) (drop (f.line + 1) code)) known).0
-
--- at the end of the call the coroutine had done what its book says
-book_after : (p : Program) (c c' : ChannelFloor) (j j' : Floor) (f : Frame) (group : List Item) (rows : List ℕ) (items' : List Item) → StandsOn p c j f → Did f.tag group rows c c' j j' (items_of f) items' → acts_of f.tag j'.seen ≡ job_acts_in (items_of f ++ group)
-book_after p c c' j j' f group rows items' h did = did.jobs.mine ∙ ap (λ l. l ++ job_acts_in group) h.job_acts ∙ sym (job_acts_in-append (items_of f) group)
-
-start_quiet : (now : Bool) (row : ℕ) → channel_acts_in (start_of now row) ≡ []
-start_quiet true row = refl
-start_quiet false row = refl
-
-start_closes : (base : ℕ) (now : Bool) (row : ℕ) → ClosesAtOnce base (start_of now row)
-start_closes base true row = (tt, tt)
-start_closes base false row = tt
-
-pub has_started : (p : Program) (c c' : ChannelFloor) (j j' : Floor) (f g : Frame) (job row : ℕ) (now : Bool) → StandsOn p c j f → IsAt p f.tag (config_of f) (line.Start job) → slice_get f.rows.items job ≡ Some row
-    → Did f.tag (start_of now row) [] c c' j j' (items_of f) (items_of g) → WasAfterAll f.tag j' (λ tree. state_of (tree row) ≢ Some New) → StaysSettled (base_of p) c c' j j'
-    → g.tag ≡ f.tag → config_of g ≡ next (config_of f) → Stepped p c c' j j' f g
-has_started p c c' j j' f g job row now h at is did was settled t config =
-    line_stepped p c c' j j' f g (start_of now row) [] (next (config_of f)) h did t config
-    (Move.starts (config_of f) job row now at is (record { moment = was.moment; before = was.before; mine = was.mine ∙ book_after p c c' j j' f (start_of now row) [] (items_of g) h did; holds = was.holds }))
-    (ap (list_all (is_calm_act (base_of p))) (start_quiet now row)) (ap (list_all begins_none) (start_quiet now row)) settled (λ x y z. start_closes (base_of p) now row) (ap is_waiting at.stage) refl
-
-jobs_quiet : (acts : List JobAct) → channel_acts_in (map made_note acts) ≡ []
-jobs_quiet [] = refl
-jobs_quiet (a ∷ acts) = jobs_quiet acts
-
-jobs_quiet_then : (acts : List JobAct) (more : List Item) → channel_acts_in (map made_note acts ++ more) ≡ channel_acts_in more
-jobs_quiet_then [] more = refl
-jobs_quiet_then (a ∷ acts) more = jobs_quiet_then acts more
-
--- Cancels end no Job
-cancels_close : (base : ℕ) (acts : List JobAct) (more : List Item) → list_all (is_cancel is_any) acts ≡ true → ClosesAtOnce base more → ClosesAtOnce base (map made_note acts ++ more)
-cancels_close base [] more e h = h
-cancels_close base (Attach p q kind tag cancelled ∷ acts) more e h = cc
-cancels_close base (Start q ∷ acts) more e h = cc
-cancels_close base (EndBody q v ∷ acts) more e h = cc
-cancels_close base (Cancel q reason ∷ acts) more e h = (tt, cancels_close base acts more e h)
-cancels_close base (Finish q end ∷ acts) more e h = cc
-cancels_close base (Gone q ∷ acts) more e h = cc
-
-pub has_cancelled : (p : Program) (c c' : ChannelFloor) (j j' : Floor) (f g : Frame) (job row count : ℕ) → StandsOn p c j f → IsAt p f.tag (config_of f) (line.Cancel job) → slice_get f.rows.items job ≡ Some row
-    → CancelledAll f.tag row c c' j j' (items_of f) (items_of g) count → StaysSettled (base_of p) c c' j j'
-    → g.tag ≡ f.tag → config_of g ≡ next (config_of f) → Stepped p c c' j j' f g
-has_cancelled p c c' j j' f g job row count h at is all settled t config =
-    let group : List Item = map made_note all.acts in
-    line_stepped p c c' j j' f g group [] (next (config_of f)) h all.did t config
-    (Move.cancels (config_of f) job row all.acts at is all.pass (record { moment = j'.seen; before = prefix_self j'.seen; mine = book_after p c c' j j' f group [] (items_of g) h all.did; holds = all.all }))
-    (ap (list_all (is_calm_act (base_of p))) (jobs_quiet all.acts)) (ap (list_all begins_none) (jobs_quiet all.acts)) settled
-    (λ x y z. subst (ClosesAtOnce (base_of p)) (nothing_more group) (cancels_close (base_of p) all.acts [] (pass_cancels row reasons.Request all.acts all.pass) tt)) (ap is_waiting at.stage) refl
-
-pub all_same : (k row count : ℕ) (c c' : ChannelFloor) (j j' : Floor) (items mid items' : List Item) → CancelledAll k row c c' j j' items mid count → items' ≡ mid → CancelledAll k row c c' j j' items items' count
-all_same k row count c c' j j' items mid items' all e = record { acts = all.acts; pass = all.pass; counted = all.counted; did = did_same k _ [] c c' j j' items mid items' all.did e; all = all.all }
+pub has_cancelled : (p : Program) (c d : ChannelFloor) (j j' : Floor) (f g : Frame) (job row count : ℕ) → d ≡ c → Legal j'.shape j'.seen → Stands p c j f → IsAt p f.tag (config_of f) (line.Cancel job) → slice_get f.rows.items job ≡ Some row
+    → CancelledAll f.tag row j j' (items_of f) (items_of g) count → g.tag ≡ f.tag → config_of g ≡ next (config_of f) → Stepped p c d j j' f g
+has_cancelled p c d j j' f g job row count e l h at is all t config =
+    let raw = both_jobs f.tag [] c d j j' (items_of f) (items_of g) all.told (uncalled f.tag c d e) all.noted in
+    let known = known_of c d j j' f.tag [] (items_of f) (items_of g) all.told l h.on.channel_acts h.on.job_acts raw in
+    let rows = ending_rows (base_of p) all.told (passes_ending (base_of p) (parents_in j'.seen) row reasons.Request all.newly all.told known all.group) in
+    mild_step p c d j j' f g all.told _ l (Move.cancels (config_of f) job row all.newly all.told at is all.group)
+    (jobs_noted f.tag [] c d j j' (items_of f) (items_of g) all.told e (sym rows) all.noted) (passes_mild (base_of p) (parents_in j'.seen) row reasons.Request all.newly all.told known all.group) t config
+    (λ w k. not_waiting g _ Running config refl w (λ u. waits_never w u) k)
 
 -- ---- the end of a body
 
-base_up : (base row : ℕ) → nat_le base (base + row) ≡ true
-base_up base row = le-true base (base + row) (omega arith)
+ends_never : (w : WaitId) → Ended ≡ Waiting w → ⊥
+ends_never w e = cc
 
-close_calm : (base row : ℕ) (end : End) (close : Item) (more : List Item) → ClosesDone base row end close → list_all (is_calm_act base) (channel_acts_in more) ≡ true → list_all (is_calm_act base) (channel_acts_in (close ∷ more)) ≡ true
-close_calm base row end _ more ClosesDone.now e = ap (λ b. b && list_all (is_calm_act base) (channel_acts_in more)) (base_up base row) ∙ e
-close_calm base row end _ more (ClosesDone.before v) e = e
+pub has_ended : (p : Program) (base : ℕ) (c c' : ChannelFloor) (j j' : Floor) (f g : Frame) (answer : BodyEnd) → base ≡ base_of p → IsAtEnd p f → EndedJob f.tag base f.tag f.result c c' j j' (items_of f) (items_of g) answer → g.tag ≡ f.tag → config_of g ≡ at_stage Ended (config_of f) → Stepped p c c' j j' f g
+has_ended p base c c' j j' f g answer e end did t config =
+    let group : EndsBody (base_of p) f.tag f.result did.told = subst (λ b. EndsBody b f.tag f.result did.told) e did.group in
+    let ending = end_ending (base_of p) (base_of p) f.tag f.result did.told group in
+    record {
+      tag = t;
+      told = did.told;
+      move = subst (Move p f.tag (config_of f) did.told) (sym config) (Move.ends (config_of f) did.told end.running end.none_left group);
+      noted = subst (λ (l : List ℕ). ToldOnBoth f.tag l c c' j j' (items_of f) (items_of g) did.told) (sym (ending_rows (base_of p) did.told ending)) did.noted;
+      refused = unrefused_claims (base_of p) (config_of f) did.told j' (ending_unrefused (base_of p) did.told ending);
+      dones = subst (λ b. KeepsDones b c c' j j' (items_in did.told)) e did.dones;
+      stood = λ w k. not_waiting g _ Ended config refl w (ends_never w) k;
+    }
 
-chain_calm : (base : ℕ) (tree : Tree) (row : ℕ) (chain : List Item) → IsChain base tree row chain → list_all (is_calm_act base) (channel_acts_in chain) ≡ true
-chain_calm base tree _ _ (IsChain.stops row) = refl
-chain_calm base tree _ _ (IsChain.root end close d) = close_calm base 0 end close [] d refl
-chain_calm base tree _ _ (IsChain.goes_up row p end close more all ne par d rest is) = ap (λ l. list_all (is_calm_act base) (channel_acts_in l)) is ∙ close_calm base row end close (made_note (Gone row) ∷ more) d (chain_calm base tree p more rest)
-
-close_none : (base row : ℕ) (end : End) (close : Item) (more : List Item) → ClosesDone base row end close → list_all begins_none (channel_acts_in more) ≡ true → list_all begins_none (channel_acts_in (close ∷ more)) ≡ true
-close_none base row end _ more ClosesDone.now e = e
-close_none base row end _ more (ClosesDone.before v) e = e
-
-chain_none : (base : ℕ) (tree : Tree) (row : ℕ) (chain : List Item) → IsChain base tree row chain → list_all begins_none (channel_acts_in chain) ≡ true
-chain_none base tree _ _ (IsChain.stops row) = refl
-chain_none base tree _ _ (IsChain.root end close d) = close_none base 0 end close [] d refl
-chain_none base tree _ _ (IsChain.goes_up row p end close more all ne par d rest is) = ap (λ l. list_all begins_none (channel_acts_in l)) is ∙ close_none base row end close (made_note (Gone row) ∷ more) d (chain_none base tree p more rest)
-
-pub own_end : (p : Program) (c : ChannelFloor) (j : Floor) (f : Frame) → Legal j.shape j.seen → StandsOn p c j f → is_fresh f.stage ≡ false → is_over f.stage ≡ false → MayEndBody f.tag (replay j.seen f.tag)
-own_end p c j f l h e o =
-    let body = stands_body p c j f h o in
-    may_end_own j.shape j.seen f.tag body.coroutine l (stands_live p c j f l h e) body.not_ended
-
-own_holds : (k : ℕ) (shape : Shape) (tree : Tree) (failure : Option ℕ) → tag_of (tree k) ≡ Some k → IsOwnFailure k (Unwinding failure) → Holds shape tree k k (reason_for failure)
-own_holds k shape tree None t h = tt
-own_holds k shape tree (Some f) t h = (t, subst (λ n. ((n == k) || ((n == k) || any_below shape.rows (λ q. ended_by_failure n (tree q)))) ≡ true) (sym h) (ap (λ b. b || ((k == k) || any_below shape.rows (λ q. ended_by_failure k (tree q)))) (same k)))
-
-pub own_reason : (p : Program) (c : ChannelFloor) (j : Floor) (f : Frame) (failure : Option ℕ) → Legal j.shape j.seen → StandsOn p c j f → f.stage ≡ Unwinding failure → Holds j.shape (replay j.seen) f.tag f.tag (reason_for failure)
-own_reason p c j f failure l h e =
-    own_holds f.tag j.shape (replay j.seen) failure (own_tag j.shape j.seen f.tag (in_coroutine_rows p c j f.tag h.fits) l (stands_live p c j f l h (ap is_fresh e)))
-    (subst (IsOwnFailure f.tag) e (reach_fails p f.tag j.seen (items_of f) (config_of f) h.reaches))
-
-pub has_ended : (p : Program) (c c' : ChannelFloor) (j j' : Floor) (f g : Frame) (answer : BodyEnd) → StandsOn p c j f → IsAtEnd p f → EndedJob f.tag (base_of p) f.tag f.result c c' j j' (items_of f) (items_of g) answer → StaysSettled (base_of p) c c' j j'
-    → g.tag ≡ f.tag → config_of g ≡ at_stage Ended (config_of f) → Stepped p c c' j j' f g
-has_ended p c c' j j' f g answer h end did settled t config =
-    let group : List Item = made_note (EndBody f.tag f.result) ∷ did.chain in
-    line_stepped p c c' j j' f g group [] (at_stage Ended (config_of f)) h did.did t config
-    (Move.ends (config_of f) did.chain group end.running end.none_left (record { moment = j'.seen; before = prefix_self j'.seen; mine = book_after p c c' j j' f group [] (items_of g) h did.did; holds = did.is_chain }) refl)
-    (chain_calm (base_of p) _ f.tag did.chain did.is_chain) (chain_none (base_of p) _ f.tag did.chain did.is_chain) settled (λ x y z. (tt, did.closes x y z)) (ap is_waiting end.running) refl
-
-pub has_broken : (p : Program) (c c' : ChannelFloor) (j j' : Floor) (f g : Frame) (failure : Option ℕ) (answer : BodyEnd) → StandsOn p c j f → f.stage ≡ Unwinding failure → BrokeJob f.tag (base_of p) f.tag failure c c' j j' (items_of f) (items_of g) answer → StaysSettled (base_of p) c c' j j'
-    → g.tag ≡ f.tag → config_of g ≡ at_stage Ended (config_of f) → Stepped p c c' j j' f g
-has_broken p c c' j j' f g failure answer h e did settled t config =
-    let last : List Item = made_note (EndBody f.tag 0) ∷ did.chain in
-    let group : List Item = map made_note did.cancels ++ last in
-    let w = did.cancelling in
-    line_stepped p c c' j j' f g group [] (at_stage Ended (config_of f)) h did.did t config
-    (Move.breaks (config_of f) failure did.cancels did.chain group e did.breaks
-    (record { moment = w.moment; before = w.before; mine = w.mine ∙ ap (λ l. l ++ did.cancels) h.job_acts; holds = w.holds })
-    (record { moment = j'.seen; before = prefix_self j'.seen; mine = book_after p c c' j j' f group [] (items_of g) h did.did; holds = did.is_chain }) refl)
-    (ap (list_all (is_calm_act (base_of p))) (jobs_quiet_then did.cancels last) ∙ chain_calm (base_of p) _ f.tag did.chain did.is_chain)
-    (ap (list_all begins_none) (jobs_quiet_then did.cancels last) ∙ chain_none (base_of p) _ f.tag did.chain did.is_chain) settled
-    (λ x y z. cancels_close (base_of p) did.cancels last (break_cancels f.tag failure did.cancels did.breaks) (tt, did.closes x y z)) (ap is_waiting e) refl
+pub has_broken : (p : Program) (base : ℕ) (c c' : ChannelFloor) (j j' : Floor) (f g : Frame) (failure : Option ℕ) (answer : BodyEnd) → base ≡ base_of p → Legal j'.shape j'.seen → Stands p c j f → f.stage ≡ Unwinding failure
+    → BrokeJob f.tag base f.tag failure c c' j j' (items_of f) (items_of g) answer → g.tag ≡ f.tag → config_of g ≡ at_stage Ended (config_of f) → Stepped p c c' j j' f g
+has_broken p base c c' j j' f g failure answer e l h at did t config =
+    let group : BreaksOff (base_of p) f.tag f.tag failure did.told = subst (λ b. BreaksOff b f.tag f.tag failure did.told) e did.group in
+    let known = known_of c c' j j' f.tag [] (items_of f) (items_of g) did.told l h.on.channel_acts h.on.job_acts did.noted in
+    let ending = break_ending (base_of p) (parents_in j'.seen) (base_of p) f.tag f.tag failure did.told known group in
+    record {
+      tag = t;
+      told = did.told;
+      move = subst (Move p f.tag (config_of f) did.told) (sym config) (Move.breaks (config_of f) failure did.told at refl group);
+      noted = subst (λ (l : List ℕ). ToldOnBoth f.tag l c c' j j' (items_of f) (items_of g) did.told) (sym (ending_rows (base_of p) did.told ending)) did.noted;
+      refused = unrefused_claims (base_of p) (config_of f) did.told j' (ending_unrefused (base_of p) did.told ending);
+      dones = subst (λ b. KeepsDones b c c' j j' (items_in did.told)) e did.dones;
+      stood = λ w k. not_waiting g _ Ended config refl w (ends_never w) k;
+    }

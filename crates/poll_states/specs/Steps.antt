@@ -1,186 +1,70 @@
--- What a line of a coroutine came to, and how the coroutine goes on after it.
-use Rattle.std.specs.Prelude.{◌≡◌, ◌≢◌, ℕ, ◌+◌, ◌<◌, ◌≤◌, ◌⊎◌, Bool, true, false, List, [], ◌∷◌, ◌++◌, length, Option, Some, None, Result, Ok, Err}
-use Rattle.std.specs.List.{list_all, list_any}
+-- What one move of a coroutine leaves, and what a poll does.
+use Rattle.std.specs.Prelude.{◌≡◌, ◌<◌, ◌≤◌, ◌+◌, ◌⊎◌, ℕ, Bool, true, false, List, [], ◌∷◌, ◌++◌, length, Option, Some, None, Result, Ok, Err}
+use Rattle.std.specs.List.{list_any}
 use Rattle.co_base.specs.declared.names.Memory.{Memory}
 use Rattle.co_base.specs.declared.names.WaitId.{WaitId}
 use Rattle.channel_model.specs.declared.acts.Settled.{Settled}
 use Rattle.channel_model.specs.declared.acts.Settled.TheVariants as settled
-use Rattle.channel_model.specs.declared.floor.WaitState.TheVariants.{Standing}
-use Rattle.channel_model.specs.Histories.{replay}
-use Rattle.channel_model.specs.Floors.{Floor as ChannelFloor, Looked as LookedAtChannels, Added as AddedToChannels, AtStep as AtChannelStep}
-use Rattle.channel_model.specs.Answers.{IsReady, state_of_wait, outcome_at}
+use Rattle.channel_model.specs.Histories.{replay as replay_channels, acts_of as channel_acts_of}
+use Rattle.channel_model.specs.Floors.{Floor as ChannelFloor, Added as AddedToChannels, Looked as LookedAtChannels}
+use Rattle.channel_model.specs.Answers.{IsReady, outcome_at}
+use Rattle.job_model.specs.Trees.{Tree, state_of, is_among}
+use Rattle.job_model.specs.declared.acts.JobState.TheVariants as states
 use Rattle.job_model.specs.declared.acts.JobAct.TheVariants.{Attach}
-use Rattle.job_model.specs.declared.acts.JobEntry.{JobEntry}
-use Rattle.job_model.specs.Trees.{Tree}
+use Rattle.job_model.specs.declared.acts.JobNote.TheVariants as known
 use Rattle.job_model.specs.Acts.{ends_body}
-use Rattle.job_model.specs.Histories.{acts_of as job_acts_of}
-use Rattle.job_model.specs.Floors.{Floor, Looked, Added, AtStep}
+use Rattle.job_model.specs.Histories.{acts_of}
+use Rattle.job_model.specs.Floors.{Floor, Added, Looked, AtStep, is_claimed_by}
 use Rattle.note_book.specs.declared.book.Item.{Item}
 use Rattle.note_book.specs.declared.book.Item.TheVariants as item
-use Rattle.note_book.specs.Items.{channel_act, channel_acts_in, job_acts_in}
-use Rattle.scope_builders.specs.Rest.{IsSettled}
-use Rattle.scope_builders.specs.Groups.{ClosesAtOnce}
-use Rattle.scope_builders.specs.Calls.{Did, StaysSettled, child_kind}
-use Rattle.channel_calls.specs.Groups.{settle_group}
-use Rattle.channel_calls.specs.Calls.{Did as DidOnChannels}
-use Rattle.script_reader.specs.declared.script.Operand.{Operand}
-use Rattle.script_reader.specs.declared.script.Instruction.TheVariants as line
-use Rattle.script_reader.specs.Programs.{Program, code_of, coroutine_count, size_of}
+use Rattle.note_book.specs.Items.{channel_acts_in, job_acts_in}
+use Rattle.call_meaning.specs.Telling.{Told, items_in, did}
+use Rattle.call_meaning.specs.Facts.{IsRunning}
+use Rattle.call_meaning.specs.ChannelCalls.{GivesUp}
+use Rattle.call_meaning.specs.JobCalls.{child_kind, NotAttached}
+use Rattle.call_meaning.specs.Calls.{ToldOnChannels, ToldOnJobs, ToldOnBoth, rows_in}
+use Rattle.channel_calls.specs.declared.caller.SendAnswer.{SendAnswer}
+use Rattle.channel_calls.specs.declared.caller.SendAnswer.TheVariants as send
+use Rattle.channel_calls.specs.declared.caller.ReceiveAnswer.{ReceiveAnswer}
+use Rattle.channel_calls.specs.declared.caller.ReceiveAnswer.TheVariants as receive
+use Rattle.channel_calls.specs.Calls.{IsUntouched, end_told}
+use Rattle.scope_builders.specs.Dones.{KeepsDones}
+use Rattle.script_grammar.specs.Programs.{Program}
+use Rattle.script_grammar.specs.Tags.{code_of, coroutine_count, size_of}
+use Rattle.script_grammar.specs.FirstRunning.{all_run}
+use Rattle.script_meaning.specs.declared.stage.Stage.{Stage}
+use Rattle.script_meaning.specs.declared.stage.Stage.TheVariants.{Fresh, Running, Waiting, SeesJob, Unwinding, Leaving, SeesScope, Ended}
+use Rattle.script_meaning.specs.declared.turn.Turn.{Turn}
+use Rattle.script_meaning.specs.declared.turn.Turn.TheVariants as turn
+use Rattle.script_meaning.specs.Shapes.{floor_shape, job_shape, base_of}
+use Rattle.script_meaning.specs.Configs.{Config, fresh, at_stage, next, received, past_launch}
+use Rattle.script_meaning.specs.Moves.{Move}
+use Rattle.script_meaning.specs.Idle.{IsNotStarted}
+use Rattle.script_meaning.specs.Polls.{RefusedByClaims, Begun, Polled, TurnAnswer, HasStood, own_rows}
 use Rattle.poll_states.specs.declared.frame.Frame.{Frame}
-use Rattle.poll_states.specs.declared.frame.Stage.{Stage}
-use Rattle.poll_states.specs.declared.frame.Stage.TheVariants.{Fresh, Running, Waiting, Unwinding, Ended}
-use Rattle.poll_states.specs.declared.frame.Step.{Step}
-use Rattle.poll_states.specs.declared.frame.Turn.{Turn}
-use Rattle.poll_states.specs.declared.frame.Turn.TheVariants as turn
 use Rattle.poll_states.specs.declared.jobs.OwnState.{OwnState}
-use Rattle.poll_states.specs.declared.jobs.OwnState.TheVariants.{NotStarted, Cancelling, MayRun}
-use Rattle.poll_states.specs.Settings.{base_of, is_calm_act}
-use Rattle.poll_states.specs.Runs.{Config, Move, IsAt, IsRefusal, IsGivenUp, MayRun as IsRunning, IsCancelling, at_stage, next, received, operand, past_launch, job_note, saw}
-use Rattle.poll_states.specs.GivingUp.{IsTakenBack}
-use Rattle.poll_states.specs.Frames.{config_of, items_of, IsUnsettledOf, HoldsWait, IsFor, StandsOn}
-use Rattle.poll_states.specs.Parts.{IsNotStarted}
-use Rattle.poll_states.specs.Polls.{NotedSome, Polled, TurnAnswer}
+use Rattle.poll_states.specs.declared.jobs.OwnState.TheVariants as own
+use Rattle.poll_states.specs.Frames.{config_of, items_of, frame_of, Stands, moves_left}
 
--- ---- calls on channels
+-- ---- one move
 
--- where the coroutine runs on, it is with the next line
-abbrev pub after_step : Stage → Config → Config
-after_step Fresh x = at_stage Fresh x
-after_step Running x = next x
-after_step (Waiting w) x = at_stage (Waiting w) x
-after_step (Unwinding failure) x = at_stage (Unwinding failure) x
-after_step Ended x = at_stage Ended x
-
--- with the element that was received, if one was
-abbrev pub taking : Option ℕ → Config → Config
-taking None x = x
-taking (Some v) x = received v x
-
--- after a call that came to this
-abbrev pub after_call : Step → Config → Config
-after_call step x = after_step step.stage (taking step.received x)
-
--- a send of this value to this channel may come to this for k, in any script and at any time
-abbrev pub IsSendOf : ℕ → ℕ → ℕ → Step → Type 0
-IsSendOf k c value step =
-    (p : Program) (seen : List JobEntry) (before : List Item) (x : Config) (o : Operand) → IsAt p k x (line.Send c o) → value ≡ operand x o → Move p k seen before x (item.Channel step.note ∷ []) (after_call step x)
-
--- a receive from this channel may come to this for k, in any script and at any time
-abbrev pub IsReceiveOf : ℕ → ℕ → Step → Type 0
-IsReceiveOf k c step =
-    (p : Program) (seen : List JobEntry) (before : List Item) (x : Config) → IsAt p k x (line.Receive c) → Move p k seen before x (item.Channel step.note ∷ []) (after_call step x)
-
--- an unsettled wait of who's is the one that the stage names
-abbrev pub WaitsOnly : ℕ → Stage → ChannelFloor → Type 0
-WaitsOnly who stage floor = (w : WaitId) → IsUnsettledOf who ((replay floor.seen).waits w) → stage ≡ Waiting w
-
--- where the coroutine waits, its wait stood at a moment
-abbrev pub HasStood : ChannelFloor → ChannelFloor → Stage → Type 0
-HasStood old new Fresh = Unit {0}
-HasStood old new Running = Unit {0}
-HasStood old new (Waiting w) = AtChannelStep old new (λ s. state_of_wait (s.waits w) ≡ Some Standing)
-HasStood old new (Unwinding failure) = Unit {0}
-HasStood old new Ended = Unit {0}
-
--- no channel was closed
-abbrev pub ClosesNone : ChannelFloor → ChannelFloor → Type 0
-ClosesNone old new = (c : ℕ) → ((replay new.seen).channels c).closed ≡ ((replay old.seen).channels c).closed
-
--- who's one call added the entry of its note, and left who with the wait of its stage alone
-pub record StepMade (who base : ℕ) (old new : ChannelFloor) (step : Step) : Type 0 where
-  pub added : AddedToChannels who (channel_act step.note) old new
-  pub calm : list_all (is_calm_act base) (channel_act step.note) ≡ true
-  pub holds : HoldsWait who step.stage new
-  pub only : WaitsOnly who step.stage new
-  pub stood : HasStood old new step.stage
-  pub closes : old.alone ≡ true → ClosesNone old new
-
--- ---- the ends of waits
-
--- the wait was seen resolved, and may be settled; or it stood at a moment
-abbrev pub IsSeenSo : ℕ → WaitId → ChannelFloor → ChannelFloor → Bool → Type 0
-IsSeenSo who w old new true = IsReady who w new
-IsSeenSo who w old new false = AtChannelStep old new (λ s. state_of_wait (s.waits w) ≡ Some Standing)
-
-pub record SeenWait (who : ℕ) (w : WaitId) (old new : ChannelFloor) (resolved : Bool) : Type 0 where
-  pub looked : LookedAtChannels who old new
-  pub so : IsSeenSo who w old new resolved
-
--- where a coroutine is whose wait ended so
-abbrev pub after_wait : Settled → Config → Config
-after_wait (settled.Value k v) x = next (received v x)
-after_wait (settled.Sent k) x = next x
-after_wait (settled.Closed k v) x = next x
-after_wait settled.Cancelled x = at_stage (Unwinding None) x
-after_wait (settled.Undelivered v) x = next x
-
--- the wait was settled as it was resolved, and the coroutine goes on as that says
-pub record EndedWait (w : WaitId) (old new : ChannelFloor) (f g : Frame) : Type 0 where
-  pub outcome : Settled
-  pub ends : outcome_at false ((replay old.seen).waits w) ≡ Some outcome
-  pub did : DidOnChannels f.tag (settle_group w outcome) old new (items_of f) (items_of g)
-  pub config : config_of g ≡ after_wait outcome (config_of f)
-
-abbrev pub EndedWaitAnswer : WaitId → ChannelFloor → ChannelFloor → Frame → Frame → Result (Unit {0}) Memory → Type 0
-EndedWaitAnswer w old new f g (Ok done) = EndedWait w old new f g
-EndedWaitAnswer w old new f g (Err m) = DidOnChannels f.tag [] old new (items_of f) (items_of g)
-
--- it was noted that the Job was Cancelling, and then the wait was ended for that
-pub record GaveUp (w : WaitId) (old new : ChannelFloor) (f g : Frame) : Type 0 where
-  pub group : List Item
-  pub given : IsGivenUp w group
-  pub did : DidOnChannels f.tag (saw f.tag ∷ group) old new (items_of f) (items_of g)
-
-abbrev pub GaveUpAnswer : WaitId → ChannelFloor → ChannelFloor → Frame → Frame → Result (Unit {0}) Memory → Type 0
-GaveUpAnswer w old new f g (Ok done) = GaveUp w old new f g
-GaveUpAnswer w old new f g (Err m) = DidOnChannels f.tag (saw f.tag ∷ []) old new (items_of f) (items_of g)
-
--- ---- one's own Job
-
--- the row of who is that of its coroutine, and who did not end its body
-pub record HasBody (who : ℕ) (jobs : Floor) : Type 0 where
-  pub caller : jobs.callers who ≡ true
-  pub coroutine : who < jobs.shape.coroutines
-  pub not_ended : list_any (ends_body who) (job_acts_of who jobs.seen) ≡ false
-
--- what was so of the Job at a moment
-abbrev pub IsSeenAs : OwnState → ℕ → Tree → Type 0
-IsSeenAs NotStarted k tree = IsNotStarted (tree k)
-IsSeenAs Cancelling k tree = IsCancelling (tree k)
-IsSeenAs MayRun k tree = IsRunning (tree k)
-
-pub record OwnStateSeen (who : ℕ) (old new : Floor) (state : OwnState) : Type 0 where
-  pub looked : Looked who [] old new
-  pub was : AtStep old new (IsSeenAs state who)
-
--- ---- moves
-
--- it runs, and no line is left
-pub record IsAtEnd (p : Program) (f : Frame) : Type 0 where
-  pub running : f.stage ≡ Running
-  pub none_left : f.line ≡ length (code_of p f.tag)
-
--- where all that was noted is that the wait ended as cancelled, it was withdrawn or voided
-abbrev pub TookBack : Stage → List Item → ChannelFloor → Type 0
-TookBack stage notes floor = (w : WaitId) → stage ≡ Waiting w → notes ≡ settle_group w settled.Cancelled → IsTakenBack ((replay floor.seen).waits w)
-
--- one move of the coroutine of f left g
+-- one move of the coroutine of f, which told this, left g; where g waits, that wait stood at a moment
 pub record Stepped (p : Program) (c c' : ChannelFloor) (j j' : Floor) (f g : Frame) : Type 0 where
   pub tag : g.tag ≡ f.tag
-  pub notes : List Item
-  pub appended : items_of g ≡ items_of f ++ notes
-  pub move : Move p f.tag j'.seen (items_of f) (config_of f) notes (config_of g)
-  pub channels : AddedToChannels f.tag (channel_acts_in notes) c c'
+  pub told : List Told
+  pub move : Move p f.tag (config_of f) told (config_of g)
+  pub noted : ToldOnBoth f.tag (rows_in (job_acts_in (items_in told))) c c' j j' (items_of f) (items_of g) told
+  pub refused : RefusedByClaims (config_of f) (items_in told) j'
+  pub dones : KeepsDones (base_of p) c c' j j' (items_in told)
+  pub stood : (w : WaitId) → g.stage ≡ Waiting w → HasStood c c' w
+
+-- the entries made so far stand and are noted
+pub record NotedSome (who : ℕ) (c c' : ChannelFloor) (j j' : Floor) (items items' : List Item) : Type 0 where
+  pub group : List Item
   pub rows : List ℕ
-  pub jobs : Added f.tag (job_acts_in notes) rows j j'
-  pub calm : list_all (is_calm_act (base_of p)) (channel_acts_in notes) ≡ true
-  pub settled : c.alone ≡ true → j.alone ≡ true → IsSettled (base_of p) c j → IsSettled (base_of p) c' j' × ClosesAtOnce (base_of p) notes
-  pub holds : HoldsWait f.tag g.stage c'
-  pub only : WaitsOnly f.tag g.stage c'
-  pub stood : HasStood c c' g.stage
-  pub taken_back : TookBack f.stage notes c'
-  -- it goes on after a wait only where its Job ran at a moment
-  pub ran : (w : WaitId) → f.stage ≡ Waiting w → g.stage ≡ Running → AtStep j j' (λ tree. IsRunning (tree f.tag))
+  pub appended : items' ≡ items ++ group
+  pub channels : AddedToChannels who (channel_acts_in group) c c'
+  pub jobs : Added who (job_acts_in group) rows j j'
 
 -- there was no memory: the frame notes the entries that were made
 pub record CutShort (c c' : ChannelFloor) (j j' : Floor) (f g : Frame) : Type 0 where
@@ -191,63 +75,178 @@ abbrev pub StepAnswer : Program → ChannelFloor → ChannelFloor → Floor → 
 StepAnswer p c c' j j' f g (Ok done) = Stepped p c c' j j' f g
 StepAnswer p c c' j j' f g (Err m) = CutShort c c' j j' f g
 
+-- ---- one's own Job
+
+-- the row of who is that of its coroutine, and who did not end its body
+pub record HasBody (who : ℕ) (jobs : Floor) : Type 0 where
+  pub caller : jobs.callers who ≡ true
+  pub coroutine : who < jobs.shape.coroutines
+  pub not_ended : list_any (ends_body who) (acts_of who jobs.seen) ≡ false
+
+-- what was so of the Job at a moment
+abbrev pub IsSeenAs : OwnState → ℕ → Tree → Type 0
+IsSeenAs own.NotStarted k tree = IsNotStarted (tree k)
+IsSeenAs own.Cancelling k tree = state_of (tree k) ≡ Some states.Cancelling
+IsSeenAs own.MayRun k tree = IsRunning (tree k)
+
+pub record OwnStateSeen (who : ℕ) (old new : Floor) (state : OwnState) : Type 0 where
+  pub looked : Looked who [] old new
+  pub was : AtStep old new (IsSeenAs state who)
+
+-- ---- calls on channels
+
+-- where a coroutine is whose send came to this
+abbrev pub after_send : ℕ → SendAnswer → Config → Config
+after_send k send.Sent x = next x
+after_send k (send.Waits w) x = at_stage (Waiting w) x
+after_send k (send.Closed v) x = next x
+after_send k send.Spent x = at_stage (Unwinding (Some k)) x
+
+-- where a coroutine is whose receive came to this
+abbrev pub after_receive : ℕ → ReceiveAnswer → Config → Config
+after_receive k (receive.Value v) x = next (received v x)
+after_receive k (receive.Waits w) x = at_stage (Waiting w) x
+after_receive k (receive.Closed v) x = next x
+after_receive k receive.Spent x = at_stage (Unwinding (Some k)) x
+
+-- ---- one's own wait
+
+-- the wait was seen resolved, and may be settled; or it stood at a moment
+abbrev pub IsSeenSo : ℕ → WaitId → ChannelFloor → ChannelFloor → Bool → Type 0
+IsSeenSo who w old new true = IsReady who w new
+IsSeenSo who w old new false = HasStood old new w
+
+pub record SeenWait (who : ℕ) (w : WaitId) (old new : ChannelFloor) (resolved : Bool) : Type 0 where
+  pub looked : LookedAtChannels who old new
+  pub so : IsSeenSo who w old new resolved
+
+-- where a coroutine is whose wait ended so, at a send or a receive
+abbrev pub after_wait : Settled → Config → Config
+after_wait (settled.Value k v) x = next (received v x)
+after_wait (settled.Sent k) x = next x
+after_wait (settled.Closed k v) x = next x
+after_wait settled.Cancelled x = at_stage (Unwinding None) x
+after_wait (settled.Undelivered v) x = next x
+
+-- the wait was settled as it was resolved, and the coroutine goes on as that says
+pub record EndedWait (w : WaitId) (old new : ChannelFloor) (f g : Frame) : Type 0 where
+  pub outcome : Settled
+  pub ends : outcome_at false ((replay_channels old.seen).waits w) ≡ Some outcome
+  pub config : config_of g ≡ after_wait outcome (config_of f)
+  pub noted : ToldOnChannels f.tag old new (items_of f) (items_of g) (end_told w false outcome)
+
+abbrev pub EndedWaitAnswer : WaitId → ChannelFloor → ChannelFloor → Frame → Frame → Result (Unit {0}) Memory → Type 0
+EndedWaitAnswer w old new f g (Ok done) = EndedWait w old new f g
+EndedWaitAnswer w old new f g (Err m) = IsUntouched old new (items_of f) (items_of g)
+
+-- with the note that its own Job was seen Cancelling
+abbrev pub with_saw : Frame → List Item
+with_saw f = items_of f ++ item.Job (known.Saw f.tag) ∷ []
+
+-- that was noted, and then the wait was given up
+pub record GaveUp (w : WaitId) (old new : ChannelFloor) (f g : Frame) : Type 0 where
+  pub told : List Told
+  pub goes : GivesUp w told
+  pub noted : ToldOnChannels f.tag old new (with_saw f) (items_of g) told
+
+abbrev pub GaveUpAnswer : WaitId → ChannelFloor → ChannelFloor → Frame → Frame → Result (Unit {0}) Memory → Type 0
+GaveUpAnswer w old new f g (Ok done) = GaveUp w old new f g
+GaveUpAnswer w old new f g (Err m) = IsUntouched old new (with_saw f) (items_of g)
+
+-- ---- the line
+
+-- it runs, and no line is left
+pub record IsAtEnd (p : Program) (f : Frame) : Type 0 where
+  pub running : f.stage ≡ Running
+  pub none_left : f.line ≡ length (code_of p f.tag)
+
 -- ---- polls
+
+-- the coroutine is where it was, and told nothing; or it has fewer moves left
+abbrev pub Falls : Program → Frame → Frame → List Told → Type 0
+Falls p f g told = ((config_of g ≡ config_of f) × (told ≡ [])) ⊎ (moves_left p g < moves_left p f)
+
+-- a poll of f left g and answered so
+pub record PolledTo (p : Program) (c c' : ChannelFloor) (j j' : Floor) (f g : Frame) (answer : Turn) : Type 0 where
+  pub polled : Polled p c c' j j' (frame_of f) (frame_of g)
+  pub turn : TurnAnswer p c c' j j' (frame_of f) (frame_of g) polled.told answer
+  pub stands : Stands p c' j' g
+  pub falls : Falls p f g polled.told
+  pub dones : KeepsDones (base_of p) c c' j j' (items_in polled.told)
+
+abbrev pub PollAnswer : Program → ChannelFloor → ChannelFloor → Floor → Floor → Frame → Frame → Result Turn Memory → Type 0
+PollAnswer p c c' j j' f g (Ok answer) = PolledTo p c c' j j' f g answer
+PollAnswer p c c' j j' f g (Err m) = CutShort c c' j j' f g
 
 -- what a poll answers after a line that left the coroutine so: one that waits is to be polled again where its Job was Cancelling
 abbrev pub IsAnswerAt : ℕ → Stage → Floor → Floor → Turn → Type 0
-IsAnswerAt who Fresh old new answer = answer ≡ turn.Ready
-IsAnswerAt who Running old new answer = answer ≡ turn.Ready
 IsAnswerAt who (Waiting w) old new answer =
-    ((answer ≡ turn.Ready) × AtStep old new (λ tree. IsCancelling (tree who))) ⊎ ((answer ≡ turn.Waits) × AtStep old new (λ tree. IsRunning (tree who)))
-IsAnswerAt who (Unwinding failure) old new answer = answer ≡ turn.Ready
+    ((answer ≡ turn.Ready) × AtStep old new (λ tree. state_of (tree who) ≡ Some states.Cancelling))
+    ⊎ ((answer ≡ turn.Waits) × AtStep old new (λ tree. IsRunning (tree who)))
 IsAnswerAt who Ended old new answer = answer ≡ turn.Ended
+IsAnswerAt who other old new answer = answer ≡ turn.Ready
 
 pub record AnsweredAfter (f : Frame) (old new : Floor) (answer : Turn) : Type 0 where
   pub looked : Added f.tag [] [] old new
   pub so : IsAnswerAt f.tag f.stage old new answer
 
--- a poll of f left g and answered so
-pub record Turned (p : Program) (c c' : ChannelFloor) (j j' : Floor) (f g : Frame) (answer : Turn) : Type 0 where
-  pub stands : StandsOn p c' j' g
-  pub polled : Polled p c c' j j' f g
-  pub turn : TurnAnswer p c c' j j' f g answer
-
--- there was no memory, and the coroutine had not ended
-pub record TurnFailed (c c' : ChannelFloor) (j j' : Floor) (f g : Frame) : Type 0 where
-  pub cut : CutShort c c' j j' f g
-  pub going : f.stage ≢ Ended
-
-abbrev pub TurnedAnswer : Program → ChannelFloor → ChannelFloor → Floor → Floor → Frame → Frame → Result Turn Memory → Type 0
-TurnedAnswer p c c' j j' f g (Ok answer) = Turned p c c' j j' f g answer
-TurnedAnswer p c c' j j' f g (Err m) = TurnFailed c c' j j' f g
-
 -- ---- the beginning
 
--- main's frame may attach an instance of this block to the root
-pub record IsForSpawn (p : Program) (block : ℕ) (channels : ChannelFloor) (jobs : Floor) (f : Frame) : Type 0 where
+-- the frame is main's, as it is made
+pub record IsNewRoot (f : Frame) : Type 0 where
   pub tag : f.tag ≡ 0
-  pub fits : IsFor p 0 channels jobs
+  pub config : config_of f ≡ fresh 0
+  pub book : items_of f ≡ []
+
+-- the lines of the script all run, the floors are its own, and main did nothing there yet
+pub record IsOnItsFloors (p : Program) (c : ChannelFloor) (j : Floor) : Type 0 where
+  pub lines_run : all_run p ≡ true
+  pub channels : c.shape ≡ floor_shape p
+  pub jobs : j.shape ≡ job_shape p
+  pub of_channels : c.callers 0 ≡ true
+  pub of_jobs : j.callers 0 ≡ true
+  pub no_channel_acts : channel_acts_of 0 c.seen ≡ []
+  pub no_job_acts : acts_of 0 j.seen ≡ []
+  pub claims : (r : ℕ) → is_claimed_by 0 (j.claims r) ≡ is_among r (own_rows 0 [])
+
+-- the Jobs of the spawned coroutines were attached, up to one that was refused, and the frame stands; no Job ended
+pub record BegunTo (p : Program) (c c' : ChannelFloor) (j j' : Floor) (f g : Frame) : Type 0 where
+  pub begun : Begun p j j' (frame_of f) (frame_of g)
+  pub stands : Stands p c' j' g
+  pub dones : KeepsDones (base_of p) c c' j j' (items_of g)
+
+abbrev pub BeginAnswer : Program → ChannelFloor → ChannelFloor → Floor → Floor → Frame → Frame → Result (Unit {0}) Memory → Type 0
+BeginAnswer p c c' j j' f g (Ok done) = BegunTo p c c' j j' f g
+BeginAnswer p c c' j j' f g (Err m) = CutShort c c' j j' f g
+
+-- main may attach an instance of this block to the root, which ended no body
+pub record IsForSpawn (p : Program) (block : ℕ) (c : ChannelFloor) (j : Floor) (f : Frame) : Type 0 where
+  pub tag : f.tag ≡ 0
+  pub channels : c.shape ≡ floor_shape p
+  pub of_channels : c.callers 0 ≡ true
+  pub jobs : j.shape ≡ job_shape p
+  pub body : HasBody 0 j
+  pub channel_acts : channel_acts_of 0 c.seen ≡ channel_acts_in (items_of f)
+  pub job_acts : acts_of 0 j.seen ≡ job_acts_in (items_of f)
   pub room : f.free + size_of p block ≤ coroutine_count p
 
--- the Job of an instance of the block was attached to the root
-pub record HasSpawned (p : Program) (block : ℕ) (c c' : ChannelFloor) (j j' : Floor) (f g : Frame) : Type 0 where
+-- the next tag was attached
+pub record HasSpawned (p : Program) (block : ℕ) (j j' : Floor) (f g : Frame) : Type 0 where
   pub tag : g.tag ≡ f.tag
   pub config : config_of g ≡ past_launch p block None (config_of f)
   pub now : Bool
-  pub did : Did 0 (job_note (Attach 0 f.free (child_kind false) f.free now) ∷ []) (f.free ∷ []) c c' j j' (items_of f) (items_of g)
-  pub settled : StaysSettled (base_of p) c c' j j'
+  pub noted : ToldOnJobs 0 (f.free ∷ []) j j' (items_of f) (items_of g) (did (Attach 0 f.free (child_kind false) f.free now) ∷ [])
 
--- none was attached, and the body breaks off
-pub record IsRefusedSpawn (p : Program) (c c' : ChannelFloor) (j j' : Floor) (f g : Frame) : Type 0 where
+-- that was refused, and main fails
+pub record IsRefusedSpawn (j j' : Floor) (f g : Frame) : Type 0 where
   pub tag : g.tag ≡ f.tag
   pub config : config_of g ≡ at_stage (Unwinding (Some 0)) (config_of f)
-  pub note : Item
-  pub refusal : IsRefusal note
-  pub rows : List ℕ
-  pub did : Did 0 (note ∷ []) rows c c' j j' (items_of f) (items_of g)
-  pub settled : StaysSettled (base_of p) c c' j j'
+  pub told : List Told
+  pub goes : NotAttached 0 false told
+  pub noted : ToldOnJobs 0 [] j j' (items_of f) (items_of g) told
+  pub refused : RefusedByClaims (config_of g) (items_in told) j'
 
-abbrev pub SpawnAnswer : Program → ℕ → ChannelFloor → ChannelFloor → Floor → Floor → Frame → Frame → Result Bool Memory → Type 0
-SpawnAnswer p block c c' j j' f g (Ok true) = HasSpawned p block c c' j j' f g
-SpawnAnswer p block c c' j j' f g (Ok false) = IsRefusedSpawn p c c' j j' f g
-SpawnAnswer p block c c' j j' f g (Err m) = Unit {0}
+abbrev pub SpawnAnswer : Program → ℕ → ChannelFloor → Floor → Floor → Frame → Frame → Result Bool Memory → Type 0
+SpawnAnswer p block c j j' f g (Ok true) = HasSpawned p block j j' f g
+SpawnAnswer p block c j j' f g (Ok false) = IsRefusedSpawn j j' f g
+SpawnAnswer p block c j j' f g (Err m) = CutShort c c j j' f g

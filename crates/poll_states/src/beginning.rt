@@ -1,9 +1,9 @@
 //! The root attaches what the script spawns.
 
-ghost use Rattle.std.specs.Prelude.{◌≡◌, ◌<◌, length, OnOk};
+ghost use Rattle.std.specs.Prelude.{◌≡◌, ◌<◌, length};
 ghost use Rattle.script_reader.specs.Scripts.{program_of};
-ghost use Rattle.poll_states.specs.Steps.{IsForSpawn, SpawnAnswer};
-ghost use Rattle.poll_states.specs.Beginnings.{IsNewRoot, IsOnItsFloors, Begun};
+ghost use Rattle.poll_states.specs.Frames.{SameFloors};
+ghost use Rattle.poll_states.specs.Steps.{IsNewRoot, IsOnItsFloors, BeginAnswer, IsForSpawn, SpawnAnswer};
 
 use crate::floors::Floors;
 use crate::frame::Frame;
@@ -21,16 +21,14 @@ use script_reader::Script;
 pub fn begin<C: ChannelFloor, J: JobFloor, W: Wakes>(
     script: &Script,
     frame: &mut Frame,
-    floors: &mut Floors<'_, C, J, W>,
+    floors: &mut Floors<'_, '_, '_, C, J, W>,
 ) -> Result<(), Memory>
     requires new { IsNewRoot frame.old }
-    requires on { IsOnItsFloors (program_of script.now) (C.view floors.old.channels.now) (J.view floors.old.jobs.now) frame.old }
-    ensures begun { OnOk result (Begun (program_of script.now) (C.view floors.old.channels.now) (C.view floors.new.channels.now) (J.view floors.old.jobs.now) (J.view floors.new.jobs.now) frame.old frame.new) }
+    requires on { IsOnItsFloors (program_of script.now) (C.view floors.old.channels.now) (J.view floors.old.jobs.now) }
+    ensures begun { BeginAnswer (program_of script.now) (C.view floors.old.channels.now) (C.view floors.new.channels.now)
+        (J.view floors.old.jobs.now) (J.view floors.new.jobs.now) frame.old frame.new result }
     ensures channels { floors.new.channels.now ≡ floors.old.channels.now }
-    ensures anchor { J.anchor floors.new.jobs.now ≡ J.anchor floors.old.jobs.now }
-    ensures same_channels { floors.new.channels.ghost_name ≡ floors.old.channels.ghost_name }
-    ensures same_jobs { floors.new.jobs.ghost_name ≡ floors.old.jobs.ghost_name }
-    ensures same_wakes { floors.new.wakes.ghost_name ≡ floors.old.wakes.ghost_name }
+    ensures same { SameFloors C.anchor J.anchor floors.old floors.new }
 {
     for spawn in script.spawns() {
         let mut made = 0u16;
@@ -53,17 +51,15 @@ pub fn begin<C: ChannelFloor, J: JobFloor, W: Wakes>(
 fn spawn_one<C: ChannelFloor, J: JobFloor, W: Wakes>(
     script: &Script,
     frame: &mut Frame,
-    floors: &mut Floors<'_, C, J, W>,
+    floors: &mut Floors<'_, '_, '_, C, J, W>,
     block: u16,
 ) -> Result<bool, Memory>
     requires block { block < length (program_of script.now).blocks }
     requires next { IsForSpawn (program_of script.now) block (C.view floors.old.channels.now) (J.view floors.old.jobs.now) frame.old }
-    ensures spawned { SpawnAnswer (program_of script.now) block (C.view floors.old.channels.now) (C.view floors.new.channels.now) (J.view floors.old.jobs.now) (J.view floors.new.jobs.now) frame.old frame.new result }
+    ensures spawned { SpawnAnswer (program_of script.now) block (C.view floors.old.channels.now)
+        (J.view floors.old.jobs.now) (J.view floors.new.jobs.now) frame.old frame.new result }
     ensures channels { floors.new.channels.now ≡ floors.old.channels.now }
-    ensures jobs_anchor { J.anchor floors.new.jobs.now ≡ J.anchor floors.old.jobs.now }
-    ensures same_channels { floors.new.channels.ghost_name ≡ floors.old.channels.ghost_name }
-    ensures same_jobs { floors.new.jobs.ghost_name ≡ floors.old.jobs.ghost_name }
-    ensures same_wakes { floors.new.wakes.ghost_name ≡ floors.old.wakes.ghost_name }
+    ensures same { SameFloors C.anchor J.anchor floors.old floors.new }
 {
     let size = script.size_of(block);
     let free = frame.free as Tag;

@@ -3,51 +3,20 @@
 ghost use Rattle.std.specs.Prelude.{◌≡◌, ◌+◌, ◌^◌, ◌<◌, ◌++◌, ◌∷◌, [], length, vec_len, vec_capacity};
 ghost use Rattle.note_book.specs.Books.{notes_of, spare_of};
 ghost use Rattle.note_book.specs.declared.book.Item.TheVariants as item;
-ghost use Rattle.poll_states.specs.declared.frame.Stage.TheVariants.{Fresh, Unwinding};
-ghost use Rattle.poll_states.specs.Runs.{at_stage, next, named, operand, received, saw};
+ghost use Rattle.job_model.specs.declared.acts.JobNote.TheVariants as known;
+ghost use Rattle.script_meaning.specs.declared.stage.Stage.TheVariants.{Fresh, Waiting, Unwinding};
+ghost use Rattle.script_meaning.specs.Configs.{at_stage, next, set_row, named, operand, received};
 ghost use Rattle.poll_states.specs.Frames.{config_of, items_of};
-ghost use Rattle.poll_states.specs.Steps.{after_call, after_wait};
+ghost use Rattle.poll_states.specs.Steps.{after_send, after_receive, after_wait};
 
-use channel_model::{ChannelNote, Settled};
+use channel_calls::{ReceiveAnswer, SendAnswer};
+use channel_model::Settled;
 use co_base::{Row, Tag, Value, WaitId};
 use job_model::{End, JobNote};
 use note_book::{Item, NoteBook, Notes};
+use script_meaning::Stage;
 use script_reader::Operand;
 use std::alloc::Global;
-
-/// What a poll came to.
-#[derive(Clone, Copy, Debug, PartialEq, Eq)]
-pub enum Turn {
-    /// The body has ended.
-    Ended,
-    /// A wait stands, or the Job may not run yet.
-    Waits,
-    /// Something was done.
-    Ready,
-}
-
-/// How a coroutine goes on.
-#[derive(Clone, Copy, Debug, PartialEq, Eq)]
-pub enum Stage {
-    /// It has not run a line.
-    Fresh,
-    /// It goes on with its line.
-    Running,
-    /// The call of its line waits.
-    Waiting(WaitId),
-    /// Its body breaks off: by the failure of a row, or as cancelled.
-    Unwinding(Option<Row>),
-    /// Its body has ended.
-    Ended,
-}
-
-/// What a call on a channel came to: its note, the element that it received, and how the coroutine goes on, where it runs with its next line.
-#[derive(Clone, Copy, Debug, PartialEq, Eq)]
-pub(crate) struct Step {
-    pub(crate) note: ChannelNote,
-    pub(crate) received: Option<Value>,
-    pub(crate) stage: Stage,
-}
 
 /// A coroutine between two moves.
 #[derive(Debug, Drop)]
@@ -73,6 +42,8 @@ pub struct Frame {
 #[derive(Debug, Drop)]
 pub struct Done {
     pub books: Vec<Notes>,
+    /// Whether the root's Job has not ended.
+    pub idle: bool,
     pub end: Option<End>,
 }
 
@@ -121,13 +92,45 @@ impl Frame {
     }
 
     /// Receives an element.
-    fn take_in(&mut self, value: Value)
+    pub(crate) fn take_in(&mut self, value: Value)
         ensures tag { self.new.tag ≡ self.old.tag }
         ensures config { config_of self.new ≡ received value (config_of self.old) }
         ensures items { items_of self.new ≡ items_of self.old }
     {
         self.it = value;
         self.sum = self.sum.wrapping_add(value);
+    }
+
+    /// Goes on where its send came to this.
+    pub(crate) fn go_on_sent(&mut self, answer: SendAnswer)
+        requires { self.old.line < usize.MAX }
+        ensures tag { self.new.tag ≡ self.old.tag }
+        ensures config { config_of self.new ≡ after_send self.old.tag answer (config_of self.old) }
+        ensures items { items_of self.new ≡ items_of self.old }
+    {
+        match answer {
+            SendAnswer::Sent | SendAnswer::Closed(_) => self.next_line(),
+            SendAnswer::Waits(w) => self.wait_for(w),
+            SendAnswer::Spent => self.fail(),
+        }
+    }
+
+    /// Goes on where its receive came to this.
+    pub(crate) fn go_on_received(&mut self, answer: ReceiveAnswer)
+        requires { self.old.line < usize.MAX }
+        ensures tag { self.new.tag ≡ self.old.tag }
+        ensures config { config_of self.new ≡ after_receive self.old.tag answer (config_of self.old) }
+        ensures items { items_of self.new ≡ items_of self.old }
+    {
+        match answer {
+            ReceiveAnswer::Value(value) => {
+                self.take_in(value);
+                self.next_line();
+            }
+            ReceiveAnswer::Closed(_) => self.next_line(),
+            ReceiveAnswer::Waits(w) => self.wait_for(w),
+            ReceiveAnswer::Spent => self.fail(),
+        }
     }
 
     /// Goes on where its wait ended so.
@@ -147,23 +150,13 @@ impl Frame {
         }
     }
 
-    /// Notes what a call came to, and goes on as it says. Takes no memory.
-    pub(crate) fn go_on(&mut self, step: Step)
-        requires book { 0 < spare_of self.old.book }
-        requires line { self.old.line < usize.MAX }
+    /// Waits at its line.
+    pub(crate) fn wait_for(&mut self, w: WaitId)
         ensures tag { self.new.tag ≡ self.old.tag }
-        ensures config { config_of self.new ≡ after_call step (config_of self.old) }
-        ensures items { items_of self.new ≡ items_of self.old ++ item.Channel step.note ∷ [] }
+        ensures config { config_of self.new ≡ at_stage (Waiting w) (config_of self.old) }
+        ensures items { items_of self.new ≡ items_of self.old }
     {
-        self.book.note(Item::Channel(step.note));
-        if let Some(value) = step.received {
-            self.take_in(value);
-        }
-        self.stage = step.stage;
-        match step.stage {
-            Stage::Running => self.line += 1,
-            Stage::Fresh | Stage::Waiting(_) | Stage::Unwinding(_) | Stage::Ended => {}
-        }
+        self.stage = Stage::Waiting(w);
     }
 
     /// Goes on with the next line.
@@ -182,7 +175,7 @@ impl Frame {
         requires { 0 < spare_of self.old.book }
         ensures tag { self.new.tag ≡ self.old.tag }
         ensures config { config_of self.new ≡ at_stage (Unwinding None) (config_of self.old) }
-        ensures items { items_of self.new ≡ items_of self.old ++ saw self.old.tag ∷ [] }
+        ensures items { items_of self.new ≡ items_of self.old ++ item.Job (known.Saw self.old.tag) ∷ [] }
     {
         self.book.note(Item::Job(JobNote::Saw { row: self.tag }));
         self.stage = Stage::Unwinding(None);
@@ -197,17 +190,34 @@ impl Frame {
         self.stage = Stage::Unwinding(Some(self.tag));
     }
 
+    /// Gives the row of the next tag this name. Takes no memory.
+    fn name_row(&mut self, job: u16)
+        requires free { self.old.free < 2 ^ 16 }
+        requires room { vec_len self.old.rows < vec_capacity self.old.rows }
+        ensures tag { self.new.tag ≡ self.old.tag }
+        ensures config { config_of self.new ≡ record (config_of self.old) { rows = set_row job self.old.free self.old.rows.items } }
+        ensures items { items_of self.new ≡ items_of self.old }
+    {
+        let row = self.free as Row;
+        if (job as usize) < self.rows.len() {
+            self.rows[job as usize] = row;
+        } else {
+            self.rows.push_reserved(row);
+        }
+    }
+
     /// Gives the row of a launched Job its name, if it gets one, and passes over the tags of its instance. Takes no memory.
     pub(crate) fn pass_launch(&mut self, job: Option<u16>, size: u16)
         requires line { self.old.line < usize.MAX }
         requires free { self.old.free + size < 2 ^ 16 }
         requires room { vec_len self.old.rows < vec_capacity self.old.rows }
         ensures tag { self.new.tag ≡ self.old.tag }
-        ensures config { config_of self.new ≡ next (record (config_of self.old) { rows = named job self.old.free self.old.rows.items; free = self.old.free + size }) }
+        ensures config { config_of self.new
+            ≡ next (record (config_of self.old) { rows = named job self.old.free self.old.rows.items; free = self.old.free + size }) }
         ensures items { items_of self.new ≡ items_of self.old }
     {
-        if job.is_some() {
-            self.rows.push_reserved(self.free as Row);
+        if let Some(job) = job {
+            self.name_row(job);
         }
         self.free += u32::from(size);
         self.next_line();

@@ -1,22 +1,24 @@
 //! The lines of a coroutine on Jobs, and the end of its body.
 
 ghost use Rattle.std.specs.Prelude.{◌≡◌, OnOk};
-ghost use Rattle.script_reader.specs.declared.script.Instruction.TheVariants.{Yield, Launch, Start, Cancel};
+ghost use Rattle.script_grammar.specs.declared.instructions.Instruction.TheVariants.{Yield, Launch, Start, Cancel};
 ghost use Rattle.script_reader.specs.Scripts.{program_of};
-ghost use Rattle.poll_states.specs.declared.frame.Stage.TheVariants.{Unwinding, Ended};
-ghost use Rattle.poll_states.specs.Runs.{IsAt};
-ghost use Rattle.poll_states.specs.Frames.{config_of, StandsOn};
+ghost use Rattle.script_meaning.specs.declared.stage.Stage.TheVariants.{Unwinding, Ended};
+ghost use Rattle.script_meaning.specs.Configs.{IsAt};
+ghost use Rattle.script_meaning.specs.Lines.{is_lazy};
+ghost use Rattle.poll_states.specs.Frames.{config_of, Stands, SameFloors};
 ghost use Rattle.poll_states.specs.Steps.{HasBody, OwnStateSeen, IsAtEnd, StepAnswer};
 
 use crate::floors::Floors;
-use crate::frame::{Frame, Stage};
+use crate::frame::Frame;
 use crate::lines::first_done;
 use channel_model::ChannelFloor;
 use co_base::{Gate, Memory, Row, Tag, Wakes};
-use job_model::{JobFloor, JobNote, JobState};
-use note_book::{Item, NoteBook};
+use job_model::{JobFloor, JobState};
+use note_book::NoteBook;
 use scope_builders::{Builder, LaunchError};
-use script_reader::Script;
+use script_meaning::Stage;
+use script_reader::{Launching, Script};
 
 /// What a coroutine sees of its own Job before its body has ended.
 #[derive(Clone, Copy, Debug, PartialEq, Eq)]
@@ -48,17 +50,14 @@ pub(crate) fn own_state<J: JobFloor>(who: Tag, jobs: &mut J) -> OwnState
 pub(crate) fn look_up<C: ChannelFloor, J: JobFloor, W: Wakes, G: Gate>(
     script: &Script,
     frame: &mut Frame,
-    floors: &mut Floors<'_, C, J, W>,
+    floors: &mut Floors<'_, '_, '_, C, J, W>,
     gate: &G,
 ) -> Result<(), Memory>
-    requires stands { StandsOn (program_of script.now) (C.view floors.old.channels.now) (J.view floors.old.jobs.now) frame.old }
+    requires stands { Stands (program_of script.now) (C.view floors.old.channels.now) (J.view floors.old.jobs.now) frame.old }
     requires at { IsAt (program_of script.now) frame.old.tag (config_of frame.old) Yield }
-    ensures came { StepAnswer (program_of script.now) (C.view floors.old.channels.now) (C.view floors.new.channels.now) (J.view floors.old.jobs.now) (J.view floors.new.jobs.now) frame.old frame.new result }
-    ensures channels_anchor { C.anchor floors.new.channels.now ≡ C.anchor floors.old.channels.now }
-    ensures jobs_anchor { J.anchor floors.new.jobs.now ≡ J.anchor floors.old.jobs.now }
-    ensures same_channels { floors.new.channels.ghost_name ≡ floors.old.channels.ghost_name }
-    ensures same_jobs { floors.new.jobs.ghost_name ≡ floors.old.jobs.ghost_name }
-    ensures same_wakes { floors.new.wakes.ghost_name ≡ floors.old.wakes.ghost_name }
+    ensures came { StepAnswer (program_of script.now) (C.view floors.old.channels.now) (C.view floors.new.channels.now)
+        (J.view floors.old.jobs.now) (J.view floors.new.jobs.now) frame.old frame.new result }
+    ensures same { SameFloors C.anchor J.anchor floors.old floors.new }
 {
     if let Err(memory) = frame.book.room(1) {
         return Err(memory);
@@ -79,24 +78,31 @@ pub(crate) fn look_up<C: ChannelFloor, J: JobFloor, W: Wakes, G: Gate>(
     }
 }
 
+/// Whether the Job that is launched so is started by another line.
+fn is_lazy(how: Launching) -> bool
+    ensures { result ≡ is_lazy how }
+{
+    match how {
+        Launching::Plain | Launching::Async => false,
+        Launching::Lazy => true,
+    }
+}
+
 /// Attaches the Job of the next tag, which runs an instance of the block, and gives it its name. A refusal breaks the body off.
 pub(crate) fn launch<C: ChannelFloor, J: JobFloor, W: Wakes, G: Gate>(
     script: &Script,
     frame: &mut Frame,
-    floors: &mut Floors<'_, C, J, W>,
+    floors: &mut Floors<'_, '_, '_, C, J, W>,
     gate: &G,
     block: u16,
-    lazy: bool,
+    how: Launching,
     job: Option<u16>,
 ) -> Result<(), Memory>
-    requires stands { StandsOn (program_of script.now) (C.view floors.old.channels.now) (J.view floors.old.jobs.now) frame.old }
-    requires at { IsAt (program_of script.now) frame.old.tag (config_of frame.old) (Launch block lazy job) }
-    ensures came { StepAnswer (program_of script.now) (C.view floors.old.channels.now) (C.view floors.new.channels.now) (J.view floors.old.jobs.now) (J.view floors.new.jobs.now) frame.old frame.new result }
-    ensures channels_anchor { C.anchor floors.new.channels.now ≡ C.anchor floors.old.channels.now }
-    ensures jobs_anchor { J.anchor floors.new.jobs.now ≡ J.anchor floors.old.jobs.now }
-    ensures same_channels { floors.new.channels.ghost_name ≡ floors.old.channels.ghost_name }
-    ensures same_jobs { floors.new.jobs.ghost_name ≡ floors.old.jobs.ghost_name }
-    ensures same_wakes { floors.new.wakes.ghost_name ≡ floors.old.wakes.ghost_name }
+    requires stands { Stands (program_of script.now) (C.view floors.old.channels.now) (J.view floors.old.jobs.now) frame.old }
+    requires at { IsAt (program_of script.now) frame.old.tag (config_of frame.old) (Launch block how job) }
+    ensures came { StepAnswer (program_of script.now) (C.view floors.old.channels.now) (C.view floors.new.channels.now)
+        (J.view floors.old.jobs.now) (J.view floors.new.jobs.now) frame.old frame.new result }
+    ensures same { SameFloors C.anchor J.anchor floors.old floors.new }
 {
     if frame.rows.reserve(1).is_err() {
         return Err(Memory);
@@ -112,7 +118,7 @@ pub(crate) fn launch<C: ChannelFloor, J: JobFloor, W: Wakes, G: Gate>(
         base: first_done(script),
     };
     gate.pass(frame.tag, 2);
-    let answer = builder.launch(frame.tag, free, lazy);
+    let answer = builder.launch(frame.tag, free, is_lazy(how));
     gate.pass(frame.tag, 3);
     match answer {
         Ok(_) => {
@@ -134,18 +140,15 @@ pub(crate) fn launch<C: ChannelFloor, J: JobFloor, W: Wakes, G: Gate>(
 pub(crate) fn start<C: ChannelFloor, J: JobFloor, W: Wakes, G: Gate>(
     script: &Script,
     frame: &mut Frame,
-    floors: &mut Floors<'_, C, J, W>,
+    floors: &mut Floors<'_, '_, '_, C, J, W>,
     gate: &G,
     job: u16,
 ) -> Result<(), Memory>
-    requires stands { StandsOn (program_of script.now) (C.view floors.old.channels.now) (J.view floors.old.jobs.now) frame.old }
+    requires stands { Stands (program_of script.now) (C.view floors.old.channels.now) (J.view floors.old.jobs.now) frame.old }
     requires at { IsAt (program_of script.now) frame.old.tag (config_of frame.old) (Start job) }
-    ensures came { StepAnswer (program_of script.now) (C.view floors.old.channels.now) (C.view floors.new.channels.now) (J.view floors.old.jobs.now) (J.view floors.new.jobs.now) frame.old frame.new result }
-    ensures channels_anchor { C.anchor floors.new.channels.now ≡ C.anchor floors.old.channels.now }
-    ensures jobs_anchor { J.anchor floors.new.jobs.now ≡ J.anchor floors.old.jobs.now }
-    ensures same_channels { floors.new.channels.ghost_name ≡ floors.old.channels.ghost_name }
-    ensures same_jobs { floors.new.jobs.ghost_name ≡ floors.old.jobs.ghost_name }
-    ensures same_wakes { floors.new.wakes.ghost_name ≡ floors.old.wakes.ghost_name }
+    ensures came { StepAnswer (program_of script.now) (C.view floors.old.channels.now) (C.view floors.new.channels.now)
+        (J.view floors.old.jobs.now) (J.view floors.new.jobs.now) frame.old frame.new result }
+    ensures same { SameFloors C.anchor J.anchor floors.old floors.new }
 {
     let row = frame.rows[job as usize];
     let mut builder = Builder {
@@ -172,18 +175,15 @@ pub(crate) fn start<C: ChannelFloor, J: JobFloor, W: Wakes, G: Gate>(
 pub(crate) fn cancel<C: ChannelFloor, J: JobFloor, W: Wakes, G: Gate>(
     script: &Script,
     frame: &mut Frame,
-    floors: &mut Floors<'_, C, J, W>,
+    floors: &mut Floors<'_, '_, '_, C, J, W>,
     gate: &G,
     job: u16,
 ) -> Result<(), Memory>
-    requires stands { StandsOn (program_of script.now) (C.view floors.old.channels.now) (J.view floors.old.jobs.now) frame.old }
+    requires stands { Stands (program_of script.now) (C.view floors.old.channels.now) (J.view floors.old.jobs.now) frame.old }
     requires at { IsAt (program_of script.now) frame.old.tag (config_of frame.old) (Cancel job) }
-    ensures came { StepAnswer (program_of script.now) (C.view floors.old.channels.now) (C.view floors.new.channels.now) (J.view floors.old.jobs.now) (J.view floors.new.jobs.now) frame.old frame.new result }
-    ensures channels_anchor { C.anchor floors.new.channels.now ≡ C.anchor floors.old.channels.now }
-    ensures jobs_anchor { J.anchor floors.new.jobs.now ≡ J.anchor floors.old.jobs.now }
-    ensures same_channels { floors.new.channels.ghost_name ≡ floors.old.channels.ghost_name }
-    ensures same_jobs { floors.new.jobs.ghost_name ≡ floors.old.jobs.ghost_name }
-    ensures same_wakes { floors.new.wakes.ghost_name ≡ floors.old.wakes.ghost_name }
+    ensures came { StepAnswer (program_of script.now) (C.view floors.old.channels.now) (C.view floors.new.channels.now)
+        (J.view floors.old.jobs.now) (J.view floors.new.jobs.now) frame.old frame.new result }
+    ensures same { SameFloors C.anchor J.anchor floors.old floors.new }
 {
     let row = frame.rows[job as usize];
     let mut builder = Builder {
@@ -212,16 +212,13 @@ pub(crate) fn cancel<C: ChannelFloor, J: JobFloor, W: Wakes, G: Gate>(
 pub(crate) fn end_body<C: ChannelFloor, J: JobFloor, W: Wakes>(
     script: &Script,
     frame: &mut Frame,
-    floors: &mut Floors<'_, C, J, W>,
+    floors: &mut Floors<'_, '_, '_, C, J, W>,
 ) -> Result<(), Memory>
-    requires stands { StandsOn (program_of script.now) (C.view floors.old.channels.now) (J.view floors.old.jobs.now) frame.old }
+    requires stands { Stands (program_of script.now) (C.view floors.old.channels.now) (J.view floors.old.jobs.now) frame.old }
     requires left { IsAtEnd (program_of script.now) frame.old }
-    ensures came { StepAnswer (program_of script.now) (C.view floors.old.channels.now) (C.view floors.new.channels.now) (J.view floors.old.jobs.now) (J.view floors.new.jobs.now) frame.old frame.new result }
-    ensures channels_anchor { C.anchor floors.new.channels.now ≡ C.anchor floors.old.channels.now }
-    ensures jobs_anchor { J.anchor floors.new.jobs.now ≡ J.anchor floors.old.jobs.now }
-    ensures same_channels { floors.new.channels.ghost_name ≡ floors.old.channels.ghost_name }
-    ensures same_jobs { floors.new.jobs.ghost_name ≡ floors.old.jobs.ghost_name }
-    ensures same_wakes { floors.new.wakes.ghost_name ≡ floors.old.wakes.ghost_name }
+    ensures came { StepAnswer (program_of script.now) (C.view floors.old.channels.now) (C.view floors.new.channels.now)
+        (J.view floors.old.jobs.now) (J.view floors.new.jobs.now) frame.old frame.new result }
+    ensures same { SameFloors C.anchor J.anchor floors.old floors.new }
 {
     let mut builder = Builder {
         channels: &mut *floors.channels,
@@ -244,18 +241,15 @@ pub(crate) fn end_body<C: ChannelFloor, J: JobFloor, W: Wakes>(
 pub(crate) fn break_off<C: ChannelFloor, J: JobFloor, W: Wakes>(
     script: &Script,
     frame: &mut Frame,
-    floors: &mut Floors<'_, C, J, W>,
+    floors: &mut Floors<'_, '_, '_, C, J, W>,
     failure: Option<Row>,
 ) -> Result<(), Memory>
-    requires stands { StandsOn (program_of script.now) (C.view floors.old.channels.now) (J.view floors.old.jobs.now) frame.old }
+    requires stands { Stands (program_of script.now) (C.view floors.old.channels.now) (J.view floors.old.jobs.now) frame.old }
     requires unwinds { frame.old.stage ≡ Unwinding failure }
-    ensures came { StepAnswer (program_of script.now) (C.view floors.old.channels.now) (C.view floors.new.channels.now) (J.view floors.old.jobs.now) (J.view floors.new.jobs.now) frame.old frame.new result }
+    ensures came { StepAnswer (program_of script.now) (C.view floors.old.channels.now) (C.view floors.new.channels.now)
+        (J.view floors.old.jobs.now) (J.view floors.new.jobs.now) frame.old frame.new result }
     ensures ended { OnOk result (frame.new.stage ≡ Ended) }
-    ensures channels_anchor { C.anchor floors.new.channels.now ≡ C.anchor floors.old.channels.now }
-    ensures jobs_anchor { J.anchor floors.new.jobs.now ≡ J.anchor floors.old.jobs.now }
-    ensures same_channels { floors.new.channels.ghost_name ≡ floors.old.channels.ghost_name }
-    ensures same_jobs { floors.new.jobs.ghost_name ≡ floors.old.jobs.ghost_name }
-    ensures same_wakes { floors.new.wakes.ghost_name ≡ floors.old.wakes.ghost_name }
+    ensures same { SameFloors C.anchor J.anchor floors.old floors.new }
 {
     let mut builder = Builder {
         channels: &mut *floors.channels,

@@ -1,7 +1,8 @@
 //! A coroutine between two moves: how far its code is, what it waits for, and the book of its calls.
 //!
-//! A poll runs at most one line of one coroutine, over any floor of channels and any floor of Jobs. What a coroutine may note, move by
-//! move, is the script's meaning (`specs/Runs.antt`); a poll keeps to it whatever other coroutines do in between.
+//! A poll runs at most one line of one coroutine, over any floor of channels and any floor of Jobs. What a coroutine may tell, move by
+//! move, stands in `script_meaning` (`specs/Moves.antt`, and that it was so in `specs/Books.antt`); a poll keeps to it whatever other
+//! coroutines do in between.
 //!
 //! - `frame`: a coroutine between two moves, and what is left of a run.
 //! - `floors`: what polls work on.
@@ -22,7 +23,8 @@ mod polls;
 
 pub use beginning::begin;
 pub use floors::Floors;
-pub use frame::{Done, Frame, Stage, Turn};
+pub use frame::{Done, Frame};
 pub use lines::code_of;
 pub use note_book::Notes as Book;
 pub use polls::poll;
+pub use script_meaning::{Stage, Turn};

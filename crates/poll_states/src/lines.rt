@@ -2,12 +2,12 @@
 
 ghost use Rattle.std.specs.Prelude.{◌≡◌, ◌<◌};
 ghost use Rattle.script_reader.specs.Scripts.{program_of};
-ghost use Rattle.script_reader.specs.Programs.{code_of, coroutine_count};
-ghost use Rattle.script_reader.specs.declared.script.Instruction.TheVariants.{Fail, SetResult};
-ghost use Rattle.poll_states.specs.declared.frame.Stage.TheVariants.{Running};
-ghost use Rattle.poll_states.specs.Settings.{base_of};
-ghost use Rattle.poll_states.specs.Runs.{IsAt};
-ghost use Rattle.poll_states.specs.Frames.{config_of, StandsOn};
+ghost use Rattle.script_grammar.specs.Tags.{code_of, coroutine_count};
+ghost use Rattle.script_grammar.specs.declared.instructions.Instruction.TheVariants.{Fail, SetResult};
+ghost use Rattle.script_meaning.specs.declared.stage.Stage.TheVariants.{Running};
+ghost use Rattle.script_meaning.specs.Shapes.{base_of};
+ghost use Rattle.script_meaning.specs.Configs.{IsAt};
+ghost use Rattle.poll_states.specs.Frames.{config_of, Stands, SameFloors};
 ghost use Rattle.poll_states.specs.Steps.{StepAnswer};
 
 use crate::calls::{receive, send};
@@ -40,17 +40,14 @@ pub fn code_of(script: &Script, tag: Tag) -> &[Instruction]
 pub(crate) fn run<C: ChannelFloor, J: JobFloor, W: Wakes, G: Gate>(
     script: &Script,
     frame: &mut Frame,
-    floors: &mut Floors<'_, C, J, W>,
+    floors: &mut Floors<'_, '_, '_, C, J, W>,
     gate: &G,
 ) -> Result<(), Memory>
-    requires stands { StandsOn (program_of script.now) (C.view floors.old.channels.now) (J.view floors.old.jobs.now) frame.old }
+    requires stands { Stands (program_of script.now) (C.view floors.old.channels.now) (J.view floors.old.jobs.now) frame.old }
     requires running { frame.old.stage ≡ Running }
-    ensures came { StepAnswer (program_of script.now) (C.view floors.old.channels.now) (C.view floors.new.channels.now) (J.view floors.old.jobs.now) (J.view floors.new.jobs.now) frame.old frame.new result }
-    ensures channels_anchor { C.anchor floors.new.channels.now ≡ C.anchor floors.old.channels.now }
-    ensures jobs_anchor { J.anchor floors.new.jobs.now ≡ J.anchor floors.old.jobs.now }
-    ensures same_channels { floors.new.channels.ghost_name ≡ floors.old.channels.ghost_name }
-    ensures same_jobs { floors.new.jobs.ghost_name ≡ floors.old.jobs.ghost_name }
-    ensures same_wakes { floors.new.wakes.ghost_name ≡ floors.old.wakes.ghost_name }
+    ensures came { StepAnswer (program_of script.now) (C.view floors.old.channels.now) (C.view floors.new.channels.now)
+        (J.view floors.old.jobs.now) (J.view floors.new.jobs.now) frame.old frame.new result }
+    ensures same { SameFloors C.anchor J.anchor floors.old floors.new }
 {
     let code = code_of(script, frame.tag);
     if frame.line >= code.len() {
@@ -63,30 +60,28 @@ pub(crate) fn run<C: ChannelFloor, J: JobFloor, W: Wakes, G: Gate>(
 fn run_line<C: ChannelFloor, J: JobFloor, W: Wakes, G: Gate>(
     script: &Script,
     frame: &mut Frame,
-    floors: &mut Floors<'_, C, J, W>,
+    floors: &mut Floors<'_, '_, '_, C, J, W>,
     gate: &G,
     line: Instruction,
 ) -> Result<(), Memory>
-    requires stands { StandsOn (program_of script.now) (C.view floors.old.channels.now) (J.view floors.old.jobs.now) frame.old }
+    requires stands { Stands (program_of script.now) (C.view floors.old.channels.now) (J.view floors.old.jobs.now) frame.old }
     requires at { IsAt (program_of script.now) frame.old.tag (config_of frame.old) line }
-    ensures came { StepAnswer (program_of script.now) (C.view floors.old.channels.now) (C.view floors.new.channels.now) (J.view floors.old.jobs.now) (J.view floors.new.jobs.now) frame.old frame.new result }
-    ensures channels_anchor { C.anchor floors.new.channels.now ≡ C.anchor floors.old.channels.now }
-    ensures jobs_anchor { J.anchor floors.new.jobs.now ≡ J.anchor floors.old.jobs.now }
-    ensures same_channels { floors.new.channels.ghost_name ≡ floors.old.channels.ghost_name }
-    ensures same_jobs { floors.new.jobs.ghost_name ≡ floors.old.jobs.ghost_name }
-    ensures same_wakes { floors.new.wakes.ghost_name ≡ floors.old.wakes.ghost_name }
+    ensures came { StepAnswer (program_of script.now) (C.view floors.old.channels.now) (C.view floors.new.channels.now)
+        (J.view floors.old.jobs.now) (J.view floors.new.jobs.now) frame.old frame.new result }
+    ensures same { SameFloors C.anchor J.anchor floors.old floors.new }
 {
     match line {
         Instruction::Send { c, value } => send(script, frame, floors, gate, c, value),
         Instruction::Receive { c } => receive(script, frame, floors, gate, c),
         Instruction::Yield => look_up(script, frame, floors, gate),
-        Instruction::Launch { block, lazy, job } => {
-            launch(script, frame, floors, gate, block, lazy, job)
+        Instruction::Launch { block, how, job } => {
+            launch(script, frame, floors, gate, block, how, job)
         }
         Instruction::Start { job } => start(script, frame, floors, gate, job),
         Instruction::Cancel { job } => cancel(script, frame, floors, gate, job),
         Instruction::Fail { code } => fail(script, frame, floors, code),
         Instruction::SetResult { value } => set_result(script, frame, floors, value),
+        _ => unreachable!(),
     }
 }
 
@@ -94,17 +89,14 @@ fn run_line<C: ChannelFloor, J: JobFloor, W: Wakes, G: Gate>(
 fn fail<C: ChannelFloor, J: JobFloor, W: Wakes>(
     script: &Script,
     frame: &mut Frame,
-    floors: &mut Floors<'_, C, J, W>,
+    floors: &mut Floors<'_, '_, '_, C, J, W>,
     code: Value,
 ) -> Result<(), Memory>
-    requires stands { StandsOn (program_of script.now) (C.view floors.old.channels.now) (J.view floors.old.jobs.now) frame.old }
+    requires stands { Stands (program_of script.now) (C.view floors.old.channels.now) (J.view floors.old.jobs.now) frame.old }
     requires at { IsAt (program_of script.now) frame.old.tag (config_of frame.old) (Fail code) }
-    ensures came { StepAnswer (program_of script.now) (C.view floors.old.channels.now) (C.view floors.new.channels.now) (J.view floors.old.jobs.now) (J.view floors.new.jobs.now) frame.old frame.new result }
-    ensures channels_anchor { C.anchor floors.new.channels.now ≡ C.anchor floors.old.channels.now }
-    ensures jobs_anchor { J.anchor floors.new.jobs.now ≡ J.anchor floors.old.jobs.now }
-    ensures same_channels { floors.new.channels.ghost_name ≡ floors.old.channels.ghost_name }
-    ensures same_jobs { floors.new.jobs.ghost_name ≡ floors.old.jobs.ghost_name }
-    ensures same_wakes { floors.new.wakes.ghost_name ≡ floors.old.wakes.ghost_name }
+    ensures came { StepAnswer (program_of script.now) (C.view floors.old.channels.now) (C.view floors.new.channels.now)
+        (J.view floors.old.jobs.now) (J.view floors.new.jobs.now) frame.old frame.new result }
+    ensures same { SameFloors C.anchor J.anchor floors.old floors.new }
 {
     if let Err(memory) = frame.book.room(1) {
         return Err(memory);
@@ -118,17 +110,14 @@ fn fail<C: ChannelFloor, J: JobFloor, W: Wakes>(
 fn set_result<C: ChannelFloor, J: JobFloor, W: Wakes>(
     script: &Script,
     frame: &mut Frame,
-    floors: &mut Floors<'_, C, J, W>,
+    floors: &mut Floors<'_, '_, '_, C, J, W>,
     value: Operand,
 ) -> Result<(), Memory>
-    requires stands { StandsOn (program_of script.now) (C.view floors.old.channels.now) (J.view floors.old.jobs.now) frame.old }
+    requires stands { Stands (program_of script.now) (C.view floors.old.channels.now) (J.view floors.old.jobs.now) frame.old }
     requires at { IsAt (program_of script.now) frame.old.tag (config_of frame.old) (SetResult value) }
-    ensures came { StepAnswer (program_of script.now) (C.view floors.old.channels.now) (C.view floors.new.channels.now) (J.view floors.old.jobs.now) (J.view floors.new.jobs.now) frame.old frame.new result }
-    ensures channels_anchor { C.anchor floors.new.channels.now ≡ C.anchor floors.old.channels.now }
-    ensures jobs_anchor { J.anchor floors.new.jobs.now ≡ J.anchor floors.old.jobs.now }
-    ensures same_channels { floors.new.channels.ghost_name ≡ floors.old.channels.ghost_name }
-    ensures same_jobs { floors.new.jobs.ghost_name ≡ floors.old.jobs.ghost_name }
-    ensures same_wakes { floors.new.wakes.ghost_name ≡ floors.old.wakes.ghost_name }
+    ensures came { StepAnswer (program_of script.now) (C.view floors.old.channels.now) (C.view floors.new.channels.now)
+        (J.view floors.old.jobs.now) (J.view floors.new.jobs.now) frame.old frame.new result }
+    ensures same { SameFloors C.anchor J.anchor floors.old floors.new }
 {
     frame.result = frame.value_of(value);
     frame.next_line();

@@ -1,21 +1,21 @@
 //! One line of one coroutine.
 
-ghost use Rattle.std.specs.Prelude.{◌≡◌, IfOk, OnOk};
+ghost use Rattle.std.specs.Prelude.{◌≡◌, OnOk};
 ghost use Rattle.script_reader.specs.Scripts.{program_of};
-ghost use Rattle.poll_states.specs.Frames.{items_of, moves_left, StandsOn};
-ghost use Rattle.poll_states.specs.declared.frame.Stage.TheVariants.{Fresh, Running, Waiting, Unwinding};
-ghost use Rattle.poll_states.specs.Steps.{AnsweredAfter, TurnedAnswer};
-ghost use Rattle.poll_states.specs.Polls.{NotedSome, Polled, TurnAnswer};
+ghost use Rattle.script_meaning.specs.declared.stage.Stage.TheVariants.{Fresh, Running, Waiting, Unwinding};
+ghost use Rattle.poll_states.specs.Frames.{Stands, SameFloors, moves_left};
+ghost use Rattle.poll_states.specs.Steps.{AnsweredAfter, PollAnswer};
 
 use crate::calls::{end_wait, give_up, was_resolved};
 use crate::floors::Floors;
-use crate::frame::{Frame, Stage, Turn};
+use crate::frame::Frame;
 use crate::jobs::{OwnState, break_off, own_state};
 use crate::lines::run;
 use channel_model::ChannelFloor;
 use co_base::{Gate, Memory, Row, WaitId, Wakes};
 use job_model::JobFloor;
 use note_book::NoteBook;
+use script_meaning::{Stage, Turn};
 use script_reader::Script;
 
 /// Runs at most one line of a coroutine: ends its wait where that was resolved or the coroutine's Job is Cancelling, runs its line, or ends its
@@ -27,20 +27,16 @@ use script_reader::Script;
 pub fn poll<C: ChannelFloor, J: JobFloor, W: Wakes, G: Gate>(
     script: &Script,
     frame: &mut Frame,
-    floors: &mut Floors<'_, C, J, W>,
+    floors: &mut Floors<'_, '_, '_, C, J, W>,
     gate: &G,
 ) -> Result<Turn, Memory>
-    requires { StandsOn (program_of script.now) (C.view floors.old.channels.now) (J.view floors.old.jobs.now) frame.old }
-    ensures noted { NotedSome frame.old.tag (C.view floors.old.channels.now) (C.view floors.new.channels.now) (J.view floors.old.jobs.now) (J.view floors.new.jobs.now) (items_of frame.old) (items_of frame.new) }
-    ensures stands { OnOk result (StandsOn (program_of script.now) (C.view floors.new.channels.now) (J.view floors.new.jobs.now) frame.new) }
-    ensures polled { OnOk result (Polled (program_of script.now) (C.view floors.old.channels.now) (C.view floors.new.channels.now) (J.view floors.old.jobs.now) (J.view floors.new.jobs.now) frame.old frame.new) }
-    ensures turn { IfOk result (λ turn. TurnAnswer (program_of script.now) (C.view floors.old.channels.now) (C.view floors.new.channels.now) (J.view floors.old.jobs.now) (J.view floors.new.jobs.now) frame.old frame.new turn) }
-    ensures quiet { OnOk result (moves_left (program_of script.now) frame.new ≡ moves_left (program_of script.now) frame.old → floors.new.wakes.now ≡ floors.old.wakes.now) }
-    ensures channels_anchor { C.anchor floors.new.channels.now ≡ C.anchor floors.old.channels.now }
-    ensures jobs_anchor { J.anchor floors.new.jobs.now ≡ J.anchor floors.old.jobs.now }
-    ensures same_channels { floors.new.channels.ghost_name ≡ floors.old.channels.ghost_name }
-    ensures same_jobs { floors.new.jobs.ghost_name ≡ floors.old.jobs.ghost_name }
-    ensures same_wakes { floors.new.wakes.ghost_name ≡ floors.old.wakes.ghost_name }
+    requires { Stands (program_of script.now) (C.view floors.old.channels.now) (J.view floors.old.jobs.now) frame.old }
+    ensures polled { PollAnswer (program_of script.now) (C.view floors.old.channels.now) (C.view floors.new.channels.now)
+        (J.view floors.old.jobs.now) (J.view floors.new.jobs.now) frame.old frame.new result }
+    ensures quiet { OnOk result
+        (moves_left (program_of script.now) frame.new ≡ moves_left (program_of script.now) frame.old
+        → floors.new.wakes.now ≡ floors.old.wakes.now) }
+    ensures same { SameFloors C.anchor J.anchor floors.old floors.new }
 {
     gate.pass(frame.tag, 1);
     match turn_of(script, frame, floors, gate) {
@@ -56,17 +52,16 @@ pub fn poll<C: ChannelFloor, J: JobFloor, W: Wakes, G: Gate>(
 fn turn_of<C: ChannelFloor, J: JobFloor, W: Wakes, G: Gate>(
     script: &Script,
     frame: &mut Frame,
-    floors: &mut Floors<'_, C, J, W>,
+    floors: &mut Floors<'_, '_, '_, C, J, W>,
     gate: &G,
 ) -> Result<Turn, Memory>
-    requires { StandsOn (program_of script.now) (C.view floors.old.channels.now) (J.view floors.old.jobs.now) frame.old }
-    ensures turned { TurnedAnswer (program_of script.now) (C.view floors.old.channels.now) (C.view floors.new.channels.now) (J.view floors.old.jobs.now) (J.view floors.new.jobs.now) frame.old frame.new result }
-    ensures quiet { OnOk result (moves_left (program_of script.now) frame.new ≡ moves_left (program_of script.now) frame.old → floors.new.wakes.now ≡ floors.old.wakes.now) }
-    ensures channels_anchor { C.anchor floors.new.channels.now ≡ C.anchor floors.old.channels.now }
-    ensures jobs_anchor { J.anchor floors.new.jobs.now ≡ J.anchor floors.old.jobs.now }
-    ensures same_channels { floors.new.channels.ghost_name ≡ floors.old.channels.ghost_name }
-    ensures same_jobs { floors.new.jobs.ghost_name ≡ floors.old.jobs.ghost_name }
-    ensures same_wakes { floors.new.wakes.ghost_name ≡ floors.old.wakes.ghost_name }
+    requires { Stands (program_of script.now) (C.view floors.old.channels.now) (J.view floors.old.jobs.now) frame.old }
+    ensures polled { PollAnswer (program_of script.now) (C.view floors.old.channels.now) (C.view floors.new.channels.now)
+        (J.view floors.old.jobs.now) (J.view floors.new.jobs.now) frame.old frame.new result }
+    ensures quiet { OnOk result
+        (moves_left (program_of script.now) frame.new ≡ moves_left (program_of script.now) frame.old
+        → floors.new.wakes.now ≡ floors.old.wakes.now) }
+    ensures same { SameFloors C.anchor J.anchor floors.old floors.new }
 {
     match frame.stage {
         Stage::Fresh => first_turn(script, frame, floors, gate),
@@ -74,6 +69,7 @@ fn turn_of<C: ChannelFloor, J: JobFloor, W: Wakes, G: Gate>(
         Stage::Waiting(w) => wait_turn(script, frame, floors, gate, w),
         Stage::Unwinding(failure) => last_turn(script, frame, floors, failure),
         Stage::Ended => Ok(Turn::Ended),
+        Stage::SeesJob | Stage::Leaving(_) | Stage::SeesScope => unreachable!(),
     }
 }
 
@@ -81,18 +77,17 @@ fn turn_of<C: ChannelFloor, J: JobFloor, W: Wakes, G: Gate>(
 fn first_turn<C: ChannelFloor, J: JobFloor, W: Wakes, G: Gate>(
     script: &Script,
     frame: &mut Frame,
-    floors: &mut Floors<'_, C, J, W>,
+    floors: &mut Floors<'_, '_, '_, C, J, W>,
     gate: &G,
 ) -> Result<Turn, Memory>
-    requires stands { StandsOn (program_of script.now) (C.view floors.old.channels.now) (J.view floors.old.jobs.now) frame.old }
+    requires stands { Stands (program_of script.now) (C.view floors.old.channels.now) (J.view floors.old.jobs.now) frame.old }
     requires fresh { frame.old.stage ≡ Fresh }
-    ensures turned { TurnedAnswer (program_of script.now) (C.view floors.old.channels.now) (C.view floors.new.channels.now) (J.view floors.old.jobs.now) (J.view floors.new.jobs.now) frame.old frame.new result }
-    ensures quiet { OnOk result (moves_left (program_of script.now) frame.new ≡ moves_left (program_of script.now) frame.old → floors.new.wakes.now ≡ floors.old.wakes.now) }
-    ensures channels_anchor { C.anchor floors.new.channels.now ≡ C.anchor floors.old.channels.now }
-    ensures jobs_anchor { J.anchor floors.new.jobs.now ≡ J.anchor floors.old.jobs.now }
-    ensures same_channels { floors.new.channels.ghost_name ≡ floors.old.channels.ghost_name }
-    ensures same_jobs { floors.new.jobs.ghost_name ≡ floors.old.jobs.ghost_name }
-    ensures same_wakes { floors.new.wakes.ghost_name ≡ floors.old.wakes.ghost_name }
+    ensures polled { PollAnswer (program_of script.now) (C.view floors.old.channels.now) (C.view floors.new.channels.now)
+        (J.view floors.old.jobs.now) (J.view floors.new.jobs.now) frame.old frame.new result }
+    ensures quiet { OnOk result
+        (moves_left (program_of script.now) frame.new ≡ moves_left (program_of script.now) frame.old
+        → floors.new.wakes.now ≡ floors.old.wakes.now) }
+    ensures same { SameFloors C.anchor J.anchor floors.old floors.new }
 {
     if let Err(memory) = frame.book.room(1) {
         return Err(memory);
@@ -117,18 +112,17 @@ fn first_turn<C: ChannelFloor, J: JobFloor, W: Wakes, G: Gate>(
 fn line_turn<C: ChannelFloor, J: JobFloor, W: Wakes, G: Gate>(
     script: &Script,
     frame: &mut Frame,
-    floors: &mut Floors<'_, C, J, W>,
+    floors: &mut Floors<'_, '_, '_, C, J, W>,
     gate: &G,
 ) -> Result<Turn, Memory>
-    requires stands { StandsOn (program_of script.now) (C.view floors.old.channels.now) (J.view floors.old.jobs.now) frame.old }
+    requires stands { Stands (program_of script.now) (C.view floors.old.channels.now) (J.view floors.old.jobs.now) frame.old }
     requires running { frame.old.stage ≡ Running }
-    ensures turned { TurnedAnswer (program_of script.now) (C.view floors.old.channels.now) (C.view floors.new.channels.now) (J.view floors.old.jobs.now) (J.view floors.new.jobs.now) frame.old frame.new result }
-    ensures quiet { OnOk result (moves_left (program_of script.now) frame.new ≡ moves_left (program_of script.now) frame.old → floors.new.wakes.now ≡ floors.old.wakes.now) }
-    ensures channels_anchor { C.anchor floors.new.channels.now ≡ C.anchor floors.old.channels.now }
-    ensures jobs_anchor { J.anchor floors.new.jobs.now ≡ J.anchor floors.old.jobs.now }
-    ensures same_channels { floors.new.channels.ghost_name ≡ floors.old.channels.ghost_name }
-    ensures same_jobs { floors.new.jobs.ghost_name ≡ floors.old.jobs.ghost_name }
-    ensures same_wakes { floors.new.wakes.ghost_name ≡ floors.old.wakes.ghost_name }
+    ensures polled { PollAnswer (program_of script.now) (C.view floors.old.channels.now) (C.view floors.new.channels.now)
+        (J.view floors.old.jobs.now) (J.view floors.new.jobs.now) frame.old frame.new result }
+    ensures quiet { OnOk result
+        (moves_left (program_of script.now) frame.new ≡ moves_left (program_of script.now) frame.old
+        → floors.new.wakes.now ≡ floors.old.wakes.now) }
+    ensures same { SameFloors C.anchor J.anchor floors.old floors.new }
 {
     match run(script, frame, floors, gate) {
         Ok(()) => Ok(answer(script, frame, floors)),
@@ -140,16 +134,13 @@ fn line_turn<C: ChannelFloor, J: JobFloor, W: Wakes, G: Gate>(
 fn answer<C: ChannelFloor, J: JobFloor, W: Wakes>(
     script: &Script,
     frame: &Frame,
-    floors: &mut Floors<'_, C, J, W>,
+    floors: &mut Floors<'_, '_, '_, C, J, W>,
 ) -> Turn
-    requires { StandsOn (program_of script.now) (C.view floors.old.channels.now) (J.view floors.old.jobs.now) frame.now }
+    requires { Stands (program_of script.now) (C.view floors.old.channels.now) (J.view floors.old.jobs.now) frame.now }
     ensures answered { AnsweredAfter frame.now (J.view floors.old.jobs.now) (J.view floors.new.jobs.now) result }
     ensures channels { floors.new.channels.now ≡ floors.old.channels.now }
     ensures wakes { floors.new.wakes.now ≡ floors.old.wakes.now }
-    ensures jobs_anchor { J.anchor floors.new.jobs.now ≡ J.anchor floors.old.jobs.now }
-    ensures same_channels { floors.new.channels.ghost_name ≡ floors.old.channels.ghost_name }
-    ensures same_jobs { floors.new.jobs.ghost_name ≡ floors.old.jobs.ghost_name }
-    ensures same_wakes { floors.new.wakes.ghost_name ≡ floors.old.wakes.ghost_name }
+    ensures same { SameFloors C.anchor J.anchor floors.old floors.new }
 {
     match frame.stage {
         Stage::Fresh | Stage::Running | Stage::Unwinding(_) => Turn::Ready,
@@ -159,6 +150,7 @@ fn answer<C: ChannelFloor, J: JobFloor, W: Wakes>(
             OwnState::MayRun => Turn::Waits,
         },
         Stage::Ended => Turn::Ended,
+        Stage::SeesJob | Stage::Leaving(_) | Stage::SeesScope => unreachable!(),
     }
 }
 
@@ -166,19 +158,18 @@ fn answer<C: ChannelFloor, J: JobFloor, W: Wakes>(
 fn wait_turn<C: ChannelFloor, J: JobFloor, W: Wakes, G: Gate>(
     script: &Script,
     frame: &mut Frame,
-    floors: &mut Floors<'_, C, J, W>,
+    floors: &mut Floors<'_, '_, '_, C, J, W>,
     gate: &G,
     w: WaitId,
 ) -> Result<Turn, Memory>
-    requires stands { StandsOn (program_of script.now) (C.view floors.old.channels.now) (J.view floors.old.jobs.now) frame.old }
+    requires stands { Stands (program_of script.now) (C.view floors.old.channels.now) (J.view floors.old.jobs.now) frame.old }
     requires waits { frame.old.stage ≡ Waiting w }
-    ensures turned { TurnedAnswer (program_of script.now) (C.view floors.old.channels.now) (C.view floors.new.channels.now) (J.view floors.old.jobs.now) (J.view floors.new.jobs.now) frame.old frame.new result }
-    ensures quiet { OnOk result (moves_left (program_of script.now) frame.new ≡ moves_left (program_of script.now) frame.old → floors.new.wakes.now ≡ floors.old.wakes.now) }
-    ensures channels_anchor { C.anchor floors.new.channels.now ≡ C.anchor floors.old.channels.now }
-    ensures jobs_anchor { J.anchor floors.new.jobs.now ≡ J.anchor floors.old.jobs.now }
-    ensures same_channels { floors.new.channels.ghost_name ≡ floors.old.channels.ghost_name }
-    ensures same_jobs { floors.new.jobs.ghost_name ≡ floors.old.jobs.ghost_name }
-    ensures same_wakes { floors.new.wakes.ghost_name ≡ floors.old.wakes.ghost_name }
+    ensures polled { PollAnswer (program_of script.now) (C.view floors.old.channels.now) (C.view floors.new.channels.now)
+        (J.view floors.old.jobs.now) (J.view floors.new.jobs.now) frame.old frame.new result }
+    ensures quiet { OnOk result
+        (moves_left (program_of script.now) frame.new ≡ moves_left (program_of script.now) frame.old
+        → floors.new.wakes.now ≡ floors.old.wakes.now) }
+    ensures same { SameFloors C.anchor J.anchor floors.old floors.new }
 {
     if let Err(memory) = frame.book.room(1) {
         return Err(memory);
@@ -207,18 +198,17 @@ fn wait_turn<C: ChannelFloor, J: JobFloor, W: Wakes, G: Gate>(
 fn last_turn<C: ChannelFloor, J: JobFloor, W: Wakes>(
     script: &Script,
     frame: &mut Frame,
-    floors: &mut Floors<'_, C, J, W>,
+    floors: &mut Floors<'_, '_, '_, C, J, W>,
     failure: Option<Row>,
 ) -> Result<Turn, Memory>
-    requires stands { StandsOn (program_of script.now) (C.view floors.old.channels.now) (J.view floors.old.jobs.now) frame.old }
+    requires stands { Stands (program_of script.now) (C.view floors.old.channels.now) (J.view floors.old.jobs.now) frame.old }
     requires unwinds { frame.old.stage ≡ Unwinding failure }
-    ensures turned { TurnedAnswer (program_of script.now) (C.view floors.old.channels.now) (C.view floors.new.channels.now) (J.view floors.old.jobs.now) (J.view floors.new.jobs.now) frame.old frame.new result }
-    ensures quiet { OnOk result (moves_left (program_of script.now) frame.new ≡ moves_left (program_of script.now) frame.old → floors.new.wakes.now ≡ floors.old.wakes.now) }
-    ensures channels_anchor { C.anchor floors.new.channels.now ≡ C.anchor floors.old.channels.now }
-    ensures jobs_anchor { J.anchor floors.new.jobs.now ≡ J.anchor floors.old.jobs.now }
-    ensures same_channels { floors.new.channels.ghost_name ≡ floors.old.channels.ghost_name }
-    ensures same_jobs { floors.new.jobs.ghost_name ≡ floors.old.jobs.ghost_name }
-    ensures same_wakes { floors.new.wakes.ghost_name ≡ floors.old.wakes.ghost_name }
+    ensures polled { PollAnswer (program_of script.now) (C.view floors.old.channels.now) (C.view floors.new.channels.now)
+        (J.view floors.old.jobs.now) (J.view floors.new.jobs.now) frame.old frame.new result }
+    ensures quiet { OnOk result
+        (moves_left (program_of script.now) frame.new ≡ moves_left (program_of script.now) frame.old
+        → floors.new.wakes.now ≡ floors.old.wakes.now) }
+    ensures same { SameFloors C.anchor J.anchor floors.old floors.new }
 {
     match break_off(script, frame, floors, failure) {
         Ok(()) => Ok(Turn::Ended),

@@ -9,7 +9,8 @@ use Rattle.channel_model.specs.declared.acts.Fate.TheVariants as fate
 use Rattle.channel_model.specs.Fates.{element_at, fate_at}
 use Rattle.note_book.specs.declared.book.Item.{Item}
 use Rattle.note_book.specs.Items.{channel_acts_in}
-use Rattle.script_reader.specs.Programs.{Declared, Program, coroutine_count}
+use Rattle.script_grammar.specs.Programs.{Declared, Program}
+use Rattle.script_grammar.specs.Tags.{coroutine_count}
 use Rattle.run_report.specs.Texts.{books_text}
 use Rattle.run_report.specs.Jobs.{job_acts_noted, jobs_text}
 

@@ -2,9 +2,9 @@
 use Rattle.std.specs.Prelude.{ℕ, List, ◌++◌}
 use Rattle.std.specs.Fmt.{decimal}
 use lib.Chars.{codes}
-use Rattle.script_reader.specs.declared.fault.FaultKind.{FaultKind}
-use Rattle.script_reader.specs.declared.fault.FaultKind.TheVariants.{NotAscii, UnknownWord, BadNumber, BadName, Duplicate, Undeclared, NoMain, NoEnd, Extra, TooDeep, TooMany, Recursive, Memory}
-use Rattle.script_reader.specs.declared.fault.ScriptFault.{ScriptFault}
+use Rattle.script_grammar.specs.declared.fault.FaultKind.{FaultKind}
+use Rattle.script_grammar.specs.declared.fault.FaultKind.TheVariants.{NotAscii, UnknownWord, BadNumber, BadName, Duplicate, Undeclared, NoMain, NoEnd, Extra, TooDeep, TooMany, Recursive, Memory}
+use Rattle.script_grammar.specs.declared.fault.ScriptFault.{ScriptFault}
 
 abbrev pub kind_text : FaultKind → List ℕ
 kind_text NotAscii = codes "NotAscii"

@@ -13,7 +13,7 @@ use Rattle.channel_model.specs.declared.acts.Why.{Why}
 use Rattle.channel_model.specs.declared.acts.Why.TheVariants as why
 use Rattle.note_book.specs.declared.book.Item.{Item}
 use Rattle.note_book.specs.declared.book.Item.TheVariants as item
-use Rattle.script_reader.specs.Programs.{Declared}
+use Rattle.script_grammar.specs.Programs.{Declared}
 use Rattle.run_report.specs.JobTexts.{job_note_text}
 
 -- ---- the parts of a line

@@ -1,11 +1,11 @@
 //! The line that a text which is no script is answered with.
 
 ghost use Rattle.std.specs.Prelude.{◌≡◌, ◌≢◌, IfOk, Some, ℕ, List};
-ghost use Rattle.script_reader.specs.declared.fault.FaultKind.TheVariants.{Memory as NoMemory};
+ghost use Rattle.script_grammar.specs.declared.fault.FaultKind.TheVariants.{Memory as NoMemory};
 ghost use Rattle.run_report.specs.Faults.{fault_text, kind_text};
 
 use co_base::Memory;
-use script_reader::{FaultKind, ScriptFault};
+use script_grammar::{FaultKind, ScriptFault};
 use std::alloc::Global;
 use std::fmt;
 

@@ -1,6 +1,9 @@
 use Rattle.script_reader.specs.Scripts.{program_of}
-use Rattle.engine_one.proofs.ChannelKinds.{all_may_be_made}
+use Rattle.engine_one.proofs.ChannelKinds.{all_may_be_made, few_channels}
 use Rattle.engine_one.proofs.start.channels_of.Goals as goal
+
+pub new-requires-clause-channels : goal.new-requires-clause-channels
+new-requires-clause-channels c = rw (c.deref.ensures.value, c.in_ok-kinds.ensures) (few_channels (program_of c.args.script.now) c.args.script.now.well_formed)
 
 pub new-requires-clause-kinds : goal.new-requires-clause-kinds
 new-requires-clause-kinds c = rw (c.deref.ensures.value, c.in_ok-kinds.ensures) (all_may_be_made (program_of c.args.script.now) c.args.script.now.well_formed)

@@ -1,7 +1,7 @@
 use Rattle.std.proofs.Common.{ap, ◌∙◌, map, sym}
 use Rattle.std.proofs.lemmas.List.{take_all, append-nil}
 use Rattle.script_reader.specs.Scripts.{program_of}
-use Rattle.script_reader.specs.Programs.{shape_of}
+use Rattle.script_grammar.specs.Programs.{shape_of}
 use Rattle.engine_one.proofs.Beginnings.{declared_kinds}
 use Rattle.engine_one.proofs.start.kinds_of.Goals as goal
 

@@ -1,7 +1,7 @@
 use Rattle.std.proofs.Common.{◌≡◌, ◌++◌, map, take, replicate}
 use Rattle.channel_model.specs.declared.acts.Kind.TheVariants.{Signal}
 use Rattle.script_reader.specs.Scripts.{program_of}
-use Rattle.script_reader.specs.Programs.{shape_of}
+use Rattle.script_grammar.specs.Programs.{shape_of}
 use Rattle.engine_one.proofs.start.kinds_of.Given as goal
 
 abbrev pub invariant-loop-channel : goal.invariant-loop-channel

@@ -1,4 +1,4 @@
-use Rattle.poll_states.proofs.Waits.{settle_ready, never_settled}
+use Rattle.poll_states.proofs.EndedWaits.{own_wait, settle_ready, never_settled}
 use Rattle.poll_states.proofs.calls.was_resolved.Goals as goal
 
 pub unreachable-requires : goal.unreachable-requires

@@ -2,15 +2,16 @@ use Rattle.std.proofs.Common.{refl, ap, ◌∙◌, arith}
 use Rattle.script_reader.specs.Scripts.{program_of}
 use Rattle.poll_states.specs.Frames.{config_of}
 use Rattle.poll_states.proofs.Reached.{is_fresh}
-use Rattle.poll_states.proofs.Moves.{line_short}
-use Rattle.poll_states.proofs.Stepping.{may_build_at, cut_nothing, launched_block, free_row, free_short, own_attached, did_same, launch_config, rows_config, has_launched, refused_of, refused_stepped}
+use Rattle.poll_states.proofs.Standing.{line_short, stands_attached}
+use Rattle.poll_states.proofs.LineNeeds.{stands_build, launched_block, free_short, free_row, jobs_same, launch_config, rows_config}
+use Rattle.poll_states.proofs.Stepping.{has_launched, launch_refused, cut_nothing, cut_jobs}
 use Rattle.poll_states.proofs.jobs.launch.Goals as goal
 
 pub launch-answer-requires-clause-may : goal.launch-answer-requires-clause-may
-launch-answer-requires-clause-may g c = may_build_at _ _ _ _ _ c.args.script.now.well_formed c.requires.stands.fits c.first_done.ensures
+launch-answer-requires-clause-may g c = stands_build _ _ _ _ _ c.args.script.now.well_formed c.requires.stands c.first_done.ensures
 
 pub returns-then-is_err-clause-came : goal.returns-then-is_err-clause-came
-returns-then-is_err-clause-came g c = cut_nothing _ _ _ _ refl refl
+returns-then-is_err-clause-came g c = cut_nothing _ _ _ _ _ _ refl refl refl refl
 
 pub size_of-size-requires : goal.size_of-size-requires
 size_of-size-requires g c = launched_block (program_of c.args.script.now) _ _ _ _ _ c.args.script.now.well_formed c.requires.at.line_is
@@ -19,7 +20,7 @@ pub overflow_cast-free : goal.overflow_cast-free
 overflow_cast-free g c = let h = free_short _ _ _ _ _ _ _ c.args.script.now.well_formed c.requires.stands c.requires.at in omega (arith, h)
 
 pub launch-answer-requires-clause-parent : goal.launch-answer-requires-clause-parent
-launch-answer-requires-clause-parent g c = own_attached _ _ _ _ (g.met.J.JobFloor.legal c.args.floors.now.jobs.now) c.requires.stands (ap is_fresh c.requires.at.stage)
+launch-answer-requires-clause-parent g c = stands_attached _ _ _ _ (g.met.J.JobFloor.legal c.args.floors.now.jobs.now) c.requires.stands (ap is_fresh c.requires.at.stage)
 
 pub launch-answer-requires-clause-tag : goal.launch-answer-requires-clause-tag
 launch-answer-requires-clause-tag g c = free_row _ _ _ _ _ _ _ c.args.script.now.well_formed c.requires.stands c.requires.at
@@ -32,10 +33,13 @@ pass_launch-requires-clause-free g c = let h = free_short _ _ _ _ _ _ _ c.args.s
 
 pub returns-in-Ok-clause-came : goal.returns-in-Ok-clause-came
 returns-in-Ok-clause-came g c =
-    has_launched _ _ _ _ _ _ _ _ _ _ _ c.requires.stands c.requires.at (did_same _ _ _ _ _ _ _ _ _ _ c.in-Ok.ensures.answer.1 c.pass_launch.ensures.items) (rw c.first_done.ensures at c.in-Ok.ensures.settled) c.pass_launch.ensures.tag
-    (c.pass_launch.ensures.config ∙ launch_config (program_of c.args.script.now) _ _ (config_of c.args.frame.now) _ _ c.reserve.ensures.items c.size_of-size.ensures)
+    has_launched (program_of c.args.script.now) _ _ _ _ _ _ _ _ _ _ _ _ (ap g.C.ChannelFloor.view c.in-Ok.ensures.channels) (g.met.J.JobFloor.legal c.launch-answer.new.self.jobs.now) c.requires.at c.is_lazy.ensures c.size_of-size.ensures (jobs_same _ _ _ _ _ _ _ _ c.in-Ok.ensures.answer.1 c.pass_launch.ensures.items) c.pass_launch.ensures.tag
+    (c.pass_launch.ensures.config ∙ launch_config (config_of c.args.frame.now) _ _ _ c.reserve.ensures.items)
 
 pub returns-in-Used-clause-came : goal.returns-in-Used-clause-came
 returns-in-Used-clause-came g c =
-    refused_stepped _ _ _ _ _ _ _ _ _ _ _ c.requires.stands c.requires.at (refused_of _ _ _ c.args.lazy _ _ _ _ _ _ c.in-Err.error c.in-Used.is c.in-Err.ensures.answer) c.fail.ensures.items (rw c.first_done.ensures at c.in-Err.ensures.settled) c.fail.ensures.tag
-    (c.fail.ensures.config ∙ rows_config (config_of c.args.frame.now) _ _ c.reserve.ensures.items)
+    launch_refused (program_of c.args.script.now) _ _ _ _ _ _ _ _ c.is_lazy.result _ c.in-Err.error _ c.in-Used.is (ap g.C.ChannelFloor.view c.in-Err.ensures.channels) (g.met.J.JobFloor.legal c.args.floors.now.jobs.now) (g.met.J.JobFloor.legal c.launch-answer.new.self.jobs.now) c.requires.stands c.requires.at c.in-Err.ensures.answer c.fail.ensures.tag
+    (c.fail.ensures.config ∙ rows_config (config_of c.args.frame.now) _ _ c.reserve.ensures.items) c.fail.ensures.items
+
+pub returns-in-Memory-clause-came : goal.returns-in-Memory-clause-came
+returns-in-Memory-clause-came g c = cut_jobs _ _ _ _ _ _ (ap g.C.ChannelFloor.view c.in-Err.ensures.channels) refl (rw c.in-Memory.is at c.in-Err.ensures.answer)

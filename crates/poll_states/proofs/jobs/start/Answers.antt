@@ -1,11 +1,13 @@
-use Rattle.std.proofs.Common.{refl, arith}
+use Rattle.std.proofs.Common.{refl, ap, arith}
 use Rattle.std.proofs.lemmas.Option.{slice_get_read}
-use Rattle.poll_states.proofs.Moves.{line_short, named_attached}
-use Rattle.poll_states.proofs.Stepping.{may_build_at, knows_start, did_same, has_started}
+use Rattle.script_reader.specs.Scripts.{program_of}
+use Rattle.poll_states.proofs.Standing.{line_short, named_attached}
+use Rattle.poll_states.proofs.LineNeeds.{stands_build, knows_start, jobs_same}
+use Rattle.poll_states.proofs.Stepping.{has_started, cut_jobs}
 use Rattle.poll_states.proofs.jobs.start.Goals as goal
 
 pub start-answer-requires-clause-may : goal.start-answer-requires-clause-may
-start-answer-requires-clause-may g c = may_build_at _ _ _ _ _ c.args.script.now.well_formed c.requires.stands.fits c.first_done.ensures
+start-answer-requires-clause-may g c = stands_build _ _ _ _ _ c.args.script.now.well_formed c.requires.stands c.first_done.ensures
 
 pub index-row-requires : goal.index-row-requires
 index-row-requires g c = let h = knows_start _ _ _ _ _ c.args.script.now.well_formed c.requires.stands c.requires.at in omega (arith, h, c.args.frame.now.rows.ok.0)
@@ -18,5 +20,7 @@ next_line-requires g c = let h = line_short c.args.script.now c.args.frame.now.t
 
 pub returns-in-Ok-clause-came : goal.returns-in-Ok-clause-came
 returns-in-Ok-clause-came g c =
-    has_started _ _ _ _ _ _ _ _ _ c.in-Ok.field-0 c.requires.stands c.requires.at (slice_get_read _ _ _ _ refl (knows_start _ _ _ _ _ c.args.script.now.well_formed c.requires.stands c.requires.at) c.index-row.ensures)
-    (did_same _ _ _ _ _ _ _ _ _ _ c.in-Ok.ensures.answer.0 c.next_line.ensures.items) c.in-Ok.ensures.answer.1 (rw c.first_done.ensures at c.in-Ok.ensures.settled) c.next_line.ensures.tag c.next_line.ensures.config
+    has_started (program_of c.args.script.now) _ _ _ _ _ _ _ _ c.in-Ok.field-0 (ap g.C.ChannelFloor.view c.in-Ok.ensures.channels) (g.met.J.JobFloor.legal c.start-answer.new.self.jobs.now) c.requires.at (slice_get_read _ _ _ _ refl (knows_start _ _ _ _ _ c.args.script.now.well_formed c.requires.stands c.requires.at) c.index-row.ensures) (jobs_same _ _ _ _ _ _ _ _ c.in-Ok.ensures.answer c.next_line.ensures.items) c.next_line.ensures.tag c.next_line.ensures.config
+
+pub returns-in-Err-clause-came : goal.returns-in-Err-clause-came
+returns-in-Err-clause-came g c = cut_jobs _ _ _ _ _ _ (ap g.C.ChannelFloor.view c.in-Err.ensures.channels) refl c.in-Err.ensures.answer

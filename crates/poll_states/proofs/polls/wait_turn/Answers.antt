@@ -1,40 +1,61 @@
-use Rattle.std.proofs.Common.{refl, ap, arith}
-use Rattle.poll_states.specs.Runs.{Config}
+use Rattle.std.proofs.Common.{refl, ap, ◌∙◌, arith}
+use Rattle.script_reader.specs.Scripts.{program_of}
+use Rattle.script_meaning.specs.Configs.{Config}
 use Rattle.poll_states.proofs.Reached.{is_over, is_fresh}
-use Rattle.poll_states.proofs.Moves.{stands_body, no_fresh, turned_ready}
-use Rattle.poll_states.proofs.Stepping.{cut_nothing, never_new}
-use Rattle.poll_states.proofs.EndedWaits.{wait_call, holds_looked, holds_at, gave_up, turned_ended_wait}
-use Rattle.poll_states.proofs.Answering.{turned_waits, wait_short, not_at_end, waits_not}
+use Rattle.poll_states.proofs.Standing.{stands_body, never_new, waits_unsettled, wait_call}
+use Rattle.poll_states.proofs.FloorsOfScripts.{owes_none}
+use Rattle.poll_states.proofs.EndedWaits.{holds_looked, call_looked, wait_ended, gave_up, cut_end, cut_given}
+use Rattle.poll_states.proofs.Stepping.{cut_nothing}
+use Rattle.poll_states.proofs.Turning.{polled_ready, polled_waits, polled_end, step_quiet, wait_short}
 use Rattle.poll_states.proofs.polls.wait_turn.Goals as goal
 
-pub returns-in-Err-clause-turned : goal.returns-in-Err-clause-turned
-returns-in-Err-clause-turned g c = record { cut = cut_nothing _ _ _ _ refl c.room.ensures.items; going = not_at_end _ _ c.requires.waits (waits_not _) }
+pub returns-in-Err-clause-polled : goal.returns-in-Err-clause-polled
+returns-in-Err-clause-polled g c = cut_nothing _ _ _ _ _ _ refl refl refl c.room.ensures.items
 
 pub was_resolved-resolved-requires-clause-can : goal.was_resolved-resolved-requires-clause-can
-was_resolved-resolved-requires-clause-can g c = wait_call _ _ _ _ _ c.requires.stands c.requires.waits
+was_resolved-resolved-requires-clause-can g c = wait_call _ _ _ _ _ (g.met.C.ChannelFloor.legal c.args.floors.now.channels.now) c.requires.stands c.requires.waits
+
+pub was_resolved-resolved-requires-clause-holds : goal.was_resolved-resolved-requires-clause-holds
+was_resolved-resolved-requires-clause-holds g c = waits_unsettled _ _ _ _ _ (g.met.C.ChannelFloor.legal c.args.floors.now.channels.now) c.requires.stands c.requires.waits
 
 pub own_state-requires : goal.own_state-requires
-own_state-requires g c = stands_body _ _ _ _ c.requires.stands (ap is_over c.requires.waits)
+own_state-requires g c = stands_body _ _ _ _ (g.met.J.JobFloor.legal c.args.floors.now.jobs.now) c.requires.stands (ap is_over c.requires.waits)
 
 pub unreachable-requires : goal.unreachable-requires
 unreachable-requires g c = never_new _ _ _ _ _ (g.met.J.JobFloor.legal c.args.floors.now.jobs.now) (g.met.J.JobFloor.legal c.own_state.new.jobs) c.requires.stands (ap is_fresh c.requires.waits) (rw c.in-NotStarted.is at c.own_state.ensures.seen)
 
+pub give_up-requires-clause-can : goal.give_up-requires-clause-can
+give_up-requires-clause-can g c = call_looked _ _ _ _ c.was_resolved-resolved.ensures.seen.looked (wait_call _ _ _ _ _ (g.met.C.ChannelFloor.legal c.args.floors.now.channels.now) c.requires.stands c.requires.waits)
+
 pub give_up-requires-clause-holds : goal.give_up-requires-clause-holds
-give_up-requires-clause-holds g c = holds_looked _ _ _ _ (g.met.C.ChannelFloor.legal c.was_resolved-resolved.new.channels) c.was_resolved-resolved.ensures.seen.looked (holds_at _ _ _ _ _ c.requires.stands c.requires.waits)
+give_up-requires-clause-holds g c = holds_looked _ _ _ _ (g.met.C.ChannelFloor.legal c.was_resolved-resolved.new.channels) c.was_resolved-resolved.ensures.seen.looked (waits_unsettled _ _ _ _ _ (g.met.C.ChannelFloor.legal c.args.floors.now.channels.now) c.requires.stands c.requires.waits)
+
+pub give_up-requires-clause-owing : goal.give_up-requires-clause-owing
+give_up-requires-clause-owing g c = owes_none (program_of c.args.script.now) _ _ c.requires.stands.lines_run (c.was_resolved-resolved.ensures.seen.looked.same.shape ∙ c.requires.stands.on.channels) (call_looked _ _ _ _ c.was_resolved-resolved.ensures.seen.looked (wait_call _ _ _ _ _ (g.met.C.ChannelFloor.legal c.args.floors.now.channels.now) c.requires.stands c.requires.waits)).channel
+
+pub end_wait-requires-clause-can : goal.end_wait-requires-clause-can
+end_wait-requires-clause-can g c = call_looked _ _ _ _ c.was_resolved-resolved.ensures.seen.looked (wait_call _ _ _ _ _ (g.met.C.ChannelFloor.legal c.args.floors.now.channels.now) c.requires.stands c.requires.waits)
 
 pub end_wait-requires-clause-line : goal.end_wait-requires-clause-line
-end_wait-requires-clause-line g c = let h = wait_short c.args.script.now _ _ _ _ c.requires.stands c.requires.waits in omega (arith, h)
+end_wait-requires-clause-line g c = let h = wait_short c.args.script.now _ _ _ _ c.args.script.now.well_formed c.requires.stands c.requires.waits in omega (arith, h)
 
-pub returns-in-Ok-clause-turned : goal.returns-in-Ok-clause-turned
-returns-in-Ok-clause-turned g c =
-    rw c.give_up.ensures.jobs (turned_ready _ _ _ _ _ _ _ _ c.args.script.now.well_formed (g.met.C.ChannelFloor.legal c.give_up.new.floors.channels.now) c.requires.stands
-    (gave_up _ _ _ _ _ _ _ _ _ _ c.requires.stands c.requires.waits c.was_resolved-resolved.ensures.seen.looked (rw c.in-Cancelling.is at c.own_state.ensures.seen) refl c.room.ensures.items c.in-Ok.ensures.answer c.give_up.ensures.tag c.give_up.ensures.config)
-    (ap (λ (x : Config). x.stage) c.give_up.ensures.config) refl (no_fresh (ap is_fresh c.requires.waits)))
+pub returns-in-Ok-clause-polled : goal.returns-in-Ok-clause-polled
+returns-in-Ok-clause-polled g c = rw c.give_up.ensures.jobs (polled_ready _ _ _ _ _ _ _ _ c.args.script.now.well_formed c.requires.stands (gave_up (program_of c.args.script.now) _ _ _ _ _ _ _ _ _ (g.met.J.JobFloor.legal c.own_state.new.jobs) c.requires.waits c.was_resolved-resolved.ensures.seen.looked (rw c.in-Cancelling.is at c.own_state.ensures.seen) refl refl c.room.ensures.items c.in-Ok.ensures.answer c.give_up.ensures.tag c.give_up.ensures.config) (ap (λ (x : Config). x.stage) c.give_up.ensures.config) refl)
 
-pub returns-in-Ok-end_wait-clause-turned : goal.returns-in-Ok-end_wait-clause-turned
-returns-in-Ok-end_wait-clause-turned g c =
-    rw c.end_wait.ensures.jobs (turned_ended_wait _ _ _ _ _ _ _ _ _ _ c.args.script.now.well_formed (g.met.C.ChannelFloor.legal c.end_wait.new.floors.channels.now) c.requires.stands c.requires.waits c.was_resolved-resolved.ensures.seen.looked (rw c.in-MayRun.is at c.own_state.ensures.seen) refl refl c.room.ensures.items c.in-Ok-end_wait.ensures.answer c.end_wait.ensures.tag)
+pub returns-in-Ok-clause-quiet : goal.returns-in-Ok-clause-quiet
+returns-in-Ok-clause-quiet g c = step_quiet _ _ _ _ _ _ _ c.args.script.now.well_formed c.requires.stands (gave_up (program_of c.args.script.now) _ _ _ _ _ _ _ _ _ (g.met.J.JobFloor.legal c.own_state.new.jobs) c.requires.waits c.was_resolved-resolved.ensures.seen.looked (rw c.in-Cancelling.is at c.own_state.ensures.seen) refl refl c.room.ensures.items c.in-Ok.ensures.answer c.give_up.ensures.tag c.give_up.ensures.config)
 
-pub returns-else-resolved-clause-turned : goal.returns-else-resolved-clause-turned
-returns-else-resolved-clause-turned g c =
-    turned_waits _ _ _ _ _ _ _ _ (g.met.C.ChannelFloor.legal c.was_resolved-resolved.new.channels) c.requires.stands c.requires.waits (rw c.if-resolved.false at c.was_resolved-resolved.ensures.seen) (rw c.in-MayRun.is at c.own_state.ensures.seen) refl refl c.room.ensures.items
+pub returns-in-Err-give_up-clause-polled : goal.returns-in-Err-give_up-clause-polled
+returns-in-Err-give_up-clause-polled g c = rw c.give_up.ensures.jobs (cut_given _ _ _ _ _ _ _ _ c.was_resolved-resolved.ensures.seen.looked c.own_state.ensures.seen.looked c.room.ensures.items c.in-Err-give_up.ensures.answer c.give_up.ensures.tag)
+
+pub returns-in-Ok-end_wait-clause-polled : goal.returns-in-Ok-end_wait-clause-polled
+returns-in-Ok-end_wait-clause-polled g c = rw c.end_wait.ensures.jobs (polled_end _ _ _ _ _ _ _ _ c.args.script.now.well_formed c.requires.stands c.requires.waits (wait_ended (program_of c.args.script.now) _ _ _ _ _ _ _ _ _ (g.met.C.ChannelFloor.legal c.was_resolved-resolved.new.channels) (g.met.J.JobFloor.legal c.own_state.new.jobs) c.requires.stands c.requires.waits c.was_resolved-resolved.ensures.seen.looked (rw c.in-MayRun.is at c.own_state.ensures.seen) refl refl c.room.ensures.items c.in-Ok-end_wait.ensures.answer c.end_wait.ensures.tag))
+
+pub returns-in-Ok-end_wait-clause-quiet : goal.returns-in-Ok-end_wait-clause-quiet
+returns-in-Ok-end_wait-clause-quiet g c = step_quiet _ _ _ _ _ _ _ c.args.script.now.well_formed c.requires.stands (wait_ended (program_of c.args.script.now) _ _ _ _ _ _ _ _ _ (g.met.C.ChannelFloor.legal c.was_resolved-resolved.new.channels) (g.met.J.JobFloor.legal c.own_state.new.jobs) c.requires.stands c.requires.waits c.was_resolved-resolved.ensures.seen.looked (rw c.in-MayRun.is at c.own_state.ensures.seen) refl refl c.room.ensures.items c.in-Ok-end_wait.ensures.answer c.end_wait.ensures.tag)
+
+pub returns-in-Err-end_wait-clause-polled : goal.returns-in-Err-end_wait-clause-polled
+returns-in-Err-end_wait-clause-polled g c = rw c.end_wait.ensures.jobs (cut_end _ _ _ _ _ _ _ _ c.was_resolved-resolved.ensures.seen.looked c.own_state.ensures.seen.looked c.room.ensures.items c.in-Err-end_wait.ensures.answer c.end_wait.ensures.tag)
+
+pub returns-else-resolved-clause-polled : goal.returns-else-resolved-clause-polled
+returns-else-resolved-clause-polled g c = polled_waits _ _ _ _ _ _ _ _ (g.met.J.JobFloor.legal c.own_state.new.jobs) c.requires.stands c.requires.waits (rw c.if-resolved.false at c.was_resolved-resolved.ensures.seen) (rw c.in-MayRun.is at c.own_state.ensures.seen) refl refl c.room.ensures.items

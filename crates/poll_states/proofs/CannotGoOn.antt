@@ -1,0 +1,226 @@
+-- A coroutine that a poll left where it was, and that was not ready, cannot go on, where nobody made an entry meanwhile.
+use Rattle.std.specs.Prelude.{◌≡◌, ◌≢◌, ℕ, ◌≤◌, ◌==◌, Bool, true, false, ◌||◌, List, [], ◌∷◌, ◌++◌, length, Option, Some, None, refl, if◌then◌else◌}
+use Rattle.std.specs.List.{list_any}
+use mathlib.Core.List.{IsPrefix}
+use Rattle.std.proofs.Common.{ap, sym, ◌∙◌, subst, arith, length-append}
+use Rattle.std.proofs.lemmas.List.{append-nil, nil_from_length}
+use Rattle.co_base.specs.declared.names.WaitId.{WaitId}
+use Rattle.channel_model.specs.declared.acts.Settled.{Settled}
+use Rattle.channel_model.specs.declared.standing.Resolution.{Resolution}
+use Rattle.channel_model.specs.declared.floor.WaitState.TheVariants as state
+use Rattle.channel_model.specs.Channels.{State, Wait}
+use Rattle.channel_model.specs.Needs.{IsOpenOf}
+use Rattle.channel_model.specs.Answers.{state_of_wait, state_of_parts, IsUnsettledOf}
+use Rattle.channel_model.specs.Histories.{replay, Legal}
+use Rattle.channel_model.specs.Floors.{Floor as ChannelFloor, AtStep as AtChannelStep}
+use Rattle.job_model.specs.declared.acts.JobAct.{JobAct}
+use Rattle.job_model.specs.declared.acts.JobEntry.{JobEntry}
+use Rattle.job_model.specs.declared.acts.JobState.{JobState}
+use Rattle.job_model.specs.declared.acts.JobState.TheVariants.{New, Active, Completing, Cancelling, Cancelled, Completed}
+use Rattle.job_model.specs.Trees.{Shape, Job, Tree, state_of}
+use Rattle.job_model.specs.Acts.{ends_body}
+use Rattle.job_model.specs.Laws.{has, GoesTo, stays, goes_on as then_goes, is_step, RowGoesTo}
+use Rattle.job_model.specs.Histories.{replay as replay_jobs, replay_from, acts_of as job_acts_of, Legal as LegalJobs}
+use Rattle.job_model.specs.Floors.{Floor, AtStep}
+use Rattle.job_model.proofs.States.{states_go_on}
+use Rattle.note_book.specs.Items.{job_acts_in}
+use Rattle.call_meaning.specs.Telling.{Told, items_in}
+use Rattle.call_meaning.specs.Facts.{IsRunning}
+use Rattle.call_meaning.specs.Stories.{beginning}
+use Rattle.call_meaning.specs.Calls.{seen_by}
+use Rattle.script_grammar.specs.Programs.{Program}
+use Rattle.script_grammar.specs.FirstRunning.{all_run}
+use Rattle.script_grammar.specs.declared.instructions.Instruction.{Instruction}
+use Rattle.call_meaning.specs.ChannelCalls.{Answer}
+use Rattle.script_meaning.specs.declared.stage.Stage.{Stage}
+use Rattle.script_meaning.specs.declared.stage.Stage.TheVariants.{Fresh, Running, Waiting, SeesJob, Unwinding, Leaving, SeesScope, Ended}
+use Rattle.script_meaning.specs.declared.turn.Turn.{Turn}
+use Rattle.script_meaning.specs.declared.turn.Turn.TheVariants as turn
+use Rattle.script_meaning.specs.Shapes.{floor_shape, job_shape}
+use Rattle.script_meaning.specs.Configs.{Config, innermost}
+use Rattle.script_meaning.specs.Books.{story, Begins, Reaches}
+use Rattle.script_meaning.specs.Idle.{WaitsAlone, HasNoWait, IsNotStarted, IsLeft}
+use Rattle.script_meaning.specs.Laws.{wait_of, HasJustTheWait}
+use Rattle.script_meaning.specs.Polls.{Frame, StandsOn, HasStood, WaitsFor, TurnAnswer}
+use Rattle.script_meaning.proofs.OneWait.{just_the_wait}
+use Rattle.script_meaning.proofs.JobStories.{true_so}
+use Rattle.script_meaning.proofs.JobDebts.{all_known, parents_in}
+use Rattle.poll_states.proofs.PlainMoves.{PlainMove, AfterCall, plain_move}
+use Rattle.poll_states.proofs.Reached.{is_over, is_fresh, ends_in, reach_plain, reach_ends}
+
+-- ---- moments of a call in which nobody made an entry
+
+prefix_length : {A : Type 0} (xs ys : List A) → IsPrefix xs ys → length xs ≤ length ys
+prefix_length xs ys p =
+    let parts = length-append xs p.0 in
+    let whole : length (xs ++ p.0) ≡ length ys = ap length p.1 in
+    omega (arith, parts, whole)
+
+prefix_back : {A : Type 0} (xs ys : List A) → IsPrefix xs ys → length ys ≤ length xs → ys ≡ xs
+prefix_back xs ys p le =
+    let parts = length-append xs p.0 in
+    let whole : length (xs ++ p.0) ≡ length ys = ap length p.1 in
+    let none : p.0 ≡ [] = nil_from_length p.0 (omega (arith, parts, whole, le)) in
+    sym p.1 ∙ ap (λ l. xs ++ l) none ∙ append-nil xs
+
+-- what lies between two histories that are one is that one
+between_same : {A : Type 0} (xs ys zs : List A) → IsPrefix xs ys → IsPrefix ys zs → zs ≡ xs → ys ≡ zs
+between_same xs ys zs p q e =
+    let a = prefix_length ys zs q in
+    let b : length zs ≡ length xs = ap length e in
+    prefix_back xs ys p (omega (arith, a, b)) ∙ sym e
+
+-- what was so at a moment is so at the end
+job_now : (j j' : Floor) (P : Tree → Type 0) → j'.seen ≡ j.seen → AtStep j j' P → P (replay_jobs j'.seen)
+job_now j j' P same step = subst (λ es. P (replay_jobs es)) (between_same j.seen step.moment j'.seen step.after step.before same) step.holds
+
+channel_now : (c c' : ChannelFloor) (P : State → Type 0) → c'.seen ≡ c.seen → AtChannelStep c c' P → P (replay c'.seen)
+channel_now c c' P same step = subst (λ es. P (replay es)) (between_same c.seen step.moment c'.seen step.after step.before same) step.holds
+
+-- ---- a coroutine that has not begun
+
+call_begun : (k : ℕ) (x : Config) (i : Instruction) (a : Answer) (y : Config) → AfterCall k x i a y → is_fresh y.stage ≡ false
+call_begun k x _ _ _ (AfterCall.waits i w) = refl
+call_begun k x _ _ _ (AfterCall.no_place i) = refl
+call_begun k x _ _ _ (AfterCall.sent c o) = refl
+call_begun k x _ _ _ (AfterCall.got c v) = refl
+call_begun k x _ _ _ (AfterCall.no_more c v) = refl
+
+-- no move leads to where it has not begun
+move_begun : (p : Program) (k : ℕ) (x : Config) (group : List Told) (y : Config) → PlainMove p k x group y → is_fresh y.stage ≡ false
+move_begun p k _ _ _ (PlainMove.runs x s) = refl
+move_begun p k _ _ _ (PlainMove.never_runs x s) = refl
+move_begun p k _ _ _ (PlainMove.calls x y i group a at c f) = call_begun k x i a y f
+move_begun p k _ _ _ (PlainMove.resumes x y w i outcome a s at m f) = call_begun k x i a y f
+move_begun p k _ _ _ (PlainMove.cancelled x w s) = refl
+move_begun p k _ _ _ (PlainMove.gives_up x w group s g) = refl
+move_begun p k _ _ _ (PlainMove.yields x at) = refl
+move_begun p k _ _ _ (PlainMove.stops_at_yield x at) = refl
+move_begun p k _ _ _ (PlainMove.launches x block how job now at) = refl
+move_begun p k _ _ _ (PlainMove.launch_refused x block how job group at g) = refl
+move_begun p k _ _ _ (PlainMove.starts x job row group at n g) = refl
+move_begun p k _ _ _ (PlainMove.cancels x job row newly group at n g) = refl
+move_begun p k _ _ _ (PlainMove.fails x v at) = refl
+move_begun p k _ _ _ (PlainMove.results x o at) = refl
+move_begun p k _ _ _ (PlainMove.breaks x failure group s b) = refl
+move_begun p k _ _ _ (PlainMove.ends x group s e b) = refl
+
+begins_empty : (p : Program) (k : ℕ) (told : List Told) (x : Config) → k ≢ 0 → Begins p k told x → items_in told ≡ []
+unfolding items_in
+begins_empty p _ _ _ n (Begins.root group x s) = absurd (n refl)
+begins_empty p _ _ _ n (Begins.child k m) = refl
+
+-- it noted nothing, but for the root
+fresh_empty : (p : Program) (k : ℕ) (told : List Told) (x : Config) → all_run p ≡ true → k ≢ 0 → x.stage ≡ Fresh → Reaches p k told x → items_in told ≡ []
+fresh_empty p k _ _ ok n e (Reaches.begins group x b) = begins_empty p k group x n b
+fresh_empty p k _ _ ok n e (Reaches.goes_on before group all x y r m q) =
+    absurd (let no_way : ⊥ = let both_ways : true ≡ false = sym (ap is_fresh e) ∙ move_begun p k x group y (plain_move p k x group y ok (reach_plain p k before x ok r) m) in cc in no_way)
+
+-- the root may always run
+not_back : (s : JobState) → GoesTo Active s → s ≢ New
+not_back s stays e = cc
+not_back s (then_goes t _ g step) e = before t s step e
+  where
+    before : (t u : JobState) → is_step t u ≡ true → u ≡ New → ⊥
+    before t u step e = by_state t (subst (λ v. is_step t v ≡ true) e step)
+      where
+        by_state : (t : JobState) → is_step t New ≡ true → ⊥
+        by_state New h = cc
+        by_state Active h = cc
+        by_state Completing h = cc
+        by_state Cancelling h = cc
+        by_state Cancelled h = cc
+        by_state Completed h = cc
+
+root_started : (shape : Shape) (history : List JobEntry) → LegalJobs shape history → IsNotStarted (replay_jobs history 0) → ⊥
+unfolding replay_from
+root_started shape history legal h = by_row (replay_jobs history 0) (states_go_on shape [] history 0 legal) h
+  where
+    by_row : (o : Option Job) → RowGoesTo (replay_jobs [] 0) o → IsNotStarted o → ⊥
+    by_row None g h = absurd g
+    by_row (Some j) g h = not_back j.state g h
+
+-- ---- how one is left that waits
+
+standing_open : (k : ℕ) (x : Option Wait) → IsUnsettledOf k x → state_of_wait x ≡ Some state.Standing → IsOpenOf k x
+standing_open k None u e = u
+standing_open k (Some x) u e = (u.0, by_parts x.resolved x.settled e)
+  where
+    by_parts : (how : Option Resolution) (ending : Option Settled) → Some (state_of_parts how ending) ≡ Some state.Standing → how ≡ None
+    by_parts how (Some outcome) e = cc
+    by_parts None None e = refl
+    by_parts (Some how) None e = cc
+
+-- a coroutine is left on these floors
+abbrev pub IsLeftOn : ChannelFloor → Floor → Frame → Type 0
+IsLeftOn c j f = IsLeft f.tag f.config f.book (replay c.seen) j.seen f.config.stage
+
+-- the waits of one that stands
+stands_waits : (p : Program) (c : ChannelFloor) (j : Floor) (f : Frame) → Legal (floor_shape p) c.seen → StandsOn p c j f → HasJustTheWait f.tag f.config.stage (replay c.seen)
+stands_waits p c j f legal h = just_the_wait p f.tag (seen_by c j) f.book f.config legal h.channel_acts h.runs
+
+waits_alone : (p : Program) (c c' : ChannelFloor) (j : Floor) (f : Frame) (w : WaitId) → Legal (floor_shape p) c'.seen → StandsOn p c' j f → wait_of f.config.stage ≡ Some w → c'.seen ≡ c.seen → HasStood c c' w → WaitsAlone f.tag w (replay c'.seen)
+waits_alone p c c' j f w legal h e same stood =
+    let just = stands_waits p c' j f legal h in
+    record {
+      open_now = standing_open f.tag ((replay c'.seen).waits w) ((just w).1 e) (channel_now c c' (λ s. state_of_wait (s.waits w) ≡ Some state.Standing) same stood);
+      only = λ v u. same_of v (sym ((just v).0 u) ∙ e);
+    }
+  where
+    same_of : (v : WaitId) → Some v ≡ Some w → v ≡ w
+    same_of v q = cc
+
+not_cancelling : (o : Option Job) → IsRunning o → state_of o ≢ Some Cancelling
+not_cancelling None h e = cc
+not_cancelling (Some j) h e = let both_ways : Active ≡ Cancelling = cc in cc
+
+-- ---- one that is not ready
+
+left_by : (p : Program) (c c' : ChannelFloor) (j j' : Floor) (f : Frame) → all_run p ≡ true → Legal (floor_shape p) c'.seen → LegalJobs (job_shape p) j'.seen → StandsOn p c' j' f → c'.seen ≡ c.seen → j'.seen ≡ j.seen → WaitsFor c c' j j' f.tag f.config → IsLeftOn c' j' f
+left_by p c c' j j' f ok legal legal_jobs h same same_jobs (WaitsFor.waits w e stood ran) =
+    subst (IsLeft f.tag f.config f.book (replay c'.seen) j'.seen) (sym e) (
+      waits_alone p c c' j' f w legal h (ap wait_of e) same stood,
+      not_cancelling (replay_jobs j'.seen (innermost f.tag f.config)) (job_now j j' (λ tree. IsRunning (tree (innermost f.tag f.config))) same_jobs ran),
+    )
+left_by p c c' j j' f ok legal legal_jobs h same same_jobs (WaitsFor.leaves w e stood) =
+    subst (IsLeft f.tag f.config f.book (replay c'.seen) j'.seen) (sym e) (waits_alone p c c' j' f w legal h (ap wait_of e) same stood)
+left_by p c c' j j' f ok legal legal_jobs h same same_jobs (WaitsFor.not_started e step) =
+    let now : IsNotStarted (replay_jobs j'.seen f.tag) = job_now j j' (λ tree. IsNotStarted (tree f.tag)) same_jobs step in
+    let child : f.tag ≢ 0 = λ z. root_started (job_shape p) j'.seen legal_jobs (subst (λ n. IsNotStarted (replay_jobs j'.seen n)) z now) in
+    subst (IsLeft f.tag f.config f.book (replay c'.seen) j'.seen) (sym e) (now, sym h.runs.written ∙ fresh_empty p f.tag h.runs.told f.config ok child e h.runs.reaches)
+
+-- what one did was done
+did_it : (test : JobAct → Bool) (k : ℕ) (history : List JobEntry) → list_any test (job_acts_of k history) ≡ true → list_any (λ (e : JobEntry). test e.act) history ≡ true
+unfolding job_acts_of
+did_it test k [] h = h
+did_it test k (e ∷ es) h = by_test (did_it test k es) (e.who == k) h
+  where
+    either : (a b c : Bool) → (b ≡ true → c ≡ true) → (a || b) ≡ true → (a || c) ≡ true
+    either true b c f q = refl
+    either false b c f q = f q
+
+    later : (b : Bool) → list_any (λ (e : JobEntry). test e.act) es ≡ true → (b || list_any (λ (e : JobEntry). test e.act) es) ≡ true
+    later true q = refl
+    later false q = q
+
+    by_test : (list_any test (job_acts_of k es) ≡ true → list_any (λ (e : JobEntry). test e.act) es ≡ true) → (b : Bool) → list_any test (if b then e.act ∷ job_acts_of k es else job_acts_of k es) ≡ true → (test e.act || list_any (λ (e : JobEntry). test e.act) es) ≡ true
+    by_test rest true q = either (test e.act) (list_any test (job_acts_of k es)) (list_any (λ (e : JobEntry). test e.act) es) rest q
+    by_test rest false q = later (test e.act) (rest q)
+
+ended_left : (p : Program) (c : ChannelFloor) (j : Floor) (f : Frame) → all_run p ≡ true → Legal (floor_shape p) c.seen → LegalJobs (job_shape p) j.seen → StandsOn p c j f → f.config.stage ≡ Ended → IsLeftOn c j f
+ended_left p c j f ok legal legal_jobs h e =
+    let known = all_known (job_shape p) f.tag j.seen [] h.runs.told legal_jobs (true_so (story p f.tag (seen_by c j)) [] beginning h.runs.told h.runs.is_true) in
+    let told : ends_in f.tag h.runs.told ≡ true = reach_ends p f.tag (parents_in j.seen) h.runs.told f.config ok known h.runs.reaches ∙ ap is_over e in
+    let did : list_any (ends_body f.tag) (job_acts_of f.tag j.seen) ≡ true = ap (list_any (ends_body f.tag)) (h.job_acts ∙ ap job_acts_in (sym h.runs.written)) ∙ told in
+    let just = stands_waits p c j f legal h in
+    subst (IsLeft f.tag f.config f.book (replay c.seen) j.seen) (sym e)
+    (did_it (ends_body f.tag) f.tag j.seen did, λ v u. none v (sym (ap wait_of e) ∙ (just v).0 u))
+  where
+    none : (v : WaitId) → None ≡ Some v → ⊥
+    none v q = cc
+
+pub cannot_go_on : (p : Program) (c c' : ChannelFloor) (j j' : Floor) (f g : Frame) (told : List Told) (answer : Turn) → all_run p ≡ true → Legal (floor_shape p) c'.seen → LegalJobs (job_shape p) j'.seen → StandsOn p c' j' g → c'.seen ≡ c.seen → j'.seen ≡ j.seen
+    → TurnAnswer p c c' j j' f g told answer → answer ≢ turn.Ready → IsLeftOn c' j' g
+cannot_go_on p c c' j j' f g told turn.Ended ok legal legal_jobs h same same_jobs a n = ended_left p c' j' g ok legal legal_jobs h a
+cannot_go_on p c c' j j' f g told turn.Waits ok legal legal_jobs h same same_jobs a n = left_by p c c' j j' g ok legal legal_jobs h same same_jobs a
+cannot_go_on p c c' j j' f g told turn.Ready ok legal legal_jobs h same same_jobs a n = absurd (n refl)
