@@ -1,0 +1,103 @@
+-- What a pass has seen after it met another, or took it in.
+use Rattle.std.specs.Prelude.{◌≡◌, ℕ, ◌==◌, Bool, true, false, ◌||◌, List, [], ◌∷◌, ◌++◌, Option, Some, None, if◌then◌else◌, refl}
+use Rattle.std.proofs.Common.{sym, ap, ◌∙◌, subst, ne_eqb, append-nil}
+use mathlib.Core.List.{IsPrefix}
+use Rattle.worded.specs.Views.{has_tag, having_seen}
+use Rattle.worded.specs.Histories.{entries_of}
+use Rattle.worded.specs.Exchanges.{Met, TookIn}
+use Rattle.worded.proofs.TagsAndPrefixes.{entries_of-append}
+use Rattle.job_model.specs.Histories.{acts_of}
+use Rattle.job_model.specs.Floors.{is_claimed_by}
+use Rattle.job_model.specs.Trees.{is_among}
+use Rattle.job_words.specs.declared.size.ForestSize.{ForestSize}
+use Rattle.job_words.specs.declared.deed.Deed.{Deed}
+use Rattle.job_words.specs.Deeds.{shape_of, doer, history_of, rows_claimed, first_claim, nothing_done, store_of, IsDone, Fits}
+use Rattle.job_words.specs.Passes.{Seen, floor_of, floor_seen}
+use Rattle.job_words.specs.Meetings.{HasSeen, SameOf, NothingOf, MeetAnswer, EndAnswer}
+use Rattle.job_words.proofs.DeedsAddUp.{store_more, IsDone-rest, history-append, acts_of-deeds, no_deeds, claims_kept, claims_mine}
+
+-- ---- two beginnings of one history
+
+pub has_seen : (size k : ForestSize) (tags us : List ℕ) (xs log : List Deed) → IsPrefix xs log → IsDone (shape_of size) log → HasSeen (floor_of k tags xs) (floor_of size us log)
+has_seen size k tags us xs log p h =
+    let d = (IsDone-rest (shape_of size) xs p.0 (subst (IsDone (shape_of size)) (sym p.1) h)).1 in
+    record {
+      longer = (history_of p.0, sym (history-append xs p.0) ∙ ap history_of p.1);
+      claims = λ r t c. ap (λ l. (store_of l).claimer r) (sym p.1) ∙ ap (λ s. s.claimer r) (store_more xs p.0) ∙ claims_kept (shape_of size) (store_of xs) p.0 r t d c;
+    }
+
+-- what one caller did follows from its deeds
+pub same_of : (size k : ForestSize) (tags us : List ℕ) (who : ℕ) (xs log : List Deed) → IsDone (shape_of k) xs → IsDone (shape_of size) log → entries_of doer who log ≡ entries_of doer who xs → SameOf who (floor_of k tags xs) (floor_of size us log)
+same_of size k tags us who xs log hx h e = record {
+  acts = acts_of-deeds who log ∙ ap (λ l. acts_of who (history_of l)) e ∙ sym (acts_of-deeds who xs);
+  rows = λ r. claims_mine (shape_of size) nothing_done log who r h ∙ ap (λ l. is_claimed_by who (first_claim r) || is_among r (rows_claimed l)) e ∙ sym (claims_mine (shape_of k) nothing_done xs who r hx);
+}
+
+pub nothing_of : (size : ForestSize) (tags : List ℕ) (who : ℕ) (log : List Deed) → IsDone (shape_of size) log → entries_of doer who log ≡ [] → NothingOf who (floor_of size tags log)
+unfolding acts_of
+nothing_of size tags who log h e = record {
+  acts = acts_of-deeds who log ∙ no_acts who (no_deeds who log e).0;
+  rows = λ r ne. claims_mine (shape_of size) nothing_done log who r h ∙ ap (λ l. is_claimed_by who (first_claim r) || is_among r l) (no_deeds who log e).1 ∙ ap (λ b. is_claimed_by who (if b then zero_claim else None) || false) (ne_eqb r 0 ne);
+}
+  where
+    zero_claim : Option ℕ
+    zero_claim = Some 0
+
+    no_acts : (t : ℕ) → history_of (entries_of doer t log) ≡ [] → acts_of t (history_of (entries_of doer t log)) ≡ []
+    no_acts t n = ap (acts_of t) n
+
+-- ---- tags
+
+pub has_tag-or : (t : ℕ) (xs ys : List ℕ) → has_tag t (xs ++ ys) ≡ (has_tag t xs || has_tag t ys)
+has_tag-or t [] ys = refl
+has_tag-or t (x ∷ xs) ys = by_test (t == x) (has_tag-or t xs ys)
+  where
+    by_test : (b : Bool) → has_tag t (xs ++ ys) ≡ (has_tag t xs || has_tag t ys) → (if b then true else has_tag t (xs ++ ys)) ≡ ((if b then true else has_tag t xs) || has_tag t ys)
+    by_test true h = refl
+    by_test false h = h
+
+abbrev callers_of : List ℕ → ℕ → Bool
+callers_of ts t = has_tag t ts
+
+still_own : (t : ℕ) (xs others : List Deed) → entries_of doer t others ≡ [] → entries_of doer t (xs ++ others) ≡ entries_of doer t xs
+still_own t xs others e = entries_of-append doer t xs others ∙ ap (λ l. entries_of doer t xs ++ l) e ∙ append-nil (entries_of doer t xs)
+
+-- ---- a meeting
+
+pub meet_answer : (size : ForestSize) (v b w : Seen) → v.key ≡ size → v.heard_tags ≡ [] → IsDone (shape_of v.key) v.seen → Met (IsDone (shape_of size)) Fits doer v b.seen w → MeetAnswer (floor_seen v) (floor_seen b) (floor_seen w)
+meet_answer size v b w key idle hv m = subst (λ (x : Seen). MeetAnswer (floor_seen v) (floor_seen b) (floor_seen x)) (sym m.now) (record {
+  same = record { shape = refl; alone = refl; callers = ap callers_of (ap (λ l. v.tags ++ l) idle ∙ append-nil v.tags) };
+  goes_on = has_seen v.key v.key v.tags (v.tags ++ v.heard_tags) v.seen log (m.others, refl) done;
+  told = has_seen v.key b.key b.tags (v.tags ++ v.heard_tags) b.seen log m.told done;
+  own = λ t h. same_of v.key v.key v.tags (v.tags ++ v.heard_tags) t v.seen log hv done (still_own t v.seen m.others (m.apart t h));
+})
+  where
+    log : List Deed
+    log = v.seen ++ m.others
+
+    done : IsDone (shape_of v.key) log
+    done = subst (λ (k : ForestSize). IsDone (shape_of k) log) (sym key) m.is_legal
+
+-- nobody did anything under a tag that was not given out
+pub ungiven : (size : ForestSize) (v w : Seen) (log : List Deed) → w.key ≡ size → IsDone (shape_of size) log → w ≡ having_seen v log → (v.chief ≡ true → (t : ℕ) → has_tag t v.given ≡ false → entries_of doer t log ≡ [])
+    → w.chief ≡ true → (t : ℕ) → has_tag t w.given ≡ false → NothingOf t (floor_seen w)
+ungiven size v w log key h now none c t g = subst (λ (x : Seen). NothingOf t (floor_seen x)) (sym now) (nothing_of v.key (v.tags ++ v.heard_tags) t log
+    (subst (λ (k : ForestSize). IsDone (shape_of k) log) (sym key ∙ ap (λ (x : Seen). x.key) now) h) (none (sym (ap (λ (x : Seen). x.chief) now) ∙ c) t (ap (has_tag t) (sym (ap (λ (x : Seen). x.given) now)) ∙ g)))
+
+-- ---- a pass that ends
+
+pub end_answer : (size : ForestSize) (v u w : Seen) → v.key ≡ size → IsDone (shape_of v.key) v.seen → IsDone (shape_of u.key) u.seen → TookIn (IsDone (shape_of size)) Fits doer v u w → EndAnswer (floor_seen v) (floor_seen u) (floor_seen w)
+end_answer size v u w key hv hu m = subst (λ (x : Seen). EndAnswer (floor_seen v) (floor_seen u) (floor_seen x)) (sym m.now) (record {
+  shape = refl;
+  callers = λ t. has_tag-or t v.tags u.tags;
+  goes_on = has_seen v.key v.key v.tags (v.tags ++ u.tags) v.seen log (m.others, refl) done;
+  told = has_seen v.key u.key u.tags (v.tags ++ u.tags) u.seen log m.told done;
+  own = λ t h. same_of v.key v.key v.tags (v.tags ++ u.tags) t v.seen log hv done (still_own t v.seen m.others (m.apart t h));
+  taken = λ t h. same_of v.key u.key u.tags (v.tags ++ u.tags) t u.seen log hu done (m.given_to t h);
+})
+  where
+    log : List Deed
+    log = v.seen ++ m.others
+
+    done : IsDone (shape_of v.key) log
+    done = subst (λ (k : ForestSize). IsDone (shape_of k) log) (sym key) m.is_legal

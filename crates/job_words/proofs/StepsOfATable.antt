@@ -1,0 +1,88 @@
+-- What a step of the table says of the pass.
+use Rattle.std.specs.Prelude.{◌≡◌, ℕ, ◌==◌, Bool, true, false, List, [], ◌∷◌, ◌++◌, MatchBool}
+use mathlib.Core.Option.{some}
+use Rattle.std.proofs.Common.{sym, ap, ◌∙◌, subst, append-nil}
+use Rattle.job_model.specs.Trees.{IsShape}
+use Rattle.job_model.specs.Histories.{Legal}
+use Rattle.job_model.specs.Floors.{HasClaims}
+use Rattle.worded.specs.Views.{has_tag}
+use Rattle.worded.specs.Exchanges.{Loaded, Entered, Exchanged}
+use Rattle.job_words.specs.declared.size.ForestSize.{ForestSize}
+use Rattle.job_words.specs.declared.deed.Deed.{Deed}
+use Rattle.job_words.specs.Deeds.{shape_of, IsSize, doer, history_of, IsDone, Fits}
+use Rattle.job_words.specs.Passes.{Seen, tags_given, floor_of, Sees, Does}
+use Rattle.job_words.proofs.DeedsAddUp.{is_legal}
+use Rattle.job_words.proofs.StepsAsCalls.{has_claims}
+use Rattle.job_words.proofs.StoreStaysSound.{size_shape}
+
+pub sees_of : (size : ForestSize) (who word n : ℕ) (v w : Seen) → v.key ≡ size → v.heard_tags ≡ [] → has_tag who v.tags ≡ true → Loaded (IsDone (shape_of size)) Fits doer word n v w → Sees who v w × Fits w.seen word n
+sees_of size who word n v w key idle own l = (
+  record {
+    others = l.others;
+    seen = seen;
+    apart = l.added.apart who own;
+    tags = ap (λ (x : Seen). x.tags) l.now ∙ ap (λ t. v.tags ++ t) idle ∙ append-nil v.tags;
+    key = ap (λ (x : Seen). x.key) l.now;
+    giving = ap tags_given l.now;
+    idle = ap (λ (x : Seen). x.heard_tags) l.now;
+    done = subst (λ (k : ForestSize). IsDone (shape_of k) w.seen) (sym key) (subst (IsDone (shape_of size)) (sym seen) l.added.is_legal);
+  },
+  subst (λ (s : List Deed). Fits s word n) (sym seen) l.found,
+)
+  where
+    seen : w.seen ≡ v.seen ++ l.others
+    seen = ap (λ (x : Seen). x.seen) l.now
+
+pub does_of : (size : ForestSize) (who word old : ℕ) (d : Deed) (v w : Seen) → v.key ≡ size → v.heard_tags ≡ [] → has_tag who v.tags ≡ true → Entered (IsDone (shape_of size)) Fits doer word old d v w → Does who d word old v w
+does_of size who word old d v w key idle own l = record {
+  others = l.others;
+  seen = seen;
+  apart = l.added.apart who own;
+  tags = ap (λ (x : Seen). x.tags) l.now ∙ ap (λ t. v.tags ++ t) idle ∙ append-nil v.tags;
+  key = ap (λ (x : Seen). x.key) l.now;
+  giving = ap tags_given l.now;
+  idle = ap (λ (x : Seen). x.heard_tags) l.now;
+  done = subst (λ (k : ForestSize). IsDone (shape_of k) w.seen) (sym key) (subst (IsDone (shape_of size)) (sym seen) l.is_legal);
+  found = l.found;
+}
+  where
+    seen : w.seen ≡ (v.seen ++ l.others) ++ d ∷ []
+    seen = ap (λ (x : Seen). x.seen) l.now
+
+pub told_of : (size : ForestSize) (who word old n : ℕ) (d : Deed) (v w : Seen) → v.key ≡ size → v.heard_tags ≡ [] → has_tag who v.tags ≡ true → Exchanged (IsDone (shape_of size)) Fits doer word old n (some d) v w
+    → MatchBool (n == old) (Does who d word old v w) (Sees who v w × Fits w.seen word n)
+told_of size who word old n d v w key idle own e = by_test (n == old) e
+  where
+    by_test : (b : Bool) → MatchBool b (Entered (IsDone (shape_of size)) Fits doer word old d v w) (Loaded (IsDone (shape_of size)) Fits doer word n v w) → MatchBool b (Does who d word old v w) (Sees who v w × Fits w.seen word n)
+    by_test true m = does_of size who word old d v w key idle own m
+    by_test false l = sees_of size who word n v w key idle own l
+
+-- the tags, the key and the state of the pass after a step
+pub record Stays (who : ℕ) (v w : Seen) : Type 0 where
+  pub tags : w.tags ≡ v.tags
+  pub key : w.key ≡ v.key
+  pub idle : w.heard_tags ≡ []
+  pub done : IsDone (shape_of v.key) w.seen
+
+pub sees_stays : (who : ℕ) (v w : Seen) → Sees who v w → Stays who v w
+sees_stays who v w s = record { tags = s.tags; key = s.key; idle = s.idle; done = s.done }
+
+pub told_stays : (who word old n : ℕ) (d : Deed) (v w : Seen) → MatchBool (n == old) (Does who d word old v w) (Sees who v w × Fits w.seen word n) → Stays who v w
+told_stays who word old n d v w e = by_test (n == old) e
+  where
+    by_test : (b : Bool) → MatchBool b (Does who d word old v w) (Sees who v w × Fits w.seen word n) → Stays who v w
+    by_test true m = record { tags = m.tags; key = m.key; idle = m.idle; done = m.done }
+    by_test false l = sees_stays who v w l.0
+
+-- the laws of a pass
+pub shaped : (size : ForestSize) (w : Seen) → IsSize size → w.key ≡ size → IsShape (shape_of w.key)
+shaped size w s key = subst (λ (k : ForestSize). IsShape (shape_of k)) (sym key) (size_shape size s)
+
+pub done : (size : ForestSize) (who : ℕ) (v w : Seen) → v.key ≡ size → Stays who v w → IsDone (shape_of w.key) w.seen
+done size who v w key s = subst (λ (k : ForestSize). IsDone (shape_of k) w.seen) (sym s.key) s.done
+
+pub legal : (size : ForestSize) (who : ℕ) (v w : Seen) → v.key ≡ size → Stays who v w → Legal (shape_of w.key) (history_of w.seen)
+legal size who v w key s = subst (λ (k : ForestSize). Legal (shape_of k) (history_of w.seen)) (sym s.key) (is_legal (shape_of v.key) w.seen s.done)
+
+pub claimed : (size : ForestSize) (who : ℕ) (v w : Seen) → IsSize size → v.key ≡ size → Stays who v w → HasClaims (floor_of w.key w.tags w.seen)
+claimed size who v w s key t = subst (λ (k : ForestSize). HasClaims (floor_of k w.tags w.seen)) (sym t.key) (has_claims v.key w.tags w.seen (size_shape v.key (subst IsSize (sym key) s)) t.done)

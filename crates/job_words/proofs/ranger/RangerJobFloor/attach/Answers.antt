@@ -1,0 +1,5 @@
+use Rattle.job_words.proofs.TreesReplay.{attached_seen}
+use Rattle.job_words.proofs.ranger.RangerJobFloor.attach.Goals as goal
+
+pub attach-requires-clause-parent : goal.attach-requires-clause-parent
+attach-requires-clause-parent c = attached_seen c.args.self.now.pass.now.seat.me.0.seen c.args.parent c.requires.can.attached

@@ -1,0 +1,16 @@
+use Rattle.std.proofs.Common.{◌≡◌, sym, ◌∙◌, subst}
+use Rattle.job_words.specs.Deeds.{IsSize}
+use Rattle.job_words.proofs.StepsOfATable.{told_of, told_stays, shaped, done, legal, claimed}
+use Rattle.job_words.proofs.steps.exchange_word.Goals as goal
+
+pub invariant_of-pass : goal.invariant_of-pass
+invariant_of-pass c =
+    let f = c.args.forest.now in
+    let k = f.table.shared.key in
+    let v = c.args.pass.now.seat.me.0 in
+    let w = c.exchange.new.seat.me.0 in
+    let key : v.key ≡ k = c.requires.own.0.1 ∙ sym f.sized.1 in
+    let t = told_of k c.args.who c.args.word c.args.old c.exchange.result c.args.deed.now v w key c.requires.own.0.2 c.requires.own.1 c.exchange.ensures.told in
+    let s = told_stays c.args.who c.args.word c.args.old c.exchange.result c.args.deed.now v w t in
+    let small = subst IsSize (sym f.sized.1) f.small in
+    record { shaped = shaped k w small (s.key ∙ key); done = done k c.args.who v w key s; legal = legal k c.args.who v w key s; claimed = claimed k c.args.who v w small key s }

@@ -1,0 +1,12 @@
+pub mod Rows
+pub mod Deeds
+pub mod Once
+pub mod Passes
+pub mod Attaches
+pub mod Acts
+pub mod Looks
+pub mod Meetings
+pub mod Forests
+pub mod Rangers
+pub mod JobWords
+pub mod Tables

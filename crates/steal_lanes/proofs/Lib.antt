@@ -1,0 +1,3 @@
+mod LaneMoves
+mod OtherLanes
+mod LanesBesideOthers

@@ -1,0 +1,4 @@
+mod AtTheStart
+mod OnTheSeats
+mod OnTheWords
+pub mod TagsAndPrefixes
