@@ -112,6 +112,13 @@ joined_fits who k c (Some x) m h = record {
         let is = seven_numbers (x.clauses ++ (k, c) ∷ []) all in
         omega (arith, numbers 1, numbers 2, numbers 3, numbers 4, numbers 5, numbers 6, numbers 7)
 
+-- a wait that may have one clause more has room for it
+pub one_clause_more : (who k c : ℕ) (x : Wait) → JoinsWait who k c (Some x) → ClausesFit (Some x) → length x.clauses < 7
+one_clause_more who k c x m h =
+    let few = (joined_fits who k c (Some x) m h).few in
+    let l = length-append x.clauses ((k, c) ∷ []) in
+    omega arith
+
 clauses_keep : WaitKeeps ClausesFit
 clauses_keep = record {
   resolved = resolved_fits;

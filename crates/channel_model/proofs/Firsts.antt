@@ -1,7 +1,7 @@
 -- The first receiver and the first offer, and what an act needs of a state.
 use Rattle.std.specs.Prelude.{◌≡◌, ℕ, ◌≤◌, Bool, true, false, List, [], ◌∷◌, Option, Some, None, slice_get, refl, IsSome, MatchBool, is_none, is_some}
 use Rattle.std.specs.Option.{ForSome, option_and_then}
-use Rattle.std.proofs.Common.{sym, ap, subst, arith}
+use Rattle.std.proofs.Common.{sym, ap, ◌∙◌, subst}
 use Rattle.co_base.specs.declared.names.WaitId.{WaitId}
 use Rattle.channel_model.specs.declared.acts.Kind.{Kind}
 use Rattle.channel_model.specs.declared.acts.Kind.TheVariants.{Rendezvous, Buffered, Unlimited, Conflated, DropOldest, Signal}
@@ -11,13 +11,13 @@ use Rattle.channel_model.specs.declared.standing.Receiver.{Receiver}
 use Rattle.channel_model.specs.declared.standing.Party.{Party}
 use Rattle.channel_model.specs.declared.standing.Resolution.{Resolution}
 use Rattle.channel_model.specs.declared.standing.Resolution.TheVariants as resolved
-use Rattle.channel_model.specs.Channels.{State, Wait, is_full, suspends, is_signal}
+use Rattle.channel_model.specs.Channels.{State, Wait, same_wait, is_full, suspends, is_signal}
 use Rattle.channel_model.specs.Outcomes.{outcome_of, IsOutcome}
 use Rattle.channel_model.specs.Effects.{resolve, resolve_first, resolve_holder, resolve_offer, with_queue, is_open}
 use Rattle.channel_model.specs.Needs.{MayName, JoinsWait, IsFirstReceiver, IsFirstOffer, IsOpenOf, MaySettle}
 use Rattle.channel_model.specs.Answers.{first_receiver, first_holder, owner_of, owner_of_holder, outcome_at, outcome_of_some, IsOwnWait, IsReadyWait, IsResolvedWait}
 use Rattle.channel_model.specs.Laws.{AllStandOpen, IsStandingAt, OffersStand, ReceiversStand, HolderStands}
-use Rattle.channel_model.proofs.Waits.{same_wait-refl}
+use Rattle.channel_model.proofs.Waits.{same_wait-refl, same_wait-eq}
 use Rattle.channel_model.proofs.OpenWaits.{with_queue_open}
 
 -- ---- the first receiver
@@ -87,8 +87,21 @@ full_suspends Signal n e h = cc
 abbrev pub at_place : ℕ → ℕ → WaitId
 at_place c p = record { channel = c; place = p }
 
-pub may_begin : (who c p : ℕ) (s : State) → MayName who 0 c p (at_place c p) s
-may_begin who c p s = let P : Bool → Type 0 = λ b. MatchBool b (0 ≤ 7) (JoinsWait who 0 c (s.waits (at_place c p))) in subst P (sym (same_wait-refl (at_place c p))) (omega arith)
+-- a wait may begin with this clause
+pub may_begin : (who k c p : ℕ) (s : State) → k ≤ 7 → MayName who k c p (at_place c p) s
+may_begin who k c p s le = let P : Bool → Type 0 = λ b. MatchBool b (k ≤ 7) (JoinsWait who k c (s.waits (at_place c p))) in subst P (sym (same_wait-refl (at_place c p))) le
+
+-- a wait that may have the clause as one more has no name of a place that no wait has
+pub may_join : (who k c p : ℕ) (w : WaitId) (s : State) → s.waits (at_place c p) ≡ None → JoinsWait who k c (s.waits w) → MayName who k c p w s
+may_join who k c p w s none h = by_test (same_wait w (at_place c p)) refl
+  where
+    not_none : (x : Option Wait) → x ≡ None → JoinsWait who k c x → ⊥
+    not_none None e h = h
+    not_none (Some x) e h = cc
+
+    by_test : (b : Bool) → same_wait w (at_place c p) ≡ b → MatchBool b (k ≤ 7) (JoinsWait who k c (s.waits w))
+    by_test true e = absurd (not_none (s.waits w) (ap s.waits (same_wait-eq w (at_place c p) e) ∙ none) h)
+    by_test false e = h
 
 pub outcome_is : (how : Resolution) (cancelled : Bool) → IsOutcome (outcome_of how cancelled) (Some how)
 outcome_is (resolved.Handed k v) false = refl

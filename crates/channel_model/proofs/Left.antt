@@ -17,6 +17,7 @@ use Rattle.channel_model.specs.Effects.{after, resolve_first, resolve_holder, re
 use Rattle.channel_model.specs.Needs.{Needs, IsFirstOffer, IsFirstReceiver, MayBeAdmitted}
 use Rattle.channel_model.specs.Histories.{replay, Legal}
 use Rattle.channel_model.specs.Laws.{how_many}
+use Rattle.channel_model.specs.Left.{is_any, is_waiting, left}
 use Rattle.channel_model.specs.Floors.{Floor, Made}
 use Rattle.channel_model.proofs.Histories.{replay_push, Legal-last}
 use Rattle.channel_model.proofs.Waits.{same_wait-refl}
@@ -24,16 +25,6 @@ use Rattle.channel_model.proofs.Placed.{same_number}
 use Rattle.channel_model.proofs.Apart.{filtered_less, how_many_push}
 use Rattle.channel_model.proofs.EveryAct.{ChannelKeeps}
 use Rattle.channel_model.proofs.Sound.{channel_lasts}
-
-abbrev pub is_any : {X : Type 0} → X → Bool
-is_any x = true
-
-abbrev pub is_waiting : Standing → Bool
-is_waiting o = is_some o.holder
-
--- an offer that waits may be admitted and then removed; a place that was not given out may get one
-abbrev pub left : ℕ → Channel → ℕ
-left places ch = how_many is_any ch.queue + (how_many is_waiting ch.queue + (how_many is_any ch.receivers + 2 * (places - ch.next)))
 
 without_less : (w : WaitId) (ch : Channel) (places : ℕ) → left places (without w ch) ≤ left places ch
 without_less w ch places = omega (
@@ -47,7 +38,7 @@ holder_less : (p : Option Party) (how : ℕ → Resolution) (s : State) (c place
 holder_less None how s c places = omega arith
 holder_less (Some p) how s c places = without_less p.wait (s.channels c) places
 
-put_here : (c : ℕ) (ch : Channel) (channels : ℕ → Channel) → put_channel c ch channels c ≡ ch
+pub put_here : (c : ℕ) (ch : Channel) (channels : ℕ → Channel) → put_channel c ch channels c ≡ ch
 put_here c ch channels = ap (λ b. if b then ch else channels c) (same_number c)
 
 offer_less : (b : Bool) (places : ℕ) (o : Standing) (ch : Channel) → ch.next < places → left places (place_offer b o ch) ≤ left places ch
@@ -104,7 +95,7 @@ admitted_less : (kind : Kind) (places p : ℕ) (ch : Channel) → MayBeAdmitted 
 admitted_less kind places p ch h = omega (arith, admitted_any p ch.queue, admitted_waits kind p 0 ch.queue h)
 
 -- no act raises it
-left_keeps : (shape : Shape) (n : ℕ) → ChannelKeeps shape (λ d ch. left (places_at shape d) ch ≤ n)
+pub left_keeps : (shape : Shape) (n : ℕ) → ChannelKeeps shape (λ d ch. left (places_at shape d) ch ≤ n)
 left_keeps shape n = record {
   without = λ w d ch h. omega (arith, without_less w ch (places_at shape d));
   rest = λ d o os ch e h. omega (arith, popped_less (places_at shape d) o os ch e);
@@ -141,7 +132,7 @@ remove_lower : (shape : Shape) (c p v : ℕ) (q : List Standing) (s : State) →
 remove_lower shape c p v [] s e h = absurd h
 remove_lower shape c p v (o ∷ os) s e h = queue_lower shape c os s (popped_less (places_at shape c) o os (s.channels c) e)
 
-take_lower : (shape : Shape) (c p v : ℕ) (q : List Standing) (how : ℕ → Resolution) (s : State) → (s.channels c).queue ≡ q → IsFirstOffer p v q → left (places_at shape c) ((resolve_offer c q how s).channels c) < left (places_at shape c) (s.channels c)
+pub take_lower : (shape : Shape) (c p v : ℕ) (q : List Standing) (how : ℕ → Resolution) (s : State) → (s.channels c).queue ≡ q → IsFirstOffer p v q → left (places_at shape c) ((resolve_offer c q how s).channels c) < left (places_at shape c) (s.channels c)
 take_lower shape c p v [] how s e h = absurd h
 take_lower shape c p v (o ∷ os) how s e h = omega (arith, queue_lower shape c os s (popped_less (places_at shape c) o os (s.channels c) e), holder_less o.holder how (with_queue c os s) c (places_at shape c))
 

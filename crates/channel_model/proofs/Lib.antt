@@ -26,8 +26,11 @@ pub mod Later
 pub mod Lasts
 pub mod Marks
 pub mod Left
+pub mod LeftOnFloors
+pub mod ClosedWaits
 pub mod Leads
 pub mod UpTo
 pub mod Puts
 pub mod Entries
 pub mod PlainOffers
+pub mod ResolvedAtClauses

@@ -8,7 +8,10 @@ pub mod Owing
 pub mod Fates
 pub mod Floors
 pub mod Answers
+pub mod Registers
 pub mod Admitted
 pub mod Puts
 pub mod Laws
 pub mod PlainOffers
+pub mod ClauseSides
+pub mod Left

@@ -1,10 +1,11 @@
 //! The one contract between channels and all above.
 
-ghost use Rattle.std.specs.Prelude.{◌≡◌, ℕ, ◌<◌, false, OnOk, OnErr};
-ghost use Rattle.channel_model.specs.Channels.{IsShape, kind_at, is_signal};
+ghost use Rattle.std.specs.Prelude.{◌≡◌, ℕ, ◌<◌, true, false, OnOk, OnErr};
+ghost use Rattle.channel_model.specs.Channels.{IsShape, kind_at, is_signal, suspends};
 ghost use Rattle.channel_model.specs.Histories.{Legal};
 ghost use Rattle.channel_model.specs.Floors.{Floor, HasRoom, MayCall};
 ghost use Rattle.channel_model.specs.Answers.{OfferAnswer, TriedOfferAnswer, GotAnswer, TriedGotAnswer, CloseAnswer, WakeAnswer, VoidAnswer, DrainAnswer, LookAnswer, SettleAnswer, WithdrawAnswer, MarkAnswer, AdmitAnswer, TrimAnswer, IsOwn, IsReady, HasPut, IsSeenClosed, IsSeenVoided};
+ghost use Rattle.channel_model.specs.Registers.{MayRegister, RegisterOfferAnswer, RegisterReceiveAnswer};
 
 use crate::acts::{Settled, Why};
 use co_base::{ChannelId, Memory, Place, Tag, Value, WaitId};
@@ -55,6 +56,7 @@ pub enum TriedGot {
 /// What the placing of a select's clause came to.
 #[derive(Clone, Copy, Debug, PartialEq, Eq)]
 pub enum Registered {
+    /// The clause took this place, and stands there unless the select's wait was resolved meanwhile.
     Stands(Place),
     /// The other side stands at this place.
     Partner(Place),
@@ -135,6 +137,40 @@ pub trait ChannelFloor {
         requires room { 0 < (view self.old).spare }
         ensures anchor { anchor self.new ≡ anchor self.old }
         ensures answer { TriedGotAnswer who c (view self.old) (view self.new) result };
+
+    /// Places a select's clause that offers an element. It waits even where the channel would keep the element, and hands
+    /// it to nobody.
+    ///
+    /// `main` is the select's wait, or `None` where none of its clauses was placed yet: then a wait begins here, with the
+    /// name of the channel and the place.
+    fn register_offer(
+        &mut self,
+        who: Tag,
+        main: Option<WaitId>,
+        clause: u8,
+        c: ChannelId,
+        value: Value,
+    ) -> Registered
+        requires can { MayCall who c (view self.old) }
+        requires room { 0 < (view self.old).spare }
+        requires kind { suspends (kind_at (view self.old).shape c) ≡ true }
+        requires joins { MayRegister who clause c main (view self.old) }
+        ensures anchor { anchor self.new ≡ anchor self.old }
+        ensures answer { RegisterOfferAnswer who main clause c value (view self.old) (view self.new) result };
+
+    /// Places a select's clause that receives. It takes nothing; `main` is as in `register_offer`.
+    fn register_receive(
+        &mut self,
+        who: Tag,
+        main: Option<WaitId>,
+        clause: u8,
+        c: ChannelId,
+    ) -> Registered
+        requires can { MayCall who c (view self.old) }
+        requires room { 0 < (view self.old).spare }
+        requires joins { MayRegister who clause c main (view self.old) }
+        ensures anchor { anchor self.new ≡ anchor self.old }
+        ensures answer { RegisterReceiveAnswer who main clause c (view self.old) (view self.new) result };
 
     /// Closes the channel with a value. What stands there still stands, and no place is given out any more.
     fn close(&mut self, who: Tag, c: ChannelId, v: Value) -> Result<(), AlreadyClosed>

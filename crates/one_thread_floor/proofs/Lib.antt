@@ -1,3 +1,8 @@
+pub mod ListClauses
+pub mod ByHalves
+pub mod KeptPlaces
+pub mod InOrder
+pub mod ListPartners
 pub mod ListRemoval
 pub mod ListEntries
 pub mod ListFirsts

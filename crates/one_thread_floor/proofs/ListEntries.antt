@@ -1,5 +1,5 @@
 -- One entry more, on the lists.
-use Rattle.std.specs.Prelude.{◌≡◌, ℕ, ◌<◌, ◌≤◌, Bool, true, false, List, [], ◌∷◌, ◌++◌, Option, Some, None, slice_get, length, refl, nat_le, is_some}
+use Rattle.std.specs.Prelude.{◌≡◌, ℕ, ◌<◌, ◌≤◌, Bool, true, false, List, [], ◌∷◌, ◌++◌, Option, Some, None, slice_get, length, refl, nat_le, is_some, IsSome}
 use mathlib.Core.Path.{fun_ext}
 use Rattle.std.proofs.Common.{sym, ap, ◌∙◌, subst, arith}
 use Rattle.std.proofs.lemmas.Bool.Decides.{nat_tests}
@@ -11,15 +11,17 @@ use Rattle.channel_model.specs.declared.acts.Why.{Why}
 use Rattle.channel_model.specs.declared.acts.Act.TheVariants.{Put, Offer, Await, Close, Void, Withdraw, Settle}
 use Rattle.channel_model.specs.declared.acts.Entry.{Entry}
 use Rattle.channel_model.specs.declared.standing.Standing.{Standing}
-use Rattle.channel_model.specs.Channels.{kind_at, places_at, Channel, State, Shape, Wait, is_full, is_signal}
+use Rattle.channel_model.specs.Channels.{kind_at, places_at, Channel, State, Shape, Wait, is_full, is_signal, suspends}
 use Rattle.channel_model.specs.Effects.{after, put_channel, put_wait, place_offer, place_receiver, name_clause, settled_wait, is_open}
-use Rattle.channel_model.specs.Needs.{Needs, HasPlace}
-use Rattle.channel_model.specs.Histories.{replay}
+use Rattle.channel_model.specs.Needs.{Needs, HasPlace, MayName, JoinsWait}
+use Rattle.channel_model.specs.Histories.{replay, Legal}
 use Rattle.channel_model.specs.Answers.{IsOwnWait, IsResolvedWait}
 use Rattle.channel_model.proofs.Histories.{replay_push}
-use Rattle.channel_model.proofs.Firsts.{no_receiver, full_suspends, at_place, may_begin, may_withdraw, not_open_resolved}
+use Rattle.channel_model.specs.Laws.{ClausesFit}
+use Rattle.channel_model.proofs.Clauses.{one_clause_more, replay_clauses_fit}
+use Rattle.channel_model.proofs.Firsts.{no_receiver, full_suspends, at_place, may_begin, may_join, may_withdraw, not_open_resolved}
 use Rattle.one_thread_floor.specs.declared.list_channel.ListChannel.{ListChannel}
-use Rattle.one_thread_floor.specs.ListStands.{channel_in, wait_in, IsAt, SameShape, SameWaits, SameChannels, Becomes, BeginsWait, held_offer, plain_receiver, wait_in_channel, wait_in_slot, channel_or_empty, places_in, places_of}
+use Rattle.one_thread_floor.specs.ListStands.{channel_in, wait_in, IsAt, SameShape, SameWaits, SameChannels, Becomes, BeginsWait, JoinsClause, with_clause, held_offer, held_receiver, wait_in_channel, wait_in_slot, channel_or_empty, places_in, places_of, clauses_of}
 
 -- ---- the state that the lists stand for
 
@@ -86,32 +88,71 @@ spent_is shape xs s c at e =
 pub not_spent : (shape : Shape) (xs : List ListChannel) (s : State) (c : ℕ) → IsAt shape xs s → false ≡ nat_le (places_in xs c) (channel_in xs c).next → (channel_in xs c).next < places_in xs c
 not_spent shape xs s c at e = grind (arith, nat_tests)
 
-pub has_place : (shape : Shape) (xs : List ListChannel) (s : State) (c p : ℕ) → IsAt shape xs s → None ≡ (channel_in xs c).closed → false ≡ nat_le (places_in xs c) (channel_in xs c).next → p ≡ (channel_in xs c).next → HasPlace (places_at shape c) p (s.channels c)
-has_place shape xs s c p at not_closed e is = record {
-  open_now = ap (λ (ch : Channel). ch.closed) (at.channels_are c) ∙ sym not_closed;
-  left = (let n : (s.channels c).next ≡ (channel_in xs c).next = ap (λ (ch : Channel). ch.next) (at.channels_are c) in let k = at.places c in let l = not_spent shape xs s c at e in omega arith);
+-- the place that is given out next
+pub next_place : (shape : Shape) (xs : List ListChannel) (s : State) (c p : ℕ) → IsAt shape xs s → (channel_in xs c).closed ≡ None → (channel_in xs c).next < places_in xs c → p ≡ (channel_in xs c).next → HasPlace (places_at shape c) p (s.channels c)
+next_place shape xs s c p at not_closed left is = record {
+  open_now = ap (λ (ch : Channel). ch.closed) (at.channels_are c) ∙ not_closed;
+  left = (let n : (s.channels c).next ≡ (channel_in xs c).next = ap (λ (ch : Channel). ch.next) (at.channels_are c) in let k = at.places c in omega arith);
   first = is ∙ sym (ap (λ (ch : Channel). ch.next) (at.channels_are c));
 }
 
-pub offer_at : (shape : Shape) (xs ys : List ListChannel) (es : List Entry) (who c p v : ℕ) → IsAt shape xs (replay es) → p ≡ (channel_in xs c).next
-    → BeginsWait who c p (place_offer true (held_offer c p v) (channel_in xs c)) xs ys
-    → IsAt shape ys (after (replay es) who (Offer c p v (at_place c p) 0))
-offer_at shape xs ys es who c p v at is begins =
+-- where the wait's name is its place: the place names no wait, so it is as if the wait were open
+pub offer_at : (shape : Shape) (xs ys : List ListChannel) (es : List Entry) (who k c p v : ℕ) → IsAt shape xs (replay es) → p ≡ (channel_in xs c).next
+    → BeginsWait who k c p (place_offer true (held_offer (at_place c p) k p v) (channel_in xs c)) xs ys
+    → IsAt shape ys (after (replay es) who (Offer c p v (at_place c p) k))
+offer_at shape xs ys es who k c p v at is begins =
     at_new shape xs ys (replay es) _ at begins.shape
-    (ap (λ (s : State). after s who (Offer c p v (at_place c p) 0)) (at_state shape xs (replay es) at)
+    (ap (λ (s : State). after s who (Offer c p v (at_place c p) k)) (at_state shape xs (replay es) at)
     ∙ same_state _ _
-    (λ d. ap (λ (x : Option Wait). put_channel c (place_offer (is_open x) (held_offer c p v) (channel_in xs c)) (channel_in xs) d) (fresh xs c p is) ∙ sym (begins.channels d))
-    (λ u. ap (λ (x : Option Wait). put_wait (at_place c p) (name_clause who 0 c x) (wait_in xs) u) (fresh xs c p is) ∙ sym (begins.waits u)))
+    (λ d. ap (λ (x : Option Wait). put_channel c (place_offer (is_open x) (held_offer (at_place c p) k p v) (channel_in xs c)) (channel_in xs) d) (fresh xs c p is) ∙ sym (begins.channels d))
+    (λ u. ap (λ (x : Option Wait). put_wait (at_place c p) (name_clause who k c x) (wait_in xs) u) (fresh xs c p is) ∙ sym (begins.waits u)))
 
-pub await_at : (shape : Shape) (xs ys : List ListChannel) (es : List Entry) (who c p : ℕ) → IsAt shape xs (replay es) → p ≡ (channel_in xs c).next
-    → BeginsWait who c p (place_receiver true (plain_receiver c p) (channel_in xs c)) xs ys
-    → IsAt shape ys (after (replay es) who (Await c p (at_place c p) 0))
-await_at shape xs ys es who c p at is begins =
+pub await_at : (shape : Shape) (xs ys : List ListChannel) (es : List Entry) (who k c p : ℕ) → IsAt shape xs (replay es) → p ≡ (channel_in xs c).next
+    → BeginsWait who k c p (place_receiver true (held_receiver (at_place c p) k p) (channel_in xs c)) xs ys
+    → IsAt shape ys (after (replay es) who (Await c p (at_place c p) k))
+await_at shape xs ys es who k c p at is begins =
     at_new shape xs ys (replay es) _ at begins.shape
-    (ap (λ (s : State). after s who (Await c p (at_place c p) 0)) (at_state shape xs (replay es) at)
+    (ap (λ (s : State). after s who (Await c p (at_place c p) k)) (at_state shape xs (replay es) at)
     ∙ same_state _ _
-    (λ d. ap (λ (x : Option Wait). put_channel c (place_receiver (is_open x) (plain_receiver c p) (channel_in xs c)) (channel_in xs) d) (fresh xs c p is) ∙ sym (begins.channels d))
-    (λ u. ap (λ (x : Option Wait). put_wait (at_place c p) (name_clause who 0 c x) (wait_in xs) u) (fresh xs c p is) ∙ sym (begins.waits u)))
+    (λ d. ap (λ (x : Option Wait). put_channel c (place_receiver (is_open x) (held_receiver (at_place c p) k p) (channel_in xs c)) (channel_in xs) d) (fresh xs c p is) ∙ sym (begins.channels d))
+    (λ u. ap (λ (x : Option Wait). put_wait (at_place c p) (name_clause who k c x) (wait_in xs) u) (fresh xs c p is) ∙ sym (begins.waits u)))
+
+-- where the clause is one more of an open wait
+named_more : (who k c : ℕ) (x : Option Wait) → JoinsWait who k c x → name_clause who k c x ≡ with_clause k c x
+named_more who k c None h = absurd h
+named_more who k c (Some x) h = refl
+
+pub joined_offer_at : (shape : Shape) (xs ys : List ListChannel) (es : List Entry) (who k c p v : ℕ) (w : WaitId) → IsAt shape xs (replay es) → is_open (wait_in xs w) ≡ true → JoinsWait who k c (wait_in xs w)
+    → JoinsClause w k c p (place_offer true (held_offer w k p v) (channel_in xs c)) xs ys
+    → IsAt shape ys (after (replay es) who (Offer c p v w k))
+joined_offer_at shape xs ys es who k c p v w at waits may joins =
+    at_new shape xs ys (replay es) _ at joins.shape
+    (ap (λ (s : State). after s who (Offer c p v w k)) (at_state shape xs (replay es) at)
+    ∙ same_state _ _
+    (λ d. ap (λ b. put_channel c (place_offer b (held_offer w k p v) (channel_in xs c)) (channel_in xs) d) waits ∙ sym (joins.channels d))
+    (λ u. ap (λ (x : Option Wait). put_wait w x (wait_in xs) u) (named_more who k c (wait_in xs w) may) ∙ sym (joins.waits u)))
+
+pub joined_await_at : (shape : Shape) (xs ys : List ListChannel) (es : List Entry) (who k c p : ℕ) (w : WaitId) → IsAt shape xs (replay es) → is_open (wait_in xs w) ≡ true → JoinsWait who k c (wait_in xs w)
+    → JoinsClause w k c p (place_receiver true (held_receiver w k p) (channel_in xs c)) xs ys
+    → IsAt shape ys (after (replay es) who (Await c p w k))
+joined_await_at shape xs ys es who k c p w at waits may joins =
+    at_new shape xs ys (replay es) _ at joins.shape
+    (ap (λ (s : State). after s who (Await c p w k)) (at_state shape xs (replay es) at)
+    ∙ same_state _ _
+    (λ d. ap (λ b. put_channel c (place_receiver b (held_receiver w k p) (channel_in xs c)) (channel_in xs) d) waits ∙ sym (joins.channels d))
+    (λ u. ap (λ (x : Option Wait). put_wait w x (wait_in xs) u) (named_more who k c (wait_in xs w) may) ∙ sym (joins.waits u)))
+
+-- the wait has room for one clause more
+pub room_for_clause : (shape : Shape) (xs : List ListChannel) (es : List Entry) (who k c : ℕ) (w : WaitId) → Legal shape es → IsAt shape xs (replay es) → JoinsWait who k c (wait_in xs w) → length (clauses_of (wait_in xs w)) < 7
+room_for_clause shape xs es who k c w l at may = has_room (wait_in xs w) may (subst ClausesFit (at.waits_are w) (replay_clauses_fit shape es w l))
+  where
+    has_room : (x : Option Wait) → JoinsWait who k c x → ClausesFit x → length (clauses_of x) < 7
+    has_room None h f = absurd h
+    has_room (Some x) h f = one_clause_more who k c x h f
+
+pub began : (who k c : ℕ) (x : Option Wait) → JoinsWait who k c x → IsSome x
+began who k c None h = absurd h
+began who k c (Some x) h = refl
 
 -- ---- what they need
 
@@ -126,30 +167,52 @@ pub put_needs : (shape : Shape) (xs : List ListChannel) (es : List Entry) (who c
     → slice_get (channel_in xs c).receivers 0 ≡ None → is_full (kind_at shape c) (length (channel_in xs c).queue) ≡ false → Needs shape (replay es) who (Put c p v)
 put_needs shape xs es who c p v at lt not_closed left is nobody fits = (
   lt,
-  record {
-    open_now = ap (λ (ch : Channel). ch.closed) (at.channels_are c) ∙ not_closed;
-    left = (let n : ((replay es).channels c).next ≡ (channel_in xs c).next = ap (λ (ch : Channel). ch.next) (at.channels_are c) in let k = at.places c in omega arith);
-    first = is ∙ sym (ap (λ (ch : Channel). ch.next) (at.channels_are c));
-  },
+  next_place shape xs (replay es) c p at not_closed left is,
   nobody_waits shape xs (replay es) c at (sym nobody),
   ap (λ (ch : Channel). is_full (kind_at shape c) (length ch.queue)) (at.channels_are c) ∙ fits,
 )
 
-pub offer_needs : (shape : Shape) (xs : List ListChannel) (es : List Entry) (who c p v n : ℕ) (k : Kind) → IsAt shape xs (replay es) → c < length shape → is_signal (kind_at shape c) ≡ false → HasPlace (places_at shape c) p ((replay es).channels c)
-    → None ≡ slice_get (channel_in xs c).receivers 0 → k ≡ kind_at shape c → true ≡ is_full k n → Needs shape (replay es) who (Offer c p v (at_place c p) 0)
-offer_needs shape xs es who c p v n k at lt signal place e kind full =
-    (lt, place, nobody_waits shape xs (replay es) c at e, full_suspends (kind_at shape c) n (ap (λ (j : Kind). is_full j n) (sym kind) ∙ sym full) signal, may_begin who c p (replay es))
+-- one more clause may name the wait
+may_join_at : (shape : Shape) (xs : List ListChannel) (s : State) (who k c p : ℕ) (w : WaitId) → IsAt shape xs s → p ≡ (channel_in xs c).next → JoinsWait who k c (wait_in xs w) → MayName who k c p w s
+may_join_at shape xs s who k c p w at is may = may_join who k c p w s (at.waits_are (at_place c p) ∙ fresh xs c p is) (subst (JoinsWait who k c) (sym (at.waits_are w)) may)
 
-no_offer : (os : List Standing) (n : ℕ) → n ≡ length os → n ≤ 0 → os ≡ []
+pub offer_needs : (shape : Shape) (xs : List ListChannel) (es : List Entry) (who k c p v : ℕ) → IsAt shape xs (replay es) → c < length shape → suspends (kind_at shape c) ≡ true
+    → (channel_in xs c).closed ≡ None → (channel_in xs c).next < places_in xs c → p ≡ (channel_in xs c).next
+    → slice_get (channel_in xs c).receivers 0 ≡ None → k ≤ 7 → Needs shape (replay es) who (Offer c p v (at_place c p) k)
+offer_needs shape xs es who k c p v at lt kind not_closed left is e le =
+    (lt, next_place shape xs (replay es) c p at not_closed left is, nobody_waits shape xs (replay es) c at (sym e), kind, may_begin who k c p (replay es) le)
+
+pub joined_offer_needs : (shape : Shape) (xs : List ListChannel) (es : List Entry) (who k c p v : ℕ) (w : WaitId) → IsAt shape xs (replay es) → c < length shape → suspends (kind_at shape c) ≡ true
+    → (channel_in xs c).closed ≡ None → (channel_in xs c).next < places_in xs c → p ≡ (channel_in xs c).next
+    → slice_get (channel_in xs c).receivers 0 ≡ None → JoinsWait who k c (wait_in xs w) → Needs shape (replay es) who (Offer c p v w k)
+joined_offer_needs shape xs es who k c p v w at lt kind not_closed left is e may =
+    (lt, next_place shape xs (replay es) c p at not_closed left is, nobody_waits shape xs (replay es) c at (sym e), kind, may_join_at shape xs (replay es) who k c p w at is may)
+
+-- the kind of a channel that is full, and no signal, lets offers wait
+pub kind_suspends : (shape : Shape) (c n : ℕ) (k : Kind) → is_signal (kind_at shape c) ≡ false → k ≡ kind_at shape c → true ≡ is_full k n → suspends (kind_at shape c) ≡ true
+kind_suspends shape c n k signal kind full = full_suspends (kind_at shape c) n (ap (λ (j : Kind). is_full j n) (sym kind) ∙ sym full) signal
+
+pub no_offer : (os : List Standing) (n : ℕ) → n ≡ length os → n ≤ 0 → os ≡ []
 no_offer [] n e h = refl
 no_offer (o ∷ os) n e h = absurd (omega (arith, e, h))
 
 pub empty_queue : (shape : Shape) (xs : List ListChannel) (s : State) (c n : ℕ) → IsAt shape xs s → n ≡ length (channel_in xs c).queue → n ≤ 0 → (s.channels c).queue ≡ []
 empty_queue shape xs s c n at e h = ap (λ (ch : Channel). ch.queue) (at.channels_are c) ∙ no_offer _ n e h
 
-pub await_needs : (shape : Shape) (xs : List ListChannel) (es : List Entry) (who c p n : ℕ) → IsAt shape xs (replay es) → c < length shape → HasPlace (places_at shape c) p ((replay es).channels c)
-    → n ≡ length (channel_in xs c).queue → n ≤ 0 → Needs shape (replay es) who (Await c p (at_place c p) 0)
-await_needs shape xs es who c p n at lt place e h = (lt, place, empty_queue shape xs (replay es) c n at e h, may_begin who c p (replay es))
+nothing_stands : (shape : Shape) (xs : List ListChannel) (s : State) (c : ℕ) → IsAt shape xs s → (channel_in xs c).queue ≡ [] → (s.channels c).queue ≡ []
+nothing_stands shape xs s c at e = ap (λ (ch : Channel). ch.queue) (at.channels_are c) ∙ e
+
+pub await_needs : (shape : Shape) (xs : List ListChannel) (es : List Entry) (who k c p : ℕ) → IsAt shape xs (replay es) → c < length shape
+    → (channel_in xs c).closed ≡ None → (channel_in xs c).next < places_in xs c → p ≡ (channel_in xs c).next
+    → (channel_in xs c).queue ≡ [] → k ≤ 7 → Needs shape (replay es) who (Await c p (at_place c p) k)
+await_needs shape xs es who k c p at lt not_closed left is e le =
+    (lt, next_place shape xs (replay es) c p at not_closed left is, nothing_stands shape xs (replay es) c at e, may_begin who k c p (replay es) le)
+
+pub joined_await_needs : (shape : Shape) (xs : List ListChannel) (es : List Entry) (who k c p : ℕ) (w : WaitId) → IsAt shape xs (replay es) → c < length shape
+    → (channel_in xs c).closed ≡ None → (channel_in xs c).next < places_in xs c → p ≡ (channel_in xs c).next
+    → (channel_in xs c).queue ≡ [] → JoinsWait who k c (wait_in xs w) → Needs shape (replay es) who (Await c p w k)
+joined_await_needs shape xs es who k c p w at lt not_closed left is e may =
+    (lt, next_place shape xs (replay es) c p at not_closed left is, nothing_stands shape xs (replay es) c at e, may_join_at shape xs (replay es) who k c p w at is may)
 
 -- ---- a close and a void
 

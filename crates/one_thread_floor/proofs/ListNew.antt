@@ -12,7 +12,7 @@ use Rattle.std.specs.List.{All}
 use Rattle.channel_model.specs.Channels.{HasPlaces, IsShape, Shape, Channel, empty, start, places_at}
 use Rattle.one_thread_floor.specs.declared.list_channel.ListChannel.{ListChannel}
 use Rattle.one_thread_floor.specs.ListFloors.{MayBeMade}
-use Rattle.one_thread_floor.specs.ListStands.{channel_of, channel_in, wait_in_channel, wait_in_slot, places_in, IsAt}
+use Rattle.one_thread_floor.specs.ListStands.{channel_of, channel_in, wait_in_channel, wait_in_slot, places_in, clauses_in, IsAt, ChannelKept, PlacesKept}
 
 places_push : (ks : Shape) (k : Kind × ℕ) (xs : List ListChannel) (ch : ListChannel) → length xs ≡ length ks → ((c : ℕ) → places_in xs c ≡ places_at ks c) → ch.places ≡ k.1 → (c : ℕ) → places_in (xs ++ ch ∷ []) c ≡ places_at (ks ++ k ∷ []) c
 places_push [] k [] ch n h e zero = e
@@ -69,3 +69,7 @@ fresh_stands kinds shape xs es e f h =
     let P : Shape → Type 0 = λ k. IsAt k xs (replay es) in
     let Q : List Entry → Type 0 = λ l. IsAt kinds xs (replay l) in
     subst P (sym e) (subst Q (sym f) h)
+
+-- nothing stands yet
+pub fresh_kept : (kinds : Shape) (xs : List ListChannel) → IsAt kinds xs start → PlacesKept xs
+fresh_kept kinds xs at c = subst (ChannelKept (clauses_in xs) c) (at.channels_are c) (record { offers = refl; receivers = refl })

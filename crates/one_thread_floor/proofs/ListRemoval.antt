@@ -106,6 +106,14 @@ resolved_elsewhere w how c left xs ys zs shape s h at popped same k gone removed
         let before : s.channels d ≡ channel_in ys d = at.channels_are d ∙ sym (popped d ∙ ap (λ b. if b then left else channel_in xs d) e) in
         channel_resolved w d s (channel_in ys d) (channel_in zs d) _ h before (ap (λ x. list_any (λ (y : ℕ × ℕ). y.1 == d) (clauses_of x)) (waits w) ∙ sym (all_elsewhere c d cs e)) (removed d)
 
+-- a channel that stays as it is
+pub stays : (c : ℕ) (x : Channel) (xs : List ListChannel) → x ≡ channel_in xs c → Becomes c x xs xs
+stays c x xs e = record { shape = record { count = refl; places = λ d. refl }; channels = λ d. by_test d (c == d) refl; waits = λ v. refl; clauses = λ v. refl }
+  where
+    by_test : (d : ℕ) (b : Bool) → (c == d) ≡ b → channel_in xs d ≡ (if b then x else channel_in xs d)
+    by_test d true t = ap (channel_in xs) (sym (eqb-true c d t)) ∙ sym e
+    by_test d false t = refl
+
 -- a wait left the channel at which it began, and then each other at which it has a clause
 pub resolved_everywhere : (w : WaitId) (how : Resolution) (xs ys zs : List ListChannel)
     → Becomes w.channel (without w (channel_in xs w.channel)) xs ys

@@ -1,11 +1,11 @@
 -- The rows after a child is attached, and after one is told gone.
-use Rattle.std.specs.Prelude.{◌≡◌, ℕ, ◌+◌, ◌==◌, Bool, true, false, not, List, ◌∷◌, [], ◌++◌, length, Option, Some, None, option_map, if◌then◌else◌, refl}
+use Rattle.std.specs.Prelude.{◌≡◌, ℕ, ◌+◌, ◌==◌, Bool, true, false, not, List, length, Option, Some, None, option_map, if◌then◌else◌, refl}
 use Rattle.std.proofs.Common.{sym, ap, ◌∙◌, arith}
 use Rattle.std.proofs.lemmas.Bool.{eqb-true}
 use Rattle.job_model.specs.declared.acts.JobKind.{JobKind}
 use Rattle.job_model.specs.declared.acts.JobAct.TheVariants.{Attach}
 use Rattle.job_model.specs.Trees.{Job, Tree, is_among, living, was_told}
-use Rattle.job_model.specs.Effects.{after, change, put_row, new_child, with_child, with_told}
+use Rattle.job_model.specs.Effects.{after, new_child, with_child, with_told}
 use Rattle.job_model.specs.Needs.{MayHaveChild}
 use Rattle.job_model.specs.Families.{newest, children_of, older_sibling}
 use Rattle.job_model.specs.Laws.{HasFamilies}

@@ -1,20 +1,27 @@
 -- What the lists stand for.
-use Rattle.std.specs.Prelude.{◌≡◌, ℕ, ◌≤◌, ◌≢◌, ◌==◌, ◌&&◌, not, Bool, true, List, [], length, take, Option, Some, None, is_some, option_map, slice_get, if◌then◌else◌}
+use Rattle.std.specs.Prelude.{◌≡◌, ℕ, ◌≤◌, ◌≢◌, ◌==◌, ◌&&◌, not, Bool, true, false, List, [], ◌∷◌, ◌++◌, length, map, take, Option, Some, None, is_some, option_map, slice_get, if◌then◌else◌}
 use Rattle.std.specs.List.{list_any, list_all}
-use Rattle.channel_model.specs.Effects.{without, put_channel, put_wait, name_clause}
+use Rattle.channel_model.specs.Effects.{without, is_held_by, put_channel, put_wait, name_clause, is_open}
 use Rattle.channel_model.specs.Owing.{is_buffered}
+use Rattle.channel_model.specs.Laws.{Ascends, StandsInOrder}
+use Rattle.channel_model.specs.declared.standing.Party.{Party}
 use Rattle.channel_model.specs.declared.standing.Standing.{Standing}
 use Rattle.channel_model.specs.declared.standing.Receiver.{Receiver}
 use Rattle.co_base.specs.declared.names.WaitId.{WaitId}
 use Rattle.channel_model.specs.declared.acts.Entry.{Entry}
-use Rattle.channel_model.specs.Channels.{Shape, State, Channel, Wait, empty, places_at}
+use Rattle.channel_model.specs.Channels.{Shape, State, Channel, Wait, empty, places_at, same_wait}
 use Rattle.channel_model.specs.Histories.{replay}
+use Rattle.one_thread_floor.specs.declared.list_channel.ListClause.{ListClause}
 use Rattle.one_thread_floor.specs.declared.list_channel.ListWait.{ListWait}
 use Rattle.one_thread_floor.specs.declared.list_channel.ListChannel.{ListChannel}
 
+-- the number and the channel of a clause
+abbrev pub clause_of : ListClause → ℕ × ℕ
+clause_of y = (y.number, y.channel)
+
 -- a wait of the model
 abbrev pub wait_of : ListWait → Wait
-wait_of x = record { owner = x.owner; clauses = x.clauses.items; resolved = x.resolved; settled = x.settled }
+wait_of x = record { owner = x.owner; clauses = map clause_of x.clauses.items; resolved = x.resolved; settled = x.settled }
 
 -- a channel of the model; its places are counted by its slots
 abbrev pub channel_of : ListChannel → Channel
@@ -53,6 +60,25 @@ wait_in_channel (Some ch) place = wait_in_slot (slice_get ch.slots.items place)
 abbrev pub wait_in : List ListChannel → WaitId → Option Wait
 wait_in channels w = wait_in_channel (slice_get channels w.channel) w.place
 
+-- the clauses of the wait in a slot
+abbrev pub clauses_of_slot : Option ListWait → List ListClause
+clauses_of_slot None = []
+clauses_of_slot (Some x) = x.clauses.items
+
+-- the clauses of the wait in a slot that may not have been given out
+abbrev pub clauses_in_slot : Option (Option ListWait) → List ListClause
+clauses_in_slot None = []
+clauses_in_slot (Some slot) = clauses_of_slot slot
+
+-- the clauses of the wait that began at this place of the channel
+abbrev pub clauses_in_channel : Option ListChannel → ℕ → List ListClause
+clauses_in_channel None place = []
+clauses_in_channel (Some ch) place = clauses_in_slot (slice_get ch.slots.items place)
+
+-- the clauses of the wait of this name, each with its place
+abbrev pub clauses_in : List ListChannel → WaitId → List ListClause
+clauses_in channels w = clauses_in_channel (slice_get channels w.channel) w.place
+
 -- the places of a channel
 abbrev pub places_of : Option ListChannel → ℕ
 places_of None = 0
@@ -86,6 +112,10 @@ IsWithout w test old new = (c : ℕ) → channel_in new c ≡ (if test c then wi
 abbrev pub SameWaits : List ListChannel → List ListChannel → Type 0
 SameWaits old new = (v : WaitId) → wait_in new v ≡ wait_in old v
 
+-- no wait gets a clause
+abbrev pub SameClauses : List ListChannel → List ListChannel → Type 0
+SameClauses old new = (v : WaitId) → clauses_in new v ≡ clauses_in old v
+
 -- no channel changes, but for its waits
 abbrev pub SameChannels : List ListChannel → List ListChannel → Type 0
 SameChannels old new = (c : ℕ) → channel_in new c ≡ channel_in old c
@@ -96,8 +126,58 @@ OneWait w f old new = (v : WaitId) → wait_in new v ≡ put_wait w (f (wait_in 
 
 -- the wait that began at this place becomes what f makes of it, and no other of the channel changes
 pub record OneSlot (place : ℕ) (f : Option Wait → Option Wait) (old new : ListChannel) : Type 0 where
-  pub slot : option_map wait_of_slot (slice_get new.slots.items place) ≡ option_map (λ x. f (wait_of_slot x)) (slice_get old.slots.items place)
+  pub slot : option_map wait_of_slot (slice_get new.slots.items place)
+      ≡ option_map (λ x. f (wait_of_slot x)) (slice_get old.slots.items place)
   pub others : (p : ℕ) → p ≢ place → slice_get new.slots.items p ≡ slice_get old.slots.items p
+
+-- ---- where a wait stands
+
+-- the place of the clause at channel c
+abbrev pub place_for : ℕ → List ListClause → Option ℕ
+place_for c [] = None
+place_for c (y ∷ ys) = if y.channel == c then Some y.place else place_for c ys
+
+abbrev pub is_place : ℕ → Option ℕ → Bool
+is_place place None = false
+is_place place (Some p) = p == place
+
+-- whoever waits with the offer keeps this place of it
+abbrev pub holder_keeps : (WaitId → List ListClause) → ℕ → ℕ → Option Party → Bool
+holder_keeps clauses c place None = true
+holder_keeps clauses c place (Some p) = is_place place (place_for c (clauses p.wait))
+
+-- each wait that stands at channel c keeps the place at which it stands there
+pub record ChannelKept (clauses : WaitId → List ListClause) (c : ℕ) (ch : Channel) : Type 0 where
+  pub offers : list_all (λ (o : Standing). holder_keeps clauses c o.place o.holder) ch.queue ≡ true
+  pub receivers : list_all (λ (r : Receiver). is_place r.place (place_for c (clauses r.party.wait))) ch.receivers ≡ true
+
+-- each wait keeps the places at which it stands
+abbrev pub PlacesKept : List ListChannel → Type 0
+PlacesKept channels = (c : ℕ) → ChannelKept (clauses_in channels) c (channel_in channels c)
+
+-- at each channel, the places of those who stand ascend
+abbrev pub AllInOrder : List ListChannel → Type 0
+AllInOrder channels = (c : ℕ) → StandsInOrder (channel_in channels c)
+
+-- the places ascend
+pub record PlacesAscend {X : Type 0} (place : X → ℕ) (xs : List X) : Type 0 where
+  pub below : ℕ
+  pub ascend : Ascends place 0 below xs
+
+-- those for which the test passes stand at this place
+abbrev pub StandOnlyAt : {X : Type 0} → (X → ℕ) → (X → Bool) → ℕ → List X → Type 0
+StandOnlyAt place test p [] = Unit {0}
+StandOnlyAt place test p (x ∷ xs) = (test x ≡ true → place x ≡ p) × StandOnlyAt place test p xs
+
+-- what the wait has at the channel stands at this place
+pub record StandsAt (w : WaitId) (p : ℕ) (ch : Channel) : Type 0 where
+  pub offers : StandOnlyAt (λ (o : Standing). o.place) (λ o. is_held_by w o.holder) p ch.queue
+  pub receivers : StandOnlyAt (λ (r : Receiver). r.place) (λ r. same_wait w r.party.wait) p ch.receivers
+
+-- a select has a wait, and it is not open
+abbrev pub is_resolved_main : (WaitId → Option Wait) → Option WaitId → Bool
+is_resolved_main waits None = false
+is_resolved_main waits (Some w) = not (is_open (waits w))
 
 -- the clauses of a wait
 abbrev pub clauses_of : Option Wait → List (ℕ × ℕ)
@@ -114,17 +194,21 @@ has_clause_elsewhere c clauses d = list_any (λ y. (y.1 == d) && not (y.1 == c))
 abbrev pub named : ℕ → ℕ → WaitId
 named c place = record { channel = c; place = place }
 
--- an element that nobody waits with
-abbrev pub kept_offer : ℕ → ℕ → Standing
-kept_offer place value = record { place = place; value = value; holder = None }
+-- clause k at this place of channel c
+abbrev pub clause_at : ℕ → ℕ → ℕ → ListClause
+clause_at k c place = record { number = k; channel = c; place = place }
 
--- an element whose sender waits, by a plain call
-abbrev pub held_offer : ℕ → ℕ → ℕ → Standing
-held_offer c place value = record { place = place; value = value; holder = Some (record { wait = named c place; clause = 0 }) }
+-- clause k of the wait
+abbrev pub party_of : WaitId → ℕ → Party
+party_of w k = record { wait = w; clause = k }
 
--- a receiver that waits, by a plain call
-abbrev pub plain_receiver : ℕ → ℕ → Receiver
-plain_receiver c place = record { place = place; party = record { wait = named c place; clause = 0 } }
+-- an element with which clause k of the wait stands
+abbrev pub held_offer : WaitId → ℕ → ℕ → ℕ → Standing
+held_offer w k place value = record { place = place; value = value; holder = Some (party_of w k) }
+
+-- clause k of the wait, as a receiver
+abbrev pub held_receiver : WaitId → ℕ → ℕ → Receiver
+held_receiver w k place = record { place = place; party = party_of w k }
 
 -- ---- what a change leaves
 
@@ -138,12 +222,27 @@ pub record Becomes (c : ℕ) (x : Channel) (old new : List ListChannel) : Type 0
   pub shape : SameShape old new
   pub channels : (d : ℕ) → channel_in new d ≡ put_channel c x (channel_in old) d
   pub waits : SameWaits old new
+  pub clauses : SameClauses old new
 
--- channel c becomes x, and a wait of who begins at this place of it, with the clause of a plain call
-pub record BeginsWait (who c place : ℕ) (x : Channel) (old new : List ListChannel) : Type 0 where
+-- channel c becomes x, and a wait of who begins at this place of it, with clause k
+pub record BeginsWait (who k c place : ℕ) (x : Channel) (old new : List ListChannel) : Type 0 where
   pub shape : SameShape old new
   pub channels : (d : ℕ) → channel_in new d ≡ put_channel c x (channel_in old) d
-  pub waits : (w : WaitId) → wait_in new w ≡ put_wait (named c place) (name_clause who 0 c None) (wait_in old) w
+  pub waits : (w : WaitId) → wait_in new w ≡ put_wait (named c place) (name_clause who k c None) (wait_in old) w
+  pub clauses : (w : WaitId) → clauses_in new w ≡ (if same_wait (named c place) w then clause_at k c place ∷ [] else clauses_in old w)
+
+-- the wait with clause k at channel c as one more
+abbrev pub with_clause : ℕ → ℕ → Option Wait → Option Wait
+with_clause k c None = None
+with_clause k c (Some x) = Some (record x { clauses = x.clauses ++ (k, c) ∷ [] })
+
+-- channel c becomes x, and the wait has clause k there as one more, at this place
+pub record JoinsClause (w : WaitId) (k c place : ℕ) (x : Channel) (old new : List ListChannel) : Type 0 where
+  pub shape : SameShape old new
+  pub channels : (d : ℕ) → channel_in new d ≡ put_channel c x (channel_in old) d
+  pub waits : (v : WaitId) → wait_in new v ≡ put_wait w (with_clause k c (wait_in old w)) (wait_in old) v
+  pub clauses : (v : WaitId)
+      → clauses_in new v ≡ (if same_wait w v then clauses_in old w ++ clause_at k c place ∷ [] else clauses_in old v)
 
 -- so many offers with which nobody waits lead the queue, and somebody waits with the next
 pub record LeadsTo (n : ℕ) (queue : List Standing) : Type 0 where

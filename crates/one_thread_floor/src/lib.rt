@@ -7,10 +7,12 @@
 //! - `list_floor`: a floor as channels and the entries made so far; `list_new` makes one.
 //! - `list_queries`: what the lists say.
 //! - `list_removal`: how a wait that is resolved leaves the channels.
-//! - `list_changes`: how places are given out, how a channel is closed and cancelled, and how a wait is settled.
+//! - `list_places`: how places are given out.
+//! - `list_changes`: how a channel is closed and cancelled, and how a wait is settled.
 //! - `list_firsts`: how the first receiver or the first offer goes.
 //! - `list_admission`: which offer is kept next, and how.
-//! - `list_acts`: the acts that two calls share; `list_calls`: the calls on channels.
+//! - `list_clauses`: how a clause is placed; `list_acts`: the acts that two calls share.
+//! - `list_calls`: the calls on channels.
 //! - `tree_row`: a Job as a row of a vector.
 //! - `tree_rows`: reads and changes of the vector of Jobs.
 //! - `tree_claims`: which rows are claimed.
@@ -23,13 +25,17 @@ mod list_admission;
 mod list_calls;
 mod list_changes;
 mod list_channel;
+mod list_clauses;
 mod list_firsts;
 mod list_floor;
 mod list_new;
+mod list_places;
 mod list_queries;
 mod list_removal;
 #[cfg(test)]
 mod list_tests;
+#[cfg(test)]
+mod select_tests;
 mod tree_calls;
 mod tree_claims;
 mod tree_floor;

@@ -8,9 +8,9 @@ ghost use Rattle.channel_model.specs.Answers.{HandedTo, TakenFrom};
 ghost use Rattle.one_thread_floor.specs.ListFloors.{floor_of};
 ghost use Rattle.one_thread_floor.specs.ListStands.{channel_in, places_in};
 
-use crate::list_changes::begin_element;
 use crate::list_firsts::{hand_to_first, pop_offer, resolve_taken};
 use crate::list_floor::ListFloor;
+use crate::list_places::append_offer;
 use crate::list_queries::owner_at;
 use channel_model::{Act, Entry, Receiver};
 use co_base::{ChannelId, Place, Tag, Value};
@@ -52,7 +52,7 @@ impl ListFloor {
         ensures kinds { self.new.kinds ≡ self.old.kinds }
         ensures made { Made who (Put c result value) (floor_of self.old) (floor_of self.new) }
     {
-        let place = begin_element(&mut self.channels, c, value);
+        let place = append_offer(&mut self.channels, c, value, None);
         self.entries.push_reserved(Entry {
             who,
             act: Act::Put { c, place, value },

@@ -7,7 +7,7 @@ ghost use Rattle.std.specs.Prelude.{◌≡◌, ◌<◌, ◌≤◌, None, length,
 ghost use Rattle.std.specs.List.{list_all};
 ghost use Rattle.std.specs.VecDeque.{deque_len};
 ghost use Rattle.channel_model.specs.Owing.{is_buffered};
-ghost use Rattle.one_thread_floor.specs.ListStands.{channel_of, channel_in, SamePlaces, SameShape, SameWaits, SameChannels, Becomes, LeadsTo};
+ghost use Rattle.one_thread_floor.specs.ListStands.{channel_of, channel_in, SamePlaces, SameShape, SameWaits, SameClauses, SameChannels, Becomes, LeadsTo};
 
 use crate::list_channel::ListChannel;
 use channel_model::Standing;
@@ -44,6 +44,7 @@ pub fn leading_in(channels: &mut Vec<ListChannel>, c: ChannelId) -> usize
     ensures shape { SameShape channels.old.items channels.new.items }
     ensures channels { SameChannels channels.old.items channels.new.items }
     ensures waits { SameWaits channels.old.items channels.new.items }
+    ensures clauses { SameClauses channels.old.items channels.new.items }
 {
     count_leading(&mut channels[c as usize])
 }

@@ -3,17 +3,17 @@
 ghost use Rattle.one_thread_floor.specs.ListFloors.{floor_of};
 
 use crate::list_admission::{buffer_offer, leading_in};
-use crate::list_changes::{begin_offer, begin_receiver, close_in, mark_settled, void_in};
+use crate::list_changes::{close_in, mark_settled, void_in};
 use crate::list_firsts::{pop_offer, resolve_party, resolve_voided, wake_first};
 use crate::list_floor::{ListAnchor, ListFloor};
 use crate::list_queries::{
-    closed_with, first_receiver, is_open_wait, is_spent, is_voided, kind_at, next_place, offer_at,
-    outcome_in, owner_at, queue_len, state_at,
+    closed_with, first_receiver, is_main_resolved, is_open_wait, is_spent, is_voided, kind_at,
+    next_place, offer_at, outcome_in, owner_at, queue_len, state_at,
 };
 use crate::list_removal::resolve_everywhere;
 use channel_model::{
-    Act, AlreadyClosed, ChannelFloor, Entry, Got, Offered, Resolution, Settled, TriedGot,
-    TriedOffer, WaitState, Why, Withdrawn,
+    Act, AlreadyClosed, ChannelFloor, Entry, Got, Offered, Registered, Resolution, Settled,
+    TriedGot, TriedOffer, WaitState, Why, Withdrawn,
 };
 use co_base::{ChannelId, Memory, Place, Tag, Value, WaitId};
 
@@ -45,18 +45,7 @@ impl ChannelFloor for ListFloor {
         if !kind_at(&self.kinds, c).is_full(queue_len(&self.channels, c)) {
             return Offered::Put(self.put(who, c, value));
         }
-        let place = begin_offer(&mut self.channels, c, who, value);
-        self.entries.push_reserved(Entry {
-            who,
-            act: Act::Offer {
-                c,
-                place,
-                value,
-                main: WaitId { channel: c, place },
-                clause: 0,
-            },
-        });
-        Offered::Held(place)
+        Offered::Held(self.begin_offer(who, c, 0, value))
     }
 
     fn try_offer(&mut self, who: Tag, c: ChannelId, value: Value) -> TriedOffer {
@@ -87,17 +76,7 @@ impl ChannelFloor for ListFloor {
         if is_spent(&self.channels, c) {
             return Got::Spent;
         }
-        let place = begin_receiver(&mut self.channels, c, who);
-        self.entries.push_reserved(Entry {
-            who,
-            act: Act::Await {
-                c,
-                place,
-                main: WaitId { channel: c, place },
-                clause: 0,
-            },
-        });
-        Got::Waiting(place)
+        Got::Waiting(self.begin_receiver(who, c, 0))
     }
 
     fn try_receive(&mut self, who: Tag, c: ChannelId) -> TriedGot {
@@ -108,6 +87,57 @@ impl ChannelFloor for ListFloor {
         match closed_with(&self.channels, c) {
             Some(v) => TriedGot::Closed(v),
             None => TriedGot::Empty,
+        }
+    }
+
+    fn register_offer(
+        &mut self,
+        who: Tag,
+        main: Option<WaitId>,
+        clause: u8,
+        c: ChannelId,
+        value: Value,
+    ) -> Registered {
+        if is_main_resolved(&self.channels, main) {
+            return Registered::Resolved;
+        }
+        if let Some(v) = closed_with(&self.channels, c) {
+            return Registered::Closed(v);
+        }
+        if let Some(receiver) = first_receiver(&self.channels, c) {
+            return Registered::Partner(receiver.place);
+        }
+        if is_spent(&self.channels, c) {
+            return Registered::Spent;
+        }
+        match main {
+            Some(w) => Registered::Stands(self.join_offer(who, w, c, clause, value)),
+            None => Registered::Stands(self.begin_offer(who, c, clause, value)),
+        }
+    }
+
+    fn register_receive(
+        &mut self,
+        who: Tag,
+        main: Option<WaitId>,
+        clause: u8,
+        c: ChannelId,
+    ) -> Registered {
+        if is_main_resolved(&self.channels, main) {
+            return Registered::Resolved;
+        }
+        if let Some(offer) = offer_at(&self.channels, c, 0) {
+            return Registered::Partner(offer.place);
+        }
+        if let Some(v) = closed_with(&self.channels, c) {
+            return Registered::Closed(v);
+        }
+        if is_spent(&self.channels, c) {
+            return Registered::Spent;
+        }
+        match main {
+            Some(w) => Registered::Stands(self.join_receiver(who, w, c, clause)),
+            None => Registered::Stands(self.begin_receiver(who, c, clause)),
         }
     }
 

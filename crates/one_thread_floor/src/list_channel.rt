@@ -7,14 +7,22 @@ ghost use Rattle.channel_model.specs.Owing.{is_buffered};
 
 use arrayvec::ArrayVec;
 use channel_model::{Receiver, Resolution, Settled, Standing};
-use co_base::{ChannelId, Tag, Value};
+use co_base::{ChannelId, Place, Tag, Value};
 use std::collections::VecDeque;
 
-/// A wait, with the number and the channel of each of its clauses.
+/// A clause of a wait, and the place that it took at its channel.
+#[derive(Clone, Copy, Default)]
+pub struct ListClause {
+    pub(crate) number: u8,
+    pub(crate) channel: ChannelId,
+    pub(crate) place: Place,
+}
+
+/// A wait, with its clauses, that at which it began first.
 #[derive(Drop)]
 pub struct ListWait {
     pub(crate) owner: Tag,
-    pub(crate) clauses: ArrayVec<(u8, ChannelId), 7>,
+    pub(crate) clauses: ArrayVec<ListClause, 7>,
     pub(crate) resolved: Option<Resolution>,
     pub(crate) settled: Option<Settled>,
 }

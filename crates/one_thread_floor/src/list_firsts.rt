@@ -8,7 +8,7 @@ ghost use Rattle.channel_model.specs.Channels.{Shape, State};
 ghost use Rattle.channel_model.specs.Effects.{resolve, resolve_holder};
 ghost use Rattle.channel_model.specs.Answers.{owner_of};
 ghost use Rattle.channel_model.specs.Laws.{AllStandOpen, AllStandOnce};
-ghost use Rattle.one_thread_floor.specs.ListStands.{channel_of, channel_in, wait_in, IsAt, IsLeft, SamePlaces, Becomes};
+ghost use Rattle.one_thread_floor.specs.ListStands.{channel_of, channel_in, wait_in, IsAt, IsLeft, SamePlaces, Becomes, AllInOrder, PlacesKept};
 
 use crate::list_channel::ListChannel;
 use crate::list_queries::owner_at;
@@ -41,6 +41,9 @@ pub fn hand_to_first(channels: &mut Vec<ListChannel>, c: ChannelId, value: Value
     requires waits { ForSome (slice_get (channel_in channels.old.items c).receivers 0)
         (λ r. IsSome (wait_in channels.old.items r.party.wait)) }
     requires some { 0 < length (channel_in channels.old.items c).receivers }
+    requires order { AllInOrder channels.old.items }
+    requires kept { PlacesKept channels.old.items }
+    ensures kept { PlacesKept channels.new.items }
     ensures first { slice_get (channel_in channels.old.items c).receivers 0 ≡ Some result }
     ensures state { (shape : Shape) (s : State) → AllStandOpen s → AllStandOnce s → IsAt shape channels.old.items s
         → IsAt shape channels.new.items (resolve result.party.wait (resolved.Handed result.party.clause value) s) }
@@ -56,6 +59,9 @@ pub fn wake_first(channels: &mut Vec<ListChannel>, c: ChannelId, v: Value) -> Re
     requires waits { ForSome (slice_get (channel_in channels.old.items c).receivers 0)
         (λ r. IsSome (wait_in channels.old.items r.party.wait)) }
     requires some { 0 < length (channel_in channels.old.items c).receivers }
+    requires order { AllInOrder channels.old.items }
+    requires kept { PlacesKept channels.old.items }
+    ensures kept { PlacesKept channels.new.items }
     ensures first { slice_get (channel_in channels.old.items c).receivers 0 ≡ Some result }
     ensures state { (shape : Shape) (s : State) → AllStandOpen s → AllStandOnce s → IsAt shape channels.old.items s
         → IsAt shape channels.new.items (resolve result.party.wait (resolved.Closed result.party.clause v) s) }
@@ -94,7 +100,10 @@ pub fn resolve_party(
     party: Party,
     how: Resolution,
 ) -> Tag
-    requires { IsSome (wait_in channels.old.items party.wait) }
+    requires there { IsSome (wait_in channels.old.items party.wait) }
+    requires order { AllInOrder channels.old.items }
+    requires kept { PlacesKept channels.old.items }
+    ensures kept { PlacesKept channels.new.items }
     ensures state { (shape : Shape) (s : State) → AllStandOpen s → IsLeft party.wait c s → IsAt shape channels.old.items s
         → IsAt shape channels.new.items (resolve party.wait how s) }
     ensures owner { owner_of (wait_in channels.old.items party.wait) ≡ Some result }
@@ -110,7 +119,10 @@ pub fn resolve_taken(
     c: ChannelId,
     holder: Option<Party>,
 ) -> Option<Tag>
-    requires { ForSome holder (λ p. IsSome (wait_in channels.old.items p.wait)) }
+    requires there { ForSome holder (λ p. IsSome (wait_in channels.old.items p.wait)) }
+    requires order { AllInOrder channels.old.items }
+    requires kept { PlacesKept channels.old.items }
+    ensures kept { PlacesKept channels.new.items }
     ensures state { (shape : Shape) (s : State) → AllStandOpen s → ForSome holder (λ p. IsLeft p.wait c s)
         → IsAt shape channels.old.items s → IsAt shape channels.new.items (resolve_holder holder resolved.Taken s) }
     ensures from { option_and_then (λ p. owner_of (wait_in channels.old.items p.wait)) holder ≡ result }
@@ -127,7 +139,10 @@ pub fn resolve_voided(
     c: ChannelId,
     holder: Option<Party>,
 ) -> Option<Tag>
-    requires { ForSome holder (λ p. IsSome (wait_in channels.old.items p.wait)) }
+    requires there { ForSome holder (λ p. IsSome (wait_in channels.old.items p.wait)) }
+    requires order { AllInOrder channels.old.items }
+    requires kept { PlacesKept channels.old.items }
+    ensures kept { PlacesKept channels.new.items }
     ensures state { (shape : Shape) (s : State) → AllStandOpen s → ForSome holder (λ p. IsLeft p.wait c s)
         → IsAt shape channels.old.items s
         → IsAt shape channels.new.items (resolve_holder holder (λ k. resolved.Voided) s) }

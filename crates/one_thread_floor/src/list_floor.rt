@@ -3,7 +3,7 @@
 ghost use Rattle.channel_model.specs.Channels.{IsShape};
 ghost use Rattle.channel_model.specs.Histories.{Legal};
 ghost use Rattle.channel_model.proofs.Once.{Legal-prop};
-ghost use Rattle.one_thread_floor.specs.ListStands.{StandsFor};
+ghost use Rattle.one_thread_floor.specs.ListStands.{StandsFor, PlacesKept};
 ghost use Rattle.std.proofs.Props.{props};
 
 use crate::list_channel::ListChannel;
@@ -11,8 +11,9 @@ use channel_model::{Entry, Kind};
 
 /// A floor of channels that one thread calls.
 ///
-/// A call costs the same however many offers or receivers stand, but for two searches: a wait with clauses at several
-/// channels is searched for at the others when it is resolved, and a wait that is withdrawn at all of its channels.
+/// A call costs the same however many offers or receivers stand, but where a wait is resolved that may stand behind others,
+/// at another of its channels or because it is withdrawn: its place is found by halves, and the fewer of those before it
+/// and of those behind it move up.
 #[derive(Drop)]
 pub struct ListFloor {
     pub(crate) kinds: Vec<(Kind, u32)>,
@@ -21,6 +22,7 @@ pub struct ListFloor {
     ghost shaped: { IsShape kinds.items } by { Prim.hlevel props },
     ghost legal: { Legal kinds.items entries.items } by { Legal-prop kinds.items entries.items },
     ghost stands: { StandsFor kinds.items channels.items entries.items } by { Prim.hlevel props },
+    ghost kept: { PlacesKept channels.items } by { Prim.hlevel props },
 }
 
 /// What tells a list floor from another: the kinds of its channels.

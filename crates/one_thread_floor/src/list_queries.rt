@@ -1,12 +1,13 @@
 //! What the lists of channels say.
 
 ghost use Rattle.std.specs.Prelude.{◌≡◌, ◌<◌, length, IsSome, Some, slice_get, slice_index_or, nat_le};
+ghost use Rattle.std.specs.Option.{ForSome};
 ghost use Rattle.channel_model.specs.Channels.{kind_at};
 ghost use Rattle.channel_model.specs.Effects.{is_open};
 ghost use Rattle.channel_model.specs.Answers.{owner_of, state_of_wait, outcome_at};
-ghost use Rattle.one_thread_floor.specs.ListStands.{channel_in, wait_in, places_in, clauses_of};
+ghost use Rattle.one_thread_floor.specs.ListStands.{channel_in, wait_in, places_in, clauses_of, clauses_in, place_for, is_resolved_main};
 
-use crate::list_channel::ListChannel;
+use crate::list_channel::{ListChannel, ListClause};
 use channel_model::{Kind, Receiver, Settled, Standing, WaitState, outcome};
 use co_base::{ChannelId, Place, Tag, Value, WaitId};
 
@@ -117,6 +118,17 @@ pub fn is_open_wait(channels: &Vec<ListChannel>, w: WaitId) -> bool
     }
 }
 
+/// Whether a select has a wait, and somebody resolved it.
+pub fn is_main_resolved(channels: &Vec<ListChannel>, main: Option<WaitId>) -> bool
+    requires { ForSome main (λ w. IsSome (wait_in channels.now.items w)) }
+    ensures { result ≡ is_resolved_main (wait_in channels.now.items) main }
+{
+    match main {
+        Some(w) => !is_open_wait(channels, w),
+        None => false,
+    }
+}
+
 /// What a settle of the wait answers.
 pub fn outcome_in(channels: &Vec<ListChannel>, w: WaitId, cancelled: bool) -> Settled
     requires { IsSome (outcome_at cancelled (wait_in channels.now.items w)) }
@@ -149,7 +161,29 @@ pub fn clause_channel(channels: &Vec<ListChannel>, w: WaitId, i: usize) -> Chann
     ensures { result ≡ (slice_index_or (clauses_of (wait_in channels.now.items w)) i (0, 0)).1 }
 {
     match &channels[w.channel as usize].slots[w.place as usize] {
-        Some(wait) => wait.clauses.as_slice()[i].1,
+        Some(wait) => wait.clauses.as_slice()[i].channel,
         None => 0,
+    }
+}
+
+fn place_among(clauses: &[ListClause], c: ChannelId) -> Option<Place>
+    ensures { result ≡ place_for c clauses.now }
+{
+    for clause in clauses {
+        if clause.channel == c {
+            return Some(clause.place);
+        }
+    }
+    None
+}
+
+/// The place of the wait's clause at channel `c`.
+pub fn place_for(channels: &Vec<ListChannel>, w: WaitId, c: ChannelId) -> Option<Place>
+    requires { IsSome (wait_in channels.now.items w) }
+    ensures { result ≡ place_for c (clauses_in channels.now.items w) }
+{
+    match &channels[w.channel as usize].slots[w.place as usize] {
+        Some(wait) => place_among(wait.clauses.as_slice(), c),
+        None => None,
     }
 }

@@ -1,16 +1,16 @@
 //! How a wait that is resolved leaves the channels.
 
-ghost use Rattle.std.specs.Prelude.{◌≡◌, ◌<◌, ◌≤◌, length, vec_len, IsSome, filter, not, ◌&&◌, ◌==◌, option_map};
+ghost use Rattle.std.specs.Prelude.{◌≡◌, ◌<◌, ◌≤◌, length, vec_len, Some, IsSome, filter, not, ◌&&◌, ◌==◌, option_map};
 ghost use Rattle.std.specs.VecDeque.{deque_len, deque_capacity};
 ghost use Rattle.channel_model.specs.Channels.{Shape, State, same_wait};
 ghost use Rattle.channel_model.specs.Effects.{is_held_by, without, resolve, resolved_wait};
-ghost use Rattle.channel_model.specs.Laws.{AllStandOpen};
-ghost use Rattle.one_thread_floor.specs.ListStands.{wait_of, channel_of, channel_in, wait_in, clauses_of, IsAt, has_clause_elsewhere, SamePlaces, SameShape, IsWithout, SameWaits, SameChannels, Becomes, OneWait, OneSlot};
+ghost use Rattle.channel_model.specs.Laws.{AllStandOpen, StandsInOrder};
+ghost use Rattle.one_thread_floor.specs.ListStands.{wait_of, channel_of, channel_in, wait_in, clauses_of, clauses_of_slot, clauses_in_channel, IsAt, has_clause_elsewhere, SamePlaces, SameShape, IsWithout, SameWaits, SameClauses, SameChannels, Becomes, OneWait, OneSlot, AllInOrder, PlacesKept, PlacesAscend, StandOnlyAt, StandsAt};
 
 use crate::list_channel::{ListChannel, ListWait};
-use crate::list_queries::{clause_channel, clause_count};
+use crate::list_queries::{clause_channel, clause_count, place_for};
 use channel_model::{Receiver, Resolution, Standing};
-use co_base::{ChannelId, WaitId};
+use co_base::{ChannelId, Place, WaitId};
 use std::collections::VecDeque;
 
 fn is_held_by(offer: &Standing, w: WaitId) -> bool
@@ -28,58 +28,94 @@ fn is_of(receiver: &Receiver, w: WaitId) -> bool
     w == receiver.party.wait
 }
 
-/// Takes the wait's offers out of a queue.
-fn drop_offers(queue: &mut VecDeque<Standing>, w: WaitId)
+/// Takes the wait's offer out of a queue in which it stands at this place, if anywhere.
+fn drop_offer(queue: &mut VecDeque<Standing>, w: WaitId, place: Place)
+    requires order { PlacesAscend (λ o. o.place) queue.old.items }
+    requires only { StandOnlyAt (λ o. o.place) (λ o. is_held_by w o.holder) place queue.old.items }
     ensures bound { deque_len queue.new ≤ deque_len queue.old }
     ensures capacity { deque_capacity queue.new ≡ deque_capacity queue.old }
     ensures items { queue.new.items ≡ filter (λ o. not (is_held_by w o.holder)) queue.old.items }
 {
-    queue.retain(|offer| !is_held_by(offer, w));
+    if let Ok(i) = queue.binary_search_by_key(&place, |offer| offer.place) {
+        if is_held_by(&queue[i], w) {
+            queue.remove(i);
+        }
+    }
 }
 
-/// Takes the wait's receivers out of a list.
-fn drop_receivers(receivers: &mut VecDeque<Receiver>, w: WaitId)
+/// Takes the wait's receiver out of a list in which it stands at this place, if anywhere.
+fn drop_receiver(receivers: &mut VecDeque<Receiver>, w: WaitId, place: Place)
+    requires order { PlacesAscend (λ r. r.place) receivers.old.items }
+    requires only { StandOnlyAt (λ r. r.place) (λ r. same_wait w r.party.wait) place receivers.old.items }
     ensures bound { deque_len receivers.new ≤ deque_len receivers.old }
     ensures capacity { deque_capacity receivers.new ≡ deque_capacity receivers.old }
     ensures items { receivers.new.items ≡ filter (λ r. not (same_wait w r.party.wait)) receivers.old.items }
 {
-    receivers.retain(|receiver| !is_of(receiver, w));
+    if let Ok(i) = receivers.binary_search_by_key(&place, |receiver| receiver.place) {
+        if is_of(&receivers[i], w) {
+            receivers.remove(i);
+        }
+    }
 }
 
-/// Takes the wait out of the channel's queue and list of receivers.
-fn remove_from(channel: &mut ListChannel, w: WaitId)
+/// Takes the wait out of the channel's queue and list of receivers, in which it stands at this place, if anywhere.
+fn remove_from(channel: &mut ListChannel, w: WaitId, place: Place)
+    requires order { StandsInOrder (channel_of channel.old) }
+    requires only { StandsAt w place (channel_of channel.old) }
     ensures channel { channel_of channel.new ≡ without w (channel_of channel.old) }
     ensures places { SamePlaces channel.old channel.new }
 {
-    drop_offers(&mut channel.queue, w);
-    drop_receivers(&mut channel.receivers, w);
+    drop_offer(&mut channel.queue, w, place);
+    drop_receiver(&mut channel.receivers, w, place);
 }
 
-/// Takes the wait out of channel `c`.
-fn remove_at(channels: &mut Vec<ListChannel>, c: ChannelId, w: WaitId)
-    requires { c < length channels.old.items }
+/// Takes the wait out of channel `c`, where it stands at this place, if anywhere.
+fn remove_at_place(channels: &mut Vec<ListChannel>, c: ChannelId, w: WaitId, place: Place)
+    requires channel { c < length channels.old.items }
+    requires order { StandsInOrder (channel_in channels.old.items c) }
+    requires only { StandsAt w place (channel_in channels.old.items c) }
     ensures { Becomes c (without w (channel_in channels.old.items c)) channels.old.items channels.new.items }
 {
-    remove_from(&mut channels[c as usize], w);
+    remove_from(&mut channels[c as usize], w, place);
+}
+
+/// Takes the wait out of channel `c`: it stands there at the place of its clause, if anywhere.
+fn remove_at(channels: &mut Vec<ListChannel>, c: ChannelId, w: WaitId)
+    requires channel { c < length channels.old.items }
+    requires there { IsSome (wait_in channels.old.items w) }
+    requires order { AllInOrder channels.old.items }
+    requires kept { PlacesKept channels.old.items }
+    ensures { Becomes c (without w (channel_in channels.old.items c)) channels.old.items channels.new.items }
+{
+    if let Some(place) = place_for(channels, w, c) {
+        remove_at_place(channels, c, w, place);
+    }
 }
 
 /// Takes the wait out of channel `d`, if that is another than `c`.
 fn remove_at_other(channels: &mut Vec<ListChannel>, d: ChannelId, c: ChannelId, w: WaitId)
+    requires there { IsSome (wait_in channels.old.items w) }
+    requires order { AllInOrder channels.old.items }
+    requires kept { PlacesKept channels.old.items }
     ensures channels { IsWithout w (λ x. (d == x) && not (d == c)) channels.old.items channels.new.items }
     ensures waits { SameWaits channels.old.items channels.new.items }
+    ensures clauses { SameClauses channels.old.items channels.new.items }
     ensures shape { SameShape channels.old.items channels.new.items }
 {
     if d != c && (d as usize) < channels.len() {
-        remove_from(&mut channels[d as usize], w);
+        remove_at(channels, d, w);
     }
 }
 
 /// Takes the wait out of each channel at which it has a clause, but for channel `c`.
 fn remove_elsewhere(channels: &mut Vec<ListChannel>, c: ChannelId, w: WaitId)
-    requires { IsSome (wait_in channels.old.items w) }
+    requires there { IsSome (wait_in channels.old.items w) }
+    requires order { AllInOrder channels.old.items }
+    requires kept { PlacesKept channels.old.items }
     ensures channels { IsWithout w (has_clause_elsewhere c (clauses_of (wait_in channels.old.items w)))
         channels.old.items channels.new.items }
     ensures waits { SameWaits channels.old.items channels.new.items }
+    ensures clauses { SameClauses channels.old.items channels.new.items }
     ensures shape { SameShape channels.old.items channels.new.items }
 {
     for i in 0..clause_count(channels, w) {
@@ -89,7 +125,8 @@ fn remove_elsewhere(channels: &mut Vec<ListChannel>, c: ChannelId, w: WaitId)
 }
 
 fn mark_slot(slot: &mut Option<ListWait>, how: Resolution)
-    ensures { option_map wait_of slot.new ≡ resolved_wait how (option_map wait_of slot.old) }
+    ensures wait { option_map wait_of slot.new ≡ resolved_wait how (option_map wait_of slot.old) }
+    ensures clauses { clauses_of_slot slot.new ≡ clauses_of_slot slot.old }
 {
     if let Some(wait) = slot {
         wait.resolved = Some(how);
@@ -101,6 +138,7 @@ fn mark_in(channel: &mut ListChannel, place: usize, how: Resolution)
     ensures channel { channel_of channel.new ≡ channel_of channel.old }
     ensures places { channel.new.places ≡ channel.old.places }
     ensures waits { OneSlot place (resolved_wait how) channel.old channel.new }
+    ensures clauses { clauses_in_channel (Some channel.new) place ≡ clauses_in_channel (Some channel.old) place }
 {
     mark_slot(&mut channel.slots[place], how);
 }
@@ -110,6 +148,7 @@ fn mark(channels: &mut Vec<ListChannel>, w: WaitId, how: Resolution)
     requires { IsSome (wait_in channels.old.items w) }
     ensures channels { SameChannels channels.old.items channels.new.items }
     ensures waits { OneWait w (resolved_wait how) channels.old.items channels.new.items }
+    ensures clauses { SameClauses channels.old.items channels.new.items }
     ensures shape { SameShape channels.old.items channels.new.items }
 {
     mark_in(&mut channels[w.channel as usize], w.place as usize, how);
@@ -117,10 +156,13 @@ fn mark(channels: &mut Vec<ListChannel>, w: WaitId, how: Resolution)
 
 /// Resolves a wait that does not stand at channel `c`: it leaves each other channel at which it has a clause.
 pub fn resolve_elsewhere(channels: &mut Vec<ListChannel>, c: ChannelId, w: WaitId, how: Resolution)
-    requires { IsSome (wait_in channels.old.items w) }
+    requires there { IsSome (wait_in channels.old.items w) }
+    requires order { AllInOrder channels.old.items }
+    requires kept { PlacesKept channels.old.items }
     ensures channels { IsWithout w (has_clause_elsewhere c (clauses_of (wait_in channels.old.items w)))
         channels.old.items channels.new.items }
     ensures waits { OneWait w (resolved_wait how) channels.old.items channels.new.items }
+    ensures clauses { SameClauses channels.old.items channels.new.items }
     ensures shape { SameShape channels.old.items channels.new.items }
 {
     remove_elsewhere(channels, c, w);
@@ -129,8 +171,11 @@ pub fn resolve_elsewhere(channels: &mut Vec<ListChannel>, c: ChannelId, w: WaitI
 
 /// Resolves a wait that may stand anywhere: it leaves the channel at which it began, and each other at which it has a clause.
 pub fn resolve_everywhere(channels: &mut Vec<ListChannel>, w: WaitId, how: Resolution)
-    requires { IsSome (wait_in channels.old.items w) }
-    ensures { (shape : Shape) (s : State) → AllStandOpen s → IsAt shape channels.old.items s
+    requires there { IsSome (wait_in channels.old.items w) }
+    requires order { AllInOrder channels.old.items }
+    requires kept { PlacesKept channels.old.items }
+    ensures kept { PlacesKept channels.new.items }
+    ensures state { (shape : Shape) (s : State) → AllStandOpen s → IsAt shape channels.old.items s
         → IsAt shape channels.new.items (resolve w how s) }
 {
     remove_at(channels, w.channel, w);

@@ -56,7 +56,7 @@ fn carries_elements(floor: &ListFloor) -> bool
     }
 }
 
-fn is_own(floor: &ListFloor, who: Tag, w: WaitId) -> bool
+pub(crate) fn is_own(floor: &ListFloor, who: Tag, w: WaitId) -> bool
     ensures there { result ≡ true → w.channel < length (floor_of floor.now).shape }
     ensures own { result ≡ true → IsOwn who w (floor_of floor.now) }
 {
@@ -71,7 +71,7 @@ fn is_own(floor: &ListFloor, who: Tag, w: WaitId) -> bool
     }
 }
 
-fn is_ready(floor: &ListFloor, who: Tag, w: WaitId) -> bool
+pub(crate) fn is_ready(floor: &ListFloor, who: Tag, w: WaitId) -> bool
     ensures there { result ≡ true → w.channel < length (floor_of floor.now).shape }
     ensures ready { result ≡ true → IsReady who w (floor_of floor.now) }
 {

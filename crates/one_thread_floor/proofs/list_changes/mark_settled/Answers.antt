@@ -6,3 +6,6 @@ use Rattle.one_thread_floor.proofs.list_changes.mark_settled.Goals as goal
 
 pub returns-clause-waits : goal.returns-clause-waits
 returns-clause-waits c = λ v. grind (arith, common_steps, gets, nat_tests, c.settle_in.ensures.waits.others v.place, c.settle_in.ensures.waits.slot)
+
+pub returns-clause-clauses : goal.returns-clause-clauses
+returns-clause-clauses c = λ v. grind (arith, common_steps, gets, nat_tests, c.settle_in.ensures.waits.others v.place, c.settle_in.ensures.clauses)

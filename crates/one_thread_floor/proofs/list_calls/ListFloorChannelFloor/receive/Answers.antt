@@ -1,7 +1,7 @@
 use Rattle.std.proofs.Common.{sym, ap, ◌∙◌}
 use Rattle.channel_model.specs.Channels.{Channel}
-use Rattle.channel_model.proofs.Alone.{recorded_legal, looked_alone, here_moment}
-use Rattle.one_thread_floor.proofs.ListEntries.{recorded_at, spent_is, has_place, await_needs, empty_queue, await_at}
+use Rattle.channel_model.proofs.Alone.{looked_alone, here_moment}
+use Rattle.one_thread_floor.proofs.ListEntries.{spent_is, no_offer, empty_queue}
 use Rattle.one_thread_floor.proofs.list_calls.ListFloorChannelFloor.receive.Goals as goal
 
 pub returns-then-is_spent-clause-answer : goal.returns-then-is_spent-clause-answer
@@ -14,16 +14,5 @@ returns-then-is_spent-clause-answer c = (
   }),
 )
 
-pub invariant_of-self : goal.invariant_of-self
-invariant_of-self c =
-    let xs = c.args.self.now.channels.items in
-    let es = c.args.self.now.entries.items in
-    let at = c.args.self.now.stands in
-    let b = c.begin_receiver-place.ensures in
-    let p = c.begin_receiver-place.result in
-    record {
-      shaped = c.args.self.now.shaped;
-      legal = recorded_legal _ es c.push_reserved.new.self.items _ c.args.self.now.legal c.push_reserved.ensures.items
-          (await_needs _ xs es c.args.who c.args.c p c.queue_len.result at c.requires.can.channel (has_place _ xs _ c.args.c p at c.in_default.ensures c.if-is_spent.ensures b.place) c.queue_len.ensures c.if-queue_len-gt0.false);
-      stands = recorded_at _ c.begin_receiver-place.new.channels.items es c.push_reserved.new.self.items _ c.push_reserved.ensures.items (await_at _ xs c.begin_receiver-place.new.channels.items es c.args.who c.args.c p at b.place b.change);
-    }
+pub begin_receiver-requires-clause-nothing : goal.begin_receiver-requires-clause-nothing
+begin_receiver-requires-clause-nothing c = no_offer _ c.queue_len.result c.queue_len.ensures c.if-queue_len-gt0.false

@@ -3,6 +3,7 @@ use Rattle.channel_model.specs.Answers.{outcome_at}
 use Rattle.channel_model.proofs.Alone.{recorded_legal}
 use Rattle.channel_model.proofs.Firsts.{may_settle}
 use Rattle.one_thread_floor.proofs.ListEntries.{recorded_at, settle_at}
+use Rattle.one_thread_floor.proofs.KeptPlaces.{same_kept}
 use Rattle.one_thread_floor.proofs.list_calls.ListFloorChannelFloor.settle.Goals as goal
 
 pub invariant_of-self : goal.invariant_of-self
@@ -14,4 +15,5 @@ invariant_of-self c =
       shaped = c.args.self.now.shaped;
       legal = recorded_legal _ es c.push_reserved.new.self.items _ c.args.self.now.legal c.push_reserved.ensures.items (may_settle c.args.who _ c.args.cancelled c.outcome_in-outcome.result c.requires.ready (ap (outcome_at c.args.cancelled) (c.args.self.now.stands.waits_are c.args.w) ∙ c.outcome_in-outcome.ensures));
       stands = recorded_at _ c.mark_settled.new.channels.items es c.push_reserved.new.self.items _ c.push_reserved.ensures.items (settle_at _ xs c.mark_settled.new.channels.items es c.args.who c.args.w c.outcome_in-outcome.result c.args.self.now.stands m.shape m.channels m.waits);
+      kept = same_kept xs c.mark_settled.new.channels.items m.channels m.clauses c.args.self.now.kept;
     }

@@ -3,6 +3,8 @@ use Rattle.channel_model.proofs.Alone.{recorded_legal, made_alone, looked_alone,
 use Rattle.one_thread_floor.proofs.ListEntries.{recorded_at}
 use Rattle.one_thread_floor.proofs.ListFirsts.{drop_needs, drop_at}
 use Rattle.one_thread_floor.proofs.ListQueues.{trimmed_by_few, trimmed_by_later, too_many, first_came_before}
+use Rattle.one_thread_floor.specs.ListStands.{clauses_in}
+use Rattle.one_thread_floor.proofs.KeptPlaces.{becomes_kept, popped_offer_kept}
 use Rattle.one_thread_floor.proofs.list_calls.ListFloorChannelFloor.trim.Goals as goal
 
 pub returns-in_default-offer_at-clause-answer : goal.returns-in_default-offer_at-clause-answer
@@ -31,6 +33,7 @@ invariant_of-self c =
       shaped = c.args.self.now.shaped;
       legal = recorded_legal _ es c.push_reserved.new.self.items _ c.args.self.now.legal c.push_reserved.ensures.items (drop_needs _ xs es c.args.who c.args.c o _ at c.requires.can.channel long p.first);
       stands = recorded_at _ c.pop_offer-offer.new.channels.items es c.push_reserved.new.self.items _ c.push_reserved.ensures.items (drop_at _ xs c.pop_offer-offer.new.channels.items es c.args.who c.args.c o _ at p.first p.change);
+      kept = becomes_kept c.args.c _ xs c.pop_offer-offer.new.channels.items p.change c.args.self.now.kept (popped_offer_kept (clauses_in xs) c.args.c o _ _ p.first (c.args.self.now.kept c.args.c));
     }
 
 pub returns-clause-answer : goal.returns-clause-answer

@@ -1,6 +1,7 @@
 use Rattle.channel_model.proofs.Alone.{recorded_legal}
 use Rattle.channel_model.proofs.OpenWaits.{replay_open}
 use Rattle.one_thread_floor.proofs.ListEntries.{recorded_at, withdraw_needs}
+use Rattle.one_thread_floor.proofs.InOrder.{all_in_order}
 use Rattle.one_thread_floor.proofs.list_calls.ListFloorChannelFloor.withdraw.Goals as goal
 
 pub invariant_of-self : goal.invariant_of-self
@@ -11,5 +12,9 @@ invariant_of-self c =
     record {
       shaped = c.args.self.now.shaped;
       legal = recorded_legal _ es c.push_reserved.new.self.items _ c.args.self.now.legal c.push_reserved.ensures.items (withdraw_needs _ xs es c.args.who c.args.w c.args.why at c.requires.own c.if-not-is_open_wait.ensures);
-      stands = recorded_at _ c.resolve_everywhere.new.channels.items es c.push_reserved.new.self.items _ c.push_reserved.ensures.items (c.resolve_everywhere.ensures _ _ (replay_open es) at);
+      stands = recorded_at _ c.resolve_everywhere.new.channels.items es c.push_reserved.new.self.items _ c.push_reserved.ensures.items (c.resolve_everywhere.ensures.state _ _ (replay_open es) at);
+      kept = c.resolve_everywhere.ensures.kept;
     }
+
+pub resolve_everywhere-requires-clause-order : goal.resolve_everywhere-requires-clause-order
+resolve_everywhere-requires-clause-order c = all_in_order _ c.args.self.now.channels.items c.args.self.now.entries.items c.args.self.now.legal c.args.self.now.stands

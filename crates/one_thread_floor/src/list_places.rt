@@ -1,0 +1,268 @@
+//! How places are given out: to an offer or a receiver, with which a wait begins, that is one more clause of a wait, or with
+//! which nobody waits.
+
+ghost use Rattle.std.specs.Prelude.{◌≡◌, ℕ, ◌<◌, length, vec_len, IsSome, Some, None, true, if◌then◌else◌, ◌==◌, [], ◌∷◌, ◌++◌, option_map};
+ghost use Rattle.channel_model.specs.Channels.{same_wait};
+ghost use Rattle.channel_model.specs.Effects.{place_receiver, place_offer, name_clause};
+ghost use Rattle.one_thread_floor.specs.ListStands.{places_in, wait_in_channel, wait_of, channel_of, channel_in, wait_in, clauses_of, clauses_of_slot, clauses_in_channel, clauses_in, named, held_offer, held_receiver, with_clause, SameShape, SameChannels, Becomes, BeginsWait, JoinsClause, OneWait, OneSlot};
+
+use crate::list_channel::{ListChannel, ListClause, ListWait};
+use crate::list_queries::next_place;
+use arrayvec::ArrayVec;
+use channel_model::{Party, Receiver, Standing};
+use co_base::{ChannelId, Place, Tag, Value, WaitId};
+
+/// A wait that begins with this clause.
+fn new_wait(who: Tag, clause: ListClause) -> ListWait
+    ensures wait { Some (wait_of result) ≡ name_clause who clause.number clause.channel None }
+    ensures clauses { result.clauses.items ≡ clause ∷ [] }
+{
+    let mut clauses = ArrayVec::new();
+    clauses.push(clause);
+    ListWait {
+        owner: who,
+        clauses,
+        resolved: None,
+        settled: None,
+    }
+}
+
+/// Gives out a place to an offer. The slot is that of the wait that begins there, if one does.
+fn place_offer(channel: &mut ListChannel, slot: Option<ListWait>, offer: Standing)
+    requires { vec_len channel.old.slots < channel.old.places }
+    ensures channel { channel_of channel.new ≡ place_offer true offer (channel_of channel.old) }
+    ensures slots { (p : ℕ) → wait_in_channel (Some channel.new) p
+        ≡ (if p == (channel_of channel.old).next then option_map wait_of slot else wait_in_channel (Some channel.old) p) }
+    ensures clauses { (p : ℕ) → clauses_in_channel (Some channel.new) p
+        ≡ (if p == (channel_of channel.old).next then clauses_of_slot slot else clauses_in_channel (Some channel.old) p) }
+    ensures places { channel.new.places ≡ channel.old.places }
+{
+    channel.slots.push_reserved(slot);
+    channel.queue.push_back_reserved(offer);
+}
+
+/// Gives out a place to a receiver. The slot is that of the wait that begins there, if one does.
+fn place_receiver(channel: &mut ListChannel, slot: Option<ListWait>, receiver: Receiver)
+    requires { vec_len channel.old.slots < channel.old.places }
+    ensures channel { channel_of channel.new ≡ place_receiver true receiver (channel_of channel.old) }
+    ensures slots { (p : ℕ) → wait_in_channel (Some channel.new) p
+        ≡ (if p == (channel_of channel.old).next then option_map wait_of slot else wait_in_channel (Some channel.old) p) }
+    ensures clauses { (p : ℕ) → clauses_in_channel (Some channel.new) p
+        ≡ (if p == (channel_of channel.old).next then clauses_of_slot slot else clauses_in_channel (Some channel.old) p) }
+    ensures places { channel.new.places ≡ channel.old.places }
+{
+    channel.slots.push_reserved(slot);
+    channel.receivers.push_back_reserved(receiver);
+}
+
+fn append_offer_to(channel: &mut ListChannel, value: Value, holder: Option<Party>) -> Place
+    requires { vec_len channel.old.slots < channel.old.places }
+    ensures place { result ≡ vec_len channel.old.slots }
+    ensures channel { channel_of channel.new
+        ≡ place_offer true (record { place = result; value = value; holder = holder }) (channel_of channel.old) }
+    ensures slots { (p : ℕ) → wait_in_channel (Some channel.new) p ≡ wait_in_channel (Some channel.old) p }
+    ensures clauses { (p : ℕ) → clauses_in_channel (Some channel.new) p ≡ clauses_in_channel (Some channel.old) p }
+    ensures places { channel.new.places ≡ channel.old.places }
+{
+    let place = channel.slots.len() as Place;
+    let offer = Standing {
+        place,
+        value,
+        holder,
+    };
+    place_offer(channel, None, offer);
+    place
+}
+
+/// Gives out a place to an offer, at which no wait begins.
+pub fn append_offer(
+    channels: &mut Vec<ListChannel>,
+    c: ChannelId,
+    value: Value,
+    holder: Option<Party>,
+) -> Place
+    requires { (channel_in channels.old.items c).next < places_in channels.old.items c }
+    ensures place { result ≡ (channel_in channels.old.items c).next }
+    ensures change { Becomes c
+        (place_offer true (record { place = result; value = value; holder = holder }) (channel_in channels.old.items c))
+        channels.old.items channels.new.items }
+{
+    append_offer_to(&mut channels[c as usize], value, holder)
+}
+
+fn append_receiver_to(channel: &mut ListChannel, party: Party) -> Place
+    requires { vec_len channel.old.slots < channel.old.places }
+    ensures place { result ≡ vec_len channel.old.slots }
+    ensures channel { channel_of channel.new
+        ≡ place_receiver true (record { place = result; party = party }) (channel_of channel.old) }
+    ensures slots { (p : ℕ) → wait_in_channel (Some channel.new) p ≡ wait_in_channel (Some channel.old) p }
+    ensures clauses { (p : ℕ) → clauses_in_channel (Some channel.new) p ≡ clauses_in_channel (Some channel.old) p }
+    ensures places { channel.new.places ≡ channel.old.places }
+{
+    let place = channel.slots.len() as Place;
+    place_receiver(channel, None, Receiver { place, party });
+    place
+}
+
+/// Gives out a place to a receiver, at which no wait begins.
+fn append_receiver(channels: &mut Vec<ListChannel>, c: ChannelId, party: Party) -> Place
+    requires { (channel_in channels.old.items c).next < places_in channels.old.items c }
+    ensures place { result ≡ (channel_in channels.old.items c).next }
+    ensures change { Becomes c
+        (place_receiver true (record { place = result; party = party }) (channel_in channels.old.items c))
+        channels.old.items channels.new.items }
+{
+    append_receiver_to(&mut channels[c as usize], party)
+}
+
+/// Gives out a place to an offer that waits, and begins its wait.
+pub fn begin_offer(
+    channels: &mut Vec<ListChannel>,
+    c: ChannelId,
+    who: Tag,
+    clause: u8,
+    value: Value,
+) -> Place
+    requires { (channel_in channels.old.items c).next < places_in channels.old.items c }
+    ensures place { result ≡ (channel_in channels.old.items c).next }
+    ensures change { BeginsWait who clause c result
+        (place_offer true (held_offer (named c result) clause result value) (channel_in channels.old.items c))
+        channels.old.items channels.new.items }
+{
+    let place = next_place(channels, c);
+    let slot = new_wait(
+        who,
+        ListClause {
+            number: clause,
+            channel: c,
+            place,
+        },
+    );
+    let wait = WaitId { channel: c, place };
+    let holder = Some(Party { wait, clause });
+    place_offer(
+        &mut channels[c as usize],
+        Some(slot),
+        Standing {
+            place,
+            value,
+            holder,
+        },
+    );
+    place
+}
+
+/// Gives out a place to a receiver, and begins its wait.
+pub fn begin_receiver(channels: &mut Vec<ListChannel>, c: ChannelId, who: Tag, clause: u8) -> Place
+    requires { (channel_in channels.old.items c).next < places_in channels.old.items c }
+    ensures place { result ≡ (channel_in channels.old.items c).next }
+    ensures change { BeginsWait who clause c result
+        (place_receiver true (held_receiver (named c result) clause result) (channel_in channels.old.items c))
+        channels.old.items channels.new.items }
+{
+    let place = next_place(channels, c);
+    let slot = new_wait(
+        who,
+        ListClause {
+            number: clause,
+            channel: c,
+            place,
+        },
+    );
+    let wait = WaitId { channel: c, place };
+    let party = Party { wait, clause };
+    place_receiver(
+        &mut channels[c as usize],
+        Some(slot),
+        Receiver { place, party },
+    );
+    place
+}
+
+fn push_clause(slot: &mut Option<ListWait>, clause: ListClause)
+    requires there { IsSome slot.old }
+    requires few { length (clauses_of (option_map wait_of slot.old)) < 7 }
+    ensures wait { option_map wait_of slot.new ≡ with_clause clause.number clause.channel (option_map wait_of slot.old) }
+    ensures clauses { clauses_of_slot slot.new ≡ clauses_of_slot slot.old ++ clause ∷ [] }
+{
+    if let Some(wait) = slot {
+        wait.clauses.push(clause);
+    }
+}
+
+fn push_clause_in(channel: &mut ListChannel, place: usize, clause: ListClause)
+    requires place { place < vec_len channel.old.slots }
+    requires there { IsSome (wait_in_channel (Some channel.old) place) }
+    requires few { length (clauses_of (wait_in_channel (Some channel.old) place)) < 7 }
+    ensures channel { channel_of channel.new ≡ channel_of channel.old }
+    ensures places { channel.new.places ≡ channel.old.places }
+    ensures waits { OneSlot place (with_clause clause.number clause.channel) channel.old channel.new }
+    ensures clauses { clauses_in_channel (Some channel.new) place ≡ clauses_in_channel (Some channel.old) place ++ clause ∷ [] }
+{
+    push_clause(&mut channel.slots[place], clause);
+}
+
+/// Gives the wait one clause more.
+fn add_clause(channels: &mut Vec<ListChannel>, w: WaitId, clause: ListClause)
+    requires there { IsSome (wait_in channels.old.items w) }
+    requires few { length (clauses_of (wait_in channels.old.items w)) < 7 }
+    ensures channels { SameChannels channels.old.items channels.new.items }
+    ensures waits { OneWait w (with_clause clause.number clause.channel) channels.old.items channels.new.items }
+    ensures clauses { (v : WaitId) → clauses_in channels.new.items v
+        ≡ (if same_wait w v then clauses_in channels.old.items w ++ clause ∷ [] else clauses_in channels.old.items v) }
+    ensures shape { SameShape channels.old.items channels.new.items }
+{
+    push_clause_in(&mut channels[w.channel as usize], w.place as usize, clause);
+}
+
+/// Gives out a place to an offer, as one more clause of the wait.
+pub fn join_offer(
+    channels: &mut Vec<ListChannel>,
+    c: ChannelId,
+    w: WaitId,
+    clause: u8,
+    value: Value,
+) -> Place
+    requires left { (channel_in channels.old.items c).next < places_in channels.old.items c }
+    requires there { IsSome (wait_in channels.old.items w) }
+    requires few { length (clauses_of (wait_in channels.old.items w)) < 7 }
+    ensures place { result ≡ (channel_in channels.old.items c).next }
+    ensures change { JoinsClause w clause c result
+        (place_offer true (held_offer w clause result value) (channel_in channels.old.items c))
+        channels.old.items channels.new.items }
+{
+    let place = append_offer(channels, c, value, Some(Party { wait: w, clause }));
+    add_clause(
+        channels,
+        w,
+        ListClause {
+            number: clause,
+            channel: c,
+            place,
+        },
+    );
+    place
+}
+
+/// Gives out a place to a receiver, as one more clause of the wait.
+pub fn join_receiver(channels: &mut Vec<ListChannel>, c: ChannelId, w: WaitId, clause: u8) -> Place
+    requires left { (channel_in channels.old.items c).next < places_in channels.old.items c }
+    requires there { IsSome (wait_in channels.old.items w) }
+    requires few { length (clauses_of (wait_in channels.old.items w)) < 7 }
+    ensures place { result ≡ (channel_in channels.old.items c).next }
+    ensures change { JoinsClause w clause c result
+        (place_receiver true (held_receiver w clause result) (channel_in channels.old.items c))
+        channels.old.items channels.new.items }
+{
+    let place = append_receiver(channels, c, Party { wait: w, clause });
+    add_clause(
+        channels,
+        w,
+        ListClause {
+            number: clause,
+            channel: c,
+            place,
+        },
+    );
+    place
+}
