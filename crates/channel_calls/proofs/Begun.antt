@@ -1,5 +1,5 @@
 -- A send or a receive that waits has begun a wait that stands.
-use Rattle.std.specs.Prelude.{◌≡◌, ℕ, List, [], ◌∷◌, ◌++◌, None, refl}
+use Rattle.std.specs.Prelude.{◌≡◌, ℕ, List, [], ◌∷◌, ◌++◌, Some, None, refl}
 use Rattle.std.proofs.Common.{sym, ap, ◌∙◌, subst, arith}
 use Rattle.channel_model.specs.declared.acts.Act.{Act}
 use Rattle.channel_model.specs.declared.acts.Act.TheVariants.{Offer, Await}
@@ -14,6 +14,9 @@ use Rattle.channel_model.proofs.Histories.{replay_push, Legal-last}
 use Rattle.channel_model.proofs.Placed.{replay_placed}
 use Rattle.channel_model.proofs.Spans.{prefix_self}
 use Rattle.channel_model.proofs.Waits.{at_wait}
+use Rattle.channel_model.specs.PlainOffers.{OffersPlainly}
+use Rattle.channel_model.specs.declared.floor.WaitState.TheVariants as state
+use Rattle.channel_model.proofs.PlainOffers.{offered_plain}
 use Rattle.call_meaning.specs.ChannelCalls.{wait_at}
 use Rattle.channel_calls.specs.Calls.{IsLeftWaiting}
 
@@ -46,10 +49,18 @@ left_waiting who c p acts a d added is = record {
   holds = subst (IsUnsettledOf who) (sym is) (refl, refl);
 }
 
-pub offer_waits : (who c p v : ℕ) (acts : List Act) (a b d : Floor) → Legal d.shape d.seen → Made who (Offer c p v (wait_at c p) 0) b d → Added who acts a d → IsLeftWaiting who (wait_at c p) acts a d
-offer_waits who c p v acts a b d l m added =
+-- a plain offer that was just made stands
+pub offer_stands : (who c p v : ℕ) (b d : Floor) → Legal d.shape d.seen → Made who (Offer c p v (wait_at c p) 0) b d → state_of_wait ((replay d.seen).waits (wait_at c p)) ≡ Some state.Standing
+offer_stands who c p v b d l m =
     let r = last_legal d.shape m.before d.seen (record { who = who; act = Offer c p v (wait_at c p) 0 }) m.last l in
-    left_waiting who c p acts a d added (begun who c p m.before d.seen d.shape (Offer c p v (wait_at c p) 0) r.0 r.1.1.first m.last refl)
+    ap state_of_wait (begun who c p m.before d.seen d.shape (Offer c p v (wait_at c p) 0) r.0 r.1.1.first m.last refl)
+
+pub offer_plain : (who c p v : ℕ) (b d : Floor) → Legal d.shape d.seen → Made who (Offer c p v (wait_at c p) 0) b d → OffersPlainly who (wait_at c p) (replay d.seen)
+offer_plain who c p v b d l m =
+    let last : Entry = record { who = who; act = Offer c p v (wait_at c p) 0 } in
+    let r = last_legal d.shape m.before d.seen last m.last l in
+    let is : p ≡ ((replay m.before).channels c).next = r.1.1.first in
+    subst (λ es. OffersPlainly who (wait_at c p) (replay es)) (sym m.last) (subst (OffersPlainly who (wait_at c p)) (sym (replay_push m.before last)) (offered_plain d.shape who c p v m.before r.0 r.1))
 
 pub receiver_waits : (who c p : ℕ) (acts : List Act) (a b d : Floor) → Legal d.shape d.seen → Made who (Await c p (wait_at c p) 0) b d → Added who acts a d → IsLeftWaiting who (wait_at c p) acts a d
 receiver_waits who c p acts a b d l m added =

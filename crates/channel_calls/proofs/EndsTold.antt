@@ -10,10 +10,9 @@ use Rattle.channel_model.specs.declared.acts.Settled.TheVariants as settled
 use Rattle.channel_model.specs.declared.acts.Why.TheVariants as why
 use Rattle.channel_model.specs.declared.standing.Resolution.{Resolution}
 use Rattle.channel_model.specs.declared.standing.Resolution.TheVariants as resolved
-use Rattle.channel_model.specs.Channels.{Shape, State, Wait, kind_at}
+use Rattle.channel_model.specs.Channels.{State, Wait}
 use Rattle.channel_model.specs.Effects.{resolved_wait}
 use Rattle.channel_model.specs.Outcomes.{outcome_of}
-use Rattle.channel_model.specs.Owing.{never_owes}
 use Rattle.channel_model.specs.Histories.{replay, Legal}
 use Rattle.channel_model.specs.Floors.{Floor, HasRoom, Made}
 use Rattle.channel_model.specs.Answers.{SettleAnswer, WithdrawAnswer, IsReady, IsReadyWait, IsResolvedWait, outcome_at, outcome_of_some, IsUnsettledOf}
@@ -27,12 +26,12 @@ use Rattle.note_book.specs.declared.book.Item.TheVariants as item
 use Rattle.call_meaning.specs.Telling.{Told, TakenBack, made, heard}
 use Rattle.call_meaning.specs.Facts.{ActHolds, IsTakenBack, is_taken_back}
 use Rattle.call_meaning.specs.Calls.{ToldOnChannels}
-use Rattle.call_meaning.specs.ChannelCalls.{GivesUp}
+use Rattle.call_meaning.specs.ChannelCalls.{Admits, GivesUp}
 use Rattle.call_meaning.proofs.ChannelsHeard.{told_then, told_roomed, told_made, told_made_after, told_met, moment_before}
 use Rattle.channel_calls.specs.Groups.{made_note, settle_group, is_cancelled_end}
-use Rattle.channel_calls.specs.Calls.{HoldsWait, DispatchedAnswer, CancelledAnswer, TakesBack, end_told, none_to_admit}
+use Rattle.channel_calls.specs.Calls.{Tells, HoldsWait, DispatchedAnswer, CancelledAnswer, AdmittedAnswer, TakesBack, end_told}
+use Rattle.channel_calls.specs.Parts.{EndsCancelled, EndedCancelledAnswer}
 use Rattle.channel_calls.proofs.Roomed.{holds_roomed}
-use Rattle.channel_calls.proofs.NeverOwes.{told_none_to_admit, admits_none}
 
 -- ---- a wait that is settled
 
@@ -56,7 +55,7 @@ back_wait : (x : Option Wait) → outcome_at false x ≡ Some settled.Cancelled 
 back_wait None e = cc
 back_wait (Some x) e = back_how x.resolved e
 
-end_is_told : (who : ℕ) (w : WaitId) (cancelled : Bool) (outcome : Settled) (b d : Floor) (j k : List Item) → SettleAnswer who w cancelled b d outcome → k ≡ j ++ settle_group w outcome → ToldOnChannels who b d j k (end_told w cancelled outcome)
+pub end_is_told : (who : ℕ) (w : WaitId) (cancelled : Bool) (outcome : Settled) (b d : Floor) (j k : List Item) → SettleAnswer who w cancelled b d outcome → k ≡ j ++ settle_group w outcome → ToldOnChannels who b d j k (end_told w cancelled outcome)
 end_is_told who w false settled.Cancelled b d j k s f =
     told_made_after who (TakenBack w) (Settle w settled.Cancelled) b d j k s.0 (λ t. tt) (moment_before who (Settle w settled.Cancelled) b d (λ t. IsTakenBack (t.waits w)) s.0 (back_wait ((replay b.seen).waits w) s.1)) f
 end_is_told who w false (settled.Value n v) b d j k s f = settle_told who w (settled.Value n v) b d j k s.0 f
@@ -96,26 +95,18 @@ pub ready_withdrawn : (who n : ℕ) (w : WaitId) (t : ℕ) (a b c : Floor) → L
 ready_withdrawn who n w t a b c l h k m =
     subst (IsReadyWait who) (sym (withdrawn_at who w b c m.0)) (withdrawn_ready who _ (held_before who w (Withdraw w why.Cancelled) b c l (holds_roomed who n w a b h k) m.0))
 
--- the kind of the channel after a call of two steps
-same_kind : (who n c : ℕ) (act : Act) (a b d e : Floor) → HasRoom n a b → b.shape ≡ a.shape → d.shape ≡ b.shape → Made who act d e → never_owes (kind_at a.shape c) ≡ true → never_owes (kind_at e.shape c) ≡ true
-same_kind who n c act a b d e h x y m owes = ap (λ (s : Shape). never_owes (kind_at s c)) (m.same.shape ∙ y ∙ x) ∙ owes
-
 -- and ends as cancelled
-pub withdrawn_now : (who n : ℕ) (w : WaitId) (t : ℕ) (a b c d : Floor) (i j k l : List Item) (outcome : Settled) → Legal c.shape c.seen → Legal d.shape d.seen → never_owes (kind_at a.shape w.channel) ≡ true → HasRoom n a b → HoldsWait who w a
-    → WithdrawAnswer who w why.Cancelled b c (withdraws.Done t) → SettleAnswer who w true c d outcome → j ≡ i → k ≡ j ++ made_note (Withdraw w why.Cancelled) ∷ [] → l ≡ k ++ settle_group w outcome → CancelledAnswer who w a d i l (Ok outcome)
-withdrawn_now who n w t a b c d i j k l outcome legal legal_now owes h holds m s e f g =
+pub withdrawn_now : (who n : ℕ) (w : WaitId) (t : ℕ) (a b c d : Floor) (i j k l : List Item) (outcome : Settled) → Legal c.shape c.seen → HasRoom n a b → HoldsWait who w a
+    → WithdrawAnswer who w why.Cancelled b c (withdraws.Done t) → SettleAnswer who w true c d outcome → j ≡ i → k ≡ j ++ made_note (Withdraw w why.Cancelled) ∷ [] → l ≡ k ++ settle_group w outcome → EndedCancelledAnswer who w a d i l (Ok outcome)
+withdrawn_now who n w t a b c d i j k l outcome legal h holds m s e f g =
     let is : outcome ≡ settled.Cancelled = withdrawn_outcome who ((replay m.0.before).waits w) outcome (held_before who w (Withdraw w why.Cancelled) b c legal (holds_roomed who n w a b h holds) m.0) (ap (outcome_at true) (sym (withdrawn_at who w b c m.0)) ∙ s.1) in
-    let mark = ((replay d.seen).channels w.channel).next in
-    let kind = same_kind who n w.channel (Settle w outcome) a b c d h h.same.shape m.0.same.shape s.0 owes in
-    let two : ToldOnChannels who c d k l (made (Settle w outcome) ∷ none_to_admit w.channel mark) =
-    told_then who c d d k l l (made (Settle w outcome) ∷ []) (none_to_admit w.channel mark) (settle_told who w outcome c d k l s.0 g) (told_none_to_admit who w.channel d l legal_now kind) in
-    let all : ToldOnChannels who b d j l (made (Withdraw w why.Cancelled) ∷ made (Settle w outcome) ∷ none_to_admit w.channel mark) =
-    told_then who b c d j k l (made (Withdraw w why.Cancelled) ∷ []) (made (Settle w outcome) ∷ none_to_admit w.channel mark)
-    (told_made who (Withdraw w why.Cancelled) b c j k m.0 (moment_before who (Withdraw w why.Cancelled) b c (ActHolds (Withdraw w why.Cancelled)) m.0 tt) f) two in
     record {
-      told = made (Withdraw w why.Cancelled) ∷ made (Settle w outcome) ∷ none_to_admit w.channel mark;
-      goes = subst (λ o. TakesBack w o (made (Withdraw w why.Cancelled) ∷ made (Settle w o) ∷ none_to_admit w.channel mark)) (sym is) (TakesBack.withdrawn mark);
-      left = told_roomed who n a b d i j l (made (Withdraw w why.Cancelled) ∷ made (Settle w outcome) ∷ none_to_admit w.channel mark) h e all;
+      told = made (Withdraw w why.Cancelled) ∷ made (Settle w outcome) ∷ [];
+      goes = subst (λ o. EndsCancelled w o (made (Withdraw w why.Cancelled) ∷ made (Settle w o) ∷ [])) (sym is) EndsCancelled.withdrawn;
+      left = told_roomed who n a b d i j l (made (Withdraw w why.Cancelled) ∷ made (Settle w outcome) ∷ []) h e
+          (told_then who b c d j k l (made (Withdraw w why.Cancelled) ∷ []) (made (Settle w outcome) ∷ [])
+          (told_made who (Withdraw w why.Cancelled) b c j k m.0 (moment_before who (Withdraw w why.Cancelled) b c (ActHolds (Withdraw w why.Cancelled)) m.0 tt) f)
+          (settle_told who w outcome c d k l s.0 g));
     }
 
 -- ---- a wait that had been resolved
@@ -146,33 +137,33 @@ ready_late who n w a b c l h k m =
     resolved_ready who _ (others_keep c.shape who (IsUnsettledOf who) (unsettled_stays who) w b.seen c.seen l m.0.longer m.0.mine (holds_roomed who n w a b h k)) m.1
 
 -- and ends as it was resolved
-pub late_now : (who n : ℕ) (w : WaitId) (a b c d : Floor) (i j k l : List Item) (outcome : Settled) → Legal d.shape d.seen → never_owes (kind_at a.shape w.channel) ≡ true → HasRoom n a b
-    → WithdrawAnswer who w why.Cancelled b c withdraws.Late → SettleAnswer who w true c d outcome → j ≡ i → k ≡ j ++ item.Channel (Late w) ∷ [] → l ≡ k ++ settle_group w outcome → CancelledAnswer who w a d i l (Ok outcome)
-late_now who n w a b c d i j k l outcome legal_now owes h m s e f g =
-    let mark = ((replay d.seen).channels w.channel).next in
-    let kind = same_kind who n w.channel (Settle w outcome) a b c d h h.same.shape m.0.same.shape s.0 owes in
-    let two : ToldOnChannels who c d k l (made (Settle w outcome) ∷ none_to_admit w.channel mark) =
-    told_then who c d d k l l (made (Settle w outcome) ∷ []) (none_to_admit w.channel mark) (settle_told who w outcome c d k l s.0 g) (told_none_to_admit who w.channel d l legal_now kind) in
-    let first : ToldOnChannels who b c j k (heard (Late w) ∷ []) = told_met who (Late w) b c j k refl m.0 (record { moment = c.seen; after = m.0.longer; before = prefix_self c.seen; holds = m.1 }) f in
+pub late_now : (who n : ℕ) (w : WaitId) (a b c d : Floor) (i j k l : List Item) (outcome : Settled) → HasRoom n a b
+    → WithdrawAnswer who w why.Cancelled b c withdraws.Late → SettleAnswer who w true c d outcome → j ≡ i → k ≡ j ++ item.Channel (Late w) ∷ [] → l ≡ k ++ settle_group w outcome → EndedCancelledAnswer who w a d i l (Ok outcome)
+late_now who n w a b c d i j k l outcome h m s e f g = record {
+  told = heard (Late w) ∷ made (Settle w outcome) ∷ [];
+  goes = EndsCancelled.late outcome (wait_cancelled ((replay c.seen).waits w) outcome s.1);
+  left = told_roomed who n a b d i j l (heard (Late w) ∷ made (Settle w outcome) ∷ []) h e
+      (told_then who b c d j k l (heard (Late w) ∷ []) (made (Settle w outcome) ∷ [])
+      (told_met who (Late w) b c j k refl m.0 (record { moment = c.seen; after = m.0.longer; before = prefix_self c.seen; holds = m.1 }) f)
+      (settle_told who w outcome c d k l s.0 g));
+}
+
+-- ---- with the admits that follow
+
+takes_back : (w : WaitId) (outcome : Settled) (ends admits : List Told) → EndsCancelled w outcome ends → Admits w.channel admits → TakesBack w outcome (ends ++ admits)
+takes_back w _ _ admits EndsCancelled.withdrawn h = TakesBack.withdrawn admits h
+takes_back w _ _ admits (EndsCancelled.late outcome e) h = TakesBack.late outcome admits e h
+
+pub taken_back : (who who' : ℕ) (w : WaitId) (outcome : Settled) (a b d : Floor) (i j k : List Item) → who' ≡ who → EndedCancelledAnswer who w a b i j (Ok outcome) → AdmittedAnswer who' w.channel b d j k (Ok tt) → CancelledAnswer who w a d i k (Ok outcome)
+taken_back who who' w outcome a b d i j k is h m' =
+    let m : Tells who (Admits w.channel) b d j k = subst (λ x. Tells x (Admits w.channel) b d j k) is m' in
     record {
-      told = heard (Late w) ∷ made (Settle w outcome) ∷ none_to_admit w.channel mark;
-      goes = TakesBack.late outcome mark (wait_cancelled ((replay c.seen).waits w) outcome s.1);
-      left = told_roomed who n a b d i j l (heard (Late w) ∷ made (Settle w outcome) ∷ none_to_admit w.channel mark) h e
-          (told_then who b c d j k l (heard (Late w) ∷ []) (made (Settle w outcome) ∷ none_to_admit w.channel mark) first two);
+      told = h.told ++ m.told;
+      goes = takes_back w outcome h.told m.told h.goes m.goes;
+      left = told_then who a b d i j k h.told m.told h.left m.left;
     }
 
 -- ---- in the words of a coroutine that gives up
-
-late_gives_up : (w : WaitId) (outcome : Settled) (mark : ℕ) → is_cancelled_end outcome ≡ true → GivesUp w (heard (Late w) ∷ made (Settle w outcome) ∷ none_to_admit w.channel mark)
-late_gives_up w (settled.Value n v) mark e = cc
-late_gives_up w (settled.Sent n) mark e = cc
-late_gives_up w (settled.Closed n v) mark e = cc
-late_gives_up w settled.Cancelled mark e = GivesUp.late (none_to_admit w.channel mark) (admits_none w.channel mark)
-late_gives_up w (settled.Undelivered v) mark e = GivesUp.late_undelivered v (none_to_admit w.channel mark) (admits_none w.channel mark)
-
-pub gives_up : (w : WaitId) (outcome : Settled) (told : List Told) → TakesBack w outcome told → GivesUp w told
-gives_up w _ _ (TakesBack.withdrawn mark) = GivesUp.withdrawn (none_to_admit w.channel mark) (admits_none w.channel mark)
-gives_up w _ _ (TakesBack.late outcome mark e) = late_gives_up w outcome mark e
 
 end_gives_up : (w : WaitId) (outcome : Settled) → is_cancelled_end outcome ≡ true → GivesUp w (made (Settle w outcome) ∷ [])
 end_gives_up w (settled.Value n v) e = cc

@@ -1,6 +1,14 @@
 pub mod Roomed
-pub mod NeverOwes
+pub mod Untold
+pub mod OwedWords
+pub mod Repeated
+pub mod AdmitsTold
+pub mod DropsTold
+pub mod ClosesTold
 pub mod Begun
-pub mod SendsTold
 pub mod ReceivesTold
+pub mod SendsTold
 pub mod EndsTold
+pub mod OwnClause
+pub mod OwnOffers
+pub mod AnswersGo

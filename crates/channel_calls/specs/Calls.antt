@@ -1,29 +1,36 @@
 -- What each call comes to, by cases on its answer: what it tells is noted, its acts are the entries that it added, and all of it was so.
-use Rattle.std.specs.Prelude.{◌≡◌, ℕ, Bool, true, false, List, [], ◌∷◌, length, Some, Result, Ok, Err}
+use Rattle.std.specs.Prelude.{◌≡◌, ℕ, Bool, true, false, List, [], ◌∷◌, ◌++◌, Some, Result, Ok, Err}
 use Rattle.co_base.specs.declared.names.WaitId.{WaitId}
 use Rattle.co_base.specs.declared.names.Memory.{Memory}
 use Rattle.channel_model.specs.declared.acts.Act.{Act}
-use Rattle.channel_model.specs.declared.acts.Act.TheVariants.{Withdraw, Settle}
-use Rattle.channel_model.specs.declared.acts.ChannelNote.TheVariants.{SendClosed, Late}
+use Rattle.channel_model.specs.declared.acts.Act.TheVariants.{Close, Void, Withdraw, Settle}
+use Rattle.channel_model.specs.declared.acts.ChannelNote.TheVariants.{SendClosed, TrySendClosed, TryReceiveClosed, AlreadyClosed, Late}
+use Rattle.channel_model.specs.declared.acts.Kind.{Kind}
 use Rattle.channel_model.specs.declared.acts.Settled.{Settled}
 use Rattle.channel_model.specs.declared.acts.Settled.TheVariants as settled
 use Rattle.channel_model.specs.declared.acts.Why.TheVariants as why
 use Rattle.channel_model.specs.declared.floor.WaitState.TheVariants as state
-use Rattle.channel_model.specs.Channels.{Shape}
+use Rattle.channel_model.specs.Channels.{Shape, kind_at}
 use Rattle.channel_model.specs.Histories.{replay}
 use Rattle.channel_model.specs.Floors.{Floor, AtMoment}
-use Rattle.channel_model.specs.Answers.{IsUnsettledOf, outcome_at, state_of_wait}
+use Rattle.channel_model.specs.Answers.{IsUnsettledOf, IsSeenClosed, IsSeenVoided, outcome_at, state_of_wait}
+use Rattle.channel_model.specs.Puts.{after_put}
 use Rattle.note_book.specs.declared.book.Item.{Item}
 use Rattle.note_book.specs.Items.{channel_acts_in}
-use Rattle.call_meaning.specs.Telling.{Told, on_channels, TakenBack, NextIs, NoneToAdmit, items_in, made, heard}
-use Rattle.call_meaning.specs.ChannelCalls.{Answer, Done, Got, Closed, Waits, NoPlace, Call, sends, receives, PlainCall}
+use Rattle.call_meaning.specs.Telling.{Told, on_channels, TakenBack, items_in, made, heard}
+use Rattle.call_meaning.specs.Facts.{IsClosedWith}
+use Rattle.call_meaning.specs.ChannelCalls.{Answer, Done, Got, Closed, Waits, NoPlace, Call, sends, receives, wait_at, offer_told, is_buffered, blocked, spent, Admits, Drops, Wakes, Drains, Closes, AtOnce, PlainCall}
 use Rattle.call_meaning.specs.Calls.{ToldOnChannels}
 use Rattle.channel_calls.specs.Groups.{is_cancelled_end}
 use Rattle.channel_calls.specs.declared.caller.Caller.{Caller}
 use Rattle.channel_calls.specs.declared.caller.SendAnswer.{SendAnswer}
 use Rattle.channel_calls.specs.declared.caller.SendAnswer.TheVariants as send
+use Rattle.channel_calls.specs.declared.caller.TrySendAnswer.{TrySendAnswer}
+use Rattle.channel_calls.specs.declared.caller.TrySendAnswer.TheVariants as try_send
 use Rattle.channel_calls.specs.declared.caller.ReceiveAnswer.{ReceiveAnswer}
 use Rattle.channel_calls.specs.declared.caller.ReceiveAnswer.TheVariants as receive
+use Rattle.channel_calls.specs.declared.caller.TryReceiveAnswer.{TryReceiveAnswer}
+use Rattle.channel_calls.specs.declared.caller.TryReceiveAnswer.TheVariants as try_receive
 
 -- ---- what stays
 
@@ -48,10 +55,20 @@ pub record Tells (who : ℕ) (P : List Told → Type 0) (old new : Floor) (items
   pub goes : P told
   pub left : ToldOnChannels who old new items items' told
 
--- a send or receive on a channel that never owes an admission or a drop goes so, and notes one item
-pub record GoesAlone (shape : Shape) (call : Call) (a : Answer) (told : List Told) : Type 0 where
-  pub goes : PlainCall shape call told a
-  pub alone : length (items_in told) ≡ 1
+abbrev pub Anything : List Told → Type 0
+Anything told = Unit {0}
+
+-- no memory was found; what the call had told by then stands
+abbrev pub ToldSome : ℕ → Floor → Floor → List Item → List Item → Type 0
+ToldSome who old new i i' = Tells who Anything old new i i'
+
+-- a send or receive goes so
+abbrev pub Goes : Shape → Call → Answer → List Told → Type 0
+Goes shape call a told = PlainCall shape call told a
+
+-- a call finds a partner, or room
+abbrev pub GoesAtOnce : Call → Answer → List Told → Type 0
+GoesAtOnce call a told = AtOnce call told a
 
 -- ---- waits
 
@@ -66,30 +83,97 @@ pub record IsLeftWaiting (who : ℕ) (w : WaitId) (acts : List Act) (old new : F
 
 -- ---- send
 
--- a send that was done: it was not refused
-pub record IsSent (shape : Shape) (c v : ℕ) (told : List Told) : Type 0 where
-  pub goes : GoesAlone shape (sends c v) Done told
-  pub not_refused : (x : ℕ) → told ≡ heard (SendClosed c v x) ∷ [] → ⊥
+-- a send that was done: the element was handed or put, or its offer was received or kept before the call answered
+pub data IsSent (c v : ℕ) : List Told → Type 0 where
+  at_once : (group : List Told) → AtOnce (sends c v) group Done → IsSent c v group
+  offered : (q : ℕ) (admits all : List Told) → Admits c admits
+      → all ≡ offer_told c v q admits ++ made (Settle (wait_at c q) (settled.Sent 0)) ∷ [] → IsSent c v all
+
+-- a send to a channel closed with x: it was refused, or, on a buffered channel, its offer was removed with all others
+-- before the call answered
+pub data IsUnsent (shape : Shape) (c v x : ℕ) : List Told → Type 0 where
+  refused : IsUnsent shape c v x (heard (SendClosed c v x) ∷ [])
+  voided : (q : ℕ) (admits all : List Told) → is_buffered (kind_at shape c) ≡ true → Admits c admits
+      → all
+      ≡ offer_told c v q admits
+      ++ on_channels (TakenBack (wait_at c q)) ∷ made (Settle (wait_at c q) settled.Cancelled) ∷ []
+      → IsUnsent shape c v x all
 
 abbrev pub SentAnswer : ℕ → ℕ → ℕ → Floor → Floor → List Item → List Item → Result SendAnswer Memory → Type 0
-SentAnswer who c v old new i i' (Ok send.Sent) = Tells who (IsSent old.shape c v) old new i i'
+SentAnswer who c v old new i i' (Ok send.Sent) = Tells who (IsSent c v) old new i i'
 SentAnswer who c v old new i i' (Ok (send.Waits w)) =
-    (t : Tells who (GoesAlone old.shape (sends c v) (Waits w)) old new i i')
+    (t : Tells who (Goes old.shape (sends c v) (Waits w)) old new i i')
     × IsLeftWaiting who w (channel_acts_in (items_in t.told)) old new
-SentAnswer who c v old new i i' (Ok (send.Closed x)) = ToldOnChannels who old new i i' (heard (SendClosed c v x) ∷ [])
-SentAnswer who c v old new i i' (Ok send.Spent) = Tells who (GoesAlone old.shape (sends c v) NoPlace) old new i i'
-SentAnswer who c v old new i i' (Err m) = IsUntouched old new i i'
+SentAnswer who c v old new i i' (Ok (send.Closed x)) =
+    Tells who (IsUnsent old.shape c v x) old new i i' × IsClosedWith c x (replay new.seen)
+SentAnswer who c v old new i i' (Ok send.Spent) = Tells who (Goes old.shape (sends c v) NoPlace) old new i i'
+SentAnswer who c v old new i i' (Err m) = ToldSome who old new i i'
+
+-- the same without waiting
+abbrev pub TrySentAnswer : ℕ → ℕ → ℕ → Floor → Floor → List Item → List Item → Result TrySendAnswer Memory → Type 0
+TrySentAnswer who c v old new i i' (Ok try_send.Sent) = Tells who (GoesAtOnce (sends c v) Done) old new i i'
+TrySentAnswer who c v old new i i' (Ok try_send.Full) = ToldOnChannels who old new i i' (blocked (sends c v) ∷ [])
+TrySentAnswer who c v old new i i' (Ok (try_send.Closed x)) =
+    ToldOnChannels who old new i i' (heard (TrySendClosed c v x) ∷ [])
+TrySentAnswer who c v old new i i' (Ok try_send.Spent) = ToldOnChannels who old new i i' (spent (sends c v))
+TrySentAnswer who c v old new i i' (Err m) = ToldSome who old new i i'
 
 -- ---- receive
 
 abbrev pub ReceivedAnswer : ℕ → ℕ → Floor → Floor → List Item → List Item → Result ReceiveAnswer Memory → Type 0
-ReceivedAnswer who c old new i i' (Ok (receive.Value v)) = Tells who (GoesAlone old.shape (receives c) (Got v)) old new i i'
+ReceivedAnswer who c old new i i' (Ok (receive.Value v)) = Tells who (Goes old.shape (receives c) (Got v)) old new i i'
 ReceivedAnswer who c old new i i' (Ok (receive.Waits w)) =
-    (t : Tells who (GoesAlone old.shape (receives c) (Waits w)) old new i i')
+    (t : Tells who (Goes old.shape (receives c) (Waits w)) old new i i')
     × IsLeftWaiting who w (channel_acts_in (items_in t.told)) old new
-ReceivedAnswer who c old new i i' (Ok (receive.Closed x)) = Tells who (GoesAlone old.shape (receives c) (Closed x)) old new i i'
-ReceivedAnswer who c old new i i' (Ok receive.Spent) = Tells who (GoesAlone old.shape (receives c) NoPlace) old new i i'
-ReceivedAnswer who c old new i i' (Err m) = IsUntouched old new i i'
+ReceivedAnswer who c old new i i' (Ok (receive.Closed x)) = Tells who (Goes old.shape (receives c) (Closed x)) old new i i'
+ReceivedAnswer who c old new i i' (Ok receive.Spent) = Tells who (Goes old.shape (receives c) NoPlace) old new i i'
+ReceivedAnswer who c old new i i' (Err m) = ToldSome who old new i i'
+
+-- the same without waiting
+abbrev pub TryReceivedAnswer : ℕ → ℕ → Floor → Floor → List Item → List Item → Result TryReceiveAnswer Memory → Type 0
+TryReceivedAnswer who c old new i i' (Ok (try_receive.Value v)) = Tells who (GoesAtOnce (receives c) (Got v)) old new i i'
+TryReceivedAnswer who c old new i i' (Ok try_receive.Empty) = ToldOnChannels who old new i i' (blocked (receives c) ∷ [])
+TryReceivedAnswer who c old new i i' (Ok (try_receive.Closed x)) =
+    ToldOnChannels who old new i i' (heard (TryReceiveClosed c x) ∷ [])
+TryReceivedAnswer who c old new i i' (Err m) = ToldSome who old new i i'
+
+-- ---- what follows an act
+
+-- those were admitted for whom the channel has room
+abbrev pub AdmittedAnswer : ℕ → ℕ → Floor → Floor → List Item → List Item → Result (Unit {0}) Memory → Type 0
+AdmittedAnswer who c old new i i' (Ok done) = Tells who (Admits c) old new i i'
+AdmittedAnswer who c old new i i' (Err m) = ToldSome who old new i i'
+
+-- what follows a Put at this place of a channel of this kind
+pub record FollowsPut (kind : Kind) (c place : ℕ) (told : List Told) : Type 0 where
+  pub drops : Drops c place told
+  pub acts : after_put kind c place (channel_acts_in (items_in told)) ≡ true
+
+abbrev pub DroppedAnswer : ℕ → ℕ → ℕ → Floor → Floor → List Item → List Item → Result (Unit {0}) Memory → Type 0
+DroppedAnswer who c place old new i i' (Ok done) = Tells who (FollowsPut (kind_at old.shape c) c place) old new i i'
+DroppedAnswer who c place old new i i' (Err m) = ToldSome who old new i i'
+
+-- ---- close and cancel
+
+-- the channel was closed by this call, or had been closed; then no receiver stands
+pub data ClosesBy (c v : ℕ) : Bool → List Told → Type 0 where
+  now : (wakes : List Told) → Wakes c wakes → ClosesBy c v true (made (Close c v) ∷ wakes)
+  before : (u : ℕ) (wakes : List Told) → Wakes c wakes → ClosesBy c v false (heard (AlreadyClosed c u) ∷ wakes)
+
+abbrev pub ClosedAnswer : ℕ → ℕ → ℕ → Floor → Floor → List Item → List Item → Result Bool Memory → Type 0
+ClosedAnswer who c v old new i i' (Ok first) = Tells who (ClosesBy c v first) old new i i' × IsSeenClosed c new
+ClosedAnswer who c v old new i i' (Err m) = ToldSome who old new i i'
+
+-- the channel was closed with 0, or had been; then it was voided by this call, or had been, and no element is left
+pub data CancelsBy (c : ℕ) : Bool → List Told → Type 0 where
+  now : (closes drains all : List Told) → Closes c 0 closes → Drains c drains
+      → all ≡ closes ++ made (Void c) ∷ drains → CancelsBy c true all
+  before : (closes drains all : List Told) → Closes c 0 closes → Drains c drains → all ≡ closes ++ drains
+      → CancelsBy c false all
+
+abbrev pub CancelledChannelAnswer : ℕ → ℕ → Floor → Floor → List Item → List Item → Result Bool Memory → Type 0
+CancelledChannelAnswer who c old new i i' (Ok first) = Tells who (CancelsBy c first) old new i i' × IsSeenVoided c new
+CancelledChannelAnswer who c old new i i' (Err m) = ToldSome who old new i i'
 
 -- ---- the end of a wait
 
@@ -104,18 +188,14 @@ DispatchedAnswer who w cancelled old new i i' (Ok outcome) =
     ToldOnChannels who old new i i' (end_told w cancelled outcome) × (outcome_at cancelled ((replay old.seen).waits w) ≡ Some outcome)
 DispatchedAnswer who w cancelled old new i i' (Err m) = IsUntouched old new i i'
 
--- the channel owes no admission below its next place
-abbrev pub none_to_admit : ℕ → ℕ → List Told
-none_to_admit c mark = on_channels (NextIs c mark) ∷ on_channels (NoneToAdmit c mark) ∷ []
-
--- the wait was withdrawn, or that came too late; then it ended so, for a Job that was cancelled
+-- the wait was withdrawn, or that came too late; it ended so, for a Job that was cancelled, and then those were
+-- admitted for whom its channel has room
 pub data TakesBack (w : WaitId) : Settled → List Told → Type 0 where
-  withdrawn : (mark : ℕ)
-      → TakesBack w settled.Cancelled
-      (made (Withdraw w why.Cancelled) ∷ made (Settle w settled.Cancelled) ∷ none_to_admit w.channel mark)
-  late : (outcome : Settled) (mark : ℕ) → is_cancelled_end outcome ≡ true
-      → TakesBack w outcome (heard (Late w) ∷ made (Settle w outcome) ∷ none_to_admit w.channel mark)
+  withdrawn : (admits : List Told) → Admits w.channel admits
+      → TakesBack w settled.Cancelled (made (Withdraw w why.Cancelled) ∷ made (Settle w settled.Cancelled) ∷ admits)
+  late : (outcome : Settled) (admits : List Told) → is_cancelled_end outcome ≡ true → Admits w.channel admits
+      → TakesBack w outcome (heard (Late w) ∷ made (Settle w outcome) ∷ admits)
 
 abbrev pub CancelledAnswer : ℕ → WaitId → Floor → Floor → List Item → List Item → Result Settled Memory → Type 0
 CancelledAnswer who w old new i i' (Ok outcome) = Tells who (TakesBack w outcome) old new i i'
-CancelledAnswer who w old new i i' (Err m) = IsUntouched old new i i'
+CancelledAnswer who w old new i i' (Err m) = ToldSome who old new i i'

@@ -2,11 +2,10 @@
 use Rattle.std.specs.Prelude.{Bool, true, false, List, [], ◌∷◌}
 use Rattle.co_base.specs.declared.names.WaitId.{WaitId}
 use Rattle.channel_model.specs.declared.acts.Act.{Act}
-use Rattle.channel_model.specs.declared.acts.Act.TheVariants.{Withdraw, Settle}
+use Rattle.channel_model.specs.declared.acts.Act.TheVariants.{Settle}
 use Rattle.channel_model.specs.declared.acts.ChannelNote.TheVariants as note
 use Rattle.channel_model.specs.declared.acts.Settled.{Settled}
 use Rattle.channel_model.specs.declared.acts.Settled.TheVariants as settled
-use Rattle.channel_model.specs.declared.acts.Why.TheVariants as why
 use Rattle.note_book.specs.declared.book.Item.{Item}
 use Rattle.note_book.specs.declared.book.Item.TheVariants as item
 
@@ -25,11 +24,3 @@ is_cancelled_end (settled.Sent k) = false
 is_cancelled_end (settled.Closed k v) = false
 is_cancelled_end settled.Cancelled = true
 is_cancelled_end (settled.Undelivered v) = true
-
--- the wait was withdrawn for a Job that was cancelled, and settled as cancelled
-abbrev pub withdraw_group : WaitId → List Item
-withdraw_group w = made_note (Withdraw w why.Cancelled) ∷ made_note (Settle w settled.Cancelled) ∷ []
-
--- the wait was to be withdrawn, which came too late, and was settled with this outcome
-abbrev pub late_group : WaitId → Settled → List Item
-late_group w outcome = item.Channel (note.Late w) ∷ made_note (Settle w outcome) ∷ []

@@ -14,10 +14,23 @@ pub struct Caller<'floor, 'book, 'wakes, F, B, W> {
 /// What a send came to.
 #[derive(Clone, Copy, Debug, PartialEq, Eq)]
 pub enum SendAnswer {
-    /// The element was handed to a receiver.
+    /// The element was handed to a receiver, or the channel keeps it.
     Sent,
     /// The send waits; its wait is to be dispatched once it is resolved.
     Waits(WaitId),
+    /// The channel was closed with this value.
+    Closed(Value),
+    /// The channel has no place left.
+    Spent,
+}
+
+/// What a send that never waits came to.
+#[derive(Clone, Copy, Debug, PartialEq, Eq)]
+pub enum TrySendAnswer {
+    /// The element was handed to a receiver, or the channel keeps it.
+    Sent,
+    /// A send would have to wait.
+    Full,
     /// The channel was closed with this value.
     Closed(Value),
     /// The channel has no place left.
@@ -35,4 +48,15 @@ pub enum ReceiveAnswer {
     Closed(Value),
     /// The channel has no place left.
     Spent,
+}
+
+/// What a receive that never waits came to.
+#[derive(Clone, Copy, Debug, PartialEq, Eq)]
+pub enum TryReceiveAnswer {
+    /// The element.
+    Value(Value),
+    /// A receive would have to wait.
+    Empty,
+    /// The channel was closed with this value, and nothing is left to receive.
+    Closed(Value),
 }

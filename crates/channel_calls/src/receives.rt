@@ -1,22 +1,18 @@
 //! To receive.
 
-ghost use Rattle.std.specs.Prelude.{◌≡◌, true};
-ghost use Rattle.channel_model.specs.Channels.{kind_at};
 ghost use Rattle.channel_model.specs.Floors.{MayCall};
-ghost use Rattle.channel_model.specs.Owing.{never_owes};
 ghost use Rattle.channel_calls.specs.Calls.{SameCaller, ReceivedAnswer};
 
 use crate::caller::{Caller, ReceiveAnswer};
-use crate::rooms::make_room;
+use crate::rooms::{make_room, wake_some};
 use channel_model::{Act, ChannelFloor, ChannelNote, Got};
 use co_base::{ChannelId, Memory, WaitId, Wakes};
 use note_book::{Item, NoteBook};
 
 impl<F: ChannelFloor, B: NoteBook, W: Wakes> Caller<'_, '_, '_, F, B, W> {
-    /// Takes the element that came first, or waits for one.
+    /// Takes the element that came first, and admits whoever waits where the channel has room now; or waits for an element.
     pub fn receive(&mut self, c: ChannelId) -> Result<ReceiveAnswer, Memory>
         requires can { MayCall self.old.who c (F.view self.old.floor.now) }
-        requires owing { never_owes (kind_at (F.view self.old.floor.now).shape c) ≡ true }
         ensures same { SameCaller F.anchor self.old self.new }
         ensures answer { ReceivedAnswer self.old.who c (F.view self.old.floor.now) (F.view self.new.floor.now)
             (B.items self.old.book.now) (B.items self.new.book.now) result }
@@ -28,10 +24,11 @@ impl<F: ChannelFloor, B: NoteBook, W: Wakes> Caller<'_, '_, '_, F, B, W> {
             Got::Taken(place, value, sender) => {
                 let act = Act::Take { c, place, value };
                 self.book.note(Item::Channel(ChannelNote::Made(act)));
-                if let Some(sender) = sender {
-                    self.wakes.wake(sender);
+                wake_some(self.wakes, sender);
+                match self.admit_all(c) {
+                    Ok(()) => Ok(ReceiveAnswer::Value(value)),
+                    Err(memory) => Err(memory),
                 }
-                Ok(ReceiveAnswer::Value(value))
             }
             Got::Waiting(place) => {
                 let main = WaitId { channel: c, place };

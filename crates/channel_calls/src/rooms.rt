@@ -1,14 +1,14 @@
-//! Room for what a call may add.
+//! Room for what a call may add, and whom it wakes.
 
 ghost use Rattle.std.specs.Prelude.{◌≡◌, ◌≤◌, OnOk, OnErr};
 ghost use Rattle.channel_model.specs.Floors.{HasRoom};
 
 use channel_model::ChannelFloor;
-use co_base::Memory;
+use co_base::{Memory, Tag, Wakes};
 use note_book::NoteBook;
 
 /// Makes room for so many entries and as many notes.
-pub(crate) fn make_room<F: ChannelFloor, B: NoteBook>(
+pub fn make_room<F: ChannelFloor, B: NoteBook>(
     floor: &mut F,
     book: &mut B,
     n: u32,
@@ -26,4 +26,11 @@ pub(crate) fn make_room<F: ChannelFloor, B: NoteBook>(
         return Err(memory);
     }
     Ok(())
+}
+
+/// Wakes whoever waits with an element, if somebody does.
+pub(crate) fn wake_some<W: Wakes>(wakes: &mut W, sender: Option<Tag>) {
+    if let Some(sender) = sender {
+        wakes.wake(sender);
+    }
 }

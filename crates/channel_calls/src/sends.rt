@@ -1,23 +1,26 @@
 //! To send.
 
-ghost use Rattle.std.specs.Prelude.{◌≡◌, true, false};
+ghost use Rattle.std.specs.Prelude.{◌≡◌, false, Some};
 ghost use Rattle.channel_model.specs.Channels.{kind_at, is_signal};
+ghost use Rattle.channel_model.specs.Histories.{replay};
 ghost use Rattle.channel_model.specs.Floors.{MayCall};
-ghost use Rattle.channel_model.specs.Owing.{never_owes};
+ghost use Rattle.channel_model.specs.Answers.{state_of_wait};
+ghost use Rattle.channel_model.specs.PlainOffers.{OffersPlainly};
+ghost use Rattle.channel_model.specs.declared.floor.WaitState.TheVariants.{Standing};
 ghost use Rattle.channel_calls.specs.Calls.{SameCaller, SentAnswer};
+ghost use Rattle.channel_calls.specs.Parts.{HeldAnswer, OwnOfferAnswer};
 
 use crate::caller::{Caller, SendAnswer};
 use crate::rooms::make_room;
-use channel_model::{Act, ChannelFloor, ChannelNote, Offered};
+use channel_model::{Act, AlreadyClosed, ChannelFloor, ChannelNote, Offered, Settled, WaitState};
 use co_base::{ChannelId, Memory, Value, WaitId, Wakes};
 use note_book::{Item, NoteBook};
 
 impl<F: ChannelFloor, B: NoteBook, W: Wakes> Caller<'_, '_, '_, F, B, W> {
-    /// Hands an element to the receiver that stands first, leaves it where the channel keeps it, or waits for a receiver.
+    /// Hands an element to the receiver that stands first, leaves it where the channel keeps it, or waits for a receiver or for room.
     pub fn send(&mut self, c: ChannelId, value: Value) -> Result<SendAnswer, Memory>
         requires can { MayCall self.old.who c (F.view self.old.floor.now) }
         requires kind { is_signal (kind_at (F.view self.old.floor.now).shape c) ≡ false }
-        requires owing { never_owes (kind_at (F.view self.old.floor.now).shape c) ≡ true }
         ensures same { SameCaller F.anchor self.old self.new }
         ensures answer { SentAnswer self.old.who c value (F.view self.old.floor.now) (F.view self.new.floor.now)
             (B.items self.old.book.now) (B.items self.new.book.now) result }
@@ -35,7 +38,10 @@ impl<F: ChannelFloor, B: NoteBook, W: Wakes> Caller<'_, '_, '_, F, B, W> {
             Offered::Put(place) => {
                 let act = Act::Put { c, place, value };
                 self.book.note(Item::Channel(ChannelNote::Made(act)));
-                Ok(SendAnswer::Sent)
+                match self.after_put(c, place) {
+                    Ok(()) => Ok(SendAnswer::Sent),
+                    Err(memory) => Err(memory),
+                }
             }
             Offered::Held(place) => {
                 let main = WaitId { channel: c, place };
@@ -47,7 +53,7 @@ impl<F: ChannelFloor, B: NoteBook, W: Wakes> Caller<'_, '_, '_, F, B, W> {
                     clause: 0,
                 };
                 self.book.note(Item::Channel(ChannelNote::Made(act)));
-                Ok(SendAnswer::Waits(main))
+                self.after_held(main)
             }
             Offered::Closed(v) => {
                 let note = ChannelNote::SendClosed { c, value, v };
@@ -58,6 +64,50 @@ impl<F: ChannelFloor, B: NoteBook, W: Wakes> Caller<'_, '_, '_, F, B, W> {
                 self.book.note(Item::Channel(ChannelNote::Spent { c }));
                 Ok(SendAnswer::Spent)
             }
+        }
+    }
+
+    /// Admits whoever waits where the channel has room now. Where somebody was admitted it may have been the own plain offer, so that is
+    /// settled if it was resolved.
+    fn after_held(&mut self, w: WaitId) -> Result<SendAnswer, Memory>
+        requires can { MayCall self.old.who w.channel (F.view self.old.floor.now) }
+        requires plain { OffersPlainly self.old.who w (replay (F.view self.old.floor.now).seen) }
+        requires stands { state_of_wait ((replay (F.view self.old.floor.now).seen).waits w) ≡ Some Standing }
+        ensures same { SameCaller F.anchor self.old self.new }
+        ensures answer { HeldAnswer self.old.who w (F.view self.old.floor.now) (F.view self.new.floor.now)
+            (B.items self.old.book.now) (B.items self.new.book.now) result }
+    {
+        match self.admit_some(w.channel) {
+            Ok(true) => self.settle_offer(w),
+            Ok(false) => Ok(SendAnswer::Waits(w)),
+            Err(memory) => Err(memory),
+        }
+    }
+
+    /// Settles the own plain offer, if it was received, kept or removed by now.
+    fn settle_offer(&mut self, w: WaitId) -> Result<SendAnswer, Memory>
+        requires can { MayCall self.old.who w.channel (F.view self.old.floor.now) }
+        requires plain { OffersPlainly self.old.who w (replay (F.view self.old.floor.now).seen) }
+        ensures same { SameCaller F.anchor self.old self.new }
+        ensures answer { OwnOfferAnswer self.old.who w (F.view self.old.floor.now) (F.view self.new.floor.now)
+            (B.items self.old.book.now) (B.items self.new.book.now) result }
+    {
+        if let Err(memory) = make_room(self.floor, self.book, 2) {
+            return Err(memory);
+        }
+        match self.floor.look(self.who, w) {
+            WaitState::Standing => Ok(SendAnswer::Waits(w)),
+            WaitState::Settled => unreachable!(),
+            WaitState::Resolved => match self.settle(w, false) {
+                Settled::Sent(_clause) => Ok(SendAnswer::Sent),
+                Settled::Cancelled => match self.floor.close(self.who, w.channel, 0) {
+                    Err(AlreadyClosed { v }) => Ok(SendAnswer::Closed(v)),
+                    Ok(()) => unreachable!(),
+                },
+                Settled::Value(_clause, _value) => unreachable!(),
+                Settled::Closed(_clause, _value) => unreachable!(),
+                Settled::Undelivered(_value) => unreachable!(),
+            },
         }
     }
 }

@@ -1,12 +1,11 @@
 //! To end a call that waits.
 
-ghost use Rattle.std.specs.Prelude.{◌≡◌, ◌<◌, ◌++◌, true};
-ghost use Rattle.channel_model.specs.Channels.{kind_at};
+ghost use Rattle.std.specs.Prelude.{◌≡◌, ◌<◌, ◌++◌};
 ghost use Rattle.channel_model.specs.Floors.{MayCall};
 ghost use Rattle.channel_model.specs.Answers.{IsReady, SettleAnswer};
-ghost use Rattle.channel_model.specs.Owing.{never_owes};
 ghost use Rattle.channel_calls.specs.Groups.{settle_group};
 ghost use Rattle.channel_calls.specs.Calls.{SameCaller, HoldsWait, DispatchedAnswer, CancelledAnswer};
+ghost use Rattle.channel_calls.specs.Parts.{EndedCancelledAnswer};
 
 use crate::caller::Caller;
 use crate::rooms::make_room;
@@ -16,7 +15,7 @@ use note_book::{Item, NoteBook};
 
 impl<F: ChannelFloor, B: NoteBook, W: Wakes> Caller<'_, '_, '_, F, B, W> {
     /// Settles the caller's wait, which was seen resolved, and notes it. Takes no memory.
-    fn settle(&mut self, w: WaitId, cancelled: bool) -> Settled
+    pub(crate) fn settle(&mut self, w: WaitId, cancelled: bool) -> Settled
         requires can { MayCall self.old.who w.channel (F.view self.old.floor.now) }
         requires ready { IsReady self.old.who w (F.view self.old.floor.now) }
         requires room { 0 < (F.view self.old.floor.now).spare }
@@ -47,13 +46,30 @@ impl<F: ChannelFloor, B: NoteBook, W: Wakes> Caller<'_, '_, '_, F, B, W> {
         Ok(self.settle(w, cancelled))
     }
 
-    /// Ends the caller's wait as cancelled: takes it back, unless it was resolved before, and settles it.
+    /// Ends the caller's wait as cancelled: takes it back, unless it was resolved before, settles it, and admits whoever waits where its
+    /// channel has room now.
     pub fn cancel_wait(&mut self, w: WaitId) -> Result<Settled, Memory>
         requires can { MayCall self.old.who w.channel (F.view self.old.floor.now) }
         requires holds { HoldsWait self.old.who w (F.view self.old.floor.now) }
-        requires owing { never_owes (kind_at (F.view self.old.floor.now).shape w.channel) ≡ true }
         ensures same { SameCaller F.anchor self.old self.new }
         ensures answer { CancelledAnswer self.old.who w (F.view self.old.floor.now) (F.view self.new.floor.now)
+            (B.items self.old.book.now) (B.items self.new.book.now) result }
+    {
+        match self.end_cancelled(w) {
+            Ok(outcome) => match self.admit_all(w.channel) {
+                Ok(()) => Ok(outcome),
+                Err(memory) => Err(memory),
+            },
+            Err(memory) => Err(memory),
+        }
+    }
+
+    /// Takes the caller's wait back, unless it was resolved before, and settles it as cancelled.
+    fn end_cancelled(&mut self, w: WaitId) -> Result<Settled, Memory>
+        requires can { MayCall self.old.who w.channel (F.view self.old.floor.now) }
+        requires holds { HoldsWait self.old.who w (F.view self.old.floor.now) }
+        ensures same { SameCaller F.anchor self.old self.new }
+        ensures answer { EndedCancelledAnswer self.old.who w (F.view self.old.floor.now) (F.view self.new.floor.now)
             (B.items self.old.book.now) (B.items self.new.book.now) result }
     {
         if let Err(memory) = make_room(self.floor, self.book, 2) {

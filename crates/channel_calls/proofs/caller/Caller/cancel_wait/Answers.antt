@@ -1,26 +1,9 @@
-use Rattle.channel_calls.proofs.Roomed.{call_roomed, own_roomed, untouched}
-use Rattle.channel_calls.proofs.EndsTold.{ready_withdrawn, ready_late, withdrawn_now, late_now}
+use Rattle.channel_calls.proofs.EndsTold.{taken_back}
+use Rattle.channel_calls.proofs.Untold.{some_then}
 use Rattle.channel_calls.proofs.caller.Caller.cancel_wait.Goals as goal
 
-pub returns-in-Err-clause-answer : goal.returns-in-Err-clause-answer
-returns-in-Err-clause-answer g c = untouched _ _ _ _ c.in-Err.ensures.same c.make_room.ensures.items
+pub returns-in-Ok-admit_all-clause-answer : goal.returns-in-Ok-admit_all-clause-answer
+returns-in-Ok-admit_all-clause-answer g c = taken_back _ _ _ _ _ _ _ _ _ _ c.end_cancelled.ensures.same.who c.in-Ok.ensures.answer c.in-Ok-admit_all.ensures.answer
 
-pub withdraw-requires-clause-can : goal.withdraw-requires-clause-can
-withdraw-requires-clause-can g c = call_roomed _ _ _ _ _ c.in_default.ensures.floor c.requires.can
-
-pub withdraw-requires-clause-own : goal.withdraw-requires-clause-own
-withdraw-requires-clause-own g c = own_roomed _ _ _ _ _ c.in_default.ensures.floor c.requires.holds
-
-pub settle-requires-clause-ready : goal.settle-requires-clause-ready
-settle-requires-clause-ready g c = ready_withdrawn _ _ _ _ _ _ _ (g.met.F.ChannelFloor.legal c.withdraw.new.self) c.in_default.ensures.floor c.requires.holds c.in-Done.ensures.answer
-
-pub settle-requires-in-Late-clause-ready : goal.settle-requires-in-Late-clause-ready
-settle-requires-in-Late-clause-ready g c = ready_late _ _ _ _ _ _ (g.met.F.ChannelFloor.legal c.withdraw.new.self) c.in_default.ensures.floor c.requires.holds c.in-Late.ensures.answer
-
-pub returns-in-Done-clause-answer : goal.returns-in-Done-clause-answer
-returns-in-Done-clause-answer g c =
-    withdrawn_now _ _ _ _ _ _ _ _ _ _ _ _ _ (g.met.F.ChannelFloor.legal c.withdraw.new.self) (g.met.F.ChannelFloor.legal c.settle.new.self.floor.now) c.requires.owing c.in_default.ensures.floor c.requires.holds c.in-Done.ensures.answer c.settle.ensures.settled c.make_room.ensures.items c.note.ensures.items c.settle.ensures.items
-
-pub returns-in-Late-clause-answer : goal.returns-in-Late-clause-answer
-returns-in-Late-clause-answer g c =
-    late_now _ _ _ _ _ _ _ _ _ _ _ _ (g.met.F.ChannelFloor.legal c.settle-in-Late.new.self.floor.now) c.requires.owing c.in_default.ensures.floor c.in-Late.ensures.answer c.settle-in-Late.ensures.settled c.make_room.ensures.items c.note-in-Late.ensures.items c.settle-in-Late.ensures.items
+pub returns-in-Err-admit_all-clause-answer : goal.returns-in-Err-admit_all-clause-answer
+returns-in-Err-admit_all-clause-answer g c = some_then _ _ _ _ _ _ _ _ _ c.end_cancelled.ensures.same.who c.in-Ok.ensures.answer.left c.in-Err-admit_all.ensures.answer

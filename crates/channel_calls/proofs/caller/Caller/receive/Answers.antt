@@ -1,18 +1,20 @@
-use Rattle.channel_calls.proofs.Roomed.{call_roomed, untouched}
-use Rattle.channel_calls.proofs.ReceivesTold.{taken, waiting, closed, no_place}
+use Rattle.std.proofs.Common.{refl}
+use Rattle.channel_calls.proofs.Roomed.{call_roomed}
+use Rattle.channel_calls.proofs.ReceivesTold.{taken, take_stopped, received, waiting, closed, no_place}
+use Rattle.channel_calls.proofs.Untold.{untouched_some}
 use Rattle.channel_calls.proofs.caller.Caller.receive.Goals as goal
 
 pub returns-in-Err-clause-answer : goal.returns-in-Err-clause-answer
-returns-in-Err-clause-answer g c = untouched _ _ _ _ c.in-Err.ensures.same c.make_room.ensures.items
+returns-in-Err-clause-answer g c = untouched_some _ _ _ _ _ c.in-Err.ensures.same c.make_room.ensures.items
 
 pub receive-requires-clause-can : goal.receive-requires-clause-can
 receive-requires-clause-can g c = call_roomed _ _ _ _ _ c.in_default.ensures.floor c.requires.can
 
-pub returns-in-Some-clause-answer : goal.returns-in-Some-clause-answer
-returns-in-Some-clause-answer g c = taken _ _ _ _ _ _ _ _ _ c.in_default.ensures.floor c.make_room.ensures.items _ _ _ (g.met.F.ChannelFloor.legal c.receive.new.self) c.requires.owing c.in-Taken.ensures.answer c.note.ensures.items
+pub returns-in-Ok-clause-answer : goal.returns-in-Ok-clause-answer
+returns-in-Ok-clause-answer g c = received _ _ _ _ _ _ _ (taken _ _ _ _ _ _ _ _ _ c.in_default.ensures.floor c.make_room.ensures.items _ _ _ _ _ _ refl c.in-Taken.ensures.answer c.note.ensures.items c.in-Ok.ensures.answer)
 
-pub returns-in_default-sender-clause-answer : goal.returns-in_default-sender-clause-answer
-returns-in_default-sender-clause-answer g c = taken _ _ _ _ _ _ _ _ _ c.in_default.ensures.floor c.make_room.ensures.items _ _ _ (g.met.F.ChannelFloor.legal c.receive.new.self) c.requires.owing c.in-Taken.ensures.answer c.note.ensures.items
+pub returns-in-Err-admit_all-clause-answer : goal.returns-in-Err-admit_all-clause-answer
+returns-in-Err-admit_all-clause-answer g c = take_stopped _ _ _ _ _ _ _ _ _ c.in_default.ensures.floor c.make_room.ensures.items _ _ _ _ _ _ refl c.in-Taken.ensures.answer c.note.ensures.items c.in-Err-admit_all.ensures.answer
 
 pub returns-in-Waiting-clause-answer : goal.returns-in-Waiting-clause-answer
 returns-in-Waiting-clause-answer g c = waiting _ _ _ _ _ _ _ _ _ c.in_default.ensures.floor c.make_room.ensures.items _ (g.met.F.ChannelFloor.legal c.receive.new.self) c.in-Waiting.ensures.answer c.note-in-Waiting.ensures.items

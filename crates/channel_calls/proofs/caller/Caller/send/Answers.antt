@@ -1,9 +1,14 @@
-use Rattle.channel_calls.proofs.Roomed.{call_roomed, kind_roomed, untouched}
-use Rattle.channel_calls.proofs.SendsTold.{handed, kept, held, refused, no_place}
+use Rattle.std.proofs.Common.{refl}
+use Rattle.channel_model.proofs.Puts.{put_owned}
+use Rattle.channel_calls.proofs.Roomed.{call_roomed, kind_roomed}
+use Rattle.channel_calls.proofs.Begun.{offer_stands, offer_plain}
+use Rattle.channel_calls.proofs.SendsTold.{handed, kept, put_stopped, sent, offer_told, refused, no_place}
+use Rattle.channel_calls.proofs.OwnOffers.{held_sends}
+use Rattle.channel_calls.proofs.Untold.{untouched_some}
 use Rattle.channel_calls.proofs.caller.Caller.send.Goals as goal
 
 pub returns-in-Err-clause-answer : goal.returns-in-Err-clause-answer
-returns-in-Err-clause-answer g c = untouched _ _ _ _ c.in-Err.ensures.same c.make_room.ensures.items
+returns-in-Err-clause-answer g c = untouched_some _ _ _ _ _ c.in-Err.ensures.same c.make_room.ensures.items
 
 pub offer-requires-clause-can : goal.offer-requires-clause-can
 offer-requires-clause-can g c = call_roomed _ _ _ _ _ c.in_default.ensures.floor c.requires.can
@@ -11,14 +16,26 @@ offer-requires-clause-can g c = call_roomed _ _ _ _ _ c.in_default.ensures.floor
 pub offer-requires-clause-kind : goal.offer-requires-clause-kind
 offer-requires-clause-kind g c = kind_roomed _ _ _ _ c.in_default.ensures.floor c.requires.kind
 
-pub returns-in-Handed-clause-answer : goal.returns-in-Handed-clause-answer
-returns-in-Handed-clause-answer g c = handed _ _ _ _ _ _ _ _ _ _ c.in_default.ensures.floor c.make_room.ensures.items _ _ c.in-Handed.ensures.answer c.note.ensures.items
+pub after_put-requires-clause-own : goal.after_put-requires-clause-own
+after_put-requires-clause-own g c = put_owned _ _ _ _ _ _ c.in-Put.ensures.answer
 
-pub returns-in-Put-clause-answer : goal.returns-in-Put-clause-answer
-returns-in-Put-clause-answer g c = kept _ _ _ _ _ _ _ _ _ _ c.in_default.ensures.floor c.make_room.ensures.items _ c.requires.owing c.in-Put.ensures.answer c.note-in-Put.ensures.items
+pub after_held-requires-clause-plain : goal.after_held-requires-clause-plain
+after_held-requires-clause-plain g c = offer_plain _ _ _ _ _ _ (g.met.F.ChannelFloor.legal c.offer.new.self) c.in-Held.ensures.answer.0
+
+pub after_held-requires-clause-stands : goal.after_held-requires-clause-stands
+after_held-requires-clause-stands g c = offer_stands _ _ _ _ _ _ (g.met.F.ChannelFloor.legal c.offer.new.self) c.in-Held.ensures.answer.0
+
+pub returns-in-Handed-clause-answer : goal.returns-in-Handed-clause-answer
+returns-in-Handed-clause-answer g c = sent _ _ _ _ _ _ _ (handed _ _ _ _ _ _ _ _ _ _ c.in_default.ensures.floor c.make_room.ensures.items _ _ c.in-Handed.ensures.answer c.note.ensures.items)
+
+pub returns-in-Ok-clause-answer : goal.returns-in-Ok-clause-answer
+returns-in-Ok-clause-answer g c = sent _ _ _ _ _ _ _ (kept _ _ _ _ _ _ _ _ _ _ c.in_default.ensures.floor c.make_room.ensures.items _ _ _ _ refl c.in-Put.ensures.answer c.note-in-Put.ensures.items c.in-Ok.ensures.answer)
+
+pub returns-in-Err-after_put-clause-answer : goal.returns-in-Err-after_put-clause-answer
+returns-in-Err-after_put-clause-answer g c = put_stopped _ _ _ _ _ _ _ _ _ _ c.in_default.ensures.floor c.make_room.ensures.items _ _ _ _ refl c.in-Put.ensures.answer c.note-in-Put.ensures.items c.in-Err-after_put.ensures.answer
 
 pub returns-in-Held-clause-answer : goal.returns-in-Held-clause-answer
-returns-in-Held-clause-answer g c = held _ _ _ _ _ _ _ _ _ _ c.in_default.ensures.floor c.make_room.ensures.items _ (g.met.F.ChannelFloor.legal c.offer.new.self) c.requires.owing c.in-Held.ensures.answer c.note-in-Held.ensures.items
+returns-in-Held-clause-answer g c = held_sends _ _ _ _ _ _ _ _ _ _ (offer_told _ _ _ _ _ _ _ _ _ _ c.in_default.ensures.floor c.make_room.ensures.items _ c.in-Held.ensures.answer c.note-in-Held.ensures.items) _ _ refl c.after_held.ensures.answer
 
 pub returns-in-Closed-clause-answer : goal.returns-in-Closed-clause-answer
 returns-in-Closed-clause-answer g c = refused _ _ _ _ _ _ _ _ _ _ c.in_default.ensures.floor c.make_room.ensures.items _ c.in-Closed.ensures.answer c.note-in-Closed.ensures.items

@@ -1,0 +1,263 @@
+-- What becomes of an own offer that stands.
+use Rattle.std.specs.Prelude.{◌≡◌, ℕ, Bool, true, false, List, [], ◌∷◌, ◌++◌, map, Option, Some, None, is_some, Result, Ok, Err, refl}
+use Rattle.std.specs.List.{list_all}
+use mathlib.Core.List.{IsPrefix}
+use Rattle.std.proofs.Common.{sym, ap, ◌∙◌, subst, append_assoc}
+use Rattle.co_base.specs.declared.names.WaitId.{WaitId}
+use Rattle.co_base.specs.declared.names.Memory.{Memory}
+use Rattle.channel_model.specs.declared.acts.Act.TheVariants.{Admit, Close, Offer, Settle}
+use Rattle.channel_model.specs.declared.acts.Entry.{Entry}
+use Rattle.channel_model.specs.declared.acts.Settled.TheVariants as settled
+use Rattle.channel_model.specs.declared.standing.Resolution.{Resolution}
+use Rattle.channel_model.specs.declared.floor.WaitState.TheVariants as state
+use Rattle.channel_model.specs.Channels.{Shape, State, Wait, kind_at}
+use Rattle.channel_model.specs.Histories.{replay, acts_of, Legal}
+use Rattle.channel_model.specs.Floors.{Floor, HasRoom, Looked, Made, AtStep}
+use Rattle.channel_model.specs.Answers.{LookAnswer, SettleAnswer, ClosedWith, IsOwn, IsOwnWait, IsReady, IsReadyWait, IsUnsettledOf, IsSeenVoided, state_of_wait, state_of_parts}
+use Rattle.channel_model.specs.PlainOffers.{IsPlainOffer, OffersPlainly}
+use Rattle.channel_model.proofs.Histories.{Legal-prefix, Legal-last}
+use Rattle.channel_model.proofs.Spans.{nothing_more, prefix_self, prefix_then, added_made}
+use Rattle.channel_model.proofs.Others.{others_keep, between, ready_stays}
+use Rattle.channel_model.proofs.Lasts.{closed_lasts, voided_closed}
+use Rattle.channel_model.proofs.PlainOffers.{is_quiet, plain_lasts, ends_sent, ends_unclosed, ends_delivered, ends_voided}
+use Rattle.note_book.specs.declared.book.Item.{Item}
+use Rattle.note_book.specs.Items.{channel_acts_in}
+use Rattle.call_meaning.specs.Telling.{Told, on_channels, NextIs, NoneToAdmit, WasFull, TakenBack, items_in, made}
+use Rattle.call_meaning.specs.ChannelCalls.{is_buffered, Waits, sends, wait_at, Admits, PlainCall}
+use Rattle.call_meaning.specs.Calls.{ToldOnChannels}
+use Rattle.call_meaning.proofs.ChannelsHeard.{told_then, told_roomed}
+use Rattle.channel_calls.specs.declared.caller.SendAnswer.{SendAnswer}
+use Rattle.channel_calls.specs.declared.caller.SendAnswer.TheVariants as send
+use Rattle.channel_calls.specs.Groups.{settle_group}
+use Rattle.channel_calls.specs.Calls.{Tells, Goes, IsLeftWaiting, IsSent, IsUnsent, SentAnswer}
+use Rattle.channel_calls.specs.Parts.{AdmittedSomeAnswer, OwnOfferAnswer, AdmitsThen, HeldAnswer}
+use Rattle.channel_calls.proofs.EndsTold.{end_is_told}
+use Rattle.channel_calls.proofs.OwnClause.{plain_sent}
+use Rattle.channel_calls.proofs.Untold.{told_looked, some_then}
+
+unsettled : (who c : ℕ) (b : Bool) (x : Option Wait) → IsPlainOffer who c b x → IsUnsettledOf who x
+unsettled who c b None h = h
+unsettled who c b (Some x) h = (h.0, h.1)
+
+owned : (who c : ℕ) (b : Bool) (x : Option Wait) → IsPlainOffer who c b x → IsOwnWait who x
+owned who c b None h = h
+owned who c b (Some x) h = h.0
+
+pub own_offer : (who n : ℕ) (w : WaitId) (a b : Floor) → HasRoom n a b → OffersPlainly who w (replay a.seen) → IsOwn who w b
+own_offer who n w a b r h = owned who w.channel _ _ (subst (λ es. OffersPlainly who w (replay es)) (sym r.seen) h).wait
+
+-- the offer at a moment of a look
+at_moment : (who n : ℕ) (w : WaitId) (a b d : Floor) (P : State → Type 0) → Legal d.shape d.seen → HasRoom n a b → OffersPlainly who w (replay a.seen) → Looked who b d → (m : AtStep b d P) → OffersPlainly who w (replay m.moment)
+at_moment who n w a b d P l r h look m =
+    let t = between who b.seen m.moment d.seen m.after m.before look.mine in
+    plain_lasts d.shape who w [] b.seen m.moment (Legal-prefix d.shape m.moment m.before.0 (rw m.before.1 l)) m.after (t.0 ∙ sym (nothing_more _)) refl (subst (λ es. OffersPlainly who w (replay es)) (sym r.seen) h)
+
+-- and after it
+after_look : (who n : ℕ) (w : WaitId) (a b d : Floor) → Legal d.shape d.seen → HasRoom n a b → OffersPlainly who w (replay a.seen) → Looked who b d → OffersPlainly who w (replay d.seen)
+after_look who n w a b d l r h look = plain_lasts d.shape who w [] b.seen d.seen l look.longer (look.mine ∙ sym (nothing_more _)) refl (subst (λ es. OffersPlainly who w (replay es)) (sym r.seen) h)
+
+-- ---- it is not settled
+
+open_parts : (r : Option Resolution) → state_of_parts r None ≡ state.Settled → ⊥
+open_parts None e = cc
+open_parts (Some r) e = cc
+
+not_settled : (who c : ℕ) (b : Bool) (x : Option Wait) → IsPlainOffer who c b x → state_of_wait x ≡ Some state.Settled → ⊥
+not_settled who c b None h e = h
+not_settled who c b (Some x) h e = (let k : state_of_parts x.resolved x.settled ≡ state.Settled = cc in open_parts x.resolved (ap (state_of_parts x.resolved) (sym h.1) ∙ k))
+
+pub never_settled : (who n : ℕ) (w : WaitId) (a b d : Floor) → Legal d.shape d.seen → HasRoom n a b → OffersPlainly who w (replay a.seen) → LookAnswer who w b d state.Settled → ⊥
+never_settled who n w a b d l r h look = not_settled who w.channel _ _ (at_moment who n w a b d _ l r h look.0 look.1).wait look.1.holds
+
+-- it may be settled
+some_resolved : (r : Option Resolution) → state_of_parts r None ≡ state.Resolved → is_some r ≡ true
+some_resolved None e = cc
+some_resolved (Some r) e = refl
+
+ready_of : (who c : ℕ) (b : Bool) (x : Option Wait) → IsPlainOffer who c b x → state_of_wait x ≡ Some state.Resolved → IsReadyWait who x
+ready_of who c b None h e = h
+ready_of who c b (Some x) h e = (let k : state_of_parts x.resolved x.settled ≡ state.Resolved = cc in (h.0, some_resolved x.resolved (ap (state_of_parts x.resolved) (sym h.1) ∙ k), h.1))
+
+pub ready_now : (who n : ℕ) (w : WaitId) (a b d : Floor) → Legal d.shape d.seen → HasRoom n a b → OffersPlainly who w (replay a.seen) → LookAnswer who w b d state.Resolved → IsReady who w d
+ready_now who n w a b d l r h look =
+    let m = look.1 in
+    let t = between who b.seen m.moment d.seen m.after m.before look.0.mine in
+    others_keep d.shape who (IsReadyWait who) (ready_stays who) w m.moment d.seen l m.before t.1 (ready_of who w.channel _ _ (at_moment who n w a b d _ l r h look.0 m).wait m.holds)
+
+-- ---- the ends that do not come
+
+pub never_value : (who n k v : ℕ) (w : WaitId) (a b d e : Floor) → Legal d.shape d.seen → HasRoom n a b → OffersPlainly who w (replay a.seen) → LookAnswer who w b d state.Resolved → SettleAnswer who w false d e (settled.Value k v) → ⊥
+never_value who n k v w a b d e l r h look s = ends_sent who w.channel k v _ _ (after_look who n w a b d l r h look.0).wait s.1
+
+pub never_closed : (who n k v : ℕ) (w : WaitId) (a b d e : Floor) → Legal d.shape d.seen → HasRoom n a b → OffersPlainly who w (replay a.seen) → LookAnswer who w b d state.Resolved → SettleAnswer who w false d e (settled.Closed k v) → ⊥
+never_closed who n k v w a b d e l r h look s = ends_unclosed who w.channel k v _ _ (after_look who n w a b d l r h look.0).wait s.1
+
+pub never_undelivered : (who n v : ℕ) (w : WaitId) (a b d e : Floor) → Legal d.shape d.seen → HasRoom n a b → OffersPlainly who w (replay a.seen) → LookAnswer who w b d state.Resolved → SettleAnswer who w false d e (settled.Undelivered v) → ⊥
+never_undelivered who n v w a b d e l r h look s = ends_delivered who w.channel v _ _ (after_look who n w a b d l r h look.0).wait s.1
+
+-- the channel was voided, and so it was closed
+voided_then : (who n : ℕ) (w : WaitId) (a b d e : Floor) → Legal d.shape d.seen → HasRoom n a b → OffersPlainly who w (replay a.seen) → LookAnswer who w b d state.Resolved → SettleAnswer who w false d e settled.Cancelled → IsSeenVoided w.channel d
+voided_then who n w a b d e l r h look s = ends_voided who w.channel _ _ (after_look who n w a b d l r h look.0).wait s.1
+
+pub never_open : (who who' n v : ℕ) (w : WaitId) (a b d e f : Floor) → Legal d.shape d.seen → Legal f.shape f.seen → HasRoom n a b → OffersPlainly who w (replay a.seen) → LookAnswer who w b d state.Resolved → SettleAnswer who w false d e settled.Cancelled → who' ≡ who → Made who' (Close w.channel v) e f → ⊥
+never_open who who' n v w a b d e f l lf r h look s is m' =
+    let m : Made who (Close w.channel v) e f = subst (λ x. Made x (Close w.channel v) e f) is m' in
+    let last : Entry = record { who = who; act = Close w.channel v } in
+    let t = Legal-last f.shape m.before last (subst (Legal f.shape) m.last lf) in
+    let closed = voided_closed w.channel d l (voided_then who n w a b d e l r h look s) in
+    let p = prefix_then d.seen e.seen m.before (added_made who (Settle w settled.Cancelled) d e s.0).longer m.longer in
+    let before : Floor = record { shape = f.shape; seen = m.before; spare = 0; alone = true; callers = λ x. true } in
+    let k : is_some ((replay m.before).channels w.channel).closed ≡ true = closed_lasts w.channel d before t.0 p closed in
+    let none : is_some ((replay m.before).channels w.channel).closed ≡ false = ap is_some t.1.1 in
+    cc
+
+-- ---- the ends that come
+
+pub still_waits : (who n : ℕ) (w : WaitId) (a b d : Floor) (i j : List Item) → Legal d.shape d.seen → HasRoom n a b → OffersPlainly who w (replay a.seen) → j ≡ i → LookAnswer who w b d state.Standing → OwnOfferAnswer who w a d i j (Ok (send.Waits w))
+still_waits who n w a b d i j l r h e look = (
+  refl,
+  told_roomed who n a b d i j j [] r e (told_looked who b d j j look.0 refl),
+  record {
+    stood = record {
+      moment = look.1.moment;
+      after = subst (λ es. IsPrefix es look.1.moment) r.seen look.1.after;
+      before = look.1.before;
+      mine = (between who b.seen look.1.moment d.seen look.1.after look.1.before look.0.mine).0 ∙ ap (acts_of who) r.seen ∙ sym (nothing_more _);
+      holds = look.1.holds;
+    };
+    holds = unsettled who w.channel _ _ (after_look who n w a b d l r h look.0).wait;
+  },
+)
+
+pub sent_settled : (who k n : ℕ) (w : WaitId) (a b d e : Floor) (i j l : List Item) → Legal d.shape d.seen → HasRoom n a b → OffersPlainly who w (replay a.seen) → j ≡ i → LookAnswer who w b d state.Resolved → SettleAnswer who w false d e (settled.Sent k) → l ≡ j ++ settle_group w (settled.Sent k)
+    → OwnOfferAnswer who w a e i l (Ok send.Sent)
+sent_settled who k n w a b d e i j l legal r h q look s g =
+    let zero : k ≡ 0 = plain_sent d.shape d.seen who w.channel k _ w legal (after_look who n w a b d legal r h look.0).wait s.1 in
+    subst (λ m. ToldOnChannels who a e i l (made (Settle w (settled.Sent m)) ∷ [])) zero
+    (told_roomed who n a b e i j l (made (Settle w (settled.Sent k)) ∷ []) r q
+    (told_then who b d e j j l [] (made (Settle w (settled.Sent k)) ∷ []) (told_looked who b d j j look.0 refl) (end_is_told who w false (settled.Sent k) d e j l s g)))
+
+pub offer_voided : (who who' v n : ℕ) (w : WaitId) (a b d e f : Floor) (i j l : List Item) → HasRoom n a b → j ≡ i → LookAnswer who w b d state.Resolved → SettleAnswer who w false d e settled.Cancelled → l ≡ j ++ settle_group w settled.Cancelled → who' ≡ who → ClosedWith who' w.channel v e f
+    → OwnOfferAnswer who w a f i l (Ok (send.Closed v))
+offer_voided who who' v n w a b d e f i j l r q look s g is m' =
+    let m : ClosedWith who w.channel v e f = subst (λ x. ClosedWith x w.channel v e f) is m' in
+    let told : List Told = on_channels (TakenBack w) ∷ made (Settle w settled.Cancelled) ∷ [] in (
+      told_roomed who n a b f i j l told r q
+          (told_then who b d f j j l [] told (told_looked who b d j j look.0 refl)
+          (told_then who d e f j l l told [] (end_is_told who w false settled.Cancelled d e j l s g) (told_looked who e f l l m.looked refl))),
+      m.is_closed,
+    )
+
+-- ---- after the admits
+
+-- what admitting makes
+acts_admitted : (c mark : ℕ) (places : List ℕ) → channel_acts_in (items_in (on_channels (NextIs c mark) ∷ (map (λ q. made (Admit c q)) places ++ on_channels (NoneToAdmit c mark) ∷ []))) ≡ map (λ q. Admit c q) places
+unfolding items_in
+acts_admitted c mark [] = refl
+acts_admitted c mark (q ∷ qs) = ap (λ l. Admit c q ∷ l) (acts_admitted c mark qs)
+
+admits_quiet : (c : ℕ) (places : List ℕ) → list_all is_quiet (map (λ q. Admit c q) places) ≡ true
+admits_quiet c [] = refl
+admits_quiet c (q ∷ qs) = admits_quiet c qs
+
+told_acts : (c : ℕ) (told : List Told) → (h : Admits c told) → channel_acts_in (items_in told) ≡ map (λ q. Admit c q) h.places
+told_acts c told h = ap (λ l. channel_acts_in (items_in l)) h.all ∙ acts_admitted c h.mark h.places
+
+-- the own offer after the admits
+pub plain_admits : (who who' : ℕ) (w : WaitId) (some : Bool) (a b : Floor) (i j : List Item) → who' ≡ who → Legal b.shape b.seen → OffersPlainly who w (replay a.seen) → AdmittedSomeAnswer who w.channel a b i j (Ok some) → OffersPlainly who' w (replay b.seen)
+plain_admits who who' w some a b i j is l h m =
+    subst (λ x. OffersPlainly x w (replay b.seen)) (sym is)
+    (plain_lasts b.shape who w (channel_acts_in (items_in m.told)) a.seen b.seen l m.left.added.longer m.left.added.mine (ap (list_all is_quiet) (told_acts w.channel m.told m.goes.admits) ∙ admits_quiet w.channel m.goes.admits.places) h)
+
+-- nobody was admitted: it stood when it was made
+pub waits_unadmitted : (who : ℕ) (w : WaitId) (some : Bool) (a b : Floor) (i j : List Item) → some ≡ false → Legal b.shape b.seen → OffersPlainly who w (replay a.seen) → state_of_wait ((replay a.seen).waits w) ≡ Some state.Standing → AdmittedSomeAnswer who w.channel a b i j (Ok some) → HeldAnswer who w a b i j (Ok (send.Waits w))
+waits_unadmitted who w some a b i j e l h stands m =
+    let none : channel_acts_in (items_in m.told) ≡ [] = told_acts w.channel m.told m.goes.admits ∙ ap (λ l. map (λ q. Admit w.channel q) l) (m.goes.none e) in (
+      refl,
+      record { told = m.told; goes = m.goes.admits; left = m.left },
+      record {
+        stood = record { moment = a.seen; after = prefix_self a.seen; before = m.left.added.longer; mine = sym (nothing_more (acts_of who a.seen)) ∙ ap (λ l. acts_of who a.seen ++ l) (sym none); holds = stands };
+        holds = unsettled who w.channel _ _ (plain_admits who who w some a b i j refl l h m).wait;
+      },
+    )
+
+-- a wait is left also by a call before
+left_after : (who : ℕ) (w : WaitId) (a b d : Floor) (i j : List Item) (told : List Told) → ToldOnChannels who a b i j told → IsLeftWaiting who w [] b d → IsLeftWaiting who w (channel_acts_in (items_in told)) a d
+left_after who w a b d i j told h m = record {
+  stood = record {
+    moment = m.stood.moment;
+    after = prefix_then a.seen b.seen m.stood.moment h.added.longer m.stood.after;
+    before = m.stood.before;
+    mine = m.stood.mine ∙ nothing_more (acts_of who b.seen) ∙ h.added.mine;
+    holds = m.stood.holds;
+  };
+  holds = m.holds;
+}
+
+-- somebody was admitted, and then the own offer was looked at
+pub held_then : (who who' : ℕ) (w : WaitId) (some : Bool) (a b d : Floor) (i j k : List Item) (result : Result SendAnswer Memory) → some ≡ true → who' ≡ who → AdmittedSomeAnswer who w.channel a b i j (Ok some) → OwnOfferAnswer who' w b d j k result → HeldAnswer who w a d i k result
+held_then who who' w some a b d i j k (Ok send.Sent) e is h m' =
+    let end : List Told = made (Settle w (settled.Sent 0)) ∷ [] in
+    let m : ToldOnChannels who b d j k end = subst (λ x. ToldOnChannels x b d j k end) is m' in
+    record { told = h.told ++ end; goes = record { admits = h.told; goes = h.goes.admits; all = refl }; left = told_then who a b d i j k h.told end h.left m }
+held_then who who' w some a b d i j k (Ok (send.Waits v)) e is h m' =
+    let told : ToldOnChannels who b d j k [] = subst (λ x. ToldOnChannels x b d j k []) is m'.1 in
+    let left : IsLeftWaiting who w [] b d = subst (λ x. IsLeftWaiting x w [] b d) is m'.2 in (
+      m'.0,
+      record { told = h.told; goes = h.goes.admits; left = subst (λ l. ToldOnChannels who a d i k l) (nothing_more h.told) (told_then who a b d i j k h.told [] h.left told) },
+      left_after who w a b d i j h.told h.left left,
+    )
+held_then who who' w some a b d i j k (Ok (send.Closed x)) e is h m' =
+    let end : List Told = on_channels (TakenBack w) ∷ made (Settle w settled.Cancelled) ∷ [] in
+    let m : ToldOnChannels who b d j k end = subst (λ x. ToldOnChannels x b d j k end) is m'.0 in (
+      h.goes.buffered e,
+      record { told = h.told ++ end; goes = record { admits = h.told; goes = h.goes.admits; all = refl }; left = told_then who a b d i j k h.told end h.left m },
+      m'.1,
+    )
+held_then who who' w some a b d i j k (Ok send.Spent) e is h m' = m'
+held_then who who' w some a b d i j k (Err memory) e is h m' = some_then who who' a b d i j k h.told is h.left m'
+
+-- ---- with the offer before
+
+module _ (who c v q : ℕ) (a b d : Floor) (i j k : List Item) (o : ToldOnChannels who a b i j (on_channels (WasFull c) ∷ made (Offer c q v (wait_at c q) 0) ∷ [])) where
+  abbrev first : List Told
+  first = on_channels (WasFull c) ∷ made (Offer c q v (wait_at c q) 0) ∷ []
+
+  left_offered : (told : List Told) → IsLeftWaiting who (wait_at c q) (channel_acts_in (items_in told)) b d → IsLeftWaiting who (wait_at c q) (channel_acts_in (items_in (first ++ told))) a d
+  unfolding items_in
+  left_offered told m = record {
+    stood = record {
+      moment = m.stood.moment;
+      after = prefix_then a.seen b.seen m.stood.moment o.added.longer m.stood.after;
+      before = m.stood.before;
+      mine = m.stood.mine ∙ ap (λ l. l ++ channel_acts_in (items_in told)) o.added.mine ∙ append_assoc (acts_of who a.seen) (Offer c q v (wait_at c q) 0 ∷ []) (channel_acts_in (items_in told));
+      holds = m.stood.holds;
+    };
+    holds = m.holds;
+  }
+
+  pub held_sends : (who' : ℕ) (result : Result SendAnswer Memory) → who' ≡ who → HeldAnswer who' (wait_at c q) b d j k result → SentAnswer who c v a d i k result
+  held_sends who' (Ok send.Sent) is m' =
+      let P : List Told → Type 0 = AdmitsThen c (made (Settle (wait_at c q) (settled.Sent 0)) ∷ []) in
+      let m : Tells who P b d j k = subst (λ x. Tells x P b d j k) is m' in
+      record {
+        told = first ++ m.told;
+        goes = IsSent.offered q m.goes.admits (first ++ m.told) m.goes.goes (ap (λ l. first ++ l) m.goes.all);
+        left = told_then who a b d i j k first m.told o m.left;
+      }
+  held_sends who' (Ok (send.Waits u)) is m' =
+      let m : HeldAnswer who (wait_at c q) b d j k (Ok (send.Waits u)) = subst (λ x. HeldAnswer x (wait_at c q) b d j k (Ok (send.Waits u))) is m' in
+      let t : Tells who (Goes a.shape (sends c v) (Waits (wait_at c q))) a d i k = record { told = first ++ m.1.told; goes = PlainCall.offers c v q m.1.told m.1.goes; left = told_then who a b d i j k first m.1.told o m.1.left } in
+      subst (λ w. SentAnswer who c v a d i k (Ok (send.Waits w))) (sym m.0) (t, left_offered m.1.told m.2)
+  held_sends who' (Ok (send.Closed x)) is m' =
+      let P : List Told → Type 0 = AdmitsThen c (on_channels (TakenBack (wait_at c q)) ∷ made (Settle (wait_at c q) settled.Cancelled) ∷ []) in
+      let m : Tells who P b d j k = subst (λ x. Tells x P b d j k) is m'.1 in (
+        record {
+          told = first ++ m.told;
+          goes = IsUnsent.voided q m.goes.admits (first ++ m.told) (ap (λ (s : Shape). is_buffered (kind_at s c)) (sym o.added.same.shape) ∙ m'.0) m.goes.goes (ap (λ l. first ++ l) m.goes.all);
+          left = told_then who a b d i j k first m.told o m.left;
+        },
+        m'.2,
+      )
+  held_sends who' (Ok send.Spent) is m' = absurd m'
+  held_sends who' (Err memory) is m' = some_then who who' a b d i j k first is o m'

@@ -1,0 +1,84 @@
+//! What follows an act, repeated until nothing is owed.
+
+ghost use Rattle.channel_model.specs.Floors.{MayCall};
+ghost use Rattle.channel_model.specs.Answers.{HasPut};
+ghost use Rattle.channel_calls.specs.Calls.{SameCaller, AdmittedAnswer, DroppedAnswer};
+ghost use Rattle.channel_calls.specs.Parts.{AdmittedBelowAnswer, AdmittedSomeAnswer};
+
+use crate::caller::Caller;
+use crate::rooms::make_room;
+use channel_model::{Act, ChannelFloor, ChannelNote};
+use co_base::{ChannelId, Memory, Place, Wakes};
+use note_book::{Item, NoteBook};
+
+impl<F: ChannelFloor, B: NoteBook, W: Wakes> Caller<'_, '_, '_, F, B, W> {
+    /// Admits each offer that came before this call and for which the channel has room, and wakes whoever waits with it.
+    pub fn admit_all(&mut self, c: ChannelId) -> Result<(), Memory>
+        requires can { MayCall self.old.who c (F.view self.old.floor.now) }
+        ensures same { SameCaller F.anchor self.old self.new }
+        ensures answer { AdmittedAnswer self.old.who c (F.view self.old.floor.now) (F.view self.new.floor.now)
+            (B.items self.old.book.now) (B.items self.new.book.now) result }
+    {
+        match self.admit_some(c) {
+            Ok(_some) => Ok(()),
+            Err(memory) => Err(memory),
+        }
+    }
+
+    /// The same. Answers whether there was one; then the channel is buffered.
+    pub(crate) fn admit_some(&mut self, c: ChannelId) -> Result<bool, Memory>
+        requires can { MayCall self.old.who c (F.view self.old.floor.now) }
+        ensures same { SameCaller F.anchor self.old self.new }
+        ensures answer { AdmittedSomeAnswer self.old.who c (F.view self.old.floor.now) (F.view self.new.floor.now)
+            (B.items self.old.book.now) (B.items self.new.book.now) result }
+    {
+        let mark = self.floor.mark(self.who, c);
+        self.admit_below(c, mark)
+    }
+
+    /// Admits each offer below the mark for which the channel has room.
+    fn admit_below(&mut self, c: ChannelId, mark: Place) -> Result<bool, Memory>
+        requires can { MayCall self.old.who c (F.view self.old.floor.now) }
+        ensures same { SameCaller F.anchor self.old self.new }
+        ensures answer { AdmittedBelowAnswer self.old.who c mark (F.view self.old.floor.now) (F.view self.new.floor.now)
+            (B.items self.old.book.now) (B.items self.new.book.now) result }
+    {
+        let mut some = false;
+        loop {
+            if let Err(memory) = make_room(self.floor, self.book, 1) {
+                return Err(memory);
+            }
+            let Some((place, sender)) = self.floor.admit(self.who, c, mark) else {
+                return Ok(some);
+            };
+            let act = Act::Admit { c, place };
+            self.book.note(Item::Channel(ChannelNote::Made(act)));
+            self.wakes.wake(sender);
+            some = true;
+        }
+    }
+
+    /// Drops the oldest elements, as long as more stand up to the own one, at this place, than the channel keeps.
+    pub fn after_put(&mut self, c: ChannelId, place: Place) -> Result<(), Memory>
+        requires can { MayCall self.old.who c (F.view self.old.floor.now) }
+        requires own { HasPut self.old.who c place (F.view self.old.floor.now) }
+        ensures same { SameCaller F.anchor self.old self.new }
+        ensures answer { DroppedAnswer self.old.who c place (F.view self.old.floor.now) (F.view self.new.floor.now)
+            (B.items self.old.book.now) (B.items self.new.book.now) result }
+    {
+        loop {
+            if let Err(memory) = make_room(self.floor, self.book, 1) {
+                return Err(memory);
+            }
+            let Some((first, value)) = self.floor.trim(self.who, c, place) else {
+                return Ok(());
+            };
+            let act = Act::Drop {
+                c,
+                place: first,
+                value,
+            };
+            self.book.note(Item::Channel(ChannelNote::Made(act)));
+        }
+    }
+}

@@ -1,0 +1,89 @@
+//! To send and to receive without waiting.
+
+ghost use Rattle.std.specs.Prelude.{◌≡◌, false};
+ghost use Rattle.channel_model.specs.Channels.{kind_at, is_signal};
+ghost use Rattle.channel_model.specs.Floors.{MayCall};
+ghost use Rattle.channel_calls.specs.Calls.{SameCaller, TrySentAnswer, TryReceivedAnswer};
+
+use crate::caller::{Caller, TryReceiveAnswer, TrySendAnswer};
+use crate::rooms::{make_room, wake_some};
+use channel_model::{Act, ChannelFloor, ChannelNote, TriedGot, TriedOffer};
+use co_base::{ChannelId, Memory, Value, Wakes};
+use note_book::{Item, NoteBook};
+
+impl<F: ChannelFloor, B: NoteBook, W: Wakes> Caller<'_, '_, '_, F, B, W> {
+    /// Hands an element to the receiver that stands first, or leaves it where the channel keeps it.
+    pub fn try_send(&mut self, c: ChannelId, value: Value) -> Result<TrySendAnswer, Memory>
+        requires can { MayCall self.old.who c (F.view self.old.floor.now) }
+        requires kind { is_signal (kind_at (F.view self.old.floor.now).shape c) ≡ false }
+        ensures same { SameCaller F.anchor self.old self.new }
+        ensures answer { TrySentAnswer self.old.who c value (F.view self.old.floor.now) (F.view self.new.floor.now)
+            (B.items self.old.book.now) (B.items self.new.book.now) result }
+    {
+        if let Err(memory) = make_room(self.floor, self.book, 1) {
+            return Err(memory);
+        }
+        match self.floor.try_offer(self.who, c, value) {
+            TriedOffer::Handed(place, receiver) => {
+                let act = Act::Hand { c, place, value };
+                self.book.note(Item::Channel(ChannelNote::Made(act)));
+                self.wakes.wake(receiver);
+                Ok(TrySendAnswer::Sent)
+            }
+            TriedOffer::Put(place) => {
+                let act = Act::Put { c, place, value };
+                self.book.note(Item::Channel(ChannelNote::Made(act)));
+                match self.after_put(c, place) {
+                    Ok(()) => Ok(TrySendAnswer::Sent),
+                    Err(memory) => Err(memory),
+                }
+            }
+            TriedOffer::Full => {
+                let note = ChannelNote::Full { c, value };
+                self.book.note(Item::Channel(note));
+                Ok(TrySendAnswer::Full)
+            }
+            TriedOffer::Closed(v) => {
+                let note = ChannelNote::TrySendClosed { c, value, v };
+                self.book.note(Item::Channel(note));
+                Ok(TrySendAnswer::Closed(v))
+            }
+            TriedOffer::Spent => {
+                self.book.note(Item::Channel(ChannelNote::Spent { c }));
+                Ok(TrySendAnswer::Spent)
+            }
+        }
+    }
+
+    /// Takes the element that came first, and admits whoever waits where the channel has room now.
+    pub fn try_receive(&mut self, c: ChannelId) -> Result<TryReceiveAnswer, Memory>
+        requires can { MayCall self.old.who c (F.view self.old.floor.now) }
+        ensures same { SameCaller F.anchor self.old self.new }
+        ensures answer { TryReceivedAnswer self.old.who c (F.view self.old.floor.now) (F.view self.new.floor.now)
+            (B.items self.old.book.now) (B.items self.new.book.now) result }
+    {
+        if let Err(memory) = make_room(self.floor, self.book, 1) {
+            return Err(memory);
+        }
+        match self.floor.try_receive(self.who, c) {
+            TriedGot::Taken(place, value, sender) => {
+                let act = Act::Take { c, place, value };
+                self.book.note(Item::Channel(ChannelNote::Made(act)));
+                wake_some(self.wakes, sender);
+                match self.admit_all(c) {
+                    Ok(()) => Ok(TryReceiveAnswer::Value(value)),
+                    Err(memory) => Err(memory),
+                }
+            }
+            TriedGot::Empty => {
+                self.book.note(Item::Channel(ChannelNote::Empty { c }));
+                Ok(TryReceiveAnswer::Empty)
+            }
+            TriedGot::Closed(v) => {
+                let note = ChannelNote::TryReceiveClosed { c, v };
+                self.book.note(Item::Channel(note));
+                Ok(TryReceiveAnswer::Closed(v))
+            }
+        }
+    }
+}
