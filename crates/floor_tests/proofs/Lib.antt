@@ -1,0 +1,4 @@
+mod JoinsLater
+mod EndsLater
+mod Turns
+mod SeenBetween

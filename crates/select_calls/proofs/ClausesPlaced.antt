@@ -1,0 +1,245 @@
+-- What the placing of a clause tells and leaves, by the floor's answer.
+use Rattle.std.specs.Prelude.{◌≡◌, ℕ, ◌==◌, ◌||◌, Bool, true, false, List, [], ◌∷◌, ◌++◌, Option, Some, None, Ok, refl, if◌then◌else◌}
+use Rattle.std.specs.List.{list_any}
+use Rattle.std.proofs.Common.{sym, ap, ◌∙◌, subst, arith}
+use Rattle.std.proofs.lemmas.Bool.Decides.{nat_tests}
+use Rattle.co_base.specs.declared.names.WaitId.{WaitId}
+use Rattle.channel_model.specs.declared.acts.Act.{Act}
+use Rattle.channel_model.specs.declared.acts.Act.TheVariants.{Offer, Await}
+use Rattle.channel_model.specs.declared.acts.ChannelNote.TheVariants.{SendClosed, ReceiveClosed, Partner, Spent, MainResolved}
+use Rattle.channel_model.specs.declared.floor.Registered.TheVariants as registered
+use Rattle.channel_model.specs.declared.standing.Receiver.{Receiver}
+use Rattle.channel_model.specs.declared.standing.Standing.{Standing as StandingOffer}
+use Rattle.channel_model.specs.Channels.{Shape, State, Channel}
+use Rattle.channel_model.specs.Effects.{after, put_wait, put_channel, name_clause}
+use Rattle.channel_model.specs.Needs.{Needs}
+use Rattle.channel_model.specs.Histories.{replay, Legal}
+use Rattle.channel_model.specs.Floors.{Floor, HasRoom, Looked, Made, AtStep}
+use Rattle.channel_model.specs.Answers.{ClosedWith, IsSpentForOffers, IsSpentForReceives, IsDrainedAndClosed, state_of_wait}
+use Rattle.channel_model.specs.Registers.{main_at, IsMainResolved, StandsReceiver, StandsOffer, RegisterOfferAnswer, RegisterReceiveAnswer}
+use Rattle.channel_model.proofs.Histories.{replay_push, Legal-last, Legal-prefix}
+use Rattle.channel_model.proofs.Placed.{Placed, replay_placed}
+use Rattle.channel_model.proofs.Waits.{at_wait}
+use Rattle.channel_model.proofs.Spans.{prefix_self}
+use Rattle.note_book.specs.declared.book.Item.{Item}
+use Rattle.note_book.specs.declared.book.Item.TheVariants as item
+use Rattle.call_meaning.specs.Telling.{ReceiverAt, OfferAt, SpentForOffers, SpentForReceives, on_channels, made, heard}
+use Rattle.call_meaning.specs.Facts.{ActHolds, IsClosedWith, IsDrained}
+use Rattle.call_meaning.specs.ChannelCalls.{Call, sends, receives, Done, Closed, Refused, Stops, spent}
+use Rattle.call_meaning.proofs.ChannelsHeard.{told_roomed, told_made, told_met, told_met_after, moment_before}
+use Rattle.channel_calls.specs.Groups.{made_note}
+use Rattle.channel_calls.specs.Calls.{Tells}
+use Rattle.select_calls.specs.declared.placing.Placed.TheVariants as placing
+use Rattle.select_calls.specs.Parts.{HasClauses, HasPlaced, ResolvedAfter, NotesResolved, PlacedAnswer}
+use Rattle.select_calls.proofs.OwnClauses.{others_keep_clauses, begun_has, joined_has}
+use Rattle.select_calls.proofs.StillMoments.{still}
+use Rattle.select_calls.proofs.ReceivesTried.{closed_as}
+
+-- ---- an act that names a clause
+
+-- the act gives the wait clause k at channel c, of which it takes this place, and changes no other channel
+record Names (who k c place : ℕ) (w : WaitId) (act : Act) : Type 0 where
+  waits : (s : State) → (after s who act).waits ≡ put_wait w (name_clause who k c (s.waits w)) s.waits
+  others : (s : State) (x : ℕ) → (x ≡ c → ⊥) → (after s who act).channels x ≡ s.channels x
+  first : (shape : Shape) (s : State) → Needs shape s who act → place ≡ (s.channels c).next
+
+other_channel : (c x : ℕ) (ch : Channel) (channels : ℕ → Channel) → (x ≡ c → ⊥) → put_channel c ch channels x ≡ channels x
+other_channel c x ch channels n = by_test (c == x) refl
+  where
+    by_test : (b : Bool) → (c == x) ≡ b → (if b then ch else channels x) ≡ channels x
+    by_test true e = absurd (n (grind (arith, nat_tests)))
+    by_test false e = refl
+
+offer_names : (who k c place v : ℕ) (w : WaitId) → Names who k c place w (Offer c place v w k)
+offer_names who k c place v w = record { waits = λ s. refl; others = λ s x n. other_channel c x _ s.channels n; first = λ shape s m. m.1.first }
+
+await_names : (who k c place : ℕ) (w : WaitId) → Names who k c place w (Await c place w k)
+await_names who k c place w = record { waits = λ s. refl; others = λ s x n. other_channel c x _ s.channels n; first = λ shape s m. m.1.first }
+
+module _ (who k c place n : ℕ) (w : WaitId) (act : Act) (a b d : Floor) (h : HasRoom n a b) (l : Legal d.shape d.seen) (names : Names who k c place w act) (m : Made who act b d) where
+  before_legal : Legal d.shape m.before × Needs d.shape (replay m.before) who act
+  before_legal = Legal-last d.shape m.before (record { who = who; act = act }) (subst (Legal d.shape) m.last l)
+
+  now_waits : (replay d.seen).waits w ≡ name_clause who k c ((replay m.before).waits w)
+  now_waits =
+      ap (λ es. (replay es).waits w) m.last
+      ∙ ap (λ (s : State). s.waits w) (replay_push m.before (record { who = who; act = act }))
+      ∙ ap (λ f. f w) (names.waits (replay m.before))
+      ∙ at_wait w _ (replay m.before).waits
+
+  none_before : w ≡ record { channel = c; place = place } → (replay m.before).waits w ≡ None
+  none_before e =
+      let at : place ≡ ((replay m.before).channels c).next = names.first d.shape (replay m.before) before_legal.1 in
+      ap (replay m.before).waits e ∙ replay_placed d.shape m.before before_legal.0 (record { channel = c; place = place }) (omega (arith, at))
+
+  begins_at : w ≡ record { channel = c; place = place } → (replay d.seen).waits w ≡ name_clause who k c None
+  begins_at e = now_waits ∙ ap (name_clause who k c) (none_before e)
+
+  has_now : (main : Option WaitId) (cs : List (ℕ × ℕ)) → w ≡ main_at c place main → HasPlaced who main cs a → HasClauses who (cs ++ (k, c) ∷ []) ((replay d.seen).waits w)
+  has_now None cs e f = subst (λ x. HasClauses who (cs ++ (k, c) ∷ []) x) (sym (begins_at e)) (subst (λ xs. HasClauses who (xs ++ (k, c) ∷ []) (name_clause who k c None)) (sym f) (begun_has who k c))
+  has_now (Some u) cs e f =
+      let at_b : HasClauses who cs ((replay b.seen).waits w) = subst (λ es. HasClauses who cs ((replay es).waits w)) (sym h.seen) (subst (λ x. HasClauses who cs ((replay a.seen).waits x)) (sym e) f) in
+      let placed_b : Placed (replay b.seen) = replay_placed d.shape b.seen (Legal-prefix d.shape b.seen m.longer.0 (subst (Legal d.shape) (sym m.longer.1) before_legal.0)) in
+      let at_before = others_keep_clauses d.shape who cs w b.seen m.before before_legal.0 placed_b m.longer m.mine at_b in
+      subst (HasClauses who (cs ++ (k, c) ∷ [])) (sym now_waits) (joined_has who k c cs ((replay m.before).waits w) at_before)
+
+  other_channels : a.alone ≡ true → (x : ℕ) → (x ≡ c → ⊥) → (replay d.seen).channels x ≡ (replay a.seen).channels x
+  other_channels alone x ne =
+      let same : m.before ≡ a.seen = m.alone (h.same.alone ∙ alone) ∙ h.seen in
+      ap (λ es. (replay es).channels x) m.last
+      ∙ ap (λ (s : State). s.channels x) (replay_push m.before (record { who = who; act = act }))
+      ∙ names.others (replay m.before) x ne
+      ∙ ap (λ es. (replay es).channels x) same
+
+-- what is placed is not settled when others did something
+held_on : (who n : ℕ) (main : Option WaitId) (a b d : Floor) → Legal d.shape d.seen → HasRoom n a b → Looked who b d → (cs : List (ℕ × ℕ)) → HasPlaced who main cs a → HasPlaced who main cs d
+held_on who n None a b d l h m cs f = f
+held_on who n (Some w) a b d l h m cs f =
+    let legal_b : Legal d.shape b.seen = Legal-prefix d.shape b.seen m.longer.0 (subst (Legal d.shape) (sym m.longer.1) l) in
+    others_keep_clauses d.shape who cs w b.seen d.seen l (replay_placed d.shape b.seen legal_b) m.longer m.mine (subst (λ es. HasClauses who cs ((replay es).waits w)) (sym h.seen) f)
+
+either_left : (x y : Bool) → x ≡ true → (x || y) ≡ true
+either_left x y e = ap (λ b. b || y) e
+
+either_right : (x y : Bool) → y ≡ true → (x || y) ≡ true
+either_right true y e = refl
+either_right false y e = e
+
+none_stands : {A : Type 0} (place : ℕ) (rs : List Receiver) → rs ≡ [] → list_any (λ r. r.place == place) rs ≡ true → A
+none_stands place rs e f = let no_way : false ≡ true = ap (list_any (λ (r : Receiver). r.place == place)) (sym e) ∙ f in cc
+
+none_queued : {A : Type 0} (place : ℕ) (os : List StandingOffer) → os ≡ [] → list_any (λ o. o.place == place) os ≡ true → A
+none_queued place os e f = let no_way : false ≡ true = ap (list_any (λ (o : StandingOffer). o.place == place)) (sym e) ∙ f in cc
+
+not_both : {A : Type 0} {x : Option ℕ} {v : ℕ} → x ≡ None → x ≡ Some v → A
+not_both e f = let no_way : None ≡ Some _ = sym e ∙ f in cc
+
+-- ---- a clause that sends
+
+module _ (who k c v n : ℕ) (main : Option WaitId) (a b d : Floor) (i j l : List Item) (h : HasRoom n a b) (e : j ≡ i) (legal : Legal d.shape d.seen) where
+  pub send_stands : (place : ℕ) (w : WaitId) → w ≡ main_at c place main → RegisterOfferAnswer who main k c v b d (registered.Stands place) → l ≡ j ++ made_note (Offer c place v w k) ∷ [] → PlacedAnswer who (sends c v) main k a d i l (Ok (placing.Stands w))
+  send_stands place w is o f =
+      let m : Made who (Offer c place v w k) b d = subst (λ u. Made who (Offer c place v u k) b d) (sym is) o in
+      let names = offer_names who k c place v w in
+      record {
+        place = place;
+        wait = is;
+        told = told_roomed who n a b d i j l (made (Offer c place v w k) ∷ []) h e (told_made who (Offer c place v w k) b d j l m (moment_before who (Offer c place v w k) b d (ActHolds (Offer c place v w k)) m tt) f);
+        clauses = λ cs g. has_now who k c place n w (Offer c place v w k) a b d h legal names m main cs is g;
+        begins = λ none. ap state_of_wait (begins_at who k c place n w (Offer c place v w k) a b d h legal names m (is ∙ ap (main_at c place) none));
+        others = other_channels who k c place n w (Offer c place v w k) a b d h legal names m;
+      }
+
+  now_closed : (x : ℕ) → ClosedWith who c x b d → AtStep b d (IsClosedWith c x)
+  now_closed x o = record { moment = d.seen; after = o.looked.longer; before = prefix_self d.seen; holds = o.is_closed }
+
+  -- what the others left is so at this moment too
+  blocked_still : (P : State → Type 0) → Looked who b d → AtStep b d P → a.alone ≡ true → P (replay a.seen)
+  blocked_still P o m alone = let s = still who n a b d P h o m alone in subst (λ es. P (replay es)) s.0 s.1
+
+  pub send_partner : (place : ℕ) → RegisterOfferAnswer who main k c v b d (registered.Partner place) → l ≡ j ++ item.Channel (Partner c place) ∷ [] → PlacedAnswer who (sends c v) main k a d i l (Ok placing.Changed)
+  send_partner place o f = (
+    (
+      record {
+        told = on_channels (ReceiverAt c place) ∷ heard (Partner c place) ∷ [];
+        goes = Stops.receiver c v place;
+        left = told_roomed who n a b d i j l _ h e (told_met_after who (ReceiverAt c place) (Partner c place) b d j l refl o.0 o.1 (either_left _ _ o.1.holds) f);
+      },
+      held_on who n main a b d legal h o.0,
+    ),
+    λ alone x. none_stands place _ x.nobody (blocked_still (StandsReceiver c place) o.0 o.1 alone),
+  )
+
+  pub send_closed : (x : ℕ) → RegisterOfferAnswer who main k c v b d (registered.Closed x) → l ≡ j ++ item.Channel (SendClosed c v x) ∷ [] → PlacedAnswer who (sends c v) main k a d i l (Ok placing.Changed)
+  send_closed x o f = (
+    (
+      record {
+        told = heard (SendClosed c v x) ∷ [];
+        goes = Stops.closed (sends c v) (heard (SendClosed c v x)) Done (Refused.send c v x);
+        left = told_roomed who n a b d i j l _ h e (told_met who (SendClosed c v x) b d j l refl o.looked (now_closed x o) f);
+      },
+      held_on who n main a b d legal h o.looked,
+    ),
+    λ alone y. not_both y.not_closed (blocked_still (IsClosedWith c x) o.looked (now_closed x o) alone),
+  )
+
+  pub send_spent : RegisterOfferAnswer who main k c v b d registered.Spent → l ≡ j ++ item.Channel (Spent c) ∷ [] → PlacedAnswer who (sends c v) main k a d i l (Ok placing.Spent)
+  send_spent o f = (
+    record {
+      told = spent (sends c v);
+      goes = Stops.no_place (sends c v) (spent (sends c v)) refl;
+      left = told_roomed who n a b d i j l (spent (sends c v)) h e
+          (told_met_after who (SpentForOffers c) (Spent c) b d j l refl o.0 o.1 (let m : IsSpentForOffers b.shape c (replay o.1.moment) = o.1.holds in record { is_open = m.not_closed; spent = m.spent }) f);
+    },
+    held_on who n main a b d legal h o.0,
+  )
+
+  pub resolved : (call : Call) → Looked who b d → IsMainResolved main d → NotesResolved main j l → PlacedAnswer who call main k a d i l (Ok placing.Resolved)
+  resolved call o is f = (by_main main is f, held_on who n main a b d legal h o)
+    where
+      by_main : (u : Option WaitId) → IsMainResolved u d → NotesResolved u j l → Tells who (ResolvedAfter u) a d i l
+      by_main None r g = absurd r
+      by_main (Some w) r g = record {
+        told = heard (MainResolved w) ∷ [];
+        goes = refl;
+        left = told_roomed who n a b d i j l (heard (MainResolved w) ∷ []) h e
+            (told_met who (MainResolved w) b d j l refl o (record { moment = d.seen; after = o.longer; before = prefix_self d.seen; holds = r }) g);
+      }
+
+-- ---- a clause that receives
+
+module _ (who k c n : ℕ) (main : Option WaitId) (a b d : Floor) (i j l : List Item) (h : HasRoom n a b) (e : j ≡ i) (legal : Legal d.shape d.seen) where
+  pub receive_stands : (place : ℕ) (w : WaitId) → w ≡ main_at c place main → RegisterReceiveAnswer who main k c b d (registered.Stands place) → l ≡ j ++ made_note (Await c place w k) ∷ [] → PlacedAnswer who (receives c) main k a d i l (Ok (placing.Stands w))
+  receive_stands place w is o f =
+      let m : Made who (Await c place w k) b d = subst (λ u. Made who (Await c place u k) b d) (sym is) o in
+      let names = await_names who k c place w in
+      record {
+        place = place;
+        wait = is;
+        told = told_roomed who n a b d i j l (made (Await c place w k) ∷ []) h e (told_made who (Await c place w k) b d j l m (moment_before who (Await c place w k) b d (ActHolds (Await c place w k)) m tt) f);
+        clauses = λ cs g. has_now who k c place n w (Await c place w k) a b d h legal names m main cs is g;
+        begins = λ none. ap state_of_wait (begins_at who k c place n w (Await c place w k) a b d h legal names m (is ∙ ap (main_at c place) none));
+        others = other_channels who k c place n w (Await c place w k) a b d h legal names m;
+      }
+
+  still_so : (P : State → Type 0) → Looked who b d → AtStep b d P → a.alone ≡ true → P (replay a.seen)
+  still_so P o m alone = let s = still who n a b d P h o m alone in subst (λ es. P (replay es)) s.0 s.1
+
+  pub receive_partner : (place : ℕ) → RegisterReceiveAnswer who main k c b d (registered.Partner place) → l ≡ j ++ item.Channel (Partner c place) ∷ [] → PlacedAnswer who (receives c) main k a d i l (Ok placing.Changed)
+  receive_partner place o f = (
+    (
+      record {
+        told = on_channels (OfferAt c place) ∷ heard (Partner c place) ∷ [];
+        goes = Stops.offer c place;
+        left = told_roomed who n a b d i j l _ h e (told_met_after who (OfferAt c place) (Partner c place) b d j l refl o.0 o.1 (either_right _ _ o.1.holds) f);
+      },
+      held_on who n main a b d legal h o.0,
+    ),
+    λ alone x. none_queued place _ x.nothing (still_so (StandsOffer c place) o.0 o.1 alone),
+  )
+
+  pub receive_closed : (x : ℕ) → RegisterReceiveAnswer who main k c b d (registered.Closed x) → l ≡ j ++ item.Channel (ReceiveClosed c x) ∷ [] → PlacedAnswer who (receives c) main k a d i l (Ok placing.Changed)
+  receive_closed x o f =
+      let m : AtStep b d (IsDrainedAndClosed c) = o.1 in
+      let drained : IsDrained c x (replay m.moment) = record { is_closed = closed_as d.shape c x m.moment d.seen m.before.0 m.before.1 legal m.holds.is_closed o.0.is_closed; nothing = m.holds.nothing } in (
+        (
+          record {
+            told = heard (ReceiveClosed c x) ∷ [];
+            goes = Stops.closed (receives c) (heard (ReceiveClosed c x)) (Closed x) (Refused.receive c x);
+            left = told_roomed who n a b d i j l _ h e (told_met who (ReceiveClosed c x) b d j l refl o.0.looked (record { moment = m.moment; after = m.after; before = m.before; holds = drained }) f);
+          },
+          held_on who n main a b d legal h o.0.looked,
+        ),
+        λ alone y. not_both y.not_closed (still_so (IsClosedWith c x) o.0.looked (record { moment = d.seen; after = o.0.looked.longer; before = prefix_self d.seen; holds = o.0.is_closed }) alone),
+      )
+
+  pub receive_spent : RegisterReceiveAnswer who main k c b d registered.Spent → l ≡ j ++ item.Channel (Spent c) ∷ [] → PlacedAnswer who (receives c) main k a d i l (Ok placing.Spent)
+  receive_spent o f = (
+    record {
+      told = spent (receives c);
+      goes = Stops.no_place (receives c) (spent (receives c)) refl;
+      left = told_roomed who n a b d i j l (spent (receives c)) h e
+          (told_met_after who (SpentForReceives c) (Spent c) b d j l refl o.0 o.1 (let m : IsSpentForReceives b.shape c (replay o.1.moment) = o.1.holds in record { is_open = m.not_closed; spent = m.spent }) f);
+    },
+    held_on who n main a b d legal h o.0,
+  )

@@ -1,0 +1,12 @@
+mod StillMoments
+mod SendsTried
+mod ReceivesTried
+mod ClausesAt
+mod AllTried
+mod OwnClauses
+mod ClausesPlaced
+mod ClausesApart
+mod AllPlaced
+mod Revoked
+mod AdmittedIn
+mod Stopping

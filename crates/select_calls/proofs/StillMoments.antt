@@ -1,0 +1,30 @@
+-- Where nobody else makes entries, a call that made none leaves each moment of it as the one before.
+use Rattle.std.specs.Prelude.{◌≡◌, ℕ, true, List, [], ◌∷◌, ◌++◌, refl}
+use mathlib.Core.List.{IsPrefix}
+use Rattle.std.proofs.Common.{sym, ap, ◌∙◌, subst, append_assoc}
+use Rattle.channel_model.specs.declared.acts.Entry.{Entry}
+use Rattle.channel_model.specs.Channels.{State}
+use Rattle.channel_model.specs.Histories.{replay}
+use Rattle.channel_model.specs.Floors.{Floor, HasRoom, Looked, AtStep}
+use Rattle.channel_model.proofs.Spans.{nothing_more}
+
+nothing_left : {A : Type 0} (xs ys : List A) → xs ++ ys ≡ xs → ys ≡ []
+nothing_left [] ys e = e
+nothing_left (x ∷ xs) ys e = nothing_left xs ys (let k : xs ++ ys ≡ xs = cc in k)
+
+front_empty : {A : Type 0} (xs ys : List A) → xs ++ ys ≡ [] → xs ≡ []
+front_empty [] ys e = refl
+front_empty (x ∷ xs) ys e = cc
+
+same_moment : (xs m : List Entry) → IsPrefix xs m → IsPrefix m xs → m ≡ xs
+same_moment xs m p q =
+    let all : xs ++ (p.0 ++ q.0) ≡ xs = sym (append_assoc xs p.0 q.0) ∙ ap (λ l. l ++ q.0) p.1 ∙ q.1 in
+    let none : p.0 ≡ [] = front_empty p.0 q.0 (nothing_left xs (p.0 ++ q.0) all) in
+    sym p.1 ∙ ap (λ l. xs ++ l) none ∙ nothing_more xs
+
+-- what was so at a step of a look, is so behind it
+pub still : (who n : ℕ) (a b d : Floor) (P : State → Type 0) → HasRoom n a b → Looked who b d → AtStep b d P → a.alone ≡ true → (d.seen ≡ a.seen) × P (replay d.seen)
+still who n a b d P h l m alone =
+    let same : d.seen ≡ b.seen = l.alone (h.same.alone ∙ alone) in
+    let at : m.moment ≡ b.seen = same_moment b.seen m.moment m.after (subst (IsPrefix m.moment) same m.before) in
+    (same ∙ h.seen, subst (λ es. P (replay es)) (at ∙ sym same) m.holds)

@@ -1,0 +1,299 @@
+-- What a select comes to whose clauses were all blocked.
+use Rattle.std.specs.Prelude.{◌≡◌, ℕ, ◌+◌, ◌⊎◌, zero, suc, Bool, true, false, List, [], ◌∷◌, ◌++◌, length, map, take, drop, Option, Some, None, Result, Ok, Err, slice_get, refl}
+use Rattle.std.proofs.Common.{sym, ap, subst, ◌∙◌, arith, append_assoc, inl, inr, ⊎_elim}
+use Rattle.std.proofs.lemmas.Option.{slice_get_within}
+use Rattle.co_base.specs.declared.names.Memory.{Memory}
+use Rattle.co_base.specs.declared.names.WaitId.{WaitId}
+use Rattle.channel_model.specs.declared.acts.ChannelNote.TheVariants.{Late}
+use Rattle.channel_model.specs.declared.floor.WaitState.TheVariants.{Standing}
+use Rattle.channel_model.specs.Channels.{Shape, Wait}
+use Rattle.channel_model.specs.Histories.{replay}
+use Rattle.channel_model.specs.Answers.{IsUnsettledOf, state_of_wait}
+use Rattle.channel_model.specs.Floors.{Floor, MayCall, Added}
+use Rattle.channel_model.proofs.Spans.{prefix_self, moment_within}
+use Rattle.note_book.specs.declared.book.Item.{Item}
+use Rattle.call_meaning.specs.Telling.{Told, heard}
+use Rattle.call_meaning.specs.Calls.{ToldOnChannels}
+use Rattle.call_meaning.specs.ChannelCalls.{Call, sends, receives, Answer, Waits, LooksAgain, NoPlace, blocked, revoked, wait_at, placed, Begins, Places, PlacesFirst, AdmitsIn, SelectCall}
+use Rattle.call_meaning.proofs.ChannelsHeard.{told_then}
+use Rattle.channel_calls.specs.Calls.{Tells, ToldSome, HoldsWait}
+use Rattle.select_calls.specs.declared.clause.SelectAnswer.{SelectAnswer}
+use Rattle.select_calls.specs.declared.clause.SelectAnswer.TheVariants as answer
+use Rattle.select_calls.specs.declared.placing.Placings.{Placings}
+use Rattle.select_calls.specs.declared.placing.Placings.TheVariants as placings
+use Rattle.select_calls.specs.Clauses.{channel_of, MaySelect}
+use Rattle.select_calls.specs.Selects.{HasStood, SelectedAnswer}
+use Rattle.select_calls.specs.Parts.{BlockedAt, MayWait, AllMayWait, AreBlocked, HasClauses, ArePlaced, PlacedSoFar, PlacedAndThen, StopsAt, ResolvedAfter, PlacingsAnswer, PlacesAll, RevokedAnswer, MayStop, Revokes, ComesLate, StopsSo, StoppedAnswer, WasStopped, StopsBehind, SelectsBehind, WaitedAnswer, Waited}
+use Rattle.select_calls.proofs.ClausesAt.{split_at, take_drop, take_all}
+use Rattle.select_calls.proofs.AllTried.{may_later}
+use Rattle.select_calls.proofs.AdmittedIn.{nothing_more}
+
+-- the same by another name of the caller
+pub tells_by : (x who : ℕ) (P : List Told → Type 0) (b d : Floor) (j k : List Item) → x ≡ who → Tells x P b d j k → Tells who P b d j k
+tells_by x who P b d j k is t = subst (λ w. Tells w P b d j k) is t
+
+-- ---- what was placed is withdrawn
+
+module _ (who : ℕ) (calls : List Call) (n : ℕ) (asked : SelectAnswer) (held : Option WaitId) (w : WaitId) (a b d : Floor) (i j k : List Item) (is : held ≡ Some w) (y : Bool) (r : RevokedAnswer who w a b i j (Ok y)) where
+  told_revoked : y ≡ true → ToldOnChannels who a b i j (revoked w)
+  told_revoked e = subst (λ z. RevokedAnswer who w a b i j (Ok z)) e r
+
+  told_late : y ≡ false → ToldOnChannels who a b i j (heard (Late w) ∷ [])
+  told_late e = subst (λ z. RevokedAnswer who w a b i j (Ok z)) e r
+
+  pub withdrawn_then : y ≡ true → Tells who (AdmitsIn (take n calls)) b d j k → StopsSo who calls n asked a d i k held None asked
+  withdrawn_then e t = subst (λ h. StopsSo who calls n asked a d i k h None asked) (sym is) (inl (
+    refl,
+    refl,
+    record {
+      told = revoked w ++ t.told;
+      goes = record { admits = t.told; admits_are = t.goes; all = refl };
+      left = told_then who a b d i j k (revoked w) t.told (told_revoked e) t.left;
+    },
+  ))
+
+  pub late_then : y ≡ false → Tells who (AdmitsIn (take n calls)) b d j k → StopsSo who calls n asked a d i k held held answer.Waiting
+  late_then e t = subst (λ h. StopsSo who calls n asked a d i k h h answer.Waiting) (sym is) (inr (
+    refl,
+    refl,
+    record {
+      told = heard (Late w) ∷ t.told;
+      goes = record { admits = t.told; admits_are = t.goes; all = refl };
+      left = told_then who a b d i j k (heard (Late w) ∷ []) t.told (told_late e) t.left;
+    },
+  ))
+
+  pub stopped_withdrawn : y ≡ true → ToldSome who b d j k → ToldSome who a d i k
+  stopped_withdrawn e t = record { told = revoked w ++ t.told; goes = tt; left = told_then who a b d i j k (revoked w) t.told (told_revoked e) t.left }
+
+  pub stopped_late : y ≡ false → ToldSome who b d j k → ToldSome who a d i k
+  stopped_late e t = record { told = heard (Late w) ∷ t.told; goes = tt; left = told_then who a b d i j k (heard (Late w) ∷ []) t.told (told_late e) t.left }
+
+-- ---- where the clauses are placed
+
+first_of : (calls : List Call) (n : ℕ) (x : Call) (xs : List Call) → take n calls ≡ x ∷ xs → slice_get calls 0 ≡ Some x
+first_of [] zero x xs e = cc
+first_of [] (suc n) x xs e = cc
+first_of (y ∷ ys) zero x xs e = cc
+first_of (y ∷ ys) (suc n) x xs e = let k : y ≡ x = cc in ap Some k
+
+channel_at : (w : WaitId) (xs : List Call) (group : List Told) → Begins w group → Places w 1 xs group → (x : Call) × (ys : List Call) × (xs ≡ x ∷ ys) × (w.channel ≡ channel_of x)
+channel_at _ _ _ (Begins.send c v q more) p = sent p refl
+  where
+    sent : {xs : List Call} {group : List Told} → Places (wait_at c q) 1 xs group → group ≡ placed (wait_at c q) 1 q (sends c v) ∷ more → (x : Call) × (ys : List Call) × (xs ≡ x ∷ ys) × (c ≡ channel_of x)
+    sent (Places.none n) e = cc
+    sent (Places.one n p (sends d u) calls rest h) e = let k : d ≡ c = cc in (sends d u, calls, refl, sym k)
+    sent (Places.one n p (receives d) calls rest h) e = cc
+channel_at _ _ _ (Begins.receive c q more) p = awaited p refl
+  where
+    awaited : {xs : List Call} {group : List Told} → Places (wait_at c q) 1 xs group → group ≡ placed (wait_at c q) 1 q (receives c) ∷ more → (x : Call) × (ys : List Call) × (xs ≡ x ∷ ys) × (c ≡ channel_of x)
+    awaited (Places.none n) e = cc
+    awaited (Places.one n p (sends d u) calls rest h) e = cc
+    awaited (Places.one n p (receives d) calls rest h) e = let k : d ≡ c = cc in (receives d, calls, refl, sym k)
+
+holds_clauses : (who : ℕ) (cs : List (ℕ × ℕ)) (x : Option Wait) → HasClauses who cs x → IsUnsettledOf who x
+holds_clauses who cs None h = h
+holds_clauses who cs (Some x) h = (h.0, h.2)
+
+pub may_stop : (who : ℕ) (calls : List Call) (n : ℕ) (held : Option WaitId) (x : Answer) (a b : Floor) (i j : List Item) → MaySelect who calls a → PlacedAndThen who calls n held (StopsAt calls n x) a b i j → MayStop who calls n held b
+may_stop who calls n held x a b i j may h = record {
+  may = later;
+  within = let lt = slice_get_within calls n h.goes.0 h.goes.1 in omega (arith, lt);
+  wait = λ w e. of_wait held h.placed w e;
+}
+  where
+    later : MaySelect who calls b
+    later = may_later who calls a b may h.told.added.same
+
+    of_wait : (u : Option WaitId) → ArePlaced who calls n u h.group a b → (w : WaitId) → u ≡ Some w → MayCall who w.channel b × HoldsWait who w b
+    of_wait None p w e = cc
+    of_wait (Some u) p w e =
+        let same : u ≡ w = cc in
+        let at = channel_at u (take n calls) h.group p.first.begins p.first.places in
+        let call = later.may_call 0 at.0 (first_of calls n at.0 at.1 at.2) in (
+          subst (λ (y : WaitId). MayCall who y.channel b) same (subst (λ c. MayCall who c b) (sym at.3) call),
+          subst (λ y. IsUnsettledOf who ((replay b.seen).waits y)) same (holds_clauses who _ ((replay b.seen).waits u) p.clauses),
+        )
+
+-- memory ran out behind what was placed
+names_placed : (who : ℕ) (calls : List Call) (n : ℕ) (held : Option WaitId) (group rest : List Told) (a b : Floor) → ArePlaced who calls n held group a b → StopsBehind calls held (group ++ rest)
+names_placed who calls n None group rest a b h = tt
+names_placed who calls n (Some w) group rest a b h = record { before = take n calls; later = drop n calls; group = group; rest = rest; clauses = take_drop calls n; first = h.first; all = refl }
+
+stood_on : (who : ℕ) (w : WaitId) (a b d : Floor) (acts : List _) → HasStood w a b → Added who acts b d → HasStood w a d
+stood_on who w a b d acts h m = moment_within a a b d (λ s. state_of_wait (s.waits w) ≡ Some Standing) (prefix_self a.seen) h m.longer
+
+module _ (who : ℕ) (calls : List Call) (held : Option WaitId) (a b d : Floor) (i j k : List Item) where
+  -- all were placed
+  pub waits_on_all : (m : ℕ) → m ≡ length calls → MaySelect who calls a → PlacedSoFar who calls (length calls) held a b i j → Tells who (AdmitsIn (take m calls)) b d j k → WaitedAnswer who calls a d i k held (Ok answer.Waiting)
+  waits_on_all m is may h t = by_held held refl h.placed
+    where
+      by_held : (u : Option WaitId) → held ≡ u → ArePlaced who calls (length calls) u h.group a b → WaitedAnswer who calls a d i k u (Ok answer.Waiting)
+      by_held None e p = let some = may.some in let none = p.0 in absurd (omega (arith, some, none))
+      by_held (Some w) e p = (
+        w,
+        refl,
+        stood_on who w a b d _ p.stood t.left.added,
+        record {
+          told = h.group ++ t.told;
+          goes = SelectCall.waits w h.group t.told (map blocked calls ++ (h.group ++ t.told)) (subst (λ l. PlacesFirst w l h.group) (take_all calls) p.first) (subst (λ l. AdmitsIn l t.told) (ap (λ z. take z calls) is ∙ take_all calls) t.goes) refl;
+          left = told_then who a b d i j k h.group t.told h.told t.left;
+        },
+      )
+
+  pub stops_on_all : (m : Memory) → PlacedSoFar who calls (length calls) held a b i j → ToldSome who b d j k → WaitedAnswer who calls a d i k held (Err m)
+  stops_on_all m h t = record {
+    told = h.group ++ t.told;
+    goes = names_placed who calls (length calls) held h.group t.told a b h.placed;
+    left = told_then who a b d i j k h.group t.told h.told t.left;
+  }
+
+  -- the wait was resolved
+  pub waits_resolved : (n : ℕ) → PlacedAndThen who calls n held (ResolvedAfter held) a b i j → Tells who (AdmitsIn (take n calls)) b d j k → WaitedAnswer who calls a d i k held (Ok answer.Waiting)
+  waits_resolved n h t = by_held held refl h.placed h.goes
+    where
+      by_held : (u : Option WaitId) → held ≡ u → ArePlaced who calls n u h.group a b → ResolvedAfter u h.then_told → WaitedAnswer who calls a d i k u (Ok answer.Waiting)
+      by_held None e p r = absurd r
+      by_held (Some w) e p r = (
+        w,
+        refl,
+        stood_on who w a b d _ p.stood t.left.added,
+        record {
+          told = (h.group ++ h.then_told) ++ t.told;
+          goes = SelectCall.resolved w (take n calls) (drop n calls) h.group t.told (map blocked calls ++ ((h.group ++ h.then_told) ++ t.told)) (take_drop calls n) p.first t.goes
+              (ap (λ l. map blocked calls ++ l) (append_assoc h.group h.then_told t.told ∙ ap (λ l. h.group ++ (l ++ t.told)) r));
+          left = told_then who a b d i j k (h.group ++ h.then_told) t.told h.told t.left;
+        },
+      )
+
+  pub stops_then : (P : List Told → Type 0) (n : ℕ) (m : Memory) → PlacedAndThen who calls n held P a b i j → ToldSome who b d j k → WaitedAnswer who calls a d i k held (Err m)
+  stops_then P n m h t = record {
+    told = (h.group ++ h.then_told) ++ t.told;
+    goes = subst (StopsBehind calls held) (sym (append_assoc h.group h.then_told t.told)) (names_placed who calls n held h.group (h.then_told ++ t.told) a b h.placed);
+    left = told_then who a b d i j k (h.group ++ h.then_told) t.told h.told t.left;
+  }
+
+pub stops_placing : (who : ℕ) (calls : List Call) (held : Option WaitId) (a b : Floor) (i j : List Item) (m : Memory) → (n : ℕ) × PlacedSoFar who calls n held a b i j → WaitedAnswer who calls a b i j held (Err m)
+stops_placing who calls held a b i j m h = record {
+  told = h.1.group;
+  goes = subst (StopsBehind calls held) (sym (nothing_more h.1.group)) (names_placed who calls h.0 held h.1.group [] a b h.1.placed);
+  left = h.1.told;
+}
+
+-- ---- a clause had changed
+
+-- the select answers so, with nothing left of it; or it waits
+abbrev pub StopsOrWaits : ℕ → List Call → Answer → SelectAnswer → Floor → Floor → List Item → List Item → Option WaitId → SelectAnswer → Type 0
+StopsOrWaits who calls x asked old new i i' held' y =
+    ((y ≡ asked) × (held' ≡ None) × Tells who (SelectsBehind calls x) old new i i')
+    ⊎ ((y ≡ answer.Waiting) × ((w : WaitId) × (held' ≡ Some w) × HasStood w old new × Tells who (SelectsBehind calls (Waits w)) old new i i'))
+
+module _ (who : ℕ) (calls : List Call) (n : ℕ) (x : Answer) (asked : SelectAnswer) (held held' : Option WaitId) (a b d : Floor) (i j k : List Item) (h : PlacedAndThen who calls n held (StopsAt calls n x) a b i j) where
+  abbrev call : Call
+  call = h.goes.0
+
+  parts : calls ≡ take n calls ++ call ∷ drop (n + 1) calls
+  parts = split_at calls n call h.goes.1
+
+  stopped_none : (u : Option WaitId) → u ≡ None → ArePlaced who calls n u h.group a b → Tells who (SelectsBehind calls x) a b i j
+  stopped_none None e p = record {
+    told = h.group ++ h.then_told;
+    goes = SelectCall.stops_at_first (drop 1 calls) call h.then_told (map blocked calls ++ (h.group ++ h.then_told)) x (subst (λ m. calls ≡ take m calls ++ call ∷ drop (m + 1) calls) p.0 parts) h.goes.2 (ap (λ l. map blocked calls ++ (l ++ h.then_told)) p.1);
+    left = h.told;
+  }
+  stopped_none (Some w) e p = cc
+
+  then_revoked : (w : WaitId) → ArePlaced who calls n (Some w) h.group a b → Tells who (Revokes calls n w) b d j k → Tells who (SelectsBehind calls x) a d i k
+  then_revoked w p t = record {
+    told = (h.group ++ h.then_told) ++ t.told;
+    goes = SelectCall.stops w (take n calls) (drop (n + 1) calls) call h.group h.then_told t.goes.admits (map blocked calls ++ ((h.group ++ h.then_told) ++ t.told)) x parts p.first h.goes.2 t.goes.admits_are
+        (ap (λ l. map blocked calls ++ l) (ap (λ l. (h.group ++ h.then_told) ++ l) t.goes.all ∙ sym (append_assoc (h.group ++ h.then_told) (revoked w) t.goes.admits)));
+    left = told_then who a b d i j k (h.group ++ h.then_told) t.told h.told t.left;
+  }
+
+  then_late : (w : WaitId) → ArePlaced who calls n (Some w) h.group a b → Tells who (ComesLate calls n w) b d j k → Tells who (SelectsBehind calls (Waits w)) a d i k
+  then_late w p t = record {
+    told = (h.group ++ h.then_told) ++ t.told;
+    goes = SelectCall.stops_late w (take n calls) (drop (n + 1) calls) call h.group h.then_told t.goes.admits (map blocked calls ++ ((h.group ++ h.then_told) ++ t.told)) x parts p.first h.goes.2 t.goes.admits_are
+        (ap (λ l. map blocked calls ++ ((h.group ++ h.then_told) ++ l)) t.goes.all);
+    left = told_then who a b d i j k (h.group ++ h.then_told) t.told h.told t.left;
+  }
+
+  pub stops_or_waits : (y : SelectAnswer) → StopsSo who calls n asked b d j k held held' y → StopsOrWaits who calls x asked a d i k held' y
+  stops_or_waits y s = by_held held refl h.placed s
+    where
+      by_held : (u : Option WaitId) → held ≡ u → ArePlaced who calls n u h.group a b → StopsSo who calls n asked b d j k u held' y → StopsOrWaits who calls x asked a d i k held' y
+      by_held None e p q = inl (q.0, q.1, subst (λ (f : Floor). Tells who (SelectsBehind calls x) a f i k) (sym q.2) (subst (Tells who (SelectsBehind calls x) a b i) (sym q.3) (stopped_none None refl p)))
+      by_held (Some w) e p q =
+          ⊎_elim (λ r. inl (r.0, r.1, then_revoked w p r.2))
+          (λ r. inr (r.0, (w, r.1, stood_on who w a b d _ p.stood r.2.left.added, then_late w p r.2))) q
+
+  -- without memory
+  pub stops_stopping : (m : Memory) → StoppedAnswer who calls n asked b d j k held held' (Err m) → WaitedAnswer who calls a d i k held' (Err m)
+  stops_stopping m s = record {
+    told = (h.group ++ h.then_told) ++ s.0.told;
+    goes = ⊎_elim (λ e. subst (λ u. StopsBehind calls u ((h.group ++ h.then_told) ++ s.0.told)) (sym e) tt)
+        (λ e. subst (λ u. StopsBehind calls u ((h.group ++ h.then_told) ++ s.0.told)) (sym e) (subst (StopsBehind calls held) (sym (append_assoc h.group h.then_told s.0.told)) (names_placed who calls n held h.group (h.then_told ++ s.0.told) a b h.placed))) s.1;
+    left = told_then who a b d i j k (h.group ++ h.then_told) s.0.told h.told s.0.left;
+  }
+
+-- ---- by cases on the answer
+
+again_or_waits : (who : ℕ) (calls : List Call) (a d : Floor) (i k : List Item) (held' : Option WaitId) (y : SelectAnswer) → (a.alone ≡ true → ((n : ℕ) (call : Call) → slice_get calls n ≡ Some call → BlockedAt a.shape call (replay a.seen)) → ⊥)
+    → StopsOrWaits who calls LooksAgain answer.Again a d i k held' y → WaitedAnswer who calls a d i k held' (Ok y)
+again_or_waits who calls a d i k held' y not_alone s =
+    ⊎_elim (λ r. subst (λ z. WaitedAnswer who calls a d i k held' (Ok z)) (sym r.0) (r.1, r.2, not_alone))
+    (λ r. subst (λ z. WaitedAnswer who calls a d i k held' (Ok z)) (sym r.0) r.1) s
+
+spent_or_waits : (who : ℕ) (calls : List Call) (a d : Floor) (i k : List Item) (held' : Option WaitId) (y : SelectAnswer) → StopsOrWaits who calls NoPlace answer.Spent a d i k held' y → WaitedAnswer who calls a d i k held' (Ok y)
+spent_or_waits who calls a d i k held' y s =
+    ⊎_elim (λ r. subst (λ z. WaitedAnswer who calls a d i k held' (Ok z)) (sym r.0) (r.1, r.2))
+    (λ r. subst (λ z. WaitedAnswer who calls a d i k held' (Ok z)) (sym r.0) r.1) s
+
+pub changed_then : (who : ℕ) (calls : List Call) (n : ℕ) (held held' : Option WaitId) (a b d : Floor) (i j k : List Item) (r : Result SelectAnswer Memory) → PlacingsAnswer who calls a b i j held (Ok (placings.Changed n)) → WasStopped who calls n answer.Again b d j k held held' r → Waited who calls a d i k held' r
+changed_then who calls n held held' a b d i j k (Ok y) h s = record { answer = again_or_waits who calls a d i k held' y h.1 (stops_or_waits who calls n LooksAgain answer.Again held held' a b d i j k h.0 y s.answer) }
+changed_then who calls n held held' a b d i j k (Err m) h s = record { answer = stops_stopping who calls n LooksAgain answer.Again held held' a b d i j k h.0 m s.answer }
+
+pub spent_then : (who : ℕ) (calls : List Call) (n : ℕ) (held held' : Option WaitId) (a b d : Floor) (i j k : List Item) (r : Result SelectAnswer Memory) → PlacingsAnswer who calls a b i j held (Ok (placings.Spent n)) → WasStopped who calls n answer.Spent b d j k held held' r → Waited who calls a d i k held' r
+spent_then who calls n held held' a b d i j k (Ok y) h s = record { answer = spent_or_waits who calls a d i k held' y (stops_or_waits who calls n NoPlace answer.Spent held held' a b d i j k h y s.answer) }
+spent_then who calls n held held' a b d i j k (Err m) h s = record { answer = stops_stopping who calls n NoPlace answer.Spent held held' a b d i j k h m s.answer }
+
+-- ---- behind the tries
+
+pub all_wait : (who : ℕ) (calls : List Call) (a b : Floor) (i j : List Item) → AreBlocked who calls (length calls) a b i j → AllMayWait b.shape calls
+all_wait who calls a b i j h n call e =
+    let lt = slice_get_within calls n call e in
+    subst (λ (s : Shape). MayWait s call) (sym h.told.added.same.shape) (h.wait n call lt e)
+
+module _ (who : ℕ) (calls : List Call) (held : Option WaitId) (a b d : Floor) (i j k : List Item) (h : AreBlocked who calls (length calls) a b i j) where
+  before : ToldOnChannels who a b i j (map blocked calls)
+  before = subst (λ l. ToldOnChannels who a b i j (map blocked l)) (take_all calls) h.told
+
+  behind : (x : Answer) → Tells who (SelectsBehind calls x) b d j k → Tells who (λ told. SelectCall calls told x) a d i k
+  behind x t = record { told = map blocked calls ++ t.told; goes = t.goes; left = told_then who a b d i j k (map blocked calls) t.told before t.left }
+
+  all_blocked : a.alone ≡ true → (n : ℕ) (call : Call) → slice_get calls n ≡ Some call → BlockedAt b.shape call (replay b.seen)
+  all_blocked alone n call e = let lt = slice_get_within calls n call e in subst (λ (s : Shape). BlockedAt s call (replay b.seen)) (sym h.told.added.same.shape) (h.still alone n call lt e)
+
+  waited_then : (r : Result SelectAnswer Memory) → WaitedAnswer who calls b d j k held r → SelectedAnswer who calls a d i k held r
+  waited_then (Ok (answer.Chosen n o)) w = absurd w
+  waited_then (Ok answer.Waiting) w = (w.0, w.1, moment_within a b d d (λ s. state_of_wait (s.waits w.0) ≡ Some Standing) before.added.longer w.2 (prefix_self d.seen), behind (Waits w.0) w.3)
+  waited_then (Ok answer.Again) w = (w.0, λ alone. w.2 (before.added.same.alone ∙ alone) (all_blocked alone), behind LooksAgain w.1)
+  waited_then (Ok answer.Spent) w = (w.0, behind NoPlace w.1)
+  waited_then (Err m) w = record { told = map blocked calls ++ w.told; goes = w.goes; left = told_then who a b d i j k (map blocked calls) w.told before w.left }
+
+  pub selected_then : (r : Result SelectAnswer Memory) → Waited who calls b d j k held r → SelectedAnswer who calls a d i k held r
+  selected_then r w = waited_then r w.answer
+
+-- the same by other names
+pub places_by : (x who : ℕ) (calls : List Call) (a b : Floor) (i j : List Item) (held : Option WaitId) (y z : Placings) → x ≡ who → y ≡ z → PlacesAll x calls a b i j held (Ok y) → PlacingsAnswer who calls a b i j held (Ok z)
+places_by x who calls a b i j held y z is e t = subst (λ w. PlacingsAnswer w calls a b i j held (Ok z)) is (subst (λ (q : Placings). PlacingsAnswer x calls a b i j held (Ok q)) e t.answer)
+
+pub stopped_by : (x who : ℕ) (calls : List Call) (n : ℕ) (asked : SelectAnswer) (b d : Floor) (j k : List Item) (held held' : Option WaitId) (r : Result SelectAnswer Memory) → x ≡ who → WasStopped x calls n asked b d j k held held' r → WasStopped who calls n asked b d j k held held' r
+stopped_by x who calls n asked b d j k held held' r is t = subst (λ w. WasStopped w calls n asked b d j k held held' r) is t
+
+pub waited_by : (x who : ℕ) (calls : List Call) (b d : Floor) (j k : List Item) (held : Option WaitId) (r : Result SelectAnswer Memory) → x ≡ who → Waited x calls b d j k held r → Waited who calls b d j k held r
+waited_by x who calls b d j k held r is t = subst (λ w. Waited w calls b d j k held r) is t
+
+pub stop_by : (x who : ℕ) (calls : List Call) (n : ℕ) (held : Option WaitId) (b : Floor) → x ≡ who → MayStop who calls n held b → MayStop x calls n held b
+stop_by x who calls n held b is m = subst (λ w. MayStop w calls n held b) (sym is) m

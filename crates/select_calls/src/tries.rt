@@ -1,0 +1,160 @@
+//! The clauses are tried, in their order.
+
+ghost use Rattle.std.specs.Prelude.{◌≡◌, ◌<◌, false, length};
+ghost use Rattle.channel_model.specs.Channels.{kind_at, is_signal};
+ghost use Rattle.channel_model.specs.Floors.{MayCall};
+ghost use Rattle.call_meaning.specs.ChannelCalls.{sends, receives};
+ghost use Rattle.channel_calls.specs.Calls.{SameCaller};
+ghost use Rattle.select_calls.specs.Clauses.{calls_of, MaySelect};
+ghost use Rattle.select_calls.specs.Parts.{TriedAnswer, TriedAt, TriesAll};
+
+use crate::clause::{Clause, Outcome};
+use channel_calls::{Caller, make_room};
+use channel_model::{Act, ChannelFloor, ChannelNote, TriedGot, TriedOffer};
+use co_base::{ChannelId, Memory, Tag, Value, Wakes};
+use note_book::{Item, NoteBook};
+
+/// What a clause came to that was tried.
+#[derive(Clone, Copy, Debug, PartialEq, Eq)]
+pub(crate) enum Tried {
+    Ready(Outcome),
+    Blocked,
+    Spent,
+}
+
+/// What all clauses came to that were tried.
+#[derive(Clone, Copy, Debug, PartialEq, Eq)]
+pub(crate) enum Tries {
+    /// The clause of this number, counted from 1, and what it came to.
+    Chosen(u8, Outcome),
+    NoneReady,
+    Spent,
+}
+
+/// Tries to send an element, and never waits.
+fn try_to_send<F: ChannelFloor, B: NoteBook, W: Wakes>(
+    x: &mut Caller<'_, '_, '_, F, B, W>,
+    c: ChannelId,
+    value: Value,
+) -> Result<Tried, Memory>
+    requires can { MayCall x.old.who c (F.view x.old.floor.now) }
+    requires kind { is_signal (kind_at (F.view x.old.floor.now).shape c) ≡ false }
+    ensures same { SameCaller F.anchor x.old x.new }
+    ensures answer { TriedAnswer x.old.who (sends c value) (F.view x.old.floor.now) (F.view x.new.floor.now)
+        (B.items x.old.book.now) (B.items x.new.book.now) result }
+{
+    if let Err(memory) = make_room(x.floor, x.book, 1) {
+        return Err(memory);
+    }
+    match x.floor.try_offer(x.who, c, value) {
+        TriedOffer::Handed(place, receiver) => {
+            let act = Act::Hand { c, place, value };
+            x.book.note(Item::Channel(ChannelNote::Made(act)));
+            x.wakes.wake(receiver);
+            Ok(Tried::Ready(Outcome::Sent))
+        }
+        TriedOffer::Put(place) => {
+            let act = Act::Put { c, place, value };
+            x.book.note(Item::Channel(ChannelNote::Made(act)));
+            match x.after_put(c, place) {
+                Ok(()) => Ok(Tried::Ready(Outcome::Sent)),
+                Err(memory) => Err(memory),
+            }
+        }
+        TriedOffer::Full => {
+            x.book.note(Item::Channel(ChannelNote::Full { c, value }));
+            Ok(Tried::Blocked)
+        }
+        TriedOffer::Closed(v) => {
+            let note = ChannelNote::SendClosed { c, value, v };
+            x.book.note(Item::Channel(note));
+            Ok(Tried::Ready(Outcome::Closed(v)))
+        }
+        TriedOffer::Spent => {
+            x.book.note(Item::Channel(ChannelNote::Spent { c }));
+            Ok(Tried::Spent)
+        }
+    }
+}
+
+/// Wakes the sender that waited, if one did.
+fn wake_sender<W: Wakes>(wakes: &mut W, sender: Option<Tag>) {
+    if let Some(sender) = sender {
+        wakes.wake(sender);
+    }
+}
+
+/// Tries to receive an element, and never waits.
+fn try_to_receive<F: ChannelFloor, B: NoteBook, W: Wakes>(
+    x: &mut Caller<'_, '_, '_, F, B, W>,
+    c: ChannelId,
+) -> Result<Tried, Memory>
+    requires can { MayCall x.old.who c (F.view x.old.floor.now) }
+    ensures same { SameCaller F.anchor x.old x.new }
+    ensures answer { TriedAnswer x.old.who (receives c) (F.view x.old.floor.now) (F.view x.new.floor.now)
+        (B.items x.old.book.now) (B.items x.new.book.now) result }
+{
+    if let Err(memory) = make_room(x.floor, x.book, 1) {
+        return Err(memory);
+    }
+    match x.floor.try_receive(x.who, c) {
+        TriedGot::Taken(place, value, sender) => {
+            let act = Act::Take { c, place, value };
+            x.book.note(Item::Channel(ChannelNote::Made(act)));
+            wake_sender(x.wakes, sender);
+            match x.admit_all(c) {
+                Ok(()) => Ok(Tried::Ready(Outcome::Value(value))),
+                Err(memory) => Err(memory),
+            }
+        }
+        TriedGot::Empty => {
+            x.book.note(Item::Channel(ChannelNote::Empty { c }));
+            Ok(Tried::Blocked)
+        }
+        TriedGot::Closed(v) => {
+            let note = ChannelNote::ReceiveClosed { c, v };
+            x.book.note(Item::Channel(note));
+            Ok(Tried::Ready(Outcome::Closed(v)))
+        }
+    }
+}
+
+/// Tries a clause.
+fn try_clause<F: ChannelFloor, B: NoteBook, W: Wakes>(
+    x: &mut Caller<'_, '_, '_, F, B, W>,
+    clauses: &[Clause],
+    i: usize,
+) -> Result<Tried, Memory>
+    requires may { MaySelect x.old.who (calls_of clauses.now) (F.view x.old.floor.now) }
+    requires there { i < length clauses.now }
+    ensures same { SameCaller F.anchor x.old x.new }
+    ensures answer { TriedAt x.old.who (calls_of clauses.now) i (F.view x.old.floor.now) (F.view x.new.floor.now)
+        (B.items x.old.book.now) (B.items x.new.book.now) result }
+{
+    match clauses[i] {
+        Clause::OnSend { c, value } => try_to_send(x, c, value),
+        Clause::OnReceive { c } => try_to_receive(x, c),
+    }
+}
+
+/// Tries the clauses, up to one that is ready or finds no place.
+pub(crate) fn try_all<F: ChannelFloor, B: NoteBook, W: Wakes>(
+    x: &mut Caller<'_, '_, '_, F, B, W>,
+    clauses: &[Clause],
+) -> Result<Tries, Memory>
+    requires may { MaySelect x.old.who (calls_of clauses.now) (F.view x.old.floor.now) }
+    ensures same { SameCaller F.anchor x.old x.new }
+    ensures tried { TriesAll x.old.who (calls_of clauses.now) (F.view x.old.floor.now) (F.view x.new.floor.now)
+        (B.items x.old.book.now) (B.items x.new.book.now) result }
+{
+    let mut i = 0usize;
+    while i < clauses.len() {
+        match try_clause(x, clauses, i) {
+            Ok(Tried::Ready(outcome)) => return Ok(Tries::Chosen(i as u8 + 1, outcome)),
+            Ok(Tried::Blocked) => i += 1,
+            Ok(Tried::Spent) => return Ok(Tries::Spent),
+            Err(memory) => return Err(memory),
+        }
+    }
+    Ok(Tries::NoneReady)
+}
