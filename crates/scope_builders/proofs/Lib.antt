@@ -8,3 +8,7 @@ pub mod Rooms
 pub mod Starts
 pub mod Breaks
 pub mod Bodies
+pub mod Looking
+pub mod NothingReceived
+pub mod ReceivesDone
+pub mod Awaits

@@ -1,25 +1,34 @@
 -- What each call comes to: what it told, and that this is noted and was so.
-use Rattle.std.specs.Prelude.{◌≡◌, ℕ, ◌+◌, ◌<◌, ◌≤◌, Bool, true, false, List, [], ◌∷◌, length, Option, Result, Ok, Err, is_some}
+use Rattle.std.specs.Prelude.{◌≡◌, ℕ, ◌+◌, ◌<◌, ◌≤◌, Bool, true, false, List, []}
+use Rattle.std.specs.Prelude.{◌∷◌, ◌++◌, length, Option, Some, None, Result, Ok, Err, is_some, slice_get}
 use Rattle.co_base.specs.declared.names.Memory.{Memory}
-use Rattle.channel_model.specs.Channels.{places_at}
+use Rattle.channel_model.specs.declared.acts.Kind.TheVariants.{Signal}
+use Rattle.channel_model.specs.Channels.{Shape}
 use Rattle.channel_model.specs.Floors.{Floor as ChannelFloor}
 use Rattle.job_model.specs.declared.acts.JobAct.TheVariants.{Attach, Start, EndBody}
-use Rattle.job_model.specs.declared.acts.JobNote.TheVariants.{Used, ParentEnded}
+use Rattle.job_model.specs.declared.acts.JobNote.TheVariants.{NoRow, Used, ParentEnded}
+use Rattle.job_model.specs.declared.acts.End.{End}
 use Rattle.job_model.specs.declared.acts.Reason.TheVariants as reasons
 use Rattle.job_model.specs.declared.floor.Attached.{Attached}
 use Rattle.job_model.specs.declared.floor.Ended.{Ended}
 use Rattle.job_model.specs.Trees.{is_childless}
 use Rattle.job_model.specs.Done.{done_channel}
 use Rattle.job_model.specs.Answers.{is_owed}
+use Rattle.job_model.specs.Needs.{MayEndBody}
 use Rattle.job_model.specs.Histories.{replay}
 use Rattle.job_model.specs.Cancels.{IsAllCancelled}
-use Rattle.job_model.specs.Floors.{Floor, AtEntry}
+use Rattle.job_model.specs.Floors.{Floor, AtStep, AtEntry}
 use Rattle.note_book.specs.declared.book.Item.{Item}
-use Rattle.note_book.specs.Items.{job_acts_in}
-use Rattle.call_meaning.specs.Telling.{Told, on_jobs, NotNew, HasEnded, items_in, did, knew}
-use Rattle.call_meaning.specs.JobCalls.{child_kind, Passes, EndsBody, BreaksOff}
+use Rattle.note_book.specs.Items.{channel_acts_in, job_acts_in}
+use Rattle.call_meaning.specs.Telling.{Told, on_jobs, MayRun, NotNew, HasEnded, items_in, did, knew, saw, saw_end}
+use Rattle.call_meaning.specs.Facts.{IsAlive}
+use Rattle.call_meaning.specs.ChannelCalls.{Answer, Closed, Waits, NoPlace, receives, PlainCall}
+use Rattle.call_meaning.specs.JobCalls.{child_kind, scope_kind, Starts, Passes, EndsBody, BreaksOff}
 use Rattle.call_meaning.specs.Calls.{ToldOnJobs, ToldOnBoth}
+use Rattle.channel_calls.specs.Calls.{IsLeftWaiting}
 use Rattle.scope_builders.specs.declared.builder.Builder.{Builder}
+use Rattle.scope_builders.specs.declared.builder.Joined.{Joined}
+use Rattle.scope_builders.specs.declared.builder.Joined.TheVariants as joined
 use Rattle.scope_builders.specs.declared.builder.LaunchError.{LaunchError}
 use Rattle.scope_builders.specs.declared.builder.LaunchError.TheVariants as launch
 use Rattle.scope_builders.specs.Dones.{KeepsDones}
@@ -35,13 +44,13 @@ pub record SameBuilder {C J B W A D : Type 0} (channels_anchor : C → A) (jobs_
   pub of_channels : channels_anchor new.channels.now ≡ channels_anchor old.channels.now
   pub of_jobs : jobs_anchor new.jobs.now ≡ jobs_anchor old.jobs.now
 
--- the tag may call both floors, and each row has its done channel, of one place, those of all rows one after the other from the base; a
--- channel's number is below 65,536
+-- the tag may call both floors, and each row has its done channel, a signal of one place, those of all rows one after the other from the
+-- base; a channel's number is below 65,536
 pub record MayBuild (who base : ℕ) (channels : ChannelFloor) (jobs : Floor) : Type 0 where
   pub of_channels : channels.callers who ≡ true
   pub of_jobs : jobs.callers who ≡ true
   pub done : base + jobs.shape.rows ≤ length channels.shape
-  pub one_place : (r : ℕ) → r < jobs.shape.rows → places_at channels.shape (done_channel base r) ≡ 1
+  pub signals : (r : ℕ) → r < jobs.shape.rows → slice_get channels.shape (done_channel base r) ≡ Some (Signal, 1)
   pub few : length channels.shape ≤ 65536
 
 -- ---- launch
@@ -57,6 +66,37 @@ LaunchAnswer who parent tag lazy j j' i i' (Err launch.Used) =
 LaunchAnswer who parent tag lazy j j' i i' (Err launch.ParentEnded) =
     ToldOnJobs who (tag ∷ []) j j' i i' (on_jobs (HasEnded parent) ∷ knew ParentEnded ∷ [])
 LaunchAnswer who parent tag lazy j j' i i' (Err launch.Memory) = ToldOnJobs who [] j j' i i' []
+
+-- ---- enter
+
+-- the row is one of those for scopes
+pub record IsScopeRow (jobs : Floor) (row : ℕ) : Type 0 where
+  pub behind : jobs.shape.coroutines ≤ row
+  pub within : row < jobs.shape.rows
+
+-- each row for scopes was seen claimed
+abbrev pub NoneLeft : Floor → Type 0
+NoneLeft jobs = (r : ℕ) → IsScopeRow jobs r → is_some (jobs.claims r) ≡ true
+
+-- the Attach of a scope, whose row was claimed; its body is the caller's, and may end
+pub record Entered (who parent : ℕ) (supervisor : Bool) (j j' : Floor) (items items' : List Item) (scope : Attached) : Type 0 where
+  pub of_scopes : IsScopeRow j scope.row
+  pub noted : ToldOnJobs who (scope.row ∷ []) j j' items items'
+      (did (Attach parent scope.row (scope_kind supervisor) who scope.cancelled) ∷ [])
+  pub own : MayEndBody who (replay j'.seen scope.row)
+
+-- a row for scopes was claimed, and the parent had ended
+pub record EnteredNone (who parent : ℕ) (j j' : Floor) (items items' : List Item) : Type 0 where
+  pub row : ℕ
+  pub of_scopes : IsScopeRow j row
+  pub noted : ToldOnJobs who (row ∷ []) j j' items items' (on_jobs (HasEnded parent) ∷ knew ParentEnded ∷ [])
+
+abbrev pub EnterAnswer : ℕ → ℕ → Bool → Floor → Floor → List Item → List Item → Result Attached LaunchError → Type 0
+EnterAnswer who parent supervisor j j' i i' (Ok scope) = Entered who parent supervisor j j' i i' scope
+EnterAnswer who parent supervisor j j' i i' (Err launch.NoRow) = NoneLeft j' × ToldOnJobs who [] j j' i i' (knew NoRow ∷ [])
+EnterAnswer who parent supervisor j j' i i' (Err launch.Used) = ⊥
+EnterAnswer who parent supervisor j j' i i' (Err launch.ParentEnded) = EnteredNone who parent j j' i i'
+EnterAnswer who parent supervisor j j' i i' (Err launch.Memory) = ToldOnJobs who [] j j' i i' []
 
 -- ---- start and cancel
 
@@ -118,3 +158,53 @@ abbrev pub BrokenAnswer : ℕ → ℕ → ℕ → Option ℕ → ChannelFloor �
     → Result Ended Memory → Type 0
 BrokenAnswer who base row failure c c' j j' i i' (Ok answer) = BrokeJob who base row failure c c' j j' i i' answer
 BrokenAnswer who base row failure c c' j j' i i' (Err m) = DidSome who base c c' j j' i i'
+
+-- ---- join, await and the end of a scope
+
+-- this was told so
+pub record TellsBoth (who base : ℕ) (P : List Told → Type 0) (c c' : ChannelFloor) (j j' : Floor) (items items' : List Item)
+    : Type 0 where
+  pub told : List Told
+  pub goes : P told
+  pub noted : ToldOnBoth who [] c c' j j' items items' told
+  pub dones : KeepsDones base c c' j j' (items_in told)
+
+-- the done channel of the row is received from
+abbrev pub ReceivesDone : Shape → ℕ → ℕ → Answer → List Told → Type 0
+ReceivesDone shape base row a told = PlainCall shape (receives (done_channel base row)) told a
+
+-- the Job is started, if it is New, and then its done channel is received from
+pub record AwaitsEnd (shape : Shape) (base row : ℕ) (a : Answer) (told : List Told) : Type 0 where
+  pub starts : List Told
+  pub group : List Told
+  pub is_started : Starts row starts
+  pub received : ReceivesDone shape base row a group
+  pub all : told ≡ starts ++ group
+
+-- the caller's own Job may run, and then the same
+pub record JoinsJob (shape : Shape) (base own row : ℕ) (a : Answer) (told : List Told) : Type 0 where
+  pub group : List Told
+  pub awaits : AwaitsEnd shape base row a group
+  pub all : told ≡ on_jobs (MayRun own) ∷ group
+
+-- what such a receive told, by its answer; an element is never received
+abbrev pub DoneAnswer : ℕ → ℕ → (Answer → List Told → Type 0) → ChannelFloor → ChannelFloor → Floor → Floor → List Item → List Item
+    → Result Joined Memory → Type 0
+DoneAnswer who base P c c' j j' i i' (Ok (joined.Closed v)) = TellsBoth who base (P (Closed v)) c c' j j' i i'
+DoneAnswer who base P c c' j j' i i' (Ok (joined.Waits w)) =
+    (t : TellsBoth who base (P (Waits w)) c c' j j' i i') × IsLeftWaiting who w (channel_acts_in (items_in t.told)) c c'
+DoneAnswer who base P c c' j j' i i' (Ok joined.Cancelled) = ⊥
+DoneAnswer who base P c c' j j' i i' (Ok joined.Spent) = TellsBoth who base (P NoPlace) c c' j j' i i'
+DoneAnswer who base P c c' j j' i i' (Err m) = DidSome who base c c' j j' i i'
+
+-- a join, whose caller's own Job may be seen Cancelling
+abbrev pub JoinAnswer : ℕ → ℕ → ℕ → ℕ → ChannelFloor → ChannelFloor → Floor → Floor → List Item → List Item
+    → Result Joined Memory → Type 0
+JoinAnswer who base own row c c' j j' i i' (Ok joined.Cancelled) = TellsBoth who base (λ told. told ≡ saw own ∷ []) c c' j j' i i'
+JoinAnswer who base own row c c' j j' i i' other = DoneAnswer who base (JoinsJob c.shape base own row) c c' j j' i i' other
+
+-- how the Job ended, or that it had not
+abbrev pub SeenEndAnswer : ℕ → ℕ → Floor → Floor → List Item → List Item → Result (Option End) Memory → Type 0
+SeenEndAnswer who row j j' i i' (Ok (Some end)) = ToldOnJobs who [] j j' i i' (saw_end row end ∷ [])
+SeenEndAnswer who row j j' i i' (Ok None) = ToldOnJobs who [] j j' i i' [] × AtStep j j' (λ tree. IsAlive (tree row))
+SeenEndAnswer who row j j' i i' (Err m) = ToldOnJobs who [] j j' i i' []

@@ -1,9 +1,12 @@
--- The done channels of Jobs, and how one is closed.
-use Rattle.std.specs.Prelude.{◌≡◌, ℕ, ◌+◌, ◌<◌, ◌≤◌, true, List, [], ◌∷◌, ◌++◌, length, Option, Some, None}
-use Rattle.channel_model.specs.declared.acts.Act.TheVariants.{Close}
-use Rattle.channel_model.specs.declared.acts.ChannelNote.TheVariants.{AlreadyClosed}
+-- The done channels of Jobs, and how one is closed and received from.
+use Rattle.std.specs.Prelude.{◌≡◌, ℕ, ◌+◌, ◌<◌, ◌≤◌, true, List, [], ◌∷◌, ◌++◌, length, Option, Some, None, Result, Ok, Err}
+use Rattle.co_base.specs.declared.names.WaitId.{WaitId}
+use Rattle.co_base.specs.declared.names.Memory.{Memory}
+use Rattle.channel_model.specs.declared.acts.Act.TheVariants.{Await, Close}
+use Rattle.channel_model.specs.declared.acts.ChannelNote.TheVariants.{AlreadyClosed, ReceiveClosed}
 use Rattle.channel_model.specs.declared.acts.ChannelNote.TheVariants as of_channel
 use Rattle.channel_model.specs.Channels.{places_at}
+use Rattle.channel_model.specs.Histories.{replay as replay_channels}
 use Rattle.channel_model.specs.Floors.{Floor as ChannelFloor}
 use Rattle.channel_model.specs.Answers.{IsSeenClosed}
 use Rattle.job_model.specs.declared.acts.End.{End}
@@ -18,9 +21,13 @@ use Rattle.job_model.specs.Floors.{Floor}
 use Rattle.note_book.specs.declared.book.Item.{Item}
 use Rattle.note_book.specs.declared.book.Item.TheVariants as item
 use Rattle.call_meaning.specs.Telling.{Told, items_in, made, heard}
-use Rattle.call_meaning.specs.ChannelCalls.{Wakes, Closes}
+use Rattle.call_meaning.specs.Facts.{IsClosedWith}
+use Rattle.call_meaning.specs.ChannelCalls.{receives, wait_at, spent, Wakes, Closes}
 use Rattle.call_meaning.specs.JobCalls.{value_of}
 use Rattle.call_meaning.specs.Calls.{ToldOnChannels}
+use Rattle.channel_calls.specs.Calls.{IsLeftWaiting}
+use Rattle.scope_builders.specs.declared.builder.Joined.{Joined}
+use Rattle.scope_builders.specs.declared.builder.Joined.TheVariants as joined
 
 -- the tag may close the done channels of so many rows, each of one place; a channel's number is below 65,536
 pub record MayClose (who base rows : ℕ) (channels : ChannelFloor) : Type 0 where
@@ -63,6 +70,28 @@ pub data EndsDone (who base rows row : ℕ) (end : End) (old new : ChannelFloor)
       → Closes (done_channel base row) (value_of end) told → items ≡ items_in told
       → IsTold who old new told → IsSeenClosed (done_channel base row) new → EndsDone who base rows row end old new items
   outside : rows ≤ row → new ≡ old → EndsDone who base rows row end old new []
+
+-- ---- a receive
+
+-- a wait of its own stands at a place of the channel
+pub record WaitsAt (who c : ℕ) (w : WaitId) (old new : ChannelFloor) (items items' : List Item) : Type 0 where
+  pub place : ℕ
+  pub named : w ≡ wait_at c place
+  pub left : ToldOnChannels who old new items items' (made (Await c place (wait_at c place) 0) ∷ [])
+  pub waits : IsLeftWaiting who w (Await c place (wait_at c place) 0 ∷ []) old new
+
+-- a receive on a channel that carries no element; without memory nothing was told
+abbrev pub SignalAnswer : ℕ → ℕ → ChannelFloor → ChannelFloor → List Item → List Item → Result Joined Memory → Type 0
+SignalAnswer who c old new i i' (Ok (joined.Closed v)) = ToldOnChannels who old new i i' (heard (ReceiveClosed c v) ∷ [])
+SignalAnswer who c old new i i' (Ok (joined.Waits w)) = WaitsAt who c w old new i i'
+SignalAnswer who c old new i i' (Ok joined.Cancelled) = ⊥
+SignalAnswer who c old new i i' (Ok joined.Spent) = ToldOnChannels who old new i i' (spent (receives c))
+SignalAnswer who c old new i i' (Err m) = ToldOnChannels who old new i i' []
+
+-- where the answer is that the channel is closed, its close was seen
+abbrev pub ClosedIsSeen : ℕ → ChannelFloor → Result Joined Memory → Type 0
+ClosedIsSeen c new (Ok (joined.Closed v)) = IsClosedWith c v (replay_channels new.seen)
+ClosedIsSeen c new other = Unit {0}
 
 -- ---- where nobody else makes entries
 

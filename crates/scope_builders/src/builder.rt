@@ -1,6 +1,6 @@
 //! Who calls, and on what.
 
-use co_base::{ChannelId, Tag};
+use co_base::{ChannelId, Tag, Value, WaitId};
 
 /// The calls of one coroutine on a floor of channels and a floor of Jobs, noted in its book.
 #[derive(Drop)]
@@ -23,4 +23,17 @@ pub enum LaunchError {
     Used,
     ParentEnded,
     Memory,
+}
+
+/// What came of a receive on the done channel of a Job.
+#[derive(Clone, Copy, Debug, PartialEq, Eq)]
+pub enum Joined {
+    /// It was closed with this value.
+    Closed(Value),
+    /// The caller waits; its wait is to be dispatched once it is resolved.
+    Waits(WaitId),
+    /// The caller's own Job is Cancelling, and nothing was started or received.
+    Cancelled,
+    /// The place of the done channel was given out while it was open.
+    Spent,
 }

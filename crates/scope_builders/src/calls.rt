@@ -1,16 +1,25 @@
-//! The calls.
+//! The calls that attach, start and cancel Jobs, and those that end a body.
 
 ghost use Rattle.std.specs.Prelude.{◌≡◌, ◌<◌, true, is_some};
 ghost use Rattle.job_model.specs.Needs.{Holds, OwnsBody, MayEndBody};
 ghost use Rattle.job_model.specs.Histories.{replay};
 ghost use Rattle.call_meaning.specs.JobCalls.{reason_for};
-ghost use Rattle.scope_builders.specs.Calls.{SameBuilder, MayBuild, LaunchAnswer, StartedAnswer, CancelledAnswer, EndedAnswer, BrokenAnswer};
+ghost use Rattle.scope_builders.specs.Calls.{
+  SameBuilder,
+  MayBuild,
+  LaunchAnswer,
+  EnterAnswer,
+  StartedAnswer,
+  CancelledAnswer,
+  EndedAnswer,
+  BrokenAnswer,
+};
 
 use crate::builder::{Builder, LaunchError};
-use crate::parts::{cancel_first, finish_up, make_room, pass, wake_job};
+use crate::parts::{attach, cancel_first, finish_up, make_room, pass, wake_job};
 use channel_model::ChannelFloor;
 use co_base::{Memory, Row, Tag, Value, Wakes};
-use job_model::{AttachError, Attached, Ended, JobAct, JobFloor, JobKind, JobNote, Reason};
+use job_model::{Attached, Ended, JobAct, JobFloor, JobKind, JobNote, Reason};
 use note_book::{Item, NoteBook};
 
 impl<C: ChannelFloor, J: JobFloor, B: NoteBook, W: Wakes> Builder<'_, '_, '_, '_, C, J, B, W> {
@@ -24,39 +33,36 @@ impl<C: ChannelFloor, J: JobFloor, B: NoteBook, W: Wakes> Builder<'_, '_, '_, '_
         ensures answer { LaunchAnswer self.old.who parent tag lazy (J.view self.old.jobs.now) (J.view self.new.jobs.now)
             (B.items self.old.book.now) (B.items self.new.book.now) result }
     {
-        if let Err(_memory) = make_room(self.jobs, self.book, 1) {
-            return Err(LaunchError::Memory);
-        }
         let kind = JobKind {
             supervisor: false,
             scoped: false,
             lazy,
         };
-        match self.jobs.attach(self.who, parent, kind, tag) {
-            Ok(child) => {
-                let act = JobAct::Attach {
-                    parent,
-                    row: child.row,
-                    kind,
-                    tag,
-                    cancelled: child.cancelled,
-                };
-                self.book.note(Item::Job(JobNote::Made(act)));
-                if child.cancelled || !lazy {
-                    self.wakes.wake(tag);
-                }
-                Ok(child)
-            }
-            Err(AttachError::NoRow) => Err(LaunchError::NoRow),
-            Err(AttachError::Used) => {
-                self.book.note(Item::Job(JobNote::Used));
-                Err(LaunchError::Used)
-            }
-            Err(AttachError::ParentEnded) => {
-                self.book.note(Item::Job(JobNote::ParentEnded));
-                Err(LaunchError::ParentEnded)
+        let answer = attach(self.jobs, self.book, self.who, parent, kind, tag);
+        if let Ok(child) = answer {
+            if child.cancelled || !lazy {
+                self.wakes.wake(tag);
             }
         }
+        answer
+    }
+
+    /// Attaches the Job of a scope to a parent. Its body is the caller's.
+    pub fn enter(&mut self, parent: Row, supervisor: bool) -> Result<Attached, LaunchError>
+        requires may { MayBuild self.old.who self.old.base (C.view self.old.channels.now) (J.view self.old.jobs.now) }
+        requires parent { is_some (replay (J.view self.old.jobs.now).seen parent) ≡ true }
+        requires tag { self.old.who < (J.view self.old.jobs.now).shape.coroutines }
+        ensures same { SameBuilder C.anchor J.anchor self.old self.new }
+        ensures channels { self.new.channels.now ≡ self.old.channels.now }
+        ensures answer { EnterAnswer self.old.who parent supervisor (J.view self.old.jobs.now) (J.view self.new.jobs.now)
+            (B.items self.old.book.now) (B.items self.new.book.now) result }
+    {
+        let kind = JobKind {
+            supervisor,
+            scoped: true,
+            lazy: false,
+        };
+        attach(self.jobs, self.book, self.who, parent, kind, self.who)
     }
 
     /// Starts a Job that is New, and wakes its coroutine. The answer says whether it was New.
@@ -142,7 +148,8 @@ impl<C: ChannelFloor, J: JobFloor, B: NoteBook, W: Wakes> Builder<'_, '_, '_, '_
     pub fn break_job(&mut self, row: Row, failure: Option<Row>) -> Result<Ended, Memory>
         requires may { MayBuild self.old.who self.old.base (C.view self.old.channels.now) (J.view self.old.jobs.now) }
         requires own { OwnsBody self.old.who (replay (J.view self.old.jobs.now).seen row) }
-        requires reason { Holds (J.view self.old.jobs.now).shape (replay (J.view self.old.jobs.now).seen) self.old.who row (reason_for failure) }
+        requires reason { Holds (J.view self.old.jobs.now).shape (replay (J.view self.old.jobs.now).seen) self.old.who row
+            (reason_for failure) }
         ensures same { SameBuilder C.anchor J.anchor self.old self.new }
         ensures answer { BrokenAnswer self.old.who self.old.base row failure
             (C.view self.old.channels.now) (C.view self.new.channels.now) (J.view self.old.jobs.now) (J.view self.new.jobs.now)

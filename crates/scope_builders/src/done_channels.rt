@@ -1,21 +1,23 @@
-//! The done channels of Jobs that end.
+//! The done channels of Jobs: they are closed where a Job ends, and received from by whoever waits for that.
 
 ghost use Rattle.std.specs.Prelude.{◌≡◌, ◌+◌, ◌<◌, ◌≤◌, nat_lt, []};
 ghost use Rattle.std.proofs.Props.{props};
-ghost use Rattle.channel_model.specs.Channels.{places_at};
+ghost use Rattle.channel_model.specs.declared.acts.Kind.TheVariants.{Signal};
+ghost use Rattle.channel_model.specs.Channels.{kind_at, places_at};
 ghost use Rattle.channel_model.specs.Floors.{Added, MayCall};
 ghost use Rattle.channel_model.specs.Answers.{IsSeenClosed};
 ghost use Rattle.call_meaning.specs.JobCalls.{value_of};
-ghost use Rattle.scope_builders.specs.Dones.{MayClose, ClosedFirst, WokenLast, EndsDone};
+ghost use Rattle.scope_builders.specs.Dones.{MayClose, ClosedFirst, WokenLast, EndsDone, SignalAnswer, ClosedIsSeen};
 
-use channel_model::{Act, ChannelFloor, ChannelNote};
-use co_base::{ChannelId, Memory, Row, Tag, Value, Wakes};
+use crate::builder::Joined;
+use channel_model::{Act, ChannelFloor, ChannelNote, Got};
+use co_base::{ChannelId, Memory, Row, Tag, Value, WaitId, Wakes};
 use job_model::{End, done_channel};
 use job_tree::Ends;
 use note_book::{Item, NoteBook};
 
 /// Closes the done channel of each Job that ends, and tells who waits there. That of the row r is `done_channel(base, r)`, of one
-/// place, so that at most one receiver ever stands there.
+/// place, so that at most one receiver ever stands there, and what one end takes is known before it.
 pub struct DoneChannels<'a, C: ChannelFloor> {
     pub channels: &'a mut C,
     pub who: Tag,
@@ -84,6 +86,50 @@ fn wake_last<C: ChannelFloor, B: NoteBook, W: Wakes>(
         let act = Act::WakeClosed { c, place };
         book.note(Item::Channel(ChannelNote::Made(act)));
         wakes.wake(tag);
+    }
+}
+
+/// Receives on a done channel. It carries no element, so the floor is called once, and nothing follows.
+pub(crate) fn receive_signal<C: ChannelFloor, B: NoteBook>(
+    channels: &mut C,
+    book: &mut B,
+    who: Tag,
+    c: ChannelId,
+) -> Result<Joined, Memory>
+    requires can { MayCall who c (C.view channels.old) }
+    requires signal { kind_at (C.view channels.old).shape c ≡ Signal }
+    ensures channels_anchor { C.anchor channels.new ≡ C.anchor channels.old }
+    ensures answer { SignalAnswer who c (C.view channels.old) (C.view channels.new) (B.items book.old) (B.items book.new) result }
+    ensures closed { ClosedIsSeen c (C.view channels.new) result }
+{
+    if let Err(memory) = book.room(1) {
+        return Err(memory);
+    }
+    if let Err(memory) = channels.room(1) {
+        return Err(memory);
+    }
+    match channels.receive(who, c) {
+        Got::Taken(_, _, _) => unreachable!(),
+        Got::Waiting(place) => {
+            let main = WaitId { channel: c, place };
+            let act = Act::Await {
+                c,
+                place,
+                main,
+                clause: 0,
+            };
+            book.note(Item::Channel(ChannelNote::Made(act)));
+            Ok(Joined::Waits(main))
+        }
+        Got::Closed(v) => {
+            let note = ChannelNote::ReceiveClosed { c, v };
+            book.note(Item::Channel(note));
+            Ok(Joined::Closed(v))
+        }
+        Got::Spent => {
+            book.note(Item::Channel(ChannelNote::Spent { c }));
+            Ok(Joined::Spent)
+        }
     }
 }
 

@@ -1,17 +1,20 @@
 //! The calls of one coroutine on its own Job and on those of others, over any floor of channels and any floor of Jobs: to launch,
-//! start and cancel coroutines, and to end a body or break it off. Each entry is noted at once, and each Job that ends has its done
-//! channel closed and whoever waits there told. What a call tells, and that it was so, is its contract (`call_meaning`).
+//! start and cancel coroutines, to enter a scope, to wait for the end of a Job, and to end a body or break it off. Each entry is noted
+//! at once, and each Job that ends has its done channel closed and whoever waits there told. What a call tells, and that it was so, is
+//! its contract (`call_meaning`).
 //!
 //! - `builder`: who calls, and on what
-//! - `done_channels`: the done channels of Jobs that end
+//! - `done_channels`: the done channels of Jobs
 //! - `parts`: the parts of the calls
-//! - `calls`: the calls
+//! - `calls`: to launch, to enter, to start, to cancel, and to end a body
+//! - `joins`: to wait for the end of a Job, and to see it
 #![tactic(auto)]
 
 mod builder;
 mod calls;
 mod done_channels;
+mod joins;
 mod parts;
 
-pub use builder::{Builder, LaunchError};
+pub use builder::{Builder, Joined, LaunchError};
 pub use job_model::done_channel;

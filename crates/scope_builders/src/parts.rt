@@ -1,6 +1,6 @@
 //! The parts of the calls.
 
-ghost use Rattle.std.specs.Prelude.{◌≡◌, ◌≤◌, true, is_some, [], OnOk, OnErr};
+ghost use Rattle.std.specs.Prelude.{◌≡◌, ◌<◌, ◌≤◌, true, is_some, [], OnOk, OnErr};
 ghost use Rattle.job_model.specs.Needs.{Holds, OwnsBody};
 ghost use Rattle.job_model.specs.Histories.{replay};
 ghost use Rattle.job_model.specs.Floors.{MayCall, HasRoom, Looked};
@@ -10,14 +10,15 @@ ghost use Rattle.job_tree.specs.Rooms.{MayCancelAll};
 ghost use Rattle.job_tree.specs.Passes.{IsPass, IsFailure};
 ghost use Rattle.job_tree.specs.Failures.{IsFailedUp};
 ghost use Rattle.scope_builders.specs.Calls.{MayBuild};
-ghost use Rattle.scope_builders.specs.Parts.{SeenAnswer, IsBroken, IsCancelledFirst, FinishedUp};
+ghost use Rattle.scope_builders.specs.Parts.{AttachedAnswer, SeenAnswer, IsBroken, IsCancelledFirst, FinishedUp};
 
+use crate::builder::LaunchError;
 use crate::done_channels::DoneChannels;
 use channel_model::ChannelFloor;
 use co_base::{ChannelId, Memory, Row, Tag, Wakes};
-use job_model::{JobFloor, JobState, Reason};
+use job_model::{AttachError, Attached, JobAct, JobFloor, JobKind, JobNote, JobState, Reason};
 use job_tree::{JobCaller, Passed};
-use note_book::NoteBook;
+use note_book::{Item, NoteBook};
 
 /// Makes room for so many entries on Jobs, each noted.
 pub(crate) fn make_room<J: JobFloor, B: NoteBook>(
@@ -38,6 +39,53 @@ pub(crate) fn make_room<J: JobFloor, B: NoteBook>(
         return Err(memory);
     }
     Ok(())
+}
+
+/// Attaches a Job to a parent, and notes that, or why there is none.
+pub(crate) fn attach<J: JobFloor, B: NoteBook>(
+    jobs: &mut J,
+    book: &mut B,
+    who: Tag,
+    parent: Row,
+    kind: JobKind,
+    tag: Tag,
+) -> Result<Attached, LaunchError>
+    requires can { MayCall who parent (J.view jobs.old) }
+    requires tag { tag < (J.view jobs.old).shape.coroutines }
+    requires scope { kind.scoped ≡ true → tag ≡ who }
+    ensures jobs_anchor { J.anchor jobs.new ≡ J.anchor jobs.old }
+    ensures answer { AttachedAnswer who parent kind tag (J.view jobs.old) (J.view jobs.new) (B.items book.old) (B.items book.new) result }
+{
+    if let Err(_memory) = make_room(jobs, book, 1) {
+        return Err(LaunchError::Memory);
+    }
+    match jobs.attach(who, parent, kind, tag) {
+        Ok(child) => {
+            let act = JobAct::Attach {
+                parent,
+                row: child.row,
+                kind,
+                tag,
+                cancelled: child.cancelled,
+            };
+            book.note(Item::Job(JobNote::Made(act)));
+            Ok(child)
+        }
+        Err(error) => match error {
+            AttachError::NoRow => {
+                book.note(Item::Job(JobNote::NoRow));
+                Err(LaunchError::NoRow)
+            }
+            AttachError::Used => {
+                book.note(Item::Job(JobNote::Used));
+                Err(LaunchError::Used)
+            }
+            AttachError::ParentEnded => {
+                book.note(Item::Job(JobNote::ParentEnded));
+                Err(LaunchError::ParentEnded)
+            }
+        },
+    }
 }
 
 /// Asks that the coroutine of the Job be polled.
