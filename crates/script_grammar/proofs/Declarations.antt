@@ -5,7 +5,7 @@ use Rattle.std.proofs.lemmas.List.{length-map, get_or-map}
 use Rattle.std.proofs.lemmas.Option.{slice_get-get_or, slice_get_within}
 use Rattle.channel_model.specs.declared.acts.Kind.{Kind}
 use Rattle.channel_model.specs.declared.acts.Kind.TheVariants.{Rendezvous, Buffered, Unlimited, Conflated, DropOldest, Signal}
-use Rattle.channel_model.specs.Channels.{kind_at, places_at, is_full, suspends, is_signal}
+use Rattle.channel_model.specs.Channels.{kind_at, places_at, is_signal}
 use Rattle.script_grammar.specs.declared.instructions.Operand.{Operand}
 use Rattle.script_grammar.specs.declared.instructions.Instruction.{Instruction}
 use Rattle.script_grammar.specs.declared.instructions.Instruction.TheVariants.{Send, Receive}
@@ -15,10 +15,9 @@ use Rattle.script_grammar.specs.Grammar.{is_kind, is_declared}
 use Rattle.script_grammar.specs.WellFormed.{IsProgram}
 use Rattle.script_grammar.specs.Tags.{tags_of, block_of_tag, code_of}
 use Rattle.script_grammar.specs.Declarations.{is_below, names_channel, launch_below, targets_back, is_next_job, jobs_after_name, knows_jobs, jobs_after, names_its_jobs}
-use Rattle.script_grammar.specs.FirstRunning.{kind_runs, channel_runs, runs_today, all_run}
 use Rattle.script_grammar.proofs.Truths.{both_true, le-from_true, lt-from_true, lt-true, same-from_true}
 use Rattle.script_grammar.proofs.NamedIsDeclared.{Declares-from_program}
-use Rattle.script_grammar.proofs.Layouts.{test_at, channels_known, code_known, block_of_tag-some}
+use Rattle.script_grammar.proofs.Layouts.{test_at, channels_known, block_of_tag-some}
 
 -- ---- tests of all elements
 
@@ -32,14 +31,6 @@ length-shape_of p = length-map p.channels (λ c. (c.kind, c.places))
 
 pub few_shapes : (p : Program) → IsProgram p → length (shape_of p) ≤ 256
 few_shapes p ok = omega (arith, length-shape_of p, ok.few_channels)
-
-rendezvous : (kind : Kind) → kind_runs kind ≡ true → kind ≡ Rendezvous
-rendezvous Rendezvous e = refl
-rendezvous (Buffered k) e = cc
-rendezvous Unlimited e = cc
-rendezvous Conflated e = cc
-rendezvous (DropOldest k) e = cc
-rendezvous Signal e = cc
 
 no_channel : Declared
 no_channel = record { name = []; kind = Signal; places = 0 }
@@ -73,18 +64,6 @@ is_signal-shape_of p ok c h =
     no_signal (DropOldest k) e = refl
     no_signal Signal e = cc
 
--- where all lines run, each channel is a rendezvous channel
-pub kind_at-shape_of : (p : Program) → all_run p ≡ true → (c : ℕ) → c < length (shape_of p) → kind_at (shape_of p) c ≡ Rendezvous
-kind_at-shape_of p runs c h =
-    let d = get_or p.channels c no_channel in
-    kind_is p c h ∙ rendezvous d.kind (test_below channel_runs p.channels c no_channel (both_true _ _ runs).0 (omega (arith, h, length-shape_of p)))
-
-pub suspends-shape_of : (p : Program) → all_run p ≡ true → (c : ℕ) → c < length (shape_of p) → suspends (kind_at (shape_of p) c) ≡ true
-suspends-shape_of p runs c h = ap suspends (kind_at-shape_of p runs c h)
-
-pub is_full-shape_of : (p : Program) → all_run p ≡ true → (c n : ℕ) → c < length (shape_of p) → is_full (kind_at (shape_of p) c) n ≡ true
-is_full-shape_of p runs c n h = ap (λ kind. is_full kind n) (kind_at-shape_of p runs c h)
-
 pub places_at-shape_of : (p : Program) → IsProgram p → (c : ℕ) → c < length (shape_of p) → (1 ≤ places_at (shape_of p) c) × (places_at (shape_of p) c ≤ 1048576)
 places_at-shape_of p ok c h =
     let d = get_or p.channels c no_channel in
@@ -108,10 +87,6 @@ send-within p ok tag i c v at = lt-from_true c (length (shape_of p)) (line-withi
 
 pub receive-within : (p : Program) → IsProgram p → (tag i c : ℕ) → slice_get (code_of p tag) i ≡ Some (Receive c) → c < length (shape_of p)
 receive-within p ok tag i c at = lt-from_true c (length (shape_of p)) (line-within p ok tag i (Receive c) at)
-
--- a line of a coroutine runs, where all do
-pub line-runs : (p : Program) → all_run p ≡ true → (tag i : ℕ) (x : Instruction) → slice_get (code_of p tag) i ≡ Some x → runs_today x ≡ true
-line-runs p runs tag i x at = test_at runs_today (code_of p tag) i x (code_known (list_all runs_today) refl p (block_of_tag p tag) (both_true _ _ runs).1) at
 
 -- ---- targets
 

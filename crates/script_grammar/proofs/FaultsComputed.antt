@@ -4,8 +4,7 @@ use Rattle.script_grammar.specs.Verbs.{verb_of}
 use Rattle.script_grammar.specs.Places.{kind_at}
 use Rattle.script_grammar.specs.Forms.{outside, step}
 use Rattle.script_grammar.specs.Texts.{reading_of, lines_from, line_at}
-use Rattle.script_grammar.specs.FirstRunning.{reading_of_running, first_not_running}
-use Rattle.script_grammar.specs.FaultsByText.{AreFaulty, smallest, common, cut_off, too_large, of_rules, AreRefused, not_running_yet}
+use Rattle.script_grammar.specs.FaultsByText.{AreFaulty, smallest, common, cut_off, too_large, of_rules}
 use Rattle.script_grammar.specs.FaultsByLine.{HaveFaults, before_outside, channel_rows, outside_rows, before_inside, channel_call_rows, job_rows, other_rows, before_clause, select_rows}
 
 pub channel_rows_have : HaveFaults before_outside 4 channel_rows
@@ -51,7 +50,3 @@ too_large_are = refl
 pub of_rules_are : AreFaulty of_rules
 unfolding reading_of lines_from line_at step outside kind_at verb_of
 of_rules_are = refl
-
-pub not_running_yet_are : AreRefused not_running_yet
-unfolding reading_of_running first_not_running reading_of lines_from line_at step outside kind_at verb_of
-not_running_yet_are = refl

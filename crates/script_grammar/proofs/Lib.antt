@@ -16,7 +16,6 @@ pub mod LinesWritten
 pub mod TextPrinted
 pub mod SpelledIsProgram
 pub mod OpenedIsClosed
-pub mod RunningRead
 pub mod NamedIsDeclared
 pub mod Layouts
 pub mod LaunchedTags
@@ -27,3 +26,5 @@ pub mod SizesSoFar
 pub mod GeneratedScript
 pub mod TextsComputed
 pub mod FaultsComputed
+pub mod BalancedLines
+pub mod ProgramsBalanced

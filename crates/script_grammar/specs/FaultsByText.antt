@@ -7,7 +7,6 @@ use Rattle.script_grammar.specs.declared.fault.FaultKind.TheVariants.{NotAscii, 
 use Rattle.script_grammar.specs.declared.fault.ScriptFault.{ScriptFault}
 use Rattle.script_grammar.specs.Programs.{Program}
 use Rattle.script_grammar.specs.Texts.{reading_of}
-use Rattle.script_grammar.specs.FirstRunning.{reading_of_running}
 
 -- a text, the number of its faulty line, and the fault
 abbrev pub Example : Type 0
@@ -163,25 +162,4 @@ of_rules =
     ∷ (codes "coroutine main # " ++ 127 ∷ [], 1, NotAscii)
     ∷ (codes "x\n# " ++ 127 ∷ [], 1, UnknownWord)
     ∷ (codes "coroutine main\nend\n" ++ 0 ∷ [], 3, NotAscii)
-    ∷ []
-
--- ---- lines that do not run yet
-
--- each of these texts is refused so
-abbrev pub AreRefused : List Example → Type 0
-AreRefused examples =
-    map (λ (x : Example). reading_of_running x.0) examples
-    ≡ map {B = Result Program ScriptFault} (λ (x : Example). Err (record { line = x.1; kind = x.2 })) examples
-
--- the first line that does not run, and faults, which come before it
-abbrev pub not_running_yet : List Example
-not_running_yet =
-    (codes "channel a buffered\ncoroutine main\nend", 1, UnknownWord)
-    ∷ (codes "channel a rendezvous\ncoroutine main\nsend a 1\nclose a\ntrysend a 1\nend", 4, UnknownWord)
-    ∷ (codes "coroutine p\nend\ncoroutine main\nlaunch p\nasync p as j\nend", 5, UnknownWord)
-    ∷ (codes "coroutine main\n# twice\nrepeat 2\nyield\nend\nend", 3, UnknownWord)
-    ∷ (codes "coroutine p\nscope\nend\nend\ncoroutine main\nselect\nend", 7, UnknownWord)
-    ∷ (codes "channel a buffered\ncoroutine main\nclose b\nend", 3, Undeclared)
-    ∷ (codes "channel a buffered\ncoroutine main\nend\nspawn p", 4, Undeclared)
-    ∷ (codes "channel a buffered", 1, NoMain)
     ∷ []

@@ -15,7 +15,6 @@ pub mod Faulty
 pub mod Nesting
 pub mod Tags
 pub mod Declarations
-pub mod FirstRunning
 pub mod Generated
 pub mod ReadTexts
 pub mod FaultsByText

@@ -4,7 +4,7 @@ ghost use Rattle.std.specs.Prelude.{◌≡◌, Ok};
 ghost use Rattle.script_grammar.specs.Texts.{reading_of};
 ghost use Rattle.script_grammar.specs.Canonical.{canonical_text};
 ghost use Rattle.script_grammar.specs.ReadTexts.{AreRead, scripts, every_line_text, every_line, every_line_printed, nested_text, nested_tags, tags_read};
-ghost use Rattle.script_grammar.specs.FaultsByText.{AreFaulty, smallest, common, cut_off, too_large, of_rules, AreRefused, not_running_yet};
+ghost use Rattle.script_grammar.specs.FaultsByText.{AreFaulty, smallest, common, cut_off, too_large, of_rules};
 ghost use Rattle.script_grammar.specs.FaultsByLine.{HaveFaults, before_outside, channel_rows, outside_rows, before_inside, channel_call_rows, job_rows, other_rows, before_clause, select_rows};
 
 /// Texts that are read, among them one with every line of the language, which is also printed.
@@ -32,9 +32,4 @@ pub fn each_line_has_these_faults()
     ensures jobs { HaveFaults before_inside 7 job_rows }
     ensures others { HaveFaults before_inside 7 other_rows }
     ensures clauses { HaveFaults before_clause 6 select_rows }
-{}
-
-/// Scripts with a line that does not run yet, and texts with a fault beside it.
-pub fn these_scripts_do_not_run_yet()
-    ensures { AreRefused not_running_yet }
 {}

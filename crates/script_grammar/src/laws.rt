@@ -1,6 +1,6 @@
 //! What holds of texts and programs.
 
-ghost use Rattle.std.specs.Prelude.{◌≡◌, ◌<◌, ◌≤◌, ℕ, List, [], length, true, Ok, Err};
+ghost use Rattle.std.specs.Prelude.{◌≡◌, ◌<◌, ◌≤◌, ℕ, List, [], length, Ok, Err};
 ghost use Rattle.script_grammar.specs.declared.fault.ScriptFault.{ScriptFault};
 ghost use Rattle.script_grammar.specs.declared.instructions.Instruction.{Instruction};
 ghost use Rattle.script_grammar.specs.Programs.{Program};
@@ -13,7 +13,6 @@ ghost use Rattle.script_grammar.specs.Declarations.{Declares};
 ghost use Rattle.script_grammar.specs.Nesting.{AreClosed};
 ghost use Rattle.script_grammar.specs.Tags.{launched, launches_from, size_of, sizes_of, coroutine_count, job_count, LaunchesAt};
 ghost use Rattle.script_grammar.specs.Generated.{generated, generated_text};
-ghost use Rattle.script_grammar.specs.FirstRunning.{all_run, reading_of_running, Refused};
 
 /// A text spells at most one program.
 pub fn a_text_spells_at_most_one_program()
@@ -48,21 +47,6 @@ pub fn the_canonical_text_of_a_program_spells_it()
 /// A program that is printed and read again is the same.
 pub fn a_printed_program_is_read_again()
     ensures { (p : Program) → IsProgram p → length (canonical_text p) ≤ 1048576 → reading_of (canonical_text p) ≡ Ok p }
-{}
-
-/// A script is read to be run where all its lines run.
-pub fn a_script_all_of_whose_lines_run_is_read()
-    ensures { (bytes : List ℕ) (p : Program) → Spells bytes p → all_run p ≡ true → reading_of_running bytes ≡ Ok p }
-{}
-
-/// What is read to be run is spelled, and all its lines run.
-pub fn all_lines_of_what_is_read_to_be_run_do_run()
-    ensures { (bytes : List ℕ) (p : Program) → reading_of_running bytes ≡ Ok p → Spells bytes p × (all_run p ≡ true) }
-{}
-
-/// A refusal is that of the first faulty line, or of the first line of a script that does not run.
-pub fn a_refusal_is_of_the_first_line_that_is_faulty_or_does_not_run()
-    ensures { (bytes : List ℕ) (fault : ScriptFault) → reading_of_running bytes ≡ Err fault → Refused bytes fault }
 {}
 
 /// What a program's lines and spawns name is declared: channels, blocks before the line's own, and names of Jobs that were given.

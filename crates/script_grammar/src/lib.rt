@@ -15,8 +15,8 @@
 //!
 //! For faults alone: `Verbs`, `Faults`, `Places`, `Forms`, `Texts` (the first fault of a text, as an equation) and `Faulty` (the
 //! same in words of the grammar). For what runs scripts: `Tags` (the numbers of coroutines and Jobs), `Declarations` (what is
-//! declared before it is named), `FirstRunning` (which lines run yet) and `Generated` (the script that adds up numbers). Examples:
-//! `ReadTexts`, `FaultsByText` and `FaultsByLine`.
+//! declared before it is named) and `Generated` (the script that adds up numbers). Examples: `ReadTexts`, `FaultsByText` and
+//! `FaultsByLine`.
 //!
 //! The laws, and the files of `proofs` that show each, in the order to read:
 //!
@@ -26,7 +26,6 @@
 //! - The canonical text of a program spells it: by words in `ChannelsPrinted`, `BlocksPrinted`, `ProgramPrinted`, as a text in
 //!   `LinesWritten`, `TextPrinted`.
 //! - What is spelled is a program, and is read again where it is printed: `SpelledIsProgram`.
-//! - What is read to be run is spelled and runs: `RunningRead`.
 //! - What a line opens is closed: `OpenedIsClosed`. What is named is declared: `NamedIsDeclared`.
 //! - A launch counts as often as it runs: `LaunchesCounted`. The load is the number of Jobs: `Layouts`, `JobsCounted`.
 //! - No tag is launched twice: `Layouts`, `LaunchedTags`.
@@ -43,16 +42,13 @@ mod laws;
 mod verbs;
 
 pub use examples::{
-    each_line_has_these_faults, these_scripts_do_not_run_yet, these_texts_are_scripts,
-    these_texts_have_these_faults,
+    each_line_has_these_faults, these_texts_are_scripts, these_texts_have_these_faults,
 };
 pub use fault::{FaultKind, ScriptFault};
 pub use instructions::{Instruction, Launching, Operand};
 pub use laws::{
     a_fault_is_that_of_the_first_faulty_line, a_launch_counts_as_often_as_it_runs,
-    a_printed_program_is_read_again, a_refusal_is_of_the_first_line_that_is_faulty_or_does_not_run,
-    a_script_all_of_whose_lines_run_is_read, a_text_spells_at_most_one_program,
-    all_lines_of_what_is_read_to_be_run_do_run, no_tag_is_launched_twice,
+    a_printed_program_is_read_again, a_text_spells_at_most_one_program, no_tag_is_launched_twice,
     the_canonical_text_of_a_program_spells_it, the_generated_text_spells_the_generated_script,
     the_load_of_a_program_is_the_number_of_its_jobs, what_a_line_opens_is_closed,
     what_a_program_names_is_declared, what_is_read_is_spelled, what_is_spelled_is_a_program,

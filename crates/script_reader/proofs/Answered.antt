@@ -1,13 +1,14 @@
 -- What the answer of a reader says of the text.
-use Rattle.std.proofs.Common.{◌≡◌, List, ℕ, refl, ap, sym, ◌∙◌, subst, Result, Ok, Err, true}
+use Rattle.std.proofs.Common.{◌≡◌, List, ℕ, refl, sym, ◌∙◌, Result, Ok, Err}
 use Rattle.std.specs.Prelude.{IfOk, IfErr, MatchResult}
 use Rattle.script_grammar.specs.declared.fault.FaultKind.{FaultKind}
 use Rattle.script_grammar.specs.declared.fault.FaultKind.TheVariants as kinds
 use Rattle.script_grammar.specs.declared.fault.ScriptFault.{ScriptFault}
 use Rattle.script_grammar.specs.Programs.{Program}
 use Rattle.script_grammar.specs.Grammar.{Spells}
-use Rattle.script_grammar.specs.FirstRunning.{all_run, reading_of_running, Refused}
-use Rattle.script_grammar.proofs.RunningRead.{running-from_Spells, Spells-from_running, Refused-from_running}
+use Rattle.script_grammar.specs.Texts.{reading_of}
+use Rattle.script_grammar.specs.Faulty.{FirstFault}
+use Rattle.script_grammar.proofs.TextsRead.{read-from_Spells, Spells-from_read, first_fault}
 use Rattle.script_reader.specs.declared.script.Script.{Script}
 use Rattle.script_reader.specs.Answers.{Unless, GivesAt}
 use Rattle.script_reader.specs.Scripts.{program_of}
@@ -25,18 +26,14 @@ pub only_memory : (kind : FaultKind) (P : Type 0) → (P → ⊥) → Unless kin
 only_memory kinds.Memory P never u = refl
 only_memory other P never u = absurd (never u)
 
-pub spelled : (r : Result Script ScriptFault) (bytes : List ℕ) → GivesAt program_of r (reading_of_running bytes) → IfOk r (λ script. Spells bytes (program_of script))
-spelled (Ok script) bytes exact = (Spells-from_running bytes (program_of script) exact).0
+pub spelled : (r : Result Script ScriptFault) (bytes : List ℕ) → GivesAt program_of r (reading_of bytes) → IfOk r (λ script. Spells bytes (program_of script))
+spelled (Ok script) bytes exact = Spells-from_read bytes (program_of script) exact
 spelled (Err fault) bytes exact = tt
 
-pub runs : (r : Result Script ScriptFault) (bytes : List ℕ) → GivesAt program_of r (reading_of_running bytes) → IfOk r (λ script. all_run (program_of script) ≡ true)
-runs (Ok script) bytes exact = (Spells-from_running bytes (program_of script) exact).1
-runs (Err fault) bytes exact = tt
+pub complete : (r : Result Script ScriptFault) (bytes : List ℕ) (p : Program) → GivesAt program_of r (reading_of bytes) → Spells bytes p → MatchResult r (λ script. program_of script ≡ p) (λ fault. fault.kind ≡ kinds.Memory)
+complete (Ok script) bytes p exact is = same_ok (program_of script) p (reading_of bytes) exact (read-from_Spells bytes p is)
+complete (Err fault) bytes p exact is = only_memory fault.kind (reading_of bytes ≡ Err fault) (λ bad. not_both p fault (reading_of bytes) (read-from_Spells bytes p is) bad) exact
 
-pub complete : (r : Result Script ScriptFault) (bytes : List ℕ) (p : Program) → GivesAt program_of r (reading_of_running bytes) → Spells bytes p → all_run p ≡ true → MatchResult r (λ script. program_of script ≡ p) (λ fault. fault.kind ≡ kinds.Memory)
-complete (Ok script) bytes p exact is run = same_ok (program_of script) p (reading_of_running bytes) exact (running-from_Spells bytes p is run)
-complete (Err fault) bytes p exact is run = only_memory fault.kind (reading_of_running bytes ≡ Err fault) (λ bad. not_both p fault (reading_of_running bytes) (running-from_Spells bytes p is run) bad) exact
-
-pub refused : (r : Result Script ScriptFault) (bytes : List ℕ) → GivesAt program_of r (reading_of_running bytes) → IfErr r (λ fault. Unless fault.kind (Refused bytes fault))
+pub refused : (r : Result Script ScriptFault) (bytes : List ℕ) → GivesAt program_of r (reading_of bytes) → IfErr r (λ fault. Unless fault.kind (FirstFault bytes fault))
 refused (Ok script) bytes exact = tt
-refused (Err fault) bytes exact = unless_still fault.kind (reading_of_running bytes ≡ Err fault) (Refused bytes fault) (λ bad. Refused-from_running bytes fault bad) exact
+refused (Err fault) bytes exact = unless_still fault.kind (reading_of bytes ≡ Err fault) (FirstFault bytes fault) (λ bad. first_fault bytes fault bad) exact

@@ -1,12 +1,12 @@
 -- Where a text is cut.
-use Rattle.std.proofs.Common.{◌≡◌, ℕ, ◌+◌, ◌-◌, ◌<◌, ◌≤◌, List, [], ◌∷◌, ◌++◌, length, length-drop, Bool, true, false, arith, get_or, take, drop, refl, ap, sym, ◌∙◌, filter, map, Option, Some, None, if◌then◌else◌, append_assoc, append-nil, zero, suc}
+use Rattle.std.proofs.Common.{◌≡◌, ℕ, ◌+◌, ◌-◌, ◌<◌, List, [], ◌∷◌, ◌++◌, length, length-drop, Bool, true, false, arith, get_or, take, drop, refl, ap, sym, ◌∙◌, filter, Option, Some, None, if◌then◌else◌, append_assoc, append-nil, suc}
 use Rattle.std.specs.List.{slice_split, onto_first}
 use Rattle.std.proofs.lemmas.List.{take_all}
 use Rattle.std.proofs.lemmas.List.Splits.{slice_split-cons_no, slice_split_first}
 use Rattle.std.proofs.lemmas.List.Sums.{position_or_len_is}
 use denote.Ref.{Bor}
 use Rattle.std.specs.List.{position_or_len}
-use Rattle.script_grammar.specs.Words.{texts, has_items, begins_comment, before_comment}
+use Rattle.script_grammar.specs.Words.{has_items, begins_comment, before_comment}
 use Rattle.script_reader.specs.Parts.{parts}
 
 -- a text is cut at the first byte that passes

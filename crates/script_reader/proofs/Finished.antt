@@ -1,7 +1,7 @@
 -- The script, after the last line.
-use Rattle.std.proofs.Common.{◌≡◌, ℕ, zero, suc, ◌+◌, ◌*◌, ◌<◌, ◌≤◌, List, [], ◌∷◌, ◌++◌, length, length-append, Bool, true, false, ◌&&◌, nat_le, refl, ap, sym, ◌∙◌, arith, subst, get_or, map, Option, Some, None, Result, Ok, Err, if◌then◌else◌}
-use Rattle.std.specs.Prelude.{◌||◌, is_some, nat_lt}
-use Rattle.std.specs.List.{list_all, list_any}
+use Rattle.std.proofs.Common.{◌≡◌, ℕ, zero, suc, ◌+◌, ◌<◌, ◌≤◌, List, [], ◌∷◌, ◌++◌, length, Bool, true, false, ◌&&◌, nat_le, refl, ap, sym, ◌∙◌, arith, get_or, Some, None, Result, Ok, Err, if◌then◌else◌}
+use Rattle.std.specs.Prelude.{◌||◌, is_some}
+use Rattle.std.specs.List.{list_all}
 use Rattle.std.specs.Str.{bytes_eq}
 use lib.Chars.{codes}
 use Rattle.script_grammar.specs.declared.fault.FaultKind.{FaultKind}
@@ -15,9 +15,9 @@ use Rattle.script_grammar.specs.Places.{place_from}
 use Rattle.script_grammar.specs.Texts.{finish, when_closed}
 use Rattle.script_grammar.specs.WellFormed.{name_given, few_clauses, lines_fit, with_lines, weight_in, weights_from, blocks_fit, whole_load, IsProgram}
 use Rattle.script_grammar.specs.Tags.{block_named, size_in, tags_for, tags_of, spawned, coroutine_count, scope_count}
-use Rattle.script_grammar.proofs.Truths.{both, both_true, le-true, le-from_true}
+use Rattle.script_grammar.proofs.Truths.{both_true, le-true, le-from_true}
 use Rattle.script_grammar.proofs.SizesSoFar.{size_in-light}
-use Rattle.script_grammar.proofs.JobsCounted.{weight_at, whole_load-job_count}
+use Rattle.script_grammar.proofs.JobsCounted.{whole_load-job_count}
 use Rattle.script_grammar.proofs.TextsRead.{finish_again}
 use Rattle.script_grammar.proofs.Layouts.{all_push}
 use Rattle.script_reader.proofs.Tables.{few_coroutines}

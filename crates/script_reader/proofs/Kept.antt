@@ -1,17 +1,16 @@
 -- What each line keeps of the script so far.
-use Rattle.std.proofs.Common.{◌≡◌, ℕ, zero, suc, ◌+◌, ◌*◌, ◌<◌, ◌≤◌, List, [], ◌∷◌, ◌++◌, length, length-append, Bool, true, false, ◌&&◌, nat_lt, nat_le, refl, ap, sym, ◌∙◌, subst, arith, get_or, map, Option, Some, None}
+use Rattle.std.proofs.Common.{◌≡◌, ℕ, zero, suc, ◌+◌, ◌*◌, ◌<◌, ◌≤◌, List, [], ◌∷◌, ◌++◌, length, length-append, true, nat_lt, nat_le, refl, ap, sym, ◌∙◌, subst, arith, get_or, map, Option, Some, None}
 use Rattle.std.specs.Prelude.{option_map}
 use Rattle.std.specs.List.{list_all}
 use Rattle.std.proofs.lemmas.List.{length-map, append-nil}
 use Rattle.std.proofs.Math.Nat.{mul-le-mul_left}
 use Rattle.script_grammar.specs.declared.instructions.Instruction.{Instruction}
 use Rattle.script_grammar.specs.declared.instructions.Instruction.TheVariants.{Launch, Repeat, Each, Scope, End}
-use Rattle.script_grammar.specs.Programs.{Block, block_names, name_of}
+use Rattle.script_grammar.specs.Programs.{Block, block_names}
 use Rattle.script_grammar.specs.Lines.{Names, line_words}
-use Rattle.script_grammar.specs.Blocks.{Open, opened, with_line, product, own_weight, nest_after, after_end, but_first, fits, job_given, listed}
+use Rattle.script_grammar.specs.Blocks.{Open, with_line, product, own_weight, nest_after, after_end, but_first, fits, job_given, listed}
 use Rattle.script_grammar.specs.Reads.{Read, Form, channel_is, coroutine_is, spawn_is, line_is, end_is, start, after, names_for, closed_block, closed_weight}
-use Rattle.script_grammar.specs.Grammar.{is_name, is_fresh, names_job, is_spawn, Says, Within}
-use Rattle.script_grammar.specs.Places.{place_from}
+use Rattle.script_grammar.specs.Grammar.{is_name, names_job, Says, Within}
 use Rattle.script_grammar.proofs.Truths.{both, both_true, lt-true, lt-from_true, le-true, le-from_true}
 use Rattle.script_grammar.proofs.DistinctNames.{fresh_none}
 use Rattle.script_grammar.proofs.Layouts.{all_push}

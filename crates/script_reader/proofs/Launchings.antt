@@ -1,10 +1,10 @@
 -- What lines launch, while they are gone through.
-use Rattle.std.proofs.Common.{◌≡◌, ℕ, zero, suc, ◌+◌, ◌-◌, ◌<◌, ◌≤◌, List, [], ◌∷◌, ◌++◌, length, length-append, length-take, refl, ap, ap₂, sym, ◌∙◌, arith, subst, append_assoc, append-nil, take, drop, Bool, true, false, Option, Some, None}
-use Rattle.std.proofs.lemmas.List.{take-append-drop, take-append-le, drop-append-le, take_all}
+use Rattle.std.proofs.Common.{◌≡◌, ℕ, zero, suc, ◌+◌, ◌≤◌, List, [], ◌∷◌, ◌++◌, length, length-append, length-take, refl, ap, ap₂, sym, ◌∙◌, arith, subst, append_assoc, append-nil, take, drop, true, false, Some, None}
+use Rattle.std.proofs.lemmas.List.{take-append-le, drop-append-le, take_all}
 use Rattle.script_grammar.specs.declared.instructions.Instruction.{Instruction}
 use Rattle.script_grammar.specs.declared.instructions.Instruction.TheVariants.{Launch, Repeat, Each, Scope, Select, End}
 use Rattle.script_grammar.specs.Blocks.{is_end, launch_of}
-use Rattle.script_grammar.specs.Tags.{times_over, closed_all, launched_from, launched}
+use Rattle.script_grammar.specs.Tags.{times_over, launched_from}
 use Rattle.script_reader.specs.declared.launches.Opened.{Opened}
 use Rattle.script_reader.specs.Launching.{turns_opened, launched_since, launched_before, launched_with, AreNested}
 

@@ -10,7 +10,6 @@ mod Launchings
 mod Stacks
 mod Tables
 mod Finished
-mod Stopping
 mod WholeTexts
 mod Answered
 mod Spacing

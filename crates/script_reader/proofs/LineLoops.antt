@@ -1,12 +1,12 @@
 -- The loop over the lines of a text, and the text's end.
-use Rattle.std.proofs.Common.{◌≡◌, ℕ, ◌+◌, ◌-◌, ◌<◌, ◌≤◌, List, [], ◌∷◌, refl, ap, sym, ◌∙◌, subst, arith, Result, Ok, Err, Bool, true, false, if◌then◌else◌, Option, Some, None, length}
+use Rattle.std.proofs.Common.{◌≡◌, ℕ, ◌+◌, ◌≤◌, List, [], ◌∷◌, refl, ap, sym, ◌∙◌, arith, Result, Ok, Err, Bool, true, false, if◌then◌else◌, Option, Some, None, length}
 use Rattle.std.specs.List.{slice_split}
 use denote.Ref.{Bor}
 use Rattle.script_grammar.specs.declared.fault.FaultKind.{FaultKind}
 use Rattle.script_grammar.specs.declared.fault.FaultKind.TheVariants as kinds
 use Rattle.script_grammar.specs.declared.fault.ScriptFault.{ScriptFault}
 use Rattle.script_grammar.specs.Words.{is_line_feed, all_plain, words_of, lines_of, without_last_feed}
-use Rattle.script_grammar.specs.Reads.{Read, start}
+use Rattle.script_grammar.specs.Reads.{Read}
 use Rattle.script_grammar.specs.Faults.{◌>>>◌, in_line}
 use Rattle.script_grammar.specs.Forms.{step}
 use Rattle.script_grammar.specs.Texts.{line_at, lines_from}

@@ -1,17 +1,17 @@
 -- The load of a script, with one line more.
-use Rattle.std.proofs.Common.{◌≡◌, ℕ, zero, suc, ◌+◌, ◌-◌, ◌*◌, ◌<◌, ◌≤◌, List, [], ◌∷◌, ◌++◌, length, length-append, Bool, true, false, nat_lt, nat_le, refl, ap, sym, ◌∙◌, arith, subst, ap₂, append-nil, get_or, Option, Some, None, Result, Ok, Err, if◌then◌else◌}
+use Rattle.std.proofs.Common.{◌≡◌, ℕ, ◌+◌, ◌*◌, ◌<◌, ◌≤◌, List, [], ◌∷◌, ◌++◌, length, Bool, true, false, nat_lt, nat_le, refl, ap, sym, ◌∙◌, arith, subst, ap₂, append-nil, get_or, Option, Some, None, Result, Ok, Err, if◌then◌else◌}
 use Rattle.std.specs.Prelude.{option_map}
 use Rattle.std.specs.List.{list_all}
 use Rattle.std.proofs.lemmas.List.{get_or_append_left}
 use Rattle.script_grammar.specs.declared.fault.FaultKind.{FaultKind}
 use Rattle.script_grammar.specs.declared.fault.FaultKind.TheVariants.{TooMany}
 use Rattle.script_grammar.specs.declared.instructions.Instruction.{Instruction}
-use Rattle.script_grammar.specs.Programs.{Block, Program, places_in}
+use Rattle.script_grammar.specs.Programs.{places_in}
 use Rattle.script_grammar.specs.Blocks.{Open, with_line, nest_after, clauses_after, product, own_weight, is_main}
-use Rattle.script_grammar.specs.Reads.{Read, Form, channel_is, coroutine_is, spawn_is, line_is, end_is, after, load, main_weight, closed_block, closed_weight, closed_main, open_main, spawned_weight}
+use Rattle.script_grammar.specs.Reads.{Read, spawn_is, line_is, end_is, after, load, main_weight, closed_block, closed_weight, closed_main, open_main, spawned_weight}
 use Rattle.script_grammar.specs.Grammar.{Within, IsWithin, FewClauses}
 use Rattle.script_grammar.specs.Places.{at_most}
-use Rattle.script_grammar.specs.Forms.{limited, deep, light, clause_count}
+use Rattle.script_grammar.specs.Forms.{limited, light, clause_count}
 use Rattle.script_grammar.specs.Faults.{◌>>=◌}
 use Rattle.script_grammar.proofs.Truths.{both_true, lt-from_true}
 use Rattle.script_grammar.proofs.PlacesRead.{at_most_again}

@@ -1,14 +1,14 @@
 -- Sizes of blocks, one after the other.
-use Rattle.std.proofs.Common.{◌≡◌, ℕ, ◌+◌, ◌-◌, ◌*◌, ◌<◌, ◌≤◌, List, [], ◌∷◌, ◌++◌, length, length-append, refl, ap, sym, ◌∙◌, arith, subst, map, get_or, take, drop, Option, Some, None}
+use Rattle.std.proofs.Common.{◌≡◌, ℕ, ◌+◌, ◌-◌, ◌*◌, ◌<◌, ◌≤◌, List, [], ◌∷◌, ◌++◌, length, length-append, refl, ap, sym, ◌∙◌, arith, map, get_or, take, drop, Option, Some, None}
 use Rattle.std.proofs.lemmas.List.{map-append, take_all}
 use Rattle.std.proofs.Math.ListN.{get_or-map}
 use Rattle.std.proofs.Math.Seq.{get_or-append_seam}
 use Rattle.script_grammar.specs.declared.instructions.Instruction.{Instruction}
 use Rattle.script_grammar.specs.Programs.{Block}
 use Rattle.script_grammar.specs.Blocks.{product, launch_of}
-use Rattle.script_grammar.specs.Tags.{launched, laid_out, layouts_from, layouts, size_in, sizes_in, nest_with, counted, launches_from}
+use Rattle.script_grammar.specs.Tags.{launched, layouts_from, layouts, size_in, sizes_in, nest_with, counted, launches_from}
 use Rattle.script_grammar.proofs.Layouts.{layout, next_layout, layout-stays, length-layouts_from, length-layouts}
-use Rattle.script_grammar.proofs.LaunchesCounted.{total, total-launched}
+use Rattle.script_grammar.proofs.LaunchesCounted.{total-launched}
 use Rattle.script_grammar.proofs.SizesSoFar.{length-laid_out}
 
 -- the first of a list, and the others

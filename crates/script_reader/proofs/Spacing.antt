@@ -1,8 +1,8 @@
 -- Words and lines that are joined.
-use Rattle.std.proofs.Common.{◌≡◌, ℕ, zero, suc, ◌+◌, List, [], ◌∷◌, ◌++◌, refl, ap, ap₂, sym, ◌∙◌, arith, ◌-◌, ◌<◌, ◌≤◌, length, take, drop, map, get_or, append_assoc, append-nil}
+use Rattle.std.proofs.Common.{◌≡◌, ℕ, zero, suc, List, [], ◌∷◌, ◌++◌, refl, ap, ap₂, sym, ◌∙◌, arith, ◌-◌, ◌<◌, ◌≤◌, length, take, drop, map, get_or, append_assoc, append-nil}
 use Rattle.std.proofs.lemmas.List.{take_all}
 use denote.Ref.{Bor}
-use Rattle.script_grammar.specs.Words.{texts, spaced, indented, unlines}
+use Rattle.script_grammar.specs.Words.{texts, spaced, indented}
 use Rattle.script_grammar.specs.Programs.{channel_names, block_names}
 use Rattle.std.specs.Prelude.{string_bytes}
 use Rattle.script_reader.specs.declared.script.Channel.{Channel}

@@ -1,11 +1,9 @@
 -- The table of tags, made from a stack of blocks that are not yet laid out.
-use Rattle.std.proofs.Common.{◌≡◌, ℕ, ◌-◌, ◌<◌, ◌≤◌, true, nat_lt, List, [], ◌∷◌, ◌++◌, length, Option, Some, None, refl, ap, sym, ◌∙◌, subst, arith, get_or, slice_get, map, append_assoc, append-nil, length-append}
-use Rattle.std.specs.Prelude.{option_map}
-use Rattle.std.proofs.lemmas.Option.{slice_get-map, slice_get_read}
+use Rattle.std.proofs.Common.{◌≡◌, ℕ, ◌-◌, ◌<◌, ◌≤◌, true, nat_lt, List, [], ◌∷◌, ◌++◌, length, Some, refl, ap, sym, ◌∙◌, arith, slice_get, map, append_assoc, append-nil, length-append}
 use Rattle.std.proofs.lemmas.List.{length-map}
 use Rattle.script_reader.specs.declared.script.Coroutine.{Coroutine}
 use Rattle.script_grammar.specs.Programs.{Block}
-use Rattle.script_grammar.specs.Tags.{spawned_by, launched, laid_out, layouts, code_of_block, tags_for}
+use Rattle.script_grammar.specs.Tags.{launched, laid_out, layouts, tags_for}
 use Rattle.script_grammar.specs.Declarations.{launch_back, all_below}
 use Rattle.script_reader.specs.Programs.{block_of}
 use Rattle.script_reader.specs.TagTables.{launched_in}

@@ -1,14 +1,13 @@
 -- The tables of a script, read at a place.
-use Rattle.std.proofs.Common.{◌≡◌, ℕ, zero, suc, ◌+◌, ◌<◌, ◌≤◌, List, [], ◌∷◌, length, Bool, true, false, refl, ap, ap₂, sym, ◌∙◌, arith, subst, get_or, slice_get, drop, map, Option, Some, None, if◌then◌else◌}
+use Rattle.std.proofs.Common.{◌≡◌, ℕ, zero, suc, ◌+◌, ◌<◌, ◌≤◌, List, [], ◌∷◌, length, true, refl, ap, ap₂, sym, ◌∙◌, arith, get_or, slice_get, drop, map, Option, Some, None, if◌then◌else◌}
 use Rattle.std.specs.Prelude.{option_map, unwrap_or, is_some}
 use Rattle.std.proofs.lemmas.Option.{slice_get-map, slice_get_read}
 use Rattle.std.proofs.lemmas.List.{length-map}
 use Rattle.script_grammar.specs.declared.instructions.Instruction.{Instruction}
 use Rattle.script_grammar.specs.Programs.{Block, Program}
-use Rattle.script_grammar.specs.Blocks.{opens_lines}
-use Rattle.script_grammar.specs.WellFormed.{IsProgram, whole_load}
+use Rattle.script_grammar.specs.WellFormed.{IsProgram}
 use Rattle.script_grammar.specs.Nesting.{closing_from, closing_of}
-use Rattle.script_grammar.specs.Tags.{code_of_block, coroutine_count, scope_count, job_count}
+use Rattle.script_grammar.specs.Tags.{code_of_block, coroutine_count}
 use Rattle.script_grammar.proofs.OpenedIsClosed.{program-closes}
 use Rattle.script_grammar.proofs.JobsCounted.{whole_load-job_count}
 use Rattle.script_reader.specs.declared.script.Coroutine.{Coroutine}

@@ -1,21 +1,17 @@
 -- A text, from its lines and its end.
-use Rattle.std.proofs.Common.{◌≡◌, ℕ, ◌≤◌, List, [], refl, ap, sym, ◌∙◌, subst, arith, Result, Ok, Err, Bool, true, false, ◌&&◌, Option, Some, None, length, nat_lt, if◌then◌else◌}
-use Rattle.std.specs.List.{list_all}
+use Rattle.std.proofs.Common.{◌≡◌, ℕ, ◌≤◌, List, [], ap, sym, ◌∙◌, subst, Result, Ok, Err, length, if◌then◌else◌}
 use Rattle.script_grammar.specs.declared.fault.FaultKind.{FaultKind}
 use Rattle.script_grammar.specs.declared.fault.FaultKind.TheVariants as kinds
 use Rattle.script_grammar.specs.declared.fault.ScriptFault.{ScriptFault}
 use Rattle.script_grammar.specs.Words.{lines_of}
 use Rattle.script_grammar.specs.Programs.{Program}
-use Rattle.script_grammar.specs.Reads.{Read, start, program_so_far}
-use Rattle.script_grammar.specs.Grammar.{Spells}
+use Rattle.script_grammar.specs.Reads.{Read, start}
 use Rattle.script_grammar.specs.Faults.{◌>>>◌, in_line}
 use Rattle.script_grammar.specs.Texts.{lines_from, finish, reading_of}
 use Rattle.script_grammar.specs.WellFormed.{weights_from, IsProgram}
-use Rattle.script_grammar.specs.FirstRunning.{channel_runs, block_runs, open_runs, runs_so_far, all_run, first_not_running}
 use Rattle.script_grammar.proofs.Truths.{lt-false}
 use Rattle.script_grammar.proofs.TextsRead.{lines_found, closed_found}
 use Rattle.script_grammar.proofs.SpelledIsProgram.{IsSound, IsSound-start, IsSound-all, IsProgram-from_sound}
-use Rattle.script_reader.specs.Stops.{IsStop, TellsStop}
 
 -- a text that is not too long is read line by line
 short_text : (bytes : List ℕ) → length bytes ≤ 1048576 → reading_of bytes ≡ (lines_from 1 start (lines_of bytes) >>> λ s. in_line (length (lines_of bytes)) (finish s))
@@ -51,20 +47,3 @@ pub lines_program : (bytes : List ℕ) (s : Read) → lines_from 1 start (lines_
 lines_program bytes s ok p done =
     let end = closed_found s p s.current done in
     subst IsProgram end.2 (IsProgram-from_sound s (lines_sound bytes s ok) end.0 end.1)
-
--- ---- lines that run
-
-all_runs : (s : Read) → s.current ≡ None → runs_so_far s ≡ all_run (program_so_far s)
-all_runs s out = ap (λ o. list_all channel_runs s.channels && (list_all block_runs s.blocks && open_runs o)) out ∙ ap (λ b. list_all channel_runs s.channels && b) (with_true (list_all block_runs s.blocks))
-  where
-    with_true : (a : Bool) → (a && true) ≡ a
-    with_true true = refl
-    with_true false = refl
-
-pub stop_told : (bytes : List ℕ) (stop : Option ℕ) (s : Read) (p : Program) → finish s ≡ Ok p → IsStop bytes stop s → TellsStop bytes stop p
-stop_told bytes None s p done is =
-    let end = closed_found s p s.current done in
-    ap all_run (sym end.2) ∙ sym (all_runs s end.0) ∙ is
-stop_told bytes (Some n) s p done is =
-    let end = closed_found s p s.current done in
-    (ap all_run (sym end.2) ∙ sym (all_runs s end.0) ∙ is.0, is.1)

@@ -6,7 +6,6 @@ use Rattle.script_grammar.specs.Blocks.{Open}
 use Rattle.script_grammar.specs.Reads.{Read, Form, load}
 use Rattle.script_grammar.specs.Grammar.{Says, Within}
 use Rattle.script_grammar.specs.Places.{place_from}
-use Rattle.script_grammar.specs.FirstRunning.{runs_so_far}
 use Rattle.script_reader.specs.declared.reading.Reading.{Reading}
 use Rattle.script_reader.specs.Reading.{view}
 
@@ -33,12 +32,11 @@ pub record IsKept (s : Read) : Type 0 where
   pub jobs : WeighsJobs s.current
   pub new : IsNewBlock s.blocks s.current
 
--- the same in memory, with the number of places, the load, and whether all lines run
+-- the same in memory, with the number of places and the load
 pub record Holds (r : Reading) : Type 0 where
   pub kept : IsKept (view r)
   pub places : r.places ≡ places_in (view r).channels
   pub load : r.load ≡ load (view r)
-  pub runs : r.runs ≡ runs_so_far (view r)
 
 -- ---- how many blocks and lines there may be
 

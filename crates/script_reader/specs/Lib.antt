@@ -3,7 +3,6 @@ pub mod Answers
 pub mod Parts
 pub mod Programs
 pub mod Reading
-pub mod Running
 pub mod Limits
 pub mod Holding
 pub mod Entering
@@ -14,6 +13,5 @@ pub mod TagTables
 pub mod Scripts
 pub mod Lines
 pub mod Ending
-pub mod Stops
 pub mod Printing
 pub mod GeneratedText

@@ -1,6 +1,5 @@
 -- Lines written out.
-use Rattle.std.specs.Prelude.{ℕ, List, [], ◌∷◌, map, Option, Some, None}
-use denote.Ref.{Bor}
+use Rattle.std.specs.Prelude.{ℕ, List, [], ◌∷◌, map}
 use Rattle.script_grammar.specs.Words.{indented, unlines}
 use Rattle.script_grammar.specs.Lines.{Names}
 use Rattle.script_grammar.specs.Programs.{channel_names, block_names}

@@ -24,7 +24,6 @@ pub(crate) fn empty(alloc: Global) -> Reading
     ensures view { view result ≡ start }
     ensures places { result.places ≡ 0 }
     ensures load { result.load ≡ 0 }
-    ensures runs { result.runs ≡ true }
 {
     Reading {
         channels: Indexed::new(alloc),
@@ -34,7 +33,6 @@ pub(crate) fn empty(alloc: Global) -> Reading
         weights: Vec::new(alloc),
         current: None,
         load: 0,
-        runs: true,
     }
 }
 

@@ -83,7 +83,6 @@ pub(crate) fn finished(alloc: Global, reading: Reading) -> Result<Script, FaultK
         weights: _,
         current: _,
         load,
-        runs: _,
     } = reading;
     let Indexed {
         items: channels,

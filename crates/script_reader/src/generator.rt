@@ -10,7 +10,7 @@ ghost use Rattle.script_reader.specs.GeneratedText.{others_text};
 ghost use Rattle.script_reader.specs.Scripts.{program_of};
 
 use crate::lines_out::decimal;
-use crate::reader::read_any;
+use crate::reader::read;
 use crate::script::Script;
 use script_grammar::FaultKind;
 use std::alloc::{AllocError, Global};
@@ -103,8 +103,8 @@ pub fn generate(alloc: Global, n: u32) -> Result<Script, AllocError>
     ensures read { IfOk result (λ script. reading_of (generated_text n) ≡ Ok (program_of script)) }
 {
     let text = text_for(alloc, n)?;
-    match read_any(alloc, &text) {
-        Ok((script, _)) => Ok(script),
+    match read(alloc, &text) {
+        Ok(script) => Ok(script),
         Err(fault) => match fault.kind {
             FaultKind::Memory => Err(AllocError),
             _ => unreachable!(),

@@ -20,7 +20,6 @@
 //! - `outside`: the form of each line outside coroutines, and of any line.
 //! - `limits`: the limits, and the totals that a line leads to.
 //! - `nesting`, `enter`: what a line adds to the script so far.
-//! - `running`: which lines run yet.
 //! - `text`: all lines of a text.
 //! - `closings`, `launches`, `sizes`, `tags`: the tables of a script.
 //! - `finish`: the script, after the last line.
@@ -52,7 +51,6 @@ mod printed_lines;
 mod printer;
 mod reader;
 mod reading;
-mod running;
 mod script;
 mod sizes;
 mod tags;

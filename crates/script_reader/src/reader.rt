@@ -1,13 +1,12 @@
 //! The script of a text.
 
-ghost use Rattle.std.specs.Prelude.{◌≡◌, ◌≤◌, true, length, IfOk, IfErr, MatchResult};
+ghost use Rattle.std.specs.Prelude.{◌≡◌, ◌≤◌, length, IfOk, IfErr, MatchResult};
 ghost use Rattle.script_grammar.specs.declared.fault.FaultKind.TheVariants.{Memory};
 ghost use Rattle.script_grammar.specs.Programs.{Program};
 ghost use Rattle.script_grammar.specs.Grammar.{Spells};
 ghost use Rattle.script_grammar.specs.Texts.{reading_of};
-ghost use Rattle.script_grammar.specs.FirstRunning.{all_run, reading_of_running, Refused};
+ghost use Rattle.script_grammar.specs.Faulty.{FirstFault};
 ghost use Rattle.script_reader.specs.Answers.{Unless, GivesAt};
-ghost use Rattle.script_reader.specs.Stops.{TellsStop};
 ghost use Rattle.script_reader.specs.Scripts.{program_of};
 
 use crate::finish::finished;
@@ -20,21 +19,16 @@ use std::alloc::Global;
 const MOST_BYTES: usize = 1_048_576;
 
 /// Reads a text that is not too long.
-fn read_short(alloc: Global, bytes: &[u8]) -> Result<(Script, Option<u32>), ScriptFault>
+fn read_short(alloc: Global, bytes: &[u8]) -> Result<Script, ScriptFault>
     requires { length bytes.now ≤ 1048576 }
-    ensures given { GivesAt (λ x. program_of x.0) result (reading_of bytes.now) }
-    ensures stop { IfOk result (λ x. TellsStop bytes.now x.1 (program_of x.0)) }
+    ensures { GivesAt program_of result (reading_of bytes.now) }
 {
-    let Whole {
-        reading,
-        lines,
-        stop,
-    } = match lines_in(alloc, bytes) {
+    let Whole { reading, lines } = match lines_in(alloc, bytes) {
         Ok(whole) => whole,
         Err(fault) => return Err(fault),
     };
     match finished(alloc, reading) {
-        Ok(script) => Ok((script, stop)),
+        Ok(script) => Ok(script),
         Err(kind) => Err(ScriptFault { line: lines, kind }),
     }
 }
@@ -54,11 +48,10 @@ fn told(fault: ScriptFault) -> ScriptFault
     }
 }
 
-/// Reads a script, and finds the first of its lines that does not run, if there is one.
+/// The script of a text, or its fault.
 #[tactic(auto, unfolding(script_grammar::specs::Texts::reading_of))]
-pub(crate) fn read_any(alloc: Global, bytes: &[u8]) -> Result<(Script, Option<u32>), ScriptFault>
-    ensures given { GivesAt (λ x. program_of x.0) result (reading_of bytes.now) }
-    ensures stop { IfOk result (λ x. TellsStop bytes.now x.1 (program_of x.0)) }
+fn read_or_fault(alloc: Global, bytes: &[u8]) -> Result<Script, ScriptFault>
+    ensures exact { GivesAt program_of result (reading_of bytes.now) }
     ensures memory { IfErr result (λ fault. fault.kind ≡ Memory → fault.line ≡ 0) }
 {
     if bytes.len() > MOST_BYTES {
@@ -68,38 +61,21 @@ pub(crate) fn read_any(alloc: Global, bytes: &[u8]) -> Result<(Script, Option<u3
         });
     }
     match read_short(alloc, bytes) {
-        Ok(read) => Ok(read),
+        Ok(script) => Ok(script),
         Err(fault) => Err(told(fault)),
-    }
-}
-
-/// The script of a text all of whose lines run, or its fault.
-#[tactic(auto, unfolding(script_grammar::specs::FirstRunning::reading_of_running))]
-fn read_or_fault(alloc: Global, bytes: &[u8]) -> Result<Script, ScriptFault>
-    ensures exact { GivesAt program_of result (reading_of_running bytes.now) }
-    ensures memory { IfErr result (λ fault. fault.kind ≡ Memory → fault.line ≡ 0) }
-{
-    match read_any(alloc, bytes) {
-        Ok((script, None)) => Ok(script),
-        Ok((_, Some(line))) => Err(ScriptFault {
-            line,
-            kind: FaultKind::UnknownWord,
-        }),
-        Err(fault) => Err(fault),
     }
 }
 
 /// Reads a script.
 ///
 /// A text of more than 1,048,576 bytes is `line 1: TooMany`. Where a text has several faults, that of the first faulty line
-/// is told. A script without fault that has a line which does not run yet is refused, as if the first word of this line were
-/// unknown. Where memory runs out, the line is 0.
+/// is told. Where memory runs out, the line is 0.
 pub fn read(alloc: Global, bytes: &[u8]) -> Result<Script, ScriptFault>
-    ensures exact { GivesAt program_of result (reading_of_running bytes.now) }
+    ensures exact { GivesAt program_of result (reading_of bytes.now) }
     ensures spelled { IfOk result (λ script. Spells bytes.now (program_of script)) }
-    ensures runs { IfOk result (λ script. all_run (program_of script) ≡ true) }
-    ensures complete { (p : Program) → Spells bytes.now p → all_run p ≡ true → MatchResult result (λ script. program_of script ≡ p) (λ fault. fault.kind ≡ Memory) }
-    ensures refused { IfErr result (λ fault. Unless fault.kind (Refused bytes.now fault)) }
+    ensures complete { (p : Program) → Spells bytes.now p
+        → MatchResult result (λ script. program_of script ≡ p) (λ fault. fault.kind ≡ Memory) }
+    ensures refused { IfErr result (λ fault. Unless fault.kind (FirstFault bytes.now fault)) }
     ensures memory { IfErr result (λ fault. fault.kind ≡ Memory → fault.line ≡ 0) }
 {
     read_or_fault(alloc, bytes)
@@ -119,8 +95,7 @@ mod tests {
 
     #[test]
     fn a_script_of_every_line_is_printed_as_it_was(rt: HostRuntime) -> Result<(), Fail> {
-        let (script, stop) = read_any(rt.alloc(), EVERY_LINE)?;
-        assert_eq!(rt; stop, Some(2));
+        let script = read(rt.alloc(), EVERY_LINE)?;
         let text = print(rt.alloc(), &script)?;
         assert_eq!(rt; text.as_slice(), EVERY_LINE);
         assert_eq!(rt; script.blocks().len(), 3);

@@ -32,6 +32,4 @@ pub(crate) struct Reading {
     pub(crate) current: Option<OpenBlock>,
     /// The weight of main so far, and of all instances of the spawns.
     pub(crate) load: u32,
-    /// Whether all lines so far run.
-    pub(crate) runs: bool,
 }

@@ -5,7 +5,7 @@ ghost use Rattle.std.specs.Prelude.{◌≡◌, ◌<◌, nat_le, length, map, sli
 ghost use Rattle.std.specs.List.{list_all};
 ghost use Rattle.script_grammar.specs.WellFormed.{IsProgram};
 ghost use Rattle.script_grammar.specs.Nesting.{closing_of};
-ghost use Rattle.script_grammar.specs.Tags.{tags_of, size_of, sizes_in, block_of_tag, coroutine_count, scope_count};
+ghost use Rattle.script_grammar.specs.Tags.{tags_of, size_of, sizes_in, block_of_tag, coroutine_count, scope_count, job_count};
 ghost use Rattle.script_reader.specs.Programs.{program_from, declared_of, block_of, spawn_of};
 ghost use Rattle.script_reader.specs.Closings.{closing_places};
 ghost use Rattle.script_reader.specs.Lines.{block_code, does_open};
@@ -118,11 +118,18 @@ impl Script {
         self.tags.len() as u16
     }
 
-    /// How many scopes may be entered. Their Jobs and those of the coroutines are at most 16,000 together.
+    /// How many scopes may be entered.
     pub fn scopes(&self) -> u16
         ensures { result ≡ scope_count (program_of self.now) }
     {
         self.scopes
+    }
+
+    /// How many Jobs there may be: a Job for each coroutine that may run and for each scope that may be entered.
+    pub fn jobs(&self) -> u16
+        ensures { result ≡ job_count (program_of self.now) }
+    {
+        self.coroutines() + self.scopes()
     }
 
     /// The coroutine, by its place among the blocks, whose lines the tag runs.

@@ -1,6 +1,6 @@
 //! All lines of a text.
 
-ghost use Rattle.std.specs.Prelude.{◌≡◌, ◌+◌, ◌≤◌, ◌&&◌, OnOk, IfOk, Ok, length};
+ghost use Rattle.std.specs.Prelude.{◌≡◌, ◌+◌, ◌≤◌, OnOk, IfOk, Ok, length};
 ghost use Rattle.script_grammar.specs.Words.{texts, lines_of};
 ghost use Rattle.script_grammar.specs.Programs.{Program};
 ghost use Rattle.script_grammar.specs.Reads.{start};
@@ -8,27 +8,16 @@ ghost use Rattle.script_grammar.specs.WellFormed.{IsProgram};
 ghost use Rattle.script_grammar.specs.Forms.{step};
 ghost use Rattle.script_grammar.specs.Texts.{line_at, lines_from, finish, reading_of};
 ghost use Rattle.script_reader.specs.Answers.{Gives, Leaves, GivesAt};
-ghost use Rattle.script_reader.specs.Reading.{view, said};
-ghost use Rattle.script_reader.specs.Running.{form_runs};
+ghost use Rattle.script_reader.specs.Reading.{view};
 ghost use Rattle.script_reader.specs.Holding.{Holds, cost};
-ghost use Rattle.script_reader.specs.Stops.{stop_after, IsStop};
 
 use crate::enter::{empty, enter};
-use crate::form::Spoken;
 use crate::limits::totals_after;
 use crate::outside::form_of;
 use crate::reading::Reading;
-use crate::running::form_runs;
 use crate::words::{every_plain, fill_words, first_line, trimmed};
 use script_grammar::{FaultKind, ScriptFault};
 use std::alloc::Global;
-
-/// Whether all lines run, with one line more.
-fn runs_after(reading: &Reading, form: &Spoken<'_>) -> bool
-    ensures { result ≡ (form_runs (said form.now) && reading.now.runs) }
-{
-    form_runs(form) && reading.runs
-}
 
 /// Reads the words of one line.
 #[tactic(auto, unfolding(script_grammar::specs::Forms::step))]
@@ -43,11 +32,9 @@ fn words_in(alloc: Global, reading: &mut Reading, words: &[&[u8]]) -> Result<(),
     };
     let form = form_of(reading, *word, rest)?;
     let totals = totals_after(reading, &form)?;
-    let runs = runs_after(reading, &form);
     enter(alloc, reading, form, totals.weight)?;
     reading.places = totals.places;
     reading.load = totals.load;
-    reading.runs = runs;
     Ok(())
 }
 
@@ -77,18 +64,6 @@ pub(crate) struct Whole {
     pub(crate) reading: Reading,
     /// How many lines there are.
     pub(crate) lines: u32,
-    /// The first line that does not run, if there is one.
-    pub(crate) stop: Option<u32>,
-}
-
-/// The first line that does not run, with one line more, of this number.
-fn stop_after(stop: Option<u32>, number: u32, runs: bool) -> Option<u32>
-    ensures { result ≡ stop_after stop number runs }
-{
-    match stop {
-        Some(line) => Some(line),
-        None => { if runs { None } else { Some(number) } }
-    }
 }
 
 /// Reads all lines of a text.
@@ -98,24 +73,20 @@ pub(crate) fn lines_in(alloc: Global, bytes: &[u8]) -> Result<Whole, ScriptFault
     ensures holds { IfOk result (λ whole. Holds whole.reading) }
     ensures short { IfOk result (λ whole. cost (view whole.reading) ≤ 1048577) }
     ensures count { IfOk result (λ whole. whole.lines ≡ length (lines_of bytes.now)) }
-    ensures stop { IfOk result (λ whole. IsStop bytes.now whole.stop (view whole.reading)) }
 {
     let mut reading = empty(alloc);
     let mut words = Vec::new(alloc);
     let mut number = 1u32;
-    let mut stop = None;
     let mut rest = trimmed(bytes);
     'lines: loop {
         let (line, more) = first_line(rest);
         if let Err(kind) = line_in(alloc, &mut reading, &mut words, line) {
             return Err(ScriptFault { line: number, kind });
         }
-        stop = stop_after(stop, number, reading.runs);
         let Some(next) = more else {
             return Ok(Whole {
                 reading,
                 lines: number,
-                stop,
             });
         };
         number += 1;

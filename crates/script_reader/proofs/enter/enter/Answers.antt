@@ -1,9 +1,9 @@
-use Rattle.std.proofs.Common.{◌≡◌, Result, Ok, Err, OnOk, ap, sym, ◌∙◌, refl, List, ℕ, Option}
+use Rattle.std.proofs.Common.{◌≡◌, Result, Ok, Err, OnOk, ap, sym, ◌∙◌, Option}
 use Rattle.std.specs.Prelude.{option_map}
 use Rattle.script_grammar.specs.Blocks.{Open, with_line}
-use Rattle.script_grammar.specs.Reads.{Read, Form, line_is, after}
+use Rattle.script_grammar.specs.Reads.{Read, line_is, after}
 use Rattle.script_reader.specs.Limits.{open_weight}
-use Rattle.script_reader.specs.Reading.{view, said, open_of, name_in}
+use Rattle.script_reader.specs.Reading.{view, said, name_in}
 use Rattle.script_reader.proofs.enter.enter.Goals as goal
 
 on_ok : {A E : Type 0} (r : Result A E) (P Q : Type 0) → (P → Q) → OnOk r P → OnOk r Q

@@ -1,4 +1,4 @@
-use Rattle.std.proofs.Common.{◌≡◌, arith, ap, sym, ◌∙◌, true, nat_le, length, List}
+use Rattle.std.proofs.Common.{arith, ◌∙◌}
 use Rattle.script_grammar.specs.Reads.{program_so_far}
 use Rattle.script_reader.specs.Reading.{view}
 use Rattle.script_reader.proofs.Kept.{short_code}

@@ -1,4 +1,4 @@
-use Rattle.std.proofs.Common.{◌≡◌, ap, sym, ◌∙◌, Some, None, rules}
+use Rattle.std.proofs.Common.{◌≡◌, ap, sym, ◌∙◌, None, rules}
 use lib.Chars.{codes}
 use Rattle.script_grammar.specs.Tags.{block_named}
 use Rattle.script_grammar.specs.Places.{place_from}

@@ -1,7 +1,6 @@
-use Rattle.std.proofs.Common.{◌≡◌, ℕ, ◌+◌, ◌-◌, ◌<◌, ◌≤◌, arith, ap, ap₂, sym, ◌∙◌, subst, length, map, rules, List, Some, true}
+use Rattle.std.proofs.Common.{◌≡◌, ℕ, ◌-◌, ◌<◌, ◌≤◌, arith, ap, ap₂, sym, ◌∙◌, subst, length, map, List, Some}
 use Rattle.std.proofs.lemmas.List.{length-map}
-use Rattle.script_grammar.specs.Programs.{Block}
-use Rattle.script_grammar.specs.Tags.{size_in, sizes_in, spawned_by, tags_for, tags_of, coroutine_count}
+use Rattle.script_grammar.specs.Tags.{size_in, sizes_in, spawned_by, tags_for, tags_of}
 use Rattle.script_grammar.specs.Declarations.{launch_back, all_below}
 use Rattle.script_grammar.proofs.NamedIsDeclared.{Declares-from_program}
 use Rattle.script_grammar.proofs.Layouts.{block_named-within}

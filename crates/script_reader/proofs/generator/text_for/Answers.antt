@@ -1,10 +1,10 @@
-use Rattle.std.proofs.Common.{◌≡◌, ℕ, ◌+◌, ◌*◌, ◌++◌, ◌∷◌, [], List, ap, ap₂, sym, ◌∙◌, append_assoc, rules, arith}
+use Rattle.std.proofs.Common.{◌≡◌, ℕ, ◌++◌, ◌∷◌, [], List, ap, sym, ◌∙◌, rules, arith}
 use Rattle.std.specs.List.{concat}
 use Rattle.std.specs.Fmt.{decimal}
 use Rattle.std.proofs.lemmas.List.Folds.{concat-append}
 use Rattle.std.proofs.lemmas.Fmt.{decimal_digit}
 use lib.Chars.{codes}
-use Rattle.script_grammar.specs.Generated.{places_for, generated_text, sender_text}
+use Rattle.script_grammar.specs.Generated.{places_for, generated_text}
 use Rattle.script_reader.specs.GeneratedText.{others_text}
 use Rattle.script_reader.proofs.generator.text_for.Goals as goal
 

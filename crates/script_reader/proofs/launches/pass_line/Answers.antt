@@ -1,4 +1,4 @@
-use Rattle.std.proofs.Common.{◌≡◌, ◌++◌, ◌∷◌, [], rules, ap, sym, ◌∙◌, length, subst}
+use Rattle.std.proofs.Common.{◌≡◌, ◌++◌, ◌∷◌, [], rules, sym, length, subst}
 use Rattle.script_reader.specs.Launching.{AreNested}
 use Rattle.script_reader.proofs.Launchings.{nested-append}
 use Rattle.script_reader.proofs.launches.pass_line.Goals as goal

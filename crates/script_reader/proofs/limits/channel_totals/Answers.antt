@@ -1,6 +1,6 @@
-use Rattle.std.proofs.Common.{arith, refl, sym, ◌∙◌, ap, ◌++◌, ◌∷◌, [], ◌≡◌, ◌+◌, ◌≤◌, length, length-append, map, rules}
+use Rattle.std.proofs.Common.{arith, ◌++◌, ◌∷◌, [], ◌≡◌, ◌+◌, length-append}
 use Rattle.std.proofs.lemmas.List.{length-map}
-use Rattle.script_grammar.specs.Programs.{Declared, places_in}
+use Rattle.script_grammar.specs.Programs.{places_in}
 use Rattle.script_grammar.specs.Reads.{channel_is, after}
 use Rattle.script_grammar.proofs.SpelledIsProgram.{places_in-push}
 use Rattle.script_reader.specs.Programs.{declared_of}

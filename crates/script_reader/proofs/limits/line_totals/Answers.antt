@@ -1,7 +1,6 @@
-use Rattle.std.proofs.Common.{arith, ◌≡◌, ◌+◌, ◌-◌, ◌*◌, ◌≤◌, length, ap, refl, sym, ◌∙◌, rules, ℕ, List, Vec, Global, Option, Some, None}
+use Rattle.std.proofs.Common.{arith, ◌≡◌, ◌+◌, ◌-◌, ◌*◌, length, ap, refl, ◌∙◌, ℕ, Vec, Global, Option, Some, None}
 use Rattle.std.specs.Prelude.{is_some, option_map}
-use Rattle.script_grammar.specs.Blocks.{product, own_weight, nest_after, clauses_after}
-use Rattle.script_grammar.specs.Forms.{clause_count}
+use Rattle.script_grammar.specs.Blocks.{product, own_weight, nest_after}
 use Rattle.script_grammar.specs.Reads.{main_weight}
 use Rattle.script_reader.specs.Reading.{view, open_of}
 use Rattle.script_reader.proofs.Loads.{limited-line}

@@ -1,4 +1,4 @@
-use Rattle.std.proofs.Common.{arith, ◌≡◌, ◌+◌, ◌*◌, ap, get_or, sym, ◌∙◌}
+use Rattle.std.proofs.Common.{arith, ◌≡◌, ◌+◌, ◌*◌, ap, get_or, ◌∙◌}
 use Rattle.script_grammar.specs.Reads.{spawn_is, after, load}
 use Rattle.script_reader.specs.Reading.{view}
 use Rattle.script_reader.proofs.Loads.{limited-load, load-spawn}

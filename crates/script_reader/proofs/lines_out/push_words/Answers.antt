@@ -1,4 +1,4 @@
-use Rattle.std.proofs.Common.{◌≡◌, ◌++◌, rules, get_or, [], List, ℕ}
+use Rattle.std.proofs.Common.{rules, [], List, ℕ}
 use denote.Ref.{Bor}
 use Rattle.script_reader.proofs.Spacing.{spaced-first}
 use Rattle.script_reader.proofs.lines_out.push_words.Goals as goal

@@ -1,8 +1,8 @@
-use Rattle.std.proofs.Common.{◌≡◌, ◌++◌, append_assoc, [], ap, ap₂, sym, ◌∙◌, List, ℕ, map, length, ◌≤◌, subst, true, rules, nat_le, Ok}
+use Rattle.std.proofs.Common.{◌≡◌, ◌++◌, append_assoc, [], ap, ap₂, sym, ◌∙◌, List, ℕ, map, length, ◌≤◌, subst, true, rules, nat_le}
 use Rattle.std.specs.List.{list_all}
 use Rattle.script_grammar.specs.Programs.{channel_names, block_names, name_of}
 use Rattle.script_grammar.specs.Lines.{channel_words, spawn_words}
-use Rattle.script_grammar.specs.Canonical.{flat, deep_blocks, canonical_text}
+use Rattle.script_grammar.specs.Canonical.{flat, deep_blocks}
 use Rattle.script_grammar.proofs.SpelledIsProgram.{read-canonical_text}
 use Rattle.script_reader.specs.declared.script.Channel.{Channel}
 use Rattle.script_reader.specs.declared.script.Coroutine.{Coroutine}

@@ -1,8 +1,8 @@
-use Rattle.std.proofs.Common.{◌≡◌, ◌++◌, ◌∷◌, [], ap, ap₂, sym, ◌∙◌, List, ℕ, map, string_bytes, String, Global}
+use Rattle.std.proofs.Common.{◌≡◌, ◌++◌, ◌∷◌, [], ap, ap₂, ◌∙◌, List, ℕ, map, string_bytes, String, Global}
 use lib.Chars.{codes}
 use Rattle.script_grammar.specs.declared.instructions.Instruction.{Instruction}
 use Rattle.script_grammar.specs.Programs.{channel_names, block_names}
-use Rattle.script_grammar.specs.Lines.{Names, coroutine_words}
+use Rattle.script_grammar.specs.Lines.{coroutine_words}
 use Rattle.script_grammar.specs.Canonical.{code_lines}
 use Rattle.script_reader.specs.Programs.{declared_of, block_of}
 use Rattle.script_reader.specs.Printing.{text_of}

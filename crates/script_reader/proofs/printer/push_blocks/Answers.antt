@@ -1,4 +1,4 @@
-use Rattle.std.proofs.Common.{◌≡◌, ◌-◌, ◌++◌, ◌∷◌, [], ap, sym, ◌∙◌, List, ℕ, map, length, take, drop, true, nat_le}
+use Rattle.std.proofs.Common.{◌≡◌, ◌-◌, ◌++◌, ◌∷◌, ap, sym, ◌∙◌, map, length, take, drop, nat_le}
 use Rattle.std.specs.List.{list_all}
 use Rattle.script_grammar.specs.Programs.{channel_names, block_names}
 use Rattle.script_grammar.specs.Canonical.{deep_block, deep_blocks}

@@ -1,4 +1,4 @@
-use Rattle.std.proofs.Common.{◌≡◌, ℕ, ◌+◌, ◌-◌, ◌≤◌, ◌∷◌, ◌++◌, [], List, arith, ap, sym, ◌∙◌, subst, length, get_or, take, drop, map, rules}
+use Rattle.std.proofs.Common.{◌≡◌, ◌+◌, ◌-◌, ◌≤◌, ◌∷◌, ◌++◌, [], arith, ap, sym, ◌∙◌, length, get_or, take, drop, map, rules}
 use Rattle.std.proofs.lemmas.List.{length-map}
 use Rattle.script_grammar.specs.Tags.{launches_from, layouts_from, layouts}
 use Rattle.script_grammar.proofs.Layouts.{next_layout}

@@ -1,4 +1,4 @@
-use Rattle.std.proofs.Common.{Some, ◌≡◌, ◌∷◌, ◌++◌, [], ℕ, length, map, reverse, rules, ap, ◌∙◌}
+use Rattle.std.proofs.Common.{Some, ◌≡◌, ◌∷◌, ◌++◌, [], map, reverse, rules, ap, ◌∙◌}
 use Rattle.std.proofs.lemmas.List.{reverse-append}
 use Rattle.script_grammar.specs.Tags.{spawned_by, tags_for}
 use Rattle.script_reader.specs.Programs.{block_of, spawn_of}

@@ -1,12 +1,9 @@
-use Rattle.std.proofs.Common.{arith, sym, ap, ◌∙◌, ◌≡◌, ◌+◌, length, subst, refl, ℕ, List}
+use Rattle.std.proofs.Common.{arith, sym, ap, ◌∙◌, length, subst, ℕ, List}
 use Rattle.std.specs.List.{slice_split}
-use Rattle.script_grammar.specs.Words.{is_line_feed, lines_of, without_last_feed}
+use Rattle.script_grammar.specs.Words.{is_line_feed, lines_of}
 use Rattle.script_grammar.specs.Programs.{places_in}
 use Rattle.script_grammar.specs.Reads.{start, load}
 use Rattle.script_grammar.specs.Texts.{lines_from}
-use Rattle.script_grammar.specs.FirstRunning.{runs_so_far, first_not_running}
-use Rattle.script_reader.proofs.Stopping.{StopsAt, stops_more, stops_end}
-use Rattle.script_reader.specs.Stops.{IsStop}
 use Rattle.script_reader.specs.Reading.{view}
 use Rattle.script_reader.specs.Holding.{IsKept, cost}
 use Rattle.script_reader.proofs.Kept.{IsKept-start}
@@ -25,9 +22,7 @@ lines-init c =
         kept = subst IsKept (sym empty.view) IsKept-start;
         places = empty.places ∙ ap (λ s. places_in s.channels) (sym empty.view);
         load = empty.load ∙ ap load (sym empty.view);
-        runs = empty.runs ∙ ap runs_so_far (sym empty.view);
       };
-      stop = (ap runs_so_far empty.view, ap (λ s. first_not_running 1 s (slice_split is_line_feed c.trimmed-rest.result.now)) empty.view ∙ ap (λ (l : List ℕ). first_not_running 1 start (slice_split is_line_feed l)) text);
       short = omega (arith, c.requires, ap cost empty.view, ap length text, length-without_last_feed c.args.bytes.now);
     }
 
@@ -47,12 +42,6 @@ returns-in_default-more-clause-short c =
     let last = rw c.in_default-more.is at c.first_line.ensures.last in
     omega (arith, c.lines.invariant.short, last, line_cost (view c.lines.reading) (view c.line_in.new.reading) _ c.in_default.ensures.left)
 
-pub returns-in_default-more-clause-stop : goal.returns-in_default-more-clause-stop
-returns-in_default-more-clause-stop c =
-    let cut = rw c.in_default-more.is at c.first_line.ensures.cut in
-    let last = stops_end c.args.bytes.now c.lines.stop c.lines.number (view c.lines.reading) (view c.line_in.new.reading) c.lines.rest.now _ c.line_in.new.reading.runs c.lines.invariant.stop cut c.in_default.ensures.left c.in_default.ensures.holds.runs in
-    subst (λ o. IsStop c.args.bytes.now o (view c.line_in.new.reading)) (sym c.stop_after-stop.ensures) last
-
 pub overflow_add-number : goal.overflow_add-number
 overflow_add-number c =
     let cut = rw c.in-Some.is at c.first_line.ensures.cut in
@@ -68,7 +57,5 @@ lines-preserved c =
       says = lines_more c.lines.number (view c.lines.reading) (view c.line_in.new.reading) c.lines.rest.now _ c.in-Some.next _ c.lines.invariant.says cut ok;
       count = counted_more c.lines.number c.lines.rest.now _ c.in-Some.next (length (lines_of c.args.bytes.now)) c.lines.invariant.count cut;
       holds = c.in_default.ensures.holds;
-      stop = subst (λ o. StopsAt (first_not_running 1 start (lines_of c.args.bytes.now)) o (c.lines.number + 1) (view c.line_in.new.reading) (slice_split is_line_feed c.in-Some.next.now)) (sym c.stop_after-stop.ensures)
-          (stops_more _ c.lines.stop c.lines.number (view c.lines.reading) (view c.line_in.new.reading) c.lines.rest.now _ c.in-Some.next c.line_in.new.reading.runs c.lines.invariant.stop cut ok c.in_default.ensures.holds.runs);
       short = omega (arith, c.lines.invariant.short, less, line_cost (view c.lines.reading) (view c.line_in.new.reading) _ ok);
     }

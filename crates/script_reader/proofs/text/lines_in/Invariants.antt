@@ -4,8 +4,6 @@ use Rattle.script_grammar.specs.Words.{is_line_feed, lines_of}
 use Rattle.script_grammar.specs.Reads.{start}
 use Rattle.script_grammar.specs.Texts.{lines_from}
 use Rattle.script_reader.specs.Reading.{view}
-use Rattle.script_grammar.specs.FirstRunning.{first_not_running}
-use Rattle.script_reader.proofs.Stopping.{StopsAt}
 use Rattle.script_reader.specs.Holding.{Holds, cost}
 use Rattle.script_reader.proofs.text.lines_in.Given as goal
 
@@ -14,7 +12,6 @@ invariant-lines l = record {
   says : lines_from l.number (view l.reading) (slice_split is_line_feed l.rest) ≡ lines_from 1 start (lines_of l.bytes);
   count : l.number + length (slice_split is_line_feed l.rest) ≡ length (lines_of l.bytes) + 1;
   holds : Holds l.reading;
-  stop : StopsAt (first_not_running 1 start (lines_of l.bytes)) l.stop l.number (view l.reading) (slice_split is_line_feed l.rest);
   short : cost (view l.reading) + length l.rest ≤ 1048576;
 }
 

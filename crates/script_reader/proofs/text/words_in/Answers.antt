@@ -1,12 +1,9 @@
-use Rattle.std.proofs.Common.{◌≡◌, ◌&&◌, ap, sym, ◌∙◌, refl, subst}
+use Rattle.std.proofs.Common.{◌≡◌, ap, sym, ◌∙◌, refl, subst}
 use Rattle.script_grammar.specs.Programs.{places_in}
 use Rattle.script_grammar.specs.Reads.{after, load}
 use Rattle.script_grammar.proofs.FormsSpelled.{form_found}
 use Rattle.script_reader.specs.Reading.{view, said}
-use Rattle.script_grammar.specs.FirstRunning.{runs_so_far}
-use Rattle.script_reader.specs.Running.{form_runs}
 use Rattle.script_reader.specs.Holding.{IsKept}
-use Rattle.script_reader.proofs.Stopping.{runs-after}
 use Rattle.script_reader.proofs.Kept.{IsKept-after, CanEnter-from_Says}
 use Rattle.script_reader.proofs.text.words_in.Goals as goal
 
@@ -31,5 +28,4 @@ returns-clause-holds c =
       kept = subst IsKept (sym is) (IsKept-after s _ f c.requires.holds.kept says totals.within);
       places = totals.places ∙ ap (λ t. places_in t.channels) (sym is);
       load = totals.load ∙ ap load (sym is);
-      runs = c.runs_after-runs.ensures ∙ ap (λ b. form_runs f && b) c.requires.holds.runs ∙ sym (runs-after s _ f says) ∙ ap runs_so_far (sym is);
     }

@@ -1,4 +1,4 @@
-use Rattle.std.proofs.Common.{arith, ap, length, ◌≡◌, ℕ, Vec, Global, List, get_or, ◌∙◌}
+use Rattle.std.proofs.Common.{arith, ◌≡◌, ℕ, Vec, Global}
 use Rattle.std.proofs.lemmas.List.{get_or_read}
 use Rattle.script_reader.specs.Scripts.{program_of}
 use Rattle.script_reader.specs.Closings.{closing_places}

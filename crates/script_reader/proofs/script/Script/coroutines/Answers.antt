@@ -1,4 +1,4 @@
-use Rattle.std.proofs.Common.{arith, ap, length, rules}
+use Rattle.std.proofs.Common.{arith, ap, length}
 use Rattle.script_reader.specs.Scripts.{program_of}
 use Rattle.script_reader.proofs.Tables.{few_coroutines}
 use Rattle.script_reader.proofs.script.Script.coroutines.Goals as goal
