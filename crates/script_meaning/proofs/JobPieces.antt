@@ -83,7 +83,7 @@ pub quiet_closes : (c v : ℕ) (g : List Told) → Closes c v g → IsQuiet g
 quiet_closes c v _ (Closes.now wakes w) = cons _ wakes refl (quiet_wakes c wakes w)
 quiet_closes c v _ (Closes.before u wakes w) = cons _ wakes refl (quiet_wakes c wakes w)
 
-quiet_cancels : (c : ℕ) (g : List Told) → CancelsChannel c g → IsQuiet g
+pub quiet_cancels : (c : ℕ) (g : List Told) → CancelsChannel c g → IsQuiet g
 quiet_cancels c g (CancelsChannel.now closes drains _ a d e) = subst IsQuiet (sym e) (quiet_then closes _ (quiet_closes c 0 closes a) (cons _ drains refl (quiet_drains c drains d)))
 quiet_cancels c g (CancelsChannel.before closes drains _ a d e) = subst IsQuiet (sym e) (quiet_then closes drains (quiet_closes c 0 closes a) (quiet_drains c drains d))
 
@@ -120,7 +120,7 @@ quiet_plain shape _ _ _ (PlainCall.offers c v q admits h) = cons _ _ refl (cons 
 quiet_plain shape _ _ _ (PlainCall.offer_ends c v q admits settles all h s e) = subst IsQuiet (sym e) (cons _ _ refl (cons _ _ refl (quiet_then admits settles (quiet_admits c admits h) (quiet_ends (kind_at shape c) (wait_at c q) settles s))))
 quiet_plain shape _ _ _ (PlainCall.awaits c q) = one _ refl
 
-quiet_try : (call : Call) (g : List Told) (a : Answer) → TryCall call g a → IsQuiet g
+pub quiet_try : (call : Call) (g : List Told) (a : Answer) → TryCall call g a → IsQuiet g
 quiet_try _ _ _ (TryCall.at_once call g a h) = quiet_at_once call g a h
 quiet_try _ _ _ (TryCall.refused call t h) = one t (quiet_try_refused call t h)
 quiet_try _ _ _ (TryCall.blocks call) = one _ (quiet_blocked call)
@@ -150,7 +150,7 @@ quiet_stops _ _ _ (Stops.no_place call all e) = subst IsQuiet (sym e) (quiet_spe
 passed : (calls : List Call) → IsQuiet (map blocked calls)
 passed calls = quiet_map blocked calls quiet_blocked
 
-quiet_select : (calls : List Call) (g : List Told) (a : Answer) → SelectCall calls g a → IsQuiet g
+pub quiet_select : (calls : List Call) (g : List Told) (a : Answer) → SelectCall calls g a → IsQuiet g
 quiet_select calls _ _ (SelectCall.chooses before later call group all a f h e) = subst IsQuiet (sym e) (quiet_then (map blocked before) group (passed before) (quiet_at_once call group a h))
 quiet_select calls _ _ (SelectCall.meets_close before later call t all a f h e) = subst IsQuiet (sym e) (quiet_then (map blocked before) _ (passed before) (one t (quiet_refused call t a h)))
 quiet_select calls _ _ (SelectCall.no_place before later c v all f e) = subst IsQuiet (sym e) (quiet_then (map blocked before) _ (passed before) (quiet_spent (sends c v)))

@@ -9,3 +9,7 @@ pub mod Idle
 pub mod Polls
 pub mod Origins
 pub mod Laws
+pub mod Inside
+pub mod Bodies
+pub mod WaitEnds
+pub mod MovesLeft

@@ -10,6 +10,8 @@
 //! - `Endings`, `Books`: what a book may be, and the books of a run.
 //! - `Rest`, `Idle`: how a run is left.
 //! - `Polls`: what a poll does, and what its answer says.
+//! - `Inside`: where a coroutine can be in its code. `MovesLeft`: how many moves are left, where it receives no more elements. `WaitEnds`:
+//!   how the waits of a line end.
 //! - `Origins`, `Laws`: the words of what holds of each book.
 //!
 //! Two types: `stage`, how a coroutine goes on; `turn`, what a poll came to. The laws are the contracts of the functions of `laws`, whose
@@ -24,6 +26,16 @@
 //!   `OneWait`.
 //! - `a_wait_is_given_up_behind_a_cancellation`: `WaitsTold`, `TakenBack`; `GivenUpWaits`.
 //! - `a_coroutine_begins_as_it_was_attached`: `Origins`; `FirstNotes`.
+//!
+//! Others show what those who run a script need of its books:
+//!
+//! - where a coroutine is: `LinesPlaced`, `OpenLines`, `InsideCode`, `LinesPassed`, `LinesLeft`, `NamesGiven`, `NamesKnown`.
+//! - that moves come to an end: `MovesFall`.
+//! - which waits a line begins and how they end: `WaitsPlaced`, `WaitsEnd`, `ClausesOfSelects`.
+//! - what a group of notes may hold: `GroupNotes`, `GentleNotes`, `MovesGentle`.
+//! - scopes, ends and tags: `OwnActs`, `ScopesEntered`, `StagesReached`, `OwnRows`, `BodiesTold`, `BodiesOpen`, `CompletedJobs`,
+//!   `WaitsGivenUp`, `DoneAsked`, `DoneReceivedOnce`, `DonesUnclosed`, `EndsToSee`, `TagsGiven`, `TagsReached`, `RowsEntered`,
+//!   `AttachesTold`, `PlacesGiven`, `NotSpent`, `NoRefusals`.
 #![tactic(auto)]
 
 mod laws;

@@ -1,0 +1,861 @@
+-- A coroutine that finds no place left on a done channel had attached its Job; and if it had a place of it before, it was told there that the
+-- channel is closed.
+use Rattle.std.specs.Prelude.{◌≡◌, ℕ, zero, suc, ◌+◌, ◌<◌, ◌≤◌, ◌==◌, nat_le, ◌⊎◌, Bool, true, false, not, ◌||◌, ◌&&◌, List, [], ◌∷◌, ◌++◌, length, drop, Option, Some, None, slice_get, refl}
+use Rattle.std.specs.List.{list_any}
+use Rattle.std.proofs.Common.{sym, ap, ◌∙◌, subst, inl, inr, ⊎_elim, append_assoc, arith}
+use Rattle.std.proofs.lemmas.Bool.{eqb-true, eq-eqb}
+use Rattle.std.proofs.lemmas.Bool.Decides.{nat_tests}
+use Rattle.std.proofs.lemmas.List.Folds.{list_any-append}
+use Rattle.co_base.specs.declared.names.WaitId.{WaitId}
+use Rattle.channel_model.specs.declared.acts.Act.{Act}
+use Rattle.channel_model.specs.declared.acts.Act.TheVariants.{Hand, Put, Offer, Await, Take, Admit, Drop, Close, Void, Drain, WakeClosed, Withdraw, Settle}
+use Rattle.channel_model.specs.declared.acts.Settled.{Settled}
+use Rattle.channel_model.specs.declared.acts.Settled.TheVariants as settled
+use Rattle.channel_model.specs.declared.acts.ChannelNote.{ChannelNote}
+use Rattle.channel_model.specs.declared.acts.ChannelNote.TheVariants as of_channel
+use Rattle.job_model.specs.declared.acts.End.{End}
+use Rattle.job_model.specs.declared.acts.JobAct.{JobAct}
+use Rattle.job_model.specs.declared.acts.JobAct.TheVariants.{Attach, Start, EndBody, Cancel, Finish, Gone}
+use Rattle.job_model.specs.Acts.{attaches}
+use Rattle.job_model.specs.Done.{done_channel}
+use Rattle.note_book.specs.declared.book.Item.{Item}
+use Rattle.note_book.specs.declared.book.Item.TheVariants as item
+use Rattle.note_book.specs.Items.{job_acts_in, channel_acts_in}
+use Rattle.note_book.proofs.Appended.{job_acts_in-append, channel_acts_in-append}
+use Rattle.call_meaning.specs.Telling.{Told, note, on_channels, on_jobs, MayRun, IsCancelling, SpentForReceives, made, did, items_in}
+use Rattle.call_meaning.specs.ChannelCalls.{receives, Answer, Done, Got, Waits, wait_at, AtOnce, Refused, PlainCall}
+use Rattle.call_meaning.specs.JobCalls.{child_kind, scope_kind}
+use Rattle.script_grammar.specs.declared.instructions.Instruction.{Instruction}
+use Rattle.script_grammar.specs.declared.instructions.Instruction.TheVariants as line
+use Rattle.script_grammar.specs.Programs.{Program}
+use Rattle.script_grammar.specs.WellFormed.{IsProgram}
+use Rattle.script_grammar.specs.Declarations.{names_channel}
+use Rattle.script_grammar.specs.Tags.{code_of, spawned}
+use Rattle.script_grammar.proofs.Layouts.{test_at, channels_known}
+use Rattle.script_meaning.specs.declared.stage.Stage.{Stage}
+use Rattle.script_meaning.specs.declared.stage.Stage.TheVariants.{Fresh, Running, Waiting, SeesJob, Unwinding, Leaving, SeesScope, Ended}
+use Rattle.script_meaning.specs.Shapes.{floor_shape, base_of}
+use Rattle.script_meaning.specs.Configs.{Config, Entered, in_repeat, in_each, in_scope, InScope, scope_in, fresh, at_stage, past_launch, named, set_row, innermost, LineIs, IsAt, Names}
+use Rattle.script_meaning.specs.Lines.{is_lazy, LineCalls, StartsAndReceives, After, AfterAwait, Resumed, AtScopeEnd, AfterScope}
+use Rattle.script_meaning.specs.Moves.{Move}
+use Rattle.script_meaning.specs.Books.{Spawns, Begins, Reaches}
+use Rattle.script_meaning.proofs.BooksGoOn.{items_in-append}
+use Rattle.script_meaning.proofs.CompletedJobs.{EndsSo, SeenAs, ends_left, ends_right}
+use Rattle.script_meaning.proofs.TagsGiven.{launches_row, launched_in, launched_then}
+use Rattle.script_meaning.proofs.RowsEntered.{enters_row}
+use Rattle.script_meaning.proofs.DoneAsked.{admits_none, gives_place, note_asks, item_asks, asks_in, plain_none, try_none, select_none, closes_none, cancels_channel_none, gives_up_none, starts_none, refusal_none, passes_none, ends_none, breaks_off_none, below_low, clauses_low, all_drop}
+
+-- ---- what is told
+
+-- a place of this channel was given
+abbrev pub places_on : ℕ → Act → Bool
+places_on c (Hand d q v) = d == c
+places_on c (Put d q v) = d == c
+places_on c (Offer d q v w n) = d == c
+places_on c (Await d q w n) = d == c
+places_on c other = false
+
+-- a wait that has its name from this channel ended as closed
+abbrev pub ends_closed : ℕ → Act → Bool
+ends_closed c (Settle w (settled.Closed n v)) = w.channel == c
+ends_closed c other = false
+
+abbrev pub placed_in : ℕ → List Told → Bool
+placed_in c told = list_any (places_on c) (channel_acts_in (items_in told))
+
+abbrev pub closed_in : ℕ → List Told → Bool
+closed_in c told = list_any (ends_closed c) (channel_acts_in (items_in told))
+
+abbrev pub entered_in : ℕ → List Told → Bool
+entered_in row told = list_any (enters_row row) (job_acts_in (items_in told))
+
+abbrev pub attached_in : ℕ → List Told → Bool
+attached_in row told = list_any (attaches row) (job_acts_in (items_in told))
+
+pub placed_then : (c : ℕ) (xs ys : List Told) → placed_in c (xs ++ ys) ≡ (placed_in c xs || placed_in c ys)
+placed_then c xs ys =
+    ap (λ l. list_any (places_on c) (channel_acts_in l)) (items_in-append xs ys)
+    ∙ ap (list_any (places_on c)) (channel_acts_in-append (items_in xs) (items_in ys))
+    ∙ list_any-append (places_on c) (channel_acts_in (items_in xs)) (channel_acts_in (items_in ys))
+
+pub closed_then : (c : ℕ) (xs ys : List Told) → closed_in c (xs ++ ys) ≡ (closed_in c xs || closed_in c ys)
+closed_then c xs ys =
+    ap (λ l. list_any (ends_closed c) (channel_acts_in l)) (items_in-append xs ys)
+    ∙ ap (list_any (ends_closed c)) (channel_acts_in-append (items_in xs) (items_in ys))
+    ∙ list_any-append (ends_closed c) (channel_acts_in (items_in xs)) (channel_acts_in (items_in ys))
+
+pub entered_then : (r : ℕ) (xs ys : List Told) → entered_in r (xs ++ ys) ≡ (entered_in r xs || entered_in r ys)
+entered_then r xs ys =
+    ap (λ l. list_any (enters_row r) (job_acts_in l)) (items_in-append xs ys)
+    ∙ ap (list_any (enters_row r)) (job_acts_in-append (items_in xs) (items_in ys))
+    ∙ list_any-append (enters_row r) (job_acts_in (items_in xs)) (job_acts_in (items_in ys))
+
+pub attached_then : (r : ℕ) (xs ys : List Told) → attached_in r (xs ++ ys) ≡ (attached_in r xs || attached_in r ys)
+attached_then r xs ys =
+    ap (λ l. list_any (attaches r) (job_acts_in l)) (items_in-append xs ys)
+    ∙ ap (list_any (attaches r)) (job_acts_in-append (items_in xs) (items_in ys))
+    ∙ list_any-append (attaches r) (job_acts_in (items_in xs)) (job_acts_in (items_in ys))
+
+pub or_left : (a b : Bool) → a ≡ true → (a || b) ≡ true
+or_left true b e = refl
+or_left false b e = cc
+
+pub or_right : (a b : Bool) → b ≡ true → (a || b) ≡ true
+or_right true b e = refl
+or_right false b e = e
+
+pub either : (a b : Bool) → (a || b) ≡ true → (a ≡ true) ⊎ (b ≡ true)
+either true b e = inl refl
+either false b e = inr e
+
+never : {A : Type 0} → false ≡ true → A
+never e = absurd (let no_way : ⊥ = cc in no_way)
+
+launched_attached : (r : ℕ) (acts : List JobAct) → list_any (launches_row r) acts ≡ true → list_any (attaches r) acts ≡ true
+launched_attached r [] e = cc
+launched_attached r (Attach p q kind tag cancelled ∷ acts) e = by_tests (r == q) (not kind.scoped) e (launched_attached r acts)
+  where
+    by_tests : (a s : Bool) → ((a && s) || list_any (launches_row r) acts) ≡ true → (list_any (launches_row r) acts ≡ true → list_any (attaches r) acts ≡ true) → (a || list_any (attaches r) acts) ≡ true
+    by_tests true s e more = refl
+    by_tests false s e more = more e
+launched_attached r (Start q ∷ acts) e = launched_attached r acts e
+launched_attached r (EndBody q v ∷ acts) e = launched_attached r acts e
+launched_attached r (Cancel q reason ∷ acts) e = launched_attached r acts e
+launched_attached r (Finish q end ∷ acts) e = launched_attached r acts e
+launched_attached r (Gone q ∷ acts) e = launched_attached r acts e
+
+entered_attached : (r : ℕ) (acts : List JobAct) → list_any (enters_row r) acts ≡ true → list_any (attaches r) acts ≡ true
+entered_attached r [] e = cc
+entered_attached r (Attach p q kind tag cancelled ∷ acts) e = by_tests (r == q) kind.scoped e (entered_attached r acts)
+  where
+    by_tests : (a s : Bool) → ((a && s) || list_any (enters_row r) acts) ≡ true → (list_any (enters_row r) acts ≡ true → list_any (attaches r) acts ≡ true) → (a || list_any (attaches r) acts) ≡ true
+    by_tests true s e more = refl
+    by_tests false s e more = more e
+entered_attached r (Start q ∷ acts) e = entered_attached r acts e
+entered_attached r (EndBody q v ∷ acts) e = entered_attached r acts e
+entered_attached r (Cancel q reason ∷ acts) e = entered_attached r acts e
+entered_attached r (Finish q end ∷ acts) e = entered_attached r acts e
+entered_attached r (Gone q ∷ acts) e = entered_attached r acts e
+
+-- a place of a done channel is one that is asked for
+act_place : (base c : ℕ) (act : Act) → base ≤ c → gives_place base act ≡ false → places_on c act ≡ false
+act_place base c (Hand d q v) le e = other base c d le e
+  where
+    other : (base c d : ℕ) → base ≤ c → nat_le base d ≡ false → (d == c) ≡ false
+    other base c d le e = grind (arith, nat_tests)
+act_place base c (Put d q v) le e = grind (arith, nat_tests)
+act_place base c (Offer d q v w n) le e = grind (arith, nat_tests)
+act_place base c (Await d q w n) le e = grind (arith, nat_tests)
+act_place base c (Take d q v) le e = refl
+act_place base c (Admit d q) le e = refl
+act_place base c (Drop d q v) le e = refl
+act_place base c (Close d v) le e = refl
+act_place base c (Void d) le e = refl
+act_place base c (Drain d q v) le e = refl
+act_place base c (WakeClosed d q) le e = refl
+act_place base c (Withdraw w why) le e = refl
+act_place base c (Settle w outcome) le e = refl
+
+or_false : (a b : Bool) → (a || b) ≡ false → (a ≡ false) × (b ≡ false)
+or_false true b e = cc
+or_false false b e = (refl, e)
+
+neither_of : (a b : Bool) → a ≡ false → b ≡ false → (a || b) ≡ false
+neither_of true b e f = e
+neither_of false b e f = f
+
+pub not_asked : (base c : ℕ) (items : List Item) → base ≤ c → list_any (item_asks base) items ≡ false → list_any (places_on c) (channel_acts_in items) ≡ false
+not_asked base c [] le e = refl
+not_asked base c (item.Job n ∷ items) le e = not_asked base c items le e
+not_asked base c (item.Channel (of_channel.Made act) ∷ items) le e =
+    let two = or_false (gives_place base act) (list_any (item_asks base) items) e in
+    neither_of (places_on c act) (list_any (places_on c) (channel_acts_in items)) (act_place base c act le two.0) (not_asked base c items le two.1)
+not_asked base c (item.Channel (of_channel.SendClosed d u v) ∷ items) le e = not_asked base c items le e
+not_asked base c (item.Channel (of_channel.TrySendClosed d u v) ∷ items) le e = not_asked base c items le e
+not_asked base c (item.Channel (of_channel.ReceiveClosed d v) ∷ items) le e = not_asked base c items le e
+not_asked base c (item.Channel (of_channel.TryReceiveClosed d v) ∷ items) le e = not_asked base c items le e
+not_asked base c (item.Channel (of_channel.AlreadyClosed d v) ∷ items) le e = not_asked base c items le e
+not_asked base c (item.Channel (of_channel.Full d v) ∷ items) le e = not_asked base c items le e
+not_asked base c (item.Channel (of_channel.Empty d) ∷ items) le e = not_asked base c items le e
+not_asked base c (item.Channel (of_channel.Spent d) ∷ items) le e = not_asked base c items le (or_false (nat_le base d) (list_any (item_asks base) items) e).1
+not_asked base c (item.Channel (of_channel.Partner d q) ∷ items) le e = not_asked base c items le e
+not_asked base c (item.Channel (of_channel.MainResolved w) ∷ items) le e = not_asked base c items le e
+not_asked base c (item.Channel (of_channel.Late w) ∷ items) le e = not_asked base c items le e
+
+-- ---- which moves ask
+
+abbrev pub is_join : Instruction → Bool
+is_join (line.Join job) = true
+is_join (line.Await job) = true
+is_join other = false
+
+-- a receive on the done channel of this row, with this answer, leads from x to y: at a join or an await, or out of a scope
+pub data Receives (p : Program) (k : ℕ) (x : Config) (row : ℕ) (a : Answer) (y : Config) : Type 0 where
+  at_line : (i : Instruction) (job : ℕ) → IsAt p k x i → is_join i ≡ true → Names x job row → After p k x i a y → Receives p k x row a y
+  at_end : (s : InScope) → row ≡ s.row → scope_in x.entered ≡ Some s → AtScopeEnd k x s a y → (x.stage ≡ Running) ⊎ ((failure : Option ℕ) × (x.stage ≡ Unwinding failure)) → Receives p k x row a y
+
+pub data MoveAsks (p : Program) (k : ℕ) (x : Config) (group : List Told) (y : Config) : Type 0 where
+  none : asks_in (base_of p) group ≡ false → MoveAsks p k x group y
+  asks : (row : ℕ) (first call : List Told) (a : Answer) → asks_in (base_of p) first ≡ false → group ≡ first ++ call
+      → PlainCall (floor_shape p) (receives (done_channel (base_of p) row)) call a → Receives p k x row a y
+      → MoveAsks p k x group y
+
+-- a line names a declared channel
+declared : (p : Program) (k i : ℕ) (l : Instruction) → IsProgram p → slice_get (code_of p k) i ≡ Some l → names_channel (length p.channels) l ≡ true
+declared p k i l ok at = test_at (names_channel (length p.channels)) (code_of p k) i l (channels_known p k ok) at
+
+line_asks : (p : Program) (k : ℕ) (x : Config) (i : Instruction) (group : List Told) (a : Answer) (y : Config) → IsProgram p → IsAt p k x i → LineCalls p k x i group a → After p k x i a y → MoveAsks p k x group y
+unfolding items_in
+line_asks p k x _ _ _ y ok at (LineCalls.send c o g a h) f = MoveAsks.none (plain_none (base_of p) (floor_shape p) _ g a (below_low (base_of p) c (declared p k x.line (line.Send c o) ok at.line_is)) h)
+line_asks p k x _ _ _ y ok at (LineCalls.receive c g a h) f = MoveAsks.none (plain_none (base_of p) (floor_shape p) _ g a (below_low (base_of p) c (declared p k x.line (line.Receive c) ok at.line_is)) h)
+line_asks p k x _ _ _ y ok at (LineCalls.each c g a h) f = MoveAsks.none (plain_none (base_of p) (floor_shape p) _ g a (below_low (base_of p) c (declared p k x.line (line.Each c) ok at.line_is)) h)
+line_asks p k x _ _ _ y ok at (LineCalls.trysend c o g a h) f = MoveAsks.none (try_none (base_of p) _ g a (below_low (base_of p) c (declared p k x.line (line.TrySend c o) ok at.line_is)) h)
+line_asks p k x _ _ _ y ok at (LineCalls.tryreceive c g a h) f = MoveAsks.none (try_none (base_of p) _ g a (below_low (base_of p) c (declared p k x.line (line.TryReceive c) ok at.line_is)) h)
+line_asks p k x _ _ _ y ok at (LineCalls.select g a h) f = MoveAsks.none (select_none (base_of p) _ g a (clauses_low x (base_of p) (drop (x.line + 1) (code_of p k)) (all_drop (base_of p) (x.line + 1) (code_of p k) (channels_known p k ok))) h)
+line_asks p k x _ _ _ y ok at (LineCalls.join job row _ _ n (StartsAndReceives.both starts call all a s c e)) f =
+    MoveAsks.asks row (on_jobs (MayRun (innermost k x)) ∷ starts) call a (starts_none (base_of p) row starts s) (ap (λ l. on_jobs (MayRun (innermost k x)) ∷ l) e) c (Receives.at_line (line.Join job) job at refl n f)
+line_asks p k x _ _ _ y ok at (LineCalls.await job row _ _ n (StartsAndReceives.both starts call all a s c e)) f =
+    MoveAsks.asks row starts call a (starts_none (base_of p) row starts s) e c (Receives.at_line (line.Await job) job at refl n f)
+
+pub move_asks : (p : Program) (k : ℕ) (x : Config) (group : List Told) (y : Config) → IsProgram p → Move p k x group y → MoveAsks p k x group y
+unfolding items_in
+move_asks p k _ _ _ ok (Move.runs x s) = MoveAsks.none refl
+move_asks p k _ _ _ ok (Move.never_runs x s) = MoveAsks.none refl
+move_asks p k _ _ _ ok (Move.calls x y i group a at c f) = line_asks p k x i group a y ok at c f
+move_asks p k _ _ _ ok (Move.resumes x y w i outcome a s at m f) = MoveAsks.none refl
+move_asks p k _ _ _ ok (Move.cancelled x w s) = MoveAsks.none refl
+move_asks p k _ _ _ ok (Move.gives_up x w group s g) = MoveAsks.none (gives_up_none (base_of p) w group g)
+move_asks p k _ _ _ ok (Move.sees_job x y job row end s at n f) = MoveAsks.none refl
+move_asks p k _ _ _ ok (Move.closes x c group at g) = MoveAsks.none (closes_none (base_of p) c 0 group g)
+move_asks p k _ _ _ ok (Move.cancels_channel x c group at g) = MoveAsks.none (cancels_channel_none (base_of p) c group g)
+move_asks p k _ _ _ ok (Move.yields x at) = MoveAsks.none refl
+move_asks p k _ _ _ ok (Move.stops_at_yield x at) = MoveAsks.none refl
+move_asks p k _ _ _ ok (Move.stops_at_join x job at) = MoveAsks.none refl
+move_asks p k _ _ _ ok (Move.launches x block how job now at) = MoveAsks.none refl
+move_asks p k _ _ _ ok (Move.launch_refused x block how job group at g) = MoveAsks.none (refusal_none (base_of p) (innermost k x) false group g)
+move_asks p k _ _ _ ok (Move.enters x supervisor row now at) = MoveAsks.none refl
+move_asks p k _ _ _ ok (Move.enter_refused x supervisor group at g) = MoveAsks.none (refusal_none (base_of p) (innermost k x) true group g)
+move_asks p k _ _ _ ok (Move.starts x job row group at n g) = MoveAsks.none (starts_none (base_of p) row group g)
+move_asks p k _ _ _ ok (Move.cancels x job row newly group at n g) = MoveAsks.none (passes_none (base_of p) row _ newly group g)
+move_asks p k _ _ _ ok (Move.fails x v at) = MoveAsks.none refl
+move_asks p k _ _ _ ok (Move.results x o at) = MoveAsks.none refl
+move_asks p k _ _ _ ok (Move.repeats x n at) = MoveAsks.none refl
+move_asks p k _ _ _ ok (Move.turns_again x head n es at is) = MoveAsks.none refl
+move_asks p k _ _ _ ok (Move.turns_no_more x head es at is) = MoveAsks.none refl
+move_asks p k _ _ _ ok (Move.receives_again x head es at is) = MoveAsks.none refl
+move_asks p k _ _ _ ok (Move.ends_scope x y s end call all a at is g c f parts) =
+    MoveAsks.asks s.row end call a (ends_none (base_of p) (base_of p) s.row 0 end g) parts c (Receives.at_end s refl (ap scope_in is) f (inl at.stage))
+move_asks p k _ _ _ ok (Move.scope_ended x w n v s) = MoveAsks.none refl
+move_asks p k _ _ _ ok (Move.sees_scope x y s end at is f) = MoveAsks.none refl
+move_asks p k _ _ _ ok (Move.breaks_scope x y s failure break call all a at is g c f parts) =
+    MoveAsks.asks s.row break call a (breaks_off_none (base_of p) (base_of p) k s.row failure break g) parts c (Receives.at_end s refl is f (inr (failure, at)))
+move_asks p k _ _ _ ok (Move.breaks x failure group s is g) = MoveAsks.none (breaks_off_none (base_of p) (base_of p) k k failure group g)
+move_asks p k _ _ _ ok (Move.ends x group s is g) = MoveAsks.none (ends_none (base_of p) (base_of p) k x.result group g)
+
+-- ---- how a move goes on from a wait, and where it unwinds
+
+-- it unwinds, or waits for a scope that did not complete: no line is run any more
+abbrev pub IsUnwound : (ℕ → Bool) → Stage → List Entered → Type 0
+IsUnwound done (Unwinding failure) entered = Unit {0}
+IsUnwound done Ended entered = Unit {0}
+IsUnwound done (Leaving w) entered = (s : InScope) → scope_in entered ≡ Some s → done s.row ≡ false
+IsUnwound done SeesScope entered = (s : InScope) → scope_in entered ≡ Some s → done s.row ≡ false
+IsUnwound done other entered = ⊥
+
+abbrev is_plain : Stage → Bool
+is_plain Fresh = true
+is_plain Running = true
+is_plain SeesJob = true
+is_plain other = false
+
+data MoveKind (p : Program) (k : ℕ) (done : ℕ → Bool) (x : Config) (group : List Told) (y : Config) : Type 0 where
+  plain : is_plain x.stage ≡ true → MoveKind p k done x group y
+  resumes : (w : WaitId) (i : Instruction) (outcome : Settled) (a : Answer) → x.stage ≡ Waiting w → LineIs p k x i → Resumed outcome a → After p k x i a y
+      → group ≡ on_jobs (MayRun (innermost k x)) ∷ made (Settle w outcome) ∷ [] → MoveKind p k done x group y
+  stops : (w : WaitId) → x.stage ≡ Waiting w → y.stage ≡ Unwinding None → MoveKind p k done x group y
+  leaves : (w : WaitId) (n v : ℕ) → x.stage ≡ Leaving w → y.stage ≡ SeesScope → y.entered ≡ x.entered → group ≡ made (Settle w (settled.Closed n v)) ∷ [] → MoveKind p k done x group y
+  sees : (s : InScope) (end : End) → x.stage ≡ SeesScope → scope_in x.entered ≡ Some s → AfterScope p k x s end y → SeenAs done s.row end → MoveKind p k done x group y
+  breaks : (failure : Option ℕ) → x.stage ≡ Unwinding failure → IsUnwound done y.stage y.entered → MoveKind p k done x group y
+
+same_scope : (entered : List Entered) (s t : InScope) → scope_in entered ≡ Some s → scope_in entered ≡ Some t → s ≡ t
+same_scope entered s t e f = let both_some : Some s ≡ Some t = sym e ∙ f in cc
+
+broken_at : (k : ℕ) (done : ℕ → Bool) (x : Config) (s : InScope) (a : Answer) (y : Config) → scope_in x.entered ≡ Some s → done s.row ≡ false → AtScopeEnd k x s a y → IsUnwound done y.stage y.entered
+broken_at k done x s _ _ is d (AtScopeEnd.waits w) = λ t e. subst (λ (u : InScope). done u.row ≡ false) (same_scope x.entered s t is e) d
+broken_at k done x s _ _ is d (AtScopeEnd.closed v) = λ t e. subst (λ (u : InScope). done u.row ≡ false) (same_scope x.entered s t is e) d
+broken_at k done x s _ _ is d AtScopeEnd.no_place = tt
+
+move_kind : (p : Program) (k : ℕ) (done : ℕ → Bool) (x : Config) (group : List Told) (y : Config) → EndsSo done group → Move p k x group y → MoveKind p k done x group y
+unfolding EndsSo
+move_kind p k done _ _ _ e (Move.runs x s) = MoveKind.plain (ap is_plain s)
+move_kind p k done _ _ _ e (Move.never_runs x s) = MoveKind.plain (ap is_plain s)
+move_kind p k done _ _ _ e (Move.calls x y i group a at c f) = MoveKind.plain (ap is_plain at.stage)
+move_kind p k done _ _ _ e (Move.resumes x y w i outcome a s at m f) = MoveKind.resumes w i outcome a s at m f refl
+move_kind p k done _ _ _ e (Move.cancelled x w s) = MoveKind.stops w s refl
+move_kind p k done _ _ _ e (Move.gives_up x w group s g) = MoveKind.stops w s refl
+move_kind p k done _ _ _ e (Move.sees_job x y job row end s at n f) = MoveKind.plain (ap is_plain s)
+move_kind p k done _ _ _ e (Move.closes x c group at g) = MoveKind.plain (ap is_plain at.stage)
+move_kind p k done _ _ _ e (Move.cancels_channel x c group at g) = MoveKind.plain (ap is_plain at.stage)
+move_kind p k done _ _ _ e (Move.yields x at) = MoveKind.plain (ap is_plain at.stage)
+move_kind p k done _ _ _ e (Move.stops_at_yield x at) = MoveKind.plain (ap is_plain at.stage)
+move_kind p k done _ _ _ e (Move.stops_at_join x job at) = MoveKind.plain (ap is_plain at.stage)
+move_kind p k done _ _ _ e (Move.launches x block how job now at) = MoveKind.plain (ap is_plain at.stage)
+move_kind p k done _ _ _ e (Move.launch_refused x block how job group at g) = MoveKind.plain (ap is_plain at.stage)
+move_kind p k done _ _ _ e (Move.enters x supervisor row now at) = MoveKind.plain (ap is_plain at.stage)
+move_kind p k done _ _ _ e (Move.enter_refused x supervisor group at g) = MoveKind.plain (ap is_plain at.stage)
+move_kind p k done _ _ _ e (Move.starts x job row group at n g) = MoveKind.plain (ap is_plain at.stage)
+move_kind p k done _ _ _ e (Move.cancels x job row newly group at n g) = MoveKind.plain (ap is_plain at.stage)
+move_kind p k done _ _ _ e (Move.fails x v at) = MoveKind.plain (ap is_plain at.stage)
+move_kind p k done _ _ _ e (Move.results x o at) = MoveKind.plain (ap is_plain at.stage)
+move_kind p k done _ _ _ e (Move.repeats x n at) = MoveKind.plain (ap is_plain at.stage)
+move_kind p k done _ _ _ e (Move.turns_again x head n es at is) = MoveKind.plain (ap is_plain at.stage)
+move_kind p k done _ _ _ e (Move.turns_no_more x head es at is) = MoveKind.plain (ap is_plain at.stage)
+move_kind p k done _ _ _ e (Move.receives_again x head es at is) = MoveKind.plain (ap is_plain at.stage)
+move_kind p k done _ _ _ e (Move.ends_scope x y s end call all a at is g c f parts) = MoveKind.plain (ap is_plain at.stage)
+move_kind p k done _ _ _ e (Move.scope_ended x w n v s) = MoveKind.leaves w n v s refl refl refl
+move_kind p k done _ _ _ e (Move.sees_scope x y s end at is f) = MoveKind.sees s end at is f e.0
+move_kind p k done _ _ _ e (Move.breaks_scope x y s failure break call all a at is g c f parts) =
+    let ends = ends_left done break call (subst (EndsSo done) parts e) in
+    let broken : done s.row ≡ false = (ends_right done g.cancels (on_jobs (IsCancelling s.row) ∷ g.end) (subst (EndsSo done) g.all ends)).0 in
+    MoveKind.breaks failure at (broken_at k done x s a y is broken f)
+move_kind p k done _ _ _ e (Move.breaks x failure group s is g) = MoveKind.breaks failure s tt
+move_kind p k done _ _ _ e (Move.ends x group s is g) = MoveKind.plain (ap is_plain s)
+
+-- ---- a place of a done channel is had once
+
+-- a place was given to it there, and: it was told that the channel is closed; or it waits there; or it unwinds, and the Job is no scope
+data OnceAsked (p : Program) (k : ℕ) (done : ℕ → Bool) (told : List Told) (x : Config) (row : ℕ) : Type 0 where
+  closed : closed_in (base_of p + row) told ≡ true → OnceAsked p k done told x row
+  leaves : (w : WaitId) → x.stage ≡ Leaving w → w.channel ≡ base_of p + row → OnceAsked p k done told x row
+  waits : (w : WaitId) (i : Instruction) → x.stage ≡ Waiting w → w.channel ≡ base_of p + row → LineIs p k x i → is_join i ≡ true → launched_in row told ≡ true → OnceAsked p k done told x row
+  unwound : IsUnwound done x.stage x.entered → launched_in row told ≡ true → OnceAsked p k done told x row
+
+got_no_join : (p : Program) (k : ℕ) (x : Config) (i : Instruction) (v : ℕ) (y : Config) → is_join i ≡ true → After p k x i (Got v) y → ⊥
+got_no_join p k x _ _ _ j (After.got c v) = never j
+got_no_join p k x _ _ _ j (After.tried_and_got c v) = never j
+got_no_join p k x _ _ _ j (After.got_one_more c v) = never j
+got_no_join p k x _ _ _ j (After.chose_got e v f) = never j
+
+done_no_join : (p : Program) (k : ℕ) (x : Config) (i : Instruction) (y : Config) → is_join i ≡ true → After p k x i Done y → ⊥
+done_no_join p k x _ _ j (After.sent c o) = never j
+done_no_join p k x _ _ j (After.tried_to_send c o) = never j
+done_no_join p k x _ _ j (After.tried_to_get c) = never j
+done_no_join p k x _ _ j (After.chose_send e f) = never j
+
+-- a wait of a join ends as closed
+join_ends : (p : Program) (k : ℕ) (x : Config) (i : Instruction) (outcome : Settled) (a : Answer) (y : Config) → is_join i ≡ true → Resumed outcome a → After p k x i a y → (n : ℕ) × (v : ℕ) × (outcome ≡ settled.Closed n v)
+join_ends p k x i _ _ y j (Resumed.value n v) f = absurd (got_no_join p k x i v y j f)
+join_ends p k x i _ _ y j (Resumed.sent n) f = absurd (done_no_join p k x i y j f)
+join_ends p k x i _ _ y j (Resumed.closed n v) f = (n, v, refl)
+
+tells_closed : (c n v : ℕ) (w : WaitId) (row : ℕ) → w.channel ≡ c → closed_in c (on_jobs (MayRun row) ∷ made (Settle w (settled.Closed n v)) ∷ []) ≡ true
+unfolding items_in
+tells_closed c n v w row e = or_left (w.channel == c) false (eq-eqb w.channel c e)
+
+tells_closed_alone : (c n v : ℕ) (w : WaitId) → w.channel ≡ c → closed_in c (made (Settle w (settled.Closed n v)) ∷ []) ≡ true
+unfolding items_in
+tells_closed_alone c n v w e = or_left (w.channel == c) false (eq-eqb w.channel c e)
+
+same_wait : (x : Config) (w u : WaitId) → x.stage ≡ Waiting w → x.stage ≡ Waiting u → w ≡ u
+same_wait x w u e f = let both : Waiting w ≡ Waiting u = sym e ∙ f in cc
+
+same_leave : (x : Config) (w u : WaitId) → x.stage ≡ Leaving w → x.stage ≡ Leaving u → w ≡ u
+same_leave x w u e f = let both : Leaving w ≡ Leaving u = sym e ∙ f in cc
+
+same_line : (p : Program) (k : ℕ) (x : Config) (i l : Instruction) → LineIs p k x i → LineIs p k x l → i ≡ l
+same_line p k x i l e f = let both_some : Some i ≡ Some l = sym e ∙ f in cc
+
+not_plain : {A : Type 0} (x : Config) (stage : Stage) → x.stage ≡ stage → is_plain stage ≡ false → is_plain x.stage ≡ true → A
+not_plain x stage e f g = never (sym (ap is_plain e ∙ f) ∙ g)
+
+closed_more : (c : ℕ) (told group : List Told) → closed_in c group ≡ true → closed_in c (told ++ group) ≡ true
+closed_more c told group e = closed_then c told group ∙ or_right (closed_in c told) (closed_in c group) e
+
+launched_more : (row : ℕ) (told group : List Told) → launched_in row told ≡ true → launched_in row (told ++ group) ≡ true
+launched_more row told group e = launched_then row told group ∙ or_left (launched_in row told) (launched_in row group) e
+
+plain_unwound : (done : ℕ → Bool) (stage : Stage) (entered : List Entered) → is_plain stage ≡ true → IsUnwound done stage entered → ⊥
+plain_unwound done Fresh entered e u = u
+plain_unwound done Running entered e u = u
+plain_unwound done (Waiting w) entered e u = u
+plain_unwound done SeesJob entered e u = u
+plain_unwound done (Unwinding failure) entered e u = cc
+plain_unwound done (Leaving w) entered e u = cc
+plain_unwound done SeesScope entered e u = cc
+plain_unwound done Ended entered e u = cc
+
+unwound_at : (done : ℕ → Bool) (x : Config) (stage : Stage) → x.stage ≡ stage → IsUnwound done x.stage x.entered → IsUnwound done stage x.entered
+unwound_at done x stage e u = subst (λ s. IsUnwound done s x.entered) e u
+
+still_unwound : (p : Program) (k : ℕ) (done : ℕ → Bool) (x : Config) (s : InScope) (end : End) (y : Config) → done s.row ≡ false → SeenAs done s.row end → AfterScope p k x s end y → IsUnwound done y.stage y.entered
+still_unwound p k done x s _ _ d seen (AfterScope.completed v e c) = never (sym d ∙ seen)
+still_unwound p k done x s _ _ d seen AfterScope.cancelled = tt
+still_unwound p k done x s _ _ d seen (AfterScope.failed f) = tt
+
+-- after one move more
+once_step : (p : Program) (k : ℕ) (done : ℕ → Bool) (told : List Told) (x : Config) (group : List Told) (y : Config) (row : ℕ) → OnceAsked p k done told x row → MoveKind p k done x group y → OnceAsked p k done (told ++ group) y row
+once_step p k done told x group y row (OnceAsked.closed e) m = OnceAsked.closed (closed_then (base_of p + row) told group ∙ or_left (closed_in (base_of p + row) told) (closed_in (base_of p + row) group) e)
+once_step p k done told x group y row (OnceAsked.leaves w e c) (MoveKind.plain s) = not_plain x (Leaving w) e refl s
+once_step p k done told x group y row (OnceAsked.leaves w e c) (MoveKind.resumes u i outcome a s at m f g) = let both : Leaving w ≡ Waiting u = sym e ∙ s in cc
+once_step p k done told x group y row (OnceAsked.leaves w e c) (MoveKind.stops u s f) = let both : Leaving w ≡ Waiting u = sym e ∙ s in cc
+once_step p k done told x group y row (OnceAsked.leaves w e c) (MoveKind.leaves u n v s f g is) =
+    let same = same_leave x w u e s in
+    OnceAsked.closed (closed_more (base_of p + row) told group (ap (closed_in (base_of p + row)) is ∙ tells_closed_alone (base_of p + row) n v u (ap (λ (z : WaitId). z.channel) (sym same) ∙ c)))
+once_step p k done told x group y row (OnceAsked.leaves w e c) (MoveKind.sees s end at is f g) = let both : Leaving w ≡ SeesScope = sym e ∙ at in cc
+once_step p k done told x group y row (OnceAsked.leaves w e c) (MoveKind.breaks failure s f) = let both : Leaving w ≡ Unwinding failure = sym e ∙ s in cc
+once_step p k done told x group y row (OnceAsked.waits w l e c at j h) (MoveKind.plain s) = not_plain x (Waiting w) e refl s
+once_step p k done told x group y row (OnceAsked.waits w l e c at j h) (MoveKind.resumes u i outcome a s is m f g) =
+    let same = same_wait x w u e s in
+    let line_is = same_line p k x l i at is in
+    let ends = join_ends p k x i outcome a y (ap is_join (sym line_is) ∙ j) m f in
+    let told_is : group ≡ on_jobs (MayRun (innermost k x)) ∷ made (Settle u (settled.Closed ends.0 ends.1)) ∷ [] = g ∙ ap (λ o. on_jobs (MayRun (innermost k x)) ∷ made (Settle u o) ∷ []) ends.2 in
+    OnceAsked.closed (closed_more (base_of p + row) told group (ap (closed_in (base_of p + row)) told_is ∙ tells_closed (base_of p + row) ends.0 ends.1 u (innermost k x) (ap (λ (z : WaitId). z.channel) (sym same) ∙ c)))
+once_step p k done told x group y row (OnceAsked.waits w l e c at j h) (MoveKind.stops u s f) = OnceAsked.unwound (subst (λ t. IsUnwound done t y.entered) (sym f) tt) (launched_more row told group h)
+once_step p k done told x group y row (OnceAsked.waits w l e c at j h) (MoveKind.leaves u n v s f g is) = let both : Waiting w ≡ Leaving u = sym e ∙ s in cc
+once_step p k done told x group y row (OnceAsked.waits w l e c at j h) (MoveKind.sees s end is f g d) = let both : Waiting w ≡ SeesScope = sym e ∙ is in cc
+once_step p k done told x group y row (OnceAsked.waits w l e c at j h) (MoveKind.breaks failure s f) = let both : Waiting w ≡ Unwinding failure = sym e ∙ s in cc
+once_step p k done told x group y row (OnceAsked.unwound u h) (MoveKind.plain s) = absurd (plain_unwound done x.stage x.entered s u)
+once_step p k done told x group y row (OnceAsked.unwound u h) (MoveKind.resumes w i outcome a s at m f g) = absurd (unwound_at done x (Waiting w) s u)
+once_step p k done told x group y row (OnceAsked.unwound u h) (MoveKind.stops w s f) = absurd (unwound_at done x (Waiting w) s u)
+once_step p k done told x group y row (OnceAsked.unwound u h) (MoveKind.leaves w n v s f g is) =
+    OnceAsked.unwound (subst (λ t. IsUnwound done t y.entered) (sym f) (subst (λ es. (t : InScope) → scope_in es ≡ Some t → done t.row ≡ false) (sym g) (unwound_at done x (Leaving w) s u))) (launched_more row told group h)
+once_step p k done told x group y row (OnceAsked.unwound u h) (MoveKind.sees s end at is f seen) =
+    OnceAsked.unwound (still_unwound p k done x s end y (unwound_at done x SeesScope at u s is) seen f) (launched_more row told group h)
+once_step p k done told x group y row (OnceAsked.unwound u h) (MoveKind.breaks failure s f) = OnceAsked.unwound f (launched_more row told group h)
+
+-- ---- the rows of names and of scopes
+
+none_there : {A : Type 0} (i row : ℕ) → slice_get [] i ≡ Some row → A
+none_there zero row h = never (let no_way : false ≡ true = cc in no_way)
+none_there (suc i) row h = never (let no_way : false ≡ true = cc in no_way)
+
+set_or_old : (n row : ℕ) (rows : List ℕ) (i r : ℕ) → slice_get (set_row n row rows) i ≡ Some r → (r ≡ row) ⊎ (slice_get rows i ≡ Some r)
+unfolding set_row
+set_or_old zero row [] zero r h = inl (let e : r ≡ row = cc in e)
+set_or_old zero row [] (suc i) r h = none_there i r h
+set_or_old zero row (q ∷ rows) zero r h = inl (let e : r ≡ row = cc in e)
+set_or_old zero row (q ∷ rows) (suc i) r h = inr h
+set_or_old (suc n) row [] zero r h = inl (let e : r ≡ row = cc in e)
+set_or_old (suc n) row [] (suc i) r h = none_there i r h
+set_or_old (suc n) row (q ∷ rows) zero r h = inr h
+set_or_old (suc n) row (q ∷ rows) (suc i) r h = set_or_old n row rows i r h
+
+named_or_old : (job : Option ℕ) (row : ℕ) (rows : List ℕ) (i r : ℕ) → slice_get (named job row rows) i ≡ Some r → (r ≡ row) ⊎ (slice_get rows i ≡ Some r)
+named_or_old None row rows i r h = inr h
+named_or_old (Some n) row rows i r h = set_or_old n row rows i r h
+
+AreNames : List Told → List ℕ → Type 0
+AreNames told rows = (job row : ℕ) → slice_get rows job ≡ Some row → launched_in row told ≡ true
+
+unfoldable AreEntered : List Told → List Entered → Type 0
+AreEntered told [] = Unit {0}
+AreEntered told (in_repeat head left ∷ es) = AreEntered told es
+AreEntered told (in_each head ∷ es) = AreEntered told es
+AreEntered told (in_scope head row ∷ es) = (entered_in row told ≡ true) × AreEntered told es
+
+-- the rows that it knows
+record Rows (told : List Told) (x : Config) : Type 0 where
+  names : AreNames told x.rows
+  scopes : AreEntered told x.entered
+
+entered_more : (told group : List Told) (es : List Entered) → AreEntered told es → AreEntered (told ++ group) es
+unfolding AreEntered
+entered_more told group [] h = tt
+entered_more told group (in_repeat head left ∷ es) h = entered_more told group es h
+entered_more told group (in_each head ∷ es) h = entered_more told group es h
+entered_more told group (in_scope head row ∷ es) h = (entered_then row told group ∙ or_left (entered_in row told) (entered_in row group) h.0, entered_more told group es h.1)
+
+scope_entered : (told : List Told) (es : List Entered) (s : InScope) → scope_in es ≡ Some s → AreEntered told es → (entered_in s.row told ≡ true) × AreEntered told s.around
+unfolding AreEntered
+scope_entered told [] s e h = cc
+scope_entered told (in_repeat head left ∷ es) s e h = scope_entered told es s e h
+scope_entered told (in_each head ∷ es) s e h = scope_entered told es s e h
+scope_entered told (in_scope head row ∷ es) s e h =
+    let is : record { head = head; row = row; around = es } ≡ s = some_same e in
+    (subst (λ (t : InScope). entered_in t.row told ≡ true) is h.0, subst (λ (t : InScope). AreEntered told t.around) is h.1)
+  where
+    some_same : {A : Type 0} {a b : A} → Some a ≡ Some b → a ≡ b
+    some_same e = cc
+
+-- nothing changes of them
+same_rows : (told group : List Told) (x y : Config) → y.rows ≡ x.rows → y.entered ≡ x.entered → Rows told x → Rows (told ++ group) y
+unfolding AreNames
+same_rows told group x y e f h = record {
+  names = λ job row at. launched_more row told group (h.names job row (subst (λ rows. slice_get rows job ≡ Some row) e at));
+  scopes = subst (AreEntered (told ++ group)) (sym f) (entered_more told group x.entered h.scopes);
+}
+
+-- it is out of its innermost scope
+rows_outside : (told group : List Told) (x y : Config) (s : InScope) → scope_in x.entered ≡ Some s → y.rows ≡ x.rows → y.entered ≡ s.around → Rows told x → Rows (told ++ group) y
+unfolding AreNames
+rows_outside told group x y s is e f h = record {
+  names = λ job row at. launched_more row told group (h.names job row (subst (λ rows. slice_get rows job ≡ Some row) e at));
+  scopes = subst (AreEntered (told ++ group)) (sym f) (entered_more told group s.around (scope_entered told x.entered s is h.scopes).1);
+}
+
+-- or has entered or left a loop
+rows_loop : (told group : List Told) (x y : Config) → y.rows ≡ x.rows → (AreEntered told x.entered → AreEntered told y.entered) → Rows told x → Rows (told ++ group) y
+unfolding AreNames
+rows_loop told group x y e f h = record {
+  names = λ job row at. launched_more row told group (h.names job row (subst (λ rows. slice_get rows job ≡ Some row) e at));
+  scopes = entered_more told group y.entered (f h.scopes);
+}
+
+into_each : (told : List Told) (es : List Entered) (head : ℕ) → AreEntered told es → AreEntered told (in_each head ∷ es)
+unfolding AreEntered
+into_each told es head h = h
+
+into_repeat : (told : List Told) (es : List Entered) (head n : ℕ) → AreEntered told es → AreEntered told (in_repeat head n ∷ es)
+unfolding AreEntered
+into_repeat told es head n h = h
+
+out_repeat : (told : List Told) (es more : List Entered) (head n : ℕ) → es ≡ in_repeat head n ∷ more → AreEntered told es → AreEntered told more
+unfolding AreEntered
+out_repeat told es more head n e h = subst (AreEntered told) e h
+
+out_each : (told : List Told) (es more : List Entered) (head : ℕ) → es ≡ in_each head ∷ more → AreEntered told es → AreEntered told more
+unfolding AreEntered
+out_each told es more head e h = subst (AreEntered told) e h
+
+after_rows : (p : Program) (k : ℕ) (told group : List Told) (x : Config) (i : Instruction) (a : Answer) (y : Config) → Rows told x → After p k x i a y → Rows (told ++ group) y
+after_rows p k told group x _ _ _ h (After.waits i w) = same_rows told group x (at_stage (Waiting w) x) refl refl h
+after_rows p k told group x _ _ _ h (After.no_place i) = same_rows told group x (at_stage (Unwinding (Some k)) x) refl refl h
+after_rows p k told group x _ _ y h (After.sent c o) = same_rows told group x _ refl refl h
+after_rows p k told group x _ _ y h (After.tried_to_send c o) = same_rows told group x _ refl refl h
+after_rows p k told group x _ _ y h (After.got c v) = same_rows told group x _ refl refl h
+after_rows p k told group x _ _ y h (After.no_more c v) = same_rows told group x _ refl refl h
+after_rows p k told group x _ _ y h (After.tried_and_got c v) = same_rows told group x _ refl refl h
+after_rows p k told group x _ _ y h (After.tried_to_get c) = same_rows told group x _ refl refl h
+after_rows p k told group x _ _ y h (After.got_one_more c v) = rows_loop told group x _ refl (into_each told x.entered x.line) h
+after_rows p k told group x _ _ y h (After.got_all c v e f) = same_rows told group x _ refl refl h
+after_rows p k told group x _ _ y h (After.chose_send e f) = same_rows told group x _ refl refl h
+after_rows p k told group x _ _ y h (After.chose_got e v f) = same_rows told group x _ refl refl h
+after_rows p k told group x _ _ y h (After.chose_closed e v f) = same_rows told group x _ refl refl h
+after_rows p k told group x _ _ y h After.looks_again = same_rows told group x _ refl refl h
+after_rows p k told group x _ _ y h (After.joined job v) = same_rows told group x _ refl refl h
+after_rows p k told group x _ _ y h (After.awaited job v) = same_rows told group x _ refl refl h
+
+end_rows : (k : ℕ) (told group : List Told) (x : Config) (s : InScope) (a : Answer) (y : Config) → scope_in x.entered ≡ Some s → Rows told x → AtScopeEnd k x s a y → Rows (told ++ group) y
+end_rows k told group x s _ _ is h (AtScopeEnd.waits w) = same_rows told group x _ refl refl h
+end_rows k told group x s _ _ is h (AtScopeEnd.closed v) = same_rows told group x _ refl refl h
+end_rows k told group x s _ _ is h AtScopeEnd.no_place = rows_outside told group x _ s is refl refl h
+
+past_rows : (p : Program) (k : ℕ) (told group : List Told) (x : Config) (s : InScope) (end : End) (y : Config) → scope_in x.entered ≡ Some s → Rows told x → AfterScope p k x s end y → Rows (told ++ group) y
+past_rows p k told group x s _ _ is h (AfterScope.completed v e c) = rows_outside told group x _ s is refl refl h
+past_rows p k told group x s _ _ is h AfterScope.cancelled = rows_outside told group x _ s is refl refl h
+past_rows p k told group x s _ _ is h (AfterScope.failed f) = rows_outside told group x _ s is refl refl h
+
+await_rows : (told group : List Told) (x : Config) (end : End) (y : Config) → Rows told x → AfterAwait x end y → Rows (told ++ group) y
+await_rows told group x _ _ h (AfterAwait.completed v) = same_rows told group x _ refl refl h
+await_rows told group x _ _ h AfterAwait.cancelled = same_rows told group x _ refl refl h
+await_rows told group x _ _ h (AfterAwait.failed f) = same_rows told group x _ refl refl h
+
+launch_rows : (told : List Told) (parent free : ℕ) (lazy now : Bool) (job : Option ℕ) (rows : List ℕ) → AreNames told rows → AreNames (told ++ did (Attach parent free (child_kind lazy) free now) ∷ []) (named job free rows)
+unfolding AreNames items_in
+launch_rows told parent free lazy now job rows h n r at =
+    let group = did (Attach parent free (child_kind lazy) free now) ∷ [] in
+    ⊎_elim
+    (λ e. launched_then r told group ∙ or_right (launched_in r told) (launched_in r group) (or_left ((r == free) && true) false (and_true (r == free) (eq-eqb r free e))))
+    (λ e. launched_more r told group (h n r e))
+    (named_or_old job free rows n r at)
+  where
+    and_true : (b : Bool) → b ≡ true → (b && true) ≡ true
+    and_true true e = refl
+    and_true false e = e
+
+enter_rows : (told : List Told) (parent row head tag : ℕ) (supervisor now : Bool) (es : List Entered) → AreEntered told es → AreEntered (told ++ did (Attach parent row (scope_kind supervisor) tag now) ∷ []) (in_scope head row ∷ es)
+unfolding AreEntered items_in
+enter_rows told parent row head tag supervisor now es h =
+    let group = did (Attach parent row (scope_kind supervisor) tag now) ∷ [] in
+    (entered_then row told group ∙ or_right (entered_in row told) (entered_in row group) (or_left ((row == row) && true) false (and_true (row == row) (eq-eqb row row refl))), entered_more told group es h)
+  where
+    and_true : (b : Bool) → b ≡ true → (b && true) ≡ true
+    and_true true e = refl
+    and_true false e = e
+
+names_more : (told group : List Told) (rows : List ℕ) → AreNames told rows → AreNames (told ++ group) rows
+unfolding AreNames
+names_more told group rows h = λ job row at. launched_more row told group (h job row at)
+
+move_rows : (p : Program) (k : ℕ) (told : List Told) (x : Config) (group : List Told) (y : Config) → Rows told x → Move p k x group y → Rows (told ++ group) y
+move_rows p k told _ _ _ h (Move.runs x s) = same_rows told _ x _ refl refl h
+move_rows p k told _ _ _ h (Move.never_runs x s) = same_rows told _ x _ refl refl h
+move_rows p k told _ _ _ h (Move.calls x y i group a at c f) = after_rows p k told group x i a y h f
+move_rows p k told _ _ _ h (Move.resumes x y w i outcome a s at m f) = after_rows p k told _ x i a y h f
+move_rows p k told _ _ _ h (Move.cancelled x w s) = same_rows told _ x _ refl refl h
+move_rows p k told _ _ _ h (Move.gives_up x w group s g) = same_rows told _ x _ refl refl h
+move_rows p k told _ _ _ h (Move.sees_job x y job row end s at n f) = await_rows told _ x end y h f
+move_rows p k told _ _ _ h (Move.closes x c group at g) = same_rows told group x _ refl refl h
+move_rows p k told _ _ _ h (Move.cancels_channel x c group at g) = same_rows told group x _ refl refl h
+move_rows p k told _ _ _ h (Move.yields x at) = same_rows told _ x _ refl refl h
+move_rows p k told _ _ _ h (Move.stops_at_yield x at) = same_rows told _ x _ refl refl h
+move_rows p k told _ _ _ h (Move.stops_at_join x job at) = same_rows told _ x _ refl refl h
+move_rows p k told _ _ _ h (Move.launches x block how job now at) = record {
+  names = launch_rows told (innermost k x) x.free (is_lazy how) now job x.rows h.names;
+  scopes = entered_more told _ x.entered h.scopes;
+}
+move_rows p k told _ _ _ h (Move.launch_refused x block how job group at g) = same_rows told group x _ refl refl h
+move_rows p k told _ _ _ h (Move.enters x supervisor row now at) = record {
+  names = names_more told _ x.rows h.names;
+  scopes = enter_rows told (innermost k x) row x.line k supervisor now x.entered h.scopes;
+}
+move_rows p k told _ _ _ h (Move.enter_refused x supervisor group at g) = same_rows told group x _ refl refl h
+move_rows p k told _ _ _ h (Move.starts x job row group at n g) = same_rows told group x _ refl refl h
+move_rows p k told _ _ _ h (Move.cancels x job row newly group at n g) = same_rows told group x _ refl refl h
+move_rows p k told _ _ _ h (Move.fails x v at) = same_rows told _ x _ refl refl h
+move_rows p k told _ _ _ h (Move.results x o at) = same_rows told _ x _ refl refl h
+move_rows p k told _ _ _ h (Move.repeats x n at) = rows_loop told _ x _ refl (into_repeat told x.entered x.line n) h
+move_rows p k told _ _ _ h (Move.turns_again x head n es at is) = rows_loop told _ x _ refl (λ e. into_repeat told es head n (out_repeat told x.entered es head (n + 1) is e)) h
+move_rows p k told _ _ _ h (Move.turns_no_more x head es at is) = rows_loop told _ x _ refl (out_repeat told x.entered es head 0 is) h
+move_rows p k told _ _ _ h (Move.receives_again x head es at is) = rows_loop told _ x _ refl (out_each told x.entered es head is) h
+move_rows p k told _ _ _ h (Move.ends_scope x y s end call all a at is g c f parts) = end_rows k told all x s a y (ap scope_in is) h f
+move_rows p k told _ _ _ h (Move.scope_ended x w n v s) = same_rows told _ x _ refl refl h
+move_rows p k told _ _ _ h (Move.sees_scope x y s end at is f) = past_rows p k told _ x s end y is h f
+move_rows p k told _ _ _ h (Move.breaks_scope x y s failure break call all a at is g c f parts) = end_rows k told all x s a y is h f
+move_rows p k told _ _ _ h (Move.breaks x failure group s is g) = same_rows told group x _ refl refl h
+move_rows p k told _ _ _ h (Move.ends x group s is g) = same_rows told group x _ refl refl h
+
+-- ---- a receive on a done channel
+
+not_placed : (base c : ℕ) (group : List Told) → base ≤ c → asks_in base group ≡ false → placed_in c group ≡ false
+not_placed base c group le e = not_asked base c (items_in group) le e
+
+-- where it is given a place it waits there
+call_placed : (base : ℕ) (shape : _) (c d : ℕ) (call : List Told) (a : Answer) → base ≤ d → PlainCall shape (receives c) call a → placed_in d call ≡ true → (q : ℕ) × (a ≡ Waits (wait_at c q)) × (c ≡ d)
+unfolding items_in
+call_placed base shape c d _ _ le (PlainCall.at_once _ call a (AtOnce.takes _ v q admits h)) e = never (sym (not_placed base d admits le (admits_none base c admits h)) ∙ e)
+call_placed base shape c d _ _ le (PlainCall.refused _ t a (Refused.receive _ u)) e = cc
+call_placed base shape c d _ _ le (PlainCall.no_place _ all is) e = never (sym (ap (placed_in d) is) ∙ e)
+call_placed base shape c d _ _ le (PlainCall.awaits _ q) e = (q, refl, eqb-true c d (only (c == d) e))
+  where
+    only : (b : Bool) → (b || false) ≡ true → b ≡ true
+    only true f = refl
+    only false f = f
+
+receives_waits : (p : Program) (k : ℕ) (done : ℕ → Bool) (told group : List Told) (x : Config) (row q : ℕ) (y : Config) → Rows told x → Receives p k x row (Waits (wait_at (base_of p + row) q)) y → OnceAsked p k done (told ++ group) y row
+unfolding AreNames
+receives_waits p k done told group x row q _ h (Receives.at_line i job at j n (After.waits _ w)) = OnceAsked.waits w i refl refl at.line_is j (launched_more row told group (h.names job row n))
+receives_waits p k done told group x row q _ h (Receives.at_end s e is (AtScopeEnd.waits w) f) = OnceAsked.leaves w refl refl
+
+pub attached_more : (row : ℕ) (told group : List Told) → attached_in row told ≡ true → attached_in row (told ++ group) ≡ true
+attached_more row told group e = attached_then row told group ∙ or_left (attached_in row told) (attached_in row group) e
+
+-- the row is one that it attached
+receives_own : (p : Program) (k : ℕ) (told : List Told) (x : Config) (row : ℕ) (a : Answer) (y : Config) → Rows told x → Receives p k x row a y → attached_in row told ≡ true
+unfolding AreNames
+receives_own p k told x row a y h (Receives.at_line i job at j n f) = launched_attached row (job_acts_in (items_in told)) (h.names job row n)
+receives_own p k told x row a y h (Receives.at_end s e is f g) = subst (λ r. attached_in r told ≡ true) (sym e) (entered_attached s.row (job_acts_in (items_in told)) (scope_entered told x.entered s is h.scopes).0)
+
+-- no row is both a coroutine's and a scope's
+abbrev pub AreApart : List Told → Type 0
+AreApart told = (row : ℕ) → launched_in row told ≡ true → entered_in row told ≡ true → ⊥
+
+not_waiting : {A : Type 0} (x : Config) (w : WaitId) → x.stage ≡ Waiting w → (x.stage ≡ Running) ⊎ ((failure : Option ℕ) × (x.stage ≡ Unwinding failure)) → A
+not_waiting x w e h = absurd (⊎_elim (λ f. let both : Waiting w ≡ Running = sym e ∙ f in cc) (λ f. let both : Waiting w ≡ Unwinding f.0 = sym e ∙ f.1 in cc) h)
+
+not_leaving : {A : Type 0} (x : Config) (w : WaitId) → x.stage ≡ Leaving w → (x.stage ≡ Running) ⊎ ((failure : Option ℕ) × (x.stage ≡ Unwinding failure)) → A
+not_leaving x w e h = absurd (⊎_elim (λ f. let both : Leaving w ≡ Running = sym e ∙ f in cc) (λ f. let both : Leaving w ≡ Unwinding f.0 = sym e ∙ f.1 in cc) h)
+
+runs_or_unwinds : (p : Program) (k : ℕ) (x : Config) (row : ℕ) (a : Answer) (y : Config) → Receives p k x row a y → (x.stage ≡ Running) ⊎ ((failure : Option ℕ) × (x.stage ≡ Unwinding failure))
+runs_or_unwinds p k x row a y (Receives.at_line i job at j n f) = inl at.stage
+runs_or_unwinds p k x row a y (Receives.at_end s e is f g) = g
+
+-- if it had a place there before, it was told that the channel is closed
+receives_closed : (p : Program) (k : ℕ) (done : ℕ → Bool) (told : List Told) (x : Config) (row : ℕ) (a : Answer) (y : Config) → AreApart told → Rows told x → OnceAsked p k done told x row → Receives p k x row a y → closed_in (base_of p + row) told ≡ true
+receives_closed p k done told x row a y apart h (OnceAsked.closed e) r = e
+receives_closed p k done told x row a y apart h (OnceAsked.leaves w e c) r = not_leaving x w e (runs_or_unwinds p k x row a y r)
+receives_closed p k done told x row a y apart h (OnceAsked.waits w i e c at j l) r = not_waiting x w e (runs_or_unwinds p k x row a y r)
+receives_closed p k done told x row a y apart h (OnceAsked.unwound u l) (Receives.at_line i job at j n f) = absurd (unwound_at done x Running at.stage u)
+receives_closed p k done told x row a y apart h (OnceAsked.unwound u l) (Receives.at_end s e is f g) =
+    absurd (apart row l (subst (λ r. entered_in r told ≡ true) (sym e) (scope_entered told x.entered s is h.scopes).0))
+
+-- ---- all that is told
+
+-- where no place of a done channel was left, the Job was attached, and if a place was had before, the channel was seen closed
+abbrev pub NoteAsked : ℕ → List Told → ChannelNote → Type 0
+NoteAsked base seen (of_channel.Spent c) = (row : ℕ) → c ≡ base + row → (attached_in row seen ≡ true) × (placed_in c seen ≡ true → closed_in c seen ≡ true)
+NoteAsked base seen other = Unit {0}
+
+abbrev pub ItemAsked : ℕ → List Told → Item → Type 0
+ItemAsked base seen (item.Channel n) = NoteAsked base seen n
+ItemAsked base seen (item.Job n) = Unit {0}
+
+abbrev pub ToldAsked : ℕ → List Told → Told → Type 0
+ToldAsked base seen (note i) = ItemAsked base seen i
+ToldAsked base seen (on_channels fact) = Unit {0}
+ToldAsked base seen (on_jobs fact) = Unit {0}
+
+unfoldable pub AllAsked : ℕ → List Told → List Told → Type 0
+AllAsked base seen [] = Unit {0}
+AllAsked base seen (t ∷ ts) = ToldAsked base seen t × AllAsked base (seen ++ t ∷ []) ts
+
+no_more : (xs : List Told) → xs ++ [] ≡ xs
+no_more [] = refl
+no_more (x ∷ xs) = ap (λ l. x ∷ l) (no_more xs)
+
+asked_then : (base : ℕ) (seen xs ys : List Told) → AllAsked base seen xs → AllAsked base (seen ++ xs) ys → AllAsked base seen (xs ++ ys)
+unfolding AllAsked
+asked_then base seen [] ys h m = subst (λ l. AllAsked base l ys) (no_more seen) m
+asked_then base seen (x ∷ xs) ys h m = (h.0, asked_then base (seen ++ x ∷ []) xs ys h.1 (subst (λ l. AllAsked base l ys) (sym (append_assoc seen (x ∷ []) xs)) m))
+
+pub asked_right : (base : ℕ) (seen xs ys : List Told) → AllAsked base seen (xs ++ ys) → AllAsked base (seen ++ xs) ys
+unfolding AllAsked
+asked_right base seen [] ys h = subst (λ l. AllAsked base l ys) (sym (no_more seen)) h
+asked_right base seen (x ∷ xs) ys h = subst (λ l. AllAsked base l ys) (append_assoc seen (x ∷ []) xs) (asked_right base (seen ++ x ∷ []) xs ys h.1)
+
+not_low : (base c row : ℕ) → nat_le base c ≡ false → c ≡ base + row → ⊥
+not_low base c row e f = by_test (nat_le base c) refl e
+  where
+    by_test : (b : Bool) → nat_le base c ≡ b → b ≡ false → ⊥
+    by_test true g h = cc
+    by_test false g h = let low : c < base = grind (arith, nat_tests) in omega (arith, low, f)
+
+quiet_note : (base : ℕ) (seen : List Told) (n : ChannelNote) → note_asks base n ≡ false → NoteAsked base seen n
+quiet_note base seen (of_channel.Spent c) e = λ row f. absurd (not_low base c row e f)
+quiet_note base seen (of_channel.Made act) e = tt
+quiet_note base seen (of_channel.SendClosed d u v) e = tt
+quiet_note base seen (of_channel.TrySendClosed d u v) e = tt
+quiet_note base seen (of_channel.ReceiveClosed d v) e = tt
+quiet_note base seen (of_channel.TryReceiveClosed d v) e = tt
+quiet_note base seen (of_channel.AlreadyClosed d v) e = tt
+quiet_note base seen (of_channel.Full d v) e = tt
+quiet_note base seen (of_channel.Empty d) e = tt
+quiet_note base seen (of_channel.Partner d q) e = tt
+quiet_note base seen (of_channel.MainResolved w) e = tt
+quiet_note base seen (of_channel.Late w) e = tt
+
+quiet_asked : (base : ℕ) (seen group : List Told) → asks_in base group ≡ false → AllAsked base seen group
+unfolding AllAsked items_in
+quiet_asked base seen [] e = tt
+quiet_asked base seen (note (item.Channel n) ∷ group) e = let two = or_false (note_asks base n) (asks_in base group) e in (quiet_note base seen n two.0, quiet_asked base (seen ++ note (item.Channel n) ∷ []) group two.1)
+quiet_asked base seen (note (item.Job n) ∷ group) e = (tt, quiet_asked base (seen ++ note (item.Job n) ∷ []) group e)
+quiet_asked base seen (on_channels fact ∷ group) e = (tt, quiet_asked base (seen ++ on_channels fact ∷ []) group e)
+quiet_asked base seen (on_jobs fact ∷ group) e = (tt, quiet_asked base (seen ++ on_jobs fact ∷ []) group e)
+
+fact_places : (c : ℕ) (seen : List Told) (d : ℕ) → placed_in c (seen ++ on_channels (SpentForReceives d) ∷ []) ≡ placed_in c seen
+unfolding items_in
+fact_places c seen d = placed_then c seen (on_channels (SpentForReceives d) ∷ []) ∙ or_none (placed_in c seen)
+  where
+    or_none : (b : Bool) → (b || false) ≡ b
+    or_none true = refl
+    or_none false = refl
+
+-- a receive on a done channel
+call_asked : (base : ℕ) (shape : _) (row : ℕ) (seen call : List Told) (a : Answer) → attached_in row seen ≡ true → (placed_in (base + row) seen ≡ true → closed_in (base + row) seen ≡ true) → PlainCall shape (receives (base + row)) call a → AllAsked base seen call
+unfolding AllAsked items_in
+call_asked base shape row seen _ _ own once (PlainCall.at_once _ call a (AtOnce.takes _ v q admits h)) = (tt, quiet_asked base _ admits (admits_none base (base + row) admits h))
+call_asked base shape row seen _ _ own once (PlainCall.refused _ t a (Refused.receive _ u)) = (tt, tt)
+call_asked base shape row seen _ _ own once (PlainCall.no_place _ all is) = subst (AllAsked base seen) (sym is) (tt, (told_there, tt))
+  where
+    c : ℕ
+    c = base + row
+
+    now : List Told
+    now = seen ++ on_channels (SpentForReceives c) ∷ []
+
+    same_row : (r : ℕ) → c ≡ base + r → r ≡ row
+    same_row r e = omega (arith, e)
+
+    told_there : (r : ℕ) → c ≡ base + r → (attached_in r now ≡ true) × (placed_in c now ≡ true → closed_in c now ≡ true)
+    told_there r e = (
+      subst (λ q. attached_in q now ≡ true) (sym (same_row r e)) (attached_more row seen (on_channels (SpentForReceives c) ∷ []) own),
+      λ f. closed_then c seen (on_channels (SpentForReceives c) ∷ []) ∙ or_left (closed_in c seen) (closed_in c (on_channels (SpentForReceives c) ∷ [])) (once (sym (fact_places c seen c) ∙ f)),
+    )
+call_asked base shape row seen _ _ own once (PlainCall.awaits _ q) = (tt, tt)
+
+-- ---- wherever its moves lead it
+
+pub record ReachAsks (p : Program) (k : ℕ) (done : ℕ → Bool) (told : List Told) (x : Config) : Type 0 where
+  rows : Rows told x
+  once : (row : ℕ) → placed_in (base_of p + row) told ≡ true → OnceAsked p k done told x row
+  -- whoever has a place of a done channel attached the Job
+  pub own : (row : ℕ) → placed_in (base_of p + row) told ≡ true → attached_in row told ≡ true
+  pub asked : AllAsked (base_of p) [] told
+
+above : (base row : ℕ) → base ≤ base + row
+above base row = omega arith
+
+-- with a move that asks
+move_asked : (p : Program) (k : ℕ) (done : ℕ → Bool) (told : List Told) (x : Config) (group : List Told) (y : Config) → AreApart told → ReachAsks p k done told x → MoveKind p k done x group y → Rows (told ++ group) y → MoveAsks p k x group y → ReachAsks p k done (told ++ group) y
+move_asked p k done told x group y apart h kind rows (MoveAsks.none e) = record {
+  rows = rows;
+  once = λ row f. once_step p k done told x group y row (h.once row (before row f)) kind;
+  own = λ row f. attached_more row told group (h.own row (before row f));
+  asked = asked_then (base_of p) [] told group h.asked (quiet_asked (base_of p) told group e);
+}
+  where
+    before : (row : ℕ) → placed_in (base_of p + row) (told ++ group) ≡ true → placed_in (base_of p + row) told ≡ true
+    before row f = ⊎_elim (λ g. g) (λ g. never (sym (not_placed (base_of p) (base_of p + row) group (above (base_of p) row) e) ∙ g)) (either (placed_in (base_of p + row) told) (placed_in (base_of p + row) group) (sym (placed_then (base_of p + row) told group) ∙ f))
+move_asked p k done told x group y apart h kind rows (MoveAsks.asks r first call a quiet is c by) = record {
+  rows = rows;
+  once = λ row f. ⊎_elim
+      (λ g. once_step p k done told x group y row (h.once row g) kind)
+      (λ g. new_place row (there row g))
+      (either (placed_in (base_of p + row) told) (placed_in (base_of p + row) group) (sym (placed_then (base_of p + row) told group) ∙ f));
+  own = λ row f. ⊎_elim
+      (λ g. attached_more row told group (h.own row g))
+      (λ g. attached_more row told group (subst (λ n. attached_in n told ≡ true) (same_row row (there row g).2) own_row))
+      (either (placed_in (base_of p + row) told) (placed_in (base_of p + row) group) (sym (placed_then (base_of p + row) told group) ∙ f));
+  asked = asked_then (base_of p) [] told group h.asked (subst (AllAsked (base_of p) told) (sym is) (asked_then (base_of p) told first call (quiet_asked (base_of p) told first quiet) (call_asked (base_of p) (floor_shape p) r (told ++ first) call a (attached_more r told first own_row) closed_there c)));
+}
+  where
+    own_row : attached_in r told ≡ true
+    own_row = receives_own p k told x r a y h.rows by
+
+    same_row : (row : ℕ) → base_of p + r ≡ base_of p + row → r ≡ row
+    same_row row e = omega (arith, e)
+
+    there : (row : ℕ) → placed_in (base_of p + row) group ≡ true → (q : ℕ) × (a ≡ Waits (wait_at (base_of p + r) q)) × (base_of p + r ≡ base_of p + row)
+    there row g = ⊎_elim
+        (λ f. never (sym (not_placed (base_of p) (base_of p + row) first (above (base_of p) row) quiet) ∙ f))
+        (λ f. call_placed (base_of p) (floor_shape p) (base_of p + r) (base_of p + row) call a (above (base_of p) row) c f)
+        (either (placed_in (base_of p + row) first) (placed_in (base_of p + row) call) (sym (ap (placed_in (base_of p + row)) is ∙ placed_then (base_of p + row) first call) ∙ g))
+
+    new_place : (row : ℕ) → (q : ℕ) × (a ≡ Waits (wait_at (base_of p + r) q)) × (base_of p + r ≡ base_of p + row) → OnceAsked p k done (told ++ group) y row
+    new_place row g = subst (OnceAsked p k done (told ++ group) y) (same_row row g.2) (receives_waits p k done told group x r g.0 y h.rows (subst (λ b. Receives p k x r b y) g.1 by))
+
+    closed_there : placed_in (base_of p + r) (told ++ first) ≡ true → closed_in (base_of p + r) (told ++ first) ≡ true
+    closed_there f =
+        let was : placed_in (base_of p + r) told ≡ true = ⊎_elim (λ g. g) (λ g. never (sym (not_placed (base_of p) (base_of p + r) first (above (base_of p) r) quiet) ∙ g)) (either (placed_in (base_of p + r) told) (placed_in (base_of p + r) first) (sym (placed_then (base_of p + r) told first) ∙ f)) in
+        closed_then (base_of p + r) told first ∙ or_left (closed_in (base_of p + r) told) (closed_in (base_of p + r) first) (receives_closed p k done told x r a y apart h.rows (h.once r was) by)
+
+-- nothing is asked in a beginning
+spawns_ask : (p : Program) (base : ℕ) (blocks : List ℕ) (x : Config) (group : List Told) (y : Config) → Spawns p blocks x group y → (asks_in base group ≡ false) × (y.rows ≡ x.rows) × (y.entered ≡ x.entered)
+unfolding items_in
+spawns_ask p base _ _ _ _ (Spawns.done x) = (refl, refl, refl)
+spawns_ask p base _ _ _ _ (Spawns.attaches block blocks x y now more rest) = spawns_ask p base blocks (past_launch p block None x) more y rest
+spawns_ask p base _ _ _ _ (Spawns.refused block blocks x group g) = (refusal_none base 0 false group g, refl, refl)
+
+pub begins_ask : (p : Program) (base k : ℕ) (group : List Told) (x : Config) → Begins p k group x → (asks_in base group ≡ false) × (x.rows ≡ []) × (x.entered ≡ [])
+unfolding items_in
+begins_ask p base _ _ _ (Begins.root group x s) = spawns_ask p base (spawned p) (fresh 0) group x s
+begins_ask p base _ _ _ (Begins.child k n) = (refl, refl, refl)
+
+begun_rows : (group : List Told) (x : Config) → x.rows ≡ [] → x.entered ≡ [] → Rows group x
+unfolding AreNames AreEntered
+begun_rows group x e f = record {
+  names = λ job row at. none_there job row (subst (λ rows. slice_get rows job ≡ Some row) e at);
+  scopes = subst (AreEntered group) (sym f) tt;
+}
+
+begun_asks : (p : Program) (k : ℕ) (done : ℕ → Bool) (group : List Told) (x : Config) → Begins p k group x → ReachAsks p k done group x
+begun_asks p k done group x b =
+    let h = begins_ask p (base_of p) k group x b in
+    record {
+      rows = begun_rows group x h.1 h.2;
+      once = λ row f. never (sym (not_placed (base_of p) (base_of p + row) group (above (base_of p) row) h.0) ∙ f);
+      own = λ row f. never (sym (not_placed (base_of p) (base_of p + row) group (above (base_of p) row) h.0) ∙ f);
+      asked = quiet_asked (base_of p) [] group h.0;
+    }
+
+apart_left : (xs ys : List Told) → AreApart (xs ++ ys) → AreApart xs
+apart_left xs ys h = λ row e f. h row (launched_more row xs ys e) (entered_then row xs ys ∙ or_left (entered_in row xs) (entered_in row ys) f)
+
+pub reach_asks : (p : Program) (k : ℕ) (done : ℕ → Bool) (told : List Told) (x : Config) → IsProgram p → EndsSo done told → AreApart told → Reaches p k told x → ReachAsks p k done told x
+reach_asks p k done _ _ ok e apart (Reaches.begins group x b) = begun_asks p k done group x b
+reach_asks p k done _ _ ok e apart (Reaches.goes_on before group all x y r m is) =
+    let ends = subst (EndsSo done) is e in
+    let two = apart_left before group (subst AreApart is apart) in
+    let first = reach_asks p k done before x ok (ends_left done before group ends) two r in
+    subst (λ l. ReachAsks p k done l y) (sym is)
+    (move_asked p k done before x group y two first (move_kind p k done x group y (ends_right done before group ends) m) (move_rows p k before x group y first.rows m) (move_asks p k x group y ok m))

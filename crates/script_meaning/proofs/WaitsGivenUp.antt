@@ -1,0 +1,48 @@
+-- The forms in which a wait is told that is given up.
+use Rattle.std.proofs.Common.{◌≡◌, true, List, [], ◌∷◌, refl, ap, sym, ◌∙◌, Option, Some, None}
+use Rattle.co_base.specs.declared.names.WaitId.{WaitId}
+use Rattle.channel_model.specs.declared.acts.Act.TheVariants.{Settle}
+use Rattle.channel_model.specs.declared.acts.ChannelNote.TheVariants.{Late}
+use Rattle.channel_model.specs.declared.acts.Settled.{Settled}
+use Rattle.channel_model.specs.declared.acts.Settled.TheVariants as settled
+use Rattle.channel_model.specs.declared.standing.Resolution.{Resolution}
+use Rattle.channel_model.specs.declared.standing.Resolution.TheVariants as resolved
+use Rattle.channel_model.specs.Channels.{Wait}
+use Rattle.channel_model.specs.Outcomes.{outcome_of}
+use Rattle.channel_model.specs.Answers.{outcome_at, outcome_of_some}
+use Rattle.call_meaning.specs.Telling.{Told, made, heard}
+use Rattle.call_meaning.specs.ChannelCalls.{Admits, GivesUp}
+use Rattle.script_meaning.specs.Laws.{is_given_up}
+
+up_how : (how : Resolution) → is_given_up (outcome_of how true) ≡ true
+up_how (resolved.Handed n v) = refl
+up_how (resolved.Taken n) = refl
+up_how (resolved.Admitted n) = refl
+up_how (resolved.Closed n v) = refl
+up_how (resolved.Withdrawn why) = refl
+up_how resolved.Voided = refl
+
+up_some : (how : Option Resolution) (outcome : Settled) → outcome_of_some true how ≡ Some outcome → is_given_up outcome ≡ true
+up_some None outcome e = cc
+up_some (Some how) outcome e = let k : outcome_of how true ≡ outcome = cc in ap is_given_up (sym k) ∙ up_how how
+
+-- the wait of a Job that was cancelled is given up, however it was resolved
+pub given_up_end : (x : Option Wait) (outcome : Settled) → outcome_at true x ≡ Some outcome → is_given_up outcome ≡ true
+given_up_end None outcome e = cc
+given_up_end (Some x) outcome e = up_some x.resolved outcome e
+
+-- a wait that was resolved before
+pub dispatched : (w : WaitId) (outcome : Settled) → is_given_up outcome ≡ true → GivesUp w (made (Settle w outcome) ∷ [])
+dispatched w (settled.Value n v) e = cc
+dispatched w (settled.Sent n) e = cc
+dispatched w (settled.Closed n v) e = cc
+dispatched w settled.Cancelled e = GivesUp.dispatched
+dispatched w (settled.Undelivered v) e = GivesUp.undelivered v
+
+-- a wait whose withdrawal came too late
+pub late_end : (w : WaitId) (outcome : Settled) (admits : List Told) → is_given_up outcome ≡ true → Admits w.channel admits → GivesUp w (heard (Late w) ∷ made (Settle w outcome) ∷ admits)
+late_end w (settled.Value n v) admits e a = cc
+late_end w (settled.Sent n) admits e a = cc
+late_end w (settled.Closed n v) admits e a = cc
+late_end w settled.Cancelled admits e a = GivesUp.late admits a
+late_end w (settled.Undelivered v) admits e a = GivesUp.late_undelivered v admits a
