@@ -1,13 +1,12 @@
--- The floors of a script: its declared channels are rendezvous channels, and a signal of one place follows for each Job.
-use Rattle.std.specs.Prelude.{◌≡◌, ℕ, ◌+◌, ◌-◌, ◌<◌, ◌≤◌, nat_lt, Bool, true, false, List, length, replicate, refl}
+-- The floors of a script: its declared channels, and then a signal of one place for each Job.
+use Rattle.std.specs.Prelude.{◌≡◌, ℕ, ◌+◌, ◌-◌, ◌<◌, ◌≤◌, true, false, length, replicate, slice_get, Some, refl}
 use Rattle.std.proofs.Common.{sym, ap, ◌∙◌, subst, arith, length-append, get_or}
 use Rattle.std.proofs.lemmas.List.{length-replicate, get_or_append_left, get_or-append_right, get_or-replicate}
-use Rattle.std.proofs.lemmas.Bool.Decides.{nat_tests}
+use Rattle.std.proofs.lemmas.Option.{slice_get-get_or}
 use Rattle.channel_model.specs.declared.acts.Kind.{Kind}
-use Rattle.channel_model.specs.declared.acts.Kind.TheVariants.{Rendezvous, Signal}
-use Rattle.channel_model.specs.Channels.{Shape, kind_at, places_at, is_signal}
+use Rattle.channel_model.specs.declared.acts.Kind.TheVariants.{Signal}
+use Rattle.channel_model.specs.Channels.{Shape, kind_at, is_signal}
 use Rattle.channel_model.specs.Floors.{Floor as ChannelFloor, MayCall}
-use Rattle.channel_model.specs.Owing.{never_owes}
 use Rattle.job_model.specs.Trees.{Shape as JobShape}
 use Rattle.job_model.specs.Done.{done_channel}
 use Rattle.job_model.specs.Floors.{Floor}
@@ -15,8 +14,7 @@ use Rattle.scope_builders.specs.Calls.{MayBuild}
 use Rattle.script_grammar.specs.Programs.{Program, shape_of}
 use Rattle.script_grammar.specs.Tags.{job_count}
 use Rattle.script_grammar.specs.WellFormed.{IsProgram}
-use Rattle.script_grammar.specs.FirstRunning.{all_run}
-use Rattle.script_grammar.proofs.Declarations.{length-shape_of, kind_at-shape_of, is_signal-shape_of}
+use Rattle.script_grammar.proofs.Declarations.{length-shape_of, is_signal-shape_of}
 use Rattle.script_grammar.proofs.JobsCounted.{whole_load-job_count}
 use Rattle.script_meaning.specs.Shapes.{floor_shape, job_shape, base_of}
 
@@ -37,9 +35,10 @@ may_build p k base c j ok e f g h is = subst (λ b. MayBuild k b c j) (sym is) (
   of_channels = g;
   of_jobs = h;
   done = omega (arith, long, ap (λ (s : JobShape). s.rows) f);
-  one_place = λ r lt.
+  signals = λ r lt.
       let le : r < job_count p = omega (arith, lt, ap (λ (s : JobShape). s.rows) f) in
-      ap (λ (s : Shape). places_at s (done_channel (base_of p) r)) e ∙ ap (λ (x : Kind × ℕ). x.1) (at_done p r le);
+      let inside : base_of p + r < length (floor_shape p) = omega (arith, le, length-floor_shape p) in
+      ap (λ (s : Shape). slice_get s (done_channel (base_of p) r)) e ∙ slice_get-get_or (floor_shape p) (base_of p + r) (Signal, 0) inside ∙ ap Some (at_done p r le);
   few = omega (arith, long, ok.few_channels, ok.load, whole_load-job_count p ok);
 })
   where
@@ -56,26 +55,3 @@ no_signal p n shape ok e lt =
     ap (λ (s : Shape). is_signal (kind_at s n)) e
     ∙ ap (λ (x : Kind × ℕ). is_signal x.0) (get_or_append_left (shape_of p) (replicate (job_count p) (Signal, 1)) (Signal, 0) n lt)
     ∙ is_signal-shape_of p ok n lt
-
-declared_owes : (p : Program) (n : ℕ) → all_run p ≡ true → n < length (shape_of p) → never_owes (kind_at (floor_shape p) n) ≡ true
-declared_owes p n ok lt =
-    ap (λ (x : Kind × ℕ). never_owes x.0) (get_or_append_left (shape_of p) (replicate (job_count p) (Signal, 1)) (Signal, 0) n lt)
-    ∙ ap never_owes (kind_at-shape_of p ok n lt)
-
--- no channel of the floor owes an admission or a drop
-pub owes_none : (p : Program) (n : ℕ) (shape : Shape) → all_run p ≡ true → shape ≡ floor_shape p → n < length shape → never_owes (kind_at shape n) ≡ true
-owes_none p n shape ok e lt = subst (λ (s : Shape). never_owes (kind_at s n) ≡ true) (sym e) (by_test (nat_lt n (length (shape_of p))) refl)
-  where
-    long : n < base_of p + job_count p
-    long = omega (arith, lt, ap (λ (s : Shape). length s) e, length-floor_shape p)
-
-    behind : base_of p ≤ n → never_owes (kind_at (floor_shape p) n) ≡ true
-    behind le =
-        let r : ℕ = n - base_of p in
-        let is : base_of p + r ≡ n = omega (arith, le) in
-        let lt' : r < job_count p = omega (arith, le, long) in
-        subst (λ m. never_owes (kind_at (floor_shape p) m) ≡ true) is (ap (λ (x : Kind × ℕ). never_owes x.0) (at_done p r lt'))
-
-    by_test : (b : Bool) → nat_lt n (length (shape_of p)) ≡ b → never_owes (kind_at (floor_shape p) n) ≡ true
-    by_test true t = declared_owes p n ok (let low : n < length (shape_of p) = grind (arith, nat_tests) in low)
-    by_test false t = behind (let high : length (shape_of p) ≤ n = grind (arith, nat_tests) in omega (arith, high, length-shape_of p))

@@ -1,22 +1,21 @@
 -- What the lines of a coroutine may rely on.
-use Rattle.std.specs.Prelude.{◌≡◌, ℕ, zero, suc, ◌+◌, ◌<◌, ◌≤◌, nat_lt, Bool, true, false, List, [], ◌∷◌, ◌++◌, length, Option, Some, None, slice_get, refl}
+use Rattle.std.specs.Prelude.{◌≡◌, ℕ, zero, suc, ◌+◌, ◌<◌, ◌≤◌, nat_lt, true, List, [], ◌∷◌, ◌++◌, length, Option, Some, None, slice_get, refl}
 use Rattle.std.proofs.Common.{sym, ap, ◌∙◌, subst, arith, get_or}
 use Rattle.std.proofs.Math.ListN.{set}
 use Rattle.std.proofs.lemmas.Bool.Decides.{nat_tests}
 use Rattle.std.proofs.lemmas.Option.{slice_get_within, slice_get-get_or}
 use Rattle.channel_model.specs.Floors.{Floor as ChannelFloor, MayCall}
 use Rattle.job_model.specs.Trees.{Shape}
+use Rattle.job_model.specs.Histories.{Legal}
 use Rattle.job_model.specs.Floors.{Floor}
 use Rattle.note_book.specs.declared.book.Item.{Item}
 use Rattle.call_meaning.specs.Telling.{Told}
-use Rattle.call_meaning.specs.Calls.{ToldOnJobs, ToldOnChannels}
+use Rattle.call_meaning.specs.Calls.{ToldOnJobs, seen_by}
 use Rattle.scope_builders.specs.Calls.{MayBuild, CancelledAll}
 use Rattle.script_grammar.specs.declared.instructions.Launching.{Launching}
-use Rattle.script_grammar.specs.declared.instructions.Launching.TheVariants.{Plain, Async, Lazy}
-use Rattle.script_grammar.specs.declared.instructions.Operand.{Operand}
-use Rattle.script_grammar.specs.FirstRunning.{runs_today}
 use Rattle.script_grammar.specs.declared.instructions.Instruction.{Instruction}
 use Rattle.script_grammar.specs.declared.instructions.Instruction.TheVariants as line
+use Rattle.script_grammar.specs.Blocks.{job_used}
 use Rattle.script_grammar.specs.Programs.{Program, Block, shape_of}
 use Rattle.script_grammar.specs.Tags.{code_of, code_at, code_of_block, block_of_tag, coroutine_count, size_of}
 use Rattle.script_grammar.specs.WellFormed.{IsProgram}
@@ -26,12 +25,15 @@ use Rattle.script_meaning.specs.declared.stage.Stage.{Stage}
 use Rattle.script_meaning.specs.declared.stage.Stage.TheVariants.{Running}
 use Rattle.script_meaning.specs.Shapes.{base_of}
 use Rattle.script_meaning.specs.Configs.{Config, IsAt, at_stage, next, set_row, named}
+use Rattle.script_meaning.proofs.InsideCode.{at_in_lines}
+use Rattle.script_meaning.proofs.NamesKnown.{job_known}
+use Rattle.script_meaning.proofs.TagsReached.{launch_room}
 use Rattle.poll_states.specs.declared.frame.Frame.{Frame}
 use Rattle.poll_states.specs.Frames.{config_of, items_of, Stands}
 use Rattle.poll_states.specs.Steps.{IsAtEnd}
-use Rattle.poll_states.proofs.Fitting.{Fits, inside_le, launch_room, job_known}
+use Rattle.poll_states.proofs.Standing.{stands_fits}
 use Rattle.poll_states.proofs.FloorsOfScripts.{may_build, may_call}
-use Rattle.poll_states.proofs.Standing.{stands_fits, few_coroutines}
+use Rattle.poll_states.proofs.Standing.{few_coroutines}
 
 -- ---- floors
 
@@ -63,25 +65,23 @@ launched_block p tag i block how job ok at = by_tag (block_of_tag p tag) at
     by_tag None h = no_line i _ h
     by_tag (Some n) h = by_block n (slice_get p.blocks n) refl h
 
-pub free_room : (p : Program) (c : ChannelFloor) (j : Floor) (f : Frame) (block : ℕ) (how : Launching) (job : Option ℕ) → IsProgram p → Stands p c j f → IsAt p f.tag (config_of f) (line.Launch block how job) → f.free + size_of p block ≤ coroutine_count p
-free_room p c j f block how job ok h at = launch_room p f.tag (config_of f) block how job h.lines_run (stands_fits p c j f ok h) at.line_is
+pub free_room : (p : Program) (c : ChannelFloor) (j : Floor) (f : Frame) (block : ℕ) (how : Launching) (job : Option ℕ) → IsProgram p → Legal j.shape j.seen → Stands p c j f → IsAt p f.tag (config_of f) (line.Launch block how job) → f.free + size_of p block ≤ coroutine_count p
+free_room p c j f block how job ok l h at = launch_room p f.tag (seen_by c j) (items_of f) (config_of f) block how job ok h.on.in_run (subst (λ s. Legal s j.seen) h.on.jobs l) h.on.runs at
 
-pub free_short : (p : Program) (c : ChannelFloor) (j : Floor) (f : Frame) (block : ℕ) (how : Launching) (job : Option ℕ) → IsProgram p → Stands p c j f → IsAt p f.tag (config_of f) (line.Launch block how job) → f.free + size_of p block < 65536
-free_short p c j f block how job ok h at = let room = free_room p c j f block how job ok h at in let few = few_coroutines p ok in omega (arith, room, few)
+pub free_short : (p : Program) (c : ChannelFloor) (j : Floor) (f : Frame) (block : ℕ) (how : Launching) (job : Option ℕ) → IsProgram p → Legal j.shape j.seen → Stands p c j f → IsAt p f.tag (config_of f) (line.Launch block how job) → f.free + size_of p block < 65536
+free_short p c j f block how job ok l h at = let room = free_room p c j f block how job ok l h at in let few = few_coroutines p ok in omega (arith, room, few)
 
-pub free_row : (p : Program) (c : ChannelFloor) (j : Floor) (f : Frame) (block : ℕ) (how : Launching) (job : Option ℕ) → IsProgram p → Stands p c j f → IsAt p f.tag (config_of f) (line.Launch block how job) → f.free < j.shape.coroutines
-free_row p c j f block how job ok h at =
-    let room = free_room p c j f block how job ok h at in
+pub free_row : (p : Program) (c : ChannelFloor) (j : Floor) (f : Frame) (block : ℕ) (how : Launching) (job : Option ℕ) → IsProgram p → Legal j.shape j.seen → Stands p c j f → IsAt p f.tag (config_of f) (line.Launch block how job) → f.free < j.shape.coroutines
+free_row p c j f block how job ok l h at =
+    let room = free_room p c j f block how job ok l h at in
     let some = size_some p block (launched_block p f.tag f.line block how job ok at.line_is) in
     omega (arith, room, some, ap (λ (s : Shape). s.coroutines) h.on.jobs)
 
 -- ---- names
 
-pub knows_start : (p : Program) (c : ChannelFloor) (j : Floor) (f : Frame) (job : ℕ) → IsProgram p → Stands p c j f → IsAt p f.tag (config_of f) (line.Start job) → job < length f.rows.items
-knows_start p c j f job ok h at = job_known p f.tag (config_of f) (line.Start job) job (stands_fits p c j f ok h) at.line_is refl
-
-pub knows_cancel : (p : Program) (c : ChannelFloor) (j : Floor) (f : Frame) (job : ℕ) → IsProgram p → Stands p c j f → IsAt p f.tag (config_of f) (line.Cancel job) → job < length f.rows.items
-knows_cancel p c j f job ok h at = job_known p f.tag (config_of f) (line.Cancel job) job (stands_fits p c j f ok h) at.line_is refl
+-- the name that its line uses was given
+pub knows_name : (p : Program) (c : ChannelFloor) (j : Floor) (f : Frame) (i : Instruction) (job : ℕ) → IsProgram p → Legal j.shape j.seen → Stands p c j f → IsAt p f.tag (config_of f) i → job_used i ≡ Some job → job < length f.rows.items
+knows_name p c j f i job ok l h at used = job_known p f.tag (seen_by c j) (items_of f) (config_of f) i job ok (subst (λ s. Legal s j.seen) h.on.jobs l) h.on.runs (at_in_lines p f.tag (config_of f) i at) at.line_is used
 
 -- a row in the list is written over
 pub set_row-inside : (n row : ℕ) (rows : List ℕ) → n < length rows → set_row n row rows ≡ set rows n row
@@ -117,47 +117,12 @@ launch_config x rows job size e = ap (λ l. next (record x { rows = named job x.
 pub rows_config : (x : Config) (rows : List ℕ) (stage : Stage) → rows ≡ x.rows → at_stage stage (record x { rows = rows }) ≡ at_stage stage x
 rows_config x rows stage e = ap (λ l. at_stage stage (record x { rows = l })) e
 
--- ---- lines that run
-
--- there is no other line
-pub no_other_line : (l : Instruction) → runs_today l ≡ true
-    → ((c : ℕ) (v : Operand) → l ≡ line.Send c v → ⊥)
-    → ((c : ℕ) → l ≡ line.Receive c → ⊥)
-    → (l ≡ line.Yield → ⊥)
-    → ((block : ℕ) (how : Launching) (job : Option ℕ) → l ≡ line.Launch block how job → ⊥)
-    → ((job : ℕ) → l ≡ line.Start job → ⊥)
-    → ((job : ℕ) → l ≡ line.Cancel job → ⊥)
-    → ((v : ℕ) → l ≡ line.Fail v → ⊥)
-    → ((v : Operand) → l ≡ line.SetResult v → ⊥)
-    → ⊥
-no_other_line (line.Send a b) e h0 h1 h2 h3 h4 h5 h6 h7 = h0 a b refl
-no_other_line (line.TrySend a b) e h0 h1 h2 h3 h4 h5 h6 h7 = cc
-no_other_line (line.Receive a) e h0 h1 h2 h3 h4 h5 h6 h7 = h1 a refl
-no_other_line (line.TryReceive a) e h0 h1 h2 h3 h4 h5 h6 h7 = cc
-no_other_line (line.Close a) e h0 h1 h2 h3 h4 h5 h6 h7 = cc
-no_other_line (line.CancelChannel a) e h0 h1 h2 h3 h4 h5 h6 h7 = cc
-no_other_line line.Yield e h0 h1 h2 h3 h4 h5 h6 h7 = h2 refl
-no_other_line (line.Start a) e h0 h1 h2 h3 h4 h5 h6 h7 = h4 a refl
-no_other_line (line.Join a) e h0 h1 h2 h3 h4 h5 h6 h7 = cc
-no_other_line (line.Await a) e h0 h1 h2 h3 h4 h5 h6 h7 = cc
-no_other_line (line.Cancel a) e h0 h1 h2 h3 h4 h5 h6 h7 = h5 a refl
-no_other_line (line.Fail a) e h0 h1 h2 h3 h4 h5 h6 h7 = h6 a refl
-no_other_line (line.SetResult a) e h0 h1 h2 h3 h4 h5 h6 h7 = h7 a refl
-no_other_line (line.Repeat a) e h0 h1 h2 h3 h4 h5 h6 h7 = cc
-no_other_line (line.Each a) e h0 h1 h2 h3 h4 h5 h6 h7 = cc
-no_other_line (line.Scope a) e h0 h1 h2 h3 h4 h5 h6 h7 = cc
-no_other_line line.Select e h0 h1 h2 h3 h4 h5 h6 h7 = cc
-no_other_line (line.OnSend a b) e h0 h1 h2 h3 h4 h5 h6 h7 = cc
-no_other_line (line.OnReceive a) e h0 h1 h2 h3 h4 h5 h6 h7 = cc
-no_other_line line.End e h0 h1 h2 h3 h4 h5 h6 h7 = cc
-no_other_line (line.Launch block Plain job) e h0 h1 h2 h3 h4 h5 h6 h7 = h3 block Plain job refl
-no_other_line (line.Launch block Async job) e h0 h1 h2 h3 h4 h5 h6 h7 = cc
-no_other_line (line.Launch block Lazy job) e h0 h1 h2 h3 h4 h5 h6 h7 = h3 block Lazy job refl
+-- ---- lines
 
 -- no line is left where it is past the last
-pub at_end : (p : Program) (c : ChannelFloor) (j : Floor) (f : Frame) (code : List Instruction) → IsProgram p → Stands p c j f → f.stage ≡ Running → code ≡ code_of p f.tag → length code ≤ f.line → IsAtEnd p f
-at_end p c j f code ok h e is le =
-    let inside = inside_le f.stage f.line (length (code_of p f.tag)) (stands_fits p c j f ok h).inside in
+pub at_end : (p : Program) (c : ChannelFloor) (j : Floor) (f : Frame) (code : List Instruction) → Stands p c j f → f.stage ≡ Running → code ≡ code_of p f.tag → length code ≤ f.line → IsAtEnd p f
+at_end p c j f code h e is le =
+    let inside = (stands_fits p c j f h).inside in
     record { running = e; none_left = omega (arith, inside, le, ap (λ (l : List Instruction). length l) is) }
 
 pub at_line : (p : Program) (c : ChannelFloor) (j : Floor) (f : Frame) (code : List Instruction) (l : Instruction) → f.stage ≡ Running → code ≡ code_of p f.tag → f.line < length code → IsAt p f.tag (config_of f) (get_or code f.line l)

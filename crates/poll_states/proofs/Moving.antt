@@ -1,46 +1,30 @@
 -- A coroutine that stands goes on to stand after what it told.
-use Rattle.std.specs.Prelude.{◌≡◌, ◌≢◌, ℕ, ◌<◌, ◌==◌, ◌⊎◌, Bool, true, false, ◌&&◌, ◌||◌, List, [], ◌∷◌, ◌++◌, length, Option, Some, None, is_some, refl, if◌then◌else◌}
-use Rattle.std.specs.List.{list_any}
-use Rattle.std.proofs.Common.{sym, ap, ◌∙◌, subst, inl, inr, ⊎_elim, append_assoc, arith}
-use Rattle.co_base.specs.declared.names.WaitId.{WaitId}
-use Rattle.channel_model.specs.declared.acts.Act.{Act}
-use Rattle.channel_model.specs.Channels.{Shape as ChannelShape}
+use Rattle.std.specs.Prelude.{◌≡◌, ℕ, ◌<◌, ◌==◌, Bool, ◌||◌, List, [], ◌∷◌, ◌++◌, Some, None, refl, if◌then◌else◌}
+use Rattle.std.proofs.Common.{sym, ap, ◌∙◌, subst, append_assoc}
 use Rattle.channel_model.specs.Histories.{acts_of}
-use Rattle.channel_model.specs.Floors.{Floor as ChannelFloor, Added as AddedToChannels}
-use Rattle.channel_model.proofs.Spans as spans
+use Rattle.channel_model.specs.Floors.{Floor as ChannelFloor}
 use Rattle.job_model.specs.declared.acts.JobAct.{JobAct}
 use Rattle.job_model.specs.Trees.{is_among}
 use Rattle.job_model.specs.Histories.{acts_of as job_acts_of}
-use Rattle.job_model.specs.Floors.{Floor, Added, AtStep, is_claimed_by}
-use Rattle.job_model.proofs.Spans.{among-append, prefix_then, nothing_more}
+use Rattle.job_model.specs.Floors.{Floor, is_claimed_by}
+use Rattle.job_model.proofs.Spans.{among-append}
 use Rattle.note_book.specs.declared.book.Item.{Item}
 use Rattle.note_book.specs.Items.{channel_acts_in, job_acts_in}
 use Rattle.note_book.proofs.Appended.{channel_acts_in-append, job_acts_in-append}
 use Rattle.call_meaning.specs.Telling.{Told, items_in}
-use Rattle.call_meaning.specs.Facts.{IsRunning}
 use Rattle.call_meaning.specs.Stories.{IsTrue, story_of}
 use Rattle.call_meaning.specs.Calls.{ToldOnBoth, seen_by, rows_in, row_in}
-use Rattle.call_meaning.proofs.JobTellings.{told_nothing, nobody_called, both_jobs, both_then}
-use Rattle.scope_builders.specs.Dones.{KeepsDones, OnlyEndedAreClosed, ClosesAtOnce, IsClosedNext, finish_of}
+use Rattle.scope_builders.specs.Dones.{KeepsDones, ClosesAtOnce, IsClosedNext, finish_of}
 use Rattle.script_grammar.specs.Programs.{Program}
-use Rattle.script_grammar.specs.Tags.{code_of, coroutine_count}
-use Rattle.script_grammar.specs.WellFormed.{IsProgram}
-use Rattle.script_meaning.specs.declared.stage.Stage.{Stage}
-use Rattle.script_meaning.specs.declared.stage.Stage.TheVariants.{Fresh, Running, Waiting, SeesJob, Unwinding, Leaving, SeesScope, Ended}
+use Rattle.script_grammar.specs.Tags.{coroutine_count}
 use Rattle.script_meaning.specs.declared.turn.Turn.{Turn}
-use Rattle.script_meaning.specs.declared.turn.Turn.TheVariants as turn
-use Rattle.script_meaning.specs.Shapes.{floor_shape, base_of}
-use Rattle.script_meaning.specs.Configs.{Config}
+use Rattle.script_meaning.specs.Shapes.{base_of}
 use Rattle.script_meaning.specs.Books.{Runs, story}
-use Rattle.script_meaning.specs.Polls.{Turned, MovesOnce, RefusedByClaims, StandsOn, own_rows, TurnAnswer, WaitsFor, HasStood}
+use Rattle.script_meaning.specs.Polls.{Turned, MovesOnce, RefusedByClaims, own_rows, TurnAnswer}
 use Rattle.script_meaning.proofs.BooksGoOn.{runs_then}
 use Rattle.poll_states.specs.declared.frame.Frame.{Frame}
-use Rattle.poll_states.specs.Frames.{config_of, items_of, frame_of, Stands, moves_at, moves_left}
-use Rattle.poll_states.specs.Steps.{Stepped, CutShort, Falls, PolledTo, AnsweredAfter, IsAnswerAt}
-use Rattle.poll_states.proofs.PlainMoves.{IsPlain, plain_move}
-use Rattle.poll_states.proofs.Reached.{is_over, is_fresh}
-use Rattle.poll_states.proofs.Fitting.{move_falls}
-use Rattle.poll_states.proofs.Standing.{stands_fits, stands_plain}
+use Rattle.poll_states.specs.Frames.{config_of, items_of, frame_of, Stands}
+use Rattle.poll_states.specs.Steps.{Stepped, PolledTo}
 
 -- ---- rows
 
@@ -81,7 +65,6 @@ tells_true p c c' j j' f g told h s = subst (λ sh. IsTrue (story_of sh f.tag (s
 
 pub tells_stand : (p : Program) (c c' : ChannelFloor) (j j' : Floor) (f g : Frame) (told : List Told) → Stands p c j f → Tells p c c' j j' f g told → Stands p c' j' g
 tells_stand p c c' j j' f g told h s = record {
-  lines_run = h.lines_run;
   on = record {
     channels = s.noted.channels.same.shape ∙ h.on.channels;
     jobs = s.noted.jobs.same.shape ∙ h.on.jobs;
@@ -106,15 +89,10 @@ tells_stand p c c' j j' f g told h s = record {
 pub step_stands : (p : Program) (c c' : ChannelFloor) (j j' : Floor) (f g : Frame) → Stands p c j f → Stepped p c c' j j' f g → Stands p c' j' g
 step_stands p c c' j j' f g h s = tells_stand p c c' j j' f g s.told h (tells_step p c c' j j' f g s)
 
-pub step_falls : (p : Program) (c d c' : ChannelFloor) (j k j' : Floor) (f g : Frame) → IsProgram p → Stands p c j f → Stepped p d c' k j' f g → moves_left p g < moves_left p f
-step_falls p c d c' j k j' f g ok h s =
-    subst (λ t. moves_at g.stage g.line (length (code_of p t)) < moves_left p f) (sym s.tag)
-    (move_falls p f.tag (config_of f) s.told (config_of g) (stands_fits p c j f ok h) (plain_move p f.tag (config_of f) s.told (config_of g) h.lines_run (stands_plain p c j f h) s.move))
-
 -- ---- a poll
 
-pub polled_to : (p : Program) (c c' : ChannelFloor) (j j' : Floor) (f g : Frame) (told : List Told) (answer : Turn) → Stands p c j f → Tells p c c' j j' f g told → Falls p f g told → TurnAnswer p c c' j j' (frame_of f) (frame_of g) told answer → PolledTo p c c' j j' f g answer
-polled_to p c c' j j' f g told answer h s falls so = record {
+pub polled_to : (p : Program) (c c' : ChannelFloor) (j j' : Floor) (f g : Frame) (told : List Told) (answer : Turn) → Stands p c j f → Tells p c c' j j' f g told → TurnAnswer p c c' j j' (frame_of f) (frame_of g) told answer → PolledTo p c c' j j' f g answer
+polled_to p c c' j j' f g told answer h s so = record {
   polled = record {
     tag = s.tag;
     told = told;
@@ -127,7 +105,6 @@ polled_to p c c' j j' f g told answer h s falls so = record {
   };
   turn = so;
   stands = tells_stand p c c' j j' f g told h s;
-  falls = falls;
   dones = s.dones;
 }
 

@@ -6,10 +6,8 @@ use Rattle.std.proofs.lemmas.List.{length-map, get_or-map}
 use Rattle.std.proofs.lemmas.List.Folds.{list_any-append}
 use Rattle.std.proofs.lemmas.Option.{slice_get-get_or, slice_get-map}
 use Rattle.std.proofs.lemmas.Bool.Decides.{nat_tests}
-use Rattle.channel_model.specs.Channels.{Shape as ChannelShape}
 use Rattle.channel_model.specs.Histories.{acts_of}
 use Rattle.channel_model.specs.Floors.{Floor as ChannelFloor, Added as AddedToChannels}
-use Rattle.job_model.specs.declared.acts.JobAct.{JobAct}
 use Rattle.job_model.specs.declared.acts.JobAct.TheVariants.{Attach}
 use Rattle.job_model.specs.declared.acts.JobNote.TheVariants as known
 use Rattle.job_model.specs.Trees.{Shape, is_among}
@@ -22,7 +20,7 @@ use Rattle.note_book.specs.declared.book.Item.{Item}
 use Rattle.note_book.specs.Items.{channel_acts_in, job_acts_in}
 use Rattle.note_book.proofs.Appended.{channel_acts_in-append, job_acts_in-append}
 use Rattle.call_meaning.specs.Telling.{Told, on_jobs, HasEnded, items_in, did, knew}
-use Rattle.call_meaning.specs.Stories.{Moment, IsTrue, story_of, beginning}
+use Rattle.call_meaning.specs.Stories.{IsTrue, beginning}
 use Rattle.call_meaning.specs.JobCalls.{child_kind, NotAttached}
 use Rattle.call_meaning.specs.Calls.{ToldOnJobs, rows_in, seen_by}
 use Rattle.call_meaning.proofs.Tellings.{true_sooner}
@@ -33,7 +31,7 @@ use Rattle.scope_builders.specs.Dones.{ClosesAtOnce, KeepsDones}
 use Rattle.scope_builders.specs.Calls.{LaunchAnswer}
 use Rattle.script_grammar.specs.Programs.{Program, Block, block_names}
 use Rattle.script_grammar.specs.Grammar.{is_spawn}
-use Rattle.script_grammar.specs.Tags.{code_of, coroutine_count, size_of, sizes_of, spawned, spawned_by}
+use Rattle.script_grammar.specs.Tags.{coroutine_count, size_of, sizes_of, spawned, spawned_by}
 use Rattle.script_grammar.specs.WellFormed.{IsProgram}
 use Rattle.script_grammar.proofs.Layouts.{main_fits, size_some, test_at}
 use Rattle.script_meaning.specs.declared.stage.Stage.TheVariants.{Unwinding}
@@ -45,13 +43,16 @@ use Rattle.script_reader.specs.declared.script.Spawn.{Spawn}
 use Rattle.script_reader.specs.Programs.{spawn_of}
 use Rattle.poll_states.specs.declared.frame.Frame.{Frame}
 use Rattle.poll_states.specs.declared.floors.Floors.{Floors}
-use Rattle.poll_states.specs.Frames.{config_of, items_of, frame_of, Stands, SameFloors}
-use Rattle.poll_states.specs.Steps.{HasBody, NotedSome, CutShort, IsNewRoot, IsOnItsFloors, BegunTo, IsForSpawn, HasSpawned, IsRefusedSpawn}
+use Rattle.poll_states.specs.Frames.{config_of, items_of, SameFloors}
+use Rattle.poll_states.specs.Steps.{NotedSome, CutShort, IsNewRoot, IsOnItsFloors, BegunTo, IsForSpawn, HasSpawned, IsRefusedSpawn}
 use Rattle.poll_states.proofs.Moving.{rows_in-append, own_rows-append, closes_then}
 use Rattle.poll_states.proofs.DonesLeft.{unclosed_kept}
-use Rattle.poll_states.proofs.Mild.{AllMild, Unrefused, mild_then, nothing_mild, attach_mild, mild_closes, mild_unrefused, unrefused_claims, claims_behind}
+use Rattle.script_meaning.proofs.GentleNotes.{attach_mild, mild_unrefused}
+use Rattle.poll_states.proofs.Mild.{AllMild, mild_then, nothing_mild, mild_closes, unrefused_claims, claims_behind}
 use Rattle.poll_states.proofs.Standing.{few_coroutines}
-use Rattle.poll_states.proofs.Stepping.{self_channels, never_told_over}
+use Rattle.poll_states.proofs.Stepping.{self_channels}
+use Rattle.poll_states.proofs.JobLines.{never_told_over}
+use Rattle.script_meaning.specs.Bodies.{IsOwnRow}
 
 rows_told-append : (xs ys : List Told) → rows_in (job_acts_in (items_in (xs ++ ys))) ≡ rows_in (job_acts_in (items_in xs)) ++ rows_in (job_acts_in (items_in ys))
 rows_told-append xs ys =
@@ -129,7 +130,6 @@ root_begun p c d j j' f g told ok l e new on t spawned_so noted refused closes =
     refused = refused;
   };
   stands = record {
-    lines_run = on.lines_run;
     on = record {
       channels = on.channels;
       jobs = noted.added.same.shape ∙ on.jobs;
@@ -210,9 +210,12 @@ for_spawn p block left c d j k f ok e on h = subst (λ x. IsForSpawn p block x k
   of_channels = on.of_channels;
   jobs = h.noted.added.same.shape ∙ on.jobs;
   body = record {
-    caller = ap (λ (t : ℕ → Bool). t 0) h.noted.added.same.callers ∙ on.of_jobs;
-    coroutine = omega (arith, root_row p ok, ap (λ (s : Shape). s.coroutines) (h.noted.added.same.shape ∙ on.jobs));
-    not_ended = ap (list_any (ends_body 0)) (h.noted.added.mine ∙ ap (λ a. a ++ job_acts_in (items_in h.told)) on.no_job_acts) ∙ h.not_ended;
+    row_in = omega (arith, root_row p ok, ap (λ (s : Shape). s.rows) (h.noted.added.same.shape ∙ on.jobs));
+    at = record {
+      caller = ap (λ (t : ℕ → Bool). t 0) h.noted.added.same.callers ∙ on.of_jobs;
+      whose = IsOwnRow.own refl (omega (arith, root_row p ok, ap (λ (s : Shape). s.coroutines) (h.noted.added.same.shape ∙ on.jobs)));
+      not_ended = ap (list_any (ends_body 0)) (h.noted.added.mine ∙ ap (λ a. a ++ job_acts_in (items_in h.told)) on.no_job_acts) ∙ h.not_ended;
+    };
   };
   channel_acts = on.no_channel_acts ∙ sym h.noted.no_channels ∙ ap channel_acts_in (sym h.noted.appended);
   job_acts = h.noted.added.mine ∙ ap (λ a. a ++ job_acts_in (items_in h.told)) on.no_job_acts ∙ ap job_acts_in (sym h.noted.appended);
@@ -257,7 +260,7 @@ spawn_refused p block c j j' f g error mid which l h answer t config items =
     ⊎_elim
     (λ k. let q = subst (λ x. LaunchAnswer f.tag 0 f.free false j j' (items_of f) (items_of g) (Err x)) k answer in refused_used j j' f g h.tag q.0 q.1 t config)
     (λ k. let q = subst (λ x. LaunchAnswer f.tag 0 f.free false j j' (items_of f) (items_of g) (Err x)) k answer in
-    absurd (never_told_over 0 (f.free ∷ []) c j j' (items_of f) (items_of g) (knew known.ParentEnded ∷ []) l h.body h.channel_acts h.job_acts (subst (λ w. ToldOnJobs w (f.free ∷ []) j j' (items_of f) (items_of g) (on_jobs (HasEnded 0) ∷ knew known.ParentEnded ∷ [])) h.tag q)))
+    absurd (never_told_over 0 0 (f.free ∷ []) c j j' (items_of f) (items_of g) (knew known.ParentEnded ∷ []) l h.body.at h.channel_acts h.job_acts (subst (λ w. ToldOnJobs w (f.free ∷ []) j j' (items_of f) (items_of g) (on_jobs (HasEnded 0) ∷ knew known.ParentEnded ∷ [])) h.tag q)))
     which
 
 -- ---- the spawns of a script

@@ -1,46 +1,44 @@
 -- What a poll comes to.
-use Rattle.std.specs.Prelude.{◌≡◌, ◌≢◌, ℕ, ◌<◌, ◌⊎◌, Bool, true, false, List, [], ◌∷◌, ◌++◌, length, Option, Some, None, is_some, refl}
+use Rattle.std.specs.Prelude.{◌≡◌, ℕ, true, false, List, [], ◌∷◌, ◌++◌, Option, Some, None, is_some, refl}
 use mathlib.Core.List.{IsPrefix}
-use Rattle.std.proofs.Common.{sym, ap, ◌∙◌, subst, arith, inl, inr, ⊎_elim}
+use Rattle.std.proofs.Common.{sym, ap, ◌∙◌, subst, inl, inr, ⊎_elim}
 use Rattle.co_base.specs.declared.names.WaitId.{WaitId}
-use Rattle.channel_model.specs.Floors.{Floor as ChannelFloor, Added as AddedToChannels, Looked as LookedAtChannels}
+use Rattle.channel_model.specs.Floors.{Floor as ChannelFloor, Added as AddedToChannels}
 use Rattle.channel_model.proofs.Spans as spans
 use Rattle.job_model.specs.Histories.{Legal}
 use Rattle.job_model.specs.Trees.{Shape}
-use Rattle.job_model.specs.Floors.{Floor, Added, Looked, AtStep}
-use Rattle.job_model.proofs.Spans.{added_looked, added_then, prefix_then, prefix_self, nothing_more}
+use Rattle.job_model.specs.Floors.{Floor, Added, AtStep}
+use Rattle.job_model.proofs.Spans.{added_looked, added_then, prefix_then, nothing_more}
 use Rattle.note_book.specs.declared.book.Item.{Item}
 use Rattle.note_book.specs.Items.{channel_acts_in, job_acts_in}
 use Rattle.call_meaning.specs.Telling.{Told, on_jobs, MayRun, items_in}
 use Rattle.call_meaning.specs.Facts.{IsRunning}
 use Rattle.call_meaning.specs.Calls.{ToldOnBoth, rows_in}
-use Rattle.call_meaning.proofs.JobTellings.{told_nothing, nobody_called, both_jobs, both_then}
+use Rattle.call_meaning.proofs.JobTellings.{told_nothing, both_jobs, both_then}
 use Rattle.scope_builders.specs.Dones.{KeepsDones}
 use Rattle.script_grammar.specs.Programs.{Program}
-use Rattle.script_grammar.specs.Tags.{code_of}
 use Rattle.script_grammar.specs.WellFormed.{IsProgram}
 use Rattle.script_meaning.specs.declared.stage.Stage.{Stage}
 use Rattle.script_meaning.specs.declared.stage.Stage.TheVariants.{Fresh, Running, Waiting, SeesJob, Unwinding, Leaving, SeesScope, Ended}
 use Rattle.script_meaning.specs.declared.turn.Turn.{Turn}
 use Rattle.script_meaning.specs.declared.turn.Turn.TheVariants as turn
 use Rattle.script_meaning.specs.Shapes.{base_of}
-use Rattle.script_meaning.specs.Configs.{Config, at_stage}
+use Rattle.script_meaning.specs.Configs.{Config, innermost, at_stage}
 use Rattle.script_meaning.specs.Moves.{Move}
 use Rattle.script_meaning.specs.Idle.{IsNotStarted}
 use Rattle.script_meaning.specs.Polls.{Turned, MovesOnce, RefusedByClaims, TurnAnswer, WaitsFor, HasStood}
 use Rattle.poll_states.specs.declared.frame.Frame.{Frame}
 use Rattle.poll_states.specs.declared.jobs.OwnState.TheVariants as own
-use Rattle.poll_states.specs.Frames.{config_of, items_of, frame_of, Stands, moves_left}
+use Rattle.script_meaning.specs.Laws.{wait_of}
+use Rattle.script_meaning.specs.Bodies.{is_over}
+use Rattle.poll_states.specs.Frames.{config_of, items_of, frame_of, Stands, IsUnmoved}
 use Rattle.poll_states.specs.Steps.{Stepped, CutShort, OwnStateSeen, SeenWait, PolledTo, AnsweredAfter, IsAnswerAt}
-use Rattle.script_reader.specs.declared.script.Script.{Script}
-use Rattle.script_reader.specs.Scripts.{program_of}
-use Rattle.poll_states.proofs.PlainMoves.{PlainMove, plain_move}
-use Rattle.poll_states.proofs.Reached.{is_over, is_fresh, goes_on_open}
-use Rattle.poll_states.proofs.Fitting.{IsInside}
-use Rattle.poll_states.proofs.Standing.{stands_plain, stands_fits, code_short}
+use Rattle.poll_states.proofs.Standing.{stands_fits}
+use Rattle.poll_states.proofs.Changing.{never_unmoved}
 use Rattle.poll_states.proofs.DonesLeft.{unclosed_kept}
-use Rattle.poll_states.proofs.Moving.{Tells, tells_step, tells_stand, step_stands, step_falls, polled_to, keeps_then}
-use Rattle.poll_states.proofs.Stepping.{self_jobs, self_channels, may_run_noted, has_begun}
+use Rattle.poll_states.proofs.Moving.{Tells, tells_step, step_stands, polled_to, keeps_then}
+use Rattle.poll_states.proofs.Stepping.{self_jobs, self_channels}
+use Rattle.poll_states.proofs.JobLines.{may_run_noted, has_begun}
 
 -- ---- looks
 
@@ -49,7 +47,7 @@ pub nothing_noted : (who : ℕ) (c d : ChannelFloor) (a b : Floor) (i i' : List 
 nothing_noted who c d a b i i' h m e = both_jobs who [] c d a b i i' [] h (told_nothing who [] a b i i' e m)
 
 -- what was claimed stays claimed
-claims_later : (x : Config) (notes : List Item) (who : ℕ) (a b : Floor) → Added who [] [] a b → RefusedByClaims x notes a → RefusedByClaims x notes b
+pub claims_later : (x : Config) (notes : List Item) (who : ℕ) (a b : Floor) → Added who [] [] a b → RefusedByClaims x notes a → RefusedByClaims x notes b
 claims_later x notes who a b h m = record {
   no_row = λ e r lo hi. still r (m.no_row e r (rw (sym (ap (λ (s : Shape). s.coroutines) h.same.shape)) lo) (rw (sym (ap (λ (s : Shape). s.rows) h.same.shape)) hi));
   used = λ e. still x.free (m.used e);
@@ -84,7 +82,7 @@ pub not_end : (stage which : Stage) → is_over which ≡ false → stage ≡ wh
 not_end stage which o e u = let v : is_over Ended ≡ false = ap is_over (sym u ∙ e) ∙ o in let w : true ≡ false = v in cc
 
 -- what is answered after a line that made a move
-pub answer_at : (p : Program) (c c' : ChannelFloor) (j a b : Floor) (f g : Frame) (told : List Told) (stage : Stage) (answer : Turn) → g.stage ≡ stage → MovesOnce p f.tag (config_of f) told (config_of g) → ((w : WaitId) → g.stage ≡ Waiting w → HasStood c c' w) → IsPrefix j.seen a.seen → IsAnswerAt g.tag stage a b answer
+pub answer_at : (p : Program) (c c' : ChannelFloor) (j a b : Floor) (f g : Frame) (told : List Told) (stage : Stage) (answer : Turn) → g.stage ≡ stage → MovesOnce p f.tag (config_of f) told (config_of g) → ((w : WaitId) → wait_of g.stage ≡ Some w → HasStood c c' w) → IsPrefix j.seen a.seen → IsAnswerAt (innermost g.tag (config_of g)) stage a b answer
     → TurnAnswer p c c' j b (frame_of f) (frame_of g) told answer
 answer_at p c c' j a b f g told Fresh answer e m stood longer so = subst (TurnAnswer p c c' j b (frame_of f) (frame_of g) told) (sym so) (not_end g.stage Fresh refl e, inl m)
 answer_at p c c' j a b f g told Running answer e m stood longer so = subst (TurnAnswer p c c' j b (frame_of f) (frame_of g) told) (sym so) (not_end g.stage Running refl e, inl m)
@@ -92,11 +90,11 @@ answer_at p c c' j a b f g told (Waiting w) answer e m stood longer so =
     ⊎_elim
     (λ q. subst (TurnAnswer p c c' j b (frame_of f) (frame_of g) told) (sym q.0) (not_end g.stage (Waiting w) refl e, inl m))
     (λ q. subst (TurnAnswer p c c' j b (frame_of f) (frame_of g) told) (sym q.0)
-    (WaitsFor.waits w e (stood w e) (record { moment = q.1.moment; after = prefix_then j.seen a.seen q.1.moment longer q.1.after; before = q.1.before; holds = q.1.holds })))
+    (WaitsFor.waits w e (stood w (ap wait_of e)) (record { moment = q.1.moment; after = prefix_then j.seen a.seen q.1.moment longer q.1.after; before = q.1.before; holds = q.1.holds })))
     so
 answer_at p c c' j a b f g told SeesJob answer e m stood longer so = subst (TurnAnswer p c c' j b (frame_of f) (frame_of g) told) (sym so) (not_end g.stage SeesJob refl e, inl m)
 answer_at p c c' j a b f g told (Unwinding failure) answer e m stood longer so = subst (TurnAnswer p c c' j b (frame_of f) (frame_of g) told) (sym so) (not_end g.stage (Unwinding failure) refl e, inl m)
-answer_at p c c' j a b f g told (Leaving w) answer e m stood longer so = subst (TurnAnswer p c c' j b (frame_of f) (frame_of g) told) (sym so) (not_end g.stage (Leaving w) refl e, inl m)
+answer_at p c c' j a b f g told (Leaving w) answer e m stood longer so = subst (TurnAnswer p c c' j b (frame_of f) (frame_of g) told) (sym so) (WaitsFor.leaves w e (stood w (ap wait_of e)))
 answer_at p c c' j a b f g told SeesScope answer e m stood longer so = subst (TurnAnswer p c c' j b (frame_of f) (frame_of g) told) (sym so) (not_end g.stage SeesScope refl e, inl m)
 answer_at p c c' j a b f g told Ended answer e m stood longer so = subst (TurnAnswer p c c' j b (frame_of f) (frame_of g) told) (sym so) e
 
@@ -106,43 +104,19 @@ once p c c' j j' f g s = MovesOnce.once (config_of f) (config_of g) s.told s.mov
 -- ---- polls of one move
 
 -- a line, and the look after it
-pub polled_line : (p : Program) (c c' : ChannelFloor) (j a b : Floor) (f g : Frame) (answer : Turn) → IsProgram p → Legal b.shape b.seen → Stands p c j f → Stepped p c c' j a f g → AnsweredAfter g a b answer → PolledTo p c c' j b f g answer
-polled_line p c c' j a b f g answer ok l h s after =
-    polled_to p c c' j b f g s.told answer h (tells_later p c c' j a b f g s.told l (tells_step p c c' j a f g s) (subst (λ k. Added k [] [] a b) s.tag after.looked)) (inr (step_falls p c c c' j j a f g ok h s))
+pub polled_line : (p : Program) (c c' : ChannelFloor) (j a b : Floor) (f g : Frame) (answer : Turn) → Legal b.shape b.seen → Stands p c j f → Stepped p c c' j a f g → AnsweredAfter g a b answer → PolledTo p c c' j b f g answer
+polled_line p c c' j a b f g answer l h s after =
+    polled_to p c c' j b f g s.told answer h (tells_later p c c' j a b f g s.told l (tells_step p c c' j a f g s) (subst (λ k. Added k [] [] a b) s.tag after.looked))
     (answer_at p c c' j a b f g s.told g.stage answer refl (once p c c' j a f g s) s.stood s.noted.jobs.longer after.so)
 
 -- a move after which it is polled again
-pub polled_ready : (p : Program) (c c' : ChannelFloor) (j j' : Floor) (f g : Frame) (stage : Stage) → IsProgram p → Stands p c j f → Stepped p c c' j j' f g → g.stage ≡ stage → is_over stage ≡ false → PolledTo p c c' j j' f g turn.Ready
-polled_ready p c c' j j' f g stage ok h s e o =
-    polled_to p c c' j j' f g s.told turn.Ready h (tells_step p c c' j j' f g s) (inr (step_falls p c c c' j j j' f g ok h s)) (not_end g.stage stage o e, inl (once p c c' j j' f g s))
+pub polled_ready : (p : Program) (c c' : ChannelFloor) (j j' : Floor) (f g : Frame) (stage : Stage) → Stands p c j f → Stepped p c c' j j' f g → g.stage ≡ stage → is_over stage ≡ false → PolledTo p c c' j j' f g turn.Ready
+polled_ready p c c' j j' f g stage h s e o =
+    polled_to p c c' j j' f g s.told turn.Ready h (tells_step p c c' j j' f g s) (not_end g.stage stage o e, inl (once p c c' j j' f g s))
 
 -- a move that ends the body
-pub polled_over : (p : Program) (c c' : ChannelFloor) (j j' : Floor) (f g : Frame) → IsProgram p → Stands p c j f → Stepped p c c' j j' f g → g.stage ≡ Ended → PolledTo p c c' j j' f g turn.Ended
-polled_over p c c' j j' f g ok h s e = polled_to p c c' j j' f g s.told turn.Ended h (tells_step p c c' j j' f g s) (inr (step_falls p c c c' j j j' f g ok h s)) e
-
--- a wait does not end a body
-waits_on : (p : Program) (k : ℕ) (x : Config) (told : List Told) (y : Config) (w : WaitId) → x.stage ≡ Waiting w → PlainMove p k x told y → is_over y.stage ≡ false
-waits_on p k _ _ _ w e (PlainMove.runs x s) = refl
-waits_on p k _ _ _ w e (PlainMove.never_runs x s) = refl
-waits_on p k _ _ _ w e (PlainMove.calls x y i g a at c f) = goes_on_open k x i a y f
-waits_on p k _ _ _ w e (PlainMove.resumes x y v i outcome a s at m f) = goes_on_open k x i a y f
-waits_on p k _ _ _ w e (PlainMove.cancelled x v s) = refl
-waits_on p k _ _ _ w e (PlainMove.gives_up x v g s h) = refl
-waits_on p k _ _ _ w e (PlainMove.yields x at) = refl
-waits_on p k _ _ _ w e (PlainMove.stops_at_yield x at) = refl
-waits_on p k _ _ _ w e (PlainMove.launches x block how job now at) = refl
-waits_on p k _ _ _ w e (PlainMove.launch_refused x block how job g at h) = refl
-waits_on p k _ _ _ w e (PlainMove.starts x job row g at n h) = refl
-waits_on p k _ _ _ w e (PlainMove.cancels x job row newly g at n h) = refl
-waits_on p k _ _ _ w e (PlainMove.fails x v at) = refl
-waits_on p k _ _ _ w e (PlainMove.results x o at) = refl
-waits_on p k _ _ _ w e (PlainMove.breaks x failure g s h) = absurd (let u : Unwinding failure ≡ Waiting w = sym s ∙ e in let n : ⊥ = cc in n)
-waits_on p k _ _ _ w e (PlainMove.ends x g s l h) = absurd (let u : Running ≡ Waiting w = sym s ∙ e in let n : ⊥ = cc in n)
-
--- the end of a wait
-pub polled_end : (p : Program) (c c' : ChannelFloor) (j j' : Floor) (f g : Frame) (w : WaitId) → IsProgram p → Stands p c j f → f.stage ≡ Waiting w → Stepped p c c' j j' f g → PolledTo p c c' j j' f g turn.Ready
-polled_end p c c' j j' f g w ok h e s =
-    polled_ready p c c' j j' f g g.stage ok h s refl (waits_on p f.tag (config_of f) s.told (config_of g) w e (plain_move p f.tag (config_of f) s.told (config_of g) h.lines_run (stands_plain p c j f h) s.move))
+pub polled_over : (p : Program) (c c' : ChannelFloor) (j j' : Floor) (f g : Frame) → Stands p c j f → Stepped p c c' j j' f g → g.stage ≡ Ended → PolledTo p c c' j j' f g turn.Ended
+polled_over p c c' j j' f g h s e = polled_to p c c' j j' f g s.told turn.Ended h (tells_step p c c' j j' f g s) e
 
 -- ---- a poll without a move
 
@@ -157,20 +131,20 @@ polled_still p c c' j j' f g answer l h t config items channels jobs so =
       refused = record { no_row = λ e. absurd (let u : ⊥ = cc in u); used = λ e. absurd (let u : ⊥ = cc in u); none_ended = refl };
       dones = unclosed_kept f.tag (base_of p) [] [] [] c c' j j' [] l channels refl jobs tt;
     })
-    (inl (config, refl)) so
+    so
 
 -- the body has ended
 pub polled_ended : (p : Program) (c : ChannelFloor) (j : Floor) (f : Frame) → Legal j.shape j.seen → Stands p c j f → f.stage ≡ Ended → PolledTo p c c j j f f turn.Ended
 polled_ended p c j f l h e = polled_still p c c j j f f turn.Ended l h refl refl refl (self_channels f.tag c) (self_jobs f.tag j) e
 
 -- the wait stands, and the Job runs
-pub polled_waits : (p : Program) (c c' : ChannelFloor) (a b : Floor) (f g : Frame) (w : WaitId) → Legal b.shape b.seen → Stands p c a f → f.stage ≡ Waiting w → SeenWait f.tag w c c' false → OwnStateSeen f.tag a b own.MayRun → g.tag ≡ f.tag → config_of g ≡ config_of f → items_of g ≡ items_of f → PolledTo p c c' a b f g turn.Waits
+pub polled_waits : (p : Program) (c c' : ChannelFloor) (a b : Floor) (f g : Frame) (w : WaitId) → Legal b.shape b.seen → Stands p c a f → f.stage ≡ Waiting w → SeenWait f.tag w c c' false → OwnStateSeen f.tag (innermost f.tag (config_of f)) a b own.MayRun → g.tag ≡ f.tag → config_of g ≡ config_of f → items_of g ≡ items_of f → PolledTo p c c' a b f g turn.Waits
 polled_waits p c c' a b f g w l h e seen s t config items =
     polled_still p c c' a b f g turn.Waits l h t config items (spans.added_looked f.tag c c' seen.looked) (added_looked f.tag [] a b s.looked)
-    (WaitsFor.waits w (ap (λ (x : Config). x.stage) config ∙ e) seen.so (subst (λ k. AtStep a b (λ tree. IsRunning (tree k))) (sym t) s.was))
+    (WaitsFor.waits w (ap (λ (x : Config). x.stage) config ∙ e) seen.so (subst (λ k. AtStep a b (λ tree. IsRunning (tree (innermost k (config_of g))))) (sym t) (subst (λ x. AtStep a b (λ tree. IsRunning (tree (innermost f.tag x)))) (sym config) s.was)))
 
 -- the own Job was not attached, or New
-pub polled_idle : (p : Program) (c : ChannelFloor) (a b : Floor) (f g : Frame) → Legal b.shape b.seen → Stands p c a f → f.stage ≡ Fresh → OwnStateSeen f.tag a b own.NotStarted → g.tag ≡ f.tag → config_of g ≡ config_of f → items_of g ≡ items_of f → PolledTo p c c a b f g turn.Waits
+pub polled_idle : (p : Program) (c : ChannelFloor) (a b : Floor) (f g : Frame) → Legal b.shape b.seen → Stands p c a f → f.stage ≡ Fresh → OwnStateSeen f.tag f.tag a b own.NotStarted → g.tag ≡ f.tag → config_of g ≡ config_of f → items_of g ≡ items_of f → PolledTo p c c a b f g turn.Waits
 polled_idle p c a b f g l h e s t config items =
     polled_still p c c a b f g turn.Waits l h t config items (self_channels f.tag c) (added_looked f.tag [] a b s.looked)
     (WaitsFor.not_started (ap (λ (x : Config). x.stage) config ∙ e) (subst (λ k. AtStep a b (λ tree. IsNotStarted (tree k))) (sym t) s.was))
@@ -178,14 +152,14 @@ polled_idle p c a b f g l h e s t config items =
 -- ---- the first line
 
 -- the coroutine began
-pub first_stands : (p : Program) (c : ChannelFloor) (a b : Floor) (f m : Frame) → Legal b.shape b.seen → Stands p c a f → f.stage ≡ Fresh → OwnStateSeen f.tag a b own.MayRun → m.tag ≡ f.tag → config_of m ≡ at_stage Running (config_of f) → items_of m ≡ items_of f → Stands p c b m
+pub first_stands : (p : Program) (c : ChannelFloor) (a b : Floor) (f m : Frame) → Legal b.shape b.seen → Stands p c a f → f.stage ≡ Fresh → OwnStateSeen f.tag f.tag a b own.MayRun → m.tag ≡ f.tag → config_of m ≡ at_stage Running (config_of f) → items_of m ≡ items_of f → Stands p c b m
 first_stands p c a b f m l h fresh s t config items = step_stands p c c a b f m h (has_begun p c a b f m l fresh s t config items)
 
 same_claims : (x : Config) (notes : List Item) (j : Floor) → RefusedByClaims (at_stage Running x) notes j → RefusedByClaims x notes j
 same_claims x notes j h = record { no_row = h.no_row; used = h.used; none_ended = h.none_ended }
 
 -- what was told before and in its first line
-first_tells : (p : Program) (c c' : ChannelFloor) (a b e : Floor) (f m g : Frame) → Legal b.shape b.seen → Legal e.shape e.seen → f.stage ≡ Fresh → OwnStateSeen f.tag a b own.MayRun → m.tag ≡ f.tag → config_of m ≡ at_stage Running (config_of f) → items_of m ≡ items_of f → (line : Stepped p c c' b e m g)
+first_tells : (p : Program) (c c' : ChannelFloor) (a b e : Floor) (f m g : Frame) → Legal b.shape b.seen → Legal e.shape e.seen → f.stage ≡ Fresh → OwnStateSeen f.tag f.tag a b own.MayRun → m.tag ≡ f.tag → config_of m ≡ at_stage Running (config_of f) → items_of m ≡ items_of f → (line : Stepped p c c' b e m g)
     → Tells p c c' a e f g (on_jobs (MayRun f.tag) ∷ line.told) × (MovesOnce p f.tag (config_of f) (on_jobs (MayRun f.tag) ∷ line.told) (config_of g))
 unfolding items_in rows_in
 first_tells p c c' a b e f m g l l' fresh s t config items line =
@@ -199,26 +173,23 @@ first_tells p c c' a b e f m g l l' fresh s t config items line =
       record {
         tag = line.tag ∙ t;
         turned = Turned.moved x (config_of g) _ moves;
-        noted = both_then f.tag [] rows c c c' a b e (items_of f) (items_of m) (items_of g) (on_jobs (MayRun f.tag) ∷ []) line.told (may_run_noted c a b f.tag (items_of f) (items_of m) s items) noted;
+        noted = both_then f.tag [] rows c c c' a b e (items_of f) (items_of m) (items_of g) (on_jobs (MayRun f.tag) ∷ []) line.told (may_run_noted c a b f.tag f.tag (items_of f) (items_of m) s items) noted;
         refused = same_claims x (items_in line.told) e (subst (λ z. RefusedByClaims z (items_in line.told) e) config line.refused);
         dones = keeps_then (base_of p) c c c' a b e [] (items_in line.told) refl s.looked.same.alone (unclosed_kept f.tag (base_of p) [] [] [] c c a b [] l (self_channels f.tag c) refl (added_looked f.tag [] a b s.looked) tt) line.dones;
       },
       moves,
     )
 
-pub polled_first : (p : Program) (c c' : ChannelFloor) (a b e j' : Floor) (f m g : Frame) (answer : Turn) → IsProgram p → Legal b.shape b.seen → Legal e.shape e.seen → Legal j'.shape j'.seen → Stands p c a f → f.stage ≡ Fresh → OwnStateSeen f.tag a b own.MayRun → m.tag ≡ f.tag → config_of m ≡ at_stage Running (config_of f) → items_of m ≡ items_of f
+pub polled_first : (p : Program) (c c' : ChannelFloor) (a b e j' : Floor) (f m g : Frame) (answer : Turn) → Legal b.shape b.seen → Legal e.shape e.seen → Legal j'.shape j'.seen → Stands p c a f → f.stage ≡ Fresh → OwnStateSeen f.tag f.tag a b own.MayRun → m.tag ≡ f.tag → config_of m ≡ at_stage Running (config_of f) → items_of m ≡ items_of f
     → Stepped p c c' b e m g → AnsweredAfter g e j' answer → PolledTo p c c' a j' f g answer
-polled_first p c c' a b e j' f m g answer ok l l' l'' h fresh s t config items line after =
-    let begun = has_begun p c a b f m l fresh s t config items in
-    let stands = step_stands p c c a b f m h begun in
+polled_first p c c' a b e j' f m g answer l l' l'' h fresh s t config items line after =
     let told : List Told = on_jobs (MayRun f.tag) ∷ line.told in
     let both = first_tells p c c' a b e f m g l l' fresh s t config items line in
-    let falls : moves_left p g < moves_left p f = let one = step_falls p c c c a a b f m ok h begun in let two = step_falls p c c c' b b e m g ok stands line in omega (arith, one, two) in
-    polled_to p c c' a j' f g told answer h (tells_later p c c' a e j' f g told l'' both.0 (subst (λ k. Added k [] [] e j') (line.tag ∙ t) after.looked)) (inr falls)
+    polled_to p c c' a j' f g told answer h (tells_later p c c' a e j' f g told l'' both.0 (subst (λ k. Added k [] [] e j') (line.tag ∙ t) after.looked))
     (answer_at p c c' a e j' f g told g.stage answer refl both.1 line.stood (prefix_then a.seen b.seen e.seen s.looked.longer line.noted.jobs.longer) after.so)
 
 -- there was no memory for the first line
-pub cut_first : (c c' : ChannelFloor) (a b e : Floor) (f m g : Frame) → OwnStateSeen f.tag a b own.MayRun → m.tag ≡ f.tag → items_of m ≡ items_of f → CutShort c c' b e m g → CutShort c c' a e f g
+pub cut_first : (c c' : ChannelFloor) (a b e : Floor) (f m g : Frame) → OwnStateSeen f.tag f.tag a b own.MayRun → m.tag ≡ f.tag → items_of m ≡ items_of f → CutShort c c' b e m g → CutShort c c' a e f g
 cut_first c c' a b e f m g s t items cut =
     let n = cut.noted in
     record {
@@ -235,31 +206,21 @@ cut_first c c' a b e f m g s t items cut =
 -- ---- the answer after a line
 
 -- a coroutine that does not wait is not looked at
-pub answered_still : (f : Frame) (j : Floor) (answer : Turn) → IsAnswerAt f.tag f.stage j j answer → AnsweredAfter f j j answer
+pub answered_still : (f : Frame) (j : Floor) (answer : Turn) → IsAnswerAt (innermost f.tag (config_of f)) f.stage j j answer → AnsweredAfter f j j answer
 answered_still f j answer so = record { looked = self_jobs f.tag j; so = so }
 
-pub answered_waits : (f : Frame) (w : WaitId) (a b : Floor) → f.stage ≡ Waiting w → OwnStateSeen f.tag a b own.MayRun → AnsweredAfter f a b turn.Waits
-answered_waits f w a b e s = record { looked = added_looked f.tag [] a b s.looked; so = subst (λ t. IsAnswerAt f.tag t a b turn.Waits) (sym e) (inr (refl, s.was)) }
+pub answered_waits : (f : Frame) (w : WaitId) (a b : Floor) → f.stage ≡ Waiting w → OwnStateSeen f.tag (innermost f.tag (config_of f)) a b own.MayRun → AnsweredAfter f a b turn.Waits
+answered_waits f w a b e s = record { looked = added_looked f.tag [] a b s.looked; so = subst (λ t. IsAnswerAt (innermost f.tag (config_of f)) t a b turn.Waits) (sym e) (inr (refl, s.was)) }
 
-pub answered_again : (f : Frame) (w : WaitId) (a b : Floor) → f.stage ≡ Waiting w → OwnStateSeen f.tag a b own.Cancelling → AnsweredAfter f a b turn.Ready
-answered_again f w a b e s = record { looked = added_looked f.tag [] a b s.looked; so = subst (λ t. IsAnswerAt f.tag t a b turn.Ready) (sym e) (inl (refl, s.was)) }
+pub answered_again : (f : Frame) (w : WaitId) (a b : Floor) → f.stage ≡ Waiting w → OwnStateSeen f.tag (innermost f.tag (config_of f)) a b own.Cancelling → AnsweredAfter f a b turn.Ready
+answered_again f w a b e s = record { looked = added_looked f.tag [] a b s.looked; so = subst (λ t. IsAnswerAt (innermost f.tag (config_of f)) t a b turn.Ready) (sym e) (inl (refl, s.was)) }
 
--- ---- after a move nothing is left quiet
+-- ---- after a move nothing is left unmoved
 
-pub step_quiet : {A : Type 0} (p : Program) (c c' : ChannelFloor) (j j' : Floor) (f g : Frame) → IsProgram p → Stands p c j f → Stepped p c c' j j' f g → moves_left p g ≡ moves_left p f → A
-step_quiet p c c' j j' f g ok h s e = let lt = step_falls p c c c' j j j' f g ok h s in absurd (omega (arith, lt, e))
+pub step_quiet : {A : Type 0} (p : Program) (c c' : ChannelFloor) (j j' : Floor) (f g : Frame) → IsProgram p → Stands p c j f → Stepped p c c' j j' f g → IsUnmoved f g → A
+step_quiet p c c' j j' f g ok h s u = never_unmoved p f.tag f g s.told ok (stands_fits p c j f h) (once p c c' j j' f g s) s.noted.appended u
 
-pub first_quiet : {A : Type 0} (p : Program) (c c' : ChannelFloor) (a b e : Floor) (f m g : Frame) → IsProgram p → Legal b.shape b.seen → Stands p c a f → f.stage ≡ Fresh → OwnStateSeen f.tag a b own.MayRun → m.tag ≡ f.tag → config_of m ≡ at_stage Running (config_of f) → items_of m ≡ items_of f → Stepped p c c' b e m g → moves_left p g ≡ moves_left p f → A
-first_quiet p c c' a b e f m g ok l h fresh s t config items line k =
-    let begun = has_begun p c a b f m l fresh s t config items in
-    let stands = step_stands p c c a b f m h begun in
-    let one = step_falls p c c c a a b f m ok h begun in
-    let two = step_falls p c c c' b b e m g ok stands line in
-    absurd (omega (arith, one, two, k))
-
--- ---- the line of a wait
-
-pub wait_short : (s : Script) (c : ChannelFloor) (j : Floor) (f : Frame) (w : WaitId) → IsProgram (program_of s) → Stands (program_of s) c j f → f.stage ≡ Waiting w → f.line < 9223372036854775808
-wait_short s c j f w ok h e =
-    let lt : f.line < length (code_of (program_of s) f.tag) = subst (λ t. IsInside t f.line (length (code_of (program_of s) f.tag))) e (stands_fits (program_of s) c j f ok h).inside in
-    let short = code_short s f.tag in omega (arith, lt, short)
+pub first_quiet : {A : Type 0} (p : Program) (c c' : ChannelFloor) (a b e : Floor) (f m g : Frame) → IsProgram p → Legal b.shape b.seen → Legal e.shape e.seen → Stands p c a f → f.stage ≡ Fresh → OwnStateSeen f.tag f.tag a b own.MayRun → m.tag ≡ f.tag → config_of m ≡ at_stage Running (config_of f) → items_of m ≡ items_of f → Stepped p c c' b e m g → IsUnmoved f g → A
+first_quiet p c c' a b e f m g ok l l' h fresh s t config items line u =
+    let both = first_tells p c c' a b e f m g l l' fresh s t config items line in
+    never_unmoved p f.tag f g (on_jobs (MayRun f.tag) ∷ line.told) ok (stands_fits p c a f h) both.1 both.0.noted.appended u

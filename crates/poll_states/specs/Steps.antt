@@ -1,10 +1,8 @@
 -- What one move of a coroutine leaves, and what a poll does.
-use Rattle.std.specs.Prelude.{◌≡◌, ◌<◌, ◌≤◌, ◌+◌, ◌⊎◌, ℕ, Bool, true, false, List, [], ◌∷◌, ◌++◌, length, Option, Some, None, Result, Ok, Err}
-use Rattle.std.specs.List.{list_any}
+use Rattle.std.specs.Prelude.{◌≡◌, ◌<◌, ◌≤◌, ◌+◌, ◌⊎◌, ℕ, Bool, true, false, List, [], ◌∷◌, ◌++◌, length, Some, None, Result, Ok, Err}
 use Rattle.co_base.specs.declared.names.Memory.{Memory}
 use Rattle.co_base.specs.declared.names.WaitId.{WaitId}
 use Rattle.channel_model.specs.declared.acts.Settled.{Settled}
-use Rattle.channel_model.specs.declared.acts.Settled.TheVariants as settled
 use Rattle.channel_model.specs.Histories.{replay as replay_channels, acts_of as channel_acts_of}
 use Rattle.channel_model.specs.Floors.{Floor as ChannelFloor, Added as AddedToChannels, Looked as LookedAtChannels}
 use Rattle.channel_model.specs.Answers.{IsReady, outcome_at}
@@ -12,7 +10,6 @@ use Rattle.job_model.specs.Trees.{Tree, state_of, is_among}
 use Rattle.job_model.specs.declared.acts.JobState.TheVariants as states
 use Rattle.job_model.specs.declared.acts.JobAct.TheVariants.{Attach}
 use Rattle.job_model.specs.declared.acts.JobNote.TheVariants as known
-use Rattle.job_model.specs.Acts.{ends_body}
 use Rattle.job_model.specs.Histories.{acts_of}
 use Rattle.job_model.specs.Floors.{Floor, Added, Looked, AtStep, is_claimed_by}
 use Rattle.note_book.specs.declared.book.Item.{Item}
@@ -27,28 +24,38 @@ use Rattle.channel_calls.specs.declared.caller.SendAnswer.{SendAnswer}
 use Rattle.channel_calls.specs.declared.caller.SendAnswer.TheVariants as send
 use Rattle.channel_calls.specs.declared.caller.ReceiveAnswer.{ReceiveAnswer}
 use Rattle.channel_calls.specs.declared.caller.ReceiveAnswer.TheVariants as receive
-use Rattle.channel_calls.specs.Calls.{IsUntouched, end_told}
+use Rattle.channel_calls.specs.declared.caller.TrySendAnswer.{TrySendAnswer}
+use Rattle.channel_calls.specs.declared.caller.TrySendAnswer.TheVariants as try_send
+use Rattle.channel_calls.specs.declared.caller.TryReceiveAnswer.{TryReceiveAnswer}
+use Rattle.channel_calls.specs.declared.caller.TryReceiveAnswer.TheVariants as try_receive
+use Rattle.channel_calls.specs.Calls.{IsUntouched, ToldSome, end_told}
 use Rattle.scope_builders.specs.Dones.{KeepsDones}
+use Rattle.script_grammar.specs.declared.instructions.Instruction.{Instruction}
+use Rattle.script_grammar.specs.declared.instructions.Instruction.TheVariants.{Select}
 use Rattle.script_grammar.specs.Programs.{Program}
+use Rattle.script_grammar.specs.Nesting.{closing_of}
 use Rattle.script_grammar.specs.Tags.{code_of, coroutine_count, size_of}
-use Rattle.script_grammar.specs.FirstRunning.{all_run}
 use Rattle.script_meaning.specs.declared.stage.Stage.{Stage}
-use Rattle.script_meaning.specs.declared.stage.Stage.TheVariants.{Fresh, Running, Waiting, SeesJob, Unwinding, Leaving, SeesScope, Ended}
+use Rattle.script_meaning.specs.declared.stage.Stage.TheVariants.{Running, Waiting, Unwinding, Leaving, Ended}
 use Rattle.script_meaning.specs.declared.turn.Turn.{Turn}
 use Rattle.script_meaning.specs.declared.turn.Turn.TheVariants as turn
 use Rattle.script_meaning.specs.Shapes.{floor_shape, job_shape, base_of}
-use Rattle.script_meaning.specs.Configs.{Config, fresh, at_stage, next, received, past_launch}
+use Rattle.script_meaning.specs.Configs.{Config, in_each, fresh, at_stage, at_line, next}
+use Rattle.script_meaning.specs.Configs.{into, received, past_launch, innermost, LineIs, IsAt}
+use Rattle.script_meaning.specs.Bodies.{HasBodyAt}
+use Rattle.script_meaning.specs.WaitEnds.{after_wait}
+use Rattle.script_meaning.specs.Laws.{wait_of}
 use Rattle.script_meaning.specs.Moves.{Move}
 use Rattle.script_meaning.specs.Idle.{IsNotStarted}
-use Rattle.script_meaning.specs.Polls.{RefusedByClaims, Begun, Polled, TurnAnswer, HasStood, own_rows}
+use Rattle.script_meaning.specs.Polls.{RefusedByClaims, Begun, Polled, TurnAnswer, HasStood, own_rows, is_seeing}
 use Rattle.poll_states.specs.declared.frame.Frame.{Frame}
 use Rattle.poll_states.specs.declared.jobs.OwnState.{OwnState}
 use Rattle.poll_states.specs.declared.jobs.OwnState.TheVariants as own
-use Rattle.poll_states.specs.Frames.{config_of, items_of, frame_of, Stands, moves_left}
+use Rattle.poll_states.specs.Frames.{config_of, items_of, frame_of, Stands}
 
 -- ---- one move
 
--- one move of the coroutine of f, which told this, left g; where g waits, that wait stood at a moment
+-- one move of the coroutine of f, which told this, left g; where g waits, or leaves a scope, its wait stood at a moment
 pub record Stepped (p : Program) (c c' : ChannelFloor) (j j' : Floor) (f g : Frame) : Type 0 where
   pub tag : g.tag ≡ f.tag
   pub told : List Told
@@ -56,7 +63,7 @@ pub record Stepped (p : Program) (c c' : ChannelFloor) (j j' : Floor) (f g : Fra
   pub noted : ToldOnBoth f.tag (rows_in (job_acts_in (items_in told))) c c' j j' (items_of f) (items_of g) told
   pub refused : RefusedByClaims (config_of f) (items_in told) j'
   pub dones : KeepsDones (base_of p) c c' j j' (items_in told)
-  pub stood : (w : WaitId) → g.stage ≡ Waiting w → HasStood c c' w
+  pub stood : (w : WaitId) → wait_of g.stage ≡ Some w → HasStood c c' w
 
 -- the entries made so far stand and are noted
 pub record NotedSome (who : ℕ) (c c' : ChannelFloor) (j j' : Floor) (items items' : List Item) : Type 0 where
@@ -77,11 +84,10 @@ StepAnswer p c c' j j' f g (Err m) = CutShort c c' j j' f g
 
 -- ---- one's own Job
 
--- the row of who is that of its coroutine, and who did not end its body
-pub record HasBody (who : ℕ) (jobs : Floor) : Type 0 where
-  pub caller : jobs.callers who ≡ true
-  pub coroutine : who < jobs.shape.coroutines
-  pub not_ended : list_any (ends_body who) (acts_of who jobs.seen) ≡ false
+-- the body of this row, which is one of the floor's, is who's, and has not ended
+pub record HasBody (who row : ℕ) (jobs : Floor) : Type 0 where
+  pub row_in : row < jobs.shape.rows
+  pub at : HasBodyAt who row jobs
 
 -- what was so of the Job at a moment
 abbrev pub IsSeenAs : OwnState → ℕ → Tree → Type 0
@@ -89,9 +95,9 @@ IsSeenAs own.NotStarted k tree = IsNotStarted (tree k)
 IsSeenAs own.Cancelling k tree = state_of (tree k) ≡ Some states.Cancelling
 IsSeenAs own.MayRun k tree = IsRunning (tree k)
 
-pub record OwnStateSeen (who : ℕ) (old new : Floor) (state : OwnState) : Type 0 where
+pub record OwnStateSeen (who row : ℕ) (old new : Floor) (state : OwnState) : Type 0 where
   pub looked : Looked who [] old new
-  pub was : AtStep old new (IsSeenAs state who)
+  pub was : AtStep old new (IsSeenAs state row)
 
 -- ---- calls on channels
 
@@ -102,12 +108,36 @@ after_send k (send.Waits w) x = at_stage (Waiting w) x
 after_send k (send.Closed v) x = next x
 after_send k send.Spent x = at_stage (Unwinding (Some k)) x
 
+-- where a coroutine is whose send came to this, that does not wait
+abbrev pub after_try_send : ℕ → TrySendAnswer → Config → Config
+after_try_send k try_send.Sent x = next x
+after_try_send k try_send.Full x = next x
+after_try_send k (try_send.Closed v) x = next x
+after_try_send k try_send.Spent x = at_stage (Unwinding (Some k)) x
+
 -- where a coroutine is whose receive came to this
 abbrev pub after_receive : ℕ → ReceiveAnswer → Config → Config
 after_receive k (receive.Value v) x = next (received v x)
 after_receive k (receive.Waits w) x = at_stage (Waiting w) x
 after_receive k (receive.Closed v) x = next x
 after_receive k receive.Spent x = at_stage (Unwinding (Some k)) x
+
+-- where a coroutine is whose receive came to this, that does not wait
+abbrev pub after_try_receive : TryReceiveAnswer → Config → Config
+after_try_receive (try_receive.Value v) x = next (received v x)
+after_try_receive try_receive.Empty x = next x
+after_try_receive (try_receive.Closed v) x = next x
+
+-- it is past the line that closes what its line opens
+abbrev pub GoesPast : Program → ℕ → Config → Config → Type 0
+GoesPast p k old new = (e : ℕ) × (closing_of (code_of p k) old.line ≡ Some e) × (new ≡ at_line (e + 1) old)
+
+-- where a coroutine is, at an each, whose receive came to this
+abbrev pub AfterEach : Program → ℕ → ReceiveAnswer → Config → Config → Type 0
+AfterEach p k (receive.Value v) x y = y ≡ into (in_each x.line) (received v x)
+AfterEach p k (receive.Waits w) x y = y ≡ at_stage (Waiting w) x
+AfterEach p k (receive.Closed v) x y = GoesPast p k x y
+AfterEach p k receive.Spent x y = y ≡ at_stage (Unwinding (Some k)) x
 
 -- ---- one's own wait
 
@@ -120,38 +150,32 @@ pub record SeenWait (who : ℕ) (w : WaitId) (old new : ChannelFloor) (resolved 
   pub looked : LookedAtChannels who old new
   pub so : IsSeenSo who w old new resolved
 
--- where a coroutine is whose wait ended so, at a send or a receive
-abbrev pub after_wait : Settled → Config → Config
-after_wait (settled.Value k v) x = next (received v x)
-after_wait (settled.Sent k) x = next x
-after_wait (settled.Closed k v) x = next x
-after_wait settled.Cancelled x = at_stage (Unwinding None) x
-after_wait (settled.Undelivered v) x = next x
-
--- the wait was settled as it was resolved, and the coroutine goes on as that says
-pub record EndedWait (w : WaitId) (old new : ChannelFloor) (f g : Frame) : Type 0 where
+-- the wait was settled as it was resolved, and the coroutine goes on as that says for its line
+pub record EndedWait (p : Program) (w : WaitId) (old new : ChannelFloor) (f g : Frame) : Type 0 where
   pub outcome : Settled
   pub ends : outcome_at false ((replay_channels old.seen).waits w) ≡ Some outcome
-  pub config : config_of g ≡ after_wait outcome (config_of f)
+  pub line : Instruction
+  pub line_is : LineIs p f.tag (config_of f) line
+  pub config : config_of g ≡ after_wait p f.tag (config_of f) line outcome
   pub noted : ToldOnChannels f.tag old new (items_of f) (items_of g) (end_told w false outcome)
 
-abbrev pub EndedWaitAnswer : WaitId → ChannelFloor → ChannelFloor → Frame → Frame → Result (Unit {0}) Memory → Type 0
-EndedWaitAnswer w old new f g (Ok done) = EndedWait w old new f g
-EndedWaitAnswer w old new f g (Err m) = IsUntouched old new (items_of f) (items_of g)
+abbrev pub EndedWaitAnswer : Program → WaitId → ChannelFloor → ChannelFloor → Frame → Frame → Result (Unit {0}) Memory → Type 0
+EndedWaitAnswer p w old new f g (Ok done) = EndedWait p w old new f g
+EndedWaitAnswer p w old new f g (Err m) = IsUntouched old new (items_of f) (items_of g)
 
--- with the note that its own Job was seen Cancelling
-abbrev pub with_saw : Frame → List Item
-with_saw f = items_of f ++ item.Job (known.Saw f.tag) ∷ []
+-- with the note that the Job of this row was seen Cancelling
+abbrev pub with_saw : ℕ → Frame → List Item
+with_saw row f = items_of f ++ item.Job (known.Saw row) ∷ []
 
 -- that was noted, and then the wait was given up
-pub record GaveUp (w : WaitId) (old new : ChannelFloor) (f g : Frame) : Type 0 where
+pub record GaveUp (w : WaitId) (row : ℕ) (old new : ChannelFloor) (f g : Frame) : Type 0 where
   pub told : List Told
   pub goes : GivesUp w told
-  pub noted : ToldOnChannels f.tag old new (with_saw f) (items_of g) told
+  pub noted : ToldOnChannels f.tag old new (with_saw row f) (items_of g) told
 
-abbrev pub GaveUpAnswer : WaitId → ChannelFloor → ChannelFloor → Frame → Frame → Result (Unit {0}) Memory → Type 0
-GaveUpAnswer w old new f g (Ok done) = GaveUp w old new f g
-GaveUpAnswer w old new f g (Err m) = IsUntouched old new (with_saw f) (items_of g)
+abbrev pub GaveUpAnswer : WaitId → ℕ → ChannelFloor → ChannelFloor → Frame → Frame → Result (Unit {0}) Memory → Type 0
+GaveUpAnswer w row old new f g (Ok done) = GaveUp w row old new f g
+GaveUpAnswer w row old new f g (Err m) = ToldSome f.tag old new (with_saw row f) (items_of g)
 
 -- ---- the line
 
@@ -162,33 +186,36 @@ pub record IsAtEnd (p : Program) (f : Frame) : Type 0 where
 
 -- ---- polls
 
--- the coroutine is where it was, and told nothing; or it has fewer moves left
-abbrev pub Falls : Program → Frame → Frame → List Told → Type 0
-Falls p f g told = ((config_of g ≡ config_of f) × (told ≡ [])) ⊎ (moves_left p g < moves_left p f)
-
 -- a poll of f left g and answered so
 pub record PolledTo (p : Program) (c c' : ChannelFloor) (j j' : Floor) (f g : Frame) (answer : Turn) : Type 0 where
   pub polled : Polled p c c' j j' (frame_of f) (frame_of g)
   pub turn : TurnAnswer p c c' j j' (frame_of f) (frame_of g) polled.told answer
   pub stands : Stands p c' j' g
-  pub falls : Falls p f g polled.told
   pub dones : KeepsDones (base_of p) c c' j j' (items_in polled.told)
 
 abbrev pub PollAnswer : Program → ChannelFloor → ChannelFloor → Floor → Floor → Frame → Frame → Result Turn Memory → Type 0
 PollAnswer p c c' j j' f g (Ok answer) = PolledTo p c c' j j' f g answer
 PollAnswer p c c' j j' f g (Err m) = CutShort c c' j j' f g
 
--- what a poll answers after a line that left the coroutine so: one that waits is to be polled again where its Job was Cancelling
+-- what a poll answers after a line that left the coroutine so: one that waits is to be polled again where the Job of this row, its
+-- innermost, was Cancelling
 abbrev pub IsAnswerAt : ℕ → Stage → Floor → Floor → Turn → Type 0
-IsAnswerAt who (Waiting w) old new answer =
-    ((answer ≡ turn.Ready) × AtStep old new (λ tree. state_of (tree who) ≡ Some states.Cancelling))
-    ⊎ ((answer ≡ turn.Waits) × AtStep old new (λ tree. IsRunning (tree who)))
-IsAnswerAt who Ended old new answer = answer ≡ turn.Ended
-IsAnswerAt who other old new answer = answer ≡ turn.Ready
+IsAnswerAt row (Waiting w) old new answer =
+    ((answer ≡ turn.Ready) × AtStep old new (λ tree. state_of (tree row) ≡ Some states.Cancelling))
+    ⊎ ((answer ≡ turn.Waits) × AtStep old new (λ tree. IsRunning (tree row)))
+IsAnswerAt row (Leaving w) old new answer = answer ≡ turn.Waits
+IsAnswerAt row Ended old new answer = answer ≡ turn.Ended
+IsAnswerAt row other old new answer = answer ≡ turn.Ready
 
 pub record AnsweredAfter (f : Frame) (old new : Floor) (answer : Turn) : Type 0 where
   pub looked : Added f.tag [] [] old new
-  pub so : IsAnswerAt f.tag f.stage old new answer
+  pub so : IsAnswerAt (innermost f.tag (config_of f)) f.stage old new answer
+
+-- a coroutine at a select has no end to see behind it, and alone on its floors it does not look again
+abbrev pub MovesOn : Program → ChannelFloor → Frame → Frame → Type 0
+MovesOn p c f g =
+    IsAt p f.tag (config_of f) Select
+    → (is_seeing g.stage ≡ false) × (c.alone ≡ true → config_of g ≡ config_of f → ⊥)
 
 -- ---- the beginning
 
@@ -198,9 +225,8 @@ pub record IsNewRoot (f : Frame) : Type 0 where
   pub config : config_of f ≡ fresh 0
   pub book : items_of f ≡ []
 
--- the lines of the script all run, the floors are its own, and main did nothing there yet
+-- the floors are those of the script, and main did nothing there yet
 pub record IsOnItsFloors (p : Program) (c : ChannelFloor) (j : Floor) : Type 0 where
-  pub lines_run : all_run p ≡ true
   pub channels : c.shape ≡ floor_shape p
   pub jobs : j.shape ≡ job_shape p
   pub of_channels : c.callers 0 ≡ true
@@ -225,7 +251,7 @@ pub record IsForSpawn (p : Program) (block : ℕ) (c : ChannelFloor) (j : Floor)
   pub channels : c.shape ≡ floor_shape p
   pub of_channels : c.callers 0 ≡ true
   pub jobs : j.shape ≡ job_shape p
-  pub body : HasBody 0 j
+  pub body : HasBody 0 0 j
   pub channel_acts : channel_acts_of 0 c.seen ≡ channel_acts_in (items_of f)
   pub job_acts : acts_of 0 j.seen ≡ job_acts_in (items_of f)
   pub room : f.free + size_of p block ≤ coroutine_count p

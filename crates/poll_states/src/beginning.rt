@@ -14,8 +14,8 @@ use job_model::JobFloor;
 use scope_builders::{Builder, LaunchError};
 use script_reader::Script;
 
-/// Attaches the Jobs of the spawned coroutines to the root, in the order of their tags, before the first poll. A refusal is noted, and the root's
-/// body then breaks off.
+/// Attaches the Jobs of the spawned coroutines to the root, in the order of their tags, before the first poll. A refusal is noted, and the
+/// root's body then breaks off.
 ///
 /// On want of memory the Jobs attached so far stand and are noted, and the frame may only be turned into its book or dropped.
 pub fn begin<C: ChannelFloor, J: JobFloor, W: Wakes>(

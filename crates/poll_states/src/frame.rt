@@ -5,12 +5,10 @@ ghost use Rattle.note_book.specs.Books.{notes_of, spare_of};
 ghost use Rattle.note_book.specs.declared.book.Item.TheVariants as item;
 ghost use Rattle.job_model.specs.declared.acts.JobNote.TheVariants as known;
 ghost use Rattle.script_meaning.specs.declared.stage.Stage.TheVariants.{Fresh, Waiting, Unwinding};
-ghost use Rattle.script_meaning.specs.Configs.{at_stage, next, set_row, named, operand, received};
+ghost use Rattle.script_meaning.specs.Configs.{at_stage, at_line, next, set_row, named, operand, received};
 ghost use Rattle.poll_states.specs.Frames.{config_of, items_of};
-ghost use Rattle.poll_states.specs.Steps.{after_send, after_receive, after_wait};
 
-use channel_calls::{ReceiveAnswer, SendAnswer};
-use channel_model::Settled;
+use crate::entered::Entered;
 use co_base::{Row, Tag, Value, WaitId};
 use job_model::{End, JobNote};
 use note_book::{Item, NoteBook, Notes};
@@ -25,6 +23,8 @@ pub struct Frame {
     /// The line at which it is, numbered from 0 in its block.
     pub(crate) line: usize,
     pub(crate) stage: Stage,
+    /// What it has entered and not left, the innermost last.
+    pub(crate) entered: Vec<Entered>,
     /// What its Job will have as its result.
     pub(crate) result: Value,
     /// The rows of the Jobs that its lines named, in the order of the names.
@@ -53,6 +53,7 @@ impl Frame {
         ensures tag { result.tag ≡ tag }
         ensures line { result.line ≡ 0 }
         ensures stage { result.stage ≡ Fresh }
+        ensures entered { result.entered.items ≡ [] }
         ensures value { result.result ≡ 0 }
         ensures rows { result.rows.items ≡ [] }
         ensures free { result.free ≡ tag + 1 }
@@ -64,6 +65,7 @@ impl Frame {
             tag,
             line: 0,
             stage: Stage::Fresh,
+            entered: Vec::new(alloc),
             result: 0,
             rows: Vec::new(alloc),
             free: u32::from(tag) + 1,
@@ -95,59 +97,11 @@ impl Frame {
     pub(crate) fn take_in(&mut self, value: Value)
         ensures tag { self.new.tag ≡ self.old.tag }
         ensures config { config_of self.new ≡ received value (config_of self.old) }
+        ensures entered { self.new.entered ≡ self.old.entered }
         ensures items { items_of self.new ≡ items_of self.old }
     {
         self.it = value;
         self.sum = self.sum.wrapping_add(value);
-    }
-
-    /// Goes on where its send came to this.
-    pub(crate) fn go_on_sent(&mut self, answer: SendAnswer)
-        requires { self.old.line < usize.MAX }
-        ensures tag { self.new.tag ≡ self.old.tag }
-        ensures config { config_of self.new ≡ after_send self.old.tag answer (config_of self.old) }
-        ensures items { items_of self.new ≡ items_of self.old }
-    {
-        match answer {
-            SendAnswer::Sent | SendAnswer::Closed(_) => self.next_line(),
-            SendAnswer::Waits(w) => self.wait_for(w),
-            SendAnswer::Spent => self.fail(),
-        }
-    }
-
-    /// Goes on where its receive came to this.
-    pub(crate) fn go_on_received(&mut self, answer: ReceiveAnswer)
-        requires { self.old.line < usize.MAX }
-        ensures tag { self.new.tag ≡ self.old.tag }
-        ensures config { config_of self.new ≡ after_receive self.old.tag answer (config_of self.old) }
-        ensures items { items_of self.new ≡ items_of self.old }
-    {
-        match answer {
-            ReceiveAnswer::Value(value) => {
-                self.take_in(value);
-                self.next_line();
-            }
-            ReceiveAnswer::Closed(_) => self.next_line(),
-            ReceiveAnswer::Waits(w) => self.wait_for(w),
-            ReceiveAnswer::Spent => self.fail(),
-        }
-    }
-
-    /// Goes on where its wait ended so.
-    pub(crate) fn go_on_after(&mut self, outcome: Settled)
-        requires { self.old.line < usize.MAX }
-        ensures tag { self.new.tag ≡ self.old.tag }
-        ensures config { config_of self.new ≡ after_wait outcome (config_of self.old) }
-        ensures items { items_of self.new ≡ items_of self.old }
-    {
-        match outcome {
-            Settled::Value(_, value) => {
-                self.take_in(value);
-                self.next_line();
-            }
-            Settled::Cancelled => self.stage = Stage::Unwinding(None),
-            Settled::Sent(_) | Settled::Closed(..) | Settled::Undelivered(_) => self.next_line(),
-        }
     }
 
     /// Waits at its line.
@@ -157,6 +111,16 @@ impl Frame {
         ensures items { items_of self.new ≡ items_of self.old }
     {
         self.stage = Stage::Waiting(w);
+    }
+
+    /// Goes on with this line.
+    pub(crate) fn at_line(&mut self, line: usize)
+        ensures tag { self.new.tag ≡ self.old.tag }
+        ensures config { config_of self.new ≡ at_line line (config_of self.old) }
+        ensures items { items_of self.new ≡ items_of self.old }
+    {
+        self.stage = Stage::Running;
+        self.line = line;
     }
 
     /// Goes on with the next line.
@@ -170,14 +134,14 @@ impl Frame {
         self.line += 1;
     }
 
-    /// Notes that the own Job was seen Cancelling, and unwinds. Takes no memory.
-    pub(crate) fn see_cancelling(&mut self)
+    /// Notes that this Job was seen Cancelling, and unwinds. Takes no memory.
+    pub(crate) fn see_cancelling(&mut self, row: Row)
         requires { 0 < spare_of self.old.book }
         ensures tag { self.new.tag ≡ self.old.tag }
         ensures config { config_of self.new ≡ at_stage (Unwinding None) (config_of self.old) }
-        ensures items { items_of self.new ≡ items_of self.old ++ item.Job (known.Saw self.old.tag) ∷ [] }
+        ensures items { items_of self.new ≡ items_of self.old ++ item.Job (known.Saw row) ∷ [] }
     {
-        self.book.note(Item::Job(JobNote::Saw { row: self.tag }));
+        self.book.note(Item::Job(JobNote::Saw { row }));
         self.stage = Stage::Unwinding(None);
     }
 
@@ -238,6 +202,7 @@ impl Frame {
             tag: _,
             line: _,
             stage: _,
+            entered: _,
             result: _,
             rows: _,
             free: _,

@@ -1,10 +1,10 @@
 //! The lines of a coroutine on Jobs, and the end of its body.
 
-ghost use Rattle.std.specs.Prelude.{◌≡◌, OnOk};
+ghost use Rattle.std.specs.Prelude.{◌≡◌, None, OnOk};
 ghost use Rattle.script_grammar.specs.declared.instructions.Instruction.TheVariants.{Yield, Launch, Start, Cancel};
 ghost use Rattle.script_reader.specs.Scripts.{program_of};
 ghost use Rattle.script_meaning.specs.declared.stage.Stage.TheVariants.{Unwinding, Ended};
-ghost use Rattle.script_meaning.specs.Configs.{IsAt};
+ghost use Rattle.script_meaning.specs.Configs.{IsAt, scope_in};
 ghost use Rattle.script_meaning.specs.Lines.{is_lazy};
 ghost use Rattle.poll_states.specs.Frames.{config_of, Stands, SameFloors};
 ghost use Rattle.poll_states.specs.Steps.{HasBody, OwnStateSeen, IsAtEnd, StepAnswer};
@@ -20,7 +20,7 @@ use scope_builders::{Builder, LaunchError};
 use script_meaning::Stage;
 use script_reader::{Launching, Script};
 
-/// What a coroutine sees of its own Job before its body has ended.
+/// What a coroutine sees of a Job of its own, before the body has ended.
 #[derive(Clone, Copy, Debug, PartialEq, Eq)]
 pub(crate) enum OwnState {
     /// It is not attached, or New.
@@ -29,13 +29,13 @@ pub(crate) enum OwnState {
     MayRun,
 }
 
-/// Looks at the caller's own Job, whose body has not ended.
-pub(crate) fn own_state<J: JobFloor>(who: Tag, jobs: &mut J) -> OwnState
-    requires { HasBody who (J.view jobs.old) }
+/// Looks at the caller's own Job, or that of a scope of its own, whose body has not ended.
+pub(crate) fn own_state<J: JobFloor>(who: Tag, row: Row, jobs: &mut J) -> OwnState
+    requires { HasBody who row (J.view jobs.old) }
     ensures anchor { J.anchor jobs.new ≡ J.anchor jobs.old }
-    ensures seen { OwnStateSeen who (J.view jobs.old) (J.view jobs.new) result }
+    ensures seen { OwnStateSeen who row (J.view jobs.old) (J.view jobs.new) result }
 {
-    match jobs.look(who, who) {
+    match jobs.look(who, row) {
         None => OwnState::NotStarted,
         Some(view) => match view.state {
             JobState::New => OwnState::NotStarted,
@@ -46,7 +46,7 @@ pub(crate) fn own_state<J: JobFloor>(who: Tag, jobs: &mut J) -> OwnState
     }
 }
 
-/// Looks whether the own Job is Cancelling.
+/// Looks whether the innermost Job is Cancelling.
 pub(crate) fn look_up<C: ChannelFloor, J: JobFloor, W: Wakes, G: Gate>(
     script: &Script,
     frame: &mut Frame,
@@ -62,13 +62,14 @@ pub(crate) fn look_up<C: ChannelFloor, J: JobFloor, W: Wakes, G: Gate>(
     if let Err(memory) = frame.book.room(1) {
         return Err(memory);
     }
+    let row = frame.innermost();
     gate.pass(frame.tag, 2);
-    let state = own_state(frame.tag, &mut *floors.jobs);
+    let state = own_state(frame.tag, row, &mut *floors.jobs);
     gate.pass(frame.tag, 3);
     match state {
         OwnState::NotStarted => unreachable!(),
         OwnState::Cancelling => {
-            frame.see_cancelling();
+            frame.see_cancelling(row);
             Ok(())
         }
         OwnState::MayRun => {
@@ -88,7 +89,8 @@ fn is_lazy(how: Launching) -> bool
     }
 }
 
-/// Attaches the Job of the next tag, which runs an instance of the block, and gives it its name. A refusal breaks the body off.
+/// Attaches the Job of the next tag under the innermost Job, which runs an instance of the block, and gives it its name. A refusal breaks
+/// the body off.
 pub(crate) fn launch<C: ChannelFloor, J: JobFloor, W: Wakes, G: Gate>(
     script: &Script,
     frame: &mut Frame,
@@ -109,6 +111,7 @@ pub(crate) fn launch<C: ChannelFloor, J: JobFloor, W: Wakes, G: Gate>(
     }
     let size = script.size_of(block);
     let free = frame.free as Tag;
+    let parent = frame.innermost();
     let mut builder = Builder {
         channels: &mut *floors.channels,
         jobs: &mut *floors.jobs,
@@ -118,7 +121,7 @@ pub(crate) fn launch<C: ChannelFloor, J: JobFloor, W: Wakes, G: Gate>(
         base: first_done(script),
     };
     gate.pass(frame.tag, 2);
-    let answer = builder.launch(frame.tag, free, is_lazy(how));
+    let answer = builder.launch(parent, free, is_lazy(how));
     gate.pass(frame.tag, 3);
     match answer {
         Ok(_) => {
@@ -237,7 +240,7 @@ pub(crate) fn end_body<C: ChannelFloor, J: JobFloor, W: Wakes>(
     }
 }
 
-/// Breaks the body off, by the failure of a row or as cancelled.
+/// Breaks the body off where no scope is open, by the failure of a row or as cancelled.
 pub(crate) fn break_off<C: ChannelFloor, J: JobFloor, W: Wakes>(
     script: &Script,
     frame: &mut Frame,
@@ -245,6 +248,7 @@ pub(crate) fn break_off<C: ChannelFloor, J: JobFloor, W: Wakes>(
     failure: Option<Row>,
 ) -> Result<(), Memory>
     requires stands { Stands (program_of script.now) (C.view floors.old.channels.now) (J.view floors.old.jobs.now) frame.old }
+    requires no_scope { scope_in (config_of frame.old).entered ≡ None }
     requires unwinds { frame.old.stage ≡ Unwinding failure }
     ensures came { StepAnswer (program_of script.now) (C.view floors.old.channels.now) (C.view floors.new.channels.now)
         (J.view floors.old.jobs.now) (J.view floors.new.jobs.now) frame.old frame.new result }

@@ -4,22 +4,36 @@
 //! move, stands in `script_meaning` (`specs/Moves.antt`, and that it was so in `specs/Books.antt`); a poll keeps to it whatever other
 //! coroutines do in between.
 //!
+//! - `entered`: what a coroutine has entered and not left.
 //! - `frame`: a coroutine between two moves, and what is left of a run.
 //! - `floors`: what polls work on.
+//! - `answers`: where a coroutine goes on by an answer.
 //! - `calls`: the calls of a coroutine on its channels.
 //! - `jobs`: the lines of a coroutine on Jobs, and the end of its body.
+//! - `scopes`: the lines of scopes, and how the end of one is waited for and seen.
+//! - `joins`: the lines that wait for the end of a Job, and how a coroutine sees an end.
+//! - `loops`: the lines of repeats, and the ends of what a coroutine entered.
+//! - `selects`: a select.
+//! - `waits`: the end of a wait.
 //! - `lines`: the lines of a coroutine.
 //! - `beginning`: the root attaches what the script spawns.
 //! - `polls`: one line.
 #![tactic(auto)]
 
+mod answers;
 mod beginning;
 mod calls;
+mod entered;
 mod floors;
 mod frame;
 mod jobs;
+mod joins;
 mod lines;
+mod loops;
 mod polls;
+mod scopes;
+mod selects;
+mod waits;
 
 pub use beginning::begin;
 pub use floors::Floors;

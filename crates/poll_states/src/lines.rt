@@ -1,19 +1,25 @@
 //! The lines of a coroutine.
 
-ghost use Rattle.std.specs.Prelude.{◌≡◌, ◌<◌};
+ghost use Rattle.std.specs.Prelude.{◌≡◌, ◌<◌, true, slice_get, Some, OnOk};
 ghost use Rattle.script_reader.specs.Scripts.{program_of};
+ghost use Rattle.script_reader.specs.Lines.{does_open};
+ghost use Rattle.script_grammar.specs.Nesting.{closing_of};
 ghost use Rattle.script_grammar.specs.Tags.{code_of, coroutine_count};
-ghost use Rattle.script_grammar.specs.declared.instructions.Instruction.TheVariants.{Fail, SetResult};
+ghost use Rattle.script_grammar.specs.declared.instructions.Instruction.TheVariants.{Fail, Select, SetResult};
 ghost use Rattle.script_meaning.specs.declared.stage.Stage.TheVariants.{Running};
 ghost use Rattle.script_meaning.specs.Shapes.{base_of};
 ghost use Rattle.script_meaning.specs.Configs.{IsAt};
 ghost use Rattle.poll_states.specs.Frames.{config_of, Stands, SameFloors};
-ghost use Rattle.poll_states.specs.Steps.{StepAnswer};
+ghost use Rattle.poll_states.specs.Steps.{MovesOn, StepAnswer};
 
-use crate::calls::{receive, send};
+use crate::calls::{cancel_channel, close, each, receive, send, try_receive, try_send};
 use crate::floors::Floors;
 use crate::frame::Frame;
 use crate::jobs::{cancel, end_body, launch, look_up, start};
+use crate::joins::{await_job, join};
+use crate::loops::repeat;
+use crate::scopes::{end_line, enter_scope};
+use crate::selects::select;
 use channel_model::ChannelFloor;
 use co_base::{ChannelId, Gate, Memory, Tag, Value, Wakes};
 use job_model::{JobFloor, JobNote};
@@ -36,6 +42,16 @@ pub fn code_of(script: &Script, tag: Tag) -> &[Instruction]
     script.blocks()[block].code.as_slice()
 }
 
+/// The line that closes what this line of the coroutine with this tag opens.
+pub(crate) fn closing(script: &Script, tag: Tag, line: usize) -> usize
+    requires tag { tag < coroutine_count (program_of script.now) }
+    requires opens { does_open (slice_get (code_of (program_of script.now) tag) line) ≡ true }
+    ensures closes { closing_of (code_of (program_of script.now) tag) line ≡ Some result }
+    ensures few { result < 4294967296 }
+{
+    script.closing(script.coroutine_of(tag), line as u32) as usize
+}
+
 /// Runs the line of a coroutine, or ends its body where none is left.
 pub(crate) fn run<C: ChannelFloor, J: JobFloor, W: Wakes, G: Gate>(
     script: &Script,
@@ -47,6 +63,7 @@ pub(crate) fn run<C: ChannelFloor, J: JobFloor, W: Wakes, G: Gate>(
     requires running { frame.old.stage ≡ Running }
     ensures came { StepAnswer (program_of script.now) (C.view floors.old.channels.now) (C.view floors.new.channels.now)
         (J.view floors.old.jobs.now) (J.view floors.new.jobs.now) frame.old frame.new result }
+    ensures moves { OnOk result (MovesOn (program_of script.now) (C.view floors.old.channels.now) frame.old frame.new) }
     ensures same { SameFloors C.anchor J.anchor floors.old floors.new }
 {
     let code = code_of(script, frame.tag);
@@ -68,11 +85,16 @@ fn run_line<C: ChannelFloor, J: JobFloor, W: Wakes, G: Gate>(
     requires at { IsAt (program_of script.now) frame.old.tag (config_of frame.old) line }
     ensures came { StepAnswer (program_of script.now) (C.view floors.old.channels.now) (C.view floors.new.channels.now)
         (J.view floors.old.jobs.now) (J.view floors.new.jobs.now) frame.old frame.new result }
+    ensures moves { line ≡ Select → OnOk result (MovesOn (program_of script.now) (C.view floors.old.channels.now) frame.old frame.new) }
     ensures same { SameFloors C.anchor J.anchor floors.old floors.new }
 {
     match line {
         Instruction::Send { c, value } => send(script, frame, floors, gate, c, value),
+        Instruction::TrySend { c, value } => try_send(script, frame, floors, gate, c, value),
         Instruction::Receive { c } => receive(script, frame, floors, gate, c),
+        Instruction::TryReceive { c } => try_receive(script, frame, floors, gate, c),
+        Instruction::Close { c } => close(script, frame, floors, gate, c),
+        Instruction::CancelChannel { c } => cancel_channel(script, frame, floors, gate, c),
         Instruction::Yield => look_up(script, frame, floors, gate),
         Instruction::Launch { block, how, job } => {
             launch(script, frame, floors, gate, block, how, job)
@@ -81,7 +103,16 @@ fn run_line<C: ChannelFloor, J: JobFloor, W: Wakes, G: Gate>(
         Instruction::Cancel { job } => cancel(script, frame, floors, gate, job),
         Instruction::Fail { code } => fail(script, frame, floors, code),
         Instruction::SetResult { value } => set_result(script, frame, floors, value),
-        _ => unreachable!(),
+        Instruction::Repeat { turns } => repeat(script, frame, floors, turns),
+        Instruction::Each { c } => each(script, frame, floors, gate, c),
+        Instruction::Select => select(script, frame, floors, gate),
+        Instruction::Scope { supervisor } => enter_scope(script, frame, floors, gate, supervisor),
+        Instruction::Join { job } => join(script, frame, floors, gate, job),
+        Instruction::Await { job } => await_job(script, frame, floors, gate, job),
+        Instruction::End => end_line(script, frame, floors, gate),
+        // the coroutine runs past the clauses of a select
+        Instruction::OnSend { .. } => unreachable!(),
+        Instruction::OnReceive { .. } => unreachable!(),
     }
 }
 

@@ -1,16 +1,20 @@
 //! One line of one coroutine.
 
-ghost use Rattle.std.specs.Prelude.{◌≡◌, OnOk};
+ghost use Rattle.std.specs.Prelude.{◌≡◌, true, OnOk};
 ghost use Rattle.script_reader.specs.Scripts.{program_of};
-ghost use Rattle.script_meaning.specs.declared.stage.Stage.TheVariants.{Fresh, Running, Waiting, Unwinding};
-ghost use Rattle.poll_states.specs.Frames.{Stands, SameFloors, moves_left};
-ghost use Rattle.poll_states.specs.Steps.{AnsweredAfter, PollAnswer};
+ghost use Rattle.script_meaning.specs.declared.stage.Stage.TheVariants.{Fresh, Running, Waiting, Unwinding, Leaving};
+ghost use Rattle.script_meaning.specs.Polls.{is_seeing};
+ghost use Rattle.poll_states.specs.Frames.{Stands, SameFloors, IsUnmoved};
+ghost use Rattle.poll_states.specs.Steps.{AnsweredAfter, MovesOn, PollAnswer, StepAnswer};
+ghost use Rattle.poll_states.specs.Ends.{WentOnAnswer};
 
-use crate::calls::{end_wait, give_up, was_resolved};
 use crate::floors::Floors;
 use crate::frame::Frame;
 use crate::jobs::{OwnState, break_off, own_state};
+use crate::joins::see_end;
 use crate::lines::run;
+use crate::scopes::{break_scope, end_scope_wait};
+use crate::waits::{end_wait, give_up, was_resolved};
 use channel_model::ChannelFloor;
 use co_base::{Gate, Memory, Row, WaitId, Wakes};
 use job_model::JobFloor;
@@ -18,12 +22,12 @@ use note_book::NoteBook;
 use script_meaning::{Stage, Turn};
 use script_reader::Script;
 
-/// Runs at most one line of a coroutine: ends its wait where that was resolved or the coroutine's Job is Cancelling, runs its line, or ends its
-/// body.
+/// Runs at most one line of a coroutine: ends its wait where that was resolved or the coroutine's Job is Cancelling, runs its line, or
+/// ends its body.
 ///
 /// On want of memory the entries made so far stand and are noted, and the frame may only be turned into its book or dropped. The gate is
-/// passed at the points 1 (the poll begins), 2 and 3 (before the line's first call and after its last), 4 and 5 (a wait was seen resolved, and
-/// before it is settled), 6 and 7 (before and after the pass of a `cancel` line) and 8 (the poll ends).
+/// passed at the points 1 (the poll begins), 2 and 3 (before the line's first call and after its last), 4 and 5 (a wait was seen
+/// resolved, and before it is settled), 6 and 7 (before and after the pass of a `cancel` line) and 8 (the poll ends).
 pub fn poll<C: ChannelFloor, J: JobFloor, W: Wakes, G: Gate>(
     script: &Script,
     frame: &mut Frame,
@@ -33,9 +37,8 @@ pub fn poll<C: ChannelFloor, J: JobFloor, W: Wakes, G: Gate>(
     requires { Stands (program_of script.now) (C.view floors.old.channels.now) (J.view floors.old.jobs.now) frame.old }
     ensures polled { PollAnswer (program_of script.now) (C.view floors.old.channels.now) (C.view floors.new.channels.now)
         (J.view floors.old.jobs.now) (J.view floors.new.jobs.now) frame.old frame.new result }
-    ensures quiet { OnOk result
-        (moves_left (program_of script.now) frame.new ≡ moves_left (program_of script.now) frame.old
-        → floors.new.wakes.now ≡ floors.old.wakes.now) }
+    ensures moves { OnOk result (MovesOn (program_of script.now) (C.view floors.old.channels.now) frame.old frame.new) }
+    ensures quiet { OnOk result (IsUnmoved frame.old frame.new → floors.new.wakes.now ≡ floors.old.wakes.now) }
     ensures same { SameFloors C.anchor J.anchor floors.old floors.new }
 {
     gate.pass(frame.tag, 1);
@@ -58,9 +61,8 @@ fn turn_of<C: ChannelFloor, J: JobFloor, W: Wakes, G: Gate>(
     requires { Stands (program_of script.now) (C.view floors.old.channels.now) (J.view floors.old.jobs.now) frame.old }
     ensures polled { PollAnswer (program_of script.now) (C.view floors.old.channels.now) (C.view floors.new.channels.now)
         (J.view floors.old.jobs.now) (J.view floors.new.jobs.now) frame.old frame.new result }
-    ensures quiet { OnOk result
-        (moves_left (program_of script.now) frame.new ≡ moves_left (program_of script.now) frame.old
-        → floors.new.wakes.now ≡ floors.old.wakes.now) }
+    ensures moves { OnOk result (MovesOn (program_of script.now) (C.view floors.old.channels.now) frame.old frame.new) }
+    ensures quiet { OnOk result (IsUnmoved frame.old frame.new → floors.new.wakes.now ≡ floors.old.wakes.now) }
     ensures same { SameFloors C.anchor J.anchor floors.old floors.new }
 {
     match frame.stage {
@@ -68,8 +70,9 @@ fn turn_of<C: ChannelFloor, J: JobFloor, W: Wakes, G: Gate>(
         Stage::Running => line_turn(script, frame, floors, gate),
         Stage::Waiting(w) => wait_turn(script, frame, floors, gate, w),
         Stage::Unwinding(failure) => last_turn(script, frame, floors, failure),
+        Stage::Leaving(w) => leave_turn(script, frame, floors, gate, w),
+        Stage::SeesJob | Stage::SeesScope => see_turn(script, frame, floors),
         Stage::Ended => Ok(Turn::Ended),
-        Stage::SeesJob | Stage::Leaving(_) | Stage::SeesScope => unreachable!(),
     }
 }
 
@@ -84,24 +87,22 @@ fn first_turn<C: ChannelFloor, J: JobFloor, W: Wakes, G: Gate>(
     requires fresh { frame.old.stage ≡ Fresh }
     ensures polled { PollAnswer (program_of script.now) (C.view floors.old.channels.now) (C.view floors.new.channels.now)
         (J.view floors.old.jobs.now) (J.view floors.new.jobs.now) frame.old frame.new result }
-    ensures quiet { OnOk result
-        (moves_left (program_of script.now) frame.new ≡ moves_left (program_of script.now) frame.old
-        → floors.new.wakes.now ≡ floors.old.wakes.now) }
+    ensures quiet { OnOk result (IsUnmoved frame.old frame.new → floors.new.wakes.now ≡ floors.old.wakes.now) }
     ensures same { SameFloors C.anchor J.anchor floors.old floors.new }
 {
     if let Err(memory) = frame.book.room(1) {
         return Err(memory);
     }
-    match own_state(frame.tag, &mut *floors.jobs) {
+    match own_state(frame.tag, frame.tag, &mut *floors.jobs) {
         OwnState::NotStarted => Ok(Turn::Waits),
         OwnState::Cancelling => {
-            frame.see_cancelling();
+            frame.see_cancelling(frame.tag);
             Ok(Turn::Ready)
         }
         OwnState::MayRun => {
             frame.stage = Stage::Running;
             match run(script, frame, floors, gate) {
-                Ok(()) => Ok(answer(script, frame, floors)),
+                Ok(()) => go_on(script, frame, floors),
                 Err(memory) => Err(memory),
             }
         }
@@ -119,18 +120,17 @@ fn line_turn<C: ChannelFloor, J: JobFloor, W: Wakes, G: Gate>(
     requires running { frame.old.stage ≡ Running }
     ensures polled { PollAnswer (program_of script.now) (C.view floors.old.channels.now) (C.view floors.new.channels.now)
         (J.view floors.old.jobs.now) (J.view floors.new.jobs.now) frame.old frame.new result }
-    ensures quiet { OnOk result
-        (moves_left (program_of script.now) frame.new ≡ moves_left (program_of script.now) frame.old
-        → floors.new.wakes.now ≡ floors.old.wakes.now) }
+    ensures moves { OnOk result (MovesOn (program_of script.now) (C.view floors.old.channels.now) frame.old frame.new) }
+    ensures quiet { OnOk result (IsUnmoved frame.old frame.new → floors.new.wakes.now ≡ floors.old.wakes.now) }
     ensures same { SameFloors C.anchor J.anchor floors.old floors.new }
 {
     match run(script, frame, floors, gate) {
-        Ok(()) => Ok(answer(script, frame, floors)),
+        Ok(()) => go_on(script, frame, floors),
         Err(memory) => Err(memory),
     }
 }
 
-/// What a poll answers after a line. A coroutine that now waits, and whose Job is Cancelling, is to be polled again.
+/// What a poll answers after a line. A coroutine that now waits, and whose innermost Job is Cancelling, is to be polled again.
 fn answer<C: ChannelFloor, J: JobFloor, W: Wakes>(
     script: &Script,
     frame: &Frame,
@@ -144,17 +144,38 @@ fn answer<C: ChannelFloor, J: JobFloor, W: Wakes>(
 {
     match frame.stage {
         Stage::Fresh | Stage::Running | Stage::Unwinding(_) => Turn::Ready,
-        Stage::Waiting(_) => match own_state(frame.tag, &mut *floors.jobs) {
+        Stage::SeesJob | Stage::SeesScope => Turn::Ready,
+        Stage::Waiting(_) => match own_state(frame.tag, frame.innermost(), &mut *floors.jobs) {
             OwnState::NotStarted => unreachable!(),
             OwnState::Cancelling => Turn::Ready,
             OwnState::MayRun => Turn::Waits,
         },
+        Stage::Leaving(_) => Turn::Waits,
         Stage::Ended => Turn::Ended,
-        Stage::SeesJob | Stage::Leaving(_) | Stage::SeesScope => unreachable!(),
     }
 }
 
-/// Ends the wait, where it was resolved or the own Job is Cancelling.
+/// What is done behind a line, or behind the end of a wait, and answered: an end that is still to be seen is looked for.
+fn go_on<C: ChannelFloor, J: JobFloor, W: Wakes>(
+    script: &Script,
+    frame: &mut Frame,
+    floors: &mut Floors<'_, '_, '_, C, J, W>,
+) -> Result<Turn, Memory>
+    requires { Stands (program_of script.now) (C.view floors.old.channels.now) (J.view floors.old.jobs.now) frame.old }
+    ensures went { WentOnAnswer (program_of script.now) (C.view floors.old.channels.now) (C.view floors.new.channels.now)
+        (J.view floors.old.jobs.now) (J.view floors.new.jobs.now) frame.old frame.new result }
+    ensures same { SameFloors C.anchor J.anchor floors.old floors.new }
+{
+    match frame.stage {
+        Stage::SeesJob | Stage::SeesScope => match see_end(script, frame, floors) {
+            Ok(()) => Ok(Turn::Ready),
+            Err(memory) => Err(memory),
+        },
+        _ => Ok(answer(script, frame, floors)),
+    }
+}
+
+/// Ends the wait, where it was resolved or the innermost Job is Cancelling.
 fn wait_turn<C: ChannelFloor, J: JobFloor, W: Wakes, G: Gate>(
     script: &Script,
     frame: &mut Frame,
@@ -166,25 +187,24 @@ fn wait_turn<C: ChannelFloor, J: JobFloor, W: Wakes, G: Gate>(
     requires waits { frame.old.stage ≡ Waiting w }
     ensures polled { PollAnswer (program_of script.now) (C.view floors.old.channels.now) (C.view floors.new.channels.now)
         (J.view floors.old.jobs.now) (J.view floors.new.jobs.now) frame.old frame.new result }
-    ensures quiet { OnOk result
-        (moves_left (program_of script.now) frame.new ≡ moves_left (program_of script.now) frame.old
-        → floors.new.wakes.now ≡ floors.old.wakes.now) }
+    ensures quiet { OnOk result (IsUnmoved frame.old frame.new → floors.new.wakes.now ≡ floors.old.wakes.now) }
     ensures same { SameFloors C.anchor J.anchor floors.old floors.new }
 {
     if let Err(memory) = frame.book.room(1) {
         return Err(memory);
     }
     let resolved = was_resolved(frame.tag, w, &mut *floors.channels, gate);
-    match own_state(frame.tag, &mut *floors.jobs) {
+    let row = frame.innermost();
+    match own_state(frame.tag, row, &mut *floors.jobs) {
         OwnState::NotStarted => unreachable!(),
-        OwnState::Cancelling => match give_up(frame, floors, gate, w, resolved) {
+        OwnState::Cancelling => match give_up(frame, floors, gate, w, row, resolved) {
             Ok(()) => Ok(Turn::Ready),
             Err(memory) => Err(memory),
         },
         OwnState::MayRun => {
             if resolved {
-                match end_wait(frame, floors, gate, w) {
-                    Ok(()) => Ok(Turn::Ready),
+                match end_wait(script, frame, floors, gate, w) {
+                    Ok(()) => go_on(script, frame, floors),
                     Err(memory) => Err(memory),
                 }
             } else {
@@ -205,13 +225,74 @@ fn last_turn<C: ChannelFloor, J: JobFloor, W: Wakes>(
     requires unwinds { frame.old.stage ≡ Unwinding failure }
     ensures polled { PollAnswer (program_of script.now) (C.view floors.old.channels.now) (C.view floors.new.channels.now)
         (J.view floors.old.jobs.now) (J.view floors.new.jobs.now) frame.old frame.new result }
-    ensures quiet { OnOk result
-        (moves_left (program_of script.now) frame.new ≡ moves_left (program_of script.now) frame.old
-        → floors.new.wakes.now ≡ floors.old.wakes.now) }
+    ensures quiet { OnOk result (IsUnmoved frame.old frame.new → floors.new.wakes.now ≡ floors.old.wakes.now) }
     ensures same { SameFloors C.anchor J.anchor floors.old floors.new }
 {
-    match break_off(script, frame, floors, failure) {
-        Ok(()) => Ok(Turn::Ended),
+    match unwind(script, frame, floors, failure) {
+        Ok(()) => go_on(script, frame, floors),
+        Err(memory) => Err(memory),
+    }
+}
+
+/// Breaks the body of the innermost Job off.
+fn unwind<C: ChannelFloor, J: JobFloor, W: Wakes>(
+    script: &Script,
+    frame: &mut Frame,
+    floors: &mut Floors<'_, '_, '_, C, J, W>,
+    failure: Option<Row>,
+) -> Result<(), Memory>
+    requires stands { Stands (program_of script.now) (C.view floors.old.channels.now) (J.view floors.old.jobs.now) frame.old }
+    requires unwinds { frame.old.stage ≡ Unwinding failure }
+    ensures came { StepAnswer (program_of script.now) (C.view floors.old.channels.now) (C.view floors.new.channels.now)
+        (J.view floors.old.jobs.now) (J.view floors.new.jobs.now) frame.old frame.new result }
+    ensures same { SameFloors C.anchor J.anchor floors.old floors.new }
+{
+    match frame.scope() {
+        None => break_off(script, frame, floors, failure),
+        Some(scope) => break_scope(script, frame, floors, scope, failure),
+    }
+}
+
+/// Ends a wait at the end of a scope, where it was resolved.
+fn leave_turn<C: ChannelFloor, J: JobFloor, W: Wakes, G: Gate>(
+    script: &Script,
+    frame: &mut Frame,
+    floors: &mut Floors<'_, '_, '_, C, J, W>,
+    gate: &G,
+    w: WaitId,
+) -> Result<Turn, Memory>
+    requires stands { Stands (program_of script.now) (C.view floors.old.channels.now) (J.view floors.old.jobs.now) frame.old }
+    requires leaves { frame.old.stage ≡ Leaving w }
+    ensures polled { PollAnswer (program_of script.now) (C.view floors.old.channels.now) (C.view floors.new.channels.now)
+        (J.view floors.old.jobs.now) (J.view floors.new.jobs.now) frame.old frame.new result }
+    ensures quiet { OnOk result (IsUnmoved frame.old frame.new → floors.new.wakes.now ≡ floors.old.wakes.now) }
+    ensures same { SameFloors C.anchor J.anchor floors.old floors.new }
+{
+    if was_resolved(frame.tag, w, &mut *floors.channels, gate) {
+        match end_scope_wait(frame, floors, gate, w) {
+            Ok(()) => go_on(script, frame, floors),
+            Err(memory) => Err(memory),
+        }
+    } else {
+        Ok(Turn::Waits)
+    }
+}
+
+/// Sees the end that is still to be seen.
+fn see_turn<C: ChannelFloor, J: JobFloor, W: Wakes>(
+    script: &Script,
+    frame: &mut Frame,
+    floors: &mut Floors<'_, '_, '_, C, J, W>,
+) -> Result<Turn, Memory>
+    requires stands { Stands (program_of script.now) (C.view floors.old.channels.now) (J.view floors.old.jobs.now) frame.old }
+    requires seeing { is_seeing frame.old.stage ≡ true }
+    ensures polled { PollAnswer (program_of script.now) (C.view floors.old.channels.now) (C.view floors.new.channels.now)
+        (J.view floors.old.jobs.now) (J.view floors.new.jobs.now) frame.old frame.new result }
+    ensures quiet { OnOk result (IsUnmoved frame.old frame.new → floors.new.wakes.now ≡ floors.old.wakes.now) }
+    ensures same { SameFloors C.anchor J.anchor floors.old floors.new }
+{
+    match see_end(script, frame, floors) {
+        Ok(()) => Ok(Turn::Ready),
         Err(memory) => Err(memory),
     }
 }

@@ -1,7 +1,6 @@
-use Rattle.std.proofs.Common.{refl, ap, false, ◌∙◌, arith}
+use Rattle.std.proofs.Common.{refl, ap, ◌∙◌, arith}
 use Rattle.script_reader.specs.Scripts.{program_of}
 use Rattle.poll_states.proofs.FloorsOfScripts.{may_build}
-use Rattle.poll_states.proofs.Stepping.{cut_jobs}
 use Rattle.poll_states.proofs.Spawning.{root_attached, spawn_row, spawn_short, has_spawned, spawn_refused}
 use Rattle.poll_states.proofs.beginning.spawn_one.Goals as goal
 
@@ -11,7 +10,7 @@ overflow_cast-free g c = let h = spawn_short _ _ _ _ _ c.args.script.now.well_fo
 pub launch-requires-clause-may : goal.launch-requires-clause-may
 launch-requires-clause-may g c =
     may_build (program_of c.args.script.now) _ _ _ _ c.args.script.now.well_formed c.requires.next.channels c.requires.next.jobs (ap (g.C.ChannelFloor.view c.args.floors.now.channels.now).callers c.requires.next.tag ∙ c.requires.next.of_channels)
-    (ap (g.J.JobFloor.view c.args.floors.now.jobs.now).callers c.requires.next.tag ∙ c.requires.next.body.caller) c.first_done.ensures
+    (ap (g.J.JobFloor.view c.args.floors.now.jobs.now).callers c.requires.next.tag ∙ c.requires.next.body.at.caller) c.first_done.ensures
 
 pub launch-requires-clause-parent : goal.launch-requires-clause-parent
 launch-requires-clause-parent g c = root_attached (g.J.JobFloor.view c.args.floors.now.jobs.now) (g.met.J.JobFloor.legal c.args.floors.now.jobs.now)

@@ -1,17 +1,13 @@
 use Rattle.std.proofs.Common.{refl, arith}
 use Rattle.script_reader.specs.Scripts.{program_of}
-use Rattle.script_grammar.proofs.Declarations.{receive-within}
 use Rattle.poll_states.proofs.Standing.{line_short}
-use Rattle.poll_states.proofs.FloorsOfScripts.{owes_none}
 use Rattle.poll_states.proofs.LineNeeds.{stands_call}
-use Rattle.poll_states.proofs.Stepping.{has_received, cut_nothing}
+use Rattle.poll_states.proofs.ChannelLines.{line_channel, has_received}
+use Rattle.poll_states.proofs.Stepping.{cut_told}
 use Rattle.poll_states.proofs.calls.receive.Goals as goal
 
-pub receive-answer-requires-clause-can : goal.receive-answer-requires-clause-can
-receive-answer-requires-clause-can g c = stands_call _ _ _ _ _ c.requires.stands (receive-within (program_of c.args.script.now) c.args.script.now.well_formed _ _ _ c.requires.at.line_is)
-
-pub receive-answer-requires-clause-owing : goal.receive-answer-requires-clause-owing
-receive-answer-requires-clause-owing g c = owes_none (program_of c.args.script.now) _ _ c.requires.stands.lines_run c.requires.stands.on.channels (stands_call _ _ _ _ _ c.requires.stands (receive-within (program_of c.args.script.now) c.args.script.now.well_formed _ _ _ c.requires.at.line_is)).channel
+pub receive-answer-requires : goal.receive-answer-requires
+receive-answer-requires g c = record { can = stands_call _ _ _ _ _ c.requires.stands (line_channel (program_of c.args.script.now) _ _ _ _ c.args.script.now.well_formed c.requires.at refl) }
 
 pub go_on_received-requires : goal.go_on_received-requires
 go_on_received-requires g c = let h = line_short c.args.script.now c.args.frame.now.tag _ _ c.requires.at.line_is in omega (arith, h)
@@ -21,4 +17,4 @@ returns-in-Ok-clause-came g c =
     has_received (program_of c.args.script.now) _ _ _ _ _ _ c.in-Ok.answer _ c.args.script.now.well_formed (g.met.J.JobFloor.legal c.args.floors.now.jobs.now) c.requires.stands c.requires.at c.in-Ok.ensures.answer c.go_on_received.ensures.tag c.go_on_received.ensures.config c.go_on_received.ensures.items
 
 pub returns-in-Err-clause-came : goal.returns-in-Err-clause-came
-returns-in-Err-clause-came g c = cut_nothing _ _ _ _ _ _ c.in-Err.ensures.answer.floor refl refl c.in-Err.ensures.answer.book
+returns-in-Err-clause-came g c = cut_told _ _ _ _ _ _ refl refl c.in-Err.ensures.answer

@@ -1,9 +1,10 @@
 use Rattle.std.proofs.Common.{refl, ap}
 use Rattle.script_reader.specs.Scripts.{program_of}
-use Rattle.poll_states.proofs.Reached.{is_over, is_fresh}
+use Rattle.script_meaning.specs.Bodies.{is_over, is_fresh}
 use Rattle.poll_states.proofs.Standing.{own_end}
 use Rattle.poll_states.proofs.LineNeeds.{stands_build}
-use Rattle.poll_states.proofs.Stepping.{has_ended, cut_some}
+use Rattle.poll_states.proofs.Stepping.{cut_some}
+use Rattle.poll_states.proofs.JobLines.{has_ended}
 use Rattle.poll_states.proofs.jobs.end_body.Goals as goal
 
 pub end_job-requires-clause-may : goal.end_job-requires-clause-may

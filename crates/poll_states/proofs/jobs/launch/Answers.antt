@@ -1,10 +1,13 @@
+use Rattle.std.specs.Prelude.{is_some}
 use Rattle.std.proofs.Common.{refl, ap, ◌∙◌, arith}
+use Rattle.job_model.specs.Histories.{replay}
 use Rattle.script_reader.specs.Scripts.{program_of}
 use Rattle.poll_states.specs.Frames.{config_of}
-use Rattle.poll_states.proofs.Reached.{is_fresh}
+use Rattle.script_meaning.specs.Bodies.{is_fresh}
 use Rattle.poll_states.proofs.Standing.{line_short, stands_attached}
 use Rattle.poll_states.proofs.LineNeeds.{stands_build, launched_block, free_short, free_row, jobs_same, launch_config, rows_config}
-use Rattle.poll_states.proofs.Stepping.{has_launched, launch_refused, cut_nothing, cut_jobs}
+use Rattle.poll_states.proofs.Stepping.{cut_nothing, cut_jobs}
+use Rattle.poll_states.proofs.JobLines.{has_launched, launch_refused}
 use Rattle.poll_states.proofs.jobs.launch.Goals as goal
 
 pub launch-answer-requires-clause-may : goal.launch-answer-requires-clause-may
@@ -17,28 +20,30 @@ pub size_of-size-requires : goal.size_of-size-requires
 size_of-size-requires g c = launched_block (program_of c.args.script.now) _ _ _ _ _ c.args.script.now.well_formed c.requires.at.line_is
 
 pub overflow_cast-free : goal.overflow_cast-free
-overflow_cast-free g c = let h = free_short _ _ _ _ _ _ _ c.args.script.now.well_formed c.requires.stands c.requires.at in omega (arith, h)
+overflow_cast-free g c = let h = free_short _ _ _ _ _ _ _ c.args.script.now.well_formed (g.met.J.JobFloor.legal c.args.floors.now.jobs.now) c.requires.stands c.requires.at in omega (arith, h)
 
 pub launch-answer-requires-clause-parent : goal.launch-answer-requires-clause-parent
-launch-answer-requires-clause-parent g c = stands_attached _ _ _ _ (g.met.J.JobFloor.legal c.args.floors.now.jobs.now) c.requires.stands (ap is_fresh c.requires.at.stage)
+launch-answer-requires-clause-parent g c =
+    ap (λ r. is_some (replay (g.J.JobFloor.view c.args.floors.now.jobs.now).seen r)) c.innermost-parent.ensures
+    ∙ stands_attached _ _ _ _ (g.met.J.JobFloor.legal c.args.floors.now.jobs.now) c.requires.stands (ap is_fresh c.requires.at.stage)
 
 pub launch-answer-requires-clause-tag : goal.launch-answer-requires-clause-tag
-launch-answer-requires-clause-tag g c = free_row _ _ _ _ _ _ _ c.args.script.now.well_formed c.requires.stands c.requires.at
+launch-answer-requires-clause-tag g c = free_row _ _ _ _ _ _ _ c.args.script.now.well_formed (g.met.J.JobFloor.legal c.args.floors.now.jobs.now) c.requires.stands c.requires.at
 
 pub pass_launch-requires-clause-line : goal.pass_launch-requires-clause-line
 pass_launch-requires-clause-line g c = let h = line_short c.args.script.now c.args.frame.now.tag _ _ c.requires.at.line_is in omega (arith, h)
 
 pub pass_launch-requires-clause-free : goal.pass_launch-requires-clause-free
-pass_launch-requires-clause-free g c = let h = free_short _ _ _ _ _ _ _ c.args.script.now.well_formed c.requires.stands c.requires.at in omega (arith, h, c.size_of-size.ensures)
+pass_launch-requires-clause-free g c = let h = free_short _ _ _ _ _ _ _ c.args.script.now.well_formed (g.met.J.JobFloor.legal c.args.floors.now.jobs.now) c.requires.stands c.requires.at in omega (arith, h, c.size_of-size.ensures)
 
 pub returns-in-Ok-clause-came : goal.returns-in-Ok-clause-came
 returns-in-Ok-clause-came g c =
-    has_launched (program_of c.args.script.now) _ _ _ _ _ _ _ _ _ _ _ _ (ap g.C.ChannelFloor.view c.in-Ok.ensures.channels) (g.met.J.JobFloor.legal c.launch-answer.new.self.jobs.now) c.requires.at c.is_lazy.ensures c.size_of-size.ensures (jobs_same _ _ _ _ _ _ _ _ c.in-Ok.ensures.answer.1 c.pass_launch.ensures.items) c.pass_launch.ensures.tag
+    has_launched (program_of c.args.script.now) _ _ _ _ _ _ _ _ _ _ _ _ _ (ap g.C.ChannelFloor.view c.in-Ok.ensures.channels) (g.met.J.JobFloor.legal c.launch-answer.new.self.jobs.now) c.requires.at c.innermost-parent.ensures c.is_lazy.ensures c.size_of-size.ensures (jobs_same _ _ _ _ _ _ _ _ c.in-Ok.ensures.answer.1 c.pass_launch.ensures.items) c.pass_launch.ensures.tag
     (c.pass_launch.ensures.config ∙ launch_config (config_of c.args.frame.now) _ _ _ c.reserve.ensures.items)
 
 pub returns-in-Used-clause-came : goal.returns-in-Used-clause-came
 returns-in-Used-clause-came g c =
-    launch_refused (program_of c.args.script.now) _ _ _ _ _ _ _ _ c.is_lazy.result _ c.in-Err.error _ c.in-Used.is (ap g.C.ChannelFloor.view c.in-Err.ensures.channels) (g.met.J.JobFloor.legal c.args.floors.now.jobs.now) (g.met.J.JobFloor.legal c.launch-answer.new.self.jobs.now) c.requires.stands c.requires.at c.in-Err.ensures.answer c.fail.ensures.tag
+    launch_refused (program_of c.args.script.now) _ _ _ _ _ _ _ _ _ c.is_lazy.result _ c.in-Err.error _ c.in-Used.is (ap g.C.ChannelFloor.view c.in-Err.ensures.channels) (g.met.J.JobFloor.legal c.args.floors.now.jobs.now) (g.met.J.JobFloor.legal c.launch-answer.new.self.jobs.now) c.requires.stands c.requires.at c.innermost-parent.ensures c.in-Err.ensures.answer c.fail.ensures.tag
     (c.fail.ensures.config ∙ rows_config (config_of c.args.frame.now) _ _ c.reserve.ensures.items) c.fail.ensures.items
 
 pub returns-in-Memory-clause-came : goal.returns-in-Memory-clause-came

@@ -1,25 +1,30 @@
-use Rattle.std.proofs.Common.{refl, ap, arith, ◌∙◌}
+use Rattle.std.proofs.Common.{refl, ap, sym, subst, arith, ◌∙◌}
 use Rattle.script_reader.specs.Scripts.{program_of}
-use Rattle.poll_states.proofs.Reached.{is_over, is_fresh}
+use Rattle.script_meaning.specs.Bodies.{is_over, is_fresh, is_leaving}
+use Rattle.poll_states.specs.Steps.{HasBody}
 use Rattle.poll_states.proofs.Standing.{line_short, stands_body, never_new}
 use Rattle.poll_states.proofs.LineNeeds.{note_after}
-use Rattle.poll_states.proofs.Stepping.{cut_nothing, stopped, yielded}
+use Rattle.poll_states.proofs.Stepping.{cut_nothing}
+use Rattle.poll_states.proofs.JobLines.{stopped, yielded}
 use Rattle.poll_states.proofs.jobs.look_up.Goals as goal
 
 pub returns-in-Err-clause-came : goal.returns-in-Err-clause-came
 returns-in-Err-clause-came g c = cut_nothing _ _ _ _ _ _ refl refl refl c.room.ensures.items
 
 pub own_state-state-requires : goal.own_state-state-requires
-own_state-state-requires g c = stands_body _ _ _ _ (g.met.J.JobFloor.legal c.args.floors.now.jobs.now) c.requires.stands (ap is_over c.requires.at.stage)
+own_state-state-requires g c =
+    subst (λ r. HasBody c.args.frame.now.tag r (g.J.JobFloor.view c.args.floors.now.jobs.now)) (sym c.innermost-row.ensures)
+    (stands_body _ _ _ _ (g.met.J.JobFloor.legal c.args.floors.now.jobs.now) c.requires.stands (ap is_fresh c.requires.at.stage) (ap is_leaving c.requires.at.stage) (ap is_over c.requires.at.stage))
 
 pub unreachable-requires : goal.unreachable-requires
-unreachable-requires g c = never_new _ _ _ _ _ (g.met.J.JobFloor.legal c.args.floors.now.jobs.now) (g.met.J.JobFloor.legal c.own_state-state.new.jobs) c.requires.stands (ap is_fresh c.requires.at.stage) (rw c.in-NotStarted.is at c.own_state-state.ensures.seen)
+unreachable-requires g c = never_new _ _ _ _ _ (g.met.J.JobFloor.legal c.args.floors.now.jobs.now) (g.met.J.JobFloor.legal c.own_state-state.new.jobs) c.requires.stands (ap is_fresh c.requires.at.stage) (rw c.innermost-row.ensures at (rw c.in-NotStarted.is at c.own_state-state.ensures.seen))
 
 pub next_line-requires : goal.next_line-requires
 next_line-requires g c = let h = line_short c.args.script.now c.args.frame.now.tag _ _ c.requires.at.line_is in omega (arith, h)
 
 pub returns-in-Cancelling-clause-came : goal.returns-in-Cancelling-clause-came
-returns-in-Cancelling-clause-came g c = stopped (program_of c.args.script.now) _ _ _ _ _ (g.met.J.JobFloor.legal c.own_state-state.new.jobs) c.requires.at (rw c.in-Cancelling.is at c.own_state-state.ensures.seen) c.see_cancelling.ensures.tag c.see_cancelling.ensures.config (note_after _ _ _ _ c.see_cancelling.ensures.items c.room.ensures.items)
+returns-in-Cancelling-clause-came g c = stopped (program_of c.args.script.now) _ _ _ _ _ (g.met.J.JobFloor.legal c.own_state-state.new.jobs) c.requires.at (rw c.innermost-row.ensures at (rw c.in-Cancelling.is at c.own_state-state.ensures.seen)) c.see_cancelling.ensures.tag c.see_cancelling.ensures.config
+    (note_after _ _ _ _ (rw c.innermost-row.ensures at c.see_cancelling.ensures.items) c.room.ensures.items)
 
 pub returns-in-MayRun-clause-came : goal.returns-in-MayRun-clause-came
-returns-in-MayRun-clause-came g c = yielded (program_of c.args.script.now) _ _ _ _ _ (g.met.J.JobFloor.legal c.own_state-state.new.jobs) c.requires.at (rw c.in-MayRun.is at c.own_state-state.ensures.seen) c.next_line.ensures.tag c.next_line.ensures.config (c.next_line.ensures.items ∙ c.room.ensures.items)
+returns-in-MayRun-clause-came g c = yielded (program_of c.args.script.now) _ _ _ _ _ (g.met.J.JobFloor.legal c.own_state-state.new.jobs) c.requires.at (rw c.innermost-row.ensures at (rw c.in-MayRun.is at c.own_state-state.ensures.seen)) c.next_line.ensures.tag c.next_line.ensures.config (c.next_line.ensures.items ∙ c.room.ensures.items)

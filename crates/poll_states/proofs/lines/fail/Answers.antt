@@ -1,7 +1,8 @@
 use Rattle.std.proofs.Common.{refl, ◌∙◌}
 use Rattle.script_reader.specs.Scripts.{program_of}
 use Rattle.poll_states.proofs.LineNeeds.{note_after}
-use Rattle.poll_states.proofs.Stepping.{failed_by, cut_nothing}
+use Rattle.poll_states.proofs.Stepping.{cut_nothing}
+use Rattle.poll_states.proofs.FrameLines.{failed_by}
 use Rattle.poll_states.proofs.lines.fail.Goals as goal
 
 pub returns-in-Err-clause-came : goal.returns-in-Err-clause-came

@@ -3,7 +3,7 @@ use Rattle.script_reader.specs.Scripts.{program_of}
 use Rattle.script_meaning.specs.Configs.{next, with_result}
 use Rattle.poll_states.specs.Frames.{config_of}
 use Rattle.poll_states.proofs.Standing.{line_short}
-use Rattle.poll_states.proofs.Stepping.{result_set}
+use Rattle.poll_states.proofs.FrameLines.{result_set}
 use Rattle.poll_states.proofs.lines.set_result.Goals as goal
 
 pub next_line-requires : goal.next_line-requires

@@ -1,0 +1,164 @@
+-- Where a coroutine goes on by what a join, an await or the end of a scope came to, and how it sees an end.
+use Rattle.std.specs.Prelude.{◌≡◌, ◌≢◌, ◌+◌, ◌<◌, ◌⊎◌, ℕ, true, false, List, [], ◌∷◌, ◌++◌, length, Option, Some, None, Result, Ok, Err}
+use Rattle.co_base.specs.declared.names.Memory.{Memory}
+use Rattle.co_base.specs.declared.names.WaitId.{WaitId}
+use Rattle.channel_model.specs.declared.acts.Settled.{Settled}
+use Rattle.channel_model.specs.Channels.{Shape}
+use Rattle.channel_model.specs.Histories.{replay as replay_channels}
+use Rattle.channel_model.specs.Floors.{Floor as ChannelFloor}
+use Rattle.channel_model.specs.Answers.{outcome_at}
+use Rattle.job_model.specs.declared.acts.Cause.{Cause}
+use Rattle.job_model.specs.declared.acts.Cause.TheVariants as because
+use Rattle.job_model.specs.declared.acts.End.{End}
+use Rattle.job_model.specs.declared.acts.End.TheVariants as ended
+use Rattle.job_model.specs.Floors.{Floor, Added}
+use Rattle.call_meaning.specs.Telling.{Told, saw_end}
+use Rattle.call_meaning.specs.ChannelCalls.{Answer}
+use Rattle.call_meaning.specs.JobCalls.{EndsBody, BreaksOff}
+use Rattle.call_meaning.specs.Calls.{ToldOnChannels}
+use Rattle.channel_calls.specs.Calls.{IsUntouched, end_told}
+use Rattle.scope_builders.specs.declared.builder.Joined.{Joined}
+use Rattle.scope_builders.specs.declared.builder.Joined.TheVariants as joined
+use Rattle.scope_builders.specs.Calls.{ReceivesDone}
+use Rattle.script_grammar.specs.declared.instructions.Instruction.TheVariants as line
+use Rattle.script_grammar.specs.Programs.{Program}
+use Rattle.script_grammar.specs.Nesting.{closing_of}
+use Rattle.script_grammar.specs.Tags.{code_of, coroutine_count}
+use Rattle.script_meaning.specs.declared.stage.Stage.{Stage}
+use Rattle.script_meaning.specs.declared.stage.Stage.TheVariants.{Waiting, SeesJob, Unwinding, Leaving, SeesScope, Ended}
+use Rattle.script_meaning.specs.declared.turn.Turn.{Turn}
+use Rattle.script_meaning.specs.declared.turn.Turn.TheVariants as turn
+use Rattle.script_meaning.specs.Configs.{Config, Entered, in_scope, InScope, scope_in, outside, at_stage, at_line, next, received, LineIs}
+use Rattle.script_meaning.specs.Polls.{AsksAgain, is_seeing}
+use Rattle.poll_states.specs.declared.entered.OpenScope.{OpenScope}
+use Rattle.poll_states.specs.declared.frame.Frame.{Frame}
+use Rattle.poll_states.specs.Frames.{config_of, items_of, IsScopeOf, IsUnmoved}
+use Rattle.poll_states.specs.Steps.{Stepped, CutShort, AnsweredAfter}
+
+-- ---- join and await
+
+-- where a coroutine is whose join came to this
+abbrev pub after_join : ℕ → Joined → Config → Config
+after_join k (joined.Closed v) x = next x
+after_join k (joined.Waits w) x = at_stage (Waiting w) x
+after_join k joined.Cancelled x = at_stage (Unwinding None) x
+after_join k joined.Spent x = at_stage (Unwinding (Some k)) x
+
+-- where a coroutine is whose await came to this
+abbrev pub after_await : ℕ → Joined → Config → Config
+after_await k (joined.Closed v) x = at_stage SeesJob x
+after_await k (joined.Waits w) x = at_stage (Waiting w) x
+after_await k joined.Cancelled x = at_stage (Unwinding None) x
+after_await k joined.Spent x = at_stage (Unwinding (Some k)) x
+
+-- how a coroutine unwinds that saw a Job which was cancelled for this cause
+abbrev pub unwinds_for : Cause → Stage
+unwinds_for because.None = Unwinding None
+unwinds_for because.Request = Unwinding None
+unwinds_for (because.Failure f) = Unwinding (Some f)
+
+-- where a coroutine is that saw the Job which it awaited end so
+abbrev pub after_job : End → Config → Config
+after_job (ended.Completed v) x = next (received v x)
+after_job (ended.Cancelled cause) x = at_stage (unwinds_for cause) x
+
+-- the line is an await, and its name means a row
+pub record AwaitsNamed (p : Program) (f : Frame) : Type 0 where
+  pub in_run : f.tag < coroutine_count p
+  pub sees : f.stage ≡ SeesJob
+  pub job : ℕ
+  pub line_is : LineIs p f.tag (config_of f) (line.Await job)
+  pub named : job < length f.rows.items
+
+-- ---- the end of a scope
+
+-- its innermost scope is this one
+abbrev pub IsInScope : Config → OpenScope → Type 0
+IsInScope x s = IsScopeOf x.entered (Some s)
+
+-- what it entered last is this scope
+abbrev pub IsScopeTop : Config → OpenScope → Type 0
+IsScopeTop x s = (around : List Entered) × (x.entered ≡ in_scope s.head s.row ∷ around)
+
+-- what it entered last is no scope
+abbrev pub EndsNoScope : Config → Type 0
+EndsNoScope x = (s : OpenScope) → IsScopeTop x s → ⊥
+
+-- where a coroutine is whose receive on the done channel of its innermost scope came to this
+abbrev pub AfterDone : ℕ → Joined → Config → Config → Type 0
+AfterDone k (joined.Closed v) x y = y ≡ at_stage SeesScope x
+AfterDone k (joined.Waits w) x y = y ≡ at_stage (Leaving w) x
+AfterDone k joined.Cancelled x y = y ≡ at_stage (Unwinding None) x
+AfterDone k joined.Spent x y = (s : InScope) → scope_in x.entered ≡ Some s → y ≡ at_stage (Unwinding (Some k)) (outside s x)
+
+-- outside a scope that begins at this line and ended so
+abbrev pub GoesOutside : Program → ℕ → ℕ → End → Config → Config → Type 0
+GoesOutside p k head (ended.Completed v) x y = (e : ℕ) × (closing_of (code_of p k) head ≡ Some e) × (y ≡ at_line (e + 1) x)
+GoesOutside p k head (ended.Cancelled cause) x y = y ≡ at_stage (unwinds_for cause) x
+
+-- the innermost scope, which begins at this line and ended so, was left
+abbrev pub LeavesEnded : Program → ℕ → ℕ → End → Config → Config → Type 0
+LeavesEnded p k head end x y = (s : InScope) → scope_in x.entered ≡ Some s → GoesOutside p k head end (outside s x) y
+
+-- the body ends, and the done channel is received from
+pub record EndsAndReceives (shape : Shape) (base row : ℕ) (a : Answer) (told : List Told) : Type 0 where
+  pub end : List Told
+  pub group : List Told
+  pub ends : EndsBody base row 0 end
+  pub received : ReceivesDone shape base row a group
+  pub all : told ≡ end ++ group
+
+-- the body breaks off, and the done channel is received from
+pub record BreaksAndReceives (shape : Shape) (base k row : ℕ) (failure : Option ℕ) (a : Answer) (told : List Told) : Type 0 where
+  pub cancels : List Told
+  pub group : List Told
+  pub breaks : BreaksOff base k row failure cancels
+  pub received : ReceivesDone shape base row a group
+  pub all : told ≡ cancels ++ group
+
+-- the wait at the end of a scope was settled as it was resolved
+pub record EndedScopeWait (w : WaitId) (old new : ChannelFloor) (f g : Frame) : Type 0 where
+  pub outcome : Settled
+  pub ends : outcome_at false ((replay_channels old.seen).waits w) ≡ Some outcome
+  pub config : config_of g ≡ at_stage SeesScope (config_of f)
+  pub noted : ToldOnChannels f.tag old new (items_of f) (items_of g) (end_told w false outcome)
+
+abbrev pub ScopeWaitAnswer : WaitId → ChannelFloor → ChannelFloor → Frame → Frame → Result (Unit {0}) Memory → Type 0
+ScopeWaitAnswer w old new f g (Ok done) = EndedScopeWait w old new f g
+ScopeWaitAnswer w old new f g (Err m) = IsUntouched old new (items_of f) (items_of g)
+
+-- ---- an end is seen
+
+-- the Job has not ended, and nothing was done
+pub record NotYetSeen (p : Program) (c c' : ChannelFloor) (j j' : Floor) (f g : Frame) : Type 0 where
+  pub tag : g.tag ≡ f.tag
+  pub unmoved : IsUnmoved f g
+  pub channels : c' ≡ c
+  pub looked : Added f.tag [] [] j j'
+  pub again : AsksAgain p j j' f.tag (config_of f)
+
+-- the end was seen, and the coroutine goes on
+pub record HasSeen (p : Program) (c c' : ChannelFloor) (j j' : Floor) (f g : Frame) : Type 0 where
+  pub step : Stepped p c c' j j' f g
+  pub row : ℕ
+  pub end : End
+  pub told_is : step.told ≡ saw_end row end ∷ []
+  pub runs : g.stage ≢ Ended
+
+abbrev pub Seen : Program → ChannelFloor → ChannelFloor → Floor → Floor → Frame → Frame → Type 0
+Seen p c c' j j' f g = HasSeen p c c' j j' f g ⊎ NotYetSeen p c c' j j' f g
+
+abbrev pub SeenAnswer : Program → ChannelFloor → ChannelFloor → Floor → Floor → Frame → Frame → Result (Unit {0}) Memory → Type 0
+SeenAnswer p c c' j j' f g (Ok done) = Seen p c c' j j' f g
+SeenAnswer p c c' j j' f g (Err m) = CutShort c c' j j' f g
+
+-- ---- after a step
+
+-- what is done behind a step: where an end is to be seen it is looked for; else the coroutine is looked at
+pub data WentOn (p : Program) (c c' : ChannelFloor) (j j' : Floor) (f g : Frame) (answer : Turn) : Type 0 where
+  seen : is_seeing f.stage ≡ true → answer ≡ turn.Ready → Seen p c c' j j' f g → WentOn p c c' j j' f g answer
+  answered : g ≡ f → c' ≡ c → AnsweredAfter f j j' answer → WentOn p c c' j j' f g answer
+
+abbrev pub WentOnAnswer : Program → ChannelFloor → ChannelFloor → Floor → Floor → Frame → Frame → Result Turn Memory → Type 0
+WentOnAnswer p c c' j j' f g (Ok answer) = WentOn p c c' j j' f g answer
+WentOnAnswer p c c' j j' f g (Err m) = CutShort c c' j j' f g

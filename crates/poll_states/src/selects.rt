@@ -1,0 +1,127 @@
+//! A select.
+
+ghost use Rattle.std.specs.Prelude.{◌≡◌, ◌<◌, ◌≤◌, true, length, slice_get, option_map, OnOk};
+ghost use Rattle.script_grammar.specs.declared.instructions.Instruction.TheVariants.{Select};
+ghost use Rattle.script_grammar.specs.Tags.{code_of, coroutine_count};
+ghost use Rattle.script_reader.specs.Scripts.{program_of};
+ghost use Rattle.script_reader.specs.Lines.{does_open};
+ghost use Rattle.script_meaning.specs.Configs.{IsAt};
+ghost use Rattle.script_meaning.specs.Lines.{clauses_in};
+ghost use Rattle.select_calls.specs.Clauses.{call_of, calls_of};
+ghost use Rattle.poll_states.specs.Frames.{config_of, items_of, Stands, SameFloors};
+ghost use Rattle.poll_states.specs.Steps.{MovesOn, StepAnswer};
+ghost use Rattle.poll_states.specs.Selecting.{clause_in, AfterChosen, AfterSelect};
+
+use crate::floors::Floors;
+use crate::frame::Frame;
+use crate::lines::code_of;
+use arrayvec::ArrayVec;
+use channel_calls::Caller;
+use channel_model::ChannelFloor;
+use co_base::{Gate, Memory, WaitId, Wakes};
+use job_model::JobFloor;
+use script_reader::{Instruction, Script};
+use select_calls::{Clause, Outcome, SelectAnswer, select_poll};
+
+impl Frame {
+    /// The clause that a line is, with the element that it sends from here.
+    fn clause_of(&self, line: Instruction) -> Option<Clause>
+        ensures { option_map call_of result ≡ clause_in (config_of self.now) line }
+    {
+        match line {
+            Instruction::OnSend { c, value } => Some(Clause::OnSend {
+                c,
+                value: self.value_of(value),
+            }),
+            Instruction::OnReceive { c } => Some(Clause::OnReceive { c }),
+            _ => None,
+        }
+    }
+
+    /// The clauses with which these lines begin.
+    fn clauses_of(&self, code: &[Instruction]) -> ArrayVec<Clause, 7>
+        requires { length (clauses_in (config_of self.now) code.now) ≤ 7 }
+        ensures { calls_of result.items ≡ clauses_in (config_of self.now) code.now }
+    {
+        let mut clauses = ArrayVec::new();
+        let mut rest = code;
+        while let [line, more @ ..] = rest {
+            let Some(clause) = self.clause_of(*line) else {
+                return clauses;
+            };
+            clauses.push(clause);
+            rest = more;
+        }
+        clauses
+    }
+
+    /// Goes on, at a select, where that came to this.
+    fn go_on_selected(&mut self, script: &Script, answer: SelectAnswer, held: Option<WaitId>)
+        requires tag { self.old.tag < coroutine_count (program_of script.now) }
+        requires opens { does_open (slice_get (code_of (program_of script.now) self.old.tag) self.old.line) ≡ true }
+        ensures tag { self.new.tag ≡ self.old.tag }
+        ensures config { AfterSelect (program_of script.now) self.old.tag answer held (config_of self.old) (config_of self.new) }
+        ensures items { items_of self.new ≡ items_of self.old }
+    {
+        match answer {
+            SelectAnswer::Chosen(_, outcome) => self.go_on_chosen(script, outcome),
+            SelectAnswer::Waiting => {
+                if let Some(w) = held {
+                    self.wait_for(w);
+                }
+            }
+            SelectAnswer::Again => {}
+            SelectAnswer::Spent => self.fail(),
+        }
+    }
+
+    /// Goes on where the chosen clause of its select came to this.
+    fn go_on_chosen(&mut self, script: &Script, outcome: Outcome)
+        requires tag { self.old.tag < coroutine_count (program_of script.now) }
+        requires opens { does_open (slice_get (code_of (program_of script.now) self.old.tag) self.old.line) ≡ true }
+        ensures tag { self.new.tag ≡ self.old.tag }
+        ensures config { AfterChosen (program_of script.now) self.old.tag outcome (config_of self.old) (config_of self.new) }
+        ensures items { items_of self.new ≡ items_of self.old }
+    {
+        if let Outcome::Value(value) = outcome {
+            self.take_in(value);
+        }
+        self.go_past(script);
+    }
+}
+
+/// Chooses a clause, or waits on all of them.
+pub(crate) fn select<C: ChannelFloor, J: JobFloor, W: Wakes, G: Gate>(
+    script: &Script,
+    frame: &mut Frame,
+    floors: &mut Floors<'_, '_, '_, C, J, W>,
+    gate: &G,
+) -> Result<(), Memory>
+    requires stands { Stands (program_of script.now) (C.view floors.old.channels.now) (J.view floors.old.jobs.now) frame.old }
+    requires at { IsAt (program_of script.now) frame.old.tag (config_of frame.old) Select }
+    ensures came { StepAnswer (program_of script.now) (C.view floors.old.channels.now) (C.view floors.new.channels.now)
+        (J.view floors.old.jobs.now) (J.view floors.new.jobs.now) frame.old frame.new result }
+    ensures moves { OnOk result (MovesOn (program_of script.now) (C.view floors.old.channels.now) frame.old frame.new) }
+    ensures same { SameFloors C.anchor J.anchor floors.old floors.new }
+{
+    let code = code_of(script, frame.tag);
+    let clauses = frame.clauses_of(&code[frame.line + 1..]);
+    let who = frame.tag;
+    let mut held = None;
+    let mut caller = Caller {
+        floor: &mut *floors.channels,
+        book: &mut frame.book,
+        wakes: &mut *floors.wakes,
+        who,
+    };
+    gate.pass(who, 2);
+    let answer = select_poll(&mut caller, clauses.as_slice(), &mut held);
+    gate.pass(who, 3);
+    match answer {
+        Ok(answer) => {
+            frame.go_on_selected(script, answer, held);
+            Ok(())
+        }
+        Err(memory) => Err(memory),
+    }
+}

@@ -1,0 +1,124 @@
+//! The end of a wait.
+
+ghost use Rattle.std.specs.Prelude.{◌≡◌, ◌<◌, length, None, IsTrue};
+ghost use Rattle.channel_model.specs.Floors.{MayCall};
+ghost use Rattle.channel_model.specs.Answers.{IsReady};
+ghost use Rattle.channel_calls.specs.Calls.{HoldsWait};
+ghost use Rattle.note_book.specs.Books.{spare_of};
+ghost use Rattle.script_reader.specs.Scripts.{program_of};
+ghost use Rattle.script_grammar.specs.Tags.{code_of, coroutine_count};
+ghost use Rattle.script_meaning.specs.declared.stage.Stage.TheVariants.{Unwinding};
+ghost use Rattle.script_meaning.specs.Configs.{at_stage};
+ghost use Rattle.poll_states.specs.Frames.{config_of, SameLoans};
+ghost use Rattle.poll_states.specs.Steps.{SeenWait, EndedWaitAnswer, GaveUpAnswer};
+
+use crate::floors::Floors;
+use crate::frame::Frame;
+use crate::lines::code_of;
+use channel_calls::Caller;
+use channel_model::{ChannelFloor, WaitState};
+use co_base::{Gate, Memory, Row, Tag, WaitId, Wakes};
+use script_reader::Script;
+
+/// Looks whether the wait was resolved.
+pub(crate) fn was_resolved<C: ChannelFloor, G: Gate>(
+    who: Tag,
+    w: WaitId,
+    channels: &mut C,
+    gate: &G,
+) -> bool
+    requires can { MayCall who w.channel (C.view channels.old) }
+    requires holds { HoldsWait who w (C.view channels.old) }
+    ensures seen { SeenWait who w (C.view channels.old) (C.view channels.new) result }
+    ensures anchor { C.anchor channels.new ≡ C.anchor channels.old }
+{
+    match channels.look(who, w) {
+        WaitState::Standing => false,
+        WaitState::Resolved => {
+            gate.pass(who, 4);
+            true
+        }
+        WaitState::Settled => unreachable!(),
+    }
+}
+
+/// Ends a wait that was resolved, and goes on as that says for the line that began it.
+pub(crate) fn end_wait<C: ChannelFloor, J, W: Wakes, G: Gate>(
+    script: &Script,
+    frame: &mut Frame,
+    floors: &mut Floors<'_, '_, '_, C, J, W>,
+    gate: &G,
+    w: WaitId,
+) -> Result<(), Memory>
+    requires can { MayCall frame.old.tag w.channel (C.view floors.old.channels.now) }
+    requires ready { IsReady frame.old.tag w (C.view floors.old.channels.now) }
+    requires in_run { frame.old.tag < coroutine_count (program_of script.now) }
+    requires line { frame.old.line < length (code_of (program_of script.now) frame.old.tag) }
+    ensures tag { frame.new.tag ≡ frame.old.tag }
+    ensures answer { EndedWaitAnswer (program_of script.now) w (C.view floors.old.channels.now)
+        (C.view floors.new.channels.now) frame.old frame.new result }
+    ensures jobs { floors.new.jobs.now ≡ floors.old.jobs.now }
+    ensures same { SameLoans C.anchor floors.old floors.new }
+{
+    if let Err(memory) = frame.room_to_enter() {
+        return Err(memory);
+    }
+    let line = code_of(script, frame.tag)[frame.line];
+    let who = frame.tag;
+    let mut caller = Caller {
+        floor: &mut *floors.channels,
+        book: &mut frame.book,
+        wakes: &mut *floors.wakes,
+        who,
+    };
+    gate.pass(who, 5);
+    match caller.dispatch(w, false) {
+        Ok(outcome) => {
+            frame.go_on_after(script, line, outcome);
+            Ok(())
+        }
+        Err(memory) => Err(memory),
+    }
+}
+
+/// Notes that the Job of this row was seen Cancelling, and ends the wait for that: as cancelled, or with the element given up that it was
+/// handed.
+pub(crate) fn give_up<C: ChannelFloor, J, W: Wakes, G: Gate>(
+    frame: &mut Frame,
+    floors: &mut Floors<'_, '_, '_, C, J, W>,
+    gate: &G,
+    w: WaitId,
+    row: Row,
+    resolved: bool,
+) -> Result<(), Memory>
+    requires can { MayCall frame.old.tag w.channel (C.view floors.old.channels.now) }
+    requires holds { HoldsWait frame.old.tag w (C.view floors.old.channels.now) }
+    requires ready { IsTrue resolved → IsReady frame.old.tag w (C.view floors.old.channels.now) }
+    requires book { 0 < spare_of frame.old.book }
+    ensures tag { frame.new.tag ≡ frame.old.tag }
+    ensures config { config_of frame.new ≡ at_stage (Unwinding None) (config_of frame.old) }
+    ensures answer { GaveUpAnswer w row (C.view floors.old.channels.now) (C.view floors.new.channels.now) frame.old frame.new result }
+    ensures jobs { floors.new.jobs.now ≡ floors.old.jobs.now }
+    ensures same { SameLoans C.anchor floors.old floors.new }
+{
+    let who = frame.tag;
+    frame.see_cancelling(row);
+    let mut caller = Caller {
+        floor: &mut *floors.channels,
+        book: &mut frame.book,
+        wakes: &mut *floors.wakes,
+        who,
+    };
+    if resolved {
+        gate.pass(who, 5);
+        match caller.dispatch(w, true) {
+            Ok(_) => Ok(()),
+            Err(memory) => Err(memory),
+        }
+    } else {
+        match caller.cancel_wait(w) {
+            Ok(_) => Ok(()),
+            Err(memory) => Err(memory),
+        }
+    }
+}
