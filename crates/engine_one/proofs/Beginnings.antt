@@ -2,18 +2,16 @@
 use Rattle.std.proofs.Common.{◌≡◌, ◌≢◌, ℕ, ◌+◌, ◌<◌, Bool, true, false, ◌||◌, List, [], ◌∷◌, ◌++◌, length, set, zero, suc, Option, Some, None, refl, ap, sym, ◌∙◌, subst, arith, slice_get, map, if◌then◌else◌, length-set, is_some, replicate}
 use Rattle.std.specs.Prelude.{◌==◌}
 use Rattle.std.specs.List.{list_any}
-use Rattle.std.proofs.lemmas.Bool.{eqb-true, eq-eqb}
+use Rattle.std.proofs.lemmas.Bool.{eqb-true}
 use Rattle.std.proofs.lemmas.Bool.Decides.{nat_tests}
 use Rattle.channel_model.specs.Histories.{acts_of, replay, replay_from}
 use Rattle.channel_model.specs.Floors.{Floor}
 use Rattle.job_model.specs.declared.acts.JobAct.{JobAct}
-use Rattle.job_model.specs.Acts.{attaches}
 use Rattle.job_model.specs.Trees.{is_among}
 use Rattle.job_model.specs.Histories.{acts_of as job_acts_of, Legal as LegalJobs}
 use Rattle.job_model.specs.Floors.{Floor as JobFloor, Added, is_claimed_by}
-use Rattle.note_book.specs.declared.book.Item.{Item}
 use Rattle.note_book.specs.Items.{channel_acts_in, job_acts_in}
-use Rattle.call_meaning.specs.Telling.{Told, items_in}
+use Rattle.call_meaning.specs.Telling.{items_in}
 use Rattle.call_meaning.specs.Stories.{Moment, beginning, IsTrue}
 use Rattle.call_meaning.specs.Calls.{seen_by, rows_in}
 use Rattle.scope_builders.specs.Dones.{OnlyEndedAreClosed}
@@ -22,18 +20,17 @@ use Rattle.script_reader.specs.Programs.{declared_of}
 use Rattle.script_grammar.specs.Programs.{Program, Declared, shape_of}
 use Rattle.script_grammar.specs.WellFormed.{IsProgram}
 use Rattle.script_grammar.specs.Tags.{coroutine_count}
-use Rattle.script_grammar.specs.FirstRunning.{all_run}
 use Rattle.script_grammar.proofs.Layouts.{main_fits}
-use Rattle.script_meaning.specs.Shapes.{base_of, job_shape}
-use Rattle.script_meaning.specs.Configs.{Config, fresh}
+use Rattle.script_meaning.specs.Shapes.{base_of}
+use Rattle.script_meaning.specs.Configs.{fresh}
 use Rattle.script_meaning.specs.Endings.{ClosesAtOnce}
 use Rattle.script_meaning.specs.Books.{story, Runs, Reaches, Begins, is_refusal}
-use Rattle.script_meaning.specs.Polls.{StandsOn, own_rows}
+use Rattle.script_meaning.specs.Polls.{own_rows}
 use Rattle.poll_states.specs.declared.frame.Frame.{Frame}
-use Rattle.poll_states.specs.Frames.{Stands, frame_of, config_of, items_of}
+use Rattle.poll_states.specs.Frames.{frame_of, config_of, items_of}
 use Rattle.poll_states.specs.Steps.{IsNewRoot, IsOnItsFloors, BegunTo}
 use Rattle.poll_states.proofs.LaterStands.{same_job_acts, same_claims, claims_within}
-use Rattle.poll_states.proofs.NoRefusals.{AreClaimed, begun_never, is_among-rows_in}
+use Rattle.script_meaning.proofs.NoRefusals.{AreClaimed, begun_never, is_among-rows_in}
 use Rattle.engine_one.specs.Coroutines.{Scene, FrameStands, StandsAt, AllStand}
 use Rattle.engine_one.specs.Starting.{IsMade, IsMadeAt, AllMade, HasNoCalls, HasNoJobs}
 use Rattle.engine_one.proofs.Lists.{within, pushed_at, slice_get-set_same, slice_get-set_other}
@@ -91,9 +88,8 @@ nothing_closed base c j e r lt closed =
 pub root_is_new : (frames : List Frame) (f : Frame) → AllMade frames → slice_get frames 0 ≡ Some f → IsNewRoot f
 root_is_new frames f all e = let made = made_at frames 0 f all e in record { tag = made.tag; config = made.config; book = made.book }
 
-pub root_is_on : (p : Program) (c : Floor) (j : JobFloor) → all_run p ≡ true → HasNoCalls p c → HasNoJobs p j → IsOnItsFloors p c j
-root_is_on p c j ok calls jobs = record {
-  lines_run = ok;
+pub root_is_on : (p : Program) (c : Floor) (j : JobFloor) → HasNoCalls p c → HasNoJobs p j → IsOnItsFloors p c j
+root_is_on p c j calls jobs = record {
   channels = calls.shape;
   jobs = jobs.fresh.shape;
   of_channels = calls.callers 0;
@@ -113,12 +109,11 @@ runs_fresh : (p : Program) (k : ℕ) (now : Moment) → k ≢ 0 → Runs p k now
 unfolding items_in
 runs_fresh p k now n = record { told = []; written = refl; reaches = Reaches.begins [] (fresh k) (Begins.child k n); is_true = nothing_told p k now }
 
-fresh_frame : (p : Program) (c : Floor) (j j' : JobFloor) (k : ℕ) (f : Frame) → all_run p ≡ true → HasNoCalls p c → HasNoJobs p j → j'.shape ≡ j.shape → j'.callers ≡ j.callers → job_acts_of k j'.seen ≡ [] → ((r : ℕ) → is_claimed_by k (j'.claims r) ≡ is_claimed_by k (j.claims r)) → k < coroutine_count p → k ≢ 0 → IsMade k f
+fresh_frame : (p : Program) (c : Floor) (j j' : JobFloor) (k : ℕ) (f : Frame) → HasNoCalls p c → HasNoJobs p j → j'.shape ≡ j.shape → j'.callers ≡ j.callers → job_acts_of k j'.seen ≡ [] → ((r : ℕ) → is_claimed_by k (j'.claims r) ≡ is_claimed_by k (j.claims r)) → k < coroutine_count p → k ≢ 0 → IsMade k f
     → FrameStands p (record { channels = c; jobs = j' }) k f
-fresh_frame p c j j' k f ok calls jobs shape callers none claims lt n made = record {
+fresh_frame p c j j' k f calls jobs shape callers none claims lt n made = record {
   tag = made.tag;
   stands = record {
-    lines_run = ok;
     on = record {
       channels = calls.shape;
       jobs = shape ∙ jobs.fresh.shape;
@@ -141,8 +136,8 @@ pub some_first : (p : Program) (frames : List Frame) → length frames ≡ corou
 some_first p [] count lt = absurd (omega (arith, count, lt))
 some_first p (f ∷ frames) count lt = (f, refl)
 
-pub all_begin : (p : Program) (c : Floor) (j j' : JobFloor) (frames : List Frame) (f g : Frame) → IsProgram p → all_run p ≡ true → HasNoCalls p c → HasNoJobs p j → LegalJobs j'.shape j'.seen → length frames ≡ coroutine_count p → 0 < coroutine_count p → AllMade frames → slice_get frames 0 ≡ Some f → BegunTo p c c j j' f g → AllStand p (record { channels = c; jobs = j' }) (set frames 0 g)
-all_begin p c j j' frames f g is ok calls jobs legal count some all at begun = record {
+pub all_begin : (p : Program) (c : Floor) (j j' : JobFloor) (frames : List Frame) (f g : Frame) → IsProgram p → HasNoCalls p c → HasNoJobs p j → LegalJobs j'.shape j'.seen → length frames ≡ coroutine_count p → 0 < coroutine_count p → AllMade frames → slice_get frames 0 ≡ Some f → BegunTo p c c j j' f g → AllStand p (record { channels = c; jobs = j' }) (set frames 0 g)
+all_begin p c j j' frames f g is calls jobs legal count some all at begun = record {
   count = length-set frames 0 g ∙ count;
   each = λ k. each_at k (0 == k) refl;
   channels_alone = calls.alone;
@@ -179,7 +174,7 @@ all_begin p c j j' frames f g is ok calls jobs legal count some all at begun = r
     s = record { channels = c; jobs = j' }
 
     fresh_at : (k : ℕ) (x : Frame) → slice_get frames k ≡ Some x → 0 ≢ k → FrameStands p s k x
-    fresh_at k x e n = fresh_frame p c j j' k x ok calls jobs added.same.shape added.same.callers (others k n) (same_claims k 0 acts (rows_in acts) j j' jobs.alone n added) (omega (arith, count, within frames k x e)) (λ q. n (sym q)) (made_at frames k x all e)
+    fresh_at k x e n = fresh_frame p c j j' k x calls jobs added.same.shape added.same.callers (others k n) (same_claims k 0 acts (rows_in acts) j j' jobs.alone n added) (omega (arith, count, within frames k x e)) (λ q. n (sym q)) (made_at frames k x all e)
 
     other : (k : ℕ) (o : Option Frame) → slice_get frames k ≡ o → 0 ≢ k → StandsAt p s k o
     other k None e n = tt
@@ -206,7 +201,7 @@ all_begin p c j j' frames f g is ok calls jobs legal count some all at begun = r
       stands = begun.stands;
       closes = closes_same (base_of p) (items_of g) (begun.dones.at_once calls.alone jobs.alone (nothing_closed (base_of p) c j calls.seen));
       no_refusal = ap (list_any (is_refusal (base_of p))) begun.begun.written
-          ∙ begun_never p c j j' (frame_of f) (frame_of g) is ok (subst (λ z. LegalJobs z j'.seen) begun.stands.on.jobs legal) begun.stands.on claimed_at begun.begun;
+          ∙ begun_never p c j j' (frame_of f) (frame_of g) is (subst (λ z. LegalJobs z j'.seen) begun.stands.on.jobs legal) begun.stands.on claimed_at begun.begun;
     }
 
     each_at : (k : ℕ) (t : Bool) → (0 == k) ≡ t → StandsAt p s k (slice_get (set frames 0 g) k)

@@ -1,7 +1,7 @@
 -- The channels of a script's floor: those that the script declares, and a signal for each Job.
-use Rattle.std.proofs.Common.{◌≡◌, ℕ, ◌-◌, ◌<◌, ◌≤◌, ◌+◌, Bool, true, false, ◌&&◌, nat_lt, nat_le, List, length, refl, ap, sym, ◌∙◌, subst, arith, get_or, length-append}
+use Rattle.std.proofs.Common.{◌≡◌, ℕ, ◌-◌, ◌<◌, ◌≤◌, ◌+◌, Bool, true, false, nat_lt, List, length, refl, sym, ◌∙◌, subst, arith, get_or, length-append}
 use Rattle.std.specs.Prelude.{replicate}
-use Rattle.std.specs.List.{All, list_all}
+use Rattle.std.specs.List.{All}
 use Rattle.std.proofs.lemmas.Bool.Decides.{nat_tests}
 use Rattle.std.proofs.lemmas.List.{get_or_default, get_or_append_left, get_or-append_right, get_or-replicate, length-replicate}
 use Rattle.channel_model.specs.declared.acts.Kind.{Kind}
@@ -9,10 +9,10 @@ use Rattle.channel_model.specs.declared.acts.Kind.TheVariants.{Rendezvous, Buffe
 use Rattle.channel_model.specs.Channels.{kind_at}
 use Rattle.one_thread_floor.specs.ListFloors.{MayBeMade, has_capacity}
 use Rattle.script_grammar.specs.Programs.{Program, shape_of}
-use Rattle.script_grammar.specs.Grammar.{is_kind, is_declared, is_capacity}
+use Rattle.script_grammar.specs.Grammar.{is_kind}
 use Rattle.script_grammar.specs.WellFormed.{IsProgram}
 use Rattle.script_grammar.specs.Tags.{job_count}
-use Rattle.script_grammar.proofs.Truths.{both_true, lt-from_true, le-from_lt_false}
+use Rattle.script_grammar.proofs.Truths.{lt-from_true, le-from_lt_false}
 use Rattle.script_grammar.proofs.Declarations.{length-shape_of, places_at-shape_of, kind_at-shape}
 use Rattle.script_grammar.proofs.JobsCounted.{whole_load-job_count}
 use Rattle.script_meaning.specs.Shapes.{floor_shape}

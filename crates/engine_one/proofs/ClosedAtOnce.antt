@@ -1,6 +1,5 @@
 -- Right behind each Finish stands the Close of its done channel: of books that are put behind each other.
-use Rattle.std.specs.Prelude.{◌≡◌, ℕ, List, [], ◌∷◌, ◌++◌, Option, Some, None}
-use Rattle.job_model.specs.declared.acts.JobAct.{JobAct}
+use Rattle.std.specs.Prelude.{ℕ, List, [], ◌∷◌, ◌++◌, Option, Some, None}
 use Rattle.job_model.specs.declared.acts.JobAct.TheVariants.{Attach, Start, EndBody, Cancel, Finish, Gone}
 use Rattle.job_model.specs.declared.acts.JobNote.TheVariants as of_job
 use Rattle.note_book.specs.declared.book.Item.{Item}

@@ -1,11 +1,9 @@
 -- A run after its last turn.
-use Rattle.std.proofs.Common.{◌≡◌, ◌≢◌, ℕ, ◌<◌, ◌≤◌, false, List, [], ◌∷◌, length, zero, suc, Option, Some, None, refl, ap, sym, ◌∙◌, subst, arith, slice_get}
+use Rattle.std.proofs.Common.{◌≡◌, ℕ, ◌<◌, false, List, [], ◌∷◌, zero, suc, Option, Some, None, refl, ap, sym, ◌∙◌, subst, arith, slice_get}
 use Rattle.std.specs.List.{list_any}
 use Rattle.std.proofs.lemmas.List.{length-map}
-use Rattle.channel_model.specs.declared.acts.Entry.{Entry}
 use Rattle.channel_model.specs.Histories.{replay, acts_of, Legal}
 use Rattle.job_model.specs.declared.acts.End.{End}
-use Rattle.job_model.specs.declared.acts.JobEntry.{JobEntry}
 use Rattle.job_model.specs.Histories.{replay as replay_jobs, acts_of as job_acts_of, Legal as LegalJobs}
 use Rattle.note_book.specs.declared.book.Item.{Item}
 use Rattle.note_book.specs.Items.{channel_acts_in, job_acts_in}
@@ -23,10 +21,10 @@ use Rattle.script_meaning.proofs.TreesAtRest.{at_rest}
 use Rattle.script_meaning.proofs.NothingOwed.{nothing_is_owed}
 use Rattle.poll_states.specs.declared.frame.Frame.{Frame}
 use Rattle.poll_states.specs.Frames.{config_of, items_of}
-use Rattle.engine_one.specs.Coroutines.{Scene, FrameStands, StandsAt, AllStand, IsLeftAt, AllLeft, books_of}
+use Rattle.engine_one.specs.Coroutines.{Scene, StandsAt, AllStand, IsLeftAt, AllLeft, books_of}
 use Rattle.engine_one.proofs.Beginnings.{some_coroutine}
 use Rattle.engine_one.proofs.ClosedAtOnce.{closes_none}
-use Rattle.engine_one.proofs.Lists.{some_at}
+use Rattle.engine_one.proofs.Lists.{some_at, none_past}
 
 -- ---- the books
 
@@ -43,11 +41,6 @@ book_at-map : (frames : List Frame) (k : ℕ) → book_at k (books_of frames) �
 book_at-map [] k = refl
 book_at-map (f ∷ frames) zero = refl
 book_at-map (f ∷ frames) (suc k) = book_at-map frames k
-
-none_past : (frames : List Frame) (k : ℕ) → slice_get frames k ≡ None → length frames ≤ k
-none_past [] k e = omega arith
-none_past (f ∷ frames) zero e = cc
-none_past (f ∷ frames) (suc k) e = let h = none_past frames k e in omega (arith, h)
 
 -- the floors are the script's
 channels_are : (p : Program) (s : Scene) (frames : List Frame) → IsProgram p → AllStand p s frames → (s.channels.shape ≡ floor_shape p) × (s.jobs.shape ≡ job_shape p)

@@ -8,3 +8,4 @@ pub mod Rounds
 pub mod ChannelKinds
 pub mod Beginnings
 pub mod Endings
+pub mod KeptRuns

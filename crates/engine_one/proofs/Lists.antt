@@ -1,5 +1,5 @@
 -- Lists of which one element is changed.
-use Rattle.std.proofs.Common.{Option, None, ◌≡◌, ◌≢◌, ℕ, ◌<◌, List, [], ◌∷◌, ◌++◌, length, get_or, set, zero, suc, Some, refl, ap, sym, arith, slice_get}
+use Rattle.std.proofs.Common.{Option, None, ◌≡◌, ◌≢◌, ℕ, ◌+◌, ◌<◌, ◌≤◌, List, [], ◌∷◌, ◌++◌, length, get_or, set, zero, suc, Some, refl, ap, sym, arith, slice_get}
 use Rattle.std.specs.List.{sum_by}
 use Rattle.std.proofs.lemmas.List.Sums.{sum_by-set}
 
@@ -25,9 +25,9 @@ slice_get-get_or [] k x d e = cc
 slice_get-get_or (y ∷ xs) zero x d e = cc
 slice_get-get_or (y ∷ xs) (suc k) x d e = slice_get-get_or xs k x d e
 
--- the sum falls by as much as one element does
-pub sum_by-set_less : {A : Type 0} (f : A → ℕ) (xs : List A) (k : ℕ) (x y : A) → k < length xs → slice_get xs k ≡ Some x → f y < f x → sum_by f (set xs k y) < sum_by f xs
-sum_by-set_less f xs k x y lt at less =
+-- the sum rises by less than this where one element does
+pub sum_by-set_by : {A : Type 0} (f : A → ℕ) (xs : List A) (k : ℕ) (x y : A) (m : ℕ) → k < length xs → slice_get xs k ≡ Some x → f y < f x + m → sum_by f (set xs k y) < sum_by f xs + m
+sum_by-set_by f xs k x y m lt at less =
     let sums = sum_by-set f xs k y x lt in
     let here : f (get_or xs k x) ≡ f x = ap f (slice_get-get_or xs k x x at) in
     omega (arith, sums, here, less)
@@ -54,3 +54,8 @@ pub some_at : {A : Type 0} (xs : List A) (k : ℕ) → k < length xs → (x : A)
 some_at [] k lt = absurd (omega (arith, lt))
 some_at (x ∷ xs) zero lt = (x, refl)
 some_at (x ∷ xs) (suc k) lt = some_at xs k (omega (arith, lt))
+
+pub none_past : {A : Type 0} (xs : List A) (k : ℕ) → slice_get xs k ≡ None → length xs ≤ k
+none_past [] k e = omega arith
+none_past (x ∷ xs) zero e = cc
+none_past (x ∷ xs) (suc k) e = let h = none_past xs k e in omega (arith, h)

@@ -26,7 +26,7 @@ still_left a b k (Some f) same h =
 
 -- the coroutines below tag were polled
 abbrev pub SoFar : Program → Scene → Scene → List Frame → List Frame → ℕ → Bool → Type 0
-SoFar p a b frames frames' tag true = MovesFall p frames frames'
+SoFar p a b frames frames' tag true = MovesFall p a b frames frames'
 SoFar p a b frames frames' tag false = IsSame a b × ((k : ℕ) → k < tag → IsLeftAt b k (slice_get frames' k))
 
 pub record RoundSoFar (p : Program) (a b : Scene) (frames frames' : List Frame) (tags tags' : List ℕ) (tag : ℕ) (moved : Bool) : Type 0 where
@@ -37,33 +37,33 @@ pub record RoundSoFar (p : Program) (a b : Scene) (frames frames' : List Frame) 
 pub advances_then : (p : Program) (a b c : Scene) (xs ys zs : List Frame) (r s t : List ℕ) → Advances p a b xs ys r s → Advances p b c ys zs s t → Advances p a c xs zs r t
 advances_then p a b c xs ys zs r s t h k = ⊎_elim (λ u. ⊎_elim (λ v. both_fall u v) (λ v. then_still u v) k) (λ u. ⊎_elim (λ v. still_then u v) (λ v. both_still u v) k) h
   where
-    both_fall : MovesFall p xs ys → MovesFall p ys zs → Advances p a c xs zs r t
+    both_fall : MovesFall p a b xs ys → MovesFall p b c ys zs → Advances p a c xs zs r t
     both_fall u v = inl (omega (arith, u, v))
 
-    then_still : MovesFall p xs ys → StandsStill p b c ys zs s t → Advances p a c xs zs r t
+    then_still : MovesFall p a b xs ys → StandsStill p b c ys zs s t → Advances p a c xs zs r t
     then_still u v = let e = v.moves in inl (omega (arith, u, e))
 
-    still_then : StandsStill p a b xs ys r s → MovesFall p ys zs → Advances p a c xs zs r t
+    still_then : StandsStill p a b xs ys r s → MovesFall p b c ys zs → Advances p a c xs zs r t
     still_then u v = let e = u.moves in inl (omega (arith, e, v))
 
     both_still : StandsStill p a b xs ys r s → StandsStill p b c ys zs s t → Advances p a c xs zs r t
     both_still u v = inr (record { moves = v.moves ∙ u.moves; same = same_then a b c u.same v.same; ready = v.ready ∙ u.ready })
 
-pub moves_advance : (p : Program) (a b : Scene) (xs ys : List Frame) (r s : List ℕ) → Advances p a b xs ys r s → all_moves p ys ≤ all_moves p xs
-moves_advance p a b xs ys r s h = ⊎_elim (λ (u : MovesFall p xs ys). few u) (λ (u : StandsStill p a b xs ys r s). same u.moves) h
+pub moves_advance : (p : Program) (a b : Scene) (xs ys : List Frame) (r s : List ℕ) → Advances p a b xs ys r s → all_moves p b ys ≤ all_moves p a xs
+moves_advance p a b xs ys r s h = ⊎_elim (λ (u : MovesFall p a b xs ys). few u) (λ (u : StandsStill p a b xs ys r s). same u.moves) h
   where
-    few : all_moves p ys < all_moves p xs → all_moves p ys ≤ all_moves p xs
+    few : all_moves p b ys < all_moves p a xs → all_moves p b ys ≤ all_moves p a xs
     few u = omega (arith, u)
 
-    same : all_moves p ys ≡ all_moves p xs → all_moves p ys ≤ all_moves p xs
+    same : all_moves p b ys ≡ all_moves p a xs → all_moves p b ys ≤ all_moves p a xs
     same e = omega (arith, e)
 
 -- fewer moves are left after a turn more
-falls_then : (p : Program) (b c : Scene) (xs ys zs : List Frame) (s t : List ℕ) → MovesFall p xs ys → Advances p b c ys zs s t → MovesFall p xs zs
-falls_then p b c xs ys zs s t h k = let le = moves_advance p b c ys zs s t k in omega (arith, h, le)
+falls_then : (p : Program) (a b c : Scene) (xs ys zs : List Frame) (s t : List ℕ) → MovesFall p a b xs ys → Advances p b c ys zs s t → MovesFall p a c xs zs
+falls_then p a b c xs ys zs s t h k = let le = moves_advance p b c ys zs s t k in omega (arith, h, le)
 
-then_falls : (p : Program) (a b : Scene) (xs ys zs : List Frame) (r s : List ℕ) → Advances p a b xs ys r s → MovesFall p ys zs → MovesFall p xs zs
-then_falls p a b xs ys zs r s h k = let le = moves_advance p a b xs ys r s h in omega (arith, k, le)
+then_falls : (p : Program) (a b c : Scene) (xs ys zs : List Frame) (r s : List ℕ) → Advances p a b xs ys r s → MovesFall p b c ys zs → MovesFall p a c xs zs
+then_falls p a b c xs ys zs r s h k = let le = moves_advance p a b xs ys r s h in omega (arith, k, le)
 
 -- one coroutine more that cannot go on
 left_more : (a b c : Scene) (ys zs : List Frame) (tag : ℕ) → IsSame b c → OthersSame tag ys zs → ((k : ℕ) → k < tag → IsLeftAt b k (slice_get ys k)) → IsLeftAt c tag (slice_get zs tag) → (k : ℕ) → k < tag + 1 → IsLeftAt c k (slice_get zs k)
@@ -84,14 +84,14 @@ round_waits p a b c xs ys zs r s t tag moved h others advances came = record {
 }
   where
     so_far_then : (moved : Bool) → SoFar p a b xs ys tag moved → SoFar p a c xs zs (tag + 1) moved
-    so_far_then true k = falls_then p b c xs ys zs s t k advances
+    so_far_then true k = falls_then p a b c xs ys zs s t k advances
     so_far_then false k = (same_then a b c k.0 came.0, left_more a b c ys zs tag came.0 others k.1 came.1)
 
 -- a turn more in which something was done
 pub round_moves : (p : Program) (a b c : Scene) (xs ys zs : List Frame) (r s t : List ℕ) (tag : ℕ) (moved : Bool) → RoundSoFar p a b xs ys r s tag moved → Advances p b c ys zs s t → TurnCameTo p tag b c ys zs true → RoundSoFar p a c xs zs r t (tag + 1) true
 round_moves p a b c xs ys zs r s t tag moved h advances came = record {
   advances = advances_then p a b c xs ys zs r s t h.advances advances;
-  so_far = then_falls p a b xs ys zs r s h.advances came;
+  so_far = then_falls p a b c xs ys zs r s h.advances came;
 }
 
 pub round_more : (p : Program) (a b c : Scene) (xs ys zs : List Frame) (r s t : List ℕ) (tag : ℕ) (moved now : Bool) → RoundSoFar p a b xs ys r s tag moved → OthersSame tag ys zs → Advances p b c ys zs s t → TurnCameTo p tag b c ys zs now → RoundSoFar p a c xs zs r t (tag + 1) (moved || now)
@@ -113,12 +113,12 @@ round_ends p a b xs ys r s tag false e count h = (h.so_far.0, λ k. at_each k (s
     at_each k (Some f) at left = subst (IsLeftAt b k) at (left (beyond k f at))
 
 -- a round that left no tag to be polled, and in which nothing was done, is calm
-pub round_calm : (p : Program) (a b : Scene) (xs ys : List Frame) → RoundCameTo p a b xs ys false → RoundIsCalm p b xs ys true
+pub round_calm : (p : Program) (a b : Scene) (xs ys : List Frame) → RoundCameTo p a b xs ys false → RoundIsCalm p a b xs ys true
 round_calm p a b xs ys h = h.1
 
-pub round_moved : (p : Program) (a b : Scene) (xs ys : List Frame) → RoundCameTo p a b xs ys true → RoundIsCalm p b xs ys false
+pub round_moved : (p : Program) (a b : Scene) (xs ys : List Frame) → RoundCameTo p a b xs ys true → RoundIsCalm p a b xs ys false
 round_moved p a b xs ys h = h
 
 -- one that left a tag to be polled was not
-pub round_woke : (p : Program) (a b : Scene) (xs ys : List Frame) (r s : List ℕ) → Advances p a b xs ys r s → s ≢ r → RoundIsCalm p b xs ys false
-round_woke p a b xs ys r s h n = ⊎_elim (λ (u : MovesFall p xs ys). u) (λ (u : StandsStill p a b xs ys r s). absurd (n u.ready)) h
+pub round_woke : (p : Program) (a b : Scene) (xs ys : List Frame) (r s : List ℕ) → Advances p a b xs ys r s → s ≢ r → RoundIsCalm p a b xs ys false
+round_woke p a b xs ys r s h n = ⊎_elim (λ (u : MovesFall p a b xs ys). u) (λ (u : StandsStill p a b xs ys r s). absurd (n u.ready)) h

@@ -1,42 +1,42 @@
 -- A turn of one coroutine, as it leaves all frames.
 use Rattle.std.proofs.Common.{◌≡◌, ◌≢◌, ℕ, ◌<◌, ◌≤◌, Bool, true, false, ◌||◌, List, [], ◌∷◌, ◌++◌, length, get_or, set, Option, Some, None, refl, ap, sym, ◌∙◌, subst, arith, slice_get, inl, inr, length-set, length-append, ⊎_elim}
-use Rattle.std.specs.Prelude.{◌==◌, nat_lt}
-use Rattle.std.specs.List.{list_any}
+use Rattle.std.specs.Prelude.{◌==◌, ◌+◌, ◌*◌, ◌⊎◌, nat_lt}
+use Rattle.std.specs.List.{list_any, sum_by}
 use Rattle.std.proofs.lemmas.Bool.{eqb-true}
 use Rattle.std.proofs.lemmas.Bool.Decides.{nat_tests}
 use Rattle.std.proofs.lemmas.List.{append-nil}
 use Rattle.std.proofs.lemmas.List.Folds.{list_any-append}
-use Rattle.channel_model.specs.Histories.{Legal}
+use Rattle.channel_model.specs.Histories.{Legal, acts_of}
+use Rattle.channel_model.specs.Left.{left_all}
 use Rattle.channel_model.specs.Floors.{Added}
 use Rattle.job_model.specs.Histories.{Legal as LegalJobs}
 use Rattle.job_model.specs.Floors.{Added as JobsAdded}
-use Rattle.job_model.proofs.Histories.{Legal-prefix}
 use Rattle.note_book.specs.declared.book.Item.{Item}
 use Rattle.note_book.specs.Items.{channel_acts_in, job_acts_in}
-use Rattle.call_meaning.specs.Telling.{Told, items_in}
+use Rattle.call_meaning.specs.Telling.{items_in}
 use Rattle.call_meaning.specs.Calls.{rows_in}
 use Rattle.script_grammar.specs.Programs.{Program}
 use Rattle.script_grammar.specs.WellFormed.{IsProgram}
-use Rattle.script_grammar.specs.Tags.{code_of, coroutine_count}
+use Rattle.script_grammar.specs.Tags.{coroutine_count}
 use Rattle.script_meaning.specs.declared.turn.Turn.{Turn}
 use Rattle.script_meaning.specs.declared.turn.Turn.TheVariants as turn
 use Rattle.script_meaning.specs.Shapes.{base_of, floor_shape, job_shape}
-use Rattle.script_meaning.specs.Configs.{Config}
 use Rattle.script_meaning.specs.Books.{is_refusal}
 use Rattle.script_meaning.specs.Endings.{ClosesAtOnce}
-use Rattle.script_meaning.specs.Polls.{Polled}
+use Rattle.script_meaning.specs.MovesLeft.{moves_left, most_moves}
+use Rattle.script_meaning.specs.Polls.{Polled, StandsOn, Frame as Meant}
 use Rattle.poll_states.specs.declared.frame.Frame.{Frame}
-use Rattle.poll_states.specs.Frames.{Stands, frame_of, config_of, items_of, moves_at, moves_left}
-use Rattle.poll_states.specs.Steps.{PolledTo}
+use Rattle.poll_states.specs.Frames.{Stands, frame_of, config_of, items_of, IsUnmoved}
+use Rattle.poll_states.specs.Steps.{PolledTo, MovesOn}
+use Rattle.script_meaning.proofs.NoRefusals.{AreClaimed}
+use Rattle.script_meaning.proofs.NotSpent.{AllNoted, polled_never}
 use Rattle.poll_states.proofs.LaterStands.{stands_later, others_added, same_acts, same_job_acts, claims_within}
-use Rattle.poll_states.proofs.NoRefusals.{AreClaimed, polled_never}
 use Rattle.poll_states.proofs.CannotGoOn.{cannot_go_on}
-use Rattle.engine_one.specs.Coroutines.{Scene, IsLater, IsSame, FrameStands, StandsAt, AllStand, IsLeftAt}
-use Rattle.engine_one.specs.Progress.{MovesFall, Advances, OthersSame, TurnCameTo}
-use Rattle.engine_one.proofs.Lists.{slice_get-Some, slice_get-set_same, slice_get-set_other, sum_by-set_less, sum_by-set_same, some_at}
-use Rattle.engine_one.proofs.Histories.{nothing_added, no_jobs_added}
+use Rattle.engine_one.specs.Coroutines.{Scene, IsLater, IsSame, FrameStands, StandsAt, AllStand, IsLeftAt, frame_moves, all_moves}
+use Rattle.engine_one.specs.Progress.{MovesFall, StandsStill, Advances, OthersSame, TurnCameTo}
+use Rattle.engine_one.proofs.Lists.{slice_get-Some, slice_get-set_same, slice_get-set_other, sum_by-set_same, some_at, none_past}
 use Rattle.engine_one.proofs.ClosedAtOnce.{closes-append, closes_same}
-use Rattle.engine_one.proofs.ReadyMoves.{ready_falls}
+use Rattle.engine_one.proofs.ReadyMoves.{none_added, told_none, turned_comes, ready_falls}
 
 -- ---- the frames stand on
 
@@ -55,14 +55,14 @@ are_claimed p s frames count each within r t e =
     let on = subst (IsOn p s t) x.1 (each t) in
     (frame_of x.0, on.1.on, on.0)
 
-pub turned_stand : (p : Program) (a b : Scene) (frames : List Frame) (k : ℕ) (f g : Frame) (answer : Turn) → IsProgram p → AllStand p a frames → k < length frames → f ≡ get_or frames k f → LegalJobs b.jobs.shape b.jobs.seen → PolledTo p a.channels b.channels a.jobs b.jobs f g answer → AllStand p b (set frames k g)
-turned_stand p a b frames k f g answer is h lt read legal turned = record {
+pub turned_stand : (p : Program) (a b : Scene) (frames : List Frame) (k : ℕ) (f g : Frame) (answer : Turn) → IsProgram p → AllStand p a frames → k < length frames → f ≡ get_or frames k f → Legal b.channels.shape b.channels.seen → LegalJobs b.jobs.shape b.jobs.seen → PolledTo p a.channels b.channels a.jobs b.jobs f g answer → AllStand p b (set frames k g)
+turned_stand p a b frames k f g answer is h lt read legal_channels legal turned = record {
   count = length-set frames k g ∙ h.count;
   each = λ j. each_at j (k == j) refl;
   channels_alone = added.same.alone ∙ h.channels_alone;
   jobs_alone = jobs.same.alone ∙ h.jobs_alone;
   dones = turned.dones.only h.channels_alone h.jobs_alone h.dones;
-  no_other_calls = λ j le. same_acts j k (channel_acts_in notes) a.channels b.channels h.channels_alone (past j le) added ∙ h.no_other_calls j le;
+  no_other_calls = no_other;
   no_other_jobs = λ j le. same_job_acts j k (job_acts_in notes) (rows_in (job_acts_in notes)) a.jobs b.jobs h.jobs_alone (past j le) jobs ∙ h.no_other_jobs j le;
   claimed = claims_within (coroutine_count p) k (job_acts_in notes) (rows_in (job_acts_in notes)) a.jobs b.jobs h.jobs_alone (omega (arith, lt, h.count)) jobs h.claimed;
 }
@@ -85,10 +85,12 @@ turned_stand p a b frames k f g answer is h lt read legal turned = record {
     past : (j : ℕ) → coroutine_count p ≤ j → k ≢ j
     past j le e = absurd (omega (arith, e, le, lt, h.count))
 
+    no_other : (j : ℕ) → coroutine_count p ≤ j → acts_of j b.channels.seen ≡ []
+    no_other j le = same_acts j k (channel_acts_in notes) a.channels b.channels h.channels_alone (past j le) added ∙ h.no_other_calls j le
+
     -- another stands where it stood
     other_on : (j : ℕ) (x : Frame) → k ≢ j → FrameStands p a j x → Stands p b.channels b.jobs x
     other_on j x n s = record {
-      lines_run = s.stands.lines_run;
       on = stands_later p a.channels b.channels a.jobs b.jobs (frame_of x)
           (others_added x.tag k (channel_acts_in notes) (job_acts_in notes) (rows_in (job_acts_in notes)) a.channels b.channels a.jobs b.jobs h.channels_alone h.jobs_alone (λ e. n (e ∙ s.tag)) added jobs)
           s.stands.on;
@@ -110,18 +112,23 @@ turned_stand p a b frames k f g answer is h lt read legal turned = record {
     claimed_at = are_claimed p b (set frames k g) (length-set frames k g ∙ h.count) (λ j. on_at j (k == j) refl)
         (claims_within (coroutine_count p) k (job_acts_in notes) (rows_in (job_acts_in notes)) a.jobs b.jobs h.jobs_alone (omega (arith, lt, h.count)) jobs h.claimed)
 
+    -- whoever made an entry stands
+    noted_at : AllNoted p b.channels b.jobs
+    noted_at t = by_option (slice_get (set frames k g) t) refl (on_at t (k == t) refl)
+      where
+        by_option : (o : Option Frame) → slice_get (set frames k g) t ≡ o → IsOn p b t o → (acts_of t b.channels.seen ≡ []) ⊎ ((x : Meant) × StandsOn p b.channels b.jobs x × (x.tag ≡ t))
+        by_option None e z = inl (no_other t (omega (arith, h.count, length-set frames k g, none_past (set frames k g) t e)))
+        by_option (Some x) e z = inr (frame_of x, z.1.on, z.0)
+
     legal_then : LegalJobs (job_shape p) b.jobs.seen
     legal_then = subst (λ z. LegalJobs z b.jobs.seen) turned.stands.on.jobs legal
-
-    legal_before : LegalJobs (job_shape p) a.jobs.seen
-    legal_before = Legal-prefix (job_shape p) a.jobs.seen polled.jobs.longer.0 (subst (LegalJobs (job_shape p)) (sym polled.jobs.longer.1) legal_then)
 
     no_refusal : list_any (is_refusal (base_of p)) (items_of g) ≡ false
     no_refusal =
         ap (list_any (is_refusal (base_of p))) polled.appended
         ∙ list_any-append (is_refusal (base_of p)) (items_of f) notes
         ∙ ap (λ b. b || list_any (is_refusal (base_of p)) notes) was.no_refusal
-        ∙ polled_never p a.channels b.channels a.jobs b.jobs (frame_of f) (frame_of g) is was.stands.lines_run legal_before legal_then was.stands.on turned.stands.on claimed_at polled
+        ∙ polled_never p a.channels b.channels a.jobs b.jobs (frame_of f) (frame_of g) is (subst (λ z. Legal z b.channels.seen) turned.stands.on.channels legal_channels) legal_then was.stands.on turned.stands.on claimed_at noted_at polled
 
     here_at : FrameStands p b k g
     here_at = record {
@@ -148,50 +155,46 @@ turned_later p a b f g answer turned = record { channels = turned.polled.channel
 
 -- ---- how many moves are left
 
-same_moves : (p : Program) (f g : Frame) → g.tag ≡ f.tag → config_of g ≡ config_of f → moves_left p g ≡ moves_left p f
-same_moves p f g t e = ap (λ n. moves_at g.stage g.line (length (code_of p n))) t ∙ ap (λ (x : Config). moves_at x.stage x.line (length (code_of p f.tag))) e
+same_moves : (p : Program) (f g : Frame) → g.tag ≡ f.tag → config_of g ≡ config_of f → frame_moves p g ≡ frame_moves p f
+same_moves p f g t e = ap (λ n. moves_left p n (config_of g)) t ∙ ap (moves_left p f.tag) e
 
-none_added : (p : Program) (a b : Scene) (f g : Frame) (polled : Polled p a.channels b.channels a.jobs b.jobs (frame_of f) (frame_of g)) → a.channels.alone ≡ true → a.jobs.alone ≡ true → items_in polled.told ≡ [] → IsSame a b
-none_added p a b f g polled c j e = record {
-  channels = nothing_added f.tag a.channels b.channels c (subst (λ l. Added f.tag (channel_acts_in l) a.channels b.channels) e polled.channels);
-  jobs = no_jobs_added f.tag (rows_in (job_acts_in (items_in polled.told))) a.jobs b.jobs j (subst (λ l. JobsAdded f.tag (job_acts_in l) (rows_in (job_acts_in (items_in polled.told))) a.jobs b.jobs) e polled.jobs);
-}
+still_moves : (p : Program) (a b : Scene) (frames frames' : List Frame) → IsSame a b → sum_by (frame_moves p) frames' ≡ sum_by (frame_moves p) frames → all_moves p b frames' ≡ all_moves p a frames
+still_moves p a b frames frames' same e =
+    ap (λ es. most_moves p * left_all (floor_shape p) es + sum_by (frame_moves p) frames') same.channels ∙ ap (λ n. most_moves p * left_all (floor_shape p) a.channels.seen + n) e
 
-told_none : (told : List Told) → told ≡ [] → items_in told ≡ []
-unfolding items_in
-told_none told e = ap items_in e
+-- nothing was noted
+unmoved : (p : Program) (a b : Scene) (f g : Frame) (polled : Polled p a.channels b.channels a.jobs b.jobs (frame_of f) (frame_of g)) → config_of g ≡ config_of f → polled.told ≡ [] → IsUnmoved f g
+unmoved p a b f g polled e none = record { config = e; items = polled.appended ∙ ap (λ l. items_of f ++ l) (told_none polled.told none) ∙ append-nil (items_of f) }
 
 -- fewer, or nothing happened
-pub turned_advances : (p : Program) (a b : Scene) (frames : List Frame) (k : ℕ) (f g : Frame) (answer : Turn) (tags tags' : List ℕ) → AllStand p a frames → k < length frames → f ≡ get_or frames k f → PolledTo p a.channels b.channels a.jobs b.jobs f g answer → (moves_left p g ≡ moves_left p f → tags' ≡ tags) → Advances p a b frames (set frames k g) tags tags'
-turned_advances p a b frames k f g answer tags tags' h lt read turned quiet = ⊎_elim (λ (s : (config_of g ≡ config_of f) × (turned.polled.told ≡ [])). still s) (λ (u : moves_left p g < moves_left p f). fewer u) turned.falls
+pub turned_advances : (p : Program) (a b : Scene) (frames : List Frame) (k : ℕ) (f g : Frame) (answer : Turn) (tags tags' : List ℕ) → IsProgram p → AllStand p a frames → k < length frames → f ≡ get_or frames k f → Legal b.channels.shape b.channels.seen → MovesOn p a.channels f g → PolledTo p a.channels b.channels a.jobs b.jobs f g answer → (IsUnmoved f g → tags' ≡ tags)
+    → Advances p a b frames (set frames k g) tags tags'
+turned_advances p a b frames k f g answer tags tags' is h lt read legal moves turned quiet =
+    ⊎_elim (λ (s : (config_of g ≡ config_of f) × (turned.polled.told ≡ [])). inr (still s)) (λ (u : MovesFall p a b frames (set frames k g)). inl u)
+    (turned_comes p a b frames k f g answer is (frame_at p a frames k f h at) h.channels_alone lt at legal moves turned)
   where
     at : slice_get frames k ≡ Some f
     at = slice_get-Some frames k f lt read
 
-    still : (config_of g ≡ config_of f) × (turned.polled.told ≡ []) → Advances p a b frames (set frames k g) tags tags'
+    still : (config_of g ≡ config_of f) × (turned.polled.told ≡ []) → StandsStill p a b frames (set frames k g) tags tags'
     still s =
-        let moves = same_moves p f g turned.polled.tag s.0 in
-        inr (record {
-          moves = sum_by-set_same (moves_left p) frames k f g lt at moves;
-          same = none_added p a b f g turned.polled h.channels_alone h.jobs_alone (told_none turned.polled.told s.1);
-          ready = quiet moves;
-        })
-
-    fewer : moves_left p g < moves_left p f → Advances p a b frames (set frames k g) tags tags'
-    fewer u = inl (sum_by-set_less (moves_left p) frames k f g lt at u)
-
-turned_falls : (p : Program) (frames : List Frame) (k : ℕ) (f g : Frame) → k < length frames → slice_get frames k ≡ Some f → moves_left p g < moves_left p f → MovesFall p frames (set frames k g)
-turned_falls p frames k f g lt at less = sum_by-set_less (moves_left p) frames k f g lt at less
+        let same = none_added p a b f g turned.polled h.channels_alone h.jobs_alone (told_none turned.polled.told s.1) in
+        record {
+          moves = still_moves p a b frames (set frames k g) same (sum_by-set_same (frame_moves p) frames k f g lt at (same_moves p f g turned.polled.tag s.0));
+          same = same;
+          ready = quiet (unmoved p a b f g turned.polled s.0 s.1);
+        }
 
 -- a coroutine that is ready made a move
-pub turned_ready : (p : Program) (a b : Scene) (frames : List Frame) (k : ℕ) (f g : Frame) (answer : Turn) → IsProgram p → AllStand p a frames → k < length frames → f ≡ get_or frames k f → answer ≡ turn.Ready → PolledTo p a.channels b.channels a.jobs b.jobs f g answer → MovesFall p frames (set frames k g)
-turned_ready p a b frames k f g answer is h lt read e turned =
+pub turned_ready : (p : Program) (a b : Scene) (frames : List Frame) (k : ℕ) (f g : Frame) (answer : Turn) → IsProgram p → AllStand p a frames → k < length frames → f ≡ get_or frames k f → answer ≡ turn.Ready → Legal b.channels.shape b.channels.seen → LegalJobs b.jobs.shape b.jobs.seen
+    → MovesOn p a.channels f g → PolledTo p a.channels b.channels a.jobs b.jobs f g answer → MovesFall p a b frames (set frames k g)
+turned_ready p a b frames k f g answer is h lt read e legal legal_jobs moves turned =
     let at = slice_get-Some frames k f lt read in
-    let was = frame_at p a frames k f h at in
-    turned_falls p frames k f g lt at (ready_falls p a.channels b.channels a.jobs b.jobs f g is was.stands (subst (PolledTo p a.channels b.channels a.jobs b.jobs f g) e turned))
+    ready_falls p a b frames k f g is (frame_at p a frames k f h at) (turned_stand p a b frames k f g answer is h lt read legal legal_jobs turned) h.channels_alone h.jobs_alone lt at legal legal_jobs moves
+    (subst (PolledTo p a.channels b.channels a.jobs b.jobs f g) e turned)
 
 -- and then the tags that are to be polled do not matter
-pub ready_advances : (p : Program) (a b : Scene) (frames frames' : List Frame) (tags tags' : List ℕ) → MovesFall p frames frames' → Advances p a b frames frames' tags tags'
+pub ready_advances : (p : Program) (a b : Scene) (frames frames' : List Frame) (tags tags' : List ℕ) → MovesFall p a b frames frames' → Advances p a b frames frames' tags tags'
 ready_advances p a b frames frames' tags tags' less = inl less
 
 -- ---- who cannot go on
@@ -201,21 +204,23 @@ no_more_items xs [] h = refl
 no_more_items xs (y ∷ ys) h = let l = length-append xs (y ∷ ys) in absurd (omega (arith, l, h))
 
 -- one that noted something made a move; another cannot go on
-pub turned_other : (p : Program) (a b : Scene) (frames : List Frame) (k : ℕ) (f g : Frame) (answer : Turn) (noted : Bool) → AllStand p a frames → k < length frames → f ≡ get_or frames k f → Legal b.channels.shape b.channels.seen → LegalJobs b.jobs.shape b.jobs.seen → PolledTo p a.channels b.channels a.jobs b.jobs f g answer → answer ≢ turn.Ready → noted ≡ nat_lt (length (items_of f)) (length (items_of g)) → TurnCameTo p k a b frames (set frames k g) noted
-turned_other p a b frames k f g answer true h lt read legal legal_jobs turned n e =
-    ⊎_elim (λ (s : (config_of g ≡ config_of f) × (turned.polled.told ≡ [])). absurd (none (told_none turned.polled.told s.1))) (λ (u : moves_left p g < moves_left p f). turned_falls p frames k f g lt (slice_get-Some frames k f lt read) u) turned.falls
+pub turned_other : (p : Program) (a b : Scene) (frames : List Frame) (k : ℕ) (f g : Frame) (answer : Turn) (noted : Bool) → IsProgram p → AllStand p a frames → k < length frames → f ≡ get_or frames k f → Legal b.channels.shape b.channels.seen → LegalJobs b.jobs.shape b.jobs.seen → MovesOn p a.channels f g → PolledTo p a.channels b.channels a.jobs b.jobs f g answer → answer ≢ turn.Ready → noted ≡ nat_lt (length (items_of f)) (length (items_of g)) → TurnCameTo p k a b frames (set frames k g) noted
+turned_other p a b frames k f g answer true is h lt read legal legal_jobs moves turned n e =
+    let at = slice_get-Some frames k f lt read in
+    ⊎_elim (λ (s : (config_of g ≡ config_of f) × (turned.polled.told ≡ [])). absurd (none (told_none turned.polled.told s.1))) (λ (u : MovesFall p a b frames (set frames k g)). u)
+    (turned_comes p a b frames k f g answer is (frame_at p a frames k f h at) h.channels_alone lt at legal moves turned)
   where
     none : items_in turned.polled.told ≡ [] → ⊥
     none z =
         let same : length (items_of g) ≡ length (items_of f) = ap length (turned.polled.appended ∙ ap (λ l. items_of f ++ l) z ∙ append-nil (items_of f)) in
         grind (arith, nat_tests)
-turned_other p a b frames k f g answer false h lt read legal legal_jobs turned n e =
+turned_other p a b frames k f g answer false is h lt read legal legal_jobs moves turned n e =
     let was = frame_at p a frames k f h (slice_get-Some frames k f lt read) in
     let few : length (items_of g) ≤ length (items_of f) = grind (arith, nat_tests) in
     let none : items_in turned.polled.told ≡ [] = no_more_items (items_of f) (items_in turned.polled.told) (subst (λ l. length l ≤ length (items_of f)) turned.polled.appended few) in
     let same = none_added p a b f g turned.polled h.channels_alone h.jobs_alone none in
     let on = turned.stands.on in
-    let left = cannot_go_on p a.channels b.channels a.jobs b.jobs (frame_of f) (frame_of g) turned.polled.told answer turned.stands.lines_run (subst (λ z. Legal z b.channels.seen) on.channels legal) (subst (λ z. LegalJobs z b.jobs.seen) on.jobs legal_jobs) on same.channels same.jobs turned.turn n in
+    let left = cannot_go_on p a.channels b.channels a.jobs b.jobs (frame_of f) (frame_of g) turned.polled.told answer (subst (λ z. Legal z b.channels.seen) on.channels legal) (subst (λ z. LegalJobs z b.jobs.seen) on.jobs legal_jobs) on same.channels same.jobs turned.turn n in
     let here : IsLeftAt b k (Some g) = subst (λ n. IsLeftAt b n (Some g)) (turned.polled.tag ∙ was.tag) left in
     (same, subst (IsLeftAt b k) (sym (slice_get-set_same frames k g lt)) here)
 

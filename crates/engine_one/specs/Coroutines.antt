@@ -1,21 +1,23 @@
 -- All coroutines of a run, on one floor of channels and one of Jobs.
-use Rattle.std.specs.Prelude.{◌≡◌, ℕ, ◌<◌, ◌≤◌, true, false, List, [], length, Option, Some, None, slice_get, map}
+use Rattle.std.specs.Prelude.{◌≡◌, ℕ, ◌+◌, ◌*◌, ◌<◌, ◌≤◌, true, false, List, [], length, Option, Some, None, slice_get, map}
 use Rattle.std.specs.List.{list_any, sum_by}
 use mathlib.Core.List.{IsPrefix}
 use Rattle.channel_model.specs.Histories.{replay, acts_of}
 use Rattle.channel_model.specs.Floors.{Floor as ChannelFloor}
+use Rattle.channel_model.specs.Left.{left_all}
 use Rattle.job_model.specs.Histories.{acts_of as job_acts_of}
 use Rattle.job_model.specs.Floors.{Floor}
 use Rattle.note_book.specs.declared.book.Item.{Item}
 use Rattle.scope_builders.specs.Dones.{OnlyEndedAreClosed}
 use Rattle.script_grammar.specs.Programs.{Program}
 use Rattle.script_grammar.specs.Tags.{coroutine_count}
-use Rattle.script_meaning.specs.Shapes.{base_of}
+use Rattle.script_meaning.specs.Shapes.{base_of, floor_shape}
 use Rattle.script_meaning.specs.Endings.{ClosesAtOnce}
 use Rattle.script_meaning.specs.Books.{is_refusal}
 use Rattle.script_meaning.specs.Idle.{IsLeft}
+use Rattle.script_meaning.specs.MovesLeft.{moves_left, most_moves}
 use Rattle.poll_states.specs.declared.frame.Frame.{Frame}
-use Rattle.poll_states.specs.Frames.{Stands, config_of, items_of, moves_left}
+use Rattle.poll_states.specs.Frames.{Stands, config_of, items_of}
 
 -- what all coroutines have seen of the two floors
 pub record Scene : Type 0 where
@@ -70,9 +72,13 @@ IsLeftAt s k (Some f) = IsLeft k (config_of f) (items_of f) (replay s.channels.s
 abbrev pub AllLeft : Scene → List Frame → Type 0
 AllLeft s frames = (k : ℕ) → IsLeftAt s k (slice_get frames k)
 
--- an upper bound of the moves that all have left
-abbrev pub all_moves : Program → List Frame → ℕ
-all_moves p frames = sum_by (moves_left p) frames
+-- an upper bound of the moves that this coroutine has left, if it receives no element
+abbrev pub frame_moves : Program → Frame → ℕ
+frame_moves p f = moves_left p f.tag (config_of f)
+
+-- an upper bound of the moves that all have left: each element that is received takes something from what is left of the channels
+abbrev pub all_moves : Program → Scene → List Frame → ℕ
+all_moves p s frames = most_moves p * left_all (floor_shape p) s.channels.seen + sum_by (frame_moves p) frames
 
 -- what the coroutines noted
 abbrev pub books_of : List Frame → List (List Item)

@@ -3,3 +3,5 @@ pub mod Coroutines
 pub mod Progress
 pub mod Starting
 pub mod Endings
+pub mod Runs
+pub mod Sharing

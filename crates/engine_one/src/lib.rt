@@ -1,19 +1,25 @@
-//! All coroutines of a script on one thread, over the list floor of channels and the tree of Jobs.
+//! All coroutines of a script over the list floor of channels and the tree of Jobs: on one thread, or on several round one lock.
 //!
 //! The tags that are to be polled stand in a queue, in the order in which the coroutines were woken or made a move. Where the
 //! queue is empty, a round polls every coroutine once. Where nothing happens in it, and it leaves no tag in the queue, the run is over.
+//! A turn is one such poll, or such a round.
 //!
-//! - `run`: a whole run.
+//! - `run`: a whole run, and its turns.
 //! - `start`: a run before its first turn.
-//! - `turns`: polls of one coroutine, of those that are to be polled, and of all.
+//! - `turns`: polls of one coroutine, and of all.
 //! - `ready_tags`: who is to be polled next.
 //! - `finish`: what a run leaves.
+//! - `locked`: a whole run by several workers.
+//! - `shared`: what they share, under a lock.
 #![tactic(auto)]
 
 mod finish;
+mod locked;
 mod ready_tags;
 mod run;
+mod shared;
 mod start;
 mod turns;
 
+pub use locked::run_locked;
 pub use run::{ListRun, run_one};

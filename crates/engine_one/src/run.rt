@@ -1,14 +1,12 @@
 //! A whole run.
 
-ghost use Rattle.std.specs.Prelude.{◌≡◌, [], true, map, is_none, IfOk, OnOk};
+ghost use Rattle.std.specs.Prelude.{◌≡◌, ◌<◌, [], false, IfOk, OnOk};
 ghost use Rattle.one_thread_floor.specs.ListFloors.{floor_of};
 ghost use Rattle.one_thread_floor.specs.TreeFloors.{floor_of as tree_of};
-ghost use Rattle.note_book.specs.Books.{notes_of};
 ghost use Rattle.script_reader.specs.Scripts.{program_of};
-ghost use Rattle.script_grammar.specs.FirstRunning.{all_run};
-ghost use Rattle.engine_one.specs.Endings.{IsRunAtRest};
+ghost use Rattle.engine_one.specs.Runs.{CameToRest, TellsIdle};
 ghost use Rattle.engine_one.specs.Coroutines.{AllStand, AllLeft, scene};
-ghost use Rattle.engine_one.specs.Progress.{RoundIsCalm};
+ghost use Rattle.engine_one.specs.Progress.{LeftWhere, RoundIsCalm, turns_left};
 
 use crate::finish::done_of;
 use crate::ready_tags::ReadyTags;
@@ -43,13 +41,25 @@ pub(crate) struct Run<C, J> {
 ///
 /// The books are those of a run with these two histories, which came to rest; nobody can go on.
 pub fn run_one<G: Gate>(alloc: Global, script: &Script, gate: &G) -> Result<ListRun, Memory>
-    requires { all_run (program_of script.now) ≡ true }
-    ensures run { IfOk result (λ run. IsRunAtRest (program_of script.now) (map notes_of run.done.books.items)
-        (floor_of run.channels).seen (tree_of run.jobs).seen run.done.end) }
-    ensures idle { IfOk result (λ run. run.done.idle ≡ is_none run.done.end) }
+    ensures run { IfOk result (λ run. CameToRest (program_of script.now) run) }
+    ensures idle { IfOk result (λ run. TellsIdle run) }
 {
     let mut run = start(alloc, script)?;
     run.run_out(script, gate)?;
+    run_left(alloc, script, run)
+}
+
+/// What a run leaves that is over.
+pub(crate) fn run_left(
+    alloc: Global,
+    script: &Script,
+    run: Run<ListFloor, TreeFloor>,
+) -> Result<ListRun, Memory>
+    requires stand { AllStand (program_of script.now) (scene (floor_of run.channels) (tree_of run.jobs)) run.frames.items }
+    requires left { AllLeft (scene (floor_of run.channels) (tree_of run.jobs)) run.frames.items }
+    ensures run { IfOk result (λ run. CameToRest (program_of script.now) run) }
+    ensures idle { IfOk result (λ run. TellsIdle run) }
+{
     let Run {
         frames,
         channels,
@@ -65,18 +75,41 @@ pub fn run_one<G: Gate>(alloc: Global, script: &Script, gate: &G) -> Result<List
 }
 
 impl Run<ListFloor, TreeFloor> {
-    /// Turns and rounds, until a round is calm.
-    fn run_out<G: Gate>(&mut self, script: &Script, gate: &G) -> Result<(), Memory>
+    /// Turns, until the run is over.
+    pub(crate) fn run_out<G: Gate>(&mut self, script: &Script, gate: &G) -> Result<(), Memory>
         requires { AllStand (program_of script.now) (scene (floor_of self.old.channels) (tree_of self.old.jobs)) self.old.frames.items }
         ensures stand { OnOk result (AllStand (program_of script.now)
             (scene (floor_of self.new.channels) (tree_of self.new.jobs)) self.new.frames.items) }
         ensures left { OnOk result (AllLeft (scene (floor_of self.new.channels) (tree_of self.new.jobs)) self.new.frames.items) }
     {
-        'rounds: loop {
-            self.turns(script, gate)?;
-            if self.is_round_calm(script, gate)? {
+        'turns: loop {
+            if self.one_turn(script, gate)? {
                 return Ok(());
             }
+        }
+    }
+
+    /// One turn: polls the coroutine whose tag stands first; where no tag stands, every coroutine once. The answer says whether the run is
+    /// over.
+    pub(crate) fn one_turn<G: Gate>(&mut self, script: &Script, gate: &G) -> Result<bool, Memory>
+        requires { AllStand (program_of script.now) (scene (floor_of self.old.channels) (tree_of self.old.jobs)) self.old.frames.items }
+        ensures stand { OnOk result (AllStand (program_of script.now)
+            (scene (floor_of self.new.channels) (tree_of self.new.jobs)) self.new.frames.items) }
+        ensures left { IfOk result (λ over. LeftWhere over (scene (floor_of self.new.channels) (tree_of self.new.jobs)) self.new.frames.items) }
+        ensures fewer { IfOk result (λ over. over ≡ false →
+            turns_left (program_of script.now) (scene (floor_of self.new.channels) (tree_of self.new.jobs)) self.new.frames.items
+            self.new.ready.tags.items
+            < turns_left (program_of script.now) (scene (floor_of self.old.channels) (tree_of self.old.jobs)) self.old.frames.items
+            self.old.ready.tags.items) }
+    {
+        match self.ready.take_first() {
+            Some(tag) => {
+                if (tag as usize) < self.frames.len() {
+                    let _moved = self.turn(script, gate, tag)?;
+                }
+                Ok(false)
+            }
+            None => self.is_round_calm(script, gate),
         }
     }
 
@@ -88,6 +121,7 @@ impl Run<ListFloor, TreeFloor> {
         ensures stand { OnOk result (AllStand (program_of script.now)
             (scene (floor_of self.new.channels) (tree_of self.new.jobs)) self.new.frames.items) }
         ensures calm { IfOk result (λ calm. RoundIsCalm (program_of script.now)
+            (scene (floor_of self.old.channels) (tree_of self.old.jobs))
             (scene (floor_of self.new.channels) (tree_of self.new.jobs)) self.old.frames.items
             self.new.frames.items calm) }
     {

@@ -5,7 +5,6 @@ ghost use Rattle.one_thread_floor.specs.ListFloors.{floor_of};
 ghost use Rattle.one_thread_floor.specs.TreeFloors.{floor_of as tree_of};
 ghost use Rattle.script_reader.specs.Scripts.{program_of};
 ghost use Rattle.script_grammar.specs.Tags.{coroutine_count, job_count};
-ghost use Rattle.script_grammar.specs.FirstRunning.{all_run};
 ghost use Rattle.script_meaning.specs.Shapes.{floor_shape};
 ghost use Rattle.engine_one.specs.Coroutines.{AllStand, scene};
 ghost use Rattle.engine_one.specs.Starting.{AllMade, HasNoCalls, HasNoJobs};
@@ -22,7 +21,6 @@ use std::alloc::Global;
 
 /// The script's coroutines, channels and Jobs. Main and the spawned instances are to be polled, in their order.
 pub(crate) fn start(alloc: Global, script: &Script) -> Result<Run<ListFloor, TreeFloor>, Memory>
-    requires { all_run (program_of script.now) ≡ true }
     ensures { IfOk result (λ run. AllStand (program_of script.now) (scene (floor_of run.channels) (tree_of run.jobs)) run.frames.items) }
 {
     let mut run = Run {
@@ -38,7 +36,6 @@ pub(crate) fn start(alloc: Global, script: &Script) -> Result<Run<ListFloor, Tre
 impl<C: ChannelFloor, J: JobFloor> Run<C, J> {
     /// Main is to be polled, and attaches what the script spawns, which is to be polled after it.
     fn begin_root(&mut self, script: &Script) -> Result<(), Memory>
-        requires lines { all_run (program_of script.now) ≡ true }
         requires calls { HasNoCalls (program_of script.now) (C.view self.old.channels) }
         requires jobs { HasNoJobs (program_of script.now) (J.view self.old.jobs) }
         requires count { length self.old.frames.items ≡ coroutine_count (program_of script.now) }

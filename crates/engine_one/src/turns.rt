@@ -1,8 +1,8 @@
-//! Polls of one coroutine, of those that are to be polled, and of all.
+//! Polls of one coroutine, and of all.
 
-ghost use Rattle.std.specs.Prelude.{◌≡◌, ◌<◌, ◌≤◌, [], length, IfOk, OnOk};
+ghost use Rattle.std.specs.Prelude.{◌<◌, length, IfOk, OnOk};
 ghost use Rattle.script_reader.specs.Scripts.{program_of};
-ghost use Rattle.engine_one.specs.Coroutines.{AllStand, IsLater, all_moves, scene};
+ghost use Rattle.engine_one.specs.Coroutines.{AllStand, IsLater, scene};
 ghost use Rattle.engine_one.specs.Progress.{Advances, OthersSame, TurnCameTo, RoundCameTo};
 
 use crate::run::Run;
@@ -49,23 +49,6 @@ impl<C: ChannelFloor, J: JobFloor> Run<C, J> {
             return Ok(true);
         }
         Ok(noted)
-    }
-
-    /// Polls those that are to be polled, until there is none.
-    pub(crate) fn turns<G: Gate>(&mut self, script: &Script, gate: &G) -> Result<(), Memory>
-        requires { AllStand (program_of script.now) (scene (C.view self.old.channels) (J.view self.old.jobs)) self.old.frames.items }
-        ensures stand { OnOk result (AllStand (program_of script.now)
-            (scene (C.view self.new.channels) (J.view self.new.jobs)) self.new.frames.items) }
-        ensures moves { OnOk result
-            (all_moves (program_of script.now) self.new.frames.items ≤ all_moves (program_of script.now) self.old.frames.items) }
-        ensures none { OnOk result (self.new.ready.tags.items ≡ []) }
-    {
-        while let Some(tag) = self.ready.take_first() {
-            if (tag as usize) < self.frames.len() {
-                let _moved = self.turn(script, gate, tag)?;
-            }
-        }
-        Ok(())
     }
 
     /// Polls every coroutine once, in order of tags. The answer says whether one of them did anything.
