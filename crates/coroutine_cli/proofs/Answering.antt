@@ -7,7 +7,6 @@ use Rattle.script_grammar.specs.declared.fault.ScriptFault.{ScriptFault}
 use Rattle.script_grammar.specs.Programs.{Program}
 use Rattle.script_grammar.specs.Grammar.{Spells}
 use Rattle.script_grammar.specs.Faulty.{FirstFault}
-use Rattle.script_grammar.specs.FirstRunning.{all_run, Refused}
 use Rattle.script_reader.specs.Answers.{Unless}
 use Rattle.run_report.specs.Faults.{fault_text}
 use Rattle.run_report.specs.Elements.{report_text}
@@ -34,11 +33,11 @@ use Rattle.coroutine_cli.proofs.PrintedFates.{printed}
 -- ---- no script
 
 -- more bytes than a script may have are refused, and spell none
-pub too_long-refused : (input : List ℕ) → length input ≡ 1048577 → Refused input (record { line = 1; kind = TooMany })
-too_long-refused input e = let long : 1048576 < length input = omega (arith, e) in Refused.at_fault (record { line = 1; kind = TooMany }) (FirstFault.too_long long)
+pub too_long-refused : (input : List ℕ) → length input ≡ 1048577 → FirstFault input (record { line = 1; kind = TooMany })
+too_long-refused input e = let long : 1048576 < length input = omega (arith, e) in FirstFault.too_long long
 
-pub too_long-unspelled : (input : List ℕ) → length input ≡ 1048577 → (p : Program) → Spells input p → all_run p ≡ false
-too_long-unspelled input e p s = absurd (let k : length input ≤ 1048576 = s.short in omega arith)
+pub too_long-unspelled : (input : List ℕ) → length input ≡ 1048577 → (p : Program) → Spells input p → ⊥
+too_long-unspelled input e p s = let k : length input ≤ 1048576 = s.short in omega (arith, k, e)
 
 -- the fact that is told unless memory ran out
 told : (kind : FaultKind) (P : Type 0) → kind ≢ Memory → Unless kind P → P
@@ -56,17 +55,13 @@ told TooMany P n h = h
 told Recursive P n h = h
 told Memory P n h = absurd (n refl)
 
-pub refused : (fault : ScriptFault) (input text : List ℕ) → fault.kind ≢ Memory → Unless fault.kind (Refused input fault) → ((p : Program) → Spells input p → all_run p ≡ true → fault.kind ≡ Memory) → text ≡ fault_text fault → Refuses input text
+pub refused : (fault : ScriptFault) (input text : List ℕ) → fault.kind ≢ Memory → Unless fault.kind (FirstFault input fault) → ((p : Program) → Spells input p → fault.kind ≡ Memory) → text ≡ fault_text fault → Refuses input text
 refused fault input text known read spelled is = record {
   fault = fault;
-  refused = told fault.kind (Refused input fault) known read;
-  no_script = λ p s. by_test p s (all_run p) refl;
+  refused = told fault.kind (FirstFault input fault) known read;
+  no_script = λ p s. known (spelled p s);
   is_line = is;
 }
-  where
-    by_test : (p : Program) → Spells input p → (b : Bool) → all_run p ≡ b → b ≡ false
-    by_test p s true e = absurd (known (spelled p s e))
-    by_test p s false e = refl
 
 -- ---- a report
 
@@ -83,11 +78,10 @@ served p books channels jobs root of idle = record {
   held = λ c place value e. held_stands (floor_shape p) channels c place value of.legal_channels (none_lost p books channels jobs of root idle) e;
 }
 
-reported : (p : Program) (books : List (List Item)) (channels : List Entry) (jobs : List JobEntry) (root : Option End) (how : Ending) (input text : List ℕ) → ending_of root ≡ how → Spells input p → all_run p ≡ true → (of : BooksOf p books channels jobs) → IsIdle p books channels jobs of root → text ≡ report_text p books → Reports how input text
-reported p books channels jobs root how input text same spelled runs of idle is = record {
+reported : (p : Program) (books : List (List Item)) (channels : List Entry) (jobs : List JobEntry) (root : Option End) (how : Ending) (input text : List ℕ) → ending_of root ≡ how → Spells input p → (of : BooksOf p books channels jobs) → IsIdle p books channels jobs of root → text ≡ report_text p books → Reports how input text
+reported p books channels jobs root how input text same spelled of idle is = record {
   program = p;
   spelled = spelled;
-  lines_run = runs;
   books = books;
   channels = channels;
   jobs = jobs;
@@ -102,7 +96,7 @@ reported p books channels jobs root how input text same spelled runs of idle is 
 }
 
 -- the report of a run answers its script
-pub answered : (p : Program) (books : List (List Item)) (channels : List Entry) (jobs : List JobEntry) (root : Option End) (input text : List ℕ) → Spells input p → all_run p ≡ true → (of : BooksOf p books channels jobs) × IsIdle p books channels jobs of root → text ≡ report_text p books → Answers (ending_of root) input text
-answered p books channels jobs None input text spelled runs of is = reported p books channels jobs None _ input text refl spelled runs of.0 of.1 is
-answered p books channels jobs (Some (ends.Completed v)) input text spelled runs of is = reported p books channels jobs (Some (ends.Completed v)) _ input text refl spelled runs of.0 of.1 is
-answered p books channels jobs (Some (ends.Cancelled cause)) input text spelled runs of is = reported p books channels jobs (Some (ends.Cancelled cause)) _ input text refl spelled runs of.0 of.1 is
+pub answered : (p : Program) (books : List (List Item)) (channels : List Entry) (jobs : List JobEntry) (root : Option End) (input text : List ℕ) → Spells input p → (of : BooksOf p books channels jobs) × IsIdle p books channels jobs of root → text ≡ report_text p books → Answers (ending_of root) input text
+answered p books channels jobs None input text spelled of is = reported p books channels jobs None _ input text refl spelled of.0 of.1 is
+answered p books channels jobs (Some (ends.Completed v)) input text spelled of is = reported p books channels jobs (Some (ends.Completed v)) _ input text refl spelled of.0 of.1 is
+answered p books channels jobs (Some (ends.Cancelled cause)) input text spelled of is = reported p books channels jobs (Some (ends.Cancelled cause)) _ input text refl spelled of.0 of.1 is

@@ -23,7 +23,7 @@ use Rattle.note_book.specs.declared.book.Item.{Item}
 use Rattle.script_grammar.specs.declared.fault.ScriptFault.{ScriptFault}
 use Rattle.script_grammar.specs.Programs.{Program}
 use Rattle.script_grammar.specs.Grammar.{Spells}
-use Rattle.script_grammar.specs.FirstRunning.{all_run, Refused}
+use Rattle.script_grammar.specs.Faulty.{FirstFault}
 use Rattle.script_meaning.specs.Books.{BooksOf}
 use Rattle.script_meaning.specs.Idle.{IsIdle}
 use Rattle.run_report.specs.Faults.{fault_text}
@@ -89,7 +89,6 @@ pub record AreServed (channels : List Entry) : Type 0 where
 pub record Reports (how : Ending) (input text : List ℕ) : Type 0 where
   pub program : Program
   pub spelled : Spells input program
-  pub lines_run : all_run program ≡ true
   pub books : List (List Item)
   pub channels : List Entry
   pub jobs : List JobEntry
@@ -104,11 +103,11 @@ pub record Reports (how : Ending) (input text : List ℕ) : Type 0 where
   pub printed : (c place : ℕ) → element_of (channel_acts_noted books) c place ≡ element_of (acts_in channels) c place
   pub is_report : text ≡ report_text program books
 
--- the input is no script all of whose lines run, and the text names its first line that is faulty or does not run
+-- the input is no script, and the text names its first faulty line and the fault
 pub record Refuses (input text : List ℕ) : Type 0 where
   pub fault : ScriptFault
-  pub refused : Refused input fault
-  pub no_script : (p : Program) → Spells input p → all_run p ≡ false
+  pub refused : FirstFault input fault
+  pub no_script : (p : Program) → Spells input p → ⊥
   pub is_line : text ≡ fault_text fault
 
 abbrev pub Answers : Ending → List ℕ → List ℕ → Type 0

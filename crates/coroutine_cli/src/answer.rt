@@ -1,10 +1,10 @@
 //! The text and the status that a script is answered with.
 
-ghost use Rattle.std.specs.Prelude.{◌≡◌, true, IfOk};
+ghost use Rattle.std.specs.Prelude.{◌≡◌, IfOk};
 ghost use Rattle.script_grammar.specs.declared.fault.FaultKind.TheVariants.{Memory as NoMemory};
 ghost use Rattle.script_grammar.specs.Programs.{Program};
 ghost use Rattle.script_grammar.specs.Grammar.{Spells};
-ghost use Rattle.script_grammar.specs.FirstRunning.{all_run, Refused};
+ghost use Rattle.script_grammar.specs.Faulty.{FirstFault};
 ghost use Rattle.script_reader.specs.Answers.{Unless};
 ghost use Rattle.script_reader.specs.Scripts.{program_of};
 ghost use Rattle.coroutine_cli.specs.Statuses.{Answers, ending_of};
@@ -37,8 +37,8 @@ pub fn answer_to<G: Gate>(alloc: Global, bytes: &[u8], gate: &G) -> Result<Answe
 
 /// What is answered for want of a script.
 fn fault_of(alloc: Global, fault: ScriptFault, bytes: &[u8]) -> Result<Answer, Memory>
-    requires refused { Unless fault.kind (Refused bytes.now fault) }
-    requires unspelled { (p : Program) → Spells bytes.now p → all_run p ≡ true → fault.kind ≡ NoMemory }
+    requires refused { Unless fault.kind (FirstFault bytes.now fault) }
+    requires unspelled { (p : Program) → Spells bytes.now p → fault.kind ≡ NoMemory }
     ensures { IfOk result (λ answer. Answers answer.ending bytes.now answer.text.items) }
 {
     match fault.kind {
@@ -54,8 +54,7 @@ fn fault_of(alloc: Global, fault: ScriptFault, bytes: &[u8]) -> Result<Answer, M
 }
 
 fn run_of<G: Gate>(alloc: Global, script: &Script, bytes: &[u8], gate: &G) -> Result<Answer, Memory>
-    requires spelled { Spells bytes.now (program_of script.now) }
-    requires runs { all_run (program_of script.now) ≡ true }
+    requires { Spells bytes.now (program_of script.now) }
     ensures { IfOk result (λ answer. Answers answer.ending bytes.now answer.text.items) }
 {
     let run = run_one(alloc, script, gate)?;

@@ -10,7 +10,7 @@ use Rattle.channel_model.specs.Fates.{element_at, fate_at}
 use Rattle.note_book.specs.declared.book.Item.{Item}
 use Rattle.note_book.specs.Items.{channel_acts_in}
 use Rattle.script_grammar.specs.Programs.{Declared, Program}
-use Rattle.script_grammar.specs.Tags.{coroutine_count}
+use Rattle.script_grammar.specs.Tags.{job_count}
 use Rattle.run_report.specs.Texts.{books_text}
 use Rattle.run_report.specs.Jobs.{job_acts_noted, jobs_text}
 
@@ -62,9 +62,9 @@ elements_text elements c (channel ∷ channels) = places_text elements c channel
 
 -- the lines of the books, then those of the Jobs, then those of the elements
 abbrev pub report_of : List Declared → ℕ → List (List Item) → List ℕ
-report_of channels coroutines books =
-    books_text channels 0 books ++ jobs_text coroutines (job_acts_noted books) ++ elements_text (element_of (channel_acts_noted books)) 0 channels
+report_of channels jobs books =
+    books_text channels 0 books ++ jobs_text jobs (job_acts_noted books) ++ elements_text (element_of (channel_acts_noted books)) 0 channels
 
 -- the report of a run of this program with these books
 abbrev pub report_text : Program → List (List Item) → List ℕ
-report_text program books = report_of program.channels (coroutine_count program) books
+report_text program books = report_of program.channels (job_count program) books

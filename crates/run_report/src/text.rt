@@ -18,32 +18,32 @@ use std::alloc::Global;
 
 /// The report of a run: a line for each item of each book, a line for each Job, and a line for each element that was not received.
 ///
-/// The time is linear in the number of items, of coroutines and of declared places.
+/// The time is linear in the number of items, of Jobs and of declared channels.
 pub fn report(alloc: Global, script: &Script, done: &Done) -> Result<Vec<u8>, Memory>
     ensures { IfOk result (λ text. text.items ≡ report_text (program_of script.now) (map notes_of done.now.books.items)) }
 {
     let text = report_of(
         alloc,
         script.channels(),
-        script.coroutines(),
+        script.jobs(),
         done.books.as_slice(),
     )?;
     Ok(text.into_bytes())
 }
 
-/// The report of a run of so many coroutines, over these channels, that left these books.
+/// The report of a run with so many Jobs, over these channels, that left these books.
 pub(crate) fn report_of(
     alloc: Global,
     channels: &[Channel],
-    coroutines: u16,
+    jobs: u16,
     books: &[Book],
 ) -> Result<String, Memory>
     requires { length channels.now < 65536 }
-    ensures { IfOk result (λ text. string_bytes text ≡ report_of (map declared_of channels.now) coroutines (map notes_of books.now)) }
+    ensures { IfOk result (λ text. string_bytes text ≡ report_of (map declared_of channels.now) jobs (map notes_of books.now)) }
 {
     let mut out = String::new(alloc);
     push_books(&mut out, channels, books)?;
-    push_jobs(alloc, &mut out, coroutines, books)?;
+    push_jobs(alloc, &mut out, jobs, books)?;
     let acts = channel_acts_noted(alloc, books)?;
     let known = Known::from_acts(alloc, acts.as_slice())?;
     push_elements(&mut out, channels, &known)?;
