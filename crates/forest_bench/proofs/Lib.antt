@@ -1,0 +1,2 @@
+pub mod LooksBeforeCalls
+pub mod TagsGivenOut

@@ -1,0 +1,10 @@
+use Rattle.forest_bench.specs.Shares.{IsShare}
+use Rattle.forest_bench.proofs.work_in_turn.Given as goal
+
+abbrev pub invariant-loop-work : goal.invariant-loop-work
+invariant-loop-work g l = record {
+  a : IsShare l.forest l.four.a;
+  b : IsShare l.forest l.four.b;
+  c : IsShare l.forest l.four.c;
+  d : IsShare l.forest l.four.d;
+}
