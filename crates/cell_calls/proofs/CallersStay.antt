@@ -1,0 +1,30 @@
+-- No call changes whose calls a pass makes.
+use Rattle.std.specs.Prelude.{◌≡◌, ℕ, true}
+use Rattle.std.proofs.Common.{sym, ap, ◌∙◌}
+use Rattle.channel_model.specs.Floors.{Floor}
+use Rattle.channel_model.specs.declared.floor.Offered.{Offered}
+use Rattle.channel_model.specs.declared.floor.Offered.TheVariants as offered
+use Rattle.channel_model.specs.declared.floor.Got.{Got}
+use Rattle.channel_model.specs.declared.floor.Got.TheVariants as got
+use Rattle.channel_model.specs.declared.floor.Withdrawn.{Withdrawn}
+use Rattle.channel_model.specs.declared.floor.Withdrawn.TheVariants as withdrawn
+use Rattle.channel_model.specs.declared.acts.Why.{Why}
+use Rattle.co_base.specs.declared.names.WaitId.{WaitId}
+use Rattle.channel_model.specs.Answers.{OfferAnswer, GotAnswer, WithdrawAnswer}
+
+pub offer_callers : (who c v : ℕ) (a b : Floor) (r : Offered) → OfferAnswer who c v a b r → b.callers ≡ a.callers
+offer_callers who c v a b (offered.Handed p t) h = h.made.same.callers
+offer_callers who c v a b (offered.Put p) h = h.same.callers
+offer_callers who c v a b (offered.Held p) h = h.0.same.callers
+offer_callers who c v a b (offered.Closed x) h = h.looked.same.callers
+offer_callers who c v a b offered.Spent h = h.0.same.callers
+
+pub got_callers : (who c : ℕ) (a b : Floor) (r : Got) → GotAnswer who c a b r → b.callers ≡ a.callers
+got_callers who c a b (got.Taken p v t) h = h.made.same.callers
+got_callers who c a b (got.Waiting p) h = h.same.callers
+got_callers who c a b (got.Closed x) h = h.0.looked.same.callers
+got_callers who c a b got.Spent h = h.0.same.callers
+
+pub withdraw_callers : (who : ℕ) (w : WaitId) (why : Why) (a b : Floor) (r : Withdrawn) → WithdrawAnswer who w why a b r → b.callers ≡ a.callers
+withdraw_callers who w why a b (withdrawn.Done t) h = h.0.same.callers
+withdraw_callers who w why a b withdrawn.Late h = h.0.same.callers

@@ -1,0 +1,123 @@
+-- What the steps of a pass tell of its floor.
+use Rattle.std.proofs.Common.{◌≡◌, ◌≢◌, ℕ, ◌+◌, ◌<◌, ◌≤◌, Bool, true, false, true≢false, List, [], ◌∷◌, ◌++◌, length, Option, Some, None, is_some, sym, refl, ap, ◌∙◌, subst, arith, append_assoc, append-nil}
+use mathlib.Core.List.{IsPrefix}
+use mathlib.Core.Logic.{dite}
+use native.Mathlib.Decide.{dec_le}
+use Rattle.worded.specs.Views.{has_tag}
+use Rattle.co_base.specs.declared.names.WaitId.{WaitId}
+use Rattle.channel_model.specs.declared.acts.Act.{Act}
+use Rattle.channel_model.specs.declared.acts.Act.TheVariants.{Take}
+use Rattle.channel_model.specs.declared.acts.Entry.{Entry}
+use Rattle.channel_model.specs.Channels.{Shape, State, Wait, places_at}
+use Rattle.channel_model.specs.Histories.{replay, acts_of, Legal}
+use Rattle.channel_model.specs.Laws.{NoneBelow}
+use Rattle.channel_model.specs.Floors.{Floor, SameSetting, Looked, Made, AtStep, AtMoment}
+use Rattle.channel_model.specs.Answers.{IsOwnWait, IsReadyWait, TakenFrom}
+use Rattle.channel_model.proofs.Histories.{Legal-prefix}
+use Rattle.channel_model.proofs.GoneForGood.{below_lasts}
+use Rattle.channel_model.proofs.Sound.{sound}
+use Rattle.channel_model.proofs.Spans.{prefix_append}
+pub use Rattle.channel_model.proofs.Spans.{prefix_self, prefix_then}
+use Rattle.cell_words.specs.declared.hub.Hub.{Hub}
+use Rattle.cell_words.specs.declared.pass.Pass.{Pass}
+use Rattle.cell_words.specs.Hubs.{shape_of, seen_by}
+use Rattle.cell_words.specs.Seen.{Seen, Sees, Makes, at_channel}
+use Rattle.cell_words.specs.Answers.{TakesFrom}
+use Rattle.cell_words.proofs.MayExchange.{same_acts}
+use Rattle.cell_words.proofs.LooksAtCells.{sees_then}
+use Rattle.cell_calls.specs.HubFloors.{hub_floor}
+use Rattle.cell_calls.specs.Takings.{TookAt}
+
+pub sees_self : (v : Seen) → Sees v v
+sees_self v = record { others = []; now = sym (append-nil v.seen); apart = λ t h. refl; tags = refl; giving = refl }
+
+pub prefix_seen : (v w : Seen) → Sees v w → IsPrefix v.seen w.seen
+prefix_seen v w s = (s.others, sym s.now)
+
+pub prefix_made : (v w : Seen) (e : Entry) → Makes v e w → IsPrefix v.seen w.seen
+prefix_made v w e m = prefix_then v.seen (v.seen ++ m.others) w.seen (m.others, refl) (e ∷ [], sym m.now)
+
+module _ (hub : Hub) (who : ℕ) where
+  pub looked_of : (a b : Pass) → has_tag who (seen_by a).tags ≡ true → Sees (seen_by a) (seen_by b) → Looked who (hub_floor hub a) (hub_floor hub b)
+  looked_of a b own s = record {
+    same = record { shape = refl; alone = refl; callers = ap {B = ℕ → Bool} (λ l t. has_tag t l) s.tags };
+    longer = prefix_seen (seen_by a) (seen_by b) s;
+    mine = ap (acts_of who) s.now ∙ same_acts who (seen_by a).seen s.others (s.apart who own);
+    alone = λ e. absurd (true≢false (sym e));
+    spare = omega arith;
+  }
+
+  -- an entry of the pass, after what it had looked at
+  abbrev pub made_of : (a b : Pass) (x : Seen) (act : Act) → has_tag who (seen_by a).tags ≡ true → Sees (seen_by a) x → Makes x (record { who = who; act = act }) (seen_by b) → Made who act (hub_floor hub a) (hub_floor hub b)
+  made_of a b x act own s m = record {
+    same = record { shape = refl; alone = refl; callers = ap {B = ℕ → Bool} (λ l t. has_tag t l) (m.tags ∙ s.tags) };
+    before = x.seen ++ m.others;
+    longer = prefix_append (seen_by a).seen x.seen m.others (prefix_seen (seen_by a) x s);
+    mine = same_acts who x.seen m.others (m.apart who (ap (has_tag who) s.tags ∙ own)) ∙ ap (acts_of who) s.now ∙ same_acts who (seen_by a).seen s.others (s.apart who own);
+    last = m.now;
+    alone = λ e. absurd (true≢false (sym e));
+    spare = omega arith;
+  }
+
+  -- at the moment of a look
+  pub step_of : (a b : Pass) (x : Seen) (P : State → Type 0) → Sees (seen_by a) x → IsPrefix x.seen (seen_by b).seen → P (replay x.seen) → AtStep (hub_floor hub a) (hub_floor hub b) P
+  step_of a b x P s later h = record { moment = x.seen; after = prefix_seen (seen_by a) x s; before = later; holds = h }
+
+  -- and before the own entry
+  pub moment_of : (a b : Pass) (x : Seen) (P : State → Type 0) → has_tag who (seen_by a).tags ≡ true → Sees (seen_by a) x → IsPrefix x.seen (seen_by b).seen → P (replay x.seen) → AtMoment who [] (hub_floor hub a) (hub_floor hub b) P
+  moment_of a b x P own s later h = record {
+    moment = x.seen;
+    after = prefix_seen (seen_by a) x s;
+    before = later;
+    mine = ap (acts_of who) s.now ∙ same_acts who (seen_by a).seen s.others (s.apart who own) ∙ sym (append-nil (acts_of who (seen_by a).seen));
+    holds = h;
+  }
+
+  -- the element of an offer was taken
+  pub taken_of : (a b : Pass) (x : Seen) (c p v : ℕ) (t : Option ℕ) → has_tag who (seen_by a).tags ≡ true → Sees (seen_by a) x → TakesFrom who c p v t x (seen_by b) → TakenFrom who c p v t (hub_floor hub a) (hub_floor hub b)
+  taken_of a b x c p v t own s h = record { made = made_of a b x (Take c p v) own s h.made; from = h.from }
+
+  pub took_of : (a b : Pass) (x : Seen) (c p v : ℕ) (t : Option ℕ) → has_tag who (seen_by a).tags ≡ true → Sees (seen_by a) x → TookAt who c p v t x (seen_by b) → TakenFrom who c p v t (hub_floor hub a) (hub_floor hub b)
+  took_of a b x c p v t own s h = taken_of a b h.then c p v t own (sees_then (seen_by a) x h.then s h.sees) h.takes
+
+-- ---- the ends of walks
+
+-- no place is given out beyond the last
+pub no_more_places : (shape : Shape) (log : List Entry) (c p : ℕ) → Legal shape log → p ≤ ((replay log).channels c).next → p ≤ places_at shape c
+no_more_places shape log c p l h = let s = ((sound shape log l).channels c).within in omega arith
+
+pub too_far : (shape : Shape) (log : List Entry) (c p n : ℕ) → Legal shape log → p ≤ ((replay log).channels c).next → n ≡ places_at shape c → n + 1 ≤ p → ⊥
+too_far shape log c p n l h is le = let m = no_more_places shape log c p l h in omega arith
+
+pub is_closed_now : (x : Option ℕ) (v : ℕ) → x ≡ Some v → is_some x ≡ true
+is_closed_now x v e = ap is_some e
+
+-- ---- the own wait
+
+-- a wait has a place of its channel
+pub wait_place : (shape : Shape) (log : List Entry) (who : ℕ) (w : WaitId) → Legal shape log → IsOwnWait who ((replay log).waits w) → w.place ≤ places_at shape w.channel
+wait_place shape log who w l own = let s = sound shape log l in dite (dec_le ((replay log).channels w.channel).next w.place)
+    (λ le. absurd (began ((replay log).waits w) own (s.placed w le)))
+    (λ lt. let t = (s.channels w.channel).within in omega arith)
+  where
+    began : (x : Option Wait) → IsOwnWait who x → x ≡ None → ⊥
+    began None h e = h
+    began (Some x) h e = cc
+
+pub ready_place : (shape : Shape) (log : List Entry) (who : ℕ) (w : WaitId) → Legal shape log → IsReadyWait who ((replay log).waits w) → w.place ≤ places_at shape w.channel
+ready_place shape log who w l h = wait_place shape log who w l (own ((replay log).waits w) h)
+  where
+    own : (x : Option Wait) → IsReadyWait who x → IsOwnWait who x
+    own None h = h
+    own (Some x) h = h.0
+
+-- ---- after the own entry
+
+-- nobody stands below still
+pub below_made : (shape : Shape) (n m c : ℕ) (v w : Seen) (e : Entry) → Makes v e w → Legal shape w.seen → NoneBelow n m (at_channel v.seen c) → NoneBelow n m (at_channel w.seen c)
+below_made shape n m c v w e h l low = let is : w.seen ≡ v.seen ++ (h.others ++ e ∷ []) = h.now ∙ append_assoc v.seen h.others (e ∷ []) in
+    subst (λ (es : List Entry). NoneBelow n m (at_channel es c)) (sym is) (below_lasts shape v.seen (h.others ++ e ∷ []) c n m (subst (Legal shape) is l) low)
+
+-- what was seen before it was legal
+pub before_made : (shape : Shape) (v w : Seen) (e : Entry) → Makes v e w → Legal shape w.seen → Legal shape v.seen
+before_made shape v w e h l = Legal-prefix shape v.seen (h.others ++ e ∷ []) (subst (Legal shape) (h.now ∙ append_assoc v.seen h.others (e ∷ [])) l)

@@ -1,0 +1,3 @@
+pub mod CallsTell
+pub mod CallersStay
+pub mod OwnCells

@@ -1,0 +1,77 @@
+//! Where a channel ends, and that it is closed there.
+ghost use Rattle.std.specs.Prelude.{◌≡◌, ◌<◌, length};
+ghost use Rattle.channel_model.specs.Floors.{MayCall};
+ghost use Rattle.channel_model.specs.Answers.{CloseAnswer, MarkAnswer};
+ghost use Rattle.cell_words.specs.Hubs.{shape_of, seen_by, IsOf, IsOwn};
+ghost use Rattle.cell_words.specs.Seen.{Sees, at_channel};
+ghost use Rattle.cell_calls.specs.HubFloors.{hub_floor};
+
+use cell_words::{End, Hub, Pass, close_at, end_at, places_of, sends_from};
+use channel_model::AlreadyClosed;
+use co_base::{ChannelId, Place, Tag, Value};
+
+/// Where a channel ends, and the value with which it was closed.
+fn find_end(hub: &Hub, pass: &mut Pass, who: Tag, c: ChannelId) -> (Place, Option<Value>)
+    requires own { IsOwn hub.now pass.old who }
+    requires channel { c < length (shape_of hub.now) }
+    ensures own { IsOwn hub.now pass.new who }
+    ensures sees { Sees (seen_by pass.old) (seen_by pass.new) }
+    ensures end { ((at_channel (seen_by pass.new).seen c).next ≡ result.0) × ((at_channel (seen_by pass.new).seen c).closed ≡ result.1) }
+{
+    let places = places_of(hub, c);
+    let from = sends_from(hub, pass, who, c);
+    for place in from..places + 1 {
+        match end_at(hub, pass, who, c, place) {
+            End::Used => {}
+            End::Open => return (place, None),
+            End::Closed(v) => return (place, Some(v)),
+        }
+    }
+    unreachable!()
+}
+
+/// The value with which the channel was closed, if it was.
+pub(crate) fn find_closed(hub: &Hub, pass: &mut Pass, who: Tag, c: ChannelId) -> Option<Value>
+    requires own { IsOwn hub.now pass.old who }
+    requires channel { c < length (shape_of hub.now) }
+    ensures own { IsOwn hub.now pass.new who }
+    ensures sees { Sees (seen_by pass.old) (seen_by pass.new) }
+    ensures closed { (at_channel (seen_by pass.new).seen c).closed ≡ result }
+{
+    find_end(hub, pass, who, c).1
+}
+
+/// The place that the channel gives out next.
+pub(crate) fn mark(hub: &Hub, pass: &mut Pass, who: Tag, c: ChannelId) -> Place
+    requires of { IsOf hub.now pass.old }
+    requires can { MayCall who c (hub_floor hub.now pass.old) }
+    ensures of { IsOf hub.now pass.new }
+    ensures answer { MarkAnswer who c (hub_floor hub.now pass.old) (hub_floor hub.now pass.new) result }
+{
+    find_end(hub, pass, who, c).0
+}
+
+/// Closes the channel where it ends, unless it was closed before.
+pub(crate) fn close(
+    hub: &Hub,
+    pass: &mut Pass,
+    who: Tag,
+    c: ChannelId,
+    v: Value,
+) -> Result<(), AlreadyClosed>
+    requires of { IsOf hub.now pass.old }
+    requires can { MayCall who c (hub_floor hub.now pass.old) }
+    ensures of { IsOf hub.now pass.new }
+    ensures answer { CloseAnswer who c v (hub_floor hub.now pass.old) (hub_floor hub.now pass.new) result }
+{
+    let places = places_of(hub, c);
+    let from = sends_from(hub, pass, who, c);
+    for place in from..places + 1 {
+        match close_at(hub, pass, who, c, place, v) {
+            End::Used => {}
+            End::Open => return Ok(()),
+            End::Closed(first) => return Err(AlreadyClosed { v: first }),
+        }
+    }
+    unreachable!()
+}

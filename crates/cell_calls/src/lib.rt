@@ -1,0 +1,39 @@
+//! Calls on channels over words, by walks along the cells. No call waits, takes a lock or takes memory.
+//!
+//! A `Desk` is a hub with one pass, for the callers of that pass. Its calls answer in the words of the floors of channels
+//! (`channel_model`), whatever other threads do meanwhile.
+//!
+//! **The walk.** A call that offers begins at the send counter of the channel, below which no receiver stands; one that receives begins at
+//! the receive counter, below which no offer stands. At each place it learns one of these:
+//!
+//! | what is there | the call |
+//! |---|---|
+//! | one of the other side, that stands | resolves its wait, and answers |
+//! | one of the other side, whose wait was resolved meanwhile | goes on to the next place |
+//! | one of its own side, or a cell that was emptied | goes on |
+//! | the channel's end, free | is placed there by an exchange of the cell; or answers that it would have to wait |
+//! | the channel's end, free, after the last place | answers that all places are spent |
+//! | the channel's end, closed | answers that it was closed |
+//!
+//! **What decides.** The one exchange that finds its word as the call saw it. Nothing is loaded after it, and the counters are raised by a
+//! step that shows nothing, so the own entry is the last that the call has seen. A call that made no entry answers what was so at its
+//! last load; that nobody stands below a place stays so, since who is gone does not come back.
+//!
+//! **Handed** needs that the channel was open at a moment of the call, and a receiver may still stand in a channel that was closed. So an
+//! offer looks for the end of the channel first.
+//!
+//! - `desk`: the calls.
+//! - `sending`, `receiving`: offers and receives.
+//! - `ending`: where a channel ends, and its close.
+//! - `waiting`: the own wait.
+#![tactic(auto)]
+
+mod desk;
+mod ending;
+mod receiving;
+mod sending;
+#[cfg(test)]
+mod tests;
+mod waiting;
+
+pub use desk::{Desk, DeskAnchor};

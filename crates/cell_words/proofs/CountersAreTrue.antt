@@ -1,0 +1,53 @@
+-- A counter that is raised says the truth, whatever others do.
+use Rattle.std.proofs.Common.{◌≡◌, ◌≢◌, ℕ, ◌+◌, ◌*◌, ◌<◌, ◌≤◌, nat_le, max, Bool, true, false, List, [], ◌∷◌, ◌++◌, length, sym, refl, ap, ◌∙◌, subst, arith}
+use Rattle.std.specs.List.{list_all}
+use mathlib.Core.Logic.{dite}
+use native.Mathlib.Decide.{dec_le}
+use Rattle.worded.specs.Exchanges.{OthersAdded, MayLift}
+use Rattle.channel_model.specs.Laws.{NoneBelow}
+use Rattle.channel_model.specs.declared.acts.Entry.{Entry}
+use Rattle.channel_model.specs.Channels.{Shape, Channel, places_at}
+use Rattle.channel_model.specs.Histories.{replay, Legal}
+use Rattle.cell_words.specs.Words.{cell_number, wait_number, send_number, receive_number, word_count, Fits}
+use Rattle.cell_words.specs.Seen.{Seen, maker, at_channel}
+use Rattle.cell_words.proofs.OneNumberOneWord.{cell_not_send, cell_not_receive, wait_not_send, wait_not_receive}
+use Rattle.channel_model.proofs.GoneForGood.{below_lasts}
+use Rattle.channel_model.proofs.Sound.{sound}
+
+max_most : (n k : ℕ) (P : ℕ → Type 0) → P n → P k → P (max n k)
+max_most n k P a b = dite (dec_le n k) (λ le. let e : k ≡ max n k = omega arith in subst P e b) (λ gt. let e : n ≡ max n k = omega arith in subst P e a)
+
+same_channel : (shape : Shape) (c d : ℕ) → send_number shape c ≡ send_number shape d → c ≡ d
+same_channel shape c d e = omega arith
+
+same_channel_odd : (shape : Shape) (c d : ℕ) → receive_number shape c ≡ receive_number shape d → c ≡ d
+same_channel_odd shape c d e = omega arith
+
+send_not_receive : (shape : Shape) (c d : ℕ) → send_number shape c ≡ receive_number shape d → ⊥
+send_not_receive shape c d e = omega arith
+
+pub send_within : (shape : Shape) (c : ℕ) → c < length shape → send_number shape c < word_count shape
+send_within shape c h = omega arith
+
+pub receive_within : (shape : Shape) (c : ℕ) → c < length shape → send_number shape c + 1 < word_count shape
+receive_within shape c h = omega arith
+
+pub raises_sends : (shape : Shape) (c k : ℕ) (v : Seen) → c < length shape → NoneBelow k 0 (at_channel v.seen c) → MayLift (Legal shape) (Fits shape) maker v (send_number shape c) k
+raises_sends shape c k v lc low others n added f = record {
+  cell = λ d q ld lq e. absurd (cell_not_send shape d c q ld lq (sym e));
+  wait = λ d q ld lq e. absurd (wait_not_send shape d c q (sym e));
+  sends = λ d ld e. max_most n k (λ z. NoneBelow z 0 ((replay (v.seen ++ others)).channels d)) (f.sends d ld e) (subst (λ z. NoneBelow k 0 ((replay (v.seen ++ others)).channels z)) (same_channel shape c d e) (below_lasts shape v.seen others c k 0 added.is_legal low));
+  receives = λ d ld e. absurd (send_not_receive shape c d e);
+}
+
+pub raises_receives : (shape : Shape) (c k : ℕ) (v : Seen) → c < length shape → NoneBelow 0 k (at_channel v.seen c) → MayLift (Legal shape) (Fits shape) maker v (receive_number shape c) k
+raises_receives shape c k v lc low others n added f = record {
+  cell = λ d q ld lq e. absurd (cell_not_receive shape d c q (sym e));
+  wait = λ d q ld lq e. absurd (wait_not_receive shape d c q ld lq (sym e));
+  sends = λ d ld e. absurd (send_not_receive shape d c (sym e));
+  receives = λ d ld e. max_most n k (λ z. NoneBelow 0 z ((replay (v.seen ++ others)).channels d)) (f.receives d ld e) (subst (λ z. NoneBelow 0 k ((replay (v.seen ++ others)).channels z)) (same_channel_odd shape c d e) (below_lasts shape v.seen others c 0 k added.is_legal low));
+}
+
+-- what a counter says is a place
+pub hint_fits : (shape : Shape) (c n m : ℕ) (log : List Entry) → Legal shape log → places_at shape c ≤ 1048576 → NoneBelow n m (at_channel log c) → (n < 4294967296) × (m < 4294967296)
+hint_fits shape c n m log l few h = let t = (sound shape log l).channels c in let a = h.given in let b = h.given_offers in let w = t.within in (omega arith, omega arith)

@@ -1,0 +1,53 @@
+-- A wait that is resolved by another: who it is of, and that it stays while others look.
+use Rattle.std.proofs.Common.{Bool, true, false, ◌≡◌, ◌⊎◌, ℕ, ◌+◌, ◌*◌, ◌<◌, List, ◌++◌, length, Option, Some, None, sym, refl, ap, ◌∙◌, subst, inl, inr, ⊎_elim}
+use Rattle.co_base.specs.declared.names.WaitId.{WaitId}
+use Rattle.channel_model.specs.declared.acts.Entry.{Entry}
+use Rattle.channel_model.specs.Channels.{Shape}
+use Rattle.channel_model.specs.Histories.{replay, Legal}
+use Rattle.channel_model.specs.Answers.{IsOwnWait, IsResolvedWait}
+use Rattle.cell_words.specs.declared.cell_word.CellWord.{CellWord}
+use Rattle.cell_words.specs.declared.found.Waiter.{Waiter}
+use Rattle.cell_words.specs.declared.wait_word.WaitWord.{WaitWord}
+use Rattle.cell_words.specs.Cells.{receiver, offer, cell_of}
+use Rattle.cell_words.specs.Codes.{packed_wait}
+use Rattle.cell_words.specs.Words.{IsCell, wait_code}
+use Rattle.channel_model.specs.Laws.{NoneBelow}
+use Rattle.cell_words.specs.Seen.{Seen, Sees, at_channel}
+use Rattle.cell_words.specs.Looks.{owner_told, holder_of, lets_stand, tried_by, tried_found}
+use Rattle.cell_words.specs.Answers.{IsCellWord, IsWaitWord, IsHeld, Receives, Offers, OwnerAnswer, TakeAnswer}
+use Rattle.cell_words.proofs.CellsLast.{resolved_more, receiver_more, offer_more}
+use Rattle.cell_words.proofs.LooksAtCells.{home_owner}
+use Rattle.cell_words.proofs.MayExchange.{resolved_not}
+use Rattle.cell_words.proofs.OwnWaits.{owner_seen}
+use Rattle.cell_words.proofs.WaitsAtHome.{at_home}
+use Rattle.cell_words.proofs.ExchangesTell.{low_later, take_gone, take_admitted}
+
+-- what the cell where a wait began says of its coroutine
+pub owner_found : (shape : Shape) (w : WaitId) (owner : ℕ) (u v : Seen) → Sees u v → Legal shape v.seen → (word : CellWord) → IsCellWord shape w.channel w.place v.seen word → IsOwnWait owner ((replay u.seen).waits w) → OwnerAnswer owner w v.seen (owner_told (holder_of word))
+owner_found shape w owner u v s l word is own = subst (λ (z : CellWord). OwnerAnswer owner w v.seen (owner_told (holder_of z))) (sym is.0)
+    (home_owner shape v.seen w owner (cell_of v.seen w.channel w.place) ((replay v.seen).waits w) refl is.1 (at_home shape v.seen l w) (owner_seen shape owner w u v s l own))
+
+pub held_seen : (shape : Shape) (c p : ℕ) (x : Waiter) (u v : Seen) → Sees u v → Legal shape v.seen → IsHeld shape c p x u.seen → IsHeld shape c p x v.seen
+held_seen shape c p x u v s l h = record { who = h.who; wait = h.wait; holder = h.holder; fits = h.fits; owner = owner_seen shape h.who h.wait u v s l h.owner }
+
+-- a receiver stays in its cell
+pub receiver_seen : (shape : Shape) (c p who k : ℕ) (w : WaitId) (u v : Seen) → Sees u v → Legal shape v.seen → cell_of u.seen c p ≡ receiver who w k → cell_of v.seen c p ≡ receiver who w k
+receiver_seen shape c p who k w u v s l e = subst (λ (es : List Entry). cell_of es c p ≡ receiver who w k) (sym s.now) (receiver_more shape c p who k w u.seen s.others (subst (Legal shape) s.now l) e)
+
+-- an offer does, or its wait was resolved
+pub offer_seen : (shape : Shape) (c p value who k : ℕ) (w : WaitId) (u v : Seen) → Sees u v → Legal shape v.seen → cell_of u.seen c p ≡ offer value who w k → (cell_of v.seen c p ≡ offer value who w k) ⊎ IsResolvedWait ((replay v.seen).waits w)
+offer_seen shape c p value who k w u v s l e = subst (λ (es : List Entry). (cell_of es c p ≡ offer value who w k) ⊎ IsResolvedWait ((replay es).waits w)) (sym s.now) (offer_more shape c p value who k w u.seen s.others (subst (Legal shape) s.now l) e)
+
+-- a wait that was resolved has another word than one that stands
+pub resolved_word : (shape : Shape) (w : WaitId) (u v : Seen) (word : WaitWord) → Sees u v → Legal shape v.seen → IsResolvedWait ((replay u.seen).waits w) → IsWaitWord w v.seen word → packed_wait word ≡ 0 → ⊥
+resolved_word shape w u v word s l r is e =
+    resolved_not ((replay v.seen).waits w) (subst (λ (es : List Entry). IsResolvedWait ((replay es).waits w)) (sym s.now) (resolved_more shape w u.seen s.others (subst (Legal shape) s.now l) r)) (sym e ∙ ap packed_wait is.0)
+
+-- what the word of a resolved wait tells of its offer
+pub take_tried : (shape : Shape) (v w : Seen) (who c p : ℕ) (x : Waiter) → Legal shape w.seen → Sees v w → NoneBelow 0 p (at_channel v.seen c) → (o : Offers shape c p x v.seen) → (word : WaitWord) → IsWaitWord o.held.wait w.seen word → (packed_wait word ≡ 0 → ⊥)
+    → TakeAnswer shape who c p x v w (tried_found word x.clause)
+take_tried shape v w who c p x l s low o word is ne = by_test (lets_stand word x.clause) refl
+  where
+    by_test : (b : Bool) → lets_stand word x.clause ≡ b → TakeAnswer shape who c p x v w (tried_by b)
+    by_test true e = (s, low_later shape v w c p l s low, take_admitted shape v w l s c p x.value o.held.who x.clause o.held.wait low o.cell x refl refl o.held.holder o.held.fits word is ne e)
+    by_test false e = (s, take_gone shape v w l s c p x.value o.held.who x.clause o.held.wait low o.cell word is e)

@@ -1,0 +1,232 @@
+-- What a walk has counted, and what was so while it went.
+use Rattle.std.proofs.Common.{◌≡◌, ◌≢◌, ◌⊎◌, ℕ, zero, suc, ◌+◌, ◌*◌, ◌%◌, ◌/◌, ◌<◌, ◌≤◌, ◌-◌, nat_le, Bool, true, false, List, [], ◌∷◌, ◌++◌, length, Option, Some, None, is_some, sym, refl, ap, ◌∙◌, subst, arith, MatchBool}
+use Rattle.std.proofs.lemmas.Bool.{leb-true, leb-false}
+use mathlib.Core.Logic.{dite}
+use native.Mathlib.Decide.{ℕ_discrete}
+use Rattle.co_base.specs.declared.names.WaitId.{WaitId}
+use Rattle.channel_model.specs.declared.acts.Entry.{Entry}
+use Rattle.channel_model.specs.declared.acts.Kind.{Kind}
+use Rattle.channel_model.specs.declared.acts.Kind.TheVariants.{Rendezvous, Buffered, Unlimited, Conflated, DropOldest, Signal}
+use Rattle.channel_model.specs.Channels.{Shape, places_at, kind_at, is_full, suspends, is_signal}
+use Rattle.channel_model.specs.Histories.{replay, Legal}
+use Rattle.channel_model.specs.Laws.{NoneBelow}
+use Rattle.cell_words.specs.declared.cell_word.CellState.{CellState}
+use Rattle.cell_words.specs.declared.cell_word.CellState.TheVariants as state
+use Rattle.cell_words.specs.declared.cell_word.CellWord.{CellWord}
+use Rattle.cell_words.specs.declared.wait_word.WaitWord.{WaitWord}
+use Rattle.cell_words.specs.declared.found.At.{At}
+use Rattle.cell_words.specs.declared.found.At.TheVariants as at
+use Rattle.cell_words.specs.Cells.{Cell, free, receiver, offer, buffered, emptied, closed_by, voided_by, cell_of, gather, standing}
+use Rattle.cell_words.specs.Words.{PartyFits, word_of_cell, CellFits}
+use Rattle.cell_words.specs.Seen.{Seen, at_channel, Sees, Makes}
+use Rattle.cell_words.specs.Looks.{holder_of, waiter_of, found_by_sender, found_by_receiver, lets_stand}
+use Rattle.cell_words.specs.Answers.{IsCellWord, IsWaitWord, IsHolder, stands, OfferAt, WholeOfferAt, PlacedFull, TriedOfferAt, WouldWait, ReceiveAt, TriedReceiveAt}
+use Rattle.cell_words.proofs.CountsOfOffers.{gone_more, stood_before, count_some, count_none, count_next, count_less, count_up}
+use Rattle.cell_words.proofs.ExchangesTell.{stood_at, gone_at}
+use Rattle.cell_words.proofs.LooksAtCells.{holder_is, state_free, sees_then, sees_makes, below_seen, given_seen}
+use Rattle.cell_words.proofs.CellsTellFacts.{now, tied_now, free_end, none_line, none_queue}
+use Rattle.channel_model.specs.Answers.{IsFullToTry, IsEmptyToTry}
+
+pub stood_seen : (shape : Shape) (c p : ℕ) (v w : Seen) → Sees v w → Legal shape v.seen → Legal shape w.seen → p < (at_channel v.seen c).next → is_some (stands w.seen c p) ≡ true → is_some (stands v.seen c p) ≡ true
+stood_seen shape c p v w s lv lw lt h = stood_before shape c p v.seen s.others lv (subst (Legal shape) s.now lw) lt (subst (λ (es : List Entry). is_some (stands es c p) ≡ true) s.now h)
+
+pub gone_seen : (shape : Shape) (c p : ℕ) (v w : Seen) → Sees v w → Legal shape v.seen → Legal shape w.seen → p < (at_channel v.seen c).next → stands v.seen c p ≡ None → stands w.seen c p ≡ None
+gone_seen shape c p v w s lv lw lt h = subst (λ (es : List Entry). stands es c p ≡ None) (sym s.now) (gone_more shape c p v.seen s.others lv (subst (Legal shape) s.now lw) lt h)
+
+-- ---- what stands, by the state of a cell
+
+-- an offer's cell
+pub record OfferCell (shape : Shape) (c p : ℕ) (word : CellWord) (log : List Entry) : Type 0 where
+  pub value : ℕ
+  pub who : ℕ
+  pub wait : WaitId
+  pub cell : cell_of log c p ≡ offer value who wait word.clause
+  pub fits : PartyFits shape who wait word.clause
+  pub holder : IsHolder shape c p (holder_of word) who wait
+
+abbrev pub offer_by_state : CellState → Bool
+offer_by_state state.Free = false
+offer_by_state state.Receiver = false
+offer_by_state state.Offer = true
+offer_by_state state.Buffered = true
+offer_by_state state.Emptied = false
+offer_by_state state.Closed = false
+offer_by_state state.Voided = false
+
+module _ (shape : Shape) (c p : ℕ) (log : List Entry) where
+  stands_buffered : (x : Cell) → cell_of log c p ≡ x → (word_of_cell shape c p x).state ≡ state.Buffered → is_some (stands log c p) ≡ true
+  stands_buffered free e s = cc
+  stands_buffered (receiver who w k) e s = cc
+  stands_buffered (offer v who w k) e s = cc
+  stands_buffered (buffered v) e s = ap (λ (y : Cell). is_some (standing (replay log).waits p y)) e
+  stands_buffered (emptied v) e s = cc
+  stands_buffered (closed_by v) e s = cc
+  stands_buffered (voided_by v) e s = cc
+
+  pub state_buffered : (word : CellWord) → IsCellWord shape c p log word → word.state ≡ state.Buffered → is_some (stands log c p) ≡ true
+  state_buffered word is s = stands_buffered (cell_of log c p) refl (sym (ap (λ (z : CellWord). z.state) is.0) ∙ s)
+
+  stands_none : (x : Cell) → cell_of log c p ≡ x → offer_by_state (word_of_cell shape c p x).state ≡ false → stands log c p ≡ None
+  stands_none free e s = ap (standing (replay log).waits p) e
+  stands_none (receiver who w k) e s = ap (standing (replay log).waits p) e
+  stands_none (offer v who w k) e s = cc
+  stands_none (buffered v) e s = cc
+  stands_none (emptied v) e s = ap (standing (replay log).waits p) e
+  stands_none (closed_by v) e s = ap (standing (replay log).waits p) e
+  stands_none (voided_by v) e s = ap (standing (replay log).waits p) e
+
+  pub state_none : (word : CellWord) → IsCellWord shape c p log word → offer_by_state word.state ≡ false → stands log c p ≡ None
+  state_none word is s = stands_none (cell_of log c p) refl (sym (ap (λ (z : CellWord). offer_by_state z.state) is.0) ∙ s)
+
+  offer_cell : (x : Cell) → cell_of log c p ≡ x → CellFits shape x → (word_of_cell shape c p x).state ≡ state.Offer → OfferCell shape c p (word_of_cell shape c p x) log
+  offer_cell free e f s = cc
+  offer_cell (receiver who w k) e f s = cc
+  offer_cell (offer v who w k) e f s = record { value = v; who = who; wait = w; cell = e; fits = f.0; holder = holder_is shape c p v who k state.Offer w f.0 }
+  offer_cell (buffered v) e f s = cc
+  offer_cell (emptied v) e f s = cc
+  offer_cell (closed_by v) e f s = cc
+  offer_cell (voided_by v) e f s = cc
+
+  pub state_offer : (word : CellWord) → IsCellWord shape c p log word → word.state ≡ state.Offer → OfferCell shape c p word log
+  state_offer word is = subst (λ (z : CellWord). z.state ≡ state.Offer → OfferCell shape c p z log) (sym is.0) (offer_cell (cell_of log c p) refl is.1)
+
+-- of an offer's cell, and then its wait
+pub wait_told : (shape : Shape) (c p value owner k : ℕ) (x : WaitId) (word : WaitWord) (u v w : Seen) → Sees u v → Sees v w → Legal shape u.seen → Legal shape v.seen → Legal shape w.seen → p < (at_channel u.seen c).next → cell_of v.seen c p ≡ offer value owner x k → IsWaitWord x w.seen word
+    → (b : Bool) → b ≡ lets_stand word k → MatchBool b (is_some (stands u.seen c p) ≡ true) (stands w.seen c p ≡ None)
+wait_told shape c p value owner k x word u v w s r lu lv lw lt at is true h =
+    stood_seen shape c p u v s lu lv lt (stood_at shape c p value owner k x word v.seen r.others lv (subst (Legal shape) r.now lw) at (subst (λ (es : List Entry). IsWaitWord x es word) r.now is) (sym h))
+wait_told shape c p value owner k x word u v w s r lu lv lw lt at is false h =
+    subst (λ (es : List Entry). stands es c p ≡ None) (sym r.now) (gone_at shape c p value owner k x word v.seen r.others (subst (Legal shape) r.now lw) at (subst (λ (es : List Entry). IsWaitWord x es word) r.now is) (sym h))
+
+-- what the walk has counted so far: of the offers that stood at the beginning, and of those that stand now
+pub record Counted (c place count : ℕ) (first v : Seen) : Type 0 where
+  pub lower : count ≤ length (gather (stands first.seen c) place)
+  pub upper : length (gather (stands v.seen c) place) ≤ count
+
+pub counted_none : (c : ℕ) (v : Seen) → Counted c 0 0 v v
+counted_none c v = record { lower = omega arith; upper = omega arith }
+
+upper_seen : (shape : Shape) (c place : ℕ) (v w : Seen) → Sees v w → Legal shape v.seen → Legal shape w.seen → place ≤ (at_channel v.seen c).next → length (gather (stands w.seen c) place) ≤ length (gather (stands v.seen c) place)
+upper_seen shape c place v w s lv lw le = count_less (stands v.seen c) (stands w.seen c) place (λ q lt e. gone_seen shape c q v w s lv lw (omega arith) e)
+
+pub counted_stands : (shape : Shape) (c place count : ℕ) (first v w : Seen) → Sees first v → Sees v w → Legal shape first.seen → Legal shape v.seen → Legal shape w.seen → place < (at_channel first.seen c).next → Counted c place count first v → is_some (stands v.seen c place) ≡ true → Counted c (place + 1) (count + 1) first w
+counted_stands shape c place count first v w s r lf lv lw lt h st = record {
+  lower = count_some (stands first.seen c) place count h.lower (stood_seen shape c place first v s lf lv lt st);
+  upper = count_next (stands w.seen c) place count (let m = upper_seen shape c place v w r lv lw (given_seen shape place c first v s lv (omega arith)) in let k = h.upper in omega arith);
+}
+
+pub counted_gone : (shape : Shape) (c place count : ℕ) (first v w : Seen) → Sees first v → Sees v w → Legal shape v.seen → Legal shape w.seen → place < (at_channel first.seen c).next → Counted c place count first v → stands w.seen c place ≡ None → Counted c (place + 1) count first w
+counted_gone shape c place count first v w s r lv lw lt h none = record {
+  lower = let m = count_up (stands first.seen c) place 1 (place + 1) refl in let k = h.lower in omega arith;
+  upper = let e = count_none (stands w.seen c) place none in let m = upper_seen shape c place v w r lv lw (given_seen shape place c first v s lv (omega arith)) in let k = h.upper in omega arith;
+}
+
+pub lower_end : (c place end count : ℕ) (first v : Seen) → place ≤ end → Counted c place count first v → count ≤ length (gather (stands first.seen c) end)
+lower_end c place end count first v le h = let m = count_up (stands first.seen c) place (end - place) end (omega arith) in let k = h.lower in omega arith
+
+-- ---- an offer, where the channel ends
+
+pub full_then : (shape : Shape) (c p : ℕ) (word : CellWord) (seen : List Entry) → Legal shape seen → NoneBelow p 0 (at_channel seen c) → IsCellWord shape c p seen word → word.state ≡ state.Free → is_full (kind_at shape c) (length (gather (stands seen c) p)) ≡ true → is_full (kind_at shape c) (length (at_channel seen c).queue) ≡ true
+full_then shape c p word seen l low is none h =
+    let t = tied_now shape seen l in
+    let at = free_end (now seen) c p t low.given (state_free shape c p word (cell_of seen c p) is.0 none) in
+    subst (λ (m : ℕ). is_full (kind_at shape c) m ≡ true) (sym (ap length (t.queues c ∙ ap (gather (stands seen c)) at.0))) h
+
+pub full_holds : (k : Kind) (n : ℕ) → is_signal k ≡ false → is_full k n ≡ true → suspends k ≡ true
+full_holds Rendezvous n e h = refl
+full_holds (Buffered k) n e h = refl
+full_holds Unlimited n e h = cc
+full_holds Conflated n e h = cc
+full_holds (DropOldest k) n e h = cc
+full_holds Signal n e h = cc
+
+-- after some looks, what the last step found
+pub later_at : (shape : Shape) (who c p value : ℕ) (u v w : Seen) → Sees u v → (x : Seen) → Sees v x → (a : At) → (a ≡ at.Placed → is_full (kind_at shape c) (length (at_channel v.seen c).queue) ≡ true) → OfferAt shape who c p value x w a → WholeOfferAt shape who c p value u w a
+later_at shape who c p value u v w s x r at.Spent full h = (sees_then u v w s (sees_then v x w r h.0), h.1)
+later_at shape who c p value u v w s x r at.Open full h = absurd h
+later_at shape who c p value u v w s x r at.Placed full h = record { then = v; sees = s; full = full refl; made = sees_makes v x w _ r h }
+later_at shape who c p value u v w s x r at.Put full h = sees_makes u v w _ s (sees_makes v x w _ r h)
+later_at shape who c p value u v w s x r (at.Waiting y) full h = (sees_then u v w s (sees_then v x w r h.0), h.1, h.2)
+later_at shape who c p value u v w s x r (at.Kept y) full h = absurd h
+later_at shape who c p value u v w s x r (at.Closed y) full h = (sees_then u v w s (sees_then v x w r h.0), h.1)
+later_at shape who c p value u v w s x r at.Gone full h = (sees_then u v w s (sees_then v x w r h.0), h.1)
+
+-- a word that was found places nobody
+pub not_placed : (word : CellWord) (s : CellState) (a : At) → a ≡ found_by_sender word s → a ≡ at.Placed → ⊥
+not_placed word state.Free a e h = let f : at.Gone ≡ at.Placed = sym e ∙ h in cc
+not_placed word state.Receiver a e h = let f : at.Waiting (waiter_of word) ≡ at.Placed = sym e ∙ h in cc
+not_placed word state.Offer a e h = let f : at.Gone ≡ at.Placed = sym e ∙ h in cc
+not_placed word state.Buffered a e h = let f : at.Gone ≡ at.Placed = sym e ∙ h in cc
+not_placed word state.Emptied a e h = let f : at.Gone ≡ at.Placed = sym e ∙ h in cc
+not_placed word state.Closed a e h = let f : at.Closed word.value ≡ at.Placed = sym e ∙ h in cc
+not_placed word state.Voided a e h = let f : at.Closed word.value ≡ at.Placed = sym e ∙ h in cc
+
+pub found_whole : (shape : Shape) (who c p value : ℕ) (word : CellWord) (s : CellState) (u v : Seen) → OfferAt shape who c p value u v (found_by_sender word s) → WholeOfferAt shape who c p value u v (found_by_sender word s)
+found_whole shape who c p value word state.Free u v h = h
+found_whole shape who c p value word state.Receiver u v h = h
+found_whole shape who c p value word state.Offer u v h = h
+found_whole shape who c p value word state.Buffered u v h = h
+found_whole shape who c p value word state.Emptied u v h = h
+found_whole shape who c p value word state.Closed u v h = h
+found_whole shape who c p value word state.Voided u v h = h
+
+pub count_end : (most count first last : ℕ) → count ≤ first → last ≤ count → MatchBool (nat_le most count) (most ≤ first) (last < most)
+count_end most count first last h k = go (nat_le most count) refl
+  where
+    go : (b : Bool) → nat_le most count ≡ b → MatchBool b (most ≤ first) (last < most)
+    go true e = let m = leb-true most count e in omega arith
+    go false e = let m = leb-false most count e in omega arith
+
+pub upper_end : (c place end count : ℕ) (first v : Seen) → place ≤ end → end ≤ place → Counted c place count first v → length (gather (stands v.seen c) end) ≤ count
+upper_end c place end count first v le ge h = subst (λ (n : ℕ). length (gather (stands v.seen c) n) ≤ count) (omega arith) h.upper
+
+pub less_than : (n m : ℕ) → n ≤ m → (n ≡ m → ⊥) → n + 1 ≤ m
+less_than n m le ne = dite (ℕ_discrete n m) (λ e. absurd (ne e)) (λ no. omega arith)
+
+-- one who never waits: a word that was found says the same to it
+pub found_tried : (shape : Shape) (who c p value : ℕ) (word : CellWord) (s : CellState) (u v : Seen) → OfferAt shape who c p value u v (found_by_sender word s) → TriedOfferAt shape who c p value u v (found_by_sender word s)
+found_tried shape who c p value word state.Free u v h = h
+found_tried shape who c p value word state.Receiver u v h = h
+found_tried shape who c p value word state.Offer u v h = h
+found_tried shape who c p value word state.Buffered u v h = h
+found_tried shape who c p value word state.Emptied u v h = h
+found_tried shape who c p value word state.Closed u v h = h
+found_tried shape who c p value word state.Voided u v h = h
+
+pub receive_tried : (shape : Shape) (who c p : ℕ) (word : CellWord) (s : CellState) (u v : Seen) → ReceiveAt shape who c p u v (found_by_receiver word s) → TriedReceiveAt shape who c p u v (found_by_receiver word s)
+receive_tried shape who c p word state.Free u v h = h
+receive_tried shape who c p word state.Receiver u v h = h
+receive_tried shape who c p word state.Offer u v h = h
+receive_tried shape who c p word state.Buffered u v h = h
+receive_tried shape who c p word state.Emptied u v h = h
+receive_tried shape who c p word state.Closed u v h = h
+receive_tried shape who c p word state.Voided u v h = h
+
+-- after some looks, what a put found
+pub put_later : (shape : Shape) (who c p value : ℕ) (u x w : Seen) → Sees u x → (a : At) → (a ≡ at.Placed → ⊥) → OfferAt shape who c p value x w a → TriedOfferAt shape who c p value u w a
+put_later shape who c p value u x w s at.Spent ne h = (sees_then u x w s h.0, h.1)
+put_later shape who c p value u x w s at.Open ne h = absurd h
+put_later shape who c p value u x w s at.Placed ne h = absurd (ne refl)
+put_later shape who c p value u x w s at.Put ne h = sees_makes u x w _ s h
+put_later shape who c p value u x w s (at.Waiting y) ne h = (sees_then u x w s h.0, h.1, h.2)
+put_later shape who c p value u x w s (at.Kept y) ne h = absurd h
+put_later shape who c p value u x w s (at.Closed y) ne h = (sees_then u x w s h.0, h.1)
+put_later shape who c p value u x w s at.Gone ne h = (sees_then u x w s h.0, h.1)
+
+-- a free end of an open channel
+module _ (shape : Shape) (c p : ℕ) (word : CellWord) (seen : List Entry) (l : Legal shape seen) (is : IsCellWord shape c p seen word) (none : word.state ≡ state.Free) where
+  pub full_to_try : is_signal (kind_at shape c) ≡ false → NoneBelow p 0 (at_channel seen c) → is_full (kind_at shape c) (length (gather (stands seen c) p)) ≡ true → IsFullToTry shape c (replay seen)
+  full_to_try kind low full =
+      let t = tied_now shape seen l in
+      let at = free_end (now seen) c p t low.given (state_free shape c p word (cell_of seen c p) is.0 none) in record {
+        may_wait = full_holds (kind_at shape c) (length (gather (stands seen c) p)) kind full;
+        not_closed = at.1;
+        nobody = none_line (now seen) c t p 0 low (omega (arith, at.0));
+        full = full_then shape c p word seen l low is none full;
+      }
+
+  pub empty_to_try : NoneBelow 0 p (at_channel seen c) → IsEmptyToTry c (replay seen)
+  empty_to_try low =
+      let t = tied_now shape seen l in
+      let at = free_end (now seen) c p t low.given_offers (state_free shape c p word (cell_of seen c p) is.0 none) in
+      record { not_closed = at.1; nothing = none_queue (now seen) c t 0 p low (omega (arith, at.0)) }

@@ -1,0 +1,6 @@
+use Rattle.std.proofs.Common.{◌≡◌}
+use Rattle.cell_words.specs.Words.{base}
+use Rattle.cell_words.proofs.meeting.count_cells.Given as goal
+
+abbrev pub invariant-loop-i : goal.invariant-loop-i
+invariant-loop-i l = l.cells ≡ base l.kinds l.i

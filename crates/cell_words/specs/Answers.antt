@@ -1,0 +1,234 @@
+-- What each kind of step asks, and what it tells.
+use Rattle.std.specs.Prelude.{◌≡◌, ◌≢◌, ◌⊎◌, ℕ, ◌+◌, ◌*◌, ◌<◌, ◌≤◌, Bool, true, false, List, [], ◌++◌, length, Option, Some, None}
+use Rattle.co_base.specs.declared.names.WaitId.{WaitId}
+use Rattle.channel_model.specs.declared.acts.Entry.{Entry}
+use Rattle.channel_model.specs.declared.acts.Act.TheVariants.{Offer, Hand, Await, Take, Put, Close, Withdraw}
+use Rattle.channel_model.specs.declared.acts.Why.{Why}
+use Rattle.channel_model.specs.declared.standing.Resolution.TheVariants as resolved
+use Rattle.channel_model.specs.declared.standing.Standing.{Standing}
+use Rattle.channel_model.specs.Channels.{Shape, Wait, same_wait, kind_at, is_full}
+use Rattle.channel_model.specs.Histories.{replay, Legal}
+use Rattle.channel_model.specs.Laws.{NoneBelow, IsResolvedAs}
+use Rattle.channel_model.specs.Answers.{first_receiver, first_holder, IsOwnWait, IsResolvedWait, IsSpentForOffers, IsSpentForReceives, IsFullToTry, IsEmptyToTry}
+use Rattle.worded.specs.Exchanges.{MayEnter}
+use Rattle.cell_words.specs.declared.cell_word.CellState.TheVariants as cell
+use Rattle.cell_words.specs.declared.cell_word.CellWord.{CellWord}
+use Rattle.cell_words.specs.declared.wait_word.WaitWord.{WaitWord}
+use Rattle.cell_words.specs.declared.found.At.{At}
+use Rattle.cell_words.specs.declared.found.At.TheVariants as at
+use Rattle.cell_words.specs.declared.found.End.{End}
+use Rattle.cell_words.specs.declared.found.End.TheVariants as end
+use Rattle.cell_words.specs.declared.found.Tried.{Tried}
+use Rattle.cell_words.specs.declared.found.Tried.TheVariants as tried
+use Rattle.cell_words.specs.declared.found.Holder.{Holder}
+use Rattle.cell_words.specs.declared.found.Holder.TheVariants as holder
+use Rattle.cell_words.specs.declared.found.Waiter.{Waiter}
+use Rattle.cell_words.specs.Cells.{receiver, offer, buffered, emptied, spot, cell_of, standing}
+use Rattle.cell_words.specs.Codes.{packed_cell, packed_wait}
+use Rattle.cell_words.specs.Words.{number, IsCell, PartyFits, plain_word, party_word, word_of_cell, CellFits, word_of_wait, WaitFits, Fits}
+use Rattle.cell_words.specs.Seen.{Seen, maker, at_channel, Sees, Makes, Turns}
+
+-- ---- words
+
+-- the cell has this word
+abbrev pub IsCellWord : Shape → ℕ → ℕ → List Entry → CellWord → Type 0
+IsCellWord shape c p log word = (word ≡ word_of_cell shape c p (cell_of log c p)) × CellFits shape (cell_of log c p)
+
+-- the wait has this word
+abbrev pub IsWaitWord : WaitId → List Entry → WaitWord → Type 0
+IsWaitWord w log word = (word ≡ word_of_wait ((replay log).waits w)) × WaitFits ((replay log).waits w)
+
+-- the number is that of a cell
+pub record IsNumber (shape : Shape) (n : ℕ) : Type 0 where
+  pub wait : WaitId
+  pub at : IsCell shape wait.channel wait.place
+  pub is : number shape wait.channel wait.place ≡ n
+
+-- the cell of this number has this word; the wait that began there has this word
+abbrev pub IsNumberedCell : Shape → ℕ → List Entry → CellWord → Type 0
+IsNumberedCell shape n log word =
+    (w : WaitId) → IsCell shape w.channel w.place → number shape w.channel w.place ≡ n → IsCellWord shape w.channel w.place log word
+
+abbrev pub IsNumberedWait : Shape → ℕ → List Entry → WaitWord → Type 0
+IsNumberedWait shape n log word =
+    (w : WaitId) → IsCell shape w.channel w.place → number shape w.channel w.place ≡ n → IsWaitWord w log word
+
+-- whatever others do, this entry is legal while the word is old, and turns it into new
+abbrev pub MayTurn : Shape → ℕ → ℕ → ℕ → Entry → Seen → Type 0
+MayTurn shape word old new e v = MayEnter (Legal shape) (Fits shape) maker v word old new e
+
+-- the entry was made where the cell was old, or the cell found has another word
+abbrev pub CellAnswer : Shape → ℕ → ℕ → CellWord → Entry → Seen → Seen → Option CellWord → Type 0
+CellAnswer shape c p old e v w None = Turns shape (2 * number shape c p) (packed_cell old) e v w
+CellAnswer shape c p old e v w (Some found) = Sees v w × IsCellWord shape c p w.seen found × (packed_cell found ≢ packed_cell old)
+
+-- the entry was made where the wait was old, or the wait found has another word
+abbrev pub WaitAnswer : Shape → ℕ → WaitWord → Entry → Seen → Seen → Option WaitWord → Type 0
+WaitAnswer shape n old e v w None = Turns shape (2 * n + 1) (packed_wait old) e v w
+WaitAnswer shape n old e v w (Some found) = Sees v w × IsNumberedWait shape n w.seen found × (packed_wait found ≢ packed_wait old)
+
+-- ---- who waits at a cell
+
+-- the holder in the cell of place p tells the coroutine of the wait w, or the cell where it began
+abbrev pub IsHolder : Shape → ℕ → ℕ → Holder → ℕ → WaitId → Type 0
+IsHolder shape c p (holder.Own t) who w = (w ≡ spot c p) × (who ≡ t)
+IsHolder shape c p (holder.At n) who w = (number shape w.channel w.place ≡ n) × (same_wait w (spot c p) ≡ false)
+
+-- a wait of a coroutine, as the cell of place p names it
+pub record IsHeld (shape : Shape) (c p : ℕ) (x : Waiter) (log : List Entry) : Type 0 where
+  pub who : ℕ
+  pub wait : WaitId
+  pub holder : IsHolder shape c p x.holder who wait
+  pub fits : PartyFits shape who wait x.clause
+  pub owner : IsOwnWait who ((replay log).waits wait)
+
+-- it was placed here to receive
+pub record Receives (shape : Shape) (c p : ℕ) (x : Waiter) (log : List Entry) : Type 0 where
+  pub held : IsHeld shape c p x log
+  pub cell : cell_of log c p ≡ receiver held.who held.wait x.clause
+
+-- it was placed here with an element
+pub record Offers (shape : Shape) (c p : ℕ) (x : Waiter) (log : List Entry) : Type 0 where
+  pub held : IsHeld shape c p x log
+  pub cell : cell_of log c p ≡ offer x.value held.who held.wait x.clause
+
+-- the coroutine of a wait, or nothing where the wait was resolved
+abbrev pub OwnerAnswer : ℕ → WaitId → List Entry → Option ℕ → Type 0
+OwnerAnswer who w log (Some t) = t ≡ who
+OwnerAnswer who w log None = IsResolvedWait ((replay log).waits w)
+
+-- ---- one who offers
+
+abbrev pub OfferAt : Shape → ℕ → ℕ → ℕ → ℕ → Seen → Seen → At → Type 0
+OfferAt shape who c p v old new at.Spent = Sees old new × IsSpentForOffers shape c (replay new.seen)
+OfferAt shape who c p v old new at.Open = ⊥
+OfferAt shape who c p v old new at.Placed = Makes old (record { who = who; act = Offer c p v (spot c p) 0 }) new
+OfferAt shape who c p v old new at.Put = Makes old (record { who = who; act = Put c p v }) new
+OfferAt shape who c p v old new (at.Waiting x) = Sees old new × NoneBelow p 0 (at_channel new.seen c) × Receives shape c p x new.seen
+OfferAt shape who c p v old new (at.Kept y) = ⊥
+OfferAt shape who c p v old new (at.Closed y) = Sees old new × ((at_channel new.seen c).closed ≡ Some y)
+OfferAt shape who c p v old new at.Gone = Sees old new × NoneBelow (p + 1) 0 (at_channel new.seen c)
+
+-- the offer was placed, after a moment at which the channel was full
+pub record PlacedFull (shape : Shape) (who c p v : ℕ) (old new : Seen) : Type 0 where
+  pub then : Seen
+  pub sees : Sees old then
+  pub full : is_full (kind_at shape c) (length (at_channel then.seen c).queue) ≡ true
+  pub made : Makes then (record { who = who; act = Offer c p v (spot c p) 0 }) new
+
+-- and it waits only where the channel was full
+abbrev pub WholeOfferAt : Shape → ℕ → ℕ → ℕ → ℕ → Seen → Seen → At → Type 0
+WholeOfferAt shape who c p v old new at.Placed = PlacedFull shape who c p v old new
+WholeOfferAt shape who c p v old new at.Open = ⊥
+WholeOfferAt shape who c p v old new at.Spent = OfferAt shape who c p v old new at.Spent
+WholeOfferAt shape who c p v old new at.Put = OfferAt shape who c p v old new at.Put
+WholeOfferAt shape who c p v old new (at.Waiting x) = OfferAt shape who c p v old new (at.Waiting x)
+WholeOfferAt shape who c p v old new (at.Kept y) = OfferAt shape who c p v old new (at.Kept y)
+WholeOfferAt shape who c p v old new (at.Closed y) = OfferAt shape who c p v old new (at.Closed y)
+WholeOfferAt shape who c p v old new at.Gone = OfferAt shape who c p v old new at.Gone
+
+-- one who never waits is not placed: the channel was full at a moment
+pub record WouldWait (shape : Shape) (c : ℕ) (old new : Seen) : Type 0 where
+  pub then : Seen
+  pub sees : Sees old then
+  pub later : Sees then new
+  pub full : IsFullToTry shape c (replay then.seen)
+
+abbrev pub TriedOfferAt : Shape → ℕ → ℕ → ℕ → ℕ → Seen → Seen → At → Type 0
+TriedOfferAt shape who c p v old new at.Open = WouldWait shape c old new
+TriedOfferAt shape who c p v old new at.Placed = ⊥
+TriedOfferAt shape who c p v old new at.Spent = OfferAt shape who c p v old new at.Spent
+TriedOfferAt shape who c p v old new at.Put = OfferAt shape who c p v old new at.Put
+TriedOfferAt shape who c p v old new (at.Waiting x) = OfferAt shape who c p v old new (at.Waiting x)
+TriedOfferAt shape who c p v old new (at.Kept y) = OfferAt shape who c p v old new (at.Kept y)
+TriedOfferAt shape who c p v old new (at.Closed y) = OfferAt shape who c p v old new (at.Closed y)
+TriedOfferAt shape who c p v old new at.Gone = OfferAt shape who c p v old new at.Gone
+
+-- the first receiver, that of t, was handed the element
+pub record HandsTo (who c p v t : ℕ) (old new : Seen) : Type 0 where
+  pub made : Makes old (record { who = who; act = Hand c p v }) new
+  pub to : first_receiver (replay (old.seen ++ made.others)) (at_channel (old.seen ++ made.others) c).receivers ≡ Some t
+
+-- or it does not stand, and nobody does up to here
+abbrev pub HandAnswer : ℕ → ℕ → ℕ → ℕ → Seen → Seen → Option ℕ → Type 0
+HandAnswer who c p v old new (Some t) = HandsTo who c p v t old new
+HandAnswer who c p v old new None = Sees old new × NoneBelow (p + 1) 0 (at_channel new.seen c)
+
+-- ---- one who receives
+
+abbrev pub ReceiveAt : Shape → ℕ → ℕ → ℕ → Seen → Seen → At → Type 0
+ReceiveAt shape who c p old new at.Spent = Sees old new × IsSpentForReceives shape c (replay new.seen)
+ReceiveAt shape who c p old new at.Open = ⊥
+ReceiveAt shape who c p old new at.Placed = Makes old (record { who = who; act = Await c p (spot c p) 0 }) new
+ReceiveAt shape who c p old new at.Put = ⊥
+ReceiveAt shape who c p old new (at.Waiting x) = Sees old new × NoneBelow 0 p (at_channel new.seen c) × Offers shape c p x new.seen
+ReceiveAt shape who c p old new (at.Kept y) = Sees old new × NoneBelow 0 p (at_channel new.seen c) × (cell_of new.seen c p ≡ buffered y)
+ReceiveAt shape who c p old new (at.Closed y) =
+    Sees old new × ((at_channel new.seen c).closed ≡ Some y) × ((at_channel new.seen c).queue ≡ [])
+ReceiveAt shape who c p old new at.Gone = Sees old new × NoneBelow 0 (p + 1) (at_channel new.seen c)
+
+-- one who never waits is not placed: the open channel was empty
+abbrev pub TriedReceiveAt : Shape → ℕ → ℕ → ℕ → Seen → Seen → At → Type 0
+TriedReceiveAt shape who c p old new at.Open = Sees old new × IsEmptyToTry c (replay new.seen)
+TriedReceiveAt shape who c p old new at.Placed = ⊥
+TriedReceiveAt shape who c p old new at.Spent = ⊥
+TriedReceiveAt shape who c p old new at.Put = ⊥
+TriedReceiveAt shape who c p old new (at.Waiting x) = ReceiveAt shape who c p old new (at.Waiting x)
+TriedReceiveAt shape who c p old new (at.Kept y) = ReceiveAt shape who c p old new (at.Kept y)
+TriedReceiveAt shape who c p old new (at.Closed y) = ReceiveAt shape who c p old new (at.Closed y)
+TriedReceiveAt shape who c p old new at.Gone = ReceiveAt shape who c p old new at.Gone
+
+-- the first offer was taken; t waited with it, if somebody did
+pub record TakesFrom (who c p v : ℕ) (t : Option ℕ) (old new : Seen) : Type 0 where
+  pub made : Makes old (record { who = who; act = Take c p v }) new
+  pub from : first_holder (replay (old.seen ++ made.others)) (at_channel (old.seen ++ made.others) c).queue ≡ t
+
+-- an offer that was admitted, so that its element is kept until its cell is emptied
+pub record IsAdmitted (shape : Shape) (c p : ℕ) (x : Waiter) (log : List Entry) : Type 0 where
+  pub who : ℕ
+  pub wait : WaitId
+  pub holder : IsHolder shape c p x.holder who wait
+  pub fits : PartyFits shape who wait x.clause
+  pub admitted : IsResolvedAs (resolved.Admitted x.clause) ((replay log).waits wait)
+  pub cell : (cell_of log c p ≡ offer x.value who wait x.clause) ⊎ (cell_of log c p ≡ emptied x.value)
+
+abbrev pub TakeAnswer : Shape → ℕ → ℕ → ℕ → Waiter → Seen → Seen → Tried → Type 0
+TakeAnswer shape who c p x old new (tried.Taken t) = TakesFrom who c p x.value (Some t) old new
+TakeAnswer shape who c p x old new tried.Gone = Sees old new × NoneBelow 0 (p + 1) (at_channel new.seen c)
+TakeAnswer shape who c p x old new tried.Admitted = Sees old new × NoneBelow 0 p (at_channel new.seen c) × IsAdmitted shape c p x new.seen
+
+-- an element was put here, or an offer was admitted: the word of its cell until it is emptied
+pub data IsKept (shape : Shape) (c p v : ℕ) (log : List Entry) (word : CellWord) : Type 0 where
+  put : word ≡ plain_word cell.Buffered v → (cell_of log c p ≡ buffered v) ⊎ (cell_of log c p ≡ emptied v) → IsKept shape c p v log word
+  held : (x : Waiter) (a : IsAdmitted shape c p x log) → x.value ≡ v
+      → word ≡ party_word shape c p cell.Offer v a.who a.wait x.clause → IsKept shape c p v log word
+
+-- the element was taken where it was kept; or it was removed before
+abbrev pub KeptAnswer : ℕ → ℕ → ℕ → ℕ → Seen → Seen → Bool → Type 0
+KeptAnswer who c p v old new true = TakesFrom who c p v None old new
+KeptAnswer who c p v old new false = Sees old new × NoneBelow 0 (p + 1) (at_channel new.seen c)
+
+-- ---- offers, by place
+
+-- the offer that stands at a place
+abbrev pub stands : List Entry → ℕ → ℕ → Option Standing
+stands log c p = standing (replay log).waits p (cell_of log c p)
+
+-- ---- the end of a channel
+
+abbrev pub EndAt : ℕ → ℕ → End → List Entry → Type 0
+EndAt c p end.Used seen = p + 1 ≤ (at_channel seen c).next
+EndAt c p end.Open seen = ((at_channel seen c).next ≡ p) × ((at_channel seen c).closed ≡ None)
+EndAt c p (end.Closed x) seen = ((at_channel seen c).next ≡ p) × ((at_channel seen c).closed ≡ Some x)
+
+abbrev pub CloseAt : ℕ → ℕ → ℕ → ℕ → Seen → Seen → End → Type 0
+CloseAt who c p v old new end.Used = Sees old new × (p + 1 ≤ (at_channel new.seen c).next)
+CloseAt who c p v old new end.Open = Makes old (record { who = who; act = Close c v }) new
+CloseAt who c p v old new (end.Closed x) = Sees old new × ((at_channel new.seen c).closed ≡ Some x)
+
+-- ---- the own wait
+
+-- it was taken back, or somebody had resolved it
+abbrev pub WithdrawAt : ℕ → WaitId → Why → Seen → Seen → Bool → Type 0
+WithdrawAt who w why old new true = Makes old (record { who = who; act = Withdraw w why }) new
+WithdrawAt who w why old new false = Sees old new × IsResolvedWait ((replay new.seen).waits w)

@@ -1,0 +1,10 @@
+pub mod Answers
+pub mod Cells
+pub mod Codes
+pub mod Hubs
+pub mod Looks
+pub mod Meetings
+pub mod Seen
+pub mod Sizes
+pub mod Tables
+pub mod Words

@@ -1,0 +1,175 @@
+-- The words that a history gives.
+use Rattle.std.specs.Prelude.{◌≡◌, ℕ, zero, suc, ◌+◌, ◌*◌, ◌<◌, ◌≤◌, Bool, true, false, List, [], ◌∷◌, length, if◌then◌else◌, Option, Some, None}
+use Rattle.co_base.specs.declared.names.WaitId.{WaitId}
+use Rattle.channel_model.specs.declared.acts.Entry.{Entry}
+use Rattle.channel_model.specs.declared.acts.Settled.{Settled}
+use Rattle.channel_model.specs.declared.acts.Settled.TheVariants as settled
+use Rattle.channel_model.specs.declared.acts.Why.TheVariants.{Cancelled, Revoked}
+use Rattle.channel_model.specs.declared.standing.Resolution.{Resolution}
+use Rattle.channel_model.specs.declared.standing.Resolution.TheVariants as resolved
+use Rattle.channel_model.specs.Channels.{Shape, Wait, places_at, same_wait}
+use Rattle.channel_model.specs.Histories.{replay}
+use Rattle.channel_model.specs.Laws.{NoneBelow}
+use Rattle.cell_words.specs.declared.cell_word.CellState.{CellState}
+use Rattle.cell_words.specs.declared.cell_word.CellState.TheVariants as cell
+use Rattle.cell_words.specs.declared.cell_word.CellWord.{CellWord}
+use Rattle.cell_words.specs.declared.wait_word.ResolvedBy.{ResolvedBy}
+use Rattle.cell_words.specs.declared.wait_word.ResolvedBy.TheVariants as by
+use Rattle.cell_words.specs.declared.wait_word.WaitWord.{WaitWord}
+use Rattle.cell_words.specs.Cells.{Cell, free, receiver, offer, buffered, emptied, closed_by, voided_by, spot, cell_of}
+use Rattle.cell_words.specs.Codes.{packed_cell, packed_wait}
+
+-- ---- numbers: each channel has one cell more than its places
+
+-- how many cells the channels before this one have
+abbrev pub base : Shape → ℕ → ℕ
+base [] c = 0
+base (x ∷ xs) zero = 0
+base (x ∷ xs) (suc c) = (x.1 + 1) + base xs c
+
+abbrev pub cells_in : Shape → ℕ
+cells_in [] = 0
+cells_in (x ∷ xs) = (x.1 + 1) + cells_in xs
+
+-- the number of a cell
+abbrev pub number : Shape → ℕ → ℕ → ℕ
+number shape c p = base shape c + p
+
+-- the number of its word, and of the word of the wait that began there
+abbrev pub cell_number : Shape → ℕ → ℕ → ℕ
+cell_number shape c p = 2 * number shape c p
+
+abbrev pub wait_number : Shape → ℕ → ℕ → ℕ
+wait_number shape c p = 2 * number shape c p + 1
+
+-- of the two counters of a channel
+abbrev pub send_number : Shape → ℕ → ℕ
+send_number shape c = 2 * cells_in shape + 2 * c
+
+abbrev pub receive_number : Shape → ℕ → ℕ
+receive_number shape c = 2 * cells_in shape + 2 * c + 1
+
+-- one word more says nothing: it is loaded where passes meet
+abbrev pub word_count : Shape → ℕ
+word_count shape = 2 * cells_in shape + 2 * length shape + 1
+
+-- a place of the channel, or its end
+abbrev pub IsCell : Shape → ℕ → ℕ → Type 0
+IsCell shape c p = (c < length shape) × (p ≤ places_at shape c)
+
+-- ---- cells
+
+abbrev pub plain_word : CellState → ℕ → CellWord
+plain_word state v = record { state = state; clause = 0; own_wait = false; holder = 0; value = v }
+
+-- a cell that holds its own wait has its coroutine, another the number of the cell that holds the wait
+abbrev pub party_word : Shape → ℕ → ℕ → CellState → ℕ → ℕ → WaitId → ℕ → CellWord
+party_word shape c p state v who w k =
+    record {
+      state = state;
+      clause = k;
+      own_wait = same_wait w (spot c p);
+      holder = if same_wait w (spot c p) then who else number shape w.channel w.place;
+      value = v;
+    }
+
+abbrev pub word_of_cell : Shape → ℕ → ℕ → Cell → CellWord
+word_of_cell shape c p free = plain_word cell.Free 0
+word_of_cell shape c p (receiver who w k) = party_word shape c p cell.Receiver 0 who w k
+word_of_cell shape c p (offer v who w k) = party_word shape c p cell.Offer v who w k
+word_of_cell shape c p (buffered v) = plain_word cell.Buffered v
+word_of_cell shape c p (emptied v) = plain_word cell.Emptied v
+word_of_cell shape c p (closed_by v) = plain_word cell.Closed v
+word_of_cell shape c p (voided_by v) = plain_word cell.Voided v
+
+abbrev pub cell_code : Shape → ℕ → ℕ → Cell → ℕ
+cell_code shape c p x = packed_cell (word_of_cell shape c p x)
+
+-- who waits is a coroutine, at a clause of a wait that began at a cell
+pub record PartyFits (shape : Shape) (who : ℕ) (w : WaitId) (k : ℕ) : Type 0 where
+  pub tag : who < 65536
+  pub clause : k < 8
+  pub channel : w.channel < length shape
+  pub place : w.place ≤ places_at shape w.channel
+  pub few : number shape w.channel w.place < 8388608
+
+abbrev pub CellFits : Shape → Cell → Type 0
+CellFits shape free = Unit {0}
+CellFits shape (receiver who w k) = PartyFits shape who w k
+CellFits shape (offer v who w k) = PartyFits shape who w k × (v < 4294967296)
+CellFits shape (buffered v) = v < 4294967296
+CellFits shape (emptied v) = v < 4294967296
+CellFits shape (closed_by v) = v < 4294967296
+CellFits shape (voided_by v) = v < 4294967296
+
+-- ---- waits
+
+abbrev pub resolved_word : ResolvedBy → ℕ → ℕ → WaitWord
+resolved_word who k v = record { by = who; clause = k; settled = false; cancelled = false; value = v }
+
+abbrev pub how_word : Resolution → WaitWord
+how_word (resolved.Handed k v) = resolved_word by.Hand k v
+how_word (resolved.Taken k) = resolved_word by.Take k 0
+how_word (resolved.Admitted k) = resolved_word by.Admit k 0
+how_word (resolved.Closed k v) = resolved_word by.Close k v
+how_word (resolved.Withdrawn Cancelled) = resolved_word by.Cancel 0 0
+how_word (resolved.Withdrawn Revoked) = resolved_word by.Revoke 0 0
+how_word resolved.Voided = resolved_word by.Void 0 0
+
+-- the coroutine was cancelled
+abbrev pub is_cancelled_end : Settled → Bool
+is_cancelled_end (settled.Value k v) = false
+is_cancelled_end (settled.Sent k) = false
+is_cancelled_end (settled.Closed k v) = false
+is_cancelled_end settled.Cancelled = true
+is_cancelled_end (settled.Undelivered v) = true
+
+abbrev pub settled_word : Settled → WaitWord → WaitWord
+settled_word outcome w = record { by = w.by; clause = w.clause; settled = true; cancelled = is_cancelled_end outcome; value = w.value }
+
+abbrev pub parts_word : Option Resolution → Option Settled → WaitWord
+parts_word None outcome = resolved_word by.Nobody 0 0
+parts_word (Some how) None = how_word how
+parts_word (Some how) (Some outcome) = settled_word outcome (how_word how)
+
+-- no wait began there, or this one
+abbrev pub word_of_wait : Option Wait → WaitWord
+word_of_wait None = resolved_word by.Nobody 0 0
+word_of_wait (Some x) = parts_word x.resolved x.settled
+
+abbrev pub wait_code : Option Wait → ℕ
+wait_code y = packed_wait (word_of_wait y)
+
+abbrev pub how_code : Resolution → ℕ
+how_code how = packed_wait (how_word how)
+
+abbrev pub HowFits : Resolution → Type 0
+HowFits (resolved.Handed k v) = (k < 8) × (v < 4294967296)
+HowFits (resolved.Taken k) = k < 8
+HowFits (resolved.Admitted k) = k < 8
+HowFits (resolved.Closed k v) = (k < 8) × (v < 4294967296)
+HowFits (resolved.Withdrawn why) = Unit {0}
+HowFits resolved.Voided = Unit {0}
+
+abbrev pub PartsFit : Option Resolution → Type 0
+PartsFit None = Unit {0}
+PartsFit (Some how) = HowFits how
+
+abbrev pub WaitFits : Option Wait → Type 0
+WaitFits None = Unit {0}
+WaitFits (Some x) = PartsFit x.resolved
+
+-- the number n is the word of this wait
+abbrev pub HasWaitCode : ℕ → Option Wait → Type 0
+HasWaitCode n y = (n ≡ wait_code y) × WaitFits y
+
+-- ---- all words
+
+-- the word i is n after this history; a counter is at most the number of places that were given out
+pub record Fits (shape : Shape) (log : List Entry) (i n : ℕ) : Type 0 where
+  pub cell : (c p : ℕ) → c < length shape → p ≤ places_at shape c → i ≡ cell_number shape c p
+      → (n ≡ cell_code shape c p (cell_of log c p)) × CellFits shape (cell_of log c p)
+  pub wait : (c p : ℕ) → c < length shape → p ≤ places_at shape c → i ≡ wait_number shape c p
+      → HasWaitCode n ((replay log).waits (spot c p))
+  pub sends : (c : ℕ) → c < length shape → i ≡ send_number shape c → NoneBelow n 0 ((replay log).channels c)
+  pub receives : (c : ℕ) → c < length shape → i ≡ receive_number shape c → NoneBelow 0 n ((replay log).channels c)

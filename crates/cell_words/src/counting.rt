@@ -1,0 +1,85 @@
+//! How many offers stand, by one walk: each that is found later stood at the beginning, since who is gone does not come back.
+ghost use Rattle.std.specs.Prelude.{◌≡◌, ◌<◌, ◌≤◌, MatchBool, true, false, length, None, is_some};
+ghost use Rattle.channel_model.specs.Channels.{kind_at, is_full};
+ghost use Rattle.cell_words.specs.Cells.{gather};
+ghost use Rattle.cell_words.specs.Words.{IsCell};
+ghost use Rattle.cell_words.specs.Hubs.{shape_of, seen_by, IsOwn};
+ghost use Rattle.cell_words.specs.Seen.{Sees, at_channel};
+ghost use Rattle.cell_words.specs.Answers.{stands};
+
+use crate::cell_word::CellState;
+use crate::cells::{kind_of, load_cell, load_wait};
+use crate::hub::Hub;
+use crate::looks::{holder_of, lets_stand};
+use crate::pass::Pass;
+use crate::resolving::wait_cell;
+use channel_model::Kind;
+use co_base::{ChannelId, Place, Tag};
+
+/// Whether an offer stands at a place: true if it stood at the beginning, false if none stands any more.
+fn stands_at(hub: &Hub, pass: &mut Pass, who: Tag, c: ChannelId, place: Place) -> bool
+    requires own { IsOwn hub.now pass.old who }
+    requires at { IsCell (shape_of hub.now) c place }
+    requires given { place < (at_channel (seen_by pass.old).seen c).next }
+    ensures own { IsOwn hub.now pass.new who }
+    ensures sees { Sees (seen_by pass.old) (seen_by pass.new) }
+    ensures stands { MatchBool result
+        (is_some (stands (seen_by pass.old).seen c place) ≡ true)
+        (stands (seen_by pass.new).seen c place ≡ None) }
+{
+    let word = load_cell(hub, pass, who, c, place);
+    match word.state {
+        CellState::Buffered => true,
+        CellState::Offer => {
+            let cell = wait_cell(hub, c, place, holder_of(word));
+            let wait = load_wait(hub, pass, who, cell);
+            lets_stand(wait, word.clause)
+        }
+        CellState::Free
+        | CellState::Receiver
+        | CellState::Emptied
+        | CellState::Closed
+        | CellState::Voided => false,
+    }
+}
+
+/// Whether so many offers stand below a place: true if they did at the beginning, false if fewer do at the end.
+fn count_below(hub: &Hub, pass: &mut Pass, who: Tag, c: ChannelId, end: Place, most: u32) -> bool
+    requires own { IsOwn hub.now pass.old who }
+    requires at { IsCell (shape_of hub.now) c end }
+    requires given { end ≤ (at_channel (seen_by pass.old).seen c).next }
+    ensures own { IsOwn hub.now pass.new who }
+    ensures sees { Sees (seen_by pass.old) (seen_by pass.new) }
+    ensures count { MatchBool result
+        (most ≤ length (gather (stands (seen_by pass.old).seen c) end))
+        (length (gather (stands (seen_by pass.new).seen c) end) < most) }
+{
+    let mut count = 0;
+    for place in 0..end {
+        if count == most {
+            return true;
+        }
+        if stands_at(hub, pass, who, c, place) {
+            count += 1;
+        }
+    }
+    count >= most
+}
+
+/// Whether the channel keeps one element more: false if it was full at the beginning.
+pub(crate) fn has_room(hub: &Hub, pass: &mut Pass, who: Tag, c: ChannelId, end: Place) -> bool
+    requires own { IsOwn hub.now pass.old who }
+    requires at { IsCell (shape_of hub.now) c end }
+    requires given { end ≤ (at_channel (seen_by pass.old).seen c).next }
+    ensures own { IsOwn hub.now pass.new who }
+    ensures sees { Sees (seen_by pass.old) (seen_by pass.new) }
+    ensures room { MatchBool result
+        (is_full (kind_at (shape_of hub.now) c) (length (gather (stands (seen_by pass.new).seen c) end)) ≡ false)
+        (is_full (kind_at (shape_of hub.now) c) (length (gather (stands (seen_by pass.old).seen c) end)) ≡ true) }
+{
+    match kind_of(hub, c) {
+        Kind::Rendezvous | Kind::Signal => false,
+        Kind::Buffered(most) => !count_below(hub, pass, who, c, end, most),
+        Kind::Unlimited | Kind::Conflated | Kind::DropOldest(_) => true,
+    }
+}

@@ -1,0 +1,80 @@
+//! Channels over a table of words, which many threads change at once: the words, and one function for each kind of step. No step
+//! waits, takes a lock or takes memory.
+//!
+//! **The words.** Each place of a channel has a cell and a wait, and the channel's end has one cell and wait more. A cell word says what
+//! became of its place, a wait word how the wait was resolved that began there (`cell_word` and `wait_word` have the bits). A wait that
+//! stands has the word 0. A select's clauses all name the cell where its wait began. Two counters of each channel say from where to look.
+//!
+//! | word | from | to | by | the exchange decides |
+//! |---|---|---|---|---|
+//! | cell | Free | Receiver, Offer | who waits | who has the place; the cell is where the channel ends |
+//! | cell | Free | Buffered | who sends, where the channel keeps one more | the same |
+//! | cell | Free | Closed | who closes | that the channel ends here |
+//! | cell | Closed | Voided | who cancels | that the channel is cancelled |
+//! | cell | Buffered, or Offer of an admitted wait | Emptied | who receives, drops or drains | who has the element |
+//! | wait | 0 | handed, taken, admitted, closed, voided | anybody | who resolves the wait |
+//! | wait | 0 | cancelled, revoked | its coroutine | that it was not resolved before |
+//! | wait | resolved | settled | its coroutine | nothing: nobody else settles it |
+//! | counter | n | at least m | anybody | nothing: it is a hint |
+//!
+//! **What stands.** A receiver stands while its wait has the word 0. An offer stands while its wait has the word 0, and also after its wait
+//! was admitted at its clause, until its cell is emptied. So a held offer's cell stays as it is when its wait is taken, withdrawn or
+//! resolved elsewhere, and whoever comes by reads the wait.
+//!
+//! **What the loser sees.** A failed exchange of a free cell returns the word found: who was placed there, or that the channel ends there.
+//! A failed exchange of a wait says that it was resolved; who is gone never stands again, so the walk goes on to the next place.
+//!
+//! **Walks.** A caller comes from below, from a counter on, below which nobody of the other side stands. `offer_at` and `await_at` say
+//! what is at one place; the answer is a fact of the moment of their last load. An offer waits only where the channel was full: it
+//! counts the offers below the free end by one walk. Each that is found later stood at the beginning, so that either all stood then,
+//! or fewer do at the end. No word is loaded after an exchange that made an entry, and a counter is raised by a step that shows
+//! nothing, so that the own entry is the last that was seen.
+//!
+//! **The history.** It is that of the channels, a list of entries; all words are a function of it, but for the counters (`Words` has it).
+//! A `Pass` has seen a beginning of the history, and all entries of its own tags.
+//!
+//! - `cell_word`, `wait_word`: the two words, field by field.
+//! - `hub`, `layout`, `pass`: the table, what it was made for, and what a thread steps with.
+//! - `meeting`: how a hub is made, and its passes are split, met and ended.
+//! - `steps`, `cells`: the three steps on a word, and those on cells and waits.
+//! - `found`, `looks`: what a caller finds at a place, and what the words tell.
+//! - `counting`, `placing`: whether a channel is full; a caller is placed where the channel ends.
+//! - `resolving`: the first receiver is handed an element, the first offer's element is taken.
+//! - `own_waits`: a coroutine looks at its own wait, withdraws it or settles it.
+//! - `ending`, `counters`: where a channel ends, and from where to look.
+//! - `laws`: what the words say.
+#![tactic(auto)]
+
+mod cell_word;
+mod cells;
+mod counters;
+mod counting;
+mod ending;
+mod found;
+mod hub;
+mod laws;
+mod layout;
+mod looks;
+mod meeting;
+mod own_waits;
+mod pass;
+mod placing;
+mod resolving;
+mod steps;
+mod wait_word;
+
+pub use cell_word::{CellState, CellWord};
+pub use cells::{kind_of, load_cell, places_of};
+pub use counters::{raise_receives, raise_sends, receives_from, sends_from};
+pub use ending::{close_at, end_at};
+pub use found::{At, End, Holder, Tried, Waiter};
+pub use hub::{CellHistory, Hub, HubTable};
+pub use laws::{
+    a_hub_has_one_history, cells_and_waits_tell_who_stands, two_words_have_two_numbers,
+};
+pub use layout::Layout;
+pub use own_waits::{look_at, settle_at, withdraw_at};
+pub use pass::Pass;
+pub use placing::{await_at, offer_at, try_await_at, try_offer_at};
+pub use resolving::{hand, take, take_admitted, take_kept};
+pub use wait_word::{ResolvedBy, WaitWord};

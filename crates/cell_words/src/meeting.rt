@@ -1,0 +1,141 @@
+//! How a hub is made, and its passes are split, met and ended.
+ghost use Rattle.std.specs.Prelude.{◌≡◌, ◌<◌, ◌≤◌, IfOk, length, true, false, [], ◌∷◌};
+ghost use Rattle.channel_model.specs.Channels.{IsShape, places_at};
+ghost use Rattle.worded.specs.Views.{has_tag, first_view};
+ghost use Rattle.worded.specs.Histories.{entries_of};
+ghost use Rattle.cell_words.specs.Words.{cells_in};
+ghost use Rattle.cell_words.specs.Sizes.{AreFirsts};
+ghost use Rattle.cell_words.specs.Seen.{maker};
+ghost use Rattle.cell_words.specs.Hubs.{shape_of, seen_by, IsOf, IsOwn, GivesTags, NothingUngiven};
+ghost use Rattle.cell_words.specs.Meetings.{MeetAnswer, EndAnswer};
+
+use crate::hub::{CellHistory, Hub};
+use crate::layout::Layout;
+use crate::pass::Pass;
+use channel_model::{Entry, Kind};
+use co_base::{Memory, Tag};
+use std::alloc::{AllocError, Global};
+use std::collections::LinkedList;
+use worded::{end, meet, new_history, split};
+
+fn places_in(kinds: &[(Kind, u32)], i: usize) -> u32
+    requires { i < length kinds.now }
+    ensures { result ≡ places_at kinds.now i }
+{
+    kinds[i].1
+}
+
+/// The number of the first cell of each channel.
+fn first_cells(alloc: Global, kinds: &[(Kind, u32)]) -> Result<Vec<u32>, AllocError>
+    requires few { cells_in kinds.now < 8388608 }
+    ensures { IfOk result (λ v. AreFirsts kinds.now (length kinds.now) v.items) }
+{
+    let mut firsts = Vec::with_capacity(alloc, kinds.len())?;
+    let mut next = 0;
+    for i in 0..kinds.len() {
+        firsts.push(next)?;
+        next += places_in(kinds, i) + 1;
+    }
+    Ok(firsts)
+}
+
+/// How many cells all channels have.
+fn count_cells(kinds: &[(Kind, u32)]) -> u32
+    requires few { cells_in kinds.now < 8388608 }
+    ensures { result ≡ cells_in kinds.now }
+{
+    let mut cells = 0;
+    for i in 0..kinds.len() {
+        cells += places_in(kinds, i) + 1;
+    }
+    cells
+}
+
+fn layout_of(alloc: Global, kinds: &[(Kind, u32)]) -> Result<Layout, AllocError>
+    ensures { IfOk result (λ layout. layout.kinds ≡ kinds.now) }
+{
+    let mut list = LinkedList::new(alloc);
+    for i in 0..kinds.len() {
+        list.push_back(kinds[i])?;
+    }
+    Ok(Layout { kinds: list })
+}
+
+impl Hub {
+    /// A hub of channels of these kinds, with so many places, and the pass of tag 0, which gives out the other tags.
+    pub fn new(alloc: Global, kinds: &[(Kind, u32)]) -> Result<(Hub, Pass), Memory>
+        requires channels { length kinds.now ≤ 65536 }
+        requires shape { IsShape kinds.now }
+        requires few { cells_in kinds.now < 8388608 }
+        ensures shape { IfOk result (λ r. shape_of r.0 ≡ kinds.now) }
+        ensures own { IfOk result (λ r. IsOwn r.0 r.1 0) }
+        ensures gives { IfOk result (λ r. GivesTags (0 ∷ []) r.1) }
+        ensures seen { IfOk result (λ r. (seen_by r.1).seen ≡ []) }
+    {
+        let layout = layout_of(alloc, kinds)?;
+        let firsts = first_cells(alloc, kinds)?;
+        let cells = count_cells(kinds);
+        let words = Vec::from_elem(alloc, 0u64, 2 * cells as usize + 2 * kinds.len() + 1)?;
+        let (table, seat) = new_history::<Entry, Layout, CellHistory, Global>(
+            alloc,
+            words.as_slice(),
+            &layout,
+        )?;
+        let kinds = Vec::from_slice(alloc, kinds)?;
+        Ok((
+            Hub {
+                table,
+                kinds,
+                firsts,
+                cells,
+            },
+            Pass { seat },
+        ))
+    }
+
+    /// A pass of a tag that was not given out before. It has seen what the first pass has seen, and has no entry.
+    pub fn split(&self, pass: &mut Pass, tag: Tag) -> Pass
+        requires of { IsOf self.now pass.old }
+        requires new { ((seen_by pass.old).chief ≡ true) × (has_tag tag (seen_by pass.old).given ≡ false) }
+        ensures of { IsOf self.now pass.new }
+        ensures same { (seen_by pass.new).seen ≡ (seen_by pass.old).seen }
+        ensures tags { (seen_by pass.new).tags ≡ (seen_by pass.old).tags }
+        ensures gives { GivesTags (tag ∷ (seen_by pass.old).given) pass.new }
+        ensures own { IsOwn self.now result tag }
+        ensures callers { (seen_by result).tags ≡ tag ∷ [] }
+        ensures sees { (seen_by result).seen ≡ (seen_by pass.old).seen }
+        ensures none { entries_of maker tag (seen_by result).seen ≡ [] }
+    {
+        let seat = split::<Entry, Layout, CellHistory>(
+            &self.table.shared,
+            &mut pass.seat,
+            tag as u64,
+        );
+        Pass { seat }
+    }
+
+    /// Afterwards `a` has seen all that `b` had seen.
+    pub fn meet(&self, a: &mut Pass, b: &mut Pass)
+        requires a { IsOf self.now a.old }
+        requires b { IsOf self.now b.old }
+        ensures a { IsOf self.now a.new }
+        ensures b { IsOf self.now b.new }
+        ensures met { MeetAnswer (seen_by a.old) (seen_by b.old) (seen_by a.new) }
+        ensures none { NothingUngiven a.new }
+        ensures same { seen_by b.new ≡ seen_by b.old }
+    {
+        meet::<Entry, Layout, CellHistory>(&self.table.shared, &mut a.seat, &mut b.seat)
+    }
+
+    /// `main` takes in what another pass has seen, and its callers.
+    pub fn end(&self, main: &mut Pass, pass: Pass)
+        requires main { IsOf self.now main.old }
+        requires pass { IsOf self.now pass }
+        ensures main { IsOf self.now main.new }
+        ensures ended { EndAnswer (seen_by main.old) (seen_by pass) (seen_by main.new) }
+        ensures none { NothingUngiven main.new }
+    {
+        let Pass { seat } = pass;
+        end::<Entry, Layout, CellHistory>(&self.table.shared, &mut main.seat, seat)
+    }
+}

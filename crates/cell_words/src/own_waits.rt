@@ -1,0 +1,108 @@
+//! What a coroutine does with its own wait: it looks, takes it back, or settles it.
+ghost use Rattle.std.specs.Prelude.{◌≡◌, Some};
+ghost use Rattle.channel_model.specs.declared.acts.Act.TheVariants.{Settle};
+ghost use Rattle.channel_model.specs.Histories.{replay};
+ghost use Rattle.channel_model.specs.Answers.{IsOwnWait, IsReadyWait, outcome_at, state_of_wait};
+ghost use Rattle.cell_words.specs.Cells.{spot};
+ghost use Rattle.cell_words.specs.Words.{IsCell};
+ghost use Rattle.cell_words.specs.Hubs.{shape_of, seen_by, IsOwn};
+ghost use Rattle.cell_words.specs.Seen.{Sees, Makes};
+ghost use Rattle.cell_words.specs.Answers.{WithdrawAt};
+
+use crate::cells::{exchange_wait, load_wait, number_of};
+use crate::hub::Hub;
+use crate::looks::{
+    is_cancelled_end, resolution_found, standing_wait, state_found, withdrawn_wait,
+};
+use crate::pass::Pass;
+use crate::wait_word::WaitWord;
+use channel_model::{Act, Entry, Settled, WaitState, Why, outcome};
+use co_base::{ChannelId, Place, Tag, WaitId};
+
+/// How far the own wait is that began at this place.
+pub fn look_at(hub: &Hub, pass: &mut Pass, who: Tag, c: ChannelId, place: Place) -> WaitState
+    requires own { IsOwn hub.now pass.old who }
+    requires at { IsCell (shape_of hub.now) c place }
+    requires mine { IsOwnWait who ((replay (seen_by pass.old).seen).waits (spot c place)) }
+    ensures own { IsOwn hub.now pass.new who }
+    ensures sees { Sees (seen_by pass.old) (seen_by pass.new) }
+    ensures state { state_of_wait ((replay (seen_by pass.new).seen).waits (spot c place)) ≡ Some result }
+{
+    let cell = number_of(hub, c, place);
+    let word = load_wait(hub, pass, who, cell);
+    state_found(word)
+}
+
+/// Takes the own wait back, unless it was resolved.
+pub fn withdraw_at(
+    hub: &Hub,
+    pass: &mut Pass,
+    who: Tag,
+    c: ChannelId,
+    place: Place,
+    why: Why,
+) -> bool
+    requires own { IsOwn hub.now pass.old who }
+    requires at { IsCell (shape_of hub.now) c place }
+    requires mine { IsOwnWait who ((replay (seen_by pass.old).seen).waits (spot c place)) }
+    ensures own { IsOwn hub.now pass.new who }
+    ensures done { WithdrawAt who (spot c place) why (seen_by pass.old) (seen_by pass.new) result }
+{
+    let w = WaitId { channel: c, place };
+    let entry = Entry {
+        who,
+        act: Act::Withdraw { w, why },
+    };
+    let cell = number_of(hub, c, place);
+    match exchange_wait(
+        hub,
+        pass,
+        who,
+        cell,
+        standing_wait(),
+        withdrawn_wait(why),
+        &entry,
+    ) {
+        None => true,
+        Some(_) => false,
+    }
+}
+
+/// Settles the own wait, which was resolved.
+pub fn settle_at(
+    hub: &Hub,
+    pass: &mut Pass,
+    who: Tag,
+    c: ChannelId,
+    place: Place,
+    cancelled: bool,
+) -> Settled
+    requires own { IsOwn hub.now pass.old who }
+    requires at { IsCell (shape_of hub.now) c place }
+    requires ready { IsReadyWait who ((replay (seen_by pass.old).seen).waits (spot c place)) }
+    ensures own { IsOwn hub.now pass.new who }
+    ensures settled { Makes (seen_by pass.old) (record { who = who; act = Settle (spot c place) result }) (seen_by pass.new) }
+    ensures outcome { outcome_at cancelled ((replay (seen_by pass.old).seen).waits (spot c place)) ≡ Some result }
+{
+    let cell = number_of(hub, c, place);
+    let old = load_wait(hub, pass, who, cell);
+    let settled = outcome(resolution_found(old), cancelled);
+    let w = WaitId { channel: c, place };
+    let entry = Entry {
+        who,
+        act: Act::Settle {
+            w,
+            outcome: settled,
+        },
+    };
+    let new = WaitWord {
+        by: old.by,
+        clause: old.clause,
+        settled: true,
+        cancelled: is_cancelled_end(settled),
+        value: old.value,
+    };
+    // Nobody else settles the wait, so the exchange goes through.
+    exchange_wait(hub, pass, who, cell, old, new, &entry);
+    settled
+}

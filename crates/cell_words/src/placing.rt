@@ -1,0 +1,175 @@
+//! A caller is placed where the channel ends, by an exchange of the free cell there; or it sees what is at the place.
+ghost use Rattle.std.specs.Prelude.{◌≡◌, ◌≢◌, ◌<◌, false, true, length};
+ghost use Rattle.channel_model.specs.Channels.{kind_at, places_at, is_signal, suspends, is_full};
+ghost use Rattle.channel_model.specs.Laws.{NoneBelow};
+ghost use Rattle.cell_words.specs.declared.found.At.TheVariants as at;
+ghost use Rattle.cell_words.specs.Cells.{gather};
+ghost use Rattle.cell_words.specs.Words.{IsCell};
+ghost use Rattle.cell_words.specs.Hubs.{shape_of, seen_by, IsOwn};
+ghost use Rattle.cell_words.specs.Seen.{Sees, at_channel};
+ghost use Rattle.cell_words.specs.Answers.{stands, OfferAt, WholeOfferAt, TriedOfferAt, ReceiveAt, TriedReceiveAt};
+
+use crate::cell_word::CellState;
+use crate::cells::{exchange_cell, load_cell, places_of};
+use crate::counting::has_room;
+use crate::found::At;
+use crate::hub::Hub;
+use crate::looks::{found_by_receiver, found_by_sender, free_cell, is_used, own_cell, plain_cell};
+use crate::pass::Pass;
+use channel_model::{Act, Entry};
+use co_base::{ChannelId, Place, Tag, Value, WaitId};
+
+// Places an offer that waits.
+fn hold_at(hub: &Hub, pass: &mut Pass, who: Tag, c: ChannelId, place: Place, value: Value) -> At
+    requires own { IsOwn hub.now pass.old who }
+    requires at { (c < length (shape_of hub.now)) × (place < places_at (shape_of hub.now) c) }
+    requires kind { suspends (kind_at (shape_of hub.now) c) ≡ true }
+    requires low { NoneBelow place 0 (at_channel (seen_by pass.old).seen c) }
+    ensures own { IsOwn hub.now pass.new who }
+    ensures at { OfferAt (shape_of hub.now) who c place value (seen_by pass.old) (seen_by pass.new) result }
+{
+    let main = WaitId { channel: c, place };
+    let entry = Entry {
+        who,
+        act: Act::Offer {
+            c,
+            place,
+            value,
+            main,
+            clause: 0,
+        },
+    };
+    let new = own_cell(CellState::Offer, who, value);
+    match exchange_cell(hub, pass, who, c, place, free_cell(), new, &entry) {
+        None => At::Placed,
+        Some(found) => found_by_sender(found),
+    }
+}
+
+// Puts an element that needs no receiver.
+fn put_at(hub: &Hub, pass: &mut Pass, who: Tag, c: ChannelId, place: Place, value: Value) -> At
+    requires own { IsOwn hub.now pass.old who }
+    requires at { (c < length (shape_of hub.now)) × (place < places_at (shape_of hub.now) c) }
+    requires low { NoneBelow place 0 (at_channel (seen_by pass.old).seen c) }
+    requires room { is_full (kind_at (shape_of hub.now) c) (length (gather (stands (seen_by pass.old).seen c) place)) ≡ false }
+    ensures own { IsOwn hub.now pass.new who }
+    ensures at { OfferAt (shape_of hub.now) who c place value (seen_by pass.old) (seen_by pass.new) result }
+    ensures not_held { result ≢ at.Placed }
+{
+    let entry = Entry {
+        who,
+        act: Act::Put { c, place, value },
+    };
+    let new = plain_cell(CellState::Buffered, value);
+    match exchange_cell(hub, pass, who, c, place, free_cell(), new, &entry) {
+        None => At::Put,
+        Some(found) => found_by_sender(found),
+    }
+}
+
+/// Puts an element where the channel ends, or places an offer there where the channel was full.
+pub fn offer_at(
+    hub: &Hub,
+    pass: &mut Pass,
+    who: Tag,
+    c: ChannelId,
+    place: Place,
+    value: Value,
+) -> At
+    requires own { IsOwn hub.now pass.old who }
+    requires at { IsCell (shape_of hub.now) c place }
+    requires kind { is_signal (kind_at (shape_of hub.now) c) ≡ false }
+    requires low { NoneBelow place 0 (at_channel (seen_by pass.old).seen c) }
+    ensures own { IsOwn hub.now pass.new who }
+    ensures at { WholeOfferAt (shape_of hub.now) who c place value (seen_by pass.old) (seen_by pass.new) result }
+{
+    let word = load_cell(hub, pass, who, c, place);
+    if is_used(word) {
+        return found_by_sender(word);
+    }
+    if place == places_of(hub, c) {
+        return At::Spent;
+    }
+    if has_room(hub, pass, who, c, place) {
+        put_at(hub, pass, who, c, place, value)
+    } else {
+        hold_at(hub, pass, who, c, place, value)
+    }
+}
+
+/// Puts an element where the channel ends, and does not wait.
+pub fn try_offer_at(
+    hub: &Hub,
+    pass: &mut Pass,
+    who: Tag,
+    c: ChannelId,
+    place: Place,
+    value: Value,
+) -> At
+    requires own { IsOwn hub.now pass.old who }
+    requires at { IsCell (shape_of hub.now) c place }
+    requires kind { is_signal (kind_at (shape_of hub.now) c) ≡ false }
+    requires low { NoneBelow place 0 (at_channel (seen_by pass.old).seen c) }
+    ensures own { IsOwn hub.now pass.new who }
+    ensures at { TriedOfferAt (shape_of hub.now) who c place value (seen_by pass.old) (seen_by pass.new) result }
+{
+    let word = load_cell(hub, pass, who, c, place);
+    if is_used(word) {
+        return found_by_sender(word);
+    }
+    if place == places_of(hub, c) {
+        return At::Spent;
+    }
+    if has_room(hub, pass, who, c, place) {
+        put_at(hub, pass, who, c, place, value)
+    } else {
+        At::Open
+    }
+}
+
+/// What is at a place, for one who receives and does not wait.
+pub fn try_await_at(hub: &Hub, pass: &mut Pass, who: Tag, c: ChannelId, place: Place) -> At
+    requires own { IsOwn hub.now pass.old who }
+    requires at { IsCell (shape_of hub.now) c place }
+    requires low { NoneBelow 0 place (at_channel (seen_by pass.old).seen c) }
+    ensures own { IsOwn hub.now pass.new who }
+    ensures at { TriedReceiveAt (shape_of hub.now) who c place (seen_by pass.old) (seen_by pass.new) result }
+{
+    let word = load_cell(hub, pass, who, c, place);
+    if is_used(word) {
+        return found_by_receiver(word);
+    }
+    At::Open
+}
+
+/// Places a receiver where the channel ends.
+pub fn await_at(hub: &Hub, pass: &mut Pass, who: Tag, c: ChannelId, place: Place) -> At
+    requires own { IsOwn hub.now pass.old who }
+    requires at { IsCell (shape_of hub.now) c place }
+    requires low { NoneBelow 0 place (at_channel (seen_by pass.old).seen c) }
+    ensures own { IsOwn hub.now pass.new who }
+    ensures at { ReceiveAt (shape_of hub.now) who c place (seen_by pass.old) (seen_by pass.new) result }
+{
+    let word = load_cell(hub, pass, who, c, place);
+    if is_used(word) {
+        return found_by_receiver(word);
+    }
+    if place == places_of(hub, c) {
+        return At::Spent;
+    }
+    let main = WaitId { channel: c, place };
+    let entry = Entry {
+        who,
+        act: Act::Await {
+            c,
+            place,
+            main,
+            clause: 0,
+        },
+    };
+    let new = own_cell(CellState::Receiver, who, 0);
+    match exchange_cell(hub, pass, who, c, place, free_cell(), new, &entry) {
+        None => At::Placed,
+        Some(found) => found_by_receiver(found),
+    }
+}
