@@ -59,6 +59,7 @@ mod verbs;
 mod words;
 
 pub use generator::generate;
+pub use place::value_of;
 pub use printer::print;
 pub use reader::read;
 pub use script::{Channel, Coroutine, Script, Spawn};

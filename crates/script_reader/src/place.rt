@@ -47,8 +47,8 @@ fn well_written(word: &[u8]) -> bool
     }
 }
 
-/// The value of a number, if it is written as one and fits 32 bits.
-fn value_of(word: &[u8]) -> Option<u32>
+/// The value of a decimal number, if it is written as one: digits alone, no leading zero but in `0`, and at most 4,294,967,295.
+pub fn value_of(word: &[u8]) -> Option<u32>
     ensures { result ≡ value_at word.now }
 {
     if !well_written(word) {
