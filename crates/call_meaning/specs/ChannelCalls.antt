@@ -2,18 +2,20 @@
 use Rattle.std.specs.Prelude.{◌≡◌, ℕ, ◌+◌, Bool, true, false, List, [], ◌∷◌, ◌++◌, map}
 use Rattle.co_base.specs.declared.names.WaitId.{WaitId}
 use Rattle.channel_model.specs.declared.acts.Act.TheVariants.{Hand, Put, Offer, Await, Take, Admit, Drop, Close, Void, Drain, WakeClosed, Withdraw, Settle}
-use Rattle.channel_model.specs.declared.acts.Kind.{Kind}
-use Rattle.channel_model.specs.declared.acts.Kind.TheVariants.{Buffered}
 use Rattle.channel_model.specs.declared.acts.Why.TheVariants as why
+use Rattle.channel_model.specs.declared.acts.Settled.{Settled}
 use Rattle.channel_model.specs.declared.acts.Settled.TheVariants as settled
 use Rattle.channel_model.specs.declared.acts.ChannelNote.TheVariants.{SendClosed, TrySendClosed, ReceiveClosed, TryReceiveClosed, AlreadyClosed, Full, Empty, Spent, Partner, MainResolved, Late}
-use Rattle.channel_model.specs.Channels.{Shape, kind_at}
 use Rattle.call_meaning.specs.Telling.{Told, on_channels, WasFull, SpentForOffers, SpentForReceives, ReceiverAt, OfferAt, NextIs, NoneToAdmit, FitsUpTo, NoReceiver, IsVoided, NothingQueued, TakenBack, made, heard}
 
 -- what is asked of a channel: to send it an element, or to receive from it
 pub data Call : Type 0 where
   sends : (c v : ℕ) → Call
   receives : (c : ℕ) → Call
+
+abbrev pub channel_of : Call → ℕ
+channel_of (sends c v) = c
+channel_of (receives c) = c
 
 -- it is done, and nothing was received; an element was received; a receive met a channel closed with v; it waits; the
 -- channel has no place left; a select has to look again
@@ -97,31 +99,26 @@ spent (receives c) = on_channels (SpentForReceives c) ∷ heard (Spent c) ∷ []
 
 -- ---- the calls
 
-abbrev pub is_buffered : Kind → Bool
-is_buffered (Buffered k) = true
-is_buffered other = false
-
--- how a send ends whose own offer was taken or kept, or on a buffered channel removed with it, before it answered
-pub data EndsAtOnce (kind : Kind) (w : WaitId) : List Told → Type 0 where
-  sent : EndsAtOnce kind w (made (Settle w (settled.Sent 0)) ∷ [])
-  voided : is_buffered kind ≡ true
-      → EndsAtOnce kind w (on_channels (TakenBack w) ∷ made (Settle w settled.Cancelled) ∷ [])
+-- how a send ends whose own offer was taken or kept, or removed with its channel, before it answered
+pub data EndsAtOnce (w : WaitId) : List Told → Type 0 where
+  sent : EndsAtOnce w (made (Settle w (settled.Sent 0)) ∷ [])
+  voided : EndsAtOnce w (on_channels (TakenBack w) ∷ made (Settle w settled.Cancelled) ∷ [])
 
 -- an offer at place q of a channel that keeps no more, with a wait of its own
 abbrev pub offer_told : ℕ → ℕ → ℕ → List Told → List Told
 offer_told c v q admits = on_channels (WasFull c) ∷ made (Offer c q v (wait_at c q) 0) ∷ admits
 
 -- `send` and `receive`
-pub data PlainCall (shape : Shape) : Call → List Told → Answer → Type 0 where
-  at_once : (call : Call) (group : List Told) (a : Answer) → AtOnce call group a → PlainCall shape call group a
-  refused : (call : Call) (told : Told) (a : Answer) → Refused call told a → PlainCall shape call (told ∷ []) a
-  no_place : (call : Call) (all : List Told) → all ≡ spent call → PlainCall shape call all NoPlace
+pub data PlainCall : Call → List Told → Answer → Type 0 where
+  at_once : (call : Call) (group : List Told) (a : Answer) → AtOnce call group a → PlainCall call group a
+  refused : (call : Call) (told : Told) (a : Answer) → Refused call told a → PlainCall call (told ∷ []) a
+  no_place : (call : Call) (all : List Told) → all ≡ spent call → PlainCall call all NoPlace
   offers : (c v q : ℕ) (admits : List Told) → Admits c admits
-      → PlainCall shape (sends c v) (offer_told c v q admits) (Waits (wait_at c q))
+      → PlainCall (sends c v) (offer_told c v q admits) (Waits (wait_at c q))
   offer_ends : (c v q : ℕ) (admits settles all : List Told) → Admits c admits
-      → EndsAtOnce (kind_at shape c) (wait_at c q) settles → all ≡ offer_told c v q admits ++ settles
-      → PlainCall shape (sends c v) all Done
-  awaits : (c q : ℕ) → PlainCall shape (receives c) (made (Await c q (wait_at c q) 0) ∷ []) (Waits (wait_at c q))
+      → EndsAtOnce (wait_at c q) settles → all ≡ offer_told c v q admits ++ settles
+      → PlainCall (sends c v) all Done
+  awaits : (c q : ℕ) → PlainCall (receives c) (made (Await c q (wait_at c q) 0) ∷ []) (Waits (wait_at c q))
 
 -- `trysend` and `tryreceive`
 pub data TryCall : Call → List Told → Answer → Type 0 where
@@ -186,9 +183,9 @@ pub data SelectCall (clauses : List Call) : List Told → Answer → Type 0 wher
   -- all are blocked, and each is placed
   waits : (w : WaitId) (group admits all : List Told) → PlacesFirst w clauses group → AdmitsIn clauses admits
       → all ≡ map blocked clauses ++ (group ++ admits) → SelectCall clauses all (Waits w)
-  -- or some are, until the wait is resolved
-  resolved : (w : WaitId) (before later : List Call) (group admits all : List Told) → clauses ≡ before ++ later
-      → PlacesFirst w before group → AdmitsIn before admits
+  -- or some are, and at the next one the wait is resolved
+  resolved : (w : WaitId) (before later : List Call) (call : Call) (group admits all : List Told)
+      → clauses ≡ before ++ call ∷ later → PlacesFirst w before group → AdmitsIn before admits
       → all ≡ map blocked clauses ++ (group ++ heard (MainResolved w) ∷ admits) → SelectCall clauses all (Waits w)
   -- or the first one is not blocked any more
   stops_at_first : (later : List Call) (call : Call) (stop all : List Told) (a : Answer) → clauses ≡ call ∷ later
@@ -203,6 +200,14 @@ pub data SelectCall (clauses : List Call) : List Told → Answer → Type 0 wher
       → all ≡ map blocked clauses ++ (group ++ stop ++ heard (Late w) ∷ admits) → SelectCall clauses all (Waits w)
 
 -- ---- the end of a wait
+
+-- a wait that ends so has no answer for its line: it ends as cancelled, or with an element that is given up
+abbrev pub is_given_up : Settled → Bool
+is_given_up (settled.Value k v) = false
+is_given_up (settled.Sent k) = false
+is_given_up (settled.Closed k v) = false
+is_given_up settled.Cancelled = true
+is_given_up (settled.Undelivered v) = true
 
 -- how a wait is ended that meets a cancellation
 pub data GivesUp (w : WaitId) : List Told → Type 0 where

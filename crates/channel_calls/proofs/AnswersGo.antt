@@ -5,19 +5,17 @@ use Rattle.channel_model.specs.declared.acts.Act.TheVariants.{Settle}
 use Rattle.channel_model.specs.declared.acts.Settled.{Settled}
 use Rattle.channel_model.specs.declared.acts.Settled.TheVariants as settled
 use Rattle.channel_model.specs.declared.acts.ChannelNote.TheVariants.{SendClosed, Late}
-use Rattle.channel_model.specs.Channels.{Shape}
 use Rattle.call_meaning.specs.Telling.{Told, made, heard}
-use Rattle.call_meaning.specs.ChannelCalls.{Done, sends, Closes, CancelsChannel, EndsAtOnce, PlainCall, Refused, Admits, GivesUp}
-use Rattle.channel_calls.specs.Groups.{is_cancelled_end}
+use Rattle.call_meaning.specs.ChannelCalls.{Done, sends, Closes, CancelsChannel, EndsAtOnce, PlainCall, Refused, Admits, GivesUp, is_given_up}
 use Rattle.channel_calls.specs.Calls.{IsSent, IsUnsent, ClosesBy, CancelsBy, TakesBack}
 
-pub sent_goes : (shape : Shape) (c v : ℕ) (told : List Told) → IsSent c v told → PlainCall shape (sends c v) told Done
-sent_goes shape c v _ (IsSent.at_once group h) = PlainCall.at_once (sends c v) group Done h
-sent_goes shape c v _ (IsSent.offered q admits all h is) = PlainCall.offer_ends c v q admits _ all h EndsAtOnce.sent is
+pub sent_goes : (c v : ℕ) (told : List Told) → IsSent c v told → PlainCall (sends c v) told Done
+sent_goes c v _ (IsSent.at_once group h) = PlainCall.at_once (sends c v) group Done h
+sent_goes c v _ (IsSent.offered q admits all h is) = PlainCall.offer_ends c v q admits _ all h EndsAtOnce.sent is
 
-pub unsent_goes : (shape : Shape) (c v x : ℕ) (told : List Told) → IsUnsent shape c v x told → PlainCall shape (sends c v) told Done
-unsent_goes shape c v x _ IsUnsent.refused = PlainCall.refused (sends c v) (heard (SendClosed c v x)) Done (Refused.send c v x)
-unsent_goes shape c v x _ (IsUnsent.voided q admits all kind h is) = PlainCall.offer_ends c v q admits _ all h (EndsAtOnce.voided kind) is
+pub unsent_goes : (c v x : ℕ) (told : List Told) → IsUnsent c v x told → PlainCall (sends c v) told Done
+unsent_goes c v x _ IsUnsent.refused = PlainCall.refused (sends c v) (heard (SendClosed c v x)) Done (Refused.send c v x)
+unsent_goes c v x _ (IsUnsent.voided q admits all h is) = PlainCall.offer_ends c v q admits _ all h EndsAtOnce.voided is
 
 pub closes_goes : (c v : ℕ) (first : Bool) (told : List Told) → ClosesBy c v first told → Closes c v told
 closes_goes c v _ _ (ClosesBy.now wakes h) = Closes.now wakes h
@@ -27,7 +25,7 @@ pub cancels_goes : (c : ℕ) (first : Bool) (told : List Told) → CancelsBy c f
 cancels_goes c _ _ (CancelsBy.now closes drains all h k is) = CancelsChannel.now closes drains all h k is
 cancels_goes c _ _ (CancelsBy.before closes drains all h k is) = CancelsChannel.before closes drains all h k is
 
-late_goes : (w : WaitId) (outcome : Settled) (admits : List Told) → is_cancelled_end outcome ≡ true → Admits w.channel admits → GivesUp w (heard (Late w) ∷ made (Settle w outcome) ∷ admits)
+late_goes : (w : WaitId) (outcome : Settled) (admits : List Told) → is_given_up outcome ≡ true → Admits w.channel admits → GivesUp w (heard (Late w) ∷ made (Settle w outcome) ∷ admits)
 late_goes w (settled.Value n v) admits e h = cc
 late_goes w (settled.Sent n) admits e h = cc
 late_goes w (settled.Closed n v) admits e h = cc

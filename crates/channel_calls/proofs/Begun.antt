@@ -1,5 +1,5 @@
 -- A send or a receive that waits has begun a wait that stands.
-use Rattle.std.specs.Prelude.{◌≡◌, ℕ, List, [], ◌∷◌, ◌++◌, Some, None, refl}
+use Rattle.std.specs.Prelude.{◌≡◌, ℕ, List, [], ◌∷◌, ◌++◌, None, refl}
 use Rattle.std.proofs.Common.{sym, ap, ◌∙◌, subst, arith}
 use Rattle.channel_model.specs.declared.acts.Act.{Act}
 use Rattle.channel_model.specs.declared.acts.Act.TheVariants.{Offer, Await}
@@ -15,7 +15,6 @@ use Rattle.channel_model.proofs.Placed.{replay_placed}
 use Rattle.channel_model.proofs.Spans.{prefix_self}
 use Rattle.channel_model.proofs.Waits.{at_wait}
 use Rattle.channel_model.specs.PlainOffers.{OffersPlainly}
-use Rattle.channel_model.specs.declared.floor.WaitState.TheVariants as state
 use Rattle.channel_model.proofs.PlainOffers.{offered_plain}
 use Rattle.call_meaning.specs.ChannelCalls.{wait_at}
 use Rattle.channel_calls.specs.Calls.{IsLeftWaiting}
@@ -49,12 +48,7 @@ left_waiting who c p acts a d added is = record {
   holds = subst (IsUnsettledOf who) (sym is) (refl, refl);
 }
 
--- a plain offer that was just made stands
-pub offer_stands : (who c p v : ℕ) (b d : Floor) → Legal d.shape d.seen → Made who (Offer c p v (wait_at c p) 0) b d → state_of_wait ((replay d.seen).waits (wait_at c p)) ≡ Some state.Standing
-offer_stands who c p v b d l m =
-    let r = last_legal d.shape m.before d.seen (record { who = who; act = Offer c p v (wait_at c p) 0 }) m.last l in
-    ap state_of_wait (begun who c p m.before d.seen d.shape (Offer c p v (wait_at c p) 0) r.0 r.1.1.first m.last refl)
-
+-- a plain offer that was just made is one
 pub offer_plain : (who c p v : ℕ) (b d : Floor) → Legal d.shape d.seen → Made who (Offer c p v (wait_at c p) 0) b d → OffersPlainly who (wait_at c p) (replay d.seen)
 offer_plain who c p v b d l m =
     let last : Entry = record { who = who; act = Offer c p v (wait_at c p) 0 } in

@@ -26,9 +26,9 @@ use Rattle.note_book.specs.declared.book.Item.TheVariants as item
 use Rattle.call_meaning.specs.Telling.{Told, TakenBack, made, heard}
 use Rattle.call_meaning.specs.Facts.{ActHolds, IsTakenBack, is_taken_back}
 use Rattle.call_meaning.specs.Calls.{ToldOnChannels}
-use Rattle.call_meaning.specs.ChannelCalls.{Admits, GivesUp}
+use Rattle.call_meaning.specs.ChannelCalls.{Admits, GivesUp, is_given_up}
 use Rattle.call_meaning.proofs.ChannelsHeard.{told_then, told_roomed, told_made, told_made_after, told_met, moment_before}
-use Rattle.channel_calls.specs.Groups.{made_note, settle_group, is_cancelled_end}
+use Rattle.channel_calls.specs.Groups.{made_note, settle_group}
 use Rattle.channel_calls.specs.Calls.{Tells, HoldsWait, DispatchedAnswer, CancelledAnswer, AdmittedAnswer, TakesBack, end_told}
 use Rattle.channel_calls.specs.Parts.{EndsCancelled, EndedCancelledAnswer}
 use Rattle.channel_calls.proofs.Roomed.{holds_roomed}
@@ -115,7 +115,7 @@ resolved_ready : (who : ℕ) (x : Option Wait) → IsUnsettledOf who x → IsRes
 resolved_ready who None h k = h
 resolved_ready who (Some x) h k = (h.0, k, h.1)
 
-cancelled_outcome : (how : Resolution) → is_cancelled_end (outcome_of how true) ≡ true
+cancelled_outcome : (how : Resolution) → is_given_up (outcome_of how true) ≡ true
 cancelled_outcome (resolved.Handed k v) = refl
 cancelled_outcome (resolved.Taken k) = refl
 cancelled_outcome (resolved.Admitted k) = refl
@@ -123,11 +123,11 @@ cancelled_outcome (resolved.Closed k v) = refl
 cancelled_outcome (resolved.Withdrawn why) = refl
 cancelled_outcome resolved.Voided = refl
 
-some_cancelled : (how : Option Resolution) (outcome : Settled) → outcome_of_some true how ≡ Some outcome → is_cancelled_end outcome ≡ true
+some_cancelled : (how : Option Resolution) (outcome : Settled) → outcome_of_some true how ≡ Some outcome → is_given_up outcome ≡ true
 some_cancelled None outcome e = cc
-some_cancelled (Some how) outcome e = let k : outcome_of how true ≡ outcome = cc in ap is_cancelled_end (sym k) ∙ cancelled_outcome how
+some_cancelled (Some how) outcome e = let k : outcome_of how true ≡ outcome = cc in ap is_given_up (sym k) ∙ cancelled_outcome how
 
-wait_cancelled : (x : Option Wait) (outcome : Settled) → outcome_at true x ≡ Some outcome → is_cancelled_end outcome ≡ true
+wait_cancelled : (x : Option Wait) (outcome : Settled) → outcome_at true x ≡ Some outcome → is_given_up outcome ≡ true
 wait_cancelled None outcome e = cc
 wait_cancelled (Some x) outcome e = some_cancelled x.resolved outcome e
 
@@ -165,7 +165,7 @@ taken_back who who' w outcome a b d i j k is h m' =
 
 -- ---- in the words of a coroutine that gives up
 
-end_gives_up : (w : WaitId) (outcome : Settled) → is_cancelled_end outcome ≡ true → GivesUp w (made (Settle w outcome) ∷ [])
+end_gives_up : (w : WaitId) (outcome : Settled) → is_given_up outcome ≡ true → GivesUp w (made (Settle w outcome) ∷ [])
 end_gives_up w (settled.Value n v) e = cc
 end_gives_up w (settled.Sent n) e = cc
 end_gives_up w (settled.Closed n v) e = cc

@@ -2,7 +2,7 @@
 use Rattle.std.specs.Prelude.{◌≡◌, ℕ, Bool, true, false, List, [], ◌∷◌, ◌++◌, map, Option, Some, None, is_some, Result, Ok, Err, refl}
 use Rattle.std.specs.List.{list_all}
 use mathlib.Core.List.{IsPrefix}
-use Rattle.std.proofs.Common.{sym, ap, ◌∙◌, subst, append_assoc}
+use Rattle.std.proofs.Common.{sym, ap, ◌∙◌, subst, arith}
 use Rattle.co_base.specs.declared.names.WaitId.{WaitId}
 use Rattle.co_base.specs.declared.names.Memory.{Memory}
 use Rattle.channel_model.specs.declared.acts.Act.TheVariants.{Admit, Close, Offer, Settle}
@@ -10,27 +10,27 @@ use Rattle.channel_model.specs.declared.acts.Entry.{Entry}
 use Rattle.channel_model.specs.declared.acts.Settled.TheVariants as settled
 use Rattle.channel_model.specs.declared.standing.Resolution.{Resolution}
 use Rattle.channel_model.specs.declared.floor.WaitState.TheVariants as state
-use Rattle.channel_model.specs.Channels.{Shape, State, Wait, kind_at}
+use Rattle.channel_model.specs.Channels.{State, Wait}
 use Rattle.channel_model.specs.Histories.{replay, acts_of, Legal}
 use Rattle.channel_model.specs.Floors.{Floor, HasRoom, Looked, Made, AtStep}
 use Rattle.channel_model.specs.Answers.{LookAnswer, SettleAnswer, ClosedWith, IsOwn, IsOwnWait, IsReady, IsReadyWait, IsUnsettledOf, IsSeenVoided, state_of_wait, state_of_parts}
 use Rattle.channel_model.specs.PlainOffers.{IsPlainOffer, OffersPlainly}
 use Rattle.channel_model.proofs.Histories.{Legal-prefix, Legal-last}
-use Rattle.channel_model.proofs.Spans.{nothing_more, prefix_self, prefix_then, added_made}
+use Rattle.channel_model.proofs.Spans.{nothing_more, prefix_then, added_made}
 use Rattle.channel_model.proofs.Others.{others_keep, between, ready_stays}
 use Rattle.channel_model.proofs.Lasts.{closed_lasts, voided_closed}
 use Rattle.channel_model.proofs.PlainOffers.{is_quiet, plain_lasts, ends_sent, ends_unclosed, ends_delivered, ends_voided}
 use Rattle.note_book.specs.declared.book.Item.{Item}
 use Rattle.note_book.specs.Items.{channel_acts_in}
 use Rattle.call_meaning.specs.Telling.{Told, on_channels, NextIs, NoneToAdmit, WasFull, TakenBack, items_in, made}
-use Rattle.call_meaning.specs.ChannelCalls.{is_buffered, Waits, sends, wait_at, Admits, PlainCall}
+use Rattle.call_meaning.specs.ChannelCalls.{Waits, sends, wait_at, Admits, PlainCall}
 use Rattle.call_meaning.specs.Calls.{ToldOnChannels}
 use Rattle.call_meaning.proofs.ChannelsHeard.{told_then, told_roomed}
 use Rattle.channel_calls.specs.declared.caller.SendAnswer.{SendAnswer}
 use Rattle.channel_calls.specs.declared.caller.SendAnswer.TheVariants as send
 use Rattle.channel_calls.specs.Groups.{settle_group}
-use Rattle.channel_calls.specs.Calls.{Tells, Goes, IsLeftWaiting, IsSent, IsUnsent, SentAnswer}
-use Rattle.channel_calls.specs.Parts.{AdmittedSomeAnswer, OwnOfferAnswer, AdmitsThen, HeldAnswer}
+use Rattle.channel_calls.specs.Calls.{Tells, Goes, HoldsWait, IsLeftWaiting, IsSeenWaiting, IsSent, IsUnsent, AdmittedAnswer, SentAnswer}
+use Rattle.channel_calls.specs.Parts.{OwnOfferAnswer, AdmitsThen, HeldAnswer}
 use Rattle.channel_calls.proofs.EndsTold.{end_is_told}
 use Rattle.channel_calls.proofs.OwnClause.{plain_sent}
 use Rattle.channel_calls.proofs.Untold.{told_looked, some_then}
@@ -113,20 +113,25 @@ never_open who who' n v w a b d e f l lf r h look s is m' =
 
 -- ---- the ends that come
 
+-- a look behind the room that was made
+looked_roomed : (who n : ℕ) (a b d : Floor) → HasRoom n a b → Looked who b d → Looked who a d
+looked_roomed who n a b d r h = record {
+  same = record { shape = h.same.shape ∙ r.same.shape; alone = h.same.alone ∙ r.same.alone; callers = h.same.callers ∙ r.same.callers };
+  longer = subst (λ es. IsPrefix es d.seen) r.seen h.longer;
+  mine = h.mine ∙ ap (acts_of who) r.seen;
+  alone = λ e. h.alone (r.same.alone ∙ e) ∙ r.seen;
+  spare = omega (arith, r.kept, h.spare);
+}
+
 pub still_waits : (who n : ℕ) (w : WaitId) (a b d : Floor) (i j : List Item) → Legal d.shape d.seen → HasRoom n a b → OffersPlainly who w (replay a.seen) → j ≡ i → LookAnswer who w b d state.Standing → OwnOfferAnswer who w a d i j (Ok (send.Waits w))
 still_waits who n w a b d i j l r h e look = (
   refl,
-  told_roomed who n a b d i j j [] r e (told_looked who b d j j look.0 refl),
-  record {
-    stood = record {
-      moment = look.1.moment;
-      after = subst (λ es. IsPrefix es look.1.moment) r.seen look.1.after;
-      before = look.1.before;
-      mine = (between who b.seen look.1.moment d.seen look.1.after look.1.before look.0.mine).0 ∙ ap (acts_of who) r.seen ∙ sym (nothing_more _);
-      holds = look.1.holds;
-    };
-    holds = unsettled who w.channel _ _ (after_look who n w a b d l r h look.0).wait;
-  },
+  e,
+  (
+    looked_roomed who n a b d r look.0,
+    record { moment = look.1.moment; after = subst (λ es. IsPrefix es look.1.moment) r.seen look.1.after; before = look.1.before; holds = look.1.holds },
+  ),
+  unsettled who w.channel _ _ (after_look who n w a b d l r h look.0).wait,
 )
 
 pub sent_settled : (who k n : ℕ) (w : WaitId) (a b d e : Floor) (i j l : List Item) → Legal d.shape d.seen → HasRoom n a b → OffersPlainly who w (replay a.seen) → j ≡ i → LookAnswer who w b d state.Resolved → SettleAnswer who w false d e (settled.Sent k) → l ≡ j ++ settle_group w (settled.Sent k)
@@ -164,58 +169,52 @@ told_acts : (c : ℕ) (told : List Told) → (h : Admits c told) → channel_act
 told_acts c told h = ap (λ l. channel_acts_in (items_in l)) h.all ∙ acts_admitted c h.mark h.places
 
 -- the own offer after the admits
-pub plain_admits : (who who' : ℕ) (w : WaitId) (some : Bool) (a b : Floor) (i j : List Item) → who' ≡ who → Legal b.shape b.seen → OffersPlainly who w (replay a.seen) → AdmittedSomeAnswer who w.channel a b i j (Ok some) → OffersPlainly who' w (replay b.seen)
-plain_admits who who' w some a b i j is l h m =
+pub plain_admits : (who who' : ℕ) (w : WaitId) (a b : Floor) (i j : List Item) → who' ≡ who → Legal b.shape b.seen → OffersPlainly who w (replay a.seen) → AdmittedAnswer who w.channel a b i j (Ok tt) → OffersPlainly who' w (replay b.seen)
+plain_admits who who' w a b i j is l h m =
     subst (λ x. OffersPlainly x w (replay b.seen)) (sym is)
-    (plain_lasts b.shape who w (channel_acts_in (items_in m.told)) a.seen b.seen l m.left.added.longer m.left.added.mine (ap (list_all is_quiet) (told_acts w.channel m.told m.goes.admits) ∙ admits_quiet w.channel m.goes.admits.places) h)
+    (plain_lasts b.shape who w (channel_acts_in (items_in m.told)) a.seen b.seen l m.left.added.longer m.left.added.mine (ap (list_all is_quiet) (told_acts w.channel m.told m.goes) ∙ admits_quiet w.channel m.goes.places) h)
 
--- nobody was admitted: it stood when it was made
-pub waits_unadmitted : (who : ℕ) (w : WaitId) (some : Bool) (a b : Floor) (i j : List Item) → some ≡ false → Legal b.shape b.seen → OffersPlainly who w (replay a.seen) → state_of_wait ((replay a.seen).waits w) ≡ Some state.Standing → AdmittedSomeAnswer who w.channel a b i j (Ok some) → HeldAnswer who w a b i j (Ok (send.Waits w))
-waits_unadmitted who w some a b i j e l h stands m =
-    let none : channel_acts_in (items_in m.told) ≡ [] = told_acts w.channel m.told m.goes.admits ∙ ap (λ l. map (λ q. Admit w.channel q) l) (m.goes.none e) in (
-      refl,
-      record { told = m.told; goes = m.goes.admits; left = m.left },
-      record {
-        stood = record { moment = a.seen; after = prefix_self a.seen; before = m.left.added.longer; mine = sym (nothing_more (acts_of who a.seen)) ∙ ap (λ l. acts_of who a.seen ++ l) (sym none); holds = stands };
-        holds = unsettled who w.channel _ _ (plain_admits who who w some a b i j refl l h m).wait;
-      },
-    )
-
--- a wait is left also by a call before
-left_after : (who : ℕ) (w : WaitId) (a b d : Floor) (i j : List Item) (told : List Told) → ToldOnChannels who a b i j told → IsLeftWaiting who w [] b d → IsLeftWaiting who w (channel_acts_in (items_in told)) a d
-left_after who w a b d i j told h m = record {
-  stood = record {
-    moment = m.stood.moment;
-    after = prefix_then a.seen b.seen m.stood.moment h.added.longer m.stood.after;
-    before = m.stood.before;
-    mine = m.stood.mine ∙ nothing_more (acts_of who b.seen) ∙ h.added.mine;
-    holds = m.stood.holds;
-  };
-  holds = m.holds;
-}
-
--- somebody was admitted, and then the own offer was looked at
-pub held_then : (who who' : ℕ) (w : WaitId) (some : Bool) (a b d : Floor) (i j k : List Item) (result : Result SendAnswer Memory) → some ≡ true → who' ≡ who → AdmittedSomeAnswer who w.channel a b i j (Ok some) → OwnOfferAnswer who' w b d j k result → HeldAnswer who w a d i k result
-held_then who who' w some a b d i j k (Ok send.Sent) e is h m' =
+-- and a look at it
+pub held_then : (who who' : ℕ) (w : WaitId) (a b d : Floor) (i j k : List Item) (result : Result SendAnswer Memory) → who' ≡ who → AdmittedAnswer who w.channel a b i j (Ok tt) → OwnOfferAnswer who' w b d j k result → HeldAnswer who w a d i k result
+held_then who who' w a b d i j k (Ok send.Sent) is h m' =
     let end : List Told = made (Settle w (settled.Sent 0)) ∷ [] in
     let m : ToldOnChannels who b d j k end = subst (λ x. ToldOnChannels x b d j k end) is m' in
-    record { told = h.told ++ end; goes = record { admits = h.told; goes = h.goes.admits; all = refl }; left = told_then who a b d i j k h.told end h.left m }
-held_then who who' w some a b d i j k (Ok (send.Waits v)) e is h m' =
-    let told : ToldOnChannels who b d j k [] = subst (λ x. ToldOnChannels x b d j k []) is m'.1 in
-    let left : IsLeftWaiting who w [] b d = subst (λ x. IsLeftWaiting x w [] b d) is m'.2 in (
+    record { told = h.told ++ end; goes = record { admits = h.told; goes = h.goes; all = refl }; left = told_then who a b d i j k h.told end h.left m }
+held_then who who' w a b d i j k (Ok (send.Waits v)) is h m' =
+    let look : LookAnswer who w b d state.Standing = subst (λ x. LookAnswer x w b d state.Standing) is m'.2 in
+    let told : ToldOnChannels who b d j k [] = told_looked who b d j k look.0 m'.1 in (
       m'.0,
-      record { told = h.told; goes = h.goes.admits; left = subst (λ l. ToldOnChannels who a d i k l) (nothing_more h.told) (told_then who a b d i j k h.told [] h.left told) },
-      left_after who w a b d i j h.told h.left left,
+      record { told = h.told; goes = h.goes; left = subst (λ l. ToldOnChannels who a d i k l) (nothing_more h.told) (told_then who a b d i j k h.told [] h.left told) },
+      record {
+        between = b;
+        before = subst (λ l. ToldOnChannels who a b i l h.told) (sym m'.1) h.left;
+        look = look;
+        holds = subst (λ x. HoldsWait x w d) is m'.3;
+      },
     )
-held_then who who' w some a b d i j k (Ok (send.Closed x)) e is h m' =
+held_then who who' w a b d i j k (Ok (send.Closed x)) is h m' =
     let end : List Told = on_channels (TakenBack w) ∷ made (Settle w settled.Cancelled) ∷ [] in
     let m : ToldOnChannels who b d j k end = subst (λ x. ToldOnChannels x b d j k end) is m'.0 in (
-      h.goes.buffered e,
-      record { told = h.told ++ end; goes = record { admits = h.told; goes = h.goes.admits; all = refl }; left = told_then who a b d i j k h.told end h.left m },
+      record { told = h.told ++ end; goes = record { admits = h.told; goes = h.goes; all = refl }; left = told_then who a b d i j k h.told end h.left m },
       m'.1,
     )
-held_then who who' w some a b d i j k (Ok send.Spent) e is h m' = m'
-held_then who who' w some a b d i j k (Err memory) e is h m' = some_then who who' a b d i j k h.told is h.left m'
+held_then who who' w a b d i j k (Ok send.Spent) is h m' = m'
+held_then who who' w a b d i j k (Err memory) is h m' = some_then who who' a b d i j k h.told is h.left m'
+
+-- a wait that a look found is left
+pub left_seen : (who : ℕ) (w : WaitId) (told : List Told) (a d : Floor) (i k : List Item) → IsSeenWaiting who w told a d i k → IsLeftWaiting who w (channel_acts_in (items_in told)) a d
+left_seen who w told a d i k h =
+    let m = h.look.1 in
+    record {
+      stood = record {
+        moment = m.moment;
+        after = prefix_then a.seen h.between.seen m.moment h.before.added.longer m.after;
+        before = m.before;
+        mine = (between who h.between.seen m.moment d.seen m.after m.before h.look.0.mine).0 ∙ h.before.added.mine;
+        holds = m.holds;
+      };
+      holds = h.holds;
+    }
 
 -- ---- with the offer before
 
@@ -223,18 +222,8 @@ module _ (who c v q : ℕ) (a b d : Floor) (i j k : List Item) (o : ToldOnChanne
   abbrev first : List Told
   first = on_channels (WasFull c) ∷ made (Offer c q v (wait_at c q) 0) ∷ []
 
-  left_offered : (told : List Told) → IsLeftWaiting who (wait_at c q) (channel_acts_in (items_in told)) b d → IsLeftWaiting who (wait_at c q) (channel_acts_in (items_in (first ++ told))) a d
-  unfolding items_in
-  left_offered told m = record {
-    stood = record {
-      moment = m.stood.moment;
-      after = prefix_then a.seen b.seen m.stood.moment o.added.longer m.stood.after;
-      before = m.stood.before;
-      mine = m.stood.mine ∙ ap (λ l. l ++ channel_acts_in (items_in told)) o.added.mine ∙ append_assoc (acts_of who a.seen) (Offer c q v (wait_at c q) 0 ∷ []) (channel_acts_in (items_in told));
-      holds = m.stood.holds;
-    };
-    holds = m.holds;
-  }
+  seen_offered : (told : List Told) → IsSeenWaiting who (wait_at c q) told b d j k → IsSeenWaiting who (wait_at c q) (first ++ told) a d i k
+  seen_offered told m = record { between = m.between; before = told_then who a b m.between i j k first told o m.before; look = m.look; holds = m.holds }
 
   pub held_sends : (who' : ℕ) (result : Result SendAnswer Memory) → who' ≡ who → HeldAnswer who' (wait_at c q) b d j k result → SentAnswer who c v a d i k result
   held_sends who' (Ok send.Sent) is m' =
@@ -247,17 +236,17 @@ module _ (who c v q : ℕ) (a b d : Floor) (i j k : List Item) (o : ToldOnChanne
       }
   held_sends who' (Ok (send.Waits u)) is m' =
       let m : HeldAnswer who (wait_at c q) b d j k (Ok (send.Waits u)) = subst (λ x. HeldAnswer x (wait_at c q) b d j k (Ok (send.Waits u))) is m' in
-      let t : Tells who (Goes a.shape (sends c v) (Waits (wait_at c q))) a d i k = record { told = first ++ m.1.told; goes = PlainCall.offers c v q m.1.told m.1.goes; left = told_then who a b d i j k first m.1.told o m.1.left } in
-      subst (λ w. SentAnswer who c v a d i k (Ok (send.Waits w))) (sym m.0) (t, left_offered m.1.told m.2)
+      let t : Tells who (Goes (sends c v) (Waits (wait_at c q))) a d i k = record { told = first ++ m.1.told; goes = PlainCall.offers c v q m.1.told m.1.goes; left = told_then who a b d i j k first m.1.told o m.1.left } in
+      subst (λ w. SentAnswer who c v a d i k (Ok (send.Waits w))) (sym m.0) (t, seen_offered m.1.told m.2)
   held_sends who' (Ok (send.Closed x)) is m' =
       let P : List Told → Type 0 = AdmitsThen c (on_channels (TakenBack (wait_at c q)) ∷ made (Settle (wait_at c q) settled.Cancelled) ∷ []) in
-      let m : Tells who P b d j k = subst (λ x. Tells x P b d j k) is m'.1 in (
+      let m : Tells who P b d j k = subst (λ x. Tells x P b d j k) is m'.0 in (
         record {
           told = first ++ m.told;
-          goes = IsUnsent.voided q m.goes.admits (first ++ m.told) (ap (λ (s : Shape). is_buffered (kind_at s c)) (sym o.added.same.shape) ∙ m'.0) m.goes.goes (ap (λ l. first ++ l) m.goes.all);
+          goes = IsUnsent.voided q m.goes.admits (first ++ m.told) m.goes.goes (ap (λ l. first ++ l) m.goes.all);
           left = told_then who a b d i j k first m.told o m.left;
         },
-        m'.2,
+        m'.1,
       )
   held_sends who' (Ok send.Spent) is m' = absurd m'
   held_sends who' (Err memory) is m' = some_then who who' a b d i j k first is o m'

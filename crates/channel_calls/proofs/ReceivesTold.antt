@@ -26,7 +26,7 @@ use Rattle.channel_calls.proofs.Begun.{receiver_waits}
 use Rattle.channel_calls.proofs.Untold.{some_then}
 
 -- a channel that was closed at a moment had its last close value
-closed_as : (shape : Shape) (c x : ℕ) (moment seen rest : List Entry) → moment ++ rest ≡ seen → Legal shape seen → is_some ((replay moment).channels c).closed ≡ true → ((replay seen).channels c).closed ≡ Some x → ((replay moment).channels c).closed ≡ Some x
+pub closed_as : (shape : Shape) (c x : ℕ) (moment seen rest : List Entry) → moment ++ rest ≡ seen → Legal shape seen → is_some ((replay moment).channels c).closed ≡ true → ((replay seen).channels c).closed ≡ Some x → ((replay moment).channels c).closed ≡ Some x
 closed_as shape c x moment seen rest is l some at = by_value ((replay moment).channels c).closed refl some
   where
     by_value : (y : Option ℕ) → ((replay moment).channels c).closed ≡ y → is_some y ≡ true → ((replay moment).channels c).closed ≡ Some x
@@ -71,7 +71,7 @@ module _ (who c n : ℕ) (a b d : Floor) (i j k : List Item) (h : HasRoom n a b)
       left = told_roomed who n a b d i j k (made (Await c place (wait_at c place) 0) ∷ []) h e
           (told_made who (Await c place (wait_at c place) 0) b d j k o (moment_before who (Await c place (wait_at c place) 0) b d (ActHolds (Await c place (wait_at c place) 0)) o tt) f)
 
-      t : Tells who (Goes a.shape (receives c) (Waits (wait_at c place))) a d i k
+      t : Tells who (Goes (receives c) (Waits (wait_at c place))) a d i k
       t = record { told = made (Await c place (wait_at c place) 0) ∷ []; goes = PlainCall.awaits c place; left = left }
 
   pub closed : (x : ℕ) → Legal d.shape d.seen → GotAnswer who c b d (got.Closed x) → k ≡ j ++ item.Channel (ReceiveClosed c x) ∷ [] → ReceivedAnswer who c a d i k (Ok (receive.Closed x))
@@ -99,5 +99,5 @@ module _ (who c n : ℕ) (a b d : Floor) (i j k : List Item) (h : HasRoom n a b)
   try_closed x l o f = told_roomed who n a b d i j k (heard (TryReceiveClosed c x) ∷ []) h e (told_met who (TryReceiveClosed c x) b d j k refl o.0.looked (drained_at who c x b d l o.0 o.1) f)
 
 -- a receive that waits where it must goes so too
-pub received : (who c v : ℕ) (a d : Floor) (i k : List Item) → Tells who (GoesAtOnce (receives c) (Got v)) a d i k → Tells who (Goes a.shape (receives c) (Got v)) a d i k
+pub received : (who c v : ℕ) (a d : Floor) (i k : List Item) → Tells who (GoesAtOnce (receives c) (Got v)) a d i k → Tells who (Goes (receives c) (Got v)) a d i k
 received who c v a d i k t = record { told = t.told; goes = PlainCall.at_once (receives c) t.told (Got v) t.goes; left = t.left }

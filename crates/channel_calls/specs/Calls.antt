@@ -10,18 +10,17 @@ use Rattle.channel_model.specs.declared.acts.Settled.{Settled}
 use Rattle.channel_model.specs.declared.acts.Settled.TheVariants as settled
 use Rattle.channel_model.specs.declared.acts.Why.TheVariants as why
 use Rattle.channel_model.specs.declared.floor.WaitState.TheVariants as state
-use Rattle.channel_model.specs.Channels.{Shape, kind_at}
+use Rattle.channel_model.specs.Channels.{kind_at}
 use Rattle.channel_model.specs.Histories.{replay}
 use Rattle.channel_model.specs.Floors.{Floor, AtMoment}
-use Rattle.channel_model.specs.Answers.{IsUnsettledOf, IsSeenClosed, IsSeenVoided, outcome_at, state_of_wait}
+use Rattle.channel_model.specs.Answers.{IsUnsettledOf, LookAnswer, IsSeenClosed, IsSeenVoided, outcome_at, state_of_wait}
 use Rattle.channel_model.specs.Puts.{after_put}
 use Rattle.note_book.specs.declared.book.Item.{Item}
 use Rattle.note_book.specs.Items.{channel_acts_in}
 use Rattle.call_meaning.specs.Telling.{Told, on_channels, TakenBack, items_in, made, heard}
 use Rattle.call_meaning.specs.Facts.{IsClosedWith}
-use Rattle.call_meaning.specs.ChannelCalls.{Answer, Done, Got, Closed, Waits, NoPlace, Call, sends, receives, wait_at, offer_told, is_buffered, blocked, spent, Admits, Drops, Wakes, Drains, Closes, AtOnce, PlainCall}
+use Rattle.call_meaning.specs.ChannelCalls.{Answer, Done, Got, Closed, Waits, NoPlace, Call, sends, receives, wait_at, offer_told, blocked, spent, Admits, Drops, Wakes, Drains, Closes, AtOnce, PlainCall, is_given_up}
 use Rattle.call_meaning.specs.Calls.{ToldOnChannels}
-use Rattle.channel_calls.specs.Groups.{is_cancelled_end}
 use Rattle.channel_calls.specs.declared.caller.Caller.{Caller}
 use Rattle.channel_calls.specs.declared.caller.SendAnswer.{SendAnswer}
 use Rattle.channel_calls.specs.declared.caller.SendAnswer.TheVariants as send
@@ -63,8 +62,8 @@ abbrev pub ToldSome : ℕ → Floor → Floor → List Item → List Item → Ty
 ToldSome who old new i i' = Tells who Anything old new i i'
 
 -- a send or receive goes so
-abbrev pub Goes : Shape → Call → Answer → List Told → Type 0
-Goes shape call a told = PlainCall shape call told a
+abbrev pub Goes : Call → Answer → List Told → Type 0
+Goes call a told = PlainCall call told a
 
 -- a call finds a partner, or room
 abbrev pub GoesAtOnce : Call → Answer → List Told → Type 0
@@ -81,6 +80,13 @@ pub record IsLeftWaiting (who : ℕ) (w : WaitId) (acts : List Act) (old new : F
   pub stood : AtMoment who acts old new (λ s. state_of_wait (s.waits w) ≡ Some state.Standing)
   pub holds : HoldsWait who w new
 
+-- the call told this, and then a look found that the wait stood; it is who's, and did not end
+pub record IsSeenWaiting (who : ℕ) (w : WaitId) (told : List Told) (old new : Floor) (items items' : List Item) : Type 0 where
+  pub between : Floor
+  pub before : ToldOnChannels who old between items items' told
+  pub look : LookAnswer who w between new state.Standing
+  pub holds : HoldsWait who w new
+
 -- ---- send
 
 -- a send that was done: the element was handed or put, or its offer was received or kept before the call answered
@@ -89,24 +95,22 @@ pub data IsSent (c v : ℕ) : List Told → Type 0 where
   offered : (q : ℕ) (admits all : List Told) → Admits c admits
       → all ≡ offer_told c v q admits ++ made (Settle (wait_at c q) (settled.Sent 0)) ∷ [] → IsSent c v all
 
--- a send to a channel closed with x: it was refused, or, on a buffered channel, its offer was removed with all others
--- before the call answered
-pub data IsUnsent (shape : Shape) (c v x : ℕ) : List Told → Type 0 where
-  refused : IsUnsent shape c v x (heard (SendClosed c v x) ∷ [])
-  voided : (q : ℕ) (admits all : List Told) → is_buffered (kind_at shape c) ≡ true → Admits c admits
+-- a send to a channel closed with x: it was refused, or its offer was removed with all others before the call answered
+pub data IsUnsent (c v x : ℕ) : List Told → Type 0 where
+  refused : IsUnsent c v x (heard (SendClosed c v x) ∷ [])
+  voided : (q : ℕ) (admits all : List Told) → Admits c admits
       → all
       ≡ offer_told c v q admits
       ++ on_channels (TakenBack (wait_at c q)) ∷ made (Settle (wait_at c q) settled.Cancelled) ∷ []
-      → IsUnsent shape c v x all
+      → IsUnsent c v x all
 
 abbrev pub SentAnswer : ℕ → ℕ → ℕ → Floor → Floor → List Item → List Item → Result SendAnswer Memory → Type 0
 SentAnswer who c v old new i i' (Ok send.Sent) = Tells who (IsSent c v) old new i i'
 SentAnswer who c v old new i i' (Ok (send.Waits w)) =
-    (t : Tells who (Goes old.shape (sends c v) (Waits w)) old new i i')
-    × IsLeftWaiting who w (channel_acts_in (items_in t.told)) old new
+    (t : Tells who (Goes (sends c v) (Waits w)) old new i i') × IsSeenWaiting who w t.told old new i i'
 SentAnswer who c v old new i i' (Ok (send.Closed x)) =
-    Tells who (IsUnsent old.shape c v x) old new i i' × IsClosedWith c x (replay new.seen)
-SentAnswer who c v old new i i' (Ok send.Spent) = Tells who (Goes old.shape (sends c v) NoPlace) old new i i'
+    Tells who (IsUnsent c v x) old new i i' × IsClosedWith c x (replay new.seen)
+SentAnswer who c v old new i i' (Ok send.Spent) = Tells who (Goes (sends c v) NoPlace) old new i i'
 SentAnswer who c v old new i i' (Err m) = ToldSome who old new i i'
 
 -- the same without waiting
@@ -121,12 +125,12 @@ TrySentAnswer who c v old new i i' (Err m) = ToldSome who old new i i'
 -- ---- receive
 
 abbrev pub ReceivedAnswer : ℕ → ℕ → Floor → Floor → List Item → List Item → Result ReceiveAnswer Memory → Type 0
-ReceivedAnswer who c old new i i' (Ok (receive.Value v)) = Tells who (Goes old.shape (receives c) (Got v)) old new i i'
+ReceivedAnswer who c old new i i' (Ok (receive.Value v)) = Tells who (Goes (receives c) (Got v)) old new i i'
 ReceivedAnswer who c old new i i' (Ok (receive.Waits w)) =
-    (t : Tells who (Goes old.shape (receives c) (Waits w)) old new i i')
+    (t : Tells who (Goes (receives c) (Waits w)) old new i i')
     × IsLeftWaiting who w (channel_acts_in (items_in t.told)) old new
-ReceivedAnswer who c old new i i' (Ok (receive.Closed x)) = Tells who (Goes old.shape (receives c) (Closed x)) old new i i'
-ReceivedAnswer who c old new i i' (Ok receive.Spent) = Tells who (Goes old.shape (receives c) NoPlace) old new i i'
+ReceivedAnswer who c old new i i' (Ok (receive.Closed x)) = Tells who (Goes (receives c) (Closed x)) old new i i'
+ReceivedAnswer who c old new i i' (Ok receive.Spent) = Tells who (Goes (receives c) NoPlace) old new i i'
 ReceivedAnswer who c old new i i' (Err m) = ToldSome who old new i i'
 
 -- the same without waiting
@@ -193,7 +197,7 @@ DispatchedAnswer who w cancelled old new i i' (Err m) = IsUntouched old new i i'
 pub data TakesBack (w : WaitId) : Settled → List Told → Type 0 where
   withdrawn : (admits : List Told) → Admits w.channel admits
       → TakesBack w settled.Cancelled (made (Withdraw w why.Cancelled) ∷ made (Settle w settled.Cancelled) ∷ admits)
-  late : (outcome : Settled) (admits : List Told) → is_cancelled_end outcome ≡ true → Admits w.channel admits
+  late : (outcome : Settled) (admits : List Told) → is_given_up outcome ≡ true → Admits w.channel admits
       → TakesBack w outcome (heard (Late w) ∷ made (Settle w outcome) ∷ admits)
 
 abbrev pub CancelledAnswer : ℕ → WaitId → Floor → Floor → List Item → List Item → Result Settled Memory → Type 0

@@ -1,11 +1,10 @@
 -- What is noted where a wait ends.
-use Rattle.std.specs.Prelude.{Bool, true, false, List, [], ◌∷◌}
+use Rattle.std.specs.Prelude.{List, [], ◌∷◌}
 use Rattle.co_base.specs.declared.names.WaitId.{WaitId}
 use Rattle.channel_model.specs.declared.acts.Act.{Act}
 use Rattle.channel_model.specs.declared.acts.Act.TheVariants.{Settle}
 use Rattle.channel_model.specs.declared.acts.ChannelNote.TheVariants as note
 use Rattle.channel_model.specs.declared.acts.Settled.{Settled}
-use Rattle.channel_model.specs.declared.acts.Settled.TheVariants as settled
 use Rattle.note_book.specs.declared.book.Item.{Item}
 use Rattle.note_book.specs.declared.book.Item.TheVariants as item
 
@@ -16,11 +15,3 @@ made_note act = item.Channel (note.Made act)
 -- the wait was settled with this outcome
 abbrev pub settle_group : WaitId → Settled → List Item
 settle_group w outcome = made_note (Settle w outcome) ∷ []
-
--- an end of a wait whose Job was cancelled: as cancelled, or with an element that is given up
-abbrev pub is_cancelled_end : Settled → Bool
-is_cancelled_end (settled.Value k v) = false
-is_cancelled_end (settled.Sent k) = false
-is_cancelled_end (settled.Closed k v) = false
-is_cancelled_end settled.Cancelled = true
-is_cancelled_end (settled.Undelivered v) = true

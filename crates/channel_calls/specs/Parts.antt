@@ -7,43 +7,29 @@ use Rattle.channel_model.specs.declared.acts.ChannelNote.TheVariants.{AlreadyClo
 use Rattle.channel_model.specs.declared.acts.Settled.{Settled}
 use Rattle.channel_model.specs.declared.acts.Settled.TheVariants as settled
 use Rattle.channel_model.specs.declared.acts.Why.TheVariants as why
-use Rattle.channel_model.specs.Channels.{Shape, kind_at}
+use Rattle.channel_model.specs.declared.floor.WaitState.TheVariants as state
 use Rattle.channel_model.specs.Histories.{replay}
 use Rattle.channel_model.specs.Floors.{Floor}
-use Rattle.channel_model.specs.Answers.{IsSeenClosed, IsSeenVoided}
+use Rattle.channel_model.specs.Answers.{LookAnswer, IsSeenClosed, IsSeenVoided}
 use Rattle.note_book.specs.declared.book.Item.{Item}
-use Rattle.note_book.specs.Items.{channel_acts_in}
-use Rattle.call_meaning.specs.Telling.{Told, on_channels, TakenBack, NoneToAdmit, items_in, made, heard}
+use Rattle.call_meaning.specs.Telling.{Told, on_channels, TakenBack, NoneToAdmit, made, heard}
 use Rattle.call_meaning.specs.Facts.{IsClosedWith}
-use Rattle.call_meaning.specs.ChannelCalls.{is_buffered, Admits, Wakes, Drains}
+use Rattle.call_meaning.specs.ChannelCalls.{Admits, Wakes, Drains, is_given_up}
 use Rattle.call_meaning.specs.Calls.{ToldOnChannels}
-use Rattle.channel_calls.specs.Groups.{is_cancelled_end}
 use Rattle.channel_calls.specs.declared.caller.SendAnswer.{SendAnswer}
 use Rattle.channel_calls.specs.declared.caller.SendAnswer.TheVariants as send
-use Rattle.channel_calls.specs.Calls.{Tells, ToldSome, IsLeftWaiting}
+use Rattle.channel_calls.specs.Calls.{Tells, ToldSome, HoldsWait, IsSeenWaiting}
 
 -- ---- to admit
 
--- each offer below the mark for which the channel has room was admitted; where there was one, the channel is buffered
-pub record AdmitsBelow (shape : Shape) (c mark : ℕ) (some : Bool) (told : List Told) : Type 0 where
+-- each offer below the mark for which the channel has room was admitted
+pub record AdmitsBelow (c mark : ℕ) (told : List Told) : Type 0 where
   pub places : List ℕ
   pub all : told ≡ map (λ q. made (Admit c q)) places ++ on_channels (NoneToAdmit c mark) ∷ []
-  pub buffered : some ≡ true → is_buffered (kind_at shape c) ≡ true
-  pub none : some ≡ false → places ≡ []
 
-abbrev pub AdmittedBelowAnswer : ℕ → ℕ → ℕ → Floor → Floor → List Item → List Item → Result Bool Memory → Type 0
-AdmittedBelowAnswer who c mark old new i i' (Ok some) = Tells who (AdmitsBelow old.shape c mark some) old new i i'
+abbrev pub AdmittedBelowAnswer : ℕ → ℕ → ℕ → Floor → Floor → List Item → List Item → Result (Unit {0}) Memory → Type 0
+AdmittedBelowAnswer who c mark old new i i' (Ok done) = Tells who (AdmitsBelow c mark) old new i i'
 AdmittedBelowAnswer who c mark old new i i' (Err m) = ToldSome who old new i i'
-
--- the same below the place that the channel gives out next
-pub record AdmitsSome (shape : Shape) (c : ℕ) (some : Bool) (told : List Told) : Type 0 where
-  pub admits : Admits c told
-  pub buffered : some ≡ true → is_buffered (kind_at shape c) ≡ true
-  pub none : some ≡ false → admits.places ≡ []
-
-abbrev pub AdmittedSomeAnswer : ℕ → ℕ → Floor → Floor → List Item → List Item → Result Bool Memory → Type 0
-AdmittedSomeAnswer who c old new i i' (Ok some) = Tells who (AdmitsSome old.shape c some) old new i i'
-AdmittedSomeAnswer who c old new i i' (Err m) = ToldSome who old new i i'
 
 -- ---- to close
 
@@ -83,7 +69,7 @@ DrainedAnswer who c old new i i' (Err m) = ToldSome who old new i i'
 abbrev pub OwnOfferAnswer : ℕ → WaitId → Floor → Floor → List Item → List Item → Result SendAnswer Memory → Type 0
 OwnOfferAnswer who w old new i i' (Ok send.Sent) = ToldOnChannels who old new i i' (made (Settle w (settled.Sent 0)) ∷ [])
 OwnOfferAnswer who w old new i i' (Ok (send.Waits v)) =
-    (v ≡ w) × ToldOnChannels who old new i i' [] × IsLeftWaiting who w [] old new
+    (v ≡ w) × (i' ≡ i) × LookAnswer who w old new state.Standing × HoldsWait who w new
 OwnOfferAnswer who w old new i i' (Ok (send.Closed x)) =
     ToldOnChannels who old new i i' (on_channels (TakenBack w) ∷ made (Settle w settled.Cancelled) ∷ [])
     × IsClosedWith w.channel x (replay new.seen)
@@ -103,10 +89,9 @@ HeldAnswer who w old new i i' (Ok send.Sent) =
 HeldAnswer who w old new i i' (Ok (send.Waits v)) =
     (v ≡ w)
     × (t : Tells who (Admits w.channel) old new i i')
-    × IsLeftWaiting who w (channel_acts_in (items_in t.told)) old new
+    × IsSeenWaiting who w t.told old new i i'
 HeldAnswer who w old new i i' (Ok (send.Closed x)) =
-    (is_buffered (kind_at old.shape w.channel) ≡ true)
-    × Tells who (AdmitsThen w.channel (on_channels (TakenBack w) ∷ made (Settle w settled.Cancelled) ∷ [])) old new i i'
+    Tells who (AdmitsThen w.channel (on_channels (TakenBack w) ∷ made (Settle w settled.Cancelled) ∷ [])) old new i i'
     × IsClosedWith w.channel x (replay new.seen)
 HeldAnswer who w old new i i' (Ok send.Spent) = ⊥
 HeldAnswer who w old new i i' (Err m) = ToldSome who old new i i'
@@ -116,7 +101,7 @@ HeldAnswer who w old new i i' (Err m) = ToldSome who old new i i'
 -- the wait was withdrawn, or that came too late, and it ended so
 pub data EndsCancelled (w : WaitId) : Settled → List Told → Type 0 where
   withdrawn : EndsCancelled w settled.Cancelled (made (Withdraw w why.Cancelled) ∷ made (Settle w settled.Cancelled) ∷ [])
-  late : (outcome : Settled) → is_cancelled_end outcome ≡ true
+  late : (outcome : Settled) → is_given_up outcome ≡ true
       → EndsCancelled w outcome (heard (Late w) ∷ made (Settle w outcome) ∷ [])
 
 abbrev pub EndedCancelledAnswer : ℕ → WaitId → Floor → Floor → List Item → List Item → Result Settled Memory → Type 0

@@ -3,7 +3,7 @@
 ghost use Rattle.channel_model.specs.Floors.{MayCall};
 ghost use Rattle.channel_model.specs.Answers.{HasPut};
 ghost use Rattle.channel_calls.specs.Calls.{SameCaller, AdmittedAnswer, DroppedAnswer};
-ghost use Rattle.channel_calls.specs.Parts.{AdmittedBelowAnswer, AdmittedSomeAnswer};
+ghost use Rattle.channel_calls.specs.Parts.{AdmittedBelowAnswer};
 
 use crate::caller::Caller;
 use crate::rooms::make_room;
@@ -19,42 +19,27 @@ impl<F: ChannelFloor, B: NoteBook, W: Wakes> Caller<'_, '_, '_, F, B, W> {
         ensures answer { AdmittedAnswer self.old.who c (F.view self.old.floor.now) (F.view self.new.floor.now)
             (B.items self.old.book.now) (B.items self.new.book.now) result }
     {
-        match self.admit_some(c) {
-            Ok(_some) => Ok(()),
-            Err(memory) => Err(memory),
-        }
-    }
-
-    /// The same. Answers whether there was one; then the channel is buffered.
-    pub(crate) fn admit_some(&mut self, c: ChannelId) -> Result<bool, Memory>
-        requires can { MayCall self.old.who c (F.view self.old.floor.now) }
-        ensures same { SameCaller F.anchor self.old self.new }
-        ensures answer { AdmittedSomeAnswer self.old.who c (F.view self.old.floor.now) (F.view self.new.floor.now)
-            (B.items self.old.book.now) (B.items self.new.book.now) result }
-    {
         let mark = self.floor.mark(self.who, c);
         self.admit_below(c, mark)
     }
 
     /// Admits each offer below the mark for which the channel has room.
-    fn admit_below(&mut self, c: ChannelId, mark: Place) -> Result<bool, Memory>
+    fn admit_below(&mut self, c: ChannelId, mark: Place) -> Result<(), Memory>
         requires can { MayCall self.old.who c (F.view self.old.floor.now) }
         ensures same { SameCaller F.anchor self.old self.new }
         ensures answer { AdmittedBelowAnswer self.old.who c mark (F.view self.old.floor.now) (F.view self.new.floor.now)
             (B.items self.old.book.now) (B.items self.new.book.now) result }
     {
-        let mut some = false;
         loop {
             if let Err(memory) = make_room(self.floor, self.book, 1) {
                 return Err(memory);
             }
             let Some((place, sender)) = self.floor.admit(self.who, c, mark) else {
-                return Ok(some);
+                return Ok(());
             };
             let act = Act::Admit { c, place };
             self.book.note(Item::Channel(ChannelNote::Made(act)));
             self.wakes.wake(sender);
-            some = true;
         }
     }
 

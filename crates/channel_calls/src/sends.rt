@@ -1,12 +1,10 @@
 //! To send.
 
-ghost use Rattle.std.specs.Prelude.{◌≡◌, false, Some};
+ghost use Rattle.std.specs.Prelude.{◌≡◌, false};
 ghost use Rattle.channel_model.specs.Channels.{kind_at, is_signal};
 ghost use Rattle.channel_model.specs.Histories.{replay};
 ghost use Rattle.channel_model.specs.Floors.{MayCall};
-ghost use Rattle.channel_model.specs.Answers.{state_of_wait};
 ghost use Rattle.channel_model.specs.PlainOffers.{OffersPlainly};
-ghost use Rattle.channel_model.specs.declared.floor.WaitState.TheVariants.{Standing};
 ghost use Rattle.channel_calls.specs.Calls.{SameCaller, SentAnswer};
 ghost use Rattle.channel_calls.specs.Parts.{HeldAnswer, OwnOfferAnswer};
 
@@ -18,6 +16,7 @@ use note_book::{Item, NoteBook};
 
 impl<F: ChannelFloor, B: NoteBook, W: Wakes> Caller<'_, '_, '_, F, B, W> {
     /// Hands an element to the receiver that stands first, leaves it where the channel keeps it, or waits for a receiver or for room.
+    /// Where it offered it admits whoever may be admitted, and then looks at its offer: one that was resolved by then ends here.
     pub fn send(&mut self, c: ChannelId, value: Value) -> Result<SendAnswer, Memory>
         requires can { MayCall self.old.who c (F.view self.old.floor.now) }
         requires kind { is_signal (kind_at (F.view self.old.floor.now).shape c) ≡ false }
@@ -67,19 +66,17 @@ impl<F: ChannelFloor, B: NoteBook, W: Wakes> Caller<'_, '_, '_, F, B, W> {
         }
     }
 
-    /// Admits whoever waits where the channel has room now. Where somebody was admitted it may have been the own plain offer, so that is
-    /// settled if it was resolved.
+    /// Admits whoever waits where the channel has room now, and then settles the own plain offer, if it was resolved by now, whoever
+    /// resolved it.
     fn after_held(&mut self, w: WaitId) -> Result<SendAnswer, Memory>
         requires can { MayCall self.old.who w.channel (F.view self.old.floor.now) }
         requires plain { OffersPlainly self.old.who w (replay (F.view self.old.floor.now).seen) }
-        requires stands { state_of_wait ((replay (F.view self.old.floor.now).seen).waits w) ≡ Some Standing }
         ensures same { SameCaller F.anchor self.old self.new }
         ensures answer { HeldAnswer self.old.who w (F.view self.old.floor.now) (F.view self.new.floor.now)
             (B.items self.old.book.now) (B.items self.new.book.now) result }
     {
-        match self.admit_some(w.channel) {
-            Ok(true) => self.settle_offer(w),
-            Ok(false) => Ok(SendAnswer::Waits(w)),
+        match self.admit_all(w.channel) {
+            Ok(()) => self.settle_offer(w),
             Err(memory) => Err(memory),
         }
     }

@@ -4,6 +4,7 @@ use Rattle.std.specs.List.{list_all}
 use Rattle.channel_model.specs.declared.floor.Offered.{Offered}
 use Rattle.channel_model.specs.declared.floor.TriedGot.{TriedGot}
 use Rattle.channel_model.specs.declared.floor.AlreadyClosed.{AlreadyClosed}
+use Rattle.channel_model.specs.declared.acts.Kind.TheVariants.{Rendezvous}
 use Rattle.channel_model.specs.Channels.{Shape, kind_at, is_signal}
 use Rattle.channel_model.specs.Floors.{Floor}
 use Rattle.channel_model.specs.Answers.{OfferAnswer, TriedGotAnswer, CloseAnswer}
@@ -50,3 +51,7 @@ Takes (Close c v) old new = (r : Result (Unit {0}) AlreadyClosed) × CloseAnswer
 abbrev pub TakesFirst : List Turn → List Turn → Floor → Floor → Type 0
 TakesFirst [] rest old new = (rest ≡ []) × (new ≡ old)
 TakesFirst (turn ∷ turns) rest old new = (rest ≡ turns) × Takes turn old new
+
+-- two rendezvous channels with four places each
+abbrev pub two_channels : Shape
+two_channels = (Rendezvous, 4) ∷ (Rendezvous, 4) ∷ []

@@ -6,5 +6,7 @@
 
 mod between;
 mod between_calls;
+#[cfg(test)]
+mod tests;
 
 pub use between::{Between, Turn};

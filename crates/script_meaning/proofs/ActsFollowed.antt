@@ -5,7 +5,6 @@ use Rattle.channel_model.specs.declared.acts.Act.{Act}
 use Rattle.channel_model.specs.declared.acts.Act.TheVariants.{Hand, Put, Offer, Await, Take, Admit, Drop, Close, Void, Drain, WakeClosed, Withdraw, Settle}
 use Rattle.channel_model.specs.declared.acts.ChannelNote.{ChannelNote}
 use Rattle.channel_model.specs.declared.acts.ChannelNote.TheVariants as of_channel
-use Rattle.channel_model.specs.Channels.{Shape, kind_at}
 use Rattle.job_model.specs.declared.acts.JobAct.{JobAct}
 use Rattle.job_model.specs.Cancels.{own_cancel}
 use Rattle.note_book.specs.declared.book.Item.{Item}
@@ -19,7 +18,7 @@ use Rattle.script_meaning.specs.Configs.{Config}
 use Rattle.script_meaning.specs.Moves.{Move}
 use Rattle.script_meaning.specs.Lines.{LineCalls, StartsAndReceives}
 use Rattle.script_meaning.specs.Books.{Spawns, Begins, Reaches}
-use Rattle.script_meaning.specs.Shapes.{base_of, floor_shape}
+use Rattle.script_meaning.specs.Shapes.{base_of}
 use Rattle.script_meaning.proofs.Debts.{Exists, exists_first, exists_left, exists_right}
 
 abbrev pub act_in_note : ChannelNote → Option Act
@@ -256,17 +255,17 @@ spent_followed : (call : Call) → AllFollowed (spent call)
 spent_followed (sends c v) = still _ _ refl (lone _ refl)
 spent_followed (receives c) = still _ _ refl (lone _ refl)
 
-ends_followed : (kind : _) (w : _) (g : List Told) → EndsAtOnce kind w g → AllFollowed g
-ends_followed kind w _ EndsAtOnce.sent = lone _ refl
-ends_followed kind w _ (EndsAtOnce.voided b) = still _ _ refl (lone _ refl)
+ends_followed : (w : _) (g : List Told) → EndsAtOnce w g → AllFollowed g
+ends_followed w _ EndsAtOnce.sent = lone _ refl
+ends_followed w _ EndsAtOnce.voided = still _ _ refl (lone _ refl)
 
-plain_call_followed : (shape : Shape) (call : Call) (g : List Told) (a : Answer) → PlainCall shape call g a → AllFollowed g
-plain_call_followed shape _ _ _ (PlainCall.at_once call g a h) = at_once_followed call g a h
-plain_call_followed shape _ _ _ (PlainCall.refused call t a h) = lone t (refused_still call t a h)
-plain_call_followed shape _ _ _ (PlainCall.no_place call all e) = subst AllFollowed (sym e) (spent_followed call)
-plain_call_followed shape _ _ _ (PlainCall.offers c v q admits h) = still _ _ refl (front _ admits (admits_has c admits h) (admits_quiet c admits h))
-plain_call_followed shape _ _ _ (PlainCall.offer_ends c v q admits settles all h s e) = subst AllFollowed (sym e) (still _ _ refl (front _ (admits ++ settles) (admits_left c admits settles (admits_has c admits h)) (followed_then admits settles (admits_quiet c admits h) (ends_followed (kind_at shape c) (wait_at c q) settles s))))
-plain_call_followed shape _ _ _ (PlainCall.awaits c q) = lone _ refl
+plain_call_followed : (call : Call) (g : List Told) (a : Answer) → PlainCall call g a → AllFollowed g
+plain_call_followed _ _ _ (PlainCall.at_once call g a h) = at_once_followed call g a h
+plain_call_followed _ _ _ (PlainCall.refused call t a h) = lone t (refused_still call t a h)
+plain_call_followed _ _ _ (PlainCall.no_place call all e) = subst AllFollowed (sym e) (spent_followed call)
+plain_call_followed _ _ _ (PlainCall.offers c v q admits h) = still _ _ refl (front _ admits (admits_has c admits h) (admits_quiet c admits h))
+plain_call_followed _ _ _ (PlainCall.offer_ends c v q admits settles all h s e) = subst AllFollowed (sym e) (still _ _ refl (front _ (admits ++ settles) (admits_left c admits settles (admits_has c admits h)) (followed_then admits settles (admits_quiet c admits h) (ends_followed (wait_at c q) settles s))))
+plain_call_followed _ _ _ (PlainCall.awaits c q) = lone _ refl
 
 try_followed : (call : Call) (g : List Told) (a : Answer) → TryCall call g a → AllFollowed g
 try_followed _ _ _ (TryCall.at_once call g a h) = at_once_followed call g a h
@@ -303,7 +302,7 @@ select_followed calls _ _ (SelectCall.chooses before later call group all a f h 
 select_followed calls _ _ (SelectCall.meets_close before later call t all a f h e) = subst AllFollowed (sym e) (followed_then (map blocked before) _ (passed before) (lone t (refused_still call t a h)))
 select_followed calls _ _ (SelectCall.no_place before later c v all f e) = subst AllFollowed (sym e) (followed_then (map blocked before) _ (passed before) (spent_followed (sends c v)))
 select_followed calls _ _ (SelectCall.waits w group admits all h d e) = subst AllFollowed (sym e) (followed_then (map blocked calls) _ (passed calls) (places_followed w 1 calls group [] admits h.places d (admits_in_followed calls admits d)))
-select_followed calls _ _ (SelectCall.resolved w before later group admits all f h d e) = subst AllFollowed (sym e) (followed_then (map blocked calls) _ (passed calls) (places_followed w 1 before group (_ ∷ []) admits h.places d (still _ admits refl (admits_in_followed before admits d))))
+select_followed calls _ _ (SelectCall.resolved w before later call group admits all f h d e) = subst AllFollowed (sym e) (followed_then (map blocked calls) _ (passed calls) (places_followed w 1 before group (_ ∷ []) admits h.places d (still _ admits refl (admits_in_followed before admits d))))
 select_followed calls _ _ (SelectCall.stops_at_first later call stop all a f h e) = subst AllFollowed (sym e) (followed_then (map blocked calls) stop (passed calls) (stops_followed call stop a h))
 select_followed calls _ _ (SelectCall.stops w before later call group stop admits all a f h s d e) =
     let body : AllFollowed (group ++ ((stop ++ revoked w) ++ admits)) = places_followed w 1 before group (stop ++ revoked w) admits h.places d (followed_then (stop ++ revoked w) admits (followed_then stop (revoked w) (stops_followed call stop a s) (still _ _ refl (lone _ refl))) (admits_in_followed before admits d)) in
@@ -360,12 +359,12 @@ off_followed : (p : Program) (k row : ℕ) (failure : Option ℕ) (g : List Told
 off_followed p k row failure g h = subst AllFollowed (sym h.all) (followed_then h.cancels _ (breaks_followed k row failure h.cancels h.breaks) (still _ h.end refl (end_followed p row 0 h.end h.ends)))
 
 both_followed : (p : Program) (row : ℕ) (g : List Told) (a : Answer) → StartsAndReceives p row g a → AllFollowed g
-both_followed p row g a (StartsAndReceives.both starts group _ _ s c e) = subst AllFollowed (sym e) (followed_then starts group (starts_followed row starts s) (plain_call_followed (floor_shape p) _ group a c))
+both_followed p row g a (StartsAndReceives.both starts group _ _ s c e) = subst AllFollowed (sym e) (followed_then starts group (starts_followed row starts s) (plain_call_followed _ group a c))
 
 line_followed : (p : Program) (k : ℕ) (x : Config) (i : _) (g : List Told) (a : Answer) → LineCalls p k x i g a → AllFollowed g
-line_followed p k x _ _ _ (LineCalls.send c o g a h) = plain_call_followed (floor_shape p) _ g a h
-line_followed p k x _ _ _ (LineCalls.receive c g a h) = plain_call_followed (floor_shape p) _ g a h
-line_followed p k x _ _ _ (LineCalls.each c g a h) = plain_call_followed (floor_shape p) _ g a h
+line_followed p k x _ _ _ (LineCalls.send c o g a h) = plain_call_followed _ g a h
+line_followed p k x _ _ _ (LineCalls.receive c g a h) = plain_call_followed _ g a h
+line_followed p k x _ _ _ (LineCalls.each c g a h) = plain_call_followed _ g a h
 line_followed p k x _ _ _ (LineCalls.trysend c o g a h) = try_followed _ g a h
 line_followed p k x _ _ _ (LineCalls.tryreceive c g a h) = try_followed _ g a h
 line_followed p k x _ _ _ (LineCalls.select g a h) = select_followed _ g a h
@@ -397,10 +396,10 @@ move_followed p k _ _ _ (Move.repeats x n s) = nothing
 move_followed p k _ _ _ (Move.turns_again x head n es s e) = nothing
 move_followed p k _ _ _ (Move.turns_no_more x head es s e) = nothing
 move_followed p k _ _ _ (Move.receives_again x head es s e) = nothing
-move_followed p k _ _ _ (Move.ends_scope x y s end g all a l e h c f q) = subst AllFollowed (sym q) (followed_then end g (end_followed p s.row 0 end h) (plain_call_followed (floor_shape p) _ g a c))
+move_followed p k _ _ _ (Move.ends_scope x y s end g all a l e h c f q) = subst AllFollowed (sym q) (followed_then end g (end_followed p s.row 0 end h) (plain_call_followed _ g a c))
 move_followed p k _ _ _ (Move.scope_ended x w n v s) = lone _ refl
 move_followed p k _ _ _ (Move.sees_scope x y s end l e f) = lone _ refl
-move_followed p k _ _ _ (Move.breaks_scope x y s failure break g all a l e h c f q) = subst AllFollowed (sym q) (followed_then break g (off_followed p k s.row failure break h) (plain_call_followed (floor_shape p) _ g a c))
+move_followed p k _ _ _ (Move.breaks_scope x y s failure break g all a l e h c f q) = subst AllFollowed (sym q) (followed_then break g (off_followed p k s.row failure break h) (plain_call_followed _ g a c))
 move_followed p k _ _ _ (Move.breaks x failure g s e h) = off_followed p k k failure g h
 move_followed p k _ _ _ (Move.ends x g s e h) = end_followed p k x.result g h
 

@@ -6,8 +6,6 @@ use Rattle.std.proofs.lemmas.List.Folds.{list_any-append}
 use Rattle.co_base.specs.declared.names.WaitId.{WaitId}
 use Rattle.channel_model.specs.declared.acts.Act.{Act}
 use Rattle.channel_model.specs.declared.acts.Act.TheVariants.{Admit, Drop, Drain, WakeClosed, Void}
-use Rattle.channel_model.specs.declared.acts.Kind.{Kind}
-use Rattle.channel_model.specs.Channels.{Shape, kind_at}
 use Rattle.job_model.specs.declared.acts.Reason.{Reason}
 use Rattle.job_model.specs.declared.acts.JobAct.{JobAct}
 use Rattle.job_model.specs.declared.acts.JobAct.TheVariants.{Attach, Start, EndBody, Cancel, Finish, Gone}
@@ -20,7 +18,6 @@ use Rattle.call_meaning.specs.Telling.{Told, on_channels, on_jobs, PassedBelow, 
 use Rattle.call_meaning.specs.ChannelCalls.{Call, sends, receives, Answer, spent, blocked, placed, revoked, wait_at, Admits, Drops, Drains, Wakes, Closes, CancelsChannel, AtOnce, Refused, TryRefused, EndsAtOnce, PlainCall, TryCall, SelectCall, Places, AdmitsIn, Stops, GivesUp, offer_told}
 use Rattle.call_meaning.specs.JobCalls.{Starts, Passes, Breaks, reason_for, Chain, EndsBody, BreaksOff}
 use Rattle.script_grammar.specs.Programs.{Program}
-use Rattle.script_meaning.specs.Shapes.{floor_shape}
 use Rattle.script_meaning.specs.Configs.{Config}
 use Rattle.script_meaning.specs.Lines.{LineCalls, StartsAndReceives}
 use Rattle.script_meaning.proofs.BooksGoOn.{items_in-append}
@@ -116,19 +113,19 @@ unfolding items_in
 blocked_none (sends c v) = refl
 blocked_none (receives c) = refl
 
-ended_none : (kind : Kind) (w : WaitId) (group : List Told) → EndsAtOnce kind w group → attach_in group ≡ false
+ended_none : (w : WaitId) (group : List Told) → EndsAtOnce w group → attach_in group ≡ false
 unfolding items_in
-ended_none kind w _ EndsAtOnce.sent = refl
-ended_none kind w _ (EndsAtOnce.voided b) = refl
+ended_none w _ EndsAtOnce.sent = refl
+ended_none w _ EndsAtOnce.voided = refl
 
-pub plain_none : (shape : Shape) (call : Call) (group : List Told) (a : Answer) → PlainCall shape call group a → attach_in group ≡ false
+pub plain_none : (call : Call) (group : List Told) (a : Answer) → PlainCall call group a → attach_in group ≡ false
 unfolding items_in
-plain_none shape _ _ _ (PlainCall.at_once call group a h) = at_once_none call group a h
-plain_none shape _ _ _ (PlainCall.refused call told a h) = refused_none call told a h
-plain_none shape _ _ _ (PlainCall.no_place call all e) = ap attach_in e ∙ spent_none call
-plain_none shape _ _ _ (PlainCall.offers c v q admits h) = admits_none c admits h
-plain_none shape _ _ _ (PlainCall.offer_ends c v q admits settles all h s e) = ap attach_in e ∙ neither (offer_told c v q admits) settles (admits_none c admits h) (ended_none (kind_at shape c) (wait_at c q) settles s)
-plain_none shape _ _ _ (PlainCall.awaits c q) = refl
+plain_none _ _ _ (PlainCall.at_once call group a h) = at_once_none call group a h
+plain_none _ _ _ (PlainCall.refused call told a h) = refused_none call told a h
+plain_none _ _ _ (PlainCall.no_place call all e) = ap attach_in e ∙ spent_none call
+plain_none _ _ _ (PlainCall.offers c v q admits h) = admits_none c admits h
+plain_none _ _ _ (PlainCall.offer_ends c v q admits settles all h s e) = ap attach_in e ∙ neither (offer_told c v q admits) settles (admits_none c admits h) (ended_none (wait_at c q) settles s)
+plain_none _ _ _ (PlainCall.awaits c q) = refl
 
 try_none : (call : Call) (group : List Told) (a : Answer) → TryCall call group a → attach_in group ≡ false
 try_none _ _ _ (TryCall.at_once call group a h) = at_once_none call group a h
@@ -170,7 +167,7 @@ select_none calls _ _ (SelectCall.chooses before later call group all a f h e) =
 select_none calls _ _ (SelectCall.meets_close before later call t all a f h e) = ap attach_in e ∙ neither (map blocked before) (t ∷ []) (passed_none before) (refused_none call t a h)
 select_none calls _ _ (SelectCall.no_place before later c v all f e) = ap attach_in e ∙ neither (map blocked before) (spent (sends c v)) (passed_none before) (spent_none (sends c v))
 select_none calls _ _ (SelectCall.waits w group admits all h d e) = ap attach_in e ∙ neither (map blocked calls) (group ++ admits) (passed_none calls) (neither group admits (places_none w 1 calls group h.places) (admits_in_none calls admits d))
-select_none calls _ _ (SelectCall.resolved w before later group admits all f h d e) = ap attach_in e ∙ neither (map blocked calls) _ (passed_none calls) (neither group _ (places_none w 1 before group h.places) (admits_in_none before admits d))
+select_none calls _ _ (SelectCall.resolved w before later call group admits all f h d e) = ap attach_in e ∙ neither (map blocked calls) _ (passed_none calls) (neither group _ (places_none w 1 before group h.places) (admits_in_none before admits d))
 select_none calls _ _ (SelectCall.stops_at_first later call stop all a f h e) = ap attach_in e ∙ neither (map blocked calls) stop (passed_none calls) (stops_none call stop a h)
 select_none calls _ _ (SelectCall.stops w before later call group stop admits all a f h s d e) = ap attach_in e ∙ neither (map blocked calls) _ (passed_none calls) (neither ((group ++ stop) ++ revoked w) admits (neither (group ++ stop) (revoked w) (neither group stop (places_none w 1 before group h.places) (stops_none call stop a s)) refl) (admits_in_none before admits d))
 select_none calls _ _ (SelectCall.stops_late w before later call group stop admits all a f h s d e) = ap attach_in e ∙ neither (map blocked calls) _ (passed_none calls) (neither (group ++ stop) _ (neither group stop (places_none w 1 before group h.places) (stops_none call stop a s)) (admits_in_none before admits d))
@@ -191,13 +188,13 @@ starts_none row _ Starts.now = refl
 starts_none row _ Starts.before = refl
 
 both_none : (p : Program) (row : ℕ) (g : List Told) (a : Answer) → StartsAndReceives p row g a → attach_in g ≡ false
-both_none p row g a (StartsAndReceives.both starts group _ _ s c e) = ap attach_in e ∙ neither starts group (starts_none row starts s) (plain_none (floor_shape p) _ group a c)
+both_none p row g a (StartsAndReceives.both starts group _ _ s c e) = ap attach_in e ∙ neither starts group (starts_none row starts s) (plain_none _ group a c)
 
 pub line_none : (p : Program) (k : ℕ) (x : Config) (i : _) (group : List Told) (a : Answer) → LineCalls p k x i group a → attach_in group ≡ false
 unfolding items_in
-line_none p k x _ _ _ (LineCalls.send c o g a h) = plain_none (floor_shape p) _ g a h
-line_none p k x _ _ _ (LineCalls.receive c g a h) = plain_none (floor_shape p) _ g a h
-line_none p k x _ _ _ (LineCalls.each c g a h) = plain_none (floor_shape p) _ g a h
+line_none p k x _ _ _ (LineCalls.send c o g a h) = plain_none _ g a h
+line_none p k x _ _ _ (LineCalls.receive c g a h) = plain_none _ g a h
+line_none p k x _ _ _ (LineCalls.each c g a h) = plain_none _ g a h
 line_none p k x _ _ _ (LineCalls.trysend c o g a h) = try_none _ g a h
 line_none p k x _ _ _ (LineCalls.tryreceive c g a h) = try_none _ g a h
 line_none p k x _ _ _ (LineCalls.select g a h) = select_none _ g a h

@@ -1,22 +1,18 @@
 -- The clauses of a select of a program: one to seven, on distinct channels that the program declares.
-use Rattle.std.specs.Prelude.{◌≡◌, ℕ, zero, suc, ◌+◌, ◌<◌, ◌≤◌, ◌==◌, ◌||◌, ◌&&◌, not, nat_lt, nat_le, Bool, true, false, List, [], ◌∷◌, ◌++◌, length, drop, Option, Some, None, is_some, slice_get, refl}
+use Rattle.std.specs.Prelude.{◌≡◌, ℕ, zero, suc, ◌+◌, ◌<◌, ◌≤◌, ◌==◌, ◌||◌, not, nat_lt, Bool, true, false, List, [], ◌∷◌, ◌++◌, length, drop, Option, Some, None, is_some, slice_get, refl}
 use Rattle.std.proofs.Common.{sym, ap, ◌∙◌, subst, length-append, arith, option_map}
 use Rattle.std.proofs.lemmas.Bool.Decides.{nat_tests}
 use Rattle.script_grammar.specs.declared.instructions.Instruction.{Instruction}
 use Rattle.script_grammar.specs.declared.instructions.Instruction.TheVariants as line
 use Rattle.script_grammar.specs.Programs.{Program, Block}
-use Rattle.script_grammar.specs.Blocks.{Open, opened, with_line, clauses_after, stands, fits, is_among, is_new, is_clause, is_end}
+use Rattle.script_grammar.specs.Blocks.{Open, opened, with_line, clauses_after, stands, fits, is_among, is_new}
 use Rattle.script_grammar.specs.Words.{has_items}
-use Rattle.script_grammar.specs.WellFormed.{name_given, few_clauses, is_within, line_fits, lines_fit, weight_in, blocks_fit, IsProgram}
+use Rattle.script_grammar.specs.WellFormed.{name_given, few_clauses, is_within, lines_fit, weight_in, blocks_fit, IsProgram}
 use Rattle.script_grammar.specs.Tags.{code_of, code_at, code_of_block, block_of_tag}
 use Rattle.script_grammar.proofs.Truths.{both_true, lt-from_true, le-from_true}
-use Rattle.call_meaning.specs.ChannelCalls.{Call, sends, receives}
+use Rattle.call_meaning.specs.ChannelCalls.{Call, channel_of}
 use Rattle.script_meaning.specs.Configs.{Config}
 use Rattle.script_meaning.specs.Lines.{clauses_in, clauses_at}
-
-abbrev pub channel_of : Call → ℕ
-channel_of (sends c v) = c
-channel_of (receives c) = c
 
 -- clauses behind those that name these channels, of n that are declared
 pub record ClausesFit (n : ℕ) (before : List ℕ) (calls : List Call) : Type 0 where

@@ -9,13 +9,11 @@ use Rattle.channel_model.specs.declared.acts.Act.{Act}
 use Rattle.channel_model.specs.declared.acts.Act.TheVariants.{Hand, Put, Offer, Await, Admit, Drop, Drain, WakeClosed, Void}
 use Rattle.channel_model.specs.declared.acts.ChannelNote.{ChannelNote}
 use Rattle.channel_model.specs.declared.acts.ChannelNote.TheVariants as of_channel
-use Rattle.channel_model.specs.declared.acts.Kind.{Kind}
-use Rattle.channel_model.specs.Channels.{Shape, kind_at}
 use Rattle.job_model.specs.declared.acts.JobAct.{JobAct}
 use Rattle.note_book.specs.declared.book.Item.{Item}
 use Rattle.note_book.specs.declared.book.Item.TheVariants as item
 use Rattle.call_meaning.specs.Telling.{Told, on_channels, on_jobs, PassedBelow, FailedUp, IsCancelling, NoneToAdmit, FitsUpTo, NoReceiver, NothingQueued, IsVoided, made, did, items_in}
-use Rattle.call_meaning.specs.ChannelCalls.{Call, sends, receives, Answer, spent, blocked, placed, revoked, wait_at, Admits, Drops, Drains, Wakes, Closes, CancelsChannel, AtOnce, Refused, TryRefused, EndsAtOnce, PlainCall, TryCall, SelectCall, Places, AdmitsIn, Stops, GivesUp, offer_told}
+use Rattle.call_meaning.specs.ChannelCalls.{Call, sends, receives, channel_of, Answer, spent, blocked, placed, revoked, wait_at, Admits, Drops, Drains, Wakes, Closes, CancelsChannel, AtOnce, Refused, TryRefused, EndsAtOnce, PlainCall, TryCall, SelectCall, Places, AdmitsIn, Stops, GivesUp, offer_told}
 use Rattle.call_meaning.specs.JobCalls.{NotAttached, Starts, Passes, Breaks, Chain, EndsBody, BreaksOff}
 use Rattle.job_model.specs.Cancels.{own_cancel}
 use Rattle.script_grammar.specs.declared.instructions.Instruction.{Instruction}
@@ -45,10 +43,6 @@ item_asks base (item.Job n) = false
 
 abbrev pub asks_in : ℕ → List Told → Bool
 asks_in base group = list_any (item_asks base) (items_in group)
-
-abbrev pub channel_of : Call → ℕ
-channel_of (sends c v) = c
-channel_of (receives c) = c
 
 abbrev pub IsLow : ℕ → Call → Type 0
 IsLow base call = nat_le base (channel_of call) ≡ false
@@ -148,23 +142,23 @@ module _ (base : ℕ) where
   blocked_none (sends c v) = refl
   blocked_none (receives c) = refl
 
-  ended_none : (kind : Kind) (w : WaitId) (group : List Told) → EndsAtOnce kind w group → asks_in base group ≡ false
+  ended_none : (w : WaitId) (group : List Told) → EndsAtOnce w group → asks_in base group ≡ false
   unfolding items_in
-  ended_none kind w _ EndsAtOnce.sent = refl
-  ended_none kind w _ (EndsAtOnce.voided b) = refl
+  ended_none w _ EndsAtOnce.sent = refl
+  ended_none w _ EndsAtOnce.voided = refl
 
   offer_none : (c v q : ℕ) (admits : List Told) → nat_le base c ≡ false → Admits c admits → asks_in base (offer_told c v q admits) ≡ false
   unfolding items_in
   offer_none c v q admits low h = neither_of (nat_le base c) (asks_in base admits) low (admits_none c admits h)
 
-  pub plain_none : (shape : Shape) (call : Call) (group : List Told) (a : Answer) → IsLow base call → PlainCall shape call group a → asks_in base group ≡ false
+  pub plain_none : (call : Call) (group : List Told) (a : Answer) → IsLow base call → PlainCall call group a → asks_in base group ≡ false
   unfolding items_in
-  plain_none shape _ _ _ low (PlainCall.at_once call group a h) = at_once_none call group a low h
-  plain_none shape _ _ _ low (PlainCall.refused call told a h) = refused_none call told a h
-  plain_none shape _ _ _ low (PlainCall.no_place call all e) = ap (asks_in base) e ∙ spent_none call low
-  plain_none shape _ _ _ low (PlainCall.offers c v q admits h) = offer_none c v q admits low h
-  plain_none shape _ _ _ low (PlainCall.offer_ends c v q admits settles all h s e) = ap (asks_in base) e ∙ neither (offer_told c v q admits) settles (offer_none c v q admits low h) (ended_none (kind_at shape c) (wait_at c q) settles s)
-  plain_none shape _ _ _ low (PlainCall.awaits c q) = none_of (nat_le base c) low
+  plain_none _ _ _ low (PlainCall.at_once call group a h) = at_once_none call group a low h
+  plain_none _ _ _ low (PlainCall.refused call told a h) = refused_none call told a h
+  plain_none _ _ _ low (PlainCall.no_place call all e) = ap (asks_in base) e ∙ spent_none call low
+  plain_none _ _ _ low (PlainCall.offers c v q admits h) = offer_none c v q admits low h
+  plain_none _ _ _ low (PlainCall.offer_ends c v q admits settles all h s e) = ap (asks_in base) e ∙ neither (offer_told c v q admits) settles (offer_none c v q admits low h) (ended_none (wait_at c q) settles s)
+  plain_none _ _ _ low (PlainCall.awaits c q) = none_of (nat_le base c) low
 
   pub try_none : (call : Call) (group : List Told) (a : Answer) → IsLow base call → TryCall call group a → asks_in base group ≡ false
   try_none _ _ _ low (TryCall.at_once call group a h) = at_once_none call group a low h
@@ -206,7 +200,7 @@ module _ (base : ℕ) where
   select_none calls _ _ low (SelectCall.meets_close before later call t all a f h e) = ap (asks_in base) e ∙ neither (map blocked before) (t ∷ []) (passed_none before) (refused_none call t a h)
   select_none calls _ _ low (SelectCall.no_place before later c v all f e) = ap (asks_in base) e ∙ neither (map blocked before) (spent (sends c v)) (passed_none before) (spent_none (sends c v) (low_of base calls before (sends c v) later f low))
   select_none calls _ _ low (SelectCall.waits w group admits all h d e) = ap (asks_in base) e ∙ neither (map blocked calls) (group ++ admits) (passed_none calls) (neither group admits (places_none w 1 calls group low h.places) (admits_in_none calls admits d))
-  select_none calls _ _ low (SelectCall.resolved w before later group admits all f h d e) = ap (asks_in base) e ∙ neither (map blocked calls) _ (passed_none calls) (neither group _ (places_none w 1 before group (low_left base before later (subst (AreLow base) f low)) h.places) (admits_in_none before admits d))
+  select_none calls _ _ low (SelectCall.resolved w before later call group admits all f h d e) = ap (asks_in base) e ∙ neither (map blocked calls) _ (passed_none calls) (neither group _ (places_none w 1 before group (low_left base before (call ∷ later) (subst (AreLow base) f low)) h.places) (admits_in_none before admits d))
   select_none calls _ _ low (SelectCall.stops_at_first later call stop all a f h e) = ap (asks_in base) e ∙ neither (map blocked calls) stop (passed_none calls) (stops_none call stop a (low_first base call later (subst (AreLow base) f low)) h)
   select_none calls _ _ low (SelectCall.stops w before later call group stop admits all a f h s d e) = ap (asks_in base) e ∙ neither (map blocked calls) _ (passed_none calls) (neither ((group ++ stop) ++ revoked w) admits (neither (group ++ stop) (revoked w) (neither group stop (places_none w 1 before group (low_left base before (call ∷ later) (subst (AreLow base) f low)) h.places) (stops_none call stop a (low_of base calls before call later f low) s)) refl) (admits_in_none before admits d))
   select_none calls _ _ low (SelectCall.stops_late w before later call group stop admits all a f h s d e) = ap (asks_in base) e ∙ neither (map blocked calls) _ (passed_none calls) (neither (group ++ stop) _ (neither group stop (places_none w 1 before group (low_left base before (call ∷ later) (subst (AreLow base) f low)) h.places) (stops_none call stop a (low_of base calls before call later f low) s)) (admits_in_none before admits d))

@@ -34,7 +34,7 @@ use Rattle.script_grammar.specs.Tags.{code_of, spawned}
 use Rattle.script_grammar.proofs.Layouts.{test_at, channels_known}
 use Rattle.script_meaning.specs.declared.stage.Stage.{Stage}
 use Rattle.script_meaning.specs.declared.stage.Stage.TheVariants.{Fresh, Running, Waiting, SeesJob, Unwinding, Leaving, SeesScope, Ended}
-use Rattle.script_meaning.specs.Shapes.{floor_shape, base_of}
+use Rattle.script_meaning.specs.Shapes.{base_of}
 use Rattle.script_meaning.specs.Configs.{Config, Entered, in_repeat, in_each, in_scope, InScope, scope_in, fresh, at_stage, past_launch, named, set_row, innermost, LineIs, IsAt, Names}
 use Rattle.script_meaning.specs.Lines.{is_lazy, LineCalls, StartsAndReceives, After, AfterAwait, Resumed, AtScopeEnd, AfterScope}
 use Rattle.script_meaning.specs.Moves.{Move}
@@ -197,7 +197,7 @@ pub data Receives (p : Program) (k : ℕ) (x : Config) (row : ℕ) (a : Answer) 
 pub data MoveAsks (p : Program) (k : ℕ) (x : Config) (group : List Told) (y : Config) : Type 0 where
   none : asks_in (base_of p) group ≡ false → MoveAsks p k x group y
   asks : (row : ℕ) (first call : List Told) (a : Answer) → asks_in (base_of p) first ≡ false → group ≡ first ++ call
-      → PlainCall (floor_shape p) (receives (done_channel (base_of p) row)) call a → Receives p k x row a y
+      → PlainCall (receives (done_channel (base_of p) row)) call a → Receives p k x row a y
       → MoveAsks p k x group y
 
 -- a line names a declared channel
@@ -206,9 +206,9 @@ declared p k i l ok at = test_at (names_channel (length p.channels)) (code_of p 
 
 line_asks : (p : Program) (k : ℕ) (x : Config) (i : Instruction) (group : List Told) (a : Answer) (y : Config) → IsProgram p → IsAt p k x i → LineCalls p k x i group a → After p k x i a y → MoveAsks p k x group y
 unfolding items_in
-line_asks p k x _ _ _ y ok at (LineCalls.send c o g a h) f = MoveAsks.none (plain_none (base_of p) (floor_shape p) _ g a (below_low (base_of p) c (declared p k x.line (line.Send c o) ok at.line_is)) h)
-line_asks p k x _ _ _ y ok at (LineCalls.receive c g a h) f = MoveAsks.none (plain_none (base_of p) (floor_shape p) _ g a (below_low (base_of p) c (declared p k x.line (line.Receive c) ok at.line_is)) h)
-line_asks p k x _ _ _ y ok at (LineCalls.each c g a h) f = MoveAsks.none (plain_none (base_of p) (floor_shape p) _ g a (below_low (base_of p) c (declared p k x.line (line.Each c) ok at.line_is)) h)
+line_asks p k x _ _ _ y ok at (LineCalls.send c o g a h) f = MoveAsks.none (plain_none (base_of p) _ g a (below_low (base_of p) c (declared p k x.line (line.Send c o) ok at.line_is)) h)
+line_asks p k x _ _ _ y ok at (LineCalls.receive c g a h) f = MoveAsks.none (plain_none (base_of p) _ g a (below_low (base_of p) c (declared p k x.line (line.Receive c) ok at.line_is)) h)
+line_asks p k x _ _ _ y ok at (LineCalls.each c g a h) f = MoveAsks.none (plain_none (base_of p) _ g a (below_low (base_of p) c (declared p k x.line (line.Each c) ok at.line_is)) h)
 line_asks p k x _ _ _ y ok at (LineCalls.trysend c o g a h) f = MoveAsks.none (try_none (base_of p) _ g a (below_low (base_of p) c (declared p k x.line (line.TrySend c o) ok at.line_is)) h)
 line_asks p k x _ _ _ y ok at (LineCalls.tryreceive c g a h) f = MoveAsks.none (try_none (base_of p) _ g a (below_low (base_of p) c (declared p k x.line (line.TryReceive c) ok at.line_is)) h)
 line_asks p k x _ _ _ y ok at (LineCalls.select g a h) f = MoveAsks.none (select_none (base_of p) _ g a (clauses_low x (base_of p) (drop (x.line + 1) (code_of p k)) (all_drop (base_of p) (x.line + 1) (code_of p k) (channels_known p k ok))) h)
@@ -621,12 +621,12 @@ not_placed : (base c : ℕ) (group : List Told) → base ≤ c → asks_in base 
 not_placed base c group le e = not_asked base c (items_in group) le e
 
 -- where it is given a place it waits there
-call_placed : (base : ℕ) (shape : _) (c d : ℕ) (call : List Told) (a : Answer) → base ≤ d → PlainCall shape (receives c) call a → placed_in d call ≡ true → (q : ℕ) × (a ≡ Waits (wait_at c q)) × (c ≡ d)
+call_placed : (base : ℕ) (c d : ℕ) (call : List Told) (a : Answer) → base ≤ d → PlainCall (receives c) call a → placed_in d call ≡ true → (q : ℕ) × (a ≡ Waits (wait_at c q)) × (c ≡ d)
 unfolding items_in
-call_placed base shape c d _ _ le (PlainCall.at_once _ call a (AtOnce.takes _ v q admits h)) e = never (sym (not_placed base d admits le (admits_none base c admits h)) ∙ e)
-call_placed base shape c d _ _ le (PlainCall.refused _ t a (Refused.receive _ u)) e = cc
-call_placed base shape c d _ _ le (PlainCall.no_place _ all is) e = never (sym (ap (placed_in d) is) ∙ e)
-call_placed base shape c d _ _ le (PlainCall.awaits _ q) e = (q, refl, eqb-true c d (only (c == d) e))
+call_placed base c d _ _ le (PlainCall.at_once _ call a (AtOnce.takes _ v q admits h)) e = never (sym (not_placed base d admits le (admits_none base c admits h)) ∙ e)
+call_placed base c d _ _ le (PlainCall.refused _ t a (Refused.receive _ u)) e = cc
+call_placed base c d _ _ le (PlainCall.no_place _ all is) e = never (sym (ap (placed_in d) is) ∙ e)
+call_placed base c d _ _ le (PlainCall.awaits _ q) e = (q, refl, eqb-true c d (only (c == d) e))
   where
     only : (b : Bool) → (b || false) ≡ true → b ≡ true
     only true f = refl
@@ -741,11 +741,11 @@ fact_places c seen d = placed_then c seen (on_channels (SpentForReceives d) ∷ 
     or_none false = refl
 
 -- a receive on a done channel
-call_asked : (base : ℕ) (shape : _) (row : ℕ) (seen call : List Told) (a : Answer) → attached_in row seen ≡ true → (placed_in (base + row) seen ≡ true → closed_in (base + row) seen ≡ true) → PlainCall shape (receives (base + row)) call a → AllAsked base seen call
+call_asked : (base row : ℕ) (seen call : List Told) (a : Answer) → attached_in row seen ≡ true → (placed_in (base + row) seen ≡ true → closed_in (base + row) seen ≡ true) → PlainCall (receives (base + row)) call a → AllAsked base seen call
 unfolding AllAsked items_in
-call_asked base shape row seen _ _ own once (PlainCall.at_once _ call a (AtOnce.takes _ v q admits h)) = (tt, quiet_asked base _ admits (admits_none base (base + row) admits h))
-call_asked base shape row seen _ _ own once (PlainCall.refused _ t a (Refused.receive _ u)) = (tt, tt)
-call_asked base shape row seen _ _ own once (PlainCall.no_place _ all is) = subst (AllAsked base seen) (sym is) (tt, (told_there, tt))
+call_asked base row seen _ _ own once (PlainCall.at_once _ call a (AtOnce.takes _ v q admits h)) = (tt, quiet_asked base _ admits (admits_none base (base + row) admits h))
+call_asked base row seen _ _ own once (PlainCall.refused _ t a (Refused.receive _ u)) = (tt, tt)
+call_asked base row seen _ _ own once (PlainCall.no_place _ all is) = subst (AllAsked base seen) (sym is) (tt, (told_there, tt))
   where
     c : ℕ
     c = base + row
@@ -761,7 +761,7 @@ call_asked base shape row seen _ _ own once (PlainCall.no_place _ all is) = subs
       subst (λ q. attached_in q now ≡ true) (sym (same_row r e)) (attached_more row seen (on_channels (SpentForReceives c) ∷ []) own),
       λ f. closed_then c seen (on_channels (SpentForReceives c) ∷ []) ∙ or_left (closed_in c seen) (closed_in c (on_channels (SpentForReceives c) ∷ [])) (once (sym (fact_places c seen c) ∙ f)),
     )
-call_asked base shape row seen _ _ own once (PlainCall.awaits _ q) = (tt, tt)
+call_asked base row seen _ _ own once (PlainCall.awaits _ q) = (tt, tt)
 
 -- ---- wherever its moves lead it
 
@@ -796,7 +796,7 @@ move_asked p k done told x group y apart h kind rows (MoveAsks.asks r first call
       (λ g. attached_more row told group (h.own row g))
       (λ g. attached_more row told group (subst (λ n. attached_in n told ≡ true) (same_row row (there row g).2) own_row))
       (either (placed_in (base_of p + row) told) (placed_in (base_of p + row) group) (sym (placed_then (base_of p + row) told group) ∙ f));
-  asked = asked_then (base_of p) [] told group h.asked (subst (AllAsked (base_of p) told) (sym is) (asked_then (base_of p) told first call (quiet_asked (base_of p) told first quiet) (call_asked (base_of p) (floor_shape p) r (told ++ first) call a (attached_more r told first own_row) closed_there c)));
+  asked = asked_then (base_of p) [] told group h.asked (subst (AllAsked (base_of p) told) (sym is) (asked_then (base_of p) told first call (quiet_asked (base_of p) told first quiet) (call_asked (base_of p) r (told ++ first) call a (attached_more r told first own_row) closed_there c)));
 }
   where
     own_row : attached_in r told ≡ true
@@ -808,7 +808,7 @@ move_asked p k done told x group y apart h kind rows (MoveAsks.asks r first call
     there : (row : ℕ) → placed_in (base_of p + row) group ≡ true → (q : ℕ) × (a ≡ Waits (wait_at (base_of p + r) q)) × (base_of p + r ≡ base_of p + row)
     there row g = ⊎_elim
         (λ f. never (sym (not_placed (base_of p) (base_of p + row) first (above (base_of p) row) quiet) ∙ f))
-        (λ f. call_placed (base_of p) (floor_shape p) (base_of p + r) (base_of p + row) call a (above (base_of p) row) c f)
+        (λ f. call_placed (base_of p) (base_of p + r) (base_of p + row) call a (above (base_of p) row) c f)
         (either (placed_in (base_of p + row) first) (placed_in (base_of p + row) call) (sym (ap (placed_in (base_of p + row)) is ∙ placed_then (base_of p + row) first call) ∙ g))
 
     new_place : (row : ℕ) → (q : ℕ) × (a ≡ Waits (wait_at (base_of p + r) q)) × (base_of p + r ≡ base_of p + row) → OnceAsked p k done (told ++ group) y row

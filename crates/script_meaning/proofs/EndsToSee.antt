@@ -7,7 +7,6 @@ use Rattle.channel_model.specs.declared.acts.Act.TheVariants.{Await, Settle}
 use Rattle.channel_model.specs.declared.acts.Settled.{Settled}
 use Rattle.channel_model.specs.declared.acts.Settled.TheVariants as settled
 use Rattle.channel_model.specs.declared.acts.ChannelNote.TheVariants.{ReceiveClosed}
-use Rattle.channel_model.specs.Channels.{Shape}
 use Rattle.channel_model.specs.Histories.{replay, acts_of, Legal}
 use Rattle.channel_model.proofs.Sound.{channel_lasts, closed_keeps}
 use Rattle.channel_model.proofs.ClosedWaits.{closed_by_wait}
@@ -75,42 +74,42 @@ ends_closed told more all w c n v e h =
 
 -- ---- receives
 
-receive_waits : (shape : Shape) (call : Call) (c : ℕ) (group : List Told) (a : Answer) (w : WaitId) → PlainCall shape call group a → call ≡ receives c → a ≡ Waits w → AwaitsOn group w c
-receive_waits shape _ c _ _ w (PlainCall.at_once call group a h) e f = absurd (no_wait call group a h f)
+receive_waits : (call : Call) (c : ℕ) (group : List Told) (a : Answer) (w : WaitId) → PlainCall call group a → call ≡ receives c → a ≡ Waits w → AwaitsOn group w c
+receive_waits _ c _ _ w (PlainCall.at_once call group a h) e f = absurd (no_wait call group a h f)
   where
     no_wait : (call : Call) (group : List Told) (a : Answer) → AtOnce call group a → a ≡ Waits w → ⊥
     no_wait _ _ _ (AtOnce.hands d v q) f = cc
     no_wait _ _ _ (AtOnce.puts d v q drops i) f = cc
     no_wait _ _ _ (AtOnce.takes d v q admits i) f = cc
-receive_waits shape _ c _ _ w (PlainCall.refused call told a h) e f = absurd (no_wait call told a h f)
+receive_waits _ c _ _ w (PlainCall.refused call told a h) e f = absurd (no_wait call told a h f)
   where
     no_wait : (call : Call) (told : Told) (a : Answer) → Refused call told a → a ≡ Waits w → ⊥
     no_wait _ _ _ (Refused.send d v u) f = cc
     no_wait _ _ _ (Refused.receive d u) f = cc
-receive_waits shape _ c _ _ w (PlainCall.no_place call all is) e f = cc
-receive_waits shape _ c _ _ w (PlainCall.offers d v q admits i) e f = cc
-receive_waits shape _ c _ _ w (PlainCall.offer_ends d v q admits settles all i j k) e f = cc
-receive_waits shape _ c _ _ w (PlainCall.awaits d q) e f =
+receive_waits _ c _ _ w (PlainCall.no_place call all is) e f = cc
+receive_waits _ c _ _ w (PlainCall.offers d v q admits i) e f = cc
+receive_waits _ c _ _ w (PlainCall.offer_ends d v q admits settles all i j k) e f = cc
+receive_waits _ c _ _ w (PlainCall.awaits d q) e f =
     let same : d ≡ c = cc in
     let is : wait_at d q ≡ w = cc in
     subst (λ n. AwaitsOn (made (Await d q (wait_at d q) 0) ∷ []) w n) same (record { before = []; place = q; behind = []; told_is = refl; wait = sym is })
 
-receive_closed : (shape : Shape) (call : Call) (c : ℕ) (group : List Told) (a : Answer) (v : ℕ) → PlainCall shape call group a → call ≡ receives c → a ≡ Closed v → ToldClosed group c
-receive_closed shape _ c _ _ v (PlainCall.at_once call group a h) e f = absurd (not_closed call group a h f)
+receive_closed : (call : Call) (c : ℕ) (group : List Told) (a : Answer) (v : ℕ) → PlainCall call group a → call ≡ receives c → a ≡ Closed v → ToldClosed group c
+receive_closed _ c _ _ v (PlainCall.at_once call group a h) e f = absurd (not_closed call group a h f)
   where
     not_closed : (call : Call) (group : List Told) (a : Answer) → AtOnce call group a → a ≡ Closed v → ⊥
     not_closed _ _ _ (AtOnce.hands d u q) f = cc
     not_closed _ _ _ (AtOnce.puts d u q drops i) f = cc
     not_closed _ _ _ (AtOnce.takes d u q admits i) f = cc
-receive_closed shape _ c _ _ v (PlainCall.refused call told a h) e f = met call told a h e f
+receive_closed _ c _ _ v (PlainCall.refused call told a h) e f = met call told a h e f
   where
     met : (call : Call) (told : Told) (a : Answer) → Refused call told a → call ≡ receives c → a ≡ Closed v → ToldClosed (told ∷ []) c
     met _ _ _ (Refused.send d x u) e f = cc
     met _ _ _ (Refused.receive d u) e f = let same : d ≡ c = cc in subst (λ n. ToldClosed (heard (ReceiveClosed d u) ∷ []) n) same (ToldClosed.met [] u [] refl)
-receive_closed shape _ c _ _ v (PlainCall.no_place call all is) e f = cc
-receive_closed shape _ c _ _ v (PlainCall.offers d x q admits i) e f = cc
-receive_closed shape _ c _ _ v (PlainCall.offer_ends d x q admits settles all i j k) e f = cc
-receive_closed shape _ c _ _ v (PlainCall.awaits d q) e f = cc
+receive_closed _ c _ _ v (PlainCall.no_place call all is) e f = cc
+receive_closed _ c _ _ v (PlainCall.offers d x q admits i) e f = cc
+receive_closed _ c _ _ v (PlainCall.offer_ends d x q admits settles all i j k) e f = cc
+receive_closed _ c _ _ v (PlainCall.awaits d q) e f = cc
 
 -- ---- where a coroutine waits for an end, or has to see one
 
@@ -192,7 +191,7 @@ await_waits p k x _ _ _ w job row (LineCalls.join j r group a m call) e f n = cc
 await_waits p k x _ _ _ w job row (LineCalls.await j r group a m (StartsAndReceives.both starts told all b s call q)) e f n =
     let same : j ≡ job = (let both_ways : line.Await j ≡ line.Await job = e in cc) in
     let rows : r ≡ row = same_name x j r row m (ap (λ z. slice_get x.rows z) same ∙ n) in
-    subst (λ z. AwaitsOn all w (done_channel (base_of p) z)) rows (awaits_behind starts told all w (done_channel (base_of p) r) q (receive_waits (floor_shape p) (receives (done_channel (base_of p) r)) (done_channel (base_of p) r) told b w call refl f))
+    subst (λ z. AwaitsOn all w (done_channel (base_of p) z)) rows (awaits_behind starts told all w (done_channel (base_of p) r) q (receive_waits (receives (done_channel (base_of p) r)) (done_channel (base_of p) r) told b w call refl f))
 
 await_closed : (p : Program) (k : ℕ) (x : Config) (i : Instruction) (group : List Told) (a : Answer) (v job row : ℕ) → LineCalls p k x i group a → i ≡ line.Await job → a ≡ Closed v → Names x job row → ToldClosed group (done_channel (base_of p) row)
 await_closed p k x _ _ _ v job row (LineCalls.send c o group a call) e f n = cc
@@ -205,7 +204,7 @@ await_closed p k x _ _ _ v job row (LineCalls.join j r group a m call) e f n = c
 await_closed p k x _ _ _ v job row (LineCalls.await j r group a m (StartsAndReceives.both starts told all b s call q)) e f n =
     let same : j ≡ job = (let both_ways : line.Await j ≡ line.Await job = e in cc) in
     let rows : r ≡ row = same_name x j r row m (ap (λ z. slice_get x.rows z) same ∙ n) in
-    subst (λ z. ToldClosed all (done_channel (base_of p) z)) rows (closed_behind starts told all (done_channel (base_of p) r) q (receive_closed (floor_shape p) (receives (done_channel (base_of p) r)) (done_channel (base_of p) r) told b v call refl f))
+    subst (λ z. ToldClosed all (done_channel (base_of p) z)) rows (closed_behind starts told all (done_channel (base_of p) r) q (receive_closed (receives (done_channel (base_of p) r)) (done_channel (base_of p) r) told b v call refl f))
 
 same_line : (p : Program) (k : ℕ) (x : Config) (i j : Instruction) → LineIs p k x i → LineIs p k x j → i ≡ j
 same_line p k x i j a b = let both_ways : Some i ≡ Some j = sym a ∙ b in cc
@@ -282,14 +281,14 @@ after_scope_sees p k all x s _ y (AfterScope.failed f) = asks_none p k all y (Un
 
 -- at the end of a scope
 scope_end_sees : (p : Program) (k : ℕ) (told first group all most : List Told) (x : Config) (s : InScope) (a : Answer) (y : Config) → scope_in x.entered ≡ Some s → all ≡ first ++ group → most ≡ told ++ all
-    → PlainCall (floor_shape p) (receives (done_channel (base_of p) s.row)) group a → AtScopeEnd k x s a y → Sees p k most y
+    → PlainCall (receives (done_channel (base_of p) s.row)) group a → AtScopeEnd k x s a y → Sees p k most y
 scope_end_sees p k told first group all most x s _ _ e q r call (AtScopeEnd.waits w) =
-    leaves_so p k most x w s e (awaits_behind told all most w (done_channel (base_of p) s.row) r (awaits_behind first group all w (done_channel (base_of p) s.row) q (receive_waits (floor_shape p) _ (done_channel (base_of p) s.row) group (Waits w) w call refl refl)))
+    leaves_so p k most x w s e (awaits_behind told all most w (done_channel (base_of p) s.row) r (awaits_behind first group all w (done_channel (base_of p) s.row) q (receive_waits _ (done_channel (base_of p) s.row) group (Waits w) w call refl refl)))
 scope_end_sees p k told first group all most x s _ _ e q r call (AtScopeEnd.closed v) =
     sees_scope_so p k most x (λ t i.
     let same : s ≡ t = (let both_ways : Some s ≡ Some t = sym e ∙ i in cc) in
     subst (λ (z : InScope). ToldClosed most (done_channel (base_of p) z.row)) same
-    (closed_behind told all most (done_channel (base_of p) s.row) r (closed_behind first group all (done_channel (base_of p) s.row) q (receive_closed (floor_shape p) _ (done_channel (base_of p) s.row) group (Closed v) v call refl refl))))
+    (closed_behind told all most (done_channel (base_of p) s.row) r (closed_behind first group all (done_channel (base_of p) s.row) q (receive_closed _ (done_channel (base_of p) s.row) group (Closed v) v call refl refl))))
 scope_end_sees p k told first group all most x s _ y e q r call AtScopeEnd.no_place = asks_none p k most y (Unwinding (Some k)) refl refl
 
 -- ---- moves

@@ -20,12 +20,13 @@ use Rattle.note_book.specs.Items.{channel_acts_in}
 use Rattle.note_book.proofs.Appended.{channel_acts_in-append}
 use Rattle.call_meaning.specs.Telling.{Told, note, on_channels, on_jobs, items_in}
 use Rattle.call_meaning.specs.Facts.{IsTakenBack}
+use Rattle.call_meaning.specs.ChannelCalls.{is_given_up}
 use Rattle.call_meaning.specs.Stories.{Moment, beginning, IsTrue, with_told, story_of}
 use Rattle.script_grammar.specs.Programs.{Program}
 use Rattle.script_meaning.specs.Shapes.{floor_shape}
 use Rattle.script_meaning.specs.Configs.{Config}
 use Rattle.script_meaning.specs.Books.{Runs}
-use Rattle.script_meaning.specs.Laws.{wait_of, is_given_up, settle_note, IsBehindSaw, MayGiveUp, GivesUpAfterSaw}
+use Rattle.script_meaning.specs.Laws.{wait_of, settle_note, IsBehindSaw, MayGiveUp, GivesUpAfterSaw}
 use Rattle.script_meaning.proofs.Debts.{same_tail}
 use Rattle.script_meaning.proofs.ActsFollowed.{call_told}
 use Rattle.script_meaning.proofs.TakenBack.{back_later, withdrawn_wait}

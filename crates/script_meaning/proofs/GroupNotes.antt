@@ -7,9 +7,7 @@ use Rattle.channel_model.specs.declared.acts.Act.{Act}
 use Rattle.channel_model.specs.declared.acts.Act.TheVariants.{Hand, Put, Offer, Await, Take, Admit, Drop, Close, Void, Drain, WakeClosed, Settle}
 use Rattle.channel_model.specs.declared.acts.ChannelNote.{ChannelNote}
 use Rattle.channel_model.specs.declared.acts.ChannelNote.TheVariants as heard_as
-use Rattle.channel_model.specs.declared.acts.Kind.{Kind}
 use Rattle.channel_model.specs.declared.acts.Settled.{Settled}
-use Rattle.channel_model.specs.Channels.{Shape}
 use Rattle.job_model.specs.declared.acts.End.{End}
 use Rattle.job_model.specs.declared.acts.Reason.{Reason}
 use Rattle.job_model.specs.declared.acts.JobAct.{JobAct}
@@ -19,10 +17,10 @@ use Rattle.job_model.specs.Done.{done_channel}
 use Rattle.note_book.specs.declared.book.Item.{Item}
 use Rattle.note_book.specs.declared.book.Item.TheVariants as item
 use Rattle.call_meaning.specs.Telling.{Told, note, on_channels, on_jobs, ChannelFact, JobFact, TakenBack, FailedUp, IsCancelling, ParentIs, items_in, made, heard, did, knew, saw, saw_end}
-use Rattle.call_meaning.specs.ChannelCalls.{Call, sends, receives, Answer, NoPlace, Admits, Drops, Wakes, Drains, Closes, CancelsChannel, AtOnce, Refused, TryRefused, blocked, spent, EndsAtOnce, PlainCall, TryCall, SelectCall, Places, AdmitsIn, Stops, placed, revoked, offer_told, wait_at, GivesUp}
+use Rattle.call_meaning.specs.ChannelCalls.{Call, sends, receives, channel_of, Answer, NoPlace, Admits, Drops, Wakes, Drains, Closes, CancelsChannel, AtOnce, Refused, TryRefused, blocked, spent, EndsAtOnce, PlainCall, TryCall, SelectCall, Places, AdmitsIn, Stops, placed, revoked, offer_told, wait_at, GivesUp}
 use Rattle.call_meaning.specs.JobCalls.{Starts, Passes, Breaks, reason_for, Chain, EndsBody, BreaksOff}
 use Rattle.script_grammar.specs.Programs.{Program}
-use Rattle.script_meaning.specs.Shapes.{floor_shape, base_of}
+use Rattle.script_meaning.specs.Shapes.{base_of}
 use Rattle.script_meaning.specs.Lines.{StartsAndReceives}
 use Rattle.script_meaning.proofs.BooksGoOn.{items_in-append}
 use Rattle.script_meaning.proofs.JobDebts.{Parents, AllKnown, AreCancels, known_left, known_right}
@@ -141,34 +139,29 @@ try_refused_all : (T : Item → Bool) → PassesCalls T → (call : Call) (t : T
 try_refused_all T al _ _ (TryRefused.send c v u) = noted_all T _ [] (al.answers (heard_as.TrySendClosed c v u) refl) (all_none T)
 try_refused_all T al _ _ (TryRefused.receive c u) = noted_all T _ [] (al.answers (heard_as.TryReceiveClosed c u) refl) (all_none T)
 
--- the channel of a call
-abbrev pub channel_asked : Call → ℕ
-channel_asked (sends c v) = c
-channel_asked (receives c) = c
-
 -- where a call is answered so, its note that no place was left passes
 abbrev pub SpentPasses : (Item → Bool) → Call → Answer → Type 0
-SpentPasses T call a = a ≡ NoPlace → T (spent_note (channel_asked call)) ≡ true
+SpentPasses T call a = a ≡ NoPlace → T (spent_note (channel_of call)) ≡ true
 
-spent_all : (T : Item → Bool) (call : Call) → T (spent_note (channel_asked call)) ≡ true → AllPass T (spent call)
+spent_all : (T : Item → Bool) (call : Call) → T (spent_note (channel_of call)) ≡ true → AllPass T (spent call)
 spent_all T (sends c v) e = channel_fact T _ _ (noted_all T (spent_note c) [] e (all_none T))
 spent_all T (receives c) e = channel_fact T _ _ (noted_all T (spent_note c) [] e (all_none T))
 
-ends_all : (T : Item → Bool) → PassesCalls T → (kind : Kind) (w : WaitId) (g : List Told) → EndsAtOnce kind w g → AllPass T g
-ends_all T al kind w _ EndsAtOnce.sent = noted_all T _ [] (al.acts _ refl) (all_none T)
-ends_all T al kind w _ (EndsAtOnce.voided b) = channel_fact T _ _ (noted_all T _ [] (al.acts _ refl) (all_none T))
+ends_all : (T : Item → Bool) → PassesCalls T → (w : WaitId) (g : List Told) → EndsAtOnce w g → AllPass T g
+ends_all T al w _ EndsAtOnce.sent = noted_all T _ [] (al.acts _ refl) (all_none T)
+ends_all T al w _ EndsAtOnce.voided = channel_fact T _ _ (noted_all T _ [] (al.acts _ refl) (all_none T))
 
 offer_all : (T : Item → Bool) → PassesCalls T → (c v q : ℕ) (admits : List Told) → AllPass T admits → AllPass T (offer_told c v q admits)
 offer_all T al c v q admits h = channel_fact T _ _ (noted_all T _ admits (al.acts (Offer c q v (wait_at c q) 0) refl) h)
 
-pub plain_all : (T : Item → Bool) → PassesCalls T → (shape : Shape) (call : Call) (g : List Told) (a : Answer) → SpentPasses T call a → PlainCall shape call g a → AllPass T g
-plain_all T al shape _ _ _ s (PlainCall.at_once call g a h) = once_all T al call g a h
-plain_all T al shape _ _ _ s (PlainCall.refused call t a h) = refused_all T al call t a h
-plain_all T al shape _ _ _ s (PlainCall.no_place call all e) = all_as T all _ e (spent_all T call (s refl))
-plain_all T al shape _ _ _ s (PlainCall.offers c v q admits h) = offer_all T al c v q admits (admits_all T al c admits h)
-plain_all T al shape _ _ _ s (PlainCall.offer_ends c v q admits settles all h t e) =
-    all_as T all _ e (all_then T (offer_told c v q admits) settles (offer_all T al c v q admits (admits_all T al c admits h)) (ends_all T al _ (wait_at c q) settles t))
-plain_all T al shape _ _ _ s (PlainCall.awaits c q) = noted_all T _ [] (al.acts (Await c q (wait_at c q) 0) refl) (all_none T)
+pub plain_all : (T : Item → Bool) → PassesCalls T → (call : Call) (g : List Told) (a : Answer) → SpentPasses T call a → PlainCall call g a → AllPass T g
+plain_all T al _ _ _ s (PlainCall.at_once call g a h) = once_all T al call g a h
+plain_all T al _ _ _ s (PlainCall.refused call t a h) = refused_all T al call t a h
+plain_all T al _ _ _ s (PlainCall.no_place call all e) = all_as T all _ e (spent_all T call (s refl))
+plain_all T al _ _ _ s (PlainCall.offers c v q admits h) = offer_all T al c v q admits (admits_all T al c admits h)
+plain_all T al _ _ _ s (PlainCall.offer_ends c v q admits settles all h t e) =
+    all_as T all _ e (all_then T (offer_told c v q admits) settles (offer_all T al c v q admits (admits_all T al c admits h)) (ends_all T al (wait_at c q) settles t))
+plain_all T al _ _ _ s (PlainCall.awaits c q) = noted_all T _ [] (al.acts (Await c q (wait_at c q) 0) refl) (all_none T)
 
 -- ---- trysend and tryreceive
 
@@ -187,9 +180,9 @@ try_all T al _ _ _ s (TryCall.no_place c v) = spent_all T (sends c v) (s refl)
 -- the note that no place was left passes for the channel of each of these calls
 unfoldable pub AllSpentPass : (Item → Bool) → List Call → Type 0
 AllSpentPass T [] = Unit {0}
-AllSpentPass T (call ∷ calls) = (T (spent_note (channel_asked call)) ≡ true) × AllSpentPass T calls
+AllSpentPass T (call ∷ calls) = (T (spent_note (channel_of call)) ≡ true) × AllSpentPass T calls
 
-one_passes : (T : Item → Bool) (before : List Call) (call : Call) (later : List Call) → AllSpentPass T (before ++ call ∷ later) → T (spent_note (channel_asked call)) ≡ true
+one_passes : (T : Item → Bool) (before : List Call) (call : Call) (later : List Call) → AllSpentPass T (before ++ call ∷ later) → T (spent_note (channel_of call)) ≡ true
 unfolding AllSpentPass
 one_passes T [] call later h = h.0
 one_passes T (b ∷ before) call later h = one_passes T before call later h.1
@@ -211,7 +204,7 @@ admits_in_all T al _ _ AdmitsIn.none = all_none T
 admits_in_all T al _ _ (AdmitsIn.offered c v calls admits more all h rest e) = all_as T all _ e (all_then T admits more (admits_all T al c admits h) (admits_in_all T al calls more rest))
 admits_in_all T al _ _ (AdmitsIn.awaited c calls all rest) = admits_in_all T al calls all rest
 
-stops_all : (T : Item → Bool) → PassesCalls T → (call : Call) (g : List Told) (a : Answer) → T (spent_note (channel_asked call)) ≡ true → Stops call g a → AllPass T g
+stops_all : (T : Item → Bool) → PassesCalls T → (call : Call) (g : List Told) (a : Answer) → T (spent_note (channel_of call)) ≡ true → Stops call g a → AllPass T g
 stops_all T al _ _ _ s (Stops.receiver c v q) = channel_fact T _ _ (noted_all T _ [] (al.answers (heard_as.Partner c q) refl) (all_none T))
 stops_all T al _ _ _ s (Stops.offer c q) = channel_fact T _ _ (noted_all T _ [] (al.answers (heard_as.Partner c q) refl) (all_none T))
 stops_all T al _ _ _ s (Stops.closed call t a h) = refused_all T al call t a h
@@ -226,7 +219,7 @@ select_all T al cs _ _ s (SelectCall.meets_close passed later call t all a is h 
 select_all T al cs _ _ s (SelectCall.no_place passed later c v all is e) =
     all_as T all _ e (passed_all T al passed (spent (sends c v)) (spent_all T (sends c v) (one_passes T passed (sends c v) later (subst (AllSpentPass T) is s))))
 select_all T al cs _ _ s (SelectCall.waits w group admits all h d e) = all_as T all _ e (passed_all T al cs (group ++ admits) (all_then T group admits (places_all T al w 1 cs group h.places) (admits_in_all T al cs admits d)))
-select_all T al cs _ _ s (SelectCall.resolved w before later group admits all is h d e) =
+select_all T al cs _ _ s (SelectCall.resolved w before later call group admits all is h d e) =
     all_as T all _ e (passed_all T al cs (group ++ heard (heard_as.MainResolved w) ∷ admits)
     (all_then T group (heard (heard_as.MainResolved w) ∷ admits) (places_all T al w 1 before group h.places) (noted_all T _ admits (al.answers (heard_as.MainResolved w) refl) (admits_in_all T al before admits d))))
 select_all T al cs _ _ s (SelectCall.stops_at_first later call stop all a is h e) =
@@ -280,7 +273,7 @@ starts_all T al row _ Starts.before = job_fact T _ [] (all_none T)
 
 -- a start of the Job, and a receive on its done channel
 pub both_all : (T : Item → Bool) → PassesCalls T → (p : Program) (row : ℕ) (g : List Told) (a : Answer) → SpentPasses T (receives (done_channel (base_of p) row)) a → StartsAndReceives p row g a → AllPass T g
-both_all T al p row _ _ s (StartsAndReceives.both starts group all a h c e) = all_as T all _ e (all_then T starts group (starts_all T al row starts h) (plain_all T al (floor_shape p) _ group a s c))
+both_all T al p row _ _ s (StartsAndReceives.both starts group all a h c e) = all_as T all _ e (all_then T starts group (starts_all T al row starts h) (plain_all T al _ group a s c))
 
 cancels_all : (T : Item → Bool) → PassesCalls T → (acts : List JobAct) (more : List Told) → AreCancels acts → AllPass T more → AllPass T (map did acts ++ more)
 unfolding AreCancels

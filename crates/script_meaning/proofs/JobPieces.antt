@@ -2,7 +2,6 @@
 use Rattle.std.proofs.Common.{◌≡◌, ◌≢◌, ℕ, Bool, true, false, List, [], ◌∷◌, ◌++◌, refl, ap, sym, ◌∙◌, subst, append_assoc, Option, Some, None}
 use Rattle.std.specs.Prelude.{map}
 use Rattle.channel_model.specs.declared.acts.Act.TheVariants.{Admit, Drop, Drain, WakeClosed}
-use Rattle.channel_model.specs.Channels.{Shape, kind_at}
 use Rattle.job_model.specs.declared.acts.JobKind.{JobKind}
 use Rattle.job_model.specs.declared.acts.Reason.{Reason}
 use Rattle.job_model.specs.declared.acts.Reason.TheVariants as reasons
@@ -21,7 +20,7 @@ use Rattle.script_meaning.specs.Configs.{Config}
 use Rattle.script_meaning.specs.Moves.{Move}
 use Rattle.script_meaning.specs.Lines.{LineCalls, StartsAndReceives}
 use Rattle.script_meaning.specs.Books.{Spawns, Begins, Reaches}
-use Rattle.script_meaning.specs.Shapes.{base_of, floor_shape}
+use Rattle.script_meaning.specs.Shapes.{base_of}
 
 -- ---- the act on a Job that is told
 
@@ -108,17 +107,17 @@ quiet_spent : (call : Call) → IsQuiet (spent call)
 quiet_spent (sends c v) = cons _ _ refl (one _ refl)
 quiet_spent (receives c) = cons _ _ refl (one _ refl)
 
-quiet_ends : (kind : _) (w : _) (g : List Told) → EndsAtOnce kind w g → IsQuiet g
-quiet_ends kind w _ EndsAtOnce.sent = one _ refl
-quiet_ends kind w _ (EndsAtOnce.voided b) = cons _ _ refl (one _ refl)
+quiet_ends : (w : _) (g : List Told) → EndsAtOnce w g → IsQuiet g
+quiet_ends w _ EndsAtOnce.sent = one _ refl
+quiet_ends w _ EndsAtOnce.voided = cons _ _ refl (one _ refl)
 
-pub quiet_plain : (shape : Shape) (call : Call) (g : List Told) (a : Answer) → PlainCall shape call g a → IsQuiet g
-quiet_plain shape _ _ _ (PlainCall.at_once call g a h) = quiet_at_once call g a h
-quiet_plain shape _ _ _ (PlainCall.refused call t a h) = one t (quiet_refused call t a h)
-quiet_plain shape _ _ _ (PlainCall.no_place call all e) = subst IsQuiet (sym e) (quiet_spent call)
-quiet_plain shape _ _ _ (PlainCall.offers c v q admits h) = cons _ _ refl (cons _ admits refl (quiet_admits c admits h))
-quiet_plain shape _ _ _ (PlainCall.offer_ends c v q admits settles all h s e) = subst IsQuiet (sym e) (cons _ _ refl (cons _ _ refl (quiet_then admits settles (quiet_admits c admits h) (quiet_ends (kind_at shape c) (wait_at c q) settles s))))
-quiet_plain shape _ _ _ (PlainCall.awaits c q) = one _ refl
+pub quiet_plain : (call : Call) (g : List Told) (a : Answer) → PlainCall call g a → IsQuiet g
+quiet_plain _ _ _ (PlainCall.at_once call g a h) = quiet_at_once call g a h
+quiet_plain _ _ _ (PlainCall.refused call t a h) = one t (quiet_refused call t a h)
+quiet_plain _ _ _ (PlainCall.no_place call all e) = subst IsQuiet (sym e) (quiet_spent call)
+quiet_plain _ _ _ (PlainCall.offers c v q admits h) = cons _ _ refl (cons _ admits refl (quiet_admits c admits h))
+quiet_plain _ _ _ (PlainCall.offer_ends c v q admits settles all h s e) = subst IsQuiet (sym e) (cons _ _ refl (cons _ _ refl (quiet_then admits settles (quiet_admits c admits h) (quiet_ends (wait_at c q) settles s))))
+quiet_plain _ _ _ (PlainCall.awaits c q) = one _ refl
 
 pub quiet_try : (call : Call) (g : List Told) (a : Answer) → TryCall call g a → IsQuiet g
 quiet_try _ _ _ (TryCall.at_once call g a h) = quiet_at_once call g a h
@@ -155,7 +154,7 @@ quiet_select calls _ _ (SelectCall.chooses before later call group all a f h e) 
 quiet_select calls _ _ (SelectCall.meets_close before later call t all a f h e) = subst IsQuiet (sym e) (quiet_then (map blocked before) _ (passed before) (one t (quiet_refused call t a h)))
 quiet_select calls _ _ (SelectCall.no_place before later c v all f e) = subst IsQuiet (sym e) (quiet_then (map blocked before) _ (passed before) (quiet_spent (sends c v)))
 quiet_select calls _ _ (SelectCall.waits w group admits all h d e) = subst IsQuiet (sym e) (quiet_then (map blocked calls) _ (passed calls) (quiet_then group admits (quiet_places w 1 calls group h.places) (quiet_admits_in calls admits d)))
-quiet_select calls _ _ (SelectCall.resolved w before later group admits all f h d e) = subst IsQuiet (sym e) (quiet_then (map blocked calls) _ (passed calls) (quiet_then group _ (quiet_places w 1 before group h.places) (cons _ admits refl (quiet_admits_in before admits d))))
+quiet_select calls _ _ (SelectCall.resolved w before later call group admits all f h d e) = subst IsQuiet (sym e) (quiet_then (map blocked calls) _ (passed calls) (quiet_then group _ (quiet_places w 1 before group h.places) (cons _ admits refl (quiet_admits_in before admits d))))
 quiet_select calls _ _ (SelectCall.stops_at_first later call stop all a f h e) = subst IsQuiet (sym e) (quiet_then (map blocked calls) stop (passed calls) (quiet_stops call stop a h))
 quiet_select calls _ _ (SelectCall.stops w before later call group stop admits all a f h s d e) = subst IsQuiet (sym e) (quiet_then (map blocked calls) _ (passed calls) (quiet_then ((group ++ stop) ++ revoked w) admits (quiet_then (group ++ stop) (revoked w) (quiet_then group stop (quiet_places w 1 before group h.places) (quiet_stops call stop a s)) (cons _ _ refl (one _ refl))) (quiet_admits_in before admits d)))
 quiet_select calls _ _ (SelectCall.stops_late w before later call group stop admits all a f h s d e) = subst IsQuiet (sym e) (quiet_then (map blocked calls) _ (passed calls) (quiet_then (group ++ stop) _ (quiet_then group stop (quiet_places w 1 before group h.places) (quiet_stops call stop a s)) (cons _ admits refl (quiet_admits_in before admits d))))
@@ -217,12 +216,12 @@ start_pieces p k row _ Starts.now = JobPieces.more (did (Start row) ∷ []) (on_
 start_pieces p k row _ Starts.before = silent p k _ (one _ refl)
 
 both_pieces : (p : Program) (k row : ℕ) (g : List Told) (a : Answer) → StartsAndReceives p row g a → JobPieces p k g
-both_pieces p k row g a (StartsAndReceives.both first group _ _ s c e) = subst (JobPieces p k) (sym e) (pieces_then p k first group (start_pieces p k row first s) (silent p k group (quiet_plain (floor_shape p) _ group a c)))
+both_pieces p k row g a (StartsAndReceives.both first group _ _ s c e) = subst (JobPieces p k) (sym e) (pieces_then p k first group (start_pieces p k row first s) (silent p k group (quiet_plain _ group a c)))
 
 line_pieces : (p : Program) (k : ℕ) (x : Config) (i : _) (g : List Told) (a : Answer) → LineCalls p k x i g a → JobPieces p k g
-line_pieces p k x _ _ _ (LineCalls.send c o g a h) = silent p k g (quiet_plain (floor_shape p) _ g a h)
-line_pieces p k x _ _ _ (LineCalls.receive c g a h) = silent p k g (quiet_plain (floor_shape p) _ g a h)
-line_pieces p k x _ _ _ (LineCalls.each c g a h) = silent p k g (quiet_plain (floor_shape p) _ g a h)
+line_pieces p k x _ _ _ (LineCalls.send c o g a h) = silent p k g (quiet_plain _ g a h)
+line_pieces p k x _ _ _ (LineCalls.receive c g a h) = silent p k g (quiet_plain _ g a h)
+line_pieces p k x _ _ _ (LineCalls.each c g a h) = silent p k g (quiet_plain _ g a h)
 line_pieces p k x _ _ _ (LineCalls.trysend c o g a h) = silent p k g (quiet_try _ g a h)
 line_pieces p k x _ _ _ (LineCalls.tryreceive c g a h) = silent p k g (quiet_try _ g a h)
 line_pieces p k x _ _ _ (LineCalls.select g a h) = silent p k g (quiet_select _ g a h)
@@ -274,10 +273,10 @@ move_pieces p k _ _ _ (Move.repeats x n s) = nothing p k
 move_pieces p k _ _ _ (Move.turns_again x head n es s e) = nothing p k
 move_pieces p k _ _ _ (Move.turns_no_more x head es s e) = nothing p k
 move_pieces p k _ _ _ (Move.receives_again x head es s e) = nothing p k
-move_pieces p k _ _ _ (Move.ends_scope x y s end g all a l e h c f q) = subst (JobPieces p k) (sym q) (pieces_then p k end g (end_pieces p k s.row 0 end h) (silent p k g (quiet_plain (floor_shape p) _ g a c)))
+move_pieces p k _ _ _ (Move.ends_scope x y s end g all a l e h c f q) = subst (JobPieces p k) (sym q) (pieces_then p k end g (end_pieces p k s.row 0 end h) (silent p k g (quiet_plain _ g a c)))
 move_pieces p k _ _ _ (Move.scope_ended x w n v s) = silent p k _ (one _ refl)
 move_pieces p k _ _ _ (Move.sees_scope x y s end l e f) = silent p k _ (one _ refl)
-move_pieces p k _ _ _ (Move.breaks_scope x y s failure break g all a l e h c f q) = subst (JobPieces p k) (sym q) (pieces_then p k break g (off_pieces p k s.row failure break h) (silent p k g (quiet_plain (floor_shape p) _ g a c)))
+move_pieces p k _ _ _ (Move.breaks_scope x y s failure break g all a l e h c f q) = subst (JobPieces p k) (sym q) (pieces_then p k break g (off_pieces p k s.row failure break h) (silent p k g (quiet_plain _ g a c)))
 move_pieces p k _ _ _ (Move.breaks x failure g s e h) = off_pieces p k k failure g h
 move_pieces p k _ _ _ (Move.ends x g s e h) = end_pieces p k k x.result g h
 

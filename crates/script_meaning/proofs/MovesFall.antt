@@ -6,7 +6,6 @@ use Rattle.std.proofs.lemmas.Option.{slice_get_within}
 use Rattle.co_base.specs.declared.names.WaitId.{WaitId}
 use Rattle.channel_model.specs.declared.acts.Act.{Act}
 use Rattle.channel_model.specs.declared.acts.Act.TheVariants.{Await, Take}
-use Rattle.channel_model.specs.Channels.{Shape}
 use Rattle.channel_model.proofs.LeftOnFloors.{is_receipt, receipts_in, receipts_in-append}
 use Rattle.note_book.specs.Items.{channel_acts_in}
 use Rattle.note_book.proofs.Appended.{channel_acts_in-append}
@@ -111,22 +110,22 @@ has_receipt (Got v) = true
 has_receipt (Waits w) = true
 has_receipt other = false
 
-plain_receipt : (shape : Shape) (call : Call) (c : ℕ) (group : List Told) (a : Answer) → PlainCall shape call group a → call ≡ receives c → has_receipt a ≡ true → 1 ≤ receipts group
-plain_receipt shape _ c _ _ (PlainCall.at_once call group a at) e h = at_once call group a at e
+plain_receipt : (call : Call) (c : ℕ) (group : List Told) (a : Answer) → PlainCall call group a → call ≡ receives c → has_receipt a ≡ true → 1 ≤ receipts group
+plain_receipt _ c _ _ (PlainCall.at_once call group a at) e h = at_once call group a at e
   where
     at_once : (call : Call) (group : List Told) (a : Answer) → AtOnce call group a → call ≡ receives c → 1 ≤ receipts group
     at_once _ _ _ (AtOnce.hands d v q) e = cc
     at_once _ _ _ (AtOnce.puts d v q drops f) e = cc
     at_once _ _ _ (AtOnce.takes d v q admits f) e = one_receipt (Take d q v) admits refl
-plain_receipt shape _ c _ _ (PlainCall.refused call told a r) e h = absurd (no_receipt call told a r h)
+plain_receipt _ c _ _ (PlainCall.refused call told a r) e h = absurd (no_receipt call told a r h)
   where
     no_receipt : (call : Call) (told : Told) (a : Answer) → Refused call told a → has_receipt a ≡ true → ⊥
     no_receipt _ _ _ (Refused.send d v u) h = cc
     no_receipt _ _ _ (Refused.receive d u) h = cc
-plain_receipt shape _ c _ _ (PlainCall.no_place call all is) e h = cc
-plain_receipt shape _ c _ _ (PlainCall.offers d v q admits f) e h = cc
-plain_receipt shape _ c _ _ (PlainCall.offer_ends d v q admits settles all f s is) e h = cc
-plain_receipt shape _ c _ _ (PlainCall.awaits d q) e h = one_receipt (Await d q (record { channel = d; place = q }) 0) [] refl
+plain_receipt _ c _ _ (PlainCall.no_place call all is) e h = cc
+plain_receipt _ c _ _ (PlainCall.offers d v q admits f) e h = cc
+plain_receipt _ c _ _ (PlainCall.offer_ends d v q admits settles all f s is) e h = cc
+plain_receipt _ c _ _ (PlainCall.awaits d q) e h = one_receipt (Await d q (record { channel = d; place = q }) 0) [] refl
 
 -- ---- what a move leaves
 
@@ -369,7 +368,7 @@ calls_fall p k x i group a y at c f = by_call i group a c refl at f
     by_call : (i : Instruction) (group : List Told) (a : Answer) → LineCalls p k x i group a → x ≡ x → IsAt p k x i → After p k x i a y → FallsBy p k x group y ⊎ LooksAgainAt p k x group y
     by_call _ _ _ (LineCalls.send c o group a call) e at f = other _ group a at refl (λ q r. cc) f
     by_call _ _ _ (LineCalls.receive c group a call) e at f = other _ group a at refl (λ q r. cc) f
-    by_call _ _ _ (LineCalls.each c group a call) e at f = inl (each_paid p k x c group a y _ at.stage at.line_is (λ r. plain_receipt _ (receives c) c group a call refl r) refl f)
+    by_call _ _ _ (LineCalls.each c group a call) e at f = inl (each_paid p k x c group a y _ at.stage at.line_is (λ r. plain_receipt (receives c) c group a call refl r) refl f)
     by_call _ _ _ (LineCalls.trysend c o group a call) e at f = other _ group a at refl (λ q r. cc) f
     by_call _ _ _ (LineCalls.tryreceive c group a call) e at f = other _ group a at refl (λ q r. cc) f
     by_call _ _ _ (LineCalls.select group a call) e at f = other _ group a at refl (λ q r. subst (SelectCall (clauses_at p k x) group) r call) f

@@ -15,7 +15,7 @@ use Rattle.script_grammar.specs.Tags.{code_of}
 use Rattle.script_grammar.specs.WellFormed.{IsProgram}
 use Rattle.script_grammar.proofs.Layouts.{test_at, channels_known}
 use Rattle.script_grammar.proofs.Truths.{lt-from_true}
-use Rattle.script_meaning.specs.Shapes.{floor_shape, base_of}
+use Rattle.script_meaning.specs.Shapes.{base_of}
 use Rattle.script_meaning.specs.Configs.{Config, innermost, LineIs}
 use Rattle.script_meaning.specs.Lines.{LineCalls, clauses_in, clauses_at}
 use Rattle.script_meaning.specs.Moves.{Move}
@@ -72,9 +72,9 @@ abbrev pub DonePasses : (Item → Bool) → ℕ → Answer → Type 0
 DonePasses T base a = (row : ℕ) → a ≡ NoPlace → T (spent_note (done_channel base row)) ≡ true
 
 pub line_all : (T : Item → Bool) → PassesCalls T → (p : Program) (k : ℕ) (x : Config) (i : Instruction) (g : List Told) (a : Answer) → IsProgram p → SpentBelow T (base_of p) → DonePasses T (base_of p) a → LineIs p k x i → LineCalls p k x i g a → AllPass T g
-line_all T al p k x _ _ _ ok s d at (LineCalls.send c o g a h) = plain_all T al (floor_shape p) _ g a (λ e. s c (lt-from_true c (base_of p) (line_known p k x.line (line.Send c o) ok at))) h
-line_all T al p k x _ _ _ ok s d at (LineCalls.receive c g a h) = plain_all T al (floor_shape p) _ g a (λ e. s c (lt-from_true c (base_of p) (line_known p k x.line (line.Receive c) ok at))) h
-line_all T al p k x _ _ _ ok s d at (LineCalls.each c g a h) = plain_all T al (floor_shape p) _ g a (λ e. s c (lt-from_true c (base_of p) (line_known p k x.line (line.Each c) ok at))) h
+line_all T al p k x _ _ _ ok s d at (LineCalls.send c o g a h) = plain_all T al _ g a (λ e. s c (lt-from_true c (base_of p) (line_known p k x.line (line.Send c o) ok at))) h
+line_all T al p k x _ _ _ ok s d at (LineCalls.receive c g a h) = plain_all T al _ g a (λ e. s c (lt-from_true c (base_of p) (line_known p k x.line (line.Receive c) ok at))) h
+line_all T al p k x _ _ _ ok s d at (LineCalls.each c g a h) = plain_all T al _ g a (λ e. s c (lt-from_true c (base_of p) (line_known p k x.line (line.Each c) ok at))) h
 line_all T al p k x _ _ _ ok s d at (LineCalls.trysend c o g a h) = try_all T al _ g a (λ e. s c (lt-from_true c (base_of p) (line_known p k x.line (line.TrySend c o) ok at))) h
 line_all T al p k x _ _ _ ok s d at (LineCalls.tryreceive c g a h) = try_all T al _ g a (λ e. s c (lt-from_true c (base_of p) (line_known p k x.line (line.TryReceive c) ok at))) h
 line_all T al p k x _ _ _ ok s d at (LineCalls.select g a h) = select_all T al (clauses_at p k x) g a (clauses_spent T p k x ok s) h
@@ -97,8 +97,8 @@ nothing_more : {A : Type 0} (xs : List A) → xs ++ [] ≡ xs
 nothing_more [] = refl
 nothing_more (x ∷ xs) = ap (λ l. x ∷ l) (nothing_more xs)
 
-gentle_receive : (p : Program) (c : ℕ) (g : List Told) (a : Answer) → PlainCall (floor_shape p) (receives c) g a → AllPass (is_gentle (base_of p)) g
-gentle_receive p c g a h = plain_all (is_gentle (base_of p)) (gentle_allows (base_of p)) (floor_shape p) (receives c) g a (λ e. refl) h
+gentle_receive : (p : Program) (c : ℕ) (g : List Told) (a : Answer) → PlainCall (receives c) g a → AllPass (is_gentle (base_of p)) g
+gentle_receive p c g a h = plain_all (is_gentle (base_of p)) (gentle_allows (base_of p)) (receives c) g a (λ e. refl) h
 
 -- each move but the end of a body
 pub move_gentle : (p : Program) (k : ℕ) (parents : Parents) (x : Config) (group : List Told) (y : Config) → IsProgram p → AllKnown parents group → Move p k x group y → AllPass (is_gentle (base_of p)) group ⊎ EndsFirst (is_gentle (base_of p)) p k group

@@ -15,7 +15,7 @@ use Rattle.channel_model.specs.declared.acts.Kind.TheVariants.{Signal}
 use Rattle.channel_model.specs.declared.acts.ChannelNote.{ChannelNote}
 use Rattle.channel_model.specs.declared.acts.ChannelNote.TheVariants as of_channel
 use Rattle.channel_model.specs.declared.acts.Entry.{Entry}
-use Rattle.channel_model.specs.Channels.{Shape, places_at}
+use Rattle.channel_model.specs.Channels.{places_at}
 use Rattle.channel_model.specs.Floors.{Floor as ChannelFloor}
 use Rattle.channel_model.specs.Histories.{replay, acts_of, Legal}
 use Rattle.channel_model.proofs.Histories.{acts_of-append, LegalFrom-parts}
@@ -116,12 +116,12 @@ plain_then c xs ys e f =
     ∙ ap (list_all (plain_at c)) (channel_acts_in-append (items_in xs) (items_in ys))
     ∙ all_append (plain_at c) (channel_acts_in (items_in xs)) (channel_acts_in (items_in ys)) e f
 
-call_plain : (base : ℕ) (shape : Shape) (c d : ℕ) (call : List Told) (a : Answer) → base ≤ c → PlainCall shape (receives d) call a → plain_in c call ≡ true
+call_plain : (base : ℕ) (c d : ℕ) (call : List Told) (a : Answer) → base ≤ c → PlainCall (receives d) call a → plain_in c call ≡ true
 unfolding items_in
-call_plain base shape c d _ _ le (PlainCall.at_once _ call a (AtOnce.takes _ v q admits h)) = quiet_plain base c (items_in admits) le (admits_none base d admits h)
-call_plain base shape c d _ _ le (PlainCall.refused _ t a (Refused.receive _ u)) = refl
-call_plain base shape c d _ _ le (PlainCall.no_place _ all is) = ap (plain_in c) is
-call_plain base shape c d _ _ le (PlainCall.awaits _ q) = by_test (d == c)
+call_plain base c d _ _ le (PlainCall.at_once _ call a (AtOnce.takes _ v q admits h)) = quiet_plain base c (items_in admits) le (admits_none base d admits h)
+call_plain base c d _ _ le (PlainCall.refused _ t a (Refused.receive _ u)) = refl
+call_plain base c d _ _ le (PlainCall.no_place _ all is) = ap (plain_in c) is
+call_plain base c d _ _ le (PlainCall.awaits _ q) = by_test (d == c)
   where
     by_test : (b : Bool) → ((not b || true) && true) ≡ true
     by_test true = refl
@@ -130,7 +130,7 @@ call_plain base shape c d _ _ le (PlainCall.awaits _ q) = by_test (d == c)
 move_plain : (p : Program) (k : ℕ) (x : Config) (group : List Told) (y : Config) (c : ℕ) → base_of p ≤ c → MoveAsks p k x group y → plain_in c group ≡ true
 move_plain p k x group y c le (MoveAsks.none e) = quiet_plain (base_of p) c (items_in group) le e
 move_plain p k x group y c le (MoveAsks.asks row first call a quiet is h by) =
-    ap (plain_in c) is ∙ plain_then c first call (quiet_plain (base_of p) c (items_in first) le quiet) (call_plain (base_of p) (floor_shape p) c (base_of p + row) call a le h)
+    ap (plain_in c) is ∙ plain_then c first call (quiet_plain (base_of p) c (items_in first) le quiet) (call_plain (base_of p) c (base_of p + row) call a le h)
 
 told_plain : (p : Program) (k : ℕ) (told : List Told) (x : Config) (c : ℕ) → IsProgram p → base_of p ≤ c → Reaches p k told x → plain_in c told ≡ true
 told_plain p k _ _ c ok le (Reaches.begins group x b) = quiet_plain (base_of p) c (items_in group) le (begins_ask p (base_of p) k group x b).0

@@ -24,7 +24,7 @@ use Rattle.call_meaning.specs.JobCalls.{scope_kind, Starts, Passes, Breaks, reas
 use Rattle.script_grammar.specs.declared.instructions.Instruction.{Instruction}
 use Rattle.script_grammar.specs.Programs.{Program}
 use Rattle.script_grammar.specs.Tags.{spawned}
-use Rattle.script_meaning.specs.Shapes.{floor_shape, base_of}
+use Rattle.script_meaning.specs.Shapes.{base_of}
 use Rattle.script_meaning.specs.Configs.{Config, Entered, in_repeat, in_each, in_scope, InScope, fresh, past_launch, scope_in, innermost, row_or}
 use Rattle.script_meaning.specs.Lines.{LineCalls, StartsAndReceives, After, AfterAwait, AtScopeEnd, AfterScope}
 use Rattle.script_meaning.specs.Moves.{Move}
@@ -147,12 +147,12 @@ starts_none row _ Starts.now r = refl
 starts_none row _ Starts.before r = refl
 
 both_none : (p : Program) (row : ℕ) (g : List Told) (a : Answer) → StartsAndReceives p row g a → NoneEnds g
-both_none p row _ _ (StartsAndReceives.both starts group all a s c e) = none_as all _ e (none_then starts group (starts_none row starts s) (quiet_none group (quiet_plain (floor_shape p) _ group a c)))
+both_none p row _ _ (StartsAndReceives.both starts group all a s c e) = none_as all _ e (none_then starts group (starts_none row starts s) (quiet_none group (quiet_plain _ group a c)))
 
 line_none : (p : Program) (k : ℕ) (x : Config) (i : Instruction) (g : List Told) (a : Answer) → LineCalls p k x i g a → NoneEnds g
-line_none p k x _ _ _ (LineCalls.send c o g a h) = quiet_none g (quiet_plain (floor_shape p) _ g a h)
-line_none p k x _ _ _ (LineCalls.receive c g a h) = quiet_none g (quiet_plain (floor_shape p) _ g a h)
-line_none p k x _ _ _ (LineCalls.each c g a h) = quiet_none g (quiet_plain (floor_shape p) _ g a h)
+line_none p k x _ _ _ (LineCalls.send c o g a h) = quiet_none g (quiet_plain _ g a h)
+line_none p k x _ _ _ (LineCalls.receive c g a h) = quiet_none g (quiet_plain _ g a h)
+line_none p k x _ _ _ (LineCalls.each c g a h) = quiet_none g (quiet_plain _ g a h)
 line_none p k x _ _ _ (LineCalls.trysend c o g a h) = quiet_none g (quiet_try _ g a h)
 line_none p k x _ _ _ (LineCalls.tryreceive c g a h) = quiet_none g (quiet_try _ g a h)
 line_none p k x _ _ _ (LineCalls.select g a h) = quiet_none g (quiet_select _ g a h)
@@ -366,12 +366,12 @@ move_step p k parents _ _ _ q (Move.turns_again x head n es at e) = BodyStep.sta
 move_step p k parents _ _ _ q (Move.turns_no_more x head es at e) = BodyStep.stays none_at_all (sym (ap scope_rows e)) (sym (ap is_leaving at.stage)) refl
 move_step p k parents _ _ _ q (Move.receives_again x head es at e) = BodyStep.stays none_at_all (sym (ap scope_rows e)) (sym (ap is_leaving at.stage)) refl
 move_step p k parents _ _ _ q (Move.ends_scope x y s end g all a at e h c f z) =
-    at_end k x s all a y (just_as all _ s.row z (none_last end g s.row (end_just (base_of p) s.row 0 end h) (quiet_none g (quiet_plain (floor_shape p) _ g a c)))) (ap is_leaving at.stage) (ap scope_rows e) f
+    at_end k x s all a y (just_as all _ s.row z (none_last end g s.row (end_just (base_of p) s.row 0 end h) (quiet_none g (quiet_plain _ g a c)))) (ap is_leaving at.stage) (ap scope_rows e) f
 move_step p k parents _ _ _ q (Move.scope_ended x w n v s) = BodyStep.stays (one_quiet _ refl) refl (sym (ap is_leaving s)) refl
 move_step p k parents _ _ _ q (Move.sees_scope x y s end l e f) = left_behind p k x s _ end y (one_quiet _ refl) (ap is_leaving l) (found_rows x.entered s e) f
 move_step p k parents _ _ _ q (Move.breaks_scope x y s failure break g all a l e h c f z) =
     let known : AllKnown parents break = known_left parents break g (subst (AllKnown parents) z q) in
-    at_end k x s all a y (just_as all _ s.row z (none_last break g s.row (break_just parents (base_of p) k s.row failure break known h) (quiet_none g (quiet_plain (floor_shape p) _ g a c)))) (ap is_leaving l) (found_rows x.entered s e) f
+    at_end k x s all a y (just_as all _ s.row z (none_last break g s.row (break_just parents (base_of p) k s.row failure break known h) (quiet_none g (quiet_plain _ g a c)))) (ap is_leaving l) (found_rows x.entered s e) f
 move_step p k parents _ _ _ q (Move.breaks x failure g s e h) = BodyStep.ends (break_just parents (base_of p) k k failure g q h) refl (ap is_leaving s) refl refl
 move_step p k parents _ _ _ q (Move.ends x g s e h) = BodyStep.ends (end_just (base_of p) k x.result g h) refl (ap is_leaving s) refl refl
 

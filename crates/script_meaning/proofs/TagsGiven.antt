@@ -29,7 +29,7 @@ use Rattle.script_grammar.proofs.Layouts.{test_at, size_some}
 use Rattle.script_grammar.proofs.LaunchedTags.{launches_known, sizes_take-next}
 use Rattle.script_meaning.specs.declared.stage.Stage.{Stage}
 use Rattle.script_meaning.specs.declared.stage.Stage.TheVariants.{Fresh, Running, Waiting, SeesJob, Unwinding, Leaving, SeesScope, Ended}
-use Rattle.script_meaning.specs.Shapes.{floor_shape, base_of}
+use Rattle.script_meaning.specs.Shapes.{base_of}
 use Rattle.script_meaning.specs.Configs.{Config, Entered, in_scope, InScope, scope_in, innermost, IsAt}
 use Rattle.script_meaning.specs.Lines.{is_lazy, After, AfterAwait, AtScopeEnd, AfterScope}
 use Rattle.script_meaning.specs.Moves.{Move}
@@ -437,7 +437,7 @@ move_gives p k parents done _ _ _ ok a e h (Move.turns_no_more x head es at is) 
 move_gives p k parents done _ _ _ ok a e h (Move.receives_again x head es at is) =
     quiet_move p k done x _ _ h refl refl (end_each (code_of p k) x.entered es (drop (x.line + 1) (code_of p k)) head (drop h.passed (launches_of p k)) h.scopes is (first_there p k done x line.End h (left_at p k done x Running at.stage h) at.line_is))
 move_gives p k parents done _ _ _ ok a e h (Move.ends_scope x y s end group all b at is g c f parts) =
-    quiet_move p k done x all y h (ap attach_in parts ∙ neither end group (ends_none (base_of p) s.row 0 end g) (plain_none (floor_shape p) _ group b c)) (at_end_free k x s b y f)
+    quiet_move p k done x all y h (ap attach_in parts ∙ neither end group (ends_none (base_of p) s.row 0 end g) (plain_none _ group b c)) (at_end_free k x s b y f)
     (at_end_leaves p k done x s b y (drop h.passed (launches_of p k)) h.scopes (end_leaves p k done x s h (left_at p k done x Running at.stage h) at.line_is is) f)
 move_gives p k parents done _ _ _ ok a e h (Move.scope_ended x w n v s) = quiet_move p k done x _ _ h refl refl (left_at p k done x (Leaving w) s h)
 move_gives p k parents done _ _ _ ok a e h (Move.sees_scope x y s end at is f) = quiet_move p k done x _ y h refl (past_free p k x s end y f) (past_scope p k done x s end y (drop h.passed (launches_of p k)) h.scopes is e.0 (left_at p k done x SeesScope at h) f)
@@ -445,7 +445,7 @@ move_gives p k parents done _ _ _ ok a e h (Move.breaks_scope x y s failure brea
     let known = known_left parents break group (subst (AllKnown parents) parts a) in
     let ends = ends_left done break group (subst (EndsSo done) parts e) in
     let broken : done s.row ≡ false = (ends_right done g.cancels (on_jobs (IsCancelling s.row) ∷ g.end) (subst (EndsSo done) g.all ends)).0 in
-    quiet_move p k done x all y h (ap attach_in parts ∙ neither break group (breaks_off_none parents (base_of p) k s.row failure break known g) (plain_none (floor_shape p) _ group b c)) (at_end_free k x s b y f)
+    quiet_move p k done x all y h (ap attach_in parts ∙ neither break group (breaks_off_none parents (base_of p) k s.row failure break known g) (plain_none _ group b c)) (at_end_free k x s b y f)
     (at_end_leaves p k done x s b y (drop h.passed (launches_of p k)) h.scopes (broken_leaves p k done x.entered s (drop h.passed (launches_of p k)) h.scopes is broken) f)
 move_gives p k parents done _ _ _ ok a e h (Move.breaks x failure group s is g) = quiet_move p k done x group _ h (breaks_off_none parents (base_of p) k k failure group a g) refl tt
 move_gives p k parents done _ _ _ ok a e h (Move.ends x group s is g) = quiet_move p k done x group _ h (ends_none (base_of p) k x.result group g) refl tt

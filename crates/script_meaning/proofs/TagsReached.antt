@@ -18,7 +18,7 @@ use Rattle.script_grammar.proofs.LaunchedTags.{launches_known, launches_of-other
 use Rattle.script_grammar.proofs.ProgramsBalanced.{program-balances}
 use Rattle.script_meaning.specs.declared.stage.Stage.{Stage}
 use Rattle.script_meaning.specs.declared.stage.Stage.TheVariants.{Fresh, Running}
-use Rattle.script_meaning.specs.Shapes.{floor_shape, base_of, job_shape}
+use Rattle.script_meaning.specs.Shapes.{base_of, job_shape}
 use Rattle.script_meaning.specs.Configs.{Config, Entered, fresh, past_launch, IsAt}
 use Rattle.script_meaning.specs.Moves.{Move}
 use Rattle.script_meaning.specs.Books.{Spawns, Begins, Reaches, Runs, story}
@@ -249,7 +249,7 @@ quiet_unless_running p k parents _ _ _ a (Move.scope_ended x w n v s) = inr (ref
 quiet_unless_running p k parents _ _ _ a (Move.sees_scope x y s end at is f) = inr (refl, past_free p k x s end y f)
 quiet_unless_running p k parents _ _ _ a (Move.breaks_scope x y s failure break group all b at is g c f parts) =
     let known = known_left parents break group (subst (AllKnown parents) parts a) in
-    inr (ap attach_in parts ∙ neither break group (breaks_off_none parents (base_of p) k s.row failure break known g) (plain_none (floor_shape p) _ group b c), at_end_free k x s b y f)
+    inr (ap attach_in parts ∙ neither break group (breaks_off_none parents (base_of p) k s.row failure break known g) (plain_none _ group b c), at_end_free k x s b y f)
 quiet_unless_running p k parents _ _ _ a (Move.breaks x failure group s is g) = inr (breaks_off_none parents (base_of p) k k failure group a g, refl)
 quiet_unless_running p k parents _ _ _ a (Move.ends x group s is g) = inl s
 

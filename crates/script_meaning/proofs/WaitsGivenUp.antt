@@ -11,8 +11,7 @@ use Rattle.channel_model.specs.Channels.{Wait}
 use Rattle.channel_model.specs.Outcomes.{outcome_of}
 use Rattle.channel_model.specs.Answers.{outcome_at, outcome_of_some}
 use Rattle.call_meaning.specs.Telling.{Told, made, heard}
-use Rattle.call_meaning.specs.ChannelCalls.{Admits, GivesUp}
-use Rattle.script_meaning.specs.Laws.{is_given_up}
+use Rattle.call_meaning.specs.ChannelCalls.{Admits, GivesUp, is_given_up}
 
 up_how : (how : Resolution) → is_given_up (outcome_of how true) ≡ true
 up_how (resolved.Handed n v) = refl

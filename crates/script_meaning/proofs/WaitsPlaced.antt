@@ -4,7 +4,6 @@ use Rattle.std.proofs.Common.{◌≡◌, ℕ, Bool, true, false, List, [], ◌�
 use Rattle.co_base.specs.declared.names.WaitId.{WaitId}
 use Rattle.channel_model.specs.declared.acts.Act.{Act}
 use Rattle.channel_model.specs.declared.acts.Act.TheVariants.{Offer, Await, Admit}
-use Rattle.channel_model.specs.Channels.{Shape}
 use Rattle.channel_model.specs.ClauseSides.{BeginsAt, Allows, AllAllowed}
 use Rattle.note_book.specs.declared.book.Item.TheVariants as item
 use Rattle.note_book.specs.Items.{channel_acts_in}
@@ -19,7 +18,7 @@ use Rattle.script_grammar.specs.Programs.{Program}
 use Rattle.script_grammar.specs.Tags.{code_of, spawned}
 use Rattle.script_meaning.specs.declared.stage.Stage.{Stage}
 use Rattle.script_meaning.specs.declared.stage.Stage.TheVariants.{Waiting, Leaving}
-use Rattle.script_meaning.specs.Shapes.{floor_shape, base_of}
+use Rattle.script_meaning.specs.Shapes.{base_of}
 use Rattle.script_meaning.specs.Configs.{Config, InScope, at_stage, scope_in, operand, LineIs}
 use Rattle.script_meaning.specs.Lines.{clauses_in, clauses_at, StartsAndReceives, LineCalls, After, AfterAwait, Resumed, AtScopeEnd, AfterScope}
 use Rattle.script_meaning.specs.Moves.{Move}
@@ -158,16 +157,16 @@ stops_not _ _ _ w (Stops.closed call t a h) e = absurd (let u : ⊥ = cc in u)
 stops_not _ _ _ w (Stops.no_place call all h) e = absurd (let u : ⊥ = cc in u)
 
 module _ (IsClause : Bool → ℕ → ℕ → Type 0) where
-  plain_places : (shape : Shape) (call : Call) (g : List Told) (a : Answer) (w : WaitId) → PlainCall shape call g a → a ≡ Waits w → IsOfCall IsClause 0 call → Placing IsClause w g
-  plain_places shape _ _ _ w (PlainCall.at_once call g a h) e f = once_not call g a w h e
-  plain_places shape _ _ _ w (PlainCall.refused call t a h) e f = refused_not call t a w h e
-  plain_places shape _ _ _ w (PlainCall.no_place call all h) e f = absurd (let u : ⊥ = cc in u)
-  plain_places shape _ _ _ w (PlainCall.offers c v q admits h) e f =
+  plain_places : (call : Call) (g : List Told) (a : Answer) (w : WaitId) → PlainCall call g a → a ≡ Waits w → IsOfCall IsClause 0 call → Placing IsClause w g
+  plain_places _ _ _ w (PlainCall.at_once call g a h) e f = once_not call g a w h e
+  plain_places _ _ _ w (PlainCall.refused call t a h) e f = refused_not call t a w h e
+  plain_places _ _ _ w (PlainCall.no_place call all h) e f = absurd (let u : ⊥ = cc in u)
+  plain_places _ _ _ w (PlainCall.offers c v q admits h) e f =
       let same_w : wait_at c q ≡ w = cc in
       subst (λ u. Placing IsClause u (offer_told c v q admits)) same_w
       (record { before = on_channels (WasFull c) ∷ []; first = Offer c q v (wait_at c q) 0; behind = admits; is = refl; begins = (refl, refl); allowed = cons IsClause (wait_at c q) _ admits (λ t. f) (of_admits IsClause (wait_at c q) c admits h) })
-  plain_places shape _ _ _ w (PlainCall.offer_ends c v q admits settles all h s is) e f = absurd (let u : ⊥ = cc in u)
-  plain_places shape _ _ _ w (PlainCall.awaits c q) e f =
+  plain_places _ _ _ w (PlainCall.offer_ends c v q admits settles all h s is) e f = absurd (let u : ⊥ = cc in u)
+  plain_places _ _ _ w (PlainCall.awaits c q) e f =
       let same_w : wait_at c q ≡ w = cc in
       subst (λ u. Placing IsClause u (made (Await c q (wait_at c q) 0) ∷ [])) same_w
       (record { before = []; first = Await c q (wait_at c q) 0; behind = []; is = refl; begins = (refl, refl); allowed = one IsClause (wait_at c q) _ (λ t. f) })
@@ -224,10 +223,10 @@ module _ (IsClause : Bool → ℕ → ℕ → Type 0) where
   select_places calls _ _ w (SelectCall.waits u group admits all h d e) q k =
       let same_w : u ≡ w = cc in
       subst (λ v. Placing IsClause v all) same_w (behind_passed calls (group ++ admits) all u e (placing_then IsClause u group admits _ refl (of_admits_in IsClause u calls admits d) (of_first u calls group h k)))
-  select_places calls _ _ w (SelectCall.resolved u before later group admits all f h d e) q k =
+  select_places calls _ _ w (SelectCall.resolved u before later call group admits all f h d e) q k =
       let same_w : u ≡ w = cc in
       subst (λ v. Placing IsClause v all) same_w
-      (behind_passed calls _ all u e (placing_then IsClause u group _ _ refl (cons IsClause u _ admits tt (of_admits_in IsClause u before admits d)) (of_first u before group h (some_clauses calls before later f k))))
+      (behind_passed calls _ all u e (placing_then IsClause u group _ _ refl (cons IsClause u _ admits tt (of_admits_in IsClause u before admits d)) (of_first u before group h (some_clauses calls before (call ∷ later) f k))))
   select_places calls _ _ w (SelectCall.stops_at_first later call stop all a f h e) q k = stops_not call stop a w h q
   select_places calls _ _ w (SelectCall.stops u before later call group stop admits all a f h s d e) q k = stops_not call stop a w s q
   select_places calls _ _ w (SelectCall.stops_late u before later call group stop admits all a f h s d e) q k =
@@ -238,7 +237,7 @@ module _ (IsClause : Bool → ℕ → ℕ → Type 0) where
       (placing_then IsClause u group stop _ refl (of_stops IsClause u call stop a s) (of_first u before group h (some_clauses calls before _ f k)))))
 
   starts_places : (p : Program) (row : ℕ) (g : List Told) (a : Answer) (w : WaitId) → StartsAndReceives p row g a → a ≡ Waits w → IsClause false 0 (done_channel (base_of p) row) → Placing IsClause w g
-  starts_places p row _ _ w (StartsAndReceives.both starts group all a s c e) q k = placing_behind IsClause w starts group all e (plain_places (floor_shape p) _ group a w c q k)
+  starts_places p row _ _ w (StartsAndReceives.both starts group all a s c e) q k = placing_behind IsClause w starts group all e (plain_places _ group a w c q k)
 
 -- ---- lines
 
@@ -284,9 +283,9 @@ select_is p k s x j call e = by_call call (ap (λ l. slice_get l j) (clause_else
 
 -- the call of a line that waits, where x is at another stage afterwards
 line_places : (p : Program) (k : ℕ) (s : Stage) (x : Config) (i : Instruction) (g : List Told) (a : Answer) (w : WaitId) → LineCalls p k x i g a → a ≡ Waits w → Placing (ClauseOf p k (at_stage s x) i) w g
-line_places p k s x _ _ _ w (LineCalls.send c o g a h) e = plain_places _ (floor_shape p) _ g a w h e (ClauseOf.send c o)
-line_places p k s x _ _ _ w (LineCalls.receive c g a h) e = plain_places _ (floor_shape p) _ g a w h e (ClauseOf.receive c)
-line_places p k s x _ _ _ w (LineCalls.each c g a h) e = plain_places _ (floor_shape p) _ g a w h e (ClauseOf.each c)
+line_places p k s x _ _ _ w (LineCalls.send c o g a h) e = plain_places _ _ g a w h e (ClauseOf.send c o)
+line_places p k s x _ _ _ w (LineCalls.receive c g a h) e = plain_places _ _ g a w h e (ClauseOf.receive c)
+line_places p k s x _ _ _ w (LineCalls.each c g a h) e = plain_places _ _ g a w h e (ClauseOf.each c)
 line_places p k s x _ _ _ w (LineCalls.trysend c o g a h) e = try_not (λ side n d. Unit {0}) _ g a w h e
 line_places p k s x _ _ _ w (LineCalls.tryreceive c g a h) e = try_not (λ side n d. Unit {0}) _ g a w h e
 line_places p k s x _ _ _ w (LineCalls.select g a h) e = select_places _ (clauses_at p k x) g a w h e (λ j call f. select_is p k s x j call f)
@@ -324,7 +323,7 @@ data ComesTo (p : Program) (k : ℕ) (g : List Told) (y : Config) : Type 0 where
   none : wait_of y.stage ≡ None → ComesTo p k g y
   waits : (w : WaitId) (x : Config) (i : Instruction) → y ≡ at_stage (Waiting w) x → LineIs p k x i → LineCalls p k x i g (Waits w) → ComesTo p k g y
   leaves : (w : WaitId) (x : Config) (s : InScope) (first group : List Told) → y ≡ at_stage (Leaving w) x → scope_in x.entered ≡ Some s → g ≡ first ++ group
-      → PlainCall (floor_shape p) (receives (done_channel (base_of p) s.row)) group (Waits w) → ComesTo p k g y
+      → PlainCall (receives (done_channel (base_of p) s.row)) group (Waits w) → ComesTo p k g y
 
 by_call : (p : Program) (k : ℕ) (x : Config) (i : Instruction) (g : List Told) (a : Answer) (y : Config) → LineIs p k x i → LineCalls p k x i g a → FromCall x a y → ComesTo p k g y
 by_call p k x i g a y at h (FromCall.waits w e f) = ComesTo.waits w x i f at (subst (LineCalls p k x i g) e h)
@@ -358,7 +357,7 @@ by_scope p k g x s _ _ (AfterScope.completed v e h) = ComesTo.none refl
 by_scope p k g x s _ _ AfterScope.cancelled = ComesTo.none refl
 by_scope p k g x s _ _ (AfterScope.failed f) = ComesTo.none refl
 
-by_end : (p : Program) (k : ℕ) (x : Config) (s : InScope) (first group all : List Told) (a : Answer) (y : Config) → scope_in x.entered ≡ Some s → all ≡ first ++ group → PlainCall (floor_shape p) (receives (done_channel (base_of p) s.row)) group a → AtScopeEnd k x s a y → ComesTo p k all y
+by_end : (p : Program) (k : ℕ) (x : Config) (s : InScope) (first group all : List Told) (a : Answer) (y : Config) → scope_in x.entered ≡ Some s → all ≡ first ++ group → PlainCall (receives (done_channel (base_of p) s.row)) group a → AtScopeEnd k x s a y → ComesTo p k all y
 by_end p k x s first group all _ _ e q c (AtScopeEnd.waits w) = ComesTo.leaves w x s first group refl e q c
 by_end p k x s first group all _ _ e q c (AtScopeEnd.closed v) = ComesTo.none refl
 by_end p k x s first group all _ _ e q c AtScopeEnd.no_place = ComesTo.none refl
@@ -416,7 +415,7 @@ leaving_move p k g y w (ComesTo.waits u x i e at h) s = absurd (let t : Waiting 
 leaving_move p k g y w (ComesTo.leaves u x c first group e i q h) s =
     let same_w : u ≡ w = (let t : Leaving u ≡ Leaving w = sym (ap (λ (z : Config). z.stage) e) ∙ s in cc) in
     subst (λ z. Placing (ScopeClause p z) w g) (sym e)
-    (placing_behind (ScopeClause p (at_stage (Leaving u) x)) w first group g q (plain_places (ScopeClause p (at_stage (Leaving u) x)) (floor_shape p) _ group (Waits u) w h (ap (λ v. Waits v) same_w) (ScopeClause.receive c i)))
+    (placing_behind (ScopeClause p (at_stage (Leaving u) x)) w first group g q (plain_places (ScopeClause p (at_stage (Leaving u) x)) _ group (Waits u) w h (ap (λ v. Waits v) same_w) (ScopeClause.receive c i)))
 
 spawned_none : (p : Program) (blocks : List ℕ) (x : Config) (g : List Told) (y : Config) → wait_of x.stage ≡ None → Spawns p blocks x g y → wait_of y.stage ≡ None
 spawned_none p _ _ _ _ n (Spawns.done x) = n

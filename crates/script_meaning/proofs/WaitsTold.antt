@@ -8,24 +8,22 @@ use Rattle.channel_model.specs.declared.acts.Why.TheVariants as why
 use Rattle.channel_model.specs.declared.acts.Settled.{Settled}
 use Rattle.channel_model.specs.declared.acts.Settled.TheVariants as settled
 use Rattle.channel_model.specs.declared.acts.ChannelNote.TheVariants.{Late}
-use Rattle.channel_model.specs.Channels.{Shape, kind_at}
 use Rattle.job_model.specs.declared.acts.JobAct.{JobAct}
 use Rattle.job_model.specs.declared.acts.End.{End}
 use Rattle.job_model.specs.Cancels.{own_cancel}
 use Rattle.call_meaning.specs.Telling.{Told, on_channels, TakenBack, made, heard, did, saw}
-use Rattle.call_meaning.specs.ChannelCalls.{Call, sends, receives, Answer, Done, Got, Closed, Waits, NoPlace, LooksAgain, PlainCall, TryCall, SelectCall, Admits, Drops, Wakes, Drains, Closes, CancelsChannel, AtOnce, Refused, TryRefused, blocked, spent, EndsAtOnce, Begins as BeginsPlaces, Places, PlacesFirst, AdmitsIn, Stops, GivesUp, placed, wait_at, revoked}
+use Rattle.call_meaning.specs.ChannelCalls.{Call, sends, receives, Answer, Done, Got, Closed, Waits, NoPlace, LooksAgain, PlainCall, TryCall, SelectCall, Admits, Drops, Wakes, Drains, Closes, CancelsChannel, AtOnce, Refused, TryRefused, blocked, spent, EndsAtOnce, Begins as BeginsPlaces, Places, PlacesFirst, AdmitsIn, Stops, GivesUp, placed, wait_at, revoked, is_given_up}
 use Rattle.call_meaning.specs.JobCalls.{NotAttached, Starts, Passes, Breaks, Chain, EndsBody, BreaksOff}
 use Rattle.script_grammar.specs.declared.instructions.Instruction.{Instruction}
 use Rattle.script_grammar.specs.Programs.{Program}
 use Rattle.script_grammar.specs.Tags.{spawned}
 use Rattle.script_meaning.specs.declared.stage.Stage.{Stage}
 use Rattle.script_meaning.specs.declared.stage.Stage.TheVariants as stage
-use Rattle.script_meaning.specs.Shapes.{floor_shape}
 use Rattle.script_meaning.specs.Configs.{Config, InScope, innermost}
 use Rattle.script_meaning.specs.Lines.{StartsAndReceives, LineCalls, After, AfterAwait, Resumed, AtScopeEnd, AfterScope}
 use Rattle.script_meaning.specs.Moves.{Move}
 use Rattle.script_meaning.specs.Books.{Spawns, Begins, Reaches}
-use Rattle.script_meaning.specs.Laws.{wait_of, is_given_up}
+use Rattle.script_meaning.specs.Laws.{wait_of}
 use Rattle.script_meaning.proofs.ActsFollowed.{call_told}
 
 -- an act that neither names nor settles a wait, or none
@@ -226,18 +224,18 @@ Leaves g a = WaitsTold None g (wait_by a)
 leaves_none : (g : List Told) (a : Answer) → wait_by a ≡ None → IsWaitless g → Leaves g a
 leaves_none g a e h = subst (λ o. WaitsTold None g o) (sym e) (h None)
 
-ends_at_once : (kind : _) (w : WaitId) (g : List Told) → EndsAtOnce kind w g → WaitsTold (Some w) g None
-ends_at_once kind w _ EndsAtOnce.sent = WaitsTold.ends w (settled.Sent 0) None [] refl (WaitsTold.none None)
-ends_at_once kind w _ (EndsAtOnce.voided b) = WaitsTold.taken_back w None [] (WaitsTold.none None)
+ends_at_once : (w : WaitId) (g : List Told) → EndsAtOnce w g → WaitsTold (Some w) g None
+ends_at_once w _ EndsAtOnce.sent = WaitsTold.ends w (settled.Sent 0) None [] refl (WaitsTold.none None)
+ends_at_once w _ EndsAtOnce.voided = WaitsTold.taken_back w None [] (WaitsTold.none None)
 
-plain_leaves : (shape : Shape) (call : Call) (g : List Told) (a : Answer) → PlainCall shape call g a → Leaves g a
-plain_leaves shape _ _ _ (PlainCall.at_once call g a h) = leaves_none g a (once_by call g a h) (of_at_once call g a h)
-plain_leaves shape _ _ _ (PlainCall.refused call t a h) = leaves_none (t ∷ []) a (refused_by call t a h) (one t (of_refused call t a h))
-plain_leaves shape _ _ _ (PlainCall.no_place call all e) = leaves_none all NoPlace refl (same all _ e (of_spent call))
-plain_leaves shape _ _ _ (PlainCall.offers c v q admits h) = WaitsTold.other None _ _ _ refl (WaitsTold.begins (wait_at c q) _ _ admits refl (of_admits c admits h (Some (wait_at c q))))
-plain_leaves shape _ _ _ (PlainCall.offer_ends c v q admits settles all h s e) =
-    subst (λ g. WaitsTold None g None) (sym e) (WaitsTold.other None None _ _ refl (WaitsTold.begins (wait_at c q) None _ (admits ++ settles) refl (told_then (Some (wait_at c q)) (Some (wait_at c q)) None admits settles (of_admits c admits h (Some (wait_at c q))) (ends_at_once (kind_at shape c) (wait_at c q) settles s))))
-plain_leaves shape _ _ _ (PlainCall.awaits c q) = WaitsTold.begins (wait_at c q) _ _ [] refl (WaitsTold.none (Some (wait_at c q)))
+plain_leaves : (call : Call) (g : List Told) (a : Answer) → PlainCall call g a → Leaves g a
+plain_leaves _ _ _ (PlainCall.at_once call g a h) = leaves_none g a (once_by call g a h) (of_at_once call g a h)
+plain_leaves _ _ _ (PlainCall.refused call t a h) = leaves_none (t ∷ []) a (refused_by call t a h) (one t (of_refused call t a h))
+plain_leaves _ _ _ (PlainCall.no_place call all e) = leaves_none all NoPlace refl (same all _ e (of_spent call))
+plain_leaves _ _ _ (PlainCall.offers c v q admits h) = WaitsTold.other None _ _ _ refl (WaitsTold.begins (wait_at c q) _ _ admits refl (of_admits c admits h (Some (wait_at c q))))
+plain_leaves _ _ _ (PlainCall.offer_ends c v q admits settles all h s e) =
+    subst (λ g. WaitsTold None g None) (sym e) (WaitsTold.other None None _ _ refl (WaitsTold.begins (wait_at c q) None _ (admits ++ settles) refl (told_then (Some (wait_at c q)) (Some (wait_at c q)) None admits settles (of_admits c admits h (Some (wait_at c q))) (ends_at_once (wait_at c q) settles s))))
+plain_leaves _ _ _ (PlainCall.awaits c q) = WaitsTold.begins (wait_at c q) _ _ [] refl (WaitsTold.none (Some (wait_at c q)))
 
 try_leaves : (call : Call) (g : List Told) (a : Answer) → TryCall call g a → Leaves g a
 try_leaves _ _ _ (TryCall.at_once call g a h) = leaves_none g a (once_by call g a h) (of_at_once call g a h)
@@ -284,7 +282,7 @@ select_leaves calls _ _ (SelectCall.meets_close before later call t all a f h e)
 select_leaves calls _ _ (SelectCall.no_place before later c v all f e) = behind_passed before (spent (sends c v)) all None e (of_spent (sends c v) None)
 select_leaves calls _ _ (SelectCall.waits w group admits all h d e) =
     behind_passed calls (group ++ admits) all (Some w) e (told_then None (Some w) (Some w) group admits (first_placed w calls group h) (of_admits_in calls admits d (Some w)))
-select_leaves calls _ _ (SelectCall.resolved w before later group admits all f h d e) =
+select_leaves calls _ _ (SelectCall.resolved w before later call group admits all f h d e) =
     behind_passed calls _ all (Some w) e (told_then None (Some w) (Some w) group _ (first_placed w before group h) (cons _ admits refl (of_admits_in before admits d) (Some w)))
 select_leaves calls _ _ (SelectCall.stops_at_first later call stop all a f h e) = behind_passed calls stop all (wait_by a) e (leaves_none stop a (stops_by call stop a h) (of_stops call stop a h))
 select_leaves calls _ _ (SelectCall.stops w before later call group stop admits all a f h s d e) =
@@ -301,12 +299,12 @@ select_leaves calls _ _ (SelectCall.stops_late w before later call group stop ad
 
 both_leave : (p : Program) (row : ℕ) (g : List Told) (a : Answer) → StartsAndReceives p row g a → Leaves g a
 both_leave p row g a (StartsAndReceives.both starts group _ _ s c e) =
-    subst (λ l. WaitsTold None l (wait_by a)) (sym e) (told_then None None (wait_by a) starts group (of_starts row starts s None) (plain_leaves (floor_shape p) _ group a c))
+    subst (λ l. WaitsTold None l (wait_by a)) (sym e) (told_then None None (wait_by a) starts group (of_starts row starts s None) (plain_leaves _ group a c))
 
 line_leaves : (p : Program) (k : ℕ) (x : Config) (i : Instruction) (g : List Told) (a : Answer) → LineCalls p k x i g a → Leaves g a
-line_leaves p k x _ _ _ (LineCalls.send c o g a h) = plain_leaves (floor_shape p) _ g a h
-line_leaves p k x _ _ _ (LineCalls.receive c g a h) = plain_leaves (floor_shape p) _ g a h
-line_leaves p k x _ _ _ (LineCalls.each c g a h) = plain_leaves (floor_shape p) _ g a h
+line_leaves p k x _ _ _ (LineCalls.send c o g a h) = plain_leaves _ g a h
+line_leaves p k x _ _ _ (LineCalls.receive c g a h) = plain_leaves _ g a h
+line_leaves p k x _ _ _ (LineCalls.each c g a h) = plain_leaves _ g a h
 line_leaves p k x _ _ _ (LineCalls.trysend c o g a h) = try_leaves _ g a h
 line_leaves p k x _ _ _ (LineCalls.tryreceive c g a h) = try_leaves _ g a h
 line_leaves p k x _ _ _ (LineCalls.select g a h) = select_leaves _ g a h
@@ -402,11 +400,11 @@ move_told p k _ _ _ (Move.turns_again x head n es s e) = from x stage.Running _ 
 move_told p k _ _ _ (Move.turns_no_more x head es s e) = from x stage.Running _ None s.stage (nothing None)
 move_told p k _ _ _ (Move.receives_again x head es s e) = from x stage.Running _ None s.stage (nothing None)
 move_told p k _ _ _ (Move.ends_scope x y s end g all a l e h c f q) =
-    to _ _ _ _ (at_scope_end k x s a y f) (from x stage.Running all (wait_by a) l.stage (subst (λ u. WaitsTold None u (wait_by a)) (sym q) (told_then None None (wait_by a) end g (of_end _ s.row 0 end h None) (plain_leaves (floor_shape p) _ g a c))))
+    to _ _ _ _ (at_scope_end k x s a y f) (from x stage.Running all (wait_by a) l.stage (subst (λ u. WaitsTold None u (wait_by a)) (sym q) (told_then None None (wait_by a) end g (of_end _ s.row 0 end h None) (plain_leaves _ g a c))))
 move_told p k _ _ _ (Move.scope_ended x w n v s) = from x (stage.Leaving w) _ None s (WaitsTold.ends w (settled.Closed n v) None [] refl (WaitsTold.none None))
 move_told p k _ _ _ (Move.sees_scope x y s end l e f) = to _ _ _ _ (after_scope p k x s end y f) (from x stage.SeesScope _ None l (one _ refl None))
 move_told p k _ _ _ (Move.breaks_scope x y s failure break g all a l e h c f q) =
-    to _ _ _ _ (at_scope_end k x s a y f) (from x (stage.Unwinding failure) all (wait_by a) l (subst (λ u. WaitsTold None u (wait_by a)) (sym q) (told_then None None (wait_by a) break g (of_off _ k s.row failure break h None) (plain_leaves (floor_shape p) _ g a c))))
+    to _ _ _ _ (at_scope_end k x s a y f) (from x (stage.Unwinding failure) all (wait_by a) l (subst (λ u. WaitsTold None u (wait_by a)) (sym q) (told_then None None (wait_by a) break g (of_off _ k s.row failure break h None) (plain_leaves _ g a c))))
 move_told p k _ _ _ (Move.breaks x failure g s e h) = from x (stage.Unwinding failure) g None s (of_off _ k k failure g h None)
 move_told p k _ _ _ (Move.ends x g s e h) = from x stage.Running g None s (of_end _ k x.result g h None)
 

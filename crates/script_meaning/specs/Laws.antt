@@ -4,7 +4,7 @@ use Rattle.co_base.specs.declared.names.WaitId.{WaitId}
 use Rattle.channel_model.specs.declared.acts.Act.TheVariants.{Withdraw, Settle}
 use Rattle.channel_model.specs.declared.acts.Why.TheVariants as why
 use Rattle.channel_model.specs.declared.acts.Settled.{Settled}
-use Rattle.channel_model.specs.declared.acts.Settled.TheVariants.{Value, Sent, Closed, Cancelled, Undelivered}
+use Rattle.channel_model.specs.declared.acts.Settled.TheVariants.{Cancelled}
 use Rattle.channel_model.specs.declared.acts.ChannelNote.TheVariants as of_channel
 use Rattle.channel_model.specs.Channels.{State}
 use Rattle.channel_model.specs.Answers.{IsUnsettledOf}
@@ -16,6 +16,7 @@ use Rattle.job_model.specs.Laws.{has}
 use Rattle.note_book.specs.declared.book.Item.{Item}
 use Rattle.note_book.specs.declared.book.Item.TheVariants as item
 use Rattle.call_meaning.specs.Facts.{IsTakenBack}
+use Rattle.call_meaning.specs.ChannelCalls.{is_given_up}
 use Rattle.script_meaning.specs.declared.stage.Stage.{Stage}
 use Rattle.script_meaning.specs.declared.stage.Stage.TheVariants.{Fresh, Running, Waiting, SeesJob, Unwinding, Leaving, SeesScope, Ended}
 use Rattle.script_meaning.specs.Origins.{origin_of}
@@ -38,14 +39,6 @@ abbrev pub HasJustTheWait : ℕ → Stage → State → Type 0
 HasJustTheWait k stage s = (w : WaitId) → IsUnsettledOf k (s.waits w) ↔ (wait_of stage ≡ Some w)
 
 -- ---- waits that are given up
-
--- a wait that ends so has no answer for its line
-abbrev pub is_given_up : Settled → Bool
-is_given_up (Value n v) = false
-is_given_up (Sent n) = false
-is_given_up (Closed n v) = false
-is_given_up Cancelled = true
-is_given_up (Undelivered v) = true
 
 -- the note that the wait ended so
 abbrev pub settle_note : WaitId → Settled → Item

@@ -19,7 +19,7 @@ use Rattle.script_grammar.specs.Programs.{Program}
 use Rattle.script_grammar.specs.Nesting.{closing_of}
 use Rattle.script_grammar.specs.Tags.{code_of}
 use Rattle.script_meaning.specs.declared.stage.Stage.TheVariants.{Waiting, SeesJob, Unwinding, Leaving, SeesScope}
-use Rattle.script_meaning.specs.Shapes.{floor_shape, base_of}
+use Rattle.script_meaning.specs.Shapes.{base_of}
 use Rattle.script_meaning.specs.Configs.{Config, in_each, InScope, at_stage, at_line, next, into, received, operand, innermost, outside, Names}
 
 -- the Job that a line launches in this way is started by another line
@@ -44,20 +44,20 @@ clauses_at p k x = clauses_in x (drop (x.line + 1) (code_of p k))
 -- the Job of the row is started, if it is New, and then its done channel is received from
 pub data StartsAndReceives (p : Program) (row : ℕ) : List Told → Answer → Type 0 where
   both : (starts group all : List Told) (a : Answer) → Starts row starts
-      → PlainCall (floor_shape p) (receives (done_channel (base_of p) row)) group a
+      → PlainCall (receives (done_channel (base_of p) row)) group a
       → all ≡ starts ++ group
       → StartsAndReceives p row all a
 
 -- what this line asks of channels tells this, and is answered so
 pub data LineCalls (p : Program) (k : ℕ) (x : Config) : Instruction → List Told → Answer → Type 0 where
   send : (c : ℕ) (o : Operand) (group : List Told) (a : Answer)
-      → PlainCall (floor_shape p) (sends c (operand x o)) group a
+      → PlainCall (sends c (operand x o)) group a
       → LineCalls p k x (line.Send c o) group a
   receive : (c : ℕ) (group : List Told) (a : Answer)
-      → PlainCall (floor_shape p) (receives c) group a
+      → PlainCall (receives c) group a
       → LineCalls p k x (line.Receive c) group a
   each : (c : ℕ) (group : List Told) (a : Answer)
-      → PlainCall (floor_shape p) (receives c) group a
+      → PlainCall (receives c) group a
       → LineCalls p k x (line.Each c) group a
   trysend : (c : ℕ) (o : Operand) (group : List Told) (a : Answer)
       → TryCall (sends c (operand x o)) group a

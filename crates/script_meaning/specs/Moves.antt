@@ -19,7 +19,7 @@ use Rattle.script_grammar.specs.declared.instructions.Instruction.TheVariants as
 use Rattle.script_grammar.specs.Programs.{Program}
 use Rattle.script_grammar.specs.Tags.{code_of}
 use Rattle.script_meaning.specs.declared.stage.Stage.TheVariants.{Fresh, Running, Waiting, SeesJob, Unwinding, Leaving, SeesScope, Ended}
-use Rattle.script_meaning.specs.Shapes.{floor_shape, base_of}
+use Rattle.script_meaning.specs.Shapes.{base_of}
 use Rattle.script_meaning.specs.Configs.{Config, Entered, in_repeat, in_each, in_scope, InScope, at_stage, at_line, next, with_entered, into, with_result, operand, past_launch, scope_in, innermost, LineIs, IsAt, Names}
 use Rattle.script_meaning.specs.Lines.{is_lazy, LineCalls, After, AfterAwait, Resumed, AtScopeEnd, AfterScope}
 
@@ -139,7 +139,7 @@ pub data Move (p : Program) (k : ℕ) : Config → List Told → Config → Type
   -- its body ends with 0, and it receives on its done channel
   ends_scope : (x y : Config) (s : InScope) (end group all : List Told) (a : Answer) → IsAt p k x line.End
       → x.entered ≡ in_scope s.head s.row ∷ s.around → EndsBody (base_of p) s.row 0 end
-      → PlainCall (floor_shape p) (receives (done_channel (base_of p) s.row)) group a → AtScopeEnd k x s a y
+      → PlainCall (receives (done_channel (base_of p) s.row)) group a → AtScopeEnd k x s a y
       → all ≡ end ++ group
       → Move p k x all y
   -- a wait there ends as closed, and is never given up
@@ -154,7 +154,7 @@ pub data Move (p : Program) (k : ℕ) : Config → List Told → Config → Type
   -- out of the innermost scope, whose body breaks off, and which is waited for
   breaks_scope : (x y : Config) (s : InScope) (failure : Option ℕ) (break group all : List Told) (a : Answer)
       → x.stage ≡ Unwinding failure → scope_in x.entered ≡ Some s → BreaksOff (base_of p) k s.row failure break
-      → PlainCall (floor_shape p) (receives (done_channel (base_of p) s.row)) group a → AtScopeEnd k x s a y
+      → PlainCall (receives (done_channel (base_of p) s.row)) group a → AtScopeEnd k x s a y
       → all ≡ break ++ group
       → Move p k x all y
   -- in no scope: its own body breaks off

@@ -13,12 +13,12 @@ use Rattle.channel_model.specs.Registers.{main_at}
 use Rattle.channel_model.proofs.Spans.{prefix_self, prefix_then, moment_within}
 use Rattle.note_book.specs.declared.book.Item.{Item}
 use Rattle.call_meaning.specs.Telling.{Told}
-use Rattle.call_meaning.specs.ChannelCalls.{Call, sends, receives, Answer, LooksAgain, NoPlace, wait_at, placed, Begins, Places}
+use Rattle.call_meaning.specs.ChannelCalls.{Call, sends, receives, Answer, LooksAgain, NoPlace, wait_at, placed, Begins, Places, channel_of}
 use Rattle.call_meaning.proofs.ChannelsHeard.{told_nothing, told_then}
 use Rattle.select_calls.specs.declared.placing.Placed.{Placed}
 use Rattle.select_calls.specs.declared.placing.Placed.TheVariants as placing
 use Rattle.select_calls.specs.declared.placing.Placings.TheVariants as placings
-use Rattle.select_calls.specs.Clauses.{channel_of, MaySelect}
+use Rattle.select_calls.specs.Clauses.{MaySelect}
 use Rattle.select_calls.specs.Selects.{HasStood}
 use Rattle.select_calls.specs.Parts.{BlockedAt, MayWait, AllMayWait, HasClauses, HasPlaced, numbered, Stopped, PlacesAt, MayPlaceAt, IsPlacing, ArePlaced, PlacedSoFar, PlacedAndThen, StopsAt, PlacingsAnswer}
 use Rattle.select_calls.proofs.ClausesAt.{take_next, length_take}
@@ -159,9 +159,9 @@ module _ (who : ℕ) (calls : List Call) (n : ℕ) (main : Option WaitId) (a b d
   kept_placed None keep p q = q
   kept_placed (Some w) keep p q = record { first = q.first; clauses = keep _ q.clauses; stood = moment_within a a b d (λ s. state_of_wait (s.waits w) ≡ Some Standing) (prefix_self a.seen) q.stood p }
 
-  pub one_resolved : n ≤ length calls → PlacesAt who calls n main b d j k (Ok placing.Resolved) → PlacingsAnswer who calls a d i k main (Ok (placings.Resolved n))
-  one_resolved le t = (
-    le,
+  pub one_resolved : n < length calls → PlacesAt who calls n main b d j k (Ok placing.Resolved) → PlacingsAnswer who calls a d i k main (Ok (placings.Resolved n))
+  one_resolved lt t = (
+    lt,
     record {
       group = h.group;
       then_told = t.answer.0.told;

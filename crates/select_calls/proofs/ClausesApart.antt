@@ -9,8 +9,7 @@ use Rattle.channel_model.specs.Needs.{JoinsWait, began_by_select}
 use Rattle.channel_model.specs.Histories.{replay}
 use Rattle.channel_model.specs.Floors.{Floor}
 use Rattle.channel_model.specs.Registers.{MayRegister}
-use Rattle.call_meaning.specs.ChannelCalls.{Call}
-use Rattle.select_calls.specs.Clauses.{channel_of}
+use Rattle.call_meaning.specs.ChannelCalls.{Call, channel_of}
 use Rattle.select_calls.specs.Parts.{HasClauses, numbered, MayPlaceAt}
 use Rattle.select_calls.proofs.ClausesAt.{length_take}
 

@@ -33,7 +33,7 @@ use Rattle.select_calls.specs.declared.placing.Placed.TheVariants as placing
 use Rattle.select_calls.specs.Parts.{HasClauses, HasPlaced, ResolvedAfter, NotesResolved, PlacedAnswer}
 use Rattle.select_calls.proofs.OwnClauses.{others_keep_clauses, begun_has, joined_has}
 use Rattle.select_calls.proofs.StillMoments.{still}
-use Rattle.select_calls.proofs.ReceivesTried.{closed_as}
+use Rattle.channel_calls.proofs.ReceivesTold.{closed_as}
 
 -- ---- an act that names a clause
 

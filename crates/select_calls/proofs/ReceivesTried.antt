@@ -1,16 +1,13 @@
 -- What a receive tells that is tried, by the floor's answer.
-use Rattle.std.specs.Prelude.{◌≡◌, ℕ, true, is_some, List, [], ◌∷◌, ◌++◌, Option, Some, None, Ok, Err, refl}
-use Rattle.std.proofs.Common.{sym, subst, ◌∙◌}
+use Rattle.std.specs.Prelude.{◌≡◌, ℕ, List, [], ◌∷◌, ◌++◌, Option, Ok, Err, refl}
+use Rattle.std.proofs.Common.{◌∙◌}
 use Rattle.co_base.specs.declared.names.Memory.{Memory}
 use Rattle.channel_model.specs.declared.acts.Act.TheVariants.{Take}
 use Rattle.channel_model.specs.declared.acts.ChannelNote.TheVariants.{ReceiveClosed, Empty}
 use Rattle.channel_model.specs.declared.floor.TriedGot.TheVariants as tried_got
-use Rattle.channel_model.specs.declared.acts.Entry.{Entry}
-use Rattle.channel_model.specs.Channels.{Shape}
 use Rattle.channel_model.specs.Histories.{replay, Legal}
 use Rattle.channel_model.specs.Floors.{Floor, HasRoom, AtStep}
 use Rattle.channel_model.specs.Answers.{TriedGotAnswer, IsEmptyToTry, IsDrainedAndClosed}
-use Rattle.channel_model.proofs.Later.{closed_later}
 use Rattle.note_book.specs.declared.book.Item.{Item}
 use Rattle.note_book.specs.declared.book.Item.TheVariants as item
 use Rattle.call_meaning.specs.Telling.{made, heard}
@@ -23,18 +20,8 @@ use Rattle.select_calls.specs.declared.clause.Outcome.TheVariants as outcome
 use Rattle.select_calls.specs.declared.tries.Tried.TheVariants as tried
 use Rattle.select_calls.specs.Selects.{Meets}
 use Rattle.select_calls.specs.Parts.{TriedAnswer}
+use Rattle.channel_calls.proofs.ReceivesTold.{closed_as}
 use Rattle.select_calls.proofs.StillMoments.{still}
-
--- a channel that is closed at a moment has the value there that it has later
-pub closed_as : (shape : Shape) (c x : ℕ) (moment seen rest : List Entry) → moment ++ rest ≡ seen → Legal shape seen → is_some ((replay moment).channels c).closed ≡ true → ((replay seen).channels c).closed ≡ Some x → ((replay moment).channels c).closed ≡ Some x
-closed_as shape c x moment seen rest is l some at = by_value ((replay moment).channels c).closed refl some
-  where
-    by_value : (y : Option ℕ) → ((replay moment).channels c).closed ≡ y → is_some y ≡ true → ((replay moment).channels c).closed ≡ Some x
-    by_value None e f = cc
-    by_value (Some u) e f =
-        let later : ((replay (moment ++ rest)).channels c).closed ≡ Some u = closed_later shape moment rest c u (subst (Legal shape) (sym is) l) e in
-        let last : ((replay seen).channels c).closed ≡ Some u = subst (λ es. ((replay es).channels c).closed ≡ Some u) is later in
-        e ∙ sym last ∙ at
 
 module _ (who c n : ℕ) (a b d : Floor) (i j k : List Item) (h : HasRoom n a b) (e : j ≡ i) where
   pub taken : (place v : ℕ) (t : Option ℕ) (g : Floor) (l : List Item) → TriedGotAnswer who c b d (tried_got.Taken place v t) → k ≡ j ++ made_note (Take c place v) ∷ [] → Tells who (Admits c) d g k l

@@ -1,7 +1,7 @@
 -- What a select comes to whose clauses were all blocked.
-use Rattle.std.specs.Prelude.{◌≡◌, ℕ, ◌+◌, ◌⊎◌, zero, suc, Bool, true, false, List, [], ◌∷◌, ◌++◌, length, map, take, drop, Option, Some, None, Result, Ok, Err, slice_get, refl}
-use Rattle.std.proofs.Common.{sym, ap, subst, ◌∙◌, arith, append_assoc, inl, inr, ⊎_elim}
-use Rattle.std.proofs.lemmas.Option.{slice_get_within}
+use Rattle.std.specs.Prelude.{◌≡◌, ℕ, ◌+◌, ◌<◌, ◌⊎◌, zero, suc, Bool, true, false, List, [], ◌∷◌, ◌++◌, length, map, take, drop, Option, Some, None, Result, Ok, Err, slice_get, refl}
+use Rattle.std.proofs.Common.{sym, ap, subst, ◌∙◌, arith, append_assoc, get_or, inl, inr, ⊎_elim}
+use Rattle.std.proofs.lemmas.Option.{slice_get_within, slice_get-get_or}
 use Rattle.co_base.specs.declared.names.Memory.{Memory}
 use Rattle.co_base.specs.declared.names.WaitId.{WaitId}
 use Rattle.channel_model.specs.declared.acts.ChannelNote.TheVariants.{Late}
@@ -14,14 +14,14 @@ use Rattle.channel_model.proofs.Spans.{prefix_self, moment_within}
 use Rattle.note_book.specs.declared.book.Item.{Item}
 use Rattle.call_meaning.specs.Telling.{Told, heard}
 use Rattle.call_meaning.specs.Calls.{ToldOnChannels}
-use Rattle.call_meaning.specs.ChannelCalls.{Call, sends, receives, Answer, Waits, LooksAgain, NoPlace, blocked, revoked, wait_at, placed, Begins, Places, PlacesFirst, AdmitsIn, SelectCall}
+use Rattle.call_meaning.specs.ChannelCalls.{Call, sends, receives, Answer, Waits, LooksAgain, NoPlace, blocked, revoked, wait_at, placed, Begins, Places, PlacesFirst, AdmitsIn, SelectCall, channel_of}
 use Rattle.call_meaning.proofs.ChannelsHeard.{told_then}
 use Rattle.channel_calls.specs.Calls.{Tells, ToldSome, HoldsWait}
 use Rattle.select_calls.specs.declared.clause.SelectAnswer.{SelectAnswer}
 use Rattle.select_calls.specs.declared.clause.SelectAnswer.TheVariants as answer
 use Rattle.select_calls.specs.declared.placing.Placings.{Placings}
 use Rattle.select_calls.specs.declared.placing.Placings.TheVariants as placings
-use Rattle.select_calls.specs.Clauses.{channel_of, MaySelect}
+use Rattle.select_calls.specs.Clauses.{MaySelect}
 use Rattle.select_calls.specs.Selects.{HasStood, SelectedAnswer}
 use Rattle.select_calls.specs.Parts.{BlockedAt, MayWait, AllMayWait, AreBlocked, HasClauses, ArePlaced, PlacedSoFar, PlacedAndThen, StopsAt, ResolvedAfter, PlacingsAnswer, PlacesAll, RevokedAnswer, MayStop, Revokes, ComesLate, StopsSo, StoppedAnswer, WasStopped, StopsBehind, SelectsBehind, WaitedAnswer, Waited}
 use Rattle.select_calls.proofs.ClausesAt.{split_at, take_drop, take_all}
@@ -149,8 +149,8 @@ module _ (who : ℕ) (calls : List Call) (held : Option WaitId) (a b d : Floor) 
   }
 
   -- the wait was resolved
-  pub waits_resolved : (n : ℕ) → PlacedAndThen who calls n held (ResolvedAfter held) a b i j → Tells who (AdmitsIn (take n calls)) b d j k → WaitedAnswer who calls a d i k held (Ok answer.Waiting)
-  waits_resolved n h t = by_held held refl h.placed h.goes
+  pub waits_resolved : (n : ℕ) → n < length calls → PlacedAndThen who calls n held (ResolvedAfter held) a b i j → Tells who (AdmitsIn (take n calls)) b d j k → WaitedAnswer who calls a d i k held (Ok answer.Waiting)
+  waits_resolved n lt h t = by_held held refl h.placed h.goes
     where
       by_held : (u : Option WaitId) → held ≡ u → ArePlaced who calls n u h.group a b → ResolvedAfter u h.then_told → WaitedAnswer who calls a d i k u (Ok answer.Waiting)
       by_held None e p r = absurd r
@@ -160,7 +160,7 @@ module _ (who : ℕ) (calls : List Call) (held : Option WaitId) (a b d : Floor) 
         stood_on who w a b d _ p.stood t.left.added,
         record {
           told = (h.group ++ h.then_told) ++ t.told;
-          goes = SelectCall.resolved w (take n calls) (drop n calls) h.group t.told (map blocked calls ++ ((h.group ++ h.then_told) ++ t.told)) (take_drop calls n) p.first t.goes
+          goes = SelectCall.resolved w (take n calls) (drop (n + 1) calls) (get_or calls n (receives 0)) h.group t.told (map blocked calls ++ ((h.group ++ h.then_told) ++ t.told)) (split_at calls n (get_or calls n (receives 0)) (slice_get-get_or calls n (receives 0) lt)) p.first t.goes
               (ap (λ l. map blocked calls ++ l) (append_assoc h.group h.then_told t.told ∙ ap (λ l. h.group ++ (l ++ t.told)) r));
           left = told_then who a b d i j k (h.group ++ h.then_told) t.told h.told t.left;
         },

@@ -2,7 +2,7 @@
 use Rattle.std.specs.Prelude.{◌≡◌, ℕ, ◌≤◌, false, List, length, map, Some, slice_get}
 use Rattle.channel_model.specs.Channels.{kind_at, is_signal}
 use Rattle.channel_model.specs.Floors.{Floor, MayCall}
-use Rattle.call_meaning.specs.ChannelCalls.{Call, sends, receives}
+use Rattle.call_meaning.specs.ChannelCalls.{Call, sends, receives, channel_of}
 use Rattle.select_calls.specs.declared.clause.Clause.{Clause}
 use Rattle.select_calls.specs.declared.clause.Clause.TheVariants.{OnSend, OnReceive}
 
@@ -13,10 +13,6 @@ call_of (OnReceive c) = receives c
 
 abbrev pub calls_of : List Clause → List Call
 calls_of clauses = map call_of clauses
-
-abbrev pub channel_of : Call → ℕ
-channel_of (sends c v) = c
-channel_of (receives c) = c
 
 -- one to seven clauses on distinct channels that who may call, none of which sends on a signal
 pub record MaySelect (who : ℕ) (calls : List Call) (floor : Floor) : Type 0 where

@@ -13,7 +13,7 @@ use Rattle.note_book.specs.declared.book.Item.{Item}
 use Rattle.note_book.specs.declared.book.Item.TheVariants as item
 use Rattle.call_meaning.specs.Telling.{Told, heard}
 use Rattle.call_meaning.specs.Calls.{ToldOnChannels}
-use Rattle.call_meaning.specs.ChannelCalls.{Call, sends, receives, Answer, Waits, LooksAgain, NoPlace, Stops, blocked, spent, placed, revoked, PlacesFirst, AdmitsIn, SelectCall}
+use Rattle.call_meaning.specs.ChannelCalls.{Call, sends, receives, Answer, Waits, LooksAgain, NoPlace, Stops, blocked, spent, placed, revoked, PlacesFirst, AdmitsIn, SelectCall, channel_of}
 use Rattle.channel_calls.specs.Calls.{Tells, ToldSome, IsUntouched, HoldsWait}
 use Rattle.select_calls.specs.declared.tries.Tried.{Tried}
 use Rattle.select_calls.specs.declared.tries.Tried.TheVariants as tried
@@ -23,7 +23,7 @@ use Rattle.select_calls.specs.declared.placing.Placed.{Placed}
 use Rattle.select_calls.specs.declared.placing.Placed.TheVariants as placing
 use Rattle.select_calls.specs.declared.placing.Placings.{Placings}
 use Rattle.select_calls.specs.declared.placing.Placings.TheVariants as placings
-use Rattle.select_calls.specs.Clauses.{channel_of, MaySelect}
+use Rattle.select_calls.specs.Clauses.{MaySelect}
 use Rattle.select_calls.specs.declared.clause.SelectAnswer.{SelectAnswer}
 use Rattle.select_calls.specs.declared.clause.SelectAnswer.TheVariants as answer
 use Rattle.select_calls.specs.Selects.{Meets, Chooses, HasStood, StopsSelect}
@@ -191,7 +191,7 @@ StopsAt calls n a told = (call : Call) × (slice_get calls n ≡ Some call) × S
 abbrev pub PlacingsAnswer : ℕ → List Call → Floor → Floor → List Item → List Item → Option WaitId → Result Placings Memory → Type 0
 PlacingsAnswer who calls old new i i' main (Ok placings.All) = PlacedSoFar who calls (length calls) main old new i i'
 PlacingsAnswer who calls old new i i' main (Ok (placings.Resolved n)) =
-    (n ≤ length calls) × PlacedAndThen who calls n main (ResolvedAfter main) old new i i'
+    (n < length calls) × PlacedAndThen who calls n main (ResolvedAfter main) old new i i'
 PlacingsAnswer who calls old new i i' main (Ok (placings.Changed n)) =
     PlacedAndThen who calls n main (StopsAt calls n LooksAgain) old new i i'
     × (old.alone ≡ true

@@ -19,7 +19,7 @@ returns-in-Err-admit_in-clause-waited g c =
 
 pub returns-in-Ok-admit_in-clause-waited : goal.returns-in-Ok-admit_in-clause-waited
 returns-in-Ok-admit_in-clause-waited g c =
-    record { answer = waits_resolved _ _ _ _ _ _ _ _ _ _ (places_by _ _ _ _ _ _ _ _ _ _ refl c.in-Ok-Resolved.field-0-is c.in-Ok-Resolved.ensures.all).1 (tells_by _ _ _ _ _ _ _ c.place_all.ensures.same.who c.in-Ok-admit_in.ensures.answer) }
+    record { answer = waits_resolved _ _ _ _ _ _ _ _ _ _ (places_by _ _ _ _ _ _ _ _ _ _ refl c.in-Ok-Resolved.field-0-is c.in-Ok-Resolved.ensures.all).0 (places_by _ _ _ _ _ _ _ _ _ _ refl c.in-Ok-Resolved.field-0-is c.in-Ok-Resolved.ensures.all).1 (tells_by _ _ _ _ _ _ _ c.place_all.ensures.same.who c.in-Ok-admit_in.ensures.answer) }
 
 pub returns-in-Err-admit_in-2-clause-waited : goal.returns-in-Err-admit_in-2-clause-waited
 returns-in-Err-admit_in-2-clause-waited g c =

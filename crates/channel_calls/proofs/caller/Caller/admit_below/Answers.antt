@@ -1,7 +1,7 @@
 use Rattle.std.proofs.Common.{[], refl, ◌∙◌}
 use Rattle.channel_model.specs.declared.acts.Act.TheVariants.{Admit}
 use Rattle.channel_calls.proofs.Repeated.{may_still, room_then, fewer_left, one_repeated, still_repeated}
-use Rattle.channel_calls.proofs.AdmitsTold.{admit_buffered, admitted_below}
+use Rattle.channel_calls.proofs.AdmitsTold.{admitted_below}
 use Rattle.channel_calls.proofs.Untold.{told_none}
 use Rattle.channel_calls.proofs.caller.Caller.admit_below.Goals as goal
 
@@ -9,8 +9,6 @@ pub loop-memory-init : goal.loop-memory-init
 loop-memory-init g c = record {
   same = record { floor = refl; book = refl; wakes = refl; who = refl; anchor_is = refl };
   each = record { of = []; left = told_none _ _ _ };
-  buffered = λ e. cc;
-  none = λ e. refl;
 }
 
 pub returns-in-Err-clause-same : goal.returns-in-Err-clause-same
@@ -34,7 +32,7 @@ returns-in_default-admit-clause-same g c =
 pub returns-in_default-admit-clause-answer : goal.returns-in_default-admit-clause-answer
 returns-in_default-admit-clause-answer g c =
     let i = c.loop-memory.invariant in
-    admitted_below _ _ _ _ _ _ _ _ _ _ _ _ _ i.same.who i.each c.in_default.ensures.floor c.make_room.ensures.items c.in_default-admit.ensures.answer.0 c.in_default-admit.ensures.answer.1 i.buffered i.none
+    admitted_below _ _ _ _ _ _ _ _ _ _ _ _ i.same.who i.each c.in_default.ensures.floor c.make_room.ensures.items c.in_default-admit.ensures.answer.0 c.in_default-admit.ensures.answer.1
 
 pub loop-memory-smaller : goal.loop-memory-smaller
 loop-memory-smaller g c =
@@ -47,6 +45,4 @@ loop-memory-preserved g c =
     record {
       same = record { floor = i.same.floor; book = i.same.book; wakes = i.same.wakes; who = i.same.who; anchor_is = c.admit.ensures.anchor ∙ c.make_room.ensures.anchor ∙ i.same.anchor_is };
       each = one_repeated (λ q. Admit c.args.c q) _ _ _ _ _ _ _ _ _ _ _ _ i.same.who i.each c.in_default.ensures.floor c.make_room.ensures.items c.in-Some.ensures.answer.made (λ s. tt) c.note.ensures.items;
-      buffered = λ e. admit_buffered _ _ _ _ _ _ _ _ (g.met.F.ChannelFloor.legal c.admit.new.self) i.each.left.added.same c.in_default.ensures.floor c.in-Some.ensures.answer.made;
-      none = λ e. cc;
     }

@@ -1,8 +1,5 @@
-use Rattle.std.proofs.Common.{◌≡◌, true, false, []}
 use Rattle.channel_model.specs.declared.acts.Act.TheVariants.{Admit}
-use Rattle.channel_model.specs.Channels.{kind_at}
 use Rattle.channel_model.proofs.Left.{left_of}
-use Rattle.call_meaning.specs.ChannelCalls.{is_buffered}
 use Rattle.channel_calls.specs.Calls.{SameCaller}
 use Rattle.channel_calls.proofs.Repeated.{Repeats}
 use Rattle.channel_calls.proofs.caller.Caller.admit_below.Given as goal
@@ -11,8 +8,6 @@ abbrev pub invariant-loop-memory : goal.invariant-loop-memory
 invariant-loop-memory g l = record {
   same : SameCaller g.F.ChannelFloor.anchor l.initial.self l.self;
   each : Repeats (λ q. Admit l.c q) l.initial.self.who (g.F.ChannelFloor.view l.initial.self.floor.now) (g.F.ChannelFloor.view l.self.floor.now) (g.B.NoteBook.items l.initial.self.book.now) (g.B.NoteBook.items l.self.book.now);
-  buffered : l.some ≡ true → is_buffered (kind_at (g.F.ChannelFloor.view l.initial.self.floor.now).shape l.c) ≡ true;
-  none : l.some ≡ false → each.of ≡ [];
 }
 
 abbrev pub decreases-loop-memory : goal.decreases-loop-memory

@@ -1,7 +1,7 @@
 use Rattle.std.proofs.Common.{refl}
 use Rattle.channel_model.proofs.Puts.{put_owned}
 use Rattle.channel_calls.proofs.Roomed.{call_roomed, kind_roomed}
-use Rattle.channel_calls.proofs.Begun.{offer_stands, offer_plain}
+use Rattle.channel_calls.proofs.Begun.{offer_plain}
 use Rattle.channel_calls.proofs.SendsTold.{handed, kept, put_stopped, sent, offer_told, refused, no_place}
 use Rattle.channel_calls.proofs.OwnOffers.{held_sends}
 use Rattle.channel_calls.proofs.Untold.{untouched_some}
@@ -21,9 +21,6 @@ after_put-requires-clause-own g c = put_owned _ _ _ _ _ _ c.in-Put.ensures.answe
 
 pub after_held-requires-clause-plain : goal.after_held-requires-clause-plain
 after_held-requires-clause-plain g c = offer_plain _ _ _ _ _ _ (g.met.F.ChannelFloor.legal c.offer.new.self) c.in-Held.ensures.answer.0
-
-pub after_held-requires-clause-stands : goal.after_held-requires-clause-stands
-after_held-requires-clause-stands g c = offer_stands _ _ _ _ _ _ (g.met.F.ChannelFloor.legal c.offer.new.self) c.in-Held.ensures.answer.0
 
 pub returns-in-Handed-clause-answer : goal.returns-in-Handed-clause-answer
 returns-in-Handed-clause-answer g c = sent _ _ _ _ _ _ _ (handed _ _ _ _ _ _ _ _ _ _ c.in_default.ensures.floor c.make_room.ensures.items _ _ c.in-Handed.ensures.answer c.note.ensures.items)

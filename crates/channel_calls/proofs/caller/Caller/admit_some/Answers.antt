@@ -1,6 +1,0 @@
-use Rattle.std.proofs.Common.{refl}
-use Rattle.channel_calls.proofs.AdmitsTold.{admitted_some}
-use Rattle.channel_calls.proofs.caller.Caller.admit_some.Goals as goal
-
-pub returns-clause-answer : goal.returns-clause-answer
-returns-clause-answer g c = admitted_some _ _ _ _ _ _ _ _ _ _ _ refl refl c.mark-mark.ensures.answer c.admit_below.ensures.answer
