@@ -1,32 +1,35 @@
 -- A failure goes up, step by step.
 use Rattle.std.specs.Prelude.{◌≡◌, ℕ, ◌+◌, ◌≤◌, ◌<◌, Bool, true, false, List, [], ◌∷◌, ◌++◌, Option, Some, None, is_some, option_map, refl}
 use mathlib.Core.List.{IsPrefix}
+use Rattle.std.specs.List.{list_all}
 use Rattle.std.proofs.Common.{sym, ap, ◌∙◌, subst, arith, append_assoc}
 use Rattle.job_model.specs.declared.acts.JobAct.{JobAct}
 use Rattle.job_model.specs.declared.acts.JobAct.TheVariants.{Cancel}
+use Rattle.job_model.specs.declared.acts.Reason.{Reason}
 use Rattle.job_model.specs.declared.acts.Reason.TheVariants as reasons
 use Rattle.job_model.specs.declared.acts.JobEntry.{JobEntry}
 use Rattle.job_model.specs.declared.floor.JobView.{JobView}
 use Rattle.job_model.specs.declared.floor.Link.{Link}
 use Rattle.job_model.specs.Trees.{Shape, IsShape, Job, Tree, is_among, is_supervisor, parent_of}
 use Rattle.job_model.specs.Families.{children_of}
+use Rattle.job_model.specs.Cancels.{own_cancel}
 use Rattle.job_model.specs.Needs.{IsFailedChild, Holds}
 use Rattle.job_model.specs.Histories.{replay, Legal}
 use Rattle.job_model.specs.Floors.{Floor, SameSetting, MayCall, Looked}
 use Rattle.job_model.specs.Answers.{view_of, LookAnswer, LinkAnswer}
-use Rattle.job_model.proofs.Spans.{prefix_self, prefix_then, nothing_more, setting_then, claimed_none, claimed_then}
+use Rattle.job_model.proofs.Spans.{prefix_self, prefix_then, nothing_more}
 use Rattle.job_model.proofs.Lasting.{attached_lasts, parent_lasts}
 use Rattle.job_model.proofs.Own.{prefix_keeps}
 use Rattle.job_model.proofs.Families.{replay_families}
 use Rattle.note_book.specs.declared.book.Item.{Item}
 use Rattle.job_tree.specs.Notes.{Noted}
-use Rattle.job_tree.specs.Passes.{IsFailure, IsPass}
+use Rattle.job_tree.specs.Passes.{IsFailure, IsPass, IsPartOfPass, is_cancel, HasCancelled}
 use Rattle.job_tree.specs.Failures.{IsFailedUp}
 use Rattle.job_model.specs.Failures.{IsScope, IsSupervisor, StaysBelow, GoesUpTo, FailsUp}
 use Rattle.job_model.proofs.Covered.{prefix_keeps_all}
-use Rattle.job_tree.proofs.Looks.{link_is}
+use Rattle.job_tree.proofs.Looks.{looked_self, link_is}
 use Rattle.job_tree.proofs.Notes.{noted_looked, noted_then}
-use Rattle.job_tree.proofs.PassesTold.{told_noted, pass_noted}
+use Rattle.job_tree.proofs.PassesTold.{told_noted, pass_noted, all_append, below_cancels, own_cancels}
 use Rattle.job_model.proofs.FailingUp.{scope_lasts, supervisor_lasts, goes_kept, cancels_below_kept}
 use Rattle.job_model.proofs.Ranks.{ranks, are_ranks, ranks_stay}
 use Rattle.job_tree.proofs.Causes.{failure_later}
@@ -67,19 +70,6 @@ parent_attached shape history row p l e = has_children (replay history p) row ((
 pub may_parent : (who row p : ℕ) (a b : Floor) → MayCall who row a → SameSetting a b → Legal b.shape b.seen → parent_of (replay b.seen row) ≡ Some p → MayCall who p b
 may_parent who row p a b m same l e = record { caller = ap (λ (f : ℕ → Bool). f who) same.callers ∙ m.caller; attached = parent_attached b.shape b.seen row p l e }
 
-pub looked_then : (who : ℕ) (a b c : Floor) → Looked who [] a b → Looked who [] b c → Looked who [] a c
-looked_then who a b c h k = record {
-  same = setting_then a b c h.same k.same;
-  longer = prefix_then a.seen b.seen c.seen h.longer k.longer;
-  mine = k.mine ∙ h.mine;
-  alone = λ e. k.alone (h.same.alone ∙ e) ∙ h.alone e;
-  spare = (let x = h.spare in let y = k.spare in omega arith);
-  claims = claimed_then who [] [] a b c h.same h.claims k.claims;
-}
-
-pub looked_self : (who : ℕ) (a : Floor) → Looked who [] a a
-looked_self who a = record { same = record { shape = refl; alone = refl; callers = refl }; longer = prefix_self a.seen; mine = refl; alone = λ e. refl; spare = omega arith; claims = claimed_none who a a (λ r. refl) }
-
 pub root_stays : (tree : Tree) (row : ℕ) → row ≡ 0 → StaysBelow tree row
 root_stays tree row e = subst (StaysBelow tree) (sym e) StaysBelow.root
 
@@ -101,12 +91,13 @@ child_holds shape tree who row p g f = (failed_child p (tree row) g.parent f g.c
 pub record IsClimb (who row at : ℕ) (a b : Floor) (items items' : List Item) : Type 0 where
   pub acts : List JobAct
   pub noted : Noted who acts a b items items'
+  pub cancels : list_all is_cancel acts ≡ true
   pub failed : IsFailure (replay b.seen at)
   pub attached : is_some (replay b.seen at) ≡ true
   pub on : (ys : List JobEntry) (more : List JobAct) → Legal a.shape ys → IsPrefix b.seen ys → FailsUp (replay ys) at more → FailsUp (replay ys) row (acts ++ more)
 
 pub first_climb : (who row : ℕ) (a : Floor) (items : List Item) → IsFailure (replay a.seen row) → is_some (replay a.seen row) ≡ true → IsClimb who row row a a items items
-first_climb who row a items f s = record { acts = []; noted = noted_looked who a a items items refl (looked_self who a); failed = f; attached = s; on = λ ys more l p h. h }
+first_climb who row a items f s = record { acts = []; noted = noted_looked who a a items items refl (looked_self who a); cancels = refl; failed = f; attached = s; on = λ ys more l p h. h }
 
 looked_by : (who who' : ℕ) (b c : Floor) → who' ≡ who → Looked who' [] b c → Looked who [] b c
 looked_by who who' b c e k = subst (λ n. Looked n [] b c) e k
@@ -117,6 +108,7 @@ climb_looked who who' row at a b c i j k e f l h look =
     record {
       acts = h.acts ++ [];
       noted = noted_then who h.acts [] a b c i j k h.noted (noted_looked who b c j k f m);
+      cancels = all_append h.acts [] h.cancels refl;
       failed = failure_later c.shape b.seen c.seen at l m.longer h.failed;
       attached = prefix_keeps _ attached_lasts c.shape b.seen c.seen at l m.longer h.attached;
       on = λ ys more ly p u. subst (λ x. FailsUp (replay ys) row (x ++ more)) (sym (nothing_more h.acts)) (h.on ys more ly (prefix_then b.seen c.seen ys m.longer p) u);
@@ -131,6 +123,7 @@ climb_up who who' row at p true a b c i j k count e f l h g m =
     record {
       acts = h.acts ++ Cancel p (reasons.Child at) ∷ below;
       noted = noted_then who h.acts (Cancel p (reasons.Child at) ∷ below) a b c i j k h.noted noted;
+      cancels = all_append h.acts (Cancel p (reasons.Child at) ∷ below) h.cancels (below_cancels (replay c.seen) p below m.cancels);
       failed = m.failed refl refl;
       attached = parent_attached c.shape c.seen at p l (goes_kept c.shape b.seen c.seen at p l longer g).parent;
       on = λ ys more ly pre u.
@@ -152,6 +145,16 @@ climb_stops who who' row at p false a b c i j k count e f l h g m =
       acts = h.acts ++ below;
       noted = told_noted who (h.acts ++ below) a c i k all;
       up = h.on c.seen below la noted.added.longer (FailsUp.stops at p below (goes_kept c.shape b.seen c.seen at p l noted.added.longer g) m.all m.cancels);
+    }
+
+-- there was no memory in the pass
+pub climb_part : (who who' row at p : ℕ) (reason : Reason) (a b c : Floor) (i j k : List Item) → who' ≡ who → IsClimb who row at a b i j → IsPartOfPass who' p reason b c j k → HasCancelled who a c i k
+climb_part who who' row at p reason a b c i j k e h m =
+    let acts = own_cancel m.newly p reason ++ m.below in
+    record {
+      acts = h.acts ++ acts;
+      noted = noted_then who h.acts acts a b c i j k h.noted (subst (λ x. Noted x acts b c j k) e m.noted);
+      cancels = all_append h.acts acts h.cancels (all_append (own_cancel m.newly p reason) m.below (own_cancels p reason m.newly) (below_cancels (replay c.seen) p m.below m.cancels));
     }
 
 -- no parent is cancelled

@@ -27,7 +27,8 @@ use Rattle.job_tree.specs.Notes.{made_note}
 use Rattle.job_tree.specs.Endings.{HasEnded, IsEndedBy, MayNotEnd, EndAnswer, IsFinishedUp}
 use Rattle.job_tree.specs.declared.ends.Rise.{Rise}
 use Rattle.job_tree.specs.declared.ends.Rise.TheVariants as rise
-use Rattle.job_tree.proofs.Climbs.{looked_self, parent_attached}
+use Rattle.job_tree.proofs.Climbs.{parent_attached}
+use Rattle.job_tree.proofs.Looks.{looked_self}
 
 -- ---- who finished a Job may tell
 

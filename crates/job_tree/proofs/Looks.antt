@@ -1,7 +1,7 @@
 -- What a look at a Job says of it from then on.
 use Rattle.std.specs.Prelude.{◌≡◌, ℕ, ◌<◌, Bool, true, false, List, [], ◌∷◌, ◌++◌, Option, Some, None, is_some, option_map, refl}
 use mathlib.Core.List.{IsPrefix}
-use Rattle.std.proofs.Common.{sym, ap, ◌∙◌, subst}
+use Rattle.std.proofs.Common.{sym, ap, ◌∙◌, subst, arith}
 use Rattle.job_model.specs.declared.acts.Reason.{Reason}
 use Rattle.job_model.specs.declared.acts.JobAct.{JobAct}
 use Rattle.job_model.specs.declared.acts.JobAct.TheVariants.{Cancel}
@@ -12,11 +12,11 @@ use Rattle.job_model.specs.Acts.{cancels}
 use Rattle.job_model.specs.Laws.{has}
 use Rattle.job_model.specs.Needs.{Holds, MayBeCancelled}
 use Rattle.job_model.specs.Families.{IsCancellingOrEnded, newest, older_sibling}
-use Rattle.job_model.specs.Histories.{replay, Legal}
-use Rattle.job_model.specs.Floors.{Floor, SameSetting, MayCall, Looked, Made, AtStep}
+use Rattle.job_model.specs.Histories.{replay, Legal, acts_of}
+use Rattle.job_model.specs.Floors.{Floor, SameSetting, HasRoom, MayCall, Looked, Made, AtStep}
 use Rattle.job_model.specs.Answers.{view_of, LookAnswer, link_of, link_from, LinkAnswer}
 use Rattle.job_model.proofs.Histories.{Legal-prefix}
-use Rattle.job_model.proofs.Spans.{nothing_more, added_looked, added_made, added_then}
+use Rattle.job_model.proofs.Spans.{prefix_self, prefix_then, nothing_more, setting_then, claimed_none, claimed_then, added_looked, added_made, added_then}
 use Rattle.job_model.proofs.Lasting.{attached_lasts}
 use Rattle.job_model.proofs.Own.{prefix_keeps}
 use Rattle.job_model.proofs.Reasons.{reason_holds_on}
@@ -41,6 +41,35 @@ holds_later who row reason a b same p l h =
 -- a moment of the call has a legal history
 pub moment_legal : (a b : Floor) (P : Tree → Type 0) (m : AtStep a b P) → Legal b.shape b.seen → Legal b.shape m.moment
 moment_legal a b P m l = Legal-prefix b.shape m.moment m.before.0 (subst (Legal b.shape) (sym m.before.1) l)
+
+-- ---- looks one after the other
+
+pub looked_then : (who : ℕ) (a b c : Floor) → Looked who [] a b → Looked who [] b c → Looked who [] a c
+looked_then who a b c h k = record {
+  same = setting_then a b c h.same k.same;
+  longer = prefix_then a.seen b.seen c.seen h.longer k.longer;
+  mine = k.mine ∙ h.mine;
+  alone = λ e. k.alone (h.same.alone ∙ e) ∙ h.alone e;
+  spare = (let x = h.spare in let y = k.spare in omega arith);
+  claims = claimed_then who [] [] a b c h.same h.claims k.claims;
+}
+
+pub looked_self : (who : ℕ) (a : Floor) → Looked who [] a a
+looked_self who a = record { same = record { shape = refl; alone = refl; callers = refl }; longer = prefix_self a.seen; mine = refl; alone = λ e. refl; spare = omega arith; claims = claimed_none who a a (λ r. refl) }
+
+-- room was made
+pub looked_made : (who n : ℕ) (a b : Floor) → HasRoom n a b → Looked who [] a b
+looked_made who n a b h = record {
+  same = h.same;
+  longer = ([], nothing_more a.seen ∙ sym h.seen);
+  mine = ap (acts_of who) h.seen;
+  alone = λ e. h.seen;
+  spare = h.kept;
+  claims = claimed_none who a b h.claims;
+}
+
+pub looked_same : (who : ℕ) (a b : Floor) → b ≡ a → Looked who [] a b
+looked_same who a b e = subst (λ (x : Floor). Looked who [] a x) (sym e) (looked_self who a)
 
 -- ---- look
 
@@ -89,13 +118,6 @@ pub noted_one : (who : ℕ) (act : JobAct) (a b c d : Floor) (items items' : Lis
 noted_one who act a b c d items items' h m k e = record {
   appended = e;
   added = added_then who [] (act ∷ []) [] [] a b d (added_looked who [] a b h) (added_then who (act ∷ []) [] [] [] b c d (added_made who act [] b c m) (added_looked who [] c d k));
-}
-
--- two looks
-pub looked_twice : (who : ℕ) (a b c : Floor) (items : List Item) → Looked who [] a b → Looked who [] b c → Noted who [] a c items items
-looked_twice who a b c items h k = record {
-  appended = sym (nothing_more items);
-  added = added_then who [] [] [] [] a b c (added_looked who [] a b h) (added_looked who [] b c k);
 }
 
 -- ---- turns

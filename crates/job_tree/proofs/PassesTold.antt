@@ -1,8 +1,11 @@
 -- What a pass and a climb tell.
-use Rattle.std.specs.Prelude.{◌≡◌, ℕ, suc, Bool, List, [], ◌∷◌, ◌++◌, length, map, refl}
+use Rattle.std.specs.Prelude.{◌≡◌, ℕ, suc, Bool, true, false, ◌&&◌, List, [], ◌∷◌, ◌++◌, length, map, refl}
+use Rattle.std.specs.List.{list_all}
 use Rattle.std.proofs.Common.{ap, ◌∙◌, subst}
 use Rattle.job_model.specs.declared.acts.JobAct.{JobAct}
+use Rattle.job_model.specs.declared.acts.JobAct.TheVariants.{Attach, Start, EndBody, Cancel, Finish, Gone}
 use Rattle.job_model.specs.declared.acts.Reason.{Reason}
+use Rattle.job_model.specs.Trees.{Tree}
 use Rattle.job_model.specs.Histories.{replay}
 use Rattle.job_model.specs.Cancels.{own_cancel, AreCancelsBelow, IsAllCancelled}
 use Rattle.job_model.specs.Floors.{Floor, Added}
@@ -13,7 +16,7 @@ use Rattle.call_meaning.specs.Telling.{Told, on_jobs, PassedBelow, items_in, did
 use Rattle.call_meaning.specs.Calls.{ToldOnJobs}
 use Rattle.call_meaning.proofs.JobTellings.{items_in-append, items_did, acts_did, told_dids, told_so}
 use Rattle.job_tree.specs.Notes.{made_note, Noted}
-use Rattle.job_tree.specs.Passes.{IsPass}
+use Rattle.job_tree.specs.Passes.{IsPass, is_cancel}
 
 -- acts that were noted are told
 pub told_noted : (who : ℕ) (acts : List JobAct) (a b : Floor) (i j : List Item) → Noted who acts a b i j → ToldOnJobs who [] a b i j (map did acts)
@@ -59,3 +62,26 @@ pass_noted who row reason newly a b i j count h =
       appended = h.noted.appended ∙ ap (λ (l : List Item). i ++ l) items;
       added = subst (λ (l : List JobAct). Added who l [] a b) (ap job_acts_in items ∙ made_acts (own_cancel newly row reason ++ h.group.below)) h.noted.added;
     }
+
+-- ---- all of them are Cancels
+
+pub all_append : (xs ys : List JobAct) → list_all is_cancel xs ≡ true → list_all is_cancel ys ≡ true → list_all is_cancel (xs ++ ys) ≡ true
+all_append [] ys e f = f
+all_append (x ∷ xs) ys e f = by_test (is_cancel x) refl e (λ k. all_append xs ys k f)
+  where
+    by_test : (b : Bool) → is_cancel x ≡ b → (b && list_all is_cancel xs) ≡ true → (list_all is_cancel xs ≡ true → list_all is_cancel (xs ++ ys) ≡ true) → (is_cancel x && list_all is_cancel (xs ++ ys)) ≡ true
+    by_test true k h rest = ap (λ b. b && list_all is_cancel (xs ++ ys)) k ∙ rest h
+    by_test false k h rest = cc
+
+pub below_cancels : (tree : Tree) (row : ℕ) (acts : List JobAct) → AreCancelsBelow tree row acts → list_all is_cancel acts ≡ true
+below_cancels tree row [] h = refl
+below_cancels tree row (Attach p q kind tag cancelled ∷ xs) h = absurd h.0
+below_cancels tree row (Start q ∷ xs) h = absurd h.0
+below_cancels tree row (EndBody q v ∷ xs) h = absurd h.0
+below_cancels tree row (Cancel q reason ∷ xs) h = below_cancels tree row xs h.1
+below_cancels tree row (Finish q end ∷ xs) h = absurd h.0
+below_cancels tree row (Gone q ∷ xs) h = absurd h.0
+
+pub own_cancels : (row : ℕ) (reason : Reason) (newly : Bool) → list_all is_cancel (own_cancel newly row reason) ≡ true
+own_cancels row reason true = refl
+own_cancels row reason false = refl

@@ -21,8 +21,9 @@ use Rattle.job_model.proofs.Below.{cancelling_lasts, below_kept}
 use Rattle.note_book.specs.declared.book.Item.{Item}
 use Rattle.job_tree.specs.Notes.{Noted}
 use Rattle.job_tree.specs.Rooms.{uncancelled}
-use Rattle.job_tree.specs.Passes.{IsNewestOf, HasNoneBelow, IsPassBelow, IsPass, CancelledAnswer, TurnAnswer}
+use Rattle.job_tree.specs.Passes.{IsNewestOf, HasNoneBelow, IsPassBelow, IsPass, CancelledAnswer, TurnAnswer, IsPartBelow, IsPartOfPass}
 use Rattle.job_model.specs.Cancels.{IsAllCancelled, AreCancelsBelow, own_cancel}
+use Rattle.job_tree.specs.declared.caller.Reserve.TheVariants.{Before, AsItGoes}
 use Rattle.job_tree.specs.declared.steps.Turn.TheVariants.{To, Over, Up}
 use Rattle.job_model.proofs.Covered.{prefix_keeps_all}
 use Rattle.job_tree.proofs.Causes.{failure_later}
@@ -334,8 +335,37 @@ after_up who who' top at p false a b c i j j' count e f s l h w apart look t = a
 pub pass_below_done : (who top : ℕ) (a b : Floor) (i j : List Item) (count : ℕ) → IsPassSoFar who top a b i j count → IsAllCancelled (replay b.seen) top → IsPassBelow who top a b i j count
 pass_below_done who top a b i j count h all = record { acts = h.acts; noted = h.noted; cancels = h.cancels; counted = h.counted; all = all }
 
-pub none_more : (n : ℕ) → n ≡ n + 0
-none_more n = omega arith
+-- there was no memory for the next Cancel
+pub part_below : (who who' who'' top : ℕ) (a b c d : Floor) (i j j' k : List Item) (count : ℕ) → who' ≡ who → who'' ≡ who → j' ≡ j → Legal c.shape c.seen → Legal d.shape d.seen → IsPassSoFar who top a b i j count → Looked who' [] b c → Noted who'' [] c d j' k → IsPartBelow who top a d i k
+part_below who who' who'' top a b c d i j j' k count e e' f lc ld h look m =
+    let far = so_far_looked who top a b c i j j' count lc f h (looked_by who who' b c e look) in
+    let m' : Noted who [] c d j' k = subst (λ x. Noted x [] c d j' k) e' m in
+    record {
+      acts = far.acts ++ [];
+      noted = noted_then who far.acts [] a c d i j' k far.noted m';
+      cancels = subst (AreCancelsBelow (replay d.seen) top) (sym (nothing_more far.acts)) (cancels_below_kept d.shape c.seen d.seen top far.acts ld m'.added.longer far.cancels);
+    }
+
+-- there was no memory for the Cancel of the first row
+pub part_none : (who row : ℕ) (reason : Reason) (a b : Floor) (i j : List Item) → Noted who [] a b i j → IsPartOfPass who row reason a b i j
+part_none who row reason a b i j h = record { newly = false; below = []; noted = h; cancels = tt }
+
+-- nor for one below it
+pub part_passed : (who who' row : ℕ) (reason : Reason) (newly : Bool) (a b c : Floor) (i j k : List Item) → who' ≡ who → CancelledAnswer who row reason a b i j newly → IsPartBelow who' row b c j k → IsPartOfPass who row reason a c i k
+part_passed who who' row reason newly a b c i j k e h m = record {
+  newly = newly;
+  below = m.acts;
+  noted = noted_then who (own_cancel newly row reason) m.acts a b c i j k h.noted (subst (λ x. Noted x m.acts b c j k) e m.noted);
+  cancels = m.cancels;
+}
+
+pub count_newly : (newly : Bool) (row : ℕ) (reason : Reason) (n : ℕ) → newly ≡ true → n + 1 ≡ n + length (own_cancel newly row reason)
+count_newly true row reason n e = omega arith
+count_newly false row reason n e = cc
+
+pub count_same : (newly : Bool) (row : ℕ) (reason : Reason) (n : ℕ) → newly ≡ false → n ≡ n + length (own_cancel newly row reason)
+count_same true row reason n e = cc
+count_same false row reason n e = omega arith
 
 -- a pass is the Cancel of its row, where it was made, and a pass below it
 pub passed : (who who' row : ℕ) (reason : Reason) (newly : Bool) (a b c : Floor) (i j k : List Item) (count next : ℕ) → who' ≡ who → next ≡ length (own_cancel newly row reason) + count → Legal c.shape c.seen → CancelledAnswer who row reason a b i j newly → IsPassBelow who' row b c j k count → IsPass who row reason newly a c i k next
@@ -359,3 +389,7 @@ one_newly false row reason n e = cc
 pub none_newly : (newly : Bool) (row : ℕ) (reason : Reason) (n : ℕ) → newly ≡ false → n ≡ length (own_cancel newly row reason) + n
 none_newly true row reason n e = cc
 none_newly false row reason n e = omega arith
+
+-- where room was made before, memory is never wanting
+pub never_wanting : Before ≡ AsItGoes → ⊥
+never_wanting e = cc

@@ -1,6 +1,9 @@
 -- Passes: a Job is cancelled with all below it.
-use Rattle.std.specs.Prelude.{◌≡◌, ℕ, ◌+◌, ◌≤◌, Bool, true, false, List, [], length, Option, Some, None}
+use Rattle.std.specs.Prelude.{◌≡◌, ℕ, ◌+◌, ◌<◌, ◌≤◌, Bool, true, false, List, [], ◌++◌, length, Option, Some, None, Result, Ok, Err}
+use Rattle.std.specs.List.{list_all}
+use Rattle.co_base.specs.declared.names.Memory.{Memory}
 use Rattle.job_model.specs.declared.acts.JobAct.{JobAct}
+use Rattle.job_model.specs.declared.acts.JobAct.TheVariants.{Attach, Start, EndBody, Cancel, Finish, Gone}
 use Rattle.job_model.specs.declared.acts.Reason.{Reason}
 use Rattle.job_model.specs.declared.acts.Reason.TheVariants as reasons
 use Rattle.job_model.specs.Trees.{Job, parent_of, is_ended, is_failure}
@@ -14,6 +17,9 @@ use Rattle.call_meaning.specs.JobCalls.{Passes}
 use Rattle.call_meaning.specs.Calls.{ToldOnJobs}
 use Rattle.job_tree.specs.Notes.{Noted}
 use Rattle.job_tree.specs.Rooms.{uncancelled}
+use Rattle.job_tree.specs.declared.caller.Reserve.{Reserve}
+use Rattle.job_tree.specs.declared.caller.Reserve.TheVariants.{AsItGoes}
+use Rattle.job_tree.specs.declared.passes.Passed.{Passed}
 use Rattle.job_tree.specs.declared.steps.Turn.{Turn}
 use Rattle.job_tree.specs.declared.steps.Turn.TheVariants.{To, Over, Up}
 
@@ -38,6 +44,11 @@ pub record CancelledAnswer (who row : ℕ) (reason : Reason) (old new : Floor) (
   pub cancelled : IsCancellingOrEnded (replay new.seen row)
   pub failed : now ≡ true → is_for_failure reason ≡ true → IsFailure (replay new.seen row)
 
+-- the Cancel of one Job; without memory nothing was cancelled
+abbrev pub CancelAnswer : ℕ → ℕ → Reason → Reserve → Floor → Floor → List Item → List Item → Result Bool Memory → Type 0
+CancelAnswer who row reason reserve old new items items' (Ok now) = CancelledAnswer who row reason old new items items' now
+CancelAnswer who row reason reserve old new items items' (Err m) = (reserve ≡ AsItGoes) × Noted who [] old new items items'
+
 -- the Jobs below the row were cancelled, so many by this call, and are all Cancelling or ended
 pub record IsPassBelow (who row : ℕ) (old new : Floor) (items items' : List Item) (count : ℕ) : Type 0 where
   pub acts : List JobAct
@@ -45,6 +56,17 @@ pub record IsPassBelow (who row : ℕ) (old new : Floor) (items items' : List It
   pub cancels : AreCancelsBelow (replay new.seen) row acts
   pub counted : count ≡ length acts
   pub all : IsAllCancelled (replay new.seen) row
+
+-- some Jobs below the row were cancelled
+pub record IsPartBelow (who row : ℕ) (old new : Floor) (items items' : List Item) : Type 0 where
+  pub acts : List JobAct
+  pub noted : Noted who acts old new items items'
+  pub cancels : AreCancelsBelow (replay new.seen) row acts
+
+-- all of them, or as far as there was memory
+abbrev pub BelowAnswer : ℕ → ℕ → Reserve → Floor → Floor → List Item → List Item → Result ℕ Memory → Type 0
+BelowAnswer who row reserve old new items items' (Ok count) = IsPassBelow who row old new items items' count × (count < 65536)
+BelowAnswer who row reserve old new items items' (Err m) = (reserve ≡ AsItGoes) × IsPartBelow who row old new items items'
 
 -- a pass is told and noted: the Job was cancelled for this reason, or had been, and then those below it; in the end all are Cancelling or
 -- ended
@@ -61,6 +83,35 @@ pub record IsPass (who row : ℕ) (reason : Reason) (newly : Bool) (old new : Fl
 pub record IsSomePass (who row : ℕ) (reason : Reason) (old new : Floor) (items items' : List Item) (count : ℕ) : Type 0 where
   pub newly : Bool
   pub pass : IsPass who row reason newly old new items items' count
+
+-- a part of a pass: the Job was cancelled for this reason, or was not by this call, and some Jobs below it were
+pub record IsPartOfPass (who row : ℕ) (reason : Reason) (old new : Floor) (items items' : List Item) : Type 0 where
+  pub newly : Bool
+  pub below : List JobAct
+  pub noted : Noted who (own_cancel newly row reason ++ below) old new items items'
+  pub cancels : AreCancelsBelow (replay new.seen) row below
+
+-- a whole pass, or as far as there was memory
+abbrev pub PassAnswer : ℕ → ℕ → Reason → Reserve → Floor → Floor → List Item → List Item → Result Passed Memory → Type 0
+PassAnswer who row reason reserve old new items items' (Ok passed) =
+    IsPass who row reason passed.newly old new items items' passed.count
+PassAnswer who row reason reserve old new items items' (Err m) = (reserve ≡ AsItGoes) × IsPartOfPass who row reason old new items items'
+
+-- ---- Cancels
+
+abbrev pub is_cancel : JobAct → Bool
+is_cancel (Attach p r kind tag cancelled) = false
+is_cancel (Start r) = false
+is_cancel (EndBody r v) = false
+is_cancel (Cancel r reason) = true
+is_cancel (Finish r end) = false
+is_cancel (Gone r) = false
+
+-- the caller made Cancels, and noted each
+pub record HasCancelled (who : ℕ) (old new : Floor) (items items' : List Item) : Type 0 where
+  pub acts : List JobAct
+  pub noted : Noted who acts old new items items'
+  pub cancels : list_all is_cancel acts ≡ true
 
 -- ---- the walk
 

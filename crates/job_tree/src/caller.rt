@@ -9,3 +9,12 @@ pub struct JobCaller<'floor, 'book, 'wakes, F, B, W> {
     pub wakes: &'wakes mut W,
     pub who: Tag,
 }
+
+/// Where the room for the Cancels of a pass comes from.
+#[derive(Clone, Copy, Debug, PartialEq, Eq)]
+pub enum Reserve {
+    /// It was made before, for each Cancel that may still be made.
+    Before,
+    /// It is made before each Cancel, for that one alone.
+    AsItGoes,
+}

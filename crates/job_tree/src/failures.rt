@@ -5,10 +5,11 @@ ghost use Rattle.job_model.specs.Histories.{replay};
 ghost use Rattle.job_model.specs.Floors.{MayCall, Looked};
 ghost use Rattle.job_tree.specs.Rooms.{MayCancelAll};
 ghost use Rattle.job_tree.specs.Passes.{IsFailure};
-ghost use Rattle.job_tree.specs.Failures.{ParentAnswer, IsFailedUp};
+ghost use Rattle.job_tree.specs.Failures.{ParentAnswer, IsFailedUp, ClimbAnswer};
+ghost use Rattle.job_tree.specs.declared.caller.Reserve.TheVariants.{Before};
 
-use crate::caller::JobCaller;
-use co_base::{Row, Wakes};
+use crate::caller::{JobCaller, Reserve};
+use co_base::{Memory, Row, Wakes};
 use job_model::{JobFloor, Reason};
 use note_book::NoteBook;
 
@@ -58,12 +59,38 @@ impl<F: JobFloor, B: NoteBook, W: Wakes> JobCaller<'_, '_, '_, F, B, W> {
             (B.items self.new.book.now) }
         ensures room { MayCancelAll (F.view self.new.floor.now) (B.spare self.new.book.now) }
     {
+        match self.climb(row, Reserve::Before) {
+            Ok(()) => {}
+            Err(_) => unreachable!(),
+        }
+    }
+
+    /// As `fail_up`. Memory, which comes only where room is made as it goes: the Cancels made so far stand and are noted.
+    pub fn climb(&mut self, row: Row, reserve: Reserve) -> Result<(), Memory>
+        requires can { MayCall self.old.who row (F.view self.old.floor.now) }
+        requires failed { IsFailure (replay (F.view self.old.floor.now).seen row) }
+        requires room { reserve ≡ Before → MayCancelAll (F.view self.old.floor.now) (B.spare self.old.book.now) }
+        ensures same_floor { self.new.floor.ghost_name ≡ self.old.floor.ghost_name }
+        ensures same_book { self.new.book.ghost_name ≡ self.old.book.ghost_name }
+        ensures same_wakes { self.new.wakes.ghost_name ≡ self.old.wakes.ghost_name }
+        ensures who { self.new.who ≡ self.old.who }
+        ensures anchor { F.anchor self.new.floor.now ≡ F.anchor self.old.floor.now }
+        ensures answer { ClimbAnswer self.old.who row reserve (F.view self.old.floor.now) (F.view self.new.floor.now)
+            (B.items self.old.book.now) (B.items self.new.book.now) result }
+        ensures room { reserve ≡ Before → MayCancelAll (F.view self.new.floor.now) (B.spare self.new.book.now) }
+    {
         let mut at = row;
         while let Some(parent) = self.failing_parent(at) {
-            if !self.pass(parent, Reason::Child(at)).newly {
-                return;
+            match self.pass(parent, Reason::Child(at), reserve) {
+                Ok(passed) => {
+                    if !passed.newly {
+                        return Ok(());
+                    }
+                    at = parent;
+                }
+                Err(memory) => return Err(memory),
             }
-            at = parent;
         }
+        Ok(())
     }
 }

@@ -16,6 +16,6 @@ mod failures;
 mod passes;
 mod steps;
 
-pub use caller::JobCaller;
+pub use caller::{JobCaller, Reserve};
 pub use ends::Ends;
 pub use passes::Passed;

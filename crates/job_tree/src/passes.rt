@@ -1,16 +1,17 @@
 //! To cancel a Job and all below it.
 
-ghost use Rattle.std.specs.Prelude.{◌≡◌, ◌<◌};
+ghost use Rattle.std.specs.Prelude.{◌≡◌};
 ghost use Rattle.job_model.specs.Needs.{Holds};
 ghost use Rattle.job_model.specs.Histories.{replay};
 ghost use Rattle.job_model.specs.Families.{IsCancellingOrEnded};
 ghost use Rattle.job_model.specs.Floors.{MayCall};
 ghost use Rattle.job_tree.specs.Rooms.{MayCancelAll};
-ghost use Rattle.job_tree.specs.Passes.{IsPass, IsPassBelow, IsSomePass};
+ghost use Rattle.job_tree.specs.Passes.{BelowAnswer, PassAnswer, IsSomePass};
+ghost use Rattle.job_tree.specs.declared.caller.Reserve.TheVariants.{Before};
 
-use crate::caller::JobCaller;
+use crate::caller::{JobCaller, Reserve};
 use crate::steps::Turn;
-use co_base::{Row, Wakes};
+use co_base::{Memory, Row, Wakes};
 use job_model::{JobFloor, Reason};
 use note_book::NoteBook;
 
@@ -24,19 +25,18 @@ pub struct Passed {
 
 impl<F: JobFloor, B: NoteBook, W: Wakes> JobCaller<'_, '_, '_, F, B, W> {
     /// Cancels all below a Job that is Cancelling or ended, and answers how many it cancelled.
-    fn cancel_below(&mut self, row: Row) -> u32
+    fn cancel_below(&mut self, row: Row, reserve: Reserve) -> Result<u32, Memory>
         requires can { MayCall self.old.who row (F.view self.old.floor.now) }
         requires cancelled { IsCancellingOrEnded (replay (F.view self.old.floor.now).seen row) }
-        requires room { MayCancelAll (F.view self.old.floor.now) (B.spare self.old.book.now) }
+        requires room { reserve ≡ Before → MayCancelAll (F.view self.old.floor.now) (B.spare self.old.book.now) }
         ensures same_floor { self.new.floor.ghost_name ≡ self.old.floor.ghost_name }
         ensures same_book { self.new.book.ghost_name ≡ self.old.book.ghost_name }
         ensures same_wakes { self.new.wakes.ghost_name ≡ self.old.wakes.ghost_name }
         ensures who { self.new.who ≡ self.old.who }
         ensures anchor { F.anchor self.new.floor.now ≡ F.anchor self.old.floor.now }
-        ensures pass { IsPassBelow self.old.who row (F.view self.old.floor.now) (F.view self.new.floor.now) (B.items self.old.book.now)
-            (B.items self.new.book.now) result }
-        ensures room { MayCancelAll (F.view self.new.floor.now) (B.spare self.new.book.now) }
-        ensures small { result < 65536 }
+        ensures answer { BelowAnswer self.old.who row reserve (F.view self.old.floor.now) (F.view self.new.floor.now)
+            (B.items self.old.book.now) (B.items self.new.book.now) result }
+        ensures room { reserve ≡ Before → MayCancelAll (F.view self.new.floor.now) (B.spare self.new.book.now) }
     {
         let most = u32::from(self.floor.rows());
         let mut count = 0;
@@ -44,19 +44,22 @@ impl<F: JobFloor, B: NoteBook, W: Wakes> JobCaller<'_, '_, '_, F, B, W> {
         let mut done = false;
         while !(done && at == row) {
             match self.turn(at, done) {
-                Turn::To(next) => {
-                    if self.cancel_job(next, Reason::Parent) {
-                        prove!(count < most);
-                        count += 1;
+                Turn::To(next) => match self.cancel_job(next, Reason::Parent, reserve) {
+                    Ok(is_newly) => {
+                        if is_newly {
+                            prove!(count < most);
+                            count += 1;
+                        }
+                        at = next;
+                        done = false;
                     }
-                    at = next;
-                    done = false;
-                }
+                    Err(memory) => return Err(memory),
+                },
                 Turn::Over => done = true,
                 Turn::Up(parent) => at = parent,
             }
         }
-        count
+        Ok(count)
     }
 
     /// Cancels a Job and all below it, the newest child first, and answers how many it cancelled. Asks that the
@@ -74,26 +77,36 @@ impl<F: JobFloor, B: NoteBook, W: Wakes> JobCaller<'_, '_, '_, F, B, W> {
             (B.items self.old.book.now) (B.items self.new.book.now) result }
         ensures room { MayCancelAll (F.view self.new.floor.now) (B.spare self.new.book.now) }
     {
-        self.pass(row, reason).count
+        match self.pass(row, reason, Reserve::Before) {
+            Ok(passed) => passed.count,
+            Err(_) => unreachable!(),
+        }
     }
 
-    /// As `cancel_pass`, and answers besides whether the Job itself was cancelled now.
-    pub fn pass(&mut self, row: Row, reason: Reason) -> Passed
+    /// As `cancel_pass`, and answers besides whether the Job itself was cancelled now. Memory, which comes only where room is made as
+    /// the pass goes: the Cancels made so far stand and are noted.
+    pub fn pass(&mut self, row: Row, reason: Reason, reserve: Reserve) -> Result<Passed, Memory>
         requires can { MayCall self.old.who row (F.view self.old.floor.now) }
         requires reason { Holds (F.view self.old.floor.now).shape (replay (F.view self.old.floor.now).seen) self.old.who row reason }
-        requires room { MayCancelAll (F.view self.old.floor.now) (B.spare self.old.book.now) }
+        requires room { reserve ≡ Before → MayCancelAll (F.view self.old.floor.now) (B.spare self.old.book.now) }
         ensures same_floor { self.new.floor.ghost_name ≡ self.old.floor.ghost_name }
         ensures same_book { self.new.book.ghost_name ≡ self.old.book.ghost_name }
         ensures same_wakes { self.new.wakes.ghost_name ≡ self.old.wakes.ghost_name }
         ensures who { self.new.who ≡ self.old.who }
         ensures anchor { F.anchor self.new.floor.now ≡ F.anchor self.old.floor.now }
-        ensures pass { IsPass self.old.who row reason result.newly (F.view self.old.floor.now) (F.view self.new.floor.now)
-            (B.items self.old.book.now) (B.items self.new.book.now) result.count }
-        ensures room { MayCancelAll (F.view self.new.floor.now) (B.spare self.new.book.now) }
+        ensures answer { PassAnswer self.old.who row reason reserve (F.view self.old.floor.now) (F.view self.new.floor.now)
+            (B.items self.old.book.now) (B.items self.new.book.now) result }
+        ensures room { reserve ≡ Before → MayCancelAll (F.view self.new.floor.now) (B.spare self.new.book.now) }
     {
-        let newly = self.cancel_job(row, reason);
-        let below = self.cancel_below(row);
-        let count = if newly { below + 1 } else { below };
-        Passed { count, newly }
+        match self.cancel_job(row, reason, reserve) {
+            Ok(newly) => match self.cancel_below(row, reserve) {
+                Ok(below) => {
+                    let count = if newly { below + 1 } else { below };
+                    Ok(Passed { count, newly })
+                }
+                Err(memory) => Err(memory),
+            },
+            Err(memory) => Err(memory),
+        }
     }
 }

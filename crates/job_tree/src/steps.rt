@@ -1,15 +1,16 @@
 //! One step of a call, noted.
 
-ghost use Rattle.std.specs.Prelude.{◌≡◌, ◌≢◌, true, []};
+ghost use Rattle.std.specs.Prelude.{◌≡◌, ◌≢◌, ◌<◌, ℕ, true, [], OnOk, OnErr};
 ghost use Rattle.job_model.specs.Needs.{Holds};
 ghost use Rattle.job_model.specs.Histories.{replay};
 ghost use Rattle.job_model.specs.Floors.{MayCall, Looked};
 ghost use Rattle.job_tree.specs.Notes.{Noted};
 ghost use Rattle.job_tree.specs.Rooms.{MayCancelAll};
-ghost use Rattle.job_tree.specs.Passes.{CancelledAnswer, TurnAnswer};
+ghost use Rattle.job_tree.specs.Passes.{CancelAnswer, TurnAnswer};
+ghost use Rattle.job_tree.specs.declared.caller.Reserve.TheVariants.{Before, AsItGoes};
 
-use crate::caller::JobCaller;
-use co_base::{Row, Wakes};
+use crate::caller::{JobCaller, Reserve};
+use co_base::{Memory, Row, Wakes};
 use job_model::{CancelledNow, JobAct, JobFloor, JobNote, Reason};
 use note_book::{Item, NoteBook};
 
@@ -22,6 +23,36 @@ pub(crate) enum Turn {
     Over,
     /// Back to the parent: it came to all children.
     Up(Row),
+}
+
+/// Makes room for one entry and its note, unless that was made before.
+fn make_room<F: JobFloor, B: NoteBook>(
+    floor: &mut F,
+    book: &mut B,
+    reserve: Reserve,
+) -> Result<(), Memory>
+    requires floor { reserve ≡ Before → 0 < (F.view floor.old).spare }
+    requires book { reserve ≡ Before → 0 < B.spare book.old }
+    ensures anchor { F.anchor floor.new ≡ F.anchor floor.old }
+    ensures looked { (who : ℕ) → Looked who [] (F.view floor.old) (F.view floor.new) }
+    ensures items { B.items book.new ≡ B.items book.old }
+    ensures floor_room { OnOk result (0 < (F.view floor.new).spare) }
+    ensures book_room { OnOk result (0 < B.spare book.new) }
+    ensures memory { OnErr result (reserve ≡ AsItGoes) }
+    ensures same_spare { reserve ≡ Before → B.spare book.new ≡ B.spare book.old }
+{
+    match reserve {
+        Reserve::Before => Ok(()),
+        Reserve::AsItGoes => {
+            if let Err(memory) = book.room(1) {
+                return Err(memory);
+            }
+            if let Err(memory) = floor.room(1) {
+                return Err(memory);
+            }
+            Ok(())
+        }
+    }
 }
 
 impl<F: JobFloor, B: NoteBook, W: Wakes> JobCaller<'_, '_, '_, F, B, W> {
@@ -45,33 +76,41 @@ impl<F: JobFloor, B: NoteBook, W: Wakes> JobCaller<'_, '_, '_, F, B, W> {
     }
 
     /// Cancels the Job alone, where it is not Cancelling or ended, and answers whether it did.
-    pub(crate) fn cancel_job(&mut self, row: Row, reason: Reason) -> bool
+    pub(crate) fn cancel_job(
+        &mut self,
+        row: Row,
+        reason: Reason,
+        reserve: Reserve,
+    ) -> Result<bool, Memory>
         requires can { MayCall self.old.who row (F.view self.old.floor.now) }
         requires reason { Holds (F.view self.old.floor.now).shape (replay (F.view self.old.floor.now).seen) self.old.who row reason }
-        requires room { MayCancelAll (F.view self.old.floor.now) (B.spare self.old.book.now) }
+        requires room { reserve ≡ Before → MayCancelAll (F.view self.old.floor.now) (B.spare self.old.book.now) }
         ensures same_floor { self.new.floor.ghost_name ≡ self.old.floor.ghost_name }
         ensures same_book { self.new.book.ghost_name ≡ self.old.book.ghost_name }
         ensures same_wakes { self.new.wakes.ghost_name ≡ self.old.wakes.ghost_name }
         ensures who { self.new.who ≡ self.old.who }
         ensures anchor { F.anchor self.new.floor.now ≡ F.anchor self.old.floor.now }
-        ensures answer { CancelledAnswer self.old.who row reason (F.view self.old.floor.now) (F.view self.new.floor.now)
+        ensures answer { CancelAnswer self.old.who row reason reserve (F.view self.old.floor.now) (F.view self.new.floor.now)
             (B.items self.old.book.now) (B.items self.new.book.now) result }
-        ensures room { MayCancelAll (F.view self.new.floor.now) (B.spare self.new.book.now) }
+        ensures room { reserve ≡ Before → MayCancelAll (F.view self.new.floor.now) (B.spare self.new.book.now) }
     {
         let Some(job) = self.floor.look(self.who, row) else {
-            return false;
+            return Ok(false);
         };
         if !job.state.is_cancellable() {
-            return false;
+            return Ok(false);
+        }
+        if let Err(memory) = make_room(self.floor, self.book, reserve) {
+            return Err(memory);
         }
         match self.floor.cancel_one(self.who, row, reason) {
             CancelledNow::Now => {
                 let act = JobAct::Cancel { row, reason };
                 self.book.note(Item::Job(JobNote::Made(act)));
                 self.wake_job(row);
-                true
+                Ok(true)
             }
-            CancelledNow::Already => false,
+            CancelledNow::Already => Ok(false),
         }
     }
 

@@ -1,5 +1,5 @@
 -- The ends of bodies.
-use Rattle.std.specs.Prelude.{◌≡◌, ℕ, Bool, true, false, ◌&&◌, List, [], ◌∷◌, ◌++◌, Option, Some, None, Result, Ok, Err, is_some, option_map, refl}
+use Rattle.std.specs.Prelude.{◌≡◌, ℕ, Bool, true, false, ◌&&◌, List, [], ◌∷◌, ◌++◌, map, Option, Some, None, Result, Ok, Err, is_some, option_map, refl}
 use Rattle.std.specs.List.{list_all}
 use Rattle.std.proofs.Common.{sym, ap, ◌∙◌, subst, inr}
 use Rattle.co_base.specs.declared.names.Memory.{Memory}
@@ -25,11 +25,13 @@ use Rattle.note_book.specs.Items.{job_act, job_acts_in}
 use Rattle.call_meaning.specs.Telling.{Told, on_jobs, IsCancelling, OwesNoEnd, items_in, did}
 use Rattle.call_meaning.specs.JobCalls.{Chain, EndsBody}
 use Rattle.call_meaning.specs.Calls.{ToldOnJobs, ToldOnBoth}
-use Rattle.call_meaning.proofs.JobTellings.{items_in-append, told_did, told_so, both_then, both_jobs}
+use Rattle.call_meaning.proofs.JobTellings.{items_in-append, acts_did, told_did, told_so, both_then, both_jobs}
 use Rattle.job_tree.specs.Notes.{made_note}
+use Rattle.job_tree.specs.Passes.{is_cancel, HasCancelled}
+use Rattle.job_tree.proofs.PassesTold.{told_noted}
 use Rattle.scope_builders.specs.Dones.{ClosesAtOnce, KeepsDones}
 use Rattle.scope_builders.specs.Calls.{EndedJob, DidSome, EndedAnswer, BrokeJob, BrokenAnswer}
-use Rattle.scope_builders.specs.Parts.{is_cancel, IsCancelledFirst, FinishedUp}
+use Rattle.scope_builders.specs.Parts.{IsCancelledFirst, FinishedUp}
 use Rattle.scope_builders.proofs.ChannelsTold as channels
 use Rattle.scope_builders.proofs.DonesKept.{quiet_kept, kept_then}
 use Rattle.scope_builders.proofs.Rooms.{told_roomed, added_roomed}
@@ -160,6 +162,17 @@ break_items cancels end row = items_in-append cancels (on_jobs (IsCancelling row
 -- floors that nobody else calls, while the Job is cancelled
 first_kept : (who base row : ℕ) (c : ChannelFloor) (a b : Floor) (told : List Told) → Legal b.shape b.seen → Added who (job_acts_in (items_in told)) [] a b → ClosesAtOnce base (items_in told) → KeepsDones base c c a b (items_in told)
 first_kept who base row c a b told l h quiet = quiet_kept who base (job_acts_in (items_in told)) [] c c a b (items_in told) l h (channels.nobody_called who c) quiet
+
+-- no memory: Cancels alone were made
+pub did_cancels : (who base : ℕ) (c : ChannelFloor) (j j' : Floor) (i i' : List Item) → Legal j'.shape j'.seen → HasCancelled who j j' i i' → DidSome who base c c j j' i i'
+did_cancels who base c j j' i i' l h =
+    let told : List Told = map did h.acts in
+    let noted : ToldOnJobs who [] j j' i i' told = told_noted who h.acts j j' i i' h.noted in
+    record {
+      told = told;
+      noted = both_jobs who [] c c j j' i i' told (channels.nobody_called who c) noted;
+      dones = first_kept who base 0 c j j' told l noted.added (cancels_quiet base (items_in told) (ap (list_all is_cancel) (acts_did h.acts) ∙ h.cancels));
+    }
 
 -- the body broke off
 broke_job : (who base row : ℕ) (failure : Option ℕ) (c c' : ChannelFloor) (j j1 j2 : Floor) (i i1 i2 : List Item) (answer : Ended) → Legal j1.shape j1.seen → IsCancelledFirst who row failure j j1 i i1 → EndedJob who base row 0 c c' j1 j2 i1 i2 answer → BrokeJob who base row failure c c' j j2 i i2 answer

@@ -1,7 +1,8 @@
 -- The cancellations with which a body breaks off.
-use Rattle.std.specs.Prelude.{◌≡◌, ◌≢◌, ◌⊎◌, ℕ, Bool, true, false, ◌&&◌, ◌||◌, List, [], ◌∷◌, ◌++◌, map, Option, Some, None, is_some, refl}
+use Rattle.std.specs.Prelude.{◌≡◌, ◌≢◌, ◌⊎◌, ℕ, Bool, true, false, ◌||◌, List, [], ◌∷◌, ◌++◌, map, Option, Some, None, Result, is_some, refl}
 use Rattle.std.specs.List.{list_any, list_all}
 use Rattle.std.proofs.Common.{sym, ap, ◌∙◌, subst, ⊎_elim}
+use Rattle.co_base.specs.declared.names.Memory.{Memory}
 use Rattle.job_model.specs.declared.acts.JobState.TheVariants.{Cancelling}
 use Rattle.job_model.specs.declared.acts.Reason.{Reason}
 use Rattle.job_model.specs.declared.acts.Reason.TheVariants as reasons
@@ -15,8 +16,8 @@ use Rattle.job_model.specs.Cancels.{own_cancel, IsCancelBelow, AreCancelsBelow}
 use Rattle.job_model.specs.Failures.{FailsUp}
 use Rattle.job_model.specs.Laws.{has_ended}
 use Rattle.job_model.specs.Histories.{replay, Legal}
-use Rattle.job_model.specs.Floors.{Floor, HasRoom, MayCall, Looked, Added, AtStep}
-use Rattle.job_model.proofs.Spans.{nothing_more, added_looked, added_room, added_then, looked_moment}
+use Rattle.job_model.specs.Floors.{Floor, MayCall, Looked, Added, AtStep}
+use Rattle.job_model.proofs.Spans.{nothing_more, added_looked, looked_moment}
 use Rattle.job_model.proofs.Below.{cancelling_lasts}
 use Rattle.job_model.proofs.Own.{prefix_keeps, owned_body_kept, owned_not_ended, owned_cancelling, may_end_cancelled}
 use Rattle.job_model.proofs.Families.{replay_families}
@@ -26,14 +27,13 @@ use Rattle.note_book.proofs.Appended.{job_acts_in-append}
 use Rattle.call_meaning.specs.Telling.{Told, on_jobs, IsCancelling, FailedUp, items_in, did}
 use Rattle.call_meaning.specs.Facts.{IsAlive, JobFactHolds}
 use Rattle.call_meaning.specs.JobCalls.{Passes, Breaks}
-use Rattle.call_meaning.specs.Calls.{ToldOnJobs}
 use Rattle.call_meaning.proofs.JobTellings.{items_in-append, acts_did, told_fact, told_then, told_so, told_after}
-use Rattle.job_tree.specs.Passes.{IsPass}
+use Rattle.job_tree.specs.Passes.{IsPass, IsPartOfPass, is_cancel, HasCancelled}
 use Rattle.job_tree.specs.Failures.{IsFailedUp}
 use Rattle.job_tree.proofs.Looks.{may_later, holds_later}
-use Rattle.job_tree.proofs.PassesTold.{pass_acts, pass_noted}
-use Rattle.scope_builders.specs.Parts.{is_cancel, AreCancels, IsBroken, IsCancelledFirst}
-use Rattle.scope_builders.proofs.Rooms.{told_none, told_roomed}
+use Rattle.job_tree.proofs.Notes.{noted_looked, noted_then}
+use Rattle.job_tree.proofs.PassesTold.{pass_acts, pass_noted, all_append, below_cancels, own_cancels}
+use Rattle.scope_builders.specs.Parts.{AreCancels, BreakAnswer, IsBroken, IsCancelledFirst}
 
 -- ---- Cancels end no body
 
@@ -68,27 +68,6 @@ up_ends_none tree _ r _ (FailsUp.goes_on row p acts more all g a c u e) = ap (li
 
 -- ---- all of them are Cancels
 
-all_append : (xs ys : List JobAct) → list_all is_cancel xs ≡ true → list_all is_cancel ys ≡ true → list_all is_cancel (xs ++ ys) ≡ true
-all_append [] ys e f = f
-all_append (x ∷ xs) ys e f = by_test (is_cancel x) refl e (λ k. all_append xs ys k f)
-  where
-    by_test : (b : Bool) → is_cancel x ≡ b → (b && list_all is_cancel xs) ≡ true → (list_all is_cancel xs ≡ true → list_all is_cancel (xs ++ ys) ≡ true) → (is_cancel x && list_all is_cancel (xs ++ ys)) ≡ true
-    by_test true k h rest = ap (λ b. b && list_all is_cancel (xs ++ ys)) k ∙ rest h
-    by_test false k h rest = cc
-
-below_cancels : (tree : Tree) (row : ℕ) (acts : List JobAct) → AreCancelsBelow tree row acts → list_all is_cancel acts ≡ true
-below_cancels tree row [] h = refl
-below_cancels tree row (Attach p q kind tag cancelled ∷ xs) h = absurd h.0
-below_cancels tree row (Start q ∷ xs) h = absurd h.0
-below_cancels tree row (EndBody q v ∷ xs) h = absurd h.0
-below_cancels tree row (Cancel q reason ∷ xs) h = below_cancels tree row xs h.1
-below_cancels tree row (Finish q end ∷ xs) h = absurd h.0
-below_cancels tree row (Gone q ∷ xs) h = absurd h.0
-
-own_cancels : (row : ℕ) (reason : Reason) (newly : Bool) → list_all is_cancel (own_cancel newly row reason) ≡ true
-own_cancels row reason true = refl
-own_cancels row reason false = refl
-
 up_cancels : (tree : Tree) (row : ℕ) (acts : List JobAct) → FailsUp tree row acts → list_all is_cancel acts ≡ true
 up_cancels tree _ _ (FailsUp.ends row s) = refl
 up_cancels tree _ _ (FailsUp.stops row p acts g a c) = below_cancels tree p acts c
@@ -118,15 +97,15 @@ passed_owned who row q reason newly a b i j count l h m =
 
 -- ---- the cases
 
-broken_asked : (who row : ℕ) (newly : Bool) (told : List Told) → Passes row reasons.Request newly told → Breaks who row None told
-broken_asked who row true told h = Breaks.asked told h
-broken_asked who row false told h = Breaks.had_been None told h
+asked_breaks : (who row : ℕ) (newly : Bool) (told : List Told) → Passes row reasons.Request newly told → Breaks who row None told
+asked_breaks who row true told h = Breaks.asked told h
+asked_breaks who row false told h = Breaks.had_been None told h
 
 -- on request
 pub broken_request : (who row : ℕ) (failure : Option ℕ) (newly : Bool) (a b : Floor) (i j : List Item) (count : ℕ) → failure ≡ None → Legal b.shape b.seen → OwnsBody who (replay a.seen row) → IsPass who row reasons.Request newly a b i j count → IsBroken who row failure a b i j
 broken_request who row failure newly a b i j count is l m h = record {
   told = h.told;
-  breaks = subst (λ (f : Option ℕ). Breaks who row f h.told) (sym is) (broken_asked who row newly h.told h.group);
+  breaks = subst (λ (f : Option ℕ). Breaks who row f h.told) (sym is) (asked_breaks who row newly h.told h.group);
   cancels = pass_cancels who row reasons.Request newly a b i j count h;
   noted = h.noted;
   owned = passed_owned who row row reasons.Request newly a b i j count l h m;
@@ -181,33 +160,58 @@ broken_up who row f failure newly a b c i j k count is n e lb lc m h u =
       here = prefix_keeps IsCancellingOrEnded cancelling_lasts c.shape b.seen c.seen row lc up_added.longer h.all.here;
     }
 
+-- ---- a part, where there was no memory
+
+-- in the pass
+pub part_cancelled : (who row : ℕ) (reason : Reason) (a b : Floor) (i j : List Item) → IsPartOfPass who row reason a b i j → HasCancelled who a b i j
+part_cancelled who row reason a b i j h = record {
+  acts = own_cancel h.newly row reason ++ h.below;
+  noted = h.noted;
+  cancels = all_append (own_cancel h.newly row reason) h.below (own_cancels row reason h.newly) (below_cancels (replay b.seen) row h.below h.cancels);
+}
+
+-- after the pass
+pub broken_later : (who row : ℕ) (reason : Reason) (newly : Bool) (a b c : Floor) (i j k : List Item) (count : ℕ) → IsPass who row reason newly a b i j count → HasCancelled who b c j k → HasCancelled who a c i k
+broken_later who row reason newly a b c i j k count h m =
+    let acts = own_cancel newly row reason ++ h.group.below in
+    record {
+      acts = acts ++ m.acts;
+      noted = noted_then who acts m.acts a b c i j k (pass_noted who row reason newly a b i j count h) m.noted;
+      cancels = all_append acts m.acts (all_append (own_cancel newly row reason) h.group.below (own_cancels row reason newly) (below_cancels (replay b.seen) row h.group.below h.cancels)) m.cancels;
+    }
+
+-- the failure is known
+pub broken_as : (who row f : ℕ) (failure : Option ℕ) (a b : Floor) (i j : List Item) (r : Result (Unit {0}) Memory) → failure ≡ Some f → BreakAnswer who row (Some f) a b i j r → BreakAnswer who row failure a b i j r
+broken_as who row f failure a b i j r e h = subst (λ (o : Option ℕ). BreakAnswer who row o a b i j r) (sym e) h
+
 -- ---- the whole first part
 
-looked_roomed : (who n : ℕ) (a b c : Floor) → Looked who [] a b → HasRoom n b c → Added who [] [] a c
-looked_roomed who n a b c h k = added_then who [] [] [] [] a b c (added_looked who [] a b h) (added_room who n b c k)
+pub owned_looked : (who row : ℕ) (a b : Floor) → Legal b.shape b.seen → Looked who [] a b → OwnsBody who (replay a.seen row) → OwnsBody who (replay b.seen row)
+owned_looked who row a b l h m = owned_body_kept who row [] [] a b l (added_looked who [] a b h) refl m
 
-pub owned_roomed : (who row n : ℕ) (a b c : Floor) → Legal c.shape c.seen → Looked who [] a b → HasRoom n b c → OwnsBody who (replay a.seen row) → OwnsBody who (replay c.seen row)
-owned_roomed who row n a b c l h k m = owned_body_kept who row [] [] a c l (looked_roomed who n a b c h k) refl m
+pub call_looked : (who row : ℕ) (a b : Floor) → Legal b.shape b.seen → Looked who [] a b → MayCall who row a → MayCall who row b
+call_looked who row a b l h m = may_later who row a b h.same h.longer l m
 
-pub call_roomed : (who row n : ℕ) (a b c : Floor) → Legal c.shape c.seen → Looked who [] a b → HasRoom n b c → MayCall who row a → MayCall who row c
-call_roomed who row n a b c l h k m = let all = looked_roomed who n a b c h k in may_later who row a c all.same all.longer l m
-
-pub reason_roomed : (who row n : ℕ) (reason : Reason) (a b c : Floor) → Legal c.shape c.seen → Looked who [] a b → HasRoom n b c → Holds a.shape (replay a.seen) who row reason → Holds c.shape (replay c.seen) who row reason
-reason_roomed who row n reason a b c l h k m = let all = looked_roomed who n a b c h k in holds_later who row reason a c all.same all.longer l m
+pub reason_looked : (who row : ℕ) (reason : Reason) (a b : Floor) → Legal b.shape b.seen → Looked who [] a b → Holds a.shape (replay a.seen) who row reason → Holds b.shape (replay b.seen) who row reason
+reason_looked who row reason a b l h m = holds_later who row reason a b h.same h.longer l m
 
 -- no memory
-pub told_not : (who : ℕ) (a b c : Floor) (i j : List Item) → Looked who [] a b → c ≡ b → j ≡ i → ToldOnJobs who [] a c i j []
-told_not who a b c i j h e f = told_after who [] a b c i i j [] (added_looked who [] a b h) refl (told_none who b c i j e f)
+pub cancelled_some : (who : ℕ) (a b c : Floor) (i k : List Item) → Looked who [] a b → HasCancelled who b c i k → HasCancelled who a c i k
+cancelled_some who a b c i k h m = record {
+  acts = m.acts;
+  noted = noted_then who [] m.acts a b c i i k (noted_looked who a b i i refl h) m.noted;
+  cancels = m.cancels;
+}
 
 -- the Job was cancelled so
-pub cancelled_so : (who row n : ℕ) (failure : Option ℕ) (a b c d : Floor) (i j k : List Item) → Looked who [] a b → HasRoom n b c → j ≡ i → Legal d.shape d.seen → IsBroken who row failure c d j k → IsCancelledFirst who row failure a d i k
-cancelled_so who row n failure a b c d i j k look room e l h =
+pub cancelled_so : (who row : ℕ) (failure : Option ℕ) (a b d : Floor) (i k : List Item) → Looked who [] a b → Legal d.shape d.seen → IsBroken who row failure b d i k → IsCancelledFirst who row failure a d i k
+cancelled_so who row failure a b d i k look l h =
     let sound = (replay_families d.shape d.seen l).rows row in
     record {
       told = h.told;
       breaks = h.breaks;
       cancels = h.cancels;
-      noted = told_so who [] a d i k h.told (IsCancelling row) (told_after who [] a b d i i k h.told (added_looked who [] a b look) refl (told_roomed who n [] b c d i j k h.told room e h.noted)) (owned_cancelling who (replay d.seen row) h.owned sound h.here);
+      noted = told_so who [] a d i k h.told (IsCancelling row) (told_after who [] a b d i i k h.told (added_looked who [] a b look) refl h.noted) (owned_cancelling who (replay d.seen row) h.owned sound h.here);
       may = may_end_cancelled who (replay d.seen row) h.owned h.here;
     }
 

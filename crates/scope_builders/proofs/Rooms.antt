@@ -1,8 +1,7 @@
 -- What the calls need, and tell, after room was made.
-use Rattle.std.specs.Prelude.{◌≡◌, ℕ, ◌≤◌, true, List, [], is_some}
-use Rattle.std.proofs.Common.{sym, ap, subst, arith}
+use Rattle.std.specs.Prelude.{◌≡◌, ℕ, true, List, [], is_some}
+use Rattle.std.proofs.Common.{sym, subst}
 use Rattle.channel_model.specs.Floors.{Floor as ChannelFloor}
-use Rattle.job_model.specs.Trees.{Shape}
 use Rattle.job_model.specs.Histories.{replay, Legal}
 use Rattle.job_model.specs.Floors.{Floor, HasRoom, MayCall, Added}
 use Rattle.job_model.proofs.Spans.{added_room, added_then}
@@ -11,8 +10,6 @@ use Rattle.note_book.specs.declared.book.Item.{Item}
 use Rattle.call_meaning.specs.Telling.{Told}
 use Rattle.call_meaning.specs.Calls.{ToldOnJobs}
 use Rattle.call_meaning.proofs.JobTellings.{nobody_called, told_nothing, told_after}
-use Rattle.job_tree.specs.Rooms.{MayCancelAll}
-use Rattle.job_tree.proofs.Rooms.{room_for_rows}
 use Rattle.job_tree.proofs.Looks.{may_later}
 use Rattle.scope_builders.specs.Calls.{MayBuild}
 
@@ -25,12 +22,6 @@ told_roomed who n rows a b c i j k told h e m = told_after who rows a b c i j k 
 
 pub added_roomed : (who n : ℕ) (acts : List JobAct) (rows : List ℕ) (a b c : Floor) → HasRoom n a b → Added who acts rows b c → Added who acts rows a c
 added_roomed who n acts rows a b c h k = added_then who [] acts [] rows a b c (added_room who n a b h) k
-
--- room for as many entries as there are rows
-pub pass_room : (n spare : ℕ) (j j' : Floor) → n ≡ j.shape.rows → HasRoom n j j' → n ≤ spare → MayCancelAll j' spare
-pass_room n spare j j' e h le =
-    let k : j'.shape.rows ≡ j.shape.rows = ap (λ (s : Shape). s.rows) h.same.shape in
-    room_for_rows j' spare (omega (arith, h.room)) (omega arith)
 
 -- the caller may still call for the row
 pub may_call_after : (who base row : ℕ) (acts : List JobAct) (rows : List ℕ) (c : ChannelFloor) (j j' : Floor) → MayBuild who base c j → is_some (replay j.seen row) ≡ true → Added who acts rows j j' → Legal j'.shape j'.seen → MayCall who row j'

@@ -32,10 +32,12 @@ use Rattle.call_meaning.specs.JobCalls.{scope_kind}
 use Rattle.call_meaning.specs.Calls.{ToldOnJobs}
 use Rattle.call_meaning.proofs.JobTellings.{nobody_called, told_fact, told_knew, told_did, told_so, told_then, told_before}
 use Rattle.job_tree.specs.Notes.{made_note}
-use Rattle.job_tree.specs.Passes.{IsPass}
+use Rattle.job_model.specs.Cancels.{own_cancel}
+use Rattle.job_tree.specs.Passes.{IsPass, IsPartOfPass}
+use Rattle.job_tree.proofs.PassesTold.{told_noted}
 use Rattle.scope_builders.specs.declared.builder.LaunchError.{LaunchError}
 use Rattle.scope_builders.specs.declared.builder.LaunchError.TheVariants as launch
-use Rattle.scope_builders.specs.Calls.{IsScopeRow, EnterAnswer, StartedAnswer, CancelledAll}
+use Rattle.scope_builders.specs.Calls.{IsScopeRow, EnterAnswer, StartedAnswer, CancelledAll, CancelledSome}
 use Rattle.scope_builders.specs.Parts.{HasAttached, MetParentEnded, AttachedAnswer}
 use Rattle.scope_builders.proofs.Rooms.{told_roomed, added_roomed}
 
@@ -150,12 +152,21 @@ started_added who row n j j1 j2 h m = added_roomed who n (Start row ∷ []) [] j
 
 -- ---- cancel
 
-pub cancelled_all : (who row n : ℕ) (newly : Bool) (j j1 j2 : Floor) (i i1 i2 : List Item) (count : ℕ) → HasRoom n j j1 → IsPass who row reasons.Request newly j1 j2 i1 i2 count → i1 ≡ i → CancelledAll who row j j2 i i2 count
-cancelled_all who row n newly j j1 j2 i i1 i2 count h p f = record {
+pub cancelled_all : (who row : ℕ) (newly : Bool) (j j' : Floor) (i i' : List Item) (count : ℕ) → IsPass who row reasons.Request newly j j' i i' count → CancelledAll who row j j' i i' count
+cancelled_all who row newly j j' i i' count p = record {
   newly = newly;
   told = p.told;
   group = p.group;
-  noted = told_roomed who n [] j j1 j2 i i1 i2 p.told h f p.noted;
+  noted = p.noted;
   counted = p.counted;
   all = p.all;
+}
+
+-- there was no memory for all
+pub cancelled_part : (who row : ℕ) (j j' : Floor) (i i' : List Item) → IsPartOfPass who row reasons.Request j j' i i' → CancelledSome who row j j' i i'
+cancelled_part who row j j' i i' h = record {
+  newly = h.newly;
+  below = h.below;
+  noted = told_noted who (own_cancel h.newly row reasons.Request ++ h.below) j j' i i' h.noted;
+  cancels = h.cancels;
 }

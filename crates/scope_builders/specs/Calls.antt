@@ -1,10 +1,11 @@
 -- What each call comes to: what it told, and that this is noted and was so.
 use Rattle.std.specs.Prelude.{◌≡◌, ℕ, ◌+◌, ◌<◌, ◌≤◌, Bool, true, false, List, []}
-use Rattle.std.specs.Prelude.{◌∷◌, ◌++◌, length, Option, Some, None, Result, Ok, Err, is_some, slice_get}
+use Rattle.std.specs.Prelude.{◌∷◌, ◌++◌, length, map, Option, Some, None, Result, Ok, Err, is_some, slice_get}
 use Rattle.co_base.specs.declared.names.Memory.{Memory}
 use Rattle.channel_model.specs.declared.acts.Kind.TheVariants.{Signal}
 use Rattle.channel_model.specs.Channels.{Shape}
 use Rattle.channel_model.specs.Floors.{Floor as ChannelFloor}
+use Rattle.job_model.specs.declared.acts.JobAct.{JobAct}
 use Rattle.job_model.specs.declared.acts.JobAct.TheVariants.{Attach, Start, EndBody}
 use Rattle.job_model.specs.declared.acts.JobNote.TheVariants.{NoRow, Used, ParentEnded}
 use Rattle.job_model.specs.declared.acts.End.{End}
@@ -16,7 +17,7 @@ use Rattle.job_model.specs.Done.{done_channel}
 use Rattle.job_model.specs.Answers.{is_owed}
 use Rattle.job_model.specs.Needs.{MayEndBody}
 use Rattle.job_model.specs.Histories.{replay}
-use Rattle.job_model.specs.Cancels.{IsAllCancelled}
+use Rattle.job_model.specs.Cancels.{IsAllCancelled, own_cancel, AreCancelsBelow}
 use Rattle.job_model.specs.Floors.{Floor, AtStep, AtEntry}
 use Rattle.note_book.specs.declared.book.Item.{Item}
 use Rattle.note_book.specs.Items.{channel_acts_in, job_acts_in}
@@ -118,9 +119,16 @@ pub record CancelledAll (who row : ℕ) (j j' : Floor) (items items' : List Item
   pub counted : count ≡ length (items_in told)
   pub all : IsAllCancelled (replay j'.seen) row
 
+-- a part of such a pass: the Job was cancelled, or was not by this call, and some Jobs below it were
+pub record CancelledSome (who row : ℕ) (j j' : Floor) (items items' : List Item) : Type 0 where
+  pub newly : Bool
+  pub below : List JobAct
+  pub noted : ToldOnJobs who [] j j' items items' (map did (own_cancel newly row reasons.Request ++ below))
+  pub cancels : AreCancelsBelow (replay j'.seen) row below
+
 abbrev pub CancelledAnswer : ℕ → ℕ → Floor → Floor → List Item → List Item → Result ℕ Memory → Type 0
 CancelledAnswer who row j j' i i' (Ok count) = CancelledAll who row j j' i i' count
-CancelledAnswer who row j j' i i' (Err m) = ToldOnJobs who [] j j' i i' []
+CancelledAnswer who row j j' i i' (Err m) = CancelledSome who row j j' i i'
 
 -- ---- the ends of bodies
 
@@ -171,7 +179,7 @@ pub record TellsBoth (who base : ℕ) (P : List Told → Type 0) (c c' : Channel
 
 -- the done channel of the row is received from
 abbrev pub ReceivesDone : Shape → ℕ → ℕ → Answer → List Told → Type 0
-ReceivesDone shape base row a told = PlainCall shape (receives (done_channel base row)) told a
+ReceivesDone shape base row a told = PlainCall (receives (done_channel base row)) told a
 
 -- the Job is started, if it is New, and then its done channel is received from
 pub record AwaitsEnd (shape : Shape) (base row : ℕ) (a : Answer) (told : List Told) : Type 0 where

@@ -3,8 +3,7 @@ use Rattle.std.specs.Prelude.{◌≡◌, ℕ, Bool, true, false, List, [], ◌�
 use Rattle.std.specs.List.{list_all}
 use Rattle.co_base.specs.declared.names.Memory.{Memory}
 use Rattle.channel_model.specs.Floors.{Floor as ChannelFloor}
-use Rattle.job_model.specs.declared.acts.JobAct.{JobAct}
-use Rattle.job_model.specs.declared.acts.JobAct.TheVariants.{Attach, Start, EndBody, Cancel, Finish, Gone}
+use Rattle.job_model.specs.declared.acts.JobAct.TheVariants.{Attach}
 use Rattle.job_model.specs.declared.acts.JobNote.TheVariants.{NoRow, Used, ParentEnded}
 use Rattle.job_model.specs.declared.acts.End.{End}
 use Rattle.job_model.specs.declared.acts.End.TheVariants as ends
@@ -25,6 +24,7 @@ use Rattle.call_meaning.specs.Telling.{Told, on_jobs, MayRun, IsCancelling, HasE
 use Rattle.call_meaning.specs.Facts.{JobFactHolds}
 use Rattle.call_meaning.specs.JobCalls.{Breaks, Chain}
 use Rattle.call_meaning.specs.Calls.{ToldOnJobs, ToldOnBoth}
+use Rattle.job_tree.specs.Passes.{is_cancel, HasCancelled}
 use Rattle.scope_builders.specs.declared.builder.LaunchError.{LaunchError}
 use Rattle.scope_builders.specs.declared.builder.LaunchError.TheVariants as launch
 use Rattle.scope_builders.specs.Dones.{KeepsDones}
@@ -94,14 +94,6 @@ end_in (Some v) = end_in_state v.state v
 
 -- ---- to break a body off
 
-abbrev pub is_cancel : JobAct → Bool
-is_cancel (Attach p r kind tag cancelled) = false
-is_cancel (Start r) = false
-is_cancel (EndBody r v) = false
-is_cancel (Cancel r reason) = true
-is_cancel (Finish r end) = false
-is_cancel (Gone r) = false
-
 -- what was told has no act but Cancels
 abbrev pub AreCancels : List Told → Type 0
 AreCancels told = list_all is_cancel (job_acts_in (items_in told)) ≡ true
@@ -114,6 +106,11 @@ pub record IsBroken (who row : ℕ) (failure : Option ℕ) (old new : Floor) (it
   pub noted : ToldOnJobs who [] old new items items' told
   pub owned : OwnsBody who (replay new.seen row)
   pub here : IsCancellingOrEnded (replay new.seen row)
+
+-- the body broke off so, or as far as there was memory
+abbrev pub BreakAnswer : ℕ → ℕ → Option ℕ → Floor → Floor → List Item → List Item → Result (Unit {0}) Memory → Type 0
+BreakAnswer who row failure old new items items' (Ok done) = IsBroken who row failure old new items items'
+BreakAnswer who row failure old new items items' (Err m) = HasCancelled who old new items items'
 
 -- the Job was cancelled so, or was seen Cancelling
 pub record IsCancelledFirst (who row : ℕ) (failure : Option ℕ) (old new : Floor) (items items' : List Item) : Type 0 where

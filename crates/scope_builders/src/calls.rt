@@ -3,6 +3,7 @@
 ghost use Rattle.std.specs.Prelude.{◌≡◌, ◌<◌, true, is_some};
 ghost use Rattle.job_model.specs.Needs.{Holds, OwnsBody, MayEndBody};
 ghost use Rattle.job_model.specs.Histories.{replay};
+ghost use Rattle.job_model.specs.Floors.{MayCall};
 ghost use Rattle.call_meaning.specs.JobCalls.{reason_for};
 ghost use Rattle.scope_builders.specs.Calls.{
   SameBuilder,
@@ -22,6 +23,29 @@ use co_base::{Memory, Row, Tag, Value, Wakes};
 use job_model::{Attached, Ended, JobAct, JobFloor, JobKind, JobNote, Reason};
 use note_book::{Item, NoteBook};
 
+/// Attaches the Job of a coroutine to a parent, on the floor of Jobs alone. The coroutine is to be polled, unless its Job is New.
+pub fn attach_coroutine<J: JobFloor, B: NoteBook>(
+    jobs: &mut J,
+    book: &mut B,
+    who: Tag,
+    parent: Row,
+    tag: Tag,
+    lazy: bool,
+) -> Result<Attached, LaunchError>
+    requires can { MayCall who parent (J.view jobs.old) }
+    requires tag { tag < (J.view jobs.old).shape.coroutines }
+    ensures jobs_anchor { J.anchor jobs.new ≡ J.anchor jobs.old }
+    ensures answer { LaunchAnswer who parent tag lazy (J.view jobs.old) (J.view jobs.new)
+        (B.items book.old) (B.items book.new) result }
+{
+    let kind = JobKind {
+        supervisor: false,
+        scoped: false,
+        lazy,
+    };
+    attach(jobs, book, who, parent, kind, tag)
+}
+
 impl<C: ChannelFloor, J: JobFloor, B: NoteBook, W: Wakes> Builder<'_, '_, '_, '_, C, J, B, W> {
     /// Attaches the Job of a coroutine to a parent, and wakes the coroutine unless its Job is New.
     pub fn launch(&mut self, parent: Row, tag: Tag, lazy: bool) -> Result<Attached, LaunchError>
@@ -33,12 +57,7 @@ impl<C: ChannelFloor, J: JobFloor, B: NoteBook, W: Wakes> Builder<'_, '_, '_, '_
         ensures answer { LaunchAnswer self.old.who parent tag lazy (J.view self.old.jobs.now) (J.view self.new.jobs.now)
             (B.items self.old.book.now) (B.items self.new.book.now) result }
     {
-        let kind = JobKind {
-            supervisor: false,
-            scoped: false,
-            lazy,
-        };
-        let answer = attach(self.jobs, self.book, self.who, parent, kind, tag);
+        let answer = attach_coroutine(self.jobs, self.book, self.who, parent, tag, lazy);
         if let Ok(child) = answer {
             if child.cancelled || !lazy {
                 self.wakes.wake(tag);
@@ -86,7 +105,7 @@ impl<C: ChannelFloor, J: JobFloor, B: NoteBook, W: Wakes> Builder<'_, '_, '_, '_
         Ok(true)
     }
 
-    /// Cancels a Job with all below it, and answers how many it cancelled.
+    /// Cancels a Job with all below it, and answers how many it cancelled. Memory: the Cancels made so far stand and are noted.
     pub fn cancel(&mut self, row: Row) -> Result<u32, Memory>
         requires may { MayBuild self.old.who self.old.base (C.view self.old.channels.now) (J.view self.old.jobs.now) }
         requires row { is_some (replay (J.view self.old.jobs.now).seen row) ≡ true }
@@ -95,19 +114,17 @@ impl<C: ChannelFloor, J: JobFloor, B: NoteBook, W: Wakes> Builder<'_, '_, '_, '_
         ensures answer { CancelledAnswer self.old.who row (J.view self.old.jobs.now) (J.view self.new.jobs.now)
             (B.items self.old.book.now) (B.items self.new.book.now) result }
     {
-        let rows = u32::from(self.jobs.rows());
-        if let Err(memory) = make_room(self.jobs, self.book, rows) {
-            return Err(memory);
-        }
-        let passed = pass(
+        match pass(
             self.jobs,
             self.book,
             self.wakes,
             self.who,
             row,
             Reason::Request,
-        );
-        Ok(passed.count)
+        ) {
+            Ok(passed) => Ok(passed.count),
+            Err(memory) => Err(memory),
+        }
     }
 
     /// Ends the body of the caller's own Job with a value, then the Job and its parents, as far as their ends are owed. Memory: the

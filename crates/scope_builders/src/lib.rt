@@ -17,4 +17,5 @@ mod joins;
 mod parts;
 
 pub use builder::{Builder, Joined, LaunchError};
+pub use calls::attach_coroutine;
 pub use job_model::done_channel;

@@ -1,23 +1,23 @@
 //! The parts of the calls.
 
-ghost use Rattle.std.specs.Prelude.{◌≡◌, ◌<◌, ◌≤◌, true, is_some, [], OnOk, OnErr};
+ghost use Rattle.std.specs.Prelude.{◌≡◌, ◌<◌, ◌≤◌, true, is_some, [], Some, OnOk, OnErr};
+ghost use Rattle.job_model.specs.declared.acts.Reason.TheVariants.{Own};
 ghost use Rattle.job_model.specs.Needs.{Holds, OwnsBody};
 ghost use Rattle.job_model.specs.Histories.{replay};
 ghost use Rattle.job_model.specs.Floors.{MayCall, HasRoom, Looked};
 ghost use Rattle.call_meaning.specs.JobCalls.{reason_for};
-ghost use Rattle.call_meaning.specs.Calls.{ToldOnJobs};
-ghost use Rattle.job_tree.specs.Rooms.{MayCancelAll};
-ghost use Rattle.job_tree.specs.Passes.{IsPass, IsFailure};
-ghost use Rattle.job_tree.specs.Failures.{IsFailedUp};
+ghost use Rattle.job_tree.specs.declared.caller.Reserve.TheVariants.{AsItGoes};
+ghost use Rattle.job_tree.specs.Passes.{PassAnswer, HasCancelled, IsFailure};
+ghost use Rattle.job_tree.specs.Failures.{ClimbAnswer};
 ghost use Rattle.scope_builders.specs.Calls.{MayBuild};
-ghost use Rattle.scope_builders.specs.Parts.{AttachedAnswer, SeenAnswer, IsBroken, IsCancelledFirst, FinishedUp};
+ghost use Rattle.scope_builders.specs.Parts.{AttachedAnswer, SeenAnswer, BreakAnswer, IsCancelledFirst, FinishedUp};
 
 use crate::builder::LaunchError;
 use crate::done_channels::DoneChannels;
 use channel_model::ChannelFloor;
 use co_base::{ChannelId, Memory, Row, Tag, Wakes};
 use job_model::{AttachError, Attached, JobAct, JobFloor, JobKind, JobNote, JobState, Reason};
-use job_tree::{JobCaller, Passed};
+use job_tree::{JobCaller, Passed, Reserve};
 use note_book::{Item, NoteBook};
 
 /// Makes room for so many entries on Jobs, each noted.
@@ -98,7 +98,7 @@ pub(crate) fn wake_job<J: JobFloor, W: Wakes>(jobs: &mut J, wakes: &mut W, who: 
     wakes.wake(tag);
 }
 
-/// Cancels a Job with all below it.
+/// Cancels a Job with all below it, and makes room for each Cancel before it.
 pub(crate) fn pass<J: JobFloor, B: NoteBook, W: Wakes>(
     jobs: &mut J,
     book: &mut B,
@@ -106,14 +106,11 @@ pub(crate) fn pass<J: JobFloor, B: NoteBook, W: Wakes>(
     who: Tag,
     row: Row,
     reason: Reason,
-) -> Passed
+) -> Result<Passed, Memory>
     requires can { MayCall who row (J.view jobs.old) }
     requires reason { Holds (J.view jobs.old).shape (replay (J.view jobs.old).seen) who row reason }
-    requires room { MayCancelAll (J.view jobs.old) (B.spare book.old) }
     ensures jobs_anchor { J.anchor jobs.new ≡ J.anchor jobs.old }
-    ensures pass { IsPass who row reason result.newly (J.view jobs.old) (J.view jobs.new)
-        (B.items book.old) (B.items book.new) result.count }
-    ensures room { MayCancelAll (J.view jobs.new) (B.spare book.new) }
+    ensures answer { PassAnswer who row reason AsItGoes (J.view jobs.old) (J.view jobs.new) (B.items book.old) (B.items book.new) result }
 {
     let mut caller = JobCaller {
         floor: &mut *jobs,
@@ -121,7 +118,7 @@ pub(crate) fn pass<J: JobFloor, B: NoteBook, W: Wakes>(
         wakes: &mut *wakes,
         who,
     };
-    let passed = caller.pass(row, reason);
+    let passed = caller.pass(row, reason, Reserve::AsItGoes);
     let JobCaller {
         floor: _,
         book: _,
@@ -131,19 +128,18 @@ pub(crate) fn pass<J: JobFloor, B: NoteBook, W: Wakes>(
     passed
 }
 
-/// Takes the failure of a Job up to its parents.
+/// Takes the failure of a Job up to its parents, and makes room for each Cancel before it.
 fn fail_up<J: JobFloor, B: NoteBook, W: Wakes>(
     jobs: &mut J,
     book: &mut B,
     wakes: &mut W,
     who: Tag,
     row: Row,
-)
+) -> Result<(), Memory>
     requires can { MayCall who row (J.view jobs.old) }
     requires failed { IsFailure (replay (J.view jobs.old).seen row) }
-    requires room { MayCancelAll (J.view jobs.old) (B.spare book.old) }
     ensures jobs_anchor { J.anchor jobs.new ≡ J.anchor jobs.old }
-    ensures up { IsFailedUp who row (J.view jobs.old) (J.view jobs.new) (B.items book.old) (B.items book.new) }
+    ensures answer { ClimbAnswer who row AsItGoes (J.view jobs.old) (J.view jobs.new) (B.items book.old) (B.items book.new) result }
 {
     let mut caller = JobCaller {
         floor: &mut *jobs,
@@ -151,13 +147,14 @@ fn fail_up<J: JobFloor, B: NoteBook, W: Wakes>(
         wakes: &mut *wakes,
         who,
     };
-    caller.fail_up(row);
+    let climbed = caller.climb(row, Reserve::AsItGoes);
     let JobCaller {
         floor: _,
         book: _,
         wakes: _,
         who: _,
     } = caller;
+    climbed
 }
 
 /// Whether the Job is seen Cancelling.
@@ -172,6 +169,36 @@ fn is_cancelling<J: JobFloor>(jobs: &mut J, who: Tag, row: Row) -> bool
     }
 }
 
+/// Cancels the caller's own Job with all below it, by the failure of a row, and takes the failure of a coroutine up to its parents.
+fn fail_off<J: JobFloor, B: NoteBook, W: Wakes>(
+    jobs: &mut J,
+    book: &mut B,
+    wakes: &mut W,
+    who: Tag,
+    row: Row,
+    failed: Row,
+) -> Result<(), Memory>
+    requires can { MayCall who row (J.view jobs.old) }
+    requires own { OwnsBody who (replay (J.view jobs.old).seen row) }
+    requires reason { Holds (J.view jobs.old).shape (replay (J.view jobs.old).seen) who row (Own failed) }
+    ensures jobs_anchor { J.anchor jobs.new ≡ J.anchor jobs.old }
+    ensures broken { BreakAnswer who row (Some failed) (J.view jobs.old) (J.view jobs.new) (B.items book.old) (B.items book.new) result }
+{
+    match pass(jobs, book, wakes, who, row, Reason::Own(failed)) {
+        Ok(passed) => {
+            if passed.newly && row == who {
+                match fail_up(jobs, book, wakes, who, row) {
+                    Ok(()) => Ok(()),
+                    Err(memory) => Err(memory),
+                }
+            } else {
+                Ok(())
+            }
+        }
+        Err(memory) => Err(memory),
+    }
+}
+
 /// Cancels the caller's own Job with all below it, by the failure of a row or as cancelled, and takes the failure of a coroutine up to
 /// its parents.
 fn break_off<J: JobFloor, B: NoteBook, W: Wakes>(
@@ -181,28 +208,23 @@ fn break_off<J: JobFloor, B: NoteBook, W: Wakes>(
     who: Tag,
     row: Row,
     failure: Option<Row>,
-)
+) -> Result<(), Memory>
     requires can { MayCall who row (J.view jobs.old) }
     requires own { OwnsBody who (replay (J.view jobs.old).seen row) }
     requires reason { Holds (J.view jobs.old).shape (replay (J.view jobs.old).seen) who row (reason_for failure) }
-    requires room { MayCancelAll (J.view jobs.old) (B.spare book.old) }
     ensures jobs_anchor { J.anchor jobs.new ≡ J.anchor jobs.old }
-    ensures broken { IsBroken who row failure (J.view jobs.old) (J.view jobs.new) (B.items book.old) (B.items book.new) }
+    ensures broken { BreakAnswer who row failure (J.view jobs.old) (J.view jobs.new) (B.items book.old) (B.items book.new) result }
 {
     match failure {
-        None => {
-            let _passed = pass(jobs, book, wakes, who, row, Reason::Request);
-        }
-        Some(failed) => {
-            if pass(jobs, book, wakes, who, row, Reason::Own(failed)).newly && row == who {
-                fail_up(jobs, book, wakes, who, row);
-            }
-        }
+        None => match pass(jobs, book, wakes, who, row, Reason::Request) {
+            Ok(_passed) => Ok(()),
+            Err(memory) => Err(memory),
+        },
+        Some(failed) => fail_off(jobs, book, wakes, who, row, failed),
     }
 }
 
-/// Cancels the caller's own Job so, unless it is seen Cancelling: then whoever cancelled it cancels what is below, and nothing is
-/// reserved.
+/// Cancels the caller's own Job so, unless it is seen Cancelling: then whoever cancelled it cancels what is below.
 pub(crate) fn cancel_first<J: JobFloor, B: NoteBook, W: Wakes>(
     jobs: &mut J,
     book: &mut B,
@@ -217,17 +239,15 @@ pub(crate) fn cancel_first<J: JobFloor, B: NoteBook, W: Wakes>(
     ensures jobs_anchor { J.anchor jobs.new ≡ J.anchor jobs.old }
     ensures cancelled { OnOk result
         (IsCancelledFirst who row failure (J.view jobs.old) (J.view jobs.new) (B.items book.old) (B.items book.new)) }
-    ensures nothing { OnErr result (ToldOnJobs who [] (J.view jobs.old) (J.view jobs.new) (B.items book.old) (B.items book.new) []) }
+    ensures some { OnErr result (HasCancelled who (J.view jobs.old) (J.view jobs.new) (B.items book.old) (B.items book.new)) }
 {
     if is_cancelling(jobs, who, row) {
         return Ok(());
     }
-    let rows = u32::from(jobs.rows());
-    if let Err(memory) = make_room(jobs, book, rows) {
-        return Err(memory);
+    match break_off(jobs, book, wakes, who, row, failure) {
+        Ok(()) => Ok(()),
+        Err(memory) => Err(memory),
     }
-    break_off(jobs, book, wakes, who, row, failure);
-    Ok(())
 }
 
 /// Ends a Job, where it may end, and then its parents, as far as the end of a child was all that they waited for, each with its

@@ -1,13 +1,12 @@
-use Rattle.scope_builders.proofs.Breaks.{broken_request, broken_own, broken_up, not_both}
+use Rattle.scope_builders.proofs.Breaks.{broken_request, broken_as, part_cancelled}
 use Rattle.scope_builders.proofs.parts.break_off.Goals as goal
 
-pub returns-in-None-clause-broken : goal.returns-in-None-clause-broken
-returns-in-None-clause-broken g c = broken_request _ _ _ _ _ _ _ _ _ c.in-None.is (g.met.J.JobFloor.legal c.pass-passed.new.jobs) c.requires.own c.pass-passed.ensures.pass
+pub returns-in-Ok-clause-broken : goal.returns-in-Ok-clause-broken
+returns-in-Ok-clause-broken g c = broken_request _ _ _ _ _ _ _ _ _ c.in-None.is (g.met.J.JobFloor.legal c.pass.new.jobs) c.requires.own c.in-Ok.ensures.answer
 
-pub returns-then-row-who-clause-broken : goal.returns-then-row-who-clause-broken
-returns-then-row-who-clause-broken g c =
-    broken_up _ _ _ _ _ _ _ _ _ _ _ _ c.in-Some.is c.if-pass.true c.if-row-who.true (g.met.J.JobFloor.legal c.pass.new.jobs) (g.met.J.JobFloor.legal c.fail_up.new.jobs) c.requires.own c.pass.ensures.pass c.fail_up.ensures.up
+pub returns-in-Err-clause-broken : goal.returns-in-Err-clause-broken
+returns-in-Err-clause-broken g c = part_cancelled _ _ _ _ _ _ _ c.in-Err.ensures.answer.1
 
-pub returns-else-pass-clause-broken : goal.returns-else-pass-clause-broken
-returns-else-pass-clause-broken g c =
-    broken_own _ _ _ _ _ _ _ _ _ _ c.in-Some.is (not_both _ _ _ c.else-pass.either) (g.met.J.JobFloor.legal c.pass.new.jobs) c.requires.own c.pass.ensures.pass
+pub returns-in-Some-clause-broken : goal.returns-in-Some-clause-broken
+returns-in-Some-clause-broken g c =
+    broken_as c.args.who c.args.row c.in-Some.failed c.args.failure (g.J.JobFloor.view c.args.jobs.now) (g.J.JobFloor.view c.fail_off.new.jobs) (g.B.NoteBook.items c.args.book.now) (g.B.NoteBook.items c.fail_off.new.book) c.fail_off.result c.in-Some.is c.fail_off.ensures.broken

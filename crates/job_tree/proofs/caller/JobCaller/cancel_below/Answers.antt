@@ -4,8 +4,9 @@ use Rattle.std.proofs.lemmas.Bool.{eqb-true}
 use Rattle.job_model.proofs.Spans.{setting_then}
 use Rattle.job_model.specs.Histories.{replay}
 use Rattle.job_model.specs.Cancels.{IsAllCancelled}
+use Rattle.job_tree.specs.Passes.{CancelledAnswer}
 use Rattle.job_tree.proofs.Rooms.{looked_room}
-use Rattle.job_tree.proofs.Walks.{first_walk, none_so_far, walk_not_root, legal_as, to_next, may_next, after_to, after_over, after_up, count_less_rows, pass_below_done, so_far_small, none_more}
+use Rattle.job_tree.proofs.Walks.{first_walk, none_so_far, walk_not_root, legal_as, to_next, may_next, after_to, after_over, after_up, count_less_rows, pass_below_done, so_far_small, count_newly, count_same, part_below}
 use Rattle.job_tree.proofs.caller.JobCaller.cancel_below.Goals as goal
 
 -- the walk goes on: it is not past all below the first row
@@ -55,28 +56,28 @@ cancel_job-requires-clause-reason g c =
     (to_next _ _ _ _ _ _ _ _ _ _ _ _ (g.met.F.JobFloor.shaped c.args.self.now.floor.now) (g.met.F.JobFloor.legal c.turn.new.self.floor.now) i.so_far i.walk (not_there _ _ _ c.if-not-at-row.either) t.looked t.answer).holds
 
 pub cancel_job-requires-clause-room : goal.cancel_job-requires-clause-room
-cancel_job-requires-clause-room g c = looked_room _ _ _ _ _ _ c.turn.ensures.looked (ap g.B.NoteBook.spare c.turn.ensures.book) c.loop-done.invariant.room
+cancel_job-requires-clause-room g c = λ e. looked_room _ _ _ _ _ _ c.turn.ensures.looked (ap g.B.NoteBook.spare c.turn.ensures.book) (c.loop-done.invariant.room e)
 
 pub prove-unreachable-requires : goal.prove-unreachable-requires
 prove-unreachable-requires g c =
     let i = c.loop-done.invariant in
     let t = c.in-To.ensures in
-    let less = count_less_rows _ _ _ _ _ _ _ _ _ _ _ _ _ _ i.who (g.met.F.JobFloor.legal c.turn.new.self.floor.now) (ap g.B.NoteBook.items t.book) i.so_far t.looked c.if-cancel_job.ensures.answer in
+    let less = count_less_rows _ _ _ _ _ _ _ _ _ _ _ _ _ _ i.who (g.met.F.JobFloor.legal c.turn.new.self.floor.now) (ap g.B.NoteBook.items t.book) i.so_far t.looked (subst (CancelledAnswer _ _ _ _ _ _ _) c.if-is_newly.true c.in-Ok.ensures.answer) in
     omega (arith, i.most, c.if-prove.true)
 
-pub loop-done-smaller-then-cancel_job : goal.loop-done-smaller-then-cancel_job
-loop-done-smaller-then-cancel_job g c =
+pub loop-done-smaller-then-is_newly : goal.loop-done-smaller-then-is_newly
+loop-done-smaller-then-is_newly g c =
     let i = c.loop-done.invariant in
     let t = c.in-To.ensures in
-    let m = c.if-cancel_job.ensures in
-    (after_to _ _ _ _ _ _ _ true _ _ _ _ _ _ _ _ _ _ i.who (t.who ∙ i.who) (ap g.B.NoteBook.items t.book) refl (g.met.F.JobFloor.shaped c.args.self.now.floor.now) (g.met.F.JobFloor.legal c.turn.new.self.floor.now) (g.met.F.JobFloor.legal c.cancel_job.new.self.floor.now) i.so_far i.walk (not_there _ _ _ c.if-not-at-row.either) t.looked t.answer m.answer).less
+    let m = c.in-Ok.ensures in
+    (after_to _ _ _ _ _ _ _ c.in-Ok.is_newly _ _ _ _ _ _ _ _ _ _ i.who (t.who ∙ i.who) (ap g.B.NoteBook.items t.book) (count_newly c.in-Ok.is_newly _ _ c.loop-done.count c.if-is_newly.true) (g.met.F.JobFloor.shaped c.args.self.now.floor.now) (g.met.F.JobFloor.legal c.turn.new.self.floor.now) (g.met.F.JobFloor.legal c.cancel_job.new.self.floor.now) i.so_far i.walk (not_there _ _ _ c.if-not-at-row.either) t.looked t.answer m.answer).less
 
-pub loop-done-preserved-then-cancel_job : goal.loop-done-preserved-then-cancel_job
-loop-done-preserved-then-cancel_job g c =
+pub loop-done-preserved-then-is_newly : goal.loop-done-preserved-then-is_newly
+loop-done-preserved-then-is_newly g c =
     let i = c.loop-done.invariant in
     let t = c.in-To.ensures in
-    let m = c.if-cancel_job.ensures in
-    let r = (after_to _ _ _ _ _ _ _ true _ _ _ _ _ _ _ _ _ _ i.who (t.who ∙ i.who) (ap g.B.NoteBook.items t.book) refl (g.met.F.JobFloor.shaped c.args.self.now.floor.now) (g.met.F.JobFloor.legal c.turn.new.self.floor.now) (g.met.F.JobFloor.legal c.cancel_job.new.self.floor.now) i.so_far i.walk (not_there _ _ _ c.if-not-at-row.either) t.looked t.answer m.answer) in
+    let m = c.in-Ok.ensures in
+    let r = (after_to _ _ _ _ _ _ _ c.in-Ok.is_newly _ _ _ _ _ _ _ _ _ _ i.who (t.who ∙ i.who) (ap g.B.NoteBook.items t.book) (count_newly c.in-Ok.is_newly _ _ c.loop-done.count c.if-is_newly.true) (g.met.F.JobFloor.shaped c.args.self.now.floor.now) (g.met.F.JobFloor.legal c.turn.new.self.floor.now) (g.met.F.JobFloor.legal c.cancel_job.new.self.floor.now) i.so_far i.walk (not_there _ _ _ c.if-not-at-row.either) t.looked t.answer m.answer) in
     record {
       same_floor = m.same_floor ∙ t.same_floor ∙ i.same_floor;
       same_book = m.same_book ∙ t.same_book ∙ i.same_book;
@@ -90,19 +91,19 @@ loop-done-preserved-then-cancel_job g c =
       small = i.small;
     }
 
-pub loop-done-smaller-else-cancel_job : goal.loop-done-smaller-else-cancel_job
-loop-done-smaller-else-cancel_job g c =
+pub loop-done-smaller-else-is_newly : goal.loop-done-smaller-else-is_newly
+loop-done-smaller-else-is_newly g c =
     let i = c.loop-done.invariant in
     let t = c.in-To.ensures in
-    let m = c.if-cancel_job.ensures in
-    (after_to _ _ _ _ _ _ _ false _ _ _ _ _ _ _ _ _ _ i.who (t.who ∙ i.who) (ap g.B.NoteBook.items t.book) (none_more c.loop-done.count) (g.met.F.JobFloor.shaped c.args.self.now.floor.now) (g.met.F.JobFloor.legal c.turn.new.self.floor.now) (g.met.F.JobFloor.legal c.cancel_job.new.self.floor.now) i.so_far i.walk (not_there _ _ _ c.if-not-at-row.either) t.looked t.answer m.answer).less
+    let m = c.in-Ok.ensures in
+    (after_to _ _ _ _ _ _ _ c.in-Ok.is_newly _ _ _ _ _ _ _ _ _ _ i.who (t.who ∙ i.who) (ap g.B.NoteBook.items t.book) (count_same c.in-Ok.is_newly _ _ c.loop-done.count c.if-is_newly.false) (g.met.F.JobFloor.shaped c.args.self.now.floor.now) (g.met.F.JobFloor.legal c.turn.new.self.floor.now) (g.met.F.JobFloor.legal c.cancel_job.new.self.floor.now) i.so_far i.walk (not_there _ _ _ c.if-not-at-row.either) t.looked t.answer m.answer).less
 
-pub loop-done-preserved-else-cancel_job : goal.loop-done-preserved-else-cancel_job
-loop-done-preserved-else-cancel_job g c =
+pub loop-done-preserved-else-is_newly : goal.loop-done-preserved-else-is_newly
+loop-done-preserved-else-is_newly g c =
     let i = c.loop-done.invariant in
     let t = c.in-To.ensures in
-    let m = c.if-cancel_job.ensures in
-    let r = (after_to _ _ _ _ _ _ _ false _ _ _ _ _ _ _ _ _ _ i.who (t.who ∙ i.who) (ap g.B.NoteBook.items t.book) (none_more c.loop-done.count) (g.met.F.JobFloor.shaped c.args.self.now.floor.now) (g.met.F.JobFloor.legal c.turn.new.self.floor.now) (g.met.F.JobFloor.legal c.cancel_job.new.self.floor.now) i.so_far i.walk (not_there _ _ _ c.if-not-at-row.either) t.looked t.answer m.answer) in
+    let m = c.in-Ok.ensures in
+    let r = (after_to _ _ _ _ _ _ _ c.in-Ok.is_newly _ _ _ _ _ _ _ _ _ _ i.who (t.who ∙ i.who) (ap g.B.NoteBook.items t.book) (count_same c.in-Ok.is_newly _ _ c.loop-done.count c.if-is_newly.false) (g.met.F.JobFloor.shaped c.args.self.now.floor.now) (g.met.F.JobFloor.legal c.turn.new.self.floor.now) (g.met.F.JobFloor.legal c.cancel_job.new.self.floor.now) i.so_far i.walk (not_there _ _ _ c.if-not-at-row.either) t.looked t.answer m.answer) in
     record {
       same_floor = m.same_floor ∙ t.same_floor ∙ i.same_floor;
       same_book = m.same_book ∙ t.same_book ∙ i.same_book;
@@ -135,7 +136,7 @@ loop-done-preserved-in-Over g c =
       anchor = t.anchor ∙ i.anchor;
       walk = r.walk;
       so_far = r.so_far;
-      room = looked_room _ _ _ _ _ _ t.looked (ap g.B.NoteBook.spare t.book) i.room;
+      room = λ e. looked_room _ _ _ _ _ _ t.looked (ap g.B.NoteBook.spare t.book) (i.room e);
       most = i.most;
       small = i.small;
     }
@@ -159,19 +160,22 @@ loop-done-preserved g c =
       anchor = t.anchor ∙ i.anchor;
       walk = r.walk;
       so_far = r.so_far;
-      room = looked_room _ _ _ _ _ _ t.looked (ap g.B.NoteBook.spare t.book) i.room;
+      room = λ e. looked_room _ _ _ _ _ _ t.looked (ap g.B.NoteBook.spare t.book) (i.room e);
       most = i.most;
       small = i.small;
     }
 
-pub returns-clause-pass : goal.returns-clause-pass
-returns-clause-pass g c =
+pub returns-clause-answer : goal.returns-clause-answer
+returns-clause-answer g c =
     let i = c.loop-done.invariant in
     let h = c.if-not-at-row.false in
-    pass_below_done _ _ _ _ _ _ _ i.so_far (subst (IsAllCancelled (replay (g.F.JobFloor.view c.loop-done.self.floor.now).seen)) h.1 (i.walk.all h.0))
+    let k = so_far_small _ _ _ _ _ _ _ i.so_far in (
+      pass_below_done _ _ _ _ _ _ _ i.so_far (subst (IsAllCancelled (replay (g.F.JobFloor.view c.loop-done.self.floor.now).seen)) h.1 (i.walk.all h.0)),
+      omega (arith, i.most, i.small),
+    )
 
-pub returns-clause-small : goal.returns-clause-small
-returns-clause-small g c =
+pub returns-in-Err-clause-answer : goal.returns-in-Err-clause-answer
+returns-in-Err-clause-answer g c =
     let i = c.loop-done.invariant in
-    let k = so_far_small _ _ _ _ _ _ _ i.so_far in
-    omega (arith, i.most, i.small)
+    let t = c.in-To.ensures in
+    (c.in-Err.ensures.answer.0, part_below _ _ _ _ _ _ _ _ _ _ _ _ _ i.who (t.who ∙ i.who) (ap g.B.NoteBook.items t.book) (g.met.F.JobFloor.legal c.turn.new.self.floor.now) (g.met.F.JobFloor.legal c.cancel_job.new.self.floor.now) i.so_far t.looked c.in-Err.ensures.answer.1)

@@ -1,5 +1,6 @@
 use Rattle.std.proofs.Common.{◌≡◌, ◌<◌}
 use Rattle.job_tree.specs.Rooms.{MayCancelAll}
+use Rattle.job_tree.specs.declared.caller.Reserve.TheVariants.{Before}
 use Rattle.job_tree.proofs.Walks.{IsWalk, IsPassSoFar, left}
 use Rattle.job_tree.proofs.caller.JobCaller.cancel_below.Given as goal
 
@@ -12,7 +13,7 @@ invariant-loop-done g l = record {
   anchor : g.F.JobFloor.anchor l.self.floor.now ≡ g.F.JobFloor.anchor l.initial.self.floor.now;
   walk : IsWalk (g.F.JobFloor.view l.initial.self.floor.now).shape (g.F.JobFloor.view l.self.floor.now).seen l.row l.at l.done;
   so_far : IsPassSoFar l.initial.self.who l.row (g.F.JobFloor.view l.initial.self.floor.now) (g.F.JobFloor.view l.self.floor.now) (g.B.NoteBook.items l.initial.self.book.now) (g.B.NoteBook.items l.self.book.now) l.count;
-  room : MayCancelAll (g.F.JobFloor.view l.self.floor.now) (g.B.NoteBook.spare l.self.book.now);
+  room : l.reserve ≡ Before → MayCancelAll (g.F.JobFloor.view l.self.floor.now) (g.B.NoteBook.spare l.self.book.now);
   most : l.most ≡ (g.F.JobFloor.view l.initial.self.floor.now).shape.rows;
   small : l.most < 65536;
 }

@@ -1,7 +1,7 @@
 use Rattle.job_model.proofs.Spans.{prefix_self, prefix_then}
 use Rattle.job_model.specs.Failures.{StaysBelow}
-use Rattle.job_tree.proofs.Looks.{in_rows, may_later, never_none}
-use Rattle.job_tree.proofs.Climbs.{seen_scope, seen_supervisor, linked_parent, may_parent, looked_then, looked_self, root_stays}
+use Rattle.job_tree.proofs.Looks.{in_rows, may_later, never_none, looked_then, looked_self}
+use Rattle.job_tree.proofs.Climbs.{seen_scope, seen_supervisor, linked_parent, may_parent, root_stays}
 use Rattle.job_tree.proofs.caller.JobCaller.failing_parent.Goals as goal
 
 pub returns-then-row-eq0-clause-answer : goal.returns-then-row-eq0-clause-answer

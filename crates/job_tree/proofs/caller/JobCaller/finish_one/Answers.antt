@@ -1,8 +1,8 @@
 use Rattle.std.proofs.Common.{sym}
 use Rattle.job_model.proofs.Spans.{prefix_self, added_looked, added_made}
 use Rattle.job_tree.specs.Endings.{EndAnswer}
-use Rattle.job_tree.proofs.Looks.{may_later}
-use Rattle.job_tree.proofs.Climbs.{looked_self, linked_parent}
+use Rattle.job_tree.proofs.Looks.{may_later, looked_self}
+use Rattle.job_tree.proofs.Climbs.{linked_parent}
 use Rattle.job_tree.proofs.Endings.{may_tell, added_same, added_end, added_linked, root_ended, told_by, was_not_now, owed_at}
 use Rattle.job_tree.proofs.caller.JobCaller.finish_one.Goals as goal
 

@@ -1,8 +1,9 @@
 use Rattle.std.proofs.Common.{◌≡◌}
 use Rattle.job_tree.specs.Rooms.{MayCancelAll}
+use Rattle.job_tree.specs.declared.caller.Reserve.TheVariants.{Before}
 use Rattle.job_model.proofs.Ranks.{ranks}
 use Rattle.job_tree.proofs.Climbs.{IsClimb}
-use Rattle.job_tree.proofs.caller.JobCaller.fail_up.Given as goal
+use Rattle.job_tree.proofs.caller.JobCaller.climb.Given as goal
 
 abbrev pub invariant-loop-parent : goal.invariant-loop-parent
 invariant-loop-parent g l = record {
@@ -12,7 +13,7 @@ invariant-loop-parent g l = record {
   who : l.self.who ≡ l.initial.self.who;
   anchor : g.F.JobFloor.anchor l.self.floor.now ≡ g.F.JobFloor.anchor l.initial.self.floor.now;
   climb : IsClimb l.initial.self.who l.row l.at (g.F.JobFloor.view l.initial.self.floor.now) (g.F.JobFloor.view l.self.floor.now) (g.B.NoteBook.items l.initial.self.book.now) (g.B.NoteBook.items l.self.book.now);
-  room : MayCancelAll (g.F.JobFloor.view l.self.floor.now) (g.B.NoteBook.spare l.self.book.now);
+  room : l.reserve ≡ Before → MayCancelAll (g.F.JobFloor.view l.self.floor.now) (g.B.NoteBook.spare l.self.book.now);
 }
 
 abbrev pub decreases-loop-parent : goal.decreases-loop-parent
