@@ -20,6 +20,7 @@ use Rattle.channel_calls.specs.declared.caller.TryReceiveAnswer.TheVariants as t
 use Rattle.channel_calls.specs.declared.caller.ReceiveAnswer.{ReceiveAnswer}
 use Rattle.channel_calls.specs.declared.caller.ReceiveAnswer.TheVariants as receive
 use Rattle.channel_calls.specs.Calls.{IsLeftWaiting, SentAnswer, ReceivedAnswer, TrySentAnswer, TryReceivedAnswer, ClosedAnswer, CancelledChannelAnswer}
+use Rattle.channel_calls.proofs.OwnOffers.{left_seen}
 use Rattle.channel_calls.proofs.AnswersGo.{sent_goes, unsent_goes, closes_goes, cancels_goes}
 use Rattle.script_grammar.specs.declared.instructions.Operand.{Operand}
 use Rattle.script_grammar.specs.declared.instructions.Instruction.{Instruction}
@@ -29,7 +30,7 @@ use Rattle.script_grammar.specs.Blocks.{channel_of}
 use Rattle.script_grammar.specs.Declarations.{is_below}
 use Rattle.script_grammar.specs.WellFormed.{IsProgram}
 use Rattle.script_grammar.proofs.Declarations.{line-within, length-shape_of}
-use Rattle.script_meaning.specs.Shapes.{floor_shape, base_of}
+use Rattle.script_meaning.specs.Shapes.{base_of}
 use Rattle.script_meaning.specs.Configs.{Config, IsAt, next, operand}
 use Rattle.script_meaning.specs.Lines.{LineCalls, After}
 use Rattle.script_meaning.specs.Moves.{Move}
@@ -78,16 +79,16 @@ pub has_sent : (p : Program) (c c' : ChannelFloor) (j : Floor) (f g : Frame) (n 
     → SentAnswer f.tag n v c c' (items_of f) mid (Ok answer) → g.tag ≡ f.tag → config_of g ≡ after_send f.tag answer (config_of f) → items_of g ≡ mid → Stepped p c c' j j f g
 has_sent p c c' j f g n v o answer mid ok l h at is sent t config items = by_answer answer (subst (λ l. SentAnswer f.tag n v c c' (items_of f) l (Ok answer)) (sym items) sent) config
   where
-    say : (a : Answer) (told : List Told) (y : Config) → PlainCall c.shape (sends n v) told a → After p f.tag (config_of f) (line.Send n o) a y → ToldOnChannels f.tag c c' (items_of f) (items_of g) told → config_of g ≡ y → ((w : WaitId) → wait_of y.stage ≡ Some w → HasStood c c' w) → Stepped p c c' j j f g
+    say : (a : Answer) (told : List Told) (y : Config) → PlainCall (sends n v) told a → After p f.tag (config_of f) (line.Send n o) a y → ToldOnChannels f.tag c c' (items_of f) (items_of g) told → config_of g ≡ y → ((w : WaitId) → wait_of y.stage ≡ Some w → HasStood c c' w) → Stepped p c c' j j f g
     say a told y call after noted e stood =
-        let plain : PlainCall (floor_shape p) (sends n (operand (config_of f) o)) told a = subst (λ s. PlainCall s (sends n (operand (config_of f) o)) told a) h.on.channels (subst (λ m. PlainCall c.shape (sends n m) told a) is call) in
+        let plain : PlainCall (sends n (operand (config_of f) o)) told a = subst (λ m. PlainCall (sends n m) told a) is call in
         called p c c' j f g (line.Send n o) told a y l at (LineCalls.send n o told a plain) after noted
-        (plain_mild (base_of p) (floor_shape p) (sends n (operand (config_of f) o)) told a (line_low p f.tag (config_of f) (line.Send n o) n ok at refl) plain) t e stood
+        (plain_mild (base_of p) (sends n (operand (config_of f) o)) told a (line_low p f.tag (config_of f) (line.Send n o) n ok at refl) plain) t e stood
 
     by_answer : (answer : SendAnswer) → SentAnswer f.tag n v c c' (items_of f) (items_of g) (Ok answer) → config_of g ≡ after_send f.tag answer (config_of f) → Stepped p c c' j j f g
-    by_answer send.Sent m e = say Done m.told _ (sent_goes c.shape n v m.told m.goes) (After.sent n o) m.left e (λ w k. no_more_wait w k)
-    by_answer (send.Waits w) m e = say (Waits w) m.0.told _ m.0.goes (After.waits (line.Send n o) w) m.0.left e (λ u k. same_wait_stood c c' w u (left_waiting f.tag _ w c c' m.1) k)
-    by_answer (send.Closed x) m e = say Done m.0.told _ (unsent_goes c.shape n v x m.0.told m.0.goes) (After.sent n o) m.0.left e (λ w k. no_more_wait w k)
+    by_answer send.Sent m e = say Done m.told _ (sent_goes n v m.told m.goes) (After.sent n o) m.left e (λ w k. no_more_wait w k)
+    by_answer (send.Waits w) m e = say (Waits w) m.0.told _ m.0.goes (After.waits (line.Send n o) w) m.0.left e (λ u k. same_wait_stood c c' w u (left_waiting f.tag _ w c c' (left_seen f.tag w m.0.told c c' (items_of f) (items_of g) m.1)) k)
+    by_answer (send.Closed x) m e = say Done m.0.told _ (unsent_goes n v x m.0.told m.0.goes) (After.sent n o) m.0.left e (λ w k. no_more_wait w k)
     by_answer send.Spent m e = say NoPlace m.told _ m.goes (After.no_place (line.Send n o)) m.left e (λ w k. no_more_wait w k)
 
 pub has_tried_to_send : (p : Program) (c c' : ChannelFloor) (j : Floor) (f g : Frame) (n v : ℕ) (o : Operand) (answer : TrySendAnswer) (mid : List Item) → IsProgram p → Legal j.shape j.seen → IsAt p f.tag (config_of f) (line.TrySend n o) → v ≡ operand (config_of f) o
@@ -111,11 +112,10 @@ pub has_received : (p : Program) (c c' : ChannelFloor) (j : Floor) (f g : Frame)
     → ReceivedAnswer f.tag n c c' (items_of f) mid (Ok answer) → g.tag ≡ f.tag → config_of g ≡ after_receive f.tag answer (config_of f) → items_of g ≡ mid → Stepped p c c' j j f g
 has_received p c c' j f g n answer mid ok l h at got t config items = by_answer answer (subst (λ l. ReceivedAnswer f.tag n c c' (items_of f) l (Ok answer)) (sym items) got) config
   where
-    say : (a : Answer) (told : List Told) (y : Config) → PlainCall c.shape (receives n) told a → After p f.tag (config_of f) (line.Receive n) a y → ToldOnChannels f.tag c c' (items_of f) (items_of g) told → config_of g ≡ y → ((w : WaitId) → wait_of y.stage ≡ Some w → HasStood c c' w) → Stepped p c c' j j f g
+    say : (a : Answer) (told : List Told) (y : Config) → PlainCall (receives n) told a → After p f.tag (config_of f) (line.Receive n) a y → ToldOnChannels f.tag c c' (items_of f) (items_of g) told → config_of g ≡ y → ((w : WaitId) → wait_of y.stage ≡ Some w → HasStood c c' w) → Stepped p c c' j j f g
     say a told y call after noted e stood =
-        let plain : PlainCall (floor_shape p) (receives n) told a = subst (λ s. PlainCall s (receives n) told a) h.on.channels call in
-        called p c c' j f g (line.Receive n) told a y l at (LineCalls.receive n told a plain) after noted
-        (plain_mild (base_of p) (floor_shape p) (receives n) told a (line_low p f.tag (config_of f) (line.Receive n) n ok at refl) plain) t e stood
+        called p c c' j f g (line.Receive n) told a y l at (LineCalls.receive n told a call) after noted
+        (plain_mild (base_of p) (receives n) told a (line_low p f.tag (config_of f) (line.Receive n) n ok at refl) call) t e stood
 
     by_answer : (answer : ReceiveAnswer) → ReceivedAnswer f.tag n c c' (items_of f) (items_of g) (Ok answer) → config_of g ≡ after_receive f.tag answer (config_of f) → Stepped p c c' j j f g
     by_answer (receive.Value v) m e = say (Got v) m.told _ m.goes (After.got n v) m.left e (λ w k. no_more_wait w k)
@@ -145,11 +145,10 @@ has_received_more p c c' j f m g n answer mid ok l h at tag same noted got t con
     (subst (λ l. ReceivedAnswer f.tag n c c' (items_of f) l (Ok answer)) (sym items) (subst (λ i. ReceivedAnswer f.tag n c c' i mid (Ok answer)) noted (subst (λ k. ReceivedAnswer k n c c' (items_of m) mid (Ok answer)) tag got)))
     (subst (λ x. AfterEach p f.tag answer x (config_of g)) same (subst (λ k. AfterEach p k answer (config_of m) (config_of g)) tag config))
   where
-    say : (a : Answer) (told : List Told) (y : Config) → PlainCall c.shape (receives n) told a → After p f.tag (config_of f) (line.Each n) a y → ToldOnChannels f.tag c c' (items_of f) (items_of g) told → config_of g ≡ y → ((w : WaitId) → wait_of y.stage ≡ Some w → HasStood c c' w) → Stepped p c c' j j f g
+    say : (a : Answer) (told : List Told) (y : Config) → PlainCall (receives n) told a → After p f.tag (config_of f) (line.Each n) a y → ToldOnChannels f.tag c c' (items_of f) (items_of g) told → config_of g ≡ y → ((w : WaitId) → wait_of y.stage ≡ Some w → HasStood c c' w) → Stepped p c c' j j f g
     say a told y call after noted e stood =
-        let plain : PlainCall (floor_shape p) (receives n) told a = subst (λ s. PlainCall s (receives n) told a) h.on.channels call in
-        called p c c' j f g (line.Each n) told a y l at (LineCalls.each n told a plain) after noted
-        (plain_mild (base_of p) (floor_shape p) (receives n) told a (line_low p f.tag (config_of f) (line.Each n) n ok at refl) plain) (t ∙ tag) e stood
+        called p c c' j f g (line.Each n) told a y l at (LineCalls.each n told a call) after noted
+        (plain_mild (base_of p) (receives n) told a (line_low p f.tag (config_of f) (line.Each n) n ok at refl) call) (t ∙ tag) e stood
 
     by_answer : (answer : ReceiveAnswer) → ReceivedAnswer f.tag n c c' (items_of f) (items_of g) (Ok answer) → AfterEach p f.tag answer (config_of f) (config_of g) → Stepped p c c' j j f g
     by_answer (receive.Value v) r e = say (Got v) r.told _ r.goes (After.got_one_more n v) r.left e (λ w k. no_more_wait w k)

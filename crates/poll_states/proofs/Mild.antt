@@ -6,7 +6,6 @@ use Rattle.std.proofs.lemmas.List.Folds.{list_any-append}
 use Rattle.co_base.specs.declared.names.WaitId.{WaitId}
 use Rattle.channel_model.specs.declared.acts.Act.TheVariants.{Settle}
 use Rattle.channel_model.specs.declared.acts.Settled.{Settled}
-use Rattle.channel_model.specs.Channels.{Shape}
 use Rattle.job_model.specs.declared.acts.JobAct.{JobAct}
 use Rattle.job_model.specs.declared.acts.JobAct.TheVariants.{Attach, Start, EndBody, Cancel, Finish, Gone}
 use Rattle.job_model.specs.declared.acts.JobNote.{JobNote}
@@ -17,14 +16,14 @@ use Rattle.note_book.specs.declared.book.Item.{Item}
 use Rattle.note_book.specs.declared.book.Item.TheVariants as item
 use Rattle.note_book.specs.Items.{channel_acts_in}
 use Rattle.call_meaning.specs.Telling.{Told, on_channels, on_jobs, JobFact, TakenBack, items_in, made, knew, saw}
-use Rattle.call_meaning.specs.ChannelCalls.{Call, Answer, Closes, CancelsChannel, PlainCall, TryCall, GivesUp}
+use Rattle.call_meaning.specs.ChannelCalls.{Call, Answer, Closes, CancelsChannel, PlainCall, TryCall, GivesUp, channel_of}
 use Rattle.call_meaning.specs.JobCalls.{Starts, Passes}
 use Rattle.scope_builders.specs.Dones.{ClosesAtOnce, IsClosedNext, finish_of}
 use Rattle.script_meaning.specs.Configs.{Config}
 use Rattle.script_meaning.specs.Books.{is_refusal}
 use Rattle.script_meaning.specs.Polls.{RefusedByClaims, is_no_row, is_used, is_parent_ended}
 use Rattle.script_meaning.proofs.JobDebts.{Parents, AllKnown}
-use Rattle.script_meaning.proofs.GroupNotes.{AllPass, both, all_then, all_none, channel_asked, plain_all, try_all, closes_all, cancels_channel_all, gives_up_all, resumed_all, taken_back_all, saw_all, fail_all, one_fact_all, starts_all, passes_all}
+use Rattle.script_meaning.proofs.GroupNotes.{AllPass, both, all_then, all_none, plain_all, try_all, closes_all, cancels_channel_all, gives_up_all, resumed_all, taken_back_all, saw_all, fail_all, one_fact_all, starts_all, passes_all}
 use Rattle.script_meaning.proofs.GentleNotes.{leaves_dones, is_no_finish, is_mild, is_mild_call, is_mild_note, mild_allows, below_dones, gentle_leaves, mild_gentle, Unrefused}
 
 -- ---- mild notes
@@ -40,11 +39,11 @@ nothing_mild base = all_none (is_mild base)
 
 -- ---- calls on channels
 
-pub plain_mild : (base : ℕ) (shape : Shape) (call : Call) (g : List Told) (a : Answer) → channel_asked call < base → PlainCall shape call g a → AllMild base g
-plain_mild base shape call g a lt = plain_all (is_mild base) (mild_allows base) shape call g a (λ e. below_dones base (channel_asked call) lt)
+pub plain_mild : (base : ℕ) (call : Call) (g : List Told) (a : Answer) → channel_of call < base → PlainCall call g a → AllMild base g
+plain_mild base call g a lt = plain_all (is_mild base) (mild_allows base) call g a (λ e. below_dones base (channel_of call) lt)
 
-pub try_mild : (base : ℕ) (call : Call) (g : List Told) (a : Answer) → channel_asked call < base → TryCall call g a → AllMild base g
-try_mild base call g a lt = try_all (is_mild base) (mild_allows base) call g a (λ e. below_dones base (channel_asked call) lt)
+pub try_mild : (base : ℕ) (call : Call) (g : List Told) (a : Answer) → channel_of call < base → TryCall call g a → AllMild base g
+try_mild base call g a lt = try_all (is_mild base) (mild_allows base) call g a (λ e. below_dones base (channel_of call) lt)
 
 pub closes_mild : (base c v : ℕ) (g : List Told) → c < base → Closes c v g → AllMild base g
 closes_mild base c v g lt = closes_all (is_mild base) (mild_allows base) c v g (below_dones base c lt)

@@ -9,13 +9,13 @@ use Rattle.job_model.specs.Histories.{Legal}
 use Rattle.job_model.specs.Floors.{Floor}
 use Rattle.note_book.specs.declared.book.Item.{Item}
 use Rattle.call_meaning.specs.Telling.{Told}
-use Rattle.call_meaning.specs.ChannelCalls.{Call, sends, receives, Answer, Done, Got, Closed, Waits, LooksAgain, NoPlace, Refused, blocked, SelectCall}
+use Rattle.call_meaning.specs.ChannelCalls.{Call, sends, receives, Answer, Done, Got, Closed, Waits, LooksAgain, NoPlace, Refused, blocked, SelectCall, channel_of}
 use Rattle.call_meaning.specs.Calls.{ToldOnChannels}
 use Rattle.select_calls.specs.declared.clause.Outcome.{Outcome}
 use Rattle.select_calls.specs.declared.clause.Outcome.TheVariants as outcome
 use Rattle.select_calls.specs.declared.clause.SelectAnswer.{SelectAnswer}
 use Rattle.select_calls.specs.declared.clause.SelectAnswer.TheVariants as came_to
-use Rattle.select_calls.specs.Clauses.{MaySelect, channel_of}
+use Rattle.select_calls.specs.Clauses.{MaySelect}
 use Rattle.select_calls.specs.Selects.{Meets, Chooses, SelectedAnswer}
 use Rattle.script_grammar.specs.declared.instructions.Instruction.{Instruction}
 use Rattle.script_grammar.specs.declared.instructions.Instruction.TheVariants as line
@@ -32,7 +32,7 @@ use Rattle.script_meaning.specs.Lines.{LineCalls, After, clauses_in, clauses_at}
 use Rattle.script_meaning.specs.Laws.{wait_of}
 use Rattle.script_meaning.specs.declared.turn.Turn.{Turn}
 use Rattle.script_meaning.specs.Polls.{HasStood, is_seeing}
-use Rattle.script_meaning.proofs.ClausesOfSelects.{ClausesFit, select_fits, channel_of as channel_asked}
+use Rattle.script_meaning.proofs.ClausesOfSelects.{ClausesFit, select_fits}
 use Rattle.script_meaning.proofs.GroupNotes.{select_all}
 use Rattle.script_meaning.proofs.GentleNotes.{is_mild, mild_allows, below_dones}
 use Rattle.script_meaning.proofs.MovesGentle.{clauses_spent}
@@ -78,24 +78,20 @@ one_clause x line.End code = refl
 
 -- ---- what may be selected from
 
-same_channel : (call : Call) → channel_of call ≡ channel_asked call
-same_channel (sends c v) = refl
-same_channel (receives c) = refl
-
 pub may_select : (p : Program) (c : ChannelFloor) (j : Floor) (f : Frame) (calls : List Call) → IsProgram p → Stands p c j f → IsAt p f.tag (config_of f) line.Select → calls ≡ clauses_at p f.tag (config_of f) → MaySelect f.tag calls c
 may_select p c j f calls ok h at is = subst (λ l. MaySelect f.tag l c) (sym is) (record {
   some = fit.some refl;
   few = let h = fit.few in omega (arith, h);
   may_call = λ i call e. stands_call p c j f (channel_of call) h (declared i call e);
   no_signal = λ i n v e. no_signal p n c.shape ok h.on.channels (declared i (sends n v) e);
-  apart = λ i j a b e k s. fit.apart i j a b e k (sym (same_channel a) ∙ s ∙ same_channel b);
+  apart = λ i j a b e k s. fit.apart i j a b e k s;
 })
   where
     fit : ClausesFit (length p.channels) [] (clauses_at p f.tag (config_of f))
     fit = select_fits p f.tag (config_of f) ok at.line_is
 
     declared : (i : ℕ) (call : Call) → slice_get (clauses_at p f.tag (config_of f)) i ≡ Some call → channel_of call < length (shape_of p)
-    declared i call e = subst (λ n. n < length (shape_of p)) (sym (same_channel call)) (subst (λ n. channel_asked call < n) (sym (length-shape_of p)) (fit.low i call e))
+    declared i call e = subst (λ n. channel_of call < n) (sym (length-shape_of p)) (fit.low i call e)
 
 pub few_clauses : (p : Program) (f : Frame) → IsProgram p → IsAt p f.tag (config_of f) line.Select → length (clauses_at p f.tag (config_of f)) ≤ 7
 few_clauses p f ok at = let h = (select_fits p f.tag (config_of f) ok at.line_is).few in omega (arith, h)

@@ -42,15 +42,14 @@ use Rattle.script_meaning.specs.Polls.{RefusedByClaims, own_rows, jobs_by}
 use Rattle.script_reader.specs.declared.script.Spawn.{Spawn}
 use Rattle.script_reader.specs.Programs.{spawn_of}
 use Rattle.poll_states.specs.declared.frame.Frame.{Frame}
-use Rattle.poll_states.specs.declared.floors.Floors.{Floors}
-use Rattle.poll_states.specs.Frames.{config_of, items_of, SameFloors}
-use Rattle.poll_states.specs.Steps.{NotedSome, CutShort, IsNewRoot, IsOnItsFloors, BegunTo, IsForSpawn, HasSpawned, IsRefusedSpawn}
+use Rattle.poll_states.specs.Frames.{config_of, items_of}
+use Rattle.poll_states.specs.Steps.{NotedSome, CutShort, IsNewRoot, IsOnItsChannels, IsOnItsJobs, BegunTo, IsForSpawn, HasSpawned, IsRefusedSpawn}
 use Rattle.poll_states.proofs.Moving.{rows_in-append, own_rows-append, closes_then}
 use Rattle.poll_states.proofs.DonesLeft.{unclosed_kept}
 use Rattle.script_meaning.proofs.GentleNotes.{attach_mild, mild_unrefused}
 use Rattle.poll_states.proofs.Mild.{AllMild, mild_then, nothing_mild, mild_closes, unrefused_claims, claims_behind}
 use Rattle.poll_states.proofs.Standing.{few_coroutines}
-use Rattle.poll_states.proofs.Stepping.{self_channels}
+use Rattle.poll_states.proofs.Stepping.{self_channels, cut_jobs}
 use Rattle.poll_states.proofs.JobLines.{never_told_over}
 use Rattle.script_meaning.specs.Bodies.{IsOwnRow}
 
@@ -116,10 +115,10 @@ root_row : (p : Program) → IsProgram p → 0 < coroutine_count p
 root_row p ok = omega (arith, main_fits p ok)
 
 -- main's frame g after its spawns, at its first line or to break off
-root_begun : (p : Program) (c d : ChannelFloor) (j j' : Floor) (f g : Frame) (told : List Told) → IsProgram p → Legal j'.shape j'.seen → d ≡ c → IsNewRoot f → IsOnItsFloors p c j → g.tag ≡ 0 → Spawns p (spawned p) (fresh 0) told (config_of g) → ToldOnJobs 0 (rows_in (job_acts_in (items_in told))) j j' [] (items_of g) told
-    → RefusedByClaims (config_of g) (items_in told) j' → ClosesAtOnce (base_of p) (items_in told) → BegunTo p c d j j' f g
+root_begun : (p : Program) (c : ChannelFloor) (j j' : Floor) (f g : Frame) (told : List Told) → IsProgram p → Legal j'.shape j'.seen → IsNewRoot f → IsOnItsChannels p c → IsOnItsJobs p j → g.tag ≡ 0 → Spawns p (spawned p) (fresh 0) told (config_of g) → ToldOnJobs 0 (rows_in (job_acts_in (items_in told))) j j' [] (items_of g) told
+    → RefusedByClaims (config_of g) (items_in told) j' → ClosesAtOnce (base_of p) (items_in told) → BegunTo p c c j j' f g
 unfolding acts_of
-root_begun p c d j j' f g told ok l e new on t spawned_so noted refused closes = subst (λ x. BegunTo p c x j j' f g) (sym e) (record {
+root_begun p c j j' f g told ok l new its on t spawned_so noted refused closes = record {
   begun = record {
     tag = t ∙ sym new.tag;
     told = told;
@@ -131,19 +130,19 @@ root_begun p c d j j' f g told ok l e new on t spawned_so noted refused closes =
   };
   stands = record {
     on = record {
-      channels = on.channels;
+      channels = its.channels;
       jobs = noted.added.same.shape ∙ on.jobs;
-      of_channels = ap c.callers t ∙ on.of_channels;
+      of_channels = ap c.callers t ∙ its.of_channels;
       of_jobs = ap j'.callers t ∙ ap (λ (k : ℕ → Bool). k 0) noted.added.same.callers ∙ on.of_jobs;
       in_run = subst (λ k. k < coroutine_count p) (sym t) (root_row p ok);
-      channel_acts = ap (λ k. acts_of k c.seen) t ∙ on.no_channel_acts ∙ sym noted.no_channels ∙ ap channel_acts_in (sym noted.appended);
+      channel_acts = ap (λ k. acts_of k c.seen) t ∙ its.no_channel_acts ∙ sym noted.no_channels ∙ ap channel_acts_in (sym noted.appended);
       job_acts = ap (λ k. job_acts_of k j'.seen) t ∙ noted.added.mine ∙ ap (λ a. a ++ job_acts_in (items_in told)) on.no_job_acts ∙ ap job_acts_in (sym noted.appended);
       runs = record {
         told = told;
         written = sym noted.appended;
         reaches = subst (λ k. Reaches p k told (config_of g)) (sym t) (Reaches.begins told (config_of g) (Begins.root told (config_of g) spawned_so));
         is_true = subst (λ k. IsTrue (story p k (seen_by c j')) [] beginning told) (sym t)
-            (true_sooner (story p 0 (seen_by c j')) [] beginning (seen_by c j) told (record { channels = (c.seen, refl); jobs = (j.seen, refl) }) (noted.was_so (floor_shape p) c.seen on.no_channel_acts on.no_job_acts));
+            (true_sooner (story p 0 (seen_by c j')) [] beginning (seen_by c j) told (record { channels = (c.seen, refl); jobs = (j.seen, refl) }) (noted.was_so (floor_shape p) c.seen its.no_channel_acts on.no_job_acts));
       };
       claims = λ r.
           let rows : List ℕ = rows_in (job_acts_in (items_in told)) in
@@ -152,12 +151,12 @@ root_begun p c d j j' f g told ok l e new on t spawned_so noted refused closes =
     };
   };
   dones = subst (λ i. KeepsDones (base_of p) c c j j' i) (sym noted.appended) (unclosed_kept 0 (base_of p) [] (job_acts_in (items_in told)) (rows_in (job_acts_in (items_in told))) c c j j' (items_in told) l (self_channels 0 c) refl noted.added closes);
-})
+}
 
 -- all were attached
-pub begun_all : (p : Program) (c d : ChannelFloor) (j j' : Floor) (f g : Frame) → IsProgram p → Legal j'.shape j'.seen → d ≡ c → IsNewRoot f → IsOnItsFloors p c j → Spawning p [] j j' g → BegunTo p c d j j' f g
-begun_all p c d j j' f g ok l e new on h =
-    root_begun p c d j j' f g h.told ok l e new on h.tag (subst (λ t. Spawns p (spawned p) (fresh 0) t (config_of g)) (nothing_more h.told) (h.so_far [] (config_of g) (Spawns.done (config_of g)))) h.noted
+pub begun_all : (p : Program) (c : ChannelFloor) (j j' : Floor) (f g : Frame) → IsProgram p → Legal j'.shape j'.seen → IsNewRoot f → IsOnItsChannels p c → IsOnItsJobs p j → Spawning p [] j j' g → BegunTo p c c j j' f g
+begun_all p c j j' f g ok l new its on h =
+    root_begun p c j j' f g h.told ok l new its on h.tag (subst (λ t. Spawns p (spawned p) (fresh 0) t (config_of g)) (nothing_more h.told) (h.so_far [] (config_of g) (Spawns.done (config_of g)))) h.noted
     (unrefused_claims (base_of p) (config_of g) h.told j' (mild_unrefused (base_of p) h.told h.mild)) (mild_closes (base_of p) (items_in h.told) h.mild)
 
 refusal_closes : (base : ℕ) (scoped : Bool) (told : List Told) → NotAttached 0 scoped told → ClosesAtOnce base (items_in told)
@@ -173,22 +172,22 @@ refusal_rows _ _ NotAttached.used = refl
 refusal_rows _ _ (NotAttached.parent_ended scoped) = refl
 
 -- one was refused
-pub begun_refused : (p : Program) (block : ℕ) (left : List ℕ) (c d : ChannelFloor) (j k l : Floor) (f m g : Frame) → IsProgram p → Legal l.shape l.seen → d ≡ c → IsNewRoot f → IsOnItsFloors p c j → Spawning p (block ∷ left) j k m → IsRefusedSpawn k l m g → BegunTo p c d j l f g
-begun_refused p block left c d j k l f m g ok legal e new on h s =
+pub begun_refused : (p : Program) (block : ℕ) (left : List ℕ) (c : ChannelFloor) (j k l : Floor) (f m g : Frame) → IsProgram p → Legal l.shape l.seen → IsNewRoot f → IsOnItsChannels p c → IsOnItsJobs p j → Spawning p (block ∷ left) j k m → IsRefusedSpawn k l m g → BegunTo p c c j l f g
+begun_refused p block left c j k l f m g ok legal new its on h s =
     let told : List Told = h.told ++ s.told in
     let to : Spawns p (spawned p) (fresh 0) told (at_stage (Unwinding (Some 0)) (config_of m)) = h.so_far s.told _ (Spawns.refused block left (config_of m) s.told s.goes) in
     let rows : rows_in (job_acts_in (items_in h.told)) ++ [] ≡ rows_in (job_acts_in (items_in told)) = sym (rows_told-append h.told s.told ∙ ap (λ r. rows_in (job_acts_in (items_in h.told)) ++ r) (refusal_rows false s.told s.goes)) in
-    root_begun p c d j l f g told ok legal e new on (s.tag ∙ h.tag) (subst (Spawns p (spawned p) (fresh 0) told) (sym s.config) to)
+    root_begun p c j l f g told ok legal new its on (s.tag ∙ h.tag) (subst (Spawns p (spawned p) (fresh 0) told) (sym s.config) to)
     (subst (λ r. ToldOnJobs 0 r j l [] (items_of g) told) rows (told_then 0 (rows_in (job_acts_in (items_in h.told))) [] j k l [] (items_of m) (items_of g) h.told s.told h.noted s.noted))
     (subst (λ i. RefusedByClaims (config_of g) i l) (sym (items_in-append h.told s.told)) (claims_behind (base_of p) (config_of g) h.told (items_in s.told) l (mild_unrefused (base_of p) h.told h.mild) s.refused))
     (subst (ClosesAtOnce (base_of p)) (sym (items_in-append h.told s.told)) (closes_then (base_of p) (items_in h.told) (items_in s.told) (mild_closes (base_of p) (items_in h.told) h.mild) (refusal_closes (base_of p) false s.told s.goes)))
 
 -- the jobs attached so far stand and are noted
-pub begun_cut : (p : Program) (left : List ℕ) (b c d : ChannelFloor) (j k l : Floor) (f m g : Frame) → b ≡ c → d ≡ c → IsNewRoot f → Spawning p left j k m → CutShort b b k l m g → CutShort c d j l f g
-begun_cut p left b c d j k l f m g q e new h cut =
-    let n : NotedSome m.tag c c k l (items_of m) (items_of g) = subst (λ x. NotedSome m.tag x x k l (items_of m) (items_of g)) q cut.noted in
+pub begun_cut : (p : Program) (left : List ℕ) (c : ChannelFloor) (j k l : Floor) (f m g : Frame) → IsNewRoot f → Spawning p left j k m → CutShort c c k l m g → CutShort c c j l f g
+begun_cut p left c j k l f m g new h cut =
+    let n : NotedSome m.tag c c k l (items_of m) (items_of g) = cut.noted in
     let same : m.tag ≡ f.tag = h.tag ∙ sym new.tag in
-    subst (λ x. CutShort c x j l f g) (sym e) (record {
+    record {
       tag = cut.tag ∙ same;
       noted = record {
         group = items_in h.told ++ n.group;
@@ -199,15 +198,13 @@ begun_cut p left b c d j k l f m g q e new h cut =
             (added_then f.tag (job_acts_in (items_in h.told)) (job_acts_in n.group) (rows_in (job_acts_in (items_in h.told))) n.rows j k l (subst (λ t. Added t (job_acts_in (items_in h.told)) (rows_in (job_acts_in (items_in h.told))) j k) (sym new.tag) h.noted.added)
             (subst (λ t. Added t (job_acts_in n.group) n.rows k l) same n.jobs));
       };
-    })
+    }
 
 -- ---- one spawn
 
-pub for_spawn : (p : Program) (block : ℕ) (left : List ℕ) (c d : ChannelFloor) (j k : Floor) (f : Frame) → IsProgram p → d ≡ c → IsOnItsFloors p c j → Spawning p (block ∷ left) j k f → IsForSpawn p block d k f
-for_spawn p block left c d j k f ok e on h = subst (λ x. IsForSpawn p block x k f) (sym e) (record {
+pub for_spawn : (p : Program) (block : ℕ) (left : List ℕ) (j k : Floor) (f : Frame) → IsProgram p → IsOnItsJobs p j → Spawning p (block ∷ left) j k f → IsForSpawn p block k f
+for_spawn p block left j k f ok on h = record {
   tag = h.tag;
-  channels = on.channels;
-  of_channels = on.of_channels;
   jobs = h.noted.added.same.shape ∙ on.jobs;
   body = record {
     row_in = omega (arith, root_row p ok, ap (λ (s : Shape). s.rows) (h.noted.added.same.shape ∙ on.jobs));
@@ -217,19 +214,19 @@ for_spawn p block left c d j k f ok e on h = subst (λ x. IsForSpawn p block x k
       not_ended = ap (list_any (ends_body 0)) (h.noted.added.mine ∙ ap (λ a. a ++ job_acts_in (items_in h.told)) on.no_job_acts) ∙ h.not_ended;
     };
   };
-  channel_acts = on.no_channel_acts ∙ sym h.noted.no_channels ∙ ap channel_acts_in (sym h.noted.appended);
+  no_channel_acts = ap channel_acts_in h.noted.appended ∙ h.noted.no_channels;
   job_acts = h.noted.added.mine ∙ ap (λ a. a ++ job_acts_in (items_in h.told)) on.no_job_acts ∙ ap job_acts_in (sym h.noted.appended);
   room = omega (arith, h.room);
-})
+}
 
 pub root_attached : (j : Floor) → Legal j.shape j.seen → is_some (replay j.seen 0) ≡ true
 root_attached j l = (by_entries j.shape j.seen 0 l).attached
 
-pub spawn_row : (p : Program) (block : ℕ) (c : ChannelFloor) (j : Floor) (f : Frame) → block < length p.blocks → IsForSpawn p block c j f → f.free < j.shape.coroutines
-spawn_row p block c j f lt h = let some = size_some p block lt in omega (arith, some, h.room, ap (λ (s : Shape). s.coroutines) h.jobs)
+pub spawn_row : (p : Program) (block : ℕ) (j : Floor) (f : Frame) → block < length p.blocks → IsForSpawn p block j f → f.free < j.shape.coroutines
+spawn_row p block j f lt h = let some = size_some p block lt in omega (arith, some, h.room, ap (λ (s : Shape). s.coroutines) h.jobs)
 
-pub spawn_short : (p : Program) (block : ℕ) (c : ChannelFloor) (j : Floor) (f : Frame) → IsProgram p → IsForSpawn p block c j f → f.free + size_of p block < 65536
-spawn_short p block c j f ok h = omega (arith, h.room, few_coroutines p ok)
+pub spawn_short : (p : Program) (block : ℕ) (j : Floor) (f : Frame) → IsProgram p → IsForSpawn p block j f → f.free + size_of p block < 65536
+spawn_short p block j f ok h = omega (arith, h.room, few_coroutines p ok)
 
 pub has_spawned : (p : Program) (block size : ℕ) (j j' : Floor) (f g : Frame) (now : Bool) → f.tag ≡ 0 → g.tag ≡ f.tag → config_of g ≡ record (config_of f) { free = f.free + size } → size ≡ size_of p block
     → ToldOnJobs f.tag (f.free ∷ []) j j' (items_of f) (items_of g) (did (Attach 0 f.free (child_kind false) f.free now) ∷ []) → HasSpawned p block j j' f g
@@ -253,14 +250,26 @@ refused_used j j' f g at claimed noted t config =
       refused = record { no_row = λ e. absurd (let u : ⊥ = cc in u); used = λ e. ap (λ (x : Config). is_some (j'.claims x.free)) goes ∙ claimed; none_ended = refl };
     }
 
-pub spawn_refused : (p : Program) (block : ℕ) (c : ChannelFloor) (j j' : Floor) (f g : Frame) (error : LaunchError) (mid : List Item) → (error ≡ launch.Used) ⊎ (error ≡ launch.ParentEnded) → Legal j'.shape j'.seen → IsForSpawn p block c j f
+-- channels on which nothing was done
+uncalled_channels : ChannelFloor
+uncalled_channels = record { shape = []; seen = []; spare = 0; alone = true; callers = λ t. true }
+
+nothing_done : acts_of 0 uncalled_channels.seen ≡ []
+unfolding acts_of uncalled_channels
+nothing_done = refl
+
+-- no memory
+pub spawn_cut : (c : ChannelFloor) (j j' : Floor) (f g : Frame) (error : LaunchError) → error ≡ launch.Memory → g.tag ≡ f.tag → LaunchAnswer f.tag 0 f.free false j j' (items_of f) (items_of g) (Err error) → CutShort c c j j' f g
+spawn_cut c j j' f g error is t answer = cut_jobs c c j j' f g refl t (subst (λ x. LaunchAnswer f.tag 0 f.free false j j' (items_of f) (items_of g) (Err x)) is answer)
+
+pub spawn_refused : (p : Program) (block : ℕ) (j j' : Floor) (f g : Frame) (error : LaunchError) (mid : List Item) → (error ≡ launch.Used) ⊎ (error ≡ launch.ParentEnded) → Legal j'.shape j'.seen → IsForSpawn p block j f
     → LaunchAnswer f.tag 0 f.free false j j' (items_of f) mid (Err error) → g.tag ≡ f.tag → config_of g ≡ at_stage (Unwinding (Some f.tag)) (config_of f) → items_of g ≡ mid → IsRefusedSpawn j j' f g
-spawn_refused p block c j j' f g error mid which l h answer t config items =
+spawn_refused p block j j' f g error mid which l h answer t config items =
     let answer : LaunchAnswer f.tag 0 f.free false j j' (items_of f) (items_of g) (Err error) = subst (λ i. LaunchAnswer f.tag 0 f.free false j j' (items_of f) i (Err error)) (sym items) answer in
     ⊎_elim
     (λ k. let q = subst (λ x. LaunchAnswer f.tag 0 f.free false j j' (items_of f) (items_of g) (Err x)) k answer in refused_used j j' f g h.tag q.0 q.1 t config)
     (λ k. let q = subst (λ x. LaunchAnswer f.tag 0 f.free false j j' (items_of f) (items_of g) (Err x)) k answer in
-    absurd (never_told_over 0 0 (f.free ∷ []) c j j' (items_of f) (items_of g) (knew known.ParentEnded ∷ []) l h.body.at h.channel_acts h.job_acts (subst (λ w. ToldOnJobs w (f.free ∷ []) j j' (items_of f) (items_of g) (on_jobs (HasEnded 0) ∷ knew known.ParentEnded ∷ [])) h.tag q)))
+    absurd (never_told_over 0 0 (f.free ∷ []) uncalled_channels j j' (items_of f) (items_of g) (knew known.ParentEnded ∷ []) l h.body.at (nothing_done ∙ sym h.no_channel_acts) h.job_acts (subst (λ w. ToldOnJobs w (f.free ∷ []) j j' (items_of f) (items_of g) (on_jobs (HasEnded 0) ∷ knew known.ParentEnded ∷ [])) h.tag q)))
     which
 
 -- ---- the spawns of a script
@@ -319,17 +328,3 @@ spawn_count p xs i z ok e lt =
   where
     few : (n : ℕ) → nat_le n 16000 ≡ true → n ≤ 16000
     few n h = grind (arith, nat_tests)
-
--- ---- the floors that are lent
-
-pub same_self : {C J W A B : Type 0} (channels : C → A) (jobs : J → B) (a : Floors C J W) → SameFloors channels jobs a a
-same_self channels jobs a = record { channels_lent = refl; jobs_lent = refl; wakes_lent = refl; channels_are = refl; jobs_are = refl }
-
-pub same_then : {C J W A B : Type 0} (channels : C → A) (jobs : J → B) (a b c : Floors C J W) → SameFloors channels jobs a b → SameFloors channels jobs b c → SameFloors channels jobs a c
-same_then channels jobs a b c h k = record {
-  channels_lent = k.channels_lent ∙ h.channels_lent;
-  jobs_lent = k.jobs_lent ∙ h.jobs_lent;
-  wakes_lent = k.wakes_lent ∙ h.wakes_lent;
-  channels_are = k.channels_are ∙ h.channels_are;
-  jobs_are = k.jobs_are ∙ h.jobs_are;
-}

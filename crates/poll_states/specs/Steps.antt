@@ -225,13 +225,16 @@ pub record IsNewRoot (f : Frame) : Type 0 where
   pub config : config_of f ≡ fresh 0
   pub book : items_of f ≡ []
 
--- the floors are those of the script, and main did nothing there yet
-pub record IsOnItsFloors (p : Program) (c : ChannelFloor) (j : Floor) : Type 0 where
+-- the channels are those of the script, and main did nothing there yet
+pub record IsOnItsChannels (p : Program) (c : ChannelFloor) : Type 0 where
   pub channels : c.shape ≡ floor_shape p
-  pub jobs : j.shape ≡ job_shape p
   pub of_channels : c.callers 0 ≡ true
-  pub of_jobs : j.callers 0 ≡ true
   pub no_channel_acts : channel_acts_of 0 c.seen ≡ []
+
+-- the Jobs are those of the script, and main did nothing there yet
+pub record IsOnItsJobs (p : Program) (j : Floor) : Type 0 where
+  pub jobs : j.shape ≡ job_shape p
+  pub of_jobs : j.callers 0 ≡ true
   pub no_job_acts : acts_of 0 j.seen ≡ []
   pub claims : (r : ℕ) → is_claimed_by 0 (j.claims r) ≡ is_among r (own_rows 0 [])
 
@@ -241,18 +244,17 @@ pub record BegunTo (p : Program) (c c' : ChannelFloor) (j j' : Floor) (f g : Fra
   pub stands : Stands p c' j' g
   pub dones : KeepsDones (base_of p) c c' j j' (items_of g)
 
-abbrev pub BeginAnswer : Program → ChannelFloor → ChannelFloor → Floor → Floor → Frame → Frame → Result (Unit {0}) Memory → Type 0
-BeginAnswer p c c' j j' f g (Ok done) = BegunTo p c c' j j' f g
-BeginAnswer p c c' j j' f g (Err m) = CutShort c c' j j' f g
+-- so it is beside any channels of the script
+abbrev pub BeginAnswer : Program → Floor → Floor → Frame → Frame → Result (Unit {0}) Memory → Type 0
+BeginAnswer p j j' f g (Ok done) = (c : ChannelFloor) → IsOnItsChannels p c → BegunTo p c c j j' f g
+BeginAnswer p j j' f g (Err m) = (c : ChannelFloor) → CutShort c c j j' f g
 
 -- main may attach an instance of this block to the root, which ended no body
-pub record IsForSpawn (p : Program) (block : ℕ) (c : ChannelFloor) (j : Floor) (f : Frame) : Type 0 where
+pub record IsForSpawn (p : Program) (block : ℕ) (j : Floor) (f : Frame) : Type 0 where
   pub tag : f.tag ≡ 0
-  pub channels : c.shape ≡ floor_shape p
-  pub of_channels : c.callers 0 ≡ true
   pub jobs : j.shape ≡ job_shape p
   pub body : HasBody 0 0 j
-  pub channel_acts : channel_acts_of 0 c.seen ≡ channel_acts_in (items_of f)
+  pub no_channel_acts : channel_acts_in (items_of f) ≡ []
   pub job_acts : acts_of 0 j.seen ≡ job_acts_in (items_of f)
   pub room : f.free + size_of p block ≤ coroutine_count p
 
@@ -272,7 +274,7 @@ pub record IsRefusedSpawn (j j' : Floor) (f g : Frame) : Type 0 where
   pub noted : ToldOnJobs 0 [] j j' (items_of f) (items_of g) told
   pub refused : RefusedByClaims (config_of g) (items_in told) j'
 
-abbrev pub SpawnAnswer : Program → ℕ → ChannelFloor → Floor → Floor → Frame → Frame → Result Bool Memory → Type 0
-SpawnAnswer p block c j j' f g (Ok true) = HasSpawned p block j j' f g
-SpawnAnswer p block c j j' f g (Ok false) = IsRefusedSpawn j j' f g
-SpawnAnswer p block c j j' f g (Err m) = CutShort c c j j' f g
+abbrev pub SpawnAnswer : Program → ℕ → Floor → Floor → Frame → Frame → Result Bool Memory → Type 0
+SpawnAnswer p block j j' f g (Ok true) = HasSpawned p block j j' f g
+SpawnAnswer p block j j' f g (Ok false) = IsRefusedSpawn j j' f g
+SpawnAnswer p block j j' f g (Err m) = (c : ChannelFloor) → CutShort c c j j' f g

@@ -1,19 +1,22 @@
 //! A coroutine between two moves, and what is left of a run.
 
-ghost use Rattle.std.specs.Prelude.{◌≡◌, ◌+◌, ◌^◌, ◌<◌, ◌++◌, ◌∷◌, [], length, vec_len, vec_capacity};
+ghost use Rattle.std.specs.Prelude.{◌≡◌, ◌+◌, ◌^◌, ◌<◌, ◌++◌, ◌∷◌, [], length, vec_len, vec_capacity, IfOk};
 ghost use Rattle.note_book.specs.Books.{notes_of, spare_of};
 ghost use Rattle.note_book.specs.declared.book.Item.TheVariants as item;
 ghost use Rattle.job_model.specs.declared.acts.JobNote.TheVariants as known;
-ghost use Rattle.script_meaning.specs.declared.stage.Stage.TheVariants.{Fresh, Waiting, Unwinding};
-ghost use Rattle.script_meaning.specs.Configs.{at_stage, at_line, next, set_row, named, operand, received};
-ghost use Rattle.poll_states.specs.Frames.{config_of, items_of};
+ghost use Rattle.script_meaning.specs.declared.stage.Stage.TheVariants.{Waiting, Unwinding};
+ghost use Rattle.script_meaning.specs.Configs.{at_stage, at_line, next, set_row, named, operand, received, fresh};
+ghost use Rattle.script_grammar.specs.Tags.{coroutine_count};
+ghost use Rattle.script_reader.specs.Scripts.{program_of};
+ghost use Rattle.poll_states.specs.Frames.{config_of, items_of, acts_in};
 
 use crate::entered::Entered;
-use co_base::{Row, Tag, Value, WaitId};
+use channel_model::ChannelNote;
+use co_base::{Memory, Row, Tag, Value, WaitId};
 use job_model::{End, JobNote};
 use note_book::{Item, NoteBook, Notes};
 use script_meaning::Stage;
-use script_reader::Operand;
+use script_reader::{Operand, Script};
 use std::alloc::Global;
 
 /// A coroutine between two moves.
@@ -47,21 +50,37 @@ pub struct Done {
     pub end: Option<End>,
 }
 
+/// 1 for the note of an act, and 0 for any other.
+fn acts_of_item(item: &Item) -> u64
+    ensures { result ≡ acts_in (item.now ∷ []) }
+{
+    match item {
+        Item::Channel(ChannelNote::Made(_)) | Item::Job(JobNote::Made(_)) => 1,
+        Item::Channel(_) | Item::Job(_) => 0,
+    }
+}
+
+/// How many of so many notes are of acts.
+fn count_acts(items: &[Item], notes: usize) -> u64
+    requires notes { notes ≡ length items.now }
+    ensures { result ≡ acts_in items.now }
+{
+    let mut acts = 0u64;
+    for item in items {
+        acts += acts_of_item(item);
+    }
+    acts
+}
+
 impl Frame {
-    /// A coroutine that has not begun. What it launches has the tags after its own.
-    pub fn new(alloc: Global, tag: Tag) -> Frame
-        ensures tag { result.tag ≡ tag }
-        ensures line { result.line ≡ 0 }
-        ensures stage { result.stage ≡ Fresh }
-        ensures entered { result.entered.items ≡ [] }
-        ensures value { result.result ≡ 0 }
-        ensures rows { result.rows.items ≡ [] }
-        ensures free { result.free ≡ tag + 1 }
-        ensures it { result.it ≡ 0 }
-        ensures sum { result.sum ≡ 0 }
-        ensures book { notes_of result.book ≡ [] }
+    /// A coroutine of the script that has not begun. What it launches has the tags after its own.
+    pub fn new(alloc: Global, script: &Script, tag: Tag) -> Result<Frame, Memory>
+        requires tag { tag < coroutine_count (program_of script.now) }
+        ensures tag { IfOk result (λ frame. frame.tag ≡ tag) }
+        ensures config { IfOk result (λ frame. config_of frame ≡ fresh tag) }
+        ensures book { IfOk result (λ frame. items_of frame ≡ []) }
     {
-        Frame {
+        Ok(Frame {
             tag,
             line: 0,
             stage: Stage::Fresh,
@@ -72,7 +91,7 @@ impl Frame {
             it: 0,
             sum: 0,
             book: Notes::new(alloc),
-        }
+        })
     }
 
     /// The coroutine's tag.
@@ -192,6 +211,14 @@ impl Frame {
         ensures { result ≡ length (notes_of self.now.book) }
     {
         self.book.items().len()
+    }
+
+    /// How many acts its book has, as the models count them: entries that it made, and not what it saw. A poll added an entry exactly
+    /// where this rose.
+    pub fn acts(&self) -> u64
+        ensures { result ≡ acts_in (items_of self.now) }
+    {
+        count_acts(self.book.items(), self.notes())
     }
 
     /// The book alone. Takes no memory.

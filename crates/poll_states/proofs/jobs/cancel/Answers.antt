@@ -3,7 +3,7 @@ use Rattle.std.proofs.lemmas.Option.{slice_get_read}
 use Rattle.script_reader.specs.Scripts.{program_of}
 use Rattle.poll_states.proofs.Standing.{line_short, named_attached}
 use Rattle.poll_states.proofs.LineNeeds.{stands_build, knows_name, all_same}
-use Rattle.poll_states.proofs.Stepping.{cut_jobs}
+use Rattle.poll_states.proofs.Stepping.{cut_pass}
 use Rattle.poll_states.proofs.JobLines.{has_cancelled}
 use Rattle.poll_states.proofs.jobs.cancel.Goals as goal
 
@@ -24,4 +24,4 @@ returns-in-Ok-clause-came g c =
     has_cancelled (program_of c.args.script.now) _ _ _ _ _ _ _ _ c.in-Ok.field-0 (ap g.C.ChannelFloor.view c.in-Ok.ensures.channels) (g.met.J.JobFloor.legal c.cancel-answer.new.self.jobs.now) c.requires.stands c.requires.at (slice_get_read _ _ _ _ refl (knows_name _ _ _ _ _ _ c.args.script.now.well_formed (g.met.J.JobFloor.legal c.args.floors.now.jobs.now) c.requires.stands c.requires.at refl) c.index-row.ensures) (all_same _ _ _ _ _ _ _ _ c.in-Ok.ensures.answer c.next_line.ensures.items) c.next_line.ensures.tag c.next_line.ensures.config
 
 pub returns-in-Err-clause-came : goal.returns-in-Err-clause-came
-returns-in-Err-clause-came g c = cut_jobs _ _ _ _ _ _ (ap g.C.ChannelFloor.view c.in-Err.ensures.channels) refl c.in-Err.ensures.answer
+returns-in-Err-clause-came g c = cut_pass _ _ _ _ _ _ _ (ap g.C.ChannelFloor.view c.in-Err.ensures.channels) refl c.in-Err.ensures.answer
