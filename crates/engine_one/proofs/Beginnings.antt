@@ -28,7 +28,7 @@ use Rattle.script_meaning.specs.Books.{story, Runs, Reaches, Begins, is_refusal}
 use Rattle.script_meaning.specs.Polls.{own_rows}
 use Rattle.poll_states.specs.declared.frame.Frame.{Frame}
 use Rattle.poll_states.specs.Frames.{frame_of, config_of, items_of}
-use Rattle.poll_states.specs.Steps.{IsNewRoot, IsOnItsFloors, BegunTo}
+use Rattle.poll_states.specs.Steps.{IsNewRoot, IsOnItsChannels, IsOnItsJobs, BegunTo}
 use Rattle.poll_states.proofs.LaterStands.{same_job_acts, same_claims, claims_within}
 use Rattle.script_meaning.proofs.NoRefusals.{AreClaimed, begun_never, is_among-rows_in}
 use Rattle.engine_one.specs.Coroutines.{Scene, FrameStands, StandsAt, AllStand}
@@ -88,16 +88,11 @@ nothing_closed base c j e r lt closed =
 pub root_is_new : (frames : List Frame) (f : Frame) → AllMade frames → slice_get frames 0 ≡ Some f → IsNewRoot f
 root_is_new frames f all e = let made = made_at frames 0 f all e in record { tag = made.tag; config = made.config; book = made.book }
 
-pub root_is_on : (p : Program) (c : Floor) (j : JobFloor) → HasNoCalls p c → HasNoJobs p j → IsOnItsFloors p c j
-root_is_on p c j calls jobs = record {
-  channels = calls.shape;
-  jobs = jobs.fresh.shape;
-  of_channels = calls.callers 0;
-  of_jobs = jobs.callers 0;
-  no_channel_acts = no_calls_yet 0 c calls.seen;
-  no_job_acts = no_jobs_yet 0 j jobs.fresh.seen;
-  claims = λ r. claims_yet p j 0 r jobs;
-}
+pub root_on_channels : (p : Program) (c : Floor) → HasNoCalls p c → IsOnItsChannels p c
+root_on_channels p c calls = record { channels = calls.shape; of_channels = calls.callers 0; no_channel_acts = no_calls_yet 0 c calls.seen }
+
+pub root_on_jobs : (p : Program) (j : JobFloor) → HasNoJobs p j → IsOnItsJobs p j
+root_on_jobs p j jobs = record { jobs = jobs.fresh.shape; of_jobs = jobs.callers 0; no_job_acts = no_jobs_yet 0 j jobs.fresh.seen; claims = λ r. claims_yet p j 0 r jobs }
 
 -- ---- all frames, after the root has begun
 

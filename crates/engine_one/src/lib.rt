@@ -11,6 +11,7 @@
 //! - `finish`: what a run leaves.
 //! - `locked`: a whole run by several workers.
 //! - `shared`: what they share, under a lock.
+//! - `workers`: a whole run by one worker or several.
 #![tactic(auto)]
 
 mod finish;
@@ -19,7 +20,11 @@ mod ready_tags;
 mod run;
 mod shared;
 mod start;
+#[cfg(test)]
+mod tests;
 mod turns;
+mod workers;
 
 pub use locked::run_locked;
 pub use run::{ListRun, run_one};
+pub use workers::run_by;

@@ -95,7 +95,8 @@ impl Run<ListFloor, TreeFloor> {
         requires { AllStand (program_of script.now) (scene (floor_of self.old.channels) (tree_of self.old.jobs)) self.old.frames.items }
         ensures stand { OnOk result (AllStand (program_of script.now)
             (scene (floor_of self.new.channels) (tree_of self.new.jobs)) self.new.frames.items) }
-        ensures left { IfOk result (λ over. LeftWhere over (scene (floor_of self.new.channels) (tree_of self.new.jobs)) self.new.frames.items) }
+        ensures left { IfOk result (λ over. LeftWhere over
+            (scene (floor_of self.new.channels) (tree_of self.new.jobs)) self.new.frames.items) }
         ensures fewer { IfOk result (λ over. over ≡ false →
             turns_left (program_of script.now) (scene (floor_of self.new.channels) (tree_of self.new.jobs)) self.new.frames.items
             self.new.ready.tags.items

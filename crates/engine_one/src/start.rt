@@ -12,10 +12,10 @@ ghost use Rattle.engine_one.specs.Starting.{AllMade, HasNoCalls, HasNoJobs};
 use crate::ready_tags::ReadyTags;
 use crate::run::Run;
 use channel_model::{ChannelFloor, Kind};
-use co_base::Memory;
+use co_base::{Memory, Tag};
 use job_model::JobFloor;
 use one_thread_floor::{ListFloor, TreeFloor};
-use poll_states::{Floors, Frame, begin};
+use poll_states::{Frame, begin};
 use script_reader::Script;
 use std::alloc::Global;
 
@@ -43,14 +43,22 @@ impl<C: ChannelFloor, J: JobFloor> Run<C, J> {
         ensures { OnOk result (AllStand (program_of script.now)
             (scene (C.view self.new.channels) (J.view self.new.jobs)) self.new.frames.items) }
     {
-        self.ready.add(0);
-        let mut floors = Floors {
-            channels: &mut self.channels,
-            jobs: &mut self.jobs,
-            wakes: &mut self.ready,
-        };
-        begin(script, &mut self.frames[0], &mut floors)?;
+        begin(script, &mut self.frames[0], &mut self.jobs)?;
+        add_begun(&mut self.ready, script);
         Ok(())
+    }
+}
+
+/// Main is to be polled, and after it each spawned coroutine, in the order of their tags.
+fn add_begun(ready: &mut ReadyTags, script: &Script) {
+    ready.add(0);
+    let mut tag: Tag = 1;
+    for spawn in script.spawns() {
+        let size = script.size_of(spawn.coroutine);
+        for _instance in 0..spawn.count {
+            ready.add(tag);
+            tag = tag.saturating_add(size);
+        }
     }
 }
 
@@ -99,7 +107,7 @@ fn frames_of(alloc: Global, script: &Script) -> Result<Vec<Frame>, Memory>
     let count = script.coroutines();
     let mut frames = Vec::with_capacity(alloc, count as usize)?;
     for tag in 0..count {
-        frames.push(Frame::new(alloc, tag))?;
+        frames.push(Frame::new(alloc, script, tag)?)?;
     }
     Ok(frames)
 }

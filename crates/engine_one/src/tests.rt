@@ -1,0 +1,152 @@
+//! Runs by several workers, told by what holds under every schedule.
+
+ghost use Rattle.std.specs.Prelude.{◌≤◌};
+
+use crate::workers::run_by;
+use channel_model::{Act, ChannelNote, Settled};
+use co_base::{Memory, OpenGate};
+use job_model::End;
+use note_book::{Item, Notes};
+use script_reader::{Script, generate, read};
+use std::alloc::Global;
+use std::sync::Wait;
+use std::test::Fail;
+use std::thread::Threads;
+
+/// Three coroutines send to four that add up, in a scope that ends before the channel is closed.
+const SCOPE_OF_SENDERS: &str = "\
+channel a buffered
+coroutine p
+repeat 2500
+send a 2
+end
+end
+coroutine q
+repeat 5000
+send a 1
+end
+end
+coroutine c
+each a
+end
+result sum
+end
+coroutine main
+async c as c1
+async c as c2
+async c as c3
+async c as c4
+scope
+launch p
+launch p
+launch q
+end
+close a
+await c1
+await c2
+await c3
+await c4
+result sum
+end
+";
+
+/// A select receives what two coroutines of a scope send.
+const SELECT_IN_A_SCOPE: &str = "\
+channel a rendezvous
+channel b rendezvous
+coroutine p
+repeat 100
+send a 1
+end
+end
+coroutine q
+repeat 100
+send b 2
+end
+end
+coroutine main
+scope
+launch p
+launch q
+repeat 200
+select
+onreceive a
+onreceive b
+end
+end
+end
+result sum
+end
+";
+
+/// The script of a text.
+fn script_of(alloc: Global, text: &str) -> Result<Script, Memory> {
+    match read(alloc, text.as_bytes()) {
+        Ok(script) => Ok(script),
+        Err(_) => Err(Memory),
+    }
+}
+
+/// One where an item tells that an element was received, and nothing else.
+fn received_by(item: &Item) -> u32 {
+    match item {
+        Item::Channel(ChannelNote::Made(Act::Take { .. })) => 1,
+        Item::Channel(ChannelNote::Made(Act::Settle { outcome, .. })) => match outcome {
+            Settled::Value(..) => 1,
+            _ => 0,
+        },
+        _ => 0,
+    }
+}
+
+/// How many elements were received, by the books.
+fn received(books: &[Notes]) -> u32 {
+    let mut count = 0u32;
+    for book in books {
+        for item in book.items() {
+            count = count.wrapping_add(received_by(item));
+        }
+    }
+    count
+}
+
+/// How the root has ended, how many books there are, and how many elements were received, in a run by so many workers.
+fn comes_to<R: Threads + Wait + Sync>(
+    rt: &R,
+    alloc: Global,
+    script: &Script,
+    workers: u8,
+) -> Result<(Option<End>, usize, u32), Memory>
+    requires { (1 ≤ workers) × (workers ≤ 16) }
+{
+    let run = run_by(rt, alloc, script, workers, &OpenGate)?;
+    let books = run.done.books.as_slice();
+    Ok((run.done.end, books.len(), received(books)))
+}
+
+#[test]
+fn any_number_of_workers_comes_to_the_same(rt: HostRuntime) -> Result<(), Fail> {
+    let alloc = rt.alloc();
+    let senders = script_of(alloc, SCOPE_OF_SENDERS)?;
+    assert_eq!(rt; senders.coroutines(), 8);
+    assert_eq!(rt; senders.scopes(), 1);
+    let wanted = (Some(End::Completed(15_000)), 8, 10_000);
+    assert_eq!(rt; comes_to(&rt, alloc, &senders, 1)?, wanted);
+    assert_eq!(rt; comes_to(&rt, alloc, &senders, 4)?, wanted);
+    assert_eq!(rt; comes_to(&rt, alloc, &senders, 16)?, wanted);
+    let select = script_of(alloc, SELECT_IN_A_SCOPE)?;
+    assert_eq!(rt; select.coroutines(), 3);
+    assert_eq!(rt; select.scopes(), 1);
+    let wanted = (Some(End::Completed(300)), 3, 200);
+    assert_eq!(rt; comes_to(&rt, alloc, &select, 1)?, wanted);
+    assert_eq!(rt; comes_to(&rt, alloc, &select, 4)?, wanted);
+    assert_eq!(rt; comes_to(&rt, alloc, &select, 16)?, wanted);
+    let pipeline = generate(alloc, 1000)?;
+    assert_eq!(rt; pipeline.coroutines(), 10);
+    assert_eq!(rt; pipeline.scopes(), 1);
+    let wanted = (Some(End::Completed(10_000)), 10, 8_000);
+    assert_eq!(rt; comes_to(&rt, alloc, &pipeline, 1)?, wanted);
+    assert_eq!(rt; comes_to(&rt, alloc, &pipeline, 4)?, wanted);
+    assert_eq!(rt; comes_to(&rt, alloc, &pipeline, 16)?, wanted);
+    Ok(())
+}
