@@ -7,7 +7,7 @@ use Rattle.channel_model.specs.declared.acts.Fate.TheVariants as fate
 use Rattle.co_base.specs.declared.names.WaitId.{WaitId}
 use Rattle.channel_model.specs.Fates.{takes, hands, admits, drains, offers_at, first_some, withdraws, settles_value, settles_undelivered, element_at, wait_at, of_wait, of_offer, is_dropped, resolves_at, resolves_elsewhere, is_chosen_elsewhere}
 use Rattle.run_report.specs.declared.facts.Facts.{Facts}
-use Rattle.run_report.specs.Facts.{facts_of}
+use Rattle.run_report.specs.Facts.{facts_of, nothing}
 use Rattle.run_report.specs.Resolutions.{is_resolved_at, is_resolved_elsewhere}
 use Rattle.run_report.specs.Elements.{with_fate, element_of}
 use Rattle.run_report.specs.Known.{facts_of_wait, fate_by, element_from}
@@ -51,3 +51,7 @@ element_from-tables facts elsewhere acts f e =
     let same : (c p : ℕ) (w : WaitId) → elsewhere c p w ≡ is_chosen_elsewhere c p w acts =
     λ c p w. e c p w ∙ (λ i. is_resolved_elsewhere (λ d q. (f d q i).wait) c p w acts) ∙ is_resolved_elsewhere-same acts c p w in
     (λ i. element_from (λ c p. f c p i) (λ c p w. same c p w i)) ∙ (λ i c p. element_from-exact acts c p i)
+
+-- a place of which nothing is known has no element
+pub no_element : (here : Facts) (f : Fate) → here ≡ nothing → with_fate here.element f ≡ None
+no_element here f e = ap (λ (x : Facts). with_fate x.element f) e

@@ -4,3 +4,4 @@ pub mod Told
 pub mod Said
 pub mod Deduced
 pub mod Lines
+pub mod CountedOn

@@ -1,7 +1,7 @@
 -- Lines that are written one after the other.
-use Rattle.std.proofs.Common.{◌≡◌, ℕ, zero, suc, ◌+◌, ◌<◌, length, List, [], ◌∷◌, ◌++◌, map, Option, refl, sym, ap, subst, ◌∙◌, arith}
+use Rattle.std.proofs.Common.{◌≡◌, ℕ, zero, suc, ◌+◌, ◌<◌, ◌≤◌, length, List, [], ◌∷◌, ◌++◌, map, Option, refl, sym, ap, subst, ◌∙◌, arith}
 use Rattle.std.specs.List.{flat_map, range_with_len}
-use Rattle.std.proofs.lemmas.List.{append_assoc, flat_map_more}
+use Rattle.std.proofs.lemmas.List.{append-nil, append_assoc, flat_map_more}
 use Rattle.std.proofs.lemmas.List.FromFn.{map-range_with_len_more}
 use Rattle.channel_model.specs.declared.acts.Fate.{Fate}
 use Rattle.script_reader.specs.declared.script.Channel.{Channel}
@@ -16,7 +16,7 @@ map-same : {A : Type 0} (xs : List A) → map (λ x. x) xs ≡ xs
 map-same [] = refl
 map-same (x ∷ xs) = ap (λ l. x ∷ l) (map-same xs)
 
-range_with_len-more : (n : ℕ) → range_with_len 0 (n + 1) ≡ range_with_len 0 n ++ n ∷ []
+pub range_with_len-more : (n : ℕ) → range_with_len 0 (n + 1) ≡ range_with_len 0 n ++ n ∷ []
 range_with_len-more n =
     sym (map-same (range_with_len 0 (n + 1))) ∙ map-range_with_len_more (λ k. k) 0 n n (omega arith) ∙ ap (λ l. l ++ n ∷ []) (map-same (range_with_len 0 n))
 
@@ -30,6 +30,17 @@ places_more f out before new n b e =
     ∙ ap (λ l. l ++ f n) b
     ∙ append_assoc out (flat_map f (range_with_len 0 n)) (f n)
     ∙ ap (λ l. out ++ l) (sym (flat_map-range_more f n))
+
+-- no line stands behind the last place that has one
+pub places_end : (f : ℕ → List ℕ) (m k n : ℕ) → m + k ≡ n → ((p : ℕ) → m ≤ p → f p ≡ []) → flat_map f (range_with_len 0 n) ≡ flat_map f (range_with_len 0 m)
+places_end f m zero n e h = ap (λ (j : ℕ). flat_map f (range_with_len 0 j)) (omega (arith, e))
+places_end f m (suc k) n e h =
+    let s : n ≡ (m + k) + 1 = omega (arith, e) in
+    ap (λ (j : ℕ). flat_map f (range_with_len 0 j)) s
+    ∙ flat_map-range_more f (m + k)
+    ∙ ap (λ (l : List ℕ). flat_map f (range_with_len 0 (m + k)) ++ l) (h (m + k) (omega arith))
+    ∙ append-nil (flat_map f (range_with_len 0 (m + k)))
+    ∙ places_end f m k (m + k) refl h
 
 -- the lines of one channel more
 pub channels_more : (elements : ℕ → ℕ → Option (ℕ × Fate)) (c : ℕ) (out new all : List ℕ) (channel : Channel) (rest more : List Channel)

@@ -34,7 +34,8 @@ element_of acts c p = with_fate (element_at c p acts) (fate_at c p acts)
 
 -- the line of an element, with the word for its fate
 abbrev pub fate_line : List ℕ → ℕ → ℕ → List ℕ → List ℕ
-fate_line name place value word = codes "element " ++ name ++ codes " " ++ decimal place ++ codes " " ++ decimal value ++ codes " " ++ word ++ codes "\n"
+fate_line name place value word =
+    codes "element " ++ name ++ codes " " ++ decimal place ++ codes " " ++ decimal value ++ codes " " ++ word ++ codes "\n"
 
 -- the line of an element; one that was received has none
 abbrev pub unless_received : List ℕ → ℕ → ℕ → Fate → List ℕ

@@ -9,7 +9,19 @@ use Rattle.run_report.specs.declared.facts.Facts.{Facts}
 
 -- what no act says anything of
 abbrev pub nothing : Facts
-nothing = record { element = None; wait = None; clause = None; handed = false; taken = false; admitted = false; dropped = false; drained = false; received = false; gave_up = false; withdrawn = false }
+nothing = record {
+  element = None;
+  wait = None;
+  clause = None;
+  handed = false;
+  taken = false;
+  admitted = false;
+  dropped = false;
+  drained = false;
+  received = false;
+  gave_up = false;
+  withdrawn = false;
+}
 
 -- what all these acts say of a place, and of the wait that is named by it
 abbrev pub facts_of : ℕ → ℕ → List Act → Facts

@@ -49,7 +49,9 @@ end_text (ends.Cancelled cause) = cause_text cause
 
 -- an act: its word, and then what it names
 abbrev pub job_act_text : JobAct → List ℕ
-job_act_text (Attach parent row kind tag cancelled) = codes "attach " ++ decimal row ++ codes " to " ++ decimal parent ++ codes " tag " ++ decimal tag ++ codes " " ++ attached_text kind cancelled
+job_act_text (Attach parent row kind tag cancelled) =
+    codes "attach " ++ decimal row ++ codes " to " ++ decimal parent ++ codes " tag " ++ decimal tag
+    ++ codes " " ++ attached_text kind cancelled
 job_act_text (Start row) = codes "start " ++ decimal row
 job_act_text (EndBody row value) = codes "endbody " ++ decimal row ++ codes " " ++ decimal value
 job_act_text (Cancel row reason) = codes "cancel " ++ decimal row ++ codes " " ++ reason_text reason

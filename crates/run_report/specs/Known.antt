@@ -1,5 +1,5 @@
 -- The fate of an element, from what is known of its place and of its wait.
-use Rattle.std.specs.Prelude.{ℕ, ◌==◌, nat_lt, Bool, not, ◌&&◌, ◌||◌, Option, Some, None, if◌then◌else◌}
+use Rattle.std.specs.Prelude.{◌≡◌, ℕ, ◌==◌, nat_lt, Bool, not, ◌&&◌, ◌||◌, Option, Some, None, if◌then◌else◌}
 use Rattle.co_base.specs.declared.names.WaitId.{WaitId}
 use Rattle.channel_model.specs.declared.acts.Fate.{Fate}
 use Rattle.channel_model.specs.declared.acts.Fate.TheVariants as fate
@@ -54,3 +54,7 @@ elsewhere_in known c p w = is_elsewhere c p (value_at known.resolved w.channel w
 -- the element of a place with its fate, from the two tables
 abbrev pub element_in : Known → ℕ → ℕ → Option (ℕ × Fate)
 element_in known = element_from (value_at known.facts) (elsewhere_in known)
+
+-- where no act names a place, nothing is known of it
+abbrev pub IsPlain : Known → Type 0
+IsPlain known = known.facts.plain ≡ nothing

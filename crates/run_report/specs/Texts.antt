@@ -54,8 +54,11 @@ settled_text (settled.Undelivered value) = codes "undelivered " ++ decimal value
 abbrev pub act_text : List Declared → Act → List ℕ
 act_text channels (Hand c place value) = codes "hand " ++ place_text channels c place ++ codes " " ++ decimal value
 act_text channels (Put c place value) = codes "put " ++ place_text channels c place ++ codes " " ++ decimal value
-act_text channels (Offer c place value w clause) = codes "offer " ++ place_text channels c place ++ codes " " ++ decimal value ++ codes " " ++ wait_text channels w ++ codes " " ++ decimal clause
-act_text channels (Await c place w clause) = codes "await " ++ place_text channels c place ++ codes " " ++ wait_text channels w ++ codes " " ++ decimal clause
+act_text channels (Offer c place value w clause) =
+    codes "offer " ++ place_text channels c place ++ codes " " ++ decimal value
+    ++ codes " " ++ wait_text channels w ++ codes " " ++ decimal clause
+act_text channels (Await c place w clause) =
+    codes "await " ++ place_text channels c place ++ codes " " ++ wait_text channels w ++ codes " " ++ decimal clause
 act_text channels (Take c place value) = codes "take " ++ place_text channels c place ++ codes " " ++ decimal value
 act_text channels (Admit c place) = codes "admit " ++ place_text channels c place
 act_text channels (Drop c place value) = codes "drop " ++ place_text channels c place ++ codes " " ++ decimal value
@@ -69,8 +72,10 @@ act_text channels (Settle w outcome) = codes "settle " ++ wait_text channels w +
 -- a note on a channel: an act, or the answer of a call that made none
 abbrev pub channel_note_text : List Declared → ChannelNote → List ℕ
 channel_note_text channels (note.Made act) = act_text channels act
-channel_note_text channels (note.SendClosed c value v) = codes "sendclosed " ++ channel_text channels c ++ codes " " ++ decimal value ++ codes " " ++ decimal v
-channel_note_text channels (note.TrySendClosed c value v) = codes "trysendclosed " ++ channel_text channels c ++ codes " " ++ decimal value ++ codes " " ++ decimal v
+channel_note_text channels (note.SendClosed c value v) =
+    codes "sendclosed " ++ channel_text channels c ++ codes " " ++ decimal value ++ codes " " ++ decimal v
+channel_note_text channels (note.TrySendClosed c value v) =
+    codes "trysendclosed " ++ channel_text channels c ++ codes " " ++ decimal value ++ codes " " ++ decimal v
 channel_note_text channels (note.ReceiveClosed c v) = codes "receiveclosed " ++ channel_text channels c ++ codes " " ++ decimal v
 channel_note_text channels (note.TryReceiveClosed c v) = codes "tryreceiveclosed " ++ channel_text channels c ++ codes " " ++ decimal v
 channel_note_text channels (note.AlreadyClosed c v) = codes "alreadyclosed " ++ channel_text channels c ++ codes " " ++ decimal v

@@ -17,7 +17,8 @@ pub(crate) fn push_books(
     channels: &[Channel],
     books: &[Book],
 ) -> Result<(), AllocError>
-    ensures { OnOk result (string_bytes out.new ≡ string_bytes out.old ++ books_text (map declared_of channels.now) 0 (map notes_of books.now)) }
+    ensures { OnOk result (string_bytes out.new
+        ≡ string_bytes out.old ++ books_text (map declared_of channels.now) 0 (map notes_of books.now)) }
 {
     let mut rest = books;
     let mut tag = 0usize;

@@ -3,7 +3,7 @@
 ghost use Rattle.std.specs.Prelude.{◌≡◌, ◌<◌, ◌++◌, length, map, string_bytes, OnOk};
 ghost use Rattle.script_reader.specs.Programs.{declared_of};
 ghost use Rattle.run_report.specs.Elements.{element_line, elements_text, places_text, unless_received};
-ghost use Rattle.run_report.specs.Known.{element_in};
+ghost use Rattle.run_report.specs.Known.{IsPlain, element_in};
 
 use crate::fates::Known;
 use channel_model::Fate;
@@ -17,8 +17,10 @@ pub(crate) fn push_elements(
     channels: &[Channel],
     known: &Known,
 ) -> Result<(), AllocError>
-    requires { length channels.now < 65536 }
-    ensures { OnOk result (string_bytes out.new ≡ string_bytes out.old ++ elements_text (element_in known.now) 0 (map declared_of channels.now)) }
+    requires few { length channels.now < 65536 }
+    requires plain { IsPlain known.now }
+    ensures { OnOk result (string_bytes out.new
+        ≡ string_bytes out.old ++ elements_text (element_in known.now) 0 (map declared_of channels.now)) }
 {
     let mut c: ChannelId = 0;
     for channel in channels {
@@ -35,9 +37,15 @@ fn push_places(
     channel: &Channel,
     known: &Known,
 ) -> Result<(), AllocError>
-    ensures { OnOk result (string_bytes out.new ≡ string_bytes out.old ++ places_text (element_in known.now) c (declared_of channel.now)) }
+    requires plain { IsPlain known.now }
+    ensures { OnOk result (string_bytes out.new
+        ≡ string_bytes out.old ++ places_text (element_in known.now) c (declared_of channel.now)) }
 {
+    let reach = known.reach(c);
     for place in 0..channel.places {
+        if reach <= place as usize {
+            return Ok(());
+        }
         push_element(out, channel, place, known.element(c, place))?;
     }
     Ok(())

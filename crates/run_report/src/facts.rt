@@ -49,7 +49,8 @@ pub(crate) const NOTHING: Facts = Facts {
 
 /// What all these acts say of each place.
 pub(crate) fn facts_in(alloc: Global, acts: &[Act]) -> Result<Table<Facts>, AllocError>
-    ensures { IfOk result (λ table. (c p : ℕ) → value_at table c p ≡ facts_of c p acts.now) }
+    ensures plain { IfOk result (λ table. table.plain ≡ nothing) }
+    ensures facts { IfOk result (λ table. (c p : ℕ) → value_at table c p ≡ facts_of c p acts.now) }
 {
     let mut table = Table::new(alloc, NOTHING);
     for act in acts {
@@ -60,7 +61,8 @@ pub(crate) fn facts_in(alloc: Global, acts: &[Act]) -> Result<Table<Facts>, Allo
 
 /// Adds what one act says to what those before it said.
 fn add_act(alloc: Global, table: &mut Table<Facts>, act: Act) -> Result<(), AllocError>
-    ensures { OnOk result ((c p : ℕ) → value_at table.new c p ≡ joined (value_at table.old c p) (told_at c p (told act))) }
+    ensures plain { table.new.plain ≡ table.old.plain }
+    ensures joined { OnOk result ((c p : ℕ) → value_at table.new c p ≡ joined (value_at table.old c p) (told_at c p (told act))) }
 {
     match told_of(act) {
         Some((at, facts)) => {

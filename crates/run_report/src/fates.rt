@@ -1,8 +1,8 @@
 //! What became of each element, from one look at all acts and a second one at those that resolve a wait.
 
-ghost use Rattle.std.specs.Prelude.{◌≡◌, IfOk};
+ghost use Rattle.std.specs.Prelude.{◌≡◌, ◌≤◌, ℕ, None, IfOk};
 ghost use Rattle.run_report.specs.Elements.{element_of};
-ghost use Rattle.run_report.specs.Known.{element_in, fate_by, has_given_up, has_left, has_received, has_withdrawn};
+ghost use Rattle.run_report.specs.Known.{IsPlain, element_in, fate_by, has_given_up, has_left, has_received, has_withdrawn};
 
 use crate::facts::{Facts, NOTHING, facts_in};
 use crate::resolutions::{Resolved, resolutions_in};
@@ -21,11 +21,20 @@ pub(crate) struct Known {
 impl Known {
     /// What these acts make known.
     pub(crate) fn from_acts(alloc: Global, acts: &[Act]) -> Result<Known, AllocError>
-        ensures { IfOk result (λ known. element_in known ≡ element_of acts.now) }
+        ensures plain { IfOk result (λ known. IsPlain known) }
+        ensures elements { IfOk result (λ known. element_in known ≡ element_of acts.now) }
     {
         let facts = facts_in(alloc, acts)?;
         let resolved = resolutions_in(alloc, &facts, acts)?;
         Ok(Known { facts, resolved })
+    }
+
+    /// At this place of a channel, and at all behind it, there is no element.
+    pub(crate) fn reach(&self, c: ChannelId) -> usize
+        requires plain { IsPlain self.now }
+        ensures { (p : ℕ) → result ≤ p → element_in self.now c p ≡ None }
+    {
+        self.facts.reach(c)
     }
 
     /// The element of a place, and what became of it.

@@ -43,7 +43,8 @@ pub(crate) fn job_facts_in(
     books: &[Book],
 ) -> Result<Vec<JobFacts>, AllocError>
     ensures rows { IfOk result (λ table. length table.items ≡ rows) }
-    ensures facts { IfOk result (λ table. (r : ℕ) → r < rows → facts_at table.items r ≡ job_facts_of r (job_acts_noted (map notes_of books.now))) }
+    ensures facts { IfOk result (λ table. (r : ℕ) → r < rows
+        → facts_at table.items r ≡ job_facts_of r (job_acts_noted (map notes_of books.now))) }
 {
     let mut table = vec![in alloc; NOTHING_SAID; rows as usize]?;
     add_books(table.as_mut_slice(), books);
@@ -52,7 +53,8 @@ pub(crate) fn job_facts_in(
 
 /// Adds what the acts of these books say to what those before them said.
 fn add_books(table: &mut [JobFacts], books: &[Book])
-    ensures { (r : ℕ) → r < length table.old → facts_at table.new r ≡ both_said (facts_at table.old r) (job_facts_of r (job_acts_noted (map notes_of books.now))) }
+    ensures { (r : ℕ) → r < length table.old
+        → facts_at table.new r ≡ both_said (facts_at table.old r) (job_facts_of r (job_acts_noted (map notes_of books.now))) }
 {
     for book in books {
         add_book(table, book.items());
@@ -61,7 +63,8 @@ fn add_books(table: &mut [JobFacts], books: &[Book])
 
 /// Adds what the acts of one book say to what those before them said.
 fn add_book(table: &mut [JobFacts], notes: &[Item])
-    ensures { (r : ℕ) → r < length table.old → facts_at table.new r ≡ both_said (facts_at table.old r) (job_facts_of r (job_acts_in notes.now)) }
+    ensures { (r : ℕ) → r < length table.old
+        → facts_at table.new r ≡ both_said (facts_at table.old r) (job_facts_of r (job_acts_in notes.now)) }
 {
     for item in notes {
         if let Some(act) = act_noted(*item) {

@@ -47,7 +47,7 @@ fn push_row(out: &mut String, row: usize, facts: JobFacts) -> Result<(), AllocEr
 }
 
 /// Whether the row is the root's, or was attached.
-fn is_attached(row: usize, facts: JobFacts) -> bool
+pub(crate) fn is_attached(row: usize, facts: JobFacts) -> bool
     ensures { result ≡ is_attached_by row facts }
 {
     row == 0 || facts.attached

@@ -1,4 +1,5 @@
-//! The report of a run: what each coroutine noted, how each Job ended or how far it is, and what became of the elements that nobody received.
+//! The report of a run: what each coroutine noted, how each Job ended or how far it is, and what became of the elements that nobody
+//! received. Its summary: one line that counts the Jobs and the elements.
 //!
 //! It reads the script for the names and the books for all else, so whoever has the same books gets the same report.
 //!
@@ -15,10 +16,13 @@
 //! - `resolutions`: where each wait was resolved.
 //! - `fates`: what became of each element.
 //! - `elements`: the lines of the elements that were not received.
+//! - `counts`: how many Jobs ended how, and what became of how many elements.
+//! - `totals`: the summary of a run.
 //! - `fault`: the line that a text which is no script is answered with.
 #![tactic(auto)]
 
 mod books;
+mod counts;
 mod elements;
 mod facts;
 mod fates;
@@ -34,6 +38,8 @@ mod table;
 #[cfg(test)]
 mod tests;
 mod text;
+mod totals;
 
 pub use fault::fault_line;
 pub use text::report;
+pub use totals::summary;

@@ -57,7 +57,9 @@ pub(crate) fn resolutions_in(
     facts: &Table<Facts>,
     acts: &[Act],
 ) -> Result<Table<Resolved>, AllocError>
-    ensures { IfOk result (λ table. (c p : ℕ) (w : WaitId) → is_elsewhere c p (value_at table w.channel w.place) ≡ is_resolved_elsewhere (λ d q. (value_at facts.now d q).wait) c p w acts.now) }
+    ensures { IfOk result (λ table. (c p : ℕ) (w : WaitId)
+        → is_elsewhere c p (value_at table w.channel w.place)
+        ≡ is_resolved_elsewhere (λ d q. (value_at facts.now d q).wait) c p w acts.now) }
 {
     let mut table = Table::new(alloc, Resolved::Nowhere);
     for act in acts {
@@ -73,7 +75,10 @@ fn add_resolution(
     facts: &Table<Facts>,
     act: Act,
 ) -> Result<(), AllocError>
-    ensures { OnOk result ((c p : ℕ) (w : WaitId) → is_elsewhere c p (value_at table.new w.channel w.place) ≡ (is_elsewhere c p (value_at table.old w.channel w.place) || is_resolved_at (λ d q. (value_at facts.now d q).wait) c p w (resolves_at act))) }
+    ensures { OnOk result ((c p : ℕ) (w : WaitId)
+        → is_elsewhere c p (value_at table.new w.channel w.place)
+        ≡ (is_elsewhere c p (value_at table.old w.channel w.place)
+        || is_resolved_at (λ d q. (value_at facts.now d q).wait) c p w (resolves_at act))) }
 {
     match place_of(act) {
         Some((c, place)) => match facts.get(c, place).wait {
@@ -92,7 +97,9 @@ fn add_place(
     c: ChannelId,
     place: Place,
 ) -> Result<(), AllocError>
-    ensures { OnOk result ((d q : ℕ) (v : WaitId) → is_elsewhere d q (value_at table.new v.channel v.place) ≡ (is_elsewhere d q (value_at table.old v.channel v.place) || (not (is_at d q c place) && same_wait v w))) }
+    ensures { OnOk result ((d q : ℕ) (v : WaitId)
+        → is_elsewhere d q (value_at table.new v.channel v.place)
+        ≡ (is_elsewhere d q (value_at table.old v.channel v.place) || (not (is_at d q c place) && same_wait v w))) }
 {
     let before = table.get(w.channel, w.place);
     table.set(alloc, w.channel, w.place, before.also(c, place))

@@ -1,6 +1,6 @@
 //! A value for each place of each channel.
 
-ghost use Rattle.std.specs.Prelude.{◌≡◌, ◌<◌, ℕ, [], length, slice_index_or, vec_len, OnOk, if◌then◌else◌};
+ghost use Rattle.std.specs.Prelude.{◌≡◌, ◌<◌, ◌≤◌, ℕ, [], length, slice_index_or, vec_len, OnOk, if◌then◌else◌};
 ghost use Rattle.channel_model.specs.Fates.{is_at};
 ghost use Rattle.run_report.specs.Tables.{lists_of};
 
@@ -22,7 +22,8 @@ impl<T: Copy> Table<T> {
 
     /// The table that has this value at each place.
     pub(crate) fn new(alloc: Global, plain: T) -> Table<T>
-        ensures { (c p : ℕ) → value_at result c p ≡ plain }
+        ensures plain { result.plain ≡ plain }
+        ensures value { (c p : ℕ) → value_at result c p ≡ plain }
     {
         Table {
             rows: Vec::new(alloc),
@@ -40,6 +41,16 @@ impl<T: Copy> Table<T> {
         }
     }
 
+    /// So many places of a channel come up to the last that was set; the plain value stands at all behind them.
+    pub(crate) fn reach(&self, c: ChannelId) -> usize
+        ensures { (p : ℕ) → result ≤ p → value_at self.now c p ≡ (self.now).plain }
+    {
+        match self.rows.get(c as usize) {
+            Some(row) => row.len(),
+            None => 0,
+        }
+    }
+
     /// Sets the value at a place.
     pub(crate) fn set(
         &mut self,
@@ -48,7 +59,9 @@ impl<T: Copy> Table<T> {
         place: Place,
         value: T,
     ) -> Result<(), AllocError>
-        ensures { OnOk result ((d q : ℕ) → value_at self.new d q ≡ (if is_at d q c place then value else value_at self.old d q)) }
+        ensures plain { self.new.plain ≡ self.old.plain }
+        ensures value { OnOk result ((d q : ℕ)
+            → value_at self.new d q ≡ (if is_at d q c place then value else value_at self.old d q)) }
     {
         grow_rows(alloc, &mut self.rows, c as usize)?;
         set_in_row(
@@ -74,7 +87,8 @@ fn grow_rows<T: Copy>(alloc: Global, rows: &mut Vec<Vec<T>>, c: usize) -> Result
 /// Sets the value at a place of a row, with the plain value at each place that comes between.
 fn set_in_row<T: Copy>(row: &mut Vec<T>, place: usize, plain: T, value: T) -> Result<(), AllocError>
     ensures there { OnOk result (slice_index_or row.new.items place plain ≡ value) }
-    ensures others { OnOk result ((q : ℕ) → (q ≡ place → ⊥) → slice_index_or row.new.items q plain ≡ slice_index_or row.old.items q plain) }
+    ensures others { OnOk result ((q : ℕ) → (q ≡ place → ⊥)
+        → slice_index_or row.new.items q plain ≡ slice_index_or row.old.items q plain) }
 {
     while row.len() <= place {
         row.push(plain)?;

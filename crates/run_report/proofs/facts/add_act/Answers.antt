@@ -5,12 +5,12 @@ use Rattle.run_report.specs.Tables.{value_at}
 use Rattle.run_report.proofs.Told.{added_at, nothing_added}
 use Rattle.run_report.proofs.facts.add_act.Goals as goal
 
-pub returns-in-Some : goal.returns-in-Some
-returns-in-Some c =
+pub returns-in-Some-clause-joined : goal.returns-in-Some-clause-joined
+returns-in-Some-clause-joined c =
     let all : told c.args.act ≡ Some (c.in-Some.at, c.in-Some.facts) = cc in
     on_ok_weaker c.set.result
     (λ sets d q. added_at (value_at c.args.table.now) c.in-Some.at c.in-Some.facts (told c.args.act) c.and.result (value_at c.set.new.self d q) d q all (cc) (sets d q))
-    c.set.ensures
+    c.set.ensures.value
 
-pub returns-in-None : goal.returns-in-None
-returns-in-None c = λ d q. nothing_added (value_at c.args.table.now d q) (told c.args.act) d q (cc)
+pub returns-in-None-clause-joined : goal.returns-in-None-clause-joined
+returns-in-None-clause-joined c = λ d q. nothing_added (value_at c.args.table.now d q) (told c.args.act) d q (cc)

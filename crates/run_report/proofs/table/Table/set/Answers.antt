@@ -3,8 +3,8 @@ use Rattle.run_report.proofs.Answered.{both_on_ok}
 use Rattle.run_report.proofs.Rows.{value_in-set, row_read}
 use Rattle.run_report.proofs.table.Table.set.Goals as goal
 
-pub returns : goal.returns
-returns g c =
+pub returns-clause-value : goal.returns-clause-value
+returns-clause-value g c =
     let rows = c.args.self.now.rows.items in
     let grown = c.grow_rows.new.rows.items in
     let plain = c.args.self.now.plain in

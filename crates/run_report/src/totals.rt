@@ -1,0 +1,136 @@
+//! The summary of a run.
+
+ghost use Rattle.std.specs.Prelude.{◌≡◌, ◌<◌, ◌++◌, length, map, IfOk, OnOk, Some, string_bytes};
+ghost use lib.Chars.{codes};
+ghost use Rattle.note_book.specs.Books.{notes_of};
+ghost use Rattle.script_reader.specs.Scripts.{program_of};
+ghost use Rattle.script_reader.specs.Programs.{declared_of};
+ghost use Rattle.run_report.specs.JobFacts.{facts_at};
+ghost use Rattle.run_report.specs.Summaries.{element_counts_text, job_counts_text, result_text, summary_line, summary_of, summary_text};
+
+use crate::counts::{ElementCounts, JobCounts, count_elements, count_jobs};
+use crate::fates::Known;
+use crate::job_facts::{JobFacts, job_facts_in};
+use crate::noted::channel_acts_noted;
+use co_base::Memory;
+use job_model::End;
+use poll_states::{Book, Done};
+use script_reader::{Channel, Script};
+use std::alloc::{AllocError, Global};
+use std::fmt;
+
+/// The summary of a run: one line with the counts of its Jobs and of the elements of its declared channels, and with the root's result.
+///
+/// The time is linear in the number of items, of Jobs and of declared places.
+pub fn summary(alloc: Global, script: &Script, done: &Done) -> Result<Vec<u8>, Memory>
+    ensures { IfOk result (λ text. text.items ≡ summary_text (program_of script.now) (map notes_of done.now.books.items)) }
+{
+    let text = summary_of(
+        alloc,
+        script.channels(),
+        script.jobs(),
+        done.books.as_slice(),
+    )?;
+    Ok(text.into_bytes())
+}
+
+/// The summary of a run with so many Jobs, over these channels, that left these books.
+pub(crate) fn summary_of(
+    alloc: Global,
+    channels: &[Channel],
+    jobs: u16,
+    books: &[Book],
+) -> Result<String, Memory>
+    requires channels { length channels.now < 65536 }
+    requires root { 0 < jobs }
+    ensures { IfOk result (λ text. string_bytes text ≡ summary_of (map declared_of channels.now) jobs (map notes_of books.now)) }
+{
+    let table = job_facts_in(alloc, jobs, books)?;
+    let acts = channel_acts_noted(alloc, books)?;
+    let known = Known::from_acts(alloc, acts.as_slice())?;
+    let text = line(
+        alloc,
+        count_jobs(table.as_slice()),
+        count_elements(channels, &known),
+        root_end(table.as_slice()),
+    )?;
+    Ok(text)
+}
+
+/// How the root's Job has ended, if it has.
+fn root_end(table: &[JobFacts]) -> Option<End>
+    ensures { result ≡ (facts_at table.now 0).end }
+{
+    match table {
+        [root, ..] => root.end,
+        [] => None,
+    }
+}
+
+/// The line.
+fn line(
+    alloc: Global,
+    jobs: JobCounts,
+    elements: ElementCounts,
+    root: Option<End>,
+) -> Result<String, AllocError>
+    ensures { IfOk result (λ text. string_bytes text ≡ summary_line jobs elements root) }
+{
+    let mut out = String::new(alloc);
+    push_job_counts(&mut out, jobs)?;
+    push_element_counts(&mut out, elements)?;
+    push_result(&mut out, root)?;
+    Ok(out)
+}
+
+fn push_job_counts(out: &mut String, jobs: JobCounts) -> Result<(), AllocError>
+    ensures { OnOk result (string_bytes out.new ≡ string_bytes out.old ++ job_counts_text jobs) }
+{
+    let JobCounts {
+        attached,
+        completed,
+        cancelled,
+    } = jobs;
+    write!(
+        out,
+        "jobs {attached} completed {completed} cancelled {cancelled} "
+    )
+}
+
+fn push_element_counts(out: &mut String, elements: ElementCounts) -> Result<(), AllocError>
+    ensures { OnOk result (string_bytes out.new ≡ string_bytes out.old ++ element_counts_text elements) }
+{
+    let ElementCounts {
+        received,
+        undelivered,
+        dropped,
+        withdrawn,
+        held,
+    } = elements;
+    write!(
+        out,
+        "received {received} undelivered {undelivered} dropped {dropped} withdrawn {withdrawn} held {held} "
+    )
+}
+
+fn push_result(out: &mut String, root: Option<End>) -> Result<(), AllocError>
+    ensures { OnOk result (string_bytes out.new ≡ string_bytes out.old ++ (codes "result " ++ result_text root ++ codes "\n")) }
+{
+    let result = ShownResult(root);
+    write!(out, "result {result}\n")
+}
+
+/// The root's result, as it is printed.
+#[derive(Clone, Copy)]
+struct ShownResult(Option<End>);
+
+impl fmt::Display for ShownResult {
+    ghost output = { λ s. Some (result_text s.0) };
+
+    fn fmt<W: fmt::Write>(&self, f: &mut fmt::Formatter<W>) -> fmt::Result {
+        match self.0 {
+            Some(End::Completed(value)) => write!(f, "{value}"),
+            Some(End::Cancelled(_)) | None => write!(f, "none"),
+        }
+    }
+}
