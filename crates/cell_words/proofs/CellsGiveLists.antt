@@ -1,7 +1,6 @@
 -- What every legal history leaves of lists and cells.
-use Rattle.std.proofs.Common.{◌≡◌, ◌≢◌, ℕ, ◌+◌, ◌<◌, Bool, true, false, List, [], ◌∷◌, ◌++◌, Option, Some, None, sym, refl, ap, ◌∙◌, subst, arith, is_some, is_none}
+use Rattle.std.proofs.Common.{◌≡◌, ℕ, Bool, true, false, List, [], ◌∷◌, ◌++◌, Option, Some, None, sym, refl, ap, subst, arith, is_some, is_none}
 use Rattle.std.specs.List.{list_all}
-use Rattle.co_base.specs.declared.names.WaitId.{WaitId}
 use Rattle.channel_model.specs.declared.acts.Act.{Act}
 use Rattle.channel_model.specs.declared.acts.Act.TheVariants.{Hand, Put, Offer, Await, Take, Admit, Drop, Close, Void, Drain, WakeClosed, Withdraw, Settle}
 use Rattle.channel_model.specs.declared.acts.Entry.{Entry}
@@ -9,21 +8,14 @@ use Rattle.channel_model.specs.declared.acts.Kind.{Kind}
 use Rattle.channel_model.specs.declared.acts.Kind.TheVariants.{Rendezvous, Buffered, Unlimited, Conflated, DropOldest, Signal}
 use Rattle.channel_model.specs.declared.standing.Party.{Party}
 use Rattle.channel_model.specs.declared.standing.Standing.{Standing}
-use Rattle.channel_model.specs.declared.standing.Resolution.{Resolution}
 use Rattle.channel_model.specs.declared.standing.Resolution.TheVariants as resolved
-use Rattle.channel_model.specs.Channels.{Shape, State, Channel, Wait, start, kind_at, places_at, drops, suspends}
-use Rattle.channel_model.specs.Effects.{after, close_value, holder_at, admitted, resolve_holder, with_queue, resolved_wait, name_clause, settled_wait}
-use Rattle.channel_model.specs.Needs.{Needs, MayBeAdmitted, MaySettle}
-use Rattle.channel_model.specs.Outcomes.{IsOutcome}
-use Rattle.channel_model.specs.declared.acts.Settled.{Settled}
-use Rattle.channel_model.proofs.Others.{Stays, other_keeps}
-use Rattle.channel_model.specs.Histories.{replay, replay_from, Legal, LegalFrom}
-use Rattle.channel_model.specs.Laws.{AllStandOpen}
-use Rattle.channel_model.proofs.OpenWaits.{after_open, start_open}
-use Rattle.channel_model.proofs.Placed.{Placed, placed_after, start_placed}
-use Rattle.channel_model.proofs.Histories.{replay_from-append, LegalFrom-parts}
-use Rattle.cell_words.specs.Cells.{Cell, free, closed_by, voided_by, Cells, Board, step_board, blank, board_from, board_of, mark, end_cell, gather}
-use Rattle.cell_words.proofs.ListsOfCells.{board, Tied, Final, NamesAt}
+use Rattle.channel_model.specs.Channels.{Shape, State, start, kind_at, places_at, drops, suspends}
+use Rattle.channel_model.specs.Effects.{close_value}
+use Rattle.channel_model.specs.Needs.{Needs}
+use Rattle.channel_model.specs.Histories.{replay_from, Legal, LegalFrom}
+use Rattle.channel_model.proofs.Histories.{LegalFrom-parts}
+use Rattle.cell_words.specs.Cells.{closed_by, voided_by, Board, step_board, blank, board_from, board_of, end_cell}
+use Rattle.cell_words.proofs.ListsOfCells.{Tied}
 use Rattle.cell_words.proofs.PlacesGivenOut.{ties_put, ties_offer, ties_await, ties_settle}
 use Rattle.cell_words.proofs.OffersAdmitted.{ties_admit}
 use Rattle.channel_model.proofs.Elements.{all_first}

@@ -1,26 +1,24 @@
 -- What a cell and a wait say as a history goes on.
-use Rattle.std.proofs.Common.{◌≡◌, ◌≢◌, ◌⊎◌, ℕ, zero, suc, ◌+◌, ◌<◌, ◌≤◌, ◌==◌, Bool, true, false, true≢false, List, [], ◌∷◌, ◌++◌, if◌then◌else◌, Option, Some, None, is_some, is_none, sym, refl, ap, ◌∙◌, subst, ⊎_elim, inl, inr, arith}
+use Rattle.std.proofs.Common.{◌≡◌, ◌⊎◌, ℕ, ◌+◌, ◌<◌, ◌≤◌, ◌==◌, Bool, true, false, List, ◌++◌, if◌then◌else◌, Option, Some, None, is_some, sym, refl, ap, ◌∙◌, subst, ⊎_elim, inl, inr, arith}
 use Rattle.co_base.specs.declared.names.WaitId.{WaitId}
 use Rattle.channel_model.specs.declared.acts.Act.{Act}
 use Rattle.channel_model.specs.declared.acts.Act.TheVariants.{Hand, Put, Offer, Await, Take, Admit, Drop, Close, Void, Drain, WakeClosed, Withdraw, Settle}
 use Rattle.channel_model.specs.declared.acts.Entry.{Entry}
-use Rattle.channel_model.specs.declared.standing.Standing.{Standing}
 use Rattle.channel_model.specs.declared.standing.Resolution.{Resolution}
 use Rattle.channel_model.specs.declared.standing.Resolution.TheVariants as resolved
 use Rattle.channel_model.specs.declared.standing.Party.{Party}
-use Rattle.channel_model.specs.Channels.{Shape, State, Channel, Wait, places_at, start}
+use Rattle.channel_model.specs.Channels.{Shape, State, Wait, places_at}
 use Rattle.channel_model.specs.Effects.{after}
 use Rattle.channel_model.specs.Needs.{Needs, HasPlace}
-use Rattle.channel_model.specs.Histories.{replay, replay_from, Legal}
+use Rattle.channel_model.specs.Histories.{replay, Legal}
 use Rattle.channel_model.specs.Answers.{IsResolvedWait}
 use Rattle.channel_model.proofs.Others.{other_keeps}
 use Rattle.channel_model.proofs.Resolutions.{resolved_stays}
-use Rattle.cell_words.specs.Cells.{Cell, free, receiver, offer, buffered, emptied, closed_by, voided_by, Cells, spot, set_cell, standing, offer_of, offer_by, offer_after, emptied_if, emptied_unless, mark, Board, step_board, board_of, blank, cell_of, is_used, end_cell}
-use Rattle.channel_model.specs.Laws.{NoneBelow}
+use Rattle.cell_words.specs.Cells.{Cell, receiver, offer, buffered, emptied, set_cell, standing, offer_of, offer_by, offer_after, emptied_if, emptied_unless, mark, Board, blank, cell_of, is_used}
 use Rattle.cell_words.proofs.ListsOfCells.{Tied, by_spot, cell_else}
-use Rattle.channel_model.proofs.Sound.{Sound, given_keeps, channel_lasts}
+use Rattle.channel_model.proofs.Sound.{given_keeps, channel_lasts}
 use Rattle.cell_words.proofs.CellsGiveLists.{BoardLasts, board_lasts, board_state}
-use Rattle.cell_words.proofs.CellsTellFacts.{used_given, now}
+use Rattle.cell_words.proofs.CellsTellFacts.{used_given}
 
 -- a cell that is used changes by a removal alone
 pub used_stays : (shape : Shape) (P : Cell → Type 0) (b : Board) (e : Entry) (c p : ℕ) → Tied b → Needs shape b.state e.who e.act → is_used (b.cells c p) ≡ true

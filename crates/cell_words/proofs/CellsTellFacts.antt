@@ -1,22 +1,18 @@
 -- What a legal history's cells say of who stands.
-use Rattle.std.proofs.Common.{◌≡◌, ◌≢◌, ◌⊎◌, ℕ, zero, suc, ◌+◌, ◌<◌, ◌≤◌, ◌==◌, nat_le, eqb, Bool, true, false, true≢false, List, [], ◌∷◌, ◌++◌, if◌then◌else◌, Option, Some, None, sym, refl, ap, ◌∙◌, subst, ⊎_elim, inl, inr, arith}
+use Rattle.std.proofs.Common.{◌≡◌, ◌⊎◌, ℕ, suc, ◌+◌, ◌<◌, ◌≤◌, nat_le, eqb, Bool, true, false, true≢false, List, [], ◌∷◌, if◌then◌else◌, Option, Some, None, sym, refl, ap, ◌∙◌, subst, ⊎_elim, inl, inr, arith}
 use Rattle.std.specs.List.{list_all}
 use Rattle.std.proofs.lemmas.Bool.Decides.{nat_tests}
 use mathlib.Core.Logic.{dite}
 use native.Mathlib.Decide.{ℕ_discrete, dec_le}
-use Rattle.co_base.specs.declared.names.WaitId.{WaitId}
 use Rattle.channel_model.specs.declared.acts.Entry.{Entry}
 use Rattle.channel_model.specs.declared.standing.Standing.{Standing}
 use Rattle.channel_model.specs.declared.standing.Receiver.{Receiver}
-use Rattle.channel_model.specs.declared.standing.Party.{Party}
-use Rattle.channel_model.specs.declared.standing.Resolution.{Resolution}
-use Rattle.channel_model.specs.Channels.{Shape, State, Channel, Wait, start, places_at}
+use Rattle.channel_model.specs.Channels.{Shape, State, Channel}
 use Rattle.channel_model.specs.Histories.{replay, Legal}
-use Rattle.channel_model.specs.Answers.{owner_of, first_receiver}
-use Rattle.cell_words.specs.Cells.{Cell, free, receiver, offer, buffered, emptied, closed_by, voided_by, spot, cell_of, board_of, blank, Board, standing, awaiting, receiver_of, receiver_by, offer_of, offer_by, gather, is_used, end_cell}
+use Rattle.cell_words.specs.Cells.{free, closed_by, voided_by, cell_of, blank, Board, standing, awaiting, gather, is_used, end_cell}
 use Rattle.channel_model.specs.Laws.{NoneBelow}
 use Rattle.cell_words.proofs.GatheredLists.{gather_none, gather_first, all_gather, gather_all}
-use Rattle.cell_words.proofs.ListsOfCells.{board, Tied, IsNamed, CellNamed, IsReceiver, awaiting_is, IsOffer, standing_is}
+use Rattle.cell_words.proofs.ListsOfCells.{board, Tied, awaiting_is, standing_is}
 use Rattle.cell_words.proofs.OffersRemoved.{offer_place}
 use Rattle.cell_words.proofs.CellsGiveLists.{tied, board_state}
 

@@ -1,14 +1,13 @@
 -- A counter that is raised says the truth, whatever others do.
-use Rattle.std.proofs.Common.{◌≡◌, ◌≢◌, ℕ, ◌+◌, ◌*◌, ◌<◌, ◌≤◌, nat_le, max, Bool, true, false, List, [], ◌∷◌, ◌++◌, length, sym, refl, ap, ◌∙◌, subst, arith}
-use Rattle.std.specs.List.{list_all}
+use Rattle.std.proofs.Common.{◌≡◌, ℕ, ◌+◌, ◌<◌, ◌≤◌, max, List, ◌++◌, length, sym, subst, arith}
 use mathlib.Core.Logic.{dite}
 use native.Mathlib.Decide.{dec_le}
-use Rattle.worded.specs.Exchanges.{OthersAdded, MayLift}
+use Rattle.worded.specs.Exchanges.{MayLift}
 use Rattle.channel_model.specs.Laws.{NoneBelow}
 use Rattle.channel_model.specs.declared.acts.Entry.{Entry}
-use Rattle.channel_model.specs.Channels.{Shape, Channel, places_at}
+use Rattle.channel_model.specs.Channels.{Shape, places_at}
 use Rattle.channel_model.specs.Histories.{replay, Legal}
-use Rattle.cell_words.specs.Words.{cell_number, wait_number, send_number, receive_number, word_count, Fits}
+use Rattle.cell_words.specs.Words.{send_number, receive_number, word_count, Fits}
 use Rattle.cell_words.specs.Seen.{Seen, maker, at_channel}
 use Rattle.cell_words.proofs.OneNumberOneWord.{cell_not_send, cell_not_receive, wait_not_send, wait_not_receive}
 use Rattle.channel_model.proofs.GoneForGood.{below_lasts}

@@ -1,26 +1,18 @@
 -- How many offers stand, by one walk from a moment on.
-use Rattle.std.proofs.Common.{◌≡◌, ◌≢◌, ◌⊎◌, ℕ, zero, suc, ◌+◌, ◌<◌, ◌≤◌, ◌==◌, Bool, true, false, true≢false, not, ◌&&◌, List, [], ◌∷◌, ◌++◌, length, filter, if◌then◌else◌, Option, Some, None, is_none, is_some, sym, refl, ap, ◌∙◌, subst, arith, length-append, add-one, eqb, eq-eqb, ne_eqb}
+use Rattle.std.proofs.Common.{◌≡◌, ℕ, zero, suc, ◌+◌, ◌<◌, ◌≤◌, true, false, true≢false, not, List, [], ◌∷◌, ◌++◌, length, Option, Some, None, is_some, sym, refl, ap, ◌∙◌, subst, arith, length-append, add-one, eq-eqb}
 use Rattle.std.specs.List.{list_all}
-use mathlib.Core.Logic.{dite}
-use native.Mathlib.Decide.{ℕ_discrete, dec_le}
-use Rattle.std.proofs.lemmas.Bool.{eqb-true}
-use Rattle.co_base.specs.declared.names.WaitId.{WaitId}
 use Rattle.channel_model.specs.declared.acts.Entry.{Entry}
 use Rattle.channel_model.specs.declared.standing.Standing.{Standing}
-use Rattle.channel_model.specs.declared.standing.Receiver.{Receiver}
-use Rattle.channel_model.specs.Channels.{Shape, State, Channel, Wait, places_at}
-use Rattle.channel_model.specs.Effects.{is_held_by, admitted, place_offer, place_receiver}
-use Rattle.channel_model.specs.Needs.{HasPlace}
+use Rattle.channel_model.specs.Channels.{Shape}
 use Rattle.channel_model.specs.Histories.{replay, Legal}
-use Rattle.cell_words.specs.Cells.{Cell, Board, blank, board_of, cell_of, standing, gather, add_some}
+use Rattle.cell_words.specs.Cells.{cell_of, standing, gather, add_some}
 use Rattle.cell_words.specs.Answers.{stands}
 use Rattle.cell_words.proofs.GatheredLists.{gather_all, all_gather}
-use Rattle.cell_words.proofs.ListsOfCells.{Tied, standing_is}
+use Rattle.cell_words.proofs.ListsOfCells.{standing_is}
 use Rattle.cell_words.proofs.OffersRemoved.{offer_place}
 use Rattle.channel_model.specs.Laws.{NoOffer, is_elsewhere}
 use Rattle.channel_model.proofs.GoneForGood.{elsewhere, none_lasts}
-use Rattle.cell_words.proofs.CellsGiveLists.{BoardLasts, board_lasts, board_state}
-use Rattle.cell_words.proofs.CellsTellFacts.{now, tied_now}
+use Rattle.cell_words.proofs.CellsTellFacts.{tied_now}
 
 -- ---- by cells
 

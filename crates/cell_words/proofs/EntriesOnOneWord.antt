@@ -1,39 +1,37 @@
 -- Each entry that a step makes is legal, and changes one word.
-use Rattle.std.proofs.Common.{◌≡◌, ◌≢◌, ℕ, zero, suc, ◌+◌, ◌*◌, ◌<◌, ◌≤◌, ◌==◌, eqb, Bool, true, false, true≢false, List, [], ◌∷◌, ◌++◌, length, if◌then◌else◌, Option, Some, None, is_some, sym, refl, ap, ◌∙◌, subst, ⊎_elim, inl, inr, arith, append_assoc}
-use Rattle.std.specs.List.{list_any}
-use mathlib.Core.Logic.{dite}
-use native.Mathlib.Decide.{ℕ_discrete, dec_le}
+use Rattle.std.proofs.Common.{◌≡◌, ◌≢◌, ℕ, ◌<◌, ◌≤◌, Bool, true, false, List, [], ◌∷◌, ◌++◌, length, if◌then◌else◌, Option, Some, None, sym, refl, ap, ◌∙◌, subst, arith}
 use Rattle.channel_model.specs.Laws.{NoneBelow}
 use Rattle.co_base.specs.declared.names.WaitId.{WaitId}
 use Rattle.channel_model.specs.declared.acts.Act.{Act}
-use Rattle.channel_model.specs.declared.acts.Act.TheVariants.{Hand, Put, Offer, Await, Take, Admit, Drop, Close, Void, Drain, WakeClosed, Withdraw, Settle}
+use Rattle.channel_model.specs.declared.acts.Act.TheVariants.{Hand, Put, Offer, Await, Take, Drop, Close, Drain, Withdraw}
 use Rattle.channel_model.specs.declared.acts.Why.{Why}
 use Rattle.channel_model.specs.declared.acts.Entry.{Entry}
 use Rattle.channel_model.specs.declared.acts.Settled.{Settled}
-use Rattle.channel_model.specs.declared.standing.Party.{Party}
 use Rattle.channel_model.specs.declared.standing.Standing.{Standing}
 use Rattle.channel_model.specs.declared.standing.Receiver.{Receiver}
 use Rattle.channel_model.specs.declared.standing.Resolution.{Resolution}
 use Rattle.channel_model.specs.declared.standing.Resolution.TheVariants as resolved
-use Rattle.channel_model.specs.Channels.{Shape, State, Channel, Wait, same_wait, start, places_at, kind_at, is_signal, suspends, is_full}
-use Rattle.channel_model.specs.Effects.{after, resolve, resolve_first, resolve_offer, put_wait, resolved_wait, name_clause, is_open}
-use Rattle.channel_model.specs.Needs.{Needs, HasPlace, MayName, JoinsWait, IsFirstReceiver, IsFirstOffer, IsOpenOf}
+use Rattle.channel_model.specs.Channels.{Shape, State, Wait, same_wait, places_at, kind_at, is_signal, suspends, is_full, drops}
+use Rattle.channel_model.specs.Effects.{after, resolve_first, resolve_offer, remove_first, put_wait, resolved_wait, name_clause}
+use Rattle.channel_model.specs.Needs.{Needs, HasPlace, IsFirstReceiver, IsFirstOffer, IsOpenOf}
 use Rattle.channel_model.specs.Histories.{replay, Legal}
-use Rattle.channel_model.specs.Answers.{first_receiver, first_holder, owner_of, IsResolvedWait, IsOwnWait}
+use Rattle.channel_model.specs.Answers.{first_receiver, first_holder, owner_of, IsOwnWait}
 use Rattle.channel_model.proofs.Histories.{replay_push, Legal_push}
-use Rattle.channel_model.proofs.Waits.{same_wait-refl, same_wait-eq, at_wait}
-use Rattle.channel_model.proofs.Firsts.{may_begin, at_place}
-use Rattle.cell_words.specs.Cells.{Cell, free, receiver, offer, buffered, emptied, closed_by, voided_by, Cells, spot, set_cell, mark, Board, step_board, board_of, blank, cell_of, standing, awaiting, receiver_of, receiver_by, offer_of, offer_by, emptied_if, is_used}
-use Rattle.cell_words.specs.Words.{number, cell_number, wait_number, send_number, receive_number, cell_code, wait_code, word_of_wait, how_word, parts_word, how_code, HowFits, WaitFits, HasWaitCode, PartyFits, CellFits, Fits}
+use Rattle.channel_model.proofs.Waits.{same_wait-eq, at_wait}
+use Rattle.channel_model.proofs.Firsts.{may_begin}
+use Rattle.cell_words.specs.Cells.{Cell, free, receiver, offer, buffered, emptied, closed_by, Cells, spot, set_cell, mark, Board, board_of, blank, cell_of, standing, awaiting, receiver_of, receiver_by, offer_of, offer_by, emptied_if, is_used}
+use Rattle.cell_words.specs.Words.{number, cell_number, wait_number, cell_code, wait_code, parts_word, how_code, HowFits, HasWaitCode, PartyFits, CellFits, Fits}
 use Rattle.cell_words.specs.Codes.{packed_wait}
+use Rattle.cell_words.specs.declared.found.Removal.{Removal}
+use Rattle.cell_words.specs.declared.found.Removal.TheVariants as removal
+use Rattle.cell_words.specs.Removals.{removal_act, how_removed}
+use Rattle.cell_words.specs.Answers.{MayRemoveHeld}
 use Rattle.cell_words.proofs.OneNumberOneWord.{number_apart, cell_not_wait, wait_not_send, cell_not_receive, cell_not_send, wait_not_receive, same_number, same_number_odd}
-use Rattle.cell_words.proofs.ListsOfCells.{board, Tied, IsNamed, CellNamed, spots_apart, cell_here, cell_else, set_same}
+use Rattle.cell_words.proofs.ListsOfCells.{IsNamed, CellNamed, cell_here, cell_else, set_same}
 use Rattle.channel_model.proofs.Sound.{sound, EndsResolved}
 use Rattle.cell_words.proofs.CellsGiveLists.{board_push, board_state}
-use Rattle.cell_words.proofs.OffersRemoved.{resolve_removed}
-use Rattle.cell_words.proofs.CellsTellFacts.{now, tied_now, used_given, first_line, first_queue, none_line, none_queue, free_end}
+use Rattle.cell_words.proofs.CellsTellFacts.{now, tied_now, used_given, first_line, first_queue, free_end}
 use Rattle.channel_model.proofs.GoneForGood.{below_lasts}
-use Rattle.cell_words.proofs.CellsLast.{receiver_more, offer_more}
 
 pub cells_push : (log : List Entry) (e : Entry) (c p : ℕ) → cell_of (log ++ e ∷ []) c p ≡ mark (board_of log).state (board_of log).cells e.who e.act c p
 cells_push log e c p = ap (λ (b : Board). b.cells c p) (board_push log e)
@@ -157,7 +155,7 @@ module _ (shape : Shape) (log : List Entry) (who c p value owner k : ℕ) (w : W
   hand_steps = resolve_steps shape log who w.channel w.place (Hand c p value) (resolved.Handed k value) hand_wait.wait l wc wp (lc, kind, subst (IsFirstReceiver p) (sym line.1) refl)
       (ap (λ (l : List Receiver). (resolve_first l (λ k. resolved.Handed k value) (replay log)).waits) line.1) (λ d q. refl) hand_wait.was hand_wait.still_open (lk, lv)
 
--- ---- Take of a held offer
+-- ---- a held offer is removed
 
 module _ (shape : Shape) (log : List Entry) (who c p value owner k : ℕ) (w : WaitId) (l : Legal shape log) (lk : k < 8) (lc : c < length shape) (wc : w.channel < length shape) (wp : w.place ≤ places_at shape w.channel)
     (low : NoneBelow 0 p ((replay log).channels c)) (cell : cell_of log c p ≡ offer value owner w k) (found : 0 ≡ wait_code ((replay log).waits w)) where
@@ -176,15 +174,21 @@ module _ (shape : Shape) (log : List Entry) (who c p value owner k : ℕ) (w : W
   pub take_from : first_holder (replay log) ((replay log).channels c).queue ≡ Some owner
   take_from = ap (first_holder (replay log)) queue.1 ∙ ap owner_of take_wait.was ∙ ap (λ (n : ℕ). Some n) take_wait.owner
 
-  take_state : after (replay log) who (Take c p value) ≡ resolve w (resolved.Taken k) (replay log)
-  take_state = ap (λ (q : List Standing). resolve_offer c q resolved.Taken (replay log)) queue.1 ∙ resolve_removed (replay log) c taken_offer queue.0 w (resolved.Taken k) queue.1 (same_wait-refl w)
+  first_offer : IsFirstOffer p value ((replay log).channels c).queue
+  first_offer = subst (IsFirstOffer p value) (sym queue.1) (refl, refl)
 
-  take_marks : (d q : ℕ) → mark (board_of log).state (board_of log).cells who (Take c p value) d q ≡ cell_of log d q
-  take_marks d q = ap (λ (f : Cells). f d q) (set_same (board_of log).cells c p _ (ap (λ (s : State). emptied_if (standing s.waits p (cell_of log c p)) (cell_of log c p)) (board_state blank log) ∙ ap (λ (o : Option Standing). emptied_if o (cell_of log c p)) stands))
+  removed_waits : (how : ℕ → Resolution) → (resolve_offer c ((replay log).channels c).queue how (replay log)).waits ≡ put_wait w (resolved_wait (how k) ((replay log).waits w)) (replay log).waits
+  removed_waits how = ap (λ (q : List Standing). (resolve_offer c q how (replay log)).waits) queue.1
 
-  pub take_steps : Legal shape (log ++ record { who = who; act = Take c p value } ∷ []) × Fits shape (log ++ record { who = who; act = Take c p value } ∷ []) (wait_number shape w.channel w.place) (how_code (resolved.Taken k))
-      × ((j n : ℕ) → j ≢ wait_number shape w.channel w.place → Fits shape log j n → Fits shape (log ++ record { who = who; act = Take c p value } ∷ []) j n)
-  take_steps = resolve_steps shape log who w.channel w.place (Take c p value) (resolved.Taken k) take_wait.wait l wc wp (lc, subst (IsFirstOffer p value) (sym queue.1) (refl, refl)) (ap (λ (s : State). s.waits) take_state) take_marks take_wait.was take_wait.still_open lk
+  removed_marks : (d q : ℕ) → set_cell (board_of log).cells c p (emptied_if (standing (board_of log).state.waits p (cell_of log c p)) (cell_of log c p)) d q ≡ cell_of log d q
+  removed_marks d q = ap (λ (f : Cells). f d q) (set_same (board_of log).cells c p _ (ap (λ (s : State). emptied_if (standing s.waits p (cell_of log c p)) (cell_of log c p)) (board_state blank log) ∙ ap (λ (o : Option Standing). emptied_if o (cell_of log c p)) stands))
+
+  pub removed_steps : (by : Removal) → MayRemoveHeld by c log → Legal shape (log ++ record { who = who; act = removal_act by c p value } ∷ [])
+      × Fits shape (log ++ record { who = who; act = removal_act by c p value } ∷ []) (wait_number shape w.channel w.place) (how_code (how_removed by k))
+      × ((j n : ℕ) → j ≢ wait_number shape w.channel w.place → Fits shape log j n → Fits shape (log ++ record { who = who; act = removal_act by c p value } ∷ []) j n)
+  removed_steps removal.Take may = resolve_steps shape log who w.channel w.place (Take c p value) (resolved.Taken k) take_wait.wait l wc wp (lc, first_offer) (removed_waits resolved.Taken) removed_marks take_wait.was take_wait.still_open lk
+  removed_steps removal.Drop may = absurd may
+  removed_steps removal.Drain may = resolve_steps shape log who w.channel w.place (Drain c p value) resolved.Voided take_wait.wait l wc wp (lc, may, first_offer) (removed_waits (λ k. resolved.Voided)) removed_marks take_wait.was take_wait.still_open tt
 
 -- ---- Withdraw
 
@@ -280,7 +284,13 @@ module _ (shape : Shape) (log : List Entry) (who c p : ℕ) (act : Act) (x : Cel
         (λ d q ld lq ne m. subst (HasWaitCode m) (sym (waits_now (spot d q)))),
   )
 
--- ---- Take of an element that is kept
+-- ---- an element that is kept is removed
+
+-- what the act asks besides an element that stands first
+abbrev pub AsksNow : Removal → Shape → ℕ → List Entry → Type 0
+AsksNow removal.Take shape c log = Unit {0}
+AsksNow removal.Drop shape c log = drops (kind_at shape c) (length ((replay log).channels c).queue) ≡ true
+AsksNow removal.Drain shape c log = ((replay log).channels c).voided ≡ true
 
 module _ (shape : Shape) (log : List Entry) (who c p value : ℕ) (l : Legal shape log) (lc : c < length shape) (lp : p ≤ places_at shape c) (lv : value < 4294967296) (low : NoneBelow 0 p ((replay log).channels c))
     (used : is_used (cell_of log c p) ≡ true) (stands : standing (replay log).waits p (cell_of log c p) ≡ Some (record { place = p; value = value; holder = None })) where
@@ -290,11 +300,21 @@ module _ (shape : Shape) (log : List Entry) (who c p value : ℕ) (l : Legal sha
   pub kept_from : first_holder (replay log) ((replay log).channels c).queue ≡ None
   kept_from = ap (first_holder (replay log)) kept_queue.1
 
-  pub kept_steps : Legal shape (log ++ record { who = who; act = Take c p value } ∷ []) × Fits shape (log ++ record { who = who; act = Take c p value } ∷ []) (cell_number shape c p) (cell_code shape c p (emptied value))
-      × ((j m : ℕ) → j ≢ cell_number shape c p → Fits shape log j m → Fits shape (log ++ record { who = who; act = Take c p value } ∷ []) j m)
-  kept_steps = cell_steps shape log who c p (Take c p value) (emptied value) (cell_code shape c p (emptied value)) l lc lp (lc, subst (IsFirstOffer p value) (sym kept_queue.1) (refl, refl))
-      (ap (λ (y : Cell). set_cell (board_of log).cells c p y) (ap (λ (s : State). emptied_if (standing s.waits p (cell_of log c p)) (cell_of log c p)) (board_state blank log) ∙ ap (λ (o : Option Standing). emptied_if o (cell_of log c p)) stands))
+  kept_first : IsFirstOffer p value ((replay log).channels c).queue
+  kept_first = subst (IsFirstOffer p value) (sym kept_queue.1) (refl, refl)
+
+  kept_marks : set_cell (board_of log).cells c p (emptied_if (standing (board_of log).state.waits p (cell_of log c p)) (cell_of log c p)) ≡ set_cell (board_of log).cells c p (emptied value)
+  kept_marks = ap (λ (y : Cell). set_cell (board_of log).cells c p y) (ap (λ (s : State). emptied_if (standing s.waits p (cell_of log c p)) (cell_of log c p)) (board_state blank log) ∙ ap (λ (o : Option Standing). emptied_if o (cell_of log c p)) stands)
+
+  pub emptied_steps : (by : Removal) → AsksNow by shape c log → Legal shape (log ++ record { who = who; act = removal_act by c p value } ∷ [])
+      × Fits shape (log ++ record { who = who; act = removal_act by c p value } ∷ []) (cell_number shape c p) (cell_code shape c p (emptied value))
+      × ((j m : ℕ) → j ≢ cell_number shape c p → Fits shape log j m → Fits shape (log ++ record { who = who; act = removal_act by c p value } ∷ []) j m)
+  emptied_steps removal.Take asks = cell_steps shape log who c p (Take c p value) (emptied value) (cell_code shape c p (emptied value)) l lc lp (lc, kept_first) kept_marks
       (ap (λ (q : List Standing). (resolve_offer c q resolved.Taken (replay log)).waits) kept_queue.1) refl lv
+  emptied_steps removal.Drop asks = cell_steps shape log who c p (Drop c p value) (emptied value) (cell_code shape c p (emptied value)) l lc lp (lc, asks, kept_first) kept_marks
+      (ap (λ (q : List Standing). (remove_first c q (replay log)).waits) kept_queue.1) refl lv
+  emptied_steps removal.Drain asks = cell_steps shape log who c p (Drain c p value) (emptied value) (cell_code shape c p (emptied value)) l lc lp (lc, asks, kept_first) kept_marks
+      (ap (λ (q : List Standing). (resolve_offer c q (λ k. resolved.Voided) (replay log)).waits) kept_queue.1) refl lv
 
 -- ---- Put
 

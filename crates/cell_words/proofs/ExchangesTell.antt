@@ -1,41 +1,40 @@
 -- What an exchange on the word of a wait, or of a kept element, tells.
-use Rattle.std.proofs.Common.{◌≡◌, ◌≢◌, ◌⊎◌, ℕ, ◌+◌, ◌*◌, ◌<◌, ◌≤◌, ◌==◌, Bool, true, false, List, [], ◌∷◌, ◌++◌, length, if◌then◌else◌, Option, Some, None, is_some, sym, refl, ap, ◌∙◌, subst, ⊎_elim, inl, inr, arith, append_assoc, MatchBool, eq-eqb, ne_eqb}
+use Rattle.std.proofs.Common.{◌≡◌, ◌⊎◌, ℕ, ◌+◌, ◌*◌, ◌<◌, ◌≤◌, ◌==◌, Bool, true, false, List, [], ◌∷◌, ◌++◌, length, if◌then◌else◌, Option, Some, None, is_some, sym, refl, ap, ◌∙◌, subst, ⊎_elim, inl, append_assoc, MatchBool, eq-eqb, ne_eqb}
 use Rattle.std.proofs.lemmas.Bool.{eqb-true}
 use Rattle.co_base.specs.declared.names.WaitId.{WaitId}
-use Rattle.channel_model.specs.declared.acts.Act.TheVariants.{Hand, Take}
+use Rattle.channel_model.specs.declared.acts.Act.TheVariants.{Hand}
 use Rattle.channel_model.specs.declared.acts.Entry.{Entry}
 use Rattle.channel_model.specs.declared.acts.Settled.{Settled}
 use Rattle.channel_model.specs.declared.acts.Why.TheVariants.{Cancelled, Revoked}
 use Rattle.channel_model.specs.declared.standing.Standing.{Standing}
 use Rattle.channel_model.specs.declared.standing.Resolution.{Resolution}
 use Rattle.channel_model.specs.declared.standing.Resolution.TheVariants as resolved
-use Rattle.channel_model.specs.Channels.{Shape, State, Wait, start, places_at, kind_at, is_signal}
+use Rattle.channel_model.specs.Channels.{Shape, Wait, start, places_at, kind_at, is_signal}
 use Rattle.channel_model.specs.Histories.{replay, Legal}
 use Rattle.channel_model.specs.Laws.{NoneBelow, IsResolvedAs}
-use Rattle.channel_model.specs.Answers.{IsResolvedWait, IsOwnWait}
-use Rattle.channel_model.specs.declared.acts.Act.{Act}
+use Rattle.channel_model.specs.Answers.{IsResolvedWait}
 use Rattle.channel_model.proofs.Histories.{LegalFrom-parts}
 use Rattle.channel_model.proofs.GoneForGood.{below_lasts}
 use Rattle.channel_model.proofs.Later.{resolved_later}
-use Rattle.cell_words.specs.declared.cell_word.CellState.TheVariants as cell
 use Rattle.cell_words.specs.declared.cell_word.CellWord.{CellWord}
 use Rattle.cell_words.specs.declared.wait_word.WaitWord.{WaitWord}
+use Rattle.cell_words.specs.declared.found.Removal.{Removal}
 use Rattle.cell_words.specs.declared.found.Waiter.{Waiter}
-use Rattle.cell_words.specs.Cells.{Cell, receiver, offer, buffered, emptied, spot, cell_of, standing, awaiting, offer_of, offer_by, offer_after, receiver_of, receiver_by, is_used}
+use Rattle.cell_words.specs.Cells.{Cell, receiver, offer, buffered, emptied, cell_of, standing, awaiting, offer_of, offer_by, offer_after, receiver_of, receiver_by, is_used}
 use Rattle.cell_words.specs.Codes.{packed_cell, packed_wait}
-use Rattle.cell_words.specs.Words.{number, cell_number, PartyFits, CellFits, cell_code, wait_code, how_word, parts_word, word_of_wait, how_code, HowFits, WaitFits, Fits}
+use Rattle.cell_words.specs.Words.{number, PartyFits, cell_code, how_word, parts_word, word_of_wait, Fits}
 use Rattle.worded.specs.Views.{has_tag}
 use Rattle.worded.specs.Histories.{entries_of}
 use Rattle.worded.proofs.TagsAndPrefixes.{entries_of-append}
 use Rattle.cell_words.specs.Seen.{Seen, maker, at_channel, Sees, Makes, Turns, ExchangeAnswer}
-use Rattle.cell_words.specs.Looks.{lets_stand, stands_by}
-use Rattle.cell_words.specs.Answers.{IsCellWord, IsWaitWord, IsNumberedWait, IsHolder, IsHeld, Receives, Offers, HandsTo, TakesFrom, IsAdmitted, IsKept, put, held, stands}
+use Rattle.cell_words.specs.Looks.{lets_stand}
+use Rattle.cell_words.specs.Removals.{removal_act}
+use Rattle.cell_words.specs.Answers.{IsCellWord, IsWaitWord, IsNumberedWait, IsHolder, HandsTo, RemovesFrom, IsAdmitted, IsKept, put, held, stands}
 use Rattle.cell_words.proofs.ListsOfCells.{IsNamed, CellNamed}
 use Rattle.cell_words.proofs.CellsTellFacts.{now, tied_now, used_given, past_receiver, past_offer}
-use Rattle.cell_words.proofs.CellsLast.{receiver_more, offer_more, offer_used_more, kept_more, held_more}
+use Rattle.cell_words.proofs.CellsLast.{receiver_more, offer_used_more, kept_more, held_more}
 use Rattle.cell_words.proofs.EntriesOnOneWord.{hand_to, take_from, kept_from}
 use Rattle.cell_words.proofs.MayExchange.{still_offer, kept_stands}
-use Rattle.cell_words.proofs.LooksAtCells.{named_own}
 
 -- ---- an exchange
 
@@ -48,6 +47,10 @@ not_turned shape word old n e v w a ne = subst (λ (b : Bool). MatchBool b (Turn
 -- by the word's other name
 pub turned_as : (shape : Shape) (word old n i m : ℕ) (e : Entry) (v w : Seen) → word ≡ i → old ≡ m → ExchangeAnswer shape word old e v w n → n ≡ old → Turns shape i m e v w
 turned_as shape word old n i m e v w at is a same = subst (λ (z : ℕ × ℕ). Turns shape z.0 z.1 e v w) (λ k. (at k, is k)) (turned shape word old n e v w a same)
+
+-- by the entry's other name
+pub turns_by : (shape : Shape) (word old : ℕ) (e f : Entry) (v w : Seen) → e ≡ f → Turns shape word old e v w → Turns shape word old f v w
+turns_by shape word old e f v w is t = subst (λ (z : Entry). Turns shape word old z v w) is t
 
 pub sees_turns : (shape : Shape) (word old : ℕ) (e : Entry) (u v w : Seen) → Sees u v → Turns shape word old e v w → Turns shape word old e u w
 sees_turns shape word old e u v w s t = record {
@@ -162,13 +165,13 @@ module _ (shape : Shape) (v w : Seen) (l : Legal shape w.seen) (who c p n old : 
       → Sees v w → IsNumberedWait shape n w.seen found → (packed_wait found ≡ old → ⊥) → NoneBelow (p + 1) 0 (at_channel w.seen c)
   hand_lost owner k u found fits is low at s word ne = receiver_lost shape v w l s c p owner k u low at (resolved_found found ((replay w.seen).waits u) (word u (fits.channel, fits.place) is).0 (λ z. ne (z ∙ sym zero)))
 
-  -- ---- Take of a held offer
+  -- ---- a held offer is removed
 
-  pub take_told : (value owner k : ℕ) (u : WaitId) → PartyFits shape owner u k → number shape u.channel u.place ≡ n → NoneBelow 0 p (at_channel v.seen c) → cell_of v.seen c p ≡ offer value owner u k
-      → Turns shape (2 * n + 1) old (record { who = who; act = Take c p value }) v w → TakesFrom who c p value (Some owner) v w
-  take_told value owner k u fits is low at t = record {
+  pub take_told : (by : Removal) (value owner k : ℕ) (u : WaitId) → PartyFits shape owner u k → number shape u.channel u.place ≡ n → NoneBelow 0 p (at_channel v.seen c) → cell_of v.seen c p ≡ offer value owner u k
+      → Turns shape (2 * n + 1) old (record { who = who; act = removal_act by c p value }) v w → RemovesFrom by who c p value (Some owner) v w
+  take_told by value owner k u fits is low at t = record {
     made = t.made;
-    from = let b = before_legal shape v w (record { who = who; act = Take c p value }) l t.made in
+    from = let b = before_legal shape v w (record { who = who; act = removal_act by c p value }) l t.made in
         let found = sym zero ∙ (t.found.wait u.channel u.place fits.channel fits.place (ap (λ (z : ℕ). 2 * z + 1) (sym is))).0 in
         take_from shape (v.seen ++ t.made.others) who c p value owner k u b fits.clause lc fits.channel fits.place (below_lasts shape v.seen t.made.others c 0 p b low) (still_offer shape c p value owner k u v.seen t.made.others b (inl at) found) found;
   }
@@ -203,13 +206,13 @@ module _ (shape : Shape) (v w : Seen) (l : Legal shape w.seen) (s : Sees v w) (c
     cell = subst (λ (z : ℕ × ℕ). (cell_of w.seen c p ≡ offer z.0 owner u z.1) ⊎ (cell_of w.seen c p ≡ emptied z.0)) (λ i. (sym is_value i, sym is_clause i)) (offer_later shape v w c p value owner k u l s at);
   }
 
--- ---- Take of a kept element
+-- ---- a kept element is removed
 
 module _ (shape : Shape) (v w : Seen) (l : Legal shape w.seen) (who c p value : ℕ) (old : CellWord) (lc : c < length shape) (lp : p ≤ places_at shape c) (low : NoneBelow 0 p (at_channel v.seen c)) (kept : IsKept shape c p value v.seen old) where
-  pub kept_told : Turns shape (2 * number shape c p) (packed_cell old) (record { who = who; act = Take c p value }) v w → TakesFrom who c p value None v w
-  kept_told t = record {
+  pub kept_told : (by : Removal) → Turns shape (2 * number shape c p) (packed_cell old) (record { who = who; act = removal_act by c p value }) v w → RemovesFrom by who c p value None v w
+  kept_told by t = record {
     made = t.made;
-    from = let b = before_legal shape v w (record { who = who; act = Take c p value }) l t.made in
+    from = let b = before_legal shape v w (record { who = who; act = removal_act by c p value }) l t.made in
         let f = t.found.cell c p lc lp refl in
         let k = kept_stands shape c p value old v.seen t.made.others b kept f.0 f.1 in
         kept_from shape (v.seen ++ t.made.others) who c p value b lc lp k.small (below_lasts shape v.seen t.made.others c 0 p b low) k.used k.stands;

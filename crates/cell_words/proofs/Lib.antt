@@ -8,6 +8,7 @@ pub mod CellsTellFacts
 pub mod CellsLast
 pub mod OneNumberOneWord
 pub mod CountsOfOffers
+pub mod KeptBehind
 pub mod EntriesOnOneWord
 pub mod WaitsAtHome
 pub mod OneCodeOneWord
@@ -20,6 +21,13 @@ pub mod CountersAreTrue
 pub mod WalksCount
 pub mod OwnWaits
 pub mod WaitsResolved
+pub mod ReceiversOfClosedChannels
+pub mod OffersMayBeAdmitted
+pub mod ChannelsVoided
 pub mod NewHubs
 pub mod PassesMeet
 pub mod TableHoldsChannels
+pub mod ActsThatRemove
+pub mod OffersUpTo
+pub mod LooksFound
+pub mod WalksToAdmit

@@ -1,25 +1,18 @@
 -- Each entry keeps the lists what the cells and the waits give.
-use Rattle.std.proofs.Common.{◌≡◌, ◌≢◌, ◌⊎◌, ℕ, zero, suc, ◌+◌, ◌<◌, ◌≤◌, ◌==◌, eqb, Bool, true, false, true≢false, not, ◌&&◌, ◌||◌, cond, List, [], ◌∷◌, ◌++◌, length, filter, map, if◌then◌else◌, Option, Some, None, sym, refl, ap, ◌∙◌, subst, ⊎_elim, inl, inr, arith, append_assoc, append-nil, add-one, eq-eqb, ne_eqb, MatchBool}
+use Rattle.std.proofs.Common.{◌≡◌, ◌⊎◌, ℕ, ◌<◌, ◌==◌, Bool, true, false, true≢false, not, List, filter, if◌then◌else◌, Option, Some, None, sym, refl, ap, ◌∙◌, subst, ⊎_elim, inl, inr, eq-eqb}
 use Rattle.std.specs.List.{list_any}
 use Rattle.std.proofs.lemmas.Bool.{eqb-true}
-use mathlib.Core.Logic.{dite}
-use native.Mathlib.Decide.{ℕ_discrete}
 use Rattle.co_base.specs.declared.names.WaitId.{WaitId}
-use Rattle.channel_model.specs.declared.acts.Act.{Act}
-use Rattle.channel_model.specs.declared.acts.Act.TheVariants.{Hand, Put, Offer, Await, Take, Admit, Drop, Close, Void, Drain, WakeClosed, Withdraw, Settle}
-use Rattle.channel_model.specs.declared.acts.Entry.{Entry}
 use Rattle.channel_model.specs.declared.standing.Party.{Party}
 use Rattle.channel_model.specs.declared.standing.Standing.{Standing}
 use Rattle.channel_model.specs.declared.standing.Receiver.{Receiver}
 use Rattle.channel_model.specs.declared.standing.Resolution.{Resolution}
 use Rattle.channel_model.specs.declared.standing.Resolution.TheVariants as resolved
-use Rattle.channel_model.specs.Channels.{Shape, State, Channel, Wait, same_wait, start, places_at}
-use Rattle.channel_model.specs.Effects.{after, resolve, resolve_first, resolve_holder, resolve_offer, remove_first, with_queue, without, is_held_by, put_channel, put_wait, resolved_wait, name_clause, settled_wait, admitted, holder_at, is_open, place_offer, place_receiver, close_value}
-use Rattle.channel_model.specs.Needs.{Needs, HasPlace, MayName, JoinsWait, MayJoin, IsFirstReceiver, IsFirstOffer}
-use Rattle.channel_model.proofs.Waits.{same_wait-eq, same_wait-refl, at_wait, one_change}
-use Rattle.channel_model.proofs.Placed.{Placed}
-use Rattle.cell_words.specs.Cells.{Cell, free, receiver, offer, buffered, emptied, closed_by, voided_by, Cells, spot, set_cell, offer_after, offer_by, offer_of, standing, receiver_by, receiver_of, awaiting, emptied_unless, emptied_if, mark, Board, step_board, blank, add_some, gather, is_used, end_cell}
-use Rattle.cell_words.proofs.GatheredLists.{gather_same, gather_none, gather_filter, gather_first, gather_in, keep}
+use Rattle.channel_model.specs.Channels.{State, Channel, Wait, same_wait}
+use Rattle.channel_model.specs.Effects.{resolve, is_held_by, put_channel, put_wait, resolved_wait}
+use Rattle.channel_model.proofs.Waits.{same_wait-eq, same_wait-refl, one_change}
+use Rattle.cell_words.specs.Cells.{Cell, free, receiver, offer, buffered, emptied, closed_by, voided_by, Cells, spot, set_cell, offer_after, offer_by, offer_of, standing, receiver_by, receiver_of, awaiting, Board, gather, is_used, end_cell}
+use Rattle.cell_words.proofs.GatheredLists.{gather_same, gather_filter, keep}
 
 abbrev pub board : State → Cells → Board
 board s f = record { state = s; cells = f }

@@ -1,5 +1,5 @@
 -- What a word that was found says of who stands.
-use Rattle.std.proofs.Common.{◌≡◌, ◌≢◌, ◌⊎◌, ℕ, ◌+◌, ◌*◌, ◌%◌, ◌<◌, ◌≤◌, ◌==◌, nat_le, Bool, true, false, true≢false, List, [], ◌∷◌, ◌++◌, length, if◌then◌else◌, Option, Some, None, is_some, sym, refl, ap, ◌∙◌, subst, inl, inr, arith, append_assoc}
+use Rattle.std.proofs.Common.{◌≡◌, ℕ, ◌+◌, ◌%◌, ◌<◌, ◌≤◌, nat_le, Bool, true, false, List, [], ◌∷◌, ◌++◌, if◌then◌else◌, Option, Some, None, sym, refl, ap, ◌∙◌, subst, inl, inr, arith, append_assoc}
 use Rattle.std.specs.List.{list_all}
 use Rattle.std.proofs.lemmas.Bool.Decides.{nat_tests}
 use mathlib.Core.Logic.{dite}
@@ -39,7 +39,7 @@ use Rattle.cell_words.specs.Words.{number, PartyFits, party_word, word_of_cell, 
 use Rattle.cell_words.specs.Seen.{Seen, maker, at_channel, Sees, Makes}
 use Rattle.cell_words.specs.Hubs.{shape_of, IsOf}
 use Rattle.cell_words.specs.Looks.{holder_of, held_word, waiter_of, is_used_state, found_by_sender, found_by_receiver, end_found, state_found, owner_told}
-use Rattle.cell_words.specs.Answers.{IsCellWord, IsWaitWord, IsHolder, IsHeld, OfferAt, ReceiveAt, EndAt, CloseAt, OwnerAnswer, stands}
+use Rattle.cell_words.specs.Answers.{IsCellWord, IsWaitWord, IsHolder, IsHeld, OfferAt, ReceiveAt, EndAt, CloseAt, OwnerAnswer}
 use Rattle.cell_words.proofs.CellsLast.{given_more}
 use Rattle.cell_words.proofs.ListsOfCells.{IsNamed, CellNamed}
 use Rattle.cell_words.proofs.MayExchange.{own_more}
@@ -61,7 +61,7 @@ sees_then u v w a b = record {
   giving = b.giving ∙ a.giving;
 }
 
-pub sees_makes : (u v w : Seen) (e : Entry) → Sees u v → Makes v e w → Makes u e w
+unfoldable pub sees_makes : (u v w : Seen) (e : Entry) → Sees u v → Makes v e w → Makes u e w
 sees_makes u v w e a b = record {
   others = a.others ++ b.others;
   now = b.now ∙ ap (λ (l : List Entry). l ++ e ∷ []) (ap (λ (l : List Entry). l ++ b.others) a.now ∙ append_assoc u.seen a.others b.others);
@@ -84,10 +84,10 @@ named_own who k None h = h
 named_own who k (Some x) h = h.0
 
 module _ (shape : Shape) (log : List Entry) (l : Legal shape log) (c p who k : ℕ) (w : WaitId) (fits : PartyFits shape who w k) where
-  pub held_receiver : cell_of log c p ≡ receiver who w k → IsHeld shape c p (waiter_of (party_word shape c p cell.Receiver 0 who w k)) log
+  unfoldable pub held_receiver : cell_of log c p ≡ receiver who w k → IsHeld shape c p (waiter_of (party_word shape c p cell.Receiver 0 who w k)) log
   held_receiver e = record { who = who; wait = w; holder = holder_is shape c p 0 who k cell.Receiver w fits; fits = fits; owner = named_own who k ((replay log).waits w) (subst (CellNamed (replay log).waits) e ((tied_now shape log l).named c p)) }
 
-  pub held_offer : (v : ℕ) → cell_of log c p ≡ offer v who w k → IsHeld shape c p (waiter_of (party_word shape c p cell.Offer v who w k)) log
+  unfoldable pub held_offer : (v : ℕ) → cell_of log c p ≡ offer v who w k → IsHeld shape c p (waiter_of (party_word shape c p cell.Offer v who w k)) log
   held_offer v e = record { who = who; wait = w; holder = holder_is shape c p v who k cell.Offer w fits; fits = fits; owner = named_own who k ((replay log).waits w) (subst (CellNamed (replay log).waits) e ((tied_now shape log l).named c p)) }
 
 -- the cell where a wait began tells its coroutine, until it is emptied

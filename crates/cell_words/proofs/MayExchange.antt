@@ -1,11 +1,10 @@
 -- What a step may do, whatever others do meanwhile.
-use Rattle.std.proofs.Common.{◌≡◌, ◌⊎◌, ℕ, ◌+◌, ◌*◌, ◌<◌, ◌≤◌, Bool, true, false, List, [], ◌∷◌, ◌++◌, length, if◌then◌else◌, Option, Some, None, is_some, ◌==◌, sym, refl, ap, ◌∙◌, subst, ⊎_elim, inr, arith, append-nil}
+use Rattle.std.proofs.Common.{◌≡◌, ◌⊎◌, ℕ, ◌<◌, ◌≤◌, Bool, true, false, List, [], ◌∷◌, ◌++◌, length, if◌then◌else◌, Option, Some, None, is_some, ◌==◌, sym, refl, ap, ◌∙◌, subst, ⊎_elim, inr, arith, append-nil}
 use Rattle.std.proofs.lemmas.Bool.Decides.{nat_tests}
-use Rattle.worded.specs.Exchanges.{OthersAdded}
 use Rattle.worded.specs.Views.{has_tag}
 use Rattle.worded.specs.Histories.{entries_of}
 use Rattle.co_base.specs.declared.names.WaitId.{WaitId}
-use Rattle.channel_model.specs.declared.acts.Act.TheVariants.{Hand, Offer, Await, Take, Put, Close, Withdraw}
+use Rattle.channel_model.specs.declared.acts.Act.TheVariants.{Hand, Offer, Await, Put, Close, Withdraw}
 use Rattle.channel_model.specs.declared.acts.Entry.{Entry}
 use Rattle.channel_model.specs.declared.acts.Kind.{Kind}
 use Rattle.channel_model.specs.declared.acts.Kind.TheVariants.{Rendezvous, Buffered, Unlimited, Conflated, DropOldest, Signal}
@@ -18,19 +17,21 @@ use Rattle.channel_model.specs.Answers.{IsOwnWait, IsResolvedWait}
 use Rattle.channel_model.proofs.Histories.{acts_of-append}
 use Rattle.channel_model.proofs.Others.{others_keep, own_stays}
 use Rattle.channel_model.proofs.GoneForGood.{below_lasts}
-use Rattle.channel_model.proofs.Later.{resolved_later}
-use Rattle.cell_words.specs.declared.cell_word.CellState.TheVariants as cell
+use Rattle.channel_model.proofs.Later.{resolved_later, voided_later}
 use Rattle.cell_words.specs.declared.cell_word.CellWord.{CellWord}
-use Rattle.cell_words.specs.declared.found.Waiter.{Waiter}
 use Rattle.cell_words.specs.Cells.{Cell, free, receiver, offer, buffered, emptied, closed_by, voided_by, spot, cell_of, standing, offer_of, offer_by, gather, is_used}
-use Rattle.cell_words.specs.Codes.{packed_cell, packed_wait}
-use Rattle.cell_words.specs.Words.{number, cell_number, wait_number, PartyFits, CellFits, cell_code, wait_code, parts_word, how_code}
+use Rattle.cell_words.specs.Codes.{packed_cell}
+use Rattle.cell_words.specs.Words.{number, cell_number, wait_number, PartyFits, CellFits, cell_code, wait_code, how_code}
 use Rattle.cell_words.specs.Seen.{Seen, maker}
-use Rattle.cell_words.specs.Answers.{MayTurn, IsAdmitted, IsKept, put, held, stands}
-use Rattle.cell_words.proofs.CellsTellFacts.{now, tied_now, free_end, none_line, none_queue}
+use Rattle.cell_words.specs.Answers.{MayTurn, IsKept, put, held, stands, MayRemove, MayRemoveHeld}
+use Rattle.cell_words.specs.Removals.{removal_act, how_removed}
+use Rattle.cell_words.specs.declared.found.Removal.{Removal}
+use Rattle.cell_words.specs.declared.found.Removal.TheVariants as removal
+use Rattle.cell_words.proofs.CellsTellFacts.{now, tied_now, used_given, free_end, none_line, none_queue}
 use Rattle.cell_words.proofs.CellsLast.{resolved_more, receiver_more, offer_more, given_more, kept_more, held_more}
-use Rattle.cell_words.proofs.EntriesOnOneWord.{hand_steps, take_steps, withdraw_steps, await_steps, offer_steps, kept_steps, put_steps, close_steps, parts_open}
+use Rattle.cell_words.proofs.EntriesOnOneWord.{AsksNow, hand_steps, removed_steps, withdraw_steps, await_steps, offer_steps, emptied_steps, put_steps, close_steps, parts_open}
 use Rattle.cell_words.proofs.CountsOfOffers.{gone_more, count_less}
+use Rattle.cell_words.proofs.KeptBehind.{over_later}
 
 -- ---- codes
 
@@ -104,10 +105,29 @@ pub still_offer : (shape : Shape) (c p value owner k : ℕ) (w : WaitId) (xs ys 
 still_offer shape c p value owner k w xs ys l at found = ⊎_elim (λ x. x) (λ r. absurd (resolved_not ((replay (xs ++ ys)).waits w) r found))
     (⊎_elim (λ x. offer_more shape c p value owner k w xs ys l x) (λ r. inr (resolved_more shape w xs ys l r)) at)
 
+-- where one was kept, its place was given out
+kept_given : (shape : Shape) (c p value : ℕ) (word : CellWord) (log : List Entry) → Legal shape log → IsKept shape c p value log word → p < ((replay log).channels c).next
+kept_given shape c p value word log l (put is at) = used_given (now log) c p (tied_now shape log l) (⊎_elim (λ (x : cell_of log c p ≡ buffered value). ap is_used x) (λ (x : cell_of log c p ≡ emptied value). ap is_used x) at)
+kept_given shape c p value word log l (held x a same is) = used_given (now log) c p (tied_now shape log l)
+    (⊎_elim (λ (y : cell_of log c p ≡ offer x.value a.who a.wait x.clause). ap is_used y) (λ (y : cell_of log c p ≡ emptied x.value). ap is_used y) a.cell)
+
+-- ---- what a removal asks, later
+
+pub held_later : (shape : Shape) (by : Removal) (c : ℕ) (xs ys : List Entry) → Legal shape (xs ++ ys) → MayRemoveHeld by c xs → MayRemoveHeld by c (xs ++ ys)
+held_later shape removal.Take c xs ys l h = tt
+held_later shape removal.Drop c xs ys l h = h
+held_later shape removal.Drain c xs ys l h = voided_later shape xs ys c l h
+
+asks_later : (shape : Shape) (by : Removal) (c p : ℕ) (xs ys : List Entry) → Legal shape xs → Legal shape (xs ++ ys) → p < ((replay xs).channels c).next → NoneBelow 0 p ((replay xs).channels c) → is_some (stands (xs ++ ys) c p) ≡ true
+    → MayRemove by shape c p xs → AsksNow by shape c (xs ++ ys)
+asks_later shape removal.Take c p xs ys lx l lt low stays h = tt
+asks_later shape removal.Drop c p xs ys lx l lt low stays h = over_later shape c p xs ys lx l lt low h stays
+asks_later shape removal.Drain c p xs ys lx l lt low stays h = voided_later shape xs ys c l h
+
 -- ---- each kind of step
 
 -- a kind that is not full with more is not full with fewer
-full_less : (k : Kind) (n m : ℕ) → n ≤ m → is_full k m ≡ false → is_full k n ≡ false
+pub full_less : (k : Kind) (n m : ℕ) → n ≤ m → is_full k m ≡ false → is_full k n ≡ false
 full_less Rendezvous n m le e = e
 full_less (Buffered k) n m le e = grind (arith, nat_tests)
 full_less Unlimited n m le e = refl
@@ -149,15 +169,15 @@ module _ (shape : Shape) (v : Seen) (who c p : ℕ) (own : has_tag who v.tags �
         hand_steps shape (v.seen ++ others) who c p value owner k w l lv fits.clause lc fits.channel fits.place kind (below_lasts shape v.seen others c p 0 l low) (receiver_more shape c p owner k w v.seen others l at) (f.wait w.channel w.place fits.channel fits.place refl).0;
   }
 
-  pub takes : (value owner k : ℕ) (w : WaitId) → PartyFits shape owner w k → NoneBelow 0 p ((replay v.seen).channels c) → (cell_of v.seen c p ≡ offer value owner w k) ⊎ IsResolvedWait ((replay v.seen).waits w)
-      → MayTurn shape (wait_number shape w.channel w.place) 0 (how_code (resolved.Taken k)) (record { who = who; act = Take c p value }) v
-  takes value owner k w fits low at = record {
+  pub removes : (by : Removal) (value owner k : ℕ) (w : WaitId) → MayRemoveHeld by c v.seen → PartyFits shape owner w k → NoneBelow 0 p ((replay v.seen).channels c) → (cell_of v.seen c p ≡ offer value owner w k) ⊎ IsResolvedWait ((replay v.seen).waits w)
+      → MayTurn shape (wait_number shape w.channel w.place) 0 (how_code (how_removed by k)) (record { who = who; act = removal_act by c p value }) v
+  removes by value owner k w may fits low at = record {
     own = own;
     steps = λ others added f.
         let l = added.is_legal in
         let found = (f.wait w.channel w.place fits.channel fits.place refl).0 in
-        take_steps shape (v.seen ++ others) who c p value owner k w l fits.clause lc fits.channel fits.place (below_lasts shape v.seen others c 0 p l low)
-        (still_offer shape c p value owner k w v.seen others l at found) found;
+        removed_steps shape (v.seen ++ others) who c p value owner k w l fits.clause lc fits.channel fits.place (below_lasts shape v.seen others c 0 p l low)
+        (still_offer shape c p value owner k w v.seen others l at found) found by (held_later shape by c v.seen others l may);
   }
 
   pub withdraws : (why : Why) → p ≤ places_at shape c → IsOwnWait who ((replay v.seen).waits (spot c p))
@@ -169,15 +189,16 @@ module _ (shape : Shape) (v : Seen) (who c p : ℕ) (own : has_tag who v.tags �
         withdraw_steps shape (v.seen ++ others) who c p why l lc lp (own_more shape who (spot c p) v.seen others l (added.apart who own) mine) (f.wait c p lc lp refl).0;
   }
 
-  pub empties : (value : ℕ) (word : CellWord) → p ≤ places_at shape c → NoneBelow 0 p ((replay v.seen).channels c) → IsKept shape c p value v.seen word
-      → MayTurn shape (cell_number shape c p) (packed_cell word) (cell_code shape c p (emptied value)) (record { who = who; act = Take c p value }) v
-  empties value word lp low k = record {
+  pub empties : (by : Removal) (value : ℕ) (word : CellWord) → Legal shape v.seen → MayRemove by shape c p v.seen → p ≤ places_at shape c → NoneBelow 0 p ((replay v.seen).channels c) → IsKept shape c p value v.seen word
+      → MayTurn shape (cell_number shape c p) (packed_cell word) (cell_code shape c p (emptied value)) (record { who = who; act = removal_act by c p value }) v
+  empties by value word lx may lp low k = record {
     own = own;
     steps = λ others added f.
         let l = added.is_legal in
         let at = f.cell c p lc lp refl in
         let s = kept_stands shape c p value word v.seen others l k at.0 at.1 in
-        kept_steps shape (v.seen ++ others) who c p value l lc lp s.small (below_lasts shape v.seen others c 0 p l low) s.used s.stands;
+        emptied_steps shape (v.seen ++ others) who c p value l lc lp s.small (below_lasts shape v.seen others c 0 p l low) s.used s.stands by
+        (asks_later shape by c p v.seen others lx l (kept_given shape c p value word v.seen lx k) low (ap is_some s.stands) may);
   }
 
   pub puts : (value : ℕ) → p < places_at shape c → value < 4294967296 → NoneBelow p 0 ((replay v.seen).channels c) → Legal shape v.seen
@@ -210,3 +231,7 @@ module _ (shape : Shape) (v : Seen) (who c p : ℕ) (own : has_tag who v.tags �
 -- by the word's and the numbers' other names
 pub may_as : (shape : Shape) (word old new i m n : ℕ) (e : Entry) (v : Seen) → word ≡ i → old ≡ m → new ≡ n → MayTurn shape i m n e v → MayTurn shape word old new e v
 may_as shape word old new i m n e v at is_old is_new h = subst (λ (z : ℕ × (ℕ × ℕ)). MayTurn shape z.0 z.1.0 z.1.1 e v) (λ k. (sym at k, (sym is_old k, sym is_new k))) h
+
+-- and the entry's
+pub may_by : (shape : Shape) (word old new i m n : ℕ) (e f : Entry) (v : Seen) → word ≡ i → old ≡ m → new ≡ n → e ≡ f → MayTurn shape i m n f v → MayTurn shape word old new e v
+may_by shape word old new i m n e f v at is_old is_new is h = may_as shape word old new i m n e v at is_old is_new (subst (λ (z : Entry). MayTurn shape i m n z v) (sym is) h)

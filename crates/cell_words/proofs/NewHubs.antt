@@ -6,9 +6,8 @@ use mathlib.Core.Logic.{dite}
 use native.Mathlib.Decide.{ℕ_discrete}
 use Rattle.cell_words.specs.Sizes.{AreFirsts}
 use Rattle.std.proofs.Common.{ap, sym, ◌∙◌, subst, arith, get_or, length-append}
-use Rattle.channel_model.specs.declared.acts.Entry.{Entry}
-use Rattle.channel_model.specs.Channels.{Shape, State, Channel, start, empty, places_at}
-use Rattle.channel_model.specs.Histories.{replay, replay_from, Legal, LegalFrom}
+use Rattle.channel_model.specs.Channels.{Shape, empty, places_at}
+use Rattle.channel_model.specs.Histories.{replay_from, Legal, LegalFrom}
 use Rattle.cell_words.specs.Cells.{board_from}
 use Rattle.cell_words.specs.Words.{base, cells_in, word_count, Fits}
 use Rattle.cell_words.proofs.LooksAtCells.{none_below_start}

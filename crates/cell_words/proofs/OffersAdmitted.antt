@@ -1,5 +1,5 @@
 -- A held offer that is admitted keeps the tie of lists and cells.
-use Rattle.std.proofs.Common.{◌≡◌, ◌≢◌, ℕ, zero, suc, ◌+◌, ◌<◌, ◌≤◌, ◌==◌, eqb, Bool, true, false, true≢false, not, List, [], ◌∷◌, ◌++◌, filter, if◌then◌else◌, Option, Some, None, is_some, sym, refl, ap, ◌∙◌, subst, ⊎_elim, inl, inr, arith, eq-eqb, ne_eqb, MatchBool}
+use Rattle.std.proofs.Common.{◌≡◌, ℕ, zero, suc, ◌+◌, ◌<◌, ◌≤◌, ◌==◌, eqb, Bool, true, false, List, [], ◌∷◌, ◌++◌, filter, if◌then◌else◌, Option, Some, None, is_some, sym, refl, ap, ◌∙◌, subst, arith, eq-eqb, ne_eqb, MatchBool}
 use Rattle.std.proofs.lemmas.Bool.{eqb-true}
 use mathlib.Core.Logic.{dite}
 use native.Mathlib.Decide.{ℕ_discrete}
@@ -7,16 +7,14 @@ use Rattle.co_base.specs.declared.names.WaitId.{WaitId}
 use Rattle.channel_model.specs.declared.acts.Kind.{Kind}
 use Rattle.channel_model.specs.declared.standing.Party.{Party}
 use Rattle.channel_model.specs.declared.standing.Standing.{Standing}
-use Rattle.channel_model.specs.declared.standing.Receiver.{Receiver}
-use Rattle.channel_model.specs.declared.standing.Resolution.{Resolution}
 use Rattle.channel_model.specs.declared.standing.Resolution.TheVariants as resolved
-use Rattle.channel_model.specs.Channels.{State, Channel, Wait, same_wait, is_full}
-use Rattle.channel_model.specs.Effects.{resolve, resolve_holder, with_queue, is_held_by, put_channel, put_wait, resolved_wait, admitted, holder_at}
+use Rattle.channel_model.specs.Channels.{Wait, same_wait, is_full}
+use Rattle.channel_model.specs.Effects.{resolve, resolve_holder, with_queue, put_wait, resolved_wait, admitted, holder_at}
 use Rattle.channel_model.specs.Needs.{MayBeAdmitted}
-use Rattle.channel_model.proofs.Waits.{same_wait-eq, at_wait, one_change}
-use Rattle.cell_words.specs.Cells.{Cell, free, receiver, offer, buffered, emptied, Cells, spot, offer_after, offer_of, offer_by, standing, awaiting, Board, add_some, gather, is_used, end_cell}
+use Rattle.channel_model.proofs.Waits.{at_wait, one_change}
+use Rattle.cell_words.specs.Cells.{free, offer, spot, offer_after, offer_of, offer_by, standing, awaiting, Board, add_some, gather, is_used, end_cell}
 use Rattle.cell_words.proofs.GatheredLists.{gather_same, gather_filter, gather_in, keep}
-use Rattle.cell_words.proofs.ListsOfCells.{board, IsNamed, CellNamed, NamesAt, AdmittedAmong, IsAtOwnClause, Tied, ChannelTied, by_channel, not_held, not_mine, resolve_point, resolve_dot, named_resolved, cell_named, IsOffer, held, kept_here, standing_is}
+use Rattle.cell_words.proofs.ListsOfCells.{board, IsNamed, CellNamed, NamesAt, IsAtOwnClause, Tied, by_channel, not_held, not_mine, resolve_point, resolve_dot, named_resolved, cell_named, IsOffer, held, kept_here, standing_is}
 use Rattle.cell_words.proofs.OffersRemoved.{offer_place}
 
 abbrev freed : Option Standing → Option Standing

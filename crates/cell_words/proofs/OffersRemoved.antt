@@ -1,7 +1,5 @@
 -- Who is served, told or removed keeps the tie of lists and cells.
-use Rattle.std.proofs.Common.{◌≡◌, ◌≢◌, ℕ, zero, suc, ◌+◌, ◌<◌, ◌≤◌, ◌==◌, eqb, Bool, true, false, true≢false, not, ◌&&◌, ◌||◌, cond, List, [], ◌∷◌, ◌++◌, filter, if◌then◌else◌, Option, Some, None, sym, refl, ap, ◌∙◌, subst, ⊎_elim, inl, inr, arith, add-one, eq-eqb, ne_eqb, MatchBool, is_some}
-use Rattle.std.specs.List.{list_any}
-use Rattle.std.proofs.lemmas.Bool.{eqb-true}
+use Rattle.std.proofs.Common.{◌≡◌, ℕ, ◌<◌, eqb, Bool, true, not, cond, List, [], ◌∷◌, filter, if◌then◌else◌, Option, Some, None, sym, refl, ap, ◌∙◌, subst, arith, eq-eqb, ne_eqb}
 use mathlib.Core.Logic.{dite}
 use native.Mathlib.Decide.{ℕ_discrete}
 use Rattle.co_base.specs.declared.names.WaitId.{WaitId}
@@ -9,14 +7,13 @@ use Rattle.channel_model.specs.declared.standing.Party.{Party}
 use Rattle.channel_model.specs.declared.standing.Standing.{Standing}
 use Rattle.channel_model.specs.declared.standing.Receiver.{Receiver}
 use Rattle.channel_model.specs.declared.standing.Resolution.{Resolution}
-use Rattle.channel_model.specs.declared.standing.Resolution.TheVariants as resolved
 use Rattle.channel_model.specs.Channels.{State, Channel, Wait, same_wait}
-use Rattle.channel_model.specs.Effects.{resolve, resolve_first, resolve_holder, resolve_offer, remove_first, with_queue, without, is_held_by, put_channel, put_wait, resolved_wait, close_value}
-use Rattle.channel_model.specs.Needs.{IsFirstReceiver, IsFirstOffer, IsOpenOf}
-use Rattle.channel_model.proofs.Waits.{same_wait-eq, same_wait-refl, at_wait}
-use Rattle.cell_words.specs.Cells.{Cell, free, receiver, offer, buffered, emptied, closed_by, voided_by, Cells, spot, set_cell, offer_of, standing, awaiting, emptied_unless, emptied_if, Board, add_some, gather, is_used, end_cell}
+use Rattle.channel_model.specs.Effects.{resolve, resolve_first, resolve_holder, resolve_offer, remove_first, with_queue, without, is_held_by, put_channel, put_wait, resolved_wait}
+use Rattle.channel_model.specs.Needs.{IsFirstOffer, IsOpenOf}
+use Rattle.channel_model.proofs.Waits.{same_wait-refl}
+use Rattle.cell_words.specs.Cells.{Cell, emptied, Cells, set_cell, standing, awaiting, emptied_unless, emptied_if, Board, gather, is_used, end_cell}
 use Rattle.cell_words.proofs.GatheredLists.{gather_same, gather_first, gather_head}
-use Rattle.cell_words.proofs.ListsOfCells.{board, NamesAt, CellNamed, Tied, ChannelTied, channel_tied, Unmoved, ties_change, ties_resolve, Final, IsReceiver, awaiting_is, IsOffer, held, kept_here, standing_is, cell_here, cell_else, set_same, by_channel}
+use Rattle.cell_words.proofs.ListsOfCells.{board, NamesAt, CellNamed, Tied, ties_change, ties_resolve, Final, IsReceiver, awaiting_is, IsOffer, held, kept_here, standing_is, cell_here, cell_else, set_same, by_channel}
 
 -- ---- receivers
 

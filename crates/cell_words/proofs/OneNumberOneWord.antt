@@ -1,7 +1,7 @@
 -- The numbers of words are apart.
-use Rattle.std.proofs.Common.{◌≡◌, ◌≢◌, ℕ, zero, suc, ◌+◌, ◌*◌, ◌<◌, ◌≤◌, List, [], ◌∷◌, length, refl, sym, ap, ◌∙◌, arith}
+use Rattle.std.proofs.Common.{◌≡◌, ℕ, zero, suc, ◌+◌, ◌*◌, ◌<◌, ◌≤◌, [], ◌∷◌, length, refl, ap, arith}
 use Rattle.channel_model.specs.Channels.{Shape, places_at}
-use Rattle.cell_words.specs.Words.{base, cells_in, number, cell_number, wait_number, send_number, receive_number, word_count}
+use Rattle.cell_words.specs.Words.{cells_in, number, cell_number, wait_number, send_number, receive_number, word_count}
 
 pub number_apart : (shape : Shape) (c d p q : ℕ) → c < length shape → d < length shape → p ≤ places_at shape c → q ≤ places_at shape d → number shape c p ≡ number shape d q → (c ≡ d) × (p ≡ q)
 number_apart [] c d p q lc ld lp lq e = absurd (omega arith)

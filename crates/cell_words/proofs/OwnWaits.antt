@@ -1,5 +1,5 @@
 -- The owner of a wait stays, and a wait that was resolved is settled by its owner, which cannot fail.
-use Rattle.std.proofs.Common.{◌≡◌, ◌≢◌, ℕ, ◌+◌, ◌*◌, ◌<◌, ◌≤◌, Bool, true, false, List, [], ◌∷◌, ◌++◌, length, Option, Some, None, is_some, sym, refl, ap, ◌∙◌, subst}
+use Rattle.std.proofs.Common.{◌≡◌, ℕ, ◌<◌, ◌≤◌, Bool, true, List, [], ◌∷◌, ◌++◌, length, Option, Some, None, is_some, sym, refl, ap, ◌∙◌, subst}
 use Rattle.worded.specs.Exchanges.{OthersAdded}
 use Rattle.worded.specs.Views.{has_tag}
 use Rattle.worded.specs.Histories.{entries_of}
@@ -24,9 +24,9 @@ use Rattle.channel_model.proofs.Firsts.{may_settle}
 use Rattle.channel_model.proofs.Sound.{lasts}
 use Rattle.channel_model.proofs.Later.{resolved_later}
 use Rattle.cell_words.specs.declared.wait_word.WaitWord.{WaitWord}
-use Rattle.cell_words.specs.Cells.{spot, cell_of}
+use Rattle.cell_words.specs.Cells.{spot}
 use Rattle.cell_words.specs.Codes.{packed_wait}
-use Rattle.cell_words.specs.Words.{number, wait_number, wait_code, how_word, parts_word, word_of_wait, settled_word, how_code, HowFits, PartsFit, WaitFits, HasWaitCode, Fits}
+use Rattle.cell_words.specs.Words.{number, wait_number, how_word, parts_word, word_of_wait, settled_word, how_code, HowFits, PartsFit, WaitFits, HasWaitCode, Fits}
 use Rattle.cell_words.specs.Seen.{Seen, maker, Sees, Makes}
 use Rattle.cell_words.specs.Looks.{resolution_found}
 use Rattle.cell_words.specs.Answers.{IsWaitWord, WaitAnswer, MayTurn}

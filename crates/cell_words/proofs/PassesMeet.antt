@@ -2,7 +2,7 @@
 use Rattle.std.specs.Prelude.{◌≡◌, ℕ, ◌==◌, Bool, true, false, ◌||◌, List, [], ◌∷◌, ◌++◌, if◌then◌else◌, refl}
 use Rattle.std.proofs.Common.{sym, ap, ◌∙◌, subst, append-nil}
 use mathlib.Core.List.{IsPrefix}
-use Rattle.worded.specs.Views.{has_tag, told_by, having_seen}
+use Rattle.worded.specs.Views.{has_tag}
 use Rattle.worded.specs.Histories.{entries_of}
 use Rattle.worded.specs.Exchanges.{Met, TookIn}
 use Rattle.worded.proofs.TagsAndPrefixes.{entries_of-append}
@@ -12,7 +12,7 @@ use Rattle.channel_model.specs.Histories.{Legal}
 use Rattle.cell_words.specs.declared.layout.Layout.{Layout}
 use Rattle.cell_words.specs.Words.{Fits}
 use Rattle.cell_words.specs.Seen.{Seen, maker, tags_given}
-use Rattle.cell_words.specs.Meetings.{SameOf, MeetAnswer, EndAnswer}
+use Rattle.cell_words.specs.Meetings.{MeetAnswer, EndAnswer}
 use Rattle.cell_words.proofs.StepsOfATable.{legal_at}
 
 has_tag-or : (t : ℕ) (xs ys : List ℕ) → has_tag t (xs ++ ys) ≡ (has_tag t xs || has_tag t ys)

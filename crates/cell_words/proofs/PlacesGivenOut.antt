@@ -1,5 +1,5 @@
 -- A place that is given out keeps the tie of lists and cells.
-use Rattle.std.proofs.Common.{◌≡◌, ◌≢◌, ℕ, zero, suc, ◌+◌, ◌<◌, ◌≤◌, ◌==◌, eqb, Bool, true, false, true≢false, not, ◌&&◌, ◌||◌, List, [], ◌∷◌, ◌++◌, if◌then◌else◌, Option, Some, None, sym, refl, ap, ◌∙◌, subst, ⊎_elim, inl, inr, arith, add-one, eq-eqb, MatchBool}
+use Rattle.std.proofs.Common.{◌≡◌, ℕ, ◌+◌, ◌≤◌, ◌==◌, Bool, true, false, ◌||◌, List, [], ◌∷◌, ◌++◌, if◌then◌else◌, Option, Some, None, sym, refl, ap, ◌∙◌, subst, arith, eq-eqb, MatchBool}
 use Rattle.std.specs.List.{list_any}
 use Rattle.std.proofs.lemmas.Bool.{eqb-true}
 use Rattle.std.proofs.lemmas.List.Folds.{list_any-append}
@@ -7,19 +7,16 @@ use mathlib.Core.Logic.{dite}
 use native.Mathlib.Decide.{ℕ_discrete}
 use Rattle.co_base.specs.declared.names.WaitId.{WaitId}
 use Rattle.channel_model.specs.declared.acts.Settled.{Settled}
-use Rattle.channel_model.specs.declared.standing.Party.{Party}
-use Rattle.channel_model.specs.declared.standing.Standing.{Standing}
-use Rattle.channel_model.specs.declared.standing.Receiver.{Receiver}
 use Rattle.channel_model.specs.declared.standing.Resolution.{Resolution}
 use Rattle.channel_model.specs.declared.standing.Resolution.TheVariants as resolved
-use Rattle.channel_model.specs.Channels.{State, Channel, Wait, same_wait}
+use Rattle.channel_model.specs.Channels.{Channel, Wait, same_wait}
 use Rattle.channel_model.specs.Effects.{put_channel, put_wait, name_clause, settled_wait, is_open, place_offer, place_receiver}
-use Rattle.channel_model.specs.Needs.{HasPlace, MayName, JoinsWait, MayJoin}
+use Rattle.channel_model.specs.Needs.{HasPlace, MayName, JoinsWait}
 use Rattle.channel_model.proofs.Waits.{same_wait-eq, at_wait, one_change}
 use Rattle.channel_model.proofs.Placed.{Placed}
-use Rattle.cell_words.specs.Cells.{Cell, free, receiver, offer, buffered, emptied, closed_by, voided_by, Cells, spot, set_cell, offer_after, offer_by, offer_of, standing, receiver_by, receiver_of, awaiting, Board, add_some, gather, is_used, end_cell}
+use Rattle.cell_words.specs.Cells.{Cell, free, receiver, offer, buffered, emptied, closed_by, voided_by, spot, set_cell, offer_by, offer_of, standing, receiver_by, receiver_of, awaiting, Board, add_some, is_used, end_cell}
 use Rattle.cell_words.proofs.GatheredLists.{gather_push}
-use Rattle.cell_words.proofs.ListsOfCells.{board, IsNamed, CellNamed, NamesAt, AdmittedAmong, IsAtOwnClause, Tied, ChannelTied, channel_tied, Unmoved, ties_change, ties_waits, cell_here, cell_else}
+use Rattle.cell_words.proofs.ListsOfCells.{board, IsNamed, CellNamed, NamesAt, AdmittedAmong, IsAtOwnClause, Tied, ChannelTied, Unmoved, ties_change, ties_waits, cell_here, cell_else}
 
 -- ---- a change of a wait that moves nobody
 

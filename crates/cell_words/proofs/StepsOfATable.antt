@@ -1,15 +1,14 @@
 -- What a step of the table says of the pass.
-use Rattle.std.specs.Prelude.{◌≡◌, ℕ, ◌==◌, Bool, true, false, List, [], ◌∷◌, ◌++◌, MatchBool}
+use Rattle.std.specs.Prelude.{◌≡◌, ℕ, ◌==◌, Bool, true, false, List, [], ◌++◌, MatchBool}
 use mathlib.Core.Option.{some}
 use Rattle.std.proofs.Common.{sym, ap, ◌∙◌, subst, append-nil}
 use Rattle.channel_model.specs.declared.acts.Entry.{Entry}
 use Rattle.channel_model.specs.Channels.{Shape}
 use Rattle.channel_model.specs.Histories.{Legal}
-use Rattle.worded.specs.Views.{has_tag}
 use Rattle.worded.specs.Exchanges.{Loaded, Entered, Exchanged}
 use Rattle.cell_words.specs.declared.layout.Layout.{Layout}
 use Rattle.cell_words.specs.Words.{Fits}
-use Rattle.cell_words.specs.Seen.{Seen, maker, tags_given, Sees, Makes, Turns, ExchangeAnswer}
+use Rattle.cell_words.specs.Seen.{Seen, maker, tags_given, Sees, Turns, ExchangeAnswer}
 
 module _ (shape : Shape) (word : ℕ) (v w : Seen) (idle : v.heard_tags ≡ []) where
   pub sees_of : (n : ℕ) → Loaded (Legal shape) (Fits shape) maker word n v w → Sees v w

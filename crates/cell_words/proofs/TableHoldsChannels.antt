@@ -6,7 +6,6 @@ use Rattle.worded.specs.Histories.{HasOneHistory, entries_of}
 use Rattle.worded.specs.declared.view.View.{View}
 use Rattle.channel_model.specs.declared.acts.Act.{Act}
 use Rattle.channel_model.specs.declared.acts.Entry.{Entry}
-use Rattle.channel_model.specs.Channels.{Shape}
 use Rattle.channel_model.specs.Histories.{Legal, acts_of}
 use Rattle.cell_words.specs.declared.layout.Layout.{Layout}
 use Rattle.cell_words.specs.Words.{Fits, word_count}

@@ -1,5 +1,5 @@
 -- The own cell of a wait names its coroutine, until it is emptied; and then the wait was resolved.
-use Rattle.std.proofs.Common.{is_some, ◌≡◌, ◌≢◌, ℕ, ◌+◌, ◌<◌, ◌≤◌, ◌==◌, Bool, true, false, true≢false, List, [], ◌∷◌, ◌++◌, if◌then◌else◌, Option, Some, None, MatchBool, sym, refl, ap, ◌∙◌, subst, arith}
+use Rattle.std.proofs.Common.{is_some, ◌≡◌, ℕ, ◌≤◌, Bool, true, false, List, [], ◌∷◌, if◌then◌else◌, Option, Some, None, MatchBool, sym, refl, ap, ◌∙◌, subst, arith}
 use Rattle.co_base.specs.declared.names.WaitId.{WaitId}
 use Rattle.channel_model.specs.declared.acts.Act.{Act}
 use Rattle.channel_model.specs.declared.acts.Act.TheVariants.{Hand, Put, Offer, Await, Take, Admit, Drop, Close, Void, Drain, WakeClosed, Withdraw, Settle}
@@ -9,14 +9,14 @@ use Rattle.channel_model.specs.declared.standing.Party.{Party}
 use Rattle.channel_model.specs.declared.standing.Standing.{Standing}
 use Rattle.channel_model.specs.declared.standing.Receiver.{Receiver}
 use Rattle.channel_model.specs.declared.standing.Resolution.{Resolution}
-use Rattle.channel_model.specs.Channels.{Shape, State, Channel, Wait, same_wait, places_at}
-use Rattle.channel_model.specs.Effects.{after, resolve, resolve_first, resolve_holder, resolve_offer, remove_first, with_queue, put_wait, resolved_wait, name_clause, settled_wait, holder_at}
-use Rattle.channel_model.specs.Needs.{Needs, HasPlace, MayName, JoinsWait, MayJoin}
+use Rattle.channel_model.specs.Channels.{Shape, State, Wait, same_wait, places_at}
+use Rattle.channel_model.specs.Effects.{resolve_first, resolve_holder, resolve_offer, remove_first, with_queue, put_wait, resolved_wait, name_clause, settled_wait, holder_at}
+use Rattle.channel_model.specs.Needs.{Needs, HasPlace, MayName, JoinsWait}
 use Rattle.channel_model.specs.Histories.{replay, Legal}
-use Rattle.channel_model.proofs.Waits.{same_wait-eq, same_wait-refl, at_wait}
+use Rattle.channel_model.proofs.Waits.{same_wait-eq}
 use Rattle.channel_model.proofs.Placed.{Placed}
-use Rattle.cell_words.specs.Cells.{Cell, free, receiver, offer, buffered, emptied, closed_by, voided_by, Cells, spot, set_cell, standing, offer_of, offer_by, offer_after, emptied_if, emptied_unless, mark, Board, step_board, blank, board_of, board_from, cell_of}
-use Rattle.cell_words.proofs.ListsOfCells.{Tied, by_spot, cell_here, cell_else}
+use Rattle.cell_words.specs.Cells.{Cell, free, receiver, offer, buffered, emptied, closed_by, voided_by, Cells, spot, set_cell, standing, offer_of, offer_by, offer_after, emptied_if, emptied_unless, Board, step_board, blank, board_from, cell_of}
+use Rattle.cell_words.proofs.ListsOfCells.{by_spot, cell_here}
 use Rattle.channel_model.proofs.Sound.{Sound}
 use Rattle.cell_words.proofs.CellsGiveLists.{BoardLasts, board_lasts, board_state}
 

@@ -1,23 +1,23 @@
 -- A wait that is resolved by another: who it is of, and that it stays while others look.
-use Rattle.std.proofs.Common.{Bool, true, false, ◌≡◌, ◌⊎◌, ℕ, ◌+◌, ◌*◌, ◌<◌, List, ◌++◌, length, Option, Some, None, sym, refl, ap, ◌∙◌, subst, inl, inr, ⊎_elim}
+use Rattle.std.proofs.Common.{Bool, true, false, ◌≡◌, ◌⊎◌, ℕ, List, sym, refl, ap, ◌∙◌, subst}
 use Rattle.co_base.specs.declared.names.WaitId.{WaitId}
 use Rattle.channel_model.specs.declared.acts.Entry.{Entry}
 use Rattle.channel_model.specs.Channels.{Shape}
 use Rattle.channel_model.specs.Histories.{replay, Legal}
 use Rattle.channel_model.specs.Answers.{IsOwnWait, IsResolvedWait}
 use Rattle.cell_words.specs.declared.cell_word.CellWord.{CellWord}
+use Rattle.cell_words.specs.declared.found.Removal.{Removal}
 use Rattle.cell_words.specs.declared.found.Waiter.{Waiter}
 use Rattle.cell_words.specs.declared.wait_word.WaitWord.{WaitWord}
 use Rattle.cell_words.specs.Cells.{receiver, offer, cell_of}
 use Rattle.cell_words.specs.Codes.{packed_wait}
-use Rattle.cell_words.specs.Words.{IsCell, wait_code}
 use Rattle.channel_model.specs.Laws.{NoneBelow}
 use Rattle.cell_words.specs.Seen.{Seen, Sees, at_channel}
 use Rattle.cell_words.specs.Looks.{owner_told, holder_of, lets_stand, tried_by, tried_found}
-use Rattle.cell_words.specs.Answers.{IsCellWord, IsWaitWord, IsHeld, Receives, Offers, OwnerAnswer, TakeAnswer}
+use Rattle.cell_words.specs.Answers.{IsCellWord, IsWaitWord, IsHeld, Offers, OwnerAnswer, RemoveAnswer, MayRemoveHeld}
 use Rattle.cell_words.proofs.CellsLast.{resolved_more, receiver_more, offer_more}
 use Rattle.cell_words.proofs.LooksAtCells.{home_owner}
-use Rattle.cell_words.proofs.MayExchange.{resolved_not}
+use Rattle.cell_words.proofs.MayExchange.{resolved_not, held_later}
 use Rattle.cell_words.proofs.OwnWaits.{owner_seen}
 use Rattle.cell_words.proofs.WaitsAtHome.{at_home}
 use Rattle.cell_words.proofs.ExchangesTell.{low_later, take_gone, take_admitted}
@@ -44,10 +44,14 @@ resolved_word shape w u v word s l r is e =
     resolved_not ((replay v.seen).waits w) (subst (λ (es : List Entry). IsResolvedWait ((replay es).waits w)) (sym s.now) (resolved_more shape w u.seen s.others (subst (Legal shape) s.now l) r)) (sym e ∙ ap packed_wait is.0)
 
 -- what the word of a resolved wait tells of its offer
-pub take_tried : (shape : Shape) (v w : Seen) (who c p : ℕ) (x : Waiter) → Legal shape w.seen → Sees v w → NoneBelow 0 p (at_channel v.seen c) → (o : Offers shape c p x v.seen) → (word : WaitWord) → IsWaitWord o.held.wait w.seen word → (packed_wait word ≡ 0 → ⊥)
-    → TakeAnswer shape who c p x v w (tried_found word x.clause)
-take_tried shape v w who c p x l s low o word is ne = by_test (lets_stand word x.clause) refl
+pub take_tried : (by : Removal) (shape : Shape) (v w : Seen) (who c p : ℕ) (x : Waiter) → Legal shape w.seen → Sees v w → NoneBelow 0 p (at_channel v.seen c) → (o : Offers shape c p x v.seen) → (word : WaitWord) → IsWaitWord o.held.wait w.seen word → (packed_wait word ≡ 0 → ⊥)
+    → RemoveAnswer by shape who c p x v w (tried_found word x.clause)
+take_tried by shape v w who c p x l s low o word is ne = by_test (lets_stand word x.clause) refl
   where
-    by_test : (b : Bool) → lets_stand word x.clause ≡ b → TakeAnswer shape who c p x v w (tried_by b)
+    by_test : (b : Bool) → lets_stand word x.clause ≡ b → RemoveAnswer by shape who c p x v w (tried_by b)
     by_test true e = (s, low_later shape v w c p l s low, take_admitted shape v w l s c p x.value o.held.who x.clause o.held.wait low o.cell x refl refl o.held.holder o.held.fits word is ne e)
     by_test false e = (s, take_gone shape v w l s c p x.value o.held.who x.clause o.held.wait low o.cell word is e)
+
+-- what a removal of a held offer asks, after some looks
+pub held_seen_may : (shape : Shape) (by : Removal) (c : ℕ) (u v : Seen) → Sees u v → Legal shape v.seen → MayRemoveHeld by c u.seen → MayRemoveHeld by c v.seen
+held_seen_may shape by c u v s l h = subst (λ (es : List Entry). MayRemoveHeld by c es) (sym s.now) (held_later shape by c u.seen s.others (subst (Legal shape) s.now l) h)

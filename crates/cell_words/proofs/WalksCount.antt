@@ -1,5 +1,5 @@
 -- What a walk has counted, and what was so while it went.
-use Rattle.std.proofs.Common.{◌≡◌, ◌≢◌, ◌⊎◌, ℕ, zero, suc, ◌+◌, ◌*◌, ◌%◌, ◌/◌, ◌<◌, ◌≤◌, ◌-◌, nat_le, Bool, true, false, List, [], ◌∷◌, ◌++◌, length, Option, Some, None, is_some, sym, refl, ap, ◌∙◌, subst, arith, MatchBool}
+use Rattle.std.proofs.Common.{◌≡◌, ℕ, ◌+◌, ◌<◌, ◌≤◌, ◌-◌, nat_le, Bool, true, false, List, length, None, is_some, sym, refl, ap, ◌∙◌, subst, arith, MatchBool}
 use Rattle.std.proofs.lemmas.Bool.{leb-true, leb-false}
 use mathlib.Core.Logic.{dite}
 use native.Mathlib.Decide.{ℕ_discrete}
@@ -7,7 +7,7 @@ use Rattle.co_base.specs.declared.names.WaitId.{WaitId}
 use Rattle.channel_model.specs.declared.acts.Entry.{Entry}
 use Rattle.channel_model.specs.declared.acts.Kind.{Kind}
 use Rattle.channel_model.specs.declared.acts.Kind.TheVariants.{Rendezvous, Buffered, Unlimited, Conflated, DropOldest, Signal}
-use Rattle.channel_model.specs.Channels.{Shape, places_at, kind_at, is_full, suspends, is_signal}
+use Rattle.channel_model.specs.Channels.{Shape, kind_at, is_full, suspends, is_signal}
 use Rattle.channel_model.specs.Histories.{replay, Legal}
 use Rattle.channel_model.specs.Laws.{NoneBelow}
 use Rattle.cell_words.specs.declared.cell_word.CellState.{CellState}
@@ -18,12 +18,12 @@ use Rattle.cell_words.specs.declared.found.At.{At}
 use Rattle.cell_words.specs.declared.found.At.TheVariants as at
 use Rattle.cell_words.specs.Cells.{Cell, free, receiver, offer, buffered, emptied, closed_by, voided_by, cell_of, gather, standing}
 use Rattle.cell_words.specs.Words.{PartyFits, word_of_cell, CellFits}
-use Rattle.cell_words.specs.Seen.{Seen, at_channel, Sees, Makes}
+use Rattle.cell_words.specs.Seen.{Seen, at_channel, Sees}
 use Rattle.cell_words.specs.Looks.{holder_of, waiter_of, found_by_sender, found_by_receiver, lets_stand}
-use Rattle.cell_words.specs.Answers.{IsCellWord, IsWaitWord, IsHolder, stands, OfferAt, WholeOfferAt, PlacedFull, TriedOfferAt, WouldWait, ReceiveAt, TriedReceiveAt}
+use Rattle.cell_words.specs.Answers.{IsCellWord, IsWaitWord, IsHolder, stands, OfferAt, WholeOfferAt, TriedOfferAt, ReceiveAt, TriedReceiveAt}
 use Rattle.cell_words.proofs.CountsOfOffers.{gone_more, stood_before, count_some, count_none, count_next, count_less, count_up}
 use Rattle.cell_words.proofs.ExchangesTell.{stood_at, gone_at}
-use Rattle.cell_words.proofs.LooksAtCells.{holder_is, state_free, sees_then, sees_makes, below_seen, given_seen}
+use Rattle.cell_words.proofs.LooksAtCells.{holder_is, state_free, sees_then, sees_makes, given_seen}
 use Rattle.cell_words.proofs.CellsTellFacts.{now, tied_now, free_end, none_line, none_queue}
 use Rattle.channel_model.specs.Answers.{IsFullToTry, IsEmptyToTry}
 

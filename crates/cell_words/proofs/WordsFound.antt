@@ -1,22 +1,21 @@
 -- The number of a word that was found is that of the cell or of the wait, and the word is theirs.
-use Rattle.std.specs.Prelude.{◌≡◌, ℕ, ◌+◌, ◌*◌, ◌<◌, ◌≤◌, Bool, true, false, List, length, Option, Some, None, if◌then◌else◌, refl}
-use Rattle.std.proofs.Common.{sym, ap, ◌∙◌, subst, arith}
+use Rattle.std.specs.Prelude.{◌≡◌, ℕ, ◌+◌, ◌*◌, ◌<◌, Bool, true, false, List, Option, Some, None, if◌then◌else◌, refl}
+use Rattle.std.proofs.Common.{sym, ◌∙◌, subst, arith}
 use Rattle.co_base.specs.declared.names.WaitId.{WaitId}
 use Rattle.channel_model.specs.declared.acts.Entry.{Entry}
 use Rattle.channel_model.specs.declared.acts.Settled.{Settled}
 use Rattle.channel_model.specs.declared.acts.Why.TheVariants.{Cancelled, Revoked}
 use Rattle.channel_model.specs.declared.standing.Resolution.{Resolution}
 use Rattle.channel_model.specs.declared.standing.Resolution.TheVariants as resolved
-use Rattle.channel_model.specs.Channels.{Shape, Wait, places_at, same_wait}
+use Rattle.channel_model.specs.Channels.{Shape, Wait, same_wait}
 use Rattle.channel_model.specs.Histories.{replay}
 use Rattle.cell_words.specs.declared.cell_word.CellState.{CellState}
 use Rattle.cell_words.specs.declared.cell_word.CellWord.{CellWord}
 use Rattle.cell_words.specs.declared.wait_word.WaitWord.{WaitWord}
 use Rattle.cell_words.specs.Cells.{Cell, free, receiver, offer, buffered, emptied, closed_by, voided_by, spot, cell_of}
 use Rattle.cell_words.specs.Codes.{packed_cell, IsNarrowCell, packed_wait, IsNarrowWait}
-use Rattle.cell_words.specs.Words.{number, cell_number, wait_number, IsCell, PartyFits, party_word, word_of_cell, CellFits, how_word, parts_word, word_of_wait, HowFits, PartsFit, WaitFits, Fits}
+use Rattle.cell_words.specs.Words.{number, IsCell, PartyFits, party_word, word_of_cell, CellFits, how_word, parts_word, word_of_wait, HowFits, PartsFit, WaitFits, Fits}
 use Rattle.cell_words.specs.Answers.{IsNumber, IsCellWord, IsWaitWord, IsNumberedCell, IsNumberedWait}
-use Rattle.cell_words.proofs.OneNumberOneWord.{number_apart}
 use Rattle.cell_words.proofs.OneCodeOneWord.{cell_code_is, wait_code_is}
 
 pub party_narrow : (shape : Shape) (c p : ℕ) (state : CellState) (v who k : ℕ) (w : WaitId) → PartyFits shape who w k → v < 4294967296 → IsNarrowCell (party_word shape c p state v who w k)

@@ -1,19 +1,22 @@
 -- What each kind of step asks, and what it tells.
-use Rattle.std.specs.Prelude.{◌≡◌, ◌≢◌, ◌⊎◌, ℕ, ◌+◌, ◌*◌, ◌<◌, ◌≤◌, Bool, true, false, List, [], ◌++◌, length, Option, Some, None}
+use Rattle.std.specs.Prelude.{◌≡◌, ◌≢◌, ◌⊎◌, ℕ, ◌+◌, ◌*◌, ◌<◌, ◌≤◌, Bool, true, false, List, [], ◌++◌, length, Option, Some, None, is_some}
 use Rattle.co_base.specs.declared.names.WaitId.{WaitId}
 use Rattle.channel_model.specs.declared.acts.Entry.{Entry}
-use Rattle.channel_model.specs.declared.acts.Act.TheVariants.{Offer, Hand, Await, Take, Put, Close, Withdraw}
+use Rattle.channel_model.specs.declared.acts.Act.TheVariants.{Offer, Hand, Await, Put, Admit, Close, Void, WakeClosed, Withdraw}
 use Rattle.channel_model.specs.declared.acts.Why.{Why}
 use Rattle.channel_model.specs.declared.standing.Resolution.TheVariants as resolved
 use Rattle.channel_model.specs.declared.standing.Standing.{Standing}
-use Rattle.channel_model.specs.Channels.{Shape, Wait, same_wait, kind_at, is_full}
+use Rattle.channel_model.specs.Channels.{Shape, same_wait, kind_at, is_full, drops}
+use Rattle.channel_model.specs.Effects.{holder_at}
 use Rattle.channel_model.specs.Histories.{replay, Legal}
 use Rattle.channel_model.specs.Laws.{NoneBelow, IsResolvedAs}
-use Rattle.channel_model.specs.Answers.{first_receiver, first_holder, IsOwnWait, IsResolvedWait, IsSpentForOffers, IsSpentForReceives, IsFullToTry, IsEmptyToTry}
+use Rattle.channel_model.specs.Answers.{first_receiver, first_holder, owner_of_holder, IsOwnWait, IsResolvedWait, IsSpentForOffers, IsSpentForReceives, IsFullToTry, IsEmptyToTry, IsAdmittedBelow}
 use Rattle.worded.specs.Exchanges.{MayEnter}
 use Rattle.cell_words.specs.declared.cell_word.CellState.TheVariants as cell
 use Rattle.cell_words.specs.declared.cell_word.CellWord.{CellWord}
 use Rattle.cell_words.specs.declared.wait_word.WaitWord.{WaitWord}
+use Rattle.cell_words.specs.declared.found.Admission.{Admission}
+use Rattle.cell_words.specs.declared.found.Admission.TheVariants as admission
 use Rattle.cell_words.specs.declared.found.At.{At}
 use Rattle.cell_words.specs.declared.found.At.TheVariants as at
 use Rattle.cell_words.specs.declared.found.End.{End}
@@ -22,9 +25,16 @@ use Rattle.cell_words.specs.declared.found.Tried.{Tried}
 use Rattle.cell_words.specs.declared.found.Tried.TheVariants as tried
 use Rattle.cell_words.specs.declared.found.Holder.{Holder}
 use Rattle.cell_words.specs.declared.found.Holder.TheVariants as holder
+use Rattle.cell_words.specs.declared.found.Here.{Here}
+use Rattle.cell_words.specs.declared.found.Here.TheVariants as here
+use Rattle.cell_words.specs.declared.found.Removal.{Removal}
+use Rattle.cell_words.specs.declared.found.Removal.TheVariants as removal
+use Rattle.cell_words.specs.declared.found.Search.{Search}
+use Rattle.cell_words.specs.declared.found.Search.TheVariants as search
 use Rattle.cell_words.specs.declared.found.Waiter.{Waiter}
 use Rattle.cell_words.specs.Cells.{receiver, offer, buffered, emptied, spot, cell_of, standing}
 use Rattle.cell_words.specs.Codes.{packed_cell, packed_wait}
+use Rattle.cell_words.specs.Removals.{removal_act}
 use Rattle.cell_words.specs.Words.{number, IsCell, PartyFits, plain_word, party_word, word_of_cell, CellFits, word_of_wait, WaitFits, Fits}
 use Rattle.cell_words.specs.Seen.{Seen, maker, at_channel, Sees, Makes, Turns}
 
@@ -178,10 +188,15 @@ TriedReceiveAt shape who c p old new (at.Kept y) = ReceiveAt shape who c p old n
 TriedReceiveAt shape who c p old new (at.Closed y) = ReceiveAt shape who c p old new (at.Closed y)
 TriedReceiveAt shape who c p old new at.Gone = ReceiveAt shape who c p old new at.Gone
 
--- the first offer was taken; t waited with it, if somebody did
-pub record TakesFrom (who c p v : ℕ) (t : Option ℕ) (old new : Seen) : Type 0 where
-  pub made : Makes old (record { who = who; act = Take c p v }) new
+-- ---- the first offer is removed
+
+-- t waited with it, if somebody did
+pub record RemovesFrom (by : Removal) (who c p v : ℕ) (t : Option ℕ) (old new : Seen) : Type 0 where
+  pub made : Makes old (record { who = who; act = removal_act by c p v }) new
   pub from : first_holder (replay (old.seen ++ made.others)) (at_channel (old.seen ++ made.others) c).queue ≡ t
+
+abbrev pub TakesFrom : ℕ → ℕ → ℕ → ℕ → Option ℕ → Seen → Seen → Type 0
+TakesFrom who c p v t old new = RemovesFrom removal.Take who c p v t old new
 
 -- an offer that was admitted, so that its element is kept until its cell is emptied
 pub record IsAdmitted (shape : Shape) (c p : ℕ) (x : Waiter) (log : List Entry) : Type 0 where
@@ -192,10 +207,14 @@ pub record IsAdmitted (shape : Shape) (c p : ℕ) (x : Waiter) (log : List Entry
   pub admitted : IsResolvedAs (resolved.Admitted x.clause) ((replay log).waits wait)
   pub cell : (cell_of log c p ≡ offer x.value who wait x.clause) ⊎ (cell_of log c p ≡ emptied x.value)
 
+abbrev pub RemoveAnswer : Removal → Shape → ℕ → ℕ → ℕ → Waiter → Seen → Seen → Tried → Type 0
+RemoveAnswer by shape who c p x old new (tried.Taken t) = RemovesFrom by who c p x.value (Some t) old new
+RemoveAnswer by shape who c p x old new tried.Gone = Sees old new × NoneBelow 0 (p + 1) (at_channel new.seen c)
+RemoveAnswer by shape who c p x old new tried.Admitted =
+    Sees old new × NoneBelow 0 p (at_channel new.seen c) × IsAdmitted shape c p x new.seen
+
 abbrev pub TakeAnswer : Shape → ℕ → ℕ → ℕ → Waiter → Seen → Seen → Tried → Type 0
-TakeAnswer shape who c p x old new (tried.Taken t) = TakesFrom who c p x.value (Some t) old new
-TakeAnswer shape who c p x old new tried.Gone = Sees old new × NoneBelow 0 (p + 1) (at_channel new.seen c)
-TakeAnswer shape who c p x old new tried.Admitted = Sees old new × NoneBelow 0 p (at_channel new.seen c) × IsAdmitted shape c p x new.seen
+TakeAnswer shape who c p x old new answer = RemoveAnswer removal.Take shape who c p x old new answer
 
 -- an element was put here, or an offer was admitted: the word of its cell until it is emptied
 pub data IsKept (shape : Shape) (c p v : ℕ) (log : List Entry) (word : CellWord) : Type 0 where
@@ -203,16 +222,94 @@ pub data IsKept (shape : Shape) (c p v : ℕ) (log : List Entry) (word : CellWor
   held : (x : Waiter) (a : IsAdmitted shape c p x log) → x.value ≡ v
       → word ≡ party_word shape c p cell.Offer v a.who a.wait x.clause → IsKept shape c p v log word
 
--- the element was taken where it was kept; or it was removed before
+-- the element was removed where it was kept; or it was so before
+abbrev pub EmptyAnswer : Removal → ℕ → ℕ → ℕ → ℕ → Seen → Seen → Bool → Type 0
+EmptyAnswer by who c p v old new true = RemovesFrom by who c p v None old new
+EmptyAnswer by who c p v old new false = Sees old new × NoneBelow 0 (p + 1) (at_channel new.seen c)
+
 abbrev pub KeptAnswer : ℕ → ℕ → ℕ → ℕ → Seen → Seen → Bool → Type 0
-KeptAnswer who c p v old new true = TakesFrom who c p v None old new
-KeptAnswer who c p v old new false = Sees old new × NoneBelow 0 (p + 1) (at_channel new.seen c)
+KeptAnswer who c p v old new answer = EmptyAnswer removal.Take who c p v old new answer
 
 -- ---- offers, by place
 
 -- the offer that stands at a place
 abbrev pub stands : List Entry → ℕ → ℕ → Option Standing
 stands log c p = standing (replay log).waits p (cell_of log c p)
+
+-- more stand than the channel keeps, where it drops its oldest; or none stands at this place any more
+abbrev pub IsOver : Shape → ℕ → ℕ → List Entry → Type 0
+IsOver shape c p log = (stands log c p ≡ None) ⊎ (drops (kind_at shape c) (length (at_channel log c).queue) ≡ true)
+
+-- what a removal asks besides an element that stands first
+abbrev pub MayRemove : Removal → Shape → ℕ → ℕ → List Entry → Type 0
+MayRemove removal.Take shape c p log = Unit {0}
+MayRemove removal.Drop shape c p log = IsOver shape c p log
+MayRemove removal.Drain shape c p log = (at_channel log c).voided ≡ true
+
+-- and where one waits with it, which a channel that drops has none of
+abbrev pub MayRemoveHeld : Removal → ℕ → List Entry → Type 0
+MayRemoveHeld removal.Take c log = Unit {0}
+MayRemoveHeld removal.Drop c log = ⊥
+MayRemoveHeld removal.Drain c log = (at_channel log c).voided ≡ true
+
+-- what stands at a place, for one who looks for offers
+abbrev pub SenderAt : Shape → ℕ → ℕ → Seen → Seen → At → Type 0
+SenderAt shape c p old new at.Spent = ⊥
+SenderAt shape c p old new at.Open = Sees old new × ((at_channel new.seen c).next ≡ p)
+SenderAt shape c p old new at.Placed = ⊥
+SenderAt shape c p old new at.Put = ⊥
+SenderAt shape c p old new (at.Waiting x) = Sees old new × Offers shape c p x new.seen
+SenderAt shape c p old new (at.Kept y) = Sees old new × (cell_of new.seen c p ≡ buffered y)
+SenderAt shape c p old new (at.Closed y) = Sees old new × ((at_channel new.seen c).next ≡ p)
+SenderAt shape c p old new at.Gone = Sees old new × (p + 1 ≤ (at_channel new.seen c).next) × (stands new.seen c p ≡ None)
+
+-- the offer of t at this place was admitted
+pub record Admits (who c p t : ℕ) (old new : Seen) : Type 0 where
+  pub made : Makes old (record { who = who; act = Admit c p }) new
+  pub of : owner_of_holder (replay (old.seen ++ made.others)) (holder_at p (at_channel (old.seen ++ made.others) c).queue) ≡ Some t
+
+-- or nobody waits with it any more: it is kept, or it is gone
+abbrev pub AdmitAt : Shape → ℕ → ℕ → ℕ → Waiter → Seen → Seen → Admission → Type 0
+AdmitAt shape who c p x old new (admission.Done t) = Admits who c p t old new
+AdmitAt shape who c p x old new admission.Kept = Sees old new × IsAdmitted shape c p x new.seen
+AdmitAt shape who c p x old new admission.Gone = Sees old new × (stands new.seen c p ≡ None)
+
+-- ---- a walk for an offer to admit
+
+-- somebody waits with the offer
+abbrev pub waits_with : Option Standing → Bool
+waits_with None = false
+waits_with (Some o) = is_some o.holder
+
+-- an element is kept at this place, or one was and is gone like all before it
+pub record KeptHere (c p : ℕ) (log : List Entry) : Type 0 where
+  pub given : p + 1 ≤ (at_channel log c).next
+  pub nobody : waits_with (stands log c p) ≡ false
+  pub behind : (q : ℕ) → q ≤ p → is_some (stands log c q) ≡ true → is_some (stands log c p) ≡ true
+
+abbrev pub HereAnswer : ℕ → ℕ → ℕ → Seen → Seen → Here → Type 0
+HereAnswer who c p old new (here.Done t) = Admits who c p t old new
+HereAnswer who c p old new here.Kept = Sees old new × KeptHere c p new.seen
+HereAnswer who c p old new here.Gone = Sees old new × (p + 1 ≤ (at_channel new.seen c).next) × (stands new.seen c p ≡ None)
+HereAnswer who c p old new here.End = Sees old new × ((at_channel new.seen c).next ≡ p)
+
+-- at a moment no offer below the mark might be admitted
+pub record NothingToAdmit (shape : Shape) (c mark : ℕ) (old new : Seen) : Type 0 where
+  pub then : Seen
+  pub sees : Sees old then
+  pub later : Sees then new
+  pub nothing : IsAdmittedBelow shape c mark (replay then.seen)
+
+-- an offer below the mark was admitted; or none might be; or none stands up to the place where the walk began
+abbrev pub SearchAnswer : Shape → ℕ → ℕ → ℕ → ℕ → Seen → Seen → Search → Type 0
+SearchAnswer shape who c low mark old new (search.Done p t) = Admits who c p t old new × (p < mark)
+SearchAnswer shape who c low mark old new search.Nothing = NothingToAdmit shape c mark old new
+SearchAnswer shape who c low mark old new search.Passed = Sees old new × NoneBelow 0 (low + 1) (at_channel new.seen c)
+
+-- its place, and the coroutine that waits with it
+abbrev pub AdmitBelowAnswer : Shape → ℕ → ℕ → ℕ → Seen → Seen → Option (ℕ × ℕ) → Type 0
+AdmitBelowAnswer shape who c mark old new (Some x) = Admits who c x.0 x.1 old new × (x.0 < mark)
+AdmitBelowAnswer shape who c mark old new None = NothingToAdmit shape c mark old new
 
 -- ---- the end of a channel
 
@@ -225,6 +322,33 @@ abbrev pub CloseAt : ℕ → ℕ → ℕ → ℕ → Seen → Seen → End → T
 CloseAt who c p v old new end.Used = Sees old new × (p + 1 ≤ (at_channel new.seen c).next)
 CloseAt who c p v old new end.Open = Makes old (record { who = who; act = Close c v }) new
 CloseAt who c p v old new (end.Closed x) = Sees old new × ((at_channel new.seen c).closed ≡ Some x)
+
+-- who stands at a place, for one who looks for receivers
+abbrev pub ReceiverAt : Shape → ℕ → ℕ → Seen → Seen → At → Type 0
+ReceiverAt shape c p old new at.Spent = ⊥
+ReceiverAt shape c p old new at.Open = Sees old new × ((at_channel new.seen c).next ≡ p) × ((at_channel new.seen c).closed ≡ None)
+ReceiverAt shape c p old new at.Placed = ⊥
+ReceiverAt shape c p old new at.Put = ⊥
+ReceiverAt shape c p old new (at.Waiting x) = Sees old new × NoneBelow p 0 (at_channel new.seen c) × Receives shape c p x new.seen
+ReceiverAt shape c p old new (at.Kept y) = ⊥
+ReceiverAt shape c p old new (at.Closed y) =
+    Sees old new × ((at_channel new.seen c).closed ≡ Some y) × ((at_channel new.seen c).receivers ≡ [])
+ReceiverAt shape c p old new at.Gone = Sees old new × NoneBelow (p + 1) 0 (at_channel new.seen c)
+
+-- the first receiver, that of t, was told of the close
+pub record Wakes (who c p t : ℕ) (old new : Seen) : Type 0 where
+  pub made : Makes old (record { who = who; act = WakeClosed c p }) new
+  pub to : first_receiver (replay (old.seen ++ made.others)) (at_channel (old.seen ++ made.others) c).receivers ≡ Some t
+
+-- or it does not stand, and nobody does up to here
+abbrev pub WakeAt : ℕ → ℕ → ℕ → Seen → Seen → Option ℕ → Type 0
+WakeAt who c p old new (Some t) = Wakes who c p t old new
+WakeAt who c p old new None = Sees old new × NoneBelow (p + 1) 0 (at_channel new.seen c)
+
+-- the channel was cancelled, now or before
+abbrev pub VoidAt : ℕ → ℕ → Seen → Seen → Bool → Type 0
+VoidAt who c old new true = Makes old (record { who = who; act = Void c }) new
+VoidAt who c old new false = Sees old new × ((at_channel new.seen c).voided ≡ true)
 
 -- ---- the own wait
 

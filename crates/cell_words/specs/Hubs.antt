@@ -1,13 +1,10 @@
 -- A hub and a pass.
-use Rattle.std.specs.Prelude.{◌≡◌, ℕ, ◌+◌, ◌<◌, ◌≤◌, Bool, true, false, List, [], ◌∷◌, length, slice_index}
+use Rattle.std.specs.Prelude.{◌≡◌, ℕ, Bool, true, false, List, [], ◌∷◌}
 use Rattle.worded.specs.Views.{has_tag}
 use Rattle.worded.specs.Histories.{entries_of}
-use Rattle.channel_model.specs.declared.acts.Entry.{Entry}
-use Rattle.channel_model.specs.Channels.{Shape, IsShape, places_at}
+use Rattle.channel_model.specs.Channels.{Shape}
 use Rattle.cell_words.specs.declared.hub.Hub.{Hub}
 use Rattle.cell_words.specs.declared.pass.Pass.{Pass}
-use Rattle.cell_words.specs.Words.{base, cells_in, word_count}
-use Rattle.cell_words.specs.Sizes.{IsSized}
 use Rattle.cell_words.specs.Seen.{Seen, tags_given, maker}
 
 abbrev pub shape_of : Hub → Shape

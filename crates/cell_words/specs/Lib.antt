@@ -4,6 +4,7 @@ pub mod Codes
 pub mod Hubs
 pub mod Looks
 pub mod Meetings
+pub mod Removals
 pub mod Seen
 pub mod Sizes
 pub mod Tables

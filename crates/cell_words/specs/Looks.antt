@@ -1,5 +1,5 @@
 -- What the words tell a caller.
-use Rattle.std.specs.Prelude.{◌≡◌, ℕ, ◌%◌, ◌==◌, Bool, true, false, if◌then◌else◌, Option, Some, None}
+use Rattle.std.specs.Prelude.{ℕ, ◌%◌, ◌==◌, Bool, true, false, if◌then◌else◌, Option, Some, None}
 use Rattle.channel_model.specs.declared.acts.Why.TheVariants.{Cancelled, Revoked}
 use Rattle.channel_model.specs.declared.floor.WaitState.{WaitState}
 use Rattle.channel_model.specs.declared.floor.WaitState.TheVariants as state
@@ -11,6 +11,8 @@ use Rattle.cell_words.specs.declared.cell_word.CellWord.{CellWord}
 use Rattle.cell_words.specs.declared.wait_word.ResolvedBy.{ResolvedBy}
 use Rattle.cell_words.specs.declared.wait_word.ResolvedBy.TheVariants as by
 use Rattle.cell_words.specs.declared.wait_word.WaitWord.{WaitWord}
+use Rattle.cell_words.specs.declared.found.Admission.{Admission}
+use Rattle.cell_words.specs.declared.found.Admission.TheVariants as admission
 use Rattle.cell_words.specs.declared.found.At.{At}
 use Rattle.cell_words.specs.declared.found.At.TheVariants as at
 use Rattle.cell_words.specs.declared.found.End.{End}
@@ -103,6 +105,14 @@ tried_by false = tried.Gone
 -- what a resolved wait says of the offer of clause k
 abbrev pub tried_found : WaitWord → ℕ → Tried
 tried_found w k = tried_by (lets_stand w k)
+
+abbrev pub admission_by : Bool → Admission
+admission_by true = admission.Kept
+admission_by false = admission.Gone
+
+-- what it says to one who would admit that offer
+abbrev pub admission_found : WaitWord → ℕ → Admission
+admission_found w k = admission_by (lets_stand w k)
 
 abbrev pub state_by : ResolvedBy → WaitState
 state_by by.Nobody = state.Standing

@@ -1,5 +1,5 @@
 -- What passes have seen of one another.
-use Rattle.std.specs.Prelude.{◌≡◌, ℕ, true, false, ◌||◌, List}
+use Rattle.std.specs.Prelude.{◌≡◌, ℕ, true, ◌||◌, List}
 use mathlib.Core.List.{IsPrefix}
 use Rattle.worded.specs.Views.{has_tag}
 use Rattle.worded.specs.Histories.{entries_of}

@@ -1,6 +1,5 @@
 -- What was seen of a hub, and what steps add.
-use Rattle.std.specs.Prelude.{◌≡◌, ℕ, ◌==◌, Bool, true, false, List, [], ◌∷◌, ◌++◌, MatchBool}
-use Rattle.atomic_table.specs.declared.shared.Seat.{Seat}
+use Rattle.std.specs.Prelude.{◌≡◌, ℕ, ◌==◌, Bool, true, List, [], ◌∷◌, ◌++◌, MatchBool}
 use Rattle.channel_model.specs.declared.acts.Entry.{Entry}
 use Rattle.channel_model.specs.Channels.{Shape, Channel}
 use Rattle.channel_model.specs.Histories.{replay}

@@ -1,6 +1,6 @@
 -- How large a hub is.
-use Rattle.std.specs.Prelude.{◌≡◌, ℕ, ◌+◌, ◌<◌, ◌≤◌, List, length, slice_index}
-use Rattle.channel_model.specs.Channels.{Shape, IsShape, places_at}
+use Rattle.std.specs.Prelude.{◌≡◌, ℕ, ◌<◌, List, length, slice_index}
+use Rattle.channel_model.specs.Channels.{Shape, IsShape}
 use Rattle.cell_words.specs.Words.{base, cells_in, word_count}
 
 -- the numbers of the first cells of the first n channels

@@ -1,11 +1,14 @@
 //! How many offers stand, by one walk: each that is found later stood at the beginning, since who is gone does not come back.
 ghost use Rattle.std.specs.Prelude.{◌≡◌, ◌<◌, ◌≤◌, MatchBool, true, false, length, None, is_some};
-ghost use Rattle.channel_model.specs.Channels.{kind_at, is_full};
+ghost use Rattle.channel_model.specs.Channels.{kind_at, places_at, is_full};
+ghost use Rattle.channel_model.specs.Histories.{replay};
+ghost use Rattle.channel_model.specs.Laws.{NoneBelow};
+ghost use Rattle.channel_model.specs.Answers.{IsTrimmed};
 ghost use Rattle.cell_words.specs.Cells.{gather};
 ghost use Rattle.cell_words.specs.Words.{IsCell};
 ghost use Rattle.cell_words.specs.Hubs.{shape_of, seen_by, IsOwn};
 ghost use Rattle.cell_words.specs.Seen.{Sees, at_channel};
-ghost use Rattle.cell_words.specs.Answers.{stands};
+ghost use Rattle.cell_words.specs.Answers.{stands, IsOver};
 
 use crate::cell_word::CellState;
 use crate::cells::{kind_of, load_cell, load_wait};
@@ -17,7 +20,7 @@ use channel_model::Kind;
 use co_base::{ChannelId, Place, Tag};
 
 /// Whether an offer stands at a place: true if it stood at the beginning, false if none stands any more.
-fn stands_at(hub: &Hub, pass: &mut Pass, who: Tag, c: ChannelId, place: Place) -> bool
+pub(crate) fn stands_at(hub: &Hub, pass: &mut Pass, who: Tag, c: ChannelId, place: Place) -> bool
     requires own { IsOwn hub.now pass.old who }
     requires at { IsCell (shape_of hub.now) c place }
     requires given { place < (at_channel (seen_by pass.old).seen c).next }
@@ -82,4 +85,34 @@ pub(crate) fn has_room(hub: &Hub, pass: &mut Pass, who: Tag, c: ChannelId, end: 
         Kind::Buffered(most) => !count_below(hub, pass, who, c, end, most),
         Kind::Unlimited | Kind::Conflated | Kind::DropOldest(_) => true,
     }
+}
+
+/// Whether more elements stand at places up to `mine` than the channel keeps, where it drops its oldest: true while one stands at
+/// `first`, before which none does.
+pub fn is_over(
+    hub: &Hub,
+    pass: &mut Pass,
+    who: Tag,
+    c: ChannelId,
+    first: Place,
+    mine: Place,
+) -> bool
+    requires own { IsOwn hub.now pass.old who }
+    requires at { (c < length (shape_of hub.now)) × (mine < places_at (shape_of hub.now) c) }
+    requires given { (first ≤ mine) × (mine < (at_channel (seen_by pass.old).seen c).next) }
+    requires low { NoneBelow 0 first (at_channel (seen_by pass.old).seen c) }
+    ensures own { IsOwn hub.now pass.new who }
+    ensures sees { Sees (seen_by pass.old) (seen_by pass.new) }
+    ensures over { MatchBool result
+        (IsOver (shape_of hub.now) c first (seen_by pass.new).seen)
+        (IsTrimmed (shape_of hub.now) c mine (replay (seen_by pass.new).seen)) }
+{
+    let most = match kind_of(hub, c).drops_beyond() {
+        Some(most) => most,
+        None => return false,
+    };
+    if mine < most {
+        return false;
+    }
+    count_below(hub, pass, who, c, mine + 1, most + 1)
 }

@@ -1,6 +1,6 @@
 //! What a caller finds at a place.
 
-use co_base::{Tag, Value};
+use co_base::{Place, Tag, Value};
 
 /// Whose the wait is that a cell names.
 #[derive(Clone, Copy, Debug, PartialEq, Eq)]
@@ -52,13 +52,59 @@ pub enum End {
     Closed(Value),
 }
 
+/// Which act removes an element that stands first.
+#[derive(Clone, Copy, Debug, PartialEq, Eq)]
+pub enum Removal {
+    /// It is received.
+    Take,
+    /// It is dropped for a newer one.
+    Drop,
+    /// It is lost with its channel, which was cancelled.
+    Drain,
+}
+
 /// What an exchange on the wait of an offer came to.
 #[derive(Clone, Copy, Debug, PartialEq, Eq)]
 pub enum Tried {
-    /// The element was taken; the coroutine that waited with it.
+    /// The element was taken, or removed otherwise; the coroutine that waited with it.
     Taken(Tag),
     /// The offer stands no more.
     Gone,
     /// The offer was admitted, so that its cell decides.
     Admitted,
+}
+
+/// What the admission of an offer came to.
+#[derive(Clone, Copy, Debug, PartialEq, Eq)]
+pub enum Admission {
+    /// It is kept now; the coroutine that waited with it.
+    Done(Tag),
+    /// It was admitted before: its element is kept until its cell is emptied.
+    Kept,
+    /// The offer stands no more.
+    Gone,
+}
+
+/// What a look for an offer to admit came to, at one place.
+#[derive(Clone, Copy, Debug, PartialEq, Eq)]
+pub enum Here {
+    /// The offer was admitted; the coroutine that waited with it.
+    Done(Tag),
+    /// An element is kept here.
+    Kept,
+    /// No offer stands here.
+    Gone,
+    /// The place was not given out.
+    End,
+}
+
+/// What a walk for an offer to admit came to.
+#[derive(Clone, Copy, Debug, PartialEq, Eq)]
+pub enum Search {
+    /// The offer at this place was admitted; the coroutine that waited with it.
+    Done(Place, Tag),
+    /// None may be.
+    Nothing,
+    /// No offer stands where the walk began, so that it is to begin above.
+    Passed,
 }

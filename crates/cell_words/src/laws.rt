@@ -1,5 +1,5 @@
 //! What the words say.
-ghost use Rattle.std.specs.Prelude.{◌≡◌, ℕ, List};
+ghost use Rattle.std.specs.Prelude.{◌≡◌, ℕ, true, List};
 ghost use Rattle.atomic_table.specs.Table.{State};
 ghost use Rattle.worded.specs.Histories.{HasOneHistory};
 ghost use Rattle.worded.specs.declared.view.View.{View};
@@ -14,6 +14,10 @@ ghost use Rattle.cell_words.specs.Codes.{packed_cell, packed_wait, IsNarrowCell,
 ghost use Rattle.cell_words.specs.Words.{Fits, word_count};
 ghost use Rattle.cell_words.specs.Seen.{maker};
 ghost use Rattle.cell_words.specs.Tables.{HoldsChannels};
+ghost use Rattle.channel_model.specs.declared.acts.Act.{Act as AnAct};
+ghost use Rattle.channel_model.specs.Fates.{removes};
+ghost use Rattle.cell_words.specs.declared.found.Removal.{Removal as ARemoval};
+ghost use Rattle.cell_words.specs.Removals.{removal_act, IsRemovalAt};
 
 /// No two words have one number. So a word that is packed and unpacked is the same word.
 pub fn two_words_have_two_numbers()
@@ -34,4 +38,10 @@ pub fn cells_and_waits_tell_who_stands()
 pub fn a_hub_has_one_history()
     ensures { (layout : ALayout) (s : State AnEntry (View AnEntry ALayout))
         → HasOneHistory (Legal layout.kinds) (Fits layout.kinds) maker (word_count layout.kinds) s → HoldsChannels layout.kinds s }
+{}
+
+/// The acts that empty a cell are those that take an offer out of its queue.
+pub fn removals_are_the_acts_that_remove()
+    ensures each { (by : ARemoval) (c p v : ℕ) → removes c p (removal_act by c p v) ≡ true }
+    ensures only { (act : AnAct) (c p : ℕ) → removes c p act ≡ true → IsRemovalAt c p act }
 {}

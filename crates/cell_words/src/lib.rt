@@ -5,29 +5,41 @@
 //! became of its place, a wait word how the wait was resolved that began there (`cell_word` and `wait_word` have the bits). A wait that
 //! stands has the word 0. A select's clauses all name the cell where its wait began. Two counters of each channel say from where to look.
 //!
-//! | word | from | to | by | the exchange decides |
+//! | word | from | to | the step, and who makes it | the exchange decides |
 //! |---|---|---|---|---|
-//! | cell | Free | Receiver, Offer | who waits | who has the place; the cell is where the channel ends |
-//! | cell | Free | Buffered | who sends, where the channel keeps one more | the same |
-//! | cell | Free | Closed | who closes | that the channel ends here |
-//! | cell | Closed | Voided | who cancels | that the channel is cancelled |
-//! | cell | Buffered, or Offer of an admitted wait | Emptied | who receives, drops or drains | who has the element |
-//! | wait | 0 | handed, taken, admitted, closed, voided | anybody | who resolves the wait |
-//! | wait | 0 | cancelled, revoked | its coroutine | that it was not resolved before |
-//! | wait | resolved | settled | its coroutine | nothing: nobody else settles it |
-//! | counter | n | at least m | anybody | nothing: it is a hint |
+//! | cell | Free | Receiver, Offer | `await_at`, `offer_at`: who waits | who has the place; the cell is where the channel ends |
+//! | cell | Free | Buffered | `offer_at`: who sends, where the channel keeps one more | the same |
+//! | cell | Free | Closed | `close_at`: who closes | that the channel ends here |
+//! | cell | Closed | Voided | `void_at`: who cancels | that the channel is cancelled |
+//! | cell | Buffered, or Offer of an admitted wait | Emptied | who receives (`take_kept`, `take_admitted`), drops (`drop_kept`) or drains (`drain_kept`, `drain_admitted`) | who has the element |
+//! | wait | 0 | handed | `hand`: who sends | who resolves the wait of the first receiver |
+//! | wait | 0 | closed | `wake`: anybody, once the channel is closed | the same |
+//! | wait | 0 | taken | `take`: who receives | who resolves the wait of the first offer |
+//! | wait | 0 | voided | `drain`: anybody, once the channel is cancelled | the same |
+//! | wait | 0 | admitted | `admit_at`: anybody, where fewer offers stand before it than the channel keeps | who resolves the wait of the offer |
+//! | wait | 0 | cancelled, revoked | `withdraw_at`: its coroutine | that it was not resolved before |
+//! | wait | resolved | settled | `settle_at`: its coroutine | nothing: nobody else settles it |
+//! | counter | n | at least m | `raise_sends`, `raise_receives`: anybody | nothing: it is a hint |
 //!
 //! **What stands.** A receiver stands while its wait has the word 0. An offer stands while its wait has the word 0, and also after its wait
 //! was admitted at its clause, until its cell is emptied. So a held offer's cell stays as it is when its wait is taken, withdrawn or
 //! resolved elsewhere, and whoever comes by reads the wait.
 //!
 //! **What the loser sees.** A failed exchange of a free cell returns the word found: who was placed there, or that the channel ends there.
-//! A failed exchange of a wait says that it was resolved; who is gone never stands again, so the walk goes on to the next place.
+//! A failed exchange of a wait says that it was resolved; who is gone never stands again, so the walk goes on to the next place. Of an
+//! offer it says too whether it was admitted at this clause: then its cell decides who has the element. A failed exchange of a kept
+//! element's cell says that it was emptied, one of a closed cell that the channel was cancelled.
+//!
+//! **What a step rests on** was seen before, and others cannot undo it while the word is as it was: nobody of the same side stands below
+//! the place; no more offers stand before an offer than did; a channel that was closed or cancelled stays so and ends where it ended;
+//! while an offer stands, the elements that are kept behind it stand, so that a queue that was too long still is.
 //!
 //! **Walks.** A caller comes from below, from a counter on, below which nobody of the other side stands. `offer_at` and `await_at` say
 //! what is at one place; the answer is a fact of the moment of their last load. An offer waits only where the channel was full: it
 //! counts the offers below the free end by one walk. Each that is found later stood at the beginning, so that either all stood then,
-//! or fewer do at the end. No word is loaded after an exchange that made an entry, and a counter is raised by a step that shows
+//! or fewer do at the end. A walk for an offer to admit counts too: once it has found as many kept elements as the channel keeps, it looks
+//! at the first of them again. While that stands the others do, so none may be admitted; else the walk begins anew above it.
+//! No word is loaded after an exchange that made an entry, and a counter is raised by a step that shows
 //! nothing, so that the own entry is the last that was seen.
 //!
 //! **The history.** It is that of the channels, a list of entries; all words are a function of it, but for the counters (`Words` has it).
@@ -38,13 +50,16 @@
 //! - `meeting`: how a hub is made, and its passes are split, met and ended.
 //! - `steps`, `cells`: the three steps on a word, and those on cells and waits.
 //! - `found`, `looks`: what a caller finds at a place, and what the words tell.
-//! - `counting`, `placing`: whether a channel is full; a caller is placed where the channel ends.
-//! - `resolving`: the first receiver is handed an element, the first offer's element is taken.
+//! - `counting`, `placing`: whether a channel is full, or keeps too many; a caller is placed where the channel ends.
+//! - `resolving`: the first receiver is handed an element.
+//! - `removing`: the first offer's element is taken, dropped or drained.
+//! - `admitting`: a held offer is kept from now on; a walk for one that may be.
 //! - `own_waits`: a coroutine looks at its own wait, withdraws it or settles it.
-//! - `ending`, `counters`: where a channel ends, and from where to look.
+//! - `ending`, `counters`: where a channel ends, is closed and cancelled, its receivers are told so; from where to look.
 //! - `laws`: what the words say.
 #![tactic(auto)]
 
+mod admitting;
 mod cell_word;
 mod cells;
 mod counters;
@@ -59,22 +74,27 @@ mod meeting;
 mod own_waits;
 mod pass;
 mod placing;
+mod removing;
 mod resolving;
 mod steps;
 mod wait_word;
 
+pub use admitting::{admit_at, admit_below, sender_at};
 pub use cell_word::{CellState, CellWord};
 pub use cells::{kind_of, load_cell, places_of};
 pub use counters::{raise_receives, raise_sends, receives_from, sends_from};
-pub use ending::{close_at, end_at};
-pub use found::{At, End, Holder, Tried, Waiter};
+pub use counting::is_over;
+pub use ending::{close_at, end_at, receiver_at, void_at, wake};
+pub use found::{Admission, At, End, Holder, Removal, Tried, Waiter};
 pub use hub::{CellHistory, Hub, HubTable};
 pub use laws::{
-    a_hub_has_one_history, cells_and_waits_tell_who_stands, two_words_have_two_numbers,
+    a_hub_has_one_history, cells_and_waits_tell_who_stands, removals_are_the_acts_that_remove,
+    two_words_have_two_numbers,
 };
 pub use layout::Layout;
 pub use own_waits::{look_at, settle_at, withdraw_at};
 pub use pass::Pass;
 pub use placing::{await_at, offer_at, try_await_at, try_offer_at};
-pub use resolving::{hand, take, take_admitted, take_kept};
+pub use removing::{drain, drain_admitted, drain_kept, drop_kept, take, take_admitted, take_kept};
+pub use resolving::hand;
 pub use wait_word::{ResolvedBy, WaitWord};

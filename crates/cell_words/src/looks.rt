@@ -2,11 +2,11 @@
 ghost use Rattle.std.specs.Prelude.{◌≡◌, true, false};
 ghost use Rattle.cell_words.specs.Codes.{packed_cell, packed_wait, IsNarrowCell, IsNarrowWait};
 ghost use Rattle.cell_words.specs.Words.{how_word, is_cancelled_end};
-ghost use Rattle.cell_words.specs.Looks.{holder_of, waiter_of, is_used_state, found_by_sender, found_by_receiver, end_found, lets_stand, tried_found, state_found, resolution_found};
+ghost use Rattle.cell_words.specs.Looks.{holder_of, waiter_of, is_used_state, found_by_sender, found_by_receiver, end_found, lets_stand, tried_found, state_found, resolution_found, admission_found};
 ghost use Rattle.channel_model.specs.declared.standing.Resolution.TheVariants as resolved;
 
 use crate::cell_word::{CellState, CellWord};
-use crate::found::{At, End, Holder, Tried, Waiter};
+use crate::found::{Admission, At, End, Holder, Tried, Waiter};
 use crate::wait_word::{ResolvedBy, WaitWord};
 use channel_model::{Resolution, Settled, WaitState, Why};
 use co_base::{Tag, Value};
@@ -157,6 +157,17 @@ pub(crate) fn tried_found(word: WaitWord, clause: u8) -> Tried
         Tried::Admitted
     } else {
         Tried::Gone
+    }
+}
+
+/// What a resolved wait with this word says to one who would admit the offer of its clause.
+pub(crate) fn admission_found(word: WaitWord, clause: u8) -> Admission
+    ensures { result ≡ admission_found word clause }
+{
+    if lets_stand(word, clause) {
+        Admission::Kept
+    } else {
+        Admission::Gone
     }
 }
 

@@ -1,6 +1,6 @@
-use Rattle.std.proofs.Common.{◌≡◌, ℕ, ◌*◌, ◌<◌, sym, ap, ◌∙◌, subst, arith}
+use Rattle.std.proofs.Common.{ℕ, ◌*◌, sym, ap, ◌∙◌, subst, arith}
 use Rattle.cell_words.specs.Hubs.{shape_of}
-use Rattle.cell_words.specs.Words.{Fits, number}
+use Rattle.cell_words.specs.Words.{Fits}
 use Rattle.cell_words.proofs.OneNumberOneWord.{cell_within, number_within}
 use Rattle.cell_words.proofs.ExchangesTell.{turned_as, not_turned}
 use Rattle.cell_words.proofs.WordsFound.{cell_found, cell_some}

@@ -1,4 +1,4 @@
-use Rattle.std.proofs.Common.{◌≡◌, ℕ, ◌+◌, ◌*◌, ◌<◌, sym, ap, ◌∙◌, refl, subst, arith}
+use Rattle.std.proofs.Common.{sym, ◌∙◌, refl, arith}
 use Rattle.cell_words.specs.Hubs.{shape_of}
 use Rattle.cell_words.proofs.OneNumberOneWord.{number_within}
 use Rattle.cell_words.proofs.ExchangesTell.{turned_as, not_turned}

@@ -1,6 +1,5 @@
-use Rattle.std.proofs.Common.{◌≡◌, ℕ, ◌<◌, arith, subst, sym, ap, ◌∙◌}
+use Rattle.std.proofs.Common.{arith}
 use Rattle.cell_words.specs.Hubs.{shape_of}
-use Rattle.cell_words.specs.Words.{word_count}
 use Rattle.cell_words.proofs.OneNumberOneWord.{number_within}
 use Rattle.cell_words.proofs.WordsFound.{numbered_wait, numbered_wait_some}
 use Rattle.cell_words.proofs.cells.load_wait.Goals as goal

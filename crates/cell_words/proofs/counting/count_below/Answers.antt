@@ -1,10 +1,10 @@
-use Rattle.std.proofs.Common.{rules, ◌<◌, ◌≤◌, ◌≡◌, ℕ, length, sym, ap, ◌∙◌, subst, arith}
+use Rattle.std.proofs.Common.{◌<◌, ◌≤◌, ℕ, length, subst, arith}
 use Rattle.cell_words.specs.Cells.{gather}
 use Rattle.cell_words.specs.Hubs.{shape_of}
 use Rattle.cell_words.specs.Seen.{at_channel}
 use Rattle.cell_words.specs.Answers.{stands}
 use Rattle.cell_words.proofs.LooksAtCells.{hub_legal, sees_then, given_seen}
-use Rattle.cell_words.proofs.WalksCount.{counted_none, counted_stands, counted_gone, lower_end, upper_end, count_end, less_than}
+use Rattle.cell_words.proofs.WalksCount.{counted_stands, counted_gone, lower_end, upper_end, count_end, less_than}
 use Rattle.cell_words.proofs.counting.count_below.Goals.{then-stands_at, else-stands_at}
 use Rattle.cell_words.proofs.counting.count_below.Goals as goal
 

@@ -1,5 +1,5 @@
-use Rattle.std.proofs.Common.{◌≡◌, ◌<◌, ◌≤◌, ℕ, ◌+◌, true}
-use Rattle.cell_words.specs.Hubs.{IsOwn, seen_by}
+use Rattle.std.proofs.Common.{◌≤◌}
+use Rattle.cell_words.specs.Hubs.{IsOwn}
 use Rattle.cell_words.specs.Seen.{Sees, at_channel}
 use Rattle.cell_words.proofs.WalksCount.{Counted}
 use Rattle.cell_words.proofs.counting.count_below.Given as goal

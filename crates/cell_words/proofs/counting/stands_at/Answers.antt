@@ -1,4 +1,4 @@
-use Rattle.std.proofs.Common.{sym, ap, subst, refl}
+use Rattle.std.proofs.Common.{sym, subst}
 use Rattle.cell_words.specs.declared.found.Holder.{Holder}
 use Rattle.cell_words.specs.Hubs.{shape_of}
 use Rattle.cell_words.specs.Answers.{IsHolder}

@@ -1,4 +1,4 @@
-use Rattle.std.proofs.Common.{◌+◌, ◌<◌, ◌≤◌, ◌≡◌, ap, sym, ◌∙◌, arith}
+use Rattle.std.proofs.Common.{◌+◌, ◌≡◌, ap, sym, ◌∙◌, arith}
 use Rattle.cell_words.specs.Words.{base}
 use Rattle.cell_words.proofs.NewHubs.{base_start, base_step, base_below, base_all}
 use Rattle.cell_words.proofs.meeting.count_cells.Goals as goal

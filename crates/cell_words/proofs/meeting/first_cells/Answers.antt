@@ -1,4 +1,4 @@
-use Rattle.std.proofs.Common.{◌+◌, ◌<◌, ◌≤◌, ◌≡◌, ap, sym, ◌∙◌, arith}
+use Rattle.std.proofs.Common.{sym, arith}
 use Rattle.cell_words.proofs.NewHubs.{base_start, base_step, base_below, no_firsts, firsts_more}
 use Rattle.cell_words.proofs.meeting.first_cells.Goals as goal
 

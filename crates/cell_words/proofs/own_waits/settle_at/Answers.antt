@@ -1,4 +1,4 @@
-use Rattle.std.proofs.Common.{◌≡◌, Bool, true, ℕ, ◌+◌, ◌*◌, Some, sym, ap, ◌∙◌, subst}
+use Rattle.std.proofs.Common.{Bool, true, ℕ, ◌+◌, ◌*◌, Some, sym, ap, ◌∙◌, subst}
 use Rattle.channel_model.specs.declared.acts.Settled.{Settled}
 use Rattle.channel_model.specs.Histories.{replay}
 use Rattle.channel_model.specs.Outcomes.{outcome_of}

@@ -1,11 +1,9 @@
-use Rattle.std.proofs.Common.{◌≡◌, ℕ, ◌+◌, ◌*◌, sym, ap, ◌∙◌}
-use Rattle.channel_model.specs.Histories.{replay}
+use Rattle.std.proofs.Common.{ℕ, ◌+◌, ◌*◌, sym, ap}
 use Rattle.cell_words.specs.declared.wait_word.WaitWord.{WaitWord}
 use Rattle.cell_words.specs.Cells.{spot}
 use Rattle.cell_words.specs.Codes.{packed_wait}
 use Rattle.cell_words.specs.Hubs.{shape_of}
 use Rattle.cell_words.proofs.MayExchange.{may_as, withdraws}
-use Rattle.cell_words.proofs.ExchangesTell.{resolved_found}
 use Rattle.cell_words.proofs.own_waits.withdraw_at.Goals as goal
 
 pub exchange_wait-requires-clause-number : goal.exchange_wait-requires-clause-number

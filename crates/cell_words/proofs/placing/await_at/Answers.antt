@@ -1,9 +1,8 @@
-use Rattle.std.proofs.Common.{◌<◌, ◌≤◌, sym, ap, ◌∙◌, refl, subst, arith}
+use Rattle.std.proofs.Common.{sym, ap, ◌∙◌, refl, subst, arith}
 use Rattle.cell_words.specs.declared.cell_word.CellState.TheVariants as cell
 use Rattle.cell_words.specs.declared.cell_word.CellWord.{CellWord}
 use Rattle.cell_words.specs.declared.found.At.{At}
 use Rattle.cell_words.specs.Codes.{packed_cell}
-use Rattle.cell_words.specs.Words.{number}
 use Rattle.cell_words.specs.Hubs.{shape_of}
 use Rattle.cell_words.specs.Answers.{ReceiveAt}
 use Rattle.cell_words.proofs.OneNumberOneWord.{number_within}

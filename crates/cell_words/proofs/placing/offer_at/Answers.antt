@@ -1,8 +1,8 @@
-use Rattle.std.proofs.Common.{rules, ◌<◌, ◌≤◌, ◌≡◌, sym, ap, ◌∙◌, subst, arith}
+use Rattle.std.proofs.Common.{sym, ◌∙◌, subst}
 use Rattle.cell_words.specs.declared.found.At.{At}
 use Rattle.cell_words.specs.Hubs.{shape_of}
 use Rattle.cell_words.specs.Answers.{WholeOfferAt}
-use Rattle.cell_words.proofs.LooksAtCells.{hub_legal, offer_found, offer_spent, used_not, unused_free, below_seen, less_places}
+use Rattle.cell_words.proofs.LooksAtCells.{hub_legal, offer_found, offer_spent, used_not, unused_free, below_seen}
 use Rattle.cell_words.proofs.WalksCount.{found_whole, full_then, full_holds, later_at}
 use Rattle.cell_words.proofs.placing.offer_at.Goals as goal
 

@@ -6,7 +6,6 @@ use Rattle.cell_words.specs.Hubs.{shape_of}
 use Rattle.cell_words.specs.Answers.{OfferAt}
 use Rattle.cell_words.proofs.MayExchange.{may_as, puts}
 use Rattle.cell_words.proofs.LooksAtCells.{hub_legal, offer_found, number_not, below_seen}
-use Rattle.cell_words.proofs.WalksCount.{not_placed}
 use Rattle.cell_words.proofs.placing.put_at.Goals as goal
 
 pub exchange_cell-requires-clause-may : goal.exchange_cell-requires-clause-may

@@ -1,4 +1,4 @@
-use Rattle.std.proofs.Common.{◌≡◌, ℕ, ◌+◌, ◌*◌, sym, ap, refl, subst}
+use Rattle.std.proofs.Common.{ℕ, ◌+◌, ◌*◌, sym, ap, refl, subst}
 use Rattle.cell_words.specs.Hubs.{shape_of}
 use Rattle.cell_words.specs.Answers.{HandsTo}
 use Rattle.cell_words.proofs.MayExchange.{may_as, hands}

@@ -1,6 +1,4 @@
-use Rattle.std.proofs.Common.{◌≡◌, sym, ap, ◌∙◌, subst}
-use Rattle.channel_model.specs.Histories.{replay}
-use Rattle.cell_words.specs.Cells.{cell_of}
+use Rattle.std.proofs.Common.{sym, ap, ◌∙◌, subst}
 use Rattle.cell_words.specs.declared.found.Holder.{Holder}
 use Rattle.cell_words.specs.Hubs.{shape_of}
 use Rattle.cell_words.specs.Looks.{owner_told}

@@ -1,9 +1,7 @@
-use Rattle.std.proofs.Common.{◌≡◌, ◌+◌, ◌*◌, ◌<◌, ℕ, List, [], length, get_or, sym, ◌∙◌, ap, subst, arith}
+use Rattle.std.proofs.Common.{ℕ, [], get_or, sym, ◌∙◌, ap, subst, arith}
 use Rattle.std.proofs.lemmas.List.{get_or-replicate}
-use Rattle.channel_model.specs.Channels.{Shape}
 use Rattle.channel_model.specs.Histories.{Legal}
-use Rattle.worded.specs.Views.{first_view}
-use Rattle.cell_words.specs.Words.{Fits, word_count}
+use Rattle.cell_words.specs.Words.{Fits}
 use Rattle.cell_words.specs.Seen.{Seen}
 use Rattle.cell_words.proofs.NewHubs.{all_free, none_legal, count_is}
 use Rattle.cell_words.proofs.hub.Hub.new.Goals as goal

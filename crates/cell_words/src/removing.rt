@@ -1,0 +1,282 @@
+//! The first offer's element is removed: it is taken, dropped for a newer one, or drained from a cancelled channel.
+ghost use Rattle.std.specs.Prelude.{◌≡◌, ◌<◌, true};
+ghost use Rattle.channel_model.specs.Laws.{NoneBelow};
+ghost use Rattle.cell_words.specs.declared.found.Removal.TheVariants as removals;
+ghost use Rattle.cell_words.specs.Words.{IsCell, how_word};
+ghost use Rattle.cell_words.specs.Hubs.{shape_of, seen_by, IsOwn};
+ghost use Rattle.cell_words.specs.Seen.{at_channel};
+ghost use Rattle.cell_words.specs.Answers.{Offers, RemoveAnswer, TakeAnswer, IsKept, IsAdmitted, IsOver, MayRemove, MayRemoveHeld, EmptyAnswer, KeptAnswer};
+ghost use Rattle.cell_words.specs.Codes.{IsNarrowCell, IsNarrowWait};
+ghost use Rattle.cell_words.specs.Cells.{cell_of, buffered};
+ghost use Rattle.cell_words.specs.Looks.{offer_word};
+ghost use Rattle.cell_words.specs.Removals.{removal_act, how_removed};
+
+use crate::cell_word::{CellState, CellWord};
+use crate::cells::{exchange_cell, exchange_wait, load_wait};
+use crate::found::{Holder, Removal, Tried, Waiter};
+use crate::hub::Hub;
+use crate::looks::{plain_cell, standing_wait, tried_found};
+use crate::pass::Pass;
+use crate::resolving::{owner_of, wait_cell};
+use crate::wait_word::{ResolvedBy, WaitWord};
+use channel_model::{Act, Entry};
+use co_base::{ChannelId, Place, Tag, Value};
+
+fn removal_entry(who: Tag, removal: Removal, c: ChannelId, place: Place, value: Value) -> Entry
+    ensures { result ≡ record { who = who; act = removal_act removal c place value } }
+{
+    Entry {
+        who,
+        act: match removal {
+            Removal::Take => Act::Take { c, place, value },
+            Removal::Drop => Act::Drop { c, place, value },
+            Removal::Drain => Act::Drain { c, place, value },
+        },
+    }
+}
+
+// The word of the wait whose offer was removed.
+fn removed_wait(removal: Removal, clause: u8) -> WaitWord
+    requires { clause < 8 }
+    ensures word { result ≡ how_word (how_removed removal clause) }
+    ensures narrow { IsNarrowWait result }
+{
+    match removal {
+        Removal::Take => WaitWord {
+            by: ResolvedBy::Take,
+            clause,
+            settled: false,
+            cancelled: false,
+            value: 0,
+        },
+        Removal::Drop | Removal::Drain => WaitWord {
+            by: ResolvedBy::Void,
+            clause: 0,
+            settled: false,
+            cancelled: false,
+            value: 0,
+        },
+    }
+}
+
+// Removes the offer at a place, unless its wait was resolved.
+fn remove(
+    hub: &Hub,
+    pass: &mut Pass,
+    who: Tag,
+    c: ChannelId,
+    place: Place,
+    waiter: Waiter,
+    removal: Removal,
+) -> Tried
+    requires own { IsOwn hub.now pass.old who }
+    requires at { IsCell (shape_of hub.now) c place }
+    requires may { MayRemoveHeld removal c (seen_by pass.old).seen }
+    requires low { NoneBelow 0 place (at_channel (seen_by pass.old).seen c) }
+    requires first { Offers (shape_of hub.now) c place waiter (seen_by pass.old).seen }
+    ensures own { IsOwn hub.now pass.new who }
+    ensures tried { RemoveAnswer removal (shape_of hub.now) who c place waiter (seen_by pass.old) (seen_by pass.new) result }
+{
+    let cell = wait_cell(hub, c, place, waiter.holder);
+    let owner = match owner_of(hub, pass, who, c, place, waiter) {
+        Some(owner) => owner,
+        // The wait was resolved: its word says whether at this clause.
+        None => {
+            let word = load_wait(hub, pass, who, cell);
+            return tried_found(word, waiter.clause);
+        }
+    };
+    let entry = removal_entry(who, removal, c, place, waiter.value);
+    let new = removed_wait(removal, waiter.clause);
+    match exchange_wait(hub, pass, who, cell, standing_wait(), new, &entry) {
+        None => Tried::Taken(owner),
+        Some(found) => tried_found(found, waiter.clause),
+    }
+}
+
+/// Takes the element of the offer at a place, unless its wait was resolved.
+pub fn take(
+    hub: &Hub,
+    pass: &mut Pass,
+    who: Tag,
+    c: ChannelId,
+    place: Place,
+    waiter: Waiter,
+) -> Tried
+    requires own { IsOwn hub.now pass.old who }
+    requires at { IsCell (shape_of hub.now) c place }
+    requires low { NoneBelow 0 place (at_channel (seen_by pass.old).seen c) }
+    requires first { Offers (shape_of hub.now) c place waiter (seen_by pass.old).seen }
+    ensures own { IsOwn hub.now pass.new who }
+    ensures tried { TakeAnswer (shape_of hub.now) who c place waiter (seen_by pass.old) (seen_by pass.new) result }
+{
+    remove(hub, pass, who, c, place, waiter, Removal::Take)
+}
+
+/// Removes the offer at a place of a channel that was cancelled, unless its wait was resolved.
+pub fn drain(
+    hub: &Hub,
+    pass: &mut Pass,
+    who: Tag,
+    c: ChannelId,
+    place: Place,
+    waiter: Waiter,
+) -> Tried
+    requires own { IsOwn hub.now pass.old who }
+    requires at { IsCell (shape_of hub.now) c place }
+    requires voided { (at_channel (seen_by pass.old).seen c).voided ≡ true }
+    requires low { NoneBelow 0 place (at_channel (seen_by pass.old).seen c) }
+    requires first { Offers (shape_of hub.now) c place waiter (seen_by pass.old).seen }
+    ensures own { IsOwn hub.now pass.new who }
+    ensures tried { RemoveAnswer removals.Drain (shape_of hub.now) who c place waiter (seen_by pass.old) (seen_by pass.new) result }
+{
+    remove(hub, pass, who, c, place, waiter, Removal::Drain)
+}
+
+/// The word of the cell of an offer that was admitted.
+pub(crate) fn offer_cell(waiter: Waiter) -> CellWord
+    ensures { result ≡ offer_word waiter }
+{
+    let (own_wait, holder) = match waiter.holder {
+        Holder::Own(tag) => (true, tag as u32),
+        Holder::At(cell) => (false, cell),
+    };
+    CellWord {
+        state: CellState::Offer,
+        clause: waiter.clause,
+        own_wait,
+        holder,
+        value: waiter.value,
+    }
+}
+
+// Empties the cell of a kept element, unless that was done.
+fn empty(
+    hub: &Hub,
+    pass: &mut Pass,
+    who: Tag,
+    c: ChannelId,
+    place: Place,
+    value: Value,
+    old: CellWord,
+    removal: Removal,
+) -> bool
+    requires own { IsOwn hub.now pass.old who }
+    requires at { IsCell (shape_of hub.now) c place }
+    requires may { MayRemove removal (shape_of hub.now) c place (seen_by pass.old).seen }
+    requires low { NoneBelow 0 place (at_channel (seen_by pass.old).seen c) }
+    requires narrow { IsNarrowCell old }
+    requires kept { IsKept (shape_of hub.now) c place value (seen_by pass.old).seen old }
+    ensures own { IsOwn hub.now pass.new who }
+    ensures emptied { EmptyAnswer removal who c place value (seen_by pass.old) (seen_by pass.new) result }
+{
+    let entry = removal_entry(who, removal, c, place, value);
+    let new = plain_cell(CellState::Emptied, value);
+    match exchange_cell(hub, pass, who, c, place, old, new, &entry) {
+        None => true,
+        Some(_) => false,
+    }
+}
+
+/// Takes the element that was put at a place, unless it was removed.
+pub fn take_kept(
+    hub: &Hub,
+    pass: &mut Pass,
+    who: Tag,
+    c: ChannelId,
+    place: Place,
+    value: Value,
+) -> bool
+    requires own { IsOwn hub.now pass.old who }
+    requires at { IsCell (shape_of hub.now) c place }
+    requires low { NoneBelow 0 place (at_channel (seen_by pass.old).seen c) }
+    requires kept { cell_of (seen_by pass.old).seen c place ≡ buffered value }
+    ensures own { IsOwn hub.now pass.new who }
+    ensures taken { KeptAnswer who c place value (seen_by pass.old) (seen_by pass.new) result }
+{
+    let old = plain_cell(CellState::Buffered, value);
+    empty(hub, pass, who, c, place, value, old, Removal::Take)
+}
+
+/// Takes the element of an offer that was admitted, unless it was removed.
+pub fn take_admitted(
+    hub: &Hub,
+    pass: &mut Pass,
+    who: Tag,
+    c: ChannelId,
+    place: Place,
+    waiter: Waiter,
+) -> bool
+    requires own { IsOwn hub.now pass.old who }
+    requires at { IsCell (shape_of hub.now) c place }
+    requires low { NoneBelow 0 place (at_channel (seen_by pass.old).seen c) }
+    requires admitted { IsAdmitted (shape_of hub.now) c place waiter (seen_by pass.old).seen }
+    ensures own { IsOwn hub.now pass.new who }
+    ensures taken { KeptAnswer who c place waiter.value (seen_by pass.old) (seen_by pass.new) result }
+{
+    let old = offer_cell(waiter);
+    empty(hub, pass, who, c, place, waiter.value, old, Removal::Take)
+}
+
+/// Drops the element that was put at a place, where more stand than the channel keeps, unless it was removed.
+pub fn drop_kept(
+    hub: &Hub,
+    pass: &mut Pass,
+    who: Tag,
+    c: ChannelId,
+    place: Place,
+    value: Value,
+) -> bool
+    requires own { IsOwn hub.now pass.old who }
+    requires at { IsCell (shape_of hub.now) c place }
+    requires over { IsOver (shape_of hub.now) c place (seen_by pass.old).seen }
+    requires low { NoneBelow 0 place (at_channel (seen_by pass.old).seen c) }
+    requires kept { cell_of (seen_by pass.old).seen c place ≡ buffered value }
+    ensures own { IsOwn hub.now pass.new who }
+    ensures removed { EmptyAnswer removals.Drop who c place value (seen_by pass.old) (seen_by pass.new) result }
+{
+    let old = plain_cell(CellState::Buffered, value);
+    empty(hub, pass, who, c, place, value, old, Removal::Drop)
+}
+
+/// Removes the element that was put at a place of a channel that was cancelled, unless it was removed before.
+pub fn drain_kept(
+    hub: &Hub,
+    pass: &mut Pass,
+    who: Tag,
+    c: ChannelId,
+    place: Place,
+    value: Value,
+) -> bool
+    requires own { IsOwn hub.now pass.old who }
+    requires at { IsCell (shape_of hub.now) c place }
+    requires voided { (at_channel (seen_by pass.old).seen c).voided ≡ true }
+    requires low { NoneBelow 0 place (at_channel (seen_by pass.old).seen c) }
+    requires kept { cell_of (seen_by pass.old).seen c place ≡ buffered value }
+    ensures own { IsOwn hub.now pass.new who }
+    ensures removed { EmptyAnswer removals.Drain who c place value (seen_by pass.old) (seen_by pass.new) result }
+{
+    let old = plain_cell(CellState::Buffered, value);
+    empty(hub, pass, who, c, place, value, old, Removal::Drain)
+}
+
+/// Removes the element of an offer that was admitted on a channel that was cancelled, unless it was removed before.
+pub fn drain_admitted(
+    hub: &Hub,
+    pass: &mut Pass,
+    who: Tag,
+    c: ChannelId,
+    place: Place,
+    waiter: Waiter,
+) -> bool
+    requires own { IsOwn hub.now pass.old who }
+    requires at { IsCell (shape_of hub.now) c place }
+    requires voided { (at_channel (seen_by pass.old).seen c).voided ≡ true }
+    requires low { NoneBelow 0 place (at_channel (seen_by pass.old).seen c) }
+    requires admitted { IsAdmitted (shape_of hub.now) c place waiter (seen_by pass.old).seen }
+    ensures own { IsOwn hub.now pass.new who }
+    ensures removed { EmptyAnswer removals.Drain who c place waiter.value (seen_by pass.old) (seen_by pass.new) result }
+{
+    let old = offer_cell(waiter);
+    empty(hub, pass, who, c, place, waiter.value, old, Removal::Drain)
+}
