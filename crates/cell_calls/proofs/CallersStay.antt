@@ -1,6 +1,6 @@
 -- No call changes whose calls a pass makes.
-use Rattle.std.specs.Prelude.{◌≡◌, ℕ, true}
-use Rattle.std.proofs.Common.{sym, ap, ◌∙◌}
+use Rattle.std.specs.Prelude.{◌≡◌, ℕ, Bool, true}
+use Rattle.std.proofs.Common.{ap, ◌∙◌, subst}
 use Rattle.channel_model.specs.Floors.{Floor}
 use Rattle.channel_model.specs.declared.floor.Offered.{Offered}
 use Rattle.channel_model.specs.declared.floor.Offered.TheVariants as offered
@@ -11,6 +11,11 @@ use Rattle.channel_model.specs.declared.floor.Withdrawn.TheVariants as withdrawn
 use Rattle.channel_model.specs.declared.acts.Why.{Why}
 use Rattle.co_base.specs.declared.names.WaitId.{WaitId}
 use Rattle.channel_model.specs.Answers.{OfferAnswer, GotAnswer, WithdrawAnswer}
+use Rattle.cell_words.specs.declared.hub.Hub.{Hub}
+use Rattle.cell_words.specs.Hubs.{IsOf, IsOwn}
+use Rattle.cell_calls.specs.declared.desk.Desk.{Desk}
+use Rattle.cell_calls.specs.declared.desk.DeskAnchor.{DeskAnchor}
+use Rattle.cell_calls.specs.Desks.{desk_floor, desk_anchor}
 
 pub offer_callers : (who c v : ℕ) (a b : Floor) (r : Offered) → OfferAnswer who c v a b r → b.callers ≡ a.callers
 offer_callers who c v a b (offered.Handed p t) h = h.made.same.callers
@@ -28,3 +33,7 @@ got_callers who c a b got.Spent h = h.0.same.callers
 pub withdraw_callers : (who : ℕ) (w : WaitId) (why : Why) (a b : Floor) (r : Withdrawn) → WithdrawAnswer who w why a b r → b.callers ≡ a.callers
 withdraw_callers who w why a b (withdrawn.Done t) h = h.0.same.callers
 withdraw_callers who w why a b withdrawn.Late h = h.0.same.callers
+
+-- a pass after a call on its desk
+pub stays_own : (a b : Desk) (who : ℕ) → desk_anchor b ≡ desk_anchor a → (desk_floor b).callers ≡ (desk_floor a).callers → (desk_floor a).callers who ≡ true → IsOwn a.hub.now b.pass.now who
+stays_own a b who e s c = (subst (λ (h : Hub). IsOf h b.pass.now) (ap (λ (x : DeskAnchor). x.hub) e) b.of, ap (λ (f : ℕ → Bool). f who) s ∙ c)

@@ -1,28 +1,30 @@
 -- What the steps of a pass tell of its floor.
-use Rattle.std.proofs.Common.{◌≡◌, ◌≢◌, ℕ, ◌+◌, ◌<◌, ◌≤◌, Bool, true, false, true≢false, List, [], ◌∷◌, ◌++◌, length, Option, Some, None, is_some, sym, refl, ap, ◌∙◌, subst, arith, append_assoc, append-nil}
+use Rattle.std.proofs.Common.{◌≡◌, ℕ, ◌+◌, ◌≤◌, Bool, true, false, true≢false, List, [], ◌∷◌, ◌++◌, Option, Some, None, is_some, sym, refl, ap, ◌∙◌, subst, arith, append_assoc, append-nil}
 use mathlib.Core.List.{IsPrefix}
 use mathlib.Core.Logic.{dite}
 use native.Mathlib.Decide.{dec_le}
 use Rattle.worded.specs.Views.{has_tag}
 use Rattle.co_base.specs.declared.names.WaitId.{WaitId}
 use Rattle.channel_model.specs.declared.acts.Act.{Act}
-use Rattle.channel_model.specs.declared.acts.Act.TheVariants.{Take}
+use Rattle.channel_model.specs.declared.acts.Act.TheVariants.{Take, Void, Drain, WakeClosed}
 use Rattle.channel_model.specs.declared.acts.Entry.{Entry}
 use Rattle.channel_model.specs.Channels.{Shape, State, Wait, places_at}
 use Rattle.channel_model.specs.Histories.{replay, acts_of, Legal}
 use Rattle.channel_model.specs.Laws.{NoneBelow}
-use Rattle.channel_model.specs.Floors.{Floor, SameSetting, Looked, Made, AtStep, AtMoment}
-use Rattle.channel_model.specs.Answers.{IsOwnWait, IsReadyWait, TakenFrom}
+use Rattle.channel_model.specs.Floors.{Looked, Made, AtStep, AtMoment}
+use Rattle.channel_model.specs.Answers.{IsOwnWait, IsReadyWait, TakenFrom, DrainedFrom, VoidAnswer, WokenAt}
 use Rattle.channel_model.proofs.Histories.{Legal-prefix}
 use Rattle.channel_model.proofs.GoneForGood.{below_lasts}
+use Rattle.channel_model.proofs.Later.{closed_later, voided_later}
 use Rattle.channel_model.proofs.Sound.{sound}
 use Rattle.channel_model.proofs.Spans.{prefix_append}
 pub use Rattle.channel_model.proofs.Spans.{prefix_self, prefix_then}
 use Rattle.cell_words.specs.declared.hub.Hub.{Hub}
 use Rattle.cell_words.specs.declared.pass.Pass.{Pass}
-use Rattle.cell_words.specs.Hubs.{shape_of, seen_by}
+use Rattle.cell_words.specs.declared.found.Removal.TheVariants as removal
+use Rattle.cell_words.specs.Hubs.{seen_by, SameGiving}
 use Rattle.cell_words.specs.Seen.{Seen, Sees, Makes, at_channel}
-use Rattle.cell_words.specs.Answers.{TakesFrom}
+use Rattle.cell_words.specs.Answers.{TakesFrom, RemovesFrom, VoidAt, Wakes}
 use Rattle.cell_words.proofs.MayExchange.{same_acts}
 use Rattle.cell_words.proofs.LooksAtCells.{sees_then}
 use Rattle.cell_calls.specs.HubFloors.{hub_floor}
@@ -78,7 +80,42 @@ module _ (hub : Hub) (who : ℕ) where
   taken_of a b x c p v t own s h = record { made = made_of a b x (Take c p v) own s h.made; from = h.from }
 
   pub took_of : (a b : Pass) (x : Seen) (c p v : ℕ) (t : Option ℕ) → has_tag who (seen_by a).tags ≡ true → Sees (seen_by a) x → TookAt who c p v t x (seen_by b) → TakenFrom who c p v t (hub_floor hub a) (hub_floor hub b)
-  took_of a b x c p v t own s h = taken_of a b h.then c p v t own (sees_then (seen_by a) x h.then s h.sees) h.takes
+  took_of a b x c p v t own s h = taken_of a b h.then c p v t own (sees_then (seen_by a) x h.then s h.sees) h.removes
+
+  -- the element of an offer of a cancelled channel was removed
+  pub drained_of : (a b : Pass) (x : Seen) (c p v : ℕ) (t : Option ℕ) → has_tag who (seen_by a).tags ≡ true → Sees (seen_by a) x → RemovesFrom removal.Drain who c p v t x (seen_by b) → DrainedFrom who c p v t (hub_floor hub a) (hub_floor hub b)
+  drained_of a b x c p v t own s h = record { made = made_of a b x (Drain c p v) own s h.made; from = h.from }
+
+  -- the first receiver was told of the close
+  pub woken_of : (a b : Pass) (x : Seen) (c p t : ℕ) → has_tag who (seen_by a).tags ≡ true → Sees (seen_by a) x → Wakes who c p t x (seen_by b) → WokenAt who c p t (hub_floor hub a) (hub_floor hub b)
+  woken_of a b x c p t own s h = record { made = made_of a b x (WakeClosed c p) own s h.made; to = h.to }
+
+  -- the channel was cancelled, now or before
+  pub voided_of : (a b : Pass) (x : Seen) (c : ℕ) → has_tag who (seen_by a).tags ≡ true → Sees (seen_by a) x → (answer : Bool) → VoidAt who c x (seen_by b) answer → VoidAnswer who c (hub_floor hub a) (hub_floor hub b) answer
+  voided_of a b x c own s true h = made_of a b x (Void c) own s h
+  voided_of a b x c own s false h = (looked_of a b own (sees_then (seen_by a) x (seen_by b) s h.0), h.1)
+
+  pub void_giving : (a b : Pass) (x : Seen) (c : ℕ) → Sees (seen_by a) x → (answer : Bool) → VoidAt who c x (seen_by b) answer → SameGiving a b
+  void_giving a b x c s true h = h.giving ∙ s.giving
+  void_giving a b x c s false h = h.0.giving ∙ s.giving
+
+-- ---- what lasts
+
+pub voided_seen : (shape : Shape) (c : ℕ) (v w : Seen) → Sees v w → Legal shape w.seen → (at_channel v.seen c).voided ≡ true → (at_channel w.seen c).voided ≡ true
+voided_seen shape c v w s l h = subst (λ (es : List Entry). (at_channel es c).voided ≡ true) (sym s.now) (voided_later shape v.seen s.others c (subst (Legal shape) s.now l) h)
+
+pub closed_seen : (shape : Shape) (c y : ℕ) (v w : Seen) → Sees v w → Legal shape w.seen → (at_channel v.seen c).closed ≡ Some y → (at_channel w.seen c).closed ≡ Some y
+closed_seen shape c y v w s l h = subst (λ (es : List Entry). (at_channel es c).closed ≡ Some y) (sym s.now) (closed_later shape v.seen s.others c y (subst (Legal shape) s.now l) h)
+
+-- what was closed is not open
+pub not_open : (shape : Shape) (c : ℕ) (v w : Seen) → Sees v w → Legal shape w.seen → is_some (at_channel v.seen c).closed ≡ true → (at_channel w.seen c).closed ≡ None → ⊥
+not_open shape c v w s l h e = by_value (at_channel v.seen c).closed refl h
+  where
+    by_value : (x : Option ℕ) → (at_channel v.seen c).closed ≡ x → is_some x ≡ true → ⊥
+    by_value None f k = cc
+    by_value (Some y) f k =
+        let later : (at_channel w.seen c).closed ≡ Some y = subst (λ (es : List Entry). (at_channel es c).closed ≡ Some y) (sym s.now) (closed_later shape v.seen s.others c y (subst (Legal shape) s.now l) f) in
+        cc
 
 -- ---- the ends of walks
 

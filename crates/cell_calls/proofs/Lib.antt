@@ -1,3 +1,5 @@
 pub mod CallsTell
 pub mod CallersStay
 pub mod OwnCells
+pub mod PlacesPassed
+pub mod WalksTell

@@ -10,4 +10,10 @@ desk_floor d = hub_floor d.hub.now d.pass.now
 
 -- what its calls do not change
 abbrev pub desk_anchor : Desk → DeskAnchor
-desk_anchor d = record { hub = d.hub.now; name = d.pass.ghost_name }
+desk_anchor d =
+    record {
+      hub = d.hub.now;
+      name = d.pass.ghost_name;
+      chief = d.pass.now.seat.me.0.chief;
+      given = d.pass.now.seat.me.0.given;
+    }

@@ -1,3 +1,4 @@
 pub mod Desks
 pub mod HubFloors
 pub mod Takings
+pub mod Walks

@@ -2,21 +2,26 @@
 ghost use Rattle.std.proofs.Props.{props};
 ghost use Rattle.cell_words.specs.Hubs.{IsOf};
 
-use crate::{ending, receiving, sending, waiting};
+use crate::{cancelling, ending, receiving, sending, waiting};
 use cell_words::{Hub, Pass};
 use channel_model::{
     AlreadyClosed, Got, Offered, Settled, TriedGot, TriedOffer, WaitState, Why, Withdrawn,
 };
-use co_base::{ChannelId, Place, Tag, Value, WaitId};
+use co_base::{ChannelId, Memory, Place, Tag, Value, WaitId};
+use std::collections::LinkedList;
 
 /// What never changes of a desk. No value of it is made.
 pub struct DeskAnchor {
     pub hub: Hub,
     /// Which pass it is.
     pub name: u64,
+    /// Whether the pass gives out tags, and those that it has given out.
+    pub chief: bool,
+    pub given: LinkedList<u64>,
 }
 
-/// Where the callers of one pass call.
+/// Where the callers of one pass call. None of its calls waits, takes a lock or takes memory: who would have to wait is told the place of
+/// its wait, and looks, settles or withdraws there.
 #[derive(Drop)]
 pub struct Desk<'a> {
     pub hub: &'a Hub,
@@ -25,11 +30,23 @@ pub struct Desk<'a> {
 }
 
 impl<'a> Desk<'a> {
-    ghost use Rattle.std.specs.Prelude.{◌≡◌, false};
+    ghost use Rattle.std.specs.Prelude.{◌≡◌, false, IsOk, OnOk, OnErr};
     ghost use Rattle.channel_model.specs.Channels.{kind_at, is_signal};
-    ghost use Rattle.channel_model.specs.Floors.{MayCall};
-    ghost use Rattle.channel_model.specs.Answers.{OfferAnswer, TriedOfferAnswer, GotAnswer, TriedGotAnswer, CloseAnswer, LookAnswer, SettleAnswer, WithdrawAnswer, MarkAnswer, IsOwn, IsReady};
+    ghost use Rattle.channel_model.specs.Floors.{HasRoom, MayCall};
+    ghost use Rattle.channel_model.specs.Answers.{OfferAnswer, TriedOfferAnswer, GotAnswer, TriedGotAnswer, CloseAnswer};
+    ghost use Rattle.channel_model.specs.Answers.{WakeAnswer, VoidAnswer, DrainAnswer, IsSeenClosed, IsSeenVoided};
+    ghost use Rattle.channel_model.specs.Answers.{LookAnswer, SettleAnswer, WithdrawAnswer, MarkAnswer, IsOwn, IsReady};
     ghost use Rattle.cell_calls.specs.Desks.{desk_floor, desk_anchor};
+
+    /// Makes room for so many entries. They take no memory, so there always is.
+    pub fn room(&mut self, n: u32) -> Result<(), Memory>
+        ensures anchor { desk_anchor self.new ≡ desk_anchor self.old }
+        ensures ok { OnOk result (HasRoom n (desk_floor self.old) (desk_floor self.new)) }
+        ensures err { OnErr result (desk_floor self.new ≡ desk_floor self.old) }
+        ensures always { IsOk result }
+    {
+        Ok(())
+    }
 
     /// Offers an element: gives it to the receiver that stands first, or places it.
     pub fn offer(&mut self, who: Tag, c: ChannelId, value: Value) -> Offered
@@ -76,6 +93,37 @@ impl<'a> Desk<'a> {
         ensures answer { CloseAnswer who c v (desk_floor self.old) (desk_floor self.new) result }
     {
         ending::close(self.hub, self.pass, who, c, v)
+    }
+
+    /// Tells the first receiver of a channel that was seen closed: its place, and its coroutine.
+    pub fn wake_closed(&mut self, who: Tag, c: ChannelId) -> Option<(Place, Tag)>
+        requires can { MayCall who c (desk_floor self.old) }
+        requires closed { IsSeenClosed c (desk_floor self.old) }
+        ensures anchor { desk_anchor self.new ≡ desk_anchor self.old }
+        ensures answer { WakeAnswer who c (desk_floor self.old) (desk_floor self.new) result }
+    {
+        ending::wake_closed(self.hub, self.pass, who, c)
+    }
+
+    /// Cancels a channel that was seen closed, unless it was cancelled before. What stands in its queue still stands.
+    pub fn void(&mut self, who: Tag, c: ChannelId) -> bool
+        requires can { MayCall who c (desk_floor self.old) }
+        requires closed { IsSeenClosed c (desk_floor self.old) }
+        ensures anchor { desk_anchor self.new ≡ desk_anchor self.old }
+        ensures answer { VoidAnswer who c (desk_floor self.old) (desk_floor self.new) result }
+    {
+        cancelling::void(self.hub, self.pass, who, c)
+    }
+
+    /// Removes the first offer of a channel that was seen cancelled: its place and its element, and the coroutine that waited with it, if
+    /// one did.
+    pub fn drain(&mut self, who: Tag, c: ChannelId) -> Option<(Place, Value, Option<Tag>)>
+        requires can { MayCall who c (desk_floor self.old) }
+        requires voided { IsSeenVoided c (desk_floor self.old) }
+        ensures anchor { desk_anchor self.new ≡ desk_anchor self.old }
+        ensures answer { DrainAnswer who c (desk_floor self.old) (desk_floor self.new) result }
+    {
+        cancelling::drain(self.hub, self.pass, who, c)
     }
 
     /// How far the own wait is.

@@ -1,7 +1,9 @@
 //! Calls on channels over words, by walks along the cells. No call waits, takes a lock or takes memory.
 //!
 //! A `Desk` is a hub with one pass, for the callers of that pass. Its calls answer in the words of the floors of channels
-//! (`channel_model`), whatever other threads do meanwhile.
+//! (`channel_model`), whatever other threads do meanwhile: offers and receives, the close of a channel, a receiver told that it was
+//! closed, a closed channel cancelled and emptied, and what a caller does with its own wait. It has no registration in several channels
+//! at once, no admit and no trim.
 //!
 //! **The walk.** A call that offers begins at the send counter of the channel, below which no receiver stands; one that receives begins at
 //! the receive counter, below which no offer stands. At each place it learns one of these:
@@ -19,6 +21,9 @@
 //! step that shows nothing, so the own entry is the last that the call has seen. A call that made no entry answers what was so at its
 //! last load; that nobody stands below a place stays so, since who is gone does not come back.
 //!
+//! **Who empties a channel** walks as one who receives, and who tells the receivers of a closed one walks as one who offers; neither is
+//! placed. A channel is cancelled at its end, by an exchange of the closed end: of two callers the one that made it is told so.
+//!
 //! **Handed** needs that the channel was open at a moment of the call, and a receiver may still stand in a channel that was closed. So an
 //! offer looks for the end of the channel first.
 //!
@@ -26,8 +31,10 @@
 //! - `sending`, `receiving`: offers and receives.
 //! - `ending`: where a channel ends, and its close.
 //! - `waiting`: the own wait.
+//! - `cancelling`: a closed channel is cancelled, and emptied.
 #![tactic(auto)]
 
+mod cancelling;
 mod desk;
 mod ending;
 mod receiving;

@@ -4,18 +4,29 @@ ghost use Rattle.channel_model.specs.Floors.{MayCall};
 ghost use Rattle.channel_model.specs.Answers.{GotAnswer, TriedGotAnswer};
 ghost use Rattle.channel_model.specs.Laws.{NoneBelow};
 ghost use Rattle.cell_words.specs.Words.{IsCell};
-ghost use Rattle.cell_words.specs.Hubs.{shape_of, seen_by, IsOf, IsOwn};
+ghost use Rattle.cell_words.specs.Hubs.{shape_of, seen_by, IsOf, IsOwn, SameGiving};
 ghost use Rattle.cell_words.specs.Seen.{at_channel};
 ghost use Rattle.cell_words.specs.Answers.{Offers};
 ghost use Rattle.cell_calls.specs.HubFloors.{hub_floor};
 ghost use Rattle.cell_calls.specs.Takings.{TakenAt};
+ghost use Rattle.cell_calls.specs.Walks.{ReceiveHere, ReceiveWalked};
 
 use cell_words::{
     At, Hub, Pass, Tried, Waiter, await_at, places_of, raise_receives, receives_from, take,
     take_admitted, take_kept, try_await_at,
 };
 use channel_model::{Got, TriedGot};
-use co_base::{ChannelId, Place, Tag};
+use co_base::{ChannelId, Place, Tag, Value};
+
+/// What a walk of one who receives came to.
+pub(crate) enum ReceiveWalk {
+    Taken(Place, Value, Option<Tag>),
+    Waiting(Place),
+    /// The open channel was empty, and the caller does not wait.
+    Empty,
+    Closed(Value),
+    Spent,
+}
 
 /// Takes the element of the offer that was placed here, if it stands: `Some(None)` where nobody waited with it any more.
 fn take_offer(
@@ -46,37 +57,75 @@ fn take_offer(
     }
 }
 
+/// What is at a place; the receiver is placed where the channel ends, if it may wait.
+fn await_here(hub: &Hub, pass: &mut Pass, who: Tag, c: ChannelId, place: Place, waits: bool) -> At
+    requires own { IsOwn hub.now pass.old who }
+    requires at { IsCell (shape_of hub.now) c place }
+    requires low { NoneBelow 0 place (at_channel (seen_by pass.old).seen c) }
+    ensures own { IsOwn hub.now pass.new who }
+    ensures at { ReceiveHere waits (shape_of hub.now) who c place (seen_by pass.old) (seen_by pass.new) result }
+{
+    if waits {
+        await_at(hub, pass, who, c, place)
+    } else {
+        try_await_at(hub, pass, who, c, place)
+    }
+}
+
+/// Receives the first offer, or places a receiver if the caller may wait.
+fn walk(hub: &Hub, pass: &mut Pass, who: Tag, c: ChannelId, waits: bool) -> ReceiveWalk
+    requires of { IsOf hub.now pass.old }
+    requires can { MayCall who c (hub_floor hub.now pass.old) }
+    ensures of { IsOf hub.now pass.new }
+    ensures giving { SameGiving pass.old pass.new }
+    ensures walked { ReceiveWalked waits who c (hub_floor hub.now pass.old) (hub_floor hub.now pass.new) result }
+{
+    let places = places_of(hub, c);
+    let from = receives_from(hub, pass, who, c);
+    for place in from..places + 1 {
+        match await_here(hub, pass, who, c, place, waits) {
+            At::Placed => {
+                raise_receives(hub, pass, who, c, place + 1);
+                return ReceiveWalk::Waiting(place);
+            }
+            At::Waiting(waiter) => match take_offer(hub, pass, who, c, place, waiter) {
+                Some(owner) => {
+                    raise_receives(hub, pass, who, c, place + 1);
+                    return ReceiveWalk::Taken(place, waiter.value, owner);
+                }
+                None => {}
+            },
+            At::Kept(value) => {
+                if take_kept(hub, pass, who, c, place, value) {
+                    raise_receives(hub, pass, who, c, place + 1);
+                    return ReceiveWalk::Taken(place, value, None);
+                }
+            }
+            At::Open => return ReceiveWalk::Empty,
+            At::Closed(v) => return ReceiveWalk::Closed(v),
+            At::Spent => return ReceiveWalk::Spent,
+            At::Put => unreachable!(),
+            At::Gone => {}
+        }
+    }
+    unreachable!()
+}
+
 /// Receives the first offer, or places a receiver.
 pub(crate) fn receive(hub: &Hub, pass: &mut Pass, who: Tag, c: ChannelId) -> Got
     requires of { IsOf hub.now pass.old }
     requires can { MayCall who c (hub_floor hub.now pass.old) }
     ensures of { IsOf hub.now pass.new }
+    ensures giving { SameGiving pass.old pass.new }
     ensures answer { GotAnswer who c (hub_floor hub.now pass.old) (hub_floor hub.now pass.new) result }
 {
-    let places = places_of(hub, c);
-    let from = receives_from(hub, pass, who, c);
-    for place in from..places + 1 {
-        match await_at(hub, pass, who, c, place) {
-            At::Spent => return Got::Spent,
-            At::Placed => {
-                raise_receives(hub, pass, who, c, place);
-                return Got::Waiting(place);
-            }
-            At::Open | At::Put => unreachable!(),
-            At::Closed(v) => return Got::Closed(v),
-            At::Waiting(waiter) => match take_offer(hub, pass, who, c, place, waiter) {
-                Some(owner) => return Got::Taken(place, waiter.value, owner),
-                None => {}
-            },
-            At::Kept(value) => {
-                if take_kept(hub, pass, who, c, place, value) {
-                    return Got::Taken(place, value, None);
-                }
-            }
-            At::Gone => {}
-        }
+    match walk(hub, pass, who, c, true) {
+        ReceiveWalk::Taken(place, value, owner) => Got::Taken(place, value, owner),
+        ReceiveWalk::Waiting(place) => Got::Waiting(place),
+        ReceiveWalk::Empty => unreachable!(),
+        ReceiveWalk::Closed(v) => Got::Closed(v),
+        ReceiveWalk::Spent => Got::Spent,
     }
-    unreachable!()
 }
 
 /// Receives the first offer, where one stands.
@@ -84,26 +133,13 @@ pub(crate) fn try_receive(hub: &Hub, pass: &mut Pass, who: Tag, c: ChannelId) ->
     requires of { IsOf hub.now pass.old }
     requires can { MayCall who c (hub_floor hub.now pass.old) }
     ensures of { IsOf hub.now pass.new }
+    ensures giving { SameGiving pass.old pass.new }
     ensures answer { TriedGotAnswer who c (hub_floor hub.now pass.old) (hub_floor hub.now pass.new) result }
 {
-    let places = places_of(hub, c);
-    let from = receives_from(hub, pass, who, c);
-    for place in from..places + 1 {
-        match try_await_at(hub, pass, who, c, place) {
-            At::Open => return TriedGot::Empty,
-            At::Spent | At::Placed | At::Put => unreachable!(),
-            At::Closed(v) => return TriedGot::Closed(v),
-            At::Waiting(waiter) => match take_offer(hub, pass, who, c, place, waiter) {
-                Some(owner) => return TriedGot::Taken(place, waiter.value, owner),
-                None => {}
-            },
-            At::Kept(value) => {
-                if take_kept(hub, pass, who, c, place, value) {
-                    return TriedGot::Taken(place, value, None);
-                }
-            }
-            At::Gone => {}
-        }
+    match walk(hub, pass, who, c, false) {
+        ReceiveWalk::Taken(place, value, owner) => TriedGot::Taken(place, value, owner),
+        ReceiveWalk::Empty => TriedGot::Empty,
+        ReceiveWalk::Waiting(_) | ReceiveWalk::Spent => unreachable!(),
+        ReceiveWalk::Closed(v) => TriedGot::Closed(v),
     }
-    unreachable!()
 }

@@ -3,13 +3,131 @@ ghost use Rattle.std.specs.Prelude.{◌≡◌, false};
 ghost use Rattle.channel_model.specs.Channels.{kind_at, is_signal};
 ghost use Rattle.channel_model.specs.Floors.{MayCall};
 ghost use Rattle.channel_model.specs.Answers.{OfferAnswer, TriedOfferAnswer};
-ghost use Rattle.cell_words.specs.Hubs.{shape_of, IsOf};
+ghost use Rattle.channel_model.specs.Laws.{NoneBelow};
+ghost use Rattle.cell_words.specs.Words.{IsCell};
+ghost use Rattle.cell_words.specs.Hubs.{shape_of, seen_by, IsOf, IsOwn, SameGiving};
+ghost use Rattle.cell_words.specs.Seen.{at_channel};
+ghost use Rattle.cell_words.specs.Answers.{Receives};
 ghost use Rattle.cell_calls.specs.HubFloors.{hub_floor};
+ghost use Rattle.cell_calls.specs.Walks.{GivenAt, OfferHere, OfferWalked};
 
 use crate::ending::find_closed;
-use cell_words::{At, Hub, Pass, hand, offer_at, places_of, raise_sends, sends_from, try_offer_at};
+use cell_words::{
+    At, Hub, Pass, Waiter, hand, offer_at, places_of, raise_sends, sends_from, try_offer_at,
+};
 use channel_model::{Offered, TriedOffer};
-use co_base::{ChannelId, Tag, Value};
+use co_base::{ChannelId, Place, Tag, Value};
+
+/// What came of a receiver that was found.
+pub(crate) enum Given {
+    /// It was handed the element; its coroutine.
+    Receiver(Tag),
+    /// The channel was closed, so that nobody may be handed an element by this call.
+    Closed(Value),
+    /// Its wait was resolved by another.
+    Gone,
+}
+
+/// What a walk of one who offers came to.
+pub(crate) enum OfferWalk {
+    Handed(Place, Tag),
+    Put(Place),
+    Held(Place),
+    /// The channel was full, and the caller does not wait.
+    Full,
+    Closed(Value),
+    Spent,
+}
+
+/// Gives the element to the receiver at a place. It has to know that the channel was open, since a receiver may stand after a close.
+fn give(
+    hub: &Hub,
+    pass: &mut Pass,
+    who: Tag,
+    c: ChannelId,
+    place: Place,
+    value: Value,
+    waiter: Waiter,
+) -> Given
+    requires own { IsOwn hub.now pass.old who }
+    requires at { IsCell (shape_of hub.now) c place }
+    requires kind { is_signal (kind_at (shape_of hub.now) c) ≡ false }
+    requires low { NoneBelow place 0 (at_channel (seen_by pass.old).seen c) }
+    requires first { Receives (shape_of hub.now) c place waiter (seen_by pass.old).seen }
+    ensures own { IsOwn hub.now pass.new who }
+    ensures given { GivenAt who c place value (seen_by pass.old) (seen_by pass.new) result }
+{
+    match find_closed(hub, pass, who, c) {
+        Some(v) => Given::Closed(v),
+        None => match hand(hub, pass, who, c, place, value, waiter) {
+            Some(owner) => Given::Receiver(owner),
+            None => Given::Gone,
+        },
+    }
+}
+
+/// Puts the element where the channel ends, or places an offer there if the caller may wait.
+fn offer_here(
+    hub: &Hub,
+    pass: &mut Pass,
+    who: Tag,
+    c: ChannelId,
+    place: Place,
+    value: Value,
+    waits: bool,
+) -> At
+    requires own { IsOwn hub.now pass.old who }
+    requires at { IsCell (shape_of hub.now) c place }
+    requires kind { is_signal (kind_at (shape_of hub.now) c) ≡ false }
+    requires low { NoneBelow place 0 (at_channel (seen_by pass.old).seen c) }
+    ensures own { IsOwn hub.now pass.new who }
+    ensures at { OfferHere waits (shape_of hub.now) who c place value (seen_by pass.old) (seen_by pass.new) result }
+{
+    if waits {
+        offer_at(hub, pass, who, c, place, value)
+    } else {
+        try_offer_at(hub, pass, who, c, place, value)
+    }
+}
+
+/// Gives the element to the receiver that stands first, or puts it, or places an offer if the caller may wait.
+fn walk(hub: &Hub, pass: &mut Pass, who: Tag, c: ChannelId, value: Value, waits: bool) -> OfferWalk
+    requires of { IsOf hub.now pass.old }
+    requires can { MayCall who c (hub_floor hub.now pass.old) }
+    requires kind { is_signal (kind_at (shape_of hub.now) c) ≡ false }
+    ensures of { IsOf hub.now pass.new }
+    ensures giving { SameGiving pass.old pass.new }
+    ensures walked { OfferWalked waits who c value (hub_floor hub.now pass.old) (hub_floor hub.now pass.new) result }
+{
+    let places = places_of(hub, c);
+    let from = sends_from(hub, pass, who, c);
+    for place in from..places + 1 {
+        match offer_here(hub, pass, who, c, place, value, waits) {
+            At::Placed => {
+                raise_sends(hub, pass, who, c, place + 1);
+                return OfferWalk::Held(place);
+            }
+            At::Put => {
+                raise_sends(hub, pass, who, c, place + 1);
+                return OfferWalk::Put(place);
+            }
+            At::Waiting(waiter) => match give(hub, pass, who, c, place, value, waiter) {
+                Given::Receiver(owner) => {
+                    raise_sends(hub, pass, who, c, place + 1);
+                    return OfferWalk::Handed(place, owner);
+                }
+                Given::Closed(v) => return OfferWalk::Closed(v),
+                Given::Gone => {}
+            },
+            At::Open => return OfferWalk::Full,
+            At::Closed(v) => return OfferWalk::Closed(v),
+            At::Spent => return OfferWalk::Spent,
+            At::Kept(_) => unreachable!(),
+            At::Gone => {}
+        }
+    }
+    unreachable!()
+}
 
 /// Gives the element to the receiver that stands first, or places it.
 pub(crate) fn offer(hub: &Hub, pass: &mut Pass, who: Tag, c: ChannelId, value: Value) -> Offered
@@ -17,32 +135,17 @@ pub(crate) fn offer(hub: &Hub, pass: &mut Pass, who: Tag, c: ChannelId, value: V
     requires can { MayCall who c (hub_floor hub.now pass.old) }
     requires kind { is_signal (kind_at (shape_of hub.now) c) ≡ false }
     ensures of { IsOf hub.now pass.new }
+    ensures giving { SameGiving pass.old pass.new }
     ensures answer { OfferAnswer who c value (hub_floor hub.now pass.old) (hub_floor hub.now pass.new) result }
 {
-    // Who hands the element to a receiver has to know that the channel was open, and a receiver may stand after a close.
-    if let Some(v) = find_closed(hub, pass, who, c) {
-        return Offered::Closed(v);
+    match walk(hub, pass, who, c, value, true) {
+        OfferWalk::Handed(place, owner) => Offered::Handed(place, owner),
+        OfferWalk::Put(place) => Offered::Put(place),
+        OfferWalk::Held(place) => Offered::Held(place),
+        OfferWalk::Full => unreachable!(),
+        OfferWalk::Closed(v) => Offered::Closed(v),
+        OfferWalk::Spent => Offered::Spent,
     }
-    let places = places_of(hub, c);
-    let from = sends_from(hub, pass, who, c);
-    for place in from..places + 1 {
-        match offer_at(hub, pass, who, c, place, value) {
-            At::Spent => return Offered::Spent,
-            At::Placed => {
-                raise_sends(hub, pass, who, c, place);
-                return Offered::Held(place);
-            }
-            At::Put => return Offered::Put(place),
-            At::Closed(v) => return Offered::Closed(v),
-            At::Waiting(waiter) => match hand(hub, pass, who, c, place, value, waiter) {
-                Some(owner) => return Offered::Handed(place, owner),
-                None => {}
-            },
-            At::Open | At::Kept(_) => unreachable!(),
-            At::Gone => {}
-        }
-    }
-    unreachable!()
 }
 
 /// Gives the element to the receiver that stands first, or places it where it need not wait.
@@ -57,26 +160,15 @@ pub(crate) fn try_offer(
     requires can { MayCall who c (hub_floor hub.now pass.old) }
     requires kind { is_signal (kind_at (shape_of hub.now) c) ≡ false }
     ensures of { IsOf hub.now pass.new }
+    ensures giving { SameGiving pass.old pass.new }
     ensures answer { TriedOfferAnswer who c value (hub_floor hub.now pass.old) (hub_floor hub.now pass.new) result }
 {
-    if let Some(v) = find_closed(hub, pass, who, c) {
-        return TriedOffer::Closed(v);
+    match walk(hub, pass, who, c, value, false) {
+        OfferWalk::Handed(place, owner) => TriedOffer::Handed(place, owner),
+        OfferWalk::Put(place) => TriedOffer::Put(place),
+        OfferWalk::Held(_) => unreachable!(),
+        OfferWalk::Full => TriedOffer::Full,
+        OfferWalk::Closed(v) => TriedOffer::Closed(v),
+        OfferWalk::Spent => TriedOffer::Spent,
     }
-    let places = places_of(hub, c);
-    let from = sends_from(hub, pass, who, c);
-    for place in from..places + 1 {
-        match try_offer_at(hub, pass, who, c, place, value) {
-            At::Spent => return TriedOffer::Spent,
-            At::Open => return TriedOffer::Full,
-            At::Put => return TriedOffer::Put(place),
-            At::Closed(v) => return TriedOffer::Closed(v),
-            At::Waiting(waiter) => match hand(hub, pass, who, c, place, value, waiter) {
-                Some(owner) => return TriedOffer::Handed(place, owner),
-                None => {}
-            },
-            At::Placed | At::Kept(_) => unreachable!(),
-            At::Gone => {}
-        }
-    }
-    unreachable!()
 }

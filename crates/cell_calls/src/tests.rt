@@ -6,21 +6,44 @@ ghost use Rattle.channel_model.specs.Histories.{replay};
 ghost use Rattle.channel_model.specs.Answers.{IsOwnWait};
 ghost use Rattle.cell_words.specs.Cells.{spot};
 ghost use Rattle.cell_words.specs.Words.{IsCell};
-ghost use Rattle.cell_words.specs.Hubs.{shape_of, seen_by, IsOwn};
+ghost use Rattle.cell_words.specs.Hubs.{shape_of, seen_by, IsOf, IsOwn};
 
 use crate::{receiving, sending, waiting};
 use cell_words::{Hub, Pass, load_cell, look_at, places_of};
 use channel_model::{Got, Kind, Offered, Settled, WaitState, Why, Withdrawn};
 use co_base::{Place, Tag, Value, WaitId};
 use std::alloc::Global;
+use std::sync::Wait;
 use std::test::Fail;
-use std::thread;
+use std::thread::{Threads, join};
 
-/// How many calls found somebody of the other side, and how many began to wait.
+/// What the calls of one coroutine came to.
 #[derive(Clone, Copy, Drop)]
 struct Tally {
+    /// How many found somebody of the other side.
     met: u32,
+    /// How many began to wait.
     waits: u32,
+    /// The sum of the elements that were received at once.
+    received: u32,
+}
+
+/// How far the waits of one coroutine are.
+#[derive(Clone, Copy, Drop)]
+struct OwnWaits {
+    standing: u32,
+    resolved: u32,
+}
+
+/// How the waits of one coroutine ended.
+#[derive(Clone, Copy, Drop)]
+struct Endings {
+    /// How many offers were received.
+    sent: u32,
+    /// How many receivers were handed an element.
+    handed: u32,
+    /// The sum of those elements.
+    received: u32,
 }
 
 fn offer(hub: &Hub, pass: &mut Pass, who: Tag, value: Value) -> Offered
@@ -89,7 +112,24 @@ fn settle(hub: &Hub, pass: &mut Pass, who: Tag, place: Place, cancelled: bool) -
     None
 }
 
-fn offers(hub: &Hub, pass: &mut Pass, who: Tag, calls: u32) -> Tally
+/// How far the own wait is that began here.
+fn look(hub: &Hub, pass: &mut Pass, who: Tag, place: Place) -> Option<WaitState>
+    requires own { IsOwn hub.now pass.old who }
+    requires channel { 0 < length (shape_of hub.now) }
+    ensures own { IsOwn hub.now pass.new who }
+{
+    if place > places_of(hub, 0) {
+        return None;
+    }
+    if is_own(hub, pass, who, place) {
+        let w = WaitId { channel: 0, place };
+        return Some(waiting::look(hub, pass, who, w));
+    }
+    None
+}
+
+/// Offers 1,000 elements, from this one on.
+fn offers(hub: &Hub, pass: &mut Pass, who: Tag, first: Value) -> Tally
     requires own { IsOwn hub.now pass.old who }
     requires channel { 0 < length (shape_of hub.now) }
     requires kind { is_signal (kind_at (shape_of hub.now) 0) ≡ false }
@@ -97,101 +137,279 @@ fn offers(hub: &Hub, pass: &mut Pass, who: Tag, calls: u32) -> Tally
 {
     let mut met = 0u32;
     let mut waits = 0u32;
-    'calls: for i in 0..calls {
-        match offer(hub, pass, who, i) {
+    'calls: for i in 0u32..1000 {
+        match offer(hub, pass, who, first.wrapping_add(i)) {
             Offered::Handed(_, _) => met = met.wrapping_add(1),
             Offered::Held(_) => waits = waits.wrapping_add(1),
             Offered::Put(_) | Offered::Closed(_) | Offered::Spent => {}
         }
     }
-    Tally { met, waits }
+    Tally {
+        met,
+        waits,
+        received: 0,
+    }
 }
 
-fn receives(hub: &Hub, pass: &mut Pass, who: Tag, calls: u32) -> Tally
+/// Receives 1,000 times.
+fn receives(hub: &Hub, pass: &mut Pass, who: Tag) -> Tally
     requires own { IsOwn hub.now pass.old who }
     requires channel { 0 < length (shape_of hub.now) }
     ensures own { IsOwn hub.now pass.new who }
 {
     let mut met = 0u32;
     let mut waits = 0u32;
-    'calls: for _ in 0..calls {
+    let mut received = 0u32;
+    'calls: for _ in 0..1000 {
         match receive(hub, pass, who) {
-            Got::Taken(_, _, _) => met = met.wrapping_add(1),
+            Got::Taken(_, value, _) => {
+                met = met.wrapping_add(1);
+                received = received.wrapping_add(value);
+            }
             Got::Waiting(_) => waits = waits.wrapping_add(1),
             Got::Closed(_) | Got::Spent => {}
         }
     }
-    Tally { met, waits }
+    Tally {
+        met,
+        waits,
+        received,
+    }
+}
+
+/// How far the own waits are.
+fn look_at_all(hub: &Hub, pass: &mut Pass, who: Tag) -> OwnWaits
+    requires own { IsOwn hub.now pass.old who }
+    requires channel { 0 < length (shape_of hub.now) }
+    ensures own { IsOwn hub.now pass.new who }
+{
+    let mut standing = 0u32;
+    let mut resolved = 0u32;
+    'waits: for place in 0..places_of(hub, 0) {
+        match look(hub, pass, who, place) {
+            Some(WaitState::Standing) => standing = standing.wrapping_add(1),
+            Some(WaitState::Resolved) => resolved = resolved.wrapping_add(1),
+            Some(WaitState::Settled) | None => {}
+        }
+    }
+    OwnWaits { standing, resolved }
+}
+
+/// Settles the own waits that were resolved.
+fn settle_all(hub: &Hub, pass: &mut Pass, who: Tag) -> Endings
+    requires own { IsOwn hub.now pass.old who }
+    requires channel { 0 < length (shape_of hub.now) }
+    ensures own { IsOwn hub.now pass.new who }
+{
+    let mut sent = 0u32;
+    let mut handed = 0u32;
+    let mut received = 0u32;
+    'waits: for place in 0..places_of(hub, 0) {
+        match settle(hub, pass, who, place, false) {
+            Some(Settled::Sent(_)) => sent = sent.wrapping_add(1),
+            Some(Settled::Value(_, value)) => {
+                handed = handed.wrapping_add(1);
+                received = received.wrapping_add(value);
+            }
+            Some(Settled::Closed(_, _))
+            | Some(Settled::Cancelled)
+            | Some(Settled::Undelivered(_))
+            | None => {}
+        }
+    }
+    Endings {
+        sent,
+        handed,
+        received,
+    }
+}
+
+/// One coroutine with its pass, and the first of the elements that it offers, where it does not receive.
+#[derive(Drop)]
+struct Caller {
+    pass: Pass,
+    who: Tag,
+    offers: Option<Value>,
+    tally: Tally,
+}
+
+fn caller_of(hub: &Hub, pass: Pass, who: Tag, offers: Option<Value>) -> Caller
+    requires own { IsOwn hub.now pass who }
+    ensures own { IsOwn hub.now result.pass result.who }
+{
+    let tally = Tally {
+        met: 0,
+        waits: 0,
+        received: 0,
+    };
+    Caller {
+        pass,
+        who,
+        offers,
+        tally,
+    }
 }
 
 /// What one thread does: 1,000 offers, or 1,000 receives.
-#[derive(Drop)]
-struct Job<'a> {
-    hub: &'a Hub,
-    pass: Pass,
-    who: Tag,
-    sends: bool,
-    ghost own: { IsOwn hub.now pass who },
-    ghost channel: { 0 < length (shape_of hub.now) },
-    ghost kind: { is_signal (kind_at (shape_of hub.now) 0) ≡ false },
-}
-
-fn work(job: Job<'_>) -> (Pass, Tally) {
-    let Job {
-        hub,
+fn work(hub: &Hub, caller: Caller) -> Caller
+    requires own { IsOwn hub.now caller.pass caller.who }
+    requires channel { 0 < length (shape_of hub.now) }
+    requires kind { is_signal (kind_at (shape_of hub.now) 0) ≡ false }
+    ensures own { IsOwn hub.now result.pass result.who }
+{
+    let Caller {
         mut pass,
         who,
-        sends,
-    } = job;
-    let tally = if sends {
-        offers(hub, &mut pass, who, 1000)
-    } else {
-        receives(hub, &mut pass, who, 1000)
+        offers: first,
+        tally: _,
+    } = caller;
+    let tally = match first {
+        Some(value) => offers(hub, &mut pass, who, value),
+        None => receives(hub, &mut pass, who),
     };
-    (pass, tally)
+    Caller {
+        pass,
+        who,
+        offers: first,
+        tally,
+    }
+}
+
+/// The work of two, by a thread each.
+fn by_two<R: Threads + Wait + Sync>(rt: &R, hub: &Hub, a: Caller, b: Caller) -> (Caller, Caller)
+    requires a { IsOwn hub.now a.pass a.who }
+    requires b { IsOwn hub.now b.pass b.who }
+    requires channel { 0 < length (shape_of hub.now) }
+    requires kind { is_signal (kind_at (shape_of hub.now) 0) ≡ false }
+    ensures a { IsOwn hub.now result.0.pass result.0.who }
+    ensures b { IsOwn hub.now result.1.pass result.1.who }
+{
+    join(rt, || work(hub, a), || work(hub, b))
+}
+
+/// The work of four, by a thread each.
+fn by_four<R: Threads + Wait + Sync>(
+    rt: &R,
+    hub: &Hub,
+    a: Caller,
+    b: Caller,
+    c: Caller,
+    d: Caller,
+) -> ((Caller, Caller), (Caller, Caller))
+    requires a { IsOwn hub.now a.pass a.who }
+    requires b { IsOwn hub.now b.pass b.who }
+    requires c { IsOwn hub.now c.pass c.who }
+    requires d { IsOwn hub.now d.pass d.who }
+    requires channel { 0 < length (shape_of hub.now) }
+    requires kind { is_signal (kind_at (shape_of hub.now) 0) ≡ false }
+    ensures a { IsOwn hub.now result.0.0.pass result.0.0.who }
+    ensures b { IsOwn hub.now result.0.1.pass result.0.1.who }
+    ensures c { IsOwn hub.now result.1.0.pass result.1.0.who }
+    ensures d { IsOwn hub.now result.1.1.pass result.1.1.who }
+{
+    join(
+        rt,
+        || -> (Caller, Caller)
+            requires first { IsOwn hub.now a.pass a.who }
+            requires second { IsOwn hub.now b.pass b.who }
+            requires channel { 0 < length (shape_of hub.now) }
+            requires kind { is_signal (kind_at (shape_of hub.now) 0) ≡ false }
+        { by_two(rt, hub, a, b) },
+        || -> (Caller, Caller)
+            requires first { IsOwn hub.now c.pass c.who }
+            requires second { IsOwn hub.now d.pass d.who }
+            requires channel { 0 < length (shape_of hub.now) }
+            requires kind { is_signal (kind_at (shape_of hub.now) 0) ≡ false }
+        { by_two(rt, hub, c, d) },
+    )
+}
+
+/// The own waits of a coroutine after its calls.
+fn waits_after(hub: &Hub, caller: Caller) -> (Caller, OwnWaits)
+    requires own { IsOwn hub.now caller.pass caller.who }
+    requires channel { 0 < length (shape_of hub.now) }
+    ensures own { IsOwn hub.now result.0.pass result.0.who }
+{
+    let Caller {
+        mut pass,
+        who,
+        offers,
+        tally,
+    } = caller;
+    let waits = look_at_all(hub, &mut pass, who);
+    let after = Caller {
+        pass,
+        who,
+        offers,
+        tally,
+    };
+    (after, waits)
+}
+
+/// Ends the pass of a coroutine, and settles its waits by the pass that took it in.
+fn end_and_settle(hub: &Hub, main: &mut Pass, caller: Caller) -> Endings
+    requires main { IsOf hub.now main.old }
+    requires own { IsOwn hub.now caller.pass caller.who }
+    requires channel { 0 < length (shape_of hub.now) }
+    ensures main { IsOf hub.now main.new }
+{
+    let Caller {
+        pass,
+        who,
+        offers: _,
+        tally: _,
+    } = caller;
+    end_one(hub, main, pass, who);
+    settle_all(hub, main, who)
+}
+
+/// Ends a pass, whose coroutine may then call by the pass that took it in.
+fn end_one(hub: &Hub, main: &mut Pass, pass: Pass, who: Tag)
+    requires main { IsOf hub.now main.old }
+    requires own { IsOwn hub.now pass who }
+    ensures own { IsOwn hub.now main.new who }
+{
+    hub.end(main, pass);
 }
 
 #[test]
-fn four_threads_lose_no_call(rt: HostRuntime) -> Result<(), Fail> {
+fn four_threads_lose_no_call_and_no_element(rt: HostRuntime) -> Result<(), Fail> {
     let kinds = [(Kind::Rendezvous, 4000u32)];
     let (hub, mut main) = Hub::new(rt.alloc(), &kinds)?;
-    let mut jobs = Vec::new(rt.alloc());
     let first = hub.split(&mut main, 1);
-    jobs.push(Job {
-        hub: &hub,
-        pass: first,
-        who: 1,
-        sends: true,
-    })?;
     let second = hub.split(&mut main, 2);
-    jobs.push(Job {
-        hub: &hub,
-        pass: second,
-        who: 2,
-        sends: true,
-    })?;
     let third = hub.split(&mut main, 3);
-    jobs.push(Job {
-        hub: &hub,
-        pass: third,
-        who: 3,
-        sends: false,
-    })?;
     let fourth = hub.split(&mut main, 4);
-    jobs.push(Job {
-        hub: &hub,
-        pass: fourth,
-        who: 4,
-        sends: false,
-    })?;
-    let done = thread::map_vec(&rt, jobs, &|job| work(job))?;
-    let mut calls = 0u32;
-    for i in 0..done.len() {
-        calls = calls
-            .wrapping_add(done[i].1.met)
-            .wrapping_add(done[i].1.waits);
-    }
-    assert_eq!(rt; calls, 4000);
+    let a = caller_of(&hub, first, 1, Some(0));
+    let b = caller_of(&hub, second, 2, Some(1000));
+    let c = caller_of(&hub, third, 3, None);
+    let d = caller_of(&hub, fourth, 4, None);
+    let ((a, b), (c, d)) = by_four(&rt, &hub, a, b, c, d);
+    let handed = a.tally.met.wrapping_add(b.tally.met);
+    let held = a.tally.waits.wrapping_add(b.tally.waits);
+    let taken = c.tally.met.wrapping_add(d.tally.met);
+    let waiting = c.tally.waits.wrapping_add(d.tally.waits);
+    let received = c.tally.received.wrapping_add(d.tally.received);
+    assert_eq!(rt; handed.wrapping_add(held), 2000);
+    assert_eq!(rt; taken.wrapping_add(waiting), 2000);
+    let (a, of_a) = waits_after(&hub, a);
+    let (b, of_b) = waits_after(&hub, b);
+    let (c, of_c) = waits_after(&hub, c);
+    let (d, of_d) = waits_after(&hub, d);
+    assert_eq!(rt; of_a.resolved.wrapping_add(of_b.resolved), taken);
+    assert_eq!(rt; of_c.resolved.wrapping_add(of_d.resolved), handed);
+    // As many offered as received, so that nobody is left on either side.
+    assert_eq!(rt; of_a.standing.wrapping_add(of_b.standing), 0);
+    assert_eq!(rt; of_c.standing.wrapping_add(of_d.standing), 0);
+    let by_a = end_and_settle(&hub, &mut main, a);
+    let by_b = end_and_settle(&hub, &mut main, b);
+    let by_c = end_and_settle(&hub, &mut main, c);
+    let by_d = end_and_settle(&hub, &mut main, d);
+    assert_eq!(rt; by_a.sent.wrapping_add(by_b.sent), taken);
+    assert_eq!(rt; by_c.handed.wrapping_add(by_d.handed), handed);
+    let later = by_c.received.wrapping_add(by_d.received);
+    // Each of the elements 0 to 1,999 was received once.
+    assert_eq!(rt; received.wrapping_add(later), 1999000);
     Ok(())
 }
 

@@ -1,7 +1,7 @@
 //! What a coroutine does with its own wait.
 ghost use Rattle.channel_model.specs.Floors.{MayCall};
 ghost use Rattle.channel_model.specs.Answers.{LookAnswer, SettleAnswer, WithdrawAnswer, IsOwn, IsReady};
-ghost use Rattle.cell_words.specs.Hubs.{IsOf};
+ghost use Rattle.cell_words.specs.Hubs.{IsOf, SameGiving};
 ghost use Rattle.cell_calls.specs.HubFloors.{hub_floor};
 
 use cell_words::{Hub, Pass, look_at, settle_at, withdraw_at};
@@ -14,6 +14,7 @@ pub(crate) fn look(hub: &Hub, pass: &mut Pass, who: Tag, w: WaitId) -> WaitState
     requires can { MayCall who w.channel (hub_floor hub.now pass.old) }
     requires own { IsOwn who w (hub_floor hub.now pass.old) }
     ensures of { IsOf hub.now pass.new }
+    ensures giving { SameGiving pass.old pass.new }
     ensures answer { LookAnswer who w (hub_floor hub.now pass.old) (hub_floor hub.now pass.new) result }
 {
     look_at(hub, pass, who, w.channel, w.place)
@@ -25,6 +26,7 @@ pub(crate) fn settle(hub: &Hub, pass: &mut Pass, who: Tag, w: WaitId, cancelled:
     requires can { MayCall who w.channel (hub_floor hub.now pass.old) }
     requires ready { IsReady who w (hub_floor hub.now pass.old) }
     ensures of { IsOf hub.now pass.new }
+    ensures giving { SameGiving pass.old pass.new }
     ensures answer { SettleAnswer who w cancelled (hub_floor hub.now pass.old) (hub_floor hub.now pass.new) result }
 {
     settle_at(hub, pass, who, w.channel, w.place, cancelled)
@@ -36,6 +38,7 @@ pub(crate) fn withdraw(hub: &Hub, pass: &mut Pass, who: Tag, w: WaitId, why: Why
     requires can { MayCall who w.channel (hub_floor hub.now pass.old) }
     requires own { IsOwn who w (hub_floor hub.now pass.old) }
     ensures of { IsOf hub.now pass.new }
+    ensures giving { SameGiving pass.old pass.new }
     ensures answer { WithdrawAnswer who w why (hub_floor hub.now pass.old) (hub_floor hub.now pass.new) result }
 {
     if withdraw_at(hub, pass, who, w.channel, w.place, why) {

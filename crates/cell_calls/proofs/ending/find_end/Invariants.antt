@@ -1,4 +1,4 @@
-use Rattle.std.proofs.Common.{◌≡◌, ◌<◌, ◌≤◌, ℕ, ◌+◌, true}
+use Rattle.std.proofs.Common.{◌≤◌}
 use Rattle.cell_words.specs.Hubs.{IsOwn, seen_by}
 use Rattle.cell_words.specs.Seen.{Sees, at_channel}
 use Rattle.cell_calls.proofs.ending.find_end.Given as goal

@@ -15,3 +15,6 @@ returns-clause-answer c =
       looked_of c.args.hub.now c.args.who c.args.pass.now c.look_at.new.pass c.requires.can.caller h.sees,
       step_of c.args.hub.now c.args.who c.args.pass.now c.look_at.new.pass c.look_at.new.pass.seat.me.0 (λ (s : State). state_of_wait (s.waits c.args.w) ≡ Some c.look_at.result) h.sees (prefix_self c.look_at.new.pass.seat.me.0.seen) h.state,
     )
+
+pub returns-clause-giving : goal.returns-clause-giving
+returns-clause-giving c = c.look_at.ensures.sees.giving

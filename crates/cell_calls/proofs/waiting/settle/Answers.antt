@@ -8,3 +8,6 @@ settle_at-requires-clause-at c = (c.requires.can.channel, ready_place (shape_of 
 
 pub returns-clause-answer : goal.returns-clause-answer
 returns-clause-answer c = (made_of c.args.hub.now c.args.who c.args.pass.now c.settle_at.new.pass c.args.pass.now.seat.me.0 _ c.requires.can.caller (sees_self c.args.pass.now.seat.me.0) c.settle_at.ensures.settled, c.settle_at.ensures.outcome)
+
+pub returns-clause-giving : goal.returns-clause-giving
+returns-clause-giving c = c.settle_at.ensures.settled.giving

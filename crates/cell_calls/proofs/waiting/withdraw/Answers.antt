@@ -12,3 +12,9 @@ returns-then-withdraw_at-clause-answer c = (made_of c.args.hub.now c.args.who c.
 
 pub returns-else-withdraw_at-clause-answer : goal.returns-else-withdraw_at-clause-answer
 returns-else-withdraw_at-clause-answer c = (looked_of c.args.hub.now c.args.who c.args.pass.now c.withdraw_at.new.pass c.requires.can.caller c.if-withdraw_at.ensures.done.0, c.if-withdraw_at.ensures.done.1)
+
+pub returns-then-withdraw_at-clause-giving : goal.returns-then-withdraw_at-clause-giving
+returns-then-withdraw_at-clause-giving c = c.if-withdraw_at.ensures.done.giving
+
+pub returns-else-withdraw_at-clause-giving : goal.returns-else-withdraw_at-clause-giving
+returns-else-withdraw_at-clause-giving c = c.if-withdraw_at.ensures.done.0.giving

@@ -1,8 +1,7 @@
-use Rattle.std.proofs.Common.{◌≡◌, ◌<◌, ◌≤◌, ℕ, ◌+◌, true}
 use Rattle.channel_model.specs.Laws.{NoneBelow}
 use Rattle.cell_words.specs.Hubs.{IsOwn, seen_by}
 use Rattle.cell_words.specs.Seen.{Sees, at_channel}
-use Rattle.cell_calls.proofs.sending.try_offer.Given as goal
+use Rattle.cell_calls.proofs.ending.wake_closed.Given as goal
 
 abbrev pub invariant-loop-place : goal.invariant-loop-place
 invariant-loop-place l = record {
