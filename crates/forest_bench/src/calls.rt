@@ -73,7 +73,7 @@ impl Wakes for NoWakes {
 }
 
 /// Whether the row is attached.
-fn is_attached<J: JobFloor>(jobs: &mut J, who: Tag, row: Row) -> bool
+pub(crate) fn is_attached<J: JobFloor>(jobs: &mut J, who: Tag, row: Row) -> bool
     requires caller { (J.view jobs.old).callers who ≡ true }
     ensures anchor { J.anchor jobs.new ≡ J.anchor jobs.old }
     ensures same { SameSetting (J.view jobs.old) (J.view jobs.new) }

@@ -1,15 +1,21 @@
 //! What calls on a forest answer, and what several threads make of one.
-ghost use Rattle.std.specs.Prelude.{◌≡◌, IfOk};
-ghost use Rattle.job_words.specs.Forests.{IsOwn};
+ghost use Rattle.std.specs.Prelude.{◌≡◌, true, is_some, IfOk, ⊤};
+ghost use Rattle.job_model.specs.Histories.{replay};
+ghost use Rattle.job_words.specs.Passes.{floor_seen};
+ghost use Rattle.job_words.specs.Forests.{seen_by, IsOwn};
+ghost use Rattle.job_words.specs.Rangers.{ranger_floor, ranger_anchor};
 ghost use Rattle.one_thread_floor.specs.TreeFloors.{floor_of};
 
 use crate::at_once::{Four, work_by};
-use crate::calls::{Answer, Call, make};
+use crate::calls::{Answer, Call, NoWakes, is_attached, make};
 use crate::on_passes::{cancel_root, make_by, meet_both, new_forest, split_off};
 use crate::shares::{Share, Work, run, share_of};
-use co_base::{Memory, Tag};
+use co_base::{Memory, Row, Tag, Wakes};
+use forest_calls::finish_up;
 use job_model::{AttachError, Attached, CancelledNow, Cause, End, Ended, Finished, JobKind};
-use job_words::{Forest, JobPass};
+use job_tree::Ends;
+use job_words::{Forest, JobPass, Ranger};
+use note_book::{NoteBook, Notes};
 use one_thread_floor::TreeFloor;
 use std::alloc::Global;
 use std::test::Fail;
@@ -180,6 +186,115 @@ fn a_forest_gives_rows_out_and_ends_them(rt: HostRuntime) -> Result<(), Fail> {
         let found = call_of_three(&forest, 3, rt.alloc(), &mut p, &mut q, &mut r, who, call)?;
         assert_eq!(rt; found, answer, "{call:?}");
     }
+    Ok(())
+}
+
+/// How many Jobs ended, and the last of them.
+#[derive(Clone, Copy, Debug, PartialEq, Eq)]
+struct LastEnd {
+    count: u32,
+    last: Option<(Row, End)>,
+}
+
+impl<B: NoteBook, W: Wakes> Ends<B, W> for LastEnd {
+    ghost most = { λ e. 0 };
+
+    ghost is_ready = { λ e. true };
+
+    ghost prepares = { λ old new. ⊤ };
+
+    ghost does = { λ old row end items new. ⊤ };
+
+    fn ready(&mut self, book: &mut B, more: u32) -> Result<(), Memory> {
+        book.room(more)
+    }
+
+    fn ended(&mut self, _book: &mut B, _wakes: &mut W, row: Row, end: End) {
+        self.count = self.count.saturating_add(1);
+        self.last = Some((row, end));
+    }
+}
+
+/// Whether the row is attached, on the floor of one pass.
+fn is_attached_on(ranger: &mut Ranger<'_>, who: Tag, row: Row) -> bool
+    requires caller { (ranger_floor ranger.old).callers who ≡ true }
+    ensures anchor { ranger_anchor ranger.new ≡ ranger_anchor ranger.old }
+    ensures own { IsOwn ranger.old.forest.now ranger.new.pass.now who }
+    ensures attached { result ≡ true → is_some (replay (ranger_floor ranger.new).seen row) ≡ true }
+{
+    is_attached(ranger, who, row)
+}
+
+/// Whether the row is attached.
+fn is_attached_by(forest: &Forest, pass: &mut JobPass, who: Tag, row: Row) -> bool
+    requires own { IsOwn forest.now pass.old who }
+    ensures own { IsOwn forest.now pass.new who }
+    ensures attached { result ≡ true → is_some (replay (floor_seen (seen_by pass.new)).seen row) ≡ true }
+{
+    let mut ranger = Ranger { forest, pass };
+    is_attached_on(&mut ranger, who, row)
+}
+
+/// Ends the Job and its parents, as far as they may end.
+fn finish_from(
+    forest: &Forest,
+    pass: &mut JobPass,
+    alloc: Global,
+    who: Tag,
+    row: Row,
+) -> Result<LastEnd, Memory>
+    requires own { IsOwn forest.now pass.old who }
+    ensures own { IsOwn forest.now pass.new who }
+{
+    let mut ends = LastEnd {
+        count: 0,
+        last: None,
+    };
+    if !is_attached_by(forest, pass, who, row) {
+        return Ok(ends);
+    }
+    let mut book = Notes::new(alloc);
+    match finish_up(forest, pass, &mut book, &mut NoWakes, who, row, &mut ends) {
+        Ok(()) => Ok(ends),
+        Err(memory) => Err(memory),
+    }
+}
+
+/// A chain of two coroutines whose bodies have ended.
+fn two_ended() -> [(Tag, Call, Answer); 4] {
+    [
+        (0, attach(0, PLAIN, 1), attached(1, false)),
+        (1, attach(1, PLAIN, 2), attached(2, false)),
+        (
+            1,
+            Call::EndBody { row: 1, value: 8 },
+            Answer::Ended(Ended::Waits),
+        ),
+        (
+            2,
+            Call::EndBody { row: 2, value: 9 },
+            Answer::Ended(Ended::Owes),
+        ),
+    ]
+}
+
+#[test]
+fn the_end_of_a_child_ends_its_parent_in_a_forest(rt: HostRuntime) -> Result<(), Fail> {
+    let (forest, mut p) = new_forest(rt.alloc(), 3, 0)?;
+    let mut q = split_off(&forest, &mut p, 1);
+    let mut r = split_off(&forest, &mut p, 2);
+    for (who, call, answer) in two_ended() {
+        let found = call_of_three(&forest, 3, rt.alloc(), &mut p, &mut q, &mut r, who, call)?;
+        assert_eq!(rt; found, answer, "{call:?}");
+    }
+    let ends = finish_from(&forest, &mut r, rt.alloc(), 2, 2)?;
+    let both = LastEnd {
+        count: 2,
+        last: Some((1, End::Completed(8))),
+    };
+    assert_eq!(rt; ends, both);
+    let again = finish_from(&forest, &mut r, rt.alloc(), 2, 2)?;
+    assert_eq!(rt; again.count, 0);
     Ok(())
 }
 

@@ -1,1 +1,3 @@
+pub mod EndingsKeepSettings
 pub mod PassesStayOwn
+pub mod RangersHaveRoom

@@ -5,10 +5,13 @@
 //!
 //! - `passes`: to cancel a Job and all below it
 //! - `failures`: to pass a failure on to the parents
+//! - `endings`: to end Jobs, from one upwards
 #![tactic(auto)]
 
+mod endings;
 mod failures;
 mod passes;
 
+pub use endings::finish_up;
 pub use failures::fail_up;
 pub use passes::cancel_pass;

@@ -1,0 +1,85 @@
+//! To end Jobs of a forest, from one upwards.
+ghost use Rattle.std.specs.Prelude.{◌≡◌, is_some, true};
+ghost use Rattle.job_model.specs.Histories.{replay};
+ghost use Rattle.job_model.specs.Floors.{MayCall};
+ghost use Rattle.job_tree.specs.Endings.{IsFinishedUp};
+ghost use Rattle.job_words.specs.Passes.{floor_seen};
+ghost use Rattle.job_words.specs.Forests.{seen_by, IsOwn, SameGiving};
+ghost use Rattle.job_words.specs.Rangers.{ranger_floor, ranger_anchor};
+
+use co_base::{Memory, Row, Tag, Wakes};
+use job_model::JobFloor;
+use job_tree::{Ends, JobCaller};
+use job_words::{Forest, JobPass, Ranger};
+use note_book::NoteBook;
+
+/// Ends Jobs upwards, over any floor.
+fn finish_over<J: JobFloor, B: NoteBook, W: Wakes, E: Ends<B, W>>(
+    jobs: &mut J,
+    book: &mut B,
+    wakes: &mut W,
+    who: Tag,
+    row: Row,
+    ends: &mut E,
+) -> Result<(), Memory>
+    requires can { MayCall who row (J.view jobs.old) }
+    ensures anchor { J.anchor jobs.new ≡ J.anchor jobs.old }
+    ensures finished { IsFinishedUp E.prepares E.does who row (J.view jobs.old) ends.old (B.items book.old)
+        (J.view jobs.new) ends.new (B.items book.new) result }
+{
+    let mut caller = JobCaller {
+        floor: &mut *jobs,
+        book: &mut *book,
+        wakes: &mut *wakes,
+        who,
+    };
+    let finished = caller.finish_up(row, ends);
+    let JobCaller {
+        floor: _,
+        book: _,
+        wakes: _,
+        who: _,
+    } = caller;
+    finished
+}
+
+/// Ends Jobs upwards, on the floor of one pass.
+fn finish_on<B: NoteBook, W: Wakes, E: Ends<B, W>>(
+    ranger: &mut Ranger<'_>,
+    book: &mut B,
+    wakes: &mut W,
+    who: Tag,
+    row: Row,
+    ends: &mut E,
+) -> Result<(), Memory>
+    requires can { MayCall who row (ranger_floor ranger.old) }
+    ensures anchor { ranger_anchor ranger.new ≡ ranger_anchor ranger.old }
+    ensures own { IsOwn ranger.old.forest.now ranger.new.pass.now who }
+    ensures giving { SameGiving ranger.old.pass.now ranger.new.pass.now }
+    ensures finished { IsFinishedUp E.prepares E.does who row (ranger_floor ranger.old) ends.old (B.items book.old)
+        (ranger_floor ranger.new) ends.new (B.items book.new) result }
+{
+    finish_over(ranger, book, wakes, who, row, ends)
+}
+
+/// Ends a Job, where it may end, and then its parents, as far as the end of a child was all that they waited for.
+/// Memory: what was done so far stands and is noted.
+pub fn finish_up<B: NoteBook, W: Wakes, E: Ends<B, W>>(
+    forest: &Forest,
+    pass: &mut JobPass,
+    book: &mut B,
+    wakes: &mut W,
+    who: Tag,
+    row: Row,
+    ends: &mut E,
+) -> Result<(), Memory>
+    requires own { IsOwn forest.now pass.old who }
+    requires attached { is_some (replay (floor_seen (seen_by pass.old)).seen row) ≡ true }
+    ensures own { IsOwn forest.now pass.new who }
+    ensures giving { SameGiving pass.old pass.new }
+    ensures finished { IsFinishedUp E.prepares E.does who row (floor_seen (seen_by pass.old)) ends.old (B.items book.old)
+        (floor_seen (seen_by pass.new)) ends.new (B.items book.new) result }
+{
+    let mut ranger = Ranger { forest, pass };
+    finish_on(&mut ranger, book, wakes, who, row, ends)
+}
