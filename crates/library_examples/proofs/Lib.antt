@@ -1,0 +1,2 @@
+pub mod AfterSends
+pub mod AfterLaunches

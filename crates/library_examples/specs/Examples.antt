@@ -1,0 +1,42 @@
+-- What the examples come to.
+use Rattle.std.specs.Prelude.{◌≡◌, ℕ, Bool, true, List, [], ◌∷◌, ◌++◌, Option, Some, None}
+use Rattle.channel_model.specs.declared.acts.Settled.{Settled}
+use Rattle.channel_model.specs.declared.acts.ChannelNote.TheVariants.{TryReceiveClosed}
+use Rattle.channel_model.specs.Floors.{Floor}
+use Rattle.job_model.specs.declared.acts.End.TheVariants.{Completed}
+use Rattle.job_model.specs.declared.acts.JobNote.TheVariants.{SawEnd}
+use Rattle.note_book.specs.declared.book.Item.{Item}
+use Rattle.note_book.specs.declared.book.Item.TheVariants.{Job}
+use Rattle.call_meaning.specs.Telling.{heard}
+use Rattle.call_meaning.specs.ChannelCalls.{Got, receives, blocked, is_given_up}
+use Rattle.call_meaning.specs.Calls.{ToldOnChannels}
+use Rattle.channel_calls.specs.Calls.{Tells, GoesAtOnce}
+
+-- this element was received; or none was, since the channel was empty, or closed and empty, and the answer is the other value
+pub data ReceivedOr (who c other : ℕ) (old new : Floor) (items items' : List Item) : ℕ → Type 0 where
+  received : (v : ℕ) → Tells who (GoesAtOnce (receives c) (Got v)) old new items items'
+      → ReceivedOr who c other old new items items' v
+  empty : ToldOnChannels who old new items items' (blocked (receives c) ∷ [])
+      → ReceivedOr who c other old new items items' other
+  closed : (x : ℕ) → ToldOnChannels who old new items items' (heard (TryReceiveClosed c x) ∷ [])
+      → ReceivedOr who c other old new items items' other
+
+-- a wait that ended did so as cancelled, or with its element given up
+abbrev pub IsGivenUp : Option Settled → Type 0
+IsGivenUp None = Unit {0}
+IsGivenUp (Some outcome) = is_given_up outcome ≡ true
+
+-- the last of these notes is that the Job of the row was seen completed with this value
+pub record SawCompleted (row value : ℕ) (items : List Item) : Type 0 where
+  pub before : List Item
+  pub noted : items ≡ before ++ Job (SawEnd row (Completed value)) ∷ []
+
+-- a result was seen, where there is one
+abbrev pub SawResult : ℕ → Option ℕ → List Item → Type 0
+SawResult row None items = Unit {0}
+SawResult row (Some value) items = SawCompleted row value items
+
+-- the result of some Job was seen, where there is one
+abbrev pub SawSome : Option ℕ → List Item → Type 0
+SawSome None items = Unit {0}
+SawSome (Some value) items = (row : ℕ) × SawCompleted row value items
