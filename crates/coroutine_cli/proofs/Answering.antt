@@ -10,6 +10,8 @@ use Rattle.script_grammar.specs.Faulty.{FirstFault}
 use Rattle.script_reader.specs.Answers.{Unless}
 use Rattle.run_report.specs.Faults.{fault_text}
 use Rattle.run_report.specs.Elements.{report_text}
+use Rattle.run_report.specs.Summaries.{summary_text}
+use Rattle.script_grammar.specs.Generated.{generated}
 use Rattle.channel_model.specs.declared.acts.Entry.{Entry}
 use Rattle.channel_model.proofs.OneEntry.{resolutions_of_bound, settlements_of_bound}
 use Rattle.channel_fates.proofs.AtMostOne.{replay_one_fate}
@@ -24,8 +26,12 @@ use Rattle.note_book.specs.declared.book.Item.{Item}
 use Rattle.script_meaning.specs.Shapes.{floor_shape, job_shape}
 use Rattle.script_meaning.specs.Books.{BooksOf}
 use Rattle.script_meaning.specs.Idle.{IsIdle}
-use Rattle.coroutine_cli.specs.Statuses.{Reports, Refuses, Answers, AreServed, ChildrenEndFirst, ending_of}
+use Rattle.coroutine_cli.specs.Statuses.{Reports, Refuses, RunsTo, Serves, Stream, SumsUp, AreServed, ChildrenEndFirst, ending_of}
+use Rattle.coroutine_cli.specs.Preparing.{Asks, GaveScript, text_of}
+use Rattle.coroutine_cli.specs.declared.words.Command.{Command}
+use Rattle.coroutine_cli.specs.declared.words.Command.TheVariants.{Run, Check, Sum}
 use Rattle.coroutine_cli.specs.declared.status.Ending.{Ending}
+use Rattle.coroutine_cli.specs.declared.status.Ending.TheVariants as ending
 use Rattle.coroutine_cli.proofs.WaitsSettled.{none_lost}
 use Rattle.coroutine_cli.proofs.ElementsHeld.{held_stands}
 use Rattle.coroutine_cli.proofs.PrintedFates.{printed}
@@ -78,10 +84,9 @@ served p books channels jobs root of idle = record {
   held = λ c place value e. held_stands (floor_shape p) channels c place value of.legal_channels (none_lost p books channels jobs of root idle) e;
 }
 
-reported : (p : Program) (books : List (List Item)) (channels : List Entry) (jobs : List JobEntry) (root : Option End) (how : Ending) (input text : List ℕ) → ending_of root ≡ how → Spells input p → (of : BooksOf p books channels jobs) → IsIdle p books channels jobs of root → text ≡ report_text p books → Reports how input text
-reported p books channels jobs root how input text same spelled of idle is = record {
-  program = p;
-  spelled = spelled;
+-- a run that came to rest, whose root has ended so, if it has
+abbrev ran : (p : Program) (books : List (List Item)) (channels : List Entry) (jobs : List JobEntry) (root : Option End) (how : Ending) → ending_of root ≡ how → (of : BooksOf p books channels jobs) → IsIdle p books channels jobs of root → RunsTo how p
+ran p books channels jobs root how same of idle = record {
   books = books;
   channels = channels;
   jobs = jobs;
@@ -91,12 +96,30 @@ reported p books channels jobs root how input text same spelled of idle is = rec
   ending = same;
   served = served p books channels jobs root of idle;
   children_first = children_first p jobs of.legal_jobs;
-  printed = printed p books channels jobs of;
-  is_report = is;
+  told = printed p books channels jobs of;
 }
 
 -- the report of a run answers its script
-pub answered : (p : Program) (books : List (List Item)) (channels : List Entry) (jobs : List JobEntry) (root : Option End) (input text : List ℕ) → Spells input p → (of : BooksOf p books channels jobs) × IsIdle p books channels jobs of root → text ≡ report_text p books → Answers (ending_of root) input text
-answered p books channels jobs None input text spelled of is = reported p books channels jobs None _ input text refl spelled of.0 of.1 is
-answered p books channels jobs (Some (ends.Completed v)) input text spelled of is = reported p books channels jobs (Some (ends.Completed v)) _ input text refl spelled of.0 of.1 is
-answered p books channels jobs (Some (ends.Cancelled cause)) input text spelled of is = reported p books channels jobs (Some (ends.Cancelled cause)) _ input text refl spelled of.0 of.1 is
+reported : (p : Program) (source source' : Stream) (how : Ending) (text : List ℕ) (gave : GaveScript source source' p) (run : RunsTo how p) → text ≡ report_text p run.books → Reports how gave.input text
+reported p source source' how text gave run is = record { program = p; spelled = gave.spelled; run = run; is_report = is }
+
+-- the summary of a run of the generated script is one of its size
+summed : (p : Program) (size : ℕ) (how : Ending) (text : List ℕ) → p ≡ generated size → (run : RunsTo how p) → text ≡ summary_text p run.books → SumsUp size how text
+summed p size how text e = subst (λ q. (run : RunsTo how q) → text ≡ summary_text q run.books → SumsUp size how text) (sym e) (λ run is. record { run = run; is_summary = is })
+
+pub answered : (command : Command) (p : Program) (books : List (List Item)) (channels : List Entry) (jobs : List JobEntry) (root : Option End) (made : List ℕ) (source source' : Stream)
+    → (of : BooksOf p books channels jobs) × IsIdle p books channels jobs of root → made ≡ text_of command p books → Asks command source source' p
+    → Serves command (ending_of root) source source' (λ text. made ≡ text)
+answered (Run workers) p books channels jobs None made source source' of is asks =
+    record { input = asks.input; given = asks.given; all = asks.all; text = made; answers = reported p source source' ending.Unfinished made asks (ran p books channels jobs None _ refl of.0 of.1) is; taken = refl }
+answered (Run workers) p books channels jobs (Some (ends.Completed v)) made source source' of is asks =
+    record { input = asks.input; given = asks.given; all = asks.all; text = made; answers = reported p source source' ending.Completed made asks (ran p books channels jobs (Some (ends.Completed v)) _ refl of.0 of.1) is; taken = refl }
+answered (Run workers) p books channels jobs (Some (ends.Cancelled cause)) made source source' of is asks =
+    record { input = asks.input; given = asks.given; all = asks.all; text = made; answers = reported p source source' ending.Cancelled made asks (ran p books channels jobs (Some (ends.Cancelled cause)) _ refl of.0 of.1) is; taken = refl }
+answered Check p books channels jobs root made source source' of is asks = absurd asks
+answered (Sum size workers) p books channels jobs None made source source' of is asks =
+    record { unread = asks.1; text = made; answers = summed p size ending.Unfinished made asks.0 (ran p books channels jobs None _ refl of.0 of.1) is; taken = refl }
+answered (Sum size workers) p books channels jobs (Some (ends.Completed v)) made source source' of is asks =
+    record { unread = asks.1; text = made; answers = summed p size ending.Completed made asks.0 (ran p books channels jobs (Some (ends.Completed v)) _ refl of.0 of.1) is; taken = refl }
+answered (Sum size workers) p books channels jobs (Some (ends.Cancelled cause)) made source source' of is asks =
+    record { unread = asks.1; text = made; answers = summed p size ending.Cancelled made asks.0 (ran p books channels jobs (Some (ends.Cancelled cause)) _ refl of.0 of.1) is; taken = refl }

@@ -3,3 +3,7 @@ pub mod ElementsHeld
 pub mod SameFates
 pub mod PrintedFates
 pub mod Answering
+pub mod InputGiven
+pub mod Completing
+pub mod Matched
+pub mod WrittenMeans

@@ -1,7 +1,5 @@
 -- What each status says of the words, of what was read and of what was written.
-use Rattle.std.specs.Prelude.{◌≡◌, ◌↔◌, ℕ, ◌≤◌, Bool, true, false, ◌&&◌, List, [], ◌∷◌, ◌++◌, length, Option, Some, None}
-use lib.Chars.{codes}
-use Rattle.std.specs.Str.{bytes_eq}
+use Rattle.std.specs.Prelude.{◌≡◌, ◌↔◌, ℕ, ◌≤◌, ◌==◌, Bool, true, ◌||◌, List, ◌∷◌, ◌++◌, length, Option, Some, None}
 use Rattle.co_base.specs.Streams.{Rose, Gave, IsDrained, Took, TookPart}
 use Rattle.channel_model.specs.declared.acts.Entry.{Entry}
 use Rattle.channel_model.specs.declared.acts.Fate.TheVariants as fate
@@ -24,14 +22,20 @@ use Rattle.script_grammar.specs.declared.fault.ScriptFault.{ScriptFault}
 use Rattle.script_grammar.specs.Programs.{Program}
 use Rattle.script_grammar.specs.Grammar.{Spells}
 use Rattle.script_grammar.specs.Faulty.{FirstFault}
+use Rattle.script_grammar.specs.Canonical.{canonical_text}
+use Rattle.script_grammar.specs.Generated.{generated}
 use Rattle.script_meaning.specs.Books.{BooksOf}
 use Rattle.script_meaning.specs.Idle.{IsIdle}
 use Rattle.run_report.specs.Faults.{fault_text}
 use Rattle.run_report.specs.Elements.{channel_acts_noted, element_of, report_text}
+use Rattle.run_report.specs.Summaries.{summary_text}
+use Rattle.coroutine_cli.specs.declared.words.Command.{Command}
+use Rattle.coroutine_cli.specs.declared.words.Command.TheVariants.{Run, Check, Sum}
 use Rattle.coroutine_cli.specs.declared.status.Ending.{Ending}
 use Rattle.coroutine_cli.specs.declared.status.Ending.TheVariants as ending
 use Rattle.coroutine_cli.specs.declared.status.Status.{Status}
 use Rattle.coroutine_cli.specs.declared.status.Status.TheVariants as status
+use Rattle.coroutine_cli.specs.Commands.{reads}
 
 -- the number with which the process ends
 abbrev pub number_of : Status → ℕ
@@ -50,12 +54,6 @@ status_of ending.Completed = status.Completed
 status_of ending.Cancelled = status.Cancelled
 status_of ending.Unfinished = status.Unfinished
 status_of ending.NoScript = status.NoScript
-
--- the words are run, --workers and 1
-abbrev pub is_run : List (List ℕ) → Bool
-is_run (command ∷ option ∷ value ∷ []) =
-    bytes_eq command (codes "run") && (bytes_eq option (codes "--workers") && bytes_eq value (codes "1"))
-is_run other = false
 
 -- ---- what a text says of the input
 
@@ -84,11 +82,9 @@ pub record AreServed (channels : List Entry) : Type 0 where
   pub held : (c place value : ℕ) → element_at c place (acts_in channels) ≡ Some value
       → (fate_at c place (acts_in channels) ≡ fate.Held) ↔ (stands_in place value ((replay channels).channels c).queue ≡ true)
 
--- the input is a script, and the text the report of books that are the parts of one legal history of channels and of one
--- of Jobs, which came to rest; the ending says how the root has ended
-pub record Reports (how : Ending) (input text : List ℕ) : Type 0 where
-  pub program : Program
-  pub spelled : Spells input program
+-- a run of the program came to rest, and left the books of its coroutines: the parts of one legal history of channels and of
+-- one of Jobs; the ending says how the root has ended
+pub record RunsTo (how : Ending) (program : Program) : Type 0 where
   pub books : List (List Item)
   pub channels : List Entry
   pub jobs : List JobEntry
@@ -99,9 +95,26 @@ pub record Reports (how : Ending) (input text : List ℕ) : Type 0 where
   pub served : AreServed channels
   -- no Job ends before its children
   pub children_first : ChildrenEndFirst jobs
-  -- the report says of each place which element came there in the history, and its fate
-  pub printed : (c place : ℕ) → element_of (channel_acts_noted books) c place ≡ element_of (acts_in channels) c place
-  pub is_report : text ≡ report_text program books
+  -- the books say of each place which element came there in the history, and its fate
+  pub told : (c place : ℕ) → element_of (channel_acts_noted books) c place ≡ element_of (acts_in channels) c place
+
+-- the input is a script, and the text the report of a run of it
+pub record Reports (how : Ending) (input text : List ℕ) : Type 0 where
+  pub program : Program
+  pub spelled : Spells input program
+  pub run : RunsTo how program
+  pub is_report : text ≡ report_text program run.books
+
+-- the text is the summary of a run of the generated script of this size
+pub record SumsUp (size : ℕ) (how : Ending) (text : List ℕ) : Type 0 where
+  pub run : RunsTo how (generated size)
+  pub is_summary : text ≡ summary_text (generated size) run.books
+
+-- the input is a script, and the text its canonical form
+pub record Prints (input text : List ℕ) : Type 0 where
+  pub program : Program
+  pub spelled : Spells input program
+  pub is_canonical : text ≡ canonical_text program
 
 -- the input is no script, and the text names its first faulty line and the fault
 pub record Refuses (input text : List ℕ) : Type 0 where
@@ -110,11 +123,26 @@ pub record Refuses (input text : List ℕ) : Type 0 where
   pub no_script : (p : Program) → Spells input p → ⊥
   pub is_line : text ≡ fault_text fault
 
-abbrev pub Answers : Ending → List ℕ → List ℕ → Type 0
-Answers ending.Completed input text = Reports ending.Completed input text
-Answers ending.Cancelled input text = Reports ending.Cancelled input text
-Answers ending.Unfinished input text = Reports ending.Unfinished input text
-Answers ending.NoScript input text = Refuses input text
+-- what a text says that answers an input by a run of it
+abbrev pub Ran : Ending → List ℕ → List ℕ → Type 0
+Ran ending.Completed input text = Reports ending.Completed input text
+Ran ending.Cancelled input text = Reports ending.Cancelled input text
+Ran ending.Unfinished input text = Reports ending.Unfinished input text
+Ran ending.NoScript input text = Refuses input text
+
+-- what a text says that answers an input by its canonical form
+abbrev pub Checked : Ending → List ℕ → List ℕ → Type 0
+Checked ending.Completed input text = Prints input text
+Checked ending.Cancelled input text = ⊥
+Checked ending.Unfinished input text = ⊥
+Checked ending.NoScript input text = Refuses input text
+
+-- what a text says of a sum
+abbrev pub Added : ℕ → Ending → List ℕ → Type 0
+Added size ending.Completed text = SumsUp size ending.Completed text
+Added size ending.Cancelled text = SumsUp size ending.Cancelled text
+Added size ending.Unfinished text = SumsUp size ending.Unfinished text
+Added size ending.NoScript text = ⊥
 
 -- ---- what a status says of the call
 
@@ -128,31 +156,91 @@ stream bytes faults = record { bytes = bytes; faults = faults }
 
 -- so much of the text was taken that this holds; the text answers the bytes that the source gave, which are all that it
 -- had, unless they are too many for a script
-pub record Serves (how : Ending) (source source' : Stream) (IsTaken : List ℕ → Type 0) : Type 0 where
+pub record ServesInput (Answers : List ℕ → List ℕ → Type 0) (source source' : Stream) (IsTaken : List ℕ → Type 0) : Type 0 where
   pub input : List ℕ
   pub given : Gave source.bytes source'.bytes input
   pub all : length input ≤ 1048576 → IsDrained source'.bytes
   pub text : List ℕ
-  pub answers : Answers how input text
+  pub answers : Answers input text
   pub taken : IsTaken text
 
+-- the same where nothing is read
+pub record ServesAlone (Answers : List ℕ → Type 0) (source source' : Stream) (IsTaken : List ℕ → Type 0) : Type 0 where
+  pub unread : source' ≡ source
+  pub text : List ℕ
+  pub answers : Answers text
+  pub taken : IsTaken text
+
+-- the text that a command makes, where it ends so
+abbrev pub Serves : Command → Ending → Stream → Stream → (List ℕ → Type 0) → Type 0
+Serves (Run workers) how source source' IsTaken = ServesInput (Ran how) source source' IsTaken
+Serves Check how source source' IsTaken = ServesInput (Checked how) source source' IsTaken
+Serves (Sum size workers) how source source' IsTaken = ServesAlone (Added size how) source source' IsTaken
+
 -- the text was written, whole
-abbrev pub Writes : Ending → Stream → Stream → Stream → Stream → Type 0
-Writes how source source' sink sink' = Serves how source source' (λ text. Took sink.bytes sink'.bytes text)
+abbrev pub Writes : Option Command → Ending → Stream → Stream → Stream → Stream → Type 0
+Writes None how source source' sink sink' = ⊥
+Writes (Some command) how source source' sink sink' = Serves command how source source' (λ text. Took sink.bytes sink'.bytes text)
+
+-- the source failed
+abbrev pub FailsToRead : Option Command → Stream → Stream → Type 0
+FailsToRead None source source' = ⊥
+FailsToRead (Some command) source source' = (reads command ≡ true) × Rose source.faults source'.faults
 
 -- the sink failed after a part of the text
-pub record BreaksOff (source source' sink sink' : Stream) : Type 0 where
+pub record BreaksOff (command : Command) (source source' sink sink' : Stream) : Type 0 where
   pub rose : Rose sink.faults sink'.faults
   pub how : Ending
-  pub serves : Serves how source source' (λ text. TookPart text sink.bytes sink'.bytes)
+  pub serves : Serves command how source source' (λ text. TookPart text sink.bytes sink'.bytes)
 
--- a call with these words that found its source and its sink so, and left them so
-abbrev pub Means : Status → List (List ℕ) → Stream → Stream → Stream → Stream → Type 0
-Means status.Completed words source source' sink sink' = (is_run words ≡ true) × Writes ending.Completed source source' sink sink'
-Means status.Cancelled words source source' sink sink' = (is_run words ≡ true) × Writes ending.Cancelled source source' sink sink'
-Means status.Refused words source source' sink sink' = is_run words ≡ false
-Means status.NoScript words source source' sink sink' = (is_run words ≡ true) × Writes ending.NoScript source source' sink sink'
-Means status.Unfinished words source source' sink sink' = (is_run words ≡ true) × Writes ending.Unfinished source source' sink sink'
-Means status.ReadFault words source source' sink sink' = (is_run words ≡ true) × Rose source.faults source'.faults
-Means status.WriteFault words source source' sink sink' = (is_run words ≡ true) × BreaksOff source source' sink sink'
-Means status.NoMemory words source source' sink sink' = (is_run words ≡ true)
+abbrev pub FailsToWrite : Option Command → Stream → Stream → Stream → Stream → Type 0
+FailsToWrite None source source' sink sink' = ⊥
+FailsToWrite (Some command) source source' sink sink' = BreaksOff command source source' sink sink'
+
+-- a call that was asked this, if its words are a command, that found its source and its sink so, and left them so
+abbrev pub Means : Status → Option Command → Stream → Stream → Stream → Stream → Type 0
+Means status.Completed asked source source' sink sink' = Writes asked ending.Completed source source' sink sink'
+Means status.Cancelled asked source source' sink sink' = Writes asked ending.Cancelled source source' sink sink'
+Means status.Refused asked source source' sink sink' = asked ≡ None
+Means status.NoScript asked source source' sink sink' = Writes asked ending.NoScript source source' sink sink'
+Means status.Unfinished asked source source' sink sink' = Writes asked ending.Unfinished source source' sink sink'
+Means status.ReadFault asked source source' sink sink' = FailsToRead asked source source'
+Means status.WriteFault asked source source' sink sink' = FailsToWrite asked source source' sink sink'
+Means status.NoMemory asked source source' sink sink' = Unit {0}
+
+-- ---- how a call ends that nothing disturbs
+
+-- neither the source nor the sink failed
+pub record IsUndisturbed (source source' sink sink' : Stream) : Type 0 where
+  pub reading : Rose source.faults source'.faults → ⊥
+  pub writing : Rose sink.faults sink'.faults → ⊥
+
+-- the bytes of a source are told, and spell a script
+abbrev pub SpellsAny : Stream → Type 0
+SpellsAny source = (bytes : List ℕ) × (program : Program) × (source.bytes ≡ Some bytes) × Spells bytes program
+
+-- the bytes of a source are told, and spell none
+abbrev pub SpellsNone : Stream → Type 0
+SpellsNone source = (bytes : List ℕ) × (source.bytes ≡ Some bytes) × ((program : Program) → Spells bytes program → ⊥)
+
+-- the numbers with which a run ends, but for want of memory
+abbrev pub ends_run : ℕ → Bool
+ends_run number = number == 0 || (number == 1 || number == 4)
+
+-- what the source has to hold for a command, and the numbers with which the call then ends, but for want of memory
+abbrev pub Needs : Command → Stream → Type 0
+Needs (Run workers) source = SpellsAny source
+Needs Check source = SpellsAny source
+Needs (Sum size workers) source = Unit {0}
+
+abbrev pub ends_whole : Command → ℕ → Bool
+ends_whole (Run workers) number = ends_run number
+ends_whole Check number = number == 0
+ends_whole (Sum size workers) number = ends_run number
+
+-- a call with these words comes to its end: with a script to its text, and without one to the line of a fault
+pub record Completes (number : ℕ) (asked : Option Command) (source source' sink sink' : Stream) : Type 0 where
+  pub whole : (command : Command) → asked ≡ Some command → IsUndisturbed source source' sink sink' → Needs command source
+      → (ends_whole command number || number == 7) ≡ true
+  pub no_script : (command : Command) → asked ≡ Some command → reads command ≡ true → IsUndisturbed source source' sink sink'
+      → SpellsNone source → (number == 3 || number == 7) ≡ true

@@ -1,21 +1,20 @@
-//! The text and the status that a script is answered with.
+//! The text of a run, and how the call then ends.
 
-ghost use Rattle.std.specs.Prelude.{◌≡◌, IfOk};
-ghost use Rattle.script_grammar.specs.declared.fault.FaultKind.TheVariants.{Memory as NoMemory};
-ghost use Rattle.script_grammar.specs.Programs.{Program};
-ghost use Rattle.script_grammar.specs.Grammar.{Spells};
-ghost use Rattle.script_grammar.specs.Faulty.{FirstFault};
-ghost use Rattle.script_reader.specs.Answers.{Unless};
+ghost use Rattle.std.specs.Prelude.{◌≡◌, IfOk, map};
+ghost use Rattle.note_book.specs.Books.{notes_of};
 ghost use Rattle.script_reader.specs.Scripts.{program_of};
-ghost use Rattle.coroutine_cli.specs.Statuses.{Answers, ending_of};
+ghost use Rattle.engine_one.specs.Runs.{CameToRest};
+ghost use Rattle.coroutine_cli.specs.Statuses.{Serves, Stream, ending_of};
+ghost use Rattle.coroutine_cli.specs.Preparing.{Asks, text_of};
 
 use crate::status::Ending;
-use co_base::{Gate, Memory};
-use engine_one::run_one;
+use crate::words::Command;
+use co_base::Memory;
+use engine_one::ListRun;
 use job_model::End;
-use run_report::{fault_line, report};
-use script_grammar::{FaultKind, ScriptFault};
-use script_reader::{Script, read};
+use poll_states::Done;
+use run_report::{report, summary};
+use script_reader::Script;
 use std::alloc::Global;
 
 /// What is to be written, and how the call then ends.
@@ -25,42 +24,30 @@ pub struct Answer {
     pub text: Vec<u8>,
 }
 
-/// Reads the script, runs it in one thread, and makes its report; of bytes that are no script the line of their fault.
-pub fn answer_to<G: Gate>(alloc: Global, bytes: &[u8], gate: &G) -> Result<Answer, Memory>
-    ensures { IfOk result (λ answer. Answers answer.ending bytes.now answer.text.items) }
+/// What a command says of a run of its script.
+pub fn answer_of(
+    alloc: Global,
+    command: Command,
+    script: &Script,
+    run: &ListRun,
+) -> Result<Answer, Memory>
+    requires { CameToRest (program_of script.now) run.now }
+    ensures { IfOk result (λ answer. (source source' : Stream) → Asks command source source' (program_of script.now)
+        → Serves command answer.ending source source' (λ text. answer.text.items ≡ text)) }
 {
-    match read(alloc, bytes) {
-        Ok(script) => run_of(alloc, &script, bytes, gate),
-        Err(fault) => fault_of(alloc, fault, bytes),
-    }
-}
-
-/// What is answered for want of a script.
-fn fault_of(alloc: Global, fault: ScriptFault, bytes: &[u8]) -> Result<Answer, Memory>
-    requires refused { Unless fault.kind (FirstFault bytes.now fault) }
-    requires unspelled { (p : Program) → Spells bytes.now p → fault.kind ≡ NoMemory }
-    ensures { IfOk result (λ answer. Answers answer.ending bytes.now answer.text.items) }
-{
-    match fault.kind {
-        FaultKind::Memory => Err(Memory),
-        _ => {
-            let text = fault_line(alloc, &fault)?;
-            Ok(Answer {
-                ending: Ending::NoScript,
-                text,
-            })
-        }
-    }
-}
-
-fn run_of<G: Gate>(alloc: Global, script: &Script, bytes: &[u8], gate: &G) -> Result<Answer, Memory>
-    requires { Spells bytes.now (program_of script.now) }
-    ensures { IfOk result (λ answer. Answers answer.ending bytes.now answer.text.items) }
-{
-    let run = run_one(alloc, script, gate)?;
-    let text = report(alloc, script, &run.done)?;
+    let text = text_of(alloc, command, script, &run.done)?;
     let ending = ending_of(run.done.end);
     Ok(Answer { ending, text })
+}
+
+/// The text that a command makes of the books of a run.
+fn text_of(alloc: Global, command: Command, script: &Script, done: &Done) -> Result<Vec<u8>, Memory>
+    ensures { IfOk result (λ text. text.items ≡ text_of command (program_of script.now) (map notes_of done.now.books.items)) }
+{
+    match command {
+        Command::Run(_) | Command::Check => report(alloc, script, done),
+        Command::Sum(_, _) => summary(alloc, script, done),
+    }
 }
 
 /// How a run ends whose root has ended so, if it has.

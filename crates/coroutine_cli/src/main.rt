@@ -1,19 +1,27 @@
 //! The program: a script of coroutines from standard input, its report on standard output.
 //!
 //! - `status`: how a call of the program ends.
-//! - `words`: which words are accepted.
-//! - `answer`: the text and the status that a script is answered with.
+//! - `words`: which words are accepted, and as which command.
+//! - `input`: the script that the source gives, or the line of its fault.
+//! - `prepare`: what a command does before a script is run.
+//! - `answer`: the text of a run, and how the call then ends.
+//! - `writing`: the answer is written.
 //! - `top`: the whole call over any source and sink.
+//! - `alone`: the same for one worker, without threads.
 //! - `ends`: the code with which the process ends, and what standard error says.
 #![tactic(auto)]
 
+mod alone;
 mod answer;
 mod ends;
+mod input;
+mod prepare;
 mod status;
 #[cfg(test)]
 mod tests;
 mod top;
 mod words;
+mod writing;
 
 use co_base::{OpenGate, StdSink, StdSource};
 use ends::{exit_code, message_of};
@@ -29,6 +37,7 @@ fn main(rt: HostRuntime) -> ExitCode {
             let mut source = StdSource::new(rt.stdin());
             let mut sink = StdSink::new(rt.stdout());
             coroutine_main(
+                &rt,
                 rt.alloc(),
                 words.as_slice(),
                 &mut source,

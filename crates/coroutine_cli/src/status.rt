@@ -6,14 +6,21 @@ ghost use Rattle.coroutine_cli.specs.Statuses.{number_of, status_of};
 /// How a call ends that has a text to write.
 #[derive(Clone, Copy, Debug, PartialEq, Eq)]
 pub enum Ending {
-    /// The root's Job has completed; the text is the report.
+    /// The root's Job has completed, or the script was checked.
     Completed,
-    /// The root's Job has ended as cancelled; the text is the report.
+    /// The root's Job has ended as cancelled.
     Cancelled,
-    /// The root's Job has not ended; the text is the report.
+    /// The root's Job has not ended.
     Unfinished,
     /// The bytes are no script; the text says which line is faulty.
     NoScript,
+}
+
+/// Why there is nothing to write.
+#[derive(Clone, Copy, Debug, PartialEq, Eq)]
+pub enum NoAnswer {
+    ReadFault,
+    Memory,
 }
 
 /// How a call ends.

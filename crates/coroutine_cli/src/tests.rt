@@ -2,11 +2,14 @@
 
 ghost use Rattle.std.specs.Prelude.{◌≤◌};
 
+use crate::alone::coroutine_main_alone;
 use crate::ends::message_of;
 use crate::top::coroutine_main;
 use co_base::{Memory, MemorySink, MemorySource, OpenGate};
 use std::alloc::Global;
+use std::sync::Wait;
 use std::test::Fail;
+use std::thread::Threads;
 
 /// One sender and one receiver.
 const RENDEZVOUS: &str =
@@ -27,8 +30,18 @@ const AT_ONCE: Pace<'static> = Pace {
     fails: &[],
 };
 
+/// The words as strings.
+fn strings(alloc: Global, words: &[&str]) -> Result<Vec<String>, Memory> {
+    let mut list = Vec::new(alloc);
+    for word in words {
+        list.push(String::from_str(alloc, *word)?)?;
+    }
+    Ok(list)
+}
+
 /// The status, and what the sink holds.
-fn answer(
+fn answer<R: Threads + Wait + Sync>(
+    rt: &R,
     alloc: Global,
     words: &[&str],
     script: &[u8],
@@ -38,13 +51,27 @@ fn answer(
     requires given { 1 ≤ given.step }
     requires taken { 1 ≤ taken.step }
 {
-    let mut list = Vec::new(alloc);
-    for word in words {
-        list.push(String::from_str(alloc, *word)?)?;
-    }
+    let list = strings(alloc, words)?;
     let mut source = MemorySource::new(alloc, script, given.step, given.fails)?;
     let mut sink = MemorySink::new(alloc, taken.step, taken.fails)?;
-    let status = coroutine_main(alloc, list.as_slice(), &mut source, &mut sink, &OpenGate);
+    let status = coroutine_main(
+        rt,
+        alloc,
+        list.as_slice(),
+        &mut source,
+        &mut sink,
+        &OpenGate,
+    );
+    let text = Vec::from_slice(alloc, sink.bytes())?;
+    Ok((status, text))
+}
+
+/// The same, of the call that has no threads.
+fn answer_alone(alloc: Global, words: &[&str], script: &[u8]) -> Result<(u8, Vec<u8>), Memory> {
+    let list = strings(alloc, words)?;
+    let mut source = MemorySource::new(alloc, script, AT_ONCE.step, AT_ONCE.fails)?;
+    let mut sink = MemorySink::new(alloc, AT_ONCE.step, AT_ONCE.fails)?;
+    let status = coroutine_main_alone(alloc, list.as_slice(), &mut source, &mut sink, &OpenGate);
     let text = Vec::from_slice(alloc, sink.bytes())?;
     Ok((status, text))
 }
@@ -244,6 +271,36 @@ coroutine main
 # A number that is too large.
 channel a rendezvous;coroutine main;send a 4294967296;end
 3 report line 3: BadNumber
+# A first word that is none.
+chanel a rendezvous
+3 report line 1: UnknownWord
+# A capacity of no elements.
+channel a buffered 0
+3 report line 1: BadNumber
+# A name with a capital letter.
+channel A rendezvous
+3 report line 1: BadName
+# A name twice.
+channel a rendezvous;channel a rendezvous
+3 report line 2: Duplicate
+# A channel that is not declared.
+coroutine main;send a 1;end
+3 report line 2: Undeclared
+# An await of a Job that has no result.
+coroutine p;end;coroutine main;launch p as j;await j;end
+3 report line 5: Undeclared
+# A word too many.
+coroutine main extra
+3 report line 1: Extra
+# Nine repeats, one in the other.
+coroutine main;repeat 2;repeat 2;repeat 2;repeat 2;repeat 2;repeat 2;repeat 2;repeat 2;repeat 2
+3 report line 10: TooDeep
+# More Jobs than a run may have.
+coroutine w;end;coroutine main;end;spawn w 16000
+3 report line 5: TooMany
+# A coroutine that launches itself.
+coroutine p;launch p;end
+3 report line 2: Recursive
 ";
 
 /// The text of a row.
@@ -294,8 +351,14 @@ fn told_of(alloc: Global, told: &str, text: &str) -> Result<String, Memory> {
 }
 
 /// What a script is answered with, in the form in which a row says it.
-fn found(alloc: Global, script: &str, told: &str) -> Result<String, Fail> {
+fn found<R: Threads + Wait + Sync>(
+    rt: &R,
+    alloc: Global,
+    script: &str,
+    told: &str,
+) -> Result<String, Fail> {
     let (status, written) = answer(
+        rt,
         alloc,
         &["run", "--workers", "1"],
         lines(alloc, script)?.as_bytes(),
@@ -315,14 +378,18 @@ fn told_by(answer: &str) -> &str {
 }
 
 /// The first row that does not hold, with what was found in its place.
-fn first_wrong(alloc: Global, rows: &str) -> Result<Option<String>, Fail> {
+fn first_wrong<R: Threads + Wait + Sync>(
+    rt: &R,
+    alloc: Global,
+    rows: &str,
+) -> Result<Option<String>, Fail> {
     let mut before = None;
     for line in rows.lines() {
         match before {
             _ if line.starts_with("#") => (),
             None => before = Some(line),
             Some(script) => {
-                let text = found(alloc, script, told_by(line))?;
+                let text = found(rt, alloc, script, told_by(line))?;
                 if text.as_str() != lines(alloc, line)?.as_str() {
                     return Ok(Some(format!(in alloc; "{script}\n{text}")?));
                 }
@@ -335,7 +402,7 @@ fn first_wrong(alloc: Global, rows: &str) -> Result<Option<String>, Fail> {
 
 #[test]
 fn each_script_has_its_status_and_its_text(rt: HostRuntime) -> Result<(), Fail> {
-    assert_eq!(rt; first_wrong(rt.alloc(), ROWS)?, None);
+    assert_eq!(rt; first_wrong(&rt, rt.alloc(), ROWS)?, None);
     Ok(())
 }
 
@@ -347,7 +414,7 @@ fn a_source_and_a_sink_may_be_slow_or_fail(rt: HostRuntime) -> Result<(), Fail> 
     let report = lines(rt.alloc(), RENDEZVOUS_REPORT)?;
     for step in [1, 7, 1_000] {
         let pace = Pace { step, fails: &[] };
-        let (status, written) = answer(rt.alloc(), &words, script, pace, pace)?;
+        let (status, written) = answer(&rt, rt.alloc(), &words, script, pace, pace)?;
         assert_eq!(rt; written.as_slice(), report.as_bytes());
         assert_eq!(rt; status, 0);
     }
@@ -355,14 +422,14 @@ fn a_source_and_a_sink_may_be_slow_or_fail(rt: HostRuntime) -> Result<(), Fail> 
         step: 16,
         fails: &[2],
     };
-    let (status, written) = answer(rt.alloc(), &words, script, AT_ONCE, second_fails)?;
+    let (status, written) = answer(&rt, rt.alloc(), &words, script, AT_ONCE, second_fails)?;
     assert_eq!(rt; written.as_slice(), b"0 attach 1 to 0 ".as_slice());
     assert_eq!(rt; status, 6);
     let first_fails = Pace {
         step: 16,
         fails: &[1],
     };
-    let (status, written) = answer(rt.alloc(), &words, script, first_fails, AT_ONCE)?;
+    let (status, written) = answer(&rt, rt.alloc(), &words, script, first_fails, AT_ONCE)?;
     assert!(rt; written.is_empty());
     assert_eq!(rt; status, 5);
     Ok(())
@@ -395,20 +462,159 @@ fn standard_error_says_why_there_is_no_text(rt: HostRuntime) -> Result<(), Fail>
     Ok(())
 }
 
+/// Words that are no command.
+const REFUSED: &str = "\
+
+go
+--help
+run --workers 0
+run --workers 04
+run --workers 17
+run --workers 4294967297
+run --workers -1
+run --workers
+run --workers 1 --workers 1
+run --workers 1 1
+run --help
+run -h
+run --size 5
+check --workers 1
+check check
+sum
+sum --workers 1
+sum --size 0
+sum --size 100001
+sum --size 5 --size 5
+sum --size 5 --workers 17
+";
+
+/// The words of a line.
+fn words_of<'a>(alloc: Global, line: &'a str) -> Result<Vec<&'a str>, Memory> {
+    let mut words = Vec::new(alloc);
+    for word in line.split(' ') {
+        if !word.is_empty() {
+            words.push(word)?;
+        }
+    }
+    Ok(words)
+}
+
 #[test]
 fn other_words_are_refused(rt: HostRuntime) -> Result<(), Fail> {
-    let refused: [&[&str]; 5] = [
-        &[],
-        &["go"],
-        &["run"],
-        &["run", "--workers", "2"],
-        &["run", "--workers", "1", "1"],
-    ];
-    for words in refused {
-        let (status, written) = answer(rt.alloc(), words, b"".as_slice(), AT_ONCE, AT_ONCE)?;
+    let script = lines(rt.alloc(), RENDEZVOUS)?;
+    for line in REFUSED.lines() {
+        let words = words_of(rt.alloc(), line)?;
+        let (status, written) = answer(
+            &rt,
+            rt.alloc(),
+            words.as_slice(),
+            script.as_bytes(),
+            AT_ONCE,
+            AT_ONCE,
+        )?;
         assert!(rt; written.is_empty());
         assert_eq!(rt; status, 2);
     }
+    Ok(())
+}
+
+/// A script whose root has a report of its own under each schedule, but for one line and the number of its Jobs.
+const ADDERS: &str =
+    "channel a buffered;coroutine p;repeat 2500;send a 2;end;end;coroutine q;repeat 5000;send a 1;end;end;coroutine c;each a;end;result sum;end;coroutine main;async c as c1;async c as c2;async c as c3;async c as c4;scope;launch p;launch p;launch q;end;close a;await c1;await c2;await c3;await c4;result sum;end";
+
+/// How many lines of a text begin so.
+fn beginning(text: &str, front: &str) -> usize {
+    text.lines()
+        .filter(|line: &&str| line.starts_with(front))
+        .count()
+}
+
+#[test]
+fn any_number_of_workers_adds_up_the_same(rt: HostRuntime) -> Result<(), Fail> {
+    let script = lines(rt.alloc(), ADDERS)?;
+    for workers in ["1", "4", "16"] {
+        let words = ["sum", "--size", "1000", "--workers", workers];
+        let (status, written) = answer(&rt, rt.alloc(), &words, b"".as_slice(), AT_ONCE, AT_ONCE)?;
+        assert_eq!(rt; str::from_utf8(written.as_slice())?, SUM_OF_1000);
+        assert_eq!(rt; status, 0);
+        let words = ["run", "--workers", workers];
+        let (status, written) = answer(
+            &rt,
+            rt.alloc(),
+            &words,
+            script.as_bytes(),
+            AT_ONCE,
+            AT_ONCE,
+        )?;
+        let text = str::from_utf8(written.as_slice())?;
+        assert_eq!(rt; beginning(text, "job 0 completed 15000"), 1);
+        assert_eq!(rt; beginning(text, "job "), 9);
+        assert_eq!(rt; beginning(text, "element "), 0);
+        assert_eq!(rt; status, 0);
+    }
+    Ok(())
+}
+
+const SUM_OF_1000: &str =
+    "jobs 11 completed 11 cancelled 0 received 8000 undelivered 0 dropped 0 withdrawn 0 held 0 result 10000\n";
+
+#[test]
+fn four_workers_where_none_is_said(rt: HostRuntime) -> Result<(), Fail> {
+    let words = ["sum", "--size=1000"];
+    let (status, written) = answer(&rt, rt.alloc(), &words, b"".as_slice(), AT_ONCE, AT_ONCE)?;
+    assert_eq!(rt; str::from_utf8(written.as_slice())?, SUM_OF_1000);
+    assert_eq!(rt; status, 0);
+    Ok(())
+}
+
+#[test]
+fn a_check_writes_the_canonical_script(rt: HostRuntime) -> Result<(), Fail> {
+    let script = lines(
+        rt.alloc(),
+        "# two elements;channel   a buffered;;coroutine main;repeat 2;send a 1;end;end",
+    )?;
+    let (status, written) = answer(
+        &rt,
+        rt.alloc(),
+        &["check"],
+        script.as_bytes(),
+        AT_ONCE,
+        AT_ONCE,
+    )?;
+    let canonical = lines(
+        rt.alloc(),
+        "channel a buffered 64 places 16384;coroutine main;  repeat 2;    send a 1;  end;end",
+    )?;
+    assert_eq!(rt; str::from_utf8(written.as_slice())?, canonical.as_str());
+    assert_eq!(rt; status, 0);
+    let no_script = [35, 32, 195, 169, 10];
+    let (status, written) = answer(
+        &rt,
+        rt.alloc(),
+        &["check"],
+        no_script.as_slice(),
+        AT_ONCE,
+        AT_ONCE,
+    )?;
+    assert_eq!(rt; written.as_slice(), b"line 1: NotAscii\n".as_slice());
+    assert_eq!(rt; status, 3);
+    Ok(())
+}
+
+#[test]
+fn the_call_without_threads_serves_one_worker(rt: HostRuntime) -> Result<(), Fail> {
+    let script = lines(rt.alloc(), RENDEZVOUS)?;
+    let report = lines(rt.alloc(), RENDEZVOUS_REPORT)?;
+    let (status, written) = answer_alone(
+        rt.alloc(),
+        &["run", "--workers", "1"],
+        script.as_bytes(),
+    )?;
+    assert_eq!(rt; str::from_utf8(written.as_slice())?, report.as_str());
+    assert_eq!(rt; status, 0);
+    let (status, written) = answer_alone(rt.alloc(), &["run"], script.as_bytes())?;
+    assert!(rt; written.is_empty());
+    assert_eq!(rt; status, 2);
     Ok(())
 }
 
@@ -419,6 +625,7 @@ fn an_input_may_be_too_long(rt: HostRuntime) -> Result<(), Fail> {
         input.push(b'\n')?;
     }
     let (status, written) = answer(
+        &rt,
         rt.alloc(),
         &["run", "--workers", "1"],
         input.as_slice(),
@@ -427,5 +634,27 @@ fn an_input_may_be_too_long(rt: HostRuntime) -> Result<(), Fail> {
     )?;
     assert_eq!(rt; written.as_slice(), b"line 1: TooMany\n".as_slice());
     assert_eq!(rt; status, 3);
+    Ok(())
+}
+
+#[test]
+fn an_input_may_be_as_long_as_a_script_may(rt: HostRuntime) -> Result<(), Fail> {
+    let script = lines(rt.alloc(), RENDEZVOUS)?;
+    let mut input = Vec::from_slice(rt.alloc(), script.as_bytes())?;
+    for place in 107..1_048_576u32 {
+        input.push(if place % 64 == 63 { b'\n' } else { b'#' })?;
+    }
+    assert_eq!(rt; input.len(), 1_048_576);
+    let (status, written) = answer(
+        &rt,
+        rt.alloc(),
+        &["run", "--workers", "1"],
+        input.as_slice(),
+        AT_ONCE,
+        AT_ONCE,
+    )?;
+    let report = lines(rt.alloc(), RENDEZVOUS_REPORT)?;
+    assert_eq!(rt; str::from_utf8(written.as_slice())?, report.as_str());
+    assert_eq!(rt; status, 0);
     Ok(())
 }

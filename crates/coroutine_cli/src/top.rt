@@ -1,26 +1,35 @@
 //! The whole call, over any source and sink.
 
-ghost use Rattle.std.specs.Prelude.{◌≡◌, ◌⊎◌, ℕ, List, length, Ok, Err, map, string_bytes, IfOk, MatchResult};
+ghost use Rattle.std.specs.Prelude.{◌≡◌, ◌≢◌, ◌⊎◌, false, true, Err, IfOk, map, Some, string_bytes};
 ghost use Rattle.co_base.specs.Streams.{Rose};
-ghost use Rattle.coroutine_cli.specs.Statuses.{Means, number_of, Answers, Serves, stream};
-ghost use Rattle.coroutine_cli.specs.Writing.{IsWritten};
-ghost use Rattle.coroutine_cli.specs.declared.top.NoAnswer.TheVariants as reasons;
+ghost use Rattle.script_reader.specs.Scripts.{program_of};
+ghost use Rattle.coroutine_cli.specs.Commands.{IsInLimits, command_of, is_asked_to_read, reads};
+ghost use Rattle.coroutine_cli.specs.Statuses.{Completes, Means, number_of, Serves, Stream, stream};
+ghost use Rattle.coroutine_cli.specs.Preparing.{Asks};
+ghost use Rattle.coroutine_cli.specs.declared.status.NoAnswer.TheVariants as reasons;
 ghost use Rattle.coroutine_cli.specs.declared.status.Status.{Status as Outcome};
 ghost use Rattle.coroutine_cli.specs.declared.status.Status.TheVariants as statuses;
 
-use crate::answer::{Answer, answer_to};
-use crate::status::{Ending, Status};
-use crate::words::is_run;
-use co_base::{Gate, Memory, ReadError, Sink, Source, read_script, write_all};
-use run_report::fault_line;
-use script_grammar::{FaultKind, ScriptFault};
+use crate::answer::{Answer, answer_of};
+use crate::prepare::{Prepared, prepare};
+use crate::status::{NoAnswer, Status};
+use crate::words::{Command, command_of};
+use crate::writing::{unless_memory, written};
+use co_base::{Gate, Memory, Sink, Source};
+use engine_one::run_by;
+use script_reader::Script;
 use std::alloc::Global;
+use std::sync::Wait;
+use std::thread::Threads;
 
-/// Runs a script: the words are those of the command line without the program's name, the script comes from the source,
-/// and its report goes to the sink. Answers the number with which the process ends.
+/// Does what the words ask for: those of the command line without the program's name. `run` reads a script, runs it and writes its
+/// report; `check` reads a script and writes it in its canonical form; `sum` runs a generated script and writes its summary. Answers the
+/// number with which the process ends.
 ///
-/// The order is words, script, run, text; the text is made whole before its first byte is written.
-pub fn coroutine_main<S: Source, K: Sink, G: Gate>(
+/// The order is words, script, run, text; the text is made whole before its first byte is written. Several workers need the join of
+/// their threads to return.
+pub fn coroutine_main<R: Threads + Wait + Sync, S: Source, K: Sink, G: Gate + Sync>(
+    rt: &R,
     alloc: Global,
     words: &[String],
     source: &mut S,
@@ -28,94 +37,100 @@ pub fn coroutine_main<S: Source, K: Sink, G: Gate>(
     gate: &G,
 ) -> u8
     ensures status { (status : Outcome) × (result ≡ number_of status)
-        × Means status (map string_bytes words.now) (stream (S.left source.old) (S.faults source.old))
+        × Means status (command_of (map string_bytes words.now)) (stream (S.left source.old) (S.faults source.old))
         (stream (S.left source.new) (S.faults source.new)) (stream (K.held sink.old) (K.faults sink.old))
         (stream (K.held sink.new) (K.faults sink.new)) }
-    ensures unread { result ≡ 2 → source.new ≡ source.old }
+    ensures completes { Completes result (command_of (map string_bytes words.now)) (stream (S.left source.old) (S.faults source.old))
+        (stream (S.left source.new) (S.faults source.new)) (stream (K.held sink.old) (K.faults sink.old))
+        (stream (K.held sink.new) (K.faults sink.new)) }
+    ensures unread { (result ≡ 2) ⊎ (is_asked_to_read (command_of (map string_bytes words.now)) ≡ false) → source.new ≡ source.old }
     ensures unwritten { (result ≡ 2) ⊎ ((result ≡ 5) ⊎ (result ≡ 7)) → sink.new ≡ sink.old }
 {
-    call(alloc, words, source, sink, gate).number()
+    call(rt, alloc, words, source, sink, gate).number()
 }
 
 /// The same, with the status by its name.
-fn call<S: Source, K: Sink, G: Gate>(
+fn call<R: Threads + Wait + Sync, S: Source, K: Sink, G: Gate + Sync>(
+    rt: &R,
     alloc: Global,
     words: &[String],
     source: &mut S,
     sink: &mut K,
     gate: &G,
 ) -> Status
-    ensures status { Means result (map string_bytes words.now)
+    ensures status { Means result (command_of (map string_bytes words.now))
         (stream (S.left source.old) (S.faults source.old)) (stream (S.left source.new) (S.faults source.new))
         (stream (K.held sink.old) (K.faults sink.old)) (stream (K.held sink.new) (K.faults sink.new)) }
-    ensures unread { result ≡ statuses.Refused → source.new ≡ source.old }
+    ensures unread { (result ≡ statuses.Refused) ⊎ (is_asked_to_read (command_of (map string_bytes words.now)) ≡ false)
+        → source.new ≡ source.old }
     ensures unwritten { (result ≡ statuses.Refused) ⊎ ((result ≡ statuses.ReadFault) ⊎ (result ≡ statuses.NoMemory))
         → sink.new ≡ sink.old }
 {
-    if !is_run(words) {
-        return Status::Refused;
+    match command_of(alloc, words) {
+        Ok(Some(command)) => done(rt, alloc, command, source, sink, gate),
+        Ok(None) => Status::Refused,
+        Err(_) => Status::NoMemory,
     }
-    match read_and_answer(alloc, source, gate) {
+}
+
+/// Does what a command asks for.
+fn done<R: Threads + Wait + Sync, S: Source, K: Sink, G: Gate + Sync>(
+    rt: &R,
+    alloc: Global,
+    command: Command,
+    source: &mut S,
+    sink: &mut K,
+    gate: &G,
+) -> Status
+    requires { IsInLimits command }
+    ensures status { Means result (Some command)
+        (stream (S.left source.old) (S.faults source.old)) (stream (S.left source.new) (S.faults source.new))
+        (stream (K.held sink.old) (K.faults sink.old)) (stream (K.held sink.new) (K.faults sink.new)) }
+    ensures unread { reads command ≡ false → source.new ≡ source.old }
+    ensures accepted { result ≢ statuses.Refused }
+    ensures unwritten { (result ≡ statuses.ReadFault) ⊎ (result ≡ statuses.NoMemory) → sink.new ≡ sink.old }
+{
+    match answer(rt, alloc, command, source, gate) {
         Ok(answer) => written(sink, &answer),
         Err(NoAnswer::ReadFault) => Status::ReadFault,
         Err(NoAnswer::Memory) => Status::NoMemory,
     }
 }
 
-/// Why there is nothing to write.
-#[derive(Drop)]
-enum NoAnswer {
-    ReadFault,
-    Memory,
-}
-
-/// Reads the script and makes its answer.
-fn read_and_answer<S: Source, G: Gate>(
+/// Makes the answer to a command.
+fn answer<R: Threads + Wait + Sync, S: Source, G: Gate + Sync>(
+    rt: &R,
     alloc: Global,
+    command: Command,
     source: &mut S,
     gate: &G,
 ) -> Result<Answer, NoAnswer>
-    ensures answers { IfOk result (λ answer. Serves answer.ending
+    requires { IsInLimits command }
+    ensures answers { IfOk result (λ answer. Serves command answer.ending
         (stream (S.left source.old) (S.faults source.old)) (stream (S.left source.new) (S.faults source.new))
         (λ text. answer.text.items ≡ text)) }
-    ensures fault { result ≡ Err reasons.ReadFault → Rose (S.faults source.old) (S.faults source.new) }
+    ensures fault { result ≡ Err reasons.ReadFault → (reads command ≡ true) × Rose (S.faults source.old) (S.faults source.new) }
+    ensures unread { reads command ≡ false → source.new ≡ source.old }
 {
-    match read_script(alloc, source) {
-        Ok(bytes) => answered(answer_to(alloc, bytes.as_slice(), gate)),
-        Err(ReadError::TooLong) => answered(too_long(alloc)),
-        Err(ReadError::ReadFault) => Err(NoAnswer::ReadFault),
-        Err(ReadError::Memory) => Err(NoAnswer::Memory),
+    match prepare(alloc, command, source) {
+        Ok(Prepared::Ready(answer)) => Ok(answer),
+        Ok(Prepared::Script(script)) => unless_memory(run_of(rt, alloc, command, &script, gate)),
+        Err(why) => Err(why),
     }
 }
 
-/// What is answered to more bytes than a script may have.
-fn too_long(alloc: Global) -> Result<Answer, Memory>
-    ensures { IfOk result (λ answer. (input : List ℕ) → length input ≡ 1048577 → Answers answer.ending input answer.text.items) }
+/// What a command says of its script, which is run.
+fn run_of<R: Threads + Wait + Sync, G: Gate + Sync>(
+    rt: &R,
+    alloc: Global,
+    command: Command,
+    script: &Script,
+    gate: &G,
+) -> Result<Answer, Memory>
+    requires { IsInLimits command }
+    ensures { IfOk result (λ answer. (source source' : Stream) → Asks command source source' (program_of script.now)
+        → Serves command answer.ending source source' (λ text. answer.text.items ≡ text)) }
 {
-    let fault = ScriptFault {
-        line: 1,
-        kind: FaultKind::TooMany,
-    };
-    let text = fault_line(alloc, &fault)?;
-    Ok(Answer {
-        ending: Ending::NoScript,
-        text,
-    })
-}
-
-fn answered(answer: Result<Answer, Memory>) -> Result<Answer, NoAnswer>
-    ensures { MatchResult result (λ x. answer ≡ Ok x) (λ why. why ≡ reasons.Memory) }
-{
-    answer.map_err(|_| NoAnswer::Memory)
-}
-
-/// Writes the answer.
-fn written<K: Sink>(sink: &mut K, answer: &Answer) -> Status
-    ensures { IsWritten answer.now.ending answer.now.text.items (stream (K.held sink.old) (K.faults sink.old))
-        (stream (K.held sink.new) (K.faults sink.new)) result }
-{
-    match write_all(sink, answer.text.as_slice()) {
-        Ok(()) => answer.ending.status(),
-        Err(_) => Status::WriteFault,
-    }
+    let run = run_by(rt, alloc, script, command.workers(), gate)?;
+    answer_of(alloc, command, script, &run)
 }
