@@ -12,6 +12,7 @@
 #include <stddef.h>
 #include <stdio.h>
 #include <stdlib.h>
+#include <sys/syscall.h>
 #include <unistd.h>
 
 extern void *__libc_malloc(size_t size);
@@ -36,7 +37,7 @@ __attribute__((constructor)) static void begin(void) {
     counting = 1;
 }
 
-__attribute__((destructor)) static void end(void) {
+static void write_count(void) {
     const char *file = getenv("COUNT_INTO");
     counting = 0;
     if (!file) return;
@@ -44,6 +45,16 @@ __attribute__((destructor)) static void end(void) {
     if (into < 0) return;
     dprintf(into, "%lu\n", atomic_load(&made));
     close(into);
+}
+
+__attribute__((destructor)) static void end(void) {
+    write_count();
+}
+
+// A program may end without what is to be run at its end.
+void _exit(int status) {
+    write_count();
+    for (;;) syscall(SYS_exit_group, status);
 }
 
 static int fails(void) {
