@@ -11,12 +11,13 @@
 //! | cell | Free | Buffered | `offer_at`: who sends, where the channel keeps one more | the same |
 //! | cell | Free | Closed | `close_at`: who closes | that the channel ends here |
 //! | cell | Closed | Voided | `void_at`: who cancels | that the channel is cancelled |
-//! | cell | Buffered, or Offer of an admitted wait | Emptied | who receives (`take_kept`, `take_admitted`), drops (`drop_kept`) or drains (`drain_kept`, `drain_admitted`) | who has the element |
+//! | cell | Buffered | Emptied | who receives (`take_kept`), drops (`drop_kept`) or drains (`drain_kept`) | who has the element |
+//! | cell | Offer of an admitted wait | Emptied | who receives (`take_admitted`) or drains (`drain_admitted`) | who has the element |
 //! | wait | 0 | handed | `hand`: who sends | who resolves the wait of the first receiver |
 //! | wait | 0 | closed | `wake`: anybody, once the channel is closed | the same |
 //! | wait | 0 | taken | `take`: who receives | who resolves the wait of the first offer |
 //! | wait | 0 | voided | `drain`: anybody, once the channel is cancelled | the same |
-//! | wait | 0 | admitted | `admit_at`: anybody, where fewer offers stand before it than the channel keeps | who resolves the wait of the offer |
+//! | wait | 0 | admitted | `admit_at`: anybody, where fewer offers stand before than are kept | who resolves the wait of the offer |
 //! | wait | 0 | cancelled, revoked | `withdraw_at`: its coroutine | that it was not resolved before |
 //! | wait | resolved | settled | `settle_at`: its coroutine | nothing: nobody else settles it |
 //! | counter | n | at least m | `raise_sends`, `raise_receives`: anybody | nothing: it is a hint |

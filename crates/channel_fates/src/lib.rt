@@ -1,5 +1,5 @@
-//! What becomes of elements: each has at most one fate, in every legal history of the channels. The laws are the contracts of the functions of
-//! `laws`, whose bodies are empty.
+//! What becomes of elements: each has at most one fate, in every legal history of the channels. The laws are the contracts of the functions
+//! of `laws`, whose bodies are empty.
 #![tactic(auto)]
 
 mod laws;

@@ -27,7 +27,11 @@ is_held_by w (Some p) = same_wait w p.wait
 
 -- the channel without what the wait has there
 abbrev pub without : WaitId → Channel → Channel
-without w ch = record ch { queue = filter (λ o. not (is_held_by w o.holder)) ch.queue; receivers = filter (λ r. not (same_wait w r.party.wait)) ch.receivers }
+without w ch =
+    record ch {
+      queue = filter (λ o. not (is_held_by w o.holder)) ch.queue;
+      receivers = filter (λ r. not (same_wait w r.party.wait)) ch.receivers;
+    }
 
 abbrev pub resolved_wait : Resolution → Option Wait → Option Wait
 resolved_wait how None = None
@@ -107,12 +111,22 @@ after s who (Put c p v) =
     record s { channels = put_channel c (place_offer true (record { place = p; value = v; holder = None }) (s.channels c)) s.channels }
 after s who (Offer c p v w k) =
     record {
-      channels = put_channel c (place_offer (is_open (s.waits w)) (record { place = p; value = v; holder = Some (record { wait = w; clause = k }) }) (s.channels c)) s.channels;
+      channels = put_channel c
+          (place_offer
+          (is_open (s.waits w))
+          (record { place = p; value = v; holder = Some (record { wait = w; clause = k }) })
+          (s.channels c))
+          s.channels;
       waits = put_wait w (name_clause who k c (s.waits w)) s.waits;
     }
 after s who (Await c p w k) =
     record {
-      channels = put_channel c (place_receiver (is_open (s.waits w)) (record { place = p; party = record { wait = w; clause = k } }) (s.channels c)) s.channels;
+      channels = put_channel c
+          (place_receiver
+          (is_open (s.waits w))
+          (record { place = p; party = record { wait = w; clause = k } })
+          (s.channels c))
+          s.channels;
       waits = put_wait w (name_clause who k c (s.waits w)) s.waits;
     }
 after s who (Take c p v) = resolve_offer c (s.channels c).queue resolved.Taken s

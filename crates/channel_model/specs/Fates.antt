@@ -156,7 +156,11 @@ is_dropped c p acts = list_any (drops_at c p) acts
 -- offered by a select that was withdrawn or that chose another clause
 abbrev pub is_withdrawn : ℕ → ℕ → List Act → Bool
 is_withdrawn c p acts =
-    of_offer (λ k. nat_lt 0 k && (is_taken_back c p acts || (not (list_any (admits c p) acts) && of_wait (λ w. is_chosen_elsewhere c p w acts) (wait_at c p acts)))) (first_some (offers_at c p) acts)
+    of_offer
+    (λ k. nat_lt 0 k
+    && (is_taken_back c p acts
+    || (not (list_any (admits c p) acts) && of_wait (λ w. is_chosen_elsewhere c p w acts) (wait_at c p acts))))
+    (first_some (offers_at c p) acts)
 
 -- the fate of the element at a place; held where none of the others applies
 abbrev pub fate_at : ℕ → ℕ → List Act → Fate

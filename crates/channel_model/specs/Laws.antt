@@ -57,7 +57,9 @@ how_many p (x ∷ xs) = cond (p x) 1 0 + how_many p xs
 
 -- how many offers and receivers of the wait stand at a channel
 abbrev pub standing_of : WaitId → Channel → ℕ
-standing_of w ch = how_many (λ (o : Standing). is_held_by w o.holder) ch.queue + how_many (λ (r : Receiver). same_wait w r.party.wait) ch.receivers
+standing_of w ch =
+    how_many (λ (o : Standing). is_held_by w o.holder) ch.queue
+    + how_many (λ (r : Receiver). same_wait w r.party.wait) ch.receivers
 
 -- no wait stands more than once at this channel
 pub record StandsOnce (ch : Channel) : Type 0 where

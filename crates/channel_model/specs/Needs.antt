@@ -63,22 +63,42 @@ MaySettle who outcome (Some x) = (x.owner ≡ who) × (x.settled ≡ None) × Is
 -- the offer at p is held, with fewer offers before it than the kind keeps; n offers stand before this list
 abbrev pub MayBeAdmitted : Kind → ℕ → ℕ → List Standing → Type 0
 MayBeAdmitted kind p n [] = ⊥
-MayBeAdmitted kind p n (o ∷ os) = MatchBool (o.place == p) ((is_some o.holder ≡ true) × (is_full kind n ≡ false)) (MayBeAdmitted kind p (n + 1) os)
+MayBeAdmitted kind p n (o ∷ os) =
+    MatchBool (o.place == p)
+    ((is_some o.holder ≡ true) × (is_full kind n ≡ false))
+    (MayBeAdmitted kind p (n + 1) os)
 
 -- ---- the acts
 
 -- who may make this act now
 abbrev pub Needs : Shape → State → ℕ → Act → Type 0
 Needs shape s who (Hand c p v) = (c < length shape) × (is_signal (kind_at shape c) ≡ false) × IsFirstReceiver p (s.channels c).receivers
-Needs shape s who (Put c p v) = (c < length shape) × HasPlace (places_at shape c) p (s.channels c) × ((s.channels c).receivers ≡ []) × (is_full (kind_at shape c) (length (s.channels c).queue) ≡ false)
-Needs shape s who (Offer c p v w k) = (c < length shape) × HasPlace (places_at shape c) p (s.channels c) × ((s.channels c).receivers ≡ []) × (suspends (kind_at shape c) ≡ true) × MayName who k c p w s
-Needs shape s who (Await c p w k) = (c < length shape) × HasPlace (places_at shape c) p (s.channels c) × ((s.channels c).queue ≡ []) × MayName who k c p w s
+Needs shape s who (Put c p v) =
+    (c < length shape)
+    × HasPlace (places_at shape c) p (s.channels c)
+    × ((s.channels c).receivers ≡ [])
+    × (is_full (kind_at shape c) (length (s.channels c).queue) ≡ false)
+Needs shape s who (Offer c p v w k) =
+    (c < length shape)
+    × HasPlace (places_at shape c) p (s.channels c)
+    × ((s.channels c).receivers ≡ [])
+    × (suspends (kind_at shape c) ≡ true)
+    × MayName who k c p w s
+Needs shape s who (Await c p w k) =
+    (c < length shape)
+    × HasPlace (places_at shape c) p (s.channels c)
+    × ((s.channels c).queue ≡ [])
+    × MayName who k c p w s
 Needs shape s who (Take c p v) = (c < length shape) × IsFirstOffer p v (s.channels c).queue
 Needs shape s who (Admit c p) = (c < length shape) × MayBeAdmitted (kind_at shape c) p 0 (s.channels c).queue
-Needs shape s who (Drop c p v) = (c < length shape) × (drops (kind_at shape c) (length (s.channels c).queue) ≡ true) × IsFirstOffer p v (s.channels c).queue
+Needs shape s who (Drop c p v) =
+    (c < length shape)
+    × (drops (kind_at shape c) (length (s.channels c).queue) ≡ true)
+    × IsFirstOffer p v (s.channels c).queue
 Needs shape s who (Close c v) = (c < length shape) × ((s.channels c).closed ≡ None)
 Needs shape s who (Void c) = (c < length shape) × (is_some (s.channels c).closed ≡ true) × ((s.channels c).voided ≡ false)
 Needs shape s who (Drain c p v) = (c < length shape) × ((s.channels c).voided ≡ true) × IsFirstOffer p v (s.channels c).queue
-Needs shape s who (WakeClosed c p) = (c < length shape) × (is_some (s.channels c).closed ≡ true) × IsFirstReceiver p (s.channels c).receivers
+Needs shape s who (WakeClosed c p) =
+    (c < length shape) × (is_some (s.channels c).closed ≡ true) × IsFirstReceiver p (s.channels c).receivers
 Needs shape s who (Withdraw w why) = IsOpenOf who (s.waits w)
 Needs shape s who (Settle w outcome) = MaySettle who outcome (s.waits w)

@@ -6,7 +6,8 @@ use crate::names::{Failed, Memory};
 use crate::streams::raised;
 use std::alloc::Global;
 
-/// A count of the calls, those that are to fail by their numbers from 1, and the number of failures. Either count stands still at its last value.
+/// A count of the calls, those that are to fail by their numbers from 1, and the number of failures. Either count stands still at its last
+/// value.
 #[derive(Debug, Drop)]
 pub(crate) struct FailingCalls {
     calls: u64,

@@ -23,7 +23,8 @@ pub trait Source {
     // The bytes still to come, where they are told.
     ghost left: { Self → Option (List ℕ) };
 
-    /// Writes the next bytes into the front of `buf` and gives their number. No bytes for a buffer that has room say that the input has ended.
+    /// Writes the next bytes into the front of `buf` and gives their number. No bytes for a buffer that has room say that the input has
+    /// ended.
     fn read(&mut self, buf: &mut [u8]) -> Result<usize, Failed>
         ensures length { length buf.new ≡ length buf.old }
         ensures count { IfOk result (λ n. n ≤ length buf.old) }

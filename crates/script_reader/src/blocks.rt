@@ -45,7 +45,8 @@ fn clause_of<'a, 'b>(
     block: &OpenBlock,
     words: &'b [&'a [u8]],
 ) -> Result<(u16, &'b [&'a [u8]]), FaultKind>
-    ensures { Gives (λ x. (x.0, texts x.1.now)) result (clause_at (channel_names (view reading.now).channels) (open_of block.now).clauses (texts words.now)) }
+    ensures { Gives (λ x. (x.0, texts x.1.now)) result
+        (clause_at (channel_names (view reading.now).channels) (open_of block.now).clauses (texts words.now)) }
 {
     let (c, rest) = known_of(&reading.channels, words)?;
     if is_new(c, &block.clauses) {
@@ -118,7 +119,8 @@ fn awaitable_of<'a, 'b>(
     block: &OpenBlock,
     words: &'b [&'a [u8]],
 ) -> Result<(u16, &'b [&'a [u8]]), FaultKind>
-    ensures { Gives (λ x. (x.0, texts x.1.now)) result (awaitable_at (map string_bytes block.now.jobs.items.items) block.now.awaitable.items (texts words.now)) }
+    ensures { Gives (λ x. (x.0, texts x.1.now)) result
+        (awaitable_at (map string_bytes block.now.jobs.items.items) block.now.awaitable.items (texts words.now)) }
 {
     let (job, rest) = known_of(&block.jobs, words)?;
     match block.awaitable.get(job as usize) {
@@ -141,7 +143,8 @@ fn target_of<'a, 'b>(
     block: &OpenBlock,
     words: &'b [&'a [u8]],
 ) -> Result<(u16, &'b [&'a [u8]]), FaultKind>
-    ensures { Gives (λ x. (x.0, texts x.1.now)) result (target_at (block_names (view reading.now).blocks) (string_bytes block.now.name) (texts words.now)) }
+    ensures { Gives (λ x. (x.0, texts x.1.now)) result
+        (target_at (block_names (view reading.now).blocks) (string_bytes block.now.name) (texts words.now)) }
 {
     let (name, rest) = name_of(words)?;
     match reading.coroutines.place(name) {

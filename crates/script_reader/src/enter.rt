@@ -69,7 +69,8 @@ fn push_awaitable(
     named: bool,
     line: Instruction,
 ) -> Result<(), AllocError>
-    ensures { OnOk result (awaitable.new.items ≡ (if named then awaitable.old.items ++ gives_awaitable line ∷ [] else awaitable.old.items)) }
+    ensures { OnOk result (awaitable.new.items
+        ≡ (if named then awaitable.old.items ++ gives_awaitable line ∷ [] else awaitable.old.items)) }
 {
     if named {
         awaitable.push(gives_awaitable(line))?;
@@ -87,7 +88,9 @@ fn enter_line(
 ) -> Result<(), AllocError>
     requires new { IsNewName (map string_bytes block.old.jobs.items.items) (name_in job) }
     requires few { length block.old.jobs.items.items < 65536 }
-    ensures { OnOk result ((weights : List ℕ) → weight ≡ weight_with weights line (open_of block.old) → open_of block.new ≡ with_line weights line (name_in job.entry) (open_of block.old)) }
+    ensures { OnOk result ((weights : List ℕ)
+        → weight ≡ weight_with weights line (open_of block.old)
+        → open_of block.new ≡ with_line weights line (name_in job.entry) (open_of block.old)) }
 {
     let selecting = block.clauses.is_some();
     enter_nest(&mut block.nest, selecting, line)?;
@@ -109,7 +112,9 @@ fn enter_open(
 ) -> Result<(), AllocError>
     requires new { IsNewJob (option_map open_of current.old) (name_in job) }
     requires few { HasFewJobs current.old }
-    ensures { OnOk result ((weights : List ℕ) → weight ≡ open_weight (option_map (with_line weights line (name_in job.entry)) (option_map open_of current.old)) → option_map open_of current.new ≡ option_map (with_line weights line (name_in job.entry)) (option_map open_of current.old)) }
+    ensures { OnOk result ((weights : List ℕ)
+        → weight ≡ open_weight (option_map (with_line weights line (name_in job.entry)) (option_map open_of current.old))
+        → option_map open_of current.new ≡ option_map (with_line weights line (name_in job.entry)) (option_map open_of current.old)) }
 {
     match current {
         Some(block) => enter_line(alloc, block, line, job, weight),
@@ -144,7 +149,8 @@ fn enter_channel(
 ) -> Result<(), AllocError>
     requires new { IsNewName (channel_names (map declared_of channels.old.items.items)) (Some name.now) }
     requires few { length channels.old.items.items < 65536 }
-    ensures { OnOk result (map declared_of channels.new.items.items ≡ map declared_of channels.old.items.items ++ record { name = name.now; kind = kind; places = places } ∷ []) }
+    ensures { OnOk result (map declared_of channels.new.items.items
+        ≡ map declared_of channels.old.items.items ++ record { name = name.now; kind = kind; places = places } ∷ []) }
 {
     let name = String::from_str(alloc, name)?;
     channels.push(alloc, Channel { name, kind, places })?;

@@ -29,7 +29,10 @@ fn push_pieces(out: &mut Vec<u8>, pieces: &[&[u8]]) -> Result<(), AllocError>
 
 /// The coroutine of this name, which sends a value n times.
 fn push_sender(out: &mut Vec<u8>, name: &[u8], value: &[u8], turns: &[u8]) -> Result<(), AllocError>
-    ensures { OnOk result (out.new.items ≡ out.old.items ++ concat (codes "coroutine " ∷ name.now ∷ codes "\n  repeat " ∷ turns.now ∷ codes "\n    send a " ∷ value.now ∷ codes "\n  end\nend\n" ∷ [])) }
+    ensures { OnOk result (out.new.items
+        ≡ out.old.items
+        ++ concat (codes "coroutine " ∷ name.now ∷ codes "\n  repeat " ∷ turns.now
+        ∷ codes "\n    send a " ∷ value.now ∷ codes "\n  end\nend\n" ∷ [])) }
 {
     push_pieces(
         out,
@@ -47,7 +50,10 @@ fn push_sender(out: &mut Vec<u8>, name: &[u8], value: &[u8], turns: &[u8]) -> Re
 
 /// The channels, with so many places.
 fn push_channels(out: &mut Vec<u8>, places: &[u8]) -> Result<(), AllocError>
-    ensures { OnOk result (out.new.items ≡ out.old.items ++ concat (codes "channel a buffered 64 places " ∷ places.now ∷ codes "\nchannel b rendezvous places " ∷ places.now ∷ codes "\n" ∷ [])) }
+    ensures { OnOk result (out.new.items
+        ≡ out.old.items
+        ++ concat (codes "channel a buffered 64 places " ∷ places.now
+        ∷ codes "\nchannel b rendezvous places " ∷ places.now ∷ codes "\n" ∷ [])) }
 {
     push_pieces(
         out,

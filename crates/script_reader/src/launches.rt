@@ -51,7 +51,8 @@ fn close(outer: &mut Vec<Opened>, blocks: &mut Vec<u16>) -> Result<(), AllocErro
     requires { AreNested outer.old.items (length blocks.old.items) }
     ensures nested { OnOk result (AreNested outer.new.items (length blocks.new.items)) }
     ensures less { OnOk result (length outer.new.items ≡ length outer.old.items - 1) }
-    ensures launched { OnOk result ((code : List Instruction) → launched_with outer.new.items blocks.new.items code ≡ launched_with outer.old.items blocks.old.items (End ∷ code)) }
+    ensures launched { OnOk result ((code : List Instruction)
+        → launched_with outer.new.items blocks.new.items code ≡ launched_with outer.old.items blocks.old.items (End ∷ code)) }
 {
     if outer.is_empty() {
         return Ok(());
@@ -64,7 +65,8 @@ fn close(outer: &mut Vec<Opened>, blocks: &mut Vec<u16>) -> Result<(), AllocErro
 fn pass_line(outer: &mut Vec<Opened>, blocks: &mut Vec<u16>, line: Line) -> Result<(), AllocError>
     requires { AreNested outer.old.items (length blocks.old.items) }
     ensures nested { OnOk result (AreNested outer.new.items (length blocks.new.items)) }
-    ensures launched { OnOk result ((code : List Instruction) → launched_with outer.new.items blocks.new.items code ≡ launched_with outer.old.items blocks.old.items (line ∷ code)) }
+    ensures launched { OnOk result ((code : List Instruction)
+        → launched_with outer.new.items blocks.new.items code ≡ launched_with outer.old.items blocks.old.items (line ∷ code)) }
 {
     if let Some(block) = launch_of(line) {
         blocks.push(block)?;

@@ -12,7 +12,9 @@ pub(crate) fn enter_nest(
     selecting: bool,
     line: Instruction,
 ) -> Result<(), AllocError>
-    ensures { OnOk result ((clauses : Option (List ℕ)) → selecting ≡ is_some clauses → nest.new.items ≡ nest_after clauses nest.old.items line) }
+    ensures { OnOk result ((clauses : Option (List ℕ))
+        → selecting ≡ is_some clauses
+        → nest.new.items ≡ nest_after clauses nest.old.items line) }
 {
     match line {
         Instruction::End => {
@@ -38,7 +40,8 @@ pub(crate) fn enter_nest(
 }
 
 fn push_clause(clauses: &mut Option<Vec<u16>>, c: u16) -> Result<(), AllocError>
-    ensures { OnOk result (option_map (λ v. v.items) clauses.new ≡ option_map (λ cs. cs ++ c ∷ []) (option_map (λ v. v.items) clauses.old)) }
+    ensures { OnOk result (option_map (λ v. v.items) clauses.new
+        ≡ option_map (λ cs. cs ++ c ∷ []) (option_map (λ v. v.items) clauses.old)) }
 {
     if let Some(channels) = clauses {
         channels.push(c)?;

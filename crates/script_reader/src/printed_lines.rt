@@ -109,7 +109,9 @@ fn push_launch(
     how: Launching,
     job: Option<u16>,
 ) -> Result<(), AllocError>
-    ensures { OnOk result (out.new.items ≡ out.old.items ++ line_text depth (launch_word how ∷ name_of (names_in names.entry).blocks block ∷ as_words (names_in names.entry).jobs job)) }
+    ensures { OnOk result (out.new.items
+        ≡ out.old.items
+        ++ line_text depth (launch_word how ∷ name_of (names_in names.entry).blocks block ∷ as_words (names_in names.entry).jobs job)) }
 {
     let word = launch_word(how);
     let block = block_name(names.coroutines, block);
@@ -142,7 +144,8 @@ fn push_send(
     c: u16,
     value: Operand,
 ) -> Result<(), AllocError>
-    ensures { OnOk result (out.new.items ≡ out.old.items ++ line_text depth (word.now ∷ name_of (names_in names.entry).channels c ∷ operand_word value ∷ [])) }
+    ensures { OnOk result (out.new.items
+        ≡ out.old.items ++ line_text depth (word.now ∷ name_of (names_in names.entry).channels c ∷ operand_word value ∷ [])) }
 {
     push_sending(
         alloc,

@@ -28,7 +28,8 @@ fn push_plain_channel(
     kind: &[u8],
     places: &[u8],
 ) -> Result<(), AllocError>
-    ensures { OnOk result (out.new.items ≡ out.old.items ++ line_text 0 (codes "channel" ∷ name.now ∷ kind.now ∷ codes "places" ∷ places.now ∷ [])) }
+    ensures { OnOk result (out.new.items
+        ≡ out.old.items ++ line_text 0 (codes "channel" ∷ name.now ∷ kind.now ∷ codes "places" ∷ places.now ∷ [])) }
 {
     push_line(out, 0, &[b"channel", name, kind, b"places", places])
 }
@@ -41,7 +42,8 @@ fn push_numbered_channel(
     capacity: &[u8],
     places: &[u8],
 ) -> Result<(), AllocError>
-    ensures { OnOk result (out.new.items ≡ out.old.items ++ line_text 0 (codes "channel" ∷ name.now ∷ kind.now ∷ capacity.now ∷ codes "places" ∷ places.now ∷ [])) }
+    ensures { OnOk result (out.new.items
+        ≡ out.old.items ++ line_text 0 (codes "channel" ∷ name.now ∷ kind.now ∷ capacity.now ∷ codes "places" ∷ places.now ∷ [])) }
 {
     push_line(
         out,
@@ -59,7 +61,8 @@ fn push_sized_channel(
     capacity: u32,
     places: &[u8],
 ) -> Result<(), AllocError>
-    ensures { OnOk result (out.new.items ≡ out.old.items ++ line_text 0 (codes "channel" ∷ name.now ∷ kind.now ∷ decimal capacity ∷ codes "places" ∷ places.now ∷ [])) }
+    ensures { OnOk result (out.new.items
+        ≡ out.old.items ++ line_text 0 (codes "channel" ∷ name.now ∷ kind.now ∷ decimal capacity ∷ codes "places" ∷ places.now ∷ [])) }
 {
     let capacity = decimal(alloc, capacity)?;
     push_numbered_channel(out, name, kind, capacity.as_bytes(), places)
@@ -73,7 +76,8 @@ fn push_kind(
     kind: Kind,
     places: &[u8],
 ) -> Result<(), AllocError>
-    ensures { OnOk result (out.new.items ≡ out.old.items ++ line_text 0 (codes "channel" ∷ name.now ∷ (kind_words kind true ++ codes "places" ∷ places.now ∷ []))) }
+    ensures { OnOk result (out.new.items
+        ≡ out.old.items ++ line_text 0 (codes "channel" ∷ name.now ∷ (kind_words kind true ++ codes "places" ∷ places.now ∷ []))) }
 {
     match kind {
         Kind::Rendezvous => push_plain_channel(out, name, b"rendezvous", places),
@@ -106,7 +110,8 @@ fn push_channel(alloc: Global, out: &mut Vec<u8>, channel: &Channel) -> Result<(
 
 /// The lines of the channels.
 fn push_channels(alloc: Global, out: &mut Vec<u8>, channels: &[Channel]) -> Result<(), AllocError>
-    ensures { OnOk result (out.new.items ≡ out.old.items ++ text_of (flat (map (λ c. channel_words c true true) (map declared_of channels.now)))) }
+    ensures { OnOk result (out.new.items
+        ≡ out.old.items ++ text_of (flat (map (λ c. channel_words c true true) (map declared_of channels.now)))) }
 {
     let mut rest = channels;
     while let [channel, more @ ..] = rest {
@@ -182,7 +187,12 @@ fn push_block(
     coroutine: &Coroutine,
 ) -> Result<(), AllocError>
     requires { length coroutine.now.code.items < 4294967294 }
-    ensures { OnOk result (out.new.items ≡ out.old.items ++ text_of (deep_block (channel_names (map declared_of channels.now)) (block_names (map block_of coroutines.now)) (block_of coroutine.now))) }
+    ensures { OnOk result (out.new.items
+        ≡ out.old.items
+        ++ text_of (deep_block
+        (channel_names (map declared_of channels.now))
+        (block_names (map block_of coroutines.now))
+        (block_of coroutine.now))) }
 {
     push_head(out, coroutine.name.as_bytes())?;
     let names = NameLists {
@@ -203,7 +213,12 @@ fn push_blocks(
     out: &mut Vec<u8>,
 ) -> Result<(), AllocError>
     requires { list_all (λ c. nat_le (length c.code.items) 1048577) coroutines.now ≡ true }
-    ensures { OnOk result (out.new.items ≡ out.old.items ++ text_of (deep_blocks (channel_names (map declared_of channels.now)) (block_names (map block_of coroutines.now)) (map block_of coroutines.now))) }
+    ensures { OnOk result (out.new.items
+        ≡ out.old.items
+        ++ text_of (deep_blocks
+        (channel_names (map declared_of channels.now))
+        (block_names (map block_of coroutines.now))
+        (map block_of coroutines.now))) }
 {
     let mut rest = coroutines;
     while let [coroutine, more @ ..] = rest {
@@ -220,7 +235,9 @@ fn push_spawn(
     out: &mut Vec<u8>,
     spawn: Spawn,
 ) -> Result<(), AllocError>
-    ensures { OnOk result (out.new.items ≡ out.old.items ++ line_text 0 (spawn_words (name_of (block_names (map block_of coroutines.now)) (spawn_of spawn).0) (spawn_of spawn).1 true)) }
+    ensures { OnOk result (out.new.items
+        ≡ out.old.items
+        ++ line_text 0 (spawn_words (name_of (block_names (map block_of coroutines.now)) (spawn_of spawn).0) (spawn_of spawn).1 true)) }
 {
     let count = decimal(alloc, u32::from(spawn.count))?;
     let name = block_name(coroutines, spawn.coroutine);
@@ -234,7 +251,11 @@ fn push_spawns(
     out: &mut Vec<u8>,
     spawns: &[Spawn],
 ) -> Result<(), AllocError>
-    ensures { OnOk result (out.new.items ≡ out.old.items ++ text_of (flat (map (λ s. spawn_words (name_of (block_names (map block_of coroutines.now)) s.0) s.1 true) (map spawn_of spawns.now)))) }
+    ensures { OnOk result (out.new.items
+        ≡ out.old.items
+        ++ text_of (flat (map
+        (λ s. spawn_words (name_of (block_names (map block_of coroutines.now)) s.0) s.1 true)
+        (map spawn_of spawns.now)))) }
 {
     let mut rest = spawns;
     while let [spawn, more @ ..] = rest {

@@ -90,8 +90,50 @@ mod tests {
     use std::test::Fail;
 
     /// A script of every line, as it is printed.
-    const EVERY_LINE: &[u8] =
-        b"channel a rendezvous places 1\nchannel b buffered 64 places 16384\nchannel c unlimited places 1048576\nchannel d conflated places 16384\nchannel e_1 dropoldest 65535 places 16384\ncoroutine leaf\n  fail 7\nend\ncoroutine mid\n  send a 4294967295\n  trysend b it\n  receive a\n  tryreceive c\n  close d\n  cancelchannel e_1\n  yield\n  launch leaf as j\n  async leaf as k\n  lazy leaf\n  start j\n  join j\n  await k\n  cancel j\n  result sum\n  repeat 3\n    each a\n      select\n        onsend b 1\n        onreceive a\n      end\n    end\n    supervisor\n      launch leaf\n    end\n  end\nend\ncoroutine main\n  scope\n    launch mid\n  end\nend\nspawn leaf 2\nspawn mid 1\n";
+    const EVERY_LINE: &[u8] = b"channel a rendezvous places 1
+channel b buffered 64 places 16384
+channel c unlimited places 1048576
+channel d conflated places 16384
+channel e_1 dropoldest 65535 places 16384
+coroutine leaf
+  fail 7
+end
+coroutine mid
+  send a 4294967295
+  trysend b it
+  receive a
+  tryreceive c
+  close d
+  cancelchannel e_1
+  yield
+  launch leaf as j
+  async leaf as k
+  lazy leaf
+  start j
+  join j
+  await k
+  cancel j
+  result sum
+  repeat 3
+    each a
+      select
+        onsend b 1
+        onreceive a
+      end
+    end
+    supervisor
+      launch leaf
+    end
+  end
+end
+coroutine main
+  scope
+    launch mid
+  end
+end
+spawn leaf 2
+spawn mid 1
+";
 
     #[test]
     fn a_script_of_every_line_is_printed_as_it_was(rt: HostRuntime) -> Result<(), Fail> {

@@ -81,7 +81,8 @@ pub struct Script {
     pub ghost well_formed: { IsProgram (program_from channels.items coroutines.items spawns.items) } by { Prim.hlevel props },
     pub ghost sized: { sizes.items ≡ sizes_in (map block_of coroutines.items) } by { Prim.hlevel props },
     pub ghost tagged: { tags.items ≡ tags_of (program_from channels.items coroutines.items spawns.items) } by { Prim.hlevel props },
-    pub ghost closed: { map (λ places. places.items) closings.items ≡ map (λ c. closing_places c.code.items) coroutines.items } by { Prim.hlevel props },
+    pub ghost closed: { map (λ places. places.items) closings.items
+        ≡ map (λ c. closing_places c.code.items) coroutines.items } by { Prim.hlevel props },
     pub ghost short: { list_all (λ c. nat_le (length c.code.items) 1048577) coroutines.items ≡ true } by { Prim.hlevel props },
     pub ghost counted: { scopes ≡ scope_count (program_from channels.items coroutines.items spawns.items) } by { Prim.hlevel props },
 }

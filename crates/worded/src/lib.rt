@@ -11,7 +11,7 @@
 //! | step | on the word | what the seat has seen afterwards |
 //! |---|---|---|
 //! | `load` | nothing | the whole history so far; the word found is one that this history gives |
-//! | `exchange` | `old` becomes `new`, if the word is `old` | the whole history and, last, the entry; or the whole history, which gives another word |
+//! | `exchange` | `old` becomes `new`, if it is `old` | the whole history and its entry; or the whole history, which gives another word |
 //! | `lift` | a hint is raised to at least a number | what it had seen |
 //! | `split` | nothing | what it had seen; the new seat has seen the same, and has a tag of its own |
 //! | `meet` | nothing | the whole history, which begins with what the other seat had seen |

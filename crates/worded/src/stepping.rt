@@ -54,7 +54,8 @@ pub fn exchange<E, K, M: HistoryRule<E, K>>(
     requires word { (table.now.table_id.words ≡ M.size table.now.key) × (word < M.size table.now.key) }
     requires may { MayEnter (M.legal table.now.key) (M.fits table.now.key) M.who seat.old.me.0 word old new entry.now }
     ensures same { SameSeat seat.old seat.new }
-    ensures told { Exchanged (M.legal table.now.key) (M.fits table.now.key) M.who word old result (some entry.now) seat.old.me.0 seat.new.me.0 }
+    ensures told { Exchanged (M.legal table.now.key) (M.fits table.now.key) M.who word old result (some entry.now)
+        seat.old.me.0 seat.new.me.0 }
 {
     table.compare_exchange_with::<Exchanges<M>>(seat, word, old, new, entry)
 }
