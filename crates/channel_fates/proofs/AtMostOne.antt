@@ -13,8 +13,8 @@ use Rattle.channel_model.specs.Laws.{how_many}
 use Rattle.channel_fates.specs.OneFate.{IsAtMostOneFate}
 use Rattle.channel_model.proofs.Waits.{same_wait-eq}
 use Rattle.channel_fates.proofs.Appended.{any_count, found}
-use Rattle.channel_fates.proofs.Places.{enters, Counted}
-use Rattle.channel_fates.proofs.Known.{offers, enters_count, handed_answered, clause_offered, here}
+use Rattle.channel_fates.proofs.OncePlaced.{enters, Counted}
+use Rattle.channel_fates.proofs.StandsByActs.{offers, enters_count, handed_answered, clause_offered, here}
 use Rattle.channel_fates.proofs.Chosen.{Chosen, resolver, is_this}
 use Rattle.channel_fates.proofs.Endings.{waits_or_drops}
 use Rattle.channel_fates.proofs.OwnPlaces.{two_clauses}

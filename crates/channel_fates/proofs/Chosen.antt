@@ -17,8 +17,8 @@ use Rattle.channel_model.specs.Fates.{is_at, admits, withdraws, wait_at, places_
 use Rattle.channel_model.specs.Laws.{how_many, wait_of_party, first_waiting, first_holding, resolves}
 use Rattle.channel_model.proofs.Waits.{same_wait-eq, same_wait-refl}
 use Rattle.channel_fates.proofs.Appended.{any_count, count_last, found, first_found, first_kept, first_last}
-use Rattle.channel_fates.proofs.Places.{enters, awaits, answers, Counted, at_both}
-use Rattle.channel_fates.proofs.Known.{puts, offers, HolderKnown, OfferKnown, ReceiverKnown, AllKnown, places_none, enters_count}
+use Rattle.channel_fates.proofs.OncePlaced.{enters, awaits, answers, Counted, at_both}
+use Rattle.channel_fates.proofs.StandsByActs.{puts, offers, HolderKnown, OfferKnown, ReceiverKnown, AllKnown, places_none, enters_count}
 
 -- ---- the wait that an act resolves is that of its place
 

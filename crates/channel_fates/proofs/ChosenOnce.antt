@@ -15,8 +15,8 @@ use Rattle.channel_model.proofs.Causes.{resolved_before}
 use Rattle.channel_model.proofs.Resolutions.{resolved_stays, Turns, resolves_turns, always_keeps}
 use Rattle.channel_model.specs.Answers.{IsResolvedWait}
 use Rattle.channel_fates.proofs.Appended.{any_kept, any_last, any_cases, any_count, found, first_kept}
-use Rattle.channel_fates.proofs.Places.{enters, awaits, Counted, counted_after, start_counted}
-use Rattle.channel_fates.proofs.Known.{puts, enters_count, AllKnown, known_after, start_known, here}
+use Rattle.channel_fates.proofs.OncePlaced.{enters, awaits, Counted, counted_after, start_counted}
+use Rattle.channel_fates.proofs.StandsByActs.{puts, enters_count, AllKnown, known_after, start_known, here}
 use Rattle.channel_fates.proofs.Chosen.{Chosen, Source, Unheld, is_this, resolver, source_of, withdraws_only, withdrawn_now, this_place, resolver_given, wait_before, put_alone}
 
 -- what the acts say of the channels

@@ -9,7 +9,7 @@ use Rattle.channel_model.specs.Histories.{acts_in, Legal}
 use Rattle.channel_model.specs.Fates.{hands, takes, removes}
 use Rattle.channel_model.specs.Laws.{how_many}
 use Rattle.channel_fates.specs.OneFate.{deliveries_of}
-use Rattle.channel_fates.proofs.Places.{answers}
+use Rattle.channel_fates.proofs.OncePlaced.{answers}
 use Rattle.channel_fates.proofs.Traced.{replay_traced}
 
 takes_remove : (c p : ℕ) (act : Act) → cond (takes c p act) 1 0 ≤ cond (removes c p act) 1 0

@@ -22,8 +22,8 @@ use Rattle.channel_model.proofs.Waits.{same_wait-eq, same_wait-refl, at_wait}
 use Rattle.channel_model.proofs.Resolutions.{resolved_stays, settled_stays, Turns, resolves_turns, settles_turns, always_keeps}
 use Rattle.channel_model.specs.Answers.{IsResolvedWait, IsSettledWait}
 use Rattle.channel_fates.proofs.Appended.{any_kept, any_last, any_cases, any_count, count_last, first_kept}
-use Rattle.channel_fates.proofs.Places.{enters, counted_after, at_both}
-use Rattle.channel_fates.proofs.Known.{puts, offers, enters_count, handed_answered}
+use Rattle.channel_fates.proofs.OncePlaced.{enters, counted_after, at_both}
+use Rattle.channel_fates.proofs.StandsByActs.{puts, offers, enters_count, handed_answered}
 use Rattle.channel_model.proofs.Causes.{resolution_of, resolution_kept, settled_before}
 use Rattle.channel_fates.proofs.Chosen.{Unheld, source_of, wait_before}
 use Rattle.channel_fates.proofs.ChosenOnce.{Told}

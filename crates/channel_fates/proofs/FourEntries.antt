@@ -26,7 +26,7 @@ use Rattle.channel_model.proofs.InOrder.{order_keeps}
 use Rattle.channel_model.proofs.OneEntry.{resolutions_of_bound, settlements_of_bound}
 use Rattle.channel_fates.specs.Places.{is_of_place}
 use Rattle.channel_fates.proofs.Appended.{count_any}
-use Rattle.channel_fates.proofs.Places.{enters, answers, awaits, at_both}
+use Rattle.channel_fates.proofs.OncePlaced.{enters, answers, awaits, at_both}
 use Rattle.channel_fates.proofs.ChosenOnce.{admitted_resolved}
 use Rattle.channel_fates.proofs.OwnPlaces.{name_of}
 use Rattle.channel_fates.proofs.Traced.{replay_traced}

@@ -23,13 +23,13 @@ use Rattle.channel_model.proofs.Placed.{same_number}
 use Rattle.channel_model.proofs.Resolutions.{not_open}
 use Rattle.channel_model.specs.Answers.{IsResolvedWait, IsSettledWait}
 use Rattle.channel_fates.proofs.Appended.{any_count, count_any, none_count, found, first_found, first_there}
-use Rattle.channel_fates.proofs.Places.{enters, awaits, answers, Counted, at_both}
-use Rattle.channel_fates.proofs.Known.{puts, offers, OfferKnown, HolderKnown, came, enters_count, handed_answered, here}
+use Rattle.channel_fates.proofs.OncePlaced.{enters, awaits, answers, Counted, at_both}
+use Rattle.channel_fates.proofs.StandsByActs.{puts, offers, OfferKnown, HolderKnown, came, enters_count, handed_answered, here}
 use Rattle.channel_fates.proofs.Chosen.{Chosen, Unheld, resolver, resolver_is, this_place, put_alone}
 use Rattle.channel_fates.proofs.ChosenOnce.{admitted_resolved}
 use Rattle.channel_fates.proofs.Endings.{handed_resolved}
-use Rattle.channel_fates.proofs.Kept.{frees, is_free}
-use Rattle.channel_fates.proofs.Held.{Stands, is_held, offer_of}
+use Rattle.channel_fates.proofs.KeptUntilRemoved.{frees, is_free}
+use Rattle.channel_fates.proofs.HeldWhileOpen.{Stands, is_held, offer_of}
 use Rattle.channel_fates.proofs.OwnPlaces.{alone}
 use Rattle.channel_fates.proofs.Traced.{Traced, replay_traced}
 use Rattle.channel_fates.proofs.AtMostOne.{or_either, some_wait, HandedAs, ends_as, OfferedAs, received_is, undelivered_is, withdrawn_is, leaves_count, handed_alone, handed_or_left, handed_or_offered, resolved_here, and_both}

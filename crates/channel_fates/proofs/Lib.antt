@@ -1,12 +1,12 @@
 pub mod Turning
 pub mod Appended
-pub mod Places
-pub mod Known
+pub mod OncePlaced
+pub mod StandsByActs
 pub mod Chosen
 pub mod ChosenOnce
 pub mod Endings
-pub mod Kept
-pub mod Held
+pub mod KeptUntilRemoved
+pub mod HeldWhileOpen
 pub mod OwnPlaces
 pub mod Traced
 pub mod AtMostOne

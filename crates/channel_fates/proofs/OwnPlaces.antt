@@ -16,9 +16,9 @@ use Rattle.channel_model.proofs.OwnWaits.{ComesFrom, begins, act_from}
 use Rattle.channel_model.proofs.Resolutions.{always_keeps}
 use Rattle.channel_model.proofs.Placed.{Placed, placed_after, start_placed}
 use Rattle.channel_fates.proofs.Appended.{any_count, first_kept, first_last}
-use Rattle.channel_fates.proofs.Places.{counted_after, at_both}
-use Rattle.channel_fates.proofs.Known.{offers, enters_count, offer_here, clause_offered, wait_placed, here}
-use Rattle.channel_fates.proofs.Held.{offer_of}
+use Rattle.channel_fates.proofs.OncePlaced.{counted_after, at_both}
+use Rattle.channel_fates.proofs.StandsByActs.{offers, enters_count, offer_here, clause_offered, wait_placed, here}
+use Rattle.channel_fates.proofs.HeldWhileOpen.{offer_of}
 use Rattle.channel_fates.proofs.Chosen.{wait_before}
 use Rattle.channel_fates.proofs.ChosenOnce.{Told}
 

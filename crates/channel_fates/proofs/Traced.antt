@@ -10,8 +10,8 @@ use Rattle.channel_model.specs.Histories.{replay, replay_from, acts_in, Legal, L
 use Rattle.channel_model.proofs.Spans.{nothing_more}
 use Rattle.channel_fates.proofs.ChosenOnce.{Told, told_after, start_told, ChosenOnce, chosen_after, start_chosen}
 use Rattle.channel_fates.proofs.Endings.{Ended, ended_after, start_ended, KindsKept, kinds_after, start_kinds}
-use Rattle.channel_fates.proofs.Kept.{KeptUntil, kept_after, start_kept}
-use Rattle.channel_fates.proofs.Held.{OffersHeld, held_after, start_held}
+use Rattle.channel_fates.proofs.KeptUntilRemoved.{KeptUntil, kept_after, start_kept}
+use Rattle.channel_fates.proofs.HeldWhileOpen.{OffersHeld, held_after, start_held}
 use Rattle.channel_fates.proofs.OwnPlaces.{OwnPlaces, own_places_after, start_own_places}
 
 pub record Traced (shape : Shape) (acts : List Act) (s : State) : Type 0 where

@@ -20,12 +20,12 @@ use Rattle.channel_model.proofs.Resolutions.{resolved_stays, resolves_turns, alw
 use Rattle.channel_model.specs.Answers.{IsResolvedWait}
 use Rattle.channel_model.proofs.Placed.{same_number}
 use Rattle.channel_fates.proofs.Appended.{any_cases, any_count, count_last}
-use Rattle.channel_fates.proofs.Places.{counted_after, at_both}
-use Rattle.channel_fates.proofs.Known.{offers, HolderKnown, OfferKnown, enters_count, wait_placed, here}
+use Rattle.channel_fates.proofs.OncePlaced.{counted_after, at_both}
+use Rattle.channel_fates.proofs.StandsByActs.{offers, HolderKnown, OfferKnown, enters_count, wait_placed, here}
 use Rattle.channel_fates.proofs.Chosen.{wait_before}
 use Rattle.channel_fates.proofs.ChosenOnce.{Told}
 use Rattle.channel_fates.proofs.Endings.{KindsKept, waits_or_drops}
-use Rattle.channel_fates.proofs.Kept.{filter_keeps}
+use Rattle.channel_fates.proofs.KeptUntilRemoved.{filter_keeps}
 
 -- ---- words
 

@@ -16,7 +16,7 @@ use Rattle.channel_model.specs.Needs.{Needs, IsFirstOffer, MayBeAdmitted}
 use Rattle.channel_model.specs.Fates.{is_at, removes}
 use Rattle.channel_model.specs.Laws.{how_many}
 use Rattle.channel_fates.proofs.Appended.{count_last}
-use Rattle.channel_fates.proofs.Places.{put_by}
+use Rattle.channel_fates.proofs.OncePlaced.{put_by}
 
 -- ---- words
 

@@ -18,7 +18,7 @@ use Rattle.channel_model.specs.Fates.{is_at, brings, hands, admits, element_at, 
 use Rattle.channel_model.specs.Laws.{how_many}
 use Rattle.channel_model.proofs.Placed.{same_number}
 use Rattle.channel_fates.proofs.Appended.{any_kept, any_last, any_count, found, first_found, first_kept, first_last}
-use Rattle.channel_fates.proofs.Places.{enters, awaits, answers, Counted}
+use Rattle.channel_fates.proofs.OncePlaced.{enters, awaits, answers, Counted}
 
 -- ---- words
 
