@@ -1,4 +1,5 @@
 -- Which calls attach a Job, or are refused one: none but those of launches and scopes.
+use Rattle.std.proofs.lemmas.Bool.{or_from}
 use Rattle.std.proofs.Common.{◌≡◌, ℕ, Bool, true, false, List, [], ◌∷◌, ◌++◌, Option, refl, ap, ◌∙◌, subst}
 use Rattle.std.specs.Prelude.{◌||◌, map}
 use Rattle.std.specs.List.{list_any}
@@ -44,15 +45,11 @@ item_attaches (item.Job n) = note_attaches n
 abbrev pub attach_in : List Told → Bool
 attach_in group = list_any item_attaches (items_in group)
 
-neither_of : (a b : Bool) → a ≡ false → b ≡ false → (a || b) ≡ false
-neither_of true b e f = e
-neither_of false b e f = f
-
 pub attach_then : (xs ys : List Told) → attach_in (xs ++ ys) ≡ (attach_in xs || attach_in ys)
 attach_then xs ys = ap (list_any item_attaches) (items_in-append xs ys) ∙ list_any-append item_attaches (items_in xs) (items_in ys)
 
 pub neither : (xs ys : List Told) → attach_in xs ≡ false → attach_in ys ≡ false → attach_in (xs ++ ys) ≡ false
-neither xs ys e f = attach_then xs ys ∙ neither_of (attach_in xs) (attach_in ys) e f
+neither xs ys e f = attach_then xs ys ∙ or_from (attach_in xs) (attach_in ys) e f
 
 -- ---- channels
 

@@ -1,4 +1,5 @@
 -- No debt of the channels is left at the end of a run, if what follows the act that raises it takes it away.
+use Rattle.std.proofs.lemmas.List.{append-nil}
 use Rattle.std.proofs.Common.{◌≡◌, ℕ, Bool, true, false, List, [], ◌∷◌, ◌++◌, length, refl, ap, sym, ◌∙◌, subst, append_assoc, inl, inr, ◌⊎◌, ⊎_elim, Option, Some, None, arith}
 use Rattle.std.specs.Prelude.{nat_lt}
 use Rattle.std.proofs.lemmas.Bool.Decides.{nat_tests}
@@ -53,17 +54,13 @@ pub record CallDebt (shape : Shape) (channels : List Entry) : Type 1 where
   pub rises : (before : List Entry) (e : Entry) (rest : List Entry) → channels ≡ before ++ e ∷ rest → owes (replay before) ≡ false → owes (after (replay before) e.who e.act) ≡ true → Raises e.act
   pub pays : (k : ℕ) (before : List Entry) (e : Entry) (rest : List Entry) (ys : List Told) → channels ≡ before ++ e ∷ rest → e.who ≡ k → owes (after (replay before) e.who e.act) ≡ true → BehindOf shape k channels before e.act ys → Raises e.act → Follows e.act ys → CallPaidAt shape k owes Raises channels (part who_did deed k before ++ e.act ∷ [])
 
-no_more : {A : Type 0} (xs : List A) → xs ++ [] ≡ xs
-no_more [] = refl
-no_more (x ∷ xs) = ap (λ l. x ∷ l) (no_more xs)
-
 -- one told fact that takes the debt away
 pub by_fact : (shape : Shape) (channels : List Entry) (owes : State → Bool) (Raises : Act → Type 0) (k : ℕ) (fact : ChannelFact) → ((s : State) → ChannelFactHolds shape fact s → owes s ≡ false) → (before : List Entry) (act : Act) (ys : List Told) → BehindOf shape k channels before act ys → Exists (IsTold (on_channels fact)) ys → CallPaidAt shape k owes Raises channels (part who_did deed k before ++ act ∷ [])
 by_fact shape channels owes Raises k fact free before act ys behind x =
     takes_off step start who_did deed k call_told (CallHolds shape) owes Raises Follows channels (IsTold (on_channels fact))
     (λ t at more parts holds m is. subst (λ s. owes s ≡ false) (sym (same_state start at)) (free (replay at) (subst (λ u. CallHolds shape u at) is holds)))
     (λ t b m is before rest e parts q. absurd (let n : None ≡ Some b = ap call_told (sym is) ∙ m in cc))
-    (part who_did deed k before ++ act ∷ []) [] ys (behind.0 ∙ ap (λ l. l ++ acts_told step start who_did deed k call_told (CallHolds shape) ys) (sym (no_more (part who_did deed k before ++ act ∷ [])))) (subst (λ l. CallsSo shape k channels l ys) (sym (no_more (part who_did deed k before ++ act ∷ []))) behind.1) x
+    (part who_did deed k before ++ act ∷ []) [] ys (behind.0 ∙ ap (λ l. l ++ acts_told step start who_did deed k call_told (CallHolds shape) ys) (sym (append-nil (part who_did deed k before ++ act ∷ [])))) (subst (λ l. CallsSo shape k channels l ys) (sym (append-nil (part who_did deed k before ++ act ∷ []))) behind.1) x
 
 all_paid : (shape : Shape) (k : ℕ) (owes : State → Bool) (Raises : Act → Type 0) (told : List Told) → AllFollowed told → AllPaid step start who_did deed k call_told (CallHolds shape) owes Raises Follows told
 unfolding AllFollowed AllPaid

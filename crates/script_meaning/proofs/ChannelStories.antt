@@ -1,4 +1,5 @@
 -- What was told and true, as far as it is of channels.
+use Rattle.std.proofs.lemmas.List.{append-nil}
 use Rattle.std.proofs.Common.{◌≡◌, ℕ, Bool, true, false, List, [], ◌∷◌, ◌++◌, refl, ap, sym, ◌∙◌, subst, if◌then◌else◌}
 use Rattle.std.specs.Prelude.{◌==◌}
 use Rattle.channel_model.specs.declared.acts.Act.{Act}
@@ -64,15 +65,11 @@ act_of_note (of_channel.Partner c place) = refl
 act_of_note (of_channel.MainResolved w) = refl
 act_of_note (of_channel.Late w) = refl
 
-nothing_more : {A : Type 0} (xs : List A) → xs ++ [] ≡ xs
-nothing_more [] = refl
-nothing_more (x ∷ xs) = ap (λ l. x ∷ l) (nothing_more xs)
-
 told_acts : (t : Told) (items : List Item) → channel_acts_in (with_told t items) ≡ channel_acts_in items ++ act_list (call_told t)
 told_acts (note (item.Job n)) items = channel_acts_in-append items (item.Job n ∷ [])
-told_acts (note (item.Channel n)) items = channel_acts_in-append items (item.Channel n ∷ []) ∙ ap (λ l. channel_acts_in items ++ l) (nothing_more (channel_act n) ∙ act_of_note n)
-told_acts (on_channels fact) items = sym (nothing_more (channel_acts_in items))
-told_acts (on_jobs fact) items = sym (nothing_more (channel_acts_in items))
+told_acts (note (item.Channel n)) items = channel_acts_in-append items (item.Channel n ∷ []) ∙ ap (λ l. channel_acts_in items ++ l) (append-nil (channel_act n) ∙ act_of_note n)
+told_acts (on_channels fact) items = sym (append-nil (channel_acts_in items))
+told_acts (on_jobs fact) items = sym (append-nil (channel_acts_in items))
 
 holds_there : (s : Story) (items : List Item) (earlier at : Moment) (t : Told) → IsSo s items earlier t at → CallHolds s.shape t at.channels
 holds_there s items earlier at (note i) h = tt

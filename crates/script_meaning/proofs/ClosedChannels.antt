@@ -1,4 +1,5 @@
 -- At the end of a run no receiver stands on a closed channel, and no offer on a voided one.
+use Rattle.script_grammar.proofs.Truths.{both_true}
 use Rattle.std.proofs.Common.{◌≡◌, ℕ, ◌<◌, ◌≤◌, arith, length, Bool, true, false, not, ◌&&◌, List, [], ◌∷◌, ◌++◌, filter, refl, ap, sym, ◌∙◌, subst, Option, Some, None, if◌then◌else◌}
 use Rattle.std.specs.Prelude.{◌==◌, is_some, nat_le}
 use Rattle.std.proofs.lemmas.Bool.{eqb-true}
@@ -176,11 +177,6 @@ less_after s who (Void c) h = cc
 pub contrary : (b : Bool) → b ≡ true → b ≡ false → ⊥
 contrary true p q = cc
 contrary false p q = cc
-
-pub both_true : (a b : Bool) → (a && b) ≡ true → (a ≡ true) × (b ≡ true)
-both_true true true h = (refl, refl)
-both_true true false h = cc
-both_true false b h = cc
 
 pub and_true : (a b : Bool) → a ≡ true → b ≡ true → (a && b) ≡ true
 and_true true true p q = refl

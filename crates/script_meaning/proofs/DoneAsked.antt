@@ -1,6 +1,8 @@
 -- Which calls ask for a place of a done channel: none but joins and awaits, and the ends of scopes.
+use Rattle.script_grammar.proofs.Truths.{both_true}
+use Rattle.std.proofs.lemmas.Bool.{or_from}
 use Rattle.std.proofs.Common.{◌≡◌, ℕ, zero, suc, Bool, true, false, List, [], ◌∷◌, ◌++◌, drop, Option, refl, ap, ◌∙◌, subst, arith}
-use Rattle.std.specs.Prelude.{◌||◌, ◌&&◌, map, nat_le, nat_lt}
+use Rattle.std.specs.Prelude.{◌||◌, map, nat_le, nat_lt}
 use Rattle.std.specs.List.{list_any, list_all}
 use Rattle.std.proofs.lemmas.Bool.Decides.{nat_tests}
 use Rattle.std.proofs.lemmas.List.Folds.{list_any-append}
@@ -51,12 +53,8 @@ unfoldable pub AreLow : ℕ → List Call → Type 0
 AreLow base [] = Unit {0}
 AreLow base (call ∷ calls) = IsLow base call × AreLow base calls
 
-neither_of : (a b : Bool) → a ≡ false → b ≡ false → (a || b) ≡ false
-neither_of true b e f = e
-neither_of false b e f = f
-
 none_of : (a : Bool) → a ≡ false → (a || false) ≡ false
-none_of a e = neither_of a false e refl
+none_of a e = or_from a false e refl
 
 low_left : (base : ℕ) (xs ys : List Call) → AreLow base (xs ++ ys) → AreLow base xs
 unfolding AreLow
@@ -81,14 +79,14 @@ module _ (base : ℕ) where
   asks_then xs ys = ap (list_any (item_asks base)) (items_in-append xs ys) ∙ list_any-append (item_asks base) (items_in xs) (items_in ys)
 
   pub neither : (xs ys : List Told) → asks_in base xs ≡ false → asks_in base ys ≡ false → asks_in base (xs ++ ys) ≡ false
-  neither xs ys e f = asks_then xs ys ∙ neither_of (asks_in base xs) (asks_in base ys) e f
+  neither xs ys e f = asks_then xs ys ∙ or_from (asks_in base xs) (asks_in base ys) e f
 
   -- ---- channels
 
   none_made : {X : Type 0} (f : X → Act) (xs : List X) → ((x : X) → gives_place base (f x) ≡ false) → asks_in base (map (λ x. made (f x)) xs) ≡ false
   unfolding items_in
   none_made f [] h = refl
-  none_made f (x ∷ xs) h = neither_of (gives_place base (f x)) (asks_in base (map (λ x. made (f x)) xs)) (h x) (none_made f xs h)
+  none_made f (x ∷ xs) h = or_from (gives_place base (f x)) (asks_in base (map (λ x. made (f x)) xs)) (h x) (none_made f xs h)
 
   pub admits_none : (c : ℕ) (group : List Told) → Admits c group → asks_in base group ≡ false
   unfolding items_in
@@ -119,7 +117,7 @@ module _ (base : ℕ) where
   at_once_none : (call : Call) (group : List Told) (a : Answer) → IsLow base call → AtOnce call group a → asks_in base group ≡ false
   unfolding items_in
   at_once_none _ _ _ low (AtOnce.hands c v q) = none_of (nat_le base c) low
-  at_once_none _ _ _ low (AtOnce.puts c v q drops h) = neither_of (nat_le base c) (asks_in base drops) low (drops_none c q drops h)
+  at_once_none _ _ _ low (AtOnce.puts c v q drops h) = or_from (nat_le base c) (asks_in base drops) low (drops_none c q drops h)
   at_once_none _ _ _ low (AtOnce.takes c v q admits h) = admits_none c admits h
 
   pub refused_none : (call : Call) (told : Told) (a : Answer) → Refused call told a → asks_in base (told ∷ []) ≡ false
@@ -149,7 +147,7 @@ module _ (base : ℕ) where
 
   offer_none : (c v q : ℕ) (admits : List Told) → nat_le base c ≡ false → Admits c admits → asks_in base (offer_told c v q admits) ≡ false
   unfolding items_in
-  offer_none c v q admits low h = neither_of (nat_le base c) (asks_in base admits) low (admits_none c admits h)
+  offer_none c v q admits low h = or_from (nat_le base c) (asks_in base admits) low (admits_none c admits h)
 
   pub plain_none : (call : Call) (group : List Told) (a : Answer) → IsLow base call → PlainCall call group a → asks_in base group ≡ false
   unfolding items_in
@@ -264,10 +262,6 @@ module _ (base : ℕ) where
 
 pub below_low : (n c : ℕ) → nat_lt c n ≡ true → nat_le n c ≡ false
 below_low n c e = grind (arith, nat_tests)
-
-both_true : (a b : Bool) → (a && b) ≡ true → (a ≡ true) × (b ≡ true)
-both_true true b e = (refl, e)
-both_true false b e = cc
 
 -- the clauses of a select are on declared channels
 pub clauses_low : (x : Config) (n : ℕ) (code : List Instruction) → list_all (names_channel n) code ≡ true → AreLow n (clauses_in x code)

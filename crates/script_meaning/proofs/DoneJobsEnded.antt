@@ -131,11 +131,6 @@ fewer_left f (d ∷ cs) c h = at (λ g. fewer_left f cs c g) (f d) h
     at g true h = cc
     at g false h = g h
 
-pub both_true : (a b : Bool) → (a && b) ≡ true → (a ≡ true) × (b ≡ true)
-both_true true true h = (refl, refl)
-both_true true false h = cc
-both_true false b h = cc
-
 pub contrary : (b : Bool) → b ≡ true → b ≡ false → ⊥
 contrary true p q = cc
 contrary false p q = cc

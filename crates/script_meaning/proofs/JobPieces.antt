@@ -1,4 +1,5 @@
 -- What a coroutine tells, piece by piece, as far as the tree of Jobs goes.
+use Rattle.std.proofs.lemmas.List.{append-nil}
 use Rattle.std.proofs.Common.{◌≡◌, ◌≢◌, ℕ, Bool, true, false, List, [], ◌∷◌, ◌++◌, refl, ap, sym, ◌∙◌, subst, append_assoc, Option, Some, None}
 use Rattle.std.specs.Prelude.{map}
 use Rattle.channel_model.specs.declared.acts.Act.TheVariants.{Admit, Drop, Drain, WakeClosed}
@@ -201,12 +202,8 @@ pub pieces_then : (p : Program) (k : ℕ) (xs ys : List Told) → JobPieces p k 
 pieces_then p k _ ys JobPieces.none b = b
 pieces_then p k xs ys (JobPieces.more g rest _ a r e) b = JobPieces.more g (rest ++ ys) (xs ++ ys) a (pieces_then p k rest ys r b) (ap (λ l. l ++ ys) e ∙ append_assoc g rest ys)
 
-nothing_behind : (xs : List Told) → xs ++ [] ≡ xs
-nothing_behind [] = refl
-nothing_behind (x ∷ xs) = ap (λ l. x ∷ l) (nothing_behind xs)
-
 alone : (p : Program) (k : ℕ) (g : List Told) → JobPiece p k g → JobPieces p k g
-alone p k g h = JobPieces.more g [] g h JobPieces.none (sym (nothing_behind g))
+alone p k g h = JobPieces.more g [] g h JobPieces.none (sym (append-nil g))
 
 silent : (p : Program) (k : ℕ) (g : List Told) → IsQuiet g → JobPieces p k g
 silent p k g h = alone p k g (JobPiece.quiet g h)

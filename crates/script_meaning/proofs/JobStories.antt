@@ -1,4 +1,5 @@
 -- What was told and true, as far as it is of Jobs.
+use Rattle.std.proofs.lemmas.List.{append-nil}
 use Rattle.std.proofs.Common.{◌≡◌, ℕ, Bool, true, false, List, [], ◌∷◌, ◌++◌, refl, ap, sym, ◌∙◌, subst, if◌then◌else◌}
 use Rattle.std.specs.Prelude.{◌==◌}
 use Rattle.job_model.specs.declared.acts.JobAct.{JobAct}
@@ -56,15 +57,11 @@ act_of_note of_job.NoRow = refl
 act_of_note of_job.Used = refl
 act_of_note of_job.ParentEnded = refl
 
-nothing_more : {A : Type 0} (xs : List A) → xs ++ [] ≡ xs
-nothing_more [] = refl
-nothing_more (x ∷ xs) = ap (λ l. x ∷ l) (nothing_more xs)
-
 told_acts : (t : Told) (items : List Item) → job_acts_in (with_told t items) ≡ job_acts_in items ++ act_list (job_told t)
 told_acts (note (item.Channel n)) items = job_acts_in-append items (item.Channel n ∷ [])
-told_acts (note (item.Job n)) items = job_acts_in-append items (item.Job n ∷ []) ∙ ap (λ l. job_acts_in items ++ l) (nothing_more (job_act n) ∙ act_of_note n)
-told_acts (on_channels fact) items = sym (nothing_more (job_acts_in items))
-told_acts (on_jobs fact) items = sym (nothing_more (job_acts_in items))
+told_acts (note (item.Job n)) items = job_acts_in-append items (item.Job n ∷ []) ∙ ap (λ l. job_acts_in items ++ l) (append-nil (job_act n) ∙ act_of_note n)
+told_acts (on_channels fact) items = sym (append-nil (job_acts_in items))
+told_acts (on_jobs fact) items = sym (append-nil (job_acts_in items))
 
 holds_there : (s : Story) (items : List Item) (earlier at : Moment) (t : Told) → IsSo s items earlier t at → JobHolds t at.jobs
 holds_there s items earlier at (note i) h = tt

@@ -50,6 +50,7 @@ pub mod TagsReached
 pub mod RowsEntered
 pub mod NoRefusals
 pub mod DoneAsked
+pub mod DonePlacesAsked
 pub mod DoneReceivedOnce
 pub mod GentleNotes
 pub mod DonesUnclosed

@@ -1,7 +1,8 @@
 -- Each move but the end of a body notes no end of a Job and no Close of a done channel.
+use Rattle.std.proofs.lemmas.List.{append-nil}
 use Rattle.std.specs.Prelude.{◌≡◌, ℕ, suc, zero, ◌+◌, ◌<◌, ◌⊎◌, Bool, true, List, [], ◌∷◌, ◌++◌, length, drop, Option, Some, slice_get, refl}
 use Rattle.std.specs.List.{list_all}
-use Rattle.std.proofs.Common.{sym, ap, inl, inr}
+use Rattle.std.proofs.Common.{sym, inl, inr}
 use Rattle.job_model.specs.Done.{done_channel}
 use Rattle.note_book.specs.declared.book.Item.{Item}
 use Rattle.call_meaning.specs.Telling.{Told, MayRun}
@@ -93,10 +94,6 @@ gentle_refusal base parent _ _ NotAttached.no_row = noted_all (is_gentle base) _
 gentle_refusal base parent _ _ NotAttached.used = noted_all (is_gentle base) _ [] refl (all_none (is_gentle base))
 gentle_refusal base parent _ _ (NotAttached.parent_ended scoped) = job_fact (is_gentle base) _ _ (noted_all (is_gentle base) _ [] refl (all_none (is_gentle base)))
 
-nothing_more : {A : Type 0} (xs : List A) → xs ++ [] ≡ xs
-nothing_more [] = refl
-nothing_more (x ∷ xs) = ap (λ l. x ∷ l) (nothing_more xs)
-
 gentle_receive : (p : Program) (c : ℕ) (g : List Told) (a : Answer) → PlainCall (receives c) g a → AllPass (is_gentle (base_of p)) g
 gentle_receive p c g a h = plain_all (is_gentle (base_of p)) (gentle_allows (base_of p)) (receives c) g a (λ e. refl) h
 
@@ -130,5 +127,5 @@ move_gentle p k parents _ _ _ ok q (Move.ends_scope x y s end g all a at e h c f
 move_gentle p k parents _ _ _ ok q (Move.scope_ended x w n v s) = inl (settle_all (is_gentle (base_of p)) (gentle_allows (base_of p)) w _ [] (all_none (is_gentle (base_of p))))
 move_gentle p k parents _ _ _ ok q (Move.sees_scope x y s end l e f) = inl (saw_end_all (is_gentle (base_of p)) (gentle_allows (base_of p)) s.row end)
 move_gentle p k parents _ _ _ ok q (Move.breaks_scope x y s failure break g all a l e h c f z) = inr (EndsFirst.breaks s.row failure break g h (gentle_receive p _ g a c) z)
-move_gentle p k parents _ _ _ ok q (Move.breaks x failure g s e h) = inr (EndsFirst.breaks k failure g [] h (all_none (is_gentle (base_of p))) (sym (nothing_more g)))
-move_gentle p k parents _ _ _ ok q (Move.ends x g s e h) = inr (EndsFirst.ends k x.result g [] h (all_none (is_gentle (base_of p))) (sym (nothing_more g)))
+move_gentle p k parents _ _ _ ok q (Move.breaks x failure g s e h) = inr (EndsFirst.breaks k failure g [] h (all_none (is_gentle (base_of p))) (sym (append-nil g)))
+move_gentle p k parents _ _ _ ok q (Move.ends x g s e h) = inr (EndsFirst.ends k x.result g [] h (all_none (is_gentle (base_of p))) (sym (append-nil g)))

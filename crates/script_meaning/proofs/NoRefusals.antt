@@ -1,9 +1,10 @@
 -- No attach is refused in a run, whatever the floors: a row that was seen claimed is one that some coroutine of the run attached, no two
 -- launch the same tag, and the rows for scopes are as many as all enter together.
+use Rattle.std.proofs.lemmas.List.{append-nil}
 use Rattle.std.specs.Prelude.{◌≡◌, ℕ, zero, suc, ◌+◌, ◌<◌, ◌≤◌, ◌==◌, ◌⊎◌, Bool, true, false, ◌||◌, List, [], ◌∷◌, ◌++◌, Option, Some, None, is_some, if◌then◌else◌, refl}
 use Rattle.std.specs.List.{list_any}
 use Rattle.std.proofs.Common.{sym, ap, ◌∙◌, subst, inl, inr, ⊎_elim, arith}
-use Rattle.std.proofs.lemmas.Bool.{eqb-true, eq-eqb}
+use Rattle.std.proofs.lemmas.Bool.{eqb-true, eq-eqb, or_from}
 use Rattle.std.proofs.lemmas.List.Folds.{list_any-append}
 use Rattle.channel_model.specs.Floors.{Floor as ChannelFloor}
 use Rattle.job_model.specs.declared.acts.JobAct.{JobAct}
@@ -226,13 +227,9 @@ or_not : (a b : Bool) → (a || b) ≡ false → (a ≡ false) × (b ≡ false)
 or_not true b e = cc
 or_not false b e = (refl, e)
 
-neither : (a b : Bool) → a ≡ false → b ≡ false → (a || b) ≡ false
-neither true b e f = e
-neither false b e f = f
-
 pub all_refusals : (base : ℕ) (items : List Item) → list_any (is_spent base) items ≡ false → list_any is_no_row items ≡ false → list_any is_used items ≡ false → list_any is_parent_ended items ≡ false → list_any (is_refusal base) items ≡ false
 all_refusals base [] s n u e = refl
-all_refusals base (item.Channel x ∷ items) s n u e = let two = or_not (is_channel_refusal base x) (list_any (is_spent base) items) s in neither (is_channel_refusal base x) (list_any (is_refusal base) items) two.0 (all_refusals base items two.1 n u e)
+all_refusals base (item.Channel x ∷ items) s n u e = let two = or_not (is_channel_refusal base x) (list_any (is_spent base) items) s in or_from (is_channel_refusal base x) (list_any (is_refusal base) items) two.0 (all_refusals base items two.1 n u e)
 all_refusals base (item.Job (known.Made act) ∷ items) s n u e = all_refusals base items s n u e
 all_refusals base (item.Job (known.Saw row) ∷ items) s n u e = all_refusals base items s n u e
 all_refusals base (item.Job (known.SawEnd row end) ∷ items) s n u e = all_refusals base items s n u e
@@ -245,13 +242,9 @@ unless : (b : Bool) → (b ≡ true → ⊥) → b ≡ false
 unless true n = absurd (n refl)
 unless false n = refl
 
-nothing_more : {A : Type 0} (xs : List A) → xs ++ [] ≡ xs
-nothing_more [] = refl
-nothing_more (x ∷ xs) = ap (λ l. x ∷ l) (nothing_more xs)
-
 no_more : (book : List Item) → book ++ items_in [] ≡ book
 unfolding items_in
-no_more book = nothing_more book
+no_more book = append-nil book
 
 counted : (book : List Item) (told : List Told) → scopes_told told ≡ 0 → scopes_of_acts (job_acts_in (book ++ items_in told)) ≡ scopes_of_acts (job_acts_in book)
 counted book told e =

@@ -3,9 +3,9 @@
 use Rattle.std.specs.Prelude.{◌≡◌, ℕ, suc, ◌+◌, ◌-◌, ◌<◌, ◌≤◌, ◌==◌, nat_le, ◌⊎◌, Bool, true, false, not, ◌||◌, ◌&&◌, List, [], ◌∷◌, ◌++◌, length, replicate, Option, Some, None, is_some, slice_index_or, if◌then◌else◌, MatchBool, refl}
 use Rattle.std.specs.List.{list_any, list_all}
 use Rattle.std.proofs.Common.{sym, ap, ◌∙◌, subst, ⊎_elim, append_assoc, arith}
-use Rattle.std.proofs.lemmas.Bool.{eqb-true}
+use Rattle.std.proofs.lemmas.Bool.{eqb-true, or_from, or_parts, or_left}
 use Rattle.std.proofs.lemmas.Bool.Decides.{nat_tests}
-use Rattle.std.proofs.lemmas.List.{length-map, get_or-replicate}
+use Rattle.std.proofs.lemmas.List.{length-map, get_or-replicate, append-nil}
 use Rattle.std.proofs.lemmas.List.Folds.{list_any-append}
 use mathlib.Core.List.{IsPrefix}
 use Rattle.channel_model.specs.declared.acts.Act.{Act}
@@ -53,15 +53,12 @@ use Rattle.script_meaning.proofs.CompletedJobs.{ends_so, completed_in}
 use Rattle.script_meaning.proofs.TagsReached.{launched_in_run}
 use Rattle.script_meaning.proofs.RowsEntered.{enters_row, scope_rows}
 use Rattle.script_meaning.proofs.DoneAsked.{admits_none, gives_place, item_asks}
-use Rattle.script_meaning.proofs.DoneReceivedOnce.{places_on, ends_closed, placed_in, closed_in, attached_in, attached_then, MoveAsks, move_asks, begins_ask, or_left, AreApart, NoteAsked, AllAsked, ReachAsks, reach_asks}
+use Rattle.script_meaning.proofs.DonePlacesAsked.{places_on, ends_closed, placed_in, closed_in, attached_in, attached_then, MoveAsks, move_asks}
+use Rattle.script_meaning.proofs.DoneReceivedOnce.{begins_ask, AreApart, NoteAsked, AllAsked, ReachAsks, reach_asks}
 use Rattle.script_meaning.proofs.PlacesGiven.{given_by, plain_at, ended_closed, all_from_each}
 use Rattle.script_meaning.proofs.NoRefusals.{AreClaimed, stands_give, is_spent, polled_attaches}
 
 -- ---- the clauses of a coroutine on done channels are single
-
-or_false : (a b : Bool) → (a || b) ≡ false → (a ≡ false) × (b ≡ false)
-or_false true b e = cc
-or_false false b e = (refl, e)
 
 and_both : (a b : Bool) → a ≡ true → b ≡ true → (a && b) ≡ true
 and_both true b e f = f
@@ -93,7 +90,7 @@ quiet_plain : (base c : ℕ) (items : List Item) → base ≤ c → list_any (it
 quiet_plain base c [] le e = refl
 quiet_plain base c (item.Job n ∷ items) le e = quiet_plain base c items le e
 quiet_plain base c (item.Channel (of_channel.Made act) ∷ items) le e =
-    let two = or_false (gives_place base act) (list_any (item_asks base) items) e in
+    let two = or_parts (gives_place base act) (list_any (item_asks base) items) e in
     and_both (plain_at c act) (list_all (plain_at c) (channel_acts_in items)) (act_plain base c act le two.0) (quiet_plain base c items le two.1)
 quiet_plain base c (item.Channel (of_channel.SendClosed d u v) ∷ items) le e = quiet_plain base c items le e
 quiet_plain base c (item.Channel (of_channel.TrySendClosed d u v) ∷ items) le e = quiet_plain base c items le e
@@ -102,7 +99,7 @@ quiet_plain base c (item.Channel (of_channel.TryReceiveClosed d v) ∷ items) le
 quiet_plain base c (item.Channel (of_channel.AlreadyClosed d v) ∷ items) le e = quiet_plain base c items le e
 quiet_plain base c (item.Channel (of_channel.Full d v) ∷ items) le e = quiet_plain base c items le e
 quiet_plain base c (item.Channel (of_channel.Empty d) ∷ items) le e = quiet_plain base c items le e
-quiet_plain base c (item.Channel (of_channel.Spent d) ∷ items) le e = quiet_plain base c items le (or_false (nat_le base d) (list_any (item_asks base) items) e).1
+quiet_plain base c (item.Channel (of_channel.Spent d) ∷ items) le e = quiet_plain base c items le (or_parts (nat_le base d) (list_any (item_asks base) items) e).1
 quiet_plain base c (item.Channel (of_channel.Partner d q) ∷ items) le e = quiet_plain base c items le e
 quiet_plain base c (item.Channel (of_channel.MainResolved w) ∷ items) le e = quiet_plain base c items le e
 quiet_plain base c (item.Channel (of_channel.Late w) ∷ items) le e = quiet_plain base c items le e
@@ -334,19 +331,11 @@ spent_never p c j g ok legal jobs on noted seen rest parts at before mine row sp
 
 -- ---- the whole book
 
-no_more : {A : Type 0} (xs : List A) → xs ++ [] ≡ xs
-no_more [] = refl
-no_more (x ∷ xs) = ap (λ l. x ∷ l) (no_more xs)
-
 push_items : (seen : List Told) (t : Told) → with_told t (items_in seen) ≡ items_in (seen ++ t ∷ [])
 unfolding items_in
 push_items seen (note i) = sym (items_in-append seen (note i ∷ []))
-push_items seen (on_channels fact) = sym (items_in-append seen (on_channels fact ∷ []) ∙ no_more (items_in seen))
-push_items seen (on_jobs fact) = sym (items_in-append seen (on_jobs fact ∷ []) ∙ no_more (items_in seen))
-
-neither : (a b : Bool) → a ≡ false → b ≡ false → (a || b) ≡ false
-neither true b e f = e
-neither false b e f = f
+push_items seen (on_channels fact) = sym (items_in-append seen (on_channels fact ∷ []) ∙ append-nil (items_in seen))
+push_items seen (on_jobs fact) = sym (items_in-append seen (on_jobs fact ∷ []) ∙ append-nil (items_in seen))
 
 -- a note of channels that is so at its moment
 not_spent_note : (p : Program) (c : ChannelFloor) (j : Floor) (g : Frame) → IsProgram p → Legal (floor_shape p) c.seen → LegalJobs (job_shape p) j.seen → (on : StandsOn p c j g) → AllNoted p c j → (seen rest : List Told) → on.runs.told ≡ seen ++ rest
@@ -379,7 +368,7 @@ unspent : (p : Program) (c : ChannelFloor) (j : Floor) (g : Frame) → IsProgram
 unfolding IsTrue AllAsked items_in
 unspent p c j g ok legal jobs on noted seen [] parts earlier true_told asked = refl
 unspent p c j g ok legal jobs on noted seen (note (item.Channel n) ∷ told) parts earlier h asked =
-    neither (is_channel_refusal (base_of p) n) (list_any (is_spent (base_of p)) (items_in told))
+    or_from (is_channel_refusal (base_of p) n) (list_any (is_spent (base_of p)) (items_in told))
     (not_spent_note p c j g ok legal jobs on noted seen (note (item.Channel n) ∷ told) parts earlier h.0 n h.1 asked.0)
     (unspent p c j g ok legal jobs on noted (seen ++ note (item.Channel n) ∷ []) told (parts ∙ sym (append_assoc seen (note (item.Channel n) ∷ []) told)) h.0 (subst (λ l. IsTrue (story p g.tag (seen_by c j)) l h.0 told) (push_items seen (note (item.Channel n))) h.2) asked.1)
 unspent p c j g ok legal jobs on noted seen (note (item.Job n) ∷ told) parts earlier h asked =
@@ -405,4 +394,4 @@ pub polled_never : (p : Program) (c c' : ChannelFloor) (j j' : Floor) (f g : Fra
 polled_never p c c' j j' f g ok legal jobs on on' claimed noted h =
     let whole = stands_unspent p c' j' g ok legal jobs on' noted in
     let parts = sym (ap (list_any (is_spent (base_of p))) h.appended ∙ list_any-append (is_spent (base_of p)) f.book (items_in h.told)) ∙ whole in
-    polled_attaches p c c' j j' f g ok jobs on on' claimed h (or_false (list_any (is_spent (base_of p)) f.book) (list_any (is_spent (base_of p)) (items_in h.told)) parts).1
+    polled_attaches p c c' j j' f g ok jobs on on' claimed h (or_parts (list_any (is_spent (base_of p)) f.book) (list_any (is_spent (base_of p)) (items_in h.told)) parts).1

@@ -1,4 +1,5 @@
 -- At the end of a run no held offer has room.
+use Rattle.std.proofs.lemmas.List.{append-nil}
 use Rattle.std.proofs.Common.{◌≡◌, ℕ, ◌<◌, ◌≤◌, arith, Bool, true, false, not, ◌&&◌, List, [], ◌∷◌, ◌++◌, refl, ap, sym, ◌∙◌, subst, ⊎_elim, append_assoc}
 use Rattle.std.specs.Prelude.{◌==◌, ◌+◌, ◌||◌, nat_lt, is_some}
 use Rattle.std.specs.List.{list_any}
@@ -28,7 +29,8 @@ use Rattle.script_meaning.proofs.Payments.{act_list, AllSo}
 use Rattle.script_meaning.proofs.ActsFollowed.{IsTold, HasAdmits, Follows, call_told}
 use Rattle.script_meaning.proofs.ChannelStories.{who_did, deed, CallHolds, CallsSo, same_state}
 use Rattle.script_meaning.proofs.ChannelDebts.{CallDebt, BehindOf, CallPaidAt, by_fact, nobody_owes, needs_there, legal_before}
-use Rattle.script_meaning.proofs.ClosedChannels.{AllBefore, contrary, both_true, and_true}
+use Rattle.script_meaning.proofs.ClosedChannels.{AllBefore, contrary, and_true}
+use Rattle.script_grammar.proofs.Truths.{both_true}
 use Rattle.script_meaning.proofs.QueuesFit.{all_placed, no_drop}
 
 -- an offer stands at place q and is held, and some offer up to it is held with room
@@ -163,10 +165,6 @@ of_empty kind q s c e = at (list_any (stands_held q) (s.channels c).queue) (ap (
     at true h = cc
     at false h = refl
 
-no_more : {A : Type 0} (xs : List A) → xs ++ [] ≡ xs
-no_more [] = refl
-no_more (x ∷ xs) = ap (λ l. x ∷ l) (no_more xs)
-
 one_more : (xs : List Entry) (x : Entry) (ys : List Entry) → (xs ++ x ∷ []) ++ ys ≡ xs ++ x ∷ ys
 one_more [] x ys = refl
 one_more (z ∷ xs) x ys = ap (λ l. z ∷ l) (one_more xs x ys)
@@ -175,7 +173,7 @@ one_more (z ∷ xs) x ys = ap (λ l. z ∷ l) (one_more xs x ys)
 by_mark : (shape : Shape) (channels : List Entry) → Legal shape channels → (c q k : ℕ) (before : List Entry) (e : Entry) (rest : List Entry) (ys : List Told) → channels ≡ before ++ e ∷ rest → owes_admit (kind_at shape c) q ((after (replay before) e.who e.act).channels c) ≡ true → BehindOf shape k channels before e.act ys → HasAdmits c ys → CallPaidAt shape k (λ s. owes_admit (kind_at shape c) q (s.channels c)) (MayRaiseAdmit c q) channels (part who_did deed k before ++ e.act ∷ [])
 by_mark shape channels l c q k before e rest ys parts owed behind has =
     let done : List Act = part who_did deed k before ++ e.act ∷ [] in
-    let m = mark_at shape k channels c (part who_did deed k before ++ e.act ∷ []) [] ys (subst (λ d. CallsSo shape k channels d ys) (sym (no_more (part who_did deed k before ++ e.act ∷ []))) behind.1) has in
+    let m = mark_at shape k channels c (part who_did deed k before ++ e.act ∷ []) [] ys (subst (λ d. CallsSo shape k channels d ys) (sym (append-nil (part who_did deed k before ++ e.act ∷ []))) behind.1) has in
     let r = reached who_did deed k before e rest m.first.at m.first.more m.first.later_acts (m.first.parts ∙ parts) (m.first.acts ∙ append_assoc (part who_did deed k before) (e.act ∷ []) m.first.later_acts) in
     let stands = (both_true (list_any (stands_held q) ((after (replay before) e.who e.act).channels c).queue) _ owed).0 in
     let there : replay (before ++ e ∷ []) ≡ after (replay before) e.who e.act = replay_push before e in

@@ -1,5 +1,6 @@
 -- What legality says of the acts of one caller, one after the other: a row that is attached was not attached before, and its body had not
 -- ended; and it is a row for such a Job.
+use Rattle.std.proofs.lemmas.List.{append-nil}
 use Rattle.std.specs.Prelude.{◌≡◌, ℕ, ◌==◌, ◌<◌, ◌≤◌, Bool, true, false, ◌||◌, List, [], ◌∷◌, ◌++◌, Option, Some, None, MatchBool, is_some, if◌then◌else◌, refl}
 use Rattle.std.specs.List.{list_any}
 use mathlib.Core.List.{IsPrefix}
@@ -39,13 +40,9 @@ unfolding AllMayCome
 placed_left shape who done [] ys h = tt
 placed_left shape who done (x ∷ xs) ys h = (h.0, placed_left shape who (done ++ x ∷ []) xs ys h.1)
 
-nothing_more : {A : Type 0} (xs : List A) → xs ++ [] ≡ xs
-nothing_more [] = refl
-nothing_more (x ∷ xs) = ap (λ l. x ∷ l) (nothing_more xs)
-
 pub placed_right : (shape : Shape) (who : ℕ) (done xs ys : List JobAct) → AllMayCome shape who done (xs ++ ys) → AllMayCome shape who (done ++ xs) ys
 unfolding AllMayCome
-placed_right shape who done [] ys h = subst (λ l. AllMayCome shape who l ys) (sym (nothing_more done)) h
+placed_right shape who done [] ys h = subst (λ l. AllMayCome shape who l ys) (sym (append-nil done)) h
 placed_right shape who done (x ∷ xs) ys h = subst (λ l. AllMayCome shape who l ys) (append_assoc done (x ∷ []) xs) (placed_right shape who (done ++ x ∷ []) xs ys h.1)
 
 pub placed_first : (shape : Shape) (who : ℕ) (done acts : List JobAct) (act : JobAct) → AllMayCome shape who done (act ∷ acts) → MayComeNext shape who done act
@@ -102,7 +99,7 @@ placed_from shape who xs (e ∷ es) l =
       one_placed shape who xs e.act (Legal-prefix shape xs (e ∷ es) l) (subst (λ n. Needs shape (replay xs) n e.act) (eqb-true e.who who k) needs),
       subst (λ d. AllMayCome shape who d (acts_of who es)) (pushed true k) more,
     )
-    by_test false k more = subst (λ d. AllMayCome shape who d (acts_of who es)) (pushed false k ∙ nothing_more (acts_of who xs)) more
+    by_test false k more = subst (λ d. AllMayCome shape who d (acts_of who es)) (pushed false k ∙ append-nil (acts_of who xs)) more
 
 pub all_placed : (shape : Shape) (who : ℕ) (jobs : List JobEntry) → Legal shape jobs → AllMayCome shape who [] (acts_of who jobs)
 unfolding acts_of

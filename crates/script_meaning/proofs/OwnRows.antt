@@ -1,4 +1,5 @@
 -- What a caller knows of the Jobs that are its own: each has its tag, and only its own acts end their bodies.
+use Rattle.std.proofs.lemmas.List.{append-nil}
 use Rattle.std.specs.Prelude.{◌≡◌, ℕ, zero, suc, ◌<◌, ◌≤◌, ◌==◌, ◌⊎◌, Bool, true, false, ◌&&◌, ◌||◌, List, [], ◌∷◌, ◌++◌, Option, Some, None, MatchBool, is_some, option_map, if◌then◌else◌, refl}
 use Rattle.std.specs.List.{list_any}
 use mathlib.Core.List.{IsPrefix}
@@ -251,10 +252,6 @@ front_empty : {A : Type 0} (xs ys : List A) → xs ++ ys ≡ [] → xs ≡ []
 front_empty [] ys e = refl
 front_empty (x ∷ xs) ys e = cc
 
-no_more : {A : Type 0} (xs : List A) → xs ++ [] ≡ xs
-no_more [] = refl
-no_more (x ∷ xs) = ap (λ l. x ∷ l) (no_more xs)
-
 -- what is between two histories with the same acts of the caller has them too
 pub same_between : (who : ℕ) (xs ys zs : List JobEntry) → IsPrefix xs ys → IsPrefix ys zs → acts_of who zs ≡ acts_of who xs → acts_of who ys ≡ acts_of who xs
 same_between who xs ys zs p q e =
@@ -262,7 +259,7 @@ same_between who xs ys zs p q e =
     let b : acts_of who zs ≡ acts_of who ys ++ acts_of who q.0 = ap (acts_of who) (sym q.1) ∙ acts_of-append who ys q.0 in
     let c : acts_of who xs ++ (acts_of who p.0 ++ acts_of who q.0) ≡ acts_of who xs = sym (append_assoc (acts_of who xs) (acts_of who p.0) (acts_of who q.0)) ∙ ap (λ l. l ++ acts_of who q.0) (sym a) ∙ sym b ∙ e in
     let d : acts_of who p.0 ≡ [] = front_empty (acts_of who p.0) (acts_of who q.0) (nothing_left (acts_of who xs) _ c) in
-    a ∙ ap (λ l. acts_of who xs ++ l) d ∙ no_more (acts_of who xs)
+    a ∙ ap (λ l. acts_of who xs ++ l) d ∙ append-nil (acts_of who xs)
 
 -- ---- a body on a floor
 
@@ -282,7 +279,7 @@ body_at_moment who row a b m l h look p q =
     row_unended who row a b.shape m look.same.shape h.whose (Legal-prefix b.shape m q.0 (rw q.1 l)) p (ap (list_any (ends_body row)) mine ∙ h.not_ended)
 
 pub body_here : (who row : ℕ) (j : Floor) → Legal j.shape j.seen → HasBodyAt who row j → has_ended_body (replay j.seen row) ≡ false
-body_here who row j l h = row_unended who row j j.shape j.seen refl h.whose l ([], no_more j.seen) h.not_ended
+body_here who row j l h = row_unended who row j j.shape j.seen refl h.whose l ([], append-nil j.seen) h.not_ended
 
 own_row_later : (who row : ℕ) (a b : Floor) → Legal b.shape b.seen → b.shape ≡ a.shape → IsPrefix a.seen b.seen → IsOwnRow who row a → IsOwnRow who row b
 own_row_later who row a b l same p (IsOwnRow.own e lt) = IsOwnRow.own e (subst (λ (s : Shape). who < s.coroutines) (sym same) lt)

@@ -1,4 +1,5 @@
 -- Which waits of a caller are unsettled follows from its own acts.
+use Rattle.script_grammar.proofs.Truths.{both_true}
 use Rattle.std.specs.Prelude.{◌≡◌, ◌≢◌, ℕ, ◌≤◌, ◌==◌, Bool, true, false, ◌&&◌, List, [], ◌∷◌, Option, Some, None, MatchBool, is_none, refl, if◌then◌else◌}
 use Rattle.std.proofs.Common.{sym, ap, ◌∙◌, subst, arith}
 use Rattle.std.proofs.lemmas.Bool.{eqb-true}
@@ -25,11 +26,6 @@ use Rattle.channel_model.proofs.Placed.{Placed, same_number, placed_after, start
 abbrev pub is_unsettled_of : ℕ → Option Wait → Bool
 is_unsettled_of who None = false
 is_unsettled_of who (Some x) = (x.owner == who) && is_none x.settled
-
-both_true : (a b : Bool) → (a && b) ≡ true → (a ≡ true) × (b ≡ true)
-both_true true true h = (refl, refl)
-both_true true false h = cc
-both_true false b h = cc
 
 and_true : (a b : Bool) → a ≡ true → b ≡ true → (a && b) ≡ true
 and_true true true p q = refl

@@ -1,8 +1,9 @@
 -- Who gave out the places of a channel; and a wait of one clause that was resolved as closed has its channel closed.
+use Rattle.script_grammar.proofs.Truths.{both_true}
 use Rattle.std.specs.Prelude.{◌≡◌, ℕ, ◌≤◌, ◌==◌, ◌⊎◌, Bool, true, false, not, ◌||◌, ◌&&◌, List, [], ◌∷◌, Option, Some, None, is_some, if◌then◌else◌, MatchBool, refl}
 use Rattle.std.specs.List.{list_any, list_all}
 use Rattle.std.proofs.Common.{sym, ap, ◌∙◌, subst, inl, inr, ⊎_elim, arith}
-use Rattle.std.proofs.lemmas.Bool.{eqb-true, eq-eqb}
+use Rattle.std.proofs.lemmas.Bool.{eqb-true, eq-eqb, or_right}
 use Rattle.co_base.specs.declared.names.WaitId.{WaitId}
 use Rattle.channel_model.specs.declared.acts.Act.{Act}
 use Rattle.channel_model.specs.declared.acts.Act.TheVariants.{Hand, Put, Offer, Await, Take, Admit, Drop, Close, Void, Drain, WakeClosed, Withdraw, Settle}
@@ -24,7 +25,7 @@ use Rattle.channel_model.proofs.Sound.{Sound, sound_start, sound_step, closed_ke
 use Rattle.channel_model.proofs.EveryAct.{after_keeps}
 use Rattle.channel_model.specs.Effects.{resolved_wait, name_clause, settled_wait, put_wait, after, resolve, resolve_first, resolve_holder, resolve_offer, remove_first, with_queue, put_channel, admitted, holder_at}
 use Rattle.channel_model.specs.Histories.{replay, replay_from, LegalFrom, Legal, acts_of}
-use Rattle.script_meaning.proofs.DoneReceivedOnce.{places_on, ends_closed}
+use Rattle.script_meaning.proofs.DonePlacesAsked.{places_on, ends_closed}
 
 -- ---- a place is given out by an act on the channel
 
@@ -79,10 +80,6 @@ act_next c s who (Drain d p v) = inl (offer_next c d (s.channels d).queue _ s)
 act_next c s who (WakeClosed d p) = inl (first_next c (s.channels d).receivers _ s)
 act_next c s who (Withdraw w why) = inl refl
 act_next c s who (Settle w outcome) = inl refl
-
-or_right : (a b : Bool) → b ≡ true → (a || b) ≡ true
-or_right true b e = refl
-or_right false b e = e
 
 own_act : (test : Act → Bool) (e : Entry) (es : List Entry) → test e.act ≡ true → list_any test (acts_of e.who (e ∷ es)) ≡ true
 unfolding acts_of
@@ -303,10 +300,6 @@ closed_from : (shape : Shape) (c : ℕ) (s : State) (es : List Entry) → LegalF
 unfolding LegalFrom replay_from
 closed_from shape c s [] l h = h
 closed_from shape c s (e ∷ es) l h = closed_from shape c (after s e.who e.act) es l.1 (closed_step shape s e.who e.act c l.0 h)
-
-both_true : (a b : Bool) → (a && b) ≡ true → (a ≡ true) × (b ≡ true)
-both_true true b e = (refl, e)
-both_true false b e = cc
 
 ended_from : (shape : Shape) (c k : ℕ) (s : State) (es : List Entry) → Sound shape s → LegalFrom shape s es → Ones c s → list_all (λ (e : Entry). plain_at c e.act) es ≡ true → list_any (ends_closed c) (acts_of k es) ≡ true → is_some ((replay_from s es).channels c).closed ≡ true
 unfolding LegalFrom replay_from acts_of

@@ -26,7 +26,8 @@ use Rattle.script_meaning.proofs.Debts.{part}
 use Rattle.script_meaning.proofs.ActsFollowed.{Follows}
 use Rattle.script_meaning.proofs.ChannelStories.{who_did, deed}
 use Rattle.script_meaning.proofs.ChannelDebts.{CallDebt, BehindOf, CallPaidAt, by_fact, nobody_owes, needs_there}
-use Rattle.script_meaning.proofs.ClosedChannels.{Less, AllBefore, up, less_after, contrary, both_true, and_true}
+use Rattle.script_meaning.proofs.ClosedChannels.{Less, AllBefore, up, less_after, contrary, and_true}
+use Rattle.script_grammar.proofs.Truths.{both_true}
 
 -- place q was given out, and up to it more elements stand than the kind keeps
 abbrev pub owes_drop : Kind → ℕ → Channel → Bool

@@ -2,7 +2,7 @@
 use Rattle.std.proofs.Common.{◌≡◌, ℕ, ◌<◌, arith, length, Bool, true, false, not, ◌&&◌, List, [], ◌∷◌, ◌++◌, filter, refl, ap, sym, ◌∙◌, subst, Option, Some, None, if◌then◌else◌}
 use Rattle.std.specs.Prelude.{◌==◌, ◌+◌, ◌||◌, nat_lt, is_some, is_none}
 use Rattle.std.specs.List.{list_any, list_all}
-use Rattle.std.proofs.lemmas.Bool.{eqb-true}
+use Rattle.std.proofs.lemmas.Bool.{eqb-true, or_right}
 use Rattle.std.proofs.lemmas.Bool.Decides.{nat_tests}
 use Rattle.co_base.specs.declared.names.WaitId.{WaitId}
 use Rattle.channel_model.specs.declared.acts.Act.{Act}
@@ -23,7 +23,8 @@ use Rattle.channel_model.specs.Laws.{Ascends as ChannelAscends}
 use Rattle.channel_model.proofs.InOrder.{replay_in_order}
 use Rattle.channel_model.proofs.Sound.{sound}
 use Rattle.call_meaning.specs.Facts.{owes_below}
-use Rattle.script_meaning.proofs.ClosedChannels.{AllBefore, contrary, both_true, and_true}
+use Rattle.script_meaning.proofs.ClosedChannels.{AllBefore, contrary, and_true}
+use Rattle.script_grammar.proofs.Truths.{both_true}
 use Rattle.script_meaning.proofs.QueuesFit.{all_placed}
 use Rattle.script_meaning.proofs.OffersAdmitted.{held_before}
 use Rattle.script_meaning.proofs.OffersAdmitted.{stands_held, owes_admit, MayRaiseAdmit, AdmitIsRaised}
@@ -35,14 +36,6 @@ AllBehind n (o ∷ os) = (n < o.place) × AllBehind n os
 unfoldable pub Ascends : List Standing → Type 0
 Ascends [] = Unit {0}
 Ascends (o ∷ os) = AllBehind o.place os × Ascends os
-
-or_left : (a b : Bool) → a ≡ true → (a || b) ≡ true
-or_left true b h = refl
-or_left false b h = cc
-
-or_right : (a b : Bool) → b ≡ true → (a || b) ≡ true
-or_right true b h = refl
-or_right false b h = h
 
 one_full : (kind : Kind) (n : ℕ) → is_full kind (n + 1) ≡ false → is_full kind n ≡ false
 one_full Rendezvous n h = cc

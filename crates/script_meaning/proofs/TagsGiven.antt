@@ -2,7 +2,7 @@
 use Rattle.std.specs.Prelude.{◌≡◌, ℕ, zero, suc, ◌+◌, ◌<◌, ◌≤◌, ◌==◌, nat_lt, ◌⊎◌, Bool, true, false, ◌||◌, ◌&&◌, not, List, [], ◌∷◌, ◌++◌, length, take, drop, Option, Some, slice_get, if◌then◌else◌, refl}
 use Rattle.std.specs.List.{list_any}
 use Rattle.std.proofs.Common.{sym, ap, ◌∙◌, subst, inl, inr, ⊎_elim, arith}
-use Rattle.std.proofs.lemmas.Bool.{eqb-true}
+use Rattle.std.proofs.lemmas.Bool.{eqb-true, or_parts}
 use Rattle.std.proofs.lemmas.List.Folds.{list_any-append}
 use Rattle.job_model.specs.declared.acts.End.{End}
 use Rattle.job_model.specs.declared.acts.JobAct.{JobAct}
@@ -89,10 +89,6 @@ pub record Nothing (items : List Item) : Type 0 where
   pub no_row : list_any is_no_row items ≡ false
   pub used : list_any is_used items ≡ false
 
-or_false : (a b : Bool) → (a || b) ≡ false → (a ≡ false) × (b ≡ false)
-or_false true b e = cc
-or_false false b e = (refl, e)
-
 none_first : (n : ℕ) → n ≡ 0 → 0 + n ≡ 0
 none_first n e = omega (arith, e)
 
@@ -107,7 +103,7 @@ act_nothing (Gone q) items e h = record { launched = h.launched; scopes = none_f
 pub nothing_in : (items : List Item) → list_any item_attaches items ≡ false → Nothing items
 nothing_in [] e = record { launched = λ r. refl; scopes = refl; no_row = refl; used = refl }
 nothing_in (item.Channel n ∷ items) e = let h = nothing_in items e in record { launched = h.launched; scopes = h.scopes; no_row = h.no_row; used = h.used }
-nothing_in (item.Job (known.Made act) ∷ items) e = let two = or_false (is_attach act) (list_any item_attaches items) e in act_nothing act items two.0 (nothing_in items two.1)
+nothing_in (item.Job (known.Made act) ∷ items) e = let two = or_parts (is_attach act) (list_any item_attaches items) e in act_nothing act items two.0 (nothing_in items two.1)
 nothing_in (item.Job (known.Saw row) ∷ items) e = let h = nothing_in items e in record { launched = h.launched; scopes = h.scopes; no_row = h.no_row; used = h.used }
 nothing_in (item.Job (known.SawEnd row end) ∷ items) e = let h = nothing_in items e in record { launched = h.launched; scopes = h.scopes; no_row = h.no_row; used = h.used }
 nothing_in (item.Job (known.Fail v) ∷ items) e = let h = nothing_in items e in record { launched = h.launched; scopes = h.scopes; no_row = h.no_row; used = h.used }

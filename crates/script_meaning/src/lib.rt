@@ -34,8 +34,8 @@
 //! - which waits a line begins and how they end: `WaitsPlaced`, `WaitsEnd`, `ClausesOfSelects`.
 //! - what a group of notes may hold: `GroupNotes`, `GentleNotes`, `MovesGentle`.
 //! - scopes, ends and tags: `OwnActs`, `ScopesEntered`, `StagesReached`, `OwnRows`, `BodiesTold`, `BodiesOpen`, `CompletedJobs`,
-//!   `WaitsGivenUp`, `DoneAsked`, `DoneReceivedOnce`, `DonesUnclosed`, `EndsToSee`, `TagsGiven`, `TagsReached`, `RowsEntered`,
-//!   `AttachesTold`, `PlacesGiven`, `NotSpent`, `NoRefusals`.
+//!   `WaitsGivenUp`, `DoneAsked`, `DonePlacesAsked`, `DoneReceivedOnce`, `DonesUnclosed`, `EndsToSee`, `TagsGiven`, `TagsReached`,
+//!   `RowsEntered`, `AttachesTold`, `PlacesGiven`, `NotSpent`, `NoRefusals`.
 #![tactic(auto)]
 
 mod laws;
