@@ -120,14 +120,14 @@ noted_one who act a b c d items items' h m k e = record {
   added = added_then who [] (act ∷ []) [] [] a b d (added_looked who [] a b h) (added_then who (act ∷ []) [] [] [] b c d (added_made who act [] b c m) (added_looked who [] c d k));
 }
 
--- ---- turns
+-- ---- steps of a walk
 
 newest_seen : (x : Option Job) (v : JobView) (c : ℕ) → option_map view_of x ≡ Some v → v.first_child ≡ Some c → is_ended v.state ≡ false → IsNewestOf c x
 newest_seen None v c e f h = cc
 newest_seen (Some j) v c e f h = let k : view_of j ≡ v = cc in (ap (λ (u : JobView). is_ended u.state) k ∙ h, ap (λ (u : JobView). u.first_child) k ∙ f)
 
-pub turn_down : (who row c : ℕ) (v : JobView) (a b : Floor) → LookAnswer who row a b (Some v) → v.first_child ≡ Some c → is_ended v.state ≡ false → AtStep a b (λ tree. IsNewestOf c (tree row))
-turn_down who row c v a b k f h = let m = k.1 in record { moment = m.moment; after = m.after; before = m.before; holds = newest_seen (replay m.moment row) v c m.holds f h }
+pub walk_step_down : (who row c : ℕ) (v : JobView) (a b : Floor) → LookAnswer who row a b (Some v) → v.first_child ≡ Some c → is_ended v.state ≡ false → AtStep a b (λ tree. IsNewestOf c (tree row))
+walk_step_down who row c v a b k f h = let m = k.1 in record { moment = m.moment; after = m.after; before = m.before; holds = newest_seen (replay m.moment row) v c m.holds f h }
 
 no_children : (cs : List ℕ) → newest cs ≡ None → cs ≡ []
 no_children [] e = refl
@@ -137,8 +137,8 @@ none_seen : (x : Option Job) (v : JobView) → option_map view_of x ≡ Some v �
 none_seen None v e f = cc
 none_seen (Some j) v e f = let k : view_of j ≡ v = cc in λ h. no_children j.children (ap (λ (u : JobView). u.first_child) k ∙ f (ap (λ (u : JobView). is_ended u.state) (sym k) ∙ h))
 
-pub turn_over : (who row : ℕ) (v : JobView) (a b : Floor) → LookAnswer who row a b (Some v) → (is_ended v.state ≡ false → v.first_child ≡ None) → AtStep a b (λ tree. HasNoneBelow (tree row))
-turn_over who row v a b k f = let m = k.1 in record { moment = m.moment; after = m.after; before = m.before; holds = none_seen (replay m.moment row) v m.holds f }
+pub walk_step_over : (who row : ℕ) (v : JobView) (a b : Floor) → LookAnswer who row a b (Some v) → (is_ended v.state ≡ false → v.first_child ≡ None) → AtStep a b (λ tree. HasNoneBelow (tree row))
+walk_step_over who row v a b k f = let m = k.1 in record { moment = m.moment; after = m.after; before = m.before; holds = none_seen (replay m.moment row) v m.holds f }
 
 -- what a link says
 pub link_is : (tree : Tree) (r : ℕ) (x : Option Job) (l : Link) → link_of tree r x ≡ Some l → (parent_of x ≡ Some l.parent) × (older_sibling tree r ≡ l.next)
@@ -151,8 +151,8 @@ link_is tree r (Some j) l e = by_parent j.parent e
         let k : record { parent = p; next = older_sibling tree r; tag = j.tag } ≡ l = cc in
         (ap (λ (u : Link). Some u.parent) k, ap (λ (u : Link). u.next) k)
 
-pub turn_next : (who row c : ℕ) (l : Link) (a b : Floor) → LinkAnswer who row a b l → l.next ≡ Some c → AtStep a b (λ tree. older_sibling tree row ≡ Some c)
-turn_next who row c l a b k e = let m = k.1 in record { moment = m.moment; after = m.after; before = m.before; holds = (link_is (replay m.moment) row (replay m.moment row) l m.holds).1 ∙ e }
+pub walk_step_next : (who row c : ℕ) (l : Link) (a b : Floor) → LinkAnswer who row a b l → l.next ≡ Some c → AtStep a b (λ tree. older_sibling tree row ≡ Some c)
+walk_step_next who row c l a b k e = let m = k.1 in record { moment = m.moment; after = m.after; before = m.before; holds = (link_is (replay m.moment) row (replay m.moment row) l m.holds).1 ∙ e }
 
-pub turn_up : (who row : ℕ) (l : Link) (a b : Floor) → LinkAnswer who row a b l → l.next ≡ None → AtStep a b (λ tree. (parent_of (tree row) ≡ Some l.parent) × (older_sibling tree row ≡ None))
-turn_up who row l a b k e = let m = k.1 in let i = link_is (replay m.moment) row (replay m.moment row) l m.holds in record { moment = m.moment; after = m.after; before = m.before; holds = (i.0, i.1 ∙ e) }
+pub walk_step_up : (who row : ℕ) (l : Link) (a b : Floor) → LinkAnswer who row a b l → l.next ≡ None → AtStep a b (λ tree. (parent_of (tree row) ≡ Some l.parent) × (older_sibling tree row ≡ None))
+walk_step_up who row l a b k e = let m = k.1 in let i = link_is (replay m.moment) row (replay m.moment row) l m.holds in record { moment = m.moment; after = m.after; before = m.before; holds = (i.0, i.1 ∙ e) }

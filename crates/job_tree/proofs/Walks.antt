@@ -1,8 +1,9 @@
--- The walk of a pass, turn by turn.
+-- The walk of a pass, step by step.
 use Rattle.std.specs.Prelude.{◌≡◌, ◌≢◌, ℕ, ◌+◌, ◌*◌, ◌-◌, ◌==◌, ◌≤◌, ◌<◌, Bool, true, false, List, [], ◌∷◌, ◌++◌, length, Option, Some, None, is_some, refl}
 use mathlib.Core.List.{IsPrefix}
 use Rattle.std.proofs.Common.{sym, ap, ◌∙◌, subst, arith, length-append}
-use Rattle.std.proofs.lemmas.Bool.{eq-eqb}
+use Rattle.std.specs.Int.{from_bool}
+use Rattle.std.proofs.lemmas.Bool.{eq-eqb, eqb-true}
 use Rattle.job_model.specs.declared.acts.Reason.{Reason}
 use Rattle.job_model.specs.declared.acts.Reason.TheVariants as reasons
 use Rattle.job_model.specs.declared.acts.JobAct.{JobAct}
@@ -21,10 +22,10 @@ use Rattle.job_model.proofs.Below.{cancelling_lasts, below_kept}
 use Rattle.note_book.specs.declared.book.Item.{Item}
 use Rattle.job_tree.specs.Notes.{Noted}
 use Rattle.job_tree.specs.Rooms.{uncancelled}
-use Rattle.job_tree.specs.Passes.{IsNewestOf, HasNoneBelow, IsPassBelow, IsPass, CancelledAnswer, TurnAnswer, IsPartBelow, IsPartOfPass}
+use Rattle.job_tree.specs.Passes.{IsNewestOf, HasNoneBelow, IsPassBelow, IsPass, CancelledJob, WalkStepAnswer, IsPartBelow, IsPartOfPass, IsCovered, covers}
 use Rattle.job_model.specs.Cancels.{IsAllCancelled, AreCancelsBelow, own_cancel}
 use Rattle.job_tree.specs.declared.caller.Reserve.TheVariants.{Before, AsItGoes}
-use Rattle.job_tree.specs.declared.steps.Turn.TheVariants.{To, Over, Up}
+use Rattle.job_tree.specs.declared.steps.WalkStep.TheVariants.{To, Over, Up}
 use Rattle.job_model.proofs.Covered.{prefix_keeps_all}
 use Rattle.job_tree.proofs.Causes.{failure_later}
 use Rattle.job_model.proofs.Ranks.{ranks, top_rank, are_ranks, ranks_stay}
@@ -157,13 +158,20 @@ next_over shape xs m ys top at c s l p q h apart o =
     more : {a c : ℕ} (b w p v : ℕ) → b + w ≡ a → b ≡ p + w → c ≡ p + v → 3 * w ≤ v → 1 ≤ w → a < c
     more {a} {c} b w p v e f g i j = omega arith
 
--- once it is cancelled the walk stands there
-pub next_walk : (shape : Shape) (xs ys zs : List JobEntry) (top at : ℕ) (done : Bool) (c : ℕ) → Legal shape zs → IsPrefix ys zs → IsNext shape xs ys top at done c → IsCancellingOrEnded (replay zs c) → IsWalk shape zs top c false × (walked shape xs at done < walked shape zs c false)
-next_walk shape xs ys zs top at done c l p h i =
-    (record { attached = prefix_keeps _ attached_lasts shape ys zs c l p h.attached; way = way_kept shape ys zs top c l p h.way; cancelled = i; all = λ e. absurd (let u : false ≡ true = e in cc) }, more h.further (same_walked shape ys zs c false l p h.attached))
+-- once it is cancelled the walk stands there, or past it where all below it was passed
+pub next_walk : (shape : Shape) (xs ys zs : List JobEntry) (top at : ℕ) (done : Bool) (c : ℕ) (over : Bool) → Legal shape zs → IsPrefix ys zs → IsNext shape xs ys top at done c → IsCancellingOrEnded (replay zs c) → (over ≡ true → IsAllCancelled (replay zs) c) → IsWalk shape zs top c over × (walked shape xs at done < walked shape zs c over)
+next_walk shape xs ys zs top at done c over l p h i all =
+    (record { attached = prefix_keeps _ attached_lasts shape ys zs c l p h.attached; way = way_kept shape ys zs top c l p h.way; cancelled = i; all = all }, more over h.further (same_walked shape ys zs c false l p h.attached))
   where
-    more : {x y z : ℕ} → x < y → z ≡ y → x < z
-    more {x} {y} {z} f e = omega arith
+    more : (over : Bool) {x y : ℕ} → x < y → walked shape zs c false ≡ y → x < walked shape zs c over
+    more true {x} {y} f e = past ((ranks shape zs).weight c) f e
+      where
+        past : {x y z : ℕ} (w : ℕ) → x < y → z ≡ y → x < z + w
+        past {x} {y} {z} w f e = omega arith
+    more false {x} {y} f e = there f e
+      where
+        there : {x y z : ℕ} → x < y → z ≡ y → x < z
+        there {x} {y} {z} f e = omega arith
 
 -- ---- on the same row, and up
 
@@ -199,19 +207,19 @@ up_walk shape xs m ys top at p s l pre q h apart e o =
     more : {a z : ℕ} (b w r v : ℕ) → b + w ≡ a → b ≡ r + w → 3 * w ≤ v → 1 ≤ w → z ≡ r + v → a < z
     more {a} {z} b w r v e f g i j = omega arith
 
--- ---- a turn
+-- ---- one step
 
-pub turn_to : (shape : Shape) (a b : Floor) (top at : ℕ) (done : Bool) (c : ℕ) → IsShape shape → Legal shape b.seen → IsWalk shape a.seen top at done → (done ≡ true → (at == top) ≡ false) → TurnAnswer at done a b (To c) → IsNext shape a.seen b.seen top at done c
-turn_to shape a b top at true c s l h apart t = next_over shape a.seen t.moment b.seen top at c s l t.after t.before h (apart refl) t.holds
-turn_to shape a b top at false c s l h apart t = next_down shape a.seen t.moment b.seen top at c s l t.after t.before h t.holds
+pub walk_step_to : (shape : Shape) (a b : Floor) (top at : ℕ) (done : Bool) (c : ℕ) → IsShape shape → Legal shape b.seen → IsWalk shape a.seen top at done → (done ≡ true → (at == top) ≡ false) → WalkStepAnswer at done a b (To c) → IsNext shape a.seen b.seen top at done c
+walk_step_to shape a b top at true c s l h apart t = next_over shape a.seen t.moment b.seen top at c s l t.after t.before h (apart refl) t.holds
+walk_step_to shape a b top at false c s l h apart t = next_down shape a.seen t.moment b.seen top at c s l t.after t.before h t.holds
 
-pub turn_over : (shape : Shape) (a b : Floor) (top at : ℕ) (done : Bool) → IsShape shape → Legal shape b.seen → IsWalk shape a.seen top at done → TurnAnswer at done a b Over → IsWalk shape b.seen top at true × (walked shape a.seen at done < walked shape b.seen at true)
-turn_over shape a b top at true s l h t = absurd t
-turn_over shape a b top at false s l h t = over_walk shape a.seen t.moment b.seen top at s l t.after t.before h t.holds
+pub walk_step_over : (shape : Shape) (a b : Floor) (top at : ℕ) (done : Bool) → IsShape shape → Legal shape b.seen → IsWalk shape a.seen top at done → WalkStepAnswer at done a b Over → IsWalk shape b.seen top at true × (walked shape a.seen at done < walked shape b.seen at true)
+walk_step_over shape a b top at true s l h t = absurd t
+walk_step_over shape a b top at false s l h t = over_walk shape a.seen t.moment b.seen top at s l t.after t.before h t.holds
 
-pub turn_up : (shape : Shape) (a b : Floor) (top at : ℕ) (done : Bool) (p : ℕ) → IsShape shape → Legal shape b.seen → IsWalk shape a.seen top at done → (done ≡ true → (at == top) ≡ false) → TurnAnswer at done a b (Up p) → IsWalk shape b.seen top p true × (walked shape a.seen at done < walked shape b.seen p true)
-turn_up shape a b top at true p s l h apart t = up_walk shape a.seen t.moment b.seen top at p s l t.after t.before h (apart refl) t.holds.0 t.holds.1
-turn_up shape a b top at false p s l h apart t = absurd t
+pub walk_step_up : (shape : Shape) (a b : Floor) (top at : ℕ) (done : Bool) (p : ℕ) → IsShape shape → Legal shape b.seen → IsWalk shape a.seen top at done → (done ≡ true → (at == top) ≡ false) → WalkStepAnswer at done a b (Up p) → IsWalk shape b.seen top p true × (walked shape a.seen at done < walked shape b.seen p true)
+walk_step_up shape a b top at true p s l h apart t = up_walk shape a.seen t.moment b.seen top at p s l t.after t.before h (apart refl) t.holds.0 t.holds.1
+walk_step_up shape a b top at false p s l h apart t = absurd t
 
 -- what is left of the walk
 abbrev pub left : Shape → List JobEntry → ℕ → Bool → ℕ
@@ -258,7 +266,12 @@ own_below : (tree : Tree) (top row : ℕ) (now : Bool) → IsBelow tree top row 
 own_below tree top row true b = ((refl, b), tt)
 own_below tree top row false b = tt
 
-pub so_far_cancelled : (who top row : ℕ) (now : Bool) (a b c : Floor) (i j k : List Item) (count next : ℕ) → Legal c.shape c.seen → IsBelow (replay b.seen) top row → next ≡ count + length (own_cancel now row reasons.Parent) → IsPassSoFar who top a b i j count → CancelledAnswer who row reasons.Parent b c j k now → IsPassSoFar who top a c i k next
+-- the Cancel of one row counts one, where it was made
+pub count_newly : (newly : Bool) (row : ℕ) (reason : Reason) → from_bool newly ≡ length (own_cancel newly row reason)
+count_newly true row reason = refl
+count_newly false row reason = refl
+
+pub so_far_cancelled : (who top row : ℕ) (now : Bool) (a b c : Floor) (i j k : List Item) (count next : ℕ) → Legal c.shape c.seen → IsBelow (replay b.seen) top row → next ≡ count + length (own_cancel now row reasons.Parent) → IsPassSoFar who top a b i j count → CancelledJob who row reasons.Parent b c j k now → IsPassSoFar who top a c i k next
 so_far_cancelled who top row now a b c i j k count next l below e h m =
     let own = own_cancel now row reasons.Parent in
     let f = m.fewer in
@@ -274,15 +287,15 @@ so_far_cancelled who top row now a b c i j k count next l below e h m =
 pub so_far_small : (who top : ℕ) (a b : Floor) (i j : List Item) (count : ℕ) → IsPassSoFar who top a b i j count → count ≤ a.shape.rows
 so_far_small who top a b i j count h = let f = h.fewer in let g = uncancelled_rows a in omega arith
 
--- ---- what a turn comes to
+-- ---- what a step comes to
 
 -- the history is legal for the numbers of rows at the start
 pub legal_as : (a b : Floor) → SameSetting a b → Legal b.shape b.seen → Legal a.shape b.seen
 legal_as a b same l = subst (λ (s : Shape). Legal s b.seen) same.shape l
 
-pub to_next : (who who' top at next : ℕ) (done : Bool) (a b c : Floor) (i j : List Item) (count : ℕ) → IsShape a.shape → Legal c.shape c.seen → IsPassSoFar who top a b i j count → IsWalk a.shape b.seen top at done → (done ≡ true → (at == top) ≡ false) → Looked who' [] b c → TurnAnswer at done b c (To next) → IsNext a.shape b.seen c.seen top at done next
+pub to_next : (who who' top at next : ℕ) (done : Bool) (a b c : Floor) (i j : List Item) (count : ℕ) → IsShape a.shape → Legal c.shape c.seen → IsPassSoFar who top a b i j count → IsWalk a.shape b.seen top at done → (done ≡ true → (at == top) ≡ false) → Looked who' [] b c → WalkStepAnswer at done b c (To next) → IsNext a.shape b.seen c.seen top at done next
 to_next who who' top at next done a b c i j count s l h w apart k t =
-    turn_to a.shape b c top at done next s (legal_as a c (setting_then a b c h.noted.added.same k.same) l) w apart t
+    walk_step_to a.shape b c top at done next s (legal_as a c (setting_then a b c h.noted.added.same k.same) l) w apart t
 
 pub may_next : (who who' row next : ℕ) (a c : Floor) → who' ≡ who → MayCall who row a → SameSetting a c → is_some (replay c.seen next) ≡ true → MayCall who' next c
 may_next who who' row next a c e m same h = record { caller = ap (λ (f : ℕ → Bool). f who') same.callers ∙ ap a.callers e ∙ m.caller; attached = h }
@@ -295,40 +308,41 @@ pub record IsAfter (who top at : ℕ) (done : Bool) (a b d : Floor) (items items
 looked_by : (who who' : ℕ) (b c : Floor) → who' ≡ who → Looked who' [] b c → Looked who [] b c
 looked_by who who' b c e k = subst (λ n. Looked n [] b c) e k
 
-pub after_to : (who who' who'' top at next : ℕ) (done now : Bool) (a b c d : Floor) (i j j' k : List Item) (count count' : ℕ) → who' ≡ who → who'' ≡ who → j' ≡ j → count' ≡ count + length (own_cancel now next reasons.Parent) → IsShape a.shape → Legal c.shape c.seen → Legal d.shape d.seen
-    → IsPassSoFar who top a b i j count → IsWalk a.shape b.seen top at done → (done ≡ true → (at == top) ≡ false) → Looked who' [] b c → TurnAnswer at done b c (To next) → CancelledAnswer who'' next reasons.Parent c d j' k now → IsAfter who top at done a b d i k next false count'
-after_to who who' who'' top at next done now a b c d i j j' k count count' e e' f n s lc ld h w apart look t m =
+-- the covered row is still so
+pub covered_kept : (shape : Shape) (xs ys : List JobEntry) (covered : Option ℕ) → Legal shape ys → IsPrefix xs ys → IsCovered (replay xs) covered → IsCovered (replay ys) covered
+covered_kept shape xs ys None l p h = h
+covered_kept shape xs ys (Some c) l p h = prefix_keeps_all shape xs ys c l p h
+
+covered_all : (tree : Tree) (covered : Option ℕ) (row : ℕ) → IsCovered tree covered → covers covered row ≡ true → IsAllCancelled tree row
+covered_all tree None row h e = cc
+covered_all tree (Some c) row h e = subst (IsAllCancelled tree) (eqb-true c row e) h
+
+pub after_to : (who who' who'' top at next : ℕ) (covered : Option ℕ) (done now over : Bool) (a b c d : Floor) (i j j' k : List Item) (count count' : ℕ) → who' ≡ who → who'' ≡ who → j' ≡ j → count' ≡ count + from_bool now → over ≡ covers covered next → IsCovered (replay a.seen) covered → IsShape a.shape → Legal c.shape c.seen → Legal d.shape d.seen
+    → IsPassSoFar who top a b i j count → IsWalk a.shape b.seen top at done → (done ≡ true → (at == top) ≡ false) → Looked who' [] b c → WalkStepAnswer at done b c (To next) → CancelledJob who'' next reasons.Parent c d j' k now → IsAfter who top at done a b d i k next over count'
+after_to who who' who'' top at next covered done now over a b c d i j j' k count count' e e' f n is passed s lc ld h w apart look t m =
     let next_is = to_next who who' top at next done a b c i j count s lc h w apart look t in
     let far = so_far_looked who top a b c i j j' count lc f h (looked_by who who' b c e look) in
-    let m' : CancelledAnswer who next reasons.Parent c d j' k now = subst (λ x. CancelledAnswer x next reasons.Parent c d j' k now) e' m in
-    let far' = so_far_cancelled who top next now a c d i j' k count count' ld next_is.below n far m' in
+    let m' : CancelledJob who next reasons.Parent c d j' k now = subst (λ x. CancelledJob x next reasons.Parent c d j' k now) e' m in
+    let far' = so_far_cancelled who top next now a c d i j' k count count' ld next_is.below (n ∙ ap (λ x. count + x) (count_newly now next reasons.Parent)) far m' in
     let la = legal_as a d far'.noted.added.same ld in
-    let r = next_walk a.shape b.seen c.seen d.seen top at done next la m.noted.added.longer next_is m.cancelled in
-    record { walk = r.0; less = less_left a.shape b.seen d.seen top at next done false s la r.0 r.1; so_far = far' }
-
--- there is room for one more in the count
-pub count_less_rows : (who who' who'' top next : ℕ) (a b c d : Floor) (i j j' k : List Item) (count : ℕ) → who' ≡ who → Legal c.shape c.seen → j' ≡ j → IsPassSoFar who top a b i j count → Looked who' [] b c → CancelledAnswer who'' next reasons.Parent c d j' k true → count < a.shape.rows
-count_less_rows who who' who'' top next a b c d i j j' k count e l f h look m =
-    let far = so_far_looked who top a b c i j j' count l f h (looked_by who who' b c e look) in
-    let x = far.fewer in
-    let y = m.fewer in
-    let z = uncancelled_rows a in
-    omega arith
+    let kept = covered_kept a.shape a.seen d.seen covered la far'.noted.added.longer passed in
+    let r = next_walk a.shape b.seen c.seen d.seen top at done next over la m.noted.added.longer next_is m.cancelled (λ o. covered_all (replay d.seen) covered next kept (sym is ∙ o)) in
+    record { walk = r.0; less = less_left a.shape b.seen d.seen top at next done over s la r.0 r.1; so_far = far' }
 
 pub after_over : (who who' top at : ℕ) (done : Bool) (a b c : Floor) (i j j' : List Item) (count : ℕ) → who' ≡ who → j' ≡ j → IsShape a.shape → Legal c.shape c.seen
-    → IsPassSoFar who top a b i j count → IsWalk a.shape b.seen top at done → Looked who' [] b c → TurnAnswer at done b c Over → IsAfter who top at done a b c i j' at true count
+    → IsPassSoFar who top a b i j count → IsWalk a.shape b.seen top at done → Looked who' [] b c → WalkStepAnswer at done b c Over → IsAfter who top at done a b c i j' at true count
 after_over who who' top at done a b c i j j' count e f s l h w look t =
     let far = so_far_looked who top a b c i j j' count l f h (looked_by who who' b c e look) in
     let la = legal_as a c far.noted.added.same l in
-    let r = turn_over a.shape b c top at done s la w t in
+    let r = walk_step_over a.shape b c top at done s la w t in
     record { walk = r.0; less = less_left a.shape b.seen c.seen top at at done true s la r.0 r.1; so_far = far }
 
 pub after_up : (who who' top at p : ℕ) (done : Bool) (a b c : Floor) (i j j' : List Item) (count : ℕ) → who' ≡ who → j' ≡ j → IsShape a.shape → Legal c.shape c.seen
-    → IsPassSoFar who top a b i j count → IsWalk a.shape b.seen top at done → (done ≡ true → (at == top) ≡ false) → Looked who' [] b c → TurnAnswer at done b c (Up p) → IsAfter who top at done a b c i j' p done count
+    → IsPassSoFar who top a b i j count → IsWalk a.shape b.seen top at done → (done ≡ true → (at == top) ≡ false) → Looked who' [] b c → WalkStepAnswer at done b c (Up p) → IsAfter who top at done a b c i j' p done count
 after_up who who' top at p true a b c i j j' count e f s l h w apart look t =
     let far = so_far_looked who top a b c i j j' count l f h (looked_by who who' b c e look) in
     let la = legal_as a c far.noted.added.same l in
-    let r = turn_up a.shape b c top at true p s la w apart t in
+    let r = walk_step_up a.shape b c top at true p s la w apart t in
     record { walk = r.0; less = less_left a.shape b.seen c.seen top at p true true s la r.0 r.1; so_far = far }
 after_up who who' top at p false a b c i j j' count e f s l h w apart look t = absurd t
 
@@ -351,7 +365,7 @@ pub part_none : (who row : ℕ) (reason : Reason) (a b : Floor) (i j : List Item
 part_none who row reason a b i j h = record { newly = false; below = []; noted = h; cancels = tt }
 
 -- nor for one below it
-pub part_passed : (who who' row : ℕ) (reason : Reason) (newly : Bool) (a b c : Floor) (i j k : List Item) → who' ≡ who → CancelledAnswer who row reason a b i j newly → IsPartBelow who' row b c j k → IsPartOfPass who row reason a c i k
+pub part_passed : (who who' row : ℕ) (reason : Reason) (newly : Bool) (a b c : Floor) (i j k : List Item) → who' ≡ who → CancelledJob who row reason a b i j newly → IsPartBelow who' row b c j k → IsPartOfPass who row reason a c i k
 part_passed who who' row reason newly a b c i j k e h m = record {
   newly = newly;
   below = m.acts;
@@ -359,16 +373,8 @@ part_passed who who' row reason newly a b c i j k e h m = record {
   cancels = m.cancels;
 }
 
-pub count_newly : (newly : Bool) (row : ℕ) (reason : Reason) (n : ℕ) → newly ≡ true → n + 1 ≡ n + length (own_cancel newly row reason)
-count_newly true row reason n e = omega arith
-count_newly false row reason n e = cc
-
-pub count_same : (newly : Bool) (row : ℕ) (reason : Reason) (n : ℕ) → newly ≡ false → n ≡ n + length (own_cancel newly row reason)
-count_same true row reason n e = cc
-count_same false row reason n e = omega arith
-
 -- a pass is the Cancel of its row, where it was made, and a pass below it
-pub passed : (who who' row : ℕ) (reason : Reason) (newly : Bool) (a b c : Floor) (i j k : List Item) (count next : ℕ) → who' ≡ who → next ≡ length (own_cancel newly row reason) + count → Legal c.shape c.seen → CancelledAnswer who row reason a b i j newly → IsPassBelow who' row b c j k count → IsPass who row reason newly a c i k next
+pub passed : (who who' row : ℕ) (reason : Reason) (newly : Bool) (a b c : Floor) (i j k : List Item) (count next : ℕ) → who' ≡ who → next ≡ count + from_bool newly → Legal c.shape c.seen → CancelledJob who row reason a b i j newly → IsPassBelow who' row b c j k count → IsPass who row reason newly a c i k next
 passed who who' row reason newly a b c i j k count next e n l h m =
     let own = own_cancel newly row reason in
     let noted = noted_then who own m.acts a b c i j k h.noted (subst (λ x. Noted x m.acts b c j k) e m.noted) in
@@ -376,19 +382,14 @@ passed who who' row reason newly a b c i j k count next e n l h m =
       told = pass_told row reason newly m.acts;
       group = record { below = m.acts; all = refl };
       noted = pass_tells who row reason newly m.acts a c i k noted m.cancels m.all;
-      counted = n ∙ ap (λ x. length own + x) m.counted ∙ sym (length-append own m.acts) ∙ sym (pass_count row reason newly m.acts);
+      counted = sums n (count_newly newly row reason) m.counted ∙ sym (length-append own m.acts) ∙ sym (pass_count row reason newly m.acts);
       cancels = m.cancels;
       all = m.all;
       failed = λ f g. failure_later c.shape b.seen c.seen row l m.noted.added.longer (h.failed f g);
     }
-
-pub one_newly : (newly : Bool) (row : ℕ) (reason : Reason) (n : ℕ) → newly ≡ true → n + 1 ≡ length (own_cancel newly row reason) + n
-one_newly true row reason n e = omega arith
-one_newly false row reason n e = cc
-
-pub none_newly : (newly : Bool) (row : ℕ) (reason : Reason) (n : ℕ) → newly ≡ false → n ≡ length (own_cancel newly row reason) + n
-none_newly true row reason n e = cc
-none_newly false row reason n e = omega arith
+  where
+    sums : {count next x y b : ℕ} → next ≡ count + b → b ≡ x → count ≡ y → next ≡ x + y
+    sums {count} {next} {x} {y} {b} e f g = omega arith
 
 -- where room was made before, memory is never wanting
 pub never_wanting : Before ≡ AsItGoes → ⊥

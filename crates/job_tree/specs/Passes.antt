@@ -1,12 +1,12 @@
 -- Passes: a Job is cancelled with all below it.
-use Rattle.std.specs.Prelude.{◌≡◌, ℕ, ◌+◌, ◌<◌, ◌≤◌, Bool, true, false, List, [], ◌++◌, length, Option, Some, None, Result, Ok, Err}
+use Rattle.std.specs.Prelude.{◌≡◌, ℕ, ◌+◌, ◌==◌, ◌<◌, ◌≤◌, Bool, true, false, List, [], ◌++◌, length, Option, Some, None, Result, Ok, Err}
 use Rattle.std.specs.List.{list_all}
 use Rattle.co_base.specs.declared.names.Memory.{Memory}
 use Rattle.job_model.specs.declared.acts.JobAct.{JobAct}
 use Rattle.job_model.specs.declared.acts.JobAct.TheVariants.{Attach, Start, EndBody, Cancel, Finish, Gone}
 use Rattle.job_model.specs.declared.acts.Reason.{Reason}
 use Rattle.job_model.specs.declared.acts.Reason.TheVariants as reasons
-use Rattle.job_model.specs.Trees.{Job, parent_of, is_ended, is_failure}
+use Rattle.job_model.specs.Trees.{Job, Tree, parent_of, is_ended, is_failure}
 use Rattle.job_model.specs.Families.{IsCancellingOrEnded, newest, older_sibling}
 use Rattle.job_model.specs.Cancels.{IsAllCancelled, own_cancel, AreCancelsBelow}
 use Rattle.job_model.specs.Histories.{replay}
@@ -20,8 +20,8 @@ use Rattle.job_tree.specs.Rooms.{uncancelled}
 use Rattle.job_tree.specs.declared.caller.Reserve.{Reserve}
 use Rattle.job_tree.specs.declared.caller.Reserve.TheVariants.{AsItGoes}
 use Rattle.job_tree.specs.declared.passes.Passed.{Passed}
-use Rattle.job_tree.specs.declared.steps.Turn.{Turn}
-use Rattle.job_tree.specs.declared.steps.Turn.TheVariants.{To, Over, Up}
+use Rattle.job_tree.specs.declared.steps.WalkStep.{WalkStep}
+use Rattle.job_tree.specs.declared.steps.WalkStep.TheVariants.{To, Over, Up}
 
 -- a Cancel for this reason makes the cause a failure
 abbrev pub is_for_failure : Reason → Bool
@@ -38,7 +38,7 @@ IsFailure (Some j) = is_failure j.cause ≡ true
 -- ---- answers
 
 -- whether the Cancel of one Job was made; in the end the Job is Cancelling or ended
-pub record CancelledAnswer (who row : ℕ) (reason : Reason) (old new : Floor) (items items' : List Item) (now : Bool) : Type 0 where
+pub record CancelledJob (who row : ℕ) (reason : Reason) (old new : Floor) (items items' : List Item) (now : Bool) : Type 0 where
   pub noted : Noted who (own_cancel now row reason) old new items items'
   pub fewer : length (own_cancel now row reason) + uncancelled new ≤ uncancelled old
   pub cancelled : IsCancellingOrEnded (replay new.seen row)
@@ -46,7 +46,7 @@ pub record CancelledAnswer (who row : ℕ) (reason : Reason) (old new : Floor) (
 
 -- the Cancel of one Job; without memory nothing was cancelled
 abbrev pub CancelAnswer : ℕ → ℕ → Reason → Reserve → Floor → Floor → List Item → List Item → Result Bool Memory → Type 0
-CancelAnswer who row reason reserve old new items items' (Ok now) = CancelledAnswer who row reason old new items items' now
+CancelAnswer who row reason reserve old new items items' (Ok now) = CancelledJob who row reason old new items items' now
 CancelAnswer who row reason reserve old new items items' (Err m) = (reserve ≡ AsItGoes) × Noted who [] old new items items'
 
 -- the Jobs below the row were cancelled, so many by this call, and are all Cancelling or ended
@@ -97,6 +97,16 @@ PassAnswer who row reason reserve old new items items' (Ok passed) =
     IsPass who row reason passed.newly old new items items' passed.count
 PassAnswer who row reason reserve old new items items' (Err m) = (reserve ≡ AsItGoes) × IsPartOfPass who row reason old new items items'
 
+-- the covered row and all below it are Cancelling or ended
+abbrev pub IsCovered : Tree → Option ℕ → Type 0
+IsCovered tree None = Unit {0}
+IsCovered tree (Some c) = IsAllCancelled tree c
+
+-- whether this is the covered row
+abbrev pub covers : Option ℕ → ℕ → Bool
+covers None row = false
+covers (Some c) row = c == row
+
 -- ---- Cancels
 
 abbrev pub is_cancel : JobAct → Bool
@@ -126,10 +136,10 @@ HasNoneBelow None = ⊥
 HasNoneBelow (Some j) = is_ended j.state ≡ false → j.children ≡ []
 
 -- to the newest child, or where all below the row was passed, to the child that is next in age; up from the oldest
-abbrev pub TurnAnswer : ℕ → Bool → Floor → Floor → Turn → Type 0
-TurnAnswer at false old new (To c) = AtStep old new (λ tree. IsNewestOf c (tree at))
-TurnAnswer at true old new (To c) = AtStep old new (λ tree. older_sibling tree at ≡ Some c)
-TurnAnswer at false old new Over = AtStep old new (λ tree. HasNoneBelow (tree at))
-TurnAnswer at true old new Over = ⊥
-TurnAnswer at false old new (Up p) = ⊥
-TurnAnswer at true old new (Up p) = AtStep old new (λ tree. (parent_of (tree at) ≡ Some p) × (older_sibling tree at ≡ None))
+abbrev pub WalkStepAnswer : ℕ → Bool → Floor → Floor → WalkStep → Type 0
+WalkStepAnswer at false old new (To c) = AtStep old new (λ tree. IsNewestOf c (tree at))
+WalkStepAnswer at true old new (To c) = AtStep old new (λ tree. older_sibling tree at ≡ Some c)
+WalkStepAnswer at false old new Over = AtStep old new (λ tree. HasNoneBelow (tree at))
+WalkStepAnswer at true old new Over = ⊥
+WalkStepAnswer at false old new (Up p) = ⊥
+WalkStepAnswer at true old new (Up p) = AtStep old new (λ tree. (parent_of (tree at) ≡ Some p) × (older_sibling tree at ≡ None))

@@ -66,6 +66,7 @@ impl<F: JobFloor, B: NoteBook, W: Wakes> JobCaller<'_, '_, '_, F, B, W> {
     }
 
     /// As `fail_up`. Memory, which comes only where room is made as it goes: the Cancels made so far stand and are noted.
+    /// Each pass leaves out what the one before it walked, so that a chain costs in step with its length.
     pub fn climb(&mut self, row: Row, reserve: Reserve) -> Result<(), Memory>
         requires can { MayCall self.old.who row (F.view self.old.floor.now) }
         requires failed { IsFailure (replay (F.view self.old.floor.now).seen row) }
@@ -80,13 +81,15 @@ impl<F: JobFloor, B: NoteBook, W: Wakes> JobCaller<'_, '_, '_, F, B, W> {
         ensures room { reserve ≡ Before → MayCancelAll (F.view self.new.floor.now) (B.spare self.new.book.now) }
     {
         let mut at = row;
+        let mut covered = None;
         while let Some(parent) = self.failing_parent(at) {
-            match self.pass(parent, Reason::Child(at), reserve) {
+            match self.pass_except(parent, Reason::Child(at), covered, reserve) {
                 Ok(passed) => {
                     if !passed.newly {
                         return Ok(());
                     }
                     at = parent;
+                    covered = Some(parent);
                 }
                 Err(memory) => return Err(memory),
             }

@@ -6,11 +6,11 @@ ghost use Rattle.job_model.specs.Histories.{replay};
 ghost use Rattle.job_model.specs.Families.{IsCancellingOrEnded};
 ghost use Rattle.job_model.specs.Floors.{MayCall};
 ghost use Rattle.job_tree.specs.Rooms.{MayCancelAll};
-ghost use Rattle.job_tree.specs.Passes.{BelowAnswer, PassAnswer, IsSomePass};
+ghost use Rattle.job_tree.specs.Passes.{BelowAnswer, PassAnswer, IsSomePass, IsCovered, covers};
 ghost use Rattle.job_tree.specs.declared.caller.Reserve.TheVariants.{Before};
 
 use crate::caller::{JobCaller, Reserve};
-use crate::steps::Turn;
+use crate::steps::WalkStep;
 use co_base::{Memory, Row, Wakes};
 use job_model::{JobFloor, Reason};
 use note_book::NoteBook;
@@ -23,11 +23,28 @@ pub struct Passed {
     pub newly: bool,
 }
 
+/// Whether this is the covered row.
+fn is_covered(covered: Option<Row>, row: Row) -> bool
+    ensures { result ≡ covers covered row }
+{
+    match covered {
+        Some(passed) => passed == row,
+        None => false,
+    }
+}
+
 impl<F: JobFloor, B: NoteBook, W: Wakes> JobCaller<'_, '_, '_, F, B, W> {
-    /// Cancels all below a Job that is Cancelling or ended, and answers how many it cancelled.
-    fn cancel_below(&mut self, row: Row, reserve: Reserve) -> Result<u32, Memory>
+    /// Cancels all below a Job that is Cancelling or ended, and answers how many it cancelled. All below the covered row
+    /// was passed before, so it does not walk there.
+    fn cancel_below(
+        &mut self,
+        row: Row,
+        covered: Option<Row>,
+        reserve: Reserve,
+    ) -> Result<u32, Memory>
         requires can { MayCall self.old.who row (F.view self.old.floor.now) }
         requires cancelled { IsCancellingOrEnded (replay (F.view self.old.floor.now).seen row) }
+        requires covered { IsCovered (replay (F.view self.old.floor.now).seen) covered }
         requires room { reserve ≡ Before → MayCancelAll (F.view self.old.floor.now) (B.spare self.old.book.now) }
         ensures same_floor { self.new.floor.ghost_name ≡ self.old.floor.ghost_name }
         ensures same_book { self.new.book.ghost_name ≡ self.old.book.ghost_name }
@@ -43,22 +60,20 @@ impl<F: JobFloor, B: NoteBook, W: Wakes> JobCaller<'_, '_, '_, F, B, W> {
         let mut at = row;
         let mut done = false;
         while !(done && at == row) {
-            match self.turn(at, done) {
-                Turn::To(next) => match self.cancel_job(next, Reason::Parent, reserve) {
+            match self.walk_step(at, done) {
+                WalkStep::To(next) => match self.cancel_job(next, Reason::Parent, reserve) {
                     Ok(is_newly) => {
-                        if is_newly {
-                            prove!(count < most);
-                            count += 1;
-                        }
+                        count += u32::from(is_newly);
                         at = next;
-                        done = false;
+                        done = is_covered(covered, next);
                     }
                     Err(memory) => return Err(memory),
                 },
-                Turn::Over => done = true,
-                Turn::Up(parent) => at = parent,
+                WalkStep::Over => done = true,
+                WalkStep::Up(parent) => at = parent,
             }
         }
+        prove!(count <= most);
         Ok(count)
     }
 
@@ -98,10 +113,34 @@ impl<F: JobFloor, B: NoteBook, W: Wakes> JobCaller<'_, '_, '_, F, B, W> {
             (B.items self.old.book.now) (B.items self.new.book.now) result }
         ensures room { reserve ≡ Before → MayCancelAll (F.view self.new.floor.now) (B.spare self.new.book.now) }
     {
+        self.pass_except(row, reason, None, reserve)
+    }
+
+    /// As `pass`, but does not walk below the covered row, since all there was passed before.
+    pub(crate) fn pass_except(
+        &mut self,
+        row: Row,
+        reason: Reason,
+        covered: Option<Row>,
+        reserve: Reserve,
+    ) -> Result<Passed, Memory>
+        requires can { MayCall self.old.who row (F.view self.old.floor.now) }
+        requires reason { Holds (F.view self.old.floor.now).shape (replay (F.view self.old.floor.now).seen) self.old.who row reason }
+        requires covered { IsCovered (replay (F.view self.old.floor.now).seen) covered }
+        requires room { reserve ≡ Before → MayCancelAll (F.view self.old.floor.now) (B.spare self.old.book.now) }
+        ensures same_floor { self.new.floor.ghost_name ≡ self.old.floor.ghost_name }
+        ensures same_book { self.new.book.ghost_name ≡ self.old.book.ghost_name }
+        ensures same_wakes { self.new.wakes.ghost_name ≡ self.old.wakes.ghost_name }
+        ensures who { self.new.who ≡ self.old.who }
+        ensures anchor { F.anchor self.new.floor.now ≡ F.anchor self.old.floor.now }
+        ensures answer { PassAnswer self.old.who row reason reserve (F.view self.old.floor.now) (F.view self.new.floor.now)
+            (B.items self.old.book.now) (B.items self.new.book.now) result }
+        ensures room { reserve ≡ Before → MayCancelAll (F.view self.new.floor.now) (B.spare self.new.book.now) }
+    {
         match self.cancel_job(row, reason, reserve) {
-            Ok(newly) => match self.cancel_below(row, reserve) {
+            Ok(newly) => match self.cancel_below(row, covered, reserve) {
                 Ok(below) => {
-                    let count = if newly { below + 1 } else { below };
+                    let count = below + u32::from(newly);
                     Ok(Passed { count, newly })
                 }
                 Err(memory) => Err(memory),

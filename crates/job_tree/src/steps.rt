@@ -6,7 +6,7 @@ ghost use Rattle.job_model.specs.Histories.{replay};
 ghost use Rattle.job_model.specs.Floors.{MayCall, Looked};
 ghost use Rattle.job_tree.specs.Notes.{Noted};
 ghost use Rattle.job_tree.specs.Rooms.{MayCancelAll};
-ghost use Rattle.job_tree.specs.Passes.{CancelAnswer, TurnAnswer};
+ghost use Rattle.job_tree.specs.Passes.{CancelAnswer, WalkStepAnswer};
 ghost use Rattle.job_tree.specs.declared.caller.Reserve.TheVariants.{Before, AsItGoes};
 
 use crate::caller::{JobCaller, Reserve};
@@ -16,7 +16,7 @@ use note_book::{Item, NoteBook};
 
 /// Where a walk over the Jobs below another goes from a row.
 #[derive(Clone, Copy, Debug, PartialEq, Eq)]
-pub(crate) enum Turn {
+pub(crate) enum WalkStep {
     /// To a row that it did not come to yet.
     To(Row),
     /// Nowhere below this row.
@@ -115,7 +115,7 @@ impl<F: JobFloor, B: NoteBook, W: Wakes> JobCaller<'_, '_, '_, F, B, W> {
     }
 
     /// Where a walk that came to this row goes next. `done`: it came to all below the row.
-    pub(crate) fn turn(&mut self, at: Row, done: bool) -> Turn
+    pub(crate) fn walk_step(&mut self, at: Row, done: bool) -> WalkStep
         requires can { MayCall self.old.who at (F.view self.old.floor.now) }
         requires child { done ≡ true → at ≢ 0 }
         ensures same_floor { self.new.floor.ghost_name ≡ self.old.floor.ghost_name }
@@ -125,21 +125,21 @@ impl<F: JobFloor, B: NoteBook, W: Wakes> JobCaller<'_, '_, '_, F, B, W> {
         ensures anchor { F.anchor self.new.floor.now ≡ F.anchor self.old.floor.now }
         ensures book { self.new.book.now ≡ self.old.book.now }
         ensures looked { Looked self.old.who [] (F.view self.old.floor.now) (F.view self.new.floor.now) }
-        ensures answer { TurnAnswer at done (F.view self.old.floor.now) (F.view self.new.floor.now) result }
+        ensures answer { WalkStepAnswer at done (F.view self.old.floor.now) (F.view self.new.floor.now) result }
     {
         if done {
             let link = self.floor.link(self.who, at);
             return match link.next {
-                Some(next) => Turn::To(next),
-                None => Turn::Up(link.parent),
+                Some(next) => WalkStep::To(next),
+                None => WalkStep::Up(link.parent),
             };
         }
         let Some(job) = self.floor.look(self.who, at) else {
-            return Turn::Over;
+            return WalkStep::Over;
         };
         match job.first_child {
-            Some(child) if !job.state.is_completed() => Turn::To(child),
-            _ => Turn::Over,
+            Some(child) if !job.state.is_completed() => WalkStep::To(child),
+            _ => WalkStep::Over,
         }
     }
 }

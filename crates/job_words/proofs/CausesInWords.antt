@@ -27,7 +27,7 @@ use Rattle.job_words.specs.Rows.{cause_code, cause_from, rest_of, word_of}
 use Rattle.job_words.specs.Deeds.{shape_of, IsSize, history_of, store_of, IsDone, IsSmall, IsSmallRow}
 use Rattle.job_words.specs.Passes.{Seen, Sees, Goes, floor_seen}
 use Rattle.job_words.specs.Attaches.{IsAttached, IsWord}
-use Rattle.job_words.specs.Acts.{IsCauseOf, CancelledAnswer}
+use Rattle.job_words.specs.Acts.{IsCauseOf, CancelledRow}
 use Rattle.job_words.proofs.DeedsAddUp.{tree_is, is_legal, history-append}
 use Rattle.job_words.proofs.StepsAsCalls.{goes_trans, sees_goes, looked}
 use Rattle.job_words.proofs.StoreStaysSound.{kept}
@@ -134,6 +134,6 @@ child_cause size who row child v w x s key h sees a o k =
     let cw : cause_from x.rest ≡ j.0.cause = cause_word size j.0 x s small sound.caused j.2 (ap (λ (y : JobWord). is_cancelled y.state) (sym j.2) ∙ fj.1) in
     record { attached = one.attached; holds = one.holds; is = ap cause_of j.1 ∙ sym cw }
 
-pub cancel_answer : (who row : ℕ) (reason : Reason) (u v w : Seen) (b : CancelledNow) → Goes who [] u v → CancelledAnswer who row reason v w (Some b) → CancelAnswer who row reason (floor_seen u) (floor_seen w) b
+pub cancel_answer : (who row : ℕ) (reason : Reason) (u v w : Seen) (b : CancelledNow) → Goes who [] u v → CancelledRow who row reason v w (Some b) → CancelAnswer who row reason (floor_seen u) (floor_seen w) b
 cancel_answer who row reason u v w cancelled.Now g t = acted_made who row t.0 (Cancel row reason) u v w g t.1
 cancel_answer who row reason u v w cancelled.Already g t = let all = goes_trans who [] [] u v w g t.0 in (looked who [] u w all, last_step who u w (λ tree. IsCancellingOrEnded (tree row)) all t.1)

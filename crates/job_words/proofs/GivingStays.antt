@@ -15,7 +15,7 @@ use Rattle.job_words.specs.declared.job_word.JobWord.{JobWord}
 use Rattle.job_words.specs.declared.size.ForestSize.{ForestSize}
 use Rattle.job_words.specs.Passes.{Seen, tags_given}
 use Rattle.job_words.specs.Attaches.{ActedNow, RowAnswer}
-use Rattle.job_words.specs.Acts.{StartedAnswer, EndedAnswer, ToldAnswer, FinishedAnswer, CancelledAnswer}
+use Rattle.job_words.specs.Acts.{StartedAnswer, EndedAnswer, ToldAnswer, FinishedAnswer, CancelledRow}
 
 pub by_act : (who row : ℕ) (old : JobWord) (act : JobAct) (v w : Seen) → ActedNow who row old act v w → tags_given w ≡ tags_given v
 by_act who row old act v w a = a.does.giving ∙ a.goes.giving
@@ -35,7 +35,7 @@ by_finish who row v w (finished.Now end) t = t.1.does.giving ∙ t.1.goes.giving
 by_finish who row v w finished.Already t = t.0.giving
 by_finish who row v w finished.NotYet t = t.0.giving
 
-pub by_cancel : (who row : ℕ) (reason : Reason) (v w : Seen) (b : CancelledNow) → CancelledAnswer who row reason v w (Some b) → tags_given w ≡ tags_given v
+pub by_cancel : (who row : ℕ) (reason : Reason) (v w : Seen) (b : CancelledNow) → CancelledRow who row reason v w (Some b) → tags_given w ≡ tags_given v
 by_cancel who row reason v w cancelled.Now t = t.1.does.giving ∙ t.1.goes.giving
 by_cancel who row reason v w cancelled.Already t = t.0.giving
 

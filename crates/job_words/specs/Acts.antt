@@ -65,7 +65,7 @@ pub record IsCauseOf (size : ForestSize) (who row : ℕ) (reason : Reason) (v : 
   pub is : cause_of_reason (store_of v.seen).tree reason ≡ cause
 
 -- the same of a cancellation
-abbrev pub CancelledAnswer : ℕ → ℕ → Reason → Seen → Seen → Option CancelledNow → Type 0
-CancelledAnswer who row reason v w (Some cancelled.Now) = (old : JobWord) × ActedNow who row old (Cancel row reason) v w
-CancelledAnswer who row reason v w (Some cancelled.Already) = Goes who [] v w × IsCancellingOrEnded ((store_of w.seen).tree row)
-CancelledAnswer who row reason v w None = Goes who [] v w × Grew v w
+abbrev pub CancelledRow : ℕ → ℕ → Reason → Seen → Seen → Option CancelledNow → Type 0
+CancelledRow who row reason v w (Some cancelled.Now) = (old : JobWord) × ActedNow who row old (Cancel row reason) v w
+CancelledRow who row reason v w (Some cancelled.Already) = Goes who [] v w × IsCancellingOrEnded ((store_of w.seen).tree row)
+CancelledRow who row reason v w None = Goes who [] v w × Grew v w

@@ -6,7 +6,7 @@ ghost use Rattle.job_words.specs.Rows.{cause_code};
 ghost use Rattle.job_words.specs.Deeds.{shape_of, store_of};
 ghost use Rattle.job_words.specs.Passes.{Goes, floor_seen};
 ghost use Rattle.job_words.specs.Attaches.{IsAttached};
-ghost use Rattle.job_words.specs.Acts.{CancelledAnswer, IsCauseOf};
+ghost use Rattle.job_words.specs.Acts.{CancelledRow, IsCauseOf};
 ghost use Rattle.job_words.specs.Forests.{seen_by, IsOwn, SameGiving};
 
 use crate::finishing::cause_of_rest;
@@ -54,7 +54,7 @@ fn cancel_once(
     requires own { IsOwn forest.now pass.old who }
     requires cause { IsCauseOf forest.now.size who row reason (seen_by pass.old) cause }
     ensures own { IsOwn forest.now pass.new who }
-    ensures answer { CancelledAnswer who row reason (seen_by pass.old) (seen_by pass.new) result }
+    ensures answer { CancelledRow who row reason (seen_by pass.old) (seen_by pass.new) result }
 {
     let word = load_job(forest, pass, who, row);
     if !word.state.is_cancellable() {

@@ -9,7 +9,7 @@
 //! |---|---|---|---|---|
 //! | Job word of a row | 0 | 7 | anybody | who claims the row; who loses takes another row, or answers that it is used |
 //! | both words of a claimed row | any | any | its claimer, until it is attached | nothing: nobody else writes there |
-//! | Job word of the parent | not ended | newest child, one living more | the claimer of a child | that it is attached, as Cancelling or not |
+//! | Job word of the parent | not ended | newest child, one living more | the claimer of a child | that it is attached, and as what |
 //! | Job word | New | Active | anybody | who starts the Job |
 //! | Job word | body not ended | body ended, Active to Completing | the coroutine of its tag | whether a child lived then |
 //! | Job word | New, Active, Completing | Cancelling, with the cause | anybody with a reason | who cancels the Job |

@@ -1,5 +1,5 @@
 -- What a receive on a done channel tells, by the floor's answer; and that it leaves the done channels as they were.
-use Rattle.std.specs.Prelude.{◌≡◌, ℕ, ◌+◌, ◌==◌, ◌<◌, Bool, true, false, List, [], ◌∷◌, ◌++◌, Option, Some, None, is_some, Result, Ok, Err, refl, if◌then◌else◌}
+use Rattle.std.specs.Prelude.{◌≡◌, ℕ, ◌+◌, ◌==◌, ◌<◌, Bool, true, false, List, [], ◌∷◌, ◌++◌, is_some, Result, Ok, Err, refl, if◌then◌else◌}
 use Rattle.std.proofs.Common.{sym, ap, ◌∙◌, subst, arith}
 use Rattle.std.proofs.lemmas.Bool.{eqb-true}
 use Rattle.std.proofs.lemmas.Option.{get_or_from_slice_get}
@@ -14,13 +14,12 @@ use Rattle.channel_model.specs.declared.standing.Receiver.{Receiver}
 use Rattle.channel_model.specs.declared.floor.Got.TheVariants as got
 use Rattle.channel_model.specs.declared.acts.Kind.{Kind}
 use Rattle.channel_model.specs.declared.acts.Kind.TheVariants.{Signal}
-use Rattle.channel_model.specs.Channels.{Shape, State, Channel, kind_at}
+use Rattle.channel_model.specs.Channels.{State, Channel, kind_at}
 use Rattle.channel_model.specs.Effects.{after, place_receiver, is_open}
 use Rattle.channel_model.specs.Histories.{replay, Legal}
 use Rattle.channel_model.specs.Floors.{Floor, HasRoom, MayCall, AtStep, Added}
 use Rattle.channel_model.specs.Answers.{GotAnswer, IsSpentForReceives, IsDrainedAndClosed}
 use Rattle.channel_model.proofs.Histories.{replay_push}
-use Rattle.channel_model.proofs.Later.{closed_later}
 use Rattle.channel_model.proofs.Spans.{nothing_more}
 use Rattle.job_model.specs.Done.{done_channel}
 use Rattle.job_model.specs.Floors.{Floor as JobFloor}
@@ -35,23 +34,13 @@ use Rattle.call_meaning.proofs.ChannelsHeard.{told_nothing, told_roomed, told_ma
 use Rattle.call_meaning.proofs.JobTellings.{nobody_called, both_channels}
 use Rattle.channel_calls.specs.Calls.{IsLeftWaiting}
 use Rattle.channel_calls.proofs.Begun.{receiver_waits}
+use Rattle.channel_calls.proofs.ReceivesTold.{closed_as}
 use Rattle.scope_builders.specs.declared.builder.Joined.{Joined}
 use Rattle.scope_builders.specs.declared.builder.Joined.TheVariants as joined
 use Rattle.scope_builders.specs.Dones.{SignalAnswer, ClosesAtOnce, KeepsDones}
 use Rattle.scope_builders.specs.Calls.{MayBuild, TellsBoth, ReceivesDone, DoneAnswer}
 
 -- ---- by the floor's answer
-
--- a channel that was closed at a moment had its last close value
-closed_as : (shape : Shape) (c x : ℕ) (moment seen rest : List Entry) → moment ++ rest ≡ seen → Legal shape seen → is_some ((replay moment).channels c).closed ≡ true → ((replay seen).channels c).closed ≡ Some x → ((replay moment).channels c).closed ≡ Some x
-closed_as shape c x moment seen rest is l some at = by_value ((replay moment).channels c).closed refl some
-  where
-    by_value : (y : Option ℕ) → ((replay moment).channels c).closed ≡ y → is_some y ≡ true → ((replay moment).channels c).closed ≡ Some x
-    by_value None e f = cc
-    by_value (Some u) e f =
-        let later : ((replay (moment ++ rest)).channels c).closed ≡ Some u = closed_later shape moment rest c u (subst (Legal shape) (sym is) l) e in
-        let last : ((replay seen).channels c).closed ≡ Some u = subst (λ es. ((replay es).channels c).closed ≡ Some u) is later in
-        e ∙ sym last ∙ at
 
 -- no memory
 pub nothing_told : (who : ℕ) (a b : Floor) (i j : List Item) → b ≡ a → j ≡ i → ToldOnChannels who a b i j []

@@ -126,9 +126,9 @@ pub record CancelledSome (who row : ℕ) (j j' : Floor) (items items' : List Ite
   pub noted : ToldOnJobs who [] j j' items items' (map did (own_cancel newly row reasons.Request ++ below))
   pub cancels : AreCancelsBelow (replay j'.seen) row below
 
-abbrev pub CancelledAnswer : ℕ → ℕ → Floor → Floor → List Item → List Item → Result ℕ Memory → Type 0
-CancelledAnswer who row j j' i i' (Ok count) = CancelledAll who row j j' i i' count
-CancelledAnswer who row j j' i i' (Err m) = CancelledSome who row j j' i i'
+abbrev pub CancelledAllAnswer : ℕ → ℕ → Floor → Floor → List Item → List Item → Result ℕ Memory → Type 0
+CancelledAllAnswer who row j j' i i' (Ok count) = CancelledAll who row j j' i i' count
+CancelledAllAnswer who row j j' i i' (Err m) = CancelledSome who row j j' i i'
 
 -- ---- the ends of bodies
 

@@ -11,7 +11,7 @@ ghost use Rattle.scope_builders.specs.Calls.{
   LaunchAnswer,
   EnterAnswer,
   StartedAnswer,
-  CancelledAnswer,
+  CancelledAllAnswer,
   EndedAnswer,
   BrokenAnswer,
 };
@@ -111,7 +111,7 @@ impl<C: ChannelFloor, J: JobFloor, B: NoteBook, W: Wakes> Builder<'_, '_, '_, '_
         requires row { is_some (replay (J.view self.old.jobs.now).seen row) ≡ true }
         ensures same { SameBuilder C.anchor J.anchor self.old self.new }
         ensures channels { self.new.channels.now ≡ self.old.channels.now }
-        ensures answer { CancelledAnswer self.old.who row (J.view self.old.jobs.now) (J.view self.new.jobs.now)
+        ensures answer { CancelledAllAnswer self.old.who row (J.view self.old.jobs.now) (J.view self.new.jobs.now)
             (B.items self.old.book.now) (B.items self.new.book.now) result }
     {
         match pass(

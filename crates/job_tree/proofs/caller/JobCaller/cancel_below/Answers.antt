@@ -1,12 +1,12 @@
-use Rattle.std.proofs.Common.{ℕ, ◌≡◌, ◌==◌, Bool, true, false, refl, sym, ap, ◌∙◌, subst, arith, inl, inr}
+use Rattle.std.specs.Int.{from_bool}
+use Rattle.std.proofs.Common.{ℕ, ◌+◌, ◌≡◌, ◌==◌, ◌≤◌, Bool, true, false, refl, sym, ap, ◌∙◌, subst, arith, inl, inr}
 use mathlib.Core.Logic.{◌⊎◌}
 use Rattle.std.proofs.lemmas.Bool.{eqb-true}
 use Rattle.job_model.proofs.Spans.{setting_then}
 use Rattle.job_model.specs.Histories.{replay}
 use Rattle.job_model.specs.Cancels.{IsAllCancelled}
-use Rattle.job_tree.specs.Passes.{CancelledAnswer}
 use Rattle.job_tree.proofs.Rooms.{looked_room}
-use Rattle.job_tree.proofs.Walks.{first_walk, none_so_far, walk_not_root, legal_as, to_next, may_next, after_to, after_over, after_up, count_less_rows, pass_below_done, so_far_small, count_newly, count_same, part_below}
+use Rattle.job_tree.proofs.Walks.{first_walk, none_so_far, walk_not_root, legal_as, to_next, may_next, after_to, after_over, after_up, pass_below_done, so_far_small, part_below}
 use Rattle.job_tree.proofs.caller.JobCaller.cancel_below.Goals as goal
 
 -- the walk goes on: it is not past all below the first row
@@ -17,6 +17,10 @@ not_there done at row (inl h) e = by_test (at == row) refl
     by_test true k = absurd (h.1 (eqb-true at row k))
     by_test false k = k
 not_there done at row (inr h) e = absurd (let u : true ≡ false = sym e ∙ h in cc)
+
+at_most_one : (b : Bool) → from_bool b ≤ 1
+at_most_one true = omega arith
+at_most_one false = omega arith
 
 pub loop-done-init : goal.loop-done-init
 loop-done-init g c = record {
@@ -32,13 +36,13 @@ loop-done-init g c = record {
   small = omega (arith, c.from-most.ensures, c.rows.type_inv);
 }
 
-pub turn-requires-clause-can : goal.turn-requires-clause-can
-turn-requires-clause-can g c =
+pub walk_step-requires-clause-can : goal.walk_step-requires-clause-can
+walk_step-requires-clause-can g c =
     let i = c.loop-done.invariant in
     may_next _ _ _ _ _ _ i.who c.requires.can i.so_far.noted.added.same i.walk.attached
 
-pub turn-requires-clause-child : goal.turn-requires-clause-child
-turn-requires-clause-child g c = λ e.
+pub walk_step-requires-clause-child : goal.walk_step-requires-clause-child
+walk_step-requires-clause-child g c = λ e.
     let i = c.loop-done.invariant in
     walk_not_root _ _ _ _ _ (legal_as _ _ i.so_far.noted.added.same (g.met.F.JobFloor.legal c.loop-done.self.floor.now)) i.walk (not_there _ _ _ c.if-not-at-row.either e)
 
@@ -46,64 +50,44 @@ pub cancel_job-requires-clause-can : goal.cancel_job-requires-clause-can
 cancel_job-requires-clause-can g c =
     let i = c.loop-done.invariant in
     let t = c.in-To.ensures in
-    let next = to_next _ _ _ _ _ _ _ _ _ _ _ _ (g.met.F.JobFloor.shaped c.args.self.now.floor.now) (g.met.F.JobFloor.legal c.turn.new.self.floor.now) i.so_far i.walk (not_there _ _ _ c.if-not-at-row.either) t.looked t.answer in
+    let next = to_next _ _ _ _ _ _ _ _ _ _ _ _ (g.met.F.JobFloor.shaped c.args.self.now.floor.now) (g.met.F.JobFloor.legal c.walk_step.new.self.floor.now) i.so_far i.walk (not_there _ _ _ c.if-not-at-row.either) t.looked t.answer in
     may_next _ _ _ _ _ _ (t.who ∙ i.who) c.requires.can (setting_then _ _ _ i.so_far.noted.added.same t.looked.same) next.attached
 
 pub cancel_job-requires-clause-reason : goal.cancel_job-requires-clause-reason
 cancel_job-requires-clause-reason g c =
     let i = c.loop-done.invariant in
     let t = c.in-To.ensures in
-    (to_next _ _ _ _ _ _ _ _ _ _ _ _ (g.met.F.JobFloor.shaped c.args.self.now.floor.now) (g.met.F.JobFloor.legal c.turn.new.self.floor.now) i.so_far i.walk (not_there _ _ _ c.if-not-at-row.either) t.looked t.answer).holds
+    (to_next _ _ _ _ _ _ _ _ _ _ _ _ (g.met.F.JobFloor.shaped c.args.self.now.floor.now) (g.met.F.JobFloor.legal c.walk_step.new.self.floor.now) i.so_far i.walk (not_there _ _ _ c.if-not-at-row.either) t.looked t.answer).holds
 
 pub cancel_job-requires-clause-room : goal.cancel_job-requires-clause-room
-cancel_job-requires-clause-room g c = λ e. looked_room _ _ _ _ _ _ c.turn.ensures.looked (ap g.B.NoteBook.spare c.turn.ensures.book) (c.loop-done.invariant.room e)
+cancel_job-requires-clause-room g c = λ e. looked_room _ _ _ _ _ _ c.walk_step.ensures.looked (ap g.B.NoteBook.spare c.walk_step.ensures.book) (c.loop-done.invariant.room e)
+
+pub overflow_add-count : goal.overflow_add-count
+overflow_add-count g c =
+    let i = c.loop-done.invariant in
+    let k = so_far_small _ _ _ _ _ _ _ i.so_far in
+    let one = at_most_one c.in-Ok.is_newly in
+    omega (arith, i.most, i.small)
 
 pub prove-unreachable-requires : goal.prove-unreachable-requires
 prove-unreachable-requires g c =
     let i = c.loop-done.invariant in
-    let t = c.in-To.ensures in
-    let less = count_less_rows _ _ _ _ _ _ _ _ _ _ _ _ _ _ i.who (g.met.F.JobFloor.legal c.turn.new.self.floor.now) (ap g.B.NoteBook.items t.book) i.so_far t.looked (subst (CancelledAnswer _ _ _ _ _ _ _) c.if-is_newly.true c.in-Ok.ensures.answer) in
+    let k = so_far_small _ _ _ _ _ _ _ i.so_far in
     omega (arith, i.most, c.if-prove.true)
 
-pub loop-done-smaller-then-is_newly : goal.loop-done-smaller-then-is_newly
-loop-done-smaller-then-is_newly g c =
+pub loop-done-smaller-in-Ok : goal.loop-done-smaller-in-Ok
+loop-done-smaller-in-Ok g c =
     let i = c.loop-done.invariant in
     let t = c.in-To.ensures in
     let m = c.in-Ok.ensures in
-    (after_to _ _ _ _ _ _ _ c.in-Ok.is_newly _ _ _ _ _ _ _ _ _ _ i.who (t.who ∙ i.who) (ap g.B.NoteBook.items t.book) (count_newly c.in-Ok.is_newly _ _ c.loop-done.count c.if-is_newly.true) (g.met.F.JobFloor.shaped c.args.self.now.floor.now) (g.met.F.JobFloor.legal c.turn.new.self.floor.now) (g.met.F.JobFloor.legal c.cancel_job.new.self.floor.now) i.so_far i.walk (not_there _ _ _ c.if-not-at-row.either) t.looked t.answer m.answer).less
+    (after_to _ _ _ _ _ _ c.args.covered _ c.in-Ok.is_newly _ _ _ _ _ _ _ _ _ _ _ i.who (t.who ∙ i.who) (ap g.B.NoteBook.items t.book) (ap (λ x. c.loop-done.count + x) c.from.ensures) c.is_covered-done.ensures c.requires.covered (g.met.F.JobFloor.shaped c.args.self.now.floor.now) (g.met.F.JobFloor.legal c.walk_step.new.self.floor.now) (g.met.F.JobFloor.legal c.cancel_job.new.self.floor.now) i.so_far i.walk (not_there _ _ _ c.if-not-at-row.either) t.looked t.answer m.answer).less
 
-pub loop-done-preserved-then-is_newly : goal.loop-done-preserved-then-is_newly
-loop-done-preserved-then-is_newly g c =
+pub loop-done-preserved-in-Ok : goal.loop-done-preserved-in-Ok
+loop-done-preserved-in-Ok g c =
     let i = c.loop-done.invariant in
     let t = c.in-To.ensures in
     let m = c.in-Ok.ensures in
-    let r = (after_to _ _ _ _ _ _ _ c.in-Ok.is_newly _ _ _ _ _ _ _ _ _ _ i.who (t.who ∙ i.who) (ap g.B.NoteBook.items t.book) (count_newly c.in-Ok.is_newly _ _ c.loop-done.count c.if-is_newly.true) (g.met.F.JobFloor.shaped c.args.self.now.floor.now) (g.met.F.JobFloor.legal c.turn.new.self.floor.now) (g.met.F.JobFloor.legal c.cancel_job.new.self.floor.now) i.so_far i.walk (not_there _ _ _ c.if-not-at-row.either) t.looked t.answer m.answer) in
-    record {
-      same_floor = m.same_floor ∙ t.same_floor ∙ i.same_floor;
-      same_book = m.same_book ∙ t.same_book ∙ i.same_book;
-      same_wakes = m.same_wakes ∙ t.same_wakes ∙ i.same_wakes;
-      who = m.who ∙ t.who ∙ i.who;
-      anchor = m.anchor ∙ t.anchor ∙ i.anchor;
-      walk = r.walk;
-      so_far = r.so_far;
-      room = m.room;
-      most = i.most;
-      small = i.small;
-    }
-
-pub loop-done-smaller-else-is_newly : goal.loop-done-smaller-else-is_newly
-loop-done-smaller-else-is_newly g c =
-    let i = c.loop-done.invariant in
-    let t = c.in-To.ensures in
-    let m = c.in-Ok.ensures in
-    (after_to _ _ _ _ _ _ _ c.in-Ok.is_newly _ _ _ _ _ _ _ _ _ _ i.who (t.who ∙ i.who) (ap g.B.NoteBook.items t.book) (count_same c.in-Ok.is_newly _ _ c.loop-done.count c.if-is_newly.false) (g.met.F.JobFloor.shaped c.args.self.now.floor.now) (g.met.F.JobFloor.legal c.turn.new.self.floor.now) (g.met.F.JobFloor.legal c.cancel_job.new.self.floor.now) i.so_far i.walk (not_there _ _ _ c.if-not-at-row.either) t.looked t.answer m.answer).less
-
-pub loop-done-preserved-else-is_newly : goal.loop-done-preserved-else-is_newly
-loop-done-preserved-else-is_newly g c =
-    let i = c.loop-done.invariant in
-    let t = c.in-To.ensures in
-    let m = c.in-Ok.ensures in
-    let r = (after_to _ _ _ _ _ _ _ c.in-Ok.is_newly _ _ _ _ _ _ _ _ _ _ i.who (t.who ∙ i.who) (ap g.B.NoteBook.items t.book) (count_same c.in-Ok.is_newly _ _ c.loop-done.count c.if-is_newly.false) (g.met.F.JobFloor.shaped c.args.self.now.floor.now) (g.met.F.JobFloor.legal c.turn.new.self.floor.now) (g.met.F.JobFloor.legal c.cancel_job.new.self.floor.now) i.so_far i.walk (not_there _ _ _ c.if-not-at-row.either) t.looked t.answer m.answer) in
+    let r = (after_to _ _ _ _ _ _ c.args.covered _ c.in-Ok.is_newly _ _ _ _ _ _ _ _ _ _ _ i.who (t.who ∙ i.who) (ap g.B.NoteBook.items t.book) (ap (λ x. c.loop-done.count + x) c.from.ensures) c.is_covered-done.ensures c.requires.covered (g.met.F.JobFloor.shaped c.args.self.now.floor.now) (g.met.F.JobFloor.legal c.walk_step.new.self.floor.now) (g.met.F.JobFloor.legal c.cancel_job.new.self.floor.now) i.so_far i.walk (not_there _ _ _ c.if-not-at-row.either) t.looked t.answer m.answer) in
     record {
       same_floor = m.same_floor ∙ t.same_floor ∙ i.same_floor;
       same_book = m.same_book ∙ t.same_book ∙ i.same_book;
@@ -121,13 +105,13 @@ pub loop-done-smaller-in-Over : goal.loop-done-smaller-in-Over
 loop-done-smaller-in-Over g c =
     let i = c.loop-done.invariant in
     let t = c.in-Over.ensures in
-    (after_over _ _ _ _ _ _ _ _ _ _ _ _ i.who (ap g.B.NoteBook.items t.book) (g.met.F.JobFloor.shaped c.args.self.now.floor.now) (g.met.F.JobFloor.legal c.turn.new.self.floor.now) i.so_far i.walk t.looked t.answer).less
+    (after_over _ _ _ _ _ _ _ _ _ _ _ _ i.who (ap g.B.NoteBook.items t.book) (g.met.F.JobFloor.shaped c.args.self.now.floor.now) (g.met.F.JobFloor.legal c.walk_step.new.self.floor.now) i.so_far i.walk t.looked t.answer).less
 
 pub loop-done-preserved-in-Over : goal.loop-done-preserved-in-Over
 loop-done-preserved-in-Over g c =
     let i = c.loop-done.invariant in
     let t = c.in-Over.ensures in
-    let r = (after_over _ _ _ _ _ _ _ _ _ _ _ _ i.who (ap g.B.NoteBook.items t.book) (g.met.F.JobFloor.shaped c.args.self.now.floor.now) (g.met.F.JobFloor.legal c.turn.new.self.floor.now) i.so_far i.walk t.looked t.answer) in
+    let r = (after_over _ _ _ _ _ _ _ _ _ _ _ _ i.who (ap g.B.NoteBook.items t.book) (g.met.F.JobFloor.shaped c.args.self.now.floor.now) (g.met.F.JobFloor.legal c.walk_step.new.self.floor.now) i.so_far i.walk t.looked t.answer) in
     record {
       same_floor = t.same_floor ∙ i.same_floor;
       same_book = t.same_book ∙ i.same_book;
@@ -145,13 +129,13 @@ pub loop-done-smaller : goal.loop-done-smaller
 loop-done-smaller g c =
     let i = c.loop-done.invariant in
     let t = c.in-Up.ensures in
-    (after_up _ _ _ _ _ _ _ _ _ _ _ _ _ i.who (ap g.B.NoteBook.items t.book) (g.met.F.JobFloor.shaped c.args.self.now.floor.now) (g.met.F.JobFloor.legal c.turn.new.self.floor.now) i.so_far i.walk (not_there _ _ _ c.if-not-at-row.either) t.looked t.answer).less
+    (after_up _ _ _ _ _ _ _ _ _ _ _ _ _ i.who (ap g.B.NoteBook.items t.book) (g.met.F.JobFloor.shaped c.args.self.now.floor.now) (g.met.F.JobFloor.legal c.walk_step.new.self.floor.now) i.so_far i.walk (not_there _ _ _ c.if-not-at-row.either) t.looked t.answer).less
 
 pub loop-done-preserved : goal.loop-done-preserved
 loop-done-preserved g c =
     let i = c.loop-done.invariant in
     let t = c.in-Up.ensures in
-    let r = (after_up _ _ _ _ _ _ _ _ _ _ _ _ _ i.who (ap g.B.NoteBook.items t.book) (g.met.F.JobFloor.shaped c.args.self.now.floor.now) (g.met.F.JobFloor.legal c.turn.new.self.floor.now) i.so_far i.walk (not_there _ _ _ c.if-not-at-row.either) t.looked t.answer) in
+    let r = (after_up _ _ _ _ _ _ _ _ _ _ _ _ _ i.who (ap g.B.NoteBook.items t.book) (g.met.F.JobFloor.shaped c.args.self.now.floor.now) (g.met.F.JobFloor.legal c.walk_step.new.self.floor.now) i.so_far i.walk (not_there _ _ _ c.if-not-at-row.either) t.looked t.answer) in
     record {
       same_floor = t.same_floor ∙ i.same_floor;
       same_book = t.same_book ∙ i.same_book;
@@ -178,4 +162,4 @@ pub returns-in-Err-clause-answer : goal.returns-in-Err-clause-answer
 returns-in-Err-clause-answer g c =
     let i = c.loop-done.invariant in
     let t = c.in-To.ensures in
-    (c.in-Err.ensures.answer.0, part_below _ _ _ _ _ _ _ _ _ _ _ _ _ i.who (t.who ∙ i.who) (ap g.B.NoteBook.items t.book) (g.met.F.JobFloor.legal c.turn.new.self.floor.now) (g.met.F.JobFloor.legal c.cancel_job.new.self.floor.now) i.so_far t.looked c.in-Err.ensures.answer.1)
+    (c.in-Err.ensures.answer.0, part_below _ _ _ _ _ _ _ _ _ _ _ _ _ i.who (t.who ∙ i.who) (ap g.B.NoteBook.items t.book) (g.met.F.JobFloor.legal c.walk_step.new.self.floor.now) (g.met.F.JobFloor.legal c.cancel_job.new.self.floor.now) i.so_far t.looked c.in-Err.ensures.answer.1)

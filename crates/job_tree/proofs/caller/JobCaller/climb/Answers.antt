@@ -2,7 +2,7 @@ use Rattle.std.specs.Prelude.{Bool, true, false, not, ◌≡◌}
 use Rattle.std.proofs.Common.{refl, ap, ◌∙◌}
 use Rattle.job_model.proofs.Spans.{prefix_then, setting_then}
 use Rattle.job_tree.proofs.Rooms.{looked_room}
-use Rattle.job_tree.proofs.Walks.{legal_as, may_next}
+use Rattle.job_tree.proofs.Walks.{legal_as, may_next, covered_kept}
 use Rattle.job_tree.proofs.Causes.{failure_later}
 use Rattle.job_tree.proofs.Climbs.{first_climb, climb_looked, climb_up, climb_stops, climb_part, climb_ends, child_holds, parent_attached, rank_less}
 use Rattle.job_model.proofs.FailingUp.{goes_kept}
@@ -24,6 +24,7 @@ loop-parent-init g c = record {
   who = refl;
   anchor = refl;
   climb = first_climb _ _ _ _ c.requires.failed c.requires.can.attached;
+  covered = tt;
   room = c.requires.room;
 }
 
@@ -32,63 +33,46 @@ failing_parent-requires g c =
     let i = c.loop-parent.invariant in
     record { can = may_next _ _ _ _ _ _ i.who c.requires.can i.climb.noted.added.same i.climb.attached }
 
-pub pass-requires : goal.pass-requires
-pass-requires g c =
+pub pass_except-requires : goal.pass_except-requires
+pass_except-requires g c =
     let i = c.loop-parent.invariant in
     let t = c.in-Some.ensures in
     let l = g.met.F.JobFloor.legal c.failing_parent.new.self.floor.now in
     record {
       can = may_next _ _ _ _ _ _ (t.who ∙ i.who) c.requires.can (setting_then _ _ _ i.climb.noted.added.same t.answer.looked.same) (parent_attached _ _ _ _ l t.answer.is.parent);
       reason = child_holds (g.F.JobFloor.view c.failing_parent.new.self.floor.now).shape _ c.failing_parent.new.self.who _ _ t.answer.is (failure_later _ _ _ _ l t.answer.looked.longer i.climb.failed);
+      covered = covered_kept _ _ _ c.loop-parent.covered l t.answer.looked.longer i.covered;
       room = λ e. looked_room _ _ _ _ _ _ t.answer.looked (ap g.B.NoteBook.spare t.book) (i.room e);
     }
 
-pub returns : goal.returns
-returns g c =
+pub returns-clause-answer : goal.returns-clause-answer
+returns-clause-answer g c =
     let i = c.loop-parent.invariant in
     let t = c.in_default.ensures in
     let l = g.met.F.JobFloor.legal c.failing_parent.new.self.floor.now in
-    record {
-      same_floor = t.same_floor ∙ i.same_floor;
-      same_book = t.same_book ∙ i.same_book;
-      same_wakes = t.same_wakes ∙ i.same_wakes;
-      who = t.who ∙ i.who;
-      anchor = t.anchor ∙ i.anchor;
-      answer = climb_ends _ _ _ _ _ _ _ l (climb_looked _ _ _ _ _ _ _ _ _ _ i.who (ap g.B.NoteBook.items t.book) l i.climb t.answer.looked) t.answer.is;
-      room = λ e. looked_room _ _ _ _ _ _ t.answer.looked (ap g.B.NoteBook.spare t.book) (i.room e);
-    }
+    climb_ends _ _ _ _ _ _ _ l (climb_looked _ _ _ _ _ _ _ _ _ _ i.who (ap g.B.NoteBook.items t.book) l i.climb t.answer.looked) t.answer.is
 
-pub returns-then-not-passed : goal.returns-then-not-passed
-returns-then-not-passed g c =
+pub returns-clause-room : goal.returns-clause-room
+returns-clause-room g c = λ e.
+    let t = c.in_default.ensures in
+    looked_room _ _ _ _ _ _ t.answer.looked (ap g.B.NoteBook.spare t.book) (c.loop-parent.invariant.room e)
+
+pub returns-then-not-passed-clause-answer : goal.returns-then-not-passed-clause-answer
+returns-then-not-passed-clause-answer g c =
     let i = c.loop-parent.invariant in
     let t = c.in-Some.ensures in
-    let m = c.in-Ok.ensures in
-    let climb = climb_looked _ _ _ _ _ _ _ _ _ _ i.who (ap g.B.NoteBook.items t.book) (g.met.F.JobFloor.legal c.failing_parent.new.self.floor.now) i.climb t.answer.looked in
-    record {
-      same_floor = m.same_floor ∙ t.same_floor ∙ i.same_floor;
-      same_book = m.same_book ∙ t.same_book ∙ i.same_book;
-      same_wakes = m.same_wakes ∙ t.same_wakes ∙ i.same_wakes;
-      who = m.who ∙ t.who ∙ i.who;
-      anchor = m.anchor ∙ t.anchor ∙ i.anchor;
-      answer = climb_stops _ _ _ _ _ _ _ _ _ _ _ _ _ (t.who ∙ i.who) (not_true c.in-Ok.passed.newly c.if-not-passed.true) (g.met.F.JobFloor.legal c.pass.new.self.floor.now) climb t.answer.is m.answer;
-      room = m.room;
-    }
+    climb_stops _ _ _ _ _ _ _ _ _ _ _ _ _ (t.who ∙ i.who) (not_true c.in-Ok.passed.newly c.if-not-passed.true) (g.met.F.JobFloor.legal c.pass_except.new.self.floor.now)
+    (climb_looked _ _ _ _ _ _ _ _ _ _ i.who (ap g.B.NoteBook.items t.book) (g.met.F.JobFloor.legal c.failing_parent.new.self.floor.now) i.climb t.answer.looked) t.answer.is c.in-Ok.ensures.answer
 
-pub returns-in-Err : goal.returns-in-Err
-returns-in-Err g c =
+pub returns-in-Err-clause-answer : goal.returns-in-Err-clause-answer
+returns-in-Err-clause-answer g c =
     let i = c.loop-parent.invariant in
     let t = c.in-Some.ensures in
-    let m = c.in-Err.ensures in
-    let climb = climb_looked _ _ _ _ _ _ _ _ _ _ i.who (ap g.B.NoteBook.items t.book) (g.met.F.JobFloor.legal c.failing_parent.new.self.floor.now) i.climb t.answer.looked in
-    record {
-      same_floor = m.same_floor ∙ t.same_floor ∙ i.same_floor;
-      same_book = m.same_book ∙ t.same_book ∙ i.same_book;
-      same_wakes = m.same_wakes ∙ t.same_wakes ∙ i.same_wakes;
-      who = m.who ∙ t.who ∙ i.who;
-      anchor = m.anchor ∙ t.anchor ∙ i.anchor;
-      answer = (m.answer.0, climb_part _ _ _ _ _ _ _ _ _ _ _ _ (t.who ∙ i.who) climb m.answer.1);
-      room = m.room;
-    }
+    let m = c.in-Err.ensures.answer in (
+      m.0,
+      climb_part _ _ _ _ _ _ _ _ _ _ _ _ (t.who ∙ i.who)
+          (climb_looked _ _ _ _ _ _ _ _ _ _ i.who (ap g.B.NoteBook.items t.book) (g.met.F.JobFloor.legal c.failing_parent.new.self.floor.now) i.climb t.answer.looked) m.1,
+    )
 
 pub loop-parent-preserved : goal.loop-parent-preserved
 loop-parent-preserved g c =
@@ -102,7 +86,8 @@ loop-parent-preserved g c =
       same_wakes = m.same_wakes ∙ t.same_wakes ∙ i.same_wakes;
       who = m.who ∙ t.who ∙ i.who;
       anchor = m.anchor ∙ t.anchor ∙ i.anchor;
-      climb = climb_up _ _ _ _ _ _ _ _ _ _ _ _ _ (t.who ∙ i.who) (not_false c.in-Ok.passed.newly c.if-not-passed.false) (g.met.F.JobFloor.legal c.pass.new.self.floor.now) climb t.answer.is m.answer;
+      climb = climb_up _ _ _ _ _ _ _ _ _ _ _ _ _ (t.who ∙ i.who) (not_false c.in-Ok.passed.newly c.if-not-passed.false) (g.met.F.JobFloor.legal c.pass_except.new.self.floor.now) climb t.answer.is m.answer;
+      covered = m.answer.all;
       room = m.room;
     }
 
@@ -111,5 +96,5 @@ loop-parent-smaller g c =
     let i = c.loop-parent.invariant in
     let t = c.in-Some.ensures in
     let m = c.in-Ok.ensures.answer.noted.added in
-    let l = legal_as _ _ (setting_then _ _ _ i.climb.noted.added.same (setting_then _ _ _ t.answer.looked.same m.same)) (g.met.F.JobFloor.legal c.pass.new.self.floor.now) in
+    let l = legal_as _ _ (setting_then _ _ _ i.climb.noted.added.same (setting_then _ _ _ t.answer.looked.same m.same)) (g.met.F.JobFloor.legal c.pass_except.new.self.floor.now) in
     rank_less _ _ _ _ _ (g.met.F.JobFloor.shaped c.args.self.now.floor.now) l (prefix_then _ _ _ t.answer.looked.longer m.longer) i.climb.attached (goes_kept _ _ _ _ _ l m.longer t.answer.is).parent

@@ -1,5 +1,5 @@
 use Rattle.job_tree.proofs.Looks.{in_rows, never_none}
-use Rattle.job_tree.proofs.caller.JobCaller.turn.Goals as goal
+use Rattle.job_tree.proofs.caller.JobCaller.walk_step.Goals as goal
 
 pub look-requires-clause-row : goal.look-requires-clause-row
 look-requires-clause-row g c = in_rows _ _ _ (g.met.F.JobFloor.shaped c.args.self.now.floor.now) (g.met.F.JobFloor.legal c.args.self.now.floor.now) c.requires.can
