@@ -1,4 +1,5 @@
 pub mod ListClauses
+pub mod ListWaits
 pub mod ByHalves
 pub mod KeptPlaces
 pub mod InOrder
@@ -11,4 +12,5 @@ pub mod ListNew
 pub mod TreeRows
 pub mod TreeFamilies
 pub mod TreeKept
+pub mod TreeLooks
 pub mod Leading

@@ -8,20 +8,20 @@ use Rattle.channel_model.specs.Channels.{Wait}
 use Rattle.one_thread_floor.specs.declared.list_channel.ListChannel.{ListChannel}
 use Rattle.one_thread_floor.specs.declared.list_channel.ListClause.{ListClause}
 use Rattle.one_thread_floor.specs.declared.list_channel.ListWait.{ListWait}
-use Rattle.one_thread_floor.specs.ListStands.{clause_of, wait_of, clauses_of, with_clause, wait_in_channel, wait_in_slot, clauses_of_slot, clauses_in_slot, clauses_in_channel}
+use Rattle.one_thread_floor.specs.ListStands.{clause_of, items_of, wait_of, clauses_of, with_clause, wait_in_channel, wait_in_slot, clauses_of_slot, clauses_in_slot, clauses_in_channel}
 
-pub fewer_items : (slot : Option ListWait) (x : ListWait) → slot ≡ Some x → length (clauses_of (option_map wait_of slot)) < 7 → length x.clauses.items < 7
+pub fewer_items : (slot : Option ListWait) (x : ListWait) → slot ≡ Some x → length (clauses_of (option_map wait_of slot)) < 7 → length (items_of x.clauses) < 7
 fewer_items slot x is few =
-    let l : length (map clause_of x.clauses.items) < 7 = subst (λ (s : Option ListWait). length (clauses_of (option_map wait_of s)) < 7) is few in
-    subst (λ n. n < 7) (length-map x.clauses.items clause_of) l
+    let l : length (map clause_of (items_of x.clauses)) < 7 = subst (λ (s : Option ListWait). length (clauses_of (option_map wait_of s)) < 7) is few in
+    subst (λ n. n < 7) (length-map (items_of x.clauses) clause_of) l
 
-pub pushed : (slot : Option ListWait) (x : ListWait) (y : ListClause) (ys : List ListClause) → slot ≡ Some x → ys ≡ x.clauses.items ++ y ∷ []
+pub pushed : (slot : Option ListWait) (x : ListWait) (y : ListClause) (ys : List ListClause) → slot ≡ Some x → ys ≡ items_of x.clauses ++ y ∷ []
     → Some (record (wait_of x) { clauses = map clause_of ys }) ≡ with_clause y.number y.channel (option_map wait_of slot)
 pushed slot x y ys is e =
-    ap (λ cs. Some (record (wait_of x) { clauses = cs })) (ap (map clause_of) e ∙ map-append clause_of x.clauses.items (y ∷ []))
+    ap (λ cs. Some (record (wait_of x) { clauses = cs })) (ap (map clause_of) e ∙ map-append clause_of (items_of x.clauses) (y ∷ []))
     ∙ ap (λ (s : Option ListWait). with_clause y.number y.channel (option_map wait_of s)) (sym is)
 
-pub pushed_clauses : (slot : Option ListWait) (x : ListWait) (y : ListClause) (ys : List ListClause) → slot ≡ Some x → ys ≡ x.clauses.items ++ y ∷ [] → ys ≡ clauses_of_slot slot ++ y ∷ []
+pub pushed_clauses : (slot : Option ListWait) (x : ListWait) (y : ListClause) (ys : List ListClause) → slot ≡ Some x → ys ≡ items_of x.clauses ++ y ∷ [] → ys ≡ clauses_of_slot slot ++ y ∷ []
 pushed_clauses slot x y ys is e = e ∙ ap (λ (s : Option ListWait). clauses_of_slot s ++ y ∷ []) (sym is)
 
 -- ---- a place at which no wait begins

@@ -1,5 +1,5 @@
 -- The first receiver or the first offer goes, on the lists.
-use Rattle.std.specs.Prelude.{◌≡◌, ℕ, ◌<◌, ◌==◌, Bool, true, false, List, ◌∷◌, Option, Some, IsSome, is_some, length, slice_get, refl, if◌then◌else◌}
+use Rattle.std.specs.Prelude.{◌≡◌, ℕ, ◌<◌, ◌==◌, Bool, true, false, List, [], ◌∷◌, Option, Some, None, is_some, length, slice_get, refl, if◌then◌else◌}
 use Rattle.std.specs.Option.{ForSome, option_and_then}
 use mathlib.Core.Path.{fun_ext}
 use Rattle.std.proofs.Common.{sym, ap, ◌∙◌, subst}
@@ -17,21 +17,27 @@ use Rattle.channel_model.specs.Effects.{after, without, resolve, resolve_first, 
 use Rattle.channel_model.specs.Needs.{Needs}
 use Rattle.channel_model.specs.Histories.{replay, Legal}
 use Rattle.channel_model.specs.Answers.{first_receiver, first_holder, owner_of}
-use Rattle.channel_model.specs.Laws.{AllStandOpen, AllStandOnce, StandsOnce}
+use Rattle.channel_model.specs.Laws.{AllStandOpen, AllStandOnce, StandsOnce, ReceiversStand, HolderStands}
 use Rattle.channel_model.proofs.OpenWaits.{replay_open}
 use Rattle.channel_model.proofs.Placed.{same_number}
 use Rattle.channel_model.proofs.Apart.{replay_once, without_first_receiver, without_first_holder}
-use Rattle.channel_model.proofs.Firsts.{first_receiver_is, first_resolved, receiver_there, owner_of_first, first_offer_is, first_stands, holder_there, popped_open, first_holder_is, holder_owner}
+use Rattle.channel_model.proofs.Firsts.{first_receiver_is, first_resolved, owner_of_first, first_offer_is, first_stands, popped_open, first_holder_is, holder_owner}
 use Rattle.one_thread_floor.specs.declared.list_channel.ListChannel.{ListChannel}
-use Rattle.one_thread_floor.specs.ListStands.{channel_in, wait_in, IsAt, SameShape, SameWaits, Becomes, IsLeft, IsWithout, has_clause_elsewhere, clauses_of}
+use Rattle.one_thread_floor.specs.ListStands.{channel_in, wait_in, IsAt, IsUnresolved, SameShape, SameWaits, Becomes, IsLeft, IsWithout, has_clause_elsewhere, clauses_of}
 use Rattle.one_thread_floor.proofs.ListRemoval.{resolved_elsewhere}
+use Rattle.one_thread_floor.proofs.ListWaits.{standing_unresolved}
 use Rattle.one_thread_floor.proofs.ListEntries.{changed_at}
 
 -- ---- the first receiver
 
-pub receiver_waits : (shape : Shape) (xs : List ListChannel) (es : List Entry) (c : ℕ) (r : Receiver) → IsAt shape xs (replay es) → slice_get (channel_in xs c).receivers 0 ≡ Some r → IsSome (wait_in xs r.party.wait)
+first_waits : (waits : WaitId → Option Wait) (c : ℕ) (rs : List Receiver) (r : Receiver) → ReceiversStand waits c rs → slice_get rs 0 ≡ Some r → IsUnresolved (waits r.party.wait)
+unfolding ReceiversStand
+first_waits waits c [] r h e = cc
+first_waits waits c (x ∷ rs) r h e = let k : x ≡ r = cc in subst (λ (y : Receiver). IsUnresolved (waits y.party.wait)) k (standing_unresolved c (waits x.party.wait) h.0)
+
+pub receiver_waits : (shape : Shape) (xs : List ListChannel) (es : List Entry) (c : ℕ) (r : Receiver) → IsAt shape xs (replay es) → slice_get (channel_in xs c).receivers 0 ≡ Some r → IsUnresolved (wait_in xs r.party.wait)
 receiver_waits shape xs es c r at e =
-    subst IsSome (at.waits_are r.party.wait) (receiver_there (replay es).waits c _ r (replay_open es c).receivers (ap (λ (ch : Channel). slice_get ch.receivers 0) (at.channels_are c) ∙ e))
+    subst IsUnresolved (at.waits_are r.party.wait) (first_waits (replay es).waits c _ r (replay_open es c).receivers (ap (λ (ch : Channel). slice_get ch.receivers 0) (at.channels_are c) ∙ e))
 
 pub hand_needs : (shape : Shape) (xs : List ListChannel) (es : List Entry) (who c v : ℕ) (r : Receiver) → IsAt shape xs (replay es) → c < length shape → is_signal (kind_at shape c) ≡ false → slice_get (channel_in xs c).receivers 0 ≡ Some r → Needs shape (replay es) who (Hand c r.place v)
 hand_needs shape xs es who c v r at lt k e = (lt, k, first_receiver_is _ r (ap (λ (ch : Channel). slice_get ch.receivers 0) (at.channels_are c) ∙ e))
@@ -59,6 +65,11 @@ wake_at shape xs ys es who c v r l at is e h =
     let value : v ≡ close_value ((replay es).channels c).closed = ap close_value (is ∙ sym (ap (λ (ch : Channel). ch.closed) (at.channels_are c))) in
     let P : ℕ → Type 0 = λ n. IsAt shape ys (resolve_first ((replay es).channels c).receivers (λ k. resolved.Closed k n) (replay es)) in
     subst P value (first_at shape xs ys es c r (λ k. resolved.Closed k v) l at e h)
+
+-- the first is the one that leads
+pub led_by : {X : Type 0} (xs : List X) (x y : X) (ys : List X) → slice_get xs 0 ≡ Some x → xs ≡ y ∷ ys → xs ≡ x ∷ ys
+led_by [] x y ys e f = cc
+led_by (z ∷ zs) x y ys e f = let k : z ≡ x = cc in cc
 
 -- the lists after the first receiver was popped, and its wait resolved
 pub popped_in : (c : ℕ) (how : Resolution) (r : Receiver) (rs : List Receiver) (xs ys zs : List ListChannel)
@@ -92,11 +103,16 @@ drain_needs shape xs es who c o os at lt voided e = (lt, voided, first_offer_is 
 pub drop_needs : (shape : Shape) (xs : List ListChannel) (es : List Entry) (who c : ℕ) (o : Standing) (os : List Standing) → IsAt shape xs (replay es) → c < length shape → drops (kind_at shape c) (length (channel_in xs c).queue) ≡ true → (channel_in xs c).queue ≡ o ∷ os → Needs shape (replay es) who (Drop c o.place o.value)
 drop_needs shape xs es who c o os at lt long e = (lt, ap (λ (ch : Channel). drops (kind_at shape c) (length ch.queue)) (at.channels_are c) ∙ long, first_offer_is _ os o (queue_is shape xs (replay es) c o os at e))
 
-pub popped_holder : (shape : Shape) (xs ys : List ListChannel) (es : List Entry) (c : ℕ) (o : Standing) (os : List Standing) → IsAt shape xs (replay es) → SameWaits xs ys → (channel_in xs c).queue ≡ o ∷ os → ForSome o.holder (λ p. IsSome (wait_in ys p.wait))
+-- whoever waits with an offer that stands is not resolved
+pub holder_waits : (waits : WaitId → Option Wait) (c : ℕ) (p : Option Party) → HolderStands waits c p → ForSome p (λ p. IsUnresolved (waits p.wait))
+holder_waits waits c None h = λ x e. cc
+holder_waits waits c (Some p) h = λ x e. let k : p ≡ x = cc in subst (λ (y : Party). IsUnresolved (waits y.wait)) k (standing_unresolved c (waits p.wait) h)
+
+pub popped_holder : (shape : Shape) (xs ys : List ListChannel) (es : List Entry) (c : ℕ) (o : Standing) (os : List Standing) → IsAt shape xs (replay es) → SameWaits xs ys → (channel_in xs c).queue ≡ o ∷ os → ForSome o.holder (λ p. IsUnresolved (wait_in ys p.wait))
 popped_holder shape xs ys es c o os at same e =
     let waits : (w : WaitId) → (replay es).waits w ≡ wait_in ys w = λ w. at.waits_are w ∙ sym (same w) in
-    subst (λ (f : WaitId → Option Wait). ForSome o.holder (λ p. IsSome (f p.wait))) (fun_ext waits)
-    (holder_there (replay es).waits c o.holder (first_stands (replay es).waits c _ os o (replay_open es c).offers (queue_is shape xs (replay es) c o os at e)).0)
+    subst (λ (f : WaitId → Option Wait). ForSome o.holder (λ p. IsUnresolved (f p.wait))) (fun_ext waits)
+    (holder_waits (replay es).waits c o.holder (first_stands (replay es).waits c _ os o (replay_open es c).offers (queue_is shape xs (replay es) c o os at e)).0)
 
 -- nothing of the holder is left at the channel
 popped_apart : (s : State) (c : ℕ) (o : Standing) (os : List Standing) → StandsOnce (s.channels c) → (s.channels c).queue ≡ o ∷ os

@@ -1,5 +1,5 @@
 -- What is to be admitted or dropped of a queue, by one look, and an admission on the lists.
-use Rattle.std.specs.Prelude.{◌≡◌, ℕ, zero, suc, ◌+◌, ◌<◌, ◌≤◌, nat_lt, Bool, true, false, List, [], ◌∷◌, Option, Some, None, IsSome, is_some, length, slice_get, slice_set, if◌then◌else◌}
+use Rattle.std.specs.Prelude.{◌≡◌, ℕ, zero, suc, ◌+◌, ◌<◌, ◌≤◌, nat_lt, Bool, true, false, List, [], ◌∷◌, Option, Some, None, is_some, length, slice_get, slice_set, if◌then◌else◌}
 use Rattle.std.proofs.Common.{sym, ap, ◌∙◌, subst, arith}
 use Rattle.std.proofs.lemmas.Bool.Decides.{nat_tests}
 use Rattle.co_base.specs.declared.names.WaitId.{WaitId}
@@ -19,12 +19,12 @@ use Rattle.channel_model.specs.Laws.{AllStandOpen, HolderStands, OffersStand, St
 use Rattle.channel_model.proofs.OpenWaits.{replay_open, with_queue_open, offers_admitted}
 use Rattle.channel_model.proofs.Placed.{same_number}
 use Rattle.channel_model.proofs.Apart.{replay_once, without_freed}
-use Rattle.channel_model.proofs.Firsts.{holder_there}
+use Rattle.one_thread_floor.proofs.ListFirsts.{holder_waits}
 use Rattle.channel_model.proofs.InOrder.{OffersAscend, replay_in_order}
 use Rattle.channel_model.proofs.Leads.{none_stands, none_fits, none_below, admitted_is, holder_is, may_be_admitted}
 use Rattle.channel_model.proofs.UpTo.{at_most_length, few_stand, later_stands, more_stand}
 use Rattle.one_thread_floor.specs.declared.list_channel.ListChannel.{ListChannel}
-use Rattle.one_thread_floor.specs.ListStands.{channel_in, wait_in, IsAt, SameWaits, Becomes, IsLeft, LeadsTo}
+use Rattle.one_thread_floor.specs.ListStands.{channel_in, wait_in, IsAt, IsUnresolved, SameWaits, Becomes, IsLeft, LeadsTo}
 use Rattle.one_thread_floor.proofs.ListEntries.{changed_at}
 
 -- whether the kind of a channel is full
@@ -72,11 +72,11 @@ held_stands waits c i [] o h e = cc
 held_stands waits c zero (x ∷ xs) o h e = let k : x ≡ o = cc in subst (λ (y : Standing). HolderStands waits c y.holder) k h.0
 held_stands waits c (suc i) (x ∷ xs) o h e = held_stands waits c i xs o h.1 e
 
--- the wait of an offer that is held began
-pub held_began : (shape : Shape) (xs ys : List ListChannel) (es : List Entry) (c i : ℕ) (o : Standing) (p : Party) → IsAt shape xs (replay es) → SameWaits xs ys → slice_get (channel_in xs c).queue i ≡ Some o → o.holder ≡ Some p → IsSome (wait_in ys p.wait)
-held_began shape xs ys es c i o p at same is held =
-    subst IsSome (at.waits_are p.wait ∙ sym (same p.wait))
-    (holder_there (replay es).waits c o.holder (held_stands (replay es).waits c i _ o (replay_open es c).offers (ap (λ r. slice_get r i) (queue_at shape xs (replay es) c at) ∙ is)) p held)
+-- the wait of an offer that is held is not resolved
+pub held_waits : (shape : Shape) (xs ys : List ListChannel) (es : List Entry) (c i : ℕ) (o : Standing) (p : Party) → IsAt shape xs (replay es) → SameWaits xs ys → slice_get (channel_in xs c).queue i ≡ Some o → o.holder ≡ Some p → IsUnresolved (wait_in ys p.wait)
+held_waits shape xs ys es c i o p at same is held =
+    subst IsUnresolved (at.waits_are p.wait ∙ sym (same p.wait))
+    (holder_waits (replay es).waits c o.holder (held_stands (replay es).waits c i _ o (replay_open es c).offers (ap (λ r. slice_get r i) (queue_at shape xs (replay es) c at) ∙ is)) p held)
 
 -- nothing of the holder is left at the channel
 freed_apart : (s : State) (c i : ℕ) (o : Standing) (p : Party) → StandsOnce (s.channels c) → slice_get (s.channels c).queue i ≡ Some o → o.holder ≡ Some p

@@ -1,3 +1,5 @@
+pub mod Appends
+pub mod GhostLists
 pub mod ListStands
 pub mod ListFloors
 pub mod TreeRows

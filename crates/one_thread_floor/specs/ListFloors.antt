@@ -1,16 +1,17 @@
 -- What callers see of a list floor.
-use Rattle.std.specs.Prelude.{◌≡◌, ℕ, ◌-◌, ◌≤◌, Bool, true, nat_lt, vec_len, vec_capacity}
+use Rattle.std.specs.Prelude.{◌≡◌, ℕ, ◌≤◌, Bool, true, nat_lt, vec_len}
 use Rattle.channel_model.specs.declared.acts.Kind.{Kind}
 use Rattle.channel_model.specs.declared.acts.Kind.TheVariants.{Rendezvous, Buffered, Unlimited, Conflated, DropOldest, Signal}
 use Rattle.channel_model.specs.Floors.{Floor}
 use Rattle.one_thread_floor.specs.declared.list_floor.ListFloor.{ListFloor}
+use Rattle.one_thread_floor.specs.GhostLists.{ghost_items}
 
--- one thread calls it, for every tag
+-- one thread calls it, for every tag; an act takes one box at most, and no other memory
 abbrev pub floor_of : ListFloor → Floor
 floor_of f = record {
   shape = f.kinds.items;
-  seen = f.entries.items;
-  spare = vec_capacity f.entries - vec_len f.entries;
+  seen = ghost_items f.entries;
+  spare = vec_len f.boxes;
   alone = true;
   callers = λ t. true;
 }

@@ -7,11 +7,17 @@ use Rattle.channel_model.specs.Laws.{Ascends, StandsInOrder}
 use Rattle.channel_model.specs.declared.standing.Party.{Party}
 use Rattle.channel_model.specs.declared.standing.Standing.{Standing}
 use Rattle.channel_model.specs.declared.standing.Receiver.{Receiver}
+use Rattle.channel_model.specs.declared.standing.Resolution.{Resolution}
+use Rattle.channel_model.specs.declared.standing.Resolution.TheVariants as resolved
+use Rattle.channel_model.specs.declared.acts.Settled.{Settled}
+use Rattle.channel_model.specs.Outcomes.{outcome_of}
 use Rattle.co_base.specs.declared.names.WaitId.{WaitId}
 use Rattle.channel_model.specs.declared.acts.Entry.{Entry}
 use Rattle.channel_model.specs.Channels.{Shape, State, Channel, Wait, empty, places_at, same_wait}
 use Rattle.channel_model.specs.Histories.{replay}
 use Rattle.one_thread_floor.specs.declared.list_channel.ListClause.{ListClause}
+use Rattle.one_thread_floor.specs.declared.list_channel.ListClauses.{ListClauses}
+use Rattle.one_thread_floor.specs.declared.list_channel.ListClauses.TheVariants.{One, Several}
 use Rattle.one_thread_floor.specs.declared.list_channel.ListWait.{ListWait}
 use Rattle.one_thread_floor.specs.declared.list_channel.ListChannel.{ListChannel}
 
@@ -19,9 +25,25 @@ use Rattle.one_thread_floor.specs.declared.list_channel.ListChannel.{ListChannel
 abbrev pub clause_of : ListClause → ℕ × ℕ
 clause_of y = (y.number, y.channel)
 
+-- the clauses, that at which the wait began first
+abbrev pub items_of : ListClauses → List ListClause
+items_of (One y) = y ∷ []
+items_of (Several ys) = ys.value.items
+
+-- how a wait that was so resolved ended, once it was settled, with its Job cancelled or not
+abbrev pub settled_as : Option Resolution → Option Bool → Option Settled
+settled_as how None = None
+settled_as how (Some cancelled) = option_map (λ h. outcome_of h cancelled) how
+
 -- a wait of the model
 abbrev pub wait_of : ListWait → Wait
-wait_of x = record { owner = x.owner; clauses = map clause_of x.clauses.items; resolved = x.resolved; settled = x.settled }
+wait_of x =
+    record {
+      owner = x.owner;
+      clauses = map clause_of (items_of x.clauses);
+      resolved = x.resolved;
+      settled = settled_as x.resolved x.settled;
+    }
 
 -- a channel of the model; its places are counted by its slots
 abbrev pub channel_of : ListChannel → Channel
@@ -63,7 +85,7 @@ wait_in channels w = wait_in_channel (slice_get channels w.channel) w.place
 -- the clauses of the wait in a slot
 abbrev pub clauses_of_slot : Option ListWait → List ListClause
 clauses_of_slot None = []
-clauses_of_slot (Some x) = x.clauses.items
+clauses_of_slot (Some x) = items_of x.clauses
 
 -- the clauses of the wait in a slot that may not have been given out
 abbrev pub clauses_in_slot : Option (Option ListWait) → List ListClause
@@ -179,6 +201,11 @@ abbrev pub is_resolved_main : (WaitId → Option Wait) → Option WaitId → Boo
 is_resolved_main waits None = false
 is_resolved_main waits (Some w) = not (is_open (waits w))
 
+-- the wait began, and nobody resolved it
+abbrev pub IsUnresolved : Option Wait → Type 0
+IsUnresolved None = ⊥
+IsUnresolved (Some x) = x.resolved ≡ None
+
 -- the clauses of a wait
 abbrev pub clauses_of : Option Wait → List (ℕ × ℕ)
 clauses_of None = []
@@ -187,6 +214,11 @@ clauses_of (Some x) = x.clauses
 -- a clause is at channel d, which is another than c
 abbrev pub has_clause_elsewhere : ℕ → List (ℕ × ℕ) → ℕ → Bool
 has_clause_elsewhere c clauses d = list_any (λ y. (y.1 == d) && not (y.1 == c)) clauses
+
+-- how the holder of an offer that left its channel is resolved: the offer was taken, or removed since the channel is cancelled
+abbrev pub removed_as : Bool → ℕ → Resolution
+removed_as false k = resolved.Taken k
+removed_as true k = resolved.Voided
 
 -- ---- who comes
 

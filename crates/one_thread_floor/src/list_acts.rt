@@ -8,11 +8,11 @@ ghost use Rattle.channel_model.specs.Answers.{HandedTo, TakenFrom};
 ghost use Rattle.one_thread_floor.specs.ListFloors.{floor_of};
 ghost use Rattle.one_thread_floor.specs.ListStands.{channel_in, places_in};
 
-use crate::list_firsts::{hand_to_first, pop_offer, resolve_taken};
+use crate::list_firsts::{pop_offer, resolve_first, resolve_holder};
 use crate::list_floor::ListFloor;
 use crate::list_places::append_offer;
 use crate::list_queries::owner_at;
-use channel_model::{Act, Entry, Receiver};
+use channel_model::{Act, Entry, Receiver, Resolution};
 use co_base::{ChannelId, Place, Tag, Value};
 
 impl ListFloor {
@@ -33,12 +33,17 @@ impl ListFloor {
         ensures made { HandedTo who c value result.0 result.1 (floor_of self.old) (floor_of self.new) }
     {
         let to = owner_at(&self.channels, first.party.wait);
-        let place = hand_to_first(&mut self.channels, c, value).place;
-        self.entries.push_reserved(Entry {
+        let how = Resolution::Handed(first.party.clause, value);
+        resolve_first(&mut self.channels, c, first, how);
+        self.entries.push(&Entry {
             who,
-            act: Act::Hand { c, place, value },
+            act: Act::Hand {
+                c,
+                place: first.place,
+                value,
+            },
         });
-        (place, to)
+        (first.place, to)
     }
 
     /// Leaves an element in the queue of an open channel that has a place and room for it, and no receiver.
@@ -53,7 +58,7 @@ impl ListFloor {
         ensures made { Made who (Put c result value) (floor_of self.old) (floor_of self.new) }
     {
         let place = append_offer(&mut self.channels, c, value, None);
-        self.entries.push_reserved(Entry {
+        self.entries.push(&Entry {
             who,
             act: Act::Put { c, place, value },
         });
@@ -69,8 +74,8 @@ impl ListFloor {
         ensures made { TakenFrom who c result.0 result.1 result.2 (floor_of self.old) (floor_of self.new) }
     {
         let offer = pop_offer(&mut self.channels, c);
-        let from = resolve_taken(&mut self.channels, c, offer.holder);
-        self.entries.push_reserved(Entry {
+        let from = resolve_holder(&mut self.channels, c, offer.holder, false);
+        self.entries.push(&Entry {
             who,
             act: Act::Take {
                 c,

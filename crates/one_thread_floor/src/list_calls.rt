@@ -3,12 +3,13 @@
 ghost use Rattle.one_thread_floor.specs.ListFloors.{floor_of};
 
 use crate::list_admission::{buffer_offer, leading_in};
-use crate::list_changes::{close_in, mark_settled, void_in};
-use crate::list_firsts::{pop_offer, resolve_party, resolve_voided, wake_first};
+use crate::list_changes::{close_in, settle, void_in};
+use crate::list_firsts::{pop_offer, resolve_first, resolve_holder, resolve_party};
 use crate::list_floor::{ListAnchor, ListFloor};
+use crate::list_new::make_boxes;
 use crate::list_queries::{
     closed_with, first_receiver, is_main_resolved, is_open_wait, is_spent, is_voided, kind_at,
-    next_place, offer_at, outcome_in, owner_at, queue_len, state_at,
+    next_place, offer_at, owner_at, queue_len, state_at,
 };
 use crate::list_removal::resolve_everywhere;
 use channel_model::{
@@ -25,10 +26,7 @@ impl ChannelFloor for ListFloor {
     ghost anchor = { λ f. record { kinds = f.kinds } };
 
     fn room(&mut self, n: u32) -> Result<(), Memory> {
-        match self.entries.reserve(n as usize) {
-            Ok(()) => Ok(()),
-            Err(_) => Err(Memory),
-        }
+        make_boxes(&mut self.boxes, n as usize)
     }
 
     fn offer(&mut self, who: Tag, c: ChannelId, value: Value) -> Offered {
@@ -146,7 +144,7 @@ impl ChannelFloor for ListFloor {
             return Err(AlreadyClosed { v: first });
         }
         close_in(&mut self.channels, c, v);
-        self.entries.push_reserved(Entry {
+        self.entries.push(&Entry {
             who,
             act: Act::Close { c, value: v },
         });
@@ -161,12 +159,16 @@ impl ChannelFloor for ListFloor {
             unreachable!()
         };
         let to = owner_at(&self.channels, receiver.party.wait);
-        let place = wake_first(&mut self.channels, c, v).place;
-        self.entries.push_reserved(Entry {
+        let how = Resolution::Closed(receiver.party.clause, v);
+        resolve_first(&mut self.channels, c, receiver, how);
+        self.entries.push(&Entry {
             who,
-            act: Act::WakeClosed { c, place },
+            act: Act::WakeClosed {
+                c,
+                place: receiver.place,
+            },
         });
-        Some((place, to))
+        Some((receiver.place, to))
     }
 
     fn void(&mut self, who: Tag, c: ChannelId) -> bool {
@@ -174,7 +176,7 @@ impl ChannelFloor for ListFloor {
             return false;
         }
         void_in(&mut self.channels, c);
-        self.entries.push_reserved(Entry {
+        self.entries.push(&Entry {
             who,
             act: Act::Void { c },
         });
@@ -186,8 +188,8 @@ impl ChannelFloor for ListFloor {
             return None;
         }
         let offer = pop_offer(&mut self.channels, c);
-        let from = resolve_voided(&mut self.channels, c, offer.holder);
-        self.entries.push_reserved(Entry {
+        let from = resolve_holder(&mut self.channels, c, offer.holder, true);
+        self.entries.push(&Entry {
             who,
             act: Act::Drain {
                 c,
@@ -203,9 +205,8 @@ impl ChannelFloor for ListFloor {
     }
 
     fn settle(&mut self, who: Tag, w: WaitId, cancelled: bool) -> Settled {
-        let outcome = outcome_in(&self.channels, w, cancelled);
-        mark_settled(&mut self.channels, w, outcome);
-        self.entries.push_reserved(Entry {
+        let outcome = settle(&mut self.channels, w, cancelled);
+        self.entries.push(&Entry {
             who,
             act: Act::Settle { w, outcome },
         });
@@ -217,7 +218,7 @@ impl ChannelFloor for ListFloor {
             return Withdrawn::Late;
         }
         resolve_everywhere(&mut self.channels, w, Resolution::Withdrawn(why));
-        self.entries.push_reserved(Entry {
+        self.entries.push(&Entry {
             who,
             act: Act::Withdraw { w, why },
         });
@@ -245,7 +246,7 @@ impl ChannelFloor for ListFloor {
         buffer_offer(&mut self.channels, c, index, offer);
         let how = Resolution::Admitted(party.clause);
         let to = resolve_party(&mut self.channels, c, party, how);
-        self.entries.push_reserved(Entry {
+        self.entries.push(&Entry {
             who,
             act: Act::Admit {
                 c,
@@ -266,7 +267,7 @@ impl ChannelFloor for ListFloor {
             return None;
         }
         let offer = pop_offer(&mut self.channels, c);
-        self.entries.push_reserved(Entry {
+        self.entries.push(&Entry {
             who,
             act: Act::Drop {
                 c,

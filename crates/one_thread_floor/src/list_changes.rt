@@ -2,10 +2,11 @@
 
 ghost use Rattle.std.specs.Prelude.{◌≡◌, ◌<◌, length, vec_len, IsSome, Some, true, option_map};
 ghost use Rattle.channel_model.specs.Effects.{settled_wait};
-ghost use Rattle.one_thread_floor.specs.ListStands.{wait_of, channel_of, channel_in, wait_in, clauses_of_slot, clauses_in_channel, SamePlaces, SameShape, SameChannels, SameClauses, Becomes, OneWait, OneSlot};
+ghost use Rattle.channel_model.specs.Answers.{outcome_at};
+ghost use Rattle.one_thread_floor.specs.ListStands.{wait_of, channel_of, channel_in, wait_in, wait_in_channel, clauses_of_slot, clauses_in_channel, SamePlaces, SameShape, SameChannels, SameClauses, Becomes, OneWait, OneSlot};
 
 use crate::list_channel::{ListChannel, ListWait};
-use channel_model::Settled;
+use channel_model::{Settled, outcome};
 use co_base::{ChannelId, Value, WaitId};
 
 fn close_channel(channel: &mut ListChannel, v: Value)
@@ -38,32 +39,48 @@ pub fn void_in(channels: &mut Vec<ListChannel>, c: ChannelId)
     void_channel(&mut channels[c as usize]);
 }
 
-fn settle_slot(slot: &mut Option<ListWait>, outcome: Settled)
-    ensures wait { option_map wait_of slot.new ≡ settled_wait outcome (option_map wait_of slot.old) }
+fn settle_slot(slot: &mut Option<ListWait>, cancelled: bool) -> Settled
+    requires { IsSome (outcome_at cancelled (option_map wait_of slot.old)) }
+    ensures outcome { outcome_at cancelled (option_map wait_of slot.old) ≡ Some result }
+    ensures wait { option_map wait_of slot.new ≡ settled_wait result (option_map wait_of slot.old) }
     ensures clauses { clauses_of_slot slot.new ≡ clauses_of_slot slot.old }
 {
-    if let Some(wait) = slot {
-        wait.settled = Some(outcome);
+    match slot {
+        Some(wait) => match wait.resolved {
+            Some(how) => {
+                wait.settled = Some(cancelled);
+                outcome(how, cancelled)
+            }
+            None => unreachable!(),
+        },
+        None => unreachable!(),
     }
 }
 
-fn settle_in(channel: &mut ListChannel, place: usize, outcome: Settled)
-    requires { place < vec_len channel.old.slots }
+fn settle_in(channel: &mut ListChannel, place: usize, cancelled: bool) -> Settled
+    requires place { place < vec_len channel.old.slots }
+    requires resolved { IsSome (outcome_at cancelled (wait_in_channel (Some channel.old) place)) }
+    ensures outcome { outcome_at cancelled (wait_in_channel (Some channel.old) place) ≡ Some result }
     ensures channel { channel_of channel.new ≡ channel_of channel.old }
     ensures places { channel.new.places ≡ channel.old.places }
-    ensures waits { OneSlot place (settled_wait outcome) channel.old channel.new }
+    ensures waits { OneSlot place (settled_wait result) channel.old channel.new }
     ensures clauses { clauses_in_channel (Some channel.new) place ≡ clauses_in_channel (Some channel.old) place }
 {
-    settle_slot(&mut channel.slots[place], outcome);
+    settle_slot(&mut channel.slots[place], cancelled)
 }
 
-/// Marks the wait as settled so.
-pub fn mark_settled(channels: &mut Vec<ListChannel>, w: WaitId, outcome: Settled)
-    requires { IsSome (wait_in channels.old.items w) }
+/// Settles a wait that was resolved, with its Job cancelled before or not, and says how it ended.
+pub fn settle(channels: &mut Vec<ListChannel>, w: WaitId, cancelled: bool) -> Settled
+    requires { IsSome (outcome_at cancelled (wait_in channels.old.items w)) }
+    ensures outcome { outcome_at cancelled (wait_in channels.old.items w) ≡ Some result }
     ensures channels { SameChannels channels.old.items channels.new.items }
-    ensures waits { OneWait w (settled_wait outcome) channels.old.items channels.new.items }
+    ensures waits { OneWait w (settled_wait result) channels.old.items channels.new.items }
     ensures clauses { SameClauses channels.old.items channels.new.items }
     ensures shape { SameShape channels.old.items channels.new.items }
 {
-    settle_in(&mut channels[w.channel as usize], w.place as usize, outcome);
+    settle_in(
+        &mut channels[w.channel as usize],
+        w.place as usize,
+        cancelled,
+    )
 }

@@ -6,7 +6,7 @@ ghost use Rattle.std.specs.VecDeque.{deque_len, deque_capacity};
 ghost use Rattle.channel_model.specs.Owing.{is_buffered};
 
 use arrayvec::ArrayVec;
-use channel_model::{Receiver, Resolution, Settled, Standing};
+use channel_model::{Receiver, Resolution, Standing};
 use co_base::{ChannelId, Place, Tag, Value};
 use std::collections::VecDeque;
 
@@ -18,18 +18,31 @@ pub struct ListClause {
     pub(crate) place: Place,
 }
 
-/// A wait, with its clauses, that at which it began first.
+/// Memory for the clauses of a select.
+pub type ClauseBox = Box<ArrayVec<ListClause, 7>>;
+
+/// The clauses of a wait, that at which it began first.
+///
+/// A plain call has one clause, and takes no memory of its own for it.
+#[derive(Drop)]
+pub enum ListClauses {
+    One(ListClause),
+    Several(ClauseBox),
+}
+
+/// A wait, with its clauses.
 #[derive(Drop)]
 pub struct ListWait {
-    pub(crate) owner: Tag,
-    pub(crate) clauses: ArrayVec<ListClause, 7>,
+    pub(crate) clauses: ListClauses,
     pub(crate) resolved: Option<Resolution>,
-    pub(crate) settled: Option<Settled>,
+    /// Whether its Job was cancelled before it was settled, once it was. How it ended follows from that and the resolution.
+    pub(crate) settled: Option<bool>,
+    pub(crate) owner: Tag,
 }
 
 /// A channel, with one slot for each place that was given out: the wait that began there, if one did.
 ///
-/// Memory for all its places is taken when it is made, and touched as they are given out.
+/// Memory for all its places is taken when it is made, and touched as they are given out; a slot takes 40 bytes.
 #[derive(Drop)]
 pub struct ListChannel {
     pub(crate) places: u32,

@@ -29,7 +29,7 @@ impl ListFloor {
     {
         let place = begin_offer(&mut self.channels, c, who, clause, value);
         let main = WaitId { channel: c, place };
-        self.entries.push_reserved(Entry {
+        self.entries.push(&Entry {
             who,
             act: Act::Offer {
                 c,
@@ -62,8 +62,8 @@ impl ListFloor {
         ensures kinds { self.new.kinds ≡ self.old.kinds }
         ensures made { Made who (Offer c result value main clause) (floor_of self.old) (floor_of self.new) }
     {
-        let place = join_offer(&mut self.channels, c, main, clause, value);
-        self.entries.push_reserved(Entry {
+        let place = join_offer(&mut self.channels, &mut self.boxes, c, main, clause, value);
+        self.entries.push(&Entry {
             who,
             act: Act::Offer {
                 c,
@@ -89,7 +89,7 @@ impl ListFloor {
     {
         let place = begin_receiver(&mut self.channels, c, who, clause);
         let main = WaitId { channel: c, place };
-        self.entries.push_reserved(Entry {
+        self.entries.push(&Entry {
             who,
             act: Act::Await {
                 c,
@@ -119,8 +119,8 @@ impl ListFloor {
         ensures kinds { self.new.kinds ≡ self.old.kinds }
         ensures made { Made who (Await c result main clause) (floor_of self.old) (floor_of self.new) }
     {
-        let place = join_receiver(&mut self.channels, c, main, clause);
-        self.entries.push_reserved(Entry {
+        let place = join_receiver(&mut self.channels, &mut self.boxes, c, main, clause);
+        self.entries.push(&Entry {
             who,
             act: Act::Await {
                 c,

@@ -1,20 +1,34 @@
 //! How the first receiver or the first offer of a channel goes, and how the wait that stood there is resolved.
 
-ghost use Rattle.std.specs.Prelude.{◌≡◌, ◌<◌, length, IsSome, Some, ◌∷◌, slice_get};
+ghost use Rattle.std.specs.Prelude.{◌≡◌, ◌<◌, length, Some, ◌∷◌, slice_get};
 ghost use Rattle.std.specs.Option.{ForSome, option_and_then};
-ghost use Rattle.std.specs.VecDeque.{deque_len};
-ghost use Rattle.channel_model.specs.declared.standing.Resolution.TheVariants as resolved;
+ghost use Rattle.std.specs.VecDeque.{deque_len, deque_capacity};
 ghost use Rattle.channel_model.specs.Channels.{Shape, State};
 ghost use Rattle.channel_model.specs.Effects.{resolve, resolve_holder};
 ghost use Rattle.channel_model.specs.Answers.{owner_of};
 ghost use Rattle.channel_model.specs.Laws.{AllStandOpen, AllStandOnce};
-ghost use Rattle.one_thread_floor.specs.ListStands.{channel_of, channel_in, wait_in, IsAt, IsLeft, SamePlaces, Becomes, AllInOrder, PlacesKept};
+ghost use Rattle.one_thread_floor.specs.ListStands.{channel_of, channel_in, wait_in, IsUnresolved, IsAt, IsLeft, SamePlaces, Becomes, AllInOrder, PlacesKept, removed_as};
 
 use crate::list_channel::ListChannel;
 use crate::list_queries::owner_at;
 use crate::list_removal::resolve_elsewhere;
 use channel_model::{Party, Receiver, Resolution, Standing};
 use co_base::{ChannelId, Tag, Value};
+use std::collections::VecDeque;
+use std::mem::replace;
+
+/// Lets a queue in which nothing stands begin at the front of its memory, so that no more of it is touched than what stands at once takes.
+fn begin_anew<T: Drop>(queue: &mut VecDeque<T>)
+    ensures items { queue.new.items ≡ queue.old.items }
+    ensures len { deque_len queue.new ≡ deque_len queue.old }
+    ensures capacity { deque_capacity queue.new ≡ deque_capacity queue.old }
+{
+    if queue.is_empty() {
+        let none = VecDeque::new(*queue.allocator());
+        let emptied = replace(queue, none);
+        *queue = VecDeque::from_vec(emptied.into_vec());
+    }
+}
 
 fn pop_receiver_of(channel: &mut ListChannel) -> Receiver
     requires { 0 < deque_len channel.old.receivers }
@@ -22,7 +36,9 @@ fn pop_receiver_of(channel: &mut ListChannel) -> Receiver
     ensures channel { channel_of channel.new ≡ record (channel_of channel.old) { receivers = channel.new.receivers.items } }
     ensures places { SamePlaces channel.old channel.new }
 {
-    channel.receivers.pop_front().unwrap()
+    let receiver = channel.receivers.pop_front().unwrap();
+    begin_anew(&mut channel.receivers);
+    receiver
 }
 
 /// Takes the receiver that stands first.
@@ -36,40 +52,23 @@ fn pop_receiver(channels: &mut Vec<ListChannel>, c: ChannelId) -> Receiver
     pop_receiver_of(&mut channels[c as usize])
 }
 
-/// Hands an element to the receiver that stands first: it stands nowhere any more, and its wait is resolved.
-pub fn hand_to_first(channels: &mut Vec<ListChannel>, c: ChannelId, value: Value) -> Receiver
-    requires waits { ForSome (slice_get (channel_in channels.old.items c).receivers 0)
-        (λ r. IsSome (wait_in channels.old.items r.party.wait)) }
-    requires some { 0 < length (channel_in channels.old.items c).receivers }
+/// Resolves the wait of the receiver that stands first: it stands nowhere any more.
+pub fn resolve_first(
+    channels: &mut Vec<ListChannel>,
+    c: ChannelId,
+    first: Receiver,
+    how: Resolution,
+)
+    requires first { slice_get (channel_in channels.old.items c).receivers 0 ≡ Some first }
+    requires waits { IsUnresolved (wait_in channels.old.items first.party.wait) }
     requires order { AllInOrder channels.old.items }
     requires kept { PlacesKept channels.old.items }
     ensures kept { PlacesKept channels.new.items }
-    ensures first { slice_get (channel_in channels.old.items c).receivers 0 ≡ Some result }
     ensures state { (shape : Shape) (s : State) → AllStandOpen s → AllStandOnce s → IsAt shape channels.old.items s
-        → IsAt shape channels.new.items (resolve result.party.wait (resolved.Handed result.party.clause value) s) }
+        → IsAt shape channels.new.items (resolve first.party.wait how s) }
 {
-    let receiver = pop_receiver(channels, c);
-    let how = Resolution::Handed(receiver.party.clause, value);
-    resolve_elsewhere(channels, c, receiver.party.wait, how);
-    receiver
-}
-
-/// Tells the receiver that stands first that the channel is closed: it stands nowhere any more, and its wait is resolved.
-pub fn wake_first(channels: &mut Vec<ListChannel>, c: ChannelId, v: Value) -> Receiver
-    requires waits { ForSome (slice_get (channel_in channels.old.items c).receivers 0)
-        (λ r. IsSome (wait_in channels.old.items r.party.wait)) }
-    requires some { 0 < length (channel_in channels.old.items c).receivers }
-    requires order { AllInOrder channels.old.items }
-    requires kept { PlacesKept channels.old.items }
-    ensures kept { PlacesKept channels.new.items }
-    ensures first { slice_get (channel_in channels.old.items c).receivers 0 ≡ Some result }
-    ensures state { (shape : Shape) (s : State) → AllStandOpen s → AllStandOnce s → IsAt shape channels.old.items s
-        → IsAt shape channels.new.items (resolve result.party.wait (resolved.Closed result.party.clause v) s) }
-{
-    let receiver = pop_receiver(channels, c);
-    let how = Resolution::Closed(receiver.party.clause, v);
-    resolve_elsewhere(channels, c, receiver.party.wait, how);
-    receiver
+    pop_receiver(channels, c);
+    resolve_elsewhere(channels, c, first.party.wait, how);
 }
 
 fn pop_offer_of(channel: &mut ListChannel) -> Standing
@@ -79,7 +78,9 @@ fn pop_offer_of(channel: &mut ListChannel) -> Standing
     ensures places { SamePlaces channel.old channel.new }
 {
     channel.leading = channel.leading.saturating_sub(1);
-    channel.queue.pop_front().unwrap()
+    let offer = channel.queue.pop_front().unwrap();
+    begin_anew(&mut channel.queue);
+    offer
 }
 
 /// Takes the first offer.
@@ -100,7 +101,7 @@ pub fn resolve_party(
     party: Party,
     how: Resolution,
 ) -> Tag
-    requires there { IsSome (wait_in channels.old.items party.wait) }
+    requires waits { IsUnresolved (wait_in channels.old.items party.wait) }
     requires order { AllInOrder channels.old.items }
     requires kept { PlacesKept channels.old.items }
     ensures kept { PlacesKept channels.new.items }
@@ -113,43 +114,38 @@ pub fn resolve_party(
     owner
 }
 
-/// Resolves the holder of an offer that was taken from channel `c`, if it has one, and says whose wait it was.
-pub fn resolve_taken(
-    channels: &mut Vec<ListChannel>,
-    c: ChannelId,
-    holder: Option<Party>,
-) -> Option<Tag>
-    requires there { ForSome holder (λ p. IsSome (wait_in channels.old.items p.wait)) }
-    requires order { AllInOrder channels.old.items }
-    requires kept { PlacesKept channels.old.items }
-    ensures kept { PlacesKept channels.new.items }
-    ensures state { (shape : Shape) (s : State) → AllStandOpen s → ForSome holder (λ p. IsLeft p.wait c s)
-        → IsAt shape channels.old.items s → IsAt shape channels.new.items (resolve_holder holder resolved.Taken s) }
-    ensures from { option_and_then (λ p. owner_of (wait_in channels.old.items p.wait)) holder ≡ result }
+/// How the holder of an offer that was taken, or was removed from a cancelled channel, is resolved.
+fn removal(clause: u8, voided: bool) -> Resolution
+    ensures { result ≡ removed_as voided clause }
 {
-    match holder {
-        Some(party) => Some(resolve_party(channels, c, party, Resolution::Taken(party.clause))),
-        None => None,
+    if voided {
+        Resolution::Voided
+    } else {
+        Resolution::Taken(clause)
     }
 }
 
-/// Resolves the holder of an offer that was removed from a cancelled channel `c`, if it has one, and says whose wait it was.
-pub fn resolve_voided(
+/// Resolves the holder of an offer that left channel `c`, if it has one, and says whose wait it was: it was taken, or removed since the
+/// channel is cancelled.
+pub fn resolve_holder(
     channels: &mut Vec<ListChannel>,
     c: ChannelId,
     holder: Option<Party>,
+    voided: bool,
 ) -> Option<Tag>
-    requires there { ForSome holder (λ p. IsSome (wait_in channels.old.items p.wait)) }
+    requires waits { ForSome holder (λ p. IsUnresolved (wait_in channels.old.items p.wait)) }
     requires order { AllInOrder channels.old.items }
     requires kept { PlacesKept channels.old.items }
     ensures kept { PlacesKept channels.new.items }
     ensures state { (shape : Shape) (s : State) → AllStandOpen s → ForSome holder (λ p. IsLeft p.wait c s)
-        → IsAt shape channels.old.items s
-        → IsAt shape channels.new.items (resolve_holder holder (λ k. resolved.Voided) s) }
+        → IsAt shape channels.old.items s → IsAt shape channels.new.items (resolve_holder holder (removed_as voided) s) }
     ensures from { option_and_then (λ p. owner_of (wait_in channels.old.items p.wait)) holder ≡ result }
 {
     match holder {
-        Some(party) => Some(resolve_party(channels, c, party, Resolution::Voided)),
+        Some(party) => {
+            let how = removal(party.clause, voided);
+            Some(resolve_party(channels, c, party, how))
+        }
         None => None,
     }
 }

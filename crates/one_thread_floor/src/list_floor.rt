@@ -3,10 +3,12 @@
 ghost use Rattle.channel_model.specs.Channels.{IsShape};
 ghost use Rattle.channel_model.specs.Histories.{Legal};
 ghost use Rattle.channel_model.proofs.Once.{Legal-prop};
+ghost use Rattle.one_thread_floor.specs.GhostLists.{ghost_items};
 ghost use Rattle.one_thread_floor.specs.ListStands.{StandsFor, PlacesKept};
 ghost use Rattle.std.proofs.Props.{props};
 
-use crate::list_channel::ListChannel;
+use crate::ghost_list::GhostList;
+use crate::list_channel::{ClauseBox, ListChannel};
 use channel_model::{Entry, Kind};
 
 /// A floor of channels that one thread calls.
@@ -18,10 +20,13 @@ use channel_model::{Entry, Kind};
 pub struct ListFloor {
     pub(crate) kinds: Vec<(Kind, u32)>,
     pub(crate) channels: Vec<ListChannel>,
-    pub(crate) entries: Vec<Entry>,
+    /// What was made of the floor so far. Contracts alone see it.
+    pub(crate) entries: GhostList<Entry>,
+    /// What selects take at their second clause, made by `room`.
+    pub(crate) boxes: Vec<ClauseBox>,
     ghost shaped: { IsShape kinds.items } by { Prim.hlevel props },
-    ghost legal: { Legal kinds.items entries.items } by { Legal-prop kinds.items entries.items },
-    ghost stands: { StandsFor kinds.items channels.items entries.items } by { Prim.hlevel props },
+    ghost legal: { Legal kinds.items (ghost_items entries) } by { Legal-prop kinds.items (ghost_items entries) },
+    ghost stands: { StandsFor kinds.items channels.items (ghost_items entries) } by { Prim.hlevel props },
     ghost kept: { PlacesKept channels.items } by { Prim.hlevel props },
 }
 

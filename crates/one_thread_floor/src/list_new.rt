@@ -1,14 +1,16 @@
 //! A floor before its first call.
 
-ghost use Rattle.std.specs.Prelude.{◌≡◌, ◌≤◌, ℕ, length, [], true, IfOk};
+ghost use Rattle.std.specs.Prelude.{◌≡◌, ◌≤◌, ℕ, length, vec_len, [], true, IfOk, OnOk, OnErr};
 ghost use Rattle.std.specs.List.{All};
 ghost use Rattle.channel_model.specs.Channels.{empty, start};
 ghost use Rattle.one_thread_floor.specs.ListStands.{channel_of, IsAt};
 ghost use Rattle.one_thread_floor.specs.ListFloors.{floor_of, MayBeMade};
 
-use crate::list_channel::ListChannel;
+use crate::ghost_list::GhostList;
+use crate::list_channel::{ClauseBox, ListChannel};
 use crate::list_floor::ListFloor;
-use channel_model::{Entry, Kind};
+use arrayvec::ArrayVec;
+use channel_model::Kind;
 use co_base::Memory;
 use std::alloc::{AllocError, Global};
 use std::collections::VecDeque;
@@ -44,6 +46,32 @@ fn new_channels(alloc: Global, kinds: &[(Kind, u32)]) -> Result<Vec<ListChannel>
     Ok(channels)
 }
 
+/// Makes boxes until there are so many.
+fn add_boxes(boxes: &mut Vec<ClauseBox>, n: usize) -> Result<(), Memory>
+    ensures kept { vec_len boxes.old ≤ vec_len boxes.new }
+    ensures made { OnOk result (n ≤ vec_len boxes.new) }
+{
+    let alloc = *boxes.allocator();
+    while boxes.len() < n {
+        boxes.push(Box::new(alloc, ArrayVec::new())?)?;
+    }
+    Ok(())
+}
+
+/// Makes so many boxes, or none.
+pub fn make_boxes(boxes: &mut Vec<ClauseBox>, n: usize) -> Result<(), Memory>
+    ensures kept { vec_len boxes.old ≤ vec_len boxes.new }
+    ensures made { OnOk result (n ≤ vec_len boxes.new) }
+    ensures none { OnErr result (vec_len boxes.new ≡ vec_len boxes.old) }
+{
+    let had = boxes.len();
+    let made = add_boxes(boxes, n);
+    if made.is_err() {
+        boxes.truncate(had);
+    }
+    made
+}
+
 impl ListFloor {
     /// A floor with a channel of each of these kinds, with so many places. It takes the memory for all places.
     pub fn new(alloc: Global, kinds: &[(Kind, u32)]) -> Result<ListFloor, Memory>
@@ -55,17 +83,12 @@ impl ListFloor {
         ensures callers { IfOk result (λ f. (t : ℕ) → (floor_of f).callers t ≡ true) }
     {
         let channels = new_channels(alloc, kinds)?;
+        let entries = GhostList::new(alloc)?;
         Ok(ListFloor {
             kinds: Vec::from_slice(alloc, kinds)?,
             channels,
-            entries: Vec::new(alloc),
+            entries,
+            boxes: Vec::new(alloc),
         })
-    }
-
-    /// What was made of the floor so far.
-    pub fn entries(&self) -> &[Entry]
-        ensures { result.now ≡ (floor_of self.now).seen }
-    {
-        self.entries.as_slice()
     }
 }

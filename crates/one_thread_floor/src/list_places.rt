@@ -1,29 +1,26 @@
 //! How places are given out: to an offer or a receiver, with which a wait begins, that is one more clause of a wait, or with
 //! which nobody waits.
 
-ghost use Rattle.std.specs.Prelude.{◌≡◌, ℕ, ◌<◌, length, vec_len, IsSome, Some, None, true, if◌then◌else◌, ◌==◌, [], ◌∷◌, ◌++◌, option_map};
+ghost use Rattle.std.specs.Prelude.{◌≡◌, ℕ, ◌+◌, ◌<◌, ◌≤◌, length, vec_len, IsSome, Some, None, true, if◌then◌else◌, ◌==◌, [], ◌∷◌, ◌++◌, option_map};
 ghost use Rattle.channel_model.specs.Channels.{same_wait};
 ghost use Rattle.channel_model.specs.Effects.{place_receiver, place_offer, name_clause};
-ghost use Rattle.one_thread_floor.specs.ListStands.{places_in, wait_in_channel, wait_of, channel_of, channel_in, wait_in, clauses_of, clauses_of_slot, clauses_in_channel, clauses_in, named, held_offer, held_receiver, with_clause, SameShape, SameChannels, Becomes, BeginsWait, JoinsClause, OneWait, OneSlot};
+ghost use Rattle.one_thread_floor.specs.ListStands.{places_in, wait_in_channel, items_of, wait_of, channel_of, channel_in, wait_in, clauses_of, clauses_of_slot, clauses_in_channel, clauses_in, named, held_offer, held_receiver, with_clause, SameShape, SameChannels, Becomes, BeginsWait, JoinsClause, OneWait, OneSlot};
 
-use crate::list_channel::{ListChannel, ListClause, ListWait};
+use crate::list_channel::{ClauseBox, ListChannel, ListClause, ListClauses, ListWait};
 use crate::list_queries::next_place;
-use arrayvec::ArrayVec;
 use channel_model::{Party, Receiver, Standing};
 use co_base::{ChannelId, Place, Tag, Value, WaitId};
 
 /// A wait that begins with this clause.
 fn new_wait(who: Tag, clause: ListClause) -> ListWait
     ensures wait { Some (wait_of result) ≡ name_clause who clause.number clause.channel None }
-    ensures clauses { result.clauses.items ≡ clause ∷ [] }
+    ensures clauses { items_of result.clauses ≡ clause ∷ [] }
 {
-    let mut clauses = ArrayVec::new();
-    clauses.push(clause);
     ListWait {
-        owner: who,
-        clauses,
+        clauses: ListClauses::One(clause),
         resolved: None,
         settled: None,
+        owner: who,
     }
 }
 
@@ -179,45 +176,83 @@ pub fn begin_receiver(channels: &mut Vec<ListChannel>, c: ChannelId, who: Tag, c
     place
 }
 
-fn push_clause(slot: &mut Option<ListWait>, clause: ListClause)
-    requires there { IsSome slot.old }
-    requires few { length (clauses_of (option_map wait_of slot.old)) < 7 }
-    ensures wait { option_map wait_of slot.new ≡ with_clause clause.number clause.channel (option_map wait_of slot.old) }
-    ensures clauses { clauses_of_slot slot.new ≡ clauses_of_slot slot.old ++ clause ∷ [] }
+/// Appends a clause; the second takes a box.
+fn push_item(clauses: &mut ListClauses, boxes: &mut Vec<ClauseBox>, clause: ListClause)
+    requires few { length (items_of clauses.old) < 7 }
+    requires room { 0 < vec_len boxes.old }
+    ensures clauses { items_of clauses.new ≡ items_of clauses.old ++ clause ∷ [] }
+    ensures boxes { vec_len boxes.old ≤ vec_len boxes.new + 1 }
 {
-    if let Some(wait) = slot {
-        wait.clauses.push(clause);
+    match clauses {
+        ListClauses::One(first) => {
+            let first = *first;
+            let mut several = boxes.pop().unwrap();
+            several.clear();
+            several.push(first);
+            several.push(clause);
+            *clauses = ListClauses::Several(several);
+        }
+        ListClauses::Several(several) => several.push(clause),
     }
 }
 
-fn push_clause_in(channel: &mut ListChannel, place: usize, clause: ListClause)
+fn push_clause(slot: &mut Option<ListWait>, boxes: &mut Vec<ClauseBox>, clause: ListClause)
+    requires there { IsSome slot.old }
+    requires few { length (clauses_of (option_map wait_of slot.old)) < 7 }
+    requires room { 0 < vec_len boxes.old }
+    ensures wait { option_map wait_of slot.new ≡ with_clause clause.number clause.channel (option_map wait_of slot.old) }
+    ensures clauses { clauses_of_slot slot.new ≡ clauses_of_slot slot.old ++ clause ∷ [] }
+    ensures boxes { vec_len boxes.old ≤ vec_len boxes.new + 1 }
+{
+    if let Some(wait) = slot {
+        push_item(&mut wait.clauses, boxes, clause);
+    }
+}
+
+fn push_clause_in(
+    channel: &mut ListChannel,
+    boxes: &mut Vec<ClauseBox>,
+    place: usize,
+    clause: ListClause,
+)
     requires place { place < vec_len channel.old.slots }
+    requires room { 0 < vec_len boxes.old }
     requires there { IsSome (wait_in_channel (Some channel.old) place) }
     requires few { length (clauses_of (wait_in_channel (Some channel.old) place)) < 7 }
     ensures channel { channel_of channel.new ≡ channel_of channel.old }
     ensures places { channel.new.places ≡ channel.old.places }
     ensures waits { OneSlot place (with_clause clause.number clause.channel) channel.old channel.new }
     ensures clauses { clauses_in_channel (Some channel.new) place ≡ clauses_in_channel (Some channel.old) place ++ clause ∷ [] }
+    ensures boxes { vec_len boxes.old ≤ vec_len boxes.new + 1 }
 {
-    push_clause(&mut channel.slots[place], clause);
+    push_clause(&mut channel.slots[place], boxes, clause);
 }
 
 /// Gives the wait one clause more.
-fn add_clause(channels: &mut Vec<ListChannel>, w: WaitId, clause: ListClause)
+fn add_clause(
+    channels: &mut Vec<ListChannel>,
+    boxes: &mut Vec<ClauseBox>,
+    w: WaitId,
+    clause: ListClause,
+)
     requires there { IsSome (wait_in channels.old.items w) }
     requires few { length (clauses_of (wait_in channels.old.items w)) < 7 }
+    requires room { 0 < vec_len boxes.old }
     ensures channels { SameChannels channels.old.items channels.new.items }
     ensures waits { OneWait w (with_clause clause.number clause.channel) channels.old.items channels.new.items }
     ensures clauses { (v : WaitId) → clauses_in channels.new.items v
         ≡ (if same_wait w v then clauses_in channels.old.items w ++ clause ∷ [] else clauses_in channels.old.items v) }
     ensures shape { SameShape channels.old.items channels.new.items }
+    ensures boxes { vec_len boxes.old ≤ vec_len boxes.new + 1 }
 {
-    push_clause_in(&mut channels[w.channel as usize], w.place as usize, clause);
+    let channel = &mut channels[w.channel as usize];
+    push_clause_in(channel, boxes, w.place as usize, clause);
 }
 
 /// Gives out a place to an offer, as one more clause of the wait.
 pub fn join_offer(
     channels: &mut Vec<ListChannel>,
+    boxes: &mut Vec<ClauseBox>,
     c: ChannelId,
     w: WaitId,
     clause: u8,
@@ -226,7 +261,9 @@ pub fn join_offer(
     requires left { (channel_in channels.old.items c).next < places_in channels.old.items c }
     requires there { IsSome (wait_in channels.old.items w) }
     requires few { length (clauses_of (wait_in channels.old.items w)) < 7 }
+    requires room { 0 < vec_len boxes.old }
     ensures place { result ≡ (channel_in channels.old.items c).next }
+    ensures boxes { vec_len boxes.old ≤ vec_len boxes.new + 1 }
     ensures change { JoinsClause w clause c result
         (place_offer true (held_offer w clause result value) (channel_in channels.old.items c))
         channels.old.items channels.new.items }
@@ -234,6 +271,7 @@ pub fn join_offer(
     let place = append_offer(channels, c, value, Some(Party { wait: w, clause }));
     add_clause(
         channels,
+        boxes,
         w,
         ListClause {
             number: clause,
@@ -245,11 +283,19 @@ pub fn join_offer(
 }
 
 /// Gives out a place to a receiver, as one more clause of the wait.
-pub fn join_receiver(channels: &mut Vec<ListChannel>, c: ChannelId, w: WaitId, clause: u8) -> Place
+pub fn join_receiver(
+    channels: &mut Vec<ListChannel>,
+    boxes: &mut Vec<ClauseBox>,
+    c: ChannelId,
+    w: WaitId,
+    clause: u8,
+) -> Place
     requires left { (channel_in channels.old.items c).next < places_in channels.old.items c }
     requires there { IsSome (wait_in channels.old.items w) }
     requires few { length (clauses_of (wait_in channels.old.items w)) < 7 }
+    requires room { 0 < vec_len boxes.old }
     ensures place { result ≡ (channel_in channels.old.items c).next }
+    ensures boxes { vec_len boxes.old ≤ vec_len boxes.new + 1 }
     ensures change { JoinsClause w clause c result
         (place_receiver true (held_receiver w clause result) (channel_in channels.old.items c))
         channels.old.items channels.new.items }
@@ -257,6 +303,7 @@ pub fn join_receiver(channels: &mut Vec<ListChannel>, c: ChannelId, w: WaitId, c
     let place = append_receiver(channels, c, Party { wait: w, clause });
     add_clause(
         channels,
+        boxes,
         w,
         ListClause {
             number: clause,

@@ -4,12 +4,13 @@ ghost use Rattle.std.specs.Prelude.{◌≡◌, ◌<◌, length, IsSome, Some, sl
 ghost use Rattle.std.specs.Option.{ForSome};
 ghost use Rattle.channel_model.specs.Channels.{kind_at};
 ghost use Rattle.channel_model.specs.Effects.{is_open};
-ghost use Rattle.channel_model.specs.Answers.{owner_of, state_of_wait, outcome_at};
-ghost use Rattle.one_thread_floor.specs.ListStands.{channel_in, wait_in, places_in, clauses_of, clauses_in, place_for, is_resolved_main};
+ghost use Rattle.channel_model.specs.Answers.{owner_of, state_of_wait};
+ghost use Rattle.one_thread_floor.specs.ListStands.{channel_in, wait_in, places_in, items_of, clauses_of, clauses_in, place_for, is_resolved_main};
 
-use crate::list_channel::{ListChannel, ListClause};
-use channel_model::{Kind, Receiver, Settled, Standing, WaitState, outcome};
+use crate::list_channel::{ListChannel, ListClause, ListClauses};
+use channel_model::{Kind, Receiver, Standing, WaitState};
 use co_base::{ChannelId, Place, Tag, Value, WaitId};
+use std::slice::from_ref;
 
 /// The kind of a channel.
 pub fn kind_at(kinds: &Vec<(Kind, u32)>, c: ChannelId) -> Kind
@@ -93,16 +94,13 @@ pub fn state_at(channels: &Vec<ListChannel>, w: WaitId) -> WaitState
     ensures { state_of_wait (wait_in channels.now.items w) ≡ Some result }
 {
     match &channels[w.channel as usize].slots[w.place as usize] {
-        Some(wait) => {
-            if wait.settled.is_some() {
-                WaitState::Settled
-            } else {
-                match wait.resolved {
-                    Some(_) => WaitState::Resolved,
-                    None => WaitState::Standing,
-                }
-            }
-        }
+        Some(wait) => match wait.resolved {
+            Some(_) => match wait.settled {
+                Some(_) => WaitState::Settled,
+                None => WaitState::Resolved,
+            },
+            None => WaitState::Standing,
+        },
         None => unreachable!(),
     }
 }
@@ -129,17 +127,13 @@ pub fn is_main_resolved(channels: &Vec<ListChannel>, main: Option<WaitId>) -> bo
     }
 }
 
-/// What a settle of the wait answers.
-pub fn outcome_in(channels: &Vec<ListChannel>, w: WaitId, cancelled: bool) -> Settled
-    requires { IsSome (outcome_at cancelled (wait_in channels.now.items w)) }
-    ensures { outcome_at cancelled (wait_in channels.now.items w) ≡ Some result }
+/// The clauses of a wait, that at which it began first.
+pub fn items(clauses: &ListClauses) -> &[ListClause]
+    ensures { result.now ≡ items_of clauses.now }
 {
-    match &channels[w.channel as usize].slots[w.place as usize] {
-        Some(wait) => match wait.resolved {
-            Some(how) => outcome(how, cancelled),
-            None => unreachable!(),
-        },
-        None => unreachable!(),
+    match clauses {
+        ListClauses::One(clause) => from_ref(clause),
+        ListClauses::Several(several) => several.as_slice(),
     }
 }
 
@@ -149,7 +143,7 @@ pub fn clause_count(channels: &Vec<ListChannel>, w: WaitId) -> usize
     ensures { result ≡ length (clauses_of (wait_in channels.now.items w)) }
 {
     match &channels[w.channel as usize].slots[w.place as usize] {
-        Some(wait) => wait.clauses.len(),
+        Some(wait) => items(&wait.clauses).len(),
         None => 0,
     }
 }
@@ -161,7 +155,7 @@ pub fn clause_channel(channels: &Vec<ListChannel>, w: WaitId, i: usize) -> Chann
     ensures { result ≡ (slice_index_or (clauses_of (wait_in channels.now.items w)) i (0, 0)).1 }
 {
     match &channels[w.channel as usize].slots[w.place as usize] {
-        Some(wait) => wait.clauses.as_slice()[i].channel,
+        Some(wait) => items(&wait.clauses)[i].channel,
         None => 0,
     }
 }
@@ -183,7 +177,7 @@ pub fn place_for(channels: &Vec<ListChannel>, w: WaitId, c: ChannelId) -> Option
     ensures { result ≡ place_for c (clauses_in channels.now.items w) }
 {
     match &channels[w.channel as usize].slots[w.place as usize] {
-        Some(wait) => place_among(wait.clauses.as_slice(), c),
+        Some(wait) => place_among(items(&wait.clauses), c),
         None => None,
     }
 }

@@ -5,7 +5,7 @@ ghost use Rattle.std.specs.VecDeque.{deque_len, deque_capacity};
 ghost use Rattle.channel_model.specs.Channels.{Shape, State, same_wait};
 ghost use Rattle.channel_model.specs.Effects.{is_held_by, without, resolve, resolved_wait};
 ghost use Rattle.channel_model.specs.Laws.{AllStandOpen, StandsInOrder};
-ghost use Rattle.one_thread_floor.specs.ListStands.{wait_of, channel_of, channel_in, wait_in, clauses_of, clauses_of_slot, clauses_in_channel, IsAt, has_clause_elsewhere, SamePlaces, SameShape, IsWithout, SameWaits, SameClauses, SameChannels, Becomes, OneWait, OneSlot, AllInOrder, PlacesKept, PlacesAscend, StandOnlyAt, StandsAt};
+ghost use Rattle.one_thread_floor.specs.ListStands.{wait_of, channel_of, channel_in, wait_in, wait_in_channel, IsUnresolved, clauses_of, clauses_of_slot, clauses_in_channel, IsAt, has_clause_elsewhere, SamePlaces, SameShape, IsWithout, SameWaits, SameClauses, SameChannels, Becomes, OneWait, OneSlot, AllInOrder, PlacesKept, PlacesAscend, StandOnlyAt, StandsAt};
 
 use crate::list_channel::{ListChannel, ListWait};
 use crate::list_queries::{clause_channel, clause_count, place_for};
@@ -125,16 +125,19 @@ fn remove_elsewhere(channels: &mut Vec<ListChannel>, c: ChannelId, w: WaitId)
 }
 
 fn mark_slot(slot: &mut Option<ListWait>, how: Resolution)
+    requires { IsUnresolved (option_map wait_of slot.old) }
     ensures wait { option_map wait_of slot.new ≡ resolved_wait how (option_map wait_of slot.old) }
     ensures clauses { clauses_of_slot slot.new ≡ clauses_of_slot slot.old }
 {
     if let Some(wait) = slot {
         wait.resolved = Some(how);
+        wait.settled = None;
     }
 }
 
 fn mark_in(channel: &mut ListChannel, place: usize, how: Resolution)
-    requires { place < vec_len channel.old.slots }
+    requires place { place < vec_len channel.old.slots }
+    requires waits { IsUnresolved (wait_in_channel (Some channel.old) place) }
     ensures channel { channel_of channel.new ≡ channel_of channel.old }
     ensures places { channel.new.places ≡ channel.old.places }
     ensures waits { OneSlot place (resolved_wait how) channel.old channel.new }
@@ -145,7 +148,7 @@ fn mark_in(channel: &mut ListChannel, place: usize, how: Resolution)
 
 /// Marks the wait as resolved.
 fn mark(channels: &mut Vec<ListChannel>, w: WaitId, how: Resolution)
-    requires { IsSome (wait_in channels.old.items w) }
+    requires { IsUnresolved (wait_in channels.old.items w) }
     ensures channels { SameChannels channels.old.items channels.new.items }
     ensures waits { OneWait w (resolved_wait how) channels.old.items channels.new.items }
     ensures clauses { SameClauses channels.old.items channels.new.items }
@@ -156,7 +159,7 @@ fn mark(channels: &mut Vec<ListChannel>, w: WaitId, how: Resolution)
 
 /// Resolves a wait that does not stand at channel `c`: it leaves each other channel at which it has a clause.
 pub fn resolve_elsewhere(channels: &mut Vec<ListChannel>, c: ChannelId, w: WaitId, how: Resolution)
-    requires there { IsSome (wait_in channels.old.items w) }
+    requires waits { IsUnresolved (wait_in channels.old.items w) }
     requires order { AllInOrder channels.old.items }
     requires kept { PlacesKept channels.old.items }
     ensures channels { IsWithout w (has_clause_elsewhere c (clauses_of (wait_in channels.old.items w)))
@@ -171,7 +174,7 @@ pub fn resolve_elsewhere(channels: &mut Vec<ListChannel>, c: ChannelId, w: WaitI
 
 /// Resolves a wait that may stand anywhere: it leaves the channel at which it began, and each other at which it has a clause.
 pub fn resolve_everywhere(channels: &mut Vec<ListChannel>, w: WaitId, how: Resolution)
-    requires there { IsSome (wait_in channels.old.items w) }
+    requires waits { IsUnresolved (wait_in channels.old.items w) }
     requires order { AllInOrder channels.old.items }
     requires kept { PlacesKept channels.old.items }
     ensures kept { PlacesKept channels.new.items }

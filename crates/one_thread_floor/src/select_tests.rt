@@ -10,7 +10,7 @@ ghost use Rattle.one_thread_floor.specs.ListStands.{clause_of, wait_in};
 
 use crate::list_channel::ListClause;
 use crate::list_floor::ListFloor;
-use crate::list_queries::kind_at;
+use crate::list_queries::{items, kind_at};
 use crate::list_tests::{is_own, is_ready};
 use channel_model::{
     AlreadyClosed, ChannelFloor, Kind, Offered, Registered, Settled, Why, Withdrawn,
@@ -96,7 +96,7 @@ fn may_join(floor: &ListFloor, who: Tag, w: WaitId, clause: u8, c: ChannelId) ->
     }
     match &floor.channels[channel].slots[place] {
         Some(wait) => {
-            let clauses = wait.clauses.as_slice();
+            let clauses = items(&wait.clauses);
             if wait.owner != who || wait.settled.is_some() || !began_by_select(clauses) {
                 return false;
             }

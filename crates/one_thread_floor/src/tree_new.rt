@@ -5,6 +5,7 @@ ghost use Rattle.job_model.specs.Trees.{start};
 ghost use Rattle.one_thread_floor.specs.TreeRows.{AreRowsOf};
 ghost use Rattle.one_thread_floor.specs.TreeClaims.{AreFirstClaims};
 
+use crate::ghost_list::GhostList;
 use crate::tree_floor::TreeFloor;
 use crate::tree_row::{TreeRow, TreeSize};
 use co_base::{Memory, Tag};
@@ -67,12 +68,13 @@ impl TreeFloor {
         };
         let rows = rows_with_root(alloc, size.rows)?;
         let claims = claims_with_root(alloc, size)?;
+        let entries = GhostList::new(alloc)?;
         Ok(TreeFloor {
             size,
             next_scope: coroutines,
             rows,
             claims,
-            entries: Vec::new(alloc),
+            entries,
         })
     }
 }

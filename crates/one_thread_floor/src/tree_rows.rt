@@ -97,7 +97,7 @@ pub fn without_body(job: TreeRow, value: Value) -> TreeRow
 }
 
 /// A Job as a look shows it.
-pub fn view_of(job: TreeRow) -> JobView
+fn view_of(job: TreeRow) -> JobView
     ensures { result ≡ view_of_row job }
 {
     JobView {
@@ -109,6 +109,13 @@ pub fn view_of(job: TreeRow) -> JobView
         first_child: job.first_child,
         value: job.value,
     }
+}
+
+/// What a look shows of a row, if it is attached.
+pub fn view_at(rows: &Vec<Option<TreeRow>>, row: Row) -> Option<JobView>
+    ensures { result ≡ option_map view_of_row (item_in rows.now.items row) }
+{
+    row_at(rows, row).map(view_of)
 }
 
 /// The parent of a child.

@@ -1,6 +1,14 @@
 //! The floor of Jobs on a worked table of calls.
 
+ghost use Rattle.std.specs.Prelude.{◌≡◌, true, false, is_some};
+ghost use Rattle.job_model.specs.Trees.{is_new};
+ghost use Rattle.job_model.specs.Histories.{replay};
+ghost use Rattle.job_model.specs.Needs.{MayEndBody};
+ghost use Rattle.one_thread_floor.specs.TreeFloors.{floor_of};
+
 use crate::tree_floor::TreeFloor;
+use crate::tree_row::TreeRow;
+use crate::tree_rows::row_at;
 use co_base::{Memory, Row, Tag, Value};
 use job_model::{AttachError, Attached, End, Ended, Finished, JobFloor, JobKind};
 use std::test::Fail;
@@ -17,6 +25,32 @@ const SCOPE: JobKind = JobKind {
     lazy: false,
 };
 
+/// Whether a Job is attached at the row.
+fn is_attached(floor: &TreeFloor, row: Row) -> bool
+    ensures { result ≡ true → is_some (replay (floor_of floor.now).seen row) ≡ true }
+{
+    match row_at(&floor.rows, row) {
+        Some(_) => true,
+        None => false,
+    }
+}
+
+fn is_at_work(job: TreeRow, who: Tag) -> bool
+    ensures { result ≡ true → (job.tag ≡ who) × (is_new job.state ≡ false) × (job.body_ended ≡ false) }
+{
+    job.tag == who && !job.state.is_new() && !job.body_ended
+}
+
+/// Whether the row is the caller's own, and its body at work.
+fn may_end_body(floor: &TreeFloor, who: Tag, row: Row) -> bool
+    ensures { result ≡ true → MayEndBody who (replay (floor_of floor.now).seen row) }
+{
+    match row_at(&floor.rows, row) {
+        Some(job) => is_at_work(job, who),
+        None => false,
+    }
+}
+
 /// Attaches, where the parent is seen attached. None: the call may not be made.
 fn attach(
     floor: &mut TreeFloor,
@@ -29,7 +63,7 @@ fn attach(
     if tag >= floor.size.coroutines || (kind.scoped && tag != who) || parent >= floor.rows() {
         return Ok(None);
     }
-    if floor.look(who, parent).is_none() {
+    if !is_attached(floor, parent) {
         return Ok(None);
     }
     Ok(Some(floor.attach(who, parent, kind, tag)))
@@ -43,13 +77,7 @@ fn end_body(
     value: Value,
 ) -> Result<Option<Ended>, Memory> {
     floor.room(1)?;
-    if row == 0 || row >= floor.rows() {
-        return Ok(None);
-    }
-    let Some(job) = floor.look(who, row) else {
-        return Ok(None);
-    };
-    if job.state.is_new() || job.body_ended || floor.link(who, row).tag != who {
+    if !is_attached(floor, row) || !may_end_body(floor, who, row) {
         return Ok(None);
     }
     Ok(Some(floor.end_body(who, row, value)))
@@ -58,7 +86,7 @@ fn end_body(
 /// Finishes, where the row is seen attached. None: the call may not be made.
 fn finish(floor: &mut TreeFloor, who: Tag, row: Row) -> Result<Option<Finished>, Memory> {
     floor.room(1)?;
-    if row >= floor.rows() || floor.look(who, row).is_none() {
+    if !is_attached(floor, row) {
         return Ok(None);
     }
     Ok(Some(floor.finish(who, row)))

@@ -1,6 +1,10 @@
 use Rattle.one_thread_floor.proofs.KeptPlaces.{all_without_kept}
 use Rattle.one_thread_floor.proofs.ListFirsts.{resolved_in}
+use Rattle.one_thread_floor.proofs.ListWaits.{unresolved_began}
 use Rattle.one_thread_floor.proofs.list_firsts.resolve_party.Goals as goal
+
+pub owner_at-owner-requires : goal.owner_at-owner-requires
+owner_at-owner-requires c = unresolved_began _ c.requires.waits
 
 pub returns-clause-state : goal.returns-clause-state
 returns-clause-state c =

@@ -1,4 +1,6 @@
-use Rattle.one_thread_floor.specs.ListStands.{clauses_in}
+use Rattle.std.proofs.Common.{sym, subst}
+use Rattle.one_thread_floor.specs.ListStands.{clauses_in, IsUnresolved}
+use Rattle.one_thread_floor.proofs.ListWaits.{unresolved_began}
 use Rattle.one_thread_floor.proofs.InOrder.{becomes_in_order, without_in_order}
 use Rattle.one_thread_floor.proofs.KeptPlaces.{becomes_kept, without_kept, all_without_kept}
 use Rattle.one_thread_floor.proofs.ListRemoval.{resolved_everywhere}
@@ -22,3 +24,9 @@ returns-clause-state c =
     let r = c.remove_at.ensures in
     let e = c.resolve_elsewhere.ensures in
     resolved_everywhere c.args.w c.args.how c.args.channels.now.items c.remove_at.new.channels.items c.resolve_elsewhere.new.channels.items r e.channels e.waits e.shape
+
+pub remove_at-requires-clause-there : goal.remove_at-requires-clause-there
+remove_at-requires-clause-there c = unresolved_began _ c.requires.waits
+
+pub resolve_elsewhere-requires-clause-waits : goal.resolve_elsewhere-requires-clause-waits
+resolve_elsewhere-requires-clause-waits c = subst IsUnresolved (sym (c.remove_at.ensures.waits c.args.w)) c.requires.waits

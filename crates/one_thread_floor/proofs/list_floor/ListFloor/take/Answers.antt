@@ -1,5 +1,6 @@
 use Rattle.std.proofs.Common.{arith}
 use Rattle.channel_model.proofs.Alone.{recorded_legal, made_alone}
+use Rattle.one_thread_floor.specs.GhostLists.{ghost_items}
 use Rattle.one_thread_floor.proofs.ListEntries.{recorded_at}
 use Rattle.one_thread_floor.proofs.ListFirsts.{popped_holder, take_needs, take_at, offer_is_of}
 use Rattle.one_thread_floor.specs.ListStands.{clauses_in}
@@ -7,35 +8,35 @@ use Rattle.one_thread_floor.proofs.InOrder.{all_in_order, becomes_in_order, popp
 use Rattle.one_thread_floor.proofs.KeptPlaces.{becomes_kept, popped_offer_kept}
 use Rattle.one_thread_floor.proofs.list_floor.ListFloor.take.Goals as goal
 
-pub resolve_taken-from-requires-clause-there : goal.resolve_taken-from-requires-clause-there
-resolve_taken-from-requires-clause-there c = popped_holder _ c.args.self.now.channels.items c.pop_offer-offer.new.channels.items c.args.self.now.entries.items c.args.c c.pop_offer-offer.result _ c.args.self.now.stands c.pop_offer-offer.ensures.change.waits c.pop_offer-offer.ensures.first
+pub resolve_holder-from-requires-clause-waits : goal.resolve_holder-from-requires-clause-waits
+resolve_holder-from-requires-clause-waits c = popped_holder _ c.args.self.now.channels.items c.pop_offer-offer.new.channels.items (ghost_items c.args.self.now.entries) c.args.c c.pop_offer-offer.result _ c.args.self.now.stands c.pop_offer-offer.ensures.change.waits c.pop_offer-offer.ensures.first
 
 pub invariant_of-self : goal.invariant_of-self
 invariant_of-self c =
     let o = c.pop_offer-offer.result in
     let xs = c.args.self.now.channels.items in
-    let es = c.args.self.now.entries.items in
+    let es = ghost_items c.args.self.now.entries in
     let p = c.pop_offer-offer.ensures in
     record {
       shaped = c.args.self.now.shaped;
-      legal = recorded_legal _ es c.push_reserved.new.self.items _ c.args.self.now.legal c.push_reserved.ensures.items (take_needs _ xs es c.args.who c.args.c o _ c.args.self.now.stands c.requires.channel p.first);
-      stands = recorded_at _ c.resolve_taken-from.new.channels.items es c.push_reserved.new.self.items _ c.push_reserved.ensures.items (take_at _ xs c.pop_offer-offer.new.channels.items c.resolve_taken-from.new.channels.items es c.args.who c.args.c o _ c.args.self.now.legal c.args.self.now.stands p.first p.change c.resolve_taken-from.ensures.state);
-      kept = c.resolve_taken-from.ensures.kept;
+      legal = recorded_legal _ es (ghost_items c.push.new.self) _ c.args.self.now.legal c.push.ensures (take_needs _ xs es c.args.who c.args.c o _ c.args.self.now.stands c.requires.channel p.first);
+      stands = recorded_at _ c.resolve_holder-from.new.channels.items es (ghost_items c.push.new.self) _ c.push.ensures (take_at _ xs c.pop_offer-offer.new.channels.items c.resolve_holder-from.new.channels.items es c.args.who c.args.c o _ c.args.self.now.legal c.args.self.now.stands p.first p.change c.resolve_holder-from.ensures.state);
+      kept = c.resolve_holder-from.ensures.kept;
     }
 
 pub returns-clause-made : goal.returns-clause-made
 returns-clause-made c = record {
-  made = made_alone _ c.args.who _ c.args.self.now.entries.items c.push_reserved.new.self.items _ _ c.push_reserved.ensures.items (omega (arith, c.push_reserved.ensures.len, c.push_reserved.ensures.capacity));
-  from = offer_is_of _ c.args.self.now.channels.items c.pop_offer-offer.new.channels.items c.args.self.now.entries.items c.args.c c.pop_offer-offer.result _ _ c.args.self.now.stands c.pop_offer-offer.ensures.change.waits c.pop_offer-offer.ensures.first c.resolve_taken-from.ensures.from;
+  made = made_alone _ c.args.who _ (ghost_items c.args.self.now.entries) (ghost_items c.push.new.self) _ _ c.push.ensures (omega arith);
+  from = offer_is_of _ c.args.self.now.channels.items c.pop_offer-offer.new.channels.items (ghost_items c.args.self.now.entries) c.args.c c.pop_offer-offer.result _ _ c.args.self.now.stands c.pop_offer-offer.ensures.change.waits c.pop_offer-offer.ensures.first c.resolve_holder-from.ensures.from;
 }
 
-pub resolve_taken-from-requires-clause-order : goal.resolve_taken-from-requires-clause-order
-resolve_taken-from-requires-clause-order c =
+pub resolve_holder-from-requires-clause-order : goal.resolve_holder-from-requires-clause-order
+resolve_holder-from-requires-clause-order c =
     let p = c.pop_offer-offer.ensures in
-    let order = all_in_order _ c.args.self.now.channels.items c.args.self.now.entries.items c.args.self.now.legal c.args.self.now.stands in
+    let order = all_in_order _ c.args.self.now.channels.items (ghost_items c.args.self.now.entries) c.args.self.now.legal c.args.self.now.stands in
     becomes_in_order c.args.c _ c.args.self.now.channels.items c.pop_offer-offer.new.channels.items p.change order (popped_offer_in_order c.pop_offer-offer.result _ _ p.first (order c.args.c))
 
-pub resolve_taken-from-requires-clause-kept : goal.resolve_taken-from-requires-clause-kept
-resolve_taken-from-requires-clause-kept c =
+pub resolve_holder-from-requires-clause-kept : goal.resolve_holder-from-requires-clause-kept
+resolve_holder-from-requires-clause-kept c =
     let p = c.pop_offer-offer.ensures in
     becomes_kept c.args.c _ c.args.self.now.channels.items c.pop_offer-offer.new.channels.items p.change c.args.self.now.kept (popped_offer_kept (clauses_in c.args.self.now.channels.items) c.args.c c.pop_offer-offer.result _ _ p.first (c.args.self.now.kept c.args.c))
