@@ -11,7 +11,7 @@ use Rattle.channel_model.specs.declared.standing.Standing.{Standing}
 use Rattle.channel_model.specs.declared.standing.Receiver.{Receiver}
 use Rattle.channel_model.specs.declared.standing.Resolution.{Resolution}
 use Rattle.channel_model.specs.Channels.{Shape, Channel, State, same_wait}
-use Rattle.channel_model.specs.Effects.{after, is_held_by, place_offer, place_receiver, resolve_first, resolve_holder, resolve_offer, with_queue}
+use Rattle.channel_model.specs.Effects.{after, is_held_by, place_offer, place_receiver, resolve_first, resolve_holder, resolve_offer, remove_first, with_queue}
 use Rattle.channel_model.specs.Needs.{Needs, HasPlace, IsFirstReceiver, IsFirstOffer}
 use Rattle.channel_model.specs.Histories.{replay, Legal}
 use Rattle.channel_model.specs.Laws.{NoneBelow, Ascends}
@@ -101,10 +101,10 @@ past_first c p (r ∷ rs) how s e h a =
     by_test false f k = cc
 
 -- the first offer is gone, and the others stand above
-past_taken_offer : (c p v : ℕ) (shape : Shape) (q : List Standing) (how : ℕ → Resolution) (s : State) → (s.channels c).queue ≡ q → IsFirstOffer p v q
-    → Ascends (λ (o : Standing). o.place) 0 (s.channels c).next q → NoneBelow 0 (p + 1) ((resolve_offer c q how s).channels c)
-past_taken_offer c p v shape [] how s e h a = absurd h
-past_taken_offer c p v shape (o ∷ os) how s e h a = by_holder o.holder
+past_removed_offer : (c p v : ℕ) (q : List Standing) (s : State) → (s.channels c).queue ≡ q → IsFirstOffer p v q
+    → Ascends (λ (o : Standing). o.place) 0 (s.channels c).next q → NoneBelow 0 (p + 1) ((remove_first c q s).channels c)
+past_removed_offer c p v [] s e h a = absurd h
+past_removed_offer c p v (o ∷ os) s e h a = subst (NoneBelow 0 (p + 1)) (sym (put_here c (record (s.channels c) { queue = os }) s.channels)) rest
   where
     above : Ascends (λ (x : Standing). x.place) (p + 1) (s.channels c).next os
     above = subst (λ (n : ℕ). Ascends (λ (x : Standing). x.place) (n + 1) (s.channels c).next os) h.0 a.1
@@ -117,8 +117,14 @@ past_taken_offer c p v shape (o ∷ os) how s e h a = by_holder o.holder
       offers = all_above (λ (x : Standing). x.place) (p + 1) (s.channels c).next os above;
     }
 
+-- and whoever waited with it was resolved
+past_taken_offer : (c p v : ℕ) (shape : Shape) (q : List Standing) (how : ℕ → Resolution) (s : State) → (s.channels c).queue ≡ q → IsFirstOffer p v q
+    → Ascends (λ (o : Standing). o.place) 0 (s.channels c).next q → NoneBelow 0 (p + 1) ((resolve_offer c q how s).channels c)
+past_taken_offer c p v shape [] how s e h a = absurd h
+past_taken_offer c p v shape (o ∷ os) how s e h a = by_holder o.holder
+  where
     here : NoneBelow 0 (p + 1) ((with_queue c os s).channels c)
-    here = subst (NoneBelow 0 (p + 1)) (sym (put_here c (record (s.channels c) { queue = os }) s.channels)) rest
+    here = past_removed_offer c p v (o ∷ os) s e h a
 
     by_holder : (x : Option Party) → NoneBelow 0 (p + 1) ((resolve_holder x how (with_queue c os s)).channels c)
     by_holder None = here
@@ -162,3 +168,7 @@ module _ (shape : Shape) (who c p : ℕ) (old new : Seen) (l : Legal shape new.s
   pub drained_past : (v : ℕ) (t : Option ℕ) → RemovesFrom removal.Drain who c p v t old new → NoneBelow 0 (p + 1) (at_channel new.seen c)
   drained_past v t h = entry_leaves shape old new _ (λ (s : State). NoneBelow 0 (p + 1) (s.channels c)) h.made l
       (λ xs legal n. past_taken_offer c p v shape ((replay xs).channels c).queue _ (replay xs) refl n.2 (replay_in_order shape xs c legal).offers)
+
+  pub dropped_past : (v : ℕ) (t : Option ℕ) → RemovesFrom removal.Drop who c p v t old new → NoneBelow 0 (p + 1) (at_channel new.seen c)
+  dropped_past v t h = entry_leaves shape old new _ (λ (s : State). NoneBelow 0 (p + 1) (s.channels c)) h.made l
+      (λ xs legal n. past_removed_offer c p v ((replay xs).channels c).queue (replay xs) refl n.2 (replay_in_order shape xs c legal).offers)

@@ -1,4 +1,5 @@
 pub mod Desks
 pub mod HubFloors
+pub mod Registrations
 pub mod Takings
 pub mod Walks

@@ -1,9 +1,7 @@
 //! Calls on channels over words, by walks along the cells. No call waits, takes a lock or takes memory.
 //!
-//! A `Desk` is a hub with one pass, for the callers of that pass. Its calls answer in the words of the floors of channels
-//! (`channel_model`), whatever other threads do meanwhile: offers and receives, the close of a channel, a receiver told that it was
-//! closed, a closed channel cancelled and emptied, and what a caller does with its own wait. It has no registration in several channels
-//! at once, no admit and no trim.
+//! A `Desk` is a hub with one pass, for the callers of that pass. It is a floor of channels (`channel_model`), whatever other threads do
+//! meanwhile.
 //!
 //! **The walk.** A call that offers begins at the send counter of the channel, below which no receiver stands; one that receives begins at
 //! the receive counter, below which no offer stands. At each place it learns one of these:
@@ -24,20 +22,34 @@
 //! **Who empties a channel** walks as one who receives, and who tells the receivers of a closed one walks as one who offers; neither is
 //! placed. A channel is cancelled at its end, by an exchange of the closed end: of two callers the one that made it is told so.
 //!
+//! **Who makes room** walks over the offers. An admit counts the elements that are kept, until it finds an offer that may be; that nobody
+//! may be was so at a moment of its walk (`cell_words` says why one walk tells it). A trim looks at the first element. While that stands,
+//! those behind it do too, since no send waits in a channel that drops its oldest; so where more stand than are kept, the first may go.
+//!
+//! **A select's clause** walks as a plain call does. First it looks at the select's wait: where that was resolved, the clause takes no
+//! place, also where the channel was closed. Where the other side stands, it says at which place, and resolves nothing. Its wait may be
+//! resolved by another between the look and the exchange; then the clause has a place at which it does not stand.
+//!
 //! **Handed** needs that the channel was open at a moment of the call, and a receiver may still stand in a channel that was closed. So an
 //! offer looks for the end of the channel first.
 //!
-//! - `desk`: the calls.
+//! - `desk`: the floor.
 //! - `sending`, `receiving`: offers and receives.
+//! - `registering`: the clauses of selects.
 //! - `ending`: where a channel ends, and its close.
 //! - `waiting`: the own wait.
 //! - `cancelling`: a closed channel is cancelled, and emptied.
+//! - `keeping`: an offer is kept from now on, and the oldest element is dropped.
 #![tactic(auto)]
 
 mod cancelling;
 mod desk;
 mod ending;
+mod keeping;
 mod receiving;
+mod registering;
+#[cfg(test)]
+mod select_tests;
 mod sending;
 #[cfg(test)]
 mod tests;

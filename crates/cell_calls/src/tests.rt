@@ -78,7 +78,7 @@ fn is_own(hub: &Hub, pass: &mut Pass, who: Tag, place: Place) -> bool
 }
 
 /// Withdraws the own wait that began here.
-fn withdraw(hub: &Hub, pass: &mut Pass, who: Tag, place: Place) -> Option<Withdrawn>
+pub(crate) fn withdraw(hub: &Hub, pass: &mut Pass, who: Tag, place: Place) -> Option<Withdrawn>
     requires own { IsOwn hub.now pass.old who }
     requires channel { 0 < length (shape_of hub.now) }
     ensures own { IsOwn hub.now pass.new who }
@@ -94,7 +94,13 @@ fn withdraw(hub: &Hub, pass: &mut Pass, who: Tag, place: Place) -> Option<Withdr
 }
 
 /// Settles the own wait that began here, if it was resolved.
-fn settle(hub: &Hub, pass: &mut Pass, who: Tag, place: Place, cancelled: bool) -> Option<Settled>
+pub(crate) fn settle(
+    hub: &Hub,
+    pass: &mut Pass,
+    who: Tag,
+    place: Place,
+    cancelled: bool,
+) -> Option<Settled>
     requires own { IsOwn hub.now pass.old who }
     requires channel { 0 < length (shape_of hub.now) }
     ensures own { IsOwn hub.now pass.new who }

@@ -206,33 +206,35 @@ module _ (shape : Shape) (log : List Entry) (who c p : ℕ) (why : Why) (l : Leg
 
 -- ---- Await and Offer
 
+-- a clause more leaves the word of a wait
+named_code : (who k c m : ℕ) (y : Option Wait) → HasWaitCode m y → HasWaitCode m (name_clause who k c y)
+named_code who k c m None h = (h.0, tt)
+named_code who k c m (Some x) h = h
+
 module _ (shape : Shape) (log : List Entry) (who c p : ℕ) (l : Legal shape log) (lc : c < length shape) (lp : p < places_at shape c) (below : p ≤ ((replay log).channels c).next) (is_free : cell_of log c p ≡ free) where
-  at_end : (((replay log).channels c).next ≡ p) × (((replay log).channels c).closed ≡ None)
+  pub at_end : (((replay log).channels c).next ≡ p) × (((replay log).channels c).closed ≡ None)
   at_end = free_end (now log) c p (tied_now shape log l) below is_free
 
-  has_place : HasPlace (places_at shape c) p ((replay log).channels c)
+  pub has_place : HasPlace (places_at shape c) p ((replay log).channels c)
   has_place = record { open_now = at_end.1; left = subst (λ (n : ℕ). n < places_at shape c) (sym at_end.0) lp; first = sym at_end.0 }
 
-  unborn : (replay log).waits (spot c p) ≡ None
-  unborn = (sound shape log l).placed (spot c p) (omega (arith, at_end.0))
-
-  module _ (x : Cell) (act : Act) (n : ℕ) (needs : Needs shape (replay log) who act) (marks : mark (board_of log).state (board_of log).cells who act ≡ set_cell (board_of log).cells c p x)
-      (waits : (after (replay log) who act).waits ≡ put_wait (spot c p) (name_clause who 0 c ((replay log).waits (spot c p))) (replay log).waits) (code : n ≡ cell_code shape c p x) (range : CellFits shape x) where
+  -- a clause is named, as the first of a wait or as one more
+  module _ (w : WaitId) (k : ℕ) (x : Cell) (act : Act) (n : ℕ) (needs : Needs shape (replay log) who act) (marks : mark (board_of log).state (board_of log).cells who act ≡ set_cell (board_of log).cells c p x)
+      (waits : (after (replay log) who act).waits ≡ put_wait w (name_clause who k c ((replay log).waits w)) (replay log).waits) (code : n ≡ cell_code shape c p x) (range : CellFits shape x) where
     begin_legal : Legal shape (log ++ record { who = who; act = act } ∷ [])
     begin_legal = Legal_push shape log (record { who = who; act = act }) l needs
 
     cell_is : (d q : ℕ) → cell_of (log ++ record { who = who; act = act } ∷ []) d q ≡ set_cell (board_of log).cells c p x d q
     cell_is d q = cells_push log (record { who = who; act = act }) d q ∙ (λ i. marks i d q)
 
-    waits_is : (w : WaitId) → (replay (log ++ record { who = who; act = act } ∷ [])).waits w ≡ put_wait (spot c p) (name_clause who 0 c ((replay log).waits (spot c p))) (replay log).waits w
-    waits_is w = ap (λ (s : State). s.waits w) (replay_push log (record { who = who; act = act })) ∙ (λ i. waits i w)
+    waits_is : (u : WaitId) → (replay (log ++ record { who = who; act = act } ∷ [])).waits u ≡ put_wait w (name_clause who k c ((replay log).waits w)) (replay log).waits u
+    waits_is u = ap (λ (s : State). s.waits u) (replay_push log (record { who = who; act = act })) ∙ (λ i. waits i u)
 
     begun_code : (d q m : ℕ) → HasWaitCode m ((replay log).waits (spot d q)) → HasWaitCode m ((replay (log ++ record { who = who; act = act } ∷ [])).waits (spot d q))
-    begun_code d q m h = subst (HasWaitCode m) (sym (waits_is (spot d q))) (go (same_wait (spot c p) (spot d q)) refl h)
+    begun_code d q m h = subst (HasWaitCode m) (sym (waits_is (spot d q))) (go (same_wait w (spot d q)) refl h)
       where
-        go : (b : Bool) → same_wait (spot c p) (spot d q) ≡ b → HasWaitCode m ((replay log).waits (spot d q)) → HasWaitCode m (if b then name_clause who 0 c ((replay log).waits (spot c p)) else (replay log).waits (spot d q))
-        go true e h = let none : (replay log).waits (spot d q) ≡ None = ap (replay log).waits (sym (same_wait-eq (spot c p) (spot d q) e)) ∙ unborn in
-            subst (λ (z : Option Wait). HasWaitCode m (name_clause who 0 c z)) (sym unborn) ((subst (HasWaitCode m) none h).0, tt)
+        go : (b : Bool) → same_wait w (spot d q) ≡ b → HasWaitCode m ((replay log).waits (spot d q)) → HasWaitCode m (if b then name_clause who k c ((replay log).waits w) else (replay log).waits (spot d q))
+        go true e h = named_code who k c m ((replay log).waits w) (subst (λ (u : WaitId). HasWaitCode m ((replay log).waits u)) (sym (same_wait-eq w (spot d q) e)) h)
         go false e h = h
 
     pub begin_steps : Legal shape (log ++ record { who = who; act = act } ∷ []) × Fits shape (log ++ record { who = who; act = act } ∷ []) (cell_number shape c p) n
@@ -252,13 +254,13 @@ module _ (shape : Shape) (log : List Entry) (who c p : ℕ) (l : Legal shape log
   -- a receiver is placed, where no offer stands
   pub await_steps : (((replay log).channels c).queue ≡ []) → Legal shape (log ++ record { who = who; act = Await c p (spot c p) 0 } ∷ []) × Fits shape (log ++ record { who = who; act = Await c p (spot c p) 0 } ∷ []) (cell_number shape c p) (cell_code shape c p (receiver who (spot c p) 0))
       × ((j m : ℕ) → j ≢ cell_number shape c p → Fits shape log j m → Fits shape (log ++ record { who = who; act = Await c p (spot c p) 0 } ∷ []) j m)
-  await_steps none = begin_steps shape log who c p l lc lp below free_now (receiver who (spot c p) 0) (Await c p (spot c p) 0) (cell_code shape c p (receiver who (spot c p) 0))
+  await_steps none = begin_steps shape log who c p l lc lp below free_now (spot c p) 0 (receiver who (spot c p) 0) (Await c p (spot c p) 0) (cell_code shape c p (receiver who (spot c p) 0))
       (lc, has_place shape log who c p l lc lp below free_now, none, may_begin who 0 c p (replay log) (omega arith)) refl refl refl own_fits
 
   -- an offer is placed, where no receiver stands
   pub offer_steps : (v : ℕ) → v < 4294967296 → suspends (kind_at shape c) ≡ true → (((replay log).channels c).receivers ≡ []) → Legal shape (log ++ record { who = who; act = Offer c p v (spot c p) 0 } ∷ []) × Fits shape (log ++ record { who = who; act = Offer c p v (spot c p) 0 } ∷ []) (cell_number shape c p) (cell_code shape c p (offer v who (spot c p) 0))
       × ((j m : ℕ) → j ≢ cell_number shape c p → Fits shape log j m → Fits shape (log ++ record { who = who; act = Offer c p v (spot c p) 0 } ∷ []) j m)
-  offer_steps v lv kind none = begin_steps shape log who c p l lc lp below free_now (offer v who (spot c p) 0) (Offer c p v (spot c p) 0) (cell_code shape c p (offer v who (spot c p) 0))
+  offer_steps v lv kind none = begin_steps shape log who c p l lc lp below free_now (spot c p) 0 (offer v who (spot c p) 0) (Offer c p v (spot c p) 0) (cell_code shape c p (offer v who (spot c p) 0))
       (lc, has_place shape log who c p l lc lp below free_now, none, kind, may_begin who 0 c p (replay log) (omega arith)) refl refl refl (own_fits, lv)
 
 -- ---- a cell changes, and no wait

@@ -30,4 +30,7 @@ pub mod TableHoldsChannels
 pub mod ActsThatRemove
 pub mod OffersUpTo
 pub mod LooksFound
+pub mod HeldWhereSendsWait
 pub mod WalksToAdmit
+pub mod ClausesPlaced
+pub mod StandsAtPlaces

@@ -1,15 +1,19 @@
 -- What a walk has counted, and what was so while it went.
-use Rattle.std.proofs.Common.{◌≡◌, ℕ, ◌+◌, ◌<◌, ◌≤◌, ◌-◌, nat_le, Bool, true, false, List, length, None, is_some, sym, refl, ap, ◌∙◌, subst, arith, MatchBool}
+use Rattle.std.proofs.Common.{◌≡◌, ℕ, ◌+◌, ◌<◌, ◌≤◌, ◌-◌, nat_le, Bool, true, false, List, [], ◌∷◌, length, None, is_some, sym, refl, ap, ◌∙◌, subst, arith, MatchBool}
+use Rattle.std.specs.List.{list_all}
 use Rattle.std.proofs.lemmas.Bool.{leb-true, leb-false}
+use Rattle.std.proofs.lemmas.Bool.Decides.{nat_tests}
 use mathlib.Core.Logic.{dite}
 use native.Mathlib.Decide.{ℕ_discrete}
 use Rattle.co_base.specs.declared.names.WaitId.{WaitId}
 use Rattle.channel_model.specs.declared.acts.Entry.{Entry}
 use Rattle.channel_model.specs.declared.acts.Kind.{Kind}
+use Rattle.channel_model.specs.declared.standing.Standing.{Standing}
 use Rattle.channel_model.specs.declared.acts.Kind.TheVariants.{Rendezvous, Buffered, Unlimited, Conflated, DropOldest, Signal}
-use Rattle.channel_model.specs.Channels.{Shape, kind_at, is_full, suspends, is_signal}
+use Rattle.channel_model.specs.Channels.{Shape, Channel, kind_at, is_full, suspends, is_signal}
 use Rattle.channel_model.specs.Histories.{replay, Legal}
 use Rattle.channel_model.specs.Laws.{NoneBelow}
+use Rattle.channel_model.proofs.Elements.{all_first, all_rest, all_more}
 use Rattle.cell_words.specs.declared.cell_word.CellState.{CellState}
 use Rattle.cell_words.specs.declared.cell_word.CellState.TheVariants as state
 use Rattle.cell_words.specs.declared.cell_word.CellWord.{CellWord}
@@ -21,10 +25,11 @@ use Rattle.cell_words.specs.Words.{PartyFits, word_of_cell, CellFits}
 use Rattle.cell_words.specs.Seen.{Seen, at_channel, Sees}
 use Rattle.cell_words.specs.Looks.{holder_of, waiter_of, found_by_sender, found_by_receiver, lets_stand}
 use Rattle.cell_words.specs.Answers.{IsCellWord, IsWaitWord, IsHolder, stands, OfferAt, WholeOfferAt, TriedOfferAt, ReceiveAt, TriedReceiveAt}
+use Rattle.cell_words.proofs.GatheredLists.{gather_none}
 use Rattle.cell_words.proofs.CountsOfOffers.{gone_more, stood_before, count_some, count_none, count_next, count_less, count_up}
 use Rattle.cell_words.proofs.ExchangesTell.{stood_at, gone_at}
 use Rattle.cell_words.proofs.LooksAtCells.{holder_is, state_free, sees_then, sees_makes, given_seen}
-use Rattle.cell_words.proofs.CellsTellFacts.{now, tied_now, free_end, none_line, none_queue}
+use Rattle.cell_words.proofs.CellsTellFacts.{now, tied_now, free_end, none_offers, none_line, none_queue}
 use Rattle.channel_model.specs.Answers.{IsFullToTry, IsEmptyToTry}
 
 pub stood_seen : (shape : Shape) (c p : ℕ) (v w : Seen) → Sees v w → Legal shape v.seen → Legal shape w.seen → p < (at_channel v.seen c).next → is_some (stands w.seen c p) ≡ true → is_some (stands v.seen c p) ≡ true
@@ -103,11 +108,37 @@ pub record Counted (c place count : ℕ) (first v : Seen) : Type 0 where
   pub lower : count ≤ length (gather (stands first.seen c) place)
   pub upper : length (gather (stands v.seen c) place) ≤ count
 
-pub counted_none : (c : ℕ) (v : Seen) → Counted c 0 0 v v
-counted_none c v = record { lower = omega arith; upper = omega arith }
-
 upper_seen : (shape : Shape) (c place : ℕ) (v w : Seen) → Sees v w → Legal shape v.seen → Legal shape w.seen → place ≤ (at_channel v.seen c).next → length (gather (stands w.seen c) place) ≤ length (gather (stands v.seen c) place)
 upper_seen shape c place v w s lv lw le = count_less (stands v.seen c) (stands w.seen c) place (λ q lt e. gone_seen shape c q v w s lv lw (omega arith) e)
+
+-- a walk begins where no offer stands below
+pub counted_low : (shape : Shape) (c from : ℕ) (v : Seen) → Legal shape v.seen → NoneBelow 0 from (at_channel v.seen c) → Counted c from 0 v v
+counted_low shape c from v l low = record {
+  lower = omega arith;
+  upper = let e = ap length (gather_none (stands v.seen c) from (λ q lt. none_offers (now v.seen) c (tied_now shape v.seen l) 0 from low q lt)) in omega arith;
+}
+
+-- of fewer places
+pub fewer_below : (m n : ℕ) (ch : Channel) → m ≤ n → NoneBelow 0 n ch → NoneBelow 0 m ch
+fewer_below m n ch le h = record {
+  given = h.given;
+  given_offers = let g = h.given_offers in omega arith;
+  receivers = h.receivers;
+  offers = fewer ch.queue h.offers;
+}
+  where
+    fewer : (os : List Standing) → list_all (λ (o : Standing). nat_le n o.place) os ≡ true → list_all (λ (o : Standing). nat_le m o.place) os ≡ true
+    fewer [] e = refl
+    fewer (o ∷ os) e = all_more (λ (x : Standing). nat_le m x.place) o os (lower_too o.place (all_first (λ (x : Standing). nat_le n x.place) o os e)) (fewer os (all_rest (λ (x : Standing). nat_le n x.place) o os e))
+      where
+        lower_too : (k : ℕ) → nat_le n k ≡ true → nat_le m k ≡ true
+        lower_too k f = grind (arith, nat_tests)
+
+-- what was counted from a later moment on
+pub count_before : (shape : Shape) (c end most : ℕ) (u v w : Seen) → Sees u v → Legal shape u.seen → Legal shape v.seen → end ≤ (at_channel u.seen c).next → (b : Bool) → MatchBool b (most ≤ length (gather (stands v.seen c) end)) (length (gather (stands w.seen c) end) < most)
+    → MatchBool b (most ≤ length (gather (stands u.seen c) end)) (length (gather (stands w.seen c) end) < most)
+count_before shape c end most u v w s lu lv le true h = let m = upper_seen shape c end u v s lu lv le in omega arith
+count_before shape c end most u v w s lu lv le false h = h
 
 pub counted_stands : (shape : Shape) (c place count : ℕ) (first v w : Seen) → Sees first v → Sees v w → Legal shape first.seen → Legal shape v.seen → Legal shape w.seen → place < (at_channel first.seen c).next → Counted c place count first v → is_some (stands v.seen c place) ≡ true → Counted c (place + 1) (count + 1) first w
 counted_stands shape c place count first v w s r lf lv lw lt h st = record {

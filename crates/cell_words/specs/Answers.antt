@@ -216,9 +216,13 @@ RemoveAnswer by shape who c p x old new tried.Admitted =
 abbrev pub TakeAnswer : Shape → ℕ → ℕ → ℕ → Waiter → Seen → Seen → Tried → Type 0
 TakeAnswer shape who c p x old new answer = RemoveAnswer removal.Take shape who c p x old new answer
 
+-- an element was put at this place, and may have been removed
+abbrev pub WasPut : ℕ → ℕ → ℕ → List Entry → Type 0
+WasPut c p v log = (cell_of log c p ≡ buffered v) ⊎ (cell_of log c p ≡ emptied v)
+
 -- an element was put here, or an offer was admitted: the word of its cell until it is emptied
 pub data IsKept (shape : Shape) (c p v : ℕ) (log : List Entry) (word : CellWord) : Type 0 where
-  put : word ≡ plain_word cell.Buffered v → (cell_of log c p ≡ buffered v) ⊎ (cell_of log c p ≡ emptied v) → IsKept shape c p v log word
+  put : word ≡ plain_word cell.Buffered v → WasPut c p v log → IsKept shape c p v log word
   held : (x : Waiter) (a : IsAdmitted shape c p x log) → x.value ≡ v
       → word ≡ party_word shape c p cell.Offer v a.who a.wait x.clause → IsKept shape c p v log word
 

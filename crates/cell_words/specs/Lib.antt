@@ -1,5 +1,6 @@
 pub mod Answers
 pub mod Cells
+pub mod Clauses
 pub mod Codes
 pub mod Hubs
 pub mod Looks

@@ -94,6 +94,17 @@ stands_by by.Cancel j k = false
 stands_by by.Revoke j k = false
 stands_by by.Void j k = false
 
+-- nobody resolved it
+abbrev pub is_nobody : ResolvedBy → Bool
+is_nobody by.Nobody = true
+is_nobody by.Hand = false
+is_nobody by.Take = false
+is_nobody by.Admit = false
+is_nobody by.Close = false
+is_nobody by.Cancel = false
+is_nobody by.Revoke = false
+is_nobody by.Void = false
+
 -- the offer of clause k stands, held or kept
 abbrev pub lets_stand : WaitWord → ℕ → Bool
 lets_stand w k = stands_by w.by w.clause k

@@ -12,6 +12,7 @@ ghost use Rattle.cell_words.specs.Answers.{stands, IsOver};
 
 use crate::cell_word::CellState;
 use crate::cells::{kind_of, load_cell, load_wait};
+use crate::counters::receives_from;
 use crate::hub::Hub;
 use crate::looks::{holder_of, lets_stand};
 use crate::pass::Pass;
@@ -46,6 +47,53 @@ pub(crate) fn stands_at(hub: &Hub, pass: &mut Pass, who: Tag, c: ChannelId, plac
     }
 }
 
+/// A place up to `end`, below which no offer stands.
+fn offers_from(hub: &Hub, pass: &mut Pass, who: Tag, c: ChannelId, end: Place) -> Place
+    requires own { IsOwn hub.now pass.old who }
+    requires channel { c < length (shape_of hub.now) }
+    ensures own { IsOwn hub.now pass.new who }
+    ensures sees { Sees (seen_by pass.old) (seen_by pass.new) }
+    ensures from { result ≤ end }
+    ensures low { NoneBelow 0 result (at_channel (seen_by pass.new).seen c) }
+{
+    let from = receives_from(hub, pass, who, c);
+    if from < end { from } else { end }
+}
+
+/// Whether so many offers stand below `end`, where none stands below `from`: true if they did at the beginning, false if fewer do at
+/// the end.
+fn count_from(
+    hub: &Hub,
+    pass: &mut Pass,
+    who: Tag,
+    c: ChannelId,
+    from: Place,
+    end: Place,
+    most: u32,
+) -> bool
+    requires own { IsOwn hub.now pass.old who }
+    requires at { IsCell (shape_of hub.now) c end }
+    requires given { end ≤ (at_channel (seen_by pass.old).seen c).next }
+    requires from { from ≤ end }
+    requires low { NoneBelow 0 from (at_channel (seen_by pass.old).seen c) }
+    ensures own { IsOwn hub.now pass.new who }
+    ensures sees { Sees (seen_by pass.old) (seen_by pass.new) }
+    ensures count { MatchBool result
+        (most ≤ length (gather (stands (seen_by pass.old).seen c) end))
+        (length (gather (stands (seen_by pass.new).seen c) end) < most) }
+{
+    let mut count = 0;
+    for place in from..end {
+        if count == most {
+            return true;
+        }
+        if stands_at(hub, pass, who, c, place) {
+            count += 1;
+        }
+    }
+    count >= most
+}
+
 /// Whether so many offers stand below a place: true if they did at the beginning, false if fewer do at the end.
 fn count_below(hub: &Hub, pass: &mut Pass, who: Tag, c: ChannelId, end: Place, most: u32) -> bool
     requires own { IsOwn hub.now pass.old who }
@@ -57,16 +105,8 @@ fn count_below(hub: &Hub, pass: &mut Pass, who: Tag, c: ChannelId, end: Place, m
         (most ≤ length (gather (stands (seen_by pass.old).seen c) end))
         (length (gather (stands (seen_by pass.new).seen c) end) < most) }
 {
-    let mut count = 0;
-    for place in 0..end {
-        if count == most {
-            return true;
-        }
-        if stands_at(hub, pass, who, c, place) {
-            count += 1;
-        }
-    }
-    count >= most
+    let from = offers_from(hub, pass, who, c, end);
+    count_from(hub, pass, who, c, from, end, most)
 }
 
 /// Whether the channel keeps one element more: false if it was full at the beginning.
@@ -114,5 +154,5 @@ pub fn is_over(
     if mine < most {
         return false;
     }
-    count_below(hub, pass, who, c, mine + 1, most + 1)
+    count_from(hub, pass, who, c, first, mine + 1, most + 1)
 }

@@ -8,6 +8,7 @@
 //! | word | from | to | the step, and who makes it | the exchange decides |
 //! |---|---|---|---|---|
 //! | cell | Free | Receiver, Offer | `await_at`, `offer_at`: who waits | who has the place; the cell is where the channel ends |
+//! | cell | Free | Receiver, Offer | `await_clause_at`, `offer_clause_at`: whose select has the clause | the same |
 //! | cell | Free | Buffered | `offer_at`: who sends, where the channel keeps one more | the same |
 //! | cell | Free | Closed | `close_at`: who closes | that the channel ends here |
 //! | cell | Closed | Voided | `void_at`: who cancels | that the channel is cancelled |
@@ -26,6 +27,12 @@
 //! was admitted at its clause, until its cell is emptied. So a held offer's cell stays as it is when its wait is taken, withdrawn or
 //! resolved elsewhere, and whoever comes by reads the wait.
 //!
+//! **A select's clauses.** The first is placed as a plain offer or receiver, but for its number, and begins the wait. Each further one has
+//! the number of the first one's cell in its own, so whoever meets it resolves that one wait. No word but the free cell changes, so a
+//! clause may be placed although the wait was resolved meanwhile: then it has a place and does not stand. A clause hands and takes
+//! nothing. It asks whether the other side stands: of a receiver its wait, by `receiver_stands`; of an offer its cell and its wait, by
+//! `offer_stands`.
+//!
 //! **What the loser sees.** A failed exchange of a free cell returns the word found: who was placed there, or that the channel ends there.
 //! A failed exchange of a wait says that it was resolved; who is gone never stands again, so the walk goes on to the next place. Of an
 //! offer it says too whether it was admitted at this clause: then its cell decides who has the element. A failed exchange of a kept
@@ -36,12 +43,12 @@
 //! while an offer stands, the elements that are kept behind it stand, so that a queue that was too long still is.
 //!
 //! **Walks.** A caller comes from below, from a counter on, below which nobody of the other side stands. `offer_at` and `await_at` say
-//! what is at one place; the answer is a fact of the moment of their last load. An offer waits only where the channel was full: it
-//! counts the offers below the free end by one walk. Each that is found later stood at the beginning, so that either all stood then,
-//! or fewer do at the end. A walk for an offer to admit counts too: once it has found as many kept elements as the channel keeps, it looks
-//! at the first of them again. While that stands the others do, so none may be admitted; else the walk begins anew above it.
-//! No word is loaded after an exchange that made an entry, and a counter is raised by a step that shows
-//! nothing, so that the own entry is the last that was seen.
+//! what is at one place; the answer is a fact of the moment of their last load. An offer waits only where the channel was full: it counts
+//! the offers from the receive counter to the free end by one walk. Each that is found later stood at the beginning, so that either all
+//! stood then, or fewer do at the end. A walk for an offer to admit counts too: once it has found as many kept elements as the channel
+//! keeps, it looks at the first of them again. While that stands the others do, so none may be admitted; else the walk begins anew above
+//! it. No word is loaded after an exchange that made an entry, and a counter is raised by a step that shows nothing, so that the own
+//! entry is the last that was seen.
 //!
 //! **The history.** It is that of the channels, a list of entries; all words are a function of it, but for the counters (`Words` has it).
 //! A `Pass` has seen a beginning of the history, and all entries of its own tags.
@@ -52,6 +59,7 @@
 //! - `steps`, `cells`: the three steps on a word, and those on cells and waits.
 //! - `found`, `looks`: what a caller finds at a place, and what the words tell.
 //! - `counting`, `placing`: whether a channel is full, or keeps too many; a caller is placed where the channel ends.
+//! - `registering`: a select's clause is placed where the channel ends; whether the other side stands.
 //! - `resolving`: the first receiver is handed an element.
 //! - `removing`: the first offer's element is taken, dropped or drained.
 //! - `admitting`: a held offer is kept from now on; a walk for one that may be.
@@ -75,6 +83,7 @@ mod meeting;
 mod own_waits;
 mod pass;
 mod placing;
+mod registering;
 mod removing;
 mod resolving;
 mod steps;
@@ -96,6 +105,7 @@ pub use layout::Layout;
 pub use own_waits::{look_at, settle_at, withdraw_at};
 pub use pass::Pass;
 pub use placing::{await_at, offer_at, try_await_at, try_offer_at};
+pub use registering::{await_clause_at, offer_clause_at, offer_stands, receiver_stands};
 pub use removing::{drain, drain_admitted, drain_kept, drop_kept, take, take_admitted, take_kept};
 pub use resolving::hand;
 pub use wait_word::{ResolvedBy, WaitWord};

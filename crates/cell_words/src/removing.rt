@@ -5,7 +5,7 @@ ghost use Rattle.cell_words.specs.declared.found.Removal.TheVariants as removals
 ghost use Rattle.cell_words.specs.Words.{IsCell, how_word};
 ghost use Rattle.cell_words.specs.Hubs.{shape_of, seen_by, IsOwn};
 ghost use Rattle.cell_words.specs.Seen.{at_channel};
-ghost use Rattle.cell_words.specs.Answers.{Offers, RemoveAnswer, TakeAnswer, IsKept, IsAdmitted, IsOver, MayRemove, MayRemoveHeld, EmptyAnswer, KeptAnswer};
+ghost use Rattle.cell_words.specs.Answers.{Offers, RemoveAnswer, TakeAnswer, IsKept, WasPut, IsAdmitted, IsOver, MayRemove, MayRemoveHeld, EmptyAnswer, KeptAnswer};
 ghost use Rattle.cell_words.specs.Codes.{IsNarrowCell, IsNarrowWait};
 ghost use Rattle.cell_words.specs.Cells.{cell_of, buffered};
 ghost use Rattle.cell_words.specs.Looks.{offer_word};
@@ -231,7 +231,7 @@ pub fn drop_kept(
     requires at { IsCell (shape_of hub.now) c place }
     requires over { IsOver (shape_of hub.now) c place (seen_by pass.old).seen }
     requires low { NoneBelow 0 place (at_channel (seen_by pass.old).seen c) }
-    requires kept { cell_of (seen_by pass.old).seen c place ≡ buffered value }
+    requires kept { WasPut c place value (seen_by pass.old).seen }
     ensures own { IsOwn hub.now pass.new who }
     ensures removed { EmptyAnswer removals.Drop who c place value (seen_by pass.old) (seen_by pass.new) result }
 {

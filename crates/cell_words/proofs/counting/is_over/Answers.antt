@@ -22,11 +22,11 @@ pub returns-clause-over : goal.returns-clause-over
 returns-clause-over c =
     let shape = shape_of c.args.hub.now in
     let u = c.args.pass.now.seat.me.0 in
-    let v = c.count_below.new.pass.seat.me.0 in
-    let h = c.count_below.ensures in
+    let v = c.count_from.new.pass.seat.me.0 in
+    let h = c.count_from.ensures in
     let lu = hub_legal c.args.hub.now c.args.pass.now c.requires.own.0 in
-    let lv = hub_legal c.args.hub.now c.count_below.new.pass h.own.0 in
+    let lv = hub_legal c.args.hub.now c.count_from.new.pass h.own.0 in
     let given : c.args.mine + 1 ≤ (at_channel u.seen c.args.c).next = omega (arith, c.requires.given.1) in
     let later : c.args.mine + 1 ≤ (at_channel v.seen c.args.c).next = given_seen shape (c.args.mine + 1) c.args.c u v h.sees lv given in
     over_told shape c.args.c c.args.first c.args.mine _ u v h.sees lu lv c.requires.given.0 c.requires.given.1 (omega (arith, later)) c.requires.low
-    (drops_as c.kind_of.result (kind_at shape c.args.c) _ c.kind_of.ensures c.in-Some.ensures) c.count_below.result h.count
+    (drops_as c.kind_of.result (kind_at shape c.args.c) _ c.kind_of.ensures c.in-Some.ensures) c.count_from.result h.count

@@ -1,0 +1,85 @@
+//! A held offer is kept from now on, and the oldest element is dropped where more stand than the channel keeps.
+ghost use Rattle.std.specs.Prelude.{◌≡◌, ◌<◌, MatchBool, ℕ, false, length};
+ghost use Rattle.channel_model.specs.Channels.{kind_at, suspends, drops};
+ghost use Rattle.channel_model.specs.Floors.{MayCall};
+ghost use Rattle.channel_model.specs.Answers.{AdmitAnswer, TrimAnswer, HasPut};
+ghost use Rattle.cell_words.specs.Hubs.{shape_of, IsOf, SameGiving};
+ghost use Rattle.cell_calls.specs.HubFloors.{hub_floor};
+
+use cell_words::{
+    At, Hub, Pass, admit_below, drop_kept, is_over, kind_of, raise_receives, receives_from,
+    try_await_at,
+};
+use co_base::{ChannelId, Place, Tag, Value};
+
+/// Lets the first held offer below the mark be kept that may be.
+pub(crate) fn admit(
+    hub: &Hub,
+    pass: &mut Pass,
+    who: Tag,
+    c: ChannelId,
+    mark: Place,
+) -> Option<(Place, Tag)>
+    requires of { IsOf hub.now pass.old }
+    requires can { MayCall who c (hub_floor hub.now pass.old) }
+    ensures of { IsOf hub.now pass.new }
+    ensures giving { SameGiving pass.old pass.new }
+    ensures answer { AdmitAnswer who c mark (hub_floor hub.now pass.old) (hub_floor hub.now pass.new) result }
+{
+    admit_below(hub, pass, who, c, mark)
+}
+
+/// Whether the channel drops its oldest element, so that no send waits there.
+fn drops_oldest(hub: &Hub, c: ChannelId) -> bool
+    requires { c < length (shape_of hub.now) }
+    ensures { MatchBool result
+        (suspends (kind_at (shape_of hub.now) c) ≡ false)
+        ((n : ℕ) → drops (kind_at (shape_of hub.now) c) n ≡ false) }
+{
+    match kind_of(hub, c).drops_beyond() {
+        Some(_) => true,
+        None => false,
+    }
+}
+
+/// Drops the first element, where more stand up to the own one than the channel keeps.
+pub(crate) fn trim(
+    hub: &Hub,
+    pass: &mut Pass,
+    who: Tag,
+    c: ChannelId,
+    mine: Place,
+) -> Option<(Place, Value)>
+    requires of { IsOf hub.now pass.old }
+    requires can { MayCall who c (hub_floor hub.now pass.old) }
+    requires own { HasPut who c mine (hub_floor hub.now pass.old) }
+    ensures of { IsOf hub.now pass.new }
+    ensures giving { SameGiving pass.old pass.new }
+    ensures answer { TrimAnswer who c mine (hub_floor hub.now pass.old) (hub_floor hub.now pass.new) result }
+{
+    if !drops_oldest(hub, c) {
+        return None;
+    }
+    let from = receives_from(hub, pass, who, c);
+    for first in from..mine + 1 {
+        match try_await_at(hub, pass, who, c, first) {
+            At::Kept(value) => {
+                if !is_over(hub, pass, who, c, first, mine) {
+                    return None;
+                }
+                if drop_kept(hub, pass, who, c, first, value) {
+                    raise_receives(hub, pass, who, c, first + 1);
+                    return Some((first, value));
+                }
+            }
+            At::Closed(_) => return None,
+            // Its own element has a place, so this does not happen; and nothing stands there either.
+            At::Open => return None,
+            // No send waits in a channel that drops its oldest element.
+            At::Waiting(_) => unreachable!(),
+            At::Spent | At::Placed | At::Put => unreachable!(),
+            At::Gone => {}
+        }
+    }
+    None
+}
