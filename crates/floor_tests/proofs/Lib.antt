@@ -1,6 +1,9 @@
 mod JoinsLater
 mod EndsLater
-mod Turns
+mod CallsOfOther
 mod SeenBetween
 pub mod SelectsOwnWaits
 pub mod OnTwoChannels
+pub mod WaitsBegun
+pub mod KnownLater
+pub mod NothingKnown

@@ -1,4 +1,4 @@
--- What a call comes to that is made on the floor below, behind a turn of the other.
+-- What a call comes to that is made on the floor below, behind a call of the other.
 use Rattle.std.specs.Prelude.{◌≡◌, ℕ, ◌==◌, ◌&&◌, not, Bool, true, false, List, [], ◌++◌, Option, Some, None, Result, Ok, Err, refl}
 use Rattle.std.proofs.Common.{ap, ◌∙◌, subst, arith}
 use Rattle.co_base.specs.declared.names.WaitId.{WaitId}

@@ -11,14 +11,14 @@ use channel_model::{
 use co_base::{ChannelId, Memory, Place, Tag, Value, WaitId};
 
 impl<F: ChannelFloor + Drop> ChannelFloor for Between<F> {
-    ghost view = { λ b. seen_between (length b.turns.items) (F.view b.floor) };
+    ghost view = { λ b. seen_between (length b.calls.items) (F.view b.floor) };
 
     type Anchor = F::Anchor;
 
     ghost anchor = { λ b. F.anchor b.floor };
 
     fn room(&mut self, n: u32) -> Result<(), Memory> {
-        let Some(all) = n.checked_add(self.turns.len() as u32) else {
+        let Some(all) = n.checked_add(self.calls.len() as u32) else {
             return Err(Memory);
         };
         self.floor.room(all)

@@ -1,12 +1,25 @@
 //! What floors of channels that are shared show of the calls above them.
 //!
-//! - `between`: a floor on which another coroutine makes a stated call before each call of the user.
-//! - `between_calls`: its calls.
+//! - `other_calls`: the coroutine that calls in between, and its calls.
+//! - `between`, `between_calls`: a floor on which it makes one before each call of the user.
+//! - `beside`, `beside_calls`: the same where it has a floor of its own on the same channels.
+//! - `known_calls`: calls on one channel, each made where what it asks is known, so that a list of calls can be a table.
 #![tactic(auto)]
 
+#[cfg(test)]
+mod at_once;
+mod beside;
+mod beside_calls;
 mod between;
 mod between_calls;
+mod known_calls;
+mod other_calls;
+#[cfg(test)]
+mod rows;
 #[cfg(test)]
 mod tests;
 
-pub use between::{Between, Turn};
+pub use beside::Beside;
+pub use between::Between;
+pub use known_calls::{Call, Known, answers};
+pub use other_calls::{OTHER, OtherCall};

@@ -1,4 +1,4 @@
-use Rattle.floor_tests.proofs.SelectsOwnWaits.{ready_seen}
+use Rattle.floor_tests.proofs.WaitsBegun.{ready_seen}
 use Rattle.floor_tests.proofs.tests.end_if_resolved.Goals as goal
 
 pub dispatch-requires-clause-ready : goal.dispatch-requires-clause-ready

@@ -1,10 +1,10 @@
 use Rattle.std.proofs.Common.{◌≡◌, ◌≤◌, length, true}
 use Rattle.std.specs.List.{list_all}
 use Rattle.floor_tests.specs.Meetings.{may_meet, two_channels}
-use Rattle.floor_tests.proofs.tests.turns_on_two.Given as goal
+use Rattle.floor_tests.proofs.tests.calls_on_two.Given as goal
 
-abbrev pub invariant-loop-turn : goal.invariant-loop-turn
-invariant-loop-turn l = record {
+abbrev pub invariant-loop-call : goal.invariant-loop-call
+invariant-loop-call l = record {
   may : list_all (may_meet two_channels) l.queue.items ≡ true;
-  few : length l.queue.items ≤ l.turn-index;
+  few : length l.queue.items ≤ l.call-index;
 }

@@ -1,4 +1,4 @@
--- What a turn of the other is to the user: the floor was looked at, and others made entries.
+-- What a call of the other is to the user: the floor was looked at, and others made entries.
 use Rattle.std.specs.Prelude.{◌≡◌, ◌≢◌, ℕ, ◌+◌, ◌==◌, ◌&&◌, not, Bool, true, false, List, [], ◌∷◌, ◌++◌, length, Result, Ok, Err, refl, if◌then◌else◌}
 use Rattle.std.proofs.Common.{sym, ap, ◌∙◌, subst, arith}
 use Rattle.std.proofs.lemmas.Bool.Decides.{nat_tests}
@@ -13,9 +13,9 @@ use Rattle.channel_model.specs.Floors.{Floor, SameSetting, Looked, Made}
 use Rattle.channel_model.specs.Answers.{OfferAnswer, TriedGotAnswer, CloseAnswer}
 use Rattle.channel_model.proofs.Histories.{acts_of-append}
 use Rattle.channel_model.proofs.Spans.{nothing_more, prefix_self}
-use Rattle.floor_tests.specs.declared.between.Turn.{Turn}
-use Rattle.floor_tests.specs.declared.between.Turn.TheVariants.{Nothing, Offer, Receive, Close}
-use Rattle.floor_tests.specs.Meetings.{other, seen_between, HasTurns, Takes, TakesFirst}
+use Rattle.floor_tests.specs.declared.other_calls.OtherCall.{OtherCall}
+use Rattle.floor_tests.specs.declared.other_calls.OtherCall.TheVariants.{Nothing, Offer, Receive, Close}
+use Rattle.floor_tests.specs.Meetings.{other, seen_between, HasCalls, CallAnswer, FirstCallAnswer}
 
 -- a user is another
 pub not_other : (b : Bool) (who : ℕ) → (b && not (who == other)) ≡ true → who ≢ other
@@ -70,17 +70,17 @@ module _ (who : ℕ) (apart : who ≢ other) (m n : ℕ) (more : m ≡ n + 1) (a
   close_other c v (Ok done) h = made_other _ h
   close_other c v (Err first) h = looked_other h.looked
 
-  turn_looked : (turn : Turn) → Takes turn a f → Looked who (seen_between m a) (seen_between n f)
-  turn_looked Nothing h = subst (λ g. Looked who (seen_between m a) (seen_between n g)) (sym h) (record {
+  call_looked : (call : OtherCall) → CallAnswer call a f → Looked who (seen_between m a) (seen_between n f)
+  call_looked Nothing h = subst (λ g. Looked who (seen_between m a) (seen_between n g)) (sym h) (record {
     same = record { shape = refl; alone = refl; callers = refl };
     longer = prefix_self a.seen;
     mine = refl;
     alone = λ e. refl;
     spare = omega arith;
   })
-  turn_looked (Offer c v) h = offer_other c v h.0 h.1
-  turn_looked (Receive c) h = receive_other c h.0 h.1
-  turn_looked (Close c v) h = close_other c v h.0 h.1
+  call_looked (Offer c v) h = offer_other c v h.0 h.1
+  call_looked (Receive c) h = receive_other c h.0 h.1
+  call_looked (Close c v) h = close_other c v h.0 h.1
 
 still : (who n : ℕ) (a : Floor) → Looked who (seen_between n a) (seen_between n a)
 still who n a = record {
@@ -91,11 +91,11 @@ still who n a = record {
   spare = omega arith;
 }
 
-pub met_looked : (who : ℕ) (a f : Floor) (turns rest : List Turn) → who ≢ other → HasTurns a turns → TakesFirst turns rest a f
-    → Looked who (seen_between (length turns) a) (seen_between (length rest) f)
-met_looked who a f [] rest apart has h =
-    subst (λ (ts : List Turn). Looked who (seen_between 0 a) (seen_between (length ts) f)) (sym h.0)
+pub met_looked : (who : ℕ) (a f : Floor) (calls rest : List OtherCall) → who ≢ other → a.alone ≡ true → HasCalls a calls → FirstCallAnswer calls rest a f
+    → Looked who (seen_between (length calls) a) (seen_between (length rest) f)
+met_looked who a f [] rest apart alone has h =
+    subst (λ (ts : List OtherCall). Looked who (seen_between 0 a) (seen_between (length ts) f)) (sym h.0)
     (subst (λ g. Looked who (seen_between 0 a) (seen_between 0 g)) (sym h.1) (still who 0 a))
-met_looked who a f (turn ∷ turns) rest apart has h =
-    subst (λ (ts : List Turn). Looked who (seen_between (length (turn ∷ turns)) a) (seen_between (length ts) f)) (sym h.0)
-    (turn_looked who apart (length (turn ∷ turns)) (length turns) (omega arith) a f has.alone turn h.1)
+met_looked who a f (call ∷ calls) rest apart alone has h =
+    subst (λ (ts : List OtherCall). Looked who (seen_between (length (call ∷ calls)) a) (seen_between (length ts) f)) (sym h.0)
+    (call_looked who apart (length (call ∷ calls)) (length calls) (omega arith) a f alone call h.1)

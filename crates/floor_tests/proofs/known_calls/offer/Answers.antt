@@ -1,0 +1,11 @@
+use Rattle.std.proofs.Common.{sym, subst}
+use Rattle.floor_tests.specs.declared.known_calls.Known.{Known}
+use Rattle.floor_tests.specs.Known.{Knows}
+use Rattle.floor_tests.proofs.KnownLater.{knows_offer}
+use Rattle.floor_tests.proofs.known_calls.offer.Goals as goal
+
+pub returns-clause-knows : goal.returns-clause-knows
+returns-clause-knows g c =
+    let a = g.F.ChannelFloor.view c.args.floor.now in
+    let b = g.F.ChannelFloor.view c.offer-answer.new.self in
+    subst (λ (k : Known). Knows k b) (sym c.after_offer.ensures) (knows_offer c.args.known c.args.who c.args.value a b (g.met.F.ChannelFloor.legal c.offer-answer.new.self) c.requires.caller c.requires.knows c.offer-answer.result c.offer-answer.ensures.answer)
