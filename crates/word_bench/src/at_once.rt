@@ -1,7 +1,7 @@
 //! Four coroutines, at work on one, two or four threads at once.
 ghost use Rattle.std.specs.Prelude.{◌≡◌, [], ◌∷◌};
 ghost use Rattle.cell_words.specs.Hubs.{IsOf, IsOwn, GivesTags};
-ghost use Rattle.word_bench.specs.Channels.{HasRendezvous};
+ghost use Rattle.word_bench.specs.Channels.{CarriesElements};
 
 use crate::on_passes::{offer, receive};
 use cell_words::{Hub, Pass};
@@ -14,7 +14,7 @@ use std::thread::{Threads, join};
 pub(crate) struct Caller {
     pub pass: Pass,
     pub who: Tag,
-    /// How many of its calls found somebody of the other side.
+    /// How many of its calls found a receiver, or an element.
     pub met: u32,
 }
 
@@ -28,7 +28,7 @@ pub(crate) struct Four {
 }
 
 impl Four {
-    /// How many calls found somebody of the other side. Each of them made a transfer.
+    /// How many calls found a receiver, or an element. Each of them made a transfer.
     pub(crate) fn count(&self) -> u32 {
         self.a
             .met
@@ -77,7 +77,7 @@ pub(crate) fn four_callers(hub: &Hub, main: &mut Pass) -> Four
 
 /// So many offers and as many receives, by turns.
 fn work(hub: &Hub, caller: Caller, times: u32) -> Caller
-    requires channel { HasRendezvous hub.now }
+    requires channel { CarriesElements hub.now }
     requires own { IsOwn hub.now caller.pass caller.who }
     ensures own { IsOwn hub.now result.pass result.who }
 {
@@ -100,7 +100,7 @@ fn work(hub: &Hub, caller: Caller, times: u32) -> Caller
 
 /// The work of two, one after the other.
 fn in_turn(hub: &Hub, a: Caller, b: Caller, times: u32) -> (Caller, Caller)
-    requires channel { HasRendezvous hub.now }
+    requires channel { CarriesElements hub.now }
     requires a { IsOwn hub.now a.pass a.who }
     requires b { IsOwn hub.now b.pass b.who }
     ensures a { IsOwn hub.now result.0.pass result.0.who }
@@ -119,7 +119,7 @@ fn by_two<R: Threads + Wait + Sync>(
     b: Caller,
     times: u32,
 ) -> (Caller, Caller)
-    requires channel { HasRendezvous hub.now }
+    requires channel { CarriesElements hub.now }
     requires a { IsOwn hub.now a.pass a.who }
     requires b { IsOwn hub.now b.pass b.who }
     ensures a { IsOwn hub.now result.0.pass result.0.who }
@@ -136,7 +136,7 @@ pub(crate) fn work_by<R: Threads + Wait + Sync>(
     times: u32,
     threads: u32,
 ) -> Four
-    requires channel { HasRendezvous hub.now }
+    requires channel { CarriesElements hub.now }
     requires a { IsOwn hub.now four.a.pass four.a.who }
     requires b { IsOwn hub.now four.b.pass four.b.who }
     requires c { IsOwn hub.now four.c.pass four.c.who }
@@ -162,12 +162,12 @@ pub(crate) fn work_by<R: Threads + Wait + Sync>(
     let ((a, b), (c, d)) = join(
         rt,
         || -> (Caller, Caller)
-            requires channel { HasRendezvous hub.now }
+            requires channel { CarriesElements hub.now }
             requires first { IsOwn hub.now a.pass a.who }
             requires second { IsOwn hub.now b.pass b.who }
         { by_two(rt, hub, a, b, times) },
         || -> (Caller, Caller)
-            requires channel { HasRendezvous hub.now }
+            requires channel { CarriesElements hub.now }
             requires first { IsOwn hub.now c.pass c.who }
             requires second { IsOwn hub.now d.pass d.who }
         { by_two(rt, hub, c, d, times) },

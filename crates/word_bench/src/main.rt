@@ -1,10 +1,14 @@
 //! How long transfers through a channel over words take. Standard output has how many there were, standard error how long they took.
 //!
-//!     word_bench [TRANSFERS [THREADS]]     by default 1000, at most 1048576; by 1, 2 and 4 threads, or by so many, which may be none
+//!     word_bench [TRANSFERS [THREADS [CHANNEL]]]
 //!
-//! A transfer is an offer and a receive that meet. Four coroutines make as many offers as receives each, by turns, all on one
-//! channel; nobody waits for anybody. So each offer is received, whatever the schedule.
+//! by default 1000, at most 1048576; by 1, 2 and 4 threads, or by so many, which may be none; through a channel that is rendezvous,
+//! buffered for 64 elements and unlimited, or through the one that is named.
 //!
+//! A transfer is an offer and a receive that meet, or an element that is kept and received. Four coroutines make as many offers as
+//! receives each, by turns, all on one channel; nobody waits for anybody. So each offer is received, whatever the schedule.
+//!
+//! - `measured`: the channels.
 //! - `on_passes`: calls of one pass of a hub.
 //! - `at_once`: the four coroutines, at work on one, two or four threads at once.
 #![tactic(auto)]
@@ -12,9 +16,11 @@
 ghost use Rattle.std.specs.Prelude.{◌≤◌, IfOk};
 
 mod at_once;
+mod measured;
 mod on_passes;
 
 use at_once::{four_callers, work_by};
+use measured::{ALL, Measured};
 use on_passes::new_hub;
 use std::rt::Env;
 use std::sync::Wait;
@@ -22,37 +28,53 @@ use std::thread::Threads;
 use std::time::{Clock, Instant};
 use std::{env, io};
 
-/// The number that the word says, or else this one.
-fn number_or(word: Option<String>, other: u32) -> u32 {
+/// What is to be measured.
+#[derive(Clone, Copy)]
+struct Wanted {
+    transfers: u32,
+    /// By how many threads, if that is said.
+    threads: Option<u32>,
+    /// Through which channel, if that is said.
+    channel: Option<Measured>,
+}
+
+/// The number that the word says.
+fn number(word: Option<String>) -> Option<u32> {
     match word {
-        Some(word) => word.as_str().parse::<u32>().unwrap_or(other),
-        None => other,
+        Some(word) => word.as_str().parse::<u32>().ok(),
+        None => None,
     }
 }
 
-/// So many transfers, from 4 on, and by how many threads, if that is said.
-fn sizes(rt: &(impl Env + AllocGlobal)) -> io::Result<(u32, Option<u32>)>
-    ensures { IfOk result (λ n. (4 ≤ n.0) × (n.0 ≤ 1048576)) }
+/// What the words say; there are 4 transfers at least.
+fn read_words(rt: &(impl Env + AllocGlobal)) -> io::Result<Wanted>
+    ensures { IfOk result (λ w. (4 ≤ w.transfers) × (w.transfers ≤ 1048576)) }
 {
     let mut words = env::args(rt)?.skip(1);
-    let transfers = number_or(words.next(), 1000);
-    let threads = match words.next() {
-        Some(word) => word.as_str().parse::<u32>().ok(),
+    let transfers = number(words.next()).unwrap_or(1000);
+    let threads = number(words.next());
+    let channel = match words.next() {
+        Some(word) => Measured::named(word.as_str()),
         None => None,
     };
-    Ok((transfers.clamp(4, 1048576), threads))
+    Ok(Wanted {
+        transfers: transfers.clamp(4, 1048576),
+        threads,
+        channel,
+    })
 }
 
-/// So many transfers through a rendezvous channel, by so many threads.
+/// So many transfers through a channel, by so many threads.
 fn bench_transfers<R: Threads + Wait + Sync + Clock + Print + Eprint + AllocGlobal>(
     rt: &R,
+    channel: Measured,
     transfers: u32,
     threads: u32,
 ) -> io::Result<()>
     requires some { 4 ≤ transfers }
     requires few { transfers ≤ 1048576 }
 {
-    let Ok((hub, mut main)) = new_hub(rt.alloc(), transfers) else {
+    let Ok((hub, mut main)) = new_hub(rt.alloc(), channel.kind(), transfers) else {
         return Err(io::Error::from(io::ErrorKind::OutOfMemory));
     };
     let four = four_callers(&hub, &mut main);
@@ -60,18 +82,42 @@ fn bench_transfers<R: Threads + Wait + Sync + Clock + Print + Eprint + AllocGlob
     let four = work_by(rt, &hub, four, transfers / 4, threads);
     let spent = begun.elapsed(rt)?;
     let done = four.count();
-    println!(rt; "{transfers} places, {threads} at once: {done} transfers")?;
-    eprintln!(rt; "{transfers} places, {threads} at once: {done} transfers in {spent:?}")?;
+    let name = channel.name();
+    println!(rt; "{name}, {threads} at once: {done} transfers")?;
+    eprintln!(rt; "{name}, {threads} at once: {done} transfers in {spent:?}")?;
+    Ok(())
+}
+
+/// Transfers through a channel, by so many threads or by 1, 2 and 4.
+fn bench_channel<R: Threads + Wait + Sync + Clock + Print + Eprint + AllocGlobal>(
+    rt: &R,
+    channel: Measured,
+    transfers: u32,
+    threads: Option<u32>,
+) -> io::Result<()>
+    requires some { 4 ≤ transfers }
+    requires few { transfers ≤ 1048576 }
+{
+    if let Some(threads) = threads {
+        return bench_transfers(rt, channel, transfers, threads);
+    }
+    for threads in [1u32, 2, 4] {
+        bench_transfers(rt, channel, transfers, threads)?;
+    }
     Ok(())
 }
 
 fn main(rt: HostRuntime) -> io::Result<()> {
-    let (transfers, threads) = sizes(&rt)?;
-    if let Some(threads) = threads {
-        return bench_transfers(&rt, transfers, threads);
+    let Wanted {
+        transfers,
+        threads,
+        channel,
+    } = read_words(&rt)?;
+    if let Some(channel) = channel {
+        return bench_channel(&rt, channel, transfers, threads);
     }
-    for threads in [1u32, 2, 4] {
-        bench_transfers(&rt, transfers, threads)?;
+    for channel in ALL {
+        bench_channel(&rt, channel, transfers, threads)?;
     }
     Ok(())
 }

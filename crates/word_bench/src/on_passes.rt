@@ -1,30 +1,32 @@
 //! Calls of one pass of a hub.
-ghost use Rattle.std.specs.Prelude.{◌≡◌, ◌≤◌, true, [], ◌∷◌, IfOk};
+ghost use Rattle.std.specs.Prelude.{◌≡◌, ◌≤◌, true, false, [], ◌∷◌, IfOk};
+ghost use Rattle.channel_model.specs.Channels.{is_signal};
 ghost use Rattle.cell_words.specs.Hubs.{IsOf, IsOwn, GivesTags};
 ghost use Rattle.cell_calls.specs.Desks.{desk_floor, desk_anchor};
-ghost use Rattle.word_bench.specs.Channels.{HasRendezvous};
+ghost use Rattle.word_bench.specs.Channels.{CarriesElements};
 
 use cell_calls::Desk;
 use cell_words::{Hub, Pass};
-use channel_model::{Got, Kind, Offered};
+use channel_model::{ChannelFloor, Got, Kind, Offered};
 use co_base::{Memory, Tag, Value};
 use std::alloc::Global;
 
-/// A hub of one rendezvous channel with so many places, and the pass of tag 0.
-pub(crate) fn new_hub(alloc: Global, places: u32) -> Result<(Hub, Pass), Memory>
+/// A hub of one channel of this kind with so many places, and the pass of tag 0.
+pub(crate) fn new_hub(alloc: Global, kind: Kind, places: u32) -> Result<(Hub, Pass), Memory>
+    requires elements { is_signal kind ≡ false }
     requires some { 1 ≤ places }
     requires few { places ≤ 1048576 }
-    ensures channel { IfOk result (λ r. HasRendezvous r.0) }
+    ensures channel { IfOk result (λ r. CarriesElements r.0) }
     ensures of { IfOk result (λ r. IsOf r.0 r.1) }
     ensures gives { IfOk result (λ r. GivesTags (0 ∷ []) r.1) }
 {
-    let kinds = [(Kind::Rendezvous, places)];
+    let kinds = [(kind, places)];
     Hub::new(alloc, &kinds)
 }
 
 /// Offers an element, and answers whether a receiver was there.
 fn offer_on(desk: &mut Desk<'_>, who: Tag, value: Value) -> bool
-    requires channel { HasRendezvous desk.old.hub.now }
+    requires channel { CarriesElements desk.old.hub.now }
     requires caller { (desk_floor desk.old).callers who ≡ true }
     ensures anchor { desk_anchor desk.new ≡ desk_anchor desk.old }
     ensures own { IsOwn desk.old.hub.now desk.new.pass.now who }
@@ -35,9 +37,9 @@ fn offer_on(desk: &mut Desk<'_>, who: Tag, value: Value) -> bool
     }
 }
 
-/// Receives, and answers whether an offer was there.
+/// Receives, and answers whether an element was there.
 fn receive_on(desk: &mut Desk<'_>, who: Tag) -> bool
-    requires channel { HasRendezvous desk.old.hub.now }
+    requires channel { CarriesElements desk.old.hub.now }
     requires caller { (desk_floor desk.old).callers who ≡ true }
     ensures anchor { desk_anchor desk.new ≡ desk_anchor desk.old }
     ensures own { IsOwn desk.old.hub.now desk.new.pass.now who }
@@ -50,7 +52,7 @@ fn receive_on(desk: &mut Desk<'_>, who: Tag) -> bool
 
 /// Offers an element, and answers whether a receiver was there.
 pub(crate) fn offer(hub: &Hub, pass: &mut Pass, who: Tag, value: Value) -> bool
-    requires channel { HasRendezvous hub.now }
+    requires channel { CarriesElements hub.now }
     requires own { IsOwn hub.now pass.old who }
     ensures own { IsOwn hub.now pass.new who }
 {
@@ -58,9 +60,9 @@ pub(crate) fn offer(hub: &Hub, pass: &mut Pass, who: Tag, value: Value) -> bool
     offer_on(&mut desk, who, value)
 }
 
-/// Receives, and answers whether an offer was there.
+/// Receives, and answers whether an element was there.
 pub(crate) fn receive(hub: &Hub, pass: &mut Pass, who: Tag) -> bool
-    requires channel { HasRendezvous hub.now }
+    requires channel { CarriesElements hub.now }
     requires own { IsOwn hub.now pass.old who }
     ensures own { IsOwn hub.now pass.new who }
 {
