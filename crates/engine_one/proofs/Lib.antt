@@ -9,3 +9,4 @@ pub mod ChannelKinds
 pub mod Beginnings
 pub mod Endings
 pub mod KeptRuns
+pub mod EndsLookedAt

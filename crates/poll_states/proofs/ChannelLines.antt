@@ -1,5 +1,5 @@
 -- The lines of a coroutine that call channels.
-use Rattle.std.specs.Prelude.{◌≡◌, ℕ, ◌<◌, nat_lt, length, Bool, true, List, [], ◌∷◌, Some, None, refl, Ok}
+use Rattle.std.specs.Prelude.{◌≡◌, ℕ, ◌<◌, nat_lt, length, Bool, true, false, List, [], ◌∷◌, Option, Some, None, refl, Ok}
 use Rattle.std.proofs.Common.{sym, ap, ◌∙◌, subst, arith}
 use Rattle.std.proofs.lemmas.Bool.Decides.{nat_tests}
 use Rattle.co_base.specs.declared.names.WaitId.{WaitId}
@@ -8,8 +8,8 @@ use Rattle.channel_model.specs.Floors.{Floor as ChannelFloor}
 use Rattle.job_model.specs.Histories.{Legal}
 use Rattle.job_model.specs.Floors.{Floor}
 use Rattle.note_book.specs.declared.book.Item.{Item}
-use Rattle.call_meaning.specs.Telling.{Told, heard, did}
-use Rattle.call_meaning.specs.ChannelCalls.{sends, receives, Answer, Done, Got, Closed, Waits, NoPlace, TryRefused, blocked, spent, PlainCall, TryCall, Closes, CancelsChannel}
+use Rattle.call_meaning.specs.Telling.{Told, heard}
+use Rattle.call_meaning.specs.ChannelCalls.{sends, receives, Answer, Done, Got, Closed, TryRefused, blocked, spent, PlainCall, TryCall}
 use Rattle.call_meaning.specs.Calls.{ToldOnChannels}
 use Rattle.channel_calls.specs.declared.caller.SendAnswer.{SendAnswer}
 use Rattle.channel_calls.specs.declared.caller.SendAnswer.TheVariants as send
@@ -32,12 +32,19 @@ use Rattle.script_grammar.specs.WellFormed.{IsProgram}
 use Rattle.script_grammar.proofs.Declarations.{line-within, length-shape_of}
 use Rattle.script_meaning.specs.Shapes.{base_of}
 use Rattle.script_meaning.specs.Configs.{Config, IsAt, next, operand}
+use Rattle.script_meaning.specs.WaitEnds.{past}
+use Rattle.script_meaning.proofs.LinesPlaced.{opened_closed}
 use Rattle.script_meaning.specs.Lines.{LineCalls, After}
 use Rattle.script_meaning.specs.Moves.{Move}
 use Rattle.script_meaning.specs.Polls.{HasStood}
 use Rattle.poll_states.specs.declared.frame.Frame.{Frame}
-use Rattle.poll_states.specs.Frames.{config_of, items_of, Stands}
-use Rattle.poll_states.specs.Steps.{Stepped, after_send, after_receive, after_try_send, after_try_receive, AfterEach}
+use Rattle.poll_states.specs.declared.answers.Came.{Came}
+use Rattle.poll_states.specs.declared.answers.Came.TheVariants as came
+use Rattle.poll_states.specs.declared.calls.ChannelCall.{ChannelCall}
+use Rattle.poll_states.specs.declared.calls.ChannelCall.TheVariants as call
+use Rattle.poll_states.specs.Frames.{config_of, items_of}
+use Rattle.poll_states.specs.Calls.{line_of, channel_in, element_of, came_of_send, came_of_try_send, came_of_receive, came_of_try_receive, answer_of, is_done, is_closed, IsSendEnd, CallTells, LeftWaiting, Made, after_call}
+use Rattle.poll_states.specs.Steps.{Stepped}
 use Rattle.script_meaning.specs.Laws.{wait_of}
 use Rattle.poll_states.proofs.Mild.{AllMild, plain_mild, try_mild, closes_mild, cancels_channel_mild}
 use Rattle.poll_states.proofs.Stepping.{no_wait, mild_step, channels_noted}
@@ -73,103 +80,150 @@ called p c c' j f g i told a y l at call after noted mild t config stood =
 pub no_more_wait : {A : Type 0} (w : WaitId) → None ≡ Some w → A
 no_more_wait w e = absurd (let u : ⊥ = cc in u)
 
--- ---- send, trysend
+-- ---- what a call told
 
-pub has_sent : (p : Program) (c c' : ChannelFloor) (j : Floor) (f g : Frame) (n v : ℕ) (o : Operand) (answer : SendAnswer) (mid : List Item) → IsProgram p → Legal j.shape j.seen → Stands p c j f → IsAt p f.tag (config_of f) (line.Send n o) → v ≡ operand (config_of f) o
-    → SentAnswer f.tag n v c c' (items_of f) mid (Ok answer) → g.tag ≡ f.tag → config_of g ≡ after_send f.tag answer (config_of f) → items_of g ≡ mid → Stepped p c c' j j f g
-has_sent p c c' j f g n v o answer mid ok l h at is sent t config items = by_answer answer (subst (λ l. SentAnswer f.tag n v c c' (items_of f) l (Ok answer)) (sym items) sent) config
+pub sent_made : (o : Operand) (who n v : ℕ) (c c' : ChannelFloor) (i i' : List Item) (answer : SendAnswer) (a : Came) → a ≡ came_of_send answer → SentAnswer who n v c c' i i' (Ok answer) → Made v (call.Send n o) who c c' i i' a
+sent_made o who n v c c' i i' answer a e h = subst (Made v (call.Send n o) who c c' i i') (sym e) (by_answer answer h)
   where
-    say : (a : Answer) (told : List Told) (y : Config) → PlainCall (sends n v) told a → After p f.tag (config_of f) (line.Send n o) a y → ToldOnChannels f.tag c c' (items_of f) (items_of g) told → config_of g ≡ y → ((w : WaitId) → wait_of y.stage ≡ Some w → HasStood c c' w) → Stepped p c c' j j f g
-    say a told y call after noted e stood =
-        let plain : PlainCall (sends n (operand (config_of f) o)) told a = subst (λ m. PlainCall (sends n m) told a) is call in
-        called p c c' j f g (line.Send n o) told a y l at (LineCalls.send n o told a plain) after noted
-        (plain_mild (base_of p) (sends n (operand (config_of f) o)) told a (line_low p f.tag (config_of f) (line.Send n o) n ok at refl) plain) t e stood
+    by_answer : (answer : SendAnswer) → SentAnswer who n v c c' i i' (Ok answer) → Made v (call.Send n o) who c c' i i' (came_of_send answer)
+    by_answer send.Sent m = record { told = m.told; goes = ((refl, refl), sent_goes n v m.told m.goes); left = m.left; stood = tt }
+    by_answer (send.Waits w) m = record { told = m.0.told; goes = ((refl, refl), m.0.goes); left = m.0.left; stood = left_waiting who _ w c c' (left_seen who w m.0.told c c' i i' m.1) }
+    by_answer (send.Closed x) m = record { told = m.0.told; goes = ((refl, refl), unsent_goes n v x m.0.told m.0.goes); left = m.0.left; stood = tt }
+    by_answer send.Spent m = record { told = m.told; goes = ((refl, refl), m.goes); left = m.left; stood = tt }
 
-    by_answer : (answer : SendAnswer) → SentAnswer f.tag n v c c' (items_of f) (items_of g) (Ok answer) → config_of g ≡ after_send f.tag answer (config_of f) → Stepped p c c' j j f g
-    by_answer send.Sent m e = say Done m.told _ (sent_goes n v m.told m.goes) (After.sent n o) m.left e (λ w k. no_more_wait w k)
-    by_answer (send.Waits w) m e = say (Waits w) m.0.told _ m.0.goes (After.waits (line.Send n o) w) m.0.left e (λ u k. same_wait_stood c c' w u (left_waiting f.tag _ w c c' (left_seen f.tag w m.0.told c c' (items_of f) (items_of g) m.1)) k)
-    by_answer (send.Closed x) m e = say Done m.0.told _ (unsent_goes n v x m.0.told m.0.goes) (After.sent n o) m.0.left e (λ w k. no_more_wait w k)
-    by_answer send.Spent m e = say NoPlace m.told _ m.goes (After.no_place (line.Send n o)) m.left e (λ w k. no_more_wait w k)
-
-pub has_tried_to_send : (p : Program) (c c' : ChannelFloor) (j : Floor) (f g : Frame) (n v : ℕ) (o : Operand) (answer : TrySendAnswer) (mid : List Item) → IsProgram p → Legal j.shape j.seen → IsAt p f.tag (config_of f) (line.TrySend n o) → v ≡ operand (config_of f) o
-    → TrySentAnswer f.tag n v c c' (items_of f) mid (Ok answer) → g.tag ≡ f.tag → config_of g ≡ after_try_send f.tag answer (config_of f) → items_of g ≡ mid → Stepped p c c' j j f g
-has_tried_to_send p c c' j f g n v o answer mid ok l at is sent t config items = by_answer answer (subst (λ l. TrySentAnswer f.tag n v c c' (items_of f) l (Ok answer)) (sym items) sent) config
+pub tried_to_send_made : (o : Operand) (who n v : ℕ) (c c' : ChannelFloor) (i i' : List Item) (answer : TrySendAnswer) (a : Came) → a ≡ came_of_try_send answer → TrySentAnswer who n v c c' i i' (Ok answer) → Made v (call.TrySend n o) who c c' i i' a
+tried_to_send_made o who n v c c' i i' answer a e h = subst (Made v (call.TrySend n o) who c c' i i') (sym e) (by_answer answer h)
   where
-    say : (a : Answer) (told : List Told) (y : Config) → TryCall (sends n v) told a → After p f.tag (config_of f) (line.TrySend n o) a y → ToldOnChannels f.tag c c' (items_of f) (items_of g) told → config_of g ≡ y → wait_of y.stage ≡ None → Stepped p c c' j j f g
-    say a told y call after noted e none =
-        called p c c' j f g (line.TrySend n o) told a y l at (LineCalls.trysend n o told a (subst (λ m. TryCall (sends n m) told a) is call)) after noted
-        (try_mild (base_of p) (sends n v) told a (line_low p f.tag (config_of f) (line.TrySend n o) n ok at refl) call) t e (λ w k. no_more_wait w (sym none ∙ k))
+    by_answer : (answer : TrySendAnswer) → TrySentAnswer who n v c c' i i' (Ok answer) → Made v (call.TrySend n o) who c c' i i' (came_of_try_send answer)
+    by_answer try_send.Sent m = record { told = m.told; goes = ((refl, refl), TryCall.at_once (sends n v) m.told Done m.goes); left = m.left; stood = tt }
+    by_answer try_send.Full m = record { told = blocked (sends n v) ∷ []; goes = ((refl, refl), TryCall.blocks (sends n v)); left = m; stood = tt }
+    by_answer (try_send.Closed x) m = record { told = heard (TrySendClosed n v x) ∷ []; goes = ((refl, refl), TryCall.refused (sends n v) _ (TryRefused.send n v x)); left = m; stood = tt }
+    by_answer try_send.Spent m = record { told = spent (sends n v); goes = ((refl, refl), TryCall.no_place n v); left = m; stood = tt }
 
-    by_answer : (answer : TrySendAnswer) → TrySentAnswer f.tag n v c c' (items_of f) (items_of g) (Ok answer) → config_of g ≡ after_try_send f.tag answer (config_of f) → Stepped p c c' j j f g
-    by_answer try_send.Sent m e = say Done m.told _ (TryCall.at_once (sends n v) m.told Done m.goes) (After.tried_to_send n o) m.left e refl
-    by_answer try_send.Full m e = say Done (blocked (sends n v) ∷ []) _ (TryCall.blocks (sends n v)) (After.tried_to_send n o) m e refl
-    by_answer (try_send.Closed x) m e = say Done (heard (TrySendClosed n v x) ∷ []) _ (TryCall.refused (sends n v) _ (TryRefused.send n v x)) (After.tried_to_send n o) m e refl
-    by_answer try_send.Spent m e = say NoPlace (spent (sends n v)) _ (TryCall.no_place n v) (After.no_place (line.TrySend n o)) m e refl
-
--- ---- receive, tryreceive, each
-
-pub has_received : (p : Program) (c c' : ChannelFloor) (j : Floor) (f g : Frame) (n : ℕ) (answer : ReceiveAnswer) (mid : List Item) → IsProgram p → Legal j.shape j.seen → Stands p c j f → IsAt p f.tag (config_of f) (line.Receive n)
-    → ReceivedAnswer f.tag n c c' (items_of f) mid (Ok answer) → g.tag ≡ f.tag → config_of g ≡ after_receive f.tag answer (config_of f) → items_of g ≡ mid → Stepped p c c' j j f g
-has_received p c c' j f g n answer mid ok l h at got t config items = by_answer answer (subst (λ l. ReceivedAnswer f.tag n c c' (items_of f) l (Ok answer)) (sym items) got) config
+-- a receive, of a line that tells it so
+pub received_made : (k : ChannelCall) (who n v : ℕ) (c c' : ChannelFloor) (i i' : List Item) (answer : ReceiveAnswer) (a : Came)
+    → ((b : Came) (told : List Told) → (is_done b ≡ false) × PlainCall (receives n) told (answer_of b) → CallTells v k b told)
+    → a ≡ came_of_receive answer → ReceivedAnswer who n c c' i i' (Ok answer) → Made v k who c c' i i' a
+received_made k who n v c c' i i' answer a tells e h = subst (Made v k who c c' i i') (sym e) (by_answer answer h)
   where
-    say : (a : Answer) (told : List Told) (y : Config) → PlainCall (receives n) told a → After p f.tag (config_of f) (line.Receive n) a y → ToldOnChannels f.tag c c' (items_of f) (items_of g) told → config_of g ≡ y → ((w : WaitId) → wait_of y.stage ≡ Some w → HasStood c c' w) → Stepped p c c' j j f g
-    say a told y call after noted e stood =
-        called p c c' j f g (line.Receive n) told a y l at (LineCalls.receive n told a call) after noted
-        (plain_mild (base_of p) (receives n) told a (line_low p f.tag (config_of f) (line.Receive n) n ok at refl) call) t e stood
+    by_answer : (answer : ReceiveAnswer) → ReceivedAnswer who n c c' i i' (Ok answer) → Made v k who c c' i i' (came_of_receive answer)
+    by_answer (receive.Value x) m = record { told = m.told; goes = tells (came.Got x) m.told (refl, m.goes); left = m.left; stood = tt }
+    by_answer (receive.Waits w) m = record { told = m.0.told; goes = tells (came.Waits w) m.0.told (refl, m.0.goes); left = m.0.left; stood = left_waiting who _ w c c' m.1 }
+    by_answer (receive.Closed x) m = record { told = m.told; goes = tells (came.Closed x) m.told (refl, m.goes); left = m.left; stood = tt }
+    by_answer receive.Spent m = record { told = m.told; goes = tells came.NoPlace m.told (refl, m.goes); left = m.left; stood = tt }
 
-    by_answer : (answer : ReceiveAnswer) → ReceivedAnswer f.tag n c c' (items_of f) (items_of g) (Ok answer) → config_of g ≡ after_receive f.tag answer (config_of f) → Stepped p c c' j j f g
-    by_answer (receive.Value v) m e = say (Got v) m.told _ m.goes (After.got n v) m.left e (λ w k. no_more_wait w k)
-    by_answer (receive.Waits w) m e = say (Waits w) m.0.told _ m.0.goes (After.waits (line.Receive n) w) m.0.left e (λ u k. same_wait_stood c c' w u (left_waiting f.tag _ w c c' m.1) k)
-    by_answer (receive.Closed v) m e = say (Closed v) m.told _ m.goes (After.no_more n v) m.left e (λ w k. no_more_wait w k)
-    by_answer receive.Spent m e = say NoPlace m.told _ m.goes (After.no_place (line.Receive n)) m.left e (λ w k. no_more_wait w k)
-
-pub has_tried_to_receive : (p : Program) (c c' : ChannelFloor) (j : Floor) (f g : Frame) (n : ℕ) (answer : TryReceiveAnswer) (mid : List Item) → IsProgram p → Legal j.shape j.seen → IsAt p f.tag (config_of f) (line.TryReceive n)
-    → TryReceivedAnswer f.tag n c c' (items_of f) mid (Ok answer) → g.tag ≡ f.tag → config_of g ≡ after_try_receive answer (config_of f) → items_of g ≡ mid → Stepped p c c' j j f g
-has_tried_to_receive p c c' j f g n answer mid ok l at got t config items = by_answer answer (subst (λ l. TryReceivedAnswer f.tag n c c' (items_of f) l (Ok answer)) (sym items) got) config
+pub tried_to_receive_made : (who n v : ℕ) (c c' : ChannelFloor) (i i' : List Item) (answer : TryReceiveAnswer) (a : Came) → a ≡ came_of_try_receive answer → TryReceivedAnswer who n c c' i i' (Ok answer) → Made v (call.TryReceive n) who c c' i i' a
+tried_to_receive_made who n v c c' i i' answer a e h = subst (Made v (call.TryReceive n) who c c' i i') (sym e) (by_answer answer h)
   where
-    say : (a : Answer) (told : List Told) (y : Config) → TryCall (receives n) told a → After p f.tag (config_of f) (line.TryReceive n) a y → ToldOnChannels f.tag c c' (items_of f) (items_of g) told → config_of g ≡ y → wait_of y.stage ≡ None → Stepped p c c' j j f g
-    say a told y call after noted e none =
-        called p c c' j f g (line.TryReceive n) told a y l at (LineCalls.tryreceive n told a call) after noted
-        (try_mild (base_of p) (receives n) told a (line_low p f.tag (config_of f) (line.TryReceive n) n ok at refl) call) t e (λ w k. no_more_wait w (sym none ∙ k))
+    by_answer : (answer : TryReceiveAnswer) → TryReceivedAnswer who n c c' i i' (Ok answer) → Made v (call.TryReceive n) who c c' i i' (came_of_try_receive answer)
+    by_answer (try_receive.Value x) m = record { told = m.told; goes = (refl, TryCall.at_once (receives n) m.told (Got x) m.goes); left = m.left; stood = tt }
+    by_answer try_receive.Empty m = record { told = blocked (receives n) ∷ []; goes = (refl, TryCall.blocks (receives n)); left = m; stood = tt }
+    by_answer (try_receive.Closed x) m = record { told = heard (TryReceiveClosed n x) ∷ []; goes = (refl, TryCall.refused (receives n) _ (TryRefused.receive n x)); left = m; stood = tt }
 
-    by_answer : (answer : TryReceiveAnswer) → TryReceivedAnswer f.tag n c c' (items_of f) (items_of g) (Ok answer) → config_of g ≡ after_try_receive answer (config_of f) → Stepped p c c' j j f g
-    by_answer (try_receive.Value v) m e = say (Got v) m.told _ (TryCall.at_once (receives n) m.told (Got v) m.goes) (After.tried_and_got n v) m.left e refl
-    by_answer try_receive.Empty m e = say Done (blocked (receives n) ∷ []) _ (TryCall.blocks (receives n)) (After.tried_to_get n) m e refl
-    by_answer (try_receive.Closed x) m e = say Done (heard (TryReceiveClosed n x) ∷ []) _ (TryCall.refused (receives n) _ (TryRefused.receive n x)) (After.tried_to_get n) m e refl
+pub closed_made : (who n v : ℕ) (c c' : ChannelFloor) (i i' : List Item) (first : Bool) → ClosedAnswer who n 0 c c' i i' (Ok first) → Made v (call.Close n) who c c' i i' came.Done
+closed_made who n v c c' i i' first m = record { told = m.0.told; goes = (refl, closes_goes n 0 first m.0.told m.0.goes); left = m.0.left; stood = tt }
+
+pub cancelled_made : (who n v : ℕ) (c c' : ChannelFloor) (i i' : List Item) (first : Bool) → CancelledChannelAnswer who n c c' i i' (Ok first) → Made v (call.Cancel n) who c c' i i' came.Done
+cancelled_made who n v c c' i i' first m = record { told = m.0.told; goes = (refl, cancels_goes n first m.0.told m.0.goes); left = m.0.left; stood = tt }
+
+-- ---- the move of a line that calls
+
+pub call_channel : (k : ChannelCall) → channel_of (line_of k) ≡ Some (channel_in k)
+call_channel (call.Send n o) = refl
+call_channel (call.TrySend n o) = refl
+call_channel (call.Receive n) = refl
+call_channel (call.TryReceive n) = refl
+call_channel (call.Each n) = refl
+call_channel (call.Close n) = refl
+call_channel (call.Cancel n) = refl
+
+never : {A : Type 0} → true ≡ false → A
+never e = absurd (let u : ⊥ = cc in u)
+
+-- a coroutine goes on from this line where its call came to this; where it waits, that wait stood
+abbrev GoesOn : Program → ℕ → Config → Instruction → ChannelFloor → ChannelFloor → Came → Type 0
+GoesOn p k x i c c' a = After p k x i (answer_of a) (after_call p k x i a) × ((w : WaitId) → wait_of (after_call p k x i a).stage ≡ Some w → HasStood c c' w)
+
+goes_waiting : (p : Program) (k : ℕ) (x : Config) (i : Instruction) (c c' : ChannelFloor) (w : WaitId) → HasStood c c' w → GoesOn p k x i c c' (came.Waits w)
+goes_waiting p k x i c c' w h = (After.waits i w, λ u e. same_wait_stood c c' w u h e)
+
+goes_spent : (p : Program) (k : ℕ) (x : Config) (i : Instruction) (c c' : ChannelFloor) → GoesOn p k x i c c' came.NoPlace
+goes_spent p k x i c c' = (After.no_place i, λ w e. no_more_wait w e)
+
+send_goes : (p : Program) (k : ℕ) (x : Config) (n : ℕ) (o : Operand) (c c' : ChannelFloor) (a : Came) → IsSendEnd a → LeftWaiting a c c' → GoesOn p k x (line.Send n o) c c' a
+send_goes p k x n o c c' came.Done e h = (After.sent n o, λ w q. no_more_wait w q)
+send_goes p k x n o c c' (came.Got v) e h = never e.0
+send_goes p k x n o c c' (came.Closed v) e h = never e.1
+send_goes p k x n o c c' (came.Waits w) e h = goes_waiting p k x _ c c' w h
+send_goes p k x n o c c' came.NoPlace e h = goes_spent p k x _ c c'
+
+try_send_goes : (p : Program) (k : ℕ) (x : Config) (n : ℕ) (o : Operand) (c c' : ChannelFloor) (a : Came) → IsSendEnd a → LeftWaiting a c c' → GoesOn p k x (line.TrySend n o) c c' a
+try_send_goes p k x n o c c' came.Done e h = (After.tried_to_send n o, λ w q. no_more_wait w q)
+try_send_goes p k x n o c c' (came.Got v) e h = never e.0
+try_send_goes p k x n o c c' (came.Closed v) e h = never e.1
+try_send_goes p k x n o c c' (came.Waits w) e h = goes_waiting p k x _ c c' w h
+try_send_goes p k x n o c c' came.NoPlace e h = goes_spent p k x _ c c'
+
+receive_goes : (p : Program) (k : ℕ) (x : Config) (n : ℕ) (c c' : ChannelFloor) (a : Came) → is_done a ≡ false → LeftWaiting a c c' → GoesOn p k x (line.Receive n) c c' a
+receive_goes p k x n c c' came.Done e h = never e
+receive_goes p k x n c c' (came.Got v) e h = (After.got n v, λ w q. no_more_wait w q)
+receive_goes p k x n c c' (came.Closed v) e h = (After.no_more n v, λ w q. no_more_wait w q)
+receive_goes p k x n c c' (came.Waits w) e h = goes_waiting p k x _ c c' w h
+receive_goes p k x n c c' came.NoPlace e h = goes_spent p k x _ c c'
+
+try_receive_goes : (p : Program) (k : ℕ) (x : Config) (n : ℕ) (c c' : ChannelFloor) (a : Came) → is_closed a ≡ false → LeftWaiting a c c' → GoesOn p k x (line.TryReceive n) c c' a
+try_receive_goes p k x n c c' came.Done e h = (After.tried_to_get n, λ w q. no_more_wait w q)
+try_receive_goes p k x n c c' (came.Got v) e h = (After.tried_and_got n v, λ w q. no_more_wait w q)
+try_receive_goes p k x n c c' (came.Closed v) e h = never e
+try_receive_goes p k x n c c' (came.Waits w) e h = goes_waiting p k x _ c c' w h
+try_receive_goes p k x n c c' came.NoPlace e h = goes_spent p k x _ c c'
 
 -- a turn of an each begins, or the last one is done
-pub has_received_more : (p : Program) (c c' : ChannelFloor) (j : Floor) (f m g : Frame) (n : ℕ) (answer : ReceiveAnswer) (mid : List Item) → IsProgram p → Legal j.shape j.seen → Stands p c j f → IsAt p f.tag (config_of f) (line.Each n) → m.tag ≡ f.tag → config_of m ≡ config_of f → items_of m ≡ items_of f
-    → ReceivedAnswer m.tag n c c' (items_of m) mid (Ok answer) → g.tag ≡ m.tag → AfterEach p m.tag answer (config_of m) (config_of g) → items_of g ≡ mid → Stepped p c c' j j f g
-has_received_more p c c' j f m g n answer mid ok l h at tag same noted got t config items =
-    by_answer answer
-    (subst (λ l. ReceivedAnswer f.tag n c c' (items_of f) l (Ok answer)) (sym items) (subst (λ i. ReceivedAnswer f.tag n c c' i mid (Ok answer)) noted (subst (λ k. ReceivedAnswer k n c c' (items_of m) mid (Ok answer)) tag got)))
-    (subst (λ x. AfterEach p f.tag answer x (config_of g)) same (subst (λ k. AfterEach p k answer (config_of m) (config_of g)) tag config))
+each_goes : (p : Program) (k : ℕ) (x : Config) (n : ℕ) (c c' : ChannelFloor) (a : Came) → IsProgram p → IsAt p k x (line.Each n) → is_done a ≡ false → LeftWaiting a c c' → GoesOn p k x (line.Each n) c c' a
+each_goes p k x n c c' came.Done ok at e h = never e
+each_goes p k x n c c' (came.Got v) ok at e h = (After.got_one_more n v, λ w q. no_more_wait w q)
+each_goes p k x n c c' (came.Closed v) ok at e h =
+    let closed = opened_closed p k x.line (line.Each n) ok at.line_is refl in
+    subst (λ (o : Option ℕ). After p k x (line.Each n) (Closed v) (past o x) × ((w : WaitId) → wait_of (past o x).stage ≡ Some w → HasStood c c' w)) (sym closed.1)
+    (After.got_all n v closed.0 closed.1, λ w q. no_more_wait w q)
+each_goes p k x n c c' (came.Waits w) ok at e h = goes_waiting p k x _ c c' w h
+each_goes p k x n c c' came.NoPlace ok at e h = goes_spent p k x _ c c'
+
+pub has_called : (p : Program) (c c' : ChannelFloor) (j : Floor) (f g : Frame) (k : ChannelCall) (v : ℕ) (a : Came) (mid : List Item) → IsProgram p → Legal j.shape j.seen → IsAt p f.tag (config_of f) (line_of k) → v ≡ element_of (config_of f) k
+    → Made v k f.tag c c' (items_of f) mid a → g.tag ≡ f.tag → config_of g ≡ after_call p f.tag (config_of f) (line_of k) a → items_of g ≡ mid → Stepped p c c' j j f g
+has_called p c c' j f g k v a mid ok l at is made t config items = by_call k at is (subst (λ i. Made v k f.tag c c' (items_of f) i a) (sym items) made) config
   where
-    say : (a : Answer) (told : List Told) (y : Config) → PlainCall (receives n) told a → After p f.tag (config_of f) (line.Each n) a y → ToldOnChannels f.tag c c' (items_of f) (items_of g) told → config_of g ≡ y → ((w : WaitId) → wait_of y.stage ≡ Some w → HasStood c c' w) → Stepped p c c' j j f g
-    say a told y call after noted e stood =
-        called p c c' j f g (line.Each n) told a y l at (LineCalls.each n told a call) after noted
-        (plain_mild (base_of p) (receives n) told a (line_low p f.tag (config_of f) (line.Each n) n ok at refl) call) (t ∙ tag) e stood
+    x : Config
+    x = config_of f
 
-    by_answer : (answer : ReceiveAnswer) → ReceivedAnswer f.tag n c c' (items_of f) (items_of g) (Ok answer) → AfterEach p f.tag answer (config_of f) (config_of g) → Stepped p c c' j j f g
-    by_answer (receive.Value v) r e = say (Got v) r.told _ r.goes (After.got_one_more n v) r.left e (λ w k. no_more_wait w k)
-    by_answer (receive.Waits w) r e = say (Waits w) r.0.told _ r.0.goes (After.waits (line.Each n) w) r.0.left e (λ u k. same_wait_stood c c' w u (left_waiting f.tag _ w c c' r.1) k)
-    by_answer (receive.Closed v) r e = say (Closed v) r.told _ r.goes (After.got_all n v e.0 e.1) r.left e.2 (λ w k. no_more_wait w k)
-    by_answer receive.Spent r e = say NoPlace r.told _ r.goes (After.no_place (line.Each n)) r.left e (λ w k. no_more_wait w k)
-
--- ---- close, cancelchannel
-
-pub has_closed : (p : Program) (c c' : ChannelFloor) (j : Floor) (f g : Frame) (n : ℕ) (first : Bool) (mid : List Item) → IsProgram p → Legal j.shape j.seen → IsAt p f.tag (config_of f) (line.Close n)
-    → ClosedAnswer f.tag n 0 c c' (items_of f) mid (Ok first) → g.tag ≡ f.tag → config_of g ≡ next (config_of f) → items_of g ≡ mid → Stepped p c c' j j f g
-has_closed p c c' j f g n first mid ok l at did t config items =
-    let m : ClosedAnswer f.tag n 0 c c' (items_of f) (items_of g) (Ok first) = subst (λ l. ClosedAnswer f.tag n 0 c c' (items_of f) l (Ok first)) (sym items) did in
-    let group : Closes n 0 m.0.told = closes_goes n 0 first m.0.told m.0.goes in
-    mild_step p c c' j j f g m.0.told (next (config_of f)) l (Move.closes (config_of f) n m.0.told at group) (channels_noted f.tag c c' j (items_of f) (items_of g) m.0.told m.0.left)
-    (closes_mild (base_of p) n 0 m.0.told (line_low p f.tag (config_of f) (line.Close n) n ok at refl) group) t config (λ w e. no_wait g _ w config refl e)
-
-pub has_cancelled_channel : (p : Program) (c c' : ChannelFloor) (j : Floor) (f g : Frame) (n : ℕ) (first : Bool) (mid : List Item) → IsProgram p → Legal j.shape j.seen → IsAt p f.tag (config_of f) (line.CancelChannel n)
-    → CancelledChannelAnswer f.tag n c c' (items_of f) mid (Ok first) → g.tag ≡ f.tag → config_of g ≡ next (config_of f) → items_of g ≡ mid → Stepped p c c' j j f g
-has_cancelled_channel p c c' j f g n first mid ok l at did t config items =
-    let m : CancelledChannelAnswer f.tag n c c' (items_of f) (items_of g) (Ok first) = subst (λ l. CancelledChannelAnswer f.tag n c c' (items_of f) l (Ok first)) (sym items) did in
-    let group : CancelsChannel n m.0.told = cancels_goes n first m.0.told m.0.goes in
-    mild_step p c c' j j f g m.0.told (next (config_of f)) l (Move.cancels_channel (config_of f) n m.0.told at group) (channels_noted f.tag c c' j (items_of f) (items_of g) m.0.told m.0.left)
-    (cancels_channel_mild (base_of p) n m.0.told (line_low p f.tag (config_of f) (line.CancelChannel n) n ok at refl) group) t config (λ w e. no_wait g _ w config refl e)
+    by_call : (k : ChannelCall) → IsAt p f.tag x (line_of k) → v ≡ element_of x k → Made v k f.tag c c' (items_of f) (items_of g) a → config_of g ≡ after_call p f.tag x (line_of k) a → Stepped p c c' j j f g
+    by_call (call.Send n o) at is m e =
+        let plain : PlainCall (sends n (operand x o)) m.told (answer_of a) = subst (λ u. PlainCall (sends n u) m.told (answer_of a)) is m.goes.1 in
+        let on = send_goes p f.tag x n o c c' a m.goes.0 m.stood in
+        called p c c' j f g (line.Send n o) m.told (answer_of a) (after_call p f.tag x (line.Send n o) a) l at (LineCalls.send n o m.told (answer_of a) plain) on.0 m.left
+        (plain_mild (base_of p) (sends n (operand x o)) m.told (answer_of a) (line_low p f.tag x (line.Send n o) n ok at refl) plain) t e on.1
+    by_call (call.TrySend n o) at is m e =
+        let tries : TryCall (sends n (operand x o)) m.told (answer_of a) = subst (λ u. TryCall (sends n u) m.told (answer_of a)) is m.goes.1 in
+        let on = try_send_goes p f.tag x n o c c' a m.goes.0 m.stood in
+        called p c c' j f g (line.TrySend n o) m.told (answer_of a) (after_call p f.tag x (line.TrySend n o) a) l at (LineCalls.trysend n o m.told (answer_of a) tries) on.0 m.left
+        (try_mild (base_of p) (sends n (operand x o)) m.told (answer_of a) (line_low p f.tag x (line.TrySend n o) n ok at refl) tries) t e on.1
+    by_call (call.Receive n) at is m e =
+        let on = receive_goes p f.tag x n c c' a m.goes.0 m.stood in
+        called p c c' j f g (line.Receive n) m.told (answer_of a) (after_call p f.tag x (line.Receive n) a) l at (LineCalls.receive n m.told (answer_of a) m.goes.1) on.0 m.left
+        (plain_mild (base_of p) (receives n) m.told (answer_of a) (line_low p f.tag x (line.Receive n) n ok at refl) m.goes.1) t e on.1
+    by_call (call.TryReceive n) at is m e =
+        let on = try_receive_goes p f.tag x n c c' a m.goes.0 m.stood in
+        called p c c' j f g (line.TryReceive n) m.told (answer_of a) (after_call p f.tag x (line.TryReceive n) a) l at (LineCalls.tryreceive n m.told (answer_of a) m.goes.1) on.0 m.left
+        (try_mild (base_of p) (receives n) m.told (answer_of a) (line_low p f.tag x (line.TryReceive n) n ok at refl) m.goes.1) t e on.1
+    by_call (call.Each n) at is m e =
+        let on = each_goes p f.tag x n c c' a ok at m.goes.0 m.stood in
+        called p c c' j f g (line.Each n) m.told (answer_of a) (after_call p f.tag x (line.Each n) a) l at (LineCalls.each n m.told (answer_of a) m.goes.1) on.0 m.left
+        (plain_mild (base_of p) (receives n) m.told (answer_of a) (line_low p f.tag x (line.Each n) n ok at refl) m.goes.1) t e on.1
+    by_call (call.Close n) at is m e =
+        let goes : config_of g ≡ next x = e ∙ ap (after_call p f.tag x (line.Close n)) m.goes.0 in
+        mild_step p c c' j j f g m.told (next x) l (Move.closes x n m.told at m.goes.1) (channels_noted f.tag c c' j (items_of f) (items_of g) m.told m.left)
+        (closes_mild (base_of p) n 0 m.told (line_low p f.tag x (line.Close n) n ok at refl) m.goes.1) t goes (λ w q. no_wait g _ w goes refl q)
+    by_call (call.Cancel n) at is m e =
+        let goes : config_of g ≡ next x = e ∙ ap (after_call p f.tag x (line.CancelChannel n)) m.goes.0 in
+        mild_step p c c' j j f g m.told (next x) l (Move.cancels_channel x n m.told at m.goes.1) (channels_noted f.tag c c' j (items_of f) (items_of g) m.told m.left)
+        (cancels_channel_mild (base_of p) n m.told (line_low p f.tag x (line.CancelChannel n) n ok at refl) m.goes.1) t goes (λ w q. no_wait g _ w goes refl q)

@@ -25,7 +25,7 @@ use Rattle.script_meaning.proofs.JobDebts.{AllKnown, parents_in, all_known}
 use Rattle.script_meaning.proofs.JobStories.{true_so}
 use Rattle.poll_states.specs.declared.frame.Frame.{Frame}
 use Rattle.poll_states.specs.Frames.{config_of, items_of}
-use Rattle.poll_states.specs.Steps.{Stepped, CutShort}
+use Rattle.poll_states.specs.Steps.{NotedSome, Stepped, CutShort}
 use Rattle.script_meaning.specs.Laws.{wait_of}
 use Rattle.poll_states.proofs.DonesLeft.{unclosed_kept}
 use Rattle.script_meaning.proofs.GentleNotes.{mild_unrefused}
@@ -92,19 +92,25 @@ cut_nothing c d j k f g e h t is = record {
   };
 }
 
-pub cut_jobs : (c d : ChannelFloor) (j j' : Floor) (f g : Frame) → d ≡ c → g.tag ≡ f.tag → ToldOnJobs f.tag [] j j' (items_of f) (items_of g) [] → CutShort c d j j' f g
+pub some_jobs : (who : ℕ) (c d : ChannelFloor) (j j' : Floor) (i i' : List Item) → d ≡ c → ToldOnJobs who [] j j' i i' [] → NotedSome who c d j j' i i'
 unfolding items_in
-cut_jobs c d j j' f g e t h = record { tag = t; noted = record { group = []; rows = []; appended = h.appended; channels = uncalled f.tag c d e; jobs = h.added } }
+some_jobs who c d j j' i i' e h = record { group = []; rows = []; appended = h.appended; channels = uncalled who c d e; jobs = h.added }
+
+pub cut_jobs : (c d : ChannelFloor) (j j' : Floor) (f g : Frame) → d ≡ c → g.tag ≡ f.tag → ToldOnJobs f.tag [] j j' (items_of f) (items_of g) [] → CutShort c d j j' f g
+cut_jobs c d j j' f g e t h = record { tag = t; noted = some_jobs f.tag c d j j' (items_of f) (items_of g) e h }
+
+pub some_told : (who base : ℕ) (c c' : ChannelFloor) (j j' : Floor) (i i' : List Item) → DidSome who base c c' j j' i i' → NotedSome who c c' j j' i i'
+some_told who base c c' j j' i i' h = record { group = items_in h.told; rows = []; appended = h.noted.appended; channels = h.noted.channels; jobs = h.noted.jobs }
 
 pub cut_some : (base : ℕ) (c c' : ChannelFloor) (j j' : Floor) (f g : Frame) → g.tag ≡ f.tag → DidSome f.tag base c c' j j' (items_of f) (items_of g) → CutShort c c' j j' f g
-cut_some base c c' j j' f g t h = record { tag = t; noted = record { group = items_in h.told; rows = []; appended = h.noted.appended; channels = h.noted.channels; jobs = h.noted.jobs } }
+cut_some base c c' j j' f g t h = record { tag = t; noted = some_told f.tag base c c' j j' (items_of f) (items_of g) h }
 
 -- a pass was cut short
-pub cut_pass : (c d : ChannelFloor) (j j' : Floor) (f g : Frame) (row : ℕ) → d ≡ c → g.tag ≡ f.tag → CancelledSome f.tag row j j' (items_of f) (items_of g) → CutShort c d j j' f g
-cut_pass c d j j' f g row e t h =
+pub some_pass : (who : ℕ) (c d : ChannelFloor) (j j' : Floor) (i i' : List Item) (row : ℕ) → d ≡ c → CancelledSome who row j j' i i' → NotedSome who c d j j' i i'
+some_pass who c d j j' i i' row e h =
     let told : List Told = map did (own_cancel h.newly row reasons.Request ++ h.below) in
-    let both = both_jobs f.tag [] c d j j' (items_of f) (items_of g) told (uncalled f.tag c d e) h.noted in
-    record { tag = t; noted = record { group = items_in told; rows = []; appended = both.appended; channels = both.channels; jobs = both.jobs } }
+    let both = both_jobs who [] c d j j' i i' told (uncalled who c d e) h.noted in
+    record { group = items_in told; rows = []; appended = both.appended; channels = both.channels; jobs = both.jobs }
 
 pub cut_told : (c c' : ChannelFloor) (j k : Floor) (f g : Frame) → k ≡ j → g.tag ≡ f.tag → ToldSome f.tag c c' (items_of f) (items_of g) → CutShort c c' j k f g
 cut_told c c' j k f g h t did = record {

@@ -59,7 +59,8 @@ use Rattle.poll_states.specs.declared.entered.OpenScope.{OpenScope}
 use Rattle.poll_states.specs.declared.frame.Frame.{Frame}
 use Rattle.poll_states.specs.Frames.{config_of, items_of, Stands}
 use Rattle.poll_states.specs.Steps.{HasBody, Stepped, CutShort}
-use Rattle.poll_states.specs.Ends.{after_join, after_await, after_job, AfterDone, GoesOutside, LeavesEnded, IsInScope, IsScopeTop, EndsAndReceives, BreaksAndReceives, HasSeen, NotYetSeen}
+use Rattle.poll_states.specs.Named.{came_of_joined, after_named}
+use Rattle.poll_states.specs.Ends.{after_job, AfterDone, GoesOutside, LeavesEnded, IsInScope, IsScopeTop, EndsAndReceives, BreaksAndReceives, HasSeen, NotYetSeen}
 use Rattle.poll_states.proofs.Standing.{stands_knows, stands_body}
 use Rattle.script_meaning.proofs.GentleNotes.{attach_mild}
 use Rattle.poll_states.proofs.JobLines.{never_told_over}
@@ -98,7 +99,7 @@ awaits_group p base row shape a told e h =
     StartsAndReceives.both h.starts h.group told a h.is_started (subst (λ b. PlainCall (receives (done_channel b row)) h.group a) e h.received) h.all
 
 pub has_joined : (p : Program) (base : ℕ) (c c' : ChannelFloor) (j j' : Floor) (f g : Frame) (job own row : ℕ) (answer : Joined) (mid : List Item) → base ≡ base_of p → Stands p c j f → IsAt p f.tag (config_of f) (line.Join job) → own ≡ innermost f.tag (config_of f) → slice_get f.rows.items job ≡ Some row
-    → JoinAnswer f.tag base own row c c' j j' (items_of f) mid (Ok answer) → g.tag ≡ f.tag → config_of g ≡ after_join f.tag answer (config_of f) → items_of g ≡ mid → Stepped p c c' j j' f g
+    → JoinAnswer f.tag base own row c c' j j' (items_of f) mid (Ok answer) → g.tag ≡ f.tag → config_of g ≡ after_named p f.tag (config_of f) (line.Join job) (came_of_joined answer) → items_of g ≡ mid → Stepped p c c' j j' f g
 has_joined p base c c' j j' f g job own row answer mid e h at is named did t config items =
     by_answer answer (subst (λ i. JoinAnswer f.tag base own row c c' j j' (items_of f) i (Ok answer)) (sym items) did) config
   where
@@ -111,7 +112,7 @@ has_joined p base c c' j j' f g job own row answer mid e h at is named did t con
         quiet_step p c c' j j' f g d.told y (Move.calls (config_of f) y (line.Join job) d.told a at calls after) d.noted (tells_at p f.tag base _ c c' j j' (items_of f) (items_of g) e d)
         (all_as is_quiet d.told _ is_told (job_fact is_quiet (MayRun own_row) d.goes.group (both_all is_quiet quiet_allows p row d.goes.group a (λ s. refl) group))) t k stood
 
-    by_answer : (answer : Joined) → JoinAnswer f.tag base own row c c' j j' (items_of f) (items_of g) (Ok answer) → config_of g ≡ after_join f.tag answer (config_of f) → Stepped p c c' j j' f g
+    by_answer : (answer : Joined) → JoinAnswer f.tag base own row c c' j j' (items_of f) (items_of g) (Ok answer) → config_of g ≡ after_named p f.tag (config_of f) (line.Join job) (came_of_joined answer) → Stepped p c c' j j' f g
     by_answer (joined.Closed v) d k = say (Closed v) _ d (After.joined job v) k (λ w n. no_more_wait w n)
     by_answer (joined.Waits w) d k = say (Waits w) _ d.0 (After.waits (line.Join job) w) k (λ u n. left_stood f.tag _ w u c c' d.1 n)
     by_answer joined.Spent d k = say NoPlace _ d (After.no_place (line.Join job)) k (λ w n. no_more_wait w n)
@@ -122,7 +123,7 @@ has_joined p base c c' j j' f g job own row answer mid e h at is named did t con
         (all_as is_quiet d.told _ is_told (saw_all is_quiet quiet_allows own_row [] (all_none is_quiet))) t k (λ w n. no_more_wait w n)
 
 pub has_awaited : (p : Program) (base : ℕ) (c c' : ChannelFloor) (j j' : Floor) (f g : Frame) (job row : ℕ) (answer : Joined) (mid : List Item) → base ≡ base_of p → Stands p c j f → IsAt p f.tag (config_of f) (line.Await job) → slice_get f.rows.items job ≡ Some row
-    → DoneAnswer f.tag base (AwaitsEnd c.shape base row) c c' j j' (items_of f) mid (Ok answer) → g.tag ≡ f.tag → config_of g ≡ after_await f.tag answer (config_of f) → items_of g ≡ mid → Stepped p c c' j j' f g
+    → DoneAnswer f.tag base (AwaitsEnd c.shape base row) c c' j j' (items_of f) mid (Ok answer) → g.tag ≡ f.tag → config_of g ≡ after_named p f.tag (config_of f) (line.Await job) (came_of_joined answer) → items_of g ≡ mid → Stepped p c c' j j' f g
 has_awaited p base c c' j j' f g job row answer mid e h at named did t config items =
     by_answer answer (subst (λ i. DoneAnswer f.tag base (AwaitsEnd c.shape base row) c c' j j' (items_of f) i (Ok answer)) (sym items) did) config
   where
@@ -132,7 +133,7 @@ has_awaited p base c c' j j' f g job row answer mid e h at named did t config it
         quiet_step p c c' j j' f g d.told y (Move.calls (config_of f) y (line.Await job) d.told a at (LineCalls.await job row d.told a named group) after) d.noted (tells_at p f.tag base _ c c' j j' (items_of f) (items_of g) e d)
         (both_all is_quiet quiet_allows p row d.told a (λ s. refl) group) t k stood
 
-    by_answer : (answer : Joined) → DoneAnswer f.tag base (AwaitsEnd c.shape base row) c c' j j' (items_of f) (items_of g) (Ok answer) → config_of g ≡ after_await f.tag answer (config_of f) → Stepped p c c' j j' f g
+    by_answer : (answer : Joined) → DoneAnswer f.tag base (AwaitsEnd c.shape base row) c c' j j' (items_of f) (items_of g) (Ok answer) → config_of g ≡ after_named p f.tag (config_of f) (line.Await job) (came_of_joined answer) → Stepped p c c' j j' f g
     by_answer (joined.Closed v) d k = say (Closed v) _ d (After.awaited job v) k (λ w n. no_more_wait w n)
     by_answer (joined.Waits w) d k = say (Waits w) _ d.0 (After.waits (line.Await job) w) k (λ u n. left_stood f.tag _ w u c c' d.1 n)
     by_answer joined.Cancelled d k = absurd d

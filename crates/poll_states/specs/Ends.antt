@@ -1,4 +1,4 @@
--- Where a coroutine goes on by what a join, an await or the end of a scope came to, and how it sees an end.
+-- Where a coroutine goes on by what the end of a scope came to, and how it sees an end.
 use Rattle.std.specs.Prelude.{◌≡◌, ◌≢◌, ◌+◌, ◌<◌, ◌⊎◌, ℕ, true, false, List, [], ◌∷◌, ◌++◌, length, Option, Some, None, Result, Ok, Err}
 use Rattle.co_base.specs.declared.names.Memory.{Memory}
 use Rattle.co_base.specs.declared.names.WaitId.{WaitId}
@@ -25,7 +25,7 @@ use Rattle.script_grammar.specs.Programs.{Program}
 use Rattle.script_grammar.specs.Nesting.{closing_of}
 use Rattle.script_grammar.specs.Tags.{code_of, coroutine_count}
 use Rattle.script_meaning.specs.declared.stage.Stage.{Stage}
-use Rattle.script_meaning.specs.declared.stage.Stage.TheVariants.{Waiting, SeesJob, Unwinding, Leaving, SeesScope, Ended}
+use Rattle.script_meaning.specs.declared.stage.Stage.TheVariants.{SeesJob, Unwinding, Leaving, SeesScope, Ended}
 use Rattle.script_meaning.specs.declared.turn.Turn.{Turn}
 use Rattle.script_meaning.specs.declared.turn.Turn.TheVariants as turn
 use Rattle.script_meaning.specs.Configs.{Config, Entered, in_scope, InScope, scope_in, outside, at_stage, at_line, next, received, LineIs}
@@ -35,21 +35,7 @@ use Rattle.poll_states.specs.declared.frame.Frame.{Frame}
 use Rattle.poll_states.specs.Frames.{config_of, items_of, IsScopeOf, IsUnmoved}
 use Rattle.poll_states.specs.Steps.{Stepped, CutShort, AnsweredAfter}
 
--- ---- join and await
-
--- where a coroutine is whose join came to this
-abbrev pub after_join : ℕ → Joined → Config → Config
-after_join k (joined.Closed v) x = next x
-after_join k (joined.Waits w) x = at_stage (Waiting w) x
-after_join k joined.Cancelled x = at_stage (Unwinding None) x
-after_join k joined.Spent x = at_stage (Unwinding (Some k)) x
-
--- where a coroutine is whose await came to this
-abbrev pub after_await : ℕ → Joined → Config → Config
-after_await k (joined.Closed v) x = at_stage SeesJob x
-after_await k (joined.Waits w) x = at_stage (Waiting w) x
-after_await k joined.Cancelled x = at_stage (Unwinding None) x
-after_await k joined.Spent x = at_stage (Unwinding (Some k)) x
+-- ---- the end of a Job
 
 -- how a coroutine unwinds that saw a Job which was cancelled for this cause
 abbrev pub unwinds_for : Cause → Stage

@@ -20,14 +20,6 @@ use Rattle.call_meaning.specs.Facts.{IsRunning}
 use Rattle.call_meaning.specs.ChannelCalls.{GivesUp}
 use Rattle.call_meaning.specs.JobCalls.{child_kind, NotAttached}
 use Rattle.call_meaning.specs.Calls.{ToldOnChannels, ToldOnJobs, ToldOnBoth, rows_in}
-use Rattle.channel_calls.specs.declared.caller.SendAnswer.{SendAnswer}
-use Rattle.channel_calls.specs.declared.caller.SendAnswer.TheVariants as send
-use Rattle.channel_calls.specs.declared.caller.ReceiveAnswer.{ReceiveAnswer}
-use Rattle.channel_calls.specs.declared.caller.ReceiveAnswer.TheVariants as receive
-use Rattle.channel_calls.specs.declared.caller.TrySendAnswer.{TrySendAnswer}
-use Rattle.channel_calls.specs.declared.caller.TrySendAnswer.TheVariants as try_send
-use Rattle.channel_calls.specs.declared.caller.TryReceiveAnswer.{TryReceiveAnswer}
-use Rattle.channel_calls.specs.declared.caller.TryReceiveAnswer.TheVariants as try_receive
 use Rattle.channel_calls.specs.Calls.{IsUntouched, ToldSome, end_told}
 use Rattle.scope_builders.specs.Dones.{KeepsDones}
 use Rattle.script_grammar.specs.declared.instructions.Instruction.{Instruction}
@@ -40,8 +32,8 @@ use Rattle.script_meaning.specs.declared.stage.Stage.TheVariants.{Running, Waiti
 use Rattle.script_meaning.specs.declared.turn.Turn.{Turn}
 use Rattle.script_meaning.specs.declared.turn.Turn.TheVariants as turn
 use Rattle.script_meaning.specs.Shapes.{floor_shape, job_shape, base_of}
-use Rattle.script_meaning.specs.Configs.{Config, in_each, fresh, at_stage, at_line, next}
-use Rattle.script_meaning.specs.Configs.{into, received, past_launch, innermost, LineIs, IsAt}
+use Rattle.script_meaning.specs.Configs.{Config, fresh, at_stage, at_line}
+use Rattle.script_meaning.specs.Configs.{past_launch, innermost, LineIs, IsAt}
 use Rattle.script_meaning.specs.Bodies.{HasBodyAt}
 use Rattle.script_meaning.specs.WaitEnds.{after_wait}
 use Rattle.script_meaning.specs.Laws.{wait_of}
@@ -99,45 +91,11 @@ pub record OwnStateSeen (who row : ℕ) (old new : Floor) (state : OwnState) : T
   pub looked : Looked who [] old new
   pub was : AtStep old new (IsSeenAs state row)
 
--- ---- calls on channels
-
--- where a coroutine is whose send came to this
-abbrev pub after_send : ℕ → SendAnswer → Config → Config
-after_send k send.Sent x = next x
-after_send k (send.Waits w) x = at_stage (Waiting w) x
-after_send k (send.Closed v) x = next x
-after_send k send.Spent x = at_stage (Unwinding (Some k)) x
-
--- where a coroutine is whose send came to this, that does not wait
-abbrev pub after_try_send : ℕ → TrySendAnswer → Config → Config
-after_try_send k try_send.Sent x = next x
-after_try_send k try_send.Full x = next x
-after_try_send k (try_send.Closed v) x = next x
-after_try_send k try_send.Spent x = at_stage (Unwinding (Some k)) x
-
--- where a coroutine is whose receive came to this
-abbrev pub after_receive : ℕ → ReceiveAnswer → Config → Config
-after_receive k (receive.Value v) x = next (received v x)
-after_receive k (receive.Waits w) x = at_stage (Waiting w) x
-after_receive k (receive.Closed v) x = next x
-after_receive k receive.Spent x = at_stage (Unwinding (Some k)) x
-
--- where a coroutine is whose receive came to this, that does not wait
-abbrev pub after_try_receive : TryReceiveAnswer → Config → Config
-after_try_receive (try_receive.Value v) x = next (received v x)
-after_try_receive try_receive.Empty x = next x
-after_try_receive (try_receive.Closed v) x = next x
+-- ---- past what a line opens
 
 -- it is past the line that closes what its line opens
 abbrev pub GoesPast : Program → ℕ → Config → Config → Type 0
 GoesPast p k old new = (e : ℕ) × (closing_of (code_of p k) old.line ≡ Some e) × (new ≡ at_line (e + 1) old)
-
--- where a coroutine is, at an each, whose receive came to this
-abbrev pub AfterEach : Program → ℕ → ReceiveAnswer → Config → Config → Type 0
-AfterEach p k (receive.Value v) x y = y ≡ into (in_each x.line) (received v x)
-AfterEach p k (receive.Waits w) x y = y ≡ at_stage (Waiting w) x
-AfterEach p k (receive.Closed v) x y = GoesPast p k x y
-AfterEach p k receive.Spent x y = y ≡ at_stage (Unwinding (Some k)) x
 
 -- ---- one's own wait
 

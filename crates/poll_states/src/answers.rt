@@ -1,84 +1,131 @@
 //! Where a coroutine goes on by an answer.
 
-ghost use Rattle.std.specs.Prelude.{◌≡◌, ◌<◌, true, slice_get, vec_len, vec_capacity};
+ghost use Rattle.std.specs.Prelude.{◌≡◌, ◌<◌, true, false, slice_get, vec_len, vec_capacity};
 ghost use Rattle.script_reader.specs.Scripts.{program_of};
 ghost use Rattle.script_reader.specs.Lines.{does_open};
 ghost use Rattle.script_grammar.specs.Tags.{code_of, coroutine_count};
 ghost use Rattle.script_meaning.specs.Configs.{LineIs};
-ghost use Rattle.script_meaning.specs.WaitEnds.{after_wait, after_value, after_closed};
+ghost use Rattle.script_meaning.specs.WaitEnds.{after_wait, after_sent, after_value, after_closed};
 ghost use Rattle.poll_states.specs.Frames.{config_of, items_of};
-ghost use Rattle.poll_states.specs.Steps.{after_send, after_receive, after_try_send, after_try_receive, AfterEach, GoesPast};
+ghost use Rattle.poll_states.specs.Steps.{GoesPast};
+ghost use Rattle.poll_states.specs.Calls.{came_of_send, came_of_try_send, came_of_receive, came_of_try_receive, enters, after_call};
+ghost use Rattle.poll_states.specs.Named.{came_of_joined, after_named};
 
 use crate::entered::Entered;
 use crate::frame::Frame;
 use crate::lines::closing;
 use channel_calls::{ReceiveAnswer, SendAnswer, TryReceiveAnswer, TrySendAnswer};
 use channel_model::Settled;
-use co_base::Value;
+use co_base::{Value, WaitId};
+use scope_builders::Joined;
 use script_meaning::Stage;
 use script_reader::{Instruction, Script};
 
+/// What the call of a line came to.
+#[derive(Clone, Copy, Debug, PartialEq, Eq)]
+pub(crate) enum Came {
+    /// It is done, and brought no element.
+    Done,
+    /// The element that was received.
+    Got(Value),
+    /// The channel was closed with this value, and nothing is left to receive.
+    Closed(Value),
+    /// The coroutine waits.
+    Waits(WaitId),
+    /// The channel has no place left.
+    NoPlace,
+}
+
+impl Came {
+    /// What a send came to.
+    pub(crate) fn of_send(answer: SendAnswer) -> Came
+        ensures { result ≡ came_of_send answer }
+    {
+        match answer {
+            SendAnswer::Sent | SendAnswer::Closed(_) => Came::Done,
+            SendAnswer::Waits(w) => Came::Waits(w),
+            SendAnswer::Spent => Came::NoPlace,
+        }
+    }
+
+    /// What a send came to that does not wait.
+    pub(crate) fn of_try_send(answer: TrySendAnswer) -> Came
+        ensures { result ≡ came_of_try_send answer }
+    {
+        match answer {
+            TrySendAnswer::Sent | TrySendAnswer::Full | TrySendAnswer::Closed(_) => Came::Done,
+            TrySendAnswer::Spent => Came::NoPlace,
+        }
+    }
+
+    /// What a receive came to.
+    pub(crate) fn of_receive(answer: ReceiveAnswer) -> Came
+        ensures { result ≡ came_of_receive answer }
+    {
+        match answer {
+            ReceiveAnswer::Value(value) => Came::Got(value),
+            ReceiveAnswer::Closed(v) => Came::Closed(v),
+            ReceiveAnswer::Waits(w) => Came::Waits(w),
+            ReceiveAnswer::Spent => Came::NoPlace,
+        }
+    }
+
+    /// What a receive came to that does not wait.
+    pub(crate) fn of_try_receive(answer: TryReceiveAnswer) -> Came
+        ensures { result ≡ came_of_try_receive answer }
+    {
+        match answer {
+            TryReceiveAnswer::Value(value) => Came::Got(value),
+            TryReceiveAnswer::Empty | TryReceiveAnswer::Closed(_) => Came::Done,
+        }
+    }
+
+    /// What a join or an await came to, unless the innermost Job was seen Cancelling.
+    pub(crate) fn of_joined(answer: Joined) -> Option<Came>
+        ensures { result ≡ came_of_joined answer }
+    {
+        match answer {
+            Joined::Closed(v) => Some(Came::Closed(v)),
+            Joined::Waits(w) => Some(Came::Waits(w)),
+            Joined::Cancelled => None,
+            Joined::Spent => Some(Came::NoPlace),
+        }
+    }
+}
+
 impl Frame {
-    /// Goes on where its send came to this.
-    pub(crate) fn go_on_sent(&mut self, answer: SendAnswer)
-        requires { self.old.line < usize.MAX }
+    /// Goes on where the call of this line came to this. Takes no memory.
+    pub(crate) fn go_on(&mut self, script: &Script, line: Instruction, came: Came)
+        requires tag { self.old.tag < coroutine_count (program_of script.now) }
+        requires at { LineIs (program_of script.now) self.old.tag (config_of self.old) line }
+        requires line { self.old.line < usize.MAX }
+        requires room { enters line ≡ true → vec_len self.old.entered < vec_capacity self.old.entered }
         ensures tag { self.new.tag ≡ self.old.tag }
-        ensures config { config_of self.new ≡ after_send self.old.tag answer (config_of self.old) }
+        ensures config { config_of self.new ≡ after_call (program_of script.now) self.old.tag (config_of self.old) line came }
         ensures items { items_of self.new ≡ items_of self.old }
     {
-        match answer {
-            SendAnswer::Sent | SendAnswer::Closed(_) => self.next_line(),
-            SendAnswer::Waits(w) => self.wait_for(w),
-            SendAnswer::Spent => self.fail(),
+        match came {
+            Came::Done => self.go_on_done(script, line),
+            Came::Got(value) => self.go_on_with(script, line, value),
+            Came::Closed(_) => self.go_on_closed(script, line),
+            Came::Waits(w) => self.wait_for(w),
+            Came::NoPlace => self.fail(),
         }
     }
 
-    /// Goes on where its send came to this, which does not wait.
-    pub(crate) fn go_on_tried_to_send(&mut self, answer: TrySendAnswer)
-        requires { self.old.line < usize.MAX }
+    /// Goes on where the call of this line on a Job came to this, or, where it made none, unwinds. Takes no memory.
+    pub(crate) fn go_on_named(&mut self, script: &Script, line: Instruction, came: Option<Came>)
+        requires tag { self.old.tag < coroutine_count (program_of script.now) }
+        requires at { LineIs (program_of script.now) self.old.tag (config_of self.old) line }
+        requires line { self.old.line < usize.MAX }
+        requires inside { enters line ≡ false }
         ensures tag { self.new.tag ≡ self.old.tag }
-        ensures config { config_of self.new ≡ after_try_send self.old.tag answer (config_of self.old) }
+        ensures config { config_of self.new ≡ after_named (program_of script.now) self.old.tag (config_of self.old) line came }
         ensures items { items_of self.new ≡ items_of self.old }
     {
-        match answer {
-            TrySendAnswer::Sent | TrySendAnswer::Full | TrySendAnswer::Closed(_) => {
-                self.next_line()
-            }
-            TrySendAnswer::Spent => self.fail(),
-        }
-    }
-
-    /// Goes on where its receive came to this.
-    pub(crate) fn go_on_received(&mut self, answer: ReceiveAnswer)
-        requires { self.old.line < usize.MAX }
-        ensures tag { self.new.tag ≡ self.old.tag }
-        ensures config { config_of self.new ≡ after_receive self.old.tag answer (config_of self.old) }
-        ensures items { items_of self.new ≡ items_of self.old }
-    {
-        match answer {
-            ReceiveAnswer::Value(value) => {
-                self.take_in(value);
-                self.next_line();
-            }
-            ReceiveAnswer::Closed(_) => self.next_line(),
-            ReceiveAnswer::Waits(w) => self.wait_for(w),
-            ReceiveAnswer::Spent => self.fail(),
-        }
-    }
-
-    /// Goes on where its receive came to this, which does not wait.
-    pub(crate) fn go_on_tried_to_receive(&mut self, answer: TryReceiveAnswer)
-        requires { self.old.line < usize.MAX }
-        ensures tag { self.new.tag ≡ self.old.tag }
-        ensures config { config_of self.new ≡ after_try_receive answer (config_of self.old) }
-        ensures items { items_of self.new ≡ items_of self.old }
-    {
-        match answer {
-            TryReceiveAnswer::Value(value) => {
-                self.take_in(value);
-                self.next_line();
-            }
-            TryReceiveAnswer::Empty | TryReceiveAnswer::Closed(_) => self.next_line(),
+        match came {
+            Some(came) => self.go_on(script, line, came),
+            None => self.stage = Stage::Unwinding(None),
         }
     }
 
@@ -94,27 +141,6 @@ impl Frame {
         self.at_line(end + 1);
     }
 
-    /// Goes on, at an each, where its receive came to this. Takes no memory.
-    pub(crate) fn go_on_each(&mut self, script: &Script, answer: ReceiveAnswer)
-        requires tag { self.old.tag < coroutine_count (program_of script.now) }
-        requires opens { does_open (slice_get (code_of (program_of script.now) self.old.tag) self.old.line) ≡ true }
-        requires line { self.old.line < usize.MAX }
-        requires room { vec_len self.old.entered < vec_capacity self.old.entered }
-        ensures tag { self.new.tag ≡ self.old.tag }
-        ensures config { AfterEach (program_of script.now) self.old.tag answer (config_of self.old) (config_of self.new) }
-        ensures items { items_of self.new ≡ items_of self.old }
-    {
-        match answer {
-            ReceiveAnswer::Value(value) => {
-                self.take_in(value);
-                self.enter(Entered::InEach { head: self.line });
-            }
-            ReceiveAnswer::Closed(_) => self.go_past(script),
-            ReceiveAnswer::Waits(w) => self.wait_for(w),
-            ReceiveAnswer::Spent => self.fail(),
-        }
-    }
-
     /// Goes on where the wait of this line ended so. Takes no memory.
     pub(crate) fn go_on_after(&mut self, script: &Script, line: Instruction, outcome: Settled)
         requires tag { self.old.tag < coroutine_count (program_of script.now) }
@@ -127,21 +153,33 @@ impl Frame {
     {
         match outcome {
             Settled::Value(_, value) => self.go_on_with(script, line, value),
-            Settled::Sent(_) => match line {
-                Instruction::Select => self.go_past(script),
-                _ => self.next_line(),
-            },
+            Settled::Sent(_) => self.go_on_done(script, line),
             Settled::Closed(..) => self.go_on_closed(script, line),
             Settled::Cancelled | Settled::Undelivered(_) => self.stage = Stage::Unwinding(None),
         }
     }
 
-    /// Goes on where the wait of this line ended with an element. Takes no memory.
+    /// Goes on where this line is done, and brought no element.
+    fn go_on_done(&mut self, script: &Script, line: Instruction)
+        requires tag { self.old.tag < coroutine_count (program_of script.now) }
+        requires at { LineIs (program_of script.now) self.old.tag (config_of self.old) line }
+        requires line { self.old.line < usize.MAX }
+        ensures tag { self.new.tag ≡ self.old.tag }
+        ensures config { config_of self.new ≡ after_sent (program_of script.now) self.old.tag (config_of self.old) line }
+        ensures items { items_of self.new ≡ items_of self.old }
+    {
+        match line {
+            Instruction::Select => self.go_past(script),
+            _ => self.next_line(),
+        }
+    }
+
+    /// Goes on where this line brought an element. Takes no memory.
     fn go_on_with(&mut self, script: &Script, line: Instruction, value: Value)
         requires tag { self.old.tag < coroutine_count (program_of script.now) }
         requires at { LineIs (program_of script.now) self.old.tag (config_of self.old) line }
         requires line { self.old.line < usize.MAX }
-        requires room { vec_len self.old.entered < vec_capacity self.old.entered }
+        requires room { enters line ≡ true → vec_len self.old.entered < vec_capacity self.old.entered }
         ensures tag { self.new.tag ≡ self.old.tag }
         ensures config { config_of self.new ≡ after_value (program_of script.now) self.old.tag (config_of self.old) value line }
         ensures items { items_of self.new ≡ items_of self.old }
@@ -154,7 +192,7 @@ impl Frame {
         }
     }
 
-    /// Goes on where the wait of this line met a closed channel.
+    /// Goes on where this line met a closed channel.
     fn go_on_closed(&mut self, script: &Script, line: Instruction)
         requires tag { self.old.tag < coroutine_count (program_of script.now) }
         requires at { LineIs (program_of script.now) self.old.tag (config_of self.old) line }

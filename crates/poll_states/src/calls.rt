@@ -1,98 +1,123 @@
-//! The calls of a coroutine on its channels.
+//! The lines of a coroutine that call a channel.
 
-ghost use Rattle.script_grammar.specs.declared.instructions.Instruction.TheVariants.{Send, Receive, Each, TrySend};
-ghost use Rattle.script_grammar.specs.declared.instructions.Instruction.TheVariants.{TryReceive, Close, CancelChannel};
+ghost use Rattle.std.specs.Prelude.{◌≡◌, false};
+ghost use Rattle.channel_model.specs.Channels.{kind_at, is_signal};
+ghost use Rattle.channel_model.specs.Floors.{MayCall};
+ghost use Rattle.note_book.specs.Books.{notes_of};
+ghost use Rattle.channel_calls.specs.Calls.{SameCaller};
 ghost use Rattle.script_reader.specs.Scripts.{program_of};
 ghost use Rattle.script_meaning.specs.Configs.{IsAt};
 ghost use Rattle.poll_states.specs.Frames.{config_of, Stands, SameFloors};
 ghost use Rattle.poll_states.specs.Steps.{StepAnswer};
+ghost use Rattle.poll_states.specs.Calls.{line_of, element_of, channel_in, MadeAnswer};
 
+use crate::answers::Came;
 use crate::floors::Floors;
 use crate::frame::Frame;
 use channel_calls::Caller;
 use channel_model::ChannelFloor;
-use co_base::{ChannelId, Gate, Memory, Wakes};
+use co_base::{ChannelId, Gate, Memory, Value, Wakes};
 use job_model::JobFloor;
-use script_reader::{Operand, Script};
+use note_book::Notes;
+use script_reader::{Instruction, Operand, Script};
 
-/// Sends an element.
-pub(crate) fn send<C: ChannelFloor, J: JobFloor, W: Wakes, G: Gate>(
-    script: &Script,
-    frame: &mut Frame,
-    floors: &mut Floors<'_, '_, '_, C, J, W>,
-    gate: &G,
-    c: ChannelId,
-    value: Operand,
-) -> Result<(), Memory>
-    requires stands { Stands (program_of script.now) (C.view floors.old.channels.now) (J.view floors.old.jobs.now) frame.old }
-    requires at { IsAt (program_of script.now) frame.old.tag (config_of frame.old) (Send c value) }
-    ensures came { StepAnswer (program_of script.now) (C.view floors.old.channels.now) (C.view floors.new.channels.now)
-        (J.view floors.old.jobs.now) (J.view floors.new.jobs.now) frame.old frame.new result }
-    ensures same { SameFloors C.anchor J.anchor floors.old floors.new }
-{
-    let value = frame.value_of(value);
-    let who = frame.tag;
-    let mut caller = Caller {
-        floor: &mut *floors.channels,
-        book: &mut frame.book,
-        wakes: &mut *floors.wakes,
-        who,
-    };
-    gate.pass(who, 2);
-    let answer = caller.send(c, value);
-    gate.pass(who, 3);
-    match answer {
-        Ok(answer) => {
-            frame.go_on_sent(answer);
-            Ok(())
+/// The call of a line on a channel, with what it sends.
+#[derive(Clone, Copy, Debug, PartialEq, Eq)]
+pub(crate) enum ChannelCall {
+    Send(ChannelId, Operand),
+    TrySend(ChannelId, Operand),
+    Receive(ChannelId),
+    TryReceive(ChannelId),
+    /// A receive, for a turn of an each.
+    Each(ChannelId),
+    Close(ChannelId),
+    /// The channel is closed, and what it holds is removed.
+    Cancel(ChannelId),
+}
+
+impl ChannelCall {
+    /// The line that makes it.
+    fn line(self) -> Instruction
+        ensures { result ≡ line_of self }
+    {
+        match self {
+            ChannelCall::Send(c, value) => Instruction::Send { c, value },
+            ChannelCall::TrySend(c, value) => Instruction::TrySend { c, value },
+            ChannelCall::Receive(c) => Instruction::Receive { c },
+            ChannelCall::TryReceive(c) => Instruction::TryReceive { c },
+            ChannelCall::Each(c) => Instruction::Each { c },
+            ChannelCall::Close(c) => Instruction::Close { c },
+            ChannelCall::Cancel(c) => Instruction::CancelChannel { c },
         }
-        Err(memory) => Err(memory),
     }
 }
 
-/// Receives an element.
-pub(crate) fn receive<C: ChannelFloor, J: JobFloor, W: Wakes, G: Gate>(
-    script: &Script,
-    frame: &mut Frame,
-    floors: &mut Floors<'_, '_, '_, C, J, W>,
-    gate: &G,
-    c: ChannelId,
-) -> Result<(), Memory>
-    requires stands { Stands (program_of script.now) (C.view floors.old.channels.now) (J.view floors.old.jobs.now) frame.old }
-    requires at { IsAt (program_of script.now) frame.old.tag (config_of frame.old) (Receive c) }
-    ensures came { StepAnswer (program_of script.now) (C.view floors.old.channels.now) (C.view floors.new.channels.now)
-        (J.view floors.old.jobs.now) (J.view floors.new.jobs.now) frame.old frame.new result }
-    ensures same { SameFloors C.anchor J.anchor floors.old floors.new }
-{
-    let who = frame.tag;
-    let mut caller = Caller {
-        floor: &mut *floors.channels,
-        book: &mut frame.book,
-        wakes: &mut *floors.wakes,
-        who,
-    };
-    gate.pass(who, 2);
-    let answer = caller.receive(c);
-    gate.pass(who, 3);
-    match answer {
-        Ok(answer) => {
-            frame.go_on_received(answer);
-            Ok(())
+impl Frame {
+    /// The element that a call sends, or 0.
+    fn element_of(&self, call: ChannelCall) -> Value
+        ensures { result ≡ element_of (config_of self.now) call }
+    {
+        match call {
+            ChannelCall::Send(_, value) | ChannelCall::TrySend(_, value) => self.value_of(value),
+            _ => 0,
         }
-        Err(memory) => Err(memory),
     }
 }
 
-/// Receives an element, for a turn of an each.
-pub(crate) fn each<C: ChannelFloor, J: JobFloor, W: Wakes, G: Gate>(
+/// Makes a call, with the element that it sends.
+fn make<F: ChannelFloor, W: Wakes>(
+    caller: &mut Caller<'_, '_, '_, F, Notes, W>,
+    call: ChannelCall,
+    value: Value,
+) -> Result<Came, Memory>
+    requires can { MayCall caller.old.who (channel_in call) (F.view caller.old.floor.now) }
+    requires kind { is_signal (kind_at (F.view caller.old.floor.now).shape (channel_in call)) ≡ false }
+    ensures same { SameCaller F.anchor caller.old caller.new }
+    ensures answer { MadeAnswer value call caller.old.who (F.view caller.old.floor.now) (F.view caller.new.floor.now)
+        (notes_of caller.old.book.now) (notes_of caller.new.book.now) result }
+{
+    match call {
+        ChannelCall::Send(c, _) => match caller.send(c, value) {
+            Ok(answer) => Ok(Came::of_send(answer)),
+            Err(memory) => Err(memory),
+        },
+        ChannelCall::TrySend(c, _) => match caller.try_send(c, value) {
+            Ok(answer) => Ok(Came::of_try_send(answer)),
+            Err(memory) => Err(memory),
+        },
+        ChannelCall::Receive(c) => match caller.receive(c) {
+            Ok(answer) => Ok(Came::of_receive(answer)),
+            Err(memory) => Err(memory),
+        },
+        ChannelCall::Each(c) => match caller.receive(c) {
+            Ok(answer) => Ok(Came::of_receive(answer)),
+            Err(memory) => Err(memory),
+        },
+        ChannelCall::TryReceive(c) => match caller.try_receive(c) {
+            Ok(answer) => Ok(Came::of_try_receive(answer)),
+            Err(memory) => Err(memory),
+        },
+        ChannelCall::Close(c) => match caller.close(c, 0) {
+            Ok(_) => Ok(Came::Done),
+            Err(memory) => Err(memory),
+        },
+        ChannelCall::Cancel(c) => match caller.cancel_channel(c) {
+            Ok(_) => Ok(Came::Done),
+            Err(memory) => Err(memory),
+        },
+    }
+}
+
+/// Makes the call of a line, and goes on by what it came to.
+pub(crate) fn call<C: ChannelFloor, J: JobFloor, W: Wakes, G: Gate>(
     script: &Script,
     frame: &mut Frame,
     floors: &mut Floors<'_, '_, '_, C, J, W>,
     gate: &G,
-    c: ChannelId,
+    call: ChannelCall,
 ) -> Result<(), Memory>
     requires stands { Stands (program_of script.now) (C.view floors.old.channels.now) (J.view floors.old.jobs.now) frame.old }
-    requires at { IsAt (program_of script.now) frame.old.tag (config_of frame.old) (Each c) }
+    requires at { IsAt (program_of script.now) frame.old.tag (config_of frame.old) (line_of call) }
     ensures came { StepAnswer (program_of script.now) (C.view floors.old.channels.now) (C.view floors.new.channels.now)
         (J.view floors.old.jobs.now) (J.view floors.new.jobs.now) frame.old frame.new result }
     ensures same { SameFloors C.anchor J.anchor floors.old floors.new }
@@ -100,6 +125,7 @@ pub(crate) fn each<C: ChannelFloor, J: JobFloor, W: Wakes, G: Gate>(
     if let Err(memory) = frame.room_to_enter() {
         return Err(memory);
     }
+    let value = frame.element_of(call);
     let who = frame.tag;
     let mut caller = Caller {
         floor: &mut *floors.channels,
@@ -108,145 +134,11 @@ pub(crate) fn each<C: ChannelFloor, J: JobFloor, W: Wakes, G: Gate>(
         who,
     };
     gate.pass(who, 2);
-    let answer = caller.receive(c);
+    let answer = make(&mut caller, call, value);
     gate.pass(who, 3);
     match answer {
-        Ok(answer) => {
-            frame.go_on_each(script, answer);
-            Ok(())
-        }
-        Err(memory) => Err(memory),
-    }
-}
-
-/// Sends an element, where it need not wait.
-pub(crate) fn try_send<C: ChannelFloor, J: JobFloor, W: Wakes, G: Gate>(
-    script: &Script,
-    frame: &mut Frame,
-    floors: &mut Floors<'_, '_, '_, C, J, W>,
-    gate: &G,
-    c: ChannelId,
-    value: Operand,
-) -> Result<(), Memory>
-    requires stands { Stands (program_of script.now) (C.view floors.old.channels.now) (J.view floors.old.jobs.now) frame.old }
-    requires at { IsAt (program_of script.now) frame.old.tag (config_of frame.old) (TrySend c value) }
-    ensures came { StepAnswer (program_of script.now) (C.view floors.old.channels.now) (C.view floors.new.channels.now)
-        (J.view floors.old.jobs.now) (J.view floors.new.jobs.now) frame.old frame.new result }
-    ensures same { SameFloors C.anchor J.anchor floors.old floors.new }
-{
-    let value = frame.value_of(value);
-    let who = frame.tag;
-    let mut caller = Caller {
-        floor: &mut *floors.channels,
-        book: &mut frame.book,
-        wakes: &mut *floors.wakes,
-        who,
-    };
-    gate.pass(who, 2);
-    let answer = caller.try_send(c, value);
-    gate.pass(who, 3);
-    match answer {
-        Ok(answer) => {
-            frame.go_on_tried_to_send(answer);
-            Ok(())
-        }
-        Err(memory) => Err(memory),
-    }
-}
-
-/// Receives an element, where one is there.
-pub(crate) fn try_receive<C: ChannelFloor, J: JobFloor, W: Wakes, G: Gate>(
-    script: &Script,
-    frame: &mut Frame,
-    floors: &mut Floors<'_, '_, '_, C, J, W>,
-    gate: &G,
-    c: ChannelId,
-) -> Result<(), Memory>
-    requires stands { Stands (program_of script.now) (C.view floors.old.channels.now) (J.view floors.old.jobs.now) frame.old }
-    requires at { IsAt (program_of script.now) frame.old.tag (config_of frame.old) (TryReceive c) }
-    ensures came { StepAnswer (program_of script.now) (C.view floors.old.channels.now) (C.view floors.new.channels.now)
-        (J.view floors.old.jobs.now) (J.view floors.new.jobs.now) frame.old frame.new result }
-    ensures same { SameFloors C.anchor J.anchor floors.old floors.new }
-{
-    let who = frame.tag;
-    let mut caller = Caller {
-        floor: &mut *floors.channels,
-        book: &mut frame.book,
-        wakes: &mut *floors.wakes,
-        who,
-    };
-    gate.pass(who, 2);
-    let answer = caller.try_receive(c);
-    gate.pass(who, 3);
-    match answer {
-        Ok(answer) => {
-            frame.go_on_tried_to_receive(answer);
-            Ok(())
-        }
-        Err(memory) => Err(memory),
-    }
-}
-
-/// Closes a channel.
-pub(crate) fn close<C: ChannelFloor, J: JobFloor, W: Wakes, G: Gate>(
-    script: &Script,
-    frame: &mut Frame,
-    floors: &mut Floors<'_, '_, '_, C, J, W>,
-    gate: &G,
-    c: ChannelId,
-) -> Result<(), Memory>
-    requires stands { Stands (program_of script.now) (C.view floors.old.channels.now) (J.view floors.old.jobs.now) frame.old }
-    requires at { IsAt (program_of script.now) frame.old.tag (config_of frame.old) (Close c) }
-    ensures came { StepAnswer (program_of script.now) (C.view floors.old.channels.now) (C.view floors.new.channels.now)
-        (J.view floors.old.jobs.now) (J.view floors.new.jobs.now) frame.old frame.new result }
-    ensures same { SameFloors C.anchor J.anchor floors.old floors.new }
-{
-    let who = frame.tag;
-    let mut caller = Caller {
-        floor: &mut *floors.channels,
-        book: &mut frame.book,
-        wakes: &mut *floors.wakes,
-        who,
-    };
-    gate.pass(who, 2);
-    let answer = caller.close(c, 0);
-    gate.pass(who, 3);
-    match answer {
-        Ok(_) => {
-            frame.next_line();
-            Ok(())
-        }
-        Err(memory) => Err(memory),
-    }
-}
-
-/// Closes a channel, and removes what it holds.
-pub(crate) fn cancel_channel<C: ChannelFloor, J: JobFloor, W: Wakes, G: Gate>(
-    script: &Script,
-    frame: &mut Frame,
-    floors: &mut Floors<'_, '_, '_, C, J, W>,
-    gate: &G,
-    c: ChannelId,
-) -> Result<(), Memory>
-    requires stands { Stands (program_of script.now) (C.view floors.old.channels.now) (J.view floors.old.jobs.now) frame.old }
-    requires at { IsAt (program_of script.now) frame.old.tag (config_of frame.old) (CancelChannel c) }
-    ensures came { StepAnswer (program_of script.now) (C.view floors.old.channels.now) (C.view floors.new.channels.now)
-        (J.view floors.old.jobs.now) (J.view floors.new.jobs.now) frame.old frame.new result }
-    ensures same { SameFloors C.anchor J.anchor floors.old floors.new }
-{
-    let who = frame.tag;
-    let mut caller = Caller {
-        floor: &mut *floors.channels,
-        book: &mut frame.book,
-        wakes: &mut *floors.wakes,
-        who,
-    };
-    gate.pass(who, 2);
-    let answer = caller.cancel_channel(c);
-    gate.pass(who, 3);
-    match answer {
-        Ok(_) => {
-            frame.next_line();
+        Ok(came) => {
+            frame.go_on(script, call.line(), came);
             Ok(())
         }
         Err(memory) => Err(memory),

@@ -1,7 +1,7 @@
 //! The lines of a coroutine on Jobs, and the end of its body.
 
 ghost use Rattle.std.specs.Prelude.{◌≡◌, None, OnOk};
-ghost use Rattle.script_grammar.specs.declared.instructions.Instruction.TheVariants.{Yield, Launch, Start, Cancel};
+ghost use Rattle.script_grammar.specs.declared.instructions.Instruction.TheVariants.{Yield, Launch};
 ghost use Rattle.script_reader.specs.Scripts.{program_of};
 ghost use Rattle.script_meaning.specs.declared.stage.Stage.TheVariants.{Unwinding, Ended};
 ghost use Rattle.script_meaning.specs.Configs.{IsAt, scope_in};
@@ -136,78 +136,6 @@ pub(crate) fn launch<C: ChannelFloor, J: JobFloor, W: Wakes, G: Gate>(
             }
             LaunchError::Memory => Err(Memory),
         },
-    }
-}
-
-/// Starts the Job that has this name.
-pub(crate) fn start<C: ChannelFloor, J: JobFloor, W: Wakes, G: Gate>(
-    script: &Script,
-    frame: &mut Frame,
-    floors: &mut Floors<'_, '_, '_, C, J, W>,
-    gate: &G,
-    job: u16,
-) -> Result<(), Memory>
-    requires stands { Stands (program_of script.now) (C.view floors.old.channels.now) (J.view floors.old.jobs.now) frame.old }
-    requires at { IsAt (program_of script.now) frame.old.tag (config_of frame.old) (Start job) }
-    ensures came { StepAnswer (program_of script.now) (C.view floors.old.channels.now) (C.view floors.new.channels.now)
-        (J.view floors.old.jobs.now) (J.view floors.new.jobs.now) frame.old frame.new result }
-    ensures same { SameFloors C.anchor J.anchor floors.old floors.new }
-{
-    let row = frame.rows[job as usize];
-    let mut builder = Builder {
-        channels: &mut *floors.channels,
-        jobs: &mut *floors.jobs,
-        book: &mut frame.book,
-        wakes: &mut *floors.wakes,
-        who: frame.tag,
-        base: first_done(script),
-    };
-    gate.pass(frame.tag, 2);
-    let answer = builder.start(row);
-    gate.pass(frame.tag, 3);
-    match answer {
-        Ok(_) => {
-            frame.next_line();
-            Ok(())
-        }
-        Err(memory) => Err(memory),
-    }
-}
-
-/// Cancels the Job that has this name, with all below it.
-pub(crate) fn cancel<C: ChannelFloor, J: JobFloor, W: Wakes, G: Gate>(
-    script: &Script,
-    frame: &mut Frame,
-    floors: &mut Floors<'_, '_, '_, C, J, W>,
-    gate: &G,
-    job: u16,
-) -> Result<(), Memory>
-    requires stands { Stands (program_of script.now) (C.view floors.old.channels.now) (J.view floors.old.jobs.now) frame.old }
-    requires at { IsAt (program_of script.now) frame.old.tag (config_of frame.old) (Cancel job) }
-    ensures came { StepAnswer (program_of script.now) (C.view floors.old.channels.now) (C.view floors.new.channels.now)
-        (J.view floors.old.jobs.now) (J.view floors.new.jobs.now) frame.old frame.new result }
-    ensures same { SameFloors C.anchor J.anchor floors.old floors.new }
-{
-    let row = frame.rows[job as usize];
-    let mut builder = Builder {
-        channels: &mut *floors.channels,
-        jobs: &mut *floors.jobs,
-        book: &mut frame.book,
-        wakes: &mut *floors.wakes,
-        who: frame.tag,
-        base: first_done(script),
-    };
-    gate.pass(frame.tag, 2);
-    gate.pass(frame.tag, 6);
-    let answer = builder.cancel(row);
-    gate.pass(frame.tag, 7);
-    gate.pass(frame.tag, 3);
-    match answer {
-        Ok(_) => {
-            frame.next_line();
-            Ok(())
-        }
-        Err(memory) => Err(memory),
     }
 }
 

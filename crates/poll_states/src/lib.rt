@@ -4,14 +4,33 @@
 //! move, stands in `script_meaning` (`specs/Moves.antt`, and that it was so in `specs/Books.antt`); a poll keeps to it whatever other
 //! coroutines do in between.
 //!
+//! A frame is always in one of these stages. A poll does what stands there, once:
+//!
+//! | stage | what a poll does | next stage | function |
+//! |---|---|---|---|
+//! | `Fresh` | looks at the coroutine's own Job | may run: as `Running`, in this poll; Cancelling: `Unwinding` | `first_turn` |
+//! | `Running` | runs the line | `Running`, `Waiting`, `SeesJob`, `Leaving`, `SeesScope`, `Unwinding` | `line_turn`, `run_line` |
+//! | `Running`, no line left | ends the body | `Ended` | `line_turn`, `end_body` |
+//! | `Waiting`, resolved | settles the wait, where the innermost Job may run | as its line says | `wait_turn`, `end_wait` |
+//! | `Waiting` | gives the wait up, where the innermost Job is Cancelling | `Unwinding` | `wait_turn`, `give_up` |
+//! | `SeesJob` | looks whether the awaited Job has ended | `Running`, `Unwinding` | `see_turn`, `see_job` |
+//! | `Unwinding`, in a scope | breaks the innermost scope off | `Leaving`, `SeesScope`, `Unwinding` | `unwind`, `break_scope` |
+//! | `Unwinding`, in none | breaks the body off | `Ended` | `unwind`, `break_off` |
+//! | `Leaving`, resolved | settles the wait | `SeesScope` | `leave_turn`, `end_scope_wait` |
+//! | `SeesScope` | looks whether the innermost scope has ended | `Running`, `Unwinding` | `see_turn`, `see_scope` |
+//! | `Ended` | nothing | `Ended` | `turn_of` |
+//!
+//! A stage whose condition does not hold stays. What has to see an end is made to look for it in the poll that comes there (`go_on`).
+//!
 //! - `entered`: what a coroutine has entered and not left.
 //! - `frame`: a coroutine between two moves, and what is left of a run.
 //! - `floors`: what polls work on.
 //! - `answers`: where a coroutine goes on by an answer.
-//! - `calls`: the calls of a coroutine on its channels.
-//! - `jobs`: the lines of a coroutine on Jobs, and the end of its body.
+//! - `calls`: the lines that call a channel.
+//! - `named`: the lines that name a Job.
+//! - `jobs`: `yield` and the launch of a Job, and the end of the body.
 //! - `scopes`: the lines of scopes, and how the end of one is waited for and seen.
-//! - `joins`: the lines that wait for the end of a Job, and how a coroutine sees an end.
+//! - `ends`: how a coroutine sees an end.
 //! - `loops`: the lines of repeats, and the ends of what a coroutine entered.
 //! - `selects`: a select.
 //! - `waits`: the end of a wait.
@@ -23,13 +42,14 @@
 mod answers;
 mod beginning;
 mod calls;
+mod ends;
 mod entered;
 mod floors;
 mod frame;
 mod jobs;
-mod joins;
 mod lines;
 mod loops;
+mod named;
 mod polls;
 mod scopes;
 mod selects;

@@ -12,12 +12,12 @@ ghost use Rattle.script_meaning.specs.Configs.{IsAt};
 ghost use Rattle.poll_states.specs.Frames.{config_of, Stands, SameFloors};
 ghost use Rattle.poll_states.specs.Steps.{MovesOn, StepAnswer};
 
-use crate::calls::{cancel_channel, close, each, receive, send, try_receive, try_send};
+use crate::calls::{ChannelCall, call};
 use crate::floors::Floors;
 use crate::frame::Frame;
-use crate::jobs::{cancel, end_body, launch, look_up, start};
-use crate::joins::{await_job, join};
+use crate::jobs::{end_body, launch, look_up};
 use crate::loops::repeat;
+use crate::named::{NamedCall, call_named};
 use crate::scopes::{end_line, enter_scope};
 use crate::selects::select;
 use channel_model::ChannelFloor;
@@ -89,26 +89,55 @@ fn run_line<C: ChannelFloor, J: JobFloor, W: Wakes, G: Gate>(
     ensures same { SameFloors C.anchor J.anchor floors.old floors.new }
 {
     match line {
-        Instruction::Send { c, value } => send(script, frame, floors, gate, c, value),
-        Instruction::TrySend { c, value } => try_send(script, frame, floors, gate, c, value),
-        Instruction::Receive { c } => receive(script, frame, floors, gate, c),
-        Instruction::TryReceive { c } => try_receive(script, frame, floors, gate, c),
-        Instruction::Close { c } => close(script, frame, floors, gate, c),
-        Instruction::CancelChannel { c } => cancel_channel(script, frame, floors, gate, c),
+        Instruction::Send { c, value } => {
+            call(script, frame, floors, gate, ChannelCall::Send(c, value))
+        }
+        Instruction::TrySend { c, value } => {
+            call(script, frame, floors, gate, ChannelCall::TrySend(c, value))
+        }
+        Instruction::Receive { c } => call(script, frame, floors, gate, ChannelCall::Receive(c)),
+        Instruction::TryReceive { c } => {
+            call(script, frame, floors, gate, ChannelCall::TryReceive(c))
+        }
+        Instruction::Each { c } => call(script, frame, floors, gate, ChannelCall::Each(c)),
+        Instruction::Close { c } => call(script, frame, floors, gate, ChannelCall::Close(c)),
+        Instruction::CancelChannel { c } => {
+            call(script, frame, floors, gate, ChannelCall::Cancel(c))
+        }
         Instruction::Yield => look_up(script, frame, floors, gate),
         Instruction::Launch { block, how, job } => {
             launch(script, frame, floors, gate, block, how, job)
         }
-        Instruction::Start { job } => start(script, frame, floors, gate, job),
-        Instruction::Cancel { job } => cancel(script, frame, floors, gate, job),
+        Instruction::Start { job } => call_named(
+            script,
+            frame,
+            floors,
+            gate,
+            NamedCall::Start,
+            job,
+        ),
+        Instruction::Cancel { job } => call_named(
+            script,
+            frame,
+            floors,
+            gate,
+            NamedCall::Cancel,
+            job,
+        ),
         Instruction::Fail { code } => fail(script, frame, floors, code),
         Instruction::SetResult { value } => set_result(script, frame, floors, value),
         Instruction::Repeat { turns } => repeat(script, frame, floors, turns),
-        Instruction::Each { c } => each(script, frame, floors, gate, c),
         Instruction::Select => select(script, frame, floors, gate),
         Instruction::Scope { supervisor } => enter_scope(script, frame, floors, gate, supervisor),
-        Instruction::Join { job } => join(script, frame, floors, gate, job),
-        Instruction::Await { job } => await_job(script, frame, floors, gate, job),
+        Instruction::Join { job } => call_named(script, frame, floors, gate, NamedCall::Join, job),
+        Instruction::Await { job } => call_named(
+            script,
+            frame,
+            floors,
+            gate,
+            NamedCall::Await,
+            job,
+        ),
         Instruction::End => end_line(script, frame, floors, gate),
         // the coroutine runs past the clauses of a select
         Instruction::OnSend { .. } => unreachable!(),

@@ -8,10 +8,10 @@ ghost use Rattle.poll_states.specs.Frames.{Stands, SameFloors, IsUnmoved};
 ghost use Rattle.poll_states.specs.Steps.{AnsweredAfter, MovesOn, PollAnswer, StepAnswer};
 ghost use Rattle.poll_states.specs.Ends.{WentOnAnswer};
 
+use crate::ends::see_end;
 use crate::floors::Floors;
 use crate::frame::Frame;
 use crate::jobs::{OwnState, break_off, own_state};
-use crate::joins::see_end;
 use crate::lines::run;
 use crate::scopes::{break_scope, end_scope_wait};
 use crate::waits::{end_wait, give_up, was_resolved};

@@ -27,10 +27,10 @@ ghost use Rattle.poll_states.specs.Ends.{
   SeenAnswer,
 };
 
+use crate::ends::unwinds_for;
 use crate::entered::{Entered, OpenScope};
 use crate::floors::Floors;
 use crate::frame::Frame;
-use crate::joins::unwinds_for;
 use crate::lines::{closing, first_done};
 use crate::loops::end_turn;
 use channel_calls::Caller;

@@ -1,4 +1,4 @@
-use Rattle.std.proofs.Common.{refl, ap, ◌∙◌, arith}
+use Rattle.std.proofs.Common.{refl, ◌∙◌, arith}
 use Rattle.script_reader.specs.Scripts.{program_of}
 use Rattle.poll_states.proofs.Spawning.{spawning_first, spawning_next, spawning_at, next_spawn, next_instance, no_instance, spawn_block, spawn_count, none_left, for_spawn, begun_all, begun_refused, begun_cut}
 use Rattle.poll_states.proofs.beginning.begin.Goals as goal

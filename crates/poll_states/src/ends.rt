@@ -1,0 +1,110 @@
+//! How a coroutine sees the end that is still to be seen, and goes on.
+
+ghost use Rattle.std.specs.Prelude.{◌≡◌, ◌<◌, true};
+ghost use Rattle.script_reader.specs.Scripts.{program_of};
+ghost use Rattle.script_meaning.specs.declared.stage.Stage.TheVariants.{SeesJob};
+ghost use Rattle.script_meaning.specs.Polls.{HasToSee, is_seeing};
+ghost use Rattle.poll_states.specs.Frames.{config_of, items_of, Stands, SameFloors};
+ghost use Rattle.poll_states.specs.Ends.{after_job, unwinds_for, AwaitsNamed, SeenAnswer};
+
+use crate::floors::Floors;
+use crate::frame::Frame;
+use crate::lines::{code_of, first_done};
+use crate::scopes::see_scope;
+use channel_model::ChannelFloor;
+use co_base::{Memory, Row, Wakes};
+use job_model::{Cause, End, JobFloor};
+use scope_builders::Builder;
+use script_meaning::Stage;
+use script_reader::{Instruction, Script};
+
+/// How a coroutine unwinds that saw a Job which was cancelled for this cause.
+pub(crate) fn unwinds_for(cause: Cause) -> Stage
+    ensures { result ≡ unwinds_for cause }
+{
+    match cause {
+        Cause::None | Cause::Request => Stage::Unwinding(None),
+        Cause::Failure(row) => Stage::Unwinding(Some(row)),
+    }
+}
+
+impl Frame {
+    /// Goes on where the Job that it awaited ended so.
+    pub(crate) fn go_on_job_ended(&mut self, end: End)
+        requires { self.old.line < usize.MAX }
+        ensures tag { self.new.tag ≡ self.old.tag }
+        ensures config { config_of self.new ≡ after_job end (config_of self.old) }
+        ensures items { items_of self.new ≡ items_of self.old }
+    {
+        match end {
+            End::Completed(value) => {
+                self.take_in(value);
+                self.next_line();
+            }
+            End::Cancelled(cause) => self.stage = unwinds_for(cause),
+        }
+    }
+}
+
+/// The row of the Job for which its line waits.
+fn awaited(script: &Script, frame: &Frame) -> Row
+    requires { AwaitsNamed (program_of script.now) frame.now }
+    ensures { HasToSee (program_of script.now) frame.now.tag (config_of frame.now) result }
+{
+    match code_of(script, frame.tag)[frame.line] {
+        Instruction::Await { job } => frame.rows[job as usize],
+        _ => unreachable!(),
+    }
+}
+
+/// Sees how the Job ended that it awaited, if that has ended.
+fn see_job<C: ChannelFloor, J: JobFloor, W: Wakes>(
+    script: &Script,
+    frame: &mut Frame,
+    floors: &mut Floors<'_, '_, '_, C, J, W>,
+) -> Result<(), Memory>
+    requires stands { Stands (program_of script.now) (C.view floors.old.channels.now) (J.view floors.old.jobs.now) frame.old }
+    requires sees { frame.old.stage ≡ SeesJob }
+    ensures came { SeenAnswer (program_of script.now) (C.view floors.old.channels.now) (C.view floors.new.channels.now)
+        (J.view floors.old.jobs.now) (J.view floors.new.jobs.now) frame.old frame.new result }
+    ensures wakes { floors.new.wakes.now ≡ floors.old.wakes.now }
+    ensures same { SameFloors C.anchor J.anchor floors.old floors.new }
+{
+    let row = awaited(script, frame);
+    let mut builder = Builder {
+        channels: &mut *floors.channels,
+        jobs: &mut *floors.jobs,
+        book: &mut frame.book,
+        wakes: &mut *floors.wakes,
+        who: frame.tag,
+        base: first_done(script),
+    };
+    match builder.seen_end(row) {
+        Ok(Some(end)) => {
+            frame.go_on_job_ended(end);
+            Ok(())
+        }
+        Ok(None) => Ok(()),
+        Err(memory) => Err(memory),
+    }
+}
+
+/// Sees the end that is still to be seen, if that Job has ended, and goes on as it says.
+pub(crate) fn see_end<C: ChannelFloor, J: JobFloor, W: Wakes>(
+    script: &Script,
+    frame: &mut Frame,
+    floors: &mut Floors<'_, '_, '_, C, J, W>,
+) -> Result<(), Memory>
+    requires stands { Stands (program_of script.now) (C.view floors.old.channels.now) (J.view floors.old.jobs.now) frame.old }
+    requires seeing { is_seeing frame.old.stage ≡ true }
+    ensures came { SeenAnswer (program_of script.now) (C.view floors.old.channels.now) (C.view floors.new.channels.now)
+        (J.view floors.old.jobs.now) (J.view floors.new.jobs.now) frame.old frame.new result }
+    ensures wakes { floors.new.wakes.now ≡ floors.old.wakes.now }
+    ensures same { SameFloors C.anchor J.anchor floors.old floors.new }
+{
+    match frame.stage {
+        Stage::SeesJob => see_job(script, frame, floors),
+        Stage::SeesScope => see_scope(script, frame, floors),
+        _ => unreachable!(),
+    }
+}
