@@ -12,7 +12,7 @@ use Rattle.channel_model.specs.Histories.{replay, acts_in, Legal}
 use Rattle.channel_model.specs.Fates.{is_at, brings, places_wait, offers_at, hands, takes, admits, drops_at, drains, withdraws, settles_value, settles_undelivered, or_else, first_some, element_at, wait_at, is_wait, resolves_at, resolves_elsewhere, is_chosen_elsewhere, of_wait, of_offer, is_received, is_taken_back, is_undelivered_at, is_dropped, is_withdrawn, fate_at}
 use Rattle.channel_model.specs.Laws.{how_many}
 use Rattle.channel_fates.proofs.Appended.{any_count}
-use Rattle.channel_fates.proofs.Places.{enters, answers, awaits, Counted}
+use Rattle.channel_fates.proofs.OncePlaced.{enters, answers, awaits, Counted}
 use Rattle.channel_fates.proofs.Traced.{replay_traced}
 
 -- ---- lists of the same acts

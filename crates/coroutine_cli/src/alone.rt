@@ -12,9 +12,9 @@ ghost use Rattle.coroutine_cli.specs.declared.status.Status.TheVariants as statu
 
 use crate::answer::{Answer, answer_of};
 use crate::prepare::{Prepared, prepare};
-use crate::status::{NoAnswer, Status};
+use crate::status::{NoAnswer, Status, unless_memory};
 use crate::words::{Command, alone_of};
-use crate::writing::{unless_memory, written};
+use crate::writing::written;
 use co_base::{Gate, Memory, Sink, Source};
 use engine_one::run_one;
 use script_reader::Script;

@@ -1,6 +1,6 @@
 //! What the source gives: a script, or the line of its fault.
 
-ghost use Rattle.std.specs.Prelude.{◌≡◌, ℕ, List, length, Err, IfOk, MatchResult, Ok};
+ghost use Rattle.std.specs.Prelude.{◌≡◌, ℕ, List, length, Err, IfOk};
 ghost use Rattle.co_base.specs.Streams.{Rose};
 ghost use Rattle.script_grammar.specs.declared.fault.FaultKind.TheVariants.{Memory as NoMemory};
 ghost use Rattle.script_grammar.specs.Programs.{Program};
@@ -11,7 +11,7 @@ ghost use Rattle.coroutine_cli.specs.Statuses.{Refuses, stream};
 ghost use Rattle.coroutine_cli.specs.Preparing.{Gives, Says};
 ghost use Rattle.coroutine_cli.specs.declared.status.NoAnswer.TheVariants as reasons;
 
-use crate::status::NoAnswer;
+use crate::status::{NoAnswer, unless_memory};
 use co_base::{Memory, ReadError, Source, read_script};
 use run_report::fault_line;
 use script_grammar::{FaultKind, ScriptFault};
@@ -37,12 +37,6 @@ pub fn read_input<S: Source>(alloc: Global, source: &mut S) -> Result<Input, NoA
         Err(ReadError::ReadFault) => Err(NoAnswer::ReadFault),
         Err(ReadError::Memory) => Err(NoAnswer::Memory),
     }
-}
-
-fn unless_memory(input: Result<Input, Memory>) -> Result<Input, NoAnswer>
-    ensures { MatchResult result (λ x. input ≡ Ok x) (λ why. why ≡ reasons.Memory) }
-{
-    input.map_err(|_| NoAnswer::Memory)
 }
 
 /// The script that the bytes are.

@@ -9,13 +9,31 @@
 //! - `top`: the whole call over any source and sink.
 //! - `alone`: the same for one worker, without threads.
 //! - `ends`: the code with which the process ends, and what standard error says.
+//! - `tests`: the tests; the worked scripts stand in `channel_rows`, `buffer_rows`, `job_rows`, `cancel_rows`, `select_rows`,
+//!   `scope_rows`, `await_rows` and `fault_rows`.
 #![tactic(auto)]
 
 mod alone;
 mod answer;
+#[cfg(test)]
+mod await_rows;
+#[cfg(test)]
+mod buffer_rows;
+#[cfg(test)]
+mod cancel_rows;
+#[cfg(test)]
+mod channel_rows;
 mod ends;
+#[cfg(test)]
+mod fault_rows;
 mod input;
+#[cfg(test)]
+mod job_rows;
 mod prepare;
+#[cfg(test)]
+mod scope_rows;
+#[cfg(test)]
+mod select_rows;
 mod status;
 #[cfg(test)]
 mod tests;

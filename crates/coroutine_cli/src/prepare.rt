@@ -1,6 +1,6 @@
 //! What a command does before a script is run.
 
-ghost use Rattle.std.specs.Prelude.{◌≡◌, false, ℕ, Err, IfOk, MatchResult, Ok, true};
+ghost use Rattle.std.specs.Prelude.{◌≡◌, false, ℕ, Err, IfOk, true};
 ghost use Rattle.co_base.specs.Streams.{Rose};
 ghost use Rattle.coroutine_cli.specs.declared.words.Command.TheVariants.{Check, Run};
 ghost use Rattle.coroutine_cli.specs.declared.status.NoAnswer.TheVariants as reasons;
@@ -11,7 +11,7 @@ ghost use Rattle.script_reader.specs.Scripts.{program_of};
 
 use crate::answer::Answer;
 use crate::input::{Input, read_input};
-use crate::status::{Ending, NoAnswer};
+use crate::status::{Ending, NoAnswer, unless_memory};
 use crate::words::Command;
 use co_base::{Memory, Source};
 use script_reader::{Script, generate, print};
@@ -50,12 +50,6 @@ pub fn prepare<S: Source>(
             Err(_) => Err(NoAnswer::Memory),
         },
     }
-}
-
-fn unless_memory(prepared: Result<Prepared, Memory>) -> Result<Prepared, NoAnswer>
-    ensures { MatchResult result (λ x. prepared ≡ Ok x) (λ why. why ≡ reasons.Memory) }
-{
-    prepared.map_err(|_| NoAnswer::Memory)
 }
 
 /// What is run of what was read.

@@ -1,7 +1,10 @@
 //! How a call of the program ends.
 
-ghost use Rattle.std.specs.Prelude.{◌≡◌};
+ghost use Rattle.std.specs.Prelude.{◌≡◌, MatchResult, Ok};
 ghost use Rattle.coroutine_cli.specs.Statuses.{number_of, status_of};
+ghost use Rattle.coroutine_cli.specs.declared.status.NoAnswer.TheVariants as reasons;
+
+use co_base::Memory;
 
 /// How a call ends that has a text to write.
 #[derive(Clone, Copy, Debug, PartialEq, Eq)]
@@ -21,6 +24,16 @@ pub enum Ending {
 pub enum NoAnswer {
     ReadFault,
     Memory,
+}
+
+/// Where something was not made, that is for want of memory.
+pub fn unless_memory<T: Drop>(made: Result<T, Memory>) -> Result<T, NoAnswer>
+    ensures { MatchResult result (λ x. made ≡ Ok x) (λ why. why ≡ reasons.Memory) }
+{
+    match made {
+        Ok(x) => Ok(x),
+        Err(_) => Err(NoAnswer::Memory),
+    }
 }
 
 /// How a call ends.

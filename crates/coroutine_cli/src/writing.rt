@@ -1,13 +1,11 @@
 //! The end of a call: its answer is written.
 
-ghost use Rattle.std.specs.Prelude.{◌≡◌, MatchResult, Ok};
 ghost use Rattle.coroutine_cli.specs.Statuses.{stream};
 ghost use Rattle.coroutine_cli.specs.Writing.{IsWritten};
-ghost use Rattle.coroutine_cli.specs.declared.status.NoAnswer.TheVariants as reasons;
 
 use crate::answer::Answer;
-use crate::status::{NoAnswer, Status};
-use co_base::{Memory, Sink, write_all};
+use crate::status::Status;
+use co_base::{Sink, write_all};
 
 /// Writes the answer.
 pub fn written<K: Sink>(sink: &mut K, answer: &Answer) -> Status
@@ -18,11 +16,4 @@ pub fn written<K: Sink>(sink: &mut K, answer: &Answer) -> Status
         Ok(()) => answer.ending.status(),
         Err(_) => Status::WriteFault,
     }
-}
-
-/// Where there is no answer, that is for want of memory.
-pub fn unless_memory(answer: Result<Answer, Memory>) -> Result<Answer, NoAnswer>
-    ensures { MatchResult result (λ x. answer ≡ Ok x) (λ why. why ≡ reasons.Memory) }
-{
-    answer.map_err(|_| NoAnswer::Memory)
 }

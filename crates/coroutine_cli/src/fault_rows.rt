@@ -1,0 +1,83 @@
+//! Scripts that are none, each with the line and the name of its fault.
+
+/// Rows, as `tests` reads them.
+pub(crate) const FAULT_ROWS: &str = "\
+# What is no script.
+
+= 3 report
+line 1: NoMain
+# A coroutine without its end.
+coroutine main
+= 3 report
+line 1: NoEnd
+# A number that is too large.
+channel a rendezvous
+coroutine main
+send a 4294967296
+end
+= 3 report
+line 3: BadNumber
+# A first word that is none.
+chanel a rendezvous
+= 3 report
+line 1: UnknownWord
+# A capacity of no elements.
+channel a buffered 0
+= 3 report
+line 1: BadNumber
+# A name with a capital letter.
+channel A rendezvous
+= 3 report
+line 1: BadName
+# A name twice.
+channel a rendezvous
+channel a rendezvous
+= 3 report
+line 2: Duplicate
+# A channel that is not declared.
+coroutine main
+send a 1
+end
+= 3 report
+line 2: Undeclared
+# An await of a Job that has no result.
+coroutine p
+end
+coroutine main
+launch p as j
+await j
+end
+= 3 report
+line 5: Undeclared
+# A word too many.
+coroutine main extra
+= 3 report
+line 1: Extra
+# Nine repeats, one in the other.
+coroutine main
+repeat 2
+repeat 2
+repeat 2
+repeat 2
+repeat 2
+repeat 2
+repeat 2
+repeat 2
+repeat 2
+= 3 report
+line 10: TooDeep
+# More Jobs than a run may have.
+coroutine w
+end
+coroutine main
+end
+spawn w 16000
+= 3 report
+line 5: TooMany
+# A coroutine that launches itself.
+coroutine p
+launch p
+end
+= 3 report
+line 2: Recursive
+";
