@@ -21,6 +21,7 @@ use Rattle.channel_model.specs.Histories.{replay_from, LegalFrom}
 use Rattle.channel_model.specs.Needs.{Needs, IsFirstReceiver, IsFirstOffer, HasPlace, MayBeAdmitted, JoinsWait, MayName, IsOpenOf, MaySettle, began_by_select}
 use Rattle.channel_model.specs.Outcomes.{outcome_of, IsOutcome}
 use Rattle.channel_model.specs.Steps.{stands_none, is_first_receiver, is_first_offer, gives_place, is_admissible, may_join, may_name, is_open_of, same_settled, is_outcome, may_settle, may_come, step, or_nothing, steps}
+use Rattle.channel_model.proofs.Firsts.{outcome_is}
 
 -- ---- the parts
 
@@ -171,25 +172,11 @@ ends_as (settled.Closed k v) how e = inl (ap (λ x. outcome_of x false) (sym e))
 ends_as settled.Cancelled how e = inr (no_value how e)
 ends_as (settled.Undelivered v) how e = inr (some_value v how e)
 
-outcome_fits : (how : Resolution) (cancelled : Bool) → IsOutcome (outcome_of how cancelled) (Some how)
-outcome_fits (resolved.Handed k v) false = refl
-outcome_fits (resolved.Handed k v) true = refl
-outcome_fits (resolved.Taken k) false = refl
-outcome_fits (resolved.Taken k) true = refl
-outcome_fits (resolved.Admitted k) false = refl
-outcome_fits (resolved.Admitted k) true = refl
-outcome_fits (resolved.Closed k v) false = refl
-outcome_fits (resolved.Closed k v) true = refl
-outcome_fits (resolved.Withdrawn why) false = refl
-outcome_fits (resolved.Withdrawn why) true = refl
-outcome_fits resolved.Voided false = refl
-outcome_fits resolved.Voided true = refl
-
 outcome_decides : (outcome : Settled) (how : Option Resolution) → Decides (is_outcome outcome how) (IsOutcome outcome how)
 outcome_decides outcome None = never_decides (λ h. h)
 outcome_decides outcome (Some how) =
     Decides-like (is_outcome outcome (Some how))
-    (λ h. ⊎_elim (λ e. subst (λ x. IsOutcome x (Some how)) (sym e) (outcome_fits how false)) (λ e. subst (λ x. IsOutcome x (Some how)) (sym e) (outcome_fits how true)) h)
+    (λ h. ⊎_elim (λ e. subst (λ x. IsOutcome x (Some how)) (sym e) (outcome_is how false)) (λ e. subst (λ x. IsOutcome x (Some how)) (sym e) (outcome_is how true)) h)
     (ends_as outcome how)
     (Decides-or _ _ (settled_decides outcome (outcome_of how false)) (settled_decides outcome (outcome_of how true)))
 

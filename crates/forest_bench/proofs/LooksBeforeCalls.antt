@@ -13,7 +13,7 @@ use Rattle.job_model.specs.Histories.{replay, replay_from, Legal, acts_of}
 use Rattle.job_model.specs.Floors.{Floor, Added}
 use Rattle.job_model.specs.Answers.{view_of, LookAnswer, link_of, link_from, LinkAnswer}
 use Rattle.job_model.proofs.Spans.{nothing_more, same_between, claimed_none, prefix_then}
-use Rattle.job_model.proofs.Lasting.{Lasts, attached_lasts, parent_lasts}
+use Rattle.job_model.proofs.Lasting.{Lasts, attached_lasts, parent_lasts, tag_lasts}
 use Rattle.job_model.proofs.Own.{prefix_keeps, own_body_kept}
 use Rattle.job_tree.proofs.Looks.{moment_legal, holds_later, link_is}
 
@@ -33,20 +33,6 @@ unfolding replay_from
 root_attached shape es l = prefix_keeps _ attached_lasts shape [] es 0 l (es, refl) refl
 
 -- ---- the own body
-
-tag_lasts : (t : ℕ) → Lasts (λ x. tag_of x ≡ Some t)
-tag_lasts t = record {
-  child = λ c j live h. h;
-  start = λ j n h. h;
-  body = λ v j h. h;
-  cancel = λ cause j c h. h;
-  finish = λ w end j m h. h;
-  told = λ c j h. h;
-  attached = λ h x. absurd (none h);
-}
-  where
-    none : tag_of None ≡ Some t → ⊥
-    none e = cc
 
 linked_tag : (tree : Tree) (r : ℕ) (x : Option Job) (l : Link) → link_of tree r x ≡ Some l → tag_of x ≡ Some l.tag
 linked_tag tree r None l e = cc

@@ -8,7 +8,7 @@ use Rattle.job_model.specs.declared.acts.End.{End}
 use Rattle.job_model.specs.declared.acts.End.TheVariants as ends
 use Rattle.job_model.specs.declared.acts.JobAct.{JobAct}
 use Rattle.job_model.specs.declared.acts.JobEntry.{JobEntry}
-use Rattle.job_model.specs.Trees.{Shape, Job, Tree, parent_of, is_among, is_new, is_ended, is_cancellable}
+use Rattle.job_model.specs.Trees.{Shape, Job, Tree, parent_of, tag_of, is_among, is_new, is_ended, is_cancellable}
 use Rattle.job_model.specs.Effects.{after, with_child, started, without_body, state_after_body, cancelled_for, ended_by, with_told, state_of_end}
 use Rattle.job_model.specs.Needs.{Needs, MayFinish}
 use Rattle.job_model.specs.Families.{IsEnded, children_of}
@@ -48,10 +48,25 @@ history_keeps P k shape tree (e ∷ es) q l h = history_keeps P k shape (after t
 
 -- ---- facts that last
 
+-- its tag
+pub tag_lasts : (t : ℕ) → Lasts (λ x. tag_of x ≡ Some t)
+tag_lasts t = record {
+  child = λ r j live h. h;
+  start = λ j n h. h;
+  body = λ v j h. h;
+  cancel = λ cause j c h. h;
+  finish = λ who end j m h. h;
+  told = λ c j h. h;
+  attached = λ h x. absurd (no_tag h);
+}
+  where
+    no_tag : tag_of None ≡ Some t → ⊥
+    no_tag e = cc
+
 none_ended : IsEnded None → (x : Option Job) → IsEnded x
 none_ended h x = absurd h
 
-ended_body : (s : JobState) → is_ended s ≡ true → is_ended (state_after_body s) ≡ true
+pub ended_body : (s : JobState) → is_ended s ≡ true → is_ended (state_after_body s) ≡ true
 ended_body New e = cc
 ended_body Active e = cc
 ended_body Completing e = cc
@@ -59,18 +74,18 @@ ended_body Cancelling e = cc
 ended_body Cancelled e = refl
 ended_body Completed e = refl
 
-not_both : (s : JobState) → is_cancellable s ≡ true → is_ended s ≡ true → ⊥
-not_both New c e = cc
-not_both Active c e = cc
-not_both Completing c e = cc
-not_both Cancelling c e = cc
-not_both Cancelled c e = cc
-not_both Completed c e = cc
+pub ended_not_cancellable : (s : JobState) → is_cancellable s ≡ true → is_ended s ≡ true → ⊥
+ended_not_cancellable New c e = cc
+ended_not_cancellable Active c e = cc
+ended_not_cancellable Completing c e = cc
+ended_not_cancellable Cancelling c e = cc
+ended_not_cancellable Cancelled c e = cc
+ended_not_cancellable Completed c e = cc
 
-new_not_ended : (s : JobState) → s ≡ New → is_ended s ≡ true → ⊥
+pub new_not_ended : (s : JobState) → s ≡ New → is_ended s ≡ true → ⊥
 new_not_ended s e f = let k : is_ended New ≡ true = ap is_ended (sym e) ∙ f in cc
 
-end_ends : (end : End) → is_ended (state_of_end end) ≡ true
+pub end_ends : (end : End) → is_ended (state_of_end end) ≡ true
 end_ends (ends.Completed v) = refl
 end_ends (ends.Cancelled cause) = refl
 
@@ -80,7 +95,7 @@ ended_lasts = record {
   child = λ r j live h. h;
   start = λ j n h. absurd (new_not_ended j.state n h);
   body = λ v j h. ended_body j.state h;
-  cancel = λ cause j c h. absurd (not_both j.state c h);
+  cancel = λ cause j c h. absurd (ended_not_cancellable j.state c h);
   finish = λ who end j m h. end_ends end;
   told = λ c j h. h;
   attached = none_ended;

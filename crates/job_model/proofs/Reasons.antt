@@ -15,16 +15,16 @@ use Rattle.job_model.specs.Families.{children_of}
 use Rattle.job_model.specs.Histories.{replay, replay_from, Legal, LegalFrom}
 use Rattle.job_model.specs.Laws.{HasFamilies, IsSoundRow}
 use Rattle.job_model.proofs.Histories.{replay-append, Legal-append}
-use Rattle.job_model.proofs.Lasting.{Lasts, history_keeps, parent_lasts}
+use Rattle.job_model.proofs.Lasting.{Lasts, history_keeps, parent_lasts, tag_lasts, ended_body, ended_not_cancellable, new_not_ended, end_ends}
 use Rattle.job_model.proofs.Families.{replay_families}
 use Rattle.job_model.proofs.Sound.{failure_is_cause, body_cancelled, end_cancelled}
 
 -- ---- the parent is cancelled
 
-new_not_cancelled : (s : JobState) → s ≡ New → is_cancelled s ≡ true → ⊥
+pub new_not_cancelled : (s : JobState) → s ≡ New → is_cancelled s ≡ true → ⊥
 new_not_cancelled s e h = let k : is_cancelled New ≡ true = ap is_cancelled (sym e) ∙ h in cc
 
-cancelled_not_cancellable : (s : JobState) → is_cancellable s ≡ true → is_cancelled s ≡ true → ⊥
+pub cancelled_not_cancellable : (s : JobState) → is_cancellable s ≡ true → is_cancelled s ≡ true → ⊥
 cancelled_not_cancellable New c e = cc
 cancelled_not_cancellable Active c e = cc
 cancelled_not_cancellable Completing c e = cc
@@ -92,20 +92,6 @@ failed_parent r (Some j) f = f.0
 
 -- ---- the own body fails
 
-tag_lasts : (who : ℕ) → Lasts (λ x. tag_of x ≡ Some who)
-tag_lasts who = record {
-  child = λ c j live h. h;
-  start = λ j n h. h;
-  body = λ v j h. h;
-  cancel = λ cause j c h. h;
-  finish = λ w end j m h. h;
-  told = λ c j h. h;
-  attached = λ h x. absurd (none h);
-}
-  where
-    none : tag_of None ≡ Some who → ⊥
-    none e = cc
-
 left_of : (a b : Bool) → (a && b) ≡ true → a ≡ true
 left_of true b e = refl
 left_of false b e = e
@@ -116,29 +102,6 @@ right_of false b e = cc
 
 both_of : (a b : Bool) → a ≡ true → b ≡ true → (a && b) ≡ true
 both_of a b e f = ap (λ c. c && b) e ∙ f
-
-ended_not_cancellable : (s : JobState) → is_cancellable s ≡ true → is_ended s ≡ true → ⊥
-ended_not_cancellable New c e = cc
-ended_not_cancellable Active c e = cc
-ended_not_cancellable Completing c e = cc
-ended_not_cancellable Cancelling c e = cc
-ended_not_cancellable Cancelled c e = cc
-ended_not_cancellable Completed c e = cc
-
-new_not_ended : (s : JobState) → s ≡ New → is_ended s ≡ true → ⊥
-new_not_ended s e h = let k : is_ended New ≡ true = ap is_ended (sym e) ∙ h in cc
-
-ended_body : (s : JobState) → is_ended s ≡ true → is_ended (state_after_body s) ≡ true
-ended_body New e = cc
-ended_body Active e = cc
-ended_body Completing e = cc
-ended_body Cancelling e = cc
-ended_body Cancelled e = refl
-ended_body Completed e = refl
-
-end_ends : (end : End) → is_ended (state_of_end end) ≡ true
-end_ends (ends.Completed v) = refl
-end_ends (ends.Cancelled cause) = refl
 
 failure_lasts : (f : ℕ) → Lasts (λ x. ended_by_failure f x ≡ true)
 failure_lasts f = record {

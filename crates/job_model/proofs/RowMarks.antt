@@ -18,7 +18,7 @@ use Rattle.job_model.specs.Histories.{Legal}
 use Rattle.job_model.specs.Laws.{HasFamilies, has_ended_body, has_ended, OncePerRow}
 use Rattle.job_model.proofs.Steps.{RowStep}
 use Rattle.job_model.proofs.Rows.{among_more, among_last}
-use Rattle.job_model.proofs.Lasting.{Lasts, act_keeps, parent_lasts}
+use Rattle.job_model.proofs.Lasting.{Lasts, act_keeps, parent_lasts, ended_body, ended_not_cancellable, new_not_ended, end_ends}
 use Rattle.job_model.proofs.Families.{start_families, changed_here}
 use Rattle.job_model.proofs.Marks.{IsMark, row_mark, attach_mark, at_most_once, has_started, is_past_cancelling}
 
@@ -165,36 +165,13 @@ cancel_unset shape tree who q _ _ _ (RowStep.stays act x a b c d f) e = cc
 
 -- ---- finish
 
-ended_end : (end : End) → is_ended (state_of_end end) ≡ true
-ended_end (ends.Completed v) = refl
-ended_end (ends.Cancelled cause) = refl
-
-ended_start : (s : JobState) → s ≡ New → is_ended s ≡ true → ⊥
-ended_start s e h = let k : is_ended New ≡ true = ap is_ended (sym e) ∙ h in cc
-
-ended_body : (s : JobState) → is_ended s ≡ true → is_ended (state_after_body s) ≡ true
-ended_body New e = cc
-ended_body Active e = cc
-ended_body Completing e = cc
-ended_body Cancelling e = cc
-ended_body Cancelled e = refl
-ended_body Completed e = refl
-
-ended_cancel : (s : JobState) → is_cancellable s ≡ true → is_ended s ≡ true → ⊥
-ended_cancel New c e = cc
-ended_cancel Active c e = cc
-ended_cancel Completing c e = cc
-ended_cancel Cancelling c e = cc
-ended_cancel Cancelled c e = cc
-ended_cancel Completed c e = cc
-
 end_lasts : Lasts (λ x. has_ended x ≡ true)
 end_lasts = record {
   child = λ r j live h. h;
-  start = λ j n h. absurd (ended_start j.state n h);
+  start = λ j n h. absurd (new_not_ended j.state n h);
   body = λ v j h. ended_body j.state h;
-  cancel = λ cause j c h. absurd (ended_cancel j.state c h);
-  finish = λ who end j m h. ended_end end;
+  cancel = λ cause j c h. absurd (ended_not_cancellable j.state c h);
+  finish = λ who end j m h. end_ends end;
   told = λ c j h. h;
   attached = λ h x. absurd (none h);
 }
@@ -208,7 +185,7 @@ finish_sets shape tree who q _ _ _ (RowStep.has_child r kind tag cancelled j non
 finish_sets shape tree who q _ _ _ (RowStep.is_started j n) e = cc
 finish_sets shape tree who q _ _ _ (RowStep.body_ends v j m) e = cc
 finish_sets shape tree who q _ _ _ (RowStep.is_cancelled reason j m h) e = cc
-finish_sets shape tree who q _ _ _ (RowStep.ends end j m) e = ended_end end
+finish_sets shape tree who q _ _ _ (RowStep.ends end j m) e = end_ends end
 finish_sets shape tree who q _ _ _ (RowStep.is_told d j m p) e = cc
 finish_sets shape tree who q _ _ _ (RowStep.stays act x a b c d f) e = cc
 

@@ -19,19 +19,9 @@ use Rattle.job_model.proofs.Histories.{replay_push, Legal-last, Legal-prefix}
 use Rattle.job_model.proofs.Lasting.{Lasts}
 use Rattle.job_model.proofs.Own.{prefix_keeps}
 use Rattle.job_model.proofs.Families.{changed_here, replay_families}
+use Rattle.job_model.proofs.Reasons.{new_not_cancelled, cancelled_not_cancellable}
 use Rattle.job_model.proofs.Sound.{failure_is_cause, body_cancelled, end_cancelled}
 use Rattle.job_tree.specs.Passes.{is_for_failure, IsFailure}
-
-new_not_cancelled : (s : JobState) → s ≡ New → is_cancelled s ≡ true → ⊥
-new_not_cancelled s e h = let k : is_cancelled New ≡ true = ap is_cancelled (sym e) ∙ h in cc
-
-cancelled_not_cancellable : (s : JobState) → is_cancellable s ≡ true → is_cancelled s ≡ true → ⊥
-cancelled_not_cancellable New c e = cc
-cancelled_not_cancellable Active c e = cc
-cancelled_not_cancellable Completing c e = cc
-cancelled_not_cancellable Cancelling c e = cc
-cancelled_not_cancellable Cancelled c e = cc
-cancelled_not_cancellable Completed c e = cc
 
 -- a Job whose cause is a failure is cancelled, so that its cause stays
 abbrev HasFailed : Option Job → Type 0

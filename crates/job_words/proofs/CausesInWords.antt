@@ -19,7 +19,7 @@ use Rattle.job_model.specs.Answers.{CancelAnswer}
 use Rattle.job_model.specs.Laws.{is_cause, IsSoundRow}
 use Rattle.job_model.proofs.Lasting.{Lasts}
 use Rattle.job_model.proofs.Sound.{body_cancelled, end_cancelled}
-use Rattle.job_model.proofs.Reasons.{reason_holds_on}
+use Rattle.job_model.proofs.Reasons.{reason_holds_on, new_not_cancelled, cancelled_not_cancellable}
 use Rattle.job_words.specs.declared.job_word.JobWord.{JobWord}
 use Rattle.job_words.specs.declared.size.ForestSize.{ForestSize}
 use Rattle.job_words.specs.declared.deed.Deed.{Deed}
@@ -42,20 +42,12 @@ abbrev Failing : ℕ → Option Job → Type 0
 Failing f None = ⊥
 Failing f (Some j) = (j.cause ≡ because.Failure f) × (is_cancelled j.state ≡ true)
 
-not_both : (s : JobState) → is_cancellable s ≡ true → is_cancelled s ≡ true → ⊥
-not_both New c h = cc
-not_both Active c h = cc
-not_both Completing c h = cc
-not_both Cancelling c h = cc
-not_both Cancelled c h = cc
-not_both Completed c h = cc
-
 failing_lasts : (f : ℕ) → Lasts (Failing f)
 failing_lasts f = record {
   child = λ r j live h. h;
-  start = λ j n h. absurd (let k : false ≡ true = sym (ap is_cancelled n) ∙ h.1 in cc);
+  start = λ j n h. absurd (new_not_cancelled j.state n h.1);
   body = λ v j h. (h.0, sym (body_cancelled j.state) ∙ h.1);
-  cancel = λ cause j c h. absurd (not_both j.state c h.1);
+  cancel = λ cause j c h. absurd (cancelled_not_cancellable j.state c h.1);
   finish = λ who end j m h. (h.0, sym (end_cancelled j.state j end m.2) ∙ h.1);
   told = λ c j h. h;
   attached = λ h x. absurd h;

@@ -45,7 +45,8 @@ use Rattle.poll_states.specs.Frames.{config_of, items_of, Stands}
 use Rattle.poll_states.specs.Steps.{OwnStateSeen, IsAtEnd, HasBody, Stepped}
 use Rattle.script_meaning.specs.Laws.{wait_of}
 use Rattle.script_meaning.specs.Bodies.{is_over, is_fresh, is_leaving, IsOwnRow, HasBodyAt}
-use Rattle.script_meaning.proofs.OwnRows.{tag_lasts, never_over}
+use Rattle.job_model.proofs.Lasting.{tag_lasts}
+use Rattle.script_meaning.proofs.OwnRows.{never_over}
 use Rattle.poll_states.proofs.Standing.{stands_body}
 use Rattle.poll_states.proofs.DonesLeft.{unclosed_kept}
 use Rattle.script_meaning.proofs.GroupNotes.{passes_all, end_all, break_all}

@@ -21,7 +21,7 @@ use Rattle.job_model.specs.Answers.{IsNotNew}
 use Rattle.job_model.specs.Histories.{replay, replay_from, acts_of, Legal}
 use Rattle.job_model.specs.Floors.{Floor}
 use Rattle.job_model.specs.Laws.{IsSoundRow, has, has_ended_body, is_bodiless}
-use Rattle.job_model.proofs.Lasting.{not_new_lasts, parent_lasts}
+use Rattle.job_model.proofs.Lasting.{tag_lasts, not_new_lasts, parent_lasts}
 use Rattle.job_model.proofs.Own.{prefix_keeps}
 use Rattle.job_model.proofs.Ends.{by_entries}
 use Rattle.job_model.proofs.Families.{replay_families}
@@ -45,7 +45,7 @@ use Rattle.script_meaning.proofs.BodiesTold.{acts_told, ends_in, scope_rows, fir
 use Rattle.script_meaning.proofs.JobDebts.{AllKnown, parents_in, all_known}
 use Rattle.script_meaning.proofs.JobStories.{true_so}
 use Rattle.script_meaning.proofs.OwnActs.{AllMayCome, all_placed, OwnJobEntry, own_entry, attached_keeps, attached_within}
-use Rattle.script_meaning.proofs.OwnRows.{tag_lasts, failure_lasts, any_here, IsTagged, tag_is_row, own_tag, body_unended, owns_body, may_end_body, running_not_new, cancelling_not_new, not_new_attached, not_new_started}
+use Rattle.script_meaning.proofs.OwnRows.{failure_lasts, any_here, IsTagged, tag_is_row, own_tag, body_unended, owns_body, may_end_body, running_not_new, cancelling_not_new, not_new_attached, not_new_started}
 use Rattle.script_meaning.proofs.ScopesEntered.{AreLegal, HasEntered, reach_ends, reach_scopes, innermost_first, found_rows}
 use Rattle.script_meaning.proofs.StagesReached.{reach_begun, reach_fails, reach_rows, reach_low}
 

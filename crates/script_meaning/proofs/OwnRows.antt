@@ -25,7 +25,7 @@ use Rattle.job_model.specs.Laws.{IsSoundRow, has, has_ended_body, is_bodiless}
 use Rattle.job_model.specs.Answers.{IsNotNew, LookAnswer, view_of}
 use Rattle.job_model.proofs.Histories.{acts_of-append, Legal-prefix}
 use Rattle.job_model.proofs.Steps.{RowStep, row_step}
-use Rattle.job_model.proofs.Lasting.{Lasts, act_keeps, history_keeps}
+use Rattle.job_model.proofs.Lasting.{Lasts, act_keeps, history_keeps, tag_lasts}
 use Rattle.job_model.proofs.Own.{prefix_keeps}
 use Rattle.job_model.proofs.Ends.{by_entries}
 use Rattle.job_model.proofs.Families.{replay_families}
@@ -34,21 +34,6 @@ use Rattle.script_meaning.specs.Idle.{IsNotStarted}
 use Rattle.script_meaning.specs.Bodies.{IsOwnRow, HasBodyAt}
 
 -- ---- what lasts of a Job
-
--- its tag
-pub tag_lasts : (t : ℕ) → Lasts (λ x. tag_of x ≡ Some t)
-tag_lasts t = record {
-  child = λ r j live h. h;
-  start = λ j n h. h;
-  body = λ v j h. h;
-  cancel = λ cause j c h. h;
-  finish = λ who end j m h. h;
-  told = λ c j h. h;
-  attached = λ h x. absurd (no_tag h);
-}
-  where
-    no_tag : tag_of None ≡ Some t → ⊥
-    no_tag e = cc
 
 ended_after_body : (s : JobState) (b : Bool) → (is_ended s && b) ≡ true → (is_ended (state_after_body s) && b) ≡ true
 ended_after_body New b e = cc
