@@ -10,7 +10,7 @@ use lib.Chars.{codes}
 use Rattle.script_grammar.specs.declared.instructions.Instruction.{Instruction}
 use Rattle.script_grammar.specs.declared.instructions.Instruction.TheVariants.{Send, TrySend, Receive, TryReceive, Close, CancelChannel, Yield, Launch, Start, Join, Await, Cancel, Fail, SetResult, Repeat, Each, Scope, Select, OnSend, OnReceive, End}
 use Rattle.script_grammar.specs.Programs.{Block, Program, block_names}
-use Rattle.script_grammar.specs.Blocks.{Open, opened, with_line, stands, is_main, product, own_weight, nest_after, clauses_after, launch_of}
+use Rattle.script_grammar.specs.Blocks.{Open, opened, with_line, is_main, product, own_weight, launch_of}
 use Rattle.script_grammar.specs.Reads.{closed_main, spawned_weight}
 use Rattle.script_grammar.specs.Grammar.{is_spawn}
 use Rattle.script_grammar.specs.WellFormed.{name_given, line_fits, is_within, lines_fit, with_lines, weight_in, weights_from, blocks_fit, whole_load, IsProgram}
@@ -20,60 +20,12 @@ use Rattle.script_grammar.proofs.SpelledIsProgram.{lines_stand}
 use Rattle.script_grammar.proofs.Truths.{both, both_true, not_true, lt-from_true, le-from_lt_false}
 use Rattle.script_grammar.proofs.NamedIsDeclared.{lines-launched, Declares-from_program}
 use Rattle.script_grammar.proofs.Layouts.{layout, next_layout, layout-next, main_block, tags_of-main, laid_out-append}
+use Rattle.script_grammar.proofs.NestAfterLines.{open_nest, open_nest-line, nest_then-once}
 use Rattle.script_grammar.proofs.LaunchesCounted.{total, total-append, total-launched}
 
 -- ---- a block's weight: 1, what it launches and the scopes that it enters
 
--- how often the lines run that are open, those of a select once
-abbrev pub open_nest : Option (List ℕ) → List ℕ → List ℕ
-open_nest None nest = nest
-open_nest (Some cs) nest = 1 ∷ nest
-
-pub open_nest-line : (o : Option (List ℕ)) (nest : List ℕ) (x : Instruction) → stands o nest x ≡ true → open_nest (clauses_after o x) (nest_after o nest x) ≡ nest_with (open_nest o nest) x
-open_nest-line None nest (Send c v) e = refl
-open_nest-line (Some cs) nest (Send c v) e = cc
-open_nest-line None nest (TrySend c v) e = refl
-open_nest-line (Some cs) nest (TrySend c v) e = cc
-open_nest-line None nest (Receive c) e = refl
-open_nest-line (Some cs) nest (Receive c) e = cc
-open_nest-line None nest (TryReceive c) e = refl
-open_nest-line (Some cs) nest (TryReceive c) e = cc
-open_nest-line None nest (Close c) e = refl
-open_nest-line (Some cs) nest (Close c) e = cc
-open_nest-line None nest (CancelChannel c) e = refl
-open_nest-line (Some cs) nest (CancelChannel c) e = cc
-open_nest-line None nest Yield e = refl
-open_nest-line (Some cs) nest Yield e = cc
-open_nest-line None nest (Launch p how job) e = refl
-open_nest-line (Some cs) nest (Launch p how job) e = cc
-open_nest-line None nest (Start j) e = refl
-open_nest-line (Some cs) nest (Start j) e = cc
-open_nest-line None nest (Join j) e = refl
-open_nest-line (Some cs) nest (Join j) e = cc
-open_nest-line None nest (Await j) e = refl
-open_nest-line (Some cs) nest (Await j) e = cc
-open_nest-line None nest (Cancel j) e = refl
-open_nest-line (Some cs) nest (Cancel j) e = cc
-open_nest-line None nest (Fail k) e = refl
-open_nest-line (Some cs) nest (Fail k) e = cc
-open_nest-line None nest (SetResult v) e = refl
-open_nest-line (Some cs) nest (SetResult v) e = cc
-open_nest-line None nest (Repeat k) e = refl
-open_nest-line (Some cs) nest (Repeat k) e = cc
-open_nest-line None nest (Each c) e = refl
-open_nest-line (Some cs) nest (Each c) e = cc
-open_nest-line None nest (Scope supervisor) e = refl
-open_nest-line (Some cs) nest (Scope supervisor) e = cc
-open_nest-line None nest Select e = refl
-open_nest-line (Some cs) nest Select e = cc
-open_nest-line None nest (OnSend c v) e = cc
-open_nest-line (Some cs) nest (OnSend c v) e = refl
-open_nest-line None nest (OnReceive c) e = cc
-open_nest-line (Some cs) nest (OnReceive c) e = refl
-open_nest-line None nest End e = refl
-open_nest-line (Some cs) nest End e = refl
-
-pub product-open_nest : (o : Option (List ℕ)) (nest : List ℕ) → product (open_nest o nest) ≡ product nest
+pub product-open_nest : (o : Option (List ℕ)) (nest : List ℕ) → product (open_nest 1 o nest) ≡ product nest
 product-open_nest None nest = refl
 product-open_nest (Some cs) nest = omega arith
 
@@ -114,24 +66,24 @@ gathered : (w p a b c d : ℕ) → w + (a + b) + c + d ≡ w + (a + c) + (b + d)
 gathered w p a b c d = omega arith
 
 -- the open block after these lines has what they leave open
-pub open_nest-with_lines : (n : ℕ) (blocks : List (List ℕ)) (weights : List ℕ) (jobs : List (List ℕ)) (b : Open) (code : List Instruction) → lines_stand n blocks weights jobs b code ≡ true → open_nest (with_lines weights jobs b code).clauses (with_lines weights jobs b code).nest ≡ nest_through (open_nest b.clauses b.nest) code
+pub open_nest-with_lines : (n : ℕ) (blocks : List (List ℕ)) (weights : List ℕ) (jobs : List (List ℕ)) (b : Open) (code : List Instruction) → lines_stand n blocks weights jobs b code ≡ true → open_nest 1 (with_lines weights jobs b code).clauses (with_lines weights jobs b code).nest ≡ nest_through (open_nest 1 b.clauses b.nest) code
 open_nest-with_lines n blocks weights jobs b [] e = refl
 open_nest-with_lines n blocks weights jobs b (x ∷ code) e =
     let two = both_true _ _ e in
     let rest = both_true _ _ two.1 in
     open_nest-with_lines n blocks weights jobs (with_line weights x (name_given jobs x) b) code rest.1
-    ∙ ap (λ m. nest_through m code) (open_nest-line b.clauses b.nest x (both_true _ _ two.0).0)
+    ∙ ap (λ m. nest_through m code) (open_nest-line 1 b.clauses b.nest x (both_true _ _ two.0).0 ∙ nest_then-once (open_nest 1 b.clauses b.nest) x)
 
 -- and weighs as much more as they launch and enter scopes
-pub weight-with_lines : (n : ℕ) (blocks : List (List ℕ)) (weights : List ℕ) (jobs : List (List ℕ)) (b : Open) (code : List Instruction) → lines_stand n blocks weights jobs b code ≡ true → (with_lines weights jobs b code).weight ≡ b.weight + launches_from (weight_at weights) (open_nest b.clauses b.nest) code + scopes_from (open_nest b.clauses b.nest) code
+pub weight-with_lines : (n : ℕ) (blocks : List (List ℕ)) (weights : List ℕ) (jobs : List (List ℕ)) (b : Open) (code : List Instruction) → lines_stand n blocks weights jobs b code ≡ true → (with_lines weights jobs b code).weight ≡ b.weight + launches_from (weight_at weights) (open_nest 1 b.clauses b.nest) code + scopes_from (open_nest 1 b.clauses b.nest) code
 weight-with_lines n blocks weights jobs b [] e = omega arith
 weight-with_lines n blocks weights jobs b (x ∷ code) e =
     let two = both_true _ _ e in
     let rest = both_true _ _ two.1 in
     let may = (both_true _ _ two.0).0 in
     let next = with_line weights x (name_given jobs x) b in
-    let nest = open_nest b.clauses b.nest in
-    let step = open_nest-line b.clauses b.nest x may in
+    let nest = open_nest 1 b.clauses b.nest in
+    let step = open_nest-line 1 b.clauses b.nest x may ∙ nest_then-once nest x in
     let count = weight_at weights in
     let a = product nest * counted count (launch_of x) in
     let c = product nest * scopes_entered x in

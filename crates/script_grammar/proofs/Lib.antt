@@ -21,6 +21,7 @@ pub mod Layouts
 pub mod LaunchedTags
 pub mod Declarations
 pub mod LaunchesCounted
+pub mod NestAfterLines
 pub mod JobsCounted
 pub mod SizesSoFar
 pub mod GeneratedScript

@@ -114,24 +114,6 @@ plain_again s b End is none may h = some b.nest may
 
 in_select : (s : Read) (b : Open) (cs : List ℕ) (x : Instruction) → Named s b → stands (Some cs) b.nest x ≡ true → fits (length s.channels) (block_names s.blocks) b x ≡ true → words_form s b (Some cs) (old_words s b x) ≡ Ok (line_is x None)
 unfolding verb_of
-in_select s b cs (Send c v) is may h = cc
-in_select s b cs (TrySend c v) is may h = cc
-in_select s b cs (Receive c) is may h = cc
-in_select s b cs (TryReceive c) is may h = cc
-in_select s b cs (Close c) is may h = cc
-in_select s b cs (CancelChannel c) is may h = cc
-in_select s b cs Yield is may h = cc
-in_select s b cs (Launch p how job) is may h = cc
-in_select s b cs (Start j) is may h = cc
-in_select s b cs (Join j) is may h = cc
-in_select s b cs (Await j) is may h = cc
-in_select s b cs (Cancel j) is may h = cc
-in_select s b cs (Fail n) is may h = cc
-in_select s b cs (SetResult v) is may h = cc
-in_select s b cs (Repeat n) is may h = cc
-in_select s b cs (Each c) is may h = cc
-in_select s b cs (Scope supervisor) is may h = cc
-in_select s b cs Select is may h = cc
 in_select s b cs (OnSend c v) is may h = let two = both_true _ _ h in let more = both_true _ _ two.1 in onsend_again s b c v is.channels (declared s c two.0) more.0 more.1
 in_select s b cs (OnReceive c) is may h = let two = both_true _ _ h in onreceive_again s b c is.channels (declared s c two.0) two.1
 in_select s b cs End is may h = some cs may
@@ -139,6 +121,7 @@ in_select s b cs End is may h = some cs may
     some : (cs : List ℕ) → has_items cs ≡ true → (if has_items cs then plain_line End [] else Err kinds.UnknownWord) ≡ Ok (line_is End None)
     some [] e = cc
     some (c ∷ cs) e = refl
+in_select s b cs other is may h = cc
 
 -- ---- lines that name a Job
 
@@ -151,27 +134,8 @@ some_given jobs None name e = cc
 some_given jobs (Some j) name e = let two = both_true _ _ e in (ap (λ k. Some k) (same-from_true j (length jobs) two.0), two.1)
 
 pub as_launch : (x : Instruction) (j : ℕ) → job_given x ≡ Some j → (p : ℕ) × (how : Launching) × (x ≡ Launch p how (Some j))
-as_launch (Send c v) j e = cc
-as_launch (TrySend c v) j e = cc
-as_launch (Receive c) j e = cc
-as_launch (TryReceive c) j e = cc
-as_launch (Close c) j e = cc
-as_launch (CancelChannel c) j e = cc
-as_launch Yield j e = cc
 as_launch (Launch p how job) j e = (p, how, ap (λ k. Launch p how k) e)
-as_launch (Start i) j e = cc
-as_launch (Join i) j e = cc
-as_launch (Await i) j e = cc
-as_launch (Cancel i) j e = cc
-as_launch (Fail n) j e = cc
-as_launch (SetResult v) j e = cc
-as_launch (Repeat n) j e = cc
-as_launch (Each c) j e = cc
-as_launch (Scope supervisor) j e = cc
-as_launch Select j e = cc
-as_launch (OnSend c v) j e = cc
-as_launch (OnReceive c) j e = cc
-as_launch End j e = cc
+as_launch other j e = cc
 
 launching : (s : Read) (b : Open) (how : Launching) (rest : List (List ℕ)) → words_form s b None (launch_word how ∷ rest) ≡ launch_line s b how rest
 unfolding verb_of

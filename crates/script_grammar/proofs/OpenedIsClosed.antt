@@ -78,27 +78,8 @@ depth_after-one_less x d n e h = by_test (opens_lines x) (is_end x) e
 
 -- an end stands for no line that opens
 end_deeper : (x : Instruction) (n : ℕ) → is_end x ≡ true → depth_after x n ≡ n - 1
-end_deeper (Send c v) n e = cc
-end_deeper (TrySend c v) n e = cc
-end_deeper (Receive c) n e = cc
-end_deeper (TryReceive c) n e = cc
-end_deeper (Close c) n e = cc
-end_deeper (CancelChannel c) n e = cc
-end_deeper Yield n e = cc
-end_deeper (Launch p how job) n e = cc
-end_deeper (Start j) n e = cc
-end_deeper (Join j) n e = cc
-end_deeper (Await j) n e = cc
-end_deeper (Cancel j) n e = cc
-end_deeper (Fail k) n e = cc
-end_deeper (SetResult v) n e = cc
-end_deeper (Repeat k) n e = cc
-end_deeper (Each c) n e = cc
-end_deeper (Scope supervisor) n e = cc
-end_deeper Select n e = cc
-end_deeper (OnSend c v) n e = cc
-end_deeper (OnReceive c) n e = cc
 end_deeper End n e = one_less-is n
+end_deeper other n e = cc
 
 none_open : (jobs : List (List ℕ)) (b : Open) (d : ℕ) → is_done jobs b ≡ true → d < depth_of b.nest b.clauses → ⊥
 none_open jobs b d e h =

@@ -6,70 +6,12 @@ use Rattle.script_grammar.specs.declared.instructions.Instruction.{Instruction}
 use Rattle.script_grammar.specs.declared.instructions.Instruction.TheVariants.{Send, TrySend, Receive, TryReceive, Close, CancelChannel, Yield, Launch, Start, Join, Await, Cancel, Fail, SetResult, Repeat, Each, Scope, Select, OnSend, OnReceive, End}
 use Rattle.script_grammar.specs.Words.{has_items}
 use Rattle.script_grammar.specs.Programs.{Block, Program}
-use Rattle.script_grammar.specs.Blocks.{Open, opened, with_line, stands, fits, nest_after, clauses_after, but_first, own_weight, without_end, product, launch_of, listed, opens_lines, is_end}
+use Rattle.script_grammar.specs.Blocks.{Open, opened, with_line, stands, fits, but_first, own_weight, without_end, product, launch_of, listed, opens_lines, is_end}
 use Rattle.script_grammar.specs.WellFormed.{name_given, is_done, lines_fit, with_lines, weight_in, blocks_fit, IsProgram}
 use Rattle.script_grammar.specs.Tags.{times_over, launched, scopes_entered, scopes_from, code_of_block, code_at, code_of, block_of_tag}
 use Rattle.script_grammar.proofs.Truths.{both_true, lt-from_true, le-from_true, le-from_lt_false}
+use Rattle.script_grammar.proofs.NestAfterLines.{open_nest, nest_then, open_nest-line}
 use Rattle.script_grammar.proofs.BalancedLines.{Balanced, Balanced-append, launched-Balanced, scopes_from-Balanced, times_over-none}
-
--- ---- what is open, with the lines of a select as those of an each
-
-nest_open : Option (List ℕ) → List ℕ → List ℕ
-nest_open None nest = nest
-nest_open (Some cs) nest = without_end ∷ nest
-
-nest_then : List ℕ → Instruction → List ℕ
-nest_then nest (Repeat n) = n ∷ nest
-nest_then nest (Each c) = without_end ∷ nest
-nest_then nest (Scope supervisor) = 1 ∷ nest
-nest_then nest Select = without_end ∷ nest
-nest_then nest End = but_first nest
-nest_then nest other = nest
-
-nest_open-line : (o : Option (List ℕ)) (nest : List ℕ) (x : Instruction) → stands o nest x ≡ true → nest_open (clauses_after o x) (nest_after o nest x) ≡ nest_then (nest_open o nest) x
-unfolding nest_open nest_then
-nest_open-line None nest (Send c v) e = refl
-nest_open-line (Some cs) nest (Send c v) e = cc
-nest_open-line None nest (TrySend c v) e = refl
-nest_open-line (Some cs) nest (TrySend c v) e = cc
-nest_open-line None nest (Receive c) e = refl
-nest_open-line (Some cs) nest (Receive c) e = cc
-nest_open-line None nest (TryReceive c) e = refl
-nest_open-line (Some cs) nest (TryReceive c) e = cc
-nest_open-line None nest (Close c) e = refl
-nest_open-line (Some cs) nest (Close c) e = cc
-nest_open-line None nest (CancelChannel c) e = refl
-nest_open-line (Some cs) nest (CancelChannel c) e = cc
-nest_open-line None nest Yield e = refl
-nest_open-line (Some cs) nest Yield e = cc
-nest_open-line None nest (Launch p how job) e = refl
-nest_open-line (Some cs) nest (Launch p how job) e = cc
-nest_open-line None nest (Start j) e = refl
-nest_open-line (Some cs) nest (Start j) e = cc
-nest_open-line None nest (Join j) e = refl
-nest_open-line (Some cs) nest (Join j) e = cc
-nest_open-line None nest (Await j) e = refl
-nest_open-line (Some cs) nest (Await j) e = cc
-nest_open-line None nest (Cancel j) e = refl
-nest_open-line (Some cs) nest (Cancel j) e = cc
-nest_open-line None nest (Fail k) e = refl
-nest_open-line (Some cs) nest (Fail k) e = cc
-nest_open-line None nest (SetResult v) e = refl
-nest_open-line (Some cs) nest (SetResult v) e = cc
-nest_open-line None nest (Repeat k) e = refl
-nest_open-line (Some cs) nest (Repeat k) e = cc
-nest_open-line None nest (Each c) e = refl
-nest_open-line (Some cs) nest (Each c) e = cc
-nest_open-line None nest (Scope supervisor) e = refl
-nest_open-line (Some cs) nest (Scope supervisor) e = cc
-nest_open-line None nest Select e = refl
-nest_open-line (Some cs) nest Select e = cc
-nest_open-line None nest (OnSend c v) e = cc
-nest_open-line (Some cs) nest (OnSend c v) e = refl
-nest_open-line None nest (OnReceive c) e = cc
-nest_open-line (Some cs) nest (OnReceive c) e = refl
-nest_open-line None nest End e = refl
-nest_open-line (Some cs) nest End e = refl
 
 -- each of these runs at least once
 unfoldable EachSome : List ℕ → Type 0
@@ -202,8 +144,7 @@ few_scopes nest supervisor few = by_test (nat_lt 16000 (product nest)) refl
     by_test true e = let no_way : 1 ≡ 0 = (few (lt-from_true 16000 (product nest) e)).1 in absurd (omega (arith, no_way))
     by_test false e = le-from_lt_false 16000 (product nest) e
 
-line_first : (nest : List ℕ) (x : Instruction) (code : List Instruction) → Allowed nest x → Segments (nest_then nest x) code → Segments nest (x ∷ code)
-unfolding nest_then
+line_first : (nest : List ℕ) (x : Instruction) (code : List Instruction) → Allowed nest x → Segments (nest_then without_end nest x) code → Segments nest (x ∷ code)
 line_first nest (Send c v) code h s = plain_first nest (Send c v) code refl refl h.few s
 line_first nest (TrySend c v) code h s = plain_first nest (TrySend c v) code refl refl h.few s
 line_first nest (Receive c) code h s = plain_first nest (Receive c) code refl refl h.few s
@@ -226,8 +167,8 @@ line_first nest (OnSend c v) code h s = plain_first nest (OnSend c v) code refl 
 line_first nest (OnReceive c) code h s = plain_first nest (OnReceive c) code refl refl h.few s
 line_first nest End code h s = end_first nest code (h.ends refl) s
 
-some_next : (nest : List ℕ) (x : Instruction) → Allowed nest x → EachSome (nest_then nest x)
-unfolding nest_then EachSome
+some_next : (nest : List ℕ) (x : Instruction) → Allowed nest x → EachSome (nest_then without_end nest x)
+unfolding EachSome
 some_next nest (Send c v) h = h.some
 some_next nest (TrySend c v) h = h.some
 some_next nest (Receive c) h = h.some
@@ -254,27 +195,10 @@ some_next (n ∷ nest) End h = h.some.1
 -- ---- what the grammar asks of a line
 
 clause_idle : (cs nest : List ℕ) (x : Instruction) → stands (Some cs) nest x ≡ true → (listed (launch_of x) ≡ []) × (scopes_entered x ≡ 0)
-clause_idle cs nest (Send c v) e = cc
-clause_idle cs nest (TrySend c v) e = cc
-clause_idle cs nest (Receive c) e = cc
-clause_idle cs nest (TryReceive c) e = cc
-clause_idle cs nest (Close c) e = cc
-clause_idle cs nest (CancelChannel c) e = cc
-clause_idle cs nest Yield e = cc
-clause_idle cs nest (Launch p how job) e = cc
-clause_idle cs nest (Start j) e = cc
-clause_idle cs nest (Join j) e = cc
-clause_idle cs nest (Await j) e = cc
-clause_idle cs nest (Cancel j) e = cc
-clause_idle cs nest (Fail k) e = cc
-clause_idle cs nest (SetResult v) e = cc
-clause_idle cs nest (Repeat k) e = cc
-clause_idle cs nest (Each c) e = cc
-clause_idle cs nest (Scope supervisor) e = cc
-clause_idle cs nest Select e = cc
 clause_idle cs nest (OnSend c v) e = (refl, refl)
 clause_idle cs nest (OnReceive c) e = (refl, refl)
 clause_idle cs nest End e = (refl, refl)
+clause_idle cs nest other e = cc
 
 some_at : (weights : List ℕ) (i : ℕ) → EachSome weights → i < length weights → 1 ≤ get_or weights i 0
 unfolding EachSome
@@ -317,19 +241,18 @@ no_weight w p (suc own) h big = absurd (omega (arith, more p own, h, big))
     more p own = omega arith
 
 few_in : (n : ℕ) (blocks : List (List ℕ)) (weights : List ℕ) (b : Open) (x : Instruction) (o : Option (List ℕ)) (nest : List ℕ) → length weights ≡ length blocks → EachSome weights → stands o nest x ≡ true → fits n blocks b x ≡ true → b.weight + product nest * own_weight weights x ≤ 16000
-    → AreFew (nest_open o nest) (listed (launch_of x)) (scopes_entered x)
-unfolding nest_open AreFew
+    → AreFew (open_nest without_end o nest) (listed (launch_of x)) (scopes_entered x)
+unfolding AreFew
 few_in n blocks weights b x None nest l h e f w big = light n blocks weights b x l h f (no_weight b.weight (product nest) (own_weight weights x) w big)
 few_in n blocks weights b x (Some cs) nest l h e f w big = clause_idle cs nest x e
 
-end_in : (o : Option (List ℕ)) (nest : List ℕ) → stands o nest End ≡ true → has_items (nest_open o nest) ≡ true
-unfolding nest_open
+end_in : (o : Option (List ℕ)) (nest : List ℕ) → stands o nest End ≡ true → has_items (open_nest without_end o nest) ≡ true
 end_in None [] e = cc
 end_in None (n ∷ nest) e = refl
 end_in (Some cs) nest e = refl
 
-line_allowed : (n : ℕ) (blocks : List (List ℕ)) (weights : List ℕ) (b : Open) (x : Instruction) → length weights ≡ length blocks → EachSome weights → EachSome (nest_open b.clauses b.nest) → stands b.clauses b.nest x ≡ true → fits n blocks b x ≡ true → b.weight + product b.nest * own_weight weights x ≤ 16000
-    → Allowed (nest_open b.clauses b.nest) x
+line_allowed : (n : ℕ) (blocks : List (List ℕ)) (weights : List ℕ) (b : Open) (x : Instruction) → length weights ≡ length blocks → EachSome weights → EachSome (open_nest without_end b.clauses b.nest) → stands b.clauses b.nest x ≡ true → fits n blocks b x ≡ true → b.weight + product b.nest * own_weight weights x ≤ 16000
+    → Allowed (open_nest without_end b.clauses b.nest) x
 line_allowed n blocks weights b x l h some e f w = record {
   some = some;
   few = few_in n blocks weights b x b.clauses b.nest l h e f w;
@@ -339,19 +262,18 @@ line_allowed n blocks weights b x l h some e f w = record {
 
 -- ---- the lines of a block
 
-all_closed : (jobs : List (List ℕ)) (b : Open) → is_done jobs b ≡ true → nest_open b.clauses b.nest ≡ []
-unfolding nest_open
+all_closed : (jobs : List (List ℕ)) (b : Open) → is_done jobs b ≡ true → open_nest without_end b.clauses b.nest ≡ []
 all_closed jobs b e =
     let two = both_true _ _ e in
     let more = both_true _ _ two.1 in
     nothing b.nest b.clauses two.0 more.0
   where
-    nothing : (nest : List ℕ) (o : Option (List ℕ)) → not (has_items nest) ≡ true → not (is_some o) ≡ true → nest_open o nest ≡ []
+    nothing : (nest : List ℕ) (o : Option (List ℕ)) → not (has_items nest) ≡ true → not (is_some o) ≡ true → open_nest without_end o nest ≡ []
     nothing [] None e f = refl
     nothing [] (Some cs) e f = cc
     nothing (n ∷ nest) o e f = cc
 
-segments : (n : ℕ) (blocks : List (List ℕ)) (weights : List ℕ) (jobs : List (List ℕ)) (b : Open) (code : List Instruction) → length weights ≡ length blocks → EachSome weights → EachSome (nest_open b.clauses b.nest) → lines_fit n blocks weights jobs b code ≡ true → Segments (nest_open b.clauses b.nest) code
+segments : (n : ℕ) (blocks : List (List ℕ)) (weights : List ℕ) (jobs : List (List ℕ)) (b : Open) (code : List Instruction) → length weights ≡ length blocks → EachSome weights → EachSome (open_nest without_end b.clauses b.nest) → lines_fit n blocks weights jobs b code ≡ true → Segments (open_nest without_end b.clauses b.nest) code
 segments n blocks weights jobs b [] l h some e = subst (λ nest. Segments nest []) (sym (all_closed jobs b e)) (Segments.last [] [] 0 Balanced.none)
 segments n blocks weights jobs b (x ∷ code) l h some e =
     let two = both_true _ _ e in
@@ -362,10 +284,10 @@ segments n blocks weights jobs b (x ∷ code) l h some e =
     let next = with_line weights x (name_given jobs x) b in
     let small : next.weight ≤ 16000 = le-from_true next.weight 16000 within.1 in
     let allowed = line_allowed n blocks weights b x l h some line.0 fit.0 small in
-    let step = nest_open-line b.clauses b.nest x line.0 in
-    line_first (nest_open b.clauses b.nest) x code allowed
+    let step = open_nest-line without_end b.clauses b.nest x line.0 in
+    line_first (open_nest without_end b.clauses b.nest) x code allowed
     (subst (λ nest. Segments nest code) step
-    (segments n blocks weights jobs next code l h (subst EachSome (sym step) (some_next (nest_open b.clauses b.nest) x allowed)) rest.1))
+    (segments n blocks weights jobs next code l h (subst EachSome (sym step) (some_next (open_nest without_end b.clauses b.nest) x allowed)) rest.1))
 
 whole : (code : List Instruction) → Segments [] code → Balanced code (launched code) (scopes_from [] code)
 whole _ (Segments.last code bs n b) = subst (λ m. Balanced code (launched code) m) (sym (scopes_from-Balanced code bs n b)) (subst (λ l. Balanced code l n) (sym (launched-Balanced code bs n b)) b)
@@ -381,20 +303,16 @@ unfolding EachSome
 some_push [] w h le = (le, tt)
 some_push (v ∷ weights) w h le = (h.0, some_push weights w h.1 le)
 
-nothing_open : (name : List ℕ) → EachSome (nest_open (opened name).clauses (opened name).nest)
-unfolding EachSome nest_open
+nothing_open : (name : List ℕ) → EachSome (open_nest without_end (opened name).clauses (opened name).nest)
+unfolding EachSome
 nothing_open name = tt
-
-opened_none : (name : List ℕ) (code : List Instruction) → Segments (nest_open (opened name).clauses (opened name).nest) code → Segments [] code
-unfolding nest_open
-opened_none name code s = s
 
 blocks-balance : (n : ℕ) (before : List (List ℕ)) (weights : List ℕ) (bs : List Block) (j : ℕ) (b : Block) → length weights ≡ length before → EachSome weights → blocks_fit n before weights bs ≡ true → slice_get bs j ≡ Some b → Balanced b.code (launched b.code) (scopes_from [] b.code)
 blocks-balance n before weights [] j b l h e at = cc
 blocks-balance n before weights (c ∷ bs) zero b l h e at =
     let same : c ≡ b = cc in
     let two = both_true _ _ (both_true _ _ e).1 in
-    subst (λ (d : Block). Balanced d.code (launched d.code) (scopes_from [] d.code)) same (whole c.code (opened_none c.name c.code (segments n before weights c.jobs (opened c.name) c.code l h (nothing_open c.name) two.0)))
+    subst (λ (d : Block). Balanced d.code (launched d.code) (scopes_from [] d.code)) same (whole c.code (segments n before weights c.jobs (opened c.name) c.code l h (nothing_open c.name) two.0))
 blocks-balance n before weights (c ∷ bs) (suc j) b l h e at =
     let two = both_true _ _ (both_true _ _ e).1 in
     let grows = weight_grows weights c.jobs (opened c.name) c.code in

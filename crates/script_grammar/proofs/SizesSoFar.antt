@@ -14,7 +14,8 @@ use Rattle.script_grammar.proofs.NamedIsDeclared.{fits-launch}
 use Rattle.script_grammar.proofs.SpelledIsProgram.{lines_stand, IsOpen, IsCurrent, IsSound}
 use Rattle.script_grammar.proofs.Layouts.{layout, next_layout, layouts-push}
 use Rattle.script_grammar.proofs.LaunchesCounted.{total, total-launched, launches_from-push}
-use Rattle.script_grammar.proofs.JobsCounted.{open_nest, open_nest-with_lines, product-open_nest, weight_at, weight-with_lines, instance_jobs, layouts-weigh}
+use Rattle.script_grammar.proofs.NestAfterLines.{open_nest}
+use Rattle.script_grammar.proofs.JobsCounted.{open_nest-with_lines, product-open_nest, weight_at, weight-with_lines, instance_jobs, layouts-weigh}
 
 -- ---- closed blocks
 
@@ -44,10 +45,10 @@ size_in-light n bs fit k h = omega (arith, some_jobs bs (layout (layouts bs) k),
 
 -- ---- the open block
 
-nest_through-open : (n : ℕ) (names : List (List ℕ)) (weights : List ℕ) (b : Open) → IsOpen n names weights b → nest_through [] b.code ≡ open_nest b.clauses b.nest
+nest_through-open : (n : ℕ) (names : List (List ℕ)) (weights : List ℕ) (b : Open) → IsOpen n names weights b → nest_through [] b.code ≡ open_nest 1 b.clauses b.nest
 nest_through-open n names weights b is =
     sym (open_nest-with_lines n names weights b.jobs (opened b.name) b.code is.lines)
-    ∙ ap (λ (c : Open). open_nest c.clauses c.nest) is.same
+    ∙ ap (λ (c : Open). open_nest 1 c.clauses c.nest) is.same
 
 -- one line more adds what it launches, as often as the lines round it run
 pub launches_from-line : (count : ℕ → ℕ) (n : ℕ) (names : List (List ℕ)) (weights : List ℕ) (b : Open) (x : Instruction) → IsOpen n names weights b → launches_from count [] (b.code ++ x ∷ []) ≡ launches_from count [] b.code + product b.nest * counted count (launch_of x)

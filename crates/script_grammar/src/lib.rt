@@ -27,7 +27,7 @@
 //!   `LinesWritten`, `TextPrinted`.
 //! - What is spelled is a program, and is read again where it is printed: `SpelledIsProgram`.
 //! - What a line opens is closed: `OpenedIsClosed`. What is named is declared: `NamedIsDeclared`.
-//! - A launch counts as often as it runs: `LaunchesCounted`. The load is the number of Jobs: `Layouts`, `JobsCounted`.
+//! - A launch counts as often as it runs: `LaunchesCounted`. The load is the number of Jobs: `Layouts`, `NestAfterLines`, `JobsCounted`.
 //! - No tag is launched twice: `Layouts`, `LaunchedTags`.
 //! - The generated text spells the generated script: `GeneratedScript`.
 //!
