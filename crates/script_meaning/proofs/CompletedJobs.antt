@@ -43,32 +43,21 @@ IsForCancel : Option Job → Type 0
 IsForCancel None = ⊥
 IsForCancel (Some j) = is_for_cancel j.state ≡ true
 
+completed_is : (s : JobState) → is_completed s ≡ true → s ≡ Completed
+completed_is Completed e = refl
+completed_is other e = cc
+
 not_cancellable : (s : JobState) → is_cancellable s ≡ true → is_completed s ≡ true → ⊥
-not_cancellable New c e = cc
-not_cancellable Active c e = cc
-not_cancellable Completing c e = cc
-not_cancellable Cancelling c e = cc
-not_cancellable Cancelled c e = cc
-not_cancellable Completed c e = cc
+not_cancellable s c e = let no_way : is_cancellable Completed ≡ true = sym (ap is_cancellable (completed_is s e)) ∙ c in cc
 
 not_new : (s : JobState) → s ≡ New → is_completed s ≡ true → ⊥
 not_new s e f = let k : is_completed New ≡ true = ap is_completed (sym e) ∙ f in cc
 
 body_completed : (s : JobState) → is_completed s ≡ true → is_completed (state_after_body s) ≡ true
-body_completed New e = cc
-body_completed Active e = cc
-body_completed Completing e = cc
-body_completed Cancelling e = cc
-body_completed Cancelled e = cc
-body_completed Completed e = refl
+body_completed s e = ap (λ t. is_completed (state_after_body t)) (completed_is s e)
 
 end_completed : (s : JobState) (j : Job) (end : End) → end_of s j ≡ Some end → is_completed s ≡ true → is_completed (state_of_end end) ≡ true
-end_completed New j end m e = cc
-end_completed Active j end m e = cc
-end_completed Completing j end m e = cc
-end_completed Cancelling j end m e = cc
-end_completed Cancelled j end m e = cc
-end_completed Completed j end m e = cc
+end_completed s j end m e = let no_way : end_of Completed j ≡ Some end = sym (ap (λ t. end_of t j) (completed_is s e)) ∙ m in cc
 
 completed_lasts : Lasts (λ x. has_completed x ≡ true)
 completed_lasts = record {

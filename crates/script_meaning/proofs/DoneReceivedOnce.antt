@@ -1,8 +1,8 @@
 -- A coroutine that finds no place left on a done channel had attached its Job; and if it had a place of it before, it was told there that the
 -- channel is closed.
 use Rattle.std.proofs.lemmas.List.{append-nil}
-use Rattle.std.specs.Prelude.{◌≡◌, ℕ, zero, suc, ◌+◌, ◌<◌, ◌≤◌, ◌==◌, nat_le, ◌⊎◌, Bool, true, false, ◌||◌, ◌&&◌, List, [], ◌∷◌, ◌++◌, Option, Some, None, slice_get, refl}
-use Rattle.std.proofs.Common.{sym, ap, ◌∙◌, subst, inl, inr, ⊎_elim, append_assoc, arith}
+use Rattle.std.specs.Prelude.{◌≡◌, ℕ, ◌+◌, ◌<◌, ◌≤◌, ◌==◌, nat_le, ◌⊎◌, Bool, true, false, ◌||◌, ◌&&◌, List, [], ◌∷◌, ◌++◌, Option, Some, None, slice_get, refl}
+use Rattle.std.proofs.Common.{sym, ap, ◌∙◌, subst, inl, ⊎_elim, append_assoc, arith}
 use Rattle.std.proofs.lemmas.Bool.{eqb-true, eq-eqb, or_left, or_right, or_parts}
 use Rattle.std.proofs.lemmas.Bool.Decides.{nat_tests}
 use Rattle.co_base.specs.declared.names.WaitId.{WaitId}
@@ -26,11 +26,12 @@ use Rattle.script_grammar.specs.Tags.{spawned}
 use Rattle.script_meaning.specs.declared.stage.Stage.{Stage}
 use Rattle.script_meaning.specs.declared.stage.Stage.TheVariants.{Fresh, Running, Waiting, SeesJob, Unwinding, Leaving, SeesScope, Ended}
 use Rattle.script_meaning.specs.Shapes.{base_of}
-use Rattle.script_meaning.specs.Configs.{Config, Entered, in_repeat, in_each, in_scope, InScope, scope_in, fresh, at_stage, past_launch, named, set_row, innermost, LineIs}
+use Rattle.script_meaning.specs.Configs.{Config, Entered, in_repeat, in_each, in_scope, InScope, scope_in, fresh, at_stage, past_launch, named, innermost, LineIs}
 use Rattle.script_meaning.specs.Lines.{is_lazy, After, AfterAwait, Resumed, AtScopeEnd, AfterScope}
 use Rattle.script_meaning.specs.Moves.{Move}
 use Rattle.script_meaning.specs.Books.{Spawns, Begins, Reaches}
 use Rattle.script_meaning.proofs.CompletedJobs.{EndsSo, SeenAs, ends_left, ends_right}
+use Rattle.script_meaning.proofs.NamedRows.{none_there, named_or_old}
 use Rattle.script_meaning.proofs.TagsGiven.{launched_in, launched_then}
 use Rattle.script_meaning.proofs.DoneAsked.{admits_none, note_asks, asks_in, refusal_none}
 use Rattle.script_meaning.proofs.DonePlacesAsked.{placed_in, closed_in, entered_in, attached_in, placed_then, closed_then, entered_then, attached_then, either, never, launched_attached, entered_attached, not_asked, is_join, Receives, MoveAsks, move_asks}
@@ -207,25 +208,6 @@ once_step p k done told x group y row (OnceAsked.unwound u h) (MoveKind.sees s e
 once_step p k done told x group y row (OnceAsked.unwound u h) (MoveKind.breaks failure s f) = OnceAsked.unwound f (launched_more row told group h)
 
 -- ---- the rows of names and of scopes
-
-none_there : {A : Type 0} (i row : ℕ) → slice_get [] i ≡ Some row → A
-none_there zero row h = never (let no_way : false ≡ true = cc in no_way)
-none_there (suc i) row h = never (let no_way : false ≡ true = cc in no_way)
-
-set_or_old : (n row : ℕ) (rows : List ℕ) (i r : ℕ) → slice_get (set_row n row rows) i ≡ Some r → (r ≡ row) ⊎ (slice_get rows i ≡ Some r)
-unfolding set_row
-set_or_old zero row [] zero r h = inl (let e : r ≡ row = cc in e)
-set_or_old zero row [] (suc i) r h = none_there i r h
-set_or_old zero row (q ∷ rows) zero r h = inl (let e : r ≡ row = cc in e)
-set_or_old zero row (q ∷ rows) (suc i) r h = inr h
-set_or_old (suc n) row [] zero r h = inl (let e : r ≡ row = cc in e)
-set_or_old (suc n) row [] (suc i) r h = none_there i r h
-set_or_old (suc n) row (q ∷ rows) zero r h = inr h
-set_or_old (suc n) row (q ∷ rows) (suc i) r h = set_or_old n row rows i r h
-
-named_or_old : (job : Option ℕ) (row : ℕ) (rows : List ℕ) (i r : ℕ) → slice_get (named job row rows) i ≡ Some r → (r ≡ row) ⊎ (slice_get rows i ≡ Some r)
-named_or_old None row rows i r h = inr h
-named_or_old (Some n) row rows i r h = set_or_old n row rows i r h
 
 AreNames : List Told → List ℕ → Type 0
 AreNames told rows = (job row : ℕ) → slice_get rows job ≡ Some row → launched_in row told ≡ true

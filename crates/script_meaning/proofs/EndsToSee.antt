@@ -213,7 +213,7 @@ same_line p k x i j a b = let both_ways : Some i ≡ Some j = sym a ∙ b in cc
 after_sees : (p : Program) (k : ℕ) (all : List Told) (x : Config) (i : Instruction) (a : Answer) (y : Config) → LineIs p k x i
     → ((w : WaitId) (job row : ℕ) → i ≡ line.Await job → a ≡ Waits w → Names x job row → AwaitsOn all w (done_channel (base_of p) row))
     → ((v job row : ℕ) → i ≡ line.Await job → a ≡ Closed v → Names x job row → ToldClosed all (done_channel (base_of p) row))
-    → (i ≡ line.Select → x.stage ≡ Running)
+    → (a ≡ LooksAgain → x.stage ≡ Running)
     → After p k x i a y → Sees p k all y
 after_sees p k all x _ _ _ at w c r (After.waits i u) = waits_so p k all x u (λ job row l n. w u job row (same_line p k x i (line.Await job) at l) refl n)
 after_sees p k all x _ _ y at w c r (After.no_place i) = asks_none p k all y (Unwinding (Some k)) refl refl
@@ -252,22 +252,8 @@ no_select _ _ (Resumed.closed n v) e = cc
 resumed_sees : (p : Program) (k : ℕ) (all : List Told) (x : Config) (i : Instruction) (outcome : Settled) (a : Answer) (y : Config) → LineIs p k x i → Resumed outcome a
     → ((v job row : ℕ) → i ≡ line.Await job → a ≡ Closed v → Names x job row → ToldClosed all (done_channel (base_of p) row))
     → After p k x i a y → Sees p k all y
-resumed_sees p k all x _ outcome _ _ at m c After.looks_again = no_select outcome LooksAgain m refl
-resumed_sees p k all x _ outcome _ _ at m c (After.waits i u) = no_wait_then outcome (Waits u) u m refl
-resumed_sees p k all x _ outcome _ y at m c (After.no_place i) = asks_none p k all y (Unwinding (Some k)) refl refl
-resumed_sees p k all x _ outcome _ y at m c (After.sent d o) = asks_none p k all y Running refl refl
-resumed_sees p k all x _ outcome _ y at m c (After.tried_to_send d o) = asks_none p k all y Running refl refl
-resumed_sees p k all x _ outcome _ y at m c (After.got d v) = asks_none p k all y Running refl refl
-resumed_sees p k all x _ outcome _ y at m c (After.no_more d v) = asks_none p k all y Running refl refl
-resumed_sees p k all x _ outcome _ y at m c (After.tried_and_got d v) = asks_none p k all y Running refl refl
-resumed_sees p k all x _ outcome _ y at m c (After.tried_to_get d) = asks_none p k all y Running refl refl
-resumed_sees p k all x _ outcome _ y at m c (After.got_one_more d v) = asks_none p k all y Running refl refl
-resumed_sees p k all x _ outcome _ y at m c (After.got_all d v e f) = asks_none p k all y Running refl refl
-resumed_sees p k all x _ outcome _ y at m c (After.chose_send e f) = asks_none p k all y Running refl refl
-resumed_sees p k all x _ outcome _ y at m c (After.chose_got e v f) = asks_none p k all y Running refl refl
-resumed_sees p k all x _ outcome _ y at m c (After.chose_closed e v f) = asks_none p k all y Running refl refl
-resumed_sees p k all x _ outcome _ y at m c (After.joined job v) = asks_none p k all y Running refl refl
-resumed_sees p k all x _ outcome _ _ at m c (After.awaited job v) = sees_job_so p k all x (λ j row l n. c v j row (same_line p k x (line.Await job) (line.Await j) at l) refl n)
+resumed_sees p k all x i outcome a y at m c f =
+    after_sees p k all x i a y at (λ w job row l e n. no_wait_then outcome a w m e) c (λ e. no_select outcome a m e) f
 
 after_await_sees : (p : Program) (k : ℕ) (all : List Told) (x : Config) (end : End) (y : Config) → AfterAwait x end y → Sees p k all y
 after_await_sees p k all x _ y (AfterAwait.completed v) = asks_none p k all y Running refl refl

@@ -245,26 +245,11 @@ gentle_closes base (item.Job n ∷ items) h = let two = both (is_gentle_note n) 
 
 call_gentle : (base : ℕ) (n : ChannelNote) → is_mild_call base n ≡ true → is_gentle_call base n ≡ true
 call_gentle base (heard_as.Made act) e = e
-call_gentle base (heard_as.SendClosed c value v) e = refl
-call_gentle base (heard_as.TrySendClosed c value v) e = refl
-call_gentle base (heard_as.ReceiveClosed c v) e = refl
-call_gentle base (heard_as.TryReceiveClosed c v) e = refl
-call_gentle base (heard_as.AlreadyClosed c v) e = refl
-call_gentle base (heard_as.Full c value) e = refl
-call_gentle base (heard_as.Empty c) e = refl
-call_gentle base (heard_as.Spent c) e = refl
-call_gentle base (heard_as.Partner c place) e = refl
-call_gentle base (heard_as.MainResolved w) e = refl
-call_gentle base (heard_as.Late w) e = refl
+call_gentle base other e = refl
 
 note_gentle : (n : JobNote) → is_mild_note n ≡ true → is_gentle_note n ≡ true
 note_gentle (known.Made act) e = e
-note_gentle (known.Saw row) e = refl
-note_gentle (known.SawEnd row end) e = refl
-note_gentle (known.Fail code) e = refl
-note_gentle known.NoRow e = refl
-note_gentle known.Used e = refl
-note_gentle known.ParentEnded e = refl
+note_gentle other e = refl
 
 pub mild_gentle : (base : ℕ) (items : List Item) → list_all (is_mild base) items ≡ true → list_all (is_gentle base) items ≡ true
 mild_gentle base [] h = refl
@@ -276,50 +261,24 @@ flip true k = cc
 flip false k = refl
 
 call_unrefused : (base : ℕ) (n : ChannelNote) → is_ending_call base n ≡ true → is_channel_refusal base n ≡ false
-call_unrefused base (heard_as.Made act) e = refl
-call_unrefused base (heard_as.SendClosed c value v) e = refl
-call_unrefused base (heard_as.TrySendClosed c value v) e = refl
-call_unrefused base (heard_as.ReceiveClosed c v) e = refl
-call_unrefused base (heard_as.TryReceiveClosed c v) e = refl
-call_unrefused base (heard_as.AlreadyClosed c v) e = refl
-call_unrefused base (heard_as.Full c value) e = refl
-call_unrefused base (heard_as.Empty c) e = refl
 call_unrefused base (heard_as.Spent c) e = flip (nat_le base c) e
-call_unrefused base (heard_as.Partner c place) e = refl
-call_unrefused base (heard_as.MainResolved w) e = refl
-call_unrefused base (heard_as.Late w) e = refl
+call_unrefused base other e = refl
 
 mild_unspent : (base : ℕ) (n : ChannelNote) → is_mild_call base n ≡ true → is_ending_call base n ≡ true
-mild_unspent base (heard_as.Made act) e = refl
-mild_unspent base (heard_as.SendClosed c value v) e = refl
-mild_unspent base (heard_as.TrySendClosed c value v) e = refl
-mild_unspent base (heard_as.ReceiveClosed c v) e = refl
-mild_unspent base (heard_as.TryReceiveClosed c v) e = refl
-mild_unspent base (heard_as.AlreadyClosed c v) e = refl
-mild_unspent base (heard_as.Full c value) e = refl
-mild_unspent base (heard_as.Empty c) e = refl
 mild_unspent base (heard_as.Spent c) e = e
-mild_unspent base (heard_as.Partner c place) e = refl
-mild_unspent base (heard_as.MainResolved w) e = refl
-mild_unspent base (heard_as.Late w) e = refl
+mild_unspent base other e = refl
 
 mild_unrefused_note : (n : JobNote) → is_mild_note n ≡ true → is_job_refusal n ≡ false
-mild_unrefused_note (known.Made act) e = refl
-mild_unrefused_note (known.Saw row) e = refl
-mild_unrefused_note (known.SawEnd row end) e = refl
-mild_unrefused_note (known.Fail code) e = refl
 mild_unrefused_note known.NoRow e = cc
 mild_unrefused_note known.Used e = cc
 mild_unrefused_note known.ParentEnded e = cc
+mild_unrefused_note other e = refl
 
 ending_unrefused_note : (n : JobNote) → is_ending_note n ≡ true → is_job_refusal n ≡ false
-ending_unrefused_note (known.Made act) e = refl
-ending_unrefused_note (known.Saw row) e = refl
-ending_unrefused_note (known.SawEnd row end) e = refl
-ending_unrefused_note (known.Fail code) e = refl
 ending_unrefused_note known.NoRow e = cc
 ending_unrefused_note known.Used e = cc
 ending_unrefused_note known.ParentEnded e = cc
+ending_unrefused_note other e = refl
 
 nor : (a b : Bool) → a ≡ false → b ≡ false → (a || b) ≡ false
 nor a b e f = ap (λ x. x || b) e ∙ f
@@ -378,12 +337,7 @@ free_rows told h = free_acts (items_in told) h
 
 ending_free_note : (n : JobNote) → is_ending_note n ≡ true → attaches_no_row_note n ≡ true
 ending_free_note (known.Made act) e = e
-ending_free_note (known.Saw row) e = refl
-ending_free_note (known.SawEnd row end) e = refl
-ending_free_note (known.Fail code) e = refl
-ending_free_note known.NoRow e = refl
-ending_free_note known.Used e = refl
-ending_free_note known.ParentEnded e = refl
+ending_free_note other e = refl
 
 ending_free : (base : ℕ) (items : List Item) → list_all (is_ending base) items ≡ true → list_all attaches_no_row items ≡ true
 ending_free base [] h = refl

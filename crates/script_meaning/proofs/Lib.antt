@@ -32,6 +32,7 @@ pub mod MovesFall
 pub mod OwnActs
 pub mod BodiesTold
 pub mod ScopesEntered
+pub mod NamedRows
 pub mod StagesReached
 pub mod WaitsPlaced
 pub mod LinesLeft

@@ -222,27 +222,8 @@ is_each (line.Each c) = true
 is_each other = false
 
 not_each : (p : Program) (n : ℕ) (i : Instruction) → is_each i ≡ false → each_weight p n (Some i) ≡ 0
-not_each p n (line.Send c v) e = refl
-not_each p n (line.TrySend c v) e = refl
-not_each p n (line.Receive c) e = refl
-not_each p n (line.TryReceive c) e = refl
-not_each p n (line.Close c) e = refl
-not_each p n (line.CancelChannel c) e = refl
-not_each p n line.Yield e = refl
-not_each p n (line.Launch b how job) e = refl
-not_each p n (line.Start job) e = refl
-not_each p n (line.Join job) e = refl
-not_each p n (line.Await job) e = refl
-not_each p n (line.Cancel job) e = refl
-not_each p n (line.Fail v) e = refl
-not_each p n (line.SetResult v) e = refl
-not_each p n (line.Repeat m) e = refl
 not_each p n (line.Each c) e = cc
-not_each p n (line.Scope supervisor) e = refl
-not_each p n line.Select e = refl
-not_each p n (line.OnSend c v) e = refl
-not_each p n (line.OnReceive c) e = refl
-not_each p n line.End e = refl
+not_each p n other e = refl
 
 -- another line goes on, but for a select that looks again
 call_lower : (p : Program) (k : ℕ) (x : Config) (i : Instruction) (a : Answer) (y : Config) → x.stage ≡ Running → LineIs p k x i → is_each i ≡ false → After p k x i a y → (moves_left p k y < moves_left p k x) ⊎ ((i ≡ line.Select) × (a ≡ LooksAgain) × (y ≡ x))

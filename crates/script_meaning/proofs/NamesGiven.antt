@@ -150,27 +150,10 @@ no_select code (n ∷ nest) heads (d ∷ ds) hs h m e at = no_select code nest (
 
 -- in a select stand clauses and its end
 in_select : (cs nest : List ℕ) (x : Instruction) → stands (Some cs) nest x ≡ true → job_given x ≡ None
-in_select cs nest (line.Send c v) s = cc
-in_select cs nest (line.TrySend c v) s = cc
-in_select cs nest (line.Receive c) s = cc
-in_select cs nest (line.TryReceive c) s = cc
-in_select cs nest (line.Close c) s = cc
-in_select cs nest (line.CancelChannel c) s = cc
-in_select cs nest line.Yield s = cc
-in_select cs nest (line.Launch b how job) s = cc
-in_select cs nest (line.Start job) s = cc
-in_select cs nest (line.Join job) s = cc
-in_select cs nest (line.Await job) s = cc
-in_select cs nest (line.Cancel job) s = cc
-in_select cs nest (line.Fail v) s = cc
-in_select cs nest (line.SetResult v) s = cc
-in_select cs nest (line.Repeat n) s = cc
-in_select cs nest (line.Each c) s = cc
-in_select cs nest (line.Scope supervisor) s = cc
-in_select cs nest line.Select s = cc
 in_select cs nest (line.OnSend c v) s = refl
 in_select cs nest (line.OnReceive c) s = refl
 in_select cs nest line.End s = refl
+in_select cs nest other s = cc
 
 -- a line that gives a name is a launch
 pub data GivesOrNot (x : Instruction) : Type 0 where

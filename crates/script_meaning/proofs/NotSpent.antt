@@ -9,7 +9,7 @@ use Rattle.std.proofs.lemmas.List.{length-map, get_or-replicate, append-nil}
 use Rattle.std.proofs.lemmas.List.Folds.{list_any-append}
 use mathlib.Core.List.{IsPrefix}
 use Rattle.channel_model.specs.declared.acts.Act.{Act}
-use Rattle.channel_model.specs.declared.acts.Act.TheVariants.{Hand, Put, Offer, Await, Take, Admit, Drop, Close, Void, Drain, WakeClosed, Withdraw, Settle}
+use Rattle.channel_model.specs.declared.acts.Act.TheVariants.{Offer, Await}
 use Rattle.channel_model.specs.declared.acts.Kind.{Kind}
 use Rattle.channel_model.specs.declared.acts.Kind.TheVariants.{Signal}
 use Rattle.channel_model.specs.declared.acts.ChannelNote.{ChannelNote}
@@ -52,8 +52,8 @@ use Rattle.script_meaning.proofs.BooksGoOn.{items_in-append}
 use Rattle.script_meaning.proofs.CompletedJobs.{ends_so, completed_in}
 use Rattle.script_meaning.proofs.TagsReached.{launched_in_run}
 use Rattle.script_meaning.proofs.RowsEntered.{enters_row, scope_rows}
-use Rattle.script_meaning.proofs.DoneAsked.{admits_none, gives_place, item_asks}
-use Rattle.script_meaning.proofs.DonePlacesAsked.{places_on, ends_closed, placed_in, closed_in, attached_in, attached_then, MoveAsks, move_asks}
+use Rattle.script_meaning.proofs.DoneAsked.{admits_none, item_asks}
+use Rattle.script_meaning.proofs.DonePlacesAsked.{places_on, ends_closed, placed_in, closed_in, attached_in, attached_then, not_asked, MoveAsks, move_asks}
 use Rattle.script_meaning.proofs.DoneReceivedOnce.{begins_ask, AreApart, NoteAsked, AllAsked, ReachAsks, reach_asks}
 use Rattle.script_meaning.proofs.PlacesGiven.{given_by, plain_at, ended_closed, all_from_each}
 use Rattle.script_meaning.proofs.NoRefusals.{AreClaimed, stands_give, is_spent, polled_attaches}
@@ -64,45 +64,20 @@ and_both : (a b : Bool) → a ≡ true → b ≡ true → (a && b) ≡ true
 and_both true b e f = f
 and_both false b e f = cc
 
-other_channel : (base c d : ℕ) (b : Bool) → base ≤ c → nat_le base d ≡ false → (not (d == c) || b) ≡ true
-other_channel base c d b le e = by_test (d == c) (grind (arith, nat_tests))
-  where
-    by_test : (t : Bool) → t ≡ false → (not t || b) ≡ true
-    by_test true f = cc
-    by_test false f = refl
+-- a clause with another number stands on a channel of which a place is given
+act_plain : (c : ℕ) (act : Act) → places_on c act ≡ false → plain_at c act ≡ true
+act_plain c (Offer d q v w n) e = ap (λ b. not b || (n == 0)) e
+act_plain c (Await d q w n) e = ap (λ b. not b || (n == 0)) e
+act_plain c other e = refl
 
-act_plain : (base c : ℕ) (act : Act) → base ≤ c → gives_place base act ≡ false → plain_at c act ≡ true
-act_plain base c (Hand d q v) le e = refl
-act_plain base c (Put d q v) le e = refl
-act_plain base c (Offer d q v w n) le e = other_channel base c d (n == 0) le e
-act_plain base c (Await d q w n) le e = other_channel base c d (n == 0) le e
-act_plain base c (Take d q v) le e = refl
-act_plain base c (Admit d q) le e = refl
-act_plain base c (Drop d q v) le e = refl
-act_plain base c (Close d v) le e = refl
-act_plain base c (Void d) le e = refl
-act_plain base c (Drain d q v) le e = refl
-act_plain base c (WakeClosed d q) le e = refl
-act_plain base c (Withdraw w why) le e = refl
-act_plain base c (Settle w outcome) le e = refl
+acts_plain : (c : ℕ) (acts : List Act) → list_any (places_on c) acts ≡ false → list_all (plain_at c) acts ≡ true
+acts_plain c [] e = refl
+acts_plain c (act ∷ acts) e =
+    let two = or_parts (places_on c act) (list_any (places_on c) acts) e in
+    and_both (plain_at c act) (list_all (plain_at c) acts) (act_plain c act two.0) (acts_plain c acts two.1)
 
 quiet_plain : (base c : ℕ) (items : List Item) → base ≤ c → list_any (item_asks base) items ≡ false → list_all (plain_at c) (channel_acts_in items) ≡ true
-quiet_plain base c [] le e = refl
-quiet_plain base c (item.Job n ∷ items) le e = quiet_plain base c items le e
-quiet_plain base c (item.Channel (of_channel.Made act) ∷ items) le e =
-    let two = or_parts (gives_place base act) (list_any (item_asks base) items) e in
-    and_both (plain_at c act) (list_all (plain_at c) (channel_acts_in items)) (act_plain base c act le two.0) (quiet_plain base c items le two.1)
-quiet_plain base c (item.Channel (of_channel.SendClosed d u v) ∷ items) le e = quiet_plain base c items le e
-quiet_plain base c (item.Channel (of_channel.TrySendClosed d u v) ∷ items) le e = quiet_plain base c items le e
-quiet_plain base c (item.Channel (of_channel.ReceiveClosed d v) ∷ items) le e = quiet_plain base c items le e
-quiet_plain base c (item.Channel (of_channel.TryReceiveClosed d v) ∷ items) le e = quiet_plain base c items le e
-quiet_plain base c (item.Channel (of_channel.AlreadyClosed d v) ∷ items) le e = quiet_plain base c items le e
-quiet_plain base c (item.Channel (of_channel.Full d v) ∷ items) le e = quiet_plain base c items le e
-quiet_plain base c (item.Channel (of_channel.Empty d) ∷ items) le e = quiet_plain base c items le e
-quiet_plain base c (item.Channel (of_channel.Spent d) ∷ items) le e = quiet_plain base c items le (or_parts (nat_le base d) (list_any (item_asks base) items) e).1
-quiet_plain base c (item.Channel (of_channel.Partner d q) ∷ items) le e = quiet_plain base c items le e
-quiet_plain base c (item.Channel (of_channel.MainResolved w) ∷ items) le e = quiet_plain base c items le e
-quiet_plain base c (item.Channel (of_channel.Late w) ∷ items) le e = quiet_plain base c items le e
+quiet_plain base c items le e = acts_plain c (channel_acts_in items) (not_asked base c items le e)
 
 abbrev plain_in : ℕ → List Told → Bool
 plain_in c told = list_all (plain_at c) (channel_acts_in (items_in told))

@@ -1,6 +1,6 @@
 -- What a coroutine saw before it came to a stage: of its own Job, before it began; of an ended Job, before it unwinds by another's
 -- failure; and that each Job that it has a name for is one that it attached.
-use Rattle.std.specs.Prelude.{◌≡◌, ℕ, zero, suc, ◌<◌, ◌⊎◌, Bool, true, false, ◌||◌, List, [], ◌∷◌, ◌++◌, Option, Some, None, slice_get, refl}
+use Rattle.std.specs.Prelude.{◌≡◌, ℕ, ◌<◌, ◌⊎◌, Bool, true, false, ◌||◌, List, [], ◌∷◌, ◌++◌, Some, None, slice_get, refl}
 use Rattle.std.proofs.Common.{sym, ap, ◌∙◌, subst, inl, inr, ⊎_elim, append_assoc}
 use Rattle.std.proofs.lemmas.Bool.{eq-eqb}
 use Rattle.job_model.specs.declared.acts.Cause.TheVariants as because
@@ -16,11 +16,12 @@ use Rattle.script_grammar.specs.Programs.{Program}
 use Rattle.script_grammar.specs.Tags.{spawned}
 use Rattle.script_meaning.specs.declared.stage.Stage.{Stage}
 use Rattle.script_meaning.specs.declared.stage.Stage.TheVariants.{Fresh, Running, Waiting, SeesJob, Unwinding, Leaving, SeesScope, Ended}
-use Rattle.script_meaning.specs.Configs.{Config, InScope, fresh, past_launch, named, set_row, innermost}
+use Rattle.script_meaning.specs.Configs.{Config, InScope, fresh, past_launch, innermost}
 use Rattle.script_meaning.specs.Lines.{After, AfterAwait, AtScopeEnd, AfterScope, is_lazy}
 use Rattle.script_meaning.specs.Moves.{Move}
 use Rattle.script_meaning.specs.Books.{Spawns, Begins, Reaches}
 use Rattle.script_meaning.specs.Bodies.{is_fresh}
+use Rattle.script_meaning.proofs.NamedRows.{none_there, named_or_old, call_names, await_names, scope_end_names, past_scope_names}
 use Rattle.script_meaning.proofs.BodiesTold.{acts_told, attaches_in, HasBegun, FailedBy, UnwindsBy}
 use Rattle.script_meaning.proofs.FirstNotes.{first_told}
 use Rattle.script_meaning.proofs.OwnActs.{AllMayCome, placed_first}
@@ -175,25 +176,6 @@ reach_fails p k _ _ (Reaches.goes_on before group all x y r m e) = unwinds_later
 
 -- ---- each name means a row that the coroutine attached, that of a coroutine
 
-none_there : {A : Type 0} (i row : ℕ) → slice_get [] i ≡ Some row → A
-none_there zero row h = absurd (let no_way : ⊥ = cc in no_way)
-none_there (suc i) row h = absurd (let no_way : ⊥ = cc in no_way)
-
-set_or_old : (n row : ℕ) (rows : List ℕ) (i r : ℕ) → slice_get (set_row n row rows) i ≡ Some r → (r ≡ row) ⊎ (slice_get rows i ≡ Some r)
-unfolding set_row
-set_or_old zero row [] zero r h = inl (let e : r ≡ row = cc in e)
-set_or_old zero row [] (suc i) r h = none_there i r h
-set_or_old zero row (q ∷ rows) zero r h = inl (let e : r ≡ row = cc in e)
-set_or_old zero row (q ∷ rows) (suc i) r h = inr h
-set_or_old (suc n) row [] zero r h = inl (let e : r ≡ row = cc in e)
-set_or_old (suc n) row [] (suc i) r h = none_there i r h
-set_or_old (suc n) row (q ∷ rows) zero r h = inr h
-set_or_old (suc n) row (q ∷ rows) (suc i) r h = set_or_old n row rows i r h
-
-named_or_old : (job : Option ℕ) (row : ℕ) (rows : List ℕ) (i r : ℕ) → slice_get (named job row rows) i ≡ Some r → (r ≡ row) ⊎ (slice_get rows i ≡ Some r)
-named_or_old None row rows i r h = inr h
-named_or_old (Some n) row rows i r h = set_or_old n row rows i r h
-
 -- the group attaches the row as that of a coroutine
 pub record AttachesForName (k r : ℕ) (group : List Told) : Type 0 where
   pub parent : ℕ
@@ -205,50 +187,17 @@ pub record AttachesForName (k r : ℕ) (group : List Told) : Type 0 where
 abbrev pub OldOrNew : ℕ → ℕ → ℕ → Config → List Told → Type 0
 OldOrNew k i r x group = (slice_get x.rows i ≡ Some r) ⊎ AttachesForName k r group
 
-after_rows : (p : Program) (k : ℕ) (x : Config) (i : Instruction) (a : Answer) (y : Config) → After p k x i a y → y.rows ≡ x.rows
-after_rows p k x _ _ _ (After.waits i w) = refl
-after_rows p k x _ _ _ (After.no_place i) = refl
-after_rows p k x _ _ _ (After.sent c o) = refl
-after_rows p k x _ _ _ (After.tried_to_send c o) = refl
-after_rows p k x _ _ _ (After.got c v) = refl
-after_rows p k x _ _ _ (After.no_more c v) = refl
-after_rows p k x _ _ _ (After.tried_and_got c v) = refl
-after_rows p k x _ _ _ (After.tried_to_get c) = refl
-after_rows p k x _ _ _ (After.got_one_more c v) = refl
-after_rows p k x _ _ _ (After.got_all c v e is) = refl
-after_rows p k x _ _ _ (After.chose_send e is) = refl
-after_rows p k x _ _ _ (After.chose_got e v is) = refl
-after_rows p k x _ _ _ (After.chose_closed e v is) = refl
-after_rows p k x _ _ _ After.looks_again = refl
-after_rows p k x _ _ _ (After.joined job v) = refl
-after_rows p k x _ _ _ (After.awaited job v) = refl
-
-await_rows : (x : Config) (end : End) (y : Config) → AfterAwait x end y → y.rows ≡ x.rows
-await_rows x _ _ (AfterAwait.completed v) = refl
-await_rows x _ _ AfterAwait.cancelled = refl
-await_rows x _ _ (AfterAwait.failed f) = refl
-
-scope_end_rows : (k : ℕ) (x : Config) (s : InScope) (a : Answer) (y : Config) → AtScopeEnd k x s a y → y.rows ≡ x.rows
-scope_end_rows k x s _ _ (AtScopeEnd.waits w) = refl
-scope_end_rows k x s _ _ (AtScopeEnd.closed v) = refl
-scope_end_rows k x s _ _ AtScopeEnd.no_place = refl
-
-scope_rows_same : (p : Program) (k : ℕ) (x : Config) (s : InScope) (end : End) (y : Config) → AfterScope p k x s end y → y.rows ≡ x.rows
-scope_rows_same p k x s _ _ (AfterScope.completed v e is) = refl
-scope_rows_same p k x s _ _ AfterScope.cancelled = refl
-scope_rows_same p k x s _ _ (AfterScope.failed f) = refl
-
 old : (k i r : ℕ) (x y : Config) (group : List Told) → y.rows ≡ x.rows → slice_get y.rows i ≡ Some r → OldOrNew k i r x group
 old k i r x y group e h = inl (subst (λ rows. slice_get rows i ≡ Some r) e h)
 
 move_rows : (p : Program) (k i r : ℕ) (x : Config) (group : List Told) (y : Config) → Move p k x group y → slice_get y.rows i ≡ Some r → OldOrNew k i r x group
 move_rows p k i r _ _ _ (Move.runs x s) z = inl z
 move_rows p k i r _ _ _ (Move.never_runs x s) z = inl z
-move_rows p k i r _ _ _ (Move.calls x y l g a at h f) z = old k i r x y g (after_rows p k x l a y f) z
-move_rows p k i r _ _ _ (Move.resumes x y w l outcome a s at m f) z = old k i r x y _ (after_rows p k x l a y f) z
+move_rows p k i r _ _ _ (Move.calls x y l g a at h f) z = old k i r x y g (call_names p k x l a y f).0 z
+move_rows p k i r _ _ _ (Move.resumes x y w l outcome a s at m f) z = old k i r x y _ (call_names p k x l a y f).0 z
 move_rows p k i r _ _ _ (Move.cancelled x w s) z = inl z
 move_rows p k i r _ _ _ (Move.gives_up x w g s h) z = inl z
-move_rows p k i r _ _ _ (Move.sees_job x y job row end s l n f) z = old k i r x y _ (await_rows x end y f) z
+move_rows p k i r _ _ _ (Move.sees_job x y job row end s l n f) z = old k i r x y _ (await_names x end y f).0 z
 move_rows p k i r _ _ _ (Move.closes x c g at h) z = inl z
 move_rows p k i r _ _ _ (Move.cancels_channel x c g at h) z = inl z
 move_rows p k i r _ _ _ (Move.yields x at) z = inl z
@@ -270,10 +219,10 @@ move_rows p k i r _ _ _ (Move.repeats x n at) z = inl z
 move_rows p k i r _ _ _ (Move.turns_again x head n es at e) z = inl z
 move_rows p k i r _ _ _ (Move.turns_no_more x head es at e) z = inl z
 move_rows p k i r _ _ _ (Move.receives_again x head es at e) z = inl z
-move_rows p k i r _ _ _ (Move.ends_scope x y s end g all a at e h c f q) z = old k i r x y all (scope_end_rows k x s a y f) z
+move_rows p k i r _ _ _ (Move.ends_scope x y s end g all a at e h c f q) z = old k i r x y all (scope_end_names k x s a y f).0 z
 move_rows p k i r _ _ _ (Move.scope_ended x w n v s) z = inl z
-move_rows p k i r _ _ _ (Move.sees_scope x y s end l e f) z = old k i r x y _ (scope_rows_same p k x s end y f) z
-move_rows p k i r _ _ _ (Move.breaks_scope x y s failure break g all a l e h c f q) z = old k i r x y all (scope_end_rows k x s a y f) z
+move_rows p k i r _ _ _ (Move.sees_scope x y s end l e f) z = old k i r x y _ (past_scope_names p k x s end y f).0 z
+move_rows p k i r _ _ _ (Move.breaks_scope x y s failure break g all a l e h c f q) z = old k i r x y all (scope_end_names k x s a y f).0 z
 move_rows p k i r _ _ _ (Move.breaks x failure g s e h) z = inl z
 move_rows p k i r _ _ _ (Move.ends x g s e h) z = inl z
 

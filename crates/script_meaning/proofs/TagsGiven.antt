@@ -39,6 +39,7 @@ use Rattle.script_meaning.proofs.JobDebts.{Parents, AllKnown, known_left}
 use Rattle.script_meaning.proofs.LinesLeft.{Left, First}
 use Rattle.script_meaning.proofs.LinesPassed.{first_at, next_line, enter_repeat, enter_each, past_each, past_select, enter_scope, end_again, end_last, end_each, end_scope}
 use Rattle.script_meaning.proofs.AttachesTold.{attach_in, neither, is_attach, item_attaches, line_none, plain_none, gives_up_none, closes_none, cancels_channel_none, starts_none, passes_none, ends_none, breaks_off_none}
+use Rattle.script_meaning.proofs.NamedRows.{call_names, await_names, scope_end_names, past_scope_names}
 use Rattle.script_meaning.proofs.CompletedJobs.{EndsSo, SeenAs, ends_left, ends_right}
 
 -- ---- what is told of launches and scopes
@@ -223,24 +224,6 @@ call_leaves p k done x _ _ _ h left at After.looks_again = h.left
 call_leaves p k done x _ _ _ h left at (After.joined job v) = idle_next p k done x (line.Join job) h left at refl refl refl
 call_leaves p k done x _ _ _ h left at (After.awaited job v) = left
 
-pub call_free : (p : Program) (k : ℕ) (x : Config) (i : Instruction) (a : Answer) (y : Config) → After p k x i a y → y.free ≡ x.free
-call_free p k x _ _ _ (After.waits i w) = refl
-call_free p k x _ _ _ (After.no_place i) = refl
-call_free p k x _ _ _ (After.sent c o) = refl
-call_free p k x _ _ _ (After.tried_to_send c o) = refl
-call_free p k x _ _ _ (After.got c v) = refl
-call_free p k x _ _ _ (After.no_more c v) = refl
-call_free p k x _ _ _ (After.tried_and_got c v) = refl
-call_free p k x _ _ _ (After.tried_to_get c) = refl
-call_free p k x _ _ _ (After.got_one_more c v) = refl
-call_free p k x _ _ _ (After.got_all c v e f) = refl
-call_free p k x _ _ _ (After.chose_send e f) = refl
-call_free p k x _ _ _ (After.chose_got e v f) = refl
-call_free p k x _ _ _ (After.chose_closed e v f) = refl
-call_free p k x _ _ _ After.looks_again = refl
-call_free p k x _ _ _ (After.joined job v) = refl
-call_free p k x _ _ _ (After.awaited job v) = refl
-
 -- at the end of a scope, and behind it
 same_scope : (entered : List Entered) (s t : InScope) → scope_in entered ≡ Some s → scope_in entered ≡ Some t → s ≡ t
 same_scope entered s t e f = let both_some : Some s ≡ Some t = sym e ∙ f in cc
@@ -268,31 +251,16 @@ at_end_leaves p k done x s _ _ blocks scopes h (AtScopeEnd.waits w) = h
 at_end_leaves p k done x s _ _ blocks scopes h (AtScopeEnd.closed v) = h
 at_end_leaves p k done x s _ _ blocks scopes h AtScopeEnd.no_place = tt
 
-pub at_end_free : (k : ℕ) (x : Config) (s : InScope) (a : Answer) (y : Config) → AtScopeEnd k x s a y → y.free ≡ x.free
-at_end_free k x s _ _ (AtScopeEnd.waits w) = refl
-at_end_free k x s _ _ (AtScopeEnd.closed v) = refl
-at_end_free k x s _ _ AtScopeEnd.no_place = refl
-
 past_scope : (p : Program) (k : ℕ) (done : ℕ → Bool) (x : Config) (s : InScope) (end : End) (y : Config) (blocks : List ℕ) (scopes : ℕ) → scope_in x.entered ≡ Some s → SeenAs done s.row end → ScopeLeaves p k done x.entered blocks scopes → AfterScope p k x s end y
     → LinesLeave p k done y.stage y.line y.entered blocks scopes
 past_scope p k done x s _ _ blocks scopes is seen h (AfterScope.completed v e c) = ⊎_elim (λ f. never (sym f ∙ seen)) (λ f. f e c) (h s is)
 past_scope p k done x s _ _ blocks scopes is seen h AfterScope.cancelled = tt
 past_scope p k done x s _ _ blocks scopes is seen h (AfterScope.failed f) = tt
 
-pub past_free : (p : Program) (k : ℕ) (x : Config) (s : InScope) (end : End) (y : Config) → AfterScope p k x s end y → y.free ≡ x.free
-past_free p k x s _ _ (AfterScope.completed v e c) = refl
-past_free p k x s _ _ AfterScope.cancelled = refl
-past_free p k x s _ _ (AfterScope.failed f) = refl
-
 await_leaves : (p : Program) (k : ℕ) (done : ℕ → Bool) (x : Config) (job : ℕ) (end : End) (y : Config) (h : Gives p k done x) → AtLine p k x.line x.entered h.passed h.scopes → slice_get (code_of p k) x.line ≡ Some (line.Await job) → AfterAwait x end y → LinesLeave p k done y.stage y.line y.entered (drop h.passed (launches_of p k)) h.scopes
 await_leaves p k done x job _ _ h left at (AfterAwait.completed v) = idle_next p k done x (line.Await job) h left at refl refl refl
 await_leaves p k done x job _ _ h left at AfterAwait.cancelled = tt
 await_leaves p k done x job _ _ h left at (AfterAwait.failed f) = tt
-
-pub await_free : (x : Config) (end : End) (y : Config) → AfterAwait x end y → y.free ≡ x.free
-await_free x _ _ (AfterAwait.completed v) = refl
-await_free x _ _ AfterAwait.cancelled = refl
-await_free x _ _ (AfterAwait.failed f) = refl
 
 -- a launch that is made, at a line or by a spawn
 pub launch_of_row : (p : Program) (k parent free size r : ℕ) (lazy now : Bool) → LaunchesAt p k free → 1 ≤ size → launched_in r (did (Attach parent free (child_kind lazy) free now) ∷ []) ≡ true → LaunchesAt p k r × (r < free + size)
@@ -357,11 +325,11 @@ pub move_gives : (p : Program) (k : ℕ) (parents : Parents) (done : ℕ → Boo
 unfolding items_in EndsSo
 move_gives p k parents done _ _ _ ok a e h (Move.runs x s) = quiet_move p k done x _ _ h refl refl (left_at p k done x Fresh s h)
 move_gives p k parents done _ _ _ ok a e h (Move.never_runs x s) = quiet_move p k done x _ _ h refl refl tt
-move_gives p k parents done _ _ _ ok a e h (Move.calls x y i group b at c f) = quiet_move p k done x group y h (line_none p k x i group b c) (call_free p k x i b y f) (call_leaves p k done x i b y h (left_at p k done x Running at.stage h) at.line_is f)
-move_gives p k parents done _ _ _ ok a e h (Move.resumes x y w i outcome b s at m f) = quiet_move p k done x _ y h refl (call_free p k x i b y f) (call_leaves p k done x i b y h (left_at p k done x (Waiting w) s h) at f)
+move_gives p k parents done _ _ _ ok a e h (Move.calls x y i group b at c f) = quiet_move p k done x group y h (line_none p k x i group b c) (call_names p k x i b y f).1 (call_leaves p k done x i b y h (left_at p k done x Running at.stage h) at.line_is f)
+move_gives p k parents done _ _ _ ok a e h (Move.resumes x y w i outcome b s at m f) = quiet_move p k done x _ y h refl (call_names p k x i b y f).1 (call_leaves p k done x i b y h (left_at p k done x (Waiting w) s h) at f)
 move_gives p k parents done _ _ _ ok a e h (Move.cancelled x w s) = quiet_move p k done x _ _ h refl refl tt
 move_gives p k parents done _ _ _ ok a e h (Move.gives_up x w group s g) = quiet_move p k done x _ _ h (gives_up_none w group g) refl tt
-move_gives p k parents done _ _ _ ok a e h (Move.sees_job x y job row end s at n f) = quiet_move p k done x _ y h refl (await_free x end y f) (await_leaves p k done x job end y h (left_at p k done x SeesJob s h) at f)
+move_gives p k parents done _ _ _ ok a e h (Move.sees_job x y job row end s at n f) = quiet_move p k done x _ y h refl (await_names x end y f).1 (await_leaves p k done x job end y h (left_at p k done x SeesJob s h) at f)
 move_gives p k parents done _ _ _ ok a e h (Move.closes x c group at g) = quiet_move p k done x group _ h (closes_none c 0 group g) refl (idle_next p k done x (line.Close c) h (left_at p k done x Running at.stage h) at.line_is refl refl refl)
 move_gives p k parents done _ _ _ ok a e h (Move.cancels_channel x c group at g) = quiet_move p k done x group _ h (cancels_channel_none c group g) refl (idle_next p k done x (line.CancelChannel c) h (left_at p k done x Running at.stage h) at.line_is refl refl refl)
 move_gives p k parents done _ _ _ ok a e h (Move.yields x at) = quiet_move p k done x _ _ h refl refl (idle_next p k done x line.Yield h (left_at p k done x Running at.stage h) at.line_is refl refl refl)
@@ -433,15 +401,15 @@ move_gives p k parents done _ _ _ ok a e h (Move.turns_no_more x head es at is) 
 move_gives p k parents done _ _ _ ok a e h (Move.receives_again x head es at is) =
     quiet_move p k done x _ _ h refl refl (end_each (code_of p k) x.entered es (drop (x.line + 1) (code_of p k)) head (drop h.passed (launches_of p k)) h.scopes is (first_there p k done x line.End h (left_at p k done x Running at.stage h) at.line_is))
 move_gives p k parents done _ _ _ ok a e h (Move.ends_scope x y s end group all b at is g c f parts) =
-    quiet_move p k done x all y h (ap attach_in parts ∙ neither end group (ends_none (base_of p) s.row 0 end g) (plain_none _ group b c)) (at_end_free k x s b y f)
+    quiet_move p k done x all y h (ap attach_in parts ∙ neither end group (ends_none (base_of p) s.row 0 end g) (plain_none _ group b c)) (scope_end_names k x s b y f).1
     (at_end_leaves p k done x s b y (drop h.passed (launches_of p k)) h.scopes (end_leaves p k done x s h (left_at p k done x Running at.stage h) at.line_is is) f)
 move_gives p k parents done _ _ _ ok a e h (Move.scope_ended x w n v s) = quiet_move p k done x _ _ h refl refl (left_at p k done x (Leaving w) s h)
-move_gives p k parents done _ _ _ ok a e h (Move.sees_scope x y s end at is f) = quiet_move p k done x _ y h refl (past_free p k x s end y f) (past_scope p k done x s end y (drop h.passed (launches_of p k)) h.scopes is e.0 (left_at p k done x SeesScope at h) f)
+move_gives p k parents done _ _ _ ok a e h (Move.sees_scope x y s end at is f) = quiet_move p k done x _ y h refl (past_scope_names p k x s end y f).1 (past_scope p k done x s end y (drop h.passed (launches_of p k)) h.scopes is e.0 (left_at p k done x SeesScope at h) f)
 move_gives p k parents done _ _ _ ok a e h (Move.breaks_scope x y s failure break group all b at is g c f parts) =
     let known = known_left parents break group (subst (AllKnown parents) parts a) in
     let ends = ends_left done break group (subst (EndsSo done) parts e) in
     let broken : done s.row ≡ false = (ends_right done g.cancels (on_jobs (IsCancelling s.row) ∷ g.end) (subst (EndsSo done) g.all ends)).0 in
-    quiet_move p k done x all y h (ap attach_in parts ∙ neither break group (breaks_off_none parents (base_of p) k s.row failure break known g) (plain_none _ group b c)) (at_end_free k x s b y f)
+    quiet_move p k done x all y h (ap attach_in parts ∙ neither break group (breaks_off_none parents (base_of p) k s.row failure break known g) (plain_none _ group b c)) (scope_end_names k x s b y f).1
     (at_end_leaves p k done x s b y (drop h.passed (launches_of p k)) h.scopes (broken_leaves p k done x.entered s (drop h.passed (launches_of p k)) h.scopes is broken) f)
 move_gives p k parents done _ _ _ ok a e h (Move.breaks x failure group s is g) = quiet_move p k done x group _ h (breaks_off_none parents (base_of p) k k failure group a g) refl tt
 move_gives p k parents done _ _ _ ok a e h (Move.ends x group s is g) = quiet_move p k done x group _ h (ends_none (base_of p) k x.result group g) refl tt

@@ -28,7 +28,8 @@ use Rattle.script_meaning.proofs.JobDebts.{Parents, AllKnown, all_known, parents
 use Rattle.script_meaning.proofs.LinesLeft.{Left}
 use Rattle.script_meaning.proofs.AttachesTold.{attach_in, neither, gives_up_none, breaks_off_none, plain_none}
 use Rattle.script_meaning.proofs.CompletedJobs.{EndsSo, completed_in, ends_left, ends_right, ends_so}
-use Rattle.script_meaning.proofs.TagsGiven.{launched_in, scopes_told, scopes_then, launched_then, noted_then, nothing_in, LinesLeave, Gives, MoveGives, move_gives, never, first_left, next_is_given, then_is_given, takes_a_tag, launch_of_row, refusal_of, launch_there, call_free, await_free, past_free, at_end_free}
+use Rattle.script_meaning.proofs.NamedRows.{call_names, await_names, scope_end_names, past_scope_names}
+use Rattle.script_meaning.proofs.TagsGiven.{launched_in, scopes_told, scopes_then, launched_then, noted_then, nothing_in, LinesLeave, Gives, MoveGives, move_gives, never, first_left, next_is_given, then_is_given, takes_a_tag, launch_of_row, refusal_of, launch_there}
 
 -- ---- the beginning
 
@@ -223,10 +224,10 @@ unfolding items_in
 quiet_unless_running p k parents _ _ _ a (Move.runs x s) = inr (refl, refl)
 quiet_unless_running p k parents _ _ _ a (Move.never_runs x s) = inr (refl, refl)
 quiet_unless_running p k parents _ _ _ a (Move.calls x y i group b at c f) = inl at.stage
-quiet_unless_running p k parents _ _ _ a (Move.resumes x y w i outcome b s at m f) = inr (refl, call_free p k x i b y f)
+quiet_unless_running p k parents _ _ _ a (Move.resumes x y w i outcome b s at m f) = inr (refl, (call_names p k x i b y f).1)
 quiet_unless_running p k parents _ _ _ a (Move.cancelled x w s) = inr (refl, refl)
 quiet_unless_running p k parents _ _ _ a (Move.gives_up x w group s g) = inr (gives_up_none w group g, refl)
-quiet_unless_running p k parents _ _ _ a (Move.sees_job x y job row end s at n f) = inr (refl, await_free x end y f)
+quiet_unless_running p k parents _ _ _ a (Move.sees_job x y job row end s at n f) = inr (refl, (await_names x end y f).1)
 quiet_unless_running p k parents _ _ _ a (Move.closes x c group at g) = inl at.stage
 quiet_unless_running p k parents _ _ _ a (Move.cancels_channel x c group at g) = inl at.stage
 quiet_unless_running p k parents _ _ _ a (Move.yields x at) = inl at.stage
@@ -246,10 +247,10 @@ quiet_unless_running p k parents _ _ _ a (Move.turns_no_more x head es at is) = 
 quiet_unless_running p k parents _ _ _ a (Move.receives_again x head es at is) = inl at.stage
 quiet_unless_running p k parents _ _ _ a (Move.ends_scope x y s end group all b at is g c f parts) = inl at.stage
 quiet_unless_running p k parents _ _ _ a (Move.scope_ended x w n v s) = inr (refl, refl)
-quiet_unless_running p k parents _ _ _ a (Move.sees_scope x y s end at is f) = inr (refl, past_free p k x s end y f)
+quiet_unless_running p k parents _ _ _ a (Move.sees_scope x y s end at is f) = inr (refl, (past_scope_names p k x s end y f).1)
 quiet_unless_running p k parents _ _ _ a (Move.breaks_scope x y s failure break group all b at is g c f parts) =
     let known = known_left parents break group (subst (AllKnown parents) parts a) in
-    inr (ap attach_in parts ∙ neither break group (breaks_off_none parents (base_of p) k s.row failure break known g) (plain_none _ group b c), at_end_free k x s b y f)
+    inr (ap attach_in parts ∙ neither break group (breaks_off_none parents (base_of p) k s.row failure break known g) (plain_none _ group b c), (scope_end_names k x s b y f).1)
 quiet_unless_running p k parents _ _ _ a (Move.breaks x failure group s is g) = inr (breaks_off_none parents (base_of p) k k failure group a g, refl)
 quiet_unless_running p k parents _ _ _ a (Move.ends x group s is g) = inl s
 

@@ -33,9 +33,9 @@
 //! - that moves come to an end: `MovesFall`.
 //! - which waits a line begins and how they end: `WaitsPlaced`, `WaitsEnd`, `ClausesOfSelects`.
 //! - what a group of notes may hold: `GroupNotes`, `GentleNotes`, `MovesGentle`.
-//! - scopes, ends and tags: `OwnActs`, `ScopesEntered`, `StagesReached`, `OwnRows`, `BodiesTold`, `BodiesOpen`, `CompletedJobs`,
-//!   `WaitsGivenUp`, `DoneAsked`, `DonePlacesAsked`, `DoneReceivedOnce`, `DonesUnclosed`, `EndsToSee`, `TagsGiven`, `TagsReached`,
-//!   `RowsEntered`, `AttachesTold`, `PlacesGiven`, `NotSpent`, `NoRefusals`.
+//! - scopes, ends and tags: `OwnActs`, `ScopesEntered`, `NamedRows`, `StagesReached`, `OwnRows`, `BodiesTold`, `BodiesOpen`,
+//!   `CompletedJobs`, `WaitsGivenUp`, `DoneAsked`, `DonePlacesAsked`, `DoneReceivedOnce`, `DonesUnclosed`, `EndsToSee`, `TagsGiven`,
+//!   `TagsReached`, `RowsEntered`, `AttachesTold`, `PlacesGiven`, `NotSpent`, `NoRefusals`.
 #![tactic(auto)]
 
 mod laws;
