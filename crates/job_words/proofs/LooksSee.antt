@@ -221,13 +221,6 @@ kind_of_link o (Some j) w e = let k : link_word_of o j ≡ w = cc in ap (λ (x :
 pub link_kind : (v : Seen) (r : ℕ) (w : LinkWord) → link_at (store_of v.seen).tree r ≡ Some w → kind_of ((store_of v.seen).tree r) ≡ Some w.kind
 link_kind v r w e = kind_of_link (older_sibling (store_of v.seen).tree r) ((store_of v.seen).tree r) w e
 
-pub kind_oftached : (v : Seen) (r : ℕ) (kind : JobKind) → kind_of ((store_of v.seen).tree r) ≡ Some kind → IsAttached v r
-kind_oftached v r kind e = by_job ((store_of v.seen).tree r) e
-  where
-    by_job : (x : Option Job) → kind_of x ≡ Some kind → is_some x ≡ true
-    by_job None k = cc
-    by_job (Some j) k = refl
-
 -- where the walk over the children of the parent that the link word names did not meet the row, it was not attached when that was loaded
 pub not_among : (size : ForestSize) (who row : ℕ) (v0 v1 v2 v3 : Seen) (x : LinkWord) → IsSize size → v1.key ≡ size → IsDone (shape_of size) v1.seen → row ≢ 0 → Goes who [] v0 v1 → Goes who [] v1 v2
     → IsNarrowLink x → MayBeLink (store_of v1.seen) row (link_code x) → WalkAnswer who x.parent row v2 v3 false → KindAnswer who row v0 v3 None

@@ -59,6 +59,10 @@ mine_sees who row l j v w g m =
 pub attached_row : (size : ForestSize) (log : List Deed) (r : ℕ) → IsSize size → IsDone (shape_of size) log → is_some ((store_of log).tree r) ≡ true → r < size.rows
 attached_row size log r s h a = attached_within (shape_of size) (history_of log) r (size_shape size s) (is_legal (shape_of size) log h) (ap (λ (t : Tree). is_some (t r)) (sym (tree_is log)) ∙ a)
 
+-- so many entries may still come
+abbrev pub entries_left : ForestSize → Seen → ℕ
+entries_left size v = 6 * size.rows - length (history_of v.seen)
+
 -- a history that grew is nearer to the longest
-pub nearer : (size : ForestSize) (v w : Seen) → IsSize size → w.key ≡ size → IsDone (shape_of w.key) w.seen → Grew v w → 6 * size.rows - length (history_of w.seen) < 6 * size.rows - length (history_of v.seen)
+pub nearer : (size : ForestSize) (v w : Seen) → IsSize size → w.key ≡ size → IsDone (shape_of w.key) w.seen → Grew v w → entries_left size w < entries_left size v
 nearer size v w s key h g = let k = short size w.seen s (subst (λ (x : ForestSize). IsDone (shape_of x) w.seen) key h) in omega arith

@@ -1,17 +1,15 @@
 -- A forest as it is made.
 use Rattle.std.specs.Prelude.{◌≡◌, ℕ, ◌+◌, ◌*◌, ◌==◌, ◌<◌, Bool, false, List, [], length, Some, None, option_map, if◌then◌else◌, refl}
-use Rattle.std.proofs.Common.{inl, sym, ap, ◌∙◌, subst, arith, get_or, set, eq-eqb, ne_eqb, get_or-set_same, get_or-set_other}
+use Rattle.std.proofs.Common.{inl, sym, ap, ◌∙◌, arith, get_or, set, eq-eqb, ne_eqb, get_or-set_same, get_or-set_other}
 use mathlib.Core.Logic.{dite}
 use native.Mathlib.Decide.{ℕ_discrete}
 use Rattle.job_model.specs.Trees.{Shape, IsShape, root}
 use Rattle.job_model.specs.Histories.{Legal}
 use Rattle.job_model.specs.Floors.{HasClaims, IsFreshFloor}
 use Rattle.job_words.specs.declared.size.ForestSize.{ForestSize}
-use Rattle.job_words.specs.declared.deed.Deed.{Deed}
 use Rattle.job_words.specs.Rows.{word_of}
-use Rattle.job_words.specs.Deeds.{shape_of, IsSize, history_of, store_from, store_of, job_word, word_or, DoneFrom, IsDone, Fits}
-use Rattle.job_words.specs.Passes.{Seen, floor_of}
-use Rattle.job_words.proofs.StoreStaysSound.{size_shape}
+use Rattle.job_words.specs.Deeds.{shape_of, history_of, store_from, store_of, job_word, word_or, DoneFrom, IsDone, Fits}
+use Rattle.job_words.specs.Passes.{floor_of}
 use Rattle.job_words.proofs.DeedsAddUp.{is_legal}
 use Rattle.job_words.proofs.StepsAsCalls.{has_claims}
 
@@ -53,17 +51,3 @@ pub set_words : (n : ℕ) (ws : List ℕ) → 0 < length ws → ((i : ℕ) → g
 set_words n ws lt h i = dite (ℕ_discrete i 0)
     (λ e. ap (λ (k : ℕ). get_or (set ws 0 2) k 0) e ∙ get_or-set_same ws 0 2 0 lt ∙ sym (ap (λ (b : Bool). if b then 2 else 0) (eq-eqb i 0 e)))
     (λ ne. get_or-set_other ws 0 i 2 0 ne ∙ h i ∙ sym (ap (λ (b : Bool). if b then 2 else 0) (ne_eqb i 0 ne)))
-
--- ---- the laws of a pass that has seen these deeds
-
-pub shaped_at : (size : ForestSize) (w : Seen) → IsSize size → w.key ≡ size → IsShape (shape_of w.key)
-shaped_at size w s key = subst (λ (k : ForestSize). IsShape (shape_of k)) (sym key) (size_shape size s)
-
-pub done_at : (size : ForestSize) (w : Seen) (log : List Deed) → w.key ≡ size → w.seen ≡ log → IsDone (shape_of size) log → IsDone (shape_of w.key) w.seen
-done_at size w log key e h = subst (λ (x : ForestSize × List Deed). IsDone (shape_of x.0) x.1) (λ i. (sym key i, sym e i)) h
-
-pub legal_at : (w : Seen) → IsDone (shape_of w.key) w.seen → Legal (shape_of w.key) (history_of w.seen)
-legal_at w h = is_legal (shape_of w.key) w.seen h
-
-pub claims_at : (w : Seen) → IsShape (shape_of w.key) → IsDone (shape_of w.key) w.seen → HasClaims (floor_of w.key w.tags w.seen)
-claims_at w s h = has_claims w.key w.tags w.seen s h

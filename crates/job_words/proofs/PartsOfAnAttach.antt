@@ -151,9 +151,9 @@ living_few size v r w s h a k =
     let is : w.living ≡ length (living j.0) = ap (λ (x : JobWord). x.living) (sym j.2) in
     omega (arith, s.few)
 
--- a fact of the state that the word shows
-pub state_seen : (P : Option Job → Type 0) (size : ForestSize) (v : Seen) (r : ℕ) (w : JobWord) → IsSize size → IsDone (shape_of size) v.seen → IsAttached v r → IsWord v r w → ((j : Job) → word_of j ≡ w → P (Some j)) → P ((store_of v.seen).tree r)
-state_seen P size v r w s h a k f = let j = job_seen size v r w s h a k in subst P (sym j.1) (f j.0 j.2)
+-- a fact of the state that the word shows, which was loaded last
+pub state_seen : (P : Option Job → Type 0) (size : ForestSize) (who : ℕ) (u v : Seen) (r : ℕ) (w : JobWord) → IsSize size → u.key ≡ size → Sees who u v → IsAttached v r → IsWord v r w → ((j : Job) → word_of j ≡ w → P (Some j)) → Goes who [] u v × P ((store_of v.seen).tree r)
+state_seen P size who u v r w s key g a k f = let j = job_seen size v r w s (sees_done size who u v key g) a k in (sees_goes who u v g, subst P (sym j.1) (f j.0 j.2))
 
 pub link_narrow : (p n tag : ℕ) (kind : JobKind) → p < 16384 → n < 16384 → tag < 65536 → IsNarrowLink (new_link p n tag kind)
 link_narrow p n tag kind lp ln lt = record { parent = lp; next = ln; tag = lt }
@@ -162,6 +162,14 @@ pub does_attached : (who : ℕ) (d : Deed) (word old : ℕ) (v w : Seen) (r : �
 does_attached who d word old v w r g a =
     let is : w.seen ≡ v.seen ++ (g.others ++ d ∷ []) = g.seen ∙ append_assoc v.seen g.others (d ∷ []) in
     subst (λ l. is_some ((store_of l).tree r) ≡ true) (sym is) (lasts_more (λ x. is_some x ≡ true) attached_lasts v.key v.seen (g.others ++ d ∷ []) r (subst (IsDone (shape_of v.key)) is g.done) a)
+
+-- an exchange leaves a row attached
+pub attached_told : (who : ℕ) (d : Deed) (word old : ℕ) (v w : Seen) (n r : ℕ) → ExchangeAnswer who d word old v w n → IsAttached v r → IsAttached w r
+attached_told who d word old v w n r t a = by_test (n == old) t
+  where
+    by_test : (b : Bool) → MatchBool b (Does who d word old v w) (Sees who v w × Fits w.seen word n) → IsAttached w r
+    by_test true g = does_attached who d word old v w r g a
+    by_test false q = attached_sees who v w r q.0 a
 
 -- ---- links
 

@@ -11,10 +11,12 @@ use Rattle.job_model.specs.Floors.{is_claimed_by}
 use Rattle.job_model.specs.Trees.{is_among}
 use Rattle.job_words.specs.declared.size.ForestSize.{ForestSize}
 use Rattle.job_words.specs.declared.deed.Deed.{Deed}
+use Rattle.job_words.specs.declared.forest.Forest.{Forest}
 use Rattle.job_words.specs.Deeds.{shape_of, doer, history_of, rows_claimed, first_claim, nothing_done, store_of, IsDone, Fits}
 use Rattle.job_words.specs.Passes.{Seen, floor_of, floor_seen}
 use Rattle.job_words.specs.Meetings.{HasSeen, SameOf, NothingOf, MeetAnswer, EndAnswer}
 use Rattle.job_words.proofs.DeedsAddUp.{store_more, IsDone-rest, history-append, acts_of-deeds, no_deeds, claims_kept, claims_mine}
+use Rattle.job_words.proofs.StepsOfATable.{PassLaws, laws_of}
 
 -- ---- two beginnings of one history
 
@@ -78,11 +80,17 @@ meet_answer size v b w key idle hv m = subst (λ (x : Seen). MeetAnswer (floor_s
     done : IsDone (shape_of v.key) log
     done = subst (λ (k : ForestSize). IsDone (shape_of k) log) (sym key) m.is_legal
 
+-- ---- a pass that has seen more
+
+-- its laws
+pub laws_more : (f : Forest) (v w : Seen) (others : List Deed) → v.key ≡ f.size → w ≡ having_seen v (v.seen ++ others) → IsDone (shape_of f.table.shared.key) (v.seen ++ others) → PassLaws w
+laws_more f v w others key now h = laws_of f f.table.shared.key w (v.seen ++ others) f.sized.1 (ap (λ (x : Seen). x.key) now ∙ key ∙ sym f.sized.1) (ap (λ (x : Seen). x.seen) now) h
+
 -- nobody did anything under a tag that was not given out
-pub ungiven : (size : ForestSize) (v w : Seen) (log : List Deed) → w.key ≡ size → IsDone (shape_of size) log → w ≡ having_seen v log → (v.chief ≡ true → (t : ℕ) → has_tag t v.given ≡ false → entries_of doer t log ≡ [])
+pub ungiven : (f : Forest) (v w : Seen) (others : List Deed) → v.key ≡ f.size → w ≡ having_seen v (v.seen ++ others) → IsDone (shape_of f.table.shared.key) (v.seen ++ others) → (v.chief ≡ true → (t : ℕ) → has_tag t v.given ≡ false → entries_of doer t (v.seen ++ others) ≡ [])
     → w.chief ≡ true → (t : ℕ) → has_tag t w.given ≡ false → NothingOf t (floor_seen w)
-ungiven size v w log key h now none c t g = subst (λ (x : Seen). NothingOf t (floor_seen x)) (sym now) (nothing_of v.key (v.tags ++ v.heard_tags) t log
-    (subst (λ (k : ForestSize). IsDone (shape_of k) log) (sym key ∙ ap (λ (x : Seen). x.key) now) h) (none (sym (ap (λ (x : Seen). x.chief) now) ∙ c) t (ap (has_tag t) (sym (ap (λ (x : Seen). x.given) now)) ∙ g)))
+ungiven f v w others key now h none c t g = subst (λ (x : Seen). NothingOf t (floor_seen x)) (sym now) (nothing_of v.key (v.tags ++ v.heard_tags) t (v.seen ++ others)
+    (subst (λ (k : ForestSize). IsDone (shape_of k) (v.seen ++ others)) (f.sized.1 ∙ sym key) h) (none (sym (ap (λ (x : Seen). x.chief) now) ∙ c) t (ap (has_tag t) (sym (ap (λ (x : Seen). x.given) now)) ∙ g)))
 
 -- ---- a pass that ends
 

@@ -9,7 +9,8 @@ use Rattle.worded.specs.Views.{has_tag}
 use Rattle.worded.specs.Exchanges.{Loaded, Entered, Exchanged}
 use Rattle.job_words.specs.declared.size.ForestSize.{ForestSize}
 use Rattle.job_words.specs.declared.deed.Deed.{Deed}
-use Rattle.job_words.specs.Deeds.{shape_of, IsSize, doer, history_of, IsDone, Fits}
+use Rattle.job_words.specs.declared.forest.Forest.{Forest}
+use Rattle.job_words.specs.Deeds.{shape_of, doer, history_of, IsDone, Fits}
 use Rattle.job_words.specs.Passes.{Seen, tags_given, floor_of, Sees, Does}
 use Rattle.job_words.proofs.DeedsAddUp.{is_legal}
 use Rattle.job_words.proofs.StepsAsCalls.{has_claims}
@@ -75,14 +76,18 @@ told_stays who word old n d v w e = by_test (n == old) e
     by_test false l = sees_stays who v w l.0
 
 -- the laws of a pass
-pub shaped : (size : ForestSize) (w : Seen) → IsSize size → w.key ≡ size → IsShape (shape_of w.key)
-shaped size w s key = subst (λ (k : ForestSize). IsShape (shape_of k)) (sym key) (size_shape size s)
+pub record PassLaws (w : Seen) : Type 0 where
+  pub shaped : IsShape (shape_of w.key)
+  pub done : IsDone (shape_of w.key) w.seen
+  pub legal : Legal (shape_of w.key) (history_of w.seen)
+  pub claimed : HasClaims (floor_of w.key w.tags w.seen)
 
-pub done : (size : ForestSize) (who : ℕ) (v w : Seen) → v.key ≡ size → Stays who v w → IsDone (shape_of w.key) w.seen
-done size who v w key s = subst (λ (k : ForestSize). IsDone (shape_of k) w.seen) (sym s.key) s.done
+-- they hold where it has seen these deeds of the forest
+pub laws_of : (f : Forest) (size : ForestSize) (w : Seen) (log : List Deed) → size ≡ f.size → w.key ≡ size → w.seen ≡ log → IsDone (shape_of size) log → PassLaws w
+laws_of f size w log is key e h = record { shaped = shaped; done = done; legal = is_legal (shape_of w.key) w.seen done; claimed = has_claims w.key w.tags w.seen shaped done }
+  where
+    shaped : IsShape (shape_of w.key)
+    shaped = subst (λ (k : ForestSize). IsShape (shape_of k)) (sym (key ∙ is)) (size_shape f.size f.small)
 
-pub legal : (size : ForestSize) (who : ℕ) (v w : Seen) → v.key ≡ size → Stays who v w → Legal (shape_of w.key) (history_of w.seen)
-legal size who v w key s = subst (λ (k : ForestSize). Legal (shape_of k) (history_of w.seen)) (sym s.key) (is_legal (shape_of v.key) w.seen s.done)
-
-pub claimed : (size : ForestSize) (who : ℕ) (v w : Seen) → IsSize size → v.key ≡ size → Stays who v w → HasClaims (floor_of w.key w.tags w.seen)
-claimed size who v w s key t = subst (λ (k : ForestSize). HasClaims (floor_of k w.tags w.seen)) (sym t.key) (has_claims v.key w.tags w.seen (size_shape v.key (subst IsSize (sym key) s)) t.done)
+    done : IsDone (shape_of w.key) w.seen
+    done = subst (λ (x : ForestSize × List Deed). IsDone (shape_of x.0) x.1) (λ i. (sym key i, sym e i)) h

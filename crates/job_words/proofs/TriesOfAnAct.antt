@@ -25,7 +25,7 @@ use Rattle.job_words.specs.declared.deed.Deed.TheVariants.{Act}
 use Rattle.job_words.specs.Rows.{job_code, word_of, link_word_of, link_at, row_code, end_from, IsNarrow}
 use Rattle.job_words.specs.Deeds.{shape_of, IsSize, history_of, Store, store_from, store_of, job_word, IsDone}
 use Rattle.job_words.specs.Passes.{Seen, Sees, Goes, Does, floor_seen}
-use Rattle.job_words.specs.Attaches.{IsAttached, IsWord, ActedNow, Grew}
+use Rattle.job_words.specs.Attaches.{IsAttached, IsWord, ActedNow, HasLost}
 use Rattle.job_words.specs.Acts.{StartedAnswer, EndedAnswer, ToldAnswer, FinishedAnswer}
 use Rattle.job_model.specs.Effects.{change, change_parent, with_told}
 use Rattle.job_words.proofs.DeedsAddUp.{tree_is, is_legal, store_push}
@@ -36,7 +36,7 @@ use Rattle.job_words.proofs.LostExchangesGrow.{grew, grew_more, lasts_goes, atta
 use Rattle.job_words.proofs.MayExchange.{read_word, lasts_more}
 use Rattle.job_model.proofs.Lasting.{Lasts, attached_lasts}
 use Rattle.std.proofs.lemmas.Bool.Decides.{nat_tests}
-use Rattle.job_words.proofs.PartsOfAnAttach.{attached_sees, job_seen, last_needs}
+use Rattle.job_words.proofs.PartsOfAnAttach.{job_seen, last_needs}
 use Rattle.job_words.proofs.ActsOnOneWord.{lives}
 use Rattle.job_model.proofs.Spans.{added_looked}
 use Rattle.job_model.proofs.Own.{own_body_kept, own_gone_kept}
@@ -48,11 +48,11 @@ pub acted : (who row : ℕ) (w : JobWord) (act : JobAct) (u v x : Seen) → Sees
 acted who row w act u v x s d = record { before = v; goes = sees_goes who u v s; does = d }
 
 -- the word had changed
-pub lost : (who row : ℕ) (w : JobWord) (u v x : Seen) → Sees who u v → IsAttached u row → IsWord v row w → Sees who v x × (job_code w ≢ job_word (store_of x.seen) row) → Goes who [] u x × Grew u x
+pub lost : (who row : ℕ) (w : JobWord) (u v x : Seen) → Sees who u v → IsAttached v row → IsWord v row w → Sees who v x × (job_code w ≢ job_word (store_of x.seen) row) → HasLost who u x
 lost who row w u v x s a k t =
     let g = sees_goes who u v s in
     let h = sees_goes who v x t.0 in
-    (goes_trans who [] [] u v x g h, grew_more who [] u v x g (grew who [] v x row h (attached_sees who u v row s a) (λ e. t.1 (k.is ∙ e))))
+    record { goes = goes_trans who [] [] u v x g h; grew = grew_more who [] u v x g (grew who [] v x row h a (λ e. t.1 (k.is ∙ e))) }
 
 -- ---- answers
 

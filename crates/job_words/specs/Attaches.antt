@@ -57,6 +57,11 @@ RowAnswer size who kind tag v w (Err ParentEnded) = ⊥
 abbrev pub Grew : Seen → Seen → Type 0
 Grew v w = length (history_of v.seen) < length (history_of w.seen)
 
+-- who lost a try: it made no act, and the history has grown
+pub record HasLost (who : ℕ) (v w : Seen) : Type 0 where
+  pub goes : Goes who [] v w
+  pub grew : Grew v w
+
 -- who made the act as the last step, where the Job word of the row was old
 pub record ActedNow (who row : ℕ) (old : JobWord) (act : JobAct) (v w : Seen) : Type 0 where
   pub before : Seen
@@ -68,11 +73,11 @@ abbrev pub AttachedNow : ℕ → ℕ → JobKind → ℕ → ℕ → Bool → Se
 AttachedNow who parent kind tag row cancelled v w =
     (old : JobWord) × ActedNow who parent old (Attach parent row kind tag cancelled) v w
 
--- it attached the row, or the parent had ended, or the history has grown and these words are stored now
+-- it attached the row, or the parent had ended, or it lost and these words are stored now
 abbrev pub TriedAnswer : ℕ → ℕ → JobKind → ℕ → ℕ → Seen → Seen → Tried → Type 0
 TriedAnswer who parent kind tag row v w (Attached cancelled) = AttachedNow who parent kind tag row cancelled v w
 TriedAnswer who parent kind tag row v w Ended = Goes who [] v w × IsEnded ((store_of w.seen).tree parent)
-TriedAnswer who parent kind tag row v w (Lost link job) = Goes who [] v w × IsMine who row link job (store_of w.seen) × Grew v w
+TriedAnswer who parent kind tag row v w (Lost link job) = HasLost who v w × IsMine who row link job (store_of w.seen)
 
 -- it attached the row, or the parent had ended
 abbrev pub DisclosedAnswer : ℕ → ℕ → JobKind → ℕ → ℕ → Seen → Seen → Option Bool → Type 0

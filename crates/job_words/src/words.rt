@@ -22,6 +22,7 @@ pub(crate) fn load_job(forest: &Forest, pass: &mut JobPass, who: Tag, row: Row) 
     requires attached { IsAttached (seen_by pass.old) row }
     ensures own { IsOwn forest.now pass.new who }
     ensures sees { Sees who (seen_by pass.old) (seen_by pass.new) }
+    ensures attached { IsAttached (seen_by pass.new) row }
     ensures word { IsWord (seen_by pass.new) row result }
 {
     let number = load_word(forest, pass, who, 2 * row as usize);
@@ -62,6 +63,7 @@ pub(crate) fn act_on(
     requires narrow { IsNarrow old × IsNarrow new }
     requires may { MayAct forest.now.size (seen_by pass.old) who row old new act }
     ensures own { IsOwn forest.now pass.new who }
+    ensures attached { IsAttached (seen_by pass.new) row }
     ensures told { ActAnswer who row old act (seen_by pass.old) (seen_by pass.new) result }
 {
     let number = old.pack();

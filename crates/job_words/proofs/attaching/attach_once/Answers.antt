@@ -12,22 +12,11 @@ use Rattle.job_words.proofs.OneCodeOneWord.{link_code_is, link_code_short}
 use Rattle.job_words.proofs.MayExchange.{attaches_row}
 use Rattle.job_words.proofs.StepsAsCalls.{sees_goes, goes_trans}
 use Rattle.job_words.proofs.LostExchangesGrow.{grew, grew_more, mine_sees, attached_goes}
-use Rattle.job_words.proofs.PartsOfAnAttach.{row_within, attached_sees, does_attached, attached_words, sees_done, living_few, state_seen}
+use Rattle.job_words.proofs.PartsOfAnAttach.{row_within, attached_words, sees_done, living_few, state_seen}
 use Rattle.job_words.proofs.attaching.attach_once.Goals as goal
 
-pub returns-then-is_completed-clause-parent : goal.returns-then-is_completed-clause-parent
-returns-then-is_completed-clause-parent c = attached_sees c.args.who c.args.pass.now.seat.me.0 c.load_job-above.new.pass.seat.me.0 c.args.parent c.load_job-above.ensures.sees c.requires.parent
-
 pub returns-then-is_completed-clause-tried : goal.returns-then-is_completed-clause-tried
-returns-then-is_completed-clause-tried c =
-    let v = c.args.pass.now.seat.me.0 in
-    let w = c.load_job-above.new.pass.seat.me.0 in
-    let sees = c.load_job-above.ensures.sees in
-    let a = attached_sees c.args.who v w c.args.parent sees c.requires.parent in (
-      sees_goes c.args.who v w sees,
-      state_seen IsEnded c.args.forest.now.size w c.args.parent c.load_job-above.result c.args.forest.now.small (sees_done c.args.forest.now.size c.args.who v w c.requires.own.0.1 sees) a c.load_job-above.ensures.word
-          (λ j e. ap (λ (x : JobWord). is_ended x.state) e ∙ sym c.is_completed.ensures ∙ c.if-is_completed.true),
-    )
+returns-then-is_completed-clause-tried c = state_seen IsEnded c.args.forest.now.size c.args.who c.args.pass.now.seat.me.0 c.load_job-above.new.pass.seat.me.0 c.args.parent c.load_job-above.result c.args.forest.now.small c.requires.own.0.1 c.load_job-above.ensures.sees c.load_job-above.ensures.attached c.load_job-above.ensures.word (λ j e. ap (λ (x : JobWord). is_ended x.state) e ∙ sym c.is_completed.ensures ∙ c.if-is_completed.true)
 
 narrow_link : (p n tag rows : ℕ) (kind : JobKind) → p < rows → rows ≤ 16000 → n < 16384 → tag < 65536 → IsNarrowLink (new_link p n tag kind)
 narrow_link p n tag rows kind lp few ln lt = record { parent = omega arith; next = ln; tag = lt }
@@ -46,7 +35,7 @@ store_link-requires-clause-link c =
     let v1 = c.load_job-above.new.pass.seat.me.0 in
     let link : LinkWord = new_link c.args.parent c.load_job-above.result.first_child c.args.tag c.args.kind in
     let narrow = narrow_link c.args.parent c.load_job-above.result.first_child c.args.tag c.args.forest.now.size.rows c.args.kind (row_within c.args.forest.now.size p.seat.me.0 c.args.parent c.requires.own.0.1 p.shaped p.done c.requires.parent) c.args.forest.now.small.few c.load_job-above.ensures.word.narrow.first_child (omega (arith, c.ranges.tag.fits)) in
-    λ w nw e. subst (λ (x : LinkWord). is_some ((store_of v1.seen).tree x.parent) ≡ true) (link_code_is link w narrow nw (sym c.pack-new_link.ensures ∙ sym e)) (attached_sees c.args.who p.seat.me.0 v1 c.args.parent c.load_job-above.ensures.sees c.requires.parent)
+    λ w nw e. subst (λ (x : LinkWord). is_some ((store_of v1.seen).tree x.parent) ≡ true) (link_code_is link w narrow nw (sym c.pack-new_link.ensures ∙ sym e)) c.load_job-above.ensures.attached
 
 pub store_link-requires-clause-short : goal.store_link-requires-clause-short
 store_link-requires-clause-short c =
@@ -76,7 +65,7 @@ act_on-requires-clause-narrow c =
     let f = c.args.forest.now in
     let v0 = c.args.pass.now.seat.me.0 in
     let v1 = c.load_job-above.new.pass.seat.me.0 in
-    let few = living_few f.size v1 c.args.parent c.load_job-above.result f.small (sees_done f.size c.args.who v0 v1 c.requires.own.0.1 c.load_job-above.ensures.sees) (attached_sees c.args.who v0 v1 c.args.parent c.load_job-above.ensures.sees c.requires.parent) c.load_job-above.ensures.word in
+    let few = living_few f.size v1 c.args.parent c.load_job-above.result f.small (sees_done f.size c.args.who v0 v1 c.requires.own.0.1 c.load_job-above.ensures.sees) c.load_job-above.ensures.attached c.load_job-above.ensures.word in
     (c.load_job-above.ensures.word.narrow, narrow_more c.load_job-above.result c.args.row f.size.rows c.load_job-above.ensures.word.narrow few c.requires.row.0 f.small.few)
 
 pub act_on-requires-clause-may : goal.act_on-requires-clause-may
@@ -111,11 +100,7 @@ raise_hint-requires-clause-short c =
     subst (λ (n : ℕ). n < 140737488355328) (sym c.pack-new_link.ensures) (link_code_short link narrow refl)
 
 pub returns-then-act_on-clause-parent : goal.returns-then-act_on-clause-parent
-returns-then-act_on-clause-parent c =
-    let v0 = c.args.pass.now.seat.me.0 in
-    let v3 = c.store_job.new.pass.seat.me.0 in
-    subst (λ (w : Seen). IsAttached w c.args.parent) (sym c.raise_hint.ensures.same)
-    (does_attached c.args.who _ _ _ v3 c.act_on.new.pass.seat.me.0 c.args.parent c.if-act_on.ensures.told (attached_goes c.args.who [] v0 v3 c.args.parent (stored c.args.who v0 c.load_job-above.new.pass.seat.me.0 c.store_link.new.pass.seat.me.0 v3 c.load_job-above.ensures.sees c.store_link.ensures.goes c.store_job.ensures.goes) c.requires.parent))
+returns-then-act_on-clause-parent c = subst (λ (w : Seen). IsAttached w c.args.parent) (sym c.raise_hint.ensures.same) c.act_on.ensures.attached
 
 pub returns-then-act_on-clause-tried : goal.returns-then-act_on-clause-tried
 returns-then-act_on-clause-tried c =
@@ -123,12 +108,6 @@ returns-then-act_on-clause-tried c =
     let v3 = c.store_job.new.pass.seat.me.0 in
     subst (λ (w : Seen). AttachedNow c.args.who c.args.parent c.args.kind c.args.tag c.args.row c.is_cancelled-cancelled.result v0 w) (sym c.raise_hint.ensures.same)
     (c.load_job-above.result, record { before = v3; goes = stored c.args.who v0 c.load_job-above.new.pass.seat.me.0 c.store_link.new.pass.seat.me.0 v3 c.load_job-above.ensures.sees c.store_link.ensures.goes c.store_job.ensures.goes; does = c.if-act_on.ensures.told })
-
-pub returns-else-act_on-clause-parent : goal.returns-else-act_on-clause-parent
-returns-else-act_on-clause-parent c =
-    let v0 = c.args.pass.now.seat.me.0 in
-    let v3 = c.store_job.new.pass.seat.me.0 in
-    attached_sees c.args.who v3 c.act_on.new.pass.seat.me.0 c.args.parent c.if-act_on.ensures.told.0 (attached_goes c.args.who [] v0 v3 c.args.parent (stored c.args.who v0 c.load_job-above.new.pass.seat.me.0 c.store_link.new.pass.seat.me.0 v3 c.load_job-above.ensures.sees c.store_link.ensures.goes c.store_job.ensures.goes) c.requires.parent)
 
 pub returns-else-act_on-clause-tried : goal.returns-else-act_on-clause-tried
 returns-else-act_on-clause-tried c =
@@ -141,9 +120,7 @@ returns-else-act_on-clause-tried c =
     let mine1 = mine_sees c.args.who c.args.row c.args.link c.args.job v0 v1 c.load_job-above.ensures.sees c.requires.mine in
     let mine3 : IsMine c.args.who c.args.row c.pack-new_link.result c.pack-new_job.result (store_of v3.seen) = c.store_job.ensures.mine c.pack-new_link.result (c.store_link.ensures.mine c.args.job mine1) in
     let first = sees_goes c.args.who v0 v1 c.load_job-above.ensures.sees in
-    let rest = goes_trans c.args.who [] [] v1 v3 v4 (goes_trans c.args.who [] [] v1 v2 v3 c.store_link.ensures.goes c.store_job.ensures.goes) last in
-    let a = attached_sees c.args.who v0 v1 c.args.parent c.load_job-above.ensures.sees c.requires.parent in (
-      goes_trans c.args.who [] [] v0 v1 v4 first rest,
+    let rest = goes_trans c.args.who [] [] v1 v3 v4 (goes_trans c.args.who [] [] v1 v2 v3 c.store_link.ensures.goes c.store_job.ensures.goes) last in (
+      record { goes = goes_trans c.args.who [] [] v0 v1 v4 first rest; grew = grew_more c.args.who [] v0 v1 v4 first (grew c.args.who [] v1 v4 c.args.parent rest c.load_job-above.ensures.attached (λ e. c.if-act_on.ensures.told.1 (c.load_job-above.ensures.word.is ∙ e))) },
       mine_sees c.args.who c.args.row c.pack-new_link.result c.pack-new_job.result v3 v4 c.if-act_on.ensures.told.0 mine3,
-      grew_more c.args.who [] v0 v1 v4 first (grew c.args.who [] v1 v4 c.args.parent rest a (λ e. c.if-act_on.ensures.told.1 (c.load_job-above.ensures.word.is ∙ e))),
     )

@@ -18,12 +18,12 @@ returns-in-Ended-clause-answer c =
     (goes_trans c.args.who [] [] c.args.pass.now.seat.me.0 c.tries.pass.seat.me.0 c.attach_once.new.pass.seat.me.0 c.tries.invariant.goes t.0, t.1)
 
 pub tries-smaller : goal.tries-smaller
-tries-smaller c = nearer c.args.forest.now.size c.tries.pass.seat.me.0 c.attach_once.new.pass.seat.me.0 c.args.forest.now.small c.attach_once.ensures.own.0.1 c.attach_once.new.pass.done c.in-Lost.ensures.tried.2
+tries-smaller c = nearer c.args.forest.now.size c.tries.pass.seat.me.0 c.attach_once.new.pass.seat.me.0 c.args.forest.now.small c.attach_once.ensures.own.0.1 c.attach_once.new.pass.done c.in-Lost.ensures.tried.0.grew
 
 pub tries-preserved : goal.tries-preserved
 tries-preserved c = record {
   own = c.attach_once.ensures.own;
-  goes = goes_trans c.args.who [] [] c.args.pass.now.seat.me.0 c.tries.pass.seat.me.0 c.attach_once.new.pass.seat.me.0 c.tries.invariant.goes c.in-Lost.ensures.tried.0;
+  goes = goes_trans c.args.who [] [] c.args.pass.now.seat.me.0 c.tries.pass.seat.me.0 c.attach_once.new.pass.seat.me.0 c.tries.invariant.goes c.in-Lost.ensures.tried.0.goes;
   parent = c.attach_once.ensures.parent;
   mine = c.in-Lost.ensures.tried.1;
 }

@@ -9,24 +9,13 @@ use Rattle.job_words.specs.Rows.{job_code}
 use Rattle.job_words.specs.Deeds.{shape_of, doer, IsDone, Fits}
 use Rattle.job_words.proofs.ActsOnOneWord.{cancels_row, is_state}
 use Rattle.job_words.proofs.StepsAsCalls.{sees_goes}
-use Rattle.job_words.proofs.PartsOfAnAttach.{attached_sees, sees_done, state_seen}
+use Rattle.job_words.proofs.PartsOfAnAttach.{sees_done, state_seen}
 use Rattle.job_words.proofs.TriesOfAnAct.{acted, lost}
 use Rattle.job_words.proofs.CausesInWords.{cause_goes, cause_more}
 use Rattle.job_words.proofs.cancelling.cancel_once.Goals as goal
 
 pub returns-then-not-is_cancellable-clause-answer : goal.returns-then-not-is_cancellable-clause-answer
-returns-then-not-is_cancellable-clause-answer c =
-    let v0 = c.args.pass.now.seat.me.0 in
-    let v1 = c.load_job-word.new.pass.seat.me.0 in
-    let sees = c.load_job-word.ensures.sees in
-    let size = c.args.forest.now.size in (
-      sees_goes c.args.who v0 v1 sees,
-      state_seen IsCancellingOrEnded size v1 c.args.row c.load_job-word.result c.args.forest.now.small (sees_done size c.args.who v0 v1 c.requires.own.0.1 sees) (attached_sees c.args.who v0 v1 c.args.row sees c.requires.cause.attached) c.load_job-word.ensures.word
-          (λ j e. ap is_cancellable (is_state j c.load_job-word.result e) ∙ sym c.is_cancellable.ensures ∙ c.if-not-is_cancellable.true),
-    )
-
-pub act_on-requires-clause-attached : goal.act_on-requires-clause-attached
-act_on-requires-clause-attached c = attached_sees c.args.who c.args.pass.now.seat.me.0 c.load_job-word.new.pass.seat.me.0 c.args.row c.load_job-word.ensures.sees c.requires.cause.attached
+returns-then-not-is_cancellable-clause-answer c = state_seen IsCancellingOrEnded c.args.forest.now.size c.args.who c.args.pass.now.seat.me.0 c.load_job-word.new.pass.seat.me.0 c.args.row c.load_job-word.result c.args.forest.now.small c.requires.own.0.1 c.load_job-word.ensures.sees c.load_job-word.ensures.attached c.load_job-word.ensures.word (λ j e. ap is_cancellable (is_state j c.load_job-word.result e) ∙ sym c.is_cancellable.ensures ∙ c.if-not-is_cancellable.true)
 
 pub act_on-requires-clause-may : goal.act_on-requires-clause-may
 act_on-requires-clause-may c =
@@ -45,4 +34,4 @@ pub returns-then-act_on-clause-answer : goal.returns-then-act_on-clause-answer
 returns-then-act_on-clause-answer c = (c.load_job-word.result, acted c.args.who c.args.row c.load_job-word.result _ c.args.pass.now.seat.me.0 c.load_job-word.new.pass.seat.me.0 c.act_on.new.pass.seat.me.0 c.load_job-word.ensures.sees c.if-act_on.ensures.told)
 
 pub returns-else-act_on-clause-answer : goal.returns-else-act_on-clause-answer
-returns-else-act_on-clause-answer c = lost c.args.who c.args.row c.load_job-word.result c.args.pass.now.seat.me.0 c.load_job-word.new.pass.seat.me.0 c.act_on.new.pass.seat.me.0 c.load_job-word.ensures.sees c.requires.cause.attached c.load_job-word.ensures.word c.if-act_on.ensures.told
+returns-else-act_on-clause-answer c = lost c.args.who c.args.row c.load_job-word.result c.args.pass.now.seat.me.0 c.load_job-word.new.pass.seat.me.0 c.act_on.new.pass.seat.me.0 c.load_job-word.ensures.sees c.load_job-word.ensures.attached c.load_job-word.ensures.word c.if-act_on.ensures.told

@@ -17,7 +17,7 @@ returns-in-Some-clause-answer c =
     cancel_answer c.args.who c.args.row c.args.reason v0 v c.cancel_once.new.pass.seat.me.0 c.in-Some.cancelled (goes_trans c.args.who [] [] v0 v1 v c.cause_for-cause.ensures.goes c.tries.invariant.goes) c.in-Some.ensures.answer
 
 pub tries-smaller : goal.tries-smaller
-tries-smaller c = nearer c.args.forest.now.size c.tries.pass.seat.me.0 c.cancel_once.new.pass.seat.me.0 c.args.forest.now.small c.cancel_once.ensures.own.0.1 c.cancel_once.new.pass.done c.in-None.ensures.answer.1
+tries-smaller c = nearer c.args.forest.now.size c.tries.pass.seat.me.0 c.cancel_once.new.pass.seat.me.0 c.args.forest.now.small c.cancel_once.ensures.own.0.1 c.cancel_once.new.pass.done c.in-None.ensures.answer.grew
 
 pub tries-preserved : goal.tries-preserved
 tries-preserved c =
@@ -25,8 +25,8 @@ tries-preserved c =
     let w = c.cancel_once.new.pass.seat.me.0 in
     record {
       own = c.cancel_once.ensures.own;
-      goes = goes_trans c.args.who [] [] c.cause_for-cause.new.pass.seat.me.0 v w c.tries.invariant.goes c.in-None.ensures.answer.0;
-      cause = cause_goes c.args.forest.now.size c.args.who c.args.row c.args.reason [] v w c.cause_for-cause.result c.args.forest.now.small c.tries.invariant.own.0.1 c.tries.pass.done c.in-None.ensures.answer.0 c.tries.invariant.cause;
+      goes = goes_trans c.args.who [] [] c.cause_for-cause.new.pass.seat.me.0 v w c.tries.invariant.goes c.in-None.ensures.answer.goes;
+      cause = cause_goes c.args.forest.now.size c.args.who c.args.row c.args.reason [] v w c.cause_for-cause.result c.args.forest.now.small c.tries.invariant.own.0.1 c.tries.pass.done c.in-None.ensures.answer.goes c.tries.invariant.cause;
     }
 
 pub returns-in-Some-clause-giving : goal.returns-in-Some-clause-giving

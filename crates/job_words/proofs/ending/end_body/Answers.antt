@@ -13,13 +13,13 @@ pub returns-in-Some-clause-answer : goal.returns-in-Some-clause-answer
 returns-in-Some-clause-answer c = end_body_answer c.args.forest.now.size c.args.who c.args.row c.args.value c.args.pass.now.seat.me.0 c.tries.pass.seat.me.0 c.end_body_once.new.pass.seat.me.0 c.in-Some.ended c.args.forest.now.small c.tries.invariant.own.0.1 (may_attached c.args.who _ c.tries.invariant.may) c.tries.invariant.goes c.in-Some.ensures.answer
 
 pub tries-smaller : goal.tries-smaller
-tries-smaller c = nearer c.args.forest.now.size c.tries.pass.seat.me.0 c.end_body_once.new.pass.seat.me.0 c.args.forest.now.small c.end_body_once.ensures.own.0.1 c.end_body_once.new.pass.done c.in-None.ensures.answer.1
+tries-smaller c = nearer c.args.forest.now.size c.tries.pass.seat.me.0 c.end_body_once.new.pass.seat.me.0 c.args.forest.now.small c.end_body_once.ensures.own.0.1 c.end_body_once.new.pass.done c.in-None.ensures.answer.grew
 
 pub tries-preserved : goal.tries-preserved
 tries-preserved c = record {
   own = c.end_body_once.ensures.own;
-  goes = goes_trans c.args.who [] [] c.args.pass.now.seat.me.0 c.tries.pass.seat.me.0 c.end_body_once.new.pass.seat.me.0 c.tries.invariant.goes c.in-None.ensures.answer.0;
-  may = own_body_goes c.args.who c.args.row [] c.tries.pass.seat.me.0 c.end_body_once.new.pass.seat.me.0 c.in-None.ensures.answer.0 c.tries.invariant.may;
+  goes = goes_trans c.args.who [] [] c.args.pass.now.seat.me.0 c.tries.pass.seat.me.0 c.end_body_once.new.pass.seat.me.0 c.tries.invariant.goes c.in-None.ensures.answer.goes;
+  may = own_body_goes c.args.who c.args.row [] c.tries.pass.seat.me.0 c.end_body_once.new.pass.seat.me.0 c.in-None.ensures.answer.goes c.tries.invariant.may;
 }
 
 pub returns-in-Some-clause-giving : goal.returns-in-Some-clause-giving

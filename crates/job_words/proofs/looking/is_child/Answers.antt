@@ -3,7 +3,7 @@ use Rattle.job_words.specs.Attaches.{IsAttached}
 use Rattle.job_words.specs.Rows.{without_hint}
 use Rattle.job_words.proofs.StepsAsCalls.{sees_goes, goes_trans}
 use Rattle.job_words.proofs.ClaimedRows.{goes_self}
-use Rattle.job_words.proofs.PartsOfAnAttach.{attached_sees, sees_done, goes_done}
+use Rattle.job_words.proofs.PartsOfAnAttach.{sees_done, goes_done}
 use Rattle.job_words.proofs.LooksSee.{walk_begins, next_attached, walk_steps}
 use Rattle.job_words.proofs.looking.is_child.Goals as goal
 
@@ -12,7 +12,7 @@ walk-init c =
     let v0 = c.args.pass.now.seat.me.0 in
     let v1 = c.load_job-next.new.pass.seat.me.0 in
     let size = c.args.forest.now.size in
-    let a = attached_sees c.args.who v0 v1 c.args.parent c.load_job-next.ensures.sees c.requires.parent in
+    let a = c.load_job-next.ensures.attached in
     record {
       own = c.load_job-next.ensures.own;
       goes = goes_self c.args.who v1 c.load_job-next.ensures.own.0.2 c.load_job-next.new.pass.done;

@@ -13,12 +13,12 @@ pub returns-in-Some-clause-answer : goal.returns-in-Some-clause-answer
 returns-in-Some-clause-answer c = start_answer c.args.who c.args.row c.args.pass.now.seat.me.0 c.tries.pass.seat.me.0 c.start_once.new.pass.seat.me.0 c.in-Some.started c.tries.invariant.goes c.in-Some.ensures.answer
 
 pub tries-smaller : goal.tries-smaller
-tries-smaller c = nearer c.args.forest.now.size c.tries.pass.seat.me.0 c.start_once.new.pass.seat.me.0 c.args.forest.now.small c.start_once.ensures.own.0.1 c.start_once.new.pass.done c.in-None.ensures.answer.1
+tries-smaller c = nearer c.args.forest.now.size c.tries.pass.seat.me.0 c.start_once.new.pass.seat.me.0 c.args.forest.now.small c.start_once.ensures.own.0.1 c.start_once.new.pass.done c.in-None.ensures.answer.grew
 
 pub tries-preserved : goal.tries-preserved
 tries-preserved c = record {
   own = c.start_once.ensures.own;
-  goes = goes_trans c.args.who [] [] c.args.pass.now.seat.me.0 c.tries.pass.seat.me.0 c.start_once.new.pass.seat.me.0 c.tries.invariant.goes c.in-None.ensures.answer.0;
+  goes = goes_trans c.args.who [] [] c.args.pass.now.seat.me.0 c.tries.pass.seat.me.0 c.start_once.new.pass.seat.me.0 c.tries.invariant.goes c.in-None.ensures.answer.goes;
   attached = c.start_once.ensures.attached;
 }
 

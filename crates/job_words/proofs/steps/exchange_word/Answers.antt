@@ -1,6 +1,5 @@
-use Rattle.std.proofs.Common.{◌≡◌, sym, ◌∙◌, subst}
-use Rattle.job_words.specs.Deeds.{IsSize}
-use Rattle.job_words.proofs.StepsOfATable.{told_of, told_stays, shaped, done, legal, claimed}
+use Rattle.std.proofs.Common.{◌≡◌, refl, sym, ◌∙◌}
+use Rattle.job_words.proofs.StepsOfATable.{told_of, told_stays, laws_of}
 use Rattle.job_words.proofs.steps.exchange_word.Goals as goal
 
 pub invariant_of-pass : goal.invariant_of-pass
@@ -10,7 +9,6 @@ invariant_of-pass c =
     let v = c.args.pass.now.seat.me.0 in
     let w = c.exchange.new.seat.me.0 in
     let key : v.key ≡ k = c.requires.own.0.1 ∙ sym f.sized.1 in
-    let t = told_of k c.args.who c.args.word c.args.old c.exchange.result c.args.deed.now v w key c.requires.own.0.2 c.requires.own.1 c.exchange.ensures.told in
-    let s = told_stays c.args.who c.args.word c.args.old c.exchange.result c.args.deed.now v w t in
-    let small = subst IsSize (sym f.sized.1) f.small in
-    record { shaped = shaped k w small (s.key ∙ key); done = done k c.args.who v w key s; legal = legal k c.args.who v w key s; claimed = claimed k c.args.who v w small key s }
+    let s = told_stays c.args.who c.args.word c.args.old c.exchange.result c.args.deed.now v w (told_of k c.args.who c.args.word c.args.old c.exchange.result c.args.deed.now v w key c.requires.own.0.2 c.requires.own.1 c.exchange.ensures.told) in
+    let l = laws_of f v.key w w.seen c.requires.own.0.1 s.key refl s.done in
+    record { shaped = l.shaped; done = l.done; legal = l.legal; claimed = l.claimed }

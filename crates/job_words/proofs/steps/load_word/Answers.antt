@@ -1,6 +1,5 @@
-use Rattle.std.proofs.Common.{◌≡◌, sym, ◌∙◌, subst}
-use Rattle.job_words.specs.Deeds.{IsSize}
-use Rattle.job_words.proofs.StepsOfATable.{sees_of, sees_stays, shaped, done, legal, claimed}
+use Rattle.std.proofs.Common.{◌≡◌, refl, sym, ◌∙◌}
+use Rattle.job_words.proofs.StepsOfATable.{sees_of, laws_of}
 use Rattle.job_words.proofs.steps.load_word.Goals as goal
 
 pub invariant_of-pass : goal.invariant_of-pass
@@ -10,6 +9,6 @@ invariant_of-pass c =
     let v = c.args.pass.now.seat.me.0 in
     let w = c.load.new.seat.me.0 in
     let key : v.key ≡ k = c.requires.own.0.1 ∙ sym f.sized.1 in
-    let s = sees_stays c.args.who v w (sees_of k c.args.who c.args.word c.load.result v w key c.requires.own.0.2 c.requires.own.1 c.load.ensures.loaded).0 in
-    let small = subst IsSize (sym f.sized.1) f.small in
-    record { shaped = shaped k w small (s.key ∙ key); done = done k c.args.who v w key s; legal = legal k c.args.who v w key s; claimed = claimed k c.args.who v w small key s }
+    let s = (sees_of k c.args.who c.args.word c.load.result v w key c.requires.own.0.2 c.requires.own.1 c.load.ensures.loaded).0 in
+    let l = laws_of f v.key w w.seen c.requires.own.0.1 s.key refl s.done in
+    record { shaped = l.shaped; done = l.done; legal = l.legal; claimed = l.claimed }

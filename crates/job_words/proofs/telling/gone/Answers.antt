@@ -34,13 +34,13 @@ returns-in-Some-clause-answer c =
     (parent_attached size v c.args.row c.load_link-parent.result.parent c.args.forest.now.small (goes_done size c.args.who [] v0 v c.requires.own.0.1 all) c.tries.invariant.parent) all c.in-Some.ensures.answer c.tries.invariant.parent
 
 pub tries-smaller : goal.tries-smaller
-tries-smaller c = nearer c.args.forest.now.size c.tries.pass.seat.me.0 c.gone_once.new.pass.seat.me.0 c.args.forest.now.small c.gone_once.ensures.own.0.1 c.gone_once.new.pass.done c.in-None.ensures.answer.1
+tries-smaller c = nearer c.args.forest.now.size c.tries.pass.seat.me.0 c.gone_once.new.pass.seat.me.0 c.args.forest.now.small c.gone_once.ensures.own.0.1 c.gone_once.new.pass.done c.in-None.ensures.answer.grew
 
 pub tries-preserved : goal.tries-preserved
 tries-preserved c =
     let v = c.tries.pass.seat.me.0 in
     let w = c.gone_once.new.pass.seat.me.0 in
-    let g = c.in-None.ensures.answer.0 in
+    let g = c.in-None.ensures.answer.goes in
     let p = c.load_link-parent.result.parent in
     record {
       own = c.gone_once.ensures.own;

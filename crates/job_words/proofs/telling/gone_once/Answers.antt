@@ -19,13 +19,6 @@ overflow_sub-living c =
     let sees = c.load_job-word.ensures.sees in
     living_some c.args.forest.now.size c.args.who c.args.row c.args.parent v1 c.load_job-word.result c.args.forest.now.small (sees_done c.args.forest.now.size c.args.who v0 v1 c.requires.own.0.1 sees) (own_gone_sees c.args.who c.args.row v0 v1 sees c.requires.untold) (parent_sees c.args.who c.args.row c.args.parent v0 v1 sees c.requires.parent) c.load_job-word.ensures.word
 
-pub act_on-requires-clause-attached : goal.act_on-requires-clause-attached
-act_on-requires-clause-attached c =
-    let v0 = c.args.pass.now.seat.me.0 in
-    let v1 = c.load_job-word.new.pass.seat.me.0 in
-    let sees = c.load_job-word.ensures.sees in
-    parent_attached c.args.forest.now.size v1 c.args.row c.args.parent c.args.forest.now.small (sees_done c.args.forest.now.size c.args.who v0 v1 c.requires.own.0.1 sees) (parent_sees c.args.who c.args.row c.args.parent v0 v1 sees c.requires.parent)
-
 pub act_on-requires-clause-may : goal.act_on-requires-clause-may
 act_on-requires-clause-may c =
     let v0 = c.args.pass.now.seat.me.0 in
@@ -38,12 +31,10 @@ act_on-requires-clause-may c =
     let may = own_gone_sees c.args.who c.args.row v0 v1 sees c.requires.untold in
     let up = parent_sees c.args.who c.args.row c.args.parent v0 v1 sees c.requires.parent in
     let some : 1 ≤ w.living = living_some size c.args.who c.args.row c.args.parent v1 w small done may up c.load_job-word.ensures.word in
-    tells_row size v1 c.args.who c.args.row c.args.parent (w.living - 1) w small c.load_job-word.ensures.own.1 (parent_attached size v1 c.args.row c.args.parent small done up) c.load_job-word.ensures.word.narrow may up (omega arith)
+    tells_row size v1 c.args.who c.args.row c.args.parent (w.living - 1) w small c.load_job-word.ensures.own.1 c.load_job-word.ensures.attached c.load_job-word.ensures.word.narrow may up (omega arith)
 
 pub returns-then-not-act_on-clause-answer : goal.returns-then-not-act_on-clause-answer
-returns-then-not-act_on-clause-answer c =
-    let v0 = c.args.pass.now.seat.me.0 in
-    lost c.args.who c.args.parent c.load_job-word.result v0 c.load_job-word.new.pass.seat.me.0 c.act_on.new.pass.seat.me.0 c.load_job-word.ensures.sees (parent_attached c.args.forest.now.size v0 c.args.row c.args.parent c.args.forest.now.small (subst (λ (k : ForestSize). IsDone (shape_of k) v0.seen) c.requires.own.0.1 c.args.pass.now.done) c.requires.parent) c.load_job-word.ensures.word c.if-not-act_on.ensures.told
+returns-then-not-act_on-clause-answer c = lost c.args.who c.args.parent c.load_job-word.result c.args.pass.now.seat.me.0 c.load_job-word.new.pass.seat.me.0 c.act_on.new.pass.seat.me.0 c.load_job-word.ensures.sees c.load_job-word.ensures.attached c.load_job-word.ensures.word c.if-not-act_on.ensures.told
 
 one_of : (n : ℕ) → 1 ≤ n → n - 1 ≡ 0 → n ≡ 1
 one_of n le e = omega arith

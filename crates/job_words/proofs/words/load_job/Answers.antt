@@ -12,3 +12,6 @@ pub unreachable-requires : goal.unreachable-requires
 unreachable-requires c =
     let w = c.load_word-number.new.pass.seat.me.0 in
     is_word w c.args.row c.load_word-number.result (attached_sees c.args.who c.args.pass.now.seat.me.0 w c.args.row c.load_word-number.ensures.sees c.requires.attached) (c.load_word-number.ensures.found.job c.args.row refl) (λ w. c.in-None.ensures w)
+
+pub returns-clause-attached : goal.returns-clause-attached
+returns-clause-attached c = attached_sees c.args.who c.args.pass.now.seat.me.0 c.load_word-number.new.pass.seat.me.0 c.args.row c.load_word-number.ensures.sees c.requires.attached
