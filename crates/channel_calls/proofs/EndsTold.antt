@@ -2,7 +2,6 @@
 use Rattle.std.specs.Prelude.{◌≡◌, ℕ, Bool, true, false, List, [], ◌∷◌, ◌++◌, Option, Some, None, Ok, refl}
 use Rattle.std.proofs.Common.{sym, ap, ◌∙◌, subst}
 use Rattle.co_base.specs.declared.names.WaitId.{WaitId}
-use Rattle.channel_model.specs.declared.acts.Act.{Act}
 use Rattle.channel_model.specs.declared.acts.Act.TheVariants.{Withdraw, Settle}
 use Rattle.channel_model.specs.declared.acts.ChannelNote.TheVariants.{Late}
 use Rattle.channel_model.specs.declared.acts.Settled.{Settled}
@@ -10,33 +9,28 @@ use Rattle.channel_model.specs.declared.acts.Settled.TheVariants as settled
 use Rattle.channel_model.specs.declared.acts.Why.TheVariants as why
 use Rattle.channel_model.specs.declared.standing.Resolution.{Resolution}
 use Rattle.channel_model.specs.declared.standing.Resolution.TheVariants as resolved
-use Rattle.channel_model.specs.Channels.{State, Wait}
-use Rattle.channel_model.specs.Effects.{resolved_wait}
+use Rattle.channel_model.specs.Channels.{Wait}
 use Rattle.channel_model.specs.Outcomes.{outcome_of}
 use Rattle.channel_model.specs.Histories.{replay, Legal}
-use Rattle.channel_model.specs.Floors.{Floor, HasRoom, Made}
+use Rattle.channel_model.specs.Floors.{Floor, HasRoom}
 use Rattle.channel_model.specs.Answers.{SettleAnswer, WithdrawAnswer, IsReady, IsReadyWait, IsResolvedWait, outcome_at, outcome_of_some, IsUnsettledOf}
 use Rattle.channel_model.specs.declared.floor.Withdrawn.TheVariants as withdraws
-use Rattle.channel_model.proofs.Histories.{replay_push, Legal-last}
-use Rattle.channel_model.proofs.Waits.{at_wait}
 use Rattle.channel_model.proofs.Spans.{prefix_self}
 use Rattle.channel_model.proofs.Others.{others_keep, unsettled_stays}
 use Rattle.note_book.specs.declared.book.Item.{Item}
 use Rattle.note_book.specs.declared.book.Item.TheVariants as item
 use Rattle.call_meaning.specs.Telling.{Told, TakenBack, made, heard}
-use Rattle.call_meaning.specs.Facts.{ActHolds, IsTakenBack, is_taken_back}
+use Rattle.call_meaning.specs.Facts.{IsTakenBack, is_taken_back}
 use Rattle.call_meaning.specs.Calls.{ToldOnChannels}
 use Rattle.call_meaning.specs.ChannelCalls.{Admits, GivesUp, is_given_up}
-use Rattle.call_meaning.proofs.ChannelsHeard.{told_then, told_roomed, told_made, told_made_after, told_met, moment_before}
+use Rattle.call_meaning.proofs.ChannelsHeard.{told_then, told_roomed, told_made_after, told_met, moment_before}
 use Rattle.channel_calls.specs.Groups.{made_note, settle_group}
 use Rattle.channel_calls.specs.Calls.{Tells, HoldsWait, DispatchedAnswer, CancelledAnswer, AdmittedAnswer, TakesBack, end_told}
 use Rattle.channel_calls.specs.Parts.{EndsCancelled, EndedCancelledAnswer}
 use Rattle.channel_calls.proofs.Roomed.{holds_roomed}
+use Rattle.channel_calls.proofs.WithdrawnWaits.{settle_told, withdrawn_end, withdrawn_told}
 
 -- ---- a wait that is settled
-
-settle_told : (who : ℕ) (w : WaitId) (outcome : Settled) (b d : Floor) (j k : List Item) → Made who (Settle w outcome) b d → k ≡ j ++ settle_group w outcome → ToldOnChannels who b d j k (made (Settle w outcome) ∷ [])
-settle_told who w outcome b d j k m f = told_made who (Settle w outcome) b d j k m (moment_before who (Settle w outcome) b d (ActHolds (Settle w outcome)) m tt) f
 
 -- a wait that ends as cancelled though its Job was not had been withdrawn or voided
 back_resolution : (how : Resolution) → outcome_of how false ≡ settled.Cancelled → is_taken_back (Some how) ≡ true
@@ -71,42 +65,14 @@ dispatched who n w cancelled a b d i j k outcome h s e f =
 
 -- ---- a wait that was withdrawn
 
-withdrawn_ready : (who : ℕ) (x : Option Wait) → IsUnsettledOf who x → IsReadyWait who (resolved_wait (resolved.Withdrawn why.Cancelled) x)
-withdrawn_ready who None h = h
-withdrawn_ready who (Some x) h = (h.0, refl, h.1)
-
-withdrawn_outcome : (who : ℕ) (x : Option Wait) (outcome : Settled) → IsUnsettledOf who x → outcome_at true (resolved_wait (resolved.Withdrawn why.Cancelled) x) ≡ Some outcome → outcome ≡ settled.Cancelled
-withdrawn_outcome who None outcome h e = absurd h
-withdrawn_outcome who (Some x) outcome h e = let k : Some settled.Cancelled ≡ Some outcome = e in cc
-
-withdrawn_at : (who : ℕ) (w : WaitId) (b c : Floor) → (m : Made who (Withdraw w why.Cancelled) b c) → (replay c.seen).waits w ≡ resolved_wait (resolved.Withdrawn why.Cancelled) ((replay m.before).waits w)
-withdrawn_at who w b c m =
-    ap (λ es. (replay es).waits w) m.last
-    ∙ ap (λ (s : State). s.waits w) (replay_push m.before (record { who = who; act = Withdraw w why.Cancelled }))
-    ∙ at_wait w _ (replay m.before).waits
-
-held_before : (who : ℕ) (w : WaitId) (act : Act) (b c : Floor) → Legal c.shape c.seen → HoldsWait who w b → (m : Made who act b c) → IsUnsettledOf who ((replay m.before).waits w)
-held_before who w act b c l h m =
-    let r = Legal-last c.shape m.before (record { who = who; act = act }) (subst (Legal c.shape) m.last l) in
-    others_keep c.shape who (IsUnsettledOf who) (unsettled_stays who) w b.seen m.before r.0 m.longer m.mine h
-
--- it may be settled
-pub ready_withdrawn : (who n : ℕ) (w : WaitId) (t : ℕ) (a b c : Floor) → Legal c.shape c.seen → HasRoom n a b → HoldsWait who w a → WithdrawAnswer who w why.Cancelled b c (withdraws.Done t) → IsReady who w c
-ready_withdrawn who n w t a b c l h k m =
-    subst (IsReadyWait who) (sym (withdrawn_at who w b c m.0)) (withdrawn_ready who _ (held_before who w (Withdraw w why.Cancelled) b c l (holds_roomed who n w a b h k) m.0))
-
--- and ends as cancelled
 pub withdrawn_now : (who n : ℕ) (w : WaitId) (t : ℕ) (a b c d : Floor) (i j k l : List Item) (outcome : Settled) → Legal c.shape c.seen → HasRoom n a b → HoldsWait who w a
     → WithdrawAnswer who w why.Cancelled b c (withdraws.Done t) → SettleAnswer who w true c d outcome → j ≡ i → k ≡ j ++ made_note (Withdraw w why.Cancelled) ∷ [] → l ≡ k ++ settle_group w outcome → EndedCancelledAnswer who w a d i l (Ok outcome)
 withdrawn_now who n w t a b c d i j k l outcome legal h holds m s e f g =
-    let is : outcome ≡ settled.Cancelled = withdrawn_outcome who ((replay m.0.before).waits w) outcome (held_before who w (Withdraw w why.Cancelled) b c legal (holds_roomed who n w a b h holds) m.0) (ap (outcome_at true) (sym (withdrawn_at who w b c m.0)) ∙ s.1) in
+    let told : List Told = made (Withdraw w why.Cancelled) ∷ made (Settle w settled.Cancelled) ∷ [] in
     record {
-      told = made (Withdraw w why.Cancelled) ∷ made (Settle w outcome) ∷ [];
-      goes = subst (λ o. EndsCancelled w o (made (Withdraw w why.Cancelled) ∷ made (Settle w o) ∷ [])) (sym is) EndsCancelled.withdrawn;
-      left = told_roomed who n a b d i j l (made (Withdraw w why.Cancelled) ∷ made (Settle w outcome) ∷ []) h e
-          (told_then who b c d j k l (made (Withdraw w why.Cancelled) ∷ []) (made (Settle w outcome) ∷ [])
-          (told_made who (Withdraw w why.Cancelled) b c j k m.0 (moment_before who (Withdraw w why.Cancelled) b c (ActHolds (Withdraw w why.Cancelled)) m.0 tt) f)
-          (settle_told who w outcome c d k l s.0 g));
+      told = told;
+      goes = subst (λ o. EndsCancelled w o told) (sym (withdrawn_end who n w why.Cancelled true t a b c d outcome legal h holds m s)) EndsCancelled.withdrawn;
+      left = withdrawn_told who n w why.Cancelled true t a b c d i j k l outcome legal h holds m s e f g;
     }
 
 -- ---- a wait that had been resolved

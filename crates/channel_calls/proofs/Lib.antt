@@ -8,6 +8,7 @@ pub mod ClosesTold
 pub mod Begun
 pub mod ReceivesTold
 pub mod SendsTold
+pub mod WithdrawnWaits
 pub mod EndsTold
 pub mod OwnClause
 pub mod OwnOffers

@@ -12,20 +12,26 @@ use Rattle.call_meaning.specs.Facts.{ActHolds, ChannelFactHolds}
 use Rattle.call_meaning.specs.Calls.{ToldOnChannels}
 use Rattle.call_meaning.proofs.ChannelsHeard.{told_then, told_roomed, told_made, moment_before}
 use Rattle.channel_calls.specs.Groups.{made_note}
-use Rattle.channel_calls.specs.Calls.{ToldSome}
-use Rattle.channel_calls.proofs.Untold.{told_seen, told_some}
+use Rattle.channel_calls.specs.declared.caller.Caller.{Caller}
+use Rattle.channel_calls.specs.Calls.{SameCaller, ToldSome}
+use Rattle.channel_calls.proofs.Untold.{told_none, told_seen, told_some}
 
 -- ---- the caller, once more
 
--- the caller may still call
-pub may_still : (who who' c : ℕ) (a b : Floor) → who' ≡ who → MayCall who c a → SameSetting a b → MayCall who' c b
-may_still who who' c a b e m same = record {
-  caller = ap (λ (f : ℕ → Bool). f who') same.callers ∙ ap a.callers e ∙ m.caller;
-  channel = subst (λ (s : Shape). c < length s) (sym same.shape) m.channel;
-}
+pub same_self : {F B W A : Type 0} {anchor : F → A} (a : Caller F B W) → SameCaller anchor a a
+same_self a = record { floor = refl; book = refl; wakes = refl; who = refl; anchor_is = refl }
 
-pub room_then : (n : ℕ) (a b d : Floor) → SameSetting a b → HasRoom n b d → SameSetting a d
-room_then n a b d h k = record { shape = k.same.shape ∙ h.shape; alone = k.same.alone ∙ h.alone; callers = k.same.callers ∙ h.callers }
+-- it is the same while the floor, the book and the wakes that it holds change
+pub still_same : {F B W A : Type 0} {anchor : F → A} (a b d : Caller F B W) → SameCaller anchor a b → d.floor.ghost_name ≡ b.floor.ghost_name → d.book.ghost_name ≡ b.book.ghost_name → d.wakes.ghost_name ≡ b.wakes.ghost_name → d.who ≡ b.who → anchor d.floor.now ≡ anchor b.floor.now
+    → SameCaller anchor a d
+still_same a b d s floor book wakes who is = record { floor = floor ∙ s.floor; book = book ∙ s.book; wakes = wakes ∙ s.wakes; who = who ∙ s.who; anchor_is = is ∙ s.anchor_is }
+
+-- it may still call, also after room was made
+pub may_still : (who who' c n : ℕ) (a b d : Floor) → who' ≡ who → MayCall who c a → SameSetting a b → HasRoom n b d → MayCall who' c d
+may_still who who' c n a b d e m same h = record {
+  caller = ap (λ (f : ℕ → Bool). f who') (h.same.callers ∙ same.callers) ∙ ap a.callers e ∙ m.caller;
+  channel = subst (λ (s : Shape). c < length s) (sym (h.same.shape ∙ same.shape)) m.channel;
+}
 
 -- fewer acts may still come
 pub fewer_left : (who c n : ℕ) (act : Act) (a b d e : Floor) → SameSetting a b → Legal e.shape e.seen → HasRoom n b d → Made who act d e → removes_from act ≡ Some c → left_of a.shape c e.seen < left_of a.shape c b.seen
@@ -47,6 +53,9 @@ pub record Repeats {X : Type 0} (f : X → Act) (who : ℕ) (old new : Floor) (i
   pub left : ToldOnChannels who old new items items' (all_made f of)
 
 module _ {X : Type 0} (f : X → Act) (who : ℕ) where
+  abbrev pub none_repeated : (a : Floor) (i : List Item) → Repeats f who a a i i
+  none_repeated a i = record { of = []; left = told_none who a i }
+
   -- one more
   unfoldable pub one_repeated : (who' n : ℕ) (x : X) (a b d e : Floor) (i j j' k : List Item) → who' ≡ who → (h : Repeats f who a b i j) → HasRoom n b d → j' ≡ j → Made who' (f x) d e → ((s : State) → ActHolds (f x) s) → k ≡ j' ++ made_note (f x) ∷ []
       → Repeats f who a e i k

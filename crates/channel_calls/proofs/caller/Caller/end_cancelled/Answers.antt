@@ -1,6 +1,7 @@
 use Rattle.channel_calls.proofs.Roomed.{call_roomed, own_roomed}
-use Rattle.channel_calls.proofs.EndsTold.{ready_withdrawn, ready_late, withdrawn_now, late_now}
+use Rattle.channel_calls.proofs.EndsTold.{ready_late, withdrawn_now, late_now}
 use Rattle.channel_calls.proofs.Untold.{untouched_some}
+use Rattle.channel_calls.proofs.WithdrawnWaits.{ready_withdrawn}
 use Rattle.channel_calls.proofs.caller.Caller.end_cancelled.Goals as goal
 
 pub returns-in-Err-clause-answer : goal.returns-in-Err-clause-answer
@@ -13,7 +14,7 @@ pub withdraw-requires-clause-own : goal.withdraw-requires-clause-own
 withdraw-requires-clause-own g c = own_roomed _ _ _ _ _ c.in_default.ensures.floor c.requires.holds
 
 pub settle-requires-clause-ready : goal.settle-requires-clause-ready
-settle-requires-clause-ready g c = ready_withdrawn _ _ _ _ _ _ _ (g.met.F.ChannelFloor.legal c.withdraw.new.self) c.in_default.ensures.floor c.requires.holds c.in-Done.ensures.answer
+settle-requires-clause-ready g c = ready_withdrawn _ _ _ _ _ _ _ _ (g.met.F.ChannelFloor.legal c.withdraw.new.self) c.in_default.ensures.floor c.requires.holds c.in-Done.ensures.answer
 
 pub settle-requires-in-Late-clause-ready : goal.settle-requires-in-Late-clause-ready
 settle-requires-in-Late-clause-ready g c = ready_late _ _ _ _ _ _ (g.met.F.ChannelFloor.legal c.withdraw.new.self) c.in_default.ensures.floor c.requires.holds c.in-Late.ensures.answer

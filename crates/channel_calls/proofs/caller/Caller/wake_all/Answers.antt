@@ -1,21 +1,18 @@
-use Rattle.std.proofs.Common.{[], refl, ◌∙◌}
+use Rattle.std.proofs.Common.{refl, ◌∙◌}
 use Rattle.channel_model.specs.declared.acts.Act.TheVariants.{WakeClosed}
-use Rattle.channel_calls.proofs.Repeated.{may_still, room_then, fewer_left, one_repeated, still_repeated}
+use Rattle.channel_calls.proofs.Repeated.{same_self, still_same, may_still, fewer_left, none_repeated, one_repeated, still_repeated}
 use Rattle.channel_calls.proofs.ClosesTold.{closed_roomed, closed_made, woken_all}
-use Rattle.channel_calls.proofs.Untold.{told_none}
 use Rattle.channel_calls.proofs.caller.Caller.wake_all.Goals as goal
 
 pub loop-memory-init : goal.loop-memory-init
 loop-memory-init g c = record {
-  same = record { floor = refl; book = refl; wakes = refl; who = refl; anchor_is = refl };
-  each = record { of = []; left = told_none _ _ _ };
+  same = same_self _;
+  each = none_repeated _ _ _ _;
   ever = c.requires.closed;
 }
 
 pub returns-in-Err-clause-same : goal.returns-in-Err-clause-same
-returns-in-Err-clause-same g c =
-    let i = c.loop-memory.invariant in
-    record { floor = i.same.floor; book = i.same.book; wakes = i.same.wakes; who = i.same.who; anchor_is = c.make_room.ensures.anchor ∙ i.same.anchor_is }
+returns-in-Err-clause-same g c = still_same _ _ _ c.loop-memory.invariant.same refl refl refl refl c.make_room.ensures.anchor
 
 pub returns-in-Err-clause-answer : goal.returns-in-Err-clause-answer
 returns-in-Err-clause-answer g c = still_repeated _ _ _ _ _ _ _ _ c.loop-memory.invariant.each c.in-Err.ensures.same c.make_room.ensures.items
@@ -23,15 +20,13 @@ returns-in-Err-clause-answer g c = still_repeated _ _ _ _ _ _ _ _ c.loop-memory.
 pub wake_closed-requires-clause-can : goal.wake_closed-requires-clause-can
 wake_closed-requires-clause-can g c =
     let i = c.loop-memory.invariant in
-    may_still _ _ _ _ _ i.same.who c.requires.can (room_then _ _ _ _ i.each.left.added.same c.in_default.ensures.floor)
+    may_still _ _ _ _ _ _ _ i.same.who c.requires.can i.each.left.added.same c.in_default.ensures.floor
 
 pub wake_closed-requires-clause-closed : goal.wake_closed-requires-clause-closed
 wake_closed-requires-clause-closed g c = closed_roomed _ _ (g.F.ChannelFloor.view c.loop-memory.self.floor.now) _ c.in_default.ensures.floor c.loop-memory.invariant.ever
 
 pub returns-in_default-wake_closed-clause-same : goal.returns-in_default-wake_closed-clause-same
-returns-in_default-wake_closed-clause-same g c =
-    let i = c.loop-memory.invariant in
-    record { floor = i.same.floor; book = i.same.book; wakes = i.same.wakes; who = i.same.who; anchor_is = c.wake_closed.ensures.anchor ∙ c.make_room.ensures.anchor ∙ i.same.anchor_is }
+returns-in_default-wake_closed-clause-same g c = still_same _ _ _ c.loop-memory.invariant.same refl refl refl refl (c.wake_closed.ensures.anchor ∙ c.make_room.ensures.anchor)
 
 pub returns-in_default-wake_closed-clause-answer : goal.returns-in_default-wake_closed-clause-answer
 returns-in_default-wake_closed-clause-answer g c =
@@ -47,7 +42,7 @@ pub loop-memory-preserved : goal.loop-memory-preserved
 loop-memory-preserved g c =
     let i = c.loop-memory.invariant in
     record {
-      same = record { floor = i.same.floor; book = i.same.book; wakes = i.same.wakes; who = i.same.who; anchor_is = c.wake_closed.ensures.anchor ∙ c.make_room.ensures.anchor ∙ i.same.anchor_is };
+      same = still_same _ _ _ i.same refl refl refl refl (c.wake_closed.ensures.anchor ∙ c.make_room.ensures.anchor);
       each = one_repeated (λ q. WakeClosed c.args.c q) _ _ _ _ _ _ _ _ _ _ _ _ i.same.who i.each c.in_default.ensures.floor c.make_room.ensures.items c.in-Some.ensures.answer.made (λ s. tt) c.note.ensures.items;
       ever = closed_made _ _ _ _ _ _ _ (g.met.F.ChannelFloor.legal c.wake_closed.new.self) c.in_default.ensures.floor c.in-Some.ensures.answer.made i.ever;
     }
