@@ -7,3 +7,4 @@ pub mod Ways
 pub mod Walks
 pub mod Climbs
 pub mod Endings
+pub mod CallersKept

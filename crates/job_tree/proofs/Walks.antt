@@ -21,9 +21,10 @@ use Rattle.job_model.proofs.Families.{replay_families}
 use Rattle.job_model.proofs.Below.{cancelling_lasts, below_kept}
 use Rattle.note_book.specs.declared.book.Item.{Item}
 use Rattle.job_tree.specs.Notes.{Noted}
-use Rattle.job_tree.specs.Rooms.{uncancelled}
+use Rattle.job_tree.specs.Rooms.{uncancelled, MayCancelAll}
 use Rattle.job_tree.specs.Passes.{IsNewestOf, HasNoneBelow, IsPassBelow, IsPass, CancelledJob, WalkStepAnswer, IsPartBelow, IsPartOfPass, IsCovered, covers}
 use Rattle.job_model.specs.Cancels.{IsAllCancelled, AreCancelsBelow, own_cancel}
+use Rattle.job_tree.specs.declared.caller.Reserve.{Reserve}
 use Rattle.job_tree.specs.declared.caller.Reserve.TheVariants.{Before, AsItGoes}
 use Rattle.job_tree.specs.declared.steps.WalkStep.TheVariants.{To, Over, Up}
 use Rattle.job_model.proofs.Covered.{prefix_keeps_all}
@@ -32,7 +33,7 @@ use Rattle.job_model.proofs.Ranks.{ranks, top_rank, are_ranks, ranks_stay}
 use Rattle.job_tree.proofs.Notes.{noted_then, noted_looked}
 use Rattle.job_tree.proofs.PassesTold.{pass_told, pass_tells, pass_count}
 use Rattle.job_model.proofs.FailingUp.{cancels_below_kept}
-use Rattle.job_tree.proofs.Rooms.{looked_fewer, uncancelled_rows}
+use Rattle.job_tree.proofs.Rooms.{looked_fewer, looked_room, uncancelled_rows}
 use Rattle.job_tree.proofs.Ways.{IsWay, way_kept, still_cancelled, IsStep, step_down, step_over, step_none, step_up}
 
 -- ---- where a walk stands
@@ -345,6 +346,19 @@ after_up who who' top at p true a b c i j j' count e f s l h w apart look t =
     let r = walk_step_up a.shape b c top at true p s la w apart t in
     record { walk = r.0; less = less_left a.shape b.seen c.seen top at p true true s la r.0 r.1; so_far = far }
 after_up who who' top at p false a b c i j j' count e f s l h w apart look t = absurd t
+
+-- where a pass over all below a row has come to; `most`: a number for the rows, that a count of Cancels stays within
+pub record IsOnWay (who top at : ℕ) (done : Bool) (reserve : Reserve) (most count : ℕ) (a b : Floor) (items items' : List Item) (spare : ℕ) : Type 0 where
+  pub walk : IsWalk a.shape b.seen top at done
+  pub so_far : IsPassSoFar who top a b items items' count
+  pub room : reserve ≡ Before → MayCancelAll b spare
+  pub rows : most ≡ a.shape.rows
+  pub few : most < 65536
+
+-- a step that only looks leaves the room
+pub way_looked : (who who' top at next : ℕ) (done over : Bool) (reserve : Reserve) (most count count' : ℕ) (a b c : Floor) (i j k : List Item) (spare spare' : ℕ) → Looked who' [] b c → spare' ≡ spare → IsOnWay who top at done reserve most count a b i j spare
+    → IsAfter who top at done a b c i k next over count' → IsOnWay who top next over reserve most count' a c i k spare'
+way_looked who who' top at next done over reserve most count count' a b c i j k spare spare' look e h r = record { walk = r.walk; so_far = r.so_far; room = λ f. looked_room who' [] b c spare spare' look e (h.room f); rows = h.rows; few = h.few }
 
 pub pass_below_done : (who top : ℕ) (a b : Floor) (i j : List Item) (count : ℕ) → IsPassSoFar who top a b i j count → IsAllCancelled (replay b.seen) top → IsPassBelow who top a b i j count
 pass_below_done who top a b i j count h all = record { acts = h.acts; noted = h.noted; cancels = h.cancels; counted = h.counted; all = all }

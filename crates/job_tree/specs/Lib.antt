@@ -1,3 +1,4 @@
+pub mod Callers
 pub mod Notes
 pub mod Rooms
 pub mod Passes

@@ -3,6 +3,7 @@
 use co_base::Tag;
 
 /// The calls of one coroutine on a floor of Jobs, noted in its book.
+#[derive(Drop)]
 pub struct JobCaller<'floor, 'book, 'wakes, F, B, W> {
     pub floor: &'floor mut F,
     pub book: &'book mut B,

@@ -4,6 +4,7 @@ ghost use Rattle.std.specs.Prelude.{◌≡◌, ℕ, ◌+◌, ◌≤◌, Bool, tr
 ghost use Rattle.job_model.specs.declared.acts.End.{End as AnEnd};
 ghost use Rattle.job_model.specs.Floors.{MayCall};
 ghost use Rattle.note_book.specs.declared.book.Item.{Item as AnItem};
+ghost use Rattle.job_tree.specs.Callers.{SameCaller};
 ghost use Rattle.job_tree.specs.Endings.{HasEnded, EndAnswer, IsFinishedUp};
 
 use crate::caller::JobCaller;
@@ -54,11 +55,7 @@ impl<F: JobFloor, B: NoteBook, W: Wakes> JobCaller<'_, '_, '_, F, B, W> {
     /// Ends one Job, where it may end, and tells its parent.
     fn finish_one<E: Ends<B, W>>(&mut self, row: Row, ends: &mut E) -> Result<Rise, Memory>
         requires can { MayCall self.old.who row (F.view self.old.floor.now) }
-        ensures same_floor { self.new.floor.ghost_name ≡ self.old.floor.ghost_name }
-        ensures same_book { self.new.book.ghost_name ≡ self.old.book.ghost_name }
-        ensures same_wakes { self.new.wakes.ghost_name ≡ self.old.wakes.ghost_name }
-        ensures who { self.new.who ≡ self.old.who }
-        ensures anchor { F.anchor self.new.floor.now ≡ F.anchor self.old.floor.now }
+        ensures same { SameCaller F.anchor self.old self.new }
         ensures answer { EndAnswer E.prepares E.does self.old.who row (F.view self.old.floor.now)
             (F.view self.new.floor.now) ends.old ends.new (B.items self.old.book.now) (B.items self.new.book.now) result }
     {
@@ -90,11 +87,7 @@ impl<F: JobFloor, B: NoteBook, W: Wakes> JobCaller<'_, '_, '_, F, B, W> {
     /// Memory: what was done so far stands and is noted.
     pub fn finish_up<E: Ends<B, W>>(&mut self, row: Row, ends: &mut E) -> Result<(), Memory>
         requires can { MayCall self.old.who row (F.view self.old.floor.now) }
-        ensures same_floor { self.new.floor.ghost_name ≡ self.old.floor.ghost_name }
-        ensures same_book { self.new.book.ghost_name ≡ self.old.book.ghost_name }
-        ensures same_wakes { self.new.wakes.ghost_name ≡ self.old.wakes.ghost_name }
-        ensures who { self.new.who ≡ self.old.who }
-        ensures anchor { F.anchor self.new.floor.now ≡ F.anchor self.old.floor.now }
+        ensures same { SameCaller F.anchor self.old self.new }
         ensures finished { IsFinishedUp E.prepares E.does self.old.who row (F.view self.old.floor.now) ends.old
             (B.items self.old.book.now) (F.view self.new.floor.now) ends.new (B.items self.new.book.now) result }
     {

@@ -3,6 +3,7 @@
 ghost use Rattle.std.specs.Prelude.{◌≡◌, []};
 ghost use Rattle.job_model.specs.Histories.{replay};
 ghost use Rattle.job_model.specs.Floors.{MayCall, Looked};
+ghost use Rattle.job_tree.specs.Callers.{SameCaller};
 ghost use Rattle.job_tree.specs.Rooms.{MayCancelAll};
 ghost use Rattle.job_tree.specs.Passes.{IsFailure};
 ghost use Rattle.job_tree.specs.Failures.{ParentAnswer, IsFailedUp, ClimbAnswer};
@@ -17,11 +18,7 @@ impl<F: JobFloor, B: NoteBook, W: Wakes> JobCaller<'_, '_, '_, F, B, W> {
     /// The parent that a failure of this Job cancels.
     fn failing_parent(&mut self, row: Row) -> Option<Row>
         requires can { MayCall self.old.who row (F.view self.old.floor.now) }
-        ensures same_floor { self.new.floor.ghost_name ≡ self.old.floor.ghost_name }
-        ensures same_book { self.new.book.ghost_name ≡ self.old.book.ghost_name }
-        ensures same_wakes { self.new.wakes.ghost_name ≡ self.old.wakes.ghost_name }
-        ensures who { self.new.who ≡ self.old.who }
-        ensures anchor { F.anchor self.new.floor.now ≡ F.anchor self.old.floor.now }
+        ensures same { SameCaller F.anchor self.old self.new }
         ensures book { self.new.book.now ≡ self.old.book.now }
         ensures answer { ParentAnswer self.old.who row (F.view self.old.floor.now) (F.view self.new.floor.now) result }
     {
@@ -50,11 +47,7 @@ impl<F: JobFloor, B: NoteBook, W: Wakes> JobCaller<'_, '_, '_, F, B, W> {
         requires can { MayCall self.old.who row (F.view self.old.floor.now) }
         requires failed { IsFailure (replay (F.view self.old.floor.now).seen row) }
         requires room { MayCancelAll (F.view self.old.floor.now) (B.spare self.old.book.now) }
-        ensures same_floor { self.new.floor.ghost_name ≡ self.old.floor.ghost_name }
-        ensures same_book { self.new.book.ghost_name ≡ self.old.book.ghost_name }
-        ensures same_wakes { self.new.wakes.ghost_name ≡ self.old.wakes.ghost_name }
-        ensures who { self.new.who ≡ self.old.who }
-        ensures anchor { F.anchor self.new.floor.now ≡ F.anchor self.old.floor.now }
+        ensures same { SameCaller F.anchor self.old self.new }
         ensures up { IsFailedUp self.old.who row (F.view self.old.floor.now) (F.view self.new.floor.now) (B.items self.old.book.now)
             (B.items self.new.book.now) }
         ensures room { MayCancelAll (F.view self.new.floor.now) (B.spare self.new.book.now) }
@@ -71,11 +64,7 @@ impl<F: JobFloor, B: NoteBook, W: Wakes> JobCaller<'_, '_, '_, F, B, W> {
         requires can { MayCall self.old.who row (F.view self.old.floor.now) }
         requires failed { IsFailure (replay (F.view self.old.floor.now).seen row) }
         requires room { reserve ≡ Before → MayCancelAll (F.view self.old.floor.now) (B.spare self.old.book.now) }
-        ensures same_floor { self.new.floor.ghost_name ≡ self.old.floor.ghost_name }
-        ensures same_book { self.new.book.ghost_name ≡ self.old.book.ghost_name }
-        ensures same_wakes { self.new.wakes.ghost_name ≡ self.old.wakes.ghost_name }
-        ensures who { self.new.who ≡ self.old.who }
-        ensures anchor { F.anchor self.new.floor.now ≡ F.anchor self.old.floor.now }
+        ensures same { SameCaller F.anchor self.old self.new }
         ensures answer { ClimbAnswer self.old.who row reserve (F.view self.old.floor.now) (F.view self.new.floor.now)
             (B.items self.old.book.now) (B.items self.new.book.now) result }
         ensures room { reserve ≡ Before → MayCancelAll (F.view self.new.floor.now) (B.spare self.new.book.now) }

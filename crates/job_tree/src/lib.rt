@@ -19,3 +19,4 @@ mod steps;
 pub use caller::{JobCaller, Reserve};
 pub use ends::Ends;
 pub use passes::Passed;
+pub use steps::{make_room, wake_job};

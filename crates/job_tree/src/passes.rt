@@ -5,6 +5,7 @@ ghost use Rattle.job_model.specs.Needs.{Holds};
 ghost use Rattle.job_model.specs.Histories.{replay};
 ghost use Rattle.job_model.specs.Families.{IsCancellingOrEnded};
 ghost use Rattle.job_model.specs.Floors.{MayCall};
+ghost use Rattle.job_tree.specs.Callers.{SameCaller};
 ghost use Rattle.job_tree.specs.Rooms.{MayCancelAll};
 ghost use Rattle.job_tree.specs.Passes.{BelowAnswer, PassAnswer, IsSomePass, IsCovered, covers};
 ghost use Rattle.job_tree.specs.declared.caller.Reserve.TheVariants.{Before};
@@ -46,11 +47,7 @@ impl<F: JobFloor, B: NoteBook, W: Wakes> JobCaller<'_, '_, '_, F, B, W> {
         requires cancelled { IsCancellingOrEnded (replay (F.view self.old.floor.now).seen row) }
         requires covered { IsCovered (replay (F.view self.old.floor.now).seen) covered }
         requires room { reserve ≡ Before → MayCancelAll (F.view self.old.floor.now) (B.spare self.old.book.now) }
-        ensures same_floor { self.new.floor.ghost_name ≡ self.old.floor.ghost_name }
-        ensures same_book { self.new.book.ghost_name ≡ self.old.book.ghost_name }
-        ensures same_wakes { self.new.wakes.ghost_name ≡ self.old.wakes.ghost_name }
-        ensures who { self.new.who ≡ self.old.who }
-        ensures anchor { F.anchor self.new.floor.now ≡ F.anchor self.old.floor.now }
+        ensures same { SameCaller F.anchor self.old self.new }
         ensures answer { BelowAnswer self.old.who row reserve (F.view self.old.floor.now) (F.view self.new.floor.now)
             (B.items self.old.book.now) (B.items self.new.book.now) result }
         ensures room { reserve ≡ Before → MayCancelAll (F.view self.new.floor.now) (B.spare self.new.book.now) }
@@ -83,11 +80,7 @@ impl<F: JobFloor, B: NoteBook, W: Wakes> JobCaller<'_, '_, '_, F, B, W> {
         requires can { MayCall self.old.who row (F.view self.old.floor.now) }
         requires reason { Holds (F.view self.old.floor.now).shape (replay (F.view self.old.floor.now).seen) self.old.who row reason }
         requires room { MayCancelAll (F.view self.old.floor.now) (B.spare self.old.book.now) }
-        ensures same_floor { self.new.floor.ghost_name ≡ self.old.floor.ghost_name }
-        ensures same_book { self.new.book.ghost_name ≡ self.old.book.ghost_name }
-        ensures same_wakes { self.new.wakes.ghost_name ≡ self.old.wakes.ghost_name }
-        ensures who { self.new.who ≡ self.old.who }
-        ensures anchor { F.anchor self.new.floor.now ≡ F.anchor self.old.floor.now }
+        ensures same { SameCaller F.anchor self.old self.new }
         ensures pass { IsSomePass self.old.who row reason (F.view self.old.floor.now) (F.view self.new.floor.now)
             (B.items self.old.book.now) (B.items self.new.book.now) result }
         ensures room { MayCancelAll (F.view self.new.floor.now) (B.spare self.new.book.now) }
@@ -104,11 +97,7 @@ impl<F: JobFloor, B: NoteBook, W: Wakes> JobCaller<'_, '_, '_, F, B, W> {
         requires can { MayCall self.old.who row (F.view self.old.floor.now) }
         requires reason { Holds (F.view self.old.floor.now).shape (replay (F.view self.old.floor.now).seen) self.old.who row reason }
         requires room { reserve ≡ Before → MayCancelAll (F.view self.old.floor.now) (B.spare self.old.book.now) }
-        ensures same_floor { self.new.floor.ghost_name ≡ self.old.floor.ghost_name }
-        ensures same_book { self.new.book.ghost_name ≡ self.old.book.ghost_name }
-        ensures same_wakes { self.new.wakes.ghost_name ≡ self.old.wakes.ghost_name }
-        ensures who { self.new.who ≡ self.old.who }
-        ensures anchor { F.anchor self.new.floor.now ≡ F.anchor self.old.floor.now }
+        ensures same { SameCaller F.anchor self.old self.new }
         ensures answer { PassAnswer self.old.who row reason reserve (F.view self.old.floor.now) (F.view self.new.floor.now)
             (B.items self.old.book.now) (B.items self.new.book.now) result }
         ensures room { reserve ≡ Before → MayCancelAll (F.view self.new.floor.now) (B.spare self.new.book.now) }
@@ -128,11 +117,7 @@ impl<F: JobFloor, B: NoteBook, W: Wakes> JobCaller<'_, '_, '_, F, B, W> {
         requires reason { Holds (F.view self.old.floor.now).shape (replay (F.view self.old.floor.now).seen) self.old.who row reason }
         requires covered { IsCovered (replay (F.view self.old.floor.now).seen) covered }
         requires room { reserve ≡ Before → MayCancelAll (F.view self.old.floor.now) (B.spare self.old.book.now) }
-        ensures same_floor { self.new.floor.ghost_name ≡ self.old.floor.ghost_name }
-        ensures same_book { self.new.book.ghost_name ≡ self.old.book.ghost_name }
-        ensures same_wakes { self.new.wakes.ghost_name ≡ self.old.wakes.ghost_name }
-        ensures who { self.new.who ≡ self.old.who }
-        ensures anchor { F.anchor self.new.floor.now ≡ F.anchor self.old.floor.now }
+        ensures same { SameCaller F.anchor self.old self.new }
         ensures answer { PassAnswer self.old.who row reason reserve (F.view self.old.floor.now) (F.view self.new.floor.now)
             (B.items self.old.book.now) (B.items self.new.book.now) result }
         ensures room { reserve ≡ Before → MayCancelAll (F.view self.new.floor.now) (B.spare self.new.book.now) }

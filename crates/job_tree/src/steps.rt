@@ -1,16 +1,16 @@
 //! One step of a call, noted.
 
-ghost use Rattle.std.specs.Prelude.{◌≡◌, ◌≢◌, ◌<◌, ℕ, true, [], OnOk, OnErr};
+ghost use Rattle.std.specs.Prelude.{◌≡◌, ◌≢◌, ◌<◌, ◌≤◌, ℕ, true, [], OnOk, OnErr};
 ghost use Rattle.job_model.specs.Needs.{Holds};
 ghost use Rattle.job_model.specs.Histories.{replay};
-ghost use Rattle.job_model.specs.Floors.{MayCall, Looked};
-ghost use Rattle.job_tree.specs.Notes.{Noted};
+ghost use Rattle.job_model.specs.Floors.{MayCall, HasRoom, Looked};
+ghost use Rattle.job_tree.specs.Callers.{SameCaller};
 ghost use Rattle.job_tree.specs.Rooms.{MayCancelAll};
 ghost use Rattle.job_tree.specs.Passes.{CancelAnswer, WalkStepAnswer};
 ghost use Rattle.job_tree.specs.declared.caller.Reserve.TheVariants.{Before, AsItGoes};
 
 use crate::caller::{JobCaller, Reserve};
-use co_base::{Memory, Row, Wakes};
+use co_base::{Memory, Row, Tag, Wakes};
 use job_model::{CancelledNow, JobAct, JobFloor, JobNote, Reason};
 use note_book::{Item, NoteBook};
 
@@ -25,8 +25,29 @@ pub(crate) enum WalkStep {
     Up(Row),
 }
 
+/// Makes room for so many entries on Jobs, each noted.
+pub fn make_room<F: JobFloor, B: NoteBook>(
+    floor: &mut F,
+    book: &mut B,
+    n: u32,
+) -> Result<(), Memory>
+    ensures anchor { F.anchor floor.new ≡ F.anchor floor.old }
+    ensures items { B.items book.new ≡ B.items book.old }
+    ensures floor { OnOk result (HasRoom n (F.view floor.old) (F.view floor.new)) }
+    ensures book { OnOk result (n ≤ B.spare book.new) }
+    ensures same { OnErr result (F.view floor.new ≡ F.view floor.old) }
+{
+    if let Err(memory) = book.room(n) {
+        return Err(memory);
+    }
+    if let Err(memory) = floor.room(n) {
+        return Err(memory);
+    }
+    Ok(())
+}
+
 /// Makes room for one entry and its note, unless that was made before.
-fn make_room<F: JobFloor, B: NoteBook>(
+fn room_for_cancel<F: JobFloor, B: NoteBook>(
     floor: &mut F,
     book: &mut B,
     reserve: Reserve,
@@ -43,38 +64,28 @@ fn make_room<F: JobFloor, B: NoteBook>(
 {
     match reserve {
         Reserve::Before => Ok(()),
-        Reserve::AsItGoes => {
-            if let Err(memory) = book.room(1) {
-                return Err(memory);
-            }
-            if let Err(memory) = floor.room(1) {
-                return Err(memory);
-            }
-            Ok(())
-        }
+        Reserve::AsItGoes => match make_room(floor, book, 1) {
+            Ok(()) => Ok(()),
+            Err(memory) => Err(memory),
+        },
     }
 }
 
-impl<F: JobFloor, B: NoteBook, W: Wakes> JobCaller<'_, '_, '_, F, B, W> {
-    /// Asks that the coroutine of the Job be polled.
-    fn wake_job(&mut self, row: Row)
-        requires can { MayCall self.old.who row (F.view self.old.floor.now) }
-        ensures same_floor { self.new.floor.ghost_name ≡ self.old.floor.ghost_name }
-        ensures same_book { self.new.book.ghost_name ≡ self.old.book.ghost_name }
-        ensures same_wakes { self.new.wakes.ghost_name ≡ self.old.wakes.ghost_name }
-        ensures who { self.new.who ≡ self.old.who }
-        ensures anchor { F.anchor self.new.floor.now ≡ F.anchor self.old.floor.now }
-        ensures book { self.new.book.now ≡ self.old.book.now }
-        ensures looked { Looked self.old.who [] (F.view self.old.floor.now) (F.view self.new.floor.now) }
-    {
-        let tag = if row == 0 {
-            0
-        } else {
-            self.floor.link(self.who, row).tag
-        };
-        self.wakes.wake(tag);
-    }
+/// Asks that the coroutine of the Job be polled.
+pub fn wake_job<F: JobFloor, W: Wakes>(floor: &mut F, wakes: &mut W, who: Tag, row: Row)
+    requires can { MayCall who row (F.view floor.old) }
+    ensures anchor { F.anchor floor.new ≡ F.anchor floor.old }
+    ensures looked { Looked who [] (F.view floor.old) (F.view floor.new) }
+{
+    let tag = if row == 0 {
+        0
+    } else {
+        floor.link(who, row).tag
+    };
+    wakes.wake(tag);
+}
 
+impl<F: JobFloor, B: NoteBook, W: Wakes> JobCaller<'_, '_, '_, F, B, W> {
     /// Cancels the Job alone, where it is not Cancelling or ended, and answers whether it did.
     pub(crate) fn cancel_job(
         &mut self,
@@ -85,11 +96,7 @@ impl<F: JobFloor, B: NoteBook, W: Wakes> JobCaller<'_, '_, '_, F, B, W> {
         requires can { MayCall self.old.who row (F.view self.old.floor.now) }
         requires reason { Holds (F.view self.old.floor.now).shape (replay (F.view self.old.floor.now).seen) self.old.who row reason }
         requires room { reserve ≡ Before → MayCancelAll (F.view self.old.floor.now) (B.spare self.old.book.now) }
-        ensures same_floor { self.new.floor.ghost_name ≡ self.old.floor.ghost_name }
-        ensures same_book { self.new.book.ghost_name ≡ self.old.book.ghost_name }
-        ensures same_wakes { self.new.wakes.ghost_name ≡ self.old.wakes.ghost_name }
-        ensures who { self.new.who ≡ self.old.who }
-        ensures anchor { F.anchor self.new.floor.now ≡ F.anchor self.old.floor.now }
+        ensures same { SameCaller F.anchor self.old self.new }
         ensures answer { CancelAnswer self.old.who row reason reserve (F.view self.old.floor.now) (F.view self.new.floor.now)
             (B.items self.old.book.now) (B.items self.new.book.now) result }
         ensures room { reserve ≡ Before → MayCancelAll (F.view self.new.floor.now) (B.spare self.new.book.now) }
@@ -100,14 +107,14 @@ impl<F: JobFloor, B: NoteBook, W: Wakes> JobCaller<'_, '_, '_, F, B, W> {
         if !job.state.is_cancellable() {
             return Ok(false);
         }
-        if let Err(memory) = make_room(self.floor, self.book, reserve) {
+        if let Err(memory) = room_for_cancel(self.floor, self.book, reserve) {
             return Err(memory);
         }
         match self.floor.cancel_one(self.who, row, reason) {
             CancelledNow::Now => {
                 let act = JobAct::Cancel { row, reason };
                 self.book.note(Item::Job(JobNote::Made(act)));
-                self.wake_job(row);
+                wake_job(self.floor, self.wakes, self.who, row);
                 Ok(true)
             }
             CancelledNow::Already => Ok(false),
@@ -118,11 +125,7 @@ impl<F: JobFloor, B: NoteBook, W: Wakes> JobCaller<'_, '_, '_, F, B, W> {
     pub(crate) fn walk_step(&mut self, at: Row, done: bool) -> WalkStep
         requires can { MayCall self.old.who at (F.view self.old.floor.now) }
         requires child { done ≡ true → at ≢ 0 }
-        ensures same_floor { self.new.floor.ghost_name ≡ self.old.floor.ghost_name }
-        ensures same_book { self.new.book.ghost_name ≡ self.old.book.ghost_name }
-        ensures same_wakes { self.new.wakes.ghost_name ≡ self.old.wakes.ghost_name }
-        ensures who { self.new.who ≡ self.old.who }
-        ensures anchor { F.anchor self.new.floor.now ≡ F.anchor self.old.floor.now }
+        ensures same { SameCaller F.anchor self.old self.new }
         ensures book { self.new.book.now ≡ self.old.book.now }
         ensures looked { Looked self.old.who [] (F.view self.old.floor.now) (F.view self.new.floor.now) }
         ensures answer { WalkStepAnswer at done (F.view self.old.floor.now) (F.view self.new.floor.now) result }

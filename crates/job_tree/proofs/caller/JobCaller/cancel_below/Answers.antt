@@ -5,8 +5,9 @@ use Rattle.std.proofs.lemmas.Bool.{eqb-true}
 use Rattle.job_model.proofs.Spans.{setting_then}
 use Rattle.job_model.specs.Histories.{replay}
 use Rattle.job_model.specs.Cancels.{IsAllCancelled}
+use Rattle.job_tree.proofs.CallersKept.{caller_self, caller_then}
 use Rattle.job_tree.proofs.Rooms.{looked_room}
-use Rattle.job_tree.proofs.Walks.{first_walk, none_so_far, walk_not_root, legal_as, to_next, may_next, after_to, after_over, after_up, pass_below_done, so_far_small, part_below}
+use Rattle.job_tree.proofs.Walks.{first_walk, none_so_far, walk_not_root, legal_as, to_next, may_next, after_to, after_over, after_up, way_looked, pass_below_done, so_far_small, part_below}
 use Rattle.job_tree.proofs.caller.JobCaller.cancel_below.Goals as goal
 
 -- the walk goes on: it is not past all below the first row
@@ -24,142 +25,116 @@ at_most_one false = omega arith
 
 pub loop-done-init : goal.loop-done-init
 loop-done-init g c = record {
-  same_floor = refl;
-  same_book = refl;
-  same_wakes = refl;
-  who = refl;
-  anchor = refl;
-  walk = first_walk _ _ _ c.requires.can.attached c.requires.cancelled;
-  so_far = none_so_far _ _ _ _;
-  room = c.requires.room;
-  most = c.from-most.ensures ∙ c.rows.ensures;
-  small = omega (arith, c.from-most.ensures, c.rows.type_inv);
+  same = caller_self _ _;
+  way = record {
+    walk = first_walk _ _ _ c.requires.can.attached c.requires.cancelled;
+    so_far = none_so_far _ _ _ _;
+    room = c.requires.room;
+    rows = c.from-most.ensures ∙ c.rows.ensures;
+    few = omega (arith, c.from-most.ensures, c.rows.type_inv);
+  };
 }
 
 pub walk_step-requires-clause-can : goal.walk_step-requires-clause-can
 walk_step-requires-clause-can g c =
     let i = c.loop-done.invariant in
-    may_next _ _ _ _ _ _ i.who c.requires.can i.so_far.noted.added.same i.walk.attached
+    may_next _ _ _ _ _ _ i.same.who c.requires.can i.way.so_far.noted.added.same i.way.walk.attached
 
 pub walk_step-requires-clause-child : goal.walk_step-requires-clause-child
 walk_step-requires-clause-child g c = λ e.
     let i = c.loop-done.invariant in
-    walk_not_root _ _ _ _ _ (legal_as _ _ i.so_far.noted.added.same (g.met.F.JobFloor.legal c.loop-done.self.floor.now)) i.walk (not_there _ _ _ c.if-not-at-row.either e)
+    walk_not_root _ _ _ _ _ (legal_as _ _ i.way.so_far.noted.added.same (g.met.F.JobFloor.legal c.loop-done.self.floor.now)) i.way.walk (not_there _ _ _ c.if-not-at-row.either e)
 
 pub cancel_job-requires-clause-can : goal.cancel_job-requires-clause-can
 cancel_job-requires-clause-can g c =
     let i = c.loop-done.invariant in
     let t = c.in-To.ensures in
-    let next = to_next _ _ _ _ _ _ _ _ _ _ _ _ (g.met.F.JobFloor.shaped c.args.self.now.floor.now) (g.met.F.JobFloor.legal c.walk_step.new.self.floor.now) i.so_far i.walk (not_there _ _ _ c.if-not-at-row.either) t.looked t.answer in
-    may_next _ _ _ _ _ _ (t.who ∙ i.who) c.requires.can (setting_then _ _ _ i.so_far.noted.added.same t.looked.same) next.attached
+    let next = to_next _ _ _ _ _ _ _ _ _ _ _ _ (g.met.F.JobFloor.shaped c.args.self.now.floor.now) (g.met.F.JobFloor.legal c.walk_step.new.self.floor.now) i.way.so_far i.way.walk (not_there _ _ _ c.if-not-at-row.either) t.looked t.answer in
+    may_next _ _ _ _ _ _ (t.same.who ∙ i.same.who) c.requires.can (setting_then _ _ _ i.way.so_far.noted.added.same t.looked.same) next.attached
 
 pub cancel_job-requires-clause-reason : goal.cancel_job-requires-clause-reason
 cancel_job-requires-clause-reason g c =
     let i = c.loop-done.invariant in
     let t = c.in-To.ensures in
-    (to_next _ _ _ _ _ _ _ _ _ _ _ _ (g.met.F.JobFloor.shaped c.args.self.now.floor.now) (g.met.F.JobFloor.legal c.walk_step.new.self.floor.now) i.so_far i.walk (not_there _ _ _ c.if-not-at-row.either) t.looked t.answer).holds
+    (to_next _ _ _ _ _ _ _ _ _ _ _ _ (g.met.F.JobFloor.shaped c.args.self.now.floor.now) (g.met.F.JobFloor.legal c.walk_step.new.self.floor.now) i.way.so_far i.way.walk (not_there _ _ _ c.if-not-at-row.either) t.looked t.answer).holds
 
 pub cancel_job-requires-clause-room : goal.cancel_job-requires-clause-room
-cancel_job-requires-clause-room g c = λ e. looked_room _ _ _ _ _ _ c.walk_step.ensures.looked (ap g.B.NoteBook.spare c.walk_step.ensures.book) (c.loop-done.invariant.room e)
+cancel_job-requires-clause-room g c = λ e. looked_room _ _ _ _ _ _ c.walk_step.ensures.looked (ap g.B.NoteBook.spare c.walk_step.ensures.book) (c.loop-done.invariant.way.room e)
 
 pub overflow_add-count : goal.overflow_add-count
 overflow_add-count g c =
     let i = c.loop-done.invariant in
-    let k = so_far_small _ _ _ _ _ _ _ i.so_far in
+    let k = so_far_small _ _ _ _ _ _ _ i.way.so_far in
     let one = at_most_one c.in-Ok.is_newly in
-    omega (arith, i.most, i.small)
+    omega (arith, i.way.rows, i.way.few)
 
 pub prove-unreachable-requires : goal.prove-unreachable-requires
 prove-unreachable-requires g c =
     let i = c.loop-done.invariant in
-    let k = so_far_small _ _ _ _ _ _ _ i.so_far in
-    omega (arith, i.most, c.if-prove.true)
+    let k = so_far_small _ _ _ _ _ _ _ i.way.so_far in
+    omega (arith, i.way.rows, c.if-prove.true)
 
 pub loop-done-smaller-in-Ok : goal.loop-done-smaller-in-Ok
 loop-done-smaller-in-Ok g c =
     let i = c.loop-done.invariant in
     let t = c.in-To.ensures in
     let m = c.in-Ok.ensures in
-    (after_to _ _ _ _ _ _ c.args.covered _ c.in-Ok.is_newly _ _ _ _ _ _ _ _ _ _ _ i.who (t.who ∙ i.who) (ap g.B.NoteBook.items t.book) (ap (λ x. c.loop-done.count + x) c.from.ensures) c.is_covered-done.ensures c.requires.covered (g.met.F.JobFloor.shaped c.args.self.now.floor.now) (g.met.F.JobFloor.legal c.walk_step.new.self.floor.now) (g.met.F.JobFloor.legal c.cancel_job.new.self.floor.now) i.so_far i.walk (not_there _ _ _ c.if-not-at-row.either) t.looked t.answer m.answer).less
+    (after_to _ _ _ _ _ _ c.args.covered _ c.in-Ok.is_newly _ _ _ _ _ _ _ _ _ _ _ i.same.who (t.same.who ∙ i.same.who) (ap g.B.NoteBook.items t.book) (ap (λ x. c.loop-done.count + x) c.from.ensures) c.is_covered-done.ensures c.requires.covered (g.met.F.JobFloor.shaped c.args.self.now.floor.now) (g.met.F.JobFloor.legal c.walk_step.new.self.floor.now) (g.met.F.JobFloor.legal c.cancel_job.new.self.floor.now) i.way.so_far i.way.walk (not_there _ _ _ c.if-not-at-row.either) t.looked t.answer m.answer).less
 
 pub loop-done-preserved-in-Ok : goal.loop-done-preserved-in-Ok
 loop-done-preserved-in-Ok g c =
     let i = c.loop-done.invariant in
     let t = c.in-To.ensures in
     let m = c.in-Ok.ensures in
-    let r = (after_to _ _ _ _ _ _ c.args.covered _ c.in-Ok.is_newly _ _ _ _ _ _ _ _ _ _ _ i.who (t.who ∙ i.who) (ap g.B.NoteBook.items t.book) (ap (λ x. c.loop-done.count + x) c.from.ensures) c.is_covered-done.ensures c.requires.covered (g.met.F.JobFloor.shaped c.args.self.now.floor.now) (g.met.F.JobFloor.legal c.walk_step.new.self.floor.now) (g.met.F.JobFloor.legal c.cancel_job.new.self.floor.now) i.so_far i.walk (not_there _ _ _ c.if-not-at-row.either) t.looked t.answer m.answer) in
+    let r = (after_to _ _ _ _ _ _ c.args.covered _ c.in-Ok.is_newly _ _ _ _ _ _ _ _ _ _ _ i.same.who (t.same.who ∙ i.same.who) (ap g.B.NoteBook.items t.book) (ap (λ x. c.loop-done.count + x) c.from.ensures) c.is_covered-done.ensures c.requires.covered (g.met.F.JobFloor.shaped c.args.self.now.floor.now) (g.met.F.JobFloor.legal c.walk_step.new.self.floor.now) (g.met.F.JobFloor.legal c.cancel_job.new.self.floor.now) i.way.so_far i.way.walk (not_there _ _ _ c.if-not-at-row.either) t.looked t.answer m.answer) in
     record {
-      same_floor = m.same_floor ∙ t.same_floor ∙ i.same_floor;
-      same_book = m.same_book ∙ t.same_book ∙ i.same_book;
-      same_wakes = m.same_wakes ∙ t.same_wakes ∙ i.same_wakes;
-      who = m.who ∙ t.who ∙ i.who;
-      anchor = m.anchor ∙ t.anchor ∙ i.anchor;
-      walk = r.walk;
-      so_far = r.so_far;
-      room = m.room;
-      most = i.most;
-      small = i.small;
+      same = caller_then _ _ _ _ i.same (caller_then _ _ _ _ t.same m.same);
+      way = record { walk = r.walk; so_far = r.so_far; room = m.room; rows = i.way.rows; few = i.way.few };
     }
 
 pub loop-done-smaller-in-Over : goal.loop-done-smaller-in-Over
 loop-done-smaller-in-Over g c =
     let i = c.loop-done.invariant in
     let t = c.in-Over.ensures in
-    (after_over _ _ _ _ _ _ _ _ _ _ _ _ i.who (ap g.B.NoteBook.items t.book) (g.met.F.JobFloor.shaped c.args.self.now.floor.now) (g.met.F.JobFloor.legal c.walk_step.new.self.floor.now) i.so_far i.walk t.looked t.answer).less
+    (after_over _ _ _ _ _ _ _ _ _ _ _ _ i.same.who (ap g.B.NoteBook.items t.book) (g.met.F.JobFloor.shaped c.args.self.now.floor.now) (g.met.F.JobFloor.legal c.walk_step.new.self.floor.now) i.way.so_far i.way.walk t.looked t.answer).less
 
 pub loop-done-preserved-in-Over : goal.loop-done-preserved-in-Over
 loop-done-preserved-in-Over g c =
     let i = c.loop-done.invariant in
     let t = c.in-Over.ensures in
-    let r = (after_over _ _ _ _ _ _ _ _ _ _ _ _ i.who (ap g.B.NoteBook.items t.book) (g.met.F.JobFloor.shaped c.args.self.now.floor.now) (g.met.F.JobFloor.legal c.walk_step.new.self.floor.now) i.so_far i.walk t.looked t.answer) in
+    let r = (after_over _ _ _ _ _ _ _ _ _ _ _ _ i.same.who (ap g.B.NoteBook.items t.book) (g.met.F.JobFloor.shaped c.args.self.now.floor.now) (g.met.F.JobFloor.legal c.walk_step.new.self.floor.now) i.way.so_far i.way.walk t.looked t.answer) in
     record {
-      same_floor = t.same_floor ∙ i.same_floor;
-      same_book = t.same_book ∙ i.same_book;
-      same_wakes = t.same_wakes ∙ i.same_wakes;
-      who = t.who ∙ i.who;
-      anchor = t.anchor ∙ i.anchor;
-      walk = r.walk;
-      so_far = r.so_far;
-      room = λ e. looked_room _ _ _ _ _ _ t.looked (ap g.B.NoteBook.spare t.book) (i.room e);
-      most = i.most;
-      small = i.small;
+      same = caller_then _ _ _ _ i.same t.same;
+      way = way_looked _ _ _ _ _ _ _ _ _ _ _ _ _ _ _ _ _ _ _ t.looked (ap g.B.NoteBook.spare t.book) i.way r;
     }
 
 pub loop-done-smaller : goal.loop-done-smaller
 loop-done-smaller g c =
     let i = c.loop-done.invariant in
     let t = c.in-Up.ensures in
-    (after_up _ _ _ _ _ _ _ _ _ _ _ _ _ i.who (ap g.B.NoteBook.items t.book) (g.met.F.JobFloor.shaped c.args.self.now.floor.now) (g.met.F.JobFloor.legal c.walk_step.new.self.floor.now) i.so_far i.walk (not_there _ _ _ c.if-not-at-row.either) t.looked t.answer).less
+    (after_up _ _ _ _ _ _ _ _ _ _ _ _ _ i.same.who (ap g.B.NoteBook.items t.book) (g.met.F.JobFloor.shaped c.args.self.now.floor.now) (g.met.F.JobFloor.legal c.walk_step.new.self.floor.now) i.way.so_far i.way.walk (not_there _ _ _ c.if-not-at-row.either) t.looked t.answer).less
 
 pub loop-done-preserved : goal.loop-done-preserved
 loop-done-preserved g c =
     let i = c.loop-done.invariant in
     let t = c.in-Up.ensures in
-    let r = (after_up _ _ _ _ _ _ _ _ _ _ _ _ _ i.who (ap g.B.NoteBook.items t.book) (g.met.F.JobFloor.shaped c.args.self.now.floor.now) (g.met.F.JobFloor.legal c.walk_step.new.self.floor.now) i.so_far i.walk (not_there _ _ _ c.if-not-at-row.either) t.looked t.answer) in
+    let r = (after_up _ _ _ _ _ _ _ _ _ _ _ _ _ i.same.who (ap g.B.NoteBook.items t.book) (g.met.F.JobFloor.shaped c.args.self.now.floor.now) (g.met.F.JobFloor.legal c.walk_step.new.self.floor.now) i.way.so_far i.way.walk (not_there _ _ _ c.if-not-at-row.either) t.looked t.answer) in
     record {
-      same_floor = t.same_floor ∙ i.same_floor;
-      same_book = t.same_book ∙ i.same_book;
-      same_wakes = t.same_wakes ∙ i.same_wakes;
-      who = t.who ∙ i.who;
-      anchor = t.anchor ∙ i.anchor;
-      walk = r.walk;
-      so_far = r.so_far;
-      room = λ e. looked_room _ _ _ _ _ _ t.looked (ap g.B.NoteBook.spare t.book) (i.room e);
-      most = i.most;
-      small = i.small;
+      same = caller_then _ _ _ _ i.same t.same;
+      way = way_looked _ _ _ _ _ _ _ _ _ _ _ _ _ _ _ _ _ _ _ t.looked (ap g.B.NoteBook.spare t.book) i.way r;
     }
 
 pub returns-clause-answer : goal.returns-clause-answer
 returns-clause-answer g c =
     let i = c.loop-done.invariant in
     let h = c.if-not-at-row.false in
-    let k = so_far_small _ _ _ _ _ _ _ i.so_far in (
-      pass_below_done _ _ _ _ _ _ _ i.so_far (subst (IsAllCancelled (replay (g.F.JobFloor.view c.loop-done.self.floor.now).seen)) h.1 (i.walk.all h.0)),
-      omega (arith, i.most, i.small),
+    let k = so_far_small _ _ _ _ _ _ _ i.way.so_far in (
+      pass_below_done _ _ _ _ _ _ _ i.way.so_far (subst (IsAllCancelled (replay (g.F.JobFloor.view c.loop-done.self.floor.now).seen)) h.1 (i.way.walk.all h.0)),
+      omega (arith, i.way.rows, i.way.few),
     )
 
 pub returns-in-Err-clause-answer : goal.returns-in-Err-clause-answer
 returns-in-Err-clause-answer g c =
     let i = c.loop-done.invariant in
     let t = c.in-To.ensures in
-    (c.in-Err.ensures.answer.0, part_below _ _ _ _ _ _ _ _ _ _ _ _ _ i.who (t.who ∙ i.who) (ap g.B.NoteBook.items t.book) (g.met.F.JobFloor.legal c.walk_step.new.self.floor.now) (g.met.F.JobFloor.legal c.cancel_job.new.self.floor.now) i.so_far t.looked c.in-Err.ensures.answer.1)
+    (c.in-Err.ensures.answer.0, part_below _ _ _ _ _ _ _ _ _ _ _ _ _ i.same.who (t.same.who ∙ i.same.who) (ap g.B.NoteBook.items t.book) (g.met.F.JobFloor.legal c.walk_step.new.self.floor.now) (g.met.F.JobFloor.legal c.cancel_job.new.self.floor.now) i.way.so_far t.looked c.in-Err.ensures.answer.1)

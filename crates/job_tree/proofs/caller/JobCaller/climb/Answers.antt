@@ -1,6 +1,7 @@
 use Rattle.std.specs.Prelude.{Bool, true, false, not, ◌≡◌}
 use Rattle.std.proofs.Common.{refl, ap, ◌∙◌}
 use Rattle.job_model.proofs.Spans.{prefix_then, setting_then}
+use Rattle.job_tree.proofs.CallersKept.{caller_self, caller_then}
 use Rattle.job_tree.proofs.Rooms.{looked_room}
 use Rattle.job_tree.proofs.Walks.{legal_as, may_next, covered_kept}
 use Rattle.job_tree.proofs.Causes.{failure_later}
@@ -18,11 +19,7 @@ not_false false e = cc
 
 pub loop-parent-init : goal.loop-parent-init
 loop-parent-init g c = record {
-  same_floor = refl;
-  same_book = refl;
-  same_wakes = refl;
-  who = refl;
-  anchor = refl;
+  same = caller_self _ _;
   climb = first_climb _ _ _ _ c.requires.failed c.requires.can.attached;
   covered = tt;
   room = c.requires.room;
@@ -31,7 +28,7 @@ loop-parent-init g c = record {
 pub failing_parent-requires : goal.failing_parent-requires
 failing_parent-requires g c =
     let i = c.loop-parent.invariant in
-    record { can = may_next _ _ _ _ _ _ i.who c.requires.can i.climb.noted.added.same i.climb.attached }
+    record { can = may_next _ _ _ _ _ _ i.same.who c.requires.can i.climb.noted.added.same i.climb.attached }
 
 pub pass_except-requires : goal.pass_except-requires
 pass_except-requires g c =
@@ -39,7 +36,7 @@ pass_except-requires g c =
     let t = c.in-Some.ensures in
     let l = g.met.F.JobFloor.legal c.failing_parent.new.self.floor.now in
     record {
-      can = may_next _ _ _ _ _ _ (t.who ∙ i.who) c.requires.can (setting_then _ _ _ i.climb.noted.added.same t.answer.looked.same) (parent_attached _ _ _ _ l t.answer.is.parent);
+      can = may_next _ _ _ _ _ _ (t.same.who ∙ i.same.who) c.requires.can (setting_then _ _ _ i.climb.noted.added.same t.answer.looked.same) (parent_attached _ _ _ _ l t.answer.is.parent);
       reason = child_holds (g.F.JobFloor.view c.failing_parent.new.self.floor.now).shape _ c.failing_parent.new.self.who _ _ t.answer.is (failure_later _ _ _ _ l t.answer.looked.longer i.climb.failed);
       covered = covered_kept _ _ _ c.loop-parent.covered l t.answer.looked.longer i.covered;
       room = λ e. looked_room _ _ _ _ _ _ t.answer.looked (ap g.B.NoteBook.spare t.book) (i.room e);
@@ -50,7 +47,7 @@ returns-clause-answer g c =
     let i = c.loop-parent.invariant in
     let t = c.in_default.ensures in
     let l = g.met.F.JobFloor.legal c.failing_parent.new.self.floor.now in
-    climb_ends _ _ _ _ _ _ _ l (climb_looked _ _ _ _ _ _ _ _ _ _ i.who (ap g.B.NoteBook.items t.book) l i.climb t.answer.looked) t.answer.is
+    climb_ends _ _ _ _ _ _ _ l (climb_looked _ _ _ _ _ _ _ _ _ _ i.same.who (ap g.B.NoteBook.items t.book) l i.climb t.answer.looked) t.answer.is
 
 pub returns-clause-room : goal.returns-clause-room
 returns-clause-room g c = λ e.
@@ -61,8 +58,8 @@ pub returns-then-not-passed-clause-answer : goal.returns-then-not-passed-clause-
 returns-then-not-passed-clause-answer g c =
     let i = c.loop-parent.invariant in
     let t = c.in-Some.ensures in
-    climb_stops _ _ _ _ _ _ _ _ _ _ _ _ _ (t.who ∙ i.who) (not_true c.in-Ok.passed.newly c.if-not-passed.true) (g.met.F.JobFloor.legal c.pass_except.new.self.floor.now)
-    (climb_looked _ _ _ _ _ _ _ _ _ _ i.who (ap g.B.NoteBook.items t.book) (g.met.F.JobFloor.legal c.failing_parent.new.self.floor.now) i.climb t.answer.looked) t.answer.is c.in-Ok.ensures.answer
+    climb_stops _ _ _ _ _ _ _ _ _ _ _ _ _ (t.same.who ∙ i.same.who) (not_true c.in-Ok.passed.newly c.if-not-passed.true) (g.met.F.JobFloor.legal c.pass_except.new.self.floor.now)
+    (climb_looked _ _ _ _ _ _ _ _ _ _ i.same.who (ap g.B.NoteBook.items t.book) (g.met.F.JobFloor.legal c.failing_parent.new.self.floor.now) i.climb t.answer.looked) t.answer.is c.in-Ok.ensures.answer
 
 pub returns-in-Err-clause-answer : goal.returns-in-Err-clause-answer
 returns-in-Err-clause-answer g c =
@@ -70,8 +67,8 @@ returns-in-Err-clause-answer g c =
     let t = c.in-Some.ensures in
     let m = c.in-Err.ensures.answer in (
       m.0,
-      climb_part _ _ _ _ _ _ _ _ _ _ _ _ (t.who ∙ i.who)
-          (climb_looked _ _ _ _ _ _ _ _ _ _ i.who (ap g.B.NoteBook.items t.book) (g.met.F.JobFloor.legal c.failing_parent.new.self.floor.now) i.climb t.answer.looked) m.1,
+      climb_part _ _ _ _ _ _ _ _ _ _ _ _ (t.same.who ∙ i.same.who)
+          (climb_looked _ _ _ _ _ _ _ _ _ _ i.same.who (ap g.B.NoteBook.items t.book) (g.met.F.JobFloor.legal c.failing_parent.new.self.floor.now) i.climb t.answer.looked) m.1,
     )
 
 pub loop-parent-preserved : goal.loop-parent-preserved
@@ -79,14 +76,10 @@ loop-parent-preserved g c =
     let i = c.loop-parent.invariant in
     let t = c.in-Some.ensures in
     let m = c.in-Ok.ensures in
-    let climb = climb_looked _ _ _ _ _ _ _ _ _ _ i.who (ap g.B.NoteBook.items t.book) (g.met.F.JobFloor.legal c.failing_parent.new.self.floor.now) i.climb t.answer.looked in
+    let climb = climb_looked _ _ _ _ _ _ _ _ _ _ i.same.who (ap g.B.NoteBook.items t.book) (g.met.F.JobFloor.legal c.failing_parent.new.self.floor.now) i.climb t.answer.looked in
     record {
-      same_floor = m.same_floor ∙ t.same_floor ∙ i.same_floor;
-      same_book = m.same_book ∙ t.same_book ∙ i.same_book;
-      same_wakes = m.same_wakes ∙ t.same_wakes ∙ i.same_wakes;
-      who = m.who ∙ t.who ∙ i.who;
-      anchor = m.anchor ∙ t.anchor ∙ i.anchor;
-      climb = climb_up _ _ _ _ _ _ _ _ _ _ _ _ _ (t.who ∙ i.who) (not_false c.in-Ok.passed.newly c.if-not-passed.false) (g.met.F.JobFloor.legal c.pass_except.new.self.floor.now) climb t.answer.is m.answer;
+      same = caller_then _ _ _ _ i.same (caller_then _ _ _ _ t.same m.same);
+      climb = climb_up _ _ _ _ _ _ _ _ _ _ _ _ _ (t.same.who ∙ i.same.who) (not_false c.in-Ok.passed.newly c.if-not-passed.false) (g.met.F.JobFloor.legal c.pass_except.new.self.floor.now) climb t.answer.is m.answer;
       covered = m.answer.all;
       room = m.room;
     }

@@ -1,5 +1,6 @@
 use Rattle.std.proofs.Common.{refl, ◌∙◌}
 use Rattle.job_model.proofs.Spans.{setting_then}
+use Rattle.job_tree.proofs.CallersKept.{caller_self, caller_then}
 use Rattle.job_tree.proofs.Walks.{legal_as, may_next}
 use Rattle.job_tree.proofs.Climbs.{rank_less}
 use Rattle.job_tree.proofs.Endings.{owed, first_rise, rise_up, rise_stops, rise_fails, same_answer}
@@ -7,18 +8,14 @@ use Rattle.job_tree.proofs.caller.JobCaller.finish_up.Goals as goal
 
 pub loop-parent-init : goal.loop-parent-init
 loop-parent-init g c = record {
-  same_floor = refl;
-  same_book = refl;
-  same_wakes = refl;
-  who = refl;
-  anchor = refl;
+  same = caller_self _ _;
   rise = first_rise _ _ _ _ _ _ _ c.requires.can.attached;
 }
 
 pub finish_one-requires : goal.finish_one-requires
 finish_one-requires g c =
     let i = c.loop-parent.invariant in
-    record { can = may_next _ _ _ _ _ _ i.who c.requires.can i.rise.same i.rise.attached }
+    record { can = may_next _ _ _ _ _ _ i.same.who c.requires.can i.rise.same i.rise.attached }
 
 pub loop-parent-smaller : goal.loop-parent-smaller
 loop-parent-smaller g c =
@@ -33,20 +30,16 @@ loop-parent-preserved g c =
     let i = c.loop-parent.invariant in
     let t = c.in-Ok-To.ensures in
     record {
-      same_floor = t.same_floor ∙ i.same_floor;
-      same_book = t.same_book ∙ i.same_book;
-      same_wakes = t.same_wakes ∙ i.same_wakes;
-      who = t.who ∙ i.who;
-      anchor = t.anchor ∙ i.anchor;
-      rise = rise_up _ _ _ _ _ _ _ _ _ _ _ _ _ _ _ _ i.who (g.met.F.JobFloor.legal c.finish_one.new.self.floor.now) i.rise (same_answer _ _ _ _ _ _ _ _ _ _ _ _ c.in-Ok-To.field-0-is t.answer);
+      same = caller_then _ _ _ _ i.same t.same;
+      rise = rise_up _ _ _ _ _ _ _ _ _ _ _ _ _ _ _ _ i.same.who (g.met.F.JobFloor.legal c.finish_one.new.self.floor.now) i.rise (same_answer _ _ _ _ _ _ _ _ _ _ _ _ c.in-Ok-To.field-0-is t.answer);
     }
 
 pub returns-in-Ok-Stops-clause-finished : goal.returns-in-Ok-Stops-clause-finished
 returns-in-Ok-Stops-clause-finished g c =
     let i = c.loop-parent.invariant in
-    rise_stops _ _ _ _ _ _ _ _ _ _ _ _ _ _ _ i.who i.rise (same_answer _ _ _ _ _ _ _ _ _ _ _ _ c.in-Ok-Stops.field-0-is c.in-Ok-Stops.ensures.answer)
+    rise_stops _ _ _ _ _ _ _ _ _ _ _ _ _ _ _ i.same.who i.rise (same_answer _ _ _ _ _ _ _ _ _ _ _ _ c.in-Ok-Stops.field-0-is c.in-Ok-Stops.ensures.answer)
 
 pub returns-in-Err-clause-finished : goal.returns-in-Err-clause-finished
 returns-in-Err-clause-finished g c =
     let i = c.loop-parent.invariant in
-    rise_fails _ _ _ _ _ _ _ _ _ _ _ _ _ _ _ _ i.who i.rise c.in-Err.ensures.answer
+    rise_fails _ _ _ _ _ _ _ _ _ _ _ _ _ _ _ _ i.same.who i.rise c.in-Err.ensures.answer

@@ -1,15 +1,11 @@
-use Rattle.std.proofs.Common.{◌≡◌}
 use Rattle.job_model.proofs.Ranks.{ranks}
+use Rattle.job_tree.specs.Callers.{SameCaller}
 use Rattle.job_tree.proofs.Endings.{IsRise}
 use Rattle.job_tree.proofs.caller.JobCaller.finish_up.Given as goal
 
 abbrev pub invariant-loop-parent : goal.invariant-loop-parent
 invariant-loop-parent g l = record {
-  same_floor : l.self.floor.ghost_name ≡ l.initial.self.floor.ghost_name;
-  same_book : l.self.book.ghost_name ≡ l.initial.self.book.ghost_name;
-  same_wakes : l.self.wakes.ghost_name ≡ l.initial.self.wakes.ghost_name;
-  who : l.self.who ≡ l.initial.self.who;
-  anchor : g.F.JobFloor.anchor l.self.floor.now ≡ g.F.JobFloor.anchor l.initial.self.floor.now;
+  same : SameCaller g.F.JobFloor.anchor l.initial.self l.self;
   rise : IsRise g.E.Ends.prepares g.E.Ends.does l.initial.self.who l.row l.at (g.F.JobFloor.view l.initial.self.floor.now) (g.F.JobFloor.view l.self.floor.now) l.initial.ends l.ends (g.B.NoteBook.items l.initial.self.book.now) (g.B.NoteBook.items l.self.book.now);
 }
 
