@@ -199,14 +199,7 @@ fn pass_over<J: JobFloor, B: NoteBook>(jobs: &mut J, book: &mut B, who: Tag, row
         wakes: &mut wakes,
         who,
     };
-    let count = caller.cancel_pass(row, Reason::Request);
-    let JobCaller {
-        floor: _,
-        book: _,
-        wakes: _,
-        who: _,
-    } = caller;
-    count
+    caller.cancel_pass(row, Reason::Request)
 }
 
 fn finish<J: JobFloor>(jobs: &mut J, who: Tag, row: Row) -> Result<Answer, Memory>

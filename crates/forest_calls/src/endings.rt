@@ -33,14 +33,7 @@ fn finish_over<J: JobFloor, B: NoteBook, W: Wakes, E: Ends<B, W>>(
         wakes: &mut *wakes,
         who,
     };
-    let finished = caller.finish_up(row, ends);
-    let JobCaller {
-        floor: _,
-        book: _,
-        wakes: _,
-        who: _,
-    } = caller;
-    finished
+    caller.finish_up(row, ends)
 }
 
 /// Ends Jobs upwards, on the floor of one pass.

@@ -36,13 +36,7 @@ fn fail_over<J: JobFloor, B: NoteBook, W: Wakes>(
         wakes: &mut *wakes,
         who,
     };
-    caller.fail_up(row);
-    let JobCaller {
-        floor: _,
-        book: _,
-        wakes: _,
-        who: _,
-    } = caller;
+    caller.fail_up(row)
 }
 
 /// Passes a failure on, on the floor of one pass.

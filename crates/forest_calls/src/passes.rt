@@ -37,14 +37,7 @@ fn cancel_over<J: JobFloor, B: NoteBook, W: Wakes>(
         wakes: &mut *wakes,
         who,
     };
-    let count = caller.cancel_pass(row, reason);
-    let JobCaller {
-        floor: _,
-        book: _,
-        wakes: _,
-        who: _,
-    } = caller;
-    count
+    caller.cancel_pass(row, reason)
 }
 
 /// Cancels a Job and all below it, on the floor of one pass.

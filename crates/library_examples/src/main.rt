@@ -82,14 +82,7 @@ fn two_jobs(alloc: Global) -> Result<u32, Memory> {
                 wakes: &mut wakes,
                 who: 0,
             };
-            let count = cancel_family(&mut caller, 0);
-            let JobCaller {
-                floor: _,
-                book: _,
-                wakes: _,
-                who: _,
-            } = caller;
-            count
+            cancel_family(&mut caller, 0)
         }
         Err(_error) => Ok(0),
     }

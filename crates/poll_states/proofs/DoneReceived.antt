@@ -92,22 +92,21 @@ module _ (who base : ℕ) (first : List Told) (c c1 c2 : ChannelFloor) (j j1 j2 
   done_behind P Q f (Err m) t = record { told = first ++ t.told; noted = both_noted t.told t.noted; dones = both_kept t.told t.dones }
 
 -- the receive, as the first caller's
-received_by : (who who1 base base1 row : ℕ) (shape shape1 : ChannelShape) (c1 c2 : ChannelFloor) (j1 j2 : Floor) (i1 i2 : List Item) (r : Result Joined Memory) → who1 ≡ who → base1 ≡ base → shape1 ≡ shape
-    → DoneAnswer who1 base1 (ReceivesDone shape1 base1 row) c1 c2 j1 j2 i1 i2 r → DoneAnswer who base (ReceivesDone shape base row) c1 c2 j1 j2 i1 i2 r
-received_by who who1 base base1 row shape shape1 c1 c2 j1 j2 i1 i2 r e f k h =
-    subst (λ s. DoneAnswer who base (ReceivesDone s base row) c1 c2 j1 j2 i1 i2 r) k
-    (subst (λ b. DoneAnswer who b (ReceivesDone shape1 b row) c1 c2 j1 j2 i1 i2 r) f (subst (λ n. DoneAnswer n base1 (ReceivesDone shape1 base1 row) c1 c2 j1 j2 i1 i2 r) e h))
+received_by : (who who1 base base1 row : ℕ) (c1 c2 : ChannelFloor) (j1 j2 : Floor) (i1 i2 : List Item) (r : Result Joined Memory) → who1 ≡ who → base1 ≡ base
+    → DoneAnswer who1 base1 (ReceivesDone base1 row) c1 c2 j1 j2 i1 i2 r → DoneAnswer who base (ReceivesDone base row) c1 c2 j1 j2 i1 i2 r
+received_by who who1 base base1 row c1 c2 j1 j2 i1 i2 r e f h =
+    subst (λ b. DoneAnswer who b (ReceivesDone b row) c1 c2 j1 j2 i1 i2 r) f (subst (λ n. DoneAnswer n base1 (ReceivesDone base1 row) c1 c2 j1 j2 i1 i2 r) e h)
 
 pub end_received : (who who1 base base1 row : ℕ) (c c1 c2 : ChannelFloor) (j j1 j2 : Floor) (i i1 i2 : List Item) (answer : BodyEnd) (r : Result Joined Memory) → who1 ≡ who → base1 ≡ base → EndedJob who base row 0 c c1 j j1 i i1 answer
-    → DoneAnswer who1 base1 (ReceivesDone c1.shape base1 row) c1 c2 j1 j2 i1 i2 r → DoneAnswer who base (EndsAndReceives c.shape base row) c c2 j j2 i i2 r
+    → DoneAnswer who1 base1 (ReceivesDone base1 row) c1 c2 j1 j2 i1 i2 r → DoneAnswer who base (EndsAndReceives base row) c c2 j j2 i i2 r
 end_received who who1 base base1 row c c1 c2 j j1 j2 i i1 i2 answer r e f ended got =
-    done_behind who base ended.told c c1 c2 j j1 j2 i i1 i2 ended.noted ended.dones (ReceivesDone c.shape base row) (EndsAndReceives c.shape base row)
+    done_behind who base ended.told c c1 c2 j j1 j2 i i1 i2 ended.noted ended.dones (ReceivesDone base row) (EndsAndReceives base row)
     (λ a told goes. record { end = ended.told; group = told; ends = ended.group; received = goes; all = refl }) r
-    (received_by who who1 base base1 row c.shape c1.shape c1 c2 j1 j2 i1 i2 r e f ended.noted.channels.same.shape got)
+    (received_by who who1 base base1 row c1 c2 j1 j2 i1 i2 r e f got)
 
 pub break_received : (who who1 base base1 row : ℕ) (failure : Option ℕ) (c c1 c2 : ChannelFloor) (j j1 j2 : Floor) (i i1 i2 : List Item) (answer : BodyEnd) (r : Result Joined Memory) → who1 ≡ who → base1 ≡ base → BrokeJob who base row failure c c1 j j1 i i1 answer
-    → DoneAnswer who1 base1 (ReceivesDone c1.shape base1 row) c1 c2 j1 j2 i1 i2 r → DoneAnswer who base (BreaksAndReceives c.shape base who row failure) c c2 j j2 i i2 r
+    → DoneAnswer who1 base1 (ReceivesDone base1 row) c1 c2 j1 j2 i1 i2 r → DoneAnswer who base (BreaksAndReceives base who row failure) c c2 j j2 i i2 r
 break_received who who1 base base1 row failure c c1 c2 j j1 j2 i i1 i2 answer r e f broke got =
-    done_behind who base broke.told c c1 c2 j j1 j2 i i1 i2 broke.noted broke.dones (ReceivesDone c.shape base row) (BreaksAndReceives c.shape base who row failure)
+    done_behind who base broke.told c c1 c2 j j1 j2 i i1 i2 broke.noted broke.dones (ReceivesDone base row) (BreaksAndReceives base who row failure)
     (λ a told goes. record { cancels = broke.told; group = told; breaks = broke.group; received = goes; all = refl }) r
-    (received_by who who1 base base1 row c.shape c1.shape c1 c2 j1 j2 i1 i2 r e f broke.noted.channels.same.shape got)
+    (received_by who who1 base base1 row c1 c2 j1 j2 i1 i2 r e f got)

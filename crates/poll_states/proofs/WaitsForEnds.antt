@@ -4,7 +4,6 @@ use Rattle.std.proofs.Common.{sym, ap, ◌∙◌, subst, ⊎_elim}
 use mathlib.Core.List.{IsPrefix}
 use Rattle.co_base.specs.declared.names.WaitId.{WaitId}
 use Rattle.channel_model.specs.declared.acts.Act.{Act}
-use Rattle.channel_model.specs.Channels.{Shape as ChannelShape}
 use Rattle.channel_model.specs.Floors.{Floor as ChannelFloor, Added as AddedToChannels}
 use Rattle.job_model.specs.declared.acts.Cause.{Cause}
 use Rattle.job_model.specs.declared.acts.Cause.TheVariants as because
@@ -94,8 +93,8 @@ tells_at p who base P c c' j j' i i' e t = subst (λ b. KeepsDones b c c' j j' (
 
 -- ---- join and await
 
-awaits_group : (p : Program) (base row : ℕ) (shape : ChannelShape) (a : Answer) (told : List Told) → base ≡ base_of p → AwaitsEnd shape base row a told → StartsAndReceives p row told a
-awaits_group p base row shape a told e h =
+awaits_group : (p : Program) (base row : ℕ) (a : Answer) (told : List Told) → base ≡ base_of p → AwaitsEnd base row a told → StartsAndReceives p row told a
+awaits_group p base row a told e h =
     StartsAndReceives.both h.starts h.group told a h.is_started (subst (λ b. PlainCall (receives (done_channel b row)) h.group a) e h.received) h.all
 
 pub has_joined : (p : Program) (base : ℕ) (c c' : ChannelFloor) (j j' : Floor) (f g : Frame) (job own row : ℕ) (answer : Joined) (mid : List Item) → base ≡ base_of p → Stands p c j f → IsAt p f.tag (config_of f) (line.Join job) → own ≡ innermost f.tag (config_of f) → slice_get f.rows.items job ≡ Some row
@@ -103,10 +102,10 @@ pub has_joined : (p : Program) (base : ℕ) (c c' : ChannelFloor) (j j' : Floor)
 has_joined p base c c' j j' f g job own row answer mid e h at is named did t config items =
     by_answer answer (subst (λ i. JoinAnswer f.tag base own row c c' j j' (items_of f) i (Ok answer)) (sym items) did) config
   where
-    say : (a : Answer) (y : Config) → (d : TellsBoth f.tag base (JoinsJob c.shape base own row a) c c' j j' (items_of f) (items_of g)) → After p f.tag (config_of f) (line.Join job) a y → config_of g ≡ y → ((w : WaitId) → wait_of y.stage ≡ Some w → HasStood c c' w) → Stepped p c c' j j' f g
+    say : (a : Answer) (y : Config) → (d : TellsBoth f.tag base (JoinsJob base own row a) c c' j j' (items_of f) (items_of g)) → After p f.tag (config_of f) (line.Join job) a y → config_of g ≡ y → ((w : WaitId) → wait_of y.stage ≡ Some w → HasStood c c' w) → Stepped p c c' j j' f g
     say a y d after k stood =
         let own_row : ℕ = innermost f.tag (config_of f) in
-        let group : StartsAndReceives p row d.goes.group a = awaits_group p base row c.shape a d.goes.group e d.goes.awaits in
+        let group : StartsAndReceives p row d.goes.group a = awaits_group p base row a d.goes.group e d.goes.awaits in
         let is_told : d.told ≡ on_jobs (MayRun own_row) ∷ d.goes.group = d.goes.all ∙ ap (λ r. on_jobs (MayRun r) ∷ d.goes.group) is in
         let calls : LineCalls p f.tag (config_of f) (line.Join job) d.told a = subst (λ l. LineCalls p f.tag (config_of f) (line.Join job) l a) (sym is_told) (LineCalls.join job row d.goes.group a named group) in
         quiet_step p c c' j j' f g d.told y (Move.calls (config_of f) y (line.Join job) d.told a at calls after) d.noted (tells_at p f.tag base _ c c' j j' (items_of f) (items_of g) e d)
@@ -123,17 +122,17 @@ has_joined p base c c' j j' f g job own row answer mid e h at is named did t con
         (all_as is_quiet d.told _ is_told (saw_all is_quiet quiet_allows own_row [] (all_none is_quiet))) t k (λ w n. no_more_wait w n)
 
 pub has_awaited : (p : Program) (base : ℕ) (c c' : ChannelFloor) (j j' : Floor) (f g : Frame) (job row : ℕ) (answer : Joined) (mid : List Item) → base ≡ base_of p → Stands p c j f → IsAt p f.tag (config_of f) (line.Await job) → slice_get f.rows.items job ≡ Some row
-    → DoneAnswer f.tag base (AwaitsEnd c.shape base row) c c' j j' (items_of f) mid (Ok answer) → g.tag ≡ f.tag → config_of g ≡ after_named p f.tag (config_of f) (line.Await job) (came_of_joined answer) → items_of g ≡ mid → Stepped p c c' j j' f g
+    → DoneAnswer f.tag base (AwaitsEnd base row) c c' j j' (items_of f) mid (Ok answer) → g.tag ≡ f.tag → config_of g ≡ after_named p f.tag (config_of f) (line.Await job) (came_of_joined answer) → items_of g ≡ mid → Stepped p c c' j j' f g
 has_awaited p base c c' j j' f g job row answer mid e h at named did t config items =
-    by_answer answer (subst (λ i. DoneAnswer f.tag base (AwaitsEnd c.shape base row) c c' j j' (items_of f) i (Ok answer)) (sym items) did) config
+    by_answer answer (subst (λ i. DoneAnswer f.tag base (AwaitsEnd base row) c c' j j' (items_of f) i (Ok answer)) (sym items) did) config
   where
-    say : (a : Answer) (y : Config) → (d : TellsBoth f.tag base (AwaitsEnd c.shape base row a) c c' j j' (items_of f) (items_of g)) → After p f.tag (config_of f) (line.Await job) a y → config_of g ≡ y → ((w : WaitId) → wait_of y.stage ≡ Some w → HasStood c c' w) → Stepped p c c' j j' f g
+    say : (a : Answer) (y : Config) → (d : TellsBoth f.tag base (AwaitsEnd base row a) c c' j j' (items_of f) (items_of g)) → After p f.tag (config_of f) (line.Await job) a y → config_of g ≡ y → ((w : WaitId) → wait_of y.stage ≡ Some w → HasStood c c' w) → Stepped p c c' j j' f g
     say a y d after k stood =
-        let group : StartsAndReceives p row d.told a = awaits_group p base row c.shape a d.told e d.goes in
+        let group : StartsAndReceives p row d.told a = awaits_group p base row a d.told e d.goes in
         quiet_step p c c' j j' f g d.told y (Move.calls (config_of f) y (line.Await job) d.told a at (LineCalls.await job row d.told a named group) after) d.noted (tells_at p f.tag base _ c c' j j' (items_of f) (items_of g) e d)
         (both_all is_quiet quiet_allows p row d.told a (λ s. refl) group) t k stood
 
-    by_answer : (answer : Joined) → DoneAnswer f.tag base (AwaitsEnd c.shape base row) c c' j j' (items_of f) (items_of g) (Ok answer) → config_of g ≡ after_named p f.tag (config_of f) (line.Await job) (came_of_joined answer) → Stepped p c c' j j' f g
+    by_answer : (answer : Joined) → DoneAnswer f.tag base (AwaitsEnd base row) c c' j j' (items_of f) (items_of g) (Ok answer) → config_of g ≡ after_named p f.tag (config_of f) (line.Await job) (came_of_joined answer) → Stepped p c c' j j' f g
     by_answer (joined.Closed v) d k = say (Closed v) _ d (After.awaited job v) k (λ w n. no_more_wait w n)
     by_answer (joined.Waits w) d k = say (Waits w) _ d.0 (After.waits (line.Await job) w) k (λ u n. left_stood f.tag _ w u c c' d.1 n)
     by_answer joined.Cancelled d k = absurd d
@@ -141,26 +140,26 @@ has_awaited p base c c' j j' f g job row answer mid e h at named did t config it
 
 -- ---- the end of a scope
 
-done_call : (p : Program) (base row : ℕ) (shape : ChannelShape) (a : Answer) (told : List Told) → base ≡ base_of p → ReceivesDone shape base row a told → PlainCall (receives (done_channel (base_of p) row)) told a
-done_call p base row shape a told e h = subst (λ b. PlainCall (receives (done_channel b row)) told a) e h
+done_call : (p : Program) (base row : ℕ) (a : Answer) (told : List Told) → base ≡ base_of p → ReceivesDone base row a told → PlainCall (receives (done_channel (base_of p) row)) told a
+done_call p base row a told e h = subst (λ b. PlainCall (receives (done_channel b row)) told a) e h
 
 -- the body of the scope ends
 pub scope_body_ended : (p : Program) (base : ℕ) (c c' : ChannelFloor) (j j' : Floor) (f g : Frame) (scope : OpenScope) (answer : Joined) (mid : List Item) → base ≡ base_of p → Stands p c j f → IsAt p f.tag (config_of f) line.End → IsScopeTop (config_of f) scope
-    → DoneAnswer f.tag base (EndsAndReceives c.shape base scope.row) c c' j j' (items_of f) mid (Ok answer) → g.tag ≡ f.tag → AfterDone f.tag answer (config_of f) (config_of g) → items_of g ≡ mid → Stepped p c c' j j' f g
+    → DoneAnswer f.tag base (EndsAndReceives base scope.row) c c' j j' (items_of f) mid (Ok answer) → g.tag ≡ f.tag → AfterDone f.tag answer (config_of f) (config_of g) → items_of g ≡ mid → Stepped p c c' j j' f g
 scope_body_ended p base c c' j j' f g scope answer mid e h at top did t config items =
-    by_answer answer (subst (λ i. DoneAnswer f.tag base (EndsAndReceives c.shape base scope.row) c c' j j' (items_of f) i (Ok answer)) (sym items) did) config
+    by_answer answer (subst (λ i. DoneAnswer f.tag base (EndsAndReceives base scope.row) c c' j j' (items_of f) i (Ok answer)) (sym items) did) config
   where
     s : InScope
     s = record { head = scope.head; row = scope.row; around = top.0 }
 
-    say : (a : Answer) (y : Config) → (d : TellsBoth f.tag base (EndsAndReceives c.shape base scope.row a) c c' j j' (items_of f) (items_of g)) → AtScopeEnd f.tag (config_of f) s a y → config_of g ≡ y → ((w : WaitId) → wait_of y.stage ≡ Some w → HasStood c c' w) → Stepped p c c' j j' f g
+    say : (a : Answer) (y : Config) → (d : TellsBoth f.tag base (EndsAndReceives base scope.row a) c c' j j' (items_of f) (items_of g)) → AtScopeEnd f.tag (config_of f) s a y → config_of g ≡ y → ((w : WaitId) → wait_of y.stage ≡ Some w → HasStood c c' w) → Stepped p c c' j j' f g
     say a y d after k stood =
         let ends = subst (λ b. EndsBody b scope.row 0 d.goes.end) e d.goes.ends in
-        let call = done_call p base scope.row c.shape a d.goes.group e d.goes.received in
+        let call = done_call p base scope.row a d.goes.group e d.goes.received in
         quiet_step p c c' j j' f g d.told y (Move.ends_scope (config_of f) y s d.goes.end d.goes.group d.told a at top.1 ends call after d.goes.all) d.noted (tells_at p f.tag base _ c c' j j' (items_of f) (items_of g) e d)
         (all_as is_quiet d.told _ d.goes.all (all_then is_quiet d.goes.end d.goes.group (end_all is_quiet quiet_allows quiet_ends (base_of p) scope.row 0 d.goes.end ends) (plain_all is_quiet quiet_allows _ d.goes.group a (λ q. refl) call))) t k stood
 
-    by_answer : (answer : Joined) → DoneAnswer f.tag base (EndsAndReceives c.shape base scope.row) c c' j j' (items_of f) (items_of g) (Ok answer) → AfterDone f.tag answer (config_of f) (config_of g) → Stepped p c c' j j' f g
+    by_answer : (answer : Joined) → DoneAnswer f.tag base (EndsAndReceives base scope.row) c c' j j' (items_of f) (items_of g) (Ok answer) → AfterDone f.tag answer (config_of f) (config_of g) → Stepped p c c' j j' f g
     by_answer (joined.Closed v) d k = say (Closed v) _ d (AtScopeEnd.closed v) k (λ w n. no_more_wait w n)
     by_answer (joined.Waits w) d k = say (Waits w) _ d.0 (AtScopeEnd.waits w) k (λ u n. left_stood f.tag _ w u c c' d.1 n)
     by_answer joined.Cancelled d k = absurd d
@@ -168,23 +167,23 @@ scope_body_ended p base c c' j j' f g scope answer mid e h at top did t config i
 
 -- it breaks off
 pub scope_body_broken : (p : Program) (base : ℕ) (c c' : ChannelFloor) (j j' : Floor) (f g : Frame) (scope : OpenScope) (failure : Option ℕ) (answer : Joined) (mid : List Item) → base ≡ base_of p → Legal j'.shape j'.seen → Stands p c j f → f.stage ≡ Unwinding failure → IsInScope (config_of f) scope
-    → DoneAnswer f.tag base (BreaksAndReceives c.shape base f.tag scope.row failure) c c' j j' (items_of f) mid (Ok answer) → g.tag ≡ f.tag → AfterDone f.tag answer (config_of f) (config_of g) → items_of g ≡ mid → Stepped p c c' j j' f g
+    → DoneAnswer f.tag base (BreaksAndReceives base f.tag scope.row failure) c c' j j' (items_of f) mid (Ok answer) → g.tag ≡ f.tag → AfterDone f.tag answer (config_of f) (config_of g) → items_of g ≡ mid → Stepped p c c' j j' f g
 scope_body_broken p base c c' j j' f g scope failure answer mid e l h unwinds inside did t config items =
-    by_answer answer (subst (λ i. DoneAnswer f.tag base (BreaksAndReceives c.shape base f.tag scope.row failure) c c' j j' (items_of f) i (Ok answer)) (sym items) did) config
+    by_answer answer (subst (λ i. DoneAnswer f.tag base (BreaksAndReceives base f.tag scope.row failure) c c' j j' (items_of f) i (Ok answer)) (sym items) did) config
   where
     s : InScope
     s = record { head = scope.head; row = scope.row; around = inside.0 }
 
-    say : (a : Answer) (y : Config) → (d : TellsBoth f.tag base (BreaksAndReceives c.shape base f.tag scope.row failure a) c c' j j' (items_of f) (items_of g)) → AtScopeEnd f.tag (config_of f) s a y → config_of g ≡ y → ((w : WaitId) → wait_of y.stage ≡ Some w → HasStood c c' w) → Stepped p c c' j j' f g
+    say : (a : Answer) (y : Config) → (d : TellsBoth f.tag base (BreaksAndReceives base f.tag scope.row failure a) c c' j j' (items_of f) (items_of g)) → AtScopeEnd f.tag (config_of f) s a y → config_of g ≡ y → ((w : WaitId) → wait_of y.stage ≡ Some w → HasStood c c' w) → Stepped p c c' j j' f g
     say a y d after k stood =
         let breaks = subst (λ b. BreaksOff b f.tag scope.row failure d.goes.cancels) e d.goes.breaks in
-        let call = done_call p base scope.row c.shape a d.goes.group e d.goes.received in
+        let call = done_call p base scope.row a d.goes.group e d.goes.received in
         let known : AllKnown (parents_in j'.seen) d.told = known_of c c' j j' f.tag [] (items_of f) (items_of g) d.told l h.on.channel_acts h.on.job_acts d.noted in
         let first : AllKnown (parents_in j'.seen) d.goes.cancels = known_left (parents_in j'.seen) d.goes.cancels d.goes.group (subst (AllKnown (parents_in j'.seen)) d.goes.all known) in
         quiet_step p c c' j j' f g d.told y (Move.breaks_scope (config_of f) y s failure d.goes.cancels d.goes.group d.told a unwinds inside.1 breaks call after d.goes.all) d.noted (tells_at p f.tag base _ c c' j j' (items_of f) (items_of g) e d)
         (all_as is_quiet d.told _ d.goes.all (all_then is_quiet d.goes.cancels d.goes.group (break_all is_quiet quiet_allows quiet_ends (parents_in j'.seen) (base_of p) f.tag scope.row failure d.goes.cancels first breaks) (plain_all is_quiet quiet_allows _ d.goes.group a (λ q. refl) call))) t k stood
 
-    by_answer : (answer : Joined) → DoneAnswer f.tag base (BreaksAndReceives c.shape base f.tag scope.row failure) c c' j j' (items_of f) (items_of g) (Ok answer) → AfterDone f.tag answer (config_of f) (config_of g) → Stepped p c c' j j' f g
+    by_answer : (answer : Joined) → DoneAnswer f.tag base (BreaksAndReceives base f.tag scope.row failure) c c' j j' (items_of f) (items_of g) (Ok answer) → AfterDone f.tag answer (config_of f) (config_of g) → Stepped p c c' j j' f g
     by_answer (joined.Closed v) d k = say (Closed v) _ d (AtScopeEnd.closed v) k (λ w n. no_more_wait w n)
     by_answer (joined.Waits w) d k = say (Waits w) _ d.0 (AtScopeEnd.waits w) k (λ u n. left_stood f.tag _ w u c c' d.1 n)
     by_answer joined.Cancelled d k = absurd d

@@ -3,7 +3,6 @@ use Rattle.std.specs.Prelude.{◌≡◌, ◌≢◌, ◌+◌, ◌<◌, ◌⊎◌,
 use Rattle.co_base.specs.declared.names.Memory.{Memory}
 use Rattle.co_base.specs.declared.names.WaitId.{WaitId}
 use Rattle.channel_model.specs.declared.acts.Settled.{Settled}
-use Rattle.channel_model.specs.Channels.{Shape}
 use Rattle.channel_model.specs.Histories.{replay as replay_channels}
 use Rattle.channel_model.specs.Floors.{Floor as ChannelFloor}
 use Rattle.channel_model.specs.Answers.{outcome_at}
@@ -87,19 +86,19 @@ abbrev pub LeavesEnded : Program → ℕ → ℕ → End → Config → Config �
 LeavesEnded p k head end x y = (s : InScope) → scope_in x.entered ≡ Some s → GoesOutside p k head end (outside s x) y
 
 -- the body ends, and the done channel is received from
-pub record EndsAndReceives (shape : Shape) (base row : ℕ) (a : Answer) (told : List Told) : Type 0 where
+pub record EndsAndReceives (base row : ℕ) (a : Answer) (told : List Told) : Type 0 where
   pub end : List Told
   pub group : List Told
   pub ends : EndsBody base row 0 end
-  pub received : ReceivesDone shape base row a group
+  pub received : ReceivesDone base row a group
   pub all : told ≡ end ++ group
 
 -- the body breaks off, and the done channel is received from
-pub record BreaksAndReceives (shape : Shape) (base k row : ℕ) (failure : Option ℕ) (a : Answer) (told : List Told) : Type 0 where
+pub record BreaksAndReceives (base k row : ℕ) (failure : Option ℕ) (a : Answer) (told : List Told) : Type 0 where
   pub cancels : List Told
   pub group : List Told
   pub breaks : BreaksOff base k row failure cancels
-  pub received : ReceivesDone shape base row a group
+  pub received : ReceivesDone base row a group
   pub all : told ≡ cancels ++ group
 
 -- the wait at the end of a scope was settled as it was resolved

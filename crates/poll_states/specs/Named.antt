@@ -59,7 +59,7 @@ NamedTells named.Start who base own row c c' j j' i i' a = (a ≡ Some came.Done
 NamedTells named.Cancel who base own row c c' j j' i i' a = (a ≡ Some came.Done) × HasCancelled who row c c' j j' i i'
 NamedTells named.Join who base own row c c' j j' i i' a = HasJoined (JoinAnswer who base own row c c' j j' i i') a
 NamedTells named.Await who base own row c c' j j' i i' a =
-    HasJoined (DoneAnswer who base (AwaitsEnd c.shape base row) c c' j j' i i') a
+    HasJoined (DoneAnswer who base (AwaitsEnd base row) c c' j j' i i') a
 
 abbrev pub NamedAnswer : NamedCall → ℕ → ℕ → ℕ → ℕ → ChannelFloor → ChannelFloor → Floor → Floor → List Item → List Item
     → Result (Option Came) Memory → Type 0

@@ -137,7 +137,7 @@ fn end_and_receive<C: ChannelFloor, J: JobFloor, W: Wakes>(
     requires own { MayEndBody builder.old.who (replay (J.view builder.old.jobs.now).seen row) }
     ensures same { SameBuilder C.anchor J.anchor builder.old builder.new }
     ensures answer { DoneAnswer builder.old.who builder.old.base
-        (EndsAndReceives (C.view builder.old.channels.now).shape builder.old.base row)
+        (EndsAndReceives builder.old.base row)
         (C.view builder.old.channels.now) (C.view builder.new.channels.now) (J.view builder.old.jobs.now) (J.view builder.new.jobs.now)
         (notes_of builder.old.book.now) (notes_of builder.new.book.now) result }
 {
@@ -159,7 +159,7 @@ fn break_and_receive<C: ChannelFloor, J: JobFloor, W: Wakes>(
         (reason_for failure) }
     ensures same { SameBuilder C.anchor J.anchor builder.old builder.new }
     ensures answer { DoneAnswer builder.old.who builder.old.base
-        (BreaksAndReceives (C.view builder.old.channels.now).shape builder.old.base builder.old.who row failure)
+        (BreaksAndReceives builder.old.base builder.old.who row failure)
         (C.view builder.old.channels.now) (C.view builder.new.channels.now) (J.view builder.old.jobs.now) (J.view builder.new.jobs.now)
         (notes_of builder.old.book.now) (notes_of builder.new.book.now) result }
 {

@@ -66,18 +66,18 @@ starts_so row true = Starts.now
 starts_so row false = Starts.before
 
 pub awaits_told : (who base row : ℕ) (now : Bool) (c c' : ChannelFloor) (j j1 j2 : Floor) (i i1 i2 : List Item) (r : Result Joined Memory) → Legal j1.shape j1.seen → StartedAnswer who row j j1 i i1 (Ok now)
-    → DoneAnswer who base (ReceivesDone c.shape base row) c c' j1 j2 i1 i2 r → DoneAnswer who base (AwaitsEnd c.shape base row) c c' j j2 i i2 r
+    → DoneAnswer who base (ReceivesDone base row) c c' j1 j2 i1 i2 r → DoneAnswer who base (AwaitsEnd base row) c c' j j2 i i2 r
 awaits_told who base row now c c' j j1 j2 i i1 i2 r l h k =
-    done_then who base (start_told now row) c c' j j1 j2 i i1 i2 (start_quiet base row now) l h (ReceivesDone c.shape base row) (AwaitsEnd c.shape base row)
+    done_then who base (start_told now row) c c' j j1 j2 i i1 i2 (start_quiet base row now) l h (ReceivesDone base row) (AwaitsEnd base row)
     (λ a told goes. record { starts = start_told now row; group = told; is_started = starts_so row now; received = goes; all = refl }) r k
 
 -- the same from the caller that the start left
 pub awaits_of : (who who1 base base1 row : ℕ) (now : Bool) (c c1 c' : ChannelFloor) (j j1 j2 : Floor) (i i1 i2 : List Item) (r : Result Joined Memory) → who1 ≡ who → base1 ≡ base → c1 ≡ c → Legal j1.shape j1.seen → StartedAnswer who row j j1 i i1 (Ok now)
-    → DoneAnswer who1 base1 (ReceivesDone c1.shape base1 row) c1 c' j1 j2 i1 i2 r → DoneAnswer who base (AwaitsEnd c.shape base row) c c' j j2 i i2 r
+    → DoneAnswer who1 base1 (ReceivesDone base1 row) c1 c' j1 j2 i1 i2 r → DoneAnswer who base (AwaitsEnd base row) c c' j j2 i i2 r
 awaits_of who who1 base base1 row now c c1 c' j j1 j2 i i1 i2 r e f g l h k =
-    let one : DoneAnswer who base1 (ReceivesDone c1.shape base1 row) c1 c' j1 j2 i1 i2 r = subst (λ n. DoneAnswer n base1 (ReceivesDone c1.shape base1 row) c1 c' j1 j2 i1 i2 r) e k in
-    let two : DoneAnswer who base (ReceivesDone c1.shape base row) c1 c' j1 j2 i1 i2 r = subst (λ n. DoneAnswer who n (ReceivesDone c1.shape n row) c1 c' j1 j2 i1 i2 r) f one in
-    awaits_told who base row now c c' j j1 j2 i i1 i2 r l h (subst (λ (x : ChannelFloor). DoneAnswer who base (ReceivesDone x.shape base row) x c' j1 j2 i1 i2 r) g two)
+    let one : DoneAnswer who base1 (ReceivesDone base1 row) c1 c' j1 j2 i1 i2 r = subst (λ n. DoneAnswer n base1 (ReceivesDone base1 row) c1 c' j1 j2 i1 i2 r) e k in
+    let two : DoneAnswer who base (ReceivesDone base row) c1 c' j1 j2 i1 i2 r = subst (λ n. DoneAnswer who n (ReceivesDone n row) c1 c' j1 j2 i1 i2 r) f one in
+    awaits_told who base row now c c' j j1 j2 i i1 i2 r l h (subst (λ (x : ChannelFloor). DoneAnswer who base (ReceivesDone base row) x c' j1 j2 i1 i2 r) g two)
 
 -- ---- a join
 
@@ -85,7 +85,7 @@ own_quiet : (base own : ℕ) → ClosesAtOnce base (items_in (on_jobs (MayRun ow
 unfolding items_in
 own_quiet base own = tt
 
-join_of : (who base own row : ℕ) (c c' : ChannelFloor) (j j' : Floor) (i i' : List Item) (r : Result Joined Memory) → DoneAnswer who base (JoinsJob c.shape base own row) c c' j j' i i' r → JoinAnswer who base own row c c' j j' i i' r
+join_of : (who base own row : ℕ) (c c' : ChannelFloor) (j j' : Floor) (i i' : List Item) (r : Result Joined Memory) → DoneAnswer who base (JoinsJob base own row) c c' j j' i i' r → JoinAnswer who base own row c c' j j' i i' r
 join_of who base own row c c' j j' i i' (Ok (joined.Closed v)) h = h
 join_of who base own row c c' j j' i i' (Ok (joined.Waits w)) h = h
 join_of who base own row c c' j j' i i' (Ok joined.Cancelled) h = absurd h
@@ -94,12 +94,12 @@ join_of who base own row c c' j j' i i' (Err m) h = h
 
 -- the own Job may run, and then an await
 pub joins_told : (who base own row : ℕ) (c c' : ChannelFloor) (j j1 j2 : Floor) (i i1 i2 : List Item) (r : Result Joined Memory) → Legal j1.shape j1.seen → i1 ≡ i → Looked who [] j j1 → AtStep j j1 (JobFactHolds (MayRun own))
-    → DoneAnswer who base (AwaitsEnd c.shape base row) c c' j1 j2 i1 i2 r → JoinAnswer who base own row c c' j j2 i i2 r
+    → DoneAnswer who base (AwaitsEnd base row) c c' j1 j2 i1 i2 r → JoinAnswer who base own row c c' j j2 i i2 r
 joins_told who base own row c c' j j1 j2 i i1 i2 r l e look at k =
     join_of who base own row c c' j j2 i i2 r
     (done_then who base (on_jobs (MayRun own) ∷ []) c c' j j1 j2 i i1 i2 (own_quiet base own) l
     (told_fact who [] j j1 i i1 (MayRun own) e (added_looked who [] j j1 look) (looked_moment who [] j j1 (JobFactHolds (MayRun own)) look at))
-    (AwaitsEnd c.shape base row) (JoinsJob c.shape base own row) (λ a told goes. record { group = told; awaits = goes; all = refl }) r k)
+    (AwaitsEnd base row) (JoinsJob base own row) (λ a told goes. record { group = told; awaits = goes; all = refl }) r k)
 
 -- the own Job was seen Cancelling
 pub join_stops : (who base own row : ℕ) (c : ChannelFloor) (j j1 : Floor) (i i1 i2 : List Item) → Legal j1.shape j1.seen → i1 ≡ i → i2 ≡ i1 ++ item.Job (Saw own) ∷ [] → Looked who [] j j1 → AtStep j j1 (λ tree. state_of (tree own) ≡ Some Cancelling)

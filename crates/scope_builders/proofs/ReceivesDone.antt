@@ -110,14 +110,14 @@ tells_one who base P told c c' j i i' goes quiet same h = record {
   dones = still_kept base c c' j (items_in told) quiet same;
 }
 
-done_at : (who base row : ℕ) (c c' : Floor) (j : JobFloor) (i i' : List Item) (r : Result Joined Memory) → SignalAnswer who (done_channel base row) c c' i i' r → DoneAnswer who base (ReceivesDone c.shape base row) c c' j j i i' r
+done_at : (who base row : ℕ) (c c' : Floor) (j : JobFloor) (i i' : List Item) (r : Result Joined Memory) → SignalAnswer who (done_channel base row) c c' i i' r → DoneAnswer who base (ReceivesDone base row) c c' j j i i' r
 unfolding items_in
 done_at who base row c c' j i i' (Ok (joined.Closed v)) h =
     let n = done_channel base row in
-    tells_one who base (ReceivesDone c.shape base row (Closed v)) (heard (ReceiveClosed n v) ∷ []) c c' j i i' (PlainCall.refused (receives n) (heard (ReceiveClosed n v)) (Closed v) (Refused.receive n v)) (tt, tt) (none_closed who c c' h.added) h
+    tells_one who base (ReceivesDone base row (Closed v)) (heard (ReceiveClosed n v) ∷ []) c c' j i i' (PlainCall.refused (receives n) (heard (ReceiveClosed n v)) (Closed v) (Refused.receive n v)) (tt, tt) (none_closed who c c' h.added) h
 done_at who base row c c' j i i' (Ok (joined.Waits w)) h =
     let n = done_channel base row in
-    subst (λ (x : WaitId). (t : TellsBoth who base (ReceivesDone c.shape base row (Waits x)) c c' j j i i') × IsLeftWaiting who x (channel_acts_in (items_in t.told)) c c') (sym h.named) (
+    subst (λ (x : WaitId). (t : TellsBoth who base (ReceivesDone base row (Waits x)) c c' j j i i') × IsLeftWaiting who x (channel_acts_in (items_in t.told)) c c') (sym h.named) (
       record {
         told = made (Await n h.place (wait_at n h.place) 0) ∷ [];
         goes = PlainCall.awaits n h.place;
@@ -129,14 +129,14 @@ done_at who base row c c' j i i' (Ok (joined.Waits w)) h =
 done_at who base row c c' j i i' (Ok joined.Cancelled) h = h
 done_at who base row c c' j i i' (Ok joined.Spent) h =
     let n = done_channel base row in
-    tells_one who base (ReceivesDone c.shape base row NoPlace) (spent (receives n)) c c' j i i' (PlainCall.no_place (receives n) (spent (receives n)) refl) (tt, tt) (none_closed who c c' h.added) h
+    tells_one who base (ReceivesDone base row NoPlace) (spent (receives n)) c c' j i i' (PlainCall.no_place (receives n) (spent (receives n)) refl) (tt, tt) (none_closed who c c' h.added) h
 done_at who base row c c' j i i' (Err m) h = record {
   told = [];
   noted = both_channels who c c' j j i i' [] (nobody_called who j) h;
   dones = still_kept base c c' j [] tt (none_closed who c c' h.added);
 }
 
-pub done_answer : (who base row n : ℕ) (c c' : Floor) (j : JobFloor) (i i' : List Item) (r : Result Joined Memory) → n ≡ done_channel base row → SignalAnswer who n c c' i i' r → DoneAnswer who base (ReceivesDone c.shape base row) c c' j j i i' r
+pub done_answer : (who base row n : ℕ) (c c' : Floor) (j : JobFloor) (i i' : List Item) (r : Result Joined Memory) → n ≡ done_channel base row → SignalAnswer who n c c' i i' r → DoneAnswer who base (ReceivesDone base row) c c' j j i i' r
 done_answer who base row n c c' j i i' r e h = done_at who base row c c' j i i' r (subst (λ m. SignalAnswer who m c c' i i' r) e h)
 
 -- ---- what the call needs

@@ -3,7 +3,6 @@ use Rattle.std.specs.Prelude.{◌≡◌, ℕ, ◌+◌, ◌<◌, ◌≤◌, Bool,
 use Rattle.std.specs.Prelude.{◌∷◌, ◌++◌, length, map, Option, Some, None, Result, Ok, Err, is_some, slice_get}
 use Rattle.co_base.specs.declared.names.Memory.{Memory}
 use Rattle.channel_model.specs.declared.acts.Kind.TheVariants.{Signal}
-use Rattle.channel_model.specs.Channels.{Shape}
 use Rattle.channel_model.specs.Floors.{Floor as ChannelFloor}
 use Rattle.job_model.specs.declared.acts.JobAct.{JobAct}
 use Rattle.job_model.specs.declared.acts.JobAct.TheVariants.{Attach, Start, EndBody}
@@ -178,21 +177,21 @@ pub record TellsBoth (who base : ℕ) (P : List Told → Type 0) (c c' : Channel
   pub dones : KeepsDones base c c' j j' (items_in told)
 
 -- the done channel of the row is received from
-abbrev pub ReceivesDone : Shape → ℕ → ℕ → Answer → List Told → Type 0
-ReceivesDone shape base row a told = PlainCall (receives (done_channel base row)) told a
+abbrev pub ReceivesDone : ℕ → ℕ → Answer → List Told → Type 0
+ReceivesDone base row a told = PlainCall (receives (done_channel base row)) told a
 
 -- the Job is started, if it is New, and then its done channel is received from
-pub record AwaitsEnd (shape : Shape) (base row : ℕ) (a : Answer) (told : List Told) : Type 0 where
+pub record AwaitsEnd (base row : ℕ) (a : Answer) (told : List Told) : Type 0 where
   pub starts : List Told
   pub group : List Told
   pub is_started : Starts row starts
-  pub received : ReceivesDone shape base row a group
+  pub received : ReceivesDone base row a group
   pub all : told ≡ starts ++ group
 
 -- the caller's own Job may run, and then the same
-pub record JoinsJob (shape : Shape) (base own row : ℕ) (a : Answer) (told : List Told) : Type 0 where
+pub record JoinsJob (base own row : ℕ) (a : Answer) (told : List Told) : Type 0 where
   pub group : List Told
-  pub awaits : AwaitsEnd shape base row a group
+  pub awaits : AwaitsEnd base row a group
   pub all : told ≡ on_jobs (MayRun own) ∷ group
 
 -- what such a receive told, by its answer; an element is never received
@@ -209,7 +208,7 @@ DoneAnswer who base P c c' j j' i i' (Err m) = DidSome who base c c' j j' i i'
 abbrev pub JoinAnswer : ℕ → ℕ → ℕ → ℕ → ChannelFloor → ChannelFloor → Floor → Floor → List Item → List Item
     → Result Joined Memory → Type 0
 JoinAnswer who base own row c c' j j' i i' (Ok joined.Cancelled) = TellsBoth who base (λ told. told ≡ saw own ∷ []) c c' j j' i i'
-JoinAnswer who base own row c c' j j' i i' other = DoneAnswer who base (JoinsJob c.shape base own row) c c' j j' i i' other
+JoinAnswer who base own row c c' j j' i i' other = DoneAnswer who base (JoinsJob base own row) c c' j j' i i' other
 
 -- how the Job ended, or that it had not
 abbrev pub SeenEndAnswer : ℕ → ℕ → Floor → Floor → List Item → List Item → Result (Option End) Memory → Type 0

@@ -17,10 +17,11 @@ ghost use Rattle.scope_builders.specs.Calls.{
 };
 
 use crate::builder::{Builder, LaunchError};
-use crate::parts::{attach, cancel_first, finish_up, make_room, pass, wake_job};
+use crate::parts::{attach, cancel_first, finish_up, pass};
 use channel_model::ChannelFloor;
 use co_base::{Memory, Row, Tag, Value, Wakes};
 use job_model::{Attached, Ended, JobAct, JobFloor, JobKind, JobNote, Reason};
+use job_tree::{make_room, wake_job};
 use note_book::{Item, NoteBook};
 
 /// Attaches the Job of a coroutine to a parent, on the floor of Jobs alone. The coroutine is to be polled, unless its Job is New.

@@ -18,6 +18,7 @@ use note_book::{Item, NoteBook};
 
 /// Closes the done channel of each Job that ends, and tells who waits there. That of the row r is `done_channel(base, r)`, of one
 /// place, so that at most one receiver ever stands there, and what one end takes is known before it.
+#[derive(Drop)]
 pub struct DoneChannels<'a, C: ChannelFloor> {
     pub channels: &'a mut C,
     pub who: Tag,

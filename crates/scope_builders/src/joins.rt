@@ -79,7 +79,7 @@ impl<C: ChannelFloor, J: JobFloor, B: NoteBook, W: Wakes> Builder<'_, '_, '_, '_
         requires may { MayBuild self.old.who self.old.base (C.view self.old.channels.now) (J.view self.old.jobs.now) }
         requires row { is_some (replay (J.view self.old.jobs.now).seen row) ≡ true }
         ensures same { SameBuilder C.anchor J.anchor self.old self.new }
-        ensures answer { DoneAnswer self.old.who self.old.base (AwaitsEnd (C.view self.old.channels.now).shape self.old.base row)
+        ensures answer { DoneAnswer self.old.who self.old.base (AwaitsEnd self.old.base row)
             (C.view self.old.channels.now) (C.view self.new.channels.now) (J.view self.old.jobs.now) (J.view self.new.jobs.now)
             (B.items self.old.book.now) (B.items self.new.book.now) result }
         ensures closed { ClosedIsSeen (done_channel self.old.base row) (C.view self.new.channels.now) result }
@@ -96,7 +96,7 @@ impl<C: ChannelFloor, J: JobFloor, B: NoteBook, W: Wakes> Builder<'_, '_, '_, '_
         requires row { is_some (replay (J.view self.old.jobs.now).seen row) ≡ true }
         ensures same { SameBuilder C.anchor J.anchor self.old self.new }
         ensures jobs { self.new.jobs.now ≡ self.old.jobs.now }
-        ensures answer { DoneAnswer self.old.who self.old.base (ReceivesDone (C.view self.old.channels.now).shape self.old.base row)
+        ensures answer { DoneAnswer self.old.who self.old.base (ReceivesDone self.old.base row)
             (C.view self.old.channels.now) (C.view self.new.channels.now) (J.view self.old.jobs.now) (J.view self.new.jobs.now)
             (B.items self.old.book.now) (B.items self.new.book.now) result }
         ensures closed { ClosedIsSeen (done_channel self.old.base row) (C.view self.new.channels.now) result }

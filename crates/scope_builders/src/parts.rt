@@ -1,12 +1,13 @@
 //! The parts of the calls.
 
-ghost use Rattle.std.specs.Prelude.{◌≡◌, ◌<◌, ◌≤◌, true, is_some, [], Some, OnOk, OnErr};
+ghost use Rattle.std.specs.Prelude.{◌≡◌, ◌<◌, true, is_some, Some, OnOk, OnErr};
 ghost use Rattle.job_model.specs.declared.acts.Reason.TheVariants.{Own};
 ghost use Rattle.job_model.specs.Needs.{Holds, OwnsBody};
 ghost use Rattle.job_model.specs.Histories.{replay};
-ghost use Rattle.job_model.specs.Floors.{MayCall, HasRoom, Looked};
+ghost use Rattle.job_model.specs.Floors.{MayCall};
 ghost use Rattle.call_meaning.specs.JobCalls.{reason_for};
 ghost use Rattle.job_tree.specs.declared.caller.Reserve.TheVariants.{AsItGoes};
+ghost use Rattle.job_tree.specs.Callers.{SameCaller};
 ghost use Rattle.job_tree.specs.Passes.{PassAnswer, HasCancelled, IsFailure};
 ghost use Rattle.job_tree.specs.Failures.{ClimbAnswer};
 ghost use Rattle.scope_builders.specs.Calls.{MayBuild};
@@ -17,29 +18,8 @@ use crate::done_channels::DoneChannels;
 use channel_model::ChannelFloor;
 use co_base::{ChannelId, Memory, Row, Tag, Wakes};
 use job_model::{AttachError, Attached, JobAct, JobFloor, JobKind, JobNote, JobState, Reason};
-use job_tree::{JobCaller, Passed, Reserve};
+use job_tree::{JobCaller, Passed, Reserve, make_room};
 use note_book::{Item, NoteBook};
-
-/// Makes room for so many entries on Jobs, each noted.
-pub(crate) fn make_room<J: JobFloor, B: NoteBook>(
-    jobs: &mut J,
-    book: &mut B,
-    n: u32,
-) -> Result<(), Memory>
-    ensures jobs_anchor { J.anchor jobs.new ≡ J.anchor jobs.old }
-    ensures items { B.items book.new ≡ B.items book.old }
-    ensures floor { OnOk result (HasRoom n (J.view jobs.old) (J.view jobs.new)) }
-    ensures book { OnOk result (n ≤ B.spare book.new) }
-    ensures same { OnErr result (J.view jobs.new ≡ J.view jobs.old) }
-{
-    if let Err(memory) = book.room(n) {
-        return Err(memory);
-    }
-    if let Err(memory) = jobs.room(n) {
-        return Err(memory);
-    }
-    Ok(())
-}
 
 /// Attaches a Job to a parent, and notes that, or why there is none.
 pub(crate) fn attach<J: JobFloor, B: NoteBook>(
@@ -88,16 +68,6 @@ pub(crate) fn attach<J: JobFloor, B: NoteBook>(
     }
 }
 
-/// Asks that the coroutine of the Job be polled.
-pub(crate) fn wake_job<J: JobFloor, W: Wakes>(jobs: &mut J, wakes: &mut W, who: Tag, row: Row)
-    requires can { MayCall who row (J.view jobs.old) }
-    ensures jobs_anchor { J.anchor jobs.new ≡ J.anchor jobs.old }
-    ensures looked { Looked who [] (J.view jobs.old) (J.view jobs.new) }
-{
-    let tag = if row == 0 { 0 } else { jobs.link(who, row).tag };
-    wakes.wake(tag);
-}
-
 /// Cancels a Job with all below it, and makes room for each Cancel before it.
 pub(crate) fn pass<J: JobFloor, B: NoteBook, W: Wakes>(
     jobs: &mut J,
@@ -118,14 +88,7 @@ pub(crate) fn pass<J: JobFloor, B: NoteBook, W: Wakes>(
         wakes: &mut *wakes,
         who,
     };
-    let passed = caller.pass(row, reason, Reserve::AsItGoes);
-    let JobCaller {
-        floor: _,
-        book: _,
-        wakes: _,
-        who: _,
-    } = caller;
-    passed
+    caller.pass(row, reason, Reserve::AsItGoes)
 }
 
 /// Takes the failure of a Job up to its parents, and makes room for each Cancel before it.
@@ -147,14 +110,7 @@ fn fail_up<J: JobFloor, B: NoteBook, W: Wakes>(
         wakes: &mut *wakes,
         who,
     };
-    let climbed = caller.climb(row, Reserve::AsItGoes);
-    let JobCaller {
-        floor: _,
-        book: _,
-        wakes: _,
-        who: _,
-    } = caller;
-    climbed
+    caller.climb(row, Reserve::AsItGoes)
 }
 
 /// Whether the Job is seen Cancelling.
@@ -281,20 +237,7 @@ pub(crate) fn finish_up<C: ChannelFloor, J: JobFloor, B: NoteBook, W: Wakes>(
         wakes: &mut *wakes,
         who,
     };
-    let finished = finish_with(&mut caller, &mut done, row);
-    let JobCaller {
-        floor: _,
-        book: _,
-        wakes: _,
-        who: _,
-    } = caller;
-    let DoneChannels {
-        channels: _,
-        who: _,
-        base: _,
-        rows: _,
-    } = done;
-    finished
+    finish_with(&mut caller, &mut done, row)
 }
 
 /// Ends a Job and its parents, with these done channels.
@@ -306,12 +249,9 @@ fn finish_with<C: ChannelFloor, J: JobFloor, B: NoteBook, W: Wakes>(
     requires can { MayCall caller.old.who row (J.view caller.old.floor.now) }
     requires who { done.old.who ≡ caller.old.who }
     requires rows { done.old.rows ≡ (J.view caller.old.floor.now).shape.rows }
-    ensures same_floor { caller.new.floor.ghost_name ≡ caller.old.floor.ghost_name }
-    ensures same_book { caller.new.book.ghost_name ≡ caller.old.book.ghost_name }
-    ensures same_wakes { caller.new.wakes.ghost_name ≡ caller.old.wakes.ghost_name }
+    ensures same { SameCaller J.anchor caller.old caller.new }
     ensures same_channels { done.new.channels.ghost_name ≡ done.old.channels.ghost_name }
     ensures channels_anchor { C.anchor done.new.channels.now ≡ C.anchor done.old.channels.now }
-    ensures jobs_anchor { J.anchor caller.new.floor.now ≡ J.anchor caller.old.floor.now }
     ensures finished { FinishedUp caller.old.who done.old.base row (C.view done.old.channels.now) (C.view done.new.channels.now)
         (J.view caller.old.floor.now) (J.view caller.new.floor.now) (B.items caller.old.book.now) (B.items caller.new.book.now) result }
 {

@@ -18,11 +18,8 @@ returns g c =
     c.requires.can.attached l (refl, refl, refl, refl, refl) refl c.finish_up.ensures.finished
     in
     record {
-      same_floor = c.finish_up.ensures.same_floor;
-      same_book = c.finish_up.ensures.same_book;
-      same_wakes = c.finish_up.ensures.same_wakes;
+      same = c.finish_up.ensures.same;
       same_channels = k.0.0;
       channels_anchor = k.0.4;
-      jobs_anchor = c.finish_up.ensures.anchor;
       finished = k.1;
     }

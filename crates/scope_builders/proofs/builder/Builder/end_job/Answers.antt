@@ -4,7 +4,7 @@ use Rattle.scope_builders.proofs.Bodies.{ended_body, own_attached, body_added, d
 use Rattle.scope_builders.proofs.builder.Builder.end_job.Goals as goal
 
 pub returns-in-Err-clause-answer : goal.returns-in-Err-clause-answer
-returns-in-Err-clause-answer g c = did_none _ _ _ _ _ _ _ _ (g.met.J.JobFloor.legal c.make_room.new.jobs) refl (told_none _ _ _ _ _ c.in-Err.ensures.same c.make_room.ensures.items)
+returns-in-Err-clause-answer g c = did_none _ _ _ _ _ _ _ _ (g.met.J.JobFloor.legal c.make_room.new.floor) refl (told_none _ _ _ _ _ c.in-Err.ensures.same c.make_room.ensures.items)
 
 pub finish_up-requires-clause-row : goal.finish_up-requires-clause-row
 finish_up-requires-clause-row g c =

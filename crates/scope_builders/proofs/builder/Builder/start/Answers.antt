@@ -14,4 +14,4 @@ wake_job-requires g c = record {
 }
 
 pub returns-clause-answer : goal.returns-clause-answer
-returns-clause-answer g c = started_now _ _ _ _ _ _ _ _ _ _ c.in_default.ensures.floor (g.met.J.JobFloor.legal c.start.new.self) (g.met.J.JobFloor.legal c.wake_job.new.jobs) c.if-not-start.ensures.answer c.wake_job.ensures.looked c.make_room.ensures.items c.note.ensures.items
+returns-clause-answer g c = started_now _ _ _ _ _ _ _ _ _ _ c.in_default.ensures.floor (g.met.J.JobFloor.legal c.start.new.self) (g.met.J.JobFloor.legal c.wake_job.new.floor) c.if-not-start.ensures.answer c.wake_job.ensures.looked c.make_room.ensures.items c.note.ensures.items
