@@ -52,8 +52,13 @@ popped_receiver_in_order r rs ch e h = record {
   one_side = ⊎_elim (λ f. inl f) (λ f. inr (none_left r rs ch.receivers e f)) h.one_side;
 }
 
-pub popped_offer_in_order : (o : Standing) (os : List Standing) (ch : Channel) → ch.queue ≡ o ∷ os → StandsInOrder ch → StandsInOrder (record ch { queue = os })
+popped_offer_in_order : (o : Standing) (os : List Standing) (ch : Channel) → ch.queue ≡ o ∷ os → StandsInOrder ch → StandsInOrder (record ch { queue = os })
 popped_offer_in_order o os ch e h = (order_keeps []).rest 0 o os ch e h
+
+pub popped_all_in_order : (shape : Shape) (xs ys : List ListChannel) (es : List Entry) (c : ℕ) (o : Standing) (os : List Standing) → Legal shape es → IsAt shape xs (replay es) → (channel_in xs c).queue ≡ o ∷ os → Becomes c (record (channel_in xs c) { queue = os }) xs ys → AllInOrder ys
+popped_all_in_order shape xs ys es c o os l at e k =
+    let order = all_in_order shape xs es l at in
+    becomes_in_order c _ xs ys k order (popped_offer_in_order o os _ e (order c))
 
 -- an offer becomes one with which nobody waits
 pub freed_in_order : (i : ℕ) (o : Standing) (ch : Channel) → slice_get ch.queue i ≡ Some o → StandsInOrder ch → StandsInOrder (record ch { queue = slice_set ch.queue i (record o { holder = None }) })

@@ -127,8 +127,11 @@ nothing_there f c w ch h none =
 pub popped_receiver_kept : (f : WaitId → List ListClause) (c : ℕ) (r : Receiver) (rs : List Receiver) (ch : Channel) → ch.receivers ≡ r ∷ rs → ChannelKept f c ch → ChannelKept f c (record ch { receivers = rs })
 popped_receiver_kept f c r rs ch e h = record { offers = h.offers; receivers = rest_all (λ (y : Receiver). is_place y.place (place_for c (f y.party.wait))) r rs ch.receivers e h.receivers }
 
-pub popped_offer_kept : (f : WaitId → List ListClause) (c : ℕ) (o : Standing) (os : List Standing) (ch : Channel) → ch.queue ≡ o ∷ os → ChannelKept f c ch → ChannelKept f c (record ch { queue = os })
+popped_offer_kept : (f : WaitId → List ListClause) (c : ℕ) (o : Standing) (os : List Standing) (ch : Channel) → ch.queue ≡ o ∷ os → ChannelKept f c ch → ChannelKept f c (record ch { queue = os })
 popped_offer_kept f c o os ch e h = record { offers = rest_all (λ (y : Standing). holder_keeps f c y.place y.holder) o os ch.queue e h.offers; receivers = h.receivers }
+
+pub popped_all_kept : (xs ys : List ListChannel) (c : ℕ) (o : Standing) (os : List Standing) → (channel_in xs c).queue ≡ o ∷ os → Becomes c (record (channel_in xs c) { queue = os }) xs ys → PlacesKept xs → PlacesKept ys
+popped_all_kept xs ys c o os e k h = becomes_kept c _ xs ys k h (popped_offer_kept (clauses_in xs) c o os _ e (h c))
 
 set_all : {X : Type 0} (p : X → Bool) (y : X) → p y ≡ true → (xs : List X) (i : ℕ) → list_all p xs ≡ true → list_all p (slice_set xs i y) ≡ true
 set_all p y e [] i h = h

@@ -10,8 +10,7 @@ use Rattle.one_thread_floor.specs.GhostLists.{ghost_items}
 use Rattle.one_thread_floor.proofs.ListEntries.{recorded_at}
 use Rattle.one_thread_floor.proofs.ListFirsts.{drop_needs, drop_at}
 use Rattle.one_thread_floor.proofs.ListQueues.{trimmed_by_few, trimmed_by_later, too_many, first_came_before}
-use Rattle.one_thread_floor.specs.ListStands.{clauses_in}
-use Rattle.one_thread_floor.proofs.KeptPlaces.{becomes_kept, popped_offer_kept}
+use Rattle.one_thread_floor.proofs.KeptPlaces.{popped_all_kept}
 use Rattle.one_thread_floor.proofs.list_calls.ListFloorChannelFloor.trim.Goals as goal
 
 -- the kind drops nothing
@@ -50,7 +49,7 @@ invariant_of-self c =
       shaped = c.args.self.now.shaped;
       legal = recorded_legal _ es (ghost_items c.push.new.self) _ c.args.self.now.legal c.push.ensures (drop_needs _ xs es c.args.who c.args.c o _ at c.requires.can.channel long p.first);
       stands = recorded_at _ c.pop_offer-offer.new.channels.items es (ghost_items c.push.new.self) _ c.push.ensures (drop_at _ xs c.pop_offer-offer.new.channels.items es c.args.who c.args.c o _ at p.first p.change);
-      kept = becomes_kept c.args.c _ xs c.pop_offer-offer.new.channels.items p.change c.args.self.now.kept (popped_offer_kept (clauses_in xs) c.args.c o _ _ p.first (c.args.self.now.kept c.args.c));
+      kept = popped_all_kept xs c.pop_offer-offer.new.channels.items c.args.c o _ p.first p.change c.args.self.now.kept;
     }
 
 pub returns-clause-answer : goal.returns-clause-answer

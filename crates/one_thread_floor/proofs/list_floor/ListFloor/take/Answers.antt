@@ -3,9 +3,8 @@ use Rattle.channel_model.proofs.Alone.{recorded_legal, made_alone}
 use Rattle.one_thread_floor.specs.GhostLists.{ghost_items}
 use Rattle.one_thread_floor.proofs.ListEntries.{recorded_at}
 use Rattle.one_thread_floor.proofs.ListFirsts.{popped_holder, take_needs, take_at, offer_is_of}
-use Rattle.one_thread_floor.specs.ListStands.{clauses_in}
-use Rattle.one_thread_floor.proofs.InOrder.{all_in_order, becomes_in_order, popped_offer_in_order}
-use Rattle.one_thread_floor.proofs.KeptPlaces.{becomes_kept, popped_offer_kept}
+use Rattle.one_thread_floor.proofs.InOrder.{popped_all_in_order}
+use Rattle.one_thread_floor.proofs.KeptPlaces.{popped_all_kept}
 use Rattle.one_thread_floor.proofs.list_floor.ListFloor.take.Goals as goal
 
 pub resolve_holder-from-requires-clause-waits : goal.resolve_holder-from-requires-clause-waits
@@ -31,12 +30,7 @@ returns-clause-made c = record {
 }
 
 pub resolve_holder-from-requires-clause-order : goal.resolve_holder-from-requires-clause-order
-resolve_holder-from-requires-clause-order c =
-    let p = c.pop_offer-offer.ensures in
-    let order = all_in_order _ c.args.self.now.channels.items (ghost_items c.args.self.now.entries) c.args.self.now.legal c.args.self.now.stands in
-    becomes_in_order c.args.c _ c.args.self.now.channels.items c.pop_offer-offer.new.channels.items p.change order (popped_offer_in_order c.pop_offer-offer.result _ _ p.first (order c.args.c))
+resolve_holder-from-requires-clause-order c = popped_all_in_order _ c.args.self.now.channels.items c.pop_offer-offer.new.channels.items (ghost_items c.args.self.now.entries) c.args.c c.pop_offer-offer.result _ c.args.self.now.legal c.args.self.now.stands c.pop_offer-offer.ensures.first c.pop_offer-offer.ensures.change
 
 pub resolve_holder-from-requires-clause-kept : goal.resolve_holder-from-requires-clause-kept
-resolve_holder-from-requires-clause-kept c =
-    let p = c.pop_offer-offer.ensures in
-    becomes_kept c.args.c _ c.args.self.now.channels.items c.pop_offer-offer.new.channels.items p.change c.args.self.now.kept (popped_offer_kept (clauses_in c.args.self.now.channels.items) c.args.c c.pop_offer-offer.result _ _ p.first (c.args.self.now.kept c.args.c))
+resolve_holder-from-requires-clause-kept c = popped_all_kept c.args.self.now.channels.items c.pop_offer-offer.new.channels.items c.args.c c.pop_offer-offer.result _ c.pop_offer-offer.ensures.first c.pop_offer-offer.ensures.change c.args.self.now.kept
