@@ -12,7 +12,7 @@ use Rattle.channel_model.specs.Channels.{Shape, State, Wait, places_at}
 use Rattle.channel_model.specs.Histories.{replay, acts_of, Legal}
 use Rattle.channel_model.specs.Laws.{NoneBelow}
 use Rattle.channel_model.specs.Floors.{Looked, Made, AtStep, AtMoment}
-use Rattle.channel_model.specs.Answers.{IsOwnWait, IsReadyWait, TakenFrom, DrainedFrom, VoidAnswer, WokenAt}
+use Rattle.channel_model.specs.Answers.{IsOwnWait, IsReadyWait, ClosedWith, IsDrainedAndClosed, TakenFrom, DrainedFrom, VoidAnswer, WokenAt}
 use Rattle.channel_model.proofs.Histories.{Legal-prefix}
 use Rattle.channel_model.proofs.GoneForGood.{below_lasts}
 use Rattle.channel_model.proofs.Later.{closed_later, voided_later}
@@ -21,14 +21,14 @@ use Rattle.channel_model.proofs.Spans.{prefix_append}
 pub use Rattle.channel_model.proofs.Spans.{prefix_self, prefix_then}
 use Rattle.cell_words.specs.declared.hub.Hub.{Hub}
 use Rattle.cell_words.specs.declared.pass.Pass.{Pass}
+use Rattle.cell_words.specs.declared.found.Removal.{Removal}
 use Rattle.cell_words.specs.declared.found.Removal.TheVariants as removal
 use Rattle.cell_words.specs.Hubs.{seen_by, SameGiving}
 use Rattle.cell_words.specs.Seen.{Seen, Sees, Makes, at_channel}
-use Rattle.cell_words.specs.Answers.{TakesFrom, RemovesFrom, VoidAt, Wakes}
+use Rattle.cell_words.specs.Answers.{MayRemove, MayRemoveHeld, RemovesFrom, VoidAt, Wakes}
 use Rattle.cell_words.proofs.MayExchange.{same_acts}
 use Rattle.cell_words.proofs.LooksAtCells.{sees_then}
 use Rattle.cell_calls.specs.HubFloors.{hub_floor}
-use Rattle.cell_calls.specs.Takings.{TookAt}
 
 pub sees_self : (v : Seen) → Sees v v
 sees_self v = record { others = []; now = sym (append-nil v.seen); apart = λ t h. refl; tags = refl; giving = refl }
@@ -75,12 +75,22 @@ module _ (hub : Hub) (who : ℕ) where
     holds = h;
   }
 
-  -- the element of an offer was taken
-  pub taken_of : (a b : Pass) (x : Seen) (c p v : ℕ) (t : Option ℕ) → has_tag who (seen_by a).tags ≡ true → Sees (seen_by a) x → TakesFrom who c p v t x (seen_by b) → TakenFrom who c p v t (hub_floor hub a) (hub_floor hub b)
-  taken_of a b x c p v t own s h = record { made = made_of a b x (Take c p v) own s h.made; from = h.from }
+  -- it was so before, and is told of a later end
+  pub moment_seen : (a x b : Pass) (P : State → Type 0) → AtMoment who [] (hub_floor hub a) (hub_floor hub x) P → IsPrefix (seen_by x).seen (seen_by b).seen → AtMoment who [] (hub_floor hub a) (hub_floor hub b) P
+  moment_seen a x b P m later = record { moment = m.moment; after = m.after; before = prefix_then m.moment (seen_by x).seen (seen_by b).seen m.before later; mine = m.mine; holds = m.holds }
 
-  pub took_of : (a b : Pass) (x : Seen) (c p v : ℕ) (t : Option ℕ) → has_tag who (seen_by a).tags ≡ true → Sees (seen_by a) x → TookAt who c p v t x (seen_by b) → TakenFrom who c p v t (hub_floor hub a) (hub_floor hub b)
-  took_of a b x c p v t own s h = taken_of a b h.then c p v t own (sees_then (seen_by a) x h.then s h.sees) h.removes
+  -- what is so at the end of a call that made no entry
+  pub seen_of : (a b : Pass) (P : State → Type 0) → has_tag who (seen_by a).tags ≡ true → Sees (seen_by a) (seen_by b) → P (replay (seen_by b).seen) → Looked who (hub_floor hub a) (hub_floor hub b) × AtStep (hub_floor hub a) (hub_floor hub b) P
+  seen_of a b P own s h = (looked_of a b own s, step_of a b (seen_by b) P s (prefix_self (seen_by b).seen) h)
+
+  -- a channel that was closed, with nothing left
+  pub closed_of : (a b : Pass) (c v : ℕ) → has_tag who (seen_by a).tags ≡ true → Sees (seen_by a) (seen_by b) → (at_channel (seen_by b).seen c).closed ≡ Some v → (at_channel (seen_by b).seen c).queue ≡ []
+      → ClosedWith who c v (hub_floor hub a) (hub_floor hub b) × AtStep (hub_floor hub a) (hub_floor hub b) (IsDrainedAndClosed c)
+  closed_of a b c v own s is none = let t = seen_of a b (IsDrainedAndClosed c) own s (record { is_closed = ap is_some is; nothing = none }) in (record { looked = t.0; is_closed = is }, t.1)
+
+  -- the element of an offer was taken
+  pub taken_of : (a b : Pass) (x : Seen) (c p v : ℕ) (t : Option ℕ) → has_tag who (seen_by a).tags ≡ true → Sees (seen_by a) x → RemovesFrom removal.Take who c p v t x (seen_by b) → TakenFrom who c p v t (hub_floor hub a) (hub_floor hub b)
+  taken_of a b x c p v t own s h = record { made = made_of a b x (Take c p v) own s h.made; from = h.from }
 
   -- the element of an offer of a cancelled channel was removed
   pub drained_of : (a b : Pass) (x : Seen) (c p v : ℕ) (t : Option ℕ) → has_tag who (seen_by a).tags ≡ true → Sees (seen_by a) x → RemovesFrom removal.Drain who c p v t x (seen_by b) → DrainedFrom who c p v t (hub_floor hub a) (hub_floor hub b)
@@ -104,6 +114,12 @@ module _ (hub : Hub) (who : ℕ) where
 pub voided_seen : (shape : Shape) (c : ℕ) (v w : Seen) → Sees v w → Legal shape w.seen → (at_channel v.seen c).voided ≡ true → (at_channel w.seen c).voided ≡ true
 voided_seen shape c v w s l h = subst (λ (es : List Entry). (at_channel es c).voided ≡ true) (sym s.now) (voided_later shape v.seen s.others c (subst (Legal shape) s.now l) h)
 
+-- what the removal of a held offer asked, that of one that was admitted does
+pub may_admitted : (shape : Shape) (by : Removal) (c p : ℕ) (v w : Seen) → Sees v w → Legal shape w.seen → MayRemoveHeld by c v.seen → MayRemove by shape c p w.seen
+may_admitted shape removal.Take c p v w s l h = tt
+may_admitted shape removal.Drop c p v w s l h = absurd h
+may_admitted shape removal.Drain c p v w s l h = voided_seen shape c v w s l h
+
 pub closed_seen : (shape : Shape) (c y : ℕ) (v w : Seen) → Sees v w → Legal shape w.seen → (at_channel v.seen c).closed ≡ Some y → (at_channel w.seen c).closed ≡ Some y
 closed_seen shape c y v w s l h = subst (λ (es : List Entry). (at_channel es c).closed ≡ Some y) (sym s.now) (closed_later shape v.seen s.others c y (subst (Legal shape) s.now l) h)
 
@@ -125,9 +141,6 @@ no_more_places shape log c p l h = let s = ((sound shape log l).channels c).with
 
 pub too_far : (shape : Shape) (log : List Entry) (c p n : ℕ) → Legal shape log → p ≤ ((replay log).channels c).next → n ≡ places_at shape c → n + 1 ≤ p → ⊥
 too_far shape log c p n l h is le = let m = no_more_places shape log c p l h in omega arith
-
-pub is_closed_now : (x : Option ℕ) (v : ℕ) → x ≡ Some v → is_some x ≡ true
-is_closed_now x v e = ap is_some e
 
 -- ---- the own wait
 

@@ -22,8 +22,9 @@ use Rattle.channel_model.proofs.InOrder.{replay_in_order}
 use Rattle.channel_model.proofs.Left.{put_here}
 use Rattle.channel_model.proofs.Waits.{same_wait-refl}
 use Rattle.cell_words.specs.Seen.{Seen, Makes, at_channel}
+use Rattle.cell_words.specs.declared.found.Removal.{Removal}
 use Rattle.cell_words.specs.declared.found.Removal.TheVariants as removal
-use Rattle.cell_words.specs.Answers.{TakesFrom, RemovesFrom}
+use Rattle.cell_words.specs.Answers.{RemovesFrom}
 
 at_least : (n m : ℕ) → n ≤ m → nat_le n m ≡ true
 at_least n m h = grind (arith, nat_tests)
@@ -161,14 +162,10 @@ module _ (shape : Shape) (who c p : ℕ) (old new : Seen) (l : Legal shape new.s
   awaited_past k w m = entry_leaves shape old new _ (λ (s : State). NoneBelow 0 (p + 1) (s.channels c)) m l
       (λ xs legal n. subst (NoneBelow 0 (p + 1)) (sym (put_here c _ (replay xs).channels)) (past_receiver p _ _ _ ((replay xs).channels c) n.1 n.2))
 
-  pub taken_past : (v : ℕ) (t : Option ℕ) → TakesFrom who c p v t old new → NoneBelow 0 (p + 1) (at_channel new.seen c)
-  taken_past v t h = entry_leaves shape old new _ (λ (s : State). NoneBelow 0 (p + 1) (s.channels c)) h.made l
+  pub removed_past : (by : Removal) (v : ℕ) (t : Option ℕ) → RemovesFrom by who c p v t old new → NoneBelow 0 (p + 1) (at_channel new.seen c)
+  removed_past removal.Take v t h = entry_leaves shape old new _ (λ (s : State). NoneBelow 0 (p + 1) (s.channels c)) h.made l
       (λ xs legal n. past_taken_offer c p v shape ((replay xs).channels c).queue _ (replay xs) refl n.1 (replay_in_order shape xs c legal).offers)
-
-  pub drained_past : (v : ℕ) (t : Option ℕ) → RemovesFrom removal.Drain who c p v t old new → NoneBelow 0 (p + 1) (at_channel new.seen c)
-  drained_past v t h = entry_leaves shape old new _ (λ (s : State). NoneBelow 0 (p + 1) (s.channels c)) h.made l
-      (λ xs legal n. past_taken_offer c p v shape ((replay xs).channels c).queue _ (replay xs) refl n.2 (replay_in_order shape xs c legal).offers)
-
-  pub dropped_past : (v : ℕ) (t : Option ℕ) → RemovesFrom removal.Drop who c p v t old new → NoneBelow 0 (p + 1) (at_channel new.seen c)
-  dropped_past v t h = entry_leaves shape old new _ (λ (s : State). NoneBelow 0 (p + 1) (s.channels c)) h.made l
+  removed_past removal.Drop v t h = entry_leaves shape old new _ (λ (s : State). NoneBelow 0 (p + 1) (s.channels c)) h.made l
       (λ xs legal n. past_removed_offer c p v ((replay xs).channels c).queue (replay xs) refl n.2 (replay_in_order shape xs c legal).offers)
+  removed_past removal.Drain v t h = entry_leaves shape old new _ (λ (s : State). NoneBelow 0 (p + 1) (s.channels c)) h.made l
+      (λ xs legal n. past_taken_offer c p v shape ((replay xs).channels c).queue _ (replay xs) refl n.2 (replay_in_order shape xs c legal).offers)

@@ -1,4 +1,4 @@
--- What is at a place, for one who may wait and for one who does not; and a receiver that was seen is still the one that was placed.
+-- What is at a place, for one who receives, and may wait or does not; and a receiver that was seen is still the one that was placed.
 use Rattle.std.specs.Prelude.{◌≡◌, ℕ, true, false, List, refl}
 use Rattle.std.proofs.Common.{sym, subst}
 use Rattle.channel_model.specs.declared.acts.Entry.{Entry}
@@ -9,33 +9,12 @@ use Rattle.cell_words.specs.declared.found.At.TheVariants as at
 use Rattle.cell_words.specs.declared.found.Waiter.{Waiter}
 use Rattle.cell_words.specs.Cells.{receiver, cell_of}
 use Rattle.cell_words.specs.Seen.{Seen, Sees}
-use Rattle.cell_words.specs.Answers.{WholeOfferAt, TriedOfferAt, ReceiveAt, TriedReceiveAt, Receives}
+use Rattle.cell_words.specs.Answers.{ReceiveAt, TriedReceiveAt, Receives}
 use Rattle.cell_words.proofs.ListsOfCells.{CellNamed}
 use Rattle.cell_words.proofs.CellsLast.{receiver_more}
 use Rattle.cell_words.proofs.CellsTellFacts.{tied_now}
 use Rattle.cell_words.proofs.LooksAtCells.{named_own}
-use Rattle.cell_calls.specs.Walks.{OfferHere, ReceiveHere}
-
-module _ (shape : Shape) (who c p v : ℕ) (old new : Seen) where
-  pub offer_waits : (r : At) → WholeOfferAt shape who c p v old new r → OfferHere true shape who c p v old new r
-  offer_waits at.Spent h = h
-  offer_waits at.Open h = absurd h
-  offer_waits at.Placed h = (refl, h)
-  offer_waits at.Put h = h
-  offer_waits (at.Waiting x) h = h
-  offer_waits (at.Kept y) h = h
-  offer_waits (at.Closed y) h = h
-  offer_waits at.Gone h = h
-
-  pub offer_tries : (r : At) → TriedOfferAt shape who c p v old new r → OfferHere false shape who c p v old new r
-  offer_tries at.Spent h = h
-  offer_tries at.Open h = (refl, h)
-  offer_tries at.Placed h = absurd h
-  offer_tries at.Put h = h
-  offer_tries (at.Waiting x) h = h
-  offer_tries (at.Kept y) h = h
-  offer_tries (at.Closed y) h = h
-  offer_tries at.Gone h = h
+use Rattle.cell_calls.specs.Walks.{ReceiveHere}
 
 module _ (shape : Shape) (who c p : ℕ) (old new : Seen) where
   pub receive_waits : (r : At) → ReceiveAt shape who c p old new r → ReceiveHere true shape who c p old new r

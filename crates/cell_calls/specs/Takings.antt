@@ -2,7 +2,6 @@
 use Rattle.std.specs.Prelude.{ℕ, ◌+◌, Option, Some, None}
 use Rattle.channel_model.specs.Laws.{NoneBelow}
 use Rattle.cell_words.specs.declared.found.Removal.{Removal}
-use Rattle.cell_words.specs.declared.found.Removal.TheVariants as removal
 use Rattle.cell_words.specs.Seen.{Seen, Sees, at_channel}
 use Rattle.cell_words.specs.Answers.{RemovesFrom}
 
@@ -16,9 +15,3 @@ pub record RemovedFirst (by : Removal) (who c p v : ℕ) (t : Option ℕ) (old n
 abbrev pub RemovedAt : Removal → ℕ → ℕ → ℕ → ℕ → Seen → Seen → Option (Option ℕ) → Type 0
 RemovedAt by who c p v old new (Some t) = RemovedFirst by who c p v t old new
 RemovedAt by who c p v old new None = Sees old new × NoneBelow 0 (p + 1) (at_channel new.seen c)
-
-abbrev pub TookAt : ℕ → ℕ → ℕ → ℕ → Option ℕ → Seen → Seen → Type 0
-TookAt who c p v t old new = RemovedFirst removal.Take who c p v t old new
-
-abbrev pub TakenAt : ℕ → ℕ → ℕ → ℕ → Seen → Seen → Option (Option ℕ) → Type 0
-TakenAt who c p v old new answer = RemovedAt removal.Take who c p v old new answer

@@ -11,7 +11,7 @@ use Rattle.channel_model.specs.Answers.{OfferAnswer, TriedOfferAnswer, GotAnswer
 use Rattle.cell_words.specs.declared.found.At.{At}
 use Rattle.cell_words.specs.declared.found.At.TheVariants as at
 use Rattle.cell_words.specs.Seen.{Seen, Sees, at_channel}
-use Rattle.cell_words.specs.Answers.{OfferAt, PlacedFull, WouldWait, HandsTo, ReceiveAt, TriedReceiveAt}
+use Rattle.cell_words.specs.Answers.{HandsTo, ReceiveAt, TriedReceiveAt}
 use Rattle.cell_calls.specs.declared.sending.Given.{Given}
 use Rattle.cell_calls.specs.declared.sending.Given.TheVariants as given
 use Rattle.cell_calls.specs.declared.sending.OfferWalk.{OfferWalk}
@@ -33,17 +33,6 @@ abbrev pub GivenAt : ℕ → ℕ → ℕ → ℕ → Seen → Seen → Given →
 GivenAt who c p v old new (given.Receiver t) = HandsWhileOpen who c p v t old new
 GivenAt who c p v old new (given.Closed x) = Sees old new × ((at_channel new.seen c).closed ≡ Some x)
 GivenAt who c p v old new given.Gone = Sees old new × NoneBelow (p + 1) 0 (at_channel new.seen c)
-
--- what is at a place: only one who may wait is placed
-abbrev pub OfferHere : Bool → Shape → ℕ → ℕ → ℕ → ℕ → Seen → Seen → At → Type 0
-OfferHere waits shape who c p v old new at.Spent = OfferAt shape who c p v old new at.Spent
-OfferHere waits shape who c p v old new at.Open = (waits ≡ false) × WouldWait shape c old new
-OfferHere waits shape who c p v old new at.Placed = (waits ≡ true) × PlacedFull shape who c p v old new
-OfferHere waits shape who c p v old new at.Put = OfferAt shape who c p v old new at.Put
-OfferHere waits shape who c p v old new (at.Waiting x) = OfferAt shape who c p v old new (at.Waiting x)
-OfferHere waits shape who c p v old new (at.Kept y) = ⊥
-OfferHere waits shape who c p v old new (at.Closed y) = OfferAt shape who c p v old new (at.Closed y)
-OfferHere waits shape who c p v old new at.Gone = OfferAt shape who c p v old new at.Gone
 
 -- the walk in the words of the two calls
 abbrev pub OfferWalked : Bool → ℕ → ℕ → ℕ → Floor → Floor → OfferWalk → Type 0

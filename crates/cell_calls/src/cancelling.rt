@@ -1,20 +1,14 @@
 //! A closed channel is cancelled, and emptied.
-ghost use Rattle.std.specs.Prelude.{◌≡◌, true};
 ghost use Rattle.channel_model.specs.Floors.{MayCall};
 ghost use Rattle.channel_model.specs.Answers.{VoidAnswer, DrainAnswer, IsSeenClosed, IsSeenVoided};
-ghost use Rattle.channel_model.specs.Laws.{NoneBelow};
-ghost use Rattle.cell_words.specs.declared.found.Removal.TheVariants as removals;
-ghost use Rattle.cell_words.specs.Words.{IsCell};
-ghost use Rattle.cell_words.specs.Hubs.{shape_of, seen_by, IsOf, IsOwn, SameGiving};
-ghost use Rattle.cell_words.specs.Seen.{at_channel};
-ghost use Rattle.cell_words.specs.Answers.{Offers};
+ghost use Rattle.cell_words.specs.Hubs.{IsOf, SameGiving};
 ghost use Rattle.cell_calls.specs.HubFloors.{hub_floor};
-ghost use Rattle.cell_calls.specs.Takings.{RemovedAt};
 
 use crate::ending::find_end;
+use crate::removing::remove_offer;
 use cell_words::{
-    At, Hub, Pass, Tried, Waiter, drain_admitted, drain_kept, places_of, raise_receives,
-    receives_from, try_await_at, void_at,
+    At, Hub, Pass, Removal, places_of, raise_receives, receives_from, remove_kept, try_await_at,
+    void_at,
 };
 use co_base::{ChannelId, Place, Tag, Value};
 
@@ -31,36 +25,6 @@ pub(crate) fn void(hub: &Hub, pass: &mut Pass, who: Tag, c: ChannelId) -> bool
     match closed {
         Some(v) => void_at(hub, pass, who, c, place, v),
         None => unreachable!(),
-    }
-}
-
-/// Removes the offer that was placed here, if it stands: `Some(None)` where nobody waited with it any more.
-fn drain_offer(
-    hub: &Hub,
-    pass: &mut Pass,
-    who: Tag,
-    c: ChannelId,
-    place: Place,
-    waiter: Waiter,
-) -> Option<Option<Tag>>
-    requires own { IsOwn hub.now pass.old who }
-    requires at { IsCell (shape_of hub.now) c place }
-    requires voided { (at_channel (seen_by pass.old).seen c).voided ≡ true }
-    requires low { NoneBelow 0 place (at_channel (seen_by pass.old).seen c) }
-    requires first { Offers (shape_of hub.now) c place waiter (seen_by pass.old).seen }
-    ensures own { IsOwn hub.now pass.new who }
-    ensures removed { RemovedAt removals.Drain who c place waiter.value (seen_by pass.old) (seen_by pass.new) result }
-{
-    match cell_words::drain(hub, pass, who, c, place, waiter) {
-        Tried::Taken(owner) => Some(Some(owner)),
-        Tried::Gone => None,
-        Tried::Admitted => {
-            if drain_admitted(hub, pass, who, c, place, waiter) {
-                Some(None)
-            } else {
-                None
-            }
-        }
     }
 }
 
@@ -82,7 +46,15 @@ pub(crate) fn drain(
     let from = receives_from(hub, pass, who, c);
     for place in from..places + 1 {
         match try_await_at(hub, pass, who, c, place) {
-            At::Waiting(waiter) => match drain_offer(hub, pass, who, c, place, waiter) {
+            At::Waiting(waiter) => match remove_offer(
+                hub,
+                pass,
+                who,
+                c,
+                place,
+                waiter,
+                Removal::Drain,
+            ) {
                 Some(owner) => {
                     raise_receives(hub, pass, who, c, place + 1);
                     return Some((place, waiter.value, owner));
@@ -90,7 +62,7 @@ pub(crate) fn drain(
                 None => {}
             },
             At::Kept(value) => {
-                if drain_kept(hub, pass, who, c, place, value) {
+                if remove_kept(hub, pass, who, c, place, value, Removal::Drain) {
                     raise_receives(hub, pass, who, c, place + 1);
                     return Some((place, value, None));
                 }

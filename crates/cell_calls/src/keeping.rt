@@ -7,8 +7,8 @@ ghost use Rattle.cell_words.specs.Hubs.{shape_of, IsOf, SameGiving};
 ghost use Rattle.cell_calls.specs.HubFloors.{hub_floor};
 
 use cell_words::{
-    At, Hub, Pass, admit_below, drop_kept, is_over, kind_of, raise_receives, receives_from,
-    try_await_at,
+    At, Hub, Pass, Removal, admit_below, is_over, kind_of, raise_receives, receives_from,
+    remove_kept, try_await_at,
 };
 use co_base::{ChannelId, Place, Tag, Value};
 
@@ -67,7 +67,7 @@ pub(crate) fn trim(
                 if !is_over(hub, pass, who, c, first, mine) {
                     return None;
                 }
-                if drop_kept(hub, pass, who, c, first, value) {
+                if remove_kept(hub, pass, who, c, first, value, Removal::Drop) {
                     raise_receives(hub, pass, who, c, first + 1);
                     return Some((first, value));
                 }

@@ -35,6 +35,7 @@
 //!
 //! - `desk`: the floor.
 //! - `sending`, `receiving`: offers and receives.
+//! - `removing`: the element of an offer that was found is removed.
 //! - `registering`: the clauses of selects.
 //! - `ending`: where a channel ends, and its close.
 //! - `waiting`: the own wait.
@@ -48,6 +49,7 @@ mod ending;
 mod keeping;
 mod receiving;
 mod registering;
+mod removing;
 #[cfg(test)]
 mod select_tests;
 mod sending;

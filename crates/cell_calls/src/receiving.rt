@@ -6,14 +6,13 @@ ghost use Rattle.channel_model.specs.Laws.{NoneBelow};
 ghost use Rattle.cell_words.specs.Words.{IsCell};
 ghost use Rattle.cell_words.specs.Hubs.{shape_of, seen_by, IsOf, IsOwn, SameGiving};
 ghost use Rattle.cell_words.specs.Seen.{at_channel};
-ghost use Rattle.cell_words.specs.Answers.{Offers};
 ghost use Rattle.cell_calls.specs.HubFloors.{hub_floor};
-ghost use Rattle.cell_calls.specs.Takings.{TakenAt};
 ghost use Rattle.cell_calls.specs.Walks.{ReceiveHere, ReceiveWalked};
 
+use crate::removing::remove_offer;
 use cell_words::{
-    At, Hub, Pass, Tried, Waiter, await_at, places_of, raise_receives, receives_from, take,
-    take_admitted, take_kept, try_await_at,
+    At, Hub, Pass, Removal, await_at, places_of, raise_receives, receives_from, remove_kept,
+    try_await_at,
 };
 use channel_model::{Got, TriedGot};
 use co_base::{ChannelId, Place, Tag, Value};
@@ -26,35 +25,6 @@ pub(crate) enum ReceiveWalk {
     Empty,
     Closed(Value),
     Spent,
-}
-
-/// Takes the element of the offer that was placed here, if it stands: `Some(None)` where nobody waited with it any more.
-fn take_offer(
-    hub: &Hub,
-    pass: &mut Pass,
-    who: Tag,
-    c: ChannelId,
-    place: Place,
-    waiter: Waiter,
-) -> Option<Option<Tag>>
-    requires own { IsOwn hub.now pass.old who }
-    requires at { IsCell (shape_of hub.now) c place }
-    requires low { NoneBelow 0 place (at_channel (seen_by pass.old).seen c) }
-    requires first { Offers (shape_of hub.now) c place waiter (seen_by pass.old).seen }
-    ensures own { IsOwn hub.now pass.new who }
-    ensures taken { TakenAt who c place waiter.value (seen_by pass.old) (seen_by pass.new) result }
-{
-    match take(hub, pass, who, c, place, waiter) {
-        Tried::Taken(owner) => Some(Some(owner)),
-        Tried::Gone => None,
-        Tried::Admitted => {
-            if take_admitted(hub, pass, who, c, place, waiter) {
-                Some(None)
-            } else {
-                None
-            }
-        }
-    }
 }
 
 /// What is at a place; the receiver is placed where the channel ends, if it may wait.
@@ -88,7 +58,15 @@ fn walk(hub: &Hub, pass: &mut Pass, who: Tag, c: ChannelId, waits: bool) -> Rece
                 raise_receives(hub, pass, who, c, place + 1);
                 return ReceiveWalk::Waiting(place);
             }
-            At::Waiting(waiter) => match take_offer(hub, pass, who, c, place, waiter) {
+            At::Waiting(waiter) => match remove_offer(
+                hub,
+                pass,
+                who,
+                c,
+                place,
+                waiter,
+                Removal::Take,
+            ) {
                 Some(owner) => {
                     raise_receives(hub, pass, who, c, place + 1);
                     return ReceiveWalk::Taken(place, waiter.value, owner);
@@ -96,7 +74,7 @@ fn walk(hub: &Hub, pass: &mut Pass, who: Tag, c: ChannelId, waits: bool) -> Rece
                 None => {}
             },
             At::Kept(value) => {
-                if take_kept(hub, pass, who, c, place, value) {
+                if remove_kept(hub, pass, who, c, place, value, Removal::Take) {
                     raise_receives(hub, pass, who, c, place + 1);
                     return ReceiveWalk::Taken(place, value, None);
                 }

@@ -25,7 +25,7 @@ fn is_resolved(hub: &Hub, pass: &mut Pass, who: Tag, main: Option<WaitId>) -> bo
 {
     match main {
         None => false,
-        Some(w) => match look_at(hub, pass, who, w.channel, w.place) {
+        Some(w) => match look_at(hub, pass, who, w) {
             WaitState::Standing => false,
             WaitState::Resolved => true,
             WaitState::Settled => true,

@@ -9,12 +9,10 @@ ghost use Rattle.cell_words.specs.Hubs.{shape_of, seen_by, IsOf, IsOwn, SameGivi
 ghost use Rattle.cell_words.specs.Seen.{at_channel};
 ghost use Rattle.cell_words.specs.Answers.{Receives};
 ghost use Rattle.cell_calls.specs.HubFloors.{hub_floor};
-ghost use Rattle.cell_calls.specs.Walks.{GivenAt, OfferHere, OfferWalked};
+ghost use Rattle.cell_calls.specs.Walks.{GivenAt, OfferWalked};
 
 use crate::ending::find_closed;
-use cell_words::{
-    At, Hub, Pass, Waiter, hand, offer_at, places_of, raise_sends, sends_from, try_offer_at,
-};
+use cell_words::{At, Hub, Pass, Waiter, hand, offer_at, places_of, raise_sends, sends_from};
 use channel_model::{Offered, TriedOffer};
 use co_base::{ChannelId, Place, Tag, Value};
 
@@ -66,30 +64,6 @@ fn give(
     }
 }
 
-/// Puts the element where the channel ends, or places an offer there if the caller may wait.
-fn offer_here(
-    hub: &Hub,
-    pass: &mut Pass,
-    who: Tag,
-    c: ChannelId,
-    place: Place,
-    value: Value,
-    waits: bool,
-) -> At
-    requires own { IsOwn hub.now pass.old who }
-    requires at { IsCell (shape_of hub.now) c place }
-    requires kind { is_signal (kind_at (shape_of hub.now) c) ≡ false }
-    requires low { NoneBelow place 0 (at_channel (seen_by pass.old).seen c) }
-    ensures own { IsOwn hub.now pass.new who }
-    ensures at { OfferHere waits (shape_of hub.now) who c place value (seen_by pass.old) (seen_by pass.new) result }
-{
-    if waits {
-        offer_at(hub, pass, who, c, place, value)
-    } else {
-        try_offer_at(hub, pass, who, c, place, value)
-    }
-}
-
 /// Gives the element to the receiver that stands first, or puts it, or places an offer if the caller may wait.
 fn walk(hub: &Hub, pass: &mut Pass, who: Tag, c: ChannelId, value: Value, waits: bool) -> OfferWalk
     requires of { IsOf hub.now pass.old }
@@ -102,7 +76,7 @@ fn walk(hub: &Hub, pass: &mut Pass, who: Tag, c: ChannelId, value: Value, waits:
     let places = places_of(hub, c);
     let from = sends_from(hub, pass, who, c);
     for place in from..places + 1 {
-        match offer_here(hub, pass, who, c, place, value, waits) {
+        match offer_at(hub, pass, who, c, place, value, waits) {
             At::Placed => {
                 raise_sends(hub, pass, who, c, place + 1);
                 return OfferWalk::Held(place);

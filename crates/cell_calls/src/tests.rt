@@ -110,7 +110,7 @@ pub(crate) fn settle(
     }
     if is_own(hub, pass, who, place) {
         let w = WaitId { channel: 0, place };
-        return match look_at(hub, pass, who, 0, place) {
+        return match look_at(hub, pass, who, w) {
             WaitState::Resolved => Some(waiting::settle(hub, pass, who, w, cancelled)),
             WaitState::Standing | WaitState::Settled => None,
         };

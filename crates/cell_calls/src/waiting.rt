@@ -17,7 +17,7 @@ pub(crate) fn look(hub: &Hub, pass: &mut Pass, who: Tag, w: WaitId) -> WaitState
     ensures giving { SameGiving pass.old pass.new }
     ensures answer { LookAnswer who w (hub_floor hub.now pass.old) (hub_floor hub.now pass.new) result }
 {
-    look_at(hub, pass, who, w.channel, w.place)
+    look_at(hub, pass, who, w)
 }
 
 /// Settles the own wait, which was seen resolved.
@@ -29,7 +29,7 @@ pub(crate) fn settle(hub: &Hub, pass: &mut Pass, who: Tag, w: WaitId, cancelled:
     ensures giving { SameGiving pass.old pass.new }
     ensures answer { SettleAnswer who w cancelled (hub_floor hub.now pass.old) (hub_floor hub.now pass.new) result }
 {
-    settle_at(hub, pass, who, w.channel, w.place, cancelled)
+    settle_at(hub, pass, who, w, cancelled)
 }
 
 /// Takes the own wait back.
@@ -41,7 +41,7 @@ pub(crate) fn withdraw(hub: &Hub, pass: &mut Pass, who: Tag, w: WaitId, why: Why
     ensures giving { SameGiving pass.old pass.new }
     ensures answer { WithdrawAnswer who w why (hub_floor hub.now pass.old) (hub_floor hub.now pass.new) result }
 {
-    if withdraw_at(hub, pass, who, w.channel, w.place, why) {
+    if withdraw_at(hub, pass, who, w, why) {
         Withdrawn::Done(who)
     } else {
         Withdrawn::Late

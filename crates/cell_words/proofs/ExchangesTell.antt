@@ -161,10 +161,6 @@ module _ (shape : Shape) (v w : Seen) (l : Legal shape w.seen) (who c p n old : 
         (sym zero ∙ (t.found.wait u.channel u.place fits.channel fits.place (ap (λ (z : ℕ). 2 * z + 1) (sym is))).0);
   }
 
-  pub hand_lost : (owner k : ℕ) (u : WaitId) (found : WaitWord) → PartyFits shape owner u k → number shape u.channel u.place ≡ n → NoneBelow p 0 (at_channel v.seen c) → cell_of v.seen c p ≡ receiver owner u k
-      → Sees v w → IsNumberedWait shape n w.seen found → (packed_wait found ≡ old → ⊥) → NoneBelow (p + 1) 0 (at_channel w.seen c)
-  hand_lost owner k u found fits is low at s word ne = receiver_lost shape v w l s c p owner k u low at (resolved_found found ((replay w.seen).waits u) (word u (fits.channel, fits.place) is).0 (λ z. ne (z ∙ sym zero)))
-
   -- ---- a held offer is removed
 
   pub take_told : (by : Removal) (value owner k : ℕ) (u : WaitId) → PartyFits shape owner u k → number shape u.channel u.place ≡ n → NoneBelow 0 p (at_channel v.seen c) → cell_of v.seen c p ≡ offer value owner u k

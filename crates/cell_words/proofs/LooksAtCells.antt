@@ -232,6 +232,32 @@ module _ (shape : Shape) (who c p value : ℕ) (old new : Seen) (sees : Sees old
 pub below_seen : (shape : Shape) (n m c : ℕ) (v w : Seen) → Sees v w → Legal shape w.seen → NoneBelow n m (at_channel v.seen c) → NoneBelow n m (at_channel w.seen c)
 below_seen shape n m c v w s l h = subst (λ (es : List Entry). NoneBelow n m (at_channel es c)) (sym s.now) (below_lasts shape v.seen s.others c n m (subst (Legal shape) s.now l) h)
 
+-- what a word says to one who offers, and to one who receives: one that is used, one found in place of a free one, and a free one behind all places
+module _ (hub : Hub) (pass : Pass) (of : IsOf hub pass) (c p : ℕ) (v : Seen) (s : Sees v pass.seat.me.0) (word : CellWord) (is : IsCellWord (shape_of hub) c p pass.seat.me.0.seen word) where
+  pub used_offer : NoneBelow p 0 (at_channel v.seen c) → is_used_state word.state ≡ true → (who value : ℕ) → OfferAt (shape_of hub) who c p value v pass.seat.me.0 (found_by_sender word word.state)
+  used_offer low used who value = let l = hub_legal hub pass of in
+      offer_found (shape_of hub) who c p v pass.seat.me.0 s l value (below_seen (shape_of hub) p 0 c v pass.seat.me.0 s l low) word is (used_not word.state used)
+
+  pub missed_offer : NoneBelow p 0 (at_channel v.seen c) → (old : ℕ) → old ≡ 0 → (packed_cell word ≡ old → ⊥) → (who value : ℕ) → OfferAt (shape_of hub) who c p value v pass.seat.me.0 (found_by_sender word word.state)
+  missed_offer low old zero ne who value = let l = hub_legal hub pass of in
+      offer_found (shape_of hub) who c p v pass.seat.me.0 s l value (below_seen (shape_of hub) p 0 c v pass.seat.me.0 s l low) word is (number_not (shape_of hub) c p pass.seat.me.0.seen word old is zero ne)
+
+  pub spent_offer : NoneBelow p 0 (at_channel v.seen c) → is_used_state word.state ≡ false → p ≡ places_at (shape_of hub) c → Sees v pass.seat.me.0 × IsSpentForOffers (shape_of hub) c (replay pass.seat.me.0.seen)
+  spent_offer low unused all = let l = hub_legal hub pass of in
+      (s, offer_spent (shape_of hub) c p pass.seat.me.0.seen l word is (unused_free word.state unused) all (below_seen (shape_of hub) p 0 c v pass.seat.me.0 s l low))
+
+  pub used_receive : NoneBelow 0 p (at_channel v.seen c) → is_used_state word.state ≡ true → (who : ℕ) → ReceiveAt (shape_of hub) who c p v pass.seat.me.0 (found_by_receiver word word.state)
+  used_receive low used who = let l = hub_legal hub pass of in
+      receive_found (shape_of hub) who c p v pass.seat.me.0 s l (below_seen (shape_of hub) 0 p c v pass.seat.me.0 s l low) word is (used_not word.state used)
+
+  pub missed_receive : NoneBelow 0 p (at_channel v.seen c) → (old : ℕ) → old ≡ 0 → (packed_cell word ≡ old → ⊥) → (who : ℕ) → ReceiveAt (shape_of hub) who c p v pass.seat.me.0 (found_by_receiver word word.state)
+  missed_receive low old zero ne who = let l = hub_legal hub pass of in
+      receive_found (shape_of hub) who c p v pass.seat.me.0 s l (below_seen (shape_of hub) 0 p c v pass.seat.me.0 s l low) word is (number_not (shape_of hub) c p pass.seat.me.0.seen word old is zero ne)
+
+  pub spent_receive : NoneBelow 0 p (at_channel v.seen c) → is_used_state word.state ≡ false → p ≡ places_at (shape_of hub) c → Sees v pass.seat.me.0 × IsSpentForReceives (shape_of hub) c (replay pass.seat.me.0.seen)
+  spent_receive low unused all = let l = hub_legal hub pass of in
+      (s, receive_spent (shape_of hub) c p pass.seat.me.0.seen l word is (unused_free word.state unused) all (below_seen (shape_of hub) 0 p c v pass.seat.me.0 s l low))
+
 pub less_places : (shape : Shape) (c p n : ℕ) → p ≤ places_at shape c → n ≡ places_at shape c → (p ≡ n → ⊥) → p < places_at shape c
 less_places shape c p n le is ne = dite (ℕ_discrete p n) (λ e. absurd (ne e)) (λ other. omega arith)
 

@@ -1,5 +1,5 @@
 -- A wait that is resolved by another: who it is of, and that it stays while others look.
-use Rattle.std.proofs.Common.{Bool, true, false, ◌≡◌, ◌⊎◌, ℕ, List, sym, refl, ap, ◌∙◌, subst}
+use Rattle.std.proofs.Common.{Bool, true, false, ◌≡◌, ◌≢◌, ◌⊎◌, ℕ, ◌+◌, List, sym, refl, ap, ◌∙◌, subst}
 use Rattle.co_base.specs.declared.names.WaitId.{WaitId}
 use Rattle.channel_model.specs.declared.acts.Entry.{Entry}
 use Rattle.channel_model.specs.Channels.{Shape}
@@ -7,6 +7,10 @@ use Rattle.channel_model.specs.Histories.{replay, Legal}
 use Rattle.channel_model.specs.Answers.{IsOwnWait, IsResolvedWait}
 use Rattle.cell_words.specs.declared.cell_word.CellWord.{CellWord}
 use Rattle.cell_words.specs.declared.found.Removal.{Removal}
+use Rattle.cell_words.specs.declared.hub.Hub.{Hub}
+use Rattle.cell_words.specs.declared.pass.Pass.{Pass}
+use Rattle.cell_words.specs.Hubs.{shape_of, IsOf}
+use Rattle.cell_words.specs.Words.{number}
 use Rattle.cell_words.specs.declared.found.Waiter.{Waiter}
 use Rattle.cell_words.specs.declared.wait_word.WaitWord.{WaitWord}
 use Rattle.cell_words.specs.Cells.{receiver, offer, cell_of}
@@ -14,13 +18,13 @@ use Rattle.cell_words.specs.Codes.{packed_wait}
 use Rattle.channel_model.specs.Laws.{NoneBelow}
 use Rattle.cell_words.specs.Seen.{Seen, Sees, at_channel}
 use Rattle.cell_words.specs.Looks.{owner_told, holder_of, lets_stand, tried_by, tried_found}
-use Rattle.cell_words.specs.Answers.{IsCellWord, IsWaitWord, IsHeld, Offers, OwnerAnswer, RemoveAnswer, MayRemoveHeld}
+use Rattle.cell_words.specs.Answers.{IsCellWord, IsWaitWord, IsHeld, IsNumberedWait, Receives, Offers, OwnerAnswer, RemoveAnswer, MayRemoveHeld}
 use Rattle.cell_words.proofs.CellsLast.{resolved_more, receiver_more, offer_more}
-use Rattle.cell_words.proofs.LooksAtCells.{home_owner}
+use Rattle.cell_words.proofs.LooksAtCells.{hub_legal, sees_then, home_owner}
 use Rattle.cell_words.proofs.MayExchange.{resolved_not, held_later}
 use Rattle.cell_words.proofs.OwnWaits.{owner_seen}
 use Rattle.cell_words.proofs.WaitsAtHome.{at_home}
-use Rattle.cell_words.proofs.ExchangesTell.{low_later, take_gone, take_admitted}
+use Rattle.cell_words.proofs.ExchangesTell.{low_later, receiver_lost, resolved_found, take_gone, take_admitted}
 
 -- what the cell where a wait began says of its coroutine
 pub owner_found : (shape : Shape) (w : WaitId) (owner : ℕ) (u v : Seen) → Sees u v → Legal shape v.seen → (word : CellWord) → IsCellWord shape w.channel w.place v.seen word → IsOwnWait owner ((replay u.seen).waits w) → OwnerAnswer owner w v.seen (owner_told (holder_of word))
@@ -33,6 +37,16 @@ held_seen shape c p x u v s l h = record { who = h.who; wait = h.wait; holder = 
 -- a receiver stays in its cell
 pub receiver_seen : (shape : Shape) (c p who k : ℕ) (w : WaitId) (u v : Seen) → Sees u v → Legal shape v.seen → cell_of u.seen c p ≡ receiver who w k → cell_of v.seen c p ≡ receiver who w k
 receiver_seen shape c p who k w u v s l e = subst (λ (es : List Entry). cell_of es c p ≡ receiver who w k) (sym s.now) (receiver_more shape c p who k w u.seen s.others (subst (Legal shape) s.now l) e)
+
+-- of one whose wait was resolved, nobody stands up to its place; before the exchange, and where the exchange found it resolved
+module _ (hub : Hub) (pass : Pass) (of : IsOf hub pass) (c p : ℕ) (x : Waiter) (v : Seen) (low : NoneBelow p 0 (at_channel v.seen c)) (first : Receives (shape_of hub) c p x v.seen) where
+  pub receiver_resolved : Sees v pass.seat.me.0 → IsResolvedWait ((replay pass.seat.me.0.seen).waits first.held.wait) → Sees v pass.seat.me.0 × NoneBelow (p + 1) 0 (at_channel pass.seat.me.0.seen c)
+  receiver_resolved s resolved = (s, receiver_lost (shape_of hub) v pass.seat.me.0 (hub_legal hub pass of) s c p first.held.who x.clause first.held.wait low first.cell resolved)
+
+  pub receiver_missed : (u : Seen) → Sees v u → (n old : ℕ) → old ≡ 0 → number (shape_of hub) first.held.wait.channel first.held.wait.place ≡ n → (found : WaitWord)
+      → Sees u pass.seat.me.0 × IsNumberedWait (shape_of hub) n pass.seat.me.0.seen found × (packed_wait found ≢ old) → Sees v pass.seat.me.0 × NoneBelow (p + 1) 0 (at_channel pass.seat.me.0.seen c)
+  receiver_missed u s n old zero is found told = receiver_resolved (sees_then v u pass.seat.me.0 s told.0)
+      (resolved_found found ((replay pass.seat.me.0.seen).waits first.held.wait) (told.1 first.held.wait (first.held.fits.channel, first.held.fits.place) is).0 (λ z. told.2 (z ∙ sym zero)))
 
 -- an offer does, or its wait was resolved
 pub offer_seen : (shape : Shape) (c p value who k : ℕ) (w : WaitId) (u v : Seen) → Sees u v → Legal shape v.seen → cell_of u.seen c p ≡ offer value who w k → (cell_of v.seen c p ≡ offer value who w k) ⊎ IsResolvedWait ((replay v.seen).waits w)

@@ -24,7 +24,7 @@ use Rattle.cell_words.specs.Cells.{Cell, free, receiver, offer, buffered, emptie
 use Rattle.cell_words.specs.Words.{PartyFits, word_of_cell, CellFits}
 use Rattle.cell_words.specs.Seen.{Seen, at_channel, Sees}
 use Rattle.cell_words.specs.Looks.{holder_of, waiter_of, found_by_sender, found_by_receiver, lets_stand}
-use Rattle.cell_words.specs.Answers.{IsCellWord, IsWaitWord, IsHolder, stands, OfferAt, WholeOfferAt, TriedOfferAt, ReceiveAt, TriedReceiveAt}
+use Rattle.cell_words.specs.Answers.{IsCellWord, IsWaitWord, IsHolder, stands, OfferAt, OfferHere, ReceiveAt, TriedReceiveAt}
 use Rattle.cell_words.proofs.GatheredLists.{gather_none}
 use Rattle.cell_words.proofs.CountsOfOffers.{gone_more, stood_before, count_some, count_none, count_next, count_less, count_up}
 use Rattle.cell_words.proofs.ExchangesTell.{stood_at, gone_at}
@@ -172,34 +172,25 @@ full_holds (DropOldest k) n e h = cc
 full_holds Signal n e h = cc
 
 -- after some looks, what the last step found
-pub later_at : (shape : Shape) (who c p value : ℕ) (u v w : Seen) → Sees u v → (x : Seen) → Sees v x → (a : At) → (a ≡ at.Placed → is_full (kind_at shape c) (length (at_channel v.seen c).queue) ≡ true) → OfferAt shape who c p value x w a → WholeOfferAt shape who c p value u w a
-later_at shape who c p value u v w s x r at.Spent full h = (sees_then u v w s (sees_then v x w r h.0), h.1)
-later_at shape who c p value u v w s x r at.Open full h = absurd h
-later_at shape who c p value u v w s x r at.Placed full h = record { then = v; sees = s; full = full refl; made = sees_makes v x w _ r h }
-later_at shape who c p value u v w s x r at.Put full h = sees_makes u v w _ s (sees_makes v x w _ r h)
-later_at shape who c p value u v w s x r (at.Waiting y) full h = (sees_then u v w s (sees_then v x w r h.0), h.1, h.2)
-later_at shape who c p value u v w s x r (at.Kept y) full h = absurd h
-later_at shape who c p value u v w s x r (at.Closed y) full h = (sees_then u v w s (sees_then v x w r h.0), h.1)
-later_at shape who c p value u v w s x r at.Gone full h = (sees_then u v w s (sees_then v x w r h.0), h.1)
+pub later_at : (waits : Bool) (shape : Shape) (who c p value : ℕ) (u v w : Seen) → Sees u v → (x : Seen) → Sees v x → (a : At) → (a ≡ at.Placed → (waits ≡ true) × (is_full (kind_at shape c) (length (at_channel v.seen c).queue) ≡ true)) → OfferAt shape who c p value x w a → OfferHere waits shape who c p value u w a
+later_at waits shape who c p value u v w s x r at.Spent full h = (sees_then u v w s (sees_then v x w r h.0), h.1)
+later_at waits shape who c p value u v w s x r at.Open full h = absurd h
+later_at waits shape who c p value u v w s x r at.Placed full h = let f = full refl in (f.0, record { then = v; sees = s; full = f.1; made = sees_makes v x w _ r h })
+later_at waits shape who c p value u v w s x r at.Put full h = sees_makes u v w _ s (sees_makes v x w _ r h)
+later_at waits shape who c p value u v w s x r (at.Waiting y) full h = (sees_then u v w s (sees_then v x w r h.0), h.1, h.2)
+later_at waits shape who c p value u v w s x r (at.Kept y) full h = absurd h
+later_at waits shape who c p value u v w s x r (at.Closed y) full h = (sees_then u v w s (sees_then v x w r h.0), h.1)
+later_at waits shape who c p value u v w s x r at.Gone full h = (sees_then u v w s (sees_then v x w r h.0), h.1)
 
--- a word that was found places nobody
-pub not_placed : (word : CellWord) (s : CellState) (a : At) → a ≡ found_by_sender word s → a ≡ at.Placed → ⊥
-not_placed word state.Free a e h = let f : at.Gone ≡ at.Placed = sym e ∙ h in cc
-not_placed word state.Receiver a e h = let f : at.Waiting (waiter_of word) ≡ at.Placed = sym e ∙ h in cc
-not_placed word state.Offer a e h = let f : at.Gone ≡ at.Placed = sym e ∙ h in cc
-not_placed word state.Buffered a e h = let f : at.Gone ≡ at.Placed = sym e ∙ h in cc
-not_placed word state.Emptied a e h = let f : at.Gone ≡ at.Placed = sym e ∙ h in cc
-not_placed word state.Closed a e h = let f : at.Closed word.value ≡ at.Placed = sym e ∙ h in cc
-not_placed word state.Voided a e h = let f : at.Closed word.value ≡ at.Placed = sym e ∙ h in cc
-
-pub found_whole : (shape : Shape) (who c p value : ℕ) (word : CellWord) (s : CellState) (u v : Seen) → OfferAt shape who c p value u v (found_by_sender word s) → WholeOfferAt shape who c p value u v (found_by_sender word s)
-found_whole shape who c p value word state.Free u v h = h
-found_whole shape who c p value word state.Receiver u v h = h
-found_whole shape who c p value word state.Offer u v h = h
-found_whole shape who c p value word state.Buffered u v h = h
-found_whole shape who c p value word state.Emptied u v h = h
-found_whole shape who c p value word state.Closed u v h = h
-found_whole shape who c p value word state.Voided u v h = h
+-- a word that was found says the same to one who may wait and to one who does not
+pub found_here : (waits : Bool) (shape : Shape) (who c p value : ℕ) (word : CellWord) (s : CellState) (u v : Seen) → OfferAt shape who c p value u v (found_by_sender word s) → OfferHere waits shape who c p value u v (found_by_sender word s)
+found_here waits shape who c p value word state.Free u v h = h
+found_here waits shape who c p value word state.Receiver u v h = h
+found_here waits shape who c p value word state.Offer u v h = h
+found_here waits shape who c p value word state.Buffered u v h = h
+found_here waits shape who c p value word state.Emptied u v h = h
+found_here waits shape who c p value word state.Closed u v h = h
+found_here waits shape who c p value word state.Voided u v h = h
 
 pub count_end : (most count first last : ℕ) → count ≤ first → last ≤ count → MatchBool (nat_le most count) (most ≤ first) (last < most)
 count_end most count first last h k = go (nat_le most count) refl
@@ -214,16 +205,7 @@ upper_end c place end count first v le ge h = subst (λ (n : ℕ). length (gathe
 pub less_than : (n m : ℕ) → n ≤ m → (n ≡ m → ⊥) → n + 1 ≤ m
 less_than n m le ne = dite (ℕ_discrete n m) (λ e. absurd (ne e)) (λ no. omega arith)
 
--- one who never waits: a word that was found says the same to it
-pub found_tried : (shape : Shape) (who c p value : ℕ) (word : CellWord) (s : CellState) (u v : Seen) → OfferAt shape who c p value u v (found_by_sender word s) → TriedOfferAt shape who c p value u v (found_by_sender word s)
-found_tried shape who c p value word state.Free u v h = h
-found_tried shape who c p value word state.Receiver u v h = h
-found_tried shape who c p value word state.Offer u v h = h
-found_tried shape who c p value word state.Buffered u v h = h
-found_tried shape who c p value word state.Emptied u v h = h
-found_tried shape who c p value word state.Closed u v h = h
-found_tried shape who c p value word state.Voided u v h = h
-
+-- one who receives and never waits: a word that was found says the same to it
 pub receive_tried : (shape : Shape) (who c p : ℕ) (word : CellWord) (s : CellState) (u v : Seen) → ReceiveAt shape who c p u v (found_by_receiver word s) → TriedReceiveAt shape who c p u v (found_by_receiver word s)
 receive_tried shape who c p word state.Free u v h = h
 receive_tried shape who c p word state.Receiver u v h = h
@@ -232,17 +214,6 @@ receive_tried shape who c p word state.Buffered u v h = h
 receive_tried shape who c p word state.Emptied u v h = h
 receive_tried shape who c p word state.Closed u v h = h
 receive_tried shape who c p word state.Voided u v h = h
-
--- after some looks, what a put found
-pub put_later : (shape : Shape) (who c p value : ℕ) (u x w : Seen) → Sees u x → (a : At) → (a ≡ at.Placed → ⊥) → OfferAt shape who c p value x w a → TriedOfferAt shape who c p value u w a
-put_later shape who c p value u x w s at.Spent ne h = (sees_then u x w s h.0, h.1)
-put_later shape who c p value u x w s at.Open ne h = absurd h
-put_later shape who c p value u x w s at.Placed ne h = absurd (ne refl)
-put_later shape who c p value u x w s at.Put ne h = sees_makes u x w _ s h
-put_later shape who c p value u x w s (at.Waiting y) ne h = (sees_then u x w s h.0, h.1, h.2)
-put_later shape who c p value u x w s (at.Kept y) ne h = absurd h
-put_later shape who c p value u x w s (at.Closed y) ne h = (sees_then u x w s h.0, h.1)
-put_later shape who c p value u x w s at.Gone ne h = (sees_then u x w s h.0, h.1)
 
 -- a free end of an open channel
 module _ (shape : Shape) (c p : ℕ) (word : CellWord) (seen : List Entry) (l : Legal shape seen) (is : IsCellWord shape c p seen word) (none : word.state ≡ state.Free) where

@@ -126,17 +126,6 @@ pub record PlacedFull (shape : Shape) (who c p v : ℕ) (old new : Seen) : Type 
   pub full : is_full (kind_at shape c) (length (at_channel then.seen c).queue) ≡ true
   pub made : Makes then (record { who = who; act = Offer c p v (spot c p) 0 }) new
 
--- and it waits only where the channel was full
-abbrev pub WholeOfferAt : Shape → ℕ → ℕ → ℕ → ℕ → Seen → Seen → At → Type 0
-WholeOfferAt shape who c p v old new at.Placed = PlacedFull shape who c p v old new
-WholeOfferAt shape who c p v old new at.Open = ⊥
-WholeOfferAt shape who c p v old new at.Spent = OfferAt shape who c p v old new at.Spent
-WholeOfferAt shape who c p v old new at.Put = OfferAt shape who c p v old new at.Put
-WholeOfferAt shape who c p v old new (at.Waiting x) = OfferAt shape who c p v old new (at.Waiting x)
-WholeOfferAt shape who c p v old new (at.Kept y) = OfferAt shape who c p v old new (at.Kept y)
-WholeOfferAt shape who c p v old new (at.Closed y) = OfferAt shape who c p v old new (at.Closed y)
-WholeOfferAt shape who c p v old new at.Gone = OfferAt shape who c p v old new at.Gone
-
 -- one who never waits is not placed: the channel was full at a moment
 pub record WouldWait (shape : Shape) (c : ℕ) (old new : Seen) : Type 0 where
   pub then : Seen
@@ -144,15 +133,16 @@ pub record WouldWait (shape : Shape) (c : ℕ) (old new : Seen) : Type 0 where
   pub later : Sees then new
   pub full : IsFullToTry shape c (replay then.seen)
 
-abbrev pub TriedOfferAt : Shape → ℕ → ℕ → ℕ → ℕ → Seen → Seen → At → Type 0
-TriedOfferAt shape who c p v old new at.Open = WouldWait shape c old new
-TriedOfferAt shape who c p v old new at.Placed = ⊥
-TriedOfferAt shape who c p v old new at.Spent = OfferAt shape who c p v old new at.Spent
-TriedOfferAt shape who c p v old new at.Put = OfferAt shape who c p v old new at.Put
-TriedOfferAt shape who c p v old new (at.Waiting x) = OfferAt shape who c p v old new (at.Waiting x)
-TriedOfferAt shape who c p v old new (at.Kept y) = OfferAt shape who c p v old new (at.Kept y)
-TriedOfferAt shape who c p v old new (at.Closed y) = OfferAt shape who c p v old new (at.Closed y)
-TriedOfferAt shape who c p v old new at.Gone = OfferAt shape who c p v old new at.Gone
+-- what is at a place: only one who may wait is placed, and waits only where the channel was full
+abbrev pub OfferHere : Bool → Shape → ℕ → ℕ → ℕ → ℕ → Seen → Seen → At → Type 0
+OfferHere waits shape who c p v old new at.Spent = OfferAt shape who c p v old new at.Spent
+OfferHere waits shape who c p v old new at.Open = (waits ≡ false) × WouldWait shape c old new
+OfferHere waits shape who c p v old new at.Placed = (waits ≡ true) × PlacedFull shape who c p v old new
+OfferHere waits shape who c p v old new at.Put = OfferAt shape who c p v old new at.Put
+OfferHere waits shape who c p v old new (at.Waiting x) = OfferAt shape who c p v old new (at.Waiting x)
+OfferHere waits shape who c p v old new (at.Kept y) = ⊥
+OfferHere waits shape who c p v old new (at.Closed y) = OfferAt shape who c p v old new (at.Closed y)
+OfferHere waits shape who c p v old new at.Gone = OfferAt shape who c p v old new at.Gone
 
 -- the first receiver, that of t, was handed the element
 pub record HandsTo (who c p v t : ℕ) (old new : Seen) : Type 0 where
@@ -195,9 +185,6 @@ pub record RemovesFrom (by : Removal) (who c p v : ℕ) (t : Option ℕ) (old ne
   pub made : Makes old (record { who = who; act = removal_act by c p v }) new
   pub from : first_holder (replay (old.seen ++ made.others)) (at_channel (old.seen ++ made.others) c).queue ≡ t
 
-abbrev pub TakesFrom : ℕ → ℕ → ℕ → ℕ → Option ℕ → Seen → Seen → Type 0
-TakesFrom who c p v t old new = RemovesFrom removal.Take who c p v t old new
-
 -- an offer that was admitted, so that its element is kept until its cell is emptied
 pub record IsAdmitted (shape : Shape) (c p : ℕ) (x : Waiter) (log : List Entry) : Type 0 where
   pub who : ℕ
@@ -213,9 +200,6 @@ RemoveAnswer by shape who c p x old new tried.Gone = Sees old new × NoneBelow 0
 RemoveAnswer by shape who c p x old new tried.Admitted =
     Sees old new × NoneBelow 0 p (at_channel new.seen c) × IsAdmitted shape c p x new.seen
 
-abbrev pub TakeAnswer : Shape → ℕ → ℕ → ℕ → Waiter → Seen → Seen → Tried → Type 0
-TakeAnswer shape who c p x old new answer = RemoveAnswer removal.Take shape who c p x old new answer
-
 -- an element was put at this place, and may have been removed
 abbrev pub WasPut : ℕ → ℕ → ℕ → List Entry → Type 0
 WasPut c p v log = (cell_of log c p ≡ buffered v) ⊎ (cell_of log c p ≡ emptied v)
@@ -230,9 +214,6 @@ pub data IsKept (shape : Shape) (c p v : ℕ) (log : List Entry) (word : CellWor
 abbrev pub EmptyAnswer : Removal → ℕ → ℕ → ℕ → ℕ → Seen → Seen → Bool → Type 0
 EmptyAnswer by who c p v old new true = RemovesFrom by who c p v None old new
 EmptyAnswer by who c p v old new false = Sees old new × NoneBelow 0 (p + 1) (at_channel new.seen c)
-
-abbrev pub KeptAnswer : ℕ → ℕ → ℕ → ℕ → Seen → Seen → Bool → Type 0
-KeptAnswer who c p v old new answer = EmptyAnswer removal.Take who c p v old new answer
 
 -- ---- offers, by place
 

@@ -12,12 +12,12 @@
 //! | cell | Free | Buffered | `offer_at`: who sends, where the channel keeps one more | the same |
 //! | cell | Free | Closed | `close_at`: who closes | that the channel ends here |
 //! | cell | Closed | Voided | `void_at`: who cancels | that the channel is cancelled |
-//! | cell | Buffered | Emptied | who receives (`take_kept`), drops (`drop_kept`) or drains (`drain_kept`) | who has the element |
-//! | cell | Offer of an admitted wait | Emptied | who receives (`take_admitted`) or drains (`drain_admitted`) | who has the element |
+//! | cell | Buffered | Emptied | `remove_kept`: who receives, drops or drains | who has the element |
+//! | cell | Offer of an admitted wait | Emptied | `remove_admitted`: who receives or drains | who has the element |
 //! | wait | 0 | handed | `hand`: who sends | who resolves the wait of the first receiver |
 //! | wait | 0 | closed | `wake`: anybody, once the channel is closed | the same |
-//! | wait | 0 | taken | `take`: who receives | who resolves the wait of the first offer |
-//! | wait | 0 | voided | `drain`: anybody, once the channel is cancelled | the same |
+//! | wait | 0 | taken | `remove`, by `Take`: who receives | who resolves the wait of the first offer |
+//! | wait | 0 | voided | `remove`, by `Drain`: anybody, once the channel is cancelled | the same |
 //! | wait | 0 | admitted | `admit_at`: anybody, where fewer offers stand before than are kept | who resolves the wait of the offer |
 //! | wait | 0 | cancelled, revoked | `withdraw_at`: its coroutine | that it was not resolved before |
 //! | wait | resolved | settled | `settle_at`: its coroutine | nothing: nobody else settles it |
@@ -104,8 +104,8 @@ pub use laws::{
 pub use layout::Layout;
 pub use own_waits::{look_at, settle_at, withdraw_at};
 pub use pass::Pass;
-pub use placing::{await_at, offer_at, try_await_at, try_offer_at};
+pub use placing::{await_at, offer_at, try_await_at};
 pub use registering::{await_clause_at, offer_clause_at, offer_stands, receiver_stands};
-pub use removing::{drain, drain_admitted, drain_kept, drop_kept, take, take_admitted, take_kept};
+pub use removing::{remove, remove_admitted, remove_kept};
 pub use resolving::hand;
 pub use wait_word::{ResolvedBy, WaitWord};

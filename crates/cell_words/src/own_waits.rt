@@ -3,7 +3,6 @@ ghost use Rattle.std.specs.Prelude.{◌≡◌, Some};
 ghost use Rattle.channel_model.specs.declared.acts.Act.TheVariants.{Settle};
 ghost use Rattle.channel_model.specs.Histories.{replay};
 ghost use Rattle.channel_model.specs.Answers.{IsOwnWait, IsReadyWait, outcome_at, state_of_wait};
-ghost use Rattle.cell_words.specs.Cells.{spot};
 ghost use Rattle.cell_words.specs.Words.{IsCell};
 ghost use Rattle.cell_words.specs.Hubs.{shape_of, seen_by, IsOwn};
 ghost use Rattle.cell_words.specs.Seen.{Sees, Makes};
@@ -17,43 +16,35 @@ use crate::looks::{
 use crate::pass::Pass;
 use crate::wait_word::WaitWord;
 use channel_model::{Act, Entry, Settled, WaitState, Why, outcome};
-use co_base::{ChannelId, Place, Tag, WaitId};
+use co_base::{Tag, WaitId};
 
-/// How far the own wait is that began at this place.
-pub fn look_at(hub: &Hub, pass: &mut Pass, who: Tag, c: ChannelId, place: Place) -> WaitState
+/// How far the own wait is.
+pub fn look_at(hub: &Hub, pass: &mut Pass, who: Tag, w: WaitId) -> WaitState
     requires own { IsOwn hub.now pass.old who }
-    requires at { IsCell (shape_of hub.now) c place }
-    requires mine { IsOwnWait who ((replay (seen_by pass.old).seen).waits (spot c place)) }
+    requires at { IsCell (shape_of hub.now) w.channel w.place }
+    requires mine { IsOwnWait who ((replay (seen_by pass.old).seen).waits w) }
     ensures own { IsOwn hub.now pass.new who }
     ensures sees { Sees (seen_by pass.old) (seen_by pass.new) }
-    ensures state { state_of_wait ((replay (seen_by pass.new).seen).waits (spot c place)) ≡ Some result }
+    ensures state { state_of_wait ((replay (seen_by pass.new).seen).waits w) ≡ Some result }
 {
-    let cell = number_of(hub, c, place);
+    let cell = number_of(hub, w.channel, w.place);
     let word = load_wait(hub, pass, who, cell);
     state_found(word)
 }
 
 /// Takes the own wait back, unless it was resolved.
-pub fn withdraw_at(
-    hub: &Hub,
-    pass: &mut Pass,
-    who: Tag,
-    c: ChannelId,
-    place: Place,
-    why: Why,
-) -> bool
+pub fn withdraw_at(hub: &Hub, pass: &mut Pass, who: Tag, w: WaitId, why: Why) -> bool
     requires own { IsOwn hub.now pass.old who }
-    requires at { IsCell (shape_of hub.now) c place }
-    requires mine { IsOwnWait who ((replay (seen_by pass.old).seen).waits (spot c place)) }
+    requires at { IsCell (shape_of hub.now) w.channel w.place }
+    requires mine { IsOwnWait who ((replay (seen_by pass.old).seen).waits w) }
     ensures own { IsOwn hub.now pass.new who }
-    ensures done { WithdrawAt who (spot c place) why (seen_by pass.old) (seen_by pass.new) result }
+    ensures done { WithdrawAt who w why (seen_by pass.old) (seen_by pass.new) result }
 {
-    let w = WaitId { channel: c, place };
     let entry = Entry {
         who,
         act: Act::Withdraw { w, why },
     };
-    let cell = number_of(hub, c, place);
+    let cell = number_of(hub, w.channel, w.place);
     match exchange_wait(
         hub,
         pass,
@@ -69,25 +60,17 @@ pub fn withdraw_at(
 }
 
 /// Settles the own wait, which was resolved.
-pub fn settle_at(
-    hub: &Hub,
-    pass: &mut Pass,
-    who: Tag,
-    c: ChannelId,
-    place: Place,
-    cancelled: bool,
-) -> Settled
+pub fn settle_at(hub: &Hub, pass: &mut Pass, who: Tag, w: WaitId, cancelled: bool) -> Settled
     requires own { IsOwn hub.now pass.old who }
-    requires at { IsCell (shape_of hub.now) c place }
-    requires ready { IsReadyWait who ((replay (seen_by pass.old).seen).waits (spot c place)) }
+    requires at { IsCell (shape_of hub.now) w.channel w.place }
+    requires ready { IsReadyWait who ((replay (seen_by pass.old).seen).waits w) }
     ensures own { IsOwn hub.now pass.new who }
-    ensures settled { Makes (seen_by pass.old) (record { who = who; act = Settle (spot c place) result }) (seen_by pass.new) }
-    ensures outcome { outcome_at cancelled ((replay (seen_by pass.old).seen).waits (spot c place)) ≡ Some result }
+    ensures settled { Makes (seen_by pass.old) (record { who = who; act = Settle w result }) (seen_by pass.new) }
+    ensures outcome { outcome_at cancelled ((replay (seen_by pass.old).seen).waits w) ≡ Some result }
 {
-    let cell = number_of(hub, c, place);
+    let cell = number_of(hub, w.channel, w.place);
     let old = load_wait(hub, pass, who, cell);
     let settled = outcome(resolution_found(old), cancelled);
-    let w = WaitId { channel: c, place };
     let entry = Entry {
         who,
         act: Act::Settle {

@@ -7,7 +7,7 @@ ghost use Rattle.cell_words.specs.Cells.{gather};
 ghost use Rattle.cell_words.specs.Words.{IsCell};
 ghost use Rattle.cell_words.specs.Hubs.{shape_of, seen_by, IsOwn};
 ghost use Rattle.cell_words.specs.Seen.{Sees, at_channel};
-ghost use Rattle.cell_words.specs.Answers.{stands, OfferAt, WholeOfferAt, TriedOfferAt, ReceiveAt, TriedReceiveAt};
+ghost use Rattle.cell_words.specs.Answers.{stands, OfferAt, OfferHere, ReceiveAt, TriedReceiveAt};
 
 use crate::cell_word::CellState;
 use crate::cells::{exchange_cell, load_cell, places_of};
@@ -67,7 +67,7 @@ fn put_at(hub: &Hub, pass: &mut Pass, who: Tag, c: ChannelId, place: Place, valu
     }
 }
 
-/// Puts an element where the channel ends, or places an offer there where the channel was full.
+/// Puts an element where the channel ends. Where the channel was full, an offer is placed there, if the caller may wait.
 pub fn offer_at(
     hub: &Hub,
     pass: &mut Pass,
@@ -75,13 +75,14 @@ pub fn offer_at(
     c: ChannelId,
     place: Place,
     value: Value,
+    waits: bool,
 ) -> At
     requires own { IsOwn hub.now pass.old who }
     requires at { IsCell (shape_of hub.now) c place }
     requires kind { is_signal (kind_at (shape_of hub.now) c) ≡ false }
     requires low { NoneBelow place 0 (at_channel (seen_by pass.old).seen c) }
     ensures own { IsOwn hub.now pass.new who }
-    ensures at { WholeOfferAt (shape_of hub.now) who c place value (seen_by pass.old) (seen_by pass.new) result }
+    ensures at { OfferHere waits (shape_of hub.now) who c place value (seen_by pass.old) (seen_by pass.new) result }
 {
     let word = load_cell(hub, pass, who, c, place);
     if is_used(word) {
@@ -91,37 +92,10 @@ pub fn offer_at(
         return At::Spent;
     }
     if has_room(hub, pass, who, c, place) {
-        put_at(hub, pass, who, c, place, value)
-    } else {
+        return put_at(hub, pass, who, c, place, value);
+    }
+    if waits {
         hold_at(hub, pass, who, c, place, value)
-    }
-}
-
-/// Puts an element where the channel ends, and does not wait.
-pub fn try_offer_at(
-    hub: &Hub,
-    pass: &mut Pass,
-    who: Tag,
-    c: ChannelId,
-    place: Place,
-    value: Value,
-) -> At
-    requires own { IsOwn hub.now pass.old who }
-    requires at { IsCell (shape_of hub.now) c place }
-    requires kind { is_signal (kind_at (shape_of hub.now) c) ≡ false }
-    requires low { NoneBelow place 0 (at_channel (seen_by pass.old).seen c) }
-    ensures own { IsOwn hub.now pass.new who }
-    ensures at { TriedOfferAt (shape_of hub.now) who c place value (seen_by pass.old) (seen_by pass.new) result }
-{
-    let word = load_cell(hub, pass, who, c, place);
-    if is_used(word) {
-        return found_by_sender(word);
-    }
-    if place == places_of(hub, c) {
-        return At::Spent;
-    }
-    if has_room(hub, pass, who, c, place) {
-        put_at(hub, pass, who, c, place, value)
     } else {
         At::Open
     }

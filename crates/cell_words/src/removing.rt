@@ -1,13 +1,11 @@
 //! The first offer's element is removed: it is taken, dropped for a newer one, or drained from a cancelled channel.
-ghost use Rattle.std.specs.Prelude.{◌≡◌, ◌<◌, true};
+ghost use Rattle.std.specs.Prelude.{◌≡◌, ◌<◌};
 ghost use Rattle.channel_model.specs.Laws.{NoneBelow};
-ghost use Rattle.cell_words.specs.declared.found.Removal.TheVariants as removals;
 ghost use Rattle.cell_words.specs.Words.{IsCell, how_word};
 ghost use Rattle.cell_words.specs.Hubs.{shape_of, seen_by, IsOwn};
 ghost use Rattle.cell_words.specs.Seen.{at_channel};
-ghost use Rattle.cell_words.specs.Answers.{Offers, RemoveAnswer, TakeAnswer, IsKept, WasPut, IsAdmitted, IsOver, MayRemove, MayRemoveHeld, EmptyAnswer, KeptAnswer};
+ghost use Rattle.cell_words.specs.Answers.{Offers, RemoveAnswer, IsKept, WasPut, IsAdmitted, MayRemove, MayRemoveHeld, EmptyAnswer};
 ghost use Rattle.cell_words.specs.Codes.{IsNarrowCell, IsNarrowWait};
-ghost use Rattle.cell_words.specs.Cells.{cell_of, buffered};
 ghost use Rattle.cell_words.specs.Looks.{offer_word};
 ghost use Rattle.cell_words.specs.Removals.{removal_act, how_removed};
 
@@ -59,8 +57,8 @@ fn removed_wait(removal: Removal, clause: u8) -> WaitWord
     }
 }
 
-// Removes the offer at a place, unless its wait was resolved.
-fn remove(
+/// Removes the offer at a place, unless its wait was resolved.
+pub fn remove(
     hub: &Hub,
     pass: &mut Pass,
     who: Tag,
@@ -92,45 +90,6 @@ fn remove(
         None => Tried::Taken(owner),
         Some(found) => tried_found(found, waiter.clause),
     }
-}
-
-/// Takes the element of the offer at a place, unless its wait was resolved.
-pub fn take(
-    hub: &Hub,
-    pass: &mut Pass,
-    who: Tag,
-    c: ChannelId,
-    place: Place,
-    waiter: Waiter,
-) -> Tried
-    requires own { IsOwn hub.now pass.old who }
-    requires at { IsCell (shape_of hub.now) c place }
-    requires low { NoneBelow 0 place (at_channel (seen_by pass.old).seen c) }
-    requires first { Offers (shape_of hub.now) c place waiter (seen_by pass.old).seen }
-    ensures own { IsOwn hub.now pass.new who }
-    ensures tried { TakeAnswer (shape_of hub.now) who c place waiter (seen_by pass.old) (seen_by pass.new) result }
-{
-    remove(hub, pass, who, c, place, waiter, Removal::Take)
-}
-
-/// Removes the offer at a place of a channel that was cancelled, unless its wait was resolved.
-pub fn drain(
-    hub: &Hub,
-    pass: &mut Pass,
-    who: Tag,
-    c: ChannelId,
-    place: Place,
-    waiter: Waiter,
-) -> Tried
-    requires own { IsOwn hub.now pass.old who }
-    requires at { IsCell (shape_of hub.now) c place }
-    requires voided { (at_channel (seen_by pass.old).seen c).voided ≡ true }
-    requires low { NoneBelow 0 place (at_channel (seen_by pass.old).seen c) }
-    requires first { Offers (shape_of hub.now) c place waiter (seen_by pass.old).seen }
-    ensures own { IsOwn hub.now pass.new who }
-    ensures tried { RemoveAnswer removals.Drain (shape_of hub.now) who c place waiter (seen_by pass.old) (seen_by pass.new) result }
-{
-    remove(hub, pass, who, c, place, waiter, Removal::Drain)
 }
 
 /// The word of the cell of an offer that was admitted.
@@ -178,105 +137,46 @@ fn empty(
     }
 }
 
-/// Takes the element that was put at a place, unless it was removed.
-pub fn take_kept(
+/// Removes the element that was put at a place, unless it was removed before.
+pub fn remove_kept(
     hub: &Hub,
     pass: &mut Pass,
     who: Tag,
     c: ChannelId,
     place: Place,
     value: Value,
+    removal: Removal,
 ) -> bool
     requires own { IsOwn hub.now pass.old who }
     requires at { IsCell (shape_of hub.now) c place }
-    requires low { NoneBelow 0 place (at_channel (seen_by pass.old).seen c) }
-    requires kept { cell_of (seen_by pass.old).seen c place ≡ buffered value }
-    ensures own { IsOwn hub.now pass.new who }
-    ensures taken { KeptAnswer who c place value (seen_by pass.old) (seen_by pass.new) result }
-{
-    let old = plain_cell(CellState::Buffered, value);
-    empty(hub, pass, who, c, place, value, old, Removal::Take)
-}
-
-/// Takes the element of an offer that was admitted, unless it was removed.
-pub fn take_admitted(
-    hub: &Hub,
-    pass: &mut Pass,
-    who: Tag,
-    c: ChannelId,
-    place: Place,
-    waiter: Waiter,
-) -> bool
-    requires own { IsOwn hub.now pass.old who }
-    requires at { IsCell (shape_of hub.now) c place }
-    requires low { NoneBelow 0 place (at_channel (seen_by pass.old).seen c) }
-    requires admitted { IsAdmitted (shape_of hub.now) c place waiter (seen_by pass.old).seen }
-    ensures own { IsOwn hub.now pass.new who }
-    ensures taken { KeptAnswer who c place waiter.value (seen_by pass.old) (seen_by pass.new) result }
-{
-    let old = offer_cell(waiter);
-    empty(hub, pass, who, c, place, waiter.value, old, Removal::Take)
-}
-
-/// Drops the element that was put at a place, where more stand than the channel keeps, unless it was removed.
-pub fn drop_kept(
-    hub: &Hub,
-    pass: &mut Pass,
-    who: Tag,
-    c: ChannelId,
-    place: Place,
-    value: Value,
-) -> bool
-    requires own { IsOwn hub.now pass.old who }
-    requires at { IsCell (shape_of hub.now) c place }
-    requires over { IsOver (shape_of hub.now) c place (seen_by pass.old).seen }
+    requires may { MayRemove removal (shape_of hub.now) c place (seen_by pass.old).seen }
     requires low { NoneBelow 0 place (at_channel (seen_by pass.old).seen c) }
     requires kept { WasPut c place value (seen_by pass.old).seen }
     ensures own { IsOwn hub.now pass.new who }
-    ensures removed { EmptyAnswer removals.Drop who c place value (seen_by pass.old) (seen_by pass.new) result }
+    ensures removed { EmptyAnswer removal who c place value (seen_by pass.old) (seen_by pass.new) result }
 {
     let old = plain_cell(CellState::Buffered, value);
-    empty(hub, pass, who, c, place, value, old, Removal::Drop)
+    empty(hub, pass, who, c, place, value, old, removal)
 }
 
-/// Removes the element that was put at a place of a channel that was cancelled, unless it was removed before.
-pub fn drain_kept(
-    hub: &Hub,
-    pass: &mut Pass,
-    who: Tag,
-    c: ChannelId,
-    place: Place,
-    value: Value,
-) -> bool
-    requires own { IsOwn hub.now pass.old who }
-    requires at { IsCell (shape_of hub.now) c place }
-    requires voided { (at_channel (seen_by pass.old).seen c).voided ≡ true }
-    requires low { NoneBelow 0 place (at_channel (seen_by pass.old).seen c) }
-    requires kept { cell_of (seen_by pass.old).seen c place ≡ buffered value }
-    ensures own { IsOwn hub.now pass.new who }
-    ensures removed { EmptyAnswer removals.Drain who c place value (seen_by pass.old) (seen_by pass.new) result }
-{
-    let old = plain_cell(CellState::Buffered, value);
-    empty(hub, pass, who, c, place, value, old, Removal::Drain)
-}
-
-/// Removes the element of an offer that was admitted on a channel that was cancelled, unless it was removed before.
-pub fn drain_admitted(
+/// Removes the element of an offer that was admitted, unless it was removed before.
+pub fn remove_admitted(
     hub: &Hub,
     pass: &mut Pass,
     who: Tag,
     c: ChannelId,
     place: Place,
     waiter: Waiter,
+    removal: Removal,
 ) -> bool
     requires own { IsOwn hub.now pass.old who }
     requires at { IsCell (shape_of hub.now) c place }
-    requires voided { (at_channel (seen_by pass.old).seen c).voided ≡ true }
+    requires may { MayRemove removal (shape_of hub.now) c place (seen_by pass.old).seen }
     requires low { NoneBelow 0 place (at_channel (seen_by pass.old).seen c) }
     requires admitted { IsAdmitted (shape_of hub.now) c place waiter (seen_by pass.old).seen }
     ensures own { IsOwn hub.now pass.new who }
-    ensures removed { EmptyAnswer removals.Drain who c place waiter.value (seen_by pass.old) (seen_by pass.new) result }
+    ensures removed { EmptyAnswer removal who c place waiter.value (seen_by pass.old) (seen_by pass.new) result }
 {
     let old = offer_cell(waiter);
-    empty(hub, pass, who, c, place, waiter.value, old, Removal::Drain)
+    empty(hub, pass, who, c, place, waiter.value, old, removal)
 }

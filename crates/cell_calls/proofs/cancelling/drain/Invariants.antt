@@ -6,6 +6,6 @@ use Rattle.cell_calls.proofs.cancelling.drain.Given as goal
 abbrev pub invariant-loop-place : goal.invariant-loop-place
 invariant-loop-place l = record {
   own : IsOwn l.hub l.pass l.who;
-  sees : Sees (seen_by l.initial.pass) (seen_by l.pass);
+  sees : Sees (seen_by l.fn.pass) (seen_by l.pass);
   low : NoneBelow 0 l.place (at_channel (seen_by l.pass).seen l.c);
 }

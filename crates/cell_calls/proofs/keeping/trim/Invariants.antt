@@ -6,6 +6,6 @@ use Rattle.cell_calls.proofs.keeping.trim.Given as goal
 abbrev pub invariant-loop-first : goal.invariant-loop-first
 invariant-loop-first l = record {
   own : IsOwn l.hub l.pass l.who;
-  sees : Sees (seen_by l.initial.pass) (seen_by l.pass);
+  sees : Sees (seen_by l.fn.pass) (seen_by l.pass);
   low : NoneBelow 0 l.first (at_channel (seen_by l.pass).seen l.c);
 }

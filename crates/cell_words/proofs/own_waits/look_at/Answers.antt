@@ -1,12 +1,11 @@
 use Rattle.std.proofs.Common.{sym, ap, ◌∙◌, Some}
 use Rattle.channel_model.specs.declared.floor.WaitState.{WaitState}
-use Rattle.cell_words.specs.Cells.{spot}
 use Rattle.cell_words.specs.Hubs.{shape_of}
 use Rattle.cell_words.proofs.LooksAtCells.{hub_legal, state_told, own_seen}
 use Rattle.cell_words.proofs.own_waits.look_at.Goals as goal
 
 pub load_wait-word-requires-clause-number : goal.load_wait-word-requires-clause-number
-load_wait-word-requires-clause-number c = record { wait = spot c.args.c c.args.place; at = c.requires.at; is = sym c.number_of-cell.ensures }
+load_wait-word-requires-clause-number c = record { wait = c.args.w; at = c.requires.at; is = sym c.number_of-cell.ensures }
 
 pub returns-clause-state : goal.returns-clause-state
 returns-clause-state c =
@@ -14,5 +13,5 @@ returns-clause-state c =
     let h = c.load_wait-word.ensures in
     let w = c.load_wait-word.new.pass.seat.me.0 in
     let l = hub_legal c.args.hub.now c.load_wait-word.new.pass h.own.0 in
-    state_told shape w.seen c.args.who (spot c.args.c c.args.place) c.load_wait-word.result l (own_seen shape c.args.who (spot c.args.c c.args.place) c.args.pass.now.seat.me.0 w c.requires.own.1 h.sees l c.requires.mine)
-    (h.word (spot c.args.c c.args.place) c.requires.at (sym c.number_of-cell.ensures)) ∙ ap (λ (z : WaitState). Some z) (sym c.state_found.ensures)
+    state_told shape w.seen c.args.who c.args.w c.load_wait-word.result l (own_seen shape c.args.who c.args.w c.args.pass.now.seat.me.0 w c.requires.own.1 h.sees l c.requires.mine)
+    (h.word c.args.w c.requires.at (sym c.number_of-cell.ensures)) ∙ ap (λ (z : WaitState). Some z) (sym c.state_found.ensures)

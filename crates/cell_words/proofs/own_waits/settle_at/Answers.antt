@@ -4,24 +4,23 @@ use Rattle.channel_model.specs.Histories.{replay}
 use Rattle.channel_model.specs.Outcomes.{outcome_of}
 use Rattle.channel_model.specs.declared.standing.Resolution.{Resolution}
 use Rattle.cell_words.specs.declared.wait_word.WaitWord.{WaitWord}
-use Rattle.cell_words.specs.Cells.{spot}
 use Rattle.cell_words.specs.Codes.{IsNarrowWait}
 use Rattle.cell_words.specs.Hubs.{shape_of}
 use Rattle.cell_words.specs.Looks.{resolution_found}
 use Rattle.cell_words.proofs.WordsFound.{wait_narrow}
 use Rattle.cell_words.proofs.LooksAtCells.{hub_legal, sees_makes}
-use Rattle.cell_words.proofs.OwnWaits.{ready_word, ready_seen, settles_as, settle_done, outcome_before}
+use Rattle.cell_words.proofs.OwnWaits.{ready_found, settles_as, settle_done, outcome_before}
 use Rattle.cell_words.proofs.own_waits.settle_at.Goals as goal
 
 pub load_wait-old-requires-clause-number : goal.load_wait-old-requires-clause-number
-load_wait-old-requires-clause-number c = record { wait = spot c.args.c c.args.place; at = c.requires.at; is = sym c.number_of-cell.ensures }
+load_wait-old-requires-clause-number c = record { wait = c.args.w; at = c.requires.at; is = sym c.number_of-cell.ensures }
 
 pub exchange_wait-requires-clause-number : goal.exchange_wait-requires-clause-number
-exchange_wait-requires-clause-number c = record { wait = spot c.args.c c.args.place; at = c.requires.at; is = sym c.number_of-cell.ensures }
+exchange_wait-requires-clause-number c = record { wait = c.args.w; at = c.requires.at; is = sym c.number_of-cell.ensures }
 
 pub exchange_wait-requires-clause-narrow : goal.exchange_wait-requires-clause-narrow
 exchange_wait-requires-clause-narrow c =
-    let w = spot c.args.c c.args.place in
+    let w = c.args.w in
     let is = c.load_wait-old.ensures.word w c.requires.at (sym c.number_of-cell.ensures) in
     let n : IsNarrowWait c.load_wait-old.result = subst IsNarrowWait (sym is.0) (wait_narrow ((replay c.load_wait-old.new.pass.seat.me.0.seen).waits w) is.1) in
     (n, record { clause = n.clause; value = n.value })
@@ -30,14 +29,10 @@ pub exchange_wait-requires-clause-may : goal.exchange_wait-requires-clause-may
 exchange_wait-requires-clause-may c =
     let shape = shape_of c.args.hub.now in
     let h = c.load_wait-old.ensures in
-    let w = spot c.args.c c.args.place in
     let v = c.load_wait-old.new.pass.seat.me.0 in
-    let l = hub_legal c.args.hub.now c.load_wait-old.new.pass h.own.0 in
     let old = c.load_wait-old.result in
-    let is = h.word w c.requires.at (sym c.number_of-cell.ensures) in
-    let ready = ready_seen shape c.args.who w c.args.pass.now.seat.me.0 v c.requires.own.1 h.sees l c.requires.ready in
-    let r = ready_word c.args.who c.args.cancelled old ((replay v.seen).waits w) ready is.0 is.1 in
-    settles_as shape v c.args.who c.args.c c.args.place (resolution_found old) c.args.cancelled h.own.1 c.requires.at.0 c.requires.at.1 r.fits ready r.how _ old _ c.outcome-settled.result (ap (λ (n : ℕ). 2 * n + 1) c.number_of-cell.ensures) r.code
+    let r = ready_found c.args.hub.now c.load_wait-old.new.pass h.own.0 c.args.who c.args.w c.args.cancelled c.args.pass.now.seat.me.0 c.requires.own.1 h.sees c.requires.ready old (h.word c.args.w c.requires.at (sym c.number_of-cell.ensures)) in
+    settles_as shape v c.args.who c.args.w.channel c.args.w.place (resolution_found old) c.args.cancelled h.own.1 c.requires.at.0 c.requires.at.1 r.1.fits r.0 r.1.how _ old _ c.outcome-settled.result (ap (λ (n : ℕ). 2 * n + 1) c.number_of-cell.ensures) r.1.code
     (c.outcome-settled.ensures ∙ ap (λ (z : Resolution). outcome_of z c.args.cancelled) c.resolution_found.ensures)
     (ap (λ (b : Bool). with_end old b) c.is_cancelled_end.ensures)
   where
@@ -48,27 +43,19 @@ pub returns-clause-settled : goal.returns-clause-settled
 returns-clause-settled c =
     let shape = shape_of c.args.hub.now in
     let h = c.load_wait-old.ensures in
-    let w = spot c.args.c c.args.place in
     let v = c.load_wait-old.new.pass.seat.me.0 in
-    let l = hub_legal c.args.hub.now c.load_wait-old.new.pass h.own.0 in
     let old = c.load_wait-old.result in
-    let is = h.word w c.requires.at (sym c.number_of-cell.ensures) in
-    let ready = ready_seen shape c.args.who w c.args.pass.now.seat.me.0 v c.requires.own.1 h.sees l c.requires.ready in
-    let r = ready_word c.args.who c.args.cancelled old ((replay v.seen).waits w) ready is.0 is.1 in
+    let r = ready_found c.args.hub.now c.load_wait-old.new.pass h.own.0 c.args.who c.args.w c.args.cancelled c.args.pass.now.seat.me.0 c.requires.own.1 h.sees c.requires.ready old (h.word c.args.w c.requires.at (sym c.number_of-cell.ensures)) in
     sees_makes c.args.pass.now.seat.me.0 v c.exchange_wait.new.pass.seat.me.0 _ h.sees
-    (settle_done shape v c.args.who c.args.c c.args.place (resolution_found old) c.args.cancelled h.own.1 c.requires.at.0 c.requires.at.1 r.fits ready r.how _ old _ c.exchange_wait.new.pass.seat.me.0 c.exchange_wait.result
-    (hub_legal c.args.hub.now c.exchange_wait.new.pass c.exchange_wait.ensures.own.0) (sym c.number_of-cell.ensures) r.code c.exchange_wait.ensures.told)
+    (settle_done shape v c.args.who c.args.w.channel c.args.w.place (resolution_found old) c.args.cancelled h.own.1 c.requires.at.0 c.requires.at.1 r.1.fits r.0 r.1.how _ old _ c.exchange_wait.new.pass.seat.me.0 c.exchange_wait.result
+    (hub_legal c.args.hub.now c.exchange_wait.new.pass c.exchange_wait.ensures.own.0) (sym c.number_of-cell.ensures) r.1.code c.exchange_wait.ensures.told)
 
 pub returns-clause-outcome : goal.returns-clause-outcome
 returns-clause-outcome c =
     let shape = shape_of c.args.hub.now in
     let h = c.load_wait-old.ensures in
-    let w = spot c.args.c c.args.place in
     let v = c.load_wait-old.new.pass.seat.me.0 in
-    let l = hub_legal c.args.hub.now c.load_wait-old.new.pass h.own.0 in
     let old = c.load_wait-old.result in
-    let is = h.word w c.requires.at (sym c.number_of-cell.ensures) in
-    let ready = ready_seen shape c.args.who w c.args.pass.now.seat.me.0 v c.requires.own.1 h.sees l c.requires.ready in
-    let r = ready_word c.args.who c.args.cancelled old ((replay v.seen).waits w) ready is.0 is.1 in
-    outcome_before shape c.args.who c.args.cancelled w (resolution_found old) c.args.pass.now.seat.me.0 v h.sees l c.requires.ready r.how
+    let r = ready_found c.args.hub.now c.load_wait-old.new.pass h.own.0 c.args.who c.args.w c.args.cancelled c.args.pass.now.seat.me.0 c.requires.own.1 h.sees c.requires.ready old (h.word c.args.w c.requires.at (sym c.number_of-cell.ensures)) in
+    outcome_before shape c.args.who c.args.cancelled c.args.w (resolution_found old) c.args.pass.now.seat.me.0 v h.sees (hub_legal c.args.hub.now c.load_wait-old.new.pass h.own.0) c.requires.ready r.1.how
     ∙ ap (λ (z : Settled). Some z) (sym (c.outcome-settled.ensures ∙ ap (λ (z : Resolution). outcome_of z c.args.cancelled) c.resolution_found.ensures))

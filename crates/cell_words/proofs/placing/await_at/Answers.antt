@@ -7,31 +7,17 @@ use Rattle.cell_words.specs.Hubs.{shape_of}
 use Rattle.cell_words.specs.Answers.{ReceiveAt}
 use Rattle.cell_words.proofs.OneNumberOneWord.{number_within}
 use Rattle.cell_words.proofs.MayExchange.{may_as, awaits_at}
-use Rattle.cell_words.proofs.LooksAtCells.{hub_legal, own_word, receive_found, receive_spent, number_not, used_not, unused_free, below_seen, less_places, sees_then, sees_makes}
+use Rattle.cell_words.proofs.LooksAtCells.{hub_legal, own_word, used_receive, spent_receive, below_seen, less_places, sees_then, sees_makes, missed_receive}
 use Rattle.cell_words.proofs.placing.await_at.Goals as goal
 
 pub returns-then-is_used-clause-at : goal.returns-then-is_used-clause-at
-returns-then-is_used-clause-at c =
-    let shape = shape_of c.args.hub.now in
-    let v = c.args.pass.now.seat.me.0 in
-    let w = c.load_cell-word.new.pass.seat.me.0 in
-    let h = c.load_cell-word.ensures in
-    let l = hub_legal c.args.hub.now c.load_cell-word.new.pass h.own.0 in
-    subst (λ (z : At). ReceiveAt shape c.args.who c.args.c c.args.place v w z) (sym c.found_by_receiver.ensures)
-    (receive_found shape c.args.who c.args.c c.args.place v w h.sees l (below_seen shape 0 c.args.place c.args.c v w h.sees l c.requires.low) c.load_cell-word.result h.word
-    (used_not c.load_cell-word.result.state (sym c.is_used.ensures ∙ c.if-is_used.true)))
+returns-then-is_used-clause-at c = let h = c.load_cell-word.ensures in
+    subst (λ (z : At). ReceiveAt (shape_of c.args.hub.now) c.args.who c.args.c c.args.place c.args.pass.now.seat.me.0 c.load_cell-word.new.pass.seat.me.0 z) (sym c.found_by_receiver.ensures)
+    (used_receive c.args.hub.now c.load_cell-word.new.pass h.own.0 c.args.c c.args.place c.args.pass.now.seat.me.0 h.sees c.load_cell-word.result h.word c.requires.low (sym c.is_used.ensures ∙ c.if-is_used.true) c.args.who)
 
 pub returns-then-place-places_of-clause-at : goal.returns-then-place-places_of-clause-at
-returns-then-place-places_of-clause-at c =
-    let shape = shape_of c.args.hub.now in
-    let v = c.args.pass.now.seat.me.0 in
-    let w = c.load_cell-word.new.pass.seat.me.0 in
-    let h = c.load_cell-word.ensures in
-    let l = hub_legal c.args.hub.now c.load_cell-word.new.pass h.own.0 in (
-      h.sees,
-      receive_spent shape c.args.c c.args.place w.seen l c.load_cell-word.result h.word (unused_free c.load_cell-word.result.state (sym c.is_used.ensures ∙ c.if-is_used.false)) (c.if-place-places_of.true ∙ c.places_of.ensures)
-          (below_seen shape 0 c.args.place c.args.c v w h.sees l c.requires.low),
-    )
+returns-then-place-places_of-clause-at c = let h = c.load_cell-word.ensures in
+    spent_receive c.args.hub.now c.load_cell-word.new.pass h.own.0 c.args.c c.args.place c.args.pass.now.seat.me.0 h.sees c.load_cell-word.result h.word c.requires.low (sym c.is_used.ensures ∙ c.if-is_used.false) (c.if-place-places_of.true ∙ c.places_of.ensures)
 
 pub exchange_cell-requires-clause-may : goal.exchange_cell-requires-clause-may
 exchange_cell-requires-clause-may c =
@@ -50,15 +36,5 @@ pub returns-in-None-clause-at : goal.returns-in-None-clause-at
 returns-in-None-clause-at c = sees_makes c.args.pass.now.seat.me.0 c.load_cell-word.new.pass.seat.me.0 c.exchange_cell.new.pass.seat.me.0 _ c.load_cell-word.ensures.sees c.in-None.ensures.told.made
 
 pub returns-in-Some-clause-at : goal.returns-in-Some-clause-at
-returns-in-Some-clause-at c =
-    let shape = shape_of c.args.hub.now in
-    let u = c.args.pass.now.seat.me.0 in
-    let v = c.load_cell-word.new.pass.seat.me.0 in
-    let w = c.exchange_cell.new.pass.seat.me.0 in
-    let h = c.load_cell-word.ensures in
-    let l = hub_legal c.args.hub.now c.exchange_cell.new.pass c.exchange_cell.ensures.own.0 in
-    let t = c.in-Some.ensures.told in
-    let s = sees_then u v w h.sees t.0 in
-    subst (λ (z : At). ReceiveAt shape c.args.who c.args.c c.args.place u w z) (sym c.found_by_receiver-in-Some.ensures)
-    (receive_found shape c.args.who c.args.c c.args.place u w s l (below_seen shape 0 c.args.place c.args.c u w s l c.requires.low) c.in-Some.found t.1
-    (number_not shape c.args.c c.args.place w.seen c.in-Some.found _ t.1 c.free_cell.ensures.zero t.2))
+returns-in-Some-clause-at c = let t = c.in-Some.ensures.told in
+    subst (λ (z : At). ReceiveAt (shape_of c.args.hub.now) c.args.who c.args.c c.args.place c.args.pass.now.seat.me.0 c.exchange_cell.new.pass.seat.me.0 z) (sym c.found_by_receiver-in-Some.ensures) (missed_receive c.args.hub.now c.exchange_cell.new.pass c.exchange_cell.ensures.own.0 c.args.c c.args.place c.args.pass.now.seat.me.0 (sees_then c.args.pass.now.seat.me.0 c.load_cell-word.new.pass.seat.me.0 c.exchange_cell.new.pass.seat.me.0 c.load_cell-word.ensures.sees t.0) c.in-Some.found t.1 c.requires.low _ c.free_cell.ensures.zero t.2 c.args.who)

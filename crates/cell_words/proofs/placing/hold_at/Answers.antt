@@ -7,7 +7,7 @@ use Rattle.cell_words.specs.Hubs.{shape_of}
 use Rattle.cell_words.specs.Answers.{OfferAt}
 use Rattle.cell_words.proofs.OneNumberOneWord.{number_within}
 use Rattle.cell_words.proofs.MayExchange.{may_as, offers}
-use Rattle.cell_words.proofs.LooksAtCells.{hub_legal, own_word, offer_found, number_not, below_seen}
+use Rattle.cell_words.proofs.LooksAtCells.{own_word, missed_offer}
 use Rattle.cell_words.proofs.placing.hold_at.Goals as goal
 
 pub exchange_cell-requires-clause-may : goal.exchange_cell-requires-clause-may
@@ -19,12 +19,5 @@ exchange_cell-requires-clause-may c =
     (offers shape c.args.pass.now.seat.me.0 c.args.who c.args.c c.args.place c.requires.own.1 c.requires.at.0 c.args.value c.requires.at.1 c.ranges.who.fits (omega arith) c.ranges.value.fits c.requires.kind c.requires.low)
 
 pub returns-in-Some-clause-at : goal.returns-in-Some-clause-at
-returns-in-Some-clause-at c =
-    let shape = shape_of c.args.hub.now in
-    let v = c.args.pass.now.seat.me.0 in
-    let w = c.exchange_cell.new.pass.seat.me.0 in
-    let l = hub_legal c.args.hub.now c.exchange_cell.new.pass c.exchange_cell.ensures.own.0 in
-    let t = c.in-Some.ensures.told in
-    subst (λ (z : At). OfferAt shape c.args.who c.args.c c.args.place c.args.value v w z) (sym c.found_by_sender.ensures)
-    (offer_found shape c.args.who c.args.c c.args.place v w t.0 l c.args.value (below_seen shape c.args.place 0 c.args.c v w t.0 l c.requires.low) c.in-Some.found t.1
-    (number_not shape c.args.c c.args.place w.seen c.in-Some.found _ t.1 c.free_cell.ensures.zero t.2))
+returns-in-Some-clause-at c = let t = c.in-Some.ensures.told in
+    subst (λ (z : At). OfferAt (shape_of c.args.hub.now) c.args.who c.args.c c.args.place c.args.value c.args.pass.now.seat.me.0 c.exchange_cell.new.pass.seat.me.0 z) (sym c.found_by_sender.ensures) (missed_offer c.args.hub.now c.exchange_cell.new.pass c.exchange_cell.ensures.own.0 c.args.c c.args.place c.args.pass.now.seat.me.0 t.0 c.in-Some.found t.1 c.requires.low _ c.free_cell.ensures.zero t.2 c.args.who c.args.value)

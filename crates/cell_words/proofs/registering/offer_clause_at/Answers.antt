@@ -2,34 +2,19 @@ use Rattle.std.proofs.Common.{sym, ◌∙◌, subst}
 use Rattle.cell_words.specs.declared.found.At.{At}
 use Rattle.cell_words.specs.Hubs.{shape_of}
 use Rattle.cell_words.specs.Clauses.{ClauseOfferAt}
-use Rattle.cell_words.proofs.LooksAtCells.{hub_legal, offer_found, offer_spent, used_not, unused_free, below_seen, less_places, state_free}
+use Rattle.cell_words.proofs.LooksAtCells.{hub_legal, used_offer, spent_offer, unused_free, below_seen, less_places, state_free}
 use Rattle.cell_words.proofs.ClausesPlaced.{may_seen, elsewhere}
 use Rattle.cell_words.proofs.StandsAtPlaces.{clause_offer_found, clause_offer_later}
 use Rattle.cell_words.proofs.registering.offer_clause_at.Goals as goal
 
 pub returns-then-is_used-clause-at : goal.returns-then-is_used-clause-at
-returns-then-is_used-clause-at c =
-    let shape = shape_of c.args.hub.now in
-    let v = c.args.pass.now.seat.me.0 in
-    let w = c.load_cell-word.new.pass.seat.me.0 in
-    let h = c.load_cell-word.ensures in
-    let l = hub_legal c.args.hub.now c.load_cell-word.new.pass h.own.0 in
-    subst (λ (z : At). ClauseOfferAt shape c.args.who c.args.c c.args.place c.args.main c.args.clause c.args.value v w z) (sym c.found_by_sender.ensures)
-    (clause_offer_found shape c.args.who c.args.c c.args.place c.args.clause c.args.value c.args.main c.load_cell-word.result c.load_cell-word.result.state v w
-    (offer_found shape c.args.who c.args.c c.args.place v w h.sees l c.args.value (below_seen shape c.args.place 0 c.args.c v w h.sees l c.requires.low) c.load_cell-word.result h.word
-    (used_not c.load_cell-word.result.state (sym c.is_used.ensures ∙ c.if-is_used.true))))
+returns-then-is_used-clause-at c = let h = c.load_cell-word.ensures in
+    subst (λ (z : At). ClauseOfferAt (shape_of c.args.hub.now) c.args.who c.args.c c.args.place c.args.main c.args.clause c.args.value c.args.pass.now.seat.me.0 c.load_cell-word.new.pass.seat.me.0 z) (sym c.found_by_sender.ensures)
+    (clause_offer_found (shape_of c.args.hub.now) c.args.who c.args.c c.args.place c.args.clause c.args.value c.args.main c.load_cell-word.result c.load_cell-word.result.state c.args.pass.now.seat.me.0 c.load_cell-word.new.pass.seat.me.0 (used_offer c.args.hub.now c.load_cell-word.new.pass h.own.0 c.args.c c.args.place c.args.pass.now.seat.me.0 h.sees c.load_cell-word.result h.word c.requires.low (sym c.is_used.ensures ∙ c.if-is_used.true) c.args.who c.args.value))
 
 pub returns-then-place-places_of-clause-at : goal.returns-then-place-places_of-clause-at
-returns-then-place-places_of-clause-at c =
-    let shape = shape_of c.args.hub.now in
-    let v = c.args.pass.now.seat.me.0 in
-    let w = c.load_cell-word.new.pass.seat.me.0 in
-    let h = c.load_cell-word.ensures in
-    let l = hub_legal c.args.hub.now c.load_cell-word.new.pass h.own.0 in (
-      h.sees,
-      offer_spent shape c.args.c c.args.place w.seen l c.load_cell-word.result h.word (unused_free c.load_cell-word.result.state (sym c.is_used.ensures ∙ c.if-is_used.false)) (c.if-place-places_of.true ∙ c.places_of.ensures)
-          (below_seen shape c.args.place 0 c.args.c v w h.sees l c.requires.low),
-    )
+returns-then-place-places_of-clause-at c = let h = c.load_cell-word.ensures in
+    spent_offer c.args.hub.now c.load_cell-word.new.pass h.own.0 c.args.c c.args.place c.args.pass.now.seat.me.0 h.sees c.load_cell-word.result h.word c.requires.low (sym c.is_used.ensures ∙ c.if-is_used.false) (c.if-place-places_of.true ∙ c.places_of.ensures)
 
 pub hold_clause_at-requires-clause-at : goal.hold_clause_at-requires-clause-at
 hold_clause_at-requires-clause-at c = (c.requires.at.0, less_places (shape_of c.args.hub.now) c.args.c c.args.place c.places_of.result c.requires.at.1 c.places_of.ensures c.if-place-places_of.false)

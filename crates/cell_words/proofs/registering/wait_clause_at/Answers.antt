@@ -9,7 +9,7 @@ use Rattle.cell_words.specs.Hubs.{shape_of}
 use Rattle.cell_words.specs.Seen.{Makes}
 use Rattle.cell_words.specs.Clauses.{ClauseReceiveAt}
 use Rattle.cell_words.proofs.MayExchange.{may_by}
-use Rattle.cell_words.proofs.LooksAtCells.{hub_legal, receive_found, number_not, below_seen}
+use Rattle.cell_words.proofs.LooksAtCells.{missed_receive}
 use Rattle.cell_words.proofs.ClausesPlaced.{clause_awaits, clause_word_is, clause_high, main_cell}
 use Rattle.cell_words.proofs.StandsAtPlaces.{clause_receive_found}
 use Rattle.cell_words.proofs.registering.wait_clause_at.Goals as goal
@@ -33,13 +33,6 @@ returns-in-None-clause-at c =
     subst (λ (u : WaitId). Makes c.args.pass.now.seat.me.0 (record { who = c.args.who; act = Await c.args.c c.args.place u c.args.clause }) c.exchange_cell.new.pass.seat.me.0) c.main_at-wait.ensures c.in-None.ensures.told.made
 
 pub returns-in-Some-clause-at : goal.returns-in-Some-clause-at
-returns-in-Some-clause-at c =
-    let shape = shape_of c.args.hub.now in
-    let v = c.args.pass.now.seat.me.0 in
-    let w = c.exchange_cell.new.pass.seat.me.0 in
-    let l = hub_legal c.args.hub.now c.exchange_cell.new.pass c.exchange_cell.ensures.own.0 in
-    let t = c.in-Some.ensures.told in
-    subst (λ (z : At). ClauseReceiveAt shape c.args.who c.args.c c.args.place c.args.main c.args.clause v w z) (sym c.found_by_receiver.ensures)
-    (clause_receive_found shape c.args.who c.args.c c.args.place c.args.clause c.args.main c.in-Some.found c.in-Some.found.state v w
-    (receive_found shape c.args.who c.args.c c.args.place v w t.0 l (below_seen shape 0 c.args.place c.args.c v w t.0 l c.requires.low) c.in-Some.found t.1
-    (number_not shape c.args.c c.args.place w.seen c.in-Some.found _ t.1 c.free_cell.ensures.zero t.2)))
+returns-in-Some-clause-at c = let t = c.in-Some.ensures.told in
+    subst (λ (z : At). ClauseReceiveAt (shape_of c.args.hub.now) c.args.who c.args.c c.args.place c.args.main c.args.clause c.args.pass.now.seat.me.0 c.exchange_cell.new.pass.seat.me.0 z) (sym c.found_by_receiver.ensures)
+    (clause_receive_found (shape_of c.args.hub.now) c.args.who c.args.c c.args.place c.args.clause c.args.main c.in-Some.found c.in-Some.found.state c.args.pass.now.seat.me.0 c.exchange_cell.new.pass.seat.me.0 (missed_receive c.args.hub.now c.exchange_cell.new.pass c.exchange_cell.ensures.own.0 c.args.c c.args.place c.args.pass.now.seat.me.0 t.0 c.in-Some.found t.1 c.requires.low _ c.free_cell.ensures.zero t.2 c.args.who))

@@ -2,16 +2,13 @@ use Rattle.std.proofs.Common.{ℕ, ◌+◌, ◌*◌, sym, ap, refl, subst}
 use Rattle.cell_words.specs.Hubs.{shape_of}
 use Rattle.cell_words.specs.Answers.{HandsTo}
 use Rattle.cell_words.proofs.MayExchange.{may_as, hands}
-use Rattle.cell_words.proofs.LooksAtCells.{hub_legal, below_seen, sees_then}
-use Rattle.cell_words.proofs.ExchangesTell.{sees_turns, receiver_lost, hand_told, hand_lost}
-use Rattle.cell_words.proofs.WaitsResolved.{receiver_seen}
+use Rattle.cell_words.proofs.LooksAtCells.{hub_legal, below_seen}
+use Rattle.cell_words.proofs.ExchangesTell.{sees_turns, hand_told}
+use Rattle.cell_words.proofs.WaitsResolved.{receiver_seen, receiver_resolved, receiver_missed}
 use Rattle.cell_words.proofs.resolving.hand.Goals as goal
 
 pub returns-in-None-clause-handed : goal.returns-in-None-clause-handed
-returns-in-None-clause-handed c =
-    let h = c.requires.first.held in
-    let o = c.owner_of.ensures in
-    (o.sees, receiver_lost (shape_of c.args.hub.now) c.args.pass.now.seat.me.0 c.owner_of.new.pass.seat.me.0 (hub_legal c.args.hub.now c.owner_of.new.pass o.own.0) o.sees c.args.c c.args.place h.who c.args.waiter.clause h.wait c.requires.low c.requires.first.cell (c.in-None.ensures.owner h))
+returns-in-None-clause-handed c = receiver_resolved c.args.hub.now c.owner_of.new.pass c.owner_of.ensures.own.0 c.args.c c.args.place c.args.waiter c.args.pass.now.seat.me.0 c.requires.low c.requires.first c.owner_of.ensures.sees (c.in-None.ensures.owner c.requires.first.held)
 
 pub exchange_wait-requires-clause-may : goal.exchange_wait-requires-clause-may
 exchange_wait-requires-clause-may c =
@@ -38,13 +35,5 @@ returns-in-None-exchange_wait-clause-handed c =
     (sees_turns shape _ _ _ v c.owner_of.new.pass.seat.me.0 w o.sees c.in-None-exchange_wait.ensures.told))
 
 pub returns-in-Some-exchange_wait-clause-handed : goal.returns-in-Some-exchange_wait-clause-handed
-returns-in-Some-exchange_wait-clause-handed c =
-    let shape = shape_of c.args.hub.now in
-    let h = c.requires.first.held in
-    let o = c.owner_of.ensures in
-    let v = c.args.pass.now.seat.me.0 in
-    let w = c.exchange_wait.new.pass.seat.me.0 in
-    let l = hub_legal c.args.hub.now c.exchange_wait.new.pass c.exchange_wait.ensures.own.0 in
-    let t = c.in-Some-exchange_wait.ensures.told in
-    let s = sees_then v c.owner_of.new.pass.seat.me.0 w o.sees t.0 in
-    (s, hand_lost shape v w l c.args.who c.args.c c.args.place c.wait_cell-cell.result _ c.standing_wait.ensures.zero c.requires.at.0 h.who c.args.waiter.clause h.wait c.in-Some-exchange_wait.field-0 h.fits (c.wait_cell-cell.ensures h.who h.wait h.holder) c.requires.low c.requires.first.cell s t.1 t.2)
+returns-in-Some-exchange_wait-clause-handed c = let h = c.requires.first.held in
+    receiver_missed c.args.hub.now c.exchange_wait.new.pass c.exchange_wait.ensures.own.0 c.args.c c.args.place c.args.waiter c.args.pass.now.seat.me.0 c.requires.low c.requires.first c.owner_of.new.pass.seat.me.0 c.owner_of.ensures.sees c.wait_cell-cell.result _ c.standing_wait.ensures.zero (c.wait_cell-cell.ensures h.who h.wait h.holder) c.in-Some-exchange_wait.field-0 c.in-Some-exchange_wait.ensures.told

@@ -2,7 +2,7 @@ use Rattle.std.proofs.Common.{refl, ◌∙◌}
 use Rattle.cell_words.specs.Hubs.{shape_of}
 use Rattle.cell_words.specs.Answers.{held}
 use Rattle.cell_words.proofs.LooksAtCells.{offer_word_is}
-use Rattle.cell_words.proofs.removing.take_admitted.Goals as goal
+use Rattle.cell_words.proofs.removing.remove_admitted.Goals as goal
 
 pub empty-requires-clause-kept : goal.empty-requires-clause-kept
 empty-requires-clause-kept c =
