@@ -15,7 +15,7 @@ use Rattle.channel_model.proofs.Histories.{acts_of-append}
 use Rattle.channel_model.proofs.Spans.{nothing_more, prefix_self}
 use Rattle.floor_tests.specs.declared.other_calls.OtherCall.{OtherCall}
 use Rattle.floor_tests.specs.declared.other_calls.OtherCall.TheVariants.{Nothing, Offer, Receive, Close}
-use Rattle.floor_tests.specs.Meetings.{other, seen_between, HasCalls, CallAnswer, FirstCallAnswer}
+use Rattle.floor_tests.specs.Meetings.{other, seen_between, HasCalls, CallAnswer, FirstCallAnswer, IsLookToUsers}
 
 -- a user is another
 pub not_other : (b : Bool) (who : ℕ) → (b && not (who == other)) ≡ true → who ≢ other
@@ -91,7 +91,7 @@ still who n a = record {
   spare = omega arith;
 }
 
-pub met_looked : (who : ℕ) (a f : Floor) (calls rest : List OtherCall) → who ≢ other → a.alone ≡ true → HasCalls a calls → FirstCallAnswer calls rest a f
+met_looked : (who : ℕ) (a f : Floor) (calls rest : List OtherCall) → who ≢ other → a.alone ≡ true → HasCalls a calls → FirstCallAnswer calls rest a f
     → Looked who (seen_between (length calls) a) (seen_between (length rest) f)
 met_looked who a f [] rest apart alone has h =
     subst (λ (ts : List OtherCall). Looked who (seen_between 0 a) (seen_between (length ts) f)) (sym h.0)
@@ -99,3 +99,6 @@ met_looked who a f [] rest apart alone has h =
 met_looked who a f (call ∷ calls) rest apart alone has h =
     subst (λ (ts : List OtherCall). Looked who (seen_between (length (call ∷ calls)) a) (seen_between (length ts) f)) (sym h.0)
     (call_looked who apart (length (call ∷ calls)) (length calls) (omega arith) a f alone call h.1)
+
+pub met_by_users : (a f : Floor) (calls rest : List OtherCall) → a.alone ≡ true → HasCalls a calls → FirstCallAnswer calls rest a f → IsLookToUsers (length calls) (length rest) a f
+met_by_users a f calls rest alone has h who apart = record { look = met_looked who a f calls rest apart alone has h }

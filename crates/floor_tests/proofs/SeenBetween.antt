@@ -20,54 +20,78 @@ use Rattle.channel_model.specs.declared.floor.Withdrawn.{Withdrawn}
 use Rattle.channel_model.specs.declared.floor.Withdrawn.TheVariants as withdrawn
 use Rattle.channel_model.specs.declared.floor.WaitState.{WaitState}
 use Rattle.channel_model.specs.Channels.{Shape, State}
-use Rattle.channel_model.specs.Histories.{replay}
+use Rattle.channel_model.specs.Histories.{replay, Legal}
 use Rattle.channel_model.specs.Floors.{Floor, SameSetting, Looked, Made, AtStep, AtMoment}
-use Rattle.channel_model.specs.Answers.{OfferAnswer, TriedOfferAnswer, GotAnswer, TriedGotAnswer, CloseAnswer, WakeAnswer, VoidAnswer, DrainAnswer, LookAnswer, SettleAnswer, WithdrawAnswer, MarkAnswer, AdmitAnswer, TrimAnswer, HandedTo, ClosedWith, TakenFrom, IsSpentForOffers, IsSpentForReceives, IsFullAt, IsFullToTry, IsAdmittedBelow, IsTrimmed, outcome_at}
-use Rattle.channel_model.specs.Registers.{RegisterOfferAnswer, RegisterReceiveAnswer, IsMainResolved}
+use Rattle.channel_model.specs.Answers.{OfferAnswer, TriedOfferAnswer, GotAnswer, TriedGotAnswer, CloseAnswer, WakeAnswer, VoidAnswer, DrainAnswer, LookAnswer, SettleAnswer, WithdrawAnswer, MarkAnswer, AdmitAnswer, TrimAnswer, HandedTo, ClosedWith, TakenFrom, IsSpentForOffers, IsSpentForReceives, IsFullAt, IsFullToTry, IsAdmittedBelow, IsTrimmed, IsOwnWait, IsOwn, IsReadyWait, IsReady, IsSeenClosed, IsSeenVoided, outcome_at}
+use Rattle.channel_model.specs.Registers.{MayRegister, RegisterOfferAnswer, RegisterReceiveAnswer, IsMainResolved}
 use Rattle.channel_model.proofs.Spans.{prefix_then}
-use Rattle.floor_tests.specs.Meetings.{other, seen_between}
+use Rattle.channel_model.proofs.Others.{others_keep, own_stays, ready_stays}
+use Rattle.channel_model.proofs.Sound.{channel_lasts, voided_keeps}
+use Rattle.floor_tests.specs.Meetings.{other, seen_between, IsLookTo}
+use Rattle.floor_tests.proofs.EndsLater.{still_closed}
+use Rattle.floor_tests.proofs.JoinsLater.{still_registers}
 
-module _ (who m n : ℕ) (a f g : Floor) (k : Looked who (seen_between m a) (seen_between n f)) where
+-- ---- what stays while the other calls
+
+module _ (who m n : ℕ) (a f : Floor) (k : IsLookTo who m n a f) (legal : Legal f.shape f.seen) where
+  pub own_still : (w : WaitId) → IsOwn who w a → IsOwn who w f
+  own_still w h = others_keep f.shape who (IsOwnWait who) (own_stays who) w a.seen f.seen legal k.look.longer k.look.mine h
+
+  pub ready_still : (w : WaitId) → IsReady who w a → IsReady who w f
+  ready_still w h = others_keep f.shape who (IsReadyWait who) (ready_stays who) w a.seen f.seen legal k.look.longer k.look.mine h
+
+  pub closed_still : (c : ℕ) → IsSeenClosed c a → IsSeenClosed c f
+  closed_still c h = still_closed f.shape c a.seen f.seen legal k.look.longer h
+
+  pub voided_still : (c : ℕ) → IsSeenVoided c a → IsSeenVoided c f
+  voided_still c h = channel_lasts f.shape (λ d ch. ch.voided ≡ true) (voided_keeps f.shape) c a.seen f.seen k.look.longer legal h
+
+  pub registers_still : (j c : ℕ) (main : Option WaitId) → MayRegister who j c main (seen_between m a) → MayRegister who j c main f
+  registers_still j c main h = still_registers who j c main (seen_between m a) f legal k.look.longer k.look.mine h
+
+-- ---- the answer of the call behind it
+
+module _ (who m n : ℕ) (a f g : Floor) (k : IsLookTo who m n a f) where
   abbrev pub setting_behind : SameSetting f g → SameSetting (seen_between m a) (seen_between n g)
   setting_behind s = record {
-    shape = s.shape ∙ k.same.shape;
+    shape = s.shape ∙ k.look.same.shape;
     alone = refl;
-    callers = ap (λ (h : ℕ → Bool). λ t. h t && not (t == other)) s.callers ∙ k.same.callers;
+    callers = ap (λ (h : ℕ → Bool). λ t. h t && not (t == other)) s.callers ∙ k.look.same.callers;
   }
 
   pub looked_behind : Looked who f g → Looked who (seen_between m a) (seen_between n g)
   looked_behind l = record {
     same = setting_behind l.same;
-    longer = prefix_then a.seen f.seen g.seen k.longer l.longer;
-    mine = l.mine ∙ k.mine;
+    longer = prefix_then a.seen f.seen g.seen k.look.longer l.longer;
+    mine = l.mine ∙ k.look.mine;
     alone = λ e. cc;
-    spare = let x = k.spare in let y = l.spare in omega arith;
+    spare = let x = k.look.spare in let y = l.spare in omega arith;
   }
 
   abbrev pub made_behind : (act : Act) → Made who act f g → Made who act (seen_between m a) (seen_between n g)
   made_behind act l = record {
     same = setting_behind l.same;
     before = l.before;
-    longer = prefix_then a.seen f.seen l.before k.longer l.longer;
-    mine = l.mine ∙ k.mine;
+    longer = prefix_then a.seen f.seen l.before k.look.longer l.longer;
+    mine = l.mine ∙ k.look.mine;
     last = l.last;
     alone = λ e. cc;
-    spare = let x = k.spare in let y = l.spare in omega arith;
+    spare = let x = k.look.spare in let y = l.spare in omega arith;
   }
 
   step_behind : (P : State → Type 0) → AtStep f g P → AtStep (seen_between m a) (seen_between n g) P
-  step_behind P x = record { moment = x.moment; after = prefix_then a.seen f.seen x.moment k.longer x.after; before = x.before; holds = x.holds }
+  step_behind P x = record { moment = x.moment; after = prefix_then a.seen f.seen x.moment k.look.longer x.after; before = x.before; holds = x.holds }
 
   -- a fact that names the kinds and the places of the channels
   shaped_behind : (P : Shape → State → Type 0) → AtStep f g (P f.shape) → AtStep (seen_between m a) (seen_between n g) (P a.shape)
-  shaped_behind P x = subst (λ (shape : Shape). AtStep (seen_between m a) (seen_between n g) (P shape)) k.same.shape (step_behind (P f.shape) x)
+  shaped_behind P x = subst (λ (shape : Shape). AtStep (seen_between m a) (seen_between n g) (P shape)) k.look.same.shape (step_behind (P f.shape) x)
 
   moment_behind : (P : State → Type 0) → AtMoment who [] f g P → AtMoment who [] (seen_between m a) (seen_between n g) P
   moment_behind P x = record {
     moment = x.moment;
-    after = prefix_then a.seen f.seen x.moment k.longer x.after;
+    after = prefix_then a.seen f.seen x.moment k.look.longer x.after;
     before = x.before;
-    mine = x.mine ∙ ap (λ (l : List Act). l ++ []) k.mine;
+    mine = x.mine ∙ ap (λ (l : List Act). l ++ []) k.look.mine;
     holds = x.holds;
   }
 
@@ -85,7 +109,7 @@ module _ (who m n : ℕ) (a f g : Floor) (k : Looked who (seen_between m a) (see
   offer_behind c v (offered.Put p) h = made_behind _ h
   offer_behind c v (offered.Held p) h = (
     made_behind _ h.0,
-    subst (λ (shape : Shape). AtMoment who [] (seen_between m a) (seen_between n g) (IsFullAt shape c)) k.same.shape (moment_behind (IsFullAt f.shape c) h.1),
+    subst (λ (shape : Shape). AtMoment who [] (seen_between m a) (seen_between n g) (IsFullAt shape c)) k.look.same.shape (moment_behind (IsFullAt f.shape c) h.1),
   )
   offer_behind c v (offered.Closed x) h = closed_behind c x h
   offer_behind c v offered.Spent h = (looked_behind h.0, shaped_behind (λ shape. IsSpentForOffers shape c) h.1)

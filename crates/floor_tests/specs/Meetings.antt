@@ -1,12 +1,12 @@
 -- What a user sees of a floor on which another coroutine calls in between, and what the other does there.
-use Rattle.std.specs.Prelude.{◌≡◌, ℕ, ◌-◌, ◌<◌, ◌≤◌, ◌^◌, ◌==◌, ◌&&◌, not, nat_lt, Bool, true, false, List, [], ◌∷◌, length, Result}
+use Rattle.std.specs.Prelude.{◌≡◌, ◌≢◌, ℕ, ◌-◌, ◌<◌, ◌≤◌, ◌^◌, ◌==◌, ◌&&◌, not, nat_lt, Bool, true, false, List, [], ◌∷◌, length, Result}
 use Rattle.std.specs.List.{list_all}
 use Rattle.channel_model.specs.declared.floor.Offered.{Offered}
 use Rattle.channel_model.specs.declared.floor.TriedGot.{TriedGot}
 use Rattle.channel_model.specs.declared.floor.AlreadyClosed.{AlreadyClosed}
 use Rattle.channel_model.specs.declared.acts.Kind.TheVariants.{Rendezvous}
 use Rattle.channel_model.specs.Channels.{Shape, kind_at, is_signal}
-use Rattle.channel_model.specs.Floors.{Floor}
+use Rattle.channel_model.specs.Floors.{Floor, Looked}
 use Rattle.channel_model.specs.Answers.{OfferAnswer, TriedGotAnswer, CloseAnswer}
 use Rattle.floor_tests.specs.declared.other_calls.OtherCall.{OtherCall}
 use Rattle.floor_tests.specs.declared.other_calls.OtherCall.TheVariants.{Nothing, Offer, Receive, Close}
@@ -50,6 +50,14 @@ CallAnswer (Close c v) old new = (r : Result (Unit {0}) AlreadyClosed) × CloseA
 abbrev pub FirstCallAnswer : List OtherCall → List OtherCall → Floor → Floor → Type 0
 FirstCallAnswer [] rest old new = (rest ≡ []) × (new ≡ old)
 FirstCallAnswer (call ∷ calls) rest old new = (rest ≡ calls) × CallAnswer call old new
+
+-- this user sees it as a look: others alone made entries, and of m calls of the other n are left
+pub record IsLookTo (who m n : ℕ) (old new : Floor) : Type 0 where
+  pub look : Looked who (seen_between m old) (seen_between n new)
+
+-- each user but the other sees it so
+abbrev pub IsLookToUsers : ℕ → ℕ → Floor → Floor → Type 0
+IsLookToUsers m n old new = (who : ℕ) → who ≢ other → IsLookTo who m n old new
 
 -- two rendezvous channels with four places each
 abbrev pub two_channels : Shape

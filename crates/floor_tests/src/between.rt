@@ -4,7 +4,7 @@ ghost use Rattle.std.specs.Prelude.{◌≡◌, ◌<◌, ◌^◌, true, length, I
 ghost use Rattle.std.specs.List.{list_all};
 ghost use Rattle.std.proofs.Props.{props};
 ghost use Rattle.channel_model.specs.Floors.{HasRoom};
-ghost use Rattle.floor_tests.specs.Meetings.{other, may_meet, HasCalls, FirstCallAnswer};
+ghost use Rattle.floor_tests.specs.Meetings.{other, may_meet, HasCalls, FirstCallAnswer, IsLookToUsers};
 
 use crate::other_calls::{OtherCall, make_next};
 use channel_model::ChannelFloor;
@@ -42,6 +42,8 @@ impl<F: ChannelFloor + Drop> Between<F> {
     pub(crate) fn meet(&mut self)
         ensures anchor { F.anchor self.new.floor ≡ F.anchor self.old.floor }
         ensures answer { FirstCallAnswer self.old.calls.items self.new.calls.items (F.view self.old.floor) (F.view self.new.floor) }
+        ensures users { IsLookToUsers (length self.old.calls.items) (length self.new.calls.items)
+            (F.view self.old.floor) (F.view self.new.floor) }
     {
         make_next(&mut self.floor, &mut self.calls);
     }

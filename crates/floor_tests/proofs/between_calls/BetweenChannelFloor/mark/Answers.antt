@@ -1,11 +1,6 @@
-use Rattle.floor_tests.proofs.CallsOfOther.{not_other, met_looked}
+use Rattle.floor_tests.proofs.CallsOfOther.{not_other}
 use Rattle.floor_tests.proofs.SeenBetween.{mark_behind}
 use Rattle.floor_tests.proofs.between_calls.BetweenChannelFloor.mark.Goals as goal
 
 pub returns-clause-answer : goal.returns-clause-answer
-returns-clause-answer g c =
-    let a = g.F.ChannelFloor.view c.args.self.now.floor in
-    let f = g.F.ChannelFloor.view c.meet.new.self.floor in
-    let b = g.F.ChannelFloor.view c.mark.new.self in
-    let k = met_looked c.args.who a f _ _ (not_other _ _ c.requires.can.caller) c.args.self.now.alone c.args.self.now.has c.meet.ensures.answer in
-    mark_behind c.args.who _ _ a f b k _ _ c.mark.ensures.answer
+returns-clause-answer g c = mark_behind _ _ _ _ _ _ (c.meet.ensures.users _ (not_other _ _ c.requires.can.caller)) _ _ c.mark.ensures.answer

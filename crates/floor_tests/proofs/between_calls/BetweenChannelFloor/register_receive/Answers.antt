@@ -1,22 +1,9 @@
-use Rattle.floor_tests.proofs.CallsOfOther.{not_other, met_looked}
-use Rattle.floor_tests.proofs.SeenBetween.{register_receive_behind}
-use Rattle.std.specs.Prelude.{length}
-use Rattle.floor_tests.specs.Meetings.{seen_between}
-use Rattle.floor_tests.proofs.JoinsLater.{still_registers}
+use Rattle.floor_tests.proofs.CallsOfOther.{not_other}
+use Rattle.floor_tests.proofs.SeenBetween.{registers_still, register_receive_behind}
 use Rattle.floor_tests.proofs.between_calls.BetweenChannelFloor.register_receive.Goals as goal
 
 pub register_receive-requires-clause-joins : goal.register_receive-requires-clause-joins
-register_receive-requires-clause-joins g c =
-    let a = g.F.ChannelFloor.view c.args.self.now.floor in
-    let f = g.F.ChannelFloor.view c.meet.new.self.floor in
-    let k = met_looked c.args.who a f _ _ (not_other _ _ c.requires.can.caller) c.args.self.now.alone c.args.self.now.has c.meet.ensures.answer in
-    let legal = g.met.F.ChannelFloor.legal c.meet.new.self.floor in
-    still_registers c.args.who _ _ c.args.main (seen_between (length c.args.self.now.calls.items) a) f legal k.longer k.mine c.requires.joins
+register_receive-requires-clause-joins g c = registers_still _ _ _ _ _ (c.meet.ensures.users _ (not_other _ _ c.requires.can.caller)) (g.met.F.ChannelFloor.legal c.meet.new.self.floor) _ _ c.args.main c.requires.joins
 
 pub returns-clause-answer : goal.returns-clause-answer
-returns-clause-answer g c =
-    let a = g.F.ChannelFloor.view c.args.self.now.floor in
-    let f = g.F.ChannelFloor.view c.meet.new.self.floor in
-    let b = g.F.ChannelFloor.view c.register_receive.new.self in
-    let k = met_looked c.args.who a f _ _ (not_other _ _ c.requires.can.caller) c.args.self.now.alone c.args.self.now.has c.meet.ensures.answer in
-    register_receive_behind c.args.who _ _ a f b k c.args.main c.args.clause c.args.c _ c.register_receive.ensures.answer
+returns-clause-answer g c = register_receive_behind _ _ _ _ _ _ (c.meet.ensures.users _ (not_other _ _ c.requires.can.caller)) c.args.main c.args.clause c.args.c _ c.register_receive.ensures.answer

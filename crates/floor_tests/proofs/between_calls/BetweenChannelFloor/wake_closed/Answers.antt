@@ -1,20 +1,9 @@
-use Rattle.floor_tests.proofs.CallsOfOther.{not_other, met_looked}
-use Rattle.floor_tests.proofs.SeenBetween.{wake_behind}
-use Rattle.floor_tests.proofs.EndsLater.{still_closed}
+use Rattle.floor_tests.proofs.CallsOfOther.{not_other}
+use Rattle.floor_tests.proofs.SeenBetween.{closed_still, wake_behind}
 use Rattle.floor_tests.proofs.between_calls.BetweenChannelFloor.wake_closed.Goals as goal
 
 pub wake_closed-requires-clause-closed : goal.wake_closed-requires-clause-closed
-wake_closed-requires-clause-closed g c =
-    let a = g.F.ChannelFloor.view c.args.self.now.floor in
-    let f = g.F.ChannelFloor.view c.meet.new.self.floor in
-    let k = met_looked c.args.who a f _ _ (not_other _ _ c.requires.can.caller) c.args.self.now.alone c.args.self.now.has c.meet.ensures.answer in
-    let legal = g.met.F.ChannelFloor.legal c.meet.new.self.floor in
-    still_closed f.shape c.args.c a.seen f.seen legal k.longer c.requires.closed
+wake_closed-requires-clause-closed g c = closed_still c.args.who _ _ _ _ (c.meet.ensures.users c.args.who (not_other _ _ c.requires.can.caller)) (g.met.F.ChannelFloor.legal c.meet.new.self.floor) _ c.requires.closed
 
 pub returns-clause-answer : goal.returns-clause-answer
-returns-clause-answer g c =
-    let a = g.F.ChannelFloor.view c.args.self.now.floor in
-    let f = g.F.ChannelFloor.view c.meet.new.self.floor in
-    let b = g.F.ChannelFloor.view c.wake_closed.new.self in
-    let k = met_looked c.args.who a f _ _ (not_other _ _ c.requires.can.caller) c.args.self.now.alone c.args.self.now.has c.meet.ensures.answer in
-    wake_behind c.args.who _ _ a f b k _ _ c.wake_closed.ensures.answer
+returns-clause-answer g c = wake_behind _ _ _ _ _ _ (c.meet.ensures.users _ (not_other _ _ c.requires.can.caller)) _ _ c.wake_closed.ensures.answer
