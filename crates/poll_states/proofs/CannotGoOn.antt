@@ -44,6 +44,7 @@ use Rattle.script_meaning.specs.Bodies.{is_over, is_fresh}
 use Rattle.script_meaning.specs.Lines.{After, AfterAwait, AtScopeEnd, AfterScope}
 use Rattle.script_meaning.specs.Moves.{Move}
 use Rattle.script_meaning.proofs.BodiesOpen.{runs_ends}
+use Rattle.poll_states.proofs.EndedWaits.{after_stage}
 
 -- ---- moments of a call in which nobody made an entry
 
@@ -77,22 +78,7 @@ channel_now c c' P same step = subst (λ es. P (replay es)) (between_same c.seen
 -- ---- a coroutine that has not begun
 
 after_begun : (p : Program) (k : ℕ) (x : Config) (i : Instruction) (a : Answer) (y : Config) → is_fresh x.stage ≡ false → After p k x i a y → is_fresh y.stage ≡ false
-after_begun p k x _ _ _ o (After.waits i w) = refl
-after_begun p k x _ _ _ o (After.no_place i) = refl
-after_begun p k x _ _ _ o (After.sent c v) = refl
-after_begun p k x _ _ _ o (After.tried_to_send c v) = refl
-after_begun p k x _ _ _ o (After.got c v) = refl
-after_begun p k x _ _ _ o (After.no_more c v) = refl
-after_begun p k x _ _ _ o (After.tried_and_got c v) = refl
-after_begun p k x _ _ _ o (After.tried_to_get c) = refl
-after_begun p k x _ _ _ o (After.got_one_more c v) = refl
-after_begun p k x _ _ _ o (After.got_all c v e is) = refl
-after_begun p k x _ _ _ o (After.chose_send e is) = refl
-after_begun p k x _ _ _ o (After.chose_got e v is) = refl
-after_begun p k x _ _ _ o (After.chose_closed e v is) = refl
-after_begun p k x _ _ _ o After.looks_again = o
-after_begun p k x _ _ _ o (After.joined job v) = refl
-after_begun p k x _ _ _ o (After.awaited job v) = refl
+after_begun = after_stage is_fresh (λ w. refl) (λ failure. refl) refl refl
 
 await_begun : (x : Config) (end : End) (y : Config) → AfterAwait x end y → is_fresh y.stage ≡ false
 await_begun x _ _ (AfterAwait.completed v) = refl

@@ -41,7 +41,8 @@ use Rattle.script_meaning.proofs.WaitsEnd.{wait_ends, after_wait_none}
 use Rattle.script_meaning.proofs.WaitsGivenUp.{given_up_end, dispatched}
 use Rattle.script_grammar.specs.declared.instructions.Instruction.{Instruction}
 use Rattle.script_grammar.specs.Programs.{Program}
-use Rattle.script_meaning.specs.declared.stage.Stage.TheVariants.{Waiting, Unwinding}
+use Rattle.script_meaning.specs.declared.stage.Stage.{Stage}
+use Rattle.script_meaning.specs.declared.stage.Stage.TheVariants.{Running, Waiting, SeesJob, Unwinding}
 use Rattle.script_meaning.specs.Shapes.{base_of}
 use Rattle.script_meaning.specs.Configs.{Config, LineIs, at_stage, innermost}
 use Rattle.script_meaning.specs.Lines.{After, Resumed}
@@ -148,27 +149,29 @@ answer_told w _ _ (Resumed.value n v) = refl
 answer_told w _ _ (Resumed.sent n) = refl
 answer_told w _ _ (Resumed.closed n v) = refl
 
--- a line does not end the body
-after_open : (p : Program) (k : ℕ) (x : Config) (i : Instruction) (a : Answer) (y : Config) → is_over x.stage ≡ false → After p k x i a y → is_over y.stage ≡ false
-after_open p k x _ _ _ o (After.waits i w) = refl
-after_open p k x _ _ _ o (After.no_place i) = refl
-after_open p k x _ _ _ o (After.sent c v) = refl
-after_open p k x _ _ _ o (After.tried_to_send c v) = refl
-after_open p k x _ _ _ o (After.got c v) = refl
-after_open p k x _ _ _ o (After.no_more c v) = refl
-after_open p k x _ _ _ o (After.tried_and_got c v) = refl
-after_open p k x _ _ _ o (After.tried_to_get c) = refl
-after_open p k x _ _ _ o (After.got_one_more c v) = refl
-after_open p k x _ _ _ o (After.got_all c v e is) = refl
-after_open p k x _ _ _ o (After.chose_send e is) = refl
-after_open p k x _ _ _ o (After.chose_got e v is) = refl
-after_open p k x _ _ _ o (After.chose_closed e v is) = refl
-after_open p k x _ _ _ o After.looks_again = o
-after_open p k x _ _ _ o (After.joined job v) = refl
-after_open p k x _ _ _ o (After.awaited job v) = refl
+-- what is false of a stage, and of each that an answer leads to, is false after the answer
+pub after_stage : (test : Stage → Bool) → ((w : WaitId) → test (Waiting w) ≡ false) → ((failure : Option ℕ) → test (Unwinding failure) ≡ false) → test Running ≡ false → test SeesJob ≡ false
+    → (p : Program) (k : ℕ) (x : Config) (i : Instruction) (a : Answer) (y : Config) → test x.stage ≡ false → After p k x i a y → test y.stage ≡ false
+after_stage test waits unwinds runs sees p k x _ _ _ o (After.waits i w) = waits w
+after_stage test waits unwinds runs sees p k x _ _ _ o (After.no_place i) = unwinds (Some k)
+after_stage test waits unwinds runs sees p k x _ _ _ o (After.sent c v) = runs
+after_stage test waits unwinds runs sees p k x _ _ _ o (After.tried_to_send c v) = runs
+after_stage test waits unwinds runs sees p k x _ _ _ o (After.got c v) = runs
+after_stage test waits unwinds runs sees p k x _ _ _ o (After.no_more c v) = runs
+after_stage test waits unwinds runs sees p k x _ _ _ o (After.tried_and_got c v) = runs
+after_stage test waits unwinds runs sees p k x _ _ _ o (After.tried_to_get c) = runs
+after_stage test waits unwinds runs sees p k x _ _ _ o (After.got_one_more c v) = runs
+after_stage test waits unwinds runs sees p k x _ _ _ o (After.got_all c v e is) = runs
+after_stage test waits unwinds runs sees p k x _ _ _ o (After.chose_send e is) = runs
+after_stage test waits unwinds runs sees p k x _ _ _ o (After.chose_got e v is) = runs
+after_stage test waits unwinds runs sees p k x _ _ _ o (After.chose_closed e v is) = runs
+after_stage test waits unwinds runs sees p k x _ _ _ o After.looks_again = o
+after_stage test waits unwinds runs sees p k x _ _ _ o (After.joined job v) = runs
+after_stage test waits unwinds runs sees p k x _ _ _ o (After.awaited job v) = sees
 
+-- a line does not end the body
 ends_open : (p : Program) (k : ℕ) (x : Config) (i : Instruction) (outcome : Settled) → is_over x.stage ≡ false → WaitEnds p k x i outcome → is_over (after_wait p k x i outcome).stage ≡ false
-ends_open p k x i _ o (WaitEnds.answered outcome a r after) = after_open p k x i a _ o after
+ends_open p k x i _ o (WaitEnds.answered outcome a r after) = after_stage is_over (λ w. refl) (λ failure. refl) refl refl p k x i a _ o after
 ends_open p k x i _ o WaitEnds.taken_back = refl
 
 -- the wait ended as its line says, and the body did not end by it

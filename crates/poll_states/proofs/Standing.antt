@@ -36,7 +36,7 @@ use Rattle.script_meaning.proofs.InsideCode.{reach_fits, end_closes}
 use Rattle.script_meaning.proofs.OneWait.{just_the_wait, wait_in_floor}
 use Rattle.script_meaning.proofs.OwnActs.{attached_within}
 use Rattle.script_meaning.proofs.OwnRows.{own_tag, owns_body, may_end_body, not_new_attached, not_new_started}
-use Rattle.script_meaning.proofs.BodiesOpen.{Knows, runs_ends, runs_live, runs_scopes, innermost_live, innermost_attached, innermost_tag, innermost_body, innermost_reason, shape_fits}
+use Rattle.script_meaning.proofs.BodiesOpen.{Knows, runs_ends, runs_live, innermost_live, innermost_attached, innermost_body, innermost_reason, shape_fits}
 use Rattle.script_meaning.proofs.BodiesOpen as known
 use Rattle.script_reader.specs.declared.script.Coroutine.{Coroutine}
 use Rattle.script_reader.specs.declared.script.Script.{Script}
