@@ -17,27 +17,7 @@ pub(crate) struct Four {
     pub d: Share,
 }
 
-/// The work of two shares, one after the other.
-fn in_turn(
-    forest: &Forest,
-    coroutines: u16,
-    alloc: Global,
-    a: Share,
-    b: Share,
-    work: Work,
-) -> (Share, Share)
-    requires size { forest.now.size.coroutines ≡ coroutines }
-    requires a { IsShare forest.now a }
-    requires b { IsShare forest.now b }
-    ensures a { IsShare forest.now result.0 }
-    ensures b { IsShare forest.now result.1 }
-{
-    let a = run(forest, coroutines, alloc, a, work);
-    let b = run(forest, coroutines, alloc, b, work);
-    (a, b)
-}
-
-/// The work of two shares, by a thread each.
+/// The work of two shares, one after the other, or at once by a thread each.
 fn by_two<R: Threads + Wait + Sync>(
     rt: &R,
     forest: &Forest,
@@ -46,6 +26,7 @@ fn by_two<R: Threads + Wait + Sync>(
     a: Share,
     b: Share,
     work: Work,
+    at_once: bool,
 ) -> (Share, Share)
     requires size { forest.now.size.coroutines ≡ coroutines }
     requires a { IsShare forest.now a }
@@ -53,11 +34,16 @@ fn by_two<R: Threads + Wait + Sync>(
     ensures a { IsShare forest.now result.0 }
     ensures b { IsShare forest.now result.1 }
 {
-    join(
-        rt,
-        || run(forest, coroutines, alloc, a, work),
-        || run(forest, coroutines, alloc, b, work),
-    )
+    if at_once {
+        return join(
+            rt,
+            || run(forest, coroutines, alloc, a, work),
+            || run(forest, coroutines, alloc, b, work),
+        );
+    }
+    let a = run(forest, coroutines, alloc, a, work);
+    let b = run(forest, coroutines, alloc, b, work);
+    (a, b)
 }
 
 /// The work of four shares, by so many threads, which are one, two or four.
@@ -82,30 +68,23 @@ pub(crate) fn work_by<R: Threads + Wait + Sync>(
 {
     let Four { a, b, c, d } = four;
     if threads == 1 {
-        let (a, b) = in_turn(forest, coroutines, alloc, a, b, work);
-        let (c, d) = in_turn(forest, coroutines, alloc, c, d, work);
+        let (a, b) = by_two(rt, forest, coroutines, alloc, a, b, work, false);
+        let (c, d) = by_two(rt, forest, coroutines, alloc, c, d, work, false);
         return Four { a, b, c, d };
     }
-    if threads == 2 {
-        let ((a, b), (c, d)) = join(
-            rt,
-            || in_turn(forest, coroutines, alloc, a, b, work),
-            || in_turn(forest, coroutines, alloc, c, d, work),
-        );
-        return Four { a, b, c, d };
-    }
+    let four_threads = threads != 2;
     let ((a, b), (c, d)) = join(
         rt,
         || -> (Share, Share)
             requires size { forest.now.size.coroutines ≡ coroutines }
             requires first { IsShare forest.now a }
             requires second { IsShare forest.now b }
-        { by_two(rt, forest, coroutines, alloc, a, b, work) },
+        { by_two(rt, forest, coroutines, alloc, a, b, work, four_threads) },
         || -> (Share, Share)
             requires size { forest.now.size.coroutines ≡ coroutines }
             requires first { IsShare forest.now c }
             requires second { IsShare forest.now d }
-        { by_two(rt, forest, coroutines, alloc, c, d, work) },
+        { by_two(rt, forest, coroutines, alloc, c, d, work, four_threads) },
     );
     Four { a, b, c, d }
 }

@@ -98,26 +98,14 @@ fn work(hub: &Hub, caller: Caller, times: u32) -> Caller
     Caller { pass, who, met }
 }
 
-/// The work of two, one after the other.
-fn in_turn(hub: &Hub, a: Caller, b: Caller, times: u32) -> (Caller, Caller)
-    requires channel { CarriesElements hub.now }
-    requires a { IsOwn hub.now a.pass a.who }
-    requires b { IsOwn hub.now b.pass b.who }
-    ensures a { IsOwn hub.now result.0.pass result.0.who }
-    ensures b { IsOwn hub.now result.1.pass result.1.who }
-{
-    let a = work(hub, a, times);
-    let b = work(hub, b, times);
-    (a, b)
-}
-
-/// The work of two, by a thread each.
+/// The work of two, one after the other, or at once by a thread each.
 fn by_two<R: Threads + Wait + Sync>(
     rt: &R,
     hub: &Hub,
     a: Caller,
     b: Caller,
     times: u32,
+    at_once: bool,
 ) -> (Caller, Caller)
     requires channel { CarriesElements hub.now }
     requires a { IsOwn hub.now a.pass a.who }
@@ -125,7 +113,12 @@ fn by_two<R: Threads + Wait + Sync>(
     ensures a { IsOwn hub.now result.0.pass result.0.who }
     ensures b { IsOwn hub.now result.1.pass result.1.who }
 {
-    join(rt, || work(hub, a, times), || work(hub, b, times))
+    if at_once {
+        return join(rt, || work(hub, a, times), || work(hub, b, times));
+    }
+    let a = work(hub, a, times);
+    let b = work(hub, b, times);
+    (a, b)
 }
 
 /// The work of four, by so many threads, which are none, one, two or four.
@@ -147,30 +140,23 @@ pub(crate) fn work_by<R: Threads + Wait + Sync>(
     }
     let Four { a, b, c, d } = four;
     if threads == 1 {
-        let (a, b) = in_turn(hub, a, b, times);
-        let (c, d) = in_turn(hub, c, d, times);
+        let (a, b) = by_two(rt, hub, a, b, times, false);
+        let (c, d) = by_two(rt, hub, c, d, times, false);
         return Four { a, b, c, d };
     }
-    if threads == 2 {
-        let ((a, b), (c, d)) = join(
-            rt,
-            || in_turn(hub, a, b, times),
-            || in_turn(hub, c, d, times),
-        );
-        return Four { a, b, c, d };
-    }
+    let four_threads = threads != 2;
     let ((a, b), (c, d)) = join(
         rt,
         || -> (Caller, Caller)
             requires channel { CarriesElements hub.now }
             requires first { IsOwn hub.now a.pass a.who }
             requires second { IsOwn hub.now b.pass b.who }
-        { by_two(rt, hub, a, b, times) },
+        { by_two(rt, hub, a, b, times, four_threads) },
         || -> (Caller, Caller)
             requires channel { CarriesElements hub.now }
             requires first { IsOwn hub.now c.pass c.who }
             requires second { IsOwn hub.now d.pass d.who }
-        { by_two(rt, hub, c, d, times) },
+        { by_two(rt, hub, c, d, times, four_threads) },
     );
     Four { a, b, c, d }
 }
