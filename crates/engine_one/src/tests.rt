@@ -13,43 +13,6 @@ use std::sync::Wait;
 use std::test::Fail;
 use std::thread::Threads;
 
-/// Three coroutines send to four that add up, in a scope that ends before the channel is closed.
-const SCOPE_OF_SENDERS: &str = "\
-channel a buffered
-coroutine p
-repeat 2500
-send a 2
-end
-end
-coroutine q
-repeat 5000
-send a 1
-end
-end
-coroutine c
-each a
-end
-result sum
-end
-coroutine main
-async c as c1
-async c as c2
-async c as c3
-async c as c4
-scope
-launch p
-launch p
-launch q
-end
-close a
-await c1
-await c2
-await c3
-await c4
-result sum
-end
-";
-
 /// A select receives what two coroutines of a scope send.
 const SELECT_IN_A_SCOPE: &str = "\
 channel a rendezvous
@@ -127,13 +90,6 @@ fn comes_to<R: Threads + Wait + Sync>(
 #[test]
 fn any_number_of_workers_comes_to_the_same(rt: HostRuntime) -> Result<(), Fail> {
     let alloc = rt.alloc();
-    let senders = script_of(alloc, SCOPE_OF_SENDERS)?;
-    assert_eq!(rt; senders.coroutines(), 8);
-    assert_eq!(rt; senders.scopes(), 1);
-    let wanted = (Some(End::Completed(15_000)), 8, 10_000);
-    assert_eq!(rt; comes_to(&rt, alloc, &senders, 1)?, wanted);
-    assert_eq!(rt; comes_to(&rt, alloc, &senders, 4)?, wanted);
-    assert_eq!(rt; comes_to(&rt, alloc, &senders, 16)?, wanted);
     let select = script_of(alloc, SELECT_IN_A_SCOPE)?;
     assert_eq!(rt; select.coroutines(), 3);
     assert_eq!(rt; select.scopes(), 1);

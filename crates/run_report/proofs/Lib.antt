@@ -1,5 +1,6 @@
 pub mod Rows
 pub mod Answered
+pub mod Joining
 pub mod Told
 pub mod Said
 pub mod Deduced

@@ -1,5 +1,5 @@
 -- What an act says of a row, with what those before and after it say.
-use Rattle.std.proofs.Common.{◌≡◌, ℕ, ◌==◌, Bool, true, false, ◌&&◌, ◌||◌, List, [], ◌∷◌, ◌++◌, Option, Some, None, if◌then◌else◌, refl, sym, ap, ◌∙◌}
+use Rattle.std.proofs.Common.{◌≡◌, ℕ, ◌==◌, Bool, true, false, ◌&&◌, ◌||◌, List, [], ◌∷◌, ◌++◌, Some, None, if◌then◌else◌, refl, sym, ap, ◌∙◌}
 use Rattle.std.specs.Option.{option_or}
 use Rattle.std.proofs.Math.Bool.{or-false, or_assoc}
 use Rattle.job_model.specs.declared.acts.End.{End}
@@ -10,17 +10,10 @@ use Rattle.note_book.specs.declared.book.Item.{Item}
 use Rattle.note_book.specs.declared.book.Item.TheVariants as item
 use Rattle.note_book.specs.Items.{job_acts_in}
 use Rattle.run_report.specs.declared.job_facts.JobFacts.{JobFacts}
+use Rattle.run_report.proofs.Joining.{option_or-none, option_or-assoc}
 use Rattle.run_report.specs.JobFacts.{act_noted, nothing_said, job_facts_of, both_said, said_of}
 
 -- ---- joining
-
-option_or-none : {A : Type 0} (x : Option A) → option_or x None ≡ x
-option_or-none None = refl
-option_or-none (Some x) = refl
-
-option_or-assoc : {A : Type 0} (x y z : Option A) → option_or (option_or x y) z ≡ option_or x (option_or y z)
-option_or-assoc None y z = refl
-option_or-assoc (Some x) y z = refl
 
 pub both_said-nothing : (x : JobFacts) → both_said x nothing_said ≡ x
 both_said-nothing x = λ i. record {

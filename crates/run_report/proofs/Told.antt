@@ -8,23 +8,16 @@ use Rattle.co_base.specs.declared.names.WaitId.{WaitId}
 use Rattle.channel_model.specs.Channels.{same_wait}
 use Rattle.channel_model.specs.Fates.{is_at, or_else, is_value, is_undelivered}
 use Rattle.run_report.specs.declared.facts.Facts.{Facts}
+use Rattle.run_report.proofs.Joining.{option_or-none, option_or-assoc}
 use Rattle.run_report.specs.Facts.{nothing, facts_of, joined, told, told_at}
 
 -- ---- joining
 
-or_else-none : {A : Type 0} (x : Option A) → or_else x None ≡ x
-or_else-none None = refl
-or_else-none (Some x) = refl
-
-or_else-assoc : {A : Type 0} (x y z : Option A) → or_else (or_else x y) z ≡ or_else x (or_else y z)
-or_else-assoc None y z = refl
-or_else-assoc (Some x) y z = refl
-
 pub joined-nothing : (x : Facts) → joined x nothing ≡ x
 joined-nothing x = λ i. record {
-  element = or_else-none x.element i;
-  wait = or_else-none x.wait i;
-  clause = or_else-none x.clause i;
+  element = option_or-none x.element i;
+  wait = option_or-none x.wait i;
+  clause = option_or-none x.clause i;
   handed = or-false x.handed i;
   taken = or-false x.taken i;
   admitted = or-false x.admitted i;
@@ -37,9 +30,9 @@ joined-nothing x = λ i. record {
 
 pub joined-assoc : (x y z : Facts) → joined (joined x y) z ≡ joined x (joined y z)
 joined-assoc x y z = λ i. record {
-  element = or_else-assoc x.element y.element z.element i;
-  wait = or_else-assoc x.wait y.wait z.wait i;
-  clause = or_else-assoc x.clause y.clause z.clause i;
+  element = option_or-assoc x.element y.element z.element i;
+  wait = option_or-assoc x.wait y.wait z.wait i;
+  clause = option_or-assoc x.clause y.clause z.clause i;
   handed = or_assoc x.handed y.handed z.handed i;
   taken = or_assoc x.taken y.taken z.taken i;
   admitted = or_assoc x.admitted y.admitted z.admitted i;

@@ -1,10 +1,11 @@
 -- What the acts say of one place, and of the wait that is named by it.
 use Rattle.std.specs.Prelude.{ℕ, true, false, ◌||◌, List, Option, Some, None, if◌then◌else◌}
 use Rattle.std.specs.List.{list_any}
+use Rattle.std.specs.Option.{option_or}
 use Rattle.channel_model.specs.declared.acts.Act.{Act}
 use Rattle.channel_model.specs.declared.acts.Act.TheVariants.{Hand, Put, Offer, Await, Take, Admit, Drop, Close, Void, Drain, WakeClosed, Withdraw, Settle}
 use Rattle.co_base.specs.declared.names.WaitId.{WaitId}
-use Rattle.channel_model.specs.Fates.{is_at, or_else, first_some, element_at, wait_at, offers_at, hands, takes, admits, drops_at, drains, withdraws, is_value, is_undelivered, settles_value, settles_undelivered}
+use Rattle.channel_model.specs.Fates.{is_at, first_some, element_at, wait_at, offers_at, hands, takes, admits, drops_at, drains, withdraws, is_value, is_undelivered, settles_value, settles_undelivered}
 use Rattle.run_report.specs.declared.facts.Facts.{Facts}
 
 -- what no act says anything of
@@ -44,9 +45,9 @@ facts_of c p acts =
 -- what the one says and then the other
 abbrev pub joined : Facts → Facts → Facts
 joined x y = record {
-  element = or_else x.element y.element;
-  wait = or_else x.wait y.wait;
-  clause = or_else x.clause y.clause;
+  element = option_or x.element y.element;
+  wait = option_or x.wait y.wait;
+  clause = option_or x.clause y.clause;
   handed = x.handed || y.handed;
   taken = x.taken || y.taken;
   admitted = x.admitted || y.admitted;

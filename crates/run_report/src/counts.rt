@@ -1,10 +1,9 @@
 //! How many Jobs there were and how they ended, and what became of how many elements.
 
-ghost use Rattle.std.specs.Prelude.{◌≡◌, ◌<◌, ◌≤◌, ◌+◌, ◌*◌, length, map};
+ghost use Rattle.std.specs.Prelude.{◌≡◌, ◌<◌, ◌+◌, ◌*◌, length, map};
 ghost use Rattle.script_reader.specs.Programs.{declared_of};
-ghost use Rattle.run_report.specs.JobFacts.{facts_at};
 ghost use Rattle.run_report.specs.Known.{element_in};
-ghost use Rattle.run_report.specs.Summaries.{HasElementsUpTo, HasJobsUpTo, no_elements, no_jobs, with_channels, with_element, with_job, with_place, with_places};
+ghost use Rattle.run_report.specs.Summaries.{HasElementsUpTo, HasJobsUpTo, no_elements, with_channels, with_element, with_job, with_place, with_places};
 ghost use Rattle.run_report.specs.Counted.{rows_counted, with_row_by};
 
 use crate::fates::Known;

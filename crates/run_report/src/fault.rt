@@ -1,6 +1,6 @@
 //! The line that a text which is no script is answered with.
 
-ghost use Rattle.std.specs.Prelude.{◌≡◌, ◌≢◌, IfOk, Some, ℕ, List};
+ghost use Rattle.std.specs.Prelude.{◌≡◌, ◌≢◌, IfOk, Some};
 ghost use Rattle.script_grammar.specs.declared.fault.FaultKind.TheVariants.{Memory as NoMemory};
 ghost use Rattle.run_report.specs.Faults.{fault_text, kind_text};
 

@@ -1,6 +1,6 @@
 //! A value for each place of each channel.
 
-ghost use Rattle.std.specs.Prelude.{◌≡◌, ◌<◌, ◌≤◌, ℕ, [], length, slice_index_or, vec_len, OnOk, if◌then◌else◌};
+ghost use Rattle.std.specs.Prelude.{◌≡◌, ◌<◌, ◌≤◌, ℕ, [], slice_index_or, vec_len, OnOk, if◌then◌else◌};
 ghost use Rattle.channel_model.specs.Fates.{is_at};
 ghost use Rattle.run_report.specs.Tables.{lists_of};
 
