@@ -1,15 +1,18 @@
 -- What the source gave is all that it had, and what is answered to it.
-use Rattle.std.specs.Prelude.{◌≡◌, ℕ, ◌≤◌, List, length, refl}
+use Rattle.std.specs.Prelude.{◌≡◌, ℕ, ◌≤◌, true, List, length, Some, refl}
 use Rattle.std.proofs.Common.{arith}
-use Rattle.co_base.specs.Streams.{Gave, GaveJust, IsDrained}
+use Rattle.co_base.specs.Streams.{Gave, GaveJust, IsDrained, Rose}
 use Rattle.script_grammar.specs.Canonical.{canonical_text}
 use Rattle.script_grammar.specs.Programs.{Program}
-use Rattle.script_reader.specs.Scripts.{program_of}
 use Rattle.coroutine_cli.specs.declared.input.Input.{Input}
 use Rattle.coroutine_cli.specs.declared.input.Input.TheVariants as input
 use Rattle.coroutine_cli.specs.declared.status.Ending.TheVariants as ending
+use Rattle.coroutine_cli.specs.declared.status.NoAnswer.{NoAnswer}
+use Rattle.coroutine_cli.specs.declared.status.NoAnswer.TheVariants as reasons
+use Rattle.coroutine_cli.specs.declared.words.Command.{Command}
+use Rattle.coroutine_cli.specs.Commands.{reads}
 use Rattle.coroutine_cli.specs.Statuses.{Stream, Checked, Ran, Refuses, ServesInput}
-use Rattle.coroutine_cli.specs.Preparing.{GaveScript, Gives, Says}
+use Rattle.coroutine_cli.specs.Preparing.{GaveScript, Gives, HasNoAnswer, Says}
 
 -- bytes that the source gave, which say this
 pub gave : (i : Input) (bytes : List ℕ) (source source' : Stream) → Gave source.bytes source'.bytes bytes → (length bytes ≤ 1048576 → IsDrained source'.bytes) → Says bytes i → Gives source source' i
@@ -31,3 +34,9 @@ refuses_check line source source' m = record { input = m.input; given = m.given;
 pub checks : (made : List ℕ) (p : Program) (source source' : Stream) → made ≡ canonical_text p → GaveScript source source' p → ServesInput (Checked ending.Completed) source source' (λ text. made ≡ text)
 checks made p source source' is g =
     record { input = g.input; given = g.given; all = g.all; text = made; answers = record { program = p; spelled = g.spelled; is_canonical = is }; taken = refl }
+
+-- why there is no input for a command that reads
+pub no_input : (command : Command) (source source' : Stream) (why : NoAnswer) → reads command ≡ true → (why ≡ reasons.Refused → ⊥) → (why ≡ reasons.ReadFault → Rose source.faults source'.faults) → HasNoAnswer (Some command) source source' why
+no_input command source source' reasons.Refused is accepted rose = absurd (accepted refl)
+no_input command source source' reasons.ReadFault is accepted rose = (is, rose refl)
+no_input command source source' reasons.Memory is accepted rose = tt

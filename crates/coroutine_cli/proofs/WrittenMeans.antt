@@ -1,5 +1,5 @@
 -- What it means that the answer to a command was written, or a part of it.
-use Rattle.std.specs.Prelude.{◌≡◌, ℕ, List, Some}
+use Rattle.std.specs.Prelude.{◌≡◌, ℕ, List, Option, Some, None}
 use Rattle.std.proofs.Common.{subst, sym}
 use Rattle.co_base.specs.Streams.{Took, TookPart}
 use Rattle.coroutine_cli.specs.declared.words.Command.{Command}
@@ -8,6 +8,8 @@ use Rattle.coroutine_cli.specs.declared.status.Ending.{Ending}
 use Rattle.coroutine_cli.specs.declared.status.Ending.TheVariants as ending
 use Rattle.coroutine_cli.specs.declared.status.Status.{Status}
 use Rattle.coroutine_cli.specs.declared.status.Status.TheVariants as status
+use Rattle.coroutine_cli.specs.declared.answer.Answer.{Answer}
+use Rattle.coroutine_cli.specs.Preparing.{IsAnswer}
 use Rattle.coroutine_cli.specs.Statuses.{Means, Serves, Stream, Writes, status_of}
 use Rattle.coroutine_cli.specs.Writing.{IsWritten}
 
@@ -30,7 +32,7 @@ whole s command how made source source' sink sink' m w =
     subst (λ st. Means st (Some command) source source' sink sink') (sym w.0)
     (written_means how command source source' sink sink' (serves_with command how source source' made (λ text. Took sink.bytes sink'.bytes text) m w.1))
 
-pub means : (s : Status) (command : Command) (how : Ending) (made : List ℕ) (source source' sink sink' : Stream) → Serves command how source source' (λ text. made ≡ text) → IsWritten how made sink sink' s
+means : (s : Status) (command : Command) (how : Ending) (made : List ℕ) (source source' sink sink' : Stream) → Serves command how source source' (λ text. made ≡ text) → IsWritten how made sink sink' s
     → Means s (Some command) source source' sink sink'
 means status.WriteFault command how made source source' sink sink' m w =
     record { rose = w.0; how = how; serves = serves_with command how source source' made (λ text. TookPart text sink.bytes sink'.bytes) m w.1 }
@@ -41,3 +43,8 @@ means status.NoScript command how made source source' sink sink' m w = whole sta
 means status.Unfinished command how made source source' sink sink' m w = whole status.Unfinished command how made source source' sink sink' m w
 means status.ReadFault command how made source source' sink sink' m w = whole status.ReadFault command how made source source' sink sink' m w
 means status.NoMemory command how made source source' sink sink' m w = whole status.NoMemory command how made source source' sink sink' m w
+
+pub answer_means : (s : Status) (asked : Option Command) (answer : Answer) (source source' sink sink' : Stream) → IsAnswer asked source source' answer → IsWritten answer.ending answer.text.items sink sink' s
+    → Means s asked source source' sink sink'
+answer_means s None answer source source' sink sink' m w = absurd m
+answer_means s (Some command) answer source source' sink sink' m w = means s command answer.ending answer.text.items source source' sink sink' m w

@@ -1,5 +1,5 @@
 -- What is known of a call before a script is run, and behind that.
-use Rattle.std.specs.Prelude.{◌≡◌, ℕ, ◌≤◌, List, length}
+use Rattle.std.specs.Prelude.{◌≡◌, ℕ, ◌≤◌, List, length, Option, Some, None, Result, MatchResult}
 use Rattle.co_base.specs.Streams.{Gave, IsDrained}
 use Rattle.note_book.specs.declared.book.Item.{Item}
 use Rattle.script_grammar.specs.Programs.{Program}
@@ -8,13 +8,17 @@ use Rattle.script_grammar.specs.Generated.{generated}
 use Rattle.script_reader.specs.Scripts.{program_of}
 use Rattle.run_report.specs.Elements.{report_text}
 use Rattle.run_report.specs.Summaries.{summary_text}
+use Rattle.coroutine_cli.specs.declared.answer.Answer.{Answer}
 use Rattle.coroutine_cli.specs.declared.input.Input.{Input}
 use Rattle.coroutine_cli.specs.declared.input.Input.TheVariants as input
 use Rattle.coroutine_cli.specs.declared.prepare.Prepared.{Prepared}
 use Rattle.coroutine_cli.specs.declared.prepare.Prepared.TheVariants as prepared
+use Rattle.coroutine_cli.specs.declared.status.NoAnswer.{NoAnswer}
+use Rattle.coroutine_cli.specs.declared.status.NoAnswer.TheVariants as reasons
 use Rattle.coroutine_cli.specs.declared.words.Command.{Command}
 use Rattle.coroutine_cli.specs.declared.words.Command.TheVariants.{Run, Check, Sum}
-use Rattle.coroutine_cli.specs.Statuses.{Stream, Refuses, Serves, ServesInput}
+use Rattle.coroutine_cli.specs.Commands.{IsInLimits}
+use Rattle.coroutine_cli.specs.Statuses.{FailsToRead, Stream, Refuses, Serves, ServesInput}
 
 -- bytes that are a script, or the line of their fault
 abbrev pub Says : List ℕ → Input → Type 0
@@ -39,10 +43,26 @@ Asks (Run workers) source source' program = GaveScript source source' program
 Asks Check source source' program = ⊥
 Asks (Sum size workers) source source' program = (program ≡ generated size) × (source' ≡ source)
 
--- there is an answer, or a script to be run
-abbrev pub Prepares : Command → Stream → Stream → Prepared → Type 0
-Prepares command source source' (prepared.Ready answer) = Serves command answer.ending source source' (λ text. answer.text.items ≡ text)
-Prepares command source source' (prepared.Script script) = Asks command source source' (program_of script)
+-- the answer to what is asked, which is a command
+abbrev pub IsAnswer : Option Command → Stream → Stream → Answer → Type 0
+IsAnswer None source source' answer = ⊥
+IsAnswer (Some command) source source' answer = Serves command answer.ending source source' (λ text. answer.text.items ≡ text)
+
+-- why there is no answer to what is asked
+abbrev pub HasNoAnswer : Option Command → Stream → Stream → NoAnswer → Type 0
+HasNoAnswer asked source source' reasons.Refused = asked ≡ None
+HasNoAnswer asked source source' reasons.ReadFault = FailsToRead asked source source'
+HasNoAnswer asked source source' reasons.Memory = Unit {0}
+
+-- what is made of what is asked, before anything is written: the answer, or the reason why there is none
+abbrev pub AnswersTo : Option Command → Stream → Stream → Result Answer NoAnswer → Type 0
+AnswersTo asked source source' made = MatchResult made (IsAnswer asked source source') (HasNoAnswer asked source source')
+
+-- there is the answer to what is asked, or the command that is asked with its script, which is to be run
+abbrev pub Prepares : Option Command → Stream → Stream → Prepared → Type 0
+Prepares asked source source' (prepared.Ready answer) = IsAnswer asked source source' answer
+Prepares asked source source' (prepared.Script command script) =
+    (asked ≡ Some command) × IsInLimits command × Asks command source source' (program_of script)
 
 -- the text that a command makes of the books of a run
 abbrev pub text_of : Command → Program → List (List Item) → List ℕ

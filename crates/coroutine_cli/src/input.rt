@@ -1,13 +1,13 @@
 //! What the source gives: a script, or the line of its fault.
 
-ghost use Rattle.std.specs.Prelude.{◌≡◌, ℕ, List, length, Err, IfOk};
+ghost use Rattle.std.specs.Prelude.{◌≡◌, ◌≢◌, ℕ, List, length, Err, IfOk};
 ghost use Rattle.co_base.specs.Streams.{Rose};
 ghost use Rattle.script_grammar.specs.declared.fault.FaultKind.TheVariants.{Memory as NoMemory};
 ghost use Rattle.script_grammar.specs.Programs.{Program};
 ghost use Rattle.script_grammar.specs.Grammar.{Spells};
 ghost use Rattle.script_grammar.specs.Faulty.{FirstFault};
 ghost use Rattle.script_reader.specs.Answers.{Unless};
-ghost use Rattle.coroutine_cli.specs.Statuses.{Refuses, stream};
+ghost use Rattle.coroutine_cli.specs.Statuses.{stream};
 ghost use Rattle.coroutine_cli.specs.Preparing.{Gives, Says};
 ghost use Rattle.coroutine_cli.specs.declared.status.NoAnswer.TheVariants as reasons;
 
@@ -30,6 +30,7 @@ pub fn read_input<S: Source>(alloc: Global, source: &mut S) -> Result<Input, NoA
     ensures gives { IfOk result (Gives
         (stream (S.left source.old) (S.faults source.old)) (stream (S.left source.new) (S.faults source.new))) }
     ensures fault { result ≡ Err reasons.ReadFault → Rose (S.faults source.old) (S.faults source.new) }
+    ensures accepted { result ≢ Err reasons.Refused }
 {
     match read_script(alloc, source) {
         Ok(bytes) => unless_memory(input_of(alloc, bytes.as_slice())),

@@ -5,7 +5,7 @@
 //! - `input`: the script that the source gives, or the line of its fault.
 //! - `prepare`: what a command does before a script is run.
 //! - `answer`: the text of a run, and how the call then ends.
-//! - `writing`: the answer is written.
+//! - `writing`: the end of a call: its answer is written, if there is one.
 //! - `top`: the whole call over any source and sink.
 //! - `alone`: the same for one worker, without threads.
 //! - `ends`: the code with which the process ends, and what standard error says.

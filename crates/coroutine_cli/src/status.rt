@@ -22,6 +22,8 @@ pub enum Ending {
 /// Why there is nothing to write.
 #[derive(Clone, Copy, Debug, PartialEq, Eq)]
 pub enum NoAnswer {
+    /// The words are not those of a command.
+    Refused,
     ReadFault,
     Memory,
 }
