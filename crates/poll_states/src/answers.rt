@@ -10,13 +10,15 @@ ghost use Rattle.poll_states.specs.Frames.{config_of, items_of};
 ghost use Rattle.poll_states.specs.Steps.{GoesPast};
 ghost use Rattle.poll_states.specs.Calls.{came_of_send, came_of_try_send, came_of_receive, came_of_try_receive, enters, after_call};
 ghost use Rattle.poll_states.specs.Named.{came_of_joined, after_named};
+ghost use Rattle.poll_states.specs.Ends.{unwinds_for};
 
+use crate::code::closing;
 use crate::entered::Entered;
 use crate::frame::Frame;
-use crate::lines::closing;
 use channel_calls::{ReceiveAnswer, SendAnswer, TryReceiveAnswer, TrySendAnswer};
 use channel_model::Settled;
 use co_base::{Value, WaitId};
+use job_model::Cause;
 use scope_builders::Joined;
 use script_meaning::Stage;
 use script_reader::{Instruction, Script};
@@ -90,6 +92,16 @@ impl Came {
             Joined::Cancelled => None,
             Joined::Spent => Some(Came::NoPlace),
         }
+    }
+}
+
+/// How a coroutine unwinds that saw a Job which was cancelled for this cause.
+pub(crate) fn unwinds_for(cause: Cause) -> Stage
+    ensures { result ≡ unwinds_for cause }
+{
+    match cause {
+        Cause::None | Cause::Request => Stage::Unwinding(None),
+        Cause::Failure(row) => Stage::Unwinding(Some(row)),
     }
 }
 

@@ -12,7 +12,7 @@ ghost use Rattle.poll_states.specs.Steps.{StepAnswer};
 ghost use Rattle.poll_states.specs.Calls.{line_of, element_of, channel_in, MadeAnswer};
 
 use crate::answers::Came;
-use crate::floors::Floors;
+use crate::floors::{Floors, caller};
 use crate::frame::Frame;
 use channel_calls::Caller;
 use channel_model::ChannelFloor;
@@ -126,16 +126,10 @@ pub(crate) fn call<C: ChannelFloor, J: JobFloor, W: Wakes, G: Gate>(
         return Err(memory);
     }
     let value = frame.element_of(call);
-    let who = frame.tag;
-    let mut caller = Caller {
-        floor: &mut *floors.channels,
-        book: &mut frame.book,
-        wakes: &mut *floors.wakes,
-        who,
-    };
-    gate.pass(who, 2);
+    let mut caller = caller!(frame, floors, frame.tag);
+    gate.pass(frame.tag, 2);
     let answer = make(&mut caller, call, value);
-    gate.pass(who, 3);
+    gate.pass(frame.tag, 3);
     match answer {
         Ok(came) => {
             frame.go_on(script, call.line(), came);

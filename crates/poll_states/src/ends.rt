@@ -5,28 +5,18 @@ ghost use Rattle.script_reader.specs.Scripts.{program_of};
 ghost use Rattle.script_meaning.specs.declared.stage.Stage.TheVariants.{SeesJob};
 ghost use Rattle.script_meaning.specs.Polls.{HasToSee, is_seeing};
 ghost use Rattle.poll_states.specs.Frames.{config_of, items_of, Stands, SameFloors};
-ghost use Rattle.poll_states.specs.Ends.{after_job, unwinds_for, AwaitsNamed, SeenAnswer};
+ghost use Rattle.poll_states.specs.Ends.{after_job, AwaitsNamed, SeenAnswer};
 
-use crate::floors::Floors;
+use crate::answers::unwinds_for;
+use crate::code::code_of;
+use crate::floors::{Floors, builder};
 use crate::frame::Frame;
-use crate::lines::{code_of, first_done};
 use crate::scopes::see_scope;
 use channel_model::ChannelFloor;
 use co_base::{Memory, Row, Wakes};
-use job_model::{Cause, End, JobFloor};
-use scope_builders::Builder;
+use job_model::{End, JobFloor};
 use script_meaning::Stage;
 use script_reader::{Instruction, Script};
-
-/// How a coroutine unwinds that saw a Job which was cancelled for this cause.
-pub(crate) fn unwinds_for(cause: Cause) -> Stage
-    ensures { result ≡ unwinds_for cause }
-{
-    match cause {
-        Cause::None | Cause::Request => Stage::Unwinding(None),
-        Cause::Failure(row) => Stage::Unwinding(Some(row)),
-    }
-}
 
 impl Frame {
     /// Goes on where the Job that it awaited ended so.
@@ -71,14 +61,7 @@ fn see_job<C: ChannelFloor, J: JobFloor, W: Wakes>(
     ensures same { SameFloors C.anchor J.anchor floors.old floors.new }
 {
     let row = awaited(script, frame);
-    let mut builder = Builder {
-        channels: &mut *floors.channels,
-        jobs: &mut *floors.jobs,
-        book: &mut frame.book,
-        wakes: &mut *floors.wakes,
-        who: frame.tag,
-        base: first_done(script),
-    };
+    let mut builder = builder!(script, frame, floors);
     match builder.seen_end(row) {
         Ok(Some(end)) => {
             frame.go_on_job_ended(end);

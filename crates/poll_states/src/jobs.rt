@@ -9,14 +9,13 @@ ghost use Rattle.script_meaning.specs.Lines.{is_lazy};
 ghost use Rattle.poll_states.specs.Frames.{config_of, Stands, SameFloors};
 ghost use Rattle.poll_states.specs.Steps.{HasBody, OwnStateSeen, IsAtEnd, StepAnswer};
 
-use crate::floors::Floors;
+use crate::floors::{Floors, builder};
 use crate::frame::Frame;
-use crate::lines::first_done;
 use channel_model::ChannelFloor;
 use co_base::{Gate, Memory, Row, Tag, Wakes};
 use job_model::{JobFloor, JobState};
 use note_book::NoteBook;
-use scope_builders::{Builder, LaunchError};
+use scope_builders::LaunchError;
 use script_meaning::Stage;
 use script_reader::{Launching, Script};
 
@@ -112,14 +111,7 @@ pub(crate) fn launch<C: ChannelFloor, J: JobFloor, W: Wakes, G: Gate>(
     let size = script.size_of(block);
     let free = frame.free as Tag;
     let parent = frame.innermost();
-    let mut builder = Builder {
-        channels: &mut *floors.channels,
-        jobs: &mut *floors.jobs,
-        book: &mut frame.book,
-        wakes: &mut *floors.wakes,
-        who: frame.tag,
-        base: first_done(script),
-    };
+    let mut builder = builder!(script, frame, floors);
     gate.pass(frame.tag, 2);
     let answer = builder.launch(parent, free, is_lazy(how));
     gate.pass(frame.tag, 3);
@@ -151,14 +143,7 @@ pub(crate) fn end_body<C: ChannelFloor, J: JobFloor, W: Wakes>(
         (J.view floors.old.jobs.now) (J.view floors.new.jobs.now) frame.old frame.new result }
     ensures same { SameFloors C.anchor J.anchor floors.old floors.new }
 {
-    let mut builder = Builder {
-        channels: &mut *floors.channels,
-        jobs: &mut *floors.jobs,
-        book: &mut frame.book,
-        wakes: &mut *floors.wakes,
-        who: frame.tag,
-        base: first_done(script),
-    };
+    let mut builder = builder!(script, frame, floors);
     match builder.end_job(frame.tag, frame.result) {
         Ok(_) => {
             frame.stage = Stage::Ended;
@@ -183,14 +168,7 @@ pub(crate) fn break_off<C: ChannelFloor, J: JobFloor, W: Wakes>(
     ensures ended { OnOk result (frame.new.stage ≡ Ended) }
     ensures same { SameFloors C.anchor J.anchor floors.old floors.new }
 {
-    let mut builder = Builder {
-        channels: &mut *floors.channels,
-        jobs: &mut *floors.jobs,
-        book: &mut frame.book,
-        wakes: &mut *floors.wakes,
-        who: frame.tag,
-        base: first_done(script),
-    };
+    let mut builder = builder!(script, frame, floors);
     match builder.break_job(frame.tag, failure) {
         Ok(_) => {
             frame.stage = Stage::Ended;

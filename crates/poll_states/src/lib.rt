@@ -24,7 +24,9 @@
 //!
 //! - `entered`: what a coroutine has entered and not left.
 //! - `frame`: a coroutine between two moves, and what is left of a run.
-//! - `floors`: what polls work on.
+//! - `inside`: how a frame enters and leaves repeats, eaches and scopes.
+//! - `floors`: what polls work on, and how a call has it lent.
+//! - `code`: the code that a coroutine runs.
 //! - `answers`: where a coroutine goes on by an answer.
 //! - `calls`: the lines that call a channel.
 //! - `named`: the lines that name a Job.
@@ -42,10 +44,12 @@
 mod answers;
 mod beginning;
 mod calls;
+mod code;
 mod ends;
 mod entered;
 mod floors;
 mod frame;
+mod inside;
 mod jobs;
 mod lines;
 mod loops;
@@ -58,7 +62,6 @@ mod waits;
 pub use beginning::begin;
 pub use floors::Floors;
 pub use frame::{Done, Frame};
-pub use lines::code_of;
 pub use note_book::Notes as Book;
 pub use polls::poll;
 pub use script_meaning::{Stage, Turn};

@@ -1,18 +1,15 @@
 //! The lines of a coroutine.
 
-ghost use Rattle.std.specs.Prelude.{◌≡◌, ◌<◌, true, slice_get, Some, OnOk};
+ghost use Rattle.std.specs.Prelude.{◌≡◌, OnOk};
 ghost use Rattle.script_reader.specs.Scripts.{program_of};
-ghost use Rattle.script_reader.specs.Lines.{does_open};
-ghost use Rattle.script_grammar.specs.Nesting.{closing_of};
-ghost use Rattle.script_grammar.specs.Tags.{code_of, coroutine_count};
 ghost use Rattle.script_grammar.specs.declared.instructions.Instruction.TheVariants.{Fail, Select, SetResult};
 ghost use Rattle.script_meaning.specs.declared.stage.Stage.TheVariants.{Running};
-ghost use Rattle.script_meaning.specs.Shapes.{base_of};
 ghost use Rattle.script_meaning.specs.Configs.{IsAt};
 ghost use Rattle.poll_states.specs.Frames.{config_of, Stands, SameFloors};
 ghost use Rattle.poll_states.specs.Steps.{MovesOn, StepAnswer};
 
 use crate::calls::{ChannelCall, call};
+use crate::code::code_of;
 use crate::floors::Floors;
 use crate::frame::Frame;
 use crate::jobs::{end_body, launch, look_up};
@@ -21,36 +18,10 @@ use crate::named::{NamedCall, call_named};
 use crate::scopes::{end_line, enter_scope};
 use crate::selects::select;
 use channel_model::ChannelFloor;
-use co_base::{ChannelId, Gate, Memory, Tag, Value, Wakes};
+use co_base::{Gate, Memory, Value, Wakes};
 use job_model::{JobFloor, JobNote};
 use note_book::{Item, NoteBook};
 use script_reader::{Instruction, Operand, Script};
-
-/// The number of the first done channel.
-pub(crate) fn first_done(script: &Script) -> ChannelId
-    ensures { result ≡ base_of (program_of script.now) }
-{
-    script.channels().len() as ChannelId
-}
-
-/// The lines of the coroutine with this tag.
-pub fn code_of(script: &Script, tag: Tag) -> &[Instruction]
-    requires { tag < coroutine_count (program_of script.now) }
-    ensures { result.now ≡ code_of (program_of script.now) tag }
-{
-    let block = script.coroutine_of(tag) as usize;
-    script.blocks()[block].code.as_slice()
-}
-
-/// The line that closes what this line of the coroutine with this tag opens.
-pub(crate) fn closing(script: &Script, tag: Tag, line: usize) -> usize
-    requires tag { tag < coroutine_count (program_of script.now) }
-    requires opens { does_open (slice_get (code_of (program_of script.now) tag) line) ≡ true }
-    ensures closes { closing_of (code_of (program_of script.now) tag) line ≡ Some result }
-    ensures few { result < 4294967296 }
-{
-    script.closing(script.coroutine_of(tag), line as u32) as usize
-}
 
 /// Runs the line of a coroutine, or ends its body where none is left.
 pub(crate) fn run<C: ChannelFloor, J: JobFloor, W: Wakes, G: Gate>(

@@ -12,9 +12,8 @@ ghost use Rattle.poll_states.specs.Steps.{StepAnswer};
 ghost use Rattle.poll_states.specs.Named.{line_naming, NamedAnswer};
 
 use crate::answers::Came;
-use crate::floors::Floors;
+use crate::floors::{Floors, builder};
 use crate::frame::Frame;
-use crate::lines::first_done;
 use channel_model::ChannelFloor;
 use co_base::{Gate, Memory, Row, Wakes};
 use job_model::JobFloor;
@@ -107,14 +106,7 @@ pub(crate) fn call_named<C: ChannelFloor, J: JobFloor, W: Wakes, G: Gate>(
 {
     let row = frame.rows[job as usize];
     let own = frame.innermost();
-    let mut builder = Builder {
-        channels: &mut *floors.channels,
-        jobs: &mut *floors.jobs,
-        book: &mut frame.book,
-        wakes: &mut *floors.wakes,
-        who: frame.tag,
-        base: first_done(script),
-    };
+    let mut builder = builder!(script, frame, floors);
     gate.pass(frame.tag, 2);
     let answer = make(&mut builder, gate, call, own, row);
     gate.pass(frame.tag, 3);

@@ -27,13 +27,12 @@ ghost use Rattle.poll_states.specs.Ends.{
   SeenAnswer,
 };
 
-use crate::ends::unwinds_for;
+use crate::answers::unwinds_for;
+use crate::code::closing;
 use crate::entered::{Entered, OpenScope};
-use crate::floors::Floors;
+use crate::floors::{Floors, builder, caller};
 use crate::frame::Frame;
-use crate::lines::{closing, first_done};
 use crate::loops::end_turn;
-use channel_calls::Caller;
 use channel_model::ChannelFloor;
 use co_base::{Gate, Memory, Row, WaitId, Wakes};
 use job_model::{End, JobFloor};
@@ -97,14 +96,7 @@ pub(crate) fn enter_scope<C: ChannelFloor, J: JobFloor, W: Wakes, G: Gate>(
         return Err(memory);
     }
     let parent = frame.innermost();
-    let mut builder = Builder {
-        channels: &mut *floors.channels,
-        jobs: &mut *floors.jobs,
-        book: &mut frame.book,
-        wakes: &mut *floors.wakes,
-        who: frame.tag,
-        base: first_done(script),
-    };
+    let mut builder = builder!(script, frame, floors);
     gate.pass(frame.tag, 2);
     let answer = builder.enter(parent, supervisor);
     gate.pass(frame.tag, 3);
@@ -184,14 +176,7 @@ pub(crate) fn end_scope<C: ChannelFloor, J: JobFloor, W: Wakes, G: Gate>(
         (J.view floors.old.jobs.now) (J.view floors.new.jobs.now) frame.old frame.new result }
     ensures same { SameFloors C.anchor J.anchor floors.old floors.new }
 {
-    let mut builder = Builder {
-        channels: &mut *floors.channels,
-        jobs: &mut *floors.jobs,
-        book: &mut frame.book,
-        wakes: &mut *floors.wakes,
-        who: frame.tag,
-        base: first_done(script),
-    };
+    let mut builder = builder!(script, frame, floors);
     gate.pass(frame.tag, 2);
     let answer = end_and_receive(&mut builder, scope.row);
     gate.pass(frame.tag, 3);
@@ -242,14 +227,7 @@ pub(crate) fn break_scope<C: ChannelFloor, J: JobFloor, W: Wakes>(
         (J.view floors.old.jobs.now) (J.view floors.new.jobs.now) frame.old frame.new result }
     ensures same { SameFloors C.anchor J.anchor floors.old floors.new }
 {
-    let mut builder = Builder {
-        channels: &mut *floors.channels,
-        jobs: &mut *floors.jobs,
-        book: &mut frame.book,
-        wakes: &mut *floors.wakes,
-        who: frame.tag,
-        base: first_done(script),
-    };
+    let mut builder = builder!(script, frame, floors);
     match break_and_receive(&mut builder, scope.row, failure) {
         Ok(answer) => {
             frame.go_on_leaving(answer);
@@ -273,14 +251,8 @@ pub(crate) fn end_scope_wait<C: ChannelFloor, J, W: Wakes, G: Gate>(
     ensures jobs { floors.new.jobs.now ≡ floors.old.jobs.now }
     ensures same { SameLoans C.anchor floors.old floors.new }
 {
-    let who = frame.tag;
-    let mut caller = Caller {
-        floor: &mut *floors.channels,
-        book: &mut frame.book,
-        wakes: &mut *floors.wakes,
-        who,
-    };
-    gate.pass(who, 5);
+    let mut caller = caller!(frame, floors, frame.tag);
+    gate.pass(frame.tag, 5);
     match caller.dispatch(w, false) {
         Ok(_) => {
             frame.stage = Stage::SeesScope;
@@ -306,14 +278,7 @@ pub(crate) fn see_scope<C: ChannelFloor, J: JobFloor, W: Wakes>(
     let Some(scope) = frame.scope() else {
         unreachable!()
     };
-    let mut builder = Builder {
-        channels: &mut *floors.channels,
-        jobs: &mut *floors.jobs,
-        book: &mut frame.book,
-        wakes: &mut *floors.wakes,
-        who: frame.tag,
-        base: first_done(script),
-    };
+    let mut builder = builder!(script, frame, floors);
     match builder.seen_end(scope.row) {
         Ok(Some(end)) => {
             frame.leave_ended(script, scope.head, end);

@@ -12,11 +12,10 @@ ghost use Rattle.poll_states.specs.Frames.{config_of, items_of, Stands, SameFloo
 ghost use Rattle.poll_states.specs.Steps.{MovesOn, StepAnswer};
 ghost use Rattle.poll_states.specs.Selecting.{clause_in, AfterChosen, AfterSelect};
 
-use crate::floors::Floors;
+use crate::code::code_of;
+use crate::floors::{Floors, caller};
 use crate::frame::Frame;
-use crate::lines::code_of;
 use arrayvec::ArrayVec;
-use channel_calls::Caller;
 use channel_model::ChannelFloor;
 use co_base::{Gate, Memory, WaitId, Wakes};
 use job_model::JobFloor;
@@ -106,17 +105,11 @@ pub(crate) fn select<C: ChannelFloor, J: JobFloor, W: Wakes, G: Gate>(
 {
     let code = code_of(script, frame.tag);
     let clauses = frame.clauses_of(&code[frame.line + 1..]);
-    let who = frame.tag;
     let mut held = None;
-    let mut caller = Caller {
-        floor: &mut *floors.channels,
-        book: &mut frame.book,
-        wakes: &mut *floors.wakes,
-        who,
-    };
-    gate.pass(who, 2);
+    let mut caller = caller!(frame, floors, frame.tag);
+    gate.pass(frame.tag, 2);
     let answer = select_poll(&mut caller, clauses.as_slice(), &mut held);
-    gate.pass(who, 3);
+    gate.pass(frame.tag, 3);
     match answer {
         Ok(answer) => {
             frame.go_on_selected(script, answer, held);

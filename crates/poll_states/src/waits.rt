@@ -12,10 +12,9 @@ ghost use Rattle.script_meaning.specs.Configs.{at_stage};
 ghost use Rattle.poll_states.specs.Frames.{config_of, SameLoans};
 ghost use Rattle.poll_states.specs.Steps.{SeenWait, EndedWaitAnswer, GaveUpAnswer};
 
-use crate::floors::Floors;
+use crate::code::code_of;
+use crate::floors::{Floors, caller};
 use crate::frame::Frame;
-use crate::lines::code_of;
-use channel_calls::Caller;
 use channel_model::{ChannelFloor, WaitState};
 use co_base::{Gate, Memory, Row, Tag, WaitId, Wakes};
 use script_reader::Script;
@@ -64,14 +63,8 @@ pub(crate) fn end_wait<C: ChannelFloor, J, W: Wakes, G: Gate>(
         return Err(memory);
     }
     let line = code_of(script, frame.tag)[frame.line];
-    let who = frame.tag;
-    let mut caller = Caller {
-        floor: &mut *floors.channels,
-        book: &mut frame.book,
-        wakes: &mut *floors.wakes,
-        who,
-    };
-    gate.pass(who, 5);
+    let mut caller = caller!(frame, floors, frame.tag);
+    gate.pass(frame.tag, 5);
     match caller.dispatch(w, false) {
         Ok(outcome) => {
             frame.go_on_after(script, line, outcome);
@@ -103,12 +96,7 @@ pub(crate) fn give_up<C: ChannelFloor, J, W: Wakes, G: Gate>(
 {
     let who = frame.tag;
     frame.see_cancelling(row);
-    let mut caller = Caller {
-        floor: &mut *floors.channels,
-        book: &mut frame.book,
-        wakes: &mut *floors.wakes,
-        who,
-    };
+    let mut caller = caller!(frame, floors, who);
     if resolved {
         gate.pass(who, 5);
         match caller.dispatch(w, true) {

@@ -1,0 +1,29 @@
+//! The code that a coroutine runs.
+
+ghost use Rattle.std.specs.Prelude.{◌≡◌, ◌<◌, true, slice_get, Some};
+ghost use Rattle.script_reader.specs.Scripts.{program_of};
+ghost use Rattle.script_reader.specs.Lines.{does_open};
+ghost use Rattle.script_grammar.specs.Nesting.{closing_of};
+ghost use Rattle.script_grammar.specs.Tags.{code_of, coroutine_count};
+
+use co_base::Tag;
+use script_reader::{Instruction, Script};
+
+/// The lines of the coroutine with this tag.
+pub(crate) fn code_of(script: &Script, tag: Tag) -> &[Instruction]
+    requires { tag < coroutine_count (program_of script.now) }
+    ensures { result.now ≡ code_of (program_of script.now) tag }
+{
+    let block = script.coroutine_of(tag) as usize;
+    script.blocks()[block].code.as_slice()
+}
+
+/// The line that closes what this line of the coroutine with this tag opens.
+pub(crate) fn closing(script: &Script, tag: Tag, line: usize) -> usize
+    requires tag { tag < coroutine_count (program_of script.now) }
+    requires opens { does_open (slice_get (code_of (program_of script.now) tag) line) ≡ true }
+    ensures closes { closing_of (code_of (program_of script.now) tag) line ≡ Some result }
+    ensures few { result < 4294967296 }
+{
+    script.closing(script.coroutine_of(tag), line as u32) as usize
+}
