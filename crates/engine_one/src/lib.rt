@@ -4,8 +4,9 @@
 //! queue is empty, a round polls every coroutine once. Where nothing happens in it, and it leaves no tag in the queue, the run is over.
 //! A turn is one such poll, or such a round.
 //!
-//! - `run`: a whole run, and its turns.
+//! - `state`: a run between two turns.
 //! - `start`: a run before its first turn.
+//! - `run`: a whole run, and its turns.
 //! - `turns`: polls of one coroutine, and of all.
 //! - `ready_tags`: who is to be polled next.
 //! - `finish`: what a run leaves.
@@ -20,8 +21,7 @@ mod ready_tags;
 mod run;
 mod shared;
 mod start;
-#[cfg(test)]
-mod tests;
+mod state;
 mod turns;
 mod workers;
 

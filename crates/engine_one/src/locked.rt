@@ -7,9 +7,10 @@ ghost use Rattle.script_reader.specs.Scripts.{program_of};
 ghost use Rattle.engine_one.specs.Runs.{CameToRest, TellsIdle};
 ghost use Rattle.engine_one.specs.Coroutines.{AllStand, AllLeft, scene};
 
-use crate::run::{ListRun, Run, run_left};
+use crate::run::{ListRun, run_left};
 use crate::shared::{ScriptName, SharedRun};
 use crate::start::start;
+use crate::state::Run;
 use co_base::{Gate, Memory};
 use one_thread_floor::{ListFloor, TreeFloor};
 use script_reader::Script;

@@ -9,11 +9,11 @@ ghost use Rattle.engine_one.specs.Coroutines.{AllStand, AllLeft, scene};
 ghost use Rattle.engine_one.specs.Progress.{LeftWhere, RoundIsCalm, turns_left};
 
 use crate::finish::done_of;
-use crate::ready_tags::ReadyTags;
 use crate::start::start;
+use crate::state::Run;
 use co_base::{Gate, Memory};
 use one_thread_floor::{ListFloor, TreeFloor};
-use poll_states::{Done, Frame};
+use poll_states::Done;
 use script_reader::Script;
 use std::alloc::Global;
 
@@ -23,15 +23,6 @@ pub struct ListRun {
     pub done: Done,
     pub channels: ListFloor,
     pub jobs: TreeFloor,
-}
-
-/// The coroutines in order of their tags, their channels and Jobs, and who is to be polled next.
-#[derive(Drop)]
-pub(crate) struct Run<C, J> {
-    pub(crate) frames: Vec<Frame>,
-    pub(crate) channels: C,
-    pub(crate) jobs: J,
-    pub(crate) ready: ReadyTags,
 }
 
 /// Runs the script until no coroutine can go on.

@@ -8,7 +8,7 @@ ghost use Rattle.engine_one.specs.Coroutines.{AllStand, AllLeft, scene};
 ghost use Rattle.engine_one.specs.Progress.{LeftWhere, turns_left};
 ghost use Rattle.engine_one.specs.Sharing.{has_stopped, turns_after};
 
-use crate::run::Run;
+use crate::state::Run;
 use co_base::{Gate, Memory};
 use one_thread_floor::{ListFloor, TreeFloor};
 use script_reader::Script;

@@ -10,7 +10,7 @@ ghost use Rattle.engine_one.specs.Coroutines.{AllStand, scene};
 ghost use Rattle.engine_one.specs.Starting.{AllMade, HasNoCalls, HasNoJobs};
 
 use crate::ready_tags::ReadyTags;
-use crate::run::Run;
+use crate::state::Run;
 use channel_model::{ChannelFloor, Kind};
 use co_base::{Memory, Tag};
 use job_model::JobFloor;

@@ -5,7 +5,7 @@ ghost use Rattle.script_reader.specs.Scripts.{program_of};
 ghost use Rattle.engine_one.specs.Coroutines.{AllStand, IsLater, scene};
 ghost use Rattle.engine_one.specs.Progress.{Advances, OthersSame, TurnCameTo, RoundCameTo};
 
-use crate::run::Run;
+use crate::state::Run;
 use channel_model::ChannelFloor;
 use co_base::{Gate, Memory, Tag};
 use job_model::JobFloor;

@@ -1,6 +1,6 @@
 use Rattle.script_reader.specs.Scripts.{program_of}
 use Rattle.engine_one.proofs.Rounds.{round_more}
-use Rattle.engine_one.proofs.run.Run.round.Goals as goal
+use Rattle.engine_one.proofs.state.Run.round.Goals as goal
 
 pub loop-tag-preserved : goal.loop-tag-preserved
 loop-tag-preserved g c = record {

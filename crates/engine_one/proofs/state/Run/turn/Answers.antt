@@ -3,7 +3,7 @@ use Rattle.script_reader.specs.Scripts.{program_of}
 use Rattle.script_meaning.specs.declared.turn.Turn.TheVariants.{Ready}
 use Rattle.engine_one.proofs.TurnsMade.{turned_stand, turned_advances, turned_ready, ready_advances, turned_other, turned_others, noted_is}
 use Rattle.engine_one.specs.declared.ready_tags.ReadyTags.{ReadyTags}
-use Rattle.engine_one.proofs.run.Run.turn.Goals as goal
+use Rattle.engine_one.proofs.state.Run.turn.Goals as goal
 
 pub returns-then-eq-clause-stand : goal.returns-then-eq-clause-stand
 returns-then-eq-clause-stand g c = turned_stand (program_of c.args.script.now) _ _ c.args.self.now.frames.items c.args.tag c.index_mut.result.now c.poll.new.frame _ c.args.script.now.well_formed c.requires.stand c.requires.within c.index_mut.ensures.value (g.met.C.ChannelFloor.legal c.poll.new.floors.channels.now) (g.met.J.JobFloor.legal c.poll.new.floors.jobs.now) c.in_ok-turn.ensures.polled

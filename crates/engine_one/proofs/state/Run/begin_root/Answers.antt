@@ -2,7 +2,7 @@ use Rattle.std.proofs.Common.{arith}
 use Rattle.script_reader.specs.Scripts.{program_of}
 use Rattle.engine_one.proofs.Lists.{slice_get-Some}
 use Rattle.engine_one.proofs.Beginnings.{some_coroutine, root_on_channels, root_on_jobs, all_begin}
-use Rattle.engine_one.proofs.run.Run.begin_root.Goals as goal
+use Rattle.engine_one.proofs.state.Run.begin_root.Goals as goal
 
 pub begin-requires-clause-on : goal.begin-requires-clause-on
 begin-requires-clause-on g c = root_on_jobs (program_of c.args.script.now) _ c.requires.jobs

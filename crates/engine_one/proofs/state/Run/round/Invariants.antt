@@ -1,7 +1,7 @@
 use Rattle.script_reader.specs.Scripts.{program_of}
 use Rattle.engine_one.specs.Coroutines.{AllStand}
 use Rattle.engine_one.proofs.Rounds.{RoundSoFar}
-use Rattle.engine_one.proofs.run.Run.round.Given as goal
+use Rattle.engine_one.proofs.state.Run.round.Given as goal
 
 abbrev pub invariant-loop-tag : goal.invariant-loop-tag
 invariant-loop-tag g l = record {
