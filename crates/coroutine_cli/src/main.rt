@@ -11,6 +11,7 @@
 //! - `ends`: the code with which the process ends, and what standard error says.
 //! - `tests`: the tests; the worked scripts stand in `channel_rows`, `buffer_rows`, `job_rows`, `cancel_rows`, `select_rows`,
 //!   `scope_rows`, `await_rows` and `fault_rows`.
+//! - `print_tests`, `worker_tests`: tests of what the crates below answer to a script that no report shows.
 #![tactic(auto)]
 
 mod alone;
@@ -31,6 +32,8 @@ mod input;
 mod job_rows;
 mod prepare;
 #[cfg(test)]
+mod print_tests;
+#[cfg(test)]
 mod scope_rows;
 #[cfg(test)]
 mod select_rows;
@@ -39,6 +42,8 @@ mod status;
 mod tests;
 mod top;
 mod words;
+#[cfg(test)]
+mod worker_tests;
 mod writing;
 
 use co_base::{OpenGate, StdSink, StdSource};

@@ -2,9 +2,9 @@
 
 ghost use Rattle.std.specs.Prelude.{◌≤◌};
 
-use crate::workers::run_by;
 use channel_model::{Act, ChannelNote, Settled};
 use co_base::{Memory, OpenGate};
+use engine_one::run_by;
 use job_model::End;
 use note_book::{Item, Notes};
 use script_reader::{Script, generate, read};

@@ -1,0 +1,69 @@
+//! A script that is read and printed again.
+
+use script_reader::{print, read};
+use std::test::Fail;
+
+/// A script of every line, as it is printed.
+const EVERY_LINE: &[u8] = b"channel a rendezvous places 1
+channel b buffered 64 places 16384
+channel c unlimited places 1048576
+channel d conflated places 16384
+channel e_1 dropoldest 65535 places 16384
+coroutine leaf
+  fail 7
+end
+coroutine mid
+  send a 4294967295
+  trysend b it
+  receive a
+  tryreceive c
+  close d
+  cancelchannel e_1
+  yield
+  launch leaf as j
+  async leaf as k
+  lazy leaf
+  start j
+  join j
+  await k
+  cancel j
+  result sum
+  repeat 3
+    each a
+      select
+        onsend b 1
+        onreceive a
+      end
+    end
+    supervisor
+      launch leaf
+    end
+  end
+end
+coroutine main
+  scope
+    launch mid
+  end
+end
+spawn leaf 2
+spawn mid 1
+";
+
+#[test]
+fn a_script_of_every_line_is_printed_as_it_was(rt: HostRuntime) -> Result<(), Fail> {
+    let script = read(rt.alloc(), EVERY_LINE)?;
+    let text = print(rt.alloc(), &script)?;
+    assert_eq!(rt; text.as_slice(), EVERY_LINE);
+    assert_eq!(rt; script.blocks().len(), 3);
+    // Of mid: itself, three that it launches, and three in the repeat.
+    assert_eq!(rt; script.size_of(1), 7);
+    // Main, two leaves, two instances of mid with all that they launch.
+    assert_eq!(rt; script.coroutines(), 17);
+    // Three turns of the supervisor in each of two instances of mid, and main's scope.
+    assert_eq!(rt; script.scopes(), 7);
+    assert_eq!(rt; script.coroutine_of(0), 2);
+    assert_eq!(rt; script.coroutine_of(2), 0);
+    assert_eq!(rt; script.coroutine_of(3), 1);
+    assert_eq!(rt; script.coroutine_of(16), 0);
+    Ok(())
+}
