@@ -6,17 +6,14 @@ use Rattle.channel_model.specs.declared.acts.Kind.{Kind}
 use Rattle.channel_model.specs.declared.acts.Kind.TheVariants.{Rendezvous, Buffered, Unlimited, Conflated, DropOldest, Signal}
 use Rattle.script_grammar.specs.Programs.{Declared, Block, channel_names, places_in}
 use Rattle.script_grammar.specs.Lines.{channel_words}
-use Rattle.script_grammar.specs.Reads.{Read, Form, channel_is, after}
-use Rattle.script_grammar.specs.Grammar.{is_declared, has_capacity, Says, SayAll, Within}
+use Rattle.script_grammar.specs.Reads.{Read, channel_is, after}
+use Rattle.script_grammar.specs.Grammar.{is_declared, has_capacity, SayAll}
 use Rattle.script_grammar.specs.WellFormed.{all_fresh}
 use Rattle.script_grammar.proofs.Truths.{both_true}
 
 pub SayAll-append : (s m t : Read) (xs ys : List (List (List ℕ))) → SayAll s xs m → SayAll m ys t → SayAll s (xs ++ ys) t
 SayAll-append s m t [] ys d e = subst (λ r. SayAll r ys t) (sym d) e
 SayAll-append s m t (words ∷ xs) ys d e = (d.0, d.1, d.2, SayAll-append (after d.0 s) m t xs ys d.3 e)
-
-abbrev pub line_said : (s : Read) (words : List (List ℕ)) (f : Form) → Says s words f → Within (after f s) → SayAll s (words ∷ []) (after f s)
-line_said s words f says within = (f, says, within, refl)
 
 -- ---- channels
 

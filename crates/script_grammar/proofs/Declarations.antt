@@ -1,21 +1,18 @@
 -- What holds of each program: its lines name channels, blocks and Jobs that it declares, and each tag runs a block.
-use Rattle.std.proofs.Common.{◌≡◌, ℕ, zero, suc, ◌+◌, ◌<◌, ◌≤◌, Bool, true, false, nat_le, List, [], ◌∷◌, length, Option, Some, None, refl, ap, sym, ◌∙◌, arith, subst, get_or, slice_get}
+use Rattle.std.proofs.Common.{◌≡◌, ℕ, zero, suc, ◌+◌, ◌<◌, ◌≤◌, Bool, true, false, nat_le, List, [], ◌∷◌, length, Option, Some, refl, ap, sym, ◌∙◌, arith, get_or, slice_get}
 use Rattle.std.specs.List.{list_all}
 use Rattle.std.proofs.lemmas.List.{length-map, get_or-map}
 use Rattle.std.proofs.lemmas.Option.{slice_get-get_or, slice_get_within}
 use Rattle.channel_model.specs.declared.acts.Kind.{Kind}
 use Rattle.channel_model.specs.declared.acts.Kind.TheVariants.{Rendezvous, Buffered, Unlimited, Conflated, DropOldest, Signal}
 use Rattle.channel_model.specs.Channels.{kind_at, places_at, is_signal}
-use Rattle.script_grammar.specs.declared.instructions.Operand.{Operand}
 use Rattle.script_grammar.specs.declared.instructions.Instruction.{Instruction}
-use Rattle.script_grammar.specs.declared.instructions.Instruction.TheVariants.{Send, Receive}
 use Rattle.script_grammar.specs.Programs.{Program, Block, Declared, shape_of}
-use Rattle.script_grammar.specs.Blocks.{job_used, job_given}
 use Rattle.script_grammar.specs.Grammar.{is_kind, is_declared}
 use Rattle.script_grammar.specs.WellFormed.{IsProgram}
 use Rattle.script_grammar.specs.Tags.{tags_of, block_of_tag, code_of}
-use Rattle.script_grammar.specs.Declarations.{is_below, names_channel, launch_below, targets_back, is_next_job, jobs_after_name, knows_jobs, jobs_after, names_its_jobs}
-use Rattle.script_grammar.proofs.Truths.{both_true, le-from_true, lt-from_true, lt-true, same-from_true}
+use Rattle.script_grammar.specs.Declarations.{names_channel, launch_below, targets_back}
+use Rattle.script_grammar.proofs.Truths.{both_true, le-from_true}
 use Rattle.script_grammar.proofs.NamedIsDeclared.{Declares-from_program}
 use Rattle.script_grammar.proofs.Layouts.{test_at, channels_known, block_of_tag-some}
 
@@ -28,9 +25,6 @@ test_below test xs i d all h = test_at test xs i (get_or xs i d) all (slice_get-
 
 pub length-shape_of : (p : Program) → length (shape_of p) ≡ length p.channels
 length-shape_of p = length-map p.channels (λ c. (c.kind, c.places))
-
-pub few_shapes : (p : Program) → IsProgram p → length (shape_of p) ≤ 256
-few_shapes p ok = omega (arith, length-shape_of p, ok.few_channels)
 
 no_channel : Declared
 no_channel = record { name = []; kind = Signal; places = 0 }
@@ -81,13 +75,6 @@ line-within p ok tag i x at =
     let known : names_channel (length p.channels) x ≡ true = test_at (names_channel (length p.channels)) (code_of p tag) i x (channels_known p tag ok) at in
     ap (λ n. names_channel n x) (length-shape_of p) ∙ known
 
--- the channel of a send or receive is declared
-pub send-within : (p : Program) → IsProgram p → (tag i c : ℕ) (v : Operand) → slice_get (code_of p tag) i ≡ Some (Send c v) → c < length (shape_of p)
-send-within p ok tag i c v at = lt-from_true c (length (shape_of p)) (line-within p ok tag i (Send c v) at)
-
-pub receive-within : (p : Program) → IsProgram p → (tag i c : ℕ) → slice_get (code_of p tag) i ≡ Some (Receive c) → c < length (shape_of p)
-receive-within p ok tag i c at = lt-from_true c (length (shape_of p)) (line-within p ok tag i (Receive c) at)
-
 -- ---- targets
 
 target_from : (from j i : ℕ) (bs : List Block) (b : Block) (x : Instruction) → targets_back from bs ≡ true → slice_get bs j ≡ Some b → slice_get b.code i ≡ Some x → launch_below (from + j) x ≡ true
@@ -105,50 +92,6 @@ pub target-before : (p : Program) → IsProgram p → (n i : ℕ) (b : Block) (x
 target-before p ok n i b x at line =
     let here : n ≡ 0 + n = omega arith in
     ap (λ m. launch_below m x) here ∙ target_from 0 n i p.blocks b x (Declares-from_program p ok).targets at line
-
--- ---- names of Jobs
-
-jobs_after-more : (n : ℕ) (code : List Instruction) → n ≤ jobs_after n code
-jobs_after-more n [] = omega arith
-jobs_after-more n (x ∷ code) = omega (arith, one n (job_given x), jobs_after-more (jobs_after_name n (job_given x)) code)
-  where
-    one : (n : ℕ) (o : Option ℕ) → n ≤ jobs_after_name n o
-    one n None = omega arith
-    one n (Some j) = omega arith
-
--- the number of a Job's name is below that of all names
-abbrev pub JobsWithin : ℕ → Instruction → Type 0
-JobsWithin n x = (is_below n (job_used x) ≡ true) × (is_below n (job_given x) ≡ true)
-
-is_below-more : (m n : ℕ) (o : Option ℕ) → m ≤ n → is_below m o ≡ true → is_below n o ≡ true
-is_below-more m n None h e = refl
-is_below-more m n (Some j) h e = let low = lt-from_true j m e in lt-true j n (omega (arith, low, h))
-
-job_at : (n i : ℕ) (code : List Instruction) (x : Instruction) → knows_jobs n code ≡ true → slice_get code i ≡ Some x → JobsWithin (jobs_after n code) x
-job_at n i [] x e at = cc
-job_at n zero (y ∷ code) x e at =
-    let same : y ≡ x = cc in
-    let two = both_true (is_below n (job_used y)) _ e in
-    let next = jobs_after_name n (job_given y) in
-    let grows = jobs_after-more next code in
-    subst (JobsWithin (jobs_after next code)) same (
-      is_below-more n (jobs_after next code) (job_used y) (omega (arith, grows, jobs_after-more n (y ∷ []))) two.0,
-      given n (job_given y) (jobs_after next code) (both_true (is_next_job n (job_given y)) _ two.1).0 grows,
-    )
-  where
-    given : (n : ℕ) (o : Option ℕ) (m : ℕ) → is_next_job n o ≡ true → jobs_after_name n o ≤ m → is_below m o ≡ true
-    given n None m f h = refl
-    given n (Some j) m f h = let is : j ≡ n = same-from_true j n f in lt-true j m (omega (arith, is, h))
-job_at n (suc i) (y ∷ code) x e at =
-    job_at (jobs_after_name n (job_given y)) i code x (both_true (is_next_job n (job_given y)) _ (both_true (is_below n (job_used y)) _ e).1).1 at
-
--- the Job that a line names has one of the names of its block
-pub job-within : (p : Program) → IsProgram p → (n i : ℕ) (b : Block) (x : Instruction) → slice_get p.blocks n ≡ Some b → slice_get b.code i ≡ Some x → JobsWithin (length b.jobs) x
-job-within p ok n i b x at line =
-    let d = Declares-from_program p ok in
-    let known = test_at (λ (c : Block). knows_jobs 0 c.code) p.blocks n b d.jobs at in
-    let all : jobs_after 0 b.code ≡ length b.jobs = same-from_true (jobs_after 0 b.code) (length b.jobs) (test_at names_its_jobs p.blocks n b d.names at) in
-    subst (λ m. JobsWithin m x) all (job_at 0 i b.code x known line)
 
 -- ---- tags
 

@@ -14,7 +14,7 @@ use Rattle.script_grammar.specs.Blocks.{Open, opened, with_line, is_main, produc
 use Rattle.script_grammar.specs.Reads.{closed_main, spawned_weight}
 use Rattle.script_grammar.specs.Grammar.{is_spawn}
 use Rattle.script_grammar.specs.WellFormed.{name_given, line_fits, is_within, lines_fit, with_lines, weight_in, weights_from, blocks_fit, whole_load, IsProgram}
-use Rattle.script_grammar.specs.Tags.{launched, laid_out, layouts_from, layouts, block_named, code_of_block, spawned_by, spawned, tags_of, nest_with, nest_through, counted, launches_from, scopes_entered, scopes_from, scopes_of_all, job_count}
+use Rattle.script_grammar.specs.Tags.{launched, laid_out, layouts_from, layouts, block_named, code_of_block, spawned_by, spawned, tags_of, nest_with, counted, launches_from, scopes_entered, scopes_from, scopes_of_all, job_count}
 use Rattle.script_grammar.specs.Declarations.{all_below}
 use Rattle.script_grammar.proofs.SpelledIsProgram.{lines_stand}
 use Rattle.script_grammar.proofs.Truths.{both, both_true, not_true, lt-from_true, le-from_lt_false}
@@ -64,15 +64,6 @@ spread p q a b w e f = ap (λ v. p * v) f ∙ apart p a b ∙ ap (λ r. r * a + 
 
 gathered : (w p a b c d : ℕ) → w + (a + b) + c + d ≡ w + (a + c) + (b + d)
 gathered w p a b c d = omega arith
-
--- the open block after these lines has what they leave open
-pub open_nest-with_lines : (n : ℕ) (blocks : List (List ℕ)) (weights : List ℕ) (jobs : List (List ℕ)) (b : Open) (code : List Instruction) → lines_stand n blocks weights jobs b code ≡ true → open_nest 1 (with_lines weights jobs b code).clauses (with_lines weights jobs b code).nest ≡ nest_through (open_nest 1 b.clauses b.nest) code
-open_nest-with_lines n blocks weights jobs b [] e = refl
-open_nest-with_lines n blocks weights jobs b (x ∷ code) e =
-    let two = both_true _ _ e in
-    let rest = both_true _ _ two.1 in
-    open_nest-with_lines n blocks weights jobs (with_line weights x (name_given jobs x) b) code rest.1
-    ∙ ap (λ m. nest_through m code) (open_nest-line 1 b.clauses b.nest x (both_true _ _ two.0).0 ∙ nest_then-once (open_nest 1 b.clauses b.nest) x)
 
 -- and weighs as much more as they launch and enter scopes
 pub weight-with_lines : (n : ℕ) (blocks : List (List ℕ)) (weights : List ℕ) (jobs : List (List ℕ)) (b : Open) (code : List Instruction) → lines_stand n blocks weights jobs b code ≡ true → (with_lines weights jobs b code).weight ≡ b.weight + launches_from (weight_at weights) (open_nest 1 b.clauses b.nest) code + scopes_from (open_nest 1 b.clauses b.nest) code

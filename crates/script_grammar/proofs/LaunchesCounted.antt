@@ -1,11 +1,10 @@
 -- What lines launch counts as much as the launches, each as often as the lines round it run.
-use Rattle.std.proofs.Common.{◌≡◌, ℕ, zero, suc, ◌+◌, ◌*◌, List, [], ◌∷◌, ◌++◌, refl, ap, sym, ◌∙◌, arith, map, false, append_assoc}
+use Rattle.std.proofs.Common.{◌≡◌, ℕ, zero, suc, ◌+◌, ◌*◌, List, [], ◌∷◌, ◌++◌, refl, ap, sym, ◌∙◌, arith, map}
 use Rattle.script_grammar.specs.declared.instructions.Instruction.{Instruction}
 use Rattle.script_grammar.specs.declared.instructions.Instruction.TheVariants.{Send, TrySend, Receive, TryReceive, Close, CancelChannel, Yield, Launch, Start, Join, Await, Cancel, Fail, SetResult, Repeat, Each, Scope, Select, OnSend, OnReceive, End}
 use Rattle.script_grammar.specs.Programs.{Program}
-use Rattle.script_grammar.specs.Blocks.{without_end, product, launch_of, listed, opens_lines, is_end}
-use Rattle.script_grammar.specs.Tags.{times_over, closed_all, launched_from, launched, nest_with, nest_through, counted, launches_from, sizes_of, size_of}
-use Rattle.std.proofs.lemmas.List.{append-nil}
+use Rattle.script_grammar.specs.Blocks.{without_end, product}
+use Rattle.script_grammar.specs.Tags.{times_over, closed_all, launched_from, launched, launches_from, sizes_of, size_of}
 
 -- what these instances count
 abbrev pub total : (ℕ → ℕ) → List ℕ → ℕ
@@ -107,87 +106,3 @@ total-launched count code = total-launched_from count [] [] code ∙ nothing_bef
 
 pub sizes_of-launched : (p : Program) (code : List Instruction) → sizes_of p (launched code) ≡ launches_from (size_of p) [] code
 sizes_of-launched p code = sizes_of-total p (launched code) ∙ total-launched (size_of p) code
-
--- ---- what was launched before stands in front
-
-before : List ℕ → List (ℕ × List ℕ) → List ℕ → List ℕ
-before js [] blocks = js ++ blocks
-before js (o ∷ outer) blocks = blocks
-
-all_before : List ℕ → List (ℕ × List ℕ) → List (ℕ × List ℕ)
-all_before js [] = []
-all_before js (o ∷ outer) = (o.0, before js outer o.1) ∷ all_before js outer
-
-before-append : (js : List ℕ) (outer : List (ℕ × List ℕ)) (xs ys : List ℕ) → before js outer xs ++ ys ≡ before js outer (xs ++ ys)
-unfolding before
-before-append js [] xs ys = append_assoc js xs ys
-before-append js (o ∷ outer) xs ys = refl
-
-closed_before : (js : List ℕ) (outer : List (ℕ × List ℕ)) (blocks : List ℕ) → closed_all (all_before js outer) (before js outer blocks) ≡ js ++ closed_all outer blocks
-unfolding before all_before
-closed_before js [] blocks = refl
-closed_before js (o ∷ outer) blocks = ap (closed_all (all_before js outer)) (before-append js outer o.1 (times_over o.0 blocks)) ∙ closed_before js outer (o.1 ++ times_over o.0 blocks)
-
-launched_before : (js : List ℕ) (outer : List (ℕ × List ℕ)) (blocks : List ℕ) (code : List Instruction) → launched_from (all_before js outer) (before js outer blocks) code ≡ js ++ launched_from outer blocks code
-unfolding before all_before
-launched_before js outer blocks [] = closed_before js outer blocks
-launched_before js outer blocks (Send c v ∷ code) = launched_before js outer blocks code
-launched_before js outer blocks (TrySend c v ∷ code) = launched_before js outer blocks code
-launched_before js outer blocks (Receive c ∷ code) = launched_before js outer blocks code
-launched_before js outer blocks (TryReceive c ∷ code) = launched_before js outer blocks code
-launched_before js outer blocks (Close c ∷ code) = launched_before js outer blocks code
-launched_before js outer blocks (CancelChannel c ∷ code) = launched_before js outer blocks code
-launched_before js outer blocks (Yield ∷ code) = launched_before js outer blocks code
-launched_before js outer blocks (Launch p how job ∷ code) = ap (λ l. launched_from (all_before js outer) l code) (before-append js outer blocks (p ∷ [])) ∙ launched_before js outer (blocks ++ p ∷ []) code
-launched_before js outer blocks (Start j ∷ code) = launched_before js outer blocks code
-launched_before js outer blocks (Join j ∷ code) = launched_before js outer blocks code
-launched_before js outer blocks (Await j ∷ code) = launched_before js outer blocks code
-launched_before js outer blocks (Cancel j ∷ code) = launched_before js outer blocks code
-launched_before js outer blocks (Fail k ∷ code) = launched_before js outer blocks code
-launched_before js outer blocks (SetResult v ∷ code) = launched_before js outer blocks code
-launched_before js outer blocks (Repeat k ∷ code) = launched_before js ((k, blocks) ∷ outer) [] code
-launched_before js outer blocks (Each c ∷ code) = launched_before js ((without_end, blocks) ∷ outer) [] code
-launched_before js outer blocks (Scope supervisor ∷ code) = launched_before js ((1, blocks) ∷ outer) [] code
-launched_before js outer blocks (Select ∷ code) = launched_before js ((1, blocks) ∷ outer) [] code
-launched_before js outer blocks (OnSend c v ∷ code) = launched_before js outer blocks code
-launched_before js outer blocks (OnReceive c ∷ code) = launched_before js outer blocks code
-launched_before js [] blocks (End ∷ code) = launched_before js [] blocks code
-launched_before js (o ∷ outer) blocks (End ∷ code) = ap (λ l. launched_from (all_before js outer) l code) (before-append js outer o.1 (times_over o.0 blocks)) ∙ launched_before js outer (o.1 ++ times_over o.0 blocks) code
-
-pub launched_from-front : (js : List ℕ) (code : List Instruction) → launched_from [] js code ≡ js ++ launched code
-unfolding before all_before
-launched_from-front js code = ap (λ l. launched_from [] l code) (sym (append-nil js)) ∙ launched_before js [] [] code
-
--- a line that opens nothing and closes nothing launches before those after it
-pub launched-cons : (x : Instruction) (code : List Instruction) → opens_lines x ≡ false → is_end x ≡ false → launched (x ∷ code) ≡ listed (launch_of x) ++ launched code
-launched-cons (Send c v) code o e = refl
-launched-cons (TrySend c v) code o e = refl
-launched-cons (Receive c) code o e = refl
-launched-cons (TryReceive c) code o e = refl
-launched-cons (Close c) code o e = refl
-launched-cons (CancelChannel c) code o e = refl
-launched-cons Yield code o e = refl
-launched-cons (Launch p how job) code o e = launched_from-front (p ∷ []) code
-launched-cons (Start j) code o e = refl
-launched-cons (Join j) code o e = refl
-launched-cons (Await j) code o e = refl
-launched-cons (Cancel j) code o e = refl
-launched-cons (Fail k) code o e = refl
-launched-cons (SetResult v) code o e = refl
-launched-cons (Repeat k) code o e = cc
-launched-cons (Each c) code o e = cc
-launched-cons (Scope supervisor) code o e = cc
-launched-cons Select code o e = cc
-launched-cons (OnSend c v) code o e = refl
-launched-cons (OnReceive c) code o e = refl
-launched-cons End code o e = cc
-
--- ---- one line more
-
-pub launches_from-push : (count : ℕ → ℕ) (nest : List ℕ) (code : List Instruction) (x : Instruction) → launches_from count nest (code ++ x ∷ []) ≡ launches_from count nest code + product (nest_through nest code) * counted count (launch_of x)
-launches_from-push count nest [] x = omega arith
-launches_from-push count nest (y ∷ code) x = omega (arith, launches_from-push count (nest_with nest y) code x)
-
-pub nest_through-push : (nest : List ℕ) (code : List Instruction) (x : Instruction) → nest_through nest (code ++ x ∷ []) ≡ nest_with (nest_through nest code) x
-nest_through-push nest [] x = refl
-nest_through-push nest (y ∷ code) x = nest_through-push (nest_with nest y) code x

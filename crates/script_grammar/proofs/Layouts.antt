@@ -67,16 +67,6 @@ layout-stays before (b ∷ bs) k h =
     layout-stays (before ++ next_layout before b ∷ []) bs k (omega (arith, h, length-append before (next_layout before b ∷ [])))
     ∙ get_or_append_left before (next_layout before b ∷ []) [] k h
 
-pub layouts_from-append : (before : List (List ℕ)) (bs cs : List Block) → layouts_from before (bs ++ cs) ≡ layouts_from (layouts_from before bs) cs
-unfolding layouts_from
-layouts_from-append before [] cs = refl
-layouts_from-append before (b ∷ bs) cs = layouts_from-append (before ++ next_layout before b ∷ []) bs cs
-
--- one more block is laid out after those before it
-pub layouts-push : (bs : List Block) (b : Block) → layouts (bs ++ b ∷ []) ≡ layouts bs ++ next_layout (layouts bs) b ∷ []
-unfolding layouts_from
-layouts-push bs b = layouts_from-append [] bs (b ∷ [])
-
 -- blocks that have the same layouts are laid out the same
 pub laid_out-same : (before after : List (List ℕ)) (n : ℕ) (js : List ℕ) → ((k : ℕ) → k < n → layout after k ≡ layout before k) → all_below n js ≡ true → laid_out after js ≡ laid_out before js
 laid_out-same before after n [] same all = refl
@@ -170,10 +160,6 @@ slice_get_append_right (x ∷ xs) ys zero i h e = absurd (omega (arith, h))
 slice_get_append_right (x ∷ xs) ys (suc k) i h e =
     let same : k - length xs ≡ suc k - length (x ∷ xs) = omega arith in
     slice_get_append_right xs ys k i (omega (arith, h)) (ap (slice_get ys) same ∙ e)
-
-below_or_not : (k n : ℕ) → Bool → Type 0
-below_or_not k n true = k < n
-below_or_not k n false = n ≤ k
 
 Roomy-append : (l : List (List ℕ)) (n : ℕ) (xs ys : List ℕ) → Roomy l n xs → Roomy l n ys → Roomy l n (xs ++ ys)
 unfolding Roomy

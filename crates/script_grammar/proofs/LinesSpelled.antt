@@ -4,7 +4,6 @@ use Rattle.std.specs.Prelude.{◌==◌, ◌||◌, not}
 use Rattle.std.proofs.lemmas.List.{length-map, append-nil}
 use Rattle.std.specs.Fmt.{decimal}
 use lib.Chars.{codes}
-use Rattle.script_grammar.specs.declared.fault.FaultKind.{FaultKind}
 use Rattle.script_grammar.specs.declared.fault.FaultKind.TheVariants as kinds
 use Rattle.script_grammar.specs.declared.instructions.Operand.{Operand}
 use Rattle.script_grammar.specs.declared.instructions.Launching.{Launching}
@@ -31,10 +30,6 @@ use Rattle.script_grammar.specs.declared.verbs.Verb.{Verb}
 use Rattle.script_grammar.specs.declared.verbs.Verb.TheVariants as verbs
 
 -- ---- families
-
-form_ok : (f g : Form) (u : Unit {0}) (r : Result (Unit {0}) FaultKind) → r ≡ Ok u → (r >>= λ v. Ok f) ≡ Ok g → f ≡ g
-form_ok f g u (Ok v) e ok = ok_is f g (Ok f) refl ok
-form_ok f g u (Err k) e ok = cc
 
 named_found : (names : List (List ℕ)) (make : ℕ → Instruction) (ws : List (List ℕ)) (f : Form) → named_line names make ws ≡ Ok f → (i : ℕ) × (ws ≡ name_of names i ∷ []) × (i < length names) × (line_is (make i) None ≡ f)
 named_found names make ws f ok =

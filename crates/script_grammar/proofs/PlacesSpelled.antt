@@ -122,11 +122,6 @@ awaitable_found names awaitable ws i rest ok =
     let f = known_found names ws i rest (x.1 ∙ ap (λ (c : ℕ × List (List ℕ)). Ok c) k.0) in
     (f.0, f.1, ap (λ (c : ℕ × List (List ℕ)). get_or awaitable c.0 false) (sym k.0) ∙ k.1)
 
-value_ok : (a b : Bool) (v n : ℕ) → (a && b) ≡ true → (if a && b then Some v else None) ≡ Some n → v ≡ n
-value_ok true true v n t e = cc
-value_ok true false v n t e = cc
-value_ok false b v n t e = cc
-
 either : (r t : Bool) → (r || not t) ≡ true → t ≡ true → r ≡ true
 either true t e f = refl
 either false true e f = e

@@ -1,8 +1,8 @@
 -- The canonical lines of a program say it.
-use Rattle.std.proofs.Common.{◌≡◌, [], ◌++◌, refl, arith, true, map}
+use Rattle.std.proofs.Common.{[], ◌++◌, refl, arith, true, map}
 use Rattle.script_grammar.specs.Programs.{Program, channel_names, block_names, name_of}
 use Rattle.script_grammar.specs.Lines.{channel_words, spawn_words}
-use Rattle.script_grammar.specs.Reads.{Read, start, program_so_far}
+use Rattle.script_grammar.specs.Reads.{Read, start}
 use Rattle.script_grammar.specs.Grammar.{SayAll}
 use Rattle.script_grammar.specs.Canonical.{blocks_lines, canonical}
 use Rattle.script_grammar.specs.WellFormed.{weights_from, IsProgram}
@@ -23,7 +23,3 @@ canonical_said p is =
     SayAll-append start (between p.channels [] [] []) (last_of p) channels (blocks ++ spawns) (channels_said [] p.channels is.channel_names is.channels is.few_channels is.few_places)
     (SayAll-append (between p.channels [] [] []) (between p.channels p.blocks weights []) (last_of p) blocks spawns (blocks_said p.channels [] p.blocks [] names is.few_channels is.few_places refl refl (omega (arith, is.load)) is.blocks)
     (spawns_said p.channels p.blocks weights [] p.spawns is.few_channels is.few_places is.load is.spawns))
-
--- and that is the program
-pub last_is : (p : Program) → program_so_far (last_of p) ≡ p
-last_is p = refl

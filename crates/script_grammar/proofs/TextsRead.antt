@@ -184,9 +184,6 @@ read-from_Spells bytes p is =
 
 -- ---- the first fault
 
-fault_is : (f g : ScriptFault) (r : Result Read ScriptFault) → r ≡ Err f → r ≡ Err g → f ≡ g
-fault_is f g r d e = cc
-
 err_is : {A : Type 0} (f g : ScriptFault) (r : Result A ScriptFault) → r ≡ Err f → r ≡ Err g → f ≡ g
 err_is f g r d e = cc
 

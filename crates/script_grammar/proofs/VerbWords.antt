@@ -3,7 +3,6 @@ use Rattle.std.proofs.Common.{◌≡◌, ℕ, List, [], ◌∷◌, refl, ap, ◌
 use Rattle.std.specs.Str.{bytes_eq}
 use Rattle.std.proofs.lemmas.Slice.Eq.{bytes_eq-Decides}
 use Rattle.script_grammar.specs.declared.verbs.Verb.{Verb}
-use Rattle.script_grammar.specs.declared.verbs.Verb.TheVariants.{Send, TrySend, Receive, TryReceive, Close, CancelChannel, Yield, Launch, Async, Lazy, Start, Join, Await, Cancel, Fail, Result, Repeat, Each, Scope, Supervisor, Select, OnSend, OnReceive, End}
 use Rattle.script_grammar.specs.Verbs.{word_of_verb, among, verbs, verb_of}
 
 tested : (b : Bool) (word : List ℕ) (x v : Verb) (rest : Option Verb) → bytes_eq word (word_of_verb x) ≡ b → (rest ≡ Some v → word ≡ word_of_verb v) → (if b then Some x else rest) ≡ Some v → word ≡ word_of_verb v
@@ -18,31 +17,3 @@ among_found word (x ∷ vs) v e = tested (bytes_eq word (word_of_verb x)) word x
 pub verb_found : (word : List ℕ) (v : Verb) → verb_of word ≡ Some v → word ≡ word_of_verb v
 unfolding verb_of
 verb_found word v e = among_found word verbs v e
-
--- and its word is read as the verb
-pub verb_again : (v : Verb) → verb_of (word_of_verb v) ≡ Some v
-unfolding verb_of
-verb_again Send = refl
-verb_again TrySend = refl
-verb_again Receive = refl
-verb_again TryReceive = refl
-verb_again Close = refl
-verb_again CancelChannel = refl
-verb_again Yield = refl
-verb_again Launch = refl
-verb_again Async = refl
-verb_again Lazy = refl
-verb_again Start = refl
-verb_again Join = refl
-verb_again Await = refl
-verb_again Cancel = refl
-verb_again Fail = refl
-verb_again Result = refl
-verb_again Repeat = refl
-verb_again Each = refl
-verb_again Scope = refl
-verb_again Supervisor = refl
-verb_again Select = refl
-verb_again OnSend = refl
-verb_again OnReceive = refl
-verb_again End = refl

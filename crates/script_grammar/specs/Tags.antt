@@ -139,11 +139,6 @@ nest_with nest Select = 1 ∷ nest
 nest_with nest End = but_first nest
 nest_with nest other = nest
 
--- how often the lines run that are open after these
-abbrev pub nest_through : List ℕ → List Instruction → List ℕ
-nest_through nest [] = nest
-nest_through nest (x ∷ code) = nest_through (nest_with nest x) code
-
 -- what an instance of this block counts, if there is one
 abbrev pub counted : (ℕ → ℕ) → Option ℕ → ℕ
 counted count None = 0
