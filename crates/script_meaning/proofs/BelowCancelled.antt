@@ -35,7 +35,7 @@ use Rattle.script_meaning.proofs.Debts.{Exists, exists_first, exists_later, exis
 use Rattle.script_meaning.proofs.Payments.{AllPaid}
 use Rattle.script_meaning.proofs.JobPieces.{job_told, JobPiece, quiet_closes}
 use Rattle.script_meaning.proofs.JobStories.{step, who_did, deed, JobHolds}
-use Rattle.script_meaning.proofs.JobDebts.{Parents, parents_in, AllKnown, known_left, known_right, JobPaid, JobDebt, paid_then, paid_quiet, nobody_owes, needs_there}
+use Rattle.script_meaning.proofs.JobDebts.{JobPaid, JobDebt, paid_then, paid_quiet, nobody_owes, needs_there}
 use Rattle.script_meaning.proofs.DoneJobsEnded.{contrary}
 
 abbrev pub cancelled_at : Option Job → Bool

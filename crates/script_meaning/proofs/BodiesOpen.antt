@@ -20,11 +20,10 @@ use Rattle.job_model.specs.Needs.{OwnsBody, MayEndBody, Holds, any_below, ended_
 use Rattle.job_model.specs.Answers.{IsNotNew}
 use Rattle.job_model.specs.Histories.{replay, replay_from, acts_of, Legal}
 use Rattle.job_model.specs.Floors.{Floor}
-use Rattle.job_model.specs.Laws.{IsSoundRow, has, has_ended_body, is_bodiless}
+use Rattle.job_model.specs.Laws.{has}
 use Rattle.job_model.proofs.Lasting.{tag_lasts, not_new_lasts, parent_lasts}
 use Rattle.job_model.proofs.Own.{prefix_keeps}
 use Rattle.job_model.proofs.Ends.{by_entries}
-use Rattle.job_model.proofs.Families.{replay_families}
 use Rattle.note_book.specs.declared.book.Item.{Item}
 use Rattle.note_book.specs.Items.{job_acts_in}
 use Rattle.call_meaning.specs.Telling.{Told, on_jobs, MayRun, saw, saw_end}
@@ -45,7 +44,7 @@ use Rattle.script_meaning.proofs.BodiesTold.{acts_told, ends_in, scope_rows, fir
 use Rattle.script_meaning.proofs.JobDebts.{AllKnown, parents_in, all_known}
 use Rattle.script_meaning.proofs.JobStories.{true_so}
 use Rattle.script_meaning.proofs.OwnActs.{AllMayCome, all_placed, OwnJobEntry, own_entry, attached_keeps, attached_within}
-use Rattle.script_meaning.proofs.OwnRows.{failure_lasts, any_here, IsTagged, tag_is_row, own_tag, body_unended, owns_body, may_end_body, running_not_new, cancelling_not_new, not_new_attached, not_new_started}
+use Rattle.script_meaning.proofs.OwnRows.{failure_lasts, any_here, own_tag, owns_body, may_end_body, running_not_new, cancelling_not_new, not_new_attached, not_new_started}
 use Rattle.script_meaning.proofs.ScopesEntered.{AreLegal, HasEntered, reach_ends, reach_scopes, innermost_first, found_rows}
 use Rattle.script_meaning.proofs.StagesReached.{reach_begun, reach_fails, reach_rows, reach_low}
 
@@ -206,34 +205,6 @@ innermost_body p k now book x j h seen shape may l o = record {
     by_case (IsInnermost.own e n) = IsOwnRow.own e (subst (λ (s : Shape). k < s.coroutines) (sym shape) h.low)
     by_case (IsInnermost.scope parent s n) = IsOwnRow.scope (ap (λ es. tag_of (replay es (innermost k x))) seen ∙ s.tag)
 
--- what is so of a Job whose body has not ended: it is neither Completing nor ended
-abbrev pub HasOpenState : Option Job → Type 0
-HasOpenState None = Unit {0}
-HasOpenState (Some j) = is_bodiless j.state ≡ false
-
-open_state : (x : Option Job) → IsSoundRow x → has_ended_body x ≡ false → HasOpenState x
-open_state None s o = tt
-open_state (Some j) s o = by_test (is_bodiless j.state) refl
-  where
-    by_test : (b : Bool) → is_bodiless j.state ≡ b → b ≡ false
-    by_test true e = absurd (let u : true ≡ false = sym (s.bodiless e) ∙ o in cc)
-    by_test false e = refl
-
--- its Job is New, Active or Cancelling, or not attached yet
-pub innermost_state : (p : Program) (k : ℕ) (now : Moment) (book : List Item) (x : Config) → Knows p k now book x → is_leaving x.stage ≡ false → is_over x.stage ≡ false → HasOpenState (replay now.jobs (innermost k x))
-innermost_state p k now book x h l o = open_state (replay now.jobs (innermost k x)) ((replay_families (job_shape p) now.jobs h.legal).rows (innermost k x)) (by_case (innermost_is p k now book x h))
-  where
-    unended : list_any (ends_body (innermost k x)) (acts_of k now.jobs) ≡ false
-    unended = innermost_unended p k now book x h l o
-
-    by_row : (r : ℕ) (y : Option Job) → replay now.jobs r ≡ y → IsTagged r y → r ≡ k → list_any (ends_body r) (acts_of k now.jobs) ≡ false → has_ended_body y ≡ false
-    by_row r None e t z n = refl
-    by_row r (Some j) e t z n = ap has_ended_body (sym e) ∙ body_unended (job_shape p) now.jobs r k h.legal (ap tag_of e ∙ ap (λ m. Some m) (t ∙ z)) n
-
-    by_case : IsInnermost p k now x → has_ended_body (replay now.jobs (innermost k x)) ≡ false
-    by_case (IsInnermost.own e n) = by_row (innermost k x) (replay now.jobs (innermost k x)) refl (tag_is_row (job_shape p) now.jobs (innermost k x) (subst (λ r. r < coroutine_count p) (sym e) h.low) h.legal) e unended
-    by_case (IsInnermost.scope parent s n) = body_unended (job_shape p) now.jobs (innermost k x) k h.legal s.tag unended
-
 -- ---- rows of the shape
 
 pub shape_fits : (p : Program) (k : ℕ) → k < coroutine_count p → IsShape (job_shape p)
@@ -328,14 +299,3 @@ pub never_new : (p : Program) (c : ChannelFloor) (j : Floor) (f : Frame) (shape 
 never_new p c j f shape at l h e l' longer n =
     not_new_started (replay at (innermost f.tag f.config))
     (prefix_keeps IsNotNew not_new_lasts shape j.seen at (innermost f.tag f.config) l' longer (innermost_live p f.tag (seen_by c j) f.book f.config (stands_knows p c j f l h) e)) n
-
--- it may cancel that Job for the reason for which it unwinds
-pub stands_reason : (p : Program) (c : ChannelFloor) (j : Floor) (f : Frame) (failure : Option ℕ) → Legal j.shape j.seen → StandsOn p c j f → f.config.stage ≡ Unwinding failure → Holds j.shape (replay j.seen) f.tag (innermost f.tag f.config) (reason_for failure)
-stands_reason p c j f failure l h e =
-    subst (λ s. Holds s (replay j.seen) f.tag (innermost f.tag f.config) (reason_for failure)) (sym h.jobs) (innermost_reason p f.tag (seen_by c j) f.book f.config failure (stands_knows p c j f l h) e)
-
-pub stands_owned : (p : Program) (c : ChannelFloor) (j : Floor) (f : Frame) → Legal j.shape j.seen → StandsOn p c j f → is_fresh f.config.stage ≡ false → is_leaving f.config.stage ≡ false → is_over f.config.stage ≡ false → OwnsBody f.tag (replay j.seen (innermost f.tag f.config))
-stands_owned p c j f l h fresh leaves over = innermost_owned p f.tag (seen_by c j) f.book f.config (stands_knows p c j f l h) fresh leaves over
-
-pub stands_ends : (p : Program) (c : ChannelFloor) (j : Floor) (f : Frame) → Legal j.shape j.seen → StandsOn p c j f → is_fresh f.config.stage ≡ false → is_leaving f.config.stage ≡ false → is_over f.config.stage ≡ false → MayEndBody f.tag (replay j.seen (innermost f.tag f.config))
-stands_ends p c j f l h fresh leaves over = innermost_ends p f.tag (seen_by c j) f.book f.config (stands_knows p c j f l h) fresh leaves over

@@ -7,7 +7,7 @@ use Rattle.channel_model.specs.declared.acts.Act.{Act}
 use Rattle.channel_model.specs.declared.acts.Entry.{Entry}
 use Rattle.channel_model.specs.Channels.{Shape, State, start}
 use Rattle.channel_model.specs.Effects.{after}
-use Rattle.channel_model.specs.Histories.{replay, acts_of, Legal, LegalFrom}
+use Rattle.channel_model.specs.Histories.{replay, Legal, LegalFrom}
 use Rattle.channel_model.specs.Needs.{Needs}
 use Rattle.job_model.specs.declared.acts.JobEntry.{JobEntry}
 use Rattle.note_book.specs.declared.book.Item.{Item}

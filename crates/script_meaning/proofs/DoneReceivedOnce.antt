@@ -459,11 +459,6 @@ unfolding AllAsked
 asked_then base seen [] ys h m = subst (λ l. AllAsked base l ys) (append-nil seen) m
 asked_then base seen (x ∷ xs) ys h m = (h.0, asked_then base (seen ++ x ∷ []) xs ys h.1 (subst (λ l. AllAsked base l ys) (sym (append_assoc seen (x ∷ []) xs)) m))
 
-pub asked_right : (base : ℕ) (seen xs ys : List Told) → AllAsked base seen (xs ++ ys) → AllAsked base (seen ++ xs) ys
-unfolding AllAsked
-asked_right base seen [] ys h = subst (λ l. AllAsked base l ys) (sym (append-nil seen)) h
-asked_right base seen (x ∷ xs) ys h = subst (λ l. AllAsked base l ys) (append_assoc seen (x ∷ []) xs) (asked_right base (seen ++ x ∷ []) xs ys h.1)
-
 not_low : (base c row : ℕ) → nat_le base c ≡ false → c ≡ base + row → ⊥
 not_low base c row e f = by_test (nat_le base c) refl e
   where

@@ -8,17 +8,15 @@ use Rattle.channel_model.specs.declared.acts.Act.TheVariants.{Hand, Put, Offer, 
 use Rattle.channel_model.specs.declared.acts.ChannelNote.{ChannelNote}
 use Rattle.channel_model.specs.declared.acts.ChannelNote.TheVariants as heard_as
 use Rattle.job_model.specs.declared.acts.JobAct.{JobAct}
-use Rattle.job_model.specs.declared.acts.JobAct.TheVariants.{Attach, Start, EndBody, Cancel, Finish, Gone}
+use Rattle.job_model.specs.declared.acts.JobAct.TheVariants.{Attach, Finish}
 use Rattle.job_model.specs.declared.acts.JobNote.{JobNote}
 use Rattle.job_model.specs.declared.acts.JobNote.TheVariants as known
 use Rattle.note_book.specs.declared.book.Item.{Item}
 use Rattle.note_book.specs.declared.book.Item.TheVariants as item
-use Rattle.note_book.specs.Items.{channel_act, channel_acts_in, job_act, job_acts_in}
+use Rattle.note_book.specs.Items.{channel_act, channel_acts_in}
 use Rattle.call_meaning.specs.Telling.{Told, did, items_in}
-use Rattle.call_meaning.specs.Calls.{rows_in, row_in}
 use Rattle.script_meaning.specs.Books.{is_refusal, is_channel_refusal, is_job_refusal}
-use Rattle.script_meaning.specs.Endings.{ClosesAtOnce, IsClosedNext, finish_of}
-use Rattle.script_meaning.proofs.GroupNotes.{AllPass, PassesCalls, PassesEnds, is_no_close, is_answer, both, job_note, all_none, noted_all}
+use Rattle.script_meaning.proofs.GroupNotes.{AllPass, PassesCalls, is_no_close, is_answer, both, job_note, all_none, noted_all}
 
 -- ---- the tests
 
@@ -76,20 +74,6 @@ is_ending_note known.Used = false
 is_ending_note known.ParentEnded = false
 is_ending_note other = true
 
--- no Attach and no refusal
-abbrev pub is_ending : ℕ → Item → Bool
-is_ending base (item.Channel n) = is_ending_call base n
-is_ending base (item.Job n) = is_ending_note n
-
-abbrev pub attaches_no_row_note : JobNote → Bool
-attaches_no_row_note (known.Made act) = attaches_none act
-attaches_no_row_note other = true
-
--- no Attach
-abbrev pub attaches_no_row : Item → Bool
-attaches_no_row (item.Channel n) = true
-attaches_no_row (item.Job n) = attaches_no_row_note n
-
 -- ---- what calls note passes
 
 leaves_most : (base : ℕ) (act : Act) → is_no_close act ≡ true → leaves_dones base act ≡ true
@@ -124,17 +108,6 @@ answers_pass T a b c d e f g h i j (heard_as.Partner x q) k = h x q
 answers_pass T a b c d e f g h i j (heard_as.MainResolved w) k = i w
 answers_pass T a b c d e f g h i j (heard_as.Late w) k = j w
 
-pub gentle_allows : (base : ℕ) → PassesCalls (is_gentle base)
-gentle_allows base = record {
-  acts = λ act e. leaves_most base act e;
-  answers = λ n e. answers_pass (λ m. is_gentle_call base m) (λ c u v. refl) (λ c u v. refl) (λ c v. refl) (λ c v. refl) (λ c v. refl) (λ c u. refl) (λ c. refl) (λ c q. refl) (λ w. refl) (λ w. refl) n e;
-  starts = λ row. refl;
-  cancels = λ row reason. refl;
-  saw = λ row. refl;
-  saw_end = λ row end. refl;
-  fail = λ code. refl;
-}
-
 pub mild_allows : (base : ℕ) → PassesCalls (is_mild base)
 mild_allows base = record {
   acts = λ act e. leaves_most base act e;
@@ -145,34 +118,6 @@ mild_allows base = record {
   saw_end = λ row end. refl;
   fail = λ code. refl;
 }
-
-pub ending_allows : (base : ℕ) → PassesCalls (is_ending base)
-ending_allows base = record {
-  acts = λ act e. refl;
-  answers = λ n e. answers_pass (λ m. is_ending_call base m) (λ c u v. refl) (λ c u v. refl) (λ c v. refl) (λ c v. refl) (λ c v. refl) (λ c u. refl) (λ c. refl) (λ c q. refl) (λ w. refl) (λ w. refl) n e;
-  starts = λ row. refl;
-  cancels = λ row reason. refl;
-  saw = λ row. refl;
-  saw_end = λ row end. refl;
-  fail = λ code. refl;
-}
-
-pub free_allows : PassesCalls attaches_no_row
-free_allows = record {
-  acts = λ act e. refl;
-  answers = λ n e. refl;
-  starts = λ row. refl;
-  cancels = λ row reason. refl;
-  saw = λ row. refl;
-  saw_end = λ row end. refl;
-  fail = λ code. refl;
-}
-
-pub ending_ends : (base : ℕ) → PassesEnds (is_ending base)
-ending_ends base = record { closes = λ c v. refl; end_bodies = λ row v. refl; finishes = λ row end. refl; tells = λ row. refl }
-
-pub free_ends : PassesEnds attaches_no_row
-free_ends = record { closes = λ c v. refl; end_bodies = λ row v. refl; finishes = λ row end. refl; tells = λ row. refl }
 
 -- a channel that is declared is below the first done channel
 pub below_dones : (base c : ℕ) → c < base → not (nat_le base c) ≡ true
@@ -202,44 +147,6 @@ gentle_leaves base (item.Channel n ∷ items) h = let two = both (is_gentle_call
     here (heard_as.MainResolved w) e k = k
     here (heard_as.Late w) e k = k
 gentle_leaves base (item.Job n ∷ items) h = gentle_leaves base items (both (is_gentle_note n) _ h).1
-
--- no act ends a Job
-pub gentle_no_finish : (base : ℕ) (items : List Item) → list_all (is_gentle base) items ≡ true → list_all is_no_finish (job_acts_in items) ≡ true
-gentle_no_finish base [] h = refl
-gentle_no_finish base (item.Channel n ∷ items) h = gentle_no_finish base items (both (is_gentle_call base n) _ h).1
-gentle_no_finish base (item.Job n ∷ items) h = let two = both (is_gentle_note n) _ h in here n two.0 (gentle_no_finish base items two.1)
-  where
-    here : (n : JobNote) → is_gentle_note n ≡ true → list_all is_no_finish (job_acts_in items) ≡ true → list_all is_no_finish (job_act n ++ job_acts_in items) ≡ true
-    here (known.Made act) e k = ap (λ b. b && list_all is_no_finish (job_acts_in items)) e ∙ k
-    here (known.Saw row) e k = k
-    here (known.SawEnd row end) e k = k
-    here (known.Fail code) e k = k
-    here known.NoRow e k = k
-    here known.Used e k = k
-    here known.ParentEnded e k = k
-
-act_unfinished : (base : ℕ) (act : JobAct) (items : List Item) → is_no_finish act ≡ true → IsClosedNext base (finish_of (item.Job (known.Made act))) items
-act_unfinished base (Attach p q kind tag now) items e = tt
-act_unfinished base (Start q) items e = tt
-act_unfinished base (EndBody q v) items e = tt
-act_unfinished base (Cancel q reason) items e = tt
-act_unfinished base (Finish q end) items e = cc
-act_unfinished base (Gone q) items e = tt
-
-note_unfinished : (base : ℕ) (n : JobNote) (items : List Item) → is_gentle_note n ≡ true → IsClosedNext base (finish_of (item.Job n)) items
-note_unfinished base (known.Made act) items e = act_unfinished base act items e
-note_unfinished base (known.Saw row) items e = tt
-note_unfinished base (known.SawEnd row end) items e = tt
-note_unfinished base (known.Fail code) items e = tt
-note_unfinished base known.NoRow items e = tt
-note_unfinished base known.Used items e = tt
-note_unfinished base known.ParentEnded items e = tt
-
-pub gentle_closes : (base : ℕ) (items : List Item) → list_all (is_gentle base) items ≡ true → ClosesAtOnce base items
-unfolding ClosesAtOnce
-gentle_closes base [] h = tt
-gentle_closes base (item.Channel n ∷ items) h = (tt, gentle_closes base items (both (is_gentle_call base n) _ h).1)
-gentle_closes base (item.Job n ∷ items) h = let two = both (is_gentle_note n) (list_all (is_gentle base) items) h in (note_unfinished base n items two.0, gentle_closes base items two.1)
 
 -- ---- what mild notes are
 
@@ -274,12 +181,6 @@ mild_unrefused_note known.Used e = cc
 mild_unrefused_note known.ParentEnded e = cc
 mild_unrefused_note other e = refl
 
-ending_unrefused_note : (n : JobNote) → is_ending_note n ≡ true → is_job_refusal n ≡ false
-ending_unrefused_note known.NoRow e = cc
-ending_unrefused_note known.Used e = cc
-ending_unrefused_note known.ParentEnded e = cc
-ending_unrefused_note other e = refl
-
 nor : (a b : Bool) → a ≡ false → b ≡ false → (a || b) ≡ false
 nor a b e f = ap (λ x. x || b) e ∙ f
 
@@ -296,53 +197,5 @@ mild_item : (base : ℕ) (i : Item) → is_mild base i ≡ true → is_refusal b
 mild_item base (item.Channel n) e = call_unrefused base n (mild_unspent base n e)
 mild_item base (item.Job n) e = mild_unrefused_note n e
 
-ending_item : (base : ℕ) (i : Item) → is_ending base i ≡ true → is_refusal base i ≡ false
-ending_item base (item.Channel n) e = call_unrefused base n e
-ending_item base (item.Job n) e = ending_unrefused_note n e
-
 pub mild_unrefused : (base : ℕ) (told : List Told) → AllPass (is_mild base) told → Unrefused base told
 mild_unrefused base told h = unrefused_items base (is_mild base) (mild_item base) (items_in told) h
-
-pub ending_unrefused : (base : ℕ) (told : List Told) → AllPass (is_ending base) told → Unrefused base told
-ending_unrefused base told h = unrefused_items base (is_ending base) (ending_item base) (items_in told) h
-
--- ---- no row
-
-no_row : (act : JobAct) → attaches_none act ≡ true → row_in act ≡ []
-no_row (Attach p q kind tag now) e = cc
-no_row (Start q) e = refl
-no_row (EndBody q v) e = refl
-no_row (Cancel q reason) e = refl
-no_row (Finish q end) e = refl
-no_row (Gone q) e = refl
-
-free_acts : (items : List Item) → list_all attaches_no_row items ≡ true → rows_in (job_acts_in items) ≡ []
-unfolding rows_in
-free_acts [] h = refl
-free_acts (item.Channel n ∷ items) h = free_acts items h
-free_acts (item.Job n ∷ items) h = let two = both (attaches_no_row_note n) (list_all attaches_no_row items) h in here n two.0 (free_acts items two.1)
-  where
-    here : (n : JobNote) → attaches_no_row_note n ≡ true → rows_in (job_acts_in items) ≡ [] → rows_in (job_act n ++ job_acts_in items) ≡ []
-    here (known.Made act) e k = ap (λ l. l ++ rows_in (job_acts_in items)) (no_row act e) ∙ k
-    here (known.Saw row) e k = k
-    here (known.SawEnd row end) e k = k
-    here (known.Fail code) e k = k
-    here known.NoRow e k = k
-    here known.Used e k = k
-    here known.ParentEnded e k = k
-
--- no row is attached
-pub free_rows : (told : List Told) → AllPass attaches_no_row told → rows_in (job_acts_in (items_in told)) ≡ []
-free_rows told h = free_acts (items_in told) h
-
-ending_free_note : (n : JobNote) → is_ending_note n ≡ true → attaches_no_row_note n ≡ true
-ending_free_note (known.Made act) e = e
-ending_free_note other e = refl
-
-ending_free : (base : ℕ) (items : List Item) → list_all (is_ending base) items ≡ true → list_all attaches_no_row items ≡ true
-ending_free base [] h = refl
-ending_free base (item.Channel n ∷ items) h = ending_free base items (both (is_ending_call base n) _ h).1
-ending_free base (item.Job n ∷ items) h = let two = both (is_ending_note n) _ h in ap (λ b. b && list_all attaches_no_row items) (ending_free_note n two.0) ∙ ending_free base items two.1
-
-pub ending_rows : (base : ℕ) (told : List Told) → AllPass (is_ending base) told → rows_in (job_acts_in (items_in told)) ≡ []
-ending_rows base told h = free_rows told (ending_free base (items_in told) h)

@@ -1,7 +1,7 @@
 -- Wherever moves lead, what a coroutine has entered are the lines that are open where it is.
 use Rattle.std.specs.Prelude.{◌≡◌, ℕ, ◌+◌, ◌<◌, ◌≤◌, Bool, true, false, List, [], ◌∷◌, ◌++◌, length, map, Option, Some, None, slice_get, refl}
-use Rattle.std.proofs.Common.{sym, ap, ◌∙◌, subst, append_assoc, length-append, arith}
-use Rattle.std.proofs.lemmas.List.{length-map, map-append}
+use Rattle.std.proofs.Common.{sym, ap, ◌∙◌, subst, append_assoc, arith}
+use Rattle.std.proofs.lemmas.List.{map-append}
 use Rattle.std.proofs.lemmas.Option.{slice_get_within}
 use Rattle.co_base.specs.declared.names.WaitId.{WaitId}
 use Rattle.job_model.specs.declared.acts.End.{End}
@@ -21,7 +21,7 @@ use Rattle.script_meaning.specs.Lines.{LineCalls, After, AfterAwait, Resumed, At
 use Rattle.script_meaning.specs.Moves.{Move}
 use Rattle.script_meaning.specs.Books.{Spawns, Begins, Reaches}
 use Rattle.script_meaning.specs.Inside.{heads_at, head_of, EntersAt, AllEnter, is_in_lines, may_wait, is_await, CallsAt, Fits}
-use Rattle.script_meaning.proofs.OpenLines.{opened_at, ClosedAt, closed_at, heads_next, heads_open, heads_other, heads_end, end_closes_first, closed_later, few_open}
+use Rattle.script_meaning.proofs.OpenLines.{opened_at, ClosedAt, closed_at, heads_next, heads_open, heads_other, heads_end, end_closes_first, closed_later}
 use Rattle.script_meaning.proofs.LinesPlaced.{placed_at, clause_in_select, end_in_open, opened_closed}
 
 -- ---- what was entered
@@ -113,17 +113,6 @@ scope_closes p k x s ok h e =
     let b = opened_at (code_of p k) x.line h.inside o.within s.head (map head_of s.around) o.open_is in
     let c = opened_closed p k s.head b.opener ok b.opener_is b.opens in
     (c.0, c.1, closed_later (code_of p k) x.line h.inside o.within s.head (map head_of s.around) c.0 o.open_is c.1, c.2)
-
--- no more is entered than lines stand before
-pub entered_few : (p : Program) (k : ℕ) (x : Config) → Fits p k x → length x.entered ≤ x.line
-entered_few p k x h =
-    omega (
-      arith,
-      few_open (code_of p k) x.line h.inside,
-      ap (λ (l : List ℕ). length l) h.opens,
-      length-append h.left (map head_of x.entered),
-      length-map x.entered head_of,
-    )
 
 -- ---- moves
 

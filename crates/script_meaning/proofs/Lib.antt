@@ -55,7 +55,7 @@ pub mod DonePlacesAsked
 pub mod DoneReceivedOnce
 pub mod GentleNotes
 pub mod DonesUnclosed
-pub mod MovesGentle
+pub mod ClausesSpent
 pub mod ClausesOfSelects
 pub mod EndsToSee
 pub mod PlacesGiven

@@ -227,14 +227,6 @@ length-set_row zero row (r ∷ rows) h = omega arith
 length-set_row (suc n) row [] h = absurd (omega (arith, h))
 length-set_row (suc n) row (r ∷ rows) h = let shorter : n ≤ length rows = omega (arith, h) in omega (arith, length-set_row n row rows shorter)
 
--- no name is lost
-length-set_row_more : (n row : ℕ) (rows : List ℕ) → length rows ≤ length (set_row n row rows)
-unfolding set_row
-length-set_row_more zero row [] = omega arith
-length-set_row_more zero row (r ∷ rows) = omega arith
-length-set_row_more (suc n) row [] = omega arith
-length-set_row_more (suc n) row (r ∷ rows) = omega (arith, length-set_row_more n row rows)
-
 -- one name more, or as many
 named_more : (names : ℕ) (job : Option ℕ) (row : ℕ) (rows : List ℕ) → is_next_job names job ≡ true → names ≤ length rows → jobs_after_name names job ≤ length (named job row rows)
 named_more names None row rows e h = h

@@ -12,7 +12,7 @@ use Rattle.job_model.specs.declared.acts.JobAct.TheVariants.{Attach, Start, EndB
 use Rattle.job_model.specs.declared.acts.JobNote.TheVariants as known
 use Rattle.job_model.specs.Acts.{attaches}
 use Rattle.job_model.specs.Trees.{is_among, start}
-use Rattle.job_model.specs.Histories.{acts_of, Legal}
+use Rattle.job_model.specs.Histories.{Legal}
 use Rattle.job_model.specs.Floors.{Floor, is_claimed_by}
 use Rattle.note_book.specs.declared.book.Item.{Item}
 use Rattle.note_book.specs.declared.book.Item.TheVariants as item
@@ -120,10 +120,6 @@ claimed_above p c j g r ok legal on claimed high =
 some_is : {A : Type 0} (o : Option A) → is_some o ≡ true → (x : A) × (o ≡ Some x)
 some_is None e = cc
 some_is (Some x) e = (x, refl)
-
--- two that stand with the same tag made the same acts
-same_acts : (p : Program) (c : ChannelFloor) (j : Floor) (f g : Frame) → StandsOn p c j f → StandsOn p c j g → f.tag ≡ g.tag → job_acts_in g.book ≡ job_acts_in f.book
-same_acts p c j f g on_f on_g same = sym on_g.job_acts ∙ ap (λ k. acts_of k j.seen) (sym same) ∙ on_f.job_acts
 
 -- ---- the tag of a launch
 

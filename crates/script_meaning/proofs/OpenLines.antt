@@ -267,25 +267,3 @@ closed_at code i e x at o is =
     ap (heads_at code) (sym place) ∙ heads_more 0 [] code (i + 1) c.0 ∙ ap (λ n. heads_from n (heads_at code (i + 1)) (drop (i + 1) code) c.0) (sym zero_up)
     ∙ ap (λ l. heads_from (i + 1) l (drop (i + 1) code) c.0) first ∙ c.3 in
     record { behind = omega (arith, c.1); is_end = end; open_then = within; open_after = heads_end code e i (heads_at code i) end within }
-
--- ---- how many
-
--- no more lines are open than stand before
-pub few_open : (code : List Instruction) (i : ℕ) → i ≤ length code → length (heads_at code i) ≤ i
-few_open code zero le = omega arith
-few_open code (suc i) le =
-    let lt : i < length code = omega (arith, le) in
-    let l = line_at code i lt in
-    let up : suc i ≡ i + 1 = omega arith in
-    let less = few_open code i (omega (arith, le)) in
-    let is : length (heads_at code (suc i)) ≡ length (heads_after i (heads_at code i) l.0) = ap (λ n. length (heads_at code n)) up ∙ ap (λ (l : List ℕ). length l) (heads_next code i l.0 l.1) in
-    by_kind i l.0 (heads_at code i) (length (heads_at code (suc i))) (line_kind l.0) less is
-  where
-    shorter : (l : List ℕ) → length (but_first l) ≤ length l
-    shorter [] = omega arith
-    shorter (x ∷ l) = omega arith
-
-    by_kind : (i : ℕ) (x : Instruction) (hs : List ℕ) (n : ℕ) → LineKind x → length hs ≤ i → n ≡ length (heads_after i hs x) → n ≤ suc i
-    by_kind i x hs n (LineKind.opens o f) le e = omega (arith, le, e, ap (λ (l : List ℕ). length l) (heads_open i hs x o))
-    by_kind i x hs n (LineKind.closes c) le e = omega (arith, le, e, ap (λ y. length (heads_after i hs y)) c, shorter hs)
-    by_kind i x hs n (LineKind.other o f) le e = omega (arith, le, e, ap (λ (l : List ℕ). length l) (heads_other i hs x o f))

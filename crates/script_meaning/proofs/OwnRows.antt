@@ -20,7 +20,7 @@ use Rattle.job_model.specs.Effects.{after, state_after_body, state_of_end}
 use Rattle.job_model.specs.Needs.{Needs, OwnsBody, MayEndBody, any_below, ended_by_failure}
 use Rattle.job_model.specs.Families.{IsEnded}
 use Rattle.job_model.specs.Histories.{replay, replay_from, Legal, LegalFrom, acts_of}
-use Rattle.job_model.specs.Floors.{Floor, Added, Looked}
+use Rattle.job_model.specs.Floors.{Floor, Looked}
 use Rattle.job_model.specs.Laws.{IsSoundRow, has, has_ended_body, is_bodiless}
 use Rattle.job_model.specs.Answers.{IsNotNew, LookAnswer, view_of}
 use Rattle.job_model.proofs.Histories.{acts_of-append, Legal-prefix}
@@ -266,26 +266,6 @@ body_at_moment who row a b m l h look p q =
 pub body_here : (who row : ℕ) (j : Floor) → Legal j.shape j.seen → HasBodyAt who row j → has_ended_body (replay j.seen row) ≡ false
 body_here who row j l h = row_unended who row j j.shape j.seen refl h.whose l ([], append-nil j.seen) h.not_ended
 
-own_row_later : (who row : ℕ) (a b : Floor) → Legal b.shape b.seen → b.shape ≡ a.shape → IsPrefix a.seen b.seen → IsOwnRow who row a → IsOwnRow who row b
-own_row_later who row a b l same p (IsOwnRow.own e lt) = IsOwnRow.own e (subst (λ (s : Shape). who < s.coroutines) (sym same) lt)
-own_row_later who row a b l same p (IsOwnRow.scope t) = IsOwnRow.scope (prefix_keeps (λ x. tag_of x ≡ Some who) (tag_lasts who) b.shape a.seen b.seen row l p t)
-
--- the body is there still after a call that did not end it
-pub body_kept : (who row : ℕ) (acts : List JobAct) (rows : List ℕ) (a b : Floor) → Legal b.shape b.seen → Added who acts rows a b → list_any (ends_body row) acts ≡ false → HasBodyAt who row a → HasBodyAt who row b
-body_kept who row acts rows a b l added none h = record {
-  caller = ap (λ f. f who) added.same.callers ∙ h.caller;
-  whose = own_row_later who row a b l added.same.shape added.longer h.whose;
-  not_ended = ap (list_any (ends_body row)) added.mine ∙ any_append (ends_body row) (acts_of who a.seen) acts h.not_ended none;
-}
-  where
-    any_append : (t : JobAct → Bool) (xs ys : List JobAct) → list_any t xs ≡ false → list_any t ys ≡ false → list_any t (xs ++ ys) ≡ false
-    any_append t [] ys e f = f
-    any_append t (x ∷ xs) ys e f = by_first (t x) e (any_append t xs ys)
-      where
-        by_first : (b : Bool) → (b || list_any t xs) ≡ false → (list_any t xs ≡ false → list_any t ys ≡ false → list_any t (xs ++ ys) ≡ false) → (b || list_any t (xs ++ ys)) ≡ false
-        by_first true k more = cc
-        by_first false k more = more k f
-
 not_bodiless : (x : Option Job) (v : JobView) → IsSoundRow x → has_ended_body x ≡ false → option_map view_of x ≡ Some v → is_bodiless v.state ≡ true → ⊥
 not_bodiless None v s o e b = cc
 not_bodiless (Some j) v s o e b = let same : view_of j ≡ v = cc in let u : true ≡ false = sym (s.bodiless (ap (λ (w : JobView). is_bodiless w.state) same ∙ b)) ∙ o in cc
@@ -317,13 +297,3 @@ not_over (Some j) s o e = let u : true ≡ false = sym (s.bodiless (ended_bodile
 -- whose body has not ended, that Job has not
 pub never_over : (who row : ℕ) (j : Floor) → Legal j.shape j.seen → HasBodyAt who row j → IsEnded (replay j.seen row) → ⊥
 never_over who row j l h e = not_over (replay j.seen row) ((replay_families j.shape j.seen l).rows row) (body_here who row j l h) e
-
--- nor was it at a moment of a call that did not end it
-pub never_over_at : (who row : ℕ) (a b : Floor) (m : List JobEntry) → Legal b.shape b.seen → HasBodyAt who row a → Looked who [] a b → IsPrefix a.seen m → IsPrefix m b.seen → IsEnded (replay m row) → ⊥
-never_over_at who row a b m l h look p q e =
-    not_over (replay m row) ((replay_families b.shape m (Legal-prefix b.shape m q.0 (rw q.1 l))).rows row) (body_at_moment who row a b m l h look p q) e
-
--- nor was it at any later moment at which its own acts had not ended it
-pub never_over_then : (who row : ℕ) (j : Floor) (shape : Shape) (at : List JobEntry) → shape ≡ j.shape → HasBodyAt who row j → Legal shape at → IsPrefix j.seen at → list_any (ends_body row) (acts_of who at) ≡ false → IsEnded (replay at row) → ⊥
-never_over_then who row j shape at same h l p none e =
-    not_over (replay at row) ((replay_families shape at l).rows row) (row_unended who row j shape at same h.whose l p none) e

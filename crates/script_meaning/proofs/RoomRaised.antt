@@ -16,7 +16,7 @@ use Rattle.channel_model.specs.declared.standing.Receiver.{Receiver}
 use Rattle.channel_model.specs.declared.standing.Resolution.{Resolution}
 use Rattle.channel_model.specs.declared.standing.Resolution.TheVariants as resolved
 use Rattle.channel_model.specs.Channels.{Shape, State, Channel, kind_at, is_full, suspends, drops}
-use Rattle.channel_model.specs.Effects.{after, is_open, is_held_by, admitted, place_offer, place_receiver, put_channel, resolve, resolve_first, resolve_holder, with_queue, remove_first, resolve_offer}
+use Rattle.channel_model.specs.Effects.{after, is_open, is_held_by, admitted, place_offer, place_receiver, put_channel, resolve_first, resolve_holder, with_queue, remove_first, resolve_offer}
 use Rattle.channel_model.specs.Needs.{Needs}
 use Rattle.channel_model.specs.Histories.{replay, Legal}
 use Rattle.channel_model.specs.Laws.{Ascends as ChannelAscends}

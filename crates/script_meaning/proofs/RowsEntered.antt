@@ -72,11 +72,6 @@ unfolding sum_below
 sum_first zero f = refl
 sum_first (suc n) f = omega (arith, sum_first n f)
 
-sum_same : (n : ℕ) (f g : ℕ → ℕ) → ((t : ℕ) → f t ≡ g t) → sum_below n f ≡ sum_below n g
-unfolding sum_below
-sum_same zero f g e = refl
-sum_same (suc n) f g e = omega (arith, e n, sum_same n f g e)
-
 -- ---- counts
 
 count_or : (from n : ℕ) (f g : ℕ → Bool) → count_from from n (λ r. f r || g r) ≤ count_from from n f + count_from from n g

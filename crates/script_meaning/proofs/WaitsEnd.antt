@@ -10,11 +10,8 @@ use Rattle.channel_model.specs.declared.acts.ChannelNote.TheVariants as of_chann
 use Rattle.channel_model.specs.declared.acts.Entry.{Entry}
 use Rattle.channel_model.specs.declared.acts.Settled.{Settled}
 use Rattle.channel_model.specs.declared.acts.Settled.TheVariants as settled
-use Rattle.channel_model.specs.declared.standing.Resolution.{Resolution}
-use Rattle.channel_model.specs.declared.standing.Resolution.TheVariants as resolved
-use Rattle.channel_model.specs.Channels.{Shape, Wait, kind_at, is_signal}
-use Rattle.channel_model.specs.Outcomes.{outcome_of}
-use Rattle.channel_model.specs.Answers.{outcome_at, outcome_of_some}
+use Rattle.channel_model.specs.Channels.{Shape, kind_at, is_signal}
+use Rattle.channel_model.specs.Answers.{outcome_at}
 use Rattle.channel_model.specs.Histories.{replay, acts_of, Legal}
 use Rattle.channel_model.specs.ClauseSides.{EndsAtClause}
 use Rattle.channel_model.proofs.ResolvedAtClauses.{begun_at_clause, ends_at_clause}
@@ -23,7 +20,6 @@ use Rattle.note_book.specs.declared.book.Item.TheVariants as item
 use Rattle.note_book.specs.Items.{channel_acts_in}
 use Rattle.note_book.proofs.Appended.{channel_acts_in-append}
 use Rattle.call_meaning.specs.Telling.{Told, items_in, made}
-use Rattle.call_meaning.specs.Facts.{IsTakenBack, is_taken_back}
 use Rattle.call_meaning.specs.ChannelCalls.{Done, Got, Closed}
 use Rattle.script_grammar.specs.declared.instructions.Instruction.{Instruction}
 use Rattle.script_grammar.specs.declared.instructions.Instruction.TheVariants as line
@@ -57,23 +53,6 @@ done_is_signal p row =
     get_or-append-at xs ys n row e = subst (λ m. get_or (xs ++ ys) (m + row) (Signal, 0) ≡ get_or ys row (Signal, 0)) e (get_or-append-add xs ys row (Signal, 0))
 
 -- ---- how a wait is seen to end
-
--- where the wait of a Job that was not cancelled ends as cancelled, it was taken back
-back_how : (how : Resolution) → outcome_of how false ≡ settled.Cancelled → is_taken_back (Some how) ≡ true
-back_how (resolved.Handed n v) e = cc
-back_how (resolved.Taken n) e = cc
-back_how (resolved.Admitted n) e = cc
-back_how (resolved.Closed n v) e = cc
-back_how (resolved.Withdrawn why) e = refl
-back_how resolved.Voided e = refl
-
-back_some : (how : Option Resolution) → outcome_of_some false how ≡ Some settled.Cancelled → is_taken_back how ≡ true
-back_some None e = cc
-back_some (Some how) e = back_how how (let k : outcome_of how false ≡ settled.Cancelled = cc in k)
-
-pub taken_back_wait : (x : Option Wait) → outcome_at false x ≡ Some settled.Cancelled → IsTakenBack x
-taken_back_wait None e = cc
-taken_back_wait (Some x) e = back_some x.resolved e
 
 -- the acts of what was told round one that was made
 acts_round : (before behind : List Told) (act : Act) → channel_acts_in (items_in (before ++ made act ∷ behind)) ≡ channel_acts_in (items_in before) ++ act ∷ channel_acts_in (items_in behind)

@@ -1,8 +1,7 @@
 -- The forms in which a wait is told that is given up.
-use Rattle.std.proofs.Common.{◌≡◌, true, List, [], ◌∷◌, refl, ap, sym, ◌∙◌, Option, Some, None}
+use Rattle.std.proofs.Common.{◌≡◌, true, [], ◌∷◌, refl, ap, sym, ◌∙◌, Option, Some, None}
 use Rattle.co_base.specs.declared.names.WaitId.{WaitId}
 use Rattle.channel_model.specs.declared.acts.Act.TheVariants.{Settle}
-use Rattle.channel_model.specs.declared.acts.ChannelNote.TheVariants.{Late}
 use Rattle.channel_model.specs.declared.acts.Settled.{Settled}
 use Rattle.channel_model.specs.declared.acts.Settled.TheVariants as settled
 use Rattle.channel_model.specs.declared.standing.Resolution.{Resolution}
@@ -10,8 +9,8 @@ use Rattle.channel_model.specs.declared.standing.Resolution.TheVariants as resol
 use Rattle.channel_model.specs.Channels.{Wait}
 use Rattle.channel_model.specs.Outcomes.{outcome_of}
 use Rattle.channel_model.specs.Answers.{outcome_at, outcome_of_some}
-use Rattle.call_meaning.specs.Telling.{Told, made, heard}
-use Rattle.call_meaning.specs.ChannelCalls.{Admits, GivesUp, is_given_up}
+use Rattle.call_meaning.specs.Telling.{made}
+use Rattle.call_meaning.specs.ChannelCalls.{GivesUp, is_given_up}
 
 up_how : (how : Resolution) → is_given_up (outcome_of how true) ≡ true
 up_how (resolved.Handed n v) = refl
@@ -37,11 +36,3 @@ dispatched w (settled.Sent n) e = cc
 dispatched w (settled.Closed n v) e = cc
 dispatched w settled.Cancelled e = GivesUp.dispatched
 dispatched w (settled.Undelivered v) e = GivesUp.undelivered v
-
--- a wait whose withdrawal came too late
-pub late_end : (w : WaitId) (outcome : Settled) (admits : List Told) → is_given_up outcome ≡ true → Admits w.channel admits → GivesUp w (heard (Late w) ∷ made (Settle w outcome) ∷ admits)
-late_end w (settled.Value n v) admits e a = cc
-late_end w (settled.Sent n) admits e a = cc
-late_end w (settled.Closed n v) admits e a = cc
-late_end w settled.Cancelled admits e a = GivesUp.late admits a
-late_end w (settled.Undelivered v) admits e a = GivesUp.late_undelivered v admits a

@@ -32,7 +32,7 @@
 //! - where a coroutine is: `LinesPlaced`, `OpenLines`, `InsideCode`, `LinesPassed`, `LinesLeft`, `NamesGiven`, `NamesKnown`.
 //! - that moves come to an end: `MovesFall`.
 //! - which waits a line begins and how they end: `WaitsPlaced`, `WaitsEnd`, `ClausesOfSelects`.
-//! - what a group of notes may hold: `GroupNotes`, `GentleNotes`, `MovesGentle`.
+//! - what a group of notes may hold: `GroupNotes`, `GentleNotes`, `ClausesSpent`.
 //! - scopes, ends and tags: `OwnActs`, `ScopesEntered`, `NamedRows`, `StagesReached`, `OwnRows`, `BodiesTold`, `BodiesOpen`,
 //!   `CompletedJobs`, `WaitsGivenUp`, `DoneAsked`, `DonePlacesAsked`, `DoneReceivedOnce`, `DonesUnclosed`, `EndsToSee`, `TagsGiven`,
 //!   `TagsReached`, `RowsEntered`, `AttachesTold`, `PlacesGiven`, `NotSpent`, `NoRefusals`.
