@@ -1,5 +1,5 @@
 -- A run before its first turn.
-use Rattle.std.proofs.Common.{◌≡◌, ◌≢◌, ℕ, ◌+◌, ◌<◌, Bool, true, false, ◌||◌, List, [], ◌∷◌, ◌++◌, length, set, zero, suc, Option, Some, None, refl, ap, sym, ◌∙◌, subst, arith, slice_get, map, if◌then◌else◌, length-set, is_some, replicate}
+use Rattle.std.proofs.Common.{◌≡◌, ◌≢◌, ℕ, ◌+◌, ◌<◌, Bool, true, false, ◌||◌, List, [], ◌∷◌, ◌++◌, length, set, Option, Some, None, refl, ap, sym, ◌∙◌, subst, arith, slice_get, map, if◌then◌else◌, length-set, is_some}
 use Rattle.std.specs.Prelude.{◌==◌}
 use Rattle.std.specs.List.{list_any}
 use Rattle.std.proofs.lemmas.Bool.{eqb-true}
@@ -28,7 +28,7 @@ use Rattle.script_meaning.specs.Books.{story, Runs, Reaches, Begins, is_refusal}
 use Rattle.script_meaning.specs.Polls.{own_rows}
 use Rattle.poll_states.specs.declared.frame.Frame.{Frame}
 use Rattle.poll_states.specs.Frames.{frame_of, config_of, items_of}
-use Rattle.poll_states.specs.Steps.{IsNewRoot, IsOnItsChannels, IsOnItsJobs, BegunTo}
+use Rattle.poll_states.specs.Steps.{IsOnItsChannels, IsOnItsJobs, BegunTo}
 use Rattle.poll_states.proofs.LaterStands.{same_job_acts, same_claims, claims_within}
 use Rattle.script_meaning.proofs.NoRefusals.{AreClaimed, begun_never, is_among-rows_in}
 use Rattle.engine_one.specs.Coroutines.{Scene, FrameStands, StandsAt, AllStand}
@@ -85,9 +85,6 @@ nothing_closed base c j e r lt closed =
 
 -- ---- the root
 
-pub root_is_new : (frames : List Frame) (f : Frame) → AllMade frames → slice_get frames 0 ≡ Some f → IsNewRoot f
-root_is_new frames f all e = let made = made_at frames 0 f all e in record { tag = made.tag; config = made.config; book = made.book }
-
 pub root_on_channels : (p : Program) (c : Floor) → HasNoCalls p c → IsOnItsChannels p c
 root_on_channels p c calls = record { channels = calls.shape; of_channels = calls.callers 0; no_channel_acts = no_calls_yet 0 c calls.seen }
 
@@ -125,11 +122,6 @@ fresh_frame p c j j' k f calls jobs shape callers none claims lt n made = record
   closes = subst (ClosesAtOnce (base_of p)) (sym made.book) (closes_none (base_of p));
   no_refusal = ap (list_any (is_refusal (base_of p))) made.book;
 }
-
--- who comes first
-pub some_first : (p : Program) (frames : List Frame) → length frames ≡ coroutine_count p → 0 < coroutine_count p → (f : Frame) × (slice_get frames 0 ≡ Some f)
-some_first p [] count lt = absurd (omega (arith, count, lt))
-some_first p (f ∷ frames) count lt = (f, refl)
 
 pub all_begin : (p : Program) (c : Floor) (j j' : JobFloor) (frames : List Frame) (f g : Frame) → IsProgram p → HasNoCalls p c → HasNoJobs p j → LegalJobs j'.shape j'.seen → length frames ≡ coroutine_count p → 0 < coroutine_count p → AllMade frames → slice_get frames 0 ≡ Some f → BegunTo p c c j j' f g → AllStand p (record { channels = c; jobs = j' }) (set frames 0 g)
 all_begin p c j j' frames f g is calls jobs legal count some all at begun = record {
@@ -217,7 +209,3 @@ map-map g f (x ∷ xs) = ap (λ l. g (f x) ∷ l) (map-map g f xs)
 
 pub declared_kinds : (p : Program) (channels : List Channel) → map declared_of channels ≡ p.channels → map (λ (c : Channel). (c.kind, c.places)) channels ≡ shape_of p
 declared_kinds p channels e = sym (map-map (λ (d : Declared). (d.kind, d.places)) declared_of channels) ∙ ap (map (λ (d : Declared). (d.kind, d.places))) e
-
-pub replicate_more : {A : Type 0} (n : ℕ) (x : A) → replicate n x ++ x ∷ [] ≡ replicate (suc n) x
-replicate_more zero x = refl
-replicate_more (suc n) x = ap (λ l. x ∷ l) (replicate_more n x)

@@ -1,13 +1,13 @@
 -- Marks of who stands in a list of tags, as tags come and go.
 use Rattle.std.proofs.Common.{◌≡◌, ◌≢◌, ℕ, ◌+◌, ◌<◌, ◌≤◌, Bool, true, false, ◌&&◌, ◌||◌, not, List, [], ◌∷◌, ◌++◌, length, get_or, set, replicate, zero, suc, refl, ap, sym, ◌∙◌, subst, arith, if◌then◌else◌}
-use Rattle.std.specs.Prelude.{◌==◌, nat_lt}
+use Rattle.std.specs.Prelude.{◌==◌}
 use Rattle.std.specs.List.{count_by}
 use Rattle.std.proofs.lemmas.Bool.{eqb-true}
 use Rattle.std.proofs.lemmas.Bool.Decides.{nat_tests}
 use Rattle.std.proofs.lemmas.List.{get_or-set_same, get_or-set_other, length_push, length-set}
 use Rattle.std.proofs.lemmas.List.Sums.{sum_by-set, count_by-le-length, sum_by-cons}
 use Rattle.std.proofs.lemmas.List.Folds.{list_any-append}
-use Rattle.engine_one.specs.Tags.{stands_in, is_distinct, with_tag, IsQueued, AreMarked}
+use Rattle.engine_one.specs.Tags.{stands_in, is_distinct, AreMarked}
 
 both_true : (a b : Bool) → (a && b) ≡ true → (a ≡ true) × (b ≡ true)
 both_true true true e = (refl, refl)
@@ -141,15 +141,3 @@ pub marked_room : (standing : List Bool) (tag : ℕ) (tags : List ℕ) → tag <
 marked_room standing tag tags lt free h =
     let more = marked_fit (set standing tag true) (tags ++ tag ∷ []) (marked_push standing tag tags lt free h) in
     omega (arith, more, length_push tags tag, length-set standing tag true)
-
--- ---- a tag that was added
-
-joined_true : (b : Bool) (tags : List ℕ) (tag : ℕ) → stands_in tags tag ≡ b → stands_in (if true && not b then tags ++ tag ∷ [] else tags) tag ≡ true
-joined_true true tags tag e = e
-joined_true false tags tag e = list_any-append (λ x. x == tag) tags (tag ∷ []) ∙ ap (λ b. stands_in tags tag || (b || false)) (same_number tag) ∙ or_true (stands_in tags tag)
-
-pub with_tag-stands : (count tag : ℕ) (tags : List ℕ) → IsQueued count tag (with_tag count tag tags)
-with_tag-stands count tag tags lt = ap (λ b. stands_in (if b && not (stands_in tags tag) then tags ++ tag ∷ [] else tags) tag) (below tag count lt) ∙ joined_true (stands_in tags tag) tags tag refl
-  where
-    below : (i j : ℕ) → i < j → nat_lt i j ≡ true
-    below i j lt = grind (arith, nat_tests)

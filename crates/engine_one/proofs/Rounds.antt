@@ -1,23 +1,18 @@
 -- A round as far as it has come.
-use Rattle.std.proofs.Common.{◌≡◌, ◌≢◌, ℕ, ◌+◌, ◌<◌, ◌≤◌, Bool, true, false, List, length, Option, Some, None, refl, sym, ◌∙◌, subst, arith, slice_get, inl, inr, ⊎_elim}
+use Rattle.std.proofs.Common.{◌≡◌, ◌≢◌, ℕ, ◌+◌, ◌<◌, ◌≤◌, Bool, true, false, List, Option, Some, None, refl, sym, ◌∙◌, subst, arith, slice_get, inl, inr, ⊎_elim}
 use Rattle.std.specs.Prelude.{◌==◌, ◌||◌}
 use Rattle.std.proofs.lemmas.Bool.{eqb-true}
 use Rattle.std.proofs.lemmas.Bool.Decides.{nat_tests}
 use Rattle.channel_model.specs.Histories.{replay}
 use Rattle.script_grammar.specs.Programs.{Program}
-use Rattle.script_grammar.specs.Tags.{coroutine_count}
 use Rattle.poll_states.specs.declared.frame.Frame.{Frame}
 use Rattle.poll_states.specs.Frames.{config_of, items_of}
 use Rattle.script_meaning.specs.Idle.{IsLeft}
 use Rattle.engine_one.specs.Coroutines.{Scene, IsSame, IsLeftAt, all_moves}
-use Rattle.engine_one.specs.Progress.{MovesFall, StandsStill, Advances, OthersSame, TurnCameTo, RoundCameTo, RoundIsCalm}
-use Rattle.engine_one.proofs.Lists.{within}
+use Rattle.engine_one.specs.Progress.{MovesFall, StandsStill, Advances, OthersSame, TurnCameTo}
 
 same_then : (a b c : Scene) → IsSame a b → IsSame b c → IsSame a c
 same_then a b c h k = record { channels = k.channels ∙ h.channels; jobs = k.jobs ∙ h.jobs }
-
-pub nothing_came : (a : Scene) → IsSame a a
-nothing_came a = record { channels = refl; jobs = refl }
 
 still_left : (a b : Scene) (k : ℕ) (o : Option Frame) → IsSame a b → IsLeftAt a k o → IsLeftAt b k o
 still_left a b k None same h = tt
@@ -99,26 +94,3 @@ round_more p a b c xs ys zs r s t tag true true h others advances came = round_m
 round_more p a b c xs ys zs r s t tag true false h others advances came = round_waits p a b c xs ys zs r s t tag true h others advances came
 round_more p a b c xs ys zs r s t tag false true h others advances came = round_moves p a b c xs ys zs r s t tag false h advances came
 round_more p a b c xs ys zs r s t tag false false h others advances came = round_waits p a b c xs ys zs r s t tag false h others advances came
-
--- all were polled
-pub round_ends : (p : Program) (a b : Scene) (xs ys : List Frame) (r s : List ℕ) (tag : ℕ) (moved : Bool) → tag ≡ coroutine_count p → length ys ≡ coroutine_count p → RoundSoFar p a b xs ys r s tag moved → RoundCameTo p a b xs ys moved
-round_ends p a b xs ys r s tag true e count h = h.so_far
-round_ends p a b xs ys r s tag false e count h = (h.so_far.0, λ k. at_each k (slice_get ys k) refl (h.so_far.1 k))
-  where
-    beyond : (k : ℕ) (f : Frame) → slice_get ys k ≡ Some f → k < tag
-    beyond k f at = omega (arith, e, count, within ys k f at)
-
-    at_each : (k : ℕ) (o : Option Frame) → slice_get ys k ≡ o → (k < tag → IsLeftAt b k (slice_get ys k)) → IsLeftAt b k o
-    at_each k None at left = tt
-    at_each k (Some f) at left = subst (IsLeftAt b k) at (left (beyond k f at))
-
--- a round that left no tag to be polled, and in which nothing was done, is calm
-pub round_calm : (p : Program) (a b : Scene) (xs ys : List Frame) → RoundCameTo p a b xs ys false → RoundIsCalm p a b xs ys true
-round_calm p a b xs ys h = h.1
-
-pub round_moved : (p : Program) (a b : Scene) (xs ys : List Frame) → RoundCameTo p a b xs ys true → RoundIsCalm p a b xs ys false
-round_moved p a b xs ys h = h
-
--- one that left a tag to be polled was not
-pub round_woke : (p : Program) (a b : Scene) (xs ys : List Frame) (r s : List ℕ) → Advances p a b xs ys r s → s ≢ r → RoundIsCalm p a b xs ys false
-round_woke p a b xs ys r s h n = ⊎_elim (λ (u : MovesFall p a b xs ys). u) (λ (u : StandsStill p a b xs ys r s). absurd (n u.ready)) h

@@ -32,7 +32,7 @@ use Rattle.script_meaning.proofs.NoRefusals.{AreClaimed}
 use Rattle.script_meaning.proofs.NotSpent.{AllNoted, polled_never}
 use Rattle.poll_states.proofs.LaterStands.{stands_later, others_added, same_acts, same_job_acts, claims_within}
 use Rattle.poll_states.proofs.CannotGoOn.{cannot_go_on}
-use Rattle.engine_one.specs.Coroutines.{Scene, IsLater, IsSame, FrameStands, StandsAt, AllStand, IsLeftAt, frame_moves, all_moves}
+use Rattle.engine_one.specs.Coroutines.{Scene, IsSame, FrameStands, StandsAt, AllStand, IsLeftAt, frame_moves, all_moves}
 use Rattle.engine_one.specs.Progress.{MovesFall, StandsStill, Advances, OthersSame, TurnCameTo}
 use Rattle.engine_one.proofs.Lists.{slice_get-Some, slice_get-set_same, slice_get-set_other, sum_by-set_same, some_at, none_past}
 use Rattle.engine_one.proofs.ClosedAtOnce.{closes-append, closes_same}
@@ -149,9 +149,6 @@ turned_stand p a b frames k f g answer is h lt read legal_channels legal turned 
     each_at j false e =
         let n : k ≢ j = λ q. grind (arith, nat_tests) in
         subst (StandsAt p b j) (sym (slice_get-set_other frames k j g n)) (kept j (slice_get frames j) n (h.each j))
-
-pub turned_later : (p : Program) (a b : Scene) (f g : Frame) (answer : Turn) → PolledTo p a.channels b.channels a.jobs b.jobs f g answer → IsLater a b
-turned_later p a b f g answer turned = record { channels = turned.polled.channels.longer; jobs = turned.polled.jobs.longer }
 
 -- ---- how many moves are left
 

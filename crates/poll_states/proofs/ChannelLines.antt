@@ -17,9 +17,8 @@ use Rattle.channel_calls.specs.declared.caller.TrySendAnswer.{TrySendAnswer}
 use Rattle.channel_calls.specs.declared.caller.TrySendAnswer.TheVariants as try_send
 use Rattle.channel_calls.specs.declared.caller.TryReceiveAnswer.{TryReceiveAnswer}
 use Rattle.channel_calls.specs.declared.caller.TryReceiveAnswer.TheVariants as try_receive
-use Rattle.channel_calls.specs.declared.caller.ReceiveAnswer.{ReceiveAnswer}
 use Rattle.channel_calls.specs.declared.caller.ReceiveAnswer.TheVariants as receive
-use Rattle.channel_calls.specs.Calls.{IsLeftWaiting, SentAnswer, ReceivedAnswer, TrySentAnswer, TryReceivedAnswer, ClosedAnswer, CancelledChannelAnswer}
+use Rattle.channel_calls.specs.Calls.{IsLeftWaiting, SentAnswer, TrySentAnswer, TryReceivedAnswer, ClosedAnswer, CancelledChannelAnswer}
 use Rattle.channel_calls.proofs.OwnOffers.{left_seen}
 use Rattle.channel_calls.proofs.AnswersGo.{sent_goes, unsent_goes, closes_goes, cancels_goes}
 use Rattle.script_grammar.specs.declared.instructions.Operand.{Operand}
@@ -43,7 +42,7 @@ use Rattle.poll_states.specs.declared.answers.Came.TheVariants as came
 use Rattle.poll_states.specs.declared.calls.ChannelCall.{ChannelCall}
 use Rattle.poll_states.specs.declared.calls.ChannelCall.TheVariants as call
 use Rattle.poll_states.specs.Frames.{config_of, items_of}
-use Rattle.poll_states.specs.Calls.{line_of, channel_in, element_of, came_of_send, came_of_try_send, came_of_receive, came_of_try_receive, answer_of, is_done, is_closed, IsSendEnd, CallTells, LeftWaiting, Made, after_call}
+use Rattle.poll_states.specs.Calls.{line_of, channel_in, element_of, came_of_send, came_of_try_send, came_of_try_receive, answer_of, is_done, is_closed, IsSendEnd, LeftWaiting, Made, after_call}
 use Rattle.poll_states.specs.Steps.{Stepped}
 use Rattle.script_meaning.specs.Laws.{wait_of}
 use Rattle.poll_states.proofs.Mild.{AllMild, plain_mild, try_mild, closes_mild, cancels_channel_mild}
@@ -99,18 +98,6 @@ tried_to_send_made o who n v c c' i i' answer a e h = subst (Made v (call.TrySen
     by_answer try_send.Full m = record { told = blocked (sends n v) ∷ []; goes = ((refl, refl), TryCall.blocks (sends n v)); left = m; stood = tt }
     by_answer (try_send.Closed x) m = record { told = heard (TrySendClosed n v x) ∷ []; goes = ((refl, refl), TryCall.refused (sends n v) _ (TryRefused.send n v x)); left = m; stood = tt }
     by_answer try_send.Spent m = record { told = spent (sends n v); goes = ((refl, refl), TryCall.no_place n v); left = m; stood = tt }
-
--- a receive, of a line that tells it so
-pub received_made : (k : ChannelCall) (who n v : ℕ) (c c' : ChannelFloor) (i i' : List Item) (answer : ReceiveAnswer) (a : Came)
-    → ((b : Came) (told : List Told) → (is_done b ≡ false) × PlainCall (receives n) told (answer_of b) → CallTells v k b told)
-    → a ≡ came_of_receive answer → ReceivedAnswer who n c c' i i' (Ok answer) → Made v k who c c' i i' a
-received_made k who n v c c' i i' answer a tells e h = subst (Made v k who c c' i i') (sym e) (by_answer answer h)
-  where
-    by_answer : (answer : ReceiveAnswer) → ReceivedAnswer who n c c' i i' (Ok answer) → Made v k who c c' i i' (came_of_receive answer)
-    by_answer (receive.Value x) m = record { told = m.told; goes = tells (came.Got x) m.told (refl, m.goes); left = m.left; stood = tt }
-    by_answer (receive.Waits w) m = record { told = m.0.told; goes = tells (came.Waits w) m.0.told (refl, m.0.goes); left = m.0.left; stood = left_waiting who _ w c c' m.1 }
-    by_answer (receive.Closed x) m = record { told = m.told; goes = tells (came.Closed x) m.told (refl, m.goes); left = m.left; stood = tt }
-    by_answer receive.Spent m = record { told = m.told; goes = tells came.NoPlace m.told (refl, m.goes); left = m.left; stood = tt }
 
 pub tried_to_receive_made : (who n v : ℕ) (c c' : ChannelFloor) (i i' : List Item) (answer : TryReceiveAnswer) (a : Came) → a ≡ came_of_try_receive answer → TryReceivedAnswer who n c c' i i' (Ok answer) → Made v (call.TryReceive n) who c c' i i' a
 tried_to_receive_made who n v c c' i i' answer a e h = subst (Made v (call.TryReceive n) who c c' i i') (sym e) (by_answer answer h)

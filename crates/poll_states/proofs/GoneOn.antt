@@ -38,7 +38,7 @@ use Rattle.poll_states.specs.Frames.{config_of, items_of, frame_of, Stands, IsUn
 use Rattle.poll_states.specs.Steps.{Stepped, CutShort, OwnStateSeen, PolledTo, PollAnswer, AnsweredAfter}
 use Rattle.poll_states.specs.Ends.{HasSeen, NotYetSeen, Seen, WentOn, WentOnAnswer}
 use Rattle.poll_states.proofs.Standing.{stands_fits}
-use Rattle.poll_states.proofs.Moving.{Tells, tells_step, polled_to, keeps_then, rows_in-append}
+use Rattle.poll_states.proofs.Moving.{Tells, tells_step, polled_to, rows_in-append}
 use Rattle.poll_states.proofs.Turning.{claims_later, tells_later, answer_at, polled_still}
 use Rattle.poll_states.proofs.Changing.{never_unmoved}
 use Rattle.std.specs.List.{list_all}
@@ -52,6 +52,7 @@ use Rattle.call_meaning.specs.Calls.{ToldOnChannels}
 use Rattle.call_meaning.proofs.JobTellings.{both_channels}
 use Rattle.channel_calls.specs.Calls.{IsUntouched, end_told}
 use Rattle.scope_builders.specs.Dones.{ClosesAtOnce}
+use Rattle.scope_builders.proofs.DonesKept.{kept_then}
 use Rattle.script_meaning.specs.Shapes.{floor_shape}
 use Rattle.script_meaning.proofs.WaitsEnd.{scope_wait_ends}
 use Rattle.script_meaning.proofs.GroupNotes.{settle_all, all_none}
@@ -88,16 +89,13 @@ noted_then p c d e j k l f m g xs ys h n =
 
 dones_then : (p : Program) (c d e : ChannelFloor) (j k l : Floor) (f m g : Frame) (xs ys : List Told) → Tells p c d j k f m xs → Tells p d e k l m g ys → KeepsDones (base_of p) c e j l (items_in (xs ++ ys))
 dones_then p c d e j k l f m g xs ys h n =
-    subst (KeepsDones (base_of p) c e j l) (sym (items_in-append xs ys)) (keeps_then (base_of p) c d e j k l (items_in xs) (items_in ys) h.noted.channels.same.alone h.noted.jobs.same.alone h.dones n.dones)
+    subst (KeepsDones (base_of p) c e j l) (sym (items_in-append xs ys)) (kept_then (base_of p) c d e j k l (items_in xs) (items_in ys) h.noted.channels.same.alone h.noted.jobs.same.alone h.dones n.dones)
 
 -- ---- an end that is seen
 
 or_false : (b : Bool) → (b || false) ≡ b
 or_false true = refl
 or_false false = refl
-
-end_note : ℕ → End → Item
-end_note row end = item.Job (known.SawEnd row end)
 
 no_more_refused : (x : Config) (notes : List Item) (row : ℕ) (end : End) (j : Floor) → RefusedByClaims x notes j → RefusedByClaims x (notes ++ item.Job (known.SawEnd row end) ∷ []) j
 no_more_refused x notes row end j h = record {

@@ -1,5 +1,5 @@
 -- A coroutine that stands goes on to stand after what it told.
-use Rattle.std.specs.Prelude.{◌≡◌, ℕ, ◌<◌, ◌==◌, Bool, ◌||◌, List, [], ◌∷◌, ◌++◌, Some, None, refl, if◌then◌else◌}
+use Rattle.std.specs.Prelude.{◌≡◌, ℕ, ◌<◌, ◌==◌, Bool, ◌||◌, List, [], ◌∷◌, ◌++◌, refl, if◌then◌else◌}
 use Rattle.std.proofs.Common.{sym, ap, ◌∙◌, subst, append_assoc}
 use Rattle.channel_model.specs.Histories.{acts_of}
 use Rattle.channel_model.specs.Floors.{Floor as ChannelFloor}
@@ -14,7 +14,7 @@ use Rattle.note_book.proofs.Appended.{channel_acts_in-append, job_acts_in-append
 use Rattle.call_meaning.specs.Telling.{Told, items_in}
 use Rattle.call_meaning.specs.Stories.{IsTrue, story_of}
 use Rattle.call_meaning.specs.Calls.{ToldOnBoth, seen_by, rows_in, row_in}
-use Rattle.scope_builders.specs.Dones.{KeepsDones, ClosesAtOnce, IsClosedNext, finish_of}
+use Rattle.scope_builders.specs.Dones.{KeepsDones}
 use Rattle.script_grammar.specs.Programs.{Program}
 use Rattle.script_grammar.specs.Tags.{coroutine_count}
 use Rattle.script_meaning.specs.declared.turn.Turn.{Turn}
@@ -106,22 +106,4 @@ polled_to p c c' j j' f g told answer h s so = record {
   turn = so;
   stands = tells_stand p c c' j j' f g told h s;
   dones = s.dones;
-}
-
--- ---- done channels
-
--- right after each Finish in both lists comes its Close
-pub closes_then : (base : ℕ) (xs ys : List Item) → ClosesAtOnce base xs → ClosesAtOnce base ys → ClosesAtOnce base (xs ++ ys)
-closes_then base [] ys h k = k
-closes_then base (x ∷ xs) ys h k = (next_kept (finish_of x) xs h.0, closes_then base xs ys h.1 k)
-  where
-    next_kept : (o : _) (xs : List Item) → IsClosedNext base o xs → IsClosedNext base o (xs ++ ys)
-    next_kept None xs n = tt
-    next_kept (Some e) [] n = absurd n
-    next_kept (Some e) (y ∷ xs) n = n
-
-pub keeps_then : (base : ℕ) (c d e : ChannelFloor) (j k l : Floor) (xs ys : List Item) → d.alone ≡ c.alone → k.alone ≡ j.alone → KeepsDones base c d j k xs → KeepsDones base d e k l ys → KeepsDones base c e j l (xs ++ ys)
-keeps_then base c d e j k l xs ys a b h m = record {
-  only = λ x y o. m.only (a ∙ x) (b ∙ y) (h.only x y o);
-  at_once = λ x y o. closes_then base xs ys (h.at_once x y o) (m.at_once (a ∙ x) (b ∙ y) (h.only x y o));
 }

@@ -35,46 +35,16 @@ use Rattle.script_meaning.specs.Polls.{HasStood, is_seeing}
 use Rattle.script_meaning.proofs.ClausesOfSelects.{ClausesFit, select_fits}
 use Rattle.script_meaning.proofs.GroupNotes.{select_all}
 use Rattle.script_meaning.proofs.GentleNotes.{is_mild, mild_allows, below_dones}
-use Rattle.script_meaning.proofs.MovesGentle.{clauses_spent}
+use Rattle.script_meaning.proofs.ClausesSpent.{clauses_spent}
 use Rattle.poll_states.specs.declared.frame.Frame.{Frame}
 use Rattle.poll_states.specs.Frames.{config_of, items_of, Stands}
 use Rattle.poll_states.specs.Steps.{Stepped, MovesOn}
 use Rattle.poll_states.specs.Ends.{WentOn, WentOnAnswer}
-use Rattle.poll_states.specs.Selecting.{clause_in, AfterChosen, AfterSelect, waits_with}
+use Rattle.poll_states.specs.Selecting.{AfterChosen, AfterSelect, waits_with}
 use Rattle.poll_states.proofs.FloorsOfScripts.{no_signal}
 use Rattle.poll_states.proofs.LineNeeds.{stands_call}
 use Rattle.poll_states.proofs.Mild.{AllMild}
 use Rattle.poll_states.proofs.ChannelLines.{called, same_wait_stood, no_more_wait}
-
--- ---- the clauses that lines are
-
--- a clause in front of those of the lines behind it, or none
-abbrev pub then_clauses : Option Call → List Call → List Call
-then_clauses None calls = []
-then_clauses (Some call) calls = call ∷ calls
-
-pub one_clause : (x : Config) (l : Instruction) (code : List Instruction) → clauses_in x (l ∷ code) ≡ then_clauses (clause_in x l) (clauses_in x code)
-one_clause x (line.OnSend c o) code = refl
-one_clause x (line.OnReceive c) code = refl
-one_clause x (line.Send c o) code = refl
-one_clause x (line.TrySend c o) code = refl
-one_clause x (line.Receive c) code = refl
-one_clause x (line.TryReceive c) code = refl
-one_clause x (line.Close c) code = refl
-one_clause x (line.CancelChannel c) code = refl
-one_clause x line.Yield code = refl
-one_clause x (line.Launch block how job) code = refl
-one_clause x (line.Start job) code = refl
-one_clause x (line.Join job) code = refl
-one_clause x (line.Await job) code = refl
-one_clause x (line.Cancel job) code = refl
-one_clause x (line.Fail v) code = refl
-one_clause x (line.SetResult o) code = refl
-one_clause x (line.Repeat n) code = refl
-one_clause x (line.Each c) code = refl
-one_clause x (line.Scope supervisor) code = refl
-one_clause x line.Select code = refl
-one_clause x line.End code = refl
 
 -- ---- what may be selected from
 

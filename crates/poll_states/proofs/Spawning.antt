@@ -29,6 +29,7 @@ use Rattle.scope_builders.specs.declared.builder.LaunchError.{LaunchError}
 use Rattle.scope_builders.specs.declared.builder.LaunchError.TheVariants as launch
 use Rattle.scope_builders.specs.Dones.{ClosesAtOnce, KeepsDones}
 use Rattle.scope_builders.specs.Calls.{LaunchAnswer}
+use Rattle.scope_builders.proofs.DonesKept.{at_once_then}
 use Rattle.script_grammar.specs.Programs.{Program, Block, block_names}
 use Rattle.script_grammar.specs.Grammar.{is_spawn}
 use Rattle.script_grammar.specs.Tags.{coroutine_count, size_of, sizes_of, spawned, spawned_by}
@@ -44,7 +45,7 @@ use Rattle.script_reader.specs.Programs.{spawn_of}
 use Rattle.poll_states.specs.declared.frame.Frame.{Frame}
 use Rattle.poll_states.specs.Frames.{config_of, items_of}
 use Rattle.poll_states.specs.Steps.{NotedSome, CutShort, IsNewRoot, IsOnItsChannels, IsOnItsJobs, BegunTo, IsForSpawn, HasSpawned, IsRefusedSpawn}
-use Rattle.poll_states.proofs.Moving.{rows_in-append, own_rows-append, closes_then}
+use Rattle.poll_states.proofs.Moving.{rows_in-append, own_rows-append}
 use Rattle.poll_states.proofs.DonesLeft.{unclosed_kept}
 use Rattle.script_meaning.proofs.GentleNotes.{attach_mild, mild_unrefused}
 use Rattle.poll_states.proofs.Mild.{AllMild, mild_then, nothing_mild, mild_closes, unrefused_claims, claims_behind}
@@ -180,7 +181,7 @@ begun_refused p block left c j k l f m g ok legal new its on h s =
     root_begun p c j l f g told ok legal new its on (s.tag ∙ h.tag) (subst (Spawns p (spawned p) (fresh 0) told) (sym s.config) to)
     (subst (λ r. ToldOnJobs 0 r j l [] (items_of g) told) rows (told_then 0 (rows_in (job_acts_in (items_in h.told))) [] j k l [] (items_of m) (items_of g) h.told s.told h.noted s.noted))
     (subst (λ i. RefusedByClaims (config_of g) i l) (sym (items_in-append h.told s.told)) (claims_behind (base_of p) (config_of g) h.told (items_in s.told) l (mild_unrefused (base_of p) h.told h.mild) s.refused))
-    (subst (ClosesAtOnce (base_of p)) (sym (items_in-append h.told s.told)) (closes_then (base_of p) (items_in h.told) (items_in s.told) (mild_closes (base_of p) (items_in h.told) h.mild) (refusal_closes (base_of p) false s.told s.goes)))
+    (subst (ClosesAtOnce (base_of p)) (sym (items_in-append h.told s.told)) (at_once_then (base_of p) (items_in h.told) (items_in s.told) (mild_closes (base_of p) (items_in h.told) h.mild) (refusal_closes (base_of p) false s.told s.goes)))
 
 -- the jobs attached so far stand and are noted
 pub begun_cut : (p : Program) (left : List ℕ) (c : ChannelFloor) (j k l : Floor) (f m g : Frame) → IsNewRoot f → Spawning p left j k m → CutShort c c k l m g → CutShort c c j l f g

@@ -63,9 +63,6 @@ changed_top x old mid new (Some last) one is at some behind = changed x old mid 
 pub row_read : (k : ℕ) (es : List EnteredMeant) (s : OpenScope) → IsScopeOf es (Some s) → s.row ≡ row_or k (scope_in es)
 row_read k es s h = sym (ap (row_or k) h.1)
 
-pub none_read : (k : ℕ) (es : List EnteredMeant) → IsScopeOf es None → k ≡ row_or k (scope_in es)
-none_read k es h = sym (ap (row_or k) h)
-
 -- the innermost scope of what was entered before the last, where that is no scope
 abbrev pub HasScope : List Entered → List Entered → Type 0
 HasScope old now = (s : ScopeMeant) → scope_in (stack_of old) ≡ Some s → scope_in (stack_of now) ≡ Some s

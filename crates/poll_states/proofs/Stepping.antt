@@ -1,12 +1,10 @@
 -- What a line tells is noted, and what was done before memory was wanting.
-use Rattle.std.specs.Prelude.{◌≡◌, ℕ, List, [], ◌++◌, map, Some, None, refl}
+use Rattle.std.specs.Prelude.{◌≡◌, ℕ, List, [], Some, None, refl}
 use Rattle.std.proofs.Common.{sym, ap, ◌∙◌, subst}
 use Rattle.co_base.specs.declared.names.WaitId.{WaitId}
 use Rattle.channel_model.specs.Histories.{acts_of}
 use Rattle.channel_model.specs.Floors.{Floor as ChannelFloor, Added as AddedToChannels}
 use Rattle.channel_model.proofs.Spans as spans
-use Rattle.job_model.specs.declared.acts.Reason.TheVariants as reasons
-use Rattle.job_model.specs.Cancels.{own_cancel}
 use Rattle.job_model.specs.Histories.{acts_of as job_acts_of, Legal}
 use Rattle.job_model.specs.Floors.{Floor, Added}
 use Rattle.note_book.specs.declared.book.Item.{Item}
@@ -15,7 +13,7 @@ use Rattle.call_meaning.specs.Telling.{Told, items_in, did}
 use Rattle.call_meaning.specs.Calls.{ToldOnChannels, ToldOnJobs, ToldOnBoth, seen_by, rows_in}
 use Rattle.call_meaning.proofs.JobTellings.{nobody_called, both_jobs, both_channels}
 use Rattle.channel_calls.specs.Calls.{ToldSome}
-use Rattle.scope_builders.specs.Calls.{DidSome, CancelledSome}
+use Rattle.scope_builders.specs.Calls.{DidSome}
 use Rattle.script_grammar.specs.Programs.{Program}
 use Rattle.script_meaning.specs.Shapes.{base_of}
 use Rattle.script_meaning.specs.Configs.{Config}
@@ -104,13 +102,6 @@ some_told who base c c' j j' i i' h = record { group = items_in h.told; rows = [
 
 pub cut_some : (base : ℕ) (c c' : ChannelFloor) (j j' : Floor) (f g : Frame) → g.tag ≡ f.tag → DidSome f.tag base c c' j j' (items_of f) (items_of g) → CutShort c c' j j' f g
 cut_some base c c' j j' f g t h = record { tag = t; noted = some_told f.tag base c c' j j' (items_of f) (items_of g) h }
-
--- a pass was cut short
-pub some_pass : (who : ℕ) (c d : ChannelFloor) (j j' : Floor) (i i' : List Item) (row : ℕ) → d ≡ c → CancelledSome who row j j' i i' → NotedSome who c d j j' i i'
-some_pass who c d j j' i i' row e h =
-    let told : List Told = map did (own_cancel h.newly row reasons.Request ++ h.below) in
-    let both = both_jobs who [] c d j j' i i' told (uncalled who c d e) h.noted in
-    record { group = items_in told; rows = []; appended = both.appended; channels = both.channels; jobs = both.jobs }
 
 pub cut_told : (c c' : ChannelFloor) (j k : Floor) (f g : Frame) → k ≡ j → g.tag ≡ f.tag → ToldSome f.tag c c' (items_of f) (items_of g) → CutShort c c' j k f g
 cut_told c c' j k f g h t did = record {

@@ -1,7 +1,7 @@
 -- What a poll comes to.
-use Rattle.std.specs.Prelude.{◌≡◌, ℕ, true, false, List, [], ◌∷◌, ◌++◌, Option, Some, None, is_some, refl}
+use Rattle.std.specs.Prelude.{◌≡◌, ℕ, true, false, List, [], ◌++◌, Option, Some, None, is_some, refl}
 use mathlib.Core.List.{IsPrefix}
-use Rattle.std.proofs.Common.{sym, ap, ◌∙◌, subst, inl, inr, ⊎_elim}
+use Rattle.std.proofs.Common.{sym, ap, ◌∙◌, subst, inl, ⊎_elim}
 use Rattle.co_base.specs.declared.names.WaitId.{WaitId}
 use Rattle.channel_model.specs.Floors.{Floor as ChannelFloor, Added as AddedToChannels}
 use Rattle.channel_model.proofs.Spans as spans
@@ -11,11 +11,12 @@ use Rattle.job_model.specs.Floors.{Floor, Added, AtStep}
 use Rattle.job_model.proofs.Spans.{added_looked, added_then, prefix_then, nothing_more}
 use Rattle.note_book.specs.declared.book.Item.{Item}
 use Rattle.note_book.specs.Items.{channel_acts_in, job_acts_in}
-use Rattle.call_meaning.specs.Telling.{Told, on_jobs, MayRun, items_in}
+use Rattle.call_meaning.specs.Telling.{Told, MayRun, items_in}
 use Rattle.call_meaning.specs.Facts.{IsRunning}
 use Rattle.call_meaning.specs.Calls.{ToldOnBoth, rows_in}
 use Rattle.call_meaning.proofs.JobTellings.{told_nothing, both_jobs, both_then}
 use Rattle.scope_builders.specs.Dones.{KeepsDones}
+use Rattle.scope_builders.proofs.DonesKept.{kept_then}
 use Rattle.script_grammar.specs.Programs.{Program}
 use Rattle.script_grammar.specs.WellFormed.{IsProgram}
 use Rattle.script_meaning.specs.declared.stage.Stage.{Stage}
@@ -24,7 +25,6 @@ use Rattle.script_meaning.specs.declared.turn.Turn.{Turn}
 use Rattle.script_meaning.specs.declared.turn.Turn.TheVariants as turn
 use Rattle.script_meaning.specs.Shapes.{base_of}
 use Rattle.script_meaning.specs.Configs.{Config, innermost, at_stage}
-use Rattle.script_meaning.specs.Moves.{Move}
 use Rattle.script_meaning.specs.Idle.{IsNotStarted}
 use Rattle.script_meaning.specs.Polls.{Turned, MovesOnce, RefusedByClaims, TurnAnswer, WaitsFor, HasStood}
 use Rattle.poll_states.specs.declared.frame.Frame.{Frame}
@@ -32,13 +32,13 @@ use Rattle.poll_states.specs.declared.jobs.OwnState.TheVariants as own
 use Rattle.script_meaning.specs.Laws.{wait_of}
 use Rattle.script_meaning.specs.Bodies.{is_over}
 use Rattle.poll_states.specs.Frames.{config_of, items_of, frame_of, Stands, IsUnmoved}
-use Rattle.poll_states.specs.Steps.{Stepped, CutShort, OwnStateSeen, SeenWait, PolledTo, AnsweredAfter, IsAnswerAt}
+use Rattle.poll_states.specs.Steps.{Stepped, CutShort, OwnStateSeen, SeenWait, PolledTo, IsAnswerAt}
 use Rattle.poll_states.proofs.Standing.{stands_fits}
 use Rattle.poll_states.proofs.Changing.{never_unmoved}
 use Rattle.poll_states.proofs.DonesLeft.{unclosed_kept}
-use Rattle.poll_states.proofs.Moving.{Tells, tells_step, step_stands, polled_to, keeps_then}
+use Rattle.poll_states.proofs.Moving.{Tells, tells_step, step_stands, polled_to}
 use Rattle.poll_states.proofs.Stepping.{self_jobs, self_channels}
-use Rattle.poll_states.proofs.JobLines.{may_run_noted, has_begun}
+use Rattle.poll_states.proofs.JobLines.{has_begun}
 
 -- ---- looks
 
@@ -73,7 +73,7 @@ tells_later p c c' j a b f g told l s look = record {
       (both_then f.tag rows [] c c' c' j a b (items_of f) (items_of g) (items_of g) told [] s.noted (nothing_noted f.tag c' c' a b (items_of g) (items_of g) (self_channels f.tag c') look refl)));
   refused = claims_later (config_of f) (items_in told) f.tag a b look s.refused;
   dones = subst (λ (n : List Item). KeepsDones (base_of p) c c' j b n) (nothing_more (items_in told))
-      (keeps_then (base_of p) c c' c' j a b (items_in told) [] s.noted.channels.same.alone s.noted.jobs.same.alone s.dones (unclosed_kept f.tag (base_of p) [] [] [] c' c' a b [] l (self_channels f.tag c') refl look tt));
+      (kept_then (base_of p) c c' c' j a b (items_in told) [] s.noted.channels.same.alone s.noted.jobs.same.alone s.dones (unclosed_kept f.tag (base_of p) [] [] [] c' c' a b [] l (self_channels f.tag c') refl look tt));
 }
 
 -- ---- what is answered
@@ -103,20 +103,10 @@ once p c c' j j' f g s = MovesOnce.once (config_of f) (config_of g) s.told s.mov
 
 -- ---- polls of one move
 
--- a line, and the look after it
-pub polled_line : (p : Program) (c c' : ChannelFloor) (j a b : Floor) (f g : Frame) (answer : Turn) → Legal b.shape b.seen → Stands p c j f → Stepped p c c' j a f g → AnsweredAfter g a b answer → PolledTo p c c' j b f g answer
-polled_line p c c' j a b f g answer l h s after =
-    polled_to p c c' j b f g s.told answer h (tells_later p c c' j a b f g s.told l (tells_step p c c' j a f g s) (subst (λ k. Added k [] [] a b) s.tag after.looked))
-    (answer_at p c c' j a b f g s.told g.stage answer refl (once p c c' j a f g s) s.stood s.noted.jobs.longer after.so)
-
 -- a move after which it is polled again
 pub polled_ready : (p : Program) (c c' : ChannelFloor) (j j' : Floor) (f g : Frame) (stage : Stage) → Stands p c j f → Stepped p c c' j j' f g → g.stage ≡ stage → is_over stage ≡ false → PolledTo p c c' j j' f g turn.Ready
 polled_ready p c c' j j' f g stage h s e o =
     polled_to p c c' j j' f g s.told turn.Ready h (tells_step p c c' j j' f g s) (not_end g.stage stage o e, inl (once p c c' j j' f g s))
-
--- a move that ends the body
-pub polled_over : (p : Program) (c c' : ChannelFloor) (j j' : Floor) (f g : Frame) → Stands p c j f → Stepped p c c' j j' f g → g.stage ≡ Ended → PolledTo p c c' j j' f g turn.Ended
-polled_over p c c' j j' f g h s e = polled_to p c c' j j' f g s.told turn.Ended h (tells_step p c c' j j' f g s) e
 
 -- ---- a poll without a move
 
@@ -155,39 +145,6 @@ polled_idle p c a b f g l h e s t config items =
 pub first_stands : (p : Program) (c : ChannelFloor) (a b : Floor) (f m : Frame) → Legal b.shape b.seen → Stands p c a f → f.stage ≡ Fresh → OwnStateSeen f.tag f.tag a b own.MayRun → m.tag ≡ f.tag → config_of m ≡ at_stage Running (config_of f) → items_of m ≡ items_of f → Stands p c b m
 first_stands p c a b f m l h fresh s t config items = step_stands p c c a b f m h (has_begun p c a b f m l fresh s t config items)
 
-same_claims : (x : Config) (notes : List Item) (j : Floor) → RefusedByClaims (at_stage Running x) notes j → RefusedByClaims x notes j
-same_claims x notes j h = record { no_row = h.no_row; used = h.used; none_ended = h.none_ended }
-
--- what was told before and in its first line
-first_tells : (p : Program) (c c' : ChannelFloor) (a b e : Floor) (f m g : Frame) → Legal b.shape b.seen → Legal e.shape e.seen → f.stage ≡ Fresh → OwnStateSeen f.tag f.tag a b own.MayRun → m.tag ≡ f.tag → config_of m ≡ at_stage Running (config_of f) → items_of m ≡ items_of f → (line : Stepped p c c' b e m g)
-    → Tells p c c' a e f g (on_jobs (MayRun f.tag) ∷ line.told) × (MovesOnce p f.tag (config_of f) (on_jobs (MayRun f.tag) ∷ line.told) (config_of g))
-unfolding items_in rows_in
-first_tells p c c' a b e f m g l l' fresh s t config items line =
-    let x : Config = config_of f in
-    let y : Config = at_stage Running (config_of f) in
-    let rows : List ℕ = rows_in (job_acts_in (items_in line.told)) in
-    let first : Move p f.tag x (on_jobs (MayRun f.tag) ∷ []) y = Move.runs x fresh in
-    let move : Move p f.tag y line.told (config_of g) = subst (λ k. Move p k y line.told (config_of g)) t (subst (λ z. Move p m.tag z line.told (config_of g)) config line.move) in
-    let noted : ToldOnBoth f.tag rows c c' b e (items_of m) (items_of g) line.told = subst (λ k. ToldOnBoth k rows c c' b e (items_of m) (items_of g) line.told) t line.noted in
-    let moves : MovesOnce p f.tag x (on_jobs (MayRun f.tag) ∷ line.told) (config_of g) = MovesOnce.first x y (config_of g) (on_jobs (MayRun f.tag) ∷ []) line.told _ fresh first refl (MovesOnce.once y (config_of g) line.told move) refl in (
-      record {
-        tag = line.tag ∙ t;
-        turned = Turned.moved x (config_of g) _ moves;
-        noted = both_then f.tag [] rows c c c' a b e (items_of f) (items_of m) (items_of g) (on_jobs (MayRun f.tag) ∷ []) line.told (may_run_noted c a b f.tag f.tag (items_of f) (items_of m) s items) noted;
-        refused = same_claims x (items_in line.told) e (subst (λ z. RefusedByClaims z (items_in line.told) e) config line.refused);
-        dones = keeps_then (base_of p) c c c' a b e [] (items_in line.told) refl s.looked.same.alone (unclosed_kept f.tag (base_of p) [] [] [] c c a b [] l (self_channels f.tag c) refl (added_looked f.tag [] a b s.looked) tt) line.dones;
-      },
-      moves,
-    )
-
-pub polled_first : (p : Program) (c c' : ChannelFloor) (a b e j' : Floor) (f m g : Frame) (answer : Turn) → Legal b.shape b.seen → Legal e.shape e.seen → Legal j'.shape j'.seen → Stands p c a f → f.stage ≡ Fresh → OwnStateSeen f.tag f.tag a b own.MayRun → m.tag ≡ f.tag → config_of m ≡ at_stage Running (config_of f) → items_of m ≡ items_of f
-    → Stepped p c c' b e m g → AnsweredAfter g e j' answer → PolledTo p c c' a j' f g answer
-polled_first p c c' a b e j' f m g answer l l' l'' h fresh s t config items line after =
-    let told : List Told = on_jobs (MayRun f.tag) ∷ line.told in
-    let both = first_tells p c c' a b e f m g l l' fresh s t config items line in
-    polled_to p c c' a j' f g told answer h (tells_later p c c' a e j' f g told l'' both.0 (subst (λ k. Added k [] [] e j') (line.tag ∙ t) after.looked))
-    (answer_at p c c' a e j' f g told g.stage answer refl both.1 line.stood (prefix_then a.seen b.seen e.seen s.looked.longer line.noted.jobs.longer) after.so)
-
 -- there was no memory for the first line
 pub cut_first : (c c' : ChannelFloor) (a b e : Floor) (f m g : Frame) → OwnStateSeen f.tag f.tag a b own.MayRun → m.tag ≡ f.tag → items_of m ≡ items_of f → CutShort c c' b e m g → CutShort c c' a e f g
 cut_first c c' a b e f m g s t items cut =
@@ -203,24 +160,7 @@ cut_first c c' a b e f m g s t items cut =
       };
     }
 
--- ---- the answer after a line
-
--- a coroutine that does not wait is not looked at
-pub answered_still : (f : Frame) (j : Floor) (answer : Turn) → IsAnswerAt (innermost f.tag (config_of f)) f.stage j j answer → AnsweredAfter f j j answer
-answered_still f j answer so = record { looked = self_jobs f.tag j; so = so }
-
-pub answered_waits : (f : Frame) (w : WaitId) (a b : Floor) → f.stage ≡ Waiting w → OwnStateSeen f.tag (innermost f.tag (config_of f)) a b own.MayRun → AnsweredAfter f a b turn.Waits
-answered_waits f w a b e s = record { looked = added_looked f.tag [] a b s.looked; so = subst (λ t. IsAnswerAt (innermost f.tag (config_of f)) t a b turn.Waits) (sym e) (inr (refl, s.was)) }
-
-pub answered_again : (f : Frame) (w : WaitId) (a b : Floor) → f.stage ≡ Waiting w → OwnStateSeen f.tag (innermost f.tag (config_of f)) a b own.Cancelling → AnsweredAfter f a b turn.Ready
-answered_again f w a b e s = record { looked = added_looked f.tag [] a b s.looked; so = subst (λ t. IsAnswerAt (innermost f.tag (config_of f)) t a b turn.Ready) (sym e) (inl (refl, s.was)) }
-
 -- ---- after a move nothing is left unmoved
 
 pub step_quiet : {A : Type 0} (p : Program) (c c' : ChannelFloor) (j j' : Floor) (f g : Frame) → IsProgram p → Stands p c j f → Stepped p c c' j j' f g → IsUnmoved f g → A
 step_quiet p c c' j j' f g ok h s u = never_unmoved p f.tag f g s.told ok (stands_fits p c j f h) (once p c c' j j' f g s) s.noted.appended u
-
-pub first_quiet : {A : Type 0} (p : Program) (c c' : ChannelFloor) (a b e : Floor) (f m g : Frame) → IsProgram p → Legal b.shape b.seen → Legal e.shape e.seen → Stands p c a f → f.stage ≡ Fresh → OwnStateSeen f.tag f.tag a b own.MayRun → m.tag ≡ f.tag → config_of m ≡ at_stage Running (config_of f) → items_of m ≡ items_of f → Stepped p c c' b e m g → IsUnmoved f g → A
-first_quiet p c c' a b e f m g ok l l' h fresh s t config items line u =
-    let both = first_tells p c c' a b e f m g l l' fresh s t config items line in
-    never_unmoved p f.tag f g (on_jobs (MayRun f.tag) ∷ line.told) ok (stands_fits p c a f h) both.1 both.0.noted.appended u

@@ -1,5 +1,5 @@
 -- The ends of bodies.
-use Rattle.std.specs.Prelude.{◌≡◌, ℕ, Bool, true, false, ◌&&◌, List, [], ◌∷◌, ◌++◌, map, Option, Some, None, Result, Ok, Err, is_some, option_map, refl}
+use Rattle.std.specs.Prelude.{◌≡◌, ℕ, true, false, List, [], ◌∷◌, ◌++◌, map, Option, Some, None, Result, Ok, Err, is_some, option_map, refl}
 use Rattle.std.specs.List.{list_all}
 use Rattle.std.proofs.Common.{sym, ap, ◌∙◌, subst, inr}
 use Rattle.co_base.specs.declared.names.Memory.{Memory}
@@ -58,10 +58,6 @@ pub body_added : (who row value n : ℕ) (a b c : Floor) (answer : Ended) → Ha
 body_added who row value n a b c answer h m = added_roomed who n (EndBody row value ∷ []) [] a b c h (added_made who (EndBody row value) [] b c m.made)
 
 -- ---- end_job
-
-no_more : (a b : Bool) → b ≡ false → (a && b) ≡ false
-no_more true b e = e
-no_more false b e = refl
 
 still_lives : (who v : ℕ) (x : Option Job) → MayEndBody who x → is_childless x ≡ false → IsNotDone (option_map (without_body v) x)
 still_lives who v None m e = absurd m

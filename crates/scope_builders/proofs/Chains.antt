@@ -92,10 +92,6 @@ one_end shape who base row end told ended c c1 c2 j j1 j2 i i' sh lt l quiet a h
 
 -- ---- where a chain stops, and where it goes on
 
-fact_items : (told : List Told) (row : ℕ) → items_in (told ++ on_jobs (OwesNoEnd row) ∷ []) ≡ items_in told
-unfolding items_in
-fact_items told row = items_in-append told (on_jobs (OwesNoEnd row) ∷ []) ∙ nothing_more (items_in told)
-
 -- a Job owed no end, at a moment of calls that told nothing else
 stops_at : (who base row : ℕ) (c c' : ChannelFloor) (j j' : Floor) (i i' : List Item) → Legal j'.shape j'.seen → AddedToChannels who [] c c' → Added who [] [] j j' → i' ≡ i → AtMoment who [] j j' (JobFactHolds (OwesNoEnd row)) → FinishedUp who base row c c' j j' i i' (Ok tt)
 unfolding items_in
