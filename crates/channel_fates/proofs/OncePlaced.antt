@@ -204,10 +204,6 @@ act_balance c p shape s who (Settle w outcome) n = unchanged p (s.channels c)
 
 -- ---- a place that is admitted stands
 
-counted_here : (b : Bool) (m : ℕ) → (b ≡ false → 1 ≤ m) → 1 ≤ cond b 1 0 + m
-counted_here true m k = omega arith
-counted_here false m k = omega (arith, k refl)
-
 admitted_stands : (kind : Kind) (p n : ℕ) (os : List Standing) → MayBeAdmitted kind p n os → 1 ≤ offers_with p os
 admitted_stands kind p n [] h = absurd h
 admitted_stands kind p n (o ∷ os) h = by_test (o.place == p) h (admitted_stands kind p (n + 1) os)

@@ -1,5 +1,5 @@
 -- What a text says of an input.
-use Rattle.std.specs.Prelude.{◌≡◌, ◌≢◌, ℕ, ◌<◌, ◌≤◌, Bool, true, false, List, length, Option, Some, None, refl}
+use Rattle.std.specs.Prelude.{◌≡◌, ◌≢◌, ℕ, ◌<◌, ◌≤◌, List, length, Option, Some, None, refl}
 use Rattle.std.proofs.Common.{arith, subst, sym}
 use Rattle.script_grammar.specs.declared.fault.FaultKind.TheVariants.{NotAscii, UnknownWord, BadNumber, BadName, Duplicate, Undeclared, NoMain, NoEnd, Extra, TooDeep, TooMany, Recursive, Memory}
 use Rattle.script_grammar.specs.declared.fault.FaultKind.{FaultKind}

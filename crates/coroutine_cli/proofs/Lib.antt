@@ -3,7 +3,6 @@ pub mod ElementsHeld
 pub mod SameFates
 pub mod PrintedFates
 pub mod Answering
-pub mod InputGiven
 pub mod Completing
 pub mod Matched
 pub mod WrittenMeans

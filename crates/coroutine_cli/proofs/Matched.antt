@@ -1,6 +1,6 @@
 -- What a parse that clap makes says of the matches that the words have.
-use Rattle.std.proofs.Common.{◌≡◌, ◌≢◌, ◌⊎◌, ◌&&◌, ℕ, Bool, true, false, List, [], ◌∷◌, Some, None, refl, ap, sym, ◌∙◌, ⊎_elim}
-use Rattle.clap.specs.Words.{App, HasKind, IsAmong, Kinds, Row, fault_of, is_simple, is_simple_and_free, kind_of, matches_of}
+use Rattle.std.proofs.Common.{◌≡◌, ◌≢◌, ◌&&◌, ℕ, Bool, true, false, List, [], ◌∷◌, Some, None, refl, ap, sym, ◌∙◌, ⊎_elim}
+use Rattle.clap.specs.Words.{App, HasKind, Kinds, Row, fault_of, is_simple, is_simple_and_free, kind_of, matches_of}
 use Rattle.clap.specs.declared.error.Error.{Error}
 use Rattle.clap.specs.declared.error.kind.ErrorKind.TheVariants as kind
 use Rattle.coroutine_cli.specs.Commands.{matches_by, unless_faulty}

@@ -1,24 +1,10 @@
 -- Rows that grow by what stands behind their end anyway.
-use Rattle.std.proofs.Common.{◌≡◌, ◌≢◌, ℕ, ◌<◌, List, [], ◌∷◌, ◌++◌, length, slice_index_or, slice_set, zero, suc, refl, ap, sym, ◌∙◌, Vec, inl, inr, if◌then◌else◌, arith}
+use Rattle.std.proofs.Common.{◌≡◌, ◌≢◌, ℕ, ◌<◌, List, [], ◌∷◌, length, slice_index_or, slice_set, zero, suc, refl, ap, sym, ◌∙◌, Vec, inl, inr, if◌then◌else◌, arith}
 use Rattle.std.proofs.lemmas.Bool.Decides.{eqb_tells}
 use Rattle.std.proofs.lemmas.List.{get_or-map}
 use Rattle.channel_model.specs.Fates.{is_at}
 use Rattle.std.specs.Global.{Global}
 use Rattle.run_report.specs.Tables.{lists_of, value_in}
-
--- one more of the value that stands behind the end
-pub slice_index_or-pad : {T : Type 0} (xs : List T) (x : T) (q : ℕ) → slice_index_or (xs ++ x ∷ []) q x ≡ slice_index_or xs q x
-slice_index_or-pad [] x zero = refl
-slice_index_or-pad [] x (suc q) = refl
-slice_index_or-pad (y ∷ ys) x zero = refl
-slice_index_or-pad (y ∷ ys) x (suc q) = slice_index_or-pad ys x q
-
--- one more empty row
-pub lists_of-pad : {T : Type 0} (rows : List (Vec T Global)) (row : Vec T Global) (d : ℕ) → row.items ≡ [] → slice_index_or (lists_of (rows ++ row ∷ [])) d [] ≡ slice_index_or (lists_of rows) d []
-lists_of-pad [] row zero e = e
-lists_of-pad [] row (suc d) e = refl
-lists_of-pad (r ∷ rows) row zero e = refl
-lists_of-pad (r ∷ rows) row (suc d) e = lists_of-pad rows row d e
 
 -- ---- a row in place of another
 

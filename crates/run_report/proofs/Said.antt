@@ -1,7 +1,7 @@
 -- What an act says of a row, with what those before and after it say.
 use Rattle.std.proofs.Common.{◌≡◌, ℕ, ◌==◌, Bool, true, false, ◌&&◌, ◌||◌, List, [], ◌∷◌, ◌++◌, Some, None, if◌then◌else◌, refl, sym, ap, ◌∙◌}
 use Rattle.std.specs.Option.{option_or}
-use Rattle.std.proofs.Math.Bool.{or-false, or_assoc}
+use Rattle.std.proofs.Math.Bool.{or_assoc}
 use Rattle.job_model.specs.declared.acts.End.{End}
 use Rattle.job_model.specs.declared.acts.JobAct.{JobAct}
 use Rattle.job_model.specs.declared.acts.JobAct.TheVariants.{Attach, Start, EndBody, Cancel, Finish, Gone}
@@ -10,20 +10,10 @@ use Rattle.note_book.specs.declared.book.Item.{Item}
 use Rattle.note_book.specs.declared.book.Item.TheVariants as item
 use Rattle.note_book.specs.Items.{job_acts_in}
 use Rattle.run_report.specs.declared.job_facts.JobFacts.{JobFacts}
-use Rattle.run_report.proofs.Joining.{option_or-none, option_or-assoc}
+use Rattle.run_report.proofs.Joining.{option_or-assoc}
 use Rattle.run_report.specs.JobFacts.{act_noted, nothing_said, job_facts_of, both_said, said_of}
 
 -- ---- joining
-
-pub both_said-nothing : (x : JobFacts) → both_said x nothing_said ≡ x
-both_said-nothing x = λ i. record {
-  attached = or-false x.attached i;
-  lazy = or-false x.lazy i;
-  started = or-false x.started i;
-  cancelled = or-false x.cancelled i;
-  body_ended = or-false x.body_ended i;
-  end = option_or-none x.end i;
-}
 
 pub both_said-assoc : (x y z : JobFacts) → both_said (both_said x y) z ≡ both_said x (both_said y z)
 both_said-assoc x y z = λ i. record {

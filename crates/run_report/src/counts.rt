@@ -10,7 +10,7 @@ use crate::fates::Known;
 use crate::job_facts::JobFacts;
 use crate::job_lines::is_attached;
 use channel_model::Fate;
-use co_base::{ChannelId, Place, Value};
+use co_base::{ChannelId, Value};
 use job_model::End;
 use script_reader::Channel;
 

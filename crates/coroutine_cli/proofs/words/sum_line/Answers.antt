@@ -1,5 +1,5 @@
 use Rattle.std.proofs.Common.{rules, ◌∙◌, ◌≡◌, ap₂}
-use Rattle.clap.specs.Words.{Rule, rule_of, with_rule}
+use Rattle.clap.specs.Words.{rule_of, with_rule}
 use Rattle.coroutine_cli.specs.Commands.{size_option}
 use Rattle.coroutine_cli.proofs.words.sum_line.Goals as goal
 
