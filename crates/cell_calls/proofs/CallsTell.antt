@@ -1,5 +1,5 @@
 -- What the steps of a pass tell of its floor.
-use Rattle.std.proofs.Common.{◌≡◌, ℕ, ◌+◌, ◌≤◌, Bool, true, false, true≢false, List, [], ◌∷◌, ◌++◌, Option, Some, None, is_some, sym, refl, ap, ◌∙◌, subst, arith, append_assoc, append-nil}
+use Rattle.std.proofs.Common.{◌≡◌, ℕ, ◌+◌, ◌≤◌, Bool, true, false, true≢false, List, [], ◌∷◌, ◌++◌, Option, Some, None, is_some, sym, refl, ap, ◌∙◌, subst, arith, append-nil}
 use mathlib.Core.List.{IsPrefix}
 use mathlib.Core.Logic.{dite}
 use native.Mathlib.Decide.{dec_le}
@@ -10,11 +10,8 @@ use Rattle.channel_model.specs.declared.acts.Act.TheVariants.{Take, Void, Drain,
 use Rattle.channel_model.specs.declared.acts.Entry.{Entry}
 use Rattle.channel_model.specs.Channels.{Shape, State, Wait, places_at}
 use Rattle.channel_model.specs.Histories.{replay, acts_of, Legal}
-use Rattle.channel_model.specs.Laws.{NoneBelow}
 use Rattle.channel_model.specs.Floors.{Looked, Made, AtStep, AtMoment}
 use Rattle.channel_model.specs.Answers.{IsOwnWait, IsReadyWait, ClosedWith, IsDrainedAndClosed, TakenFrom, DrainedFrom, VoidAnswer, WokenAt}
-use Rattle.channel_model.proofs.Histories.{Legal-prefix}
-use Rattle.channel_model.proofs.GoneForGood.{below_lasts}
 use Rattle.channel_model.proofs.Later.{closed_later, voided_later}
 use Rattle.channel_model.proofs.Sound.{sound}
 use Rattle.channel_model.proofs.Spans.{prefix_append}
@@ -160,14 +157,3 @@ ready_place shape log who w l h = wait_place shape log who w l (own ((replay log
     own : (x : Option Wait) → IsReadyWait who x → IsOwnWait who x
     own None h = h
     own (Some x) h = h.0
-
--- ---- after the own entry
-
--- nobody stands below still
-pub below_made : (shape : Shape) (n m c : ℕ) (v w : Seen) (e : Entry) → Makes v e w → Legal shape w.seen → NoneBelow n m (at_channel v.seen c) → NoneBelow n m (at_channel w.seen c)
-below_made shape n m c v w e h l low = let is : w.seen ≡ v.seen ++ (h.others ++ e ∷ []) = h.now ∙ append_assoc v.seen h.others (e ∷ []) in
-    subst (λ (es : List Entry). NoneBelow n m (at_channel es c)) (sym is) (below_lasts shape v.seen (h.others ++ e ∷ []) c n m (subst (Legal shape) is l) low)
-
--- what was seen before it was legal
-pub before_made : (shape : Shape) (v w : Seen) (e : Entry) → Makes v e w → Legal shape w.seen → Legal shape v.seen
-before_made shape v w e h l = Legal-prefix shape v.seen (h.others ++ e ∷ []) (subst (Legal shape) (h.now ∙ append_assoc v.seen h.others (e ∷ [])) l)

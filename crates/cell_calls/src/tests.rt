@@ -12,7 +12,6 @@ use crate::{receiving, sending, waiting};
 use cell_words::{Hub, Pass, load_cell, look_at, places_of};
 use channel_model::{Got, Kind, Offered, Settled, WaitState, Why, Withdrawn};
 use co_base::{Place, Tag, Value, WaitId};
-use std::alloc::Global;
 use std::sync::Wait;
 use std::test::Fail;
 use std::thread::{Threads, join};

@@ -144,8 +144,5 @@ kept_lasts shape c p v = record {
 pub kept_more : (shape : Shape) (c p v : ℕ) (xs ys : List Entry) → Legal shape (xs ++ ys) → (cell_of xs c p ≡ buffered v) ⊎ (cell_of xs c p ≡ emptied v) → (cell_of (xs ++ ys) c p ≡ buffered v) ⊎ (cell_of (xs ++ ys) c p ≡ emptied v)
 kept_more shape c p v xs ys l h = board_lasts shape (λ b. (b.cells c p ≡ buffered v) ⊎ (b.cells c p ≡ emptied v)) (kept_lasts shape c p v) xs ys l h
 
-pub offer_or_emptied_lasts : (shape : Shape) (c p v who : ℕ) (w : WaitId) (k : ℕ) → BoardLasts shape (λ b. (b.cells c p ≡ offer v who w k) ⊎ (b.cells c p ≡ emptied v))
-offer_or_emptied_lasts = offer_used_lasts
-
 pub held_more : (shape : Shape) (c p v who k : ℕ) (w : WaitId) (xs ys : List Entry) → Legal shape (xs ++ ys) → (cell_of xs c p ≡ offer v who w k) ⊎ (cell_of xs c p ≡ emptied v) → (cell_of (xs ++ ys) c p ≡ offer v who w k) ⊎ (cell_of (xs ++ ys) c p ≡ emptied v)
 held_more shape c p v who k w xs ys l h = board_lasts shape (λ b. (b.cells c p ≡ offer v who w k) ⊎ (b.cells c p ≡ emptied v)) (offer_used_lasts shape c p v who w k) xs ys l h

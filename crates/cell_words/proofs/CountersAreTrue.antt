@@ -1,5 +1,5 @@
 -- A counter that is raised says the truth, whatever others do.
-use Rattle.std.proofs.Common.{◌≡◌, ℕ, ◌+◌, ◌<◌, ◌≤◌, max, List, ◌++◌, length, sym, subst, arith}
+use Rattle.std.proofs.Common.{◌≡◌, ℕ, ◌<◌, ◌≤◌, max, List, ◌++◌, length, sym, subst, arith}
 use mathlib.Core.Logic.{dite}
 use native.Mathlib.Decide.{dec_le}
 use Rattle.worded.specs.Exchanges.{MayLift}
@@ -7,7 +7,7 @@ use Rattle.channel_model.specs.Laws.{NoneBelow}
 use Rattle.channel_model.specs.declared.acts.Entry.{Entry}
 use Rattle.channel_model.specs.Channels.{Shape, places_at}
 use Rattle.channel_model.specs.Histories.{replay, Legal}
-use Rattle.cell_words.specs.Words.{send_number, receive_number, word_count, Fits}
+use Rattle.cell_words.specs.Words.{send_number, receive_number, Fits}
 use Rattle.cell_words.specs.Seen.{Seen, maker, at_channel}
 use Rattle.cell_words.proofs.OneNumberOneWord.{cell_not_send, cell_not_receive, wait_not_send, wait_not_receive}
 use Rattle.channel_model.proofs.GoneForGood.{below_lasts}
@@ -24,12 +24,6 @@ same_channel_odd shape c d e = omega arith
 
 send_not_receive : (shape : Shape) (c d : ℕ) → send_number shape c ≡ receive_number shape d → ⊥
 send_not_receive shape c d e = omega arith
-
-pub send_within : (shape : Shape) (c : ℕ) → c < length shape → send_number shape c < word_count shape
-send_within shape c h = omega arith
-
-pub receive_within : (shape : Shape) (c : ℕ) → c < length shape → send_number shape c + 1 < word_count shape
-receive_within shape c h = omega arith
 
 pub raises_sends : (shape : Shape) (c k : ℕ) (v : Seen) → c < length shape → NoneBelow k 0 (at_channel v.seen c) → MayLift (Legal shape) (Fits shape) maker v (send_number shape c) k
 raises_sends shape c k v lc low others n added f = record {

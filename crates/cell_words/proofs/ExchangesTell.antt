@@ -29,7 +29,7 @@ use Rattle.worded.proofs.TagsAndPrefixes.{entries_of-append}
 use Rattle.cell_words.specs.Seen.{Seen, maker, at_channel, Sees, Makes, Turns, ExchangeAnswer}
 use Rattle.cell_words.specs.Looks.{lets_stand}
 use Rattle.cell_words.specs.Removals.{removal_act}
-use Rattle.cell_words.specs.Answers.{IsCellWord, IsWaitWord, IsNumberedWait, IsHolder, HandsTo, RemovesFrom, IsAdmitted, IsKept, put, held, stands}
+use Rattle.cell_words.specs.Answers.{IsCellWord, IsWaitWord, IsHolder, HandsTo, RemovesFrom, IsAdmitted, IsKept, put, held, stands}
 use Rattle.cell_words.proofs.ListsOfCells.{IsNamed, CellNamed}
 use Rattle.cell_words.proofs.CellsTellFacts.{now, tied_now, used_given, past_receiver, past_offer}
 use Rattle.cell_words.proofs.CellsLast.{receiver_more, offer_used_more, kept_more, held_more}

@@ -303,9 +303,6 @@ pub record ChannelTied (waits : WaitId → Option Wait) (cells : ℕ → Cell) (
   pub ending : cells ch.next ≡ end_cell ch.closed ch.voided
   pub unused : (p : ℕ) → ch.next < p → cells p ≡ free
 
-pub channel_tied : (b : Board) → Tied b → (c : ℕ) → ChannelTied b.state.waits (b.cells c) (b.state.channels c)
-channel_tied b t c = record { queue = t.queues c; line = t.lines c; used = t.used c; ending = t.ending c; unused = t.unused c }
-
 -- what the change of the waits leaves of who stands
 pub record Unmoved (b : Board) (waits' : WaitId → Option Wait) : Type 0 where
   pub stand : (d q : ℕ) → standing waits' q (b.cells d q) ≡ standing b.state.waits q (b.cells d q)

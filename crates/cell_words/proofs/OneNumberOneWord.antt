@@ -38,6 +38,3 @@ same_number_odd n m e = omega arith
 
 pub cell_within : (shape : Shape) (c p : ℕ) → c < length shape → p ≤ places_at shape c → cell_number shape c p < word_count shape
 cell_within shape c p lc lp = let h = number_within shape c p lc lp in omega arith
-
-pub wait_within : (shape : Shape) (c p : ℕ) → c < length shape → p ≤ places_at shape c → wait_number shape c p < word_count shape
-wait_within shape c p lc lp = let h = number_within shape c p lc lp in omega arith

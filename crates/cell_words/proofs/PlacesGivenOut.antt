@@ -150,9 +150,6 @@ placed_tied b c y ch waits' t m used still_open next queue line closed = record 
     else_at : (q : ℕ) → (n ≡ q → ⊥) → cells' q ≡ b.cells c q
     else_at q ne = cell_else b.cells c n y c q (λ _ e. ne e)
 
-no_names : (w : WaitId) (k v : ℕ) → NamesAt w k (buffered v) → ⊥
-no_names w k v h = h
-
 pub ties_put : (b : Board) (c p v places : ℕ) → HasPlace places p (b.state.channels c) → Tied b
     → Tied (board (record { channels = put_channel c (place_offer true (record { place = p; value = v; holder = None }) (b.state.channels c)) b.state.channels; waits = b.state.waits }) (set_cell b.cells c p (buffered v)))
 ties_put b c p v places h t = subst (λ (z : ℕ). Tied (board (record { channels = put_channel c (place_offer true (record { place = z; value = v; holder = None }) (b.state.channels c)) b.state.channels; waits = b.state.waits }) (set_cell b.cells c z (buffered v)))) (sym h.first)

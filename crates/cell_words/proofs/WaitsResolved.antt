@@ -18,7 +18,7 @@ use Rattle.cell_words.specs.Codes.{packed_wait}
 use Rattle.channel_model.specs.Laws.{NoneBelow}
 use Rattle.cell_words.specs.Seen.{Seen, Sees, at_channel}
 use Rattle.cell_words.specs.Looks.{owner_told, holder_of, lets_stand, tried_by, tried_found}
-use Rattle.cell_words.specs.Answers.{IsCellWord, IsWaitWord, IsHeld, IsNumberedWait, Receives, Offers, OwnerAnswer, RemoveAnswer, MayRemoveHeld}
+use Rattle.cell_words.specs.Answers.{IsCellWord, IsWaitWord, IsNumberedWait, Receives, Offers, OwnerAnswer, RemoveAnswer, MayRemoveHeld}
 use Rattle.cell_words.proofs.CellsLast.{resolved_more, receiver_more, offer_more}
 use Rattle.cell_words.proofs.LooksAtCells.{hub_legal, sees_then, home_owner}
 use Rattle.cell_words.proofs.MayExchange.{resolved_not, held_later}
@@ -30,9 +30,6 @@ use Rattle.cell_words.proofs.ExchangesTell.{low_later, receiver_lost, resolved_f
 pub owner_found : (shape : Shape) (w : WaitId) (owner : ℕ) (u v : Seen) → Sees u v → Legal shape v.seen → (word : CellWord) → IsCellWord shape w.channel w.place v.seen word → IsOwnWait owner ((replay u.seen).waits w) → OwnerAnswer owner w v.seen (owner_told (holder_of word))
 owner_found shape w owner u v s l word is own = subst (λ (z : CellWord). OwnerAnswer owner w v.seen (owner_told (holder_of z))) (sym is.0)
     (home_owner shape v.seen w owner (cell_of v.seen w.channel w.place) ((replay v.seen).waits w) refl is.1 (at_home shape v.seen l w) (owner_seen shape owner w u v s l own))
-
-pub held_seen : (shape : Shape) (c p : ℕ) (x : Waiter) (u v : Seen) → Sees u v → Legal shape v.seen → IsHeld shape c p x u.seen → IsHeld shape c p x v.seen
-held_seen shape c p x u v s l h = record { who = h.who; wait = h.wait; holder = h.holder; fits = h.fits; owner = owner_seen shape h.who h.wait u v s l h.owner }
 
 -- a receiver stays in its cell
 pub receiver_seen : (shape : Shape) (c p who k : ℕ) (w : WaitId) (u v : Seen) → Sees u v → Legal shape v.seen → cell_of u.seen c p ≡ receiver who w k → cell_of v.seen c p ≡ receiver who w k

@@ -23,7 +23,7 @@ use Rattle.cell_words.specs.declared.found.At.TheVariants as at
 use Rattle.cell_words.specs.Cells.{Cell, free, receiver, offer, buffered, emptied, closed_by, voided_by, cell_of, gather, standing}
 use Rattle.cell_words.specs.Words.{PartyFits, word_of_cell, CellFits}
 use Rattle.cell_words.specs.Seen.{Seen, at_channel, Sees}
-use Rattle.cell_words.specs.Looks.{holder_of, waiter_of, found_by_sender, found_by_receiver, lets_stand}
+use Rattle.cell_words.specs.Looks.{holder_of, found_by_sender, found_by_receiver, lets_stand}
 use Rattle.cell_words.specs.Answers.{IsCellWord, IsWaitWord, IsHolder, stands, OfferAt, OfferHere, ReceiveAt, TriedReceiveAt}
 use Rattle.cell_words.proofs.GatheredLists.{gather_none}
 use Rattle.cell_words.proofs.CountsOfOffers.{gone_more, stood_before, count_some, count_none, count_next, count_less, count_up}
@@ -49,15 +49,6 @@ pub record OfferCell (shape : Shape) (c p : ℕ) (word : CellWord) (log : List E
   pub fits : PartyFits shape who wait word.clause
   pub holder : IsHolder shape c p (holder_of word) who wait
 
-abbrev pub offer_by_state : CellState → Bool
-offer_by_state state.Free = false
-offer_by_state state.Receiver = false
-offer_by_state state.Offer = true
-offer_by_state state.Buffered = true
-offer_by_state state.Emptied = false
-offer_by_state state.Closed = false
-offer_by_state state.Voided = false
-
 module _ (shape : Shape) (c p : ℕ) (log : List Entry) where
   stands_buffered : (x : Cell) → cell_of log c p ≡ x → (word_of_cell shape c p x).state ≡ state.Buffered → is_some (stands log c p) ≡ true
   stands_buffered free e s = cc
@@ -70,18 +61,6 @@ module _ (shape : Shape) (c p : ℕ) (log : List Entry) where
 
   pub state_buffered : (word : CellWord) → IsCellWord shape c p log word → word.state ≡ state.Buffered → is_some (stands log c p) ≡ true
   state_buffered word is s = stands_buffered (cell_of log c p) refl (sym (ap (λ (z : CellWord). z.state) is.0) ∙ s)
-
-  stands_none : (x : Cell) → cell_of log c p ≡ x → offer_by_state (word_of_cell shape c p x).state ≡ false → stands log c p ≡ None
-  stands_none free e s = ap (standing (replay log).waits p) e
-  stands_none (receiver who w k) e s = ap (standing (replay log).waits p) e
-  stands_none (offer v who w k) e s = cc
-  stands_none (buffered v) e s = cc
-  stands_none (emptied v) e s = ap (standing (replay log).waits p) e
-  stands_none (closed_by v) e s = ap (standing (replay log).waits p) e
-  stands_none (voided_by v) e s = ap (standing (replay log).waits p) e
-
-  pub state_none : (word : CellWord) → IsCellWord shape c p log word → offer_by_state word.state ≡ false → stands log c p ≡ None
-  state_none word is s = stands_none (cell_of log c p) refl (sym (ap (λ (z : CellWord). offer_by_state z.state) is.0) ∙ s)
 
   offer_cell : (x : Cell) → cell_of log c p ≡ x → CellFits shape x → (word_of_cell shape c p x).state ≡ state.Offer → OfferCell shape c p (word_of_cell shape c p x) log
   offer_cell free e f s = cc

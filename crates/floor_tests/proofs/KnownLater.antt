@@ -21,11 +21,11 @@ use Rattle.channel_model.specs.declared.floor.Withdrawn.TheVariants as withdrawn
 use Rattle.channel_model.specs.Channels.{Shape, State, kind_at, is_signal}
 use Rattle.channel_model.specs.Effects.{after}
 use Rattle.channel_model.specs.Histories.{replay, Legal}
-use Rattle.channel_model.specs.Floors.{Floor, HasRoom, Looked, Made}
+use Rattle.channel_model.specs.Floors.{Floor, Looked, Made}
 use Rattle.channel_model.specs.Answers.{OfferAnswer, GotAnswer, TriedGotAnswer, CloseAnswer, WakeAnswer, VoidAnswer, DrainAnswer, LookAnswer, SettleAnswer, WithdrawAnswer, AdmitAnswer, IsOwn, IsSeenClosed, IsSeenVoided}
 use Rattle.channel_model.proofs.Histories.{replay_push}
 use Rattle.channel_model.proofs.Later.{closed_later, voided_later}
-use Rattle.channel_model.proofs.Spans.{prefix_self, prefix_then, prefix_append, setting_then}
+use Rattle.channel_model.proofs.Spans.{prefix_then, prefix_append, setting_then}
 use Rattle.call_meaning.specs.ChannelCalls.{wait_at}
 use Rattle.floor_tests.specs.declared.known_calls.Known.{Known}
 use Rattle.floor_tests.specs.Known.{Knows, Grows, with_wait, after_offer, after_receive, after_close, after_void}
@@ -35,12 +35,6 @@ use Rattle.floor_tests.proofs.WaitsBegun.{Begun, made_own, own_lasts}
 
 pub grows_then : (a b c : Floor) → Grows a b → Grows b c → Grows a c
 grows_then a b c h k = record { same = setting_then a b c h.same k.same; longer = prefix_then a.seen b.seen c.seen h.longer k.longer }
-
-pub room_grows : (n : ℕ) (a b : Floor) → HasRoom n a b → Grows a b
-room_grows n a b h = record { same = h.same; longer = subst (IsPrefix a.seen) (sym h.seen) (prefix_self a.seen) }
-
-pub still_grows : (a b : Floor) → b ≡ a → Grows a b
-still_grows a b e = subst (λ (x : Floor). Grows a x) (sym e) (record { same = record { shape = refl; alone = refl; callers = refl }; longer = prefix_self a.seen })
 
 looked_grows : (who : ℕ) (a b : Floor) → Looked who a b → Grows a b
 looked_grows who a b h = record { same = h.same; longer = h.longer }

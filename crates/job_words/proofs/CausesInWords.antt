@@ -1,5 +1,5 @@
 -- The cause of a Job that is cancelled for a reason.
-use Rattle.std.specs.Prelude.{◌≡◌, ℕ, true, false, List, [], ◌++◌, Option, Some, None, is_some, refl}
+use Rattle.std.specs.Prelude.{◌≡◌, ℕ, true, List, [], ◌++◌, Option, Some, None, is_some, refl}
 use Rattle.std.proofs.Common.{sym, ap, ◌∙◌, subst}
 use Rattle.job_model.specs.declared.acts.JobState.{JobState}
 use Rattle.job_model.specs.declared.acts.JobState.TheVariants.{New, Active, Completing, Cancelling, Cancelled, Completed}
@@ -10,7 +10,7 @@ use Rattle.job_model.specs.declared.acts.Reason.TheVariants as reasons
 use Rattle.job_model.specs.declared.acts.JobAct.TheVariants.{Cancel}
 use Rattle.job_model.specs.declared.floor.CancelledNow.{CancelledNow}
 use Rattle.job_model.specs.declared.floor.CancelledNow.TheVariants as cancelled
-use Rattle.job_model.specs.Trees.{Job, Tree, is_cancelled, is_cancellable, is_failure}
+use Rattle.job_model.specs.Trees.{Job, Tree, is_cancelled, is_failure}
 use Rattle.job_model.specs.Effects.{cause_of, cause_of_reason}
 use Rattle.job_model.specs.Needs.{Holds, IsFailedChild}
 use Rattle.job_model.specs.Families.{IsCancellingOrEnded}

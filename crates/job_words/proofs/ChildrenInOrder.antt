@@ -79,10 +79,6 @@ among_at c (x ∷ xs) back = ap (λ b. (c == x) || b) (among_at c xs back) ∙ o
     or_true true = refl
     or_true false = refl
 
-not_among : (row : ℕ) (front back : List ℕ) → is_among row front ≡ false → is_among row back ≡ false → is_among row (front ++ back) ≡ false
-not_among row [] back e f = f
-not_among row (x ∷ xs) back e f = or_false (row == x) (is_among row (xs ++ back)) (left_false (row == x) (is_among row xs) e) (not_among row xs back (right_false (row == x) (is_among row xs) e) f)
-
 -- where the walk begins
 pub begin_walk : (children : List ℕ) (row first : ℕ) → ((d : ℕ) → is_among d children ≡ true → d ≢ 0) → (o : Option ℕ) → newest children ≡ o → first ≡ row_code o → IsAhead children row first
 begin_walk children row first some None e f = (λ z. ap (is_among row) (newest_none children e), λ ne. absurd (ne f))

@@ -128,9 +128,6 @@ no_deeds who ds h = (ap history_of h, ap rows_claimed h)
 
 -- ---- claims
 
-put_other : {A : Type 0} (r q : ℕ) (x : A) (f : ℕ → A) → (r == q) ≡ false → put r x f q ≡ f q
-put_other r q x f e = ap (λ b. if b then x else f q) e
-
 claim_kept : (s : Store) (q u r t : ℕ) → s.claimer q ≡ None → s.claimer r ≡ Some t → put q (Some u) s.claimer r ≡ Some t
 claim_kept s q u r t none h = by_test (q == r) refl
   where

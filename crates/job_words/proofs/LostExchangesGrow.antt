@@ -6,7 +6,7 @@ use Rattle.job_model.specs.declared.acts.JobEntry.{JobEntry}
 use Rattle.job_model.specs.Trees.{Job, Tree}
 use Rattle.job_model.specs.Histories.{replay}
 use Rattle.job_model.proofs.Lasting.{Lasts, attached_lasts}
-use Rattle.job_model.proofs.Short.{legal_is_short, attached_within}
+use Rattle.job_model.proofs.Short.{legal_is_short}
 use Rattle.job_words.specs.declared.size.ForestSize.{ForestSize}
 use Rattle.job_words.specs.declared.deed.Deed.{Deed}
 use Rattle.job_words.specs.Deeds.{shape_of, IsSize, history_of, store_of, job_word, IsDone}
@@ -54,10 +54,6 @@ pub mine_sees : (who row l j : ℕ) (v w : Seen) → Sees who v w → IsMine who
 mine_sees who row l j v w g m =
     subst (λ x. IsMine who row l j (store_of x)) (sym g.seen) (subst (IsMine who row l j) (sym (store_more v.seen g.others))
     (mine_kept (shape_of v.key) (store_of v.seen) g.others who row l j (done_of_rest v.key v.seen g.others (subst (IsDone (shape_of v.key)) g.seen g.done)) g.apart m))
-
--- an attached row is one of the forest's
-pub attached_row : (size : ForestSize) (log : List Deed) (r : ℕ) → IsSize size → IsDone (shape_of size) log → is_some ((store_of log).tree r) ≡ true → r < size.rows
-attached_row size log r s h a = attached_within (shape_of size) (history_of log) r (size_shape size s) (is_legal (shape_of size) log h) (ap (λ (t : Tree). is_some (t r)) (sym (tree_is log)) ∙ a)
 
 -- so many entries may still come
 abbrev pub entries_left : ForestSize → Seen → ℕ

@@ -121,9 +121,6 @@ pub is_job : {A : Type 0} (x : Option A) → is_some x ≡ true → (a : A) × (
 is_job None e = cc
 is_job (Some a) e = (a, refl)
 
-none_some : {A : Type 0} (x : Option A) (a : A) → x ≡ None → x ≡ Some a → ⊥
-none_some x a e f = let k : None ≡ Some a = sym e ∙ f in cc
-
 -- the Job of an attached row, by its word
 pub read_word : (size : ForestSize) (log : List Deed) (r : ℕ) (w : JobWord) → IsSize size → IsDone (shape_of size) log → is_some ((store_of log).tree r) ≡ true → IsNarrow w → job_code w ≡ job_word (store_of log) r
     → (j : Job) × ((store_of log).tree r ≡ Some j) × (word_of j ≡ w)

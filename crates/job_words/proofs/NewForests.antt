@@ -1,6 +1,6 @@
 -- A forest as it is made.
-use Rattle.std.specs.Prelude.{◌≡◌, ℕ, ◌+◌, ◌*◌, ◌==◌, ◌<◌, Bool, false, List, [], length, Some, None, option_map, if◌then◌else◌, refl}
-use Rattle.std.proofs.Common.{inl, sym, ap, ◌∙◌, arith, get_or, set, eq-eqb, ne_eqb, get_or-set_same, get_or-set_other}
+use Rattle.std.specs.Prelude.{◌≡◌, ℕ, ◌+◌, ◌*◌, ◌==◌, Bool, false, List, [], Some, None, option_map, if◌then◌else◌, refl}
+use Rattle.std.proofs.Common.{inl, sym, ap, ◌∙◌, arith, get_or, eq-eqb, ne_eqb}
 use mathlib.Core.Logic.{dite}
 use native.Mathlib.Decide.{ℕ_discrete}
 use Rattle.job_model.specs.Trees.{Shape, IsShape, root}
@@ -45,9 +45,3 @@ first_legal shape = is_legal shape [] (nothing_yet shape)
 pub fresh : (size : ForestSize) (tags : List ℕ) → IsFreshFloor (record { coroutines = size.coroutines; rows = size.rows }) (floor_of size tags [])
 unfolding history_of store_from
 fresh size tags = record { shape = refl; seen = refl; claims = λ r. refl }
-
--- the words of which the first is 2
-pub set_words : (n : ℕ) (ws : List ℕ) → 0 < length ws → ((i : ℕ) → get_or ws i 0 ≡ 0) → (i : ℕ) → get_or (set ws 0 2) i 0 ≡ (if i == 0 then 2 else 0)
-set_words n ws lt h i = dite (ℕ_discrete i 0)
-    (λ e. ap (λ (k : ℕ). get_or (set ws 0 2) k 0) e ∙ get_or-set_same ws 0 2 0 lt ∙ sym (ap (λ (b : Bool). if b then 2 else 0) (eq-eqb i 0 e)))
-    (λ ne. get_or-set_other ws 0 i 2 0 ne ∙ h i ∙ sym (ap (λ (b : Bool). if b then 2 else 0) (ne_eqb i 0 ne)))

@@ -47,14 +47,6 @@ state_some Cancelling = omega arith
 state_some Cancelled = omega arith
 state_some Completed = omega arith
 
-pub state_past : (s : JobState) → state_code s < 7
-state_past New = omega arith
-state_past Active = omega arith
-state_past Completing = omega arith
-state_past Cancelling = omega arith
-state_past Cancelled = omega arith
-state_past Completed = omega arith
-
 fields_1 : (a b c d e f g h i j : ℕ) → a < 8 → f < 8 → b < 2 → g < 2 → c < 16384 → h < 16384 → d < 16384 → i < 16384
     → a + 8 * b + 16 * c + 262144 * d + 4294967296 * e ≡ f + 8 * g + 16 * h + 262144 * i + 4294967296 * j → a ≡ f
 fields_1 a b c d e f g h i j la lf lb lg lc lh ld li k = omega arith
@@ -136,15 +128,3 @@ link_code_is v w n m e =
 -- without the hint a link word has 47 bits
 pub link_code_short : (w : LinkWord) → IsNarrowLink w → w.disclosed ≡ false → link_code w < 140737488355328
 link_code_short w n h = let a = bit_small w.kind.supervisor in let b = bit_small w.kind.scoped in let c = bit_small w.kind.lazy in let d : bit w.disclosed ≡ 0 = ap bit h in omega (arith, n.parent, n.next, n.tag)
-
--- a link word of 47 bits has no hint
-pub no_hint : (w : LinkWord) → link_code w < 140737488355328 → w.disclosed ≡ false
-no_hint w lt = by_bit w.disclosed refl
-  where
-    by_bit : (b : Bool) → w.disclosed ≡ b → w.disclosed ≡ false
-    by_bit false e = e
-    by_bit true e = absurd (let d : bit w.disclosed ≡ 1 = ap bit e in omega arith)
-
--- any link word has 48 bits
-pub link_code_within : (w : LinkWord) → IsNarrowLink w → link_code w < 281474976710656
-link_code_within w n = let a = bit_small w.kind.supervisor in let b = bit_small w.kind.scoped in let c = bit_small w.kind.lazy in let d = bit_small w.disclosed in omega (arith, n.parent, n.next, n.tag)

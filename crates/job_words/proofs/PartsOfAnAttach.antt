@@ -16,7 +16,7 @@ use Rattle.job_words.specs.declared.link_word.LinkWord.{LinkWord}
 use Rattle.job_words.specs.declared.size.ForestSize.{ForestSize}
 use Rattle.job_words.specs.declared.deed.Deed.{Deed}
 use Rattle.job_words.specs.declared.deed.Deed.TheVariants.{Act, Claim, StoreLink, StoreJob}
-use Rattle.job_words.specs.Rows.{bit, job_code, link_code, row_code, word_of, link_word_of, link_at, new_link, without_hint, IsNarrowLink}
+use Rattle.job_words.specs.Rows.{bit, job_code, link_code, row_code, word_of, link_word_of, link_at, without_hint, IsNarrowLink}
 use Rattle.job_words.specs.Deeds.{shape_of, IsSize, history_of, Store, after_deed, store_of, DeedNeeds, DoneFrom, IsDone, IsSmall, IsSmallRow, job_word, MayBeLink, Fits}
 use Rattle.job_words.specs.Passes.{Seen, Sees, Goes, Does, IsMine, ExchangeAnswer}
 use Rattle.job_words.specs.Attaches.{ClaimAnswer, IsAttached, IsWord}
@@ -123,14 +123,6 @@ is_word v r n a e never = let j = is_job ((store_of v.seen).tree r) a in never (
 
 -- ---- a word that was seen
 
-pub if_true : (b : Bool) (P Q : Type 0) → b ≡ true → MatchBool b P Q → P
-if_true true P Q e m = m
-if_true false P Q e m = absurd (let k : false ≡ true = e in cc)
-
-pub if_false : (b : Bool) (P Q : Type 0) → b ≡ false → MatchBool b P Q → Q
-if_false true P Q e m = absurd (let k : true ≡ false = e in cc)
-if_false false P Q e m = m
-
 pub sees_done : (size : ForestSize) (who : ℕ) (v w : Seen) → v.key ≡ size → Sees who v w → IsDone (shape_of size) w.seen
 sees_done size who v w key s = subst (λ (k : ForestSize). IsDone (shape_of k) w.seen) key s.done
 
@@ -154,9 +146,6 @@ living_few size v r w s h a k =
 -- a fact of the state that the word shows, which was loaded last
 pub state_seen : (P : Option Job → Type 0) (size : ForestSize) (who : ℕ) (u v : Seen) (r : ℕ) (w : JobWord) → IsSize size → u.key ≡ size → Sees who u v → IsAttached v r → IsWord v r w → ((j : Job) → word_of j ≡ w → P (Some j)) → Goes who [] u v × P ((store_of v.seen).tree r)
 state_seen P size who u v r w s key g a k f = let j = job_seen size v r w s (sees_done size who u v key g) a k in (sees_goes who u v g, subst P (sym j.1) (f j.0 j.2))
-
-pub link_narrow : (p n tag : ℕ) (kind : JobKind) → p < 16384 → n < 16384 → tag < 65536 → IsNarrowLink (new_link p n tag kind)
-link_narrow p n tag kind lp ln lt = record { parent = lp; next = ln; tag = lt }
 
 pub does_attached : (who : ℕ) (d : Deed) (word old : ℕ) (v w : Seen) (r : ℕ) → Does who d word old v w → IsAttached v r → IsAttached w r
 does_attached who d word old v w r g a =

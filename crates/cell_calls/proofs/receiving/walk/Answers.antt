@@ -1,5 +1,5 @@
 use Rattle.std.proofs.Common.{None, inl, sym, subst, ◌∙◌}
-use Rattle.channel_model.specs.Answers.{IsSpentForReceives, IsDrainedAndClosed, IsEmptyToTry}
+use Rattle.channel_model.specs.Answers.{IsSpentForReceives, IsEmptyToTry}
 use Rattle.cell_words.specs.declared.found.Removal.TheVariants as removal
 use Rattle.cell_words.specs.Hubs.{shape_of}
 use Rattle.cell_words.specs.Seen.{Makes}
