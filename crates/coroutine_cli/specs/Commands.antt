@@ -84,6 +84,12 @@ reads (Run workers) = true
 reads Check = true
 reads (Sum size workers) = false
 
+-- how many workers the command asks for
+abbrev pub workers_asked : Command → ℕ
+workers_asked (Run workers) = workers
+workers_asked Check = 1
+workers_asked (Sum size workers) = workers
+
 -- the command asks for one worker, or for none
 abbrev pub is_alone : Command → Bool
 is_alone (Run workers) = workers == 1

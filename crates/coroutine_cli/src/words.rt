@@ -4,7 +4,7 @@ ghost use Rattle.std.specs.Prelude.{◌≡◌, ◌≢◌, ◌≤◌, List, ℕ, 
 ghost use lib.Chars.{codes};
 ghost use Rattle.clap.specs.Words.{app_of, first_of, found_of, is_simple_and_free, rows_of, rule_of};
 ghost use Rattle.script_grammar.specs.Places.{value_at};
-ghost use Rattle.coroutine_cli.specs.Commands.{IsInLimits, alone, check_line, command_of, is_alone, matches_by, option, run_by, run_line, size_of, sum_by, sum_line, within, workers_of};
+ghost use Rattle.coroutine_cli.specs.Commands.{IsInLimits, alone, check_line, command_of, is_alone, matches_by, option, run_by, run_line, size_of, sum_by, sum_line, within, workers_asked, workers_of};
 
 use clap::error::ErrorKind;
 use clap::{Arg, ArgMatches, Error};
@@ -27,7 +27,8 @@ impl Command {
     /// How many workers it asks for.
     pub fn workers(self) -> u8
         requires { IsInLimits self }
-        ensures { (1 ≤ result) × (result ≤ 16) }
+        ensures asked { result ≡ workers_asked self }
+        ensures limits { (1 ≤ result) × (result ≤ 16) }
     {
         match self {
             Command::Run(workers) | Command::Sum(_, workers) => workers,
