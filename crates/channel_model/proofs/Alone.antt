@@ -37,10 +37,6 @@ looked_alone shape who es m = record {
   spare = omega arith;
 }
 
--- a moment before the call's entry
-abbrev pub first_moment : (shape : Shape) (es es' rest : List Entry) (m n : ℕ) (P : State → Type 0) → es' ≡ es ++ rest → P (replay es) → AtStep (floor shape es m) (floor shape es' n) P
-first_moment shape es es' rest m n P is h = record { moment = es; after = ([], nothing_more es); before = (rest, sym is); holds = h }
-
 -- the same, with none of the call's own acts
 abbrev pub own_moment : (shape : Shape) (who : ℕ) (es es' rest : List Entry) (m n : ℕ) (P : State → Type 0) → es' ≡ es ++ rest → P (replay es) → AtMoment who [] (floor shape es m) (floor shape es' n) P
 own_moment shape who es es' rest m n P is h = record { moment = es; after = ([], nothing_more es); before = (rest, sym is); mine = sym (nothing_more (acts_of who es)); holds = h }

@@ -1,6 +1,6 @@
 -- The first receiver and the first offer, and what an act needs of a state.
-use Rattle.std.specs.Prelude.{◌≡◌, ℕ, ◌≤◌, Bool, true, false, List, [], ◌∷◌, Option, Some, None, slice_get, refl, IsSome, MatchBool, is_none, is_some}
-use Rattle.std.specs.Option.{ForSome, option_and_then}
+use Rattle.std.specs.Prelude.{◌≡◌, ℕ, ◌≤◌, Bool, true, false, List, [], ◌∷◌, Option, Some, None, slice_get, refl, MatchBool, is_none, is_some}
+use Rattle.std.specs.Option.{option_and_then}
 use Rattle.std.proofs.Common.{sym, ap, ◌∙◌, subst}
 use Rattle.co_base.specs.declared.names.WaitId.{WaitId}
 use Rattle.channel_model.specs.declared.acts.Kind.{Kind}
@@ -13,10 +13,10 @@ use Rattle.channel_model.specs.declared.standing.Resolution.{Resolution}
 use Rattle.channel_model.specs.declared.standing.Resolution.TheVariants as resolved
 use Rattle.channel_model.specs.Channels.{State, Wait, same_wait, is_full, suspends, is_signal}
 use Rattle.channel_model.specs.Outcomes.{outcome_of, IsOutcome}
-use Rattle.channel_model.specs.Effects.{resolve, resolve_first, resolve_holder, resolve_offer, with_queue, is_open}
+use Rattle.channel_model.specs.Effects.{resolve, resolve_first, with_queue, is_open}
 use Rattle.channel_model.specs.Needs.{MayName, JoinsWait, IsFirstReceiver, IsFirstOffer, IsOpenOf, MaySettle}
 use Rattle.channel_model.specs.Answers.{first_receiver, first_holder, owner_of, owner_of_holder, outcome_at, outcome_of_some, IsOwnWait, IsReadyWait, IsResolvedWait}
-use Rattle.channel_model.specs.Laws.{AllStandOpen, IsStandingAt, OffersStand, ReceiversStand, HolderStands}
+use Rattle.channel_model.specs.Laws.{AllStandOpen, OffersStand, HolderStands}
 use Rattle.channel_model.proofs.Waits.{same_wait-refl, same_wait-eq}
 use Rattle.channel_model.proofs.OpenWaits.{with_queue_open}
 
@@ -29,15 +29,6 @@ first_receiver_is (x ∷ rs) r e = let k : x ≡ r = cc in ap (λ (y : Receiver)
 pub first_resolved : (rs : List Receiver) (r : Receiver) (how : ℕ → Resolution) (s : State) → slice_get rs 0 ≡ Some r → resolve_first rs how s ≡ resolve r.party.wait (how r.party.clause) s
 first_resolved [] r how s e = cc
 first_resolved (x ∷ rs) r how s e = let k : x ≡ r = cc in ap (λ (y : Receiver). resolve y.party.wait (how y.party.clause) s) k
-
-pub some_stands : (c : ℕ) (x : Option Wait) → IsStandingAt c x → IsSome x
-some_stands c None h = absurd h
-some_stands c (Some x) h = refl
-
-pub receiver_there : (waits : WaitId → Option Wait) (c : ℕ) (rs : List Receiver) (r : Receiver) → ReceiversStand waits c rs → slice_get rs 0 ≡ Some r → IsSome (waits r.party.wait)
-unfolding ReceiversStand
-receiver_there waits c [] r h e = cc
-receiver_there waits c (x ∷ rs) r h e = let k : x ≡ r = cc in subst (λ (y : Receiver). IsSome (waits y.party.wait)) k (some_stands c (waits x.party.wait) h.0)
 
 pub no_receiver : (rs : List Receiver) → None ≡ slice_get rs 0 → rs ≡ []
 no_receiver [] e = refl
@@ -56,15 +47,8 @@ pub first_stands : (waits : WaitId → Option Wait) (c : ℕ) (q os : List Stand
 unfolding OffersStand
 first_stands waits c q os o h e = subst (OffersStand waits c) e h
 
-pub holder_there : (waits : WaitId → Option Wait) (c : ℕ) (p : Option Party) → HolderStands waits c p → ForSome p (λ p. IsSome (waits p.wait))
-holder_there waits c None h = λ x e. cc
-holder_there waits c (Some p) h = λ x e. let k : p ≡ x = cc in subst (λ (y : Party). IsSome (waits y.wait)) k (some_stands c (waits p.wait) h)
-
 pub popped_open : (s : State) (c : ℕ) (o : Standing) (os : List Standing) → AllStandOpen s → (s.channels c).queue ≡ o ∷ os → AllStandOpen (with_queue c os s)
 popped_open s c o os h e = with_queue_open c os s h (first_stands s.waits c _ os o (h c).offers e).1
-
-pub take_is : (s : State) (c : ℕ) (o : Standing) (os q : List Standing) → q ≡ o ∷ os → resolve_offer c q resolved.Taken s ≡ resolve_holder o.holder resolved.Taken (with_queue c os s)
-take_is s c o os q e = ap (λ l. resolve_offer c l resolved.Taken s) e
 
 pub first_holder_is : (s : State) (o : Standing) (os q : List Standing) → q ≡ o ∷ os → first_holder s q ≡ owner_of_holder s o.holder
 first_holder_is s o os q e = ap (first_holder s) e

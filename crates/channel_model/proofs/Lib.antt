@@ -34,3 +34,4 @@ pub mod Puts
 pub mod Entries
 pub mod PlainOffers
 pub mod ResolvedAtClauses
+pub mod PlacedFull

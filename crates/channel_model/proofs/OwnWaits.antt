@@ -1,21 +1,16 @@
 -- Where a caller's waits come from: only its own act begins one.
-use Rattle.std.specs.Prelude.{◌≡◌, ◌≢◌, ℕ, ◌==◌, Bool, true, false, List, [], ◌∷◌, ◌++◌, Option, Some, None, refl, if◌then◌else◌, ◌⊎◌}
-use mathlib.Core.List.{IsPrefix}
-use Rattle.std.proofs.Common.{sym, ap, ◌∙◌, subst, arith, inl, inr, ⊎_elim}
-use Rattle.std.proofs.lemmas.Bool.Decides.{nat_tests}
+use Rattle.std.specs.Prelude.{◌≡◌, ℕ, Bool, true, false, List, [], ◌∷◌, Option, Some, None, refl, if◌then◌else◌, ◌⊎◌}
+use Rattle.std.proofs.Common.{ap, subst, inl, inr, ⊎_elim}
 use Rattle.co_base.specs.declared.names.WaitId.{WaitId}
 use Rattle.channel_model.specs.declared.acts.Act.{Act}
 use Rattle.channel_model.specs.declared.acts.Act.TheVariants.{Hand, Put, Offer, Await, Take, Admit, Drop, Close, Void, Drain, WakeClosed, Withdraw, Settle}
-use Rattle.channel_model.specs.declared.acts.Entry.{Entry}
 use Rattle.channel_model.specs.declared.acts.Settled.{Settled}
 use Rattle.channel_model.specs.declared.standing.Party.{Party}
 use Rattle.channel_model.specs.declared.standing.Standing.{Standing}
 use Rattle.channel_model.specs.declared.standing.Receiver.{Receiver}
 use Rattle.channel_model.specs.declared.standing.Resolution.{Resolution}
-use Rattle.channel_model.specs.Channels.{State, Wait, same_wait, start}
+use Rattle.channel_model.specs.Channels.{State, Wait, same_wait}
 use Rattle.channel_model.specs.Effects.{after, resolve, resolve_first, resolve_holder, resolve_offer, remove_first, put_wait, resolved_wait, name_clause, settled_wait, holder_at}
-use Rattle.channel_model.specs.Histories.{replay, replay_from, acts_of}
-use Rattle.channel_model.proofs.Histories.{replay_from-append, acts_of-append}
 use Rattle.channel_model.proofs.Waits.{same_wait-eq}
 
 -- a fact of a wait that comes only with a wait that who begins
@@ -89,26 +84,3 @@ act_from who P y n v s (Drain c p x) h = inl (offer_from who P y v c _ _ s h)
 act_from who P y n v s (WakeClosed c p) h = inl (first_from who P y v _ _ s h)
 act_from who P y n v s (Withdraw w why) h = inl (resolve_from who P y v w _ s h)
 act_from who P y n v s (Settle w outcome) h = inl (change_from P s.waits w v (settled_wait outcome) (y.settled outcome) h)
-
--- entries of others alone
-none_own : (who : ℕ) (e : Entry) (es : List Entry) (b : Bool) → (e.who == who) ≡ b → (if b then e.act ∷ acts_of who es else acts_of who es) ≡ [] → (e.who ≢ who) × (acts_of who es ≡ [])
-none_own who e es true k h = cc
-none_own who e es false k h = (λ q. grind (arith, nat_tests), h)
-
-others_from : (who : ℕ) (P : Option Wait → Type 0) → ComesFrom who P → (v : WaitId) (s : State) (es : List Entry) → acts_of who es ≡ [] → P ((replay_from s es).waits v) → P (s.waits v)
-unfolding replay_from acts_of
-others_from who P y v s [] n h = h
-others_from who P y v s (e ∷ es) n h =
-    let m = none_own who e es (e.who == who) refl n in
-    ⊎_elim (λ q. q) (λ q. absurd (m.0 q.0)) (act_from who P y e.who v s e.act (others_from who P y v (after s e.who e.act) es m.1 h))
-
-nothing_left : {A : Type 0} (xs ys : List A) → xs ++ ys ≡ xs → ys ≡ []
-nothing_left [] ys e = e
-nothing_left (x ∷ xs) ys e = nothing_left xs ys (let k : xs ++ ys ≡ xs = cc in k)
-
--- between two moments with no act of the caller: what is there at the second was there at the first
-pub others_bring_none : (who : ℕ) (P : Option Wait → Type 0) → ComesFrom who P → (v : WaitId) (xs ys : List Entry) → IsPrefix xs ys → acts_of who ys ≡ acts_of who xs → P ((replay ys).waits v) → P ((replay xs).waits v)
-others_bring_none who P y v xs ys p e h =
-    let n : acts_of who p.0 ≡ [] = nothing_left (acts_of who xs) (acts_of who p.0) (sym (acts_of-append who xs p.0) ∙ ap (acts_of who) p.1 ∙ e) in
-    let h' : P ((replay_from start (xs ++ p.0)).waits v) = subst (λ es. P ((replay es).waits v)) (sym p.1) h in
-    others_from who P y v (replay xs) p.0 n (subst (λ (s : State). P (s.waits v)) (replay_from-append start xs p.0) h')

@@ -143,9 +143,6 @@ module _ (shape : Shape) where
   pub channel_lasts : (P : ℕ → Channel → Type 0) → ChannelKeeps shape P → (c : ℕ) (xs ys : List Entry) → IsPrefix xs ys → Legal shape ys → P c ((replay xs).channels c) → P c ((replay ys).channels c)
   channel_lasts P k c xs ys le l p = lasts (λ s. P c (s.channels c)) (record { step = λ s who act h n p. after_keeps shape P k s who act c n p }) xs ys le l p
 
-  pub wait_lasts : (P : Option Wait → Type 0) → WaitKeeps P → (w : WaitId) (xs ys : List Entry) → IsPrefix xs ys → Legal shape ys → P ((replay xs).waits w) → P ((replay ys).waits w)
-  wait_lasts P k w xs ys le l p = lasts (λ s. P (s.waits w)) (record { step = λ s who act h n p. after_waits P k shape s who act w h.placed n p }) xs ys le l p
-
 -- ---- what lasts
 
 pub given_keeps : (shape : Shape) (p : ℕ) → ChannelKeeps shape (λ d ch. p ≤ ch.next)

@@ -9,7 +9,6 @@ pub mod Fates
 pub mod Floors
 pub mod Answers
 pub mod Registers
-pub mod Admitted
 pub mod Puts
 pub mod Laws
 pub mod PlainOffers

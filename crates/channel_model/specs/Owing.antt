@@ -1,7 +1,6 @@
 -- What a state of the channels still owes to those who wait.
 use Rattle.std.specs.Prelude.{◌≡◌, ℕ, ◌+◌, ◌<◌, nat_le, nat_lt, Bool, true, false, not, cond, ◌&&◌, ◌||◌, List, [], ◌∷◌, length, is_some}
 use Rattle.channel_model.specs.declared.acts.Kind.{Kind}
-use Rattle.channel_model.specs.declared.acts.Kind.TheVariants.{Rendezvous, Buffered, Unlimited, Conflated, DropOldest, Signal}
 use Rattle.channel_model.specs.declared.standing.Standing.{Standing}
 use Rattle.channel_model.specs.Channels.{Shape, kind_at, is_full, drops, Channel, State}
 
@@ -28,15 +27,6 @@ offers_up_to mine (o ∷ os) = cond (nat_le o.place mine) 1 0 + offers_up_to min
 abbrev pub stands_any : {A : Type 0} → List A → Bool
 stands_any [] = false
 stands_any (x ∷ xs) = true
-
--- a channel of this kind never owes an admission or a drop: it keeps no element without a wait, or all elements
-abbrev pub never_owes : Kind → Bool
-never_owes Rendezvous = true
-never_owes (Buffered k) = false
-never_owes Unlimited = true
-never_owes Conflated = false
-never_owes (DropOldest k) = false
-never_owes Signal = true
 
 -- a held offer might be kept, a receiver of a closed channel was not told, an element of a cancelled channel was not
 -- removed, or more elements stand than the kind keeps

@@ -1,6 +1,8 @@
 -- The wait of a plain offer, while its owner neither withdraws nor settles it.
 use Rattle.std.specs.Prelude.{◌≡◌, ℕ, Bool, true, [], ◌∷◌, Option, Some, None}
 use Rattle.co_base.specs.declared.names.WaitId.{WaitId}
+use Rattle.channel_model.specs.declared.acts.Act.TheVariants.{Offer}
+use Rattle.channel_model.specs.declared.acts.Entry.{Entry}
 use Rattle.channel_model.specs.declared.standing.Receiver.{Receiver}
 use Rattle.channel_model.specs.declared.standing.Resolution.{Resolution}
 use Rattle.channel_model.specs.declared.standing.Resolution.TheVariants as resolved
@@ -30,3 +32,7 @@ receivers_of w ch = how_many (λ (r : Receiver). same_wait w r.party.wait) ch.re
 pub record OffersPlainly (who : ℕ) (w : WaitId) (s : State) : Type 0 where
   pub wait : IsPlainOffer who w.channel (s.channels w.channel).voided (s.waits w)
   pub no_receiver : (c : ℕ) → receivers_of w (s.channels c) ≡ 0
+
+-- who offers an element at a place, with a wait of its own
+abbrev pub plain_offer : ℕ → ℕ → ℕ → ℕ → Entry
+plain_offer who c place v = record { who = who; act = Offer c place v (record { channel = c; place = place }) 0 }

@@ -1,13 +1,15 @@
 //! What holds in every legal history.
 
-ghost use Rattle.std.specs.Prelude.{◌+◌, is_some, ◌≡◌, ◌++◌, ◌≤◌, ◌↔◌, ◌<◌, ℕ, List, Some, length, true};
+ghost use Rattle.std.specs.Prelude.{◌+◌, is_some, ◌≡◌, ◌++◌, ◌∷◌, ◌≤◌, ◌↔◌, ◌<◌, ℕ, List, Some, length, true};
 ghost use Rattle.channel_model.specs.declared.acts.Entry.{Entry};
 ghost use Rattle.channel_model.specs.declared.acts.Settled.{Settled};
 ghost use Rattle.channel_model.specs.declared.standing.Resolution.{Resolution};
 ghost use Rattle.channel_model.specs.Channels.{Shape, State, kind_at};
 ghost use Rattle.channel_model.specs.Effects.{after};
 ghost use Rattle.channel_model.specs.Histories.{replay, replay_from, Legal, LegalFrom};
-ghost use Rattle.channel_model.specs.Answers.{IsResolvedWait, IsSettledWait};
+ghost use Rattle.channel_model.specs.declared.floor.WaitState.TheVariants.{Standing};
+ghost use Rattle.channel_model.specs.Answers.{IsResolvedWait, IsSettledWait, IsFullAt, IsAdmittedBelow, state_of_wait};
+ghost use Rattle.channel_model.specs.PlainOffers.{plain_offer};
 ghost use Rattle.channel_model.specs.Laws.{closings_of, voidings_of, StandsInOrder, ClausesFit, NoneBelow, NoOffer, IsResolvedAs, IsSettledAs, AllStandOpen, AllStandOnce, resolutions_of, settlements_of, is_plain_history, IsPlain, keeps_none};
 ghost use Rattle.channel_model.specs.Needs.{Needs};
 ghost use Rattle.channel_model.specs.Owing.{OwesNothing};
@@ -108,4 +110,13 @@ pub fn plain_histories_owe_nothing()
     ensures plain { (history : List Entry) → is_plain_history history ≡ true → IsPlain (replay history) }
     ensures owing { (shape : Shape) (history : List Entry) → is_plain_history history ≡ true → ((c : ℕ) → c < length shape
         → keeps_none (kind_at shape c) ≡ true) → OwesNothing shape (replay history) }
+{}
+
+/// Where a send's own offer still waits, and no offer below a mark above its place may be admitted, at least as many offers as the
+/// channel keeps stood there when it was placed.
+pub fn a_send_that_waits_was_placed_in_a_full_channel()
+    ensures { (shape : Shape) (xs ys : List Entry) (who c p v mark : ℕ) → Legal shape (xs ++ plain_offer who c p v ∷ ys) → p < mark
+        → IsAdmittedBelow shape c mark (replay (xs ++ plain_offer who c p v ∷ ys))
+        → state_of_wait ((replay (xs ++ plain_offer who c p v ∷ ys)).waits (record { channel = c; place = p })) ≡ Some Standing
+        → IsFullAt shape c (replay xs) }
 {}

@@ -40,6 +40,7 @@
 //! - `whoever_stands_has_an_open_wait`: `Waits`; `OpenWaits`. `a_wait_stands_at_most_once_at_a_channel`: `Placed`; `Apart`.
 //! - `those_who_stand_stand_in_order`: `EveryAct`, `Sound`; `InOrder`. `a_wait_has_at_most_seven_clauses`: `EveryAct`, `Sound`; `Clauses`.
 //! - `who_is_gone_never_stands_again`: `EveryAct`, `Sound`; `GoneForGood`.
+//! - `a_send_that_waits_was_placed_in_a_full_channel`: `EveryAct`, `Sound`; `Resolutions`, `Placed`; `PlacedFull`.
 //! - `what_was_done_stays_done`: `Resolutions`, `ResolvedAs`; `Later`. `plain_histories_owe_nothing`: `Plain`.
 //!
 //! Others show what floors and callers need of histories:
@@ -61,6 +62,7 @@ pub use floor::{
 };
 pub use laws::{
     a_channel_is_closed_exactly_where_one_entry_closes_it,
+    a_send_that_waits_was_placed_in_a_full_channel,
     a_step_is_taken_exactly_where_its_entry_may_come, a_wait_has_at_most_seven_clauses,
     a_wait_is_resolved_and_settled_at_most_once,
     a_wait_is_resolved_exactly_where_one_entry_resolves_it,

@@ -29,6 +29,3 @@ pub use standard::{StdSink, StdSource};
 pub use steady::{SteadySink, SteadySource};
 pub use streams::{Sink, Source};
 pub use writing::write_all;
-
-#[cfg(test)]
-mod tests;

@@ -6,18 +6,17 @@ use Rattle.job_model.specs.declared.acts.JobState.{JobState}
 use Rattle.job_model.specs.declared.acts.JobState.TheVariants.{New, Active, Completing, Cancelling, Cancelled, Completed}
 use Rattle.job_model.specs.declared.acts.End.{End}
 use Rattle.job_model.specs.declared.acts.End.TheVariants as ends
-use Rattle.job_model.specs.declared.acts.JobKind.{JobKind}
 use Rattle.job_model.specs.declared.acts.Cause.{Cause}
 use Rattle.job_model.specs.declared.acts.Reason.{Reason}
 use Rattle.job_model.specs.declared.acts.JobAct.{JobAct}
 use Rattle.job_model.specs.declared.acts.JobAct.TheVariants.{Attach, Start, EndBody, Cancel, Finish, Gone}
 use Rattle.job_model.specs.declared.acts.JobEntry.{JobEntry}
-use Rattle.job_model.specs.Trees.{Shape, Job, Tree, is_new, is_ended, state_of, parent_of}
+use Rattle.job_model.specs.Trees.{Shape, Job, Tree, is_new, state_of, parent_of}
 use Rattle.job_model.specs.Effects.{after, change, change_parent, new_child, started, without_body, cancelled_for, cause_of_reason, ended_by, with_told, with_child, state_after_body, state_of_end}
-use Rattle.job_model.specs.Needs.{Needs, MayEndBody, MayBeCancelled, MayFinish, IsFinishedBy, end_of}
+use Rattle.job_model.specs.Needs.{Needs, MayEndBody, MayBeCancelled, MayFinish, end_of}
 use Rattle.job_model.specs.Families.{IsEnded}
 use Rattle.job_model.specs.Histories.{replay, Legal}
-use Rattle.job_model.specs.Laws.{IsSoundJob, IsSoundRow, is_bodiless, row_of_act, EndsBodyFrom, FinishesFrom, ActTakes, HasFamilies}
+use Rattle.job_model.specs.Laws.{IsSoundRow, is_bodiless, row_of_act, EndsBodyFrom, FinishesFrom, ActTakes, HasFamilies}
 use Rattle.job_model.proofs.Histories.{replay_push, Legal-last}
 use Rattle.job_model.proofs.Families.{attached_now, changed_here, finished_ended, replay_families}
 

@@ -1,23 +1,18 @@
 -- Who stands below a Job as its history goes on.
-use Rattle.std.specs.Prelude.{◌≡◌, ℕ, Bool, true, false, List, [], ◌∷◌, Option, Some, None, refl}
+use Rattle.std.specs.Prelude.{◌≡◌, ℕ, Bool, true, false, List, Option, Some, None, refl}
 use mathlib.Core.List.{IsPrefix}
-use Rattle.std.proofs.Common.{sym, ap, ◌∙◌, subst}
+use Rattle.std.proofs.Common.{sym, ap, ◌∙◌}
 use Rattle.job_model.specs.declared.acts.JobState.{JobState}
 use Rattle.job_model.specs.declared.acts.JobState.TheVariants.{New, Active, Completing, Cancelling, Cancelled, Completed}
-use Rattle.job_model.specs.declared.acts.JobKind.{JobKind}
 use Rattle.job_model.specs.declared.acts.End.{End}
 use Rattle.job_model.specs.declared.acts.End.TheVariants as ends
-use Rattle.job_model.specs.declared.acts.JobAct.TheVariants.{Attach}
 use Rattle.job_model.specs.declared.acts.JobEntry.{JobEntry}
-use Rattle.job_model.specs.Trees.{Shape, Job, Tree, is_cancellable, is_cancelling, is_ended, parent_of}
-use Rattle.job_model.specs.Effects.{after, state_after_body, state_of_end, first_state}
-use Rattle.job_model.specs.Needs.{Needs, MayHaveChild}
+use Rattle.job_model.specs.Trees.{Shape, Job, is_cancellable, is_cancelling, is_ended}
+use Rattle.job_model.specs.Effects.{state_after_body, state_of_end}
+use Rattle.job_model.specs.Needs.{MayHaveChild}
 use Rattle.job_model.specs.Families.{IsBelow, IsCancellingOrEnded}
-use Rattle.job_model.specs.Histories.{replay, replay_from, Legal, LegalFrom}
-use Rattle.job_model.proofs.Histories.{replay-append, Legal-append}
-use Rattle.job_model.proofs.Steps.{row_step}
-use Rattle.job_model.proofs.Lasting.{Lasts, history_keeps, parent_lasts, act_keeps}
-use Rattle.job_model.proofs.Families.{parent_was, attached_now}
+use Rattle.job_model.specs.Histories.{replay, Legal}
+use Rattle.job_model.proofs.Lasting.{Lasts, parent_lasts}
 use Rattle.job_model.proofs.Own.{prefix_keeps}
 
 -- ---- what stands below stays below
@@ -69,24 +64,3 @@ must_be_cancelled Completed cancelled c e k = cc
 pub child_cancelled : (x : Option Job) (cancelled : Bool) → IsCancellingOrEnded x → MayHaveChild cancelled x → cancelled ≡ true
 child_cancelled None cancelled h m = absurd m
 child_cancelled (Some j) cancelled h m = must_be_cancelled j.state cancelled h m.0 m.1
-
-late_from : (shape : Shape) (tree : Tree) (es : List JobEntry) (p c : ℕ) (P : Type 0) → LegalFrom shape tree es → IsCancellingOrEnded (tree p) → parent_of (replay_from tree es c) ≡ Some p → (parent_of (tree c) ≡ Some p → P) → (IsCancellingOrEnded (replay_from tree es c) → P) → P
-unfolding LegalFrom replay_from
-late_from shape tree [] p c P l h e old new = old e
-late_from shape tree (x ∷ es) p c P l h e old new =
-    late_from shape (after tree x.who x.act) es p c P l.1 (act_keeps IsCancellingOrEnded cancelling_lasts shape tree x.who x.act p l.0 h) e
-    (λ q. parent_was shape tree x.who c p x.act _ _ P (row_step shape tree x.who x.act c l.0) q old
-    (λ kind tag cancelled f. new (history_keeps IsCancellingOrEnded cancelling_lasts shape (after tree x.who x.act) es c l.1 (subst (λ a. IsCancellingOrEnded (after tree x.who a c)) (sym f) (at_once kind tag cancelled (child_cancelled (tree p) cancelled h (subst (Needs shape tree x.who) f l.0).1))))))
-    new
-  where
-    at_once : (kind : JobKind) (tag : ℕ) (cancelled : Bool) → cancelled ≡ true → IsCancellingOrEnded (after tree x.who (Attach p c kind tag cancelled) c)
-    at_once kind tag cancelled k =
-        subst IsCancellingOrEnded (sym (attached_now tree x.who p c kind tag cancelled)) (ap (λ b. is_cancellable (first_state b kind.lazy)) k)
-
--- whoever is a child of a Job that is Cancelling or ended was its child then, or is Cancelling or ended itself
-pub late_children : (shape : Shape) (xs ys : List JobEntry) (p c : ℕ) (P : Type 0) → Legal shape ys → IsPrefix xs ys → IsCancellingOrEnded (replay xs p) → parent_of (replay ys c) ≡ Some p → (parent_of (replay xs c) ≡ Some p → P) → (IsCancellingOrEnded (replay ys c) → P) → P
-late_children shape xs ys p c P l pre h e old new =
-    let rest = pre.0 in
-    let parts = (Legal-append shape xs rest).0 (subst (Legal shape) (sym pre.1) l) in
-    let is : replay ys ≡ replay_from (replay xs) rest = ap replay (sym pre.1) ∙ replay-append xs rest in
-    late_from shape (replay xs) rest p c P parts.1 h (ap (λ (t : Tree). parent_of (t c)) (sym is) ∙ e) old (λ k. new (subst (λ (t : Tree). IsCancellingOrEnded (t c)) (sym is) k))

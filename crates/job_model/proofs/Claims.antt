@@ -7,7 +7,7 @@ use Rattle.job_model.specs.Trees.{Shape, Job, Tree, start}
 use Rattle.job_model.specs.Acts.{attaches}
 use Rattle.job_model.specs.Effects.{after}
 use Rattle.job_model.specs.Histories.{replay, replay_from, Legal, LegalFrom}
-use Rattle.job_model.specs.Floors.{Floor, attacher, HasClaims}
+use Rattle.job_model.specs.Floors.{attacher}
 use Rattle.job_model.proofs.Steps.{RowStep, row_step}
 use Rattle.job_model.proofs.Families.{start_root}
 use Rattle.job_model.proofs.Rows.{same}
@@ -52,7 +52,3 @@ attached_by shape es r P l a old new = attached_from shape start es r P l a (λ 
 
 some_is : {A : Type 0} (x : Option A) (a : A) → x ≡ Some a → is_some x ≡ true
 some_is x a e = ap is_some e
-
--- each row that was seen attached is claimed
-pub attached_claimed : (floor : Floor) (r : ℕ) → Legal floor.shape floor.seen → HasClaims floor → is_some (replay floor.seen r) ≡ true → is_some (floor.claims r) ≡ true
-attached_claimed floor r l h a = attached_by floor.shape floor.seen r _ l a (λ e. some_is (floor.claims r) 0 (ap floor.claims e ∙ h.root)) (λ t e. some_is (floor.claims r) t (h.attached r t e))

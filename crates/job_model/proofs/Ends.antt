@@ -1,6 +1,7 @@
 -- What the tree says by its entries, and that children end before their parent.
 use Rattle.std.specs.Prelude.{◌≡◌, ℕ, ◌==◌, Bool, true, false, not, ◌||◌, List, [], ◌∷◌, ◌++◌, filter, Option, Some, None, option_map, is_some, if◌then◌else◌, refl}
 use Rattle.std.proofs.Common.{sym, ap, ◌∙◌, subst}
+use Rattle.std.proofs.Math.Bool.{or_assoc}
 use Rattle.std.proofs.lemmas.Bool.{eqb-true}
 use Rattle.job_model.specs.declared.acts.JobState.TheVariants.{New, Active, Completing, Cancelling, Cancelled, Completed}
 use Rattle.job_model.specs.declared.acts.JobState.{JobState}
@@ -37,10 +38,6 @@ true_or true b c h k l = h refl
 true_or false true c h k l = k refl
 true_or false false true h k l = sym (l refl refl)
 true_or false false false h k l = refl
-
-or_assoc : (a b c : Bool) → ((a || b) || c) ≡ (a || (b || c))
-or_assoc true b c = refl
-or_assoc false b c = refl
 
 or_false : (a : Bool) → a ≡ (a || false)
 or_false true = refl

@@ -1,5 +1,5 @@
 -- What stays true of how a failure goes up, and of the Cancels that it makes.
-use Rattle.std.specs.Prelude.{◌≡◌, ℕ, Bool, true, false, List, [], ◌∷◌, Option, Some, None}
+use Rattle.std.specs.Prelude.{◌≡◌, ℕ, Bool, false, List, [], ◌∷◌, Some, None}
 use mathlib.Core.List.{IsPrefix}
 use Rattle.job_model.specs.declared.acts.JobKind.{JobKind}
 use Rattle.job_model.specs.declared.acts.JobAct.{JobAct}
@@ -8,11 +8,10 @@ use Rattle.job_model.specs.declared.acts.JobEntry.{JobEntry}
 use Rattle.job_model.specs.Trees.{Shape, kind_of}
 use Rattle.job_model.specs.Histories.{replay, Legal}
 use Rattle.job_model.specs.Cancels.{IsCancelBelow, AreCancelsBelow}
-use Rattle.job_model.specs.Failures.{IsScope, IsSupervisor, StaysBelow, GoesUpTo, FailsUp}
+use Rattle.job_model.specs.Failures.{IsScope, IsSupervisor, GoesUpTo}
 use Rattle.job_model.proofs.Lasting.{Lasts, parent_lasts}
 use Rattle.job_model.proofs.Own.{prefix_keeps}
 use Rattle.job_model.proofs.Below.{below_kept}
-use Rattle.job_model.proofs.Covered.{prefix_keeps_all}
 
 -- ---- Cancels of Jobs below a row
 
@@ -74,14 +73,3 @@ goes_kept shape xs ys row p l pre h = record {
   child = prefix_keeps _ (scope_lasts false) shape xs ys row l pre h.child;
   above = prefix_keeps _ (supervisor_lasts false) shape xs ys p l pre h.above;
 }
-
-pub stays_kept : (shape : Shape) (xs ys : List JobEntry) (row : ℕ) → Legal shape ys → IsPrefix xs ys → StaysBelow (replay xs) row → StaysBelow (replay ys) row
-stays_kept shape xs ys _ l pre StaysBelow.root = StaysBelow.root
-stays_kept shape xs ys _ l pre (StaysBelow.scope row h) = StaysBelow.scope row (prefix_keeps _ (scope_lasts true) shape xs ys row l pre h)
-stays_kept shape xs ys _ l pre (StaysBelow.supervised row p e h) = StaysBelow.supervised row p (prefix_keeps _ (parent_lasts p) shape xs ys row l pre e) (prefix_keeps _ (supervisor_lasts true) shape xs ys p l pre h)
-
--- how a failure went up stays so
-pub fails_up_kept : (shape : Shape) (xs ys : List JobEntry) (row : ℕ) (acts : List JobAct) → Legal shape ys → IsPrefix xs ys → FailsUp (replay xs) row acts → FailsUp (replay ys) row acts
-fails_up_kept shape xs ys _ _ l pre (FailsUp.ends row s) = FailsUp.ends row (stays_kept shape xs ys row l pre s)
-fails_up_kept shape xs ys _ _ l pre (FailsUp.stops row p acts g a c) = FailsUp.stops row p acts (goes_kept shape xs ys row p l pre g) (prefix_keeps_all shape xs ys p l pre a) (cancels_below_kept shape xs ys p acts l pre c)
-fails_up_kept shape xs ys _ _ l pre (FailsUp.goes_on row p acts more all g a c u e) = FailsUp.goes_on row p acts more all (goes_kept shape xs ys row p l pre g) (prefix_keeps_all shape xs ys p l pre a) (cancels_below_kept shape xs ys p acts l pre c) (fails_up_kept shape xs ys p more l pre u) e

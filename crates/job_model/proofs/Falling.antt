@@ -65,10 +65,6 @@ newest_lightest w m (x ∷ xs) c f h =
     let k : newest_after x xs ≡ c = cc in
     subst (IsLightest w (x ∷ xs)) k (record { among = newest_among x xs; alone = λ e a le. newest_alone w x xs e f.2 a le })
 
-pub none_newest : (cs : List ℕ) → newest cs ≡ None → cs ≡ []
-none_newest [] h = refl
-none_newest (x ∷ xs) h = cc
-
 -- ---- the one before
 
 -- d stands right before c: any other that weighs no more than d weighs no more than c

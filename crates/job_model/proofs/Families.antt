@@ -70,13 +70,6 @@ nat_equivalence = record {
   congr = λ x y z e. ap (λ u. u == z) (eqb-true x y e);
 }
 
-among_none : (tree : Tree) (p r : ℕ) → tree r ≡ None → (is_among r (children_of (tree p)) ≡ true → parent_of (tree r) ≡ Some p) → is_among r (children_of (tree p)) ≡ false
-among_none tree p r none h = by_test (is_among r (children_of (tree p))) refl
-  where
-    by_test : (b : Bool) → is_among r (children_of (tree p)) ≡ b → is_among r (children_of (tree p)) ≡ false
-    by_test true e = absurd (let k : None ≡ Some p = sym (ap parent_of none) ∙ h e in cc)
-    by_test false e = e
-
 once_step : (shape : Shape) (tree : Tree) (who q : ℕ) (act : JobAct) (x y : Option Job) → RowStep shape tree who q act x y
     → ((c : ℕ) → is_among c (children_of x) ≡ true → parent_of (tree c) ≡ Some q) → IsDistinct (λ c d. c == d) (children_of x) → IsDistinct (λ c d. c == d) (children_of y)
 unfolding IsDistinct

@@ -1,19 +1,17 @@
 -- What later calls leave of a caller's own Jobs.
-use Rattle.std.specs.Prelude.{◌≡◌, ℕ, ◌==◌, Bool, true, false, ◌||◌, List, [], ◌∷◌, ◌++◌, Option, Some, None, is_some, if◌then◌else◌, refl}
+use Rattle.std.specs.Prelude.{◌≡◌, ℕ, ◌==◌, Bool, true, false, ◌||◌, List, [], ◌∷◌, ◌++◌, Option, Some, None, if◌then◌else◌, refl}
 use Rattle.std.specs.List.{list_any}
 use mathlib.Core.List.{IsPrefix}
 use Rattle.std.proofs.Common.{sym, ap, ◌∙◌, subst}
 use Rattle.std.proofs.lemmas.Bool.{eq-eqb, eqb-true}
 use Rattle.job_model.specs.declared.acts.JobState.{JobState}
 use Rattle.job_model.specs.declared.acts.JobState.TheVariants.{New, Active, Completing, Cancelling, Cancelled, Completed}
-use Rattle.job_model.specs.declared.acts.End.{End}
-use Rattle.job_model.specs.declared.acts.End.TheVariants as ends
 use Rattle.job_model.specs.declared.acts.JobAct.{JobAct}
 use Rattle.job_model.specs.declared.acts.JobAct.TheVariants.{Attach, Start, EndBody, Cancel, Finish, Gone}
 use Rattle.job_model.specs.declared.acts.JobEntry.{JobEntry}
 use Rattle.job_model.specs.Trees.{Shape, Job, Tree, is_new, is_cancellable, is_ended, state_of, parent_of, parent_row, was_told}
 use Rattle.job_model.specs.Acts.{ends_body, tells}
-use Rattle.job_model.specs.Effects.{after, state_after_body, state_of_end}
+use Rattle.job_model.specs.Effects.{after}
 use Rattle.job_model.specs.Needs.{Needs, OwnsBody, MayEndBody, MayTell, IsFinishedBy}
 use Rattle.job_model.specs.Families.{IsEnded, IsCancellingOrEnded}
 use Rattle.job_model.specs.Histories.{replay, replay_from, Legal, LegalFrom, acts_of}
@@ -83,18 +81,6 @@ own_kept P t who step acts rows old new l a none h =
 
 -- ---- the own body
 
-not_new_body : (s : JobState) → is_new s ≡ false → is_new (state_after_body s) ≡ false
-not_new_body New e = cc
-not_new_body Active e = refl
-not_new_body Completing e = refl
-not_new_body Cancelling e = refl
-not_new_body Cancelled e = refl
-not_new_body Completed e = refl
-
-not_new_end : (end : End) → is_new (state_of_end end) ≡ false
-not_new_end (ends.Completed v) = refl
-not_new_end (ends.Cancelled cause) = refl
-
 body_step : (shape : Shape) (tree : Tree) (n who q : ℕ) (act : JobAct) (x y : Option Job) → RowStep shape tree n q act x y → (n ≡ who → ends_body q act ≡ false) → MayEndBody who x → MayEndBody who y
 body_step shape tree n who q _ _ _ (RowStep.is_attached p kind tag cancelled m i) k h = absurd h
 body_step shape tree n who q _ _ _ (RowStep.has_child r kind tag cancelled j none m) k h = h
@@ -124,13 +110,6 @@ owned_step shape tree n who q _ _ _ (RowStep.stays act x a b c d f) k h = h
 pub owned_body_kept : (who row : ℕ) (acts : List JobAct) (rows : List ℕ) (old new : Floor) → Legal new.shape new.seen → Added who acts rows old new → list_any (ends_body row) acts ≡ false → OwnsBody who (replay old.seen row) → OwnsBody who (replay new.seen row)
 owned_body_kept who row acts rows old new l a none h =
     own_kept (λ tree. OwnsBody who (tree row)) (ends_body row) who (λ shape tree n act k m f p. owned_step shape tree n who row act _ _ (row_step shape tree n act row m) f p) acts rows old new l a none h
-
-owned_attached : (who : ℕ) (x : Option Job) → OwnsBody who x → is_some x ≡ true
-owned_attached who None h = absurd h
-owned_attached who (Some j) h = refl
-
-pub owner_attached : (who row : ℕ) (a : Floor) → OwnsBody who (replay a.seen row) → is_some (replay a.seen row) ≡ true
-owner_attached who row a h = owned_attached who (replay a.seen row) h
 
 past_new : (s : JobState) → is_cancellable s ≡ false → is_new s ≡ false
 past_new New e = cc

@@ -141,9 +141,6 @@ attach_names r (Cancel q reason) P e h = cc
 attach_names r (Finish q end) P e h = cc
 attach_names r (Gone q) P e h = cc
 
-less_weight : (a b : ℕ) → 3 * a ≤ b → a ≤ b
-less_weight a b h = omega arith
-
 step_heavy : (shape : Shape) (tree : Tree) (who w bound : ℕ) (s : Ranks) (act : JobAct) → Needs shape tree who act → AreRanks (3 * w) bound tree s → (c : ℕ) → is_some (after tree who act c) ≡ true → w ≤ (rank_step w s act).weight c
 step_heavy shape tree who w bound s act n h c a =
     attached_was shape tree who c act _ _ _ (row_step shape tree who act c n) a

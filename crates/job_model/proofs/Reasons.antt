@@ -5,11 +5,8 @@ use Rattle.job_model.specs.declared.acts.JobState.{JobState}
 use Rattle.job_model.specs.declared.acts.JobState.TheVariants.{New, Active, Completing, Cancelling, Cancelled, Completed}
 use Rattle.job_model.specs.declared.acts.Reason.{Reason}
 use Rattle.job_model.specs.declared.acts.Reason.TheVariants as reasons
-use Rattle.job_model.specs.declared.acts.End.{End}
-use Rattle.job_model.specs.declared.acts.End.TheVariants as ends
 use Rattle.job_model.specs.declared.acts.JobEntry.{JobEntry}
-use Rattle.job_model.specs.Trees.{Shape, Job, Tree, is_cancelled, is_cancellable, is_ended, is_failure_of, is_supervisor, is_among, parent_of, parent_row, row_of, tag_of}
-use Rattle.job_model.specs.Effects.{state_after_body, state_of_end}
+use Rattle.job_model.specs.Trees.{Shape, Job, Tree, is_cancelled, is_cancellable, is_ended, is_failure_of, is_supervisor, is_among, parent_of, parent_row, row_of}
 use Rattle.job_model.specs.Needs.{IsCancelled, IsFailedChild, Holds, any_below, ended_by_failure}
 use Rattle.job_model.specs.Families.{children_of}
 use Rattle.job_model.specs.Histories.{replay, replay_from, Legal, LegalFrom}

@@ -2,6 +2,7 @@
 use Rattle.std.specs.Prelude.{◌≡◌, ℕ, ◌==◌, Bool, true, false, ◌||◌, List, [], ◌∷◌, ◌++◌, length, Option, Some, None, if◌then◌else◌, refl}
 use mathlib.Core.List.{IsPrefix}
 use Rattle.std.proofs.Common.{sym, ap, ◌∙◌, append_assoc, arith, length-append}
+use Rattle.std.proofs.Math.Bool.{or_assoc}
 use Rattle.std.proofs.lemmas.Bool.Decides.{nat_tests}
 use Rattle.std.proofs.lemmas.List.Folds.{list_any-append}
 use Rattle.job_model.specs.declared.acts.JobAct.{JobAct}
@@ -46,10 +47,6 @@ claimed_none who old new same = record {
 
 pub among-append : (r : ℕ) (xs ys : List ℕ) → is_among r (xs ++ ys) ≡ (is_among r xs || is_among r ys)
 among-append r xs ys = list_any-append (λ q. r == q) xs ys
-
-or_assoc : (a b c : Bool) → ((a || b) || c) ≡ (a || (b || c))
-or_assoc true b c = refl
-or_assoc false b c = refl
 
 -- the later claim decides, and they agree
 later_or : (a b : Bool) (w x : Option ℕ) → (if b then w else (if a then w else x)) ≡ (if a || b then w else x)
@@ -161,16 +158,6 @@ looked_moment who rows old new P h m = record {
   before = m.before;
   mine = same_between who old.seen m.moment new.seen m.after m.before h.mine ∙ sym (nothing_more (acts_of who old.seen));
   holds = m.holds;
-}
-
--- what was so right before an entry was so when the caller had made nothing yet
-pub made_before : (who : ℕ) (act : JobAct) (rows : List ℕ) (old new : Floor) (P : Tree → Type 0) → (m : Made who act rows old new) → P (replay m.before) → AtMoment who [] old new P
-made_before who act rows old new P m h = record {
-  moment = m.before;
-  after = m.longer;
-  before = (record { who = who; act = act } ∷ [], sym m.last);
-  mine = m.mine ∙ sym (nothing_more (acts_of who old.seen));
-  holds = h;
 }
 
 -- what is so at the end of calls was so when the caller had made all of their acts

@@ -1,6 +1,6 @@
 ghost use Rattle.std.specs.Prelude.{◌≤◌};
 
-use crate::{
+use co_base::{
     Failed, Gate, MemorySink, MemorySource, OpenGate, ReadError, Sink, Source, StdSink, StdSource,
     SteadySink, SteadySource, WriteFault, read_script, write_all,
 };
