@@ -13,7 +13,7 @@ use cell_words::{
 use co_base::{ChannelId, Place, Tag, Value};
 
 /// Cancels a channel that was closed, unless it was cancelled before.
-pub(crate) fn void(hub: &Hub, pass: &mut Pass, who: Tag, c: ChannelId) -> bool
+pub fn void(hub: &Hub, pass: &mut Pass, who: Tag, c: ChannelId) -> bool
     requires of { IsOf hub.now pass.old }
     requires can { MayCall who c (hub_floor hub.now pass.old) }
     requires closed { IsSeenClosed c (hub_floor hub.now pass.old) }
@@ -29,7 +29,7 @@ pub(crate) fn void(hub: &Hub, pass: &mut Pass, who: Tag, c: ChannelId) -> bool
 }
 
 /// Removes the first offer of a channel that was cancelled.
-pub(crate) fn drain(
+pub fn drain(
     hub: &Hub,
     pass: &mut Pass,
     who: Tag,

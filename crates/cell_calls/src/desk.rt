@@ -31,6 +31,8 @@ pub struct Desk<'a> {
 }
 
 impl ChannelFloor for Desk<'_> {
+    ghost use Rattle.std.specs.Prelude.{◌≡◌, OnOk, OnErr, IsOk};
+    ghost use Rattle.channel_model.specs.Floors.{HasRoom};
     ghost use Rattle.cell_words.proofs.LooksAtCells.{hub_legal};
     ghost use Rattle.cell_calls.specs.Desks.{desk_floor, desk_anchor};
 
@@ -41,7 +43,12 @@ impl ChannelFloor for Desk<'_> {
     ghost anchor = { desk_anchor };
 
     // Entries take no memory, so there always is room.
-    fn room(&mut self, _n: u32) -> Result<(), Memory> {
+    fn room(&mut self, n: u32) -> Result<(), Memory>
+        ensures anchor { desk_anchor self.new ≡ desk_anchor self.old }
+        ensures ok { OnOk result (HasRoom n (desk_floor self.old) (desk_floor self.new)) }
+        ensures err { OnErr result (desk_floor self.new ≡ desk_floor self.old) }
+        ensures always { IsOk result }
+    {
         Ok(())
     }
 

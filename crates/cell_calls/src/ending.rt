@@ -58,7 +58,7 @@ pub(crate) fn find_closed(hub: &Hub, pass: &mut Pass, who: Tag, c: ChannelId) ->
 }
 
 /// The place that the channel gives out next.
-pub(crate) fn mark(hub: &Hub, pass: &mut Pass, who: Tag, c: ChannelId) -> Place
+pub fn mark(hub: &Hub, pass: &mut Pass, who: Tag, c: ChannelId) -> Place
     requires of { IsOf hub.now pass.old }
     requires can { MayCall who c (hub_floor hub.now pass.old) }
     ensures of { IsOf hub.now pass.new }
@@ -69,7 +69,7 @@ pub(crate) fn mark(hub: &Hub, pass: &mut Pass, who: Tag, c: ChannelId) -> Place
 }
 
 /// Closes the channel where it ends, unless it was closed before.
-pub(crate) fn close(
+pub fn close(
     hub: &Hub,
     pass: &mut Pass,
     who: Tag,
@@ -95,12 +95,7 @@ pub(crate) fn close(
 }
 
 /// Tells the first receiver of a channel that was closed.
-pub(crate) fn wake_closed(
-    hub: &Hub,
-    pass: &mut Pass,
-    who: Tag,
-    c: ChannelId,
-) -> Option<(Place, Tag)>
+pub fn wake_closed(hub: &Hub, pass: &mut Pass, who: Tag, c: ChannelId) -> Option<(Place, Tag)>
     requires of { IsOf hub.now pass.old }
     requires can { MayCall who c (hub_floor hub.now pass.old) }
     requires closed { IsSeenClosed c (hub_floor hub.now pass.old) }

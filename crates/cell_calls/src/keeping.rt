@@ -13,7 +13,7 @@ use cell_words::{
 use co_base::{ChannelId, Place, Tag, Value};
 
 /// Lets the first held offer below the mark be kept that may be.
-pub(crate) fn admit(
+pub fn admit(
     hub: &Hub,
     pass: &mut Pass,
     who: Tag,
@@ -43,7 +43,7 @@ fn drops_oldest(hub: &Hub, c: ChannelId) -> bool
 }
 
 /// Drops the first element, where more stand up to the own one than the channel keeps.
-pub(crate) fn trim(
+pub fn trim(
     hub: &Hub,
     pass: &mut Pass,
     who: Tag,

@@ -1,7 +1,7 @@
 //! Calls on channels over words, by walks along the cells. No call waits, takes a lock or takes memory.
 //!
-//! A `Desk` is a hub with one pass, for the callers of that pass. It is a floor of channels (`channel_model`), whatever other threads do
-//! meanwhile.
+//! Each call is a function of a hub and a pass. A `Desk` is a hub with one pass, for the callers of that pass; by these functions it is a
+//! floor of channels (`channel_model`), whatever other threads do meanwhile.
 //!
 //! **The walk.** A call that offers begins at the send counter of the channel, below which no receiver stands; one that receives begins at
 //! the receive counter, below which no offer stands. At each place it learns one of these:
@@ -50,11 +50,14 @@ mod keeping;
 mod receiving;
 mod registering;
 mod removing;
-#[cfg(test)]
-mod select_tests;
 mod sending;
-#[cfg(test)]
-mod tests;
 mod waiting;
 
+pub use cancelling::{drain, void};
 pub use desk::{Desk, DeskAnchor};
+pub use ending::{close, mark, wake_closed};
+pub use keeping::{admit, trim};
+pub use receiving::{receive, try_receive};
+pub use registering::{register_offer, register_receive};
+pub use sending::{offer, try_offer};
+pub use waiting::{look, settle, withdraw};

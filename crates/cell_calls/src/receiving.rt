@@ -90,7 +90,7 @@ fn walk(hub: &Hub, pass: &mut Pass, who: Tag, c: ChannelId, waits: bool) -> Rece
 }
 
 /// Receives the first offer, or places a receiver.
-pub(crate) fn receive(hub: &Hub, pass: &mut Pass, who: Tag, c: ChannelId) -> Got
+pub fn receive(hub: &Hub, pass: &mut Pass, who: Tag, c: ChannelId) -> Got
     requires of { IsOf hub.now pass.old }
     requires can { MayCall who c (hub_floor hub.now pass.old) }
     ensures of { IsOf hub.now pass.new }
@@ -107,7 +107,7 @@ pub(crate) fn receive(hub: &Hub, pass: &mut Pass, who: Tag, c: ChannelId) -> Got
 }
 
 /// Receives the first offer, where one stands.
-pub(crate) fn try_receive(hub: &Hub, pass: &mut Pass, who: Tag, c: ChannelId) -> TriedGot
+pub fn try_receive(hub: &Hub, pass: &mut Pass, who: Tag, c: ChannelId) -> TriedGot
     requires of { IsOf hub.now pass.old }
     requires can { MayCall who c (hub_floor hub.now pass.old) }
     ensures of { IsOf hub.now pass.new }

@@ -34,7 +34,7 @@ fn is_resolved(hub: &Hub, pass: &mut Pass, who: Tag, main: Option<WaitId>) -> bo
 }
 
 /// Places a clause that offers, unless a receiver stands.
-pub(crate) fn register_offer(
+pub fn register_offer(
     hub: &Hub,
     pass: &mut Pass,
     who: Tag,
@@ -78,7 +78,7 @@ pub(crate) fn register_offer(
 }
 
 /// Places a clause that receives, unless an offer stands.
-pub(crate) fn register_receive(
+pub fn register_receive(
     hub: &Hub,
     pass: &mut Pass,
     who: Tag,

@@ -104,7 +104,7 @@ fn walk(hub: &Hub, pass: &mut Pass, who: Tag, c: ChannelId, value: Value, waits:
 }
 
 /// Gives the element to the receiver that stands first, or places it.
-pub(crate) fn offer(hub: &Hub, pass: &mut Pass, who: Tag, c: ChannelId, value: Value) -> Offered
+pub fn offer(hub: &Hub, pass: &mut Pass, who: Tag, c: ChannelId, value: Value) -> Offered
     requires of { IsOf hub.now pass.old }
     requires can { MayCall who c (hub_floor hub.now pass.old) }
     requires kind { is_signal (kind_at (shape_of hub.now) c) ≡ false }
@@ -123,13 +123,7 @@ pub(crate) fn offer(hub: &Hub, pass: &mut Pass, who: Tag, c: ChannelId, value: V
 }
 
 /// Gives the element to the receiver that stands first, or places it where it need not wait.
-pub(crate) fn try_offer(
-    hub: &Hub,
-    pass: &mut Pass,
-    who: Tag,
-    c: ChannelId,
-    value: Value,
-) -> TriedOffer
+pub fn try_offer(hub: &Hub, pass: &mut Pass, who: Tag, c: ChannelId, value: Value) -> TriedOffer
     requires of { IsOf hub.now pass.old }
     requires can { MayCall who c (hub_floor hub.now pass.old) }
     requires kind { is_signal (kind_at (shape_of hub.now) c) ≡ false }

@@ -9,7 +9,7 @@ use channel_model::{Settled, WaitState, Why, Withdrawn};
 use co_base::{Tag, WaitId};
 
 /// How far the own wait is.
-pub(crate) fn look(hub: &Hub, pass: &mut Pass, who: Tag, w: WaitId) -> WaitState
+pub fn look(hub: &Hub, pass: &mut Pass, who: Tag, w: WaitId) -> WaitState
     requires of { IsOf hub.now pass.old }
     requires can { MayCall who w.channel (hub_floor hub.now pass.old) }
     requires own { IsOwn who w (hub_floor hub.now pass.old) }
@@ -21,7 +21,7 @@ pub(crate) fn look(hub: &Hub, pass: &mut Pass, who: Tag, w: WaitId) -> WaitState
 }
 
 /// Settles the own wait, which was seen resolved.
-pub(crate) fn settle(hub: &Hub, pass: &mut Pass, who: Tag, w: WaitId, cancelled: bool) -> Settled
+pub fn settle(hub: &Hub, pass: &mut Pass, who: Tag, w: WaitId, cancelled: bool) -> Settled
     requires of { IsOf hub.now pass.old }
     requires can { MayCall who w.channel (hub_floor hub.now pass.old) }
     requires ready { IsReady who w (hub_floor hub.now pass.old) }
@@ -33,7 +33,7 @@ pub(crate) fn settle(hub: &Hub, pass: &mut Pass, who: Tag, w: WaitId, cancelled:
 }
 
 /// Takes the own wait back.
-pub(crate) fn withdraw(hub: &Hub, pass: &mut Pass, who: Tag, w: WaitId, why: Why) -> Withdrawn
+pub fn withdraw(hub: &Hub, pass: &mut Pass, who: Tag, w: WaitId, why: Why) -> Withdrawn
     requires of { IsOf hub.now pass.old }
     requires can { MayCall who w.channel (hub_floor hub.now pass.old) }
     requires own { IsOwn who w (hub_floor hub.now pass.old) }

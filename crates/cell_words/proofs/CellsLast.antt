@@ -6,7 +6,6 @@ use Rattle.channel_model.specs.declared.acts.Act.TheVariants.{Hand, Put, Offer, 
 use Rattle.channel_model.specs.declared.acts.Entry.{Entry}
 use Rattle.channel_model.specs.declared.standing.Resolution.{Resolution}
 use Rattle.channel_model.specs.declared.standing.Resolution.TheVariants as resolved
-use Rattle.channel_model.specs.declared.standing.Party.{Party}
 use Rattle.channel_model.specs.Channels.{Shape, State, Wait, places_at}
 use Rattle.channel_model.specs.Effects.{after}
 use Rattle.channel_model.specs.Needs.{Needs, HasPlace}
@@ -14,7 +13,7 @@ use Rattle.channel_model.specs.Histories.{replay, Legal}
 use Rattle.channel_model.specs.Answers.{IsResolvedWait}
 use Rattle.channel_model.proofs.Others.{other_keeps}
 use Rattle.channel_model.proofs.Resolutions.{resolved_stays}
-use Rattle.cell_words.specs.Cells.{Cell, receiver, offer, buffered, emptied, set_cell, standing, offer_of, offer_by, offer_after, emptied_if, emptied_unless, mark, Board, blank, cell_of, is_used}
+use Rattle.cell_words.specs.Cells.{Cell, receiver, offer, buffered, emptied, set_cell, standing, offer_of, offer_by, offer_after, emptied_if, mark, Board, blank, cell_of, is_used}
 use Rattle.cell_words.proofs.ListsOfCells.{Tied, by_spot, cell_else}
 use Rattle.channel_model.proofs.Sound.{given_keeps, channel_lasts}
 use Rattle.cell_words.proofs.CellsGiveLists.{BoardLasts, board_lasts, board_state}
@@ -99,10 +98,6 @@ offer_more shape c p v who k w xs ys l h = ⊎_elim (λ x. inl x) (λ x. inr (su
 pub offer_used_lasts : (shape : Shape) (c p v who : ℕ) (w : WaitId) (k : ℕ) → BoardLasts shape (λ b. (b.cells c p ≡ offer v who w k) ⊎ (b.cells c p ≡ emptied v))
 offer_used_lasts shape c p v who w k = record { step = λ b e s t n h. ⊎_elim (λ x. stays b e t n x) (λ x. inr (used_stays shape (λ y. y ≡ emptied v) b e c p t n (ap is_used x) x (λ q is. ap (λ (y : Cell). emptied_if (standing b.state.waits q y) y) is))) h }
   where
-    of_some : (q : ℕ) (h : Option Party) → (emptied_unless h v (offer v who w k) ≡ offer v who w k) ⊎ (emptied_unless h v (offer v who w k) ≡ emptied v)
-    of_some q None = inr refl
-    of_some q (Some h) = inl refl
-
     of_how : (q : ℕ) (how : Resolution) → (emptied_if (offer_after q v k how) (offer v who w k) ≡ offer v who w k) ⊎ (emptied_if (offer_after q v k how) (offer v who w k) ≡ emptied v)
     of_how q (resolved.Handed j x) = inl refl
     of_how q (resolved.Taken j) = inl refl

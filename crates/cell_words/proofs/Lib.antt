@@ -27,6 +27,7 @@ pub mod ChannelsVoided
 pub mod NewHubs
 pub mod PassesMeet
 pub mod TableHoldsChannels
+pub mod ActsOfTags
 pub mod ActsThatRemove
 pub mod OffersUpTo
 pub mod LooksFound

@@ -1,11 +1,12 @@
 -- What a pass has seen after it met another, or took it in.
-use Rattle.std.specs.Prelude.{◌≡◌, ℕ, ◌==◌, Bool, true, false, ◌||◌, List, [], ◌∷◌, ◌++◌, if◌then◌else◌, refl}
+use Rattle.std.specs.Prelude.{◌≡◌, ℕ, List, [], ◌++◌}
 use Rattle.std.proofs.Common.{sym, ap, ◌∙◌, subst, append-nil}
 use mathlib.Core.List.{IsPrefix}
 use Rattle.worded.specs.Views.{has_tag}
 use Rattle.worded.specs.Histories.{entries_of}
 use Rattle.worded.specs.Exchanges.{Met, TookIn}
 use Rattle.worded.proofs.TagsAndPrefixes.{entries_of-append}
+use Rattle.worded.proofs.TagsHeld.{has_tag-or}
 use Rattle.channel_model.specs.declared.acts.Entry.{Entry}
 use Rattle.channel_model.specs.Channels.{Shape}
 use Rattle.channel_model.specs.Histories.{Legal}
@@ -14,14 +15,7 @@ use Rattle.cell_words.specs.Words.{Fits}
 use Rattle.cell_words.specs.Seen.{Seen, maker, tags_given}
 use Rattle.cell_words.specs.Meetings.{MeetAnswer, EndAnswer}
 use Rattle.cell_words.proofs.StepsOfATable.{legal_at}
-
-has_tag-or : (t : ℕ) (xs ys : List ℕ) → has_tag t (xs ++ ys) ≡ (has_tag t xs || has_tag t ys)
-has_tag-or t [] ys = refl
-has_tag-or t (x ∷ xs) ys = by_test (t == x) (has_tag-or t xs ys)
-  where
-    by_test : (b : Bool) → has_tag t (xs ++ ys) ≡ (has_tag t xs || has_tag t ys) → (if b then true else has_tag t (xs ++ ys)) ≡ ((if b then true else has_tag t xs) || has_tag t ys)
-    by_test true h = refl
-    by_test false h = h
+use Rattle.cell_words.proofs.ActsOfTags.{same_acts}
 
 -- others' entries are not the own
 still_own : (t : ℕ) (xs others : List Entry) → entries_of maker t others ≡ [] → entries_of maker t (xs ++ others) ≡ entries_of maker t xs
@@ -32,7 +26,7 @@ module _ (shape : Shape) (v u w : Seen) where
   meet_answer idle m = record {
     goes_on = (m.others, sym now);
     told = subst (IsPrefix u.seen) (sym now) m.told;
-    own = λ t h. ap (entries_of maker t) now ∙ still_own t v.seen m.others (m.apart t h);
+    own = λ t h. same_acts t v.seen w.seen (ap (entries_of maker t) now ∙ still_own t v.seen m.others (m.apart t h));
     tags = ap (λ (x : Seen). x.tags) m.now ∙ ap (λ (l : List ℕ). v.tags ++ l) idle ∙ append-nil v.tags;
     giving = ap tags_given m.now;
   }
@@ -44,21 +38,14 @@ module _ (shape : Shape) (v u w : Seen) where
   end_answer m = record {
     goes_on = (m.others, sym now);
     told = subst (IsPrefix u.seen) (sym now) m.told;
-    own = λ t h. ap (entries_of maker t) now ∙ still_own t v.seen m.others (m.apart t h);
-    taken = λ t h. ap (entries_of maker t) now ∙ m.given_to t h;
+    own = λ t h. same_acts t v.seen w.seen (ap (entries_of maker t) now ∙ still_own t v.seen m.others (m.apart t h));
+    taken = λ t h. same_acts t u.seen w.seen (ap (entries_of maker t) now ∙ m.given_to t h);
     callers = λ t. ap (λ (x : Seen). has_tag t x.tags) m.now ∙ has_tag-or t v.tags u.tags;
     giving = ap tags_given m.now;
   }
     where
       now : w.seen ≡ v.seen ++ m.others
       now = ap (λ (x : Seen). x.seen) m.now
-
--- nobody made an entry under a tag that was not given out
-pub ungiven_met : (shape : Shape) (v u w : Seen) → Met (Legal shape) (Fits shape) maker v u.seen w → w.chief ≡ true → (t : ℕ) → has_tag t w.given ≡ false → entries_of maker t w.seen ≡ []
-ungiven_met shape v u w m chief t h = ap (λ (x : Seen). entries_of maker t x.seen) m.now ∙ m.ungiven (sym (ap (λ (x : Seen). x.chief) m.now) ∙ chief) t (sym (ap (λ (x : Seen). has_tag t x.given) m.now) ∙ h)
-
-pub ungiven_ended : (shape : Shape) (v u w : Seen) → TookIn (Legal shape) (Fits shape) maker v u w → w.chief ≡ true → (t : ℕ) → has_tag t w.given ≡ false → entries_of maker t w.seen ≡ []
-ungiven_ended shape v u w m chief t h = ap (λ (x : Seen). entries_of maker t x.seen) m.now ∙ m.ungiven (sym (ap (λ (x : Seen). x.chief) m.now) ∙ chief) t (sym (ap (λ (x : Seen). has_tag t x.given) m.now) ∙ h)
 
 pub legal_met : (k : Layout) (v u w : Seen) → v.key ≡ k → Met (Legal k.kinds) (Fits k.kinds) maker v u.seen w → Legal w.key.kinds w.seen
 legal_met k v u w key m = legal_at k w (ap (λ (x : Seen). x.key) m.now ∙ key) (subst (Legal k.kinds) (sym (ap (λ (x : Seen). x.seen) m.now)) m.is_legal)

@@ -1,11 +1,10 @@
 -- A hub and a pass.
 use Rattle.std.specs.Prelude.{◌≡◌, ℕ, Bool, true, false, List, [], ◌∷◌}
 use Rattle.worded.specs.Views.{has_tag}
-use Rattle.worded.specs.Histories.{entries_of}
 use Rattle.channel_model.specs.Channels.{Shape}
 use Rattle.cell_words.specs.declared.hub.Hub.{Hub}
 use Rattle.cell_words.specs.declared.pass.Pass.{Pass}
-use Rattle.cell_words.specs.Seen.{Seen, tags_given, maker}
+use Rattle.cell_words.specs.Seen.{Seen, tags_given}
 
 abbrev pub shape_of : Hub → Shape
 shape_of hub = hub.table.shared.key.kinds
@@ -38,9 +37,3 @@ GivesTags given pass = (pass.seat.me.0.chief ≡ true) × (pass.seat.me.0.given 
 -- it gives out tags as before
 abbrev pub SameGiving : Pass → Pass → Type 0
 SameGiving old new = tags_given new.seat.me.0 ≡ tags_given old.seat.me.0
-
--- where a pass gives out tags, nobody made an entry under one that it has not given out
-abbrev pub NothingUngiven : Pass → Type 0
-NothingUngiven pass =
-    pass.seat.me.0.chief ≡ true
-    → (t : ℕ) → has_tag t pass.seat.me.0.given ≡ false → entries_of maker t pass.seat.me.0.seen ≡ []

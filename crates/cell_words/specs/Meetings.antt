@@ -2,13 +2,13 @@
 use Rattle.std.specs.Prelude.{◌≡◌, ℕ, true, ◌||◌, List}
 use mathlib.Core.List.{IsPrefix}
 use Rattle.worded.specs.Views.{has_tag}
-use Rattle.worded.specs.Histories.{entries_of}
 use Rattle.channel_model.specs.declared.acts.Entry.{Entry}
-use Rattle.cell_words.specs.Seen.{Seen, maker, tags_given}
+use Rattle.channel_model.specs.Histories.{acts_of}
+use Rattle.cell_words.specs.Seen.{Seen, tags_given}
 
--- the entries of one tag are the same
+-- the acts of one tag are the same
 abbrev pub SameOf : ℕ → List Entry → List Entry → Type 0
-SameOf t old new = entries_of maker t new ≡ entries_of maker t old
+SameOf t old new = acts_of t new ≡ acts_of t old
 
 -- a pass that had seen `old` met one that had seen `other`: its history goes on, and begins with what the other had seen
 pub record MeetAnswer (old other new : Seen) : Type 0 where

@@ -1,8 +1,8 @@
 -- What was seen of a hub, and what steps add.
-use Rattle.std.specs.Prelude.{◌≡◌, ℕ, ◌==◌, Bool, true, List, [], ◌∷◌, ◌++◌, MatchBool}
+use Rattle.std.specs.Prelude.{◌≡◌, ℕ, ◌==◌, Bool, true, false, List, [], ◌∷◌, ◌++◌, MatchBool}
 use Rattle.channel_model.specs.declared.acts.Entry.{Entry}
 use Rattle.channel_model.specs.Channels.{Shape, Channel}
-use Rattle.channel_model.specs.Histories.{replay}
+use Rattle.channel_model.specs.Histories.{replay, acts_of}
 use Rattle.worded.specs.Views.{has_tag}
 use Rattle.worded.specs.Histories.{entries_of}
 use Rattle.worded.specs.declared.view.View.{View}
@@ -23,6 +23,10 @@ at_channel log c = (replay log).channels c
 -- whether a pass gives out tags, and which it has given out
 abbrev pub tags_given : Seen → Bool × List ℕ
 tags_given v = (v.chief, v.given)
+
+-- where a pass gives out tags, nobody made an entry under one that it has not given out
+abbrev pub NothingUngiven : Seen → Type 0
+NothingUngiven v = v.chief ≡ true → (t : ℕ) → has_tag t v.given ≡ false → acts_of t v.seen ≡ []
 
 -- others added to what was seen, and nothing under the tags of the pass
 pub record Sees (v w : Seen) : Type 0 where

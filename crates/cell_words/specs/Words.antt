@@ -49,7 +49,7 @@ send_number shape c = 2 * cells_in shape + 2 * c
 abbrev pub receive_number : Shape → ℕ → ℕ
 receive_number shape c = 2 * cells_in shape + 2 * c + 1
 
--- one word more says nothing: it is loaded where passes meet
+-- one word more says nothing, so that even a hub without channels has a word 0 to load where passes meet
 abbrev pub word_count : Shape → ℕ
 word_count shape = 2 * cells_in shape + 2 * length shape + 1
 

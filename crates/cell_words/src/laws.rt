@@ -34,7 +34,7 @@ pub fn cells_and_waits_tell_who_stands()
 {}
 
 /// Between any two steps the words are those of one legal history over all channels. Each pass has seen a beginning of it, and in
-/// that all entries of its own tags.
+/// that all entries of its own tags. No two passes have one tag, and a tag that no pass has made no entry.
 pub fn a_hub_has_one_history()
     ensures { (layout : ALayout) (s : State AnEntry (View AnEntry ALayout))
         → HasOneHistory (Legal layout.kinds) (Fits layout.kinds) maker (word_count layout.kinds) s → HoldsChannels layout.kinds s }

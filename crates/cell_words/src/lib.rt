@@ -51,7 +51,8 @@
 //! entry is the last that was seen.
 //!
 //! **The history.** It is that of the channels, a list of entries; all words are a function of it, but for the counters (`Words` has it).
-//! A `Pass` has seen a beginning of the history, and all entries of its own tags.
+//! A `Pass` has seen a beginning of the history, and all entries of its own tags; the one that gives out tags has seen none of a tag
+//! that it has not given out.
 //!
 //! - `cell_word`, `wait_word`: the two words, field by field.
 //! - `hub`, `layout`, `pass`: the table, what it was made for, and what a thread steps with.
@@ -102,7 +103,7 @@ pub use laws::{
     two_words_have_two_numbers,
 };
 pub use layout::Layout;
-pub use own_waits::{look_at, settle_at, withdraw_at};
+pub use own_waits::{look_at, settle_at, wait_word_at, withdraw_at};
 pub use pass::Pass;
 pub use placing::{await_at, offer_at, try_await_at};
 pub use registering::{await_clause_at, offer_clause_at, offer_stands, receiver_stands};

@@ -2,11 +2,10 @@
 ghost use Rattle.std.specs.Prelude.{◌≡◌, ◌<◌, ◌≤◌, IfOk, length, true, false, [], ◌∷◌};
 ghost use Rattle.channel_model.specs.Channels.{IsShape, places_at};
 ghost use Rattle.worded.specs.Views.{has_tag, first_view};
-ghost use Rattle.worded.specs.Histories.{entries_of};
+ghost use Rattle.channel_model.specs.Histories.{acts_of};
 ghost use Rattle.cell_words.specs.Words.{cells_in};
 ghost use Rattle.cell_words.specs.Sizes.{AreFirsts};
-ghost use Rattle.cell_words.specs.Seen.{maker};
-ghost use Rattle.cell_words.specs.Hubs.{shape_of, seen_by, IsOf, IsOwn, GivesTags, NothingUngiven};
+ghost use Rattle.cell_words.specs.Hubs.{shape_of, seen_by, IsOf, IsOwn, GivesTags};
 ghost use Rattle.cell_words.specs.Meetings.{MeetAnswer, EndAnswer};
 
 use crate::hub::{CellHistory, Hub};
@@ -104,7 +103,7 @@ impl Hub {
         ensures own { IsOwn self.now result tag }
         ensures callers { (seen_by result).tags ≡ tag ∷ [] }
         ensures sees { (seen_by result).seen ≡ (seen_by pass.old).seen }
-        ensures none { entries_of maker tag (seen_by result).seen ≡ [] }
+        ensures none { acts_of tag (seen_by result).seen ≡ [] }
     {
         let seat = split::<Entry, Layout, CellHistory>(
             &self.table.shared,
@@ -121,7 +120,6 @@ impl Hub {
         ensures a { IsOf self.now a.new }
         ensures b { IsOf self.now b.new }
         ensures met { MeetAnswer (seen_by a.old) (seen_by b.old) (seen_by a.new) }
-        ensures none { NothingUngiven a.new }
         ensures same { seen_by b.new ≡ seen_by b.old }
     {
         meet::<Entry, Layout, CellHistory>(&self.table.shared, &mut a.seat, &mut b.seat)
@@ -133,7 +131,6 @@ impl Hub {
         requires pass { IsOf self.now pass }
         ensures main { IsOf self.now main.new }
         ensures ended { EndAnswer (seen_by main.old) (seen_by pass) (seen_by main.new) }
-        ensures none { NothingUngiven main.new }
     {
         let Pass { seat } = pass;
         end::<Entry, Layout, CellHistory>(&self.table.shared, &mut main.seat, seat)

@@ -6,7 +6,7 @@ ghost use Rattle.channel_model.specs.Answers.{IsOwnWait, IsReadyWait, outcome_at
 ghost use Rattle.cell_words.specs.Words.{IsCell};
 ghost use Rattle.cell_words.specs.Hubs.{shape_of, seen_by, IsOwn};
 ghost use Rattle.cell_words.specs.Seen.{Sees, Makes};
-ghost use Rattle.cell_words.specs.Answers.{WithdrawAt};
+ghost use Rattle.cell_words.specs.Answers.{IsWaitWord, WithdrawAt};
 
 use crate::cells::{exchange_wait, load_wait, number_of};
 use crate::hub::Hub;
@@ -30,6 +30,18 @@ pub fn look_at(hub: &Hub, pass: &mut Pass, who: Tag, w: WaitId) -> WaitState
     let cell = number_of(hub, w.channel, w.place);
     let word = load_wait(hub, pass, who, cell);
     state_found(word)
+}
+
+/// The word of a wait.
+pub fn wait_word_at(hub: &Hub, pass: &mut Pass, who: Tag, w: WaitId) -> WaitWord
+    requires own { IsOwn hub.now pass.old who }
+    requires at { IsCell (shape_of hub.now) w.channel w.place }
+    ensures own { IsOwn hub.now pass.new who }
+    ensures sees { Sees (seen_by pass.old) (seen_by pass.new) }
+    ensures word { IsWaitWord w (seen_by pass.new).seen result }
+{
+    let cell = number_of(hub, w.channel, w.place);
+    load_wait(hub, pass, who, cell)
 }
 
 /// Takes the own wait back, unless it was resolved.

@@ -1,11 +1,13 @@
 -- What a pass has seen after it met another, or took it in.
-use Rattle.std.specs.Prelude.{◌≡◌, ℕ, ◌==◌, Bool, true, false, ◌||◌, List, [], ◌∷◌, ◌++◌, Option, Some, None, if◌then◌else◌, refl}
-use Rattle.std.proofs.Common.{sym, ap, ◌∙◌, subst, ne_eqb, append-nil}
+use Rattle.std.specs.Prelude.{◌≡◌, ℕ, Bool, true, false, ◌||◌, List, [], ◌∷◌, ◌++◌, Option, Some, None, if◌then◌else◌, refl}
+use Rattle.std.proofs.Common.{true≢false, sym, ap, ◌∙◌, subst, ne_eqb, append-nil}
 use mathlib.Core.List.{IsPrefix}
-use Rattle.worded.specs.Views.{has_tag, having_seen}
+use Rattle.worded.specs.Views.{has_tag, first_view, having_seen, with_next, next_given, new_view}
 use Rattle.worded.specs.Histories.{entries_of}
 use Rattle.worded.specs.Exchanges.{Met, TookIn}
-use Rattle.worded.proofs.TagsAndPrefixes.{entries_of-append}
+use Rattle.worded.proofs.TagsAndPrefixes.{not_first, entries_of-append}
+use Rattle.worded.proofs.TagsHeld.{has_tag-or}
+use Rattle.worded.proofs.TagsNotGiven.{NoneUngiven}
 use Rattle.job_model.specs.Histories.{acts_of}
 use Rattle.job_model.specs.Floors.{is_claimed_by}
 use Rattle.job_model.specs.Trees.{is_among}
@@ -14,8 +16,9 @@ use Rattle.job_words.specs.declared.deed.Deed.{Deed}
 use Rattle.job_words.specs.declared.forest.Forest.{Forest}
 use Rattle.job_words.specs.Deeds.{shape_of, doer, history_of, rows_claimed, first_claim, nothing_done, store_of, IsDone, Fits}
 use Rattle.job_words.specs.Passes.{Seen, floor_of, floor_seen}
-use Rattle.job_words.specs.Meetings.{HasSeen, SameOf, NothingOf, MeetAnswer, EndAnswer}
+use Rattle.job_words.specs.Meetings.{HasSeen, SameOf, NothingOf, NothingUngiven, MeetAnswer, EndAnswer}
 use Rattle.job_words.proofs.DeedsAddUp.{store_more, IsDone-rest, history-append, acts_of-deeds, no_deeds, claims_kept, claims_mine}
+use Rattle.job_words.proofs.NewForests.{nothing_yet}
 use Rattle.job_words.proofs.StepsOfATable.{PassLaws, laws_of}
 
 -- ---- two beginnings of one history
@@ -35,28 +38,24 @@ same_of size k tags us who xs log hx h e = record {
   rows = λ r. claims_mine (shape_of size) nothing_done log who r h ∙ ap (λ l. is_claimed_by who (first_claim r) || is_among r (rows_claimed l)) e ∙ sym (claims_mine (shape_of k) nothing_done xs who r hx);
 }
 
-pub nothing_of : (size : ForestSize) (tags : List ℕ) (who : ℕ) (log : List Deed) → IsDone (shape_of size) log → entries_of doer who log ≡ [] → NothingOf who (floor_of size tags log)
+-- whose deeds are none, its acts are
+pub no_acts : (who : ℕ) (log : List Deed) → entries_of doer who log ≡ [] → acts_of who (history_of log) ≡ []
 unfolding acts_of
+no_acts who log e = acts_of-deeds who log ∙ of_none (no_deeds who log e).0
+  where
+    of_none : history_of (entries_of doer who log) ≡ [] → acts_of who (history_of (entries_of doer who log)) ≡ []
+    of_none n = ap (acts_of who) n
+
+pub nothing_of : (size : ForestSize) (tags : List ℕ) (who : ℕ) (log : List Deed) → IsDone (shape_of size) log → entries_of doer who log ≡ [] → NothingOf who (floor_of size tags log)
 nothing_of size tags who log h e = record {
-  acts = acts_of-deeds who log ∙ no_acts who (no_deeds who log e).0;
+  acts = no_acts who log e;
   rows = λ r ne. claims_mine (shape_of size) nothing_done log who r h ∙ ap (λ l. is_claimed_by who (first_claim r) || is_among r l) (no_deeds who log e).1 ∙ ap (λ b. is_claimed_by who (if b then zero_claim else None) || false) (ne_eqb r 0 ne);
 }
   where
     zero_claim : Option ℕ
     zero_claim = Some 0
 
-    no_acts : (t : ℕ) → history_of (entries_of doer t log) ≡ [] → acts_of t (history_of (entries_of doer t log)) ≡ []
-    no_acts t n = ap (acts_of t) n
-
 -- ---- tags
-
-pub has_tag-or : (t : ℕ) (xs ys : List ℕ) → has_tag t (xs ++ ys) ≡ (has_tag t xs || has_tag t ys)
-has_tag-or t [] ys = refl
-has_tag-or t (x ∷ xs) ys = by_test (t == x) (has_tag-or t xs ys)
-  where
-    by_test : (b : Bool) → has_tag t (xs ++ ys) ≡ (has_tag t xs || has_tag t ys) → (if b then true else has_tag t (xs ++ ys)) ≡ ((if b then true else has_tag t xs) || has_tag t ys)
-    by_test true h = refl
-    by_test false h = h
 
 abbrev callers_of : List ℕ → ℕ → Bool
 callers_of ts t = has_tag t ts
@@ -87,10 +86,17 @@ pub laws_more : (f : Forest) (v w : Seen) (others : List Deed) → v.key ≡ f.s
 laws_more f v w others key now h = laws_of f f.table.shared.key w (v.seen ++ others) f.sized.1 (ap (λ (x : Seen). x.key) now ∙ key ∙ sym f.sized.1) (ap (λ (x : Seen). x.seen) now) h
 
 -- nobody did anything under a tag that was not given out
-pub ungiven : (f : Forest) (v w : Seen) (others : List Deed) → v.key ≡ f.size → w ≡ having_seen v (v.seen ++ others) → IsDone (shape_of f.table.shared.key) (v.seen ++ others) → (v.chief ≡ true → (t : ℕ) → has_tag t v.given ≡ false → entries_of doer t (v.seen ++ others) ≡ [])
-    → w.chief ≡ true → (t : ℕ) → has_tag t w.given ≡ false → NothingOf t (floor_seen w)
-ungiven f v w others key now h none c t g = subst (λ (x : Seen). NothingOf t (floor_seen x)) (sym now) (nothing_of v.key (v.tags ++ v.heard_tags) t (v.seen ++ others)
-    (subst (λ (k : ForestSize). IsDone (shape_of k) (v.seen ++ others)) (f.sized.1 ∙ sym key) h) (none (sym (ap (λ (x : Seen). x.chief) now) ∙ c) t (ap (has_tag t) (sym (ap (λ (x : Seen). x.given) now)) ∙ g)))
+pub ungiven_of : (size : ForestSize) (w : Seen) → IsDone (shape_of w.key) w.seen → NoneUngiven (IsDone (shape_of size)) Fits doer w → NothingUngiven w
+ungiven_of size w done n c t h = nothing_of w.key w.tags t w.seen done (n c t h)
+
+pub ungiven_first : (size : ForestSize) → NothingUngiven (first_view size)
+ungiven_first size c t h = nothing_of size (0 ∷ []) t [] (nothing_yet (shape_of size)) refl
+
+pub ungiven_giver : (v : Seen) (t : ℕ) → NothingUngiven v → NothingUngiven (next_given (with_next v t))
+ungiven_giver v t n c u h = n c u (not_first u t v.given h).1
+
+pub ungiven_given : (v : Seen) → NothingUngiven (new_view v)
+ungiven_given v c t h = absurd (true≢false (sym c))
 
 -- ---- a pass that ends
 

@@ -3,8 +3,7 @@ use Rattle.std.specs.Prelude.{◌≡◌, ℕ, Bool, true, false, List, [], ◌�
 use Rattle.worded.specs.Views.{has_tag}
 use Rattle.job_words.specs.declared.forest.Forest.{Forest}
 use Rattle.job_words.specs.declared.pass.JobPass.{JobPass}
-use Rattle.job_words.specs.Passes.{Seen, tags_given, floor_seen}
-use Rattle.job_words.specs.Meetings.{NothingOf}
+use Rattle.job_words.specs.Passes.{Seen, tags_given}
 
 -- what the pass knows
 abbrev pub seen_by : JobPass → Seen
@@ -34,9 +33,3 @@ GivesTags given pass = (pass.seat.me.0.chief ≡ true) × (pass.seat.me.0.given 
 -- it gives out tags as before
 abbrev pub SameGiving : JobPass → JobPass → Type 0
 SameGiving old new = tags_given new.seat.me.0 ≡ tags_given old.seat.me.0
-
--- where a pass gives out tags, nobody did anything under one that it has not given out
-abbrev pub NothingUngiven : JobPass → Type 0
-NothingUngiven pass =
-    pass.seat.me.0.chief ≡ true
-    → (t : ℕ) → has_tag t pass.seat.me.0.given ≡ false → NothingOf t (floor_seen pass.seat.me.0)

@@ -3,6 +3,8 @@ use Rattle.std.specs.Prelude.{◌≡◌, ◌≢◌, ℕ, true, false, ◌||◌, 
 use mathlib.Core.List.{IsPrefix}
 use Rattle.job_model.specs.Histories.{acts_of}
 use Rattle.job_model.specs.Floors.{Floor, SameSetting, is_claimed_by}
+use Rattle.worded.specs.Views.{has_tag}
+use Rattle.job_words.specs.Passes.{Seen, floor_seen}
 
 -- all that was seen on `told` was seen on `new`
 pub record HasSeen (told new : Floor) : Type 0 where
@@ -18,6 +20,10 @@ pub record SameOf (who : ℕ) (old new : Floor) : Type 0 where
 pub record NothingOf (who : ℕ) (floor : Floor) : Type 0 where
   pub acts : acts_of who floor.seen ≡ []
   pub rows : (r : ℕ) → r ≢ 0 → is_claimed_by who (floor.claims r) ≡ false
+
+-- where a pass gives out tags, nobody did anything under one that it has not given out
+abbrev pub NothingUngiven : Seen → Type 0
+NothingUngiven v = v.chief ≡ true → (t : ℕ) → has_tag t v.given ≡ false → NothingOf t (floor_seen v)
 
 -- a pass that had seen `old` met one that had seen `other`
 pub record MeetAnswer (old other new : Floor) : Type 0 where

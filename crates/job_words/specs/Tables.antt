@@ -1,19 +1,20 @@
 -- What holds of a forest's table between any two steps.
-use Rattle.std.specs.Prelude.{◌≡◌, ℕ, ◌<◌, true, List, Option, slice_index}
+use Rattle.std.specs.Prelude.{◌≡◌, ℕ, ◌<◌, true, false, List, [], Option, Some, slice_index}
 use mathlib.Core.Option.{some}
 use mathlib.Core.List.{IsPrefix}
 use lib.ListN.{get_elem?}
 use Rattle.atomic_table.specs.Table.{State}
-use Rattle.worded.specs.Views.{has_tag}
+use Rattle.worded.specs.Views.{has_tag, holds_tag}
 use Rattle.worded.specs.declared.view.View.{View}
 use Rattle.job_model.specs.declared.acts.JobEntry.{JobEntry}
 use Rattle.job_model.specs.Histories.{Legal, acts_of}
 use Rattle.job_words.specs.declared.size.ForestSize.{ForestSize}
 use Rattle.job_words.specs.declared.deed.Deed.{Deed}
-use Rattle.job_words.specs.Deeds.{shape_of, history_of, word_count}
+use Rattle.job_words.specs.Deeds.{shape_of, history_of, store_of, word_count}
 use Rattle.job_words.specs.JobWords.{AreJobWordsOf}
 
--- The words are those of one legal history; each pass has seen a beginning of it, and all entries of its own tags
+-- The words are those of one legal history and of the claims; each pass has seen a beginning of it, and all entries of its own tags,
+-- and what it has seen claimed is claimed; no two passes have one tag, and a tag that no pass has made no entry
 pub record HoldsJobs (size : ForestSize) (s : State Deed (View Deed ForestSize)) : Type 0 where
   pub entries : List JobEntry
   pub legal : Legal (shape_of size) entries
@@ -22,3 +23,9 @@ pub record HoldsJobs (size : ForestSize) (s : State Deed (View Deed ForestSize))
   pub prefixes : (id : ℕ) (v : View Deed ForestSize) → get_elem? s.views id ≡ some v → IsPrefix (history_of v.seen) entries
   pub own : (id t : ℕ) (v : View Deed ForestSize)
       → get_elem? s.views id ≡ some v → has_tag t v.tags ≡ true → acts_of t entries ≡ acts_of t (history_of v.seen)
+  pub claims_seen : (id r t : ℕ) (v : View Deed ForestSize)
+      → get_elem? s.views id ≡ some v → (store_of v.seen).claimer r ≡ Some t → claims r ≡ Some t
+  pub apart : (id id' t : ℕ) (v v' : View Deed ForestSize)
+      → get_elem? s.views id ≡ some v → get_elem? s.views id' ≡ some v' → holds_tag t v ≡ true → holds_tag t v' ≡ true → id ≡ id'
+  pub unheld : (t : ℕ)
+      → ((id : ℕ) (v : View Deed ForestSize) → get_elem? s.views id ≡ some v → holds_tag t v ≡ false) → acts_of t entries ≡ []

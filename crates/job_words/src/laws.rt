@@ -25,7 +25,8 @@ pub fn words_follow_from_entries_and_claims()
 {}
 
 /// Between any two steps the words are those of one legal history and of the claims. Each pass has seen a beginning of it, and in that
-/// all entries of its own tags.
+/// all entries of its own tags; what it has seen claimed is claimed. No two passes have one tag, and a tag that no pass has made no
+/// entry.
 pub fn a_forest_has_one_history()
     ensures { (size : Size) (s : State ADeed (View ADeed Size)) → IsSize size
         → HasOneHistory (IsDone (shape_of size)) Fits doer (word_count size) s → HoldsJobs size s }

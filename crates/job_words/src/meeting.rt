@@ -4,7 +4,7 @@ ghost use Rattle.job_model.specs.Floors.{IsFreshFloor};
 ghost use Rattle.worded.specs.Views.{has_tag};
 ghost use Rattle.job_words.specs.Passes.{floor_seen};
 ghost use Rattle.job_words.specs.Meetings.{NothingOf, MeetAnswer, EndAnswer};
-ghost use Rattle.job_words.specs.Forests.{seen_by, IsOf, IsOwn, GivesTags, SameGiving, NothingUngiven};
+ghost use Rattle.job_words.specs.Forests.{seen_by, IsOf, IsOwn, GivesTags, SameGiving};
 
 use crate::deed::Deed;
 use crate::forest::{Forest, JobHistory};
@@ -75,7 +75,6 @@ impl Forest {
         ensures b { IsOf self.now b.new }
         ensures met { MeetAnswer (floor_seen (seen_by a.old)) (floor_seen (seen_by b.old)) (floor_seen (seen_by a.new)) }
         ensures giving { SameGiving a.old a.new }
-        ensures none { NothingUngiven a.new }
         ensures same { seen_by b.new ≡ seen_by b.old }
     {
         meet::<Deed, ForestSize, JobHistory>(&self.table.shared, &mut a.seat, &mut b.seat)
@@ -88,7 +87,6 @@ impl Forest {
         ensures main { IsOf self.now main.new }
         ensures ended { EndAnswer (floor_seen (seen_by main.old)) (floor_seen (seen_by pass)) (floor_seen (seen_by main.new)) }
         ensures giving { SameGiving main.old main.new }
-        ensures none { NothingUngiven main.new }
     {
         let JobPass { seat } = pass;
         end::<Deed, ForestSize, JobHistory>(&self.table.shared, &mut main.seat, seat)

@@ -6,6 +6,7 @@ ghost use Rattle.job_model.specs.Floors.{HasClaims};
 ghost use Rattle.job_words.specs.Deeds.{shape_of, history_of, IsDone};
 ghost use Rattle.job_words.specs.Once.{DoneSeen-prop, LegalSeen-prop};
 ghost use Rattle.job_words.specs.Passes.{floor_of};
+ghost use Rattle.job_words.specs.Meetings.{NothingUngiven};
 
 use crate::deed::Deed;
 use crate::size::ForestSize;
@@ -19,4 +20,5 @@ pub struct JobPass {
     pub ghost done: { IsDone (shape_of seat.me.0.key) seat.me.0.seen } by { DoneSeen-prop seat.me.0 },
     pub ghost legal: { Legal (shape_of seat.me.0.key) (history_of seat.me.0.seen) } by { LegalSeen-prop seat.me.0 },
     pub ghost claimed: { HasClaims (floor_of seat.me.0.key seat.me.0.tags seat.me.0.seen) } by { Prim.hlevel props },
+    pub ghost ungiven: { NothingUngiven seat.me.0 } by { Prim.hlevel props },
 }

@@ -3,11 +3,11 @@ use Rattle.std.proofs.Common.{◌≡◌, ◌≢◌, ℕ, zero, suc, ◌+◌, ◌
 use Rattle.std.proofs.lemmas.List.{length-append}
 use mathlib.Core.Option.{some, some-injective, some-ne-none}
 use lib.ListN.{get_elem?}
-use Rattle.crossbeam_deque.specs.Tasks.{Pushes, Takes, Finds, FindsFew, Admits}
+use Rattle.crossbeam_deque.specs.Tasks.{Pushes, Takes, Admits}
 use Rattle.crossbeam_deque.proofs.Lists.{at_set, at_snoc}
 use Rattle.steal_lanes.specs.declared.lane_view.LaneOp.{LaneOp}
 use Rattle.steal_lanes.specs.declared.lane_view.LaneView.{LaneView}
-use Rattle.steal_lanes.specs.Queues.{op, puts, takes, owner, guest, queue_after, MayCome, Replays, tickets_put, Knows, IsLane, Adds, WasEmpty}
+use Rattle.steal_lanes.specs.Queues.{op, puts, takes, owner, guest, queue_after, MayCome, Replays, tickets_put, Knows, IsLane, Adds}
 
 replays_longer : (q r : List ℕ) (log : List LaneOp) (e : LaneOp) → Replays q log r → MayCome r e.is_put e.ticket → Replays q (log ++ e ∷ []) (queue_after r e.is_put e.ticket)
 replays_longer q r [] e h may = (subst (λ l. MayCome l e.is_put e.ticket) (sym h) may, ap (λ l. queue_after l e.is_put e.ticket) h)
@@ -20,9 +20,6 @@ tickets_put-append (e ∷ es) ys = by_put e.is_put (tickets_put-append es ys)
     by_put : (b : Bool) → tickets_put (es ++ ys) ≡ tickets_put es ++ tickets_put ys → (if b then e.ticket ∷ tickets_put (es ++ ys) else tickets_put (es ++ ys)) ≡ (if b then e.ticket ∷ tickets_put es else tickets_put es) ++ tickets_put ys
     by_put true h = ap (λ l. e.ticket ∷ l) h
     by_put false h = h
-
-no_puts : (xs : List LaneOp) (t : ℕ) → tickets_put xs ≡ [] → tickets_put (xs ++ op false t ∷ []) ≡ []
-no_puts xs t e = tickets_put-append xs (op false t ∷ []) ∙ ap (λ l. l ++ []) e
 
 -- what another port still knows
 still_knows : (log : List LaneOp) (j : ℕ) (u : LaneView) (e : LaneOp) → Knows log j u → (u.owns ≡ true → e.is_put ≡ false) → Knows (log ++ e ∷ []) j u
@@ -58,19 +55,6 @@ pub takes_first : (port : ℕ) (v : LaneView) → Takes IsLane port v 1 (λ xs w
 takes_first port v [] items views some_ one h at = absurd (omega arith)
 takes_first port v (t ∷ []) items views some_ one h at = moves (t ∷ items) items views port v (op false t) (items, refl) refl h at (λ j ne z. refl)
 takes_first port v (t ∷ u ∷ more) items views some_ one h at = absurd (omega arith)
-
-empty_seen : (port : ℕ) (v : LaneView) (items : List ℕ) (views : List LaneView) → items ≡ [] → IsLane items views → get_elem? views port ≡ some v → WasEmpty v
-empty_seen port v items views none h at = let k = h.known port v at in record { others = k.more; puts_seen = k.puts_seen; empty = subst (λ l. Replays [] l []) (sym k.begins) (subst (Replays [] h.log) none h.replays) }
-
-pub finds_empty : (port : ℕ) (v : LaneView) → Finds IsLane port v (WasEmpty v)
-finds_empty port v views h at = empty_seen port v [] views refl h at
-
-no_items : (items : List ℕ) → length items ≤ 0 → items ≡ []
-no_items [] le = refl
-no_items (t ∷ ts) le = absurd (omega arith)
-
-pub finds_few : (most port : ℕ) (v : LaneView) → most ≡ 0 → FindsFew IsLane most port v (WasEmpty v)
-finds_few most port v z items views le h at = empty_seen port v items views (no_items items (omega arith)) h at
 
 pub admits_guest : Admits IsLane guest
 admits_guest items views h = record {

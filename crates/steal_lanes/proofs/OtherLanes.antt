@@ -2,7 +2,7 @@
 use Rattle.std.proofs.Common.{◌≡◌, ℕ, ◌+◌, ◌<◌, ◌≤◌, List, [], ◌∷◌, ◌++◌, length, map, set, get_or, Option, Some, None, sym, refl, ap, ◌∙◌, subst, inl, inr, ⊎_elim, append_assoc, append-nil, arith}
 use Rattle.std.proofs.lemmas.List.{length-append}
 use Rattle.steal_lanes.specs.declared.other_lane.OtherLane.{OtherLane}
-use Rattle.steal_lanes.specs.Lanes.{other_deque, Took, FoundNothing, NothingIn, TookFrom, OthersAnswer}
+use Rattle.steal_lanes.specs.Lanes.{other_deque, Took, TookNothing, NothingFrom, TookFrom, OthersAnswer}
 
 -- the lanes looked at so far gave nothing; those behind are as they were
 pub record LookedAt (next : ℕ) (old now : List OtherLane) : Type 0 where
@@ -11,25 +11,25 @@ pub record LookedAt (next : ℕ) (old now : List OtherLane) : Type 0 where
   pub back : List OtherLane
   pub before : old ≡ front ++ back
   pub after : now ≡ front_now ++ back
-  pub nothing : NothingIn front front_now
+  pub nothing : NothingFrom front front_now
   pub count : length front_now ≡ next
 
 pub none_looked_at : (old : List OtherLane) → LookedAt 0 old old
 none_looked_at old = record { front = []; front_now = []; back = old; before = refl; after = refl; nothing = tt; count = refl }
 
-nothing_more : (xs ys : List OtherLane) (x y : OtherLane) → NothingIn xs ys → FoundNothing x y → NothingIn (xs ++ x ∷ []) (ys ++ y ∷ [])
+nothing_more : (xs ys : List OtherLane) (x y : OtherLane) → NothingFrom xs ys → TookNothing x y → NothingFrom (xs ++ x ∷ []) (ys ++ y ∷ [])
 nothing_more [] [] x y n f = (f, tt)
 nothing_more [] (v ∷ vs) x y n f = absurd n
 nothing_more (u ∷ us) [] x y n f = absurd n
 nothing_more (u ∷ us) (v ∷ vs) x y n f = (n.0, nothing_more us vs x y n.1 f)
 
-took_behind : (t : ℕ) (xs ys back : List OtherLane) (x y : OtherLane) → NothingIn xs ys → Took t x y → TookFrom t (xs ++ x ∷ back) (ys ++ y ∷ back)
+took_behind : (t : ℕ) (xs ys back : List OtherLane) (x y : OtherLane) → NothingFrom xs ys → Took t x y → TookFrom t (xs ++ x ∷ back) (ys ++ y ∷ back)
 took_behind t [] [] back x y n k = inl (k, refl)
 took_behind t [] (v ∷ vs) back x y n k = absurd n
 took_behind t (u ∷ us) [] back x y n k = absurd n
 took_behind t (u ∷ us) (v ∷ vs) back x y n k = inr (n.0, took_behind t us vs back x y n.1 k)
 
-pub same_by_nothing : (xs ys : List OtherLane) → NothingIn xs ys → map other_deque ys ≡ map other_deque xs
+pub same_by_nothing : (xs ys : List OtherLane) → NothingFrom xs ys → map other_deque ys ≡ map other_deque xs
 same_by_nothing [] [] n = refl
 same_by_nothing [] (y ∷ ys) n = absurd n
 same_by_nothing (x ∷ xs) [] n = absurd n
@@ -38,7 +38,7 @@ same_by_nothing (x ∷ xs) (y ∷ ys) n = λ i. n.0.deque i ∷ same_by_nothing 
 pub same_by_took : (t : ℕ) (xs ys : List OtherLane) → TookFrom t xs ys → map other_deque ys ≡ map other_deque xs
 same_by_took t [] ys k = absurd k
 same_by_took t (x ∷ xs) [] k = absurd k
-same_by_took t (x ∷ xs) (y ∷ ys) k = ⊎_elim (λ (h : Took t x y × (ys ≡ xs)). λ i. h.0.deque i ∷ map other_deque (h.1 i)) (λ (h : FoundNothing x y × TookFrom t xs ys). λ i. h.0.deque i ∷ same_by_took t xs ys h.1 i) k
+same_by_took t (x ∷ xs) (y ∷ ys) k = ⊎_elim (λ (h : Took t x y × (ys ≡ xs)). λ i. h.0.deque i ∷ map other_deque (h.1 i)) (λ (h : TookNothing x y × TookFrom t xs ys). λ i. h.0.deque i ∷ same_by_took t xs ys h.1 i) k
 
 -- ---- one turn
 
@@ -59,7 +59,7 @@ turn n old now x k e lt =
 turned : (n : ℕ) (old now : List OtherLane) (x y : OtherLane) (k : LookedAt n old now) (more : List OtherLane) → k.back ≡ x ∷ more → set now n y ≡ k.front_now ++ y ∷ more
 turned n old now x y k more b = ap (λ (l : List OtherLane). set l n y) (k.after ∙ ap (λ l. k.front_now ++ l) b) ∙ ap (λ m. set (k.front_now ++ x ∷ more) m y) (sym k.count) ∙ put_there k.front_now more x y
 
-pub looked_next : (n : ℕ) (old now : List OtherLane) (x y : OtherLane) → LookedAt n old now → x ≡ get_or now n x → n < length now → FoundNothing x y → LookedAt (n + 1) old (set now n y)
+pub looked_next : (n : ℕ) (old now : List OtherLane) (x y : OtherLane) → LookedAt n old now → x ≡ get_or now n x → n < length now → TookNothing x y → LookedAt (n + 1) old (set now n y)
 looked_next n old now x y k e lt f =
     let b = turn n old now x k e lt in
     record {
@@ -81,12 +81,12 @@ none_left : (back : List OtherLane) → length back ≤ 0 → back ≡ []
 none_left [] le = refl
 none_left (b ∷ bs) le = absurd (omega arith)
 
-pub looked_all : (n : ℕ) (old now : List OtherLane) → LookedAt n old now → length now ≤ n → NothingIn old now
+pub looked_all : (n : ℕ) (old now : List OtherLane) → LookedAt n old now → length now ≤ n → NothingFrom old now
 looked_all n old now k le =
     let m : length now ≡ length k.front_now + length k.back = ap length k.after ∙ length-append k.front_now k.back in
     let c = k.count in
     let none = none_left k.back (omega arith) in
-    subst (λ (p : List OtherLane × List OtherLane). NothingIn p.0 p.1) (λ i. (sym (k.before ∙ ap (λ l. k.front ++ l) none ∙ append-nil k.front) i, sym (k.after ∙ ap (λ l. k.front_now ++ l) none ∙ append-nil k.front_now) i)) k.nothing
+    subst (λ (p : List OtherLane × List OtherLane). NothingFrom p.0 p.1) (λ i. (sym (k.before ∙ ap (λ l. k.front ++ l) none ∙ append-nil k.front) i, sym (k.after ∙ ap (λ l. k.front_now ++ l) none ∙ append-nil k.front_now) i)) k.nothing
 
 pub same_by_answer : (old new : List OtherLane) (r : Option ℕ) → OthersAnswer old new r → map other_deque new ≡ map other_deque old
 same_by_answer old new None h = same_by_nothing old new h

@@ -2,11 +2,11 @@
 use Rattle.std.specs.Prelude.{◌≡◌, ◌⊎◌, ℕ, ◌+◌, ◌≤◌, List, [], ◌∷◌, ◌++◌, map, take, drop, length, Option, Some, None, Result, Ok, Err, slice_get}
 use Rattle.std.specs.declared.alloc.Global.{Global}
 use Rattle.atomic_blocks.specs.Lent.{RowsId}
-use Rattle.crossbeam_deque.specs.Handles.{worker_deque, worker_view, stealer_deque, view, taken}
+use Rattle.crossbeam_deque.specs.Handles.{worker_deque, worker_view, stealer_deque, view}
 use Rattle.steal_lanes.specs.declared.lane_view.LaneView.{LaneView}
 use Rattle.steal_lanes.specs.declared.other_lane.OtherLane.{OtherLane}
 use Rattle.steal_lanes.specs.declared.lane.Lane.{Lane}
-use Rattle.steal_lanes.specs.Queues.{owner, guest, puts, takes, tickets_put, Adds, WasEmpty}
+use Rattle.steal_lanes.specs.Queues.{owner, guest, puts, takes, tickets_put, Adds}
 
 -- ---- another's lane
 
@@ -18,44 +18,39 @@ other_deque o = stealer_deque o.stealer
 abbrev pub other_view : OtherLane → LaneView
 other_view o = view o.pass
 
--- how many tickets were seen taken from it
-abbrev pub seen_taken : OtherLane → ℕ
-seen_taken o = taken o.pass
-
 -- this ticket was taken, the first of that lane
 pub record Took (t : ℕ) (old new : OtherLane) : Type 0 where
   pub deque : other_deque new ≡ other_deque old
   pub adds : Adds (other_view old) (takes (t ∷ [])) (other_view new)
 
--- at a moment of the call that lane was empty, or 16 tickets were taken from it that had not been seen taken before
-pub record FoundNothing (old new : OtherLane) : Type 0 where
+-- no ticket was taken; why is not told, since a step that takes nothing changes nothing that is known of the lane
+pub record TookNothing (old new : OtherLane) : Type 0 where
   pub deque : other_deque new ≡ other_deque old
   pub view : other_view new ≡ other_view old
-  pub why : WasEmpty (other_view old) ⊎ (seen_taken old + 16 ≤ seen_taken new)
 
 -- what a take of another's lane answers
 abbrev pub TakeAnswer : OtherLane → OtherLane → Option ℕ → Type 0
-TakeAnswer old new None = FoundNothing old new
+TakeAnswer old new None = TookNothing old new
 TakeAnswer old new (Some t) = Took t old new
 
 -- ---- several of them
 
--- each is as it was, but that nothing was found there
-abbrev pub NothingIn : List OtherLane → List OtherLane → Type 0
-NothingIn [] [] = Unit {0}
-NothingIn [] (y ∷ ys) = ⊥
-NothingIn (x ∷ xs) [] = ⊥
-NothingIn (x ∷ xs) (y ∷ ys) = FoundNothing x y × NothingIn xs ys
+-- no ticket was taken from any
+abbrev pub NothingFrom : List OtherLane → List OtherLane → Type 0
+NothingFrom [] [] = Unit {0}
+NothingFrom [] (y ∷ ys) = ⊥
+NothingFrom (x ∷ xs) [] = ⊥
+NothingFrom (x ∷ xs) (y ∷ ys) = TookNothing x y × NothingFrom xs ys
 
--- the first in which something was found gave this ticket, and those behind it were left alone
+-- one of them gave this ticket, and no other gave one; those behind it were left alone
 abbrev pub TookFrom : ℕ → List OtherLane → List OtherLane → Type 0
 TookFrom t [] ys = ⊥
 TookFrom t (x ∷ xs) [] = ⊥
-TookFrom t (x ∷ xs) (y ∷ ys) = (Took t x y × (ys ≡ xs)) ⊎ (FoundNothing x y × TookFrom t xs ys)
+TookFrom t (x ∷ xs) (y ∷ ys) = (Took t x y × (ys ≡ xs)) ⊎ (TookNothing x y × TookFrom t xs ys)
 
--- this ticket was taken from one of them; or nothing was found in any
+-- this ticket was taken from one of them, and from no other one; or none from any
 abbrev pub OthersAnswer : List OtherLane → List OtherLane → Option ℕ → Type 0
-OthersAnswer old new None = NothingIn old new
+OthersAnswer old new None = NothingFrom old new
 OthersAnswer old new (Some t) = TookFrom t old new
 
 -- ---- a lane
@@ -92,18 +87,17 @@ PutAnswer t old new (Err back) =
     × (others_of new ≡ others_of old)
     × (room_of old ≤ length (tickets_put (own_view old).seen))
 
--- this ticket was taken, the first of the own lane; or that was empty at a moment of the call
+-- this ticket was taken, the first of the own lane; or none
 abbrev pub OwnAnswer : Lane → Lane → Option ℕ → Type 0
-OwnAnswer old new None = WasEmpty (own_view old) × (own_view new ≡ own_view old) × (others_of new ≡ others_of old)
+OwnAnswer old new None = (own_view new ≡ own_view old) × (others_of new ≡ others_of old)
 OwnAnswer old new (Some t) = Adds (own_view old) (takes (t ∷ [])) (own_view new) × (others_of new ≡ others_of old)
 
--- a ticket of the own lane, or, where that was empty at a moment of the call, of another; or nothing was found in any
+-- this ticket was taken, of the own lane or of one other, and no other ticket; or none from any lane
 abbrev pub NextAnswer : Lane → Lane → Option ℕ → Type 0
-NextAnswer old new None =
-    WasEmpty (own_view old) × (own_view new ≡ own_view old) × NothingIn (others_of old) (others_of new)
+NextAnswer old new None = (own_view new ≡ own_view old) × NothingFrom (others_of old) (others_of new)
 NextAnswer old new (Some t) =
     OwnAnswer old new (Some t)
-    ⊎ (WasEmpty (own_view old) × (own_view new ≡ own_view old) × TookFrom t (others_of old) (others_of new))
+    ⊎ ((own_view new ≡ own_view old) × TookFrom t (others_of old) (others_of new))
 
 -- ---- the lanes of several workers
 

@@ -76,9 +76,3 @@ pub record Adds (v : LaneView) (ops : List LaneOp) (w : LaneView) : Type 0 where
   pub puts_seen : v.owns ≡ true → tickets_put others ≡ []
   pub left : List ℕ
   pub replays : Replays [] w.seen left
-
--- at a moment after all that was seen the lane was empty
-pub record WasEmpty (v : LaneView) : Type 0 where
-  pub others : List LaneOp
-  pub puts_seen : v.owns ≡ true → tickets_put others ≡ []
-  pub empty : Replays [] (v.seen ++ others) []

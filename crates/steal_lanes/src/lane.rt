@@ -54,7 +54,7 @@ impl Lane {
         self.own.push_as::<Puts>(ticket)
     }
 
-    // The first ticket of the own lane.
+    // The first ticket of the own lane. `None` says only that none was taken.
     fn take(&mut self) -> Option<Tag>
         ensures same { SameLane self.old self.new }
         ensures answer { OwnAnswer self.old self.new result }
@@ -62,7 +62,8 @@ impl Lane {
         self.own.pop_as::<Takes>()
     }
 
-    /// The first ticket of the own lane, or else of another, from the next worker's on.
+    /// The first ticket of the own lane, or else of another, from the next worker's on. `None` says only that none was taken: each
+    /// lane was looked at, but others may put and take meanwhile.
     pub fn next(&mut self) -> Option<Tag>
         ensures same { SameLane self.old self.new }
         ensures answer { NextAnswer self.old self.new result }

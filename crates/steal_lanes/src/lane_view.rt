@@ -41,13 +41,11 @@ impl Outcome<Tag, LaneView> for Puts {
     ghost then = { λ v xs w. Adds v (puts xs) w };
 }
 
-/// A ticket was taken, or the lane was empty.
+/// A ticket was taken. Of a step that took none nothing is told.
 pub(crate) struct Takes;
 
 impl Outcome<Tag, LaneView> for Takes {
-    ghost use Rattle.steal_lanes.specs.Queues.{Adds, takes, WasEmpty};
+    ghost use Rattle.steal_lanes.specs.Queues.{Adds, takes};
 
     ghost then = { λ v xs w. Adds v (takes xs) w };
-
-    ghost empty = { WasEmpty };
 }

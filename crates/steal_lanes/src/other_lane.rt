@@ -31,7 +31,7 @@ impl OtherLane {
         Ok(OtherLane { stealer, pass })
     }
 
-    /// The first ticket. A steal that loses its ticket to another taker is tried again, at most 16 times.
+    /// The first ticket. `None` says only that none was taken: the lane was empty, or 16 steals lost their ticket to others.
     pub(crate) fn take(&mut self) -> Option<Tag>
         ensures { TakeAnswer self.old self.new result }
     {

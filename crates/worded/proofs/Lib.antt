@@ -1,4 +1,6 @@
 mod AtTheStart
-mod OnTheSeats
-mod OnTheWords
+pub mod OnTheSeats
+pub mod OnTheWords
 pub mod TagsAndPrefixes
+pub mod TagsHeld
+pub mod TagsNotGiven

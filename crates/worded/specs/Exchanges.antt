@@ -1,5 +1,5 @@
 -- What each step asks, and what it tells.
-use Rattle.std.specs.Prelude.{◌≡◌, ◌≢◌, ℕ, ◌==◌, true, false, List, [], ◌∷◌, ◌++◌, MatchBool, max}
+use Rattle.std.specs.Prelude.{◌≡◌, ◌≢◌, ℕ, ◌+◌, ◌^◌, ◌<◌, ◌==◌, true, false, List, [], ◌∷◌, ◌++◌, MatchBool, max}
 use mathlib.Core.Option.{Option, some, none}
 use mathlib.Core.List.{IsPrefix}
 use Rattle.worded.specs.declared.view.View.{View}
@@ -7,13 +7,15 @@ use Rattle.worded.specs.Views.{has_tag, having_seen, told_by}
 use Rattle.worded.specs.Histories.{entries_of}
 
 module _ {E K : Type 0} (legal : List E → Type 0) (fits : List E → ℕ → ℕ → Type 0) (who : E → ℕ) where
-  -- others added `others`, in which nothing is of the seat's tags; and nobody made an entry of a tag that was not given out
+  -- others added `others`, in which nothing is of the seat's tags; nobody made an entry of a tag that was not given out; the tags of
+  -- the first seat were given out
   pub record OthersAdded (v : View E K) (others : List E) : Type 0 where
     pub is_legal : legal (v.seen ++ others)
     pub apart : (t : ℕ) → has_tag t v.tags ≡ true → entries_of who t others ≡ []
     pub told : IsPrefix v.heard (v.seen ++ others)
     pub given_to : (t : ℕ) → has_tag t v.heard_tags ≡ true → entries_of who t (v.seen ++ others) ≡ entries_of who t v.heard
     pub ungiven : v.chief ≡ true → (t : ℕ) → has_tag t v.given ≡ false → entries_of who t (v.seen ++ others) ≡ []
+    pub given_out : v.chief ≡ true → (t : ℕ) → has_tag t v.tags ≡ true → has_tag t v.given ≡ true
 
   -- the history so far was seen, and the word found is one that it gives
   pub record Loaded (word n : ℕ) (v w : View E K) : Type 0 where
@@ -44,6 +46,11 @@ module _ {E K : Type 0} (legal : List E → Type 0) (fits : List E → ℕ → �
         → legal ((v.seen ++ others) ++ e ∷ [])
         × fits ((v.seen ++ others) ++ e ∷ []) word new
         × ((j n : ℕ) → j ≢ word → fits (v.seen ++ others) j n → fits ((v.seen ++ others) ++ e ∷ []) j n)
+
+  -- whatever others added, the word has room for one more, and with that the entry of the number found may come
+  pub record MayDraw (v : View E K) (word : ℕ) (entry : ℕ → E) : Type 0 where
+    pub room : (others : List E) (n : ℕ) → OthersAdded v others → fits (v.seen ++ others) word n → n + 1 < 2 ^ 64
+    pub enters : (n : ℕ) → MayEnter v word n (n + 1) (entry n)
 
   -- whatever others added, the word may be as large as `least`
   abbrev pub MayLift : View E K → ℕ → ℕ → Type 0

@@ -1,10 +1,10 @@
-//! The three steps on a word.
+//! The four steps on a word.
 ghost use Rattle.std.specs.Prelude.{◌≡◌, ◌<◌};
 ghost use mathlib.Core.Option.{some};
 ghost use Rattle.worded.specs.Views.{IsSeatOf, SameSeat};
-ghost use Rattle.worded.specs.Exchanges.{Loaded, Exchanged, MayEnter, MayLift};
+ghost use Rattle.worded.specs.Exchanges.{Loaded, Entered, Exchanged, MayEnter, MayDraw, MayLift};
 
-use crate::rule::{HistoryRule, HistorySeat, SharedHistory};
+use crate::rule::{DrawRule, HistoryRule, HistorySeat, SharedHistory};
 use crate::view::View;
 use atomic_table::Play;
 use std::marker::PhantomData;
@@ -58,6 +58,33 @@ pub fn exchange<E, K, M: HistoryRule<E, K>>(
         seat.old.me.0 seat.new.me.0 }
 {
     table.compare_exchange_with::<Exchanges<M>>(seat, word, old, new, entry)
+}
+
+// The caller made the entry that the number found gives.
+struct Draws<M, D> {
+    marker: PhantomData<(M, D)>,
+}
+
+impl<E, K, M: HistoryRule<E, K>, D: DrawRule<E, K>> Play<E, View<E, K>> for Draws<M, D> {
+    ghost then = { λ s m n r.
+        Entered (M.legal m.0.key) (M.fits m.0.key) M.who s.word n (D.entry m.0.key m.0.tags n) m.0 r.0 × (r.1 ≡ m.1) };
+}
+
+/// Draws a number: makes the entry that it gives by adding one to the word, whatever the word is.
+pub fn draw<E, K, M: HistoryRule<E, K>, D: DrawRule<E, K>>(
+    table: &SharedHistory<E, K, M>,
+    seat: &mut HistorySeat<E, K>,
+    word: usize,
+) -> u64
+    requires seat { IsSeatOf table.now.table_id table.now.key seat.old }
+    requires word { (table.now.table_id.words ≡ M.size table.now.key) × (word < M.size table.now.key) }
+    requires may { MayDraw (M.legal table.now.key) (M.fits table.now.key) M.who seat.old.me.0 word
+        (D.entry table.now.key seat.old.me.0.tags) }
+    ensures same { SameSeat seat.old seat.new }
+    ensures entered { Entered (M.legal table.now.key) (M.fits table.now.key) M.who word result
+        (D.entry table.now.key seat.old.me.0.tags result) seat.old.me.0 seat.new.me.0 }
+{
+    table.fetch_add::<Draws<M, D>>(seat, word, 1)
 }
 
 // The caller sees nothing.

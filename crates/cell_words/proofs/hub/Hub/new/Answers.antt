@@ -2,8 +2,9 @@ use Rattle.std.proofs.Common.{ℕ, [], get_or, sym, ◌∙◌, ap, subst, arith}
 use Rattle.std.proofs.lemmas.List.{get_or-replicate}
 use Rattle.channel_model.specs.Histories.{Legal}
 use Rattle.cell_words.specs.Words.{Fits}
-use Rattle.cell_words.specs.Seen.{Seen}
+use Rattle.cell_words.specs.Seen.{Seen, NothingUngiven}
 use Rattle.cell_words.proofs.NewHubs.{all_free, none_legal, count_is}
+use Rattle.cell_words.proofs.ActsOfTags.{ungiven_first}
 use Rattle.cell_words.proofs.hub.Hub.new.Goals as goal
 
 pub new_history-requires-clause-legal : goal.new_history-requires-clause-legal
@@ -19,4 +20,4 @@ new_history-requires-clause-fit c i h =
 pub invariant_of-result-2 : goal.invariant_of-result-2
 invariant_of-result-2 c =
     let e = ap (λ x. x.0) c.in_ok-table.ensures.seat.1 in
-    record { legal = subst (λ (v : Seen). Legal v.key.kinds v.seen) (sym e) (none_legal c.in_ok-layout.layout.kinds) }
+    record { legal = subst (λ (v : Seen). Legal v.key.kinds v.seen) (sym e) (none_legal c.in_ok-layout.layout.kinds); ungiven = subst NothingUngiven (sym e) (ungiven_first c.in_ok-layout.layout) }

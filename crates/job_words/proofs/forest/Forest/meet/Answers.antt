@@ -1,13 +1,17 @@
 use Rattle.std.proofs.Common.{sym, ◌∙◌, ap}
 use Rattle.job_words.specs.Passes.{tags_given}
-use Rattle.job_words.proofs.PassesMeet.{meet_answer, laws_more, ungiven}
+use Rattle.job_words.specs.Deeds.{shape_of, doer, IsDone, Fits}
+use Rattle.worded.proofs.TagsNotGiven.{none_met}
+use Rattle.job_words.proofs.PassesMeet.{meet_answer, laws_more, ungiven_of}
 use Rattle.job_words.proofs.forest.Forest.meet.Goals as goal
 
 pub invariant_of-a : goal.invariant_of-a
 invariant_of-a c =
     let t = c.meet.ensures.met in
     let l = laws_more c.args.self.now c.args.a.now.seat.me.0 c.meet.new.seat.me.0 t.others c.requires.a.1 t.now t.is_legal in
-    record { shaped = l.shaped; done = l.done; legal = l.legal; claimed = l.claimed }
+    let k = c.args.self.now.table.shared.key in
+    let u = ungiven_of k c.meet.new.seat.me.0 l.done (none_met (IsDone (shape_of k)) Fits doer c.args.a.now.seat.me.0 c.meet.new.seat.me.0 c.args.b.now.seat.me.0.seen t) in
+    record { shaped = l.shaped; done = l.done; legal = l.legal; claimed = l.claimed; ungiven = u }
 
 pub returns-clause-met : goal.returns-clause-met
 returns-clause-met c =
@@ -17,8 +21,3 @@ returns-clause-met c =
 
 pub returns-clause-giving : goal.returns-clause-giving
 returns-clause-giving c = ap tags_given c.meet.ensures.met.now
-
-pub returns-clause-none : goal.returns-clause-none
-returns-clause-none c =
-    let t = c.meet.ensures.met in
-    ungiven c.args.self.now c.args.a.now.seat.me.0 c.meet.new.seat.me.0 t.others c.requires.a.1 t.now t.is_legal t.ungiven

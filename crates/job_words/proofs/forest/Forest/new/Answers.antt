@@ -6,6 +6,8 @@ use Rattle.job_model.specs.Floors.{HasClaims, IsFreshFloor}
 use Rattle.job_words.specs.declared.size.ForestSize.{ForestSize}
 use Rattle.job_words.specs.Deeds.{shape_of, history_of, IsDone}
 use Rattle.job_words.specs.Passes.{Seen, floor_of, floor_seen}
+use Rattle.job_words.specs.Meetings.{NothingUngiven}
+use Rattle.job_words.proofs.PassesMeet.{ungiven_first}
 use Rattle.job_words.proofs.NewForests.{nothing_yet, first_fits, first_claims, first_legal, fresh}
 use Rattle.job_words.proofs.forest.Forest.new.Goals as goal
 
@@ -29,6 +31,7 @@ invariant_of-result-2 c =
       done = subst (λ (x : Seen). IsDone (shape_of x.key) x.seen) (sym e) (nothing_yet (shape_of size));
       legal = subst (λ (x : Seen). Legal (shape_of x.key) (history_of x.seen)) (sym e) (first_legal (shape_of size));
       claimed = subst (λ (x : Seen). HasClaims (floor_of x.key x.tags x.seen)) (sym e) (first_claims size (0 ∷ []) s);
+      ungiven = subst NothingUngiven (sym e) (ungiven_first size);
     }
 
 pub returns-clause-fresh : goal.returns-clause-fresh

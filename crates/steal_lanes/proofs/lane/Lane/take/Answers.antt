@@ -1,13 +1,10 @@
 use Rattle.std.proofs.Common.{◌∙◌}
 use Rattle.crossbeam_deque.specs.Handles.{worker_view, worker_index}
-use Rattle.steal_lanes.proofs.LaneMoves.{at_least, takes_first, finds_empty, after_take}
+use Rattle.steal_lanes.proofs.LaneMoves.{at_least, takes_first, after_take}
 use Rattle.steal_lanes.proofs.lane.Lane.take.Goals as goal
 
 pub pop_as-requires-clause-fifo : goal.pop_as-requires-clause-fifo
 pop_as-requires-clause-fifo c = λ _. takes_first _ _
-
-pub pop_as-requires-clause-empty : goal.pop_as-requires-clause-empty
-pop_as-requires-clause-empty c = finds_empty _ _
 
 pub invariant_of-self : goal.invariant_of-self
 invariant_of-self c =
