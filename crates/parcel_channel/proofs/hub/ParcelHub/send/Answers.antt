@@ -1,0 +1,15 @@
+use Rattle.std.proofs.Common.{ap}
+use Rattle.cell_calls.specs.HubFloors.{hub_floor}
+use Rattle.parcel_channel.specs.Hubs.{floor_by}
+use Rattle.parcel_channel.proofs.SendsTold.{number_by, send_told}
+use Rattle.parcel_channel.proofs.hub.ParcelHub.send.Goals as goal
+
+pub returns-in-Ok-clause-answer : goal.returns-in-Ok-clause-answer
+returns-in-Ok-clause-answer g c =
+    let hub = c.args.self.now in
+    let p = c.args.pass.now in
+    let q = c.put_value.new.pass in
+    let r = c.send_number.new.pass in
+    let same = c.put_value.ensures.same in
+    send_told hub.parcels p.tag c.in-Ok.number c.args.value p.seat.me.0 q.seat.me.0 r.seat.me.0 (floor_by hub p) (floor_by hub r) c.send_number.result c.in-Ok.ensures.answer
+    (number_by q.tag p.tag c.in-Ok.number q.seat.me.0 r.seat.me.0 (floor_by hub q) (floor_by hub p) (floor_by hub r) c.send_number.result same.0 (ap (λ x. hub_floor hub.hub x) same.1) c.send_number.ensures.answer)

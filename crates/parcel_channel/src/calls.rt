@@ -1,0 +1,235 @@
+//! To send, to receive and to settle a wait.
+ghost use Rattle.std.specs.Prelude.{◌≡◌, ◌<◌, Some, None, IfSome, MatchOption};
+ghost use Rattle.channel_model.specs.declared.acts.Why.TheVariants as why;
+ghost use Rattle.channel_model.specs.Answers.{IsReady, IsOwn as IsOwnWaitOf, IsSeenClosed, IsSeenVoided};
+ghost use Rattle.channel_model.specs.Answers.{LookAnswer, WithdrawAnswer, CloseAnswer, VoidAnswer};
+ghost use Rattle.channel_model.specs.declared.floor.WaitState.TheVariants as state;
+ghost use Rattle.parcel_channel.specs.Seen.{SameTags};
+ghost use Rattle.parcel_channel.specs.Numbers.{HoldsWait};
+ghost use Rattle.parcel_channel.specs.Answers.{IsOnly, PutAnswer, TakeAnswer};
+ghost use Rattle.parcel_channel.specs.Hubs.{IsOf, SamePass, seen_by, floor_by, IsLost, NumberSent};
+ghost use Rattle.parcel_channel.specs.Hubs.{SendAnswer, ReceiveAnswer, SettleParcel, WakeParcel, DrainParcel};
+
+use crate::answers::{ParcelGot, ParcelSent, ParcelSettled};
+use crate::hub::{ParcelHub, ParcelPass};
+use crate::numbers::{close, drain, look, void, wake_closed, withdraw};
+use crate::store::{put, take};
+use crate::waits::{Ended, Placed, end_wait, receive_next, send};
+use channel_model::{AlreadyClosed, Got, WaitState, Withdrawn};
+use co_base::{Tag, Value, WaitId};
+
+/// Draws a number and moves the value in with it; or gives it back, where no number is left.
+fn put_value<T>(hub: &ParcelHub<T>, pass: &mut ParcelPass<T>, value: T) -> Result<u32, T>
+    requires of { IsOf hub.now pass.old }
+    ensures of { IsOf hub.now pass.new }
+    ensures same { (pass.new.tag ≡ pass.old.tag) × (pass.new.pass ≡ pass.old.pass) }
+    ensures tags { SameTags (seen_by pass.old) (seen_by pass.new) }
+    ensures answer { PutAnswer hub.now.parcels pass.old.tag value (seen_by pass.old) (seen_by pass.new) result }
+{
+    put(&hub.table.shared, &mut pass.seat, hub.parcels, value)
+}
+
+/// The value of this number, if it lies in its slot.
+fn take_value<T>(hub: &ParcelHub<T>, pass: &mut ParcelPass<T>, number: Value) -> Option<T>
+    requires of { IsOf hub.now pass.old }
+    requires number { number < hub.now.parcels }
+    ensures of { IsOf hub.now pass.new }
+    ensures same { (pass.new.tag ≡ pass.old.tag) × (pass.new.pass ≡ pass.old.pass) }
+    ensures tags { SameTags (seen_by pass.old) (seen_by pass.new) }
+    ensures answer { TakeAnswer pass.old.tag number (seen_by pass.old) (seen_by pass.new) result }
+    ensures only { IfSome result (λ value. IsOnly number value (seen_by pass.old).seen) }
+{
+    take(&hub.table.shared, &mut pass.seat, number)
+}
+
+/// The value of this number, if there is such a number and the value lies in its slot.
+fn take_out<T>(hub: &ParcelHub<T>, pass: &mut ParcelPass<T>, number: Value) -> Option<T>
+    requires of { IsOf hub.now pass.old }
+    ensures of { IsOf hub.now pass.new }
+    ensures same { (pass.new.tag ≡ pass.old.tag) × (pass.new.pass ≡ pass.old.pass) }
+    ensures tags { SameTags (seen_by pass.old) (seen_by pass.new) }
+    ensures answer { MatchOption result (IsLost hub.now.parcels pass.old.tag number (seen_by pass.old) (seen_by pass.new))
+        (λ x. TakeAnswer pass.old.tag number (seen_by pass.old) (seen_by pass.new) (Some x)) }
+{
+    if number >= hub.parcels {
+        return None;
+    }
+    take_value(hub, pass, number)
+}
+
+/// Offers a number whose value was moved in.
+fn send_number<T>(hub: &ParcelHub<T>, pass: &mut ParcelPass<T>, number: Value) -> ParcelSent<T>
+    requires of { IsOf hub.now pass.old }
+    requires number { number < hub.now.parcels }
+    ensures of { IsOf hub.now pass.new }
+    ensures same { SamePass pass.old pass.new }
+    ensures answer { NumberSent pass.old.tag number (seen_by pass.old) (seen_by pass.new)
+        (floor_by hub.now pass.old) (floor_by hub.now pass.new) result }
+{
+    match send(&hub.hub, &mut pass.pass, pass.tag, number) {
+        Placed::Handed(to) => ParcelSent::Sent(Some(to)),
+        Placed::Kept => ParcelSent::Sent(None),
+        Placed::Waits(place) => ParcelSent::Waits(WaitId { channel: 0, place }),
+        Placed::Closed(closed) => match take_value(hub, pass, number) {
+            Some(value) => ParcelSent::Closed(value, closed),
+            None => ParcelSent::Lost,
+        },
+        Placed::Spent => match take_value(hub, pass, number) {
+            Some(value) => ParcelSent::Spent(value),
+            None => ParcelSent::Lost,
+        },
+    }
+}
+
+impl<T> ParcelHub<T> {
+    /// Moves the value in, and sends its number; or waits. Where the channel is closed or has no place left, the value comes back. A sender
+    /// that is admitted meanwhile is named in no answer: it finds out by `look`.
+    pub fn send(&self, pass: &mut ParcelPass<T>, value: T) -> ParcelSent<T>
+        requires of { IsOf self.now pass.old }
+        ensures of { IsOf self.now pass.new }
+        ensures same { SamePass pass.old pass.new }
+        ensures answer { SendAnswer self.now.parcels pass.old.tag value (seen_by pass.old) (seen_by pass.new)
+            (floor_by self.now pass.old) (floor_by self.now pass.new) result }
+    {
+        match put_value(self, pass, value) {
+            Err(value) => ParcelSent::NoParcel(value),
+            Ok(number) => send_number(self, pass, number),
+        }
+    }
+
+    /// Settles the own wait, which was seen resolved. A value that it was handed is moved out.
+    pub fn settle(
+        &self,
+        pass: &mut ParcelPass<T>,
+        wait: WaitId,
+        cancelled: bool,
+    ) -> ParcelSettled<T>
+        requires of { IsOf self.now pass.old }
+        requires wait { wait.channel ≡ 0 }
+        requires ready { IsReady pass.old.tag wait (floor_by self.now pass.old) }
+        ensures of { IsOf self.now pass.new }
+        ensures same { SamePass pass.old pass.new }
+        ensures answer { SettleParcel self.now.parcels pass.old.tag wait cancelled (seen_by pass.old) (seen_by pass.new)
+            (floor_by self.now pass.old) (floor_by self.now pass.new) result }
+    {
+        match end_wait(&self.hub, &mut pass.pass, pass.tag, wait, cancelled) {
+            Ended::Value(number) => match take_out(self, pass, number) {
+                Some(value) => ParcelSettled::Value(value),
+                None => ParcelSettled::Lost,
+            },
+            Ended::Sent => ParcelSettled::Sent,
+            Ended::Closed(value) => ParcelSettled::Closed(value),
+            Ended::Withdrew(number) => match take_out(self, pass, number) {
+                Some(value) => ParcelSettled::Cancelled(Some(value)),
+                None => ParcelSettled::Lost,
+            },
+            Ended::Cancelled => ParcelSettled::Cancelled(None),
+            Ended::Undelivered(number) => match take_out(self, pass, number) {
+                Some(value) => ParcelSettled::Undelivered(value),
+                None => ParcelSettled::Lost,
+            },
+        }
+    }
+
+    /// Receives a number, and moves its value out; or waits. A sender that is admitted then is named in no answer: it finds out by `look`.
+    pub fn receive(&self, pass: &mut ParcelPass<T>) -> ParcelGot<T>
+        requires of { IsOf self.now pass.old }
+        ensures of { IsOf self.now pass.new }
+        ensures same { SamePass pass.old pass.new }
+        ensures answer { ReceiveAnswer self.now.parcels pass.old.tag (seen_by pass.old) (seen_by pass.new)
+            (floor_by self.now pass.old) (floor_by self.now pass.new) result }
+    {
+        match receive_next(&self.hub, &mut pass.pass, pass.tag) {
+            Got::Taken(_, number, from) => match take_out(self, pass, number) {
+                Some(value) => ParcelGot::Value(value, from),
+                None => ParcelGot::Lost(from),
+            },
+            Got::Waiting(place) => ParcelGot::Waits(WaitId { channel: 0, place }),
+            Got::Closed(value) => ParcelGot::Closed(value),
+            Got::Spent => ParcelGot::Spent,
+        }
+    }
+
+    /// How far the own wait is.
+    pub fn look(&self, pass: &mut ParcelPass<T>, wait: WaitId) -> WaitState
+        requires of { IsOf self.now pass.old }
+        requires wait { wait.channel ≡ 0 }
+        requires own { IsOwnWaitOf pass.old.tag wait (floor_by self.now pass.old) }
+        ensures of { IsOf self.now pass.new }
+        ensures same { SamePass pass.old pass.new × (seen_by pass.new ≡ seen_by pass.old) }
+        ensures answer { LookAnswer pass.old.tag wait (floor_by self.now pass.old) (floor_by self.now pass.new) result }
+        ensures holds { HoldsWait pass.old.tag wait (floor_by self.now pass.old)
+            → HoldsWait pass.old.tag wait (floor_by self.now pass.new) }
+        ensures ready { HoldsWait pass.old.tag wait (floor_by self.now pass.old) → result ≡ state.Resolved
+            → IsReady pass.old.tag wait (floor_by self.now pass.new) }
+    {
+        look(&self.hub, &mut pass.pass, pass.tag, wait)
+    }
+
+    /// Takes the own wait back, unless it was resolved before.
+    pub fn withdraw(&self, pass: &mut ParcelPass<T>, wait: WaitId) -> Withdrawn
+        requires of { IsOf self.now pass.old }
+        requires wait { wait.channel ≡ 0 }
+        requires own { IsOwnWaitOf pass.old.tag wait (floor_by self.now pass.old) }
+        ensures of { IsOf self.now pass.new }
+        ensures same { SamePass pass.old pass.new × (seen_by pass.new ≡ seen_by pass.old) }
+        ensures answer { WithdrawAnswer pass.old.tag wait why.Cancelled (floor_by self.now pass.old) (floor_by self.now pass.new) result }
+        ensures ready { HoldsWait pass.old.tag wait (floor_by self.now pass.old) → IsReady pass.old.tag wait (floor_by self.now pass.new) }
+    {
+        withdraw(&self.hub, &mut pass.pass, pass.tag, wait)
+    }
+
+    /// Closes the channel with a value. What stands there still stands.
+    pub fn close(&self, pass: &mut ParcelPass<T>, v: Value) -> Result<(), AlreadyClosed>
+        requires of { IsOf self.now pass.old }
+        ensures of { IsOf self.now pass.new }
+        ensures same { SamePass pass.old pass.new × (seen_by pass.new ≡ seen_by pass.old) }
+        ensures answer { CloseAnswer pass.old.tag 0 v (floor_by self.now pass.old) (floor_by self.now pass.new) result }
+    {
+        close(&self.hub, &mut pass.pass, pass.tag, v)
+    }
+
+    /// Tells the first receiver of a channel that was seen closed: its coroutine. None: nobody stands there.
+    pub fn wake_closed(&self, pass: &mut ParcelPass<T>) -> Option<Tag>
+        requires of { IsOf self.now pass.old }
+        requires closed { IsSeenClosed 0 (floor_by self.now pass.old) }
+        ensures of { IsOf self.now pass.new }
+        ensures same { SamePass pass.old pass.new × (seen_by pass.new ≡ seen_by pass.old) }
+        ensures answer { WakeParcel pass.old.tag (floor_by self.now pass.old) (floor_by self.now pass.new) result }
+    {
+        match wake_closed(&self.hub, &mut pass.pass, pass.tag) {
+            Some((_, to)) => Some(to),
+            None => None,
+        }
+    }
+
+    /// Cancels a channel that was seen closed, unless it was cancelled before.
+    pub fn void(&self, pass: &mut ParcelPass<T>) -> bool
+        requires of { IsOf self.now pass.old }
+        requires closed { IsSeenClosed 0 (floor_by self.now pass.old) }
+        ensures of { IsOf self.now pass.new }
+        ensures same { SamePass pass.old pass.new × (seen_by pass.new ≡ seen_by pass.old) }
+        ensures answer { VoidAnswer pass.old.tag 0 (floor_by self.now pass.old) (floor_by self.now pass.new) result }
+    {
+        void(&self.hub, &mut pass.pass, pass.tag)
+    }
+
+    /// Removes the first number of a channel that was seen cancelled, and moves its value out; and the coroutine that waited with it,
+    /// if one did.
+    pub fn drain(&self, pass: &mut ParcelPass<T>) -> Option<(Option<T>, Option<Tag>)>
+        requires of { IsOf self.now pass.old }
+        requires voided { IsSeenVoided 0 (floor_by self.now pass.old) }
+        ensures of { IsOf self.now pass.new }
+        ensures same { SamePass pass.old pass.new }
+        ensures answer { DrainParcel self.now.parcels pass.old.tag (seen_by pass.old) (seen_by pass.new)
+            (floor_by self.now pass.old) (floor_by self.now pass.new) result }
+    {
+        match drain(&self.hub, &mut pass.pass, pass.tag) {
+            None => None,
+            Some((_, number, from)) => {
+                let value = take_out(self, pass, number);
+                Some((value, from))
+            }
+        }
+    }
+}

@@ -1,0 +1,147 @@
+//! Four passes of counted cells, at work on one, two or four threads at once.
+ghost use Rattle.std.specs.Prelude.{◌≡◌, ◌≤◌, ◌<◌, ◌+◌, IfOk};
+ghost use Rattle.counted_cells.specs.Passes.{IsOf, IsFirst};
+
+use co_base::Memory;
+use counted_cells::{Counted, CountedGot, CountedPass, CountedSend};
+use std::alloc::Global;
+use std::sync::Wait;
+use std::thread::{Threads, join};
+
+/// A pass, and how many of its calls found their partner.
+#[derive(Drop)]
+pub(crate) struct Drawer {
+    pub pass: CountedPass,
+    pub met: u32,
+}
+
+/// Four passes of the same cells.
+#[derive(Drop)]
+pub(crate) struct FourDrawers {
+    pub a: Drawer,
+    pub b: Drawer,
+    pub c: Drawer,
+    pub d: Drawer,
+}
+
+impl FourDrawers {
+    /// How many calls found their partner. Each of them made a transfer.
+    pub(crate) fn count(&self) -> u32 {
+        self.a
+            .met
+            .saturating_add(self.b.met)
+            .saturating_add(self.c.met)
+            .saturating_add(self.d.met)
+    }
+}
+
+/// So many cells, and four passes of them.
+pub(crate) fn new_cells(alloc: Global, cells: u32) -> Result<(Counted, FourDrawers), Memory>
+    requires some { 1 ≤ cells }
+    requires few { cells ≤ 1048576 }
+    ensures a { IfOk result (λ r. IsOf r.0 r.1.a.pass) }
+    ensures b { IfOk result (λ r. IsOf r.0 r.1.b.pass) }
+    ensures c { IfOk result (λ r. IsOf r.0 r.1.c.pass) }
+    ensures d { IfOk result (λ r. IsOf r.0 r.1.d.pass) }
+{
+    let (counted, mut first) = Counted::new(alloc, cells)?;
+    let second = counted.split(&mut first);
+    let third = counted.split(&mut first);
+    let fourth = counted.split(&mut first);
+    Ok((
+        counted,
+        FourDrawers {
+            a: Drawer {
+                pass: first,
+                met: 0,
+            },
+            b: Drawer {
+                pass: second,
+                met: 0,
+            },
+            c: Drawer {
+                pass: third,
+                met: 0,
+            },
+            d: Drawer {
+                pass: fourth,
+                met: 0,
+            },
+        },
+    ))
+}
+
+/// So many sends and as many receives, by turns.
+fn work(counted: &Counted, drawer: Drawer, times: u32) -> Drawer
+    requires { IsOf counted.now drawer.pass }
+    ensures { IsOf counted.now result.pass }
+{
+    let Drawer { mut pass, met: _ } = drawer;
+    let mut met = 0u32;
+    for i in 0..times {
+        if let CountedSend::Paired(_) = counted.send(&mut pass, i) {
+            met = met.saturating_add(1);
+        }
+        if let CountedGot::Value(_, _) = counted.receive(&mut pass) {
+            met = met.saturating_add(1);
+        }
+    }
+    Drawer { pass, met }
+}
+
+/// The work of two, one after the other, or at once by a thread each.
+fn by_two<R: Threads + Wait + Sync>(
+    rt: &R,
+    counted: &Counted,
+    a: Drawer,
+    b: Drawer,
+    times: u32,
+    at_once: bool,
+) -> (Drawer, Drawer)
+    requires a { IsOf counted.now a.pass }
+    requires b { IsOf counted.now b.pass }
+{
+    if at_once {
+        return join(rt, || work(counted, a, times), || work(counted, b, times));
+    }
+    let a = work(counted, a, times);
+    let b = work(counted, b, times);
+    (a, b)
+}
+
+/// The work of four, by so many threads, which are none, one, two or four.
+pub(crate) fn draw_by<R: Threads + Wait + Sync>(
+    rt: &R,
+    counted: &Counted,
+    four: FourDrawers,
+    times: u32,
+    threads: u32,
+) -> FourDrawers
+    requires a { IsOf counted.now four.a.pass }
+    requires b { IsOf counted.now four.b.pass }
+    requires c { IsOf counted.now four.c.pass }
+    requires d { IsOf counted.now four.d.pass }
+{
+    if threads == 0 {
+        return four;
+    }
+    let FourDrawers { a, b, c, d } = four;
+    if threads == 1 {
+        let (a, b) = by_two(rt, counted, a, b, times, false);
+        let (c, d) = by_two(rt, counted, c, d, times, false);
+        return FourDrawers { a, b, c, d };
+    }
+    let four_threads = threads != 2;
+    let ((a, b), (c, d)) = join(
+        rt,
+        || -> (Drawer, Drawer)
+            requires first { IsOf counted.now a.pass }
+            requires second { IsOf counted.now b.pass }
+        { by_two(rt, counted, a, b, times, four_threads) },
+        || -> (Drawer, Drawer)
+            requires first { IsOf counted.now c.pass }
+            requires second { IsOf counted.now d.pass }
+        { by_two(rt, counted, c, d, times, four_threads) },
+    );
+    FourDrawers { a, b, c, d }
+}
