@@ -45,19 +45,19 @@ told_then who a b c i j k xs ys h m = record {
   appended = m.appended ∙ ap (λ l. l ++ items_in ys) h.appended ∙ append_assoc i (items_in xs) (items_in ys) ∙ ap (λ l. i ++ l) (sym (items_in-append xs ys));
   added = subst (λ l. Added who l a c) (sym (ap channel_acts_in (items_in-append xs ys) ∙ channel_acts_in-append (items_in xs) (items_in ys))) (added_then who (channel_acts_in (items_in xs)) (channel_acts_in (items_in ys)) a b c h.added m.added);
   no_jobs = ap job_acts_in (items_in-append xs ys) ∙ job_acts_in-append (items_in xs) (items_in ys) ∙ ap (λ l. l ++ job_acts_in (items_in ys)) h.no_jobs ∙ m.no_jobs;
-  was_so = λ jobs e f.
-      let mine : acts_of who b.seen ≡ channel_acts_in j = h.added.mine ∙ ap (λ l. l ++ channel_acts_in (items_in xs)) e ∙ sym (channel_acts_in-append i (items_in xs)) ∙ ap channel_acts_in (sym h.appended) in
-      let theirs : job_acts_of who jobs ≡ job_acts_in j = f ∙ sym (nothing_more (job_acts_in i)) ∙ ap (λ l. job_acts_in i ++ l) (sym h.no_jobs) ∙ sym (job_acts_in-append i (items_in xs)) ∙ ap job_acts_in (sym h.appended) in
-      let second : IsTrue (story_of a.shape who (seen_with c.seen jobs)) (i ++ items_in xs) (seen_with b.seen jobs) ys =
-      subst (λ (shape : Shape). IsTrue (story_of shape who (seen_with c.seen jobs)) (i ++ items_in xs) (seen_with b.seen jobs) ys) h.added.same.shape
-      (subst (λ l. IsTrue (story_of b.shape who (seen_with c.seen jobs)) l (seen_with b.seen jobs) ys) h.appended (m.was_so jobs mine theirs)) in
-      true_then a.shape who (seen_with b.seen jobs) (seen_with c.seen jobs) i (seen_with a.seen jobs) xs ys (by_channels jobs a.seen b.seen h.added.longer) (by_channels jobs b.seen c.seen m.added.longer) (h.was_so jobs e f) second;
+  was_so = λ book jobs e f.
+      let mine : acts_of who b.seen ≡ channel_acts_in (book ++ items_in xs) = h.added.mine ∙ ap (λ l. l ++ channel_acts_in (items_in xs)) e ∙ sym (channel_acts_in-append book (items_in xs)) in
+      let theirs : job_acts_of who jobs ≡ job_acts_in (book ++ items_in xs) = f ∙ sym (nothing_more (job_acts_in book)) ∙ ap (λ l. job_acts_in book ++ l) (sym h.no_jobs) ∙ sym (job_acts_in-append book (items_in xs)) in
+      let second : IsTrue (story_of a.shape who (seen_with c.seen jobs)) (book ++ items_in xs) (seen_with b.seen jobs) ys =
+      subst (λ (shape : Shape). IsTrue (story_of shape who (seen_with c.seen jobs)) (book ++ items_in xs) (seen_with b.seen jobs) ys) h.added.same.shape
+      (m.was_so (book ++ items_in xs) jobs mine theirs) in
+      true_then a.shape who (seen_with b.seen jobs) (seen_with c.seen jobs) book (seen_with a.seen jobs) xs ys (by_channels jobs a.seen b.seen h.added.longer) (by_channels jobs b.seen c.seen m.added.longer) (h.was_so book jobs e f) second;
 }
 
 -- nothing was told
 pub told_nothing : (who n : ℕ) (a b : Floor) (i j : List Item) → HasRoom n a b → j ≡ i → ToldOnChannels who a b i j []
 unfolding IsTrue items_in
-told_nothing who n a b i j h e = record { appended = e ∙ sym (nothing_more i); added = added_room who n a b h; no_jobs = refl; was_so = λ jobs f g. tt }
+told_nothing who n a b i j h e = record { appended = e ∙ sym (nothing_more i); added = added_room who n a b h; no_jobs = refl; was_so = λ book jobs f g. tt }
 
 -- room was made before
 pub told_roomed : (who n : ℕ) (a b c : Floor) (i j k : List Item) (told : List Told) → HasRoom n a b → j ≡ i → ToldOnChannels who b c j k told → ToldOnChannels who a c i k told
@@ -72,7 +72,7 @@ told_made who act a b i j h m e = record {
   appended = e;
   added = added_made who act a b h;
   no_jobs = refl;
-  was_so = λ jobs f g. (
+  was_so = λ book jobs f g. (
     seen_with m.moment jobs,
     record {
       not_before = by_channels jobs a.seen m.moment m.after;
@@ -93,9 +93,9 @@ told_made_after who fact act a b i j h free m e = record {
   appended = e;
   added = added_made who act a b h;
   no_jobs = refl;
-  was_so = λ jobs f g.
+  was_so = λ book jobs f g.
       let at : Moment = seen_with m.moment jobs in
-      let mine : acts_of who m.moment ≡ channel_acts_in i = m.mine ∙ nothing_more (acts_of who a.seen) ∙ f in (
+      let mine : acts_of who m.moment ≡ channel_acts_in book = m.mine ∙ nothing_more (acts_of who a.seen) ∙ f in (
         at,
         record { not_before = by_channels jobs a.seen m.moment m.after; not_after = by_channels jobs m.moment b.seen m.before; channel_acts = mine; job_acts = g; holds = m.holds },
         (at, record { not_before = by_channels jobs m.moment m.moment (prefix_self m.moment); not_after = by_channels jobs m.moment b.seen m.before; channel_acts = mine; job_acts = g; holds = free (replay m.moment) }, tt),
@@ -121,7 +121,7 @@ told_met who n a b i j none h m e = record {
   appended = e;
   added = subst (λ l. Added who l a b) (sym (nothing_more (channel_act n) ∙ none)) (added_looked who a b h);
   no_jobs = refl;
-  was_so = λ jobs f g. (
+  was_so = λ book jobs f g. (
     seen_with m.moment jobs,
     record {
       not_before = by_channels jobs a.seen m.moment m.after;
@@ -142,9 +142,9 @@ told_met_after who fact n a b i j none h m holds e = record {
   appended = e;
   added = subst (λ l. Added who l a b) (sym (nothing_more (channel_act n) ∙ none)) (added_looked who a b h);
   no_jobs = refl;
-  was_so = λ jobs f g.
+  was_so = λ book jobs f g.
       let at : Moment = seen_with m.moment jobs in
-      let mine : acts_of who m.moment ≡ channel_acts_in i = (between who a.seen m.moment b.seen m.after m.before h.mine).0 ∙ f in (
+      let mine : acts_of who m.moment ≡ channel_acts_in book = (between who a.seen m.moment b.seen m.after m.before h.mine).0 ∙ f in (
         at,
         record { not_before = by_channels jobs a.seen m.moment m.after; not_after = by_channels jobs m.moment b.seen m.before; channel_acts = mine; job_acts = g; holds = m.holds },
         (at, record { not_before = by_channels jobs m.moment m.moment (prefix_self m.moment); not_after = by_channels jobs m.moment b.seen m.before; channel_acts = mine; job_acts = g; holds = holds }, tt),
@@ -159,7 +159,7 @@ told_now who fact b k h = record {
   appended = sym (nothing_more k);
   added = added_none who b b (record { shape = refl; alone = refl; callers = refl }) refl;
   no_jobs = refl;
-  was_so = λ jobs f g. (
+  was_so = λ book jobs f g. (
     seen_with b.seen jobs,
     record {
       not_before = by_channels jobs b.seen b.seen (prefix_self b.seen);

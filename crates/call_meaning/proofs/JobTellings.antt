@@ -78,7 +78,7 @@ so_at shape who items old new channels told P m h e f = record {
 -- nothing
 pub told_nothing : (who : ℕ) (rows : List ℕ) (a b : Floor) (i j : List Item) → j ≡ i → Added who [] rows a b → ToldOnJobs who rows a b i j []
 unfolding IsTrue items_in
-told_nothing who rows a b i j e h = record { appended = e ∙ sym (nothing_more i); added = h; no_channels = refl; was_so = λ shape channels c d. tt }
+told_nothing who rows a b i j e h = record { appended = e ∙ sym (nothing_more i); added = h; no_channels = refl; was_so = λ book shape channels c d. tt }
 
 -- a fact
 pub told_fact : (who : ℕ) (rows : List ℕ) (a b : Floor) (i j : List Item) (fact : JobFact) → j ≡ i → Added who [] rows a b → AtMoment who [] a b (JobFactHolds fact) → ToldOnJobs who rows a b i j (on_jobs fact ∷ [])
@@ -87,7 +87,7 @@ told_fact who rows a b i j fact e h m = record {
   appended = e ∙ sym (nothing_more i);
   added = h;
   no_channels = refl;
-  was_so = λ shape channels c d. (moment_of channels m.moment, so_at shape who i a b channels (on_jobs fact) _ m m.holds c d, tt);
+  was_so = λ book shape channels c d. (moment_of channels m.moment, so_at shape who book a b channels (on_jobs fact) _ m m.holds c d, tt);
 }
 
 -- an answer that made no entry
@@ -97,7 +97,7 @@ told_knew who rows a b i j n none e h m = record {
   appended = e;
   added = subst (λ (l : List JobAct). Added who l rows a b) (sym (ap (λ (l : List JobAct). l ++ []) none)) h;
   no_channels = refl;
-  was_so = λ shape channels c d. (moment_of channels m.moment, so_at shape who i a b channels (knew n) _ m m.holds c d, tt);
+  was_so = λ book shape channels c d. (moment_of channels m.moment, so_at shape who book a b channels (knew n) _ m m.holds c d, tt);
 }
 
 -- ---- acts
@@ -143,8 +143,8 @@ told_dids who acts rows a b i j e h =
       appended = e ∙ ap (λ (l : List Item). i ++ l) (sym (items_did acts));
       added = subst (λ (l : List JobAct). Added who l rows a b) (sym (acts_did acts)) h;
       no_channels = ap channel_acts_in (items_did acts) ∙ no_channel_acts acts;
-      was_so = λ shape channels c d. subst (λ (l : List JobAct). IsTrue (story_of shape who (moment_of channels b.seen)) i (moment_of channels a.seen) (map did l)) own
-          (did_true shape who i channels a.seen h.longer.0 b.seen (subst (λ (l : List JobEntry). IsPrefix l b.seen) (sym h.longer.1) (prefix_self b.seen)) c d);
+      was_so = λ book shape channels c d. subst (λ (l : List JobAct). IsTrue (story_of shape who (moment_of channels b.seen)) book (moment_of channels a.seen) (map did l)) own
+          (did_true shape who book channels a.seen h.longer.0 b.seen (subst (λ (l : List JobEntry). IsPrefix l b.seen) (sym h.longer.1) (prefix_self b.seen)) c d);
     }
 
 pub told_did : (who : ℕ) (act : JobAct) (rows : List ℕ) (a b : Floor) (i j : List Item) → j ≡ i ++ item.Job (of_job.Made act) ∷ [] → Made who act rows a b → ToldOnJobs who rows a b i j (did act ∷ [])
@@ -157,11 +157,11 @@ told_then who rows more a b c i j k xs ys h m = record {
   appended = m.appended ∙ ap (λ (l : List Item). l ++ items_in ys) h.appended ∙ append_assoc i (items_in xs) (items_in ys) ∙ ap (λ (l : List Item). i ++ l) (sym (items_in-append xs ys));
   added = subst (λ (l : List JobAct). Added who l (rows ++ more) a c) (sym (ap job_acts_in (items_in-append xs ys) ∙ job_acts_in-append (items_in xs) (items_in ys))) (added_then who (job_acts_in (items_in xs)) (job_acts_in (items_in ys)) rows more a b c h.added m.added);
   no_channels = ap channel_acts_in (items_in-append xs ys) ∙ channel_acts_in-append (items_in xs) (items_in ys) ∙ ap (λ (l : List Act). l ++ channel_acts_in (items_in ys)) h.no_channels ∙ m.no_channels;
-  was_so = λ shape channels e f.
-      let e' : acts_of who channels ≡ channel_acts_in j = e ∙ sym (ap channel_acts_in h.appended ∙ channel_acts_in-append i (items_in xs) ∙ ap (λ (l : List Act). channel_acts_in i ++ l) h.no_channels ∙ nothing_more (channel_acts_in i)) in
-      let f' : job_acts_of who b.seen ≡ job_acts_in j = h.added.mine ∙ ap (λ (l : List JobAct). l ++ job_acts_in (items_in xs)) f ∙ sym (ap job_acts_in h.appended ∙ job_acts_in-append i (items_in xs)) in
-      true_then shape who (moment_of channels b.seen) (moment_of channels c.seen) i (moment_of channels a.seen) xs ys (jobs_by channels a.seen b.seen h.added.longer) (jobs_by channels b.seen c.seen m.added.longer) (h.was_so shape channels e f)
-      (subst (λ (l : List Item). IsTrue (story_of shape who (moment_of channels c.seen)) l (moment_of channels b.seen) ys) h.appended (m.was_so shape channels e' f'));
+  was_so = λ book shape channels e f.
+      let e' : acts_of who channels ≡ channel_acts_in (book ++ items_in xs) = e ∙ sym (channel_acts_in-append book (items_in xs) ∙ ap (λ (l : List Act). channel_acts_in book ++ l) h.no_channels ∙ nothing_more (channel_acts_in book)) in
+      let f' : job_acts_of who b.seen ≡ job_acts_in (book ++ items_in xs) = h.added.mine ∙ ap (λ (l : List JobAct). l ++ job_acts_in (items_in xs)) f ∙ sym (job_acts_in-append book (items_in xs)) in
+      true_then shape who (moment_of channels b.seen) (moment_of channels c.seen) book (moment_of channels a.seen) xs ys (jobs_by channels a.seen b.seen h.added.longer) (jobs_by channels b.seen c.seen m.added.longer) (h.was_so book shape channels e f)
+      (m.was_so (book ++ items_in xs) shape channels e' f');
 }
 
 -- after calls that told nothing
@@ -190,12 +190,11 @@ both_then who rows more c c' c'' j j' j'' i i' i'' xs ys h m = record {
   appended = m.appended ∙ ap (λ (l : List Item). l ++ items_in ys) h.appended ∙ append_assoc i (items_in xs) (items_in ys) ∙ ap (λ (l : List Item). i ++ l) (sym (items_in-append xs ys));
   channels = subst (λ (l : List Act). AddedToChannels who l c c'') (sym (ap channel_acts_in (items_in-append xs ys) ∙ channel_acts_in-append (items_in xs) (items_in ys))) (spans.added_then who (channel_acts_in (items_in xs)) (channel_acts_in (items_in ys)) c c' c'' h.channels m.channels);
   jobs = subst (λ (l : List JobAct). Added who l (rows ++ more) j j'') (sym (ap job_acts_in (items_in-append xs ys) ∙ job_acts_in-append (items_in xs) (items_in ys))) (added_then who (job_acts_in (items_in xs)) (job_acts_in (items_in ys)) rows more j j' j'' h.jobs m.jobs);
-  was_so = λ e f.
-      let e' : acts_of who c'.seen ≡ channel_acts_in i' = h.channels.mine ∙ ap (λ (l : List Act). l ++ channel_acts_in (items_in xs)) e ∙ sym (ap channel_acts_in h.appended ∙ channel_acts_in-append i (items_in xs)) in
-      let f' : job_acts_of who j'.seen ≡ job_acts_in i' = h.jobs.mine ∙ ap (λ (l : List JobAct). l ++ job_acts_in (items_in xs)) f ∙ sym (ap job_acts_in h.appended ∙ job_acts_in-append i (items_in xs)) in
-      let later : IsTrue (story_of c.shape who (seen_by c'' j'')) i' (seen_by c' j') ys = subst (λ (s : Shape). IsTrue (story_of s who (seen_by c'' j'')) i' (seen_by c' j') ys) h.channels.same.shape (m.was_so e' f') in
-      true_then c.shape who (seen_by c' j') (seen_by c'' j'') i (seen_by c j) xs ys (record { channels = h.channels.longer; jobs = h.jobs.longer }) (record { channels = m.channels.longer; jobs = m.jobs.longer }) (h.was_so e f)
-      (subst (λ (l : List Item). IsTrue (story_of c.shape who (seen_by c'' j'')) l (seen_by c' j') ys) h.appended later);
+  was_so = λ book e f.
+      let e' : acts_of who c'.seen ≡ channel_acts_in (book ++ items_in xs) = h.channels.mine ∙ ap (λ (l : List Act). l ++ channel_acts_in (items_in xs)) e ∙ sym (channel_acts_in-append book (items_in xs)) in
+      let f' : job_acts_of who j'.seen ≡ job_acts_in (book ++ items_in xs) = h.jobs.mine ∙ ap (λ (l : List JobAct). l ++ job_acts_in (items_in xs)) f ∙ sym (job_acts_in-append book (items_in xs)) in
+      let later : IsTrue (story_of c.shape who (seen_by c'' j'')) (book ++ items_in xs) (seen_by c' j') ys = subst (λ (s : Shape). IsTrue (story_of s who (seen_by c'' j'')) (book ++ items_in xs) (seen_by c' j') ys) h.channels.same.shape (m.was_so (book ++ items_in xs) e' f') in
+      true_then c.shape who (seen_by c' j') (seen_by c'' j'') book (seen_by c j) xs ys (record { channels = h.channels.longer; jobs = h.jobs.longer }) (record { channels = m.channels.longer; jobs = m.jobs.longer }) (h.was_so book e f) later;
 }
 
 -- a call on Jobs alone, while the floor of channels made no act of the caller
@@ -204,7 +203,7 @@ both_jobs who rows c c' j j' i i' told a h = record {
   appended = h.appended;
   channels = subst (λ (l : List Act). AddedToChannels who l c c') (sym h.no_channels) a;
   jobs = h.added;
-  was_so = λ e f. true_later c.shape who (moment_of c.seen j'.seen) (seen_by c' j') i (seen_by c j) told (record { channels = a.longer; jobs = prefix_self j'.seen }) (h.was_so c.shape c.seen e f);
+  was_so = λ book e f. true_later c.shape who (moment_of c.seen j'.seen) (seen_by c' j') book (seen_by c j) told (record { channels = a.longer; jobs = prefix_self j'.seen }) (h.was_so book c.shape c.seen e f);
 }
 
 -- a call on channels alone
@@ -213,5 +212,5 @@ both_channels who c c' j j' i i' told a h = record {
   appended = h.appended;
   channels = h.added;
   jobs = subst (λ (l : List JobAct). Added who l [] j j') (sym h.no_jobs) a;
-  was_so = λ e f. true_later c.shape who (moment_of c'.seen j.seen) (seen_by c' j') i (seen_by c j) told (record { channels = spans.prefix_self c'.seen; jobs = a.longer }) (h.was_so j.seen e f);
+  was_so = λ book e f. true_later c.shape who (moment_of c'.seen j.seen) (seen_by c' j') book (seen_by c j) told (record { channels = spans.prefix_self c'.seen; jobs = a.longer }) (h.was_so book j.seen e f);
 }

@@ -1,3 +1,4 @@
 pub mod Tellings
+pub mod Prefixes
 pub mod ChannelsHeard
 pub mod JobTellings

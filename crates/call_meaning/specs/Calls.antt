@@ -29,16 +29,16 @@ pub record ToldOnChannels (who : ℕ) (old new : ChannelFloor) (items items' : L
   pub appended : items' ≡ items ++ items_in told
   pub added : AddedToChannels who (channel_acts_in (items_in told)) old new
   pub no_jobs : job_acts_in (items_in told) ≡ []
-  pub was_so : (jobs : List JobEntry)
-      → WasSo old.shape who items (record { channels = old.seen; jobs = jobs }) (record { channels = new.seen; jobs = jobs }) told
+  pub was_so : (book : List Item) (jobs : List JobEntry)
+      → WasSo old.shape who book (record { channels = old.seen; jobs = jobs }) (record { channels = new.seen; jobs = jobs }) told
 
 -- a call on Jobs alone, which claimed these rows: it was so whatever the history of channels beside it
 pub record ToldOnJobs (who : ℕ) (rows : List ℕ) (old new : Floor) (items items' : List Item) (told : List Told) : Type 0 where
   pub appended : items' ≡ items ++ items_in told
   pub added : Added who (job_acts_in (items_in told)) rows old new
   pub no_channels : channel_acts_in (items_in told) ≡ []
-  pub was_so : (shape : Shape) (channels : List Entry)
-      → WasSo shape who items (record { channels = channels; jobs = old.seen }) (record { channels = channels; jobs = new.seen }) told
+  pub was_so : (book : List Item) (shape : Shape) (channels : List Entry)
+      → WasSo shape who book (record { channels = channels; jobs = old.seen }) (record { channels = channels; jobs = new.seen }) told
 
 -- a call on both, which claimed these rows
 pub record ToldOnBoth (who : ℕ) (rows : List ℕ) (c c' : ChannelFloor) (j j' : Floor) (items items' : List Item) (told : List Told)
@@ -46,7 +46,7 @@ pub record ToldOnBoth (who : ℕ) (rows : List ℕ) (c c' : ChannelFloor) (j j' 
   pub appended : items' ≡ items ++ items_in told
   pub channels : AddedToChannels who (channel_acts_in (items_in told)) c c'
   pub jobs : Added who (job_acts_in (items_in told)) rows j j'
-  pub was_so : WasSo c.shape who items (seen_by c j) (seen_by c' j') told
+  pub was_so : (book : List Item) → WasSo c.shape who book (seen_by c j) (seen_by c' j') told
 
 -- ---- the rows that acts attach
 

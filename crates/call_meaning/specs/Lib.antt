@@ -3,4 +3,6 @@ pub mod Facts
 pub mod Stories
 pub mod ChannelCalls
 pub mod JobCalls
+pub mod Endings
+pub mod Prefixes
 pub mod Calls

@@ -6,6 +6,8 @@
 //! - `Stories`: that all that is told was so, at moments that do not go back
 //! - `ChannelCalls`: what one call on a channel tells, and how it is answered
 //! - `JobCalls`: what one call on a Job tells
+//! - `Endings`: that the done channel of a Job that ended is closed at once
+//! - `Prefixes`: what a call told that broke off
 //! - `Calls`: what a call leaves on the floors and in the book
 //!
 //! The laws are the contracts of the functions of `laws`, whose bodies are empty; `proofs/Tellings.antt` shows them.

@@ -1,5 +1,5 @@
 -- What admitting tells.
-use Rattle.std.specs.Prelude.{◌≡◌, ℕ, ◌+◌, ◌==◌, List, [], ◌∷◌, ◌++◌, Ok, Err, Result, refl}
+use Rattle.std.specs.Prelude.{◌≡◌, ℕ, List, [], ◌∷◌, ◌++◌, Ok, Err, Result, refl}
 use Rattle.std.proofs.Common.{ap, ◌∙◌, subst}
 use Rattle.co_base.specs.declared.names.Memory.{Memory}
 use Rattle.channel_model.specs.declared.acts.Act.TheVariants.{Admit}
@@ -11,11 +11,12 @@ use Rattle.note_book.specs.declared.book.Item.{Item}
 use Rattle.call_meaning.specs.Telling.{on_channels, NextIs, NoneToAdmit}
 use Rattle.call_meaning.specs.Facts.{ChannelFactHolds}
 use Rattle.call_meaning.proofs.ChannelsHeard.{told_then}
-use Rattle.channel_calls.specs.Calls.{Tells, ToldSome, AdmittedAnswer}
+use Rattle.call_meaning.specs.ChannelCalls.{Admits}
+use Rattle.channel_calls.specs.Calls.{Tells, AdmittedAnswer}
 use Rattle.channel_calls.specs.Parts.{AdmitsBelow, AdmittedBelowAnswer}
 use Rattle.channel_calls.proofs.OwedWords.{owed_below}
-use Rattle.channel_calls.proofs.Repeated.{Repeats, all_made, repeated_until}
-use Rattle.channel_calls.proofs.Untold.{told_looked, told_seen, told_some}
+use Rattle.channel_calls.proofs.Repeated.{Repeats, all_made, repeated_until, still_repeated}
+use Rattle.channel_calls.proofs.Untold.{told_seen, part_then}
 
 none_below : (c mark : ℕ) (a b : Floor) → AtStep a b (IsAdmittedBelow a.shape c mark) → AtStep a b (ChannelFactHolds a.shape (NoneToAdmit c mark))
 none_below c mark a b m = record { moment = m.moment; after = m.after; before = m.before; holds = owed_below mark (kind_at a.shape c) 0 ((replay m.moment).channels c).queue ∙ m.holds }
@@ -36,6 +37,14 @@ admitted_all who who' c mark a b d i j k (Ok done) is e m h' =
       goes = record { mark = mark; places = h.goes.places; all = ap (λ l. on_channels (NextIs c mark) ∷ l) h.goes.all };
       left = told_then who a b d i j k (on_channels (NextIs c mark) ∷ []) h.told (told_seen who (NextIs c mark) a b i j m.0 m.1 e) h.left;
     }
-admitted_all who who' c mark a b d i j k (Err memory) is e m h' =
-    let h : ToldSome who b d j k = subst (λ x. ToldSome x b d j k) is h' in
-    told_some who a d i k h.told (told_then who a b d i j k [] h.told (told_looked who a b i j m.0 e) h.left)
+admitted_all who who' c mark a b d i j k (Err memory) is e m h =
+    part_then who who' (AdmitsBelow c mark) (Admits c) (on_channels (NextIs c mark) ∷ []) (λ all r. record { mark = mark; places = r.places; all = ap (λ l. on_channels (NextIs c mark) ∷ l) r.all })
+    a b d i j k is (told_seen who (NextIs c mark) a b i j m.0 m.1 e) h
+
+-- no memory was found
+pub admits_stopped : (who c mark : ℕ) (a b d : Floor) (i j k : List Item) (m : Memory) → (h : Repeats (λ q. Admit c q) who a b i j) → d ≡ b → k ≡ j → AdmittedBelowAnswer who c mark a d i k (Err m)
+admits_stopped who c mark a b d i j k m h e g = still_repeated (λ q. Admit c q) who (AdmitsBelow c mark) (on_channels (NoneToAdmit c mark) ∷ []) a b d i j k h (record { places = h.of; all = refl }) e g
+
+-- nobody was to be admitted
+pub none_admitted : (c : ℕ) → Admits c (on_channels (NextIs c 0) ∷ on_channels (NoneToAdmit c 0) ∷ [])
+none_admitted c = record { mark = 0; places = []; all = refl }

@@ -1,6 +1,7 @@
 -- What closing and cancelling a channel tell.
-use Rattle.std.specs.Prelude.{◌≡◌, ℕ, Bool, true, false, List, [], ◌∷◌, ◌++◌, is_some, Ok, refl}
+use Rattle.std.specs.Prelude.{◌≡◌, ℕ, Bool, true, false, List, [], ◌∷◌, ◌++◌, is_some, Ok, Err, refl}
 use Rattle.std.proofs.Common.{sym, ap, subst, append_assoc}
+use Rattle.co_base.specs.declared.names.Memory.{Memory}
 use Rattle.channel_model.specs.declared.acts.Act.{Act}
 use Rattle.channel_model.specs.declared.acts.Act.TheVariants.{Close, Void, Drain, WakeClosed}
 use Rattle.channel_model.specs.declared.acts.ChannelNote.TheVariants.{AlreadyClosed}
@@ -13,15 +14,16 @@ use Rattle.note_book.specs.declared.book.Item.{Item}
 use Rattle.note_book.specs.declared.book.Item.TheVariants as item
 use Rattle.call_meaning.specs.Telling.{Told, on_channels, NoReceiver, NothingQueued, IsVoided, made, heard}
 use Rattle.call_meaning.specs.Facts.{ActHolds}
-use Rattle.call_meaning.specs.ChannelCalls.{Wakes, Drains}
+use Rattle.call_meaning.specs.ChannelCalls.{Wakes, Drains, Closes, CancelsChannel}
 use Rattle.call_meaning.specs.Calls.{ToldOnChannels}
+use Rattle.call_meaning.proofs.Prefixes.{prefix_on}
 use Rattle.call_meaning.proofs.ChannelsHeard.{told_then, told_roomed, told_made, told_met, told_now, moment_before}
 use Rattle.channel_calls.specs.Groups.{made_note}
-use Rattle.channel_calls.specs.Calls.{Tells, ToldSome, ClosesBy, ClosedAnswer, CancelsBy, CancelledChannelAnswer}
+use Rattle.channel_calls.specs.Calls.{Tells, ToldPart, IsUntouched, ClosesBy, ClosedAnswer, CancelsBy, CancelledChannelAnswer}
 use Rattle.channel_calls.specs.Parts.{WokenAnswer, ClosesOnce, ClosedOnceAnswer, void_told, VoidedOnceAnswer, DrainedAnswer}
-use Rattle.channel_calls.proofs.AnswersGo.{closes_goes}
-use Rattle.channel_calls.proofs.Repeated.{Repeats, all_made, repeated_until}
-use Rattle.channel_calls.proofs.Untold.{told_looked, some_then}
+use Rattle.channel_calls.proofs.AnswersGo.{closes_goes, cancels_goes}
+use Rattle.channel_calls.proofs.Repeated.{Repeats, all_made, repeated_until, still_repeated}
+use Rattle.channel_calls.proofs.Untold.{told_looked, part_none, part_stopped, part_then}
 
 -- ---- what stays so
 
@@ -67,6 +69,10 @@ woken_all who who' c n a b d e i j k is h r g look at = record {
   left = repeated_until (λ q. WakeClosed c q) who who' n (NoReceiver c) a b d e i j k is h r g look at;
 }
 
+-- nobody was to be woken
+none_woken : (c : ℕ) → Wakes c (on_channels (NoReceiver c) ∷ [])
+none_woken c = record { places = []; all = refl }
+
 -- ---- close
 
 closes_by : (c v : ℕ) (first : Bool) (xs wakes : List Told) → ClosesOnce c v first xs → Wakes c wakes → ClosesBy c v first (xs ++ wakes)
@@ -110,6 +116,10 @@ drained_all who who' c n a b d e i j k is l h r g look at v = record {
       (told_now who (IsVoided c) e k (voided_lasts c d e l look.longer (voided_roomed n c b d r v))));
 }
 
+-- nothing was to be removed
+none_drained : (c : ℕ) → Drains c (on_channels (NothingQueued c) ∷ on_channels (IsVoided c) ∷ [])
+none_drained c = record { drained = []; all = refl }
+
 -- ---- cancel
 
 cancels_by : (c : ℕ) (closed first : Bool) (xs drains : List Told) → ClosesBy c 0 closed xs → Drains c drains → CancelsBy c first (xs ++ (void_told c first ++ drains))
@@ -129,6 +139,34 @@ cancelled_all who who' who'' c closed first a b d e i j k l is is' legal h v m' 
       voided_lasts c d e legal m.left.added.longer v.1,
     )
 
-pub cancel_stopped : (who who' who'' c : ℕ) (closed first : Bool) (a b d e : Floor) (i j k l : List Item) → who' ≡ who → who'' ≡ who → ClosedAnswer who c 0 a b i j (Ok closed) → VoidedOnceAnswer who' c b d j k (Ok first) → ToldSome who'' d e k l → ToldSome who a e i l
-cancel_stopped who who' who'' c closed first a b d e i j k l is is' h v m =
-    some_then who who'' a d e i k l (h.0.told ++ void_told c first) is' (told_then who a b d i j k h.0.told (void_told c first) h.0.left (subst (λ x. ToldOnChannels x b d j k (void_told c first)) is v.0)) m
+-- ---- no memory was found
+
+module _ (who c : ℕ) (a b d : Floor) (i j k : List Item) (m : Memory) where
+  pub wakes_stopped : (h : Repeats (λ q. WakeClosed c q) who a b i j) → d ≡ b → k ≡ j → WokenAnswer who c a d i k (Err m)
+  wakes_stopped h e g = still_repeated (λ q. WakeClosed c q) who (Wakes c) (on_channels (NoReceiver c) ∷ []) a b d i j k h (record { places = h.of; all = refl }) e g
+
+  pub drains_stopped : (h : Repeats (drain_of c) who a b i j) → d ≡ b → k ≡ j → DrainedAnswer who c a d i k (Err m)
+  drains_stopped h e g = still_repeated (drain_of c) who (Drains c) (on_channels (NothingQueued c) ∷ on_channels (IsVoided c) ∷ []) a b d i j k h (record { drained = h.of; all = refl }) e g
+
+  -- the channel was closed
+  pub close_stopped : (who' v : ℕ) (first : Bool) → who' ≡ who → ClosedOnceAnswer who c v a b i j (Ok first) → WokenAnswer who' c b d j k (Err m) → ClosedAnswer who c v a d i k (Err m)
+  close_stopped who' v first is h s = part_then who who' (Wakes c) (Closes c v) h.0.told (λ all r. closes_goes c v first (h.0.told ++ all) (closes_by c v first h.0.told all h.0.goes r)) a b d i j k is h.0.left s
+
+  -- and not voided
+  pub void_stopped : (closed : Bool) → ClosedAnswer who c 0 a b i j (Ok closed) → IsUntouched b d j k → CancelledChannelAnswer who c a d i k (Err m)
+  void_stopped closed h s = part_stopped who (CancelsChannel c) h.0.told _ (CancelsChannel.before h.0.told _ _ (closes_goes c 0 closed h.0.told h.0.goes) (none_drained c) refl) a b d i j k h.0.left s
+
+-- nothing was told
+pub close_untold : (who c v : ℕ) (a b : Floor) (i j : List Item) → IsUntouched a b i j → ToldPart who (Closes c v) a b i j
+close_untold who c v a b i j h = part_none who (Closes c v) _ (Closes.before 0 _ (none_woken c)) a b i j h.floor h.book
+
+-- the close stopped
+pub cancel_untold : (who c : ℕ) (a b : Floor) (i j : List Item) (m : Memory) → ClosedAnswer who c 0 a b i j (Err m) → CancelledChannelAnswer who c a b i j (Err m)
+cancel_untold who c a b i j m h = record { told = h.told; goes = prefix_on (Closes c 0) (CancelsChannel c) _ (λ all r. CancelsChannel.before all _ _ r (none_drained c) refl) h.told h.goes; left = h.left }
+
+-- it was closed and voided
+pub cancel_stopped : (who who' who'' c : ℕ) (closed first : Bool) (a b d e : Floor) (i j k l : List Item) (m : Memory) → who' ≡ who → who'' ≡ who → ClosedAnswer who c 0 a b i j (Ok closed) → VoidedOnceAnswer who' c b d j k (Ok first) → DrainedAnswer who'' c d e k l (Err m)
+    → CancelledChannelAnswer who c a e i l (Err m)
+cancel_stopped who who' who'' c closed first a b d e i j k l m is is' h v s =
+    part_then who who'' (Drains c) (CancelsChannel c) (h.0.told ++ void_told c first) (λ all r. subst (CancelsChannel c) (sym (append_assoc h.0.told (void_told c first) all)) (cancels_goes c first _ (cancels_by c closed first h.0.told all h.0.goes r)))
+    a d e i k l is' (told_then who a b d i j k h.0.told (void_told c first) h.0.left (subst (λ x. ToldOnChannels x b d j k (void_told c first)) is v.0)) s

@@ -1,7 +1,8 @@
 -- What follows a Put tells.
-use Rattle.std.specs.Prelude.{◌≡◌, ℕ, ◌≤◌, Bool, true, false, ◌&&◌, List, [], ◌∷◌, ◌++◌, Ok, refl}
+use Rattle.std.specs.Prelude.{◌≡◌, ℕ, ◌≤◌, Bool, true, false, ◌&&◌, List, [], ◌∷◌, ◌++◌, Ok, Err, refl}
 use Rattle.std.specs.List.{list_all, list_any}
 use Rattle.std.proofs.Common.{sym, ap, ◌∙◌, subst}
+use Rattle.co_base.specs.declared.names.Memory.{Memory}
 use Rattle.channel_model.specs.declared.acts.Act.{Act}
 use Rattle.channel_model.specs.declared.acts.Act.TheVariants.{Drop}
 use Rattle.channel_model.specs.declared.acts.Kind.{Kind}
@@ -14,9 +15,9 @@ use Rattle.channel_model.proofs.Puts.{drop_follows, put_lasts}
 use Rattle.note_book.specs.declared.book.Item.{Item}
 use Rattle.note_book.specs.Items.{channel_acts_in}
 use Rattle.call_meaning.specs.Telling.{on_channels, FitsUpTo, items_in}
-use Rattle.channel_calls.specs.Calls.{DroppedAnswer}
+use Rattle.channel_calls.specs.Calls.{FollowsPut, DroppedAnswer}
 use Rattle.channel_calls.proofs.OwedWords.{up_to}
-use Rattle.channel_calls.proofs.Repeated.{Repeats, all_made, repeated_until}
+use Rattle.channel_calls.proofs.Repeated.{Repeats, all_made, repeated_until, still_repeated}
 
 -- an act that drops an element
 abbrev pub drop_of : ℕ → ℕ × ℕ → Act
@@ -58,3 +59,8 @@ dropped_all who who' c place n a b d e i j k is h r g look at follow = record {
   left = repeated_until (drop_of c) who who' n (FitsUpTo c place) a b d e i j k is h r g look
       (record { moment = at.moment; after = at.after; before = at.before; holds = ap (drops (kind_at d.shape c)) (up_to place ((replay at.moment).channels c).queue) ∙ at.holds });
 }
+
+-- no memory was found
+pub drops_stopped : (who c place : ℕ) (a b d : Floor) (i j k : List Item) (m : Memory) → (h : Repeats (drop_of c) who a b i j) → AllFollow (kind_at a.shape c) c place h.of → d ≡ b → k ≡ j → DroppedAnswer who c place a d i k (Err m)
+drops_stopped who c place a b d i j k m h follow e g = still_repeated (drop_of c) who (FollowsPut (kind_at a.shape c) c place) (on_channels (FitsUpTo c place) ∷ []) a b d i j k h
+    (record { drops = record { dropped = h.of; all = refl }; acts = acts_follow (kind_at a.shape c) c place h.of follow }) e g

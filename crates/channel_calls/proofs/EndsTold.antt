@@ -1,6 +1,7 @@
 -- What the end of a wait tells: as it was resolved, or taken back.
-use Rattle.std.specs.Prelude.{◌≡◌, ℕ, Bool, true, false, List, [], ◌∷◌, ◌++◌, Option, Some, None, Ok, refl}
+use Rattle.std.specs.Prelude.{◌≡◌, ℕ, Bool, true, false, List, [], ◌∷◌, ◌++◌, Option, Some, None, Ok, Err, refl}
 use Rattle.std.proofs.Common.{sym, ap, ◌∙◌, subst}
+use Rattle.co_base.specs.declared.names.Memory.{Memory}
 use Rattle.co_base.specs.declared.names.WaitId.{WaitId}
 use Rattle.channel_model.specs.declared.acts.Act.TheVariants.{Withdraw, Settle}
 use Rattle.channel_model.specs.declared.acts.ChannelNote.TheVariants.{Late}
@@ -22,11 +23,13 @@ use Rattle.note_book.specs.declared.book.Item.TheVariants as item
 use Rattle.call_meaning.specs.Telling.{Told, TakenBack, made, heard}
 use Rattle.call_meaning.specs.Facts.{IsTakenBack, is_taken_back}
 use Rattle.call_meaning.specs.Calls.{ToldOnChannels}
-use Rattle.call_meaning.specs.ChannelCalls.{Admits, GivesUp, is_given_up}
+use Rattle.call_meaning.specs.ChannelCalls.{Admits, is_given_up}
 use Rattle.call_meaning.proofs.ChannelsHeard.{told_then, told_roomed, told_made_after, told_met, moment_before}
 use Rattle.channel_calls.specs.Groups.{made_note, settle_group}
-use Rattle.channel_calls.specs.Calls.{Tells, HoldsWait, DispatchedAnswer, CancelledAnswer, AdmittedAnswer, TakesBack, end_told}
+use Rattle.channel_calls.specs.Calls.{Tells, ToldPart, IsUntouched, HoldsWait, DispatchedAnswer, CancelledAnswer, AdmittedAnswer, TakesBack, TakesBackSomehow, end_told}
 use Rattle.channel_calls.specs.Parts.{EndsCancelled, EndedCancelledAnswer}
+use Rattle.channel_calls.proofs.AdmitsTold.{none_admitted}
+use Rattle.channel_calls.proofs.Untold.{part_none, part_then}
 use Rattle.channel_calls.proofs.Roomed.{holds_roomed}
 use Rattle.channel_calls.proofs.WithdrawnWaits.{settle_told, withdrawn_end, withdrawn_told}
 
@@ -129,14 +132,13 @@ taken_back who who' w outcome a b d i j k is h m' =
       left = told_then who a b d i j k h.told m.told h.left m.left;
     }
 
--- ---- in the words of a coroutine that gives up
+-- ---- no memory was found
 
-end_gives_up : (w : WaitId) (outcome : Settled) → is_given_up outcome ≡ true → GivesUp w (made (Settle w outcome) ∷ [])
-end_gives_up w (settled.Value n v) e = cc
-end_gives_up w (settled.Sent n) e = cc
-end_gives_up w (settled.Closed n v) e = cc
-end_gives_up w settled.Cancelled e = GivesUp.dispatched
-end_gives_up w (settled.Undelivered v) e = GivesUp.undelivered v
+-- nothing was told
+pub end_untold : (who : ℕ) (w : WaitId) (a b : Floor) (i j : List Item) → IsUntouched a b i j → ToldPart who (TakesBackSomehow w) a b i j
+end_untold who w a b i j h = part_none who (TakesBackSomehow w) _ (settled.Cancelled, TakesBack.withdrawn _ (none_admitted w.channel)) a b i j h.floor h.book
 
-pub dispatch_gives_up : (who : ℕ) (w : WaitId) (a d : Floor) (i k : List Item) (outcome : Settled) → DispatchedAnswer who w true a d i k (Ok outcome) → GivesUp w (end_told w true outcome)
-dispatch_gives_up who w a d i k outcome h = end_gives_up w outcome (wait_cancelled ((replay a.seen).waits w) outcome h.1)
+-- the wait ended
+pub end_stopped : (who who' : ℕ) (w : WaitId) (outcome : Settled) (a b d : Floor) (i j k : List Item) (m : Memory) → who' ≡ who → EndedCancelledAnswer who w a b i j (Ok outcome) → AdmittedAnswer who' w.channel b d j k (Err m) → CancelledAnswer who w a d i k (Err m)
+end_stopped who who' w outcome a b d i j k m is h s =
+    part_then who who' (Admits w.channel) (TakesBackSomehow w) h.told (λ all r. (outcome, takes_back w outcome h.told all h.goes r)) a b d i j k is h.left s

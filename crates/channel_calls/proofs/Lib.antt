@@ -10,6 +10,7 @@ pub mod ReceivesTold
 pub mod SendsTold
 pub mod WithdrawnWaits
 pub mod EndsTold
+pub mod PlacedFull
 pub mod OwnClause
 pub mod OwnOffers
 pub mod AnswersGo

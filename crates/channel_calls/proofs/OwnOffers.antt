@@ -10,10 +10,10 @@ use Rattle.channel_model.specs.declared.acts.Entry.{Entry}
 use Rattle.channel_model.specs.declared.acts.Settled.TheVariants as settled
 use Rattle.channel_model.specs.declared.standing.Resolution.{Resolution}
 use Rattle.channel_model.specs.declared.floor.WaitState.TheVariants as state
-use Rattle.channel_model.specs.Channels.{State, Wait}
+use Rattle.channel_model.specs.Channels.{Shape, State, Wait}
 use Rattle.channel_model.specs.Histories.{replay, acts_of, Legal}
 use Rattle.channel_model.specs.Floors.{Floor, HasRoom, Looked, Made, AtStep}
-use Rattle.channel_model.specs.Answers.{LookAnswer, SettleAnswer, ClosedWith, IsOwn, IsOwnWait, IsReady, IsReadyWait, IsUnsettledOf, IsSeenVoided, state_of_wait, state_of_parts}
+use Rattle.channel_model.specs.Answers.{LookAnswer, SettleAnswer, ClosedWith, IsOwn, IsOwnWait, IsReady, IsReadyWait, IsUnsettledOf, IsSeenVoided, IsFullAt, state_of_wait, state_of_parts}
 use Rattle.channel_model.specs.PlainOffers.{IsPlainOffer, OffersPlainly}
 use Rattle.channel_model.proofs.Histories.{Legal-prefix, Legal-last}
 use Rattle.channel_model.proofs.Spans.{nothing_more, prefix_then, added_made}
@@ -29,11 +29,12 @@ use Rattle.call_meaning.proofs.ChannelsHeard.{told_then, told_roomed}
 use Rattle.channel_calls.specs.declared.caller.SendAnswer.{SendAnswer}
 use Rattle.channel_calls.specs.declared.caller.SendAnswer.TheVariants as send
 use Rattle.channel_calls.specs.Groups.{settle_group}
-use Rattle.channel_calls.specs.Calls.{Tells, Goes, HoldsWait, IsLeftWaiting, IsSeenWaiting, IsSent, IsUnsent, AdmittedAnswer, SentAnswer}
+use Rattle.channel_calls.specs.Calls.{Tells, Goes, GoesSomehow, HoldsWait, IsLeftWaiting, IsSeenWaiting, WasPlacedFull, IsSent, IsUnsent, AdmittedAnswer, SentAnswer}
 use Rattle.channel_calls.specs.Parts.{OwnOfferAnswer, AdmitsThen, HeldAnswer}
 use Rattle.channel_calls.proofs.EndsTold.{end_is_told}
 use Rattle.channel_calls.proofs.OwnClause.{plain_sent}
-use Rattle.channel_calls.proofs.Untold.{told_looked, some_then}
+use Rattle.channel_calls.proofs.PlacedFull.{placed_in_full}
+use Rattle.channel_calls.proofs.Untold.{told_looked, part_stopped, part_then}
 
 unsettled : (who c : ℕ) (b : Bool) (x : Option Wait) → IsPlainOffer who c b x → IsUnsettledOf who x
 unsettled who c b None h = h
@@ -199,7 +200,7 @@ held_then who who' w a b d i j k (Ok (send.Closed x)) is h m' =
       m'.1,
     )
 held_then who who' w a b d i j k (Ok send.Spent) is h m' = m'
-held_then who who' w a b d i j k (Err memory) is h m' = some_then who who' a b d i j k h.told is h.left m'
+held_then who who' w a b d i j k (Err memory) is h m' = part_stopped who (Admits w.channel) h.told [] (subst (Admits w.channel) (sym (nothing_more h.told)) h.goes) a b d i j k h.left m'
 
 -- a wait that a look found is left
 pub left_seen : (who : ℕ) (w : WaitId) (told : List Told) (a d : Floor) (i k : List Item) → IsSeenWaiting who w told a d i k → IsLeftWaiting who w (channel_acts_in (items_in told)) a d
@@ -225,8 +226,17 @@ module _ (who c v q : ℕ) (a b d : Floor) (i j k : List Item) (o : ToldOnChanne
   seen_offered : (told : List Told) → IsSeenWaiting who (wait_at c q) told b d j k → IsSeenWaiting who (wait_at c q) (first ++ told) a d i k
   seen_offered told m = record { between = m.between; before = told_then who a b m.between i j k first told o m.before; look = m.look; holds = m.holds }
 
-  pub held_sends : (who' : ℕ) (result : Result SendAnswer Memory) → who' ≡ who → HeldAnswer who' (wait_at c q) b d j k result → SentAnswer who c v a d i k result
-  held_sends who' (Ok send.Sent) is m' =
+  -- it was placed in a full channel
+  placed_so : (n : ℕ) (z : Floor) (told : List Told) → Legal d.shape d.seen → HasRoom n a z → Made who (Offer c q v (wait_at c q) 0) z b → Admits c told → IsSeenWaiting who (wait_at c q) told b d j k → WasPlacedFull who c v q a d
+  placed_so n z told l r made_it h m = record {
+    before = made_it.before;
+    begins = subst (λ es. IsPrefix es made_it.before) r.seen made_it.longer;
+    placed = subst (λ es. IsPrefix es d.seen) made_it.last (prefix_then b.seen m.between.seen d.seen m.before.added.longer m.look.0.longer);
+    full = subst (λ (s : Shape). IsFullAt s c (replay made_it.before)) o.added.same.shape (placed_in_full who c v q z b m.between d j k told l made_it h m.before m.look);
+  }
+
+  pub held_sends : (who' n : ℕ) (z : Floor) (result : Result SendAnswer Memory) → who' ≡ who → Legal d.shape d.seen → HasRoom n a z → Made who (Offer c q v (wait_at c q) 0) z b → HeldAnswer who' (wait_at c q) b d j k result → SentAnswer who c v a d i k result
+  held_sends who' n z (Ok send.Sent) is l r made_it m' =
       let P : List Told → Type 0 = AdmitsThen c (made (Settle (wait_at c q) (settled.Sent 0)) ∷ []) in
       let m : Tells who P b d j k = subst (λ x. Tells x P b d j k) is m' in
       record {
@@ -234,11 +244,11 @@ module _ (who c v q : ℕ) (a b d : Floor) (i j k : List Item) (o : ToldOnChanne
         goes = IsSent.offered q m.goes.admits (first ++ m.told) m.goes.goes (ap (λ l. first ++ l) m.goes.all);
         left = told_then who a b d i j k first m.told o m.left;
       }
-  held_sends who' (Ok (send.Waits u)) is m' =
+  held_sends who' n z (Ok (send.Waits u)) is l r made_it m' =
       let m : HeldAnswer who (wait_at c q) b d j k (Ok (send.Waits u)) = subst (λ x. HeldAnswer x (wait_at c q) b d j k (Ok (send.Waits u))) is m' in
       let t : Tells who (Goes (sends c v) (Waits (wait_at c q))) a d i k = record { told = first ++ m.1.told; goes = PlainCall.offers c v q m.1.told m.1.goes; left = told_then who a b d i j k first m.1.told o m.1.left } in
-      subst (λ w. SentAnswer who c v a d i k (Ok (send.Waits w))) (sym m.0) (t, seen_offered m.1.told m.2)
-  held_sends who' (Ok (send.Closed x)) is m' =
+      subst (λ w. SentAnswer who c v a d i k (Ok (send.Waits w))) (sym m.0) (t, seen_offered m.1.told m.2, placed_so n z m.1.told l r made_it m.1.goes m.2)
+  held_sends who' n z (Ok (send.Closed x)) is l r made_it m' =
       let P : List Told → Type 0 = AdmitsThen c (on_channels (TakenBack (wait_at c q)) ∷ made (Settle (wait_at c q) settled.Cancelled) ∷ []) in
       let m : Tells who P b d j k = subst (λ x. Tells x P b d j k) is m'.0 in (
         record {
@@ -248,5 +258,5 @@ module _ (who c v q : ℕ) (a b d : Floor) (i j k : List Item) (o : ToldOnChanne
         },
         m'.1,
       )
-  held_sends who' (Ok send.Spent) is m' = absurd m'
-  held_sends who' (Err memory) is m' = some_then who who' a b d i j k first is o m'
+  held_sends who' n z (Ok send.Spent) is l r made_it m' = absurd m'
+  held_sends who' n z (Err memory) is l r made_it m' = part_then who who' (Admits c) (GoesSomehow (sends c v)) first (λ all h. (Waits (wait_at c q), PlainCall.offers c v q all h)) a b d i j k is o m'

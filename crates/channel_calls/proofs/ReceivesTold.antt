@@ -1,6 +1,7 @@
 -- What a receive tells, by the floor's answer.
-use Rattle.std.specs.Prelude.{◌≡◌, ℕ, true, List, [], ◌∷◌, ◌++◌, Option, Some, None, is_some, Ok, refl}
+use Rattle.std.specs.Prelude.{◌≡◌, ℕ, true, List, [], ◌∷◌, ◌++◌, Option, Some, None, is_some, Ok, Err, refl}
 use Rattle.std.proofs.Common.{sym, ◌∙◌, subst}
+use Rattle.co_base.specs.declared.names.Memory.{Memory}
 use Rattle.channel_model.specs.declared.acts.Act.TheVariants.{Await, Take}
 use Rattle.channel_model.specs.declared.acts.ChannelNote.TheVariants.{ReceiveClosed, TryReceiveClosed, Empty, Spent}
 use Rattle.channel_model.specs.declared.acts.Entry.{Entry}
@@ -21,9 +22,10 @@ use Rattle.call_meaning.proofs.ChannelsHeard.{told_then, told_roomed, told_made,
 use Rattle.channel_calls.specs.declared.caller.ReceiveAnswer.TheVariants as receive
 use Rattle.channel_calls.specs.declared.caller.TryReceiveAnswer.TheVariants as try_receive
 use Rattle.channel_calls.specs.Groups.{made_note}
-use Rattle.channel_calls.specs.Calls.{Tells, ToldSome, Goes, GoesAtOnce, ReceivedAnswer, TryReceivedAnswer, AdmittedAnswer}
+use Rattle.channel_calls.specs.Calls.{Tells, ToldPart, Goes, GoesSomehow, GoesAtOnce, GoesAtOnceSomehow, ReceivedAnswer, TryReceivedAnswer, AdmittedAnswer}
 use Rattle.channel_calls.proofs.Begun.{receiver_waits}
-use Rattle.channel_calls.proofs.Untold.{some_then}
+use Rattle.channel_calls.proofs.AdmitsTold.{none_admitted}
+use Rattle.channel_calls.proofs.Untold.{part_none, part_of, part_then}
 
 -- a channel that was closed at a moment had its last close value
 pub closed_as : (shape : Shape) (c x : ℕ) (moment seen rest : List Entry) → moment ++ rest ≡ seen → Legal shape seen → is_some ((replay moment).channels c).closed ≡ true → ((replay seen).channels c).closed ≡ Some x → ((replay moment).channels c).closed ≡ Some x
@@ -60,8 +62,9 @@ module _ (who c n : ℕ) (a b d : Floor) (i j k : List Item) (h : HasRoom n a b)
         left = told_then who a d g i k l (made (Take c place v) ∷ []) m.told (take_told place v t o f) m.left;
       }
 
-  pub take_stopped : (who' place v : ℕ) (t : Option ℕ) (g : Floor) (l : List Item) → who' ≡ who → TakenFrom who c place v t b d → k ≡ j ++ made_note (Take c place v) ∷ [] → ToldSome who' d g k l → ToldSome who a g i l
-  take_stopped who' place v t g l is o f m = some_then who who' a d g i k l (made (Take c place v) ∷ []) is (take_told place v t o f) m
+  -- or no memory was found
+  pub take_stopped : (who' place v : ℕ) (t : Option ℕ) (g : Floor) (l : List Item) (m : Memory) → who' ≡ who → TakenFrom who c place v t b d → k ≡ j ++ made_note (Take c place v) ∷ [] → AdmittedAnswer who' c d g k l (Err m) → ToldPart who (GoesAtOnceSomehow (receives c)) a g i l
+  take_stopped who' place v t g l m is o f s = part_then who who' (Admits c) (GoesAtOnceSomehow (receives c)) (made (Take c place v) ∷ []) (λ all r. (Got v, AtOnce.takes c v place all r)) a d g i k l is (take_told place v t o f) s
 
   pub waiting : (place : ℕ) → Legal d.shape d.seen → GotAnswer who c b d (got.Waiting place) → k ≡ j ++ made_note (Await c place (wait_at c place) 0) ∷ [] → ReceivedAnswer who c a d i k (Ok (receive.Waits (wait_at c place)))
   unfolding items_in
@@ -101,3 +104,13 @@ module _ (who c n : ℕ) (a b d : Floor) (i j k : List Item) (h : HasRoom n a b)
 -- a receive that waits where it must goes so too
 pub received : (who c v : ℕ) (a d : Floor) (i k : List Item) → Tells who (GoesAtOnce (receives c) (Got v)) a d i k → Tells who (Goes (receives c) (Got v)) a d i k
 received who c v a d i k t = record { told = t.told; goes = PlainCall.at_once (receives c) t.told (Got v) t.goes; left = t.left }
+
+-- ---- a receive that found no memory
+
+-- a receive that waits where it must stops so too
+pub receive_stopped : (who c : ℕ) (a d : Floor) (i k : List Item) → ToldPart who (GoesAtOnceSomehow (receives c)) a d i k → ToldPart who (GoesSomehow (receives c)) a d i k
+receive_stopped who c a d i k h = part_of who (GoesAtOnceSomehow (receives c)) (GoesSomehow (receives c)) (λ all g. (g.0, PlainCall.at_once (receives c) all g.0 g.1)) a d i k h
+
+-- nothing was told
+pub receive_untold : (who c : ℕ) (a b : Floor) (i j : List Item) → b ≡ a → j ≡ i → ToldPart who (GoesAtOnceSomehow (receives c)) a b i j
+receive_untold who c a b i j e f = part_none who (GoesAtOnceSomehow (receives c)) _ (Got 0, AtOnce.takes c 0 0 _ (none_admitted c)) a b i j e f

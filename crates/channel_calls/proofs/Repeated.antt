@@ -13,8 +13,8 @@ use Rattle.call_meaning.specs.Calls.{ToldOnChannels}
 use Rattle.call_meaning.proofs.ChannelsHeard.{told_then, told_roomed, told_made, moment_before}
 use Rattle.channel_calls.specs.Groups.{made_note}
 use Rattle.channel_calls.specs.declared.caller.Caller.{Caller}
-use Rattle.channel_calls.specs.Calls.{SameCaller, ToldSome}
-use Rattle.channel_calls.proofs.Untold.{told_none, told_seen, told_some}
+use Rattle.channel_calls.specs.Calls.{SameCaller, ToldPart}
+use Rattle.channel_calls.proofs.Untold.{told_none, told_seen, part_stopped}
 
 -- ---- the caller, once more
 
@@ -76,5 +76,5 @@ module _ {X : Type 0} (f : X → Act) (who : ℕ) where
       (told_roomed who n b d e j k k (on_channels fact ∷ []) r g (told_seen who fact d e k k (subst (λ y. Looked y d e) is look) at refl))
 
   -- no memory was found
-  pub still_repeated : (a b d : Floor) (i j k : List Item) → (h : Repeats f who a b i j) → d ≡ b → k ≡ j → ToldSome who a d i k
-  still_repeated a b d i j k h e g = told_some who a d i k (all_made f h.of) (subst (λ l. ToldOnChannels who a d i l (all_made f h.of)) (sym g) (subst (λ x. ToldOnChannels who a x i j (all_made f h.of)) (sym e) h.left))
+  pub still_repeated : (P : List Told → Type 0) (end : List Told) (a b d : Floor) (i j k : List Item) → (h : Repeats f who a b i j) → P (all_made f h.of ++ end) → d ≡ b → k ≡ j → ToldPart who P a d i k
+  still_repeated P end a b d i j k h p e g = part_stopped who P (all_made f h.of) end p a b d i j k h.left (record { floor = e; book = g })

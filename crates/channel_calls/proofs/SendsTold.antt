@@ -1,6 +1,7 @@
 -- What a send tells, by the floor's answer to its offer.
-use Rattle.std.specs.Prelude.{◌≡◌, ℕ, List, [], ◌∷◌, ◌++◌, Ok, refl}
+use Rattle.std.specs.Prelude.{◌≡◌, ℕ, List, [], ◌∷◌, ◌++◌, Ok, Err, refl}
 use Rattle.std.proofs.Common.{subst}
+use Rattle.co_base.specs.declared.names.Memory.{Memory}
 use Rattle.channel_model.specs.declared.acts.Act.TheVariants.{Hand, Put, Offer}
 use Rattle.channel_model.specs.declared.acts.ChannelNote.TheVariants.{SendClosed, TrySendClosed, Full, Spent}
 use Rattle.channel_model.specs.declared.floor.Offered.TheVariants as offered
@@ -20,8 +21,8 @@ use Rattle.call_meaning.proofs.ChannelsHeard.{told_then, told_roomed, told_made,
 use Rattle.channel_calls.specs.declared.caller.SendAnswer.TheVariants as send
 use Rattle.channel_calls.specs.declared.caller.TrySendAnswer.TheVariants as try_send
 use Rattle.channel_calls.specs.Groups.{made_note}
-use Rattle.channel_calls.specs.Calls.{Tells, ToldSome, GoesAtOnce, FollowsPut, IsSent, IsUnsent, SentAnswer, TrySentAnswer, DroppedAnswer}
-use Rattle.channel_calls.proofs.Untold.{some_then}
+use Rattle.channel_calls.specs.Calls.{Tells, ToldPart, GoesSomehow, GoesAtOnce, GoesAtOnceSomehow, FollowsPut, IsSent, IsUnsent, SentAnswer, TrySentAnswer, DroppedAnswer}
+use Rattle.channel_calls.proofs.Untold.{part_none, part_of, part_then}
 
 module _ (who c v n : ℕ) (a b d : Floor) (i j k : List Item) (h : HasRoom n a b) (e : j ≡ i) where
   pub handed : (place t : ℕ) → HandedTo who c v place t b d → k ≡ j ++ made_note (Hand c place v) ∷ [] → Tells who (GoesAtOnce (sends c v) Done) a d i k
@@ -45,8 +46,9 @@ module _ (who c v n : ℕ) (a b d : Floor) (i j k : List Item) (h : HasRoom n a 
         left = told_then who a d g i k l (made (Put c place v) ∷ []) m.told (put_told place o f) m.left;
       }
 
-  pub put_stopped : (who' place : ℕ) (g : Floor) (l : List Item) → who' ≡ who → Made who (Put c place v) b d → k ≡ j ++ made_note (Put c place v) ∷ [] → ToldSome who' d g k l → ToldSome who a g i l
-  put_stopped who' place g l is o f m = some_then who who' a d g i k l (made (Put c place v) ∷ []) is (put_told place o f) m
+  -- or no memory was found
+  pub put_stopped : (who' place : ℕ) (g : Floor) (l : List Item) (m : Memory) → who' ≡ who → Made who (Put c place v) b d → k ≡ j ++ made_note (Put c place v) ∷ [] → DroppedAnswer who' c place d g k l (Err m) → ToldPart who (GoesAtOnceSomehow (sends c v)) a g i l
+  put_stopped who' place g l m is o f s = part_then who who' (FollowsPut (kind_at d.shape c) c place) (GoesAtOnceSomehow (sends c v)) (made (Put c place v) ∷ []) (λ all r. (Done, AtOnce.puts c v place all r.drops)) a d g i k l is (put_told place o f) s
 
   -- an offer that waits, at a channel that was full
   pub offer_told : (place : ℕ) → OfferAnswer who c v b d (offered.Held place) → k ≡ j ++ made_note (Offer c place v (wait_at c place) 0) ∷ [] → ToldOnChannels who a d i k (on_channels (WasFull c) ∷ made (Offer c place v (wait_at c place) 0) ∷ [])
@@ -93,3 +95,13 @@ module _ (who c v n : ℕ) (a b d : Floor) (i j k : List Item) (h : HasRoom n a 
 -- a send that waits where it must is sent so too
 pub sent : (who c v : ℕ) (a d : Floor) (i k : List Item) → Tells who (GoesAtOnce (sends c v) Done) a d i k → Tells who (IsSent c v) a d i k
 sent who c v a d i k t = record { told = t.told; goes = IsSent.at_once t.told t.goes; left = t.left }
+
+-- ---- a send that found no memory
+
+-- a send that waits where it must stops so too
+pub send_stopped : (who c v : ℕ) (a d : Floor) (i k : List Item) → ToldPart who (GoesAtOnceSomehow (sends c v)) a d i k → ToldPart who (GoesSomehow (sends c v)) a d i k
+send_stopped who c v a d i k h = part_of who (GoesAtOnceSomehow (sends c v)) (GoesSomehow (sends c v)) (λ all g. (g.0, PlainCall.at_once (sends c v) all g.0 g.1)) a d i k h
+
+-- nothing was told
+pub send_untold : (who c v : ℕ) (a b : Floor) (i j : List Item) → b ≡ a → j ≡ i → ToldPart who (GoesAtOnceSomehow (sends c v)) a b i j
+send_untold who c v a b i j e f = part_none who (GoesAtOnceSomehow (sends c v)) (made (Hand c 0 v) ∷ []) (Done, AtOnce.hands c v 0) a b i j e f

@@ -1,10 +1,12 @@
 -- What each call comes to, by cases on its answer: what it tells is noted, its acts are the entries that it added, and all of it was so.
 use Rattle.std.specs.Prelude.{◌≡◌, ℕ, Bool, true, false, List, [], ◌∷◌, ◌++◌, Some, Result, Ok, Err}
+use mathlib.Core.List.{IsPrefix}
 use Rattle.co_base.specs.declared.names.WaitId.{WaitId}
 use Rattle.co_base.specs.declared.names.Memory.{Memory}
 use Rattle.channel_model.specs.declared.acts.Act.{Act}
 use Rattle.channel_model.specs.declared.acts.Act.TheVariants.{Close, Void, Withdraw, Settle}
 use Rattle.channel_model.specs.declared.acts.ChannelNote.TheVariants.{SendClosed, TrySendClosed, TryReceiveClosed, AlreadyClosed, Late}
+use Rattle.channel_model.specs.declared.acts.Entry.{Entry}
 use Rattle.channel_model.specs.declared.acts.Kind.{Kind}
 use Rattle.channel_model.specs.declared.acts.Settled.{Settled}
 use Rattle.channel_model.specs.declared.acts.Settled.TheVariants as settled
@@ -13,13 +15,15 @@ use Rattle.channel_model.specs.declared.floor.WaitState.TheVariants as state
 use Rattle.channel_model.specs.Channels.{kind_at}
 use Rattle.channel_model.specs.Histories.{replay}
 use Rattle.channel_model.specs.Floors.{Floor, AtMoment}
-use Rattle.channel_model.specs.Answers.{IsUnsettledOf, LookAnswer, IsSeenClosed, IsSeenVoided, outcome_at, state_of_wait}
+use Rattle.channel_model.specs.Answers.{IsFullAt, IsUnsettledOf, LookAnswer, IsSeenClosed, IsSeenVoided, outcome_at, state_of_wait}
+use Rattle.channel_model.specs.PlainOffers.{plain_offer}
 use Rattle.channel_model.specs.Puts.{after_put}
 use Rattle.note_book.specs.declared.book.Item.{Item}
 use Rattle.note_book.specs.Items.{channel_acts_in}
 use Rattle.call_meaning.specs.Telling.{Told, on_channels, TakenBack, items_in, made, heard}
 use Rattle.call_meaning.specs.Facts.{IsClosedWith}
-use Rattle.call_meaning.specs.ChannelCalls.{Answer, Done, Got, Closed, Waits, NoPlace, Call, sends, receives, wait_at, offer_told, blocked, spent, Admits, Drops, Wakes, Drains, Closes, AtOnce, PlainCall, is_given_up}
+use Rattle.call_meaning.specs.ChannelCalls.{Answer, Done, Got, Closed, Waits, NoPlace, Call, sends, receives, wait_at, offer_told, blocked, spent, Admits, Drops, Wakes, Drains, Closes, CancelsChannel, AtOnce, PlainCall, is_given_up}
+use Rattle.call_meaning.specs.Prefixes.{PrefixOf}
 use Rattle.call_meaning.specs.Calls.{ToldOnChannels}
 use Rattle.channel_calls.specs.declared.caller.Caller.{Caller}
 use Rattle.channel_calls.specs.declared.caller.SendAnswer.{SendAnswer}
@@ -54,20 +58,32 @@ pub record Tells (who : ℕ) (P : List Told → Type 0) (old new : Floor) (items
   pub goes : P told
   pub left : ToldOnChannels who old new items items' told
 
-abbrev pub Anything : List Told → Type 0
-Anything told = Unit {0}
-
--- no memory was found; what the call had told by then stands
-abbrev pub ToldSome : ℕ → Floor → Floor → List Item → List Item → Type 0
-ToldSome who old new i i' = Tells who Anything old new i i'
+-- no memory was found; what the call told by then begins a list that P accepts
+abbrev pub ToldPart : ℕ → (List Told → Type 0) → Floor → Floor → List Item → List Item → Type 0
+ToldPart who P old new i i' = Tells who (PrefixOf P) old new i i'
 
 -- a send or receive goes so
 abbrev pub Goes : Call → Answer → List Told → Type 0
 Goes call a told = PlainCall call told a
 
+-- with some answer
+abbrev pub GoesSomehow : Call → List Told → Type 0
+GoesSomehow call told = (a : Answer) × PlainCall call told a
+
 -- a call finds a partner, or room
 abbrev pub GoesAtOnce : Call → Answer → List Told → Type 0
 GoesAtOnce call a told = AtOnce call told a
+
+-- with some answer
+abbrev pub GoesAtOnceSomehow : Call → List Told → Type 0
+GoesAtOnceSomehow call told = (a : Answer) × AtOnce call told a
+
+abbrev pub Anything : List Told → Type 0
+Anything told = Unit {0}
+
+-- what the call told stands, whatever it is
+abbrev pub ToldSome : ℕ → Floor → Floor → List Item → List Item → Type 0
+ToldSome who old new i i' = Tells who Anything old new i i'
 
 -- ---- waits
 
@@ -104,14 +120,23 @@ pub data IsUnsent (c v x : ℕ) : List Told → Type 0 where
       ++ on_channels (TakenBack (wait_at c q)) ∷ made (Settle (wait_at c q) settled.Cancelled) ∷ []
       → IsUnsent c v x all
 
+-- when the call placed its offer, at least as many offers stood as the channel keeps
+pub record WasPlacedFull (who c v place : ℕ) (old new : Floor) : Type 0 where
+  pub before : List Entry
+  pub begins : IsPrefix old.seen before
+  pub placed : IsPrefix (before ++ plain_offer who c place v ∷ []) new.seen
+  pub full : IsFullAt old.shape c (replay before)
+
 abbrev pub SentAnswer : ℕ → ℕ → ℕ → Floor → Floor → List Item → List Item → Result SendAnswer Memory → Type 0
 SentAnswer who c v old new i i' (Ok send.Sent) = Tells who (IsSent c v) old new i i'
 SentAnswer who c v old new i i' (Ok (send.Waits w)) =
-    (t : Tells who (Goes (sends c v) (Waits w)) old new i i') × IsSeenWaiting who w t.told old new i i'
+    (t : Tells who (Goes (sends c v) (Waits w)) old new i i')
+    × IsSeenWaiting who w t.told old new i i'
+    × WasPlacedFull who c v w.place old new
 SentAnswer who c v old new i i' (Ok (send.Closed x)) =
     Tells who (IsUnsent c v x) old new i i' × IsClosedWith c x (replay new.seen)
 SentAnswer who c v old new i i' (Ok send.Spent) = Tells who (Goes (sends c v) NoPlace) old new i i'
-SentAnswer who c v old new i i' (Err m) = ToldSome who old new i i'
+SentAnswer who c v old new i i' (Err m) = ToldPart who (GoesSomehow (sends c v)) old new i i'
 
 -- the same without waiting
 abbrev pub TrySentAnswer : ℕ → ℕ → ℕ → Floor → Floor → List Item → List Item → Result TrySendAnswer Memory → Type 0
@@ -120,7 +145,7 @@ TrySentAnswer who c v old new i i' (Ok try_send.Full) = ToldOnChannels who old n
 TrySentAnswer who c v old new i i' (Ok (try_send.Closed x)) =
     ToldOnChannels who old new i i' (heard (TrySendClosed c v x) ∷ [])
 TrySentAnswer who c v old new i i' (Ok try_send.Spent) = ToldOnChannels who old new i i' (spent (sends c v))
-TrySentAnswer who c v old new i i' (Err m) = ToldSome who old new i i'
+TrySentAnswer who c v old new i i' (Err m) = ToldPart who (GoesAtOnceSomehow (sends c v)) old new i i'
 
 -- ---- receive
 
@@ -131,7 +156,7 @@ ReceivedAnswer who c old new i i' (Ok (receive.Waits w)) =
     × IsLeftWaiting who w (channel_acts_in (items_in t.told)) old new
 ReceivedAnswer who c old new i i' (Ok (receive.Closed x)) = Tells who (Goes (receives c) (Closed x)) old new i i'
 ReceivedAnswer who c old new i i' (Ok receive.Spent) = Tells who (Goes (receives c) NoPlace) old new i i'
-ReceivedAnswer who c old new i i' (Err m) = ToldSome who old new i i'
+ReceivedAnswer who c old new i i' (Err m) = ToldPart who (GoesSomehow (receives c)) old new i i'
 
 -- the same without waiting
 abbrev pub TryReceivedAnswer : ℕ → ℕ → Floor → Floor → List Item → List Item → Result TryReceiveAnswer Memory → Type 0
@@ -139,14 +164,14 @@ TryReceivedAnswer who c old new i i' (Ok (try_receive.Value v)) = Tells who (Goe
 TryReceivedAnswer who c old new i i' (Ok try_receive.Empty) = ToldOnChannels who old new i i' (blocked (receives c) ∷ [])
 TryReceivedAnswer who c old new i i' (Ok (try_receive.Closed x)) =
     ToldOnChannels who old new i i' (heard (TryReceiveClosed c x) ∷ [])
-TryReceivedAnswer who c old new i i' (Err m) = ToldSome who old new i i'
+TryReceivedAnswer who c old new i i' (Err m) = ToldPart who (GoesAtOnceSomehow (receives c)) old new i i'
 
 -- ---- what follows an act
 
 -- those were admitted for whom the channel has room
 abbrev pub AdmittedAnswer : ℕ → ℕ → Floor → Floor → List Item → List Item → Result (Unit {0}) Memory → Type 0
 AdmittedAnswer who c old new i i' (Ok done) = Tells who (Admits c) old new i i'
-AdmittedAnswer who c old new i i' (Err m) = ToldSome who old new i i'
+AdmittedAnswer who c old new i i' (Err m) = ToldPart who (Admits c) old new i i'
 
 -- what follows a Put at this place of a channel of this kind
 pub record FollowsPut (kind : Kind) (c place : ℕ) (told : List Told) : Type 0 where
@@ -155,7 +180,7 @@ pub record FollowsPut (kind : Kind) (c place : ℕ) (told : List Told) : Type 0 
 
 abbrev pub DroppedAnswer : ℕ → ℕ → ℕ → Floor → Floor → List Item → List Item → Result (Unit {0}) Memory → Type 0
 DroppedAnswer who c place old new i i' (Ok done) = Tells who (FollowsPut (kind_at old.shape c) c place) old new i i'
-DroppedAnswer who c place old new i i' (Err m) = ToldSome who old new i i'
+DroppedAnswer who c place old new i i' (Err m) = ToldPart who (FollowsPut (kind_at old.shape c) c place) old new i i'
 
 -- ---- close and cancel
 
@@ -166,7 +191,7 @@ pub data ClosesBy (c v : ℕ) : Bool → List Told → Type 0 where
 
 abbrev pub ClosedAnswer : ℕ → ℕ → ℕ → Floor → Floor → List Item → List Item → Result Bool Memory → Type 0
 ClosedAnswer who c v old new i i' (Ok first) = Tells who (ClosesBy c v first) old new i i' × IsSeenClosed c new
-ClosedAnswer who c v old new i i' (Err m) = ToldSome who old new i i'
+ClosedAnswer who c v old new i i' (Err m) = ToldPart who (Closes c v) old new i i'
 
 -- the channel was closed with 0, or had been; then it was voided by this call, or had been, and no element is left
 pub data CancelsBy (c : ℕ) : Bool → List Told → Type 0 where
@@ -177,7 +202,7 @@ pub data CancelsBy (c : ℕ) : Bool → List Told → Type 0 where
 
 abbrev pub CancelledChannelAnswer : ℕ → ℕ → Floor → Floor → List Item → List Item → Result Bool Memory → Type 0
 CancelledChannelAnswer who c old new i i' (Ok first) = Tells who (CancelsBy c first) old new i i' × IsSeenVoided c new
-CancelledChannelAnswer who c old new i i' (Err m) = ToldSome who old new i i'
+CancelledChannelAnswer who c old new i i' (Err m) = ToldPart who (CancelsChannel c) old new i i'
 
 -- ---- the end of a wait
 
@@ -200,6 +225,10 @@ pub data TakesBack (w : WaitId) : Settled → List Told → Type 0 where
   late : (outcome : Settled) (admits : List Told) → is_given_up outcome ≡ true → Admits w.channel admits
       → TakesBack w outcome (heard (Late w) ∷ made (Settle w outcome) ∷ admits)
 
+-- with some outcome
+abbrev pub TakesBackSomehow : WaitId → List Told → Type 0
+TakesBackSomehow w told = (outcome : Settled) × TakesBack w outcome told
+
 abbrev pub CancelledAnswer : ℕ → WaitId → Floor → Floor → List Item → List Item → Result Settled Memory → Type 0
 CancelledAnswer who w old new i i' (Ok outcome) = Tells who (TakesBack w outcome) old new i i'
-CancelledAnswer who w old new i i' (Err m) = ToldSome who old new i i'
+CancelledAnswer who w old new i i' (Err m) = ToldPart who (TakesBackSomehow w) old new i i'

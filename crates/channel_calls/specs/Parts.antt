@@ -18,7 +18,7 @@ use Rattle.call_meaning.specs.ChannelCalls.{Admits, Wakes, Drains, is_given_up}
 use Rattle.call_meaning.specs.Calls.{ToldOnChannels}
 use Rattle.channel_calls.specs.declared.caller.SendAnswer.{SendAnswer}
 use Rattle.channel_calls.specs.declared.caller.SendAnswer.TheVariants as send
-use Rattle.channel_calls.specs.Calls.{Tells, ToldSome, HoldsWait, IsSeenWaiting}
+use Rattle.channel_calls.specs.Calls.{Tells, ToldPart, IsUntouched, HoldsWait, IsSeenWaiting}
 
 -- ---- to admit
 
@@ -29,14 +29,14 @@ pub record AdmitsBelow (c mark : ℕ) (told : List Told) : Type 0 where
 
 abbrev pub AdmittedBelowAnswer : ℕ → ℕ → ℕ → Floor → Floor → List Item → List Item → Result (Unit {0}) Memory → Type 0
 AdmittedBelowAnswer who c mark old new i i' (Ok done) = Tells who (AdmitsBelow c mark) old new i i'
-AdmittedBelowAnswer who c mark old new i i' (Err m) = ToldSome who old new i i'
+AdmittedBelowAnswer who c mark old new i i' (Err m) = ToldPart who (AdmitsBelow c mark) old new i i'
 
 -- ---- to close
 
 -- each receiver was told
 abbrev pub WokenAnswer : ℕ → ℕ → Floor → Floor → List Item → List Item → Result (Unit {0}) Memory → Type 0
 WokenAnswer who c old new i i' (Ok done) = Tells who (Wakes c) old new i i'
-WokenAnswer who c old new i i' (Err m) = ToldSome who old new i i'
+WokenAnswer who c old new i i' (Err m) = ToldPart who (Wakes c) old new i i'
 
 -- the channel was closed by this call, or had been
 pub data ClosesOnce (c v : ℕ) : Bool → List Told → Type 0 where
@@ -45,7 +45,7 @@ pub data ClosesOnce (c v : ℕ) : Bool → List Told → Type 0 where
 
 abbrev pub ClosedOnceAnswer : ℕ → ℕ → ℕ → Floor → Floor → List Item → List Item → Result Bool Memory → Type 0
 ClosedOnceAnswer who c v old new i i' (Ok first) = Tells who (ClosesOnce c v first) old new i i' × IsSeenClosed c new
-ClosedOnceAnswer who c v old new i i' (Err m) = ToldSome who old new i i'
+ClosedOnceAnswer who c v old new i i' (Err m) = IsUntouched old new i i'
 
 -- ---- to cancel
 
@@ -56,12 +56,12 @@ void_told c false = []
 
 abbrev pub VoidedOnceAnswer : ℕ → ℕ → Floor → Floor → List Item → List Item → Result Bool Memory → Type 0
 VoidedOnceAnswer who c old new i i' (Ok first) = ToldOnChannels who old new i i' (void_told c first) × IsSeenVoided c new
-VoidedOnceAnswer who c old new i i' (Err m) = ToldSome who old new i i'
+VoidedOnceAnswer who c old new i i' (Err m) = IsUntouched old new i i'
 
 -- each element was removed
 abbrev pub DrainedAnswer : ℕ → ℕ → Floor → Floor → List Item → List Item → Result (Unit {0}) Memory → Type 0
 DrainedAnswer who c old new i i' (Ok done) = Tells who (Drains c) old new i i'
-DrainedAnswer who c old new i i' (Err m) = ToldSome who old new i i'
+DrainedAnswer who c old new i i' (Err m) = ToldPart who (Drains c) old new i i'
 
 -- ---- the own offer of a send, and the admits before
 
@@ -74,7 +74,7 @@ OwnOfferAnswer who w old new i i' (Ok (send.Closed x)) =
     ToldOnChannels who old new i i' (on_channels (TakenBack w) ∷ made (Settle w settled.Cancelled) ∷ [])
     × IsClosedWith w.channel x (replay new.seen)
 OwnOfferAnswer who w old new i i' (Ok send.Spent) = ⊥
-OwnOfferAnswer who w old new i i' (Err m) = ToldSome who old new i i'
+OwnOfferAnswer who w old new i i' (Err m) = IsUntouched old new i i'
 
 -- those were admitted for whom there is room, and then this came
 pub record AdmitsThen (c : ℕ) (end told : List Told) : Type 0 where
@@ -94,7 +94,7 @@ HeldAnswer who w old new i i' (Ok (send.Closed x)) =
     Tells who (AdmitsThen w.channel (on_channels (TakenBack w) ∷ made (Settle w settled.Cancelled) ∷ [])) old new i i'
     × IsClosedWith w.channel x (replay new.seen)
 HeldAnswer who w old new i i' (Ok send.Spent) = ⊥
-HeldAnswer who w old new i i' (Err m) = ToldSome who old new i i'
+HeldAnswer who w old new i i' (Err m) = ToldPart who (Admits w.channel) old new i i'
 
 -- ---- the end of a wait that meets a cancellation
 
@@ -106,4 +106,4 @@ pub data EndsCancelled (w : WaitId) : Settled → List Told → Type 0 where
 
 abbrev pub EndedCancelledAnswer : ℕ → WaitId → Floor → Floor → List Item → List Item → Result Settled Memory → Type 0
 EndedCancelledAnswer who w old new i i' (Ok outcome) = Tells who (EndsCancelled w outcome) old new i i'
-EndedCancelledAnswer who w old new i i' (Err m) = ToldSome who old new i i'
+EndedCancelledAnswer who w old new i i' (Err m) = IsUntouched old new i i'

@@ -1,6 +1,6 @@
 -- The clauses are tried one after the other.
 use Rattle.std.specs.Prelude.{◌≡◌, ℕ, ◌+◌, ◌<◌, ◌⊎◌, Bool, List, [], ◌∷◌, ◌++◌, length, map, take, drop, Some, Ok, Err, slice_get, refl}
-use Rattle.std.proofs.Common.{sym, ap, subst, ◌∙◌, arith, ⊎_elim}
+use Rattle.std.proofs.Common.{sym, ap, subst, ◌∙◌, arith, inl, ⊎_elim}
 use Rattle.co_base.specs.declared.names.Memory.{Memory}
 use Rattle.channel_model.specs.Channels.{Shape, kind_at, is_signal}
 use Rattle.channel_model.specs.Histories.{replay}
@@ -8,14 +8,19 @@ use Rattle.channel_model.specs.Floors.{Floor, SameSetting}
 use Rattle.note_book.specs.declared.book.Item.{Item}
 use Rattle.call_meaning.specs.Calls.{ToldOnChannels}
 use Rattle.call_meaning.specs.ChannelCalls.{Call, sends, receives, blocked, SelectCall}
+use Rattle.call_meaning.specs.Prefixes.{PrefixOf}
+use Rattle.call_meaning.proofs.Prefixes.{prefix_behind}
 use Rattle.call_meaning.proofs.ChannelsHeard.{told_nothing, told_then}
 use Rattle.select_calls.specs.declared.clause.Outcome.{Outcome}
 use Rattle.select_calls.specs.declared.tries.Tried.{Tried}
 use Rattle.select_calls.specs.declared.tries.Tried.TheVariants as tried
 use Rattle.select_calls.specs.declared.tries.Tries.{Tries}
 use Rattle.select_calls.specs.declared.tries.Tries.TheVariants as tries
+use Rattle.channel_calls.specs.Calls.{GoesAtOnceSomehow}
 use Rattle.select_calls.specs.Clauses.{MaySelect}
+use Rattle.select_calls.specs.Selects.{places, SelectsSomehow}
 use Rattle.select_calls.specs.Parts.{MayWait, BlockedAt, IsSpentSend, TriedAt, AreBlocked, TriesAnswer, TriesAll}
+use Rattle.select_calls.proofs.PlacedOrSettled.{HasNo, none_in_first, none_in_both, at_once_places_none, blocked_place_none}
 use Rattle.select_calls.proofs.ClausesAt.{take_next, split_at, length_take, map_next}
 
 -- the same answer by another name of the caller, and of what was answered
@@ -82,7 +87,18 @@ module _ (who : ℕ) (calls : List Call) (n : ℕ) (a b d : Floor) (i j k : List
       by_call (receives c) e is = absurd is
 
   pub one_stopped : (m : Memory) → TriedAt who calls n b d j k (Err m) → TriesAnswer who calls a d i k (Err m)
-  one_stopped m t = record { told = map blocked (take n calls) ++ t.answer.told; goes = tt; left = told_then who a b d i j k (map blocked (take n calls)) t.answer.told h.told t.answer.left }
+  one_stopped m t =
+      let part : PrefixOf (GoesAtOnceSomehow t.call) t.answer.told = t.answer.goes in
+      let none : HasNo places t.answer.told = none_in_first places t.answer.told part.rest (at_once_places_none t.call (t.answer.told ++ part.rest) part.all.0 part.all.1) in
+      record {
+        told = map blocked (take n calls) ++ t.answer.told;
+        goes = record {
+          part = prefix_behind (GoesAtOnceSomehow t.call) (SelectsSomehow calls) (map blocked (take n calls))
+              (λ all r. (r.0, SelectCall.chooses (take n calls) (drop (n + 1) calls) t.call all (map blocked (take n calls) ++ all) r.0 (split_at calls n t.call t.at) r.1 refl)) t.answer.told part;
+          left = inl (none_in_both places (map blocked (take n calls)) t.answer.told (blocked_place_none (take n calls)) none);
+        };
+        left = told_then who a b d i j k (map blocked (take n calls)) t.answer.told h.told t.answer.left;
+      }
 
 -- what may be selected from stays so
 pub may_later : (who : ℕ) (calls : List Call) (a b : Floor) → MaySelect who calls a → SameSetting a b → MaySelect who calls b

@@ -51,3 +51,10 @@ length_take (y ∷ xs) (suc i) x e = ap suc (length_take xs i x e)
 pub map_next : {A B : Type 0} (f : A → B) (xs : List A) (x : A) → map f (xs ++ x ∷ []) ≡ map f xs ++ f x ∷ []
 map_next f [] x = refl
 map_next f (y ∷ xs) x = ap (λ l. f y ∷ l) (map_next f xs x)
+
+-- those up to a place, and what is left of the first so many
+pub take_before : {A : Type 0} (xs : List A) (count i : ℕ) (x : A) → i < count → slice_get xs i ≡ Some x → (later : List A) × (take count xs ≡ take i xs ++ x ∷ later)
+take_before [] count i x lt e = cc
+take_before (y ∷ xs) zero i x lt e = absurd (omega (arith, lt))
+take_before (y ∷ xs) (suc count) zero x lt e = (take count xs, let k : y ≡ x = cc in ap (λ z. z ∷ take count xs) k)
+take_before (y ∷ xs) (suc count) (suc i) x lt e = let t = take_before xs count i x (omega (arith, lt)) e in (t.0, ap (λ l. y ∷ l) t.1)

@@ -2,6 +2,7 @@ mod StillMoments
 mod SendsTried
 mod ReceivesTried
 mod ClausesAt
+mod PlacedOrSettled
 mod AllTried
 mod OwnClauses
 mod ClausesPlaced
@@ -9,4 +10,5 @@ mod ClausesApart
 mod AllPlaced
 mod Revoked
 mod AdmittedIn
+mod LeftBehind
 mod Stopping

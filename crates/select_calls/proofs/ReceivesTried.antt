@@ -1,6 +1,5 @@
 -- What a receive tells that is tried, by the floor's answer.
 use Rattle.std.specs.Prelude.{◌≡◌, ℕ, List, [], ◌∷◌, ◌++◌, Option, Ok, Err, refl}
-use Rattle.std.proofs.Common.{◌∙◌}
 use Rattle.co_base.specs.declared.names.Memory.{Memory}
 use Rattle.channel_model.specs.declared.acts.Act.TheVariants.{Take}
 use Rattle.channel_model.specs.declared.acts.ChannelNote.TheVariants.{ReceiveClosed, Empty}
@@ -12,10 +11,11 @@ use Rattle.note_book.specs.declared.book.Item.{Item}
 use Rattle.note_book.specs.declared.book.Item.TheVariants as item
 use Rattle.call_meaning.specs.Telling.{made, heard}
 use Rattle.call_meaning.specs.Facts.{ActHolds, IsDrained}
-use Rattle.call_meaning.specs.ChannelCalls.{receives, AtOnce, Admits}
+use Rattle.call_meaning.specs.ChannelCalls.{Got, receives, AtOnce, Admits}
 use Rattle.call_meaning.proofs.ChannelsHeard.{told_then, told_roomed, told_made, told_met, moment_before}
 use Rattle.channel_calls.specs.Groups.{made_note}
-use Rattle.channel_calls.specs.Calls.{Tells, ToldSome}
+use Rattle.channel_calls.specs.Calls.{Tells, ToldPart, GoesAtOnceSomehow}
+use Rattle.channel_calls.proofs.Untold.{part_then}
 use Rattle.select_calls.specs.declared.clause.Outcome.TheVariants as outcome
 use Rattle.select_calls.specs.declared.tries.Tried.TheVariants as tried
 use Rattle.select_calls.specs.Selects.{Meets}
@@ -33,13 +33,9 @@ module _ (who c n : ℕ) (a b d : Floor) (i j k : List Item) (h : HasRoom n a b)
         (told_then who b d g j k l (made (Take c place v) ∷ []) x.told (told_made who (Take c place v) b d j k o.made (moment_before who (Take c place v) b d (ActHolds (Take c place v)) o.made tt) f) x.left);
   }
 
-  pub taken_stopped : (place v : ℕ) (t : Option ℕ) (g : Floor) (l : List Item) (m : Memory) → TriedGotAnswer who c b d (tried_got.Taken place v t) → k ≡ j ++ made_note (Take c place v) ∷ [] → ToldSome who d g k l → TriedAnswer who (receives c) a g i l (Err m)
-  taken_stopped place v t g l m o f x = record {
-    told = made (Take c place v) ∷ x.told;
-    goes = tt;
-    left = told_roomed who n a b g i j l (made (Take c place v) ∷ x.told) h e
-        (told_then who b d g j k l (made (Take c place v) ∷ []) x.told (told_made who (Take c place v) b d j k o.made (moment_before who (Take c place v) b d (ActHolds (Take c place v)) o.made tt) f) x.left);
-  }
+  pub taken_stopped : (place v : ℕ) (t : Option ℕ) (g : Floor) (l : List Item) (m : Memory) → TriedGotAnswer who c b d (tried_got.Taken place v t) → k ≡ j ++ made_note (Take c place v) ∷ [] → ToldPart who (Admits c) d g k l → TriedAnswer who (receives c) a g i l (Err m)
+  taken_stopped place v t g l m o f x = part_then who who (Admits c) (GoesAtOnceSomehow (receives c)) (made (Take c place v) ∷ []) (λ all r. (Got v, AtOnce.takes c v place all r)) a d g i k l refl
+      (told_roomed who n a b d i j k (made (Take c place v) ∷ []) h e (told_made who (Take c place v) b d j k o.made (moment_before who (Take c place v) b d (ActHolds (Take c place v)) o.made tt) f)) x
 
   pub empty : TriedGotAnswer who c b d tried_got.Empty → k ≡ j ++ item.Channel (Empty c) ∷ [] → TriedAnswer who (receives c) a d i k (Ok tried.Blocked)
   empty o f =

@@ -15,10 +15,11 @@ use Rattle.note_book.specs.declared.book.Item.{Item}
 use Rattle.note_book.specs.declared.book.Item.TheVariants as item
 use Rattle.call_meaning.specs.Telling.{SpentForOffers, items_in, made, heard}
 use Rattle.call_meaning.specs.Facts.{ActHolds}
-use Rattle.call_meaning.specs.ChannelCalls.{sends, spent, AtOnce}
+use Rattle.call_meaning.specs.ChannelCalls.{Done, sends, spent, AtOnce}
 use Rattle.call_meaning.proofs.ChannelsHeard.{told_then, told_roomed, told_made, told_met, told_met_after, moment_before}
 use Rattle.channel_calls.specs.Groups.{made_note}
-use Rattle.channel_calls.specs.Calls.{Tells, ToldSome, FollowsPut}
+use Rattle.channel_calls.specs.Calls.{Tells, ToldPart, GoesAtOnceSomehow, FollowsPut}
+use Rattle.channel_calls.proofs.Untold.{part_then}
 use Rattle.select_calls.specs.declared.clause.Outcome.TheVariants as outcome
 use Rattle.select_calls.specs.declared.tries.Tried.TheVariants as tried
 use Rattle.select_calls.specs.Selects.{Meets}
@@ -43,13 +44,9 @@ module _ (who c v n : ℕ) (a b d : Floor) (i j k : List Item) (h : HasRoom n a 
         (told_then who b d g j k l (made (Put c place v) ∷ []) t.told (told_made who (Put c place v) b d j k o (moment_before who (Put c place v) b d (ActHolds (Put c place v)) o tt) f) t.left);
   }
 
-  pub put_stopped : (place : ℕ) (g : Floor) (l : List Item) (m : Memory) → TriedOfferAnswer who c v b d (tried_offer.Put place) → k ≡ j ++ made_note (Put c place v) ∷ [] → ToldSome who d g k l → TriedAnswer who (sends c v) a g i l (Err m)
-  put_stopped place g l m o f t = record {
-    told = made (Put c place v) ∷ t.told;
-    goes = tt;
-    left = told_roomed who n a b g i j l (made (Put c place v) ∷ t.told) h e
-        (told_then who b d g j k l (made (Put c place v) ∷ []) t.told (told_made who (Put c place v) b d j k o (moment_before who (Put c place v) b d (ActHolds (Put c place v)) o tt) f) t.left);
-  }
+  pub put_stopped : (kind : Kind) (place : ℕ) (g : Floor) (l : List Item) (m : Memory) → TriedOfferAnswer who c v b d (tried_offer.Put place) → k ≡ j ++ made_note (Put c place v) ∷ [] → ToldPart who (FollowsPut kind c place) d g k l → TriedAnswer who (sends c v) a g i l (Err m)
+  put_stopped kind place g l m o f t = part_then who who (FollowsPut kind c place) (GoesAtOnceSomehow (sends c v)) (made (Put c place v) ∷ []) (λ all r. (Done, AtOnce.puts c v place all r.drops)) a d g i k l refl
+      (told_roomed who n a b d i j k (made (Put c place v) ∷ []) h e (told_made who (Put c place v) b d j k o (moment_before who (Put c place v) b d (ActHolds (Put c place v)) o tt) f)) t
 
   pub full : TriedOfferAnswer who c v b d tried_offer.Full → k ≡ j ++ item.Channel (Full c v) ∷ [] → TriedAnswer who (sends c v) a d i k (Ok tried.Blocked)
   full o f =

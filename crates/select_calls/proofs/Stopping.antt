@@ -1,10 +1,11 @@
 -- What a select comes to whose clauses were all blocked.
 use Rattle.std.specs.Prelude.{◌≡◌, ℕ, ◌+◌, ◌<◌, ◌⊎◌, zero, suc, Bool, true, false, List, [], ◌∷◌, ◌++◌, length, map, take, drop, Option, Some, None, Result, Ok, Err, slice_get, refl}
+use Rattle.std.specs.List.{list_any}
 use Rattle.std.proofs.Common.{sym, ap, subst, ◌∙◌, arith, append_assoc, get_or, inl, inr, ⊎_elim}
 use Rattle.std.proofs.lemmas.Option.{slice_get_within, slice_get-get_or}
 use Rattle.co_base.specs.declared.names.Memory.{Memory}
 use Rattle.co_base.specs.declared.names.WaitId.{WaitId}
-use Rattle.channel_model.specs.declared.acts.ChannelNote.TheVariants.{Late}
+use Rattle.channel_model.specs.declared.acts.ChannelNote.TheVariants.{Late, MainResolved}
 use Rattle.channel_model.specs.declared.floor.WaitState.TheVariants.{Standing}
 use Rattle.channel_model.specs.Channels.{Shape, Wait}
 use Rattle.channel_model.specs.Histories.{replay}
@@ -15,18 +16,22 @@ use Rattle.note_book.specs.declared.book.Item.{Item}
 use Rattle.call_meaning.specs.Telling.{Told, heard}
 use Rattle.call_meaning.specs.Calls.{ToldOnChannels}
 use Rattle.call_meaning.specs.ChannelCalls.{Call, sends, receives, Answer, Waits, LooksAgain, NoPlace, blocked, revoked, wait_at, placed, Begins, Places, PlacesFirst, AdmitsIn, SelectCall, channel_of}
+use Rattle.call_meaning.proofs.Prefixes.{prefix_first}
+use Rattle.channel_calls.proofs.Untold.{part_none, part_then}
 use Rattle.call_meaning.proofs.ChannelsHeard.{told_then}
-use Rattle.channel_calls.specs.Calls.{Tells, ToldSome, HoldsWait}
+use Rattle.channel_calls.specs.Calls.{Tells, ToldPart, IsUntouched, HoldsWait}
 use Rattle.select_calls.specs.declared.clause.SelectAnswer.{SelectAnswer}
 use Rattle.select_calls.specs.declared.clause.SelectAnswer.TheVariants as answer
 use Rattle.select_calls.specs.declared.placing.Placings.{Placings}
 use Rattle.select_calls.specs.declared.placing.Placings.TheVariants as placings
 use Rattle.select_calls.specs.Clauses.{MaySelect}
-use Rattle.select_calls.specs.Selects.{HasStood, SelectedAnswer}
-use Rattle.select_calls.specs.Parts.{BlockedAt, MayWait, AllMayWait, AreBlocked, HasClauses, ArePlaced, PlacedSoFar, PlacedAndThen, StopsAt, ResolvedAfter, PlacingsAnswer, PlacesAll, RevokedAnswer, MayStop, Revokes, ComesLate, StopsSo, StoppedAnswer, WasStopped, StopsBehind, SelectsBehind, WaitedAnswer, Waited}
-use Rattle.select_calls.proofs.ClausesAt.{split_at, take_drop, take_all}
+use Rattle.select_calls.specs.Selects.{HasStood, settles, SelectsSomehow, SelectedAnswer}
+use Rattle.select_calls.specs.Parts.{BlockedAt, MayWait, AllMayWait, AreBlocked, HasClauses, ArePlaced, PlacedSoFar, PlacedAndThen, StopsAt, ResolvedAfter, PlacingsAnswer, PlacesAll, RevokedAnswer, MayStop, Revokes, ComesLate, StopsSo, RevokesPart, StopsPart, StoppedAnswer, WasStopped, StopsBehind, SelectsBehind, WaitedAnswer, Waited}
+use Rattle.select_calls.proofs.ClausesAt.{split_at, take_all}
 use Rattle.select_calls.proofs.AllTried.{may_later}
-use Rattle.select_calls.proofs.AdmittedIn.{nothing_more}
+use Rattle.select_calls.proofs.LeftBehind.{left_named, none_left, some_left, behind_more}
+use Rattle.select_calls.proofs.AdmittedIn.{nothing_more, none_in}
+use Rattle.select_calls.proofs.PlacedOrSettled.{HasNo, none_in_both, none_in_first, admits_settle_none, stop_settles_none, revoked_settles}
 
 -- the same by another name of the caller
 pub tells_by : (x who : ℕ) (P : List Told → Type 0) (b d : Floor) (j k : List Item) → x ≡ who → Tells x P b d j k → Tells who P b d j k
@@ -63,11 +68,27 @@ module _ (who : ℕ) (calls : List Call) (n : ℕ) (asked : SelectAnswer) (held 
     },
   ))
 
-  pub stopped_withdrawn : y ≡ true → ToldSome who b d j k → ToldSome who a d i k
-  stopped_withdrawn e t = record { told = revoked w ++ t.told; goes = tt; left = told_then who a b d i j k (revoked w) t.told (told_revoked e) t.left }
+  pub stopped_withdrawn : y ≡ true → ToldPart who (AdmitsIn (take n calls)) b d j k → StopsPart who calls n a d i k held None
+  stopped_withdrawn e t = subst (λ h. StopsPart who calls n a d i k h None) (sym is) (inl (
+    refl,
+    record {
+      told = revoked w ++ t.told;
+      goes = record { admits = t.told; part = t.goes; all = refl };
+      left = told_then who a b d i j k (revoked w) t.told (told_revoked e) t.left;
+    },
+  ))
 
-  pub stopped_late : y ≡ false → ToldSome who b d j k → ToldSome who a d i k
-  stopped_late e t = record { told = heard (Late w) ∷ t.told; goes = tt; left = told_then who a b d i j k (heard (Late w) ∷ []) t.told (told_late e) t.left }
+  pub stopped_late : y ≡ false → ToldPart who (AdmitsIn (take n calls)) b d j k → StopsPart who calls n a d i k held held
+  stopped_late e t = subst (λ h. StopsPart who calls n a d i k h h) (sym is) (inr (
+    refl,
+    part_then who who (AdmitsIn (take n calls)) (ComesLate calls n w) (heard (Late w) ∷ []) (λ all r. record { admits = all; admits_are = r; all = refl }) a b d i j k refl (told_late e) t,
+  ))
+
+-- it was not tried
+pub stopped_untold : (who : ℕ) (calls : List Call) (n : ℕ) (held : Option WaitId) (w : WaitId) (a b : Floor) (i j : List Item) → held ≡ Some w → IsUntouched a b i j → StopsPart who calls n a b i j held held
+stopped_untold who calls n held w a b i j is h =
+    let none = none_in (take n calls) in
+    subst (λ u. StopsPart who calls n a b i j u u) (sym is) (inr (refl, part_none who (ComesLate calls n w) (heard (Late w) ∷ none.0) (record { admits = none.0; admits_are = none.1; all = refl }) a b i j h.floor h.book))
 
 -- ---- where the clauses are placed
 
@@ -115,11 +136,6 @@ may_stop who calls n held x a b i j may h = record {
           subst (λ y. IsUnsettledOf who ((replay b.seen).waits y)) same (holds_clauses who _ ((replay b.seen).waits u) p.clauses),
         )
 
--- memory ran out behind what was placed
-names_placed : (who : ℕ) (calls : List Call) (n : ℕ) (held : Option WaitId) (group rest : List Told) (a b : Floor) → ArePlaced who calls n held group a b → StopsBehind calls held (group ++ rest)
-names_placed who calls n None group rest a b h = tt
-names_placed who calls n (Some w) group rest a b h = record { before = take n calls; later = drop n calls; group = group; rest = rest; clauses = take_drop calls n; first = h.first; all = refl }
-
 stood_on : (who : ℕ) (w : WaitId) (a b d : Floor) (acts : List _) → HasStood w a b → Added who acts b d → HasStood w a d
 stood_on who w a b d acts h m = moment_within a a b d (λ s. state_of_wait (s.waits w) ≡ Some Standing) (prefix_self a.seen) h m.longer
 
@@ -141,12 +157,23 @@ module _ (who : ℕ) (calls : List Call) (held : Option WaitId) (a b d : Floor) 
         },
       )
 
-  pub stops_on_all : (m : Memory) → PlacedSoFar who calls (length calls) held a b i j → ToldSome who b d j k → WaitedAnswer who calls a d i k held (Err m)
-  stops_on_all m h t = record {
-    told = h.group ++ t.told;
-    goes = names_placed who calls (length calls) held h.group t.told a b h.placed;
-    left = told_then who a b d i j k h.group t.told h.told t.left;
-  }
+  pub stops_on_all : (m : ℕ) (e : Memory) → m ≡ length calls → MaySelect who calls a → PlacedSoFar who calls (length calls) held a b i j → ToldPart who (AdmitsIn (take m calls)) b d j k → WaitedAnswer who calls a d i k held (Err e)
+  stops_on_all m e is may h t = by_held held refl h.placed
+    where
+      same : take m calls ≡ calls
+      same = ap (λ z. take z calls) is ∙ take_all calls
+
+      by_held : (u : Option WaitId) → held ≡ u → ArePlaced who calls (length calls) u h.group a b → WaitedAnswer who calls a d i k u (Err e)
+      by_held None f p = let some = may.some in let none = p.0 in absurd (omega (arith, some, none))
+      by_held (Some w) f p = record {
+        told = h.group ++ t.told;
+        goes = record {
+          part = prefix_first (SelectsSomehow calls) (map blocked calls ++ (h.group ++ t.told)) t.goes.rest
+              (Waits w, SelectCall.waits w h.group (t.told ++ t.goes.rest) _ (subst (λ l. PlacesFirst w l h.group) (take_all calls) p.first) (subst (λ l. AdmitsIn l (t.told ++ t.goes.rest)) same t.goes.all) (behind_more (map blocked calls) h.group t.told t.goes.rest));
+          left = left_named calls (length calls) w h.group t.told p.first (none_in_first settles t.told t.goes.rest (admits_settle_none (take m calls) (t.told ++ t.goes.rest) t.goes.all));
+        };
+        left = told_then who a b d i j k h.group t.told h.told t.left;
+      }
 
   -- the wait was resolved
   pub waits_resolved : (n : ℕ) → n < length calls → PlacedAndThen who calls n held (ResolvedAfter held) a b i j → Tells who (AdmitsIn (take n calls)) b d j k → WaitedAnswer who calls a d i k held (Ok answer.Waiting)
@@ -166,19 +193,32 @@ module _ (who : ℕ) (calls : List Call) (held : Option WaitId) (a b d : Floor) 
         },
       )
 
-  pub stops_then : (P : List Told → Type 0) (n : ℕ) (m : Memory) → PlacedAndThen who calls n held P a b i j → ToldSome who b d j k → WaitedAnswer who calls a d i k held (Err m)
-  stops_then P n m h t = record {
-    told = (h.group ++ h.then_told) ++ t.told;
-    goes = subst (StopsBehind calls held) (sym (append_assoc h.group h.then_told t.told)) (names_placed who calls n held h.group (h.then_told ++ t.told) a b h.placed);
-    left = told_then who a b d i j k (h.group ++ h.then_told) t.told h.told t.left;
-  }
+  pub stops_resolved : (n : ℕ) (e : Memory) → n < length calls → PlacedAndThen who calls n held (ResolvedAfter held) a b i j → ToldPart who (AdmitsIn (take n calls)) b d j k → WaitedAnswer who calls a d i k held (Err e)
+  stops_resolved n e lt h t = by_held held refl h.placed h.goes
+    where
+      call : Call
+      call = get_or calls n (receives 0)
 
-pub stops_placing : (who : ℕ) (calls : List Call) (held : Option WaitId) (a b : Floor) (i j : List Item) (m : Memory) → (n : ℕ) × PlacedSoFar who calls n held a b i j → WaitedAnswer who calls a b i j held (Err m)
-stops_placing who calls held a b i j m h = record {
-  told = h.1.group;
-  goes = subst (StopsBehind calls held) (sym (nothing_more h.1.group)) (names_placed who calls h.0 held h.1.group [] a b h.1.placed);
-  left = h.1.told;
-}
+      by_held : (u : Option WaitId) → held ≡ u → ArePlaced who calls n u h.group a b → ResolvedAfter u h.then_told → WaitedAnswer who calls a d i k u (Err e)
+      by_held None f p r = absurd r
+      by_held (Some w) f p r =
+          let told : (h.group ++ h.then_told) ++ t.told ≡ h.group ++ (heard (MainResolved w) ∷ t.told) = append_assoc h.group h.then_told t.told ∙ ap (λ l. h.group ++ (l ++ t.told)) r in
+          record {
+            told = (h.group ++ h.then_told) ++ t.told;
+            goes = subst (StopsBehind calls (Some w)) (sym told) (record {
+              part = prefix_first (SelectsSomehow calls) (map blocked calls ++ (h.group ++ (heard (MainResolved w) ∷ t.told))) t.goes.rest
+                  (Waits w, SelectCall.resolved w (take n calls) (drop (n + 1) calls) call h.group (t.told ++ t.goes.rest) _ (split_at calls n call (slice_get-get_or calls n (receives 0) lt)) p.first t.goes.all (behind_more (map blocked calls) h.group (heard (MainResolved w) ∷ t.told) t.goes.rest));
+              left = left_named calls n w h.group (heard (MainResolved w) ∷ t.told) p.first (none_in_first settles t.told t.goes.rest (admits_settle_none (take n calls) (t.told ++ t.goes.rest) t.goes.all));
+            });
+            left = told_then who a b d i j k (h.group ++ h.then_told) t.told h.told t.left;
+          }
+
+pub stops_placing : (who : ℕ) (calls : List Call) (held : Option WaitId) (a b : Floor) (i j : List Item) (m : Memory) → MaySelect who calls a → (n : ℕ) × PlacedSoFar who calls n held a b i j → WaitedAnswer who calls a b i j held (Err m)
+stops_placing who calls held a b i j m may h = record { told = h.1.group; goes = by_held held h.1.placed; left = h.1.told }
+  where
+    by_held : (u : Option WaitId) → ArePlaced who calls h.0 u h.1.group a b → StopsBehind calls u h.1.group
+    by_held None p = subst (StopsBehind calls None) (sym p.1) (none_left calls may.some)
+    by_held (Some w) p = subst (StopsBehind calls (Some w)) (sym (nothing_more h.1.group)) (some_left calls h.0 w h.1.group p.first)
 
 -- ---- a clause had changed
 
@@ -228,14 +268,50 @@ module _ (who : ℕ) (calls : List Call) (n : ℕ) (x : Answer) (asked : SelectA
           ⊎_elim (λ r. inl (r.0, r.1, then_revoked w p r.2))
           (λ r. inr (r.0, (w, r.1, stood_on who w a b d _ p.stood r.2.left.added, then_late w p r.2))) q
 
-  -- without memory
+  -- without memory, what was placed was withdrawn
+  part_revoked : (w : WaitId) → ArePlaced who calls n (Some w) h.group a b → Tells who (RevokesPart calls n w) b d j k → Tells who (StopsBehind calls None) a d i k
+  part_revoked w p t =
+      let told : (h.group ++ h.then_told) ++ t.told ≡ (h.group ++ h.then_told) ++ (revoked w ++ t.goes.admits) = ap (λ l. (h.group ++ h.then_told) ++ l) t.goes.all in
+      record {
+        told = (h.group ++ h.then_told) ++ t.told;
+        goes = subst (StopsBehind calls None) (sym told) (record {
+          part = prefix_first (SelectsSomehow calls) (map blocked calls ++ ((h.group ++ h.then_told) ++ (revoked w ++ t.goes.admits))) t.goes.part.rest (
+            x,
+            SelectCall.stops w (take n calls) (drop (n + 1) calls) call h.group h.then_told (t.goes.admits ++ t.goes.part.rest) _ x parts p.first h.goes.2 t.goes.part.all
+                (behind_more (map blocked calls) (h.group ++ h.then_told) (revoked w ++ t.goes.admits) t.goes.part.rest ∙ ap (λ l. map blocked calls ++ l) (sym (append_assoc (h.group ++ h.then_told) (revoked w) (t.goes.admits ++ t.goes.part.rest)))),
+          );
+          left = inr (subst (λ l. list_any settles l ≡ true) (append_assoc (map blocked calls) (h.group ++ h.then_told) (revoked w ++ t.goes.admits)) (revoked_settles w (map blocked calls ++ (h.group ++ h.then_told)) t.goes.admits));
+        });
+        left = told_then who a b d i j k (h.group ++ h.then_told) t.told h.told t.left;
+      }
+
+  -- or that came too late
+  part_late : (w : WaitId) → ArePlaced who calls n (Some w) h.group a b → ToldPart who (ComesLate calls n w) b d j k → Tells who (StopsBehind calls (Some w)) a d i k
+  part_late w p t =
+      let late : ComesLate calls n w (t.told ++ t.goes.rest) = t.goes.all in
+      let quiet : HasNo settles (t.told ++ t.goes.rest) = ap (list_any settles) late.all ∙ admits_settle_none (take n calls) late.admits late.admits_are in
+      record {
+        told = (h.group ++ h.then_told) ++ t.told;
+        goes = subst (StopsBehind calls (Some w)) (sym (append_assoc h.group h.then_told t.told)) (record {
+          part = prefix_first (SelectsSomehow calls) (map blocked calls ++ (h.group ++ (h.then_told ++ t.told))) t.goes.rest (
+            Waits w,
+            SelectCall.stops_late w (take n calls) (drop (n + 1) calls) call h.group h.then_told late.admits _ x parts p.first h.goes.2 late.admits_are
+                (behind_more (map blocked calls) h.group (h.then_told ++ t.told) t.goes.rest
+                ∙ ap (λ l. map blocked calls ++ l) (ap (λ l. h.group ++ l) (append_assoc h.then_told t.told t.goes.rest ∙ ap (λ l. h.then_told ++ l) late.all) ∙ sym (append_assoc h.group h.then_told (heard (Late w) ∷ late.admits)))),
+          );
+          left = left_named calls n w h.group (h.then_told ++ t.told) p.first (none_in_both settles h.then_told t.told (stop_settles_none call h.then_told x h.goes.2) (none_in_first settles t.told t.goes.rest quiet));
+        });
+        left = told_then who a b d i j k (h.group ++ h.then_told) t.told h.told t.left;
+      }
+
   pub stops_stopping : (m : Memory) → StoppedAnswer who calls n asked b d j k held held' (Err m) → WaitedAnswer who calls a d i k held' (Err m)
-  stops_stopping m s = record {
-    told = (h.group ++ h.then_told) ++ s.0.told;
-    goes = ⊎_elim (λ e. subst (λ u. StopsBehind calls u ((h.group ++ h.then_told) ++ s.0.told)) (sym e) tt)
-        (λ e. subst (λ u. StopsBehind calls u ((h.group ++ h.then_told) ++ s.0.told)) (sym e) (subst (StopsBehind calls held) (sym (append_assoc h.group h.then_told s.0.told)) (names_placed who calls n held h.group (h.then_told ++ s.0.told) a b h.placed))) s.1;
-    left = told_then who a b d i j k (h.group ++ h.then_told) s.0.told h.told s.0.left;
-  }
+  stops_stopping m s = by_held held h.placed s
+    where
+      by_held : (u : Option WaitId) → ArePlaced who calls n u h.group a b → StopsPart who calls n b d j k u held' → WaitedAnswer who calls a d i k held' (Err m)
+      by_held None p q = absurd q
+      by_held (Some w) p q =
+          ⊎_elim (λ r. subst (λ u. WaitedAnswer who calls a d i k u (Err m)) (sym r.0) (part_revoked w p r.1))
+          (λ r. subst (λ u. WaitedAnswer who calls a d i k u (Err m)) (sym r.0) (part_late w p r.1)) q
 
 -- ---- by cases on the answer
 

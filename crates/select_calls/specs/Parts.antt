@@ -12,9 +12,10 @@ use Rattle.channel_model.specs.Registers.{main_at}
 use Rattle.note_book.specs.declared.book.Item.{Item}
 use Rattle.note_book.specs.declared.book.Item.TheVariants as item
 use Rattle.call_meaning.specs.Telling.{Told, heard}
+use Rattle.call_meaning.specs.Prefixes.{PrefixOf}
 use Rattle.call_meaning.specs.Calls.{ToldOnChannels}
 use Rattle.call_meaning.specs.ChannelCalls.{Call, sends, receives, Answer, Waits, LooksAgain, NoPlace, Stops, blocked, spent, placed, revoked, PlacesFirst, AdmitsIn, SelectCall, channel_of}
-use Rattle.channel_calls.specs.Calls.{Tells, ToldSome, IsUntouched, HoldsWait}
+use Rattle.channel_calls.specs.Calls.{Tells, ToldPart, GoesAtOnceSomehow, IsUntouched, HoldsWait}
 use Rattle.select_calls.specs.declared.tries.Tried.{Tried}
 use Rattle.select_calls.specs.declared.tries.Tried.TheVariants as tried
 use Rattle.select_calls.specs.declared.tries.Tries.{Tries}
@@ -59,7 +60,7 @@ TriedAnswer who call old new i i' (Ok (tried.Ready o)) = Tells who (Meets call o
 TriedAnswer who call old new i i' (Ok tried.Blocked) =
     ToldOnChannels who old new i i' (blocked call ∷ []) × MayWait old.shape call × StillBlocked call old new
 TriedAnswer who call old new i i' (Ok tried.Spent) = Tells who (IsSpentSend call) old new i i'
-TriedAnswer who call old new i i' (Err m) = ToldSome who old new i i'
+TriedAnswer who call old new i i' (Err m) = ToldPart who (GoesAtOnceSomehow call) old new i i'
 
 -- clause n was tried
 pub record TriedAt (who : ℕ) (calls : List Call) (n : ℕ) (old new : Floor) (items items' : List Item) (result : Result Tried Memory)
@@ -81,7 +82,7 @@ abbrev pub TriesAnswer : ℕ → List Call → Floor → Floor → List Item →
 TriesAnswer who calls old new i i' (Ok (tries.Chosen k o)) = Tells who (Chooses calls k o) old new i i'
 TriesAnswer who calls old new i i' (Ok tries.NoneReady) = AreBlocked who calls (length calls) old new i i'
 TriesAnswer who calls old new i i' (Ok tries.Spent) = Tells who (λ told. SelectCall calls told NoPlace) old new i i'
-TriesAnswer who calls old new i i' (Err m) = ToldSome who old new i i'
+TriesAnswer who calls old new i i' (Err m) = Tells who (StopsSelect calls None) old new i i'
 
 pub record TriesAll (who : ℕ) (calls : List Call) (old new : Floor) (items items' : List Item) (result : Result Tries Memory) : Type 0 where
   pub answer : TriesAnswer who calls old new items items' result
@@ -214,7 +215,7 @@ RevokedAnswer who w old new i i' (Err m) = IsUntouched old new i i'
 
 abbrev pub AdmittedAnswer : ℕ → Call → Floor → Floor → List Item → List Item → Result (Unit {0}) Memory → Type 0
 AdmittedAnswer who call old new i i' (Ok done) = Tells who (AdmitsIn (call ∷ [])) old new i i'
-AdmittedAnswer who call old new i i' (Err m) = ToldSome who old new i i'
+AdmittedAnswer who call old new i i' (Err m) = ToldPart who (AdmitsIn (call ∷ [])) old new i i'
 
 -- those were admitted for whom the channel has room in which clause n offered
 pub record AdmitsAt (who : ℕ) (calls : List Call) (n : ℕ) (old new : Floor) (items items' : List Item)
@@ -226,7 +227,7 @@ pub record AdmitsAt (who : ℕ) (calls : List Call) (n : ℕ) (old new : Floor) 
 -- those were admitted for whom the channels have room in which the first n clauses offered
 abbrev pub AdmittedInAnswer : ℕ → List Call → Floor → Floor → List Item → List Item → Result (Unit {0}) Memory → Type 0
 AdmittedInAnswer who calls old new i i' (Ok done) = Tells who (AdmitsIn calls) old new i i'
-AdmittedInAnswer who calls old new i i' (Err m) = ToldSome who old new i i'
+AdmittedInAnswer who calls old new i i' (Err m) = ToldPart who (AdmitsIn calls) old new i i'
 
 -- the wait of the clauses that were placed may be withdrawn
 pub record MayStop (who : ℕ) (calls : List Call) (n : ℕ) (held : Option WaitId) (floor : Floor) : Type 0 where
@@ -254,11 +255,23 @@ StopsSo who calls n asked old new i i' (Some w) held' a =
     ((a ≡ asked) × (held' ≡ None) × Tells who (Revokes calls n w) old new i i')
     ⊎ ((a ≡ answer.Waiting) × (held' ≡ Some w) × Tells who (ComesLate calls n w) old new i i')
 
+-- the wait was withdrawn, and then some of those were admitted
+pub record RevokesPart (calls : List Call) (n : ℕ) (w : WaitId) (told : List Told) : Type 0 where
+  pub admits : List Told
+  pub part : PrefixOf (AdmitsIn (take n calls)) admits
+  pub all : told ≡ revoked w ++ admits
+
+-- without memory: the wait was withdrawn; or that came too late, or was not tried, and the wait is left
+abbrev pub StopsPart : ℕ → List Call → ℕ → Floor → Floor → List Item → List Item → Option WaitId → Option WaitId → Type 0
+StopsPart who calls n old new i i' None held' = ⊥
+StopsPart who calls n old new i i' (Some w) held' =
+    ((held' ≡ None) × Tells who (RevokesPart calls n w) old new i i')
+    ⊎ ((held' ≡ Some w) × ToldPart who (ComesLate calls n w) old new i i')
+
 abbrev pub StoppedAnswer : ℕ → List Call → ℕ → SelectAnswer → Floor → Floor → List Item → List Item → Option WaitId → Option WaitId
     → Result SelectAnswer Memory → Type 0
 StoppedAnswer who calls n asked old new i i' held held' (Ok a) = StopsSo who calls n asked old new i i' held held' a
-StoppedAnswer who calls n asked old new i i' held held' (Err m) =
-    ToldSome who old new i i' × ((held' ≡ None) ⊎ (held' ≡ held))
+StoppedAnswer who calls n asked old new i i' held held' (Err m) = StopsPart who calls n old new i i' held held'
 
 pub record WasStopped (who : ℕ) (calls : List Call) (n : ℕ) (asked : SelectAnswer) (old new : Floor) (items items' : List Item)
     (held held' : Option WaitId) (result : Result SelectAnswer Memory) : Type 0 where
@@ -266,7 +279,7 @@ pub record WasStopped (who : ℕ) (calls : List Call) (n : ℕ) (asked : SelectA
 
 -- ---- behind the tries, all of which were blocked
 
--- without memory: what was told by then, and the wait that was placed is named
+-- without memory: what was told by then, and the wait that is left
 abbrev pub StopsBehind : List Call → Option WaitId → List Told → Type 0
 StopsBehind calls held told = StopsSelect calls held (map blocked calls ++ told)
 

@@ -1,14 +1,18 @@
 -- What a select comes to, by cases on its answer: what it tells is noted, its acts are the entries that it added, and all of it was so.
-use Rattle.std.specs.Prelude.{◌≡◌, ℕ, ◌+◌, true, List, [], ◌∷◌, ◌++◌, length, map, Option, Some, None, Result, Ok, Err}
+use Rattle.std.specs.Prelude.{◌≡◌, ℕ, ◌+◌, ◌⊎◌, Bool, true, false, List, [], ◌∷◌, ◌++◌, length, map, Option, Some, None, Result, Ok, Err}
+use Rattle.std.specs.List.{list_any}
 use Rattle.co_base.specs.declared.names.WaitId.{WaitId}
 use Rattle.co_base.specs.declared.names.Memory.{Memory}
-use Rattle.channel_model.specs.declared.acts.ChannelNote.TheVariants.{SendClosed, ReceiveClosed}
+use Rattle.channel_model.specs.declared.acts.Act.TheVariants.{Offer, Await, Settle}
+use Rattle.channel_model.specs.declared.acts.ChannelNote.TheVariants.{Made, SendClosed, ReceiveClosed}
 use Rattle.channel_model.specs.declared.floor.WaitState.TheVariants.{Standing}
 use Rattle.channel_model.specs.Answers.{state_of_wait}
 use Rattle.channel_model.specs.Floors.{Floor, AtStep}
 use Rattle.note_book.specs.declared.book.Item.{Item}
-use Rattle.call_meaning.specs.Telling.{Told, heard}
-use Rattle.call_meaning.specs.ChannelCalls.{Call, sends, receives, Done, Got, Waits, LooksAgain, NoPlace, AtOnce, blocked, PlacesFirst, SelectCall}
+use Rattle.note_book.specs.declared.book.Item.TheVariants as item
+use Rattle.call_meaning.specs.Telling.{Told, note, heard}
+use Rattle.call_meaning.specs.Prefixes.{PrefixOf}
+use Rattle.call_meaning.specs.ChannelCalls.{Call, Answer, sends, receives, Done, Got, Waits, LooksAgain, NoPlace, AtOnce, blocked, PlacesFirst, SelectCall}
 use Rattle.channel_calls.specs.Calls.{Tells}
 use Rattle.select_calls.specs.declared.clause.Outcome.{Outcome}
 use Rattle.select_calls.specs.declared.clause.Outcome.TheVariants as outcome
@@ -37,7 +41,20 @@ pub record Chooses (calls : List Call) (k : ℕ) (outcome : Outcome) (told : Lis
 abbrev pub HasStood : WaitId → Floor → Floor → Type 0
 HasStood w old new = AtStep old new (λ s. state_of_wait (s.waits w) ≡ Some Standing)
 
--- without memory: the wait that was placed is named
+-- ---- without memory
+
+-- a clause is placed
+abbrev pub places : Told → Bool
+places (note (item.Channel (Made (Offer c q v w k)))) = true
+places (note (item.Channel (Made (Await c q w k)))) = true
+places other = false
+
+-- a wait is settled
+abbrev pub settles : Told → Bool
+settles (note (item.Channel (Made (Settle w outcome)))) = true
+settles other = false
+
+-- the first clauses were placed with this wait
 pub record NamesPlaced (calls : List Call) (w : WaitId) (told : List Told) : Type 0 where
   pub before : List Call
   pub later : List Call
@@ -47,9 +64,19 @@ pub record NamesPlaced (calls : List Call) (w : WaitId) (told : List Told) : Typ
   pub first : PlacesFirst w before group
   pub all : told ≡ map blocked calls ++ (group ++ rest)
 
-abbrev pub StopsSelect : List Call → Option WaitId → List Told → Type 0
-StopsSelect calls None told = Unit {0}
-StopsSelect calls (Some w) told = NamesPlaced calls w told
+-- the wait that is left is named: if none is, no clause was placed, or the wait was settled; one that is named is not
+abbrev pub NamesLeft : List Call → Option WaitId → List Told → Type 0
+NamesLeft calls None told = (list_any places told ≡ false) ⊎ (list_any settles told ≡ true)
+NamesLeft calls (Some w) told = NamesPlaced calls w told × (list_any settles told ≡ false)
+
+-- a select goes so, with some answer
+abbrev pub SelectsSomehow : List Call → List Told → Type 0
+SelectsSomehow calls told = (a : Answer) × SelectCall calls told a
+
+-- what was told begins what a select may tell, and what it leaves is named
+pub record StopsSelect (calls : List Call) (held : Option WaitId) (told : List Told) : Type 0 where
+  pub part : PrefixOf (SelectsSomehow calls) told
+  pub left : NamesLeft calls held told
 
 abbrev pub SelectedAnswer : ℕ → List Call → Floor → Floor → List Item → List Item → Option WaitId → Result SelectAnswer Memory
     → Type 0
@@ -62,5 +89,5 @@ SelectedAnswer who calls old new i i' held (Ok answer.Again) =
     (held ≡ None) × (old.alone ≡ true → ⊥) × Tells who (λ told. SelectCall calls told LooksAgain) old new i i'
 SelectedAnswer who calls old new i i' held (Ok answer.Spent) =
     (held ≡ None) × Tells who (λ told. SelectCall calls told NoPlace) old new i i'
--- the entries made so far stand and are noted, and what was placed is named
+-- the entries made so far stand and are noted
 SelectedAnswer who calls old new i i' held (Err m) = Tells who (StopsSelect calls held) old new i i'

@@ -16,7 +16,8 @@ use note_book::NoteBook;
 
 /// Chooses the first clause that is ready, or whose channel is closed; where none is, waits on all of them.
 ///
-/// `held` names the wait where the select waits, and where memory ran out behind a clause that was placed.
+/// `held` names the wait that it leaves: that of a select that waits, and of one that found no memory behind a clause that it placed and
+/// did not withdraw.
 pub fn select_poll<F: ChannelFloor, B: NoteBook, W: Wakes>(
     x: &mut Caller<'_, '_, '_, F, B, W>,
     clauses: &[Clause],
@@ -60,7 +61,7 @@ fn wait_on_all<F: ChannelFloor, B: NoteBook, W: Wakes>(
         },
         Ok(Placings::Changed(n)) => stop(x, clauses, held, n, SelectAnswer::Again),
         Ok(Placings::Spent(n)) => stop(x, clauses, held, n, SelectAnswer::Spent),
-        Err(memory) => Err(memory),
+        Err(unplaced) => Err(unplaced),
     }
 }
 

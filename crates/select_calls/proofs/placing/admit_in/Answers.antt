@@ -14,4 +14,4 @@ loop-i-preserved g c = record {
 }
 
 pub returns-in-Err-clause-answer : goal.returns-in-Err-clause-answer
-returns-in-Err-clause-answer g c = one_stops _ (calls_of c.args.clauses.now) _ _ _ _ _ _ _ c.loop-i.invariant.admitted _ (admits_by _ _ _ _ _ _ _ _ _ c.loop-i.invariant.same.who c.in-Err.ensures.answer)
+returns-in-Err-clause-answer g c = one_stops _ (calls_of c.args.clauses.now) _ _ _ _ _ _ _ c.loop-i.invariant.admitted _ _ c.loop-i-test.true (admits_by _ _ _ _ _ _ _ _ _ c.loop-i.invariant.same.who c.in-Err.ensures.answer)

@@ -1,7 +1,5 @@
-use Rattle.std.proofs.Common.{inl, inr, refl}
 use Rattle.select_calls.specs.Clauses.{calls_of}
-use Rattle.channel_calls.proofs.Untold.{untouched_some}
-use Rattle.select_calls.proofs.Stopping.{tells_by, withdrawn_then, late_then, stopped_withdrawn, stopped_late}
+use Rattle.select_calls.proofs.Stopping.{tells_by, withdrawn_then, late_then, stopped_withdrawn, stopped_late, stopped_untold}
 use Rattle.select_calls.proofs.select.stop.Goals as goal
 
 pub revoke-requires-clause-can : goal.revoke-requires-clause-can
@@ -16,7 +14,7 @@ returns-in-Ok-clause-stopped g c =
 
 pub returns-in-Err-admit_in-clause-stopped : goal.returns-in-Err-admit_in-clause-stopped
 returns-in-Err-admit_in-clause-stopped g c =
-    record { answer = (stopped_withdrawn _ (calls_of c.args.clauses.now) c.args.count c.args.answer _ _ _ _ _ _ _ _ c.in-Some.is _ c.in-Ok-true.ensures.answer c.in-Ok-true.field-0-test (tells_by _ _ _ _ _ _ _ c.revoke.ensures.same.who c.in-Err-admit_in.ensures.answer), inl refl) }
+    record { answer = stopped_withdrawn _ (calls_of c.args.clauses.now) c.args.count c.args.answer _ _ _ _ _ _ _ _ c.in-Some.is _ c.in-Ok-true.ensures.answer c.in-Ok-true.field-0-test (tells_by _ _ _ _ _ _ _ c.revoke.ensures.same.who c.in-Err-admit_in.ensures.answer) }
 
 pub returns-in-Ok-admit_in-clause-stopped : goal.returns-in-Ok-admit_in-clause-stopped
 returns-in-Ok-admit_in-clause-stopped g c =
@@ -24,8 +22,8 @@ returns-in-Ok-admit_in-clause-stopped g c =
 
 pub returns-in-Err-admit_in-2-clause-stopped : goal.returns-in-Err-admit_in-2-clause-stopped
 returns-in-Err-admit_in-2-clause-stopped g c =
-    record { answer = (stopped_late _ (calls_of c.args.clauses.now) c.args.count c.args.answer _ _ _ _ _ _ _ _ c.in-Some.is _ c.in-Ok-false.ensures.answer c.in-Ok-false.field-0-test (tells_by _ _ _ _ _ _ _ c.revoke.ensures.same.who c.in-Err-admit_in-2.ensures.answer), inr refl) }
+    record { answer = stopped_late _ (calls_of c.args.clauses.now) c.args.count c.args.answer _ _ _ _ _ _ _ _ c.in-Some.is _ c.in-Ok-false.ensures.answer c.in-Ok-false.field-0-test (tells_by _ _ _ _ _ _ _ c.revoke.ensures.same.who c.in-Err-admit_in-2.ensures.answer) }
 
 pub returns-in-Err-clause-stopped : goal.returns-in-Err-clause-stopped
 returns-in-Err-clause-stopped g c =
-    record { answer = (untouched_some _ _ _ _ _ c.in-Err.ensures.answer.floor c.in-Err.ensures.answer.book, inr refl) }
+    record { answer = stopped_untold _ (calls_of c.args.clauses.now) _ _ _ _ _ _ _ c.in-Some.is c.in-Err.ensures.answer }

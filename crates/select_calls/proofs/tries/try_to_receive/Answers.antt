@@ -1,9 +1,9 @@
-use Rattle.channel_calls.proofs.Untold.{untouched_some}
+use Rattle.channel_calls.proofs.ReceivesTold.{receive_untold}
 use Rattle.select_calls.proofs.ReceivesTried.{taken, taken_stopped, empty, closed}
 use Rattle.select_calls.proofs.tries.try_to_receive.Goals as goal
 
 pub returns-in-Err-clause-answer : goal.returns-in-Err-clause-answer
-returns-in-Err-clause-answer g c = untouched_some _ _ _ _ _ c.in-Err.ensures.same c.make_room.ensures.items
+returns-in-Err-clause-answer g c = receive_untold _ _ _ _ _ _ c.in-Err.ensures.same c.make_room.ensures.items
 
 pub returns-in-Ok-clause-answer : goal.returns-in-Ok-clause-answer
 returns-in-Ok-clause-answer g c = taken _ _ _ _ _ _ _ _ _ c.in_default.ensures.floor c.make_room.ensures.items _ _ _ _ _ c.in-Taken.ensures.answer c.note.ensures.items c.in-Ok.ensures.answer

@@ -1,10 +1,10 @@
 use Rattle.channel_model.proofs.Puts.{put_owned}
-use Rattle.channel_calls.proofs.Untold.{untouched_some}
+use Rattle.channel_calls.proofs.SendsTold.{send_untold}
 use Rattle.select_calls.proofs.SendsTried.{handed, put, put_stopped, full, closed, no_place}
 use Rattle.select_calls.proofs.tries.try_to_send.Goals as goal
 
 pub returns-in-Err-clause-answer : goal.returns-in-Err-clause-answer
-returns-in-Err-clause-answer g c = untouched_some _ _ _ _ _ c.in-Err.ensures.same c.make_room.ensures.items
+returns-in-Err-clause-answer g c = send_untold _ _ c.args.value _ _ _ _ c.in-Err.ensures.same c.make_room.ensures.items
 
 pub after_put-requires-clause-own : goal.after_put-requires-clause-own
 after_put-requires-clause-own g c = put_owned _ _ _ _ _ _ c.in-Put.ensures.answer
@@ -16,7 +16,7 @@ pub returns-in-Ok-clause-answer : goal.returns-in-Ok-clause-answer
 returns-in-Ok-clause-answer g c = put _ _ _ _ _ _ _ _ _ _ c.in_default.ensures.floor c.make_room.ensures.items _ _ _ _ c.in-Put.ensures.answer c.note-in-Put.ensures.items c.in-Ok.ensures.answer
 
 pub returns-in-Err-after_put-clause-answer : goal.returns-in-Err-after_put-clause-answer
-returns-in-Err-after_put-clause-answer g c = put_stopped _ _ _ _ _ _ _ _ _ _ c.in_default.ensures.floor c.make_room.ensures.items _ _ _ _ c.in-Put.ensures.answer c.note-in-Put.ensures.items c.in-Err-after_put.ensures.answer
+returns-in-Err-after_put-clause-answer g c = put_stopped _ _ _ _ _ _ _ _ _ _ c.in_default.ensures.floor c.make_room.ensures.items _ _ _ _ _ c.in-Put.ensures.answer c.note-in-Put.ensures.items c.in-Err-after_put.ensures.answer
 
 pub returns-in-Full-clause-answer : goal.returns-in-Full-clause-answer
 returns-in-Full-clause-answer g c = full _ _ _ _ _ _ _ _ _ _ c.in_default.ensures.floor c.make_room.ensures.items c.in-Full.ensures.answer c.note-in-Full.ensures.items

@@ -1,6 +1,6 @@
 use Rattle.std.proofs.Common.{refl, ◌∙◌}
-use Rattle.channel_calls.proofs.Repeated.{same_self, still_same, may_still, fewer_left, none_repeated, one_repeated, still_repeated}
-use Rattle.channel_calls.proofs.DropsTold.{drop_of, still_follow, put_still, dropped_all}
+use Rattle.channel_calls.proofs.Repeated.{same_self, still_same, may_still, fewer_left, none_repeated, one_repeated}
+use Rattle.channel_calls.proofs.DropsTold.{drops_stopped, drop_of, still_follow, put_still, dropped_all}
 use Rattle.channel_calls.proofs.caller.Caller.after_put.Goals as goal
 
 pub loop-memory-init : goal.loop-memory-init
@@ -14,7 +14,7 @@ pub returns-in-Err-clause-same : goal.returns-in-Err-clause-same
 returns-in-Err-clause-same g c = still_same _ _ _ c.loop-memory.invariant.same refl refl refl refl c.make_room.ensures.anchor
 
 pub returns-in-Err-clause-answer : goal.returns-in-Err-clause-answer
-returns-in-Err-clause-answer g c = still_repeated _ _ _ _ _ _ _ _ c.loop-memory.invariant.each c.in-Err.ensures.same c.make_room.ensures.items
+returns-in-Err-clause-answer g c = drops_stopped _ _ _ _ _ _ _ _ _ _ c.loop-memory.invariant.each c.loop-memory.invariant.follow c.in-Err.ensures.same c.make_room.ensures.items
 
 pub trim-requires-clause-can : goal.trim-requires-clause-can
 trim-requires-clause-can g c =

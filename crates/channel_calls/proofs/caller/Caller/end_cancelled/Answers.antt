@@ -1,11 +1,10 @@
-use Rattle.channel_calls.proofs.Roomed.{call_roomed, own_roomed}
+use Rattle.channel_calls.proofs.Roomed.{untouched, call_roomed, own_roomed}
 use Rattle.channel_calls.proofs.EndsTold.{ready_late, withdrawn_now, late_now}
-use Rattle.channel_calls.proofs.Untold.{untouched_some}
 use Rattle.channel_calls.proofs.WithdrawnWaits.{ready_withdrawn}
 use Rattle.channel_calls.proofs.caller.Caller.end_cancelled.Goals as goal
 
 pub returns-in-Err-clause-answer : goal.returns-in-Err-clause-answer
-returns-in-Err-clause-answer g c = untouched_some _ _ _ _ _ c.in-Err.ensures.same c.make_room.ensures.items
+returns-in-Err-clause-answer g c = untouched _ _ _ _ c.in-Err.ensures.same c.make_room.ensures.items
 
 pub withdraw-requires-clause-can : goal.withdraw-requires-clause-can
 withdraw-requires-clause-can g c = call_roomed _ _ _ _ _ c.in_default.ensures.floor c.requires.can

@@ -1,11 +1,10 @@
 use Rattle.std.proofs.Common.{refl}
 use Rattle.channel_calls.proofs.Roomed.{call_roomed}
-use Rattle.channel_calls.proofs.ReceivesTold.{taken, take_stopped, received, waiting, closed, no_place}
-use Rattle.channel_calls.proofs.Untold.{untouched_some}
+use Rattle.channel_calls.proofs.ReceivesTold.{taken, take_stopped, receive_stopped, receive_untold, received, waiting, closed, no_place}
 use Rattle.channel_calls.proofs.caller.Caller.receive.Goals as goal
 
 pub returns-in-Err-clause-answer : goal.returns-in-Err-clause-answer
-returns-in-Err-clause-answer g c = untouched_some _ _ _ _ _ c.in-Err.ensures.same c.make_room.ensures.items
+returns-in-Err-clause-answer g c = receive_stopped _ _ _ _ _ _ (receive_untold _ _ _ _ _ _ c.in-Err.ensures.same c.make_room.ensures.items)
 
 pub receive-requires-clause-can : goal.receive-requires-clause-can
 receive-requires-clause-can g c = call_roomed _ _ _ _ _ c.in_default.ensures.floor c.requires.can
@@ -14,7 +13,7 @@ pub returns-in-Ok-clause-answer : goal.returns-in-Ok-clause-answer
 returns-in-Ok-clause-answer g c = received _ _ _ _ _ _ _ (taken _ _ _ _ _ _ _ _ _ c.in_default.ensures.floor c.make_room.ensures.items _ _ _ _ _ _ refl c.in-Taken.ensures.answer c.note.ensures.items c.in-Ok.ensures.answer)
 
 pub returns-in-Err-admit_all-clause-answer : goal.returns-in-Err-admit_all-clause-answer
-returns-in-Err-admit_all-clause-answer g c = take_stopped _ _ _ _ _ _ _ _ _ c.in_default.ensures.floor c.make_room.ensures.items _ _ _ _ _ _ refl c.in-Taken.ensures.answer c.note.ensures.items c.in-Err-admit_all.ensures.answer
+returns-in-Err-admit_all-clause-answer g c = receive_stopped _ _ _ _ _ _ (take_stopped _ _ _ _ _ _ _ _ _ c.in_default.ensures.floor c.make_room.ensures.items _ _ _ _ _ _ _ refl c.in-Taken.ensures.answer c.note.ensures.items c.in-Err-admit_all.ensures.answer)
 
 pub returns-in-Waiting-clause-answer : goal.returns-in-Waiting-clause-answer
 returns-in-Waiting-clause-answer g c = waiting _ _ _ _ _ _ _ _ _ c.in_default.ensures.floor c.make_room.ensures.items _ (g.met.F.ChannelFloor.legal c.receive.new.self) c.in-Waiting.ensures.answer c.note-in-Waiting.ensures.items

@@ -2,13 +2,12 @@ use Rattle.std.proofs.Common.{refl}
 use Rattle.channel_model.proofs.Puts.{put_owned}
 use Rattle.channel_calls.proofs.Roomed.{call_roomed, kind_roomed}
 use Rattle.channel_calls.proofs.Begun.{offer_plain}
-use Rattle.channel_calls.proofs.SendsTold.{handed, kept, put_stopped, sent, offer_told, refused, no_place}
+use Rattle.channel_calls.proofs.SendsTold.{handed, kept, put_stopped, send_stopped, send_untold, sent, offer_told, refused, no_place}
 use Rattle.channel_calls.proofs.OwnOffers.{held_sends}
-use Rattle.channel_calls.proofs.Untold.{untouched_some}
 use Rattle.channel_calls.proofs.caller.Caller.send.Goals as goal
 
 pub returns-in-Err-clause-answer : goal.returns-in-Err-clause-answer
-returns-in-Err-clause-answer g c = untouched_some _ _ _ _ _ c.in-Err.ensures.same c.make_room.ensures.items
+returns-in-Err-clause-answer g c = send_stopped _ _ c.args.value _ _ _ _ (send_untold _ _ _ _ _ _ _ c.in-Err.ensures.same c.make_room.ensures.items)
 
 pub offer-requires-clause-can : goal.offer-requires-clause-can
 offer-requires-clause-can g c = call_roomed _ _ _ _ _ c.in_default.ensures.floor c.requires.can
@@ -29,10 +28,10 @@ pub returns-in-Ok-clause-answer : goal.returns-in-Ok-clause-answer
 returns-in-Ok-clause-answer g c = sent _ _ _ _ _ _ _ (kept _ _ _ _ _ _ _ _ _ _ c.in_default.ensures.floor c.make_room.ensures.items _ _ _ _ refl c.in-Put.ensures.answer c.note-in-Put.ensures.items c.in-Ok.ensures.answer)
 
 pub returns-in-Err-after_put-clause-answer : goal.returns-in-Err-after_put-clause-answer
-returns-in-Err-after_put-clause-answer g c = put_stopped _ _ _ _ _ _ _ _ _ _ c.in_default.ensures.floor c.make_room.ensures.items _ _ _ _ refl c.in-Put.ensures.answer c.note-in-Put.ensures.items c.in-Err-after_put.ensures.answer
+returns-in-Err-after_put-clause-answer g c = send_stopped _ _ _ _ _ _ _ (put_stopped _ _ _ _ _ _ _ _ _ _ c.in_default.ensures.floor c.make_room.ensures.items _ _ _ _ _ refl c.in-Put.ensures.answer c.note-in-Put.ensures.items c.in-Err-after_put.ensures.answer)
 
 pub returns-in-Held-clause-answer : goal.returns-in-Held-clause-answer
-returns-in-Held-clause-answer g c = held_sends _ _ _ _ _ _ _ _ _ _ (offer_told _ _ _ _ _ _ _ _ _ _ c.in_default.ensures.floor c.make_room.ensures.items _ c.in-Held.ensures.answer c.note-in-Held.ensures.items) _ _ refl c.after_held.ensures.answer
+returns-in-Held-clause-answer g c = held_sends _ _ _ _ _ _ _ _ _ _ (offer_told _ _ _ _ _ _ _ _ _ _ c.in_default.ensures.floor c.make_room.ensures.items _ c.in-Held.ensures.answer c.note-in-Held.ensures.items) _ _ _ _ refl (g.met.F.ChannelFloor.legal c.after_held.new.self.floor.now) c.in_default.ensures.floor c.in-Held.ensures.answer.0 c.after_held.ensures.answer
 
 pub returns-in-Closed-clause-answer : goal.returns-in-Closed-clause-answer
 returns-in-Closed-clause-answer g c = refused _ _ _ _ _ _ _ _ _ _ c.in_default.ensures.floor c.make_room.ensures.items _ c.in-Closed.ensures.answer c.note-in-Closed.ensures.items

@@ -1,10 +1,9 @@
-use Rattle.channel_calls.proofs.Roomed.{call_roomed}
+use Rattle.channel_calls.proofs.Roomed.{untouched, call_roomed}
 use Rattle.channel_calls.proofs.OwnOffers.{own_offer, never_settled, ready_now, never_open, never_value, never_closed, never_undelivered, still_waits, sent_settled, offer_voided}
-use Rattle.channel_calls.proofs.Untold.{untouched_some}
 use Rattle.channel_calls.proofs.caller.Caller.settle_offer.Goals as goal
 
 pub returns-in-Err-clause-answer : goal.returns-in-Err-clause-answer
-returns-in-Err-clause-answer g c = untouched_some _ _ _ _ _ c.in-Err.ensures.same c.make_room.ensures.items
+returns-in-Err-clause-answer g c = untouched _ _ _ _ c.in-Err.ensures.same c.make_room.ensures.items
 
 pub look-requires-clause-can : goal.look-requires-clause-can
 look-requires-clause-can g c = call_roomed _ _ _ _ _ c.in_default.ensures.floor c.requires.can

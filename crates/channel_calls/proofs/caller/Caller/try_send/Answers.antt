@@ -1,12 +1,11 @@
 use Rattle.std.proofs.Common.{refl}
 use Rattle.channel_model.proofs.Puts.{put_owned}
 use Rattle.channel_calls.proofs.Roomed.{call_roomed, kind_roomed}
-use Rattle.channel_calls.proofs.SendsTold.{handed, kept, put_stopped, full, try_refused, try_no_place}
-use Rattle.channel_calls.proofs.Untold.{untouched_some}
+use Rattle.channel_calls.proofs.SendsTold.{handed, kept, put_stopped, send_untold, full, try_refused, try_no_place}
 use Rattle.channel_calls.proofs.caller.Caller.try_send.Goals as goal
 
 pub returns-in-Err-clause-answer : goal.returns-in-Err-clause-answer
-returns-in-Err-clause-answer g c = untouched_some _ _ _ _ _ c.in-Err.ensures.same c.make_room.ensures.items
+returns-in-Err-clause-answer g c = send_untold _ _ c.args.value _ _ _ _ c.in-Err.ensures.same c.make_room.ensures.items
 
 pub try_offer-requires-clause-can : goal.try_offer-requires-clause-can
 try_offer-requires-clause-can g c = call_roomed _ _ _ _ _ c.in_default.ensures.floor c.requires.can
@@ -24,7 +23,7 @@ pub returns-in-Ok-clause-answer : goal.returns-in-Ok-clause-answer
 returns-in-Ok-clause-answer g c = kept _ _ _ _ _ _ _ _ _ _ c.in_default.ensures.floor c.make_room.ensures.items _ _ _ _ refl c.in-Put.ensures.answer c.note-in-Put.ensures.items c.in-Ok.ensures.answer
 
 pub returns-in-Err-after_put-clause-answer : goal.returns-in-Err-after_put-clause-answer
-returns-in-Err-after_put-clause-answer g c = put_stopped _ _ _ _ _ _ _ _ _ _ c.in_default.ensures.floor c.make_room.ensures.items _ _ _ _ refl c.in-Put.ensures.answer c.note-in-Put.ensures.items c.in-Err-after_put.ensures.answer
+returns-in-Err-after_put-clause-answer g c = put_stopped _ _ _ _ _ _ _ _ _ _ c.in_default.ensures.floor c.make_room.ensures.items _ _ _ _ _ refl c.in-Put.ensures.answer c.note-in-Put.ensures.items c.in-Err-after_put.ensures.answer
 
 pub returns-in-Full-clause-answer : goal.returns-in-Full-clause-answer
 returns-in-Full-clause-answer g c = full _ _ _ _ _ _ _ _ _ _ c.in_default.ensures.floor c.make_room.ensures.items c.in-Full.ensures.answer c.note-in-Full.ensures.items

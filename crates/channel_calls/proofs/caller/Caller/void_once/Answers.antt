@@ -1,10 +1,9 @@
-use Rattle.channel_calls.proofs.Roomed.{call_roomed}
+use Rattle.channel_calls.proofs.Roomed.{untouched, call_roomed}
 use Rattle.channel_calls.proofs.ClosesTold.{voided_now, voided_before}
-use Rattle.channel_calls.proofs.Untold.{untouched_some}
 use Rattle.channel_calls.proofs.caller.Caller.void_once.Goals as goal
 
 pub returns-in-Err-clause-answer : goal.returns-in-Err-clause-answer
-returns-in-Err-clause-answer g c = untouched_some _ _ _ _ _ c.in-Err.ensures.same c.make_room.ensures.items
+returns-in-Err-clause-answer g c = untouched _ _ _ _ c.in-Err.ensures.same c.make_room.ensures.items
 
 pub void-requires-clause-can : goal.void-requires-clause-can
 void-requires-clause-can g c = call_roomed _ _ _ _ _ c.in_default.ensures.floor c.requires.can
