@@ -1,0 +1,4 @@
+mod CallsAdd
+mod ReadyWaits
+mod KnownAfterCalls
+mod KnownAtFirst
