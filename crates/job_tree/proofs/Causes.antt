@@ -2,14 +2,12 @@
 use Rattle.std.specs.Prelude.{◌≡◌, ℕ, true, List, [], Option, Some, None, option_map, refl}
 use mathlib.Core.List.{IsPrefix}
 use Rattle.std.proofs.Common.{sym, ap, ◌∙◌, subst}
-use Rattle.job_model.specs.declared.acts.JobState.{JobState}
-use Rattle.job_model.specs.declared.acts.JobState.TheVariants.{New, Active, Completing, Cancelling, Cancelled, Completed}
 use Rattle.job_model.specs.declared.acts.Cause.{Cause}
 use Rattle.job_model.specs.declared.acts.Reason.{Reason}
 use Rattle.job_model.specs.declared.acts.Reason.TheVariants as reasons
 use Rattle.job_model.specs.declared.acts.JobAct.TheVariants.{Cancel}
 use Rattle.job_model.specs.declared.acts.JobEntry.{JobEntry}
-use Rattle.job_model.specs.Trees.{Shape, Job, Tree, is_cancelled, is_cancellable, is_failure}
+use Rattle.job_model.specs.Trees.{Shape, Job, Tree, is_failure}
 use Rattle.job_model.specs.Effects.{after, cancelled_for, cause_of, cause_of_reason}
 use Rattle.job_model.specs.Needs.{IsCancelled, IsFailedChild, MayBeCancelled, Holds}
 use Rattle.job_model.specs.Histories.{replay, Legal}

@@ -1,11 +1,9 @@
 -- A failure goes up, step by step.
 use Rattle.std.specs.Prelude.{◌≡◌, ℕ, ◌+◌, ◌≤◌, ◌<◌, Bool, true, false, List, [], ◌∷◌, ◌++◌, Option, Some, None, is_some, option_map, refl}
 use mathlib.Core.List.{IsPrefix}
-use Rattle.std.specs.List.{list_all}
 use Rattle.std.proofs.Common.{sym, ap, ◌∙◌, subst, arith, append_assoc}
 use Rattle.job_model.specs.declared.acts.JobAct.{JobAct}
 use Rattle.job_model.specs.declared.acts.JobAct.TheVariants.{Cancel}
-use Rattle.job_model.specs.declared.acts.Reason.{Reason}
 use Rattle.job_model.specs.declared.acts.Reason.TheVariants as reasons
 use Rattle.job_model.specs.declared.acts.JobEntry.{JobEntry}
 use Rattle.job_model.specs.declared.floor.JobView.{JobView}
@@ -23,13 +21,13 @@ use Rattle.job_model.proofs.Own.{prefix_keeps}
 use Rattle.job_model.proofs.Families.{replay_families}
 use Rattle.note_book.specs.declared.book.Item.{Item}
 use Rattle.job_tree.specs.Notes.{Noted}
-use Rattle.job_tree.specs.Passes.{IsFailure, IsPass, IsPartOfPass, is_cancel, HasCancelled}
-use Rattle.job_tree.specs.Failures.{IsFailedUp}
+use Rattle.job_tree.specs.Passes.{IsFailure, IsPass, IsPartOfPass}
+use Rattle.job_tree.specs.Failures.{IsFailedUp, BeginsToFailUp, HasBegunToFailUp}
 use Rattle.job_model.specs.Failures.{IsScope, IsSupervisor, StaysBelow, GoesUpTo, FailsUp}
 use Rattle.job_model.proofs.Covered.{prefix_keeps_all}
 use Rattle.job_tree.proofs.Looks.{looked_self, link_is}
 use Rattle.job_tree.proofs.Notes.{noted_looked, noted_then}
-use Rattle.job_tree.proofs.PassesTold.{told_noted, pass_noted, all_append, below_cancels, own_cancels}
+use Rattle.job_tree.proofs.PassesTold.{told_noted, pass_noted}
 use Rattle.job_model.proofs.FailingUp.{scope_lasts, supervisor_lasts, goes_kept, cancels_below_kept}
 use Rattle.job_model.proofs.Ranks.{ranks, are_ranks, ranks_stay}
 use Rattle.job_tree.proofs.Causes.{failure_later}
@@ -91,13 +89,13 @@ child_holds shape tree who row p g f = (failed_child p (tree row) g.parent f g.c
 pub record IsClimb (who row at : ℕ) (a b : Floor) (items items' : List Item) : Type 0 where
   pub acts : List JobAct
   pub noted : Noted who acts a b items items'
-  pub cancels : list_all is_cancel acts ≡ true
   pub failed : IsFailure (replay b.seen at)
   pub attached : is_some (replay b.seen at) ≡ true
   pub on : (ys : List JobEntry) (more : List JobAct) → Legal a.shape ys → IsPrefix b.seen ys → FailsUp (replay ys) at more → FailsUp (replay ys) row (acts ++ more)
+  pub begun : (ys : List JobEntry) (more : List JobAct) → Legal a.shape ys → IsPrefix b.seen ys → BeginsToFailUp (replay ys) at more → BeginsToFailUp (replay ys) row (acts ++ more)
 
 pub first_climb : (who row : ℕ) (a : Floor) (items : List Item) → IsFailure (replay a.seen row) → is_some (replay a.seen row) ≡ true → IsClimb who row row a a items items
-first_climb who row a items f s = record { acts = []; noted = noted_looked who a a items items refl (looked_self who a); cancels = refl; failed = f; attached = s; on = λ ys more l p h. h }
+first_climb who row a items f s = record { acts = []; noted = noted_looked who a a items items refl (looked_self who a); failed = f; attached = s; on = λ ys more l p h. h; begun = λ ys more l p h. h }
 
 looked_by : (who who' : ℕ) (b c : Floor) → who' ≡ who → Looked who' [] b c → Looked who [] b c
 looked_by who who' b c e k = subst (λ n. Looked n [] b c) e k
@@ -108,10 +106,10 @@ climb_looked who who' row at a b c i j k e f l h look =
     record {
       acts = h.acts ++ [];
       noted = noted_then who h.acts [] a b c i j k h.noted (noted_looked who b c j k f m);
-      cancels = all_append h.acts [] h.cancels refl;
       failed = failure_later c.shape b.seen c.seen at l m.longer h.failed;
       attached = prefix_keeps _ attached_lasts c.shape b.seen c.seen at l m.longer h.attached;
       on = λ ys more ly p u. subst (λ x. FailsUp (replay ys) row (x ++ more)) (sym (nothing_more h.acts)) (h.on ys more ly (prefix_then b.seen c.seen ys m.longer p) u);
+      begun = λ ys more ly p u. subst (λ x. BeginsToFailUp (replay ys) row (x ++ more)) (sym (nothing_more h.acts)) (h.begun ys more ly (prefix_then b.seen c.seen ys m.longer p) u);
     }
 
 -- one pass more
@@ -123,13 +121,16 @@ climb_up who who' row at p true a b c i j k count e f l h g m =
     record {
       acts = h.acts ++ Cancel p (reasons.Child at) ∷ below;
       noted = noted_then who h.acts (Cancel p (reasons.Child at) ∷ below) a b c i j k h.noted noted;
-      cancels = all_append h.acts (Cancel p (reasons.Child at) ∷ below) h.cancels (below_cancels (replay c.seen) p below m.cancels);
       failed = m.failed refl refl;
       attached = parent_attached c.shape c.seen at p l (goes_kept c.shape b.seen c.seen at p l longer g).parent;
       on = λ ys more ly pre u.
           subst (FailsUp (replay ys) row) (sym (append_assoc h.acts (Cancel p (reasons.Child at) ∷ below) more))
           (h.on ys (Cancel p (reasons.Child at) ∷ below ++ more) ly (prefix_then b.seen c.seen ys longer pre)
           (FailsUp.goes_on at p below more _ (goes_kept a.shape b.seen ys at p ly (prefix_then b.seen c.seen ys longer pre) g) (prefix_keeps_all a.shape c.seen ys p ly pre m.all) (cancels_below_kept a.shape c.seen ys p below ly pre m.cancels) u refl));
+      begun = λ ys more ly pre u.
+          subst (BeginsToFailUp (replay ys) row) (sym (append_assoc h.acts (Cancel p (reasons.Child at) ∷ below) more))
+          (h.begun ys (Cancel p (reasons.Child at) ∷ below ++ more) ly (prefix_then b.seen c.seen ys longer pre)
+          (BeginsToFailUp.goes_on at p below more _ (goes_kept a.shape b.seen ys at p ly (prefix_then b.seen c.seen ys longer pre) g) (prefix_keeps_all a.shape c.seen ys p ly pre m.all) (cancels_below_kept a.shape c.seen ys p below ly pre m.cancels) u refl));
     }
 climb_up who who' row at p false a b c i j k count e f l h g m = cc
 
@@ -148,13 +149,15 @@ climb_stops who who' row at p false a b c i j k count e f l h g m =
     }
 
 -- there was no memory in the pass
-pub climb_part : (who who' row at p : ℕ) (reason : Reason) (a b c : Floor) (i j k : List Item) → who' ≡ who → IsClimb who row at a b i j → IsPartOfPass who' p reason b c j k → HasCancelled who a c i k
-climb_part who who' row at p reason a b c i j k e h m =
-    let acts = own_cancel m.newly p reason ++ m.below in
+pub climb_part : (who who' row at p : ℕ) (a b c : Floor) (i j k : List Item) → who' ≡ who → Legal c.shape c.seen → IsClimb who row at a b i j → GoesUpTo (replay b.seen) at p → IsPartOfPass who' p (reasons.Child at) b c j k → HasBegunToFailUp who row a c i k
+climb_part who who' row at p a b c i j k e l h g m =
+    let acts = own_cancel m.newly p (reasons.Child at) ++ m.below in
+    let noted : Noted who acts b c j k = subst (λ x. Noted x acts b c j k) e m.noted in
+    let all = noted_then who h.acts acts a b c i j k h.noted noted in
     record {
       acts = h.acts ++ acts;
-      noted = noted_then who h.acts acts a b c i j k h.noted (subst (λ x. Noted x acts b c j k) e m.noted);
-      cancels = all_append h.acts acts h.cancels (all_append (own_cancel m.newly p reason) m.below (own_cancels p reason m.newly) (below_cancels (replay c.seen) p m.below m.cancels));
+      noted = all;
+      up = h.begun c.seen acts (legal_as a c all.added.same l) noted.added.longer (BeginsToFailUp.in_pass at p m.newly m.below (goes_kept c.shape b.seen c.seen at p l noted.added.longer g) m.cancels);
     }
 
 -- no parent is cancelled

@@ -1,15 +1,18 @@
 -- How a failure goes up.
-use Rattle.std.specs.Prelude.{◌≡◌, ℕ, List, [], map, Option, Some, None, Result, Ok, Err}
+use Rattle.std.specs.Prelude.{◌≡◌, ℕ, Bool, List, [], ◌∷◌, ◌++◌, map, Option, Some, None, Result, Ok, Err}
 use Rattle.co_base.specs.declared.names.Memory.{Memory}
 use Rattle.job_model.specs.declared.acts.JobAct.{JobAct}
+use Rattle.job_model.specs.declared.acts.JobAct.TheVariants.{Cancel}
+use Rattle.job_model.specs.declared.acts.Reason.TheVariants as reasons
 use Rattle.job_model.specs.Trees.{Tree}
+use Rattle.job_model.specs.Cancels.{IsAllCancelled, own_cancel, AreCancelsBelow}
 use Rattle.job_model.specs.Failures.{StaysBelow, GoesUpTo, FailsUp}
 use Rattle.job_model.specs.Histories.{replay}
 use Rattle.job_model.specs.Floors.{Floor, Looked}
 use Rattle.note_book.specs.declared.book.Item.{Item}
 use Rattle.call_meaning.specs.Telling.{did}
 use Rattle.call_meaning.specs.Calls.{ToldOnJobs}
-use Rattle.job_tree.specs.Passes.{HasCancelled}
+use Rattle.job_tree.specs.Notes.{Noted}
 use Rattle.job_tree.specs.declared.caller.Reserve.{Reserve}
 use Rattle.job_tree.specs.declared.caller.Reserve.TheVariants.{AsItGoes}
 
@@ -19,10 +22,26 @@ pub record IsFailedUp (who row : ℕ) (old new : Floor) (items items' : List Ite
   pub noted : ToldOnJobs who [] old new items items' (map did acts)
   pub up : FailsUp (replay new.seen) row acts
 
+-- these acts began to take the failure of the row up
+pub data BeginsToFailUp (tree : Tree) : ℕ → List JobAct → Type 0 where
+  -- the parent was cancelled, or not by this call, and some of those below it
+  in_pass : (row p : ℕ) (newly : Bool) (acts : List JobAct)
+      → GoesUpTo tree row p → AreCancelsBelow tree p acts → BeginsToFailUp tree row (own_cancel newly p (reasons.Child row) ++ acts)
+  -- the parent was cancelled and all below it, and its failure began to go up
+  goes_on : (row p : ℕ) (acts more all : List JobAct)
+      → GoesUpTo tree row p → IsAllCancelled tree p → AreCancelsBelow tree p acts → BeginsToFailUp tree p more
+      → all ≡ Cancel p (reasons.Child row) ∷ acts ++ more → BeginsToFailUp tree row all
+
+-- the Cancels that began to take the failure of the Job up are noted
+pub record HasBegunToFailUp (who row : ℕ) (old new : Floor) (items items' : List Item) : Type 0 where
+  pub acts : List JobAct
+  pub noted : Noted who acts old new items items'
+  pub up : BeginsToFailUp (replay new.seen) row acts
+
 -- the failure went up, or as far as there was memory
 abbrev pub ClimbAnswer : ℕ → ℕ → Reserve → Floor → Floor → List Item → List Item → Result (Unit {0}) Memory → Type 0
 ClimbAnswer who row reserve old new items items' (Ok done) = IsFailedUp who row old new items items'
-ClimbAnswer who row reserve old new items items' (Err m) = (reserve ≡ AsItGoes) × HasCancelled who old new items items'
+ClimbAnswer who row reserve old new items items' (Err m) = (reserve ≡ AsItGoes) × HasBegunToFailUp who row old new items items'
 
 -- the parent that a failure of the Job cancels, if it cancels one
 abbrev pub IsParentAnswer : Tree → ℕ → Option ℕ → Type 0

@@ -1,6 +1,5 @@
 -- Passes: a Job is cancelled with all below it.
 use Rattle.std.specs.Prelude.{◌≡◌, ℕ, ◌+◌, ◌==◌, ◌<◌, ◌≤◌, Bool, true, false, List, [], ◌++◌, length, Option, Some, None, Result, Ok, Err}
-use Rattle.std.specs.List.{list_all}
 use Rattle.co_base.specs.declared.names.Memory.{Memory}
 use Rattle.job_model.specs.declared.acts.JobAct.{JobAct}
 use Rattle.job_model.specs.declared.acts.JobAct.TheVariants.{Attach, Start, EndBody, Cancel, Finish, Gone}
@@ -116,12 +115,6 @@ is_cancel (EndBody r v) = false
 is_cancel (Cancel r reason) = true
 is_cancel (Finish r end) = false
 is_cancel (Gone r) = false
-
--- the caller made Cancels, and noted each
-pub record HasCancelled (who : ℕ) (old new : Floor) (items items' : List Item) : Type 0 where
-  pub acts : List JobAct
-  pub noted : Noted who acts old new items items'
-  pub cancels : list_all is_cancel acts ≡ true
 
 -- ---- the walk
 

@@ -1,6 +1,7 @@
 -- A receive on a done channel behind what was told of Jobs: how a join and an await are told.
 use Rattle.std.specs.Prelude.{◌≡◌, ℕ, Bool, true, false, List, [], ◌∷◌, ◌++◌, Some, Result, Ok, Err, refl}
 use Rattle.std.proofs.Common.{sym, ap, ◌∙◌, subst}
+use Rattle.std.proofs.lemmas.List.{append-nil}
 use Rattle.co_base.specs.declared.names.Memory.{Memory}
 use Rattle.channel_model.specs.declared.acts.Act.{Act}
 use Rattle.channel_model.specs.Floors.{Floor as ChannelFloor}
@@ -20,11 +21,13 @@ use Rattle.call_meaning.specs.ChannelCalls.{Answer, Closed, Waits, NoPlace}
 use Rattle.call_meaning.specs.JobCalls.{Starts}
 use Rattle.call_meaning.specs.Calls.{ToldOnJobs, ToldOnBoth}
 use Rattle.call_meaning.proofs.JobTellings.{items_in-append, told_fact, told_knew, both_then, both_jobs}
+use Rattle.call_meaning.proofs.Prefixes.{prefix_behind}
 use Rattle.channel_calls.specs.Calls.{IsLeftWaiting}
 use Rattle.scope_builders.specs.declared.builder.Joined.{Joined}
 use Rattle.scope_builders.specs.declared.builder.Joined.TheVariants as joined
-use Rattle.scope_builders.specs.Dones.{ClosesAtOnce, KeepsDones}
-use Rattle.scope_builders.specs.Calls.{TellsBoth, ReceivesDone, AwaitsEnd, JoinsJob, DoneAnswer, JoinAnswer, StartedAnswer, start_told}
+use Rattle.call_meaning.specs.Endings.{ClosesAtOnce}
+use Rattle.scope_builders.specs.Dones.{KeepsDones}
+use Rattle.scope_builders.specs.Calls.{TellsBoth, ReceivesDone, AwaitsEnd, JoinsJob, IsNothing, JoinStarts, DoneAnswer, JoinAnswer, StartedAnswer, start_told}
 use Rattle.scope_builders.proofs.ChannelsTold as channels
 use Rattle.scope_builders.proofs.DonesKept.{quiet_kept, kept_then}
 
@@ -46,13 +49,13 @@ module _ (who base : ℕ) (first : List Told) (c c' : ChannelFloor) (j j1 j2 : F
   same_acts : (told : List Told) → channel_acts_in (items_in (first ++ told)) ≡ channel_acts_in (items_in told)
   same_acts told = ap channel_acts_in (items_in-append first told) ∙ channel_acts_in-append (items_in first) (items_in told) ∙ ap (λ (acts : List Act). acts ++ channel_acts_in (items_in told)) h.no_channels
 
-  pub done_then : (P Q : Answer → List Told → Type 0) → ((a : Answer) (told : List Told) → P a told → Q a (first ++ told)) → (r : Result Joined Memory) → DoneAnswer who base P c c' j1 j2 i1 i2 r → DoneAnswer who base Q c c' j j2 i i2 r
-  done_then P Q f (Ok (joined.Closed v)) t = tells_then (P (Closed v)) (Q (Closed v)) (f (Closed v)) t
-  done_then P Q f (Ok (joined.Waits w)) t =
+  pub done_then : (P Q : Answer → List Told → Type 0) (S T : List Told → Type 0) → ((a : Answer) (told : List Told) → P a told → Q a (first ++ told)) → ((told : List Told) → S told → T (first ++ told)) → (r : Result Joined Memory) → DoneAnswer who base P S c c' j1 j2 i1 i2 r → DoneAnswer who base Q T c c' j j2 i i2 r
+  done_then P Q S T f g (Ok (joined.Closed v)) t = tells_then (P (Closed v)) (Q (Closed v)) (f (Closed v)) t
+  done_then P Q S T f g (Ok (joined.Waits w)) t =
       (record { told = first ++ t.0.told; goes = f (Waits w) t.0.told t.0.goes; noted = both_noted t.0.told t.0.noted; dones = both_kept t.0.told t.0.dones }, subst (λ (acts : List Act). IsLeftWaiting who w acts c c') (sym (same_acts t.0.told)) t.1)
-  done_then P Q f (Ok joined.Cancelled) t = t
-  done_then P Q f (Ok joined.Spent) t = tells_then (P NoPlace) (Q NoPlace) (f NoPlace) t
-  done_then P Q f (Err m) t = record { told = first ++ t.told; noted = both_noted t.told t.noted; dones = both_kept t.told t.dones }
+  done_then P Q S T f g (Ok joined.Cancelled) t = t
+  done_then P Q S T f g (Ok joined.Spent) t = tells_then (P NoPlace) (Q NoPlace) (f NoPlace) t
+  done_then P Q S T f g (Err m) t = record { told = first ++ t.told; goes = prefix_behind S T first g t.told t.goes; noted = both_noted t.told t.noted; dones = both_kept t.told t.dones }
 
 -- ---- an await
 
@@ -65,19 +68,22 @@ starts_so : (row : ℕ) (now : Bool) → Starts row (start_told now row)
 starts_so row true = Starts.now
 starts_so row false = Starts.before
 
+starts_only : (row : ℕ) (now : Bool) (told : List Told) → IsNothing told → Starts row (start_told now row ++ told)
+starts_only row now told e = subst (λ l. Starts row (start_told now row ++ l)) (sym e) (subst (Starts row) (sym (append-nil (start_told now row))) (starts_so row now))
+
 pub awaits_told : (who base row : ℕ) (now : Bool) (c c' : ChannelFloor) (j j1 j2 : Floor) (i i1 i2 : List Item) (r : Result Joined Memory) → Legal j1.shape j1.seen → StartedAnswer who row j j1 i i1 (Ok now)
-    → DoneAnswer who base (ReceivesDone base row) c c' j1 j2 i1 i2 r → DoneAnswer who base (AwaitsEnd base row) c c' j j2 i i2 r
+    → DoneAnswer who base (ReceivesDone base row) IsNothing c c' j1 j2 i1 i2 r → DoneAnswer who base (AwaitsEnd base row) (Starts row) c c' j j2 i i2 r
 awaits_told who base row now c c' j j1 j2 i i1 i2 r l h k =
-    done_then who base (start_told now row) c c' j j1 j2 i i1 i2 (start_quiet base row now) l h (ReceivesDone base row) (AwaitsEnd base row)
-    (λ a told goes. record { starts = start_told now row; group = told; is_started = starts_so row now; received = goes; all = refl }) r k
+    done_then who base (start_told now row) c c' j j1 j2 i i1 i2 (start_quiet base row now) l h (ReceivesDone base row) (AwaitsEnd base row) IsNothing (Starts row)
+    (λ a told goes. record { starts = start_told now row; group = told; is_started = starts_so row now; received = goes; all = refl }) (starts_only row now) r k
 
 -- the same from the caller that the start left
 pub awaits_of : (who who1 base base1 row : ℕ) (now : Bool) (c c1 c' : ChannelFloor) (j j1 j2 : Floor) (i i1 i2 : List Item) (r : Result Joined Memory) → who1 ≡ who → base1 ≡ base → c1 ≡ c → Legal j1.shape j1.seen → StartedAnswer who row j j1 i i1 (Ok now)
-    → DoneAnswer who1 base1 (ReceivesDone base1 row) c1 c' j1 j2 i1 i2 r → DoneAnswer who base (AwaitsEnd base row) c c' j j2 i i2 r
+    → DoneAnswer who1 base1 (ReceivesDone base1 row) IsNothing c1 c' j1 j2 i1 i2 r → DoneAnswer who base (AwaitsEnd base row) (Starts row) c c' j j2 i i2 r
 awaits_of who who1 base base1 row now c c1 c' j j1 j2 i i1 i2 r e f g l h k =
-    let one : DoneAnswer who base1 (ReceivesDone base1 row) c1 c' j1 j2 i1 i2 r = subst (λ n. DoneAnswer n base1 (ReceivesDone base1 row) c1 c' j1 j2 i1 i2 r) e k in
-    let two : DoneAnswer who base (ReceivesDone base row) c1 c' j1 j2 i1 i2 r = subst (λ n. DoneAnswer who n (ReceivesDone n row) c1 c' j1 j2 i1 i2 r) f one in
-    awaits_told who base row now c c' j j1 j2 i i1 i2 r l h (subst (λ (x : ChannelFloor). DoneAnswer who base (ReceivesDone base row) x c' j1 j2 i1 i2 r) g two)
+    let one : DoneAnswer who base1 (ReceivesDone base1 row) IsNothing c1 c' j1 j2 i1 i2 r = subst (λ n. DoneAnswer n base1 (ReceivesDone base1 row) IsNothing c1 c' j1 j2 i1 i2 r) e k in
+    let two : DoneAnswer who base (ReceivesDone base row) IsNothing c1 c' j1 j2 i1 i2 r = subst (λ n. DoneAnswer who n (ReceivesDone n row) IsNothing c1 c' j1 j2 i1 i2 r) f one in
+    awaits_told who base row now c c' j j1 j2 i i1 i2 r l h (subst (λ (x : ChannelFloor). DoneAnswer who base (ReceivesDone base row) IsNothing x c' j1 j2 i1 i2 r) g two)
 
 -- ---- a join
 
@@ -85,7 +91,7 @@ own_quiet : (base own : ℕ) → ClosesAtOnce base (items_in (on_jobs (MayRun ow
 unfolding items_in
 own_quiet base own = tt
 
-join_of : (who base own row : ℕ) (c c' : ChannelFloor) (j j' : Floor) (i i' : List Item) (r : Result Joined Memory) → DoneAnswer who base (JoinsJob base own row) c c' j j' i i' r → JoinAnswer who base own row c c' j j' i i' r
+join_of : (who base own row : ℕ) (c c' : ChannelFloor) (j j' : Floor) (i i' : List Item) (r : Result Joined Memory) → DoneAnswer who base (JoinsJob base own row) (JoinStarts own row) c c' j j' i i' r → JoinAnswer who base own row c c' j j' i i' r
 join_of who base own row c c' j j' i i' (Ok (joined.Closed v)) h = h
 join_of who base own row c c' j j' i i' (Ok (joined.Waits w)) h = h
 join_of who base own row c c' j j' i i' (Ok joined.Cancelled) h = absurd h
@@ -94,12 +100,12 @@ join_of who base own row c c' j j' i i' (Err m) h = h
 
 -- the own Job may run, and then an await
 pub joins_told : (who base own row : ℕ) (c c' : ChannelFloor) (j j1 j2 : Floor) (i i1 i2 : List Item) (r : Result Joined Memory) → Legal j1.shape j1.seen → i1 ≡ i → Looked who [] j j1 → AtStep j j1 (JobFactHolds (MayRun own))
-    → DoneAnswer who base (AwaitsEnd base row) c c' j1 j2 i1 i2 r → JoinAnswer who base own row c c' j j2 i i2 r
+    → DoneAnswer who base (AwaitsEnd base row) (Starts row) c c' j1 j2 i1 i2 r → JoinAnswer who base own row c c' j j2 i i2 r
 joins_told who base own row c c' j j1 j2 i i1 i2 r l e look at k =
     join_of who base own row c c' j j2 i i2 r
     (done_then who base (on_jobs (MayRun own) ∷ []) c c' j j1 j2 i i1 i2 (own_quiet base own) l
     (told_fact who [] j j1 i i1 (MayRun own) e (added_looked who [] j j1 look) (looked_moment who [] j j1 (JobFactHolds (MayRun own)) look at))
-    (AwaitsEnd base row) (JoinsJob base own row) (λ a told goes. record { group = told; awaits = goes; all = refl }) r k)
+    (AwaitsEnd base row) (JoinsJob base own row) (Starts row) (JoinStarts own row) (λ a told goes. record { group = told; awaits = goes; all = refl }) (λ told s. (told, s, refl)) r k)
 
 -- the own Job was seen Cancelling
 pub join_stops : (who base own row : ℕ) (c : ChannelFloor) (j j1 : Floor) (i i1 i2 : List Item) → Legal j1.shape j1.seen → i1 ≡ i → i2 ≡ i1 ++ item.Job (Saw own) ∷ [] → Looked who [] j j1 → AtStep j j1 (λ tree. state_of (tree own) ≡ Some Cancelling)

@@ -1,5 +1,5 @@
 -- The ends of bodies.
-use Rattle.std.specs.Prelude.{◌≡◌, ℕ, true, false, List, [], ◌∷◌, ◌++◌, map, Option, Some, None, Result, Ok, Err, is_some, option_map, refl}
+use Rattle.std.specs.Prelude.{◌≡◌, ℕ, true, false, List, [], ◌∷◌, ◌++◌, Option, Some, None, Result, Ok, Err, is_some, option_map, refl}
 use Rattle.std.specs.List.{list_all}
 use Rattle.std.proofs.Common.{sym, ap, ◌∙◌, subst, inr}
 use Rattle.co_base.specs.declared.names.Memory.{Memory}
@@ -22,16 +22,18 @@ use Rattle.job_model.proofs.Spans.{nothing_more, added_made, entry_made, entry_b
 use Rattle.note_book.specs.declared.book.Item.{Item}
 use Rattle.note_book.specs.declared.book.Item.TheVariants as item
 use Rattle.note_book.specs.Items.{job_act, job_acts_in}
-use Rattle.call_meaning.specs.Telling.{Told, on_jobs, IsCancelling, OwesNoEnd, items_in, did}
-use Rattle.call_meaning.specs.JobCalls.{Chain, EndsBody}
+use Rattle.call_meaning.specs.Telling.{Told, on_jobs, MayRun, NotNew, IsCancelling, OwesNoEnd, items_in, did}
+use Rattle.call_meaning.specs.JobCalls.{Starts, Chain, EndsBody}
+use Rattle.call_meaning.specs.Prefixes.{PrefixOf}
 use Rattle.call_meaning.specs.Calls.{ToldOnJobs, ToldOnBoth}
-use Rattle.call_meaning.proofs.JobTellings.{items_in-append, acts_did, told_did, told_so, both_then, both_jobs}
+use Rattle.call_meaning.proofs.JobTellings.{items_in-append, told_did, told_so, both_then, both_jobs}
+use Rattle.call_meaning.proofs.Prefixes.{prefix_behind}
 use Rattle.job_tree.specs.Notes.{made_note}
-use Rattle.job_tree.specs.Passes.{is_cancel, HasCancelled}
-use Rattle.job_tree.proofs.PassesTold.{told_noted}
-use Rattle.scope_builders.specs.Dones.{ClosesAtOnce, KeepsDones}
-use Rattle.scope_builders.specs.Calls.{EndedJob, DidSome, EndedAnswer, BrokeJob, BrokenAnswer}
-use Rattle.scope_builders.specs.Parts.{IsCancelledFirst, FinishedUp}
+use Rattle.job_tree.specs.Passes.{is_cancel}
+use Rattle.call_meaning.specs.Endings.{ClosesAtOnce}
+use Rattle.scope_builders.specs.Dones.{KeepsDones}
+use Rattle.scope_builders.specs.Calls.{TellsBoth, EndedJob, EndedAnswer, BeginsToBreakOff, BrokeJob, BrokenAnswer, JoinStarts}
+use Rattle.scope_builders.specs.Parts.{IsCancelledFirst, HasBegunToBreak, FinishedUp}
 use Rattle.scope_builders.proofs.ChannelsTold as channels
 use Rattle.scope_builders.proofs.DonesKept.{quiet_kept, kept_then}
 use Rattle.scope_builders.proofs.Rooms.{told_roomed, added_roomed}
@@ -111,19 +113,30 @@ ended_up who base row value c c' j j1 j2 i i1 i2 answer l a h k = record {
   dones = up_kept who base row value c c' j j1 j2 i i1 i2 (Ok tt) l a k;
 }
 
-pub ended_some : (who base row value : ℕ) (c c' : ChannelFloor) (j j1 j2 : Floor) (i i1 i2 : List Item) (answer : Ended) (r : Result (Unit {0}) Memory) → Legal j1.shape j1.seen → Added who (EndBody row value ∷ []) [] j j1 → EndedBody who row value j j1 i i1 answer → FinishedUp who base row c c' j1 j2 i1 i2 r → DidSome who base c c' j j2 i i2
-ended_some who base row value c c' j j1 j2 i i1 i2 answer r l a h k = record {
+pub ended_some : (who base row value : ℕ) (c c' : ChannelFloor) (j j1 j2 : Floor) (i i1 i2 : List Item) (answer : Ended) (m : Memory) → Legal j1.shape j1.seen → Added who (EndBody row value ∷ []) [] j j1 → EndedBody who row value j j1 i i1 answer → FinishedUp who base row c c' j1 j2 i1 i2 (Err m) → TellsBoth who base (PrefixOf (EndsBody base row value)) c c' j j2 i i2
+ended_some who base row value c c' j j1 j2 i i1 i2 answer m l a h k = record {
   told = did (EndBody row value) ∷ k.told;
-  noted = up_noted who base row value c c' j j1 j2 i i1 i2 answer r h k;
-  dones = up_kept who base row value c c' j j1 j2 i i1 i2 r l a k;
+  goes = prefix_behind (Chain base row) (EndsBody base row value) (did (EndBody row value) ∷ []) (λ all chain. EndsBody.ends_body all chain) k.told k.chain;
+  noted = up_noted who base row value c c' j j1 j2 i i1 i2 answer (Err m) h k;
+  dones = up_kept who base row value c c' j j1 j2 i i1 i2 (Err m) l a k;
 }
 
 -- no memory: nothing was done
-pub did_none : (who base : ℕ) (c c' : ChannelFloor) (j j' : Floor) (i i' : List Item) → Legal j'.shape j'.seen → c' ≡ c → ToldOnJobs who [] j j' i i' [] → DidSome who base c c' j j' i i'
+pub did_none : (who base : ℕ) (P : List Told → Type 0) (c c' : ChannelFloor) (j j' : Floor) (i i' : List Item) → P [] → Legal j'.shape j'.seen → c' ≡ c → ToldOnJobs who [] j j' i i' [] → TellsBoth who base P c c' j j' i i'
 unfolding items_in
-did_none who base c c' j j' i i' l same h =
-    subst (λ (x : ChannelFloor). DidSome who base c x j j' i i') (sym same)
-    (record { told = []; noted = both_jobs who [] c c j j' i i' [] (channels.nobody_called who c) h; dones = quiet_kept who base [] [] c c j j' [] l h.added (channels.nobody_called who c) tt })
+did_none who base P c c' j j' i i' goes l same h =
+    subst (λ (x : ChannelFloor). TellsBoth who base P c x j j' i i') (sym same)
+    (record { told = []; goes = goes; noted = both_jobs who [] c c j j' i i' [] (channels.nobody_called who c) h; dones = quiet_kept who base [] [] c c j j' [] l h.added (channels.nobody_called who c) tt })
+
+-- what a body that ends tells begins with nothing; so does an await, and a join
+pub ends_nothing : (base row value : ℕ) → PrefixOf (EndsBody base row value) []
+ends_nothing base row value = record { rest = did (EndBody row value) ∷ on_jobs (OwesNoEnd row) ∷ []; all = EndsBody.ends_body (on_jobs (OwesNoEnd row) ∷ []) (Chain.stops row) }
+
+pub starts_nothing : (row : ℕ) → PrefixOf (Starts row) []
+starts_nothing row = record { rest = on_jobs (NotNew row) ∷ []; all = Starts.before }
+
+pub joins_nothing : (own row : ℕ) → PrefixOf (JoinStarts own row) []
+joins_nothing own row = record { rest = on_jobs (MayRun own) ∷ on_jobs (NotNew row) ∷ []; all = (on_jobs (NotNew row) ∷ [], Starts.before, refl) }
 
 -- ---- break_job
 
@@ -159,16 +172,14 @@ break_items cancels end row = items_in-append cancels (on_jobs (IsCancelling row
 first_kept : (who base row : ℕ) (c : ChannelFloor) (a b : Floor) (told : List Told) → Legal b.shape b.seen → Added who (job_acts_in (items_in told)) [] a b → ClosesAtOnce base (items_in told) → KeepsDones base c c a b (items_in told)
 first_kept who base row c a b told l h quiet = quiet_kept who base (job_acts_in (items_in told)) [] c c a b (items_in told) l h (channels.nobody_called who c) quiet
 
--- no memory: Cancels alone were made
-pub did_cancels : (who base : ℕ) (c : ChannelFloor) (j j' : Floor) (i i' : List Item) → Legal j'.shape j'.seen → HasCancelled who j j' i i' → DidSome who base c c j j' i i'
-did_cancels who base c j j' i i' l h =
-    let told : List Told = map did h.acts in
-    let noted : ToldOnJobs who [] j j' i i' told = told_noted who h.acts j j' i i' h.noted in
-    record {
-      told = told;
-      noted = both_jobs who [] c c j j' i i' told (channels.nobody_called who c) noted;
-      dones = first_kept who base 0 c j j' told l noted.added (cancels_quiet base (items_in told) (ap (list_all is_cancel) (acts_did h.acts) ∙ h.cancels));
-    }
+-- no memory: the cancellations were begun alone
+pub did_cancels : (who base row : ℕ) (failure : Option ℕ) (c : ChannelFloor) (j j' : Floor) (i i' : List Item) (m : Memory) → Legal j'.shape j'.seen → HasBegunToBreak who row failure j j' i i' → BrokenAnswer who base row failure c c j j' i i' (Err m)
+did_cancels who base row failure c j j' i i' m l h = record {
+  told = h.told;
+  goes = BeginsToBreakOff.cancels h.told h.begun;
+  noted = both_jobs who [] c c j j' i i' h.told (channels.nobody_called who c) h.noted;
+  dones = first_kept who base row c j j' h.told l h.noted.added (cancels_quiet base (items_in h.told) h.cancels);
+}
 
 -- the body broke off
 broke_job : (who base row : ℕ) (failure : Option ℕ) (c c' : ChannelFloor) (j j1 j2 : Floor) (i i1 i2 : List Item) (answer : Ended) → Legal j1.shape j1.seen → IsCancelledFirst who row failure j j1 i i1 → EndedJob who base row 0 c c' j1 j2 i1 i2 answer → BrokeJob who base row failure c c' j j2 i i2 answer
@@ -190,9 +201,11 @@ pub broken : (who base row : ℕ) (failure : Option ℕ) (c c' : ChannelFloor) (
 broken who base row failure c c' j j1 j2 i i1 i2 (Ok answer) l h k = broke_job who base row failure c c' j j1 j2 i i1 i2 answer l h k
 broken who base row failure c c' j j1 j2 i i1 i2 (Err memory) l h k =
     let first : List Told = h.told ++ on_jobs (IsCancelling row) ∷ [] in
+    let is : first ++ k.told ≡ h.told ++ on_jobs (IsCancelling row) ∷ k.told = told_assoc h.told (on_jobs (IsCancelling row) ∷ []) k.told in
     record {
-      told = first ++ k.told;
-      noted = both_then who [] [] c c c' j j1 j2 i i1 i2 first k.told (both_jobs who [] c c j j1 i i1 first (channels.nobody_called who c) h.noted) k.noted;
-      dones = subst (KeepsDones base c c' j j2) (sym (items_in-append first k.told))
+      told = h.told ++ on_jobs (IsCancelling row) ∷ k.told;
+      goes = BeginsToBreakOff.ends h.told k.told h.breaks k.goes;
+      noted = subst (ToldOnBoth who [] c c' j j2 i i2) is (both_then who [] [] c c c' j j1 j2 i i1 i2 first k.told (both_jobs who [] c c j j1 i i1 first (channels.nobody_called who c) h.noted) k.noted);
+      dones = subst (KeepsDones base c c' j j2) (sym (items_in-append first k.told) ∙ ap items_in is)
           (kept_then base c c c' j j1 j2 (items_in first) (items_in k.told) refl h.noted.added.same.alone (first_kept who base row c j j1 first l h.noted.added (cancels_quiet base (items_in first) (ap (λ (l : List Item). list_all is_cancel (job_acts_in l)) (break_items h.told k.told row) ∙ h.cancels))) k.dones);
     }

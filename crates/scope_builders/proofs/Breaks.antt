@@ -26,14 +26,14 @@ use Rattle.note_book.specs.Items.{job_acts_in}
 use Rattle.note_book.proofs.Appended.{job_acts_in-append}
 use Rattle.call_meaning.specs.Telling.{Told, on_jobs, IsCancelling, FailedUp, items_in, did}
 use Rattle.call_meaning.specs.Facts.{IsAlive, JobFactHolds}
-use Rattle.call_meaning.specs.JobCalls.{Passes, Breaks}
+use Rattle.call_meaning.specs.JobCalls.{reason_for, Passes, Breaks}
 use Rattle.call_meaning.proofs.JobTellings.{items_in-append, acts_did, told_fact, told_then, told_so, told_after}
-use Rattle.job_tree.specs.Passes.{IsPass, IsPartOfPass, is_cancel, HasCancelled}
-use Rattle.job_tree.specs.Failures.{IsFailedUp}
+use Rattle.job_tree.specs.Passes.{IsPass, IsPartOfPass, is_cancel}
+use Rattle.job_tree.specs.Failures.{IsFailedUp, BeginsToFailUp, HasBegunToFailUp}
 use Rattle.job_tree.proofs.Looks.{may_later, holds_later}
-use Rattle.job_tree.proofs.Notes.{noted_looked, noted_then}
-use Rattle.job_tree.proofs.PassesTold.{pass_acts, pass_noted, all_append, below_cancels, own_cancels}
-use Rattle.scope_builders.specs.Parts.{AreCancels, BreakAnswer, IsBroken, IsCancelledFirst}
+use Rattle.job_tree.proofs.PassesTold.{told_noted, pass_acts, pass_noted, all_append, below_cancels, own_cancels}
+use Rattle.scope_builders.specs.Calls.{BeginsToBreak}
+use Rattle.scope_builders.specs.Parts.{AreCancels, BreakAnswer, IsBroken, HasBegunToBreak, IsCancelledFirst}
 
 -- ---- Cancels end no body
 
@@ -72,6 +72,10 @@ up_cancels : (tree : Tree) (row : ℕ) (acts : List JobAct) → FailsUp tree row
 up_cancels tree _ _ (FailsUp.ends row s) = refl
 up_cancels tree _ _ (FailsUp.stops row p acts g a c) = below_cancels tree p acts c
 up_cancels tree _ _ (FailsUp.goes_on row p acts more all g a c u e) = ap (list_all is_cancel) e ∙ all_append acts more (below_cancels tree p acts c) (up_cancels tree p more u)
+
+begun_up_cancels : (tree : Tree) (row : ℕ) (acts : List JobAct) → BeginsToFailUp tree row acts → list_all is_cancel acts ≡ true
+begun_up_cancels tree _ _ (BeginsToFailUp.in_pass row p newly acts g c) = all_append (own_cancel newly p (reasons.Child row)) acts (own_cancels p (reasons.Child row) newly) (below_cancels tree p acts c)
+begun_up_cancels tree _ _ (BeginsToFailUp.goes_on row p acts more all g a c u e) = ap (list_all is_cancel) e ∙ all_append acts more (below_cancels tree p acts c) (begun_up_cancels tree p more u)
 
 pass_cancels : (who row : ℕ) (reason : Reason) (newly : Bool) (a b : Floor) (i j : List Item) (count : ℕ) → (h : IsPass who row reason newly a b i j count) → AreCancels h.told
 pass_cancels who row reason newly a b i j count h =
@@ -163,22 +167,31 @@ broken_up who row f failure newly a b c i j k count is n e lb lc m h u =
 -- ---- a part, where there was no memory
 
 -- in the pass
-pub part_cancelled : (who row : ℕ) (reason : Reason) (a b : Floor) (i j : List Item) → IsPartOfPass who row reason a b i j → HasCancelled who a b i j
-part_cancelled who row reason a b i j h = record {
-  acts = own_cancel h.newly row reason ++ h.below;
-  noted = h.noted;
-  cancels = all_append (own_cancel h.newly row reason) h.below (own_cancels row reason h.newly) (below_cancels (replay b.seen) row h.below h.cancels);
+pub part_begun : (who row : ℕ) (failure : Option ℕ) (a b : Floor) (i j : List Item) → IsPartOfPass who row (reason_for failure) a b i j → HasBegunToBreak who row failure a b i j
+part_begun who row failure a b i j h = record {
+  told = map did (own_cancel h.newly row (reason_for failure) ++ h.below);
+  begun = BeginsToBreak.in_pass failure h.newly h.below h.cancels;
+  cancels = ap (list_all is_cancel) (acts_did (own_cancel h.newly row (reason_for failure) ++ h.below))
+      ∙ all_append (own_cancel h.newly row (reason_for failure)) h.below (own_cancels row (reason_for failure) h.newly) (below_cancels (replay b.seen) row h.below h.cancels);
+  noted = told_noted who (own_cancel h.newly row (reason_for failure) ++ h.below) a b i j h.noted;
 }
 
+begun_up : (who row f : ℕ) (newly : Bool) (tree : Tree) (pass : List Told) (up : List JobAct) → newly ≡ true → row ≡ who → Passes row (reasons.Own f) newly pass → BeginsToFailUp tree row up → BeginsToBreak who row tree (Some f) (pass ++ map did up)
+begun_up who row f true tree pass up n e h u = BeginsToBreak.going_up f pass up e h u
+begun_up who row f false tree pass up n e h u = cc
+
 -- after the pass
-pub broken_later : (who row : ℕ) (reason : Reason) (newly : Bool) (a b c : Floor) (i j k : List Item) (count : ℕ) → IsPass who row reason newly a b i j count → HasCancelled who b c j k → HasCancelled who a c i k
-broken_later who row reason newly a b c i j k count h m =
-    let acts = own_cancel newly row reason ++ h.group.below in
-    record {
-      acts = acts ++ m.acts;
-      noted = noted_then who acts m.acts a b c i j k (pass_noted who row reason newly a b i j count h) m.noted;
-      cancels = all_append acts m.acts (all_append (own_cancel newly row reason) h.group.below (own_cancels row reason newly) (below_cancels (replay b.seen) row h.group.below h.cancels)) m.cancels;
-    }
+pub broken_later : (who row f : ℕ) (newly : Bool) (a b c : Floor) (i j k : List Item) (count : ℕ) → newly ≡ true → row ≡ who → IsPass who row (reasons.Own f) newly a b i j count → HasBegunToFailUp who row b c j k → HasBegunToBreak who row (Some f) a c i k
+broken_later who row f newly a b c i j k count n e h m = record {
+  told = h.told ++ map did m.acts;
+  begun = begun_up who row f newly (replay c.seen) h.told m.acts n e h.group m.up;
+  cancels = told_cancels h.told (map did m.acts) (pass_cancels who row (reasons.Own f) newly a b i j count h) (ap (list_all is_cancel) (acts_did m.acts) ∙ begun_up_cancels (replay c.seen) row m.acts m.up);
+  noted = told_then who [] [] a b c i j k h.told (map did m.acts) h.noted (told_noted who m.acts b c j k m.noted);
+}
+
+-- the reason is known
+pub part_request : (who row : ℕ) (failure : Option ℕ) (a b : Floor) (i j : List Item) → failure ≡ None → IsPartOfPass who row reasons.Request a b i j → HasBegunToBreak who row failure a b i j
+part_request who row failure a b i j e h = subst (λ (o : Option ℕ). HasBegunToBreak who row o a b i j) (sym e) (part_begun who row None a b i j h)
 
 -- the failure is known
 pub broken_as : (who row f : ℕ) (failure : Option ℕ) (a b : Floor) (i j : List Item) (r : Result (Unit {0}) Memory) → failure ≡ Some f → BreakAnswer who row (Some f) a b i j r → BreakAnswer who row failure a b i j r
@@ -196,11 +209,12 @@ pub reason_looked : (who row : ℕ) (reason : Reason) (a b : Floor) → Legal b.
 reason_looked who row reason a b l h m = holds_later who row reason a b h.same h.longer l m
 
 -- no memory
-pub cancelled_some : (who : ℕ) (a b c : Floor) (i k : List Item) → Looked who [] a b → HasCancelled who b c i k → HasCancelled who a c i k
-cancelled_some who a b c i k h m = record {
-  acts = m.acts;
-  noted = noted_then who [] m.acts a b c i i k (noted_looked who a b i i refl h) m.noted;
+pub cancelled_some : (who row : ℕ) (failure : Option ℕ) (a b c : Floor) (i k : List Item) → Looked who [] a b → HasBegunToBreak who row failure b c i k → HasBegunToBreak who row failure a c i k
+cancelled_some who row failure a b c i k h m = record {
+  told = m.told;
+  begun = m.begun;
   cancels = m.cancels;
+  noted = told_after who [] a b c i i k m.told (added_looked who [] a b h) refl m.noted;
 }
 
 -- the Job was cancelled so

@@ -1,5 +1,5 @@
 -- A chain of ends: each Finish, what its done channel makes of it, and the word to the parent.
-use Rattle.std.specs.Prelude.{◌≡◌, ◌≢◌, ℕ, ◌<◌, true, false, List, [], ◌∷◌, ◌++◌, map, Option, Some, None, Result, Ok, Err, OnOk, is_some, refl}
+use Rattle.std.specs.Prelude.{◌≡◌, ◌≢◌, ℕ, ◌<◌, true, false, List, [], ◌∷◌, ◌++◌, map, Option, Some, None, Result, Ok, Err, is_some, refl}
 use mathlib.Core.List.{IsPrefix}
 use Rattle.std.proofs.Common.{sym, ap, ◌∙◌, subst, append_assoc, arith, inl, inr}
 use Rattle.co_base.specs.declared.names.Memory.{Memory}
@@ -33,8 +33,9 @@ use Rattle.job_tree.specs.Endings.{IsEndedBy, MayNotEnd, EndAnswer, IsFinishedUp
 use Rattle.job_tree.proofs.Climbs.{parent_attached}
 use Rattle.job_tree.proofs.Endings.{end_added}
 use Rattle.job_tree.proofs.Walks.{legal_as}
-use Rattle.scope_builders.specs.Dones.{IsTold, EndsDone, ClosesAtOnce, KeepsDones}
-use Rattle.scope_builders.specs.Parts.{FinishedUp}
+use Rattle.call_meaning.specs.Endings.{ClosesAtOnce}
+use Rattle.scope_builders.specs.Dones.{IsTold, EndsDone, KeepsDones}
+use Rattle.scope_builders.specs.Parts.{ChainAnswer, FinishedUp}
 use Rattle.scope_builders.proofs.ChannelsTold as channels
 use Rattle.scope_builders.proofs.DonesKept.{one_kept, quiet_kept, kept_then}
 
@@ -107,7 +108,7 @@ stops_short : (who base row : ℕ) (m : Memory) (c c' : ChannelFloor) (j j' : Fl
 unfolding items_in
 stops_short who base row m c c' j j' i i' l a h e = record {
   told = [];
-  chain = tt;
+  chain = record { rest = on_jobs (OwesNoEnd row) ∷ []; all = Chain.stops row };
   noted = both_jobs who [] c c' j j' i i' [] a (told_nothing who [] j j' i i' e h);
   dones = quiet_kept who base [] [] c c' j j' [] l h a tt;
 }
@@ -127,8 +128,11 @@ up_root who base row c c' j j' i i' z h = record {
 joined : (fin gone par : Told) (closes more : List Told) → ((fin ∷ (closes ++ gone ∷ [])) ++ par ∷ []) ++ more ≡ fin ∷ (closes ++ gone ∷ par ∷ more)
 joined fin gone par closes more = ap (λ (l : List Told). fin ∷ l) (told_assoc (closes ++ gone ∷ []) (par ∷ []) more ∙ told_assoc closes (gone ∷ []) (par ∷ more))
 
-chain_on : (base row p : ℕ) (end : End) (closes more : List Told) (r : Result (Unit {0}) Memory) → row ≢ 0 → Closes (done_channel base row) (value_of end) closes → OnOk r (Chain base p more) → OnOk r (Chain base row (did (Finish row end) ∷ (closes ++ did (Gone row) ∷ on_jobs (ParentIs row p) ∷ more)))
-chain_on base row p end closes more (Err m) z g h = tt
+chain_on : (base row p : ℕ) (end : End) (closes more : List Told) (r : Result (Unit {0}) Memory) → row ≢ 0 → Closes (done_channel base row) (value_of end) closes → ChainAnswer base p more r → ChainAnswer base row (did (Finish row end) ∷ (closes ++ did (Gone row) ∷ on_jobs (ParentIs row p) ∷ more)) r
+chain_on base row p end closes more (Err m) z g h = record {
+  rest = h.rest;
+  all = Chain.goes_up row p end closes (more ++ h.rest) _ z g h.all (ap (λ (l : List Told). did (Finish row end) ∷ l) (told_assoc closes (did (Gone row) ∷ on_jobs (ParentIs row p) ∷ more) h.rest));
+}
 chain_on base row p end closes more (Ok done) z g h = Chain.goes_up row p end closes more _ z g h refl
 
 joined_items : (told more : List Told) (row p : ℕ) → items_in ((told ++ on_jobs (ParentIs row p) ∷ []) ++ more) ≡ items_in told ++ items_in more

@@ -68,7 +68,7 @@ channel_fact who a b i j m fact e h p q holds = record {
   appended = e ∙ sym (nothing_more i);
   added = h;
   no_jobs = refl;
-  was_so = λ entries c d. (moment_of m entries, so_at who i a b entries m (on_channels fact) h p q holds c d, tt);
+  was_so = λ book entries c d. (moment_of m entries, so_at who book a b entries m (on_channels fact) h p q holds c d, tt);
 }
 
 -- an answer that made no entry
@@ -78,7 +78,7 @@ channel_heard who a b i j m n none e h p q holds = record {
   appended = e;
   added = subst (λ (l : List Act). Added who l a b) (sym (ap (λ (l : List Act). l ++ []) none)) h;
   no_jobs = refl;
-  was_so = λ entries c d. (moment_of m entries, so_at who i a b entries m (heard n) h p q holds c d, tt);
+  was_so = λ book entries c d. (moment_of m entries, so_at who book a b entries m (heard n) h p q holds c d, tt);
 }
 
 -- an act
@@ -90,7 +90,7 @@ channel_made who act a b i j holds e h =
       appended = e;
       added = added;
       no_jobs = refl;
-      was_so = λ entries c d. (
+      was_so = λ book entries c d. (
         moment_of a.seen entries,
         record { not_before = channels_by entries a.seen a.seen (prefix_self a.seen); not_after = channels_by entries a.seen b.seen added.longer; channel_acts = c; job_acts = d; holds = holds },
         tt,
@@ -104,12 +104,11 @@ channels_then who a b c i j k xs ys h m = record {
   appended = m.appended ∙ ap (λ (l : List Item). l ++ items_in ys) h.appended ∙ append_assoc i (items_in xs) (items_in ys) ∙ ap (λ (l : List Item). i ++ l) (sym (items_in-append xs ys));
   added = subst (λ (l : List Act). Added who l a c) (sym (ap channel_acts_in (items_in-append xs ys) ∙ channel_acts_in-append (items_in xs) (items_in ys))) (added_then who (channel_acts_in (items_in xs)) (channel_acts_in (items_in ys)) a b c h.added m.added);
   no_jobs = ap job_acts_in (items_in-append xs ys) ∙ job_acts_in-append (items_in xs) (items_in ys) ∙ ap (λ (l : List JobAct). l ++ job_acts_in (items_in ys)) h.no_jobs ∙ m.no_jobs;
-  was_so = λ entries e f.
-      let e' : acts_of who b.seen ≡ channel_acts_in j = h.added.mine ∙ ap (λ (l : List Act). l ++ channel_acts_in (items_in xs)) e ∙ sym (ap channel_acts_in h.appended ∙ channel_acts_in-append i (items_in xs)) in
-      let f' : job_acts_of who entries ≡ job_acts_in j = f ∙ sym (ap job_acts_in h.appended ∙ job_acts_in-append i (items_in xs) ∙ ap (λ (l : List JobAct). job_acts_in i ++ l) h.no_jobs ∙ nothing_more (job_acts_in i)) in
-      let later : IsTrue (story_of a.shape who (moment_of c.seen entries)) j (moment_of b.seen entries) ys = subst (λ (s : Shape). IsTrue (story_of s who (moment_of c.seen entries)) j (moment_of b.seen entries) ys) h.added.same.shape (m.was_so entries e' f') in
-      true_then a.shape who (moment_of b.seen entries) (moment_of c.seen entries) i (moment_of a.seen entries) xs ys (channels_by entries a.seen b.seen h.added.longer) (channels_by entries b.seen c.seen m.added.longer) (h.was_so entries e f)
-      (subst (λ (l : List Item). IsTrue (story_of a.shape who (moment_of c.seen entries)) l (moment_of b.seen entries) ys) h.appended later);
+  was_so = λ book entries e f.
+      let e' : acts_of who b.seen ≡ channel_acts_in (book ++ items_in xs) = h.added.mine ∙ ap (λ (l : List Act). l ++ channel_acts_in (items_in xs)) e ∙ sym (channel_acts_in-append book (items_in xs)) in
+      let f' : job_acts_of who entries ≡ job_acts_in (book ++ items_in xs) = f ∙ sym (job_acts_in-append book (items_in xs) ∙ ap (λ (l : List JobAct). job_acts_in book ++ l) h.no_jobs ∙ nothing_more (job_acts_in book)) in
+      let later : IsTrue (story_of a.shape who (moment_of c.seen entries)) (book ++ items_in xs) (moment_of b.seen entries) ys = subst (λ (s : Shape). IsTrue (story_of s who (moment_of c.seen entries)) (book ++ items_in xs) (moment_of b.seen entries) ys) h.added.same.shape (m.was_so (book ++ items_in xs) entries e' f') in
+      true_then a.shape who (moment_of b.seen entries) (moment_of c.seen entries) book (moment_of a.seen entries) xs ys (channels_by entries a.seen b.seen h.added.longer) (channels_by entries b.seen c.seen m.added.longer) (h.was_so book entries e f) later;
 }
 
 pub nobody_called : (who : ℕ) (a : Floor) → Added who [] a a

@@ -28,7 +28,8 @@ use Rattle.call_meaning.specs.ChannelCalls.{Wakes, Closes}
 use Rattle.call_meaning.specs.JobCalls.{value_of}
 use Rattle.call_meaning.proofs.JobTellings.{items_in-append}
 use Rattle.channel_model.specs.Answers.{IsSeenClosed}
-use Rattle.scope_builders.specs.Dones.{finish_of, IsClosedNext, ClosesAtOnce, KeepsDones}
+use Rattle.call_meaning.specs.Endings.{finish_of, IsClosedNext, ClosesAtOnce}
+use Rattle.scope_builders.specs.Dones.{KeepsDones}
 use Rattle.scope_builders.proofs.Ended.{ended_after, live_till_now, closed_woken, closed_else}
 
 -- ---- notes

@@ -37,8 +37,9 @@ use Rattle.channel_calls.proofs.Begun.{receiver_waits}
 use Rattle.channel_calls.proofs.ReceivesTold.{closed_as}
 use Rattle.scope_builders.specs.declared.builder.Joined.{Joined}
 use Rattle.scope_builders.specs.declared.builder.Joined.TheVariants as joined
-use Rattle.scope_builders.specs.Dones.{SignalAnswer, ClosesAtOnce, KeepsDones}
-use Rattle.scope_builders.specs.Calls.{MayBuild, TellsBoth, ReceivesDone, DoneAnswer}
+use Rattle.call_meaning.specs.Endings.{ClosesAtOnce}
+use Rattle.scope_builders.specs.Dones.{SignalAnswer, KeepsDones}
+use Rattle.scope_builders.specs.Calls.{MayBuild, TellsBoth, ReceivesDone, IsNothing, DoneAnswer}
 
 -- ---- by the floor's answer
 
@@ -110,7 +111,7 @@ tells_one who base P told c c' j i i' goes quiet same h = record {
   dones = still_kept base c c' j (items_in told) quiet same;
 }
 
-done_at : (who base row : ℕ) (c c' : Floor) (j : JobFloor) (i i' : List Item) (r : Result Joined Memory) → SignalAnswer who (done_channel base row) c c' i i' r → DoneAnswer who base (ReceivesDone base row) c c' j j i i' r
+done_at : (who base row : ℕ) (c c' : Floor) (j : JobFloor) (i i' : List Item) (r : Result Joined Memory) → SignalAnswer who (done_channel base row) c c' i i' r → DoneAnswer who base (ReceivesDone base row) IsNothing c c' j j i i' r
 unfolding items_in
 done_at who base row c c' j i i' (Ok (joined.Closed v)) h =
     let n = done_channel base row in
@@ -132,11 +133,12 @@ done_at who base row c c' j i i' (Ok joined.Spent) h =
     tells_one who base (ReceivesDone base row NoPlace) (spent (receives n)) c c' j i i' (PlainCall.no_place (receives n) (spent (receives n)) refl) (tt, tt) (none_closed who c c' h.added) h
 done_at who base row c c' j i i' (Err m) h = record {
   told = [];
+  goes = record { rest = []; all = refl };
   noted = both_channels who c c' j j i i' [] (nobody_called who j) h;
   dones = still_kept base c c' j [] tt (none_closed who c c' h.added);
 }
 
-pub done_answer : (who base row n : ℕ) (c c' : Floor) (j : JobFloor) (i i' : List Item) (r : Result Joined Memory) → n ≡ done_channel base row → SignalAnswer who n c c' i i' r → DoneAnswer who base (ReceivesDone base row) c c' j j i i' r
+pub done_answer : (who base row n : ℕ) (c c' : Floor) (j : JobFloor) (i i' : List Item) (r : Result Joined Memory) → n ≡ done_channel base row → SignalAnswer who n c c' i i' r → DoneAnswer who base (ReceivesDone base row) IsNothing c c' j j i i' r
 done_answer who base row n c c' j i i' r e h = done_at who base row c c' j i i' r (subst (λ m. SignalAnswer who m c c' i i' r) e h)
 
 -- ---- what the call needs

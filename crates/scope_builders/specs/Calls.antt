@@ -11,7 +11,7 @@ use Rattle.job_model.specs.declared.acts.End.{End}
 use Rattle.job_model.specs.declared.acts.Reason.TheVariants as reasons
 use Rattle.job_model.specs.declared.floor.Attached.{Attached}
 use Rattle.job_model.specs.declared.floor.Ended.{Ended}
-use Rattle.job_model.specs.Trees.{is_childless}
+use Rattle.job_model.specs.Trees.{Tree, is_childless}
 use Rattle.job_model.specs.Done.{done_channel}
 use Rattle.job_model.specs.Answers.{is_owed}
 use Rattle.job_model.specs.Needs.{MayEndBody}
@@ -20,12 +20,14 @@ use Rattle.job_model.specs.Cancels.{IsAllCancelled, own_cancel, AreCancelsBelow}
 use Rattle.job_model.specs.Floors.{Floor, AtStep, AtEntry}
 use Rattle.note_book.specs.declared.book.Item.{Item}
 use Rattle.note_book.specs.Items.{channel_acts_in, job_acts_in}
-use Rattle.call_meaning.specs.Telling.{Told, on_jobs, MayRun, NotNew, HasEnded, items_in, did, knew, saw, saw_end}
+use Rattle.call_meaning.specs.Telling.{Told, on_jobs, MayRun, NotNew, IsCancelling, HasEnded, items_in, did, knew, saw, saw_end}
 use Rattle.call_meaning.specs.Facts.{IsAlive}
 use Rattle.call_meaning.specs.ChannelCalls.{Answer, Closed, Waits, NoPlace, receives, PlainCall}
-use Rattle.call_meaning.specs.JobCalls.{child_kind, scope_kind, Starts, Passes, EndsBody, BreaksOff}
+use Rattle.call_meaning.specs.JobCalls.{child_kind, scope_kind, reason_for, Starts, Passes, Breaks, EndsBody, BreaksOff}
+use Rattle.call_meaning.specs.Prefixes.{PrefixOf}
 use Rattle.call_meaning.specs.Calls.{ToldOnJobs, ToldOnBoth}
 use Rattle.channel_calls.specs.Calls.{IsLeftWaiting}
+use Rattle.job_tree.specs.Failures.{BeginsToFailUp}
 use Rattle.scope_builders.specs.declared.builder.Builder.{Builder}
 use Rattle.scope_builders.specs.declared.builder.Joined.{Joined}
 use Rattle.scope_builders.specs.declared.builder.Joined.TheVariants as joined
@@ -131,6 +133,14 @@ CancelledAllAnswer who row j j' i i' (Err m) = CancelledSome who row j j' i i'
 
 -- ---- the ends of bodies
 
+-- this was told so
+pub record TellsBoth (who base : ℕ) (P : List Told → Type 0) (c c' : ChannelFloor) (j j' : Floor) (items items' : List Item)
+    : Type 0 where
+  pub told : List Told
+  pub goes : P told
+  pub noted : ToldOnBoth who [] c c' j j' items items' told
+  pub dones : KeepsDones base c c' j j' (items_in told)
+
 -- the body ended, and then what its end brought about; the answer is Owes exactly where no child lived at the end of the body
 pub record EndedJob (who base row value : ℕ) (c c' : ChannelFloor) (j j' : Floor) (items items' : List Item)
     (answer : Ended) : Type 0 where
@@ -140,16 +150,26 @@ pub record EndedJob (who base row value : ℕ) (c c' : ChannelFloor) (j j' : Flo
   pub owes : AtEntry who [] (EndBody row value) j j' (λ tree. is_childless (tree row) ≡ is_owed answer)
   pub dones : KeepsDones base c c' j j' (items_in told)
 
--- the entries made so far stand, and what was told of them was so
-pub record DidSome (who base : ℕ) (c c' : ChannelFloor) (j j' : Floor) (items items' : List Item) : Type 0 where
-  pub told : List Told
-  pub noted : ToldOnBoth who [] c c' j j' items items' told
-  pub dones : KeepsDones base c c' j j' (items_in told)
-
 abbrev pub EndedAnswer : ℕ → ℕ → ℕ → ℕ → ChannelFloor → ChannelFloor → Floor → Floor → List Item → List Item
     → Result Ended Memory → Type 0
 EndedAnswer who base row value c c' j j' i i' (Ok answer) = EndedJob who base row value c c' j j' i i' answer
-EndedAnswer who base row value c c' j j' i i' (Err m) = DidSome who base c c' j j' i i'
+EndedAnswer who base row value c c' j j' i i' (Err m) = TellsBoth who base (PrefixOf (EndsBody base row value)) c c' j j' i i'
+
+-- the cancellations of a body of k that breaks off were begun
+pub data BeginsToBreak (k row : ℕ) (tree : Tree) : Option ℕ → List Told → Type 0 where
+  -- its Job was cancelled, or not by this call, and some of those below it
+  in_pass : (failure : Option ℕ) (newly : Bool) (below : List JobAct) → AreCancelsBelow tree row below
+      → BeginsToBreak k row tree failure (map did (own_cancel newly row (reason_for failure) ++ below))
+  -- the coroutine's own Job was cancelled by its failure, with all below it, and the failure began to go up
+  going_up : (f : ℕ) (pass : List Told) (up : List JobAct) → row ≡ k → Passes row (reasons.Own f) true pass
+      → BeginsToFailUp tree row up → BeginsToBreak k row tree (Some f) (pass ++ map did up)
+
+-- a body of k began to break off: its Job was about to be cancelled, or was Cancelling, and the body ended with a part of what that
+-- brought about
+pub data BeginsToBreakOff (base k row : ℕ) (failure : Option ℕ) (tree : Tree) : List Told → Type 0 where
+  cancels : (told : List Told) → BeginsToBreak k row tree failure told → BeginsToBreakOff base k row failure tree told
+  ends : (told end : List Told) → Breaks k row failure told → PrefixOf (EndsBody base row 0) end
+      → BeginsToBreakOff base k row failure tree (told ++ on_jobs (IsCancelling row) ∷ end)
 
 -- the body broke off: its Job was cancelled, or seen Cancelling, and the body ended
 pub record BrokeJob (who base row : ℕ) (failure : Option ℕ) (c c' : ChannelFloor) (j j' : Floor) (items items' : List Item)
@@ -164,17 +184,10 @@ pub record BrokeJob (who base row : ℕ) (failure : Option ℕ) (c c' : ChannelF
 abbrev pub BrokenAnswer : ℕ → ℕ → ℕ → Option ℕ → ChannelFloor → ChannelFloor → Floor → Floor → List Item → List Item
     → Result Ended Memory → Type 0
 BrokenAnswer who base row failure c c' j j' i i' (Ok answer) = BrokeJob who base row failure c c' j j' i i' answer
-BrokenAnswer who base row failure c c' j j' i i' (Err m) = DidSome who base c c' j j' i i'
+BrokenAnswer who base row failure c c' j j' i i' (Err m) =
+    TellsBoth who base (BeginsToBreakOff base who row failure (replay j'.seen)) c c' j j' i i'
 
 -- ---- join, await and the end of a scope
-
--- this was told so
-pub record TellsBoth (who base : ℕ) (P : List Told → Type 0) (c c' : ChannelFloor) (j j' : Floor) (items items' : List Item)
-    : Type 0 where
-  pub told : List Told
-  pub goes : P told
-  pub noted : ToldOnBoth who [] c c' j j' items items' told
-  pub dones : KeepsDones base c c' j j' (items_in told)
 
 -- the done channel of the row is received from
 abbrev pub ReceivesDone : ℕ → ℕ → Answer → List Told → Type 0
@@ -194,21 +207,30 @@ pub record JoinsJob (base own row : ℕ) (a : Answer) (told : List Told) : Type 
   pub awaits : AwaitsEnd base row a group
   pub all : told ≡ on_jobs (MayRun own) ∷ group
 
--- what such a receive told, by its answer; an element is never received
-abbrev pub DoneAnswer : ℕ → ℕ → (Answer → List Told → Type 0) → ChannelFloor → ChannelFloor → Floor → Floor → List Item → List Item
-    → Result Joined Memory → Type 0
-DoneAnswer who base P c c' j j' i i' (Ok (joined.Closed v)) = TellsBoth who base (P (Closed v)) c c' j j' i i'
-DoneAnswer who base P c c' j j' i i' (Ok (joined.Waits w)) =
+-- nothing is told before such a receive; or what starts the Job; or also that the caller's own Job may run
+abbrev pub IsNothing : List Told → Type 0
+IsNothing told = told ≡ []
+
+abbrev pub JoinStarts : ℕ → ℕ → List Told → Type 0
+JoinStarts own row told = (starts : List Told) × Starts row starts × (told ≡ on_jobs (MayRun own) ∷ starts)
+
+-- what such a receive told, by its answer; an element is never received. Without memory no wait was placed: a beginning of what comes
+-- before the receive was told
+abbrev pub DoneAnswer : ℕ → ℕ → (Answer → List Told → Type 0) → (List Told → Type 0) → ChannelFloor → ChannelFloor → Floor → Floor
+    → List Item → List Item → Result Joined Memory → Type 0
+DoneAnswer who base P before c c' j j' i i' (Ok (joined.Closed v)) = TellsBoth who base (P (Closed v)) c c' j j' i i'
+DoneAnswer who base P before c c' j j' i i' (Ok (joined.Waits w)) =
     (t : TellsBoth who base (P (Waits w)) c c' j j' i i') × IsLeftWaiting who w (channel_acts_in (items_in t.told)) c c'
-DoneAnswer who base P c c' j j' i i' (Ok joined.Cancelled) = ⊥
-DoneAnswer who base P c c' j j' i i' (Ok joined.Spent) = TellsBoth who base (P NoPlace) c c' j j' i i'
-DoneAnswer who base P c c' j j' i i' (Err m) = DidSome who base c c' j j' i i'
+DoneAnswer who base P before c c' j j' i i' (Ok joined.Cancelled) = ⊥
+DoneAnswer who base P before c c' j j' i i' (Ok joined.Spent) = TellsBoth who base (P NoPlace) c c' j j' i i'
+DoneAnswer who base P before c c' j j' i i' (Err m) = TellsBoth who base (PrefixOf before) c c' j j' i i'
 
 -- a join, whose caller's own Job may be seen Cancelling
 abbrev pub JoinAnswer : ℕ → ℕ → ℕ → ℕ → ChannelFloor → ChannelFloor → Floor → Floor → List Item → List Item
     → Result Joined Memory → Type 0
 JoinAnswer who base own row c c' j j' i i' (Ok joined.Cancelled) = TellsBoth who base (λ told. told ≡ saw own ∷ []) c c' j j' i i'
-JoinAnswer who base own row c c' j j' i i' other = DoneAnswer who base (JoinsJob base own row) c c' j j' i i' other
+JoinAnswer who base own row c c' j j' i i' other =
+    DoneAnswer who base (JoinsJob base own row) (JoinStarts own row) c c' j j' i i' other
 
 -- how the Job ended, or that it had not
 abbrev pub SeenEndAnswer : ℕ → ℕ → Floor → Floor → List Item → List Item → Result (Option End) Memory → Type 0

@@ -1,29 +1,24 @@
 -- The done channels of Jobs, and how one is closed and received from.
-use Rattle.std.specs.Prelude.{◌≡◌, ℕ, ◌+◌, ◌<◌, ◌≤◌, true, List, [], ◌∷◌, ◌++◌, length, Option, Some, None, Result, Ok, Err}
+use Rattle.std.specs.Prelude.{◌≡◌, ℕ, ◌+◌, ◌<◌, ◌≤◌, true, List, [], ◌∷◌, ◌++◌, length, Result, Ok, Err}
 use Rattle.co_base.specs.declared.names.WaitId.{WaitId}
 use Rattle.co_base.specs.declared.names.Memory.{Memory}
 use Rattle.channel_model.specs.declared.acts.Act.TheVariants.{Await, Close}
 use Rattle.channel_model.specs.declared.acts.ChannelNote.TheVariants.{AlreadyClosed, ReceiveClosed}
-use Rattle.channel_model.specs.declared.acts.ChannelNote.TheVariants as of_channel
 use Rattle.channel_model.specs.Channels.{places_at}
 use Rattle.channel_model.specs.Histories.{replay as replay_channels}
 use Rattle.channel_model.specs.Floors.{Floor as ChannelFloor}
 use Rattle.channel_model.specs.Answers.{IsSeenClosed}
 use Rattle.job_model.specs.declared.acts.End.{End}
-use Rattle.job_model.specs.declared.acts.JobAct.{JobAct}
-use Rattle.job_model.specs.declared.acts.JobAct.TheVariants.{Attach, Start, EndBody, Cancel, Finish, Gone}
-use Rattle.job_model.specs.declared.acts.JobNote.{JobNote}
-use Rattle.job_model.specs.declared.acts.JobNote.TheVariants as of_job
 use Rattle.job_model.specs.Done.{done_channel}
 use Rattle.job_model.specs.Laws.{has_ended}
 use Rattle.job_model.specs.Histories.{replay}
 use Rattle.job_model.specs.Floors.{Floor}
 use Rattle.note_book.specs.declared.book.Item.{Item}
-use Rattle.note_book.specs.declared.book.Item.TheVariants as item
 use Rattle.call_meaning.specs.Telling.{Told, items_in, made, heard}
 use Rattle.call_meaning.specs.Facts.{IsClosedWith}
 use Rattle.call_meaning.specs.ChannelCalls.{receives, wait_at, spent, Wakes, Closes}
 use Rattle.call_meaning.specs.JobCalls.{value_of}
+use Rattle.call_meaning.specs.Endings.{ClosesAtOnce}
 use Rattle.call_meaning.specs.Calls.{ToldOnChannels}
 use Rattle.channel_calls.specs.Calls.{IsLeftWaiting}
 use Rattle.scope_builders.specs.declared.builder.Joined.{Joined}
@@ -98,39 +93,6 @@ ClosedIsSeen c new other = Unit {0}
 -- each done channel that is closed is that of an ended Job
 abbrev pub OnlyEndedAreClosed : ℕ → ChannelFloor → Floor → Type 0
 OnlyEndedAreClosed base c j = (r : ℕ) → r < j.shape.rows → IsSeenClosed (done_channel base r) c → has_ended (replay j.seen r) ≡ true
-
--- the Finish that the item is, if it is one: its row and its end
-abbrev pub finish_in : JobAct → Option (ℕ × End)
-finish_in (Attach p r kind tag cancelled) = None
-finish_in (Start r) = None
-finish_in (EndBody r v) = None
-finish_in (Cancel r reason) = None
-finish_in (Finish r end) = Some (r, end)
-finish_in (Gone r) = None
-
-abbrev pub finish_in_note : JobNote → Option (ℕ × End)
-finish_in_note (of_job.Made act) = finish_in act
-finish_in_note (of_job.Saw row) = None
-finish_in_note (of_job.SawEnd row end) = None
-finish_in_note (of_job.Fail code) = None
-finish_in_note of_job.NoRow = None
-finish_in_note of_job.Used = None
-finish_in_note of_job.ParentEnded = None
-
-abbrev pub finish_of : Item → Option (ℕ × End)
-finish_of (item.Channel note) = None
-finish_of (item.Job note) = finish_in_note note
-
--- the first of these items is the Close of the done channel, with the Job's result or 0
-abbrev pub IsClosedNext : ℕ → Option (ℕ × End) → List Item → Type 0
-IsClosedNext base None items = Unit {0}
-IsClosedNext base (Some x) [] = ⊥
-IsClosedNext base (Some x) (i ∷ items) = i ≡ item.Channel (of_channel.Made (Close (done_channel base x.0) (value_of x.1)))
-
--- right after each Finish comes the Close of the Job's done channel
-abbrev pub ClosesAtOnce : ℕ → List Item → Type 0
-ClosesAtOnce base [] = Unit {0}
-ClosesAtOnce base (i ∷ items) = IsClosedNext base (finish_of i) items × ClosesAtOnce base items
 
 -- floors that nobody else calls keep that only done channels of ended Jobs are closed, and each Finish is closed at once
 pub record KeepsDones (base : ℕ) (c c' : ChannelFloor) (j j' : Floor) (group : List Item) : Type 0 where

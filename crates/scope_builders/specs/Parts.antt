@@ -1,5 +1,5 @@
 -- What the parts of a call come to.
-use Rattle.std.specs.Prelude.{◌≡◌, ℕ, Bool, true, false, List, [], ◌∷◌, ◌++◌, Option, Some, None, Result, Ok, Err, OnOk, is_some}
+use Rattle.std.specs.Prelude.{◌≡◌, ℕ, Bool, true, false, List, [], ◌∷◌, ◌++◌, Option, Some, None, Result, Ok, Err, is_some}
 use Rattle.std.specs.List.{list_all}
 use Rattle.co_base.specs.declared.names.Memory.{Memory}
 use Rattle.channel_model.specs.Floors.{Floor as ChannelFloor}
@@ -23,12 +23,13 @@ use Rattle.note_book.specs.Items.{job_acts_in}
 use Rattle.call_meaning.specs.Telling.{Told, on_jobs, MayRun, IsCancelling, HasEnded, items_in, did, knew}
 use Rattle.call_meaning.specs.Facts.{JobFactHolds}
 use Rattle.call_meaning.specs.JobCalls.{Breaks, Chain}
+use Rattle.call_meaning.specs.Prefixes.{PrefixOf}
 use Rattle.call_meaning.specs.Calls.{ToldOnJobs, ToldOnBoth}
-use Rattle.job_tree.specs.Passes.{is_cancel, HasCancelled}
+use Rattle.job_tree.specs.Passes.{is_cancel}
 use Rattle.scope_builders.specs.declared.builder.LaunchError.{LaunchError}
 use Rattle.scope_builders.specs.declared.builder.LaunchError.TheVariants as launch
 use Rattle.scope_builders.specs.Dones.{KeepsDones}
-use Rattle.scope_builders.specs.Calls.{NoneLeft}
+use Rattle.scope_builders.specs.Calls.{NoneLeft, BeginsToBreak}
 
 -- ---- attach
 
@@ -107,10 +108,17 @@ pub record IsBroken (who row : ℕ) (failure : Option ℕ) (old new : Floor) (it
   pub owned : OwnsBody who (replay new.seen row)
   pub here : IsCancellingOrEnded (replay new.seen row)
 
+-- these cancellations were begun
+pub record HasBegunToBreak (who row : ℕ) (failure : Option ℕ) (old new : Floor) (items items' : List Item) : Type 0 where
+  pub told : List Told
+  pub begun : BeginsToBreak who row (replay new.seen) failure told
+  pub cancels : AreCancels told
+  pub noted : ToldOnJobs who [] old new items items' told
+
 -- the body broke off so, or as far as there was memory
 abbrev pub BreakAnswer : ℕ → ℕ → Option ℕ → Floor → Floor → List Item → List Item → Result (Unit {0}) Memory → Type 0
 BreakAnswer who row failure old new items items' (Ok done) = IsBroken who row failure old new items items'
-BreakAnswer who row failure old new items items' (Err m) = HasCancelled who old new items items'
+BreakAnswer who row failure old new items items' (Err m) = HasBegunToBreak who row failure old new items items'
 
 -- the Job was cancelled so, or was seen Cancelling
 pub record IsCancelledFirst (who row : ℕ) (failure : Option ℕ) (old new : Floor) (items items' : List Item) : Type 0 where
@@ -122,10 +130,15 @@ pub record IsCancelledFirst (who row : ℕ) (failure : Option ℕ) (old new : Fl
 
 -- ---- to end Jobs
 
+-- a chain, or a beginning of one
+abbrev pub ChainAnswer : ℕ → ℕ → List Told → Result (Unit {0}) Memory → Type 0
+ChainAnswer base row told (Ok done) = Chain base row told
+ChainAnswer base row told (Err m) = PrefixOf (Chain base row) told
+
 -- the chain of ends from a Job upwards; without memory it stops
 pub record FinishedUp (who base row : ℕ) (c c' : ChannelFloor) (j j' : Floor) (items items' : List Item)
     (result : Result (Unit {0}) Memory) : Type 0 where
   pub told : List Told
-  pub chain : OnOk result (Chain base row told)
+  pub chain : ChainAnswer base row told result
   pub noted : ToldOnBoth who [] c c' j j' items items' told
   pub dones : KeepsDones base c c' j j' (items_in told)

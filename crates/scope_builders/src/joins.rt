@@ -4,9 +4,10 @@ ghost use Rattle.std.specs.Prelude.{◌≡◌, true, is_some};
 ghost use Rattle.job_model.specs.Needs.{MayEndBody};
 ghost use Rattle.job_model.specs.Histories.{replay};
 ghost use Rattle.job_model.specs.Done.{done_channel};
+ghost use Rattle.call_meaning.specs.JobCalls.{Starts};
 ghost use Rattle.scope_builders.specs.Dones.{ClosedIsSeen};
 ghost use Rattle.scope_builders.specs.Parts.{OwnAnswer, goes_on, end_in};
-ghost use Rattle.scope_builders.specs.Calls.{SameBuilder, MayBuild, ReceivesDone, AwaitsEnd, DoneAnswer, JoinAnswer, SeenEndAnswer};
+ghost use Rattle.scope_builders.specs.Calls.{SameBuilder, MayBuild, ReceivesDone, AwaitsEnd, IsNothing, DoneAnswer, JoinAnswer, SeenEndAnswer};
 
 use crate::builder::{Builder, Joined};
 use crate::done_channels::receive_signal;
@@ -55,6 +56,8 @@ fn end_in(job: Option<JobView>) -> Option<End>
 
 impl<C: ChannelFloor, J: JobFloor, B: NoteBook, W: Wakes> Builder<'_, '_, '_, '_, C, J, B, W> {
     /// Waits for the end of a Job, unless the caller's own Job is seen Cancelling. A Job that is New is started.
+    ///
+    /// It asks more of the own Job than the look at it needs: its body is the caller's, may run and has not ended.
     pub fn join(&mut self, own: Row, row: Row) -> Result<Joined, Memory>
         requires may { MayBuild self.old.who self.old.base (C.view self.old.channels.now) (J.view self.old.jobs.now) }
         requires own { MayEndBody self.old.who (replay (J.view self.old.jobs.now).seen own) }
@@ -79,7 +82,7 @@ impl<C: ChannelFloor, J: JobFloor, B: NoteBook, W: Wakes> Builder<'_, '_, '_, '_
         requires may { MayBuild self.old.who self.old.base (C.view self.old.channels.now) (J.view self.old.jobs.now) }
         requires row { is_some (replay (J.view self.old.jobs.now).seen row) ≡ true }
         ensures same { SameBuilder C.anchor J.anchor self.old self.new }
-        ensures answer { DoneAnswer self.old.who self.old.base (AwaitsEnd self.old.base row)
+        ensures answer { DoneAnswer self.old.who self.old.base (AwaitsEnd self.old.base row) (Starts row)
             (C.view self.old.channels.now) (C.view self.new.channels.now) (J.view self.old.jobs.now) (J.view self.new.jobs.now)
             (B.items self.old.book.now) (B.items self.new.book.now) result }
         ensures closed { ClosedIsSeen (done_channel self.old.base row) (C.view self.new.channels.now) result }
@@ -96,7 +99,7 @@ impl<C: ChannelFloor, J: JobFloor, B: NoteBook, W: Wakes> Builder<'_, '_, '_, '_
         requires row { is_some (replay (J.view self.old.jobs.now).seen row) ≡ true }
         ensures same { SameBuilder C.anchor J.anchor self.old self.new }
         ensures jobs { self.new.jobs.now ≡ self.old.jobs.now }
-        ensures answer { DoneAnswer self.old.who self.old.base (ReceivesDone self.old.base row)
+        ensures answer { DoneAnswer self.old.who self.old.base (ReceivesDone self.old.base row) IsNothing
             (C.view self.old.channels.now) (C.view self.new.channels.now) (J.view self.old.jobs.now) (J.view self.new.jobs.now)
             (B.items self.old.book.now) (B.items self.new.book.now) result }
         ensures closed { ClosedIsSeen (done_channel self.old.base row) (C.view self.new.channels.now) result }

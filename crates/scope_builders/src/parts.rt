@@ -8,10 +8,10 @@ ghost use Rattle.job_model.specs.Floors.{MayCall};
 ghost use Rattle.call_meaning.specs.JobCalls.{reason_for};
 ghost use Rattle.job_tree.specs.declared.caller.Reserve.TheVariants.{AsItGoes};
 ghost use Rattle.job_tree.specs.Callers.{SameCaller};
-ghost use Rattle.job_tree.specs.Passes.{PassAnswer, HasCancelled, IsFailure};
+ghost use Rattle.job_tree.specs.Passes.{PassAnswer, IsFailure};
 ghost use Rattle.job_tree.specs.Failures.{ClimbAnswer};
 ghost use Rattle.scope_builders.specs.Calls.{MayBuild};
-ghost use Rattle.scope_builders.specs.Parts.{AttachedAnswer, SeenAnswer, BreakAnswer, IsCancelledFirst, FinishedUp};
+ghost use Rattle.scope_builders.specs.Parts.{AttachedAnswer, SeenAnswer, BreakAnswer, HasBegunToBreak, IsCancelledFirst, FinishedUp};
 
 use crate::builder::LaunchError;
 use crate::done_channels::DoneChannels;
@@ -195,7 +195,8 @@ pub(crate) fn cancel_first<J: JobFloor, B: NoteBook, W: Wakes>(
     ensures jobs_anchor { J.anchor jobs.new ≡ J.anchor jobs.old }
     ensures cancelled { OnOk result
         (IsCancelledFirst who row failure (J.view jobs.old) (J.view jobs.new) (B.items book.old) (B.items book.new)) }
-    ensures some { OnErr result (HasCancelled who (J.view jobs.old) (J.view jobs.new) (B.items book.old) (B.items book.new)) }
+    ensures begun { OnErr result
+        (HasBegunToBreak who row failure (J.view jobs.old) (J.view jobs.new) (B.items book.old) (B.items book.new)) }
 {
     if is_cancelling(jobs, who, row) {
         return Ok(());

@@ -19,5 +19,5 @@ pub returns-in-Ok-clause-cancelled : goal.returns-in-Ok-clause-cancelled
 returns-in-Ok-clause-cancelled g c =
     cancelled_so _ _ _ _ _ _ _ _ c.if-is_cancelling.ensures.seen (g.met.J.JobFloor.legal c.break_off.new.jobs) c.in-Ok.ensures.broken
 
-pub returns-in-Err-clause-some : goal.returns-in-Err-clause-some
-returns-in-Err-clause-some g c = cancelled_some _ _ _ _ _ _ c.if-is_cancelling.ensures.seen c.in-Err.ensures.broken
+pub returns-in-Err-clause-begun : goal.returns-in-Err-clause-begun
+returns-in-Err-clause-begun g c = cancelled_some _ _ _ _ _ _ _ _ c.if-is_cancelling.ensures.seen c.in-Err.ensures.broken

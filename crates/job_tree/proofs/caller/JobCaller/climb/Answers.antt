@@ -67,8 +67,8 @@ returns-in-Err-clause-answer g c =
     let t = c.in-Some.ensures in
     let m = c.in-Err.ensures.answer in (
       m.0,
-      climb_part _ _ _ _ _ _ _ _ _ _ _ _ (t.same.who ∙ i.same.who)
-          (climb_looked _ _ _ _ _ _ _ _ _ _ i.same.who (ap g.B.NoteBook.items t.book) (g.met.F.JobFloor.legal c.failing_parent.new.self.floor.now) i.climb t.answer.looked) m.1,
+      climb_part _ _ _ _ _ _ _ _ _ _ _ (t.same.who ∙ i.same.who) (g.met.F.JobFloor.legal c.pass_except.new.self.floor.now)
+          (climb_looked _ _ _ _ _ _ _ _ _ _ i.same.who (ap g.B.NoteBook.items t.book) (g.met.F.JobFloor.legal c.failing_parent.new.self.floor.now) i.climb t.answer.looked) t.answer.is m.1,
     )
 
 pub loop-parent-preserved : goal.loop-parent-preserved

@@ -1,4 +1,3 @@
-use Rattle.std.proofs.Common.{refl, ◌∙◌}
 use Rattle.job_model.proofs.Spans.{setting_then}
 use Rattle.job_tree.proofs.CallersKept.{caller_self, caller_then}
 use Rattle.job_tree.proofs.Walks.{legal_as, may_next}

@@ -1,10 +1,10 @@
 use Rattle.std.proofs.Common.{refl}
 use Rattle.scope_builders.proofs.Rooms.{told_none, may_call_after}
-use Rattle.scope_builders.proofs.Bodies.{ended_body, own_attached, body_added, did_none, ended_alone, ended_up, ended_some}
+use Rattle.scope_builders.proofs.Bodies.{ended_body, own_attached, body_added, did_none, ends_nothing, ended_alone, ended_up, ended_some}
 use Rattle.scope_builders.proofs.builder.Builder.end_job.Goals as goal
 
 pub returns-in-Err-clause-answer : goal.returns-in-Err-clause-answer
-returns-in-Err-clause-answer g c = did_none _ _ _ _ _ _ _ _ (g.met.J.JobFloor.legal c.make_room.new.floor) refl (told_none _ _ _ _ _ c.in-Err.ensures.same c.make_room.ensures.items)
+returns-in-Err-clause-answer g c = did_none _ _ _ _ _ _ _ _ _ (ends_nothing _ _ _) (g.met.J.JobFloor.legal c.make_room.new.floor) refl (told_none _ _ _ _ _ c.in-Err.ensures.same c.make_room.ensures.items)
 
 pub finish_up-requires-clause-row : goal.finish_up-requires-clause-row
 finish_up-requires-clause-row g c =
@@ -24,4 +24,4 @@ pub returns-in-Err-finish_up-clause-answer : goal.returns-in-Err-finish_up-claus
 returns-in-Err-finish_up-clause-answer g c =
     ended_some _ _ _ _ _ _ _ _ _ _ _ _ _ _ (g.met.J.JobFloor.legal c.end_body-ended.new.self) (body_added _ _ _ _ _ _ _ _ c.in_default.ensures.floor c.in-Owes.ensures.answer)
     (ended_body _ _ _ _ _ _ _ _ _ _ _ c.in_default.ensures.floor c.in-Owes.ensures.answer c.make_room.ensures.items c.note.ensures.items)
-    c.finish_up.ensures.finished
+    c.in-Err-finish_up.ensures.finished

@@ -1,12 +1,12 @@
 use Rattle.std.proofs.Common.{refl}
 use Rattle.job_model.proofs.Spans.{added_looked}
 use Rattle.scope_builders.proofs.Rooms.{told_none, may_call_after}
-use Rattle.scope_builders.proofs.Bodies.{did_none}
+use Rattle.scope_builders.proofs.Bodies.{did_none, joins_nothing}
 use Rattle.scope_builders.proofs.Awaits.{join_stops, joins_told}
 use Rattle.scope_builders.proofs.builder.Builder.join.Goals as goal
 
 pub returns-in-Err-clause-answer : goal.returns-in-Err-clause-answer
-returns-in-Err-clause-answer g c = did_none _ _ _ _ _ _ _ _ (g.met.J.JobFloor.legal c.args.self.now.jobs.now) refl (told_none _ _ _ _ _ refl c.room.ensures.items)
+returns-in-Err-clause-answer g c = did_none _ _ _ _ _ _ _ _ _ (joins_nothing _ _) (g.met.J.JobFloor.legal c.args.self.now.jobs.now) refl (told_none _ _ _ _ _ refl c.room.ensures.items)
 
 pub returns-then-not-may_run-clause-answer : goal.returns-then-not-may_run-clause-answer
 returns-then-not-may_run-clause-answer g c =
