@@ -1,0 +1,126 @@
+//! What streams give.
+
+use crate::pass_calls::{send, send_both, wait};
+use cell_words::Hub;
+use channel_model::{Got, Kind, Offered};
+use co_base::Failed;
+use future_bridge::{Drive, DriveError, HostDrive, ReceiveStream, Spent, Stopped, collect_all};
+use futures::task::{Context, Poll};
+use futures::{Future, Stream};
+use std::test::Fail;
+
+/// A drive that fails at each call.
+#[derive(Drop)]
+pub(crate) struct Refuses {
+    pub(crate) calls: u64,
+}
+
+impl Drive for Refuses {
+    ghost faults = { λ d. d.calls };
+
+    fn drive<T: Future>(&mut self, _future: T) -> Result<T::Output, Failed> {
+        self.calls = self.calls.saturating_add(1);
+        Err(Failed)
+    }
+}
+
+/// Polls a stream once, and gives it back.
+#[derive(Drop)]
+struct PolledOnce<'a> {
+    stream: Option<ReceiveStream<'a>>,
+}
+
+impl<'a> Future for PolledOnce<'a> {
+    ghost use Rattle.std.specs.Prelude.{IsSomeAnd};
+    ghost use Rattle.future_bridge.specs.Streams.{Stands};
+
+    type Output = (ReceiveStream<'a>, bool);
+
+    ghost can_poll = { λ f. IsSomeAnd f.stream Stands };
+
+    ghost gives = { λ f r. Stands r.0 };
+
+    fn poll(&mut self, cx: &mut Context<'_>) -> Poll<Self::Output> {
+        let Some(mut stream) = self.stream.take() else {
+            unreachable!()
+        };
+        let pending = matches!(stream.poll_next(cx), Poll::Pending);
+        Poll::Ready((stream, pending))
+    }
+}
+
+#[test]
+fn all_elements_of_a_closed_channel_come_in_order(rt: HostRuntime) -> Result<(), Fail> {
+    let kinds = [(Kind::Buffered(2), 4u32)];
+    let (hub, mut main) = Hub::new(rt.alloc(), &kinds)?;
+    let mut a = hub.split(&mut main, 1);
+    let b = hub.split(&mut main, 2);
+    assert!(rt; send_both(&hub, &mut a, 1, 7, 8));
+    let mut host = HostDrive::new(&rt);
+    let Ok((_pass, items)) = collect_all(rt.alloc(), &mut host, &hub, b, 2, 0) else {
+        panic!(rt; "collected");
+    };
+    assert_eq!(rt; items.as_slice(), [Ok(7), Ok(8)].as_slice());
+    assert_eq!(rt; host.faults(), 0);
+    Ok(())
+}
+
+#[test]
+fn the_fault_is_the_last_item(rt: HostRuntime) -> Result<(), Fail> {
+    let kinds = [(Kind::Rendezvous, 1u32)];
+    let (hub, mut main) = Hub::new(rt.alloc(), &kinds)?;
+    let mut a = hub.split(&mut main, 1);
+    let b = hub.split(&mut main, 2);
+    assert_eq!(rt; wait(&hub, &mut a, 1), Got::Waiting(0));
+    let mut host = HostDrive::new(&rt);
+    let Ok((_pass, items)) = collect_all(rt.alloc(), &mut host, &hub, b, 2, 0) else {
+        panic!(rt; "collected");
+    };
+    assert_eq!(rt; items.as_slice(), [Err(Spent)].as_slice());
+    Ok(())
+}
+
+#[test]
+fn a_stream_that_is_stopped_gives_its_element_up(rt: HostRuntime) -> Result<(), Fail> {
+    let kinds = [(Kind::Rendezvous, 4u32)];
+    let (hub, mut main) = Hub::new(rt.alloc(), &kinds)?;
+    let a = hub.split(&mut main, 1);
+    let mut b = hub.split(&mut main, 2);
+    let idle = hub.split(&mut main, 3);
+    let mut host = HostDrive::new(&rt);
+    let once = PolledOnce {
+        stream: Some(ReceiveStream::new(&hub, a, 1, 0)),
+    };
+    let Ok((stream, pending)) = host.drive(once) else {
+        panic!(rt; "driven");
+    };
+    assert!(rt; pending);
+    assert_eq!(rt; send(&hub, &mut b, 2, 5), Offered::Handed(0, 1));
+    let (_pass, stopped) = stream.stop();
+    assert_eq!(rt; stopped, Stopped::Undelivered(5));
+    let (_pass, stopped) = ReceiveStream::new(&hub, idle, 3, 0).stop();
+    assert_eq!(rt; stopped, Stopped::Idle);
+    Ok(())
+}
+
+#[test]
+fn a_drive_that_fails_makes_no_entry(rt: HostRuntime) -> Result<(), Fail> {
+    let kinds = [(Kind::Buffered(2), 4u32)];
+    let (hub, mut main) = Hub::new(rt.alloc(), &kinds)?;
+    let mut a = hub.split(&mut main, 1);
+    let b = hub.split(&mut main, 2);
+    let c = hub.split(&mut main, 3);
+    assert!(rt; send_both(&hub, &mut a, 1, 7, 8));
+    let mut refuses = Refuses { calls: 0 };
+    let failed = matches!(
+        collect_all(rt.alloc(), &mut refuses, &hub, b, 2, 0),
+        Err(DriveError::Failed)
+    );
+    assert!(rt; failed);
+    let mut host = HostDrive::new(&rt);
+    let Ok((_pass, items)) = collect_all(rt.alloc(), &mut host, &hub, c, 3, 0) else {
+        panic!(rt; "collected");
+    };
+    assert_eq!(rt; items.as_slice(), [Ok(7), Ok(8)].as_slice());
+    Ok(())
+}

@@ -1,0 +1,10 @@
+pub mod DrainedWaits
+pub mod OwnPasses
+pub mod GainsGo
+pub mod StopsGo
+pub mod StreamsGo
+pub mod SendsGo
+pub mod ListsGo
+pub mod StartsGo
+pub mod JobsGo
+pub mod TakenBySinks

@@ -1,0 +1,101 @@
+-- What one coroutine gained in a span of its calls.
+use Rattle.std.specs.Prelude.{◌≡◌, ℕ, ◌==◌, ◌<◌, Bool, true, false, List, [], ◌∷◌, ◌++◌, length, map, Option, Some, None, if◌then◌else◌}
+use Rattle.co_base.specs.declared.names.WaitId.{WaitId}
+use Rattle.channel_model.specs.declared.acts.Act.{Act}
+use Rattle.channel_model.specs.declared.acts.Act.TheVariants.{Await, Take, Admit, Settle}
+use Rattle.channel_model.specs.declared.acts.Settled.{Settled}
+use Rattle.channel_model.specs.declared.acts.Settled.TheVariants as settled
+use Rattle.channel_model.specs.declared.floor.WaitState.TheVariants as state
+use Rattle.channel_model.specs.Channels.{kind_at, is_signal}
+use Rattle.channel_model.specs.Histories.{replay, acts_of}
+use Rattle.channel_model.specs.Floors.{Floor, Added, AtStep}
+use Rattle.channel_model.specs.Answers.{IsUnsettledOf, IsDrainedAndClosed, IsSpentForReceives, IsAdmittedBelow, state_of_wait}
+use Rattle.future_bridge.specs.declared.steps.Step.{Step}
+use Rattle.future_bridge.specs.declared.steps.Step.TheVariants as step
+
+-- ---- what acts received
+
+-- the element with which a wait ended
+abbrev pub element_in : Settled → List ℕ
+element_in (settled.Value k v) = v ∷ []
+element_in (settled.Sent k) = []
+element_in (settled.Closed k v) = []
+element_in settled.Cancelled = []
+element_in (settled.Undelivered v) = []
+
+-- the element of channel c that the act received: taken, or handed to a wait of that channel that ended with it
+abbrev pub received_by : ℕ → Act → List ℕ
+received_by c (Take d p v) = if d == c then v ∷ [] else []
+received_by c (Settle w outcome) = if w.channel == c then element_in outcome else []
+received_by c other = []
+
+-- the elements that these acts received, in their order
+unfoldable pub received : ℕ → List Act → List ℕ
+received c [] = []
+received c (act ∷ acts) = received_by c act ++ received c acts
+
+-- who received just these elements in the span
+pub record Gained (who c : ℕ) (elements : List ℕ) (old new : Floor) : Type 0 where
+  pub acts : List Act
+  pub added : Added who acts old new
+  pub gets : received c acts ≡ elements
+
+-- ---- a receiver that waits
+
+-- the wait that a plain call begins at this place
+abbrev pub wait_at : ℕ → ℕ → WaitId
+wait_at c place = record { channel = c; place = place }
+
+-- who's last act placed a receiver here, whose wait did not end
+pub record AwaitsLast (who c place : ℕ) (floor : Floor) : Type 0 where
+  pub earlier : List Act
+  pub last : acts_of who floor.seen ≡ earlier ++ Await c place (wait_at c place) 0 ∷ []
+  pub holds : IsUnsettledOf who ((replay floor.seen).waits (wait_at c place))
+
+-- it was seen standing at a moment of the span
+pub record WaitsAt (who c place : ℕ) (old new : Floor) : Type 0 where
+  pub last : AwaitsLast who c place new
+  pub stood : AtStep old new (λ s. state_of_wait (s.waits (wait_at c place)) ≡ Some state.Standing)
+
+-- ---- the end of the elements
+
+-- the close of the channel with this value was seen, and nothing was left of it at a moment of the span behind the close
+pub record EndsAs (c value : ℕ) (old new : Floor) : Type 0 where
+  pub closed : ((replay new.seen).channels c).closed ≡ Some value
+  pub drained : AtStep old new (IsDrainedAndClosed c)
+
+-- the same, with some value
+abbrev pub IsOver : ℕ → Floor → Floor → Type 0
+IsOver c old new = (value : ℕ) × EndsAs c value old new
+
+-- at a moment of the span the open channel had no place left, and nothing to receive
+abbrev pub HasNoPlace : ℕ → Floor → Floor → Type 0
+HasNoPlace c old new = AtStep old new (IsSpentForReceives old.shape c)
+
+-- ---- whoever waits for room
+
+-- each offer below the mark was admitted for which the channel has room
+pub record AdmitsBelow (who c mark : ℕ) (old new : Floor) : Type 0 where
+  pub places : List ℕ
+  pub added : Added who (map (λ q. Admit c q) places) old new
+  pub none : AtStep old new (IsAdmittedBelow old.shape c mark)
+
+-- each that came before
+pub record AdmitsAll (who c : ℕ) (old new : Floor) : Type 0 where
+  pub mark : ℕ
+  pub next : AtStep old new (λ s. (s.channels c).next ≡ mark)
+  pub below : AdmitsBelow who c mark old new
+
+-- ---- one step
+
+-- an element came: it was taken, and then those were admitted for whom there is room; or it was handed to the own wait
+pub data Receives (who c v : ℕ) (old new : Floor) : Type 0 where
+  takes : (place : ℕ) (taken : Floor) → Added who (Take c place v ∷ []) old taken → AdmitsAll who c taken new → Receives who c v old new
+  ends : (place k : ℕ) → Added who (Settle (wait_at c place) (settled.Value k v) ∷ []) old new → Receives who c v old new
+
+-- what it came to; no element comes on a signal
+abbrev pub Stepped : ℕ → ℕ → Floor → Floor → Step → Type 0
+Stepped who c old new (step.Item v) = Gained who c (v ∷ []) old new × Receives who c v old new × (is_signal (kind_at new.shape c) ≡ false)
+Stepped who c old new (step.Ended v) = Gained who c [] old new × EndsAs c v old new
+Stepped who c old new step.Spent = Gained who c [] old new × HasNoPlace c old new
+Stepped who c old new (step.Waits place) = Gained who c [] old new × WaitsAt who c place old new
