@@ -17,7 +17,7 @@ use Rattle.script_grammar.specs.declared.fault.FaultKind.TheVariants.{TooMany, T
 use Rattle.script_grammar.specs.Texts.{line_at, lines_from, when_closed, finish, reading_of}
 use Rattle.script_grammar.specs.Faulty.{Leads, FirstFault}
 use Rattle.script_grammar.specs.Faulty as faulty
-use Rattle.script_grammar.proofs.Truths.{both, both_true, lt-from_true, lt-false, le-from_lt_false}
+use Rattle.script_grammar.proofs.Truths.{both, both_true, lt-true, lt-from_true, lt-false, le-from_lt_false}
 use Rattle.script_grammar.proofs.PlacesSpelled.{bind_ok, ok_is, at_most_found}
 use Rattle.script_grammar.proofs.PlacesRead.{at_most_again}
 use Rattle.script_grammar.proofs.FormsSpelled.{form_found}
@@ -234,3 +234,38 @@ by_length bytes false fault long bad = by_lines bytes (lines_from 1 start (lines
 pub first_fault : (bytes : List ℕ) (fault : ScriptFault) → reading_of bytes ≡ Err fault → FirstFault bytes fault
 unfolding reading_of
 first_fault bytes fault bad = by_length bytes (nat_lt 1048576 (length bytes)) fault refl bad
+
+-- lines that are read, and those behind them
+lines_joined : (n m : ℕ) (s t : Read) (before more : List (List ℕ)) → lines_from n s before ≡ Ok t → m ≡ n + length before → lines_from n s (before ++ more) ≡ lines_from m t more
+unfolding lines_from
+lines_joined n m s t [] more ok e =
+    subst (λ u. lines_from n s more ≡ lines_from m u more) (read_is {A = Read} {E = ScriptFault} s t (Ok s) refl ok) (ap (λ k. lines_from k s more) (omega (arith, e)))
+lines_joined n m s t (line ∷ before) more ok e =
+    let x = next_found n (line_at s line) (λ u. lines_from (n + 1) u before) t ok in
+    ap (λ (r : Result Read FaultKind). in_line n r >>> λ u. lines_from (n + 1) u (before ++ more)) x.1
+    ∙ lines_joined (n + 1) m x.0 t before more x.2 (omega (arith, e))
+
+-- a line that is faulty behind lines that are read
+line_bad : (n : ℕ) (s : Read) (line : List ℕ) (rest : List (List ℕ)) (kind : FaultKind) → line_at s line ≡ Err kind → lines_from n s (line ∷ rest) ≡ Err (record { line = n; kind = kind })
+unfolding lines_from
+line_bad n s line rest kind bad = ap (λ (r : Result Read FaultKind). in_line n r >>> λ u. lines_from (n + 1) u rest) bad
+
+-- a text is read as its first fault
+pub fault_again : (bytes : List ℕ) (fault : ScriptFault) → FirstFault bytes fault → reading_of bytes ≡ Err fault
+unfolding reading_of
+fault_again bytes _ (faulty.too_long long) =
+    ap (λ b. if b then Err (record { line = 1; kind = kinds.TooMany }) else (lines_from 1 start (lines_of bytes) >>> λ s. in_line (length (lines_of bytes)) (finish s))) (lt-true 1048576 (length bytes) long)
+fault_again bytes _ (faulty.in_line before rest line s kind short all leads bad) =
+    ap (λ b. if b then Err (record { line = 1; kind = kinds.TooMany }) else (lines_from 1 start (lines_of bytes) >>> λ s. in_line (length (lines_of bytes)) (finish s))) (lt-false 1048576 (length bytes) short)
+    ∙ ap (λ (r : Result Read ScriptFault). r >>> λ s. in_line (length (lines_of bytes)) (finish s))
+    (ap (λ ls. lines_from 1 start ls) all
+    ∙ lines_joined 1 (1 + length before) start s before (line ∷ rest) (lines_again 1 start s before AreNamed-start leads.plain leads.said) refl
+    ∙ line_bad (1 + length before) s line rest kind bad)
+fault_again bytes _ (faulty.at_end s kind short leads bad) =
+    ap (λ b. if b then Err (record { line = 1; kind = kinds.TooMany }) else (lines_from 1 start (lines_of bytes) >>> λ s. in_line (length (lines_of bytes)) (finish s))) (lt-false 1048576 (length bytes) short)
+    ∙ ap (λ (r : Result Read ScriptFault). r >>> λ s. in_line (length (lines_of bytes)) (finish s)) (lines_again 1 start s (lines_of bytes) AreNamed-start leads.plain leads.said)
+    ∙ ap (λ (r : Result Program FaultKind). in_line (length (lines_of bytes)) r) bad
+
+-- a text has at most one first fault
+pub one_first_fault : (bytes : List ℕ) (f g : ScriptFault) → FirstFault bytes f → FirstFault bytes g → f ≡ g
+one_first_fault bytes f g first second = err_is {A = Program} f g (reading_of bytes) (fault_again bytes f first) (fault_again bytes g second)

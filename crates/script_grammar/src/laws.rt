@@ -34,6 +34,12 @@ pub fn a_fault_is_that_of_the_first_faulty_line()
     ensures { (bytes : List ℕ) (fault : ScriptFault) → reading_of bytes ≡ Err fault → FirstFault bytes fault }
 {}
 
+/// A text has at most one first fault, and it is read as that.
+pub fn a_text_has_at_most_one_first_fault()
+    ensures one { (bytes : List ℕ) (f g : ScriptFault) → FirstFault bytes f → FirstFault bytes g → f ≡ g }
+    ensures read { (bytes : List ℕ) (fault : ScriptFault) → FirstFault bytes fault → reading_of bytes ≡ Err fault }
+{}
+
 /// What a text spells is a program.
 pub fn what_is_spelled_is_a_program()
     ensures { (bytes : List ℕ) (p : Program) → Spells bytes p → IsProgram p }

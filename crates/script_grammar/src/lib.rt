@@ -21,8 +21,8 @@
 //! The laws, and the files of `proofs` that show each, in the order to read:
 //!
 //! - A text spells at most one program: `DistinctNames`, `PlacesRead`, `LinesRead`, `SpelledOnce`.
-//! - What is read is spelled, what is spelled is read, and a fault is that of the first faulty line: `PlacesSpelled`,
-//!   `LinesSpelled`, `FormsSpelled`, `TextsRead`.
+//! - What is read is spelled, what is spelled is read, and a fault is that of the first faulty line, of which a text has at most one:
+//!   `PlacesSpelled`, `LinesSpelled`, `FormsSpelled`, `TextsRead`.
 //! - The canonical text of a program spells it: by words in `ChannelsPrinted`, `BlocksPrinted`, `ProgramPrinted`, as a text in
 //!   `LinesWritten`, `TextPrinted`.
 //! - What is spelled is a program, and is read again where it is printed: `SpelledIsProgram`.
@@ -48,7 +48,8 @@ pub use fault::{FaultKind, ScriptFault};
 pub use instructions::{Instruction, Launching, Operand};
 pub use laws::{
     a_fault_is_that_of_the_first_faulty_line, a_launch_counts_as_often_as_it_runs,
-    a_printed_program_is_read_again, a_text_spells_at_most_one_program, no_tag_is_launched_twice,
+    a_printed_program_is_read_again, a_text_has_at_most_one_first_fault,
+    a_text_spells_at_most_one_program, no_tag_is_launched_twice,
     the_canonical_text_of_a_program_spells_it, the_generated_text_spells_the_generated_script,
     the_load_of_a_program_is_the_number_of_its_jobs, what_a_line_opens_is_closed,
     what_a_program_names_is_declared, what_is_read_is_spelled, what_is_spelled_is_a_program,

@@ -23,7 +23,7 @@ use Rattle.script_meaning.specs.declared.stage.Stage.TheVariants.{Unwinding}
 use Rattle.script_meaning.specs.Shapes.{base_of, floor_shape, job_shape}
 use Rattle.script_meaning.specs.Configs.{Config, fresh, at_stage, past_launch}
 use Rattle.script_meaning.specs.Moves.{Move}
-use Rattle.script_meaning.specs.Endings.{ClosesAtOnce}
+use Rattle.call_meaning.specs.Endings.{ClosesAtOnce}
 
 -- ---- one book
 

@@ -2,7 +2,6 @@ pub mod Shapes
 pub mod Configs
 pub mod Lines
 pub mod Moves
-pub mod Endings
 pub mod Books
 pub mod Rest
 pub mod Idle

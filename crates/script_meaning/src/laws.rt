@@ -1,12 +1,9 @@
-//! What follows from the books of a run alone, whatever the floors and the engine; and how a book goes on.
+//! How a book goes on, and what one book tells of its waits and of how it began.
 
 ghost use Rattle.std.specs.Prelude.{◌≡◌, ◌≢◌, ◌<◌, ℕ, List, [], ◌++◌, length, Some};
 ghost use Rattle.co_base.specs.declared.names.WaitId.{WaitId};
-ghost use Rattle.channel_model.specs.declared.acts.Entry.{Entry};
 ghost use Rattle.channel_model.specs.Histories.{replay, acts_of, Legal};
-ghost use Rattle.channel_model.specs.Owing.{OwesNothing};
-ghost use Rattle.job_model.specs.declared.acts.JobEntry.{JobEntry};
-ghost use Rattle.job_model.specs.Histories.{replay as replay_jobs, Legal as LegalJobs};
+ghost use Rattle.job_model.specs.Histories.{Legal as LegalJobs};
 ghost use Rattle.note_book.specs.declared.book.Item.{Item};
 ghost use Rattle.note_book.specs.Items.{channel_acts_in};
 ghost use Rattle.call_meaning.specs.Telling.{Told, items_in};
@@ -14,28 +11,15 @@ ghost use Rattle.call_meaning.specs.Stories.{Moment, IsBy, IsTrue};
 ghost use Rattle.script_grammar.specs.Programs.{Program};
 ghost use Rattle.script_meaning.specs.Shapes.{floor_shape, job_shape};
 ghost use Rattle.script_meaning.specs.Configs.{Config};
-ghost use Rattle.script_meaning.specs.Books.{story, Runs, BooksOf};
-ghost use Rattle.script_meaning.specs.Rest.{AtRest};
+ghost use Rattle.script_meaning.specs.Books.{story, Runs};
 ghost use Rattle.script_meaning.specs.Polls.{Turned};
-ghost use Rattle.script_meaning.specs.Laws.{wait_of, HasJustTheWait, GivesUpAfterSaw, BeginsAsAttached};
+ghost use Rattle.script_meaning.specs.Laws.{wait_of, HasJustTheWait, BeginsAsAttached};
 
 /// What a poll told of moments since the book was written, put behind that book, is again a book.
 pub fn a_book_goes_on()
     ensures { (p : Program) (k : ℕ) (between now : Moment) (book : List Item) (x y : Config) (told : List Told)
         → IsBy between now → Runs p k between book x → Turned p k x told y → IsTrue (story p k now) book between told
         → Runs p k now (book ++ items_in told) y }
-{}
-
-/// At the end of a run the tree of Jobs is at rest.
-pub fn a_run_is_at_rest()
-    ensures { (p : Program) (books : List (List Item)) (channels : List Entry) (jobs : List JobEntry)
-        → BooksOf p books channels jobs → AtRest (replay_jobs jobs) }
-{}
-
-/// At the end of a run no channel owes anything.
-pub fn nothing_is_owed_at_the_end()
-    ensures { (p : Program) (books : List (List Item)) (channels : List Entry) (jobs : List JobEntry)
-        → BooksOf p books channels jobs → OwesNothing (floor_shape p) (replay channels) }
 {}
 
 /// Where a coroutine waits, that wait is its own and not settled, at a channel of the floor, and each other wait of its own is settled;
@@ -47,13 +31,6 @@ pub fn an_open_wait_is_the_one_unsettled()
     ensures on_floor { (p : Program) (k : ℕ) (now : Moment) (book : List Item) (x : Config) (w : WaitId)
         → Legal (floor_shape p) now.channels → acts_of k now.channels ≡ channel_acts_in book → Runs p k now book x
         → wait_of x.stage ≡ Some w → w.channel < length (floor_shape p) }
-{}
-
-/// An element is given up, and a wait that was neither withdrawn nor voided ends as cancelled, only behind the note that a Job was seen
-/// Cancelling, with at most the withdrawal of that wait, or the note that this was too late, between.
-pub fn a_wait_is_given_up_behind_a_cancellation()
-    ensures { (p : Program) (k : ℕ) (now : Moment) (book : List Item) (x : Config)
-        → Legal (floor_shape p) now.channels → Runs p k now book x → GivesUpAfterSaw (replay now.channels) book }
 {}
 
 /// The Job of a coroutine that noted something was attached, but for the root's; where it was attached as cancelled, or is lazy and was

@@ -48,6 +48,19 @@ fn push_result(
     }
 }
 
+/// A line of a word, a name and a value as it is written.
+fn push_valued(
+    out: &mut Vec<u8>,
+    depth: u32,
+    word: &[u8],
+    name: &[u8],
+    value: &[u8],
+) -> Result<(), AllocError>
+    ensures { OnOk result (out.new.items ≡ out.old.items ++ line_text depth (word.now ∷ name.now ∷ value.now ∷ [])) }
+{
+    push_line(out, depth, &[word, name, value])
+}
+
 /// A line of a word, a name and a value.
 fn push_sending(
     alloc: Global,
@@ -60,11 +73,11 @@ fn push_sending(
     ensures { OnOk result (out.new.items ≡ out.old.items ++ line_text depth (word.now ∷ name.now ∷ operand_word value ∷ [])) }
 {
     match value {
-        Operand::It => push_line(out, depth, &[word, name, b"it"]),
-        Operand::Sum => push_line(out, depth, &[word, name, b"sum"]),
+        Operand::It => push_valued(out, depth, word, name, b"it"),
+        Operand::Sum => push_valued(out, depth, word, name, b"sum"),
         Operand::Number(number) => {
             let number = decimal(alloc, number)?;
-            push_line(out, depth, &[word, name, number.as_bytes()])
+            push_valued(out, depth, word, name, number.as_bytes())
         }
     }
 }

@@ -1,0 +1,20 @@
+//! Laws of the books of a run, whatever the floors and the engine are: the contracts of the functions of `laws`, whose bodies are
+//! empty. They speak of the definitions of `script_meaning`. The files of `proofs` that show each, in the order to read, those of
+//! `script_meaning` first:
+//!
+//! - `a_run_is_at_rest`: there `Debts`, `Payments`, `JobPieces`, `JobStories`, `JobDebts`; here `DoneJobsEnded`, `EndedJobsTold`,
+//!   `BelowCancelled`, `FailuresBorne`; `TreesAtRest`.
+//! - `nothing_is_owed_at_the_end`: there `Debts`, `Payments`, `ActsFollowed`, `ChannelStories`; here `ChannelDebts` (what is told of
+//!   channels), `ClosedChannels`, `QueuesFit`, `OffersAdmitted`, `RoomRaised`; `NothingOwed`.
+//! - `a_wait_is_given_up_behind_a_cancellation`: there `WaitsTold`; here `TakenBack`; `GivenUpWaits`.
+//!
+//! Others show what those who run a script need of all its books: that no refusal comes to stand in one, and that a done channel is
+//! received from at most once by each coroutine: `DoneAsked`, `DonePlacesAsked`, `DoneReceivedOnce`, `EndsToSee`, `RowsEntered`,
+//! `PlacesGiven`, `NotSpent`, `NoRefusals`.
+#![tactic(auto)]
+
+mod laws;
+
+pub use laws::{
+    a_run_is_at_rest, a_wait_is_given_up_behind_a_cancellation, nothing_is_owed_at_the_end,
+};

@@ -1,5 +1,0 @@
-use Rattle.script_meaning.proofs.TreesAtRest.{at_rest}
-use Rattle.script_meaning.proofs.laws.a_run_is_at_rest.Goals as goal
-
-pub returns : goal.returns
-returns c = at_rest

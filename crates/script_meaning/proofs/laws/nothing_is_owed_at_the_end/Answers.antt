@@ -1,5 +1,0 @@
-use Rattle.script_meaning.proofs.NothingOwed.{nothing_is_owed}
-use Rattle.script_meaning.proofs.laws.nothing_is_owed_at_the_end.Goals as goal
-
-pub returns : goal.returns
-returns c = nothing_is_owed
