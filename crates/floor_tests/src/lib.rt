@@ -13,9 +13,13 @@ mod beside_calls;
 mod between;
 mod between_calls;
 mod known_calls;
+#[cfg(test)]
+mod on_passes;
 mod other_calls;
 #[cfg(test)]
 mod rows;
+#[cfg(test)]
+mod selects_on_passes;
 #[cfg(test)]
 mod tests;
 

@@ -290,6 +290,29 @@ const LATE: [(Tag, Call); 4] = [
     (1, Call::Settle(true, Settled::Undelivered(5))),
 ];
 
+/// Who withdrew is passed by, until no place is left.
+const WITHDRAWN: [(Tag, Call); 8] = [
+    (1, Call::Receive(Got::Waiting(0))),
+    (1, Call::Withdraw(Withdrawn::Done(1))),
+    (2, Call::Offer(5, Offered::Held(1))),
+    (2, Call::Withdraw(Withdrawn::Done(2))),
+    (1, Call::Receive(Got::Waiting(2))),
+    (2, Call::Offer(6, Offered::Handed(2, 1))),
+    (2, Call::Offer(7, Offered::Held(3))),
+    (3, Call::Offer(8, Offered::Spent)),
+];
+
+/// What is kept is received before what waits, and then nobody stands.
+const RECEIVED: [(Tag, Call); 7] = [
+    (1, Call::Offer(7, Offered::Put(0))),
+    (1, Call::Offer(8, Offered::Held(1))),
+    (2, Call::Receive(Got::Taken(0, 7, None))),
+    (2, Call::Receive(Got::Taken(1, 8, Some(1)))),
+    (2, Call::Receive(Got::Waiting(2))),
+    (1, Call::Look(WaitState::Resolved)),
+    (1, Call::Settle(false, Settled::Sent(0))),
+];
+
 #[test]
 fn an_offer_is_kept_and_a_cancelled_channel_is_emptied(rt: HostRuntime) -> Result<(), Fail> {
     let kind = Kind::Buffered(1);
@@ -311,5 +334,21 @@ fn a_withdraw_comes_too_late(rt: HostRuntime) -> Result<(), Fail> {
     let kind = Kind::Rendezvous;
     assert_eq!(rt; right_on_list(rt.alloc(), kind, 4, &LATE), Ok(4));
     assert_eq!(rt; right_on_hub(rt.alloc(), kind, 4, &LATE), Ok(4));
+    Ok(())
+}
+
+#[test]
+fn who_withdrew_is_passed_by(rt: HostRuntime) -> Result<(), Fail> {
+    let kind = Kind::Rendezvous;
+    assert_eq!(rt; right_on_list(rt.alloc(), kind, 4, &WITHDRAWN), Ok(8));
+    assert_eq!(rt; right_on_hub(rt.alloc(), kind, 4, &WITHDRAWN), Ok(8));
+    Ok(())
+}
+
+#[test]
+fn elements_are_received_in_the_order_of_their_offers(rt: HostRuntime) -> Result<(), Fail> {
+    let kind = Kind::Buffered(1);
+    assert_eq!(rt; right_on_list(rt.alloc(), kind, 4, &RECEIVED), Ok(7));
+    assert_eq!(rt; right_on_hub(rt.alloc(), kind, 4, &RECEIVED), Ok(7));
     Ok(())
 }

@@ -12,7 +12,7 @@ use Rattle.channel_model.proofs.Spans.{nothing_more}
 use Rattle.note_book.specs.declared.book.Item.{Item}
 use Rattle.note_book.specs.Items.{channel_acts_in}
 use Rattle.call_meaning.specs.Telling.{Told, items_in}
-use Rattle.call_meaning.specs.ChannelCalls.{Call, sends, receives, Answer, Done, Got, Closed, Waits, NoPlace, LooksAgain, AtOnce, Refused, PlainCall, channel_of}
+use Rattle.call_meaning.specs.ChannelCalls.{Call, receives, Answer, Done, Got, Closed, Waits, NoPlace, LooksAgain, AtOnce, Refused, PlainCall, channel_of}
 use Rattle.channel_calls.specs.declared.caller.SendAnswer.{SendAnswer}
 use Rattle.channel_calls.specs.declared.caller.SendAnswer.TheVariants as send
 use Rattle.channel_calls.specs.declared.caller.ReceiveAnswer.TheVariants as receive

@@ -1,2 +1,7 @@
 pub mod AfterSends
 pub mod AfterLaunches
+pub mod CollectedElements
+pub mod AttachedChild
+pub mod FirstElements
+pub mod FreshPasses
+pub mod TagsEnded

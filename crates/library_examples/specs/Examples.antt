@@ -1,5 +1,5 @@
 -- What the examples come to.
-use Rattle.std.specs.Prelude.{◌≡◌, ℕ, Bool, true, List, [], ◌∷◌, ◌++◌, Option, Some, None}
+use Rattle.std.specs.Prelude.{◌≡◌, ℕ, true, List, [], ◌∷◌, ◌++◌, Option, Some, None, Result, Ok, Err}
 use Rattle.channel_model.specs.declared.acts.Settled.{Settled}
 use Rattle.channel_model.specs.declared.acts.ChannelNote.TheVariants.{TryReceiveClosed}
 use Rattle.channel_model.specs.Floors.{Floor}
@@ -11,6 +11,9 @@ use Rattle.call_meaning.specs.Telling.{heard}
 use Rattle.call_meaning.specs.ChannelCalls.{Got, receives, blocked, is_given_up}
 use Rattle.call_meaning.specs.Calls.{ToldOnChannels}
 use Rattle.channel_calls.specs.Calls.{Tells, GoesAtOnce}
+use Rattle.co_base.specs.declared.names.Memory.{Memory}
+use Rattle.permits.specs.declared.permits.GivenBack.{GivenBack}
+use Rattle.permits.specs.Answers.{NumberAfterCancel}
 
 -- this element was received; or none was, since the channel was empty, or closed and empty, and the answer is the other value
 pub data ReceivedOr (who c other : ℕ) (old new : Floor) (items items' : List Item) : ℕ → Type 0 where
@@ -40,3 +43,9 @@ SawResult row (Some value) items = SawCompleted row value items
 abbrev pub SawSome : Option ℕ → List Item → Type 0
 SawSome None items = Unit {0}
 SawSome (Some value) items = (row : ℕ) × SawCompleted row value items
+
+-- a coroutine that gave up waiting for a permit holds as many as before, unless one came that the channel did not take back
+abbrev pub HoldsAfterGivingUp : Result (Option GivenBack) Memory → ℕ → ℕ → Type 0
+HoldsAfterGivingUp (Ok (Some outcome)) old new = NumberAfterCancel (Ok outcome) old new
+HoldsAfterGivingUp (Ok None) old new = Unit {0}
+HoldsAfterGivingUp (Err m) old new = Unit {0}

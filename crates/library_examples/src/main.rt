@@ -2,25 +2,41 @@
 //!
 //! - `channels`: to send, to receive and to close, by a `Caller`; a receive that is cancelled while an element comes
 //! - `jobs`: to cancel a Job with all below it, by a `JobCaller`
+//! - `bridges`: streams, sinks and futures of Jobs, by a drive
+//! - `semaphores`: a number behind a mutex, a semaphore of two, and a wait for a permit that is given up
+//! - `three_passes`: three coroutines over words, with a pass for each
+//! - `counted`: to send in counted cells, waiting for nobody
+//! - `parcels`: to send texts that the sender owns, and to have those back that nobody received
 //! - `scopes`: to launch and to cancel, to enter a scope and to see its end, by a `Builder` over both, with the done channels of Jobs
 #![tactic(auto)]
 
+mod bridges;
 mod channels;
+mod counted;
 mod jobs;
+mod parcels;
 mod scopes;
+mod semaphores;
+mod three_passes;
 
+use bridges::{at_a_rendezvous, result_awaited, through_a_channel, two_doubled};
 use channel_calls::{Caller, SendAnswer};
 use channel_model::{Kind, Settled};
 use channels::{cancelled_receive, receive_or, send_last};
 use co_base::{Memory, Tag, Value, Wakes};
+use counted::send_or_leave;
+use counted_cells::{Counted, CountedGot, CountedState};
 use job_model::{JobFloor, JobKind};
 use job_tree::JobCaller;
 use jobs::cancel_family;
 use note_book::Notes;
 use one_thread_floor::{ListFloor, TreeFloor};
+use parcel_channel::{ParcelGot, ParcelHub};
+use parcels::{left_over, send_text};
 use scope_builders::{Builder, LaunchError};
 use scopes::{launch_and_cancel, scope_result};
 use std::alloc::Global;
+use three_passes::{free_permits, given_up, number_behind_a_mutex};
 
 /// Whoever was woken last.
 #[derive(Drop)]
@@ -133,11 +149,71 @@ fn entered(alloc: Global) -> Result<Option<Value>, LaunchError> {
     scope_result(&mut builder, 0, 9)
 }
 
+/// A receiver waits in the first cell and is met there; the second value finds nobody, and its cell is of no use any more.
+fn two_sends(alloc: Global) -> Result<Option<(bool, CountedState, bool, CountedGot)>, Memory> {
+    let (cells, mut first) = Counted::new(alloc, 2)?;
+    let mut second = cells.split(&mut first);
+    let CountedGot::Waits(place) = cells.receive(&mut first) else {
+        return Ok(None);
+    };
+    let met = send_or_leave(&cells, &mut second, 9);
+    let state = cells.look(&mut first, place);
+    let late = send_or_leave(&cells, &mut second, 8);
+    let broken = cells.receive(&mut first);
+    Ok(Some((met, state, late, broken)))
+}
+
+/// What became of three texts.
+#[derive(Debug, Drop)]
+struct Texts {
+    received: Option<String>,
+    back: Option<String>,
+    left: Vec<Option<String>>,
+}
+
+/// One text is received, one nobody receives, and one comes back, since the channel is closed.
+fn three_texts(alloc: Global) -> Result<Texts, Memory> {
+    let first = String::from_str(alloc, "first")?;
+    let second = String::from_str(alloc, "second")?;
+    let third = String::from_str(alloc, "third")?;
+    let (hub, mut receiver) = ParcelHub::<String>::new(alloc, Kind::Buffered(2), 4, 3)?;
+    let mut sender = hub.split(&mut receiver, 1);
+    send_text(&hub, &mut sender, first);
+    send_text(&hub, &mut sender, second);
+    let received = match hub.receive(&mut receiver) {
+        ParcelGot::Value(text, _) => Some(text),
+        _ => None,
+    };
+    let _ = hub.close(&mut sender, 0);
+    let back = send_text(&hub, &mut sender, third);
+    let left = left_over(hub, receiver, sender);
+    Ok(Texts {
+        received,
+        back,
+        left,
+    })
+}
+
 fn main(rt: HostRuntime) {
     let alloc = rt.alloc();
     let _ = println!(rt; "one element: {:?}", one_element(alloc));
     let _ = println!(rt; "met by a cancellation: {:?}", met_by_a_cancellation(alloc));
+    let _ = println!(rt;
+        "a number behind a mutex: {:?}",
+        number_behind_a_mutex(alloc)
+    );
+    let _ = println!(rt; "free permits: {:?}", free_permits(alloc));
+    let _ = println!(rt;
+        "a wait for a permit that is given up: {:?}",
+        given_up(alloc)
+    );
     let _ = println!(rt; "two Jobs: {:?}", two_jobs(alloc));
     let _ = println!(rt; "launched: {:?}", launched(alloc));
     let _ = println!(rt; "entered: {:?}", entered(alloc));
+    let _ = println!(rt; "through a channel: {:?}", through_a_channel(&rt));
+    let _ = println!(rt; "two doubled: {:?}", two_doubled(&rt));
+    let _ = println!(rt; "at a rendezvous: {:?}", at_a_rendezvous(&rt));
+    let _ = println!(rt; "a result awaited: {:?}", result_awaited(&rt));
+    let _ = println!(rt; "two sends: {:?}", two_sends(alloc));
+    let _ = println!(rt; "three texts: {:?}", three_texts(alloc));
 }

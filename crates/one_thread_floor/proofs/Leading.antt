@@ -1,5 +1,5 @@
 -- The offers with which nobody waits that lead a queue, when the queue changes.
-use Rattle.std.specs.Prelude.{◌≡◌, ℕ, zero, suc, ◌-◌, ◌≤◌, Bool, true, false, not, cond, ◌&&◌, List, [], ◌∷◌, ◌++◌, Option, Some, None, is_some, filter, length, take, slice_set, refl}
+use Rattle.std.specs.Prelude.{◌≡◌, ℕ, zero, suc, ◌≤◌, Bool, true, false, not, cond, ◌&&◌, List, [], ◌∷◌, ◌++◌, Option, Some, None, is_some, filter, length, take, slice_set, refl}
 use Rattle.std.specs.List.{list_all}
 use Rattle.std.proofs.Common.{ap, ◌∙◌, sym, subst, arith}
 use Rattle.std.proofs.lemmas.List.{length-set}
@@ -18,18 +18,6 @@ all_push p (suc n) (x ∷ xs) y h e = by_test (p x) e (all_push p n xs y (omega 
     by_test : (b : Bool) → (b && list_all p (take n xs)) ≡ true → (list_all p (take n xs) ≡ true → list_all p (take n (xs ++ y ∷ [])) ≡ true) → (b && list_all p (take n (xs ++ y ∷ []))) ≡ true
     by_test true e f = f e
     by_test false e f = cc
-
--- the first goes
-pub all_pop : {X : Type 0} (p : X → Bool) (n : ℕ) (x : X) (xs ys : List X) → ys ≡ x ∷ xs → list_all p (take n ys) ≡ true → list_all p (take (n - 1) xs) ≡ true
-all_pop p zero x xs ys is e = refl
-all_pop p (suc n) x xs ys is e = subst (λ m. list_all p (take m xs) ≡ true) (less n) (rest (p x) (ap (λ l. list_all p (take (suc n) l)) (sym is) ∙ e))
-  where
-    less : (n : ℕ) → n ≡ suc n - 1
-    less n = omega arith
-
-    rest : (b : Bool) → (b && list_all p (take n xs)) ≡ true → list_all p (take n xs) ≡ true
-    rest true e = e
-    rest false e = cc
 
 -- those of a kind that none of them is of go
 pub all_filter : {X : Type 0} (p keep : X → Bool) → ((x : X) → p x ≡ true → keep x ≡ true) → (n : ℕ) (xs : List X) → n ≤ length xs → list_all p (take n xs) ≡ true → (n ≤ length (filter keep xs)) × (list_all p (take n (filter keep xs)) ≡ true)

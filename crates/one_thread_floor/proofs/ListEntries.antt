@@ -15,11 +15,11 @@ use Rattle.channel_model.specs.Channels.{kind_at, places_at, Channel, State, Sha
 use Rattle.channel_model.specs.Effects.{after, put_channel, put_wait, place_offer, place_receiver, name_clause, settled_wait, is_open}
 use Rattle.channel_model.specs.Needs.{Needs, HasPlace, MayName, JoinsWait}
 use Rattle.channel_model.specs.Histories.{replay, Legal}
-use Rattle.channel_model.specs.Answers.{IsOwnWait, IsResolvedWait}
+use Rattle.channel_model.specs.Answers.{IsOwnWait}
 use Rattle.channel_model.proofs.Histories.{replay_push}
 use Rattle.channel_model.specs.Laws.{ClausesFit}
 use Rattle.channel_model.proofs.Clauses.{one_clause_more, replay_clauses_fit}
-use Rattle.channel_model.proofs.Firsts.{no_receiver, full_suspends, at_place, may_begin, may_join, may_withdraw, not_open_resolved}
+use Rattle.channel_model.proofs.Firsts.{no_receiver, full_suspends, at_place, may_begin, may_join, may_withdraw}
 use Rattle.one_thread_floor.specs.declared.list_channel.ListChannel.{ListChannel}
 use Rattle.one_thread_floor.specs.ListStands.{channel_in, wait_in, IsAt, SameShape, SameWaits, SameChannels, Becomes, BeginsWait, JoinsClause, with_clause, held_offer, held_receiver, wait_in_channel, wait_in_slot, channel_or_empty, places_in, places_of, clauses_of}
 
@@ -84,9 +84,6 @@ spent_is shape xs s c at e =
     let k = at.places c in
     let n : (s.channels c).next ≡ (channel_in xs c).next = ap (λ (ch : Channel). ch.next) (at.channels_are c) in
     grind (arith, nat_tests)
-
-pub not_spent : (shape : Shape) (xs : List ListChannel) (s : State) (c : ℕ) → IsAt shape xs s → false ≡ nat_le (places_in xs c) (channel_in xs c).next → (channel_in xs c).next < places_in xs c
-not_spent shape xs s c at e = grind (arith, nat_tests)
 
 -- the place that is given out next
 pub next_place : (shape : Shape) (xs : List ListChannel) (s : State) (c p : ℕ) → IsAt shape xs s → (channel_in xs c).closed ≡ None → (channel_in xs c).next < places_in xs c → p ≡ (channel_in xs c).next → HasPlace (places_at shape c) p (s.channels c)
@@ -235,6 +232,3 @@ settle_at shape xs ys es who w outcome at k channels waits =
 
 pub withdraw_needs : (shape : Shape) (xs : List ListChannel) (es : List Entry) (who : ℕ) (w : WaitId) (why : Why) → IsAt shape xs (replay es) → IsOwnWait who ((replay es).waits w) → true ≡ is_open (wait_in xs w) → Needs shape (replay es) who (Withdraw w why)
 withdraw_needs shape xs es who w why at own e = may_withdraw who _ own (ap is_open (at.waits_are w) ∙ sym e)
-
-pub late_resolved : (shape : Shape) (xs : List ListChannel) (es : List Entry) (w : WaitId) → IsAt shape xs (replay es) → false ≡ is_open (wait_in xs w) → IsResolvedWait ((replay es).waits w)
-late_resolved shape xs es w at e = not_open_resolved _ (ap is_open (at.waits_are w) ∙ sym e)

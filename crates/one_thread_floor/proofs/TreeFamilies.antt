@@ -36,9 +36,6 @@ pub attached_rows : (tree : Tree) (who p r : ℕ) (kind : JobKind) (tag : ℕ) (
     → AreRowsOf (after tree who (Attach p r kind tag cancelled)) ys
 attached_rows tree who p r kind tag cancelled xs ys h none m are put q = by_row (r == q) refl (put q)
   where
-    tree' : Tree
-    tree' = attached_tree p r kind tag cancelled tree
-
     by_parent : (b : Bool) → (r == q) ≡ false → (p == q) ≡ b → item_in ys q ≡ (if b then option_map (with_newest r) (item_in xs p) else item_in xs q)
         → item_in ys q ≡ option_map (row_of_job (older_sibling (attached_tree p r kind tag cancelled tree) q)) (if b then option_map (with_child r) (tree p) else tree q)
     by_parent true f e i =

@@ -1,5 +1,5 @@
 -- One entry more, on the rows and the claims.
-use Rattle.std.specs.Prelude.{◌≡◌, ◌≢◌, ℕ, zero, suc, ◌+◌, ◌==◌, ◌<◌, ◌≤◌, Bool, true, false, not, ◌&&◌, ◌||◌, List, [], ◌∷◌, ◌++◌, length, Option, Some, None, option_map, is_some, IsSome, if◌then◌else◌, refl}
+use Rattle.std.specs.Prelude.{◌≡◌, ◌≢◌, ℕ, zero, suc, ◌+◌, ◌==◌, ◌<◌, ◌≤◌, Bool, true, false, not, ◌||◌, List, [], ◌∷◌, ◌++◌, length, Option, Some, None, option_map, is_some, IsSome, if◌then◌else◌, refl}
 use Rattle.std.specs.List.{IsDistinct}
 use Rattle.std.proofs.Common.{sym, ap, ◌∙◌, subst, arith}
 use Rattle.std.proofs.Common.{inl, inr}
@@ -15,10 +15,10 @@ use Rattle.job_model.specs.declared.acts.End.{End}
 use Rattle.job_model.specs.declared.acts.JobAct.{JobAct}
 use Rattle.job_model.specs.declared.acts.JobAct.TheVariants.{Gone}
 use Rattle.job_model.specs.declared.acts.JobEntry.{JobEntry}
-use Rattle.job_model.specs.Trees.{Shape, Job, Tree, start, is_among, living, is_none_left, is_childless, is_done, is_new, is_ended, is_cancelled, is_cancelling, is_cancellable, parent_of, parent_row, row_of, was_told, state_of}
+use Rattle.job_model.specs.Trees.{Shape, Job, Tree, start, is_among, living, is_none_left, is_childless, is_new, is_ended, is_cancelled, is_cancelling, is_cancellable, parent_of, parent_row, row_of, was_told, state_of}
 use Rattle.job_model.specs.Acts.{attaches}
 use Rattle.job_model.specs.Effects.{after, change_parent, with_told, cause_of_reason, cause_of}
-use Rattle.job_model.specs.Needs.{Needs, MayHaveChild, MayBeCancelled, MayFinish, IsFinishedBy, end_of}
+use Rattle.job_model.specs.Needs.{Needs, MayHaveChild, MayBeCancelled, MayFinish, end_of}
 use Rattle.job_model.specs.Families.{children_of, older_sibling}
 use Rattle.job_model.specs.Histories.{replay, replay_from, Legal, LegalFrom}
 use Rattle.job_model.specs.Floors.{Floor, Made, attacher, is_claimed_by}
@@ -113,10 +113,6 @@ pub childless_is : (o : Option ℕ) (x : TreeRow) (y : Option Job) → Some x �
 childless_is o x None e = cc
 childless_is o x (Some j) e = let k : x ≡ row_of_job o j = cc in none_left (living j) ∙ ap (λ (u : TreeRow). u.living == 0) (sym k)
 
-pub done_is : (o : Option ℕ) (x : TreeRow) (y : Option Job) → Some x ≡ option_map (row_of_job o) y → is_done y ≡ (x.body_ended && (x.living == 0))
-done_is o x None e = cc
-done_is o x (Some j) e = let k : x ≡ row_of_job o j = cc in ap (λ b. j.body_ended && b) (none_left (living j)) ∙ ap (λ (u : TreeRow). u.body_ended && (u.living == 0)) (sym k)
-
 pub new_is : (s : JobState) → is_new s ≡ true → s ≡ New
 new_is New e = refl
 new_is Active e = cc
@@ -196,10 +192,6 @@ has_child_attached c (Some j) e = refl
 
 pub parent_attached : (tree : Tree) (xs : List (Option TreeRow)) (r p : ℕ) → HasFamilies tree → AreRowsOf tree xs → parent_of (tree r) ≡ Some p → is_some (item_in xs p) ≡ true
 parent_attached tree xs r p h are e = row_attached tree xs p are (has_child_attached r (tree p) (h.listed p r e))
-
-pub finished_attached : (who : ℕ) (x : Option Job) → IsFinishedBy who x → is_some x ≡ true
-finished_attached who None f = absurd f
-finished_attached who (Some j) f = refl
 
 -- ---- a child is told gone
 

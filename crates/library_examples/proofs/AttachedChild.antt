@@ -1,0 +1,43 @@
+-- What a look at a floor of Jobs shows, and that the root is attached.
+use Rattle.std.specs.Prelude.{◌≡◌, ℕ, Bool, true, List, [], Option, Some, None, Result, Ok, Err, is_some, option_map, refl}
+use Rattle.std.proofs.Common.{ap, ◌∙◌}
+use Rattle.job_model.specs.declared.acts.JobEntry.{JobEntry}
+use Rattle.job_model.specs.declared.acts.JobKind.{JobKind}
+use Rattle.job_model.specs.declared.floor.Attached.{Attached}
+use Rattle.job_model.specs.declared.floor.AttachError.{AttachError}
+use Rattle.job_model.specs.declared.floor.AttachError.TheVariants as error
+use Rattle.job_model.specs.declared.floor.JobView.{JobView}
+use Rattle.job_model.specs.Trees.{Shape, Job}
+use Rattle.job_model.specs.Histories.{replay, replay_from, Legal}
+use Rattle.job_model.specs.Floors.{Floor, SameSetting}
+use Rattle.job_model.specs.Answers.{view_of, AttachAnswer, LookAnswer}
+use Rattle.job_model.proofs.Lasting.{attached_lasts}
+use Rattle.job_model.proofs.Own.{prefix_keeps}
+
+is_seen : (x : Option Job) (v : JobView) → option_map view_of x ≡ Some v → is_some x ≡ true
+is_seen None v e = cc
+is_seen (Some j) v e = refl
+
+-- what was seen is attached
+pub seen_attached : (who row : ℕ) (v : JobView) (a b : Floor) → Legal b.shape b.seen → LookAnswer who row a b (Some v) → is_some (replay b.seen row) ≡ true
+seen_attached who row v a b l k =
+    let m = k.1 in
+    prefix_keeps _ attached_lasts b.shape m.moment b.seen row l m.before (is_seen (replay m.moment row) v m.holds)
+
+-- the root is attached
+pub root_attached : (shape : Shape) (es : List JobEntry) → Legal shape es → is_some (replay es 0) ≡ true
+unfolding replay_from
+root_attached shape es l = prefix_keeps _ attached_lasts shape [] es 0 l (es, refl) refl
+
+pub attach_same : (who parent : ℕ) (kind : JobKind) (tag : ℕ) (a d : Floor) (r : Result Attached AttachError) → AttachAnswer who parent kind tag a d r → SameSetting a d
+attach_same who parent kind tag a d (Ok x) m = m.same
+attach_same who parent kind tag a d (Err error.NoRow) m = m.looked.same
+attach_same who parent kind tag a d (Err error.Used) m = m.looked.same
+attach_same who parent kind tag a d (Err error.ParentEnded) m = m.looked.same
+
+pub same_callers : (who : ℕ) (a b : Floor) → SameSetting a b → a.callers who ≡ true → b.callers who ≡ true
+same_callers who a b s c = ap (λ (f : ℕ → Bool). f who) s.callers ∙ c
+
+pub look_same : (who row : ℕ) (a b : Floor) (r : Option JobView) → LookAnswer who row a b r → SameSetting a b
+look_same who row a b (Some v) m = m.0.same
+look_same who row a b None m = m.0.same
