@@ -34,7 +34,7 @@ use Rattle.coroutine_cli.specs.declared.status.Ending.{Ending}
 use Rattle.coroutine_cli.specs.declared.status.Ending.TheVariants as ending
 use Rattle.coroutine_cli.proofs.WaitsSettled.{none_lost}
 use Rattle.coroutine_cli.proofs.ElementsHeld.{held_stands}
-use Rattle.coroutine_cli.proofs.PrintedFates.{printed}
+use Rattle.coroutine_cli.proofs.Printed.{printed, printed_jobs}
 
 -- ---- no script
 
@@ -97,6 +97,7 @@ ran p books channels jobs root how same of idle = record {
   served = served p books channels jobs root of idle;
   children_first = children_first p jobs of.legal_jobs;
   told = printed p books channels jobs of;
+  jobs_told = printed_jobs p books channels jobs of;
 }
 
 -- the report of a run answers its script

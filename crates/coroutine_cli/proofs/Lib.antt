@@ -1,7 +1,9 @@
 pub mod WaitsSettled
 pub mod ElementsHeld
+pub mod SameMembers
 pub mod SameFates
-pub mod PrintedFates
+pub mod JobsTold
+pub mod Printed
 pub mod Answering
 pub mod Completing
 pub mod Matched

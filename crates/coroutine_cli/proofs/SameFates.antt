@@ -13,45 +13,9 @@ use Rattle.channel_model.specs.Laws.{how_many}
 use Rattle.channel_fates.proofs.Appended.{any_count}
 use Rattle.channel_fates.proofs.OncePlaced.{enters, answers, awaits, Counted}
 use Rattle.channel_fates.proofs.Traced.{replay_traced}
+use Rattle.coroutine_cli.proofs.SameMembers.{Among, SameMembers, among_any, same_any}
 
--- ---- lists of the same acts
-
--- the act is one of these
-unfoldable pub Among : Act → List Act → Type 0
-Among a [] = ⊥
-Among a (x ∷ xs) = (a ≡ x) ⊎ Among a xs
-
-pub record SameActs (xs ys : List Act) : Type 0 where
-  pub to : (a : Act) → Among a xs → Among a ys
-  pub back : (a : Act) → Among a ys → Among a xs
-
-any_among : (f : Act → Bool) (xs : List Act) → list_any f xs ≡ true → (a : Act) × Among a xs × (f a ≡ true)
-unfolding Among
-any_among f [] h = cc
-any_among f (x ∷ xs) h = by_test (f x) refl (λ k. any_among f xs k) h
-  where
-    by_test : (b : Bool) → f x ≡ b → (list_any f xs ≡ true → (a : Act) × Among a xs × (f a ≡ true)) → (b || list_any f xs) ≡ true → (a : Act) × ((a ≡ x) ⊎ Among a xs) × (f a ≡ true)
-    by_test true e more h = (x, inl refl, e)
-    by_test false e more h = let r = more h in (r.0, inr r.1, r.2)
-
-among_any : (f : Act → Bool) (xs : List Act) (a : Act) → Among a xs → f a ≡ true → list_any f xs ≡ true
-unfolding Among
-among_any f [] a m e = absurd m
-among_any f (x ∷ xs) a m e = ⊎_elim (λ q. ap (λ b. b || list_any f xs) (ap f (sym q) ∙ e)) (λ n. or_true (f x) (list_any f xs) (among_any f xs a n e)) m
-  where
-    or_true : (a b : Bool) → b ≡ true → (a || b) ≡ true
-    or_true true b e = refl
-    or_true false b e = e
-
-same_tests : (a b : Bool) → (a ≡ true → b ≡ true) → (b ≡ true → a ≡ true) → a ≡ b
-same_tests true b f g = sym (f refl)
-same_tests false true f g = g refl
-same_tests false false f g = refl
-
-same_any : (xs ys : List Act) → SameActs xs ys → (f : Act → Bool) → list_any f xs ≡ list_any f ys
-same_any xs ys same f = same_tests (list_any f xs) (list_any f ys)
-    (λ h. let m = any_among f xs h in among_any f ys m.0 (same.to m.0 m.1) m.2)
-    (λ h. let m = any_among f ys h in among_any f xs m.0 (same.back m.0 m.1) m.2)
+-- ---- the first act that has something
 
 first_among : {A : Type 0} (f : Act → Option A) (xs : List Act) (v : A) → first_some f xs ≡ Some v → (a : Act) × Among a xs × (f a ≡ Some v)
 unfolding Among
@@ -86,7 +50,7 @@ no_first f (z ∷ zs) h k = by_head (f z) refl (λ a b. no_first f zs a b) h k
     by_head None q more h k = more h k
     by_head (Some u) q more h k = cc
 
-same_first : {A : Type 0} (f : Act → Option A) (xs ys : List Act) → SameActs xs ys → how_many (λ x. is_some (f x)) xs ≤ 1 → first_some f xs ≡ first_some f ys
+same_first : {A : Type 0} (f : Act → Option A) (xs ys : List Act) → SameMembers xs ys → how_many (λ x. is_some (f x)) xs ≤ 1 → first_some f xs ≡ first_some f ys
 same_first f xs ys same one = by_second (first_some f ys) refl
   where
     none_such : (v : _) → first_some f xs ≡ Some v → first_some f ys ≡ None → ⊥
@@ -231,7 +195,7 @@ module _ (xs ys : List Act) (h : Agree xs ys) (c p : ℕ) where
   fate_same : fate_at c p xs ≡ fate_at c p ys
   fate_same = rw (received_same, undelivered_same, h.any (drops_at c p), withdrawn_same) refl
 
-agree : (shape : Shape) (history : List Entry) (ys : List Act) → Legal shape history → SameActs (acts_in history) ys → Agree (acts_in history) ys
+agree : (shape : Shape) (history : List Entry) (ys : List Act) → Legal shape history → SameMembers (acts_in history) ys → Agree (acts_in history) ys
 agree shape history ys legal same = record {
   any = same_any xs ys same;
   elements = λ c p. same_first (brings c p) xs ys same (let n = fewer (λ a. is_some (brings c p a)) (answers c p) (enters c p) (brings_less c p) xs in let k = counted c p in omega (arith, n, k.receivers, k.given));
@@ -245,8 +209,8 @@ agree shape history ys legal same = record {
     counted : (c p : ℕ) → Counted c p xs ((replay history).channels c)
     counted c p = (replay_traced shape history legal).told.counted c p
 
-pub same_elements : (shape : Shape) (history : List Entry) (ys : List Act) (c p : ℕ) → Legal shape history → SameActs (acts_in history) ys → element_at c p (acts_in history) ≡ element_at c p ys
+pub same_elements : (shape : Shape) (history : List Entry) (ys : List Act) (c p : ℕ) → Legal shape history → SameMembers (acts_in history) ys → element_at c p (acts_in history) ≡ element_at c p ys
 same_elements shape history ys c p legal same = (agree shape history ys legal same).elements c p
 
-pub same_fates : (shape : Shape) (history : List Entry) (ys : List Act) (c p : ℕ) → Legal shape history → SameActs (acts_in history) ys → fate_at c p (acts_in history) ≡ fate_at c p ys
+pub same_fates : (shape : Shape) (history : List Entry) (ys : List Act) (c p : ℕ) → Legal shape history → SameMembers (acts_in history) ys → fate_at c p (acts_in history) ≡ fate_at c p ys
 same_fates shape history ys c p legal same = fate_same (acts_in history) ys (agree shape history ys legal same) c p

@@ -28,6 +28,7 @@ use Rattle.script_meaning.specs.Books.{BooksOf}
 use Rattle.script_meaning.specs.Idle.{IsIdle}
 use Rattle.run_report.specs.Faults.{fault_text}
 use Rattle.run_report.specs.Elements.{channel_acts_noted, element_of, report_text}
+use Rattle.run_report.specs.Jobs.{job_acts_noted}
 use Rattle.run_report.specs.Summaries.{summary_text}
 use Rattle.coroutine_cli.specs.declared.words.Command.{Command}
 use Rattle.coroutine_cli.specs.declared.words.Command.TheVariants.{Run, Check, Sum}
@@ -36,6 +37,7 @@ use Rattle.coroutine_cli.specs.declared.status.Ending.TheVariants as ending
 use Rattle.coroutine_cli.specs.declared.status.Status.{Status}
 use Rattle.coroutine_cli.specs.declared.status.Status.TheVariants as status
 use Rattle.coroutine_cli.specs.Commands.{reads}
+use Rattle.coroutine_cli.specs.JobsTold.{AreToldOf}
 
 -- the number with which the process ends
 abbrev pub number_of : Status → ℕ
@@ -97,6 +99,8 @@ pub record RunsTo (how : Ending) (program : Program) : Type 0 where
   pub children_first : ChildrenEndFirst jobs
   -- the books say of each place which element came there in the history, and its fate
   pub told : (c place : ℕ) → element_of (channel_acts_noted books) c place ≡ element_of (acts_in channels) c place
+  -- and of each Job how far it is, or how it ended, in the tree after the history
+  pub jobs_told : AreToldOf (job_acts_noted books) (replay_jobs jobs)
 
 -- the input is a script, and the text the report of a run of it
 pub record Reports (how : Ending) (input text : List ℕ) : Type 0 where

@@ -9,9 +9,10 @@
 //! - `top`: the whole call over any source and sink.
 //! - `alone`: the same for one worker, without threads.
 //! - `ends`: the code with which the process ends, and what standard error says.
+//! - `process`: the whole process, of which `main` is one call: from the arguments that the system gives to its code.
 //! - `tests`: the tests; the worked scripts stand in `channel_rows`, `buffer_rows`, `job_rows`, `cancel_rows`, `select_rows`,
 //!   `scope_rows`, `await_rows` and `fault_rows`.
-//! - `print_tests`, `worker_tests`: tests of what the crates below answer to a script that no report shows.
+//! - `print_tests`, `worker_tests`, `gate_tests`: tests of what the crates below do with a script, where no report shows it.
 #![tactic(auto)]
 
 mod alone;
@@ -27,12 +28,15 @@ mod channel_rows;
 mod ends;
 #[cfg(test)]
 mod fault_rows;
+#[cfg(test)]
+mod gate_tests;
 mod input;
 #[cfg(test)]
 mod job_rows;
 mod prepare;
 #[cfg(test)]
 mod print_tests;
+mod process;
 #[cfg(test)]
 mod scope_rows;
 #[cfg(test)]
@@ -47,44 +51,23 @@ mod worker_tests;
 mod writing;
 
 use co_base::{OpenGate, StdSink, StdSource};
-use ends::{exit_code, message_of};
-use status::Status;
+use process::process;
+use std::env;
 use std::process::ExitCode;
-use std::rt::Env;
-use std::{env, io};
-use top::coroutine_main;
 
 fn main(rt: HostRuntime) -> ExitCode {
-    let number = match arguments(&rt) {
-        Ok(words) => {
-            let mut source = StdSource::new(rt.stdin());
-            let mut sink = StdSink::new(rt.stdout());
-            coroutine_main(
-                &rt,
-                rt.alloc(),
-                words.as_slice(),
-                &mut source,
-                &mut sink,
-                &OpenGate,
-            )
-        }
-        Err(error) if error.kind() == io::ErrorKind::OutOfMemory => Status::NoMemory.number(),
-        // A word that is no text is none that is accepted.
-        Err(_) => Status::Refused.number(),
-    };
-    if let Some(message) = message_of(number) {
+    let mut source = StdSource::new(rt.stdin());
+    let mut sink = StdSink::new(rt.stdout());
+    let left = process(
+        &rt,
+        rt.alloc(),
+        env::args(&rt),
+        &mut source,
+        &mut sink,
+        &OpenGate,
+    );
+    if let Some(message) = left.message {
         let _ = eprintln!(rt; "{message}");
     }
-    exit_code(number)
-}
-
-/// The words of the command line, without the program's name.
-fn arguments(rt: &(impl Env + AllocGlobal)) -> io::Result<Vec<String>> {
-    let mut words = Vec::new(rt.alloc());
-    for word in env::args(rt)?.skip(1) {
-        if words.push(word).is_err() {
-            return Err(io::Error::from(io::ErrorKind::OutOfMemory));
-        }
-    }
-    Ok(words)
+    left.code
 }

@@ -23,18 +23,17 @@ use Rattle.script_grammar.specs.Tags.{coroutine_count}
 use Rattle.script_grammar.proofs.Layouts.{main_fits}
 use Rattle.script_meaning.specs.Shapes.{base_of}
 use Rattle.script_meaning.specs.Configs.{fresh}
-use Rattle.script_meaning.specs.Endings.{ClosesAtOnce}
+use Rattle.call_meaning.specs.Endings.{ClosesAtOnce}
 use Rattle.script_meaning.specs.Books.{story, Runs, Reaches, Begins, is_refusal}
 use Rattle.script_meaning.specs.Polls.{own_rows}
 use Rattle.poll_states.specs.declared.frame.Frame.{Frame}
 use Rattle.poll_states.specs.Frames.{frame_of, config_of, items_of}
 use Rattle.poll_states.specs.Steps.{IsOnItsChannels, IsOnItsJobs, BegunTo}
 use Rattle.poll_states.proofs.LaterStands.{same_job_acts, same_claims, claims_within}
-use Rattle.script_meaning.proofs.NoRefusals.{AreClaimed, begun_never, is_among-rows_in}
+use Rattle.script_laws.proofs.NoRefusals.{AreClaimed, begun_never, is_among-rows_in}
 use Rattle.engine_one.specs.Coroutines.{Scene, FrameStands, StandsAt, AllStand}
 use Rattle.engine_one.specs.Starting.{IsMade, IsMadeAt, AllMade, HasNoCalls, HasNoJobs}
 use Rattle.engine_one.proofs.Lists.{within, pushed_at, slice_get-set_same, slice_get-set_other}
-use Rattle.engine_one.proofs.ClosedAtOnce.{closes_same, closes_none}
 use Rattle.engine_one.proofs.TurnsMade.{IsOn, are_claimed}
 
 -- ---- the frames
@@ -119,7 +118,7 @@ fresh_frame p c j j' k f calls jobs shape callers none claims lt n made = record
       claims = λ r. ap (λ m. is_claimed_by m (j'.claims r)) made.tag ∙ claims r ∙ claims_yet p j k r jobs ∙ ap (λ m. is_among r (own_rows m [])) (sym made.tag) ∙ ap (λ b. is_among r (own_rows f.tag b)) (sym made.book);
     };
   };
-  closes = subst (ClosesAtOnce (base_of p)) (sym made.book) (closes_none (base_of p));
+  closes = subst (ClosesAtOnce (base_of p)) (sym made.book) tt;
   no_refusal = ap (list_any (is_refusal (base_of p))) made.book;
 }
 
@@ -186,7 +185,7 @@ all_begin p c j j' frames f g is calls jobs legal count some all at begun = reco
     root_stands = record {
       tag = first;
       stands = begun.stands;
-      closes = closes_same (base_of p) (items_of g) (begun.dones.at_once calls.alone jobs.alone (nothing_closed (base_of p) c j calls.seen));
+      closes = begun.dones.at_once calls.alone jobs.alone (nothing_closed (base_of p) c j calls.seen);
       no_refusal = ap (list_any (is_refusal (base_of p))) begun.begun.written
           ∙ begun_never p c j j' (frame_of f) (frame_of g) is (subst (λ z. LegalJobs z j'.seen) begun.stands.on.jobs legal) begun.stands.on claimed_at begun.begun;
     }

@@ -14,16 +14,15 @@ use Rattle.script_grammar.specs.WellFormed.{IsProgram}
 use Rattle.script_grammar.specs.Tags.{coroutine_count}
 use Rattle.script_meaning.specs.Shapes.{base_of, floor_shape, job_shape}
 use Rattle.script_meaning.specs.Configs.{Config, fresh}
-use Rattle.script_meaning.specs.Endings.{ClosesAtOnce}
+use Rattle.call_meaning.specs.Endings.{ClosesAtOnce}
 use Rattle.script_meaning.specs.Books.{book_at, Runs, BooksOf, is_refusal}
 use Rattle.script_meaning.specs.Idle.{IsLeft, IsIdle}
-use Rattle.script_meaning.proofs.TreesAtRest.{at_rest}
-use Rattle.script_meaning.proofs.NothingOwed.{nothing_is_owed}
+use Rattle.script_laws.proofs.TreesAtRest.{at_rest}
+use Rattle.script_laws.proofs.NothingOwed.{nothing_is_owed}
 use Rattle.poll_states.specs.declared.frame.Frame.{Frame}
 use Rattle.poll_states.specs.Frames.{config_of, items_of}
 use Rattle.engine_one.specs.Coroutines.{Scene, StandsAt, AllStand, IsLeftAt, AllLeft, books_of}
 use Rattle.engine_one.proofs.Beginnings.{some_coroutine}
-use Rattle.engine_one.proofs.ClosedAtOnce.{closes_none}
 use Rattle.engine_one.proofs.Lists.{some_at, none_past}
 
 -- ---- the books
@@ -82,7 +81,7 @@ books_are_parts p s frames ok h legal legal_jobs = record {
         (subst (λ n. Runs p n (seen_by s.channels s.jobs) (items_of f) (config_of f)) z.tag z.stands.on.runs))
 
     close : (k : ℕ) (o : Option Frame) → slice_get frames k ≡ o → StandsAt p s k o → ClosesAtOnce (base_of p) (book_at k (books_of frames))
-    close k None e z = subst (ClosesAtOnce (base_of p)) (sym (book k None e)) (closes_none (base_of p))
+    close k None e z = subst (ClosesAtOnce (base_of p)) (sym (book k None e)) tt
     close k (Some f) e z = subst (ClosesAtOnce (base_of p)) (sym (book k (Some f) e)) z.closes
 
     free : (k : ℕ) (o : Option Frame) → slice_get frames k ≡ o → StandsAt p s k o → list_any (is_refusal (base_of p)) (book_at k (books_of frames)) ≡ false

@@ -1,6 +1,5 @@
 pub mod Lists
 pub mod Histories
-pub mod ClosedAtOnce
 pub mod Marks
 pub mod ReadyMoves
 pub mod TurnsMade

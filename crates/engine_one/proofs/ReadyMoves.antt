@@ -31,7 +31,7 @@ use Rattle.script_meaning.specs.MovesLeft.{moves_left, most_moves, LooksAgainAt}
 use Rattle.script_meaning.specs.Polls.{Turned, MovesOnce, HasToSee, AsksAgain, StandsOn, Polled}
 use Rattle.script_meaning.proofs.InsideCode.{reach_fits}
 use Rattle.script_meaning.proofs.MovesFall.{receipts, FallsBy, once_falls}
-use Rattle.script_meaning.proofs.EndsToSee.{seen_closed}
+use Rattle.script_laws.proofs.EndsToSee.{seen_closed}
 use Rattle.script_meaning.proofs.BodiesOpen.{Knows, stands_knows, named_attached, scope_here}
 use Rattle.poll_states.specs.declared.frame.Frame.{Frame}
 use Rattle.poll_states.specs.Frames.{frame_of, config_of, items_of}

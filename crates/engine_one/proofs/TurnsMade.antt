@@ -22,20 +22,20 @@ use Rattle.script_meaning.specs.declared.turn.Turn.{Turn}
 use Rattle.script_meaning.specs.declared.turn.Turn.TheVariants as turn
 use Rattle.script_meaning.specs.Shapes.{base_of, floor_shape, job_shape}
 use Rattle.script_meaning.specs.Books.{is_refusal}
-use Rattle.script_meaning.specs.Endings.{ClosesAtOnce}
+use Rattle.call_meaning.specs.Endings.{ClosesAtOnce}
 use Rattle.script_meaning.specs.MovesLeft.{moves_left, most_moves}
 use Rattle.script_meaning.specs.Polls.{Polled, StandsOn, Frame as Meant}
 use Rattle.poll_states.specs.declared.frame.Frame.{Frame}
 use Rattle.poll_states.specs.Frames.{Stands, frame_of, config_of, items_of, IsUnmoved}
 use Rattle.poll_states.specs.Steps.{PolledTo, MovesOn}
-use Rattle.script_meaning.proofs.NoRefusals.{AreClaimed}
-use Rattle.script_meaning.proofs.NotSpent.{AllNoted, polled_never}
+use Rattle.script_laws.proofs.NoRefusals.{AreClaimed}
+use Rattle.script_laws.proofs.NotSpent.{AllNoted, polled_never}
 use Rattle.poll_states.proofs.LaterStands.{stands_later, others_added, same_acts, same_job_acts, claims_within}
 use Rattle.poll_states.proofs.CannotGoOn.{cannot_go_on}
 use Rattle.engine_one.specs.Coroutines.{Scene, IsSame, FrameStands, StandsAt, AllStand, IsLeftAt, frame_moves, all_moves}
 use Rattle.engine_one.specs.Progress.{MovesFall, StandsStill, Advances, OthersSame, TurnCameTo}
 use Rattle.engine_one.proofs.Lists.{slice_get-Some, slice_get-set_same, slice_get-set_other, sum_by-set_same, some_at, none_past}
-use Rattle.engine_one.proofs.ClosedAtOnce.{closes-append, closes_same}
+use Rattle.scope_builders.proofs.DonesKept.{at_once_then}
 use Rattle.engine_one.proofs.ReadyMoves.{none_added, told_none, turned_comes, ready_falls}
 
 -- ---- the frames stand on
@@ -134,7 +134,7 @@ turned_stand p a b frames k f g answer is h lt read legal_channels legal turned 
     here_at = record {
       tag = polled.tag ∙ was.tag;
       stands = turned.stands;
-      closes = subst (ClosesAtOnce (base_of p)) (sym polled.appended) (closes-append (base_of p) (items_of f) notes was.closes (closes_same (base_of p) notes (turned.dones.at_once h.channels_alone h.jobs_alone h.dones)));
+      closes = subst (ClosesAtOnce (base_of p)) (sym polled.appended) (at_once_then (base_of p) (items_of f) notes was.closes (turned.dones.at_once h.channels_alone h.jobs_alone h.dones));
       no_refusal = no_refusal;
     }
 

@@ -12,7 +12,7 @@ use Rattle.scope_builders.specs.Dones.{OnlyEndedAreClosed}
 use Rattle.script_grammar.specs.Programs.{Program}
 use Rattle.script_grammar.specs.Tags.{coroutine_count}
 use Rattle.script_meaning.specs.Shapes.{base_of, floor_shape}
-use Rattle.script_meaning.specs.Endings.{ClosesAtOnce}
+use Rattle.call_meaning.specs.Endings.{ClosesAtOnce}
 use Rattle.script_meaning.specs.Books.{is_refusal}
 use Rattle.script_meaning.specs.Idle.{IsLeft}
 use Rattle.script_meaning.specs.MovesLeft.{moves_left, most_moves}

@@ -17,7 +17,6 @@ use Rattle.channel_calls.specs.declared.caller.TrySendAnswer.{TrySendAnswer}
 use Rattle.channel_calls.specs.declared.caller.TrySendAnswer.TheVariants as try_send
 use Rattle.channel_calls.specs.declared.caller.TryReceiveAnswer.{TryReceiveAnswer}
 use Rattle.channel_calls.specs.declared.caller.TryReceiveAnswer.TheVariants as try_receive
-use Rattle.channel_calls.specs.declared.caller.ReceiveAnswer.TheVariants as receive
 use Rattle.channel_calls.specs.Calls.{IsLeftWaiting, SentAnswer, TrySentAnswer, TryReceivedAnswer, ClosedAnswer, CancelledChannelAnswer}
 use Rattle.channel_calls.proofs.OwnOffers.{left_seen}
 use Rattle.channel_calls.proofs.AnswersGo.{sent_goes, unsent_goes, closes_goes, cancels_goes}

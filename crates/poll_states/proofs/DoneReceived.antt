@@ -1,6 +1,7 @@
 -- A receive on a done channel behind the end of a body: what both tell.
 use Rattle.std.specs.Prelude.{◌≡◌, ℕ, ◌<◌, Bool, true, List, [], ◌++◌, Option, Some, None, is_some, slice_get, Result, Ok, Err, refl}
 use Rattle.std.proofs.Common.{sym, ap, ◌∙◌, subst, append_assoc}
+use Rattle.std.proofs.lemmas.List.{append-nil}
 use Rattle.co_base.specs.declared.names.Memory.{Memory}
 use Rattle.co_base.specs.declared.names.WaitId.{WaitId}
 use Rattle.channel_model.specs.declared.acts.Act.{Act}
@@ -8,7 +9,7 @@ use Rattle.channel_model.specs.Channels.{Shape as ChannelShape}
 use Rattle.channel_model.specs.Histories.{acts_of}
 use Rattle.channel_model.specs.Floors.{Floor as ChannelFloor}
 use Rattle.channel_model.proofs.Spans as spans
-use Rattle.job_model.specs.Trees.{Shape, Job}
+use Rattle.job_model.specs.Trees.{Shape, Job, Tree}
 use Rattle.job_model.specs.Done.{done_channel}
 use Rattle.job_model.specs.declared.floor.Ended.{Ended as BodyEnd}
 use Rattle.job_model.specs.Needs.{MayEndBody, OwnsBody}
@@ -19,13 +20,15 @@ use Rattle.note_book.specs.Items.{channel_acts_in, job_acts_in}
 use Rattle.note_book.proofs.Appended.{channel_acts_in-append}
 use Rattle.call_meaning.specs.Telling.{Told, items_in}
 use Rattle.call_meaning.specs.ChannelCalls.{Answer, Closed, Waits, NoPlace}
+use Rattle.call_meaning.specs.JobCalls.{EndsBody, BreaksOff}
 use Rattle.call_meaning.specs.Calls.{ToldOnBoth}
 use Rattle.call_meaning.proofs.JobTellings.{items_in-append, both_then}
+use Rattle.call_meaning.proofs.Prefixes.{prefix_whole, prefix_behind}
 use Rattle.channel_calls.specs.Calls.{IsLeftWaiting}
 use Rattle.scope_builders.specs.declared.builder.Joined.{Joined}
 use Rattle.scope_builders.specs.declared.builder.Joined.TheVariants as joined
 use Rattle.scope_builders.specs.Dones.{KeepsDones}
-use Rattle.scope_builders.specs.Calls.{MayBuild, TellsBoth, ReceivesDone, DoneAnswer, EndedJob, BrokeJob}
+use Rattle.scope_builders.specs.Calls.{MayBuild, TellsBoth, ReceivesDone, IsNothing, DoneAnswer, EndedJob, BeginsToBreakOff, BrokeJob, BrokenAnswer}
 use Rattle.scope_builders.proofs.DonesKept.{kept_then}
 use Rattle.scope_builders.proofs.Rooms.{may_call_after}
 use Rattle.poll_states.specs.Ends.{EndsAndReceives, BreaksAndReceives}
@@ -83,30 +86,40 @@ module _ (who base : ℕ) (first : List Told) (c c1 c2 : ChannelFloor) (j j1 j2 
         holds = left.holds;
       }
 
-  pub done_behind : (P Q : Answer → List Told → Type 0) → ((a : Answer) (told : List Told) → P a told → Q a (first ++ told)) → (r : Result Joined Memory) → DoneAnswer who base P c1 c2 j1 j2 i1 i2 r → DoneAnswer who base Q c c2 j j2 i i2 r
-  done_behind P Q f (Ok (joined.Closed v)) t = tells_then (P (Closed v)) (Q (Closed v)) (f (Closed v)) t
-  done_behind P Q f (Ok (joined.Waits w)) t =
+  pub done_behind : (P Q : Answer → List Told → Type 0) (S T : List Told → Type 0) → ((a : Answer) (told : List Told) → P a told → Q a (first ++ told)) → ((told : List Told) → S told → T (first ++ told)) → (r : Result Joined Memory) → DoneAnswer who base P S c1 c2 j1 j2 i1 i2 r → DoneAnswer who base Q T c c2 j j2 i i2 r
+  done_behind P Q S T f g (Ok (joined.Closed v)) t = tells_then (P (Closed v)) (Q (Closed v)) (f (Closed v)) t
+  done_behind P Q S T f g (Ok (joined.Waits w)) t =
       (record { told = first ++ t.0.told; goes = f (Waits w) t.0.told t.0.goes; noted = both_noted t.0.told t.0.noted; dones = both_kept t.0.told t.0.dones }, left_then t.0.told w t.1)
-  done_behind P Q f (Ok joined.Cancelled) t = t
-  done_behind P Q f (Ok joined.Spent) t = tells_then (P NoPlace) (Q NoPlace) (f NoPlace) t
-  done_behind P Q f (Err m) t = record { told = first ++ t.told; noted = both_noted t.told t.noted; dones = both_kept t.told t.dones }
+  done_behind P Q S T f g (Ok joined.Cancelled) t = t
+  done_behind P Q S T f g (Ok joined.Spent) t = tells_then (P NoPlace) (Q NoPlace) (f NoPlace) t
+  done_behind P Q S T f g (Err m) t = record { told = first ++ t.told; goes = prefix_behind S T first g t.told t.goes; noted = both_noted t.told t.noted; dones = both_kept t.told t.dones }
 
 -- the receive, as the first caller's
 received_by : (who who1 base base1 row : ℕ) (c1 c2 : ChannelFloor) (j1 j2 : Floor) (i1 i2 : List Item) (r : Result Joined Memory) → who1 ≡ who → base1 ≡ base
-    → DoneAnswer who1 base1 (ReceivesDone base1 row) c1 c2 j1 j2 i1 i2 r → DoneAnswer who base (ReceivesDone base row) c1 c2 j1 j2 i1 i2 r
+    → DoneAnswer who1 base1 (ReceivesDone base1 row) IsNothing c1 c2 j1 j2 i1 i2 r → DoneAnswer who base (ReceivesDone base row) IsNothing c1 c2 j1 j2 i1 i2 r
 received_by who who1 base base1 row c1 c2 j1 j2 i1 i2 r e f h =
-    subst (λ b. DoneAnswer who b (ReceivesDone b row) c1 c2 j1 j2 i1 i2 r) f (subst (λ n. DoneAnswer n base1 (ReceivesDone base1 row) c1 c2 j1 j2 i1 i2 r) e h)
+    subst (λ b. DoneAnswer who b (ReceivesDone b row) IsNothing c1 c2 j1 j2 i1 i2 r) f (subst (λ n. DoneAnswer n base1 (ReceivesDone base1 row) IsNothing c1 c2 j1 j2 i1 i2 r) e h)
 
 pub end_received : (who who1 base base1 row : ℕ) (c c1 c2 : ChannelFloor) (j j1 j2 : Floor) (i i1 i2 : List Item) (answer : BodyEnd) (r : Result Joined Memory) → who1 ≡ who → base1 ≡ base → EndedJob who base row 0 c c1 j j1 i i1 answer
-    → DoneAnswer who1 base1 (ReceivesDone base1 row) c1 c2 j1 j2 i1 i2 r → DoneAnswer who base (EndsAndReceives base row) c c2 j j2 i i2 r
+    → DoneAnswer who1 base1 (ReceivesDone base1 row) IsNothing c1 c2 j1 j2 i1 i2 r → DoneAnswer who base (EndsAndReceives base row) (EndsBody base row 0) c c2 j j2 i i2 r
 end_received who who1 base base1 row c c1 c2 j j1 j2 i i1 i2 answer r e f ended got =
-    done_behind who base ended.told c c1 c2 j j1 j2 i i1 i2 ended.noted ended.dones (ReceivesDone base row) (EndsAndReceives base row)
-    (λ a told goes. record { end = ended.told; group = told; ends = ended.group; received = goes; all = refl }) r
+    done_behind who base ended.told c c1 c2 j j1 j2 i i1 i2 ended.noted ended.dones (ReceivesDone base row) (EndsAndReceives base row) IsNothing (EndsBody base row 0)
+    (λ a told goes. record { end = ended.told; group = told; ends = ended.group; received = goes; all = refl })
+    (λ told none. subst (EndsBody base row 0) (sym (ap (λ (l : List Told). ended.told ++ l) none ∙ append-nil ended.told)) ended.group) r
     (received_by who who1 base base1 row c1 c2 j1 j2 i1 i2 r e f got)
 
+-- a body that broke off began to
+broken_off : (base who row : ℕ) (failure : Option ℕ) (tree : Tree) (told : List Told) → BreaksOff base who row failure told → BeginsToBreakOff base who row failure tree told
+broken_off base who row failure tree told h = subst (BeginsToBreakOff base who row failure tree) (sym h.all) (BeginsToBreakOff.ends h.cancels h.end h.breaks (prefix_whole (EndsBody base row 0) h.end h.ends))
+
+-- without memory
+pub break_begun : (who base row : ℕ) (failure : Option ℕ) (c c' : ChannelFloor) (j j' : Floor) (i i' : List Item) (m : Memory) → BrokenAnswer who base row failure c c' j j' i i' (Err m) → DoneAnswer who base (BreaksAndReceives base who row failure) (BeginsToBreakOff base who row failure (replay j'.seen)) c c' j j' i i' (Err m)
+break_begun who base row failure c c' j j' i i' m h = record { told = h.told; goes = prefix_whole (BeginsToBreakOff base who row failure (replay j'.seen)) h.told h.goes; noted = h.noted; dones = h.dones }
+
 pub break_received : (who who1 base base1 row : ℕ) (failure : Option ℕ) (c c1 c2 : ChannelFloor) (j j1 j2 : Floor) (i i1 i2 : List Item) (answer : BodyEnd) (r : Result Joined Memory) → who1 ≡ who → base1 ≡ base → BrokeJob who base row failure c c1 j j1 i i1 answer
-    → DoneAnswer who1 base1 (ReceivesDone base1 row) c1 c2 j1 j2 i1 i2 r → DoneAnswer who base (BreaksAndReceives base who row failure) c c2 j j2 i i2 r
+    → DoneAnswer who1 base1 (ReceivesDone base1 row) IsNothing c1 c2 j1 j2 i1 i2 r → DoneAnswer who base (BreaksAndReceives base who row failure) (BeginsToBreakOff base who row failure (replay j2.seen)) c c2 j j2 i i2 r
 break_received who who1 base base1 row failure c c1 c2 j j1 j2 i i1 i2 answer r e f broke got =
-    done_behind who base broke.told c c1 c2 j j1 j2 i i1 i2 broke.noted broke.dones (ReceivesDone base row) (BreaksAndReceives base who row failure)
-    (λ a told goes. record { cancels = broke.told; group = told; breaks = broke.group; received = goes; all = refl }) r
+    done_behind who base broke.told c c1 c2 j j1 j2 i i1 i2 broke.noted broke.dones (ReceivesDone base row) (BreaksAndReceives base who row failure) IsNothing (BeginsToBreakOff base who row failure (replay j2.seen))
+    (λ a told goes. record { cancels = broke.told; group = told; breaks = broke.group; received = goes; all = refl })
+    (λ told none. subst (BeginsToBreakOff base who row failure (replay j2.seen)) (sym (ap (λ (l : List Told). broke.told ++ l) none ∙ append-nil broke.told)) (broken_off base who row failure (replay j2.seen) broke.told broke.group)) r
     (received_by who who1 base base1 row c1 c2 j1 j2 i1 i2 r e f got)

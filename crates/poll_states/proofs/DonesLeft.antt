@@ -14,7 +14,8 @@ use Rattle.job_model.specs.Floors.{Floor, Added}
 use Rattle.job_model.proofs.Lasting.{ended_lasts}
 use Rattle.job_model.proofs.Own.{prefix_keeps}
 use Rattle.note_book.specs.declared.book.Item.{Item}
-use Rattle.scope_builders.specs.Dones.{KeepsDones, ClosesAtOnce}
+use Rattle.call_meaning.specs.Endings.{ClosesAtOnce}
+use Rattle.scope_builders.specs.Dones.{KeepsDones}
 use Rattle.script_meaning.proofs.GentleNotes.{leaves_dones}
 use Rattle.script_meaning.proofs.DonesUnclosed.{added_closes}
 

@@ -49,9 +49,9 @@ use Rattle.channel_model.specs.Floors.{Looked as LookedAtChannels}
 use Rattle.job_model.proofs.Spans.{added_looked, nothing_more}
 use Rattle.call_meaning.specs.Telling.{on_jobs, MayRun, made}
 use Rattle.call_meaning.specs.Calls.{ToldOnChannels}
+use Rattle.call_meaning.specs.Endings.{ClosesAtOnce}
 use Rattle.call_meaning.proofs.JobTellings.{both_channels}
 use Rattle.channel_calls.specs.Calls.{IsUntouched, end_told}
-use Rattle.scope_builders.specs.Dones.{ClosesAtOnce}
 use Rattle.scope_builders.proofs.DonesKept.{kept_then}
 use Rattle.script_meaning.specs.Shapes.{floor_shape}
 use Rattle.script_meaning.proofs.WaitsEnd.{scope_wait_ends}

@@ -107,7 +107,7 @@ has_launched p c d j j' f g parent block size how lazy job now e l at under same
 pub never_told_over : (who row : ℕ) (rows : List ℕ) (c : ChannelFloor) (j j' : Floor) (i i' : List Item) (more : List Told) → Legal j'.shape j'.seen → HasBodyAt who row j → acts_of who c.seen ≡ channel_acts_in i → job_acts_of who j.seen ≡ job_acts_in i → ToldOnJobs who rows j j' i i' (on_jobs (HasEnded row) ∷ more) → ⊥
 unfolding IsTrue
 never_told_over who row rows c j j' i i' more l body e f h =
-    let so = h.was_so c.shape c.seen e f in
+    let so = h.was_so i c.shape c.seen e f in
     let at : List JobEntry = so.0.jobs in
     let q : IsPrefix at j'.seen = so.1.not_after.jobs in
     let there : Floor = record j' { seen = at } in

@@ -18,7 +18,7 @@ use Rattle.note_book.specs.Items.{channel_acts_in}
 use Rattle.call_meaning.specs.Telling.{Told, on_channels, on_jobs, JobFact, TakenBack, items_in, made, knew, saw}
 use Rattle.call_meaning.specs.ChannelCalls.{Call, Answer, Closes, CancelsChannel, PlainCall, TryCall, GivesUp, channel_of}
 use Rattle.call_meaning.specs.JobCalls.{Starts, Passes}
-use Rattle.scope_builders.specs.Dones.{ClosesAtOnce, IsClosedNext, finish_of}
+use Rattle.call_meaning.specs.Endings.{ClosesAtOnce, IsClosedNext, finish_of}
 use Rattle.script_meaning.specs.Configs.{Config}
 use Rattle.script_meaning.specs.Books.{is_refusal}
 use Rattle.script_meaning.specs.Polls.{RefusedByClaims, is_no_row, is_used, is_parent_ended}

@@ -61,7 +61,7 @@ tells_step p c c' j j' f g s = record {
 
 -- it was so
 tells_true : (p : Program) (c c' : ChannelFloor) (j j' : Floor) (f g : Frame) (told : List Told) → Stands p c j f → Tells p c c' j j' f g told → IsTrue (story p f.tag (seen_by c' j')) (items_of f) (seen_by c j) told
-tells_true p c c' j j' f g told h s = subst (λ sh. IsTrue (story_of sh f.tag (seen_by c' j')) (items_of f) (seen_by c j) told) h.on.channels (s.noted.was_so h.on.channel_acts h.on.job_acts)
+tells_true p c c' j j' f g told h s = subst (λ sh. IsTrue (story_of sh f.tag (seen_by c' j')) (items_of f) (seen_by c j) told) h.on.channels (s.noted.was_so (items_of f) h.on.channel_acts h.on.job_acts)
 
 pub tells_stand : (p : Program) (c c' : ChannelFloor) (j j' : Floor) (f g : Frame) (told : List Told) → Stands p c j f → Tells p c c' j j' f g told → Stands p c' j' g
 tells_stand p c c' j j' f g told h s = record {

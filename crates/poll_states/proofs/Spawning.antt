@@ -27,7 +27,8 @@ use Rattle.call_meaning.proofs.Tellings.{true_sooner}
 use Rattle.call_meaning.proofs.JobTellings.{items_in-append, told_then, told_nothing, nobody_called}
 use Rattle.scope_builders.specs.declared.builder.LaunchError.{LaunchError}
 use Rattle.scope_builders.specs.declared.builder.LaunchError.TheVariants as launch
-use Rattle.scope_builders.specs.Dones.{ClosesAtOnce, KeepsDones}
+use Rattle.call_meaning.specs.Endings.{ClosesAtOnce}
+use Rattle.scope_builders.specs.Dones.{KeepsDones}
 use Rattle.scope_builders.specs.Calls.{LaunchAnswer}
 use Rattle.scope_builders.proofs.DonesKept.{at_once_then}
 use Rattle.script_grammar.specs.Programs.{Program, Block, block_names}
@@ -125,7 +126,7 @@ root_begun p c j j' f g told ok l new its on t spawned_so noted refused closes =
     told = told;
     begins = subst (λ k. Begins p k told (config_of g)) (sym new.tag) (Begins.root told (config_of g) spawned_so);
     written = noted.appended;
-    is_true = subst (λ k. IsTrue (story p k (jobs_by j')) [] (jobs_by j) told) (sym new.tag) (noted.was_so (floor_shape p) [] refl on.no_job_acts);
+    is_true = subst (λ k. IsTrue (story p k (jobs_by j')) [] (jobs_by j) told) (sym new.tag) (noted.was_so [] (floor_shape p) [] refl on.no_job_acts);
     jobs = subst (λ k. Added k (job_acts_in (items_in told)) (rows_in (job_acts_in (items_in told))) j j') (sym new.tag) noted.added;
     refused = refused;
   };
@@ -143,7 +144,7 @@ root_begun p c j j' f g told ok l new its on t spawned_so noted refused closes =
         written = sym noted.appended;
         reaches = subst (λ k. Reaches p k told (config_of g)) (sym t) (Reaches.begins told (config_of g) (Begins.root told (config_of g) spawned_so));
         is_true = subst (λ k. IsTrue (story p k (seen_by c j')) [] beginning told) (sym t)
-            (true_sooner (story p 0 (seen_by c j')) [] beginning (seen_by c j) told (record { channels = (c.seen, refl); jobs = (j.seen, refl) }) (noted.was_so (floor_shape p) c.seen its.no_channel_acts on.no_job_acts));
+            (true_sooner (story p 0 (seen_by c j')) [] beginning (seen_by c j) told (record { channels = (c.seen, refl); jobs = (j.seen, refl) }) (noted.was_so [] (floor_shape p) c.seen its.no_channel_acts on.no_job_acts));
       };
       claims = λ r.
           let rows : List ℕ = rows_in (job_acts_in (items_in told)) in

@@ -13,7 +13,7 @@ use Rattle.call_meaning.specs.Telling.{Told, items_in, did}
 use Rattle.call_meaning.specs.Calls.{ToldOnChannels, ToldOnJobs, ToldOnBoth, seen_by, rows_in}
 use Rattle.call_meaning.proofs.JobTellings.{nobody_called, both_jobs, both_channels}
 use Rattle.channel_calls.specs.Calls.{ToldSome}
-use Rattle.scope_builders.specs.Calls.{DidSome}
+use Rattle.scope_builders.specs.Calls.{TellsBoth}
 use Rattle.script_grammar.specs.Programs.{Program}
 use Rattle.script_meaning.specs.Shapes.{base_of}
 use Rattle.script_meaning.specs.Configs.{Config}
@@ -74,7 +74,7 @@ jobs_noted who rows c d j j' i i' told e k h = subst (λ (l : List ℕ). ToldOnB
 
 -- what a call told is known
 pub known_of : (c c' : ChannelFloor) (j j' : Floor) (who : ℕ) (rows : List ℕ) (i i' : List Item) (told : List Told) → Legal j'.shape j'.seen → acts_of who c.seen ≡ channel_acts_in i → job_acts_of who j.seen ≡ job_acts_in i → ToldOnBoth who rows c c' j j' i i' told → AllKnown (parents_in j'.seen) told
-known_of c c' j j' who rows i i' told l e f h = all_known j'.shape who j'.seen (job_acts_in i) told l (true_so _ i (seen_by c j) told (h.was_so e f))
+known_of c c' j j' who rows i i' told l e f h = all_known j'.shape who j'.seen (job_acts_in i) told l (true_so _ i (seen_by c j) told (h.was_so i e f))
 
 -- ---- want of memory
 
@@ -97,11 +97,11 @@ some_jobs who c d j j' i i' e h = record { group = []; rows = []; appended = h.a
 pub cut_jobs : (c d : ChannelFloor) (j j' : Floor) (f g : Frame) → d ≡ c → g.tag ≡ f.tag → ToldOnJobs f.tag [] j j' (items_of f) (items_of g) [] → CutShort c d j j' f g
 cut_jobs c d j j' f g e t h = record { tag = t; noted = some_jobs f.tag c d j j' (items_of f) (items_of g) e h }
 
-pub some_told : (who base : ℕ) (c c' : ChannelFloor) (j j' : Floor) (i i' : List Item) → DidSome who base c c' j j' i i' → NotedSome who c c' j j' i i'
-some_told who base c c' j j' i i' h = record { group = items_in h.told; rows = []; appended = h.noted.appended; channels = h.noted.channels; jobs = h.noted.jobs }
+pub some_told : (who base : ℕ) (P : List Told → Type 0) (c c' : ChannelFloor) (j j' : Floor) (i i' : List Item) → TellsBoth who base P c c' j j' i i' → NotedSome who c c' j j' i i'
+some_told who base P c c' j j' i i' h = record { group = items_in h.told; rows = []; appended = h.noted.appended; channels = h.noted.channels; jobs = h.noted.jobs }
 
-pub cut_some : (base : ℕ) (c c' : ChannelFloor) (j j' : Floor) (f g : Frame) → g.tag ≡ f.tag → DidSome f.tag base c c' j j' (items_of f) (items_of g) → CutShort c c' j j' f g
-cut_some base c c' j j' f g t h = record { tag = t; noted = some_told f.tag base c c' j j' (items_of f) (items_of g) h }
+pub cut_some : (base : ℕ) (P : List Told → Type 0) (c c' : ChannelFloor) (j j' : Floor) (f g : Frame) → g.tag ≡ f.tag → TellsBoth f.tag base P c c' j j' (items_of f) (items_of g) → CutShort c c' j j' f g
+cut_some base P c c' j j' f g t h = record { tag = t; noted = some_told f.tag base P c c' j j' (items_of f) (items_of g) h }
 
 pub cut_told : (c c' : ChannelFloor) (j k : Floor) (f g : Frame) → k ≡ j → g.tag ≡ f.tag → ToldSome f.tag c c' (items_of f) (items_of g) → CutShort c c' j k f g
 cut_told c c' j k f g h t did = record {

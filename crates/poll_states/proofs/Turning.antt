@@ -11,7 +11,7 @@ use Rattle.job_model.specs.Floors.{Floor, Added, AtStep}
 use Rattle.job_model.proofs.Spans.{added_looked, added_then, prefix_then, nothing_more}
 use Rattle.note_book.specs.declared.book.Item.{Item}
 use Rattle.note_book.specs.Items.{channel_acts_in, job_acts_in}
-use Rattle.call_meaning.specs.Telling.{Told, MayRun, items_in}
+use Rattle.call_meaning.specs.Telling.{Told, items_in}
 use Rattle.call_meaning.specs.Facts.{IsRunning}
 use Rattle.call_meaning.specs.Calls.{ToldOnBoth, rows_in}
 use Rattle.call_meaning.proofs.JobTellings.{told_nothing, both_jobs, both_then}

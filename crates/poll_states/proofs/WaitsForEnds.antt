@@ -28,7 +28,7 @@ use Rattle.call_meaning.specs.Telling.{Told, on_jobs, MayRun, items_in, did, kne
 use Rattle.call_meaning.specs.Facts.{end_at, end_by, IsAlive}
 use Rattle.call_meaning.specs.Stories.{IsTrue}
 use Rattle.call_meaning.specs.ChannelCalls.{receives, Answer, Closed, Waits, NoPlace, PlainCall}
-use Rattle.call_meaning.specs.JobCalls.{scope_kind, NotAttached, EndsBody, BreaksOff, reason_for}
+use Rattle.call_meaning.specs.JobCalls.{scope_kind, NotAttached, Starts, EndsBody, BreaksOff, reason_for}
 use Rattle.call_meaning.specs.Calls.{ToldOnJobs, ToldOnBoth, rows_in, seen_by}
 use Rattle.call_meaning.proofs.JobTellings.{both_jobs}
 use Rattle.channel_calls.specs.Calls.{IsLeftWaiting}
@@ -39,7 +39,7 @@ use Rattle.scope_builders.specs.Calls.{Entered as HasEntered}
 use Rattle.scope_builders.specs.Dones.{KeepsDones}
 use Rattle.scope_builders.specs.declared.builder.LaunchError.{LaunchError}
 use Rattle.scope_builders.specs.declared.builder.LaunchError.TheVariants as launch
-use Rattle.scope_builders.specs.Calls.{NoneLeft, EnteredNone, EnterAnswer, TellsBoth, ReceivesDone, AwaitsEnd, JoinsJob, DoneAnswer, JoinAnswer}
+use Rattle.scope_builders.specs.Calls.{NoneLeft, EnteredNone, EnterAnswer, TellsBoth, ReceivesDone, AwaitsEnd, JoinsJob, BeginsToBreakOff, DoneAnswer, JoinAnswer}
 use Rattle.script_grammar.specs.declared.instructions.Instruction.{Instruction}
 use Rattle.script_grammar.specs.declared.instructions.Instruction.TheVariants as line
 use Rattle.script_grammar.specs.Programs.{Program}
@@ -122,9 +122,9 @@ has_joined p base c c' j j' f g job own row answer mid e h at is named did t con
         (all_as is_quiet d.told _ is_told (saw_all is_quiet quiet_allows own_row [] (all_none is_quiet))) t k (λ w n. no_more_wait w n)
 
 pub has_awaited : (p : Program) (base : ℕ) (c c' : ChannelFloor) (j j' : Floor) (f g : Frame) (job row : ℕ) (answer : Joined) (mid : List Item) → base ≡ base_of p → Stands p c j f → IsAt p f.tag (config_of f) (line.Await job) → slice_get f.rows.items job ≡ Some row
-    → DoneAnswer f.tag base (AwaitsEnd base row) c c' j j' (items_of f) mid (Ok answer) → g.tag ≡ f.tag → config_of g ≡ after_named p f.tag (config_of f) (line.Await job) (came_of_joined answer) → items_of g ≡ mid → Stepped p c c' j j' f g
+    → DoneAnswer f.tag base (AwaitsEnd base row) (Starts row) c c' j j' (items_of f) mid (Ok answer) → g.tag ≡ f.tag → config_of g ≡ after_named p f.tag (config_of f) (line.Await job) (came_of_joined answer) → items_of g ≡ mid → Stepped p c c' j j' f g
 has_awaited p base c c' j j' f g job row answer mid e h at named did t config items =
-    by_answer answer (subst (λ i. DoneAnswer f.tag base (AwaitsEnd base row) c c' j j' (items_of f) i (Ok answer)) (sym items) did) config
+    by_answer answer (subst (λ i. DoneAnswer f.tag base (AwaitsEnd base row) (Starts row) c c' j j' (items_of f) i (Ok answer)) (sym items) did) config
   where
     say : (a : Answer) (y : Config) → (d : TellsBoth f.tag base (AwaitsEnd base row a) c c' j j' (items_of f) (items_of g)) → After p f.tag (config_of f) (line.Await job) a y → config_of g ≡ y → ((w : WaitId) → wait_of y.stage ≡ Some w → HasStood c c' w) → Stepped p c c' j j' f g
     say a y d after k stood =
@@ -132,7 +132,7 @@ has_awaited p base c c' j j' f g job row answer mid e h at named did t config it
         quiet_step p c c' j j' f g d.told y (Move.calls (config_of f) y (line.Await job) d.told a at (LineCalls.await job row d.told a named group) after) d.noted (tells_at p f.tag base _ c c' j j' (items_of f) (items_of g) e d)
         (both_all is_quiet quiet_allows p row d.told a (λ s. refl) group) t k stood
 
-    by_answer : (answer : Joined) → DoneAnswer f.tag base (AwaitsEnd base row) c c' j j' (items_of f) (items_of g) (Ok answer) → config_of g ≡ after_named p f.tag (config_of f) (line.Await job) (came_of_joined answer) → Stepped p c c' j j' f g
+    by_answer : (answer : Joined) → DoneAnswer f.tag base (AwaitsEnd base row) (Starts row) c c' j j' (items_of f) (items_of g) (Ok answer) → config_of g ≡ after_named p f.tag (config_of f) (line.Await job) (came_of_joined answer) → Stepped p c c' j j' f g
     by_answer (joined.Closed v) d k = say (Closed v) _ d (After.awaited job v) k (λ w n. no_more_wait w n)
     by_answer (joined.Waits w) d k = say (Waits w) _ d.0 (After.waits (line.Await job) w) k (λ u n. left_stood f.tag _ w u c c' d.1 n)
     by_answer joined.Cancelled d k = absurd d
@@ -145,9 +145,9 @@ done_call p base row a told e h = subst (λ b. PlainCall (receives (done_channel
 
 -- the body of the scope ends
 pub scope_body_ended : (p : Program) (base : ℕ) (c c' : ChannelFloor) (j j' : Floor) (f g : Frame) (scope : OpenScope) (answer : Joined) (mid : List Item) → base ≡ base_of p → Stands p c j f → IsAt p f.tag (config_of f) line.End → IsScopeTop (config_of f) scope
-    → DoneAnswer f.tag base (EndsAndReceives base scope.row) c c' j j' (items_of f) mid (Ok answer) → g.tag ≡ f.tag → AfterDone f.tag answer (config_of f) (config_of g) → items_of g ≡ mid → Stepped p c c' j j' f g
+    → DoneAnswer f.tag base (EndsAndReceives base scope.row) (EndsBody base scope.row 0) c c' j j' (items_of f) mid (Ok answer) → g.tag ≡ f.tag → AfterDone f.tag answer (config_of f) (config_of g) → items_of g ≡ mid → Stepped p c c' j j' f g
 scope_body_ended p base c c' j j' f g scope answer mid e h at top did t config items =
-    by_answer answer (subst (λ i. DoneAnswer f.tag base (EndsAndReceives base scope.row) c c' j j' (items_of f) i (Ok answer)) (sym items) did) config
+    by_answer answer (subst (λ i. DoneAnswer f.tag base (EndsAndReceives base scope.row) (EndsBody base scope.row 0) c c' j j' (items_of f) i (Ok answer)) (sym items) did) config
   where
     s : InScope
     s = record { head = scope.head; row = scope.row; around = top.0 }
@@ -159,7 +159,7 @@ scope_body_ended p base c c' j j' f g scope answer mid e h at top did t config i
         quiet_step p c c' j j' f g d.told y (Move.ends_scope (config_of f) y s d.goes.end d.goes.group d.told a at top.1 ends call after d.goes.all) d.noted (tells_at p f.tag base _ c c' j j' (items_of f) (items_of g) e d)
         (all_as is_quiet d.told _ d.goes.all (all_then is_quiet d.goes.end d.goes.group (end_all is_quiet quiet_allows quiet_ends (base_of p) scope.row 0 d.goes.end ends) (plain_all is_quiet quiet_allows _ d.goes.group a (λ q. refl) call))) t k stood
 
-    by_answer : (answer : Joined) → DoneAnswer f.tag base (EndsAndReceives base scope.row) c c' j j' (items_of f) (items_of g) (Ok answer) → AfterDone f.tag answer (config_of f) (config_of g) → Stepped p c c' j j' f g
+    by_answer : (answer : Joined) → DoneAnswer f.tag base (EndsAndReceives base scope.row) (EndsBody base scope.row 0) c c' j j' (items_of f) (items_of g) (Ok answer) → AfterDone f.tag answer (config_of f) (config_of g) → Stepped p c c' j j' f g
     by_answer (joined.Closed v) d k = say (Closed v) _ d (AtScopeEnd.closed v) k (λ w n. no_more_wait w n)
     by_answer (joined.Waits w) d k = say (Waits w) _ d.0 (AtScopeEnd.waits w) k (λ u n. left_stood f.tag _ w u c c' d.1 n)
     by_answer joined.Cancelled d k = absurd d
@@ -167,9 +167,9 @@ scope_body_ended p base c c' j j' f g scope answer mid e h at top did t config i
 
 -- it breaks off
 pub scope_body_broken : (p : Program) (base : ℕ) (c c' : ChannelFloor) (j j' : Floor) (f g : Frame) (scope : OpenScope) (failure : Option ℕ) (answer : Joined) (mid : List Item) → base ≡ base_of p → Legal j'.shape j'.seen → Stands p c j f → f.stage ≡ Unwinding failure → IsInScope (config_of f) scope
-    → DoneAnswer f.tag base (BreaksAndReceives base f.tag scope.row failure) c c' j j' (items_of f) mid (Ok answer) → g.tag ≡ f.tag → AfterDone f.tag answer (config_of f) (config_of g) → items_of g ≡ mid → Stepped p c c' j j' f g
+    → DoneAnswer f.tag base (BreaksAndReceives base f.tag scope.row failure) (BeginsToBreakOff base f.tag scope.row failure (replay j'.seen)) c c' j j' (items_of f) mid (Ok answer) → g.tag ≡ f.tag → AfterDone f.tag answer (config_of f) (config_of g) → items_of g ≡ mid → Stepped p c c' j j' f g
 scope_body_broken p base c c' j j' f g scope failure answer mid e l h unwinds inside did t config items =
-    by_answer answer (subst (λ i. DoneAnswer f.tag base (BreaksAndReceives base f.tag scope.row failure) c c' j j' (items_of f) i (Ok answer)) (sym items) did) config
+    by_answer answer (subst (λ i. DoneAnswer f.tag base (BreaksAndReceives base f.tag scope.row failure) (BeginsToBreakOff base f.tag scope.row failure (replay j'.seen)) c c' j j' (items_of f) i (Ok answer)) (sym items) did) config
   where
     s : InScope
     s = record { head = scope.head; row = scope.row; around = inside.0 }
@@ -183,7 +183,7 @@ scope_body_broken p base c c' j j' f g scope failure answer mid e l h unwinds in
         quiet_step p c c' j j' f g d.told y (Move.breaks_scope (config_of f) y s failure d.goes.cancels d.goes.group d.told a unwinds inside.1 breaks call after d.goes.all) d.noted (tells_at p f.tag base _ c c' j j' (items_of f) (items_of g) e d)
         (all_as is_quiet d.told _ d.goes.all (all_then is_quiet d.goes.cancels d.goes.group (break_all is_quiet quiet_allows quiet_ends (parents_in j'.seen) (base_of p) f.tag scope.row failure d.goes.cancels first breaks) (plain_all is_quiet quiet_allows _ d.goes.group a (λ q. refl) call))) t k stood
 
-    by_answer : (answer : Joined) → DoneAnswer f.tag base (BreaksAndReceives base f.tag scope.row failure) c c' j j' (items_of f) (items_of g) (Ok answer) → AfterDone f.tag answer (config_of f) (config_of g) → Stepped p c c' j j' f g
+    by_answer : (answer : Joined) → DoneAnswer f.tag base (BreaksAndReceives base f.tag scope.row failure) (BeginsToBreakOff base f.tag scope.row failure (replay j'.seen)) c c' j j' (items_of f) (items_of g) (Ok answer) → AfterDone f.tag answer (config_of f) (config_of g) → Stepped p c c' j j' f g
     by_answer (joined.Closed v) d k = say (Closed v) _ d (AtScopeEnd.closed v) k (λ w n. no_more_wait w n)
     by_answer (joined.Waits w) d k = say (Waits w) _ d.0 (AtScopeEnd.waits w) k (λ u n. left_stood f.tag _ w u c c' d.1 n)
     by_answer joined.Cancelled d k = absurd d
@@ -265,7 +265,7 @@ sound_cause (Some j) cause s e = by_state j.state refl e
 saw_cause : (p : Program) (c : ChannelFloor) (j j' : Floor) (f : Frame) (row : ℕ) (cause : Cause) (i' : List Item) → Legal j'.shape j'.seen → Stands p c j f → ToldOnJobs f.tag [] j j' (items_of f) i' (saw_end row (ended.Cancelled cause) ∷ []) → is_cause cause ≡ true
 unfolding IsTrue
 saw_cause p c j j' f row cause i' l h told =
-    let so = told.was_so c.shape c.seen h.on.channel_acts h.on.job_acts in
+    let so = told.was_so (items_of f) c.shape c.seen h.on.channel_acts h.on.job_acts in
     let before : IsPrefix so.0.jobs j'.seen = so.1.not_after.jobs in
     sound_cause (replay so.0.jobs row) cause ((replay_families j'.shape so.0.jobs (Legal-prefix j'.shape so.0.jobs before.0 (rw before.1 l))).rows row) so.1.holds
 

@@ -7,6 +7,7 @@ use Rattle.note_book.specs.declared.book.Item.{Item}
 use Rattle.call_meaning.specs.Calls.{ToldOnJobs}
 use Rattle.scope_builders.specs.declared.builder.Joined.{Joined}
 use Rattle.scope_builders.specs.declared.builder.Joined.TheVariants as joined
+use Rattle.call_meaning.specs.JobCalls.{Starts}
 use Rattle.scope_builders.specs.Calls.{start_told, CancelledAll, JoinAnswer, DoneAnswer, AwaitsEnd}
 use Rattle.script_grammar.specs.declared.instructions.Instruction.{Instruction}
 use Rattle.script_grammar.specs.declared.instructions.Instruction.TheVariants as line
@@ -59,7 +60,7 @@ NamedTells named.Start who base own row c c' j j' i i' a = (a ≡ Some came.Done
 NamedTells named.Cancel who base own row c c' j j' i i' a = (a ≡ Some came.Done) × HasCancelled who row c c' j j' i i'
 NamedTells named.Join who base own row c c' j j' i i' a = HasJoined (JoinAnswer who base own row c c' j j' i i') a
 NamedTells named.Await who base own row c c' j j' i i' a =
-    HasJoined (DoneAnswer who base (AwaitsEnd base row) c c' j j' i i') a
+    HasJoined (DoneAnswer who base (AwaitsEnd base row) (Starts row) c c' j j' i i') a
 
 abbrev pub NamedAnswer : NamedCall → ℕ → ℕ → ℕ → ℕ → ChannelFloor → ChannelFloor → Floor → Floor → List Item → List Item
     → Result (Option Came) Memory → Type 0

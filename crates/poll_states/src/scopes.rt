@@ -6,8 +6,8 @@ ghost use Rattle.channel_model.specs.Answers.{IsReady};
 ghost use Rattle.job_model.specs.Needs.{Holds, OwnsBody, MayEndBody};
 ghost use Rattle.job_model.specs.Histories.{replay};
 ghost use Rattle.note_book.specs.Books.{notes_of};
-ghost use Rattle.call_meaning.specs.JobCalls.{reason_for};
-ghost use Rattle.scope_builders.specs.Calls.{SameBuilder, MayBuild, DoneAnswer};
+ghost use Rattle.call_meaning.specs.JobCalls.{reason_for, EndsBody};
+ghost use Rattle.scope_builders.specs.Calls.{SameBuilder, MayBuild, BeginsToBreakOff, DoneAnswer};
 ghost use Rattle.script_grammar.specs.declared.instructions.Instruction.TheVariants.{Scope, End as EndLine};
 ghost use Rattle.script_grammar.specs.Tags.{code_of, coroutine_count};
 ghost use Rattle.script_reader.specs.Scripts.{program_of};
@@ -129,7 +129,7 @@ fn end_and_receive<C: ChannelFloor, J: JobFloor, W: Wakes>(
     requires own { MayEndBody builder.old.who (replay (J.view builder.old.jobs.now).seen row) }
     ensures same { SameBuilder C.anchor J.anchor builder.old builder.new }
     ensures answer { DoneAnswer builder.old.who builder.old.base
-        (EndsAndReceives builder.old.base row)
+        (EndsAndReceives builder.old.base row) (EndsBody builder.old.base row 0)
         (C.view builder.old.channels.now) (C.view builder.new.channels.now) (J.view builder.old.jobs.now) (J.view builder.new.jobs.now)
         (notes_of builder.old.book.now) (notes_of builder.new.book.now) result }
 {
@@ -152,6 +152,7 @@ fn break_and_receive<C: ChannelFloor, J: JobFloor, W: Wakes>(
     ensures same { SameBuilder C.anchor J.anchor builder.old builder.new }
     ensures answer { DoneAnswer builder.old.who builder.old.base
         (BreaksAndReceives builder.old.base builder.old.who row failure)
+        (BeginsToBreakOff builder.old.base builder.old.who row failure (replay (J.view builder.new.jobs.now).seen))
         (C.view builder.old.channels.now) (C.view builder.new.channels.now) (J.view builder.old.jobs.now) (J.view builder.new.jobs.now)
         (notes_of builder.old.book.now) (notes_of builder.new.book.now) result }
 {

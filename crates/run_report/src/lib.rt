@@ -35,11 +35,9 @@ mod noted;
 mod resolutions;
 mod shown;
 mod table;
-#[cfg(test)]
-mod tests;
 mod text;
 mod totals;
 
 pub use fault::fault_line;
-pub use text::report;
+pub use text::{report, report_of};
 pub use totals::summary;

@@ -32,7 +32,7 @@ pub fn report(alloc: Global, script: &Script, done: &Done) -> Result<Vec<u8>, Me
 }
 
 /// The report of a run with so many Jobs, over these channels, that left these books.
-pub(crate) fn report_of(
+pub fn report_of(
     alloc: Global,
     channels: &[Channel],
     jobs: u16,

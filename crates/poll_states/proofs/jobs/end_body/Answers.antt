@@ -17,4 +17,4 @@ pub returns-in-Ok-clause-came : goal.returns-in-Ok-clause-came
 returns-in-Ok-clause-came g c = has_ended (program_of c.args.script.now) _ _ _ _ _ _ _ c.in-Ok.field-0 c.first_done.ensures c.requires.left c.in-Ok.ensures.answer refl refl
 
 pub returns-in-Err-clause-came : goal.returns-in-Err-clause-came
-returns-in-Err-clause-came g c = cut_some _ _ _ _ _ _ _ refl c.in-Err.ensures.answer
+returns-in-Err-clause-came g c = cut_some _ _ _ _ _ _ _ _ refl c.in-Err.ensures.answer

@@ -1,4 +1,4 @@
-use Rattle.poll_states.proofs.DoneReceived.{build_later, owns_attached, row_later, break_received}
+use Rattle.poll_states.proofs.DoneReceived.{build_later, owns_attached, row_later, break_begun, break_received}
 use Rattle.poll_states.proofs.scopes.break_and_receive.Goals as goal
 
 pub receive_done-requires-clause-may : goal.receive_done-requires-clause-may
@@ -9,3 +9,6 @@ receive_done-requires-clause-row g c = row_later _ _ _ _ _ _ _ _ _ _ c.requires.
 
 pub returns-in-Ok-clause-answer : goal.returns-in-Ok-clause-answer
 returns-in-Ok-clause-answer g c = break_received _ _ _ _ _ _ _ _ _ _ _ _ _ _ _ _ _ c.in-Ok.ensures.same.who c.in-Ok.ensures.same.base c.in-Ok.ensures.answer c.receive_done.ensures.answer
+
+pub returns-in-Err-clause-answer : goal.returns-in-Err-clause-answer
+returns-in-Err-clause-answer g c = break_begun _ _ _ _ _ _ _ _ _ _ _ c.in-Err.ensures.answer

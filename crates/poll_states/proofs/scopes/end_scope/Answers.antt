@@ -16,4 +16,4 @@ pub returns-in-Ok-clause-came : goal.returns-in-Ok-clause-came
 returns-in-Ok-clause-came g c = scope_body_ended (program_of c.args.script.now) _ _ _ _ _ _ _ _ _ _ c.first_done.ensures c.requires.stands c.requires.at c.requires.last c.in-Ok.ensures.answer c.go_on_leaving.ensures.tag c.go_on_leaving.ensures.config c.go_on_leaving.ensures.items
 
 pub returns-in-Err-clause-came : goal.returns-in-Err-clause-came
-returns-in-Err-clause-came g c = cut_some _ _ _ _ _ _ _ refl c.in-Err.ensures.answer
+returns-in-Err-clause-came g c = cut_some _ _ _ _ _ _ _ _ refl c.in-Err.ensures.answer

@@ -1,3 +1,4 @@
+use Rattle.channel_calls.proofs.Untold.{part_some}
 use Rattle.poll_states.proofs.EndedWaits.{gave_resolved, gave_cancelled, untouched_after, told_after}
 use Rattle.poll_states.proofs.waits.give_up.Goals as goal
 
@@ -11,4 +12,4 @@ pub returns-in-Err-clause-answer : goal.returns-in-Err-clause-answer
 returns-in-Err-clause-answer g c = untouched_after _ _ _ _ _ _ c.see_cancelling.ensures.items c.in-Err.ensures.answer
 
 pub returns-in-Err-cancel_wait-clause-answer : goal.returns-in-Err-cancel_wait-clause-answer
-returns-in-Err-cancel_wait-clause-answer g c = told_after _ _ _ _ _ _ c.see_cancelling.ensures.items c.in-Err-cancel_wait.ensures.answer
+returns-in-Err-cancel_wait-clause-answer g c = told_after _ _ _ _ _ _ c.see_cancelling.ensures.items (part_some _ _ _ _ _ _ c.in-Err-cancel_wait.ensures.answer)

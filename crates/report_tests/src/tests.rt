@@ -2,12 +2,11 @@
 
 ghost use Rattle.std.specs.Prelude.{◌<◌, length};
 
-use crate::text::report_of;
 use channel_model::{Act, ChannelNote, Kind, Settled, Why};
 use co_base::{Memory, WaitId};
 use job_model::{Cause, End, JobAct, JobKind, JobNote, Reason};
-use note_book::{Item, NoteBook};
-use poll_states::Book;
+use note_book::{Item, NoteBook, Notes};
+use run_report::report_of;
 use script_reader::Channel;
 use std::alloc::Global;
 use std::test::Fail;
@@ -140,8 +139,8 @@ fn channel(alloc: Global, name: &str) -> Result<Channel, Fail> {
     })
 }
 
-fn push(alloc: Global, books: &mut Vec<Book>, notes: &[Item]) -> Result<(), Memory> {
-    let mut book = Book::new(alloc);
+fn push(alloc: Global, books: &mut Vec<Notes>, notes: &[Item]) -> Result<(), Memory> {
+    let mut book = Notes::new(alloc);
     for note in notes {
         book.room(1)?;
         book.note(*note);
