@@ -48,6 +48,13 @@ impl Forest {
         Ok((Forest { table, size }, JobPass { seat }))
     }
 
+    /// How many rows it has.
+    pub fn rows(&self) -> u16
+        ensures { result ≡ self.now.size.rows }
+    {
+        self.size.rows
+    }
+
     /// A pass of a tag that was not given out before. It has seen what the first pass has seen, and has done nothing.
     pub fn split(&self, pass: &mut JobPass, tag: Tag) -> JobPass
         requires of { IsOf self.now pass.old }

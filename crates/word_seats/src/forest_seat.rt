@@ -1,0 +1,128 @@
+//! The floor of Jobs over words, for a pass of its own.
+ghost use Rattle.std.proofs.Props.{props};
+ghost use Rattle.job_words.specs.Forests.{IsOf};
+ghost use Rattle.word_seats.specs.Names.{IsNamedForest};
+
+use crate::names::ForestName;
+use co_base::{Memory, Row, Tag, Value};
+use job_model::{
+    AttachError, Attached, CancelledNow, Ended, Finished, JobFloor, JobKind, JobView, Link, Reason,
+};
+use job_words::{Forest, JobPass, Ranger};
+use std::collections::LinkedList;
+use std::marker::PhantomData;
+
+/// What never changes of a seat at a forest. No value of it is made.
+pub struct ForestSeatAnchor {
+    pub forest: Forest,
+    /// Whether the pass gives out tags, and those that it has given out.
+    pub chief: bool,
+    pub given: LinkedList<u64>,
+}
+
+/// A pass with the forest that `N` names: the floor of whoever keeps it.
+#[derive(Drop)]
+pub struct ForestSeat<'a, N: ForestName> {
+    pub forest: &'a Forest,
+    pub pass: JobPass,
+    pub name: PhantomData<N>,
+    pub ghost of: { IsOf forest.now pass } by { Prim.hlevel props },
+    pub ghost named: { IsNamedForest N.forest_table N.forest_size forest.now } by { Prim.hlevel props },
+}
+
+impl<N: ForestName> JobFloor for ForestSeat<'_, N> {
+    ghost use Rattle.job_words.specs.Forests.{seen_by};
+    ghost use Rattle.job_words.specs.Passes.{floor_seen};
+    ghost use Rattle.word_seats.specs.Seats.{forest_anchor};
+
+    ghost view = { λ s. floor_seen (seen_by s.pass) };
+
+    type Anchor = ForestSeatAnchor;
+
+    ghost anchor = { λ s. forest_anchor s.forest.now s.pass };
+
+    // Words need no room, so there always is.
+    fn room(&mut self, _n: u32) -> Result<(), Memory> {
+        Ok(())
+    }
+
+    fn rows(&self) -> u16 {
+        self.forest.rows()
+    }
+
+    fn attach(
+        &mut self,
+        who: Tag,
+        parent: Row,
+        kind: JobKind,
+        tag: Tag,
+    ) -> Result<Attached, AttachError> {
+        Ranger {
+            forest: self.forest,
+            pass: &mut self.pass,
+        }
+        .attach(who, parent, kind, tag)
+    }
+
+    fn start(&mut self, who: Tag, row: Row) -> bool {
+        Ranger {
+            forest: self.forest,
+            pass: &mut self.pass,
+        }
+        .start(who, row)
+    }
+
+    fn end_body(&mut self, who: Tag, row: Row, value: Value) -> Ended {
+        Ranger {
+            forest: self.forest,
+            pass: &mut self.pass,
+        }
+        .end_body(who, row, value)
+    }
+
+    fn cancel_one(&mut self, who: Tag, row: Row, reason: Reason) -> CancelledNow {
+        Ranger {
+            forest: self.forest,
+            pass: &mut self.pass,
+        }
+        .cancel_one(who, row, reason)
+    }
+
+    fn finish(&mut self, who: Tag, row: Row) -> Finished {
+        Ranger {
+            forest: self.forest,
+            pass: &mut self.pass,
+        }
+        .finish(who, row)
+    }
+
+    fn gone(&mut self, who: Tag, row: Row) -> Ended {
+        Ranger {
+            forest: self.forest,
+            pass: &mut self.pass,
+        }
+        .gone(who, row)
+    }
+
+    fn look(&mut self, who: Tag, row: Row) -> Option<JobView> {
+        Ranger {
+            forest: self.forest,
+            pass: &mut self.pass,
+        }
+        .look(who, row)
+    }
+
+    fn link(&mut self, who: Tag, row: Row) -> Link {
+        Ranger {
+            forest: self.forest,
+            pass: &mut self.pass,
+        }
+        .link(who, row)
+    }
+
+    ghost shaped = { λ r. r.pass.shaped };
+
+    ghost legal = { λ r. r.pass.legal };
+
+    ghost claimed = { λ r. r.pass.claimed };
+}

@@ -1,0 +1,41 @@
+//! Which hub, and which forest, seats are of.
+
+use std::marker::Brand;
+
+/// Which hub. A call at `Brand` picks it.
+pub trait HubName {
+    ghost use Rattle.atomic_table.specs.Seated.{TableId};
+    ghost use Rattle.cell_words.specs.declared.layout.Layout.{Layout};
+
+    ghost hub_table: { TableId };
+
+    ghost hub_layout: { Layout };
+}
+
+impl HubName for Brand {
+    ghost use Rattle.std.specs.Prelude.{[]};
+    ghost use Rattle.word_seats.specs.Names.{no_table};
+
+    ghost hub_table = { no_table };
+
+    ghost hub_layout = { record { kinds = [] } };
+}
+
+/// Which forest. A call at `Brand` picks it.
+pub trait ForestName {
+    ghost use Rattle.atomic_table.specs.Seated.{TableId};
+    ghost use Rattle.job_words.specs.declared.size.ForestSize.{ForestSize};
+
+    ghost forest_table: { TableId };
+
+    ghost forest_size: { ForestSize };
+}
+
+impl ForestName for Brand {
+    ghost use Rattle.job_words.specs.Deeds.{no_size};
+    ghost use Rattle.word_seats.specs.Names.{no_table};
+
+    ghost forest_table = { no_table };
+
+    ghost forest_size = { no_size };
+}
