@@ -38,7 +38,7 @@ use Rattle.job_words.proofs.StoreStaysSound.{kept}
 use Rattle.job_words.proofs.MayExchange.{Turns, store_now, brings_job, lasts_more, read_word, change_turns}
 
 -- the Job of a row that was seen attached, whatever others did
-now_job : (size : ForestSize) (v : Seen) (others : List Deed) (r : ℕ) (w : JobWord) → IsSize size → OthersAdded (IsDone (shape_of size)) Fits doer v others → IsAttached v r → IsNarrow w → job_code w ≡ job_word (store_now v others) r
+now_job : (size : ForestSize) (v : Seen) (others : List Deed) (r : ℕ) (w : JobWord) → IsSize size → OthersAdded (IsDone (shape_of size)) (Fits size) doer v others → IsAttached v r → IsNarrow w → job_code w ≡ job_word (store_now v others) r
     → (j : Job) × ((store_now v others).tree r ≡ Some j) × (word_of j ≡ w)
 now_job size v others r w s now a n found = read_word size (v.seen ++ others) r w s now.is_legal (lasts_more (λ x. is_some x ≡ true) attached_lasts size v.seen others r now.is_legal a) n found
 
@@ -54,7 +54,7 @@ started_word j w e n = λ i. record { state = Active; body_ended = (e i).body_en
     nothing = sym (ap (λ s. rest_of s j.value j.cause) (is_state j w e ∙ n)) ∙ ap (λ (x : JobWord). x.rest) e
 
 pub starts_row : (size : ForestSize) (v : Seen) (who r : ℕ) (w : JobWord) → IsSize size → has_tag who v.tags ≡ true → IsAttached v r → IsNarrow w → w.state ≡ New
-    → MayEnter (IsDone (shape_of size)) Fits doer v (2 * r) (job_code w) (job_code (record w { state = Active })) (Act (record { who = who; act = Start r }))
+    → MayEnter (IsDone (shape_of size)) (Fits size) doer v (2 * r) (job_code w) (job_code (record w { state = Active })) (Act (record { who = who; act = Start r }))
 starts_row size v who r w s own a n new = brings_job size v _ r (job_code w) (job_code (record w { state = Active })) own (λ others now found.
     let t : Store = store_now v others in
     let j = now_job size v others r w s now a n found in (
@@ -85,7 +85,7 @@ own_body_now size tags xs others who row h p m =
     (subst (λ (t : Tree). MayEndBody who (t row)) (tree_is xs) m))
 
 pub ends_body_row : (size : ForestSize) (v : Seen) (who r value : ℕ) (w : JobWord) → IsSize size → has_tag who v.tags ≡ true → IsAttached v r → IsNarrow w → value < 4294967296 → MayEndBody who ((store_of v.seen).tree r)
-    → MayEnter (IsDone (shape_of size)) Fits doer v (2 * r) (job_code w) (job_code (word_without_body value w)) (Act (record { who = who; act = EndBody r value }))
+    → MayEnter (IsDone (shape_of size)) (Fits size) doer v (2 * r) (job_code w) (job_code (word_without_body value w)) (Act (record { who = who; act = EndBody r value }))
 ends_body_row size v who r value w s own a n lt may = brings_job size v _ r (job_code w) (job_code (word_without_body value w)) own (λ others now found.
     let t : Store = store_now v others in
     let j = now_job size v others r w s now a n found in (
@@ -127,7 +127,7 @@ finishing rows j w end few sm c e b l n =
     )
 
 pub finishes_row : (size : ForestSize) (v : Seen) (who r : ℕ) (w : JobWord) (end : End) → IsSize size → has_tag who v.tags ≡ true → IsAttached v r → IsNarrow w → w.body_ended ≡ true → w.living ≡ 0 → end_from w w.state ≡ Some end
-    → MayEnter (IsDone (shape_of size)) Fits doer v (2 * r) (job_code w) (job_code (record w { state = state_of_end end })) (Act (record { who = who; act = Finish r end }))
+    → MayEnter (IsDone (shape_of size)) (Fits size) doer v (2 * r) (job_code w) (job_code (record w { state = state_of_end end })) (Act (record { who = who; act = Finish r end }))
 finishes_row size v who r w end s own a n b l e = brings_job size v _ r (job_code w) (job_code (record w { state = state_of_end end })) own (λ others now found.
     let t : Store = store_now v others in
     let k = kept size (v.seen ++ others) s now.is_legal in
@@ -162,7 +162,7 @@ told_word r j w n e k l =
     λ i. record { state = (e i).state; body_ended = (e i).body_ended; first_child = (e i).first_child; living = same i; rest = (e i).rest }
 
 pub tells_row : (size : ForestSize) (v : Seen) (who r p n : ℕ) (w : JobWord) → IsSize size → has_tag who v.tags ≡ true → IsAttached v p → IsNarrow w → MayTell who r (store_of v.seen).tree → parent_of ((store_of v.seen).tree r) ≡ Some p → n + 1 ≡ w.living
-    → MayEnter (IsDone (shape_of size)) Fits doer v (2 * p) (job_code w) (job_code (record w { living = n })) (Act (record { who = who; act = Gone r }))
+    → MayEnter (IsDone (shape_of size)) (Fits size) doer v (2 * p) (job_code w) (job_code (record w { living = n })) (Act (record { who = who; act = Gone r }))
 tells_row size v who r p n w s own a nw may parent is = brings_job size v _ p (job_code w) (job_code (record w { living = n })) own (λ others now found.
     let t : Store = store_now v others in
     let k = kept size (v.seen ++ others) s now.is_legal in
@@ -181,7 +181,7 @@ cancelled_word c j w e = λ i. record { state = Cancelling; body_ended = (e i).b
 
 pub cancels_row : (size : ForestSize) (v : Seen) (who r : ℕ) (reason : Reason) (c : Cause) (w : JobWord) → IsSize size → has_tag who v.tags ≡ true → IsAttached v r → IsNarrow w → is_cancellable w.state ≡ true → Holds (shape_of size) (store_of v.seen).tree who r reason
     → ((others : List Deed) → IsDone (shape_of size) (v.seen ++ others) → cause_of_reason (store_of (v.seen ++ others)).tree reason ≡ c)
-    → MayEnter (IsDone (shape_of size)) Fits doer v (2 * r) (job_code w) (job_code (record w { state = Cancelling; rest = cause_code c })) (Act (record { who = who; act = Cancel r reason }))
+    → MayEnter (IsDone (shape_of size)) (Fits size) doer v (2 * r) (job_code w) (job_code (record w { state = Cancelling; rest = cause_code c })) (Act (record { who = who; act = Cancel r reason }))
 cancels_row size v who r reason c w s own a n live h cause = brings_job size v _ r (job_code w) (job_code (record w { state = Cancelling; rest = cause_code c })) own (λ others now found.
     let t : Store = store_now v others in
     let j = now_job size v others r w s now a n found in

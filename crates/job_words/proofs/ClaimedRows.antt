@@ -1,5 +1,5 @@
 -- Claims of rows for scopes.
-use Rattle.std.specs.Prelude.{◌≡◌, ℕ, suc, ◌<◌, ◌≤◌, Bool, [], ◌∷◌, Ok, Err, refl}
+use Rattle.std.specs.Prelude.{◌≡◌, ℕ, suc, ◌<◌, ◌≤◌, Bool, List, [], ◌∷◌, Ok, Err, refl}
 use Rattle.std.proofs.Common.{sym, subst, arith, append-nil}
 use mathlib.Core.Logic.{dite}
 use native.Mathlib.Decide.{ℕ_discrete}
@@ -26,8 +26,8 @@ unfolding history_of rows_claimed
 goes_self who v idle h = record { rest = []; seen = sym (append-nil v.seen); mine = refl; rows = refl; tags = refl; key = refl; giving = refl; idle = idle; done = h }
 
 -- one row more was seen claimed
-pub claimed_more : (who from n : ℕ) (v w : Seen) → Goes who [] v w → ((r : ℕ) → from ≤ r → r < n → IsClaimed v r) → IsClaimed w n → (r : ℕ) → from ≤ r → r < suc n → IsClaimed w r
-claimed_more who from n v w g h a r le lt = dite (ℕ_discrete r n) (λ is. subst (IsClaimed w) (sym is) a) (λ ne. claims_last who [] v w r g (h r le (omega arith)))
+pub claimed_more : (who : ℕ) (rows : List ℕ) (from n : ℕ) (v w : Seen) → Goes who rows v w → ((r : ℕ) → from ≤ r → r < n → IsClaimed v r) → IsClaimed w n → (r : ℕ) → from ≤ r → r < suc n → IsClaimed w r
+claimed_more who rows from n v w g h a r le lt = dite (ℕ_discrete r n) (λ is. subst (IsClaimed w) (sym is) a) (λ ne. claims_last who rows v w r g (h r le (omega arith)))
 
 -- an act after steps without one
 pub acted_after : (who row : ℕ) (old : JobWord) (act : JobAct) (u v w : Seen) → Goes who [] u v → ActedNow who row old act v w → ActedNow who row old act u w

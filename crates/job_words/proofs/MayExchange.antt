@@ -1,7 +1,9 @@
 -- Each deed that a step does may come, and changes one word.
-use Rattle.std.specs.Prelude.{◌≡◌, ◌≢◌, ℕ, ◌+◌, ◌*◌, ◌==◌, ◌<◌, Bool, true, false, List, [], ◌∷◌, ◌++◌, Option, Some, None, option_map, is_some, if◌then◌else◌, refl}
+use Rattle.std.specs.Prelude.{◌≡◌, ◌≢◌, ℕ, suc, ◌+◌, ◌*◌, ◌==◌, ◌<◌, ◌≤◌, Bool, true, false, List, [], ◌∷◌, ◌++◌, Option, Some, None, option_map, is_some, if◌then◌else◌, refl}
 use Rattle.std.proofs.Common.{⊎_elim, inl, inr, max, sym, ap, ◌∙◌, subst, arith, ne_eqb, eq-eqb}
 use Rattle.std.proofs.lemmas.Bool.{eqb-true}
+use mathlib.Core.Logic.{dite}
+use native.Mathlib.Decide.{dec_le}
 use Rattle.job_model.specs.declared.acts.JobState.{JobState}
 use Rattle.job_model.specs.declared.acts.JobState.TheVariants.{New, Active, Completing, Cancelling, Cancelled, Completed}
 use Rattle.job_model.specs.declared.acts.JobKind.{JobKind}
@@ -18,10 +20,10 @@ use Rattle.job_words.specs.declared.size.ForestSize.{ForestSize}
 use Rattle.job_words.specs.declared.deed.Deed.{Deed}
 use Rattle.job_words.specs.declared.deed.Deed.TheVariants.{Act, Claim, StoreLink, StoreJob}
 use Rattle.job_words.specs.Rows.{row_code, job_code, link_code, IsNarrow, word_of, new_word, new_link, with_newest}
-use Rattle.job_words.specs.Deeds.{shape_of, IsSize, doer, history_of, Store, put, after_deed, store_of, DeedNeeds, DoneFrom, IsDone, IsLinkTo, IsKept, word_or, job_word, MayBeLink, Fits}
+use Rattle.job_words.specs.Deeds.{shape_of, IsSize, doer, history_of, Store, put, after_deed, store_from, store_of, DeedNeeds, DoneFrom, IsDone, IsLinkTo, IsKept, word_or, job_word, MayBeLink, AreClaimedBelow, Fits}
 use Rattle.job_words.specs.Passes.{Seen, IsMine}
 use Rattle.job_words.proofs.OneCodeOneWord.{job_code_is, job_code_some}
-use Rattle.job_words.proofs.DeedsAddUp.{store_push, store_more, IsDone_push, IsDone-rest, tree_from, legal_from}
+use Rattle.job_words.proofs.DeedsAddUp.{store_push, store_more, IsDone_push, IsDone-rest, tree_from, legal_from, claims_kept}
 use Rattle.job_words.proofs.NumbersStaySmall.{narrow}
 use Rattle.job_words.proofs.WordsOfChangedRows.{changed_else, changed_job, new_is, attached_else, attached_above, child_word, told_of}
 use Rattle.job_model.proofs.Siblings.{attached_tree, attached_at}
@@ -33,6 +35,23 @@ pub lasts_more : (P : Option Job → Type 0) → Lasts P → (size : ForestSize)
 lasts_more P k size xs ys q h p =
     subst (λ s. P (s.tree q)) (sym (store_more xs ys))
     (subst (λ (t : Tree). P (t q)) (sym (tree_from (store_of xs) ys)) (history_keeps P k (shape_of size) (store_of xs).tree (history_of ys) q (legal_from (shape_of size) (store_of xs) ys (IsDone-rest (shape_of size) xs ys h).1) p))
+
+-- the root is attached
+root_attached : (size : ForestSize) (log : List Deed) → IsDone (shape_of size) log → is_some ((store_of log).tree 0) ≡ true
+unfolding store_from
+root_attached size log h = lasts_more (λ x. is_some x ≡ true) attached_lasts size [] log 0 h refl
+
+-- so a row that is not attached is another
+pub not_root : (size : ForestSize) (log : List Deed) (r : ℕ) → IsDone (shape_of size) log → (store_of log).tree r ≡ None → r ≢ 0
+not_root size log r h none z = let k : false ≡ true = sym (ap is_some (ap (store_of log).tree (sym z) ∙ none)) ∙ root_attached size log h in cc
+
+-- rows that were claimed stay so
+pub claimed_more_below : (size : ForestSize) (xs ys : List Deed) (n : ℕ) → IsDone (shape_of size) (xs ++ ys) → AreClaimedBelow size (store_of xs) n → AreClaimedBelow size (store_of (xs ++ ys)) n
+claimed_more_below size xs ys n h a = λ r le lt. by_claim r ((store_of xs).claimer r) refl (a r le lt)
+  where
+    by_claim : (r : ℕ) (x : Option ℕ) → (store_of xs).claimer r ≡ x → is_some x ≡ true → is_some ((store_of (xs ++ ys)).claimer r) ≡ true
+    by_claim r None e k = cc
+    by_claim r (Some t) e k = ap (λ (s : Store). is_some (s.claimer r)) (store_more xs ys) ∙ ap is_some (claims_kept (shape_of size) (store_of xs) ys r t (IsDone-rest (shape_of size) xs ys h).1 e)
 
 -- a link word stays one that may be
 link_on : (s t : Store) (r m : ℕ) → t.links r ≡ s.links r → (is_some (s.tree r) ≡ true → is_some (t.tree r) ≡ true) → MayBeLink s r m → MayBeLink t r m
@@ -46,12 +65,18 @@ pub record Turns (s t : Store) (p n : ℕ) : Type 0 where
   pub apart : (q : ℕ) → q ≢ p → job_word t q ≡ job_word s q
   pub links : (q : ℕ) → t.links q ≡ s.links q
 
-fits_job : (log : List Deed) (d : Deed) (p n : ℕ) → ((q : ℕ) → is_some ((store_of log).tree q) ≡ true → is_some ((store_of (log ++ d ∷ [])).tree q) ≡ true) → Turns (store_of log) (store_of (log ++ d ∷ [])) p n → Fits (log ++ d ∷ []) (2 * p) n × ((j m : ℕ) → j ≢ 2 * p → Fits log j m → Fits (log ++ d ∷ []) j m)
-fits_job log d p n more t = (
-  record { job = λ r i. let k : p ≡ r = omega arith in sym t.here ∙ ap (job_word (store_of (log ++ d ∷ []))) k; link = λ r i. absurd (omega arith) },
+fits_job : (size : ForestSize) (log : List Deed) (d : Deed) (p n : ℕ) → IsDone (shape_of size) (log ++ d ∷ []) → Turns (store_of log) (store_of (log ++ d ∷ [])) p n
+    → Fits size (log ++ d ∷ []) (2 * p) n × ((j m : ℕ) → j ≢ 2 * p → Fits size log j m → Fits size (log ++ d ∷ []) j m)
+fits_job size log d p n h t = (
+  record {
+    job = λ r i. let k : p ≡ r = omega arith in sym t.here ∙ ap (job_word (store_of (log ++ d ∷ []))) k;
+    link = λ r nz i. absurd (omega arith);
+    hint = λ i. absurd (omega arith);
+  },
   λ j m ne f. record {
     job = λ r i. f.job r i ∙ sym (t.apart r (λ k. ne (i ∙ ap (λ x. 2 * x) k)));
-    link = λ r i. link_on (store_of log) (store_of (log ++ d ∷ [])) r m (t.links r) (more r) (f.link r i);
+    link = λ r nz i. link_on (store_of log) (store_of (log ++ d ∷ [])) r m (t.links r) (lasts_more (λ x. is_some x ≡ true) attached_lasts size log (d ∷ []) r h) (f.link r nz i);
+    hint = λ i. claimed_more_below size log (d ∷ []) m h (f.hint i);
   },
 )
 
@@ -60,17 +85,23 @@ pub record TurnsLink (s t : Store) (p n : ℕ) : Type 0 where
   pub apart : (q : ℕ) → q ≢ p → t.links q ≡ s.links q
   pub jobs : (q : ℕ) → job_word t q ≡ job_word s q
 
-fits_link : (log : List Deed) (d : Deed) (p n : ℕ) → ((q : ℕ) → is_some ((store_of log).tree q) ≡ true → is_some ((store_of (log ++ d ∷ [])).tree q) ≡ true) → TurnsLink (store_of log) (store_of (log ++ d ∷ [])) p n → Fits (log ++ d ∷ []) (2 * p + 1) n × ((j m : ℕ) → j ≢ 2 * p + 1 → Fits log j m → Fits (log ++ d ∷ []) j m)
-fits_link log d p n more t = (
-  record { job = λ r i. absurd (omega arith); link = λ r i. let k : p ≡ r = omega arith in inl (sym t.here ∙ ap (store_of (log ++ d ∷ [])).links k) },
+fits_link : (size : ForestSize) (log : List Deed) (d : Deed) (p n : ℕ) → p ≢ 0 → IsDone (shape_of size) (log ++ d ∷ []) → TurnsLink (store_of log) (store_of (log ++ d ∷ [])) p n
+    → Fits size (log ++ d ∷ []) (2 * p + 1) n × ((j m : ℕ) → j ≢ 2 * p + 1 → Fits size log j m → Fits size (log ++ d ∷ []) j m)
+fits_link size log d p n pz h t = (
+  record {
+    job = λ r i. absurd (omega arith);
+    link = λ r nz i. let k : p ≡ r = omega arith in inl (sym t.here ∙ ap (store_of (log ++ d ∷ [])).links k);
+    hint = λ i. absurd (pz (omega arith));
+  },
   λ j m ne f. record {
     job = λ r i. f.job r i ∙ sym (t.jobs r);
-    link = λ r i. link_on (store_of log) (store_of (log ++ d ∷ [])) r m (t.apart r (λ k. ne (i ∙ ap (λ x. 2 * x + 1) k))) (more r) (f.link r i);
+    link = λ r nz i. link_on (store_of log) (store_of (log ++ d ∷ [])) r m (t.apart r (λ k. ne (i ∙ ap (λ x. 2 * x + 1) k))) (lasts_more (λ x. is_some x ≡ true) attached_lasts size log (d ∷ []) r h) (f.link r nz i);
+    hint = λ i. claimed_more_below size log (d ∷ []) m h (f.hint i);
   },
 )
 
 abbrev Now : ForestSize → Seen → List Deed → Type 0
-Now size v others = OthersAdded (IsDone (shape_of size)) Fits doer v others
+Now size v others = OthersAdded (IsDone (shape_of size)) (Fits size) doer v others
 
 -- the store that was seen, and what others did
 abbrev pub store_now : Seen → List Deed → Store
@@ -78,7 +109,7 @@ store_now v others = store_of (v.seen ++ others)
 
 pub brings_job : (size : ForestSize) (v : Seen) (d : Deed) (p old new : ℕ) → has_tag (doer d) v.tags ≡ true
     → ((others : List Deed) → Now size v others → old ≡ job_word (store_now v others) p → DeedNeeds (shape_of size) (store_now v others) d × Turns (store_now v others) (after_deed (store_now v others) d) p new)
-    → MayEnter (IsDone (shape_of size)) Fits doer v (2 * p) old new d
+    → MayEnter (IsDone (shape_of size)) (Fits size) doer v (2 * p) old new d
 brings_job size v d p old new own f = record {
   own = own;
   steps = λ others since found.
@@ -86,21 +117,22 @@ brings_job size v d p old new own f = record {
       let r = f others since (found.job p refl) in
       let t : Turns (store_of log) (store_of (log ++ d ∷ [])) p new = subst (λ s. Turns (store_of log) s p new) (sym (store_push log d)) r.1 in
       let h = IsDone_push (shape_of size) log d since.is_legal r.0 in
-      let k = fits_job log d p new (λ q. lasts_more (λ x. is_some x ≡ true) attached_lasts size log (d ∷ []) q h) t in
+      let k = fits_job size log d p new h t in
       (h, k.0, k.1);
 }
 
-pub brings_link : (size : ForestSize) (v : Seen) (d : Deed) (p old new : ℕ) → has_tag (doer d) v.tags ≡ true
+pub brings_link : (size : ForestSize) (v : Seen) (d : Deed) (p old new : ℕ) → has_tag (doer d) v.tags ≡ true → (store_of v.seen).tree p ≡ None
     → ((others : List Deed) → Now size v others → MayBeLink (store_now v others) p old → DeedNeeds (shape_of size) (store_now v others) d × TurnsLink (store_now v others) (after_deed (store_now v others) d) p new)
-    → MayEnter (IsDone (shape_of size)) Fits doer v (2 * p + 1) old new d
-brings_link size v d p old new own f = record {
+    → MayEnter (IsDone (shape_of size)) (Fits size) doer v (2 * p + 1) old new d
+brings_link size v d p old new own none f = record {
   own = own;
   steps = λ others since found.
       let log : List Deed = v.seen ++ others in
-      let r = f others since (found.link p refl) in
+      let nz = not_root size v.seen p (IsDone-rest (shape_of size) v.seen others since.is_legal).0 none in
+      let r = f others since (found.link p nz refl) in
       let t : TurnsLink (store_of log) (store_of (log ++ d ∷ [])) p new = subst (λ s. TurnsLink (store_of log) s p new) (sym (store_push log d)) r.1 in
       let h = IsDone_push (shape_of size) log d since.is_legal r.0 in
-      let k = fits_link log d p new (λ q. lasts_more (λ x. is_some x ≡ true) attached_lasts size log (d ∷ []) q h) t in
+      let k = fits_link size log d p new nz h t in
       (h, k.0, k.1);
 }
 
@@ -168,7 +200,7 @@ stored_turns s t r n tree links none here apart = record {
   links = links;
 }
 
-pub claims : (size : ForestSize) (v : Seen) (who row : ℕ) → IsSize size → has_tag who v.tags ≡ true → row < size.rows → MayEnter (IsDone (shape_of size)) Fits doer v (2 * row) 0 7 (Claim who row)
+pub claims : (size : ForestSize) (v : Seen) (who row : ℕ) → IsSize size → has_tag who v.tags ≡ true → row < size.rows → MayEnter (IsDone (shape_of size)) (Fits size) doer v (2 * row) 0 7 (Claim who row)
 claims size v who row s own lt = brings_job size v (Claim who row) row 0 7 own (λ others now found.
     let k = kept size (v.seen ++ others) s now.is_legal in
     let t : Store = store_now v others in
@@ -176,14 +208,14 @@ claims size v who row s own lt = brings_job size v (Claim who row) row 0 7 own (
     let u = k.holds.unclaimed row none in
     ((none, lt), stored_turns t (after_deed t (Claim who row)) row 7 refl (λ q. refl) u.0 (put_same row 7 t.jobs) (λ q ne. put_apart row q 7 t.jobs ne)))
 
-pub stores_job : (size : ForestSize) (v : Seen) (who row l old new : ℕ) → has_tag who v.tags ≡ true → IsMine who row l old (store_of v.seen) → 0 < new → MayEnter (IsDone (shape_of size)) Fits doer v (2 * row) old new (StoreJob who row new)
+pub stores_job : (size : ForestSize) (v : Seen) (who row l old new : ℕ) → has_tag who v.tags ≡ true → IsMine who row l old (store_of v.seen) → 0 < new → MayEnter (IsDone (shape_of size)) (Fits size) doer v (2 * row) old new (StoreJob who row new)
 stores_job size v who row l old new own m lt = brings_job size v (StoreJob who row new) row old new own (λ others now found.
     let t : Store = store_now v others in
     let n = mine_now size v others who row l old own now m in
     ((n.claimer, n.tree, lt), stored_turns t (after_deed t (StoreJob who row new)) row new refl (λ q. refl) n.tree (put_same row new t.jobs) (λ q ne. put_apart row q new t.jobs ne)))
 
-pub stores_link : (size : ForestSize) (v : Seen) (who row old j new : ℕ) → has_tag who v.tags ≡ true → IsMine who row old j (store_of v.seen) → IsLinkTo (store_of v.seen) new → new < 140737488355328 → MayEnter (IsDone (shape_of size)) Fits doer v (2 * row + 1) old new (StoreLink who row new)
-stores_link size v who row old j new own m link lt = brings_link size v (StoreLink who row new) row old new own (λ others now found.
+pub stores_link : (size : ForestSize) (v : Seen) (who row old j new : ℕ) → has_tag who v.tags ≡ true → IsMine who row old j (store_of v.seen) → IsLinkTo (store_of v.seen) new → new < 140737488355328 → MayEnter (IsDone (shape_of size)) (Fits size) doer v (2 * row + 1) old new (StoreLink who row new)
+stores_link size v who row old j new own m link lt = brings_link size v (StoreLink who row new) row old new own m.tree (λ others now found.
     let t : Store = store_now v others in
     let n = mine_now size v others who row old j own now m in
     ((n.claimer, n.tree, λ w nw e. lasts_more (λ x. is_some x ≡ true) attached_lasts size v.seen others w.parent now.is_legal (link w nw e), lt), record { here = put_same row new t.links; apart = λ q ne. put_apart row q new t.links ne; jobs = λ q. refl }))
@@ -222,7 +254,7 @@ attach_turns s who p r kind tag cancelled j shape k none m e stored = record {
 pub attaches_row : (size : ForestSize) (v : Seen) (who p r : ℕ) (kind : JobKind) (tag : ℕ) (cancelled : Bool) (w : JobWord) → IsSize size → has_tag who v.tags ≡ true
     → IsMine who r (link_code (new_link p w.first_child tag kind)) (job_code (new_word kind cancelled)) (store_of v.seen)
     → is_some ((store_of v.seen).tree p) ≡ true → IsNarrow w → is_ended w.state ≡ false → cancelled ≡ is_cancelled w.state → tag < size.coroutines → IsRowFor (shape_of size) who kind tag r
-    → MayEnter (IsDone (shape_of size)) Fits doer v (2 * p) (job_code w) (job_code (with_newest r w)) (Act (record { who = who; act = Attach p r kind tag cancelled }))
+    → MayEnter (IsDone (shape_of size)) (Fits size) doer v (2 * p) (job_code w) (job_code (with_newest r w)) (Act (record { who = who; act = Attach p r kind tag cancelled }))
 attaches_row size v who p r kind tag cancelled w s own m a n alive c lt row = brings_job size v _ p (job_code w) (job_code (with_newest r w)) own (λ others now found.
     let t : Store = store_now v others in
     let k = kept size (v.seen ++ others) s now.is_legal in
@@ -244,13 +276,14 @@ change_turns s r f j e = record {
   links = λ q. refl;
 }
 
--- ---- the hint
+-- ---- hints
 
--- the hint may be raised in the link word of an attached row
-pub lifts_hint : (size : ForestSize) (v : Seen) (row link : ℕ) → is_some ((store_of v.seen).tree row) ≡ true → (store_of v.seen).links row ≡ link → MayLift (IsDone (shape_of size)) Fits doer v (2 * row + 1) (link + 140737488355328)
-lifts_hint size v row link a e others n now f = record {
+-- the hint that it was attached may be raised in the link word of a child
+pub lifts_attached : (size : ForestSize) (v : Seen) (row link : ℕ) → row ≢ 0 → is_some ((store_of v.seen).tree row) ≡ true → (store_of v.seen).links row ≡ link → MayLift (IsDone (shape_of size)) (Fits size) doer v (2 * row + 1) (link + 140737488355328)
+lifts_attached size v row link rz a e others n now f = record {
   job = λ r i. absurd (omega arith);
-  link = λ r i. let k : row ≡ r = omega arith in subst (λ q. MayBeLink (store_now v others) q (max n (link + 140737488355328))) k (raised (f.link row refl));
+  link = λ r nz i. let k : row ≡ r = omega arith in subst (λ q. MayBeLink (store_now v others) q (max n (link + 140737488355328))) k (raised (f.link row rz refl));
+  hint = λ i. absurd (rz (omega arith));
 }
   where
     t : Store
@@ -264,3 +297,11 @@ lifts_hint size v row link a e others n now f = record {
 
     raised : MayBeLink t row n → MayBeLink t row (max n (link + 140737488355328))
     raised h = let e : t.links row ≡ link = same in inr (there, ⊎_elim (λ (k : n ≡ t.links row). omega arith) (λ (k : (is_some (t.tree row) ≡ true) × (n ≡ t.links row + 140737488355328)). let q = k.1 in omega arith) h)
+
+-- and the hint from where on to look for a row for a scope
+pub lifts_scopes : (size : ForestSize) (v : Seen) (least : ℕ) → AreClaimedBelow size (store_of v.seen) least → MayLift (IsDone (shape_of size)) (Fits size) doer v 1 least
+lifts_scopes size v least a others n now f = record {
+  job = λ r i. absurd (omega arith);
+  link = λ r nz i. absurd (nz (omega arith));
+  hint = λ i r le lt. dite (dec_le (suc r) n) (λ k. f.hint i r le k) (λ k. claimed_more_below size v.seen others least now.is_legal a r le (omega arith));
+}

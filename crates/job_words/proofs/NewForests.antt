@@ -30,10 +30,11 @@ first_link : (r : ℕ) → (store_of []).links r ≡ 0
 unfolding store_from
 first_link r = refl
 
-pub first_fits : (ws : List ℕ) → ((i : ℕ) → get_or ws i 0 ≡ (if i == 0 then 2 else 0)) → (i : ℕ) → Fits [] i (get_or ws i 0)
-first_fits ws h i = record {
+pub first_fits : (ws : List ℕ) → ((i : ℕ) → get_or ws i 0 ≡ (if i == 0 then 2 else 0)) → (size : ForestSize) (i : ℕ) → Fits size [] i (get_or ws i 0)
+first_fits ws h size i = record {
   job = λ r e. h i ∙ ap (λ (n : ℕ). if n == 0 then 2 else 0) e ∙ sym (first_job r);
-  link = λ r e. inl (h i ∙ ap (λ (b : Bool). if b then 2 else 0) (ne_eqb i 0 (λ z. absurd (let k : 0 ≡ 2 * r + 1 = sym z ∙ e in omega arith))) ∙ sym (first_link r));
+  link = λ r ne e. inl (h i ∙ ap (λ (b : Bool). if b then 2 else 0) (ne_eqb i 0 (λ z. absurd (let k : 0 ≡ 2 * r + 1 = sym z ∙ e in omega arith))) ∙ sym (first_link r));
+  hint = λ e r le lt. absurd (let k : get_or ws i 0 ≡ 0 = h i ∙ ap (λ (n : ℕ). if n == 0 then 2 else 0) e in omega arith);
 }
 
 pub first_claims : (size : ForestSize) (tags : List ℕ) → IsShape (shape_of size) → HasClaims (floor_of size tags [])

@@ -24,7 +24,7 @@ use Rattle.job_words.proofs.OneCodeOneWord.{link_code_is}
 use Rattle.job_words.proofs.DeedsAddUp.{store_push, store_more, IsDone-rest, tree_is, is_legal}
 use Rattle.job_words.proofs.StepsAsCalls.{sees_goes, claim_goes, link_goes, job_goes}
 use Rattle.job_words.proofs.StoreStaysSound.{kept, mine_kept}
-use Rattle.job_words.proofs.MayExchange.{claimed_word, put_same, word_is, word_stored, is_job, lasts_more, done_of_rest, read_word}
+use Rattle.job_words.proofs.MayExchange.{claimed_word, put_same, word_is, word_stored, is_job, lasts_more, not_root, done_of_rest, read_word}
 use Rattle.job_words.proofs.NumbersStaySmall.{children_short, child_row}
 use Rattle.job_words.proofs.LostExchangesGrow.{mine_sees}
 
@@ -53,7 +53,7 @@ claim_told size who row n v w s key t = by_test (n == 0) refl t
         subst (IsMine who row 0 7) (sym (ap store_of d.seen ∙ store_push log (Claim who row)))
         (record { claimer = put_same row (Some who) (store_of log).claimer; tree = u.0; link = u.2; job = put_same row 7 (store_of log).jobs })
 
-    by_test : (b : Bool) → (n == 0) ≡ b → MatchBool b (Does who (Claim who row) (2 * row) 0 v w) (Sees who v w × Fits w.seen (2 * row) n) → ClaimAnswer who row v w b
+    by_test : (b : Bool) → (n == 0) ≡ b → MatchBool b (Does who (Claim who row) (2 * row) 0 v w) (Sees who v w × Fits v.key w.seen (2 * row) n) → ClaimAnswer who row v w b
     by_test true e d = (claim_goes who row (2 * row) 0 v w d, now d)
     by_test false e q = (sees_goes who v w q.0, claimed_word (shape_of v.key) (store_of w.seen) row n (kept v.key w.seen (subst IsSize (sym key) s) q.0.done) (q.1.job row refl) (not_equal n 0 e))
 
@@ -72,7 +72,7 @@ pub link_told : (who row old new n : ℕ) (v w : Seen) → (j : ℕ) × IsMine w
     → Goes who [] v w × ((j : ℕ) → IsMine who row old j (store_of v.seen) → IsMine who row new j (store_of w.seen))
 link_told who row old new n v w mine t = by_test (n == old) refl t
   where
-    by_test : (b : Bool) → (n == old) ≡ b → MatchBool b (Does who (StoreLink who row new) (2 * row + 1) old v w) (Sees who v w × Fits w.seen (2 * row + 1) n) → Goes who [] v w × ((j : ℕ) → IsMine who row old j (store_of v.seen) → IsMine who row new j (store_of w.seen))
+    by_test : (b : Bool) → (n == old) ≡ b → MatchBool b (Does who (StoreLink who row new) (2 * row + 1) old v w) (Sees who v w × Fits v.key w.seen (2 * row + 1) n) → Goes who [] v w × ((j : ℕ) → IsMine who row old j (store_of v.seen) → IsMine who row new j (store_of w.seen))
     by_test true e d = (
       link_goes who row new (2 * row + 1) old v w d,
       λ j m.
@@ -80,13 +80,13 @@ link_told who row old new n v w mine t = by_test (n == old) refl t
           let s : Store = store_of (v.seen ++ d.others) in
           subst (IsMine who row new j) (sym (ap store_of d.seen ∙ store_push (v.seen ++ d.others) (StoreLink who row new))) (record { claimer = k.claimer; tree = k.tree; link = put_same row new s.links; job = k.job }),
     )
-    by_test false e q = let m = mine_sees who row old mine.0 v w q.0 mine.1 in absurd (not_equal n old e (unattached_link (store_of w.seen) row n m.tree (q.1.link row refl) ∙ m.link))
+    by_test false e q = let m = mine_sees who row old mine.0 v w q.0 mine.1 in absurd (not_equal n old e (unattached_link (store_of w.seen) row n m.tree (q.1.link row (not_root v.key w.seen row q.0.done m.tree) refl) ∙ m.link))
 
 pub job_told : (who row old new n : ℕ) (v w : Seen) → (l : ℕ) × IsMine who row l old (store_of v.seen) → ExchangeAnswer who (StoreJob who row new) (2 * row) old v w n
     → Goes who [] v w × ((l : ℕ) → IsMine who row l old (store_of v.seen) → IsMine who row l new (store_of w.seen))
 job_told who row old new n v w mine t = by_test (n == old) refl t
   where
-    by_test : (b : Bool) → (n == old) ≡ b → MatchBool b (Does who (StoreJob who row new) (2 * row) old v w) (Sees who v w × Fits w.seen (2 * row) n) → Goes who [] v w × ((l : ℕ) → IsMine who row l old (store_of v.seen) → IsMine who row l new (store_of w.seen))
+    by_test : (b : Bool) → (n == old) ≡ b → MatchBool b (Does who (StoreJob who row new) (2 * row) old v w) (Sees who v w × Fits v.key w.seen (2 * row) n) → Goes who [] v w × ((l : ℕ) → IsMine who row l old (store_of v.seen) → IsMine who row l new (store_of w.seen))
     by_test true e d = (
       job_goes who row new (2 * row) old v w d,
       λ l m.
@@ -156,7 +156,7 @@ does_attached who d word old v w r g a =
 pub attached_told : (who : ℕ) (d : Deed) (word old : ℕ) (v w : Seen) (n r : ℕ) → ExchangeAnswer who d word old v w n → IsAttached v r → IsAttached w r
 attached_told who d word old v w n r t a = by_test (n == old) t
   where
-    by_test : (b : Bool) → MatchBool b (Does who d word old v w) (Sees who v w × Fits w.seen word n) → IsAttached w r
+    by_test : (b : Bool) → MatchBool b (Does who d word old v w) (Sees who v w × Fits v.key w.seen word n) → IsAttached w r
     by_test true g = does_attached who d word old v w r g a
     by_test false q = attached_sees who v w r q.0 a
 

@@ -65,7 +65,7 @@ still_own t xs others e = entries_of-append doer t xs others ∙ ap (λ l. entri
 
 -- ---- a meeting
 
-pub meet_answer : (size : ForestSize) (v b w : Seen) → v.key ≡ size → v.heard_tags ≡ [] → IsDone (shape_of v.key) v.seen → Met (IsDone (shape_of size)) Fits doer v b.seen w → MeetAnswer (floor_seen v) (floor_seen b) (floor_seen w)
+pub meet_answer : (size : ForestSize) (v b w : Seen) → v.key ≡ size → v.heard_tags ≡ [] → IsDone (shape_of v.key) v.seen → Met (IsDone (shape_of size)) (Fits size) doer v b.seen w → MeetAnswer (floor_seen v) (floor_seen b) (floor_seen w)
 meet_answer size v b w key idle hv m = subst (λ (x : Seen). MeetAnswer (floor_seen v) (floor_seen b) (floor_seen x)) (sym m.now) (record {
   same = record { shape = refl; alone = refl; callers = ap callers_of (ap (λ l. v.tags ++ l) idle ∙ append-nil v.tags) };
   goes_on = has_seen v.key v.key v.tags (v.tags ++ v.heard_tags) v.seen log (m.others, refl) done;
@@ -86,7 +86,7 @@ pub laws_more : (f : Forest) (v w : Seen) (others : List Deed) → v.key ≡ f.s
 laws_more f v w others key now h = laws_of f f.table.shared.key w (v.seen ++ others) f.sized.1 (ap (λ (x : Seen). x.key) now ∙ key ∙ sym f.sized.1) (ap (λ (x : Seen). x.seen) now) h
 
 -- nobody did anything under a tag that was not given out
-pub ungiven_of : (size : ForestSize) (w : Seen) → IsDone (shape_of w.key) w.seen → NoneUngiven (IsDone (shape_of size)) Fits doer w → NothingUngiven w
+pub ungiven_of : (size : ForestSize) (w : Seen) → IsDone (shape_of w.key) w.seen → NoneUngiven (IsDone (shape_of size)) (Fits size) doer w → NothingUngiven w
 ungiven_of size w done n c t h = nothing_of w.key w.tags t w.seen done (n c t h)
 
 pub ungiven_first : (size : ForestSize) → NothingUngiven (first_view size)
@@ -100,7 +100,7 @@ ungiven_given v c t h = absurd (true≢false (sym c))
 
 -- ---- a pass that ends
 
-pub end_answer : (size : ForestSize) (v u w : Seen) → v.key ≡ size → IsDone (shape_of v.key) v.seen → IsDone (shape_of u.key) u.seen → TookIn (IsDone (shape_of size)) Fits doer v u w → EndAnswer (floor_seen v) (floor_seen u) (floor_seen w)
+pub end_answer : (size : ForestSize) (v u w : Seen) → v.key ≡ size → IsDone (shape_of v.key) v.seen → IsDone (shape_of u.key) u.seen → TookIn (IsDone (shape_of size)) (Fits size) doer v u w → EndAnswer (floor_seen v) (floor_seen u) (floor_seen w)
 end_answer size v u w key hv hu m = subst (λ (x : Seen). EndAnswer (floor_seen v) (floor_seen u) (floor_seen x)) (sym m.now) (record {
   shape = refl;
   callers = λ t. has_tag-or t v.tags u.tags;

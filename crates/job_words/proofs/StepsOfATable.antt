@@ -16,7 +16,7 @@ use Rattle.job_words.proofs.DeedsAddUp.{is_legal}
 use Rattle.job_words.proofs.StepsAsCalls.{has_claims}
 use Rattle.job_words.proofs.StoreStaysSound.{size_shape}
 
-pub sees_of : (size : ForestSize) (who word n : ℕ) (v w : Seen) → v.key ≡ size → v.heard_tags ≡ [] → has_tag who v.tags ≡ true → Loaded (IsDone (shape_of size)) Fits doer word n v w → Sees who v w × Fits w.seen word n
+pub sees_of : (size : ForestSize) (who word n : ℕ) (v w : Seen) → v.key ≡ size → v.heard_tags ≡ [] → has_tag who v.tags ≡ true → Loaded (IsDone (shape_of size)) (Fits size) doer word n v w → Sees who v w × Fits v.key w.seen word n
 sees_of size who word n v w key idle own l = (
   record {
     others = l.others;
@@ -28,13 +28,13 @@ sees_of size who word n v w key idle own l = (
     idle = ap (λ (x : Seen). x.heard_tags) l.now;
     done = subst (λ (k : ForestSize). IsDone (shape_of k) w.seen) (sym key) (subst (IsDone (shape_of size)) (sym seen) l.added.is_legal);
   },
-  subst (λ (s : List Deed). Fits s word n) (sym seen) l.found,
+  subst (λ (k : ForestSize). Fits k w.seen word n) (sym key) (subst (λ (s : List Deed). Fits size s word n) (sym seen) l.found),
 )
   where
     seen : w.seen ≡ v.seen ++ l.others
     seen = ap (λ (x : Seen). x.seen) l.now
 
-pub does_of : (size : ForestSize) (who word old : ℕ) (d : Deed) (v w : Seen) → v.key ≡ size → v.heard_tags ≡ [] → has_tag who v.tags ≡ true → Entered (IsDone (shape_of size)) Fits doer word old d v w → Does who d word old v w
+pub does_of : (size : ForestSize) (who word old : ℕ) (d : Deed) (v w : Seen) → v.key ≡ size → v.heard_tags ≡ [] → has_tag who v.tags ≡ true → Entered (IsDone (shape_of size)) (Fits size) doer word old d v w → Does who d word old v w
 does_of size who word old d v w key idle own l = record {
   others = l.others;
   seen = seen;
@@ -44,17 +44,17 @@ does_of size who word old d v w key idle own l = record {
   giving = ap tags_given l.now;
   idle = ap (λ (x : Seen). x.heard_tags) l.now;
   done = subst (λ (k : ForestSize). IsDone (shape_of k) w.seen) (sym key) (subst (IsDone (shape_of size)) (sym seen) l.is_legal);
-  found = l.found;
+  found = subst (λ (k : ForestSize). Fits k (v.seen ++ l.others) word old) (sym key) l.found;
 }
   where
     seen : w.seen ≡ (v.seen ++ l.others) ++ d ∷ []
     seen = ap (λ (x : Seen). x.seen) l.now
 
-pub told_of : (size : ForestSize) (who word old n : ℕ) (d : Deed) (v w : Seen) → v.key ≡ size → v.heard_tags ≡ [] → has_tag who v.tags ≡ true → Exchanged (IsDone (shape_of size)) Fits doer word old n (some d) v w
-    → MatchBool (n == old) (Does who d word old v w) (Sees who v w × Fits w.seen word n)
+pub told_of : (size : ForestSize) (who word old n : ℕ) (d : Deed) (v w : Seen) → v.key ≡ size → v.heard_tags ≡ [] → has_tag who v.tags ≡ true → Exchanged (IsDone (shape_of size)) (Fits size) doer word old n (some d) v w
+    → MatchBool (n == old) (Does who d word old v w) (Sees who v w × Fits v.key w.seen word n)
 told_of size who word old n d v w key idle own e = by_test (n == old) e
   where
-    by_test : (b : Bool) → MatchBool b (Entered (IsDone (shape_of size)) Fits doer word old d v w) (Loaded (IsDone (shape_of size)) Fits doer word n v w) → MatchBool b (Does who d word old v w) (Sees who v w × Fits w.seen word n)
+    by_test : (b : Bool) → MatchBool b (Entered (IsDone (shape_of size)) (Fits size) doer word old d v w) (Loaded (IsDone (shape_of size)) (Fits size) doer word n v w) → MatchBool b (Does who d word old v w) (Sees who v w × Fits v.key w.seen word n)
     by_test true m = does_of size who word old d v w key idle own m
     by_test false l = sees_of size who word n v w key idle own l
 
@@ -68,10 +68,10 @@ pub record Stays (who : ℕ) (v w : Seen) : Type 0 where
 pub sees_stays : (who : ℕ) (v w : Seen) → Sees who v w → Stays who v w
 sees_stays who v w s = record { tags = s.tags; key = s.key; idle = s.idle; done = s.done }
 
-pub told_stays : (who word old n : ℕ) (d : Deed) (v w : Seen) → MatchBool (n == old) (Does who d word old v w) (Sees who v w × Fits w.seen word n) → Stays who v w
+pub told_stays : (who word old n : ℕ) (d : Deed) (v w : Seen) → MatchBool (n == old) (Does who d word old v w) (Sees who v w × Fits v.key w.seen word n) → Stays who v w
 told_stays who word old n d v w e = by_test (n == old) e
   where
-    by_test : (b : Bool) → MatchBool b (Does who d word old v w) (Sees who v w × Fits w.seen word n) → Stays who v w
+    by_test : (b : Bool) → MatchBool b (Does who d word old v w) (Sees who v w × Fits v.key w.seen word n) → Stays who v w
     by_test true m = record { tags = m.tags; key = m.key; idle = m.idle; done = m.done }
     by_test false l = sees_stays who v w l.0
 

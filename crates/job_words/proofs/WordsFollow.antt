@@ -24,10 +24,10 @@ link_words_of shape s r n k ne e (Some j) t =
     let stored = k.holds.linked r (link_word_of (older_sibling s.tree r) j) (ap (option_map (link_word_of (older_sibling s.tree r))) t) ne in
     ⊎_elim (λ q. inl (q ∙ stored)) (λ (q : (is_some (s.tree r) ≡ true) × (n ≡ s.links r + 140737488355328)). inr (q.1 ∙ ap (λ m. m + 140737488355328) stored)) e
 
-pub words_of : (size : ForestSize) (log : List Deed) (i n : ℕ) → IsSize size → IsDone (shape_of size) log → Fits log i n → AreJobWordsOf (history_of log) (store_of log).claimer i n
+pub words_of : (size : ForestSize) (log : List Deed) (i n : ℕ) → IsSize size → IsDone (shape_of size) log → Fits size log i n → AreJobWordsOf (history_of log) (store_of log).claimer i n
 words_of size log i n s h f =
     let k = kept size log s h in
     record {
       job = λ r e. subst (λ (t : Tree). IsJobWord ((store_of log).claimer r) (t r) n) (tree_is log) (job_words_of (shape_of size) (store_of log) r n k (f.job r e) ((store_of log).tree r) refl);
-      link = λ r ne e. subst (λ (t : Tree). IsLinkWord (older_sibling t r) (t r) n) (tree_is log) (link_words_of (shape_of size) (store_of log) r n k ne (f.link r e) ((store_of log).tree r) refl);
+      link = λ r ne e. subst (λ (t : Tree). IsLinkWord (older_sibling t r) (t r) n) (tree_is log) (link_words_of (shape_of size) (store_of log) r n k ne (f.link r ne e) ((store_of log).tree r) refl);
     }

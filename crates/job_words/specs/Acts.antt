@@ -25,7 +25,7 @@ use Rattle.job_words.specs.Attaches.{HasLost, ActedNow}
 -- whatever others do, this act of who is legal while the row's Job word is old, and turns it into new
 abbrev pub MayAct : ForestSize → Seen → ℕ → ℕ → JobWord → JobWord → JobAct → Type 0
 MayAct size v who row old new act =
-    MayEnter (IsDone (shape_of size)) Fits doer v (2 * row) (job_code old) (job_code new) (Act (record { who = who; act = act }))
+    MayEnter (IsDone (shape_of size)) (Fits size) doer v (2 * row) (job_code old) (job_code new) (Act (record { who = who; act = act }))
 
 -- who made the act where the row's Job word was old; or it has another word
 abbrev pub ActAnswer : ℕ → ℕ → JobWord → JobAct → Seen → Seen → Bool → Type 0

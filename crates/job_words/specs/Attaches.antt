@@ -13,7 +13,7 @@ use Rattle.job_words.specs.declared.deed.Deed.TheVariants.{Act}
 use Rattle.job_words.specs.declared.tried.Tried.{Tried}
 use Rattle.job_words.specs.declared.tried.Tried.TheVariants.{Attached, Ended, Lost}
 use Rattle.job_words.specs.Rows.{job_code, IsNarrow}
-use Rattle.job_words.specs.Deeds.{shape_of, history_of, store_of, job_word}
+use Rattle.job_words.specs.Deeds.{shape_of, history_of, store_of, job_word, AreClaimedBelow}
 use Rattle.job_words.specs.Passes.{Seen, Goes, Does, IsMine}
 
 -- the row was seen claimed
@@ -31,7 +31,7 @@ ClaimAnswer who row v w false = Goes who [] v w × IsClaimed w row
 
 -- all rows for scopes were seen claimed
 abbrev pub AllScopesClaimed : ForestSize → Seen → Type 0
-AllScopesClaimed size v = (r : ℕ) → size.coroutines ≤ r → r < size.rows → IsClaimed v r
+AllScopesClaimed size v = AreClaimedBelow size (store_of v.seen) size.rows
 
 -- such a row for a scope; or all of them are claimed
 abbrev pub ScopeAnswer : ForestSize → ℕ → Seen → Seen → Option ℕ → Type 0

@@ -145,10 +145,15 @@ job_word s r = word_or (s.jobs r) (job_at s.tree r)
 abbrev pub MayBeLink : Store → ℕ → ℕ → Type 0
 MayBeLink s r n = (n ≡ s.links r) ⊎ ((is_some (s.tree r) ≡ true) × (n ≡ s.links r + 140737488355328))
 
--- the word i may be n
-pub record Fits (log : List Deed) (i n : ℕ) : Type 0 where
+-- each row for scopes below n was claimed
+abbrev pub AreClaimedBelow : ForestSize → Store → ℕ → Type 0
+AreClaimedBelow size s n = (r : ℕ) → size.coroutines ≤ r → r < n → is_some (s.claimer r) ≡ true
+
+-- the word i may be n; the root is nobody's child, so its link word is a hint from where on to look for a row for a scope
+pub record Fits (size : ForestSize) (log : List Deed) (i n : ℕ) : Type 0 where
   pub job : (r : ℕ) → i ≡ 2 * r → n ≡ job_word (store_of log) r
-  pub link : (r : ℕ) → i ≡ 2 * r + 1 → MayBeLink (store_of log) r n
+  pub link : (r : ℕ) → r ≢ 0 → i ≡ 2 * r + 1 → MayBeLink (store_of log) r n
+  pub hint : i ≡ 1 → AreClaimedBelow size (store_of log) n
 
 -- two words for each row
 abbrev pub word_count : ForestSize → ℕ

@@ -65,12 +65,12 @@ pub record Does (who : ℕ) (d : Deed) (word old : ℕ) (v w : Seen) : Type 0 wh
   pub giving : tags_given w ≡ tags_given v
   pub idle : w.heard_tags ≡ []
   pub done : IsDone (shape_of v.key) w.seen
-  pub found : Fits (v.seen ++ others) word old
+  pub found : Fits v.key (v.seen ++ others) word old
 
 -- who did d where the word found is old, and else saw the word
 abbrev pub ExchangeAnswer : ℕ → Deed → ℕ → ℕ → Seen → Seen → ℕ → Type 0
 ExchangeAnswer who d word old v w n =
-    MatchBool (n == old) (Does who d word old v w) (Sees who v w × Fits w.seen word n)
+    MatchBool (n == old) (Does who d word old v w) (Sees who v w × Fits v.key w.seen word n)
 
 -- a row that who claimed and nobody attached, and its two words
 pub record IsMine (who row stored_link stored_job : ℕ) (s : Store) : Type 0 where

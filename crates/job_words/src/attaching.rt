@@ -1,5 +1,5 @@
 //! A child is attached: its row is claimed, its words are stored, and one exchange on the parent's word discloses it.
-ghost use Rattle.std.specs.Prelude.{◌≡◌, ◌<◌, true};
+ghost use Rattle.std.specs.Prelude.{◌≡◌, ◌≢◌, ◌<◌, true};
 ghost use Rattle.job_model.specs.Needs.{IsRowFor};
 ghost use Rattle.job_model.specs.Answers.{AttachAnswer};
 ghost use Rattle.job_words.specs.Rows.{new_word};
@@ -25,7 +25,7 @@ const DISCLOSED: u64 = 140737488355328;
 /// Raises the hint that the row was attached, in its link word.
 fn raise_hint(forest: &Forest, pass: &mut JobPass, who: Tag, row: Row, link: u64)
     requires own { IsOwn forest.now pass.old who }
-    requires row { row < forest.now.size.rows }
+    requires row { (row < forest.now.size.rows) × (row ≢ 0) }
     requires attached { IsAttached (seen_by pass.old) row }
     requires link { (store_of (seen_by pass.old).seen).links row ≡ link }
     requires short { link < 140737488355328 }

@@ -1,16 +1,19 @@
 //! A row is claimed, and its claimer stores its two words.
-ghost use Rattle.std.specs.Prelude.{◌≡◌, ℕ, ◌<◌, true, []};
-ghost use Rattle.job_words.specs.Deeds.{store_of, IsLinkTo};
-ghost use Rattle.job_words.specs.Passes.{Goes, IsMine};
+ghost use Rattle.std.specs.Prelude.{◌≡◌, ℕ, ◌<◌, ◌≤◌, true, []};
+ghost use Rattle.job_words.specs.Deeds.{store_of, AreClaimedBelow, IsLinkTo};
+ghost use Rattle.job_words.specs.Passes.{Goes, Sees, IsMine};
 ghost use Rattle.job_words.specs.Attaches.{ClaimAnswer, ScopeAnswer, RowAnswer};
 ghost use Rattle.job_words.specs.Forests.{seen_by, IsOwn};
 
 use crate::deed::Deed;
 use crate::forest::Forest;
 use crate::pass::JobPass;
-use crate::steps::exchange_word;
+use crate::steps::{exchange_word, lift_word, load_word};
 use co_base::{Row, Tag};
 use job_model::{AttachError, JobKind};
+
+// The link word of the root.
+const SCOPES_FROM: usize = 1;
 
 /// Claims the row, unless somebody did.
 fn claim(forest: &Forest, pass: &mut JobPass, who: Tag, row: Row) -> bool
@@ -30,14 +33,40 @@ fn claim(forest: &Forest, pass: &mut JobPass, who: Tag, row: Row) -> bool
     ) == 0
 }
 
+/// A row below which each row for scopes was claimed.
+fn scopes_from(forest: &Forest, pass: &mut JobPass, who: Tag) -> Row
+    requires own { IsOwn forest.now pass.old who }
+    ensures own { IsOwn forest.now pass.new who }
+    ensures sees { Sees who (seen_by pass.old) (seen_by pass.new) }
+    ensures range { (forest.now.size.coroutines ≤ result) × (result ≤ forest.now.size.rows) }
+    ensures claimed { AreClaimedBelow forest.now.size (store_of (seen_by pass.new).seen) result }
+{
+    let hint = load_word(forest, pass, who, SCOPES_FROM);
+    if hint >= u64::from(forest.size.rows) {
+        return forest.size.rows;
+    }
+    forest.size.coroutines.max(hint as Row)
+}
+
+/// Says that each row for scopes below this one was claimed.
+fn raise_scopes(forest: &Forest, pass: &mut JobPass, who: Tag, row: Row)
+    requires own { IsOwn forest.now pass.old who }
+    requires claimed { AreClaimedBelow forest.now.size (store_of (seen_by pass.old).seen) row }
+    ensures own { IsOwn forest.now pass.new who }
+    ensures same { seen_by pass.new ≡ seen_by pass.old }
+{
+    lift_word(forest, pass, who, SCOPES_FROM, row as u64)
+}
+
 /// Claims a row that no scope has claimed.
 fn claim_scope(forest: &Forest, pass: &mut JobPass, who: Tag) -> Option<Row>
     requires own { IsOwn forest.now pass.old who }
     ensures own { IsOwn forest.now pass.new who }
     ensures claimed { ScopeAnswer forest.now.size who (seen_by pass.old) (seen_by pass.new) result }
 {
-    for row in forest.size.coroutines..forest.size.rows {
+    for row in scopes_from(forest, pass, who)..forest.size.rows {
         if claim(forest, pass, who, row) {
+            raise_scopes(forest, pass, who, row + 1);
             return Some(row);
         }
     }

@@ -8,7 +8,7 @@ use crate::size::ForestSize;
 use std::alloc::Global;
 use worded::{HistoryRule, HistoryTable};
 
-/// The history of a forest is a list of deeds, of which the words are a function but for one hint.
+/// The history of a forest is a list of deeds, of which the words are a function but for hints.
 pub struct JobHistory;
 
 impl HistoryRule<Deed, ForestSize> for JobHistory {
@@ -16,7 +16,7 @@ impl HistoryRule<Deed, ForestSize> for JobHistory {
 
     ghost legal = { λ size. IsDone (shape_of size) };
 
-    ghost fits = { λ size. Fits };
+    ghost fits = { Fits };
 
     ghost who = { doer };
 

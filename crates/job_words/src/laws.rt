@@ -18,9 +18,10 @@ pub fn two_words_have_two_numbers()
     ensures links { (v w : ALinkWord) → IsNarrowLink v → IsNarrowLink w → link_code v ≡ link_code w → v ≡ w }
 {}
 
-/// The words of a forest follow from the entries of its history and from the claims, up to bit 47 of a link word.
+/// The words of a forest follow from the entries of its history and from the claims, up to bit 47 of a link word, and but for the link word
+/// of the root.
 pub fn words_follow_from_entries_and_claims()
-    ensures { (size : Size) (log : List ADeed) (i n : ℕ) → IsSize size → IsDone (shape_of size) log → Fits log i n
+    ensures { (size : Size) (log : List ADeed) (i n : ℕ) → IsSize size → IsDone (shape_of size) log → Fits size log i n
         → AreJobWordsOf (history_of log) (store_of log).claimer i n }
 {}
 
@@ -29,5 +30,5 @@ pub fn words_follow_from_entries_and_claims()
 /// entry.
 pub fn a_forest_has_one_history()
     ensures { (size : Size) (s : State ADeed (View ADeed Size)) → IsSize size
-        → HasOneHistory (IsDone (shape_of size)) Fits doer (word_count size) s → HoldsJobs size s }
+        → HasOneHistory (IsDone (shape_of size)) (Fits size) doer (word_count size) s → HoldsJobs size s }
 {}

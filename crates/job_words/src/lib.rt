@@ -16,6 +16,7 @@
 //! | Job word | body ended, no child lives | Completed, Cancelled | anybody | who ends the Job, and may tell its parent |
 //! | Job word of the parent | as loaded | one living fewer | who ended the child | whether that was the last that the parent waited for |
 //! | link word of an attached row | as stored | bit 47 set | who attached it | nothing: it is a hint |
+//! | link word of the root | n | at least m | who claimed the row m - 1 for a scope | nothing: it is a hint |
 //!
 //! **What the loser sees.** Each exchange is made from the word as it was loaded. Where it fails, the history has grown by an entry that
 //! changed this very word. The call looks at the new word and tries again, or answers what it sees there. A legal history has at
@@ -26,8 +27,12 @@
 //! it stands among the children of the parent that its link word names, and the look walks them from the newest on. The attacher
 //! raises the bit after its exchange, by a step that shows nothing, so the walk is made in that short time alone.
 //!
+//! **A row for a scope.** The root is nobody's child, so its link word has other work: each row for scopes below it was claimed. Who claims
+//! one looks from there on, and raises it behind the row that it got, by a step that shows nothing. A row that was claimed stays so;
+//! so who finds none has seen all of them claimed, though it did not look at those below.
+//!
 //! **The history.** The entries of the model are among the *deeds* of the table: one deed for each exchange, an entry (`Act`), or a claim
-//! or a store, which the model does not know. All words are a function of the deeds, up to bit 47. A `JobPass` has seen a beginning
+//! or a store, which the model does not know. All words are a function of the deeds, up to the hints. A `JobPass` has seen a beginning
 //! of the deeds, and all of its own.
 //!
 //! - `job_word`, `link_word`: the two words, field by field.

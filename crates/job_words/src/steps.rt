@@ -18,7 +18,7 @@ pub(crate) fn load_word(forest: &Forest, pass: &mut JobPass, who: Tag, word: usi
     requires word { word < word_count forest.now.size }
     ensures own { IsOwn forest.now pass.new who }
     ensures sees { Sees who (seen_by pass.old) (seen_by pass.new) }
-    ensures found { Fits (seen_by pass.new).seen word result }
+    ensures found { Fits forest.now.size (seen_by pass.new).seen word result }
 {
     load::<Deed, ForestSize, JobHistory>(&forest.table.shared, &mut pass.seat, word)
 }
@@ -36,7 +36,7 @@ pub(crate) fn exchange_word(
     requires own { IsOwn forest.now pass.old who }
     requires word { word < word_count forest.now.size }
     requires doer { doer deed.now ≡ who }
-    requires may { MayEnter (IsDone (shape_of forest.now.size)) Fits doer (seen_by pass.old) word old new deed.now }
+    requires may { MayEnter (IsDone (shape_of forest.now.size)) (Fits forest.now.size) doer (seen_by pass.old) word old new deed.now }
     ensures own { IsOwn forest.now pass.new who }
     ensures told { ExchangeAnswer who deed.now word old (seen_by pass.old) (seen_by pass.new) result }
 {
@@ -54,7 +54,7 @@ pub(crate) fn exchange_word(
 pub(crate) fn lift_word(forest: &Forest, pass: &mut JobPass, who: Tag, word: usize, least: u64)
     requires own { IsOwn forest.now pass.old who }
     requires word { word < word_count forest.now.size }
-    requires may { MayLift (IsDone (shape_of forest.now.size)) Fits doer (seen_by pass.old) word least }
+    requires may { MayLift (IsDone (shape_of forest.now.size)) (Fits forest.now.size) doer (seen_by pass.old) word least }
     ensures own { IsOwn forest.now pass.new who }
     ensures same { seen_by pass.new ≡ seen_by pass.old }
 {

@@ -1,5 +1,5 @@
 //! The two words of a row, as steps on them.
-ghost use Rattle.std.specs.Prelude.{◌≡◌, ◌<◌};
+ghost use Rattle.std.specs.Prelude.{◌≡◌, ◌≢◌, ◌<◌};
 ghost use Rattle.job_words.specs.Rows.{link_code, IsNarrow, IsNarrowLink};
 ghost use Rattle.job_words.specs.Deeds.{store_of, MayBeLink};
 ghost use Rattle.job_words.specs.Passes.{Sees};
@@ -32,10 +32,11 @@ pub(crate) fn load_job(forest: &Forest, pass: &mut JobPass, who: Tag, row: Row) 
     }
 }
 
-/// The link word of any row.
+/// The link word of any row but the root.
 pub(crate) fn load_any_link(forest: &Forest, pass: &mut JobPass, who: Tag, row: Row) -> LinkWord
     requires own { IsOwn forest.now pass.old who }
     requires row { row < forest.now.size.rows }
+    requires child { row ≢ 0 }
     ensures own { IsOwn forest.now pass.new who }
     ensures sees { Sees who (seen_by pass.old) (seen_by pass.new) }
     ensures narrow { IsNarrowLink result }

@@ -9,7 +9,7 @@ use Rattle.job_words.specs.Attaches.{IsAttached, AttachedNow}
 use Rattle.job_words.specs.declared.job_word.JobWord.{JobWord}
 use Rattle.job_words.specs.declared.link_word.LinkWord.{LinkWord}
 use Rattle.job_words.proofs.OneCodeOneWord.{link_code_is, link_code_short}
-use Rattle.job_words.proofs.MayExchange.{attaches_row}
+use Rattle.job_words.proofs.MayExchange.{attaches_row, not_root}
 use Rattle.job_words.proofs.StepsAsCalls.{sees_goes, goes_trans}
 use Rattle.job_words.proofs.LostExchangesGrow.{grew, grew_more, mine_sees, attached_goes}
 use Rattle.job_words.proofs.PartsOfAnAttach.{row_within, attached_words, sees_done, living_few, state_seen}
@@ -81,6 +81,11 @@ act_on-requires-clause-may c =
     (subst (λ (x : ℕ × ℕ). IsMine c.args.who c.args.row x.0 x.1 (store_of v3.seen)) (λ i. (c.pack-new_link.ensures i, job i)) mine3)
     (attached_goes c.args.who [] v0 v3 c.args.parent (stored c.args.who v0 v1 c.store_link.new.pass.seat.me.0 v3 c.load_job-above.ensures.sees c.store_link.ensures.goes c.store_job.ensures.goes) c.requires.parent)
     c.load_job-above.ensures.word.narrow (sym c.is_completed.ensures ∙ c.if-is_completed.false) c.is_cancelled-cancelled.ensures c.requires.tag c.requires.row.1
+
+pub raise_hint-requires-clause-row : goal.raise_hint-requires-clause-row
+raise_hint-requires-clause-row c =
+    let p = c.args.pass.now in
+    (c.requires.row.0, not_root p.seat.me.0.key p.seat.me.0.seen c.args.row p.done c.requires.mine.tree)
 
 pub raise_hint-requires-clause-attached : goal.raise_hint-requires-clause-attached
 raise_hint-requires-clause-attached c =

@@ -26,7 +26,7 @@ act_on-requires-clause-may c =
     let g = sees_goes c.args.who v0 v1 c.load_job-word.ensures.sees in
     let done1 = sees_done f.size c.args.who v0 v1 c.requires.own.0.1 c.load_job-word.ensures.sees in
     let k = cause_goes f.size c.args.who c.args.row c.args.reason [] v0 v1 c.args.cause f.small c.requires.own.0.1 c.args.pass.now.done g c.requires.cause in
-    subst (λ (n : ℕ). MayEnter (IsDone (shape_of f.size)) Fits doer v1 (2 * c.args.row) (job_code w) (job_code (record w { state = Cancelling; rest = n })) (Act (record { who = c.args.who; act = Cancel c.args.row c.args.reason }))) (sym c.code_of_cause.ensures)
+    subst (λ (n : ℕ). MayEnter (IsDone (shape_of f.size)) (Fits f.size) doer v1 (2 * c.args.row) (job_code w) (job_code (record w { state = Cancelling; rest = n })) (Act (record { who = c.args.who; act = Cancel c.args.row c.args.reason }))) (sym c.code_of_cause.ensures)
     (cancels_row f.size v1 c.args.who c.args.row c.args.reason c.args.cause w f.small c.load_job-word.ensures.own.1 k.attached c.load_job-word.ensures.word.narrow (sym c.is_cancellable.ensures ∙ c.if-not-is_cancellable.false) k.holds
     (λ others h. cause_more f.size v1.seen others c.args.who c.args.row c.args.reason f.small done1 h k.holds ∙ k.is))
 

@@ -1,21 +1,41 @@
-use Rattle.std.proofs.Common.{[], ◌∷◌, arith}
-use Rattle.job_words.proofs.StepsAsCalls.{goes_trans}
-use Rattle.job_words.proofs.ClaimedRows.{goes_self, claimed_more}
+use Rattle.std.proofs.Common.{[], ◌∷◌, true, is_some, sym, ap, subst, arith}
+use Rattle.job_words.specs.Passes.{Seen}
+use Rattle.job_words.specs.Attaches.{ClaimAnswer}
+use Rattle.job_words.proofs.StepsAsCalls.{sees_goes, goes_trans}
+use Rattle.job_words.proofs.ClaimedRows.{claimed_more}
 use Rattle.job_words.proofs.claiming.claim_scope.Goals as goal
 
 pub loop-row-init : goal.loop-row-init
-loop-row-init c = record { own = c.requires.own; goes = goes_self c.args.who c.args.pass.now.seat.me.0 c.requires.own.0.2 c.args.pass.now.done; from = omega arith; claimed = λ r le lt. absurd (omega arith) }
+loop-row-init c = record {
+  own = c.scopes_from-row.ensures.own;
+  goes = sees_goes c.args.who c.args.pass.now.seat.me.0 c.scopes_from-row.new.pass.seat.me.0 c.scopes_from-row.ensures.sees;
+  from = c.scopes_from-row.ensures.range.0;
+  claimed = c.scopes_from-row.ensures.claimed;
+}
+
+pub raise_scopes-requires-clause-claimed : goal.raise_scopes-requires-clause-claimed
+raise_scopes-requires-clause-claimed c r le lt =
+    let a = c.if-claim.ensures.claimed in
+    claimed_more c.args.who (c.loop-row.row ∷ []) c.args.forest.now.size.coroutines c.loop-row.row c.loop-row.pass.seat.me.0 c.claim.new.pass.seat.me.0 a.0 c.loop-row.invariant.claimed (ap is_some a.1.claimer) r le (omega arith)
 
 pub returns-then-claim-clause-claimed : goal.returns-then-claim-clause-claimed
-returns-then-claim-clause-claimed c = ((goes_trans c.args.who [] (c.loop-row.row ∷ []) c.args.pass.now.seat.me.0 c.loop-row.pass.seat.me.0 c.claim.new.pass.seat.me.0 c.loop-row.invariant.goes c.if-claim.ensures.claimed.0, c.if-claim.ensures.claimed.1), c.loop-row.invariant.from, c.loop-row-test.true)
+returns-then-claim-clause-claimed c =
+    let u = c.args.pass.now.seat.me.0 in
+    let a = c.if-claim.ensures.claimed in (
+      subst (λ (w : Seen). ClaimAnswer c.args.who c.loop-row.row u w true) (sym c.raise_scopes.ensures.same)
+          (goes_trans c.args.who [] (c.loop-row.row ∷ []) u c.loop-row.pass.seat.me.0 c.claim.new.pass.seat.me.0 c.loop-row.invariant.goes a.0, a.1),
+      c.loop-row.invariant.from,
+      c.loop-row-test.true,
+    )
 
 pub loop-row-preserved : goal.loop-row-preserved
 loop-row-preserved c =
     let v = c.loop-row.pass.seat.me.0 in
     let w = c.claim.new.pass.seat.me.0 in
+    let a = c.if-claim.ensures.claimed in
     record {
       own = c.claim.ensures.own;
-      goes = goes_trans c.args.who [] [] c.args.pass.now.seat.me.0 v w c.loop-row.invariant.goes c.if-claim.ensures.claimed.0;
+      goes = goes_trans c.args.who [] [] c.args.pass.now.seat.me.0 v w c.loop-row.invariant.goes a.0;
       from = omega (arith, c.loop-row.invariant.from);
-      claimed = λ r le lt. claimed_more c.args.who c.args.forest.now.size.coroutines c.loop-row.row v w c.if-claim.ensures.claimed.0 c.loop-row.invariant.claimed c.if-claim.ensures.claimed.1 r le (omega arith);
+      claimed = λ r le lt. claimed_more c.args.who [] c.args.forest.now.size.coroutines c.loop-row.row v w a.0 c.loop-row.invariant.claimed a.1 r le (omega arith);
     }

@@ -14,7 +14,7 @@ act_on-requires-clause-may c =
     let v0 = c.args.pass.now.seat.me.0 in
     let v1 = c.load_job-word.new.pass.seat.me.0 in
     let w = c.load_job-word.result in
-    subst (λ (x : JobWord). MayEnter (IsDone (shape_of c.args.forest.now.size)) Fits doer v1 (2 * c.args.row) (job_code w) (job_code x) (Act (record { who = c.args.who; act = EndBody c.args.row c.args.value }))) (sym c.without_body.ensures)
+    subst (λ (x : JobWord). MayEnter (IsDone (shape_of c.args.forest.now.size)) (Fits c.args.forest.now.size) doer v1 (2 * c.args.row) (job_code w) (job_code x) (Act (record { who = c.args.who; act = EndBody c.args.row c.args.value }))) (sym c.without_body.ensures)
     (ends_body_row c.args.forest.now.size v1 c.args.who c.args.row c.args.value w c.args.forest.now.small c.load_job-word.ensures.own.1 c.load_job-word.ensures.attached c.load_job-word.ensures.word.narrow (omega (arith, c.ranges.value.fits)) (own_body_sees c.args.who c.args.row v0 v1 c.load_job-word.ensures.sees c.requires.may))
 
 pub returns-then-not-act_on-clause-answer : goal.returns-then-not-act_on-clause-answer

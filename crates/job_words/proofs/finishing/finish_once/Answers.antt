@@ -33,7 +33,7 @@ act_on-requires-clause-may c =
     let v1 = c.load_job-word.new.pass.seat.me.0 in
     let w = c.load_job-word.result in
     let none : w.living ≡ 0 = omega (arith, c.if-word-gt0.false) in
-    subst (λ (x : JobState). MayEnter (IsDone (shape_of c.args.forest.now.size)) Fits doer v1 (2 * c.args.row) (job_code w) (job_code (record w { state = x })) (Act (record { who = c.args.who; act = Finish c.args.row c.end_of-end.result }))) (sym c.state_of_end.ensures)
+    subst (λ (x : JobState). MayEnter (IsDone (shape_of c.args.forest.now.size)) (Fits c.args.forest.now.size) doer v1 (2 * c.args.row) (job_code w) (job_code (record w { state = x })) (Act (record { who = c.args.who; act = Finish c.args.row c.end_of-end.result }))) (sym c.state_of_end.ensures)
     (finishes_row c.args.forest.now.size v1 c.args.who c.args.row w c.end_of-end.result c.args.forest.now.small c.load_job-word.ensures.own.1 c.load_job-word.ensures.attached c.load_job-word.ensures.word.narrow (was_true w.body_ended c.if-not-word.false) none c.end_of-end.ensures)
 
 pub returns-then-act_on-clause-answer : goal.returns-then-act_on-clause-answer

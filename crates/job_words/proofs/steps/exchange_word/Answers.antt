@@ -16,5 +16,5 @@ invariant_of-pass c =
     let s = told_stays c.args.who c.args.word c.args.old c.exchange.result c.args.deed.now v w (told_of k c.args.who c.args.word c.args.old c.exchange.result c.args.deed.now v w key c.requires.own.0.2 c.requires.own.1 c.exchange.ensures.told) in
     let l = laws_of f v.key w w.seen c.requires.own.0.1 s.key refl s.done in
     let own : has_tag (doer c.args.deed.now) v.tags ≡ true = ap (λ n. has_tag n v.tags) c.requires.doer ∙ c.requires.own.1 in
-    let u = ungiven_of k w l.done (none_exchanged (IsDone (shape_of k)) Fits doer c.args.word c.args.old c.exchange.result c.args.deed.now v w own c.exchange.ensures.told) in
+    let u = ungiven_of k w l.done (none_exchanged (IsDone (shape_of k)) (Fits k) doer c.args.word c.args.old c.exchange.result c.args.deed.now v w own c.exchange.ensures.told) in
     record { shaped = l.shaped; done = l.done; legal = l.legal; claimed = l.claimed; ungiven = u }

@@ -11,7 +11,7 @@ invariant_of-main c =
     let t = c.end.ensures.took in
     let l = laws_more c.args.self.now (told_by c.args.main.now.seat.me.0 c.args.pass.seat.me.0) c.end.new.main.me.0 t.others c.requires.main.1 t.now t.is_legal in
     let k = c.args.self.now.table.shared.key in
-    let u = ungiven_of k c.end.new.main.me.0 l.done (none_ended (IsDone (shape_of k)) Fits doer c.args.main.now.seat.me.0 c.args.pass.seat.me.0 c.end.new.main.me.0 t) in
+    let u = ungiven_of k c.end.new.main.me.0 l.done (none_ended (IsDone (shape_of k)) (Fits k) doer c.args.main.now.seat.me.0 c.args.pass.seat.me.0 c.end.new.main.me.0 t) in
     record { shaped = l.shaped; done = l.done; legal = l.legal; claimed = l.claimed; ungiven = u }
 
 pub returns-clause-ended : goal.returns-clause-ended

@@ -10,7 +10,7 @@ invariant_of-a c =
     let t = c.meet.ensures.met in
     let l = laws_more c.args.self.now c.args.a.now.seat.me.0 c.meet.new.seat.me.0 t.others c.requires.a.1 t.now t.is_legal in
     let k = c.args.self.now.table.shared.key in
-    let u = ungiven_of k c.meet.new.seat.me.0 l.done (none_met (IsDone (shape_of k)) Fits doer c.args.a.now.seat.me.0 c.meet.new.seat.me.0 c.args.b.now.seat.me.0.seen t) in
+    let u = ungiven_of k c.meet.new.seat.me.0 l.done (none_met (IsDone (shape_of k)) (Fits k) doer c.args.a.now.seat.me.0 c.meet.new.seat.me.0 c.args.b.now.seat.me.0.seen t) in
     record { shaped = l.shaped; done = l.done; legal = l.legal; claimed = l.claimed; ungiven = u }
 
 pub returns-clause-met : goal.returns-clause-met

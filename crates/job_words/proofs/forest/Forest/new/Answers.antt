@@ -18,7 +18,7 @@ pub new_history-requires-clause-size : goal.new_history-requires-clause-size
 new_history-requires-clause-size c = ap length c.as_slice.ensures.value ∙ c.in_ok-words.ensures.count
 
 pub new_history-requires-clause-fit : goal.new_history-requires-clause-fit
-new_history-requires-clause-fit c i h = first_fits c.as_slice.result.now (λ j. ap (λ ws. get_or ws j 0) c.as_slice.ensures.value ∙ c.in_ok-words.ensures.words j) i
+new_history-requires-clause-fit c i h = first_fits c.as_slice.result.now (λ j. ap (λ ws. get_or ws j 0) c.as_slice.ensures.value ∙ c.in_ok-words.ensures.words j) (record { coroutines = c.args.coroutines; rows = c.args.coroutines + c.args.scopes }) i
 
 pub invariant_of-result-2 : goal.invariant_of-result-2
 invariant_of-result-2 c =
