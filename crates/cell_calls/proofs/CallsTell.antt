@@ -10,7 +10,7 @@ use Rattle.channel_model.specs.declared.acts.Act.TheVariants.{Take, Void, Drain,
 use Rattle.channel_model.specs.declared.acts.Entry.{Entry}
 use Rattle.channel_model.specs.Channels.{Shape, State, Wait, places_at}
 use Rattle.channel_model.specs.Histories.{replay, acts_of, Legal}
-use Rattle.channel_model.specs.Floors.{Looked, Made, AtStep, AtMoment}
+use Rattle.channel_model.specs.Floors.{Floor, Looked, Made, AtStep, AtMoment}
 use Rattle.channel_model.specs.Answers.{IsOwnWait, IsReadyWait, ClosedWith, IsDrainedAndClosed, TakenFrom, DrainedFrom, VoidAnswer, WokenAt}
 use Rattle.channel_model.proofs.Later.{closed_later, voided_later}
 use Rattle.channel_model.proofs.Sound.{sound}
@@ -20,7 +20,7 @@ use Rattle.cell_words.specs.declared.hub.Hub.{Hub}
 use Rattle.cell_words.specs.declared.pass.Pass.{Pass}
 use Rattle.cell_words.specs.declared.found.Removal.{Removal}
 use Rattle.cell_words.specs.declared.found.Removal.TheVariants as removal
-use Rattle.cell_words.specs.Hubs.{seen_by, SameGiving}
+use Rattle.cell_words.specs.Hubs.{shape_of, seen_by, SameGiving}
 use Rattle.cell_words.specs.Seen.{Seen, Sees, Makes, at_channel}
 use Rattle.cell_words.specs.Answers.{MayRemove, MayRemoveHeld, RemovesFrom, VoidAt, Wakes}
 use Rattle.cell_words.proofs.MayExchange.{same_acts}
@@ -105,6 +105,15 @@ module _ (hub : Hub) (who : ℕ) where
   pub void_giving : (a b : Pass) (x : Seen) (c : ℕ) → Sees (seen_by a) x → (answer : Bool) → VoidAt who c x (seen_by b) answer → SameGiving a b
   void_giving a b x c s true h = h.giving ∙ s.giving
   void_giving a b x c s false h = h.0.giving ∙ s.giving
+
+-- ---- a counter was raised
+
+abbrev floor_seen : Hub → Seen → Floor
+floor_seen hub v = record { shape = shape_of hub; seen = v.seen; spare = 4294967296; alone = false; callers = λ t. has_tag t v.tags }
+
+-- a raise shows nothing, so the floor is as it was
+pub same_floor : (hub : Hub) (a b : Pass) (P : Floor → Type 0) → seen_by b ≡ seen_by a → P (hub_floor hub a) → P (hub_floor hub b)
+same_floor hub a b P e h = subst (λ (v : Seen). P (floor_seen hub v)) (sym e) h
 
 -- ---- what lasts
 

@@ -1,5 +1,5 @@
 -- A receiver that was seen is still the one that was placed.
-use Rattle.std.specs.Prelude.{◌≡◌, ℕ, List}
+use Rattle.std.specs.Prelude.{◌≡◌, ℕ, Bool, true, false, List}
 use Rattle.std.proofs.Common.{sym, subst}
 use Rattle.channel_model.specs.declared.acts.Entry.{Entry}
 use Rattle.channel_model.specs.Channels.{Shape}
@@ -8,6 +8,7 @@ use Rattle.cell_words.specs.declared.found.Waiter.{Waiter}
 use Rattle.cell_words.specs.Cells.{receiver, cell_of}
 use Rattle.cell_words.specs.Seen.{Seen, Sees}
 use Rattle.cell_words.specs.Answers.{Receives}
+use Rattle.cell_words.specs.Clauses.{ReceiverStandsAt}
 use Rattle.cell_words.proofs.ListsOfCells.{CellNamed}
 use Rattle.cell_words.proofs.CellsLast.{receiver_more}
 use Rattle.cell_words.proofs.CellsTellFacts.{tied_now}
@@ -29,3 +30,8 @@ receives_later shape c p x v w l s h =
       };
       cell = here;
     }
+
+-- a look at a receiver's wait is a look
+pub stands_sees : (c p : ℕ) (v w : Seen) (b : Bool) → ReceiverStandsAt c p v w b → Sees v w
+stands_sees c p v w true h = h.0
+stands_sees c p v w false h = h.0

@@ -56,18 +56,21 @@ pub fn drain(
                 Removal::Drain,
             ) {
                 Some(owner) => {
-                    raise_receives(hub, pass, who, c, place + 1);
+                    raise_receives(hub, pass, who, c, from, place + 1);
                     return Some((place, waiter.value, owner));
                 }
                 None => {}
             },
             At::Kept(value) => {
                 if remove_kept(hub, pass, who, c, place, value, Removal::Drain) {
-                    raise_receives(hub, pass, who, c, place + 1);
+                    raise_receives(hub, pass, who, c, from, place + 1);
                     return Some((place, value, None));
                 }
             }
-            At::Closed(_) => return None,
+            At::Closed(_) => {
+                raise_receives(hub, pass, who, c, from, place);
+                return None;
+            }
             // What was cancelled was closed, so this does not happen; and nothing stands there either.
             At::Open => return None,
             At::Spent | At::Placed | At::Put => unreachable!(),

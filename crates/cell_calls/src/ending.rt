@@ -26,16 +26,22 @@ fn end_from(hub: &Hub, pass: &mut Pass, who: Tag, c: ChannelId) -> Place
     if sends < receives { receives } else { sends }
 }
 
-/// Where a channel ends, and the value with which it was closed.
-pub(crate) fn find_end(hub: &Hub, pass: &mut Pass, who: Tag, c: ChannelId) -> (Place, Option<Value>)
+/// Where a channel ends, by a walk from a place that it does not end before, and the value with which it was closed.
+fn find_end_from(
+    hub: &Hub,
+    pass: &mut Pass,
+    who: Tag,
+    c: ChannelId,
+    from: Place,
+) -> (Place, Option<Value>)
     requires own { IsOwn hub.now pass.old who }
     requires channel { c < length (shape_of hub.now) }
+    requires given { from ≤ (at_channel (seen_by pass.old).seen c).next }
     ensures own { IsOwn hub.now pass.new who }
     ensures sees { Sees (seen_by pass.old) (seen_by pass.new) }
     ensures end { ((at_channel (seen_by pass.new).seen c).next ≡ result.0) × ((at_channel (seen_by pass.new).seen c).closed ≡ result.1) }
 {
     let places = places_of(hub, c);
-    let from = end_from(hub, pass, who, c);
     for place in from..places + 1 {
         match end_at(hub, pass, who, c, place) {
             End::Used => {}
@@ -44,6 +50,36 @@ pub(crate) fn find_end(hub: &Hub, pass: &mut Pass, who: Tag, c: ChannelId) -> (P
         }
     }
     unreachable!()
+}
+
+/// Where a channel ends, and the value with which it was closed.
+pub(crate) fn find_end(hub: &Hub, pass: &mut Pass, who: Tag, c: ChannelId) -> (Place, Option<Value>)
+    requires own { IsOwn hub.now pass.old who }
+    requires channel { c < length (shape_of hub.now) }
+    ensures own { IsOwn hub.now pass.new who }
+    ensures sees { Sees (seen_by pass.old) (seen_by pass.new) }
+    ensures end { ((at_channel (seen_by pass.new).seen c).next ≡ result.0) × ((at_channel (seen_by pass.new).seen c).closed ≡ result.1) }
+{
+    let from = end_from(hub, pass, who, c);
+    find_end_from(hub, pass, who, c, from)
+}
+
+/// The value with which the channel was closed, if it was, looked for from a place that it does not end before.
+pub(crate) fn find_closed_from(
+    hub: &Hub,
+    pass: &mut Pass,
+    who: Tag,
+    c: ChannelId,
+    from: Place,
+) -> Option<Value>
+    requires own { IsOwn hub.now pass.old who }
+    requires channel { c < length (shape_of hub.now) }
+    requires given { from ≤ (at_channel (seen_by pass.old).seen c).next }
+    ensures own { IsOwn hub.now pass.new who }
+    ensures sees { Sees (seen_by pass.old) (seen_by pass.new) }
+    ensures closed { (at_channel (seen_by pass.new).seen c).closed ≡ result }
+{
+    find_end_from(hub, pass, who, c, from).1
 }
 
 /// The value with which the channel was closed, if it was.
@@ -113,12 +149,15 @@ pub fn wake_closed(hub: &Hub, pass: &mut Pass, who: Tag, c: ChannelId) -> Option
         match receiver_at(hub, pass, who, c, place) {
             At::Waiting(waiter) => match wake(hub, pass, who, c, place, value, waiter) {
                 Some(owner) => {
-                    raise_sends(hub, pass, who, c, place + 1);
+                    raise_sends(hub, pass, who, c, from, place + 1);
                     return Some((place, owner));
                 }
                 None => {}
             },
-            At::Closed(_) => return None,
+            At::Closed(_) => {
+                raise_sends(hub, pass, who, c, from, place);
+                return None;
+            }
             At::Open => unreachable!(),
             At::Spent | At::Placed | At::Put | At::Kept(_) => unreachable!(),
             At::Gone => {}

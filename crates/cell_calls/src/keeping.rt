@@ -68,7 +68,7 @@ pub fn trim(
                     return None;
                 }
                 if remove_kept(hub, pass, who, c, first, value, Removal::Drop) {
-                    raise_receives(hub, pass, who, c, first + 1);
+                    raise_receives(hub, pass, who, c, from, first + 1);
                     return Some((first, value));
                 }
             }

@@ -31,7 +31,11 @@
 //! resolved by another between the look and the exchange; then the clause has a place at which it does not stand.
 //!
 //! **Handed** needs that the channel was open at a moment of the call, and a receiver may still stand in a channel that was closed. So an
-//! offer looks for the end of the channel first.
+//! offer looks at the receiver's wait, then from its place on for the end of the channel, and then resolves the wait. Of a receiver that
+//! is gone it looks at the wait alone.
+//!
+//! **A counter is raised** at the end of a walk, also of one that made no entry, past the places where nobody of the other side stands. So
+//! who tries again and again does not pass the same waits again that were withdrawn.
 //!
 //! - `desk`: the floor.
 //! - `sending`, `receiving`: offers and receives.
@@ -41,6 +45,7 @@
 //! - `waiting`: the own wait.
 //! - `cancelling`: a closed channel is cancelled, and emptied.
 //! - `keeping`: an offer is kept from now on, and the oldest element is dropped.
+//! - `way`: which places a walk passed.
 #![tactic(auto)]
 
 mod cancelling;
@@ -52,6 +57,7 @@ mod registering;
 mod removing;
 mod sending;
 mod waiting;
+mod way;
 
 pub use cancelling::{drain, void};
 pub use desk::{Desk, DeskAnchor};

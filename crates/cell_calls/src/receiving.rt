@@ -10,6 +10,7 @@ ghost use Rattle.cell_calls.specs.HubFloors.{hub_floor};
 ghost use Rattle.cell_calls.specs.Walks.{ReceiveHere, ReceiveWalked};
 
 use crate::removing::remove_offer;
+use crate::way::Way;
 use cell_words::{
     At, Hub, Pass, Removal, await_at, places_of, raise_receives, receives_from, remove_kept,
     try_await_at,
@@ -42,22 +43,25 @@ fn await_here(hub: &Hub, pass: &mut Pass, who: Tag, c: ChannelId, place: Place, 
     }
 }
 
-/// Receives the first offer, or places a receiver if the caller may wait.
-fn walk(hub: &Hub, pass: &mut Pass, who: Tag, c: ChannelId, waits: bool) -> ReceiveWalk
+/// Receives the first offer, or places a receiver if the caller may wait; and which places the walk passed.
+fn walk_cells(hub: &Hub, pass: &mut Pass, who: Tag, c: ChannelId, waits: bool) -> (ReceiveWalk, Way)
     requires of { IsOf hub.now pass.old }
     requires can { MayCall who c (hub_floor hub.now pass.old) }
-    ensures of { IsOf hub.now pass.new }
+    ensures own { IsOwn hub.now pass.new who }
     ensures giving { SameGiving pass.old pass.new }
-    ensures walked { ReceiveWalked waits who c (hub_floor hub.now pass.old) (hub_floor hub.now pass.new) result }
+    ensures low { NoneBelow 0 result.1.to (at_channel (seen_by pass.new).seen c) }
+    ensures walked { ReceiveWalked waits who c (hub_floor hub.now pass.old) (hub_floor hub.now pass.new) result.0 }
 {
     let places = places_of(hub, c);
     let from = receives_from(hub, pass, who, c);
     for place in from..places + 1 {
+        let here = Way { from, to: place };
+        let past = Way {
+            from,
+            to: place + 1,
+        };
         match await_here(hub, pass, who, c, place, waits) {
-            At::Placed => {
-                raise_receives(hub, pass, who, c, place + 1);
-                return ReceiveWalk::Waiting(place);
-            }
+            At::Placed => return (ReceiveWalk::Waiting(place), past),
             At::Waiting(waiter) => match remove_offer(
                 hub,
                 pass,
@@ -68,25 +72,38 @@ fn walk(hub: &Hub, pass: &mut Pass, who: Tag, c: ChannelId, waits: bool) -> Rece
                 Removal::Take,
             ) {
                 Some(owner) => {
-                    raise_receives(hub, pass, who, c, place + 1);
-                    return ReceiveWalk::Taken(place, waiter.value, owner);
+                    let taken = ReceiveWalk::Taken(place, waiter.value, owner);
+                    return (taken, past);
                 }
                 None => {}
             },
             At::Kept(value) => {
                 if remove_kept(hub, pass, who, c, place, value, Removal::Take) {
-                    raise_receives(hub, pass, who, c, place + 1);
-                    return ReceiveWalk::Taken(place, value, None);
+                    let taken = ReceiveWalk::Taken(place, value, None);
+                    return (taken, past);
                 }
             }
-            At::Open => return ReceiveWalk::Empty,
-            At::Closed(v) => return ReceiveWalk::Closed(v),
-            At::Spent => return ReceiveWalk::Spent,
+            At::Open => return (ReceiveWalk::Empty, here),
+            At::Closed(v) => return (ReceiveWalk::Closed(v), here),
+            At::Spent => return (ReceiveWalk::Spent, here),
             At::Put => unreachable!(),
             At::Gone => {}
         }
     }
     unreachable!()
+}
+
+/// Receives by a walk, and raises the receive counter past the places where no offer stands any more.
+fn walk(hub: &Hub, pass: &mut Pass, who: Tag, c: ChannelId, waits: bool) -> ReceiveWalk
+    requires of { IsOf hub.now pass.old }
+    requires can { MayCall who c (hub_floor hub.now pass.old) }
+    ensures of { IsOf hub.now pass.new }
+    ensures giving { SameGiving pass.old pass.new }
+    ensures walked { ReceiveWalked waits who c (hub_floor hub.now pass.old) (hub_floor hub.now pass.new) result }
+{
+    let (walked, way) = walk_cells(hub, pass, who, c, waits);
+    raise_receives(hub, pass, who, c, way.from, way.to);
+    walked
 }
 
 /// Receives the first offer, or places a receiver.

@@ -11,8 +11,11 @@ ghost use Rattle.cell_words.specs.Answers.{Receives};
 ghost use Rattle.cell_calls.specs.HubFloors.{hub_floor};
 ghost use Rattle.cell_calls.specs.Walks.{GivenAt, OfferWalked};
 
-use crate::ending::find_closed;
-use cell_words::{At, Hub, Pass, Waiter, hand, offer_at, places_of, raise_sends, sends_from};
+use crate::ending::find_closed_from;
+use crate::way::Way;
+use cell_words::{
+    At, Hub, Pass, Waiter, hand, offer_at, places_of, raise_sends, receiver_stands, sends_from,
+};
 use channel_model::{Offered, TriedOffer};
 use co_base::{ChannelId, Place, Tag, Value};
 
@@ -55,7 +58,10 @@ fn give(
     ensures own { IsOwn hub.now pass.new who }
     ensures given { GivenAt who c place value (seen_by pass.old) (seen_by pass.new) result }
 {
-    match find_closed(hub, pass, who, c) {
+    if !receiver_stands(hub, pass, who, c, place, waiter) {
+        return Given::Gone;
+    }
+    match find_closed_from(hub, pass, who, c, place) {
         Some(v) => Given::Closed(v),
         None => match hand(hub, pass, who, c, place, value, waiter) {
             Some(owner) => Given::Receiver(owner),
@@ -64,7 +70,51 @@ fn give(
     }
 }
 
-/// Gives the element to the receiver that stands first, or puts it, or places an offer if the caller may wait.
+/// Gives the element to the receiver that stands first, or puts it, or places an offer if the caller may wait; and which places the walk
+/// passed.
+fn walk_cells(
+    hub: &Hub,
+    pass: &mut Pass,
+    who: Tag,
+    c: ChannelId,
+    value: Value,
+    waits: bool,
+) -> (OfferWalk, Way)
+    requires of { IsOf hub.now pass.old }
+    requires can { MayCall who c (hub_floor hub.now pass.old) }
+    requires kind { is_signal (kind_at (shape_of hub.now) c) ≡ false }
+    ensures own { IsOwn hub.now pass.new who }
+    ensures giving { SameGiving pass.old pass.new }
+    ensures low { NoneBelow result.1.to 0 (at_channel (seen_by pass.new).seen c) }
+    ensures walked { OfferWalked waits who c value (hub_floor hub.now pass.old) (hub_floor hub.now pass.new) result.0 }
+{
+    let places = places_of(hub, c);
+    let from = sends_from(hub, pass, who, c);
+    for place in from..places + 1 {
+        let here = Way { from, to: place };
+        let past = Way {
+            from,
+            to: place + 1,
+        };
+        match offer_at(hub, pass, who, c, place, value, waits) {
+            At::Placed => return (OfferWalk::Held(place), past),
+            At::Put => return (OfferWalk::Put(place), past),
+            At::Waiting(waiter) => match give(hub, pass, who, c, place, value, waiter) {
+                Given::Receiver(owner) => return (OfferWalk::Handed(place, owner), past),
+                Given::Closed(v) => return (OfferWalk::Closed(v), here),
+                Given::Gone => {}
+            },
+            At::Open => return (OfferWalk::Full, here),
+            At::Closed(v) => return (OfferWalk::Closed(v), here),
+            At::Spent => return (OfferWalk::Spent, here),
+            At::Kept(_) => unreachable!(),
+            At::Gone => {}
+        }
+    }
+    unreachable!()
+}
+
+/// Offers by a walk, and raises the send counter past the places where nobody receives any more.
 fn walk(hub: &Hub, pass: &mut Pass, who: Tag, c: ChannelId, value: Value, waits: bool) -> OfferWalk
     requires of { IsOf hub.now pass.old }
     requires can { MayCall who c (hub_floor hub.now pass.old) }
@@ -73,34 +123,9 @@ fn walk(hub: &Hub, pass: &mut Pass, who: Tag, c: ChannelId, value: Value, waits:
     ensures giving { SameGiving pass.old pass.new }
     ensures walked { OfferWalked waits who c value (hub_floor hub.now pass.old) (hub_floor hub.now pass.new) result }
 {
-    let places = places_of(hub, c);
-    let from = sends_from(hub, pass, who, c);
-    for place in from..places + 1 {
-        match offer_at(hub, pass, who, c, place, value, waits) {
-            At::Placed => {
-                raise_sends(hub, pass, who, c, place + 1);
-                return OfferWalk::Held(place);
-            }
-            At::Put => {
-                raise_sends(hub, pass, who, c, place + 1);
-                return OfferWalk::Put(place);
-            }
-            At::Waiting(waiter) => match give(hub, pass, who, c, place, value, waiter) {
-                Given::Receiver(owner) => {
-                    raise_sends(hub, pass, who, c, place + 1);
-                    return OfferWalk::Handed(place, owner);
-                }
-                Given::Closed(v) => return OfferWalk::Closed(v),
-                Given::Gone => {}
-            },
-            At::Open => return OfferWalk::Full,
-            At::Closed(v) => return OfferWalk::Closed(v),
-            At::Spent => return OfferWalk::Spent,
-            At::Kept(_) => unreachable!(),
-            At::Gone => {}
-        }
-    }
-    unreachable!()
+    let (walked, way) = walk_cells(hub, pass, who, c, value, waits);
+    raise_sends(hub, pass, who, c, way.from, way.to);
+    walked
 }
 
 /// Gives the element to the receiver that stands first, or places it.

@@ -73,6 +73,15 @@ module _ {A : Type 0} where
   pub count_next : (f : ℕ → Option A) (n k : ℕ) → length (gather f n) ≤ k → length (gather f (n + 1)) ≤ k + 1
   count_next f n k h = let m = count_any f n in omega arith
 
+  -- no more than there are places
+  pub count_within : (f : ℕ → Option A) (n k d m : ℕ) → m ≡ n + d → length (gather f n) ≤ k → length (gather f m) ≤ k + d
+  count_within f n k zero m e h = let is : n ≡ m = omega arith in subst (λ (z : ℕ). length (gather f z) ≤ k + 0) is (omega arith)
+  count_within f n k (suc d) m e h =
+      let ih = count_within f n k d (n + d) refl h in
+      let more = count_any f (n + d) in
+      let is : (n + d) + 1 ≡ m = omega arith in
+      subst (λ (z : ℕ). length (gather f z) ≤ k + suc d) is (omega arith)
+
   -- fewer stand where some are gone
   pub count_less : (f g : ℕ → Option A) (n : ℕ) → ((q : ℕ) → q < n → f q ≡ None → g q ≡ None) → length (gather g n) ≤ length (gather f n)
   count_less f g zero h = omega arith

@@ -1,5 +1,5 @@
 -- A wait that is resolved by another: who it is of, and that it stays while others look.
-use Rattle.std.proofs.Common.{Bool, true, false, ◌≡◌, ◌≢◌, ◌⊎◌, ℕ, ◌+◌, List, sym, refl, ap, ◌∙◌, subst}
+use Rattle.std.proofs.Common.{Bool, true, false, ◌≡◌, ◌≢◌, ◌⊎◌, ℕ, ◌+◌, ◌≤◌, List, sym, refl, ap, ◌∙◌, subst, arith}
 use Rattle.co_base.specs.declared.names.WaitId.{WaitId}
 use Rattle.channel_model.specs.declared.acts.Entry.{Entry}
 use Rattle.channel_model.specs.Channels.{Shape}
@@ -14,10 +14,12 @@ use Rattle.cell_words.specs.Words.{number}
 use Rattle.cell_words.specs.declared.found.Waiter.{Waiter}
 use Rattle.cell_words.specs.declared.wait_word.WaitWord.{WaitWord}
 use Rattle.cell_words.specs.Cells.{receiver, offer, cell_of}
-use Rattle.cell_words.specs.Codes.{packed_wait}
+use Rattle.cell_words.specs.Codes.{packed_wait, resolver_code}
+use Rattle.cell_words.specs.declared.wait_word.ResolvedBy.{ResolvedBy}
+use Rattle.cell_words.specs.declared.wait_word.ResolvedBy.TheVariants as by
 use Rattle.channel_model.specs.Laws.{NoneBelow}
 use Rattle.cell_words.specs.Seen.{Seen, Sees, at_channel}
-use Rattle.cell_words.specs.Looks.{owner_told, holder_of, lets_stand, tried_by, tried_found}
+use Rattle.cell_words.specs.Looks.{is_nobody, owner_told, holder_of, lets_stand, tried_by, tried_found}
 use Rattle.cell_words.specs.Answers.{IsCellWord, IsWaitWord, IsNumberedWait, Receives, Offers, OwnerAnswer, RemoveAnswer, MayRemoveHeld}
 use Rattle.cell_words.proofs.CellsLast.{resolved_more, receiver_more, offer_more}
 use Rattle.cell_words.proofs.LooksAtCells.{hub_legal, sees_then, home_owner}
@@ -66,3 +68,17 @@ take_tried by shape v w who c p x l s low o word is ne = by_test (lets_stand wor
 -- what a removal of a held offer asks, after some looks
 pub held_seen_may : (shape : Shape) (by : Removal) (c : ℕ) (u v : Seen) → Sees u v → Legal shape v.seen → MayRemoveHeld by c u.seen → MayRemoveHeld by c v.seen
 held_seen_may shape by c u v s l h = subst (λ (es : List Entry). MayRemoveHeld by c es) (sym s.now) (held_later shape by c u.seen s.others (subst (Legal shape) s.now l) h)
+
+-- the word of a wait that somebody resolved is not that of one that stands
+by_code : (b : ResolvedBy) → is_nobody b ≡ false → 1 ≤ resolver_code b
+by_code by.Nobody h = cc
+by_code by.Hand h = omega arith
+by_code by.Take h = omega arith
+by_code by.Admit h = omega arith
+by_code by.Close h = omega arith
+by_code by.Cancel h = omega arith
+by_code by.Revoke h = omega arith
+by_code by.Void h = omega arith
+
+pub somebody_word : (word : WaitWord) (b : Bool) → b ≡ is_nobody word.by → b ≡ false → packed_wait word ≡ 0 → ⊥
+somebody_word word b is nobody e = let m = by_code word.by (sym is ∙ nobody) in omega (arith, e)

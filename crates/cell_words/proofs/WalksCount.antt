@@ -26,7 +26,7 @@ use Rattle.cell_words.specs.Seen.{Seen, at_channel, Sees}
 use Rattle.cell_words.specs.Looks.{holder_of, found_by_sender, found_by_receiver, lets_stand}
 use Rattle.cell_words.specs.Answers.{IsCellWord, IsWaitWord, IsHolder, stands, OfferAt, OfferHere, ReceiveAt, TriedReceiveAt}
 use Rattle.cell_words.proofs.GatheredLists.{gather_none}
-use Rattle.cell_words.proofs.CountsOfOffers.{gone_more, stood_before, count_some, count_none, count_next, count_less, count_up}
+use Rattle.cell_words.proofs.CountsOfOffers.{gone_more, stood_before, count_some, count_none, count_next, count_less, count_up, count_within}
 use Rattle.cell_words.proofs.ExchangesTell.{stood_at, gone_at}
 use Rattle.cell_words.proofs.LooksAtCells.{holder_is, state_free, sees_then, sees_makes, given_seen}
 use Rattle.cell_words.proofs.CellsTellFacts.{now, tied_now, free_end, none_offers, none_line, none_queue}
@@ -180,6 +180,15 @@ count_end most count first last h k = go (nat_le most count) refl
 
 pub upper_end : (c place end count : ℕ) (first v : Seen) → place ≤ end → end ≤ place → Counted c place count first v → length (gather (stands v.seen c) end) ≤ count
 upper_end c place end count first v le ge h = subst (λ (n : ℕ). length (gather (stands v.seen c) n) ≤ count) (omega arith) h.upper
+
+-- where the places that are left are too few
+pub too_few : (c place end count most : ℕ) (first v : Seen) → place ≤ end → count ≤ most → end - place < most - count → Counted c place count first v → length (gather (stands v.seen c) end) < most
+too_few c place end count most first v le few lt h =
+    let m = count_within (stands v.seen c) place count (end - place) end (omega arith) h.upper in omega arith
+
+-- where all places are too few
+pub few_places : (c end most : ℕ) (v : Seen) → end < most → length (gather (stands v.seen c) end) < most
+few_places c end most v lt = let m = count_within (stands v.seen c) 0 0 end end (omega arith) (omega arith) in omega arith
 
 pub less_than : (n m : ℕ) → n ≤ m → (n ≡ m → ⊥) → n + 1 ≤ m
 less_than n m le ne = dite (ℕ_discrete n m) (λ e. absurd (ne e)) (λ no. omega arith)

@@ -35,15 +35,17 @@ pub fn sends_from(hub: &Hub, pass: &mut Pass, who: Tag, c: ChannelId) -> Place
     load_word(hub, pass, who, send_word(hub, c)) as Place
 }
 
-/// Says that no receiver stands below a place.
-pub fn raise_sends(hub: &Hub, pass: &mut Pass, who: Tag, c: ChannelId, place: Place)
+/// Says that no receiver stands below a place, if that is four places or more past where the caller began to look.
+pub fn raise_sends(hub: &Hub, pass: &mut Pass, who: Tag, c: ChannelId, from: Place, place: Place)
     requires own { IsOwn hub.now pass.old who }
     requires channel { c < length (shape_of hub.now) }
     requires low { NoneBelow place 0 (at_channel (seen_by pass.old).seen c) }
     ensures own { IsOwn hub.now pass.new who }
     ensures same { seen_by pass.new ≡ seen_by pass.old }
 {
-    lift_word(hub, pass, who, send_word(hub, c), place as u64);
+    if place >= 4 && place - 4 >= from {
+        lift_word(hub, pass, who, send_word(hub, c), place as u64);
+    }
 }
 
 /// A place below which no offer stands.
@@ -57,13 +59,15 @@ pub fn receives_from(hub: &Hub, pass: &mut Pass, who: Tag, c: ChannelId) -> Plac
     load_word(hub, pass, who, receive_word(hub, c)) as Place
 }
 
-/// Says that no offer stands below a place.
-pub fn raise_receives(hub: &Hub, pass: &mut Pass, who: Tag, c: ChannelId, place: Place)
+/// Says that no offer stands below a place, if that is four places or more past where the caller began to look.
+pub fn raise_receives(hub: &Hub, pass: &mut Pass, who: Tag, c: ChannelId, from: Place, place: Place)
     requires own { IsOwn hub.now pass.old who }
     requires channel { c < length (shape_of hub.now) }
     requires low { NoneBelow 0 place (at_channel (seen_by pass.old).seen c) }
     ensures own { IsOwn hub.now pass.new who }
     ensures same { seen_by pass.new ≡ seen_by pass.old }
 {
-    lift_word(hub, pass, who, receive_word(hub, c), place as u64);
+    if place >= 4 && place - 4 >= from {
+        lift_word(hub, pass, who, receive_word(hub, c), place as u64);
+    }
 }

@@ -87,6 +87,10 @@ fn count_from(
         if count == most {
             return true;
         }
+        // The places that are left are too few.
+        if end - place < most - count {
+            return false;
+        }
         if stands_at(hub, pass, who, c, place) {
             count += 1;
         }
@@ -105,6 +109,10 @@ fn count_below(hub: &Hub, pass: &mut Pass, who: Tag, c: ChannelId, end: Place, m
         (most ≤ length (gather (stands (seen_by pass.old).seen c) end))
         (length (gather (stands (seen_by pass.new).seen c) end) < most) }
 {
+    // Fewer places: nothing is loaded.
+    if end < most {
+        return false;
+    }
     let from = offers_from(hub, pass, who, c, end);
     count_from(hub, pass, who, c, from, end, most)
 }

@@ -45,10 +45,12 @@
 //! **Walks.** A caller comes from below, from a counter on, below which nobody of the other side stands. `offer_at` and `await_at` say
 //! what is at one place; the answer is a fact of the moment of their last load. An offer waits only where the channel was full: it counts
 //! the offers from the receive counter to the free end by one walk. Each that is found later stood at the beginning, so that either all
-//! stood then, or fewer do at the end. A walk for an offer to admit counts too: once it has found as many kept elements as the channel
-//! keeps, it looks at the first of them again. While that stands the others do, so none may be admitted; else the walk begins anew above
-//! it. No word is loaded after an exchange that made an entry, and a counter is raised by a step that shows nothing, so that the own
-//! entry is the last that was seen.
+//! stood then, or fewer do at the end. Where fewer places are left than would have to be offers, there is room, and none of them is
+//! looked at. A walk for an offer to admit counts too: once it has found as many kept elements as the channel keeps, it looks at the
+//! first of them again. While that stands the others do, so none may be admitted; else the walk begins anew above it. No word is loaded
+//! after an exchange that made an entry, and a counter is raised by a step that shows nothing, so that the own entry is the last that was
+//! seen. It is raised where the walk passed four places or more: each raise takes the counter's line from the other side, and a few places
+//! more to look at cost less than that.
 //!
 //! **The history.** It is that of the channels, a list of entries; all words are a function of it, but for the counters (`Words` has it).
 //! A `Pass` has seen a beginning of the history, and all entries of its own tags; the one that gives out tags has seen none of a tag

@@ -198,8 +198,8 @@ pub fn await_clause_at(
     wait_clause_at(hub, pass, who, main, clause, c, place)
 }
 
-// Whether nobody resolved a wait.
-fn is_nobody(word: WaitWord) -> bool
+/// Whether nobody resolved a wait.
+pub(crate) fn is_nobody(word: WaitWord) -> bool
     ensures { result ≡ is_nobody word.by }
 {
     match word.by {

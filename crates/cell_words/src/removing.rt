@@ -15,6 +15,7 @@ use crate::found::{Holder, Removal, Tried, Waiter};
 use crate::hub::Hub;
 use crate::looks::{plain_cell, standing_wait, tried_found};
 use crate::pass::Pass;
+use crate::registering::is_nobody;
 use crate::resolving::{owner_of, wait_cell};
 use crate::wait_word::{ResolvedBy, WaitWord};
 use channel_model::{Act, Entry};
@@ -84,6 +85,11 @@ pub fn remove(
             return tried_found(word, waiter.clause);
         }
     };
+    // An exchange that is bound to fail would only take the line from whoever resolved the wait.
+    let seen = load_wait(hub, pass, who, cell);
+    if !is_nobody(seen) {
+        return tried_found(seen, waiter.clause);
+    }
     let entry = removal_entry(who, removal, c, place, waiter.value);
     let new = removed_wait(removal, waiter.clause);
     match exchange_wait(hub, pass, who, cell, standing_wait(), new, &entry) {

@@ -1,11 +1,12 @@
-use Rattle.std.proofs.Common.{None, inl, sym, subst, ◌∙◌}
-use Rattle.channel_model.specs.Answers.{StandsNothing}
+use Rattle.std.proofs.Common.{None, inl, sym, ap, subst, ◌∙◌}
+use Rattle.channel_model.specs.Answers.{StandsNothing, DrainAnswer}
 use Rattle.cell_words.specs.declared.found.Removal.TheVariants as removal
 use Rattle.cell_words.specs.Hubs.{shape_of}
-use Rattle.cell_words.specs.Seen.{Makes}
+use Rattle.cell_words.specs.Seen.{Makes, tags_given}
 use Rattle.cell_words.specs.Answers.{RemovesFrom}
-use Rattle.cell_words.proofs.LooksAtCells.{hub_legal, sees_then}
-use Rattle.cell_calls.proofs.CallsTell.{too_far, seen_of, drained_of, voided_seen}
+use Rattle.cell_words.proofs.LooksAtCells.{hub_legal, below_seen, sees_then}
+use Rattle.cell_calls.specs.HubFloors.{hub_floor}
+use Rattle.cell_calls.proofs.CallsTell.{too_far, same_floor, seen_of, drained_of, voided_seen}
 use Rattle.cell_calls.proofs.PlacesPassed.{removed_past}
 use Rattle.cell_calls.proofs.cancelling.drain.Goals.{in-Waiting+in-None, in-Kept+else-remove_kept, in-Gone}
 use Rattle.cell_calls.proofs.cancelling.drain.Goals as goal
@@ -45,11 +46,16 @@ pub returns-then-remove_kept-clause-giving : goal.returns-then-remove_kept-claus
 returns-then-remove_kept-clause-giving c =
     (subst (RemovesFrom removal.Drain c.args.who c.args.c c.loop-place.place _ None c.try_await_at.new.pass.seat.me.0) (sym c.raise_receives-then-remove_kept.ensures.same) c.if-remove_kept.ensures.removed).made.giving ∙ c.in-Kept.ensures.at.0.giving ∙ c.loop-place.invariant.sees.giving
 
+pub raise_receives-requires-in-Closed-clause-low : goal.raise_receives-requires-in-Closed-clause-low
+raise_receives-requires-in-Closed-clause-low c = below_seen (shape_of c.args.hub.now) 0 c.loop-place.place c.args.c c.loop-place.pass.seat.me.0 c.try_await_at.new.pass.seat.me.0 c.in-Closed.ensures.at.0 (hub_legal c.args.hub.now c.try_await_at.new.pass c.try_await_at.ensures.own.0) c.loop-place.invariant.low
+
 pub returns-in-Closed-clause-answer : goal.returns-in-Closed-clause-answer
-returns-in-Closed-clause-answer c = let t = c.in-Closed.ensures.at in seen_of c.args.hub.now c.args.who c.args.pass.now c.try_await_at.new.pass (StandsNothing c.args.c) c.requires.can.caller (sees_then _ _ _ c.loop-place.invariant.sees t.0) t.2
+returns-in-Closed-clause-answer c = let t = c.in-Closed.ensures.at in
+    same_floor c.args.hub.now c.try_await_at.new.pass c.raise_receives-in-Closed.new.pass (λ f. DrainAnswer c.args.who c.args.c (hub_floor c.args.hub.now c.args.pass.now) f None) c.raise_receives-in-Closed.ensures.same
+    (seen_of c.args.hub.now c.args.who c.args.pass.now c.try_await_at.new.pass (StandsNothing c.args.c) c.requires.can.caller (sees_then _ _ _ c.loop-place.invariant.sees t.0) t.2)
 
 pub returns-in-Closed-clause-giving : goal.returns-in-Closed-clause-giving
-returns-in-Closed-clause-giving c = c.in-Closed.ensures.at.0.giving ∙ c.loop-place.invariant.sees.giving
+returns-in-Closed-clause-giving c = ap tags_given c.raise_receives-in-Closed.ensures.same ∙ c.in-Closed.ensures.at.0.giving ∙ c.loop-place.invariant.sees.giving
 
 pub returns-in-Open-clause-answer : goal.returns-in-Open-clause-answer
 returns-in-Open-clause-answer c = let t = c.in-Open.ensures.at in seen_of c.args.hub.now c.args.who c.args.pass.now c.try_await_at.new.pass (StandsNothing c.args.c) c.requires.can.caller (sees_then _ _ _ c.loop-place.invariant.sees t.0) t.1.nothing

@@ -1,19 +1,5 @@
-use Rattle.cell_words.specs.Hubs.{shape_of}
-use Rattle.cell_words.proofs.LooksAtCells.{hub_legal, sees_then}
-use Rattle.cell_calls.proofs.CallsTell.{too_far}
+use Rattle.cell_words.proofs.LooksAtCells.{sees_then}
 use Rattle.cell_calls.proofs.ending.find_end.Goals as goal
 
-pub returns-in-Open-clause-sees : goal.returns-in-Open-clause-sees
-returns-in-Open-clause-sees c = sees_then _ _ _ c.loop-place.invariant.sees c.end_at.ensures.sees
-
-pub returns-in-Closed-clause-sees : goal.returns-in-Closed-clause-sees
-returns-in-Closed-clause-sees c = sees_then _ _ _ c.loop-place.invariant.sees c.end_at.ensures.sees
-
-pub loop-place-preserved : goal.loop-place-preserved
-loop-place-preserved c = record { own = c.end_at.ensures.own; sees = sees_then _ _ _ c.loop-place.invariant.sees c.end_at.ensures.sees; given = c.in-Used.ensures.end }
-
-pub unreachable-requires : goal.unreachable-requires
-unreachable-requires c = too_far (shape_of c.args.hub.now) c.loop-place.pass.seat.me.0.seen c.args.c c.loop-place.place c.places_of-places.result (hub_legal c.args.hub.now c.loop-place.pass c.loop-place.invariant.own.0) c.loop-place.invariant.given c.places_of-places.ensures c.loop-place-test.false
-
-pub loop-place-init : goal.loop-place-init
-loop-place-init c = record { own = c.end_from-from.ensures.own; sees = c.end_from-from.ensures.sees; given = c.end_from-from.ensures.given }
+pub returns-clause-sees : goal.returns-clause-sees
+returns-clause-sees c = sees_then _ _ _ c.end_from-from.ensures.sees c.find_end_from.ensures.sees

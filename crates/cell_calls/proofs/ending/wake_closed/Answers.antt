@@ -1,10 +1,12 @@
 use Rattle.std.proofs.Common.{sym, ap, subst, ◌∙◌}
-use Rattle.std.specs.Prelude.{is_some}
-use Rattle.channel_model.specs.Answers.{StandsNobody}
+use Rattle.std.specs.Prelude.{None, is_some}
+use Rattle.channel_model.specs.Answers.{StandsNobody, WakeAnswer}
 use Rattle.cell_words.specs.Hubs.{shape_of}
+use Rattle.cell_words.specs.Seen.{tags_given}
 use Rattle.cell_words.specs.Answers.{Wakes}
-use Rattle.cell_words.proofs.LooksAtCells.{hub_legal, sees_then}
-use Rattle.cell_calls.proofs.CallsTell.{too_far, seen_of, woken_of, closed_seen, not_open}
+use Rattle.cell_words.proofs.LooksAtCells.{hub_legal, below_seen, sees_then}
+use Rattle.cell_calls.specs.HubFloors.{hub_floor}
+use Rattle.cell_calls.proofs.CallsTell.{too_far, same_floor, seen_of, woken_of, closed_seen, not_open}
 use Rattle.cell_calls.proofs.PlacesPassed.{woken_past}
 use Rattle.cell_calls.proofs.ending.wake_closed.Goals.{in-Waiting+in-None-wake, in-Gone}
 use Rattle.cell_calls.proofs.ending.wake_closed.Goals as goal
@@ -27,11 +29,16 @@ pub returns-in-Some-wake-clause-giving : goal.returns-in-Some-wake-clause-giving
 returns-in-Some-wake-clause-giving c =
     (subst (Wakes c.args.who c.args.c c.loop-place.place _ c.receiver_at.new.pass.seat.me.0) (sym c.raise_sends.ensures.same) c.in-Some-wake.ensures.woken).made.giving ∙ c.in-Waiting.ensures.at.0.giving ∙ c.loop-place.invariant.sees.giving
 
+pub raise_sends-requires-in-Closed-clause-low : goal.raise_sends-requires-in-Closed-clause-low
+raise_sends-requires-in-Closed-clause-low c = below_seen (shape_of c.args.hub.now) c.loop-place.place 0 c.args.c c.loop-place.pass.seat.me.0 c.receiver_at.new.pass.seat.me.0 c.in-Closed.ensures.at.0 (hub_legal c.args.hub.now c.receiver_at.new.pass c.receiver_at.ensures.own.0) c.loop-place.invariant.low
+
 pub returns-in-Closed-clause-answer : goal.returns-in-Closed-clause-answer
-returns-in-Closed-clause-answer c = let t = c.in-Closed.ensures.at in seen_of c.args.hub.now c.args.who c.args.pass.now c.receiver_at.new.pass (StandsNobody c.args.c) c.requires.can.caller (sees_then _ _ _ c.loop-place.invariant.sees t.0) t.2
+returns-in-Closed-clause-answer c = let t = c.in-Closed.ensures.at in
+    same_floor c.args.hub.now c.receiver_at.new.pass c.raise_sends-in-Closed.new.pass (λ f. WakeAnswer c.args.who c.args.c (hub_floor c.args.hub.now c.args.pass.now) f None) c.raise_sends-in-Closed.ensures.same
+    (seen_of c.args.hub.now c.args.who c.args.pass.now c.receiver_at.new.pass (StandsNobody c.args.c) c.requires.can.caller (sees_then _ _ _ c.loop-place.invariant.sees t.0) t.2)
 
 pub returns-in-Closed-clause-giving : goal.returns-in-Closed-clause-giving
-returns-in-Closed-clause-giving c = c.in-Closed.ensures.at.0.giving ∙ c.loop-place.invariant.sees.giving
+returns-in-Closed-clause-giving c = ap tags_given c.raise_sends-in-Closed.ensures.same ∙ c.in-Closed.ensures.at.0.giving ∙ c.loop-place.invariant.sees.giving
 
 pub unreachable-requires-in-Open : goal.unreachable-requires-in-Open
 unreachable-requires-in-Open c = let t = c.in-Open.ensures.at in not_open (shape_of c.args.hub.now) c.args.c c.loop-place.pass.seat.me.0 c.receiver_at.new.pass.seat.me.0 t.0 (hub_legal c.args.hub.now c.receiver_at.new.pass c.receiver_at.ensures.own.0) (ap is_some c.loop-place.invariant.closed) t.2

@@ -4,7 +4,7 @@ use Rattle.cell_words.specs.Hubs.{shape_of}
 use Rattle.cell_words.specs.Seen.{at_channel}
 use Rattle.cell_words.specs.Answers.{stands}
 use Rattle.cell_words.proofs.LooksAtCells.{hub_legal, sees_then, given_seen}
-use Rattle.cell_words.proofs.WalksCount.{counted_low, counted_stands, counted_gone, lower_end, upper_end, count_end, less_than}
+use Rattle.cell_words.proofs.WalksCount.{counted_low, counted_stands, counted_gone, lower_end, upper_end, count_end, less_than, too_few}
 use Rattle.cell_words.proofs.WalksToAdmit.{sees_self}
 use Rattle.cell_words.proofs.counting.count_from.Goals.{then-stands_at, else-stands_at}
 use Rattle.cell_words.proofs.counting.count_from.Goals as goal
@@ -52,3 +52,6 @@ loop-place-init c = let u = c.args.pass.now.seat.me.0 in record {
   counted = counted_low (shape_of c.args.hub.now) c.args.c c.args.from u (hub_legal c.args.hub.now c.args.pass.now c.requires.own.0) c.requires.low;
   few = omega arith;
 }
+
+pub returns-then-end-place-clause-count : goal.returns-then-end-place-clause-count
+returns-then-end-place-clause-count c = too_few c.args.c c.loop-place.place c.args.end c.loop-place.count c.args.most c.args.pass.now.seat.me.0 c.loop-place.pass.seat.me.0 (c.loop-place.auto.place-end c.requires.from) c.loop-place.invariant.few c.if-end-place.true c.loop-place.invariant.counted

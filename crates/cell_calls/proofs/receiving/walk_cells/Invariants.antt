@@ -1,11 +1,11 @@
-use Rattle.std.proofs.Common.{◌≤◌}
+use Rattle.channel_model.specs.Laws.{NoneBelow}
 use Rattle.cell_words.specs.Hubs.{IsOwn, seen_by}
 use Rattle.cell_words.specs.Seen.{Sees, at_channel}
-use Rattle.cell_calls.proofs.ending.find_end.Given as goal
+use Rattle.cell_calls.proofs.receiving.walk_cells.Given as goal
 
 abbrev pub invariant-loop-place : goal.invariant-loop-place
 invariant-loop-place l = record {
   own : IsOwn l.hub l.pass l.who;
   sees : Sees (seen_by l.fn.pass) (seen_by l.pass);
-  given : l.place ≤ (at_channel (seen_by l.pass).seen l.c).next;
+  low : NoneBelow 0 l.place (at_channel (seen_by l.pass).seen l.c);
 }
