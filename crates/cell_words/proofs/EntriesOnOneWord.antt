@@ -1,5 +1,5 @@
 -- Each entry that a step makes is legal, and changes one word.
-use Rattle.std.proofs.Common.{◌≡◌, ◌≢◌, ℕ, ◌<◌, ◌≤◌, Bool, true, false, List, [], ◌∷◌, ◌++◌, length, if◌then◌else◌, Option, Some, None, sym, refl, ap, ◌∙◌, subst, arith}
+use Rattle.std.proofs.Common.{◌≡◌, ◌≢◌, ℕ, ◌/◌, ◌%◌, ◌<◌, ◌≤◌, Bool, true, false, List, [], ◌∷◌, ◌++◌, length, if◌then◌else◌, Option, Some, None, sym, refl, ap, ◌∙◌, subst, arith}
 use Rattle.channel_model.specs.Laws.{NoneBelow}
 use Rattle.co_base.specs.declared.names.WaitId.{WaitId}
 use Rattle.channel_model.specs.declared.acts.Act.{Act}
@@ -26,12 +26,13 @@ use Rattle.cell_words.specs.declared.found.Removal.{Removal}
 use Rattle.cell_words.specs.declared.found.Removal.TheVariants as removal
 use Rattle.cell_words.specs.Removals.{removal_act, how_removed}
 use Rattle.cell_words.specs.Answers.{MayRemoveHeld}
-use Rattle.cell_words.proofs.OneNumberOneWord.{number_apart, cell_not_wait, wait_not_send, cell_not_receive, cell_not_send, wait_not_receive, same_number, same_number_odd}
+use Rattle.cell_words.proofs.OneNumberOneWord.{number_apart, cell_not_wait, wait_not_send, cell_not_receive, cell_not_send, wait_not_receive, cell_not_run, wait_not_run, same_number, same_number_odd}
 use Rattle.cell_words.proofs.ListsOfCells.{IsNamed, CellNamed, cell_here, cell_else, set_same}
 use Rattle.channel_model.proofs.Sound.{sound, EndsResolved}
 use Rattle.cell_words.proofs.CellsGiveLists.{board_push, board_state}
 use Rattle.cell_words.proofs.CellsTellFacts.{now, tied_now, used_given, first_line, first_queue, free_end}
 use Rattle.channel_model.proofs.GoneForGood.{below_lasts}
+use Rattle.cell_words.proofs.PlacesWereKept.{were_kept_more}
 
 pub cells_push : (log : List Entry) (e : Entry) (c p : ℕ) → cell_of (log ++ e ∷ []) c p ≡ mark (board_of log).state (board_of log).cells e.who e.act c p
 cells_push log e c p = ap (λ (b : Board). b.cells c p) (board_push log e)
@@ -47,6 +48,7 @@ module _ (shape : Shape) (log : List Entry) (e : Entry) (l : Legal shape (log ++
     wait = λ d q ld lq at. waits d q ld lq (λ is. ne (at ∙ is)) n (f.wait d q ld lq at);
     sends = λ d ld at. below_lasts shape log (e ∷ []) d n 0 l (f.sends d ld at);
     receives = λ d ld at. below_lasts shape log (e ∷ []) d 0 n l (f.receives d ld at);
+    run = λ d ld at. were_kept_more shape d (n % 4294967296) (n / 4294967296) log (e ∷ []) l (f.run d ld at);
   }
 
   -- the word of a wait says what it is now
@@ -56,6 +58,7 @@ module _ (shape : Shape) (log : List Entry) (e : Entry) (l : Legal shape (log ++
     wait = λ d q ld lq at. let h = number_apart shape c d p q lc ld lp lq (same_number_odd (number shape c p) (number shape d q) at) in subst (λ (z : ℕ × ℕ). HasWaitCode n ((replay (log ++ e ∷ [])).waits (spot z.0 z.1))) (λ i. (h.0 i, h.1 i)) is;
     sends = λ d ld at. absurd (wait_not_send shape c d p at);
     receives = λ d ld at. absurd (wait_not_receive shape c d p lc lp at);
+    run = λ d ld at. absurd (wait_not_run shape c d p lc lp at);
   }
 
   pub turned_cell : (c p n : ℕ) → c < length shape → p ≤ places_at shape c → (n ≡ cell_code shape c p (cell_of (log ++ e ∷ []) c p)) × CellFits shape (cell_of (log ++ e ∷ []) c p) → Fits shape (log ++ e ∷ []) (cell_number shape c p) n
@@ -65,6 +68,7 @@ module _ (shape : Shape) (log : List Entry) (e : Entry) (l : Legal shape (log ++
     wait = λ d q ld lq at. absurd (cell_not_wait shape c d p q at);
     sends = λ d ld at. absurd (cell_not_send shape c d p lc lp at);
     receives = λ d ld at. absurd (cell_not_receive shape c d p at);
+    run = λ d ld at. absurd (cell_not_run shape c d p lc lp at);
   }
 
 -- ---- a word 0 of a wait that began says that it is open

@@ -6,6 +6,7 @@ pub mod OffersAdmitted
 pub mod CellsGiveLists
 pub mod CellsTellFacts
 pub mod CellsLast
+pub mod PlacesWereKept
 pub mod OneNumberOneWord
 pub mod CountsOfOffers
 pub mod KeptBehind
@@ -33,5 +34,6 @@ pub mod OffersUpTo
 pub mod LooksFound
 pub mod HeldWhereSendsWait
 pub mod WalksToAdmit
+pub mod RunsOfKeptPlaces
 pub mod ClausesPlaced
 pub mod StandsAtPlaces

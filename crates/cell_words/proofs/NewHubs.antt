@@ -18,7 +18,7 @@ none_legal shape = tt
 
 pub all_free : (shape : Shape) (i : ℕ) → Fits shape [] i 0
 unfolding board_from replay_from
-all_free shape i = record { cell = λ c p lc lp e. (refl, tt); wait = λ c p lc lp e. (refl, tt); sends = λ c lc e. none_below_start empty; receives = λ c lc e. none_below_start empty }
+all_free shape i = record { cell = λ c p lc lp e. (refl, tt); wait = λ c p lc lp e. (refl, tt); sends = λ c lc e. none_below_start empty; receives = λ c lc e. none_below_start empty; run = λ c lc e p le lt. absurd (omega (arith, lt)) }
 
 -- ---- the numbers of first cells
 
@@ -45,7 +45,7 @@ base_below (x ∷ xs) zero lt = let h = base_start xs in omega arith
 base_below (x ∷ xs) (suc i) lt = let h = base_below xs i (omega arith) in let e : suc i + 1 ≡ suc (i + 1) = omega arith in subst (λ (n : ℕ). base (x ∷ xs) n ≤ cells_in (x ∷ xs)) (sym e) (omega arith)
 
 -- as many words as are asked for
-pub count_is : (shape kinds : Shape) (cells i : ℕ) → shape ≡ kinds → cells ≡ cells_in kinds → i < word_count shape → i < 2 * cells + 2 * length kinds + 1
+pub count_is : (shape kinds : Shape) (cells i : ℕ) → shape ≡ kinds → cells ≡ cells_in kinds → i < word_count shape → i < 2 * cells + 3 * length kinds + 1
 count_is shape kinds cells i same total h = let a = ap cells_in same in let b = ap (λ (s : Shape). length s) same in omega arith
 
 pub no_firsts : (shape : Shape) (firsts : List ℕ) → firsts ≡ [] → AreFirsts shape 0 firsts

@@ -193,6 +193,17 @@ few_places c end most v lt = let m = count_within (stands v.seen c) 0 0 end end 
 pub less_than : (n m : ℕ) → n ≤ m → (n ≡ m → ⊥) → n + 1 ≤ m
 less_than n m le ne = dite (ℕ_discrete n m) (λ e. absurd (ne e)) (λ no. omega arith)
 
+-- after some looks, what an offer found
+pub offer_at_seen : (shape : Shape) (who c p value : ℕ) (u v w : Seen) → Sees u v → (a : At) → OfferAt shape who c p value v w a → OfferAt shape who c p value u w a
+offer_at_seen shape who c p value u v w s at.Spent h = (sees_then u v w s h.0, h.1)
+offer_at_seen shape who c p value u v w s at.Open h = absurd h
+offer_at_seen shape who c p value u v w s at.Placed h = sees_makes u v w _ s h
+offer_at_seen shape who c p value u v w s at.Put h = sees_makes u v w _ s h
+offer_at_seen shape who c p value u v w s (at.Waiting y) h = (sees_then u v w s h.0, h.1, h.2)
+offer_at_seen shape who c p value u v w s (at.Kept y) h = absurd h
+offer_at_seen shape who c p value u v w s (at.Closed y) h = (sees_then u v w s h.0, h.1)
+offer_at_seen shape who c p value u v w s at.Gone h = (sees_then u v w s h.0, h.1)
+
 -- one who receives and never waits: a word that was found says the same to it
 pub receive_tried : (shape : Shape) (who c p : ℕ) (word : CellWord) (s : CellState) (u v : Seen) → ReceiveAt shape who c p u v (found_by_receiver word s) → TriedReceiveAt shape who c p u v (found_by_receiver word s)
 receive_tried shape who c p word state.Free u v h = h

@@ -27,6 +27,7 @@ use Rattle.channel_model.proofs.Later.{resolved_later}
 use Rattle.channel_model.proofs.Sound.{Sound, sound}
 use Rattle.cell_words.specs.declared.found.Waiter.{Waiter}
 use Rattle.cell_words.specs.Cells.{Cell, free, receiver, offer, buffered, emptied, closed_by, voided_by, set_cell, standing, offer_of, offer_by, emptied_if, mark, Board, step_board, board_from, board_of, blank, cell_of, gather, add_some, is_used}
+use Rattle.cell_words.specs.Words.{WasKept, WereKept}
 use Rattle.cell_words.specs.Seen.{Seen, Sees, at_channel}
 use Rattle.cell_words.specs.Answers.{stands, Offers, IsAdmitted, Admits, NothingToAdmit, waits_with, KeptHere}
 use Rattle.cell_words.proofs.GatheredLists.{gather_none}
@@ -146,26 +147,42 @@ module _ (shape : Shape) (c p q : ℕ) (lt : p < q) where
 place_given : (shape : Shape) (c p : ℕ) (log : List Entry) → Legal shape log → is_used (cell_of log c p) ≡ true → p + 1 ≤ (at_channel log c).next
 place_given shape c p log l u = let lt = used_given (now log) c p (tied_now shape log l) u in omega arith
 
-pub kept_here : (shape : Shape) (c p v : ℕ) (log : List Entry) → Legal shape log → cell_of log c p ≡ buffered v → KeptHere c p log
-kept_here shape c p v log l e = record {
+pub one_kept : (log : List Entry) (c p : ℕ) → WasKept (replay log).waits (cell_of log c p) → WereKept log c p (p + 1)
+one_kept log c p h q le lt = let is : p ≡ q = omega arith in subst (λ (z : ℕ). WasKept (replay log).waits (cell_of log c z)) is h
+
+-- what a place tells that was kept once
+pub place_kept : (shape : Shape) (c p : ℕ) (log : List Entry) → Legal shape log → (y : Cell) → cell_of log c p ≡ y → WasKept (replay log).waits y → KeptHere c p log
+place_kept shape c p log l free e h = absurd h
+place_kept shape c p log l (receiver who w k) e h = absurd h
+place_kept shape c p log l (offer v who w k) e h = record {
+  kept = one_kept log c p (subst (WasKept (replay log).waits) (sym e) h);
+  given = place_given shape c p log l (ap is_used e);
+  nobody = ap (λ (z : Cell). waits_with (standing (replay log).waits p z)) e ∙ admitted_free p v k w ((replay log).waits w) h;
+  behind = λ q le st. stands_kept (replay log).waits p (cell_of log c p) (subst (Keeps (replay log).waits) (sym e) h);
+}
+place_kept shape c p log l (buffered v) e h = record {
+  kept = one_kept log c p (subst (WasKept (replay log).waits) (sym e) h);
   given = place_given shape c p log l (ap is_used e);
   nobody = ap (λ (z : Cell). waits_with (standing (replay log).waits p z)) e;
-  behind = λ q le h. ap (λ (z : Cell). is_some (standing (replay log).waits p z)) e;
+  behind = λ q le st. ap (λ (z : Cell). is_some (standing (replay log).waits p z)) e;
 }
+place_kept shape c p log l (emptied v) e h = record {
+  kept = one_kept log c p (subst (WasKept (replay log).waits) (sym e) h);
+  given = place_given shape c p log l (ap is_used e);
+  nobody = ap (λ (z : Cell). waits_with (standing (replay log).waits p z)) e;
+  behind = λ q le st. dite (ℕ_discrete q p) (λ (same : q ≡ p). subst (λ (z : ℕ). is_some (stands log c z) ≡ true) same st)
+      (λ ne. absurd (true≢false (sym st ∙ ap is_some (emptied_first shape c q p (omega arith) log v l e))));
+}
+place_kept shape c p log l (closed_by v) e h = absurd h
+place_kept shape c p log l (voided_by v) e h = absurd h
+
+pub kept_here : (shape : Shape) (c p v : ℕ) (log : List Entry) → Legal shape log → cell_of log c p ≡ buffered v → KeptHere c p log
+kept_here shape c p v log l e = place_kept shape c p log l (buffered v) e tt
 
 pub admitted_here : (shape : Shape) (c p : ℕ) (x : Waiter) (log : List Entry) → Legal shape log → IsAdmitted shape c p x log → KeptHere c p log
 admitted_here shape c p x log l a = ⊎_elim
-    (λ (e : cell_of log c p ≡ offer x.value a.who a.wait x.clause). record {
-      given = place_given shape c p log l (ap is_used e);
-      nobody = ap (λ (z : Cell). waits_with (standing (replay log).waits p z)) e ∙ admitted_free p x.value x.clause a.wait ((replay log).waits a.wait) a.admitted;
-      behind = λ q le h. stands_kept (replay log).waits p (cell_of log c p) (subst (Keeps (replay log).waits) (sym e) a.admitted);
-    })
-    (λ (e : cell_of log c p ≡ emptied x.value). record {
-      given = place_given shape c p log l (ap is_used e);
-      nobody = ap (λ (z : Cell). waits_with (standing (replay log).waits p z)) e;
-      behind = λ q le h. dite (ℕ_discrete q p) (λ (same : q ≡ p). subst (λ (z : ℕ). is_some (stands log c z) ≡ true) same h)
-          (λ ne. absurd (true≢false (sym h ∙ ap is_some (emptied_first shape c q p (omega arith) log x.value l e))));
-    })
+    (λ (e : cell_of log c p ≡ offer x.value a.who a.wait x.clause). place_kept shape c p log l (offer x.value a.who a.wait x.clause) e a.admitted)
+    (λ (e : cell_of log c p ≡ emptied x.value). place_kept shape c p log l (emptied x.value) e tt)
     a.cell
 
 -- ---- the walk

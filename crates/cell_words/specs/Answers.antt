@@ -35,7 +35,7 @@ use Rattle.cell_words.specs.declared.found.Waiter.{Waiter}
 use Rattle.cell_words.specs.Cells.{receiver, offer, buffered, emptied, spot, cell_of, standing}
 use Rattle.cell_words.specs.Codes.{packed_cell, packed_wait}
 use Rattle.cell_words.specs.Removals.{removal_act}
-use Rattle.cell_words.specs.Words.{number, IsCell, PartyFits, plain_word, party_word, word_of_cell, CellFits, word_of_wait, WaitFits, Fits}
+use Rattle.cell_words.specs.Words.{number, IsCell, PartyFits, plain_word, party_word, word_of_cell, CellFits, word_of_wait, WaitFits, WereKept, Fits}
 use Rattle.cell_words.specs.Seen.{Seen, maker, at_channel, Sees, Makes, Turns}
 
 -- ---- words
@@ -268,6 +268,7 @@ waits_with (Some o) = is_some o.holder
 
 -- an element is kept at this place, or one was and is gone like all before it
 pub record KeptHere (c p : ℕ) (log : List Entry) : Type 0 where
+  pub kept : WereKept log c p (p + 1)
   pub given : p + 1 ≤ (at_channel log c).next
   pub nobody : waits_with (stands log c p) ≡ false
   pub behind : (q : ℕ) → q ≤ p → is_some (stands log c q) ≡ true → is_some (stands log c p) ≡ true

@@ -1,5 +1,5 @@
 -- The words that a history gives.
-use Rattle.std.specs.Prelude.{◌≡◌, ℕ, zero, suc, ◌+◌, ◌*◌, ◌<◌, ◌≤◌, Bool, true, false, List, [], ◌∷◌, length, if◌then◌else◌, Option, Some, None}
+use Rattle.std.specs.Prelude.{◌≡◌, ℕ, zero, suc, ◌+◌, ◌*◌, ◌/◌, ◌%◌, ◌<◌, ◌≤◌, Bool, true, false, List, [], ◌∷◌, length, if◌then◌else◌, Option, Some, None}
 use Rattle.co_base.specs.declared.names.WaitId.{WaitId}
 use Rattle.channel_model.specs.declared.acts.Entry.{Entry}
 use Rattle.channel_model.specs.declared.acts.Settled.{Settled}
@@ -9,7 +9,7 @@ use Rattle.channel_model.specs.declared.standing.Resolution.{Resolution}
 use Rattle.channel_model.specs.declared.standing.Resolution.TheVariants as resolved
 use Rattle.channel_model.specs.Channels.{Shape, Wait, places_at, same_wait}
 use Rattle.channel_model.specs.Histories.{replay}
-use Rattle.channel_model.specs.Laws.{NoneBelow}
+use Rattle.channel_model.specs.Laws.{NoneBelow, IsResolvedAs}
 use Rattle.cell_words.specs.declared.cell_word.CellState.{CellState}
 use Rattle.cell_words.specs.declared.cell_word.CellState.TheVariants as cell
 use Rattle.cell_words.specs.declared.cell_word.CellWord.{CellWord}
@@ -49,9 +49,13 @@ send_number shape c = 2 * cells_in shape + 2 * c
 abbrev pub receive_number : Shape → ℕ → ℕ
 receive_number shape c = 2 * cells_in shape + 2 * c + 1
 
+-- of the run of kept places of a channel
+abbrev pub run_number : Shape → ℕ → ℕ
+run_number shape c = 2 * cells_in shape + 2 * length shape + c
+
 -- one word more says nothing, so that even a hub without channels has a word 0 to load where passes meet
 abbrev pub word_count : Shape → ℕ
-word_count shape = 2 * cells_in shape + 2 * length shape + 1
+word_count shape = 2 * cells_in shape + 3 * length shape + 1
 
 -- a place of the channel, or its end
 abbrev pub IsCell : Shape → ℕ → ℕ → Type 0
@@ -163,9 +167,30 @@ WaitFits (Some x) = PartsFit x.resolved
 abbrev pub HasWaitCode : ℕ → Option Wait → Type 0
 HasWaitCode n y = (n ≡ wait_code y) × WaitFits y
 
+-- ---- kept places
+
+-- an element was put in this cell, or its offer was admitted; it may have been removed since
+abbrev pub WasKept : (WaitId → Option Wait) → Cell → Type 0
+WasKept waits free = ⊥
+WasKept waits (receiver who w k) = ⊥
+WasKept waits (offer v who w k) = IsResolvedAs (resolved.Admitted k) (waits w)
+WasKept waits (buffered v) = Unit {0}
+WasKept waits (emptied v) = Unit {0}
+WasKept waits (closed_by v) = ⊥
+WasKept waits (voided_by v) = ⊥
+
+-- so it was at each place from one on, and before another
+abbrev pub WereKept : List Entry → ℕ → ℕ → ℕ → Type 0
+WereKept log c from to = (p : ℕ) → from ≤ p → p < to → WasKept (replay log).waits (cell_of log c p)
+
+-- the number n says from which place on, and before which
+abbrev pub IsKeptRun : List Entry → ℕ → ℕ → Type 0
+IsKeptRun log c n = WereKept log c (n % 4294967296) (n / 4294967296)
+
 -- ---- all words
 
--- the word i is n after this history; a counter is at most the number of places that were given out
+-- the word i is n after this history; a counter is at most the number of places that were given out, and each place
+-- of a run was kept once
 pub record Fits (shape : Shape) (log : List Entry) (i n : ℕ) : Type 0 where
   pub cell : (c p : ℕ) → c < length shape → p ≤ places_at shape c → i ≡ cell_number shape c p
       → (n ≡ cell_code shape c p (cell_of log c p)) × CellFits shape (cell_of log c p)
@@ -173,3 +198,4 @@ pub record Fits (shape : Shape) (log : List Entry) (i n : ℕ) : Type 0 where
       → HasWaitCode n ((replay log).waits (spot c p))
   pub sends : (c : ℕ) → c < length shape → i ≡ send_number shape c → NoneBelow n 0 ((replay log).channels c)
   pub receives : (c : ℕ) → c < length shape → i ≡ receive_number shape c → NoneBelow 0 n ((replay log).channels c)
+  pub run : (c : ℕ) → c < length shape → i ≡ run_number shape c → IsKeptRun log c n

@@ -10,7 +10,7 @@ ghost use Rattle.cell_words.specs.Seen.{at_channel};
 ghost use Rattle.cell_words.specs.Answers.{stands, Offers, SenderAt, AdmitAt, HereAnswer, SearchAnswer, AdmitBelowAnswer};
 
 use crate::cells::{exchange_wait, kind_of, load_cell, load_wait};
-use crate::counters::receives_from;
+use crate::counters::{first_not_kept, kept_run, raise_run, receives_from};
 use crate::counting::stands_at;
 use crate::found::{Admission, At, Here, Search, Waiter};
 use crate::hub::Hub;
@@ -103,7 +103,7 @@ fn admit_here(hub: &Hub, pass: &mut Pass, who: Tag, c: ChannelId, place: Place) 
     }
 }
 
-// Looks for an offer to admit from a place on, below which none stands.
+// Looks for an offer to admit from a place on, below which none stands. The places of the run of kept ones are not looked at.
 fn admit_from(
     hub: &Hub,
     pass: &mut Pass,
@@ -121,8 +121,10 @@ fn admit_from(
     ensures own { IsOwn hub.now pass.new who }
     ensures search { SearchAnswer (shape_of hub.now) who c low mark (seen_by pass.old) (seen_by pass.new) result }
 {
-    let mut count = 0;
-    for place in low..mark {
+    let mut run = kept_run(hub, pass, who, c);
+    let first = first_not_kept(run, low, most);
+    let mut count = first - low;
+    for place in first..mark {
         if count == most {
             // While the first still stands, so do the others that were counted.
             if stands_at(hub, pass, who, c, low) {
@@ -131,8 +133,14 @@ fn admit_from(
             return Search::Passed;
         }
         match admit_here(hub, pass, who, c, place) {
-            Here::Done(owner) => return Search::Done(place, owner),
-            Here::Kept => count += 1,
+            Here::Done(owner) => {
+                raise_run(hub, pass, who, c, run, low, place);
+                return Search::Done(place, owner);
+            }
+            Here::Kept => {
+                count += 1;
+                run = raise_run(hub, pass, who, c, run, low, place);
+            }
             Here::Gone => {}
             Here::End => return Search::Nothing,
         }

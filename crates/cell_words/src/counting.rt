@@ -12,7 +12,7 @@ ghost use Rattle.cell_words.specs.Answers.{stands, IsOver};
 
 use crate::cell_word::CellState;
 use crate::cells::{kind_of, load_cell, load_wait};
-use crate::counters::receives_from;
+use crate::counters::{has_from, kept_run, receives_from};
 use crate::hub::Hub;
 use crate::looks::{holder_of, lets_stand};
 use crate::pass::Pass;
@@ -114,7 +114,20 @@ fn count_below(hub: &Hub, pass: &mut Pass, who: Tag, c: ChannelId, end: Place, m
         return false;
     }
     let from = offers_from(hub, pass, who, c, end);
-    count_from(hub, pass, who, c, from, end, most)
+    let run = kept_run(hub, pass, who, c);
+    for low in from..end {
+        if end - low < most {
+            return false;
+        }
+        if stands_at(hub, pass, who, c, low) {
+            // Kept elements leave from the front alone: while the first stands, so do those of the run behind it.
+            if has_from(run, low, most) {
+                return true;
+            }
+            return count_from(hub, pass, who, c, low, end, most);
+        }
+    }
+    most == 0
 }
 
 /// Whether the channel keeps one element more: false if it was full at the beginning.

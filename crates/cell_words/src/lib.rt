@@ -3,7 +3,8 @@
 //!
 //! **The words.** Each place of a channel has a cell and a wait, and the channel's end has one cell and wait more. A cell word says what
 //! became of its place, a wait word how the wait was resolved that began there (`cell_word` and `wait_word` have the bits). A wait that
-//! stands has the word 0. A select's clauses all name the cell where its wait began. Two counters of each channel say from where to look.
+//! stands has the word 0. A select's clauses all name the cell where its wait began. Two counters of each channel say from where to look,
+//! and its run says of which places that follow one another each was kept: an element was put there, or an offer was admitted.
 //!
 //! | word | from | to | the step, and who makes it | the exchange decides |
 //! |---|---|---|---|---|
@@ -22,6 +23,7 @@
 //! | wait | 0 | cancelled, revoked | `withdraw_at`: its coroutine | that it was not resolved before |
 //! | wait | resolved | settled | `settle_at`: its coroutine | nothing: nobody else settles it |
 //! | counter | n | at least m | `raise_sends`, `raise_receives`: anybody | nothing: it is a hint |
+//! | run | to * 2^32 + from | at least that | `offer_at`, `admit_below`: who put or admitted | nothing: it is a hint |
 //!
 //! **What stands.** A receiver stands while its wait has the word 0. An offer stands while its wait has the word 0, and also after its wait
 //! was admitted at its clause, until its cell is emptied. So a held offer's cell stays as it is when its wait is taken, withdrawn or
@@ -52,7 +54,13 @@
 //! seen. It is raised where the walk passed four places or more: each raise takes the counter's line from the other side, and a few places
 //! more to look at cost less than that.
 //!
-//! **The history.** It is that of the channels, a list of entries; all words are a function of it, but for the counters (`Words` has it).
+//! **The run** spares both walks the places that it has. Kept elements leave from the front alone: so while an offer stands in the run,
+//! all behind it stand, and nobody waits with one of them. Where the first that stands is in the run, and the run has as many places from
+//! there on as the channel keeps, the channel is full; a walk for an offer to admit begins where the run ends. A place that somebody gave
+//! up ends a run, and until the receivers have passed it the walks go on from there, or over all.
+//!
+//! **The history.** It is that of the channels, a list of entries; all words are a function of it, but for the counters and the
+//! run (`Words` has it).
 //! A `Pass` has seen a beginning of the history, and all entries of its own tags; the one that gives out tags has seen none of a tag
 //! that it has not given out.
 //!
@@ -67,7 +75,8 @@
 //! - `removing`: the first offer's element is taken, dropped or drained.
 //! - `admitting`: a held offer is kept from now on; a walk for one that may be.
 //! - `own_waits`: a coroutine looks at its own wait, withdraws it or settles it.
-//! - `ending`, `counters`: where a channel ends, is closed and cancelled, its receivers are told so; from where to look.
+//! - `ending`, `counters`: where a channel ends, is closed and cancelled, its receivers are told so; from where to look, and which
+//!   places were kept.
 //! - `laws`: what the words say.
 #![tactic(auto)]
 

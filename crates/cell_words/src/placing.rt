@@ -1,22 +1,23 @@
 //! A caller is placed where the channel ends, by an exchange of the free cell there; or it sees what is at the place.
-ghost use Rattle.std.specs.Prelude.{◌≡◌, ◌≢◌, ◌<◌, false, true, length};
+ghost use Rattle.std.specs.Prelude.{◌≡◌, ◌≢◌, ◌+◌, ◌<◌, false, true, length};
 ghost use Rattle.channel_model.specs.Channels.{kind_at, places_at, is_signal, suspends, is_full};
 ghost use Rattle.channel_model.specs.Laws.{NoneBelow};
 ghost use Rattle.cell_words.specs.declared.found.At.TheVariants as at;
 ghost use Rattle.cell_words.specs.Cells.{gather};
-ghost use Rattle.cell_words.specs.Words.{IsCell};
+ghost use Rattle.cell_words.specs.Words.{IsCell, WereKept};
 ghost use Rattle.cell_words.specs.Hubs.{shape_of, seen_by, IsOwn};
 ghost use Rattle.cell_words.specs.Seen.{Sees, at_channel};
 ghost use Rattle.cell_words.specs.Answers.{stands, OfferAt, OfferHere, ReceiveAt, TriedReceiveAt};
 
 use crate::cell_word::CellState;
-use crate::cells::{exchange_cell, load_cell, places_of};
+use crate::cells::{exchange_cell, kind_of, load_cell, places_of};
+use crate::counters::{KeptRun, kept_run, raise_run, receives_from};
 use crate::counting::has_room;
 use crate::found::At;
 use crate::hub::Hub;
 use crate::looks::{found_by_receiver, found_by_sender, free_cell, is_used, own_cell, plain_cell};
 use crate::pass::Pass;
-use channel_model::{Act, Entry};
+use channel_model::{Act, Entry, Kind};
 use co_base::{ChannelId, Place, Tag, Value, WaitId};
 
 // Places an offer that waits.
@@ -67,6 +68,58 @@ fn put_at(hub: &Hub, pass: &mut Pass, who: Tag, c: ChannelId, place: Place, valu
     }
 }
 
+// Says that the place was kept, where an element was put there.
+fn say_kept(
+    hub: &Hub,
+    pass: &mut Pass,
+    who: Tag,
+    c: ChannelId,
+    run: KeptRun,
+    low: Place,
+    place: Place,
+    put: At,
+)
+    requires own { IsOwn hub.now pass.old who }
+    requires at { IsCell (shape_of hub.now) c place }
+    requires run { put ≡ at.Put → WereKept (seen_by pass.old).seen c run.from run.to }
+    requires kept { put ≡ at.Put → WereKept (seen_by pass.old).seen c place (place + 1) }
+    ensures own { IsOwn hub.now pass.new who }
+    ensures same { seen_by pass.new ≡ seen_by pass.old }
+{
+    match put {
+        At::Put => {
+            raise_run(hub, pass, who, c, run, low, place);
+        }
+        At::Spent | At::Open | At::Placed => {}
+        At::Waiting(_) | At::Kept(_) | At::Closed(_) | At::Gone => {}
+    }
+}
+
+// The same as `put_at`, and says that the place was kept, where the channel keeps only so many.
+fn keep_at(hub: &Hub, pass: &mut Pass, who: Tag, c: ChannelId, place: Place, value: Value) -> At
+    requires own { IsOwn hub.now pass.old who }
+    requires at { (c < length (shape_of hub.now)) × (place < places_at (shape_of hub.now) c) }
+    requires low { NoneBelow place 0 (at_channel (seen_by pass.old).seen c) }
+    requires room { is_full (kind_at (shape_of hub.now) c) (length (gather (stands (seen_by pass.old).seen c) place)) ≡ false }
+    ensures own { IsOwn hub.now pass.new who }
+    ensures at { OfferAt (shape_of hub.now) who c place value (seen_by pass.old) (seen_by pass.new) result }
+    ensures not_held { result ≢ at.Placed }
+{
+    let counts = match kind_of(hub, c) {
+        Kind::Buffered(_) => true,
+        Kind::Rendezvous | Kind::Unlimited | Kind::Conflated | Kind::DropOldest(_) | Kind::Signal =>
+            false,
+    };
+    if !counts {
+        return put_at(hub, pass, who, c, place, value);
+    }
+    let run = kept_run(hub, pass, who, c);
+    let low = receives_from(hub, pass, who, c);
+    let put = put_at(hub, pass, who, c, place, value);
+    say_kept(hub, pass, who, c, run, low, place, put);
+    put
+}
+
 /// Puts an element where the channel ends. Where the channel was full, an offer is placed there, if the caller may wait.
 pub fn offer_at(
     hub: &Hub,
@@ -92,7 +145,7 @@ pub fn offer_at(
         return At::Spent;
     }
     if has_room(hub, pass, who, c, place) {
-        return put_at(hub, pass, who, c, place, value);
+        return keep_at(hub, pass, who, c, place, value);
     }
     if waits {
         hold_at(hub, pass, who, c, place, value)

@@ -1,19 +1,31 @@
-use Rattle.std.proofs.Common.{arith}
+use Rattle.std.proofs.Common.{◌+◌, sym, subst, arith}
 use Rattle.cell_words.specs.Hubs.{shape_of}
-use Rattle.cell_words.proofs.LooksAtCells.{hub_legal, sees_then}
-use Rattle.cell_words.proofs.WalksToAdmit.{walked_none, walked_seen, walked_kept, walked_gone, all_passed, all_given, within_places, sees_self, nothing_now, admits_seen, passed_low, room_by, full_by, search_told}
+use Rattle.cell_words.proofs.LooksAtCells.{hub_legal, sees_then, below_seen}
+use Rattle.cell_words.proofs.RunsOfKeptPlaces.{run_seen, run_made, admit_kept, walked_start}
+use Rattle.cell_words.proofs.WalksToAdmit.{Walked, walked_seen, walked_kept, walked_gone, all_passed, all_given, within_places, sees_self, nothing_now, admits_seen, passed_low, room_by, full_by, search_told}
 use Rattle.cell_words.proofs.WalksCount.{less_than}
+use Rattle.cell_words.specs.Seen.{Seen, Sees}
+use Rattle.cell_words.specs.Words.{WereKept}
+use Rattle.cell_words.specs.Answers.{Admits}
 use Rattle.cell_words.proofs.admitting.admit_from.Goals.{in-Kept, in-Gone}
 use Rattle.cell_words.proofs.admitting.admit_from.Goals as goal
 
 pub loop-place-init : goal.loop-place-init
-loop-place-init c = record {
-  own = c.requires.own;
-  sees = sees_self c.args.pass.now.seat.me.0;
-  walked = walked_none (shape_of c.args.hub.now) c.args.c c.args.low c.args.pass.now.seat.me.0.seen (hub_legal c.args.hub.now c.args.pass.now c.requires.own.0) c.requires.low;
-  least = omega arith;
-  few = omega arith;
-}
+loop-place-init c =
+    let h = c.kept_run-run.ensures in
+    let f = c.first_not_kept-first.ensures in
+    let shape = shape_of c.args.hub.now in
+    let v = c.kept_run-run.new.pass.seat.me.0 in
+    let l = hub_legal c.args.hub.now c.kept_run-run.new.pass h.own.0 in
+    let few = f.few in
+    record {
+      own = h.own;
+      sees = sees_self v;
+      walked = walked_start shape c.args.c c.args.low _ _ v.seen l (below_seen shape 0 c.args.low c.args.c c.args.pass.now.seat.me.0 v h.sees l c.requires.low) h.kept c.first_not_kept-first.result f.least f.run;
+      least = f.least;
+      few = omega arith;
+      run = h.kept;
+    }
 
 pub stands_at-requires-clause-at : goal.stands_at-requires-clause-at
 stands_at-requires-clause-at c =
@@ -41,7 +53,7 @@ returns-then-stands_at-clause-search c =
     let few = i.walked.few in
     let some = c.requires.some in
     let is = c.if-count-most.true in
-    search_told shape c.args.who c.args.c c.args.low c.loop-place.place c.loop-place.count c.args.mark u v w i.sees c.stands_at.ensures.sees (hub_legal c.args.hub.now c.loop-place.pass i.own.0) (hub_legal c.args.hub.now c.stands_at.new.pass c.stands_at.ensures.own.0) i.walked (omega arith)
+    search_told shape c.args.who c.args.c c.args.low c.loop-place.place c.loop-place.count c.args.mark u v w (sees_then u c.kept_run-run.new.pass.seat.me.0 v c.kept_run-run.ensures.sees i.sees) c.stands_at.ensures.sees (hub_legal c.args.hub.now c.loop-place.pass i.own.0) (hub_legal c.args.hub.now c.stands_at.new.pass c.stands_at.ensures.own.0) i.walked (omega arith)
     (full_by shape c.args.c c.args.most c.loop-place.count c.requires.kind c.if-count-most.true) (rw c.if-stands_at.true at c.stands_at.ensures.stands)
 
 pub returns-then-count-most-clause-search : goal.returns-then-count-most-clause-search
@@ -57,7 +69,7 @@ returns-then-count-most-clause-search c =
     let given = walked.given in
     let some = c.requires.some in
     let is = c.if-count-most.true in
-    (sees_then u v w i.sees c.stands_at.ensures.sees, passed_low shape c.args.c c.args.low w.seen l walked.below (omega arith) (rw c.if-stands_at.false at c.stands_at.ensures.stands))
+    (sees_then u v w (sees_then u c.kept_run-run.new.pass.seat.me.0 v c.kept_run-run.ensures.sees i.sees) c.stands_at.ensures.sees, passed_low shape c.args.c c.args.low w.seen l walked.below (omega arith) (rw c.if-stands_at.false at c.stands_at.ensures.stands))
 
 pub admit_here-requires-clause-at : goal.admit_here-requires-clause-at
 admit_here-requires-clause-at c =
@@ -72,9 +84,24 @@ admit_here-requires-clause-room c =
     let i = c.loop-place.invariant in
     room_by (shape_of c.args.hub.now) c.args.c c.args.most c.loop-place.count _ c.requires.kind i.walked.upper i.few c.if-count-most.false
 
+pub raise_run-requires-clause-run : goal.raise_run-requires-clause-run
+raise_run-requires-clause-run c =
+    let t = c.in-Done.ensures.here in
+    run_made (shape_of c.args.hub.now) c.args.c _ _ _ c.loop-place.pass.seat.me.0 c.admit_here.new.pass.seat.me.0 t.made (hub_legal c.args.hub.now c.admit_here.new.pass c.admit_here.ensures.own.0) c.loop-place.invariant.run
+
+pub raise_run-requires-clause-kept : goal.raise_run-requires-clause-kept
+raise_run-requires-clause-kept c =
+    admit_kept (shape_of c.args.hub.now) c.args.who c.args.c c.loop-place.place _ c.loop-place.pass.seat.me.0 c.admit_here.new.pass.seat.me.0 (hub_legal c.args.hub.now c.admit_here.new.pass c.admit_here.ensures.own.0) c.in-Done.ensures.here
+
 pub returns-in-Done-clause-search : goal.returns-in-Done-clause-search
 returns-in-Done-clause-search c =
-    (admits_seen _ _ _ _ c.args.pass.now.seat.me.0 c.loop-place.pass.seat.me.0 c.admit_here.new.pass.seat.me.0 c.loop-place.invariant.sees c.in-Done.ensures.here, c.loop-place-test.true)
+    let u = c.args.pass.now.seat.me.0 in
+    let e = c.kept_run-run.new.pass.seat.me.0 in
+    let v = c.loop-place.pass.seat.me.0 in (
+      subst (λ (z : Seen). Admits c.args.who c.args.c c.loop-place.place c.in-Done.owner u z) (sym c.raise_run.ensures.same)
+          (admits_seen _ _ _ _ u v c.admit_here.new.pass.seat.me.0 (sees_then u e v c.kept_run-run.ensures.sees c.loop-place.invariant.sees) c.in-Done.ensures.here),
+      c.loop-place-test.true,
+    )
 
 pub returns-in-End-clause-search : goal.returns-in-End-clause-search
 returns-in-End-clause-search c =
@@ -85,7 +112,7 @@ returns-in-End-clause-search c =
     let w = c.admit_here.new.pass.seat.me.0 in
     let t = c.in-End.ensures.here in
     let l = hub_legal c.args.hub.now c.admit_here.new.pass c.admit_here.ensures.own.0 in
-    nothing_now shape c.args.c c.args.mark u w (sees_then u v w i.sees t.0)
+    nothing_now shape c.args.c c.args.mark u w (sees_then u v w (sees_then u c.kept_run-run.new.pass.seat.me.0 v c.kept_run-run.ensures.sees i.sees) t.0)
     (all_given shape c.args.c c.args.low c.loop-place.place c.loop-place.count c.args.mark w.seen l
     (walked_seen shape c.args.c c.args.low c.loop-place.place c.loop-place.count v w t.0 (hub_legal c.args.hub.now c.loop-place.pass i.own.0) l i.walked) t.1)
 
@@ -93,7 +120,7 @@ pub loop-place-preserved : goal.loop-place-preserved
 loop-place-preserved c =
     let i = c.loop-place.invariant in
     let shape = shape_of c.args.hub.now in
-    let u = c.args.pass.now.seat.me.0 in
+    let u = c.kept_run-run.new.pass.seat.me.0 in
     let v = c.loop-place.pass.seat.me.0 in
     let w = c.admit_here.new.pass.seat.me.0 in
     let lv = hub_legal c.args.hub.now c.loop-place.pass i.own.0 in
@@ -101,24 +128,41 @@ loop-place-preserved c =
     let more = less_than c.loop-place.count c.args.most i.few c.if-count-most.false in
     let least = i.least in
     elim c.match-admit_here.branch [
-      | in-Kept x ↦ let t = x.in-Kept.ensures.here in rw x.count-is (record {
-        own = c.admit_here.ensures.own;
-        sees = sees_then u v w i.sees t.0;
-        walked = walked_kept c.args.c c.args.low c.loop-place.place c.loop-place.count w.seen i.least (walked_seen shape c.args.c c.args.low c.loop-place.place c.loop-place.count v w t.0 lv l i.walked) t.1;
+      | in-Kept x ↦ let t = x.in-Kept.ensures.here in let same = sym x.raise_run-run.ensures.same in rw x.pass-is (rw x.run-is (rw x.count-is (record {
+        own = x.raise_run-run.ensures.own;
+        sees = subst (λ (z : Seen). Sees u z) same (sees_then u v w i.sees t.0);
+        walked = subst (λ (z : Seen). Walked c.args.c c.args.low (c.loop-place.place + 1) (c.loop-place.count + 1) z.seen) same
+            (walked_kept c.args.c c.args.low c.loop-place.place c.loop-place.count w.seen i.least (walked_seen shape c.args.c c.args.low c.loop-place.place c.loop-place.count v w t.0 lv l i.walked) t.1);
         least = omega arith;
         few = more;
-      })
-      | in-Gone x ↦ let t = x.in-Gone.ensures.here in rw x.count-is (record {
+        run = subst (λ (z : Seen). WereKept z.seen c.args.c x.raise_run-run.result.from x.raise_run-run.result.to) same x.raise_run-run.ensures.kept;
+      })))
+      | in-Gone x ↦ let t = x.in-Gone.ensures.here in rw x.pass-is (rw x.run-is (rw x.count-is (record {
         own = c.admit_here.ensures.own;
         sees = sees_then u v w i.sees t.0;
         walked = walked_gone c.args.c c.args.low c.loop-place.place c.loop-place.count w.seen (walked_seen shape c.args.c c.args.low c.loop-place.place c.loop-place.count v w t.0 lv l i.walked) t.1 t.2;
         least = omega arith;
         few = i.few;
-      })
+        run = run_seen shape c.args.c _ _ v w t.0 l i.run;
+      })))
     ]
+
+pub raise_run-requires-clause-at : goal.raise_run-requires-clause-at
+raise_run-requires-clause-at c =
+    let i = c.loop-place.invariant in
+    (c.requires.channel, within_places (shape_of c.args.hub.now) c.args.c c.loop-place.place c.loop-place.pass.seat.me.0.seen (hub_legal c.args.hub.now c.loop-place.pass i.own.0) i.walked.given)
+
+pub raise_run-run-requires-clause-at : goal.raise_run-run-requires-clause-at
+raise_run-run-requires-clause-at c =
+    let i = c.loop-place.invariant in
+    (c.requires.channel, within_places (shape_of c.args.hub.now) c.args.c c.loop-place.place c.loop-place.pass.seat.me.0.seen (hub_legal c.args.hub.now c.loop-place.pass i.own.0) i.walked.given)
+
+pub raise_run-run-requires-clause-run : goal.raise_run-run-requires-clause-run
+raise_run-run-requires-clause-run c =
+    run_seen (shape_of c.args.hub.now) c.args.c _ _ c.loop-place.pass.seat.me.0 c.admit_here.new.pass.seat.me.0 c.in-Kept.ensures.here.0 (hub_legal c.args.hub.now c.admit_here.new.pass c.admit_here.ensures.own.0) c.loop-place.invariant.run
 
 pub returns-clause-search : goal.returns-clause-search
 returns-clause-search c =
     let i = c.loop-place.invariant in
-    nothing_now (shape_of c.args.hub.now) c.args.c c.args.mark c.args.pass.now.seat.me.0 c.loop-place.pass.seat.me.0 i.sees
+    nothing_now (shape_of c.args.hub.now) c.args.c c.args.mark c.args.pass.now.seat.me.0 c.loop-place.pass.seat.me.0 (sees_then c.args.pass.now.seat.me.0 c.kept_run-run.new.pass.seat.me.0 c.loop-place.pass.seat.me.0 c.kept_run-run.ensures.sees i.sees)
     (all_passed (shape_of c.args.hub.now) c.args.c c.args.low c.loop-place.place c.loop-place.count c.args.mark c.loop-place.pass.seat.me.0.seen (hub_legal c.args.hub.now c.loop-place.pass i.own.0) i.walked c.loop-place-test.false)

@@ -1,6 +1,7 @@
 use Rattle.std.proofs.Common.{◌≤◌}
 use Rattle.cell_words.specs.Hubs.{IsOwn}
 use Rattle.cell_words.specs.Seen.{Sees}
+use Rattle.cell_words.specs.Words.{WereKept}
 use Rattle.cell_words.proofs.WalksToAdmit.{Walked}
 use Rattle.cell_words.proofs.admitting.admit_from.Given as goal
 
@@ -11,4 +12,5 @@ invariant-loop-place l = record {
   walked : Walked l.c l.low l.place l.count l.pass.seat.me.0.seen;
   least : l.low ≤ l.place;
   few : l.count ≤ l.most;
+  run : WereKept l.pass.seat.me.0.seen l.c l.run.from l.run.to;
 }

@@ -20,8 +20,8 @@ has_room-requires-clause-given c =
     let h = c.load_cell-word.ensures in
     (below_seen (shape_of c.args.hub.now) c.args.place 0 c.args.c c.args.pass.now.seat.me.0 c.load_cell-word.new.pass.seat.me.0 h.sees (hub_legal c.args.hub.now c.load_cell-word.new.pass h.own.0) c.requires.low).given
 
-pub put_at-requires-clause-low : goal.put_at-requires-clause-low
-put_at-requires-clause-low c =
+pub keep_at-requires-clause-low : goal.keep_at-requires-clause-low
+keep_at-requires-clause-low c =
     let h = c.load_cell-word.ensures in
     let r = c.has_room.ensures in
     let shape = shape_of c.args.hub.now in
@@ -41,7 +41,7 @@ hold_at-requires-clause-kind c = full_holds _ _ c.requires.kind (rw c.if-has_roo
 
 pub returns-then-has_room-clause-at : goal.returns-then-has_room-clause-at
 returns-then-has_room-clause-at c =
-    later_at c.args.waits (shape_of c.args.hub.now) c.args.who c.args.c c.args.place c.args.value c.args.pass.now.seat.me.0 c.load_cell-word.new.pass.seat.me.0 c.put_at.new.pass.seat.me.0 c.load_cell-word.ensures.sees c.has_room.new.pass.seat.me.0 c.has_room.ensures.sees c.put_at.result (λ e. absurd (c.put_at.ensures.not_held e)) c.put_at.ensures.at
+    later_at c.args.waits (shape_of c.args.hub.now) c.args.who c.args.c c.args.place c.args.value c.args.pass.now.seat.me.0 c.load_cell-word.new.pass.seat.me.0 c.keep_at.new.pass.seat.me.0 c.load_cell-word.ensures.sees c.has_room.new.pass.seat.me.0 c.has_room.ensures.sees c.keep_at.result (λ e. absurd (c.keep_at.ensures.not_held e)) c.keep_at.ensures.at
 
 pub returns-then-waits-clause-at : goal.returns-then-waits-clause-at
 returns-then-waits-clause-at c =
