@@ -1,0 +1,11 @@
+pub mod AtHomeOrOut
+pub mod BusyHasACause
+pub mod OneSeatSteps
+pub mod OpensAndCloses
+pub mod SeatsComeAndGo
+pub mod SeatsCounted
+pub mod SeatsStayMain
+pub mod StepsKeepHomes
+pub mod TasksByTag
+pub mod WordsByStep
+pub mod WordsSayWhere
