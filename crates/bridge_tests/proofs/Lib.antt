@@ -1,1 +1,2 @@
+pub mod ClosesSeen
 pub mod LooksBeforeCalls

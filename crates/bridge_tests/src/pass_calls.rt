@@ -3,7 +3,7 @@ ghost use Rattle.std.specs.Prelude.{◌≡◌, ◌<◌, false, length};
 ghost use Rattle.channel_model.specs.Channels.{kind_at, is_signal};
 ghost use Rattle.cell_words.specs.Hubs.{shape_of, IsOwn};
 
-use cell_calls::{close, offer, receive};
+use cell_calls::{close, offer, receive, wake_closed};
 use cell_words::{Hub, Pass};
 use channel_model::{Got, Offered};
 use co_base::{Tag, Value};
@@ -37,12 +37,14 @@ pub(crate) fn wait(hub: &Hub, pass: &mut Pass, who: Tag) -> Got
     receive(hub, pass, who, 0)
 }
 
-/// Closes the channel with this value, and answers whether it was open.
+/// Closes the channel with this value, and tells a receiver that waits there. Answers whether the channel was open.
 pub(crate) fn end(hub: &Hub, pass: &mut Pass, who: Tag, v: Value) -> bool
     requires own { IsOwn hub.now pass.old who }
     requires channel { 0 < length (shape_of hub.now) }
 {
-    close(hub, pass, who, 0, v).is_ok()
+    let open = close(hub, pass, who, 0, v).is_ok();
+    let _told = wake_closed(hub, pass, who, 0);
+    open
 }
 
 /// Two passes meet, so that each has seen what the other had seen.

@@ -308,9 +308,9 @@ const RECEIVED: [(Tag, Call); 7] = [
     (1, Call::Offer(8, Offered::Held(1))),
     (2, Call::Receive(Got::Taken(0, 7, None))),
     (2, Call::Receive(Got::Taken(1, 8, Some(1)))),
-    (2, Call::Receive(Got::Waiting(2))),
     (1, Call::Look(WaitState::Resolved)),
     (1, Call::Settle(false, Settled::Sent(0))),
+    (2, Call::Receive(Got::Waiting(2))),
 ];
 
 #[test]
