@@ -2,6 +2,8 @@
 //!
 //!     forest_bench [JOBS [TICKETS]]     by default 100 and 1000; at most 15999 Jobs
 //!
+//! Four coroutines also enter scopes in one forest, until it has as many Jobs.
+//!
 //! - `calls`: calls on a floor of Jobs that look first whether they may be made.
 //! - `on_passes`: calls of one pass of a forest.
 //! - `shares`: the tags of a forest, shared out among four passes.
@@ -48,7 +50,8 @@ fn sizes(rt: &(impl Env + AllocGlobal)) -> io::Result<(u16, u32)>
     Ok((jobs.clamp(4, 15999), tickets))
 }
 
-/// Four shares of so many Jobs, which are attached, ended and told gone by so many threads, and of another forest cancelled.
+/// Four shares of so many Jobs, which are attached, ended and told gone by so many threads, and of another forest cancelled; and in a third
+/// one so many Jobs, of which all but four are scopes.
 fn bench_jobs<R: Threads + Wait + Sync + Clock + Print + Eprint + AllocGlobal>(
     rt: &R,
     jobs: u16,
@@ -58,23 +61,25 @@ fn bench_jobs<R: Threads + Wait + Sync + Clock + Print + Eprint + AllocGlobal>(
     requires few { jobs ≤ 15999 }
 {
     let works = [Work::Attach, Work::EndBody, Work::Finish];
-    work_in_turn(rt, jobs, threads, &works)?;
+    work_in_turn(rt, jobs, 0, threads, &works)?;
     let works = [Work::Attach, Work::CancelRoot];
-    work_in_turn(rt, jobs, threads, &works)
+    work_in_turn(rt, jobs, 0, threads, &works)?;
+    work_in_turn(rt, 4, jobs - 4, threads, &[Work::EnterScopes])
 }
 
 fn work_in_turn<R: Threads + Wait + Sync + Clock + Print + Eprint + AllocGlobal>(
     rt: &R,
     jobs: u16,
+    scopes: u16,
     threads: u8,
     works: &[Work],
 ) -> io::Result<()>
     requires some { 4 ≤ jobs }
-    requires few { jobs ≤ 15999 }
+    requires few { jobs + scopes ≤ 15999 }
 {
     let coroutines = jobs + 1;
     let quarter = jobs / 4;
-    let Ok((forest, mut main)) = new_forest(rt.alloc(), coroutines, 0) else {
+    let Ok((forest, mut main)) = new_forest(rt.alloc(), coroutines, scopes) else {
         return Err(io::Error::from(io::ErrorKind::OutOfMemory));
     };
     let a = share_of(&forest, &mut main, 1, 1 + quarter);

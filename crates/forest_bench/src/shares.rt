@@ -35,7 +35,15 @@ pub(crate) enum Work {
     Finish,
     /// The root is cancelled, once for all tags of the share.
     CancelRoot,
+    /// Its coroutine enters scopes in the root, until no row for one is free. Only the first tag of the share does.
+    EnterScopes,
 }
+
+const SCOPE: JobKind = JobKind {
+    supervisor: false,
+    scoped: true,
+    lazy: false,
+};
 
 const PLAIN: JobKind = JobKind {
     supervisor: false,
@@ -89,6 +97,11 @@ fn work_on(
         Work::Attach => Call::Attach {
             parent: 0,
             kind: PLAIN,
+            tag,
+        },
+        Work::EnterScopes => Call::Attach {
+            parent: 0,
+            kind: SCOPE,
             tag,
         },
         Work::EndBody => Call::EndBody { row: tag, value: 1 },
@@ -147,6 +160,7 @@ pub(crate) fn run(
 {
     match work {
         Work::CancelRoot => cancel_in(forest, alloc, share),
+        Work::EnterScopes => enter_in(forest, coroutines, alloc, share),
         Work::Attach | Work::AttachBelow | Work::EndBody | Work::Finish => {
             work_through(forest, coroutines, alloc, share, work)
         }
@@ -168,6 +182,53 @@ fn cancel_in(forest: &Forest, alloc: Global, share: Share) -> Share
         count: _,
     } = share;
     let count = cancel_root(forest, &mut pass, alloc, from).unwrap_or(0);
+    Share {
+        pass,
+        from,
+        to,
+        count,
+    }
+}
+
+/// Enters a scope in the root, if a row for one is free.
+fn enter(
+    forest: &Forest,
+    coroutines: u16,
+    pass: &mut JobPass,
+    alloc: Global,
+    from: Tag,
+    to: Tag,
+) -> bool
+    requires some { from < to }
+    requires size { forest.now.size.coroutines ≡ coroutines }
+    requires owns { OwnsAll forest.now pass.old from to }
+    ensures owns { OwnsAll forest.now pass.new from to }
+{
+    work_on(forest, coroutines, pass, alloc, from, Work::EnterScopes)
+}
+
+/// Enters scopes in the root, until no row for one is free.
+fn enter_in(forest: &Forest, coroutines: u16, alloc: Global, share: Share) -> Share
+    requires some { share.from < share.to }
+    requires size { forest.now.size.coroutines ≡ coroutines }
+    requires owns { OwnsAll forest.now share.pass share.from share.to }
+    ensures from { result.from ≡ share.from }
+    ensures to { result.to ≡ share.to }
+    ensures owns { OwnsAll forest.now result.pass result.from result.to }
+{
+    let Share {
+        mut pass,
+        from,
+        to,
+        count: _,
+    } = share;
+    let mut count = 0u32;
+    for _ in 0..16000 {
+        if !enter(forest, coroutines, &mut pass, alloc, from, to) {
+            break;
+        }
+        count = count.saturating_add(1);
+    }
     Share {
         pass,
         from,
