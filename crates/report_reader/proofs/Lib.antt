@@ -1,0 +1,4 @@
+mod Numbers
+mod Cuts
+mod Waits
+mod LineLoops
