@@ -11,7 +11,7 @@
 //! - `tickets`: tickets through lanes.
 #![tactic(auto)]
 
-ghost use Rattle.std.specs.Prelude.{◌≤◌, IfOk};
+ghost use Rattle.std.specs.Prelude.{◌+◌, ◌≤◌, IfOk};
 
 mod at_once;
 mod calls;

@@ -4,8 +4,8 @@
 //! nobody stores. Each floor has seen a beginning of it, with all acts of its own callers; what others have done since it finds out as its
 //! callers call. So the beginning that one floor has seen may be shorter than that of another, and lack what those callers did.
 //!
-//! **A meeting** makes good for that in one direction: the first floor has then seen all that the second has. The second is as it was. Nobody
-//! acts in a meeting, so what the callers of the first had done is what they have done. It may see still more, which others have
+//! **A meeting** makes good for that in one direction: the first floor has then seen all that the second has. The second is as it was.
+//! Nobody acts in a meeting, so what the callers of the first had done is what they have done. It may see still more, which others have
 //! done meanwhile. Two floors that are to know the same meet twice, once in each direction.
 //!
 //! **An end** is a meeting after which the second floor is gone, and the first may call for the callers of both.
