@@ -1,9 +1,8 @@
--- The channels of a script's floor: those that the script declares, and a signal for each Job.
-use Rattle.std.proofs.Common.{◌≡◌, ℕ, ◌-◌, ◌<◌, ◌≤◌, ◌+◌, Bool, true, false, nat_lt, List, length, refl, sym, ◌∙◌, subst, arith, get_or, length-append}
-use Rattle.std.specs.Prelude.{replicate}
+-- That a list floor of a script's channels may be made.
+use Rattle.std.proofs.Common.{◌≡◌, ℕ, ◌<◌, true, length, refl, subst, arith, get_or}
 use Rattle.std.specs.List.{All}
 use Rattle.std.proofs.lemmas.Bool.Decides.{nat_tests}
-use Rattle.std.proofs.lemmas.List.{get_or_default, get_or_append_left, get_or-append_right, get_or-replicate, length-replicate}
+use Rattle.std.proofs.lemmas.List.{get_or_default}
 use Rattle.channel_model.specs.declared.acts.Kind.{Kind}
 use Rattle.channel_model.specs.declared.acts.Kind.TheVariants.{Rendezvous, Buffered, Unlimited, Conflated, DropOldest, Signal}
 use Rattle.channel_model.specs.Channels.{kind_at}
@@ -11,42 +10,9 @@ use Rattle.one_thread_floor.specs.ListFloors.{MayBeMade, has_capacity}
 use Rattle.script_grammar.specs.Programs.{Program, shape_of}
 use Rattle.script_grammar.specs.Grammar.{is_kind}
 use Rattle.script_grammar.specs.WellFormed.{IsProgram}
-use Rattle.script_grammar.specs.Tags.{job_count}
-use Rattle.script_grammar.proofs.Truths.{lt-from_true, le-from_lt_false}
-use Rattle.script_grammar.proofs.Declarations.{length-shape_of, places_at-shape_of, kind_at-shape}
-use Rattle.script_grammar.proofs.JobsCounted.{whole_load-job_count}
+use Rattle.script_grammar.proofs.Declarations.{places_at-shape_of, kind_at-shape}
 use Rattle.script_meaning.specs.Shapes.{floor_shape}
-
--- a script has few Jobs
-pub few_jobs : (p : Program) → IsProgram p → job_count p ≤ 16000
-few_jobs p ok = omega (arith, ok.load, whole_load-job_count p ok)
-
-length-floor_shape : (p : Program) → length (floor_shape p) ≡ length p.channels + job_count p
-length-floor_shape p = omega (arith, length-append (shape_of p) (replicate (job_count p) (Signal, 1)), length-shape_of p, length-replicate {A = Kind × ℕ} (job_count p) (Signal, 1))
-
-pub few_channels : (p : Program) → IsProgram p → length (floor_shape p) ≤ 65536
-few_channels p ok = omega (arith, length-floor_shape p, ok.few_channels, few_jobs p ok)
-
--- what holds of the declared channels and of a signal with one place holds of each
-each_channel : (P : Kind × ℕ → Type 0) (p : Program) → ((c : ℕ) → c < length (shape_of p) → P (get_or (shape_of p) c (Signal, 0))) → P (Signal, 1) → (c : ℕ) → c < length (floor_shape p) → P (get_or (floor_shape p) c (Signal, 0))
-each_channel P p declared done c lt = by_test (nat_lt c n) refl
-  where
-    n : ℕ
-    n = length (shape_of p)
-
-    signals : List (Kind × ℕ)
-    signals = replicate (job_count p) (Signal, 1)
-
-    in_range : n ≤ c → c - n < job_count p
-    in_range le = omega (arith, lt, le, length-floor_shape p, length-shape_of p)
-
-    by_test : (b : Bool) → nat_lt c n ≡ b → P (get_or (floor_shape p) c (Signal, 0))
-    by_test true e =
-        let low = lt-from_true c n e in
-        subst P (sym (get_or_append_left (shape_of p) signals (Signal, 0) c low)) (declared c low)
-    by_test false e =
-        let le = le-from_lt_false c n e in
-        subst P (sym (get_or-append_right (shape_of p) signals n c (Signal, 0) refl le ∙ get_or-replicate (job_count p) (c - n) (Signal, 1) (Signal, 0) (in_range le))) done
+use Rattle.engine_base.proofs.ChannelKinds.{each_channel}
 
 capacity_of : (kind : Kind) → is_kind kind ≡ true → has_capacity kind ≡ true
 capacity_of Rendezvous e = refl

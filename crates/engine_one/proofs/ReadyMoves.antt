@@ -1,15 +1,12 @@
 -- A poll leaves fewer moves, or nothing happened; and where it leaves its coroutine ready, fewer moves.
-use Rattle.std.specs.Prelude.{◌≡◌, ℕ, ◌+◌, ◌*◌, ◌<◌, ◌≤◌, ◌⊎◌, true, List, [], ◌++◌, length, Option, Some, None, refl, slice_get}
+use Rattle.std.specs.Prelude.{◌≡◌, ℕ, ◌+◌, ◌*◌, ◌<◌, ◌≤◌, ◌⊎◌, true, List, [], length, Option, Some, None, refl, slice_get}
 use Rattle.std.specs.List.{sum_by}
-use mathlib.Core.List.{IsPrefix}
-use Rattle.std.proofs.Common.{ap, sym, ◌∙◌, subst, arith, inl, inr, ⊎_elim, set, length-append}
+use Rattle.std.proofs.Common.{ap, sym, ◌∙◌, subst, arith, inl, inr, ⊎_elim, set}
 use Rattle.std.proofs.Math.Nat.{mul-le-mul_left}
-use Rattle.std.proofs.lemmas.List.{append-nil, nil_from_length}
 use Rattle.channel_model.specs.Histories.{Legal}
 use Rattle.channel_model.specs.Floors.{Added}
 use Rattle.channel_model.specs.Left.{left_all}
 use Rattle.channel_model.proofs.LeftOnFloors.{added_lowers}
-use Rattle.job_model.specs.declared.acts.JobEntry.{JobEntry}
 use Rattle.job_model.specs.declared.acts.JobState.{JobState}
 use Rattle.job_model.specs.declared.acts.JobState.TheVariants.{New, Active, Completing, Cancelling, Cancelled, Completed}
 use Rattle.job_model.specs.Trees.{Shape, Job, is_ended}
@@ -33,12 +30,13 @@ use Rattle.script_meaning.proofs.InsideCode.{reach_fits}
 use Rattle.script_meaning.proofs.MovesFall.{receipts, FallsBy, once_falls}
 use Rattle.script_laws.proofs.EndsToSee.{seen_closed}
 use Rattle.script_meaning.proofs.BodiesOpen.{Knows, stands_knows, named_attached, scope_here}
+use Rattle.run_laws.proofs.Prefixes.{between_same}
+use Rattle.run_laws.proofs.Places.{sum_by-set_by}
 use Rattle.poll_states.specs.declared.frame.Frame.{Frame}
 use Rattle.poll_states.specs.Frames.{frame_of, config_of, items_of}
 use Rattle.poll_states.specs.Steps.{PolledTo, MovesOn}
 use Rattle.engine_one.specs.Coroutines.{Scene, IsSame, FrameStands, AllStand, frame_moves}
 use Rattle.engine_one.specs.Progress.{MovesFall}
-use Rattle.engine_one.proofs.Lists.{sum_by-set_by}
 use Rattle.engine_one.proofs.Histories.{nothing_added, no_jobs_added}
 
 -- ---- one poll
@@ -89,17 +87,6 @@ pub told_none : (told : List Told) → told ≡ [] → items_in told ≡ []
 unfolding items_in
 told_none told e = ap items_in e
 
--- what lies between two histories that are one is that one
-between_same : (xs ys zs : List JobEntry) → IsPrefix xs ys → IsPrefix ys zs → zs ≡ xs → ys ≡ zs
-between_same xs ys zs p q e =
-    let first = length-append xs p.0 in
-    let second = length-append ys q.0 in
-    let middle : length (xs ++ p.0) ≡ length ys = ap length p.1 in
-    let whole : length (ys ++ q.0) ≡ length zs = ap length q.1 in
-    let same : length zs ≡ length xs = ap length e in
-    let none : q.0 ≡ [] = nil_from_length q.0 (omega (arith, first, second, middle, whole, same)) in
-    sym (append-nil ys) ∙ ap (λ l. ys ++ l) (sym none) ∙ q.1
-
 -- the row whose end it has to see is one of the floor
 row_within : (p : Program) (b : Scene) (g : Frame) (row : ℕ) → LegalJobs b.jobs.shape b.jobs.seen → (on : StandsOn p b.channels b.jobs (frame_of g)) → HasToSee p g.tag (config_of g) row → row < b.jobs.shape.rows
 row_within p b g row legal on h = by_case row h
@@ -138,7 +125,7 @@ never_asks p a b frames f g answer all legal legal_jobs same h asks =
     let closed = seen_closed p g.tag (seen_by b.channels b.jobs) (items_of g) (config_of g) asks.row (subst (λ z. Legal z b.channels.seen) on.channels legal) on.channel_acts on.runs sees in
     let ended : has_ended (replay b.jobs.seen asks.row) ≡ true = all.dones asks.row (row_within p b g asks.row legal_jobs on sees) closed in
     let now : end_at (replay b.jobs.seen asks.row) ≡ None =
-    subst (λ es. end_at (replay es asks.row) ≡ None) (between_same a.jobs.seen asks.not_ended.moment b.jobs.seen asks.not_ended.after asks.not_ended.before same.jobs) asks.not_ended.holds in
+    subst (λ es. end_at (replay es asks.row) ≡ None) (between_same a.jobs.seen asks.not_ended.moment b.jobs.seen asks.not_ended.after asks.not_ended.before same.jobs ∙ sym same.jobs) asks.not_ended.holds in
     ended_some (replay b.jobs.seen asks.row) ended now
 
 -- ---- what a turn comes to

@@ -1,12 +1,11 @@
 -- A turn of one coroutine, as it leaves all frames.
-use Rattle.std.proofs.Common.{◌≡◌, ◌≢◌, ℕ, ◌<◌, ◌≤◌, Bool, true, false, ◌||◌, List, [], ◌∷◌, ◌++◌, length, get_or, set, Option, Some, None, refl, ap, sym, ◌∙◌, subst, arith, slice_get, inl, inr, length-set, length-append, ⊎_elim}
-use Rattle.std.specs.Prelude.{◌==◌, ◌+◌, ◌*◌, ◌⊎◌, nat_lt}
-use Rattle.std.specs.List.{list_any, sum_by}
+use Rattle.std.proofs.Common.{◌≡◌, ◌≢◌, ℕ, ◌<◌, ◌≤◌, Bool, true, false, List, [], ◌∷◌, ◌++◌, length, get_or, set, Option, Some, None, refl, ap, sym, ◌∙◌, subst, arith, slice_get, inl, inr, length-set, length-append, ⊎_elim}
+use Rattle.std.specs.Prelude.{◌==◌, ◌+◌, ◌*◌, nat_lt}
+use Rattle.std.specs.List.{sum_by}
 use Rattle.std.proofs.lemmas.Bool.{eqb-true}
 use Rattle.std.proofs.lemmas.Bool.Decides.{nat_tests}
 use Rattle.std.proofs.lemmas.List.{append-nil}
-use Rattle.std.proofs.lemmas.List.Folds.{list_any-append}
-use Rattle.channel_model.specs.Histories.{Legal, acts_of}
+use Rattle.channel_model.specs.Histories.{Legal}
 use Rattle.channel_model.specs.Left.{left_all}
 use Rattle.channel_model.specs.Floors.{Added}
 use Rattle.job_model.specs.Histories.{Legal as LegalJobs}
@@ -20,40 +19,24 @@ use Rattle.script_grammar.specs.WellFormed.{IsProgram}
 use Rattle.script_grammar.specs.Tags.{coroutine_count}
 use Rattle.script_meaning.specs.declared.turn.Turn.{Turn}
 use Rattle.script_meaning.specs.declared.turn.Turn.TheVariants as turn
-use Rattle.script_meaning.specs.Shapes.{base_of, floor_shape, job_shape}
-use Rattle.script_meaning.specs.Books.{is_refusal}
-use Rattle.call_meaning.specs.Endings.{ClosesAtOnce}
+use Rattle.script_meaning.specs.Shapes.{floor_shape, job_shape}
 use Rattle.script_meaning.specs.MovesLeft.{moves_left, most_moves}
-use Rattle.script_meaning.specs.Polls.{Polled, StandsOn, Frame as Meant}
+use Rattle.script_meaning.specs.Polls.{Polled}
 use Rattle.poll_states.specs.declared.frame.Frame.{Frame}
 use Rattle.poll_states.specs.Frames.{Stands, frame_of, config_of, items_of, IsUnmoved}
 use Rattle.poll_states.specs.Steps.{PolledTo, MovesOn}
-use Rattle.script_laws.proofs.NoRefusals.{AreClaimed}
-use Rattle.script_laws.proofs.NotSpent.{AllNoted, polled_never}
-use Rattle.poll_states.proofs.LaterStands.{stands_later, others_added, same_acts, same_job_acts, claims_within}
-use Rattle.poll_states.proofs.CannotGoOn.{cannot_go_on}
+use Rattle.run_laws.proofs.RefusalsTold.{polled_refused, refused_later}
+use Rattle.run_laws.proofs.LaterStands.{stands_later, others_added, same_acts, same_job_acts, claims_within}
+use Rattle.run_laws.proofs.CannotGoOn.{cannot_go_on}
+use Rattle.run_laws.proofs.Places.{slice_get-Some, slice_get-set_same, slice_get-set_other, sum_by-set_same}
 use Rattle.engine_one.specs.Coroutines.{Scene, IsSame, FrameStands, StandsAt, AllStand, IsLeftAt, frame_moves, all_moves}
 use Rattle.engine_one.specs.Progress.{MovesFall, StandsStill, Advances, OthersSame, TurnCameTo}
-use Rattle.engine_one.proofs.Lists.{slice_get-Some, slice_get-set_same, slice_get-set_other, sum_by-set_same, some_at, none_past}
-use Rattle.scope_builders.proofs.DonesKept.{at_once_then}
 use Rattle.engine_one.proofs.ReadyMoves.{none_added, told_none, turned_comes, ready_falls}
 
 -- ---- the frames stand on
 
 pub frame_at : (p : Program) (s : Scene) (frames : List Frame) (k : ℕ) (f : Frame) → AllStand p s frames → slice_get frames k ≡ Some f → FrameStands p s k f
 frame_at p s frames k f h e = subst (StandsAt p s k) e (h.each k)
-
--- it stands, and this is its tag
-abbrev pub IsOn : Program → Scene → ℕ → Option Frame → Type 0
-IsOn p s k None = Unit {0}
-IsOn p s k (Some f) = (f.tag ≡ k) × Stands p s.channels s.jobs f
-
--- where each frame stands, each row was claimed by one of them
-pub are_claimed : (p : Program) (s : Scene) (frames : List Frame) → length frames ≡ coroutine_count p → ((k : ℕ) → IsOn p s k (slice_get frames k)) → ((r t : ℕ) → s.jobs.claims r ≡ Some t → t < coroutine_count p) → AreClaimed p s.channels s.jobs
-are_claimed p s frames count each within r t e =
-    let x = some_at frames t (omega (arith, count, within r t e)) in
-    let on = subst (IsOn p s t) x.1 (each t) in
-    (frame_of x.0, on.1.on, on.0)
 
 pub turned_stand : (p : Program) (a b : Scene) (frames : List Frame) (k : ℕ) (f g : Frame) (answer : Turn) → IsProgram p → AllStand p a frames → k < length frames → f ≡ get_or frames k f → Legal b.channels.shape b.channels.seen → LegalJobs b.jobs.shape b.jobs.seen → PolledTo p a.channels b.channels a.jobs b.jobs f g answer → AllStand p b (set frames k g)
 turned_stand p a b frames k f g answer is h lt read legal_channels legal turned = record {
@@ -62,7 +45,7 @@ turned_stand p a b frames k f g answer is h lt read legal_channels legal turned 
   channels_alone = added.same.alone ∙ h.channels_alone;
   jobs_alone = jobs.same.alone ∙ h.jobs_alone;
   dones = turned.dones.only h.channels_alone h.jobs_alone h.dones;
-  no_other_calls = no_other;
+  no_other_calls = λ j le. same_acts j k (channel_acts_in notes) a.channels b.channels h.channels_alone (past j le) added ∙ h.no_other_calls j le;
   no_other_jobs = λ j le. same_job_acts j k (job_acts_in notes) (rows_in (job_acts_in notes)) a.jobs b.jobs h.jobs_alone (past j le) jobs ∙ h.no_other_jobs j le;
   claimed = claims_within (coroutine_count p) k (job_acts_in notes) (rows_in (job_acts_in notes)) a.jobs b.jobs h.jobs_alone (omega (arith, lt, h.count)) jobs h.claimed;
 }
@@ -85,9 +68,6 @@ turned_stand p a b frames k f g answer is h lt read legal_channels legal turned 
     past : (j : ℕ) → coroutine_count p ≤ j → k ≢ j
     past j le e = absurd (omega (arith, e, le, lt, h.count))
 
-    no_other : (j : ℕ) → coroutine_count p ≤ j → acts_of j b.channels.seen ≡ []
-    no_other j le = same_acts j k (channel_acts_in notes) a.channels b.channels h.channels_alone (past j le) added ∙ h.no_other_calls j le
-
     -- another stands where it stood
     other_on : (j : ℕ) (x : Frame) → k ≢ j → FrameStands p a j x → Stands p b.channels b.jobs x
     other_on j x n s = record {
@@ -96,51 +76,19 @@ turned_stand p a b frames k f g answer is h lt read legal_channels legal turned 
           s.stands.on;
     }
 
-    place_of : (j : ℕ) (o : Option Frame) → k ≢ j → StandsAt p a j o → IsOn p b j o
-    place_of j None n s = tt
-    place_of j (Some x) n s = (s.tag, other_on j x n s)
-
-    on_at : (j : ℕ) (t : Bool) → (k == j) ≡ t → IsOn p b j (slice_get (set frames k g) j)
-    on_at j true e =
-        let here : IsOn p b k (slice_get (set frames k g) k) = subst (IsOn p b k) (sym (slice_get-set_same frames k g lt)) (polled.tag ∙ was.tag, turned.stands) in
-        subst (λ n. IsOn p b n (slice_get (set frames k g) n)) (eqb-true k j e) here
-    on_at j false e =
-        let n : k ≢ j = λ q. grind (arith, nat_tests) in
-        subst (IsOn p b j) (sym (slice_get-set_other frames k j g n)) (place_of j (slice_get frames j) n (h.each j))
-
-    claimed_at : AreClaimed p b.channels b.jobs
-    claimed_at = are_claimed p b (set frames k g) (length-set frames k g ∙ h.count) (λ j. on_at j (k == j) refl)
-        (claims_within (coroutine_count p) k (job_acts_in notes) (rows_in (job_acts_in notes)) a.jobs b.jobs h.jobs_alone (omega (arith, lt, h.count)) jobs h.claimed)
-
-    -- whoever made an entry stands
-    noted_at : AllNoted p b.channels b.jobs
-    noted_at t = by_option (slice_get (set frames k g) t) refl (on_at t (k == t) refl)
-      where
-        by_option : (o : Option Frame) → slice_get (set frames k g) t ≡ o → IsOn p b t o → (acts_of t b.channels.seen ≡ []) ⊎ ((x : Meant) × StandsOn p b.channels b.jobs x × (x.tag ≡ t))
-        by_option None e z = inl (no_other t (omega (arith, h.count, length-set frames k g, none_past (set frames k g) t e)))
-        by_option (Some x) e z = inr (frame_of x, z.1.on, z.0)
-
     legal_then : LegalJobs (job_shape p) b.jobs.seen
     legal_then = subst (λ z. LegalJobs z b.jobs.seen) turned.stands.on.jobs legal
-
-    no_refusal : list_any (is_refusal (base_of p)) (items_of g) ≡ false
-    no_refusal =
-        ap (list_any (is_refusal (base_of p))) polled.appended
-        ∙ list_any-append (is_refusal (base_of p)) (items_of f) notes
-        ∙ ap (λ b. b || list_any (is_refusal (base_of p)) notes) was.no_refusal
-        ∙ polled_never p a.channels b.channels a.jobs b.jobs (frame_of f) (frame_of g) is (subst (λ z. Legal z b.channels.seen) turned.stands.on.channels legal_channels) legal_then was.stands.on turned.stands.on claimed_at noted_at polled
 
     here_at : FrameStands p b k g
     here_at = record {
       tag = polled.tag ∙ was.tag;
       stands = turned.stands;
-      closes = subst (ClosesAtOnce (base_of p)) (sym polled.appended) (at_once_then (base_of p) (items_of f) notes was.closes (turned.dones.at_once h.channels_alone h.jobs_alone h.dones));
-      no_refusal = no_refusal;
+      refused = polled_refused p a.channels b.channels a.jobs b.jobs (frame_of f) (frame_of g) is legal_then was.stands.on turned.stands.on polled was.refused;
     }
 
     kept : (j : ℕ) (o : Option Frame) → k ≢ j → StandsAt p a j o → StandsAt p b j o
     kept j None n s = tt
-    kept j (Some x) n s = record { tag = s.tag; stands = other_on j x n s; closes = s.closes; no_refusal = s.no_refusal }
+    kept j (Some x) n s = record { tag = s.tag; stands = other_on j x n s; refused = refused_later p a.jobs b.jobs (frame_of x) jobs.claims.kept s.refused }
 
     each_at : (j : ℕ) (t : Bool) → (k == j) ≡ t → StandsAt p b j (slice_get (set frames k g) j)
     each_at j true e =

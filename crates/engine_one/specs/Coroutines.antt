@@ -1,23 +1,21 @@
 -- All coroutines of a run, on one floor of channels and one of Jobs.
-use Rattle.std.specs.Prelude.{◌≡◌, ℕ, ◌+◌, ◌*◌, ◌<◌, ◌≤◌, true, false, List, [], length, Option, Some, None, slice_get, map}
-use Rattle.std.specs.List.{list_any, sum_by}
+use Rattle.std.specs.Prelude.{◌≡◌, ℕ, ◌+◌, ◌*◌, ◌<◌, ◌≤◌, true, List, [], length, Option, Some, None, slice_get}
+use Rattle.std.specs.List.{sum_by}
 use mathlib.Core.List.{IsPrefix}
 use Rattle.channel_model.specs.Histories.{replay, acts_of}
 use Rattle.channel_model.specs.Floors.{Floor as ChannelFloor}
 use Rattle.channel_model.specs.Left.{left_all}
 use Rattle.job_model.specs.Histories.{acts_of as job_acts_of}
 use Rattle.job_model.specs.Floors.{Floor}
-use Rattle.note_book.specs.declared.book.Item.{Item}
 use Rattle.scope_builders.specs.Dones.{OnlyEndedAreClosed}
 use Rattle.script_grammar.specs.Programs.{Program}
 use Rattle.script_grammar.specs.Tags.{coroutine_count}
 use Rattle.script_meaning.specs.Shapes.{base_of, floor_shape}
-use Rattle.call_meaning.specs.Endings.{ClosesAtOnce}
-use Rattle.script_meaning.specs.Books.{is_refusal}
 use Rattle.script_meaning.specs.Idle.{IsLeft}
 use Rattle.script_meaning.specs.MovesLeft.{moves_left, most_moves}
+use Rattle.run_laws.specs.Refusals.{RefusedSo}
 use Rattle.poll_states.specs.declared.frame.Frame.{Frame}
-use Rattle.poll_states.specs.Frames.{Stands, config_of, items_of}
+use Rattle.poll_states.specs.Frames.{Stands, frame_of, config_of, items_of}
 
 -- what all coroutines have seen of the two floors
 pub record Scene : Type 0 where
@@ -41,9 +39,7 @@ pub record IsSame (a b : Scene) : Type 0 where
 pub record FrameStands (p : Program) (s : Scene) (k : ℕ) (f : Frame) : Type 0 where
   pub tag : f.tag ≡ k
   pub stands : Stands p s.channels s.jobs f
-  -- right after each end of a Job that it noted, its done channel is closed
-  pub closes : ClosesAtOnce (base_of p) (items_of f)
-  pub no_refusal : list_any (is_refusal (base_of p)) (items_of f) ≡ false
+  pub refused : RefusedSo p s.jobs (frame_of f)
 
 -- the same of the frame at place k, where there is one
 abbrev pub StandsAt : Program → Scene → ℕ → Option Frame → Type 0
@@ -79,7 +75,3 @@ frame_moves p f = moves_left p f.tag (config_of f)
 -- an upper bound of the moves that all have left: each element that is received takes something from what is left of the channels
 abbrev pub all_moves : Program → Scene → List Frame → ℕ
 all_moves p s frames = most_moves p * left_all (floor_shape p) s.channels.seen + sum_by (frame_moves p) frames
-
--- what the coroutines noted
-abbrev pub books_of : List Frame → List (List Item)
-books_of frames = map items_of frames

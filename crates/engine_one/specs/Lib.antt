@@ -2,6 +2,5 @@ pub mod Tags
 pub mod Coroutines
 pub mod Progress
 pub mod Starting
-pub mod Endings
 pub mod Runs
 pub mod Sharing

@@ -4,8 +4,8 @@ use Rattle.one_thread_floor.specs.ListFloors.{floor_of}
 use Rattle.one_thread_floor.specs.TreeFloors.{floor_of as tree_of}
 use Rattle.note_book.specs.Books.{notes_of}
 use Rattle.script_grammar.specs.Programs.{Program}
+use Rattle.run_laws.specs.Ends.{IsRunAtRest}
 use Rattle.engine_one.specs.declared.run.ListRun.{ListRun}
-use Rattle.engine_one.specs.Endings.{IsRunAtRest}
 
 -- the books are those of a run of the script with the histories of these two floors, which came to rest
 abbrev pub CameToRest : Program → ListRun → Type 0

@@ -9,13 +9,10 @@
 //! - `run`: a whole run, and its turns.
 //! - `turns`: polls of one coroutine, and of all.
 //! - `ready_tags`: who is to be polled next.
-//! - `finish`: what a run leaves.
 //! - `locked`: a whole run by several workers.
 //! - `shared`: what they share, under a lock.
-//! - `workers`: a whole run by one worker or several.
 #![tactic(auto)]
 
-mod finish;
 mod locked;
 mod ready_tags;
 mod run;
@@ -23,8 +20,6 @@ mod shared;
 mod start;
 mod state;
 mod turns;
-mod workers;
 
 pub use locked::run_locked;
 pub use run::{ListRun, run_one};
-pub use workers::run_by;

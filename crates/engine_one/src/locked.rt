@@ -8,10 +8,11 @@ ghost use Rattle.engine_one.specs.Runs.{CameToRest, TellsIdle};
 ghost use Rattle.engine_one.specs.Coroutines.{AllStand, AllLeft, scene};
 
 use crate::run::{ListRun, run_left};
-use crate::shared::{ScriptName, SharedRun};
+use crate::shared::SharedRun;
 use crate::start::start;
 use crate::state::Run;
 use co_base::{Gate, Memory};
+use engine_base::ScriptName;
 use one_thread_floor::{ListFloor, TreeFloor};
 use script_reader::Script;
 use std::alloc::Global;

@@ -8,10 +8,10 @@ ghost use Rattle.engine_one.specs.Runs.{CameToRest, TellsIdle};
 ghost use Rattle.engine_one.specs.Coroutines.{AllStand, AllLeft, scene};
 ghost use Rattle.engine_one.specs.Progress.{LeftWhere, RoundIsCalm, turns_left};
 
-use crate::finish::done_of;
 use crate::start::start;
 use crate::state::Run;
 use co_base::{Gate, Memory};
+use engine_base::done_of;
 use one_thread_floor::{ListFloor, TreeFloor};
 use poll_states::Done;
 use script_reader::Script;

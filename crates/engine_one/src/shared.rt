@@ -10,25 +10,13 @@ ghost use Rattle.engine_one.specs.Sharing.{has_stopped, turns_after};
 
 use crate::state::Run;
 use co_base::{Gate, Memory};
+use engine_base::ScriptName;
 use one_thread_floor::{ListFloor, TreeFloor};
 use script_reader::Script;
-use std::marker::{Brand, Model, PhantomData};
+use std::marker::{Model, PhantomData};
 
 /// How many turns a worker makes while it has the lock, if the run is not over before.
 const TURNS_AT_ONCE: u32 = 64;
-
-/// Which script is run. Each run picks its own.
-pub trait ScriptName {
-    ghost use Rattle.script_grammar.specs.Programs.{Program};
-
-    ghost program: { Program };
-}
-
-impl ScriptName for Brand {
-    ghost use Rattle.std.specs.Prelude.{[]};
-
-    ghost program = { record { channels = []; blocks = []; spawns = [] } };
-}
 
 /// A run of the named script, whether it is over, and whether a turn found no memory. A turn that found none may have left the run
 /// anyhow, and no turn is made after it.

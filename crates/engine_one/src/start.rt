@@ -4,15 +4,15 @@ ghost use Rattle.std.specs.Prelude.{◌≡◌, length, true, IfOk, OnOk};
 ghost use Rattle.one_thread_floor.specs.ListFloors.{floor_of};
 ghost use Rattle.one_thread_floor.specs.TreeFloors.{floor_of as tree_of};
 ghost use Rattle.script_reader.specs.Scripts.{program_of};
-ghost use Rattle.script_grammar.specs.Tags.{coroutine_count, job_count};
-ghost use Rattle.script_meaning.specs.Shapes.{floor_shape};
+ghost use Rattle.script_grammar.specs.Tags.{coroutine_count};
 ghost use Rattle.engine_one.specs.Coroutines.{AllStand, scene};
 ghost use Rattle.engine_one.specs.Starting.{AllMade, HasNoCalls, HasNoJobs};
 
 use crate::ready_tags::ReadyTags;
 use crate::state::Run;
-use channel_model::{ChannelFloor, Kind};
+use channel_model::ChannelFloor;
 use co_base::{Memory, Tag};
+use engine_base::kinds_of;
 use job_model::JobFloor;
 use one_thread_floor::{ListFloor, TreeFloor};
 use poll_states::{Frame, begin};
@@ -75,28 +75,6 @@ fn channels_of(alloc: Global, script: &Script) -> Result<ListFloor, Memory>
 {
     let kinds = kinds_of(alloc, script)?;
     ListFloor::new(alloc, &kinds)
-}
-
-/// The kinds and places of the channels that the script declares, and of the done channels.
-fn kinds_of(alloc: Global, script: &Script) -> Result<Vec<(Kind, u32)>, Memory>
-    ensures { IfOk result (λ kinds. kinds.items ≡ floor_shape (program_of script.now)) }
-{
-    let channels = script.channels();
-    let mut kinds = Vec::new(alloc);
-    for channel in channels {
-        kinds.push((channel.kind, channel.places))?;
-    }
-    for _ in 0..rows_of(script) {
-        kinds.push((Kind::Signal, 1))?;
-    }
-    Ok(kinds)
-}
-
-/// How many Jobs there may be.
-fn rows_of(script: &Script) -> u16
-    ensures { result ≡ job_count (program_of script.now) }
-{
-    script.coroutines() + script.scopes()
 }
 
 /// A frame for each coroutine.

@@ -36,6 +36,7 @@ use Rattle.script_meaning.specs.Bodies.{is_over}
 use Rattle.script_meaning.specs.Laws.{wait_of}
 use Rattle.script_meaning.specs.WaitEnds.{after_wait, WaitEnds}
 use Rattle.script_meaning.specs.Polls.{HasStood}
+use Rattle.script_meaning.proofs.StagesAfter.{after_stage}
 use Rattle.script_meaning.proofs.LinesPlaced.{opened_closed}
 use Rattle.script_meaning.proofs.WaitsEnd.{wait_ends, after_wait_none}
 use Rattle.script_meaning.proofs.WaitsGivenUp.{given_up_end, dispatched}
@@ -148,26 +149,6 @@ answer_told : (w : WaitId) (outcome : Settled) (a : Answer) → Resumed outcome 
 answer_told w _ _ (Resumed.value n v) = refl
 answer_told w _ _ (Resumed.sent n) = refl
 answer_told w _ _ (Resumed.closed n v) = refl
-
--- what is false of a stage, and of each that an answer leads to, is false after the answer
-pub after_stage : (test : Stage → Bool) → ((w : WaitId) → test (Waiting w) ≡ false) → ((failure : Option ℕ) → test (Unwinding failure) ≡ false) → test Running ≡ false → test SeesJob ≡ false
-    → (p : Program) (k : ℕ) (x : Config) (i : Instruction) (a : Answer) (y : Config) → test x.stage ≡ false → After p k x i a y → test y.stage ≡ false
-after_stage test waits unwinds runs sees p k x _ _ _ o (After.waits i w) = waits w
-after_stage test waits unwinds runs sees p k x _ _ _ o (After.no_place i) = unwinds (Some k)
-after_stage test waits unwinds runs sees p k x _ _ _ o (After.sent c v) = runs
-after_stage test waits unwinds runs sees p k x _ _ _ o (After.tried_to_send c v) = runs
-after_stage test waits unwinds runs sees p k x _ _ _ o (After.got c v) = runs
-after_stage test waits unwinds runs sees p k x _ _ _ o (After.no_more c v) = runs
-after_stage test waits unwinds runs sees p k x _ _ _ o (After.tried_and_got c v) = runs
-after_stage test waits unwinds runs sees p k x _ _ _ o (After.tried_to_get c) = runs
-after_stage test waits unwinds runs sees p k x _ _ _ o (After.got_one_more c v) = runs
-after_stage test waits unwinds runs sees p k x _ _ _ o (After.got_all c v e is) = runs
-after_stage test waits unwinds runs sees p k x _ _ _ o (After.chose_send e is) = runs
-after_stage test waits unwinds runs sees p k x _ _ _ o (After.chose_got e v is) = runs
-after_stage test waits unwinds runs sees p k x _ _ _ o (After.chose_closed e v is) = runs
-after_stage test waits unwinds runs sees p k x _ _ _ o After.looks_again = o
-after_stage test waits unwinds runs sees p k x _ _ _ o (After.joined job v) = runs
-after_stage test waits unwinds runs sees p k x _ _ _ o (After.awaited job v) = sees
 
 -- a line does not end the body
 ends_open : (p : Program) (k : ℕ) (x : Config) (i : Instruction) (outcome : Settled) → is_over x.stage ≡ false → WaitEnds p k x i outcome → is_over (after_wait p k x i outcome).stage ≡ false

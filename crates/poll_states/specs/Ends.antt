@@ -139,7 +139,7 @@ SeenAnswer p c c' j j' f g (Err m) = CutShort c c' j j' f g
 
 -- ---- after a step
 
--- what is done behind a step: where an end is to be seen it is looked for; else the coroutine is looked at
+-- what is done after a step: if an end is to be seen it is looked for; else the coroutine is looked at
 pub data WentOn (p : Program) (c c' : ChannelFloor) (j j' : Floor) (f g : Frame) (answer : Turn) : Type 0 where
   seen : is_seeing f.stage ≡ true → answer ≡ turn.Ready → Seen p c c' j j' f g → WentOn p c c' j j' f g answer
   answered : g ≡ f → c' ≡ c → AnsweredAfter f j j' answer → WentOn p c c' j j' f g answer

@@ -19,7 +19,7 @@ clause_in x (line.OnSend c o) = Some (sends c (operand x o))
 clause_in x (line.OnReceive c) = Some (receives c)
 clause_in x other = None
 
--- where it is whose chosen clause came to this: behind the end of the select
+-- where it is whose chosen clause came to this: after the end of the select
 abbrev pub AfterChosen : Program → ℕ → Outcome → Config → Config → Type 0
 AfterChosen p k outcome.Sent x y = GoesPast p k x y
 AfterChosen p k (outcome.Value v) x y = GoesPast p k (received v x) y

@@ -169,7 +169,7 @@ pub record AnsweredAfter (f : Frame) (old new : Floor) (answer : Turn) : Type 0 
   pub looked : Added f.tag [] [] old new
   pub so : IsAnswerAt (innermost f.tag (config_of f)) f.stage old new answer
 
--- a coroutine at a select has no end to see behind it, and alone on its floors it does not look again
+-- a coroutine at a select has no end to see after it, and alone on its floors it does not look again
 abbrev pub MovesOn : Program → ChannelFloor → Frame → Frame → Type 0
 MovesOn p c f g =
     IsAt p f.tag (config_of f) Select

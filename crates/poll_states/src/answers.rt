@@ -24,7 +24,7 @@ use script_meaning::Stage;
 use script_reader::{Instruction, Script};
 
 /// What the call of a line came to.
-#[derive(Clone, Copy, Debug, PartialEq, Eq)]
+#[derive(Clone, Copy)]
 pub(crate) enum Came {
     /// It is done, and brought no element.
     Done,
@@ -106,7 +106,7 @@ pub(crate) fn unwinds_for(cause: Cause) -> Stage
 }
 
 impl Frame {
-    /// Goes on where the call of this line came to this. Takes no memory.
+    /// Goes on after the call of this line came to this. Takes no memory.
     pub(crate) fn go_on(&mut self, script: &Script, line: Instruction, came: Came)
         requires tag { self.old.tag < coroutine_count (program_of script.now) }
         requires at { LineIs (program_of script.now) self.old.tag (config_of self.old) line }
@@ -125,7 +125,7 @@ impl Frame {
         }
     }
 
-    /// Goes on where the call of this line on a Job came to this, or, where it made none, unwinds. Takes no memory.
+    /// Goes on after the call of this line on a Job came to this, or, if it made none, unwinds. Takes no memory.
     pub(crate) fn go_on_named(&mut self, script: &Script, line: Instruction, came: Option<Came>)
         requires tag { self.old.tag < coroutine_count (program_of script.now) }
         requires at { LineIs (program_of script.now) self.old.tag (config_of self.old) line }
@@ -153,7 +153,7 @@ impl Frame {
         self.at_line(end + 1);
     }
 
-    /// Goes on where the wait of this line ended so. Takes no memory.
+    /// Goes on after the wait of this line ended so. Takes no memory.
     pub(crate) fn go_on_after(&mut self, script: &Script, line: Instruction, outcome: Settled)
         requires tag { self.old.tag < coroutine_count (program_of script.now) }
         requires at { LineIs (program_of script.now) self.old.tag (config_of self.old) line }
@@ -171,7 +171,7 @@ impl Frame {
         }
     }
 
-    /// Goes on where this line is done, and brought no element.
+    /// Goes on after this line is done, and brought no element.
     fn go_on_done(&mut self, script: &Script, line: Instruction)
         requires tag { self.old.tag < coroutine_count (program_of script.now) }
         requires at { LineIs (program_of script.now) self.old.tag (config_of self.old) line }
@@ -186,7 +186,7 @@ impl Frame {
         }
     }
 
-    /// Goes on where this line brought an element. Takes no memory.
+    /// Goes on after this line brought an element. Takes no memory.
     fn go_on_with(&mut self, script: &Script, line: Instruction, value: Value)
         requires tag { self.old.tag < coroutine_count (program_of script.now) }
         requires at { LineIs (program_of script.now) self.old.tag (config_of self.old) line }
@@ -204,7 +204,7 @@ impl Frame {
         }
     }
 
-    /// Goes on where this line met a closed channel.
+    /// Goes on after this line met a closed channel.
     fn go_on_closed(&mut self, script: &Script, line: Instruction)
         requires tag { self.old.tag < coroutine_count (program_of script.now) }
         requires at { LineIs (program_of script.now) self.old.tag (config_of self.old) line }

@@ -22,7 +22,7 @@ use note_book::Notes;
 use script_reader::{Instruction, Operand, Script};
 
 /// The call of a line on a channel, with what it sends.
-#[derive(Clone, Copy, Debug, PartialEq, Eq)]
+#[derive(Clone, Copy)]
 pub(crate) enum ChannelCall {
     Send(ChannelId, Operand),
     TrySend(ChannelId, Operand),

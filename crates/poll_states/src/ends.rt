@@ -19,7 +19,7 @@ use script_meaning::Stage;
 use script_reader::{Instruction, Script};
 
 impl Frame {
-    /// Goes on where the Job that it awaited ended so.
+    /// Goes on after the Job that it awaited ended so.
     pub(crate) fn go_on_job_ended(&mut self, end: End)
         requires { self.old.line < usize.MAX }
         ensures tag { self.new.tag ≡ self.old.tag }

@@ -5,7 +5,7 @@ ghost use Rattle.poll_states.specs.Frames.{stack_of, IsScopeOf};
 use co_base::Row;
 
 /// What a coroutine has entered and not left; each names the line at which it begins.
-#[derive(Clone, Copy, Debug, PartialEq, Eq)]
+#[derive(Clone, Copy)]
 pub enum Entered {
     /// A repeat, with the number of turns to come after this one.
     InRepeat { head: usize, left: u32 },
@@ -16,7 +16,7 @@ pub enum Entered {
 }
 
 /// A scope that was entered: the line at which it begins, and its row.
-#[derive(Clone, Copy, Debug, PartialEq, Eq)]
+#[derive(Clone, Copy)]
 pub(crate) struct OpenScope {
     pub(crate) head: usize,
     pub(crate) row: Row,

@@ -20,7 +20,7 @@ use script_reader::{Operand, Script};
 use std::alloc::Global;
 
 /// A coroutine between two moves.
-#[derive(Debug, Drop)]
+#[derive(Drop)]
 pub struct Frame {
     pub(crate) tag: Tag,
     /// The line at which it is, numbered from 0 in its block.
@@ -42,7 +42,7 @@ pub struct Frame {
 }
 
 /// What is left of a run: the books in order of their tags, and how the root's Job ended, if it did.
-#[derive(Debug, Drop)]
+#[derive(Drop)]
 pub struct Done {
     pub books: Vec<Notes>,
     /// Whether the root's Job has not ended.

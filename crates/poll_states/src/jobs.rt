@@ -20,7 +20,7 @@ use script_meaning::Stage;
 use script_reader::{Launching, Script};
 
 /// What a coroutine sees of a Job of its own, before the body has ended.
-#[derive(Clone, Copy, Debug, PartialEq, Eq)]
+#[derive(Clone, Copy)]
 pub(crate) enum OwnState {
     /// It is not attached, or New.
     NotStarted,
@@ -131,7 +131,7 @@ pub(crate) fn launch<C: ChannelFloor, J: JobFloor, W: Wakes, G: Gate>(
     }
 }
 
-/// Ends the body where no line is left.
+/// Ends the body if no line is left.
 pub(crate) fn end_body<C: ChannelFloor, J: JobFloor, W: Wakes>(
     script: &Script,
     frame: &mut Frame,
@@ -153,7 +153,7 @@ pub(crate) fn end_body<C: ChannelFloor, J: JobFloor, W: Wakes>(
     }
 }
 
-/// Breaks the body off where no scope is open, by the failure of a row or as cancelled.
+/// Breaks the body off if no scope is open, by the failure of a row or as cancelled.
 pub(crate) fn break_off<C: ChannelFloor, J: JobFloor, W: Wakes>(
     script: &Script,
     frame: &mut Frame,

@@ -11,8 +11,8 @@
 //! | `Fresh` | looks at the coroutine's own Job | may run: as `Running`, in this poll; Cancelling: `Unwinding` | `first_turn` |
 //! | `Running` | runs the line | `Running`, `Waiting`, `SeesJob`, `Leaving`, `SeesScope`, `Unwinding` | `line_turn`, `run_line` |
 //! | `Running`, no line left | ends the body | `Ended` | `line_turn`, `end_body` |
-//! | `Waiting`, resolved | settles the wait, where the innermost Job may run | as its line says | `wait_turn`, `end_wait` |
-//! | `Waiting` | gives the wait up, where the innermost Job is Cancelling | `Unwinding` | `wait_turn`, `give_up` |
+//! | `Waiting`, resolved | settles the wait, if the innermost Job may run | as its line says | `wait_turn`, `end_wait` |
+//! | `Waiting` | gives the wait up, if the innermost Job is Cancelling | `Unwinding` | `wait_turn`, `give_up` |
 //! | `SeesJob` | looks whether the awaited Job has ended | `Running`, `Unwinding` | `see_turn`, `see_job` |
 //! | `Unwinding`, in a scope | breaks the innermost scope off | `Leaving`, `SeesScope`, `Unwinding` | `unwind`, `break_scope` |
 //! | `Unwinding`, in none | breaks the body off | `Ended` | `unwind`, `break_off` |

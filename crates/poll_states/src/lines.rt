@@ -23,7 +23,7 @@ use job_model::{JobFloor, JobNote};
 use note_book::{Item, NoteBook};
 use script_reader::{Instruction, Operand, Script};
 
-/// Runs the line of a coroutine, or ends its body where none is left.
+/// Runs the line of a coroutine, or ends its body if none is left.
 pub(crate) fn run<C: ChannelFloor, J: JobFloor, W: Wakes, G: Gate>(
     script: &Script,
     frame: &mut Frame,

@@ -39,7 +39,7 @@ pub(crate) fn repeat<C: ChannelFloor, J: JobFloor, W: Wakes>(
     Ok(())
 }
 
-/// Ends a turn of what it entered last: goes on with the next one, or behind.
+/// Ends a turn of what it entered last: goes on with the next one, or after it.
 pub(crate) fn end_turn<C: ChannelFloor, J: JobFloor, W: Wakes>(
     script: &Script,
     frame: &mut Frame,

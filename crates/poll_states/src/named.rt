@@ -22,9 +22,9 @@ use scope_builders::Builder;
 use script_reader::{Instruction, Script};
 
 /// What a line does with the Job that it names.
-#[derive(Clone, Copy, Debug, PartialEq, Eq)]
+#[derive(Clone, Copy)]
 pub(crate) enum NamedCall {
-    /// It is started, where it is New.
+    /// It is started, if it is New.
     Start,
     /// It is cancelled, with all below it.
     Cancel,

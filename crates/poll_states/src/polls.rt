@@ -22,7 +22,7 @@ use note_book::NoteBook;
 use script_meaning::{Stage, Turn};
 use script_reader::Script;
 
-/// Runs at most one line of a coroutine: ends its wait where that was resolved or the coroutine's Job is Cancelling, runs its line, or
+/// Runs at most one line of a coroutine: ends its wait if that was resolved or the coroutine's Job is Cancelling, runs its line, or
 /// ends its body.
 ///
 /// On want of memory the entries made so far stand and are noted, and the frame may only be turned into its book or dropped. The gate is
@@ -76,7 +76,7 @@ fn turn_of<C: ChannelFloor, J: JobFloor, W: Wakes, G: Gate>(
     }
 }
 
-/// Begins, where the own Job may run, with the first line.
+/// Begins, if the own Job may run, with the first line.
 fn first_turn<C: ChannelFloor, J: JobFloor, W: Wakes, G: Gate>(
     script: &Script,
     frame: &mut Frame,
@@ -155,7 +155,7 @@ fn answer<C: ChannelFloor, J: JobFloor, W: Wakes>(
     }
 }
 
-/// What is done behind a line, or behind the end of a wait, and answered: an end that is still to be seen is looked for.
+/// What is done after a line, or after the end of a wait, and answered: an end that is still to be seen is looked for.
 fn go_on<C: ChannelFloor, J: JobFloor, W: Wakes>(
     script: &Script,
     frame: &mut Frame,
@@ -175,7 +175,7 @@ fn go_on<C: ChannelFloor, J: JobFloor, W: Wakes>(
     }
 }
 
-/// Ends the wait, where it was resolved or the innermost Job is Cancelling.
+/// Ends the wait, if it was resolved or the innermost Job is Cancelling.
 fn wait_turn<C: ChannelFloor, J: JobFloor, W: Wakes, G: Gate>(
     script: &Script,
     frame: &mut Frame,
@@ -253,7 +253,7 @@ fn unwind<C: ChannelFloor, J: JobFloor, W: Wakes>(
     }
 }
 
-/// Ends a wait at the end of a scope, where it was resolved.
+/// Ends a wait at the end of a scope, if it was resolved.
 fn leave_turn<C: ChannelFloor, J: JobFloor, W: Wakes, G: Gate>(
     script: &Script,
     frame: &mut Frame,

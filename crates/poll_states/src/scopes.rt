@@ -42,7 +42,7 @@ use script_meaning::Stage;
 use script_reader::Script;
 
 impl Frame {
-    /// Goes on where the receive on the done channel of its innermost scope came to this. Without a place it leaves the scope first.
+    /// Goes on after the receive on the done channel of its innermost scope came to this. Without a place it leaves the scope first.
     pub(crate) fn go_on_leaving(&mut self, answer: Joined)
         ensures tag { self.new.tag ≡ self.old.tag }
         ensures config { AfterDone self.old.tag answer (config_of self.old) (config_of self.new) }
@@ -59,7 +59,7 @@ impl Frame {
         }
     }
 
-    /// Leaves its innermost scope, which begins at this line and ended so, and goes on behind it or unwinds.
+    /// Leaves its innermost scope, which begins at this line and ended so, and goes on after it or unwinds.
     fn leave_ended(&mut self, script: &Script, head: usize, end: End)
         requires tag { self.old.tag < coroutine_count (program_of script.now) }
         requires opens { does_open (slice_get (code_of (program_of script.now) self.old.tag) head) ≡ true }

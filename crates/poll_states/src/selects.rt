@@ -74,7 +74,7 @@ impl Frame {
         }
     }
 
-    /// Goes on where the chosen clause of its select came to this.
+    /// Goes on after the chosen clause of its select came to this.
     fn go_on_chosen(&mut self, script: &Script, outcome: Outcome)
         requires tag { self.old.tag < coroutine_count (program_of script.now) }
         requires opens { does_open (slice_get (code_of (program_of script.now) self.old.tag) self.old.line) ≡ true }

@@ -12,7 +12,7 @@ pub mod NothingOwed
 pub mod TakenBack
 pub mod GivenUpWaits
 pub mod RowsEntered
-pub mod NoRefusals
+pub mod ClaimsAttached
 pub mod DoneAsked
 pub mod DonePlacesAsked
 pub mod DoneReceivedOnce

@@ -51,12 +51,13 @@ use Rattle.script_meaning.specs.Polls.{Frame, StandsOn, Polled}
 use Rattle.script_meaning.proofs.BooksGoOn.{items_in-append}
 use Rattle.script_meaning.proofs.CompletedJobs.{ends_so, completed_in}
 use Rattle.script_meaning.proofs.TagsReached.{launched_in_run}
+use Rattle.script_laws.specs.Owners.{AreClaimed, AllNoted}
 use Rattle.script_laws.proofs.RowsEntered.{enters_row, scope_rows}
 use Rattle.script_laws.proofs.DoneAsked.{admits_none, item_asks}
 use Rattle.script_laws.proofs.DonePlacesAsked.{places_on, ends_closed, placed_in, closed_in, attached_in, attached_then, not_asked, MoveAsks, move_asks}
 use Rattle.script_laws.proofs.DoneReceivedOnce.{begins_ask, AreApart, NoteAsked, AllAsked, ReachAsks, reach_asks}
 use Rattle.script_laws.proofs.PlacesGiven.{given_by, plain_at, ended_closed, all_from_each}
-use Rattle.script_laws.proofs.NoRefusals.{AreClaimed, stands_give, is_spent, polled_attaches}
+use Rattle.script_laws.proofs.ClaimsAttached.{stands_give, is_spent}
 
 -- ---- the clauses of a coroutine on done channels are single
 
@@ -214,10 +215,6 @@ done_places p row lt =
 
 -- ---- a run
 
--- whoever made an entry on channels stands
-abbrev pub AllNoted : Program → ChannelFloor → Floor → Type 0
-AllNoted p c j = (t : ℕ) → (acts_of t c.seen ≡ []) ⊎ ((g : Frame) × StandsOn p c j g × (g.tag ≡ t))
-
 stands_apart : (p : Program) (c : ChannelFloor) (j : Floor) (g : Frame) → IsProgram p → LegalJobs (job_shape p) j.seen → (h : StandsOn p c j g) → AreApart h.runs.told
 stands_apart p c j g ok legal h = λ row launched entered.
     let own = ((stands_give p c j g ok legal h).launched row launched).0 in
@@ -362,11 +359,3 @@ pub stands_unspent : (p : Program) (c : ChannelFloor) (j : Floor) (g : Frame) �
 stands_unspent p c j g ok legal jobs on noted =
     ap (list_any (is_spent (base_of p))) (sym on.runs.written)
     ∙ unspent p c j g ok legal jobs on noted [] on.runs.told refl beginning (nothing_seen p c j g on.runs.told on.runs.is_true) (stands_ask p c j g ok jobs on).asked
-
--- what a poll noted is no refusal
-pub polled_never : (p : Program) (c c' : ChannelFloor) (j j' : Floor) (f g : Frame) → IsProgram p → Legal (floor_shape p) c'.seen → LegalJobs (job_shape p) j'.seen → StandsOn p c j f → StandsOn p c' j' g → AreClaimed p c' j' → AllNoted p c' j' → (h : Polled p c c' j j' f g)
-    → list_any (is_refusal (base_of p)) (items_in h.told) ≡ false
-polled_never p c c' j j' f g ok legal jobs on on' claimed noted h =
-    let whole = stands_unspent p c' j' g ok legal jobs on' noted in
-    let parts = sym (ap (list_any (is_spent (base_of p))) h.appended ∙ list_any-append (is_spent (base_of p)) f.book (items_in h.told)) ∙ whole in
-    polled_attaches p c c' j j' f g ok jobs on on' claimed h (or_parts (list_any (is_spent (base_of p)) f.book) (list_any (is_spent (base_of p)) (items_in h.told)) parts).1

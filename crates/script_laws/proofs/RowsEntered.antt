@@ -16,21 +16,13 @@ use Rattle.job_model.specs.Histories.{LegalFrom, acts_of}
 use Rattle.script_grammar.specs.Programs.{Program}
 use Rattle.script_grammar.specs.Tags.{tags_of, coroutine_count, code_of, code_at, scopes_from, scopes_of, scopes_of_all, scope_count}
 use Rattle.script_meaning.proofs.TagsGiven.{launches_row, one_scope, scopes_of_acts}
+use Rattle.script_laws.specs.Counts.{one, count_from}
 
 -- ---- sums
 
 pub sum_below : ℕ → (ℕ → ℕ) → ℕ
 sum_below zero f = 0
 sum_below (suc n) f = f n + sum_below n f
-
-abbrev pub one : Bool → ℕ
-one true = 1
-one false = 0
-
--- how many of the n numbers from this one on pass the test
-unfoldable pub count_from : ℕ → ℕ → (ℕ → Bool) → ℕ
-count_from from zero test = 0
-count_from from (suc n) test = one (test from) + count_from (from + 1) n test
 
 sum_add : (n : ℕ) (f g : ℕ → ℕ) → sum_below n (λ t. f t + g t) ≡ sum_below n f + sum_below n g
 unfolding sum_below

@@ -27,7 +27,7 @@ pub fn nothing_is_owed_at_the_end()
         → BooksOf p books channels jobs → OwesNothing (floor_shape p) (replay channels) }
 {}
 
-/// An element is given up, and a wait that was neither withdrawn nor voided ends as cancelled, only behind the note that a Job was seen
+/// An element is given up, and a wait that was neither withdrawn nor voided ends as cancelled, only after the note that a Job was seen
 /// Cancelling, with at most the withdrawal of that wait, or the note that this was too late, between.
 pub fn a_wait_is_given_up_behind_a_cancellation()
     ensures { (p : Program) (k : ℕ) (now : Moment) (book : List Item) (x : Config)

@@ -8,9 +8,10 @@
 //!   channels), `ClosedChannels`, `QueuesFit`, `OffersAdmitted`, `RoomRaised`; `NothingOwed`.
 //! - `a_wait_is_given_up_behind_a_cancellation`: there `WaitsTold`; here `TakenBack`; `GivenUpWaits`.
 //!
-//! Others show what those who run a script need of all its books: that no refusal comes to stand in one, and that a done channel is
-//! received from at most once by each coroutine: `DoneAsked`, `DonePlacesAsked`, `DoneReceivedOnce`, `EndsToSee`, `RowsEntered`,
-//! `PlacesGiven`, `NotSpent`, `NoRefusals`.
+//! Others show what those who run a script need of all its books: that a coroutine claims what it attached (`RowsEntered`,
+//! `ClaimsAttached`), that a done channel is received from at most once by each coroutine (`DoneAsked`, `DonePlacesAsked`,
+//! `DoneReceivedOnce`, `EndsToSee`), and so has a place for each (`PlacesGiven`, `NotSpent`). `specs` has the words of it: `Counts`,
+//! `Owners`.
 #![tactic(auto)]
 
 mod laws;

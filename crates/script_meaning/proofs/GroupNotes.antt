@@ -106,7 +106,7 @@ admits_all T a c g h = all_as T g _ h.all (channel_fact T _ _ (map_all T (λ q. 
 drops_all : (T : Item → Bool) → PassesCalls T → (c q : ℕ) (g : List Told) → Drops c q g → AllPass T g
 drops_all T a c q g h = all_as T g _ h.all (map_all T (λ (d : ℕ × ℕ). Drop c d.0 d.1) (λ d. a.acts (Drop c d.0 d.1) refl) h.dropped _ (channel_fact T _ [] (all_none T)))
 
-wakes_all : (T : Item → Bool) → PassesCalls T → (c : ℕ) (g : List Told) → Wakes c g → AllPass T g
+pub wakes_all : (T : Item → Bool) → PassesCalls T → (c : ℕ) (g : List Told) → Wakes c g → AllPass T g
 wakes_all T a c g h = all_as T g _ h.all (map_all T (λ q. WakeClosed c q) (λ q. a.acts (WakeClosed c q) refl) h.places _ (channel_fact T _ [] (all_none T)))
 
 drains_all : (T : Item → Bool) → PassesCalls T → (c : ℕ) (g : List Told) → Drains c g → AllPass T g

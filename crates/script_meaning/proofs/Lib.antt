@@ -39,3 +39,4 @@ pub mod GentleNotes
 pub mod DonesUnclosed
 pub mod ClausesSpent
 pub mod ClausesOfSelects
+pub mod StagesAfter

@@ -48,7 +48,7 @@ at_stage stage x = record x { stage = stage }
 abbrev pub at_line : ℕ → Config → Config
 at_line i x = record x { line = i; stage = Running }
 
--- to run the line behind
+-- to run the line after it
 abbrev pub next : Config → Config
 next x = at_line (x.line + 1) x
 

@@ -11,11 +11,11 @@ use Rattle.script_meaning.specs.Configs.{Config, Entered, in_repeat, in_each, in
 
 -- ---- the lines that are open
 
--- after a line at this place, where these were open: the innermost first
+-- after a line at this place, if these were open: the innermost first
 abbrev pub heads_after : ℕ → List ℕ → Instruction → List ℕ
 heads_after place heads x = if opens_lines x then place ∷ heads else (if is_end x then but_first heads else heads)
 
--- after so many of these lines, of which the first has this place, where these were open
+-- after so many of these lines, of which the first has this place, if these were open
 abbrev pub heads_from : ℕ → List ℕ → List Instruction → ℕ → List ℕ
 heads_from place heads code zero = heads
 heads_from place heads [] (suc i) = heads
@@ -67,7 +67,7 @@ abbrev pub is_await : Option Instruction → Bool
 is_await (Some (line.Await job)) = true
 is_await other = false
 
--- where it waits, and where it has to see how a Job ended, its line asks for that
+-- if it waits, and if it has to see how a Job ended, its line asks for that
 abbrev pub CallsAt : Stage → Option Instruction → Type 0
 CallsAt (Waiting w) o = may_wait o ≡ true
 CallsAt SeesJob o = is_await o ≡ true

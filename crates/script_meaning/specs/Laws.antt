@@ -44,7 +44,7 @@ HasJustTheWait k stage s = (w : WaitId) → IsUnsettledOf k (s.waits w) ↔ (wai
 abbrev pub settle_note : WaitId → Settled → Item
 settle_note w outcome = item.Channel (of_channel.Made (Settle w outcome))
 
--- the last of these notes is that a Job was seen Cancelling, or behind that one that this wait was withdrawn for it, or
+-- the last of these notes is that a Job was seen Cancelling, or after that one that this wait was withdrawn for it, or
 -- that it was too late for that
 pub data IsBehindSaw (w : WaitId) (notes : List Item) : Type 0 where
   seen : (before : List Item) (row : ℕ) → notes ≡ before ++ item.Job (of_job.Saw row) ∷ [] → IsBehindSaw w notes
@@ -55,7 +55,7 @@ pub data IsBehindSaw (w : WaitId) (notes : List Item) : Type 0 where
       → notes ≡ before ++ item.Job (of_job.Saw row) ∷ item.Channel (of_channel.Late w) ∷ []
       → IsBehindSaw w notes
 
--- the wait may be given up so behind these notes
+-- the wait may be given up so after these notes
 pub data MayGiveUp (w : WaitId) (s : State) (notes : List Item) : Settled → Type 0 where
   -- it was withdrawn or voided
   taken_back : IsTakenBack (s.waits w) → MayGiveUp w s notes Cancelled

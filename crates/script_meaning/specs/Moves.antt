@@ -41,7 +41,7 @@ pub data Move (p : Program) (k : ℕ) : Config → List Told → Config → Type
       → Move p k x group y
   -- ---- a wait at one of these lines
 
-  -- it ends with an answer of the line, where the innermost Job may run
+  -- it ends with an answer of the line, if the innermost Job may run
   resumes : (x y : Config) (w : WaitId) (i : Instruction) (outcome : Settled) (a : Answer) → x.stage ≡ Waiting w
       → LineIs p k x i → Resumed outcome a → After p k x i a y
       → Move p k x (on_jobs (MayRun (innermost k x)) ∷ made (Settle w outcome) ∷ []) y

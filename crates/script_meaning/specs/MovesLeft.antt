@@ -18,7 +18,7 @@ abbrev pub lines_in : List Block → ℕ
 lines_in [] = 0
 lines_in (b ∷ bs) = length b.code + lines_in bs
 
--- what a line weighs that has so many before the last: more than any repeat's turns of the line behind it
+-- what a line weighs that has so many before the last: more than any repeat's turns of the line after it
 unfoldable pub weight_with : ℕ → ℕ
 weight_with zero = 1
 weight_with (suc n) = 1000002 * weight_with n

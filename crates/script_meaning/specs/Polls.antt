@@ -36,7 +36,7 @@ pub record Frame : Type 0 where
   pub config : Config
   pub book : List Item
 
--- how far the floor of Jobs is seen, where no channel is called
+-- how far the floor of Jobs is seen, if no channel is called
 abbrev pub jobs_by : Floor → Moment
 jobs_by j = record { channels = []; jobs = j.seen }
 
@@ -57,7 +57,7 @@ pub data MovesOnce (p : Program) (k : ℕ) : Config → List Told → Config →
       → Move p k x group y → y.stage ≡ Running → MovesOnce p k y more z
       → all ≡ group ++ more
       → MovesOnce p k x all z
-  -- behind it that which sees an end
+  -- after it that which sees an end
   then_sees : (x y z : Config) (group more all : List Told)
       → Move p k x group y → is_seeing y.stage ≡ true → Move p k y more z
       → all ≡ group ++ more

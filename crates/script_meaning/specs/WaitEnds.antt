@@ -17,7 +17,7 @@ use Rattle.script_meaning.specs.Lines.{clauses_at, After, Resumed}
 
 -- ---- clauses
 
--- a clause of the wait of the line at which x is: its side, true where it sends, its number and its channel
+-- a clause of the wait of the line at which x is: its side, true if it sends, its number and its channel
 pub data ClauseOf (p : Program) (k : ℕ) (x : Config) : Instruction → Bool → ℕ → ℕ → Type 0 where
   -- the only one
   send : (c : ℕ) (o : Operand) → ClauseOf p k x (line.Send c o) true 0 c

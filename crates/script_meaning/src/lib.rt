@@ -10,7 +10,7 @@
 //! - `Books`: what a book may be, and the books of a run.
 //! - `Rest`, `Idle`: how a run is left.
 //! - `Polls`: what a poll does, and what its answer says.
-//! - `Inside`: where a coroutine can be in its code. `MovesLeft`: how many moves are left, where it receives no more elements. `WaitEnds`:
+//! - `Inside`: where a coroutine can be in its code. `MovesLeft`: how many moves are left, if it receives no more elements. `WaitEnds`:
 //!   how the waits of a line end.
 //! - `Origins`, `Laws`: the words of what holds of each book.
 //!
@@ -26,7 +26,8 @@
 //!
 //! - where a coroutine is: `LinesPlaced`, `OpenLines`, `InsideCode`, `LinesPassed`, `LinesLeft`, `NamesGiven`, `NamesKnown`.
 //! - that moves come to an end: `MovesFall`.
-//! - which waits a line begins and how they end: `WaitsPlaced`, `WaitsEnd`, `ClausesOfSelects`.
+//! - which waits a line begins and how they end: `WaitsPlaced`, `WaitsEnd`, `ClausesOfSelects`; which stages an answer leads to:
+//!   `StagesAfter`.
 //! - what a group of notes may hold: `GroupNotes`, `GentleNotes`, `ClausesSpent`.
 //! - what is owed after a history, and who pays: `Debts`, `Payments`; what is told of Jobs and of channels: `JobPieces`, `JobStories`,
 //!   `JobDebts`, `ActsFollowed`, `ChannelStories`.

@@ -1,5 +1,6 @@
 use Rattle.script_reader.specs.Scripts.{program_of}
-use Rattle.engine_one.proofs.ChannelKinds.{all_may_be_made, few_channels}
+use Rattle.engine_base.proofs.ChannelKinds.{few_channels}
+use Rattle.engine_one.proofs.ChannelKinds.{all_may_be_made}
 use Rattle.engine_one.proofs.start.channels_of.Goals as goal
 
 pub new-requires-clause-channels : goal.new-requires-clause-channels

@@ -1,7 +1,7 @@
 use Rattle.std.proofs.Common.{arith}
 use Rattle.script_reader.specs.Scripts.{program_of}
-use Rattle.engine_one.proofs.Beginnings.{some_coroutine}
-use Rattle.engine_one.proofs.ChannelKinds.{few_jobs}
+use Rattle.run_laws.proofs.Lists.{some_coroutine}
+use Rattle.engine_base.proofs.ChannelKinds.{few_jobs}
 use Rattle.engine_one.proofs.start.jobs_of.Goals as goal
 
 pub new-requires-clause-some : goal.new-requires-clause-some

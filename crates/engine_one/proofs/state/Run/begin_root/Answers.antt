@@ -1,7 +1,8 @@
 use Rattle.std.proofs.Common.{arith}
 use Rattle.script_reader.specs.Scripts.{program_of}
-use Rattle.engine_one.proofs.Lists.{slice_get-Some}
-use Rattle.engine_one.proofs.Beginnings.{some_coroutine, root_on_channels, root_on_jobs, all_begin}
+use Rattle.run_laws.proofs.Places.{slice_get-Some}
+use Rattle.run_laws.proofs.Lists.{some_coroutine}
+use Rattle.engine_one.proofs.Beginnings.{root_on_channels, root_on_jobs, all_begin}
 use Rattle.engine_one.proofs.state.Run.begin_root.Goals as goal
 
 pub begin-requires-clause-on : goal.begin-requires-clause-on

@@ -1,7 +1,0 @@
-use Rattle.std.proofs.Common.{◌≡◌, map}
-use Rattle.note_book.specs.Books.{notes_of}
-use Rattle.engine_one.specs.Coroutines.{books_of}
-use Rattle.engine_one.proofs.finish.books_of.Given as goal
-
-abbrev pub invariant-loop-frame : goal.invariant-loop-frame
-invariant-loop-frame l = map notes_of l.books.items ≡ books_of l.yielded

@@ -1,0 +1,14 @@
+pub mod Prefixes
+pub mod Places
+pub mod ClosesTold
+pub mod ClosedAtOnce
+pub mod RefusalsTold
+pub mod LaterStands
+pub mod CannotGoOn
+pub mod Exact
+pub mod RunsEnd
+pub mod Lists
+pub mod Hearing
+pub mod Meeting
+pub mod FreshTasks
+pub mod BroughtTogether

@@ -1,0 +1,7 @@
+pub mod Parts
+pub mod Refusals
+pub mod Sights
+pub mod Starts
+pub mod Looks
+pub mod LastRounds
+pub mod Ends

@@ -1,0 +1,29 @@
+-- What is false of a stage, and of each that an answer leads to, is false after the answer.
+use Rattle.std.specs.Prelude.{◌≡◌, ℕ, Bool, false, Option, Some}
+use Rattle.co_base.specs.declared.names.WaitId.{WaitId}
+use Rattle.call_meaning.specs.ChannelCalls.{Answer}
+use Rattle.script_grammar.specs.declared.instructions.Instruction.{Instruction}
+use Rattle.script_grammar.specs.Programs.{Program}
+use Rattle.script_meaning.specs.declared.stage.Stage.{Stage}
+use Rattle.script_meaning.specs.declared.stage.Stage.TheVariants.{Running, Waiting, SeesJob, Unwinding}
+use Rattle.script_meaning.specs.Configs.{Config}
+use Rattle.script_meaning.specs.Lines.{After}
+
+pub after_stage : (test : Stage → Bool) → ((w : WaitId) → test (Waiting w) ≡ false) → ((failure : Option ℕ) → test (Unwinding failure) ≡ false) → test Running ≡ false → test SeesJob ≡ false
+    → (p : Program) (k : ℕ) (x : Config) (i : Instruction) (a : Answer) (y : Config) → test x.stage ≡ false → After p k x i a y → test y.stage ≡ false
+after_stage test waits unwinds runs sees p k x _ _ _ o (After.waits i w) = waits w
+after_stage test waits unwinds runs sees p k x _ _ _ o (After.no_place i) = unwinds (Some k)
+after_stage test waits unwinds runs sees p k x _ _ _ o (After.sent c v) = runs
+after_stage test waits unwinds runs sees p k x _ _ _ o (After.tried_to_send c v) = runs
+after_stage test waits unwinds runs sees p k x _ _ _ o (After.got c v) = runs
+after_stage test waits unwinds runs sees p k x _ _ _ o (After.no_more c v) = runs
+after_stage test waits unwinds runs sees p k x _ _ _ o (After.tried_and_got c v) = runs
+after_stage test waits unwinds runs sees p k x _ _ _ o (After.tried_to_get c) = runs
+after_stage test waits unwinds runs sees p k x _ _ _ o (After.got_one_more c v) = runs
+after_stage test waits unwinds runs sees p k x _ _ _ o (After.got_all c v e is) = runs
+after_stage test waits unwinds runs sees p k x _ _ _ o (After.chose_send e is) = runs
+after_stage test waits unwinds runs sees p k x _ _ _ o (After.chose_got e v is) = runs
+after_stage test waits unwinds runs sees p k x _ _ _ o (After.chose_closed e v is) = runs
+after_stage test waits unwinds runs sees p k x _ _ _ o After.looks_again = o
+after_stage test waits unwinds runs sees p k x _ _ _ o (After.joined job v) = runs
+after_stage test waits unwinds runs sees p k x _ _ _ o (After.awaited job v) = sees
