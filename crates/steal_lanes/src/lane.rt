@@ -54,8 +54,8 @@ impl Lane {
         self.own.push_as::<Puts>(ticket)
     }
 
-    // The first ticket of the own lane. `None` says only that none was taken.
-    fn take(&mut self) -> Option<Tag>
+    /// The first ticket of the own lane. `None` says only that none was taken.
+    pub fn take(&mut self) -> Option<Tag>
         ensures same { SameLane self.old self.new }
         ensures answer { OwnAnswer self.old self.new result }
     {

@@ -13,7 +13,7 @@
 //! - `lane_view`: a put or a take, and what is known of a lane.
 //! - `other_lane`: another worker's lane, as one may take from it.
 //! - `stealing`: a ticket of any of several other lanes.
-//! - `lane`: a worker's own lane with the ways into the others, `put` and `next`.
+//! - `lane`: a worker's own lane with the ways into the others, `put`, `take` and `next`.
 //! - `all_lanes`: the lanes of so many workers.
 #![tactic(auto)]
 

@@ -9,7 +9,9 @@
 //! else puts into its lane, so where nobody is at work, no worker that has begun has a ticket, and all workers end. Workers count
 //! themselves as they begin and not before: where no thread can be started the calling thread works in place of all, one after another.
 //!
-//! **Waiting.** A worker that finds no ticket gives the processor to others between its first looks, and then sleeps a while between two.
+//! **Waiting.** A worker whose lane is empty gives the processor to others a few times before it takes from another's lane, so that a task
+//! stays with the worker that woke it. One that finds no ticket in any lane looks again a few times, and then sleeps between two looks,
+//! each time twice as long up to 3.2 milliseconds. The last that comes to rest wakes all that sleep, and they end.
 //!
 //! **Want of memory.** A poll that finds none has dropped its task. Then all workers end, and the tasks are dropped.
 //!

@@ -1,4 +1,4 @@
-use Rattle.std.proofs.Common.{◌≡◌, ℕ, ◌+◌, []}
+use Rattle.std.proofs.Common.{◌≡◌, ◌+◌, []}
 use Rattle.std.specs.Prelude.{All, IfSome, vec_len}
 use Rattle.task_berths.specs.Seats.{view_of, IsSeatOf, IsMain}
 use Rattle.task_crew.proofs.crew.end_all.Given as goal

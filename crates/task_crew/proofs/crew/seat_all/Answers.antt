@@ -1,4 +1,4 @@
-use Rattle.std.proofs.Common.{◌≡◌, ap, ◌∙◌, arith}
+use Rattle.std.proofs.Common.{ap, ◌∙◌, arith}
 use Rattle.std.proofs.lemmas.List.Elements.{All-push}
 use Rattle.task_berths.specs.declared.rule.SeatView.{SeatView}
 use Rattle.task_berths.specs.Seats.{IsSeatOf}

@@ -1,0 +1,62 @@
+//! The floors of all coroutines are ended into those of the root.
+
+ghost use Rattle.std.specs.Prelude.{◌≡◌, ◌≢◌, ℕ, true, false, [], ◌∷◌, All, IfOk, map};
+ghost use Rattle.channel_model.specs.Histories.{acts_of};
+ghost use Rattle.job_model.specs.Histories.{acts_of as job_acts_of};
+ghost use Rattle.job_model.specs.Floors.{is_claimed_by};
+ghost use Rattle.note_book.specs.Books.{notes_of};
+ghost use Rattle.script_grammar.specs.Tags.{coroutine_count};
+ghost use Rattle.engine_many.specs.Parts.{sight_of};
+ghost use Rattle.run_laws.specs.Sights.{Keeps};
+ghost use Rattle.run_laws.specs.Ends.{IsBroughtTo, NoOthers, IsSpare};
+ghost use Rattle.run_laws.specs.LastRounds.{books_seen};
+
+use crate::task::Task;
+use channel_model::ChannelFloor;
+use co_base::Memory;
+use engine_base::ScriptName;
+use job_model::JobFloor;
+use poll_states::Book;
+use shared_floors::{SharedChannels, SharedJobs};
+use std::alloc::Global;
+
+/// What is left of all: the books in order of tags, and the floors of the root, which have seen all.
+#[derive(Drop)]
+pub struct Left<C, J> {
+    pub books: Vec<Book>,
+    pub channels: C,
+    pub jobs: J,
+}
+
+/// Ends the floors of the others into those of the root, and those that were kept aside, whose tag did nothing.
+pub(crate) fn end_floors<N: ScriptName, C: SharedChannels + Drop, J: SharedJobs + Drop>(
+    alloc: Global,
+    root: Task<N, C, J>,
+    others: Vec<Task<N, C, J>>,
+    aside: (C, J),
+) -> Result<Left<C, J>, Memory>
+    requires root { root.0.tag ≡ 0 }
+    requires aside { IsSpare N.program (C.view aside.0) (J.view aside.1) }
+    ensures books { IfOk result (λ left. map notes_of left.books.items ≡ books_seen (sight_of C.view J.view) (root ∷ others.items)) }
+    ensures root { IfOk result (λ left. IsBroughtTo N.program (C.view left.channels) (J.view left.jobs) (sight_of C.view J.view root)) }
+    ensures others { IfOk result (λ left. All (λ x. IsBroughtTo N.program (C.view left.channels) (J.view left.jobs)
+        (sight_of C.view J.view x)) others.items) }
+    ensures none { IfOk result (λ left. NoOthers N.program (C.view left.channels) (J.view left.jobs)) }
+{
+    let mut books = Vec::with_capacity(alloc, others.len())?;
+    let (frame, mut channels, mut jobs) = root.into_parts();
+    books.push(frame.into_book())?;
+    for other in others {
+        let (frame, other_channels, other_jobs) = other.into_parts();
+        channels.end(other_channels);
+        jobs.end(other_jobs);
+        books.push(frame.into_book())?;
+    }
+    channels.end(aside.0);
+    jobs.end(aside.1);
+    Ok(Left {
+        books,
+        channels,
+        jobs,
+    })
+}

@@ -1,0 +1,100 @@
+//! A whole run by several workers without a lock.
+
+ghost use Rattle.std.specs.Prelude.{◌≡◌, ◌<◌, ◌≤◌, IfOk, length, map, vec_len};
+ghost use Rattle.note_book.specs.Books.{notes_of};
+ghost use Rattle.script_grammar.specs.Tags.{coroutine_count};
+ghost use Rattle.script_reader.specs.Scripts.{program_of};
+ghost use Rattle.engine_many.specs.Parts.{tags_of};
+ghost use Rattle.run_laws.specs.Sights.{CountUp};
+ghost use Rattle.run_laws.specs.Ends.{IsSpare, IsRunAtRest};
+
+use crate::dealing::deal;
+use crate::ending::Left;
+use crate::rounds::{Round, last_round};
+use crate::task::Task;
+use crate::worker::RunsLines;
+use channel_model::ChannelFloor;
+use co_base::{Gate, Memory};
+use engine_base::ScriptName;
+use job_model::{End, JobFloor};
+use script_reader::Script;
+use shared_floors::{SharedChannels, SharedJobs};
+use std::alloc::Global;
+use std::marker::PhantomData;
+use std::sync::Wait;
+use std::thread::Threads;
+use task_crew::{Tickets, no_tickets, run_crew};
+
+/// The workers poll the coroutines of all tickets, until none is left. Gives back the tasks in order of their tags, and the lanes.
+fn run_tickets<
+    N: ScriptName + Send + Sync,
+    C: SharedChannels + Drop + Send,
+    J: SharedJobs + Drop + Send,
+    R: Threads + Wait + Sync,
+    G: Gate + Sync,
+>(
+    rt: &R,
+    alloc: Global,
+    script: &Script,
+    gate: &G,
+    tasks: Vec<Task<N, C, J>>,
+    tickets: Vec<Tickets>,
+) -> Result<(Vec<Task<N, C, J>>, Vec<Tickets>), Memory>
+    requires script { program_of script.now ≡ N.program }
+    requires count { length tasks.items ≡ coroutine_count N.program }
+    requires tags { CountUp 0 (tags_of tasks.items) }
+    requires few { vec_len tickets ≤ 16 }
+    ensures count { IfOk result (λ r. length r.0.items ≡ coroutine_count N.program) }
+    ensures tags { IfOk result (λ r. CountUp 0 (tags_of r.0.items)) }
+    ensures lanes { IfOk result (λ r. vec_len r.1 ≡ vec_len tickets) }
+{
+    let polls = RunsLines::<N, G> {
+        script,
+        gate,
+        name: PhantomData,
+    };
+    let (left, tickets) = run_crew(rt, alloc, &polls, tasks, tickets)?;
+    Ok((left, tickets))
+}
+
+/// Runs the tasks of a script by so many workers until no coroutine can go on: what is left, and how the root has ended, if it has.
+pub fn run_tasks<
+    N: ScriptName + Send + Sync,
+    C: SharedChannels + Drop + Send,
+    J: SharedJobs + Drop + Send,
+    R: Threads + Wait + Sync,
+    G: Gate + Sync,
+>(
+    rt: &R,
+    alloc: Global,
+    script: &Script,
+    workers: u8,
+    gate: &G,
+    tasks: Vec<Task<N, C, J>>,
+    aside: (C, J),
+) -> Result<(Left<C, J>, Option<End>), Memory>
+    requires script { program_of script.now ≡ N.program }
+    requires workers { (2 ≤ workers) × (workers ≤ 16) }
+    requires count { length tasks.items ≡ coroutine_count N.program }
+    requires tags { CountUp 0 (tags_of tasks.items) }
+    requires aside { IsSpare N.program (C.view aside.0) (J.view aside.1) }
+    ensures { IfOk result (λ r. IsRunAtRest N.program (map notes_of r.0.books.items)
+        (C.view r.0.channels).seen (J.view r.0.jobs).seen r.1) }
+{
+    let mut lanes = no_tickets(alloc, workers, u32::from(script.coroutines()))?;
+    deal(&mut lanes, script);
+    let mut tasks = tasks;
+    let mut aside = aside;
+    'rounds: for _ in rt.forever() {
+        let (left, mut back) = run_tickets(rt, alloc, script, gate, tasks, lanes)?;
+        match last_round(alloc, script, left, aside, &mut back[0], gate)? {
+            Round::Over(left, end) => return Ok((left, end)),
+            Round::GoesOn(all, channels, jobs) => {
+                tasks = all;
+                aside = (channels, jobs);
+            }
+        }
+        lanes = back;
+    }
+    unreachable!()
+}

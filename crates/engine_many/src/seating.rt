@@ -1,0 +1,63 @@
+//! A task for each coroutine of a script, on seats at a hub and at a forest.
+
+ghost use Rattle.std.specs.Prelude.{◌≡◌, true, IfOk, length};
+ghost use Rattle.cell_calls.specs.HubFloors.{hub_floor};
+ghost use Rattle.job_model.specs.Floors.{IsFreshFloor};
+ghost use Rattle.job_words.specs.Forests.{seen_by};
+ghost use Rattle.job_words.specs.Passes.{floor_seen};
+ghost use Rattle.script_grammar.specs.Tags.{coroutine_count};
+ghost use Rattle.script_meaning.specs.Shapes.{job_shape};
+ghost use Rattle.script_reader.specs.Scripts.{program_of};
+ghost use Rattle.word_seats.specs.Seats.{hub_anchor, hub_may_act, forest_anchor, forest_may_act, NobodyFrom};
+ghost use Rattle.run_laws.specs.Sights.{CountUp};
+ghost use Rattle.run_laws.specs.Ends.{IsSpare};
+ghost use Rattle.engine_many.specs.Parts.{tags_of};
+ghost use Rattle.engine_many.specs.WordRuns.{IsFreshHub};
+
+use crate::task::Task;
+use co_base::Memory;
+use engine_base::ScriptName;
+use script_reader::Script;
+use std::alloc::Global;
+use word_seats::{ForestName, ForestSeat, HubName, HubSeat};
+
+/// A task for each coroutine, in order of their tags, and seats of one tag more, under which nobody acts. The root attaches what the script
+/// spawns.
+pub(crate) fn seat_tasks<'a, N: ScriptName + HubName + ForestName>(
+    alloc: Global,
+    script: &Script,
+    root: HubSeat<'a, N>,
+    root_jobs: ForestSeat<'a, N>,
+) -> Result<
+    (
+        Vec<Task<N, HubSeat<'a, N>, ForestSeat<'a, N>>>,
+        (HubSeat<'a, N>, ForestSeat<'a, N>),
+    ),
+    Memory,
+>
+    requires script { program_of script.now ≡ N.program }
+    requires channels { IsFreshHub N.program (hub_floor root.hub.now root.pass) }
+    requires jobs { IsFreshFloor (job_shape N.program) (floor_seen (seen_by root_jobs.pass)) }
+    requires caller { (floor_seen (seen_by root_jobs.pass)).callers 0 ≡ true }
+    requires nobody { NobodyFrom 1 (hub_may_act (hub_anchor root.hub.now root.pass)) }
+    requires nobody_on_jobs { NobodyFrom 1 (forest_may_act (forest_anchor root_jobs.forest.now root_jobs.pass)) }
+    ensures count { IfOk result (λ r. length r.0.items ≡ coroutine_count N.program) }
+    ensures tags { IfOk result (λ r. CountUp 0 (tags_of r.0.items)) }
+    ensures aside { IfOk result (λ r. IsSpare N.program (hub_floor r.1.0.hub.now r.1.0.pass) (floor_seen (seen_by r.1.1.pass))) }
+{
+    let mut root = root;
+    let mut root_jobs = root_jobs;
+    let count = script.coroutines();
+    let mut tasks = Vec::with_capacity(alloc, count as usize)?;
+    for tag in 1..count {
+        let channels = root.split(tag);
+        let jobs = root_jobs.split(tag);
+        let task = Task::child(alloc, script, tag, channels, jobs)?;
+        tasks.push(task)?;
+    }
+    let aside = root.split(count);
+    let aside_jobs = root_jobs.split(count);
+    let first = Task::root(alloc, script, root, root_jobs)?;
+    tasks.insert(0, first)?;
+    Ok((tasks, (aside, aside_jobs)))
+}

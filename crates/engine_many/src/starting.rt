@@ -1,0 +1,55 @@
+//! Tasks before their first poll.
+
+ghost use Rattle.std.specs.Prelude.{◌≡◌, ◌≢◌, ◌<◌, IfOk};
+ghost use Rattle.script_grammar.specs.Tags.{coroutine_count};
+ghost use Rattle.script_reader.specs.Scripts.{program_of};
+ghost use Rattle.poll_states.specs.Steps.{IsOnItsChannels, IsOnItsJobs};
+ghost use Rattle.run_laws.specs.Sights.{KnowsTags};
+ghost use Rattle.run_laws.specs.Starts.{IsUntouched};
+
+use crate::task::Task;
+use co_base::{Memory, Tag};
+use engine_base::ScriptName;
+use poll_states::{Frame, begin};
+use script_reader::Script;
+use shared_floors::{SharedChannels, SharedJobs};
+use std::alloc::Global;
+
+impl<N: ScriptName, C: SharedChannels + Drop, J: SharedJobs + Drop> Task<N, C, J> {
+    /// The root, which attaches what the script spawns.
+    pub fn root(
+        alloc: Global,
+        script: &Script,
+        channels: C,
+        jobs: J,
+    ) -> Result<Task<N, C, J>, Memory>
+        requires script { program_of script.now ≡ N.program }
+        requires channels { IsOnItsChannels (program_of script.now) (C.view channels) }
+        requires jobs { IsOnItsJobs (program_of script.now) (J.view jobs) }
+        requires tags { KnowsTags N.program 0 (C.may_act (C.anchor channels)) (J.may_act (J.anchor jobs)) }
+        ensures tag { IfOk result (λ t. t.0.tag ≡ 0) }
+    {
+        let mut frame = Frame::new(alloc, script, 0)?;
+        let mut jobs = jobs;
+        begin(script, &mut frame, &mut jobs)?;
+        Ok(Task::new(frame, channels, jobs))
+    }
+
+    /// Another coroutine, which did nothing yet.
+    pub fn child(
+        alloc: Global,
+        script: &Script,
+        tag: Tag,
+        channels: C,
+        jobs: J,
+    ) -> Result<Task<N, C, J>, Memory>
+        requires script { program_of script.now ≡ N.program }
+        requires tag { tag < coroutine_count (program_of script.now) }
+        requires child { tag ≢ 0 }
+        requires untouched { IsUntouched (program_of script.now) tag (C.view channels) (J.view jobs) }
+        ensures tag { IfOk result (λ t. t.0.tag ≡ tag) }
+    {
+        let frame = Frame::new(alloc, script, tag)?;
+        Ok(Task::new(frame, channels, jobs))
+    }
+}

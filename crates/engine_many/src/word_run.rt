@@ -1,0 +1,153 @@
+//! A run of a script over words.
+
+ghost use Rattle.std.specs.Prelude.{◌≡◌, ◌≤◌, ◌∷◌, [], IfOk, is_none, map};
+ghost use Rattle.note_book.specs.Books.{notes_of};
+ghost use Rattle.job_model.specs.Floors.{IsFreshFloor};
+ghost use Rattle.cell_words.specs.Hubs.{IsOf, IsOwn, GivesTags, shape_of, seen_by};
+ghost use Rattle.job_words.specs.Forests.{IsOf as IsOfForest, IsOwn as IsOwnJobs, GivesTags as GivesJobTags, seen_by as jobs_seen_by};
+ghost use Rattle.job_words.specs.Passes.{floor_seen};
+ghost use Rattle.script_meaning.specs.Shapes.{floor_shape, job_shape};
+ghost use Rattle.script_reader.specs.Scripts.{program_of};
+ghost use Rattle.word_seats.specs.Names.{IsNamedHub, IsNamedForest};
+ghost use Rattle.run_laws.specs.Ends.{IsRunAtRest};
+ghost use Rattle.engine_many.specs.WordRuns.{CameToRest, TellsIdle};
+
+use crate::ending::Left;
+use crate::run::run_tasks;
+use crate::seating::seat_tasks;
+use cell_words::{Hub, Pass};
+use co_base::{Gate, Memory};
+use engine_base::{ScriptName, kinds_of};
+use job_words::{Forest, JobPass};
+use poll_states::Done;
+use script_reader::Script;
+use std::alloc::Global;
+use std::marker::{Brand, PhantomData};
+use std::sync::Wait;
+use std::thread::Threads;
+use word_seats::{ForestName, ForestSeat, HubName, HubSeat};
+
+/// What a run leaves; and its channels and Jobs, with passes that may call for every coroutine and have seen all entries.
+#[derive(Drop)]
+pub struct WordRun {
+    pub done: Done,
+    pub hub: Hub,
+    pub pass: Pass,
+    pub forest: Forest,
+    pub jobs: JobPass,
+}
+
+/// Runs the script by so many workers until no coroutine can go on. No worker waits for a lock: the channels and Jobs are words that they
+/// change by single steps.
+///
+/// The first tickets are those of main and of the spawned instances, in their order, dealt to the workers in turn. Which worker polls a
+/// coroutine, and in which order coroutines are polled, is left open.
+///
+/// The books are those of a run with the histories of its hub and of its forest, which came to rest; nobody can go on.
+pub fn run_many<R: Threads + Wait + Sync, G: Gate + Sync>(
+    rt: &R,
+    alloc: Global,
+    script: &Script,
+    workers: u8,
+    gate: &G,
+) -> Result<WordRun, Memory>
+    requires { (2 ≤ workers) × (workers ≤ 16) }
+    ensures run { IfOk result (λ run. CameToRest (program_of script.now) run) }
+    ensures idle { IfOk result (λ run. TellsIdle run) }
+{
+    let (hub, pass) = hub_of(alloc, script)?;
+    let (forest, jobs) = forest_of(alloc, script)?;
+    let (done, pass, jobs) = run_seated::<Brand, R, G>(
+        rt, alloc, script, workers, gate, &hub, pass, &forest, jobs,
+    )?;
+    Ok(WordRun {
+        done,
+        hub,
+        pass,
+        forest,
+        jobs,
+    })
+}
+
+/// A hub with the channels that the script declares, and a done channel for each Job; and the pass of tag 0.
+fn hub_of(alloc: Global, script: &Script) -> Result<(Hub, Pass), Memory>
+    ensures shape { IfOk result (λ r. shape_of r.0 ≡ floor_shape (program_of script.now)) }
+    ensures own { IfOk result (λ r. IsOwn r.0 r.1 0) }
+    ensures gives { IfOk result (λ r. GivesTags (0 ∷ []) r.1) }
+    ensures seen { IfOk result (λ r. (seen_by r.1).seen ≡ []) }
+{
+    let kinds = kinds_of(alloc, script)?;
+    Hub::new(alloc, &kinds)
+}
+
+/// A forest with a row for each coroutine and for each scope, and the pass of tag 0.
+fn forest_of(alloc: Global, script: &Script) -> Result<(Forest, JobPass), Memory>
+    ensures own { IfOk result (λ r. IsOwnJobs r.0 r.1 0) }
+    ensures gives { IfOk result (λ r. GivesJobTags (0 ∷ []) r.1) }
+    ensures fresh { IfOk result (λ r. IsFreshFloor (job_shape (program_of script.now)) (floor_seen (jobs_seen_by r.1))) }
+{
+    Forest::new(alloc, script.coroutines(), script.scopes())
+}
+
+/// Runs the script on seats at this hub and this forest, with which nothing was done.
+fn run_seated<
+    N: ScriptName + HubName + ForestName + Send + Sync,
+    R: Threads + Wait + Sync,
+    G: Gate + Sync,
+>(
+    rt: &R,
+    alloc: Global,
+    script: &Script,
+    workers: u8,
+    gate: &G,
+    hub: &Hub,
+    pass: Pass,
+    forest: &Forest,
+    jobs: JobPass,
+) -> Result<(Done, Pass, JobPass), Memory>
+    requires workers { (2 ≤ workers) × (workers ≤ 16) }
+    requires script { program_of script.now ≡ N.program }
+    requires hub { IsNamedHub N.hub_table N.hub_layout hub.now × IsOwn hub.now pass 0 × GivesTags (0 ∷ []) pass }
+    requires forest { IsNamedForest N.forest_table N.forest_size forest.now × IsOwnJobs forest.now jobs 0 × GivesJobTags (0 ∷ []) jobs }
+    requires channels { (shape_of hub.now ≡ floor_shape N.program) × ((seen_by pass).seen ≡ []) }
+    requires rows { IsFreshFloor (job_shape N.program) (floor_seen (jobs_seen_by jobs)) }
+    ensures pass { IfOk result (λ r. IsOf hub.now r.1) }
+    ensures jobs { IfOk result (λ r. IsOfForest forest.now r.2) }
+    ensures rest { IfOk result (λ r. IsRunAtRest N.program (map notes_of r.0.books.items)
+        (seen_by r.1).seen (floor_seen (jobs_seen_by r.2)).seen r.0.end) }
+    ensures idle { IfOk result (λ r. r.0.idle ≡ is_none r.0.end) }
+{
+    let root: HubSeat<'_, N> = HubSeat {
+        hub,
+        pass,
+        name: PhantomData,
+    };
+    let root_jobs: ForestSeat<'_, N> = ForestSeat {
+        forest,
+        pass: jobs,
+        name: PhantomData,
+    };
+    let (tasks, aside) = seat_tasks(alloc, script, root, root_jobs)?;
+    let (left, end) = run_tasks(rt, alloc, script, workers, gate, tasks, aside)?;
+    let Left {
+        books,
+        channels,
+        jobs,
+    } = left;
+    let HubSeat {
+        hub: _,
+        pass,
+        name: _,
+    } = channels;
+    let ForestSeat {
+        forest: _,
+        pass: job_pass,
+        name: _,
+    } = jobs;
+    let done = Done {
+        books,
+        idle: end.is_none(),
+        end,
+    };
+    Ok((done, pass, job_pass))
+}
