@@ -1,0 +1,303 @@
+//! Runs by several workers under schedules that a gate brings about.
+//!
+//! Where a gate had to let a coroutine go, no worker came to what it waited for: the workers did not run beside one another, or did not
+//! steal.
+
+use crate::calls::{AT_ONCE, answer, told_of};
+use crate::hold_gate::{HoldGate, HoldRule};
+use co_base::Tag;
+use std::alloc::Global;
+use std::sync::Wait;
+use std::test::Fail;
+use std::thread::Threads;
+
+/// Two spawned coroutines.
+const TWO_SPAWNED: &str = "\
+coroutine p
+yield
+end
+coroutine q
+yield
+end
+coroutine main
+end
+spawn p
+spawn q
+";
+
+/// A receiver is cancelled, to which a sender of its own sends.
+const CANCELLED_RECEIVER: &str = "\
+channel a rendezvous
+coroutine r
+receive a
+end
+coroutine s
+send a 5
+end
+coroutine main
+launch r as j
+launch s
+cancel j
+end
+";
+
+/// One of two receivers is cancelled before the sender begins.
+const CANCELLED_FIRST: &str = "\
+channel a rendezvous
+coroutine r
+receive a
+end
+coroutine s
+send a 5
+end
+coroutine main
+launch r as j
+launch r
+cancel j
+launch s
+end
+";
+
+/// A coroutine that main launches.
+const LAUNCHED: &str = "\
+coroutine q
+yield
+end
+coroutine main
+launch q
+yield
+end
+";
+
+/// Sixteen coroutines.
+const SIXTEEN: &str = "\
+coroutine p
+yield
+end
+coroutine main
+yield
+end
+spawn p 15
+";
+
+/// A select, and a sender for each of its clauses.
+const SELECT_OF_TWO: &str = "\
+channel a rendezvous
+channel b rendezvous
+coroutine m
+select
+onreceive a
+onreceive b
+end
+end
+coroutine p
+send a 1
+end
+coroutine q
+send b 2
+end
+coroutine main
+end
+spawn m
+spawn p
+spawn q
+";
+
+/// So many looks are made before a coroutine is let go.
+const TURNS: u64 = 1_000_000_000;
+
+/// Holds `tag` at `point` until `other` has passed `other_point` so many times.
+const fn until_passed(tag: Tag, point: u8, other: Tag, other_point: u8, times: u32) -> HoldRule {
+    HoldRule {
+        tag,
+        point,
+        other,
+        other_point,
+        passed: true,
+        times,
+    }
+}
+
+/// Holds `tag` at `point` until `other` has come to `other_point`.
+const fn until_come(tag: Tag, point: u8, other: Tag, other_point: u8) -> HoldRule {
+    HoldRule {
+        tag,
+        point,
+        other,
+        other_point,
+        passed: false,
+        times: 1,
+    }
+}
+
+/// What a script is answered with by so many workers at a gate with these rules, in the form in which a row says it; and whether the gate
+/// let somebody go.
+fn held<R: Threads + Wait + Sync>(
+    rt: &R,
+    alloc: Global,
+    workers: &str,
+    script: &str,
+    rules: &[HoldRule],
+    told: &str,
+) -> Result<(String, bool), Fail> {
+    let gate = HoldGate::new(alloc, rules, TURNS)?;
+    let words = ["run", "--workers", workers];
+    let (status, written) = answer(
+        rt,
+        alloc,
+        &words,
+        script.as_bytes(),
+        AT_ONCE,
+        AT_ONCE,
+        &gate,
+    )?;
+    let text = told_of(alloc, told, str::from_utf8(written.as_slice())?)?;
+    let answer = format!(in alloc; "{status} {told}\n{text}")?;
+    Ok((answer, gate.gave_up()))
+}
+
+#[test]
+fn two_workers_run_side_by_side(rt: HostRuntime) -> Result<(), Fail> {
+    let rules = [until_passed(1, 2, 2, 3, 1)];
+    let (answer, gave_up) = held(&rt, rt.alloc(), "2", TWO_SPAWNED, &rules, "jobs")?;
+    assert_eq!(rt;
+        answer.as_str(),
+        "0 jobs\njob 0 completed 0\njob 1 completed 0\njob 2 completed 0\n"
+    );
+    assert_eq!(rt; gave_up, false);
+    Ok(())
+}
+
+#[test]
+fn a_receiver_that_was_resumed_and_then_cancelled_gives_its_element_up(
+    rt: HostRuntime,
+) -> Result<(), Fail> {
+    let rules = [
+        until_passed(2, 2, 1, 3, 1),
+        until_passed(0, 6, 1, 3, 1),
+        until_come(0, 6, 1, 4),
+        until_passed(1, 4, 0, 7, 1),
+    ];
+    let (answer, gave_up) = held(&rt, rt.alloc(), "2", CANCELLED_RECEIVER, &rules, "channels")?;
+    assert_eq!(rt;
+        answer.as_str(),
+        "0 channels
+1 await a 0 a.0 0
+1 saw 1
+1 settle a.0 undelivered 5
+2 hand a 0 5
+element a 0 5 undelivered
+"
+    );
+    assert_eq!(rt; gave_up, false);
+    Ok(())
+}
+
+#[test]
+fn a_receiver_that_was_cancelled_lets_the_next_one_receive(rt: HostRuntime) -> Result<(), Fail> {
+    let rules = [
+        until_passed(0, 6, 1, 8, 1),
+        until_passed(2, 2, 1, 3, 1),
+        until_passed(3, 2, 1, 8, 2),
+        until_passed(3, 2, 2, 3, 1),
+    ];
+    let (answer, gave_up) = held(&rt, rt.alloc(), "3", CANCELLED_FIRST, &rules, "channels")?;
+    assert_eq!(rt;
+        answer.as_str(),
+        "0 channels
+1 await a 0 a.0 0
+1 saw 1
+1 withdraw a.0 cancelled
+1 settle a.0 cancelled
+2 await a 1 a.1 0
+2 settle a.1 value 0 5
+3 hand a 1 5
+"
+    );
+    assert_eq!(rt; gave_up, false);
+    Ok(())
+}
+
+#[test]
+fn a_worker_steals_what_another_launched(rt: HostRuntime) -> Result<(), Fail> {
+    let rules = [until_passed(0, 8, 1, 3, 1)];
+    let (answer, gave_up) = held(&rt, rt.alloc(), "2", LAUNCHED, &rules, "jobs")?;
+    assert_eq!(rt;
+        answer.as_str(),
+        "0 jobs\njob 0 completed 0\njob 1 completed 0\n"
+    );
+    assert_eq!(rt; gave_up, false);
+    Ok(())
+}
+
+#[test]
+fn sixteen_workers_poll_sixteen_coroutines_at_once(rt: HostRuntime) -> Result<(), Fail> {
+    let mut rules = Vec::new(rt.alloc());
+    for tag in 0..16 {
+        for other in 0..16 {
+            if other != tag {
+                rules.push(until_come(tag, 2, other, 2))?;
+            }
+        }
+    }
+    let (answer, gave_up) = held(&rt, rt.alloc(), "16", SIXTEEN, rules.as_slice(), "none")?;
+    assert_eq!(rt; answer.as_str(), "0 none\n");
+    assert_eq!(rt; gave_up, false);
+    Ok(())
+}
+
+#[test]
+fn a_receiver_that_is_cancelled_behind_its_look_receives(rt: HostRuntime) -> Result<(), Fail> {
+    let rules = [
+        until_passed(2, 2, 1, 3, 1),
+        until_come(0, 6, 1, 5),
+        until_passed(1, 5, 0, 7, 1),
+    ];
+    let (answer, gave_up) = held(&rt, rt.alloc(), "3", CANCELLED_RECEIVER, &rules, "channels")?;
+    assert_eq!(rt;
+        answer.as_str(),
+        "0 channels
+1 await a 0 a.0 0
+1 settle a.0 value 0 5
+2 hand a 0 5
+"
+    );
+    assert_eq!(rt; gave_up, false);
+    Ok(())
+}
+
+#[test]
+fn a_select_takes_the_clause_whose_sender_came_first(rt: HostRuntime) -> Result<(), Fail> {
+    let rules = [
+        until_passed(2, 2, 1, 3, 1),
+        until_passed(3, 2, 1, 3, 1),
+        until_passed(2, 2, 3, 3, 1),
+    ];
+    let (answer, gave_up) = held(
+        &rt,
+        rt.alloc(),
+        "3",
+        SELECT_OF_TWO,
+        &rules,
+        "channels-and-jobs",
+    )?;
+    assert_eq!(rt;
+        answer.as_str(),
+        "4 channels-and-jobs
+1 empty a
+1 empty b
+1 await a 0 a.0 1
+1 await b 0 a.0 2
+1 settle a.0 value 2 2
+2 offer a 1 1 a.1 0
+3 hand b 0 2
+job 0 completing
+job 1 completed 0
+job 2 active
+job 3 completed 0
+element a 1 1 held
+"
+    );
+    assert_eq!(rt; gave_up, false);
+    Ok(())
+}

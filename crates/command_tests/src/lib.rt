@@ -1,0 +1,46 @@
+//! Scripts with their reports, and what else the command line, the engines and the reader do with a script.
+//!
+//! - `calls`: calls of the command line over sources and sinks in memory, and the lines of a report that a row tells of.
+//! - `tests`: what such calls come to. Its worked scripts stand in `channel_rows`, `buffer_rows`, `job_rows`,
+//!   `cancel_rows`, `select_rows`, `scope_rows`, `await_rows` and `fault_rows`.
+//! - `stream_tests`: a source and a sink of which a call fails. `cut_tests`: scripts that are cut off, and some of too many Jobs.
+//! - `print_tests`: a script that is read and printed again.
+//! - `worker_tests`: runs by several workers.
+//! - `gate_tests`: the points of the gate that polls pass.
+//! - `hold_gate`, `hold_tests`: a gate that holds coroutines, and runs by several workers under schedules that it brings about.
+#![tactic(auto)]
+
+#[cfg(test)]
+mod await_rows;
+#[cfg(test)]
+mod buffer_rows;
+#[cfg(test)]
+mod calls;
+#[cfg(test)]
+mod cancel_rows;
+#[cfg(test)]
+mod channel_rows;
+#[cfg(test)]
+mod cut_tests;
+#[cfg(test)]
+mod fault_rows;
+#[cfg(test)]
+mod gate_tests;
+#[cfg(test)]
+mod hold_gate;
+#[cfg(test)]
+mod hold_tests;
+#[cfg(test)]
+mod job_rows;
+#[cfg(test)]
+mod print_tests;
+#[cfg(test)]
+mod scope_rows;
+#[cfg(test)]
+mod select_rows;
+#[cfg(test)]
+mod stream_tests;
+#[cfg(test)]
+mod tests;
+#[cfg(test)]
+mod worker_tests;

@@ -1,7 +1,0 @@
-use Rattle.std.proofs.Common.{subst}
-use Rattle.coroutine_cli.specs.Preparing.{AnswersTo}
-use Rattle.coroutine_cli.proofs.WrittenMeans.{answer_means}
-use Rattle.coroutine_cli.proofs.writing.end.Goals as goal
-
-pub returns-in-Ok-clause-status : goal.returns-in-Ok-clause-status
-returns-in-Ok-clause-status g c = λ asked source source' m. answer_means c.written.result asked c.in-Ok.answer source source' _ _ (subst (AnswersTo asked source source') c.in-Ok.is m) c.written.ensures
