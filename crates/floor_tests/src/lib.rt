@@ -6,22 +6,12 @@
 //! - `known_calls`: calls on one channel, each made where what it asks is known, so that a list of calls can be a table.
 #![tactic(auto)]
 
-#[cfg(test)]
-mod at_once;
 mod beside;
 mod beside_calls;
 mod between;
 mod between_calls;
 mod known_calls;
-#[cfg(test)]
-mod on_passes;
 mod other_calls;
-#[cfg(test)]
-mod rows;
-#[cfg(test)]
-mod selects_on_passes;
-#[cfg(test)]
-mod tests;
 
 pub use beside::Beside;
 pub use between::Between;

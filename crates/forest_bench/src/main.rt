@@ -4,26 +4,14 @@
 //!
 //! Four coroutines also enter scopes in one forest, until it has as many Jobs.
 //!
-//! - `calls`: calls on a floor of Jobs that look first whether they may be made.
-//! - `on_passes`: calls of one pass of a forest.
-//! - `shares`: the tags of a forest, shared out among four passes.
-//! - `at_once`: the shares, worked on by one, two or four threads at once.
 //! - `tickets`: tickets through lanes.
 #![tactic(auto)]
 
 ghost use Rattle.std.specs.Prelude.{◌+◌, ◌≤◌, IfOk};
 
-mod at_once;
-mod calls;
-mod on_passes;
-mod shares;
-#[cfg(test)]
-mod tests;
 mod tickets;
 
-use at_once::{Four, work_by};
-use on_passes::new_forest;
-use shares::{Work, share_of};
+use forest_shares::{Four, Work, new_forest, share_of, work_by};
 use std::rt::Env;
 use std::sync::Wait;
 use std::thread::Threads;

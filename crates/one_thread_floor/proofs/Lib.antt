@@ -14,3 +14,4 @@ pub mod TreeFamilies
 pub mod TreeKept
 pub mod TreeLooks
 pub mod Leading
+pub mod OneChannel

@@ -245,8 +245,12 @@ fn add_clause(
     ensures shape { SameShape channels.old.items channels.new.items }
     ensures boxes { vec_len boxes.old ≤ vec_len boxes.new + 1 }
 {
-    let channel = &mut channels[w.channel as usize];
-    push_clause_in(channel, boxes, w.place as usize, clause);
+    push_clause_in(
+        &mut channels[w.channel as usize],
+        boxes,
+        w.place as usize,
+        clause,
+    );
 }
 
 /// Gives out a place to an offer, as one more clause of the wait.

@@ -5,9 +5,9 @@ ghost use Rattle.std.specs.Option.{ForSome};
 ghost use Rattle.channel_model.specs.Channels.{kind_at};
 ghost use Rattle.channel_model.specs.Effects.{is_open};
 ghost use Rattle.channel_model.specs.Answers.{owner_of, state_of_wait};
-ghost use Rattle.one_thread_floor.specs.ListStands.{channel_in, wait_in, places_in, items_of, clauses_of, clauses_in, place_for, is_resolved_main};
+ghost use Rattle.one_thread_floor.specs.ListStands.{channel_in, wait_of_slot, wait_in, places_in, items_of, clauses_of, clauses_of_slot, clauses_in, place_for, is_resolved_main};
 
-use crate::list_channel::{ListChannel, ListClause, ListClauses};
+use crate::list_channel::{ListChannel, ListClause, ListClauses, ListWait};
 use channel_model::{Kind, Receiver, Standing, WaitState};
 use co_base::{ChannelId, Place, Tag, Value, WaitId};
 use std::slice::from_ref;
@@ -77,12 +77,21 @@ pub fn next_place(channels: &Vec<ListChannel>, c: ChannelId) -> Place
     channels[c as usize].slots.len() as Place
 }
 
+/// The slot of a wait that began.
+fn slot_at(channels: &Vec<ListChannel>, w: WaitId) -> &Option<ListWait>
+    requires { IsSome (wait_in channels.now.items w) }
+    ensures wait { wait_of_slot result.now ≡ wait_in channels.now.items w }
+    ensures clauses { clauses_of_slot result.now ≡ clauses_in channels.now.items w }
+{
+    &channels[w.channel as usize].slots[w.place as usize]
+}
+
 /// The coroutine that waits.
 pub fn owner_at(channels: &Vec<ListChannel>, w: WaitId) -> Tag
     requires { IsSome (wait_in channels.now.items w) }
     ensures { owner_of (wait_in channels.now.items w) ≡ Some result }
 {
-    match &channels[w.channel as usize].slots[w.place as usize] {
+    match slot_at(channels, w) {
         Some(wait) => wait.owner,
         None => unreachable!(),
     }
@@ -93,7 +102,7 @@ pub fn state_at(channels: &Vec<ListChannel>, w: WaitId) -> WaitState
     requires { IsSome (wait_in channels.now.items w) }
     ensures { state_of_wait (wait_in channels.now.items w) ≡ Some result }
 {
-    match &channels[w.channel as usize].slots[w.place as usize] {
+    match slot_at(channels, w) {
         Some(wait) => match wait.resolved {
             Some(_) => match wait.settled {
                 Some(_) => WaitState::Settled,
@@ -110,7 +119,7 @@ pub fn is_open_wait(channels: &Vec<ListChannel>, w: WaitId) -> bool
     requires { IsSome (wait_in channels.now.items w) }
     ensures { result ≡ is_open (wait_in channels.now.items w) }
 {
-    match &channels[w.channel as usize].slots[w.place as usize] {
+    match slot_at(channels, w) {
         Some(wait) => wait.resolved.is_none(),
         None => unreachable!(),
     }
@@ -142,7 +151,7 @@ pub fn clause_count(channels: &Vec<ListChannel>, w: WaitId) -> usize
     requires { IsSome (wait_in channels.now.items w) }
     ensures { result ≡ length (clauses_of (wait_in channels.now.items w)) }
 {
-    match &channels[w.channel as usize].slots[w.place as usize] {
+    match slot_at(channels, w) {
         Some(wait) => items(&wait.clauses).len(),
         None => 0,
     }
@@ -154,7 +163,7 @@ pub fn clause_channel(channels: &Vec<ListChannel>, w: WaitId, i: usize) -> Chann
     requires within { i < length (clauses_of (wait_in channels.now.items w)) }
     ensures { result ≡ (slice_index_or (clauses_of (wait_in channels.now.items w)) i (0, 0)).1 }
 {
-    match &channels[w.channel as usize].slots[w.place as usize] {
+    match slot_at(channels, w) {
         Some(wait) => items(&wait.clauses)[i].channel,
         None => 0,
     }
@@ -176,7 +185,7 @@ pub fn place_for(channels: &Vec<ListChannel>, w: WaitId, c: ChannelId) -> Option
     requires { IsSome (wait_in channels.now.items w) }
     ensures { result ≡ place_for c (clauses_in channels.now.items w) }
 {
-    match &channels[w.channel as usize].slots[w.place as usize] {
+    match slot_at(channels, w) {
         Some(wait) => place_among(items(&wait.clauses), c),
         None => None,
     }

@@ -11,7 +11,7 @@ pub struct TreeSize {
 }
 
 /// A Job. Its children hang together: it names the newest, and each names the one that was attached before it.
-#[derive(Clone, Copy, Debug, PartialEq, Eq)]
+#[derive(Clone, Copy)]
 pub struct TreeRow {
     /// None for the root.
     pub parent: Option<Row>,

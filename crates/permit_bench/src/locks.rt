@@ -3,7 +3,7 @@
 use std::sync::{Mutex, Wait};
 use std::thread::{Threads, join};
 
-/// Takes the lock so often, and adds to the number behind it.
+/// Takes the lock the stated number of times, and adds to the number behind it.
 fn lock_often<R: Wait>(rt: &R, lock: &Mutex<u64>, times: u32) {
     for _ in 0..times {
         let mut number = lock.lock(rt);
@@ -11,7 +11,7 @@ fn lock_often<R: Wait>(rt: &R, lock: &Mutex<u64>, times: u32) {
     }
 }
 
-/// That by two, one after the other, or at once by a thread each.
+/// The same by two, one after the other, or at once by a thread each.
 fn by_two<R: Threads + Wait + Sync>(rt: &R, lock: &Mutex<u64>, times: u32, at_once: bool) {
     if at_once {
         join(
@@ -25,7 +25,7 @@ fn by_two<R: Threads + Wait + Sync>(rt: &R, lock: &Mutex<u64>, times: u32, at_on
     }
 }
 
-/// That by four, by one, two or four threads: the number in the end.
+/// The same by four, by one, two or four threads: the number in the end.
 pub(crate) fn locked_by_four<R: Threads + Wait + Sync>(rt: &R, times: u32, threads: u32) -> u64 {
     let lock = Mutex::new(0u64);
     if threads == 1 {

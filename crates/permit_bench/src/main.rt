@@ -4,30 +4,18 @@
 //!     permit_bench [TIMES]     how often by each of four coroutines, by default 1000, at most 131000
 //!
 //! Four coroutines use a semaphore of one permit, and one of two, by 1, 2 and 4 threads at once. One that finds no permit looks at its
-//! wait some times and then gives it up, which counts too. The tests count who holds a permit at once, and have rows of calls that were
-//! worked out by hand.
+//! wait some times and then gives it up, which counts too (`permit_calls`).
 //!
-//! - `known_calls`: calls of a coroutine, if what they ask is known
-//! - `three_callers`: the calls of three coroutines, on one floor of lists, or over words with a pass for each
-//! - `holds`: to acquire and to release, while a shared number counts who holds a permit
-//! - `at_once`: four coroutines that do so, by one, two or four threads at once
 //! - `locks`: the same by the kit's lock
-//! - `tests`: what four threads come to, and rows of calls of three
 #![tactic(auto)]
 
 ghost use Rattle.std.specs.Prelude.{◌≡◌};
-ghost use Rattle.permit_bench.specs.Known.{IsNumber};
+ghost use Rattle.permit_calls.specs.Known.{IsNumber};
 
-mod at_once;
-mod holds;
-mod known_calls;
 mod locks;
-#[cfg(test)]
-mod tests;
-mod three_callers;
 
-use at_once::tally_of_four;
 use locks::locked_by_four;
+use permit_calls::tally_of_four;
 use permits::Permits;
 use std::rt::Env;
 use std::sync::Wait;

@@ -37,8 +37,6 @@ mod rule;
 mod steps;
 mod tagged;
 mod taking;
-#[cfg(test)]
-mod tests;
 
 pub use berths::{BerthSeat, Berths};
 pub use laws::{each_task_is_at_home_or_out, each_word_says_where_its_task_is};

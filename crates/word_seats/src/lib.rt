@@ -23,8 +23,6 @@ mod hub_meetings;
 mod hub_seat;
 mod names;
 mod seating;
-#[cfg(test)]
-mod tests;
 
 pub use forest_seat::{ForestSeat, ForestSeatAnchor};
 pub use hub_seat::{HubSeat, HubSeatAnchor};

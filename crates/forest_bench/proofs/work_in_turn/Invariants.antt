@@ -1,4 +1,4 @@
-use Rattle.forest_bench.specs.Shares.{IsShare}
+use Rattle.forest_shares.specs.Shares.{IsShare}
 use Rattle.forest_bench.proofs.work_in_turn.Given as goal
 
 abbrev pub invariant-loop-work : goal.invariant-loop-work

@@ -1,0 +1,3 @@
+pub mod NothingKnown
+pub mod OnTwoChannels
+pub mod SelectsOwnWaits

@@ -1,0 +1,14 @@
+use Rattle.std.proofs.Common.{sym, arith}
+use Rattle.std.specs.Prelude.{[], refl}
+use Rattle.std.proofs.lemmas.List.{append-nil}
+use Rattle.floor_rows.proofs.forest_rows.LastEndEnds.ended.Goals as goal
+
+pub returns-clause-ended : goal.returns-clause-ended
+returns-clause-ended g c = record {
+  ended = [];
+  does_it = tt;
+  few = omega arith;
+  no_jobs = refl;
+  appended = sym (append-nil _);
+  room = omega arith;
+}

@@ -1,0 +1,5 @@
+use Rattle.cell_words.specs.Hubs.{IsOwn}
+use Rattle.floor_rows.proofs.on_passes.settle_all.Given as goal
+
+abbrev pub invariant-waits : goal.invariant-waits
+invariant-waits l = IsOwn l.hub l.pass l.who

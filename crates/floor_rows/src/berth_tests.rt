@@ -1,0 +1,189 @@
+//! What a few tasks in berths come to.
+ghost use Rattle.std.specs.Prelude.{◌≡◌, ◌<◌, [], IfOk, length};
+ghost use Rattle.task_berths.specs.Answers.{HaveTags};
+ghost use Rattle.task_berths.specs.Seats.{count_of, view_of, IsSeatOf, IsMain};
+
+use co_base::{Memory, Tag};
+use std::alloc::Global;
+use std::sync::Wait;
+use std::test::Fail;
+use std::thread::{Threads, join};
+use task_berths::{BerthSeat, Berths, Tagged, Taken};
+
+/// A task that counts how often it was visited.
+#[derive(Drop)]
+struct Job {
+    tag: Tag,
+    visits: u64,
+}
+
+impl Tagged for Job {
+    ghost tag_of = { λ j. j.tag };
+
+    fn tag(&self) -> Tag {
+        self.tag
+    }
+}
+
+/// Two tasks.
+fn two_jobs(alloc: Global) -> Result<Vec<Job>, Memory>
+    ensures count { IfOk result (λ v. length v.items ≡ 2) }
+    ensures tags { IfOk result (λ v. HaveTags (λ (j : Job). j.tag) v.items) }
+{
+    let mut jobs = Vec::with_capacity(alloc, 2)?;
+    jobs.push_reserved(Job { tag: 0, visits: 0 });
+    jobs.push_reserved(Job { tag: 1, visits: 0 });
+    Ok(jobs)
+}
+
+#[test]
+fn a_seat_that_is_asked_hears_it_when_it_leaves(rt: HostRuntime) -> Result<(), Fail> {
+    let (berths, mut a) = Berths::new(two_jobs(rt.alloc())?)?;
+    let mut b = berths.split(&mut a);
+    let Taken::Task(job) = berths.take(&mut a, 0) else {
+        panic!(rt; "task 0 is not at home")
+    };
+    let Taken::Task(other) = berths.take(&mut a, 1) else {
+        panic!(rt; "task 1 is not at home")
+    };
+    let Taken::Busy = berths.take(&mut b, 0) else {
+        panic!(rt; "task 0 is not away")
+    };
+    let Taken::Busy = berths.take(&mut b, 0) else {
+        panic!(rt; "task 0 is not away still")
+    };
+    assert_eq!(rt; berths.leave(&mut a, 0, job), true);
+    assert_eq!(rt; berths.leave(&mut a, 1, other), false);
+    let Taken::Task(job) = berths.take(&mut b, 0) else {
+        panic!(rt; "task 0 did not come home")
+    };
+    assert_eq!(rt; job.tag(), 0);
+    assert_eq!(rt; berths.leave(&mut b, 0, job), false);
+    berths.end(&mut a, b);
+    let jobs = berths.close(a);
+    assert_eq!(rt; jobs.len(), 2);
+    Ok(())
+}
+
+/// What became of some visits.
+#[derive(Clone, Copy, Drop)]
+struct Visits {
+    made: u64,
+    busy: u64,
+    asked: u64,
+}
+
+impl Visits {
+    /// One more that found its task, and whether it was asked.
+    fn with_one(self, asked: bool) -> Visits {
+        Visits {
+            made: self.made.wrapping_add(1),
+            busy: self.busy,
+            asked: self.asked.wrapping_add(u64::from(asked)),
+        }
+    }
+
+    /// One more that found its task away.
+    fn with_busy(self) -> Visits {
+        Visits {
+            made: self.made,
+            busy: self.busy.wrapping_add(1),
+            asked: self.asked,
+        }
+    }
+}
+
+/// Takes a task, counts the visit, and leaves the task.
+fn visit(berths: &Berths<Job>, seat: &mut BerthSeat<Job>, tag: Tag, visits: Visits) -> Visits
+    requires seat { IsSeatOf berths.now seat.old }
+    requires tag { tag < count_of berths.now }
+    requires none { (view_of seat.old).held ≡ [] }
+    ensures seat { IsSeatOf berths.now seat.new }
+    ensures none { (view_of seat.new).held ≡ [] }
+{
+    let Taken::Task(mut job) = berths.take(seat, tag) else {
+        return visits.with_busy();
+    };
+    job.visits = job.visits.wrapping_add(1);
+    let asked = berths.leave(seat, tag, job);
+    visits.with_one(asked)
+}
+
+/// Visits both tasks so many times.
+fn visit_both(berths: &Berths<Job>, seat: BerthSeat<Job>, times: u32) -> (BerthSeat<Job>, Visits)
+    requires seat { IsSeatOf berths.now seat }
+    requires two { count_of berths.now ≡ 2 }
+    requires none { (view_of seat).held ≡ [] }
+    ensures seat { IsSeatOf berths.now result.0 }
+    ensures none { (view_of result.0).held ≡ [] }
+{
+    let mut seat = seat;
+    let mut visits = Visits {
+        made: 0,
+        busy: 0,
+        asked: 0,
+    };
+    for _ in 0..times {
+        visits = visit(berths, &mut seat, 0, visits);
+        visits = visit(berths, &mut seat, 1, visits);
+    }
+    (seat, visits)
+}
+
+/// Two threads visit both tasks.
+fn visit_by_two<R: Threads + Wait + Sync>(
+    rt: &R,
+    berths: &Berths<Job>,
+    a: BerthSeat<Job>,
+    b: BerthSeat<Job>,
+    times: u32,
+) -> ((BerthSeat<Job>, Visits), (BerthSeat<Job>, Visits))
+    requires two { count_of berths.now ≡ 2 }
+    requires a { IsSeatOf berths.now a × ((view_of a).held ≡ []) }
+    requires b { IsSeatOf berths.now b × ((view_of b).held ≡ []) }
+    ensures a { IsSeatOf berths.now result.0.0 × ((view_of result.0.0).held ≡ []) }
+    ensures b { IsSeatOf berths.now result.1.0 × ((view_of result.1.0).held ≡ []) }
+{
+    join(
+        rt,
+        || visit_both(berths, a, times),
+        || visit_both(berths, b, times),
+    )
+}
+
+/// The tasks after the visits, and what became of these.
+fn visited<R: Threads + Wait + Sync>(
+    rt: &R,
+    alloc: Global,
+    times: u32,
+) -> Result<(Vec<Job>, Visits, Visits), Memory> {
+    let (berths, mut main) = Berths::new(two_jobs(alloc)?)?;
+    let a = berths.split(&mut main);
+    let b = berths.split(&mut main);
+    let ((a, by_a), (b, by_b)) = visit_by_two(rt, &berths, a, b, times);
+    berths.end(&mut main, a);
+    berths.end(&mut main, b);
+    Ok((berths.close(main), by_a, by_b))
+}
+
+/// The visits that the tasks counted.
+fn counted(jobs: &[Job]) -> u64 {
+    let mut sum = 0u64;
+    for job in jobs {
+        sum = sum.wrapping_add(job.visits);
+    }
+    sum
+}
+
+#[test]
+fn no_visit_of_two_threads_is_lost_and_no_leave_was_asked_without_a_busy_take(
+    rt: HostRuntime,
+) -> Result<(), Fail> {
+    let (jobs, a, b) = visited(&rt, rt.alloc(), 20_000)?;
+    assert_eq!(rt; counted(jobs.as_slice()), a.made.wrapping_add(b.made));
+    assert_eq!(rt; a.made.wrapping_add(a.busy), 40_000);
+    assert_eq!(rt; b.made.wrapping_add(b.busy), 40_000);
+    assert!(rt; a.asked <= b.busy);
+    assert!(rt; b.asked <= a.busy);
+    Ok(())
+}

@@ -1,0 +1,409 @@
+//! What calls on a forest answer, and what several threads make of one.
+ghost use Rattle.std.specs.Prelude.{◌≡◌, true, is_some, IfOk, ⊤};
+ghost use Rattle.job_model.specs.Histories.{replay};
+ghost use Rattle.job_words.specs.Passes.{floor_seen};
+ghost use Rattle.job_words.specs.Forests.{seen_by, IsOwn};
+ghost use Rattle.job_words.specs.Rangers.{ranger_floor, ranger_anchor};
+ghost use Rattle.one_thread_floor.specs.TreeFloors.{floor_of};
+
+use co_base::{Memory, Row, Tag, Wakes};
+use forest_calls::finish_up;
+use forest_shares::{
+    Answer, Call, Four, NoWakes, Share, Work, cancel_root, is_attached, make, make_by, meet_both,
+    new_forest, run, share_of, split_off, work_by,
+};
+use job_model::{AttachError, Attached, CancelledNow, Cause, End, Ended, Finished, JobKind};
+use job_tree::Ends;
+use job_words::{Forest, JobPass, Ranger};
+use note_book::{NoteBook, Notes};
+use one_thread_floor::TreeFloor;
+use std::alloc::Global;
+use std::test::Fail;
+use std::thread::join;
+
+const PLAIN: JobKind = JobKind {
+    supervisor: false,
+    scoped: false,
+    lazy: false,
+};
+
+const SCOPE: JobKind = JobKind {
+    supervisor: false,
+    scoped: true,
+    lazy: false,
+};
+
+const LAZY: JobKind = JobKind {
+    supervisor: false,
+    scoped: false,
+    lazy: true,
+};
+
+fn attach(parent: u16, kind: JobKind, tag: Tag) -> Call {
+    Call::Attach { parent, kind, tag }
+}
+
+fn attached(row: u16, cancelled: bool) -> Answer {
+    Answer::Attached(Ok(Attached { row, cancelled }))
+}
+
+/// Calls on four coroutines: who makes each, and what it answers.
+fn cancelled_calls() -> [(Tag, Call, Answer); 12] {
+    let end = Finished::Now(End::Cancelled(Cause::Request));
+    [
+        (0, attach(0, PLAIN, 1), attached(1, false)),
+        (1, attach(1, LAZY, 2), attached(2, false)),
+        (0, Call::CancelPass { row: 1 }, Answer::Passed(2)),
+        (1, attach(1, PLAIN, 3), attached(3, true)),
+        (0, Call::Start { row: 2 }, Answer::Started(false)),
+        (
+            0,
+            Call::CancelOne { row: 3 },
+            Answer::Cancelled(CancelledNow::Already),
+        ),
+        (0, Call::CancelPass { row: 1 }, Answer::Passed(0)),
+        (
+            2,
+            Call::EndBody { row: 2, value: 0 },
+            Answer::Ended(Ended::Owes),
+        ),
+        (
+            1,
+            Call::Finish { row: 1 },
+            Answer::Finished(Finished::NotYet),
+        ),
+        (
+            2,
+            Call::FinishAndTell { row: 2 },
+            Answer::FinishedAndTold(end, Ended::Waits),
+        ),
+        (
+            2,
+            Call::Finish { row: 2 },
+            Answer::Finished(Finished::Already),
+        ),
+        (
+            1,
+            Call::Finish { row: 1 },
+            Answer::Finished(Finished::NotYet),
+        ),
+    ]
+}
+
+/// The same of three coroutines and a scope.
+fn ended_calls() -> [(Tag, Call, Answer); 7] {
+    let end = Finished::Now(End::Completed(9));
+    [
+        (0, attach(0, PLAIN, 1), attached(1, false)),
+        (
+            0,
+            attach(0, PLAIN, 1),
+            Answer::Attached(Err(AttachError::Used)),
+        ),
+        (0, attach(0, SCOPE, 0), attached(3, false)),
+        (
+            0,
+            attach(0, SCOPE, 0),
+            Answer::Attached(Err(AttachError::NoRow)),
+        ),
+        (
+            1,
+            Call::EndBody { row: 1, value: 9 },
+            Answer::Ended(Ended::Owes),
+        ),
+        (1, Call::Finish { row: 1 }, Answer::Finished(end)),
+        (
+            0,
+            attach(1, PLAIN, 2),
+            Answer::Attached(Err(AttachError::ParentEnded)),
+        ),
+    ]
+}
+
+fn new_tree(alloc: Global) -> Result<TreeFloor, Memory>
+    ensures { IfOk result (λ f. (floor_of f).shape.coroutines ≡ 4) }
+{
+    TreeFloor::new(alloc, 4, 0)
+}
+
+#[test]
+fn a_floor_of_one_thread_answers_calls_on_cancelled_jobs(rt: HostRuntime) -> Result<(), Fail> {
+    let mut floor = new_tree(rt.alloc())?;
+    for (who, call, answer) in cancelled_calls() {
+        let found = make(&mut floor, rt.alloc(), 4, who, call)?;
+        assert_eq!(rt; found, answer, "{call:?}");
+    }
+    Ok(())
+}
+
+/// The call of one of three tags, after all passes met.
+fn call_of_three(
+    forest: &Forest,
+    coroutines: u16,
+    alloc: Global,
+    p: &mut JobPass,
+    q: &mut JobPass,
+    r: &mut JobPass,
+    who: Tag,
+    call: Call,
+) -> Result<Answer, Memory>
+    requires p { IsOwn forest.now p.old 0 }
+    requires q { IsOwn forest.now q.old 1 }
+    requires r { IsOwn forest.now r.old 2 }
+    requires size { forest.now.size.coroutines ≡ coroutines }
+    ensures p { IsOwn forest.now p.new 0 }
+    ensures q { IsOwn forest.now q.new 1 }
+    ensures r { IsOwn forest.now r.new 2 }
+{
+    meet_both(forest, p, 0, q, 1);
+    meet_both(forest, p, 0, r, 2);
+    meet_both(forest, p, 0, q, 1);
+    match who {
+        0 => make_by(forest, coroutines, p, alloc, 0, call),
+        1 => make_by(forest, coroutines, q, alloc, 1, call),
+        _ => make_by(forest, coroutines, r, alloc, 2, call),
+    }
+}
+
+#[test]
+fn a_forest_answers_calls_on_cancelled_jobs(rt: HostRuntime) -> Result<(), Fail> {
+    let (forest, mut p) = new_forest(rt.alloc(), 4, 0)?;
+    let mut q = split_off(&forest, &mut p, 1);
+    let mut r = split_off(&forest, &mut p, 2);
+    for (who, call, answer) in cancelled_calls() {
+        let found = call_of_three(&forest, 4, rt.alloc(), &mut p, &mut q, &mut r, who, call)?;
+        assert_eq!(rt; found, answer, "{call:?}");
+    }
+    Ok(())
+}
+
+#[test]
+fn a_forest_gives_rows_out_and_ends_them(rt: HostRuntime) -> Result<(), Fail> {
+    let (forest, mut p) = new_forest(rt.alloc(), 3, 1)?;
+    let mut q = split_off(&forest, &mut p, 1);
+    let mut r = split_off(&forest, &mut p, 2);
+    for (who, call, answer) in ended_calls() {
+        let found = call_of_three(&forest, 3, rt.alloc(), &mut p, &mut q, &mut r, who, call)?;
+        assert_eq!(rt; found, answer, "{call:?}");
+    }
+    Ok(())
+}
+
+/// How many Jobs ended, and the last of them.
+#[derive(Clone, Copy, Debug, PartialEq, Eq)]
+struct LastEnd {
+    count: u32,
+    last: Option<(Row, End)>,
+}
+
+impl<B: NoteBook, W: Wakes> Ends<B, W> for LastEnd {
+    ghost most = { λ e. 0 };
+
+    ghost is_ready = { λ e. true };
+
+    ghost prepares = { λ old new. ⊤ };
+
+    ghost does = { λ old row end items new. ⊤ };
+
+    fn ready(&mut self, book: &mut B, more: u32) -> Result<(), Memory> {
+        book.room(more)
+    }
+
+    fn ended(&mut self, _book: &mut B, _wakes: &mut W, row: Row, end: End) {
+        self.count = self.count.saturating_add(1);
+        self.last = Some((row, end));
+    }
+}
+
+/// Whether the row is attached, on the floor of one pass.
+fn is_attached_on(ranger: &mut Ranger<'_>, who: Tag, row: Row) -> bool
+    requires caller { (ranger_floor ranger.old).callers who ≡ true }
+    ensures anchor { ranger_anchor ranger.new ≡ ranger_anchor ranger.old }
+    ensures own { IsOwn ranger.old.forest.now ranger.new.pass.now who }
+    ensures attached { result ≡ true → is_some (replay (ranger_floor ranger.new).seen row) ≡ true }
+{
+    is_attached(ranger, who, row)
+}
+
+/// Whether the row is attached.
+fn is_attached_by(forest: &Forest, pass: &mut JobPass, who: Tag, row: Row) -> bool
+    requires own { IsOwn forest.now pass.old who }
+    ensures own { IsOwn forest.now pass.new who }
+    ensures attached { result ≡ true → is_some (replay (floor_seen (seen_by pass.new)).seen row) ≡ true }
+{
+    let mut ranger = Ranger { forest, pass };
+    is_attached_on(&mut ranger, who, row)
+}
+
+/// Ends the Job and its parents, as far as they may end.
+fn finish_from(
+    forest: &Forest,
+    pass: &mut JobPass,
+    alloc: Global,
+    who: Tag,
+    row: Row,
+) -> Result<LastEnd, Memory>
+    requires own { IsOwn forest.now pass.old who }
+    ensures own { IsOwn forest.now pass.new who }
+{
+    let mut ends = LastEnd {
+        count: 0,
+        last: None,
+    };
+    if !is_attached_by(forest, pass, who, row) {
+        return Ok(ends);
+    }
+    let mut book = Notes::new(alloc);
+    match finish_up(forest, pass, &mut book, &mut NoWakes, who, row, &mut ends) {
+        Ok(()) => Ok(ends),
+        Err(memory) => Err(memory),
+    }
+}
+
+/// A chain of two coroutines whose bodies have ended.
+fn two_ended() -> [(Tag, Call, Answer); 4] {
+    [
+        (0, attach(0, PLAIN, 1), attached(1, false)),
+        (1, attach(1, PLAIN, 2), attached(2, false)),
+        (
+            1,
+            Call::EndBody { row: 1, value: 8 },
+            Answer::Ended(Ended::Waits),
+        ),
+        (
+            2,
+            Call::EndBody { row: 2, value: 9 },
+            Answer::Ended(Ended::Owes),
+        ),
+    ]
+}
+
+#[test]
+fn the_end_of_a_child_ends_its_parent_in_a_forest(rt: HostRuntime) -> Result<(), Fail> {
+    let (forest, mut p) = new_forest(rt.alloc(), 3, 0)?;
+    let mut q = split_off(&forest, &mut p, 1);
+    let mut r = split_off(&forest, &mut p, 2);
+    for (who, call, answer) in two_ended() {
+        let found = call_of_three(&forest, 3, rt.alloc(), &mut p, &mut q, &mut r, who, call)?;
+        assert_eq!(rt; found, answer, "{call:?}");
+    }
+    let ends = finish_from(&forest, &mut r, rt.alloc(), 2, 2)?;
+    let both = LastEnd {
+        count: 2,
+        last: Some((1, End::Completed(8))),
+    };
+    assert_eq!(rt; ends, both);
+    let again = finish_from(&forest, &mut r, rt.alloc(), 2, 2)?;
+    assert_eq!(rt; again.count, 0);
+    Ok(())
+}
+
+/// How many living children the root has, how many are met from the newest on, and the sum of their rows.
+fn children_of_root(
+    forest: &Forest,
+    coroutines: u16,
+    pass: &mut JobPass,
+    alloc: Global,
+) -> Result<(u16, u32, u32), Memory>
+    requires own { IsOwn forest.now pass.old 0 }
+    requires size { forest.now.size.coroutines ≡ coroutines }
+    ensures own { IsOwn forest.now pass.new 0 }
+{
+    let Answer::Seen(Some(root)) = make_by(
+        forest,
+        coroutines,
+        pass,
+        alloc,
+        0,
+        Call::Look { row: 0 },
+    )?
+    else {
+        return Ok((0, 0, 0));
+    };
+    let mut next = root.first_child;
+    let mut count = 0u32;
+    let mut sum = 0u32;
+    for _ in 0..coroutines {
+        let Some(row) = next else {
+            return Ok((root.living, count, sum));
+        };
+        count = count.saturating_add(1);
+        sum = sum.saturating_add(u32::from(row));
+        next = match make_by(forest, coroutines, pass, alloc, 0, Call::Link { row })? {
+            Answer::Linked(link) => link.next,
+            _ => None,
+        };
+    }
+    Ok((root.living, count, sum))
+}
+
+#[test]
+fn four_threads_attach_their_tags_to_the_root(rt: HostRuntime) -> Result<(), Fail> {
+    let (forest, mut main) = new_forest(rt.alloc(), 801, 0)?;
+    let a = share_of(&forest, &mut main, 1, 201);
+    let b = share_of(&forest, &mut main, 201, 401);
+    let c = share_of(&forest, &mut main, 401, 601);
+    let d = share_of(&forest, &mut main, 601, 801);
+    let four = Four { a, b, c, d };
+    let four = work_by(&rt, &forest, 801, rt.alloc(), four, Work::Attach, 4);
+    let counts = [four.a.count, four.b.count, four.c.count, four.d.count];
+    assert_eq!(rt; counts, [200, 200, 200, 200]);
+    let children = children_of_root(&forest, 801, &mut main, rt.alloc())?;
+    assert_eq!(rt; children, (800, 800, 320400));
+    Ok(())
+}
+
+/// How many rows are attached, and how many of their Jobs are neither Cancelling nor ended.
+fn attached_and_not_cancelled(
+    forest: &Forest,
+    coroutines: u16,
+    pass: &mut JobPass,
+    alloc: Global,
+) -> Result<(u32, u32), Memory>
+    requires own { IsOwn forest.now pass.old 0 }
+    requires size { forest.now.size.coroutines ≡ coroutines }
+    ensures own { IsOwn forest.now pass.new 0 }
+{
+    let mut attached = 0u32;
+    let mut not_cancelled = 0u32;
+    for row in 0..coroutines {
+        let seen = make_by(forest, coroutines, pass, alloc, 0, Call::Look { row })?;
+        if let Answer::Seen(Some(job)) = seen {
+            attached = attached.saturating_add(1);
+            if job.state.is_cancellable() {
+                not_cancelled = not_cancelled.saturating_add(1);
+            }
+        }
+    }
+    Ok((attached, not_cancelled))
+}
+
+/// Cancels the root and all below it.
+fn cancel_with(forest: &Forest, mut pass: JobPass, alloc: Global) -> (JobPass, Option<u32>)
+    requires own { IsOwn forest.now pass 0 }
+    ensures own { IsOwn forest.now result.0 0 }
+{
+    let count = cancel_root(forest, &mut pass, alloc, 0);
+    (pass, count.ok())
+}
+
+#[test]
+fn what_is_attached_below_a_cancelled_job_is_cancelled(rt: HostRuntime) -> Result<(), Fail> {
+    for _ in 0..20 {
+        let (forest, mut main) = new_forest(rt.alloc(), 1201, 0)?;
+        let before = share_of(&forest, &mut main, 1, 601);
+        let below = share_of(&forest, &mut main, 601, 1201);
+        let before = run(&forest, 1201, rt.alloc(), before, Work::AttachBelow);
+        assert_eq!(rt; before.count, 600);
+        let ((mut main, count), below) = join(
+            &rt,
+            || cancel_with(&forest, main, rt.alloc()),
+            || run(&forest, 1201, rt.alloc(), below, Work::AttachBelow),
+        );
+        assert_eq!(rt; below.count, 600);
+        assert!(rt; count.unwrap_or(0) >= 601, "{count:?}");
+        let found = attached_and_not_cancelled(&forest, 1201, &mut main, rt.alloc())?;
+        assert_eq!(rt; found, (1201, 0));
+    }
+    Ok(())
+}

@@ -1,0 +1,31 @@
+//! Tests of what coroutines and workers share: floors of channels, permits over them, floors of Jobs, seats and berths.
+//!
+//! - `rows`: calls on one channel and their answers, on a floor of lists and over words.
+//! - `tests`: a select of two receives, while another coroutine calls in between: on lists, and over words.
+//! - `at_once`: such a select, and the other's calls by a thread of its own.
+//! - `on_passes`: offers and receives by four threads, each with a pass.
+//! - `selects_on_passes`: waits of several clauses, each call made by a pass.
+//! - `forest_rows`: calls on a floor of Jobs and on a forest, and what four threads come to on one forest.
+//! - `seat_tests`: two callers with a seat each at a hub, and at a forest.
+//! - `berth_tests`: tasks that two seats take and leave.
+//! - `permit_rows`: calls of three coroutines on one permit, and who holds a permit while four threads ask for them.
+#![tactic(auto)]
+
+#[cfg(test)]
+mod at_once;
+#[cfg(test)]
+mod berth_tests;
+#[cfg(test)]
+mod forest_rows;
+#[cfg(test)]
+mod on_passes;
+#[cfg(test)]
+mod permit_rows;
+#[cfg(test)]
+mod rows;
+#[cfg(test)]
+mod seat_tests;
+#[cfg(test)]
+mod selects_on_passes;
+#[cfg(test)]
+mod tests;

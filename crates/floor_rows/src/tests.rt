@@ -1,0 +1,368 @@
+//! A select of two receives, while another coroutine calls in between: on lists, and over words.
+
+ghost use Rattle.std.specs.Prelude.{◌≡◌, ◌≤◌, true, length, [], ◌∷◌, IfOk};
+ghost use Rattle.std.specs.List.{list_all};
+ghost use Rattle.channel_model.specs.Answers.{IsOwn};
+ghost use Rattle.cell_words.specs.Hubs.{shape_of, IsOf, IsOwn as IsOwnPass, GivesTags};
+ghost use Rattle.one_thread_floor.specs.ListFloors.{floor_of};
+ghost use Rattle.floor_tests.specs.Meetings.{may_meet, two_channels};
+
+use cell_calls::Desk;
+use cell_words::{Hub, Pass};
+use channel_calls::Caller;
+use channel_model::{Act, ChannelFloor, ChannelNote, Kind, Settled, WaitState, Why};
+use co_base::{ChannelId, Memory, Tag, Value, WaitId, Wakes};
+use floor_tests::{Beside, Between, OTHER, OtherCall};
+use note_book::{Item, NoteBook, Notes};
+use one_thread_floor::ListFloor;
+use select_calls::{Clause, Outcome, SelectAnswer, select_poll};
+use std::alloc::Global;
+use std::collections::VecDeque;
+use std::test::Fail;
+
+/// Nobody is polled.
+#[derive(Drop)]
+struct NoWakes;
+
+impl Wakes for NoWakes {
+    fn wake(&mut self, _tag: Tag) {}
+}
+
+/// The coroutine that selects.
+pub(crate) const USER: Tag = 1;
+
+/// What a select came to.
+#[derive(Clone, Copy, Debug, PartialEq, Eq)]
+pub(crate) struct Found {
+    pub(crate) answer: SelectAnswer,
+    held: Option<WaitId>,
+    /// How its wait ended, where it was resolved.
+    ended: Option<Settled>,
+}
+
+/// Whether the other may take the call on two channels.
+fn is_on_two(call: OtherCall) -> bool
+    ensures { result ≡ may_meet two_channels call }
+{
+    match call {
+        OtherCall::Nothing => true,
+        OtherCall::Offer { c, value: _ } => c < 2,
+        OtherCall::Receive { c } => c < 2,
+        OtherCall::Close { c, v: _ } => c < 2,
+    }
+}
+
+/// The calls that may be taken on two channels.
+fn calls_on_two(alloc: Global, calls: [OtherCall; 5]) -> Result<VecDeque<OtherCall>, Memory>
+    ensures may { IfOk result (λ q. list_all (may_meet two_channels) q.items ≡ true) }
+    ensures few { IfOk result (λ q. length q.items ≤ 5) }
+{
+    let mut queue = VecDeque::new(alloc);
+    for call in calls {
+        if is_on_two(call) {
+            queue.push_back(call)?;
+        }
+    }
+    Ok(queue)
+}
+
+/// Ends the caller's wait, if it was resolved.
+fn end_if_resolved<F: ChannelFloor, B: NoteBook, W: Wakes>(
+    x: &mut Caller<'_, '_, '_, F, B, W>,
+    w: WaitId,
+) -> Result<Option<Settled>, Memory>
+    requires caller { (F.view x.old.floor.now).callers x.old.who ≡ true }
+    requires channels { 2 ≤ length (F.view x.old.floor.now).shape }
+    requires own { IsOwn x.old.who w (F.view x.old.floor.now) }
+{
+    if w.channel >= 2 {
+        return Ok(None);
+    }
+    match x.floor.look(x.who, w) {
+        WaitState::Resolved => Ok(Some(x.dispatch(w, false)?)),
+        _ => Ok(None),
+    }
+}
+
+/// Receives from the first channel or the second, and ends the wait, if it was resolved meanwhile.
+fn select_over<F: ChannelFloor, B: NoteBook, W: Wakes>(
+    x: &mut Caller<'_, '_, '_, F, B, W>,
+) -> Result<Found, Memory>
+    requires caller { (F.view x.old.floor.now).callers x.old.who ≡ true }
+    requires channels { 2 ≤ length (F.view x.old.floor.now).shape }
+{
+    let clauses = [Clause::OnReceive { c: 0 }, Clause::OnReceive { c: 1 }];
+    let mut held = None;
+    match select_poll(x, &clauses, &mut held) {
+        Ok(SelectAnswer::Waiting) => {
+            let ended = match held {
+                Some(w) => end_if_resolved(x, w)?,
+                None => None,
+            };
+            Ok(Found {
+                answer: SelectAnswer::Waiting,
+                held,
+                ended,
+            })
+        }
+        Ok(answer) => Ok(Found {
+            answer,
+            held,
+            ended: None,
+        }),
+        Err(memory) => Err(memory),
+    }
+}
+
+/// The same with a book of its own.
+pub(crate) fn select_on<F: ChannelFloor>(floor: &mut F, book: &mut Notes) -> Result<Found, Memory>
+    requires caller { (F.view floor.old).callers 1 ≡ true }
+    requires channels { 2 ≤ length (F.view floor.old).shape }
+{
+    let mut wakes = NoWakes;
+    let mut caller = Caller {
+        floor: &mut *floor,
+        book: &mut *book,
+        wakes: &mut wakes,
+        who: USER,
+    };
+    select_over(&mut caller)
+}
+
+/// Two rendezvous channels of four places.
+const KINDS: [(Kind, u32); 2] = [(Kind::Rendezvous, 4), (Kind::Rendezvous, 4)];
+
+/// A floor of two channels.
+fn new_floor(alloc: Global) -> Result<ListFloor, Memory>
+    ensures { IfOk result (λ f. (floor_of f).shape ≡ two_channels) }
+{
+    ListFloor::new(alloc, &KINDS)
+}
+
+/// A select on such a floor, on which the other makes these calls, each before one call of the select; and what the select noted.
+fn select_between(alloc: Global, calls: [OtherCall; 5]) -> Result<(Found, Notes), Memory> {
+    let floor = new_floor(alloc)?;
+    let calls = calls_on_two(alloc, calls)?;
+    let mut between = Between::new(floor, calls)?;
+    let mut book = Notes::new(alloc);
+    let found = select_on(&mut between, &mut book)?;
+    Ok((found, book))
+}
+
+/// A hub of two channels.
+pub(crate) fn new_hub(alloc: Global) -> Result<(Hub, Pass), Memory>
+    ensures shape { IfOk result (λ r. shape_of r.0 ≡ two_channels) }
+    ensures of { IfOk result (λ r. IsOf r.0 r.1) }
+    ensures gives { IfOk result (λ r. GivesTags (0 ∷ []) r.1) }
+{
+    Hub::new(alloc, &KINDS)
+}
+
+/// A select by one pass, while the other calls by another.
+fn select_on_hub(
+    hub: &Hub,
+    user: &mut Pass,
+    others: &mut Pass,
+    calls: VecDeque<OtherCall>,
+    book: &mut Notes,
+) -> Result<Found, Memory>
+    requires shape { shape_of hub.now ≡ two_channels }
+    requires user { IsOwnPass hub.now user.old 1 }
+    requires others { IsOwnPass hub.now others.old 2 }
+    requires may { list_all (may_meet two_channels) calls.items ≡ true }
+    requires few { length calls.items ≤ 5 }
+{
+    let floor = Desk { hub, pass: user };
+    let others = Desk { hub, pass: others };
+    let mut beside = Beside::new(floor, others, calls)?;
+    select_on(&mut beside, book)
+}
+
+/// The same over a hub, where the two have a pass each.
+fn select_beside(alloc: Global, calls: [OtherCall; 5]) -> Result<(Found, Notes), Memory> {
+    let (hub, mut main) = new_hub(alloc)?;
+    let mut user = hub.split(&mut main, USER);
+    let mut others = hub.split(&mut main, OTHER);
+    let calls = calls_on_two(alloc, calls)?;
+    let mut book = Notes::new(alloc);
+    let found = select_on_hub(&hub, &mut user, &mut others, calls, &mut book)?;
+    Ok((found, book))
+}
+
+/// The wait of the first clause.
+const FIRST: WaitId = WaitId {
+    channel: 0,
+    place: 0,
+};
+
+fn made(act: Act) -> Item {
+    Item::Channel(ChannelNote::Made(act))
+}
+
+fn is_empty(c: ChannelId) -> Item {
+    Item::Channel(ChannelNote::Empty { c })
+}
+
+/// The first clause was placed.
+fn placed() -> Item {
+    made(Act::Await {
+        c: 0,
+        place: 0,
+        main: FIRST,
+        clause: 1,
+    })
+}
+
+/// An offer stands at the first place of the second channel.
+fn has_partner() -> Item {
+    Item::Channel(ChannelNote::Partner { c: 1, place: 0 })
+}
+
+fn settled(outcome: Settled) -> Item {
+    made(Act::Settle { w: FIRST, outcome })
+}
+
+/// Nothing of the select stands any more.
+const AGAIN: Found = Found {
+    answer: SelectAnswer::Again,
+    held: None,
+    ended: None,
+};
+
+/// What a select notes that took its first clause back for this.
+fn taken_back(change: Item) -> [Item; 6] {
+    let withdrawn = Act::Withdraw {
+        w: FIRST,
+        why: Why::Revoked,
+    };
+    [
+        is_empty(0),
+        is_empty(1),
+        placed(),
+        change,
+        made(withdrawn),
+        settled(Settled::Cancelled),
+    ]
+}
+
+/// The select waited, and its first clause received this.
+fn received_first(value: Value) -> Found {
+    Found {
+        answer: SelectAnswer::Waiting,
+        held: Some(FIRST),
+        ended: Some(Settled::Value(1, value)),
+    }
+}
+
+/// A call before the second clause is placed, and one before the call that follows.
+fn at_second_clause(call: OtherCall, next: OtherCall) -> [OtherCall; 5] {
+    [
+        OtherCall::Nothing,
+        OtherCall::Nothing,
+        OtherCall::Nothing,
+        call,
+        next,
+    ]
+}
+
+#[test]
+fn a_select_looks_again_where_an_offer_came_before_its_second_clause(
+    rt: HostRuntime,
+) -> Result<(), Fail> {
+    let offer = OtherCall::Offer { c: 1, value: 6 };
+    let calls = at_second_clause(offer, OtherCall::Nothing);
+    let (found, book) = select_between(rt.alloc(), calls)?;
+    assert_eq!(rt; found, AGAIN);
+    assert_eq!(rt; book.items(), taken_back(has_partner()).as_slice());
+    let (found, book) = select_beside(rt.alloc(), calls)?;
+    assert_eq!(rt; found, AGAIN);
+    assert_eq!(rt; book.items(), taken_back(has_partner()).as_slice());
+    Ok(())
+}
+
+#[test]
+fn a_select_looks_again_where_its_second_channel_was_closed(rt: HostRuntime) -> Result<(), Fail> {
+    let close = OtherCall::Close { c: 1, v: 4 };
+    let calls = at_second_clause(close, OtherCall::Nothing);
+    let closed = Item::Channel(ChannelNote::ReceiveClosed { c: 1, v: 4 });
+    let (found, book) = select_between(rt.alloc(), calls)?;
+    assert_eq!(rt; found, AGAIN);
+    assert_eq!(rt; book.items(), taken_back(closed).as_slice());
+    let (found, book) = select_beside(rt.alloc(), calls)?;
+    assert_eq!(rt; found, AGAIN);
+    assert_eq!(rt; book.items(), taken_back(closed).as_slice());
+    Ok(())
+}
+
+#[test]
+fn a_select_takes_what_was_offered_after_its_first_try(rt: HostRuntime) -> Result<(), Fail> {
+    let offer = OtherCall::Offer { c: 1, value: 6 };
+    let calls = [
+        OtherCall::Nothing,
+        offer,
+        OtherCall::Nothing,
+        OtherCall::Nothing,
+        OtherCall::Nothing,
+    ];
+    let wanted = Found {
+        answer: SelectAnswer::Chosen(2, Outcome::Value(6)),
+        held: None,
+        ended: None,
+    };
+    let taken = Act::Take {
+        c: 1,
+        place: 0,
+        value: 6,
+    };
+    let (found, book) = select_between(rt.alloc(), calls)?;
+    assert_eq!(rt; found, wanted);
+    assert_eq!(rt; book.items(), [is_empty(0), made(taken)].as_slice());
+    let (found, book) = select_beside(rt.alloc(), calls)?;
+    assert_eq!(rt; found, wanted);
+    assert_eq!(rt; book.items(), [is_empty(0), made(taken)].as_slice());
+    Ok(())
+}
+
+#[test]
+fn a_select_that_was_resolved_places_no_more(rt: HostRuntime) -> Result<(), Fail> {
+    let offer = OtherCall::Offer { c: 0, value: 6 };
+    let calls = at_second_clause(offer, OtherCall::Nothing);
+    let noted = [
+        is_empty(0),
+        is_empty(1),
+        placed(),
+        Item::Channel(ChannelNote::MainResolved { w: FIRST }),
+        settled(Settled::Value(1, 6)),
+    ];
+    let (found, book) = select_between(rt.alloc(), calls)?;
+    assert_eq!(rt; found, received_first(6));
+    assert_eq!(rt; book.items(), noted.as_slice());
+    let (found, book) = select_beside(rt.alloc(), calls)?;
+    assert_eq!(rt; found, received_first(6));
+    assert_eq!(rt; book.items(), noted.as_slice());
+    Ok(())
+}
+
+#[test]
+fn a_select_waits_where_it_came_too_late_to_take_its_wait_back(
+    rt: HostRuntime,
+) -> Result<(), Fail> {
+    let second = OtherCall::Offer { c: 1, value: 6 };
+    let first = OtherCall::Offer { c: 0, value: 7 };
+    let calls = at_second_clause(second, first);
+    let noted = [
+        is_empty(0),
+        is_empty(1),
+        placed(),
+        has_partner(),
+        Item::Channel(ChannelNote::Late { w: FIRST }),
+        settled(Settled::Value(1, 7)),
+    ];
+    let (found, book) = select_between(rt.alloc(), calls)?;
+    assert_eq!(rt; found, received_first(7));
+    assert_eq!(rt; book.items(), noted.as_slice());
+    let (found, book) = select_beside(rt.alloc(), calls)?;
+    assert_eq!(rt; found, received_first(7));
+    assert_eq!(rt; book.items(), noted.as_slice());
+    Ok(())
+}

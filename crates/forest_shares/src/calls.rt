@@ -1,0 +1,279 @@
+//! Calls on a floor of Jobs that look first whether they may be made.
+ghost use Rattle.std.specs.Prelude.{◌≡◌, true, is_some};
+ghost use Rattle.job_model.specs.Histories.{replay};
+ghost use Rattle.job_model.specs.Floors.{SameSetting, MayCall};
+ghost use Rattle.job_tree.specs.Rooms.{MayCancelAll};
+
+use co_base::{Memory, Row, Tag, Value, Wakes};
+use job_model::{
+    AttachError, Attached, CancelledNow, Ended, Finished, JobFloor, JobKind, JobView, Link, Reason,
+};
+use job_tree::JobCaller;
+use note_book::{NoteBook, Notes};
+use std::alloc::Global;
+
+/// A call that one tag makes.
+#[derive(Clone, Copy, Debug, PartialEq, Eq)]
+pub enum Call {
+    Attach {
+        parent: Row,
+        kind: JobKind,
+        tag: Tag,
+    },
+    Start {
+        row: Row,
+    },
+    EndBody {
+        row: Row,
+        value: Value,
+    },
+    CancelOne {
+        row: Row,
+    },
+    CancelPass {
+        row: Row,
+    },
+    Finish {
+        row: Row,
+    },
+    /// The Finish, and if that was made, the word to the parent.
+    FinishAndTell {
+        row: Row,
+    },
+    Look {
+        row: Row,
+    },
+    Link {
+        row: Row,
+    },
+}
+
+/// What a call answers.
+#[derive(Clone, Copy, Debug, PartialEq, Eq)]
+pub enum Answer {
+    /// The call may not be made.
+    NotMade,
+    Attached(Result<Attached, AttachError>),
+    Started(bool),
+    Ended(Ended),
+    Cancelled(CancelledNow),
+    Passed(u32),
+    Finished(Finished),
+    FinishedAndTold(Finished, Ended),
+    Seen(Option<JobView>),
+    Linked(Link),
+}
+
+/// Nobody is polled.
+#[derive(Drop)]
+pub struct NoWakes;
+
+impl Wakes for NoWakes {
+    fn wake(&mut self, _tag: Tag) {}
+}
+
+/// Whether the row is attached.
+pub fn is_attached<J: JobFloor>(jobs: &mut J, who: Tag, row: Row) -> bool
+    requires caller { (J.view jobs.old).callers who ≡ true }
+    ensures anchor { J.anchor jobs.new ≡ J.anchor jobs.old }
+    ensures same { SameSetting (J.view jobs.old) (J.view jobs.new) }
+    ensures attached { result ≡ true → is_some (replay (J.view jobs.new).seen row) ≡ true }
+{
+    if row >= jobs.rows() {
+        return false;
+    }
+    match jobs.look(who, row) {
+        Some(_) => true,
+        None => false,
+    }
+}
+
+/// Attaches a child, one of so many coroutines.
+fn attach<J: JobFloor>(
+    jobs: &mut J,
+    coroutines: u16,
+    who: Tag,
+    parent: Row,
+    kind: JobKind,
+    tag: Tag,
+) -> Result<Answer, Memory>
+    requires caller { (J.view jobs.old).callers who ≡ true }
+    requires size { (J.view jobs.old).shape.coroutines ≡ coroutines }
+    ensures anchor { J.anchor jobs.new ≡ J.anchor jobs.old }
+    ensures same { SameSetting (J.view jobs.old) (J.view jobs.new) }
+{
+    if tag >= coroutines || (kind.scoped && tag != who) || !is_attached(jobs, who, parent) {
+        return Ok(Answer::NotMade);
+    }
+    jobs.room(1)?;
+    Ok(Answer::Attached(jobs.attach(who, parent, kind, tag)))
+}
+
+fn start<J: JobFloor>(jobs: &mut J, who: Tag, row: Row) -> Result<Answer, Memory>
+    requires caller { (J.view jobs.old).callers who ≡ true }
+    ensures anchor { J.anchor jobs.new ≡ J.anchor jobs.old }
+    ensures same { SameSetting (J.view jobs.old) (J.view jobs.new) }
+{
+    if !is_attached(jobs, who, row) {
+        return Ok(Answer::NotMade);
+    }
+    jobs.room(1)?;
+    Ok(Answer::Started(jobs.start(who, row)))
+}
+
+/// Ends the body of the caller's own Job.
+fn end_body<J: JobFloor>(jobs: &mut J, who: Tag, row: Row, value: Value) -> Result<Answer, Memory>
+    requires caller { (J.view jobs.old).callers who ≡ true }
+    ensures anchor { J.anchor jobs.new ≡ J.anchor jobs.old }
+    ensures same { SameSetting (J.view jobs.old) (J.view jobs.new) }
+{
+    if row == 0 || !is_attached(jobs, who, row) {
+        return Ok(Answer::NotMade);
+    }
+    if jobs.link(who, row).tag != who {
+        return Ok(Answer::NotMade);
+    }
+    let Some(job) = jobs.look(who, row) else {
+        return Ok(Answer::NotMade);
+    };
+    if job.state.is_new() || job.body_ended {
+        return Ok(Answer::NotMade);
+    }
+    jobs.room(1)?;
+    Ok(Answer::Ended(jobs.end_body(who, row, value)))
+}
+
+/// Cancels a Job alone, because its parent is Cancelling or Cancelled.
+fn cancel_one<J: JobFloor>(jobs: &mut J, who: Tag, row: Row) -> Result<Answer, Memory>
+    requires caller { (J.view jobs.old).callers who ≡ true }
+    ensures anchor { J.anchor jobs.new ≡ J.anchor jobs.old }
+    ensures same { SameSetting (J.view jobs.old) (J.view jobs.new) }
+{
+    if row == 0 || !is_attached(jobs, who, row) {
+        return Ok(Answer::NotMade);
+    }
+    let parent = jobs.link(who, row).parent;
+    if parent >= jobs.rows() {
+        return Ok(Answer::NotMade);
+    }
+    let Some(above) = jobs.look(who, parent) else {
+        return Ok(Answer::NotMade);
+    };
+    if !above.state.is_cancelled() {
+        return Ok(Answer::NotMade);
+    }
+    jobs.room(1)?;
+    Ok(Answer::Cancelled(jobs.cancel_one(who, row, Reason::Parent)))
+}
+
+fn cancel_pass<J: JobFloor>(
+    jobs: &mut J,
+    alloc: Global,
+    who: Tag,
+    row: Row,
+) -> Result<Answer, Memory>
+    requires caller { (J.view jobs.old).callers who ≡ true }
+    ensures anchor { J.anchor jobs.new ≡ J.anchor jobs.old }
+    ensures same { SameSetting (J.view jobs.old) (J.view jobs.new) }
+{
+    if !is_attached(jobs, who, row) {
+        return Ok(Answer::NotMade);
+    }
+    let rows = u32::from(jobs.rows());
+    let mut book = Notes::new(alloc);
+    book.room(rows)?;
+    jobs.room(rows)?;
+    Ok(Answer::Passed(pass_over(jobs, &mut book, who, row)))
+}
+
+fn pass_over<J: JobFloor, B: NoteBook>(jobs: &mut J, book: &mut B, who: Tag, row: Row) -> u32
+    requires can { MayCall who row (J.view jobs.old) }
+    requires room { MayCancelAll (J.view jobs.old) (B.spare book.old) }
+    ensures anchor { J.anchor jobs.new ≡ J.anchor jobs.old }
+    ensures same { SameSetting (J.view jobs.old) (J.view jobs.new) }
+{
+    let mut wakes = NoWakes;
+    let mut caller = JobCaller {
+        floor: &mut *jobs,
+        book: &mut *book,
+        wakes: &mut wakes,
+        who,
+    };
+    caller.cancel_pass(row, Reason::Request)
+}
+
+fn finish<J: JobFloor>(jobs: &mut J, who: Tag, row: Row) -> Result<Answer, Memory>
+    requires caller { (J.view jobs.old).callers who ≡ true }
+    ensures anchor { J.anchor jobs.new ≡ J.anchor jobs.old }
+    ensures same { SameSetting (J.view jobs.old) (J.view jobs.new) }
+{
+    if !is_attached(jobs, who, row) {
+        return Ok(Answer::NotMade);
+    }
+    jobs.room(1)?;
+    Ok(Answer::Finished(jobs.finish(who, row)))
+}
+
+/// Ends a Job, if it may end, and tells its parent.
+fn finish_and_tell<J: JobFloor>(jobs: &mut J, who: Tag, row: Row) -> Result<Answer, Memory>
+    requires caller { (J.view jobs.old).callers who ≡ true }
+    ensures anchor { J.anchor jobs.new ≡ J.anchor jobs.old }
+    ensures same { SameSetting (J.view jobs.old) (J.view jobs.new) }
+{
+    if row == 0 || !is_attached(jobs, who, row) {
+        return Ok(Answer::NotMade);
+    }
+    jobs.room(2)?;
+    match jobs.finish(who, row) {
+        Finished::Now(end) => Ok(Answer::FinishedAndTold(Finished::Now(end), jobs.gone(who, row))),
+        other => Ok(Answer::Finished(other)),
+    }
+}
+
+fn look<J: JobFloor>(jobs: &mut J, who: Tag, row: Row) -> Answer
+    requires caller { (J.view jobs.old).callers who ≡ true }
+    ensures anchor { J.anchor jobs.new ≡ J.anchor jobs.old }
+    ensures same { SameSetting (J.view jobs.old) (J.view jobs.new) }
+{
+    if row >= jobs.rows() {
+        return Answer::NotMade;
+    }
+    Answer::Seen(jobs.look(who, row))
+}
+
+fn link<J: JobFloor>(jobs: &mut J, who: Tag, row: Row) -> Answer
+    requires caller { (J.view jobs.old).callers who ≡ true }
+    ensures anchor { J.anchor jobs.new ≡ J.anchor jobs.old }
+    ensures same { SameSetting (J.view jobs.old) (J.view jobs.new) }
+{
+    if row == 0 || !is_attached(jobs, who, row) {
+        return Answer::NotMade;
+    }
+    Answer::Linked(jobs.link(who, row))
+}
+
+/// Makes the call, if it may be made.
+pub fn make<J: JobFloor>(
+    jobs: &mut J,
+    alloc: Global,
+    coroutines: u16,
+    who: Tag,
+    call: Call,
+) -> Result<Answer, Memory>
+    requires caller { (J.view jobs.old).callers who ≡ true }
+    requires size { (J.view jobs.old).shape.coroutines ≡ coroutines }
+    ensures anchor { J.anchor jobs.new ≡ J.anchor jobs.old }
+    ensures same { SameSetting (J.view jobs.old) (J.view jobs.new) }
+{
+    match call {
+        Call::Attach { parent, kind, tag } => attach(jobs, coroutines, who, parent, kind, tag),
+        Call::Start { row } => start(jobs, who, row),
+        Call::EndBody { row, value } => end_body(jobs, who, row, value),
+        Call::CancelOne { row } => cancel_one(jobs, who, row),
+        Call::CancelPass { row } => cancel_pass(jobs, alloc, who, row),
+        Call::Finish { row } => finish(jobs, who, row),
+        Call::FinishAndTell { row } => finish_and_tell(jobs, who, row),
+        Call::Look { row } => Ok(look(jobs, who, row)),
+        Call::Link { row } => Ok(link(jobs, who, row)),
+    }
+}

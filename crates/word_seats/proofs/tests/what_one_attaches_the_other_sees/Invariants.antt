@@ -1,5 +1,0 @@
-use Rattle.word_seats.proofs.tests.what_one_attaches_the_other_sees.Given as goal
-
--- the forest that was made
-abbrev pub ghosts-on_a_forest : goal.ghosts-on_a_forest
-ghosts-on_a_forest g a = record { forest_table = a.forest.now.table.shared.table_id; forest_size = a.forest.now.size }
