@@ -42,7 +42,7 @@ fn drops_oldest(hub: &Hub, c: ChannelId) -> bool
     }
 }
 
-/// Drops the first element, where more stand up to the own one than the channel keeps.
+/// Drops the first element, if more stand up to the own one than the channel keeps.
 pub fn trim(
     hub: &Hub,
     pass: &mut Pass,

@@ -147,7 +147,7 @@ pub fn offer(hub: &Hub, pass: &mut Pass, who: Tag, c: ChannelId, value: Value) -
     }
 }
 
-/// Gives the element to the receiver that stands first, or places it where it need not wait.
+/// Gives the element to the receiver that stands first, or places it if it need not wait.
 pub fn try_offer(hub: &Hub, pass: &mut Pass, who: Tag, c: ChannelId, value: Value) -> TriedOffer
     requires of { IsOf hub.now pass.old }
     requires can { MayCall who c (hub_floor hub.now pass.old) }

@@ -102,7 +102,7 @@ pub record Offers (shape : Shape) (c p : ℕ) (x : Waiter) (log : List Entry) : 
   pub held : IsHeld shape c p x log
   pub cell : cell_of log c p ≡ offer x.value held.who held.wait x.clause
 
--- the coroutine of a wait, or nothing where the wait was resolved
+-- the coroutine of a wait, or nothing if the wait was resolved
 abbrev pub OwnerAnswer : ℕ → WaitId → List Entry → Option ℕ → Type 0
 OwnerAnswer who w log (Some t) = t ≡ who
 OwnerAnswer who w log None = IsResolvedWait ((replay log).waits w)
@@ -133,7 +133,7 @@ pub record WouldWait (shape : Shape) (c : ℕ) (old new : Seen) : Type 0 where
   pub later : Sees then new
   pub full : IsFullToTry shape c (replay then.seen)
 
--- what is at a place: only one who may wait is placed, and waits only where the channel was full
+-- what is at a place: only one who may wait is placed, and waits only if the channel was full
 abbrev pub OfferHere : Bool → Shape → ℕ → ℕ → ℕ → ℕ → Seen → Seen → At → Type 0
 OfferHere waits shape who c p v old new at.Spent = OfferAt shape who c p v old new at.Spent
 OfferHere waits shape who c p v old new at.Open = (waits ≡ false) × WouldWait shape c old new
@@ -221,7 +221,7 @@ EmptyAnswer by who c p v old new false = Sees old new × NoneBelow 0 (p + 1) (at
 abbrev pub stands : List Entry → ℕ → ℕ → Option Standing
 stands log c p = standing (replay log).waits p (cell_of log c p)
 
--- more stand than the channel keeps, where it drops its oldest; or none stands at this place any more
+-- more stand than the channel keeps, if it drops its oldest; or none stands at this place any more
 abbrev pub IsOver : Shape → ℕ → ℕ → List Entry → Type 0
 IsOver shape c p log = (stands log c p ≡ None) ⊎ (drops (kind_at shape c) (length (at_channel log c).queue) ≡ true)
 

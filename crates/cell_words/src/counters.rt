@@ -36,7 +36,7 @@ pub fn sends_from(hub: &Hub, pass: &mut Pass, who: Tag, c: ChannelId) -> Place
     load_word(hub, pass, who, send_word(hub, c)) as Place
 }
 
-/// Says that no receiver stands below a place, if that is four places or more past where the caller began to look.
+/// Says that no receiver stands below a place, if that is two places or more past where the caller began to look.
 pub fn raise_sends(hub: &Hub, pass: &mut Pass, who: Tag, c: ChannelId, from: Place, place: Place)
     requires own { IsOwn hub.now pass.old who }
     requires channel { c < length (shape_of hub.now) }
@@ -44,7 +44,7 @@ pub fn raise_sends(hub: &Hub, pass: &mut Pass, who: Tag, c: ChannelId, from: Pla
     ensures own { IsOwn hub.now pass.new who }
     ensures same { seen_by pass.new ≡ seen_by pass.old }
 {
-    if place >= 4 && place - 4 >= from {
+    if place >= 2 && place - 2 >= from {
         lift_word(hub, pass, who, send_word(hub, c), place as u64);
     }
 }
@@ -60,7 +60,7 @@ pub fn receives_from(hub: &Hub, pass: &mut Pass, who: Tag, c: ChannelId) -> Plac
     load_word(hub, pass, who, receive_word(hub, c)) as Place
 }
 
-/// Says that no offer stands below a place, if that is four places or more past where the caller began to look.
+/// Says that no offer stands below a place, if that is two places or more past where the caller began to look.
 pub fn raise_receives(hub: &Hub, pass: &mut Pass, who: Tag, c: ChannelId, from: Place, place: Place)
     requires own { IsOwn hub.now pass.old who }
     requires channel { c < length (shape_of hub.now) }
@@ -68,7 +68,7 @@ pub fn raise_receives(hub: &Hub, pass: &mut Pass, who: Tag, c: ChannelId, from: 
     ensures own { IsOwn hub.now pass.new who }
     ensures same { seen_by pass.new ≡ seen_by pass.old }
 {
-    if place >= 4 && place - 4 >= from {
+    if place >= 2 && place - 2 >= from {
         lift_word(hub, pass, who, receive_word(hub, c), place as u64);
     }
 }
@@ -138,7 +138,7 @@ fn lift_run(hub: &Hub, pass: &mut Pass, who: Tag, c: ChannelId, from: Place, to:
     KeptRun { from, to }
 }
 
-/// Says that a place was kept, where it is the next one of the run; or begins a run there, where no offer of the old one stands, since
+/// Says that a place was kept, if it is the next one of the run; or begins a run there, if no offer of the old one stands, since
 /// none does below `low`. The run that is known then.
 pub(crate) fn raise_run(
     hub: &Hub,

@@ -60,7 +60,7 @@ fn offers_from(hub: &Hub, pass: &mut Pass, who: Tag, c: ChannelId, end: Place) -
     if from < end { from } else { end }
 }
 
-/// Whether so many offers stand below `end`, where none stands below `from`: true if they did at the beginning, false if fewer do at
+/// Whether so many offers stand below `end`, if none stands below `from`: true if they did at the beginning, false if fewer do at
 /// the end.
 fn count_from(
     hub: &Hub,
@@ -148,7 +148,7 @@ pub(crate) fn has_room(hub: &Hub, pass: &mut Pass, who: Tag, c: ChannelId, end: 
     }
 }
 
-/// Whether more elements stand at places up to `mine` than the channel keeps, where it drops its oldest: true while one stands at
+/// Whether more elements stand at places up to `mine` than the channel keeps, if it drops its oldest: true while one stands at
 /// `first`, before which none does.
 pub fn is_over(
     hub: &Hub,

@@ -112,7 +112,7 @@ pub fn wake(
     }
 }
 
-/// Cancels a channel where it was closed with this value: false where it was cancelled before.
+/// Cancels a channel if it was closed with this value: false if it was cancelled before.
 pub fn void_at(
     hub: &Hub,
     pass: &mut Pass,

@@ -11,7 +11,7 @@ pub enum Holder {
     At(u32),
 }
 
-/// One who was placed at a cell to wait: with an element, where it offers.
+/// One who was placed at a cell to wait: with an element, if it offers.
 #[derive(Clone, Copy, Debug, PartialEq, Eq)]
 pub struct Waiter {
     pub holder: Holder,

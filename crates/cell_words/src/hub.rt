@@ -7,7 +7,7 @@ use channel_model::{Entry, Kind};
 use std::alloc::Global;
 use worded::{HistoryRule, HistoryTable};
 
-/// The history of a hub is that of its channels. The words are a function of it, but for the counters and the runs.
+/// The history of a hub is that of its channels. The words are a function of it, except for the counters and the runs.
 pub struct CellHistory;
 
 impl HistoryRule<Entry, Layout> for CellHistory {

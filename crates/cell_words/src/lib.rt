@@ -1,6 +1,10 @@
 //! Channels over a table of words, which many threads change at once: the words, and one function for each kind of step. No step
 //! waits, takes a lock or takes memory.
 //!
+//! The cells are those of Koval, Alistarh and Elizarov's channels ("Fast and Scalable Channels in Kotlin Coroutines", PPoPP 2023), with two
+//! changes. A cell is claimed by one exchange on it, and the counters, moved afterwards, only say from where to look. And one exchange on
+//! one word, which the cells of all its clauses name, decides about a wait.
+//!
 //! **The words.** Each place of a channel has a cell and a wait, and the channel's end has one cell and wait more. A cell word says what
 //! became of its place, a wait word how the wait was resolved that began there (`cell_word` and `wait_word` have the bits). A wait that
 //! stands has the word 0. A select's clauses all name the cell where its wait began. Two counters of each channel say from where to look,
@@ -10,7 +14,7 @@
 //! |---|---|---|---|---|
 //! | cell | Free | Receiver, Offer | `await_at`, `offer_at`: who waits | who has the place; the cell is where the channel ends |
 //! | cell | Free | Receiver, Offer | `await_clause_at`, `offer_clause_at`: whose select has the clause | the same |
-//! | cell | Free | Buffered | `offer_at`: who sends, where the channel keeps one more | the same |
+//! | cell | Free | Buffered | `offer_at`: who sends, if the channel keeps one more | the same |
 //! | cell | Free | Closed | `close_at`: who closes | that the channel ends here |
 //! | cell | Closed | Voided | `void_at`: who cancels | that the channel is cancelled |
 //! | cell | Buffered | Emptied | `remove_kept`: who receives, drops or drains | who has the element |
@@ -19,7 +23,7 @@
 //! | wait | 0 | closed | `wake`: anybody, once the channel is closed | the same |
 //! | wait | 0 | taken | `remove`, by `Take`: who receives | who resolves the wait of the first offer |
 //! | wait | 0 | voided | `remove`, by `Drain`: anybody, once the channel is cancelled | the same |
-//! | wait | 0 | admitted | `admit_at`: anybody, where fewer offers stand before than are kept | who resolves the wait of the offer |
+//! | wait | 0 | admitted | `admit_at`: anybody, if fewer offers stand before than are kept | who resolves the wait of the offer |
 //! | wait | 0 | cancelled, revoked | `withdraw_at`: its coroutine | that it was not resolved before |
 //! | wait | resolved | settled | `settle_at`: its coroutine | nothing: nobody else settles it |
 //! | counter | n | at least m | `raise_sends`, `raise_receives`: anybody | nothing: it is a hint |
@@ -45,13 +49,13 @@
 //! while an offer stands, the elements that are kept behind it stand, so that a queue that was too long still is.
 //!
 //! **Walks.** A caller comes from below, from a counter on, below which nobody of the other side stands. `offer_at` and `await_at` say
-//! what is at one place; the answer is a fact of the moment of their last load. An offer waits only where the channel was full: it counts
+//! what is at one place; the answer is a fact of the moment of their last load. An offer waits only if the channel was full: it counts
 //! the offers from the receive counter to the free end by one walk. Each that is found later stood at the beginning, so that either all
 //! stood then, or fewer do at the end. Where fewer places are left than would have to be offers, there is room, and none of them is
 //! looked at. A walk for an offer to admit counts too: once it has found as many kept elements as the channel keeps, it looks at the
 //! first of them again. While that stands the others do, so none may be admitted; else the walk begins anew above it. No word is loaded
 //! after an exchange that made an entry, and a counter is raised by a step that shows nothing, so that the own entry is the last that was
-//! seen. It is raised where the walk passed four places or more: each raise takes the counter's line from the other side, and a few places
+//! seen. It is raised where the walk passed two places or more: each raise takes the counter's line from the other side, and a few places
 //! more to look at cost less than that.
 //!
 //! **The run** spares both walks the places that it has. Kept elements leave from the front alone: so while an offer stands in the run,
@@ -59,7 +63,7 @@
 //! there on as the channel keeps, the channel is full; a walk for an offer to admit begins where the run ends. A place that somebody gave
 //! up ends a run, and until the receivers have passed it the walks go on from there, or over all.
 //!
-//! **The history.** It is that of the channels, a list of entries; all words are a function of it, but for the counters and the
+//! **The history.** It is that of the channels, a list of entries; all words are a function of it, except for the counters and the
 //! run (`Words` has it).
 //! A `Pass` has seen a beginning of the history, and all entries of its own tags; the one that gives out tags has seen none of a tag
 //! that it has not given out.

@@ -62,6 +62,8 @@ fn layout_of(alloc: Global, kinds: &[(Kind, u32)]) -> Result<Layout, AllocError>
 
 impl Hub {
     /// A hub of channels of these kinds, with so many places, and the pass of tag 0, which gives out the other tags.
+    ///
+    /// Example: `new_passes` in `docs/LIBRARY.md`.
     pub fn new(alloc: Global, kinds: &[(Kind, u32)]) -> Result<(Hub, Pass), Memory>
         requires channels { length kinds.now ≤ 65536 }
         requires shape { IsShape kinds.now }
@@ -93,6 +95,8 @@ impl Hub {
     }
 
     /// A pass of a tag that was not given out before. It has seen what the first pass has seen, and has no entry.
+    ///
+    /// Example: `new_passes` in `docs/LIBRARY.md`.
     pub fn split(&self, pass: &mut Pass, tag: Tag) -> Pass
         requires of { IsOf self.now pass.old }
         requires new { ((seen_by pass.old).chief ≡ true) × (has_tag tag (seen_by pass.old).given ≡ false) }

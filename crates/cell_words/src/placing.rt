@@ -68,7 +68,7 @@ fn put_at(hub: &Hub, pass: &mut Pass, who: Tag, c: ChannelId, place: Place, valu
     }
 }
 
-// Says that the place was kept, where an element was put there.
+// Says that the place was kept, if an element was put there.
 fn say_kept(
     hub: &Hub,
     pass: &mut Pass,
@@ -95,7 +95,7 @@ fn say_kept(
     }
 }
 
-// The same as `put_at`, and says that the place was kept, where the channel keeps only so many.
+// The same as `put_at`, and says that the place was kept, if the channel keeps only so many.
 fn keep_at(hub: &Hub, pass: &mut Pass, who: Tag, c: ChannelId, place: Place, value: Value) -> At
     requires own { IsOwn hub.now pass.old who }
     requires at { (c < length (shape_of hub.now)) × (place < places_at (shape_of hub.now) c) }

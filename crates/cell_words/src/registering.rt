@@ -107,7 +107,7 @@ fn hold_clause_at(
     }
 }
 
-/// Places a clause that sends where the channel ends. It waits even where the channel would keep the element.
+/// Places a clause that sends where the channel ends. It waits even if the channel would keep the element.
 pub fn offer_clause_at(
     hub: &Hub,
     pass: &mut Pass,

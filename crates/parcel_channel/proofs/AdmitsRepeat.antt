@@ -12,7 +12,7 @@ use Rattle.cell_words.specs.declared.hub.Hub.{Hub}
 use Rattle.cell_calls.specs.declared.desk.Desk.{Desk}
 use Rattle.cell_calls.specs.declared.desk.DeskAnchor.{DeskAnchor}
 use Rattle.cell_calls.specs.Desks.{desk_anchor}
-use Rattle.parcel_channel.specs.Numbers.{CarriesNumbers, is_admit, Admits}
+use Rattle.parcel_channel.specs.Numbers.{CarriesNumbers, is_admit, Admits, AdmitsAll}
 
 same_floor : (a : Floor) → SameSetting a a
 same_floor a = record { shape = refl; alone = refl; callers = refl }
@@ -32,6 +32,9 @@ admits_looked who a b c x l = admits_then who a b c x (record { acts = []; added
 
 pub looked_admits : (who : ℕ) (a b c : Floor) → Looked who a b → Admits who b c → Admits who a c
 looked_admits who a b c l x = admits_then who a b c (record { acts = []; added = added_looked who a b l; admits = refl }) x
+
+pub all_admits : (who : ℕ) (a b : Floor) → AdmitsAll who a b → Admits who a b
+all_admits who a b x = looked_admits who a x.marked b x.next.0 (admits_looked who x.marked x.below.before b x.below.admits x.below.none.0)
 
 pub admits_made : (who c p : ℕ) (a b d : Floor) → Admits who a b → Made who (Admit c p) b d → Admits who a d
 admits_made who c p a b d x m = admits_then who a b d x (record { acts = Admit c p ∷ []; added = added_made who (Admit c p) b d m; admits = refl })

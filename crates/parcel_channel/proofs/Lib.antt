@@ -15,4 +15,5 @@ pub mod OneMoveEach
 pub mod SeatsEnd
 pub mod OwnWaits
 pub mod WaitsHeld
+pub mod HeldInFull
 pub mod SendsTold

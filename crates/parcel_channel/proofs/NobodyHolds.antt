@@ -3,7 +3,7 @@ use Rattle.std.specs.Prelude.{◌≡◌, ◌≢◌, ℕ, ◌==◌, Bool, true, f
 use Rattle.std.proofs.Common.{⊎_elim, sym, ap, ◌∙◌, subst, eq-eqb, ne_eqb}
 use mathlib.Core.Logic.{dite}
 use native.Mathlib.Decide.{ℕ_discrete}
-use Rattle.worded.specs.Views.{has_tag, first_view, with_next, new_view, told_by}
+use Rattle.worded.specs.Views.{has_tag, first_view, with_next, new_view, told_by, untagged}
 use Rattle.worded.specs.Histories.{entries_of}
 use Rattle.worded.specs.Exchanges.{Loaded}
 use Rattle.worded.proofs.TagsAndPrefixes.{entries_of_rest, only_one, has_tag-append}
@@ -144,6 +144,9 @@ module _ {T : Type 0} where
       (λ (own : has_tag t u.tags ≡ true). let p = l.added.told in subst (λ log. is_held t ((state_of log).parcels k) ≡ false) p.1 (subst (λ (s : State T). is_held t (s.parcels k) ≡ false) (sym (state_more u.seen p.0))
       (not_held_from (now_in u) p.0 t k (entries_of_rest maker t u.seen p.0 (v.seen ++ l.others) (sym p.1) (l.added.given_to t own)) (idle_u t k own))))
       (has_tag-append t v.tags u.tags (sym (ap (λ (x : Seen T). has_tag t x.tags) l.now) ∙ h)))
+
+  pub meet_idle : (n m key : ℕ) (v : Seen T) (seen : List (ParcelEntry T)) (w : Seen T) → IsIdle v → Loaded (Legal n) Fits maker 0 m (told_by v (untagged key seen)) w → IsIdle w
+  meet_idle n m key v seen w idle l = end_idle n m v (untagged key seen) w idle (λ t k h. cc) l
 
 pub first_idle : (T : Type 0) (n : ℕ) → IsIdle (first_view {E = ParcelEntry T} n)
 first_idle T n = λ t k h. fresh_idle {T = T} [] t k refl

@@ -12,7 +12,7 @@ use Rattle.atomic_table.proofs.Lists.{set_here, set_else}
 use Rattle.worded.specs.Exchanges.{Loaded, Entered, MayEnter, MayDraw}
 use Rattle.worded.specs.Views.{has_tag, untagged, with_next, next_given, new_view, told_by}
 use Rattle.worded.specs.Histories.{entries_of}
-use Rattle.worded.proofs.OnTheSeats.{named_follows, unmade, given_follows, heard_follows}
+use Rattle.worded.proofs.OnTheSeats.{named_follows, unmade, given_follows, told_follows, heard_follows}
 use Rattle.worded.proofs.OnTheWords.{Follows, sights, entries, others_added}
 use Rattle.parcel_channel.specs.declared.parcel.ParcelAct.TheVariants.{Draw, Miss, MoveIn, MoveOut, PutBack}
 use Rattle.parcel_channel.specs.declared.parcel.ParcelEntry.{ParcelEntry}
@@ -227,6 +227,9 @@ module _ {T : Type 0} where
 
   pub gives_out : (n id : ℕ) (v : Seen T) → v.chief ≡ true → has_tag v.next v.given ≡ false → Splits (HoldsParcels n) id v (next_given v) (new_view v)
   gives_out n id v chief new s r at = holds_same n s r r.one.log s.words _ (given_follows ℕ (Legal n) Fits maker (word_count n) s.homes s r.one id v chief new at) refl
+
+  pub tells : (n id : ℕ) (v : Seen T) → Splits (HoldsParcels n) id v v (untagged v.key v.seen)
+  tells n id v s r at = holds_same n s r r.one.log s.words _ (told_follows ℕ (Legal n) Fits maker (word_count n) s.homes s r.one id v at) refl
 
   pub hears : (n id : ℕ) (v : Seen T) (other : ℕ) (w : Seen T) → v.heard_tags ≡ [] → w.heard_tags ≡ [] → Joins (HoldsParcels n) id v other w (told_by v w) (untagged 0 [])
   hears n id v other w idle bare s r at apart there = holds_same n s r r.one.log s.words _ (heard_follows ℕ (Legal n) Fits maker (word_count n) 0 s.homes s r.one id v other w idle bare at apart there) refl

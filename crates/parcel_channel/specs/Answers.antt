@@ -50,6 +50,14 @@ module _ {T : Type 0} where
     pub tags : w.tags ≡ v.tags
     pub giving : tags_given w ≡ tags_given v
 
+  -- a seat that had seen `old` met one that had seen `other`
+  pub record MeetAnswer (old other new : Seen T) : Type 0 where
+    pub goes_on : IsPrefix old.seen new.seen
+    pub told : IsPrefix other.seen new.seen
+    pub own : (t : ℕ) → has_tag t old.tags ≡ true → entries_of maker t new.seen ≡ entries_of maker t old.seen
+    pub tags : new.tags ≡ old.tags
+    pub giving : tags_given new ≡ tags_given old
+
   -- a seat that had seen `old` took in one that had seen `other`, with its tags
   pub record EndAnswer (old other new : Seen T) : Type 0 where
     pub goes_on : IsPrefix old.seen new.seen

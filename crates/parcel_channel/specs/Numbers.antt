@@ -1,6 +1,7 @@
 -- The channel that carries parcel numbers.
-use Rattle.std.specs.Prelude.{◌≡◌, ◌⊎◌, ℕ, ◌<◌, ◌≤◌, Bool, true, false, List, length, Option, Some, None, if◌then◌else◌}
+use Rattle.std.specs.Prelude.{◌≡◌, ◌⊎◌, ℕ, ◌<◌, ◌≤◌, Bool, true, false, List, [], ◌∷◌, ◌++◌, length, Option, Some, None, if◌then◌else◌}
 use Rattle.std.specs.List.{list_all}
+use mathlib.Core.List.{IsPrefix}
 use Rattle.channel_model.specs.declared.acts.Act.{Act}
 use Rattle.channel_model.specs.declared.acts.Act.TheVariants.{Hand, Put, Offer, Await, Take, Admit, Drop, Close, Void, Drain}
 use Rattle.channel_model.specs.declared.acts.Act.TheVariants.{WakeClosed, Withdraw, Settle}
@@ -21,7 +22,9 @@ use Rattle.parcel_channel.specs.declared.waits.Placed.TheVariants as placed
 use Rattle.parcel_channel.specs.declared.waits.Ended.{Ended}
 use Rattle.parcel_channel.specs.declared.waits.Ended.TheVariants as ended
 use Rattle.channel_model.specs.declared.acts.Entry.{Entry}
-use Rattle.channel_model.specs.Answers.{IsUnsettledOf, OfferAnswer, GotAnswer, SettleAnswer}
+use Rattle.channel_model.specs.Answers.{IsUnsettledOf, IsFullAt, OfferAnswer, GotAnswer, SettleAnswer, MarkAnswer, AdmitAnswer}
+use Rattle.channel_model.specs.Laws.{IsResolvedAs}
+use Rattle.channel_model.specs.PlainOffers.{plain_offer}
 use Rattle.co_base.specs.declared.names.WaitId.{WaitId}
 use Rattle.cell_words.specs.declared.wait_word.ResolvedBy.{ResolvedBy}
 use Rattle.cell_words.specs.declared.wait_word.ResolvedBy.TheVariants as by
@@ -65,6 +68,19 @@ pub record Admits (who : ℕ) (old new : Floor) : Type 0 where
   pub added : Added who acts old new
   pub admits : list_all is_admit acts ≡ true
 
+-- who made admits until nobody below the mark was left to admit
+pub record AdmitsBelow (who mark : ℕ) (old new : Floor) : Type 0 where
+  pub before : Floor
+  pub admits : Admits who old before
+  pub none : AdmitAnswer who 0 mark before new None
+
+-- who admitted all for whom there was room, below the place that the channel gave out next
+pub record AdmitsAll (who : ℕ) (old new : Floor) : Type 0 where
+  pub mark : ℕ
+  pub marked : Floor
+  pub next : MarkAnswer who 0 old marked mark
+  pub below : AdmitsBelow who mark marked new
+
 -- the wait is who's, and did not end
 abbrev pub HoldsWait : ℕ → WaitId → Floor → Type 0
 HoldsWait who w floor = IsUnsettledOf who ((replay floor.seen).waits w)
@@ -91,7 +107,7 @@ pub record HeldThen (who k place : ℕ) (ended : Bool) (old new : Floor) : Type 
   pub held : Floor
   pub admitted : Floor
   pub offered : OfferAnswer who 0 k old held (offered.Held place)
-  pub admits : Admits who held admitted
+  pub admits : AdmitsAll who held admitted
   pub own : OwnOffer who (record { channel = 0; place = place }) admitted new ended
 
 -- a number was kept by the channel, at once or by an admit, or received before the call ended
@@ -99,11 +115,24 @@ pub data Kept (who k : ℕ) (old new : Floor) : Type 0 where
   at_once : (place : ℕ) → OfferAnswer who 0 k old new (offered.Put place) → Kept who k old new
   by_now : (place : ℕ) → HeldThen who k place true old new → Kept who k old new
 
+-- when the call placed its offer of k, at least as many offers stood as the channel keeps
+pub record PlacedInFull (who k place : ℕ) (old new : Floor) : Type 0 where
+  pub before : List Entry
+  pub begins : IsPrefix old.seen before
+  pub placed : IsPrefix (before ++ plain_offer who 0 place k ∷ []) new.seen
+  pub full : IsFullAt old.shape 0 (replay before)
+
+-- so it was, or the offer was voided since
+abbrev pub WaitsInFull : ℕ → ℕ → ℕ → Floor → Floor → Type 0
+WaitsInFull who k place old new =
+    PlacedInFull who k place old new
+    ⊎ IsResolvedAs resolved.Voided ((replay new.seen).waits (record { channel = 0; place = place }))
+
 -- what became of a number that was offered
 abbrev pub Sends : ℕ → ℕ → Floor → Floor → Placed → Type 0
 Sends who k old new (placed.Handed t) = (place : ℕ) × OfferAnswer who 0 k old new (offered.Handed place t)
 Sends who k old new placed.Kept = Kept who k old new
-Sends who k old new (placed.Waits place) = HeldThen who k place false old new
+Sends who k old new (placed.Waits place) = HeldThen who k place false old new × WaitsInFull who k place old new
 Sends who k old new (placed.Closed c) = OfferAnswer who 0 k old new (offered.Closed c)
 Sends who k old new placed.Spent = OfferAnswer who 0 k old new offered.Spent
 
@@ -116,11 +145,11 @@ placed_at false place = placed.Waits place
 abbrev pub Refused : ℕ → ℕ → Floor → Floor → Type 0
 Refused who k old new = ((c : ℕ) × Sends who k old new (placed.Closed c)) ⊎ Sends who k old new placed.Spent
 
--- a number was received, and then admits made
-pub record Gets (who : ℕ) (old new : Floor) (r : Got) : Type 0 where
-  pub mid : Floor
-  pub got : GotAnswer who 0 old mid r
-  pub admits : Admits who mid new
+-- a number was received, and then all admitted for whom there was room; or none was received
+abbrev pub Gets : ℕ → Floor → Floor → Got → Type 0
+Gets who old new (got.Taken place v from) =
+    (mid : Floor) × GotAnswer who 0 old mid (got.Taken place v from) × AdmitsAll who mid new
+Gets who old new other = GotAnswer who 0 old new other
 
 -- a receive that waits has begun a wait of its own
 abbrev pub OwnsItsWait : ℕ → Floor → Got → Type 0

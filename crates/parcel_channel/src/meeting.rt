@@ -1,15 +1,15 @@
-//! How a channel of owned values is made, and its passes are split and ended.
+//! How a channel of owned values is made, and its passes are split, met and ended.
 ghost use Rattle.std.specs.Prelude.{◌≡◌, ℕ, ◌≤◌, IfOk, false, [], ◌∷◌, length, slice_index};
 ghost use Rattle.worded.specs.Histories.{entries_of};
 ghost use Rattle.worded.specs.Views.{has_tag};
-ghost use Rattle.cell_words.specs.Meetings.{EndAnswer as NumbersEnd};
+ghost use Rattle.cell_words.specs.Meetings.{MeetAnswer as NumbersMeet, EndAnswer as NumbersEnd};
 ghost use Rattle.parcel_channel.specs.Parcels.{maker};
-ghost use Rattle.parcel_channel.specs.Answers.{EndAnswer};
+ghost use Rattle.parcel_channel.specs.Answers.{MeetAnswer, EndAnswer};
 ghost use Rattle.parcel_channel.specs.Numbers.{KeepsAll};
-ghost use Rattle.parcel_channel.specs.Hubs.{IsOf, IsFirst, seen_by, numbers_by};
+ghost use Rattle.parcel_channel.specs.Hubs.{IsOf, IsFirst, SamePass, seen_by, numbers_by};
 
 use crate::hub::{ParcelHub, ParcelPass, ParcelTable};
-use crate::seats::{join_to, split_off};
+use crate::seats::{join_to, meet_with, split_off};
 use cell_words::Hub;
 use channel_model::Kind;
 use co_base::{Memory, Tag};
@@ -81,6 +81,21 @@ impl<T> ParcelHub<T> {
             pass: other,
             tag,
         }
+    }
+
+    /// Afterwards `a` has seen all that `b` had seen, of values and of numbers.
+    pub fn meet(&self, a: &mut ParcelPass<T>, b: &mut ParcelPass<T>)
+        requires a { IsOf self.now a.old }
+        requires b { IsOf self.now b.old }
+        ensures a { IsOf self.now a.new }
+        ensures b { IsOf self.now b.new }
+        ensures same { SamePass a.old a.new × SamePass b.old b.new }
+        ensures values { MeetAnswer (seen_by a.old) (seen_by b.old) (seen_by a.new) }
+        ensures numbers { NumbersMeet (numbers_by a.old) (numbers_by b.old) (numbers_by a.new) }
+        ensures other { (seen_by b.new ≡ seen_by b.old) × (numbers_by b.new ≡ numbers_by b.old) }
+    {
+        meet_with(&self.table.shared, &mut a.seat, &mut b.seat);
+        self.hub.meet(&mut a.pass, &mut b.pass)
     }
 
     /// `main` takes in what another pass has seen of values and of numbers, and its tags.

@@ -7,7 +7,7 @@ ghost use Rattle.channel_model.specs.declared.acts.Why.TheVariants as why;
 ghost use Rattle.cell_words.specs.Hubs.{IsOwn, SameGiving};
 ghost use Rattle.cell_calls.specs.Desks.{desk_floor, desk_anchor};
 ghost use Rattle.cell_calls.specs.HubFloors.{hub_floor};
-ghost use Rattle.parcel_channel.specs.Numbers.{CarriesNumbers, Admits};
+ghost use Rattle.parcel_channel.specs.Numbers.{CarriesNumbers, AdmitsBelow, AdmitsAll};
 
 use cell_calls::Desk;
 use cell_words::{Hub, Pass};
@@ -246,7 +246,7 @@ fn admit_below(desk: &mut Desk<'_>, who: Tag, mark: Place)
     requires channel { CarriesNumbers desk.old.hub.now }
     requires caller { (desk_floor desk.old).callers who ≡ true }
     ensures anchor { desk_anchor desk.new ≡ desk_anchor desk.old }
-    ensures admits { Admits who (desk_floor desk.old) (desk_floor desk.new) }
+    ensures admits { AdmitsBelow who mark (desk_floor desk.old) (desk_floor desk.new) }
 {
     loop {
         match desk.admit(who, 0, mark) {
@@ -262,7 +262,7 @@ fn admit_on(desk: &mut Desk<'_>, who: Tag)
     ensures anchor { desk_anchor desk.new ≡ desk_anchor desk.old }
     ensures own { IsOwn desk.old.hub.now desk.new.pass.now who }
     ensures giving { SameGiving desk.old.pass.now desk.new.pass.now }
-    ensures admits { Admits who (desk_floor desk.old) (hub_floor desk.old.hub.now desk.new.pass.now) }
+    ensures admits { AdmitsAll who (desk_floor desk.old) (hub_floor desk.old.hub.now desk.new.pass.now) }
 {
     let mark = desk.mark(who, 0);
     admit_below(desk, who, mark);
@@ -274,7 +274,7 @@ pub(crate) fn admit(hub: &Hub, pass: &mut Pass, who: Tag)
     requires own { IsOwn hub.now pass.old who }
     ensures own { IsOwn hub.now pass.new who }
     ensures giving { SameGiving pass.old pass.new }
-    ensures admits { Admits who (hub_floor hub.now pass.old) (hub_floor hub.now pass.new) }
+    ensures admits { AdmitsAll who (hub_floor hub.now pass.old) (hub_floor hub.now pass.new) }
 {
     let mut desk = Desk { hub, pass };
     admit_on(&mut desk, who)

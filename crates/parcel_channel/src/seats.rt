@@ -1,6 +1,6 @@
-//! Seats at the table of parcels are split and joined.
+//! Seats at the table of parcels are split, met and joined.
 ghost use Rattle.std.specs.Prelude.{◌≡◌, ℕ, true, false, []};
-ghost use Rattle.worded.specs.Views.{has_tag, with_next, next_given, new_view, told_by};
+ghost use Rattle.worded.specs.Views.{has_tag, with_next, next_given, new_view, told_by, untagged};
 ghost use Rattle.worded.specs.Histories.{entries_of};
 ghost use Rattle.worded.specs.Exchanges.{Loaded};
 ghost use Rattle.parcel_channel.specs.Parcels.{Legal, maker};
@@ -78,4 +78,33 @@ pub(crate) fn join_to<T>(words: &ParcelWords<T>, main: &mut ParcelSeat<T>, seat:
 {
     words.join_seat::<Hearing<T>>(main, seat);
     load_count(words, main);
+}
+
+// A seat of no tag that has seen the same.
+struct Telling<T> {
+    marker: PhantomData<T>,
+}
+
+impl<T> Split<View<ParcelEntry<T>, u32>> for Telling<T> {
+    ghost left = { λ v. v };
+
+    ghost right = { λ v. untagged v.key v.seen };
+}
+
+/// Afterwards `seat` has seen all that `other` had seen.
+pub(crate) fn meet_with<T>(
+    words: &ParcelWords<T>,
+    seat: &mut ParcelSeat<T>,
+    other: &mut ParcelSeat<T>,
+)
+    requires table { IsTable words.now.table_id words.now.key × (seat.old.table_id ≡ words.now.table_id)
+        × (other.old.table_id ≡ words.now.table_id) }
+    requires seat { (seat.old.me.0.key ≡ words.now.key) × (seat.old.me.0.heard_tags ≡ []) }
+    ensures same { (seat.new.table_id ≡ seat.old.table_id) × (seat.new.id ≡ seat.old.id) × (seat.new.me.1 ≡ seat.old.me.1) }
+    ensures other { (other.new.table_id ≡ other.old.table_id) × (other.new.id ≡ other.old.id) × (other.new.me ≡ other.old.me) }
+    ensures met { (n : ℕ) × Loaded (Legal words.now.key) Fits maker 0 n
+        (told_by seat.old.me.0 (untagged other.old.me.0.key other.old.me.0.seen)) seat.new.me.0 }
+{
+    let told = words.split_seat::<Telling<T>>(other);
+    join_to(words, seat, told);
 }

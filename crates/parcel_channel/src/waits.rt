@@ -7,7 +7,7 @@ ghost use Rattle.channel_model.specs.Answers.{IsReady};
 ghost use Rattle.cell_words.specs.Words.{IsCell};
 ghost use Rattle.cell_words.specs.Hubs.{shape_of, seen_by, IsOwn, SameGiving};
 ghost use Rattle.cell_calls.specs.HubFloors.{hub_floor};
-ghost use Rattle.parcel_channel.specs.Numbers.{CarriesNumbers, Admits, OwnOffer, Sends, Gets, OwnsItsWait, EndAnswer};
+ghost use Rattle.parcel_channel.specs.Numbers.{CarriesNumbers, AdmitsAll, OwnOffer, Sends, Gets, OwnsItsWait, EndAnswer};
 ghost use Rattle.parcel_channel.specs.Numbers.{is_sent, is_cancel, number_of_state, placed_at, withdrawn_at};
 
 use crate::numbers::{admit, offer, receive, settle};
@@ -64,7 +64,8 @@ fn after_held(hub: &Hub, pass: &mut Pass, who: Tag, w: WaitId) -> bool
     requires plain { OffersPlainly who w (replay (seen_by pass.old).seen) }
     ensures own { IsOwn hub.now pass.new who }
     ensures giving { SameGiving pass.old pass.new }
-    ensures answer { (mid : Floor) × Admits who (hub_floor hub.now pass.old) mid × OwnOffer who w mid (hub_floor hub.now pass.new) result }
+    ensures answer { (mid : Floor) × AdmitsAll who (hub_floor hub.now pass.old) mid
+        × OwnOffer who w mid (hub_floor hub.now pass.new) result }
 {
     admit(hub, pass, who);
     settle_offer(hub, pass, who, w)

@@ -1,19 +1,35 @@
 //! Four coroutines, at work on one, two or four threads at once.
 ghost use Rattle.std.specs.Prelude.{◌≡◌, [], ◌∷◌};
 ghost use Rattle.cell_words.specs.Hubs.{IsOf, IsOwn, GivesTags};
-ghost use Rattle.word_bench.specs.Channels.{CarriesElements};
+ghost use Rattle.word_bench.specs.Channels.{CarryElements};
 
 use crate::on_passes::{offer, receive};
+use crate::waits::select;
 use cell_words::{Hub, Pass};
-use co_base::Tag;
+use channel_model::{Got, Offered};
+use co_base::{Tag, Value};
 use std::sync::Wait;
 use std::thread::{Threads, join};
+
+/// What a coroutine does in each turn.
+#[derive(Clone, Copy)]
+pub(crate) enum Work {
+    /// An offer and a receive.
+    Both,
+    /// Two offers.
+    Offers,
+    /// Two receives.
+    Receives,
+    /// A select that receives from both channels, and an offer on one of them.
+    Selects,
+}
 
 /// A coroutine with its pass.
 #[derive(Drop)]
 pub(crate) struct Caller {
     pub pass: Pass,
     pub who: Tag,
+    pub work: Work,
     /// How many of its calls found a receiver, or an element.
     pub met: u32,
 }
@@ -38,8 +54,8 @@ impl Four {
     }
 }
 
-/// The coroutines with the tags 1 to 4.
-pub(crate) fn four_callers(hub: &Hub, main: &mut Pass) -> Four
+/// The coroutines with the tags 1 to 4. Two of them do the first work, and two the other.
+pub(crate) fn four_callers(hub: &Hub, main: &mut Pass, first: Work, other: Work) -> Four
     requires of { IsOf hub.now main.old }
     requires gives { GivesTags (0 ∷ []) main.old }
     ensures a { IsOwn hub.now result.a.pass result.a.who }
@@ -47,55 +63,120 @@ pub(crate) fn four_callers(hub: &Hub, main: &mut Pass) -> Four
     ensures c { IsOwn hub.now result.c.pass result.c.who }
     ensures d { IsOwn hub.now result.d.pass result.d.who }
 {
-    let first = hub.split(main, 1);
-    let second = hub.split(main, 2);
-    let third = hub.split(main, 3);
-    let fourth = hub.split(main, 4);
+    let a = hub.split(main, 1);
+    let b = hub.split(main, 2);
+    let c = hub.split(main, 3);
+    let d = hub.split(main, 4);
     Four {
         a: Caller {
-            pass: first,
+            pass: a,
             who: 1,
+            work: first,
             met: 0,
         },
         b: Caller {
-            pass: second,
+            pass: b,
             who: 2,
+            work: first,
             met: 0,
         },
         c: Caller {
-            pass: third,
+            pass: c,
             who: 3,
+            work: other,
             met: 0,
         },
         d: Caller {
-            pass: fourth,
+            pass: d,
             who: 4,
+            work: other,
             met: 0,
         },
     }
 }
 
-/// So many offers and as many receives, by turns.
-fn work(hub: &Hub, caller: Caller, times: u32) -> Caller
-    requires channel { CarriesElements hub.now }
+fn offers(hub: &Hub, pass: &mut Pass, who: Tag, value: Value) -> bool
+    requires channels { CarryElements hub.now }
+    requires own { IsOwn hub.now pass.old who }
+    ensures own { IsOwn hub.now pass.new who }
+{
+    matches!(offer(hub, pass, who, 0, value), Offered::Handed(_, _))
+}
+
+/// Offers on one of both channels.
+fn offers_on_one(hub: &Hub, pass: &mut Pass, who: Tag, value: Value) -> bool
+    requires channels { CarryElements hub.now }
+    requires own { IsOwn hub.now pass.old who }
+    ensures own { IsOwn hub.now pass.new who }
+{
+    if value % 2 == 0 {
+        return offers(hub, pass, who, value);
+    }
+    matches!(offer(hub, pass, who, 1, value), Offered::Handed(_, _))
+}
+
+fn receives(hub: &Hub, pass: &mut Pass, who: Tag) -> bool
+    requires channels { CarryElements hub.now }
+    requires own { IsOwn hub.now pass.old who }
+    ensures own { IsOwn hub.now pass.new who }
+{
+    matches!(receive(hub, pass, who), Got::Taken(_, _, _))
+}
+
+/// One turn: whether its calls found a receiver, or an element.
+fn turn(hub: &Hub, pass: &mut Pass, who: Tag, work: Work, value: Value) -> (bool, bool)
+    requires channels { CarryElements hub.now }
+    requires own { IsOwn hub.now pass.old who }
+    ensures own { IsOwn hub.now pass.new who }
+{
+    match work {
+        Work::Both => {
+            let handed = offers(hub, pass, who, value);
+            (handed, receives(hub, pass, who))
+        }
+        Work::Offers => {
+            let handed = offers(hub, pass, who, value);
+            (handed, offers(hub, pass, who, value))
+        }
+        Work::Receives => {
+            let taken = receives(hub, pass, who);
+            (taken, receives(hub, pass, who))
+        }
+        Work::Selects => {
+            let taken = select(hub, pass, who);
+            (taken, offers_on_one(hub, pass, who, value))
+        }
+    }
+}
+
+/// So many turns.
+fn work_on(hub: &Hub, caller: Caller, times: u32) -> Caller
+    requires channels { CarryElements hub.now }
     requires own { IsOwn hub.now caller.pass caller.who }
     ensures own { IsOwn hub.now result.pass result.who }
 {
     let Caller {
         mut pass,
         who,
+        work,
         met: _,
     } = caller;
     let mut met = 0u32;
     for i in 0..times {
-        if offer(hub, &mut pass, who, i) {
+        let (first, second) = turn(hub, &mut pass, who, work, i);
+        if first {
             met = met.saturating_add(1);
         }
-        if receive(hub, &mut pass, who) {
+        if second {
             met = met.saturating_add(1);
         }
     }
-    Caller { pass, who, met }
+    Caller {
+        pass,
+        who,
+        work,
+        met,
+    }
 }
 
 /// The work of two, one after the other, or at once by a thread each.
@@ -107,17 +188,17 @@ fn by_two<R: Threads + Wait + Sync>(
     times: u32,
     at_once: bool,
 ) -> (Caller, Caller)
-    requires channel { CarriesElements hub.now }
+    requires channels { CarryElements hub.now }
     requires a { IsOwn hub.now a.pass a.who }
     requires b { IsOwn hub.now b.pass b.who }
     ensures a { IsOwn hub.now result.0.pass result.0.who }
     ensures b { IsOwn hub.now result.1.pass result.1.who }
 {
     if at_once {
-        return join(rt, || work(hub, a, times), || work(hub, b, times));
+        return join(rt, || work_on(hub, a, times), || work_on(hub, b, times));
     }
-    let a = work(hub, a, times);
-    let b = work(hub, b, times);
+    let a = work_on(hub, a, times);
+    let b = work_on(hub, b, times);
     (a, b)
 }
 
@@ -129,7 +210,7 @@ pub(crate) fn work_by<R: Threads + Wait + Sync>(
     times: u32,
     threads: u32,
 ) -> Four
-    requires channel { CarriesElements hub.now }
+    requires channels { CarryElements hub.now }
     requires a { IsOwn hub.now four.a.pass four.a.who }
     requires b { IsOwn hub.now four.b.pass four.b.who }
     requires c { IsOwn hub.now four.c.pass four.c.who }
@@ -148,12 +229,12 @@ pub(crate) fn work_by<R: Threads + Wait + Sync>(
     let ((a, b), (c, d)) = join(
         rt,
         || -> (Caller, Caller)
-            requires channel { CarriesElements hub.now }
+            requires channels { CarryElements hub.now }
             requires first { IsOwn hub.now a.pass a.who }
             requires second { IsOwn hub.now b.pass b.who }
         { by_two(rt, hub, a, b, times, four_threads) },
         || -> (Caller, Caller)
-            requires channel { CarriesElements hub.now }
+            requires channels { CarryElements hub.now }
             requires first { IsOwn hub.now c.pass c.who }
             requires second { IsOwn hub.now d.pass d.who }
         { by_two(rt, hub, c, d, times, four_threads) },

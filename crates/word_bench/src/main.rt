@@ -1,30 +1,50 @@
-//! How long transfers through a channel over words, and through counted cells, take. Standard output has how many there were, standard
+//! How long transfers through channels over words, and through counted cells, take. Standard output has how many there were, standard
 //! error how long they took.
 //!
-//!     word_bench [TRANSFERS [THREADS [CHANNEL]]]
+//!     word_bench [TRANSFERS [THREADS [CASE]]]
 //!
-//! by default 1000, at most 1048576; by 1, 2 and 4 threads, or by so many, which may be none; through a channel that is rendezvous,
-//! buffered for 64 elements and unlimited, and through as many counted cells; or through the one of these that is named.
+//! by default 1000, at most 1048576; by 1, 2 and 4 threads, or by so many, which may be none; all cases, or those of one group, or the one
+//! whose line begins with this name:
 //!
-//! A transfer is an offer and a receive that meet, or an element that is kept and received. Four coroutines make as many offers as
-//! receives each, by turns, all on one channel; nobody waits for anybody. So each offer is received, whatever the schedule.
+//! - `rendezvous`, `buffered`, `unlimited`: four coroutines make as many offers as receives each, by turns, all on one channel. A buffered
+//!   one keeps 64 elements.
+//! - `counted`: the same through as many counted cells.
+//! - `apart`: two coroutines make the offers, and two the receives. By 2 and 4 threads these have threads of their own.
+//! - `select`: four coroutines each select the first element of two channels, or wait on both, and then offer on one of them. There are
+//!   262144 selects at most.
+//! - `full`: one coroutine makes offers and receives, by turns, where so many elements are kept already.
+//! - `withdrawn`: one makes a sixteenth as many offers that do not wait, where there is no receiver, or so many that were withdrawn.
+//!
+//! A transfer is an offer and a receive that meet, or an element that is kept and received; nobody waits for anybody. There are as many
+//! offers as receives. So each offer is received, whatever the schedule. The last two cases are made by one thread.
+//!
+//! `crossbeam` is the same work on channels of crossbeam_channel, whose calls wait for one another: by two or four threads where senders
+//! and receivers are apart, by four where each sends and then selects. There a receive that gave up leaves nothing behind.
 //!
 //! - `measured`: the channels.
 //! - `on_passes`: calls of one pass of a hub.
-//! - `at_once`: the four coroutines, at work on one, two or four threads at once.
-//! - `counted_at_once`: the same for four passes of counted cells.
+//! - `waits`: selects, and waits that are taken back.
+//! - `at_once`: four coroutines, at work on one, two or four threads at once.
+//! - `by_one`: one coroutine.
+//! - `counted_at_once`: four passes of counted cells.
+//! - `beside`: crossbeam_channel.
 #![tactic(auto)]
 
-ghost use Rattle.std.specs.Prelude.{◌≤◌, IfOk};
+ghost use Rattle.std.specs.Prelude.{◌≡◌, ◌≤◌, false, IfOk};
+ghost use Rattle.channel_model.specs.Channels.{is_signal};
 
 mod at_once;
+mod beside;
+mod by_one;
 mod counted_at_once;
 mod measured;
 mod on_passes;
+mod waits;
 
-use at_once::{four_callers, work_by};
+use at_once::{Work, four_callers, work_by};
+use channel_model::Kind;
 use counted_at_once::{draw_by, new_cells};
-use measured::{ALL, Measured};
+use measured::{ALL, FILLINGS, Filling, Measured, WITHDRAWN, Withdrawn};
 use on_passes::new_hub;
 use std::rt::Env;
 use std::sync::Wait;
@@ -33,15 +53,13 @@ use std::time::{Clock, Instant};
 use std::{env, io};
 
 /// What is to be measured.
-#[derive(Clone, Copy)]
+#[derive(Drop)]
 struct Wanted {
     transfers: u32,
     /// By how many threads, if that is said.
     threads: Option<u32>,
-    /// Through which channel, if that is said.
-    channel: Option<Measured>,
-    /// Whether through counted cells alone.
-    counted: bool,
+    /// Which case, if that is said.
+    case: Option<String>,
 }
 
 /// The number that the word says.
@@ -59,63 +77,65 @@ fn read_words(rt: &(impl Env + AllocGlobal)) -> io::Result<Wanted>
     let mut words = env::args(rt)?.skip(1);
     let transfers = number(words.next()).unwrap_or(1000);
     let threads = number(words.next());
-    let (channel, counted) = match words.next() {
-        Some(word) => (Measured::named(word.as_str()), word.as_str() == "counted"),
-        None => (None, false),
-    };
+    let case = words.next();
     Ok(Wanted {
         transfers: transfers.clamp(4, 1048576),
         threads,
-        channel,
-        counted,
+        case,
     })
 }
 
-/// So many transfers through a channel, by so many threads.
-fn bench_transfers<R: Threads + Wait + Sync + Clock + Print + Eprint + AllocGlobal>(
+/// Whether all cases are wanted, or this group, or this name.
+fn is_wanted(case: &Option<String>, group: &str, name: &str) -> bool {
+    match case {
+        Some(case) => case.as_str() == group || case.as_str() == name,
+        None => true,
+    }
+}
+
+fn no_memory() -> io::Error {
+    io::Error::from(io::ErrorKind::OutOfMemory)
+}
+
+/// Says how many there were, and how long they took.
+fn tell<R: Clock + Print + Eprint + AllocGlobal>(
     rt: &R,
-    channel: Measured,
+    name: &str,
+    threads: u32,
+    done: u32,
+    begun: Instant,
+) -> io::Result<()> {
+    let spent = begun.elapsed(rt)?;
+    println!(rt; "{name}, {threads} at once: {done}")?;
+    eprintln!(rt; "{name}, {threads} at once: {done} in {spent:?}")?;
+    Ok(())
+}
+
+/// What four coroutines do with so many transfers, by so many threads.
+fn bench_four<R: Threads + Wait + Sync + Clock + Print + Eprint + AllocGlobal>(
+    rt: &R,
+    name: &str,
+    kind: Kind,
+    work: (Work, Work),
     transfers: u32,
     threads: u32,
 ) -> io::Result<()>
+    requires elements { is_signal kind ≡ false }
     requires some { 4 ≤ transfers }
     requires few { transfers ≤ 1048576 }
 {
-    let Ok((hub, mut main)) = new_hub(rt.alloc(), channel.kind(), transfers) else {
-        return Err(io::Error::from(io::ErrorKind::OutOfMemory));
+    let places = (2 * transfers).min(1048576);
+    let Ok((hub, mut main)) = new_hub(rt.alloc(), kind, places, places) else {
+        return Err(no_memory());
     };
-    let four = four_callers(&hub, &mut main);
+    let four = four_callers(&hub, &mut main, work.0, work.1);
     let begun = Instant::now(rt)?;
     let four = work_by(rt, &hub, four, transfers / 4, threads);
-    let spent = begun.elapsed(rt)?;
-    let done = four.count();
-    let name = channel.name();
-    println!(rt; "{name}, {threads} at once: {done} transfers")?;
-    eprintln!(rt; "{name}, {threads} at once: {done} transfers in {spent:?}")?;
-    Ok(())
+    tell(rt, name, threads, four.count(), begun)
 }
 
-/// Transfers through a channel, by so many threads or by 1, 2 and 4.
-fn bench_channel<R: Threads + Wait + Sync + Clock + Print + Eprint + AllocGlobal>(
-    rt: &R,
-    channel: Measured,
-    transfers: u32,
-    threads: Option<u32>,
-) -> io::Result<()>
-    requires some { 4 ≤ transfers }
-    requires few { transfers ≤ 1048576 }
-{
-    if let Some(threads) = threads {
-        return bench_transfers(rt, channel, transfers, threads);
-    }
-    for threads in [1u32, 2, 4] {
-        bench_transfers(rt, channel, transfers, threads)?;
-    }
-    Ok(())
-}
-
-/// So many transfers through as many counted cells, by so many threads.
-fn bench_draws<R: Threads + Wait + Sync + Clock + Print + Eprint + AllocGlobal>(
+/// So many transfers through as many counted cells.
+fn bench_counted<R: Threads + Wait + Sync + Clock + Print + Eprint + AllocGlobal>(
     rt: &R,
     transfers: u32,
     threads: u32,
@@ -124,31 +144,167 @@ fn bench_draws<R: Threads + Wait + Sync + Clock + Print + Eprint + AllocGlobal>(
     requires few { transfers ≤ 1048576 }
 {
     let Ok((counted, four)) = new_cells(rt.alloc(), transfers) else {
-        return Err(io::Error::from(io::ErrorKind::OutOfMemory));
+        return Err(no_memory());
     };
     let begun = Instant::now(rt)?;
     let four = draw_by(rt, &counted, four, transfers / 4, threads);
-    let spent = begun.elapsed(rt)?;
-    let done = four.count();
-    println!(rt; "counted, {threads} at once: {done} transfers")?;
-    eprintln!(rt; "counted, {threads} at once: {done} transfers in {spent:?}")?;
-    Ok(())
+    tell(rt, "counted", threads, four.count(), begun)
 }
 
-/// Transfers through counted cells, by so many threads or by 1, 2 and 4.
-fn bench_counted<R: Threads + Wait + Sync + Clock + Print + Eprint + AllocGlobal>(
+/// Transfers by senders and receivers that are apart.
+fn bench_apart<R: Threads + Wait + Sync + Clock + Print + Eprint + AllocGlobal>(
     rt: &R,
+    case: &Option<String>,
+    channel: Measured,
     transfers: u32,
-    threads: Option<u32>,
+    threads: u32,
 ) -> io::Result<()>
     requires some { 4 ≤ transfers }
     requires few { transfers ≤ 1048576 }
 {
-    if let Some(threads) = threads {
-        return bench_draws(rt, transfers, threads);
+    let (name, beside) = channel.names_apart();
+    if is_wanted(case, "apart", name) {
+        let work = (Work::Offers, Work::Receives);
+        bench_four(rt, name, channel.kind(), work, transfers, threads)?;
     }
-    for threads in [1u32, 2, 4] {
-        bench_draws(rt, transfers, threads)?;
+    if threads < 2 || !is_wanted(case, "apart", beside) {
+        return Ok(());
+    }
+    let begun = Instant::now(rt)?;
+    let Ok(done) = beside::apart(rt, rt.alloc(), channel.capacity(), transfers, threads) else {
+        return Err(no_memory());
+    };
+    tell(rt, beside, threads, done, begun)
+}
+
+/// Selects of two channels.
+fn bench_select<R: Threads + Wait + Sync + Clock + Print + Eprint + AllocGlobal>(
+    rt: &R,
+    case: &Option<String>,
+    selects: u32,
+    threads: u32,
+) -> io::Result<()>
+    requires some { 4 ≤ selects }
+    requires few { selects ≤ 1048576 }
+{
+    let beside = "select crossbeam";
+    if is_wanted(case, "select", "select") {
+        let work = (Work::Selects, Work::Selects);
+        bench_four(rt, "select", Kind::Buffered(64), work, selects, threads)?;
+    }
+    if threads < 4 || !is_wanted(case, "select", beside) {
+        return Ok(());
+    }
+    let begun = Instant::now(rt)?;
+    let Ok(done) = beside::select_by_four(rt, rt.alloc(), selects / 4) else {
+        return Err(no_memory());
+    };
+    tell(rt, beside, threads, done, begun)
+}
+
+/// The cases of four coroutines.
+fn bench_at_once<R: Threads + Wait + Sync + Clock + Print + Eprint + AllocGlobal>(
+    rt: &R,
+    case: &Option<String>,
+    transfers: u32,
+    threads: u32,
+) -> io::Result<()>
+    requires some { 4 ≤ transfers }
+    requires few { transfers ≤ 1048576 }
+{
+    for channel in ALL {
+        let name = channel.name();
+        if is_wanted(case, name, name) {
+            let work = (Work::Both, Work::Both);
+            bench_four(rt, name, channel.kind(), work, transfers, threads)?;
+        }
+    }
+    if is_wanted(case, "counted", "counted") {
+        bench_counted(rt, transfers, threads)?;
+    }
+    for channel in ALL {
+        bench_apart(rt, case, channel, transfers, threads)?;
+    }
+    bench_select(rt, case, transfers.min(262144), threads)
+}
+
+/// Transfers by one coroutine on a buffered channel that keeps so many elements already.
+fn bench_full<R: Wait + Clock + Print + Eprint + AllocGlobal>(
+    rt: &R,
+    case: &Option<String>,
+    filling: Filling,
+    transfers: u32,
+) -> io::Result<()> {
+    let Filling {
+        capacity,
+        queued,
+        name,
+        beside,
+    } = filling;
+    if is_wanted(case, "full", name) {
+        let Ok((hub, mut main)) = new_hub(rt.alloc(), Kind::Buffered(capacity), 1048576, 1) else {
+            return Err(no_memory());
+        };
+        by_one::fill(&hub, &mut main, queued);
+        let begun = Instant::now(rt)?;
+        let done = by_one::transfer(&hub, &mut main, transfers);
+        tell(rt, name, 1, done, begun)?;
+    }
+    if !is_wanted(case, "full", beside) {
+        return Ok(());
+    }
+    let Ok((to, from)) = beside::filled(rt, rt.alloc(), capacity, queued) else {
+        return Err(no_memory());
+    };
+    let begun = Instant::now(rt)?;
+    let done = beside::transfer(rt, &to, &from, transfers);
+    tell(rt, beside, 1, done, begun)
+}
+
+/// Offers by one coroutine that do not wait, where so many receivers were withdrawn.
+fn bench_withdrawn<R: Wait + Clock + Print + Eprint + AllocGlobal>(
+    rt: &R,
+    case: &Option<String>,
+    withdrawn: Withdrawn,
+    offers: u32,
+) -> io::Result<()> {
+    let Withdrawn {
+        receivers,
+        name,
+        beside,
+    } = withdrawn;
+    if is_wanted(case, "withdrawn", name) {
+        let Ok((hub, mut main)) = new_hub(rt.alloc(), Kind::Rendezvous, 4096, 1) else {
+            return Err(no_memory());
+        };
+        by_one::give_up(&hub, &mut main, receivers);
+        let begun = Instant::now(rt)?;
+        let done = by_one::try_offers(&hub, &mut main, offers);
+        tell(rt, name, 1, done, begun)?;
+    }
+    if !is_wanted(case, "withdrawn", beside) {
+        return Ok(());
+    }
+    let Ok((to, from)) = beside::filled(rt, rt.alloc(), 0, 0) else {
+        return Err(no_memory());
+    };
+    beside::give_up(rt, &from, receivers);
+    let begun = Instant::now(rt)?;
+    let done = beside::try_sends(rt, &to, offers);
+    tell(rt, beside, 1, done, begun)
+}
+
+/// The cases of one coroutine.
+fn bench_by_one<R: Wait + Clock + Print + Eprint + AllocGlobal>(
+    rt: &R,
+    case: &Option<String>,
+    transfers: u32,
+) -> io::Result<()> {
+    for filling in FILLINGS {
+        bench_full(rt, case, filling, transfers)?;
+    }
+    for withdrawn in WITHDRAWN {
+        bench_withdrawn(rt, case, withdrawn, transfers / 16)?;
     }
     Ok(())
 }
@@ -157,17 +313,18 @@ fn main(rt: HostRuntime) -> io::Result<()> {
     let Wanted {
         transfers,
         threads,
-        channel,
-        counted,
+        case,
     } = read_words(&rt)?;
-    if counted {
-        return bench_counted(&rt, transfers, threads);
+    if let Some(threads) = threads {
+        bench_at_once(&rt, &case, transfers, threads)?;
+        return match threads {
+            0 => bench_by_one(&rt, &case, 0),
+            1 => bench_by_one(&rt, &case, transfers),
+            _ => Ok(()),
+        };
     }
-    if let Some(channel) = channel {
-        return bench_channel(&rt, channel, transfers, threads);
+    for threads in [1u32, 2, 4] {
+        bench_at_once(&rt, &case, transfers, threads)?;
     }
-    for channel in ALL {
-        bench_channel(&rt, channel, transfers, threads)?;
-    }
-    bench_counted(&rt, transfers, threads)
+    bench_by_one(&rt, &case, transfers)
 }

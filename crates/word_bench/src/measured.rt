@@ -1,4 +1,4 @@
-//! The channels that are measured.
+//! The channels that are measured, and what is done with them.
 ghost use Rattle.std.specs.Prelude.{◌≡◌, false};
 ghost use Rattle.channel_model.specs.Channels.{is_signal};
 
@@ -31,6 +31,15 @@ impl Measured {
         }
     }
 
+    /// How many elements a channel of crossbeam_channel keeps, if that is bounded.
+    pub(crate) fn capacity(self) -> Option<usize> {
+        match self {
+            Measured::Rendezvous => Some(0),
+            Measured::Buffered => Some(64),
+            Measured::Unlimited => None,
+        }
+    }
+
     pub(crate) fn name(self) -> &'static str {
         match self {
             Measured::Rendezvous => "rendezvous",
@@ -39,13 +48,71 @@ impl Measured {
         }
     }
 
-    /// The one that the word names.
-    pub(crate) fn named(word: &str) -> Option<Measured> {
-        match word {
-            "rendezvous" => Some(Measured::Rendezvous),
-            "buffered" => Some(Measured::Buffered),
-            "unlimited" => Some(Measured::Unlimited),
-            _ => None,
+    /// Its name where senders and receivers are apart, and that of the channel beside it.
+    pub(crate) fn names_apart(self) -> (&'static str, &'static str) {
+        match self {
+            Measured::Rendezvous => ("apart rendezvous", "apart rendezvous crossbeam"),
+            Measured::Buffered => ("apart buffered", "apart buffered crossbeam"),
+            Measured::Unlimited => ("apart unlimited", "apart unlimited crossbeam"),
         }
     }
 }
+
+/// A buffered channel that keeps so many elements already.
+#[derive(Clone, Copy)]
+pub(crate) struct Filling {
+    pub capacity: u32,
+    pub queued: u32,
+    pub name: &'static str,
+    /// The name of the channel beside it.
+    pub beside: &'static str,
+}
+
+pub(crate) const FILLINGS: [Filling; 4] = [
+    Filling {
+        capacity: 64,
+        queued: 0,
+        name: "0 of 64 queued",
+        beside: "0 of 64 queued crossbeam",
+    },
+    Filling {
+        capacity: 64,
+        queued: 60,
+        name: "60 of 64 queued",
+        beside: "60 of 64 queued crossbeam",
+    },
+    Filling {
+        capacity: 4096,
+        queued: 0,
+        name: "0 of 4096 queued",
+        beside: "0 of 4096 queued crossbeam",
+    },
+    Filling {
+        capacity: 4096,
+        queued: 4000,
+        name: "4000 of 4096 queued",
+        beside: "4000 of 4096 queued crossbeam",
+    },
+];
+
+/// Receivers that were withdrawn before the offers.
+#[derive(Clone, Copy)]
+pub(crate) struct Withdrawn {
+    pub receivers: u32,
+    pub name: &'static str,
+    /// The name of the channel beside it.
+    pub beside: &'static str,
+}
+
+pub(crate) const WITHDRAWN: [Withdrawn; 2] = [
+    Withdrawn {
+        receivers: 0,
+        name: "0 withdrawn",
+        beside: "0 withdrawn crossbeam",
+    },
+    Withdrawn {
+        receivers: 1000,
+        name: "1000 withdrawn",
+        beside: "1000 withdrawn crossbeam",
+    },
+];

@@ -1,71 +1,78 @@
 //! Calls of one pass of a hub.
-ghost use Rattle.std.specs.Prelude.{◌≡◌, ◌≤◌, true, false, [], ◌∷◌, IfOk};
-ghost use Rattle.channel_model.specs.Channels.{is_signal};
-ghost use Rattle.cell_words.specs.Hubs.{IsOf, IsOwn, GivesTags};
-ghost use Rattle.cell_calls.specs.Desks.{desk_floor, desk_anchor};
-ghost use Rattle.word_bench.specs.Channels.{CarriesElements};
+ghost use Rattle.std.specs.Prelude.{◌≡◌, ◌≤◌, ◌<◌, false, [], ◌∷◌, IfOk, length};
+ghost use Rattle.channel_model.specs.Channels.{kind_at, is_signal};
+ghost use Rattle.cell_words.specs.Hubs.{shape_of, IsOf, IsOwn, GivesTags};
+ghost use Rattle.word_bench.specs.Channels.{CarryElements};
 
-use cell_calls::Desk;
 use cell_words::{Hub, Pass};
-use channel_model::{ChannelFloor, Got, Kind, Offered};
-use co_base::{Memory, Tag, Value};
+use channel_model::{Got, Kind, Offered, TriedGot, TriedOffer};
+use co_base::{ChannelId, Memory, Place, Tag, Value};
 use std::alloc::Global;
 
-/// A hub of one channel of this kind with so many places, and the pass of tag 0.
-pub(crate) fn new_hub(alloc: Global, kind: Kind, places: u32) -> Result<(Hub, Pass), Memory>
+/// A hub of two channels of this kind, with so many places each, and the pass of tag 0.
+pub(crate) fn new_hub(
+    alloc: Global,
+    kind: Kind,
+    first: u32,
+    second: u32,
+) -> Result<(Hub, Pass), Memory>
     requires elements { is_signal kind ≡ false }
-    requires some { 1 ≤ places }
-    requires few { places ≤ 1048576 }
-    ensures channel { IfOk result (λ r. CarriesElements r.0) }
+    requires some { (1 ≤ first) × (1 ≤ second) }
+    requires few { (first ≤ 1048576) × (second ≤ 1048576) }
+    ensures channels { IfOk result (λ r. CarryElements r.0) }
     ensures of { IfOk result (λ r. IsOf r.0 r.1) }
+    ensures own { IfOk result (λ r. IsOwn r.0 r.1 0) }
     ensures gives { IfOk result (λ r. GivesTags (0 ∷ []) r.1) }
 {
-    let kinds = [(kind, places)];
+    let kinds = [(kind, first), (kind, second)];
     Hub::new(alloc, &kinds)
 }
 
-/// Offers an element, and answers whether a receiver was there.
-fn offer_on(desk: &mut Desk<'_>, who: Tag, value: Value) -> bool
-    requires channel { CarriesElements desk.old.hub.now }
-    requires caller { (desk_floor desk.old).callers who ≡ true }
-    ensures anchor { desk_anchor desk.new ≡ desk_anchor desk.old }
-    ensures own { IsOwn desk.old.hub.now desk.new.pass.now who }
-{
-    match desk.offer(who, 0, value) {
-        Offered::Handed(_, _) => true,
-        Offered::Put(_) | Offered::Held(_) | Offered::Closed(_) | Offered::Spent => false,
-    }
-}
-
-/// Receives, and answers whether an element was there.
-fn receive_on(desk: &mut Desk<'_>, who: Tag) -> bool
-    requires channel { CarriesElements desk.old.hub.now }
-    requires caller { (desk_floor desk.old).callers who ≡ true }
-    ensures anchor { desk_anchor desk.new ≡ desk_anchor desk.old }
-    ensures own { IsOwn desk.old.hub.now desk.new.pass.now who }
-{
-    match desk.receive(who, 0) {
-        Got::Taken(_, _, _) => true,
-        Got::Waiting(_) | Got::Closed(_) | Got::Spent => false,
-    }
-}
-
-/// Offers an element, and answers whether a receiver was there.
-pub(crate) fn offer(hub: &Hub, pass: &mut Pass, who: Tag, value: Value) -> bool
-    requires channel { CarriesElements hub.now }
+pub(crate) fn offer(hub: &Hub, pass: &mut Pass, who: Tag, c: ChannelId, value: Value) -> Offered
     requires own { IsOwn hub.now pass.old who }
+    requires channel { c < length (shape_of hub.now) }
+    requires kind { is_signal (kind_at (shape_of hub.now) c) ≡ false }
     ensures own { IsOwn hub.now pass.new who }
 {
-    let mut desk = Desk { hub, pass };
-    offer_on(&mut desk, who, value)
+    cell_calls::offer(hub, pass, who, c, value)
 }
 
-/// Receives, and answers whether an element was there.
-pub(crate) fn receive(hub: &Hub, pass: &mut Pass, who: Tag) -> bool
-    requires channel { CarriesElements hub.now }
+pub(crate) fn try_offer(hub: &Hub, pass: &mut Pass, who: Tag, value: Value) -> TriedOffer
     requires own { IsOwn hub.now pass.old who }
+    requires channels { CarryElements hub.now }
     ensures own { IsOwn hub.now pass.new who }
 {
-    let mut desk = Desk { hub, pass };
-    receive_on(&mut desk, who)
+    cell_calls::try_offer(hub, pass, who, 0, value)
+}
+
+pub(crate) fn receive(hub: &Hub, pass: &mut Pass, who: Tag) -> Got
+    requires own { IsOwn hub.now pass.old who }
+    requires channels { CarryElements hub.now }
+    ensures own { IsOwn hub.now pass.new who }
+{
+    cell_calls::receive(hub, pass, who, 0)
+}
+
+pub(crate) fn try_receive(hub: &Hub, pass: &mut Pass, who: Tag, c: ChannelId) -> TriedGot
+    requires own { IsOwn hub.now pass.old who }
+    requires channel { c < length (shape_of hub.now) }
+    ensures own { IsOwn hub.now pass.new who }
+{
+    cell_calls::try_receive(hub, pass, who, c)
+}
+
+pub(crate) fn mark(hub: &Hub, pass: &mut Pass, who: Tag) -> Place
+    requires own { IsOwn hub.now pass.old who }
+    requires channels { CarryElements hub.now }
+    ensures own { IsOwn hub.now pass.new who }
+{
+    cell_calls::mark(hub, pass, who, 0)
+}
+
+pub(crate) fn admit(hub: &Hub, pass: &mut Pass, who: Tag, mark: Place) -> Option<(Place, Tag)>
+    requires own { IsOwn hub.now pass.old who }
+    requires channels { CarryElements hub.now }
+    ensures own { IsOwn hub.now pass.new who }
+{
+    cell_calls::admit(hub, pass, who, 0, mark)
 }

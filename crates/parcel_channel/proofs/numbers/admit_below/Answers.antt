@@ -20,3 +20,6 @@ loop-preserved c =
       caller = still_calls c.args.who (desk_floor c.args.desk.now) (desk_floor d) more c.requires.caller;
       admits = more;
     }
+
+pub returns-in-None-clause-admits : goal.returns-in-None-clause-admits
+returns-in-None-clause-admits c = record { before = desk_floor c.loop.desk; admits = c.loop.invariant.admits; none = c.in-None.ensures.answer }

@@ -1,12 +1,15 @@
 use Rattle.cell_words.proofs.LooksAtCells.{hub_legal}
 use Rattle.cell_calls.specs.HubFloors.{hub_floor}
+use Rattle.parcel_channel.proofs.AdmitsRepeat.{all_admits}
 use Rattle.parcel_channel.proofs.OwnWaits.{plain_admits}
 use Rattle.parcel_channel.proofs.waits.after_held.Goals as goal
 
 pub settle_offer-requires-clause-plain : goal.settle_offer-requires-clause-plain
 settle_offer-requires-clause-plain c =
     let hub = c.args.hub.now in
-    plain_admits c.args.who c.args.w (hub_floor hub c.args.pass.now) (hub_floor hub c.admit.new.pass) (hub_legal hub c.admit.new.pass c.admit.ensures.own.0) c.requires.plain c.admit.ensures.admits
+    let old = hub_floor hub c.args.pass.now in
+    let new = hub_floor hub c.admit.new.pass in
+    plain_admits c.args.who c.args.w old new (hub_legal hub c.admit.new.pass c.admit.ensures.own.0) c.requires.plain (all_admits c.args.who old new c.admit.ensures.admits)
 
 pub returns-clause-answer : goal.returns-clause-answer
 returns-clause-answer c = (hub_floor c.args.hub.now c.admit.new.pass, c.admit.ensures.admits, c.settle_offer.ensures.answer)

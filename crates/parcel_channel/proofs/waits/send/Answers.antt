@@ -1,10 +1,12 @@
 use Rattle.std.proofs.Common.{ℕ, Bool, true, false, sym, subst}
+use Rattle.channel_model.specs.Histories.{Legal}
 use Rattle.channel_model.specs.Floors.{Floor}
 use Rattle.parcel_channel.specs.declared.waits.Placed.{Placed}
 use Rattle.cell_words.proofs.LooksAtCells.{hub_legal}
 use Rattle.cell_calls.specs.HubFloors.{hub_floor}
 use Rattle.parcel_channel.specs.Numbers.{HeldThen, at_once, by_now, Sends, placed_at}
 use Rattle.parcel_channel.proofs.OwnWaits.{offer_plain}
+use Rattle.parcel_channel.proofs.HeldInFull.{held_full}
 use Rattle.parcel_channel.proofs.waits.send.Goals as goal
 
 pub after_held-ended-requires-clause-plain : goal.after_held-ended-requires-clause-plain
@@ -18,9 +20,9 @@ returns-in-Handed-clause-answer c = (c.in-Handed.field-0, c.in-Handed.ensures.an
 pub returns-in-Put-clause-answer : goal.returns-in-Put-clause-answer
 returns-in-Put-clause-answer c = at_once c.in-Put.field-0 c.in-Put.ensures.answer
 
-held_sends : (who k place : ℕ) (old new : Floor) (b : Bool) → HeldThen who k place b old new → Sends who k old new (placed_at b place)
-held_sends who k place old new true h = by_now place h
-held_sends who k place old new false h = h
+held_sends : (who k place : ℕ) (old new : Floor) (b : Bool) → Legal new.shape new.seen → HeldThen who k place b old new → Sends who k old new (placed_at b place)
+held_sends who k place old new true l h = by_now place h
+held_sends who k place old new false l h = (h, held_full who k place old new l h)
 
 pub returns-in-Held-clause-answer : goal.returns-in-Held-clause-answer
 returns-in-Held-clause-answer c =
@@ -28,7 +30,7 @@ returns-in-Held-clause-answer c =
     let old = hub_floor hub c.args.pass.now in
     let new = hub_floor hub c.after_held-ended.new.pass in
     let a = c.after_held-ended.ensures.answer in
-    subst (λ (r : Placed). Sends c.args.who c.args.value old new r) (sym c.held_at.ensures) (held_sends c.args.who c.args.value c.in-Held.place old new c.after_held-ended.result (record {
+    subst (λ (r : Placed). Sends c.args.who c.args.value old new r) (sym c.held_at.ensures) (held_sends c.args.who c.args.value c.in-Held.place old new c.after_held-ended.result (hub_legal hub c.after_held-ended.new.pass c.after_held-ended.ensures.own.0) (record {
       held = hub_floor hub c.offer.new.pass;
       admitted = a.0;
       offered = c.in-Held.ensures.answer;

@@ -1,0 +1,9 @@
+use Rattle.std.proofs.Common.{ℕ, Bool, ap, ◌∙◌}
+use Rattle.cell_calls.specs.HubFloors.{hub_floor}
+use Rattle.cell_calls.proofs.CallersStay.{offer_callers}
+use Rattle.word_bench.proofs.on_passes.offer.Goals as goal
+
+pub returns : goal.returns
+returns c =
+    let same = offer_callers c.args.who c.args.c c.args.value (hub_floor c.args.hub.now c.args.pass.now) (hub_floor c.args.hub.now c.offer.new.pass) c.offer.result c.offer.ensures.answer in
+    record { own = (c.offer.ensures.of, ap (λ (f : ℕ → Bool). f c.args.who) same ∙ c.requires.own.1) }
