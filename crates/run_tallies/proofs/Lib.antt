@@ -1,0 +1,2 @@
+pub mod OneAtATime
+pub mod Tallied

@@ -1,0 +1,12 @@
+pub mod Summed
+pub mod Counting
+pub mod Given
+pub mod Shares
+pub mod Kept
+pub mod ByKind
+pub mod FatesOf
+pub mod Summing
+pub mod OneWaits
+pub mod Tracked
+pub mod Books
+pub mod Declared

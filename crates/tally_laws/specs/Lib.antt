@@ -1,0 +1,7 @@
+pub mod Sums
+pub mod Kinds
+pub mod Counts
+pub mod Elements
+pub mod Tallies
+pub mod Settlings
+pub mod Examples
