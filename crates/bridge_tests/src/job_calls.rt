@@ -1,4 +1,4 @@
-//! Calls on a forest of two coroutines, each made where what it asks was seen.
+//! Calls on a forest of two coroutines, each made if what it asks was seen.
 ghost use Rattle.std.specs.Prelude.{◌≡◌, ◌<◌, ◌∷◌, [], true, is_some};
 ghost use Rattle.job_model.specs.Histories.{replay};
 ghost use Rattle.job_model.specs.Floors.{SameSetting};

@@ -1,4 +1,4 @@
--- That what was told was so: each thing at a moment at which the coroutine had made just the acts that it notes
+-- What was told was so: each thing at a moment at which the coroutine had made just the acts that it notes
 -- before.
 use Rattle.std.specs.Prelude.{◌≡◌, ℕ, List, [], ◌∷◌, ◌++◌}
 use mathlib.Core.List.{IsPrefix}

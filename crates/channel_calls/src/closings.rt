@@ -13,6 +13,8 @@ use note_book::{Item, NoteBook};
 
 impl<F: ChannelFloor, B: NoteBook, W: Wakes> Caller<'_, '_, '_, F, B, W> {
     /// Closes the channel with a value, and tells each receiver that stands there. Answers whether this call closed it.
+    ///
+    /// Example: `send_last` in `docs/LIBRARY.md`.
     pub fn close(&mut self, c: ChannelId, v: Value) -> Result<bool, Memory>
         requires can { MayCall self.old.who c (F.view self.old.floor.now) }
         ensures same { SameCaller F.anchor self.old self.new }

@@ -15,8 +15,10 @@ use co_base::{ChannelId, Memory, Value, WaitId, Wakes};
 use note_book::{Item, NoteBook};
 
 impl<F: ChannelFloor, B: NoteBook, W: Wakes> Caller<'_, '_, '_, F, B, W> {
-    /// Hands an element to the receiver that stands first, leaves it where the channel keeps it, or waits for a receiver or for room.
-    /// Where it offered it admits whoever may be admitted, and then looks at its offer: one that was resolved by then ends here.
+    /// Hands an element to the receiver that stands first, leaves it if the channel keeps it, or waits for a receiver or for room.
+    /// If it offered it admits whoever may be admitted, and then looks at its offer: one that was resolved by then ends here.
+    ///
+    /// Example: `send_last` in `docs/LIBRARY.md`.
     pub fn send(&mut self, c: ChannelId, value: Value) -> Result<SendAnswer, Memory>
         requires can { MayCall self.old.who c (F.view self.old.floor.now) }
         requires kind { is_signal (kind_at (F.view self.old.floor.now).shape c) ≡ false }

@@ -12,7 +12,7 @@ use co_base::{ChannelId, Memory, Value, Wakes};
 use note_book::{Item, NoteBook};
 
 impl<F: ChannelFloor, B: NoteBook, W: Wakes> Caller<'_, '_, '_, F, B, W> {
-    /// Hands an element to the receiver that stands first, or leaves it where the channel keeps it.
+    /// Hands an element to the receiver that stands first, or leaves it if the channel keeps it.
     pub fn try_send(&mut self, c: ChannelId, value: Value) -> Result<TrySendAnswer, Memory>
         requires can { MayCall self.old.who c (F.view self.old.floor.now) }
         requires kind { is_signal (kind_at (F.view self.old.floor.now).shape c) ≡ false }
@@ -56,6 +56,8 @@ impl<F: ChannelFloor, B: NoteBook, W: Wakes> Caller<'_, '_, '_, F, B, W> {
     }
 
     /// Takes the element that came first, and admits whoever waits where the channel has room now.
+    ///
+    /// Example: `receive_or` in `docs/LIBRARY.md`.
     pub fn try_receive(&mut self, c: ChannelId) -> Result<TryReceiveAnswer, Memory>
         requires can { MayCall self.old.who c (F.view self.old.floor.now) }
         ensures same { SameCaller F.anchor self.old self.new }

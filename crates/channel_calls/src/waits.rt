@@ -48,6 +48,8 @@ impl<F: ChannelFloor, B: NoteBook, W: Wakes> Caller<'_, '_, '_, F, B, W> {
 
     /// Ends the caller's wait as cancelled: takes it back, unless it was resolved before, settles it, and admits whoever waits where its
     /// channel has room now.
+    ///
+    /// Example: `cancelled_receive` in `docs/LIBRARY.md`.
     pub fn cancel_wait(&mut self, w: WaitId) -> Result<Settled, Memory>
         requires can { MayCall self.old.who w.channel (F.view self.old.floor.now) }
         requires holds { HoldsWait self.old.who w (F.view self.old.floor.now) }

@@ -148,7 +148,7 @@ pub record WokenAt (who c place t : ℕ) (old new : Floor) : Type 0 where
   pub made : Made who (WakeClosed c place) old new
   pub to : first_receiver (replay made.before) ((replay made.before).channels c).receivers ≡ Some t
 
--- a place and a tag, or nothing where no receiver stands
+-- a place and a tag, or nothing if no receiver stands
 abbrev pub WakeAnswer : ℕ → ℕ → Floor → Floor → Option (ℕ × ℕ) → Type 0
 WakeAnswer who c old new (Some x) = WokenAt who c x.0 x.1 old new
 WakeAnswer who c old new None = Looked who old new × AtStep old new (StandsNobody c)
@@ -159,7 +159,7 @@ WakeAnswer who c old new None = Looked who old new × AtStep old new (StandsNobo
 abbrev pub IsSeenVoided : ℕ → Floor → Type 0
 IsSeenVoided c floor = ((replay floor.seen).channels c).voided ≡ true
 
--- true where this call made the void
+-- true if this call made the void
 abbrev pub VoidAnswer : ℕ → ℕ → Floor → Floor → Bool → Type 0
 VoidAnswer who c old new true = Made who (Void c) old new
 VoidAnswer who c old new false = Looked who old new × IsSeenVoided c new
@@ -173,7 +173,7 @@ pub record DrainedFrom (who c place v : ℕ) (t : Option ℕ) (old new : Floor) 
   pub made : Made who (Drain c place v) old new
   pub from : first_holder (replay made.before) ((replay made.before).channels c).queue ≡ t
 
--- a place, its element and the tag of its sender, or nothing where no offer stands
+-- a place, its element and the tag of its sender, or nothing if no offer stands
 abbrev pub DrainAnswer : ℕ → ℕ → Floor → Floor → Option (ℕ × ℕ × Option ℕ) → Type 0
 DrainAnswer who c old new (Some x) = DrainedFrom who c x.0 x.1 x.2 old new
 DrainAnswer who c old new None = Looked who old new × AtStep old new (StandsNothing c)
@@ -260,7 +260,7 @@ pub record AdmittedAt (who c mark place t : ℕ) (old new : Floor) : Type 0 wher
 abbrev pub IsAdmittedBelow : Shape → ℕ → ℕ → State → Type 0
 IsAdmittedBelow shape c mark s = owes_admission_below (kind_at shape c) mark 0 (s.channels c).queue ≡ false
 
--- a place and a tag, or nothing where no offer below the mark may be admitted
+-- a place and a tag, or nothing if no offer below the mark may be admitted
 abbrev pub AdmitAnswer : ℕ → ℕ → ℕ → Floor → Floor → Option (ℕ × ℕ) → Type 0
 AdmitAnswer who c mark old new (Some x) = AdmittedAt who c mark x.0 x.1 old new
 AdmitAnswer who c mark old new None = Looked who old new × AtStep old new (IsAdmittedBelow old.shape c mark)
@@ -276,11 +276,11 @@ is_put_at c place other = false
 abbrev pub HasPut : ℕ → ℕ → ℕ → Floor → Type 0
 HasPut who c mine floor = list_any (is_put_at c mine) (acts_of who floor.seen) ≡ true
 
--- no more offers stand at places up to this one than the kind keeps, where it drops its oldest
+-- no more offers stand at places up to this one than the kind keeps, if it drops its oldest
 abbrev pub IsTrimmed : Shape → ℕ → ℕ → State → Type 0
 IsTrimmed shape c mine s = drops (kind_at shape c) (offers_up_to mine (s.channels c).queue) ≡ false
 
--- a place and its element, or nothing where nothing is to be dropped up to the own place
+-- a place and its element, or nothing if nothing is to be dropped up to the own place
 abbrev pub TrimAnswer : ℕ → ℕ → ℕ → Floor → Floor → Option (ℕ × ℕ) → Type 0
 TrimAnswer who c mine old new (Some x) = Made who (Drop c x.0 x.1) old new × (x.0 ≤ mine)
 TrimAnswer who c mine old new None = Looked who old new × AtStep old new (IsTrimmed old.shape c mine)

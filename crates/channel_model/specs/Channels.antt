@@ -27,7 +27,7 @@ pub record HasPlaces (places : ℕ) : Type 0 where
 abbrev pub IsShape : Shape → Type 0
 IsShape shape = (c : ℕ) → c < length shape → HasPlaces (places_at shape c)
 
--- where so many offers stand, at least as many stand as the kind keeps without a wait
+-- if so many offers stand, at least as many stand as the kind keeps without a wait
 abbrev pub is_full : Kind → ℕ → Bool
 is_full Rendezvous n = true
 is_full (Buffered k) n = nat_le k n

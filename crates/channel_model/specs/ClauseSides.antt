@@ -9,7 +9,7 @@ use Rattle.channel_model.specs.declared.standing.Resolution.TheVariants.{Handed,
 use Rattle.co_base.specs.declared.names.WaitId.{WaitId}
 use Rattle.channel_model.specs.Channels.{Shape, Wait, kind_at, is_signal, same_wait}
 
--- a clause is given by its side, true where it offers, its number and its channel
+-- a clause is given by its side, true if it offers, its number and its channel
 
 -- the act begins the wait, whose name is the place of its first clause
 abbrev pub BeginsAt : WaitId → Act → Type 0
@@ -42,7 +42,7 @@ abbrev pub IsOpenOrAtClause : Shape → (Bool → ℕ → ℕ → Type 0) → Ty
 IsOpenOrAtClause shape IsClause MayGo None = Unit {0}
 IsOpenOrAtClause shape IsClause MayGo (Some how) = IsAtClause shape IsClause MayGo how
 
--- the wait began, and where it was resolved, so at one of these clauses
+-- the wait began, and if it was resolved, so at one of these clauses
 abbrev pub ResolvedAtClause : Shape → (Bool → ℕ → ℕ → Type 0) → Type 0 → Option Wait → Type 0
 ResolvedAtClause shape IsClause MayGo None = ⊥
 ResolvedAtClause shape IsClause MayGo (Some x) = IsOpenOrAtClause shape IsClause MayGo x.resolved

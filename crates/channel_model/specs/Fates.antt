@@ -142,7 +142,7 @@ is_received c p acts =
 abbrev pub is_taken_back : ℕ → ℕ → List Act → Bool
 is_taken_back c p acts = not (list_any (admits c p) acts) && of_wait (λ w. list_any (withdraws w) acts) (wait_at c p acts)
 
--- given to the undelivered handler: drained, handed to a receiver that gave it up, or offered by a plain send that was
+-- came back undelivered: drained, handed to a receiver that gave it up, or offered by a plain send that was
 -- withdrawn
 abbrev pub is_undelivered_at : ℕ → ℕ → List Act → Bool
 is_undelivered_at c p acts =
@@ -162,7 +162,7 @@ is_withdrawn c p acts =
     || (not (list_any (admits c p) acts) && of_wait (λ w. is_chosen_elsewhere c p w acts) (wait_at c p acts))))
     (first_some (offers_at c p) acts)
 
--- the fate of the element at a place; held where none of the others applies
+-- the fate of the element at a place; held if none of the others applies
 abbrev pub fate_at : ℕ → ℕ → List Act → Fate
 fate_at c p acts =
     if is_received c p acts then fate.Received

@@ -18,7 +18,7 @@ unfoldable pub LegalFrom : Shape → State → List Entry → Type 0
 LegalFrom shape s [] = Unit {0}
 LegalFrom shape s (e ∷ es) = Needs shape s e.who e.act × LegalFrom shape (after s e.who e.act) es
 
--- each entry of the history might come where it comes
+-- each entry of the history might come when it comes
 abbrev pub Legal : Shape → List Entry → Type 0
 Legal shape history = LegalFrom shape start history
 

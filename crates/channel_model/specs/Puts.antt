@@ -20,6 +20,6 @@ follows_put Conflated c place act = drops_up_to c place act
 follows_put (DropOldest k) c place act = drops_up_to c place act
 follows_put Signal c place act = false
 
--- the acts that follow a Put at this place of channel c: drops, where the kind drops its oldest, and else none
+-- the acts that follow a Put at this place of channel c: drops, if the kind drops its oldest, and else none
 abbrev pub after_put : Kind → ℕ → ℕ → List Act → Bool
 after_put kind c place acts = list_all (follows_put kind c place) acts

@@ -1,4 +1,4 @@
--- One step on the channels: the state that an entry leaves, or nothing where the entry may not come.
+-- One step on the channels: the state that an entry leaves, or nothing if the entry may not come.
 use Rattle.std.specs.Prelude.{ℕ, ◌+◌, ◌==◌, nat_le, nat_lt, Bool, true, false, not, ◌&&◌, ◌||◌, List, [], ◌∷◌, length, Option, Some, None, is_none, is_some, if◌then◌else◌}
 use Rattle.std.specs.List.{list_any}
 use Rattle.channel_model.specs.declared.acts.Act.{Act}
@@ -110,7 +110,7 @@ may_come shape s who (WakeClosed c p) =
 may_come shape s who (Withdraw w why) = is_open_of who (s.waits w)
 may_come shape s who (Settle w outcome) = may_settle who outcome (s.waits w)
 
--- the state after the entry, or nothing where it may not come
+-- the state after the entry, or nothing if it may not come
 abbrev pub step : Shape → State → Entry → Option State
 step shape s e = if may_come shape s e.who e.act then Some (after s e.who e.act) else None
 
@@ -118,7 +118,7 @@ abbrev pub or_nothing : Option State → (State → Option State) → Option Sta
 or_nothing None f = None
 or_nothing (Some s) f = f s
 
--- the state after these entries, or nothing where one of them may not come
+-- the state after these entries, or nothing if one of them may not come
 unfoldable pub steps : Shape → State → List Entry → Option State
 steps shape s [] = Some s
 steps shape s (e ∷ es) = or_nothing (step shape s e) (λ t. steps shape t es)

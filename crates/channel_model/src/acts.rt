@@ -23,7 +23,7 @@ pub enum Kind {
 }
 
 impl Kind {
-    /// Whether an element that is offered where so many offers stand is one too many to be kept.
+    /// Whether an element that is offered when so many offers stand is one too many to be kept.
     pub fn is_full(self, standing: usize) -> bool
         ensures { result ≡ is_full self standing }
     {
@@ -34,7 +34,7 @@ impl Kind {
         }
     }
 
-    /// How many elements it keeps, where it drops the oldest for one more.
+    /// How many elements it keeps, if it drops the oldest for one more.
     pub fn drops_beyond(self) -> Option<u32>
         ensures { MatchOption result ((n : ℕ) → drops self n ≡ false) (λ capacity. (n : ℕ) → drops self n ≡ nat_lt capacity n) }
     {
@@ -217,7 +217,7 @@ pub enum ChannelNote {
 #[derive(Clone, Copy, Debug, PartialEq, Eq)]
 pub enum Fate {
     Received,
-    /// Given to the undelivered handler.
+    /// Drained, given up by the receiver that it was handed to, or taken back by a plain send.
     Undelivered,
     /// Removed by a channel that keeps the newest alone.
     Dropped,

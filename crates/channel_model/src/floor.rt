@@ -108,7 +108,7 @@ pub trait ChannelFloor {
         ensures ok { OnOk result (HasRoom n (view self.old) (view self.new)) }
         ensures err { OnErr result (view self.new ≡ view self.old) };
 
-    /// Offers an element, and waits where the channel keeps no more.
+    /// Offers an element, and waits if the channel keeps no more.
     fn offer(&mut self, who: Tag, c: ChannelId, value: Value) -> Offered
         requires can { MayCall who c (view self.old) }
         requires room { 0 < (view self.old).spare }
@@ -138,7 +138,7 @@ pub trait ChannelFloor {
         ensures anchor { anchor self.new ≡ anchor self.old }
         ensures answer { TriedGotAnswer who c (view self.old) (view self.new) result };
 
-    /// Places a select's clause that offers an element. It waits even where the channel would keep the element, and hands
+    /// Places a select's clause that offers an element. It waits even if the channel would keep the element, and hands
     /// it to nobody.
     ///
     /// `main` is the select's wait, or `None` where none of its clauses was placed yet: then a wait begins here, with the
@@ -241,7 +241,7 @@ pub trait ChannelFloor {
         ensures anchor { anchor self.new ≡ anchor self.old }
         ensures answer { AdmitAnswer who c mark (view self.old) (view self.new) result };
 
-    /// Drops the first offer of a channel that drops its oldest, where more stand up to the place that an own Put took
+    /// Drops the first offer of a channel that drops its oldest, if more stand up to the place that an own Put took
     /// than it keeps: its place, and its element. On a channel of another kind it answers `None`.
     fn trim(&mut self, who: Tag, c: ChannelId, mine: Place) -> Option<(Place, Value)>
         requires can { MayCall who c (view self.old) }

@@ -16,15 +16,15 @@ ghost use Rattle.channel_model.specs.Owing.{OwesNothing};
 ghost use Rattle.channel_model.specs.Steps.{step, steps};
 ghost use Rattle.co_base.specs.declared.names.WaitId.{WaitId};
 
-/// A history that goes on leaves what its rest makes of the state before, and is legal exactly where its beginning is and its
+/// A history that goes on leaves what its rest makes of the state before, and is legal exactly if its beginning is and its
 /// rest is from there.
 pub fn appended_histories()
     ensures replayed { (xs ys : List Entry) → replay (xs ++ ys) ≡ replay_from (replay xs) ys }
     ensures legal { (shape : Shape) (xs ys : List Entry) → Legal shape (xs ++ ys) ↔ (Legal shape xs × LegalFrom shape (replay xs) ys) }
 {}
 
-/// A step leaves what its entry makes of the state, and is taken exactly where the entry may come; all steps of a history are
-/// taken exactly where it is legal.
+/// A step leaves what its entry makes of the state, and is taken exactly if the entry may come; all steps of a history are
+/// taken exactly if it is legal.
 pub fn a_step_is_taken_exactly_where_its_entry_may_come()
     ensures one { (shape : Shape) (s t : State) (e : Entry)
         → (step shape s e ≡ Some t) ↔ (Needs shape s e.who e.act × (after s e.who e.act ≡ t)) }
@@ -38,7 +38,7 @@ pub fn a_wait_is_resolved_and_settled_at_most_once()
     ensures settled { (shape : Shape) (history : List Entry) (w : WaitId) → Legal shape history → settlements_of w history ≤ 1 }
 {}
 
-/// After a legal history a wait is resolved exactly where one entry resolved it, and has ended exactly where one entry ended it.
+/// After a legal history a wait is resolved exactly if one entry resolved it, and has ended exactly if one entry ended it.
 pub fn a_wait_is_resolved_exactly_where_one_entry_resolves_it()
     ensures resolved { (shape : Shape) (history : List Entry) (w : WaitId) → Legal shape history
         → (resolutions_of w history ≡ 1) ↔ IsResolvedWait ((replay history).waits w) }
@@ -46,7 +46,7 @@ pub fn a_wait_is_resolved_exactly_where_one_entry_resolves_it()
         → (settlements_of w history ≡ 1) ↔ IsSettledWait ((replay history).waits w) }
 {}
 
-/// After a legal history a channel is closed exactly where one entry closed it, and cancelled exactly where one entry cancelled
+/// After a legal history a channel is closed exactly if one entry closed it, and cancelled exactly if one entry cancelled
 /// it; so at most two entries end a channel.
 pub fn a_channel_is_closed_exactly_where_one_entry_closes_it()
     ensures closed { (shape : Shape) (history : List Entry) (c : ℕ) → Legal shape history
@@ -104,7 +104,7 @@ pub fn what_was_done_stays_done()
         → IsSettledAs outcome ((replay xs).waits w) → IsSettledAs outcome ((replay (xs ++ ys)).waits w) }
 {}
 
-/// Where all acts offer, receive or end a wait, every channel stays open, and a wait is resolved by an exchange alone. Where
+/// If all acts offer, receive or end a wait, every channel stays open, and a wait is resolved by an exchange alone. If
 /// no channel keeps elements either, nothing is owed to anybody.
 pub fn plain_histories_owe_nothing()
     ensures plain { (history : List Entry) → is_plain_history history ≡ true → IsPlain (replay history) }
@@ -112,7 +112,7 @@ pub fn plain_histories_owe_nothing()
         → keeps_none (kind_at shape c) ≡ true) → OwesNothing shape (replay history) }
 {}
 
-/// Where a send's own offer still waits, and no offer below a mark above its place may be admitted, at least as many offers as the
+/// If a send's own offer still waits, and no offer below a mark above its place may be admitted, at least as many offers as the
 /// channel keeps stood there when it was placed.
 pub fn a_send_that_waits_was_placed_in_a_full_channel()
     ensures { (shape : Shape) (xs ys : List Entry) (who c p v mark : ℕ) → Legal shape (xs ++ plain_offer who c p v ∷ ys) → p < mark

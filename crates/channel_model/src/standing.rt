@@ -13,7 +13,7 @@ pub struct Party {
     pub clause: u8,
 }
 
-/// An offer in a queue. It is buffered where it has no holder.
+/// An offer in a queue. It is buffered if it has no holder.
 #[derive(Clone, Copy, Debug, PartialEq, Eq)]
 pub struct Standing {
     pub place: Place,
@@ -48,10 +48,10 @@ pub enum Resolution {
     Voided,
 }
 
-/// How a wait that was so resolved ends, where its Job was cancelled before it was dispatched, and where not.
+/// How a wait that was so resolved ends, if its Job was cancelled before it was dispatched, and if not.
 ///
 /// A receive that is cancelled after it was given an element gives the element up; a send that is cancelled ends as
-/// cancelled also where its element was received.
+/// cancelled even if its element was received.
 pub fn outcome(how: Resolution, cancelled: bool) -> Settled
     ensures { result ≡ outcome_of how cancelled }
 {

@@ -1,5 +1,5 @@
 //! What all crates share: the names of tags, channels, places and waits, the plain errors, and the edges of the product. Bytes come from a
-//! `Source` and go to a `Sink`, each with a count of its failures, so that a failure is answered only where one happened; a `Gate` stands
+//! `Source` and go to a `Sink`, each with a count of its failures, so that a failure is answered only if one happened; a `Gate` stands
 //! between steps on shared state, and `Wakes` asks for polls.
 //!
 //! - `names.rt`: names and errors

@@ -20,7 +20,7 @@ pub trait Source {
     // The number of failures so far, which stands still at its last value.
     ghost faults: { Self → ℕ };
 
-    // The bytes still to come, where they are told.
+    // The bytes still to come, if they are told.
     ghost left: { Self → Option (List ℕ) };
 
     /// Writes the next bytes into the front of `buf` and gives their number. No bytes for a buffer that has room say that the input has
@@ -42,7 +42,7 @@ pub trait Sink {
     // The number of failures so far, which stands still at its last value.
     ghost faults: { Self → ℕ };
 
-    // The bytes taken so far, where they are told.
+    // The bytes taken so far, if they are told.
     ghost held: { Self → Option (List ℕ) };
 
     /// Takes bytes from the front of the piece and gives their number.

@@ -14,6 +14,8 @@ use co_base::{Place, Value};
 
 impl Counted {
     /// Draws a cell and sends there: waits for the receiver of the cell, or meets it.
+    ///
+    /// Example: `send_or_leave` in `docs/LIBRARY.md`.
     pub fn send(&self, pass: &mut CountedPass, value: Value) -> CountedSend
         requires of { IsOf self.now pass.old }
         ensures of { IsOf self.now pass.new }
@@ -50,6 +52,8 @@ impl Counted {
     }
 
     /// Gives up in a cell where the pass was answered Waits, unless its partner came first.
+    ///
+    /// Example: `send_or_leave` in `docs/LIBRARY.md`.
     pub fn give_up(&self, pass: &mut CountedPass, place: Place) -> GaveUp
         requires of { IsOf self.now pass.old }
         requires place { place < self.now.cells }
@@ -71,6 +75,8 @@ impl Counted {
     }
 
     /// How a call stands that was answered Waits.
+    ///
+    /// Example: `two_sends` in `docs/LIBRARY.md`.
     pub fn look(&self, pass: &mut CountedPass, place: Place) -> CountedState
         requires of { IsOf self.now pass.old }
         requires place { place < self.now.cells }

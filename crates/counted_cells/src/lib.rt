@@ -10,7 +10,7 @@
 //! |---|---|---|---|---|
 //! | send counter | n | n + 1 | a sender | that cell n is its own, or that no cell is left |
 //! | receive counter | n | n + 1 | a receiver | the same |
-//! | cell | Free | Waits | the sender or receiver who drew it, where it came first | that it waits |
+//! | cell | Free | Waits | the sender or receiver who drew it, if it came first | that it waits |
 //! | cell | Waits | Paired | who drew it for the other side | that the two meet, and the value is received |
 //! | cell | Waits | Broken | who waits there | that it gave up |
 //!

@@ -59,7 +59,7 @@ pub record WaitsAt (who c place : ℕ) (old new : Floor) : Type 0 where
 
 -- ---- the end of the elements
 
--- the close of the channel with this value was seen, and nothing was left of it at a moment of the span behind the close
+-- the close of the channel with this value was seen, and nothing was left of it at a moment of the span after the close
 pub record EndsAs (c value : ℕ) (old new : Floor) : Type 0 where
   pub closed : ((replay new.seen).channels c).closed ≡ Some value
   pub drained : AtStep old new (IsDrainedAndClosed c)

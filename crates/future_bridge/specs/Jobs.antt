@@ -92,7 +92,7 @@ pub record JobEnds (hub : Hub) (pass : Pass) (forest : Forest) (jobs : JobPass) 
 
 -- ---- in the words of the future
 
--- a future that may be polled has a state, and has ended where it has none
+-- a future that may be polled has a state, and has ended if it has none
 abbrev pub FutureStands : JobFuture → Type 0
 FutureStands f = IsSomeAnd f.state JobStands
 

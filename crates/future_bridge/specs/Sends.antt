@@ -15,7 +15,7 @@ use Rattle.future_bridge.specs.declared.send_steps.SendStep.TheVariants as step
 
 -- ---- acts
 
--- an offer at place q, and the admits behind it
+-- an offer at place q, and the admits after it
 abbrev pub offer_acts : ℕ → ℕ → ℕ → List ℕ → List Act
 offer_acts c v q admits = Offer c q v (wait_at c q) 0 ∷ map (λ p. Admit c p) admits
 
@@ -83,7 +83,7 @@ pub record AdmitsFirst (who c : ℕ) (old new : Floor) : Type 0 where
   pub admits : AdmitsAll who c old admitted
   pub longer : IsPrefix admitted.seen new.seen
 
--- nothing follows a Hand; the oldest are dropped behind a Put; behind an offer those are admitted for whom there is room
+-- nothing follows a Hand; the oldest are dropped after a Put; after an offer those are admitted for whom there is room
 pub data Follows (who c v : ℕ) (old new : Floor) : Type 0 where
   hands : (q : ℕ) → Added who (Hand c q v ∷ []) old new → Follows who c v old new
   puts : (q : ℕ) (put : Floor) → Added who (Put c q v ∷ []) old put → TrimsAll who c q put new → Follows who c v old new

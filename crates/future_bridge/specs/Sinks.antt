@@ -58,7 +58,7 @@ ActedBy old P new = Acted old.who P (sink_floor old) (sink_floor new)
 
 -- ---- a flush
 
--- the acts with which an offer ends that was received or kept; none where none waits
+-- the acts with which an offer ends that was received or kept; none if none waits
 abbrev pub EndsSent : ℕ → Option (ℕ × ℕ) → List Act → Type 0
 EndsSent c None acts = acts ≡ []
 EndsSent c (Some x) acts = (k : ℕ) × (acts ≡ Settle (wait_at c x.0) (settled.Sent k) ∷ [])

@@ -46,7 +46,7 @@ pub record IsNew (hub : Hub) (pass : Pass) (who c : ℕ) (s : ReceiveStream) : T
 
 -- ---- what it yields
 
--- elements, and at most one fault behind them, which is the last; nothing once it has ended
+-- elements, and at most one fault after them, which is the last; nothing once it has ended
 unfoldable pub RunsSo : Bool → List (Result ℕ Spent) → Option (Result ℕ Spent) → Type 0
 RunsSo true xs last = (xs ≡ []) × (last ≡ None)
 RunsSo false [] last = Unit {0}

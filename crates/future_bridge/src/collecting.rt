@@ -69,6 +69,8 @@ impl<'a> Future for CollectAll<'a> {
 
 /// Receives all elements of a channel, until it is closed and empty, or has no place left, and gives the pass back.
 /// At both errors the pass is dropped, and its entries stand.
+///
+/// Example: `all_elements` in `docs/LIBRARY.md`.
 pub fn collect_all<D: Drive>(
     alloc: Global,
     drive: &mut D,

@@ -31,7 +31,7 @@ pub trait Drive {
         ensures rises { faults self.old ≤ faults self.new };
 }
 
-/// Drives futures on the thread that calls, which waits where a future does.
+/// Drives futures on the thread that calls, which waits when a future does.
 #[derive(Drop)]
 pub struct HostDrive<'a, R> {
     rt: &'a R,

@@ -36,8 +36,8 @@ pub struct JobWait<'hub, 'forest> {
     pub(crate) wait: Option<Place>,
 }
 
-/// Waits for the end of a Job, which its first poll starts where it is New, and gives both passes back. It ends with the
-/// value that the Job's done channel was closed with, or with `Spent` where the done channel has no place left.
+/// Waits for the end of a Job, which its first poll starts if it is New, and gives both passes back. It ends with the
+/// value that the Job's done channel was closed with, or with `Spent` if the done channel has no place left.
 #[derive(Drop)]
 pub struct JobFuture<'hub, 'forest> {
     pub(crate) state: Option<JobWait<'hub, 'forest>>,
@@ -131,8 +131,10 @@ impl<'hub, 'forest> Future for JobFuture<'hub, 'forest> {
     }
 }
 
-/// Waits for the end of a Job, which it starts where it is New, and gives both passes back. Where the drive fails both
+/// Waits for the end of a Job, which it starts if it is New, and gives both passes back. If the drive fails both
 /// are dropped, and their entries stand.
+///
+/// Example: `result_awaited` in `docs/LIBRARY.md`.
 pub fn await_job<D: Drive>(
     drive: &mut D,
     hub: &Hub,

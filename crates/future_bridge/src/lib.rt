@@ -2,7 +2,7 @@
 //! future of a Job.
 //!
 //! Each of them owns its pass and gives it back at its end, since nothing is known afterwards of what a future borrowed.
-//! A poll makes calls on the hub, and never waits. It is pending only where its wait was standing at a moment of the
+//! A poll makes calls on the hub, and never waits. It is pending only if its wait was standing at a moment of the
 //! poll, and asks then to be polled again. A future of a whole list takes one element a poll, and yields.
 //!
 //! - `drives`: what drives a future to its end

@@ -81,7 +81,9 @@ impl<'hub, 'list> Future for SendList<'hub, 'list> {
 }
 
 /// Sends the elements of a list in order, each after the one before was received or kept, and gives the pass back.
-/// Where the drive fails the pass is dropped, and its entries stand.
+/// If the drive fails the pass is dropped, and its entries stand.
+///
+/// Example: `send_and_close` in `docs/LIBRARY.md`.
 pub fn send_list<D: Drive>(
     drive: &mut D,
     hub: &Hub,

@@ -78,7 +78,7 @@ impl<'a> SendSink<'a> {
         pass
     }
 
-    /// Looks at the offer, if one waits, and ends it where it was resolved.
+    /// Looks at the offer, if one waits, and ends it if it was resolved.
     fn flush(&mut self) -> Flush
         requires stands { SinkStands self.old }
         ensures stands { SinkStands self.new }

@@ -11,7 +11,7 @@ use co_base::{Place, Row, Tag};
 use job_model::JobFloor;
 use job_words::{Forest, JobPass, Ranger};
 
-/// Starts the Job, where it is New, on the floor of one pass.
+/// Starts the Job, if it is New, on the floor of one pass.
 fn start_on(ranger: &mut Ranger<'_>, who: Tag, row: Row)
     requires can { MayCall who row (ranger_floor ranger.old) }
     ensures anchor { ranger_anchor ranger.new ≡ ranger_anchor ranger.old }
@@ -22,7 +22,7 @@ fn start_on(ranger: &mut Ranger<'_>, who: Tag, row: Row)
     let _started = ranger.start(who, row);
 }
 
-/// Starts the Job, where it is New.
+/// Starts the Job, if it is New.
 fn start_by(forest: &Forest, pass: &mut JobPass, who: Tag, row: Row)
     requires own { IsOwn forest.now pass.old who }
     requires row { RowStands row pass.old None }

@@ -69,7 +69,7 @@ fn receive_next(hub: &Hub, pass: &mut Pass, who: Tag, c: ChannelId) -> Step
     }
 }
 
-/// Looks at the own wait, and ends it where it was resolved.
+/// Looks at the own wait, and ends it if it was resolved.
 fn look_again(hub: &Hub, pass: &mut Pass, who: Tag, c: ChannelId, place: Place) -> Step
     requires own { IsOwn hub.now pass.old who }
     requires channel { c < length (shape_of hub.now) }
@@ -92,7 +92,7 @@ fn look_again(hub: &Hub, pass: &mut Pass, who: Tag, c: ChannelId, place: Place) 
     }
 }
 
-/// One step: a receive where none waits, else a look at its wait.
+/// One step: a receive if none waits, else a look at its wait.
 pub(crate) fn step_on(
     hub: &Hub,
     pass: &mut Pass,

@@ -63,12 +63,12 @@ abbrev pub is_owed : Ended → Bool
 is_owed Owes = true
 is_owed Waits = false
 
--- Owes exactly where no child of the Job lived at the entry
+-- Owes exactly if no child of the Job lived at the entry
 pub record EndBodyAnswer (who row value : ℕ) (old new : Floor) (result : Ended) : Type 0 where
   pub made : Made who (EndBody row value) [] old new
   pub owes : is_owed result ≡ is_childless (replay made.before row)
 
--- Owes exactly where the parent's body had ended and no child of it lived after the entry
+-- Owes exactly if the parent's body had ended and no child of it lived after the entry
 pub record GoneAnswer (who row : ℕ) (old new : Floor) (result : Ended) : Type 0 where
   pub made : Made who (Gone row) [] old new
   pub owes : is_owed result ≡ is_done (parent_row (replay new.seen) row)

@@ -12,7 +12,7 @@ pub record IsAllCancelled (tree : Tree) (row : ℕ) : Type 0 where
   pub here : IsCancellingOrEnded (tree row)
   pub below : AllBelowCancelled tree row
 
--- the Cancel of a Job, where it was made
+-- the Cancel of a Job, if it was made
 abbrev pub own_cancel : Bool → ℕ → Reason → List JobAct
 own_cancel true row reason = Cancel row reason ∷ []
 own_cancel false row reason = []

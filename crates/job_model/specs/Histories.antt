@@ -18,7 +18,7 @@ unfoldable pub LegalFrom : Shape → Tree → List JobEntry → Type 0
 LegalFrom shape tree [] = Unit {0}
 LegalFrom shape tree (e ∷ es) = Needs shape tree e.who e.act × LegalFrom shape (after tree e.who e.act) es
 
--- each entry of the history might come where it comes
+-- each entry of the history might come when it comes
 abbrev pub Legal : Shape → List JobEntry → Type 0
 Legal shape history = LegalFrom shape start history
 

@@ -41,8 +41,8 @@ is_cause because.None = false
 is_cause because.Request = true
 is_cause (because.Failure f) = true
 
--- a Job has a finisher exactly where it has ended, and then no child of it lives; in each state but Cancelling it is
--- fixed whether its body has ended; it has a cause exactly where it is Cancelling or Cancelled
+-- a Job has a finisher exactly if it has ended, and then no child of it lives; in each state but Cancelling it is
+-- fixed whether its body has ended; it has a cause exactly if it is Cancelling or Cancelled
 pub record IsSoundJob (j : Job) : Type 0 where
   pub finished : is_some j.finisher ≡ is_ended j.state
   pub running : is_running j.state ≡ true → j.body_ended ≡ false

@@ -17,7 +17,7 @@ use Rattle.job_model.specs.Trees.{Shape, Job, Tree, is_new, is_cancellable, is_c
 abbrev pub IsRowFor : Shape → ℕ → JobKind → ℕ → ℕ → Type 0
 IsRowFor shape who kind tag r = MatchBool kind.scoped ((tag ≡ who) × (shape.coroutines ≤ r) × (r < shape.rows)) (r ≡ tag)
 
--- it is attached and has not ended, and is Cancelling exactly where the child is cancelled at once
+-- it is attached and has not ended, and is Cancelling exactly if the child is cancelled at once
 abbrev pub MayHaveChild : Bool → Option Job → Type 0
 MayHaveChild cancelled None = ⊥
 MayHaveChild cancelled (Some j) = (is_ended j.state ≡ false) × (is_cancelling j.state ≡ cancelled)

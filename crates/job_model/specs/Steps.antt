@@ -29,7 +29,7 @@ abbrev pub is_row_for : Shape → ℕ → JobKind → ℕ → ℕ → Bool
 is_row_for shape who kind tag r =
     if kind.scoped then (tag == who) && (nat_le shape.coroutines r && nat_lt r shape.rows) else r == tag
 
--- it is attached and has not ended, and is Cancelling exactly where the child is cancelled at once
+-- it is attached and has not ended, and is Cancelling exactly if the child is cancelled at once
 abbrev pub may_have_child : Bool → Option Job → Bool
 may_have_child cancelled None = false
 may_have_child cancelled (Some j) = not (is_ended j.state) && is_same (is_cancelling j.state) cancelled
@@ -111,11 +111,11 @@ may_make shape tree who (Gone r) = may_tell who r tree
 
 -- ---- steps
 
--- the tree after an entry, or nothing where a need of it fails
+-- the tree after an entry, or nothing if a need of it fails
 abbrev pub step : Shape → Tree → JobEntry → Option Tree
 step shape tree e = if may_make shape tree e.who e.act then Some (after tree e.who e.act) else None
 
--- the tree after a history, or nothing where a step of it is none
+-- the tree after a history, or nothing if a step of it is none
 unfoldable pub steps_from : Shape → Tree → List JobEntry → Option Tree
 steps_from shape tree [] = Some tree
 steps_from shape tree (e ∷ es) = option_and_then (λ (next : Tree). steps_from shape next es) (step shape tree e)

@@ -119,7 +119,7 @@ pub trait JobFloor {
         ensures anchor { anchor self.new ≡ anchor self.old }
         ensures answer { AttachAnswer who parent kind tag (view self.old) (view self.new) result };
 
-    /// Starts the Job, where it is New.
+    /// Starts the Job, if it is New.
     fn start(&mut self, who: Tag, row: Row) -> bool
         requires can { MayCall who row (view self.old) }
         requires room { 0 < (view self.old).spare }
@@ -142,7 +142,7 @@ pub trait JobFloor {
         ensures anchor { anchor self.new ≡ anchor self.old }
         ensures answer { CancelAnswer who row reason (view self.old) (view self.new) result };
 
-    /// Ends the Job, where its body has ended and none of its children lives.
+    /// Ends the Job, if its body has ended and none of its children lives.
     fn finish(&mut self, who: Tag, row: Row) -> Finished
         requires can { MayCall who row (view self.old) }
         requires room { 0 < (view self.old).spare }

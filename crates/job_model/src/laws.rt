@@ -14,15 +14,15 @@ ghost use Rattle.job_model.specs.Steps.{step, steps_from};
 ghost use Rattle.job_model.specs.Families.{IsBelow, IsEnded};
 ghost use Rattle.job_model.specs.Laws.{HasFamilies, RowGoesTo, ActTakes, row_of_act, HasNoOtherValue, cause_kept, cause_given_in, has, OncePerRow, IsByEntries};
 
-/// A history that goes on leaves what its rest makes of the tree before, and is legal exactly where its beginning is and
+/// A history that goes on leaves what its rest makes of the tree before, and is legal exactly if its beginning is and
 /// its rest is from there.
 pub fn appended_histories()
     ensures replayed { (xs ys : List Entry) → replay (xs ++ ys) ≡ replay_from (replay xs) ys }
     ensures legal { (shape : Shape) (xs ys : List Entry) → Legal shape (xs ++ ys) ↔ (Legal shape xs × LegalFrom shape (replay xs) ys) }
 {}
 
-/// A step is made exactly where the need of its act holds, and gives the tree after it; else it gives nothing. A history
-/// is legal exactly where each of its steps is made.
+/// A step is made exactly if the need of its act holds, and gives the tree after it; else it gives nothing. A history
+/// is legal exactly if each of its steps is made.
 pub fn a_step_is_made_exactly_where_its_need_holds()
     ensures made { (shape : Shape) (tree : Tree) (e : Entry) →
         Needs shape tree e.who e.act ↔ (step shape tree e ≡ Some (after tree e.who e.act)) }
@@ -44,7 +44,7 @@ pub fn descendants_of_an_ended_job_have_ended()
         IsEnded (replay history row) → IsBelow (replay history) row d → IsEnded (replay history d) }
 {}
 
-/// Where a Job finishes, each child that it ever has finished before.
+/// If a Job finishes, each child that it ever has finished before.
 pub fn children_finish_before_their_parent()
     ensures { (shape : Shape) (xs ys : List Entry) (who row c : ℕ) (end : AnEnd) →
         Legal shape (xs ++ record { who = who; act = Finish row end } ∷ ys) →
@@ -67,12 +67,12 @@ pub fn states_go_as_each_act_says()
         row ≢ row_of_act e.act → state_of (replay (xs ++ e ∷ []) row) ≡ state_of (replay xs row) }
 {}
 
-/// The value of a Job is 0 where it is neither Completing nor Completed.
+/// The value of a Job is 0 if it is neither Completing nor Completed.
 pub fn only_results_are_kept()
     ensures { (shape : Shape) (history : List Entry) (row : ℕ) → Legal shape history → HasNoOtherValue (replay history row) }
 {}
 
-/// The cause of a Job that is Cancelling or Cancelled is that of its first Cancel, or Request where it was attached so.
+/// The cause of a Job that is Cancelling or Cancelled is that of its first Cancel, or Request if it was attached so.
 pub fn a_job_keeps_its_first_cause()
     ensures { (shape : Shape) (history : List Entry) (row : ℕ) → Legal shape history →
         cause_kept (replay history row) ≡ cause_given_in row history }
@@ -83,7 +83,7 @@ pub fn each_act_is_done_with_a_row_at_most_once()
     ensures { (shape : Shape) (history : List Entry) (row : ℕ) → Legal shape history → OncePerRow row history }
 {}
 
-/// A row is attached, has ended its body, has ended, or was told gone exactly where an entry says so; the root is attached
+/// A row is attached, has ended its body, has ended, or was told gone exactly if an entry says so; the root is attached
 /// without one.
 pub fn a_row_is_what_its_entries_say()
     ensures { (shape : Shape) (history : List Entry) (row : ℕ) → Legal shape history → IsByEntries row history (replay history) }

@@ -52,7 +52,7 @@ pub(crate) enum Rise {
 }
 
 impl<F: JobFloor, B: NoteBook, W: Wakes> JobCaller<'_, '_, '_, F, B, W> {
-    /// Ends one Job, where it may end, and tells its parent.
+    /// Ends one Job, if it may end, and tells its parent.
     fn finish_one<E: Ends<B, W>>(&mut self, row: Row, ends: &mut E) -> Result<Rise, Memory>
         requires can { MayCall self.old.who row (F.view self.old.floor.now) }
         ensures same { SameCaller F.anchor self.old self.new }
@@ -83,7 +83,7 @@ impl<F: JobFloor, B: NoteBook, W: Wakes> JobCaller<'_, '_, '_, F, B, W> {
         }
     }
 
-    /// Ends a Job, where it may end, and then its parents, as far as the end of a child was all that they waited for.
+    /// Ends a Job, if it may end, and then its parents, as far as the end of a child was all that they waited for.
     /// Memory: what was done so far stands and is noted.
     pub fn finish_up<E: Ends<B, W>>(&mut self, row: Row, ends: &mut E) -> Result<(), Memory>
         requires can { MayCall self.old.who row (F.view self.old.floor.now) }

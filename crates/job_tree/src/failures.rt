@@ -58,7 +58,7 @@ impl<F: JobFloor, B: NoteBook, W: Wakes> JobCaller<'_, '_, '_, F, B, W> {
         }
     }
 
-    /// As `fail_up`. Memory, which comes only where room is made as it goes: the Cancels made so far stand and are noted.
+    /// As `fail_up`. Memory, which comes only if room is made as it goes: the Cancels made so far stand and are noted.
     /// Each pass leaves out what the one before it walked, so that a chain costs in step with its length.
     pub fn climb(&mut self, row: Row, reserve: Reserve) -> Result<(), Memory>
         requires can { MayCall self.old.who row (F.view self.old.floor.now) }

@@ -76,6 +76,8 @@ impl<F: JobFloor, B: NoteBook, W: Wakes> JobCaller<'_, '_, '_, F, B, W> {
 
     /// Cancels a Job and all below it, the newest child first, and answers how many it cancelled. Asks that the
     /// coroutine of each of these be polled. Takes no memory.
+    ///
+    /// Example: `cancel_family` in `docs/LIBRARY.md`.
     pub fn cancel_pass(&mut self, row: Row, reason: Reason) -> u32
         requires can { MayCall self.old.who row (F.view self.old.floor.now) }
         requires reason { Holds (F.view self.old.floor.now).shape (replay (F.view self.old.floor.now).seen) self.old.who row reason }
@@ -91,7 +93,7 @@ impl<F: JobFloor, B: NoteBook, W: Wakes> JobCaller<'_, '_, '_, F, B, W> {
         }
     }
 
-    /// As `cancel_pass`, and answers besides whether the Job itself was cancelled now. Memory, which comes only where room is made as
+    /// As `cancel_pass`, and answers besides whether the Job itself was cancelled now. Memory, which comes only if room is made as
     /// the pass goes: the Cancels made so far stand and are noted.
     pub fn pass(&mut self, row: Row, reason: Reason, reserve: Reserve) -> Result<Passed, Memory>
         requires can { MayCall self.old.who row (F.view self.old.floor.now) }

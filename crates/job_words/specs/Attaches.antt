@@ -62,7 +62,7 @@ pub record HasLost (who : ℕ) (v w : Seen) : Type 0 where
   pub goes : Goes who [] v w
   pub grew : Grew v w
 
--- who made the act as the last step, where the Job word of the row was old
+-- who made the act as the last step, if the Job word of the row was old
 pub record ActedNow (who row : ℕ) (old : JobWord) (act : JobAct) (v w : Seen) : Type 0 where
   pub before : Seen
   pub goes : Goes who [] v before

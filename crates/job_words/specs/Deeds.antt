@@ -121,7 +121,7 @@ DeedNeeds shape s (Claim who r) = (s.claimer r ≡ None) × (r < shape.rows)
 DeedNeeds shape s (StoreLink who r w) = (s.claimer r ≡ Some who) × (s.tree r ≡ None) × IsLinkTo s w × (w < 140737488355328)
 DeedNeeds shape s (StoreJob who r w) = (s.claimer r ≡ Some who) × (s.tree r ≡ None) × (0 < w)
 
--- each deed might come where it comes, after s
+-- each deed might come when it comes, after s
 unfoldable pub DoneFrom : Shape → Store → List Deed → Type 0
 DoneFrom shape s [] = Unit {0}
 DoneFrom shape s (d ∷ ds) = DeedNeeds shape s d × DoneFrom shape (after_deed s d) ds

@@ -6,7 +6,7 @@ use Rattle.job_model.specs.Families.{older_sibling}
 use Rattle.job_model.specs.Histories.{replay}
 use Rattle.job_words.specs.Rows.{job_code, link_code, word_of, link_word_of}
 
--- a row that is not attached has the Job word 0 exactly where nobody claimed it; one that is has that of its Job
+-- a row that is not attached has the Job word 0 exactly if nobody claimed it; one that is has that of its Job
 abbrev pub IsJobWord : Option ℕ → Option Job → ℕ → Type 0
 IsJobWord claimer None n = (n ≡ 0) ↔ (claimer ≡ None)
 IsJobWord claimer (Some j) n = n ≡ job_code (word_of j)

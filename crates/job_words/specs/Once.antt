@@ -1,4 +1,4 @@
--- That deeds might come where they came has one proof.
+-- The fact that deeds might come when they came has one proof.
 use Rattle.std.specs.Prelude.{ℕ, List, [], ◌∷◌}
 use Rattle.std.specs.Coded.{×_prop, Unit-prop}
 use Rattle.std.proofs.Props.{props}

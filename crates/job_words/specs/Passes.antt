@@ -55,7 +55,7 @@ pub record Sees (who : ℕ) (v w : Seen) : Type 0 where
   pub idle : w.heard_tags ≡ []
   pub done : IsDone (shape_of v.key) w.seen
 
--- who did d, after what others may have done, where this word was old
+-- who did d, after what others may have done, if this word was old
 pub record Does (who : ℕ) (d : Deed) (word old : ℕ) (v w : Seen) : Type 0 where
   pub others : List Deed
   pub seen : w.seen ≡ (v.seen ++ others) ++ d ∷ []

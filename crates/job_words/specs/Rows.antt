@@ -92,7 +92,7 @@ word_of j =
 abbrev pub link_word_of : Option ℕ → Job → LinkWord
 link_word_of next j = record { parent = row_code j.parent; next = row_code next; tag = j.tag; kind = j.kind; disclosed = false }
 
--- a link word but for the hint that its row was disclosed
+-- a link word except for the hint that its row was disclosed
 abbrev pub without_hint : LinkWord → LinkWord
 without_hint w = record w { disclosed = false }
 
@@ -134,7 +134,7 @@ word_without_body v w = record w { body_ended = true; state = state_after_body w
 abbrev pub cause_from : ℕ → Cause
 cause_from n = if (n % 2) == 1 then because.Failure ((n / 2) % 65536) else because.Request
 
--- how a Job ends that has this word, where its body has ended
+-- how a Job ends that has this word, if its body has ended
 abbrev pub end_from : JobWord → JobState → Option End
 end_from w New = None
 end_from w Active = None

@@ -84,7 +84,7 @@ fn finish_once(forest: &Forest, pass: &mut JobPass, who: Tag, row: Row) -> Optio
     }
 }
 
-/// Ends the Job, where its body has ended and none of its children lives.
+/// Ends the Job, if its body has ended and none of its children lives.
 pub(crate) fn finish(forest: &Forest, pass: &mut JobPass, who: Tag, row: Row) -> Finished
     requires own { IsOwn forest.now pass.old who }
     requires attached { IsAttached (seen_by pass.old) row }

@@ -8,7 +8,7 @@ use crate::size::ForestSize;
 use std::alloc::Global;
 use worded::{HistoryRule, HistoryTable};
 
-/// The history of a forest is a list of deeds, of which the words are a function but for hints.
+/// The history of a forest is a list of deeds, of which the words are a function except for hints.
 pub struct JobHistory;
 
 impl HistoryRule<Deed, ForestSize> for JobHistory {

@@ -23,12 +23,12 @@
 //! most six entries for each row, so every call ends. An attach that lost stores the words of its row anew, so that a child under a
 //! parent that became Cancelling in between is attached as Cancelling, and as the younger sibling of whoever came first.
 //!
-//! **What a look sees.** The link word first: where bit 47 is set, the row is attached. Where it is not, the row is attached exactly where
+//! **What a look sees.** The link word first: if bit 47 is set, the row is attached. If it is not, the row is attached exactly if
 //! it stands among the children of the parent that its link word names, and the look walks them from the newest on. The attacher
 //! raises the bit after its exchange, by a step that shows nothing, so the walk is made in that short time alone.
 //!
 //! **A row for a scope.** The root is nobody's child, so its link word has other work: each row for scopes below it was claimed. Who claims
-//! one looks from there on, and raises it behind the row that it got, by a step that shows nothing. A row that was claimed stays so;
+//! one looks from there on, and raises it after the row that it got, by a step that shows nothing. A row that was claimed stays so;
 //! so who finds none has seen all of them claimed, though it did not look at those below.
 //!
 //! **The history.** The entries of the model are among the *deeds* of the table: one deed for each exchange, an entry (`Act`), or a claim

@@ -14,7 +14,7 @@ use crate::words::load_any_link;
 use co_base::{Row, Tag};
 use job_model::Link;
 
-/// The link word of an attached row, which never changes but for its hint.
+/// The link word of an attached row, which never changes except for its hint.
 pub(crate) fn load_link(forest: &Forest, pass: &mut JobPass, who: Tag, row: Row) -> LinkWord
     requires own { IsOwn forest.now pass.old who }
     requires attached { IsAttached (seen_by pass.old) row }

@@ -41,7 +41,7 @@ fn is_child(forest: &Forest, pass: &mut JobPass, who: Tag, parent: Row, row: Row
 }
 
 /// The kind of the row's Job, if the row was attached at a step of this call. Where the row is known to be attached, its link word
-/// says so; else the row is attached exactly where it stands among the children of the parent that its link word names.
+/// says so; else the row is attached exactly if it stands among the children of the parent that its link word names.
 fn kind_if_attached(forest: &Forest, pass: &mut JobPass, who: Tag, row: Row) -> Option<JobKind>
     requires own { IsOwn forest.now pass.old who }
     requires row { row < forest.now.size.rows }

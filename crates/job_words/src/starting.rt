@@ -36,7 +36,7 @@ fn start_once(forest: &Forest, pass: &mut JobPass, who: Tag, row: Row) -> Option
     }
 }
 
-/// Starts the Job, where it is New.
+/// Starts the Job, if it is New.
 pub(crate) fn start(forest: &Forest, pass: &mut JobPass, who: Tag, row: Row) -> bool
     requires own { IsOwn forest.now pass.old who }
     requires attached { IsAttached (seen_by pass.old) row }

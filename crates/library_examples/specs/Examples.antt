@@ -34,12 +34,12 @@ pub record SawCompleted (row value : ℕ) (items : List Item) : Type 0 where
   pub before : List Item
   pub noted : items ≡ before ++ Job (SawEnd row (Completed value)) ∷ []
 
--- a result was seen, where there is one
+-- a result was seen, if there is one
 abbrev pub SawResult : ℕ → Option ℕ → List Item → Type 0
 SawResult row None items = Unit {0}
 SawResult row (Some value) items = SawCompleted row value items
 
--- the result of some Job was seen, where there is one
+-- the result of some Job was seen, if there is one
 abbrev pub SawSome : Option ℕ → List Item → Type 0
 SawSome None items = Unit {0}
 SawSome (Some value) items = (row : ℕ) × SawCompleted row value items

@@ -26,7 +26,7 @@ use std::alloc::{AllocGlobal, Global};
 use std::random::RandomSource;
 use std::sync::Wait;
 
-/// Sends a list, and closes the channel behind it. False: an element was not sent, or the channel had been closed.
+/// Sends a list, and closes the channel after it. False: an element was not sent, or the channel had been closed.
 pub(crate) fn send_and_close<D: Drive>(
     drive: &mut D,
     hub: &Hub,
@@ -82,7 +82,7 @@ pub(crate) fn through_a_channel<R: Wait + RandomSource + AllocGlobal>(
     }
 }
 
-/// Twice the first elements of a channel, at most so many of them.
+/// Twice the first elements of a channel, `most` of them at most.
 pub(crate) fn first_doubled<D: Drive>(
     alloc: Global,
     drive: &mut D,

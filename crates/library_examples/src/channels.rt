@@ -12,7 +12,7 @@ use channel_model::{ChannelFloor, Settled};
 use co_base::{ChannelId, Memory, Tag, Value, Wakes};
 use note_book::NoteBook;
 
-/// Sends an element, and closes the channel behind it. Whatever the send came to, the channel is closed in the end.
+/// Sends an element, and closes the channel after it. Whatever the send came to, the channel is closed in the end.
 pub(crate) fn send_last<F: ChannelFloor, B: NoteBook, W: Wakes>(
     caller: &mut Caller<'_, '_, '_, F, B, W>,
     c: ChannelId,
@@ -32,7 +32,7 @@ pub(crate) fn send_last<F: ChannelFloor, B: NoteBook, W: Wakes>(
     }
 }
 
-/// Receives an element where one is there, and else answers the other value: then the channel was empty, or closed and empty.
+/// Receives an element if one is there, and else answers the other value: then the channel was empty, or closed and empty.
 pub(crate) fn receive_or<F: ChannelFloor, B: NoteBook, W: Wakes>(
     caller: &mut Caller<'_, '_, '_, F, B, W>,
     c: ChannelId,

@@ -4,7 +4,7 @@ ghost use Rattle.parcel_channel.specs.Hubs.{IsOf, IsFirst, SamePass, seen_by};
 
 use parcel_channel::{ParcelHub, ParcelPass, ParcelSent};
 
-/// Sends a text, or gives it back where the channel is closed or full for good.
+/// Sends a text, or gives it back if the channel is closed or full for good.
 pub(crate) fn send_text(
     hub: &ParcelHub<String>,
     pass: &mut ParcelPass<String>,

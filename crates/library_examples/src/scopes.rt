@@ -33,7 +33,7 @@ pub(crate) fn launch_and_cancel<C: ChannelFloor, J: JobFloor, B: NoteBook, W: Wa
     }
 }
 
-/// The result of a Job, where its done channel is closed and it has completed: then the last note is that the caller saw so.
+/// The result of a Job, if its done channel is closed and it has completed: then the last note is that the caller saw so.
 pub(crate) fn result_of<C: ChannelFloor, J: JobFloor, B: NoteBook, W: Wakes>(
     builder: &mut Builder<'_, '_, '_, '_, C, J, B, W>,
     row: Row,

@@ -41,7 +41,7 @@ pub(crate) fn add_behind<F: ChannelFloor, B: NoteBook, W: Wakes>(
     }
 }
 
-/// Acquires permits of a semaphore as long as one is free, and at most so many. Answers how many, and holds so many more.
+/// Acquires permits of a semaphore as long as one is free, and `most` at most. Answers how many; it then holds that many more.
 pub(crate) fn acquire_free<F: ChannelFloor, B: NoteBook, W: Wakes>(
     caller: &mut Caller<'_, '_, '_, F, B, W>,
     semaphore: &Permits,

@@ -107,7 +107,7 @@ fn three_add<F: ChannelFloor, G: ChannelFloor, H: ChannelFloor, B: NoteBook, W: 
     Ok((free, number))
 }
 
-/// That where the third calls by a pass.
+/// The same, but the third calls by a pass.
 fn add_with_third<F: ChannelFloor, G: ChannelFloor>(
     first: &mut Caller<'_, '_, '_, F, Notes, Woken>,
     second: &mut Caller<'_, '_, '_, G, Notes, Woken>,
@@ -236,7 +236,7 @@ fn hold_and_give_up<F: ChannelFloor, G: ChannelFloor, B: NoteBook, W: Wakes>(
     }
 }
 
-/// That where the one who waits calls by a pass.
+/// The same, but the one who waits calls by a pass.
 fn give_up_by_pass<F: ChannelFloor>(
     holder: &mut Caller<'_, '_, '_, F, Notes, Woken>,
     hub: &Hub,

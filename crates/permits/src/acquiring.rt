@@ -13,8 +13,10 @@ use channel_model::{ChannelFloor, Settled};
 use co_base::{Memory, WaitId, Wakes};
 use note_book::NoteBook;
 
-/// Acquires a permit, or waits for one behind those who wait already. The wait is to be taken up once it is resolved, or to be given up
+/// Acquires a permit, or waits for one after those who wait already. The wait is to be taken up once it is resolved, or to be given up
 /// by `cancel_acquire`.
+///
+/// Example: `three_add` in `docs/LIBRARY.md`.
 pub fn acquire<F: ChannelFloor, B: NoteBook, W: Wakes>(
     x: &mut Caller<'_, '_, '_, F, B, W>,
     p: &Permits,
@@ -40,6 +42,8 @@ pub fn acquire<F: ChannelFloor, B: NoteBook, W: Wakes>(
 }
 
 /// Acquires a permit, if one is free.
+///
+/// Example: `acquire_free` in `docs/LIBRARY.md`.
 pub fn try_acquire<F: ChannelFloor, B: NoteBook, W: Wakes>(
     x: &mut Caller<'_, '_, '_, F, B, W>,
     p: &Permits,

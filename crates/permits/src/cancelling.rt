@@ -15,6 +15,8 @@ use note_book::NoteBook;
 
 /// Ends the caller's wait for a permit, whether it was resolved or not. A permit that came meanwhile is given back at once.
 /// Memory: nothing was done, or the wait ended and the caller holds the permit that came.
+///
+/// Example: `cancelled_acquire` in `docs/LIBRARY.md`.
 pub fn cancel_acquire<F: ChannelFloor, B: NoteBook, W: Wakes>(
     x: &mut Caller<'_, '_, '_, F, B, W>,
     p: &Permits,

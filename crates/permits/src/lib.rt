@@ -7,7 +7,7 @@
 //!
 //! **What is counted.** A caller keeps a number, which is that of the permits that it holds: those that it got less those that it gave
 //! back (`specs/Parts.antt`). Each call needs that the number is right, and that the caller has used the channel by these calls alone; both
-//! hold again behind the call, also if no memory was found. If all coroutines do so, and one of them filled the channel with n, then the
+//! hold again after the call, also if no memory was found. If all coroutines do so, and one of them filled the channel with n, then the
 //! permits that are free, those on their way to a wait and those that are held are n at every moment (`specs/Laws.antt`).
 //!
 //! | call | the act on the channel | the number |
@@ -28,7 +28,7 @@
 //! In `proofs/`, in the order to read: `Sums`, over the first numbers and over the acts of all coroutines; `Flows`, what each act does to
 //! the permits that are free or on their way; `Adding`, the law; `PartsGo`, the part of a coroutine with one act more; `Bounds`, that the
 //! number fits; `PlainWaits`, that an own wait is that of a plain receiver; `StepsTold`, each answer of a floor; `UsesGo` and `FillsGo`,
-//! the condition behind each call.
+//! the condition after each call.
 #![tactic(auto)]
 
 mod acquiring;

@@ -15,6 +15,8 @@ use note_book::NoteBook;
 
 /// Gives back a permit that the caller holds: to whoever waits first, and to the free ones if nobody waits. The element that stands for it
 /// is 0.
+///
+/// Example: `add_behind` in `docs/LIBRARY.md`.
 pub fn release<F: ChannelFloor, B: NoteBook, W: Wakes>(
     x: &mut Caller<'_, '_, '_, F, B, W>,
     p: &Permits,

@@ -71,7 +71,7 @@ is_unstarted r acts = list_any (attaches_lazy r) acts && not (list_any (starts r
 
 -- ---- the lines
 
--- how far the Job of a row is, where no Finish ends it
+-- how far the Job of a row is, if no Finish ends it
 abbrev pub open_text : ℕ → List JobAct → List ℕ
 open_text r acts =
     if was_cancelled r acts then codes "cancelling"

@@ -24,7 +24,7 @@ has_received here wait = here.taken || (here.handed && wait.received)
 abbrev pub has_withdrawn : Facts → Facts → Bool
 has_withdrawn here wait = not here.admitted && wait.withdrawn
 
--- the element went to the undelivered handler: drained, given up by its receiver, or taken back by a plain send
+-- the element came back undelivered: drained, given up by its receiver, or taken back by a plain send
 abbrev pub has_given_up : Facts → Facts → Bool
 has_given_up here wait = here.drained || ((here.handed && wait.gave_up) || of_offer (λ k. (k == 0) && has_withdrawn here wait) here.clause)
 

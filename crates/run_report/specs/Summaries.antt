@@ -64,7 +64,7 @@ with_channels elements c n (channel ∷ channels) = with_channels elements (c + 
 
 -- ---- the line
 
--- the result of the root, where it has completed
+-- the result of the root, if it has completed
 abbrev pub result_text : Option End → List ℕ
 result_text None = codes "none"
 result_text (Some (ends.Completed v)) = decimal v

@@ -7,7 +7,7 @@ use Rattle.run_report.specs.declared.table.Table.{Table}
 abbrev pub lists_of : {T : Type 0} → List (Vec T Global) → List (List T)
 lists_of rows = map (λ row. row.items) rows
 
--- the value at a place: what stands in its channel's row, and the table's plain value behind the end
+-- the value at a place: what stands in its channel's row, and the table's plain value after the end
 abbrev pub value_in : {T : Type 0} → List (List T) → T → ℕ → ℕ → T
 value_in rows plain c p = slice_index_or (slice_index_or rows c []) p plain
 

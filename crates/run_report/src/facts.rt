@@ -26,7 +26,7 @@ pub(crate) struct Facts {
     pub(crate) drained: bool,
     /// The wait of this name ended with a value.
     pub(crate) received: bool,
-    /// The wait of this name gave its element to the undelivered handler.
+    /// The wait of this name gave its element up, undelivered.
     pub(crate) gave_up: bool,
     /// The wait of this name was withdrawn.
     pub(crate) withdrawn: bool,

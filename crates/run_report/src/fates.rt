@@ -29,7 +29,7 @@ impl Known {
         Ok(Known { facts, resolved })
     }
 
-    /// At this place of a channel, and at all behind it, there is no element.
+    /// At this place of a channel, and at all after it, there is no element.
     pub(crate) fn reach(&self, c: ChannelId) -> usize
         requires plain { IsPlain self.now }
         ensures { (p : ℕ) → result ≤ p → element_in self.now c p ≡ None }
@@ -79,7 +79,7 @@ fn has_received(here: Facts, wait: Facts) -> bool
     here.taken || (here.handed && wait.received)
 }
 
-/// Whether the element went to the undelivered handler.
+/// Whether the element came back undelivered.
 fn has_given_up(here: Facts, wait: Facts) -> bool
     ensures { result ≡ has_given_up here wait }
 {

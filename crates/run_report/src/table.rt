@@ -41,7 +41,7 @@ impl<T: Copy> Table<T> {
         }
     }
 
-    /// So many places of a channel come up to the last that was set; the plain value stands at all behind them.
+    /// So many places of a channel come up to the last that was set; the plain value stands at all after them.
     pub(crate) fn reach(&self, c: ChannelId) -> usize
         ensures { (p : ℕ) → result ≤ p → value_at self.now c p ≡ (self.now).plain }
     {

@@ -102,7 +102,7 @@ EnterAnswer who parent supervisor j j' i i' (Err launch.Memory) = ToldOnJobs who
 
 -- ---- start and cancel
 
--- the Start, where the Job was New; then it is not New
+-- the Start, if the Job was New; then it is not New
 abbrev pub start_told : Bool → ℕ → List Told
 start_told true row = did (Start row) ∷ on_jobs (NotNew row) ∷ []
 start_told false row = on_jobs (NotNew row) ∷ []
@@ -141,7 +141,7 @@ pub record TellsBoth (who base : ℕ) (P : List Told → Type 0) (c c' : Channel
   pub noted : ToldOnBoth who [] c c' j j' items items' told
   pub dones : KeepsDones base c c' j j' (items_in told)
 
--- the body ended, and then what its end brought about; the answer is Owes exactly where no child lived at the end of the body
+-- the body ended, and then what its end brought about; the answer is Owes exactly if no child lived at the end of the body
 pub record EndedJob (who base row value : ℕ) (c c' : ChannelFloor) (j j' : Floor) (items items' : List Item)
     (answer : Ended) : Type 0 where
   pub told : List Told

@@ -83,12 +83,12 @@ SignalAnswer who c old new i i' (Ok joined.Cancelled) = ⊥
 SignalAnswer who c old new i i' (Ok joined.Spent) = ToldOnChannels who old new i i' (spent (receives c))
 SignalAnswer who c old new i i' (Err m) = ToldOnChannels who old new i i' []
 
--- where the answer is that the channel is closed, its close was seen
+-- if the answer is that the channel is closed, its close was seen
 abbrev pub ClosedIsSeen : ℕ → ChannelFloor → Result Joined Memory → Type 0
 ClosedIsSeen c new (Ok (joined.Closed v)) = IsClosedWith c v (replay_channels new.seen)
 ClosedIsSeen c new other = Unit {0}
 
--- ---- where nobody else makes entries
+-- ---- if nobody else makes entries
 
 -- each done channel that is closed is that of an ended Job
 abbrev pub OnlyEndedAreClosed : ℕ → ChannelFloor → Floor → Type 0

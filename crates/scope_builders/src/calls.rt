@@ -49,6 +49,8 @@ pub fn attach_coroutine<J: JobFloor, B: NoteBook>(
 
 impl<C: ChannelFloor, J: JobFloor, B: NoteBook, W: Wakes> Builder<'_, '_, '_, '_, C, J, B, W> {
     /// Attaches the Job of a coroutine to a parent, and wakes the coroutine unless its Job is New.
+    ///
+    /// Example: `launch_and_cancel` in `docs/LIBRARY.md`.
     pub fn launch(&mut self, parent: Row, tag: Tag, lazy: bool) -> Result<Attached, LaunchError>
         requires may { MayBuild self.old.who self.old.base (C.view self.old.channels.now) (J.view self.old.jobs.now) }
         requires parent { is_some (replay (J.view self.old.jobs.now).seen parent) ≡ true }
@@ -68,6 +70,8 @@ impl<C: ChannelFloor, J: JobFloor, B: NoteBook, W: Wakes> Builder<'_, '_, '_, '_
     }
 
     /// Attaches the Job of a scope to a parent. Its body is the caller's.
+    ///
+    /// Example: `scope_result` in `docs/LIBRARY.md`.
     pub fn enter(&mut self, parent: Row, supervisor: bool) -> Result<Attached, LaunchError>
         requires may { MayBuild self.old.who self.old.base (C.view self.old.channels.now) (J.view self.old.jobs.now) }
         requires parent { is_some (replay (J.view self.old.jobs.now).seen parent) ≡ true }
@@ -107,6 +111,8 @@ impl<C: ChannelFloor, J: JobFloor, B: NoteBook, W: Wakes> Builder<'_, '_, '_, '_
     }
 
     /// Cancels a Job with all below it, and answers how many it cancelled. Memory: the Cancels made so far stand and are noted.
+    ///
+    /// Example: `launch_and_cancel` in `docs/LIBRARY.md`.
     pub fn cancel(&mut self, row: Row) -> Result<u32, Memory>
         requires may { MayBuild self.old.who self.old.base (C.view self.old.channels.now) (J.view self.old.jobs.now) }
         requires row { is_some (replay (J.view self.old.jobs.now).seen row) ≡ true }
@@ -130,6 +136,8 @@ impl<C: ChannelFloor, J: JobFloor, B: NoteBook, W: Wakes> Builder<'_, '_, '_, '_
 
     /// Ends the body of the caller's own Job with a value, then the Job and its parents, as far as their ends are owed. Memory: the
     /// entries made so far stand and are noted.
+    ///
+    /// Example: `scope_result` in `docs/LIBRARY.md`.
     pub fn end_job(&mut self, row: Row, value: Value) -> Result<Ended, Memory>
         requires may { MayBuild self.old.who self.old.base (C.view self.old.channels.now) (J.view self.old.jobs.now) }
         requires own { MayEndBody self.old.who (replay (J.view self.old.jobs.now).seen row) }

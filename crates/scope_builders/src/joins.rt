@@ -94,6 +94,8 @@ impl<C: ChannelFloor, J: JobFloor, B: NoteBook, W: Wakes> Builder<'_, '_, '_, '_
     }
 
     /// Receives on the done channel of a Job, as at the end of a scope. The answer is never Cancelled.
+    ///
+    /// Example: `result_of` in `docs/LIBRARY.md`.
     pub fn receive_done(&mut self, row: Row) -> Result<Joined, Memory>
         requires may { MayBuild self.old.who self.old.base (C.view self.old.channels.now) (J.view self.old.jobs.now) }
         requires row { is_some (replay (J.view self.old.jobs.now).seen row) ≡ true }
@@ -112,7 +114,9 @@ impl<C: ChannelFloor, J: JobFloor, B: NoteBook, W: Wakes> Builder<'_, '_, '_, '_
         )
     }
 
-    /// How a Job ended, where it has ended.
+    /// How a Job ended, if it has ended.
+    ///
+    /// Example: `result_of` in `docs/LIBRARY.md`.
     pub fn seen_end(&mut self, row: Row) -> Result<Option<End>, Memory>
         requires may { MayBuild self.old.who self.old.base (C.view self.old.channels.now) (J.view self.old.jobs.now) }
         requires row { is_some (replay (J.view self.old.jobs.now).seen row) ≡ true }

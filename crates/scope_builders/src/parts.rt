@@ -207,7 +207,7 @@ pub(crate) fn cancel_first<J: JobFloor, B: NoteBook, W: Wakes>(
     }
 }
 
-/// Ends a Job, where it may end, and then its parents, as far as the end of a child was all that they waited for, each with its
+/// Ends a Job, if it may end, and then its parents, as far as the end of a child was all that they waited for, each with its
 /// done channel.
 pub(crate) fn finish_up<C: ChannelFloor, J: JobFloor, B: NoteBook, W: Wakes>(
     channels: &mut C,

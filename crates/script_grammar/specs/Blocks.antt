@@ -134,7 +134,7 @@ abbrev pub product : List ℕ → ℕ
 product [] = 1
 product (n ∷ ns) = n * product ns
 
--- what a line weighs that runs once, where the blocks before this one have these weights
+-- what a line weighs that runs once, if the blocks before this one have these weights
 abbrev pub own_weight : List ℕ → Instruction → ℕ
 own_weight weights (Launch p how job) = get_or weights p 0
 own_weight weights (Scope supervisor) = 1
@@ -178,7 +178,7 @@ abbrev pub is_new : ℕ → Option (List ℕ) → Bool
 is_new c None = false
 is_new c (Some cs) = not (is_among c cs)
 
--- in a select stand clauses and, after the first, its end; elsewhere no clause, and an end only where something is open
+-- in a select stand clauses and, after the first, its end; elsewhere no clause, and an end only if something is open
 abbrev pub stands : Option (List ℕ) → List ℕ → Instruction → Bool
 stands None nest x = not (is_clause x) && (has_items nest || not (is_end x))
 stands (Some cs) nest x = is_clause x || (is_end x && has_items cs)

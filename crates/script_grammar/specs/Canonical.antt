@@ -61,6 +61,6 @@ deep_lines p =
     ++ (deep_blocks (channel_names p.channels) (block_names p.blocks) p.blocks
     ++ flat (map (λ s. spawn_words (name_of (block_names p.blocks) s.0) s.1 true) p.spawns))
 
--- two spaces for each level, one between words, and a line feed behind each line
+-- two spaces for each level, one between words, and a line feed after each line
 abbrev pub canonical_text : Program → List ℕ
 canonical_text p = unlines (map (λ l. indented l.0 l.1) (deep_lines p))

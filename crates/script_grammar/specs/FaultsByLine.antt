@@ -11,7 +11,7 @@ use Rattle.script_grammar.specs.Texts.{reading_of}
 abbrev pub Row : Type 0
 Row = List ℕ × FaultKind
 
--- each of these lines, behind these lines, where it has this number, has its fault
+-- each of these lines, after these lines, if it has this number, has its fault
 abbrev pub HaveFaults : List ℕ → ℕ → List Row → Type 0
 HaveFaults before number rows =
     map (λ (r : Row). reading_of (before ++ r.0)) rows

@@ -12,7 +12,7 @@ one_less (suc n) = n
 abbrev pub depth_after : Instruction → ℕ → ℕ
 depth_after x depth = if opens_lines x then depth + 1 else (if is_end x then one_less depth else depth)
 
--- an end, where so many lines are open that were opened later
+-- an end, if so many lines are open that were opened later
 abbrev pub end_from : ℕ → ℕ → Option ℕ → Option ℕ
 end_from zero place rest = Some place
 end_from (suc depth) place rest = rest

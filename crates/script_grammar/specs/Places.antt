@@ -58,7 +58,7 @@ abbrev pub places_at : List (List ℕ) → Result (ℕ × List (List ℕ)) Fault
 places_at [] = Ok (default_places, [])
 places_at (word ∷ rest) = if bytes_eq word (codes "places") then number_at 1 1048576 rest else Err Extra
 
--- a number of instances, or no word where there is one
+-- a number of instances, or no word if there is one
 abbrev pub count_at : List (List ℕ) → Result (ℕ × List (List ℕ)) FaultKind
 count_at [] = Ok (1, [])
 count_at (word ∷ rest) = number_at 1 16000 (word ∷ rest)

@@ -15,13 +15,13 @@ abbrev pub times_over : ℕ → List ℕ → List ℕ
 times_over zero blocks = []
 times_over (suc n) blocks = blocks ++ times_over n blocks
 
--- what is launched in all, where the lines that are open end here: of each that opened others, the innermost first, how often
+-- what is launched in all, if the lines that are open end here: of each that opened others, the innermost first, how often
 -- these run, and what was launched before them
 abbrev pub closed_all : List (ℕ × List ℕ) → List ℕ → List ℕ
 closed_all [] blocks = blocks
 closed_all (o ∷ outer) blocks = closed_all outer (o.1 ++ times_over o.0 blocks)
 
--- what these lines launch within those that are open, where so much was launched since the innermost was opened
+-- what these lines launch within those that are open, if so much was launched since the innermost was opened
 abbrev pub launched_from : List (ℕ × List ℕ) → List ℕ → List Instruction → List ℕ
 launched_from outer blocks [] = closed_all outer blocks
 launched_from outer blocks (Launch block how job ∷ code) = launched_from outer (blocks ++ block ∷ []) code
@@ -62,7 +62,7 @@ size_in blocks block = length (slice_index_or (layouts blocks) block [])
 
 -- ---- coroutines by their tags
 
--- the number of the first block of this name, where the first of these blocks has the number i
+-- the number of the first block of this name, if the first of these blocks has the number i
 abbrev pub block_named : List ℕ → ℕ → List Block → Option ℕ
 block_named name i [] = None
 block_named name i (b ∷ bs) = if bytes_eq b.name name then Some i else block_named name (i + 1) bs
@@ -165,7 +165,7 @@ scopes_from nest (x ∷ code) = product nest * scopes_entered x + scopes_from (n
 abbrev pub scopes_of : Program → ℕ → ℕ
 scopes_of p block = scopes_from [] (code_of_block (slice_get p.blocks block))
 
--- how many scopes these instances enter, but for what they launch
+-- how many scopes these instances enter, except for what they launch
 abbrev pub scopes_of_all : Program → List ℕ → ℕ
 scopes_of_all p [] = 0
 scopes_of_all p (b ∷ bs) = scopes_of p b + scopes_of_all p bs

@@ -64,7 +64,7 @@ spaced (w ∷ (v ∷ ws)) = w ++ 32 ∷ spaced (v ∷ ws)
 abbrev pub indented : ℕ → List (List ℕ) → List ℕ
 indented depth words = replicate (2 * depth) 32 ++ spaced words
 
--- lines, each with a line feed behind it
+-- lines, each with a line feed after it
 abbrev pub unlines : List (List ℕ) → List ℕ
 unlines [] = []
 unlines (l ∷ ls) = l ++ 10 ∷ unlines ls

@@ -7,7 +7,7 @@ use Rattle.script_grammar.specs.Reads.{Read, Form, channel_is, coroutine_is, spa
 use Rattle.script_grammar.specs.Places.{place_from}
 use Rattle.script_reader.specs.Holding.{IsNewBlock}
 
--- the weight of a block with one more line, where the blocks before it have these weights
+-- the weight of a block with one more line, if the blocks before it have these weights
 abbrev pub weight_with : List ℕ → Instruction → Open → ℕ
 weight_with weights x b = b.weight + product b.nest * own_weight weights x
 

@@ -29,6 +29,6 @@ abbrev pub AreNested : List Opened → ℕ → Type 0
 AreNested [] n = Unit {0}
 AreNested (o ∷ outer) n = (o.from ≤ n) × AreNested outer o.from
 
--- what is launched in all, where these blocks were, and these lines follow
+-- what is launched in all, if these blocks were, and these lines follow
 abbrev pub launched_with : List Opened → List ℕ → List Instruction → List ℕ
 launched_with outer blocks code = launched_from (launched_before outer blocks) (launched_since outer blocks) code

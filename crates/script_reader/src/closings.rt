@@ -51,7 +51,7 @@ fn closing_in(code: &[Instruction], first: u32) -> Option<u32>
     None
 }
 
-/// Where what this line opens is closed by the lines behind it, or 0; the first of these has this place.
+/// Where what this line opens is closed by the lines after it, or 0; the first of these has this place.
 fn closing_after(line: Instruction, code: &[Instruction], first: u32) -> u32
     requires { first + length code.now < 4294967296 }
     ensures { result ≡ (if opens_lines line then unwrap_or (closing_from 0 first code.now) 0 else 0) }
@@ -63,7 +63,7 @@ fn closing_after(line: Instruction, code: &[Instruction], first: u32) -> u32
     }
 }
 
-/// Of each line the place of that which closes what it opens, or 0 where it opens nothing.
+/// Of each line the place of that which closes what it opens, or 0 if it opens nothing.
 ///
 /// Each line is looked at once for each of the lines that are open there, of which there are at most nine.
 fn closings_in(alloc: Global, code: &[Instruction]) -> Result<Vec<u32>, AllocError>

@@ -40,7 +40,7 @@ pub(crate) fn turns_within(nest: &[u32]) -> u32
     turns
 }
 
-/// What a line weighs that runs once, where the blocks before have these weights.
+/// What a line weighs that runs once, if the blocks before have these weights.
 fn own_weight(weights: &[u16], line: Instruction) -> u16
     ensures { result ≡ own_weight weights.now line }
 {
@@ -184,7 +184,7 @@ fn spawn_totals(reading: &Reading, block: u16, count: u16) -> Result<Totals, Fau
     })
 }
 
-/// The load, where the open block grows to this weight.
+/// The load, if the open block grows to this weight.
 fn grown_load(reading: &Reading, block: &OpenBlock, weight: u32) -> u32
     requires grown { block.now.weight ≤ weight }
     requires light { weight ≤ 16000 }

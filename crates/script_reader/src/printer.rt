@@ -121,7 +121,7 @@ fn push_channels(alloc: Global, out: &mut Vec<u8>, channels: &[Channel]) -> Resu
     Ok(())
 }
 
-/// How deep a line stands, where the lines before it lead to this depth.
+/// How deep a line stands, if the lines before it lead to this depth.
 fn depth_of(depth: u32, line: Instruction) -> u32
     ensures { result ≡ depth_of depth line }
 {

@@ -68,8 +68,8 @@ fn read_or_fault(alloc: Global, bytes: &[u8]) -> Result<Script, ScriptFault>
 
 /// Reads a script.
 ///
-/// A text of more than 1,048,576 bytes is `line 1: TooMany`. Where a text has several faults, that of the first faulty line
-/// is told. Where memory runs out, the line is 0.
+/// A text of more than 1,048,576 bytes is `line 1: TooMany`. If a text has several faults, that of the first faulty line
+/// is told. If memory runs out, the line is 0.
 pub fn read(alloc: Global, bytes: &[u8]) -> Result<Script, ScriptFault>
     ensures exact { GivesAt program_of result (reading_of bytes.now) }
     ensures spelled { IfOk result (λ script. Spells bytes.now (program_of script)) }

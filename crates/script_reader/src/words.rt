@@ -18,7 +18,7 @@ pub(crate) fn trimmed(bytes: &[u8]) -> &[u8]
     }
 }
 
-/// The first line of a text, and what stands behind its line feed, if it has one.
+/// The first line of a text, and what stands after its line feed, if it has one.
 pub(crate) fn first_line(text: &[u8]) -> (&[u8], Option<&[u8]>)
     ensures cut { parts is_line_feed result.0.now result.1 ≡ slice_split is_line_feed text.now }
     ensures less { IfSome result.1 (λ rest. length result.0.now + 1 + length rest.now ≡ length text.now) }
@@ -58,7 +58,7 @@ fn space(byte: u8) -> bool
     byte == 9 || byte == 13 || byte == 32
 }
 
-/// What stands before the first space of a line, and what stands behind it, if there is one.
+/// What stands before the first space of a line, and what stands after it, if there is one.
 fn first_piece(line: &[u8]) -> (&[u8], Option<&[u8]>)
     ensures cut { parts is_space result.0.now result.1 ≡ slice_split is_space line.now }
     ensures less { IfSome result.1 (λ rest. length rest.now < length line.now) }

@@ -45,7 +45,7 @@ MayWait shape (receives c) = Unit {0}
 abbrev pub AllMayWait : Shape → List Call → Type 0
 AllMayWait shape calls = (n : ℕ) (call : Call) → slice_get calls n ≡ Some call → MayWait shape call
 
--- where nobody else makes entries, no entry came, and the clause has to wait now
+-- if nobody else makes entries, no entry came, and the clause has to wait now
 abbrev pub StillBlocked : Call → Floor → Floor → Type 0
 StillBlocked call old new = old.alone ≡ true → (new.seen ≡ old.seen) × BlockedAt old.shape call (replay new.seen)
 
@@ -114,7 +114,7 @@ pub record PlacedAt (who : ℕ) (call : Call) (main : Option WaitId) (k : ℕ) (
       → HasPlaced who (Some w) (before ++ (k, channel_of call) ∷ []) new
   -- a wait that begins here stands
   pub begins : main ≡ None → state_of_wait ((replay new.seen).waits w) ≡ Some Standing
-  -- where nobody else makes entries, the other channels stay as they were
+  -- if nobody else makes entries, the other channels stay as they were
   pub others : old.alone ≡ true → (c : ℕ) → (c ≡ channel_of call → ⊥) → (replay new.seen).channels c ≡ (replay old.seen).channels c
 
 -- the clause that was to be placed has changed
@@ -143,14 +143,14 @@ PlacedAnswer who call main k old new i i' (Ok placing.Changed) =
 PlacedAnswer who call main k old new i i' (Ok placing.Spent) = Stopped who call NoPlace main old new i i'
 PlacedAnswer who call main k old new i i' (Err m) = IsUntouched old new i i'
 
--- clause n was placed, where it could be; its number is one more
+-- clause n was placed, if it could be; its number is one more
 pub record PlacesAt (who : ℕ) (calls : List Call) (n : ℕ) (main : Option WaitId) (old new : Floor) (items items' : List Item)
     (result : Result Placed Memory) : Type 0 where
   pub call : Call
   pub at : slice_get calls n ≡ Some call
   pub answer : PlacedAnswer who call main (n + 1) old new items items' result
 
--- clause n may be placed behind those before it
+-- clause n may be placed after those before it
 pub record MayPlaceAt (who : ℕ) (calls : List Call) (n : ℕ) (main : Option WaitId) (floor : Floor) : Type 0 where
   pub may : MaySelect who calls floor
   pub there : n < length calls
@@ -184,7 +184,7 @@ pub record PlacedAndThen (who : ℕ) (calls : List Call) (n : ℕ) (main : Optio
   pub goes : P then_told
   pub told : ToldOnChannels who old new items items' (group ++ then_told)
 
--- the clause behind those that were placed stops the select
+-- the clause after those that were placed stops the select
 abbrev pub StopsAt : List Call → ℕ → Answer → List Told → Type 0
 StopsAt calls n a told = (call : Call) × (slice_get calls n ≡ Some call) × Stops call told a
 
@@ -247,7 +247,7 @@ pub record ComesLate (calls : List Call) (n : ℕ) (w : WaitId) (told : List Tol
   pub admits_are : AdmitsIn (take n calls) admits
   pub all : told ≡ heard (Late w) ∷ admits
 
--- what was placed was withdrawn, where something was, and this is answered; else the select waits
+-- what was placed was withdrawn, if something was, and this is answered; else the select waits
 abbrev pub StopsSo : ℕ → List Call → ℕ → SelectAnswer → Floor → Floor → List Item → List Item → Option WaitId → Option WaitId
     → SelectAnswer → Type 0
 StopsSo who calls n asked old new i i' None held' a = (a ≡ asked) × (held' ≡ None) × (new ≡ old) × (i' ≡ i)
@@ -277,13 +277,13 @@ pub record WasStopped (who : ℕ) (calls : List Call) (n : ℕ) (asked : SelectA
     (held held' : Option WaitId) (result : Result SelectAnswer Memory) : Type 0 where
   pub answer : StoppedAnswer who calls n asked old new items items' held held' result
 
--- ---- behind the tries, all of which were blocked
+-- ---- after the tries, all of which were blocked
 
 -- without memory: what was told by then, and the wait that is left
 abbrev pub StopsBehind : List Call → Option WaitId → List Told → Type 0
 StopsBehind calls held told = StopsSelect calls held (map blocked calls ++ told)
 
--- behind blocked clauses this is told
+-- after blocked clauses this is told
 abbrev pub SelectsBehind : List Call → Answer → List Told → Type 0
 SelectsBehind calls a told = SelectCall calls (map blocked calls ++ told) a
 

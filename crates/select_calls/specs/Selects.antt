@@ -84,7 +84,7 @@ SelectedAnswer who calls old new i i' held (Ok (answer.Chosen k outcome)) =
     (held ≡ None) × Tells who (Chooses calls k outcome) old new i i'
 SelectedAnswer who calls old new i i' held (Ok answer.Waiting) =
     (w : WaitId) × (held ≡ Some w) × HasStood w old new × Tells who (λ told. SelectCall calls told (Waits w)) old new i i'
--- it looks again only where others make entries too
+-- it looks again only if others make entries too
 SelectedAnswer who calls old new i i' held (Ok answer.Again) =
     (held ≡ None) × (old.alone ≡ true → ⊥) × Tells who (λ told. SelectCall calls told LooksAgain) old new i i'
 SelectedAnswer who calls old new i i' held (Ok answer.Spent) =

@@ -1,5 +1,5 @@
 //! Biased select, over any floor of channels: the clauses are tried in their order, and the first one that is ready, or whose channel is
-//! closed, is chosen. Where none is, all are placed with one wait, so at most one of them is ever served.
+//! closed, is chosen. If none is, all are placed with one wait, so at most one of them is ever served.
 //!
 //! | in a poll | next |
 //! |---|---|

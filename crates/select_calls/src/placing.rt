@@ -16,7 +16,7 @@ use co_base::{ChannelId, Memory, Value, WaitId, Wakes};
 use note_book::{Item, NoteBook};
 
 /// What a clause came to that was to be placed.
-#[derive(Clone, Copy, Debug, PartialEq, Eq)]
+#[derive(Clone, Copy)]
 pub(crate) enum Placed {
     /// It was placed; the select has this wait.
     Stands(WaitId),
@@ -28,7 +28,7 @@ pub(crate) enum Placed {
 }
 
 /// What all clauses came to that were to be placed. The number is that of the clauses that were placed.
-#[derive(Clone, Copy, Debug, PartialEq, Eq)]
+#[derive(Clone, Copy)]
 pub(crate) enum Placings {
     All,
     Resolved(usize),
@@ -36,7 +36,7 @@ pub(crate) enum Placings {
     Spent(usize),
 }
 
-/// The select's wait, behind the first clause that was placed: that of its first clause.
+/// The select's wait, after the first clause that was placed: that of its first clause.
 fn main_at(main: Option<WaitId>, channel: ChannelId, place: u32) -> WaitId
     ensures { result ≡ main_at channel place main }
 {
@@ -157,7 +157,7 @@ fn place_receive<F: ChannelFloor, B: NoteBook, W: Wakes>(
     }
 }
 
-/// Places a clause behind those before it.
+/// Places a clause after those before it.
 fn place_at<F: ChannelFloor, B: NoteBook, W: Wakes>(
     x: &mut Caller<'_, '_, '_, F, B, W>,
     clauses: &[Clause],

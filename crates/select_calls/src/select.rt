@@ -14,9 +14,9 @@ use channel_model::ChannelFloor;
 use co_base::{Memory, WaitId, Wakes};
 use note_book::NoteBook;
 
-/// Chooses the first clause that is ready, or whose channel is closed; where none is, waits on all of them.
+/// Chooses the first clause that is ready, or whose channel is closed; if none is, waits on all of them.
 ///
-/// `held` names the wait that it leaves: that of a select that waits, and of one that found no memory behind a clause that it placed and
+/// `held` names the wait that it leaves: that of a select that waits, and of one that found no memory after a clause that it placed and
 /// did not withdraw.
 pub fn select_poll<F: ChannelFloor, B: NoteBook, W: Wakes>(
     x: &mut Caller<'_, '_, '_, F, B, W>,
@@ -65,7 +65,7 @@ fn wait_on_all<F: ChannelFloor, B: NoteBook, W: Wakes>(
     }
 }
 
-/// Withdraws what was placed, and answers so; where that comes too late, the select waits.
+/// Withdraws what was placed, and answers so; if that comes too late, the select waits.
 fn stop<F: ChannelFloor, B: NoteBook, W: Wakes>(
     x: &mut Caller<'_, '_, '_, F, B, W>,
     clauses: &[Clause],

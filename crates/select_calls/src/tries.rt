@@ -15,7 +15,7 @@ use co_base::{ChannelId, Memory, Tag, Value, Wakes};
 use note_book::{Item, NoteBook};
 
 /// What a clause came to that was tried.
-#[derive(Clone, Copy, Debug, PartialEq, Eq)]
+#[derive(Clone, Copy)]
 pub(crate) enum Tried {
     Ready(Outcome),
     Blocked,
@@ -23,7 +23,7 @@ pub(crate) enum Tried {
 }
 
 /// What all clauses came to that were tried.
-#[derive(Clone, Copy, Debug, PartialEq, Eq)]
+#[derive(Clone, Copy)]
 pub(crate) enum Tries {
     /// The clause of this number, counted from 1, and what it came to.
     Chosen(u8, Outcome),
