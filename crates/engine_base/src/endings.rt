@@ -2,7 +2,6 @@
 
 ghost use Rattle.std.specs.Prelude.{◌≡◌, ◌<◌, [], true, map, is_none, IfOk};
 ghost use Rattle.job_model.specs.Floors.{AtStep, Looked};
-ghost use Rattle.note_book.specs.Books.{notes_of};
 ghost use Rattle.call_meaning.specs.Facts.{end_at};
 ghost use Rattle.run_laws.specs.Looks.{end_looked, end_seen};
 ghost use Rattle.engine_base.specs.Books.{books_of};
@@ -15,12 +14,16 @@ use std::alloc::Global;
 /// The books in order of tags, and how the root has ended, if it has.
 ///
 /// The root is looked at on this floor, where others may go on meanwhile: it had ended so at a moment of this call.
-pub fn done_of<J: JobFloor>(alloc: Global, frames: Vec<Frame>, jobs: &mut J) -> Result<Done, Memory>
+pub fn done_of<B: Book, J: JobFloor>(
+    alloc: Global,
+    frames: Vec<Frame<B>>,
+    jobs: &mut J,
+) -> Result<Done<B>, Memory>
     requires caller { (J.view jobs.old).callers 0 ≡ true }
     requires row { 0 < (J.view jobs.old).shape.rows }
     ensures anchor { J.anchor jobs.new ≡ J.anchor jobs.old }
     ensures looked { Looked 0 [] (J.view jobs.old) (J.view jobs.new) }
-    ensures books { IfOk result (λ done. map notes_of done.books.items ≡ books_of frames.items) }
+    ensures books { IfOk result (λ done. map B.items done.books.items ≡ books_of frames.items) }
     ensures end { IfOk result (λ done. AtStep (J.view jobs.old) (J.view jobs.new) (λ tree. end_at (tree 0) ≡ done.end)) }
     ensures idle { IfOk result (λ done. done.idle ≡ is_none done.end) }
 {
@@ -33,8 +36,8 @@ pub fn done_of<J: JobFloor>(alloc: Global, frames: Vec<Frame>, jobs: &mut J) -> 
 }
 
 /// The books of the frames.
-pub fn books_of(alloc: Global, frames: Vec<Frame>) -> Result<Vec<Book>, Memory>
-    ensures { IfOk result (λ books. map notes_of books.items ≡ books_of frames.items) }
+pub fn books_of<B: Book>(alloc: Global, frames: Vec<Frame<B>>) -> Result<Vec<B>, Memory>
+    ensures { IfOk result (λ books. map B.items books.items ≡ books_of frames.items) }
 {
     let mut books = Vec::with_capacity(alloc, frames.len())?;
     for frame in frames {

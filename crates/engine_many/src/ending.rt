@@ -4,7 +4,6 @@ ghost use Rattle.std.specs.Prelude.{◌≡◌, ◌≢◌, ℕ, true, false, [], 
 ghost use Rattle.channel_model.specs.Histories.{acts_of};
 ghost use Rattle.job_model.specs.Histories.{acts_of as job_acts_of};
 ghost use Rattle.job_model.specs.Floors.{is_claimed_by};
-ghost use Rattle.note_book.specs.Books.{notes_of};
 ghost use Rattle.script_grammar.specs.Tags.{coroutine_count};
 ghost use Rattle.engine_many.specs.Parts.{sight_of};
 ghost use Rattle.run_laws.specs.Sights.{Keeps};
@@ -22,22 +21,22 @@ use std::alloc::Global;
 
 /// What is left of all: the books in order of tags, and the floors of the root, which have seen all.
 #[derive(Drop)]
-pub struct Left<C, J> {
-    pub books: Vec<Book>,
+pub struct Left<C, J, B> {
+    pub books: Vec<B>,
     pub channels: C,
     pub jobs: J,
 }
 
 /// Ends the floors of the others into those of the root, and those that were kept aside, whose tag did nothing.
-pub(crate) fn end_floors<N: ScriptName, C: SharedChannels + Drop, J: SharedJobs + Drop>(
+pub(crate) fn end_floors<N: ScriptName, C: SharedChannels + Drop, J: SharedJobs + Drop, B: Book>(
     alloc: Global,
-    root: Task<N, C, J>,
-    others: Vec<Task<N, C, J>>,
+    root: Task<N, C, J, B>,
+    others: Vec<Task<N, C, J, B>>,
     aside: (C, J),
-) -> Result<Left<C, J>, Memory>
+) -> Result<Left<C, J, B>, Memory>
     requires root { root.0.tag ≡ 0 }
     requires aside { IsSpare N.program (C.view aside.0) (J.view aside.1) }
-    ensures books { IfOk result (λ left. map notes_of left.books.items ≡ books_seen (sight_of C.view J.view) (root ∷ others.items)) }
+    ensures books { IfOk result (λ left. map B.items left.books.items ≡ books_seen (sight_of C.view J.view) (root ∷ others.items)) }
     ensures root { IfOk result (λ left. IsBroughtTo N.program (C.view left.channels) (J.view left.jobs) (sight_of C.view J.view root)) }
     ensures others { IfOk result (λ left. All (λ x. IsBroughtTo N.program (C.view left.channels) (J.view left.jobs)
         (sight_of C.view J.view x)) others.items) }

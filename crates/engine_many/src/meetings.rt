@@ -9,15 +9,16 @@ ghost use Rattle.script_grammar.specs.Programs.{Program};
 use crate::task::Task;
 use co_base::Memory;
 use engine_base::ScriptName;
+use poll_states::Book;
 use shared_floors::{SharedChannels, SharedJobs};
 use std::alloc::Global;
 
 /// The root hears of all that each of the others has seen.
-pub(crate) fn hear_all<N: ScriptName, C: SharedChannels + Drop, J: SharedJobs + Drop>(
+pub(crate) fn hear_all<N: ScriptName, C: SharedChannels + Drop, J: SharedJobs + Drop, B: Book>(
     alloc: Global,
-    root: &mut Task<N, C, J>,
-    others: Vec<Task<N, C, J>>,
-) -> Result<Vec<Task<N, C, J>>, Memory>
+    root: &mut Task<N, C, J, B>,
+    others: Vec<Task<N, C, J, B>>,
+) -> Result<Vec<Task<N, C, J, B>>, Memory>
     ensures root { SawMore (sight_of C.view J.view root.old) (sight_of C.view J.view root.new) }
     ensures tags { IfOk result (λ v. tags_of v.items ≡ tags_of others.items) }
     ensures heard { IfOk result (λ v. All (λ x. KnowsAllOf (sight_of C.view J.view root.new) (sight_of C.view J.view x)) v.items) }
@@ -38,11 +39,11 @@ pub(crate) fn hear_all<N: ScriptName, C: SharedChannels + Drop, J: SharedJobs + 
 }
 
 /// Each of the others hears of all that the root has seen.
-pub(crate) fn tell_all<N: ScriptName, C: SharedChannels + Drop, J: SharedJobs + Drop>(
+pub(crate) fn tell_all<N: ScriptName, C: SharedChannels + Drop, J: SharedJobs + Drop, B: Book>(
     alloc: Global,
-    root: &mut Task<N, C, J>,
-    others: Vec<Task<N, C, J>>,
-) -> Result<Vec<Task<N, C, J>>, Memory>
+    root: &mut Task<N, C, J, B>,
+    others: Vec<Task<N, C, J, B>>,
+) -> Result<Vec<Task<N, C, J, B>>, Memory>
     ensures root { IsSeenSame (sight_of C.view J.view root.old) (sight_of C.view J.view root.new) }
     ensures tags { IfOk result (λ v. tags_of v.items ≡ tags_of others.items) }
     ensures told { IfOk result (λ v. All (λ x. IsWithin (sight_of C.view J.view root.old) (sight_of C.view J.view x)) v.items) }
@@ -63,10 +64,10 @@ pub(crate) fn tell_all<N: ScriptName, C: SharedChannels + Drop, J: SharedJobs + 
 }
 
 /// All hear of all. The first of them is the root.
-pub(crate) fn meet_all<N: ScriptName, C: SharedChannels + Drop, J: SharedJobs + Drop>(
+pub(crate) fn meet_all<N: ScriptName, C: SharedChannels + Drop, J: SharedJobs + Drop, B: Book>(
     alloc: Global,
-    tasks: Vec<Task<N, C, J>>,
-) -> Result<Vec<Task<N, C, J>>, Memory>
+    tasks: Vec<Task<N, C, J, B>>,
+) -> Result<Vec<Task<N, C, J, B>>, Memory>
     requires some { 0 < length tasks.items }
     ensures tags { IfOk result (λ v. tags_of v.items ≡ tags_of tasks.items) }
     ensures met { IfOk result (λ v. AllMet (sight_of C.view J.view) v.items) }

@@ -1,7 +1,6 @@
 //! What the calling thread does when the workers have ended.
 
 ghost use Rattle.std.specs.Prelude.{◌≡◌, All, IfOk, map, length};
-ghost use Rattle.note_book.specs.Books.{notes_of};
 ghost use Rattle.script_grammar.specs.Tags.{coroutine_count};
 ghost use Rattle.script_reader.specs.Scripts.{program_of};
 ghost use Rattle.script_grammar.specs.WellFormed.{IsProgram};
@@ -19,6 +18,7 @@ use channel_model::ChannelFloor;
 use co_base::{Gate, Memory};
 use engine_base::ScriptName;
 use job_model::{End, JobFloor};
+use poll_states::Book;
 use script_reader::Script;
 use shared_floors::{SharedChannels, SharedJobs};
 use std::alloc::Global;
@@ -26,25 +26,25 @@ use task_crew::Tickets;
 
 /// What a last round came to.
 #[derive(Drop)]
-pub(crate) enum Round<T, C, J> {
+pub(crate) enum Round<T, C, J, B> {
     /// It came to nothing, and the run is over: what is left, and how the root has ended, if it has.
-    Over(Left<C, J>, Option<End>),
+    Over(Left<C, J, B>, Option<End>),
     /// One of them did something: the tasks, and the floors that are kept aside.
     GoesOn(Vec<T>, C, J),
 }
 
 /// All have rested: ends their floors into those of the root.
-pub(crate) fn end_run<N: ScriptName, C: SharedChannels + Drop, J: SharedJobs + Drop>(
+pub(crate) fn end_run<N: ScriptName, C: SharedChannels + Drop, J: SharedJobs + Drop, B: Book>(
     alloc: Global,
-    tasks: Vec<Task<N, C, J>>,
+    tasks: Vec<Task<N, C, J, B>>,
     aside: (C, J),
-) -> Result<(Left<C, J>, Option<End>), Memory>
+) -> Result<(Left<C, J, B>, Option<End>), Memory>
     requires script { IsProgram N.program }
     requires count { length tasks.items ≡ coroutine_count N.program }
     requires tags { CountUp 0 (tags_of tasks.items) }
     requires rested { AllRested (sight_of C.view J.view) N.program tasks.items }
     requires aside { IsSpare N.program (C.view aside.0) (J.view aside.1) }
-    ensures { IfOk result (λ r. IsRunAtRest N.program (map notes_of r.0.books.items)
+    ensures { IfOk result (λ r. IsRunAtRest N.program (map B.items r.0.books.items)
         (C.view r.0.channels).seen (J.view r.0.jobs).seen r.1) }
 {
     let mut others = tasks;
@@ -56,19 +56,25 @@ pub(crate) fn end_run<N: ScriptName, C: SharedChannels + Drop, J: SharedJobs + D
 
 /// All hear of all, and then every coroutine is polled once. Where none of them did anything, all hear of all once more, and the floors
 /// are ended into those of the root.
-pub(crate) fn last_round<N: ScriptName, C: SharedChannels + Drop, J: SharedJobs + Drop, G: Gate>(
+pub(crate) fn last_round<
+    N: ScriptName,
+    C: SharedChannels + Drop,
+    J: SharedJobs + Drop,
+    B: Book,
+    G: Gate,
+>(
     alloc: Global,
     script: &Script,
-    tasks: Vec<Task<N, C, J>>,
+    tasks: Vec<Task<N, C, J, B>>,
     aside: (C, J),
     tickets: &mut Tickets,
     gate: &G,
-) -> Result<Round<Task<N, C, J>, C, J>, Memory>
+) -> Result<Round<Task<N, C, J, B>, C, J, B>, Memory>
     requires script { program_of script.now ≡ N.program }
     requires count { length tasks.items ≡ coroutine_count N.program }
     requires tags { CountUp 0 (tags_of tasks.items) }
     requires aside { IsSpare N.program (C.view aside.0) (J.view aside.1) }
-    ensures { IfOk result (λ round. RoundAnswer C.view J.view N.program round) }
+    ensures { IfOk result (λ round. RoundAnswer B.items C.view J.view N.program round) }
 {
     let met = meet_all(alloc, tasks)?;
     let (polled, moved) = poll_all(alloc, script, met, tickets, gate)?;

@@ -1,7 +1,6 @@
 //! A whole run by several workers without a lock.
 
 ghost use Rattle.std.specs.Prelude.{◌≡◌, ◌<◌, ◌≤◌, IfOk, length, map, vec_len};
-ghost use Rattle.note_book.specs.Books.{notes_of};
 ghost use Rattle.script_grammar.specs.Tags.{coroutine_count};
 ghost use Rattle.script_reader.specs.Scripts.{program_of};
 ghost use Rattle.engine_many.specs.Parts.{tags_of};
@@ -17,6 +16,7 @@ use channel_model::ChannelFloor;
 use co_base::{Gate, Memory};
 use engine_base::ScriptName;
 use job_model::{End, JobFloor};
+use poll_states::Book;
 use script_reader::Script;
 use shared_floors::{SharedChannels, SharedJobs};
 use std::alloc::Global;
@@ -30,6 +30,7 @@ fn run_tickets<
     N: ScriptName + Send + Sync,
     C: SharedChannels + Drop + Send,
     J: SharedJobs + Drop + Send,
+    B: Book + Send,
     R: Threads + Wait + Sync,
     G: Gate + Sync,
 >(
@@ -37,9 +38,9 @@ fn run_tickets<
     alloc: Global,
     script: &Script,
     gate: &G,
-    tasks: Vec<Task<N, C, J>>,
+    tasks: Vec<Task<N, C, J, B>>,
     tickets: Vec<Tickets>,
-) -> Result<(Vec<Task<N, C, J>>, Vec<Tickets>), Memory>
+) -> Result<(Vec<Task<N, C, J, B>>, Vec<Tickets>), Memory>
     requires script { program_of script.now ≡ N.program }
     requires count { length tasks.items ≡ coroutine_count N.program }
     requires tags { CountUp 0 (tags_of tasks.items) }
@@ -62,6 +63,7 @@ pub fn run_tasks<
     N: ScriptName + Send + Sync,
     C: SharedChannels + Drop + Send,
     J: SharedJobs + Drop + Send,
+    B: Book + Send,
     R: Threads + Wait + Sync,
     G: Gate + Sync,
 >(
@@ -70,15 +72,15 @@ pub fn run_tasks<
     script: &Script,
     workers: u8,
     gate: &G,
-    tasks: Vec<Task<N, C, J>>,
+    tasks: Vec<Task<N, C, J, B>>,
     aside: (C, J),
-) -> Result<(Left<C, J>, Option<End>), Memory>
+) -> Result<(Left<C, J, B>, Option<End>), Memory>
     requires script { program_of script.now ≡ N.program }
     requires workers { (2 ≤ workers) × (workers ≤ 16) }
     requires count { length tasks.items ≡ coroutine_count N.program }
     requires tags { CountUp 0 (tags_of tasks.items) }
     requires aside { IsSpare N.program (C.view aside.0) (J.view aside.1) }
-    ensures { IfOk result (λ r. IsRunAtRest N.program (map notes_of r.0.books.items)
+    ensures { IfOk result (λ r. IsRunAtRest N.program (map B.items r.0.books.items)
         (C.view r.0.channels).seen (J.view r.0.jobs).seen r.1) }
 {
     let mut lanes = no_tickets(alloc, workers, u32::from(script.coroutines()))?;

@@ -17,20 +17,21 @@ ghost use Rattle.engine_many.specs.WordRuns.{IsFreshHub};
 use crate::task::Task;
 use co_base::Memory;
 use engine_base::ScriptName;
+use poll_states::Book;
 use script_reader::Script;
 use std::alloc::Global;
 use word_seats::{ForestName, ForestSeat, HubName, HubSeat};
 
 /// A task for each coroutine, in order of their tags, and seats of one tag more, under which nobody acts. The root attaches what the script
 /// spawns.
-pub(crate) fn seat_tasks<'a, N: ScriptName + HubName + ForestName>(
+pub(crate) fn seat_tasks<'a, N: ScriptName + HubName + ForestName, B: Book>(
     alloc: Global,
     script: &Script,
     root: HubSeat<'a, N>,
     root_jobs: ForestSeat<'a, N>,
 ) -> Result<
     (
-        Vec<Task<N, HubSeat<'a, N>, ForestSeat<'a, N>>>,
+        Vec<Task<N, HubSeat<'a, N>, ForestSeat<'a, N>, B>>,
         (HubSeat<'a, N>, ForestSeat<'a, N>),
     ),
     Memory,

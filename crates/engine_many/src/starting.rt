@@ -10,19 +10,19 @@ ghost use Rattle.run_laws.specs.Starts.{IsUntouched};
 use crate::task::Task;
 use co_base::{Memory, Tag};
 use engine_base::ScriptName;
-use poll_states::{Frame, begin};
+use poll_states::{Book, Frame, begin};
 use script_reader::Script;
 use shared_floors::{SharedChannels, SharedJobs};
 use std::alloc::Global;
 
-impl<N: ScriptName, C: SharedChannels + Drop, J: SharedJobs + Drop> Task<N, C, J> {
+impl<N: ScriptName, C: SharedChannels + Drop, J: SharedJobs + Drop, B: Book> Task<N, C, J, B> {
     /// The root, which attaches what the script spawns.
     pub fn root(
         alloc: Global,
         script: &Script,
         channels: C,
         jobs: J,
-    ) -> Result<Task<N, C, J>, Memory>
+    ) -> Result<Task<N, C, J, B>, Memory>
         requires script { program_of script.now ≡ N.program }
         requires channels { IsOnItsChannels (program_of script.now) (C.view channels) }
         requires jobs { IsOnItsJobs (program_of script.now) (J.view jobs) }
@@ -32,7 +32,8 @@ impl<N: ScriptName, C: SharedChannels + Drop, J: SharedJobs + Drop> Task<N, C, J
         let mut frame = Frame::new(alloc, script, 0)?;
         let mut jobs = jobs;
         begin(script, &mut frame, &mut jobs)?;
-        Ok(Task::new(frame, channels, jobs))
+        let boxed = Box::new(alloc, frame)?;
+        Ok(Task::new(boxed, channels, jobs))
     }
 
     /// Another coroutine, which did nothing yet.
@@ -42,7 +43,7 @@ impl<N: ScriptName, C: SharedChannels + Drop, J: SharedJobs + Drop> Task<N, C, J
         tag: Tag,
         channels: C,
         jobs: J,
-    ) -> Result<Task<N, C, J>, Memory>
+    ) -> Result<Task<N, C, J, B>, Memory>
         requires script { program_of script.now ≡ N.program }
         requires tag { tag < coroutine_count (program_of script.now) }
         requires child { tag ≢ 0 }
@@ -50,6 +51,7 @@ impl<N: ScriptName, C: SharedChannels + Drop, J: SharedJobs + Drop> Task<N, C, J
         ensures tag { IfOk result (λ t. t.0.tag ≡ tag) }
     {
         let frame = Frame::new(alloc, script, tag)?;
-        Ok(Task::new(frame, channels, jobs))
+        let boxed = Box::new(alloc, frame)?;
+        Ok(Task::new(boxed, channels, jobs))
     }
 }

@@ -1,12 +1,11 @@
 //! A coroutine with the two floors of its own.
 
 ghost use Rattle.std.specs.Prelude.{◌≡◌, IfOk, OnOk, length};
-ghost use Rattle.note_book.specs.Books.{notes_of};
 ghost use Rattle.job_model.specs.Trees.{Tree};
 ghost use Rattle.job_model.specs.Floors.{AtStep};
 ghost use Rattle.call_meaning.specs.Facts.{end_at};
 ghost use Rattle.script_reader.specs.Scripts.{program_of};
-ghost use Rattle.poll_states.specs.Frames.{Stands};
+ghost use Rattle.poll_states.specs.Frames.{items_of, Stands};
 ghost use Rattle.poll_states.specs.Steps.{PolledTo};
 ghost use Rattle.engine_many.specs.Parts.{sight_of};
 ghost use Rattle.run_laws.specs.Sights.{Keeps, KnowsTags, SawMore, IsSeenSame, IsWithin};
@@ -16,36 +15,39 @@ use channel_model::ChannelFloor;
 use co_base::{Gate, Memory, Tag};
 use engine_base::{ScriptName, end_of};
 use job_model::{End, JobFloor};
-use poll_states::{Floors, Frame, Turn, poll};
+use poll_states::{Book, Floors, Frame, Turn, poll};
 use script_reader::Script;
 use shared_floors::{SharedChannels, SharedJobs};
 use std::marker::{Model, PhantomData};
 use task_berths::Tagged;
 use task_crew::Tickets;
 
-/// A coroutine of the run with the two floors that it alone calls. Contracts see it as these three.
+/// A coroutine of the run with the two floors that it alone calls. Contracts see it as these three. The frame lies in a box, since a task
+/// is moved into its berth and out of it around each few polls.
 #[derive(Drop)]
-pub struct Task<N: ScriptName, C: SharedChannels + Drop, J: SharedJobs + Drop> {
-    frame: Frame,
+pub struct Task<N: ScriptName, C: SharedChannels + Drop, J: SharedJobs + Drop, B: Book> {
+    frame: Box<Frame<B>>,
     channels: C,
     jobs: J,
     name: PhantomData<N>,
 }
 
-impl<N: ScriptName, C: SharedChannels + Drop, J: SharedJobs + Drop> Model for Task<N, C, J> {
-    ghost use Rattle.poll_states.specs.declared.frame.Frame.{Frame};
+impl<N: ScriptName, C: SharedChannels + Drop, J: SharedJobs + Drop, B: Book> Model
+    for Task<N, C, J, B> {
+    ghost use Rattle.poll_states.specs.Frames.{Frame};
     ghost use Rattle.engine_many.specs.Parts.{sight_of};
     ghost use Rattle.run_laws.specs.Sights.{Keeps, KnowsTags};
 
     ghost Value = { Frame × C × J };
 
-    ghost view = { λ t. (t.frame, t.channels, t.jobs) };
+    ghost view = { λ t. (t.frame.value, t.channels, t.jobs) };
 
-    ghost invariant = { λ t. Keeps N.program (sight_of C.view J.view (t.frame, t.channels, t.jobs))
-        × KnowsTags N.program t.frame.tag (C.may_act (C.anchor t.channels)) (J.may_act (J.anchor t.jobs)) };
+    ghost invariant = { λ t. Keeps N.program (sight_of C.view J.view (t.frame.value, t.channels, t.jobs))
+        × KnowsTags N.program t.frame.value.tag (C.may_act (C.anchor t.channels)) (J.may_act (J.anchor t.jobs)) };
 }
 
-impl<N: ScriptName, C: SharedChannels + Drop, J: SharedJobs + Drop> Tagged for Task<N, C, J> {
+impl<N: ScriptName, C: SharedChannels + Drop, J: SharedJobs + Drop, B: Book> Tagged
+    for Task<N, C, J, B> {
     ghost tag_of = { λ t. t.0.tag };
 
     fn tag(&self) -> Tag {
@@ -54,9 +56,9 @@ impl<N: ScriptName, C: SharedChannels + Drop, J: SharedJobs + Drop> Tagged for T
 }
 
 /// A poll on floors of one's own.
-fn poll_on<C: ChannelFloor, J: JobFloor, G: Gate>(
+fn poll_on<B: Book, C: ChannelFloor, J: JobFloor, G: Gate>(
     script: &Script,
-    frame: &mut Frame,
+    frame: &mut Frame<B>,
     channels: &mut C,
     jobs: &mut J,
     tickets: &mut Tickets,
@@ -76,12 +78,12 @@ fn poll_on<C: ChannelFloor, J: JobFloor, G: Gate>(
     poll(script, frame, &mut floors, gate)
 }
 
-impl<N: ScriptName, C: SharedChannels + Drop, J: SharedJobs + Drop> Task<N, C, J> {
+impl<N: ScriptName, C: SharedChannels + Drop, J: SharedJobs + Drop, B: Book> Task<N, C, J, B> {
     /// A coroutine that stands on these floors.
-    pub fn new(frame: Frame, channels: C, jobs: J) -> Task<N, C, J>
-        requires keeps { Keeps N.program (sight_of C.view J.view (frame, channels, jobs)) }
-        requires tags { KnowsTags N.program frame.tag (C.may_act (C.anchor channels)) (J.may_act (J.anchor jobs)) }
-        ensures { result ≡ (frame, channels, jobs) }
+    pub fn new(frame: Box<Frame<B>>, channels: C, jobs: J) -> Task<N, C, J, B>
+        requires keeps { Keeps N.program (sight_of C.view J.view (frame.value, channels, jobs)) }
+        requires tags { KnowsTags N.program frame.value.tag (C.may_act (C.anchor channels)) (J.may_act (J.anchor jobs)) }
+        ensures { result ≡ (frame.value, channels, jobs) }
     {
         Task {
             frame,
@@ -97,7 +99,7 @@ impl<N: ScriptName, C: SharedChannels + Drop, J: SharedJobs + Drop> Task<N, C, J
         script: &Script,
         tickets: &mut Tickets,
         gate: &G,
-    ) -> Result<(Task<N, C, J>, Turn), Memory>
+    ) -> Result<(Task<N, C, J, B>, Turn), Memory>
         requires { program_of script.now ≡ N.program }
         ensures polled { IfOk result (λ r. PolledTo N.program (C.view self.1) (C.view r.0.1) (J.view self.2) (J.view r.0.2)
             self.0 r.0.0 r.1) }
@@ -120,8 +122,8 @@ impl<N: ScriptName, C: SharedChannels + Drop, J: SharedJobs + Drop> Task<N, C, J
     }
 
     /// How many notes its book has.
-    fn notes(&self) -> usize
-        ensures { result ≡ length (notes_of self.now.0.book) }
+    fn notes(&self) -> u64
+        ensures { result ≡ length (items_of self.now.0) }
     {
         self.frame.notes()
     }
@@ -132,7 +134,7 @@ impl<N: ScriptName, C: SharedChannels + Drop, J: SharedJobs + Drop> Task<N, C, J
         script: &Script,
         tickets: &mut Tickets,
         gate: &G,
-    ) -> Result<(Task<N, C, J>, bool), Memory>
+    ) -> Result<(Task<N, C, J, B>, bool), Memory>
         requires { program_of script.now ≡ N.program }
         ensures did { IfOk result (λ r. Did N.program (sight_of C.view J.view self) (sight_of C.view J.view r.0) r.1) }
         ensures keeps { IfOk result (λ r. Keeps N.program (sight_of C.view J.view r.0)) }
@@ -150,7 +152,7 @@ impl<N: ScriptName, C: SharedChannels + Drop, J: SharedJobs + Drop> Task<N, C, J
     }
 
     /// Hears of all that the other has seen.
-    pub(crate) fn hear(&mut self, other: &mut Task<N, C, J>)
+    pub(crate) fn hear(&mut self, other: &mut Task<N, C, J, B>)
         ensures more { SawMore (sight_of C.view J.view self.old) (sight_of C.view J.view self.new) }
         ensures heard { IsWithin (sight_of C.view J.view other.old) (sight_of C.view J.view self.new) }
         ensures other { IsSeenSame (sight_of C.view J.view other.old) (sight_of C.view J.view other.new) }
@@ -169,7 +171,7 @@ impl<N: ScriptName, C: SharedChannels + Drop, J: SharedJobs + Drop> Task<N, C, J
     }
 
     /// The frame and the floors.
-    pub(crate) fn into_parts(self) -> (Frame, C, J)
+    pub(crate) fn into_parts(self) -> (Frame<B>, C, J)
         ensures same { result ≡ self }
         ensures keeps { Keeps N.program (sight_of C.view J.view self) }
         ensures tags { KnowsTags N.program self.0.tag (C.may_act (C.anchor self.1)) (J.may_act (J.anchor self.2)) }
@@ -180,6 +182,6 @@ impl<N: ScriptName, C: SharedChannels + Drop, J: SharedJobs + Drop> Task<N, C, J
             jobs,
             name: _,
         } = self;
-        (frame, channels, jobs)
+        (Box::into_inner(frame), channels, jobs)
     }
 }

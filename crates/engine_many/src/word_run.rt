@@ -1,7 +1,6 @@
 //! A run of a script over words.
 
 ghost use Rattle.std.specs.Prelude.{◌≡◌, ◌≤◌, ◌∷◌, [], IfOk, is_none, map};
-ghost use Rattle.note_book.specs.Books.{notes_of};
 ghost use Rattle.job_model.specs.Floors.{IsFreshFloor};
 ghost use Rattle.cell_words.specs.Hubs.{IsOf, IsOwn, GivesTags, shape_of, seen_by};
 ghost use Rattle.job_words.specs.Forests.{IsOf as IsOfForest, IsOwn as IsOwnJobs, GivesTags as GivesJobTags, seen_by as jobs_seen_by};
@@ -19,7 +18,7 @@ use cell_words::{Hub, Pass};
 use co_base::{Gate, Memory};
 use engine_base::{ScriptName, kinds_of};
 use job_words::{Forest, JobPass};
-use poll_states::Done;
+use poll_states::{Book, Done};
 use script_reader::Script;
 use std::alloc::Global;
 use std::marker::{Brand, PhantomData};
@@ -29,8 +28,8 @@ use word_seats::{ForestName, ForestSeat, HubName, HubSeat};
 
 /// What a run leaves; and its channels and Jobs, with passes that may call for every coroutine and have seen all entries.
 #[derive(Drop)]
-pub struct WordRun {
-    pub done: Done,
+pub struct WordRun<B> {
+    pub done: Done<B>,
     pub hub: Hub,
     pub pass: Pass,
     pub forest: Forest,
@@ -44,20 +43,20 @@ pub struct WordRun {
 /// coroutine, and in which order coroutines are polled, is left open.
 ///
 /// The books are those of a run with the histories of its hub and of its forest, which came to rest; nobody can go on.
-pub fn run_many<R: Threads + Wait + Sync, G: Gate + Sync>(
+pub fn run_many<B: Book + Send, R: Threads + Wait + Sync, G: Gate + Sync>(
     rt: &R,
     alloc: Global,
     script: &Script,
     workers: u8,
     gate: &G,
-) -> Result<WordRun, Memory>
+) -> Result<WordRun<B>, Memory>
     requires { (2 ≤ workers) × (workers ≤ 16) }
-    ensures run { IfOk result (λ run. CameToRest (program_of script.now) run) }
+    ensures run { IfOk result (λ run. CameToRest B.items (program_of script.now) run) }
     ensures idle { IfOk result (λ run. TellsIdle run) }
 {
     let (hub, pass) = hub_of(alloc, script)?;
     let (forest, jobs) = forest_of(alloc, script)?;
-    let (done, pass, jobs) = run_seated::<Brand, R, G>(
+    let (done, pass, jobs) = run_seated::<Brand, B, R, G>(
         rt, alloc, script, workers, gate, &hub, pass, &forest, jobs,
     )?;
     Ok(WordRun {
@@ -92,6 +91,7 @@ fn forest_of(alloc: Global, script: &Script) -> Result<(Forest, JobPass), Memory
 /// Runs the script on seats at this hub and this forest, with which nothing was done.
 fn run_seated<
     N: ScriptName + HubName + ForestName + Send + Sync,
+    B: Book + Send,
     R: Threads + Wait + Sync,
     G: Gate + Sync,
 >(
@@ -104,7 +104,7 @@ fn run_seated<
     pass: Pass,
     forest: &Forest,
     jobs: JobPass,
-) -> Result<(Done, Pass, JobPass), Memory>
+) -> Result<(Done<B>, Pass, JobPass), Memory>
     requires workers { (2 ≤ workers) × (workers ≤ 16) }
     requires script { program_of script.now ≡ N.program }
     requires hub { IsNamedHub N.hub_table N.hub_layout hub.now × IsOwn hub.now pass 0 × GivesTags (0 ∷ []) pass }
@@ -113,7 +113,7 @@ fn run_seated<
     requires rows { IsFreshFloor (job_shape N.program) (floor_seen (jobs_seen_by jobs)) }
     ensures pass { IfOk result (λ r. IsOf hub.now r.1) }
     ensures jobs { IfOk result (λ r. IsOfForest forest.now r.2) }
-    ensures rest { IfOk result (λ r. IsRunAtRest N.program (map notes_of r.0.books.items)
+    ensures rest { IfOk result (λ r. IsRunAtRest N.program (map B.items r.0.books.items)
         (seen_by r.1).seen (floor_seen (jobs_seen_by r.2)).seen r.0.end) }
     ensures idle { IfOk result (λ r. r.0.idle ≡ is_none r.0.end) }
 {

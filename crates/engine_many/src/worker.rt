@@ -6,7 +6,7 @@ ghost use Rattle.script_reader.specs.Scripts.{program_of};
 use crate::task::Task;
 use co_base::{Gate, Memory};
 use engine_base::ScriptName;
-use poll_states::Turn;
+use poll_states::{Book, Turn};
 use script_reader::Script;
 use shared_floors::{SharedChannels, SharedJobs};
 use std::marker::PhantomData;
@@ -17,12 +17,18 @@ use task_crew::{Polls, Tickets};
 const POLLS_IN_A_ROW: u32 = 64;
 
 /// Polls the coroutine while it is ready, so many times at most. The answer says whether it is ready still. Without memory it is dropped.
-fn poll_while_ready<N: ScriptName, C: SharedChannels + Drop, J: SharedJobs + Drop, G: Gate>(
+fn poll_while_ready<
+    N: ScriptName,
+    C: SharedChannels + Drop,
+    J: SharedJobs + Drop,
+    B: Book,
+    G: Gate,
+>(
     script: &Script,
-    task: Task<N, C, J>,
+    task: Task<N, C, J, B>,
     tickets: &mut Tickets,
     gate: &G,
-) -> Result<(Task<N, C, J>, bool), Memory>
+) -> Result<(Task<N, C, J, B>, bool), Memory>
     requires { program_of script.now ≡ N.program }
     ensures { IfOk result (λ r. r.0.0.tag ≡ task.0.tag) }
 {
@@ -45,9 +51,13 @@ pub(crate) struct RunsLines<'a, N, G> {
     pub(crate) name: PhantomData<N>,
 }
 
-impl<N: ScriptName + Sync, C: SharedChannels + Drop, J: SharedJobs + Drop, G: Gate + Sync> Polls<
-    Task<N, C, J>,
-> for RunsLines<'_, N, G> {
+impl<
+    N: ScriptName + Sync,
+    C: SharedChannels + Drop,
+    J: SharedJobs + Drop,
+    B: Book,
+    G: Gate + Sync,
+> Polls<Task<N, C, J, B>> for RunsLines<'_, N, G> {
     ghost use Rattle.std.specs.Prelude.{◌≡◌};
     ghost use Rattle.script_reader.specs.Scripts.{program_of};
 
@@ -55,9 +65,9 @@ impl<N: ScriptName + Sync, C: SharedChannels + Drop, J: SharedJobs + Drop, G: Ga
 
     fn poll(
         &self,
-        task: Task<N, C, J>,
+        task: Task<N, C, J, B>,
         tickets: &mut Tickets,
-    ) -> Result<(Task<N, C, J>, bool), Memory> {
+    ) -> Result<(Task<N, C, J, B>, bool), Memory> {
         poll_while_ready(self.script, task, tickets, self.gate)
     }
 }

@@ -22,8 +22,7 @@ use Rattle.run_laws.proofs.LaterStands.{same_job_acts, same_claims, claims_withi
 use Rattle.run_laws.proofs.Hearing.{sight}
 use Rattle.run_laws.proofs.FreshTasks.{no_calls_yet, no_jobs_yet, claims_yet, none_owned, keeps_fresh}
 use Rattle.run_laws.proofs.Places.{within, pushed_at, slice_get-set_same, slice_get-set_other}
-use Rattle.poll_states.specs.declared.frame.Frame.{Frame}
-use Rattle.poll_states.specs.Frames.{frame_of}
+use Rattle.poll_states.specs.Frames.{Frame, frame_of}
 use Rattle.poll_states.specs.Steps.{IsOnItsChannels, IsOnItsJobs, BegunTo}
 use Rattle.engine_one.specs.Coroutines.{Scene, FrameStands, StandsAt, AllStand}
 use Rattle.engine_one.specs.Starting.{IsMade, IsMadeAt, AllMade, HasNoCalls, HasNoJobs}

@@ -30,8 +30,7 @@ use Rattle.run_laws.proofs.RefusalsTold.{never_refused}
 use Rattle.run_laws.proofs.Lists.{some_coroutine}
 use Rattle.run_laws.proofs.Places.{some_at, none_past}
 use Rattle.run_laws.proofs.Prefixes.{between_same}
-use Rattle.poll_states.specs.declared.frame.Frame.{Frame}
-use Rattle.poll_states.specs.Frames.{frame_of, config_of, items_of}
+use Rattle.poll_states.specs.Frames.{Frame, frame_of, config_of, items_of}
 use Rattle.engine_base.specs.Books.{books_of}
 use Rattle.engine_one.specs.Coroutines.{Scene, FrameStands, StandsAt, AllStand, IsLeftAt, AllLeft}
 

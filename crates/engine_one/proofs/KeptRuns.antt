@@ -4,11 +4,11 @@ use Rattle.channel_model.specs.Histories.{Legal}
 use Rattle.job_model.specs.Histories.{Legal as LegalJobs}
 use Rattle.script_grammar.specs.Programs.{Program}
 use Rattle.script_grammar.specs.WellFormed.{IsProgram}
-use Rattle.poll_states.specs.declared.frame.Frame.{Frame}
 use Rattle.engine_one.specs.Coroutines.{Scene, AllStand}
 use Rattle.engine_one.specs.Progress.{LeftWhere}
 use Rattle.engine_one.specs.Sharing.{KeepsRun}
 use Rattle.engine_one.proofs.Endings.{books_are_parts, run_ends}
+use Rattle.poll_states.specs.Frames.{Frame}
 
 keeps_run : (p : Program) (s : Scene) (frames : List Frame) (over : Bool) → IsProgram p → Legal s.channels.shape s.channels.seen → LegalJobs s.jobs.shape s.jobs.seen → AllStand p s frames → LeftWhere over s frames → KeepsRun p s frames over
 keeps_run p s frames true ok legal legal_jobs stand left =

@@ -32,8 +32,7 @@ use Rattle.script_laws.proofs.EndsToSee.{seen_closed}
 use Rattle.script_meaning.proofs.BodiesOpen.{Knows, stands_knows, named_attached, scope_here}
 use Rattle.run_laws.proofs.Prefixes.{between_same}
 use Rattle.run_laws.proofs.Places.{sum_by-set_by}
-use Rattle.poll_states.specs.declared.frame.Frame.{Frame}
-use Rattle.poll_states.specs.Frames.{frame_of, config_of, items_of}
+use Rattle.poll_states.specs.Frames.{Frame, frame_of, config_of, items_of}
 use Rattle.poll_states.specs.Steps.{PolledTo, MovesOn}
 use Rattle.engine_one.specs.Coroutines.{Scene, IsSame, FrameStands, AllStand, frame_moves}
 use Rattle.engine_one.specs.Progress.{MovesFall}

@@ -5,8 +5,7 @@ use Rattle.std.proofs.lemmas.Bool.{eqb-true}
 use Rattle.std.proofs.lemmas.Bool.Decides.{nat_tests}
 use Rattle.channel_model.specs.Histories.{replay}
 use Rattle.script_grammar.specs.Programs.{Program}
-use Rattle.poll_states.specs.declared.frame.Frame.{Frame}
-use Rattle.poll_states.specs.Frames.{config_of, items_of}
+use Rattle.poll_states.specs.Frames.{Frame, config_of, items_of}
 use Rattle.script_meaning.specs.Idle.{IsLeft}
 use Rattle.engine_one.specs.Coroutines.{Scene, IsSame, IsLeftAt, all_moves}
 use Rattle.engine_one.specs.Progress.{MovesFall, StandsStill, Advances, OthersSame, TurnCameTo}

@@ -22,8 +22,7 @@ use Rattle.script_meaning.specs.declared.turn.Turn.TheVariants as turn
 use Rattle.script_meaning.specs.Shapes.{floor_shape, job_shape}
 use Rattle.script_meaning.specs.MovesLeft.{moves_left, most_moves}
 use Rattle.script_meaning.specs.Polls.{Polled}
-use Rattle.poll_states.specs.declared.frame.Frame.{Frame}
-use Rattle.poll_states.specs.Frames.{Stands, frame_of, config_of, items_of, IsUnmoved}
+use Rattle.poll_states.specs.Frames.{Frame, Stands, frame_of, config_of, items_of, IsUnmoved}
 use Rattle.poll_states.specs.Steps.{PolledTo, MovesOn}
 use Rattle.run_laws.proofs.RefusalsTold.{polled_refused, refused_later}
 use Rattle.run_laws.proofs.LaterStands.{stands_later, others_added, same_acts, same_job_acts, claims_within}

@@ -14,8 +14,7 @@ use Rattle.script_meaning.specs.Shapes.{base_of, floor_shape}
 use Rattle.script_meaning.specs.Idle.{IsLeft}
 use Rattle.script_meaning.specs.MovesLeft.{moves_left, most_moves}
 use Rattle.run_laws.specs.Refusals.{RefusedSo}
-use Rattle.poll_states.specs.declared.frame.Frame.{Frame}
-use Rattle.poll_states.specs.Frames.{Stands, frame_of, config_of, items_of}
+use Rattle.poll_states.specs.Frames.{Frame, Stands, frame_of, config_of, items_of}
 
 -- what all coroutines have seen of the two floors
 pub record Scene : Type 0 where

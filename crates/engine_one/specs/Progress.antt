@@ -1,8 +1,8 @@
 -- What turns come to.
 use Rattle.std.specs.Prelude.{◌≡◌, ◌≢◌, ℕ, ◌+◌, ◌*◌, ◌<◌, ◌⊎◌, Bool, true, false, List, length, slice_get}
 use Rattle.script_grammar.specs.Programs.{Program}
-use Rattle.poll_states.specs.declared.frame.Frame.{Frame}
 use Rattle.engine_one.specs.Coroutines.{Scene, IsSame, all_moves, IsLeftAt, AllLeft}
+use Rattle.poll_states.specs.Frames.{Frame}
 
 -- fewer moves are left
 abbrev pub MovesFall : Program → Scene → Scene → List Frame → List Frame → Type 0

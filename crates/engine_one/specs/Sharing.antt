@@ -11,10 +11,10 @@ use Rattle.script_meaning.specs.Shapes.{floor_shape}
 use Rattle.script_meaning.specs.MovesLeft.{most_moves}
 use Rattle.script_meaning.specs.Books.{BooksOf}
 use Rattle.script_meaning.specs.Idle.{IsIdle}
-use Rattle.poll_states.specs.declared.frame.Frame.{Frame}
 use Rattle.engine_base.specs.Books.{books_of}
 use Rattle.engine_one.specs.Coroutines.{Scene, AllStand, frame_moves}
 use Rattle.engine_one.specs.Progress.{LeftWhere}
+use Rattle.poll_states.specs.Frames.{Frame}
 
 -- what contracts see of it: the histories of the two floors, the frames, the tags that are to be polled, and its two flags
 pub record SharedState : Type 0 where

@@ -14,6 +14,7 @@ use crate::state::Run;
 use co_base::{Gate, Memory};
 use engine_base::ScriptName;
 use one_thread_floor::{ListFloor, TreeFloor};
+use poll_states::Book;
 use script_reader::Script;
 use std::alloc::Global;
 use std::marker::Brand;
@@ -28,52 +29,57 @@ use std::thread::Threads;
 /// the turns that are left.
 ///
 /// The books are those of a run with these two histories, which came to rest; nobody can go on.
-pub fn run_locked<R: Threads + Wait + Sync, G: Gate + Sync>(
+pub fn run_locked<B: Book + Send, R: Threads + Wait + Sync, G: Gate + Sync>(
     rt: &R,
     alloc: Global,
     script: &Script,
     workers: u8,
     gate: &G,
-) -> Result<ListRun, Memory>
+) -> Result<ListRun<B>, Memory>
     requires { (2 ≤ workers) × (workers ≤ 16) }
-    ensures run { IfOk result (λ run. CameToRest (program_of script.now) run) }
+    ensures run { IfOk result (λ run. CameToRest B.items (program_of script.now) run) }
     ensures idle { IfOk result (λ run. TellsIdle run) }
 {
     let run = start(alloc, script)?;
-    let run = run_together::<Brand, R, G>(rt, alloc, script, workers, gate, run)?;
+    let run = run_together::<Brand, B, R, G>(rt, alloc, script, workers, gate, run)?;
     run_left(alloc, script, run)
 }
 
 /// The turns of all workers, and then those that are left.
-fn run_together<N: ScriptName + Send + Sync, R: Threads + Wait + Sync, G: Gate + Sync>(
+fn run_together<
+    N: ScriptName + Send + Sync,
+    B: Book + Send,
+    R: Threads + Wait + Sync,
+    G: Gate + Sync,
+>(
     rt: &R,
     alloc: Global,
     script: &Script,
     workers: u8,
     gate: &G,
-    run: Run<ListFloor, TreeFloor>,
-) -> Result<Run<ListFloor, TreeFloor>, Memory>
+    run: Run<ListFloor, TreeFloor, B>,
+) -> Result<Run<ListFloor, TreeFloor, B>, Memory>
     requires named { program_of script.now ≡ N.program }
     requires stand { AllStand (program_of script.now) (scene (floor_of run.channels) (tree_of run.jobs)) run.frames.items }
     ensures stand { IfOk result (λ run. AllStand (program_of script.now)
         (scene (floor_of run.channels) (tree_of run.jobs)) run.frames.items) }
     ensures left { IfOk result (λ run. AllLeft (scene (floor_of run.channels) (tree_of run.jobs)) run.frames.items) }
 {
-    let shared = Mutex::new(SharedRun::<N>::new(script, run));
+    let shared = Mutex::new(SharedRun::<N, B>::new(script, run));
     let lock = &shared;
     thread::map_indices(
         rt,
         alloc,
         workers as usize,
-        &|_| work::<N, R, G>(rt, lock, script, gate),
+        &|_| work::<N, B, R, G>(rt, lock, script, gate),
     )?;
     shared.into_inner().finish(script, gate)
 }
 
 /// The turns of one worker.
-fn work<N: ScriptName, R: Wait, G: Gate>(
+fn work<N: ScriptName, B: Book, R: Wait, G: Gate>(
     rt: &R,
-    shared: &Mutex<SharedRun<N>>,
+    shared: &Mutex<SharedRun<N, B>>,
     script: &Script,
     gate: &G,
 )

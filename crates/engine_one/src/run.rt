@@ -13,14 +13,14 @@ use crate::state::Run;
 use co_base::{Gate, Memory};
 use engine_base::done_of;
 use one_thread_floor::{ListFloor, TreeFloor};
-use poll_states::Done;
+use poll_states::{Book, Done};
 use script_reader::Script;
 use std::alloc::Global;
 
 /// What a run leaves, and its channels and Jobs with all their entries.
 #[derive(Drop)]
-pub struct ListRun {
-    pub done: Done,
+pub struct ListRun<B> {
+    pub done: Done<B>,
     pub channels: ListFloor,
     pub jobs: TreeFloor,
 }
@@ -31,8 +31,12 @@ pub struct ListRun {
 /// is woken is appended, and then the coroutine itself where it made a move and has not ended.
 ///
 /// The books are those of a run with these two histories, which came to rest; nobody can go on.
-pub fn run_one<G: Gate>(alloc: Global, script: &Script, gate: &G) -> Result<ListRun, Memory>
-    ensures run { IfOk result (λ run. CameToRest (program_of script.now) run) }
+pub fn run_one<B: Book, G: Gate>(
+    alloc: Global,
+    script: &Script,
+    gate: &G,
+) -> Result<ListRun<B>, Memory>
+    ensures run { IfOk result (λ run. CameToRest B.items (program_of script.now) run) }
     ensures idle { IfOk result (λ run. TellsIdle run) }
 {
     let mut run = start(alloc, script)?;
@@ -41,14 +45,14 @@ pub fn run_one<G: Gate>(alloc: Global, script: &Script, gate: &G) -> Result<List
 }
 
 /// What a run leaves that is over.
-pub(crate) fn run_left(
+pub(crate) fn run_left<B: Book>(
     alloc: Global,
     script: &Script,
-    run: Run<ListFloor, TreeFloor>,
-) -> Result<ListRun, Memory>
+    run: Run<ListFloor, TreeFloor, B>,
+) -> Result<ListRun<B>, Memory>
     requires stand { AllStand (program_of script.now) (scene (floor_of run.channels) (tree_of run.jobs)) run.frames.items }
     requires left { AllLeft (scene (floor_of run.channels) (tree_of run.jobs)) run.frames.items }
-    ensures run { IfOk result (λ run. CameToRest (program_of script.now) run) }
+    ensures run { IfOk result (λ run. CameToRest B.items (program_of script.now) run) }
     ensures idle { IfOk result (λ run. TellsIdle run) }
 {
     let Run {
@@ -65,7 +69,7 @@ pub(crate) fn run_left(
     })
 }
 
-impl Run<ListFloor, TreeFloor> {
+impl<B: Book> Run<ListFloor, TreeFloor, B> {
     /// Turns, until the run is over.
     pub(crate) fn run_out<G: Gate>(&mut self, script: &Script, gate: &G) -> Result<(), Memory>
         requires { AllStand (program_of script.now) (scene (floor_of self.old.channels) (tree_of self.old.jobs)) self.old.frames.items }

@@ -12,6 +12,7 @@ use crate::state::Run;
 use co_base::{Gate, Memory};
 use engine_base::ScriptName;
 use one_thread_floor::{ListFloor, TreeFloor};
+use poll_states::Book;
 use script_reader::Script;
 use std::marker::{Model, PhantomData};
 
@@ -21,14 +22,14 @@ const TURNS_AT_ONCE: u32 = 64;
 /// A run of the named script, whether it is over, and whether a turn found no memory. A turn that found none may have left the run
 /// anyhow, and no turn is made after it.
 #[derive(Drop)]
-pub struct SharedRun<N: ScriptName> {
-    run: Run<ListFloor, TreeFloor>,
+pub struct SharedRun<N: ScriptName, B: Book> {
+    run: Run<ListFloor, TreeFloor, B>,
     over: bool,
     no_memory: bool,
     name: PhantomData<N>,
 }
 
-impl<N: ScriptName> Model for SharedRun<N> {
+impl<N: ScriptName, B: Book> Model for SharedRun<N, B> {
     ghost use Rattle.std.specs.Prelude.{◌≡◌, false};
     ghost use Rattle.one_thread_floor.specs.ListFloors.{floor_of};
     ghost use Rattle.one_thread_floor.specs.TreeFloors.{floor_of as tree_of};
@@ -50,9 +51,9 @@ impl<N: ScriptName> Model for SharedRun<N> {
         KeepsRun N.program (scene (floor_of s.run.channels) (tree_of s.run.jobs)) s.run.frames.items s.over };
 }
 
-impl<N: ScriptName> SharedRun<N> {
+impl<N: ScriptName, B: Book> SharedRun<N, B> {
     /// A run before its first turn.
-    pub(crate) fn new(script: &Script, run: Run<ListFloor, TreeFloor>) -> SharedRun<N>
+    pub(crate) fn new(script: &Script, run: Run<ListFloor, TreeFloor, B>) -> SharedRun<N, B>
         requires named { program_of script.now ≡ N.program }
         requires stand { AllStand (program_of script.now) (scene (floor_of run.channels) (tree_of run.jobs)) run.frames.items }
         ensures { has_stopped result ≡ false }
@@ -88,7 +89,7 @@ impl<N: ScriptName> SharedRun<N> {
         self,
         script: &Script,
         gate: &G,
-    ) -> Result<Run<ListFloor, TreeFloor>, Memory>
+    ) -> Result<Run<ListFloor, TreeFloor, B>, Memory>
         requires { program_of script.now ≡ N.program }
         ensures stand { IfOk result (λ run. AllStand (program_of script.now)
             (scene (floor_of run.channels) (tree_of run.jobs)) run.frames.items) }
@@ -104,14 +105,15 @@ impl<N: ScriptName> SharedRun<N> {
         if no_memory {
             return Err(Memory);
         }
-        if !over {
-            run.run_out(script, gate)?;
+        if over {
+            return Ok(run);
         }
+        run.run_out(script, gate)?;
         Ok(run)
     }
 }
 
-impl Run<ListFloor, TreeFloor> {
+impl<B: Book> Run<ListFloor, TreeFloor, B> {
     /// Some turns, fewer where the run is over. The answer says whether it is.
     fn some_turns<G: Gate>(&mut self, script: &Script, gate: &G) -> Result<bool, Memory>
         requires { AllStand (program_of script.now) (scene (floor_of self.old.channels) (tree_of self.old.jobs)) self.old.frames.items }

@@ -15,12 +15,15 @@ use co_base::{Memory, Tag};
 use engine_base::kinds_of;
 use job_model::JobFloor;
 use one_thread_floor::{ListFloor, TreeFloor};
-use poll_states::{Frame, begin};
+use poll_states::{Book, Frame, begin};
 use script_reader::Script;
 use std::alloc::Global;
 
 /// The script's coroutines, channels and Jobs. Main and the spawned instances are to be polled, in their order.
-pub(crate) fn start(alloc: Global, script: &Script) -> Result<Run<ListFloor, TreeFloor>, Memory>
+pub(crate) fn start<B: Book>(
+    alloc: Global,
+    script: &Script,
+) -> Result<Run<ListFloor, TreeFloor, B>, Memory>
     ensures { IfOk result (λ run. AllStand (program_of script.now) (scene (floor_of run.channels) (tree_of run.jobs)) run.frames.items) }
 {
     let mut run = Run {
@@ -33,7 +36,7 @@ pub(crate) fn start(alloc: Global, script: &Script) -> Result<Run<ListFloor, Tre
     Ok(run)
 }
 
-impl<C: ChannelFloor, J: JobFloor> Run<C, J> {
+impl<C: ChannelFloor, J: JobFloor, B: Book> Run<C, J, B> {
     /// Main is to be polled, and attaches what the script spawns, which is to be polled after it.
     fn begin_root(&mut self, script: &Script) -> Result<(), Memory>
         requires calls { HasNoCalls (program_of script.now) (C.view self.old.channels) }
@@ -78,7 +81,7 @@ fn channels_of(alloc: Global, script: &Script) -> Result<ListFloor, Memory>
 }
 
 /// A frame for each coroutine.
-fn frames_of(alloc: Global, script: &Script) -> Result<Vec<Frame>, Memory>
+fn frames_of<B: Book>(alloc: Global, script: &Script) -> Result<Vec<Frame<B>>, Memory>
     ensures count { IfOk result (λ frames. length frames.items ≡ coroutine_count (program_of script.now)) }
     ensures made { IfOk result (λ frames. AllMade frames.items) }
 {

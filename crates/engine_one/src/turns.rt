@@ -9,11 +9,11 @@ use crate::state::Run;
 use channel_model::ChannelFloor;
 use co_base::{Gate, Memory, Tag};
 use job_model::JobFloor;
-use poll_states::{Floors, poll};
+use poll_states::{Book, Floors, poll};
 use script_meaning::Turn;
 use script_reader::Script;
 
-impl<C: ChannelFloor, J: JobFloor> Run<C, J> {
+impl<C: ChannelFloor, J: JobFloor, B: Book> Run<C, J, B> {
     /// Polls one coroutine, which is to be polled again where it made a move. The answer says whether it did anything.
     pub(crate) fn turn<G: Gate>(
         &mut self,

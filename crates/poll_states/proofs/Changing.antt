@@ -13,8 +13,7 @@ use Rattle.script_meaning.specs.Inside.{Fits}
 use Rattle.script_meaning.specs.MovesLeft.{moves_left, most_moves, LooksAgainAt}
 use Rattle.script_meaning.specs.Polls.{MovesOnce}
 use Rattle.script_meaning.proofs.MovesFall.{receipts, FallsBy, once_falls}
-use Rattle.poll_states.specs.declared.frame.Frame.{Frame}
-use Rattle.poll_states.specs.Frames.{config_of, items_of, IsUnmoved}
+use Rattle.poll_states.specs.Frames.{Frame, config_of, items_of, IsUnmoved}
 
 nothing_left : {A : Type 0} (xs ys : List A) → xs ++ ys ≡ xs → ys ≡ []
 nothing_left [] ys e = e

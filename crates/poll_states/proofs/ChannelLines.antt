@@ -35,12 +35,11 @@ use Rattle.script_meaning.proofs.LinesPlaced.{opened_closed}
 use Rattle.script_meaning.specs.Lines.{LineCalls, After}
 use Rattle.script_meaning.specs.Moves.{Move}
 use Rattle.script_meaning.specs.Polls.{HasStood}
-use Rattle.poll_states.specs.declared.frame.Frame.{Frame}
 use Rattle.poll_states.specs.declared.answers.Came.{Came}
 use Rattle.poll_states.specs.declared.answers.Came.TheVariants as came
 use Rattle.poll_states.specs.declared.calls.ChannelCall.{ChannelCall}
 use Rattle.poll_states.specs.declared.calls.ChannelCall.TheVariants as call
-use Rattle.poll_states.specs.Frames.{config_of, items_of}
+use Rattle.poll_states.specs.Frames.{Frame, config_of, items_of}
 use Rattle.poll_states.specs.Calls.{line_of, channel_in, element_of, came_of_send, came_of_try_send, came_of_try_receive, answer_of, is_done, is_closed, IsSendEnd, LeftWaiting, Made, after_call}
 use Rattle.poll_states.specs.Steps.{Stepped}
 use Rattle.script_meaning.specs.Laws.{wait_of}

@@ -48,9 +48,8 @@ use Rattle.script_meaning.specs.Shapes.{base_of}
 use Rattle.script_meaning.specs.Configs.{Config, LineIs, at_stage, innermost}
 use Rattle.script_meaning.specs.Lines.{After, Resumed}
 use Rattle.script_meaning.specs.Moves.{Move}
-use Rattle.poll_states.specs.declared.frame.Frame.{Frame}
 use Rattle.poll_states.specs.declared.jobs.OwnState.TheVariants as own
-use Rattle.poll_states.specs.Frames.{config_of, items_of, Stands}
+use Rattle.poll_states.specs.Frames.{Frame, config_of, items_of, Stands}
 use Rattle.poll_states.specs.Steps.{OwnStateSeen, EndedWait, GaveUp, with_saw, Stepped, CutShort}
 use Rattle.poll_states.proofs.Mild.{gives_up_mild, saw_mild, resumed_mild, taken_back_mild}
 use Rattle.poll_states.proofs.Stepping.{mild_step, no_wait, self_jobs}

@@ -20,8 +20,7 @@ use Rattle.script_meaning.specs.Shapes.{base_of}
 use Rattle.script_meaning.specs.Configs.{Config, Entered, IsAt, in_repeat, in_each, into, with_entered, at_line, at_stage, next, with_result, operand}
 use Rattle.script_meaning.specs.Moves.{Move}
 use Rattle.script_meaning.proofs.LinesPlaced.{repeat_turns}
-use Rattle.poll_states.specs.declared.frame.Frame.{Frame}
-use Rattle.poll_states.specs.Frames.{config_of, items_of, LeavesTop, ChangesTop}
+use Rattle.poll_states.specs.Frames.{Frame, config_of, items_of, LeavesTop, ChangesTop}
 use Rattle.poll_states.specs.Steps.{Stepped}
 use Rattle.script_meaning.specs.Laws.{wait_of}
 use Rattle.poll_states.proofs.Mild.{fail_mild, nothing_mild}

@@ -32,9 +32,8 @@ use Rattle.script_meaning.specs.Configs.{Config, at_stage}
 use Rattle.script_meaning.specs.Moves.{Move}
 use Rattle.script_meaning.specs.Polls.{Turned, MovesOnce, RefusedByClaims, TurnAnswer, WaitsFor, AsksAgain, is_seeing, is_no_row, is_used, is_parent_ended}
 use Rattle.script_meaning.proofs.GentleNotes.{leaves_dones}
-use Rattle.poll_states.specs.declared.frame.Frame.{Frame}
 use Rattle.poll_states.specs.declared.jobs.OwnState.TheVariants as own
-use Rattle.poll_states.specs.Frames.{config_of, items_of, frame_of, Stands, IsUnmoved}
+use Rattle.poll_states.specs.Frames.{Frame, config_of, items_of, frame_of, Stands, IsUnmoved}
 use Rattle.poll_states.specs.Steps.{Stepped, CutShort, OwnStateSeen, PolledTo, PollAnswer, AnsweredAfter}
 use Rattle.poll_states.specs.Ends.{HasSeen, NotYetSeen, Seen, WentOn, WentOnAnswer}
 use Rattle.poll_states.proofs.Standing.{stands_fits}

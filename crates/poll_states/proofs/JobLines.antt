@@ -39,9 +39,8 @@ use Rattle.script_meaning.specs.Configs.{Config, IsAt, scope_in, innermost, at_s
 use Rattle.script_meaning.specs.Lines.{is_lazy}
 use Rattle.script_meaning.specs.Moves.{Move}
 use Rattle.script_meaning.proofs.JobDebts.{parents_in}
-use Rattle.poll_states.specs.declared.frame.Frame.{Frame}
 use Rattle.poll_states.specs.declared.jobs.OwnState.TheVariants as own
-use Rattle.poll_states.specs.Frames.{config_of, items_of, Stands}
+use Rattle.poll_states.specs.Frames.{Frame, config_of, items_of, Stands}
 use Rattle.poll_states.specs.Steps.{OwnStateSeen, IsAtEnd, HasBody, Stepped}
 use Rattle.script_meaning.specs.Laws.{wait_of}
 use Rattle.script_meaning.specs.Bodies.{is_over, is_fresh, is_leaving, IsOwnRow, HasBodyAt}

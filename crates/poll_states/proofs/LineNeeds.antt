@@ -28,8 +28,7 @@ use Rattle.script_meaning.specs.Configs.{Config, IsAt, at_stage, next, set_row, 
 use Rattle.script_meaning.proofs.InsideCode.{at_in_lines}
 use Rattle.script_meaning.proofs.NamesKnown.{job_known}
 use Rattle.script_meaning.proofs.TagsReached.{launch_room}
-use Rattle.poll_states.specs.declared.frame.Frame.{Frame}
-use Rattle.poll_states.specs.Frames.{config_of, items_of, Stands}
+use Rattle.poll_states.specs.Frames.{Frame, config_of, items_of, Stands}
 use Rattle.poll_states.specs.Steps.{IsAtEnd}
 use Rattle.poll_states.proofs.Standing.{stands_fits}
 use Rattle.poll_states.proofs.FloorsOfScripts.{may_build, may_call}

@@ -22,8 +22,7 @@ use Rattle.script_meaning.specs.Shapes.{base_of}
 use Rattle.script_meaning.specs.Books.{Runs, story}
 use Rattle.script_meaning.specs.Polls.{Turned, MovesOnce, RefusedByClaims, own_rows, TurnAnswer}
 use Rattle.script_meaning.proofs.BooksGoOn.{runs_then}
-use Rattle.poll_states.specs.declared.frame.Frame.{Frame}
-use Rattle.poll_states.specs.Frames.{config_of, items_of, frame_of, Stands}
+use Rattle.poll_states.specs.Frames.{Frame, config_of, items_of, frame_of, Stands}
 use Rattle.poll_states.specs.Steps.{Stepped, PolledTo}
 
 -- ---- rows

@@ -11,10 +11,9 @@ use Rattle.script_grammar.specs.Programs.{Program}
 use Rattle.script_meaning.specs.Shapes.{base_of}
 use Rattle.script_meaning.specs.Configs.{IsAt, innermost}
 use Rattle.poll_states.specs.declared.answers.Came.{Came}
-use Rattle.poll_states.specs.declared.frame.Frame.{Frame}
 use Rattle.poll_states.specs.declared.named.NamedCall.{NamedCall}
 use Rattle.poll_states.specs.declared.named.NamedCall.TheVariants as named
-use Rattle.poll_states.specs.Frames.{config_of, items_of, Stands}
+use Rattle.poll_states.specs.Frames.{Frame, config_of, items_of, Stands}
 use Rattle.poll_states.specs.Calls.{enters}
 use Rattle.poll_states.specs.Named.{line_naming, NamedTells, after_named}
 use Rattle.poll_states.specs.Steps.{Stepped}

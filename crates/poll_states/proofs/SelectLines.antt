@@ -36,8 +36,7 @@ use Rattle.script_meaning.proofs.ClausesOfSelects.{ClausesFit, select_fits}
 use Rattle.script_meaning.proofs.GroupNotes.{select_all}
 use Rattle.script_meaning.proofs.GentleNotes.{is_mild, mild_allows, below_dones}
 use Rattle.script_meaning.proofs.ClausesSpent.{clauses_spent}
-use Rattle.poll_states.specs.declared.frame.Frame.{Frame}
-use Rattle.poll_states.specs.Frames.{config_of, items_of, Stands}
+use Rattle.poll_states.specs.Frames.{Frame, config_of, items_of, Stands}
 use Rattle.poll_states.specs.Steps.{Stepped, MovesOn}
 use Rattle.poll_states.specs.Ends.{WentOn, WentOnAnswer}
 use Rattle.poll_states.specs.Selecting.{AfterChosen, AfterSelect, waits_with}

@@ -43,8 +43,7 @@ use Rattle.script_meaning.specs.Books.{Spawns, Begins, Reaches, story}
 use Rattle.script_meaning.specs.Polls.{RefusedByClaims, own_rows, jobs_by}
 use Rattle.script_reader.specs.declared.script.Spawn.{Spawn}
 use Rattle.script_reader.specs.Programs.{spawn_of}
-use Rattle.poll_states.specs.declared.frame.Frame.{Frame}
-use Rattle.poll_states.specs.Frames.{config_of, items_of}
+use Rattle.poll_states.specs.Frames.{Frame, config_of, items_of}
 use Rattle.poll_states.specs.Steps.{NotedSome, CutShort, IsNewRoot, IsOnItsChannels, IsOnItsJobs, BegunTo, IsForSpawn, HasSpawned, IsRefusedSpawn}
 use Rattle.poll_states.proofs.Moving.{rows_in-append, own_rows-append}
 use Rattle.poll_states.proofs.DonesLeft.{unclosed_kept}

@@ -43,8 +43,7 @@ use Rattle.script_reader.specs.declared.script.Script.{Script}
 use Rattle.script_reader.specs.Programs.{block_of}
 use Rattle.script_reader.specs.Lines.{does_open}
 use Rattle.script_reader.specs.Scripts.{program_of}
-use Rattle.poll_states.specs.declared.frame.Frame.{Frame}
-use Rattle.poll_states.specs.Frames.{config_of, items_of, Stands}
+use Rattle.poll_states.specs.Frames.{Frame, config_of, items_of, Stands}
 use Rattle.poll_states.specs.Steps.{HasBody, OwnStateSeen}
 use Rattle.poll_states.specs.declared.jobs.OwnState.TheVariants as own
 

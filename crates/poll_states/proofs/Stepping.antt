@@ -21,8 +21,7 @@ use Rattle.script_meaning.specs.Moves.{Move}
 use Rattle.script_meaning.specs.Polls.{HasStood}
 use Rattle.script_meaning.proofs.JobDebts.{AllKnown, parents_in, all_known}
 use Rattle.script_meaning.proofs.JobStories.{true_so}
-use Rattle.poll_states.specs.declared.frame.Frame.{Frame}
-use Rattle.poll_states.specs.Frames.{config_of, items_of}
+use Rattle.poll_states.specs.Frames.{Frame, config_of, items_of}
 use Rattle.poll_states.specs.Steps.{NotedSome, Stepped, CutShort}
 use Rattle.script_meaning.specs.Laws.{wait_of}
 use Rattle.poll_states.proofs.DonesLeft.{unclosed_kept}

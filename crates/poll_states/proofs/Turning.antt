@@ -27,11 +27,10 @@ use Rattle.script_meaning.specs.Shapes.{base_of}
 use Rattle.script_meaning.specs.Configs.{Config, innermost, at_stage}
 use Rattle.script_meaning.specs.Idle.{IsNotStarted}
 use Rattle.script_meaning.specs.Polls.{Turned, MovesOnce, RefusedByClaims, TurnAnswer, WaitsFor, HasStood}
-use Rattle.poll_states.specs.declared.frame.Frame.{Frame}
 use Rattle.poll_states.specs.declared.jobs.OwnState.TheVariants as own
 use Rattle.script_meaning.specs.Laws.{wait_of}
 use Rattle.script_meaning.specs.Bodies.{is_over}
-use Rattle.poll_states.specs.Frames.{config_of, items_of, frame_of, Stands, IsUnmoved}
+use Rattle.poll_states.specs.Frames.{Frame, config_of, items_of, frame_of, Stands, IsUnmoved}
 use Rattle.poll_states.specs.Steps.{Stepped, CutShort, OwnStateSeen, SeenWait, PolledTo, IsAnswerAt}
 use Rattle.poll_states.proofs.Standing.{stands_fits}
 use Rattle.poll_states.proofs.Changing.{never_unmoved}

@@ -55,8 +55,7 @@ use Rattle.script_meaning.proofs.BodiesOpen.{innermost_ends, innermost_owned, in
 use Rattle.script_meaning.proofs.JobDebts.{known_left, parents_in, AllKnown}
 use Rattle.script_meaning.proofs.GroupNotes.{AllPass, all_as, all_then, plain_all, both_all, job_fact, saw_all, all_none, end_all, break_all, saw_end_all}
 use Rattle.poll_states.specs.declared.entered.OpenScope.{OpenScope}
-use Rattle.poll_states.specs.declared.frame.Frame.{Frame}
-use Rattle.poll_states.specs.Frames.{config_of, items_of, Stands}
+use Rattle.poll_states.specs.Frames.{Frame, config_of, items_of, Stands}
 use Rattle.poll_states.specs.Steps.{HasBody, Stepped, CutShort}
 use Rattle.poll_states.specs.Named.{came_of_joined, after_named}
 use Rattle.poll_states.specs.Ends.{after_job, AfterDone, GoesOutside, LeavesEnded, IsInScope, IsScopeTop, EndsAndReceives, BreaksAndReceives, HasSeen, NotYetSeen}

@@ -30,8 +30,7 @@ use Rattle.script_meaning.specs.declared.turn.Turn.TheVariants as turn
 use Rattle.script_meaning.specs.Configs.{Config, Entered, in_scope, InScope, scope_in, outside, at_stage, at_line, next, received, LineIs}
 use Rattle.script_meaning.specs.Polls.{AsksAgain, is_seeing}
 use Rattle.poll_states.specs.declared.entered.OpenScope.{OpenScope}
-use Rattle.poll_states.specs.declared.frame.Frame.{Frame}
-use Rattle.poll_states.specs.Frames.{config_of, items_of, IsScopeOf, IsUnmoved}
+use Rattle.poll_states.specs.Frames.{Frame, config_of, items_of, IsScopeOf, IsUnmoved}
 use Rattle.poll_states.specs.Steps.{Stepped, CutShort, AnsweredAfter}
 
 -- ---- the end of a Job

@@ -40,10 +40,9 @@ use Rattle.script_meaning.specs.Laws.{wait_of}
 use Rattle.script_meaning.specs.Moves.{Move}
 use Rattle.script_meaning.specs.Idle.{IsNotStarted}
 use Rattle.script_meaning.specs.Polls.{RefusedByClaims, Begun, Polled, TurnAnswer, HasStood, own_rows, is_seeing}
-use Rattle.poll_states.specs.declared.frame.Frame.{Frame}
 use Rattle.poll_states.specs.declared.jobs.OwnState.{OwnState}
 use Rattle.poll_states.specs.declared.jobs.OwnState.TheVariants as own
-use Rattle.poll_states.specs.Frames.{config_of, items_of, frame_of, Stands}
+use Rattle.poll_states.specs.Frames.{Frame, config_of, items_of, frame_of, Stands}
 
 -- ---- one move
 

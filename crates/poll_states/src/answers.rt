@@ -6,19 +6,20 @@ ghost use Rattle.script_reader.specs.Lines.{does_open};
 ghost use Rattle.script_grammar.specs.Tags.{code_of, coroutine_count};
 ghost use Rattle.script_meaning.specs.Configs.{LineIs};
 ghost use Rattle.script_meaning.specs.WaitEnds.{after_wait, after_sent, after_value, after_closed};
-ghost use Rattle.poll_states.specs.Frames.{config_of, items_of};
+ghost use Rattle.poll_states.specs.Frames.{config_of};
 ghost use Rattle.poll_states.specs.Steps.{GoesPast};
 ghost use Rattle.poll_states.specs.Calls.{came_of_send, came_of_try_send, came_of_receive, came_of_try_receive, enters, after_call};
 ghost use Rattle.poll_states.specs.Named.{came_of_joined, after_named};
 ghost use Rattle.poll_states.specs.Ends.{unwinds_for};
 
 use crate::code::closing;
+use crate::coroutine::Coroutine;
 use crate::entered::Entered;
-use crate::frame::Frame;
 use channel_calls::{ReceiveAnswer, SendAnswer, TryReceiveAnswer, TrySendAnswer};
 use channel_model::Settled;
 use co_base::{Value, WaitId};
 use job_model::Cause;
+use note_book::NoteBook;
 use scope_builders::Joined;
 use script_meaning::Stage;
 use script_reader::{Instruction, Script};
@@ -105,7 +106,7 @@ pub(crate) fn unwinds_for(cause: Cause) -> Stage
     }
 }
 
-impl Frame {
+impl<B: NoteBook> Coroutine<B> {
     /// Goes on after the call of this line came to this. Takes no memory.
     pub(crate) fn go_on(&mut self, script: &Script, line: Instruction, came: Came)
         requires tag { self.old.tag < coroutine_count (program_of script.now) }
@@ -114,7 +115,7 @@ impl Frame {
         requires room { enters line ≡ true → vec_len self.old.entered < vec_capacity self.old.entered }
         ensures tag { self.new.tag ≡ self.old.tag }
         ensures config { config_of self.new ≡ after_call (program_of script.now) self.old.tag (config_of self.old) line came }
-        ensures items { items_of self.new ≡ items_of self.old }
+        ensures items { B.items self.new.book ≡ B.items self.old.book }
     {
         match came {
             Came::Done => self.go_on_done(script, line),
@@ -133,7 +134,7 @@ impl Frame {
         requires inside { enters line ≡ false }
         ensures tag { self.new.tag ≡ self.old.tag }
         ensures config { config_of self.new ≡ after_named (program_of script.now) self.old.tag (config_of self.old) line came }
-        ensures items { items_of self.new ≡ items_of self.old }
+        ensures items { B.items self.new.book ≡ B.items self.old.book }
     {
         match came {
             Some(came) => self.go_on(script, line, came),
@@ -147,7 +148,7 @@ impl Frame {
         requires opens { does_open (slice_get (code_of (program_of script.now) self.old.tag) self.old.line) ≡ true }
         ensures tag { self.new.tag ≡ self.old.tag }
         ensures config { GoesPast (program_of script.now) self.old.tag (config_of self.old) (config_of self.new) }
-        ensures items { items_of self.new ≡ items_of self.old }
+        ensures items { B.items self.new.book ≡ B.items self.old.book }
     {
         let end = closing(script, self.tag, self.line);
         self.at_line(end + 1);
@@ -161,7 +162,7 @@ impl Frame {
         requires room { vec_len self.old.entered < vec_capacity self.old.entered }
         ensures tag { self.new.tag ≡ self.old.tag }
         ensures config { config_of self.new ≡ after_wait (program_of script.now) self.old.tag (config_of self.old) line outcome }
-        ensures items { items_of self.new ≡ items_of self.old }
+        ensures items { B.items self.new.book ≡ B.items self.old.book }
     {
         match outcome {
             Settled::Value(_, value) => self.go_on_with(script, line, value),
@@ -178,7 +179,7 @@ impl Frame {
         requires line { self.old.line < usize.MAX }
         ensures tag { self.new.tag ≡ self.old.tag }
         ensures config { config_of self.new ≡ after_sent (program_of script.now) self.old.tag (config_of self.old) line }
-        ensures items { items_of self.new ≡ items_of self.old }
+        ensures items { B.items self.new.book ≡ B.items self.old.book }
     {
         match line {
             Instruction::Select => self.go_past(script),
@@ -194,7 +195,7 @@ impl Frame {
         requires room { enters line ≡ true → vec_len self.old.entered < vec_capacity self.old.entered }
         ensures tag { self.new.tag ≡ self.old.tag }
         ensures config { config_of self.new ≡ after_value (program_of script.now) self.old.tag (config_of self.old) value line }
-        ensures items { items_of self.new ≡ items_of self.old }
+        ensures items { B.items self.new.book ≡ B.items self.old.book }
     {
         self.take_in(value);
         match line {
@@ -211,7 +212,7 @@ impl Frame {
         requires line { self.old.line < usize.MAX }
         ensures tag { self.new.tag ≡ self.old.tag }
         ensures config { config_of self.new ≡ after_closed (program_of script.now) self.old.tag (config_of self.old) line }
-        ensures items { items_of self.new ≡ items_of self.old }
+        ensures items { B.items self.new.book ≡ B.items self.old.book }
     {
         match line {
             Instruction::Each { .. } | Instruction::Select => self.go_past(script),

@@ -2,11 +2,15 @@
 
 ghost use Rattle.std.specs.Prelude.{◌≡◌, ◌<◌, length};
 ghost use Rattle.script_reader.specs.Scripts.{program_of};
+ghost use Rattle.poll_states.specs.Frames.{noted};
 ghost use Rattle.poll_states.specs.Steps.{IsNewRoot, IsOnItsJobs, BeginAnswer, IsForSpawn, SpawnAnswer};
 
+use crate::book::Book;
+use crate::coroutine::Coroutine;
 use crate::frame::Frame;
 use co_base::{Memory, Tag};
 use job_model::JobFloor;
+use note_book::NoteBook;
 use scope_builders::{LaunchError, attach_coroutine};
 use script_reader::Script;
 
@@ -14,10 +18,29 @@ use script_reader::Script;
 /// root's body then breaks off. Whoever polls begins with the root and these coroutines.
 ///
 /// On want of memory the Jobs attached so far stand and are noted, and the frame may only be turned into its book or dropped.
-pub fn begin<J: JobFloor>(script: &Script, frame: &mut Frame, jobs: &mut J) -> Result<(), Memory>
+pub fn begin<B: Book, J: JobFloor>(
+    script: &Script,
+    frame: &mut Frame<B>,
+    jobs: &mut J,
+) -> Result<(), Memory>
     requires new { IsNewRoot frame.old }
     requires on { IsOnItsJobs (program_of script.now) (J.view jobs.old) }
     ensures begun { BeginAnswer (program_of script.now) (J.view jobs.old) (J.view jobs.new) frame.old frame.new result }
+    ensures anchor { J.anchor jobs.new ≡ J.anchor jobs.old }
+{
+    spawn_all(script, &mut frame.coroutine, jobs)
+}
+
+/// Attaches the Jobs of all that the script spawns to the root.
+fn spawn_all<B: NoteBook, J: JobFloor>(
+    script: &Script,
+    frame: &mut Coroutine<B>,
+    jobs: &mut J,
+) -> Result<(), Memory>
+    requires new { IsNewRoot (noted B.items frame.old) }
+    requires on { IsOnItsJobs (program_of script.now) (J.view jobs.old) }
+    ensures begun { BeginAnswer (program_of script.now) (J.view jobs.old) (J.view jobs.new)
+        (noted B.items frame.old) (noted B.items frame.new) result }
     ensures anchor { J.anchor jobs.new ≡ J.anchor jobs.old }
 {
     for spawn in script.spawns() {
@@ -38,15 +61,16 @@ pub fn begin<J: JobFloor>(script: &Script, frame: &mut Frame, jobs: &mut J) -> R
 }
 
 /// Attaches the Job of an instance of this block to the root. The answer says whether it was attached.
-fn spawn_one<J: JobFloor>(
+fn spawn_one<B: NoteBook, J: JobFloor>(
     script: &Script,
-    frame: &mut Frame,
+    frame: &mut Coroutine<B>,
     jobs: &mut J,
     block: u16,
 ) -> Result<bool, Memory>
     requires block { block < length (program_of script.now).blocks }
-    requires next { IsForSpawn (program_of script.now) block (J.view jobs.old) frame.old }
-    ensures spawned { SpawnAnswer (program_of script.now) block (J.view jobs.old) (J.view jobs.new) frame.old frame.new result }
+    requires next { IsForSpawn (program_of script.now) block (J.view jobs.old) (noted B.items frame.old) }
+    ensures spawned { SpawnAnswer (program_of script.now) block (J.view jobs.old) (J.view jobs.new)
+        (noted B.items frame.old) (noted B.items frame.new) result }
     ensures anchor { J.anchor jobs.new ≡ J.anchor jobs.old }
 {
     let size = script.size_of(block);

@@ -3,22 +3,21 @@
 ghost use Rattle.std.specs.Prelude.{◌≡◌, false};
 ghost use Rattle.channel_model.specs.Channels.{kind_at, is_signal};
 ghost use Rattle.channel_model.specs.Floors.{MayCall};
-ghost use Rattle.note_book.specs.Books.{notes_of};
 ghost use Rattle.channel_calls.specs.Calls.{SameCaller};
 ghost use Rattle.script_reader.specs.Scripts.{program_of};
 ghost use Rattle.script_meaning.specs.Configs.{IsAt};
-ghost use Rattle.poll_states.specs.Frames.{config_of, Stands, SameFloors};
+ghost use Rattle.poll_states.specs.Frames.{config_of, Stands, SameFloors, noted};
 ghost use Rattle.poll_states.specs.Steps.{StepAnswer};
 ghost use Rattle.poll_states.specs.Calls.{line_of, element_of, channel_in, MadeAnswer};
 
 use crate::answers::Came;
+use crate::coroutine::Coroutine;
 use crate::floors::{Floors, caller};
-use crate::frame::Frame;
 use channel_calls::Caller;
 use channel_model::ChannelFloor;
 use co_base::{ChannelId, Gate, Memory, Value, Wakes};
 use job_model::JobFloor;
-use note_book::Notes;
+use note_book::NoteBook;
 use script_reader::{Instruction, Operand, Script};
 
 /// The call of a line on a channel, with what it sends.
@@ -52,7 +51,7 @@ impl ChannelCall {
     }
 }
 
-impl Frame {
+impl<B: NoteBook> Coroutine<B> {
     /// The element that a call sends, or 0.
     fn element_of(&self, call: ChannelCall) -> Value
         ensures { result ≡ element_of (config_of self.now) call }
@@ -65,8 +64,8 @@ impl Frame {
 }
 
 /// Makes a call, with the element that it sends.
-fn make<F: ChannelFloor, W: Wakes>(
-    caller: &mut Caller<'_, '_, '_, F, Notes, W>,
+fn make<B: NoteBook, F: ChannelFloor, W: Wakes>(
+    caller: &mut Caller<'_, '_, '_, F, B, W>,
     call: ChannelCall,
     value: Value,
 ) -> Result<Came, Memory>
@@ -74,7 +73,7 @@ fn make<F: ChannelFloor, W: Wakes>(
     requires kind { is_signal (kind_at (F.view caller.old.floor.now).shape (channel_in call)) ≡ false }
     ensures same { SameCaller F.anchor caller.old caller.new }
     ensures answer { MadeAnswer value call caller.old.who (F.view caller.old.floor.now) (F.view caller.new.floor.now)
-        (notes_of caller.old.book.now) (notes_of caller.new.book.now) result }
+        (B.items caller.old.book.now) (B.items caller.new.book.now) result }
 {
     match call {
         ChannelCall::Send(c, _) => match caller.send(c, value) {
@@ -109,17 +108,18 @@ fn make<F: ChannelFloor, W: Wakes>(
 }
 
 /// Makes the call of a line, and goes on by what it came to.
-pub(crate) fn call<C: ChannelFloor, J: JobFloor, W: Wakes, G: Gate>(
+pub(crate) fn call<B: NoteBook, C: ChannelFloor, J: JobFloor, W: Wakes, G: Gate>(
     script: &Script,
-    frame: &mut Frame,
+    frame: &mut Coroutine<B>,
     floors: &mut Floors<'_, '_, '_, C, J, W>,
     gate: &G,
     call: ChannelCall,
 ) -> Result<(), Memory>
-    requires stands { Stands (program_of script.now) (C.view floors.old.channels.now) (J.view floors.old.jobs.now) frame.old }
+    requires stands { Stands (program_of script.now) (C.view floors.old.channels.now) (J.view floors.old.jobs.now)
+        (noted B.items frame.old) }
     requires at { IsAt (program_of script.now) frame.old.tag (config_of frame.old) (line_of call) }
     ensures came { StepAnswer (program_of script.now) (C.view floors.old.channels.now) (C.view floors.new.channels.now)
-        (J.view floors.old.jobs.now) (J.view floors.new.jobs.now) frame.old frame.new result }
+        (J.view floors.old.jobs.now) (J.view floors.new.jobs.now) (noted B.items frame.old) (noted B.items frame.new) result }
     ensures same { SameFloors C.anchor J.anchor floors.old floors.new }
 {
     if let Err(memory) = frame.room_to_enter() {

@@ -1,53 +1,89 @@
-//! A coroutine between two moves, and what is left of a run.
+//! A coroutine as engines keep it, and what is left of a run.
 
-ghost use Rattle.std.specs.Prelude.{◌≡◌, ◌+◌, ◌^◌, ◌<◌, ◌++◌, ◌∷◌, [], length, vec_len, vec_capacity, IfOk};
-ghost use Rattle.note_book.specs.Books.{notes_of, spare_of};
-ghost use Rattle.note_book.specs.declared.book.Item.TheVariants as item;
-ghost use Rattle.job_model.specs.declared.acts.JobNote.TheVariants as known;
-ghost use Rattle.script_meaning.specs.declared.stage.Stage.TheVariants.{Waiting, Unwinding};
-ghost use Rattle.script_meaning.specs.Configs.{at_stage, at_line, next, set_row, named, operand, received, fresh};
+ghost use Rattle.std.specs.Prelude.{◌≡◌, ◌<◌, ◌∷◌, [], length, IfOk};
+ghost use Rattle.script_meaning.specs.Configs.{fresh};
 ghost use Rattle.script_grammar.specs.Tags.{coroutine_count};
 ghost use Rattle.script_reader.specs.Scripts.{program_of};
 ghost use Rattle.poll_states.specs.Frames.{config_of, items_of, acts_in};
 
-use crate::entered::Entered;
+use crate::book::Book;
+use crate::coroutine::Coroutine;
 use channel_model::ChannelNote;
-use co_base::{Memory, Row, Tag, Value, WaitId};
+use co_base::{Memory, Tag};
 use job_model::{End, JobNote};
-use note_book::{Item, NoteBook, Notes};
-use script_meaning::Stage;
-use script_reader::{Operand, Script};
+use note_book::{Item, Notes};
+use script_reader::Script;
 use std::alloc::Global;
+use std::marker::Model;
 
-/// A coroutine between two moves.
+/// A coroutine between two polls. Contracts see it with its notes in place of its book, whatever book it has.
 #[derive(Drop)]
-pub struct Frame {
-    pub(crate) tag: Tag,
-    /// The line at which it is, numbered from 0 in its block.
-    pub(crate) line: usize,
-    pub(crate) stage: Stage,
-    /// What it has entered and not left, the innermost last.
-    pub(crate) entered: Vec<Entered>,
-    /// What its Job will have as its result.
-    pub(crate) result: Value,
-    /// The rows of the Jobs that its lines named, in the order of the names.
-    pub(crate) rows: Vec<Row>,
-    /// The tag of what it launches next.
-    pub(crate) free: u32,
-    /// The element that it received last.
-    pub(crate) it: Value,
-    /// All elements that it received, added up modulo 2^32.
-    pub(crate) sum: Value,
-    pub(crate) book: Notes,
+pub struct Frame<B: Book> {
+    pub(crate) coroutine: Coroutine<B>,
+}
+
+impl<B: Book> Model for Frame<B> {
+    ghost use Rattle.poll_states.specs.Frames.{Frame, noted};
+
+    ghost Value = { Frame };
+
+    ghost view = { λ f. noted B.items f.coroutine };
 }
 
 /// What is left of a run: the books in order of their tags, and how the root's Job ended, if it did.
 #[derive(Drop)]
-pub struct Done {
-    pub books: Vec<Notes>,
+pub struct Done<B> {
+    pub books: Vec<B>,
     /// Whether the root's Job has not ended.
     pub idle: bool,
     pub end: Option<End>,
+}
+
+impl<B: Book> Frame<B> {
+    /// A coroutine of the script that has not begun. What it launches has the tags after its own.
+    pub fn new(alloc: Global, script: &Script, tag: Tag) -> Result<Frame<B>, Memory>
+        requires tag { tag < coroutine_count (program_of script.now) }
+        ensures tag { IfOk result (λ frame. frame.tag ≡ tag) }
+        ensures config { IfOk result (λ frame. config_of frame ≡ fresh tag) }
+        ensures book { IfOk result (λ frame. items_of frame ≡ []) }
+    {
+        let coroutine = Coroutine::new(alloc, script, tag)?;
+        Ok(Frame { coroutine })
+    }
+
+    /// The coroutine's tag.
+    pub fn tag(&self) -> Tag
+        ensures { result ≡ self.now.tag }
+    {
+        self.coroutine.tag
+    }
+
+    /// How many notes its book has. A poll noted something exactly if this rose.
+    pub fn notes(&self) -> u64
+        ensures { result ≡ length (items_of self.now) }
+    {
+        self.coroutine.book.count()
+    }
+
+    /// The book alone. Takes no memory.
+    pub fn into_book(self) -> B
+        ensures { B.items result ≡ items_of self }
+    {
+        let Frame { coroutine } = self;
+        let Coroutine {
+            tag: _,
+            line: _,
+            stage: _,
+            entered: _,
+            result: _,
+            rows: _,
+            free: _,
+            it: _,
+            sum: _,
+            book,
+        } = coroutine;
+        book
+    }
 }
 
 /// 1 for the note of an act, and 0 for any other.
@@ -72,171 +108,13 @@ fn count_acts(items: &[Item], notes: usize) -> u64
     acts
 }
 
-impl Frame {
-    /// A coroutine of the script that has not begun. What it launches has the tags after its own.
-    pub fn new(alloc: Global, script: &Script, tag: Tag) -> Result<Frame, Memory>
-        requires tag { tag < coroutine_count (program_of script.now) }
-        ensures tag { IfOk result (λ frame. frame.tag ≡ tag) }
-        ensures config { IfOk result (λ frame. config_of frame ≡ fresh tag) }
-        ensures book { IfOk result (λ frame. items_of frame ≡ []) }
-    {
-        Ok(Frame {
-            tag,
-            line: 0,
-            stage: Stage::Fresh,
-            entered: Vec::new(alloc),
-            result: 0,
-            rows: Vec::new(alloc),
-            free: u32::from(tag) + 1,
-            it: 0,
-            sum: 0,
-            book: Notes::new(alloc),
-        })
-    }
-
-    /// The coroutine's tag.
-    pub fn tag(&self) -> Tag
-        ensures { result ≡ self.now.tag }
-    {
-        self.tag
-    }
-
-    /// The number that an operand stands for.
-    pub(crate) fn value_of(&self, given: Operand) -> Value
-        ensures { result ≡ operand (config_of self.now) given }
-    {
-        match given {
-            Operand::Number(value) => value,
-            Operand::It => self.it,
-            Operand::Sum => self.sum,
-        }
-    }
-
-    /// Receives an element.
-    pub(crate) fn take_in(&mut self, value: Value)
-        ensures tag { self.new.tag ≡ self.old.tag }
-        ensures config { config_of self.new ≡ received value (config_of self.old) }
-        ensures entered { self.new.entered ≡ self.old.entered }
-        ensures items { items_of self.new ≡ items_of self.old }
-    {
-        self.it = value;
-        self.sum = self.sum.wrapping_add(value);
-    }
-
-    /// Waits at its line.
-    pub(crate) fn wait_for(&mut self, w: WaitId)
-        ensures tag { self.new.tag ≡ self.old.tag }
-        ensures config { config_of self.new ≡ at_stage (Waiting w) (config_of self.old) }
-        ensures items { items_of self.new ≡ items_of self.old }
-    {
-        self.stage = Stage::Waiting(w);
-    }
-
-    /// Goes on with this line.
-    pub(crate) fn at_line(&mut self, line: usize)
-        ensures tag { self.new.tag ≡ self.old.tag }
-        ensures config { config_of self.new ≡ at_line line (config_of self.old) }
-        ensures items { items_of self.new ≡ items_of self.old }
-    {
-        self.stage = Stage::Running;
-        self.line = line;
-    }
-
-    /// Goes on with the next line.
-    pub(crate) fn next_line(&mut self)
-        requires { self.old.line < usize.MAX }
-        ensures tag { self.new.tag ≡ self.old.tag }
-        ensures config { config_of self.new ≡ next (config_of self.old) }
-        ensures items { items_of self.new ≡ items_of self.old }
-    {
-        self.stage = Stage::Running;
-        self.line += 1;
-    }
-
-    /// Notes that this Job was seen Cancelling, and unwinds. Takes no memory.
-    pub(crate) fn see_cancelling(&mut self, row: Row)
-        requires { 0 < spare_of self.old.book }
-        ensures tag { self.new.tag ≡ self.old.tag }
-        ensures config { config_of self.new ≡ at_stage (Unwinding None) (config_of self.old) }
-        ensures items { items_of self.new ≡ items_of self.old ++ item.Job (known.Saw row) ∷ [] }
-    {
-        self.book.note(Item::Job(JobNote::Saw { row }));
-        self.stage = Stage::Unwinding(None);
-    }
-
-    /// Breaks the body off by its own failure.
-    pub(crate) fn fail(&mut self)
-        ensures tag { self.new.tag ≡ self.old.tag }
-        ensures config { config_of self.new ≡ at_stage (Unwinding (Some self.old.tag)) (config_of self.old) }
-        ensures items { items_of self.new ≡ items_of self.old }
-    {
-        self.stage = Stage::Unwinding(Some(self.tag));
-    }
-
-    /// Gives the row of the next tag this name. Takes no memory.
-    fn name_row(&mut self, job: u16)
-        requires free { self.old.free < 2 ^ 16 }
-        requires room { vec_len self.old.rows < vec_capacity self.old.rows }
-        ensures tag { self.new.tag ≡ self.old.tag }
-        ensures config { config_of self.new ≡ record (config_of self.old) { rows = set_row job self.old.free self.old.rows.items } }
-        ensures items { items_of self.new ≡ items_of self.old }
-    {
-        let row = self.free as Row;
-        if (job as usize) < self.rows.len() {
-            self.rows[job as usize] = row;
-        } else {
-            self.rows.push_reserved(row);
-        }
-    }
-
-    /// Gives the row of a launched Job its name, if it gets one, and passes over the tags of its instance. Takes no memory.
-    pub(crate) fn pass_launch(&mut self, job: Option<u16>, size: u16)
-        requires line { self.old.line < usize.MAX }
-        requires free { self.old.free + size < 2 ^ 16 }
-        requires room { vec_len self.old.rows < vec_capacity self.old.rows }
-        ensures tag { self.new.tag ≡ self.old.tag }
-        ensures config { config_of self.new
-            ≡ next (record (config_of self.old) { rows = named job self.old.free self.old.rows.items; free = self.old.free + size }) }
-        ensures items { items_of self.new ≡ items_of self.old }
-    {
-        if let Some(job) = job {
-            self.name_row(job);
-        }
-        self.free += u32::from(size);
-        self.next_line();
-    }
-
-    /// How many notes its book has.
-    pub fn notes(&self) -> usize
-        ensures { result ≡ length (notes_of self.now.book) }
-    {
-        self.book.items().len()
-    }
-
+impl Frame<Notes> {
     /// How many acts its book has, as the models count them: entries that it made, and not what it saw. A poll added an entry exactly
     /// where this rose.
     pub fn acts(&self) -> u64
         ensures { result ≡ acts_in (items_of self.now) }
     {
-        count_acts(self.book.items(), self.notes())
-    }
-
-    /// The book alone. Takes no memory.
-    pub fn into_book(self) -> Notes
-        ensures { result ≡ self.book }
-    {
-        let Frame {
-            tag: _,
-            line: _,
-            stage: _,
-            entered: _,
-            result: _,
-            rows: _,
-            free: _,
-            it: _,
-            sum: _,
-            book,
-        } = self;
-        book
+        let items = self.coroutine.book.items();
+        count_acts(items, items.len())
     }
 }

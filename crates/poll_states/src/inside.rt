@@ -2,13 +2,14 @@
 
 ghost use Rattle.std.specs.Prelude.{◌≡◌, ◌<◌, OnOk, vec_len, vec_capacity};
 ghost use Rattle.script_meaning.specs.Configs.{into, innermost};
-ghost use Rattle.poll_states.specs.Frames.{config_of, entered_of, items_of, IsTop, LeavesTop, ChangesTop, LeavesScope, IsScopeOf};
+ghost use Rattle.poll_states.specs.Frames.{config_of, entered_of, IsTop, LeavesTop, ChangesTop, LeavesScope, IsScopeOf};
 
+use crate::coroutine::Coroutine;
 use crate::entered::{Entered, OpenScope, scope_of};
-use crate::frame::Frame;
 use co_base::{Memory, Row};
+use note_book::NoteBook;
 
-impl Frame {
+impl<B: NoteBook> Coroutine<B> {
     /// The innermost scope that it has entered and not left.
     pub(crate) fn scope(&self) -> Option<OpenScope>
         ensures { IsScopeOf (config_of self.now).entered result }
@@ -37,7 +38,7 @@ impl Frame {
     pub(crate) fn room_to_enter(&mut self) -> Result<(), Memory>
         ensures tag { self.new.tag ≡ self.old.tag }
         ensures config { config_of self.new ≡ config_of self.old }
-        ensures items { items_of self.new ≡ items_of self.old }
+        ensures items { B.items self.new.book ≡ B.items self.old.book }
         ensures room { OnOk result (vec_len self.new.entered < vec_capacity self.new.entered) }
     {
         if self.entered.reserve(1).is_err() {
@@ -52,7 +53,7 @@ impl Frame {
         requires room { vec_len self.old.entered < vec_capacity self.old.entered }
         ensures tag { self.new.tag ≡ self.old.tag }
         ensures config { config_of self.new ≡ into (entered_of one) (config_of self.old) }
-        ensures items { items_of self.new ≡ items_of self.old }
+        ensures items { B.items self.new.book ≡ B.items self.old.book }
     {
         self.entered.push_reserved(one);
         self.next_line();
@@ -62,7 +63,7 @@ impl Frame {
     pub(crate) fn leave(&mut self)
         ensures tag { self.new.tag ≡ self.old.tag }
         ensures config { LeavesTop (config_of self.old) (config_of self.new) }
-        ensures items { items_of self.new ≡ items_of self.old }
+        ensures items { B.items self.new.book ≡ B.items self.old.book }
     {
         self.entered.pop();
     }
@@ -71,7 +72,7 @@ impl Frame {
     pub(crate) fn change_top(&mut self, one: Entered)
         ensures tag { self.new.tag ≡ self.old.tag }
         ensures config { ChangesTop (entered_of one) (config_of self.old) (config_of self.new) }
-        ensures items { items_of self.new ≡ items_of self.old }
+        ensures items { B.items self.new.book ≡ B.items self.old.book }
     {
         if self.entered.pop().is_some() {
             self.entered.push_reserved(one);
@@ -82,7 +83,7 @@ impl Frame {
     pub(crate) fn leave_scope(&mut self)
         ensures tag { self.new.tag ≡ self.old.tag }
         ensures config { LeavesScope (config_of self.old) (config_of self.new) }
-        ensures items { items_of self.new ≡ items_of self.old }
+        ensures items { B.items self.new.book ≡ B.items self.old.book }
     {
         while let Some(one) = self.entered.pop() {
             if let Entered::InScope { .. } = one {

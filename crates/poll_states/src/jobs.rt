@@ -6,11 +6,11 @@ ghost use Rattle.script_reader.specs.Scripts.{program_of};
 ghost use Rattle.script_meaning.specs.declared.stage.Stage.TheVariants.{Unwinding, Ended};
 ghost use Rattle.script_meaning.specs.Configs.{IsAt, scope_in};
 ghost use Rattle.script_meaning.specs.Lines.{is_lazy};
-ghost use Rattle.poll_states.specs.Frames.{config_of, Stands, SameFloors};
+ghost use Rattle.poll_states.specs.Frames.{config_of, Stands, SameFloors, noted};
 ghost use Rattle.poll_states.specs.Steps.{HasBody, OwnStateSeen, IsAtEnd, StepAnswer};
 
+use crate::coroutine::Coroutine;
 use crate::floors::{Floors, builder};
-use crate::frame::Frame;
 use channel_model::ChannelFloor;
 use co_base::{Gate, Memory, Row, Tag, Wakes};
 use job_model::{JobFloor, JobState};
@@ -46,16 +46,17 @@ pub(crate) fn own_state<J: JobFloor>(who: Tag, row: Row, jobs: &mut J) -> OwnSta
 }
 
 /// Looks whether the innermost Job is Cancelling.
-pub(crate) fn look_up<C: ChannelFloor, J: JobFloor, W: Wakes, G: Gate>(
+pub(crate) fn look_up<B: NoteBook, C: ChannelFloor, J: JobFloor, W: Wakes, G: Gate>(
     script: &Script,
-    frame: &mut Frame,
+    frame: &mut Coroutine<B>,
     floors: &mut Floors<'_, '_, '_, C, J, W>,
     gate: &G,
 ) -> Result<(), Memory>
-    requires stands { Stands (program_of script.now) (C.view floors.old.channels.now) (J.view floors.old.jobs.now) frame.old }
+    requires stands { Stands (program_of script.now) (C.view floors.old.channels.now) (J.view floors.old.jobs.now)
+        (noted B.items frame.old) }
     requires at { IsAt (program_of script.now) frame.old.tag (config_of frame.old) Yield }
     ensures came { StepAnswer (program_of script.now) (C.view floors.old.channels.now) (C.view floors.new.channels.now)
-        (J.view floors.old.jobs.now) (J.view floors.new.jobs.now) frame.old frame.new result }
+        (J.view floors.old.jobs.now) (J.view floors.new.jobs.now) (noted B.items frame.old) (noted B.items frame.new) result }
     ensures same { SameFloors C.anchor J.anchor floors.old floors.new }
 {
     if let Err(memory) = frame.book.room(1) {
@@ -90,19 +91,20 @@ fn is_lazy(how: Launching) -> bool
 
 /// Attaches the Job of the next tag under the innermost Job, which runs an instance of the block, and gives it its name. A refusal breaks
 /// the body off.
-pub(crate) fn launch<C: ChannelFloor, J: JobFloor, W: Wakes, G: Gate>(
+pub(crate) fn launch<B: NoteBook, C: ChannelFloor, J: JobFloor, W: Wakes, G: Gate>(
     script: &Script,
-    frame: &mut Frame,
+    frame: &mut Coroutine<B>,
     floors: &mut Floors<'_, '_, '_, C, J, W>,
     gate: &G,
     block: u16,
     how: Launching,
     job: Option<u16>,
 ) -> Result<(), Memory>
-    requires stands { Stands (program_of script.now) (C.view floors.old.channels.now) (J.view floors.old.jobs.now) frame.old }
+    requires stands { Stands (program_of script.now) (C.view floors.old.channels.now) (J.view floors.old.jobs.now)
+        (noted B.items frame.old) }
     requires at { IsAt (program_of script.now) frame.old.tag (config_of frame.old) (Launch block how job) }
     ensures came { StepAnswer (program_of script.now) (C.view floors.old.channels.now) (C.view floors.new.channels.now)
-        (J.view floors.old.jobs.now) (J.view floors.new.jobs.now) frame.old frame.new result }
+        (J.view floors.old.jobs.now) (J.view floors.new.jobs.now) (noted B.items frame.old) (noted B.items frame.new) result }
     ensures same { SameFloors C.anchor J.anchor floors.old floors.new }
 {
     if frame.rows.reserve(1).is_err() {
@@ -132,15 +134,16 @@ pub(crate) fn launch<C: ChannelFloor, J: JobFloor, W: Wakes, G: Gate>(
 }
 
 /// Ends the body if no line is left.
-pub(crate) fn end_body<C: ChannelFloor, J: JobFloor, W: Wakes>(
+pub(crate) fn end_body<B: NoteBook, C: ChannelFloor, J: JobFloor, W: Wakes>(
     script: &Script,
-    frame: &mut Frame,
+    frame: &mut Coroutine<B>,
     floors: &mut Floors<'_, '_, '_, C, J, W>,
 ) -> Result<(), Memory>
-    requires stands { Stands (program_of script.now) (C.view floors.old.channels.now) (J.view floors.old.jobs.now) frame.old }
-    requires left { IsAtEnd (program_of script.now) frame.old }
+    requires stands { Stands (program_of script.now) (C.view floors.old.channels.now) (J.view floors.old.jobs.now)
+        (noted B.items frame.old) }
+    requires left { IsAtEnd (program_of script.now) (noted B.items frame.old) }
     ensures came { StepAnswer (program_of script.now) (C.view floors.old.channels.now) (C.view floors.new.channels.now)
-        (J.view floors.old.jobs.now) (J.view floors.new.jobs.now) frame.old frame.new result }
+        (J.view floors.old.jobs.now) (J.view floors.new.jobs.now) (noted B.items frame.old) (noted B.items frame.new) result }
     ensures same { SameFloors C.anchor J.anchor floors.old floors.new }
 {
     let mut builder = builder!(script, frame, floors);
@@ -154,17 +157,18 @@ pub(crate) fn end_body<C: ChannelFloor, J: JobFloor, W: Wakes>(
 }
 
 /// Breaks the body off if no scope is open, by the failure of a row or as cancelled.
-pub(crate) fn break_off<C: ChannelFloor, J: JobFloor, W: Wakes>(
+pub(crate) fn break_off<B: NoteBook, C: ChannelFloor, J: JobFloor, W: Wakes>(
     script: &Script,
-    frame: &mut Frame,
+    frame: &mut Coroutine<B>,
     floors: &mut Floors<'_, '_, '_, C, J, W>,
     failure: Option<Row>,
 ) -> Result<(), Memory>
-    requires stands { Stands (program_of script.now) (C.view floors.old.channels.now) (J.view floors.old.jobs.now) frame.old }
+    requires stands { Stands (program_of script.now) (C.view floors.old.channels.now) (J.view floors.old.jobs.now)
+        (noted B.items frame.old) }
     requires no_scope { scope_in (config_of frame.old).entered ≡ None }
     requires unwinds { frame.old.stage ≡ Unwinding failure }
     ensures came { StepAnswer (program_of script.now) (C.view floors.old.channels.now) (C.view floors.new.channels.now)
-        (J.view floors.old.jobs.now) (J.view floors.new.jobs.now) frame.old frame.new result }
+        (J.view floors.old.jobs.now) (J.view floors.new.jobs.now) (noted B.items frame.old) (noted B.items frame.new) result }
     ensures ended { OnOk result (frame.new.stage ≡ Ended) }
     ensures same { SameFloors C.anchor J.anchor floors.old floors.new }
 {

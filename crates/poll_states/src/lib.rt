@@ -23,8 +23,10 @@
 //! A stage whose condition does not hold stays. What has to see an end is made to look for it in the poll that comes there (`go_on`).
 //!
 //! - `entered`: what a coroutine has entered and not left.
-//! - `frame`: a coroutine between two moves, and what is left of a run.
-//! - `inside`: how a frame enters and leaves repeats, eaches and scopes.
+//! - `book`: what engines ask of the books of coroutines.
+//! - `coroutine`: a coroutine between two moves.
+//! - `frame`: a coroutine as engines keep it, and what is left of a run.
+//! - `inside`: how a coroutine enters and leaves repeats, eaches and scopes.
 //! - `floors`: what polls work on, and how a call has it lent.
 //! - `code`: the code that a coroutine runs.
 //! - `answers`: where a coroutine goes on by an answer.
@@ -43,8 +45,10 @@
 
 mod answers;
 mod beginning;
+mod book;
 mod calls;
 mod code;
+mod coroutine;
 mod ends;
 mod entered;
 mod floors;
@@ -60,8 +64,9 @@ mod selects;
 mod waits;
 
 pub use beginning::begin;
+pub use book::Book;
+pub use coroutine::Coroutine;
 pub use floors::Floors;
 pub use frame::{Done, Frame};
-pub use note_book::Notes as Book;
 pub use polls::poll;
 pub use script_meaning::{Stage, Turn};

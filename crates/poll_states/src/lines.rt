@@ -5,13 +5,13 @@ ghost use Rattle.script_reader.specs.Scripts.{program_of};
 ghost use Rattle.script_grammar.specs.declared.instructions.Instruction.TheVariants.{Fail, Select, SetResult};
 ghost use Rattle.script_meaning.specs.declared.stage.Stage.TheVariants.{Running};
 ghost use Rattle.script_meaning.specs.Configs.{IsAt};
-ghost use Rattle.poll_states.specs.Frames.{config_of, Stands, SameFloors};
+ghost use Rattle.poll_states.specs.Frames.{config_of, Stands, SameFloors, noted};
 ghost use Rattle.poll_states.specs.Steps.{MovesOn, StepAnswer};
 
 use crate::calls::{ChannelCall, call};
 use crate::code::code_of;
+use crate::coroutine::Coroutine;
 use crate::floors::Floors;
-use crate::frame::Frame;
 use crate::jobs::{end_body, launch, look_up};
 use crate::loops::repeat;
 use crate::named::{NamedCall, call_named};
@@ -24,17 +24,19 @@ use note_book::{Item, NoteBook};
 use script_reader::{Instruction, Operand, Script};
 
 /// Runs the line of a coroutine, or ends its body if none is left.
-pub(crate) fn run<C: ChannelFloor, J: JobFloor, W: Wakes, G: Gate>(
+pub(crate) fn run<B: NoteBook, C: ChannelFloor, J: JobFloor, W: Wakes, G: Gate>(
     script: &Script,
-    frame: &mut Frame,
+    frame: &mut Coroutine<B>,
     floors: &mut Floors<'_, '_, '_, C, J, W>,
     gate: &G,
 ) -> Result<(), Memory>
-    requires stands { Stands (program_of script.now) (C.view floors.old.channels.now) (J.view floors.old.jobs.now) frame.old }
+    requires stands { Stands (program_of script.now) (C.view floors.old.channels.now) (J.view floors.old.jobs.now)
+        (noted B.items frame.old) }
     requires running { frame.old.stage ≡ Running }
     ensures came { StepAnswer (program_of script.now) (C.view floors.old.channels.now) (C.view floors.new.channels.now)
-        (J.view floors.old.jobs.now) (J.view floors.new.jobs.now) frame.old frame.new result }
-    ensures moves { OnOk result (MovesOn (program_of script.now) (C.view floors.old.channels.now) frame.old frame.new) }
+        (J.view floors.old.jobs.now) (J.view floors.new.jobs.now) (noted B.items frame.old) (noted B.items frame.new) result }
+    ensures moves { OnOk result (MovesOn (program_of script.now) (C.view floors.old.channels.now)
+        (noted B.items frame.old) (noted B.items frame.new)) }
     ensures same { SameFloors C.anchor J.anchor floors.old floors.new }
 {
     let code = code_of(script, frame.tag);
@@ -45,18 +47,20 @@ pub(crate) fn run<C: ChannelFloor, J: JobFloor, W: Wakes, G: Gate>(
 }
 
 /// Runs this line.
-fn run_line<C: ChannelFloor, J: JobFloor, W: Wakes, G: Gate>(
+fn run_line<B: NoteBook, C: ChannelFloor, J: JobFloor, W: Wakes, G: Gate>(
     script: &Script,
-    frame: &mut Frame,
+    frame: &mut Coroutine<B>,
     floors: &mut Floors<'_, '_, '_, C, J, W>,
     gate: &G,
     line: Instruction,
 ) -> Result<(), Memory>
-    requires stands { Stands (program_of script.now) (C.view floors.old.channels.now) (J.view floors.old.jobs.now) frame.old }
+    requires stands { Stands (program_of script.now) (C.view floors.old.channels.now) (J.view floors.old.jobs.now)
+        (noted B.items frame.old) }
     requires at { IsAt (program_of script.now) frame.old.tag (config_of frame.old) line }
     ensures came { StepAnswer (program_of script.now) (C.view floors.old.channels.now) (C.view floors.new.channels.now)
-        (J.view floors.old.jobs.now) (J.view floors.new.jobs.now) frame.old frame.new result }
-    ensures moves { line ≡ Select → OnOk result (MovesOn (program_of script.now) (C.view floors.old.channels.now) frame.old frame.new) }
+        (J.view floors.old.jobs.now) (J.view floors.new.jobs.now) (noted B.items frame.old) (noted B.items frame.new) result }
+    ensures moves { line ≡ Select → OnOk result (MovesOn (program_of script.now) (C.view floors.old.channels.now)
+        (noted B.items frame.old) (noted B.items frame.new)) }
     ensures same { SameFloors C.anchor J.anchor floors.old floors.new }
 {
     match line {
@@ -117,16 +121,17 @@ fn run_line<C: ChannelFloor, J: JobFloor, W: Wakes, G: Gate>(
 }
 
 /// Breaks the body off by its own failure.
-fn fail<C: ChannelFloor, J: JobFloor, W: Wakes>(
+fn fail<B: NoteBook, C: ChannelFloor, J: JobFloor, W: Wakes>(
     script: &Script,
-    frame: &mut Frame,
+    frame: &mut Coroutine<B>,
     floors: &mut Floors<'_, '_, '_, C, J, W>,
     code: Value,
 ) -> Result<(), Memory>
-    requires stands { Stands (program_of script.now) (C.view floors.old.channels.now) (J.view floors.old.jobs.now) frame.old }
+    requires stands { Stands (program_of script.now) (C.view floors.old.channels.now) (J.view floors.old.jobs.now)
+        (noted B.items frame.old) }
     requires at { IsAt (program_of script.now) frame.old.tag (config_of frame.old) (Fail code) }
     ensures came { StepAnswer (program_of script.now) (C.view floors.old.channels.now) (C.view floors.new.channels.now)
-        (J.view floors.old.jobs.now) (J.view floors.new.jobs.now) frame.old frame.new result }
+        (J.view floors.old.jobs.now) (J.view floors.new.jobs.now) (noted B.items frame.old) (noted B.items frame.new) result }
     ensures same { SameFloors C.anchor J.anchor floors.old floors.new }
 {
     if let Err(memory) = frame.book.room(1) {
@@ -138,16 +143,17 @@ fn fail<C: ChannelFloor, J: JobFloor, W: Wakes>(
 }
 
 /// Sets what the Job will have as its result.
-fn set_result<C: ChannelFloor, J: JobFloor, W: Wakes>(
+fn set_result<B: NoteBook, C: ChannelFloor, J: JobFloor, W: Wakes>(
     script: &Script,
-    frame: &mut Frame,
+    frame: &mut Coroutine<B>,
     floors: &mut Floors<'_, '_, '_, C, J, W>,
     value: Operand,
 ) -> Result<(), Memory>
-    requires stands { Stands (program_of script.now) (C.view floors.old.channels.now) (J.view floors.old.jobs.now) frame.old }
+    requires stands { Stands (program_of script.now) (C.view floors.old.channels.now) (J.view floors.old.jobs.now)
+        (noted B.items frame.old) }
     requires at { IsAt (program_of script.now) frame.old.tag (config_of frame.old) (SetResult value) }
     ensures came { StepAnswer (program_of script.now) (C.view floors.old.channels.now) (C.view floors.new.channels.now)
-        (J.view floors.old.jobs.now) (J.view floors.new.jobs.now) frame.old frame.new result }
+        (J.view floors.old.jobs.now) (J.view floors.new.jobs.now) (noted B.items frame.old) (noted B.items frame.new) result }
     ensures same { SameFloors C.anchor J.anchor floors.old floors.new }
 {
     frame.result = frame.value_of(value);

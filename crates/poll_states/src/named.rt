@@ -3,21 +3,20 @@
 ghost use Rattle.std.specs.Prelude.{◌≡◌, true, is_some};
 ghost use Rattle.job_model.specs.Needs.{MayEndBody};
 ghost use Rattle.job_model.specs.Histories.{replay};
-ghost use Rattle.note_book.specs.Books.{notes_of};
 ghost use Rattle.scope_builders.specs.Calls.{SameBuilder, MayBuild};
 ghost use Rattle.script_reader.specs.Scripts.{program_of};
 ghost use Rattle.script_meaning.specs.Configs.{IsAt};
-ghost use Rattle.poll_states.specs.Frames.{config_of, Stands, SameFloors};
+ghost use Rattle.poll_states.specs.Frames.{config_of, Stands, SameFloors, noted};
 ghost use Rattle.poll_states.specs.Steps.{StepAnswer};
 ghost use Rattle.poll_states.specs.Named.{line_naming, NamedAnswer};
 
 use crate::answers::Came;
+use crate::coroutine::Coroutine;
 use crate::floors::{Floors, builder};
-use crate::frame::Frame;
 use channel_model::ChannelFloor;
 use co_base::{Gate, Memory, Row, Wakes};
 use job_model::JobFloor;
-use note_book::Notes;
+use note_book::NoteBook;
 use scope_builders::Builder;
 use script_reader::{Instruction, Script};
 
@@ -49,8 +48,8 @@ impl NamedCall {
 }
 
 /// Makes a call on the Job of this row, whose caller's innermost Job has the row `own`. None says that this was seen Cancelling.
-fn make<C: ChannelFloor, J: JobFloor, W: Wakes, G: Gate>(
-    builder: &mut Builder<'_, '_, '_, '_, C, J, Notes, W>,
+fn make<B: NoteBook, C: ChannelFloor, J: JobFloor, W: Wakes, G: Gate>(
+    builder: &mut Builder<'_, '_, '_, '_, C, J, B, W>,
     gate: &G,
     call: NamedCall,
     own: Row,
@@ -62,7 +61,7 @@ fn make<C: ChannelFloor, J: JobFloor, W: Wakes, G: Gate>(
     ensures same { SameBuilder C.anchor J.anchor builder.old builder.new }
     ensures answer { NamedAnswer call builder.old.who builder.old.base own row
         (C.view builder.old.channels.now) (C.view builder.new.channels.now) (J.view builder.old.jobs.now) (J.view builder.new.jobs.now)
-        (notes_of builder.old.book.now) (notes_of builder.new.book.now) result }
+        (B.items builder.old.book.now) (B.items builder.new.book.now) result }
 {
     match call {
         NamedCall::Start => match builder.start(row) {
@@ -90,18 +89,19 @@ fn make<C: ChannelFloor, J: JobFloor, W: Wakes, G: Gate>(
 }
 
 /// Makes the call of a line on the Job that has this name, and goes on by what it came to.
-pub(crate) fn call_named<C: ChannelFloor, J: JobFloor, W: Wakes, G: Gate>(
+pub(crate) fn call_named<B: NoteBook, C: ChannelFloor, J: JobFloor, W: Wakes, G: Gate>(
     script: &Script,
-    frame: &mut Frame,
+    frame: &mut Coroutine<B>,
     floors: &mut Floors<'_, '_, '_, C, J, W>,
     gate: &G,
     call: NamedCall,
     job: u16,
 ) -> Result<(), Memory>
-    requires stands { Stands (program_of script.now) (C.view floors.old.channels.now) (J.view floors.old.jobs.now) frame.old }
+    requires stands { Stands (program_of script.now) (C.view floors.old.channels.now) (J.view floors.old.jobs.now)
+        (noted B.items frame.old) }
     requires at { IsAt (program_of script.now) frame.old.tag (config_of frame.old) (line_naming call job) }
     ensures came { StepAnswer (program_of script.now) (C.view floors.old.channels.now) (C.view floors.new.channels.now)
-        (J.view floors.old.jobs.now) (J.view floors.new.jobs.now) frame.old frame.new result }
+        (J.view floors.old.jobs.now) (J.view floors.new.jobs.now) (noted B.items frame.old) (noted B.items frame.new) result }
     ensures same { SameFloors C.anchor J.anchor floors.old floors.new }
 {
     let row = frame.rows[job as usize];

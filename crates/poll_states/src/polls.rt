@@ -4,10 +4,12 @@ ghost use Rattle.std.specs.Prelude.{◌≡◌, true, OnOk};
 ghost use Rattle.script_reader.specs.Scripts.{program_of};
 ghost use Rattle.script_meaning.specs.declared.stage.Stage.TheVariants.{Fresh, Running, Waiting, Unwinding, Leaving};
 ghost use Rattle.script_meaning.specs.Polls.{is_seeing};
-ghost use Rattle.poll_states.specs.Frames.{Stands, SameFloors, IsUnmoved};
+ghost use Rattle.poll_states.specs.Frames.{Stands, SameFloors, IsUnmoved, noted};
 ghost use Rattle.poll_states.specs.Steps.{AnsweredAfter, MovesOn, PollAnswer, StepAnswer};
 ghost use Rattle.poll_states.specs.Ends.{WentOnAnswer};
 
+use crate::book::Book;
+use crate::coroutine::Coroutine;
 use crate::ends::see_end;
 use crate::floors::Floors;
 use crate::frame::Frame;
@@ -28,9 +30,9 @@ use script_reader::Script;
 /// On want of memory the entries made so far stand and are noted, and the frame may only be turned into its book or dropped. The gate is
 /// passed at the points 1 (the poll begins), 2 and 3 (before the line's first call and after its last), 4 and 5 (a wait was seen
 /// resolved, and before it is settled), 6 and 7 (before and after the pass of a `cancel` line) and 8 (the poll ends).
-pub fn poll<C: ChannelFloor, J: JobFloor, W: Wakes, G: Gate>(
+pub fn poll<B: Book, C: ChannelFloor, J: JobFloor, W: Wakes, G: Gate>(
     script: &Script,
-    frame: &mut Frame,
+    frame: &mut Frame<B>,
     floors: &mut Floors<'_, '_, '_, C, J, W>,
     gate: &G,
 ) -> Result<Turn, Memory>
@@ -39,6 +41,25 @@ pub fn poll<C: ChannelFloor, J: JobFloor, W: Wakes, G: Gate>(
         (J.view floors.old.jobs.now) (J.view floors.new.jobs.now) frame.old frame.new result }
     ensures moves { OnOk result (MovesOn (program_of script.now) (C.view floors.old.channels.now) frame.old frame.new) }
     ensures quiet { OnOk result (IsUnmoved frame.old frame.new → floors.new.wakes.now ≡ floors.old.wakes.now) }
+    ensures same { SameFloors C.anchor J.anchor floors.old floors.new }
+{
+    gated_turn(script, &mut frame.coroutine, floors, gate)
+}
+
+/// A poll from its first gate to its last.
+fn gated_turn<B: NoteBook, C: ChannelFloor, J: JobFloor, W: Wakes, G: Gate>(
+    script: &Script,
+    frame: &mut Coroutine<B>,
+    floors: &mut Floors<'_, '_, '_, C, J, W>,
+    gate: &G,
+) -> Result<Turn, Memory>
+    requires { Stands (program_of script.now) (C.view floors.old.channels.now) (J.view floors.old.jobs.now) (noted B.items frame.old) }
+    ensures polled { PollAnswer (program_of script.now) (C.view floors.old.channels.now) (C.view floors.new.channels.now)
+        (J.view floors.old.jobs.now) (J.view floors.new.jobs.now) (noted B.items frame.old) (noted B.items frame.new) result }
+    ensures moves { OnOk result (MovesOn (program_of script.now) (C.view floors.old.channels.now)
+        (noted B.items frame.old) (noted B.items frame.new)) }
+    ensures quiet { OnOk result (IsUnmoved (noted B.items frame.old) (noted B.items frame.new) →
+        floors.new.wakes.now ≡ floors.old.wakes.now) }
     ensures same { SameFloors C.anchor J.anchor floors.old floors.new }
 {
     gate.pass(frame.tag, 1);
@@ -52,17 +73,19 @@ pub fn poll<C: ChannelFloor, J: JobFloor, W: Wakes, G: Gate>(
 }
 
 /// A poll between its first gate and its last.
-fn turn_of<C: ChannelFloor, J: JobFloor, W: Wakes, G: Gate>(
+fn turn_of<B: NoteBook, C: ChannelFloor, J: JobFloor, W: Wakes, G: Gate>(
     script: &Script,
-    frame: &mut Frame,
+    frame: &mut Coroutine<B>,
     floors: &mut Floors<'_, '_, '_, C, J, W>,
     gate: &G,
 ) -> Result<Turn, Memory>
-    requires { Stands (program_of script.now) (C.view floors.old.channels.now) (J.view floors.old.jobs.now) frame.old }
+    requires { Stands (program_of script.now) (C.view floors.old.channels.now) (J.view floors.old.jobs.now) (noted B.items frame.old) }
     ensures polled { PollAnswer (program_of script.now) (C.view floors.old.channels.now) (C.view floors.new.channels.now)
-        (J.view floors.old.jobs.now) (J.view floors.new.jobs.now) frame.old frame.new result }
-    ensures moves { OnOk result (MovesOn (program_of script.now) (C.view floors.old.channels.now) frame.old frame.new) }
-    ensures quiet { OnOk result (IsUnmoved frame.old frame.new → floors.new.wakes.now ≡ floors.old.wakes.now) }
+        (J.view floors.old.jobs.now) (J.view floors.new.jobs.now) (noted B.items frame.old) (noted B.items frame.new) result }
+    ensures moves { OnOk result (MovesOn (program_of script.now) (C.view floors.old.channels.now)
+        (noted B.items frame.old) (noted B.items frame.new)) }
+    ensures quiet { OnOk result (IsUnmoved
+        (noted B.items frame.old) (noted B.items frame.new) → floors.new.wakes.now ≡ floors.old.wakes.now) }
     ensures same { SameFloors C.anchor J.anchor floors.old floors.new }
 {
     match frame.stage {
@@ -77,17 +100,19 @@ fn turn_of<C: ChannelFloor, J: JobFloor, W: Wakes, G: Gate>(
 }
 
 /// Begins, if the own Job may run, with the first line.
-fn first_turn<C: ChannelFloor, J: JobFloor, W: Wakes, G: Gate>(
+fn first_turn<B: NoteBook, C: ChannelFloor, J: JobFloor, W: Wakes, G: Gate>(
     script: &Script,
-    frame: &mut Frame,
+    frame: &mut Coroutine<B>,
     floors: &mut Floors<'_, '_, '_, C, J, W>,
     gate: &G,
 ) -> Result<Turn, Memory>
-    requires stands { Stands (program_of script.now) (C.view floors.old.channels.now) (J.view floors.old.jobs.now) frame.old }
+    requires stands { Stands (program_of script.now) (C.view floors.old.channels.now) (J.view floors.old.jobs.now)
+        (noted B.items frame.old) }
     requires fresh { frame.old.stage ≡ Fresh }
     ensures polled { PollAnswer (program_of script.now) (C.view floors.old.channels.now) (C.view floors.new.channels.now)
-        (J.view floors.old.jobs.now) (J.view floors.new.jobs.now) frame.old frame.new result }
-    ensures quiet { OnOk result (IsUnmoved frame.old frame.new → floors.new.wakes.now ≡ floors.old.wakes.now) }
+        (J.view floors.old.jobs.now) (J.view floors.new.jobs.now) (noted B.items frame.old) (noted B.items frame.new) result }
+    ensures quiet { OnOk result (IsUnmoved
+        (noted B.items frame.old) (noted B.items frame.new) → floors.new.wakes.now ≡ floors.old.wakes.now) }
     ensures same { SameFloors C.anchor J.anchor floors.old floors.new }
 {
     if let Err(memory) = frame.book.room(1) {
@@ -110,18 +135,21 @@ fn first_turn<C: ChannelFloor, J: JobFloor, W: Wakes, G: Gate>(
 }
 
 /// Runs a line, or ends the body.
-fn line_turn<C: ChannelFloor, J: JobFloor, W: Wakes, G: Gate>(
+fn line_turn<B: NoteBook, C: ChannelFloor, J: JobFloor, W: Wakes, G: Gate>(
     script: &Script,
-    frame: &mut Frame,
+    frame: &mut Coroutine<B>,
     floors: &mut Floors<'_, '_, '_, C, J, W>,
     gate: &G,
 ) -> Result<Turn, Memory>
-    requires stands { Stands (program_of script.now) (C.view floors.old.channels.now) (J.view floors.old.jobs.now) frame.old }
+    requires stands { Stands (program_of script.now) (C.view floors.old.channels.now) (J.view floors.old.jobs.now)
+        (noted B.items frame.old) }
     requires running { frame.old.stage ≡ Running }
     ensures polled { PollAnswer (program_of script.now) (C.view floors.old.channels.now) (C.view floors.new.channels.now)
-        (J.view floors.old.jobs.now) (J.view floors.new.jobs.now) frame.old frame.new result }
-    ensures moves { OnOk result (MovesOn (program_of script.now) (C.view floors.old.channels.now) frame.old frame.new) }
-    ensures quiet { OnOk result (IsUnmoved frame.old frame.new → floors.new.wakes.now ≡ floors.old.wakes.now) }
+        (J.view floors.old.jobs.now) (J.view floors.new.jobs.now) (noted B.items frame.old) (noted B.items frame.new) result }
+    ensures moves { OnOk result (MovesOn (program_of script.now) (C.view floors.old.channels.now)
+        (noted B.items frame.old) (noted B.items frame.new)) }
+    ensures quiet { OnOk result (IsUnmoved
+        (noted B.items frame.old) (noted B.items frame.new) → floors.new.wakes.now ≡ floors.old.wakes.now) }
     ensures same { SameFloors C.anchor J.anchor floors.old floors.new }
 {
     match run(script, frame, floors, gate) {
@@ -131,13 +159,13 @@ fn line_turn<C: ChannelFloor, J: JobFloor, W: Wakes, G: Gate>(
 }
 
 /// What a poll answers after a line. A coroutine that now waits, and whose innermost Job is Cancelling, is to be polled again.
-fn answer<C: ChannelFloor, J: JobFloor, W: Wakes>(
+fn answer<B: NoteBook, C: ChannelFloor, J: JobFloor, W: Wakes>(
     script: &Script,
-    frame: &Frame,
+    frame: &Coroutine<B>,
     floors: &mut Floors<'_, '_, '_, C, J, W>,
 ) -> Turn
-    requires { Stands (program_of script.now) (C.view floors.old.channels.now) (J.view floors.old.jobs.now) frame.now }
-    ensures answered { AnsweredAfter frame.now (J.view floors.old.jobs.now) (J.view floors.new.jobs.now) result }
+    requires { Stands (program_of script.now) (C.view floors.old.channels.now) (J.view floors.old.jobs.now) (noted B.items frame.now) }
+    ensures answered { AnsweredAfter (noted B.items frame.now) (J.view floors.old.jobs.now) (J.view floors.new.jobs.now) result }
     ensures channels { floors.new.channels.now ≡ floors.old.channels.now }
     ensures wakes { floors.new.wakes.now ≡ floors.old.wakes.now }
     ensures same { SameFloors C.anchor J.anchor floors.old floors.new }
@@ -156,14 +184,14 @@ fn answer<C: ChannelFloor, J: JobFloor, W: Wakes>(
 }
 
 /// What is done after a line, or after the end of a wait, and answered: an end that is still to be seen is looked for.
-fn go_on<C: ChannelFloor, J: JobFloor, W: Wakes>(
+fn go_on<B: NoteBook, C: ChannelFloor, J: JobFloor, W: Wakes>(
     script: &Script,
-    frame: &mut Frame,
+    frame: &mut Coroutine<B>,
     floors: &mut Floors<'_, '_, '_, C, J, W>,
 ) -> Result<Turn, Memory>
-    requires { Stands (program_of script.now) (C.view floors.old.channels.now) (J.view floors.old.jobs.now) frame.old }
+    requires { Stands (program_of script.now) (C.view floors.old.channels.now) (J.view floors.old.jobs.now) (noted B.items frame.old) }
     ensures went { WentOnAnswer (program_of script.now) (C.view floors.old.channels.now) (C.view floors.new.channels.now)
-        (J.view floors.old.jobs.now) (J.view floors.new.jobs.now) frame.old frame.new result }
+        (J.view floors.old.jobs.now) (J.view floors.new.jobs.now) (noted B.items frame.old) (noted B.items frame.new) result }
     ensures same { SameFloors C.anchor J.anchor floors.old floors.new }
 {
     match frame.stage {
@@ -176,18 +204,20 @@ fn go_on<C: ChannelFloor, J: JobFloor, W: Wakes>(
 }
 
 /// Ends the wait, if it was resolved or the innermost Job is Cancelling.
-fn wait_turn<C: ChannelFloor, J: JobFloor, W: Wakes, G: Gate>(
+fn wait_turn<B: NoteBook, C: ChannelFloor, J: JobFloor, W: Wakes, G: Gate>(
     script: &Script,
-    frame: &mut Frame,
+    frame: &mut Coroutine<B>,
     floors: &mut Floors<'_, '_, '_, C, J, W>,
     gate: &G,
     w: WaitId,
 ) -> Result<Turn, Memory>
-    requires stands { Stands (program_of script.now) (C.view floors.old.channels.now) (J.view floors.old.jobs.now) frame.old }
+    requires stands { Stands (program_of script.now) (C.view floors.old.channels.now) (J.view floors.old.jobs.now)
+        (noted B.items frame.old) }
     requires waits { frame.old.stage ≡ Waiting w }
     ensures polled { PollAnswer (program_of script.now) (C.view floors.old.channels.now) (C.view floors.new.channels.now)
-        (J.view floors.old.jobs.now) (J.view floors.new.jobs.now) frame.old frame.new result }
-    ensures quiet { OnOk result (IsUnmoved frame.old frame.new → floors.new.wakes.now ≡ floors.old.wakes.now) }
+        (J.view floors.old.jobs.now) (J.view floors.new.jobs.now) (noted B.items frame.old) (noted B.items frame.new) result }
+    ensures quiet { OnOk result (IsUnmoved
+        (noted B.items frame.old) (noted B.items frame.new) → floors.new.wakes.now ≡ floors.old.wakes.now) }
     ensures same { SameFloors C.anchor J.anchor floors.old floors.new }
 {
     if let Err(memory) = frame.book.room(1) {
@@ -215,17 +245,19 @@ fn wait_turn<C: ChannelFloor, J: JobFloor, W: Wakes, G: Gate>(
 }
 
 /// Breaks the body off.
-fn last_turn<C: ChannelFloor, J: JobFloor, W: Wakes>(
+fn last_turn<B: NoteBook, C: ChannelFloor, J: JobFloor, W: Wakes>(
     script: &Script,
-    frame: &mut Frame,
+    frame: &mut Coroutine<B>,
     floors: &mut Floors<'_, '_, '_, C, J, W>,
     failure: Option<Row>,
 ) -> Result<Turn, Memory>
-    requires stands { Stands (program_of script.now) (C.view floors.old.channels.now) (J.view floors.old.jobs.now) frame.old }
+    requires stands { Stands (program_of script.now) (C.view floors.old.channels.now) (J.view floors.old.jobs.now)
+        (noted B.items frame.old) }
     requires unwinds { frame.old.stage ≡ Unwinding failure }
     ensures polled { PollAnswer (program_of script.now) (C.view floors.old.channels.now) (C.view floors.new.channels.now)
-        (J.view floors.old.jobs.now) (J.view floors.new.jobs.now) frame.old frame.new result }
-    ensures quiet { OnOk result (IsUnmoved frame.old frame.new → floors.new.wakes.now ≡ floors.old.wakes.now) }
+        (J.view floors.old.jobs.now) (J.view floors.new.jobs.now) (noted B.items frame.old) (noted B.items frame.new) result }
+    ensures quiet { OnOk result (IsUnmoved
+        (noted B.items frame.old) (noted B.items frame.new) → floors.new.wakes.now ≡ floors.old.wakes.now) }
     ensures same { SameFloors C.anchor J.anchor floors.old floors.new }
 {
     match unwind(script, frame, floors, failure) {
@@ -235,16 +267,17 @@ fn last_turn<C: ChannelFloor, J: JobFloor, W: Wakes>(
 }
 
 /// Breaks the body of the innermost Job off.
-fn unwind<C: ChannelFloor, J: JobFloor, W: Wakes>(
+fn unwind<B: NoteBook, C: ChannelFloor, J: JobFloor, W: Wakes>(
     script: &Script,
-    frame: &mut Frame,
+    frame: &mut Coroutine<B>,
     floors: &mut Floors<'_, '_, '_, C, J, W>,
     failure: Option<Row>,
 ) -> Result<(), Memory>
-    requires stands { Stands (program_of script.now) (C.view floors.old.channels.now) (J.view floors.old.jobs.now) frame.old }
+    requires stands { Stands (program_of script.now) (C.view floors.old.channels.now) (J.view floors.old.jobs.now)
+        (noted B.items frame.old) }
     requires unwinds { frame.old.stage ≡ Unwinding failure }
     ensures came { StepAnswer (program_of script.now) (C.view floors.old.channels.now) (C.view floors.new.channels.now)
-        (J.view floors.old.jobs.now) (J.view floors.new.jobs.now) frame.old frame.new result }
+        (J.view floors.old.jobs.now) (J.view floors.new.jobs.now) (noted B.items frame.old) (noted B.items frame.new) result }
     ensures same { SameFloors C.anchor J.anchor floors.old floors.new }
 {
     match frame.scope() {
@@ -254,18 +287,20 @@ fn unwind<C: ChannelFloor, J: JobFloor, W: Wakes>(
 }
 
 /// Ends a wait at the end of a scope, if it was resolved.
-fn leave_turn<C: ChannelFloor, J: JobFloor, W: Wakes, G: Gate>(
+fn leave_turn<B: NoteBook, C: ChannelFloor, J: JobFloor, W: Wakes, G: Gate>(
     script: &Script,
-    frame: &mut Frame,
+    frame: &mut Coroutine<B>,
     floors: &mut Floors<'_, '_, '_, C, J, W>,
     gate: &G,
     w: WaitId,
 ) -> Result<Turn, Memory>
-    requires stands { Stands (program_of script.now) (C.view floors.old.channels.now) (J.view floors.old.jobs.now) frame.old }
+    requires stands { Stands (program_of script.now) (C.view floors.old.channels.now) (J.view floors.old.jobs.now)
+        (noted B.items frame.old) }
     requires leaves { frame.old.stage ≡ Leaving w }
     ensures polled { PollAnswer (program_of script.now) (C.view floors.old.channels.now) (C.view floors.new.channels.now)
-        (J.view floors.old.jobs.now) (J.view floors.new.jobs.now) frame.old frame.new result }
-    ensures quiet { OnOk result (IsUnmoved frame.old frame.new → floors.new.wakes.now ≡ floors.old.wakes.now) }
+        (J.view floors.old.jobs.now) (J.view floors.new.jobs.now) (noted B.items frame.old) (noted B.items frame.new) result }
+    ensures quiet { OnOk result (IsUnmoved
+        (noted B.items frame.old) (noted B.items frame.new) → floors.new.wakes.now ≡ floors.old.wakes.now) }
     ensures same { SameFloors C.anchor J.anchor floors.old floors.new }
 {
     if was_resolved(frame.tag, w, &mut *floors.channels, gate) {
@@ -279,16 +314,18 @@ fn leave_turn<C: ChannelFloor, J: JobFloor, W: Wakes, G: Gate>(
 }
 
 /// Sees the end that is still to be seen.
-fn see_turn<C: ChannelFloor, J: JobFloor, W: Wakes>(
+fn see_turn<B: NoteBook, C: ChannelFloor, J: JobFloor, W: Wakes>(
     script: &Script,
-    frame: &mut Frame,
+    frame: &mut Coroutine<B>,
     floors: &mut Floors<'_, '_, '_, C, J, W>,
 ) -> Result<Turn, Memory>
-    requires stands { Stands (program_of script.now) (C.view floors.old.channels.now) (J.view floors.old.jobs.now) frame.old }
+    requires stands { Stands (program_of script.now) (C.view floors.old.channels.now) (J.view floors.old.jobs.now)
+        (noted B.items frame.old) }
     requires seeing { is_seeing frame.old.stage ≡ true }
     ensures polled { PollAnswer (program_of script.now) (C.view floors.old.channels.now) (C.view floors.new.channels.now)
-        (J.view floors.old.jobs.now) (J.view floors.new.jobs.now) frame.old frame.new result }
-    ensures quiet { OnOk result (IsUnmoved frame.old frame.new → floors.new.wakes.now ≡ floors.old.wakes.now) }
+        (J.view floors.old.jobs.now) (J.view floors.new.jobs.now) (noted B.items frame.old) (noted B.items frame.new) result }
+    ensures quiet { OnOk result (IsUnmoved
+        (noted B.items frame.old) (noted B.items frame.new) → floors.new.wakes.now ≡ floors.old.wakes.now) }
     ensures same { SameFloors C.anchor J.anchor floors.old floors.new }
 {
     match see_end(script, frame, floors) {

@@ -5,7 +5,6 @@ ghost use Rattle.channel_model.specs.Floors.{MayCall};
 ghost use Rattle.channel_model.specs.Answers.{IsReady};
 ghost use Rattle.job_model.specs.Needs.{Holds, OwnsBody, MayEndBody};
 ghost use Rattle.job_model.specs.Histories.{replay};
-ghost use Rattle.note_book.specs.Books.{notes_of};
 ghost use Rattle.call_meaning.specs.JobCalls.{reason_for, EndsBody};
 ghost use Rattle.scope_builders.specs.Calls.{SameBuilder, MayBuild, BeginsToBreakOff, DoneAnswer};
 ghost use Rattle.script_grammar.specs.declared.instructions.Instruction.TheVariants.{Scope, End as EndLine};
@@ -14,7 +13,7 @@ ghost use Rattle.script_reader.specs.Scripts.{program_of};
 ghost use Rattle.script_reader.specs.Lines.{does_open};
 ghost use Rattle.script_meaning.specs.declared.stage.Stage.TheVariants.{Unwinding, SeesScope};
 ghost use Rattle.script_meaning.specs.Configs.{IsAt};
-ghost use Rattle.poll_states.specs.Frames.{config_of, items_of, Stands, SameFloors, SameLoans};
+ghost use Rattle.poll_states.specs.Frames.{config_of, Stands, SameFloors, SameLoans, noted};
 ghost use Rattle.poll_states.specs.Steps.{StepAnswer};
 ghost use Rattle.poll_states.specs.Ends.{
   IsInScope,
@@ -29,24 +28,24 @@ ghost use Rattle.poll_states.specs.Ends.{
 
 use crate::answers::unwinds_for;
 use crate::code::closing;
+use crate::coroutine::Coroutine;
 use crate::entered::{Entered, OpenScope};
 use crate::floors::{Floors, builder, caller};
-use crate::frame::Frame;
 use crate::loops::end_turn;
 use channel_model::ChannelFloor;
 use co_base::{Gate, Memory, Row, WaitId, Wakes};
 use job_model::{End, JobFloor};
-use note_book::Notes;
+use note_book::NoteBook;
 use scope_builders::{Builder, Joined, LaunchError};
 use script_meaning::Stage;
 use script_reader::Script;
 
-impl Frame {
+impl<B: NoteBook> Coroutine<B> {
     /// Goes on after the receive on the done channel of its innermost scope came to this. Without a place it leaves the scope first.
     pub(crate) fn go_on_leaving(&mut self, answer: Joined)
         ensures tag { self.new.tag ≡ self.old.tag }
         ensures config { AfterDone self.old.tag answer (config_of self.old) (config_of self.new) }
-        ensures items { items_of self.new ≡ items_of self.old }
+        ensures items { B.items self.new.book ≡ B.items self.old.book }
     {
         match answer {
             Joined::Closed(_) => self.stage = Stage::SeesScope,
@@ -65,7 +64,7 @@ impl Frame {
         requires opens { does_open (slice_get (code_of (program_of script.now) self.old.tag) head) ≡ true }
         ensures tag { self.new.tag ≡ self.old.tag }
         ensures config { LeavesEnded (program_of script.now) self.old.tag head end (config_of self.old) (config_of self.new) }
-        ensures items { items_of self.new ≡ items_of self.old }
+        ensures items { B.items self.new.book ≡ B.items self.old.book }
     {
         self.leave_scope();
         match end {
@@ -79,17 +78,18 @@ impl Frame {
 }
 
 /// Enters a scope: attaches its Job under the innermost Job. A refusal breaks the body off.
-pub(crate) fn enter_scope<C: ChannelFloor, J: JobFloor, W: Wakes, G: Gate>(
+pub(crate) fn enter_scope<B: NoteBook, C: ChannelFloor, J: JobFloor, W: Wakes, G: Gate>(
     script: &Script,
-    frame: &mut Frame,
+    frame: &mut Coroutine<B>,
     floors: &mut Floors<'_, '_, '_, C, J, W>,
     gate: &G,
     supervisor: bool,
 ) -> Result<(), Memory>
-    requires stands { Stands (program_of script.now) (C.view floors.old.channels.now) (J.view floors.old.jobs.now) frame.old }
+    requires stands { Stands (program_of script.now) (C.view floors.old.channels.now) (J.view floors.old.jobs.now)
+        (noted B.items frame.old) }
     requires at { IsAt (program_of script.now) frame.old.tag (config_of frame.old) (Scope supervisor) }
     ensures came { StepAnswer (program_of script.now) (C.view floors.old.channels.now) (C.view floors.new.channels.now)
-        (J.view floors.old.jobs.now) (J.view floors.new.jobs.now) frame.old frame.new result }
+        (J.view floors.old.jobs.now) (J.view floors.new.jobs.now) (noted B.items frame.old) (noted B.items frame.new) result }
     ensures same { SameFloors C.anchor J.anchor floors.old floors.new }
 {
     if let Err(memory) = frame.room_to_enter() {
@@ -121,8 +121,8 @@ pub(crate) fn enter_scope<C: ChannelFloor, J: JobFloor, W: Wakes, G: Gate>(
 }
 
 /// Ends the body of a scope, and receives on its done channel.
-fn end_and_receive<C: ChannelFloor, J: JobFloor, W: Wakes>(
-    builder: &mut Builder<'_, '_, '_, '_, C, J, Notes, W>,
+fn end_and_receive<B: NoteBook, C: ChannelFloor, J: JobFloor, W: Wakes>(
+    builder: &mut Builder<'_, '_, '_, '_, C, J, B, W>,
     row: Row,
 ) -> Result<Joined, Memory>
     requires may { MayBuild builder.old.who builder.old.base (C.view builder.old.channels.now) (J.view builder.old.jobs.now) }
@@ -131,7 +131,7 @@ fn end_and_receive<C: ChannelFloor, J: JobFloor, W: Wakes>(
     ensures answer { DoneAnswer builder.old.who builder.old.base
         (EndsAndReceives builder.old.base row) (EndsBody builder.old.base row 0)
         (C.view builder.old.channels.now) (C.view builder.new.channels.now) (J.view builder.old.jobs.now) (J.view builder.new.jobs.now)
-        (notes_of builder.old.book.now) (notes_of builder.new.book.now) result }
+        (B.items builder.old.book.now) (B.items builder.new.book.now) result }
 {
     match builder.end_job(row, 0) {
         Ok(_) => builder.receive_done(row),
@@ -140,8 +140,8 @@ fn end_and_receive<C: ChannelFloor, J: JobFloor, W: Wakes>(
 }
 
 /// Breaks the body of a scope off, and receives on its done channel.
-fn break_and_receive<C: ChannelFloor, J: JobFloor, W: Wakes>(
-    builder: &mut Builder<'_, '_, '_, '_, C, J, Notes, W>,
+fn break_and_receive<B: NoteBook, C: ChannelFloor, J: JobFloor, W: Wakes>(
+    builder: &mut Builder<'_, '_, '_, '_, C, J, B, W>,
     row: Row,
     failure: Option<Row>,
 ) -> Result<Joined, Memory>
@@ -154,7 +154,7 @@ fn break_and_receive<C: ChannelFloor, J: JobFloor, W: Wakes>(
         (BreaksAndReceives builder.old.base builder.old.who row failure)
         (BeginsToBreakOff builder.old.base builder.old.who row failure (replay (J.view builder.new.jobs.now).seen))
         (C.view builder.old.channels.now) (C.view builder.new.channels.now) (J.view builder.old.jobs.now) (J.view builder.new.jobs.now)
-        (notes_of builder.old.book.now) (notes_of builder.new.book.now) result }
+        (B.items builder.old.book.now) (B.items builder.new.book.now) result }
 {
     match builder.break_job(row, failure) {
         Ok(_) => builder.receive_done(row),
@@ -163,18 +163,19 @@ fn break_and_receive<C: ChannelFloor, J: JobFloor, W: Wakes>(
 }
 
 /// Ends the body of the scope that it entered last, and waits for the end of the scope.
-pub(crate) fn end_scope<C: ChannelFloor, J: JobFloor, W: Wakes, G: Gate>(
+pub(crate) fn end_scope<B: NoteBook, C: ChannelFloor, J: JobFloor, W: Wakes, G: Gate>(
     script: &Script,
-    frame: &mut Frame,
+    frame: &mut Coroutine<B>,
     floors: &mut Floors<'_, '_, '_, C, J, W>,
     gate: &G,
     scope: OpenScope,
 ) -> Result<(), Memory>
-    requires stands { Stands (program_of script.now) (C.view floors.old.channels.now) (J.view floors.old.jobs.now) frame.old }
+    requires stands { Stands (program_of script.now) (C.view floors.old.channels.now) (J.view floors.old.jobs.now)
+        (noted B.items frame.old) }
     requires at { IsAt (program_of script.now) frame.old.tag (config_of frame.old) EndLine }
     requires last { IsScopeTop (config_of frame.old) scope }
     ensures came { StepAnswer (program_of script.now) (C.view floors.old.channels.now) (C.view floors.new.channels.now)
-        (J.view floors.old.jobs.now) (J.view floors.new.jobs.now) frame.old frame.new result }
+        (J.view floors.old.jobs.now) (J.view floors.new.jobs.now) (noted B.items frame.old) (noted B.items frame.new) result }
     ensures same { SameFloors C.anchor J.anchor floors.old floors.new }
 {
     let mut builder = builder!(script, frame, floors);
@@ -191,16 +192,17 @@ pub(crate) fn end_scope<C: ChannelFloor, J: JobFloor, W: Wakes, G: Gate>(
 }
 
 /// Ends what it entered last: the body of a scope, or a turn of a loop.
-pub(crate) fn end_line<C: ChannelFloor, J: JobFloor, W: Wakes, G: Gate>(
+pub(crate) fn end_line<B: NoteBook, C: ChannelFloor, J: JobFloor, W: Wakes, G: Gate>(
     script: &Script,
-    frame: &mut Frame,
+    frame: &mut Coroutine<B>,
     floors: &mut Floors<'_, '_, '_, C, J, W>,
     gate: &G,
 ) -> Result<(), Memory>
-    requires stands { Stands (program_of script.now) (C.view floors.old.channels.now) (J.view floors.old.jobs.now) frame.old }
+    requires stands { Stands (program_of script.now) (C.view floors.old.channels.now) (J.view floors.old.jobs.now)
+        (noted B.items frame.old) }
     requires at { IsAt (program_of script.now) frame.old.tag (config_of frame.old) EndLine }
     ensures came { StepAnswer (program_of script.now) (C.view floors.old.channels.now) (C.view floors.new.channels.now)
-        (J.view floors.old.jobs.now) (J.view floors.new.jobs.now) frame.old frame.new result }
+        (J.view floors.old.jobs.now) (J.view floors.new.jobs.now) (noted B.items frame.old) (noted B.items frame.new) result }
     ensures same { SameFloors C.anchor J.anchor floors.old floors.new }
 {
     match frame.top() {
@@ -214,18 +216,19 @@ pub(crate) fn end_line<C: ChannelFloor, J: JobFloor, W: Wakes, G: Gate>(
 }
 
 /// Breaks the body of its innermost scope off, by the failure of a row or as cancelled, and waits for the end of the scope.
-pub(crate) fn break_scope<C: ChannelFloor, J: JobFloor, W: Wakes>(
+pub(crate) fn break_scope<B: NoteBook, C: ChannelFloor, J: JobFloor, W: Wakes>(
     script: &Script,
-    frame: &mut Frame,
+    frame: &mut Coroutine<B>,
     floors: &mut Floors<'_, '_, '_, C, J, W>,
     scope: OpenScope,
     failure: Option<Row>,
 ) -> Result<(), Memory>
-    requires stands { Stands (program_of script.now) (C.view floors.old.channels.now) (J.view floors.old.jobs.now) frame.old }
+    requires stands { Stands (program_of script.now) (C.view floors.old.channels.now) (J.view floors.old.jobs.now)
+        (noted B.items frame.old) }
     requires unwinds { frame.old.stage ≡ Unwinding failure }
     requires inside { IsInScope (config_of frame.old) scope }
     ensures came { StepAnswer (program_of script.now) (C.view floors.old.channels.now) (C.view floors.new.channels.now)
-        (J.view floors.old.jobs.now) (J.view floors.new.jobs.now) frame.old frame.new result }
+        (J.view floors.old.jobs.now) (J.view floors.new.jobs.now) (noted B.items frame.old) (noted B.items frame.new) result }
     ensures same { SameFloors C.anchor J.anchor floors.old floors.new }
 {
     let mut builder = builder!(script, frame, floors);
@@ -239,8 +242,8 @@ pub(crate) fn break_scope<C: ChannelFloor, J: JobFloor, W: Wakes>(
 }
 
 /// Ends a wait at the end of a scope, which was resolved. No look at a Job comes before, since no cancellation gives that wait up.
-pub(crate) fn end_scope_wait<C: ChannelFloor, J, W: Wakes, G: Gate>(
-    frame: &mut Frame,
+pub(crate) fn end_scope_wait<B: NoteBook, C: ChannelFloor, J, W: Wakes, G: Gate>(
+    frame: &mut Coroutine<B>,
     floors: &mut Floors<'_, '_, '_, C, J, W>,
     gate: &G,
     w: WaitId,
@@ -248,7 +251,8 @@ pub(crate) fn end_scope_wait<C: ChannelFloor, J, W: Wakes, G: Gate>(
     requires can { MayCall frame.old.tag w.channel (C.view floors.old.channels.now) }
     requires ready { IsReady frame.old.tag w (C.view floors.old.channels.now) }
     ensures tag { frame.new.tag ≡ frame.old.tag }
-    ensures answer { ScopeWaitAnswer w (C.view floors.old.channels.now) (C.view floors.new.channels.now) frame.old frame.new result }
+    ensures answer { ScopeWaitAnswer w (C.view floors.old.channels.now) (C.view floors.new.channels.now)
+        (noted B.items frame.old) (noted B.items frame.new) result }
     ensures jobs { floors.new.jobs.now ≡ floors.old.jobs.now }
     ensures same { SameLoans C.anchor floors.old floors.new }
 {
@@ -264,15 +268,16 @@ pub(crate) fn end_scope_wait<C: ChannelFloor, J, W: Wakes, G: Gate>(
 }
 
 /// Sees how its innermost scope ended, if that has ended, and leaves it.
-pub(crate) fn see_scope<C: ChannelFloor, J: JobFloor, W: Wakes>(
+pub(crate) fn see_scope<B: NoteBook, C: ChannelFloor, J: JobFloor, W: Wakes>(
     script: &Script,
-    frame: &mut Frame,
+    frame: &mut Coroutine<B>,
     floors: &mut Floors<'_, '_, '_, C, J, W>,
 ) -> Result<(), Memory>
-    requires stands { Stands (program_of script.now) (C.view floors.old.channels.now) (J.view floors.old.jobs.now) frame.old }
+    requires stands { Stands (program_of script.now) (C.view floors.old.channels.now) (J.view floors.old.jobs.now)
+        (noted B.items frame.old) }
     requires sees { frame.old.stage ≡ SeesScope }
     ensures came { SeenAnswer (program_of script.now) (C.view floors.old.channels.now) (C.view floors.new.channels.now)
-        (J.view floors.old.jobs.now) (J.view floors.new.jobs.now) frame.old frame.new result }
+        (J.view floors.old.jobs.now) (J.view floors.new.jobs.now) (noted B.items frame.old) (noted B.items frame.new) result }
     ensures wakes { floors.new.wakes.now ≡ floors.old.wakes.now }
     ensures same { SameFloors C.anchor J.anchor floors.old floors.new }
 {

@@ -8,21 +8,22 @@ ghost use Rattle.script_reader.specs.Lines.{does_open};
 ghost use Rattle.script_meaning.specs.Configs.{IsAt};
 ghost use Rattle.script_meaning.specs.Lines.{clauses_in};
 ghost use Rattle.select_calls.specs.Clauses.{call_of, calls_of};
-ghost use Rattle.poll_states.specs.Frames.{config_of, items_of, Stands, SameFloors};
+ghost use Rattle.poll_states.specs.Frames.{config_of, Stands, SameFloors, noted};
 ghost use Rattle.poll_states.specs.Steps.{MovesOn, StepAnswer};
 ghost use Rattle.poll_states.specs.Selecting.{clause_in, AfterChosen, AfterSelect};
 
 use crate::code::code_of;
+use crate::coroutine::Coroutine;
 use crate::floors::{Floors, caller};
-use crate::frame::Frame;
 use arrayvec::ArrayVec;
 use channel_model::ChannelFloor;
 use co_base::{Gate, Memory, WaitId, Wakes};
 use job_model::JobFloor;
+use note_book::NoteBook;
 use script_reader::{Instruction, Script};
 use select_calls::{Clause, Outcome, SelectAnswer, select_poll};
 
-impl Frame {
+impl<B: NoteBook> Coroutine<B> {
     /// The clause that a line is, with the element that it sends from here.
     fn clause_of(&self, line: Instruction) -> Option<Clause>
         ensures { option_map call_of result ≡ clause_in (config_of self.now) line }
@@ -60,7 +61,7 @@ impl Frame {
         requires opens { does_open (slice_get (code_of (program_of script.now) self.old.tag) self.old.line) ≡ true }
         ensures tag { self.new.tag ≡ self.old.tag }
         ensures config { AfterSelect (program_of script.now) self.old.tag answer held (config_of self.old) (config_of self.new) }
-        ensures items { items_of self.new ≡ items_of self.old }
+        ensures items { B.items self.new.book ≡ B.items self.old.book }
     {
         match answer {
             SelectAnswer::Chosen(_, outcome) => self.go_on_chosen(script, outcome),
@@ -80,7 +81,7 @@ impl Frame {
         requires opens { does_open (slice_get (code_of (program_of script.now) self.old.tag) self.old.line) ≡ true }
         ensures tag { self.new.tag ≡ self.old.tag }
         ensures config { AfterChosen (program_of script.now) self.old.tag outcome (config_of self.old) (config_of self.new) }
-        ensures items { items_of self.new ≡ items_of self.old }
+        ensures items { B.items self.new.book ≡ B.items self.old.book }
     {
         if let Outcome::Value(value) = outcome {
             self.take_in(value);
@@ -90,17 +91,19 @@ impl Frame {
 }
 
 /// Chooses a clause, or waits on all of them.
-pub(crate) fn select<C: ChannelFloor, J: JobFloor, W: Wakes, G: Gate>(
+pub(crate) fn select<B: NoteBook, C: ChannelFloor, J: JobFloor, W: Wakes, G: Gate>(
     script: &Script,
-    frame: &mut Frame,
+    frame: &mut Coroutine<B>,
     floors: &mut Floors<'_, '_, '_, C, J, W>,
     gate: &G,
 ) -> Result<(), Memory>
-    requires stands { Stands (program_of script.now) (C.view floors.old.channels.now) (J.view floors.old.jobs.now) frame.old }
+    requires stands { Stands (program_of script.now) (C.view floors.old.channels.now) (J.view floors.old.jobs.now)
+        (noted B.items frame.old) }
     requires at { IsAt (program_of script.now) frame.old.tag (config_of frame.old) Select }
     ensures came { StepAnswer (program_of script.now) (C.view floors.old.channels.now) (C.view floors.new.channels.now)
-        (J.view floors.old.jobs.now) (J.view floors.new.jobs.now) frame.old frame.new result }
-    ensures moves { OnOk result (MovesOn (program_of script.now) (C.view floors.old.channels.now) frame.old frame.new) }
+        (J.view floors.old.jobs.now) (J.view floors.new.jobs.now) (noted B.items frame.old) (noted B.items frame.new) result }
+    ensures moves { OnOk result (MovesOn (program_of script.now) (C.view floors.old.channels.now)
+        (noted B.items frame.old) (noted B.items frame.new)) }
     ensures same { SameFloors C.anchor J.anchor floors.old floors.new }
 {
     let code = code_of(script, frame.tag);

@@ -4,19 +4,19 @@ ghost use Rattle.std.specs.Prelude.{◌≡◌, ◌<◌, length, None, IsTrue};
 ghost use Rattle.channel_model.specs.Floors.{MayCall};
 ghost use Rattle.channel_model.specs.Answers.{IsReady};
 ghost use Rattle.channel_calls.specs.Calls.{HoldsWait};
-ghost use Rattle.note_book.specs.Books.{spare_of};
 ghost use Rattle.script_reader.specs.Scripts.{program_of};
 ghost use Rattle.script_grammar.specs.Tags.{code_of, coroutine_count};
 ghost use Rattle.script_meaning.specs.declared.stage.Stage.TheVariants.{Unwinding};
 ghost use Rattle.script_meaning.specs.Configs.{at_stage};
-ghost use Rattle.poll_states.specs.Frames.{config_of, SameLoans};
+ghost use Rattle.poll_states.specs.Frames.{config_of, SameLoans, noted};
 ghost use Rattle.poll_states.specs.Steps.{SeenWait, EndedWaitAnswer, GaveUpAnswer};
 
 use crate::code::code_of;
+use crate::coroutine::Coroutine;
 use crate::floors::{Floors, caller};
-use crate::frame::Frame;
 use channel_model::{ChannelFloor, WaitState};
 use co_base::{Gate, Memory, Row, Tag, WaitId, Wakes};
+use note_book::NoteBook;
 use script_reader::Script;
 
 /// Looks whether the wait was resolved.
@@ -42,9 +42,9 @@ pub(crate) fn was_resolved<C: ChannelFloor, G: Gate>(
 }
 
 /// Ends a wait that was resolved, and goes on as that says for the line that began it.
-pub(crate) fn end_wait<C: ChannelFloor, J, W: Wakes, G: Gate>(
+pub(crate) fn end_wait<B: NoteBook, C: ChannelFloor, J, W: Wakes, G: Gate>(
     script: &Script,
-    frame: &mut Frame,
+    frame: &mut Coroutine<B>,
     floors: &mut Floors<'_, '_, '_, C, J, W>,
     gate: &G,
     w: WaitId,
@@ -55,7 +55,7 @@ pub(crate) fn end_wait<C: ChannelFloor, J, W: Wakes, G: Gate>(
     requires line { frame.old.line < length (code_of (program_of script.now) frame.old.tag) }
     ensures tag { frame.new.tag ≡ frame.old.tag }
     ensures answer { EndedWaitAnswer (program_of script.now) w (C.view floors.old.channels.now)
-        (C.view floors.new.channels.now) frame.old frame.new result }
+        (C.view floors.new.channels.now) (noted B.items frame.old) (noted B.items frame.new) result }
     ensures jobs { floors.new.jobs.now ≡ floors.old.jobs.now }
     ensures same { SameLoans C.anchor floors.old floors.new }
 {
@@ -76,8 +76,8 @@ pub(crate) fn end_wait<C: ChannelFloor, J, W: Wakes, G: Gate>(
 
 /// Notes that the Job of this row was seen Cancelling, and ends the wait for that: as cancelled, or with the element given up that it was
 /// handed.
-pub(crate) fn give_up<C: ChannelFloor, J, W: Wakes, G: Gate>(
-    frame: &mut Frame,
+pub(crate) fn give_up<B: NoteBook, C: ChannelFloor, J, W: Wakes, G: Gate>(
+    frame: &mut Coroutine<B>,
     floors: &mut Floors<'_, '_, '_, C, J, W>,
     gate: &G,
     w: WaitId,
@@ -87,10 +87,11 @@ pub(crate) fn give_up<C: ChannelFloor, J, W: Wakes, G: Gate>(
     requires can { MayCall frame.old.tag w.channel (C.view floors.old.channels.now) }
     requires holds { HoldsWait frame.old.tag w (C.view floors.old.channels.now) }
     requires ready { IsTrue resolved → IsReady frame.old.tag w (C.view floors.old.channels.now) }
-    requires book { 0 < spare_of frame.old.book }
+    requires book { 0 < B.spare frame.old.book }
     ensures tag { frame.new.tag ≡ frame.old.tag }
     ensures config { config_of frame.new ≡ at_stage (Unwinding None) (config_of frame.old) }
-    ensures answer { GaveUpAnswer w row (C.view floors.old.channels.now) (C.view floors.new.channels.now) frame.old frame.new result }
+    ensures answer { GaveUpAnswer w row (C.view floors.old.channels.now) (C.view floors.new.channels.now)
+        (noted B.items frame.old) (noted B.items frame.new) result }
     ensures jobs { floors.new.jobs.now ≡ floors.old.jobs.now }
     ensures same { SameLoans C.anchor floors.old floors.new }
 {

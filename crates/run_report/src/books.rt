@@ -6,8 +6,7 @@ ghost use Rattle.note_book.specs.Books.{notes_of};
 ghost use Rattle.run_report.specs.Texts.{book_text, books_text};
 
 use crate::items::ShownItem;
-use note_book::Item;
-use poll_states::Book;
+use note_book::{Item, Notes};
 use script_reader::Channel;
 use std::alloc::AllocError;
 
@@ -15,7 +14,7 @@ use std::alloc::AllocError;
 pub(crate) fn push_books(
     out: &mut String,
     channels: &[Channel],
-    books: &[Book],
+    books: &[Notes],
 ) -> Result<(), AllocError>
     ensures { OnOk result (string_bytes out.new
         ≡ string_bytes out.old ++ books_text (map declared_of channels.now) 0 (map notes_of books.now)) }

@@ -8,8 +8,7 @@ ghost use Rattle.run_report.specs.JobFacts.{act_noted, both_said, facts_at, job_
 
 use co_base::Row;
 use job_model::{End, JobAct, JobNote};
-use note_book::Item;
-use poll_states::Book;
+use note_book::{Item, Notes};
 use std::alloc::{AllocError, Global};
 
 /// What the acts say of one row.
@@ -40,7 +39,7 @@ pub(crate) const NOTHING_SAID: JobFacts = JobFacts {
 pub(crate) fn job_facts_in(
     alloc: Global,
     rows: u16,
-    books: &[Book],
+    books: &[Notes],
 ) -> Result<Vec<JobFacts>, AllocError>
     ensures rows { IfOk result (λ table. length table.items ≡ rows) }
     ensures facts { IfOk result (λ table. (r : ℕ) → r < rows
@@ -52,7 +51,7 @@ pub(crate) fn job_facts_in(
 }
 
 /// Adds what the acts of these books say to what those before them said.
-fn add_books(table: &mut [JobFacts], books: &[Book])
+fn add_books(table: &mut [JobFacts], books: &[Notes])
     ensures { (r : ℕ) → r < length table.old
         → facts_at table.new r ≡ both_said (facts_at table.old r) (job_facts_of r (job_acts_noted (map notes_of books.now))) }
 {

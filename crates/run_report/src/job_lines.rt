@@ -7,7 +7,7 @@ ghost use Rattle.run_report.specs.JobFacts.{is_attached_by, job_line_by, job_tex
 
 use crate::job_facts::{JobFacts, job_facts_in};
 use crate::job_items::ShownEnd;
-use poll_states::Book;
+use note_book::Notes;
 use std::alloc::{AllocError, Global};
 use std::fmt;
 
@@ -16,7 +16,7 @@ pub(crate) fn push_jobs(
     alloc: Global,
     out: &mut String,
     rows: u16,
-    books: &[Book],
+    books: &[Notes],
 ) -> Result<(), AllocError>
     ensures { OnOk result (string_bytes out.new ≡ string_bytes out.old ++ jobs_text rows (job_acts_noted (map notes_of books.now))) }
 {

@@ -6,12 +6,11 @@ ghost use Rattle.note_book.specs.Items.{channel_acts_in};
 ghost use Rattle.run_report.specs.Elements.{channel_acts_noted};
 
 use channel_model::{Act, ChannelNote};
-use note_book::Item;
-use poll_states::Book;
+use note_book::{Item, Notes};
 use std::alloc::{AllocError, Global};
 
 /// The acts on channels that are noted in all books, one book after the other.
-pub(crate) fn channel_acts_noted(alloc: Global, books: &[Book]) -> Result<Vec<Act>, AllocError>
+pub(crate) fn channel_acts_noted(alloc: Global, books: &[Notes]) -> Result<Vec<Act>, AllocError>
     ensures { IfOk result (λ acts. acts.items ≡ channel_acts_noted (map notes_of books.now)) }
 {
     let mut acts = Vec::new(alloc);

@@ -12,14 +12,15 @@ use crate::fates::Known;
 use crate::job_lines::push_jobs;
 use crate::noted::channel_acts_noted;
 use co_base::Memory;
-use poll_states::{Book, Done};
+use note_book::Notes;
+use poll_states::Done;
 use script_reader::{Channel, Script};
 use std::alloc::Global;
 
 /// The report of a run: a line for each item of each book, a line for each Job, and a line for each element that was not received.
 ///
 /// The time is linear in the number of items, of Jobs and of declared channels.
-pub fn report(alloc: Global, script: &Script, done: &Done) -> Result<Vec<u8>, Memory>
+pub fn report(alloc: Global, script: &Script, done: &Done<Notes>) -> Result<Vec<u8>, Memory>
     ensures { IfOk result (λ text. text.items ≡ report_text (program_of script.now) (map notes_of done.now.books.items)) }
 {
     let text = report_of(
@@ -36,7 +37,7 @@ pub fn report_of(
     alloc: Global,
     channels: &[Channel],
     jobs: u16,
-    books: &[Book],
+    books: &[Notes],
 ) -> Result<String, Memory>
     requires { length channels.now < 65536 }
     ensures { IfOk result (λ text. string_bytes text ≡ report_of (map declared_of channels.now) jobs (map notes_of books.now)) }

@@ -14,7 +14,8 @@ use crate::job_facts::{JobFacts, job_facts_in};
 use crate::noted::channel_acts_noted;
 use co_base::Memory;
 use job_model::End;
-use poll_states::{Book, Done};
+use note_book::Notes;
+use poll_states::Done;
 use script_reader::{Channel, Script};
 use std::alloc::{AllocError, Global};
 use std::fmt;
@@ -22,7 +23,7 @@ use std::fmt;
 /// The summary of a run: one line with the counts of its Jobs and of the elements of its declared channels, and with the root's result.
 ///
 /// The time is linear in the number of items, of Jobs and of declared places.
-pub fn summary(alloc: Global, script: &Script, done: &Done) -> Result<Vec<u8>, Memory>
+pub fn summary(alloc: Global, script: &Script, done: &Done<Notes>) -> Result<Vec<u8>, Memory>
     ensures { IfOk result (λ text. text.items ≡ summary_text (program_of script.now) (map notes_of done.now.books.items)) }
 {
     let text = summary_of(
@@ -39,7 +40,7 @@ pub(crate) fn summary_of(
     alloc: Global,
     channels: &[Channel],
     jobs: u16,
-    books: &[Book],
+    books: &[Notes],
 ) -> Result<String, Memory>
     requires channels { length channels.now < 65536 }
     requires root { 0 < jobs }

@@ -2,8 +2,8 @@ use Rattle.std.proofs.Common.{◌≡◌, ap, sym, ◌∙◌, subst, map, ◌∷�
 use Rattle.std.proofs.lemmas.Iterator.Adapters.{YieldsList-from_vec}
 use Rattle.std.proofs.lemmas.Iterator.Consumers.{YieldsList-end}
 use Rattle.std.proofs.lemmas.List.{map-append}
-use Rattle.note_book.specs.Books.{notes_of}
 use Rattle.shared_floors.specs.Meetings.{EndedOnChannels, EndedOnJobs}
+use Rattle.poll_states.specs.Frames.{items_of}
 use Rattle.run_laws.specs.LastRounds.{books_seen}
 use Rattle.run_laws.specs.Ends.{IsBroughtTo}
 use Rattle.run_laws.proofs.Hearing.{tags_same}
@@ -18,7 +18,7 @@ loop-other-preserved g c =
     let ended = subst (λ z. EndedOnChannels (g.C.ChannelFloor.view c.loop-other.channels) (g.C.ChannelFloor.view c.end.new.self) (g.C.ChannelFloor.view z.1)) same c.end.ensures.ended in
     let jobs = subst (λ z. EndedOnJobs (g.J.JobFloor.view c.loop-other.jobs) (g.J.JobFloor.view c.end-in-loop-other.new.self) (g.J.JobFloor.view z.2)) same c.end-in-loop-other.ensures.ended in
     record {
-      books = ap (map notes_of) c.in_ok-push-2.ensures.items ∙ map-append notes_of _ _ ∙ books_push (sight_of g.C.ChannelFloor.view g.J.JobFloor.view) c.args.root c.in-Some.other c.loop-other.yielded (map notes_of c.loop-other.books.items) _ i.books (ap notes_of c.into_book-in-loop-other.ensures ∙ ap (λ z. notes_of z.0.book) same);
+      books = ap (map g.B.NoteBook.items) c.in_ok-push-2.ensures.items ∙ map-append g.B.NoteBook.items _ _ ∙ books_push (sight_of g.C.ChannelFloor.view g.J.JobFloor.view) c.args.root c.in-Some.other c.loop-other.yielded (map g.B.NoteBook.items c.loop-other.books.items) _ i.books (c.into_book-in-loop-other.ensures ∙ ap (λ z. items_of z.0) same);
       root = brought_still g.N.ScriptName.program _ _ _ _ _ _ (sight_of g.C.ChannelFloor.view g.J.JobFloor.view c.args.root) ended jobs i.root;
       others = all_brought (sight_of g.C.ChannelFloor.view g.J.JobFloor.view) g.N.ScriptName.program _ _ _ _ c.loop-other.yielded c.args.root c.in-Some.other ended jobs i.root c.into_parts-frame-in-loop-other.ensures.keeps i.others;
       tags = tags_same g.N.ScriptName.program _ _ _ _ _ (ap g.C.SharedChannels.may_act c.end.ensures.anchor) (ap g.J.SharedJobs.may_act c.end-in-loop-other.ensures.anchor) i.tags;

@@ -2,7 +2,7 @@ use Rattle.std.proofs.Common.{refl, ap, sym, subst, ◌∙◌, arith}
 use Rattle.channel_model.specs.Floors.{MayCall}
 use Rattle.script_reader.specs.Scripts.{program_of}
 use Rattle.script_meaning.specs.Configs.{Config}
-use Rattle.poll_states.specs.Frames.{config_of}
+use Rattle.poll_states.specs.Frames.{noted, config_of}
 use Rattle.poll_states.specs.Calls.{channel_in, after_call}
 use Rattle.poll_states.proofs.Standing.{line_short}
 use Rattle.poll_states.proofs.FloorsOfScripts.{no_signal}
@@ -25,19 +25,19 @@ make-answer-requires-clause-kind g c = no_signal (program_of c.args.script.now) 
 
 pub go_on-requires-clause-at : goal.go_on-requires-clause-at
 go_on-requires-clause-at g c =
-    rw c.line.ensures ((at_same (program_of c.args.script.now) c.args.frame.now c.room_to_enter.new.self _ c.room_to_enter.ensures.tag c.room_to_enter.ensures.config c.requires.at).line_is)
+    rw c.line.ensures ((at_same (program_of c.args.script.now) (noted g.B.NoteBook.items c.args.frame.now) (noted g.B.NoteBook.items c.room_to_enter.new.self) _ c.room_to_enter.ensures.tag c.room_to_enter.ensures.config c.requires.at).line_is)
 
 pub go_on-requires-clause-line : goal.go_on-requires-clause-line
 go_on-requires-clause-line g c = let h = line_short c.args.script.now c.args.frame.now.tag _ _ c.requires.at.line_is in omega (arith, h, ap (λ (x : Config). x.line) c.room_to_enter.ensures.config)
 
 pub returns-in-Ok-clause-came : goal.returns-in-Ok-clause-came
 returns-in-Ok-clause-came g c =
-    stepped_from (program_of c.args.script.now) _ _ _ _ c.args.frame.now c.room_to_enter.new.self _ c.room_to_enter.ensures.tag c.room_to_enter.ensures.config c.room_to_enter.ensures.items
-    (has_called (program_of c.args.script.now) _ _ _ c.room_to_enter.new.self _ c.args.call _ c.in-Ok.came _ c.args.script.now.well_formed (g.met.J.JobFloor.legal c.args.floors.now.jobs.now)
-    (at_same (program_of c.args.script.now) c.args.frame.now c.room_to_enter.new.self _ c.room_to_enter.ensures.tag c.room_to_enter.ensures.config c.requires.at) c.element_of-value.ensures c.in-Ok.ensures.answer c.go_on.ensures.tag
+    stepped_from (program_of c.args.script.now) _ _ _ _ (noted g.B.NoteBook.items c.args.frame.now) (noted g.B.NoteBook.items c.room_to_enter.new.self) _ c.room_to_enter.ensures.tag c.room_to_enter.ensures.config c.room_to_enter.ensures.items
+    (has_called (program_of c.args.script.now) _ _ _ (noted g.B.NoteBook.items c.room_to_enter.new.self) _ c.args.call _ c.in-Ok.came _ c.args.script.now.well_formed (g.met.J.JobFloor.legal c.args.floors.now.jobs.now)
+    (at_same (program_of c.args.script.now) (noted g.B.NoteBook.items c.args.frame.now) (noted g.B.NoteBook.items c.room_to_enter.new.self) _ c.room_to_enter.ensures.tag c.room_to_enter.ensures.config c.requires.at) c.element_of-value.ensures c.in-Ok.ensures.answer c.go_on.ensures.tag
     (c.go_on.ensures.config ∙ ap (λ i. after_call (program_of c.args.script.now) c.room_to_enter.new.self.tag (config_of c.room_to_enter.new.self) i c.in-Ok.came) c.line.ensures) c.go_on.ensures.items)
 
 pub returns-in-Err-answer-clause-came : goal.returns-in-Err-answer-clause-came
 returns-in-Err-answer-clause-came g c =
-    cut_from _ _ _ _ c.args.frame.now c.room_to_enter.new.self _ c.room_to_enter.ensures.tag c.room_to_enter.ensures.items
-    (cut_told _ _ _ _ c.room_to_enter.new.self _ refl refl c.in-Err-answer.ensures.answer)
+    cut_from _ _ _ _ (noted g.B.NoteBook.items c.args.frame.now) (noted g.B.NoteBook.items c.room_to_enter.new.self) _ c.room_to_enter.ensures.tag c.room_to_enter.ensures.items
+    (cut_told _ _ _ _ (noted g.B.NoteBook.items c.room_to_enter.new.self) _ refl refl c.in-Err-answer.ensures.answer)

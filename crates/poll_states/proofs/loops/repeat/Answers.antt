@@ -2,6 +2,7 @@ use Rattle.std.proofs.Common.{refl, ap, arith}
 use Rattle.script_reader.specs.Scripts.{program_of}
 use Rattle.script_meaning.specs.Configs.{Config}
 use Rattle.script_meaning.proofs.LinesPlaced.{repeat_turns}
+use Rattle.poll_states.specs.Frames.{noted}
 use Rattle.poll_states.proofs.Standing.{line_short}
 use Rattle.poll_states.proofs.Stepping.{cut_nothing}
 use Rattle.poll_states.proofs.FrameLines.{has_repeated}
@@ -18,4 +19,4 @@ enter-requires-clause-line g c = let h = line_short c.args.script.now c.args.fra
 
 pub returns-clause-came : goal.returns-clause-came
 returns-clause-came g c =
-    has_repeated (program_of c.args.script.now) _ _ c.args.frame.now c.room_to_enter.new.self _ _ _ c.args.script.now.well_formed (g.met.J.JobFloor.legal c.args.floors.now.jobs.now) c.requires.at refl c.room_to_enter.ensures.config c.room_to_enter.ensures.tag c.room_to_enter.ensures.items c.enter.ensures.tag c.enter.ensures.config c.enter.ensures.items
+    has_repeated (program_of c.args.script.now) _ _ (noted g.B.NoteBook.items c.args.frame.now) (noted g.B.NoteBook.items c.room_to_enter.new.self) _ _ _ c.args.script.now.well_formed (g.met.J.JobFloor.legal c.args.floors.now.jobs.now) c.requires.at refl c.room_to_enter.ensures.config c.room_to_enter.ensures.tag c.room_to_enter.ensures.items c.enter.ensures.tag c.enter.ensures.config c.enter.ensures.items

@@ -1,7 +1,7 @@
 use Rattle.std.proofs.Common.{refl, ap, ◌∙◌, arith}
 use Rattle.std.proofs.lemmas.Option.{slice_get_read}
 use Rattle.script_reader.specs.Scripts.{program_of}
-use Rattle.poll_states.specs.Frames.{config_of}
+use Rattle.poll_states.specs.Frames.{noted, config_of}
 use Rattle.poll_states.specs.Calls.{enters}
 use Rattle.poll_states.specs.Named.{after_named}
 use Rattle.poll_states.proofs.Standing.{line_short, named_attached}
@@ -38,7 +38,7 @@ go_on_named-requires-clause-inside g c = ap enters c.line.ensures ∙ naming_ent
 pub returns-in-Ok-clause-came : goal.returns-in-Ok-clause-came
 returns-in-Ok-clause-came g c =
     let known = knows_name _ _ _ _ _ _ c.args.script.now.well_formed (g.met.J.JobFloor.legal c.args.floors.now.jobs.now) c.requires.stands c.requires.at (naming_used c.args.call c.args.job) in
-    has_named (program_of c.args.script.now) _ _ _ _ _ c.args.frame.now _ c.args.call c.args.job _ _ c.in-Ok.came _ c.first_done.ensures (g.met.J.JobFloor.legal c.make-answer.new.builder.jobs.now) c.requires.stands c.requires.at c.innermost-own.ensures
+    has_named (program_of c.args.script.now) _ _ _ _ _ (noted g.B.NoteBook.items c.args.frame.now) _ c.args.call c.args.job _ _ c.in-Ok.came _ c.first_done.ensures (g.met.J.JobFloor.legal c.make-answer.new.builder.jobs.now) c.requires.stands c.requires.at c.innermost-own.ensures
     (slice_get_read _ _ _ _ refl known c.index-row.ensures) c.in-Ok.ensures.answer c.go_on_named.ensures.tag
     (c.go_on_named.ensures.config ∙ ap (λ i. after_named (program_of c.args.script.now) c.args.frame.now.tag (config_of c.args.frame.now) i c.in-Ok.came) c.line.ensures) c.go_on_named.ensures.items
 

@@ -1,5 +1,6 @@
 use Rattle.std.proofs.Common.{refl, ap, sym, subst}
 use Rattle.script_reader.specs.Scripts.{program_of}
+use Rattle.poll_states.specs.Frames.{noted}
 use Rattle.poll_states.specs.Steps.{Stepped}
 use Rattle.poll_states.proofs.EndedWaits.{call_looked}
 use Rattle.poll_states.proofs.Moving.{step_stands}
@@ -18,13 +19,13 @@ pub end_scope_wait-requires-clause-can : goal.end_scope_wait-requires-clause-can
 end_scope_wait-requires-clause-can g c = call_looked _ _ _ _ c.was_resolved.ensures.seen.looked (wait_call _ _ _ _ _ (g.met.C.ChannelFloor.legal c.args.floors.now.channels.now) c.requires.stands (ap wait_of c.requires.leaves))
 
 pub go_on-requires : goal.go_on-requires
-go_on-requires g c = step_stands _ _ _ _ _ _ _ c.requires.stands (subst (λ z. Stepped (program_of c.args.script.now) (g.C.ChannelFloor.view c.args.floors.now.channels.now) (g.C.ChannelFloor.view c.end_scope_wait.new.floors.channels.now) (g.J.JobFloor.view c.args.floors.now.jobs.now) (g.J.JobFloor.view z) c.args.frame.now c.end_scope_wait.new.frame) (sym c.end_scope_wait.ensures.jobs) (scope_waited (program_of c.args.script.now) _ _ _ _ _ _ _ (g.met.C.ChannelFloor.legal c.was_resolved.new.channels) (g.met.J.JobFloor.legal c.args.floors.now.jobs.now) c.requires.stands c.requires.leaves c.was_resolved.ensures.seen.looked c.in-Ok.ensures.answer c.end_scope_wait.ensures.tag))
+go_on-requires g c = step_stands _ _ _ _ _ _ _ c.requires.stands (subst (λ z. Stepped (program_of c.args.script.now) (g.C.ChannelFloor.view c.args.floors.now.channels.now) (g.C.ChannelFloor.view c.end_scope_wait.new.floors.channels.now) (g.J.JobFloor.view c.args.floors.now.jobs.now) (g.J.JobFloor.view z) (noted g.B.NoteBook.items c.args.frame.now) (noted g.B.NoteBook.items c.end_scope_wait.new.frame)) (sym c.end_scope_wait.ensures.jobs) (scope_waited (program_of c.args.script.now) _ _ _ _ _ _ _ (g.met.C.ChannelFloor.legal c.was_resolved.new.channels) (g.met.J.JobFloor.legal c.args.floors.now.jobs.now) c.requires.stands c.requires.leaves c.was_resolved.ensures.seen.looked c.in-Ok.ensures.answer c.end_scope_wait.ensures.tag))
 
 pub returns-in-Ok-clause-polled : goal.returns-in-Ok-clause-polled
-returns-in-Ok-clause-polled g c = poll_on (program_of c.args.script.now) _ _ _ _ _ _ _ _ _ c.go_on.result (g.met.J.JobFloor.legal c.go_on.new.floors.jobs.now) c.requires.stands (subst (λ z. Stepped (program_of c.args.script.now) (g.C.ChannelFloor.view c.args.floors.now.channels.now) (g.C.ChannelFloor.view c.end_scope_wait.new.floors.channels.now) (g.J.JobFloor.view c.args.floors.now.jobs.now) (g.J.JobFloor.view z) c.args.frame.now c.end_scope_wait.new.frame) (sym c.end_scope_wait.ensures.jobs) (scope_waited (program_of c.args.script.now) _ _ _ _ _ _ _ (g.met.C.ChannelFloor.legal c.was_resolved.new.channels) (g.met.J.JobFloor.legal c.args.floors.now.jobs.now) c.requires.stands c.requires.leaves c.was_resolved.ensures.seen.looked c.in-Ok.ensures.answer c.end_scope_wait.ensures.tag)) c.go_on.ensures.went
+returns-in-Ok-clause-polled g c = poll_on (program_of c.args.script.now) _ _ _ _ _ _ _ _ _ c.go_on.result (g.met.J.JobFloor.legal c.go_on.new.floors.jobs.now) c.requires.stands (subst (λ z. Stepped (program_of c.args.script.now) (g.C.ChannelFloor.view c.args.floors.now.channels.now) (g.C.ChannelFloor.view c.end_scope_wait.new.floors.channels.now) (g.J.JobFloor.view c.args.floors.now.jobs.now) (g.J.JobFloor.view z) (noted g.B.NoteBook.items c.args.frame.now) (noted g.B.NoteBook.items c.end_scope_wait.new.frame)) (sym c.end_scope_wait.ensures.jobs) (scope_waited (program_of c.args.script.now) _ _ _ _ _ _ _ (g.met.C.ChannelFloor.legal c.was_resolved.new.channels) (g.met.J.JobFloor.legal c.args.floors.now.jobs.now) c.requires.stands c.requires.leaves c.was_resolved.ensures.seen.looked c.in-Ok.ensures.answer c.end_scope_wait.ensures.tag)) c.go_on.ensures.went
 
 pub returns-in-Ok-clause-quiet : goal.returns-in-Ok-clause-quiet
-returns-in-Ok-clause-quiet g c = quiet_on _ (program_of c.args.script.now) _ _ _ _ _ _ _ _ _ c.go_on.result c.args.script.now.well_formed (g.met.J.JobFloor.legal c.go_on.new.floors.jobs.now) c.requires.stands (subst (λ z. Stepped (program_of c.args.script.now) (g.C.ChannelFloor.view c.args.floors.now.channels.now) (g.C.ChannelFloor.view c.end_scope_wait.new.floors.channels.now) (g.J.JobFloor.view c.args.floors.now.jobs.now) (g.J.JobFloor.view z) c.args.frame.now c.end_scope_wait.new.frame) (sym c.end_scope_wait.ensures.jobs) (scope_waited (program_of c.args.script.now) _ _ _ _ _ _ _ (g.met.C.ChannelFloor.legal c.was_resolved.new.channels) (g.met.J.JobFloor.legal c.args.floors.now.jobs.now) c.requires.stands c.requires.leaves c.was_resolved.ensures.seen.looked c.in-Ok.ensures.answer c.end_scope_wait.ensures.tag)) c.go_on.ensures.went
+returns-in-Ok-clause-quiet g c = quiet_on _ (program_of c.args.script.now) _ _ _ _ _ _ _ _ _ c.go_on.result c.args.script.now.well_formed (g.met.J.JobFloor.legal c.go_on.new.floors.jobs.now) c.requires.stands (subst (λ z. Stepped (program_of c.args.script.now) (g.C.ChannelFloor.view c.args.floors.now.channels.now) (g.C.ChannelFloor.view c.end_scope_wait.new.floors.channels.now) (g.J.JobFloor.view c.args.floors.now.jobs.now) (g.J.JobFloor.view z) (noted g.B.NoteBook.items c.args.frame.now) (noted g.B.NoteBook.items c.end_scope_wait.new.frame)) (sym c.end_scope_wait.ensures.jobs) (scope_waited (program_of c.args.script.now) _ _ _ _ _ _ _ (g.met.C.ChannelFloor.legal c.was_resolved.new.channels) (g.met.J.JobFloor.legal c.args.floors.now.jobs.now) c.requires.stands c.requires.leaves c.was_resolved.ensures.seen.looked c.in-Ok.ensures.answer c.end_scope_wait.ensures.tag)) c.go_on.ensures.went
 
 pub returns-in-Err-clause-polled : goal.returns-in-Err-clause-polled
 returns-in-Err-clause-polled g c = rw c.end_scope_wait.ensures.jobs (cut_scope_wait _ _ _ _ _ _ c.was_resolved.ensures.seen.looked c.in-Err.ensures.answer c.end_scope_wait.ensures.tag)

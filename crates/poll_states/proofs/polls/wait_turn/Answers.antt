@@ -3,6 +3,7 @@ use Rattle.script_reader.specs.Scripts.{program_of}
 use Rattle.script_meaning.specs.Configs.{Config}
 use Rattle.script_meaning.specs.Bodies.{is_over, is_fresh, is_leaving}
 use Rattle.script_meaning.specs.Laws.{wait_of}
+use Rattle.poll_states.specs.Frames.{noted}
 use Rattle.poll_states.specs.Steps.{HasBody}
 use Rattle.poll_states.proofs.Standing.{stands_body, never_new, waits_unsettled, wait_call, wait_line}
 use Rattle.poll_states.proofs.EndedWaits.{holds_looked, call_looked, wait_ended, gave_up, cut_end, cut_given}
@@ -52,13 +53,13 @@ pub returns-in-Err-give_up-clause-polled : goal.returns-in-Err-give_up-clause-po
 returns-in-Err-give_up-clause-polled g c = rw c.give_up.ensures.jobs (cut_given _ _ _ _ _ _ _ _ _ c.was_resolved-resolved.ensures.seen.looked c.own_state.ensures.seen.looked c.room.ensures.items c.in-Err-give_up.ensures.answer c.give_up.ensures.tag)
 
 pub go_on-requires : goal.go_on-requires
-go_on-requires g c = step_stands _ _ _ _ _ _ _ c.requires.stands (subst (λ z. Stepped (program_of c.args.script.now) (g.C.ChannelFloor.view c.args.floors.now.channels.now) (g.C.ChannelFloor.view c.end_wait.new.floors.channels.now) (g.J.JobFloor.view c.args.floors.now.jobs.now) (g.J.JobFloor.view z) c.args.frame.now c.end_wait.new.frame) (sym c.end_wait.ensures.jobs) (wait_ended (program_of c.args.script.now) _ _ _ _ _ _ _ _ _ c.args.script.now.well_formed (g.met.C.ChannelFloor.legal c.was_resolved-resolved.new.channels) (g.met.J.JobFloor.legal c.own_state.new.jobs) c.requires.stands c.requires.waits c.was_resolved-resolved.ensures.seen.looked (rw c.innermost-row.ensures at (rw c.in-MayRun.is at c.own_state.ensures.seen)) refl refl c.room.ensures.items c.in-Ok-end_wait.ensures.answer c.end_wait.ensures.tag).0)
+go_on-requires g c = step_stands _ _ _ _ _ _ _ c.requires.stands (subst (λ z. Stepped (program_of c.args.script.now) (g.C.ChannelFloor.view c.args.floors.now.channels.now) (g.C.ChannelFloor.view c.end_wait.new.floors.channels.now) (g.J.JobFloor.view c.args.floors.now.jobs.now) (g.J.JobFloor.view z) (noted g.B.NoteBook.items c.args.frame.now) (noted g.B.NoteBook.items c.end_wait.new.frame)) (sym c.end_wait.ensures.jobs) (wait_ended (program_of c.args.script.now) _ _ _ _ _ _ _ _ _ c.args.script.now.well_formed (g.met.C.ChannelFloor.legal c.was_resolved-resolved.new.channels) (g.met.J.JobFloor.legal c.own_state.new.jobs) c.requires.stands c.requires.waits c.was_resolved-resolved.ensures.seen.looked (rw c.innermost-row.ensures at (rw c.in-MayRun.is at c.own_state.ensures.seen)) refl refl c.room.ensures.items c.in-Ok-end_wait.ensures.answer c.end_wait.ensures.tag).0)
 
 pub returns-in-Ok-end_wait-clause-polled : goal.returns-in-Ok-end_wait-clause-polled
-returns-in-Ok-end_wait-clause-polled g c = poll_on (program_of c.args.script.now) _ _ _ _ _ _ _ _ _ c.go_on.result (g.met.J.JobFloor.legal c.go_on.new.floors.jobs.now) c.requires.stands (subst (λ z. Stepped (program_of c.args.script.now) (g.C.ChannelFloor.view c.args.floors.now.channels.now) (g.C.ChannelFloor.view c.end_wait.new.floors.channels.now) (g.J.JobFloor.view c.args.floors.now.jobs.now) (g.J.JobFloor.view z) c.args.frame.now c.end_wait.new.frame) (sym c.end_wait.ensures.jobs) (wait_ended (program_of c.args.script.now) _ _ _ _ _ _ _ _ _ c.args.script.now.well_formed (g.met.C.ChannelFloor.legal c.was_resolved-resolved.new.channels) (g.met.J.JobFloor.legal c.own_state.new.jobs) c.requires.stands c.requires.waits c.was_resolved-resolved.ensures.seen.looked (rw c.innermost-row.ensures at (rw c.in-MayRun.is at c.own_state.ensures.seen)) refl refl c.room.ensures.items c.in-Ok-end_wait.ensures.answer c.end_wait.ensures.tag).0) c.go_on.ensures.went
+returns-in-Ok-end_wait-clause-polled g c = poll_on (program_of c.args.script.now) _ _ _ _ _ _ _ _ _ c.go_on.result (g.met.J.JobFloor.legal c.go_on.new.floors.jobs.now) c.requires.stands (subst (λ z. Stepped (program_of c.args.script.now) (g.C.ChannelFloor.view c.args.floors.now.channels.now) (g.C.ChannelFloor.view c.end_wait.new.floors.channels.now) (g.J.JobFloor.view c.args.floors.now.jobs.now) (g.J.JobFloor.view z) (noted g.B.NoteBook.items c.args.frame.now) (noted g.B.NoteBook.items c.end_wait.new.frame)) (sym c.end_wait.ensures.jobs) (wait_ended (program_of c.args.script.now) _ _ _ _ _ _ _ _ _ c.args.script.now.well_formed (g.met.C.ChannelFloor.legal c.was_resolved-resolved.new.channels) (g.met.J.JobFloor.legal c.own_state.new.jobs) c.requires.stands c.requires.waits c.was_resolved-resolved.ensures.seen.looked (rw c.innermost-row.ensures at (rw c.in-MayRun.is at c.own_state.ensures.seen)) refl refl c.room.ensures.items c.in-Ok-end_wait.ensures.answer c.end_wait.ensures.tag).0) c.go_on.ensures.went
 
 pub returns-in-Ok-end_wait-clause-quiet : goal.returns-in-Ok-end_wait-clause-quiet
-returns-in-Ok-end_wait-clause-quiet g c = quiet_on _ (program_of c.args.script.now) _ _ _ _ _ _ _ _ _ c.go_on.result c.args.script.now.well_formed (g.met.J.JobFloor.legal c.go_on.new.floors.jobs.now) c.requires.stands (subst (λ z. Stepped (program_of c.args.script.now) (g.C.ChannelFloor.view c.args.floors.now.channels.now) (g.C.ChannelFloor.view c.end_wait.new.floors.channels.now) (g.J.JobFloor.view c.args.floors.now.jobs.now) (g.J.JobFloor.view z) c.args.frame.now c.end_wait.new.frame) (sym c.end_wait.ensures.jobs) (wait_ended (program_of c.args.script.now) _ _ _ _ _ _ _ _ _ c.args.script.now.well_formed (g.met.C.ChannelFloor.legal c.was_resolved-resolved.new.channels) (g.met.J.JobFloor.legal c.own_state.new.jobs) c.requires.stands c.requires.waits c.was_resolved-resolved.ensures.seen.looked (rw c.innermost-row.ensures at (rw c.in-MayRun.is at c.own_state.ensures.seen)) refl refl c.room.ensures.items c.in-Ok-end_wait.ensures.answer c.end_wait.ensures.tag).0) c.go_on.ensures.went
+returns-in-Ok-end_wait-clause-quiet g c = quiet_on _ (program_of c.args.script.now) _ _ _ _ _ _ _ _ _ c.go_on.result c.args.script.now.well_formed (g.met.J.JobFloor.legal c.go_on.new.floors.jobs.now) c.requires.stands (subst (λ z. Stepped (program_of c.args.script.now) (g.C.ChannelFloor.view c.args.floors.now.channels.now) (g.C.ChannelFloor.view c.end_wait.new.floors.channels.now) (g.J.JobFloor.view c.args.floors.now.jobs.now) (g.J.JobFloor.view z) (noted g.B.NoteBook.items c.args.frame.now) (noted g.B.NoteBook.items c.end_wait.new.frame)) (sym c.end_wait.ensures.jobs) (wait_ended (program_of c.args.script.now) _ _ _ _ _ _ _ _ _ c.args.script.now.well_formed (g.met.C.ChannelFloor.legal c.was_resolved-resolved.new.channels) (g.met.J.JobFloor.legal c.own_state.new.jobs) c.requires.stands c.requires.waits c.was_resolved-resolved.ensures.seen.looked (rw c.innermost-row.ensures at (rw c.in-MayRun.is at c.own_state.ensures.seen)) refl refl c.room.ensures.items c.in-Ok-end_wait.ensures.answer c.end_wait.ensures.tag).0) c.go_on.ensures.went
 
 pub returns-in-Err-end_wait-clause-polled : goal.returns-in-Err-end_wait-clause-polled
 returns-in-Err-end_wait-clause-polled g c = rw c.end_wait.ensures.jobs (cut_end _ _ _ _ _ _ _ _ c.was_resolved-resolved.ensures.seen.looked c.own_state.ensures.seen.looked c.room.ensures.items c.in-Err-end_wait.ensures.answer c.end_wait.ensures.tag)

@@ -1,7 +1,7 @@
 use Rattle.std.proofs.Common.{refl, ◌∙◌, arith}
 use Rattle.script_reader.specs.Scripts.{program_of}
 use Rattle.poll_states.proofs.Spawning.{spawning_first, spawning_next, spawning_at, next_spawn, next_instance, no_instance, spawn_block, spawn_count, none_left, for_spawn, begun_all, begun_refused, begun_cut}
-use Rattle.poll_states.proofs.beginning.begin.Goals as goal
+use Rattle.poll_states.proofs.beginning.spawn_all.Goals as goal
 
 pub loop-spawn-init : goal.loop-spawn-init
 loop-spawn-init g c = (spawning_first _ _ _ c.args.script.now.well_formed c.requires.new, refl)

@@ -4,7 +4,7 @@ use Rattle.one_thread_floor.specs.TreeFloors.{floor_of as tree_of}
 use Rattle.script_reader.specs.Scripts.{program_of}
 use Rattle.engine_one.specs.Coroutines.{AllStand}
 use Rattle.engine_one.specs.Progress.{turns_left}
-use Rattle.engine_one.proofs.shared.Run+ListFloor+TreeFloor.some_turns.Given as goal
+use Rattle.engine_one.proofs.shared.Run+ListFloor+TreeFloor+B.some_turns.Given as goal
 
 abbrev pub invariant-loop-made : goal.invariant-loop-made
 invariant-loop-made g l = record {
