@@ -2,34 +2,51 @@
 
 ghost use Rattle.std.specs.Prelude.{◌≡◌, ◌<◌, ◌≤◌, IfOk, vec_len};
 
+use crate::latest::{Latest, OtherLatest, all_but, take_from_any, words_of};
 use co_base::{Memory, Tag, Wakes};
 use std::alloc::Global;
 use std::sync::atomic::{AtomicBool, AtomicU64, Ordering};
 use std::sync::{Arc, Wait};
-use std::thread;
 use std::time::Duration;
 use steal_lanes::{Lane, lanes};
 
-/// How often a worker gives the processor to others before it takes a ticket from another's lane. So long a ticket stays with the worker
-/// that put it, which has at hand what its task works on.
-const TURNS_BEFORE_STEALING: u32 = 4;
+/// How many latest tickets a worker takes behind one another, before one of its lane has its turn.
+const LATEST_IN_A_ROW: u32 = 64;
 
-/// How often a worker that finds no ticket in any lane looks again at once, before it sleeps between its looks.
-const QUICK_LOOKS: u32 = 16;
+/// How many tickets a worker has to run before it has none, so that it looks at once for those of others. If it ran fewer, what it took
+/// from another did not last, and it waits before it looks.
+const TICKETS_THAT_PAY: u32 = 1_024;
 
-/// How long it sleeps between two looks, in microseconds: at first, and at most. Each time is twice the one before.
-const FIRST_SLEEP: u64 = 50;
+/// How long a worker waits before a look, in microseconds: at first, and at most. Each time is twice the one before.
+const FIRST_PAUSE: u64 = 50;
 
-const LONGEST_SLEEP: u64 = 3_200;
+const LONGEST_PAUSE: u64 = 1_600;
 
-/// A worker's own lane of tickets, with the ways into the others; and what all workers share: how many of them are at work, and whether a
-/// poll found no memory.
+/// How often a worker looks again where nobody is at work, but not all have begun.
+const LOOKS_BEFORE_ALL_BEGIN: u32 = 8;
+
+/// What a worker that begins adds to the count of those at work: the count of those that have begun stands above it.
+const BEGUN: u64 = 4294967296;
+
+/// A worker's own tickets, with the ways to those of the others; and what all workers share: how many of them are at work and have begun,
+/// and whether a poll found no memory.
 ///
-/// A worker is at work while its lane, or its hand, may have a ticket. Since nobody else puts into its lane, no lane has a ticket of a
-/// worker that began where nobody is at work.
+/// A worker is at work while its lane, its latest ticket, or its hand, may have a ticket. Since nobody else puts there, no worker that
+/// began has a ticket where nobody is at work.
 #[derive(Drop)]
 pub struct Tickets {
     lane: Lane,
+    latest: Latest,
+    other_latest: Vec<OtherLatest>,
+    /// How many latest tickets it took behind one another.
+    in_a_row: u32,
+    /// How many tickets it ran since it had none.
+    ran: u32,
+    /// How long it waits before the next look, in microseconds.
+    pause: u64,
+    workers: u8,
+    /// How often it may look again where nobody is at work, but not all have begun.
+    looks_left: u32,
     at_work: Arc<AtomicU64, Global>,
     stopped: Arc<AtomicBool, Global>,
 }
@@ -42,10 +59,19 @@ pub fn no_tickets(alloc: Global, workers: u8, room: u32) -> Result<Vec<Tickets>,
 {
     let at_work = Arc::new(alloc, AtomicU64::new(0))?;
     let stopped = Arc::new(alloc, AtomicBool::new(false))?;
+    let words = words_of(alloc, workers)?;
     let mut all = Vec::new(alloc);
     for lane in lanes(alloc, workers, room)? {
+        let own = all.len();
         all.push(Tickets {
             lane,
+            latest: Latest::new(&words[own])?,
+            other_latest: all_but(alloc, words.as_slice(), own)?,
+            in_a_row: 0,
+            ran: TICKETS_THAT_PAY,
+            pause: FIRST_PAUSE,
+            workers,
+            looks_left: LOOKS_BEFORE_ALL_BEGIN,
             at_work: Arc::try_clone(&at_work)?,
             stopped: Arc::try_clone(&stopped)?,
         })?;
@@ -54,64 +80,104 @@ pub fn no_tickets(alloc: Global, workers: u8, room: u32) -> Result<Vec<Tickets>,
 }
 
 impl Tickets {
-    /// Puts a ticket into the own lane. For want of memory it is lost.
+    /// Puts a ticket behind all others of the own lane. For want of memory it is lost.
     pub fn put(&mut self, tag: Tag) {
         let _ = self.lane.put(tag);
     }
 
-    /// The worker is at work from now on.
+    /// The worker begins: it is at work from now on.
     pub(crate) fn begin(&self) {
-        self.at_work.fetch_add(1, Ordering::SeqCst);
+        self.at_work.fetch_add(BEGUN + 1, Ordering::SeqCst);
     }
 
-    /// The worker is not at work any more. The answer says how many others are. Where none is, those that sleep are woken.
+    /// The worker is not at work any more. The answer is the count of the others. If none is at work, those that wait are woken.
     fn rest(&self) -> u64 {
         let others = self.at_work.fetch_sub(1, Ordering::SeqCst).wrapping_sub(1);
-        if others == 0 {
+        if others % BEGUN == 0 {
             self.at_work.wake_all();
         }
         others
     }
 
-    /// Waits until it is time to look again, after so many looks that found nothing. It does not sleep where somebody began or came to rest
-    /// meanwhile.
-    fn wait<R: Wait>(&self, rt: &R, looks: u32, others: u64, sleep: u64) {
-        if looks < QUICK_LOOKS {
-            thread::yield_now();
-        } else {
-            let seen = (others % 4294967296) as u32;
-            self.at_work
-                .park_timeout(rt, seen, Duration::from_micros(sleep));
+    /// Whether nobody has a ticket, by the count of those at work: none is, and all have begun, or those that have not are waited for no
+    /// more.
+    fn is_over(&mut self, at_work: u64) -> bool {
+        if at_work % BEGUN != 0 {
+            return false;
         }
+        if at_work / BEGUN >= u64::from(self.workers) || self.looks_left == 0 {
+            return true;
+        }
+        self.looks_left -= 1;
+        false
     }
 
-    /// A ticket of any lane. The worker is at work, and its own lane is empty. None: nobody has a ticket, or a poll found no memory; then
-    /// the worker is not at work any more.
+    /// Waits until it is time to look again. It does not wait where somebody began or came to rest meanwhile.
+    fn wait<R: Wait>(&mut self, rt: &R, others: u64) {
+        let seen = (others % BEGUN) as u32;
+        self.at_work
+            .park_timeout(rt, seen, Duration::from_micros(self.pause));
+        self.pause = self.pause.saturating_mul(2).min(LONGEST_PAUSE);
+    }
+
+    /// An own ticket: the latest one, or where several of these came behind one another, the first of the lane.
+    fn take(&mut self) -> Option<Tag> {
+        if self.in_a_row < LATEST_IN_A_ROW {
+            if let Some(tag) = self.latest.take() {
+                self.in_a_row += 1;
+                return Some(tag);
+            }
+        }
+        self.in_a_row = 0;
+        if let Some(tag) = self.lane.take() {
+            return Some(tag);
+        }
+        self.latest.take()
+    }
+
+    /// A ticket of any lane, or else the latest of another worker that did not come to it since the last look.
+    fn look(&mut self) -> Option<Tag> {
+        if let Some(tag) = self.lane.next() {
+            return Some(tag);
+        }
+        take_from_any(&mut self.other_latest)
+    }
+
+    /// Whether the worker ran so many tickets that it may look at once for more.
+    fn has_paid(&mut self) -> bool {
+        let paid = self.ran >= TICKETS_THAT_PAY;
+        self.ran = 0;
+        if paid {
+            self.pause = FIRST_PAUSE;
+        }
+        paid
+    }
+
+    /// A ticket of another. The worker is at work, and has none of its own. None: nobody has a ticket, or a poll found no memory; then the
+    /// worker is not at work any more.
     fn seek<R: Wait>(&mut self, rt: &R) -> Option<Tag> {
-        let mut looks = 0u32;
-        let mut sleep = FIRST_SLEEP;
+        let mut looks = self.has_paid();
         for _ in rt.forever() {
             if self.is_stopped() {
                 self.rest();
                 return None;
             }
-            if let Some(tag) = self.lane.next() {
-                return Some(tag);
+            if looks {
+                if let Some(tag) = self.look() {
+                    return Some(tag);
+                }
             }
+            looks = true;
             let others = self.rest();
-            if others == 0 {
+            if self.is_over(others) {
                 return None;
             }
-            self.wait(rt, looks, others, sleep);
-            if self.at_work.load(Ordering::SeqCst) == 0 {
+            self.wait(rt, others);
+            let others = self.at_work.load(Ordering::SeqCst);
+            if self.is_over(others) {
                 return None;
             }
-            if looks < QUICK_LOOKS {
-                looks += 1;
-            } else {
-                sleep = sleep.saturating_mul(2).min(LONGEST_SLEEP);
-            }
-            self.begin();
+            self.at_work.fetch_add(1, Ordering::SeqCst);
         }
         unreachable!()
     }
@@ -123,11 +189,9 @@ impl Tickets {
             self.rest();
             return None;
         }
-        if let Some(tag) = self.lane.take() {
+        if let Some(tag) = self.take() {
+            self.ran = self.ran.saturating_add(1);
             return Some(tag);
-        }
-        for _ in 0..TURNS_BEFORE_STEALING {
-            thread::yield_now();
         }
         self.seek(rt)
     }
@@ -144,9 +208,11 @@ impl Tickets {
     }
 }
 
-/// Who is woken gets a ticket in the lane of the worker that polls.
+/// Who is woken gets the latest ticket of the worker that polls. The one before goes into its lane.
 impl Wakes for Tickets {
     fn wake(&mut self, tag: Tag) {
-        self.put(tag);
+        if let Some(before) = self.latest.put(tag) {
+            self.put(before);
+        }
     }
 }
