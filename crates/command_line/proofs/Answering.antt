@@ -1,6 +1,6 @@
 -- What a text says of an input.
-use Rattle.std.specs.Prelude.{◌≡◌, ◌≢◌, ℕ, ◌<◌, ◌≤◌, List, length, Option, Some, None, refl}
-use Rattle.std.proofs.Common.{arith, subst, sym}
+use Rattle.std.specs.Prelude.{◌≡◌, ◌≢◌, ℕ, ◌<◌, ◌≤◌, List, length, map, Option, Some, None, refl}
+use Rattle.std.proofs.Common.{arith, subst, sym, map-id}
 use Rattle.script_grammar.specs.declared.fault.FaultKind.TheVariants.{NotAscii, UnknownWord, BadNumber, BadName, Duplicate, Undeclared, NoMain, NoEnd, Extra, TooDeep, TooMany, Recursive, Memory}
 use Rattle.script_grammar.specs.declared.fault.FaultKind.{FaultKind}
 use Rattle.script_grammar.specs.declared.fault.ScriptFault.{ScriptFault}
@@ -26,15 +26,16 @@ use Rattle.note_book.specs.declared.book.Item.{Item}
 use Rattle.script_meaning.specs.Shapes.{floor_shape, job_shape}
 use Rattle.script_meaning.specs.Books.{BooksOf}
 use Rattle.script_meaning.specs.Idle.{IsIdle}
+use Rattle.run_laws.specs.Ends.{IsRunAtRest}
 use Rattle.command_line.specs.Statuses.{Reports, Refuses, RunsTo, Serves, Stream, SumsUp, AreServed, ChildrenEndFirst, ending_of}
 use Rattle.command_line.specs.Preparing.{Asks, GaveScript, text_of}
 use Rattle.command_line.specs.declared.words.Command.{Command}
 use Rattle.command_line.specs.declared.words.Command.TheVariants.{Run, Check, Sum}
 use Rattle.command_line.specs.declared.status.Ending.{Ending}
 use Rattle.command_line.specs.declared.status.Ending.TheVariants as ending
-use Rattle.command_line.proofs.WaitsSettled.{none_lost}
+use Rattle.rest_laws.proofs.WaitsSettled.{none_lost}
 use Rattle.command_line.proofs.ElementsHeld.{held_stands}
-use Rattle.command_line.proofs.Printed.{printed, printed_jobs}
+use Rattle.rest_laws.proofs.Printed.{printed, printed_jobs}
 
 -- ---- no script
 
@@ -124,3 +125,7 @@ answered (Sum size workers) p books channels jobs (Some (ends.Completed v)) made
     record { unread = asks.1; text = made; answers = summed p size ending.Completed made asks.0 (ran p books channels jobs (Some (ends.Completed v)) _ refl of.0 of.1) is; taken = refl }
 answered (Sum size workers) p books channels jobs (Some (ends.Cancelled cause)) made source source' of is asks =
     record { unread = asks.1; text = made; answers = summed p size ending.Cancelled made asks.0 (ran p books channels jobs (Some (ends.Cancelled cause)) _ refl of.0 of.1) is; taken = refl }
+
+-- a run whose books are seen as their notes
+pub tallied_rest : (p : Program) (books : List (List Item)) (channels : List Entry) (jobs : List JobEntry) (root : Option End) → IsRunAtRest p (map (λ notes. notes) books) channels jobs root → IsRunAtRest p books channels jobs root
+tallied_rest p books channels jobs root h = subst (λ all. IsRunAtRest p all channels jobs root) (map-id books) h

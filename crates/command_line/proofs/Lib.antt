@@ -1,9 +1,4 @@
-pub mod WaitsSettled
 pub mod ElementsHeld
-pub mod SameMembers
-pub mod SameFates
-pub mod JobsTold
-pub mod Printed
 pub mod Answering
 pub mod Completing
 pub mod Matched

@@ -64,6 +64,12 @@ Prepares asked source source' (prepared.Ready answer) = IsAnswer asked source so
 Prepares asked source source' (prepared.Script command script) =
     (asked ≡ Some command) × IsInLimits command × Asks command source source' (program_of script)
 
+-- the answer is what a run of this program has to answer to the command, if it is asked for
+abbrev pub IsAnswerOf : Command → Program → Answer → Type 0
+IsAnswerOf command program answer =
+    (source source' : Stream) → Asks command source source' program
+    → Serves command answer.ending source source' (λ text. answer.text.items ≡ text)
+
 -- the text that a command makes of the books of a run
 abbrev pub text_of : Command → Program → List (List Item) → List ℕ
 text_of (Run workers) program books = report_text program books

@@ -37,7 +37,7 @@ use Rattle.command_line.specs.declared.status.Ending.TheVariants as ending
 use Rattle.command_line.specs.declared.status.Status.{Status}
 use Rattle.command_line.specs.declared.status.Status.TheVariants as status
 use Rattle.command_line.specs.Commands.{reads}
-use Rattle.command_line.specs.JobsTold.{AreToldOf}
+use Rattle.rest_laws.specs.JobsTold.{AreToldOf}
 
 -- the number with which the process ends
 abbrev pub number_of : Status → ℕ

@@ -7,9 +7,9 @@ ghost use Rattle.command_line.specs.Preparing.{AnswersTo};
 ghost use Rattle.command_line.specs.declared.status.NoAnswer.TheVariants as reasons;
 ghost use Rattle.command_line.specs.declared.status.Status.{Status as Outcome};
 
-use crate::answer::{Answer, answer_of};
+use crate::answer::Answer;
 use crate::prepare::{Prepared, prepare};
-use crate::running::run_alone;
+use crate::running::answer_alone;
 use crate::status::{NoAnswer, unless_memory};
 use crate::words::alone_of;
 use crate::writing::end;
@@ -53,8 +53,7 @@ fn answer<S: Source, G: Gate>(
     match prepare(alloc, asked, source)? {
         Prepared::Ready(answer) => Ok(answer),
         Prepared::Script(command, script) => {
-            let done = unless_memory(run_alone(alloc, &script, gate))?;
-            unless_memory(answer_of(alloc, command, &script, &done))
+            unless_memory(answer_alone(alloc, command, &script, gate))
         }
     }
 }

@@ -7,9 +7,9 @@ ghost use Rattle.command_line.specs.Preparing.{AnswersTo};
 ghost use Rattle.command_line.specs.declared.status.NoAnswer.TheVariants as reasons;
 ghost use Rattle.command_line.specs.declared.status.Status.{Status as Outcome};
 
-use crate::answer::{Answer, answer_of};
+use crate::answer::Answer;
 use crate::prepare::{Prepared, prepare};
-use crate::running::run_together;
+use crate::running::answer_together;
 use crate::status::{NoAnswer, unless_memory};
 use crate::words::command_of;
 use crate::writing::end;
@@ -62,8 +62,7 @@ fn answer<R: Threads + Wait + Sync, S: Source, G: Gate + Sync>(
     match prepare(alloc, asked, source)? {
         Prepared::Ready(answer) => Ok(answer),
         Prepared::Script(command, script) => {
-            let done = unless_memory(run_together(rt, alloc, &script, command.workers(), gate))?;
-            unless_memory(answer_of(alloc, command, &script, &done))
+            unless_memory(answer_together(rt, alloc, command, &script, gate))
         }
     }
 }

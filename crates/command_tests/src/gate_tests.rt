@@ -1,7 +1,8 @@
 //! The points of the gate that polls pass, in their order.
 
 use co_base::{Gate, Memory, Tag};
-use engine_one::run_one;
+use engine_one::{ListRun, run_one};
+use note_book::Notes;
 use script_reader::{Script, read};
 use std::alloc::Global;
 use std::cell::RefCell;
@@ -157,7 +158,7 @@ fn passed_by(alloc: Global, script: &Script) -> Result<Vec<(Tag, u8)>, Memory> {
     let gate = RecordingGate {
         passed: RefCell::new(Vec::new(alloc)),
     };
-    let _run = run_one(alloc, script, &gate)?;
+    let _run: ListRun<Notes> = run_one(alloc, script, &gate)?;
     Ok(gate.passed.into_inner())
 }
 

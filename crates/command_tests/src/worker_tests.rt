@@ -76,7 +76,7 @@ fn received(books: &[Notes]) -> u32 {
 }
 
 /// How the root has ended, how many books there are, and how many elements were received.
-fn told_of(done: &Done) -> (Option<End>, usize, u32) {
+fn told_of(done: &Done<Notes>) -> (Option<End>, usize, u32) {
     let books = done.books.as_slice();
     (done.end, books.len(), received(books))
 }

@@ -3,5 +3,6 @@ pub mod Kinds
 pub mod Counts
 pub mod Elements
 pub mod Tallies
+pub mod JobTallies
 pub mod Settlings
 pub mod Examples

@@ -1,4 +1,4 @@
 use Rattle.command_line.proofs.running.left_of.Goals as goal
 
 pub returns : goal.returns
-returns c = record { channels = _; jobs = _; rests = c.requires }
+returns g c = record { channels = _; jobs = _; rests = c.requires }

@@ -25,8 +25,8 @@ use Rattle.job_model.proofs.Ends.{by_entries}
 use Rattle.call_meaning.specs.Facts.{end_at, end_by}
 use Rattle.run_report.specs.Jobs.{attaches_lazy, makes_cancelling, ends_as, is_attached, end_noted, end_or, job_line, job_text, line_of_job}
 use Rattle.run_report.specs.Summaries.{no_jobs, with_job, with_row}
-use Rattle.command_line.specs.JobsTold.{AreToldOf, state_text, row_line, with_row_of}
-use Rattle.command_line.proofs.SameMembers.{Among, SameMembers, same_any}
+use Rattle.rest_laws.specs.JobsTold.{AreToldOf, state_text, row_line, with_row_of}
+use Rattle.rest_laws.proofs.SameMembers.{Among, SameMembers, same_any}
 
 -- ---- how a Job has ended
 
@@ -246,7 +246,7 @@ shown_at_start r = by_row (r == 0)
 
 -- ---- what is printed
 
-any_mapped : (f : JobAct → Bool) (es : List JobEntry) → list_any (λ e. f e.act) es ≡ list_any f (acts_in es)
+pub any_mapped : (f : JobAct → Bool) (es : List JobEntry) → list_any (λ e. f e.act) es ≡ list_any f (acts_in es)
 any_mapped f [] = refl
 any_mapped f (e ∷ es) = ap (λ b. f e.act || b) (any_mapped f es)
 
@@ -303,7 +303,7 @@ module _ (shape : Shape) (jobs : List JobEntry) (acts : List JobAct) (l : Legal 
   attached_told : (r : ℕ) → is_attached r acts ≡ is_some (replay jobs r)
   attached_told r = ap (λ b. (r == 0) || b) (tested (attaches r) ∙ sym (any_mapped (attaches r) jobs)) ∙ sym (by_entries shape jobs r l).attached
 
-  end_told : (r : ℕ) → end_noted r acts ≡ end_at (replay jobs r)
+  pub end_told : (r : ℕ) → end_noted r acts ≡ end_at (replay jobs r)
   end_told r = by_end (end_noted r acts) refl
     where
       by_end : (o : Option End) → end_noted r acts ≡ o → o ≡ end_at (replay jobs r)

@@ -5,7 +5,7 @@ use Rattle.channel_model.specs.declared.acts.Entry.{Entry}
 use Rattle.channel_model.specs.Histories.{acts_of, acts_in}
 use Rattle.channel_model.specs.Fates.{element_at, fate_at}
 use Rattle.job_model.specs.declared.acts.JobEntry.{JobEntry}
-use Rattle.job_model.specs.Histories.{acts_of as job_acts_of, replay as replay_jobs}
+use Rattle.job_model.specs.Histories.{acts_of as job_acts_of, acts_in as job_acts_in_history, replay as replay_jobs}
 use Rattle.note_book.specs.declared.book.Item.{Item}
 use Rattle.note_book.specs.Items.{channel_acts_in, job_acts_in}
 use Rattle.script_grammar.specs.Programs.{Program}
@@ -13,10 +13,10 @@ use Rattle.script_meaning.specs.Shapes.{floor_shape, job_shape}
 use Rattle.script_meaning.specs.Books.{BooksOf}
 use Rattle.run_report.specs.Elements.{channel_acts_noted, with_fate, element_of}
 use Rattle.run_report.specs.Jobs.{job_acts_noted}
-use Rattle.command_line.specs.JobsTold.{AreToldOf}
-use Rattle.command_line.proofs.SameMembers.{SameMembers, IsPart, IsJoined, same_members}
-use Rattle.command_line.proofs.SameFates.{same_elements, same_fates}
-use Rattle.command_line.proofs.JobsTold.{jobs_told}
+use Rattle.rest_laws.specs.JobsTold.{AreToldOf}
+use Rattle.rest_laws.proofs.SameMembers.{SameMembers, IsPart, IsJoined, same_members}
+use Rattle.rest_laws.proofs.SameFates.{same_elements, same_fates}
+use Rattle.rest_laws.proofs.JobsTold.{jobs_told}
 
 -- the books of a run have the acts of its histories
 
@@ -27,7 +27,7 @@ channel_parts = record { none = λ k. refl; more = λ k e es. refl }
 channels_joined : IsJoined channel_acts_in channel_acts_noted
 channels_joined = record { none = refl; more = λ b bs. refl }
 
-job_parts : IsPart (λ (e : JobEntry). e.who) (λ (e : JobEntry). e.act) job_acts_of
+pub job_parts : IsPart (λ (e : JobEntry). e.who) (λ (e : JobEntry). e.act) job_acts_of
 unfolding job_acts_of
 job_parts = record { none = λ k. refl; more = λ k e es. refl }
 
@@ -42,6 +42,9 @@ printed p books channels jobs of c place =
     sym (ap (λ o. with_fate o (fate_at c place (acts_in channels))) (same_elements (floor_shape p) channels (channel_acts_noted books) c place of.legal_channels same)
     ∙ ap (with_fate (element_at c place (channel_acts_noted books))) (same_fates (floor_shape p) channels (channel_acts_noted books) c place of.legal_channels same))
 
+-- the books of a run have the acts on Jobs of its history
+pub jobs_noted : (p : Program) (books : List (List Item)) (channels : List Entry) (jobs : List JobEntry) → BooksOf p books channels jobs → SameMembers (job_acts_in_history jobs) (job_acts_noted books)
+jobs_noted p books channels jobs of = same_members _ _ job_acts_of job_acts_in job_acts_noted [] job_parts jobs_joined refl jobs books of.job_parts
+
 pub printed_jobs : (p : Program) (books : List (List Item)) (channels : List Entry) (jobs : List JobEntry) → BooksOf p books channels jobs → AreToldOf (job_acts_noted books) (replay_jobs jobs)
-printed_jobs p books channels jobs of =
-    jobs_told (job_shape p) jobs (job_acts_noted books) of.legal_jobs (same_members _ _ job_acts_of job_acts_in job_acts_noted [] job_parts jobs_joined refl jobs books of.job_parts)
+printed_jobs p books channels jobs of = jobs_told (job_shape p) jobs (job_acts_noted books) of.legal_jobs (jobs_noted p books channels jobs of)

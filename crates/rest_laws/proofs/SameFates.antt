@@ -13,7 +13,7 @@ use Rattle.channel_model.specs.Laws.{how_many}
 use Rattle.channel_fates.proofs.Appended.{any_count}
 use Rattle.channel_fates.proofs.OncePlaced.{enters, answers, awaits, Counted}
 use Rattle.channel_fates.proofs.Traced.{replay_traced}
-use Rattle.command_line.proofs.SameMembers.{Among, SameMembers, among_any, same_any}
+use Rattle.rest_laws.proofs.SameMembers.{Among, SameMembers, among_any, same_any}
 
 -- ---- the first act that has something
 

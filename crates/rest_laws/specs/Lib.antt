@@ -1,0 +1,2 @@
+pub mod JobsTold
+pub mod LinesTold

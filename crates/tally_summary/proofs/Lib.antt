@@ -1,0 +1,2 @@
+pub mod LinesSame
+pub mod AtRest

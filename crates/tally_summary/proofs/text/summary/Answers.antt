@@ -1,0 +1,6 @@
+use Rattle.script_reader.specs.Scripts.{program_of}
+use Rattle.tally_summary.proofs.AtRest.{summed_up}
+use Rattle.tally_summary.proofs.text.summary.Goals as goal
+
+pub returns : goal.returns
+returns c = summed_up c.bytes_of.result (λ t. t.items) (program_of c.args.script.now) c.args.tallies.now c.args.root c.args.script.now.well_formed c.bytes_of.ensures

@@ -1,0 +1,130 @@
+//! The line.
+
+ghost use Rattle.std.specs.Prelude.{◌≡◌, ◌+◌, ◌≤◌, ◌++◌, List, IfOk, OnOk, Some, length, string_bytes};
+ghost use lib.Chars.{codes};
+ghost use Rattle.channel_model.specs.declared.acts.Entry.{Entry};
+ghost use Rattle.job_model.specs.declared.acts.JobEntry.{JobEntry};
+ghost use Rattle.script_reader.specs.Scripts.{program_of};
+ghost use Rattle.run_laws.specs.Ends.{IsRunAtRest};
+ghost use Rattle.run_report.specs.Summaries.{result_text, summary_text};
+ghost use Rattle.summary_laws.specs.TallyTexts.{numbers_text};
+ghost use Rattle.rest_laws.specs.LinesTold.{job_numbers_text, line_of_books};
+ghost use Rattle.tally_summary.specs.Totals.{AreJobsOf, line_of};
+
+use crate::counted::{Fates, fates_of};
+use crate::totals::{JobTotals, act_totals, job_totals};
+use co_base::Memory;
+use job_model::End;
+use script_reader::Script;
+use std::alloc::{AllocError, Global};
+use std::fmt;
+use tally_book::Tally;
+
+/// The summary of a run of the script whose coroutines kept these tallies, and whose root has ended so, if it has: if the run came to rest,
+/// the text that `run_report` makes of the notes.
+pub fn summary(
+    alloc: Global,
+    script: &Script,
+    tallies: &[Tally],
+    root: Option<End>,
+) -> Result<Vec<u8>, Memory>
+    requires few { length tallies.now ≤ 65536 }
+    ensures { IfOk result (λ text. (channels : List Entry) (jobs : List JobEntry)
+        → IsRunAtRest (program_of script.now) tallies.now channels jobs root
+        → text.items ≡ summary_text (program_of script.now) tallies.now) }
+{
+    let _script = script;
+    bytes_of(alloc, tallies, root)
+}
+
+/// The bytes of the line of these tallies.
+fn bytes_of(alloc: Global, tallies: &[Tally], root: Option<End>) -> Result<Vec<u8>, Memory>
+    requires few { length tallies.now ≤ 65536 }
+    ensures { IfOk result (λ text. text.items ≡ line_of_books tallies.now root) }
+{
+    let text = line_of(alloc, tallies, root)?;
+    Ok(text.into_bytes())
+}
+
+/// The line of these tallies.
+pub(crate) fn line_of(
+    alloc: Global,
+    tallies: &[Tally],
+    root: Option<End>,
+) -> Result<String, AllocError>
+    requires few { length tallies.now ≤ 65536 }
+    ensures { IfOk result (λ text. string_bytes text ≡ line_of_books tallies.now root) }
+{
+    let acts = act_totals(tallies);
+    let jobs = job_totals(tallies);
+    line(alloc, &jobs, &fates_of(&acts), root)
+}
+
+fn line(
+    alloc: Global,
+    jobs: &JobTotals,
+    fates: &Fates,
+    root: Option<End>,
+) -> Result<String, AllocError>
+    requires few { AreJobsOf 65536 jobs.now }
+    ensures { IfOk result (λ text. string_bytes text ≡ line_of jobs.now fates.now root) }
+{
+    let mut out = String::new(alloc);
+    push_jobs(&mut out, jobs)?;
+    push_fates(&mut out, fates)?;
+    push_result(&mut out, root)?;
+    Ok(out)
+}
+
+fn push_jobs(out: &mut String, jobs: &JobTotals) -> Result<(), AllocError>
+    requires few { AreJobsOf 65536 jobs.now }
+    ensures { OnOk result (string_bytes out.new
+        ≡ string_bytes out.old ++ job_numbers_text (1 + jobs.now.attached) jobs.now.completed jobs.now.cancelled) }
+{
+    let attached = 1 + jobs.attached;
+    let completed = jobs.completed;
+    let cancelled = jobs.cancelled;
+    write!(
+        out,
+        "jobs {attached} completed {completed} cancelled {cancelled} "
+    )
+}
+
+fn push_fates(out: &mut String, fates: &Fates) -> Result<(), AllocError>
+    ensures { OnOk result (string_bytes out.new ≡ string_bytes out.old
+        ++ numbers_text fates.now.received fates.now.undelivered fates.now.dropped fates.now.withdrawn fates.now.held) }
+{
+    let Fates {
+        received,
+        undelivered,
+        dropped,
+        withdrawn,
+        held,
+    } = *fates;
+    write!(
+        out,
+        "received {received} undelivered {undelivered} dropped {dropped} withdrawn {withdrawn} held {held} "
+    )
+}
+
+fn push_result(out: &mut String, root: Option<End>) -> Result<(), AllocError>
+    ensures { OnOk result (string_bytes out.new ≡ string_bytes out.old ++ (codes "result " ++ result_text root ++ codes "\n")) }
+{
+    let result = ShownResult(root);
+    write!(out, "result {result}\n")
+}
+
+/// The root's result, as it is printed.
+#[derive(Clone, Copy)]
+struct ShownResult(Option<End>);
+
+impl fmt::Display for ShownResult {
+    ghost output = { λ s. Some (result_text s.0) };
+
+    fn fmt<W: fmt::Write>(&self, f: &mut fmt::Formatter<W>) -> fmt::Result {
+        match self.0 {
+            Some(End::Completed(value)) => write!(f, "{value}"),
+            Some(End::Cancelled(_)) | None => write!(f, "none"),
+        }
+    }
+}
