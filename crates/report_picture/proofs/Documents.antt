@@ -1,0 +1,157 @@
+-- The text of a picture is a well-formed document.
+use Rattle.std.proofs.Common.{◌≡◌, ℕ, List, [], ◌∷◌, ◌++◌, refl, sym, subst, append_assoc, append-nil, map, ap, ◌∙◌}
+use lib.Chars.{codes}
+use Rattle.report_picture.specs.declared.picture.Mark.{Mark}
+use Rattle.report_picture.specs.declared.picture.Mark.TheVariants.{Box, Path, Text}
+use Rattle.report_picture.specs.declared.picture.Column.{Column}
+use Rattle.report_picture.specs.declared.picture.Drawn.{Drawn}
+use Rattle.report_picture.specs.declared.picture.Picture.{Picture}
+use Rattle.report_picture.specs.Elements.{Node, attributes_text, document_attributes, escaped, head_nodes, line_node, mark_node, node_text, nodes_text, picture_nodes, style_node, svg_text, title_text}
+use Rattle.report_picture.specs.WellFormed.{IsName, Attributes, no_more, attribute, Content, no_content, words_then, element_then, IsDocument}
+
+-- ---- names
+
+abbrev AreNamed : List (List ℕ × List ℕ) → Type 0
+AreNamed [] = Unit {0}
+AreNamed (a ∷ attributes) = IsName a.0 × AreNamed attributes
+
+record IsNamed (node : Node) : Type 0 where
+  by_name : IsName node.name
+  all : AreNamed node.attributes
+
+abbrev AllNamed : List Node → Type 0
+AllNamed [] = Unit {0}
+AllNamed (node ∷ nodes) = IsNamed node × AllNamed nodes
+
+named-append : (xs ys : List Node) → AllNamed xs → AllNamed ys → AllNamed (xs ++ ys)
+named-append [] ys p q = q
+named-append (x ∷ xs) ys p q = (p.0, named-append xs ys p.1 q)
+
+named_mark : (m : Mark) → IsNamed (mark_node m)
+named_mark (Box x y width height look title) = record { by_name = refl; all = (refl, (refl, (refl, (refl, (refl, tt))))) }
+named_mark (Path way look title) = record { by_name = refl; all = (refl, (refl, tt)) }
+named_mark (Text x y look words title) = record { by_name = refl; all = (refl, (refl, (refl, tt))) }
+
+named_marks : (marks : List Mark) → AllNamed (map mark_node marks)
+named_marks [] = tt
+named_marks (m ∷ marks) = (named_mark m, named_marks marks)
+
+named_lines : (columns : List Column) (lines : List Drawn) → AllNamed (map (line_node columns) lines)
+named_lines columns [] = tt
+named_lines columns (d ∷ lines) = (record { by_name = refl; all = (refl, (refl, (refl, tt))) }, named_lines columns lines)
+
+named_heads : (columns : List Column) → AllNamed (head_nodes columns)
+named_heads [] = tt
+named_heads (c ∷ columns) = (
+  record { by_name = refl; all = (refl, (refl, (refl, tt))) },
+  (record { by_name = refl; all = (refl, (refl, (refl, tt))) }, named_heads columns),
+)
+
+named : (p : Picture) → AllNamed (picture_nodes p)
+named p = (
+  record { by_name = refl; all = tt },
+  named-append (map mark_node p.marks.items) (head_nodes p.columns.items ++ map (line_node p.columns.items) p.lines.items)
+      (named_marks p.marks.items)
+      (named-append (head_nodes p.columns.items) (map (line_node p.columns.items) p.lines.items) (named_heads p.columns.items)
+      (named_lines p.columns.items p.lines.items)),
+)
+
+-- ---- elements
+
+attributed : (attributes : List (List ℕ × List ℕ)) → AreNamed attributes → Attributes (attributes_text attributes)
+attributed [] names = no_more
+attributed (a ∷ attributes) names = attribute a.0 a.1 (attributes_text attributes) names.0 (attributed attributes names.1)
+
+plain : (words : List ℕ) → Content (escaped words)
+plain words = subst Content (append-nil (escaped words)) (words_then words [] no_content)
+
+regroup_title : (o e a b c r : List ℕ) → o ++ e ++ a ++ b ++ c ++ r ≡ o ++ e ++ (a ++ b ++ c) ++ r
+regroup_title o e a b c r = simp append_assoc
+
+titled : (title words : List ℕ) → Content (title_text title ++ escaped words)
+titled [] words = plain words
+titled (b ∷ title) words =
+    subst Content (regroup_title (codes "<title>") (escaped (b ∷ title)) (codes "</") (codes "title") (codes ">") (escaped words))
+    (element_then (codes "title") [] (escaped (b ∷ title)) (escaped words) refl no_more (plain (b ∷ title)) (plain words))
+
+regroup_node : (o name a g t e c g' l n : List ℕ) → o ++ name ++ a ++ g ++ (t ++ e) ++ c ++ name ++ g' ++ (l ++ n) ≡ o ++ name ++ a ++ (g ++ t ++ e ++ c ++ name ++ (g' ++ l)) ++ n
+regroup_node o name a g t e c g' l n = simp append_assoc
+
+contents : (nodes : List Node) → AllNamed nodes → Content (nodes_text nodes)
+contents [] names = no_content
+contents (node ∷ nodes) names =
+    subst Content
+    (regroup_node (codes "<") node.name (attributes_text node.attributes) (codes ">") (title_text node.title) (escaped node.text) (codes "</") (codes ">") (codes "\n") (nodes_text nodes))
+    (element_then node.name (attributes_text node.attributes) (title_text node.title ++ escaped node.text) (codes "\n" ++ nodes_text nodes) names.0.by_name
+    (attributed node.attributes names.0.all) (titled node.title node.text) (words_then (codes "\n") (nodes_text nodes) (contents nodes names.1)))
+
+-- ---- the document
+
+regroup_whole : (o a g l n c s e : List ℕ) → o ++ a ++ (g ++ l) ++ n ++ (c ++ s ++ e) ≡ o ++ a ++ g ++ (l ++ n) ++ c ++ s ++ e
+regroup_whole o a g l n c s e = simp append_assoc
+
+pub is_document : (p : Picture) → IsDocument (codes "svg") (svg_text p)
+is_document p = record {
+  attributes = attributes_text (document_attributes p.width p.height);
+  inner = codes "\n" ++ nodes_text (picture_nodes p);
+  is_name = refl;
+  well_attributed = attributed (document_attributes p.width p.height) (refl, (refl, (refl, tt)));
+  well_formed = words_then (codes "\n") (nodes_text (picture_nodes p)) (contents (picture_nodes p) (named p));
+  is_whole = regroup_whole (codes "<svg") (attributes_text (document_attributes p.width p.height)) (codes ">") (codes "\n") (nodes_text (picture_nodes p)) (codes "</") (codes "svg") (codes ">\n");
+}
+
+-- ---- the document from its parts
+
+regroup_two : (a b c : List ℕ) → a ++ (b ++ c) ≡ a ++ b ++ c
+regroup_two a b c = simp append_assoc
+
+nodes_append : (xs ys : List Node) → nodes_text (xs ++ ys) ≡ nodes_text xs ++ nodes_text ys
+nodes_append [] ys = refl
+nodes_append (x ∷ xs) ys = ap (λ t. node_text x ++ t) (nodes_append xs ys) ∙ regroup_two (node_text x) (nodes_text xs) (nodes_text ys)
+
+regroup_parts : (h s m t l e : List ℕ) → h ++ s ++ m ++ t ++ l ++ e ≡ h ++ (s ++ (m ++ (t ++ l))) ++ e
+regroup_parts h s m t l e = simp append_assoc
+
+-- what six steps wrote, if n has the parts m, t and l
+joined : (h s m t l n e o₁ o₂ o₃ o₄ o₅ o₆ : List ℕ) → o₁ ≡ h → o₂ ≡ o₁ ++ s → o₃ ≡ o₂ ++ m → o₄ ≡ o₃ ++ t → o₅ ≡ o₄ ++ l → o₆ ≡ o₅ ++ e
+    → n ≡ m ++ (t ++ l) → o₆ ≡ h ++ (s ++ n) ++ e
+joined h s m t l n e o₁ o₂ o₃ o₄ o₅ o₆ e₁ e₂ e₃ e₄ e₅ e₆ en =
+    e₆ ∙ ap (λ x. x ++ e) (e₅ ∙ ap (λ x. x ++ l) (e₄ ∙ ap (λ x. x ++ t) (e₃ ∙ ap (λ x. x ++ m) (e₂ ∙ ap (λ x. x ++ s) e₁))))
+    ∙ regroup_parts h s m t l e ∙ ap (λ x. h ++ (s ++ x) ++ e) (sym en)
+
+-- the opening of the document
+abbrev opening : Picture → List ℕ
+opening p = codes "<svg" ++ attributes_text (document_attributes p.width p.height) ++ codes ">\n"
+
+-- the texts of the marks, the heads and the lines of a picture
+abbrev marks_text : Picture → List ℕ
+marks_text p = nodes_text (map mark_node p.marks.items)
+
+abbrev heads_text : Picture → List ℕ
+heads_text p = nodes_text (head_nodes p.columns.items)
+
+abbrev texts_of_lines : Picture → List ℕ
+texts_of_lines p = nodes_text (map (line_node p.columns.items) p.lines.items)
+
+parts_append : (p : Picture)
+    → nodes_text (map mark_node p.marks.items ++ (head_nodes p.columns.items ++ map (line_node p.columns.items) p.lines.items))
+    ≡ marks_text p ++ (heads_text p ++ texts_of_lines p)
+parts_append p =
+    nodes_append (map mark_node p.marks.items) (head_nodes p.columns.items ++ map (line_node p.columns.items) p.lines.items)
+    ∙ ap (λ t. marks_text p ++ t) (nodes_append (head_nodes p.columns.items) (map (line_node p.columns.items) p.lines.items))
+
+-- the whole text, by what each step wrote of the columns, the marks and the lines of the picture
+pub whole : (p : Picture) (columns : List Column) (marks : List Mark) (lines : List Drawn) (o₀ o₁ o₂ o₃ o₄ o₅ o₆ : List ℕ)
+    → columns ≡ p.columns.items → marks ≡ p.marks.items → lines ≡ p.lines.items → o₀ ≡ []
+    → o₁ ≡ o₀ ++ codes "<svg" ++ attributes_text (document_attributes p.width p.height) ++ codes ">\n"
+    → o₂ ≡ o₁ ++ node_text style_node → o₃ ≡ o₂ ++ nodes_text (map mark_node marks) → o₄ ≡ o₃ ++ nodes_text (head_nodes columns)
+    → o₅ ≡ o₄ ++ nodes_text (map (line_node columns) lines) → o₆ ≡ o₅ ++ codes "</svg>\n" → o₆ ≡ svg_text p
+whole p columns marks lines o₀ o₁ o₂ o₃ o₄ o₅ o₆ ec em el e₀ e₁ e₂ e₃ e₄ e₅ e₆ =
+    joined (opening p) (node_text style_node) (marks_text p) (heads_text p) (texts_of_lines p)
+    (nodes_text (map mark_node p.marks.items ++ (head_nodes p.columns.items ++ map (line_node p.columns.items) p.lines.items)))
+    (codes "</svg>\n") o₁ o₂ o₃ o₄ o₅ o₆
+    (e₁ ∙ ap (λ o. o ++ codes "<svg" ++ attributes_text (document_attributes p.width p.height) ++ codes ">\n") e₀) e₂
+    (e₃ ∙ ap (λ ms. o₂ ++ nodes_text (map mark_node ms)) em)
+    (e₄ ∙ ap (λ cs. o₃ ++ nodes_text (head_nodes cs)) ec)
+    (e₅ ∙ ap (λ cs. o₄ ++ nodes_text (map (line_node cs) lines)) ec ∙ ap (λ ls. o₄ ++ nodes_text (map (line_node p.columns.items) ls)) el)
+    e₆ (parts_append p)

@@ -1,0 +1,4 @@
+mod Beside
+mod Documents
+mod Labels
+mod Placing

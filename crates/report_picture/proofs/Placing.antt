@@ -1,0 +1,48 @@
+-- Lines that stand in columns and in order, with one line more.
+use Rattle.std.proofs.Common.{◌≡◌, ◌<◌, ◌-◌, ◌+◌, ℕ, suc, List, [], ◌∷◌, ◌++◌, length, IfSome, Some, Bool, true, filter, ap, sym, subst, arith, slice_get}
+use Rattle.std.proofs.lemmas.List.Elements.{filter-append}
+use Rattle.report_picture.specs.declared.picture.Drawn.{Drawn}
+use Rattle.report_picture.specs.Order.{StandFrom}
+use Rattle.report_picture.specs.Pictures.{EndsAbove, StandInColumns, StandInOrder, StandsBelow, column_of, is_target}
+use Rattle.report_reader.specs.Reports.{Line as Told}
+
+pub columns_more : (tags : List ℕ) (ds : List Drawn) (d : Drawn) → StandInColumns tags ds → column_of tags d.line.said ≡ Some d.column → is_target tags d.target ≡ true → StandInColumns tags (ds ++ d ∷ [])
+columns_more tags [] d stand is target = ((is, target), tt)
+columns_more tags (x ∷ ds) d stand is target = (stand.0, columns_more tags ds d stand.1 is target)
+
+pub order_more : (ds : List Drawn) (d : Drawn) → StandInOrder ds → EndsAbove d.column d.row ds → StandInOrder (ds ++ d ∷ [])
+order_more [] d stand above = (tt, tt)
+order_more (x ∷ []) d stand above = (λ same. above (sym same), (tt, tt))
+order_more (x ∷ (y ∷ ds)) d stand above = (stand.0, order_more (y ∷ ds) d stand.1 above)
+
+last_more : (d e : Drawn) (ds : List Drawn) → slice_get (d ∷ (e ∷ ds)) (length (d ∷ (e ∷ ds)) - 1) ≡ slice_get (e ∷ ds) (length (e ∷ ds) - 1)
+last_more d e ds =
+    let at : length (d ∷ (e ∷ ds)) - 1 ≡ suc (length (e ∷ ds) - 1) = omega arith in
+    ap (slice_get (d ∷ (e ∷ ds))) at
+
+pub last_above : (column row : ℕ) (ds : List Drawn) → IfSome (slice_get ds (length ds - 1)) (λ d. d.column ≡ column → d.row < row) → EndsAbove column row ds
+last_above column row [] h = tt
+last_above column row (d ∷ []) h = h
+last_above column row (d ∷ (e ∷ ds)) h =
+    last_above column row (e ∷ ds) (subst (λ o. IfSome o (λ (x : Drawn). x.column ≡ column → x.row < row)) (last_more d e ds) h)
+
+pub filter_more : (p : Told → Bool) (x : Told) (xs : List Told) → filter p (x ∷ xs) ≡ filter p (x ∷ []) ++ filter p xs
+filter_more p x xs = filter-append p (x ∷ []) xs
+
+rows_from : (n : ℕ) (ds : List Drawn) (d : Drawn) → StandFrom n ds → d.row ≡ n + length ds → StandFrom n (ds ++ d ∷ [])
+rows_from n [] d stand is = (omega (arith, is), tt)
+rows_from n (x ∷ ds) d stand is = (stand.0, rows_from (n + 1) ds d stand.1 (omega (arith, is)))
+
+pub rows_more : (ds : List Drawn) (d : Drawn) → StandFrom 0 ds → d.row ≡ length ds → StandFrom 0 (ds ++ d ∷ [])
+rows_more ds d stand is = rows_from 0 ds d stand (omega (arith, is))
+
+below_from : (n : ℕ) (d : Drawn) (ds : List Drawn) → d.row ≡ n → StandFrom (n + 1) ds → StandsBelow d.column d.row ds
+below_from n d [] is stand = tt
+below_from n d (e ∷ ds) is stand = λ same. omega (arith, is, stand.0)
+
+order_from : (n : ℕ) (ds : List Drawn) → StandFrom n ds → StandInOrder ds
+order_from n [] stand = tt
+order_from n (d ∷ ds) stand = (below_from n d ds stand.0 stand.1, order_from (n + 1) ds stand.1)
+
+pub in_order_from : (ds : List Drawn) → StandFrom 0 ds → StandInOrder ds
+in_order_from ds stand = order_from 0 ds stand

@@ -1,0 +1,211 @@
+-- A picture as a text: the elements of an SVG document.
+use Rattle.std.specs.Prelude.{ℕ, ◌+◌, ◌*◌, List, [], ◌∷◌, ◌++◌, ◌==◌, Option, Some, None, if◌then◌else◌, map, slice_get}
+use Rattle.std.specs.List.{join_with_byte}
+use denote.Ref.{Bor}
+use Rattle.std.specs.Fmt.{decimal}
+use lib.Chars.{codes}
+use Rattle.report_reader.specs.Words.{words_of}
+use Rattle.report_picture.specs.declared.looks.Look.{Look}
+use Rattle.report_picture.specs.declared.looks.Look.TheVariants.{Paper, Life, Tick, Wait, Brings, BringsEnd, Cancels, CancelsEnd, Lost, Foot, Label}
+use Rattle.report_picture.specs.declared.looks.State.TheVariants.{New, Active, Completing, Cancelling, Completed, Cancelled, Failed}
+use Rattle.report_picture.specs.declared.picture.Way.{Way}
+use Rattle.report_picture.specs.declared.picture.Way.TheVariants.{Down, Bent, Point, Cross}
+use Rattle.report_picture.specs.declared.picture.Mark.{Mark}
+use Rattle.report_picture.specs.declared.picture.Mark.TheVariants.{Box, Path, Text}
+use Rattle.report_picture.specs.declared.picture.Column.{Column}
+use Rattle.report_picture.specs.declared.picture.Drawn.{Drawn}
+use Rattle.report_picture.specs.declared.picture.Picture.{Picture}
+
+-- ---- texts
+
+-- a byte of a text that is no markup
+abbrev pub escape : ℕ → List ℕ
+escape b =
+    if b == 60 then codes "&lt;"
+    else if b == 62 then codes "&gt;"
+    else if b == 38 then codes "&amp;"
+    else if b == 34 then codes "&quot;"
+    else b ∷ []
+
+-- a text that is no markup
+abbrev pub escaped : List ℕ → List ℕ
+escaped [] = []
+escaped (b ∷ text) = escape b ++ escaped text
+
+-- ---- elements
+
+-- an element: its name, its attributes, its title if that is not empty, and its text
+pub record Node : Type 0 where
+  pub name : List ℕ
+  pub attributes : List (List ℕ × List ℕ)
+  pub title : List ℕ
+  pub text : List ℕ
+
+abbrev pub attribute_text : List ℕ → List ℕ → List ℕ
+attribute_text name value = codes " " ++ name ++ codes "=\"" ++ escaped value ++ codes "\""
+
+abbrev pub attributes_text : List (List ℕ × List ℕ) → List ℕ
+attributes_text [] = []
+attributes_text (a ∷ attributes) = attribute_text a.0 a.1 ++ attributes_text attributes
+
+abbrev pub title_text : List ℕ → List ℕ
+title_text [] = []
+title_text (b ∷ title) = codes "<title>" ++ escaped (b ∷ title) ++ codes "</title>"
+
+-- what stands behind the attributes, to the end of the element
+abbrev pub rest_text : List ℕ → List ℕ → List ℕ → List ℕ
+rest_text name title text = codes ">" ++ title_text title ++ escaped text ++ codes "</" ++ name ++ codes ">\n"
+
+-- the text of an element, and a line feed
+abbrev pub node_text : Node → List ℕ
+node_text node = codes "<" ++ node.name ++ attributes_text node.attributes ++ rest_text node.name node.title node.text
+
+-- ---- marks
+
+-- how a mark looks, by a name of the style
+abbrev pub look_word : Look → List ℕ
+look_word Paper = codes "paper"
+look_word (Life New) = codes "new"
+look_word (Life Active) = codes "active"
+look_word (Life Completing) = codes "completing"
+look_word (Life Cancelling) = codes "cancelling"
+look_word (Life Completed) = codes "completed"
+look_word (Life Cancelled) = codes "cancelled"
+look_word (Life Failed) = codes "failed"
+look_word Tick = codes "tick"
+look_word Wait = codes "wait"
+look_word Brings = codes "brings"
+look_word BringsEnd = codes "bringsend"
+look_word Cancels = codes "cancels"
+look_word CancelsEnd = codes "cancelsend"
+look_word Lost = codes "lost"
+look_word Foot = codes "foot"
+look_word Label = codes "label"
+
+-- the data of a path
+abbrev pub way_text : Way → List ℕ
+way_text (Down x from to) = codes "M" ++ decimal x ++ codes " " ++ decimal from ++ codes "V" ++ decimal to
+way_text (Bent x y level lane to_y to_x) =
+    codes "M" ++ decimal x ++ codes " " ++ decimal y ++ codes "V" ++ decimal level ++ codes "H" ++ decimal lane
+    ++ codes "V" ++ decimal to_y ++ codes "H" ++ decimal to_x
+way_text (Point x y) = codes "M" ++ decimal x ++ codes " " ++ decimal y ++ codes "l-8-4v8z"
+way_text (Cross x y) = codes "M" ++ decimal x ++ codes " " ++ decimal y ++ codes "m-4-4l8 8m-8 0l8-8"
+
+abbrev pub text_node : ℕ → ℕ → List ℕ → List ℕ → List ℕ → Node
+text_node x y look text title = record {
+  name = codes "text";
+  attributes = (codes "x", decimal x) ∷ ((codes "y", decimal y) ∷ ((codes "class", look) ∷ []));
+  title = title;
+  text = text;
+}
+
+abbrev pub box_node : ℕ → ℕ → ℕ → ℕ → Look → List ℕ → Node
+box_node x y width height look title = record {
+  name = codes "rect";
+  attributes =
+      (codes "x", decimal x) ∷ ((codes "y", decimal y) ∷ ((codes "width", decimal width)
+      ∷ ((codes "height", decimal height) ∷ ((codes "class", look_word look) ∷ []))));
+  title = title;
+  text = [];
+}
+
+abbrev pub path_node : Way → Look → List ℕ → Node
+path_node way look title = record {
+  name = codes "path";
+  attributes = (codes "d", way_text way) ∷ ((codes "class", look_word look) ∷ []);
+  title = title;
+  text = [];
+}
+
+-- the element of a mark
+abbrev pub mark_node : Mark → Node
+mark_node (Box x y width height look title) = box_node x y width height look title.now
+mark_node (Path way look title) = path_node way look title.now
+mark_node (Text x y look text title) = text_node x y (look_word look) text.items title.now
+
+-- ---- lines
+
+-- where the middle of a row is from the top
+abbrev pub row_y : ℕ → ℕ
+row_y row = 120 + 34 * row
+
+-- what a slice points to, if there is one
+abbrev pub rest_of : Option (Bor (List ℕ)) → List ℕ
+rest_of None = []
+rest_of (Some rest) = rest.now
+
+-- words with a blank between them, without the first
+abbrev pub behind_first : List (List ℕ) → List ℕ
+behind_first [] = []
+behind_first (word ∷ words) = join_with_byte 32 words
+
+-- what stands behind the first word of a line
+abbrev pub label_of : List ℕ → List ℕ
+label_of line = behind_first (words_of line)
+
+abbrev pub left_or : Option Column → ℕ
+left_or None = 0
+left_or (Some column) = column.text
+
+-- where the texts of a column begin from the left
+abbrev pub left_of : List Column → ℕ → ℕ
+left_of columns column = left_or (slice_get columns column)
+
+-- the element of a line of a book: it stands beside the bar of its column, and its title is the whole line
+abbrev pub line_node : List Column → Drawn → Node
+line_node columns drawn =
+    text_node (left_of columns drawn.column) (row_y drawn.row + 4) (codes "line") (label_of drawn.line.text.now) drawn.line.text.now
+
+-- ---- columns
+
+-- a line of the head of a column
+abbrev pub head_node : ℕ → ℕ → List ℕ → Node
+head_node left y text = text_node left y (codes "head") text []
+
+abbrev pub coroutine_node : Column → Node
+coroutine_node column = head_node column.left 80 (codes "coroutine " ++ decimal column.tag)
+
+abbrev pub job_node : Column → Node
+job_node column = head_node column.left 96 (codes "Job " ++ decimal column.tag)
+
+-- each column is headed by its coroutine, and the Job that this runs as
+abbrev pub head_nodes : List Column → List Node
+head_nodes [] = []
+head_nodes (column ∷ columns) = coroutine_node column ∷ (job_node column ∷ head_nodes columns)
+
+-- ---- the picture
+
+abbrev pub nodes_text : List Node → List ℕ
+nodes_text [] = []
+nodes_text (node ∷ nodes) = node_text node ++ nodes_text nodes
+
+-- how marks look
+abbrev pub style : List ℕ
+style =
+    codes "text{font:11px monospace}.line,.label{stroke:#fff;stroke-width:3px;paint-order:stroke}.label{fill:#444}"
+    ++ codes ".head,.foot{font-weight:bold}.paper{fill:#fff}.new{fill:#fff;stroke:#000}.active{fill:#56b4e9}.completing{fill:#0072b2}"
+    ++ codes ".cancelling{fill:#e69f00}.completed{fill:#009e73}.cancelled{fill:#cc79a7}.failed{fill:#000}"
+    ++ codes ".tick{fill:#000;stroke:#fff;stroke-width:0.5}"
+    ++ codes ".wait{fill:none;stroke:#000;stroke-width:10;stroke-dasharray:1.5 3.5}.brings{fill:none;stroke:#0072b2;stroke-width:1.5}"
+    ++ codes ".bringsend{fill:#0072b2}.cancels{fill:none;stroke:#d55e00;stroke-width:1.5;stroke-dasharray:5 3}"
+    ++ codes ".cancelsend{fill:#d55e00}.lost{fill:none;stroke:#000;stroke-width:2}"
+
+abbrev pub style_node : Node
+style_node = record { name = codes "style"; attributes = []; title = []; text = style }
+
+-- the attributes of the document
+abbrev pub document_attributes : ℕ → ℕ → List (List ℕ × List ℕ)
+document_attributes width height =
+    (codes "xmlns", codes "http://www.w3.org/2000/svg") ∷ ((codes "width", decimal width) ∷ ((codes "height", decimal height) ∷ []))
+
+-- the elements of a picture: its marks, the heads of its columns, and its lines; no mark looks like a head or a line
+abbrev pub picture_nodes : Picture → List Node
+picture_nodes picture =
+    style_node ∷ (map mark_node picture.marks.items
+    ++ (head_nodes picture.columns.items ++ map (line_node picture.columns.items) picture.lines.items))
+
+-- a picture as a text
+abbrev pub svg_text : Picture → List ℕ
+svg_text picture =
+    codes "<svg" ++ attributes_text (document_attributes picture.width picture.height) ++ codes ">\n"
+    ++ nodes_text (picture_nodes picture) ++ codes "</svg>\n"

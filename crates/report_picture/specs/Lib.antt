@@ -1,0 +1,5 @@
+pub mod Pictures
+pub mod Elements
+pub mod WellFormed
+pub mod Diagrams
+pub mod Order

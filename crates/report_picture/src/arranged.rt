@@ -1,0 +1,160 @@
+//! The lines of a picture, arranged.
+
+ghost use Rattle.std.specs.Prelude.{◌≡◌, IfOk, filter, true};
+ghost use Rattle.report_reader.specs.Reading.{told_lines};
+ghost use Rattle.report_picture.specs.Order.{AreOrdered, StandBelow};
+ghost use Rattle.report_picture.specs.Pictures.{StandInColumns, StandInOrder, is_of, lines_in};
+
+use crate::causes::causes_of;
+use crate::columns::is_among;
+use crate::notes::Note;
+use crate::order::order_of;
+use crate::picture::Drawn;
+use crate::placed::{drawn_as_told, drawn_in};
+use crate::presumed::sources_in;
+use crate::sources::{Sources, all_stand_below};
+use crate::tables::Tables;
+use co_base::Memory;
+use report_reader::Line;
+use std::alloc::{AllocError, Global};
+
+/// The numbers of the lines of the books from the top down, and of each line its row: how many lines of the picture stand above it.
+#[derive(Drop)]
+pub(crate) struct Rows {
+    pub(crate) numbers: Vec<usize>,
+    pub(crate) rows: Vec<u32>,
+    /// The row behind the last.
+    pub(crate) end: u32,
+}
+
+/// The lines of a picture, and whether each stands below what it presupposes.
+#[derive(Drop)]
+pub(crate) struct Arranged<'a> {
+    pub(crate) rows: Rows,
+    pub(crate) drawn: Vec<Drawn<'a>>,
+    pub(crate) in_order: bool,
+}
+
+/// The lines of a report, what those of the books say, and the coroutines that have a column.
+#[derive(Clone, Copy)]
+pub(crate) struct Books<'s, 'a> {
+    pub(crate) lines: &'s [Line<'a>],
+    pub(crate) notes: &'s [Note<'a>],
+    pub(crate) tables: &'s Tables<'a>,
+    pub(crate) tags: &'s [u32],
+    /// Of each line of the books the other coroutine that it concerns.
+    pub(crate) targets: &'s [Option<u32>],
+}
+
+/// Of each line its row, from the numbers of the lines from the top down.
+fn rows_in(
+    alloc: Global,
+    notes: &[Note],
+    tags: &[u32],
+    numbers: Vec<usize>,
+) -> Result<Rows, AllocError> {
+    let mut rows = vec![in alloc; 0u32; notes.len()]?;
+    let mut end = 0u32;
+    for number in numbers.as_slice() {
+        if let Some(place) = rows.get_mut(*number) {
+            *place = end;
+        }
+        if let Some(note) = notes.get(*number)
+            && is_among(note.tag, tags)
+        {
+            end = end.saturating_add(1);
+        }
+    }
+    Ok(Rows { numbers, rows, end })
+}
+
+/// The rows in an order that the causes of the lines allow; where there is none, lines are missing.
+fn allowed_rows<'a>(alloc: Global, books: Books<'_, 'a>) -> Result<Rows, AllocError> {
+    let causes = causes_of(alloc, books.notes, books.tables)?;
+    let numbers = order_of(alloc, books.notes.len(), causes.as_slice())?;
+    rows_in(alloc, books.notes, books.tags, numbers)
+}
+
+/// The rows in the order of the report.
+fn told_rows<'a>(alloc: Global, books: Books<'_, 'a>) -> Result<Rows, AllocError> {
+    let mut numbers = Vec::new(alloc);
+    for (number, _) in books.notes.iter().enumerate() {
+        numbers.push(number)?;
+    }
+    rows_in(alloc, books.notes, books.tags, numbers)
+}
+
+/// Whether each of these lines stands below what it presupposes, which stands where its sources say.
+fn stand_below<'a>(books: Books<'_, 'a>, drawn: &[Drawn<'a>], sources: &[Sources]) -> bool
+    ensures { result ≡ true → StandBelow books.entry.tags.now (told_lines books.entry.lines.now) drawn.now }
+{
+    all_stand_below(books.tags, books.lines, drawn, sources)
+}
+
+/// Whether each of these lines is found to stand below what it presupposes.
+fn is_allowed<'a>(
+    alloc: Global,
+    books: Books<'_, 'a>,
+    rows: &Rows,
+    drawn: &[Drawn<'a>],
+) -> Result<bool, AllocError>
+    ensures { IfOk result (λ is. is ≡ true → StandBelow books.entry.tags.now (told_lines books.entry.lines.now) drawn.now) }
+{
+    let sources = sources_in(
+        alloc,
+        books.notes,
+        books.tables,
+        rows.rows.as_slice(),
+        drawn,
+    )?;
+    Ok(stand_below(books, drawn, sources.as_slice()))
+}
+
+/// The lines in the order of the report.
+fn arranged_as_told<'a>(alloc: Global, books: Books<'_, 'a>) -> Result<Arranged<'a>, Memory>
+    ensures once { IfOk result (λ arranged.
+        lines_in arranged.drawn.items ≡ filter (is_of books.entry.tags.now) (told_lines books.entry.lines.now)) }
+    ensures columns { IfOk result (λ arranged. StandInColumns books.entry.tags.now arranged.drawn.items) }
+    ensures order { IfOk result (λ arranged. StandInOrder arranged.drawn.items) }
+    ensures ordered { IfOk result (λ arranged.
+        AreOrdered arranged.in_order books.entry.tags.now (told_lines books.entry.lines.now) arranged.drawn.items) }
+{
+    let rows = told_rows(alloc, books)?;
+    let drawn = drawn_as_told(alloc, books.tags, books.lines, books.targets)?;
+    Ok(Arranged {
+        rows,
+        drawn,
+        in_order: false,
+    })
+}
+
+/// The lines, each below what it presupposes; where no order does, in the order of the report.
+pub(crate) fn arrange<'a>(alloc: Global, books: Books<'_, 'a>) -> Result<Arranged<'a>, Memory>
+    ensures once { IfOk result (λ arranged.
+        lines_in arranged.drawn.items ≡ filter (is_of books.entry.tags.now) (told_lines books.entry.lines.now)) }
+    ensures columns { IfOk result (λ arranged. StandInColumns books.entry.tags.now arranged.drawn.items) }
+    ensures order { IfOk result (λ arranged. StandInOrder arranged.drawn.items) }
+    ensures ordered { IfOk result (λ arranged.
+        AreOrdered arranged.in_order books.entry.tags.now (told_lines books.entry.lines.now) arranged.drawn.items) }
+{
+    let rows = allowed_rows(alloc, books)?;
+    let drawn = drawn_in(
+        alloc,
+        books.tags,
+        books.lines,
+        rows.rows.as_slice(),
+        books.targets,
+    )?;
+    let allowed = is_allowed(alloc, books, &rows, drawn.as_slice())?;
+    let all = rows.numbers.len() == books.notes.len();
+    if allowed {
+        if all {
+            return Ok(Arranged {
+                rows,
+                drawn,
+                in_order: true,
+            });
+        }
+    }
+    arranged_as_told(alloc, books)
+}

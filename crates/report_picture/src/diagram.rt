@@ -1,0 +1,136 @@
+//! A picture as a sequence diagram of Mermaid.
+
+ghost use Rattle.std.specs.Prelude.{◌≡◌, ◌++◌, IfOk, OnOk};
+ghost use lib.Chars.{codes};
+ghost use Rattle.std.specs.Fmt.{decimal};
+ghost use Rattle.std.specs.List.Sorted.{IsNonDecreasingBy, IsPermutation};
+ghost use Rattle.report_picture.specs.Diagrams.{IsDiagramOf, column_text, columns_text, head_text, line_text, lines_text, tag_of};
+
+use crate::picture::{Column, Drawn, Picture};
+use std::alloc::{AllocError, Global};
+
+fn push_number(alloc: Global, out: &mut Vec<u8>, n: u32) -> Result<(), AllocError>
+    ensures { OnOk result (out.new.items ≡ out.old.items ++ decimal n) }
+{
+    let text = format!(in alloc; "{n}")?;
+    out.extend_from_slice(text.as_bytes())?;
+    Ok(())
+}
+
+fn push_column(alloc: Global, out: &mut Vec<u8>, column: &Column) -> Result<(), AllocError>
+    ensures { OnOk result (out.new.items ≡ out.old.items ++ column_text column.now) }
+{
+    let tag = column.tag;
+    out.extend_from_slice(b"    participant c")?;
+    push_number(alloc, out, tag)?;
+    out.extend_from_slice(b" as coroutine ")?;
+    push_number(alloc, out, tag)?;
+    out.extend_from_slice(b", Job ")?;
+    push_number(alloc, out, tag)?;
+    out.extend_from_slice(b"\n")?;
+    Ok(())
+}
+
+fn push_columns(alloc: Global, out: &mut Vec<u8>, columns: &[Column]) -> Result<(), AllocError>
+    ensures { OnOk result (out.new.items ≡ out.old.items ++ columns_text columns.now) }
+{
+    let mut rest = columns;
+    while let [column, more @ ..] = rest {
+        push_column(alloc, out, column)?;
+        rest = more;
+    }
+    Ok(())
+}
+
+/// The head of a line: the coroutine that it concerns, and else that the line is a note of its own coroutine.
+fn push_head(
+    alloc: Global,
+    out: &mut Vec<u8>,
+    tag: u32,
+    target: Option<u32>,
+) -> Result<(), AllocError>
+    ensures { OnOk result (out.new.items ≡ out.old.items ++ head_text tag target) }
+{
+    match target {
+        Some(other) => {
+            let text = format!(in alloc; "    c{tag}->>c{other}: ")?;
+            out.extend_from_slice(text.as_bytes())?;
+            Ok(())
+        }
+        None => {
+            let text = format!(in alloc; "    Note over c{tag}: ")?;
+            out.extend_from_slice(text.as_bytes())?;
+            Ok(())
+        }
+    }
+}
+
+fn push_line(
+    alloc: Global,
+    out: &mut Vec<u8>,
+    columns: &[Column],
+    drawn: &Drawn,
+) -> Result<(), AllocError>
+    ensures { OnOk result (out.new.items ≡ out.old.items ++ line_text columns.now drawn.now) }
+{
+    push_head(alloc, out, tag_of(columns, drawn.column), drawn.target)?;
+    out.extend_from_slice(drawn.line.text)?;
+    out.extend_from_slice(b"\n")?;
+    Ok(())
+}
+
+fn push_lines(
+    alloc: Global,
+    out: &mut Vec<u8>,
+    columns: &[Column],
+    lines: &[Drawn],
+) -> Result<(), AllocError>
+    ensures { OnOk result (out.new.items ≡ out.old.items ++ lines_text columns.now lines.now) }
+{
+    let mut rest = lines;
+    while let [drawn, more @ ..] = rest {
+        push_line(alloc, out, columns, drawn)?;
+        rest = more;
+    }
+    Ok(())
+}
+
+fn tag_of(columns: &[Column], column: usize) -> u32
+    ensures { result ≡ tag_of columns.now column }
+{
+    match columns.get(column) {
+        Some(column) => column.tag,
+        None => 0,
+    }
+}
+
+/// The lines in the order of their rows.
+fn downwards<'a>(alloc: Global, picture: &Picture<'a>) -> Result<Vec<Drawn<'a>>, AllocError>
+    ensures once { IfOk result (λ sorted. IsPermutation picture.now.lines.items sorted.items) }
+    ensures downwards { IfOk result (λ sorted. IsNonDecreasingBy (λ d. d.row) sorted.items) }
+{
+    let mut sorted = Vec::from_slice(alloc, picture.lines.as_slice())?;
+    sorted.sort_by_key(|drawn| drawn.row)?;
+    Ok(sorted)
+}
+
+/// The text of the columns of a picture and of these lines, in their order.
+fn diagram_text(alloc: Global, picture: &Picture, lines: &Vec<Drawn>) -> Result<Vec<u8>, AllocError>
+    ensures { IfOk result (λ text. text.items
+        ≡ codes "sequenceDiagram\n" ++ columns_text picture.now.columns.items ++ lines_text picture.now.columns.items lines.now.items) }
+{
+    let columns = picture.columns.as_slice();
+    let mut out = Vec::from_slice(alloc, b"sequenceDiagram\n")?;
+    push_columns(alloc, &mut out, columns)?;
+    push_lines(alloc, &mut out, columns, lines.as_slice())?;
+    Ok(out)
+}
+
+/// A picture as a text: a sequence diagram of Mermaid, with the lines in the order of their rows.
+pub fn mermaid(alloc: Global, picture: &Picture) -> Result<Vec<u8>, AllocError>
+    ensures { IfOk result (λ text. IsDiagramOf picture.now text.items) }
+{
+    let lines = downwards(alloc, picture)?;
+    let text = diagram_text(alloc, picture, &lines)?;
+    Ok(text)
+}

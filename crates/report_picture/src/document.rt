@@ -1,0 +1,452 @@
+//! A picture as an SVG document.
+
+ghost use Rattle.std.specs.Prelude.{◌≡◌, ◌++◌, ◌+◌, List, [], ℕ, map, IfOk, OnOk};
+ghost use Rattle.std.specs.Fmt.{decimal};
+ghost use lib.Chars.{codes};
+ghost use Rattle.report_picture.specs.Elements.{attribute_text, attributes_text, box_node, coroutine_node, document_attributes, escape, escaped, head_node, head_nodes, job_node, left_of, line_node, look_word, mark_node, node_text, nodes_text, path_node, rest_text, style, style_node, svg_text, text_node, title_text, way_text};
+ghost use Rattle.report_picture.specs.WellFormed.{IsDocument};
+
+use crate::layout::{label_of, row_y};
+use crate::looks::Look;
+use crate::picture::{Column, Drawn, Mark, Picture, Way};
+use std::alloc::{AllocError, Global};
+
+// ---- texts
+
+fn push_escape(out: &mut Vec<u8>, byte: u8) -> Result<(), AllocError>
+    ensures { OnOk result (out.new.items ≡ out.old.items ++ escape byte) }
+{
+    match byte {
+        b'<' => {
+            out.extend_from_slice(b"&lt;")?;
+            Ok(())
+        }
+        b'>' => {
+            out.extend_from_slice(b"&gt;")?;
+            Ok(())
+        }
+        b'&' => {
+            out.extend_from_slice(b"&amp;")?;
+            Ok(())
+        }
+        b'"' => {
+            out.extend_from_slice(b"&quot;")?;
+            Ok(())
+        }
+        _ => {
+            out.push(byte)?;
+            Ok(())
+        }
+    }
+}
+
+fn push_escaped(out: &mut Vec<u8>, text: &[u8]) -> Result<(), AllocError>
+    ensures { OnOk result (out.new.items ≡ out.old.items ++ escaped text.now) }
+{
+    let mut rest = text;
+    while let [byte, more @ ..] = rest {
+        push_escape(out, *byte)?;
+        rest = more;
+    }
+    Ok(())
+}
+
+fn number(alloc: Global, n: u64) -> Result<Vec<u8>, AllocError>
+    ensures { IfOk result (λ text. text.items ≡ decimal n) }
+{
+    let text = format!(in alloc; "{n}")?;
+    Ok(text.into_bytes())
+}
+
+/// Adds a number in decimal.
+fn push_decimal(alloc: Global, out: &mut Vec<u8>, n: u64) -> Result<(), AllocError>
+    ensures { OnOk result (out.new.items ≡ out.old.items ++ decimal n) }
+{
+    let text = number(alloc, n)?;
+    out.extend_from_slice(text.as_slice())?;
+    Ok(())
+}
+
+/// Adds a letter and a number.
+fn push_step(alloc: Global, out: &mut Vec<u8>, letter: &[u8], n: u64) -> Result<(), AllocError>
+    ensures { OnOk result (out.new.items ≡ out.old.items ++ letter.now ++ decimal n) }
+{
+    out.extend_from_slice(letter)?;
+    push_decimal(alloc, out, n)?;
+    Ok(())
+}
+
+/// Adds a move to a point.
+fn push_move(alloc: Global, out: &mut Vec<u8>, x: u64, y: u64) -> Result<(), AllocError>
+    ensures { OnOk result (out.new.items ≡ out.old.items ++ codes "M" ++ decimal x ++ codes " " ++ decimal y) }
+{
+    push_step(alloc, out, b"M", x)?;
+    push_step(alloc, out, b" ", y)?;
+    Ok(())
+}
+
+fn down_text(alloc: Global, x: u64, from: u64, to: u64) -> Result<Vec<u8>, AllocError>
+    ensures { IfOk result (λ text. text.items ≡ way_text (Way.Down x from to)) }
+{
+    let mut out = Vec::new(alloc);
+    push_move(alloc, &mut out, x, from)?;
+    push_step(alloc, &mut out, b"V", to)?;
+    Ok(out)
+}
+
+fn bent_text(
+    alloc: Global,
+    start: (u64, u64),
+    level: u64,
+    lane: u64,
+    end: (u64, u64),
+) -> Result<Vec<u8>, AllocError>
+    ensures { IfOk result (λ text. text.items ≡ way_text (Way.Bent start.0 start.1 level lane end.1 end.0)) }
+{
+    let mut out = Vec::new(alloc);
+    push_move(alloc, &mut out, start.0, start.1)?;
+    push_step(alloc, &mut out, b"V", level)?;
+    push_step(alloc, &mut out, b"H", lane)?;
+    push_step(alloc, &mut out, b"V", end.1)?;
+    push_step(alloc, &mut out, b"H", end.0)?;
+    Ok(out)
+}
+
+fn point_text(alloc: Global, x: u64, y: u64) -> Result<Vec<u8>, AllocError>
+    ensures { IfOk result (λ text. text.items ≡ way_text (Way.Point x y)) }
+{
+    let mut out = Vec::new(alloc);
+    push_move(alloc, &mut out, x, y)?;
+    out.extend_from_slice(b"l-8-4v8z")?;
+    Ok(out)
+}
+
+fn cross_text(alloc: Global, x: u64, y: u64) -> Result<Vec<u8>, AllocError>
+    ensures { IfOk result (λ text. text.items ≡ way_text (Way.Cross x y)) }
+{
+    let mut out = Vec::new(alloc);
+    push_move(alloc, &mut out, x, y)?;
+    out.extend_from_slice(b"m-4-4l8 8m-8 0l8-8")?;
+    Ok(out)
+}
+
+/// The data of a path.
+fn way_text(alloc: Global, way: Way) -> Result<Vec<u8>, AllocError>
+    ensures { IfOk result (λ text. text.items ≡ way_text way) }
+{
+    match way {
+        Way::Down { x, from, to } => down_text(alloc, x, from, to),
+        Way::Bent {
+            x,
+            y,
+            level,
+            lane,
+            to_y,
+            to_x,
+        } => bent_text(alloc, (x, y), level, lane, (to_x, to_y)),
+        Way::Point { x, y } => point_text(alloc, x, y),
+        Way::Cross { x, y } => cross_text(alloc, x, y),
+    }
+}
+
+// ---- elements
+
+fn push_attribute(out: &mut Vec<u8>, name: &[u8], value: &[u8]) -> Result<(), AllocError>
+    ensures { OnOk result (out.new.items ≡ out.old.items ++ attribute_text name.now value.now) }
+{
+    out.extend_from_slice(b" ")?;
+    out.extend_from_slice(name)?;
+    out.extend_from_slice(b"=\"")?;
+    push_escaped(out, value)?;
+    out.extend_from_slice(b"\"")?;
+    Ok(())
+}
+
+fn push_number(alloc: Global, out: &mut Vec<u8>, name: &[u8], n: u64) -> Result<(), AllocError>
+    ensures { OnOk result (out.new.items ≡ out.old.items ++ attribute_text name.now (decimal n)) }
+{
+    let value = number(alloc, n)?;
+    push_attribute(out, name, value.as_slice())?;
+    Ok(())
+}
+
+fn push_title(out: &mut Vec<u8>, title: &[u8]) -> Result<(), AllocError>
+    ensures { OnOk result (out.new.items ≡ out.old.items ++ title_text title.now) }
+{
+    if title.is_empty() {
+        return Ok(());
+    }
+    out.extend_from_slice(b"<title>")?;
+    push_escaped(out, title)?;
+    out.extend_from_slice(b"</title>")?;
+    Ok(())
+}
+
+/// The end of an element behind its attributes.
+fn push_rest(out: &mut Vec<u8>, name: &[u8], title: &[u8], text: &[u8]) -> Result<(), AllocError>
+    ensures { OnOk result (out.new.items ≡ out.old.items ++ rest_text name.now title.now text.now) }
+{
+    out.extend_from_slice(b">")?;
+    push_title(out, title)?;
+    push_escaped(out, text)?;
+    out.extend_from_slice(b"</")?;
+    out.extend_from_slice(name)?;
+    out.extend_from_slice(b">\n")?;
+    Ok(())
+}
+
+fn push_box(
+    alloc: Global,
+    out: &mut Vec<u8>,
+    place: (u64, u64),
+    size: (u64, u64),
+    look: Look,
+    title: &[u8],
+) -> Result<(), AllocError>
+    ensures { OnOk result (out.new.items ≡ out.old.items ++ node_text (box_node place.0 place.1 size.0 size.1 look title.now)) }
+{
+    out.extend_from_slice(b"<rect")?;
+    push_number(alloc, out, b"x", place.0)?;
+    push_number(alloc, out, b"y", place.1)?;
+    push_number(alloc, out, b"width", size.0)?;
+    push_number(alloc, out, b"height", size.1)?;
+    push_attribute(out, b"class", look.word())?;
+    push_rest(out, b"rect", title, b"")?;
+    Ok(())
+}
+
+fn push_path(
+    alloc: Global,
+    out: &mut Vec<u8>,
+    way: Way,
+    look: Look,
+    title: &[u8],
+) -> Result<(), AllocError>
+    ensures { OnOk result (out.new.items ≡ out.old.items ++ node_text (path_node way look title.now)) }
+{
+    let data = way_text(alloc, way)?;
+    out.extend_from_slice(b"<path")?;
+    push_attribute(out, b"d", data.as_slice())?;
+    push_attribute(out, b"class", look.word())?;
+    push_rest(out, b"path", title, b"")?;
+    Ok(())
+}
+
+fn push_text(
+    alloc: Global,
+    out: &mut Vec<u8>,
+    place: (u64, u64),
+    look: &[u8],
+    text: &[u8],
+    title: &[u8],
+) -> Result<(), AllocError>
+    ensures { OnOk result (out.new.items ≡ out.old.items ++ node_text (text_node place.0 place.1 look.now text.now title.now)) }
+{
+    out.extend_from_slice(b"<text")?;
+    push_number(alloc, out, b"x", place.0)?;
+    push_number(alloc, out, b"y", place.1)?;
+    push_attribute(out, b"class", look)?;
+    push_rest(out, b"text", title, text)?;
+    Ok(())
+}
+
+fn push_mark(alloc: Global, out: &mut Vec<u8>, mark: &Mark) -> Result<(), AllocError>
+    ensures { OnOk result (out.new.items ≡ out.old.items ++ node_text (mark_node mark.now)) }
+{
+    match mark {
+        Mark::Box {
+            x,
+            y,
+            width,
+            height,
+            look,
+            title,
+        } => {
+            push_box(alloc, out, (*x, *y), (*width, *height), *look, *title)?;
+            Ok(())
+        }
+        Mark::Path { way, look, title } => {
+            push_path(alloc, out, *way, *look, *title)?;
+            Ok(())
+        }
+        Mark::Text {
+            x,
+            y,
+            look,
+            text,
+            title,
+        } => {
+            push_text(alloc, out, (*x, *y), look.word(), text.as_slice(), *title)?;
+            Ok(())
+        }
+    }
+}
+
+fn push_marks(alloc: Global, out: &mut Vec<u8>, marks: &[Mark]) -> Result<(), AllocError>
+    ensures { OnOk result (out.new.items ≡ out.old.items ++ nodes_text (map mark_node marks.now)) }
+{
+    let mut rest = marks;
+    while let [mark, more @ ..] = rest {
+        push_mark(alloc, out, mark)?;
+        rest = more;
+    }
+    Ok(())
+}
+
+// ---- lines
+
+fn left_of(columns: &[Column], column: usize) -> u64
+    ensures { result ≡ left_of columns.now column }
+{
+    match columns.get(column) {
+        Some(column) => column.text,
+        None => 0,
+    }
+}
+
+fn push_line(
+    alloc: Global,
+    out: &mut Vec<u8>,
+    columns: &[Column],
+    drawn: &Drawn,
+) -> Result<(), AllocError>
+    ensures { OnOk result (out.new.items ≡ out.old.items ++ node_text (line_node columns.now drawn.now)) }
+{
+    let x = left_of(columns, drawn.column);
+    let text = drawn.line.text;
+    push_text(
+        alloc,
+        out,
+        (x, row_y(drawn.row) + 4),
+        b"line",
+        label_of(text),
+        text,
+    )?;
+    Ok(())
+}
+
+fn push_lines(
+    alloc: Global,
+    out: &mut Vec<u8>,
+    columns: &[Column],
+    lines: &[Drawn],
+) -> Result<(), AllocError>
+    ensures { OnOk result (out.new.items ≡ out.old.items ++ nodes_text (map (line_node columns.now) lines.now)) }
+{
+    let mut rest = lines;
+    while let [drawn, more @ ..] = rest {
+        push_line(alloc, out, columns, drawn)?;
+        rest = more;
+    }
+    Ok(())
+}
+
+// ---- columns
+
+/// Words, and a number behind them.
+fn numbered(alloc: Global, words: &[u8], n: u32) -> Result<Vec<u8>, AllocError>
+    ensures { IfOk result (λ text. text.items ≡ words.now ++ decimal n) }
+{
+    let mut text = Vec::new(alloc);
+    push_step(alloc, &mut text, words, u64::from(n))?;
+    Ok(text)
+}
+
+/// A line of the head of a column: words, and its number.
+fn push_head_line(
+    alloc: Global,
+    out: &mut Vec<u8>,
+    place: (u64, u64),
+    words: &[u8],
+    n: u32,
+) -> Result<(), AllocError>
+    ensures { OnOk result (out.new.items ≡ out.old.items ++ node_text (head_node place.0 place.1 (words.now ++ decimal n))) }
+{
+    let text = numbered(alloc, words, n)?;
+    push_text(alloc, out, place, b"head", text.as_slice(), b"")?;
+    Ok(())
+}
+
+fn push_head(alloc: Global, out: &mut Vec<u8>, column: Column) -> Result<(), AllocError>
+    ensures { OnOk result (out.new.items ≡ out.old.items ++ node_text (coroutine_node column) ++ node_text (job_node column)) }
+{
+    push_head_line(alloc, out, (column.left, 80), b"coroutine ", column.tag)?;
+    push_head_line(alloc, out, (column.left, 96), b"Job ", column.tag)?;
+    Ok(())
+}
+
+/// The heads of the columns: each coroutine, and the Job that it runs as.
+fn push_heads(alloc: Global, out: &mut Vec<u8>, columns: &[Column]) -> Result<(), AllocError>
+    ensures { OnOk result (out.new.items ≡ out.old.items ++ nodes_text (head_nodes columns.now)) }
+{
+    let mut rest = columns;
+    while let [column, more @ ..] = rest {
+        push_head(alloc, out, *column)?;
+        rest = more;
+    }
+    Ok(())
+}
+
+// ---- the picture
+
+fn style() -> &'static [u8]
+    ensures { result.now ≡ style }
+{
+    b"text{font:11px monospace}.line,.label{stroke:#fff;stroke-width:3px;paint-order:stroke}.label{fill:#444}\
+    .head,.foot{font-weight:bold}.paper{fill:#fff}.new{fill:#fff;stroke:#000}.active{fill:#56b4e9}.completing{fill:#0072b2}\
+    .cancelling{fill:#e69f00}.completed{fill:#009e73}.cancelled{fill:#cc79a7}.failed{fill:#000}\
+    .tick{fill:#000;stroke:#fff;stroke-width:0.5}\
+    .wait{fill:none;stroke:#000;stroke-width:10;stroke-dasharray:1.5 3.5}.brings{fill:none;stroke:#0072b2;stroke-width:1.5}\
+    .bringsend{fill:#0072b2}.cancels{fill:none;stroke:#d55e00;stroke-width:1.5;stroke-dasharray:5 3}\
+    .cancelsend{fill:#d55e00}.lost{fill:none;stroke:#000;stroke-width:2}"
+}
+
+fn push_style_of(out: &mut Vec<u8>, text: &[u8]) -> Result<(), AllocError>
+    ensures { OnOk result (out.new.items
+        ≡ out.old.items ++ node_text (record { name = codes "style"; attributes = []; title = []; text = text.now })) }
+{
+    out.extend_from_slice(b"<style")?;
+    push_rest(out, b"style", b"", text)?;
+    Ok(())
+}
+
+fn push_style(out: &mut Vec<u8>) -> Result<(), AllocError>
+    ensures { OnOk result (out.new.items ≡ out.old.items ++ node_text style_node) }
+{
+    push_style_of(out, style())
+}
+
+fn push_opening(alloc: Global, out: &mut Vec<u8>, width: u64, height: u64) -> Result<(), AllocError>
+    ensures { OnOk result (out.new.items
+        ≡ out.old.items ++ codes "<svg" ++ attributes_text (document_attributes width height) ++ codes ">\n") }
+{
+    out.extend_from_slice(b"<svg")?;
+    push_attribute(out, b"xmlns", b"http://www.w3.org/2000/svg")?;
+    push_number(alloc, out, b"width", width)?;
+    push_number(alloc, out, b"height", height)?;
+    out.extend_from_slice(b">\n")?;
+    Ok(())
+}
+
+fn svg_text(alloc: Global, picture: &Picture) -> Result<Vec<u8>, AllocError>
+    ensures { IfOk result (λ text. text.items ≡ svg_text picture.now) }
+{
+    let columns = picture.columns.as_slice();
+    let mut out = Vec::new(alloc);
+    push_opening(alloc, &mut out, picture.width, picture.height)?;
+    push_style(&mut out)?;
+    push_marks(alloc, &mut out, picture.marks.as_slice())?;
+    push_heads(alloc, &mut out, columns)?;
+    push_lines(alloc, &mut out, columns, picture.lines.as_slice())?;
+    out.extend_from_slice(b"</svg>\n")?;
+    Ok(out)
+}
+
+/// A picture as a text: an SVG document.
+pub fn svg(alloc: Global, picture: &Picture) -> Result<Vec<u8>, AllocError>
+    ensures text { IfOk result (λ text. text.items ≡ svg_text picture.now) }
+    ensures well_formed { IfOk result (λ text. IsDocument (codes "svg") text.items) }
+{
+    let text = svg_text(alloc, picture)?;
+    Ok(text)
+}

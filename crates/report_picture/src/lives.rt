@@ -1,0 +1,150 @@
+//! The lives of the coroutines, and their waits.
+
+use crate::layout::{BAR, HALF};
+use crate::looks::{Look, State};
+use crate::notes::Verb;
+use crate::picture::{Mark, Way};
+use crate::sheet::Sheet;
+use std::alloc::{AllocError, Global};
+
+/// The stretch of a life that has begun, with the line that began it.
+#[derive(Clone, Copy)]
+struct Life {
+    state: State,
+    since: usize,
+}
+
+/// Whether a Job in the one state comes to the other.
+fn comes_to(old: State, new: State) -> bool {
+    match (old, new) {
+        (State::Cancelling, State::Completing | State::Active | State::Cancelling) => false,
+        _ => true,
+    }
+}
+
+fn life_at(lives: &[Option<Life>], column: usize) -> Option<Life> {
+    match lives.get(column) {
+        Some(life) => *life,
+        None => None,
+    }
+}
+
+fn set_life(lives: &mut Vec<Option<Life>>, column: usize, life: Life) {
+    if let Some(place) = lives.get_mut(column) {
+        *place = Some(life);
+    }
+}
+
+fn push_stretch<'a>(
+    marks: &mut Vec<Mark<'a>>,
+    sheet: &Sheet<'_, 'a>,
+    column: usize,
+    life: Life,
+    until: u64,
+) -> Result<(), AllocError> {
+    if let Some(column) = sheet.columns.get(column)
+        && let Some(note) = sheet.note(life.since)
+    {
+        let from = sheet.y(life.since);
+        marks.push(Mark::Box {
+            x: column.left,
+            y: from,
+            width: BAR,
+            height: until.saturating_sub(from),
+            look: Look::Life(life.state),
+            title: note.text,
+        })?;
+    }
+    Ok(())
+}
+
+/// Where the last stretch of a life ends.
+fn end_of(sheet: &Sheet<'_, '_>, last: Option<&usize>, life: Life) -> u64 {
+    match life.state {
+        State::Completed | State::Cancelled | State::Failed => {
+            let since = sheet.y(life.since);
+            let bottom = match last {
+                Some(number) => sheet.y(*number),
+                None => since,
+            };
+            since.max(bottom).saturating_add(HALF)
+        }
+        _ => sheet.y(sheet.notes.len()),
+    }
+}
+
+/// The lives, each in stretches of one state of its Job.
+pub(crate) fn push_lives<'a>(
+    alloc: Global,
+    marks: &mut Vec<Mark<'a>>,
+    sheet: &Sheet<'_, 'a>,
+    order: &[usize],
+) -> Result<(), AllocError> {
+    let mut lives: Vec<Option<Life>> = vec![in alloc; None; sheet.columns.len()]?;
+    let mut last = vec![in alloc; 0usize; sheet.columns.len()]?;
+    for number in order {
+        let Some(note) = sheet.note(*number) else {
+            continue;
+        };
+        let since = *number;
+        if let Some(column) = sheet.column(note.tag) {
+            if life_at(lives.as_slice(), column).is_none() {
+                let state = State::Active;
+                set_life(&mut lives, column, Life { state, since });
+            }
+            if let Some(place) = last.get_mut(column) {
+                *place = since;
+            }
+        }
+        if let Some(state) = note.state()
+            && let Some(column) = sheet.column(note.row)
+        {
+            match life_at(lives.as_slice(), column) {
+                Some(life) if comes_to(life.state, state) => {
+                    push_stretch(marks, sheet, column, life, sheet.y(since))?;
+                    set_life(&mut lives, column, Life { state, since });
+                }
+                Some(_) => {}
+                None => set_life(&mut lives, column, Life { state, since }),
+            }
+        }
+    }
+    for (column, life) in lives.iter().enumerate() {
+        if let Some(life) = *life {
+            let until = end_of(sheet, last.get(column), life);
+            push_stretch(marks, sheet, column, life, until)?;
+        }
+    }
+    Ok(())
+}
+
+/// The waits, each from the line that began it to its settle.
+pub(crate) fn push_waits<'a>(
+    marks: &mut Vec<Mark<'a>>,
+    sheet: &Sheet<'_, 'a>,
+) -> Result<(), AllocError> {
+    let mut drawn: (u32, &'a [u8]) = (0, b"");
+    for (number, note) in sheet.notes.iter().enumerate() {
+        let begins = matches!(note.verb, Verb::Offer | Verb::Await);
+        if begins && !(drawn.0 == note.tag && drawn.1 == note.wait) {
+            drawn = (note.tag, note.wait);
+            if let Some(left) = sheet.left(note.tag) {
+                let to = match sheet.tables.wait(note.wait).settles {
+                    Some(settle) => sheet.y(settle),
+                    None => sheet.y(sheet.notes.len()),
+                };
+                let way = Way::Down {
+                    x: left.saturating_add(BAR / 2),
+                    from: sheet.y(number),
+                    to,
+                };
+                marks.push(Mark::Path {
+                    way,
+                    look: Look::Wait,
+                    title: note.text,
+                })?;
+            }
+        }
+    }
+    Ok(())
+}

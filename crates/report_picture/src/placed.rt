@@ -1,0 +1,215 @@
+//! The lines of a picture, each where it stands.
+
+ghost use Rattle.std.specs.Prelude.{◌≡◌, IfOk, IfSome, OnOk, [], ◌∷◌, ◌++◌, ◌<◌, filter, true};
+ghost use Rattle.std.specs.Option.{option_copied};
+ghost use Rattle.report_reader.specs.Reading.{told, told_lines};
+ghost use Rattle.report_picture.specs.Order.{StandFrom};
+ghost use Rattle.report_picture.specs.Pictures.{EndsAbove, StandInColumns, StandInOrder, column_of, is_of, is_target, lines_in, place_from};
+
+use crate::columns::is_among;
+use crate::picture::Drawn;
+use co_base::Memory;
+use report_reader::{Line, Said};
+use std::alloc::Global;
+
+/// The place of a tag among these.
+fn place_of(tag: u32, tags: &[u32]) -> Option<usize>
+    ensures { result ≡ place_from 0 tag tags.now }
+{
+    let mut rest = tags;
+    let mut i = 0usize;
+    while let [other, more @ ..] = rest {
+        if *other == tag {
+            return Some(i);
+        }
+        i += 1;
+        rest = more;
+    }
+    None
+}
+
+/// The column of a line that stands in the book of one of these coroutines.
+pub(crate) fn column_of(said: Said, tags: &[u32]) -> Option<usize>
+    ensures { result ≡ column_of tags.now said }
+{
+    match said {
+        Said::Note(tag) => place_of(tag, tags),
+        Said::Job(_) | Said::Element => None,
+    }
+}
+
+/// This row, or the next below this other, if that has the same column and is not above it.
+fn row_behind(other: usize, last: u32, column: usize, row: u32) -> Result<u32, Memory>
+    ensures { IfOk result (λ row. other ≡ column → last < row) }
+{
+    if other != column {
+        return Ok(row);
+    }
+    if last < row {
+        return Ok(row);
+    }
+    match last.checked_add(1) {
+        Some(next) => Ok(next),
+        None => Err(Memory),
+    }
+}
+
+/// This row, or the next below a line, if that stands in the same column and not above it.
+fn row_under(last: Option<&Drawn>, column: usize, row: u32) -> Result<u32, Memory>
+    ensures { IfOk result (λ row. IfSome (option_copied last.entry) (λ d. d.column ≡ column → d.row < row)) }
+{
+    match last {
+        Some(before) => row_behind(before.column, before.row, column, row),
+        None => Ok(row),
+    }
+}
+
+/// This row, or the next below the last of these lines, if that stands in the same column and not above it.
+fn row_below(drawn: &[Drawn], column: usize, row: u32) -> Result<u32, Memory>
+    ensures { IfOk result (λ row. EndsAbove column row drawn.now) }
+{
+    let row = row_under(drawn.last(), column, row)?;
+    Ok(row)
+}
+
+/// The target, if it has a column.
+fn among(tags: &[u32], target: Option<u32>) -> Option<u32>
+    ensures { is_target tags.now result ≡ true }
+{
+    match target {
+        Some(tag) if is_among(tag, tags) => Some(tag),
+        _ => None,
+    }
+}
+
+/// Where a line is to stand, and the other coroutine that it concerns.
+#[derive(Clone, Copy)]
+struct Place {
+    row: u32,
+    target: Option<u32>,
+}
+
+/// Adds a line, if it stands in the book of one of these coroutines.
+#[tactic(auto, using(crate::proofs::Placing::columns_more, crate::proofs::Placing::order_more))]
+fn push_drawn<'a>(
+    drawn: &mut Vec<Drawn<'a>>,
+    tags: &[u32],
+    place: Place,
+    line: Line<'a>,
+) -> Result<(), Memory>
+    requires order { StandInOrder drawn.old.items }
+    requires columns { StandInColumns tags.now drawn.old.items }
+    ensures once { OnOk result (lines_in drawn.new.items ≡ lines_in drawn.old.items ++ filter (is_of tags.now) (told line.entry ∷ [])) }
+    ensures columns { OnOk result (StandInColumns tags.now drawn.new.items) }
+    ensures order { OnOk result (StandInOrder drawn.new.items) }
+{
+    let Some(column) = column_of(line.said, tags) else {
+        return Ok(());
+    };
+    let row = row_below(drawn.as_slice(), column, place.row)?;
+    let target = among(tags, place.target);
+    drawn.push(Drawn {
+        column,
+        row,
+        target,
+        line,
+    })?;
+    Ok(())
+}
+
+/// The lines of the books of these coroutines, each in the row that is given for it; where that would not stand below the line before
+/// it in its book, in the next row.
+#[tactic(auto, using(crate::proofs::Placing::filter_more))]
+pub(crate) fn drawn_in<'a>(
+    alloc: Global,
+    tags: &[u32],
+    lines: &[Line<'a>],
+    rows: &[u32],
+    targets: &[Option<u32>],
+) -> Result<Vec<Drawn<'a>>, Memory>
+    ensures once { IfOk result (λ drawn. lines_in drawn.items ≡ filter (is_of tags.now) (told_lines lines.now)) }
+    ensures columns { IfOk result (λ drawn. StandInColumns tags.now drawn.items) }
+    ensures order { IfOk result (λ drawn. StandInOrder drawn.items) }
+{
+    let mut drawn: Vec<Drawn<'a>> = Vec::new(alloc);
+    let mut rest = lines;
+    let mut i = 0usize;
+    while let [line, more @ ..] = rest {
+        let place = Place {
+            row: row_at(rows, i),
+            target: target_at(targets, i),
+        };
+        push_drawn(&mut drawn, tags, place, *line)?;
+        i = i.saturating_add(1);
+        rest = more;
+    }
+    Ok(drawn)
+}
+
+fn row_at(rows: &[u32], i: usize) -> u32 {
+    match rows.get(i) {
+        Some(row) => *row,
+        None => 0,
+    }
+}
+
+fn target_at(targets: &[Option<u32>], i: usize) -> Option<u32> {
+    match targets.get(i) {
+        Some(target) => *target,
+        None => None,
+    }
+}
+
+/// Adds a line one row below the last, if it stands in the book of one of these coroutines.
+#[tactic(auto, using(crate::proofs::Placing::columns_more, crate::proofs::Placing::rows_more))]
+fn push_next<'a>(
+    drawn: &mut Vec<Drawn<'a>>,
+    tags: &[u32],
+    target: Option<u32>,
+    line: Line<'a>,
+) -> Result<(), Memory>
+    requires rows { StandFrom 0 drawn.old.items }
+    requires columns { StandInColumns tags.now drawn.old.items }
+    ensures once { OnOk result (lines_in drawn.new.items ≡ lines_in drawn.old.items ++ filter (is_of tags.now) (told line.entry ∷ [])) }
+    ensures columns { OnOk result (StandInColumns tags.now drawn.new.items) }
+    ensures rows { OnOk result (StandFrom 0 drawn.new.items) }
+{
+    let Some(column) = column_of(line.said, tags) else {
+        return Ok(());
+    };
+    let Ok(row) = u32::try_from(drawn.len()) else {
+        return Err(Memory);
+    };
+    let target = among(tags, target);
+    drawn.push(Drawn {
+        column,
+        row,
+        target,
+        line,
+    })?;
+    Ok(())
+}
+
+/// The lines of the books of these coroutines, one below another as in the report.
+#[tactic(auto, using(crate::proofs::Placing::filter_more, crate::proofs::Placing::in_order_from))]
+pub(crate) fn drawn_as_told<'a>(
+    alloc: Global,
+    tags: &[u32],
+    lines: &[Line<'a>],
+    targets: &[Option<u32>],
+) -> Result<Vec<Drawn<'a>>, Memory>
+    ensures once { IfOk result (λ drawn. lines_in drawn.items ≡ filter (is_of tags.now) (told_lines lines.now)) }
+    ensures columns { IfOk result (λ drawn. StandInColumns tags.now drawn.items) }
+    ensures order { IfOk result (λ drawn. StandInOrder drawn.items) }
+    ensures rows { IfOk result (λ drawn. StandFrom 0 drawn.items) }
+{
+    let mut drawn: Vec<Drawn<'a>> = Vec::new(alloc);
+    let mut rest = lines;
+    let mut i = 0usize;
+    while let [line, more @ ..] = rest {
+        push_next(&mut drawn, tags, target_at(targets, i), *line)?;
+        i = i.saturating_add(1);
+        rest = more;
+    }
+    Ok(drawn)
+}

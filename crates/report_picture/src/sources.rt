@@ -1,0 +1,228 @@
+//! Whether each line stands below what it presupposes.
+
+ghost use Rattle.std.specs.Prelude.{◌≡◌, option_map, slice_get};
+ghost use Rattle.report_reader.specs.Reading.{told, told_lines};
+ghost use Rattle.report_picture.specs.Order.{above_row, agree, agree_on_place, all_stand_below, attaches, brings, cancels, is_cancelling, is_resolving, line_above, outside, places, resolves, stands_below, tells, text_if, text_or, word};
+
+use crate::picture::Drawn;
+use crate::placed::column_of;
+use report_reader::{Line, cut_at};
+
+/// Where a line stands.
+#[derive(Clone, Copy)]
+pub enum Place {
+    /// Its number among the lines of the picture.
+    InPicture(usize),
+    /// Its number among the lines of the report.
+    InReport(usize),
+}
+
+/// Where the lines stand that a line presupposes, for each kind that it does presuppose.
+#[derive(Clone, Copy)]
+pub struct Sources {
+    /// The `attach` of its coroutine.
+    pub attach: Place,
+    /// What brought the element that it gets.
+    pub bring: Place,
+    /// What placed the wait that it settles, by its number among the lines of the report.
+    pub placing: usize,
+    /// What resolved that wait.
+    pub resolve: Place,
+    /// The `cancel` that it saw.
+    pub cancel: Place,
+}
+
+// ---- words
+
+/// The word of a line with this number, counted from 0; empty behind the last.
+fn word(number: usize, line: &[u8]) -> &[u8]
+    ensures { result.now ≡ word number line.now }
+{
+    let mut rest = line;
+    let mut left = number;
+    loop {
+        let (first, more) = cut_at(b' ', rest);
+        if left == 0 {
+            return first;
+        }
+        let Some(next) = more else {
+            return b"";
+        };
+        left -= 1;
+        rest = next;
+    }
+}
+
+fn tells(verb: &[u8], line: &[u8]) -> bool
+    ensures { result ≡ tells verb.now line.now }
+{
+    word(1, line) == verb
+}
+
+fn agree(m: usize, line: &[u8], n: usize, other: &[u8]) -> bool
+    ensures { result ≡ agree m line.now n other.now }
+{
+    word(m, line) == word(n, other)
+}
+
+fn agree_on_place(line: &[u8], other: &[u8]) -> bool
+    ensures { result ≡ agree_on_place line.now other.now }
+{
+    agree(2, line, 2, other) && agree(3, line, 3, other)
+}
+
+// ---- what a line presupposes
+
+fn attaches(above: &[u8], line: &[u8]) -> bool
+    ensures { result ≡ attaches above.now line.now }
+{
+    word(0, line) == b"0".as_slice() || (tells(b"attach", above) && agree(2, above, 0, line))
+}
+
+fn brings(above: &[u8], line: &[u8]) -> bool
+    ensures { result ≡ brings above.now line.now }
+{
+    !(tells(b"take", line) || (tells(b"drop", line) || tells(b"drain", line)))
+        || ((tells(b"put", above) || tells(b"offer", above)) && agree_on_place(above, line))
+}
+
+fn places(placing: &[u8], line: &[u8]) -> bool
+    ensures { result ≡ places placing.now line.now }
+{
+    (tells(b"offer", placing) && agree(5, placing, 2, line))
+        || (tells(b"await", placing) && agree(4, placing, 2, line))
+}
+
+fn is_resolving(line: &[u8]) -> bool
+    ensures { result ≡ is_resolving line.now }
+{
+    tells(b"hand", line)
+        || (tells(b"take", line)
+            || (tells(b"admit", line) || (tells(b"drain", line) || tells(b"wakeclosed", line))))
+}
+
+fn resolves(placing: &[u8], above: &[u8], line: &[u8]) -> bool
+    ensures { result ≡ resolves placing.now above.now line.now }
+{
+    !tells(b"settle", line)
+        || ((tells(b"withdraw", above) && agree(2, above, 2, line))
+            || (is_resolving(above) && (agree_on_place(above, placing) && places(placing, line))))
+}
+
+fn is_cancelling(line: &[u8]) -> bool
+    ensures { result ≡ is_cancelling line.now }
+{
+    tells(b"cancel", line) || (tells(b"attach", line) && word(8, line) == b"cancelled".as_slice())
+}
+
+fn cancels(above: &[u8], line: &[u8]) -> bool
+    ensures { result ≡ cancels above.now line.now }
+{
+    !tells(b"saw", line) || (is_cancelling(above) && agree(2, above, 2, line))
+}
+
+// ---- where it stands
+
+fn line_at<'a>(lines: &[Line<'a>], number: usize) -> Option<Line<'a>>
+    ensures { option_map told result ≡ slice_get (told_lines lines.now) number }
+{
+    lines.get(number).copied()
+}
+
+fn drawn_at<'a>(drawn: &[Drawn<'a>], number: usize) -> Option<Drawn<'a>>
+    ensures { result ≡ slice_get drawn.now number }
+{
+    drawn.get(number).copied()
+}
+
+fn above_row<'a>(row: u32, drawn: Option<Drawn<'a>>) -> &'a [u8]
+    ensures { result.now ≡ above_row row drawn.entry }
+{
+    match drawn {
+        Some(drawn) => text_if(drawn.row < row, drawn.line.text),
+        None => b"",
+    }
+}
+
+fn outside<'a>(tags: &[u32], line: Option<Line<'a>>) -> &'a [u8]
+    ensures { result.now ≡ outside tags.now (option_map told line.entry) }
+{
+    match line {
+        Some(line) => text_if(column_of(line.said, tags).is_none(), line.text),
+        None => b"",
+    }
+}
+
+fn text_if(seen: bool, text: &[u8]) -> &[u8]
+    ensures { result.now ≡ text_if seen text.now }
+{
+    if seen { text } else { b"" }
+}
+
+fn text_or<'a>(line: Option<Line<'a>>) -> &'a [u8]
+    ensures { result.now ≡ text_or (option_map told line.entry) }
+{
+    match line {
+        Some(line) => line.text,
+        None => b"",
+    }
+}
+
+/// The line at a place, if it stands above this row or outside the picture; else an empty one.
+fn line_above<'a>(
+    tags: &[u32],
+    lines: &[Line<'a>],
+    drawn: &[Drawn<'a>],
+    row: u32,
+    place: Place,
+) -> &'a [u8]
+    ensures { result.now ≡ line_above tags.now (told_lines lines.now) drawn.now row place }
+{
+    match place {
+        Place::InPicture(number) => above_row(row, drawn_at(drawn, number)),
+        Place::InReport(number) => outside(tags, line_at(lines, number)),
+    }
+}
+
+fn stands_below<'a>(
+    tags: &[u32],
+    lines: &[Line<'a>],
+    drawn: &[Drawn<'a>],
+    line: Drawn<'a>,
+    sources: Sources,
+) -> bool
+    ensures { result ≡ stands_below tags.now (told_lines lines.now) drawn.now line.entry sources }
+{
+    let text = line.line.text;
+    let attach = line_above(tags, lines, drawn, line.row, sources.attach);
+    let bring = line_above(tags, lines, drawn, line.row, sources.bring);
+    let placing = text_or(line_at(lines, sources.placing));
+    let resolve = line_above(tags, lines, drawn, line.row, sources.resolve);
+    let cancel = line_above(tags, lines, drawn, line.row, sources.cancel);
+    attaches(attach, text)
+        && (brings(bring, text) && (resolves(placing, resolve, text) && cancels(cancel, text)))
+}
+
+/// Whether each line of the picture stands below what it presupposes, which stands where its sources say.
+pub(crate) fn all_stand_below<'a>(
+    tags: &[u32],
+    lines: &[Line<'a>],
+    drawn: &[Drawn<'a>],
+    sources: &[Sources],
+) -> bool
+    ensures { result ≡ all_stand_below tags.now (told_lines lines.now) drawn.now drawn.now sources.now }
+{
+    let mut rest = drawn;
+    let mut places = sources;
+    while let [line, more @ ..] = rest {
+        let [place, others @ ..] = places else {
+            return false;
+        };
+        if !stands_below(tags, lines, drawn, *line, *place) {
+            return false;
+        }
+        rest = more;
+        places = others;
+    }
+    true
+}

@@ -1,0 +1,3 @@
+mod Matched
+mod Meaning
+mod Ranges

@@ -1,0 +1,156 @@
+-- What each outcome of a call says of the words, of what was read and of what was written.
+use Rattle.std.specs.Prelude.{◌≡◌, ℕ, Bool, true, false, List, Option, Some, None, Result, Ok, Err, String, map, string_bytes, option_and_then}
+use Rattle.std.specs.Global.{Global}
+use Rattle.std.specs.Vec.Iter.{into_iter_items}
+use Rattle.std.specs.declared.vec.IntoIter.{IntoIter}
+use lib.Chars.{codes}
+use Rattle.co_base.specs.Streams.{Rose, Gave, GaveJust, IsDrained, Took, TookPart}
+use Rattle.report_reader.specs.Reports.{Line, report_of}
+use Rattle.report_picture.specs.Pictures.{Shows, all_have_columns, tags_of}
+use Rattle.report_picture.specs.Order.{AreOrdered}
+use Rattle.report_picture.specs.Elements.{svg_text}
+use Rattle.report_picture.specs.WellFormed.{IsDocument}
+use Rattle.report_picture.specs.Diagrams.{IsDiagramOf}
+use Rattle.report_picture.specs.declared.picture.Picture.{Picture}
+use Rattle.run_picture.specs.declared.words.Format.{Format}
+use Rattle.run_picture.specs.declared.words.Format.TheVariants.{Svg, Mermaid}
+use Rattle.run_picture.specs.declared.words.Asked.{Asked}
+use Rattle.run_picture.specs.declared.top.Answer.{Answer}
+use Rattle.run_picture.specs.declared.outcome.Shown.{Shown}
+use Rattle.run_picture.specs.declared.outcome.Outcome.{Outcome}
+use Rattle.run_picture.specs.declared.outcome.Outcome.TheVariants as outcomes
+use Rattle.run_picture.specs.declared.outcome.Message.{Message}
+use Rattle.run_picture.specs.declared.outcome.Message.TheVariants as messages
+use Rattle.run_picture.specs.Words.{asked_of}
+
+-- the number with which the process ends
+abbrev pub number_of : Outcome → ℕ
+number_of (outcomes.Drawn shown) = 0
+number_of outcomes.Refused = 2
+number_of (outcomes.NoReport line) = 3
+number_of outcomes.TooLong = 3
+number_of outcomes.ReadFault = 5
+number_of outcomes.WriteFault = 6
+number_of outcomes.NoMemory = 7
+
+-- what standard error says of a picture that was written
+abbrev pub message_of_shown : Bool → Bool → Option Message
+message_of_shown true true = None
+message_of_shown true false = Some messages.NotAll
+message_of_shown false true = Some messages.NoOrder
+message_of_shown false false = Some messages.NoOrderNotAll
+
+-- what standard error says
+abbrev pub message_of : Outcome → Option Message
+message_of (outcomes.Drawn shown) = message_of_shown shown.in_order shown.all
+message_of outcomes.Refused = Some messages.Usage
+message_of (outcomes.NoReport line) = Some (messages.NoReport line)
+message_of outcomes.TooLong = Some messages.TooLong
+message_of outcomes.ReadFault = Some messages.ReadFault
+message_of outcomes.WriteFault = Some messages.WriteFault
+message_of outcomes.NoMemory = Some messages.NoMemory
+
+-- the text is the picture in this format: a well-formed document, or a diagram
+abbrev pub IsWrittenAs : Format → Picture → List ℕ → Type 0
+IsWrittenAs Svg picture text = (text ≡ svg_text picture) × IsDocument (codes "svg") text
+IsWrittenAs Mermaid picture text = IsDiagramOf picture text
+
+-- the text is a picture of a report with these lines, as it is asked for, and shows so much of it
+pub record PicturesLines (asked : Asked) (shown : Shown) (lines : List Line) (text : List ℕ) : Type 0 where
+  pub picture : Picture
+  pub shows : Shows asked.wanted lines picture
+  pub ordered : AreOrdered shown.in_order (tags_of asked.wanted lines) lines picture.lines.items
+  pub all : shown.all ≡ all_have_columns asked.wanted (tags_of asked.wanted lines) lines
+  pub is_text : IsWrittenAs asked.format picture text
+
+-- the input is a report, and the text a picture of it, as it is asked for
+pub record Pictures (asked : Asked) (shown : Shown) (input text : List ℕ) : Type 0 where
+  pub lines : List Line
+  pub is_report : report_of input ≡ Ok lines
+  pub pictured : PicturesLines asked shown lines text
+
+-- the bytes of a source or a sink, and how often it failed
+pub record Stream : Type 0 where
+  pub bytes : Option (List ℕ)
+  pub faults : ℕ
+
+abbrev pub stream : Option (List ℕ) → ℕ → Stream
+stream bytes faults = record { bytes = bytes; faults = faults }
+
+-- the source gave a report, and the text is a picture of it, as it is asked for
+pub record Answers (asked : Option Asked) (shown : Shown) (source source' : Stream) (text : List ℕ) : Type 0 where
+  pub what : Asked
+  pub is_asked : asked ≡ Some what
+  pub input : List ℕ
+  pub given : Gave source.bytes source'.bytes input
+  pub drained : IsDrained source'.bytes
+  pub pictures : Pictures what shown input text
+
+-- the picture was written whole
+pub record Draws (asked : Option Asked) (shown : Shown) (source source' sink sink' : Stream) : Type 0 where
+  pub text : List ℕ
+  pub answers : Answers asked shown source source' text
+  pub taken : Took sink.bytes sink'.bytes text
+
+-- the sink failed after a part of the picture
+pub record BreaksOff (asked : Option Asked) (source source' sink sink' : Stream) : Type 0 where
+  pub rose : Rose sink.faults sink'.faults
+  pub shown : Shown
+  pub text : List ℕ
+  pub answers : Answers asked shown source source' text
+  pub part : TookPart text sink.bytes sink'.bytes
+
+-- the words ask for a picture
+abbrev pub IsAsked : Option Asked → Type 0
+IsAsked None = ⊥
+IsAsked (Some what) = Unit {0}
+
+-- the source gave a text that is no report, of which this is the first line that is none
+pub record RefusesAt (line : ℕ) (source source' : Stream) : Type 0 where
+  pub input : List ℕ
+  pub given : Gave source.bytes source'.bytes input
+  pub drained : IsDrained source'.bytes
+  pub no_report : report_of input ≡ Err line
+
+-- why a call has no picture to write; that no memory was found says nothing
+abbrev pub Fails : Outcome → Option Asked → Stream → Stream → Type 0
+Fails (outcomes.Drawn shown) asked source source' = ⊥
+Fails outcomes.Refused asked source source' = (asked ≡ None) × (source ≡ source')
+Fails (outcomes.NoReport line) asked source source' = IsAsked asked × RefusesAt line source source'
+Fails outcomes.TooLong asked source source' = IsAsked asked × GaveJust 1048577 source.bytes source'.bytes
+Fails outcomes.ReadFault asked source source' = IsAsked asked × Rose source.faults source'.faults
+Fails outcomes.WriteFault asked source source' = ⊥
+Fails outcomes.NoMemory asked source source' = Unit {0}
+
+-- what a call comes to that has this text to write, or none
+abbrev pub IsMade : Result Answer Outcome → Option Asked → Stream → Stream → Type 0
+IsMade (Ok answer) asked source source' = Answers asked answer.shown source source' answer.text.items
+IsMade (Err outcome) asked source source' = Fails outcome asked source source'
+
+-- the same of the bytes of the input
+abbrev pub IsMadeOf : Asked → List ℕ → Result Answer Outcome → Type 0
+IsMadeOf asked input (Ok answer) = Pictures asked answer.shown input answer.text.items
+IsMadeOf asked input (Err (outcomes.NoReport line)) = report_of input ≡ Err line
+IsMadeOf asked input (Err outcomes.NoMemory) = Unit {0}
+IsMadeOf asked input (Err other) = ⊥
+
+-- what each outcome says: a picture was written whole, or a part of it until a write failed, or nothing was written
+abbrev pub Means : Outcome → Option Asked → Stream → Stream → Stream → Stream → Type 0
+Means (outcomes.Drawn shown) asked source source' sink sink' = Draws asked shown source source' sink sink'
+Means outcomes.WriteFault asked source source' sink sink' = BreaksOff asked source source' sink sink'
+Means other asked source source' sink sink' = Fails other asked source source' × (sink ≡ sink')
+
+-- what a write of a picture came to
+abbrev pub IsWritten : Outcome → Answer → Stream → Stream → Type 0
+IsWritten (outcomes.Drawn shown) answer sink sink' = (shown ≡ answer.shown) × Took sink.bytes sink'.bytes answer.text.items
+IsWritten outcomes.WriteFault answer sink sink' = Rose sink.faults sink'.faults × TookPart answer.text.items sink.bytes sink'.bytes
+IsWritten other answer sink sink' = ⊥
+
+-- the arguments that the system gives; where one is no text it gives none
+abbrev pub arguments_given : {E : Type 0} → Result (IntoIter (String Global) Global) E → Option (List (String Global))
+arguments_given (Ok arguments) = Some (into_iter_items arguments)
+arguments_given (Err error) = None
+
+-- what the arguments ask for
+abbrev pub asked_for : {E : Type 0} → Result (IntoIter (String Global) Global) E → Option Asked
+asked_for arguments = option_and_then (λ all. asked_of (map string_bytes all)) (arguments_given arguments)

@@ -1,0 +1,123 @@
+//! The whole call, over any source and sink.
+
+ghost use Rattle.std.specs.Prelude.{◌≤◌, IfOk, Some, length, map, string_bytes};
+ghost use Rattle.report_reader.specs.Reading.{told_lines};
+ghost use Rattle.run_picture.specs.Words.{asked_of};
+ghost use Rattle.run_picture.specs.Outcomes.{IsMade, IsMadeOf, IsWritten, IsWrittenAs, Means, PicturesLines, stream};
+
+use crate::outcome::{Outcome, Shown};
+use crate::words::{Asked, Format, asked_of};
+use co_base::{Memory, ReadError, Sink, Source, read_script, write_all};
+use report_picture::{Picture, draw, mermaid, svg};
+use report_reader::{Line, NoReport, read};
+use std::alloc::{AllocError, Global};
+
+/// A picture as a text, and how far it shows the report.
+#[derive(Drop)]
+pub struct Answer {
+    pub shown: Shown,
+    pub text: Vec<u8>,
+}
+
+/// Draws what the words ask for, of which the first is the program's name: reads a report from the source, and writes a picture of it.
+///
+/// The order is words, report, picture; the text is made whole before its first byte is written.
+pub fn picture_main<S: Source, K: Sink>(
+    alloc: Global,
+    words: &[String],
+    source: &mut S,
+    sink: &mut K,
+) -> Outcome
+    ensures { Means result (asked_of (map string_bytes words.now)) (stream (S.left source.old) (S.faults source.old))
+        (stream (S.left source.new) (S.faults source.new)) (stream (K.held sink.old) (K.faults sink.old))
+        (stream (K.held sink.new) (K.faults sink.new)) }
+{
+    match make_answer(alloc, words, source) {
+        Ok(answer) => written(sink, &answer),
+        Err(outcome) => outcome,
+    }
+}
+
+/// Writes the picture.
+fn written<K: Sink>(sink: &mut K, answer: &Answer) -> Outcome
+    ensures { IsWritten result answer.now (stream (K.held sink.old) (K.faults sink.old))
+        (stream (K.held sink.new) (K.faults sink.new)) }
+{
+    match write_all(sink, answer.text.as_slice()) {
+        Ok(()) => Outcome::Drawn(answer.shown),
+        Err(_) => Outcome::WriteFault,
+    }
+}
+
+/// Makes the picture that the words ask for.
+fn make_answer<S: Source>(
+    alloc: Global,
+    words: &[String],
+    source: &mut S,
+) -> Result<Answer, Outcome>
+    ensures { IsMade result (asked_of (map string_bytes words.now)) (stream (S.left source.old) (S.faults source.old))
+        (stream (S.left source.new) (S.faults source.new)) }
+{
+    match asked_of(alloc, words) {
+        Ok(Some(asked)) => read_answer(alloc, asked, source),
+        Ok(None) => Err(Outcome::Refused),
+        Err(_) => Err(Outcome::NoMemory),
+    }
+}
+
+/// Makes the picture that is asked for of what the source gives.
+fn read_answer<S: Source>(alloc: Global, asked: Asked, source: &mut S) -> Result<Answer, Outcome>
+    ensures { IsMade result (Some asked) (stream (S.left source.old) (S.faults source.old))
+        (stream (S.left source.new) (S.faults source.new)) }
+{
+    match read_script(alloc, source) {
+        Ok(bytes) => answer_of(alloc, asked, bytes.as_slice()),
+        Err(ReadError::TooLong) => Err(Outcome::TooLong),
+        Err(ReadError::ReadFault) => Err(Outcome::ReadFault),
+        Err(ReadError::Memory) => Err(Outcome::NoMemory),
+    }
+}
+
+/// Makes the picture of a text, if it is a report.
+fn answer_of(alloc: Global, asked: Asked, bytes: &[u8]) -> Result<Answer, Outcome>
+    requires { length bytes.now ≤ 1048576 }
+    ensures { IsMadeOf asked bytes.now result }
+{
+    match read(alloc, bytes) {
+        Ok(lines) => match picture_of(alloc, asked, lines.as_slice()) {
+            Ok(answer) => Ok(answer),
+            Err(_) => Err(Outcome::NoMemory),
+        },
+        Err(NoReport::AtLine(line)) => Err(Outcome::NoReport(line)),
+        Err(NoReport::Memory) => Err(Outcome::NoMemory),
+    }
+}
+
+/// Makes the picture of a report with these lines.
+fn picture_of(alloc: Global, asked: Asked, lines: &[Line]) -> Result<Answer, Memory>
+    ensures { IfOk result (λ answer. PicturesLines asked answer.shown (told_lines lines.now) answer.text.items) }
+{
+    let drawing = draw(alloc, asked.wanted, lines)?;
+    let text = text_of(alloc, asked.format, &drawing.picture)?;
+    let shown = Shown {
+        in_order: drawing.in_order,
+        all: drawing.all,
+    };
+    Ok(Answer { shown, text })
+}
+
+/// The text of a picture.
+fn text_of(alloc: Global, format: Format, picture: &Picture) -> Result<Vec<u8>, AllocError>
+    ensures { IfOk result (λ text. IsWrittenAs format picture.now text.items) }
+{
+    match format {
+        Format::Svg => {
+            let text = svg(alloc, picture)?;
+            Ok(text)
+        }
+        Format::Mermaid => {
+            let text = mermaid(alloc, picture)?;
+            Ok(text)
+        }
+    }
+}

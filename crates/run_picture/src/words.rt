@@ -1,0 +1,162 @@
+//! Which words are accepted, and what they ask for.
+
+ghost use Rattle.std.specs.Prelude.{◌≡◌, ◌≢◌, IfOk, Some, false, map, option_map, option_and_then, string_bytes, true};
+ghost use lib.Chars.{codes};
+ghost use Rattle.clap.specs.Words.{app_of, first_of, found_of, is_simple_and_free, rows_of, rule_of};
+ghost use Rattle.run_picture.specs.Words.{asked_by, asked_of, format_of, matches_by, option, picture_line, range_between, range_of, wanted_of};
+
+use clap::error::ErrorKind;
+use clap::{Arg, ArgMatches, Error};
+use co_base::Memory;
+use report_picture::Wanted;
+use report_reader::{cut_at, value_of};
+use std::alloc::Global;
+
+/// How a picture is written.
+#[derive(Clone, Copy)]
+pub enum Format {
+    Svg,
+    Mermaid,
+}
+
+/// What a call asks for.
+#[derive(Clone, Copy)]
+pub struct Asked {
+    pub format: Format,
+    pub wanted: Wanted,
+}
+
+/// What the words ask for, of which the first is the program's name.
+pub fn asked_of(alloc: Global, words: &[String]) -> Result<Option<Asked>, Memory>
+    ensures { IfOk result (λ asked. asked ≡ asked_of (map string_bytes words.now)) }
+{
+    let Some(matches) = matches_of(picture_line(alloc)?, words)? else {
+        return Ok(None);
+    };
+    let Some(format) = format_in(&matches) else {
+        return Ok(None);
+    };
+    let Some(wanted) = wanted_in(&matches) else {
+        return Ok(None);
+    };
+    Ok(Some(Asked { format, wanted }))
+}
+
+// ---- the command line
+
+/// `run_picture [--format svg|mermaid] [--coroutines A-B]`.
+fn picture_line<'a>(alloc: Global) -> Result<clap::Command<'a>, Memory>
+    ensures { IfOk result (λ line. app_of line ≡ picture_line) }
+{
+    let line = clap::Command::new(alloc, "run_picture")
+        .arg(option(alloc, "format"))?
+        .arg(option(alloc, "coroutines"))?;
+    Ok(line)
+}
+
+/// An option with a value.
+fn option<'a>(alloc: Global, name: &'a str) -> Arg<'a>
+    ensures rule { rule_of result ≡ option name.now }
+    ensures local { result.global ≡ false }
+{
+    Arg::new(alloc, name).long(name)
+}
+
+/// The matches of the words, if they have any.
+fn matches_of<'a>(
+    line: clap::Command<'a>,
+    words: &'a [String],
+) -> Result<Option<ArgMatches<'a>>, Memory>
+    requires { is_simple_and_free (app_of line) ≡ true }
+    ensures { IfOk result (λ found. option_map (λ m. rows_of (found_of m)) found
+        ≡ matches_by (app_of line.entry) (map string_bytes words.now)) }
+{
+    match line.try_get_matches_from(words) {
+        Ok(matches) => Ok(Some(matches)),
+        Err(error) => {
+            if is_memory(error.kind()) {
+                Err(Memory)
+            } else {
+                Ok(None)
+            }
+        }
+    }
+}
+
+/// Whether it is for want of memory that clap has no matches.
+fn is_memory(kind: ErrorKind) -> bool
+    ensures { result ≡ false → kind ≢ ErrorKind.OutOfMemory }
+{
+    matches!(kind, ErrorKind::OutOfMemory)
+}
+
+// ---- the values
+
+fn format_in(matches: &ArgMatches<'_>) -> Option<Format>
+    ensures { result ≡ format_of (first_of (codes "format") (rows_of (found_of matches.now))) }
+{
+    format_of(matches.get_str("format"))
+}
+
+fn format_of(word: Option<&str>) -> Option<Format>
+    ensures { result ≡ format_of (option_map (λ w. w.now) word.entry) }
+{
+    match word {
+        Some(word) => format_named(word),
+        None => Some(Format::Svg),
+    }
+}
+
+fn format_named(word: &str) -> Option<Format>
+    ensures { result ≡ format_of (Some word.now) }
+{
+    if word == "svg" {
+        Some(Format::Svg)
+    } else if word == "mermaid" {
+        Some(Format::Mermaid)
+    } else {
+        None
+    }
+}
+
+fn wanted_in(matches: &ArgMatches<'_>) -> Option<Wanted>
+    ensures { result ≡ wanted_of (first_of (codes "coroutines") (rows_of (found_of matches.now))) }
+{
+    wanted_of(matches.get_str("coroutines"))
+}
+
+fn wanted_of(word: Option<&str>) -> Option<Wanted>
+    ensures { result ≡ wanted_of (option_map (λ w. w.now) word.entry) }
+{
+    match word {
+        Some(word) => range_of(word.as_bytes()),
+        None => Some(Wanted {
+            first: 0,
+            last: u32::MAX,
+        }),
+    }
+}
+
+/// The range that a word is: two numbers with a hyphen between them, of which the second is not less.
+fn range_of(word: &[u8]) -> Option<Wanted>
+    ensures { result ≡ range_of word.now }
+{
+    let (low, behind) = cut_at(b'-', word);
+    let Some(rest) = behind else {
+        return None;
+    };
+    let (high, more) = cut_at(b'-', rest);
+    if more.is_some() {
+        return None;
+    }
+    range_between(value_of(low), value_of(high))
+}
+
+fn range_between(first: Option<u32>, last: Option<u32>) -> Option<Wanted>
+    ensures { result ≡ range_between first last }
+{
+    match (first, last) {
+        (Some(first), Some(last)) if first <= last => Some(Wanted { first, last }),
+        _ => None,
+    }
+}
