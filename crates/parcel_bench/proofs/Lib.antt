@@ -1,0 +1,2 @@
+pub mod PassesKept
+pub mod TagsEnded

@@ -1,0 +1,2 @@
+pub mod ClosesSeen
+pub mod TagsEnded

@@ -1,0 +1,147 @@
+//! Calls on channels of owned values, one after the other.
+
+use crate::parcel_calls::{
+    Three, cancel, close_and_wake, drain_one, look_at, new_channel, receive_first, rest_of,
+    send_first, take_back,
+};
+use channel_model::{Kind, WaitState, Withdrawn};
+use co_base::Value;
+use parcel_channel::{ParcelGot, ParcelSent, ParcelSettled};
+use std::test::Fail;
+
+#[test]
+fn a_value_that_was_handed_to_a_cancelled_receiver_is_given_up(
+    rt: HostRuntime,
+) -> Result<(), Fail> {
+    let (hub, three) = new_channel::<Value>(rt.alloc(), Kind::Rendezvous, 4, 4)?;
+    let Three {
+        main,
+        mut one,
+        mut two,
+    } = three;
+    let Some(wait) = receive_first(&hub, &mut one) else {
+        panic!(rt; "nobody sends yet")
+    };
+    assert!(rt; wait.place == 0);
+    assert!(rt; matches!(hub.send(&mut two, 70), ParcelSent::Sent(Some(1))));
+    assert!(rt; take_back(&hub, &mut one, wait) == Withdrawn::Late);
+    assert!(rt;
+        matches!(
+            hub.settle(&mut one, wait, true),
+            ParcelSettled::Undelivered(70)
+        )
+    );
+    let rest = rest_of(hub, main, one, two);
+    assert!(rt; rest.len() == 4);
+    assert!(rt; rest.iter().all(|value| value.is_none()));
+    Ok(())
+}
+
+#[test]
+fn an_offer_that_is_withdrawn_comes_back(rt: HostRuntime) -> Result<(), Fail> {
+    let (hub, three) = new_channel::<Value>(rt.alloc(), Kind::Rendezvous, 4, 1)?;
+    let Three { main, mut one, two } = three;
+    let Some(wait) = send_first(&hub, &mut one, 70) else {
+        panic!(rt; "nobody receives yet")
+    };
+    assert!(rt; wait.place == 0);
+    assert!(rt; take_back(&hub, &mut one, wait) == Withdrawn::Done(1));
+    assert!(rt;
+        matches!(
+            hub.settle(&mut one, wait, true),
+            ParcelSettled::Cancelled(Some(70))
+        )
+    );
+    assert!(rt; matches!(hub.send(&mut one, 71), ParcelSent::NoParcel(71)));
+    let rest = rest_of(hub, main, one, two);
+    assert!(rt; rest.iter().all(|value| value.is_none()));
+    Ok(())
+}
+
+#[test]
+fn a_closed_channel_gives_the_value_back(rt: HostRuntime) -> Result<(), Fail> {
+    let (hub, three) = new_channel::<Value>(rt.alloc(), Kind::Rendezvous, 4, 1)?;
+    let Three {
+        main,
+        mut one,
+        mut two,
+    } = three;
+    assert!(rt; hub.close(&mut two, 4).is_ok());
+    assert!(rt; matches!(hub.send(&mut one, 70), ParcelSent::Closed(70, 4)));
+    let rest = rest_of(hub, main, one, two);
+    assert!(rt; rest.iter().all(|value| value.is_none()));
+    Ok(())
+}
+
+#[test]
+fn a_channel_without_a_place_gives_the_value_back(rt: HostRuntime) -> Result<(), Fail> {
+    let (hub, three) = new_channel::<Value>(rt.alloc(), Kind::Unlimited, 1, 2)?;
+    let Three { main, mut one, two } = three;
+    assert!(rt; matches!(hub.send(&mut one, 70), ParcelSent::Sent(None)));
+    assert!(rt; matches!(hub.send(&mut one, 71), ParcelSent::Spent(71)));
+    let rest = rest_of(hub, main, one, two);
+    assert!(rt; rest.len() == 2);
+    assert!(rt; matches!(rest.first(), Some(Some(70))));
+    assert!(rt; matches!(rest.last(), Some(None)));
+    Ok(())
+}
+
+#[test]
+fn a_receiver_is_told_of_the_close(rt: HostRuntime) -> Result<(), Fail> {
+    let (hub, three) = new_channel::<Value>(rt.alloc(), Kind::Rendezvous, 4, 1)?;
+    let Three {
+        main,
+        mut one,
+        mut two,
+    } = three;
+    let Some(wait) = receive_first(&hub, &mut one) else {
+        panic!(rt; "nobody sends yet")
+    };
+    assert!(rt; look_at(&hub, &mut one, wait) == WaitState::Standing);
+    assert!(rt; matches!(close_and_wake(&hub, &mut two, 4), (true, Some(1))));
+    let WaitState::Resolved = look_at(&hub, &mut one, wait) else {
+        panic!(rt; "it was told")
+    };
+    assert!(rt; matches!(hub.settle(&mut one, wait, false), ParcelSettled::Closed(4)));
+    let rest = rest_of(hub, main, one, two);
+    assert!(rt; rest.iter().all(|value| value.is_none()));
+    Ok(())
+}
+
+#[test]
+fn an_admitted_value_is_drained(rt: HostRuntime) -> Result<(), Fail> {
+    let (hub, three) = new_channel::<Value>(rt.alloc(), Kind::Buffered(1), 4, 4)?;
+    let Three {
+        main,
+        mut one,
+        mut two,
+    } = three;
+    assert!(rt; matches!(hub.send(&mut one, 70), ParcelSent::Sent(None)));
+    let Some(wait) = send_first(&hub, &mut one, 71) else {
+        panic!(rt; "the channel is full")
+    };
+    assert!(rt; wait.place == 1);
+    assert!(rt; matches!(hub.receive(&mut two), ParcelGot::Value(70, None)));
+    assert!(rt; matches!(cancel(&hub, &mut one), (true, true)));
+    assert!(rt; matches!(drain_one(&hub, &mut one), Some((Some(71), None))));
+    assert!(rt; drain_one(&hub, &mut one).is_none());
+    let rest = rest_of(hub, main, one, two);
+    assert!(rt; rest.iter().all(|value| value.is_none()));
+    Ok(())
+}
+
+#[test]
+fn who_meets_another_has_seen_what_it_saw(rt: HostRuntime) -> Result<(), Fail> {
+    let (hub, three) = new_channel::<Value>(rt.alloc(), Kind::Unlimited, 4, 4)?;
+    let Three {
+        main,
+        mut one,
+        mut two,
+    } = three;
+    assert!(rt; matches!(hub.send(&mut one, 70), ParcelSent::Sent(None)));
+    hub.meet(&mut two, &mut one);
+    assert!(rt; matches!(hub.receive(&mut two), ParcelGot::Value(70, None)));
+    let rest = rest_of(hub, main, one, two);
+    assert!(rt; rest.iter().all(|value| value.is_none()));
+    Ok(())
+}
