@@ -1,2 +1,1 @@
 pub mod ClosesSeen
-pub mod LooksBeforeCalls

@@ -4,14 +4,15 @@ ghost use Rattle.channel_model.specs.declared.acts.Kind.TheVariants.{Signal};
 ghost use Rattle.cell_words.specs.Hubs.{shape_of, IsOwn};
 ghost use Rattle.job_words.specs.Forests.{IsOwn as IsOwnOfJobs};
 
-use crate::job_calls::{JobAnswer, JobCall, make_by, meet_jobs, sees_job, split_jobs};
+use crate::job_calls::sees_job;
 use crate::pass_calls::meet_passes;
 use cell_calls::{close, receive};
 use cell_words::{Hub, Pass};
 use channel_model::{Got, Kind};
 use co_base::Memory;
+use forest_shares::{Answer, Call, make_by, meet_both, new_forest, split_off};
 use future_bridge::{HostDrive, Spent, await_job};
-use job_model::{End, Ended, Finished};
+use job_model::{Attached, End, Ended, Finished, JobKind};
 use job_words::{Forest, JobPass};
 use std::alloc::Global;
 use std::test::Fail;
@@ -38,8 +39,8 @@ fn new_family(alloc: Global) -> Result<Family, Memory>
 {
     let (hub, mut root) = Hub::new(alloc, &[(Kind::Signal, 1), (Kind::Signal, 1)])?;
     let child = hub.split(&mut root, 1);
-    let (forest, mut root_jobs) = Forest::new(alloc, 2, 0)?;
-    let child_jobs = split_jobs(&forest, &mut root_jobs);
+    let (forest, mut root_jobs) = new_forest(alloc, 2, 0)?;
+    let child_jobs = split_off(&forest, &mut root_jobs, 1);
     Ok(Family {
         hub,
         forest,
@@ -49,6 +50,51 @@ fn new_family(alloc: Global) -> Result<Family, Memory>
         child_jobs,
     })
 }
+
+/// The root attaches the other coroutine, whose body then ends with 9: both answers.
+fn attach_and_end(
+    alloc: Global,
+    forest: &Forest,
+    root: &mut JobPass,
+    child: &mut JobPass,
+) -> Result<(Answer, Answer), Memory>
+    requires size { forest.now.size.coroutines ≡ 2 }
+    requires root { IsOwnOfJobs forest.now root.old 0 }
+    requires child { IsOwnOfJobs forest.now child.old 1 }
+    ensures root { IsOwnOfJobs forest.now root.new 0 }
+    ensures child { IsOwnOfJobs forest.now child.new 1 }
+{
+    let kind = JobKind {
+        supervisor: false,
+        scoped: false,
+        lazy: false,
+    };
+    let attach = Call::Attach {
+        parent: 0,
+        kind,
+        tag: 1,
+    };
+    let attached = make_by(forest, 2, root, alloc, 0, attach)?;
+    meet_both(forest, root, 0, child, 1);
+    let ended = make_by(
+        forest,
+        2,
+        child,
+        alloc,
+        1,
+        Call::EndBody { row: 1, value: 9 },
+    )?;
+    Ok((attached, ended))
+}
+
+/// What both calls answer if the tag was free and no child lives.
+const ATTACHED_AND_ENDED: (Answer, Answer) = (
+    Answer::Attached(Ok(Attached {
+        row: 1,
+        cancelled: false,
+    })),
+    Answer::Ended(Ended::Owes),
+);
 
 #[test]
 fn a_job_that_ended_gives_its_result(rt: HostRuntime) -> Result<(), Fail> {
@@ -60,20 +106,18 @@ fn a_job_that_ended_gives_its_result(rt: HostRuntime) -> Result<(), Fail> {
         mut child,
         mut child_jobs,
     } = new_family(rt.alloc())?;
-    let attached = make_by(&forest, &mut root_jobs, 0, JobCall::Attach);
-    assert_eq!(rt; attached, JobAnswer::Attached(true));
-    meet_jobs(&forest, &mut root_jobs, 0, &mut child_jobs, 1);
-    let ended = make_by(&forest, &mut child_jobs, 1, JobCall::EndBody(9));
-    assert_eq!(rt; ended, JobAnswer::Ended(Ended::Owes));
-    meet_jobs(&forest, &mut root_jobs, 0, &mut child_jobs, 1);
-    let finished = make_by(&forest, &mut child_jobs, 1, JobCall::Finish);
+    let answers = attach_and_end(rt.alloc(), &forest, &mut root_jobs, &mut child_jobs)?;
+    assert_eq!(rt; answers, ATTACHED_AND_ENDED);
+    meet_both(&forest, &mut root_jobs, 0, &mut child_jobs, 1);
+    let finish = Call::Finish { row: 1 };
+    let finished = make_by(&forest, 2, &mut child_jobs, rt.alloc(), 1, finish)?;
     assert_eq!(rt;
         finished,
-        JobAnswer::Finished(Finished::Now(End::Completed(9)))
+        Answer::Finished(Finished::Now(End::Completed(9)))
     );
     meet_passes(&hub, &mut root, 0, &mut child, 1);
     assert_eq!(rt; close(&hub, &mut child, 1, 1, 9), Ok(()));
-    meet_jobs(&forest, &mut root_jobs, 0, &mut child_jobs, 1);
+    meet_both(&forest, &mut root_jobs, 0, &mut child_jobs, 1);
     if !sees_job(&forest, &mut root_jobs, 0, 1) {
         panic!(rt; "attached");
     }
@@ -96,14 +140,11 @@ fn a_job_whose_done_channel_is_spent_gives_no_result(rt: HostRuntime) -> Result<
         mut child,
         mut child_jobs,
     } = new_family(rt.alloc())?;
-    let attached = make_by(&forest, &mut root_jobs, 0, JobCall::Attach);
-    assert_eq!(rt; attached, JobAnswer::Attached(true));
-    meet_jobs(&forest, &mut root_jobs, 0, &mut child_jobs, 1);
-    let ended = make_by(&forest, &mut child_jobs, 1, JobCall::EndBody(9));
-    assert_eq!(rt; ended, JobAnswer::Ended(Ended::Owes));
+    let answers = attach_and_end(rt.alloc(), &forest, &mut root_jobs, &mut child_jobs)?;
+    assert_eq!(rt; answers, ATTACHED_AND_ENDED);
     meet_passes(&hub, &mut root, 0, &mut child, 1);
     assert_eq!(rt; receive(&hub, &mut child, 1, 1), Got::Waiting(0));
-    meet_jobs(&forest, &mut root_jobs, 0, &mut child_jobs, 1);
+    meet_both(&forest, &mut root_jobs, 0, &mut child_jobs, 1);
     if !sees_job(&forest, &mut root_jobs, 0, 1) {
         panic!(rt; "attached");
     }

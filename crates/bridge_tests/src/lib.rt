@@ -3,7 +3,7 @@
 //! - `pass_calls`: offers, receives and closes of one pass
 //! - `streams`: what streams give
 //! - `lists`: what comes of a list that is sent
-//! - `job_calls`: calls on a forest, each made if what it asks was seen
+//! - `job_calls`: whether a pass of a forest has seen a Job attached
 //! - `jobs`: what futures of Jobs give
 //! - `together`: a sender and a receiver under one drive
 //! - `at_once`: a sender and a receiver by a thread each
