@@ -1,12 +1,12 @@
 -- What one call on a channel tells, and how it is answered.
 use Rattle.std.specs.Prelude.{◌≡◌, ℕ, ◌+◌, Bool, true, false, List, [], ◌∷◌, ◌++◌, map}
 use Rattle.co_base.specs.declared.names.WaitId.{WaitId}
-use Rattle.channel_model.specs.declared.acts.Act.TheVariants.{Hand, Put, Offer, Await, Take, Admit, Drop, Close, Void, Drain, WakeClosed, Withdraw, Settle}
+use Rattle.channel_model.specs.declared.acts.Act.TheVariants.{Hand, Put, Offer, Await, Take, Admit, Drop, Spurn, Close, Void, Drain, WakeClosed, Withdraw, Settle}
 use Rattle.channel_model.specs.declared.acts.Why.TheVariants as why
 use Rattle.channel_model.specs.declared.acts.Settled.{Settled}
 use Rattle.channel_model.specs.declared.acts.Settled.TheVariants as settled
 use Rattle.channel_model.specs.declared.acts.ChannelNote.TheVariants.{SendClosed, TrySendClosed, ReceiveClosed, TryReceiveClosed, AlreadyClosed, Full, Empty, Spent, Partner, MainResolved, Late}
-use Rattle.call_meaning.specs.Telling.{Told, on_channels, WasFull, SpentForOffers, SpentForReceives, ReceiverAt, OfferAt, NextIs, NoneToAdmit, FitsUpTo, NoReceiver, IsVoided, NothingQueued, TakenBack, made, heard}
+use Rattle.call_meaning.specs.Telling.{Told, on_channels, WasFull, SpentForOffers, SpentForReceives, ReceiverAt, OfferAt, NextIs, NoneToAdmit, FitsUpTo, StandsWithRoom, NoReceiver, IsVoided, NothingQueued, TakenBack, made, heard}
 
 -- what is asked of a channel: to send it an element, or to receive from it
 pub data Call : Type 0 where
@@ -44,6 +44,19 @@ pub record Drops (c q : ℕ) (group : List Told) : Type 0 where
   pub dropped : List (ℕ × ℕ)
   pub all : group ≡ map (λ d. made (Drop c d.0 d.1)) dropped ++ on_channels (FitsUpTo c q) ∷ []
 
+-- after a put at place q: Spurn, and the element itself is gone; or it does not stand, or not behind too many
+pub data Spurns (c q : ℕ) : List Told → Type 0 where
+  gone : (v : ℕ) → Spurns c q (made (Spurn c q v) ∷ [])
+  stays : Spurns c q (on_channels (StandsWithRoom c q) ∷ [])
+
+-- Drop*, then Spurn or nothing: what follows a put at place q
+pub record Overflows (c q : ℕ) (group : List Told) : Type 0 where
+  pub drops : List Told
+  pub spurns : List Told
+  pub dropped : Drops c q drops
+  pub spurned : Spurns c q spurns
+  pub all : group ≡ drops ++ spurns
+
 -- WakeClosed*: after a close, until no receiver stands
 pub record Wakes (c : ℕ) (group : List Told) : Type 0 where
   pub places : List ℕ
@@ -74,7 +87,7 @@ pub data CancelsChannel (c : ℕ) : List Told → Type 0 where
 -- a partner, or room
 pub data AtOnce : Call → List Told → Answer → Type 0 where
   hands : (c v q : ℕ) → AtOnce (sends c v) (made (Hand c q v) ∷ []) Done
-  puts : (c v q : ℕ) (drops : List Told) → Drops c q drops → AtOnce (sends c v) (made (Put c q v) ∷ drops) Done
+  puts : (c v q : ℕ) (more : List Told) → Overflows c q more → AtOnce (sends c v) (made (Put c q v) ∷ more) Done
   takes : (c v q : ℕ) (admits : List Told) → Admits c admits
       → AtOnce (receives c) (made (Take c q v) ∷ admits) (Got v)
 

@@ -11,6 +11,7 @@ use Rattle.channel_model.specs.declared.standing.Resolution.{Resolution}
 use Rattle.channel_model.specs.declared.standing.Resolution.TheVariants.{Withdrawn, Voided}
 use Rattle.channel_model.specs.Channels.{Shape, State, Channel, Wait, kind_at, places_at, is_full, suspends, drops}
 use Rattle.channel_model.specs.Answers.{IsSpentForOffers, IsSpentForReceives, IsFullAt, IsResolvedWait}
+use Rattle.channel_model.specs.Owing.{owes_spurn_at}
 use Rattle.job_model.specs.declared.acts.End.{End}
 use Rattle.job_model.specs.declared.acts.End.TheVariants as ends
 use Rattle.job_model.specs.declared.acts.JobState.{JobState}
@@ -24,7 +25,7 @@ use Rattle.job_model.specs.Cancels.{AreCancelsBelow, IsAllCancelled}
 use Rattle.job_model.specs.Failures.{FailsUp}
 use Rattle.note_book.specs.declared.book.Item.{Item}
 use Rattle.note_book.specs.declared.book.Item.TheVariants as item
-use Rattle.call_meaning.specs.Telling.{ChannelFact, JobFact, Told, note, on_channels, on_jobs, WasFull, SpentForOffers, SpentForReceives, ReceiverAt, OfferAt, NextIs, NoneToAdmit, FitsUpTo, NoReceiver, IsVoided, NothingQueued, TakenBack, MayRun, NotNew, IsCancelling, HasEnded, PassedBelow, FailedUp, ParentIs, OwesNoEnd}
+use Rattle.call_meaning.specs.Telling.{ChannelFact, JobFact, Told, note, on_channels, on_jobs, WasFull, SpentForOffers, SpentForReceives, ReceiverAt, OfferAt, NextIs, NoneToAdmit, FitsUpTo, StandsWithRoom, NoReceiver, IsVoided, NothingQueued, TakenBack, MayRun, NotNew, IsCancelling, HasEnded, PassedBelow, FailedUp, ParentIs, OwesNoEnd}
 
 -- ---- notes of channels
 
@@ -143,6 +144,8 @@ ChannelFactHolds shape (NextIs c mark) s = (s.channels c).next ≡ mark
 ChannelFactHolds shape (NoneToAdmit c mark) s = owes_below mark (kind_at shape c) 0 (s.channels c).queue ≡ false
 -- a kind that drops has at most capacity offers up to this place
 ChannelFactHolds shape (FitsUpTo c q) s = drops (kind_at shape c) (offers_up_to q (s.channels c).queue) ≡ false
+-- no offer stands at this place, or fewer than capacity offers before it, if the kind does not keep its latest
+ChannelFactHolds shape (StandsWithRoom c q) s = owes_spurn_at (kind_at shape c) q 0 (s.channels c).queue ≡ false
 ChannelFactHolds shape (NoReceiver c) s = (s.channels c).receivers ≡ []
 ChannelFactHolds shape (IsVoided c) s = (s.channels c).voided ≡ true
 ChannelFactHolds shape (NothingQueued c) s = (s.channels c).queue ≡ []

@@ -23,6 +23,7 @@ pub data ChannelFact : Type 0 where
   NextIs : (c mark : ℕ) → ChannelFact
   NoneToAdmit : (c mark : ℕ) → ChannelFact
   FitsUpTo : (c place : ℕ) → ChannelFact
+  StandsWithRoom : (c place : ℕ) → ChannelFact
   NoReceiver : (c : ℕ) → ChannelFact
   IsVoided : (c : ℕ) → ChannelFact
   NothingQueued : (c : ℕ) → ChannelFact

@@ -5,7 +5,7 @@ use Rattle.channel_model.specs.declared.acts.Act.{Act}
 use Rattle.channel_model.specs.declared.acts.Act.TheVariants.{Hand, Put, Offer, Await, Take, Admit, Drop, Close, Void, Drain, WakeClosed, Withdraw, Settle}
 use Rattle.channel_model.specs.declared.acts.Entry.{Entry}
 use Rattle.channel_model.specs.declared.acts.Kind.{Kind}
-use Rattle.channel_model.specs.declared.acts.Kind.TheVariants.{Rendezvous, Buffered, Unlimited, Conflated, DropOldest, Signal}
+use Rattle.channel_model.specs.declared.acts.Kind.TheVariants.{Rendezvous, Buffered, Unlimited, Conflated, DropOldest, DropLatest, Signal}
 use Rattle.channel_model.specs.declared.standing.Party.{Party}
 use Rattle.channel_model.specs.declared.standing.Standing.{Standing}
 use Rattle.channel_model.specs.declared.standing.Resolution.TheVariants as resolved
@@ -15,7 +15,7 @@ use Rattle.channel_model.specs.Needs.{Needs}
 use Rattle.channel_model.specs.Histories.{replay_from, Legal, LegalFrom}
 use Rattle.channel_model.proofs.Histories.{LegalFrom-parts}
 use Rattle.cell_words.specs.Cells.{closed_by, voided_by, Board, step_board, blank, board_from, board_of, end_cell}
-use Rattle.cell_words.proofs.ListsOfCells.{Tied}
+use Rattle.cell_words.proofs.ListsOfCells.{Tied, ties_stood}
 use Rattle.cell_words.proofs.PlacesGivenOut.{ties_put, ties_offer, ties_await, ties_settle}
 use Rattle.cell_words.proofs.OffersAdmitted.{ties_admit}
 use Rattle.channel_model.proofs.Elements.{all_first}
@@ -29,6 +29,7 @@ drops_not (Buffered k) n e = cc
 drops_not Unlimited n e = cc
 drops_not Conflated n e = refl
 drops_not (DropOldest k) n e = refl
+drops_not (DropLatest k) n e = cc
 drops_not Signal n e = cc
 
 kept_none : (h : Option Party) → is_none h ≡ true → h ≡ None
@@ -50,8 +51,8 @@ ties_step shape b e h n t = go e.who e.act n
   where
     go : (who : ℕ) (act : Act) → Needs shape b.state who act → Tied (step_board b (record { who = who; act = act }))
     go who (Hand c p v) n = ties_first b c _ (λ k. tt) t (b.state.channels c).receivers refl
-    go who (Put c p v) n = ties_put b c p v (places_at shape c) n.1 t
-    go who (Offer c p v w k) n = ties_offer b who c p v k (places_at shape c) w n.1 h.placed n.4 t
+    go who (Put c p v) n = ties_stood _ _ _ _ _ (ties_put b c p v (places_at shape c) n.1 t)
+    go who (Offer c p v w k) n = ties_stood _ _ _ _ _ (ties_offer b who c p v k (places_at shape c) w n.1 h.placed n.4 t)
     go who (Await c p w k) n = ties_await b who c p k (places_at shape c) w n.1 h.placed n.3 t
     go who (Take c p v) n = ties_take b c p v resolved.Taken (λ k. tt) n.1 t
     go who (Admit c p) n = ties_admit b (kind_at shape c) c p n.1 t

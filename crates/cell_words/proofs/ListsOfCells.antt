@@ -312,7 +312,7 @@ pub record Unmoved (b : Board) (waits' : WaitId → Option Wait) : Type 0 where
 
 pub ties_change : (b : Board) (c p : ℕ) (y : Cell) (ch : Channel) (waits' : WaitId → Option Wait) → Tied b → Unmoved b waits' → ChannelTied waits' (set_cell b.cells c p y c) ch
     → CellNamed waits' y → ((w : WaitId) (k : ℕ) → NamesAt w k y → (d q : ℕ) → NamesAt w k (b.cells d q) → ⊥)
-    → Tied (board (record { channels = put_channel c ch b.state.channels; waits = waits' }) (set_cell b.cells c p y))
+    → Tied (board (record { channels = put_channel c ch b.state.channels; waits = waits'; stood = b.state.stood }) (set_cell b.cells c p y))
 ties_change b c p y ch waits' t m h named fresh = record {
   queues = λ d. (all d).queue;
   lines = λ d. (all d).line;
@@ -349,8 +349,22 @@ ties_change b c p y ch waits' t m h named fresh = record {
         (λ x. ⊎_elim (λ (z : (spot c p ≡ spot c2 p2) × NamesAt w k y). absurd (fresh w k z.1 c1 p1 x)) (λ z. t.apart c1 p1 c2 p2 w k x z) h2)
         h1
 
+-- how many stood at the placings is nothing to it
+pub ties_stood : (channels : ℕ → Channel) (waits : WaitId → Option Wait) (stood stood' : ℕ → ℕ → ℕ) (cells : Cells)
+    → Tied (board (record { channels = channels; waits = waits; stood = stood }) cells) → Tied (board (record { channels = channels; waits = waits; stood = stood' }) cells)
+ties_stood channels waits stood stood' cells t = record {
+  queues = t.queues;
+  lines = t.lines;
+  used = t.used;
+  ending = t.ending;
+  unused = t.unused;
+  named = t.named;
+  apart = t.apart;
+  at_own_clause = t.at_own_clause;
+}
+
 -- waits alone change, and nobody's standing
-pub ties_waits : (b : Board) (waits' : WaitId → Option Wait) → Tied b → Unmoved b waits' → Tied (board (record { channels = b.state.channels; waits = waits' }) b.cells)
+pub ties_waits : (b : Board) (waits' : WaitId → Option Wait) → Tied b → Unmoved b waits' → Tied (board (record { channels = b.state.channels; waits = waits'; stood = b.state.stood }) b.cells)
 ties_waits b waits' t m = record {
   queues = λ d. t.queues d ∙ gather_same _ _ (b.state.channels d).next (λ q lt. sym (m.stand d q));
   lines = λ d. t.lines d ∙ gather_same _ _ (b.state.channels d).next (λ q lt. sym (m.await d q));

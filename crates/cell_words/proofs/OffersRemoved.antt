@@ -97,7 +97,7 @@ filter_first : (w : WaitId) (o : Standing) (os q : List Standing) → q ≡ o �
 filter_first w o os q e h = sym (ap (filter (λ (x : Standing). not (is_held_by w x.holder))) e ∙ ap (λ (t : Bool). cond (not t) (o ∷ filter (λ (x : Standing). not (is_held_by w x.holder)) os) (filter (λ (x : Standing). not (is_held_by w x.holder)) os)) h)
 
 pub resolve_removed : (s : State) (c : ℕ) (o : Standing) (os : List Standing) (w : WaitId) (how : Resolution) → (s.channels c).queue ≡ o ∷ os → is_held_by w o.holder ≡ true → resolve w how (with_queue c os s) ≡ resolve w how s
-resolve_removed s c o os w how e h = λ i. record { channels = λ d. same d i; waits = put_wait w (resolved_wait how (s.waits w)) s.waits }
+resolve_removed s c o os w how e h = λ i. record { channels = λ d. same d i; waits = put_wait w (resolved_wait how (s.waits w)) s.waits; stood = s.stood }
   where
     same : (d : ℕ) → without w (put_channel c (record (s.channels c) { queue = os }) s.channels d) ≡ without w (s.channels d)
     same = by_channel (λ d ch. without w ch ≡ without w (s.channels d)) c (record (s.channels c) { queue = os }) s.channels
@@ -151,7 +151,7 @@ ties_drop b c p v first none t = go (b.state.channels c).queue refl first
 -- the cell of the next place, which nobody was given
 pub ties_end : (b : Board) (c : ℕ) (y : Cell) (ch : Channel) → ch.next ≡ (b.state.channels c).next → ch.queue ≡ (b.state.channels c).queue → ch.receivers ≡ (b.state.channels c).receivers → y ≡ end_cell ch.closed ch.voided
     → CellNamed b.state.waits y → ((w : WaitId) (k : ℕ) → NamesAt w k y → ⊥) → Tied b
-    → Tied (board (record { channels = put_channel c ch b.state.channels; waits = b.state.waits }) (set_cell b.cells c (b.state.channels c).next y))
+    → Tied (board (record { channels = put_channel c ch b.state.channels; waits = b.state.waits; stood = b.state.stood }) (set_cell b.cells c (b.state.channels c).next y))
 ties_end b c y ch next queue line is named none t = ties_change b c (b.state.channels c).next y ch b.state.waits t (record { stand = λ d q. refl; await = λ d q. refl; named = λ who k u h. h; own = t.at_own_clause })
     (record {
       queue = queue ∙ t.queues c ∙ ap (gather (λ q. standing b.state.waits q (b.cells c q))) (sym next) ∙ gather_same _ _ ch.next (λ q lt. ap (standing b.state.waits q) (sym (else_at q (λ e. omega arith))));

@@ -121,7 +121,7 @@ settled_own outcome (Some x) h = h
 pub settled_quiet : (outcome : Settled) → Quiet (settled_wait outcome)
 settled_quiet outcome = record { stand = settled_stand outcome; await = settled_await outcome; named = settled_named outcome; own = settled_own outcome }
 
-pub ties_settle : (b : Board) (w : WaitId) (outcome : Settled) → Tied b → Tied (board (record { channels = b.state.channels; waits = put_wait w (settled_wait outcome (b.state.waits w)) b.state.waits }) b.cells)
+pub ties_settle : (b : Board) (w : WaitId) (outcome : Settled) → Tied b → Tied (board (record { channels = b.state.channels; waits = put_wait w (settled_wait outcome (b.state.waits w)) b.state.waits; stood = b.state.stood }) b.cells)
 ties_settle b w outcome t = ties_waits b _ t (unmoved b w (settled_wait outcome) (settled_quiet outcome) t)
 
 same_unmoved : (b : Board) → Tied b → Unmoved b b.state.waits
@@ -151,8 +151,8 @@ placed_tied b c y ch waits' t m used still_open next queue line closed = record 
     else_at q ne = cell_else b.cells c n y c q (λ _ e. ne e)
 
 pub ties_put : (b : Board) (c p v places : ℕ) → HasPlace places p (b.state.channels c) → Tied b
-    → Tied (board (record { channels = put_channel c (place_offer true (record { place = p; value = v; holder = None }) (b.state.channels c)) b.state.channels; waits = b.state.waits }) (set_cell b.cells c p (buffered v)))
-ties_put b c p v places h t = subst (λ (z : ℕ). Tied (board (record { channels = put_channel c (place_offer true (record { place = z; value = v; holder = None }) (b.state.channels c)) b.state.channels; waits = b.state.waits }) (set_cell b.cells c z (buffered v)))) (sym h.first)
+    → Tied (board (record { channels = put_channel c (place_offer true (record { place = p; value = v; holder = None }) (b.state.channels c)) b.state.channels; waits = b.state.waits; stood = b.state.stood }) (set_cell b.cells c p (buffered v)))
+ties_put b c p v places h t = subst (λ (z : ℕ). Tied (board (record { channels = put_channel c (place_offer true (record { place = z; value = v; holder = None }) (b.state.channels c)) b.state.channels; waits = b.state.waits; stood = b.state.stood }) (set_cell b.cells c z (buffered v)))) (sym h.first)
     (ties_change b c (b.state.channels c).next (buffered v) _ b.state.waits t (same_unmoved b t)
     (placed_tied b c (buffered v) _ b.state.waits t (same_unmoved b t) refl h.open_now refl refl refl h.open_now)
     tt (λ w k z. absurd z))
@@ -278,20 +278,20 @@ module _ (b : Board) (who c k places : ℕ) (w : WaitId) (h : HasPlace places (b
   receiver_tied true e = placed_tied b c (receiver who w k) _ _ t moved refl h.open_now refl refl (ap (λ o. add_some o (b.state.channels c).receivers) (sym (receiver_here ∙ open_receiver who k c (b.state.channels c).next w (b.state.waits w) e))) h.open_now
   receiver_tied false e = placed_tied b c (receiver who w k) _ _ t moved refl h.open_now refl refl (ap (λ o. add_some o (b.state.channels c).receivers) (sym (receiver_here ∙ resolved_receiver who k c (b.state.channels c).next w (b.state.waits w) e))) h.open_now
 
-  offer_at_next : (v : ℕ) → Tied (board (record { channels = put_channel c (place_offer (is_open (b.state.waits w)) (record { place = (b.state.channels c).next; value = v; holder = Some (record { wait = w; clause = k }) }) (b.state.channels c)) b.state.channels; waits = put_wait w (name_clause who k c (b.state.waits w)) b.state.waits }) (set_cell b.cells c (b.state.channels c).next (offer v who w k)))
+  offer_at_next : (v : ℕ) → Tied (board (record { channels = put_channel c (place_offer (is_open (b.state.waits w)) (record { place = (b.state.channels c).next; value = v; holder = Some (record { wait = w; clause = k }) }) (b.state.channels c)) b.state.channels; waits = put_wait w (name_clause who k c (b.state.waits w)) b.state.waits; stood = b.state.stood }) (set_cell b.cells c (b.state.channels c).next (offer v who w k)))
   offer_at_next v = ties_change b c (b.state.channels c).next (offer v who w k) _ _ t moved (offer_tied v (is_open (b.state.waits w)) refl) own_name (λ u j m d q. fresh d q u j m)
 
-  receiver_at_next : Tied (board (record { channels = put_channel c (place_receiver (is_open (b.state.waits w)) (record { place = (b.state.channels c).next; party = record { wait = w; clause = k } }) (b.state.channels c)) b.state.channels; waits = put_wait w (name_clause who k c (b.state.waits w)) b.state.waits }) (set_cell b.cells c (b.state.channels c).next (receiver who w k)))
+  receiver_at_next : Tied (board (record { channels = put_channel c (place_receiver (is_open (b.state.waits w)) (record { place = (b.state.channels c).next; party = record { wait = w; clause = k } }) (b.state.channels c)) b.state.channels; waits = put_wait w (name_clause who k c (b.state.waits w)) b.state.waits; stood = b.state.stood }) (set_cell b.cells c (b.state.channels c).next (receiver who w k)))
   receiver_at_next = ties_change b c (b.state.channels c).next (receiver who w k) _ _ t moved (receiver_tied (is_open (b.state.waits w)) refl) own_name (λ u j m d q. fresh d q u j m)
 
 pub ties_offer : (b : Board) (who c p v k places : ℕ) (w : WaitId) → HasPlace places p (b.state.channels c) → Placed b.state → MayName who k c p w b.state → Tied b
-    → Tied (board (record { channels = put_channel c (place_offer (is_open (b.state.waits w)) (record { place = p; value = v; holder = Some (record { wait = w; clause = k }) }) (b.state.channels c)) b.state.channels; waits = put_wait w (name_clause who k c (b.state.waits w)) b.state.waits }) (set_cell b.cells c p (offer v who w k)))
+    → Tied (board (record { channels = put_channel c (place_offer (is_open (b.state.waits w)) (record { place = p; value = v; holder = Some (record { wait = w; clause = k }) }) (b.state.channels c)) b.state.channels; waits = put_wait w (name_clause who k c (b.state.waits w)) b.state.waits; stood = b.state.stood }) (set_cell b.cells c p (offer v who w k)))
 ties_offer b who c p v k places w h pl may t = subst
-    (λ (z : ℕ). HasPlace places z (b.state.channels c) → MayName who k c z w b.state → Tied (board (record { channels = put_channel c (place_offer (is_open (b.state.waits w)) (record { place = z; value = v; holder = Some (record { wait = w; clause = k }) }) (b.state.channels c)) b.state.channels; waits = put_wait w (name_clause who k c (b.state.waits w)) b.state.waits }) (set_cell b.cells c z (offer v who w k))))
+    (λ (z : ℕ). HasPlace places z (b.state.channels c) → MayName who k c z w b.state → Tied (board (record { channels = put_channel c (place_offer (is_open (b.state.waits w)) (record { place = z; value = v; holder = Some (record { wait = w; clause = k }) }) (b.state.channels c)) b.state.channels; waits = put_wait w (name_clause who k c (b.state.waits w)) b.state.waits; stood = b.state.stood }) (set_cell b.cells c z (offer v who w k))))
     (sym h.first) (λ h' may'. offer_at_next b who c k places w h' pl may' t v) h may
 
 pub ties_await : (b : Board) (who c p k places : ℕ) (w : WaitId) → HasPlace places p (b.state.channels c) → Placed b.state → MayName who k c p w b.state → Tied b
-    → Tied (board (record { channels = put_channel c (place_receiver (is_open (b.state.waits w)) (record { place = p; party = record { wait = w; clause = k } }) (b.state.channels c)) b.state.channels; waits = put_wait w (name_clause who k c (b.state.waits w)) b.state.waits }) (set_cell b.cells c p (receiver who w k)))
+    → Tied (board (record { channels = put_channel c (place_receiver (is_open (b.state.waits w)) (record { place = p; party = record { wait = w; clause = k } }) (b.state.channels c)) b.state.channels; waits = put_wait w (name_clause who k c (b.state.waits w)) b.state.waits; stood = b.state.stood }) (set_cell b.cells c p (receiver who w k)))
 ties_await b who c p k places w h pl may t = subst
-    (λ (z : ℕ). HasPlace places z (b.state.channels c) → MayName who k c z w b.state → Tied (board (record { channels = put_channel c (place_receiver (is_open (b.state.waits w)) (record { place = z; party = record { wait = w; clause = k } }) (b.state.channels c)) b.state.channels; waits = put_wait w (name_clause who k c (b.state.waits w)) b.state.waits }) (set_cell b.cells c z (receiver who w k))))
+    (λ (z : ℕ). HasPlace places z (b.state.channels c) → MayName who k c z w b.state → Tied (board (record { channels = put_channel c (place_receiver (is_open (b.state.waits w)) (record { place = z; party = record { wait = w; clause = k } }) (b.state.channels c)) b.state.channels; waits = put_wait w (name_clause who k c (b.state.waits w)) b.state.waits; stood = b.state.stood }) (set_cell b.cells c z (receiver who w k))))
     (sym h.first) (λ h' may'. receiver_at_next b who c k places w h' pl may' t) h may

@@ -4,6 +4,7 @@ pub mod OwedWords
 pub mod Repeated
 pub mod AdmitsTold
 pub mod DropsTold
+pub mod OverflowsTold
 pub mod ClosesTold
 pub mod Begun
 pub mod ReceivesTold

@@ -6,7 +6,7 @@ use Rattle.std.proofs.lemmas.Bool.{eqb-true}
 use Rattle.std.proofs.lemmas.List.Folds.{list_any-append}
 use Rattle.co_base.specs.declared.names.WaitId.{WaitId}
 use Rattle.channel_model.specs.declared.acts.Act.{Act}
-use Rattle.channel_model.specs.declared.acts.Act.TheVariants.{Hand, Put, Offer, Await, Take, Admit, Drop, Close, Void, Drain, WakeClosed, Withdraw, Settle}
+use Rattle.channel_model.specs.declared.acts.Act.TheVariants.{Hand, Put, Offer, Await, Take, Admit, Drop, Spurn, Close, Void, Drain, WakeClosed, Withdraw, Settle}
 use Rattle.channel_model.specs.declared.acts.Entry.{Entry}
 use Rattle.channel_model.specs.declared.acts.Settled.{Settled}
 use Rattle.channel_model.specs.declared.acts.Settled.TheVariants as settled
@@ -17,7 +17,7 @@ use Rattle.channel_model.specs.declared.standing.Resolution.{Resolution}
 use Rattle.channel_model.specs.declared.standing.Resolution.TheVariants as resolved
 use Rattle.channel_model.specs.Channels.{Shape, State, Channel, Wait, same_wait, start}
 use Rattle.channel_model.specs.Answers.{outcome_at, outcome_of_some}
-use Rattle.channel_model.specs.Effects.{after, resolve, resolve_first, resolve_holder, resolve_offer, remove_first, with_queue, put_channel, put_wait, resolved_wait, name_clause, settled_wait, holder_at, admitted, is_open, is_held_by, place_offer, place_receiver}
+use Rattle.channel_model.specs.Effects.{after, resolve, resolve_first, resolve_holder, resolve_offer, remove_first, with_queue, put_channel, put_wait, resolved_wait, name_clause, settled_wait, holder_at, admitted, is_open, is_held_by, place_offer, place_receiver, is_elsewhere}
 use Rattle.channel_model.specs.Histories.{replay, Legal}
 use Rattle.channel_model.specs.PlainOffers.{IsPlainOffer}
 use Rattle.channel_model.proofs.Waits.{at_wait, one_change}
@@ -156,6 +156,9 @@ put_fits c ch s k h = record { offers = λ d. by_test d (c == d); waits = h.wait
     by_test d true = k
     by_test d false = h.offers d
 
+stood_fits : (stood : ℕ → ℕ → ℕ) (s : State) → Fits s → Fits (record s { stood = stood })
+stood_fits stood s h = record { offers = h.offers; waits = h.waits }
+
 first_fits : (rs : List Receiver) (how : ℕ → Resolution) (s : State) → ((k : ℕ) (x : Option Wait) → EndFits (how k) x) → Fits s → Fits (resolve_first rs how s)
 first_fits [] how s f h = h
 first_fits (r ∷ rs) how s f h = resolve_fits r.party.wait (how r.party.clause) s (f r.party.clause _) h
@@ -188,7 +191,7 @@ named_end n k c (Some x) h = by_end x.resolved h
 named_grows : (n k c : ℕ) (v : WaitId) (s : State) → Grows s.waits (put_wait v (name_clause n k c (s.waits v)) s.waits)
 named_grows n k c v s j u e = one_change (HasClause j) s.waits v u (name_clause n k c) (named_has j n k c (s.waits u)) e
 
-named_fits : (n k c : ℕ) (v : WaitId) (ch : Channel) (s : State) → OffersFit (put_wait v (name_clause n k c (s.waits v)) s.waits) ch.queue → Fits s → Fits (record { channels = put_channel c ch s.channels; waits = put_wait v (name_clause n k c (s.waits v)) s.waits })
+named_fits : (n k c : ℕ) (v : WaitId) (ch : Channel) (s : State) → OffersFit (put_wait v (name_clause n k c (s.waits v)) s.waits) ch.queue → Fits s → Fits (record s { channels = put_channel c ch s.channels; waits = put_wait v (name_clause n k c (s.waits v)) s.waits })
 named_fits n k c v ch s e h = record {
   offers = λ d. by_test d (c == d);
   waits = λ w. one_change WaitFits s.waits v w (name_clause n k c) (named_end n k c (s.waits w)) (h.waits w);
@@ -229,12 +232,12 @@ placed_receivers waits false r ch h = h
 
 after_fits : (s : State) (who : ℕ) (act : Act) → Fits s → Fits (after s who act)
 after_fits s who (Hand c p v) h = first_fits (s.channels c).receivers _ s (λ k x. tt) h
-after_fits s who (Put c p v) h = put_fits c _ s (offers_push s.waits (s.channels c).queue _ (h.offers c) tt) h
+after_fits s who (Put c p v) h = stood_fits _ _ (put_fits c _ s (offers_push s.waits (s.channels c).queue _ (h.offers c) tt) h)
 after_fits s who (Offer c p v w k) h =
-    named_fits who k c w _ s
+    stood_fits _ _ (named_fits who k c w _ s
     (placed_offers _ (is_open (s.waits w)) (record { place = p; value = v; holder = Some (record { wait = w; clause = k }) }) (s.channels c) (offers_more s.waits _ (s.channels c).queue (named_grows who k c w s) (h.offers c))
     (subst (HasClause k) (sym (at_wait w _ s.waits)) (named_one who k c (s.waits w))))
-    h
+    h)
 after_fits s who (Await c p w k) h =
     named_fits who k c w _ s (placed_receivers _ (is_open (s.waits w)) (record { place = p; party = record { wait = w; clause = k } }) (s.channels c) (offers_more s.waits _ (s.channels c).queue (named_grows who k c w s) (h.offers c))) h
 after_fits s who (Take c p v) h = offer_fits c (s.channels c).queue resolved.Taken s (λ k x e. e) (h.offers c) h
@@ -242,6 +245,7 @@ after_fits s who (Admit c p) h =
     holder_fits (holder_at p (s.channels c).queue) resolved.Admitted (with_queue c (admitted p (s.channels c).queue) s) (λ k x e. e) (holder_at_fits s.waits p (s.channels c).queue (h.offers c))
     (put_fits c _ s (offers_admitted s.waits p (s.channels c).queue (h.offers c)) h)
 after_fits s who (Drop c p v) h = removed_fits c (s.channels c).queue s (h.offers c) h
+after_fits s who (Spurn c p v) h = put_fits c _ s (offers_filter s.waits (is_elsewhere p) (s.channels c).queue (h.offers c)) h
 after_fits s who (Close c v) h = put_fits c _ s (h.offers c) h
 after_fits s who (Void c) h = put_fits c _ s (h.offers c) h
 after_fits s who (Drain c p v) h = offer_fits c (s.channels c).queue (λ k. resolved.Voided) s (λ k x e. tt) (h.offers c) h

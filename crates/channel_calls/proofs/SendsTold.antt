@@ -21,7 +21,7 @@ use Rattle.call_meaning.proofs.ChannelsHeard.{told_then, told_roomed, told_made,
 use Rattle.channel_calls.specs.declared.caller.SendAnswer.TheVariants as send
 use Rattle.channel_calls.specs.declared.caller.TrySendAnswer.TheVariants as try_send
 use Rattle.channel_calls.specs.Groups.{made_note}
-use Rattle.channel_calls.specs.Calls.{Tells, ToldPart, GoesSomehow, GoesAtOnce, GoesAtOnceSomehow, FollowsPut, IsSent, IsUnsent, SentAnswer, TrySentAnswer, DroppedAnswer}
+use Rattle.channel_calls.specs.Calls.{Tells, ToldPart, GoesSomehow, GoesAtOnce, GoesAtOnceSomehow, FollowsPut, IsSent, IsUnsent, SentAnswer, TrySentAnswer, AfterPutAnswer}
 use Rattle.channel_calls.proofs.Untold.{part_none, part_of, part_then}
 
 module _ (who c v n : ℕ) (a b d : Floor) (i j k : List Item) (h : HasRoom n a b) (e : j ≡ i) where
@@ -36,19 +36,19 @@ module _ (who c v n : ℕ) (a b d : Floor) (i j k : List Item) (h : HasRoom n a 
   put_told place o f = told_roomed who n a b d i j k (made (Put c place v) ∷ []) h e
       (told_made who (Put c place v) b d j k o (moment_before who (Put c place v) b d (ActHolds (Put c place v)) o tt) f)
 
-  -- the element was put, and then the oldest were dropped that are too many
-  pub kept : (who' place : ℕ) (g : Floor) (l : List Item) → who' ≡ who → Made who (Put c place v) b d → k ≡ j ++ made_note (Put c place v) ∷ [] → DroppedAnswer who' c place d g k l (Ok tt) → Tells who (GoesAtOnce (sends c v) Done) a g i l
+  -- the element was put, and then what is too many was removed
+  pub kept : (who' place : ℕ) (g : Floor) (l : List Item) → who' ≡ who → Made who (Put c place v) b d → k ≡ j ++ made_note (Put c place v) ∷ [] → AfterPutAnswer who' c place d g k l (Ok tt) → Tells who (GoesAtOnce (sends c v) Done) a g i l
   kept who' place g l is o f m' =
       let m : Tells who (FollowsPut (kind_at d.shape c) c place) d g k l = subst (λ x. Tells x (FollowsPut (kind_at d.shape c) c place) d g k l) is m' in
       record {
         told = made (Put c place v) ∷ m.told;
-        goes = AtOnce.puts c v place m.told m.goes.drops;
+        goes = AtOnce.puts c v place m.told m.goes.overflows;
         left = told_then who a d g i k l (made (Put c place v) ∷ []) m.told (put_told place o f) m.left;
       }
 
   -- or no memory was found
-  pub put_stopped : (who' place : ℕ) (g : Floor) (l : List Item) (m : Memory) → who' ≡ who → Made who (Put c place v) b d → k ≡ j ++ made_note (Put c place v) ∷ [] → DroppedAnswer who' c place d g k l (Err m) → ToldPart who (GoesAtOnceSomehow (sends c v)) a g i l
-  put_stopped who' place g l m is o f s = part_then who who' (FollowsPut (kind_at d.shape c) c place) (GoesAtOnceSomehow (sends c v)) (made (Put c place v) ∷ []) (λ all r. (Done, AtOnce.puts c v place all r.drops)) a d g i k l is (put_told place o f) s
+  pub put_stopped : (who' place : ℕ) (g : Floor) (l : List Item) (m : Memory) → who' ≡ who → Made who (Put c place v) b d → k ≡ j ++ made_note (Put c place v) ∷ [] → AfterPutAnswer who' c place d g k l (Err m) → ToldPart who (GoesAtOnceSomehow (sends c v)) a g i l
+  put_stopped who' place g l m is o f s = part_then who who' (FollowsPut (kind_at d.shape c) c place) (GoesAtOnceSomehow (sends c v)) (made (Put c place v) ∷ []) (λ all r. (Done, AtOnce.puts c v place all r.overflows)) a d g i k l is (put_told place o f) s
 
   -- an offer that waits, at a channel that was full
   pub offer_told : (place : ℕ) → OfferAnswer who c v b d (offered.Held place) → k ≡ j ++ made_note (Offer c place v (wait_at c place) 0) ∷ [] → ToldOnChannels who a d i k (on_channels (WasFull c) ∷ made (Offer c place v (wait_at c place) 0) ∷ [])

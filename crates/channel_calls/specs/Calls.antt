@@ -22,7 +22,7 @@ use Rattle.note_book.specs.declared.book.Item.{Item}
 use Rattle.note_book.specs.Items.{channel_acts_in}
 use Rattle.call_meaning.specs.Telling.{Told, on_channels, TakenBack, items_in, made, heard}
 use Rattle.call_meaning.specs.Facts.{IsClosedWith}
-use Rattle.call_meaning.specs.ChannelCalls.{Answer, Done, Got, Closed, Waits, NoPlace, Call, sends, receives, wait_at, offer_told, blocked, spent, Admits, Drops, Wakes, Drains, Closes, CancelsChannel, AtOnce, PlainCall, is_given_up}
+use Rattle.call_meaning.specs.ChannelCalls.{Answer, Done, Got, Closed, Waits, NoPlace, Call, sends, receives, wait_at, offer_told, blocked, spent, Admits, Overflows, Wakes, Drains, Closes, CancelsChannel, AtOnce, PlainCall, is_given_up}
 use Rattle.call_meaning.specs.Prefixes.{PrefixOf}
 use Rattle.call_meaning.specs.Calls.{ToldOnChannels}
 use Rattle.channel_calls.specs.declared.caller.Caller.{Caller}
@@ -175,12 +175,12 @@ AdmittedAnswer who c old new i i' (Err m) = ToldPart who (Admits c) old new i i'
 
 -- what follows a Put at this place of a channel of this kind
 pub record FollowsPut (kind : Kind) (c place : ℕ) (told : List Told) : Type 0 where
-  pub drops : Drops c place told
+  pub overflows : Overflows c place told
   pub acts : after_put kind c place (channel_acts_in (items_in told)) ≡ true
 
-abbrev pub DroppedAnswer : ℕ → ℕ → ℕ → Floor → Floor → List Item → List Item → Result (Unit {0}) Memory → Type 0
-DroppedAnswer who c place old new i i' (Ok done) = Tells who (FollowsPut (kind_at old.shape c) c place) old new i i'
-DroppedAnswer who c place old new i i' (Err m) = ToldPart who (FollowsPut (kind_at old.shape c) c place) old new i i'
+abbrev pub AfterPutAnswer : ℕ → ℕ → ℕ → Floor → Floor → List Item → List Item → Result (Unit {0}) Memory → Type 0
+AfterPutAnswer who c place old new i i' (Ok done) = Tells who (FollowsPut (kind_at old.shape c) c place) old new i i'
+AfterPutAnswer who c place old new i i' (Err m) = ToldPart who (FollowsPut (kind_at old.shape c) c place) old new i i'
 
 -- ---- close and cancel
 

@@ -8,13 +8,17 @@ use Rattle.channel_model.specs.declared.acts.Settled.{Settled}
 use Rattle.channel_model.specs.declared.acts.Settled.TheVariants as settled
 use Rattle.channel_model.specs.declared.acts.Why.TheVariants as why
 use Rattle.channel_model.specs.declared.floor.WaitState.TheVariants as state
+use Rattle.channel_model.specs.declared.acts.Kind.{Kind}
+use Rattle.channel_model.specs.Channels.{kind_at}
 use Rattle.channel_model.specs.Histories.{replay}
 use Rattle.channel_model.specs.Floors.{Floor}
 use Rattle.channel_model.specs.Answers.{LookAnswer, IsSeenClosed, IsSeenVoided}
+use Rattle.channel_model.specs.Puts.{after_put}
 use Rattle.note_book.specs.declared.book.Item.{Item}
-use Rattle.call_meaning.specs.Telling.{Told, on_channels, TakenBack, NoneToAdmit, made, heard}
+use Rattle.note_book.specs.Items.{channel_acts_in}
+use Rattle.call_meaning.specs.Telling.{Told, on_channels, TakenBack, NoneToAdmit, items_in, made, heard}
 use Rattle.call_meaning.specs.Facts.{IsClosedWith}
-use Rattle.call_meaning.specs.ChannelCalls.{Admits, Wakes, Drains, is_given_up}
+use Rattle.call_meaning.specs.ChannelCalls.{Admits, Drops, Spurns, Wakes, Drains, is_given_up}
 use Rattle.call_meaning.specs.Calls.{ToldOnChannels}
 use Rattle.channel_calls.specs.declared.caller.SendAnswer.{SendAnswer}
 use Rattle.channel_calls.specs.declared.caller.SendAnswer.TheVariants as send
@@ -30,6 +34,26 @@ pub record AdmitsBelow (c mark : ℕ) (told : List Told) : Type 0 where
 abbrev pub AdmittedBelowAnswer : ℕ → ℕ → ℕ → Floor → Floor → List Item → List Item → Result (Unit {0}) Memory → Type 0
 AdmittedBelowAnswer who c mark old new i i' (Ok done) = Tells who (AdmitsBelow c mark) old new i i'
 AdmittedBelowAnswer who c mark old new i i' (Err m) = ToldPart who (AdmitsBelow c mark) old new i i'
+
+-- ---- what follows a put
+
+-- the oldest elements were dropped that are too many
+pub record DropsAfterPut (kind : Kind) (c place : ℕ) (told : List Told) : Type 0 where
+  pub drops : Drops c place told
+  pub acts : after_put kind c place (channel_acts_in (items_in told)) ≡ true
+
+abbrev pub DroppedAnswer : ℕ → ℕ → ℕ → Floor → Floor → List Item → List Item → Result (Unit {0}) Memory → Type 0
+DroppedAnswer who c place old new i i' (Ok done) = Tells who (DropsAfterPut (kind_at old.shape c) c place) old new i i'
+DroppedAnswer who c place old new i i' (Err m) = ToldPart who (DropsAfterPut (kind_at old.shape c) c place) old new i i'
+
+-- the element itself was removed, or it was not one too many
+pub record SpurnsAfterPut (kind : Kind) (c place : ℕ) (told : List Told) : Type 0 where
+  pub spurns : Spurns c place told
+  pub acts : after_put kind c place (channel_acts_in (items_in told)) ≡ true
+
+abbrev pub SpurnedAnswer : ℕ → ℕ → ℕ → Floor → Floor → List Item → List Item → Result (Unit {0}) Memory → Type 0
+SpurnedAnswer who c place old new i i' (Ok done) = Tells who (SpurnsAfterPut (kind_at old.shape c) c place) old new i i'
+SpurnedAnswer who c place old new i i' (Err m) = IsUntouched old new i i'
 
 -- ---- to close
 

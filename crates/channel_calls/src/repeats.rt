@@ -2,8 +2,8 @@
 
 ghost use Rattle.channel_model.specs.Floors.{MayCall};
 ghost use Rattle.channel_model.specs.Answers.{HasPut};
-ghost use Rattle.channel_calls.specs.Calls.{SameCaller, AdmittedAnswer, DroppedAnswer};
-ghost use Rattle.channel_calls.specs.Parts.{AdmittedBelowAnswer};
+ghost use Rattle.channel_calls.specs.Calls.{SameCaller, AdmittedAnswer, AfterPutAnswer};
+ghost use Rattle.channel_calls.specs.Parts.{AdmittedBelowAnswer, DroppedAnswer, SpurnedAnswer};
 
 use crate::caller::Caller;
 use crate::rooms::make_room;
@@ -43,8 +43,44 @@ impl<F: ChannelFloor, B: NoteBook, W: Wakes> Caller<'_, '_, '_, F, B, W> {
         }
     }
 
-    /// Drops the oldest elements, as long as more stand up to the own one, at this place, than the channel keeps.
+    /// Drops the oldest elements, as long as more stand up to the own one, at this place, than the channel keeps; then removes the own
+    /// one, if the channel does not keep its latest, and it is one too many.
     pub fn after_put(&mut self, c: ChannelId, place: Place) -> Result<(), Memory>
+        requires can { MayCall self.old.who c (F.view self.old.floor.now) }
+        requires own { HasPut self.old.who c place (F.view self.old.floor.now) }
+        ensures same { SameCaller F.anchor self.old self.new }
+        ensures answer { AfterPutAnswer self.old.who c place (F.view self.old.floor.now) (F.view self.new.floor.now)
+            (B.items self.old.book.now) (B.items self.new.book.now) result }
+    {
+        match self.trim_all(c, place) {
+            Ok(()) => self.spurn_own(c, place),
+            Err(memory) => Err(memory),
+        }
+    }
+
+    /// Removes the own element, at this place, if the channel does not keep its latest, and it is one too many.
+    fn spurn_own(&mut self, c: ChannelId, place: Place) -> Result<(), Memory>
+        requires can { MayCall self.old.who c (F.view self.old.floor.now) }
+        requires own { HasPut self.old.who c place (F.view self.old.floor.now) }
+        ensures same { SameCaller F.anchor self.old self.new }
+        ensures answer { SpurnedAnswer self.old.who c place (F.view self.old.floor.now) (F.view self.new.floor.now)
+            (B.items self.old.book.now) (B.items self.new.book.now) result }
+    {
+        if let Err(memory) = make_room(self.floor, self.book, 1) {
+            return Err(memory);
+        }
+        match self.floor.spurn(self.who, c, place) {
+            Some(value) => {
+                let act = Act::Spurn { c, place, value };
+                self.book.note(Item::Channel(ChannelNote::Made(act)));
+                Ok(())
+            }
+            None => Ok(()),
+        }
+    }
+
+    /// Drops the oldest elements, as long as more stand up to the own one, at this place, than the channel keeps.
+    fn trim_all(&mut self, c: ChannelId, place: Place) -> Result<(), Memory>
         requires can { MayCall self.old.who c (F.view self.old.floor.now) }
         requires own { HasPut self.old.who c place (F.view self.old.floor.now) }
         ensures same { SameCaller F.anchor self.old self.new }

@@ -4,11 +4,11 @@ use Rattle.std.specs.List.{list_any}
 use Rattle.std.proofs.Common.{sym, ap, ◌∙◌, subst, arith, inl, inr, ⊎_elim}
 use Rattle.co_base.specs.declared.names.WaitId.{WaitId}
 use Rattle.channel_model.specs.declared.acts.Act.{Act}
-use Rattle.channel_model.specs.declared.acts.Act.TheVariants.{Take, Drop, Drain}
+use Rattle.channel_model.specs.declared.acts.Act.TheVariants.{Take, Drop, Spurn, Drain}
 use Rattle.channel_model.specs.declared.acts.Entry.{Entry}
 use Rattle.channel_model.specs.Channels.{Shape, State, kind_at}
 use Rattle.channel_model.specs.Histories.{replay, acts_in, Legal}
-use Rattle.channel_model.specs.Fates.{is_at, hands, takes, admits, drops_at, drains, withdraws, settles_value, settles_undelivered, resolves_at, offers_at, first_some, wait_at, is_wait, resolves_elsewhere, is_chosen_elsewhere, of_wait, of_offer, is_received, is_taken_back, is_undelivered_at, is_dropped, is_withdrawn, removes}
+use Rattle.channel_model.specs.Fates.{is_at, hands, takes, admits, drops_at, spurns_at, drains, withdraws, settles_value, settles_undelivered, resolves_at, offers_at, first_some, wait_at, is_wait, resolves_elsewhere, is_chosen_elsewhere, of_wait, of_offer, is_received, is_taken_back, is_undelivered_at, is_dropped, is_spurned, is_withdrawn, removes}
 use Rattle.channel_model.specs.Laws.{how_many}
 use Rattle.channel_fates.specs.OneFate.{IsAtMostOneFate}
 use Rattle.channel_model.proofs.Waits.{same_wait-eq}
@@ -16,7 +16,7 @@ use Rattle.channel_fates.proofs.Appended.{any_count, found}
 use Rattle.channel_fates.proofs.OncePlaced.{enters, Counted}
 use Rattle.channel_fates.proofs.StandsByActs.{offers, enters_count, handed_answered, clause_offered, here}
 use Rattle.channel_fates.proofs.Chosen.{Chosen, resolver, is_this}
-use Rattle.channel_fates.proofs.Endings.{waits_or_drops}
+use Rattle.channel_fates.proofs.Endings.{waits_or_drops, waits_or_spurns, waits_or_spurns}
 use Rattle.channel_fates.proofs.OwnPlaces.{two_clauses}
 use Rattle.channel_fates.proofs.Traced.{Traced, replay_traced}
 
@@ -108,13 +108,14 @@ withdrawn_is c p acts e =
 
 -- ---- counts
 
-one_leaves : (c p : ℕ) (act : Act) → cond (takes c p act) 1 0 + cond (drains c p act) 1 0 + cond (drops_at c p act) 1 0 ≡ cond (removes c p act) 1 0
+one_leaves : (c p : ℕ) (act : Act) → cond (takes c p act) 1 0 + cond (drains c p act) 1 0 + cond (drops_at c p act) 1 0 + cond (spurns_at c p act) 1 0 ≡ cond (removes c p act) 1 0
 one_leaves c p (Take d q v) = omega arith
 one_leaves c p (Drop d q v) = omega arith
+one_leaves c p (Spurn d q v) = omega arith
 one_leaves c p (Drain d q v) = omega arith
 one_leaves c p other = refl
 
-pub leaves_count : (c p : ℕ) (acts : List Act) → how_many (takes c p) acts + how_many (drains c p) acts + how_many (drops_at c p) acts ≡ how_many (removes c p) acts
+pub leaves_count : (c p : ℕ) (acts : List Act) → how_many (takes c p) acts + how_many (drains c p) acts + how_many (drops_at c p) acts + how_many (spurns_at c p) acts ≡ how_many (removes c p) acts
 leaves_count c p [] = refl
 leaves_count c p (a ∷ acts) = let k = one_leaves c p a in let m = leaves_count c p acts in omega arith
 
@@ -138,11 +139,12 @@ apart_sum true false h = omega arith
 apart_sum false true h = omega arith
 apart_sum false false h = omega arith
 
-one_of : (r u d w : Bool) → (r ≡ true → u ≡ true → ⊥) → (r ≡ true → d ≡ true → ⊥) → (r ≡ true → w ≡ true → ⊥) → (u ≡ true → d ≡ true → ⊥) → (u ≡ true → w ≡ true → ⊥) → (d ≡ true → w ≡ true → ⊥)
-    → how_many (λ (applies : Bool). applies) (r ∷ u ∷ d ∷ w ∷ []) ≤ 1
-one_of true u d w ru rd rw ud uw dw = let a = apart_sum true u ru in let b = apart_sum true d rd in let e = apart_sum true w rw in omega arith
-one_of false true d w ru rd rw ud uw dw = let b = apart_sum true d ud in let e = apart_sum true w uw in omega arith
-one_of false false d w ru rd rw ud uw dw = let e = apart_sum d w dw in omega arith
+one_of : (r u d x w : Bool) → (r ≡ true → u ≡ true → ⊥) → (r ≡ true → d ≡ true → ⊥) → (r ≡ true → x ≡ true → ⊥) → (r ≡ true → w ≡ true → ⊥) → (u ≡ true → d ≡ true → ⊥) → (u ≡ true → x ≡ true → ⊥) → (u ≡ true → w ≡ true → ⊥) → (d ≡ true → x ≡ true → ⊥) → (d ≡ true → w ≡ true → ⊥)
+    → (x ≡ true → w ≡ true → ⊥) → how_many (λ (applies : Bool). applies) (r ∷ u ∷ d ∷ x ∷ w ∷ []) ≤ 1
+one_of true u d x w ru rd rx rw ud ux uw dx dw xw = let a = apart_sum true u ru in let b = apart_sum true d rd in let g = apart_sum true x rx in let e = apart_sum true w rw in omega arith
+one_of false true d x w ru rd rx rw ud ux uw dx dw xw = let b = apart_sum true d ud in let g = apart_sum true x ux in let e = apart_sum true w uw in omega arith
+one_of false false true x w ru rd rx rw ud ux uw dx dw xw = let g = apart_sum true x dx in let e = apart_sum true w dw in omega arith
+one_of false false false x w ru rd rx rw ud ux uw dx dw xw = let e = apart_sum x w xw in omega arith
 
 -- ---- which two cannot both be
 
@@ -150,14 +152,14 @@ module _ (shape : Shape) (acts : List Act) (s : State) (t : Traced shape acts s)
   counted : Counted c p acts (s.channels c)
   counted = t.told.counted c p
 
-  left_once : how_many (takes c p) acts + how_many (drains c p) acts + how_many (drops_at c p) acts ≤ 1
+  left_once : how_many (takes c p) acts + how_many (drains c p) acts + how_many (drops_at c p) acts + how_many (spurns_at c p) acts ≤ 1
   left_once = omega (arith, leaves_count c p acts, counted.queue, counted.given)
 
   -- a place whose receiver was handed an element had no other element
   pub handed_alone : list_any (hands c p) acts ≡ true → how_many (enters c p) acts ≡ 0
   handed_alone e = let k = handed_answered c p acts e in omega (arith, counted.receivers, counted.given)
 
-  pub handed_or_left : list_any (hands c p) acts ≡ true → 1 ≤ how_many (takes c p) acts + how_many (drains c p) acts + how_many (drops_at c p) acts → ⊥
+  pub handed_or_left : list_any (hands c p) acts ≡ true → 1 ≤ how_many (takes c p) acts + how_many (drains c p) acts + how_many (drops_at c p) acts + how_many (spurns_at c p) acts → ⊥
   handed_or_left e h = let k = handed_alone e in omega (arith, leaves_count c p acts, counted.queue)
 
   pub handed_or_offered : (k : ℕ) → list_any (hands c p) acts ≡ true → first_some (offers_at c p) acts ≡ Some k → ⊥
@@ -187,7 +189,12 @@ module _ (shape : Shape) (acts : List Act) (s : State) (t : Traced shape acts s)
       let d = t.kinds.dropped c p e in
       waits_or_drops (kind_at shape c) d.0 (t.kinds.offered c p (clause_offered c p k acts f)) d.1
 
-  taken_once : list_any (takes c p) acts ≡ true → 1 ≤ how_many (drains c p) acts + how_many (drops_at c p) acts → ⊥
+  spurned_or_offered : (k : ℕ) → list_any (spurns_at c p) acts ≡ true → first_some (offers_at c p) acts ≡ Some k → ⊥
+  spurned_or_offered k e f =
+      let d = t.kinds.spurned c p e in
+      waits_or_spurns (kind_at shape c) d.0 (t.kinds.offered c p (clause_offered c p k acts f)) d.1
+
+  taken_once : list_any (takes c p) acts ≡ true → 1 ≤ how_many (drains c p) acts + how_many (drops_at c p) acts + how_many (spurns_at c p) acts → ⊥
   taken_once e h = let k = any_count (takes c p) acts e in omega (arith, left_once)
 
   handed_one_end : HandedAs (ends_as settles_value acts) c p acts → HandedAs (ends_as settles_undelivered acts) c p acts → ⊥
@@ -239,9 +246,32 @@ module _ (shape : Shape) (acts : List Act) (s : State) (t : Traced shape acts s)
   dropped_or_withdrawn : is_dropped c p acts ≡ true → is_withdrawn c p acts ≡ true → ⊥
   dropped_or_withdrawn d w = let o = withdrawn_is c p acts w in dropped_or_offered o.0 d o.1
 
+  received_or_spurned : is_received c p acts ≡ true → is_spurned c p acts ≡ true → ⊥
+  received_or_spurned r d =
+      let n = any_count (spurns_at c p) acts d in
+      ⊎_elim (λ e. taken_once e (omega arith)) (λ h. handed_or_left h.0 (omega arith)) (received_is c p acts r)
+
+  undelivered_or_spurned : is_undelivered_at c p acts ≡ true → is_spurned c p acts ≡ true → ⊥
+  undelivered_or_spurned u d =
+      let n = any_count (spurns_at c p) acts d in
+      ⊎_elim
+      (λ f. let m = any_count (drains c p) acts f in absurd (omega (arith, left_once)))
+      (λ m. ⊎_elim (λ h. handed_or_left h.0 (omega arith)) (λ o. spurned_or_offered o.0 d o.1) m)
+      (undelivered_is c p acts u)
+
+  dropped_or_spurned : is_dropped c p acts ≡ true → is_spurned c p acts ≡ true → ⊥
+  dropped_or_spurned d e =
+      let n = any_count (drops_at c p) acts d in
+      let m = any_count (spurns_at c p) acts e in
+      absurd (omega (arith, left_once))
+
+  spurned_or_withdrawn : is_spurned c p acts ≡ true → is_withdrawn c p acts ≡ true → ⊥
+  spurned_or_withdrawn d w = let o = withdrawn_is c p acts w in spurned_or_offered o.0 d o.1
+
   one_fate : IsAtMostOneFate c p acts
   one_fate =
-      one_of (is_received c p acts) (is_undelivered_at c p acts) (is_dropped c p acts) (is_withdrawn c p acts) received_or_undelivered received_or_dropped received_or_withdrawn undelivered_or_dropped undelivered_or_withdrawn dropped_or_withdrawn
+      one_of (is_received c p acts) (is_undelivered_at c p acts) (is_dropped c p acts) (is_spurned c p acts) (is_withdrawn c p acts) received_or_undelivered received_or_dropped received_or_spurned received_or_withdrawn undelivered_or_dropped undelivered_or_spurned
+      undelivered_or_withdrawn dropped_or_spurned dropped_or_withdrawn spurned_or_withdrawn
 
 pub replay_one_fate : (shape : Shape) (history : List Entry) (c p : ℕ) → Legal shape history → IsAtMostOneFate c p (acts_in history)
 replay_one_fate shape history c p l = one_fate shape (acts_in history) (replay history) (replay_traced shape history l) c p

@@ -5,7 +5,7 @@ use Rattle.std.proofs.Common.{sym, ap, ◌∙◌, subst, arith, inl, inr, ⊎_el
 use Rattle.std.proofs.lemmas.Bool.{eqb-true}
 use Rattle.co_base.specs.declared.names.WaitId.{WaitId}
 use Rattle.channel_model.specs.declared.acts.Act.{Act}
-use Rattle.channel_model.specs.declared.acts.Act.TheVariants.{Hand, Put, Offer, Await, Take, Admit, Drop, Close, Void, Drain, WakeClosed, Withdraw, Settle}
+use Rattle.channel_model.specs.declared.acts.Act.TheVariants.{Hand, Put, Offer, Await, Take, Admit, Drop, Spurn, Close, Void, Drain, WakeClosed, Withdraw, Settle}
 use Rattle.channel_model.specs.declared.acts.Kind.{Kind}
 use Rattle.channel_model.specs.declared.standing.Party.{Party}
 use Rattle.channel_model.specs.declared.standing.Standing.{Standing}
@@ -61,6 +61,7 @@ source_of shape acts s who (Await c p w k) n h x e = cc
 source_of shape acts s who (Take c p v) n h x e = moved acts _ (c, p) x e (offer_source acts c p v _ (h c).offers n.1)
 source_of shape acts s who (Admit c p) n h x e = moved acts _ (c, p) x e (admitted_source acts (kind_at shape c) c p 0 _ (h c).offers n.1)
 source_of shape acts s who (Drop c p v) n h x e = cc
+source_of shape acts s who (Spurn c p v) n h x e = cc
 source_of shape acts s who (Close c v) n h x e = cc
 source_of shape acts s who (Void c) n h x e = cc
 source_of shape acts s who (Drain c p v) n h x e = moved acts _ (c, p) x e (offer_source acts c p v _ (h c).offers n.2)
@@ -77,6 +78,7 @@ withdraws_only s (Await c p u i) w e f = cc
 withdraws_only s (Take c p x) w e f = cc
 withdraws_only s (Admit c p) w e f = cc
 withdraws_only s (Drop c p x) w e f = cc
+withdraws_only s (Spurn c p x) w e f = cc
 withdraws_only s (Close c x) w e f = cc
 withdraws_only s (Void c) w e f = cc
 withdraws_only s (Drain c p x) w e f = cc

@@ -2,7 +2,7 @@
 use Rattle.std.specs.Prelude.{ℕ, ◌≤◌, Bool, cond, List, [], ◌∷◌}
 use Rattle.std.proofs.Common.{arith}
 use Rattle.channel_model.specs.declared.acts.Act.{Act}
-use Rattle.channel_model.specs.declared.acts.Act.TheVariants.{Hand, Put, Offer, Await, Take, Admit, Drop, Close, Void, Drain, WakeClosed, Withdraw, Settle}
+use Rattle.channel_model.specs.declared.acts.Act.TheVariants.{Hand, Put, Offer, Await, Take, Admit, Drop, Spurn, Close, Void, Drain, WakeClosed, Withdraw, Settle}
 use Rattle.channel_model.specs.declared.acts.Entry.{Entry}
 use Rattle.channel_model.specs.Channels.{Shape}
 use Rattle.channel_model.specs.Histories.{acts_in, Legal}
@@ -20,6 +20,7 @@ takes_remove c p (Await d q w k) = omega arith
 takes_remove c p (Take d q v) = omega arith
 takes_remove c p (Admit d q) = omega arith
 takes_remove c p (Drop d q v) = omega arith
+takes_remove c p (Spurn d q v) = omega arith
 takes_remove c p (Close d v) = omega arith
 takes_remove c p (Void d) = omega arith
 takes_remove c p (Drain d q v) = omega arith
@@ -35,6 +36,7 @@ hands_answer c p (Await d q w k) = omega arith
 hands_answer c p (Take d q v) = omega arith
 hands_answer c p (Admit d q) = omega arith
 hands_answer c p (Drop d q v) = omega arith
+hands_answer c p (Spurn d q v) = omega arith
 hands_answer c p (Close d v) = omega arith
 hands_answer c p (Void d) = omega arith
 hands_answer c p (Drain d q v) = omega arith

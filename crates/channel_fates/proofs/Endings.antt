@@ -4,19 +4,19 @@ use Rattle.std.specs.List.{list_any}
 use Rattle.std.proofs.Common.{sym, ap, ◌∙◌, subst, arith, inl, inr, ⊎_elim}
 use Rattle.co_base.specs.declared.names.WaitId.{WaitId}
 use Rattle.channel_model.specs.declared.acts.Act.{Act}
-use Rattle.channel_model.specs.declared.acts.Act.TheVariants.{Hand, Offer, Drop, Settle}
+use Rattle.channel_model.specs.declared.acts.Act.TheVariants.{Hand, Offer, Drop, Spurn, Settle}
 use Rattle.channel_model.specs.declared.acts.Settled.{Settled}
 use Rattle.channel_model.specs.declared.acts.Settled.TheVariants as settled
 use Rattle.channel_model.specs.declared.acts.Kind.{Kind}
-use Rattle.channel_model.specs.declared.acts.Kind.TheVariants.{Rendezvous, Buffered, Unlimited, Conflated, DropOldest, Signal}
+use Rattle.channel_model.specs.declared.acts.Kind.TheVariants.{Rendezvous, Buffered, Unlimited, Conflated, DropOldest, DropLatest, Signal}
 use Rattle.channel_model.specs.declared.standing.Receiver.{Receiver}
 use Rattle.channel_model.specs.declared.standing.Resolution.{Resolution}
 use Rattle.channel_model.specs.declared.standing.Resolution.TheVariants as resolved
-use Rattle.channel_model.specs.Channels.{Shape, State, Wait, same_wait, start, kind_at, suspends, drops}
+use Rattle.channel_model.specs.Channels.{Shape, State, Wait, same_wait, start, kind_at, suspends, drops, spurns}
 use Rattle.channel_model.specs.Outcomes.{IsOutcome, value_given}
 use Rattle.channel_model.specs.Effects.{after, resolve, resolve_first, resolved_wait}
 use Rattle.channel_model.specs.Needs.{Needs, MaySettle}
-use Rattle.channel_model.specs.Fates.{hands, drops_at, is_value, is_undelivered, settles_value, settles_undelivered, places_wait, wait_at, resolves_at}
+use Rattle.channel_model.specs.Fates.{hands, drops_at, spurns_at, is_value, is_undelivered, settles_value, settles_undelivered, places_wait, wait_at, resolves_at}
 use Rattle.channel_model.specs.Laws.{first_waiting, resolves, settles}
 use Rattle.channel_model.proofs.Waits.{same_wait-eq, same_wait-refl, at_wait}
 use Rattle.channel_model.proofs.Resolutions.{resolved_stays, settled_stays, Turns, resolves_turns, settles_turns, always_keeps}
@@ -244,10 +244,11 @@ start_ended = record {
 
 -- ---- kinds
 
--- offers came where a send may wait, and elements were dropped where the kind drops
+-- offers came where a send may wait, and elements were dropped, or spurned, where the kind does so
 pub record KindsKept (shape : Shape) (acts : List Act) : Type 0 where
   pub offered : (c p : ℕ) → list_any (offers c p) acts ≡ true → suspends (kind_at shape c) ≡ true
   pub dropped : (c p : ℕ) → list_any (drops_at c p) acts ≡ true → (n : ℕ) × (drops (kind_at shape c) n ≡ true)
+  pub spurned : (c p : ℕ) → list_any (spurns_at c p) acts ≡ true → (n : ℕ) × (spurns (kind_at shape c) n ≡ true)
 
 offer_kind : (shape : Shape) (s : State) (who : ℕ) (act : Act) (c p : ℕ) → Needs shape s who act → offers c p act ≡ true → suspends (kind_at shape c) ≡ true
 offer_kind shape s who (Offer d q v w k) c p n e = subst (λ x. suspends (kind_at shape x) ≡ true) (at_both c p d q e).0 n.3
@@ -257,14 +258,19 @@ drop_kind : (shape : Shape) (s : State) (who : ℕ) (act : Act) (c p : ℕ) → 
 drop_kind shape s who (Drop d q v) c p n e = subst (λ x. (m : ℕ) × (drops (kind_at shape x) m ≡ true)) (at_both c p d q e).0 (length (s.channels d).queue, n.1)
 drop_kind shape s who other c p n e = cc
 
+spurn_kind : (shape : Shape) (s : State) (who : ℕ) (act : Act) (c p : ℕ) → Needs shape s who act → spurns_at c p act ≡ true → (n : ℕ) × (spurns (kind_at shape c) n ≡ true)
+spurn_kind shape s who (Spurn d q v) c p n e = subst (λ x. (m : ℕ) × (spurns (kind_at shape x) m ≡ true)) (at_both c p d q e).0 (s.stood d q, n.1)
+spurn_kind shape s who other c p n e = cc
+
 pub kinds_after : (shape : Shape) (acts : List Act) (s : State) (who : ℕ) (act : Act) → Needs shape s who act → KindsKept shape acts → KindsKept shape (acts ++ act ∷ [])
 kinds_after shape acts s who act n h = record {
   offered = λ c p e. ⊎_elim (λ old. h.offered c p old) (λ new. offer_kind shape s who act c p n new) (any_cases (offers c p) acts act e);
   dropped = λ c p e. ⊎_elim (λ old. h.dropped c p old) (λ new. drop_kind shape s who act c p n new) (any_cases (drops_at c p) acts act e);
+  spurned = λ c p e. ⊎_elim (λ old. h.spurned c p old) (λ new. spurn_kind shape s who act c p n new) (any_cases (spurns_at c p) acts act e);
 }
 
 pub start_kinds : (shape : Shape) → KindsKept shape []
-start_kinds shape = record { offered = λ c p e. cc; dropped = λ c p e. cc }
+start_kinds shape = record { offered = λ c p e. cc; dropped = λ c p e. cc; spurned = λ c p e. cc }
 
 -- no kind drops that lets a send wait
 pub waits_or_drops : (kind : Kind) (n : ℕ) → suspends kind ≡ true → drops kind n ≡ true → ⊥
@@ -273,4 +279,15 @@ waits_or_drops (Buffered k) n e f = cc
 waits_or_drops Unlimited n e f = cc
 waits_or_drops Conflated n e f = cc
 waits_or_drops (DropOldest k) n e f = cc
+waits_or_drops (DropLatest k) n e f = cc
 waits_or_drops Signal n e f = cc
+
+-- nor does one spurn
+pub waits_or_spurns : (kind : Kind) (n : ℕ) → suspends kind ≡ true → spurns kind n ≡ true → ⊥
+waits_or_spurns Rendezvous n e f = cc
+waits_or_spurns (Buffered k) n e f = cc
+waits_or_spurns Unlimited n e f = cc
+waits_or_spurns Conflated n e f = cc
+waits_or_spurns (DropOldest k) n e f = cc
+waits_or_spurns (DropLatest k) n e f = cc
+waits_or_spurns Signal n e f = cc

@@ -5,7 +5,7 @@ use Rattle.std.proofs.Common.{sym, ap, ◌∙◌, subst, arith, inl, ⊎_elim, n
 use Rattle.std.proofs.lemmas.Bool.{eqb-true, cases_lt}
 use Rattle.co_base.specs.declared.names.WaitId.{WaitId}
 use Rattle.channel_model.specs.declared.acts.Act.{Act}
-use Rattle.channel_model.specs.declared.acts.Act.TheVariants.{Hand, Put, Offer, Await, Take, Admit, Drop, Close, Void, Drain, WakeClosed, Withdraw, Settle}
+use Rattle.channel_model.specs.declared.acts.Act.TheVariants.{Hand, Put, Offer, Await, Take, Admit, Drop, Spurn, Close, Void, Drain, WakeClosed, Withdraw, Settle}
 use Rattle.channel_model.specs.declared.acts.Entry.{Entry}
 use Rattle.channel_model.specs.declared.acts.Kind.{Kind}
 use Rattle.channel_model.specs.declared.standing.Party.{Party}
@@ -14,7 +14,7 @@ use Rattle.channel_model.specs.declared.standing.Standing.{Standing}
 use Rattle.channel_model.specs.declared.standing.Receiver.{Receiver}
 use Rattle.channel_model.specs.Answers.{IsResolvedWait}
 use Rattle.channel_model.specs.Channels.{Shape, State, Channel, Wait, start, places_at, kind_at, is_full}
-use Rattle.channel_model.specs.Effects.{after, is_held_by, admitted, place_offer, place_receiver, holder_at, put_channel, resolve_holder, with_queue}
+use Rattle.channel_model.specs.Effects.{after, is_held_by, admitted, place_offer, place_receiver, holder_at, put_channel, resolve_holder, with_queue, is_elsewhere}
 use Rattle.channel_model.specs.Needs.{Needs, HasPlace, MayBeAdmitted}
 use Rattle.channel_model.specs.Histories.{replay, acts_in, Legal, LegalFrom}
 use Rattle.channel_model.specs.Fates.{admits, withdraws, removes}
@@ -69,6 +69,7 @@ free_keeps shape p = record {
   without = λ w d ch h. record { given = h.given; free = all_filter (is_free p) (λ (o : Standing). not (is_held_by w o.holder)) ch.queue h.free };
   rest = λ d o os ch e h. record { given = h.given; free = all_rest (is_free p) o os (subst (λ (l : List Standing). list_all (is_free p) l ≡ true) e h.free) };
   admit = λ d q ch h. record { given = h.given; free = admitted_free p q ch.queue h.free };
+  spurn = λ d q ch h. record { given = h.given; free = all_filter (is_free p) (is_elsewhere q) ch.queue h.free };
   put = λ d q v ch h n x. offer_free p q (places_at shape d) true (record { place = q; value = v; holder = None }) ch h refl x;
   offer = λ d q b o ch h n s e x. offer_free p q (places_at shape d) b o ch h e x;
   await = λ d q b r ch h n e x. receiver_free p b r ch x;
@@ -166,6 +167,7 @@ withdraw_resolves w s (Await c p u k) = omega arith
 withdraw_resolves w s (Take c p v) = omega arith
 withdraw_resolves w s (Admit c p) = omega arith
 withdraw_resolves w s (Drop c p v) = omega arith
+withdraw_resolves w s (Spurn c p v) = omega arith
 withdraw_resolves w s (Close c v) = omega arith
 withdraw_resolves w s (Void c) = omega arith
 withdraw_resolves w s (Drain c p v) = omega arith
@@ -189,6 +191,7 @@ named_here c p (Await d q w k) = omega arith
 named_here c p (Take d q v) = omega arith
 named_here c p (Admit d q) = omega arith
 named_here c p (Drop d q v) = omega arith
+named_here c p (Spurn d q v) = omega arith
 named_here c p (Close d v) = omega arith
 named_here c p (Void d) = omega arith
 named_here c p (Drain d q v) = omega arith

@@ -15,7 +15,7 @@ use Rattle.channel_model.specs.declared.standing.Party.{Party}
 use Rattle.channel_model.specs.declared.standing.Standing.{Standing}
 use Rattle.channel_model.specs.Channels.{Shape, State, Wait}
 use Rattle.channel_model.specs.Histories.{replay, acts_in, Legal}
-use Rattle.channel_model.specs.Fates.{is_at, brings, hands, takes, admits, drops_at, drains, withdraws, settles_value, settles_undelivered, resolves_at, offers_at, places_wait, first_some, element_at, wait_at, is_wait, resolves_elsewhere, is_chosen_elsewhere, of_wait, of_offer, is_received, is_taken_back, is_undelivered_at, is_dropped, is_withdrawn, fate_at, removes}
+use Rattle.channel_model.specs.Fates.{is_at, brings, hands, takes, admits, drops_at, spurns_at, drains, withdraws, settles_value, settles_undelivered, resolves_at, offers_at, places_wait, first_some, element_at, wait_at, is_wait, resolves_elsewhere, is_chosen_elsewhere, of_wait, of_offer, is_received, is_taken_back, is_undelivered_at, is_dropped, is_spurned, is_withdrawn, fate_at, removes}
 use Rattle.channel_model.specs.Laws.{IsStandingAt, HolderStands, OffersStand, how_many}
 use Rattle.channel_fates.specs.OneFate.{stands_in, is_unsettled, StandsOrIsUnsettled}
 use Rattle.channel_model.proofs.Waits.{same_wait-refl}
@@ -36,19 +36,23 @@ use Rattle.channel_fates.proofs.AtMostOne.{or_either, some_wait, HandedAs, ends_
 
 -- ---- a fate is held where no other applies
 
-held_if : (r u d w : Bool) → (r ≡ true → ⊥) → (u ≡ true → ⊥) → (d ≡ true → ⊥) → (w ≡ true → ⊥) → (if r then fate.Received else if u then fate.Undelivered else if d then fate.Dropped else if w then fate.Withdrawn else fate.Held) ≡ fate.Held
-held_if true u d w a b e f = absurd (a refl)
-held_if false true d w a b e f = absurd (b refl)
-held_if false false true w a b e f = absurd (e refl)
-held_if false false false true a b e f = absurd (f refl)
-held_if false false false false a b e f = refl
+held_if : (r u d x w : Bool) → (r ≡ true → ⊥) → (u ≡ true → ⊥) → (d ≡ true → ⊥) → (x ≡ true → ⊥) → (w ≡ true → ⊥)
+    → (if r then fate.Received else if u then fate.Undelivered else if d then fate.Dropped else if x then fate.Spurned else if w then fate.Withdrawn else fate.Held) ≡ fate.Held
+held_if true u d x w a b e g f = absurd (a refl)
+held_if false true d x w a b e g f = absurd (b refl)
+held_if false false true x w a b e g f = absurd (e refl)
+held_if false false false true w a b e g f = absurd (g refl)
+held_if false false false false true a b e g f = absurd (f refl)
+held_if false false false false false a b e g f = refl
 
-held_only : (r u d w : Bool) → (if r then fate.Received else if u then fate.Undelivered else if d then fate.Dropped else if w then fate.Withdrawn else fate.Held) ≡ fate.Held → (r ≡ false) × (u ≡ false) × (d ≡ false) × (w ≡ false)
-held_only true u d w e = cc
-held_only false true d w e = cc
-held_only false false true w e = cc
-held_only false false false true e = cc
-held_only false false false false e = (refl, refl, refl, refl)
+held_only : (r u d x w : Bool) → (if r then fate.Received else if u then fate.Undelivered else if d then fate.Dropped else if x then fate.Spurned else if w then fate.Withdrawn else fate.Held) ≡ fate.Held
+    → (r ≡ false) × (u ≡ false) × (d ≡ false) × (x ≡ false) × (w ≡ false)
+held_only true u d x w e = cc
+held_only false true d x w e = cc
+held_only false false true x w e = cc
+held_only false false false true w e = cc
+held_only false false false false true e = cc
+held_only false false false false false e = (refl, refl, refl, refl, refl)
 
 -- ---- what stands at a place
 
@@ -208,13 +212,14 @@ module _ (shape : Shape) (acts : List Act) (s : State) (t : Traced shape acts s)
   standing_held e =
       let z = standing_stays e in
       let n = leaves_count c p acts in
-      held_if (is_received c p acts) (is_undelivered_at c p acts) (is_dropped c p acts) (is_withdrawn c p acts)
+      held_if (is_received c p acts) (is_undelivered_at c p acts) (is_dropped c p acts) (is_spurned c p acts) (is_withdrawn c p acts)
       (λ r. ⊎_elim (λ k. let m = any_count (takes c p) acts k in omega arith) (λ h. standing_or_handed e h.0) (received_is c p acts r))
       (λ u. ⊎_elim
       (λ k. let m = any_count (drains c p) acts k in omega arith)
       (λ x. ⊎_elim (λ h. standing_or_handed e h.0) (λ o. standing_or_ended (λ k. k == 0) e o) x)
       (undelivered_is c p acts u))
       (λ k. let m = any_count (drops_at c p) acts k in omega arith)
+      (λ k. let m = any_count (spurns_at c p) acts k in omega arith)
       (λ w. standing_or_ended (λ k. nat_lt 0 k) e (withdrawn_is c p acts w))
 
   handed_as_settled : (test : WaitId → Act → Bool) → ((w : WaitId) → list_any (test w) acts ≡ true → IsSettledWait (s.waits w)) → (w : WaitId) → wait_at c p acts ≡ Some w → is_unsettled (s.waits w) ≡ true → HandedAs (ends_as test acts) c p acts → ⊥
@@ -225,7 +230,7 @@ module _ (shape : Shape) (acts : List Act) (s : State) (t : Traced shape acts s)
 
   unsettled_held : (w : WaitId) → list_any (hands c p) acts ≡ true → wait_at c p acts ≡ Some w → is_unsettled (s.waits w) ≡ true → fate_at c p acts ≡ fate.Held
   unsettled_held w h e f =
-      held_if (is_received c p acts) (is_undelivered_at c p acts) (is_dropped c p acts) (is_withdrawn c p acts)
+      held_if (is_received c p acts) (is_undelivered_at c p acts) (is_dropped c p acts) (is_spurned c p acts) (is_withdrawn c p acts)
       (λ r. ⊎_elim
       (λ k. let m = any_count (takes c p) acts k in handed_or_left shape acts s t c p h (omega arith))
       (λ x. handed_as_settled settles_value t.ended.value w e f x)
@@ -235,6 +240,7 @@ module _ (shape : Shape) (acts : List Act) (s : State) (t : Traced shape acts s)
       (λ x. ⊎_elim (λ y. handed_as_settled settles_undelivered t.ended.undelivered w e f y) (λ o. handed_or_offered shape acts s t c p o.0 h o.1) x)
       (undelivered_is c p acts u))
       (λ k. let m = any_count (drops_at c p) acts k in handed_or_left shape acts s t c p h (omega arith))
+      (λ k. let m = any_count (spurns_at c p) acts k in handed_or_left shape acts s t c p h (omega arith))
       (λ x. let o = withdrawn_is c p acts x in handed_or_offered shape acts s t c p o.0 h o.1)
 
   pub held_where_standing : PlaceStands c p acts s → fate_at c p acts ≡ fate.Held
@@ -247,7 +253,7 @@ module _ (shape : Shape) (acts : List Act) (s : State) (t : Traced shape acts s)
 -- ---- what has no other fate stands, or is not settled
 
 module _ (shape : Shape) (acts : List Act) (s : State) (t : Traced shape acts s) (c p : ℕ)
-    (received : is_received c p acts ≡ false) (undelivered : is_undelivered_at c p acts ≡ false) (dropped : is_dropped c p acts ≡ false) (withdrawn : is_withdrawn c p acts ≡ false) where
+    (received : is_received c p acts ≡ false) (undelivered : is_undelivered_at c p acts ≡ false) (dropped : is_dropped c p acts ≡ false) (spurned : is_spurned c p acts ≡ false) (withdrawn : is_withdrawn c p acts ≡ false) where
   given : Counted c p acts (s.channels c)
   given = t.told.counted c p
 
@@ -256,6 +262,7 @@ module _ (shape : Shape) (acts : List Act) (s : State) (t : Traced shape acts s)
       let a = none_count (takes c p) acts (neither _ _ received).0 in
       let b = none_count (drains c p) acts (neither _ _ undelivered).0 in
       let d = none_count (drops_at c p) acts dropped in
+      let x = none_count (spurns_at c p) acts spurned in
       omega (arith, leaves_count c p acts)
 
   freed_stands : 1 ≤ how_many (frees c p) acts → PlaceStands c p acts s
@@ -361,7 +368,7 @@ replay_held shape history c p v l e =
     let acts = acts_in history in
     let s = replay history in
     let t = replay_traced shape history l in (
-      λ f. let k = held_only (is_received c p acts) (is_undelivered_at c p acts) (is_dropped c p acts) (is_withdrawn c p acts) f in
-          either_holds (place_stands p (s.channels c).queue) _ _ (value_stands acts c p v (s.channels c).queue (t.told.known c).offers e) (stands_where_held shape acts s t c p k.0 k.1 k.2 k.3 v e),
+      λ f. let k = held_only (is_received c p acts) (is_undelivered_at c p acts) (is_dropped c p acts) (is_spurned c p acts) (is_withdrawn c p acts) f in
+          either_holds (place_stands p (s.channels c).queue) _ _ (value_stands acts c p v (s.channels c).queue (t.told.known c).offers e) (stands_where_held shape acts s t c p k.0 k.1 k.2 k.3 k.4 v e),
       λ h. held_where_standing shape acts s t c p (either_holds (stands_in p v (s.channels c).queue) _ _ (place_of_value p v (s.channels c).queue) h),
     )

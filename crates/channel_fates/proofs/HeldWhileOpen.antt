@@ -5,13 +5,13 @@ use Rattle.std.proofs.Common.{sym, ap, ◌∙◌, subst, arith, inl, inr, ⊎_el
 use Rattle.std.proofs.lemmas.Bool.{eqb-true}
 use Rattle.co_base.specs.declared.names.WaitId.{WaitId}
 use Rattle.channel_model.specs.declared.acts.Act.{Act}
-use Rattle.channel_model.specs.declared.acts.Act.TheVariants.{Hand, Put, Offer, Await, Take, Admit, Drop, Close, Void, Drain, WakeClosed, Withdraw, Settle}
+use Rattle.channel_model.specs.declared.acts.Act.TheVariants.{Hand, Put, Offer, Await, Take, Admit, Drop, Spurn, Close, Void, Drain, WakeClosed, Withdraw, Settle}
 use Rattle.channel_model.specs.declared.standing.Party.{Party}
 use Rattle.channel_model.specs.declared.standing.Standing.{Standing}
 use Rattle.channel_model.specs.declared.standing.Receiver.{Receiver}
 use Rattle.channel_model.specs.declared.standing.Resolution.{Resolution}
-use Rattle.channel_model.specs.Channels.{Shape, State, Channel, Wait, same_wait, start, kind_at, drops}
-use Rattle.channel_model.specs.Effects.{after, resolve_first, resolve_holder, resolve_offer, remove_first, with_queue, without, is_held_by, put_channel, admitted, holder_at, is_open, place_offer, place_receiver}
+use Rattle.channel_model.specs.Channels.{Shape, State, Channel, Wait, same_wait, start, kind_at, drops, spurns}
+use Rattle.channel_model.specs.Effects.{after, resolve_first, resolve_holder, resolve_offer, remove_first, with_queue, without, is_held_by, put_channel, admitted, holder_at, is_open, place_offer, place_receiver, spurned}
 use Rattle.channel_model.specs.Needs.{Needs}
 use Rattle.channel_model.specs.Fates.{wait_at, places_wait}
 use Rattle.channel_model.specs.Laws.{how_many, resolves, wait_of_party, first_waiting, first_holding}
@@ -24,7 +24,7 @@ use Rattle.channel_fates.proofs.OncePlaced.{counted_after, at_both}
 use Rattle.channel_fates.proofs.StandsByActs.{offers, HolderKnown, OfferKnown, enters_count, wait_placed, here}
 use Rattle.channel_fates.proofs.Chosen.{wait_before}
 use Rattle.channel_fates.proofs.ChosenOnce.{Told}
-use Rattle.channel_fates.proofs.Endings.{KindsKept, waits_or_drops}
+use Rattle.channel_fates.proofs.Endings.{KindsKept, waits_or_drops, waits_or_spurns}
 use Rattle.channel_fates.proofs.KeptUntilRemoved.{filter_keeps}
 
 -- ---- words
@@ -102,6 +102,21 @@ drop_stands : (shape : Shape) (acts : List Act) (p d c n : ℕ) (w : WaitId) (os
 drop_stands shape acts p d c n w [] s k f a e h = h
 drop_stands shape acts p d c n w (o ∷ os) s k f a e h = ⊎_elim (λ x. x) (λ x. absurd (unheld shape acts d w o.holder o.place n k f a.0.0 x)) (popped p d c w o os s e h)
 
+-- so was one that is spurned
+unheld_spurned : (shape : Shape) (acts : List Act) (d : ℕ) (w : WaitId) (h : Option Party) (q n : ℕ) → KindsKept shape acts → spurns (kind_at shape d) n ≡ true → HolderKnown acts d q h → wait_of_party h ≡ Some w → ⊥
+unheld_spurned shape acts d w None q n k e h f = cc
+unheld_spurned shape acts d w (Some x) q n k e h f = waits_or_spurns (kind_at shape d) n (k.offered d q h.0) e
+
+none_held : (shape : Shape) (acts : List Act) (p d n : ℕ) (w : WaitId) (os : List Standing) → KindsKept shape acts → spurns (kind_at shape d) n ≡ true → AllByRecursion (OfferKnown acts d) os → 1 ≤ how_many (is_held p w) os → ⊥
+none_held shape acts p d n w [] k f a h = absurd (omega arith)
+none_held shape acts p d n w (o ∷ os) k f a h = ⊎_elim (λ x. none_held shape acts p d n w os k f a.1 x) (λ x. unheld_spurned shape acts d w o.holder o.place n k f a.0.0 x) (first_or_rest p w o os h)
+
+spurn_stands : (shape : Shape) (acts : List Act) (p d c q n : ℕ) (w : WaitId) (s : State) → KindsKept shape acts → spurns (kind_at shape d) n ≡ true → AllByRecursion (OfferKnown acts d) (s.channels d).queue → Stands p w (s.channels c)
+    → Stands p w ((with_queue d (spurned q (s.channels d).queue) s).channels c)
+spurn_stands shape acts p d c q n w s k f a h =
+    ⊎_elim (λ x. x) (λ e. cc)
+    (put_stands p d c w None (record (s.channels d) { queue = spurned q (s.channels d).queue }) s (λ x. absurd (none_held shape acts p d n w (s.channels d).queue k f a x)) h)
+
 -- ---- an offer is admitted
 
 admitted_stands : (p q : ℕ) (w : WaitId) (os : List Standing) → 1 ≤ how_many (is_held p w) os → (1 ≤ how_many (is_held p w) (admitted q os)) ⊎ (wait_of_party (holder_at q os) ≡ Some w)
@@ -140,6 +155,7 @@ act_stands shape acts s who (Admit d q) n t k c p w h =
     holder_stands p c w (holder_at q (s.channels d).queue) _ (with_queue d (admitted q (s.channels d).queue) s)
     (put_stands p d c w (wait_of_party (holder_at q (s.channels d).queue)) (record (s.channels d) { queue = admitted q (s.channels d).queue }) s (λ x. admitted_stands p q w (s.channels d).queue x) h)
 act_stands shape acts s who (Drop d q v) n t k c p w h = inl (drop_stands shape acts p d c _ w (s.channels d).queue s k n.1 (t.known d).offers refl h)
+act_stands shape acts s who (Spurn d q v) n t k c p w h = inl (spurn_stands shape acts p d c q _ w s k n.1 (t.known d).offers h)
 act_stands shape acts s who (Close d v) n t k c p w h = put_stands p d c w None _ s (λ x. inl x) h
 act_stands shape acts s who (Void d) n t k c p w h = put_stands p d c w None _ s (λ x. inl x) h
 act_stands shape acts s who (Drain d q v) n t k c p w h = offer_stands p d c w (s.channels d).queue _ s refl h

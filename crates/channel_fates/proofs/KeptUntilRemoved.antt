@@ -1,22 +1,22 @@
 -- An element that was put or admitted stands until it leaves the queue.
 use Rattle.std.specs.Prelude.{◌≡◌, ℕ, ◌+◌, ◌≤◌, ◌==◌, Bool, true, false, not, ◌&&◌, cond, List, [], ◌∷◌, ◌++◌, filter, Option, Some, None, refl, if◌then◌else◌, MatchBool, is_some, is_none}
-use Rattle.std.proofs.Common.{ap, ◌∙◌, arith}
+use Rattle.std.proofs.Common.{ap, sym, subst, ◌∙◌, arith}
 use Rattle.std.proofs.lemmas.Bool.{eqb-true}
 use Rattle.co_base.specs.declared.names.WaitId.{WaitId}
 use Rattle.channel_model.specs.declared.acts.Act.{Act}
-use Rattle.channel_model.specs.declared.acts.Act.TheVariants.{Hand, Put, Offer, Await, Take, Admit, Drop, Close, Void, Drain, WakeClosed, Withdraw, Settle}
+use Rattle.channel_model.specs.declared.acts.Act.TheVariants.{Hand, Put, Offer, Await, Take, Admit, Drop, Spurn, Close, Void, Drain, WakeClosed, Withdraw, Settle}
 use Rattle.channel_model.specs.declared.acts.Kind.{Kind}
 use Rattle.channel_model.specs.declared.standing.Party.{Party}
 use Rattle.channel_model.specs.declared.standing.Standing.{Standing}
 use Rattle.channel_model.specs.declared.standing.Receiver.{Receiver}
 use Rattle.channel_model.specs.declared.standing.Resolution.{Resolution}
 use Rattle.channel_model.specs.Channels.{Shape, State, Channel, start, kind_at, is_full}
-use Rattle.channel_model.specs.Effects.{after, resolve, resolve_first, resolve_holder, resolve_offer, remove_first, with_queue, without, is_held_by, put_channel, admitted, holder_at, is_open, place_offer, place_receiver}
+use Rattle.channel_model.specs.Effects.{after, resolve, resolve_first, resolve_holder, resolve_offer, remove_first, with_queue, without, is_held_by, put_channel, admitted, holder_at, is_open, place_offer, place_receiver, is_elsewhere, spurned}
 use Rattle.channel_model.specs.Needs.{Needs, IsFirstOffer, MayBeAdmitted}
 use Rattle.channel_model.specs.Fates.{is_at, removes}
 use Rattle.channel_model.specs.Laws.{how_many}
 use Rattle.channel_fates.proofs.Appended.{count_last}
-use Rattle.channel_fates.proofs.OncePlaced.{put_by}
+use Rattle.channel_fates.proofs.OncePlaced.{put_by, Counted}
 
 -- ---- words
 
@@ -104,6 +104,33 @@ offer_drops : (c p d q v : ℕ) (os : List Standing) (s : State) → (s.channels
 offer_drops c p d q v [] s e n = absurd n
 offer_drops c p d q v (o ∷ os) s e n = queue_pops c p d q o os s e n.0
 
+-- the offers without that at q, if at most one stands at each place
+spurned_keeps : (p q : ℕ) (os : List Standing) → how_many (λ (o : Standing). o.place == p) os ≤ 1 → free_with p os ≤ free_with p (spurned q os) + cond (q == p) 1 0
+spurned_keeps p q os once = by_test (q == p) refl
+  where
+    free_less : (xs : List Standing) → free_with p xs ≤ how_many (λ (o : Standing). o.place == p) xs
+    free_less [] = omega arith
+    free_less (x ∷ xs) = omega (arith, part_less (x.place == p) (is_none x.holder), free_less xs)
+
+    apart : (q == p) ≡ false → (o : Standing) → is_free p o ≡ true → is_elsewhere q o ≡ true
+    apart e o f = by_place (o.place == q) refl (o.place == p) refl f
+      where
+        by_place : (a : Bool) → (o.place == q) ≡ a → (b : Bool) → (o.place == p) ≡ b → (b && is_none o.holder) ≡ true → not a ≡ true
+        by_place false m b k f = refl
+        by_place true m true k f = let is : (q == p) ≡ true = ap (λ n. n == p) (sym (eqb-true o.place q m)) ∙ k in absurd (let no_way : true ≡ false = sym is ∙ e in cc)
+        by_place true m false k f = cc
+
+    by_test : (b : Bool) → (q == p) ≡ b → free_with p os ≤ free_with p (spurned q os) + cond b 1 0
+    by_test true e = let l = free_less os in omega arith
+    by_test false e = let l = filter_keeps (is_free p) (is_elsewhere q) (apart e) os in omega arith
+
+offer_spurned : (c p d q : ℕ) (s : State) → how_many (λ (o : Standing). o.place == p) (s.channels c).queue ≤ 1 → Keeps p (is_at c p d q) false (s.channels c) ((with_queue d (spurned q (s.channels d).queue) s).channels c)
+offer_spurned c p d q s once = by_test (d == c) refl
+  where
+    by_test : (t : Bool) → (d == c) ≡ t → Keeps p (t && (q == p)) false (s.channels c) (if t then record (s.channels d) { queue = spurned q (s.channels d).queue } else s.channels c)
+    by_test true e = subst (λ n. Keeps p (q == p) false (s.channels c) (record (s.channels n) { queue = spurned q (s.channels n).queue })) (sym (eqb-true d c e)) (let l = spurned_keeps p q (s.channels c).queue once in record { kept = omega arith })
+    by_test false e = unchanged p (s.channels c)
+
 offer_comes : (p : ℕ) (b : Bool) (o : Standing) (ch : Channel) → Keeps p false false ch (place_offer b o ch)
 offer_comes p false o ch = record { kept = omega arith }
 offer_comes p true o ch = let k = count_last (is_free p) ch.queue o in record { kept = omega arith }
@@ -143,23 +170,24 @@ freed p q n kind (o ∷ os) m = by_test (o.place == q) refl m (freed p q (n + 1)
 put_unchanged : (c p d : ℕ) (x : Channel) (s : State) → Keeps p false false (s.channels d) x → Keeps p false false (s.channels c) (put_channel d x s.channels c)
 put_unchanged c p d x s h = put_by (λ b. Keeps p false false) d c false x s.channels h (unchanged p (s.channels c))
 
-act_keeps : (c p : ℕ) (shape : Shape) (s : State) (who : ℕ) (act : Act) → Needs shape s who act → Keeps p (removes c p act) (frees c p act) (s.channels c) ((after s who act).channels c)
-act_keeps c p shape s who (Hand d q v) n = first_keeps p c (s.channels d).receivers _ s
-act_keeps c p shape s who (Put d q v) n = put_by (λ b. Keeps p false b) d c (q == p) (place_offer true (record { place = q; value = v; holder = None }) (s.channels d)) s.channels (put_comes p q v (s.channels d)) (unchanged p (s.channels c))
-act_keeps c p shape s who (Offer d q v w k) n = put_unchanged c p d _ s (offer_comes p (is_open (s.waits w)) (record { place = q; value = v; holder = Some (record { wait = w; clause = k }) }) (s.channels d))
-act_keeps c p shape s who (Await d q w k) n = put_unchanged c p d _ s (receiver_comes p (is_open (s.waits w)) (record { place = q; party = record { wait = w; clause = k } }) (s.channels d))
-act_keeps c p shape s who (Take d q v) n = offer_goes c p d q v _ _ s refl n.1
-act_keeps c p shape s who (Admit d q) n =
+act_keeps : (c p : ℕ) (shape : Shape) (s : State) (who : ℕ) (act : Act) → how_many (λ (o : Standing). o.place == p) (s.channels c).queue ≤ 1 → Needs shape s who act → Keeps p (removes c p act) (frees c p act) (s.channels c) ((after s who act).channels c)
+act_keeps c p shape s who (Hand d q v) once n = first_keeps p c (s.channels d).receivers _ s
+act_keeps c p shape s who (Put d q v) once n = put_by (λ b. Keeps p false b) d c (q == p) (place_offer true (record { place = q; value = v; holder = None }) (s.channels d)) s.channels (put_comes p q v (s.channels d)) (unchanged p (s.channels c))
+act_keeps c p shape s who (Offer d q v w k) once n = put_unchanged c p d _ s (offer_comes p (is_open (s.waits w)) (record { place = q; value = v; holder = Some (record { wait = w; clause = k }) }) (s.channels d))
+act_keeps c p shape s who (Await d q w k) once n = put_unchanged c p d _ s (receiver_comes p (is_open (s.waits w)) (record { place = q; party = record { wait = w; clause = k } }) (s.channels d))
+act_keeps c p shape s who (Take d q v) once n = offer_goes c p d q v _ _ s refl n.1
+act_keeps c p shape s who (Admit d q) once n =
     keeps_then p _ _ (s.channels c) ((with_queue d (admitted q (s.channels d).queue) s).channels c) _
     (put_by (λ b. Keeps p false b) d c (q == p) (record (s.channels d) { queue = admitted q (s.channels d).queue }) s.channels (let k = freed p q 0 (kind_at shape d) (s.channels d).queue n.1 in record { kept = omega arith }) (unchanged p (s.channels c)))
     (holder_keeps p c (holder_at q (s.channels d).queue) _ (with_queue d (admitted q (s.channels d).queue) s))
-act_keeps c p shape s who (Drop d q v) n = offer_drops c p d q v _ s refl n.2
-act_keeps c p shape s who (Close d v) n = put_unchanged c p d _ s (record { kept = omega arith })
-act_keeps c p shape s who (Void d) n = put_unchanged c p d _ s (record { kept = omega arith })
-act_keeps c p shape s who (Drain d q v) n = offer_goes c p d q v _ _ s refl n.2
-act_keeps c p shape s who (WakeClosed d q) n = first_keeps p c (s.channels d).receivers _ s
-act_keeps c p shape s who (Withdraw w why) n = record { kept = (let k = without_keeps p w (s.channels c) in omega arith) }
-act_keeps c p shape s who (Settle w outcome) n = unchanged p (s.channels c)
+act_keeps c p shape s who (Drop d q v) once n = offer_drops c p d q v _ s refl n.2
+act_keeps c p shape s who (Spurn d q v) once n = offer_spurned c p d q s once
+act_keeps c p shape s who (Close d v) once n = put_unchanged c p d _ s (record { kept = omega arith })
+act_keeps c p shape s who (Void d) once n = put_unchanged c p d _ s (record { kept = omega arith })
+act_keeps c p shape s who (Drain d q v) once n = offer_goes c p d q v _ _ s refl n.2
+act_keeps c p shape s who (WakeClosed d q) once n = first_keeps p c (s.channels d).receivers _ s
+act_keeps c p shape s who (Withdraw w why) once n = record { kept = (let k = without_keeps p w (s.channels c) in omega arith) }
+act_keeps c p shape s who (Settle w outcome) once n = unchanged p (s.channels c)
 
 -- ---- all acts
 
@@ -167,9 +195,9 @@ act_keeps c p shape s who (Settle w outcome) n = unchanged p (s.channels c)
 pub record KeptUntil (acts : List Act) (s : State) : Type 0 where
   pub kept : (c p : ℕ) → how_many (frees c p) acts ≤ how_many (removes c p) acts + free_with p (s.channels c).queue
 
-pub kept_after : (shape : Shape) (acts : List Act) (s : State) (who : ℕ) (act : Act) → Needs shape s who act → KeptUntil acts s → KeptUntil (acts ++ act ∷ []) (after s who act)
-kept_after shape acts s who act n h = record {
-  kept = λ c p. kept_then (how_many (frees c p) acts) _ _ _ _ _ _ _ (h.kept c p) (act_keeps c p shape s who act n).kept (count_last (frees c p) acts act) (count_last (removes c p) acts act);
+pub kept_after : (shape : Shape) (acts : List Act) (s : State) (who : ℕ) (act : Act) → Needs shape s who act → ((c p : ℕ) → Counted c p acts (s.channels c)) → KeptUntil acts s → KeptUntil (acts ++ act ∷ []) (after s who act)
+kept_after shape acts s who act n told h = record {
+  kept = λ c p. kept_then (how_many (frees c p) acts) _ _ _ _ _ _ _ (h.kept c p) (act_keeps c p shape s who act (let t = told c p in omega (arith, t.queue, t.given)) n).kept (count_last (frees c p) acts act) (count_last (removes c p) acts act);
 }
   where
     kept_then : (f l x y a b f' l' : ℕ) → f ≤ l + x → x + a ≤ y + b → f' ≡ f + a → l' ≡ l + b → f' ≤ l' + y

@@ -5,15 +5,15 @@ use Rattle.std.proofs.Common.{ap, ◌∙◌, subst, arith, ⊎_elim}
 use Rattle.std.proofs.lemmas.Bool.{eqb-true, cases_lt}
 use Rattle.co_base.specs.declared.names.WaitId.{WaitId}
 use Rattle.channel_model.specs.declared.acts.Act.{Act}
-use Rattle.channel_model.specs.declared.acts.Act.TheVariants.{Hand, Put, Offer, Await, Take, Admit, Drop, Close, Void, Drain, WakeClosed, Withdraw, Settle}
+use Rattle.channel_model.specs.declared.acts.Act.TheVariants.{Hand, Put, Offer, Await, Take, Admit, Drop, Spurn, Close, Void, Drain, WakeClosed, Withdraw, Settle}
 use Rattle.channel_model.specs.declared.acts.Kind.{Kind}
 use Rattle.channel_model.specs.declared.standing.Party.{Party}
 use Rattle.channel_model.specs.declared.standing.Standing.{Standing}
 use Rattle.channel_model.specs.declared.standing.Receiver.{Receiver}
 use Rattle.channel_model.specs.declared.standing.Resolution.{Resolution}
 use Rattle.channel_model.specs.Channels.{Shape, State, Channel, same_wait, start, kind_at, is_full}
-use Rattle.channel_model.specs.Effects.{after, resolve_first, resolve_holder, resolve_offer, remove_first, with_queue, without, is_held_by, put_channel, admitted, holder_at, is_open, place_offer, place_receiver}
-use Rattle.channel_model.specs.Needs.{Needs, IsFirstOffer, IsFirstReceiver, MayBeAdmitted}
+use Rattle.channel_model.specs.Effects.{after, resolve_first, resolve_holder, resolve_offer, remove_first, with_queue, without, is_held_by, put_channel, admitted, holder_at, is_open, place_offer, place_receiver, is_elsewhere, spurned}
+use Rattle.channel_model.specs.Needs.{Needs, IsFirstOffer, IsFirstReceiver, MayBeAdmitted, IsOfferAt}
 use Rattle.channel_model.specs.Fates.{is_at, admits, removes}
 use Rattle.channel_model.specs.Laws.{how_many}
 use Rattle.channel_model.proofs.Waits.{same_wait-refl}
@@ -116,6 +116,25 @@ offer_drops : (c p d q v : ℕ) (os : List Standing) (s : State) → (s.channels
 offer_drops c p d q v [] s e n = absurd n
 offer_drops c p d q v (o ∷ os) s e n = queue_pops c p d q o os s e n.0
 
+-- the offers without that at q
+spurned_less : (p q v : ℕ) (os : List Standing) → IsOfferAt q v os → cond (q == p) 1 0 + offers_with p (spurned q os) ≤ offers_with p os
+spurned_less p q v [] h = absurd h
+spurned_less p q v (o ∷ os) h = by_test (o.place == q) refl h (λ k. spurned_less p q v os k)
+  where
+    by_test : (b : Bool) → (o.place == q) ≡ b → MatchBool b (o.value ≡ v) (IsOfferAt q v os) → (IsOfferAt q v os → cond (q == p) 1 0 + offers_with p (spurned q os) ≤ offers_with p os)
+        → cond (q == p) 1 0 + offers_with p (cond (not b) (o ∷ spurned q os) (spurned q os)) ≤ offers_with p (o ∷ os)
+    by_test true e h k =
+        let same = same_place p q o.place (eqb-true o.place q e) in
+        let fewer : offers_with p (spurned q os) ≤ offers_with p os = filtered_less (λ (x : Standing). x.place == p) (is_elsewhere q) os in
+        omega arith
+    by_test false e h k = let l = k h in omega arith
+
+offer_spurned : (c p d q v : ℕ) (s : State) → IsOfferAt q v (s.channels d).queue → Balance p (is_at c p d q) false false false (s.channels c) ((with_queue d (spurned q (s.channels d).queue) s).channels c)
+offer_spurned c p d q v s n =
+    put_by (λ b. Balance p b false false false) d c (q == p) (record (s.channels d) { queue = spurned q (s.channels d).queue }) s.channels
+    (let l = spurned_less p q v (s.channels d).queue n in record { queue = omega arith; receivers = omega arith; next = omega arith; one = omega arith; given = λ h. absurd (omega arith) })
+    (unchanged p (s.channels c))
+
 receiver_goes : (p q : ℕ) (r : Receiver) (rs : List Receiver) (ch : Channel) → ch.receivers ≡ r ∷ rs → r.place ≡ q → Balance p false false (q == p) false ch (without r.party.wait ch)
 receiver_goes p q r rs ch e f =
     let w = r.party.wait in
@@ -195,6 +214,7 @@ act_balance c p shape s who (Take d q v) n = offer_goes c p d q v _ _ s refl n.1
 act_balance c p shape s who (Admit d q) n =
     balance_then p _ _ _ _ (s.channels c) ((with_queue d (admitted q (s.channels d).queue) s).channels c) _ (offer_admitted c p d q s) (holder_lessens p c (holder_at q (s.channels d).queue) _ (with_queue d (admitted q (s.channels d).queue) s))
 act_balance c p shape s who (Drop d q v) n = offer_drops c p d q v _ s refl n.2
+act_balance c p shape s who (Spurn d q v) n = offer_spurned c p d q v s n.2
 act_balance c p shape s who (Close d v) n = put_unchanged c p d _ s (only_less p (s.channels d) _ (record { queue = omega arith; receivers = omega arith; next = refl }))
 act_balance c p shape s who (Void d) n = put_unchanged c p d _ s (only_less p (s.channels d) _ (record { queue = omega arith; receivers = omega arith; next = refl }))
 act_balance c p shape s who (Drain d q v) n = offer_goes c p d q v _ _ s refl n.2

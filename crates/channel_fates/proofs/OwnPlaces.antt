@@ -4,7 +4,7 @@ use Rattle.std.proofs.Common.{sym, ap, ◌∙◌, subst, arith, inl, inr, ⊎_el
 use Rattle.std.proofs.lemmas.Bool.{eqb-true, ltb-true}
 use Rattle.co_base.specs.declared.names.WaitId.{WaitId}
 use Rattle.channel_model.specs.declared.acts.Act.{Act}
-use Rattle.channel_model.specs.declared.acts.Act.TheVariants.{Hand, Put, Offer, Await, Take, Admit, Drop, Close, Void, Drain, WakeClosed, Withdraw, Settle}
+use Rattle.channel_model.specs.declared.acts.Act.TheVariants.{Hand, Put, Offer, Await, Take, Admit, Drop, Spurn, Close, Void, Drain, WakeClosed, Withdraw, Settle}
 use Rattle.channel_model.specs.Answers.{IsOwnWait}
 use Rattle.channel_model.specs.Channels.{Shape, State, Wait, same_wait, start}
 use Rattle.channel_model.specs.Effects.{after, resolved_wait, name_clause, settled_wait}
@@ -155,6 +155,7 @@ begins_names w (Put d q v) e = cc
 begins_names w (Take d q v) e = cc
 begins_names w (Admit d q) e = cc
 begins_names w (Drop d q v) e = cc
+begins_names w (Spurn d q v) e = cc
 begins_names w (Close d v) e = cc
 begins_names w (Void d) e = cc
 begins_names w (Drain d q v) e = cc

@@ -5,14 +5,14 @@ use Rattle.std.proofs.Common.{sym, ap, ◌∙◌, subst, arith, inl, inr, ⊎_el
 use Rattle.std.proofs.lemmas.Bool.{eqb-true}
 use Rattle.co_base.specs.declared.names.WaitId.{WaitId}
 use Rattle.channel_model.specs.declared.acts.Act.{Act}
-use Rattle.channel_model.specs.declared.acts.Act.TheVariants.{Hand, Put, Offer, Await, Take, Admit, Drop, Close, Void, Drain, WakeClosed, Withdraw, Settle}
+use Rattle.channel_model.specs.declared.acts.Act.TheVariants.{Hand, Put, Offer, Await, Take, Admit, Drop, Spurn, Close, Void, Drain, WakeClosed, Withdraw, Settle}
 use Rattle.channel_model.specs.declared.standing.Party.{Party}
 use Rattle.channel_model.specs.declared.standing.Standing.{Standing}
 use Rattle.channel_model.specs.declared.standing.Receiver.{Receiver}
 use Rattle.channel_model.specs.declared.standing.Resolution.{Resolution}
 use Rattle.channel_model.specs.declared.standing.Resolution.TheVariants as resolved
 use Rattle.channel_model.specs.Channels.{Shape, State, Channel, same_wait, start}
-use Rattle.channel_model.specs.Effects.{after, resolve, resolve_first, resolve_holder, resolve_offer, remove_first, with_queue, is_held_by, put_channel, admitted, holder_at, is_open, place_offer, place_receiver}
+use Rattle.channel_model.specs.Effects.{after, resolve, resolve_first, resolve_holder, resolve_offer, remove_first, with_queue, is_held_by, put_channel, admitted, holder_at, is_open, place_offer, place_receiver, is_elsewhere}
 use Rattle.channel_model.specs.Needs.{Needs}
 use Rattle.channel_model.specs.Fates.{is_at, brings, hands, admits, element_at, wait_at, places_wait, offers_at, first_some}
 use Rattle.channel_model.specs.Laws.{how_many}
@@ -229,6 +229,7 @@ known_by shape acts s who (Take c p v) n g h = offer_known _ c (s.channels c).qu
 known_by shape acts s who (Admit c p) n g h =
     holder_known _ (holder_at p (s.channels c).queue) _ _ (queue_known _ c _ s h (admitted_known (acts ++ Admit c p ∷ []) c p (s.channels c).queue (any_last (admits c p) acts (Admit c p) (here c p)) (h c).offers))
 known_by shape acts s who (Drop c p v) n g h = remove_known _ c (s.channels c).queue s h (h c).offers
+known_by shape acts s who (Spurn c p v) n g h = queue_known _ c _ s h (all_filter (OfferKnown (acts ++ Spurn c p v ∷ []) c) (is_elsewhere p) (s.channels c).queue (h c).offers)
 known_by shape acts s who (Close c v) n g h = put_known _ c _ s h (record { offers = (h c).offers; receivers = (h c).receivers })
 known_by shape acts s who (Void c) n g h = put_known _ c _ s h (record { offers = (h c).offers; receivers = (h c).receivers })
 known_by shape acts s who (Drain c p v) n g h = offer_known _ c (s.channels c).queue _ s h (h c).offers

@@ -29,7 +29,7 @@ traced_after shape acts s who act n h = record {
   chosen = chosen_after shape acts s who act n h.told h.chosen;
   ended = ended_after shape acts s who act n h.told h.ended;
   kinds = kinds_after shape acts s who act n h.kinds;
-  kept = kept_after shape acts s who act n h.kept;
+  kept = kept_after shape acts s who act n h.told.counted h.kept;
   held = held_after shape acts s who act n h.told h.kinds h.held;
   own = own_places_after shape acts s who act n h.told h.own;
 }

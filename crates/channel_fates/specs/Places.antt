@@ -1,7 +1,7 @@
 -- The entries that name a place.
 use Rattle.std.specs.Prelude.{ℕ, Bool, false}
 use Rattle.channel_model.specs.declared.acts.Act.{Act}
-use Rattle.channel_model.specs.declared.acts.Act.TheVariants.{Hand, Put, Offer, Await, Take, Admit, Drop, Close, Void, Drain, WakeClosed, Withdraw, Settle}
+use Rattle.channel_model.specs.declared.acts.Act.TheVariants.{Hand, Put, Offer, Await, Take, Admit, Drop, Spurn, Close, Void, Drain, WakeClosed, Withdraw, Settle}
 use Rattle.channel_model.specs.Channels.{same_wait}
 use Rattle.channel_model.specs.Fates.{is_at}
 
@@ -14,6 +14,7 @@ is_of_place c p (Await d q w k) = is_at c p d q
 is_of_place c p (Take d q v) = is_at c p d q
 is_of_place c p (Admit d q) = is_at c p d q
 is_of_place c p (Drop d q v) = is_at c p d q
+is_of_place c p (Spurn d q v) = is_at c p d q
 is_of_place c p (Close d v) = false
 is_of_place c p (Void d) = false
 is_of_place c p (Drain d q v) = is_at c p d q

@@ -10,7 +10,7 @@ ghost use Rattle.channel_model.specs.Laws.{how_many};
 ghost use Rattle.channel_fates.specs.Places.{is_of_place};
 ghost use Rattle.channel_fates.specs.OneFate.{IsAtMostOneFate, deliveries_of, StandsOrIsUnsettled};
 
-/// In a legal history at most one of received, undelivered, dropped and withdrawn applies to the element of a place.
+/// In a legal history at most one of received, undelivered, dropped, spurned and withdrawn applies to the element of a place.
 pub fn an_element_has_at_most_one_fate()
     ensures { (shape : Shape) (history : List Entry) (c p : ℕ) → Legal shape history → IsAtMostOneFate c p (acts_in history) }
 {}
@@ -25,7 +25,7 @@ pub fn a_place_has_at_most_four_entries()
     ensures { (shape : Shape) (history : List Entry) (c p : ℕ) → Legal shape history → how_many (is_of_place c p) (acts_in history) ≤ 4 }
 {}
 
-/// After a legal history none of the four applies to the element of a place, which is then held, exactly if it stands in
+/// After a legal history none of the five applies to the element of a place, which is then held, exactly if it stands in
 /// the queue of its channel or was handed to a wait that is not settled yet.
 pub fn an_element_without_a_fate_is_held()
     ensures { (shape : Shape) (history : List Entry) (c p v : ℕ) → Legal shape history → element_at c p (acts_in history) ≡ Some v

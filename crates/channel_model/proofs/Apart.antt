@@ -3,7 +3,7 @@ use Rattle.std.specs.Prelude.{◌≡◌, ℕ, zero, suc, ◌+◌, ◌≤◌, ◌
 use Rattle.std.proofs.Common.{sym, ap, ◌∙◌, subst, arith}
 use Rattle.co_base.specs.declared.names.WaitId.{WaitId}
 use Rattle.channel_model.specs.declared.acts.Act.{Act}
-use Rattle.channel_model.specs.declared.acts.Act.TheVariants.{Hand, Put, Offer, Await, Take, Admit, Drop, Close, Void, Drain, WakeClosed, Withdraw, Settle}
+use Rattle.channel_model.specs.declared.acts.Act.TheVariants.{Hand, Put, Offer, Await, Take, Admit, Drop, Spurn, Close, Void, Drain, WakeClosed, Withdraw, Settle}
 use Rattle.channel_model.specs.declared.acts.Entry.{Entry}
 use Rattle.channel_model.specs.declared.standing.Party.{Party}
 use Rattle.channel_model.specs.declared.standing.Standing.{Standing}
@@ -11,7 +11,7 @@ use Rattle.channel_model.specs.declared.standing.Receiver.{Receiver}
 use Rattle.channel_model.specs.declared.standing.Resolution.{Resolution}
 use Rattle.channel_model.specs.declared.standing.Resolution.TheVariants as resolved
 use Rattle.channel_model.specs.Channels.{Shape, State, Channel, Wait, same_wait, start, places_at}
-use Rattle.channel_model.specs.Effects.{after, resolve, resolve_first, resolve_holder, resolve_offer, remove_first, with_queue, without, is_held_by, put_channel, admitted, holder_at, is_open, place_offer, place_receiver}
+use Rattle.channel_model.specs.Effects.{after, resolve, resolve_first, resolve_holder, resolve_offer, remove_first, with_queue, without, is_held_by, put_channel, admitted, holder_at, is_open, place_offer, place_receiver, is_elsewhere, spurned}
 use Rattle.channel_model.specs.Needs.{Needs, HasPlace, MayName, JoinsWait}
 use Rattle.channel_model.specs.Histories.{replay, replay_from, Legal, LegalFrom}
 use Rattle.channel_model.specs.Laws.{IsStandingAt, HolderStands, OffersStand, ReceiversStand, AllStandOpen, how_many, standing_of, StandsOnce, AllStandOnce}
@@ -106,6 +106,9 @@ admitted_less w p (o ∷ os) = freed_less w o os (admitted p os) (o.place == p) 
 admit_once : (c p : ℕ) (s : State) → AllStandOnce s → AllStandOnce (with_queue c (admitted p (s.channels c).queue) s)
 admit_once c p s h = put_once c _ s h (record { once = λ w. omega (arith, (h c).once w, admitted_less w p (s.channels c).queue) })
 
+spurned_once : (c p : ℕ) (s : State) → AllStandOnce s → AllStandOnce (with_queue c (spurned p (s.channels c).queue) s)
+spurned_once c p s h = put_once c _ s h (record { once = λ w. omega (arith, (h c).once w, filtered_less (λ (o : Standing). is_held_by w o.holder) (is_elsewhere p) (s.channels c).queue) })
+
 -- ---- one more stands, that did not
 
 not_same : (waits : WaitId → Option Wait) (w v : WaitId) (c : ℕ) (b : Bool) → same_wait w v ≡ b → (IsStandingAt c (waits w) → ⊥) → IsStandingAt c (waits v) → b ≡ false
@@ -187,6 +190,7 @@ after_once shape s who (Await c p w k) n o g h =
 after_once shape s who (Take c p v) n o g h = resolve_offer_once c _ _ s refl h
 after_once shape s who (Admit c p) n o g h = holder_once (holder_at p (s.channels c).queue) _ (with_queue c (admitted p (s.channels c).queue) s) (admit_once c p s h)
 after_once shape s who (Drop c p v) n o g h = remove_first_once c _ s refl h
+after_once shape s who (Spurn c p v) n o g h = spurned_once c p s h
 after_once shape s who (Close c v) n o g h = put_once c _ s h (record { once = (h c).once })
 after_once shape s who (Void c) n o g h = put_once c _ s h (record { once = (h c).once })
 after_once shape s who (Drain c p v) n o g h = resolve_offer_once c _ _ s refl h

@@ -4,7 +4,7 @@ use Rattle.std.proofs.Common.{sym, ap, ◌∙◌, arith, inl, inr, ⊎_elim}
 use Rattle.std.proofs.lemmas.Bool.{true≢false}
 use Rattle.co_base.specs.declared.names.WaitId.{WaitId}
 use Rattle.channel_model.specs.declared.acts.Act.{Act}
-use Rattle.channel_model.specs.declared.acts.Act.TheVariants.{Hand, Put, Offer, Await, Take, Admit, Drop, Close, Void, Drain, WakeClosed, Withdraw, Settle}
+use Rattle.channel_model.specs.declared.acts.Act.TheVariants.{Hand, Put, Offer, Await, Take, Admit, Drop, Spurn, Close, Void, Drain, WakeClosed, Withdraw, Settle}
 use Rattle.channel_model.specs.declared.acts.Settled.{Settled}
 use Rattle.channel_model.specs.declared.standing.Party.{Party}
 use Rattle.channel_model.specs.declared.standing.Standing.{Standing}
@@ -75,6 +75,7 @@ resolution_kept s who (Await c p w k) v = inl (one_leaves resolution_of w v (nam
 resolution_kept s who (Take c p x) v = offer_resolves v c (s.channels c).queue _ s
 resolution_kept s who (Admit c p) v = holder_resolves v (holder_at p (s.channels c).queue) _ (with_queue c (admitted p (s.channels c).queue) s)
 resolution_kept s who (Drop c p x) v = inl (remove_leaves resolution_of v c (s.channels c).queue s)
+resolution_kept s who (Spurn c p x) v = inl refl
 resolution_kept s who (Close c x) v = inl refl
 resolution_kept s who (Void c) v = inl refl
 resolution_kept s who (Drain c p x) v = offer_resolves v c (s.channels c).queue _ s
@@ -136,6 +137,7 @@ end_kept s who (Await c p w k) v = inl (one_leaves has_ended w v (name_clause wh
 end_kept s who (Take c p x) v = inl (offer_end v c (s.channels c).queue _ s)
 end_kept s who (Admit c p) v = inl (holder_end v (holder_at p (s.channels c).queue) _ (with_queue c (admitted p (s.channels c).queue) s))
 end_kept s who (Drop c p x) v = inl (remove_leaves has_ended v c (s.channels c).queue s)
+end_kept s who (Spurn c p x) v = inl refl
 end_kept s who (Close c x) v = inl refl
 end_kept s who (Void c) v = inl refl
 end_kept s who (Drain c p x) v = inl (offer_end v c (s.channels c).queue _ s)

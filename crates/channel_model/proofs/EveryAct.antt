@@ -4,14 +4,14 @@ use Rattle.std.proofs.Common.{sym, subst, arith}
 use Rattle.std.proofs.lemmas.Bool.{eqb-true}
 use Rattle.co_base.specs.declared.names.WaitId.{WaitId}
 use Rattle.channel_model.specs.declared.acts.Act.{Act}
-use Rattle.channel_model.specs.declared.acts.Act.TheVariants.{Hand, Put, Offer, Await, Take, Admit, Drop, Close, Void, Drain, WakeClosed, Withdraw, Settle}
+use Rattle.channel_model.specs.declared.acts.Act.TheVariants.{Hand, Put, Offer, Await, Take, Admit, Drop, Spurn, Close, Void, Drain, WakeClosed, Withdraw, Settle}
 use Rattle.channel_model.specs.declared.acts.Settled.{Settled}
 use Rattle.channel_model.specs.declared.standing.Party.{Party}
 use Rattle.channel_model.specs.declared.standing.Standing.{Standing}
 use Rattle.channel_model.specs.declared.standing.Receiver.{Receiver}
 use Rattle.channel_model.specs.declared.standing.Resolution.{Resolution}
 use Rattle.channel_model.specs.Channels.{Shape, State, Channel, Wait, same_wait, places_at, kind_at, suspends}
-use Rattle.channel_model.specs.Effects.{after, resolve, resolve_first, resolve_holder, resolve_offer, remove_first, with_queue, without, put_channel, put_wait, resolved_wait, name_clause, settled_wait, admitted, holder_at, is_open, place_offer, place_receiver}
+use Rattle.channel_model.specs.Effects.{after, resolve, resolve_first, resolve_holder, resolve_offer, remove_first, with_queue, without, put_channel, put_wait, resolved_wait, name_clause, settled_wait, admitted, spurned, holder_at, is_open, place_offer, place_receiver}
 use Rattle.channel_model.specs.Needs.{Needs, HasPlace, MayName, JoinsWait, MaySettle}
 use Rattle.channel_model.proofs.Waits.{same_wait-eq, one_change}
 use Rattle.channel_model.proofs.Placed.{Placed}
@@ -23,6 +23,7 @@ pub record ChannelKeeps (shape : Shape) (P : ℕ → Channel → Type 0) : Type 
   pub without : (w : WaitId) (d : ℕ) (ch : Channel) → P d ch → P d (without w ch)
   pub rest : (d : ℕ) (o : Standing) (os : List Standing) (ch : Channel) → ch.queue ≡ o ∷ os → P d ch → P d (record ch { queue = os })
   pub admit : (d p : ℕ) (ch : Channel) → P d ch → P d (record ch { queue = admitted p ch.queue })
+  pub spurn : (d p : ℕ) (ch : Channel) → P d ch → P d (record ch { queue = spurned p ch.queue })
   pub put : (d p v : ℕ) (ch : Channel) → HasPlace (places_at shape d) p ch → ch.receivers ≡ []
       → P d ch → P d (place_offer true (record { place = p; value = v; holder = None }) ch)
   pub offer : (d p : ℕ) (b : Bool) (o : Standing) (ch : Channel) → HasPlace (places_at shape d) p ch → ch.receivers ≡ [] → suspends (kind_at shape d) ≡ true → o.place ≡ p
@@ -67,6 +68,7 @@ module _ (shape : Shape) (P : ℕ → Channel → Type 0) (k : ChannelKeeps shap
   after_keeps s who (Take c p v) d n h = offer_keeps c (s.channels c).queue _ s d refl h
   after_keeps s who (Admit c p) d n h = holder_keeps (holder_at p (s.channels c).queue) _ (with_queue c (admitted p (s.channels c).queue) s) d (put_keeps c _ s d (k.admit c p (s.channels c)) h)
   after_keeps s who (Drop c p v) d n h = removed_keeps c (s.channels c).queue s d refl h
+  after_keeps s who (Spurn c p v) d n h = put_keeps c _ s d (k.spurn c p (s.channels c)) h
   after_keeps s who (Close c v) d n h = put_keeps c _ s d (k.close c v (s.channels c) n.1) h
   after_keeps s who (Void c) d n h = put_keeps c _ s d (k.void c (s.channels c) n.1) h
   after_keeps s who (Drain c p v) d n h = offer_keeps c (s.channels c).queue _ s d refl h
@@ -131,6 +133,7 @@ module _ (P : Option Wait → Type 0) (k : WaitKeeps P) where
   after_waits shape s who (Take c p x) v placed n h = offer_waits v c (s.channels c).queue _ s h
   after_waits shape s who (Admit c p) v placed n h = holder_waits v (holder_at p (s.channels c).queue) _ (with_queue c (admitted p (s.channels c).queue) s) h
   after_waits shape s who (Drop c p x) v placed n h = removed_waits v c (s.channels c).queue s h
+  after_waits shape s who (Spurn c p x) v placed n h = h
   after_waits shape s who (Close c x) v placed n h = h
   after_waits shape s who (Void c) v placed n h = h
   after_waits shape s who (Drain c p x) v placed n h = offer_waits v c (s.channels c).queue _ s h

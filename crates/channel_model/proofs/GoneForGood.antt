@@ -6,11 +6,11 @@ use Rattle.std.proofs.lemmas.Bool.Decides.{nat_tests}
 use Rattle.channel_model.specs.declared.standing.Standing.{Standing}
 use Rattle.channel_model.specs.declared.standing.Receiver.{Receiver}
 use Rattle.channel_model.specs.Channels.{Shape, Channel, same_wait, places_at}
-use Rattle.channel_model.specs.Effects.{is_held_by, admitted, place_offer, place_receiver}
+use Rattle.channel_model.specs.Effects.{is_held_by, is_elsewhere, admitted, spurned, place_offer, place_receiver}
 use Rattle.channel_model.specs.Needs.{HasPlace}
 use Rattle.channel_model.specs.declared.acts.Entry.{Entry}
 use Rattle.channel_model.specs.Histories.{replay, Legal}
-use Rattle.channel_model.specs.Laws.{NoneBelow, NoOffer, is_elsewhere}
+use Rattle.channel_model.specs.Laws.{NoneBelow, NoOffer}
 use Rattle.channel_model.proofs.Elements.{all_filter, all_rest, all_first, all_more, all_push}
 use Rattle.channel_model.proofs.EveryAct.{ChannelKeeps}
 use Rattle.channel_model.proofs.Sound.{channel_lasts}
@@ -62,6 +62,7 @@ below_keeps shape n m = record {
     offers = all_rest (λ (o : Standing). nat_le m o.place) o os (subst (λ (l : List Standing). list_all (λ (o : Standing). nat_le m o.place) l ≡ true) e h.offers);
   };
   admit = λ d p ch h. record { given = h.given; given_offers = h.given_offers; receivers = h.receivers; offers = admitted_all (nat_le m) p ch.queue h.offers };
+  spurn = λ d p ch h. record { given = h.given; given_offers = h.given_offers; receivers = h.receivers; offers = all_filter (λ (o : Standing). nat_le m o.place) (is_elsewhere p) ch.queue h.offers };
   put = λ d p v ch h k x. offer_below n m p (places_at shape d) true (record { place = p; value = v; holder = None }) ch h refl x;
   offer = λ d p b o ch h k s e x. offer_below n m p (places_at shape d) b o ch h e x;
   await = λ d p b r ch h k e x. receiver_below n m p (places_at shape d) b r ch h e x;
@@ -87,6 +88,7 @@ none_keeps shape m = record {
   without = λ w d ch h. record { given = h.given; none = all_filter (is_elsewhere m) (λ (o : Standing). not (is_held_by w o.holder)) ch.queue h.none };
   rest = λ d o os ch e h. record { given = h.given; none = all_rest (is_elsewhere m) o os (subst (λ (l : List Standing). list_all (is_elsewhere m) l ≡ true) e h.none) };
   admit = λ d p ch h. record { given = h.given; none = admitted_all (λ n. not (n == m)) p ch.queue h.none };
+  spurn = λ d p ch h. record { given = h.given; none = all_filter (is_elsewhere m) (is_elsewhere p) ch.queue h.none };
   put = λ d p v ch h k x. offer_elsewhere m p (places_at shape d) true (record { place = p; value = v; holder = None }) ch h refl x;
   offer = λ d p b o ch h k s e x. offer_elsewhere m p (places_at shape d) b o ch h e x;
   await = λ d p b r ch h k e x. receiver_elsewhere m b r ch x;

@@ -5,7 +5,7 @@ use Rattle.channel_model.specs.declared.acts.Entry.{Entry}
 use Rattle.channel_model.specs.declared.standing.Standing.{Standing}
 use Rattle.channel_model.specs.declared.standing.Receiver.{Receiver}
 use Rattle.channel_model.specs.Channels.{Shape, Channel, same_wait, start}
-use Rattle.channel_model.specs.Effects.{is_held_by, admitted, place_offer, place_receiver}
+use Rattle.channel_model.specs.Effects.{is_held_by, admitted, place_offer, place_receiver, is_elsewhere, spurned}
 use Rattle.channel_model.specs.Needs.{HasPlace}
 use Rattle.channel_model.specs.Histories.{replay, Legal}
 use Rattle.channel_model.specs.Laws.{Ascends, StandsInOrder}
@@ -104,6 +104,11 @@ order_keeps shape = record {
     offers = ascends_admitted p 0 ch.next ch.queue h.offers;
     receivers = h.receivers;
     one_side = ⊎_elim (λ e. inl (admitted_none p ch.queue e)) (λ e. inr e) h.one_side;
+  };
+  spurn = λ d p ch h. record {
+    offers = ascends_filter place_of (is_elsewhere p) 0 ch.next ch.queue h.offers;
+    receivers = h.receivers;
+    one_side = ⊎_elim (λ e. inl (filter_none (is_elsewhere p) ch.queue e)) (λ e. inr e) h.one_side;
   };
   put = λ d p v ch h n x. offer_in_order p _ true (record { place = p; value = v; holder = None }) ch h n refl x;
   offer = λ d p b o ch h n s e x. offer_in_order p _ b o ch h n e x;

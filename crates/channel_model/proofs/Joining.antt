@@ -2,7 +2,7 @@
 use Rattle.std.proofs.Common.{◌≡◌, ◌≢◌, ℕ, ◌≤◌, Bool, true, false, List, [], ◌∷◌, if◌then◌else◌, Option, Some, None, MatchBool, sym, refl, ◌∙◌, subst, arith}
 use Rattle.co_base.specs.declared.names.WaitId.{WaitId}
 use Rattle.channel_model.specs.declared.acts.Act.{Act}
-use Rattle.channel_model.specs.declared.acts.Act.TheVariants.{Hand, Put, Offer, Await, Take, Admit, Drop, Close, Void, Drain, WakeClosed, Withdraw, Settle}
+use Rattle.channel_model.specs.declared.acts.Act.TheVariants.{Hand, Put, Offer, Await, Take, Admit, Drop, Spurn, Close, Void, Drain, WakeClosed, Withdraw, Settle}
 use Rattle.channel_model.specs.declared.acts.Settled.{Settled}
 use Rattle.channel_model.specs.declared.standing.Party.{Party}
 use Rattle.channel_model.specs.declared.standing.Standing.{Standing}
@@ -80,6 +80,7 @@ join_step shape who k c n w s (Await d p u j) ne pl m h = join_named who k c n j
 join_step shape who k c n w s (Take d p v) ne pl m h = join_offer who k c w d _ _ s h
 join_step shape who k c n w s (Admit d p) ne pl m h = join_holder who k c w (holder_at p (s.channels d).queue) _ _ h
 join_step shape who k c n w s (Drop d p v) ne pl m h = join_removed who k c w d _ s h
+join_step shape who k c n w s (Spurn d p v) ne pl m h = h
 join_step shape who k c n w s (Close d v) ne pl m h = h
 join_step shape who k c n w s (Void d) ne pl m h = h
 join_step shape who k c n w s (Drain d p v) ne pl m h = join_offer who k c w d _ _ s h

@@ -4,7 +4,7 @@ use Rattle.std.specs.List.{list_all}
 use Rattle.std.proofs.Common.{sym, ap, ◌∙◌, subst, arith}
 use Rattle.std.proofs.lemmas.Bool.Decides.{nat_tests}
 use Rattle.channel_model.specs.declared.acts.Kind.{Kind}
-use Rattle.channel_model.specs.declared.acts.Kind.TheVariants.{Rendezvous, Buffered, Unlimited, Conflated, DropOldest, Signal}
+use Rattle.channel_model.specs.declared.acts.Kind.TheVariants.{Rendezvous, Buffered, Unlimited, Conflated, DropOldest, DropLatest, Signal}
 use Rattle.channel_model.specs.declared.standing.Standing.{Standing}
 use Rattle.channel_model.specs.Channels.{is_full}
 use Rattle.channel_model.specs.Effects.{admitted, holder_at}
@@ -18,6 +18,7 @@ full_more (Buffered k) n h = grind (arith, nat_tests)
 full_more Unlimited n h = cc
 full_more Conflated n h = cc
 full_more (DropOldest k) n h = cc
+full_more (DropLatest k) n h = cc
 full_more Signal n h = refl
 
 none_here : (a b f r : Bool) → (b && not f) ≡ false → r ≡ false → ((a && (b && not f)) || r) ≡ false

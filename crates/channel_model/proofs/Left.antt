@@ -5,7 +5,7 @@ use Rattle.std.proofs.Common.{sym, ap, ◌∙◌, subst, arith}
 use Rattle.co_base.specs.declared.names.WaitId.{WaitId}
 use Rattle.channel_model.specs.declared.acts.Kind.{Kind}
 use Rattle.channel_model.specs.declared.acts.Act.{Act}
-use Rattle.channel_model.specs.declared.acts.Act.TheVariants.{Hand, Put, Offer, Await, Take, Admit, Drop, Close, Void, Drain, WakeClosed, Withdraw, Settle}
+use Rattle.channel_model.specs.declared.acts.Act.TheVariants.{Hand, Put, Offer, Await, Take, Admit, Drop, Spurn, Close, Void, Drain, WakeClosed, Withdraw, Settle}
 use Rattle.channel_model.specs.declared.acts.Entry.{Entry}
 use Rattle.channel_model.specs.declared.standing.Party.{Party}
 use Rattle.channel_model.specs.declared.standing.Standing.{Standing}
@@ -13,7 +13,7 @@ use Rattle.channel_model.specs.declared.standing.Receiver.{Receiver}
 use Rattle.channel_model.specs.declared.standing.Resolution.{Resolution}
 use Rattle.channel_model.specs.declared.standing.Resolution.TheVariants as resolved
 use Rattle.channel_model.specs.Channels.{Shape, State, Channel, same_wait, kind_at, places_at, is_full}
-use Rattle.channel_model.specs.Effects.{after, resolve_first, resolve_holder, resolve_offer, remove_first, with_queue, without, is_held_by, put_channel, admitted, holder_at, place_offer, place_receiver}
+use Rattle.channel_model.specs.Effects.{after, resolve_first, resolve_holder, resolve_offer, remove_first, with_queue, without, is_held_by, put_channel, admitted, holder_at, place_offer, place_receiver, is_elsewhere, spurned}
 use Rattle.channel_model.specs.Needs.{Needs, IsFirstOffer, IsFirstReceiver, MayBeAdmitted}
 use Rattle.channel_model.specs.Histories.{replay, Legal}
 use Rattle.channel_model.specs.Laws.{how_many}
@@ -100,6 +100,7 @@ left_keeps shape n = record {
   without = λ w d ch h. omega (arith, without_less w ch (places_at shape d));
   rest = λ d o os ch e h. omega (arith, popped_less (places_at shape d) o os ch e);
   admit = λ d p ch h. omega (arith, admitted_most (places_at shape d) p ch);
+  spurn = λ d p ch h. omega (arith, filtered_less is_any (is_elsewhere p) ch.queue, filtered_less is_waiting (is_elsewhere p) ch.queue);
   put = λ d p v ch h k x. omega (arith, offer_less true (places_at shape d) (record { place = p; value = v; holder = None }) ch h.left);
   offer = λ d p b o ch h k t e x. omega (arith, offer_less b (places_at shape d) o ch h.left);
   await = λ d p b r ch h k e x. omega (arith, receiver_less b (places_at shape d) r ch h.left);
@@ -118,6 +119,7 @@ removes_from (Await c p w k) = None
 removes_from (Take c p v) = None
 removes_from (Admit c p) = Some c
 removes_from (Drop c p v) = Some c
+removes_from (Spurn c p v) = None
 removes_from (Close c v) = None
 removes_from (Void c) = None
 removes_from (Drain c p v) = Some c
@@ -167,6 +169,7 @@ after_lower shape s who c (Admit d p) n e =
 after_lower shape s who c (Drop d p v) n e =
     let is : d ≡ c = cc in
     subst (λ x. left (places_at shape x) ((after s who (Drop d p v)).channels x) < left (places_at shape x) (s.channels x)) is (remove_lower shape d p v (s.channels d).queue s refl n.2)
+after_lower shape s who c (Spurn d p v) n e = cc
 after_lower shape s who c (Close d v) n e = cc
 after_lower shape s who c (Void d) n e = cc
 after_lower shape s who c (Drain d p v) n e =

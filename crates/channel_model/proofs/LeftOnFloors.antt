@@ -5,7 +5,7 @@ use Rattle.std.proofs.lemmas.Bool.{eqb-true}
 use Rattle.std.proofs.lemmas.Bool.Decides.{nat_tests}
 use Rattle.co_base.specs.declared.names.WaitId.{WaitId}
 use Rattle.channel_model.specs.declared.acts.Act.{Act}
-use Rattle.channel_model.specs.declared.acts.Act.TheVariants.{Hand, Put, Offer, Await, Take, Admit, Drop, Close, Void, Drain, WakeClosed, Withdraw, Settle}
+use Rattle.channel_model.specs.declared.acts.Act.TheVariants.{Hand, Put, Offer, Await, Take, Admit, Drop, Spurn, Close, Void, Drain, WakeClosed, Withdraw, Settle}
 use Rattle.channel_model.specs.declared.acts.Entry.{Entry}
 use Rattle.channel_model.specs.declared.standing.Receiver.{Receiver}
 use Rattle.channel_model.specs.declared.standing.Resolution.TheVariants as resolved
@@ -88,6 +88,7 @@ act_less shape s who act n = by_act act n (λ d. channel_less shape s who act d 
     by_act (Take c p v) n h = omega (arith, one_lower shape (length shape) c s (after s who (Take c p v)) n.0 (take_less shape who c p v s n.1) h)
     by_act (Admit c p) n h = omega (arith, all_less shape (length shape) s (after s who (Admit c p)) h)
     by_act (Drop c p v) n h = omega (arith, all_less shape (length shape) s (after s who (Drop c p v)) h)
+    by_act (Spurn c p v) n h = omega (arith, all_less shape (length shape) s (after s who (Spurn c p v)) h)
     by_act (Close c v) n h = omega (arith, all_less shape (length shape) s (after s who (Close c v)) h)
     by_act (Void c) n h = omega (arith, all_less shape (length shape) s (after s who (Void c)) h)
     by_act (Drain c p v) n h = omega (arith, all_less shape (length shape) s (after s who (Drain c p v)) h)

@@ -19,6 +19,7 @@ pub mod GoneForGood
 pub mod ResolvedAs
 pub mod Joining
 pub mod InOrder
+pub mod Stood
 pub mod Clauses
 pub mod Causes
 pub mod OneEntry

@@ -3,7 +3,7 @@ use Rattle.std.specs.Prelude.{ℕ, ◌==◌, ◌+◌, Bool, true, false, List, [
 use Rattle.std.specs.Coded.{×_prop, Unit-prop}
 use Rattle.std.proofs.Props.{props}
 use Rattle.channel_model.specs.declared.acts.Act.{Act}
-use Rattle.channel_model.specs.declared.acts.Act.TheVariants.{Hand, Put, Offer, Await, Take, Admit, Drop, Close, Void, Drain, WakeClosed, Withdraw, Settle}
+use Rattle.channel_model.specs.declared.acts.Act.TheVariants.{Hand, Put, Offer, Await, Take, Admit, Drop, Spurn, Close, Void, Drain, WakeClosed, Withdraw, Settle}
 use Rattle.channel_model.specs.declared.acts.Entry.{Entry}
 use Rattle.channel_model.specs.declared.acts.Settled.{Settled}
 use Rattle.channel_model.specs.declared.acts.Settled.TheVariants as settled
@@ -15,7 +15,7 @@ use Rattle.co_base.specs.declared.names.WaitId.{WaitId}
 use Rattle.channel_model.specs.Channels.{Shape, State, Wait, same_wait, start}
 use Rattle.channel_model.specs.Effects.{after}
 use Rattle.channel_model.specs.Outcomes.{IsOutcome}
-use Rattle.channel_model.specs.Needs.{Needs, IsFirstOffer, IsFirstReceiver, MayBeAdmitted, MayName, JoinsWait, MaySettle, IsOpenOf}
+use Rattle.channel_model.specs.Needs.{Needs, IsFirstOffer, IsOfferAt, IsFirstReceiver, MayBeAdmitted, MayName, JoinsWait, MaySettle, IsOpenOf}
 use Rattle.channel_model.specs.Histories.{LegalFrom, Legal}
 
 IsFirstReceiver-prop : (p : ℕ) (rs : List Receiver) → IsProp (IsFirstReceiver p rs)
@@ -29,6 +29,10 @@ IsFirstOffer-prop p v (o ∷ os) = hlevel props
 MatchBool-prop : (b : Bool) {P Q : Type 0} → IsProp P → IsProp Q → IsProp (MatchBool b P Q)
 MatchBool-prop true p q = p
 MatchBool-prop false p q = q
+
+IsOfferAt-prop : (p v : ℕ) (os : List Standing) → IsProp (IsOfferAt p v os)
+IsOfferAt-prop p v [] = hlevel props
+IsOfferAt-prop p v (o ∷ os) = MatchBool-prop (o.place == p) (hlevel props) (IsOfferAt-prop p v os)
 
 MayBeAdmitted-prop : (kind : Kind) (p n : ℕ) (os : List Standing) → IsProp (MayBeAdmitted kind p n os)
 MayBeAdmitted-prop kind p n [] = hlevel props
@@ -65,6 +69,7 @@ Needs-prop shape s who (Await c p w k) = hlevel (props, MayName-prop)
 Needs-prop shape s who (Take c p v) = hlevel (props, IsFirstOffer-prop)
 Needs-prop shape s who (Admit c p) = hlevel (props, MayBeAdmitted-prop)
 Needs-prop shape s who (Drop c p v) = hlevel (props, IsFirstOffer-prop)
+Needs-prop shape s who (Spurn c p v) = hlevel (props, IsOfferAt-prop)
 Needs-prop shape s who (Close c v) = hlevel props
 Needs-prop shape s who (Void c) = hlevel props
 Needs-prop shape s who (Drain c p v) = hlevel (props, IsFirstOffer-prop)

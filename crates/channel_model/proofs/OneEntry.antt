@@ -4,7 +4,7 @@ use Rattle.std.proofs.Common.{ap, subst, arith}
 use Rattle.std.proofs.lemmas.Bool.{eqb-true}
 use Rattle.co_base.specs.declared.names.WaitId.{WaitId}
 use Rattle.channel_model.specs.declared.acts.Act.{Act}
-use Rattle.channel_model.specs.declared.acts.Act.TheVariants.{Hand, Put, Offer, Await, Take, Admit, Drop, Close, Void, Drain, WakeClosed, Withdraw, Settle}
+use Rattle.channel_model.specs.declared.acts.Act.TheVariants.{Hand, Put, Offer, Await, Take, Admit, Drop, Spurn, Close, Void, Drain, WakeClosed, Withdraw, Settle}
 use Rattle.channel_model.specs.declared.acts.Entry.{Entry}
 use Rattle.channel_model.specs.declared.standing.Party.{Party}
 use Rattle.channel_model.specs.declared.standing.Standing.{Standing}
@@ -141,6 +141,7 @@ act_ends shape s who (Admit d p) c n =
     ends_then false false (s.channels c) ((with_queue d (admitted p (s.channels d).queue) s).channels c) _ (put_open d c (record (s.channels d) { queue = admitted p (s.channels d).queue }) s refl refl)
     (holder_ends c (holder_at p (s.channels d).queue) _ (with_queue d (admitted p (s.channels d).queue) s))
 act_ends shape s who (Drop d p v) c n = removed_ends d c (s.channels d).queue s
+act_ends shape s who (Spurn d p v) c n = put_open d c _ s refl refl
 act_ends shape s who (Close d v) c n = closing d c v s n.1
 act_ends shape s who (Void d) c n = voiding d c s n.2
 act_ends shape s who (Drain d p v) c n = offer_ends d c (s.channels d).queue _ s

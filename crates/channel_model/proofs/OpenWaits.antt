@@ -6,7 +6,7 @@ use Rattle.std.proofs.lemmas.Bool.{eqb-true}
 use Rattle.std.proofs.lemmas.List.Folds.{list_any-append}
 use Rattle.std.proofs.lemmas.Bool.Decides.{nat_tests}
 use Rattle.channel_model.specs.declared.acts.Act.{Act}
-use Rattle.channel_model.specs.declared.acts.Act.TheVariants.{Hand, Put, Offer, Await, Take, Admit, Drop, Close, Void, Drain, WakeClosed, Withdraw, Settle}
+use Rattle.channel_model.specs.declared.acts.Act.TheVariants.{Hand, Put, Offer, Await, Take, Admit, Drop, Spurn, Close, Void, Drain, WakeClosed, Withdraw, Settle}
 use Rattle.channel_model.specs.declared.acts.Entry.{Entry}
 use Rattle.channel_model.specs.declared.acts.Settled.{Settled}
 use Rattle.channel_model.specs.declared.standing.Party.{Party}
@@ -15,7 +15,7 @@ use Rattle.channel_model.specs.declared.standing.Receiver.{Receiver}
 use Rattle.channel_model.specs.declared.standing.Resolution.{Resolution}
 use Rattle.co_base.specs.declared.names.WaitId.{WaitId}
 use Rattle.channel_model.specs.Channels.{State, Channel, Wait, same_wait, start}
-use Rattle.channel_model.specs.Effects.{after, resolve, resolve_first, resolve_holder, resolve_offer, remove_first, with_queue, is_held_by, put_channel, put_wait, name_clause, settled_wait, is_open, place_offer, place_receiver, admitted, holder_at}
+use Rattle.channel_model.specs.Effects.{after, resolve, resolve_first, resolve_holder, resolve_offer, remove_first, with_queue, is_held_by, put_channel, put_wait, name_clause, settled_wait, is_open, place_offer, place_receiver, admitted, holder_at, is_elsewhere, spurned}
 use Rattle.channel_model.specs.Histories.{replay, replay_from}
 use Rattle.channel_model.specs.Laws.{IsStandingAt, HolderStands, OffersStand, ReceiversStand, StandOpen, AllStandOpen}
 use Rattle.channel_model.proofs.Waits.{same_wait-eq, at_wait}
@@ -112,6 +112,12 @@ offers_admitted waits c p (o ∷ os) h =
     elim (o.place == p) as (λ b. OffersStand waits c (if b then record o { holder = None } ∷ os else o ∷ admitted p os))
     [ true ↦ (tt, h.1) | false ↦ (h.0, offers_admitted waits c p os h.1) ]
 
+pub offers_spurned : (waits : WaitId → Option Wait) (c p : ℕ) (os : List Standing) → OffersStand waits c os → OffersStand waits c (spurned p os)
+unfolding OffersStand
+offers_spurned waits c p [] h = h
+offers_spurned waits c p (o ∷ os) h =
+    elim (is_elsewhere p o) as (λ b. OffersStand waits c (cond b (o ∷ spurned p os) (spurned p os))) [ true ↦ (h.0, offers_spurned waits c p os h.1) | false ↦ offers_spurned waits c p os h.1 ]
+
 -- ---- a clause is placed
 
 offers_push : (waits : WaitId → Option Wait) (c : ℕ) (os : List Standing) (o : Standing) → OffersStand waits c os → HolderStands waits c o.holder → OffersStand waits c (os ++ o ∷ [])
@@ -189,6 +195,7 @@ after_open s who (Await c p w k) h =
 after_open s who (Take c p v) h = resolve_offer_open c (s.channels c).queue _ s h (h c).offers
 after_open s who (Admit c p) h = resolve_holder_open (holder_at p (s.channels c).queue) _ _ (with_queue_open c _ s h (offers_admitted s.waits c p _ (h c).offers))
 after_open s who (Drop c p v) h = remove_first_open c (s.channels c).queue s h (h c).offers
+after_open s who (Spurn c p v) h = with_queue_open c _ s h (offers_spurned s.waits c p (s.channels c).queue (h c).offers)
 after_open s who (Close c v) h = put_open c _ s h (record { offers = (h c).offers; receivers = (h c).receivers })
 after_open s who (Void c) h = put_open c _ s h (record { offers = (h c).offers; receivers = (h c).receivers })
 after_open s who (Drain c p v) h = resolve_offer_open c (s.channels c).queue _ s h (h c).offers

@@ -5,7 +5,7 @@ use Rattle.std.proofs.Common.{sym, ap, ◌∙◌, subst, arith, append_assoc}
 use Rattle.std.proofs.lemmas.Bool.Decides.{nat_tests}
 use Rattle.co_base.specs.declared.names.WaitId.{WaitId}
 use Rattle.channel_model.specs.declared.acts.Act.{Act}
-use Rattle.channel_model.specs.declared.acts.Act.TheVariants.{Hand, Put, Offer, Await, Take, Admit, Drop, Close, Void, Drain, WakeClosed, Withdraw, Settle}
+use Rattle.channel_model.specs.declared.acts.Act.TheVariants.{Hand, Put, Offer, Await, Take, Admit, Drop, Spurn, Close, Void, Drain, WakeClosed, Withdraw, Settle}
 use Rattle.channel_model.specs.declared.acts.Entry.{Entry}
 use Rattle.channel_model.specs.declared.acts.Settled.{Settled}
 use Rattle.channel_model.specs.declared.standing.Party.{Party}
@@ -62,6 +62,7 @@ other_keeps shape who P y n v s (Await c p w k) apart m h = one_change P s.waits
 other_keeps shape who P y n v s (Take c p x) apart m h = resolve_offer_keeps who P y v c _ _ s h
 other_keeps shape who P y n v s (Admit c p) apart m h = resolve_holder_keeps who P y v (holder_at p (s.channels c).queue) _ _ h
 other_keeps shape who P y n v s (Drop c p x) apart m h = remove_first_keeps P v c (s.channels c).queue s h
+other_keeps shape who P y n v s (Spurn c p x) apart m h = h
 other_keeps shape who P y n v s (Close c x) apart m h = h
 other_keeps shape who P y n v s (Void c) apart m h = h
 other_keeps shape who P y n v s (Drain c p x) apart m h = resolve_offer_keeps who P y v c _ _ s h

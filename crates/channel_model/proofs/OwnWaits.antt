@@ -3,7 +3,7 @@ use Rattle.std.specs.Prelude.{◌≡◌, ℕ, Bool, true, false, List, [], ◌�
 use Rattle.std.proofs.Common.{ap, subst, inl, inr, ⊎_elim}
 use Rattle.co_base.specs.declared.names.WaitId.{WaitId}
 use Rattle.channel_model.specs.declared.acts.Act.{Act}
-use Rattle.channel_model.specs.declared.acts.Act.TheVariants.{Hand, Put, Offer, Await, Take, Admit, Drop, Close, Void, Drain, WakeClosed, Withdraw, Settle}
+use Rattle.channel_model.specs.declared.acts.Act.TheVariants.{Hand, Put, Offer, Await, Take, Admit, Drop, Spurn, Close, Void, Drain, WakeClosed, Withdraw, Settle}
 use Rattle.channel_model.specs.declared.acts.Settled.{Settled}
 use Rattle.channel_model.specs.declared.standing.Party.{Party}
 use Rattle.channel_model.specs.declared.standing.Standing.{Standing}
@@ -28,6 +28,7 @@ begins (Put c p v) = None
 begins (Take c p v) = None
 begins (Admit c p) = None
 begins (Drop c p v) = None
+begins (Spurn c p v) = None
 begins (Close c v) = None
 begins (Void c) = None
 begins (Drain c p v) = None
@@ -78,6 +79,7 @@ act_from who P y n v s (Await c p w k) h = ⊎_elim (λ q. inl q) (λ q. inr (q.
 act_from who P y n v s (Take c p x) h = inl (offer_from who P y v c _ _ s h)
 act_from who P y n v s (Admit c p) h = inl (holder_from who P y v (holder_at p (s.channels c).queue) _ _ h)
 act_from who P y n v s (Drop c p x) h = inl (removed_from P v c (s.channels c).queue s h)
+act_from who P y n v s (Spurn c p x) h = inl h
 act_from who P y n v s (Close c x) h = inl h
 act_from who P y n v s (Void c) h = inl h
 act_from who P y n v s (Drain c p x) h = inl (offer_from who P y v c _ _ s h)

@@ -6,7 +6,7 @@ use Rattle.std.proofs.lemmas.Bool.{eqb-true}
 use Rattle.std.proofs.lemmas.Bool.Decides.{nat_tests}
 use Rattle.co_base.specs.declared.names.WaitId.{WaitId}
 use Rattle.channel_model.specs.declared.acts.Act.{Act}
-use Rattle.channel_model.specs.declared.acts.Act.TheVariants.{Hand, Put, Offer, Await, Take, Admit, Drop, Close, Void, Drain, WakeClosed, Withdraw, Settle}
+use Rattle.channel_model.specs.declared.acts.Act.TheVariants.{Hand, Put, Offer, Await, Take, Admit, Drop, Spurn, Close, Void, Drain, WakeClosed, Withdraw, Settle}
 use Rattle.channel_model.specs.declared.acts.Entry.{Entry}
 use Rattle.channel_model.specs.declared.standing.Party.{Party}
 use Rattle.channel_model.specs.declared.standing.Standing.{Standing}
@@ -83,7 +83,7 @@ named_place who k c p w s false e m h is = inr (there (s.waits w) refl m)
 
 -- after a place was given out, with a clause named
 named_placed : (who k c p places : ℕ) (w : WaitId) (s : State) (ch : Channel) → Placed s → HasPlace places p (s.channels c) → MayName who k c p w s → ch.next ≡ (s.channels c).next + 1
-    → Placed (record { channels = put_channel c ch s.channels; waits = put_wait w (name_clause who k c (s.waits w)) s.waits })
+    → Placed (record s { channels = put_channel c ch s.channels; waits = put_wait w (name_clause who k c (s.waits w)) s.waits })
 named_placed who k c p places w s ch h place may e v le = by_test (same_wait w v) refl
   where
     mono : (d : ℕ) → (s.channels d).next ≤ (put_channel c ch s.channels d).next
@@ -110,6 +110,7 @@ placed_after shape s who (Await c p w k) n h = named_placed who k c p (places_at
 placed_after shape s who (Take c p v) n h = grown s _ (received_grows s c (s.channels c).queue _) h
 placed_after shape s who (Admit c p) n h = grown s _ (grows_then s _ _ (put_grows s c _ (omega arith)) (holder_grows (holder_at p (s.channels c).queue) _ _)) h
 placed_after shape s who (Drop c p v) n h = grown s _ (removed_grows s c (s.channels c).queue) h
+placed_after shape s who (Spurn c p v) n h = grown s _ (put_grows s c _ (omega arith)) h
 placed_after shape s who (Close c v) n h = grown s _ (put_grows s c _ (omega arith)) h
 placed_after shape s who (Void c) n h = grown s _ (put_grows s c _ (omega arith)) h
 placed_after shape s who (Drain c p v) n h = grown s _ (received_grows s c (s.channels c).queue _) h

@@ -7,18 +7,18 @@ use Rattle.std.proofs.lemmas.Bool.{eqb-true, true≢false, or_parts}
 use Rattle.std.proofs.lemmas.Bool.Decides.{nat_tests}
 use Rattle.co_base.specs.declared.names.WaitId.{WaitId}
 use Rattle.channel_model.specs.declared.acts.Act.{Act}
-use Rattle.channel_model.specs.declared.acts.Act.TheVariants.{Hand, Put, Offer, Await, Take, Admit, Drop, Close, Void, Drain, WakeClosed, Withdraw, Settle}
+use Rattle.channel_model.specs.declared.acts.Act.TheVariants.{Hand, Put, Offer, Await, Take, Admit, Drop, Spurn, Close, Void, Drain, WakeClosed, Withdraw, Settle}
 use Rattle.channel_model.specs.declared.acts.Entry.{Entry}
 use Rattle.channel_model.specs.declared.acts.Kind.{Kind}
-use Rattle.channel_model.specs.declared.acts.Kind.TheVariants.{Rendezvous, Buffered, Unlimited, Conflated, DropOldest, Signal}
+use Rattle.channel_model.specs.declared.acts.Kind.TheVariants.{Rendezvous, Buffered, Unlimited, Conflated, DropOldest, DropLatest, Signal}
 use Rattle.channel_model.specs.declared.acts.Settled.{Settled}
 use Rattle.channel_model.specs.declared.floor.WaitState.TheVariants as wait_state
 use Rattle.channel_model.specs.declared.standing.Party.{Party}
 use Rattle.channel_model.specs.declared.standing.Standing.{Standing}
 use Rattle.channel_model.specs.declared.standing.Receiver.{Receiver}
 use Rattle.channel_model.specs.declared.standing.Resolution.{Resolution}
-use Rattle.channel_model.specs.Channels.{Shape, State, Channel, Wait, same_wait, start, kind_at, drops, suspends, is_full}
-use Rattle.channel_model.specs.Effects.{after, resolve_first, resolve_holder, resolve_offer, remove_first, with_queue, without, is_held_by, put_channel, admitted, holder_at, is_open, place_offer, place_receiver}
+use Rattle.channel_model.specs.Channels.{Shape, State, Channel, Wait, same_wait, start, kind_at, drops, suspends, is_full, spurns}
+use Rattle.channel_model.specs.Effects.{after, resolve_first, resolve_holder, resolve_offer, remove_first, with_queue, without, is_held_by, put_channel, admitted, holder_at, is_open, place_offer, place_receiver, spurned}
 use Rattle.channel_model.specs.Needs.{Needs}
 use Rattle.channel_model.specs.Histories.{replay, replay_from, Legal, LegalFrom}
 use Rattle.channel_model.specs.Laws.{resolves, wait_of_party, first_waiting, first_holding}
@@ -153,6 +153,7 @@ drops_not (Buffered k) n e = cc
 drops_not Unlimited n e = cc
 drops_not Conflated n e = refl
 drops_not (DropOldest k) n e = refl
+drops_not (DropLatest k) n e = cc
 drops_not Signal n e = cc
 
 none_waits : (w : WaitId) (h : Option Party) → is_none h ≡ true → wait_of_party h ≡ Some w → ⊥
@@ -162,6 +163,26 @@ none_waits w (Some x) e f = cc
 drop_in : (n p d c : ℕ) (w : WaitId) (os : List Standing) (s : State) → list_all (λ (o : Standing). is_none o.holder) os ≡ true → (s.channels d).queue ≡ os → In n p w (s.channels c) → In n p w ((remove_first d os s).channels c)
 drop_in n p d c w [] s f e h = h
 drop_in n p d c w (o ∷ os) s f e h = ⊎_elim (λ x. x) (λ x. absurd (none_waits w o.holder (both (is_none o.holder) (list_all (λ (o : Standing). is_none o.holder) os) f).0 x)) (popped n p d c w o os s e h)
+
+-- so was one that is spurned
+spurns_not : (k : Kind) (n : ℕ) → spurns k n ≡ true → suspends k ≡ false
+spurns_not Rendezvous n e = cc
+spurns_not (Buffered k) n e = cc
+spurns_not Unlimited n e = cc
+spurns_not Conflated n e = cc
+spurns_not (DropOldest k) n e = cc
+spurns_not (DropLatest k) n e = refl
+spurns_not Signal n e = cc
+
+none_within : (p : ℕ) (w : WaitId) (n : ℕ) (os : List Standing) → list_all (λ (o : Standing). is_none o.holder) os ≡ true → within (is_held p w) n os ≡ true → ⊥
+none_within p w n [] f h = cc
+none_within p w zero (o ∷ os) f h = none_waits w o.holder (both (is_none o.holder) (list_all (λ (o : Standing). is_none o.holder) os) f).0 (party_of p w o h)
+none_within p w (suc n) (o ∷ os) f h =
+    let k = both (is_none o.holder) (list_all (λ (o : Standing). is_none o.holder) os) f in
+    ⊎_elim (λ a. none_waits w o.holder k.0 (party_of p w o a)) (λ b. none_within p w n os k.1 b) (or_case (is_held p w o) (within (is_held p w) n os) h)
+
+spurn_in : (n p d c q : ℕ) (w : WaitId) (s : State) → list_all (λ (o : Standing). is_none o.holder) (s.channels d).queue ≡ true → In n p w (s.channels c) → In n p w ((with_queue d (spurned q (s.channels d).queue) s).channels c)
+spurn_in n p d c q w s f h = ⊎_elim (λ x. x) (λ e. cc) (put_in n p d c w None (record (s.channels d) { queue = spurned q (s.channels d).queue }) s (λ x. absurd (none_within p w n (s.channels d).queue f x)) h)
 
 admitted_in : (p q : ℕ) (w : WaitId) (n : ℕ) (os : List Standing) → within (is_held p w) n os ≡ true → (within (is_held p w) n (admitted q os) ≡ true) ⊎ (wait_of_party (holder_at q os) ≡ Some w)
 admitted_in p q w n [] e = inl e
@@ -198,6 +219,7 @@ act_in shape s who (Admit d q) f t n c p w h =
     holder_in n p c w (holder_at q (s.channels d).queue) _ (with_queue d (admitted q (s.channels d).queue) s)
     (put_in n p d c w (wait_of_party (holder_at q (s.channels d).queue)) (record (s.channels d) { queue = admitted q (s.channels d).queue }) s (λ x. admitted_in p q w n (s.channels d).queue x) h)
 act_in shape s who (Drop d q v) f t n c p w h = inl (drop_in n p d c w (s.channels d).queue s ((t.channels d).kept (drops_not (kind_at shape d) _ f.1)) refl h)
+act_in shape s who (Spurn d q v) f t n c p w h = inl (spurn_in n p d c q w s ((t.channels d).kept (spurns_not (kind_at shape d) _ f.1)) h)
 act_in shape s who (Close d v) f t n c p w h = put_in n p d c w None _ s (λ x. inl x) h
 act_in shape s who (Void d) f t n c p w h = put_in n p d c w None _ s (λ x. inl x) h
 act_in shape s who (Drain d q v) f t n c p w h = offer_in n p d c w (s.channels d).queue _ s refl h
@@ -228,6 +250,7 @@ full_more (Buffered k) m n h e = grind (arith, nat_tests)
 full_more Unlimited m n h e = cc
 full_more Conflated m n h e = cc
 full_more (DropOldest k) m n h e = cc
+full_more (DropLatest k) m n h e = cc
 full_more Signal m n h e = refl
 
 not_owed : (a b f : Bool) → a ≡ true → b ≡ true → (a && (b && not f)) ≡ false → f ≡ true

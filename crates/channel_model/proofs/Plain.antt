@@ -3,20 +3,20 @@ use Rattle.std.specs.Prelude.{◌≡◌, ℕ, ◌+◌, ◌<◌, ◌==◌, Bool, 
 use Rattle.std.proofs.Common.{ap, ◌∙◌}
 use Rattle.co_base.specs.declared.names.WaitId.{WaitId}
 use Rattle.channel_model.specs.declared.acts.Kind.{Kind}
-use Rattle.channel_model.specs.declared.acts.Kind.TheVariants.{Rendezvous, Buffered, Unlimited, Conflated, DropOldest, Signal}
+use Rattle.channel_model.specs.declared.acts.Kind.TheVariants.{Rendezvous, Buffered, Unlimited, Conflated, DropOldest, DropLatest, Signal}
 use Rattle.channel_model.specs.declared.acts.Act.{Act}
-use Rattle.channel_model.specs.declared.acts.Act.TheVariants.{Hand, Put, Offer, Await, Take, Admit, Drop, Close, Void, Drain, WakeClosed, Withdraw, Settle}
+use Rattle.channel_model.specs.declared.acts.Act.TheVariants.{Hand, Put, Offer, Await, Take, Admit, Drop, Spurn, Close, Void, Drain, WakeClosed, Withdraw, Settle}
 use Rattle.channel_model.specs.declared.acts.Entry.{Entry}
 use Rattle.channel_model.specs.declared.acts.Settled.{Settled}
 use Rattle.channel_model.specs.declared.standing.Party.{Party}
 use Rattle.channel_model.specs.declared.standing.Standing.{Standing}
 use Rattle.channel_model.specs.declared.standing.Receiver.{Receiver}
 use Rattle.channel_model.specs.declared.standing.Resolution.{Resolution}
-use Rattle.channel_model.specs.Channels.{Shape, State, Channel, Wait, start, kind_at, is_full, drops}
+use Rattle.channel_model.specs.Channels.{Shape, State, Channel, Wait, start, kind_at, is_full, drops, spurns}
 use Rattle.channel_model.specs.Effects.{after, put_channel, put_wait, resolve, resolve_first, resolve_holder, resolve_offer, with_queue, resolved_wait, name_clause, settled_wait, is_open, place_offer, place_receiver}
 use Rattle.channel_model.specs.Histories.{replay, replay_from}
 use Rattle.channel_model.specs.Laws.{is_plain_act, is_plain_history, is_exchange, is_plain_wait, IsPlain, keeps_none}
-use Rattle.channel_model.specs.Owing.{owes_admission, owes, stands_any, OwesNothing}
+use Rattle.channel_model.specs.Owing.{owes_admission, owes, stands_any, OwesNothing, owes_spurn}
 use Rattle.channel_model.proofs.Waits.{one_change}
 
 -- ---- every plain act keeps it
@@ -58,6 +58,9 @@ put_plain c ch s e f h = record {
   waits = h.waits;
 }
 
+stood_plain : (stood : ℕ → ℕ → ℕ) (s : State) → IsPlain s → IsPlain (record s { stood = stood })
+stood_plain stood s h = record { not_closed = h.not_closed; not_voided = h.not_voided; waits = h.waits }
+
 offer_plain : (c : ℕ) (os : List Standing) (how : ℕ → Resolution) (s : State) → ((k : ℕ) → is_exchange (how k) ≡ true) → IsPlain s → IsPlain (resolve_offer c os how s)
 offer_plain c [] how s e h = h
 offer_plain c (o ∷ os) how s e h = holder_plain o.holder how (with_queue c os s) e (put_plain c _ s (h.not_closed c) (h.not_voided c) h)
@@ -83,16 +86,17 @@ receiver_voided false r ch = refl
 
 after_plain : (s : State) (who : ℕ) (act : Act) → is_plain_act act ≡ true → IsPlain s → IsPlain (after s who act)
 after_plain s who (Hand c p v) e h = first_plain _ _ s (λ k. refl) h
-after_plain s who (Put c p v) e h = put_plain c _ s (h.not_closed c) (h.not_voided c) h
+after_plain s who (Put c p v) e h = stood_plain _ _ (put_plain c _ s (h.not_closed c) (h.not_voided c) h)
 after_plain s who (Offer c p v w k) e h =
     let b = is_open (s.waits w) in
-    waits_plain _ w (name_clause who k c) (plain_named who k c) (put_plain c _ s (offer_closed b _ (s.channels c) ∙ h.not_closed c) (offer_voided b _ (s.channels c) ∙ h.not_voided c) h)
+    stood_plain _ _ (waits_plain _ w (name_clause who k c) (plain_named who k c) (put_plain c _ s (offer_closed b _ (s.channels c) ∙ h.not_closed c) (offer_voided b _ (s.channels c) ∙ h.not_voided c) h))
 after_plain s who (Await c p w k) e h =
     let b = is_open (s.waits w) in
     waits_plain _ w (name_clause who k c) (plain_named who k c) (put_plain c _ s (receiver_closed b _ (s.channels c) ∙ h.not_closed c) (receiver_voided b _ (s.channels c) ∙ h.not_voided c) h)
 after_plain s who (Take c p v) e h = offer_plain c _ _ s (λ k. refl) h
 after_plain s who (Admit c p) e h = cc
 after_plain s who (Drop c p v) e h = cc
+after_plain s who (Spurn c p v) e h = cc
 after_plain s who (Close c v) e h = cc
 after_plain s who (Void c) e h = cc
 after_plain s who (Drain c p v) e h = cc
@@ -122,6 +126,7 @@ full_when_none (Buffered k) n e = cc
 full_when_none Unlimited n e = cc
 full_when_none Conflated n e = cc
 full_when_none (DropOldest k) n e = cc
+full_when_none (DropLatest k) n e = cc
 full_when_none Signal n e = refl
 
 none_dropped : (kind : Kind) (n : ℕ) → keeps_none kind ≡ true → drops kind n ≡ false
@@ -130,7 +135,17 @@ none_dropped (Buffered k) n e = cc
 none_dropped Unlimited n e = cc
 none_dropped Conflated n e = cc
 none_dropped (DropOldest k) n e = cc
+none_dropped (DropLatest k) n e = cc
 none_dropped Signal n e = refl
+
+none_over : (kind : Kind) (n : ℕ) → keeps_none kind ≡ true → spurns kind n ≡ false
+none_over Rendezvous n e = refl
+none_over (Buffered k) n e = cc
+none_over Unlimited n e = cc
+none_over Conflated n e = cc
+none_over (DropOldest k) n e = cc
+none_over (DropLatest k) n e = cc
+none_over Signal n e = refl
 
 and_false : (a b : Bool) → b ≡ true → (a && not b) ≡ false
 and_false true b e = ap not e
@@ -144,11 +159,15 @@ none_admitted : (kind : Kind) (n : ℕ) (os : List Standing) → keeps_none kind
 none_admitted kind n [] e = refl
 none_admitted kind n (o ∷ os) e = or_false _ _ (and_false (is_some o.holder) (is_full kind n) (full_when_none kind n e)) (none_admitted kind (n + 1) os e)
 
+none_spurned : (kind : Kind) (n : ℕ) (os : List Standing) → keeps_none kind ≡ true → owes_spurn kind n os ≡ false
+none_spurned kind n [] e = refl
+none_spurned kind n (o ∷ os) e = or_false _ _ (none_over kind n e) (none_spurned kind (n + 1) os e)
+
 owes_plain : (kind : Kind) (ch : Channel) → keeps_none kind ≡ true → ch.closed ≡ None → ch.voided ≡ false → owes kind ch ≡ false
 owes_plain kind ch e f g =
     or_false _ _ (none_admitted kind 0 ch.queue e)
     (or_false _ _ (ap (λ (x : Option ℕ). is_some x && stands_any ch.receivers) f)
-    (or_false _ _ (ap (λ (b : Bool). b && stands_any ch.queue) g) (none_dropped kind (length ch.queue) e)))
+    (or_false _ _ (ap (λ (b : Bool). b && stands_any ch.queue) g) (or_false _ _ (none_dropped kind (length ch.queue) e) (none_spurned kind 0 ch.queue e))))
 
 pub plain_owes_nothing : (shape : Shape) (s : State) → IsPlain s → ((c : ℕ) → c < length shape → keeps_none (kind_at shape c) ≡ true) → OwesNothing shape s
 plain_owes_nothing shape s h k c lt = owes_plain (kind_at shape c) (s.channels c) (k c lt) (h.not_closed c) (h.not_voided c)

@@ -7,7 +7,7 @@ use Rattle.std.proofs.lemmas.Bool.{eqb-true}
 use Rattle.std.proofs.lemmas.Bool.Decides.{nat_tests}
 use Rattle.co_base.specs.declared.names.WaitId.{WaitId}
 use Rattle.channel_model.specs.declared.acts.Act.{Act}
-use Rattle.channel_model.specs.declared.acts.Act.TheVariants.{Hand, Put, Offer, Await, Take, Admit, Drop, Close, Void, Drain, WakeClosed, Withdraw, Settle}
+use Rattle.channel_model.specs.declared.acts.Act.TheVariants.{Hand, Put, Offer, Await, Take, Admit, Drop, Spurn, Close, Void, Drain, WakeClosed, Withdraw, Settle}
 use Rattle.channel_model.specs.declared.acts.Entry.{Entry}
 use Rattle.channel_model.specs.declared.standing.Party.{Party}
 use Rattle.channel_model.specs.declared.standing.Standing.{Standing}
@@ -18,7 +18,7 @@ use Rattle.channel_model.specs.Channels.{Shape, State, Channel, Wait, same_wait,
 use Rattle.channel_model.specs.declared.acts.Settled.{Settled}
 use Rattle.channel_model.specs.declared.acts.Settled.TheVariants as settled
 use Rattle.channel_model.specs.Answers.{outcome_at, outcome_of_some}
-use Rattle.channel_model.specs.Effects.{after, resolve, resolve_first, resolve_holder, resolve_offer, remove_first, with_queue, put_channel, put_wait, resolved_wait, name_clause, settled_wait, holder_at, admitted, is_open, place_offer, place_receiver}
+use Rattle.channel_model.specs.Effects.{after, resolve, resolve_first, resolve_holder, resolve_offer, remove_first, with_queue, put_channel, put_wait, resolved_wait, name_clause, settled_wait, holder_at, admitted, spurned, is_open, place_offer, place_receiver}
 use Rattle.channel_model.specs.Needs.{Needs, HasPlace, MayName, JoinsWait, MaySettle, IsOpenOf, began_by_select}
 use Rattle.channel_model.specs.Histories.{replay, replay_from, Legal, LegalFrom, acts_of}
 use Rattle.channel_model.specs.Laws.{how_many, IsStandingAt, HolderStands, OffersStand, AllStandOpen}
@@ -56,6 +56,10 @@ put_plain who w c ch s none f h = record {
     by_test : (d : ℕ) (b : Bool) → receivers_of w (if b then ch else s.channels d) ≡ 0
     by_test d true = none
     by_test d false = h.no_receiver d
+
+-- how many stood as offers were placed is nothing to it
+stood_plain : (who : ℕ) (w : WaitId) (stood : ℕ → ℕ → ℕ) (s : State) → OffersPlainly who w s → OffersPlainly who w (record s { stood = stood })
+stood_plain who w stood s h = record { wait = h.wait; no_receiver = h.no_receiver }
 
 queue_plain : (who : ℕ) (w : WaitId) (c : ℕ) (q : List Standing) (s : State) → OffersPlainly who w s → OffersPlainly who w (with_queue c q s)
 queue_plain who w c q s h = put_plain who w c _ s (h.no_receiver c) (λ e. e) h
@@ -151,7 +155,7 @@ is_quiet other = true
 
 -- a wait is named, and a channel gives a place out
 named_plain : (who n k c p places : ℕ) (v w : WaitId) (ch : Channel) (s : State) → Placed s → HasPlace places p (s.channels c) → MayName n k c p v s → (receivers_of w (s.channels c) ≡ 0 → (v ≡ w → ⊥) → receivers_of w ch ≡ 0) → ((s.channels c).voided ≡ true → ch.voided ≡ true) → OffersPlainly who w s
-    → OffersPlainly who w (record { channels = put_channel c ch s.channels; waits = put_wait v (name_clause n k c (s.waits v)) s.waits })
+    → OffersPlainly who w (record s { channels = put_channel c ch s.channels; waits = put_wait v (name_clause n k c (s.waits v)) s.waits })
 named_plain who n k c p places v w ch s place has may none f h =
     let apart : v ≡ w → ⊥ = named_apart who n k c p places v w s place has may h in
     let t = put_plain who w c ch s (none (h.no_receiver c) apart) f h in
@@ -200,8 +204,8 @@ settled_plain who n outcome v w s apart m h = record { wait = by_test (same_wait
 -- others, and the owner's own acts that neither withdraw nor settle, leave it
 after_plain : (shape : Shape) (who n : ℕ) (w : WaitId) (s : State) (act : Act) → Needs shape s n act → (is_quiet act ≡ false → n ≢ who) → AllStandOpen s → Placed s → OffersPlainly who w s → OffersPlainly who w (after s n act)
 after_plain shape who n w s (Hand c p v) m f o l h = first_plain who w c (s.channels c).receivers _ s refl h
-after_plain shape who n w s (Put c p v) m f o l h = put_plain who w c _ s (offer_receivers true w (record { place = p; value = v; holder = None }) (s.channels c) (h.no_receiver c)) (λ e. e) h
-after_plain shape who n w s (Offer c p x v k) m f o l h = named_plain who n k c p (places_at shape c) v w _ s l m.1 m.4 (λ e apart. offer_receivers (is_open (s.waits v)) w (record { place = p; value = x; holder = Some (record { wait = v; clause = k }) }) (s.channels c) e) (offer_voided (is_open (s.waits v)) (record { place = p; value = x; holder = Some (record { wait = v; clause = k }) }) (s.channels c)) h
+after_plain shape who n w s (Put c p v) m f o l h = stood_plain who w _ _ (put_plain who w c _ s (offer_receivers true w (record { place = p; value = v; holder = None }) (s.channels c) (h.no_receiver c)) (λ e. e) h)
+after_plain shape who n w s (Offer c p x v k) m f o l h = stood_plain who w _ _ (named_plain who n k c p (places_at shape c) v w _ s l m.1 m.4 (λ e apart. offer_receivers (is_open (s.waits v)) w (record { place = p; value = x; holder = Some (record { wait = v; clause = k }) }) (s.channels c) e) (offer_voided (is_open (s.waits v)) (record { place = p; value = x; holder = Some (record { wait = v; clause = k }) }) (s.channels c)) h)
 after_plain shape who n w s (Await c p v k) m f o l h = named_plain who n k c p (places_at shape c) v w _ s l m.1 m.3 (λ e apart. receiver_receivers (is_open (s.waits v)) w (record { place = p; party = record { wait = v; clause = k } }) (s.channels c) apart e) (receiver_voided (is_open (s.waits v)) (record { place = p; party = record { wait = v; clause = k } }) (s.channels c)) h
 after_plain shape who n w s (Take c p v) m f o l h = offer_plain who w c (s.channels c).queue resolved.Taken s refl (λ k q i e. tt) (o c).offers h
 after_plain shape who n w s (Admit c p) m f o l h = holder_plain who w (holder_at p (s.channels c).queue) resolved.Admitted (with_queue c (admitted p (s.channels c).queue) s) (λ q i e. tt) (queue_plain who w c (admitted p (s.channels c).queue) s h)
@@ -210,6 +214,7 @@ after_plain shape who n w s (Drop c p v) m f o l h = dropped (s.channels c).queu
     dropped : (q : List Standing) → OffersPlainly who w (remove_first c q s)
     dropped [] = h
     dropped (x ∷ xs) = queue_plain who w c xs s h
+after_plain shape who n w s (Spurn c p v) m f o l h = queue_plain who w c (spurned p (s.channels c).queue) s h
 after_plain shape who n w s (Close c v) m f o l h = put_plain who w c _ s (h.no_receiver c) (λ e. e) h
 after_plain shape who n w s (Void c) m f o l h = put_plain who w c _ s (h.no_receiver c) (λ e. refl) h
 after_plain shape who n w s (Drain c p v) m f o l h = offer_plain who w c (s.channels c).queue (λ k. resolved.Voided) s refl (λ k q i e. voided_here who w c q s h m.1 i e) (o c).offers h

@@ -5,7 +5,7 @@ use Rattle.std.proofs.Common.{ap, ◌∙◌, subst, arith}
 use Rattle.std.proofs.lemmas.Bool.Decides.{nat_tests}
 use Rattle.std.proofs.lemmas.List.Folds.{list_any-append}
 use Rattle.channel_model.specs.declared.acts.Kind.{Kind}
-use Rattle.channel_model.specs.declared.acts.Kind.TheVariants.{Rendezvous, Buffered, Unlimited, Conflated, DropOldest, Signal}
+use Rattle.channel_model.specs.declared.acts.Kind.TheVariants.{Rendezvous, Buffered, Unlimited, Conflated, DropOldest, DropLatest, Signal}
 use Rattle.channel_model.specs.declared.acts.Act.{Act}
 use Rattle.channel_model.specs.declared.acts.Act.TheVariants.{Put, Drop}
 use Rattle.channel_model.specs.declared.acts.Entry.{Entry}
@@ -27,6 +27,7 @@ dropping (Buffered k) c p place v n d h = cc
 dropping Unlimited c p place v n d h = cc
 dropping Conflated c p place v n d h = here_below c p place v h
 dropping (DropOldest k) c p place v n d h = here_below c p place v h
+dropping (DropLatest k) c p place v n d h = cc
 dropping Signal c p place v n d h = cc
 
 -- a drop that a call made up to its own place follows its Put

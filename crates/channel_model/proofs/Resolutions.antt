@@ -3,7 +3,7 @@ use Rattle.std.specs.Prelude.{◌≡◌, ℕ, ◌+◌, ◌==◌, true, false, Li
 use Rattle.std.proofs.Common.{sym, subst, arith}
 use Rattle.co_base.specs.declared.names.WaitId.{WaitId}
 use Rattle.channel_model.specs.declared.acts.Act.{Act}
-use Rattle.channel_model.specs.declared.acts.Act.TheVariants.{Hand, Put, Offer, Await, Take, Admit, Drop, Close, Void, Drain, WakeClosed, Withdraw, Settle}
+use Rattle.channel_model.specs.declared.acts.Act.TheVariants.{Hand, Put, Offer, Await, Take, Admit, Drop, Spurn, Close, Void, Drain, WakeClosed, Withdraw, Settle}
 use Rattle.channel_model.specs.declared.acts.Settled.{Settled}
 use Rattle.channel_model.specs.declared.standing.Party.{Party}
 use Rattle.channel_model.specs.declared.standing.Standing.{Standing}
@@ -106,6 +106,7 @@ resolves_turns shape s who (Take c p x) h n v e = offer_resolved c _ _ s (h c).o
 resolves_turns shape s who (Admit c p) h n v e =
     holder_resolved c (holder_at p (s.channels c).queue) _ (with_queue c (admitted p (s.channels c).queue) s) (holder_at_stands s.waits c p (s.channels c).queue (h c).offers) v e
 resolves_turns shape s who (Drop c p x) h n v e = cc
+resolves_turns shape s who (Spurn c p x) h n v e = cc
 resolves_turns shape s who (Close c x) h n v e = cc
 resolves_turns shape s who (Void c) h n v e = cc
 resolves_turns shape s who (Drain c p x) h n v e = offer_resolved c _ _ s (h c).offers v e
@@ -137,6 +138,7 @@ settles_turns shape s who (Await c p w k) n v e = cc
 settles_turns shape s who (Take c p x) n v e = cc
 settles_turns shape s who (Admit c p) n v e = cc
 settles_turns shape s who (Drop c p x) n v e = cc
+settles_turns shape s who (Spurn c p x) n v e = cc
 settles_turns shape s who (Close c x) n v e = cc
 settles_turns shape s who (Void c) n v e = cc
 settles_turns shape s who (Drain c p x) n v e = cc

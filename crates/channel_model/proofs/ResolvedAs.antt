@@ -3,7 +3,7 @@ use Rattle.std.specs.Prelude.{◌≡◌, ℕ, ◌==◌, Bool, true, false, List,
 use Rattle.std.proofs.Common.{sym, ◌∙◌, subst}
 use Rattle.co_base.specs.declared.names.WaitId.{WaitId}
 use Rattle.channel_model.specs.declared.acts.Act.{Act}
-use Rattle.channel_model.specs.declared.acts.Act.TheVariants.{Hand, Put, Offer, Await, Take, Admit, Drop, Close, Void, Drain, WakeClosed, Withdraw, Settle}
+use Rattle.channel_model.specs.declared.acts.Act.TheVariants.{Hand, Put, Offer, Await, Take, Admit, Drop, Spurn, Close, Void, Drain, WakeClosed, Withdraw, Settle}
 use Rattle.channel_model.specs.declared.acts.Settled.{Settled}
 use Rattle.channel_model.specs.declared.standing.Party.{Party}
 use Rattle.channel_model.specs.declared.standing.Standing.{Standing}
@@ -75,6 +75,7 @@ resolved_step shape how w s who (Await c p u k) stand n h = one_change (IsResolv
 resolved_step shape how w s who (Take c p v) stand n h = offer_other how w c (s.channels c).queue _ s (stand c).offers h
 resolved_step shape how w s who (Admit c p) stand n h = holder_other how w c (holder_at p (s.channels c).queue) _ _ (holder_at_stands s.waits c p (s.channels c).queue (stand c).offers) h
 resolved_step shape how w s who (Drop c p v) stand n h = removed_other how w c (s.channels c).queue s h
+resolved_step shape how w s who (Spurn c p v) stand n h = h
 resolved_step shape how w s who (Close c v) stand n h = h
 resolved_step shape how w s who (Void c) stand n h = h
 resolved_step shape how w s who (Drain c p v) stand n h = offer_other how w c (s.channels c).queue _ s (stand c).offers h

@@ -3,7 +3,7 @@ use Rattle.std.specs.Prelude.{◌≡◌, ℕ, ◌==◌, ◌≤◌, Bool, true, f
 use Rattle.std.proofs.Common.{sym, ap, ◌∙◌, subst, arith, inl, inr, eqb-true}
 use Rattle.co_base.specs.declared.names.WaitId.{WaitId}
 use Rattle.channel_model.specs.declared.acts.Act.{Act}
-use Rattle.channel_model.specs.declared.acts.Act.TheVariants.{Hand, Put, Offer, Await, Take, Admit, Drop, Close, Void, Drain, WakeClosed, Withdraw, Settle}
+use Rattle.channel_model.specs.declared.acts.Act.TheVariants.{Hand, Put, Offer, Await, Take, Admit, Drop, Spurn, Close, Void, Drain, WakeClosed, Withdraw, Settle}
 use Rattle.channel_model.specs.declared.acts.Entry.{Entry}
 use Rattle.channel_model.specs.declared.acts.Settled.{Settled}
 use Rattle.channel_model.specs.declared.standing.Party.{Party}
@@ -12,7 +12,7 @@ use Rattle.channel_model.specs.declared.standing.Receiver.{Receiver}
 use Rattle.channel_model.specs.declared.standing.Resolution.{Resolution}
 use Rattle.channel_model.specs.declared.standing.Resolution.TheVariants.{Handed, Taken, Admitted, Closed, Withdrawn, Voided}
 use Rattle.channel_model.specs.Channels.{Shape, State, Channel, Wait, same_wait, start}
-use Rattle.channel_model.specs.Effects.{after, put_channel, put_wait, resolved_wait, resolve, resolve_holder, resolve_first, with_queue, remove_first, resolve_offer, name_clause, is_open, place_offer, place_receiver, admitted, holder_at, settled_wait}
+use Rattle.channel_model.specs.Effects.{after, put_channel, put_wait, resolved_wait, resolve, resolve_holder, resolve_first, with_queue, remove_first, resolve_offer, name_clause, is_open, place_offer, place_receiver, admitted, holder_at, settled_wait, is_elsewhere, spurned}
 use Rattle.channel_model.specs.Needs.{Needs, MayName, JoinsWait, IsOpenOf, HasPlace}
 use Rattle.channel_model.specs.Outcomes.{outcome_of}
 use Rattle.channel_model.specs.Answers.{outcome_at, outcome_of_some}
@@ -209,6 +209,7 @@ module _ (shape : Shape) (IsClause : Bool → ℕ → ℕ → Type 0) (MayGo : T
   at_step s n (Admit c p) placed needs k h =
       resolve_holder_at c (holder_at p (s.channels c).queue) _ _ (holder_there c p (s.channels c).queue (h.stands c).offers) (λ j f. (c, f)) (queue_at c _ s (offers_admitted c p (s.channels c).queue (h.stands c).offers) h)
   at_step s n (Drop c p v) placed needs k h = removed_at c (s.channels c).queue s (h.stands c).offers h
+  at_step s n (Spurn c p v) placed needs k h = queue_at c _ s (offers_kept c (is_elsewhere p) (s.channels c).queue (h.stands c).offers) h
   at_step s n (Close c v) placed needs k h = record { own = h.own; stands = put_at c _ s (record { offers = (h.stands c).offers; receivers = (h.stands c).receivers }) h.stands }
   at_step s n (Void c) placed needs k h = record { own = h.own; stands = put_at c _ s (record { offers = (h.stands c).offers; receivers = (h.stands c).receivers }) h.stands }
   at_step s n (Drain c p v) placed needs k h = offer_at c (s.channels c).queue _ s (h.stands c).offers (λ j f. (j, c, f)) h
@@ -274,6 +275,7 @@ module _ (shape : Shape) (IsClause : Bool → ℕ → ℕ → Type 0) (MayGo : T
   at_begin s n (Take c p v) h needs m b k = absurd b
   at_begin s n (Admit c p) h needs m b k = absurd b
   at_begin s n (Drop c p v) h needs m b k = absurd b
+  at_begin s n (Spurn c p v) h needs m b k = absurd b
   at_begin s n (Close c v) h needs m b k = absurd b
   at_begin s n (Void c) h needs m b k = absurd b
   at_begin s n (Drain c p v) h needs m b k = absurd b

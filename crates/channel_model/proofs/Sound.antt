@@ -12,7 +12,7 @@ use Rattle.channel_model.specs.declared.standing.Standing.{Standing}
 use Rattle.channel_model.specs.declared.standing.Receiver.{Receiver}
 use Rattle.channel_model.specs.declared.standing.Resolution.{Resolution}
 use Rattle.channel_model.specs.Channels.{Shape, State, Channel, Wait, start, places_at, kind_at, suspends}
-use Rattle.channel_model.specs.Effects.{after, is_held_by, admitted, place_offer, place_receiver, resolved_wait, settled_wait, name_clause}
+use Rattle.channel_model.specs.Effects.{after, is_held_by, admitted, place_offer, place_receiver, resolved_wait, settled_wait, name_clause, is_elsewhere, spurned}
 use Rattle.channel_model.specs.Needs.{Needs, HasPlace, MaySettle}
 use Rattle.channel_model.specs.Outcomes.{IsOutcome}
 use Rattle.channel_model.specs.Histories.{replay, replay_from, Legal, LegalFrom}
@@ -60,6 +60,7 @@ sound_keeps shape = record {
   without = λ w d ch h. record { kept = λ e. all_filter is_kept (λ (o : Standing). not (is_held_by w o.holder)) ch.queue (h.kept e); voided = h.voided; within = h.within };
   rest = λ d o os ch e h. record { kept = λ s. all_rest is_kept o os (subst (λ (l : List Standing). list_all is_kept l ≡ true) e (h.kept s)); voided = h.voided; within = h.within };
   admit = λ d p ch h. record { kept = λ e. admitted_kept p ch.queue (h.kept e); voided = h.voided; within = h.within };
+  spurn = λ d p ch h. record { kept = λ e. all_filter is_kept (is_elsewhere p) ch.queue (h.kept e); voided = h.voided; within = h.within };
   put = λ d p v ch h n x. record { kept = λ e. all_push is_kept ch.queue (record { place = p; value = v; holder = None }) (x.kept e) refl; voided = x.voided; within = let l = h.left in omega arith };
   offer = λ d p b o ch h n s e x. offer_sound shape d p b o ch h s x;
   await = λ d p b r ch h n e x. receiver_sound shape d p b r ch h x;
@@ -150,6 +151,7 @@ given_keeps shape p = record {
   without = λ w d ch h. h;
   rest = λ d o os ch e h. h;
   admit = λ d q ch h. h;
+  spurn = λ d q ch h. h;
   put = λ d q v ch h n x. omega arith;
   offer = λ d q b o ch h n s e x. next_offer b o ch x;
   await = λ d q b r ch h n e x. next_receiver b r ch x;
@@ -170,6 +172,7 @@ closed_keeps shape v = record {
   without = λ w d ch h. h;
   rest = λ d o os ch e h. h;
   admit = λ d q ch h. h;
+  spurn = λ d q ch h. h;
   put = λ d q u ch h n x. x;
   offer = λ d q b o ch h n s e x. by_offer b o ch x;
   await = λ d q b r ch h n e x. by_receiver b r ch x;
@@ -190,6 +193,7 @@ voided_keeps shape = record {
   without = λ w d ch h. h;
   rest = λ d o os ch e h. h;
   admit = λ d q ch h. h;
+  spurn = λ d q ch h. h;
   put = λ d q u ch h n x. x;
   offer = λ d q b o ch h n s e x. by_offer b o ch x;
   await = λ d q b r ch h n e x. by_receiver b r ch x;

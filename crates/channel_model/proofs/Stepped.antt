@@ -6,7 +6,7 @@ use Rattle.std.proofs.Common.{sym, ap, ◌∙◌, subst, arith, inl, inr, ⊎_el
 use Rattle.std.proofs.lemmas.Bool.Decides.{Decides-and, Decides-like, Decides-ltb, Decides-eqb, Decides-or, nat_tests}
 use Rattle.co_base.specs.declared.names.WaitId.{WaitId}
 use Rattle.channel_model.specs.declared.acts.Act.{Act}
-use Rattle.channel_model.specs.declared.acts.Act.TheVariants.{Hand, Put, Offer, Await, Take, Admit, Drop, Close, Void, Drain, WakeClosed, Withdraw, Settle}
+use Rattle.channel_model.specs.declared.acts.Act.TheVariants.{Hand, Put, Offer, Await, Take, Admit, Drop, Spurn, Close, Void, Drain, WakeClosed, Withdraw, Settle}
 use Rattle.channel_model.specs.declared.acts.Entry.{Entry}
 use Rattle.channel_model.specs.declared.acts.Kind.{Kind}
 use Rattle.channel_model.specs.declared.acts.Settled.{Settled}
@@ -15,12 +15,12 @@ use Rattle.channel_model.specs.declared.standing.Receiver.{Receiver}
 use Rattle.channel_model.specs.declared.standing.Resolution.{Resolution}
 use Rattle.channel_model.specs.declared.standing.Resolution.TheVariants as resolved
 use Rattle.channel_model.specs.declared.standing.Standing.{Standing}
-use Rattle.channel_model.specs.Channels.{Shape, State, Channel, Wait, same_wait, kind_at, places_at, is_full, is_signal, suspends, drops}
+use Rattle.channel_model.specs.Channels.{Shape, State, Channel, Wait, same_wait, kind_at, places_at, is_full, is_signal, suspends, drops, spurns}
 use Rattle.channel_model.specs.Effects.{after}
 use Rattle.channel_model.specs.Histories.{replay_from, LegalFrom}
-use Rattle.channel_model.specs.Needs.{Needs, IsFirstReceiver, IsFirstOffer, HasPlace, MayBeAdmitted, JoinsWait, MayName, IsOpenOf, MaySettle, began_by_select}
+use Rattle.channel_model.specs.Needs.{Needs, IsFirstReceiver, IsFirstOffer, IsOfferAt, HasPlace, MayBeAdmitted, JoinsWait, MayName, IsOpenOf, MaySettle, began_by_select}
 use Rattle.channel_model.specs.Outcomes.{outcome_of, IsOutcome}
-use Rattle.channel_model.specs.Steps.{stands_none, is_first_receiver, is_first_offer, gives_place, is_admissible, may_join, may_name, is_open_of, same_settled, is_outcome, may_settle, may_come, step, or_nothing, steps}
+use Rattle.channel_model.specs.Steps.{stands_none, is_first_receiver, is_first_offer, is_offer_at, gives_place, is_admissible, may_join, may_name, is_open_of, same_settled, is_outcome, may_settle, may_come, step, or_nothing, steps}
 use Rattle.channel_model.proofs.Firsts.{outcome_is}
 
 -- ---- the parts
@@ -60,6 +60,10 @@ receiver_decides p (r ∷ rs) = Decides-eqb r.place p
 offer_decides : (p v : ℕ) (os : List Standing) → Decides (is_first_offer p v os) (IsFirstOffer p v os)
 offer_decides p v [] = never_decides (λ h. h)
 offer_decides p v (o ∷ os) = Decides-and (o.place == p) (o.value == v) (Decides-eqb o.place p) (Decides-eqb o.value v)
+
+at_decides : (p v : ℕ) (os : List Standing) → Decides (is_offer_at p v os) (IsOfferAt p v os)
+at_decides p v [] = never_decides (λ h. h)
+at_decides p v (o ∷ os) = if_decides (o.place == p) _ _ (Decides-eqb o.value v) (at_decides p v os)
 
 place_decides : (places p : ℕ) (ch : Channel) → Decides (gives_place places p ch) (HasPlace places p ch)
 place_decides places p ch =
@@ -211,6 +215,9 @@ needs_decides shape s who (Admit c p) = Decides-and _ _ (lt_decides c (length sh
 needs_decides shape s who (Drop c p v) =
     Decides-like (may_come shape s who (Drop c p v)) (λ h. (h.0, h.1.0, h.1.1)) (λ h. (h.0, (h.1, h.2)))
     (Decides-and _ _ (lt_decides c (length shape)) (Decides-and _ _ (true_decides (drops (kind_at shape c) (length (s.channels c).queue))) (offer_decides p v (s.channels c).queue)))
+needs_decides shape s who (Spurn c p v) =
+    Decides-like (may_come shape s who (Spurn c p v)) (λ h. (h.0, h.1.0, h.1.1)) (λ h. (h.0, (h.1, h.2)))
+    (Decides-and _ _ (lt_decides c (length shape)) (Decides-and _ _ (true_decides (spurns (kind_at shape c) (s.stood c p))) (at_decides p v (s.channels c).queue)))
 needs_decides shape s who (Close c v) = Decides-and _ _ (lt_decides c (length shape)) (none_decides (s.channels c).closed)
 needs_decides shape s who (Void c) =
     Decides-like (may_come shape s who (Void c)) (λ h. (h.0, h.1.0, h.1.1)) (λ h. (h.0, (h.1, h.2)))

@@ -2,7 +2,7 @@
 use Rattle.std.specs.Prelude.{◌≡◌, ℕ, ◌<◌, ◌≤◌, ◌==◌, ◌&&◌, Bool, true, false, List, [], ◌∷◌, length, Option, Some, None, is_some, Result, Ok, Err}
 use Rattle.std.specs.List.{list_any}
 use Rattle.channel_model.specs.declared.acts.Act.{Act}
-use Rattle.channel_model.specs.declared.acts.Act.TheVariants.{Hand, Put, Offer, Await, Take, Admit, Drop, Close, Void, Drain, WakeClosed, Withdraw, Settle}
+use Rattle.channel_model.specs.declared.acts.Act.TheVariants.{Hand, Put, Offer, Await, Take, Admit, Drop, Spurn, Close, Void, Drain, WakeClosed, Withdraw, Settle}
 use Rattle.channel_model.specs.declared.acts.Settled.{Settled}
 use Rattle.channel_model.specs.declared.acts.Why.{Why}
 use Rattle.channel_model.specs.declared.standing.Party.{Party}
@@ -27,7 +27,7 @@ use Rattle.channel_model.specs.Channels.{Shape, State, Wait, kind_at, places_at,
 use Rattle.channel_model.specs.Outcomes.{outcome_of}
 use Rattle.channel_model.specs.Effects.{holder_at}
 use Rattle.channel_model.specs.Histories.{replay, acts_of}
-use Rattle.channel_model.specs.Owing.{owes_admission_below, offers_up_to}
+use Rattle.channel_model.specs.Owing.{owes_admission_below, owes_spurn_at, offers_up_to}
 use Rattle.channel_model.specs.Floors.{Floor, Looked, Made, AtStep, AtMoment}
 
 -- ---- whose a wait is
@@ -284,3 +284,14 @@ IsTrimmed shape c mine s = drops (kind_at shape c) (offers_up_to mine (s.channel
 abbrev pub TrimAnswer : ℕ → ℕ → ℕ → Floor → Floor → Option (ℕ × ℕ) → Type 0
 TrimAnswer who c mine old new (Some x) = Made who (Drop c x.0 x.1) old new × (x.0 ≤ mine)
 TrimAnswer who c mine old new None = Looked who old new × AtStep old new (IsTrimmed old.shape c mine)
+
+-- ---- spurn
+
+-- no offer stands at this place, or fewer before it than a kind keeps that does not keep its latest
+abbrev pub StandsWithRoom : Shape → ℕ → ℕ → State → Type 0
+StandsWithRoom shape c p s = owes_spurn_at (kind_at shape c) p 0 (s.channels c).queue ≡ false
+
+-- the element of the own place, or nothing if none is to be removed there
+abbrev pub SpurnAnswer : ℕ → ℕ → ℕ → Floor → Floor → Option ℕ → Type 0
+SpurnAnswer who c mine old new (Some v) = Made who (Spurn c mine v) old new
+SpurnAnswer who c mine old new None = Looked who old new × AtStep old new (StandsWithRoom old.shape c mine)

@@ -1,7 +1,7 @@
 -- The state of the channels.
 use Rattle.std.specs.Prelude.{ℕ, ◌<◌, ◌≤◌, length, ◌==◌, nat_le, nat_lt, Bool, true, false, ◌&&◌, List, [], Option, None, slice_index_or}
 use Rattle.channel_model.specs.declared.acts.Kind.{Kind}
-use Rattle.channel_model.specs.declared.acts.Kind.TheVariants.{Rendezvous, Buffered, Unlimited, Conflated, DropOldest, Signal}
+use Rattle.channel_model.specs.declared.acts.Kind.TheVariants.{Rendezvous, Buffered, Unlimited, Conflated, DropOldest, DropLatest, Signal}
 use Rattle.channel_model.specs.declared.acts.Settled.{Settled}
 use Rattle.channel_model.specs.declared.standing.Standing.{Standing}
 use Rattle.channel_model.specs.declared.standing.Receiver.{Receiver}
@@ -34,6 +34,7 @@ is_full (Buffered k) n = nat_le k n
 is_full Unlimited n = false
 is_full Conflated n = false
 is_full (DropOldest k) n = false
+is_full (DropLatest k) n = false
 is_full Signal n = true
 
 -- a send may wait
@@ -43,6 +44,7 @@ suspends (Buffered k) = true
 suspends Unlimited = false
 suspends Conflated = false
 suspends (DropOldest k) = false
+suspends (DropLatest k) = false
 suspends Signal = false
 
 abbrev pub is_signal : Kind → Bool
@@ -51,6 +53,7 @@ is_signal (Buffered k) = false
 is_signal Unlimited = false
 is_signal Conflated = false
 is_signal (DropOldest k) = false
+is_signal (DropLatest k) = false
 is_signal Signal = true
 
 -- a queue of this length is too long for the kind, which drops its oldest element
@@ -60,7 +63,18 @@ drops (Buffered k) n = false
 drops Unlimited n = false
 drops Conflated n = nat_lt 1 n
 drops (DropOldest k) n = nat_lt k n
+drops (DropLatest k) n = false
 drops Signal n = false
+
+-- an offer before which so many stand is one too many for the kind, which does not keep its latest
+abbrev pub spurns : Kind → ℕ → Bool
+spurns Rendezvous n = false
+spurns (Buffered k) n = false
+spurns Unlimited n = false
+spurns Conflated n = false
+spurns (DropOldest k) n = false
+spurns (DropLatest k) n = nat_le k n
+spurns Signal n = false
 
 pub record Channel : Type 0 where
   -- how many places were given out
@@ -86,12 +100,14 @@ pub record Wait : Type 0 where
 pub record State : Type 0 where
   pub channels : ℕ → Channel
   pub waits : WaitId → Option Wait
+  -- how many offers stood at a channel when the offer at this place was placed there
+  pub stood : ℕ → ℕ → ℕ
 
 abbrev pub empty : Channel
 empty = record { next = 0; queue = []; receivers = []; closed = None; voided = false }
 
 abbrev pub start : State
-start = record { channels = λ c. empty; waits = λ w. None }
+start = record { channels = λ c. empty; waits = λ w. None; stood = λ c p. 0 }
 
 abbrev pub same_wait : WaitId → WaitId → Bool
 same_wait v w = (v.channel == w.channel) && (v.place == w.place)

@@ -1,7 +1,7 @@
 -- What an entry leaves.
-use Rattle.std.specs.Prelude.{ℕ, ◌+◌, ◌==◌, Bool, true, false, not, List, [], ◌∷◌, ◌++◌, filter, Option, Some, None, if◌then◌else◌, is_none}
+use Rattle.std.specs.Prelude.{ℕ, ◌+◌, ◌==◌, ◌&&◌, Bool, true, false, not, List, [], ◌∷◌, ◌++◌, length, filter, Option, Some, None, if◌then◌else◌, is_none}
 use Rattle.channel_model.specs.declared.acts.Act.{Act}
-use Rattle.channel_model.specs.declared.acts.Act.TheVariants.{Hand, Put, Offer, Await, Take, Admit, Drop, Close, Void, Drain, WakeClosed, Withdraw, Settle}
+use Rattle.channel_model.specs.declared.acts.Act.TheVariants.{Hand, Put, Offer, Await, Take, Admit, Drop, Spurn, Close, Void, Drain, WakeClosed, Withdraw, Settle}
 use Rattle.channel_model.specs.declared.acts.Settled.{Settled}
 use Rattle.channel_model.specs.declared.standing.Party.{Party}
 use Rattle.channel_model.specs.declared.standing.Standing.{Standing}
@@ -39,7 +39,7 @@ resolved_wait how (Some x) = Some (record x { resolved = Some how })
 
 -- the wait leaves every queue and every list of receivers
 abbrev pub resolve : WaitId → Resolution → State → State
-resolve w how s = record { channels = λ c. without w (s.channels c); waits = put_wait w (resolved_wait how (s.waits w)) s.waits }
+resolve w how s = record s { channels = λ c. without w (s.channels c); waits = put_wait w (resolved_wait how (s.waits w)) s.waits }
 
 -- the holder of an offer is resolved, at its clause
 abbrev pub resolve_holder : Option Party → (ℕ → Resolution) → State → State
@@ -60,6 +60,13 @@ abbrev pub remove_first : ℕ → List Standing → State → State
 remove_first c [] s = s
 remove_first c (o ∷ os) s = with_queue c os s
 
+abbrev pub is_elsewhere : ℕ → Standing → Bool
+is_elsewhere p o = not (o.place == p)
+
+-- the offers without that at this place
+abbrev pub spurned : ℕ → List Standing → List Standing
+spurned p queue = filter (is_elsewhere p) queue
+
 -- the first offer goes, and its holder is resolved
 abbrev pub resolve_offer : ℕ → List Standing → (ℕ → Resolution) → State → State
 resolve_offer c [] how s = s
@@ -74,6 +81,10 @@ name_clause who k c (Some x) = Some (record x { clauses = x.clauses ++ (k, c) �
 abbrev pub is_open : Option Wait → Bool
 is_open None = true
 is_open (Some x) = is_none x.resolved
+
+-- only of the offer at this place it becomes another number how many stood when it was placed
+abbrev pub put_stood : ℕ → ℕ → ℕ → (ℕ → ℕ → ℕ) → ℕ → ℕ → ℕ
+put_stood c p n stood d q = if (c == d) && (p == q) then n else stood d q
 
 -- a place is given out, and the offer stands there unless its wait is resolved already
 abbrev pub place_offer : Bool → Standing → Channel → Channel
@@ -108,7 +119,10 @@ settled_wait outcome (Some x) = Some (record x { settled = Some outcome })
 abbrev pub after : State → ℕ → Act → State
 after s who (Hand c p v) = resolve_first (s.channels c).receivers (λ k. resolved.Handed k v) s
 after s who (Put c p v) =
-    record s { channels = put_channel c (place_offer true (record { place = p; value = v; holder = None }) (s.channels c)) s.channels }
+    record s {
+      channels = put_channel c (place_offer true (record { place = p; value = v; holder = None }) (s.channels c)) s.channels;
+      stood = put_stood c p (length (s.channels c).queue) s.stood;
+    }
 after s who (Offer c p v w k) =
     record {
       channels = put_channel c
@@ -118,9 +132,10 @@ after s who (Offer c p v w k) =
           (s.channels c))
           s.channels;
       waits = put_wait w (name_clause who k c (s.waits w)) s.waits;
+      stood = put_stood c p (length (s.channels c).queue) s.stood;
     }
 after s who (Await c p w k) =
-    record {
+    record s {
       channels = put_channel c
           (place_receiver
           (is_open (s.waits w))
@@ -133,6 +148,7 @@ after s who (Take c p v) = resolve_offer c (s.channels c).queue resolved.Taken s
 after s who (Admit c p) =
     resolve_holder (holder_at p (s.channels c).queue) resolved.Admitted (with_queue c (admitted p (s.channels c).queue) s)
 after s who (Drop c p v) = remove_first c (s.channels c).queue s
+after s who (Spurn c p v) = with_queue c (spurned p (s.channels c).queue) s
 after s who (Close c v) = record s { channels = put_channel c (record (s.channels c) { closed = Some v }) s.channels }
 after s who (Void c) = record s { channels = put_channel c (record (s.channels c) { voided = true }) s.channels }
 after s who (Drain c p v) = resolve_offer c (s.channels c).queue (λ k. resolved.Voided) s

@@ -2,7 +2,7 @@
 use Rattle.std.specs.Prelude.{ℕ, ◌==◌, nat_lt, Bool, true, false, not, ◌&&◌, ◌||◌, List, [], ◌∷◌, Option, Some, None, if◌then◌else◌}
 use Rattle.std.specs.List.{list_any}
 use Rattle.channel_model.specs.declared.acts.Act.{Act}
-use Rattle.channel_model.specs.declared.acts.Act.TheVariants.{Hand, Put, Offer, Await, Take, Admit, Drop, Drain, WakeClosed, Withdraw, Settle}
+use Rattle.channel_model.specs.declared.acts.Act.TheVariants.{Hand, Put, Offer, Await, Take, Admit, Drop, Spurn, Drain, WakeClosed, Withdraw, Settle}
 use Rattle.channel_model.specs.declared.acts.Fate.{Fate}
 use Rattle.channel_model.specs.declared.acts.Fate.TheVariants as fate
 use Rattle.channel_model.specs.declared.acts.Settled.{Settled}
@@ -50,6 +50,10 @@ abbrev pub drops_at : ℕ → ℕ → Act → Bool
 drops_at c p (Drop d q v) = is_at c p d q
 drops_at c p other = false
 
+abbrev pub spurns_at : ℕ → ℕ → Act → Bool
+spurns_at c p (Spurn d q v) = is_at c p d q
+spurns_at c p other = false
+
 abbrev pub drains : ℕ → ℕ → Act → Bool
 drains c p (Drain d q v) = is_at c p d q
 drains c p other = false
@@ -78,6 +82,7 @@ settles_undelivered w other = false
 abbrev pub removes : ℕ → ℕ → Act → Bool
 removes c p (Take d q v) = is_at c p d q
 removes c p (Drop d q v) = is_at c p d q
+removes c p (Spurn d q v) = is_at c p d q
 removes c p (Drain d q v) = is_at c p d q
 removes c p other = false
 
@@ -153,6 +158,9 @@ is_undelivered_at c p acts =
 abbrev pub is_dropped : ℕ → ℕ → List Act → Bool
 is_dropped c p acts = list_any (drops_at c p) acts
 
+abbrev pub is_spurned : ℕ → ℕ → List Act → Bool
+is_spurned c p acts = list_any (spurns_at c p) acts
+
 -- offered by a select that was withdrawn or that chose another clause
 abbrev pub is_withdrawn : ℕ → ℕ → List Act → Bool
 is_withdrawn c p acts =
@@ -168,5 +176,6 @@ fate_at c p acts =
     if is_received c p acts then fate.Received
     else if is_undelivered_at c p acts then fate.Undelivered
     else if is_dropped c p acts then fate.Dropped
+    else if is_spurned c p acts then fate.Spurned
     else if is_withdrawn c p acts then fate.Withdrawn
     else fate.Held

@@ -2,10 +2,10 @@
 use Rattle.std.specs.Prelude.{◌≡◌, ℕ, ◌+◌, ◌<◌, ◌≤◌, ◌==◌, nat_lt, nat_le, Bool, true, false, not, ◌&&◌, ◌⊎◌, length, cond, List, [], ◌∷◌, Option, Some, None, if◌then◌else◌}
 use Rattle.std.specs.List.{list_any, list_all}
 use Rattle.channel_model.specs.declared.acts.Act.{Act}
-use Rattle.channel_model.specs.declared.acts.Act.TheVariants.{Hand, Put, Offer, Await, Take, Admit, Drop, Close, Void, Drain, WakeClosed, Withdraw, Settle}
+use Rattle.channel_model.specs.declared.acts.Act.TheVariants.{Hand, Put, Offer, Await, Take, Admit, Drop, Spurn, Close, Void, Drain, WakeClosed, Withdraw, Settle}
 use Rattle.channel_model.specs.declared.acts.Entry.{Entry}
 use Rattle.channel_model.specs.declared.acts.Kind.{Kind}
-use Rattle.channel_model.specs.declared.acts.Kind.TheVariants.{Rendezvous, Buffered, Unlimited, Conflated, DropOldest, Signal}
+use Rattle.channel_model.specs.declared.acts.Kind.TheVariants.{Rendezvous, Buffered, Unlimited, Conflated, DropOldest, DropLatest, Signal}
 use Rattle.channel_model.specs.declared.acts.Settled.{Settled}
 use Rattle.channel_model.specs.declared.standing.Party.{Party}
 use Rattle.channel_model.specs.declared.standing.Standing.{Standing}
@@ -14,7 +14,7 @@ use Rattle.channel_model.specs.declared.standing.Resolution.{Resolution}
 use Rattle.channel_model.specs.declared.standing.Resolution.TheVariants as resolved
 use Rattle.co_base.specs.declared.names.WaitId.{WaitId}
 use Rattle.channel_model.specs.Channels.{State, Channel, Wait, start, same_wait}
-use Rattle.channel_model.specs.Effects.{after, holder_at, is_held_by}
+use Rattle.channel_model.specs.Effects.{after, holder_at, is_held_by, is_elsewhere}
 use Rattle.channel_model.specs.Needs.{began_by_select}
 
 -- ---- whoever stands has an open wait
@@ -146,6 +146,11 @@ pub record StandsInOrder (ch : Channel) : Type 0 where
   pub receivers : Ascends (λ (r : Receiver). r.place) 0 ch.next ch.receivers
   pub one_side : (ch.queue ≡ []) ⊎ (ch.receivers ≡ [])
 
+-- each offer of this queue has at most so many before it as stood when it was placed; n offers stand before this list
+unfoldable pub StoodAll : (ℕ → ℕ) → ℕ → List Standing → Type 0
+StoodAll stood n [] = Unit {0}
+StoodAll stood n (o ∷ os) = (n ≤ stood o.place) × StoodAll stood (n + 1) os
+
 -- ---- the clauses of a wait
 
 -- the clause is one of a select's
@@ -175,9 +180,6 @@ pub record NoneBelow (n m : ℕ) (ch : Channel) : Type 0 where
   pub receivers : list_all (λ (r : Receiver). nat_le n r.place) ch.receivers ≡ true
   pub offers : list_all (λ (o : Standing). nat_le m o.place) ch.queue ≡ true
 
-abbrev pub is_elsewhere : ℕ → Standing → Bool
-is_elsewhere p o = not (o.place == p)
-
 -- the place was given out, and no offer stands there
 pub record NoOffer (p : ℕ) (ch : Channel) : Type 0 where
   pub given : p < ch.next
@@ -204,6 +206,7 @@ is_plain_act (Await c p w k) = true
 is_plain_act (Take c p v) = true
 is_plain_act (Admit c p) = false
 is_plain_act (Drop c p v) = false
+is_plain_act (Spurn c p v) = false
 is_plain_act (Close c v) = false
 is_plain_act (Void c) = false
 is_plain_act (Drain c p v) = false
@@ -245,4 +248,5 @@ keeps_none (Buffered k) = false
 keeps_none Unlimited = false
 keeps_none Conflated = false
 keeps_none (DropOldest k) = false
+keeps_none (DropLatest k) = false
 keeps_none Signal = true

@@ -3,12 +3,12 @@ use Rattle.std.specs.Prelude.{◌≡◌, ℕ, ◌+◌, ◌==◌, nat_lt, ◌<◌
 use Rattle.std.specs.List.{list_any}
 use Rattle.channel_model.specs.declared.acts.Kind.{Kind}
 use Rattle.channel_model.specs.declared.acts.Act.{Act}
-use Rattle.channel_model.specs.declared.acts.Act.TheVariants.{Hand, Put, Offer, Await, Take, Admit, Drop, Close, Void, Drain, WakeClosed, Withdraw, Settle}
+use Rattle.channel_model.specs.declared.acts.Act.TheVariants.{Hand, Put, Offer, Await, Take, Admit, Drop, Spurn, Close, Void, Drain, WakeClosed, Withdraw, Settle}
 use Rattle.channel_model.specs.declared.acts.Settled.{Settled}
 use Rattle.channel_model.specs.declared.standing.Standing.{Standing}
 use Rattle.channel_model.specs.declared.standing.Receiver.{Receiver}
 use Rattle.co_base.specs.declared.names.WaitId.{WaitId}
-use Rattle.channel_model.specs.Channels.{Shape, kind_at, places_at, is_full, suspends, is_signal, drops, Channel, Wait, State, same_wait}
+use Rattle.channel_model.specs.Channels.{Shape, kind_at, places_at, is_full, suspends, is_signal, drops, spurns, Channel, Wait, State, same_wait}
 use Rattle.channel_model.specs.Outcomes.{IsOutcome}
 
 -- ---- parts of the needs
@@ -20,6 +20,11 @@ IsFirstReceiver p (r ∷ rs) = r.place ≡ p
 abbrev pub IsFirstOffer : ℕ → ℕ → List Standing → Type 0
 IsFirstOffer p v [] = ⊥
 IsFirstOffer p v (o ∷ os) = (o.place ≡ p) × (o.value ≡ v)
+
+-- an offer stands at p, with this element
+abbrev pub IsOfferAt : ℕ → ℕ → List Standing → Type 0
+IsOfferAt p v [] = ⊥
+IsOfferAt p v (o ∷ os) = MatchBool (o.place == p) (o.value ≡ v) (IsOfferAt p v os)
 
 -- the channel is open, and p is the place that it gives out next
 pub record HasPlace (places p : ℕ) (ch : Channel) : Type 0 where
@@ -95,6 +100,10 @@ Needs shape s who (Drop c p v) =
     (c < length shape)
     × (drops (kind_at shape c) (length (s.channels c).queue) ≡ true)
     × IsFirstOffer p v (s.channels c).queue
+Needs shape s who (Spurn c p v) =
+    (c < length shape)
+    × (spurns (kind_at shape c) (s.stood c p) ≡ true)
+    × IsOfferAt p v (s.channels c).queue
 Needs shape s who (Close c v) = (c < length shape) × ((s.channels c).closed ≡ None)
 Needs shape s who (Void c) = (c < length shape) × (is_some (s.channels c).closed ≡ true) × ((s.channels c).voided ≡ false)
 Needs shape s who (Drain c p v) = (c < length shape) × ((s.channels c).voided ≡ true) × IsFirstOffer p v (s.channels c).queue

@@ -2,7 +2,7 @@
 use Rattle.std.specs.Prelude.{ℕ, ◌+◌, ◌==◌, nat_le, nat_lt, Bool, true, false, not, ◌&&◌, ◌||◌, List, [], ◌∷◌, length, Option, Some, None, is_none, is_some, if◌then◌else◌}
 use Rattle.std.specs.List.{list_any}
 use Rattle.channel_model.specs.declared.acts.Act.{Act}
-use Rattle.channel_model.specs.declared.acts.Act.TheVariants.{Hand, Put, Offer, Await, Take, Admit, Drop, Close, Void, Drain, WakeClosed, Withdraw, Settle}
+use Rattle.channel_model.specs.declared.acts.Act.TheVariants.{Hand, Put, Offer, Await, Take, Admit, Drop, Spurn, Close, Void, Drain, WakeClosed, Withdraw, Settle}
 use Rattle.channel_model.specs.declared.acts.Entry.{Entry}
 use Rattle.channel_model.specs.declared.acts.Kind.{Kind}
 use Rattle.channel_model.specs.declared.acts.Settled.{Settled}
@@ -11,7 +11,7 @@ use Rattle.channel_model.specs.declared.standing.Receiver.{Receiver}
 use Rattle.channel_model.specs.declared.standing.Resolution.{Resolution}
 use Rattle.channel_model.specs.declared.standing.Standing.{Standing}
 use Rattle.co_base.specs.declared.names.WaitId.{WaitId}
-use Rattle.channel_model.specs.Channels.{Shape, kind_at, places_at, is_full, suspends, is_signal, drops, Channel, Wait, State, same_wait}
+use Rattle.channel_model.specs.Channels.{Shape, kind_at, places_at, is_full, suspends, is_signal, drops, spurns, Channel, Wait, State, same_wait}
 use Rattle.channel_model.specs.Effects.{after}
 use Rattle.channel_model.specs.Needs.{began_by_select}
 use Rattle.channel_model.specs.Outcomes.{outcome_of}
@@ -31,6 +31,11 @@ is_first_receiver p (r ∷ rs) = r.place == p
 abbrev pub is_first_offer : ℕ → ℕ → List Standing → Bool
 is_first_offer p v [] = false
 is_first_offer p v (o ∷ os) = (o.place == p) && (o.value == v)
+
+-- an offer stands at p, with this element
+abbrev pub is_offer_at : ℕ → ℕ → List Standing → Bool
+is_offer_at p v [] = false
+is_offer_at p v (o ∷ os) = if o.place == p then o.value == v else is_offer_at p v os
 
 -- the channel is open, has a place left, and gives out p next
 abbrev pub gives_place : ℕ → ℕ → Channel → Bool
@@ -102,6 +107,8 @@ may_come shape s who (Take c p v) = nat_lt c (length shape) && is_first_offer p 
 may_come shape s who (Admit c p) = nat_lt c (length shape) && is_admissible (kind_at shape c) p 0 (s.channels c).queue
 may_come shape s who (Drop c p v) =
     nat_lt c (length shape) && (drops (kind_at shape c) (length (s.channels c).queue) && is_first_offer p v (s.channels c).queue)
+may_come shape s who (Spurn c p v) =
+    nat_lt c (length shape) && (spurns (kind_at shape c) (s.stood c p) && is_offer_at p v (s.channels c).queue)
 may_come shape s who (Close c v) = nat_lt c (length shape) && is_none (s.channels c).closed
 may_come shape s who (Void c) = nat_lt c (length shape) && (is_some (s.channels c).closed && not (s.channels c).voided)
 may_come shape s who (Drain c p v) = nat_lt c (length shape) && ((s.channels c).voided && is_first_offer p v (s.channels c).queue)

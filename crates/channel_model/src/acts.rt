@@ -1,12 +1,12 @@
 //! The acts on channels, and what a coroutine notes of its calls.
 
-ghost use Rattle.std.specs.Prelude.{◌≡◌, ℕ, false, nat_lt, MatchOption};
-ghost use Rattle.channel_model.specs.Channels.{is_full, suspends, drops};
+ghost use Rattle.std.specs.Prelude.{◌≡◌, ℕ, false, nat_le, nat_lt, MatchOption};
+ghost use Rattle.channel_model.specs.Channels.{is_full, suspends, drops, spurns};
 
 use co_base::{ChannelId, Place, Tag, Value, WaitId};
 
 /// How a channel keeps elements that nobody receives yet.
-#[derive(Clone, Copy, Debug, PartialEq, Eq)]
+#[derive(Clone, Copy)]
 pub enum Kind {
     /// Keeps none: a send waits for its receiver.
     Rendezvous,
@@ -18,6 +18,8 @@ pub enum Kind {
     Conflated,
     /// Keeps so many; the oldest is dropped for one more.
     DropOldest(u32),
+    /// Keeps so many; one more is not kept.
+    DropLatest(u32),
     /// Carries no element: a Job's done channel, on which one may wait until it is closed.
     Signal,
 }
@@ -30,7 +32,7 @@ impl Kind {
         match self {
             Kind::Rendezvous | Kind::Signal => true,
             Kind::Buffered(capacity) => capacity as usize <= standing,
-            Kind::Unlimited | Kind::Conflated | Kind::DropOldest(_) => false,
+            Kind::Unlimited | Kind::Conflated | Kind::DropOldest(_) | Kind::DropLatest(_) => false,
         }
     }
 
@@ -41,7 +43,26 @@ impl Kind {
         match self {
             Kind::Conflated => Some(1),
             Kind::DropOldest(capacity) => Some(capacity),
-            Kind::Rendezvous | Kind::Buffered(_) | Kind::Unlimited | Kind::Signal => None,
+            Kind::Rendezvous
+            | Kind::Buffered(_)
+            | Kind::Unlimited
+            | Kind::DropLatest(_)
+            | Kind::Signal => None,
+        }
+    }
+
+    /// How many elements it keeps, if it does not keep the latest beyond them.
+    pub fn spurns_beyond(self) -> Option<u32>
+        ensures { MatchOption result ((n : ℕ) → spurns self n ≡ false) (λ capacity. (n : ℕ) → spurns self n ≡ nat_le capacity n) }
+    {
+        match self {
+            Kind::DropLatest(capacity) => Some(capacity),
+            Kind::Rendezvous
+            | Kind::Buffered(_)
+            | Kind::Unlimited
+            | Kind::Conflated
+            | Kind::DropOldest(_)
+            | Kind::Signal => None,
         }
     }
 
@@ -54,7 +75,7 @@ impl Kind {
 }
 
 /// Why a wait was withdrawn.
-#[derive(Clone, Copy, Debug, PartialEq, Eq)]
+#[derive(Clone, Copy, PartialEq, Eq)]
 pub enum Why {
     /// Its Job was cancelled.
     Cancelled,
@@ -74,7 +95,7 @@ pub enum Settled {
 }
 
 /// What one step does to the channels.
-#[derive(Clone, Copy, Debug, PartialEq, Eq)]
+#[derive(Clone, Copy, PartialEq, Eq)]
 pub enum Act {
     /// Gives an element to the receiver that stands first.
     Hand {
@@ -120,6 +141,12 @@ pub enum Act {
         place: Place,
         value: Value,
     },
+    /// Removes an offer that was one too many when it was placed.
+    Spurn {
+        c: ChannelId,
+        place: Place,
+        value: Value,
+    },
     /// Closes the channel with a value.
     Close {
         c: ChannelId,
@@ -153,7 +180,7 @@ pub enum Act {
 }
 
 /// An act, and the coroutine that made it.
-#[derive(Clone, Copy, Debug, PartialEq, Eq)]
+#[derive(Clone, Copy)]
 pub struct Entry {
     pub who: Tag,
     pub act: Act,
@@ -162,7 +189,7 @@ pub struct Entry {
 /// What a coroutine notes of a call on a channel: the act that it made, or an answer without one.
 ///
 /// `c` is the channel, `value` the element of the call, and `v` the value with which the channel was closed.
-#[derive(Clone, Copy, Debug, PartialEq, Eq)]
+#[derive(Clone, Copy, PartialEq, Eq)]
 pub enum ChannelNote {
     Made(Act),
     SendClosed {
@@ -214,13 +241,15 @@ pub enum ChannelNote {
 }
 
 /// What became of an element that was put, offered or handed at a place.
-#[derive(Clone, Copy, Debug, PartialEq, Eq)]
+#[derive(Clone, Copy)]
 pub enum Fate {
     Received,
     /// Drained, given up by the receiver that it was handed to, or taken back by a plain send.
     Undelivered,
-    /// Removed by a channel that keeps the newest alone.
+    /// Removed by a channel that drops its oldest.
     Dropped,
+    /// Removed by a channel that does not keep its latest.
+    Spurned,
     /// Offered by a select that did not choose it.
     Withdrawn,
     /// Still in its queue, or handed to a receiver that was not dispatched.

@@ -4,7 +4,7 @@ ghost use Rattle.std.specs.Prelude.{◌≡◌, ℕ, ◌<◌, true, false, OnOk, 
 ghost use Rattle.channel_model.specs.Channels.{IsShape, kind_at, is_signal, suspends};
 ghost use Rattle.channel_model.specs.Histories.{Legal};
 ghost use Rattle.channel_model.specs.Floors.{Floor, HasRoom, MayCall};
-ghost use Rattle.channel_model.specs.Answers.{OfferAnswer, TriedOfferAnswer, GotAnswer, TriedGotAnswer, CloseAnswer, WakeAnswer, VoidAnswer, DrainAnswer, LookAnswer, SettleAnswer, WithdrawAnswer, MarkAnswer, AdmitAnswer, TrimAnswer, IsOwn, IsReady, HasPut, IsSeenClosed, IsSeenVoided};
+ghost use Rattle.channel_model.specs.Answers.{OfferAnswer, TriedOfferAnswer, GotAnswer, TriedGotAnswer, CloseAnswer, WakeAnswer, VoidAnswer, DrainAnswer, LookAnswer, SettleAnswer, WithdrawAnswer, MarkAnswer, AdmitAnswer, TrimAnswer, SpurnAnswer, IsOwn, IsReady, HasPut, IsSeenClosed, IsSeenVoided};
 ghost use Rattle.channel_model.specs.Registers.{MayRegister, RegisterOfferAnswer, RegisterReceiveAnswer};
 
 use crate::acts::{Settled, Why};
@@ -249,6 +249,15 @@ pub trait ChannelFloor {
         requires own { HasPut who c mine (view self.old) }
         ensures anchor { anchor self.new ≡ anchor self.old }
         ensures answer { TrimAnswer who c mine (view self.old) (view self.new) result };
+
+    /// Removes the offer at the place that an own Put took, of a channel that does not keep its latest, if at least as many
+    /// stand before it as the channel keeps: its element. On a channel of another kind it answers `None`.
+    fn spurn(&mut self, who: Tag, c: ChannelId, mine: Place) -> Option<Value>
+        requires can { MayCall who c (view self.old) }
+        requires room { 0 < (view self.old).spare }
+        requires own { HasPut who c mine (view self.old) }
+        ensures anchor { anchor self.new ≡ anchor self.old }
+        ensures answer { SpurnAnswer who c mine (view self.old) (view self.new) result };
 
     ghost legal: { (s : Self) → Legal (view s).shape (view s).seen };
 

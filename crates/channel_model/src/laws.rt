@@ -4,15 +4,15 @@ ghost use Rattle.std.specs.Prelude.{◌+◌, is_some, ◌≡◌, ◌++◌, ◌�
 ghost use Rattle.channel_model.specs.declared.acts.Entry.{Entry};
 ghost use Rattle.channel_model.specs.declared.acts.Settled.{Settled};
 ghost use Rattle.channel_model.specs.declared.standing.Resolution.{Resolution};
-ghost use Rattle.channel_model.specs.Channels.{Shape, State, kind_at};
+ghost use Rattle.channel_model.specs.Channels.{Shape, State, kind_at, spurns};
 ghost use Rattle.channel_model.specs.Effects.{after};
 ghost use Rattle.channel_model.specs.Histories.{replay, replay_from, Legal, LegalFrom};
 ghost use Rattle.channel_model.specs.declared.floor.WaitState.TheVariants.{Standing};
 ghost use Rattle.channel_model.specs.Answers.{IsResolvedWait, IsSettledWait, IsFullAt, IsAdmittedBelow, state_of_wait};
 ghost use Rattle.channel_model.specs.PlainOffers.{plain_offer};
-ghost use Rattle.channel_model.specs.Laws.{closings_of, voidings_of, StandsInOrder, ClausesFit, NoneBelow, NoOffer, IsResolvedAs, IsSettledAs, AllStandOpen, AllStandOnce, resolutions_of, settlements_of, is_plain_history, IsPlain, keeps_none};
+ghost use Rattle.channel_model.specs.Laws.{closings_of, voidings_of, StandsInOrder, StoodAll, ClausesFit, NoneBelow, NoOffer, IsResolvedAs, IsSettledAs, AllStandOpen, AllStandOnce, resolutions_of, settlements_of, is_plain_history, IsPlain, keeps_none};
 ghost use Rattle.channel_model.specs.Needs.{Needs};
-ghost use Rattle.channel_model.specs.Owing.{OwesNothing};
+ghost use Rattle.channel_model.specs.Owing.{OwesNothing, owes_spurn_at};
 ghost use Rattle.channel_model.specs.Steps.{step, steps};
 ghost use Rattle.co_base.specs.declared.names.WaitId.{WaitId};
 
@@ -72,6 +72,18 @@ pub fn a_wait_stands_at_most_once_at_a_channel()
 /// both.
 pub fn those_who_stand_stand_in_order()
     ensures { (shape : Shape) (history : List Entry) (c : ℕ) → Legal shape history → StandsInOrder ((replay history).channels c) }
+{}
+
+/// After a legal history an offer has at most so many before it as stood when it was placed, and that number stays. So an offer before
+/// which too many stand was one too many when it was placed.
+pub fn an_offer_has_no_more_before_it_than_stood_as_it_was_placed()
+    ensures few { (shape : Shape) (history : List Entry) (c : ℕ) → Legal shape history
+        → StoodAll ((replay history).stood c) 0 ((replay history).channels c).queue }
+    ensures over { (shape : Shape) (history : List Entry) (c p : ℕ) → Legal shape history
+        → owes_spurn_at (kind_at shape c) p 0 ((replay history).channels c).queue ≡ true
+        → spurns (kind_at shape c) ((replay history).stood c p) ≡ true }
+    ensures stays { (shape : Shape) (xs ys : List Entry) (c p : ℕ) → Legal shape (xs ++ ys) → p < ((replay xs).channels c).next
+        → (replay (xs ++ ys)).stood c p ≡ (replay xs).stood c p }
 {}
 
 /// After a legal history a wait has one clause, or is that of a select with at most seven, whose numbers are among 1 to 7, and

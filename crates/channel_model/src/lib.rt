@@ -30,6 +30,7 @@
 //! | held | Withdraw of its wait, or an act that resolves it at another clause | gone: nobody receives it |
 //! | held, kept | Take, Drain | gone: received, given up |
 //! | kept | Drop | gone: dropped |
+//! | kept | Spurn, if it was one too many when it was put | gone: spurned |
 //!
 //! The laws are the contracts of the functions of `laws`, whose bodies are empty. The files of `proofs` that show each, in the order to
 //! read:
@@ -39,6 +40,7 @@
 //!   `a_channel_is_closed_exactly_where_one_entry_closes_it`: `OpenWaits`, `Others`, `Resolutions`, `Causes`; `OneEntry`.
 //! - `whoever_stands_has_an_open_wait`: `Waits`; `OpenWaits`. `a_wait_stands_at_most_once_at_a_channel`: `Placed`; `Apart`.
 //! - `those_who_stand_stand_in_order`: `EveryAct`, `Sound`; `InOrder`. `a_wait_has_at_most_seven_clauses`: `EveryAct`, `Sound`; `Clauses`.
+//! - `an_offer_has_no_more_before_it_than_stood_as_it_was_placed`: `EveryAct`, `Sound`; `InOrder`; `Stood`.
 //! - `who_is_gone_never_stands_again`: `EveryAct`, `Sound`; `GoneForGood`.
 //! - `a_send_that_waits_was_placed_in_a_full_channel`: `EveryAct`, `Sound`; `Resolutions`, `Placed`; `PlacedFull`.
 //! - `what_was_done_stays_done`: `Resolutions`, `ResolvedAs`; `Later`. `plain_histories_owe_nothing`: `Plain`.

@@ -7,14 +7,14 @@ use crate::acts::{Settled, Why};
 use co_base::{Place, Value, WaitId};
 
 /// One side of a wait: the wait, and the clause at which it stands there.
-#[derive(Clone, Copy, Debug, PartialEq, Eq)]
+#[derive(Clone, Copy)]
 pub struct Party {
     pub wait: WaitId,
     pub clause: u8,
 }
 
 /// An offer in a queue. It is buffered if it has no holder.
-#[derive(Clone, Copy, Debug, PartialEq, Eq)]
+#[derive(Clone, Copy)]
 pub struct Standing {
     pub place: Place,
     pub value: Value,
@@ -22,7 +22,7 @@ pub struct Standing {
 }
 
 /// A receiver that waits.
-#[derive(Clone, Copy, Debug, PartialEq, Eq)]
+#[derive(Clone, Copy)]
 pub struct Receiver {
     pub place: Place,
     pub party: Party,
@@ -38,7 +38,7 @@ pub struct Receiver {
 /// | WakeClosed | `Closed` |
 /// | Withdraw | `Withdrawn` |
 /// | Drain | `Voided` |
-#[derive(Clone, Copy, Debug, PartialEq, Eq)]
+#[derive(Clone, Copy)]
 pub enum Resolution {
     Handed(u8, Value),
     Taken(u8),

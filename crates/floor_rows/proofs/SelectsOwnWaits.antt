@@ -40,7 +40,7 @@ told_begun u w xs group ys told b q e =
 
 at_once_never : (call : Call) (group : List Told) (a : Answer) (w : WaitId) → AtOnce call group a → a ≡ Waits w → ⊥
 at_once_never _ _ _ w (AtOnce.hands c v q) e = cc
-at_once_never _ _ _ w (AtOnce.puts c v q drops d) e = cc
+at_once_never _ _ _ w (AtOnce.puts c v q more d) e = cc
 at_once_never _ _ _ w (AtOnce.takes c v q admits d) e = cc
 
 refused_never : (call : Call) (told : Told) (a : Answer) (w : WaitId) → Refused call told a → a ≡ Waits w → ⊥

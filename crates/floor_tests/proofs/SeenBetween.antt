@@ -22,7 +22,7 @@ use Rattle.channel_model.specs.declared.floor.WaitState.{WaitState}
 use Rattle.channel_model.specs.Channels.{Shape, State}
 use Rattle.channel_model.specs.Histories.{replay, Legal}
 use Rattle.channel_model.specs.Floors.{Floor, SameSetting, Looked, Made, AtStep, AtMoment}
-use Rattle.channel_model.specs.Answers.{OfferAnswer, TriedOfferAnswer, GotAnswer, TriedGotAnswer, CloseAnswer, WakeAnswer, VoidAnswer, DrainAnswer, LookAnswer, SettleAnswer, WithdrawAnswer, MarkAnswer, AdmitAnswer, TrimAnswer, HandedTo, ClosedWith, TakenFrom, IsSpentForOffers, IsSpentForReceives, IsFullAt, IsFullToTry, IsAdmittedBelow, IsTrimmed, IsOwnWait, IsOwn, IsReadyWait, IsReady, IsSeenClosed, IsSeenVoided, outcome_at}
+use Rattle.channel_model.specs.Answers.{OfferAnswer, TriedOfferAnswer, GotAnswer, TriedGotAnswer, CloseAnswer, WakeAnswer, VoidAnswer, DrainAnswer, LookAnswer, SettleAnswer, WithdrawAnswer, MarkAnswer, AdmitAnswer, TrimAnswer, SpurnAnswer, StandsWithRoom, HandedTo, ClosedWith, TakenFrom, IsSpentForOffers, IsSpentForReceives, IsFullAt, IsFullToTry, IsAdmittedBelow, IsTrimmed, IsOwnWait, IsOwn, IsReadyWait, IsReady, IsSeenClosed, IsSeenVoided, outcome_at}
 use Rattle.channel_model.specs.Registers.{MayRegister, RegisterOfferAnswer, RegisterReceiveAnswer, IsMainResolved}
 use Rattle.channel_model.proofs.Spans.{prefix_then}
 use Rattle.channel_model.proofs.Others.{others_keep, own_stays, ready_stays}
@@ -187,3 +187,7 @@ module _ (who m n : ℕ) (a f g : Floor) (k : IsLookTo who m n a f) where
   pub trim_behind : (c mine : ℕ) (r : Option (ℕ × ℕ)) → TrimAnswer who c mine f g r → TrimAnswer who c mine (seen_between m a) (seen_between n g) r
   trim_behind c mine None h = (looked_behind h.0, shaped_behind (λ shape. IsTrimmed shape c mine) h.1)
   trim_behind c mine (Some x) h = (made_behind _ h.0, h.1)
+
+  pub spurn_behind : (c mine : ℕ) (r : Option ℕ) → SpurnAnswer who c mine f g r → SpurnAnswer who c mine (seen_between m a) (seen_between n g) r
+  spurn_behind c mine None h = (looked_behind h.0, shaped_behind (λ shape. StandsWithRoom shape c mine) h.1)
+  spurn_behind c mine (Some v) h = made_behind _ h

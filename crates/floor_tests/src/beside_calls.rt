@@ -112,6 +112,11 @@ impl<F: ChannelFloor + Drop, O: ChannelFloor + Drop> ChannelFloor for Beside<F, 
         self.floor.trim(who, c, mine)
     }
 
+    fn spurn(&mut self, who: Tag, c: ChannelId, mine: Place) -> Option<Value> {
+        make_next(&mut self.others, &mut self.calls);
+        self.floor.spurn(who, c, mine)
+    }
+
     ghost legal = { λ b. F.legal b.floor };
 
     ghost shaped = { λ b. F.shaped b.floor };

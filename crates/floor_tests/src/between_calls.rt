@@ -117,6 +117,11 @@ impl<F: ChannelFloor + Drop> ChannelFloor for Between<F> {
         self.floor.trim(who, c, mine)
     }
 
+    fn spurn(&mut self, who: Tag, c: ChannelId, mine: Place) -> Option<Value> {
+        self.meet();
+        self.floor.spurn(who, c, mine)
+    }
+
     ghost legal = { λ b. F.legal b.floor };
 
     ghost shaped = { λ b. F.shaped b.floor };

@@ -56,7 +56,7 @@ WaitsAt c LooksAgain = Unit {0}
 
 at_once_waits : (call : Call) (told : List Told) (a : Answer) → AtOnce call told a → WaitsAt (channel_of call) a
 at_once_waits _ _ _ (AtOnce.hands c v q) = tt
-at_once_waits _ _ _ (AtOnce.puts c v q drops h) = tt
+at_once_waits _ _ _ (AtOnce.puts c v q more h) = tt
 at_once_waits _ _ _ (AtOnce.takes c v q admits h) = tt
 
 refused_waits : (call : Call) (told : Told) (a : Answer) → Refused call told a → WaitsAt (channel_of call) a

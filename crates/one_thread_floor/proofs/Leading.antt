@@ -1,6 +1,6 @@
 -- The offers with which nobody waits that lead a queue, when the queue changes.
-use Rattle.std.specs.Prelude.{◌≡◌, ℕ, zero, suc, ◌≤◌, Bool, true, false, not, cond, ◌&&◌, List, [], ◌∷◌, ◌++◌, Option, Some, None, is_some, filter, length, take, slice_set, refl}
-use Rattle.std.specs.List.{list_all}
+use Rattle.std.specs.Prelude.{◌≡◌, ℕ, zero, suc, ◌<◌, ◌≤◌, Bool, true, false, not, cond, ◌&&◌, List, [], ◌∷◌, ◌++◌, Option, Some, None, is_some, filter, length, take, drop, slice_set, refl}
+use Rattle.std.specs.List.{list_all, remove}
 use Rattle.std.proofs.Common.{ap, ◌∙◌, sym, subst, arith}
 use Rattle.std.proofs.lemmas.List.{length-set}
 use Rattle.co_base.specs.declared.names.WaitId.{WaitId}
@@ -55,6 +55,19 @@ all_set p y k (suc n) (suc i) (x ∷ xs) e = by_test (p x) e (all_set p y k n i 
 pub set_fits : {X : Type 0} (n i : ℕ) (xs : List X) (y : X) → n ≤ length xs → n ≤ length (slice_set xs i y)
 set_fits n i xs y h = subst (λ m. n ≤ m) (sym (length-set xs i y)) h
 
+-- one goes that stands no earlier
+pub all_removed : {X : Type 0} (p : X → Bool) (m n i : ℕ) (xs : List X) → m ≤ n → m ≤ i → i < length xs → list_all p (take n xs) ≡ true → (m ≤ length (remove xs i)) × (list_all p (take m (remove xs i)) ≡ true)
+all_removed p zero n i xs h k lt e = (omega arith, refl)
+all_removed p (suc m) n i [] h k lt e = absurd (omega arith)
+all_removed p (suc m) zero i (x ∷ xs) h k lt e = absurd (omega arith)
+all_removed p (suc m) (suc n) zero (x ∷ xs) h k lt e = absurd (omega arith)
+all_removed p (suc m) (suc n) (suc i) (x ∷ xs) h k lt e = by_test (p x) e (all_removed p m n i xs (omega arith) (omega arith) (omega arith))
+  where
+    by_test : (b : Bool) → (b && list_all p (take n xs)) ≡ true → (list_all p (take n xs) ≡ true → (m ≤ length (remove xs i)) × (list_all p (take m (remove xs i)) ≡ true))
+        → (suc m ≤ length (x ∷ remove xs i)) × ((b && list_all p (take m (remove xs i))) ≡ true)
+    by_test true e f = (let l = (f e).0 in omega arith, (f e).1)
+    by_test false e f = cc
+
 -- ---- the queue of a channel
 
 not_held : (w : WaitId) (o : Standing) → is_buffered o ≡ true → not (is_held_by w o.holder) ≡ true
@@ -69,3 +82,7 @@ pub all_without : (w : WaitId) (n : ℕ) (q q' : List Standing) → q' ≡ filte
 all_without w n q q' is h e =
     let P : List Standing → Type 0 = λ l. (n ≤ length l) × (list_all is_buffered (take n l) ≡ true) in
     subst P (sym is) (all_filter is_buffered (λ (o : Standing). not (is_held_by w o.holder)) (not_held w) n q h e)
+
+-- an offer leaves it at an index
+pub all_but_one : (m n i : ℕ) (q q' : List Standing) → q' ≡ remove q i → m ≤ n → m ≤ i → i < length q → list_all is_buffered (take n q) ≡ true → (m ≤ length q') × (list_all is_buffered (take m q') ≡ true)
+all_but_one m n i q q' is h k lt e = subst (λ (l : List Standing). (m ≤ length l) × (list_all is_buffered (take m l) ≡ true)) (sym is) (all_removed is_buffered m n i q h k lt e)

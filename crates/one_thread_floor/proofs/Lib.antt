@@ -5,6 +5,7 @@ pub mod KeptPlaces
 pub mod InOrder
 pub mod ListPartners
 pub mod ListRemoval
+pub mod ListSpurns
 pub mod ListEntries
 pub mod ListFirsts
 pub mod ListQueues

@@ -12,7 +12,7 @@ use Rattle.channel_model.specs.declared.acts.Act.TheVariants.{Put, Offer, Await,
 use Rattle.channel_model.specs.declared.acts.Entry.{Entry}
 use Rattle.channel_model.specs.declared.standing.Standing.{Standing}
 use Rattle.channel_model.specs.Channels.{kind_at, places_at, Channel, State, Shape, Wait, is_full, is_signal, suspends}
-use Rattle.channel_model.specs.Effects.{after, put_channel, put_wait, place_offer, place_receiver, name_clause, settled_wait, is_open}
+use Rattle.channel_model.specs.Effects.{after, put_channel, put_wait, put_stood, place_offer, place_receiver, name_clause, settled_wait, is_open}
 use Rattle.channel_model.specs.Needs.{Needs, HasPlace, MayName, JoinsWait}
 use Rattle.channel_model.specs.Histories.{replay, Legal}
 use Rattle.channel_model.specs.Answers.{IsOwnWait}
@@ -25,18 +25,22 @@ use Rattle.one_thread_floor.specs.ListStands.{channel_in, wait_in, IsAt, SameSha
 
 -- ---- the state that the lists stand for
 
-abbrev pub state_of : List ListChannel → State
-state_of xs = record { channels = channel_in xs; waits = wait_in xs }
+-- it keeps besides how many stood as offers were placed, of which the lists know nothing
+abbrev pub state_of : (ℕ → ℕ → ℕ) → List ListChannel → State
+state_of stood xs = record { channels = channel_in xs; waits = wait_in xs; stood = stood }
 
-pub same_state : (s t : State) → ((c : ℕ) → s.channels c ≡ t.channels c) → ((w : WaitId) → s.waits w ≡ t.waits w) → s ≡ t
-same_state s t h k = ap (λ (f : ℕ → Channel). record s { channels = f }) (fun_ext h) ∙ ap (λ (f : WaitId → Option Wait). record t { waits = f }) (fun_ext k)
+pub same_state : (s t : State) → ((c : ℕ) → s.channels c ≡ t.channels c) → ((w : WaitId) → s.waits w ≡ t.waits w) → s.stood ≡ t.stood → s ≡ t
+same_state s t h k e =
+    ap (λ (f : ℕ → Channel). record s { channels = f }) (fun_ext h)
+    ∙ ap (λ (f : WaitId → Option Wait). record s { channels = t.channels; waits = f }) (fun_ext k)
+    ∙ ap (λ (f : ℕ → ℕ → ℕ). record t { stood = f }) e
 
-pub at_state : (shape : Shape) (xs : List ListChannel) (s : State) → IsAt shape xs s → s ≡ state_of xs
-at_state shape xs s h = same_state s (state_of xs) h.channels_are h.waits_are
+pub at_state : (shape : Shape) (xs : List ListChannel) (s : State) → IsAt shape xs s → s ≡ state_of s.stood xs
+at_state shape xs s h = same_state s (state_of s.stood xs) h.channels_are h.waits_are refl
 
 -- the lists after a change
-pub at_new : (shape : Shape) (xs ys : List ListChannel) (s t : State) → IsAt shape xs s → SameShape xs ys → t ≡ state_of ys → IsAt shape ys t
-at_new shape xs ys s t h k e = record {
+pub at_new : (shape : Shape) (xs ys : List ListChannel) (s t : State) (stood : ℕ → ℕ → ℕ) → IsAt shape xs s → SameShape xs ys → t ≡ state_of stood ys → IsAt shape ys t
+at_new shape xs ys s t stood h k e = record {
   count = k.count ∙ h.count;
   places = λ c. k.places c ∙ h.places c;
   channels_are = λ c. ap (λ (u : State). u.channels c) e;
@@ -46,7 +50,11 @@ at_new shape xs ys s t h k e = record {
 -- the lists after a change of one channel
 pub changed_at : (shape : Shape) (xs ys : List ListChannel) (s : State) (c : ℕ) (f : Channel → Channel) → IsAt shape xs s → Becomes c (f (channel_in xs c)) xs ys → IsAt shape ys (record s { channels = put_channel c (f (s.channels c)) s.channels })
 changed_at shape xs ys s c f at k =
-    at_new shape xs ys s _ at k.shape (ap (λ (u : State). record u { channels = put_channel c (f (u.channels c)) u.channels }) (at_state shape xs s at) ∙ same_state _ _ (λ d. sym (k.channels d)) (λ w. sym (k.waits w)))
+    at_new shape xs ys s _ s.stood at k.shape (ap (λ (u : State). record u { channels = put_channel c (f (u.channels c)) u.channels }) (at_state shape xs s at) ∙ same_state _ _ (λ d. sym (k.channels d)) (λ w. sym (k.waits w)) refl)
+
+-- the lists know nothing of how many stood as offers were placed
+pub stood_at : (shape : Shape) (xs : List ListChannel) (stood : ℕ → ℕ → ℕ) (s : State) → IsAt shape xs s → IsAt shape xs (record s { stood = stood })
+stood_at shape xs stood s at = record { count = at.count; places = at.places; channels_are = at.channels_are; waits_are = at.waits_are }
 
 -- the lists after a change that no caller sees
 pub unchanged_at : (shape : Shape) (xs ys : List ListChannel) (s : State) → IsAt shape xs s → SameShape xs ys → SameChannels xs ys → SameWaits xs ys → IsAt shape ys s
@@ -98,21 +106,21 @@ pub offer_at : (shape : Shape) (xs ys : List ListChannel) (es : List Entry) (who
     → BeginsWait who k c p (place_offer true (held_offer (at_place c p) k p v) (channel_in xs c)) xs ys
     → IsAt shape ys (after (replay es) who (Offer c p v (at_place c p) k))
 offer_at shape xs ys es who k c p v at is begins =
-    at_new shape xs ys (replay es) _ at begins.shape
+    at_new shape xs ys (replay es) _ (put_stood c p (length (channel_in xs c).queue) (replay es).stood) at begins.shape
     (ap (λ (s : State). after s who (Offer c p v (at_place c p) k)) (at_state shape xs (replay es) at)
     ∙ same_state _ _
     (λ d. ap (λ (x : Option Wait). put_channel c (place_offer (is_open x) (held_offer (at_place c p) k p v) (channel_in xs c)) (channel_in xs) d) (fresh xs c p is) ∙ sym (begins.channels d))
-    (λ u. ap (λ (x : Option Wait). put_wait (at_place c p) (name_clause who k c x) (wait_in xs) u) (fresh xs c p is) ∙ sym (begins.waits u)))
+    (λ u. ap (λ (x : Option Wait). put_wait (at_place c p) (name_clause who k c x) (wait_in xs) u) (fresh xs c p is) ∙ sym (begins.waits u)) refl)
 
 pub await_at : (shape : Shape) (xs ys : List ListChannel) (es : List Entry) (who k c p : ℕ) → IsAt shape xs (replay es) → p ≡ (channel_in xs c).next
     → BeginsWait who k c p (place_receiver true (held_receiver (at_place c p) k p) (channel_in xs c)) xs ys
     → IsAt shape ys (after (replay es) who (Await c p (at_place c p) k))
 await_at shape xs ys es who k c p at is begins =
-    at_new shape xs ys (replay es) _ at begins.shape
+    at_new shape xs ys (replay es) _ (replay es).stood at begins.shape
     (ap (λ (s : State). after s who (Await c p (at_place c p) k)) (at_state shape xs (replay es) at)
     ∙ same_state _ _
     (λ d. ap (λ (x : Option Wait). put_channel c (place_receiver (is_open x) (held_receiver (at_place c p) k p) (channel_in xs c)) (channel_in xs) d) (fresh xs c p is) ∙ sym (begins.channels d))
-    (λ u. ap (λ (x : Option Wait). put_wait (at_place c p) (name_clause who k c x) (wait_in xs) u) (fresh xs c p is) ∙ sym (begins.waits u)))
+    (λ u. ap (λ (x : Option Wait). put_wait (at_place c p) (name_clause who k c x) (wait_in xs) u) (fresh xs c p is) ∙ sym (begins.waits u)) refl)
 
 -- where the clause is one more of an open wait
 named_more : (who k c : ℕ) (x : Option Wait) → JoinsWait who k c x → name_clause who k c x ≡ with_clause k c x
@@ -123,21 +131,21 @@ pub joined_offer_at : (shape : Shape) (xs ys : List ListChannel) (es : List Entr
     → JoinsClause w k c p (place_offer true (held_offer w k p v) (channel_in xs c)) xs ys
     → IsAt shape ys (after (replay es) who (Offer c p v w k))
 joined_offer_at shape xs ys es who k c p v w at waits may joins =
-    at_new shape xs ys (replay es) _ at joins.shape
+    at_new shape xs ys (replay es) _ (put_stood c p (length (channel_in xs c).queue) (replay es).stood) at joins.shape
     (ap (λ (s : State). after s who (Offer c p v w k)) (at_state shape xs (replay es) at)
     ∙ same_state _ _
     (λ d. ap (λ b. put_channel c (place_offer b (held_offer w k p v) (channel_in xs c)) (channel_in xs) d) waits ∙ sym (joins.channels d))
-    (λ u. ap (λ (x : Option Wait). put_wait w x (wait_in xs) u) (named_more who k c (wait_in xs w) may) ∙ sym (joins.waits u)))
+    (λ u. ap (λ (x : Option Wait). put_wait w x (wait_in xs) u) (named_more who k c (wait_in xs w) may) ∙ sym (joins.waits u)) refl)
 
 pub joined_await_at : (shape : Shape) (xs ys : List ListChannel) (es : List Entry) (who k c p : ℕ) (w : WaitId) → IsAt shape xs (replay es) → is_open (wait_in xs w) ≡ true → JoinsWait who k c (wait_in xs w)
     → JoinsClause w k c p (place_receiver true (held_receiver w k p) (channel_in xs c)) xs ys
     → IsAt shape ys (after (replay es) who (Await c p w k))
 joined_await_at shape xs ys es who k c p w at waits may joins =
-    at_new shape xs ys (replay es) _ at joins.shape
+    at_new shape xs ys (replay es) _ (replay es).stood at joins.shape
     (ap (λ (s : State). after s who (Await c p w k)) (at_state shape xs (replay es) at)
     ∙ same_state _ _
     (λ d. ap (λ b. put_channel c (place_receiver b (held_receiver w k p) (channel_in xs c)) (channel_in xs) d) waits ∙ sym (joins.channels d))
-    (λ u. ap (λ (x : Option Wait). put_wait w x (wait_in xs) u) (named_more who k c (wait_in xs w) may) ∙ sym (joins.waits u)))
+    (λ u. ap (λ (x : Option Wait). put_wait w x (wait_in xs) u) (named_more who k c (wait_in xs w) may) ∙ sym (joins.waits u)) refl)
 
 -- the wait has room for one clause more
 pub room_for_clause : (shape : Shape) (xs : List ListChannel) (es : List Entry) (who k c : ℕ) (w : WaitId) → Legal shape es → IsAt shape xs (replay es) → JoinsWait who k c (wait_in xs w) → length (clauses_of (wait_in xs w)) < 7
@@ -226,7 +234,7 @@ pub settle_at : (shape : Shape) (xs ys : List ListChannel) (es : List Entry) (wh
     → ((u : WaitId) → wait_in ys u ≡ put_wait w (settled_wait outcome (wait_in xs w)) (wait_in xs) u)
     → IsAt shape ys (after (replay es) who (Settle w outcome))
 settle_at shape xs ys es who w outcome at k channels waits =
-    at_new shape xs ys (replay es) _ at k (ap (λ (s : State). after s who (Settle w outcome)) (at_state shape xs (replay es) at) ∙ same_state _ _ (λ d. sym (channels d)) (λ u. sym (waits u)))
+    at_new shape xs ys (replay es) _ (replay es).stood at k (ap (λ (s : State). after s who (Settle w outcome)) (at_state shape xs (replay es) at) ∙ same_state _ _ (λ d. sym (channels d)) (λ u. sym (waits u)) refl)
 
 -- ---- a withdraw
 

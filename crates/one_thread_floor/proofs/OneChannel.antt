@@ -35,6 +35,9 @@ has_offers [] c h = absurd (omega (arith, h))
 has_offers (x ∷ xs) zero h = omega arith
 has_offers (x ∷ xs) (suc c) h = let k : c < length xs = has_offers xs c h in omega (arith, k)
 
+pub has_one : (xs : List ListChannel) (c i : ℕ) → i < length (channel_in xs c).queue → c < length xs
+has_one xs c i h = has_offers xs c (omega (arith, h))
+
 pub has_receivers : (xs : List ListChannel) (c : ℕ) → 0 < length (channel_in xs c).receivers → c < length xs
 has_receivers [] c h = absurd (omega (arith, h))
 has_receivers (x ∷ xs) zero h = omega arith

@@ -1,7 +1,7 @@
 -- What callers see of a list floor.
 use Rattle.std.specs.Prelude.{◌≡◌, ℕ, ◌≤◌, Bool, true, nat_lt, vec_len}
 use Rattle.channel_model.specs.declared.acts.Kind.{Kind}
-use Rattle.channel_model.specs.declared.acts.Kind.TheVariants.{Rendezvous, Buffered, Unlimited, Conflated, DropOldest, Signal}
+use Rattle.channel_model.specs.declared.acts.Kind.TheVariants.{Rendezvous, Buffered, Unlimited, Conflated, DropOldest, DropLatest, Signal}
 use Rattle.channel_model.specs.Floors.{Floor}
 use Rattle.one_thread_floor.specs.declared.list_floor.ListFloor.{ListFloor}
 use Rattle.one_thread_floor.specs.GhostLists.{ghost_items}
@@ -23,6 +23,7 @@ has_capacity (Buffered k) = nat_lt 0 k
 has_capacity Unlimited = true
 has_capacity Conflated = true
 has_capacity (DropOldest k) = nat_lt 0 k
+has_capacity (DropLatest k) = nat_lt 0 k
 has_capacity Signal = true
 
 -- a channel may have this kind and so many places

@@ -1,5 +1,5 @@
 -- What the lists stand for.
-use Rattle.std.specs.Prelude.{◌≡◌, ℕ, ◌≤◌, ◌≢◌, ◌==◌, ◌&&◌, not, Bool, true, false, List, [], ◌∷◌, ◌++◌, length, map, take, Option, Some, None, is_some, option_map, slice_get, if◌then◌else◌}
+use Rattle.std.specs.Prelude.{◌≡◌, ℕ, ◌+◌, ◌<◌, ◌≤◌, ◌≢◌, ◌==◌, nat_le, ◌&&◌, ◌||◌, not, Bool, true, false, List, [], ◌∷◌, ◌++◌, length, map, take, Option, Some, None, is_some, option_map, slice_get, slice_index_or, if◌then◌else◌}
 use Rattle.std.specs.List.{list_any, list_all}
 use Rattle.channel_model.specs.Effects.{without, is_held_by, put_channel, put_wait, name_clause, is_open}
 use Rattle.channel_model.specs.Owing.{is_buffered}
@@ -281,6 +281,17 @@ pub record LeadsTo (n : ℕ) (queue : List Standing) : Type 0 where
   pub fits : n ≤ length queue
   pub buffered : list_all is_buffered (take n queue) ≡ true
   pub next : (o : Standing) → slice_get queue n ≡ Some o → is_some o.holder ≡ true
+
+-- the offer at this place has at least so many before it; n offers stand before this list
+abbrev pub stands_behind : ℕ → ℕ → ℕ → List Standing → Bool
+stands_behind count p n [] = false
+stands_behind count p n (o ∷ os) = ((o.place == p) && nat_le count n) || stands_behind count p (n + 1) os
+
+-- it stands at this index
+pub record IsBehind (count p i : ℕ) (queue : List Standing) : Type 0 where
+  pub within : i < length queue
+  pub behind : count ≤ i
+  pub at : (o : Standing) → (slice_index_or queue i o).place ≡ p
 
 -- nothing of the wait is left at channel c
 abbrev pub IsLeft : WaitId → ℕ → State → Type 0

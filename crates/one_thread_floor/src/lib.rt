@@ -34,6 +34,7 @@ mod list_new;
 mod list_places;
 mod list_queries;
 mod list_removal;
+mod list_spurns;
 #[cfg(test)]
 mod list_tests;
 #[cfg(test)]

@@ -12,6 +12,7 @@ use crate::list_queries::{
     next_place, offer_at, owner_at, queue_len, state_at,
 };
 use crate::list_removal::resolve_everywhere;
+use crate::list_spurns::{index_behind, remove_offer};
 use channel_model::{
     Act, AlreadyClosed, ChannelFloor, Entry, Got, Offered, Registered, Resolution, Settled,
     TriedGot, TriedOffer, WaitState, Why, Withdrawn,
@@ -276,6 +277,25 @@ impl ChannelFloor for ListFloor {
             },
         });
         Some((offer.place, offer.value))
+    }
+
+    fn spurn(&mut self, who: Tag, c: ChannelId, mine: Place) -> Option<Value> {
+        let Some(capacity) = kind_at(&self.kinds, c).spurns_beyond() else {
+            return None;
+        };
+        let Some(index) = index_behind(&self.channels, c, mine, capacity as usize) else {
+            return None;
+        };
+        let offer = remove_offer(&mut self.channels, c, index);
+        self.entries.push(&Entry {
+            who,
+            act: Act::Spurn {
+                c,
+                place: mine,
+                value: offer.value,
+            },
+        });
+        Some(offer.value)
     }
 
     ghost legal = { λ f. f.legal };

@@ -3,7 +3,7 @@ use Rattle.std.specs.Prelude.{◌≡◌, ◌⊎◌, ℕ, ◌<◌, ◌≤◌, Boo
 use Rattle.std.specs.List.{list_all}
 use mathlib.Core.List.{IsPrefix}
 use Rattle.channel_model.specs.declared.acts.Act.{Act}
-use Rattle.channel_model.specs.declared.acts.Act.TheVariants.{Hand, Put, Offer, Await, Take, Admit, Drop, Close, Void, Drain}
+use Rattle.channel_model.specs.declared.acts.Act.TheVariants.{Hand, Put, Offer, Await, Take, Admit, Drop, Spurn, Close, Void, Drain}
 use Rattle.channel_model.specs.declared.acts.Act.TheVariants.{WakeClosed, Withdraw, Settle}
 use Rattle.channel_model.specs.Floors.{Floor, Looked, Added}
 use Rattle.channel_model.specs.Channels.{Wait, kind_at, is_signal}
@@ -11,7 +11,7 @@ use Rattle.channel_model.specs.declared.floor.Got.{Got}
 use Rattle.channel_model.specs.declared.floor.Got.TheVariants as got
 use Rattle.channel_model.specs.declared.acts.Settled.TheVariants as end
 use Rattle.channel_model.specs.declared.acts.Kind.{Kind}
-use Rattle.channel_model.specs.declared.acts.Kind.TheVariants.{Rendezvous, Buffered, Unlimited, Conflated, DropOldest, Signal}
+use Rattle.channel_model.specs.declared.acts.Kind.TheVariants.{Rendezvous, Buffered, Unlimited, Conflated, DropOldest, DropLatest, Signal}
 use Rattle.channel_model.specs.declared.acts.Why.TheVariants as why
 use Rattle.channel_model.specs.declared.standing.Resolution.{Resolution}
 use Rattle.channel_model.specs.declared.standing.Resolution.TheVariants as resolved
@@ -41,6 +41,7 @@ KeepsAll (Buffered n) = 1 ≤ n
 KeepsAll Unlimited = Unit {0}
 KeepsAll Conflated = ⊥
 KeepsAll (DropOldest n) = ⊥
+KeepsAll (DropLatest n) = ⊥
 KeepsAll Signal = ⊥
 
 -- channel 0 of the hub carries elements
@@ -55,6 +56,7 @@ is_admit (Await c p w k) = false
 is_admit (Take c p v) = false
 is_admit (Admit c p) = true
 is_admit (Drop c p v) = false
+is_admit (Spurn c p v) = false
 is_admit (Close c v) = false
 is_admit (Void c) = false
 is_admit (Drain c p v) = false

@@ -6,7 +6,7 @@ use Rattle.std.proofs.lemmas.Bool.{eqb-true, cases_lt}
 use Rattle.std.proofs.lemmas.Bool.Decides.{nat_tests}
 use Rattle.co_base.specs.declared.names.WaitId.{WaitId}
 use Rattle.channel_model.specs.declared.acts.Act.{Act}
-use Rattle.channel_model.specs.declared.acts.Act.TheVariants.{Hand, Put, Offer, Await, Take, Admit, Drop, Close, Void, Drain, WakeClosed, Withdraw, Settle}
+use Rattle.channel_model.specs.declared.acts.Act.TheVariants.{Hand, Put, Offer, Await, Take, Admit, Drop, Spurn, Close, Void, Drain, WakeClosed, Withdraw, Settle}
 use Rattle.channel_model.specs.declared.acts.Entry.{Entry}
 use Rattle.channel_model.specs.declared.acts.Settled.{Settled}
 use Rattle.channel_model.specs.declared.standing.Party.{Party}
@@ -15,7 +15,7 @@ use Rattle.channel_model.specs.declared.standing.Receiver.{Receiver}
 use Rattle.channel_model.specs.declared.standing.Resolution.{Resolution}
 use Rattle.channel_model.specs.declared.standing.Resolution.TheVariants as resolved
 use Rattle.channel_model.specs.Channels.{Shape, State, Channel, Wait, start, IsShape}
-use Rattle.channel_model.specs.Effects.{after, resolve, resolve_first, resolve_holder, resolve_offer, remove_first, with_queue, put_channel, put_wait, name_clause, admitted, holder_at, is_open, is_held_by, place_offer, place_receiver}
+use Rattle.channel_model.specs.Effects.{after, resolve, resolve_first, resolve_holder, resolve_offer, remove_first, with_queue, put_channel, put_wait, name_clause, admitted, holder_at, is_open, is_held_by, place_offer, place_receiver, is_elsewhere, spurned}
 use Rattle.channel_model.specs.Needs.{Needs, MaySettle, IsFirstOffer}
 use Rattle.channel_model.specs.Histories.{replay, replay_from, Legal, LegalFrom, acts_of, acts_in}
 use Rattle.channel_model.specs.Laws.{how_many, one_if, settles, settlements_of}
@@ -64,7 +64,7 @@ holder_sheds c None how s = omega arith
 holder_sheds c (Some p) how s = resolve_sheds c p.wait (how p.clause) s
 
 -- a channel is put that shed so much
-put_sheds : (c d t : ℕ) (ch : Channel) (s : State) (waits : WaitId → Option Wait) → t + (length ch.queue + (s.channels d).next) ≤ length (s.channels d).queue + ch.next → Sheds c (cond (d == c) t 0) s (record { channels = put_channel d ch s.channels; waits = waits })
+put_sheds : (c d t : ℕ) (ch : Channel) (s : State) (waits : WaitId → Option Wait) → t + (length ch.queue + (s.channels d).next) ≤ length (s.channels d).queue + ch.next → Sheds c (cond (d == c) t 0) s (record { channels = put_channel d ch s.channels; waits = waits; stood = s.stood })
 put_sheds c d t ch s waits h = by_test (d == c) refl
   where
     by_test : (b : Bool) → (d == c) ≡ b → cond b t 0 + (length (if b then ch else s.channels c).queue + (s.channels c).next) ≤ length (s.channels c).queue + (if b then ch else s.channels c).next
@@ -75,7 +75,7 @@ none_of : (b : Bool) → cond b 0 0 ≡ (let n : ℕ = 0 in n)
 none_of true = refl
 none_of false = refl
 
-put_keeps : (c d : ℕ) (ch : Channel) (s : State) (waits : WaitId → Option Wait) → length ch.queue + (s.channels d).next ≤ length (s.channels d).queue + ch.next → Sheds c 0 s (record { channels = put_channel d ch s.channels; waits = waits })
+put_keeps : (c d : ℕ) (ch : Channel) (s : State) (waits : WaitId → Option Wait) → length ch.queue + (s.channels d).next ≤ length (s.channels d).queue + ch.next → Sheds c 0 s (record { channels = put_channel d ch s.channels; waits = waits; stood = s.stood })
 put_keeps c d ch s waits h = let k = put_sheds c d 0 ch s waits (omega (arith, h)) in let z = none_of (d == c) in omega arith
 
 offer_grows : (b : Bool) (o : Standing) (ch : Channel) → length (place_offer b o ch).queue + ch.next ≤ length ch.queue + (place_offer b o ch).next
@@ -109,6 +109,14 @@ removed_sheds : (c d : ℕ) (q : List Standing) (s : State) → (s.channels d).q
 removed_sheds c d [] s e = omega arith
 removed_sheds c d (o ∷ os) s e = put_keeps c d (record (s.channels d) { queue = os }) s s.waits (let k = popped o os (s.channels d).queue e in omega arith)
 
+fewer_stand : (test : Standing → Bool) (os : List Standing) → length (filter test os) ≤ length os
+fewer_stand test [] = omega arith
+fewer_stand test (o ∷ os) = by_test (test o) (fewer_stand test os)
+  where
+    by_test : (b : Bool) → length (filter test os) ≤ length os → length (if b then o ∷ filter test os else filter test os) ≤ length (o ∷ os)
+    by_test true h = omega arith
+    by_test false h = omega arith
+
 same_length : (p : ℕ) (os : List Standing) → length (admitted p os) ≡ length os
 same_length p [] = refl
 same_length p (o ∷ os) = by_test (o.place == p) (same_length p os)
@@ -126,6 +134,7 @@ after_sheds shape c s who (Take d p v) n = take_sheds c d p v (s.channels d).que
 after_sheds shape c s who (Admit d p) n =
     sheds_on c 0 0 s (with_queue d (admitted p (s.channels d).queue) s) (resolve_holder (holder_at p (s.channels d).queue) resolved.Admitted (with_queue d (admitted p (s.channels d).queue) s)) (put_keeps c d (record (s.channels d) { queue = admitted p (s.channels d).queue }) s s.waits (let k = same_length p (s.channels d).queue in omega arith)) (holder_sheds c (holder_at p (s.channels d).queue) resolved.Admitted _)
 after_sheds shape c s who (Drop d p v) n = removed_sheds c d (s.channels d).queue s refl
+after_sheds shape c s who (Spurn d p v) n = put_keeps c d (record (s.channels d) { queue = spurned p (s.channels d).queue }) s s.waits (let k = fewer_stand (is_elsewhere p) (s.channels d).queue in omega arith)
 after_sheds shape c s who (Close d v) n = put_keeps c d _ s s.waits (omega arith)
 after_sheds shape c s who (Void d) n = put_keeps c d _ s s.waits (omega arith)
 after_sheds shape c s who (Drain d p v) n = offer_sheds c d (s.channels d).queue (λ k. resolved.Voided) s refl

@@ -5,7 +5,7 @@ use mathlib.Core.List.{IsPrefix}
 use Rattle.std.proofs.Common.{sym, ap, ◌∙◌, subst, arith, ⊎_elim}
 use Rattle.std.proofs.lemmas.Bool.{cases_lt, true≢false}
 use Rattle.channel_model.specs.declared.acts.Act.{Act}
-use Rattle.channel_model.specs.declared.acts.Act.TheVariants.{Hand, Put, Offer, Await, Take, Admit, Drop, Close, Void, Drain, WakeClosed, Withdraw, Settle}
+use Rattle.channel_model.specs.declared.acts.Act.TheVariants.{Hand, Put, Offer, Await, Take, Admit, Drop, Spurn, Close, Void, Drain, WakeClosed, Withdraw, Settle}
 use Rattle.channel_model.specs.declared.acts.Kind.TheVariants.{Unlimited}
 use Rattle.channel_model.specs.Channels.{Shape, kind_at}
 use Rattle.channel_model.specs.Histories.{acts_of}
@@ -46,6 +46,7 @@ elsewhere c (Await d p w k) e = ap (λ (b : Bool). not b || (k == 0)) e
 elsewhere c (Take d p v) e = refl
 elsewhere c (Admit d p) e = ap not e
 elsewhere c (Drop d p v) e = ap not e
+elsewhere c (Spurn d p v) e = ap not e
 elsewhere c (Close d v) e = ap not e
 elsewhere c (Void d) e = ap not e
 elsewhere c (Drain d p v) e = ap not e

@@ -6,7 +6,7 @@ use Rattle.std.proofs.lemmas.Bool.{eqb-true, cases_lt, true≢false}
 use Rattle.std.proofs.lemmas.Bool.Decides.{nat_tests}
 use Rattle.co_base.specs.declared.names.WaitId.{WaitId}
 use Rattle.channel_model.specs.declared.acts.Act.{Act}
-use Rattle.channel_model.specs.declared.acts.Act.TheVariants.{Hand, Put, Offer, Await, Take, Admit, Drop, Close, Void, Drain, WakeClosed, Withdraw, Settle}
+use Rattle.channel_model.specs.declared.acts.Act.TheVariants.{Hand, Put, Offer, Await, Take, Admit, Drop, Spurn, Close, Void, Drain, WakeClosed, Withdraw, Settle}
 use Rattle.channel_model.specs.declared.acts.Entry.{Entry}
 use Rattle.channel_model.specs.declared.acts.Kind.TheVariants.{Unlimited}
 use Rattle.channel_model.specs.declared.acts.Settled.{Settled}
@@ -17,7 +17,7 @@ use Rattle.channel_model.specs.declared.standing.Receiver.{Receiver}
 use Rattle.channel_model.specs.declared.standing.Resolution.{Resolution}
 use Rattle.channel_model.specs.declared.standing.Resolution.TheVariants as resolved
 use Rattle.channel_model.specs.Channels.{Shape, State, Channel, Wait, start, kind_at, places_at, suspends, same_wait}
-use Rattle.channel_model.specs.Effects.{after, resolve, resolve_first, resolve_holder, resolve_offer, remove_first, with_queue, put_channel, put_wait, resolved_wait, name_clause, settled_wait, admitted, holder_at, is_open, is_held_by, place_offer, place_receiver}
+use Rattle.channel_model.specs.Effects.{after, resolve, resolve_first, resolve_holder, resolve_offer, remove_first, with_queue, put_channel, put_wait, resolved_wait, name_clause, settled_wait, admitted, holder_at, is_open, is_held_by, place_offer, place_receiver, spurned}
 use Rattle.channel_model.specs.Needs.{Needs, HasPlace, MayName, JoinsWait, MaySettle, IsOpenOf, IsFirstReceiver, IsFirstOffer, began_by_select}
 use Rattle.channel_model.specs.Outcomes.{IsOutcome, value_given, sent_at}
 use Rattle.channel_model.specs.Histories.{replay_from, LegalFrom, acts_in}
@@ -175,6 +175,11 @@ put_flows c d ch s h e =
       weighs = (let a : weigh c (put_channel d ch s.channels c) s.waits ≡ weigh c (s.channels c) s.waits = ap (λ (x : Channel). weigh c x s.waits) is in omega arith);
     }
 
+-- how many stood at the placings is nothing to it
+stood_flows : (c gets gives : ℕ) (s : State) (channels : ℕ → Channel) (waits : WaitId → Option Wait) (stood stood' : ℕ → ℕ → ℕ)
+    → Flows c gets gives s (record { channels = channels; waits = waits; stood = stood }) → Flows c gets gives s (record { channels = channels; waits = waits; stood = stood' })
+stood_flows c gets gives s channels waits stood stood' f = record { plain = record { waits = f.plain.waits; receivers = f.plain.receivers }; weighs = f.weighs }
+
 -- the same with the channel that is put
 kept_same : (c d : ℕ) (ch : Channel) (s : State) → (d == c) ≡ false → AllKept c s → AllKept c (record s { channels = put_channel d ch s.channels })
 kept_same c d ch s e k = ap (λ (x : Channel). list_all (λ (o : Standing). is_none o.holder) x.queue) (put_other d c ch s.channels e) ∙ k
@@ -282,7 +287,7 @@ named_other who k c d p w s h ne may = by_test (same_wait w (wait_of d p)) refl 
     by_test false e m = not_here (w.channel == c) refl m
 
 name_other : (who k c d p : ℕ) (w : WaitId) (ch : Channel) (s : State) → Plain c s → (d == c) ≡ false → MayName who k d p w s
-    → Flows c 0 0 s (record { channels = put_channel d ch s.channels; waits = put_wait w (name_clause who k d (s.waits w)) s.waits })
+    → Flows c 0 0 s (record { channels = put_channel d ch s.channels; waits = put_wait w (name_clause who k d (s.waits w)) s.waits; stood = s.stood })
 name_other who k c d p w ch s h ne may =
     let e = named_other who k c d p w s h ne may in
     let is = put_other d c ch s.channels ne in
@@ -474,8 +479,8 @@ step shape c s who act kind sound needs fits h = by_act act needs fits
     put d p v true e n =
         let is : d ≡ c = eqb-true d c e in
         let f = put_here c p v (places_at shape c) s h sound.placed (subst (λ m. HasPlace (places_at shape m) p (s.channels m)) is n.1) in
-        subst (λ m. Flows c 0 1 s (after s who (Put m p v))) (sym is) f
-    put d p v false e n = put_flows c d _ s h e
+        subst (λ m. Flows c 0 1 s (after s who (Put m p v))) (sym is) (stood_flows c 0 1 s _ _ _ _ f)
+    put d p v false e n = stood_flows c 0 0 s _ _ _ _ (put_flows c d _ s h e)
 
     take : (d p v : ℕ) (b : Bool) → (d == c) ≡ b → Needs shape s who (Take d p v) → Flows c (one b) 0 s (after s who (Take d p v))
     take d p v true e n =
@@ -496,7 +501,7 @@ step shape c s who act kind sound needs fits h = by_act act needs fits
     by_act : (act : Act) → Needs shape s who act → is_permit_act c act ≡ true → Step c s who act
     by_act (Hand d p v) n f = hand d p v (d == c) refl n
     by_act (Put d p v) n f = put d p v (d == c) refl n
-    by_act (Offer d p v w k) n f = name_other who k c d p w _ s h (not_on (d == c) f) n.4
+    by_act (Offer d p v w k) n f = stood_flows c 0 0 s _ _ _ _ (name_other who k c d p w _ s h (not_on (d == c) f) n.4)
     by_act (Await d p w k) n f = await d p k w (d == c) refl f n
     by_act (Take d p v) n f = take d p v (d == c) refl n
     by_act (Admit d p) n f =
@@ -504,6 +509,7 @@ step shape c s who act kind sound needs fits h = by_act act needs fits
         let q = put_flows c d (record (s.channels d) { queue = admitted p (s.channels d).queue }) s h e in
         goes_on c s _ _ q (holder_other c d (holder_at p (s.channels d).queue) resolved.Admitted _ q.plain (kept_same c d (record (s.channels d) { queue = admitted p (s.channels d).queue }) s e kept) e (holder_stands s.waits d p (s.channels d).queue (sound.stand d).offers))
     by_act (Drop d p v) n f = removed_other c d (s.channels d).queue s h (not_on (d == c) f)
+    by_act (Spurn d p v) n f = put_flows c d (record (s.channels d) { queue = spurned p (s.channels d).queue }) s h (not_on (d == c) f)
     by_act (Close d v) n f = put_flows c d _ s h (not_on (d == c) f)
     by_act (Void d) n f = put_flows c d _ s h (not_on (d == c) f)
     by_act (Drain d p v) n f = offer_other c d (s.channels d).queue (λ k. resolved.Voided) s h kept (not_on (d == c) f) (sound.stand d).offers

@@ -3,7 +3,7 @@ use Rattle.std.specs.Prelude.{◌≡◌, ℕ, ◌+◌, ◌-◌, ◌≤◌, ◌�
 use mathlib.Core.List.{IsPrefix}
 use Rattle.std.proofs.Common.{sym, ap, ◌∙◌, subst, arith, inl, inr, ⊎_elim}
 use Rattle.channel_model.specs.declared.acts.Act.{Act}
-use Rattle.channel_model.specs.declared.acts.Act.TheVariants.{Hand, Put, Offer, Await, Take, Admit, Drop, Close, Void, Drain, WakeClosed, Withdraw, Settle}
+use Rattle.channel_model.specs.declared.acts.Act.TheVariants.{Hand, Put, Offer, Await, Take, Admit, Drop, Spurn, Close, Void, Drain, WakeClosed, Withdraw, Settle}
 use Rattle.channel_model.specs.Laws.{how_many}
 use Rattle.channel_model.proofs.Elements.{all_push}
 use Rattle.permits.specs.Parts.{is_on, gets_permit, gives_permit, is_permit_act, brings_element, got, given, is_filler, gave, held, IsPermitPart}
@@ -59,6 +59,7 @@ gets_on c (Await d p w k) e = refl
 gets_on c (Take d p v) e = e
 gets_on c (Admit d p) e = refl
 gets_on c (Drop d p v) e = refl
+gets_on c (Spurn d p v) e = refl
 gets_on c (Close d v) e = refl
 gets_on c (Void d) e = refl
 gets_on c (Drain d p v) e = refl

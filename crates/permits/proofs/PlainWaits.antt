@@ -1,11 +1,11 @@
 -- A wait on the channel, of one who uses permits there, is that of a plain receiver: it holds no offer, and is neither taken nor kept.
-use Rattle.std.specs.Prelude.{◌≡◌, ◌⊎◌, ℕ, ◌+◌, ◌≤◌, ◌==◌, Bool, true, false, not, ◌||◌, cond, List, [], ◌∷◌, ◌++◌, Option, Some, None, refl, if◌then◌else◌, MatchBool}
+use Rattle.std.specs.Prelude.{◌≡◌, ◌⊎◌, ℕ, ◌+◌, ◌≤◌, ◌==◌, Bool, true, false, not, ◌||◌, cond, List, [], ◌∷◌, ◌++◌, filter, Option, Some, None, refl, if◌then◌else◌, MatchBool}
 use Rattle.std.specs.List.{list_all}
 use Rattle.std.proofs.Common.{sym, ap, ◌∙◌, subst, arith, inl, inr, ⊎_elim}
 use Rattle.std.proofs.lemmas.Bool.{eqb-true, true≢false}
 use Rattle.co_base.specs.declared.names.WaitId.{WaitId}
 use Rattle.channel_model.specs.declared.acts.Act.{Act}
-use Rattle.channel_model.specs.declared.acts.Act.TheVariants.{Hand, Put, Offer, Await, Take, Admit, Drop, Close, Void, Drain, WakeClosed, Withdraw, Settle}
+use Rattle.channel_model.specs.declared.acts.Act.TheVariants.{Hand, Put, Offer, Await, Take, Admit, Drop, Spurn, Close, Void, Drain, WakeClosed, Withdraw, Settle}
 use Rattle.channel_model.specs.declared.acts.Entry.{Entry}
 use Rattle.channel_model.specs.declared.acts.Settled.{Settled}
 use Rattle.channel_model.specs.declared.acts.Settled.TheVariants as settled
@@ -16,7 +16,7 @@ use Rattle.channel_model.specs.declared.standing.Resolution.{Resolution}
 use Rattle.channel_model.specs.declared.standing.Resolution.TheVariants as resolved
 use Rattle.channel_model.specs.Answers.{IsOwnWait, IsReadyWait, outcome_at, outcome_of_some}
 use Rattle.channel_model.specs.Channels.{Shape, State, Channel, Wait, start, same_wait, places_at}
-use Rattle.channel_model.specs.Effects.{after, resolve, resolve_first, resolve_holder, resolve_offer, remove_first, with_queue, put_channel, put_wait, resolved_wait, name_clause, settled_wait, admitted, holder_at, is_open, is_held_by, place_offer, place_receiver}
+use Rattle.channel_model.specs.Effects.{after, resolve, resolve_first, resolve_holder, resolve_offer, remove_first, with_queue, put_channel, put_wait, resolved_wait, name_clause, settled_wait, admitted, holder_at, is_open, is_held_by, place_offer, place_receiver, is_elsewhere, spurned}
 use Rattle.channel_model.specs.Needs.{Needs, HasPlace, MayName, JoinsWait, began_by_select}
 use Rattle.channel_model.specs.Histories.{replay, replay_from, Legal, LegalFrom, acts_of}
 use Rattle.channel_model.specs.Laws.{how_many, IsStandingAt, HolderStands, OffersStand, AllStandOpen}
@@ -121,6 +121,14 @@ removed_receives : (who : ℕ) (w : WaitId) (c : ℕ) (q : List Standing) (s : S
 removed_receives who w c [] s e h = h
 removed_receives who w c (o ∷ os) s e h = put_receives who w c (record (s.channels c) { queue = os }) s (let k : holds_at w (s.channels c) ≡ how_many (λ (x : Standing). is_held_by w x.holder) (o ∷ os) = ap (how_many (λ (x : Standing). is_held_by w x.holder)) e in omega arith) h
 
+fewer_held : (w : WaitId) (test : Standing → Bool) (os : List Standing) → how_many (λ (o : Standing). is_held_by w o.holder) (filter test os) ≤ how_many (λ (o : Standing). is_held_by w o.holder) os
+fewer_held w test [] = omega arith
+fewer_held w test (o ∷ os) = by_test (test o) (fewer_held w test os)
+  where
+    by_test : (b : Bool) → how_many (λ (x : Standing). is_held_by w x.holder) (filter test os) ≤ how_many (λ (x : Standing). is_held_by w x.holder) os → how_many (λ (x : Standing). is_held_by w x.holder) (if b then o ∷ filter test os else filter test os) ≤ how_many (λ (x : Standing). is_held_by w x.holder) (o ∷ os)
+    by_test true h = omega arith
+    by_test false h = omega arith
+
 admitted_less : (w : WaitId) (p : ℕ) (os : List Standing) → how_many (λ (o : Standing). is_held_by w o.holder) (admitted p os) ≤ how_many (λ (o : Standing). is_held_by w o.holder) os
 admitted_less w p [] = omega arith
 admitted_less w p (o ∷ os) = by_test (o.place == p) (admitted_less w p os)
@@ -186,7 +194,7 @@ named_how n k d p places v s l place may = by_test (same_wait v (record { channe
     by_test false e m = inr m
 
 abbrev named_state : ℕ → ℕ → ℕ → WaitId → Channel → State → State
-named_state n k d v ch s = record { channels = put_channel d ch s.channels; waits = put_wait v (name_clause n k d (s.waits v)) s.waits }
+named_state n k d v ch s = record { channels = put_channel d ch s.channels; waits = put_wait v (name_clause n k d (s.waits v)) s.waits; stood = s.stood }
 
 -- the other wait is named
 named_apart : (who n k d : ℕ) (v w : WaitId) (ch : Channel) (s : State) → same_wait v w ≡ false → holds_at w ch ≤ holds_at w (s.channels d) → Receives who w s → Receives who w (named_state n k d v ch s)
@@ -275,14 +283,18 @@ plain_clause false k e f = cc
 same_as : (c d : ℕ) → d ≡ c → (d == c) ≡ true
 same_as c d e = ap (λ x. x == c) e ∙ same_number c
 
+-- how many stood at the placings is nothing to it
+stood_receives : (who : ℕ) (w : WaitId) (channels : ℕ → Channel) (waits : WaitId → Option Wait) (stood stood' : ℕ → ℕ → ℕ) → Receives who w (record { channels = channels; waits = waits; stood = stood }) → Receives who w (record { channels = channels; waits = waits; stood = stood' })
+stood_receives who w channels waits stood stood' h = record { ends = h.ends; none = h.none }
+
 after_receives : (shape : Shape) (who n : ℕ) (w : WaitId) (s : State) (act : Act) → Placed s → AllStandOpen s → Needs shape s n act → (n ≡ who → is_permit_act w.channel act ≡ true) → Receives who w s → Receives who w (after s n act)
 after_receives shape who n w s (Hand d p v) l st m f h = first_receives who w (s.channels d).receivers (λ k. resolved.Handed k v) s (λ k. tt) h
-after_receives shape who n w s (Put d p v) l st m f h = put_receives who w d _ s (offer_holds true w (record { place = p; value = v; holder = None }) (s.channels d) refl) h
+after_receives shape who n w s (Put d p v) l st m f h = stood_receives who w _ _ _ _ (put_receives who w d _ s (offer_holds true w (record { place = p; value = v; holder = None }) (s.channels d) refl) h)
 after_receives shape who n w s (Offer d p x v k) l st m f h =
-    named_receives who n k d p (places_at shape d) v w _ s l st m.1 m.4
+    stood_receives who w _ _ _ _ (named_receives who n k d p (places_at shape d) v w _ s l st m.1 m.4
     (λ t. offer_holds (is_open (s.waits v)) w (record { place = p; value = x; holder = Some (record { wait = v; clause = k }) }) (s.channels d) (other_way v w t))
     (λ own here. absurd (not_true (d == w.channel) (same_as w.channel d here) (f own)))
-    h
+    h)
 after_receives shape who n w s (Await d p v k) l st m f h =
     named_receives who n k d p (places_at shape d) v w _ s l st m.1 m.3
     (λ t. receiver_holds (is_open (s.waits v)) w (record { place = p; party = record { wait = v; clause = k } }) (s.channels d))
@@ -293,6 +305,7 @@ after_receives shape who n w s (Admit d p) l st m f h =
     let g = put_receives who w d (record (s.channels d) { queue = admitted p (s.channels d).queue }) s (admitted_less w p (s.channels d).queue) h in
     holder_receives who w (holder_at p (s.channels d).queue) resolved.Admitted _ (λ x e is own. holder_counts w p (s.channels d).queue x e is (h.none own d)) g
 after_receives shape who n w s (Drop d p v) l st m f h = removed_receives who w d (s.channels d).queue s refl h
+after_receives shape who n w s (Spurn d p v) l st m f h = put_receives who w d (record (s.channels d) { queue = spurned p (s.channels d).queue }) s (let k = fewer_held w (is_elsewhere p) (s.channels d).queue in omega arith) h
 after_receives shape who n w s (Close d v) l st m f h = put_receives who w d _ s (omega arith) h
 after_receives shape who n w s (Void d) l st m f h = put_receives who w d _ s (omega arith) h
 after_receives shape who n w s (Drain d p v) l st m f h = offer_receives who w d (s.channels d).queue (λ k. resolved.Voided) s refl h

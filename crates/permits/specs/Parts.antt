@@ -3,7 +3,7 @@ use Rattle.std.specs.Prelude.{◌≡◌, ℕ, ◌-◌, ◌≤◌, ◌==◌, Bool
 use Rattle.std.specs.List.{list_all}
 use mathlib.Core.List.{IsPrefix}
 use Rattle.channel_model.specs.declared.acts.Act.{Act}
-use Rattle.channel_model.specs.declared.acts.Act.TheVariants.{Hand, Put, Offer, Await, Take, Admit, Drop, Close, Void, Drain, WakeClosed, Withdraw, Settle}
+use Rattle.channel_model.specs.declared.acts.Act.TheVariants.{Hand, Put, Offer, Await, Take, Admit, Drop, Spurn, Close, Void, Drain, WakeClosed, Withdraw, Settle}
 use Rattle.channel_model.specs.declared.acts.Kind.TheVariants.{Unlimited}
 use Rattle.channel_model.specs.declared.acts.Settled.{Settled}
 use Rattle.channel_model.specs.declared.acts.Settled.TheVariants as settled
@@ -23,6 +23,7 @@ is_on c (Await d p w k) = d == c
 is_on c (Take d p v) = d == c
 is_on c (Admit d p) = d == c
 is_on c (Drop d p v) = d == c
+is_on c (Spurn d p v) = d == c
 is_on c (Close d v) = d == c
 is_on c (Void d) = d == c
 is_on c (Drain d p v) = d == c
@@ -59,6 +60,7 @@ is_permit_act c (Await d p w k) = not (d == c) || (k == 0)
 is_permit_act c (Take d p v) = true
 is_permit_act c (Admit d p) = not (d == c)
 is_permit_act c (Drop d p v) = not (d == c)
+is_permit_act c (Spurn d p v) = not (d == c)
 is_permit_act c (Close d v) = not (d == c)
 is_permit_act c (Void d) = not (d == c)
 is_permit_act c (Drain d p v) = not (d == c)

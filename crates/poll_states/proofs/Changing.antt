@@ -21,7 +21,7 @@ nothing_left (x ∷ xs) ys e = nothing_left xs ys (let k : xs ++ ys ≡ xs = cc 
 
 once_not : {A : Type 0} (call : Call) (g : List Told) (a : Answer) → AtOnce call g a → a ≡ LooksAgain → A
 once_not _ _ _ (AtOnce.hands c v q) e = absurd (let u : ⊥ = cc in u)
-once_not _ _ _ (AtOnce.puts c v q drops d) e = absurd (let u : ⊥ = cc in u)
+once_not _ _ _ (AtOnce.puts c v q more d) e = absurd (let u : ⊥ = cc in u)
 once_not _ _ _ (AtOnce.takes c v q admits d) e = absurd (let u : ⊥ = cc in u)
 
 refused_not : {A : Type 0} (call : Call) (t : Told) (a : Answer) → Refused call t a → a ≡ LooksAgain → A

@@ -4,11 +4,11 @@ use Rattle.std.specs.List.{list_any}
 use Rattle.std.proofs.Common.{ap, sym, ◌∙◌, arith, inl, inr, ⊎_elim}
 use Rattle.co_base.specs.declared.names.WaitId.{WaitId}
 use Rattle.channel_model.specs.declared.acts.Act.{Act}
-use Rattle.channel_model.specs.declared.acts.Act.TheVariants.{Hand, Put, Offer, Await, Take, Admit, Drop, Close, Void, Drain, WakeClosed, Withdraw, Settle}
+use Rattle.channel_model.specs.declared.acts.Act.TheVariants.{Hand, Put, Offer, Await, Take, Admit, Drop, Spurn, Close, Void, Drain, WakeClosed, Withdraw, Settle}
 use Rattle.channel_model.specs.declared.acts.Entry.{Entry}
 use Rattle.channel_model.specs.Channels.{Shape}
 use Rattle.channel_model.specs.Histories.{replay, acts_in, Legal}
-use Rattle.channel_model.specs.Fates.{is_at, brings, places_wait, offers_at, hands, takes, admits, drops_at, drains, withdraws, settles_value, settles_undelivered, or_else, first_some, element_at, wait_at, is_wait, resolves_at, resolves_elsewhere, is_chosen_elsewhere, of_wait, of_offer, is_received, is_taken_back, is_undelivered_at, is_withdrawn, fate_at}
+use Rattle.channel_model.specs.Fates.{is_at, brings, places_wait, offers_at, hands, takes, admits, drops_at, spurns_at, drains, withdraws, settles_value, settles_undelivered, or_else, first_some, element_at, wait_at, is_wait, resolves_at, resolves_elsewhere, is_chosen_elsewhere, of_wait, of_offer, is_received, is_taken_back, is_undelivered_at, is_withdrawn, fate_at}
 use Rattle.channel_model.specs.Laws.{how_many}
 use Rattle.channel_fates.proofs.Appended.{any_count}
 use Rattle.channel_fates.proofs.OncePlaced.{enters, answers, awaits, Counted}
@@ -84,6 +84,7 @@ brings_less c p (Await d q w k) = omega arith
 brings_less c p (Take d q v) = omega arith
 brings_less c p (Admit d q) = omega arith
 brings_less c p (Drop d q v) = omega arith
+brings_less c p (Spurn d q v) = omega arith
 brings_less c p (Close d v) = omega arith
 brings_less c p (Void d) = omega arith
 brings_less c p (Drain d q v) = omega arith
@@ -99,6 +100,7 @@ places_less c p (Await d q w k) = omega (arith, ap {B = ℕ} (λ b. cond b 1 0) 
 places_less c p (Take d q v) = omega arith
 places_less c p (Admit d q) = omega arith
 places_less c p (Drop d q v) = omega arith
+places_less c p (Spurn d q v) = omega arith
 places_less c p (Close d v) = omega arith
 places_less c p (Void d) = omega arith
 places_less c p (Drain d q v) = omega arith
@@ -114,6 +116,7 @@ offers_less c p (Await d q w k) = omega arith
 offers_less c p (Take d q v) = omega arith
 offers_less c p (Admit d q) = omega arith
 offers_less c p (Drop d q v) = omega arith
+offers_less c p (Spurn d q v) = omega arith
 offers_less c p (Close d v) = omega arith
 offers_less c p (Void d) = omega arith
 offers_less c p (Drain d q v) = omega arith
@@ -193,7 +196,7 @@ module _ (xs ys : List Act) (h : Agree xs ys) (c p : ℕ) where
       (h.clauses c p)
 
   fate_same : fate_at c p xs ≡ fate_at c p ys
-  fate_same = rw (received_same, undelivered_same, h.any (drops_at c p), withdrawn_same) refl
+  fate_same = rw (received_same, undelivered_same, h.any (drops_at c p), h.any (spurns_at c p), withdrawn_same) refl
 
 agree : (shape : Shape) (history : List Entry) (ys : List Act) → Legal shape history → SameMembers (acts_in history) ys → Agree (acts_in history) ys
 agree shape history ys legal same = record {

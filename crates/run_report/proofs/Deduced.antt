@@ -5,7 +5,7 @@ use Rattle.channel_model.specs.declared.acts.Act.{Act}
 use Rattle.channel_model.specs.declared.acts.Fate.{Fate}
 use Rattle.channel_model.specs.declared.acts.Fate.TheVariants as fate
 use Rattle.co_base.specs.declared.names.WaitId.{WaitId}
-use Rattle.channel_model.specs.Fates.{takes, hands, admits, drains, offers_at, first_some, withdraws, settles_value, settles_undelivered, element_at, wait_at, of_wait, of_offer, is_dropped, resolves_at, resolves_elsewhere, is_chosen_elsewhere}
+use Rattle.channel_model.specs.Fates.{takes, hands, admits, drains, offers_at, first_some, withdraws, settles_value, settles_undelivered, element_at, wait_at, of_wait, of_offer, is_dropped, is_spurned, resolves_at, resolves_elsewhere, is_chosen_elsewhere}
 use Rattle.run_report.specs.declared.facts.Facts.{Facts}
 use Rattle.run_report.specs.Facts.{facts_of, nothing}
 use Rattle.run_report.specs.Resolutions.{is_resolved_at, is_resolved_elsewhere}
@@ -30,6 +30,7 @@ fate_with acts c p o =
     if list_any (takes c p) acts || (list_any (hands c p) acts && of_wait (λ w. list_any (settles_value w) acts) o) then fate.Received
     else if list_any (drains c p) acts || ((list_any (hands c p) acts && of_wait (λ w. list_any (settles_undelivered w) acts) o) || of_offer (λ k. (k == 0) && taken_back) (first_some (offers_at c p) acts)) then fate.Undelivered
     else if is_dropped c p acts then fate.Dropped
+    else if is_spurned c p acts then fate.Spurned
     else if of_offer (λ k. nat_lt 0 k && (taken_back || (not (list_any (admits c p) acts) && of_wait (λ w. is_chosen_elsewhere c p w acts) o))) (first_some (offers_at c p) acts) then fate.Withdrawn
     else fate.Held
 

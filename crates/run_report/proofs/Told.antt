@@ -3,7 +3,7 @@ use Rattle.std.proofs.Common.{◌≡◌, ℕ, Bool, true, false, ◌&&◌, ◌||
 use Rattle.std.proofs.Math.Bool.{or-false, or_assoc}
 use Rattle.std.proofs.lemmas.Bool.Decides.{eqb_tells, nat_tests}
 use Rattle.channel_model.specs.declared.acts.Act.{Act}
-use Rattle.channel_model.specs.declared.acts.Act.TheVariants.{Hand, Put, Offer, Await, Take, Admit, Drop, Close, Void, Drain, WakeClosed, Withdraw, Settle}
+use Rattle.channel_model.specs.declared.acts.Act.TheVariants.{Hand, Put, Offer, Await, Take, Admit, Drop, Spurn, Close, Void, Drain, WakeClosed, Withdraw, Settle}
 use Rattle.co_base.specs.declared.names.WaitId.{WaitId}
 use Rattle.channel_model.specs.Channels.{same_wait}
 use Rattle.channel_model.specs.Fates.{is_at, or_else, is_value, is_undelivered}
@@ -22,6 +22,7 @@ joined-nothing x = λ i. record {
   taken = or-false x.taken i;
   admitted = or-false x.admitted i;
   dropped = or-false x.dropped i;
+  spurned = or-false x.spurned i;
   drained = or-false x.drained i;
   received = or-false x.received i;
   gave_up = or-false x.gave_up i;
@@ -37,6 +38,7 @@ joined-assoc x y z = λ i. record {
   taken = or_assoc x.taken y.taken z.taken i;
   admitted = or_assoc x.admitted y.admitted z.admitted i;
   dropped = or_assoc x.dropped y.dropped z.dropped i;
+  spurned = or_assoc x.spurned y.spurned z.spurned i;
   drained = or_assoc x.drained y.drained z.drained i;
   received = or_assoc x.received y.received z.received i;
   gave_up = or_assoc x.gave_up y.gave_up z.gave_up i;
@@ -73,6 +75,10 @@ drop_told : (b : Bool) (x : Facts) → joined (if b then record nothing { droppe
 drop_told true x = refl
 drop_told false x = refl
 
+spurn_told : (b : Bool) (x : Facts) → joined (if b then record nothing { spurned = true } else nothing) x ≡ record x { spurned = b || x.spurned }
+spurn_told true x = refl
+spurn_told false x = refl
+
 drain_told : (b : Bool) (x : Facts) → joined (if b then record nothing { drained = true } else nothing) x ≡ record x { drained = b || x.drained }
 drain_told true x = refl
 drain_told false x = refl
@@ -98,6 +104,7 @@ facts_of-cons c p (Await d q w k) acts = await_told (is_at c p d q) w (facts_of 
 facts_of-cons c p (Take d q v) acts = take_told (is_at c p d q) (facts_of c p acts)
 facts_of-cons c p (Admit d q) acts = admit_told (is_at c p d q) (facts_of c p acts)
 facts_of-cons c p (Drop d q v) acts = drop_told (is_at c p d q) (facts_of c p acts)
+facts_of-cons c p (Spurn d q v) acts = spurn_told (is_at c p d q) (facts_of c p acts)
 facts_of-cons c p (Close d v) acts = refl
 facts_of-cons c p (Void d) acts = refl
 facts_of-cons c p (Drain d q v) acts = drain_told (is_at c p d q) (facts_of c p acts)

@@ -42,6 +42,7 @@ abbrev pub unless_received : List ℕ → ℕ → ℕ → Fate → List ℕ
 unless_received name place value fate.Received = []
 unless_received name place value fate.Undelivered = fate_line name place value (codes "undelivered")
 unless_received name place value fate.Dropped = fate_line name place value (codes "dropped")
+unless_received name place value fate.Spurned = fate_line name place value (codes "spurned")
 unless_received name place value fate.Withdrawn = fate_line name place value (codes "withdrawn")
 unless_received name place value fate.Held = fate_line name place value (codes "held")
 

@@ -3,9 +3,9 @@ use Rattle.std.specs.Prelude.{ℕ, true, false, ◌||◌, List, Option, Some, No
 use Rattle.std.specs.List.{list_any}
 use Rattle.std.specs.Option.{option_or}
 use Rattle.channel_model.specs.declared.acts.Act.{Act}
-use Rattle.channel_model.specs.declared.acts.Act.TheVariants.{Hand, Put, Offer, Await, Take, Admit, Drop, Close, Void, Drain, WakeClosed, Withdraw, Settle}
+use Rattle.channel_model.specs.declared.acts.Act.TheVariants.{Hand, Put, Offer, Await, Take, Admit, Drop, Spurn, Close, Void, Drain, WakeClosed, Withdraw, Settle}
 use Rattle.co_base.specs.declared.names.WaitId.{WaitId}
-use Rattle.channel_model.specs.Fates.{is_at, first_some, element_at, wait_at, offers_at, hands, takes, admits, drops_at, drains, withdraws, is_value, is_undelivered, settles_value, settles_undelivered}
+use Rattle.channel_model.specs.Fates.{is_at, first_some, element_at, wait_at, offers_at, hands, takes, admits, drops_at, spurns_at, drains, withdraws, is_value, is_undelivered, settles_value, settles_undelivered}
 use Rattle.run_report.specs.declared.facts.Facts.{Facts}
 
 -- what no act says anything of
@@ -18,6 +18,7 @@ nothing = record {
   taken = false;
   admitted = false;
   dropped = false;
+  spurned = false;
   drained = false;
   received = false;
   gave_up = false;
@@ -36,6 +37,7 @@ facts_of c p acts =
       taken = list_any (takes c p) acts;
       admitted = list_any (admits c p) acts;
       dropped = list_any (drops_at c p) acts;
+      spurned = list_any (spurns_at c p) acts;
       drained = list_any (drains c p) acts;
       received = list_any (settles_value w) acts;
       gave_up = list_any (settles_undelivered w) acts;
@@ -52,6 +54,7 @@ joined x y = record {
   taken = x.taken || y.taken;
   admitted = x.admitted || y.admitted;
   dropped = x.dropped || y.dropped;
+  spurned = x.spurned || y.spurned;
   drained = x.drained || y.drained;
   received = x.received || y.received;
   gave_up = x.gave_up || y.gave_up;
@@ -71,6 +74,7 @@ told (Await c p w k) = at_place c p (record nothing { wait = Some w })
 told (Take c p v) = at_place c p (record nothing { taken = true })
 told (Admit c p) = at_place c p (record nothing { admitted = true })
 told (Drop c p v) = at_place c p (record nothing { dropped = true })
+told (Spurn c p v) = at_place c p (record nothing { spurned = true })
 told (Close c v) = None
 told (Void c) = None
 told (Drain c p v) = at_place c p (record nothing { drained = true })

@@ -38,6 +38,7 @@ fate_by here wait elsewhere =
     if has_received here wait then fate.Received
     else if has_given_up here wait then fate.Undelivered
     else if here.dropped then fate.Dropped
+    else if here.spurned then fate.Spurned
     else if has_left here wait elsewhere then fate.Withdrawn
     else fate.Held
 

@@ -1,5 +1,6 @@
 -- What the summary says: how many Jobs there were and how they ended, what became of how many elements, and the root's result.
-use Rattle.std.specs.Prelude.{ℕ, ◌+◌, ◌≤◌, List, [], ◌∷◌, ◌++◌, Option, Some, None, if◌then◌else◌}
+-- Of elements that were spurned it tells where the script is of version 2.
+use Rattle.std.specs.Prelude.{ℕ, ◌+◌, ◌≤◌, List, [], ◌∷◌, ◌++◌, Option, Some, None, ◌==◌, if◌then◌else◌}
 use Rattle.std.specs.List.{concat, fold, range_with_len}
 use Rattle.std.specs.Fmt.{decimal}
 use lib.Chars.{codes}
@@ -38,13 +39,14 @@ jobs_counted acts rows = fold (with_row acts) no_jobs (range_with_len 0 rows)
 -- ---- the elements
 
 abbrev pub no_elements : ElementCounts
-no_elements = record { received = 0; undelivered = 0; dropped = 0; withdrawn = 0; held = 0 }
+no_elements = record { received = 0; undelivered = 0; dropped = 0; spurned = 0; withdrawn = 0; held = 0 }
 
 -- with one more element, of this fate
 abbrev pub with_element : ElementCounts → Fate → ElementCounts
 with_element n fate.Received = record n { received = n.received + 1 }
 with_element n fate.Undelivered = record n { undelivered = n.undelivered + 1 }
 with_element n fate.Dropped = record n { dropped = n.dropped + 1 }
+with_element n fate.Spurned = record n { spurned = n.spurned + 1 }
 with_element n fate.Withdrawn = record n { withdrawn = n.withdrawn + 1 }
 with_element n fate.Held = record n { held = n.held + 1 }
 
@@ -76,29 +78,43 @@ job_counts_text n =
     ∷ codes " completed " ∷ decimal n.completed
     ∷ codes " cancelled " ∷ decimal n.cancelled ∷ codes " " ∷ [])
 
-abbrev pub element_counts_text : ElementCounts → List ℕ
-element_counts_text n =
+-- of a script of version 1
+abbrev pub first_counts_text : ElementCounts → List ℕ
+first_counts_text n =
     concat (codes "received " ∷ decimal n.received
     ∷ codes " undelivered " ∷ decimal n.undelivered
     ∷ codes " dropped " ∷ decimal n.dropped
     ∷ codes " withdrawn " ∷ decimal n.withdrawn
     ∷ codes " held " ∷ decimal n.held ∷ codes " " ∷ [])
 
--- the counts, and how the root has ended, if it has
-abbrev pub summary_line : JobCounts → ElementCounts → Option End → List ℕ
-summary_line jobs elements root =
-    job_counts_text jobs ++ element_counts_text elements ++ codes "result " ++ result_text root ++ codes "\n"
+-- of a script of version 2
+abbrev pub second_counts_text : ElementCounts → List ℕ
+second_counts_text n =
+    concat (codes "received " ∷ decimal n.received
+    ∷ codes " undelivered " ∷ decimal n.undelivered
+    ∷ codes " dropped " ∷ decimal n.dropped
+    ∷ codes " spurned " ∷ decimal n.spurned
+    ∷ codes " withdrawn " ∷ decimal n.withdrawn
+    ∷ codes " held " ∷ decimal n.held ∷ codes " " ∷ [])
 
--- the summary of a run with so many Jobs, over these channels, that left these books
-abbrev pub summary_of : List Declared → ℕ → List (List Item) → List ℕ
-summary_of channels jobs books =
-    summary_line (jobs_counted (job_acts_noted books) jobs)
+abbrev pub element_counts_text : ℕ → ElementCounts → List ℕ
+element_counts_text version n = if version == 2 then second_counts_text n else first_counts_text n
+
+-- the counts, and how the root has ended, if it has, of a script of this version
+abbrev pub summary_line : ℕ → JobCounts → ElementCounts → Option End → List ℕ
+summary_line version jobs elements root =
+    job_counts_text jobs ++ element_counts_text version elements ++ codes "result " ++ result_text root ++ codes "\n"
+
+-- the summary of a run of a script of this version with so many Jobs, over these channels, that left these books
+abbrev pub summary_of : ℕ → List Declared → ℕ → List (List Item) → List ℕ
+summary_of version channels jobs books =
+    summary_line version (jobs_counted (job_acts_noted books) jobs)
     (with_channels (element_of (channel_acts_noted books)) 0 no_elements channels)
     (end_noted 0 (job_acts_noted books))
 
 -- the summary of a run of this program with these books
 abbrev pub summary_text : Program → List (List Item) → List ℕ
-summary_text program books = summary_of program.channels (job_count program) books
+summary_text program books = summary_of program.version program.channels (job_count program) books
 
 -- ---- counts that fit
 
@@ -107,4 +123,4 @@ HasJobsUpTo most n = (n.attached ≤ most) × (n.completed ≤ most) × (n.cance
 
 abbrev pub HasElementsUpTo : ℕ → ElementCounts → Type 0
 HasElementsUpTo most n =
-    (n.received ≤ most) × (n.undelivered ≤ most) × (n.dropped ≤ most) × (n.withdrawn ≤ most) × (n.held ≤ most)
+    (n.received ≤ most) × (n.undelivered ≤ most) × (n.dropped ≤ most) × (n.spurned ≤ most) × (n.withdrawn ≤ most) × (n.held ≤ most)

@@ -4,7 +4,7 @@ use Rattle.std.specs.Fmt.{decimal}
 use lib.Chars.{codes}
 use Rattle.co_base.specs.declared.names.WaitId.{WaitId}
 use Rattle.channel_model.specs.declared.acts.Act.{Act}
-use Rattle.channel_model.specs.declared.acts.Act.TheVariants.{Hand, Put, Offer, Await, Take, Admit, Drop, Close, Void, Drain, WakeClosed, Withdraw, Settle}
+use Rattle.channel_model.specs.declared.acts.Act.TheVariants.{Hand, Put, Offer, Await, Take, Admit, Drop, Spurn, Close, Void, Drain, WakeClosed, Withdraw, Settle}
 use Rattle.channel_model.specs.declared.acts.ChannelNote.{ChannelNote}
 use Rattle.channel_model.specs.declared.acts.ChannelNote.TheVariants as note
 use Rattle.channel_model.specs.declared.acts.Settled.{Settled}
@@ -62,6 +62,7 @@ act_text channels (Await c place w clause) =
 act_text channels (Take c place value) = codes "take " ++ place_text channels c place ++ codes " " ++ decimal value
 act_text channels (Admit c place) = codes "admit " ++ place_text channels c place
 act_text channels (Drop c place value) = codes "drop " ++ place_text channels c place ++ codes " " ++ decimal value
+act_text channels (Spurn c place value) = codes "spurn " ++ place_text channels c place ++ codes " " ++ decimal value
 act_text channels (Close c v) = codes "close " ++ channel_text channels c ++ codes " " ++ decimal v
 act_text channels (Void c) = codes "void " ++ channel_text channels c
 act_text channels (Drain c place value) = codes "drain " ++ place_text channels c place ++ codes " " ++ decimal value

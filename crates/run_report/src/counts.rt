@@ -28,6 +28,7 @@ pub(crate) struct ElementCounts {
     pub(crate) received: u64,
     pub(crate) undelivered: u64,
     pub(crate) dropped: u64,
+    pub(crate) spurned: u64,
     pub(crate) withdrawn: u64,
     pub(crate) held: u64,
 }
@@ -97,6 +98,7 @@ const NO_ELEMENTS: ElementCounts = ElementCounts {
     received: 0,
     undelivered: 0,
     dropped: 0,
+    spurned: 0,
     withdrawn: 0,
     held: 0,
 };
@@ -162,6 +164,10 @@ impl ElementCounts {
             },
             Fate::Dropped => ElementCounts {
                 dropped: self.dropped + 1,
+                ..self
+            },
+            Fate::Spurned => ElementCounts {
+                spurned: self.spurned + 1,
                 ..self
             },
             Fate::Withdrawn => ElementCounts {

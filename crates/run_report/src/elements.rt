@@ -80,6 +80,7 @@ fn push_fate(
         Fate::Received => Ok(()),
         Fate::Undelivered => write!(out, "element {name} {place} {value} undelivered\n"),
         Fate::Dropped => write!(out, "element {name} {place} {value} dropped\n"),
+        Fate::Spurned => write!(out, "element {name} {place} {value} spurned\n"),
         Fate::Withdrawn => write!(out, "element {name} {place} {value} withdrawn\n"),
         Fate::Held => write!(out, "element {name} {place} {value} held\n"),
     }

@@ -23,6 +23,7 @@ pub(crate) struct Facts {
     pub(crate) taken: bool,
     pub(crate) admitted: bool,
     pub(crate) dropped: bool,
+    pub(crate) spurned: bool,
     pub(crate) drained: bool,
     /// The wait of this name ended with a value.
     pub(crate) received: bool,
@@ -41,6 +42,7 @@ pub(crate) const NOTHING: Facts = Facts {
     taken: false,
     admitted: false,
     dropped: false,
+    spurned: false,
     drained: false,
     received: false,
     gave_up: false,
@@ -86,6 +88,7 @@ impl Facts {
             taken: self.taken || other.taken,
             admitted: self.admitted || other.admitted,
             dropped: self.dropped || other.dropped,
+            spurned: self.spurned || other.spurned,
             drained: self.drained || other.drained,
             received: self.received || other.received,
             gave_up: self.gave_up || other.gave_up,
@@ -159,6 +162,13 @@ fn told_of(act: Act) -> Option<(WaitId, Facts)>
             WaitId { channel: c, place },
             Facts {
                 dropped: true,
+                ..NOTHING
+            },
+        ),
+        Act::Spurn { c, place, value: _ } => (
+            WaitId { channel: c, place },
+            Facts {
+                spurned: true,
                 ..NOTHING
             },
         ),

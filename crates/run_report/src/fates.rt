@@ -65,6 +65,8 @@ fn fate_by(here: Facts, wait: Facts, elsewhere: bool) -> Fate
         Fate::Undelivered
     } else if here.dropped {
         Fate::Dropped
+    } else if here.spurned {
+        Fate::Spurned
     } else if has_left(here, wait, elsewhere) {
         Fate::Withdrawn
     } else {

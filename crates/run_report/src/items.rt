@@ -65,6 +65,10 @@ impl fmt::Display for ShownAct<'_> {
                 let at = ShownPlace { channels, c, place };
                 write!(f, "drop {at} {value}")
             }
+            Act::Spurn { c, place, value } => {
+                let at = ShownPlace { channels, c, place };
+                write!(f, "spurn {at} {value}")
+            }
             Act::Close { c, value } => {
                 let c = ShownChannel { channels, c };
                 write!(f, "close {c} {value}")

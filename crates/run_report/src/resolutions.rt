@@ -119,6 +119,7 @@ fn place_of(act: Act) -> Option<(ChannelId, Place)>
         | Act::Offer { .. }
         | Act::Await { .. }
         | Act::Drop { .. }
+        | Act::Spurn { .. }
         | Act::Close { .. }
         | Act::Void { .. }
         | Act::Withdraw { .. }

@@ -6,7 +6,7 @@ ghost use Rattle.note_book.specs.Books.{notes_of};
 ghost use Rattle.script_reader.specs.Scripts.{program_of};
 ghost use Rattle.script_reader.specs.Programs.{declared_of};
 ghost use Rattle.run_report.specs.JobFacts.{facts_at};
-ghost use Rattle.run_report.specs.Summaries.{element_counts_text, job_counts_text, result_text, summary_line, summary_of, summary_text};
+ghost use Rattle.run_report.specs.Summaries.{element_counts_text, first_counts_text, second_counts_text, job_counts_text, result_text, summary_line, summary_of, summary_text};
 
 use crate::counts::{ElementCounts, JobCounts, count_elements, count_jobs};
 use crate::fates::Known;
@@ -28,6 +28,7 @@ pub fn summary(alloc: Global, script: &Script, done: &Done<Notes>) -> Result<Vec
 {
     let text = summary_of(
         alloc,
+        script.version(),
         script.channels(),
         script.jobs(),
         done.books.as_slice(),
@@ -35,22 +36,24 @@ pub fn summary(alloc: Global, script: &Script, done: &Done<Notes>) -> Result<Vec
     Ok(text.into_bytes())
 }
 
-/// The summary of a run with so many Jobs, over these channels, that left these books.
+/// The summary of a run of a script of this version with so many Jobs, over these channels, that left these books.
 pub(crate) fn summary_of(
     alloc: Global,
+    version: u8,
     channels: &[Channel],
     jobs: u16,
     books: &[Notes],
 ) -> Result<String, Memory>
     requires channels { length channels.now < 65536 }
     requires root { 0 < jobs }
-    ensures { IfOk result (λ text. string_bytes text ≡ summary_of (map declared_of channels.now) jobs (map notes_of books.now)) }
+    ensures { IfOk result (λ text. string_bytes text ≡ summary_of version (map declared_of channels.now) jobs (map notes_of books.now)) }
 {
     let table = job_facts_in(alloc, jobs, books)?;
     let acts = channel_acts_noted(alloc, books)?;
     let known = Known::from_acts(alloc, acts.as_slice())?;
     let text = line(
         alloc,
+        version,
         count_jobs(table.as_slice()),
         count_elements(channels, &known),
         root_end(table.as_slice()),
@@ -71,15 +74,16 @@ fn root_end(table: &[JobFacts]) -> Option<End>
 /// The line.
 fn line(
     alloc: Global,
+    version: u8,
     jobs: JobCounts,
     elements: ElementCounts,
     root: Option<End>,
 ) -> Result<String, AllocError>
-    ensures { IfOk result (λ text. string_bytes text ≡ summary_line jobs elements root) }
+    ensures { IfOk result (λ text. string_bytes text ≡ summary_line version jobs elements root) }
 {
     let mut out = String::new(alloc);
     push_job_counts(&mut out, jobs)?;
-    push_element_counts(&mut out, elements)?;
+    push_element_counts(&mut out, version, elements)?;
     push_result(&mut out, root)?;
     Ok(out)
 }
@@ -98,13 +102,45 @@ fn push_job_counts(out: &mut String, jobs: JobCounts) -> Result<(), AllocError>
     )
 }
 
-fn push_element_counts(out: &mut String, elements: ElementCounts) -> Result<(), AllocError>
-    ensures { OnOk result (string_bytes out.new ≡ string_bytes out.old ++ element_counts_text elements) }
+fn push_element_counts(
+    out: &mut String,
+    version: u8,
+    elements: ElementCounts,
+) -> Result<(), AllocError>
+    ensures { OnOk result (string_bytes out.new ≡ string_bytes out.old ++ element_counts_text version elements) }
+{
+    if version == 2 {
+        push_second_counts(out, elements)
+    } else {
+        push_first_counts(out, elements)
+    }
+}
+
+fn push_second_counts(out: &mut String, elements: ElementCounts) -> Result<(), AllocError>
+    ensures { OnOk result (string_bytes out.new ≡ string_bytes out.old ++ second_counts_text elements) }
 {
     let ElementCounts {
         received,
         undelivered,
         dropped,
+        spurned,
+        withdrawn,
+        held,
+    } = elements;
+    write!(
+        out,
+        "received {received} undelivered {undelivered} dropped {dropped} spurned {spurned} withdrawn {withdrawn} held {held} "
+    )
+}
+
+fn push_first_counts(out: &mut String, elements: ElementCounts) -> Result<(), AllocError>
+    ensures { OnOk result (string_bytes out.new ≡ string_bytes out.old ++ first_counts_text elements) }
+{
+    let ElementCounts {
+        received,
+        undelivered,
+        dropped,
+        spurned: _,
         withdrawn,
         held,
     } = elements;

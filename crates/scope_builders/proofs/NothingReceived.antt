@@ -5,14 +5,14 @@ use Rattle.std.proofs.lemmas.Bool.{eqb-true}
 use Rattle.channel_model.specs.declared.acts.Kind.{Kind}
 use Rattle.channel_model.specs.declared.acts.Kind.TheVariants.{Signal}
 use Rattle.channel_model.specs.declared.acts.Act.{Act}
-use Rattle.channel_model.specs.declared.acts.Act.TheVariants.{Hand, Put, Offer, Await, Take, Admit, Drop, Close, Void, Drain, WakeClosed, Withdraw, Settle}
+use Rattle.channel_model.specs.declared.acts.Act.TheVariants.{Hand, Put, Offer, Await, Take, Admit, Drop, Spurn, Close, Void, Drain, WakeClosed, Withdraw, Settle}
 use Rattle.channel_model.specs.declared.acts.Entry.{Entry}
 use Rattle.channel_model.specs.declared.standing.Party.{Party}
 use Rattle.channel_model.specs.declared.standing.Standing.{Standing}
 use Rattle.channel_model.specs.declared.standing.Receiver.{Receiver}
 use Rattle.channel_model.specs.declared.standing.Resolution.{Resolution}
 use Rattle.channel_model.specs.Channels.{Shape, State, Channel, kind_at, is_full, suspends}
-use Rattle.channel_model.specs.Effects.{after, resolve_first, resolve_holder, resolve_offer, remove_first, with_queue, put_channel, admitted, holder_at, place_receiver, is_open}
+use Rattle.channel_model.specs.Effects.{after, resolve_first, resolve_holder, resolve_offer, remove_first, with_queue, put_channel, admitted, holder_at, place_receiver, is_open, is_elsewhere}
 use Rattle.channel_model.specs.Needs.{Needs, IsFirstOffer}
 use Rattle.channel_model.specs.Histories.{replay, replay_from, Legal}
 use Rattle.channel_model.specs.Floors.{Floor, HasRoom, Made}
@@ -77,6 +77,7 @@ signal_step shape c k s who (Take d p v) n h = offer_empty d (s.channels d).queu
 signal_step shape c k s who (Admit d p) n h =
     holder_empty (holder_at p (s.channels d).queue) _ (with_queue d (admitted p (s.channels d).queue) s) c (put_empty d c _ s (λ e. ap (admitted p) (queue_here d c s e h)) h)
 signal_step shape c k s who (Drop d p v) n h = removed_empty d (s.channels d).queue s c refl h
+signal_step shape c k s who (Spurn d p v) n h = put_empty d c _ s (λ e. ap (filter (is_elsewhere p)) (queue_here d c s e h)) h
 signal_step shape c k s who (Close d v) n h = put_empty d c _ s (λ e. queue_here d c s e h) h
 signal_step shape c k s who (Void d) n h = put_empty d c _ s (λ e. queue_here d c s e h) h
 signal_step shape c k s who (Drain d p v) n h = offer_empty d (s.channels d).queue _ s c refl h

@@ -121,8 +121,8 @@ main_weight-mono name v w h = by_test (is_main name)
 
 -- ---- the lines of a block
 
-abbrev pub during : List Declared → List Block → List ℕ → Open → Read
-during channels blocks weights b = record { channels = channels; blocks = blocks; spawns = []; weights = weights; current = Some b }
+abbrev pub during : ℕ → List Declared → List Block → List ℕ → Open → Read
+during version channels blocks weights b = record { version = version; channels = channels; blocks = blocks; spawns = []; weights = weights; current = Some b }
 
 IsWithin-from : (b : Open) → is_within b ≡ true → IsWithin (Some b)
 IsWithin-from b e =
@@ -134,22 +134,22 @@ IsWithin-from b e =
     few None h = tt
     few (Some cs) h = le-from_true (length cs) 7 h
 
-pub lines_said : (channels : List Declared) (done : List Block) (weights : List ℕ) (all jobs : List (List ℕ)) (b : Open) (code : List Instruction) →
+pub lines_said : (version : ℕ) (channels : List Declared) (done : List Block) (weights : List ℕ) (all jobs : List (List ℕ)) (b : Open) (code : List Instruction) →
     length channels ≤ 256 → places_in channels ≤ 4194304 → Agree (block_names done) all → AreGiven b.jobs jobs →
     closed_main done weights + main_weight b.name (with_lines weights jobs b code).weight ≤ 16000 →
     lines_fit (length channels) (block_names done) weights jobs b code ≡ true →
-    SayAll (during channels done weights b) (map (line_words (record { channels = channel_names channels; blocks = all; jobs = jobs })) code) (during channels done weights (with_lines weights jobs b code))
+    SayAll (during version channels done weights b) (map (line_words (record { channels = channel_names channels; blocks = all; jobs = jobs })) code) (during version channels done weights (with_lines weights jobs b code))
     × (is_done jobs (with_lines weights jobs b code) ≡ true)
     × AreGiven (with_lines weights jobs b code).jobs jobs
-lines_said channels done weights all jobs b [] few places blocks given light h = (refl, h, given)
-lines_said channels done weights all jobs b (x ∷ code) few places blocks given light h =
+lines_said version channels done weights all jobs b [] few places blocks given light h = (refl, h, given)
+lines_said version channels done weights all jobs b (x ∷ code) few places blocks given light h =
     let next = with_line weights x (name_given jobs x) b in
     let two = both_true _ _ h in
     let more = both_true _ _ two.1 in
     let line = both_true _ _ two.0 in
     let fit = both_true _ _ line.1 in
     let grown = main_weight-mono b.name next.weight (with_lines weights jobs next code).weight (with_lines-weight weights jobs next code) in
-    let rest = lines_said channels done weights all jobs next code few places blocks (AreGiven-line b.jobs jobs (job_given x) given fit.1) light more.1 in (
+    let rest = lines_said version channels done weights all jobs next code few places blocks (AreGiven-line b.jobs jobs (job_given x) given fit.1) light more.1 in (
       (
         line_is x (name_given jobs x),
         (b, refl, same_words (channel_names channels) (block_names done) all jobs (length channels) b x fit.0 fit.1 blocks given, line.0, fit.0, fit.1),
@@ -191,37 +191,37 @@ closed_main-grows done (b ∷ rest) weights e =
     let more = closed_main-grows (done ++ b ∷ []) rest (weights ++ w ∷ []) (omega (arith, e, length-append weights (w ∷ []), length-append done (b ∷ []))) in
     omega (arith, more, closed_main-push done weights b w e, ap (λ bs. closed_main bs (weights_from (weights ++ w ∷ []) rest)) (append_assoc done (b ∷ []) rest))
 
-block_said : (channels : List Declared) (done : List Block) (weights : List ℕ) (all : List (List ℕ)) (b : Block) →
+block_said : (version : ℕ) (channels : List Declared) (done : List Block) (weights : List ℕ) (all : List (List ℕ)) (b : Block) →
     length channels ≤ 256 → places_in channels ≤ 4194304 → Agree (block_names done) all → length weights ≡ length done →
     closed_main done weights + main_weight b.name (weight_in weights b) ≤ 16000 →
     is_fresh (block_names done) b.name ≡ true →
     lines_fit (length channels) (block_names done) weights b.jobs (opened b.name) b.code ≡ true →
-    SayAll (between channels done weights []) (block_lines (channel_names channels) all b) (between channels (done ++ b ∷ []) (weights ++ weight_in weights b ∷ []) [])
-block_said channels done weights all b few places blocks same light fresh h =
+    SayAll (between version channels done weights []) (block_lines (channel_names channels) all b) (between version channels (done ++ b ∷ []) (weights ++ weight_in weights b ∷ []) [])
+block_said version channels done weights all b few places blocks same light fresh h =
     let open_ = opened b.name in
     let last = with_lines weights b.jobs open_ b.code in
     let grown = main_weight-mono b.name 1 last.weight (with_lines-weight weights b.jobs open_ b.code) in
-    let lines = lines_said channels done weights all b.jobs open_ b.code few places blocks (record { agree = λ i h. absurd (omega (arith, h)); few = omega arith }) light h in
+    let lines = lines_said version channels done weights all b.jobs open_ b.code few places blocks (record { agree = λ i h. absurd (omega (arith, h)); few = omega arith }) light h in
     let end = closed_all b.jobs last lines.1 lines.2 in
     let whole : record { name = last.name; jobs = last.jobs; code = last.code } ≡ b = ap (λ n. record { name = n; jobs = last.jobs; code = last.code }) (with_lines-name weights b.jobs open_ b.code) ∙ ap (λ js. record { name = b.name; jobs = js; code = last.code }) end.1 ∙ ap (λ c. record { name = b.name; jobs = b.jobs; code = c }) (with_lines-code weights b.jobs open_ b.code) in (
       coroutine_is b.name,
       (refl, refl, fresh),
       record { channels = few; places = places; current = (omega arith, tt, omega arith); load = omega (arith, light, grown) },
-      SayAll-append (during channels done weights open_) (during channels done weights last) (between channels (done ++ b ∷ []) (weights ++ weight_in weights b ∷ []) []) (map (line_words (record { channels = channel_names channels; blocks = all; jobs = b.jobs })) b.code) ((codes "end" ∷ []) ∷ []) lines.0
-          (subst (λ c. SayAll (during channels done weights last) ((codes "end" ∷ []) ∷ []) (between channels (done ++ c ∷ []) (weights ++ weight_in weights b ∷ []) [])) whole
+      SayAll-append (during version channels done weights open_) (during version channels done weights last) (between version channels (done ++ b ∷ []) (weights ++ weight_in weights b ∷ []) []) (map (line_words (record { channels = channel_names channels; blocks = all; jobs = b.jobs })) b.code) ((codes "end" ∷ []) ∷ []) lines.0
+          (subst (λ c. SayAll (during version channels done weights last) ((codes "end" ∷ []) ∷ []) (between version channels (done ++ c ∷ []) (weights ++ weight_in weights b ∷ []) [])) whole
           (end_is, (last, refl, refl, end.0), record { channels = few; places = places; current = tt; load = omega (arith, light, closed_main-push done weights (record { name = last.name; jobs = last.jobs; code = last.code }) last.weight same, ap (λ n. main_weight n last.weight) (with_lines-name weights b.jobs open_ b.code)) }, refl)),
     )
 
 Agree-done : (done rest : List Block) (all : List (List ℕ)) → block_names (done ++ rest) ≡ all → Agree (block_names done) all
 Agree-done done rest all e = subst (Agree (block_names done)) (sym (map-append (λ (b : Block). b.name) done rest) ∙ e) (Agree-front (block_names done) (block_names rest))
 
-pub blocks_said : (channels : List Declared) (done rest : List Block) (weights : List ℕ) (all : List (List ℕ)) →
+pub blocks_said : (version : ℕ) (channels : List Declared) (done rest : List Block) (weights : List ℕ) (all : List (List ℕ)) →
     length channels ≤ 256 → places_in channels ≤ 4194304 → block_names (done ++ rest) ≡ all → length weights ≡ length done →
     closed_main (done ++ rest) (weights_from weights rest) ≤ 16000 →
     blocks_fit (length channels) (block_names done) weights rest ≡ true →
-    SayAll (between channels done weights []) (blocks_lines (channel_names channels) all rest) (between channels (done ++ rest) (weights_from weights rest) [])
-blocks_said channels done [] weights all few places names same light h = ap (λ bs. between channels bs weights []) (sym (append-nil done))
-blocks_said channels done (b ∷ rest) weights all few places names same light h =
+    SayAll (between version channels done weights []) (blocks_lines (channel_names channels) all rest) (between version channels (done ++ rest) (weights_from weights rest) [])
+blocks_said version channels done [] weights all few places names same light h = ap (λ bs. between version channels bs weights []) (sym (append-nil done))
+blocks_said version channels done (b ∷ rest) weights all few places names same light h =
     let w = weight_in weights b in
     let two = both_true _ _ h in
     let more = both_true _ _ two.1 in
@@ -229,10 +229,10 @@ blocks_said channels done (b ∷ rest) weights all few places names same light h
     let long : length (weights ++ w ∷ []) ≡ length (done ++ b ∷ []) = omega (arith, same, length-append weights (w ∷ []), length-append done (b ∷ [])) in
     let after_ = closed_main-grows (done ++ b ∷ []) rest (weights ++ w ∷ []) long in
     let total : closed_main ((done ++ b ∷ []) ++ rest) (weights_from (weights ++ w ∷ []) rest) ≤ 16000 = omega (arith, light, ap (λ bs. closed_main bs (weights_from (weights ++ w ∷ []) rest)) whole) in
-    SayAll-append (between channels done weights []) (between channels (done ++ b ∷ []) (weights ++ w ∷ []) []) (between channels (done ++ b ∷ rest) (weights_from (weights ++ w ∷ []) rest) []) (block_lines (channel_names channels) all b) (blocks_lines (channel_names channels) all rest)
-    (block_said channels done weights all b few places (Agree-done done (b ∷ rest) all names) same (omega (arith, total, after_, closed_main-push done weights b w same)) two.0 more.0)
-    (subst (λ bs. SayAll (between channels (done ++ b ∷ []) (weights ++ w ∷ []) []) (blocks_lines (channel_names channels) all rest) (between channels bs (weights_from (weights ++ w ∷ []) rest) [])) whole
-    (blocks_said channels (done ++ b ∷ []) rest (weights ++ w ∷ []) all few places (ap block_names whole ∙ names) long total
+    SayAll-append (between version channels done weights []) (between version channels (done ++ b ∷ []) (weights ++ w ∷ []) []) (between version channels (done ++ b ∷ rest) (weights_from (weights ++ w ∷ []) rest) []) (block_lines (channel_names channels) all b) (blocks_lines (channel_names channels) all rest)
+    (block_said version channels done weights all b few places (Agree-done done (b ∷ rest) all names) same (omega (arith, total, after_, closed_main-push done weights b w same)) two.0 more.0)
+    (subst (λ bs. SayAll (between version channels (done ++ b ∷ []) (weights ++ w ∷ []) []) (blocks_lines (channel_names channels) all rest) (between version channels bs (weights_from (weights ++ w ∷ []) rest) [])) whole
+    (blocks_said version channels (done ++ b ∷ []) rest (weights ++ w ∷ []) all few places (ap block_names whole ∙ names) long total
     (subst (λ ns. blocks_fit (length channels) ns (weights ++ w ∷ []) rest ≡ true) (sym (map-append (λ (b : Block). b.name) done (b ∷ []))) more.1)))
 
 -- ---- spawns
@@ -241,19 +241,19 @@ pub spawned_weight-append : (weights : List ℕ) (xs ys : List (ℕ × ℕ)) →
 spawned_weight-append weights [] ys = omega arith
 spawned_weight-append weights (x ∷ xs) ys = omega (arith, spawned_weight-append weights xs ys)
 
-pub spawns_said : (channels : List Declared) (blocks : List Block) (weights : List ℕ) (done rest : List (ℕ × ℕ)) →
+pub spawns_said : (version : ℕ) (channels : List Declared) (blocks : List Block) (weights : List ℕ) (done rest : List (ℕ × ℕ)) →
     length channels ≤ 256 → places_in channels ≤ 4194304 →
     closed_main blocks weights + spawned_weight weights (done ++ rest) ≤ 16000 →
     list_all (is_spawn (block_names blocks)) rest ≡ true →
-    SayAll (between channels blocks weights done) (map (λ s. spawn_words (name_of (block_names blocks) s.0) s.1 true) rest) (between channels blocks weights (done ++ rest))
-spawns_said channels blocks weights done [] few places light h = ap (between channels blocks weights) (sym (append-nil done))
-spawns_said channels blocks weights done (s ∷ rest) few places light h =
+    SayAll (between version channels blocks weights done) (map (λ s. spawn_words (name_of (block_names blocks) s.0) s.1 true) rest) (between version channels blocks weights (done ++ rest))
+spawns_said version channels blocks weights done [] few places light h = ap (between version channels blocks weights) (sym (append-nil done))
+spawns_said version channels blocks weights done (s ∷ rest) few places light h =
     let two = both_true _ _ h in
     let whole : (done ++ s ∷ []) ++ rest ≡ done ++ s ∷ rest = append_assoc done (s ∷ []) rest in
     let total : closed_main blocks weights + spawned_weight weights ((done ++ s ∷ []) ++ rest) ≤ 16000 = omega (arith, light, ap (spawned_weight weights) whole) in (
       spawn_is s.0 s.1,
       (true, refl, refl, two.0, refl),
       record { channels = few; places = places; current = tt; load = omega (arith, total, spawned_weight-append weights (done ++ s ∷ []) rest) },
-      subst (λ x. SayAll (between channels blocks weights (done ++ s ∷ [])) (map (λ s. spawn_words (name_of (block_names blocks) s.0) s.1 true) rest) (between channels blocks weights x)) whole
-          (spawns_said channels blocks weights (done ++ s ∷ []) rest few places total two.1),
+      subst (λ x. SayAll (between version channels blocks weights (done ++ s ∷ [])) (map (λ s. spawn_words (name_of (block_names blocks) s.0) s.1 true) rest) (between version channels blocks weights x)) whole
+          (spawns_said version channels blocks weights (done ++ s ∷ []) rest few places total two.1),
     )

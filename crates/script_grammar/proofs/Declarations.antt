@@ -4,7 +4,7 @@ use Rattle.std.specs.List.{list_all}
 use Rattle.std.proofs.lemmas.List.{length-map, get_or-map}
 use Rattle.std.proofs.lemmas.Option.{slice_get-get_or, slice_get_within}
 use Rattle.channel_model.specs.declared.acts.Kind.{Kind}
-use Rattle.channel_model.specs.declared.acts.Kind.TheVariants.{Rendezvous, Buffered, Unlimited, Conflated, DropOldest, Signal}
+use Rattle.channel_model.specs.declared.acts.Kind.TheVariants.{Rendezvous, Buffered, Unlimited, Conflated, DropOldest, DropLatest, Signal}
 use Rattle.channel_model.specs.Channels.{kind_at, places_at, is_signal}
 use Rattle.script_grammar.specs.declared.instructions.Instruction.{Instruction}
 use Rattle.script_grammar.specs.Programs.{Program, Block, Declared, shape_of}
@@ -29,8 +29,8 @@ length-shape_of p = length-map p.channels (λ c. (c.kind, c.places))
 no_channel : Declared
 no_channel = record { name = []; kind = Signal; places = 0 }
 
-declared_at : (p : Program) → IsProgram p → (c : ℕ) → c < length (shape_of p) → is_declared (get_or p.channels c no_channel) ≡ true
-declared_at p ok c h = test_below is_declared p.channels c no_channel ok.channels (omega (arith, h, length-shape_of p))
+declared_at : (p : Program) → IsProgram p → (c : ℕ) → c < length (shape_of p) → is_declared p.version (get_or p.channels c no_channel) ≡ true
+declared_at p ok c h = test_below (is_declared p.version) p.channels c no_channel ok.channels (omega (arith, h, length-shape_of p))
 
 shape_at : (p : Program) (c : ℕ) → c < length (shape_of p) → get_or (shape_of p) c (Signal, 0) ≡ ((get_or p.channels c no_channel).kind, (get_or p.channels c no_channel).places)
 shape_at p c h = get_or-map (λ d. (d.kind, d.places)) p.channels c no_channel (Signal, 0) (omega (arith, h, length-shape_of p))
@@ -39,30 +39,31 @@ kind_is : (p : Program) (c : ℕ) → c < length (shape_of p) → kind_at (shape
 kind_is p c h = ap (λ (x : Kind × ℕ). x.0) (shape_at p c h)
 
 -- each declared channel is of a kind that a script may declare
-pub kind_at-shape : (p : Program) → IsProgram p → (c : ℕ) → c < length (shape_of p) → is_kind (kind_at (shape_of p) c) ≡ true
+pub kind_at-shape : (p : Program) → IsProgram p → (c : ℕ) → c < length (shape_of p) → is_kind p.version (kind_at (shape_of p) c) ≡ true
 kind_at-shape p ok c h =
     let d = get_or p.channels c no_channel in
-    ap is_kind (kind_is p c h) ∙ (both_true (is_kind d.kind) _ (declared_at p ok c h)).0
+    ap (is_kind p.version) (kind_is p c h) ∙ (both_true (is_kind p.version d.kind) _ (declared_at p ok c h)).0
 
 -- no declared channel carries nothing
 pub is_signal-shape_of : (p : Program) → IsProgram p → (c : ℕ) → c < length (shape_of p) → is_signal (kind_at (shape_of p) c) ≡ false
 is_signal-shape_of p ok c h =
     let d = get_or p.channels c no_channel in
-    ap is_signal (kind_is p c h) ∙ no_signal d.kind (both_true (is_kind d.kind) _ (declared_at p ok c h)).0
+    ap is_signal (kind_is p c h) ∙ no_signal d.kind (both_true (is_kind p.version d.kind) _ (declared_at p ok c h)).0
   where
-    no_signal : (kind : Kind) → is_kind kind ≡ true → is_signal kind ≡ false
+    no_signal : (kind : Kind) → is_kind p.version kind ≡ true → is_signal kind ≡ false
     no_signal Rendezvous e = refl
     no_signal (Buffered k) e = refl
     no_signal Unlimited e = refl
     no_signal Conflated e = refl
     no_signal (DropOldest k) e = refl
+    no_signal (DropLatest k) e = refl
     no_signal Signal e = cc
 
 pub places_at-shape_of : (p : Program) → IsProgram p → (c : ℕ) → c < length (shape_of p) → (1 ≤ places_at (shape_of p) c) × (places_at (shape_of p) c ≤ 1048576)
 places_at-shape_of p ok c h =
     let d = get_or p.channels c no_channel in
     let same : places_at (shape_of p) c ≡ d.places = ap (λ (x : Kind × ℕ). x.1) (shape_at p c h) in
-    let range = both_true (nat_le 1 d.places) (nat_le d.places 1048576) (both_true (is_kind d.kind) _ (declared_at p ok c h)).1 in
+    let range = both_true (nat_le 1 d.places) (nat_le d.places 1048576) (both_true (is_kind p.version d.kind) _ (declared_at p ok c h)).1 in
     let low = le-from_true 1 d.places range.0 in
     let high = le-from_true d.places 1048576 range.1 in
     (omega (arith, same, low), omega (arith, same, high))

@@ -85,6 +85,7 @@ pub generated-is_program : (n : ℕ) → 1 ≤ n → n ≤ 100000 → IsProgram 
 generated-is_program n low high =
     let places = few_places n high in
     record {
+      version = refl;
       few_channels = omega arith;
       channel_names = refl;
       channels = both (is_places (places_for n)) _ places (both (is_places (places_for n)) true places refl);

@@ -10,9 +10,9 @@ use Rattle.std.specs.Fmt.{decimal}
 use Rattle.std.specs.Str.{all_ascii_digits, bytes_eq}
 use lib.Chars.{codes}
 use Rattle.script_grammar.specs.declared.fault.FaultKind.{FaultKind}
-use Rattle.script_grammar.specs.declared.fault.FaultKind.TheVariants.{BadName, BadNumber, Recursive, Duplicate, Undeclared}
+use Rattle.script_grammar.specs.declared.fault.FaultKind.TheVariants.{UnknownWord, BadName, BadNumber, Recursive, Duplicate, Undeclared}
 use Rattle.channel_model.specs.declared.acts.Kind.{Kind}
-use Rattle.channel_model.specs.declared.acts.Kind.TheVariants.{Rendezvous, Buffered, Unlimited, Conflated, DropOldest, Signal}
+use Rattle.channel_model.specs.declared.acts.Kind.TheVariants.{Rendezvous, Buffered, Unlimited, Conflated, DropOldest, DropLatest, Signal}
 use Rattle.script_grammar.specs.declared.instructions.Operand.{Operand}
 use Rattle.script_grammar.specs.declared.instructions.Operand.TheVariants.{Number, It, Sum}
 use Rattle.script_grammar.specs.Faults.{◌>>=◌}
@@ -153,18 +153,23 @@ capacity_again make k rest is =
     let high : k ≤ 65535 = le-from_true k 65535 two.1 in
     ap (λ (r : Result (ℕ × List (List ℕ)) FaultKind). made {X = Kind} make r) (number_again 1 65535 k rest (le-from_true 1 k two.0) high (omega (arith, high)))
 
-pub kind_again : (kind : Kind) (full places : Bool) (word : List ℕ) → is_kind kind ≡ true → has_capacity kind full ≡ true → kind_at (kind_words kind full ++ part places (codes "places" ∷ word ∷ [])) ≡ Ok (kind, part places (codes "places" ∷ word ∷ []))
+pub kind_again : (version : ℕ) (kind : Kind) (full places : Bool) (word : List ℕ) → is_kind version kind ≡ true → has_capacity kind full ≡ true → kind_at version (kind_words kind full ++ part places (codes "places" ∷ word ∷ [])) ≡ Ok (kind, part places (codes "places" ∷ word ∷ []))
 unfolding kind_at
-kind_again Rendezvous full places word is has = refl
-kind_again (Buffered k) false false word is has = ap (λ n. bounded n []) (sym (same-from_true k 64 has))
-kind_again (Buffered k) false true word is has = ap (λ n. bounded n (codes "places" ∷ word ∷ [])) (sym (same-from_true k 64 has))
-kind_again (Buffered k) true places word is has =
+kind_again version Rendezvous full places word is has = refl
+kind_again version (Buffered k) false false word is has = ap (λ n. bounded n []) (sym (same-from_true k 64 has))
+kind_again version (Buffered k) false true word is has = ap (λ n. bounded n (codes "places" ∷ word ∷ [])) (sym (same-from_true k 64 has))
+kind_again version (Buffered k) true places word is has =
     let rest = part places (codes "places" ∷ word ∷ []) in
     let two = both_true _ _ is in
     let high : k ≤ 65535 = le-from_true k 65535 two.1 in
     ap (λ b. if◌then◌else◌ {A = Result (Kind × List (List ℕ)) FaultKind} b (Ok (Buffered 64, decimal k ∷ rest)) (made {X = Kind} (λ n. Buffered n) (number_at 1 65535 (decimal k ∷ rest)))) (other_word (decimal k) (codes "places") (is_number-decimal k (omega (arith, high))) refl)
     ∙ capacity_again (λ n. Buffered n) k rest is
-kind_again Unlimited full places word is has = refl
-kind_again Conflated full places word is has = refl
-kind_again (DropOldest k) full places word is has = capacity_again (λ n. DropOldest n) k (part places (codes "places" ∷ word ∷ [])) is
-kind_again Signal full places word is has = cc
+kind_again version Unlimited full places word is has = refl
+kind_again version Conflated full places word is has = refl
+kind_again version (DropOldest k) full places word is has = capacity_again (λ n. DropOldest n) k (part places (codes "places" ∷ word ∷ [])) is
+kind_again version (DropLatest k) full places word is has =
+    let rest = part places (codes "places" ∷ word ∷ []) in
+    let two = both_true _ _ is in
+    ap (λ b. if◌then◌else◌ {A = Result (Kind × List (List ℕ)) FaultKind} b (made {X = Kind} (λ n. DropLatest n) (number_at 1 65535 (decimal k ∷ rest))) (Err UnknownWord)) two.0
+    ∙ capacity_again (λ n. DropLatest n) k rest two.1
+kind_again version Signal full places word is has = cc

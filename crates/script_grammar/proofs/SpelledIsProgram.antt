@@ -8,7 +8,7 @@ use Rattle.script_grammar.specs.declared.instructions.Instruction.TheVariants.{S
 use Rattle.script_grammar.specs.Words.{has_items}
 use Rattle.script_grammar.specs.Programs.{Declared, Block, Program, channel_names, block_names, name_of, places_in}
 use Rattle.script_grammar.specs.Blocks.{Open, opened, with_line, stands, fits, is_main, job_given, listed}
-use Rattle.script_grammar.specs.Reads.{Read, Form, channel_is, coroutine_is, spawn_is, line_is, end_is, start, after, closed_main, open_main, spawned_weight, load, program_so_far, closed_block, closed_weight}
+use Rattle.script_grammar.specs.Reads.{Read, Form, version_is, channel_is, coroutine_is, spawn_is, line_is, end_is, start, after, closed_main, open_main, spawned_weight, load, program_so_far, closed_block, closed_weight}
 use Rattle.script_grammar.specs.Grammar.{is_fresh, names_job, is_declared, is_spawn, IsClosed, Says, SayAll, Spells, IsWithin, FewClauses, Within, has_main}
 use Rattle.script_grammar.specs.WellFormed.{name_given, few_clauses, is_within, is_done, line_fits, lines_fit, with_lines, weight_in, weights_from, blocks_fit, all_fresh, IsProgram}
 use Rattle.script_grammar.specs.Words.{with_words, lines_of}
@@ -170,9 +170,10 @@ IsCurrent n blocks weights None = Unit {0}
 IsCurrent n blocks weights (Some b) = IsOpen n blocks weights b
 
 pub record IsSound (s : Read) : Type 0 where
+  pub version : (nat_le 1 s.version && nat_le s.version 2) ≡ true
   pub few_channels : length s.channels ≤ 256
   pub names : all_fresh [] (channel_names s.channels) ≡ true
-  pub channels : list_all is_declared s.channels ≡ true
+  pub channels : list_all (is_declared s.version) s.channels ≡ true
   pub few_places : places_in s.channels ≤ 4194304
   pub blocks : blocks_fit (length s.channels) [] [] s.blocks ≡ true
   pub weights : s.weights ≡ weights_from [] s.blocks
@@ -181,7 +182,10 @@ pub record IsSound (s : Read) : Type 0 where
   pub load : load s ≤ 16000
 
 pub IsSound-start : IsSound start
-IsSound-start = record { few_channels = omega arith; names = refl; channels = refl; few_places = omega arith; blocks = refl; weights = refl; spawns = refl; current = tt; load = omega arith }
+IsSound-start = record { version = refl; few_channels = omega arith; names = refl; channels = refl; few_places = omega arith; blocks = refl; weights = refl; spawns = refl; current = tt; load = omega arith }
+
+IsSound-second : IsSound (after version_is start)
+IsSound-second = record { version = refl; few_channels = omega arith; names = refl; channels = refl; few_places = omega arith; blocks = refl; weights = refl; spawns = refl; current = tt; load = omega arith }
 
 within-true : (b : Open) → IsWithin (Some b) → is_within b ≡ true
 within-true b h = both (nat_le (length b.nest) 8) _ (le-true (length b.nest) 8 h.0) (both (few_clauses b.clauses) _ (few b.clauses h.1) (le-true b.weight 16000 h.2))
@@ -229,6 +233,7 @@ IsSound-end s b is e closed within =
     let fit : lines_fit (length s.channels) (block_names s.blocks) s.weights b.jobs (opened b.name) b.code ≡ true = lines_fit-from (length s.channels) (block_names s.blocks) s.weights b.jobs (opened b.name) b.code opened_.lines (ap (is_done b.jobs) opened_.same ∙ is_done-from b closed) in
     let weight : b.weight ≡ weight_in ws (closing b) = sym (ap (λ v. (with_lines v b.jobs (opened b.name) b.code).weight) (sym is.weights) ∙ ap (λ (c : Open). c.weight) opened_.same) in
     record {
+      version = is.version;
       few_channels = is.few_channels;
       names = is.names;
       channels = is.channels;
@@ -248,10 +253,12 @@ IsSound-end s b is e closed within =
     }
 
 IsSound-after : (s : Read) (words : List (List ℕ)) (f : Form) → IsSound s → Says s words f → Within (after f s) → IsSound (after f s)
+IsSound-after s words version_is is says within = subst (λ t. IsSound (after version_is t)) (sym says.0) IsSound-second
 IsSound-after s words (channel_is c) is says within = record {
+  version = is.version;
   few_channels = within.channels;
   names = ap (all_fresh []) (map-append (λ (d : Declared). d.name) s.channels (c ∷ [])) ∙ all_fresh-push [] (channel_names s.channels) c.name is.names says.4;
-  channels = all_push is_declared s.channels c is.channels says.5;
+  channels = all_push (is_declared s.version) s.channels c is.channels says.5;
   few_places = within.places;
   blocks = blocks_fit-more (length s.channels) (length (s.channels ++ c ∷ [])) [] [] s.blocks (omega (arith, length-append s.channels (c ∷ []))) is.blocks;
   weights = is.weights;
@@ -260,6 +267,7 @@ IsSound-after s words (channel_is c) is says within = record {
   load = within.load;
 }
 IsSound-after s words (coroutine_is p) is says within = record {
+  version = is.version;
   few_channels = is.few_channels;
   names = is.names;
   channels = is.channels;
@@ -271,6 +279,7 @@ IsSound-after s words (coroutine_is p) is says within = record {
   load = within.load;
 }
 IsSound-after s words (spawn_is i n) is says within = record {
+  version = is.version;
   few_channels = is.few_channels;
   names = is.names;
   channels = is.channels;
@@ -282,6 +291,7 @@ IsSound-after s words (spawn_is i n) is says within = record {
   load = within.load;
 }
 IsSound-after s words (line_is x job) is says within = record {
+  version = is.version;
   few_channels = is.few_channels;
   names = is.names;
   channels = is.channels;
@@ -300,6 +310,7 @@ IsSound-all s (words ∷ more) t is said = IsSound-all (after said.0 s) more t (
 
 pub IsProgram-from_sound : (s : Read) → IsSound s → s.current ≡ None → has_main s.blocks ≡ true → IsProgram (program_so_far s)
 IsProgram-from_sound s is out main = record {
+  version = is.version;
   few_channels = is.few_channels;
   channel_names = is.names;
   channels = is.channels;

@@ -12,9 +12,9 @@ use Rattle.script_grammar.specs.Words.{lines_of, with_words}
 use Rattle.script_grammar.specs.Verbs.{verb_of}
 use Rattle.script_grammar.specs.Faults.{◌>>=◌}
 use Rattle.script_grammar.specs.Programs.{Declared, Block, Program, channel_names, block_names, name_of}
-use Rattle.script_grammar.specs.Lines.{part, kind_words, channel_words, coroutine_words, spawn_words, line_words}
+use Rattle.script_grammar.specs.Lines.{part, kind_words, version_words, channel_words, coroutine_words, spawn_words, line_words}
 use Rattle.script_grammar.specs.Blocks.{Open, with_line, job_given, listed}
-use Rattle.script_grammar.specs.Reads.{Read, Form, channel_is, coroutine_is, spawn_is, line_is, end_is, start, after, names_for, closed_block, program_so_far}
+use Rattle.script_grammar.specs.Reads.{Read, Form, version_is, channel_is, coroutine_is, spawn_is, line_is, end_is, start, after, names_for, closed_block, program_so_far}
 use Rattle.script_grammar.specs.Grammar.{is_fresh, names_job, is_declared, has_capacity, has_number, is_spawn, IsClosed, Says, SayAll, Spells}
 use Rattle.script_grammar.specs.Places.{end_at, places_at, count_at, kind_at, other_than_main}
 use Rattle.script_grammar.specs.Forms.{outside, ending, form_at}
@@ -69,6 +69,7 @@ end_named blocks None is named = subst Distinct (ap block_names (sym (no_more bl
 end_named blocks (Some b) is named = more_blocks blocks (record { name = b.name; jobs = b.jobs; code = b.code }) is named.1
 
 pub AreNamed-after : (s : Read) (words : List (List ℕ)) (f : Form) → AreNamed s → Says s words f → AreNamed (after f s)
+AreNamed-after s words version_is is says = record { channels = is.channels; blocks = is.blocks; current = is.current }
 AreNamed-after s words (channel_is c) is says = record { channels = more_channels s.channels c is.channels says.4; blocks = is.blocks; current = is.current }
 AreNamed-after s words (coroutine_is p) is says = record { channels = is.channels; blocks = is.blocks; current = (none_yet, says.2) }
 AreNamed-after s words (spawn_is i n) is says = record { channels = is.channels; blocks = is.blocks; current = is.current }
@@ -85,13 +86,17 @@ opens : (s : Read) (b : Open) (words : List (List ℕ)) → read_words s (Some b
 opens s b [] = refl
 opens s b (word ∷ rest) = refl
 
-channel_again : (s : Read) (c : Declared) (capacity places : Bool) → AreNamed s → is_fresh (channel_names s.channels) c.name ≡ true → is_declared c ≡ true → has_capacity c.kind capacity ≡ true → has_number 16384 c.places places ≡ true → read_words s None (channel_words c capacity places) ≡ Ok (channel_is c)
+version_again : (s : Read) → s ≡ start → read_words s s.current version_words ≡ Ok version_is
+unfolding outside
+version_again s is = subst (λ (t : Read). read_words t t.current version_words ≡ Ok version_is) (sym is) refl
+
+channel_again : (s : Read) (c : Declared) (capacity places : Bool) → AreNamed s → is_fresh (channel_names s.channels) c.name ≡ true → is_declared s.version c ≡ true → has_capacity c.kind capacity ≡ true → has_number 16384 c.places places ≡ true → read_words s None (channel_words c capacity places) ≡ Ok (channel_is c)
 unfolding outside
 channel_again s c capacity places is fresh declared has number =
     let more = part places (codes "places" ∷ decimal c.places ∷ []) in
     let two = both_true _ _ declared in
-    ap (λ (r : Result (List ℕ × List (List ℕ)) FaultKind). r >>= λ n. kind_at n.1 >>= λ k. places_at k.1 >>= λ p. end_at p.1 >>= λ u. Ok (channel_is (record { name = n.0; kind = k.0; places = p.0 }))) (new_again (channel_names s.channels) c.name (kind_words c.kind capacity ++ more) fresh)
-    ∙ ap (λ (r : Result (Kind × List (List ℕ)) FaultKind). r >>= λ k. places_at k.1 >>= λ p. end_at p.1 >>= λ u. Ok (channel_is (record { name = c.name; kind = k.0; places = p.0 }))) (kind_again c.kind capacity places (decimal c.places) two.0 has)
+    ap (λ (r : Result (List ℕ × List (List ℕ)) FaultKind). r >>= λ n. kind_at s.version n.1 >>= λ k. places_at k.1 >>= λ p. end_at p.1 >>= λ u. Ok (channel_is (record { name = n.0; kind = k.0; places = p.0 }))) (new_again (channel_names s.channels) c.name (kind_words c.kind capacity ++ more) fresh)
+    ∙ ap (λ (r : Result (Kind × List (List ℕ)) FaultKind). r >>= λ k. places_at k.1 >>= λ p. end_at p.1 >>= λ u. Ok (channel_is (record { name = c.name; kind = k.0; places = p.0 }))) (kind_again s.version c.kind capacity places (decimal c.places) two.0 has)
     ∙ ap (λ (r : Result (ℕ × List (List ℕ)) FaultKind). r >>= λ p. end_at p.1 >>= λ u. Ok (channel_is (record { name = c.name; kind = c.kind; places = p.0 }))) (places_again places c.places two.1 number)
 
 coroutine_again : (s : Read) (p : List ℕ) → is_fresh (block_names s.blocks) p ≡ true → read_words s None (coroutine_words p) ≡ Ok (coroutine_is p)
@@ -117,6 +122,7 @@ pub of_current : (s : Read) (b : Open) → AreNamed s → s.current ≡ Some b �
 of_current s b is e = record { channels = is.channels; blocks = is.blocks; jobs = (subst (IsNamed s.blocks) e is.current).0 }
 
 pub form_again : (s : Read) (words : List (List ℕ)) (f : Form) → AreNamed s → Says s words f → read_words s s.current words ≡ Ok f
+form_again s words version_is is says = ap (read_words s s.current) says.1 ∙ version_again s says.0
 form_again s words (channel_is c) is says = ap (read_words s s.current) says.3 ∙ ap (λ o. read_words s o (channel_words c says.0 says.1)) says.2 ∙ channel_again s c says.0 says.1 is says.4 says.5 says.6 says.7
 form_again s words (coroutine_is p) is says = ap (read_words s s.current) says.1 ∙ ap (λ o. read_words s o (coroutine_words p)) says.0 ∙ coroutine_again s p says.2
 form_again s words (spawn_is i n) is says = ap (read_words s s.current) says.2 ∙ ap (λ o. read_words s o (spawn_words (name_of (block_names s.blocks) i) n says.0)) says.1 ∙ spawn_again s i n says.0 is says.3 says.4

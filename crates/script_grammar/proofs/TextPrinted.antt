@@ -9,7 +9,7 @@ use Rattle.std.proofs.lemmas.Bool.Decides.{nat_tests}
 use Rattle.std.proofs.lemmas.Fmt.{digits_decimal, decimal_nonempty}
 use lib.Chars.{codes}
 use Rattle.channel_model.specs.declared.acts.Kind.{Kind}
-use Rattle.channel_model.specs.declared.acts.Kind.TheVariants.{Rendezvous, Buffered, Unlimited, Conflated, DropOldest, Signal}
+use Rattle.channel_model.specs.declared.acts.Kind.TheVariants.{Rendezvous, Buffered, Unlimited, Conflated, DropOldest, DropLatest, Signal}
 use Rattle.script_grammar.specs.declared.instructions.Operand.{Operand}
 use Rattle.script_grammar.specs.declared.instructions.Operand.TheVariants.{Number, It, Sum}
 use Rattle.script_grammar.specs.declared.instructions.Launching.TheVariants.{Plain, Async, Lazy}
@@ -19,9 +19,9 @@ use Rattle.script_grammar.specs.Words.{lines_of, with_words, all_plain, has_item
 use Rattle.script_grammar.specs.Programs.{Declared, Block, Program, channel_names, block_names, name_of}
 use Rattle.script_grammar.specs.Lines.{part, kind_words, channel_words, coroutine_words, spawn_words, line_words, operand_word, Names}
 use Rattle.script_grammar.specs.Blocks.{Open, job_given, listed, is_operand, fits}
-use Rattle.script_grammar.specs.Reads.{Read, Form, channel_is, coroutine_is, spawn_is, line_is, end_is, start, after, names_for}
+use Rattle.script_grammar.specs.Reads.{Read, Form, version_is, channel_is, coroutine_is, spawn_is, line_is, end_is, start, after, names_for}
 use Rattle.script_grammar.specs.Grammar.{is_capacity, is_fresh, names_job, is_kind, Says, SayAll, Spells}
-use Rattle.script_grammar.specs.Canonical.{block_lines, blocks_lines, canonical, flat, code_lines, deep_block, deep_blocks, deep_lines, canonical_text}
+use Rattle.script_grammar.specs.Canonical.{version_lines, block_lines, blocks_lines, canonical, flat, code_lines, deep_block, deep_blocks, deep_lines, canonical_text}
 use Rattle.script_grammar.specs.Nesting.{depth_after}
 use Rattle.script_grammar.specs.WellFormed.{IsProgram}
 use Rattle.script_grammar.proofs.Truths.{both, both_true, lt-from_true, le-from_true, same-from_true, le-true}
@@ -130,19 +130,21 @@ all_append (x ∷ xs) ys e f = let two = both_true _ _ e in both (is_written x) 
 small_capacity : (k : ℕ) → is_capacity k ≡ true → k < 2 ^ 32
 small_capacity k h = let high : k ≤ 65535 = le-from_true k 65535 (both_true _ _ h).1 in omega (arith, high)
 
-kind_written : (kind : Kind) (full : Bool) → is_kind kind ≡ true → list_all is_written (kind_words kind full) ≡ true
-kind_written Rendezvous full h = refl
-kind_written (Buffered k) full h = part_written full k (small_capacity k h)
-kind_written Unlimited full h = refl
-kind_written Conflated full h = refl
-kind_written (DropOldest k) full h = one (decimal k) (decimal_written k (small_capacity k h))
-kind_written Signal full h = cc
+kind_written : (version : ℕ) (kind : Kind) (full : Bool) → is_kind version kind ≡ true → list_all is_written (kind_words kind full) ≡ true
+kind_written version Rendezvous full h = refl
+kind_written version (Buffered k) full h = part_written full k (small_capacity k h)
+kind_written version Unlimited full h = refl
+kind_written version Conflated full h = refl
+kind_written version (DropOldest k) full h = one (decimal k) (decimal_written k (small_capacity k h))
+kind_written version (DropLatest k) full h = one (decimal k) (decimal_written k (small_capacity k (both_true _ _ h).1))
+kind_written version Signal full h = cc
 
 form_written : (s : Read) (words : List (List ℕ)) (f : Form) → AreNamed s → Says s words f → Written words
+form_written s words version_is is says = subst Written (sym says.1) (refl, refl)
 form_written s words (channel_is c) is says =
     let two = both_true _ _ says.5 in
     let high : c.places ≤ 1048576 = le-from_true c.places 1048576 (both_true _ _ two.1).1 in
-    subst Written (sym says.3) (refl, both (is_written c.name) _ (fresh_written _ c.name says.4) (all_append (kind_words c.kind says.0) (part says.1 (codes "places" ∷ decimal c.places ∷ [])) (kind_written c.kind says.0 two.0) (places_written says.1 c.places (omega (arith, high)))))
+    subst Written (sym says.3) (refl, both (is_written c.name) _ (fresh_written _ c.name says.4) (all_append (kind_words c.kind says.0) (part says.1 (codes "places" ∷ decimal c.places ∷ [])) (kind_written s.version c.kind says.0 two.0) (places_written says.1 c.places (omega (arith, high)))))
 form_written s words (coroutine_is p) is says = subst Written (sym says.1) (refl, one p (fresh_written _ p says.2))
 form_written s words (spawn_is i n) is says =
     let two = both_true _ _ says.3 in
@@ -206,11 +208,14 @@ deep_words p =
     let channels = map (λ c. channel_words c true true) p.channels in
     let blocks = deep_blocks (channel_names p.channels) names p.blocks in
     let spawns = map (λ s. spawn_words (name_of names s.0) s.1 true) p.spawns in
-    words_in-append (flat channels) (blocks ++ flat spawns)
+    let version = version_lines p.version in
+    words_in-append (flat version) (flat channels ++ (blocks ++ flat spawns))
+    ∙ ap (λ ls. ls ++ words_in (flat channels ++ (blocks ++ flat spawns))) (flat_words version)
+    ∙ ap (λ ls. version ++ ls) (words_in-append (flat channels) (blocks ++ flat spawns)
     ∙ ap (λ ls. ls ++ words_in (blocks ++ flat spawns)) (flat_words channels)
     ∙ ap (λ ls. channels ++ ls) (words_in-append blocks (flat spawns)
     ∙ ap (λ ls. ls ++ words_in (flat spawns)) (blocks_words (channel_names p.channels) names p.blocks)
-    ∙ ap (λ ls. blocks_lines (channel_names p.channels) names p.blocks ++ ls) (flat_words spawns))
+    ∙ ap (λ ls. blocks_lines (channel_names p.channels) names p.blocks ++ ls) (flat_words spawns)))
 
 -- the law of print
 pub Spells-canonical_text : (p : Program) → IsProgram p → length (canonical_text p) ≤ 1048576 → Spells (canonical_text p) p

@@ -1,14 +1,18 @@
 -- A program written out.
-use Rattle.std.specs.Prelude.{ℕ, List, [], ◌∷◌, ◌++◌, map, true, if◌then◌else◌}
+use Rattle.std.specs.Prelude.{ℕ, ◌==◌, List, [], ◌∷◌, ◌++◌, map, true, if◌then◌else◌}
 use lib.Chars.{codes}
 use Rattle.script_grammar.specs.declared.instructions.Instruction.{Instruction}
 use Rattle.script_grammar.specs.Words.{indented, unlines}
 use Rattle.script_grammar.specs.Programs.{Block, Program, channel_names, block_names, name_of}
-use Rattle.script_grammar.specs.Lines.{Names, channel_words, coroutine_words, spawn_words, line_words}
+use Rattle.script_grammar.specs.Lines.{Names, version_words, channel_words, coroutine_words, spawn_words, line_words}
 use Rattle.script_grammar.specs.Blocks.{is_end}
 use Rattle.script_grammar.specs.Nesting.{one_less, depth_after}
 
--- ---- the canonical lines: channels, then coroutines, then spawns, with all parts
+-- ---- the canonical lines: the version, then channels, then coroutines, then spawns, with all parts
+
+-- the first line of a script of version 2
+abbrev pub version_lines : ℕ → List (List (List ℕ))
+version_lines version = if version == 2 then version_words ∷ [] else []
 
 -- a coroutine's lines, with these names of channels and blocks
 abbrev pub block_lines : List (List ℕ) → List (List ℕ) → Block → List (List (List ℕ))
@@ -24,9 +28,10 @@ blocks_lines channels blocks (b ∷ bs) = block_lines channels blocks b ++ block
 -- the words of each line
 abbrev pub canonical : Program → List (List (List ℕ))
 canonical p =
-    map (λ c. channel_words c true true) p.channels
+    version_lines p.version
+    ++ (map (λ c. channel_words c true true) p.channels
     ++ (blocks_lines (channel_names p.channels) (block_names p.blocks) p.blocks
-    ++ map (λ s. spawn_words (name_of (block_names p.blocks) s.0) s.1 true) p.spawns)
+    ++ map (λ s. spawn_words (name_of (block_names p.blocks) s.0) s.1 true) p.spawns))
 
 -- ---- how deep each line stands
 
@@ -57,9 +62,10 @@ deep_blocks channels blocks (b ∷ bs) = deep_block channels blocks b ++ deep_bl
 -- the canonical lines, each with its depth
 abbrev pub deep_lines : Program → List (ℕ × List (List ℕ))
 deep_lines p =
-    flat (map (λ c. channel_words c true true) p.channels)
+    flat (version_lines p.version)
+    ++ (flat (map (λ c. channel_words c true true) p.channels)
     ++ (deep_blocks (channel_names p.channels) (block_names p.blocks) p.blocks
-    ++ flat (map (λ s. spawn_words (name_of (block_names p.blocks) s.0) s.1 true) p.spawns))
+    ++ flat (map (λ s. spawn_words (name_of (block_names p.blocks) s.0) s.1 true) p.spawns)))
 
 -- two spaces for each level, one between words, and a line feed after each line
 abbrev pub canonical_text : Program → List ℕ

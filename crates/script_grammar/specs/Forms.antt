@@ -1,5 +1,5 @@
 -- What each line is read as, or its fault.
-use Rattle.std.specs.Prelude.{ℕ, List, [], ◌∷◌, length, Option, Some, None, Result, Ok, Err, true, false, if◌then◌else◌}
+use Rattle.std.specs.Prelude.{ℕ, ◌==◌, ◌&&◌, not, List, [], ◌∷◌, length, Bool, Option, Some, None, Result, Ok, Err, true, false, if◌then◌else◌, is_some}
 use lib.Chars.{codes}
 use Rattle.std.specs.Str.{bytes_eq}
 use Rattle.script_grammar.specs.declared.fault.FaultKind.{FaultKind}
@@ -16,15 +16,22 @@ use Rattle.script_grammar.specs.Words.{has_items}
 use Rattle.script_grammar.specs.Faults.{◌>>=◌}
 use Rattle.script_grammar.specs.Programs.{channel_names, block_names, places_in}
 use Rattle.script_grammar.specs.Blocks.{Open}
-use Rattle.script_grammar.specs.Reads.{Read, Form, channel_is, coroutine_is, spawn_is, line_is, end_is, after, load}
+use Rattle.script_grammar.specs.Reads.{Read, Form, version_is, channel_is, coroutine_is, spawn_is, line_is, end_is, after, load}
 use Rattle.script_grammar.specs.Places.{end_at, number_at, operand_at, places_at, count_at, kind_at, new_at, known_at, clause_at, awaitable_at, other_than_main, target_at, job_at, at_most}
 
 -- ---- outside blocks
 
+-- the version, alone
+abbrev pub version_line : List (List ℕ) → Result Form FaultKind
+version_line words = do
+  n ← number_at 2 2 words
+  _ ← end_at n.1
+  Ok version_is
+
 abbrev pub channel_line : Read → List (List ℕ) → Result Form FaultKind
 channel_line s words = do
   name ← new_at (channel_names s.channels) words
-  kind ← kind_at name.1
+  kind ← kind_at s.version name.1
   places ← places_at kind.1
   _ ← end_at places.1
   Ok (channel_is (record { name = name.0; kind = kind.0; places = places.0 }))
@@ -43,10 +50,19 @@ spawn_line s words = do
   _ ← end_at count.1
   Ok (spawn_is block.0 count.0)
 
+-- no line is said yet
+abbrev pub is_start : Read → Bool
+is_start s =
+    (s.version == 1)
+    && (not (has_items s.channels)
+    && (not (has_items s.blocks)
+    && (not (has_items s.spawns) && (not (has_items s.weights) && not (is_some s.current)))))
+
 -- a line outside blocks, by its first word
 unfoldable pub outside : Read → List ℕ → List (List ℕ) → Result Form FaultKind
 outside s word rest =
-    if bytes_eq word (codes "channel") then channel_line s rest
+    if bytes_eq word (codes "script") && is_start s then version_line rest
+    else if bytes_eq word (codes "channel") then channel_line s rest
     else if bytes_eq word (codes "coroutine") then coroutine_line s rest
     else if bytes_eq word (codes "spawn") then spawn_line s rest
     else Err UnknownWord

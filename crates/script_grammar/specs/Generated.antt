@@ -42,6 +42,7 @@ root = record {
 -- the script
 abbrev pub generated : ℕ → Program
 generated n = record {
+  version = 1;
   channels =
       record { name = codes "a"; kind = Buffered 64; places = places_for n }
       ∷ record { name = codes "b"; kind = Rendezvous; places = places_for n } ∷ [];

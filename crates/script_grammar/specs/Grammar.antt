@@ -4,12 +4,12 @@ use Rattle.std.specs.List.{list_all, list_any}
 use Rattle.std.specs.Str.{bytes_eq}
 use lib.Chars.{codes}
 use Rattle.channel_model.specs.declared.acts.Kind.{Kind}
-use Rattle.channel_model.specs.declared.acts.Kind.TheVariants.{Buffered, DropOldest, Signal}
+use Rattle.channel_model.specs.declared.acts.Kind.TheVariants.{Buffered, DropOldest, DropLatest, Signal}
 use Rattle.script_grammar.specs.Programs.{Declared, Block, Program, channel_names, block_names, name_of, places_in}
 use Rattle.script_grammar.specs.Words.{all_plain, lines_of, with_words}
-use Rattle.script_grammar.specs.Lines.{channel_words, coroutine_words, spawn_words, line_words}
+use Rattle.script_grammar.specs.Lines.{version_words, channel_words, coroutine_words, spawn_words, line_words}
 use Rattle.script_grammar.specs.Blocks.{Open, stands, fits, is_main, job_given}
-use Rattle.script_grammar.specs.Reads.{Read, Form, channel_is, coroutine_is, spawn_is, line_is, end_is, start, after, names_for, load, program_so_far}
+use Rattle.script_grammar.specs.Reads.{Read, Form, version_is, channel_is, coroutine_is, spawn_is, line_is, end_is, start, after, names_for, load, program_so_far}
 
 -- ---- names
 
@@ -49,12 +49,13 @@ default_capacity = 64
 abbrev pub default_places : ℕ
 default_places = 16384
 
--- a kind that a script may declare
-abbrev pub is_kind : Kind → Bool
-is_kind (Buffered k) = is_capacity k
-is_kind (DropOldest k) = is_capacity k
-is_kind Signal = false
-is_kind other = true
+-- a kind that a script of this version may declare
+abbrev pub is_kind : ℕ → Kind → Bool
+is_kind version (Buffered k) = is_capacity k
+is_kind version (DropOldest k) = is_capacity k
+is_kind version (DropLatest k) = (version == 2) && is_capacity k
+is_kind version Signal = false
+is_kind version other = true
 
 -- a number of places is 1 to 1,048,576
 abbrev pub is_places : ℕ → Bool
@@ -70,9 +71,9 @@ abbrev pub has_number : ℕ → ℕ → Bool → Bool
 has_number usual n false = n == usual
 has_number usual n true = true
 
--- a channel's kind and number of places lie in their ranges
-abbrev pub is_declared : Declared → Bool
-is_declared c = is_kind c.kind && is_places c.places
+-- a channel's kind and number of places lie in their ranges, in a script of this version
+abbrev pub is_declared : ℕ → Declared → Bool
+is_declared version c = is_kind version c.kind && is_places c.places
 
 -- a spawn of 1 to 16,000 instances of one of these blocks that is not main
 abbrev pub is_spawn : List (List ℕ) → ℕ × ℕ → Bool
@@ -88,12 +89,13 @@ IsClosed b = (b.nest ≡ []) × (b.clauses ≡ None)
 
 -- the words of a whole line say this, after what the lines before it said
 abbrev pub Says : Read → List (List ℕ) → Form → Type 0
+Says s words version_is = (s ≡ start) × (words ≡ version_words)
 Says s words (channel_is c) =
     (capacity places : Bool)
     × (s.current ≡ None)
     × (words ≡ channel_words c capacity places)
     × (is_fresh (channel_names s.channels) c.name ≡ true)
-    × (is_declared c ≡ true)
+    × (is_declared s.version c ≡ true)
     × (has_capacity c.kind capacity ≡ true)
     × (has_number default_places c.places places ≡ true)
 Says s words (coroutine_is p) = (s.current ≡ None) × (words ≡ coroutine_words p) × (is_fresh (block_names s.blocks) p ≡ true)

@@ -3,7 +3,7 @@ use Rattle.std.specs.Prelude.{ℕ, Bool, true, false, List, [], ◌∷◌, ◌++
 use Rattle.std.specs.Fmt.{decimal}
 use lib.Chars.{codes}
 use Rattle.channel_model.specs.declared.acts.Kind.{Kind}
-use Rattle.channel_model.specs.declared.acts.Kind.TheVariants.{Rendezvous, Buffered, Unlimited, Conflated, DropOldest, Signal}
+use Rattle.channel_model.specs.declared.acts.Kind.TheVariants.{Rendezvous, Buffered, Unlimited, Conflated, DropOldest, DropLatest, Signal}
 use Rattle.script_grammar.specs.declared.instructions.Operand.{Operand}
 use Rattle.script_grammar.specs.declared.instructions.Operand.TheVariants.{Number, It, Sum}
 use Rattle.script_grammar.specs.declared.instructions.Launching.{Launching}
@@ -26,7 +26,12 @@ kind_words (Buffered k) full = codes "buffered" ∷ part full (decimal k ∷ [])
 kind_words Unlimited full = codes "unlimited" ∷ []
 kind_words Conflated full = codes "conflated" ∷ []
 kind_words (DropOldest k) full = codes "dropoldest" ∷ decimal k ∷ []
+kind_words (DropLatest k) full = codes "droplatest" ∷ decimal k ∷ []
 kind_words Signal full = []
+
+-- `script 2`, the first line of a script of version 2
+abbrev pub version_words : List (List ℕ)
+version_words = codes "script" ∷ codes "2" ∷ []
 
 -- `channel C KIND [K] [places N]`
 abbrev pub channel_words : Declared → Bool → Bool → List (List ℕ)

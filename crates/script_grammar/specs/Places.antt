@@ -6,7 +6,7 @@ use Rattle.std.specs.Str.Parse.{digits_value}
 use Rattle.script_grammar.specs.declared.fault.FaultKind.{FaultKind}
 use Rattle.script_grammar.specs.declared.fault.FaultKind.TheVariants.{UnknownWord, BadNumber, BadName, Duplicate, Undeclared, Extra, Recursive}
 use Rattle.channel_model.specs.declared.acts.Kind.{Kind}
-use Rattle.channel_model.specs.declared.acts.Kind.TheVariants.{Rendezvous, Buffered, Unlimited, Conflated, DropOldest}
+use Rattle.channel_model.specs.declared.acts.Kind.TheVariants.{Rendezvous, Buffered, Unlimited, Conflated, DropOldest, DropLatest}
 use Rattle.script_grammar.specs.declared.instructions.Operand.{Operand}
 use Rattle.script_grammar.specs.declared.instructions.Operand.TheVariants.{Number, It, Sum}
 use Rattle.script_grammar.specs.Faults.{◌>>=◌}
@@ -70,15 +70,16 @@ buffered_at (word ∷ rest) =
     if bytes_eq word (codes "places") then Ok (Buffered default_capacity, word ∷ rest)
     else made (λ k. Buffered k) (number_at 1 65535 (word ∷ rest))
 
--- the kind of a channel, and the words after it
-unfoldable pub kind_at : List (List ℕ) → Result (Kind × List (List ℕ)) FaultKind
-kind_at [] = Err UnknownWord
-kind_at (word ∷ rest) =
+-- the kind of a channel of a script of this version, and the words after it
+unfoldable pub kind_at : ℕ → List (List ℕ) → Result (Kind × List (List ℕ)) FaultKind
+kind_at version [] = Err UnknownWord
+kind_at version (word ∷ rest) =
     if bytes_eq word (codes "rendezvous") then Ok (Rendezvous, rest)
     else if bytes_eq word (codes "buffered") then buffered_at rest
     else if bytes_eq word (codes "unlimited") then Ok (Unlimited, rest)
     else if bytes_eq word (codes "conflated") then Ok (Conflated, rest)
     else if bytes_eq word (codes "dropoldest") then made (λ k. DropOldest k) (number_at 1 65535 rest)
+    else if bytes_eq word (codes "droplatest") && version == 2 then made (λ k. DropLatest k) (number_at 1 65535 rest)
     else Err UnknownWord
 
 -- ---- names

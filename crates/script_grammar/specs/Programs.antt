@@ -17,8 +17,9 @@ pub record Block : Type 0 where
   pub jobs : List (List ℕ)
   pub code : List Instruction
 
--- what a script says: its channels, its coroutines, and of each spawn the coroutine and how many instances it has
+-- what a script says: its version, its channels, its coroutines, and of each spawn the coroutine and how many instances it has
 pub record Program : Type 0 where
+  pub version : ℕ
   pub channels : List Declared
   pub blocks : List Block
   pub spawns : List (ℕ × ℕ)

@@ -2,7 +2,7 @@
 use Rattle.std.specs.Prelude.{◌≡◌, ℕ, Bool, true, false, List, [], ◌∷◌, ◌++◌, length, map, replicate, Some, None, Result, Ok, Err}
 use Rattle.std.specs.List.{concat}
 use lib.Chars.{codes}
-use Rattle.channel_model.specs.declared.acts.Kind.TheVariants.{Rendezvous, Buffered, Unlimited, Conflated, DropOldest}
+use Rattle.channel_model.specs.declared.acts.Kind.TheVariants.{Rendezvous, Buffered, Unlimited, Conflated, DropOldest, DropLatest}
 use Rattle.script_grammar.specs.declared.fault.ScriptFault.{ScriptFault}
 use Rattle.script_grammar.specs.declared.instructions.Operand.TheVariants.{Number, It, Sum}
 use Rattle.script_grammar.specs.declared.instructions.Launching.TheVariants.{Plain, Async, Lazy}
@@ -52,6 +52,8 @@ scripts =
     ∷ concat (codes "channel a rendezvous\nchannel b rendezvous\ncoroutine main\nselect\nonreceive a\nonsend b 1\nend\nselect\n"
     ∷ codes "onsend a it\nend\nend"
     ∷ [])
+    ∷ codes "script 2\ncoroutine main\nend"
+    ∷ codes "\n# of version 2\n  script  2  # and no other\n\nchannel a droplatest 65535\ncoroutine main\nend"
     ∷ (codes "\tcoroutine  main\t# the root\r\n" ++ codes "\r\n \t\n#\n#end\n" ++ codes "end # done")
     ∷ []
 
@@ -59,8 +61,9 @@ scripts =
 
 abbrev pub every_line_text : List ℕ
 every_line_text = concat (
-    codes "channel a rendezvous\nchannel b buffered\nchannel c buffered 2 places 3\nchannel d unlimited\n"
-    ∷ codes "channel e conflated places 5\nchannel f dropoldest 7\ncoroutine w\nyield\nfail 3\nend\n"
+    codes "script 2\nchannel a rendezvous\nchannel b buffered\nchannel c buffered 2 places 3\nchannel d unlimited\n"
+    ∷ codes "channel e conflated places 5\nchannel f dropoldest 7\nchannel g droplatest 9 places 4\ncoroutine w\n"
+    ∷ codes "yield\nfail 3\nend\n"
     ∷ codes "coroutine main\nsend a 1\ntrysend b it\nreceive a\ntryreceive b\nclose c\ncancelchannel d\n"
     ∷ codes "launch w\nlaunch w as j\nasync w as k\nlazy w as l\nstart l\njoin j\nawait k\ncancel j\nrepeat 2\n"
     ∷ codes "each e\nsend f 4294967295\nend\nend\nscope\nsupervisor\nend\nend\nselect\nonsend a sum\n"
@@ -80,13 +83,15 @@ every_line_code =
 -- what it says
 abbrev pub every_line : Program
 every_line = record {
+  version = 2;
   channels =
       record { name = codes "a"; kind = Rendezvous; places = 16384 }
       ∷ record { name = codes "b"; kind = Buffered 64; places = 16384 }
       ∷ record { name = codes "c"; kind = Buffered 2; places = 3 }
       ∷ record { name = codes "d"; kind = Unlimited; places = 16384 }
       ∷ record { name = codes "e"; kind = Conflated; places = 5 }
-      ∷ record { name = codes "f"; kind = DropOldest 7; places = 16384 } ∷ [];
+      ∷ record { name = codes "f"; kind = DropOldest 7; places = 16384 }
+      ∷ record { name = codes "g"; kind = DropLatest 9; places = 4 } ∷ [];
   blocks =
       record { name = codes "w"; jobs = []; code = Yield ∷ Fail 3 ∷ [] }
       ∷ record { name = codes "main"; jobs = codes "j" ∷ codes "k" ∷ codes "l" ∷ []; code = every_line_code } ∷ [];
@@ -96,9 +101,9 @@ every_line = record {
 -- how it is written out
 abbrev pub every_line_printed : List ℕ
 every_line_printed = concat (
-    codes "channel a rendezvous places 16384\nchannel b buffered 64 places 16384\n"
+    codes "script 2\nchannel a rendezvous places 16384\nchannel b buffered 64 places 16384\n"
     ∷ codes "channel c buffered 2 places 3\nchannel d unlimited places 16384\nchannel e conflated places 5\n"
-    ∷ codes "channel f dropoldest 7 places 16384\ncoroutine w\n  yield\n  fail 3\nend\ncoroutine main\n"
+    ∷ codes "channel f dropoldest 7 places 16384\nchannel g droplatest 9 places 4\ncoroutine w\n  yield\n  fail 3\nend\ncoroutine main\n"
     ∷ codes "  send a 1\n  trysend b it\n  receive a\n  tryreceive b\n  close c\n  cancelchannel d\n  launch w\n"
     ∷ codes "  launch w as j\n  async w as k\n  lazy w as l\n  start l\n  join j\n  await k\n  cancel j\n"
     ∷ codes "  repeat 2\n    each e\n      send f 4294967295\n    end\n  end\n  scope\n    supervisor\n    end\n"

@@ -5,8 +5,9 @@ use Rattle.script_grammar.specs.Programs.{Declared, Block, Program, channel_name
 use Rattle.script_grammar.specs.Lines.{Names}
 use Rattle.script_grammar.specs.Blocks.{Open, opened, with_line, listed, is_main}
 
--- the script so far: what it declares, and the block that is open
+-- the script so far: its version, what it declares, and the block that is open
 pub record Read : Type 0 where
+  pub version : ℕ
   pub channels : List Declared
   pub blocks : List Block
   pub spawns : List (ℕ × ℕ)
@@ -15,10 +16,12 @@ pub record Read : Type 0 where
   pub current : Option Open
 
 abbrev pub start : Read
-start = record { channels = []; blocks = []; spawns = []; weights = []; current = None }
+start = record { version = 1; channels = []; blocks = []; spawns = []; weights = []; current = None }
 
 -- what a line says
 pub data Form : Type 0 where
+  -- the script is of version 2
+  version_is : Form
   channel_is : Declared → Form
   -- the first line of a coroutine of this name
   coroutine_is : List ℕ → Form
@@ -39,6 +42,7 @@ closed_weight (Some b) = b.weight ∷ []
 
 -- the script with what a line says
 abbrev pub after : Form → Read → Read
+after version_is s = record s { version = 2 }
 after (channel_is c) s = record s { channels = s.channels ++ c ∷ [] }
 after (coroutine_is p) s = record s { current = Some (opened p) }
 after (spawn_is i n) s = record s { spawns = s.spawns ++ (i, n) ∷ [] }
@@ -55,7 +59,7 @@ names_for s b job = record { channels = channel_names s.channels; blocks = block
 
 -- what a script says whose lines are all read
 abbrev pub program_so_far : Read → Program
-program_so_far s = record { channels = s.channels; blocks = s.blocks; spawns = s.spawns }
+program_so_far s = record { version = s.version; channels = s.channels; blocks = s.blocks; spawns = s.spawns }
 
 -- ---- the load
 

@@ -74,12 +74,13 @@ abbrev pub all_fresh : List (List ℕ) → List (List ℕ) → Bool
 all_fresh before [] = true
 all_fresh before (name ∷ names) = is_fresh before name && all_fresh (before ++ name ∷ []) names
 
--- names are formed and distinct, numbers lie in their ranges, what is named is declared, lines stand where they may, there is a
+-- the version is 1 or 2, names are formed and distinct, numbers lie in their ranges, what is named is declared, lines stand where they may, there is a
 -- main, and the counts are within the limits
 pub record IsProgram (p : Program) : Type 0 where
+  pub version : (nat_le 1 p.version && nat_le p.version 2) ≡ true
   pub few_channels : length p.channels ≤ 256
   pub channel_names : all_fresh [] (channel_names p.channels) ≡ true
-  pub channels : list_all is_declared p.channels ≡ true
+  pub channels : list_all (is_declared p.version) p.channels ≡ true
   pub few_places : places_in p.channels ≤ 4194304
   pub blocks : blocks_fit (length p.channels) [] [] p.blocks ≡ true
   pub main : has_main p.blocks ≡ true

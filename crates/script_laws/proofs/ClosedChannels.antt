@@ -1,23 +1,26 @@
 -- At the end of a run no receiver stands on a closed channel, and no offer on a voided one.
 use Rattle.script_grammar.proofs.Truths.{both_true}
 use Rattle.std.proofs.Common.{◌≡◌, ℕ, ◌<◌, ◌≤◌, arith, length, Bool, true, false, not, ◌&&◌, List, [], ◌∷◌, ◌++◌, filter, refl, ap, sym, ◌∙◌, subst, Option, Some, None, if◌then◌else◌}
-use Rattle.std.specs.Prelude.{◌==◌, is_some, nat_le}
-use Rattle.std.proofs.lemmas.Bool.{eqb-true}
+use Rattle.std.specs.Prelude.{◌==◌, ◌||◌, ◌+◌, is_some, nat_le}
+use Rattle.std.proofs.lemmas.Bool.{eqb-true, or_right}
+use Rattle.std.proofs.lemmas.Bool.Decides.{nat_tests}
 use Rattle.co_base.specs.declared.names.WaitId.{WaitId}
 use Rattle.channel_model.specs.declared.acts.Act.{Act}
-use Rattle.channel_model.specs.declared.acts.Act.TheVariants.{Hand, Put, Offer, Await, Take, Admit, Drop, Close, Void, Drain, WakeClosed, Withdraw, Settle}
+use Rattle.channel_model.specs.declared.acts.Act.TheVariants.{Hand, Put, Offer, Await, Take, Admit, Drop, Spurn, Close, Void, Drain, WakeClosed, Withdraw, Settle}
 use Rattle.channel_model.specs.declared.acts.Entry.{Entry}
+use Rattle.channel_model.specs.declared.acts.Kind.{Kind}
+use Rattle.channel_model.specs.declared.acts.Kind.TheVariants.{Rendezvous, Buffered, Unlimited, Conflated, DropOldest, DropLatest, Signal}
 use Rattle.channel_model.specs.declared.standing.Party.{Party}
 use Rattle.channel_model.specs.declared.standing.Standing.{Standing}
 use Rattle.channel_model.specs.declared.standing.Receiver.{Receiver}
 use Rattle.channel_model.specs.declared.standing.Resolution.{Resolution}
 use Rattle.channel_model.specs.declared.standing.Resolution.TheVariants as resolved
-use Rattle.channel_model.specs.Channels.{Shape, State, Channel, same_wait}
-use Rattle.channel_model.specs.Effects.{after, put_channel, is_held_by, resolve, resolve_first, resolve_holder, resolve_offer, remove_first, with_queue, admitted, is_open, place_offer, place_receiver}
+use Rattle.channel_model.specs.Channels.{Shape, State, Channel, same_wait, spurns}
+use Rattle.channel_model.specs.Effects.{after, put_channel, is_held_by, resolve, resolve_first, resolve_holder, resolve_offer, remove_first, with_queue, admitted, is_open, place_offer, place_receiver, is_elsewhere, spurned}
 use Rattle.channel_model.specs.Needs.{Needs}
 use Rattle.channel_model.specs.Histories.{replay, Legal}
 use Rattle.channel_model.proofs.Sound.{sound}
-use Rattle.channel_model.specs.Owing.{stands_any}
+use Rattle.channel_model.specs.Owing.{stands_any, owes_spurn_at}
 use Rattle.job_model.specs.declared.acts.JobEntry.{JobEntry}
 use Rattle.note_book.specs.declared.book.Item.{Item}
 use Rattle.call_meaning.specs.Facts.{offers_up_to}
@@ -83,6 +86,51 @@ admitted_places p n (o ∷ os) h = at (admitted_places p n os h.1) (o.place == p
     at k true = h
     at k false = (h.0, k)
 
+-- ---- elements that are too many for a kind that does not keep its latest
+
+more_spurns : (kind : Kind) (m n : ℕ) → m ≤ n → spurns kind m ≡ true → spurns kind n ≡ true
+more_spurns Rendezvous m n h e = cc
+more_spurns (Buffered k) m n h e = cc
+more_spurns Unlimited m n h e = cc
+more_spurns Conflated m n h e = cc
+more_spurns (DropOldest k) m n h e = cc
+more_spurns (DropLatest k) m n h e = grind (arith, nat_tests)
+more_spurns Signal m n h e = cc
+
+-- with more offers before the list, no fewer are too many
+pub more_owes : (kind : Kind) (q m n : ℕ) (os : List Standing) → m ≤ n → owes_spurn_at kind q m os ≡ true → owes_spurn_at kind q n os ≡ true
+more_owes kind q m n [] h e = cc
+more_owes kind q m n (o ∷ os) h e = at (o.place == q) (spurns kind m) refl (λ r. more_owes kind q (m + 1) (n + 1) os (omega (arith, h)) r) e
+  where
+    at : (b s : Bool) → spurns kind m ≡ s → (owes_spurn_at kind q (m + 1) os ≡ true → owes_spurn_at kind q (n + 1) os ≡ true) → ((b && s) || owes_spurn_at kind q (m + 1) os) ≡ true → ((b && spurns kind n) || owes_spurn_at kind q (n + 1) os) ≡ true
+    at true true t later e = ap (λ (x : Bool). x || owes_spurn_at kind q (n + 1) os) (more_spurns kind m n h t)
+    at true false t later e = or_right (spurns kind n) _ (later e)
+    at false s t later e = later e
+
+filtered_owes : (test : Standing → Bool) (kind : Kind) (q m n : ℕ) (os : List Standing) → m ≤ n → owes_spurn_at kind q m (filter test os) ≡ true → owes_spurn_at kind q n os ≡ true
+filtered_owes test kind q m n [] h e = cc
+filtered_owes test kind q m n (o ∷ os) h e = by_test (test o) e
+  where
+    at : (b s : Bool) → spurns kind m ≡ s → ((b && s) || owes_spurn_at kind q (m + 1) (filter test os)) ≡ true → ((b && spurns kind n) || owes_spurn_at kind q (n + 1) os) ≡ true
+    at true true t e = ap (λ (x : Bool). x || owes_spurn_at kind q (n + 1) os) (more_spurns kind m n h t)
+    at true false t e = or_right (spurns kind n) _ (filtered_owes test kind q (m + 1) (n + 1) os (omega (arith, h)) e)
+    at false s t e = filtered_owes test kind q (m + 1) (n + 1) os (omega (arith, h)) e
+
+    by_test : (b : Bool) → owes_spurn_at kind q m (if b then o ∷ filter test os else filter test os) ≡ true → owes_spurn_at kind q n (o ∷ os) ≡ true
+    by_test true e = at (o.place == q) (spurns kind m) refl e
+    by_test false e = or_right ((o.place == q) && spurns kind n) _ (filtered_owes test kind q m (n + 1) os (omega (arith, h)) e)
+
+admitted_owes : (p : ℕ) (kind : Kind) (q n : ℕ) (os : List Standing) → owes_spurn_at kind q n (admitted p os) ≡ owes_spurn_at kind q n os
+admitted_owes p kind q n [] = refl
+admitted_owes p kind q n (o ∷ os) = by_test (o.place == p) (admitted_owes p kind q (n + 1) os)
+  where
+    by_test : (b : Bool) → owes_spurn_at kind q (n + 1) (admitted p os) ≡ owes_spurn_at kind q (n + 1) os → owes_spurn_at kind q n (if b then record o { holder = None } ∷ os else o ∷ admitted p os) ≡ owes_spurn_at kind q n (o ∷ os)
+    by_test true h = refl
+    by_test false h = ap (λ (x : Bool). ((o.place == q) && spurns kind n) || x) h
+
+rest_owes : (qs : List Standing) (o : Standing) (os : List Standing) (kind : Kind) (q m n : ℕ) → qs ≡ o ∷ os → m ≤ n → owes_spurn_at kind q m os ≡ true → owes_spurn_at kind q n qs ≡ true
+rest_owes qs o os kind q m n e h t = subst (λ l. owes_spurn_at kind q n l ≡ true) (sym e) (or_right ((o.place == q) && spurns kind n) _ (more_owes kind q m (n + 1) os (omega (arith, h)) t))
+
 pub record Less (a b : Channel) : Type 0 where
   pub closed : b.closed ≡ a.closed
   pub voided : b.voided ≡ a.voided
@@ -91,15 +139,16 @@ pub record Less (a b : Channel) : Type 0 where
   pub next : b.next ≡ a.next
   pub up_to : (q : ℕ) → offers_up_to q b.queue ≤ offers_up_to q a.queue
   pub places : (n : ℕ) → AllBefore n a.queue → AllBefore n b.queue
+  pub spurn : (kind : Kind) (q m n : ℕ) → m ≤ n → owes_spurn_at kind q m b.queue ≡ true → owes_spurn_at kind q n a.queue ≡ true
 
 abbrev pub AllLess : State → State → Type 0
 AllLess s t = (c : ℕ) → Less (s.channels c) (t.channels c)
 
 pub less_same : (a : Channel) → Less a a
-less_same a = record { closed = refl; voided = refl; receivers = λ h. h; queue = λ h. h; next = refl; up_to = λ q. omega arith; places = λ n h. h }
+less_same a = record { closed = refl; voided = refl; receivers = λ h. h; queue = λ h. h; next = refl; up_to = λ q. omega arith; places = λ n h. h; spurn = λ kind q m n h e. more_owes kind q m n a.queue h e }
 
 less_then : (s t u : State) → AllLess s t → AllLess t u → AllLess s u
-less_then s t u f g = λ c. record { closed = (g c).closed ∙ (f c).closed; voided = (g c).voided ∙ (f c).voided; receivers = λ h. (f c).receivers ((g c).receivers h); queue = λ h. (f c).queue ((g c).queue h); next = (g c).next ∙ (f c).next; up_to = λ q. let a = (f c).up_to q in let b = (g c).up_to q in omega arith; places = λ n h. (g c).places n ((f c).places n h) }
+less_then s t u f g = λ c. record { closed = (g c).closed ∙ (f c).closed; voided = (g c).voided ∙ (f c).voided; receivers = λ h. (f c).receivers ((g c).receivers h); queue = λ h. (f c).queue ((g c).queue h); next = (g c).next ∙ (f c).next; up_to = λ q. let a = (f c).up_to q in let b = (g c).up_to q in omega arith; places = λ n h. (g c).places n ((f c).places n h); spurn = λ kind q m n h e. (f c).spurn kind q n n (omega arith) ((g c).spurn kind q m n h e) }
 
 fewer : {A : Type 0} (test : A → Bool) (xs : List A) → stands_any (filter test xs) ≡ true → stands_any xs ≡ true
 fewer test [] h = h
@@ -113,7 +162,7 @@ less_put s c ch h = λ d. at d (c == d) refl
     at d false e = less_same (s.channels d)
 
 less_resolve : (w : WaitId) (how : Resolution) (s : State) → AllLess s (resolve w how s)
-less_resolve w how s = λ c. record { closed = refl; voided = refl; receivers = λ h. fewer (λ (r : Receiver). not (same_wait w r.party.wait)) (s.channels c).receivers h; queue = λ h. fewer (λ (o : Standing). not (is_held_by w o.holder)) (s.channels c).queue h; next = refl; up_to = λ q. filtered_up_to (λ (o : Standing). not (is_held_by w o.holder)) q (s.channels c).queue; places = λ n h. filtered_places (λ (o : Standing). not (is_held_by w o.holder)) n (s.channels c).queue h }
+less_resolve w how s = λ c. record { closed = refl; voided = refl; receivers = λ h. fewer (λ (r : Receiver). not (same_wait w r.party.wait)) (s.channels c).receivers h; queue = λ h. fewer (λ (o : Standing). not (is_held_by w o.holder)) (s.channels c).queue h; next = refl; up_to = λ q. filtered_up_to (λ (o : Standing). not (is_held_by w o.holder)) q (s.channels c).queue; places = λ n h. filtered_places (λ (o : Standing). not (is_held_by w o.holder)) n (s.channels c).queue h; spurn = λ kind q m n h e. filtered_owes (λ (o : Standing). not (is_held_by w o.holder)) kind q m n (s.channels c).queue h e }
 
 less_first : (rs : List Receiver) (how : ℕ → Resolution) (s : State) → AllLess s (resolve_first rs how s)
 less_first [] how s = λ c. less_same (s.channels c)
@@ -123,8 +172,8 @@ less_holder : (p : Option Party) (how : ℕ → Resolution) (s : State) → AllL
 less_holder None how s = λ c. less_same (s.channels c)
 less_holder (Some p) how s = less_resolve p.wait (how p.clause) s
 
-less_queue : (c : ℕ) (os : List Standing) (s : State) → (stands_any os ≡ true → stands_any (s.channels c).queue ≡ true) → ((q : ℕ) → offers_up_to q os ≤ offers_up_to q (s.channels c).queue) → ((n : ℕ) → AllBefore n (s.channels c).queue → AllBefore n os) → AllLess s (with_queue c os s)
-less_queue c os s h u b = less_put s c (record (s.channels c) { queue = os }) (record { closed = refl; voided = refl; receivers = λ h. h; queue = h; next = refl; up_to = u; places = b })
+less_queue : (c : ℕ) (os : List Standing) (s : State) → (stands_any os ≡ true → stands_any (s.channels c).queue ≡ true) → ((q : ℕ) → offers_up_to q os ≤ offers_up_to q (s.channels c).queue) → ((n : ℕ) → AllBefore n (s.channels c).queue → AllBefore n os) → ((kind : Kind) (q m n : ℕ) → m ≤ n → owes_spurn_at kind q m os ≡ true → owes_spurn_at kind q n (s.channels c).queue ≡ true) → AllLess s (with_queue c os s)
+less_queue c os s h u b l = less_put s c (record (s.channels c) { queue = os }) (record { closed = refl; voided = refl; receivers = λ h. h; queue = h; next = refl; up_to = u; places = b; spurn = l })
 
 some_stands : (q : List Standing) (o : Standing) (os : List Standing) → q ≡ o ∷ os → stands_any q ≡ true
 some_stands q o os e = ap stands_any e
@@ -137,7 +186,7 @@ unfolding AllBefore
 rest_places qs o os n e h = let k : AllBefore n (o ∷ os) = subst (AllBefore n) e h in k.1
 
 less_rest : (c : ℕ) (o : Standing) (os : List Standing) (s : State) → (s.channels c).queue ≡ o ∷ os → AllLess s (with_queue c os s)
-less_rest c o os s e = less_queue c os s (λ h. some_stands (s.channels c).queue o os e) (λ q. rest_up_to (s.channels c).queue o os q e) (λ n h. rest_places (s.channels c).queue o os n e h)
+less_rest c o os s e = less_queue c os s (λ h. some_stands (s.channels c).queue o os e) (λ q. rest_up_to (s.channels c).queue o os q e) (λ n h. rest_places (s.channels c).queue o os n e h) (λ kind q m n h t. rest_owes (s.channels c).queue o os kind q m n e h t)
 
 less_offer : (c : ℕ) (q : List Standing) (how : ℕ → Resolution) (s : State) → (s.channels c).queue ≡ q → AllLess s (resolve_offer c q how s)
 less_offer c [] how s e = λ d. less_same (s.channels d)
@@ -162,8 +211,9 @@ is_lessening other = true
 pub less_after : (s : State) (who : ℕ) (act : Act) → is_lessening act ≡ true → AllLess s (after s who act)
 less_after s who (Hand c p v) h = less_first (s.channels c).receivers _ s
 less_after s who (Take c p v) h = less_offer c (s.channels c).queue _ s refl
-less_after s who (Admit c p) h = less_then s (with_queue c (admitted p (s.channels c).queue) s) (after s who (Admit c p)) (less_queue c (admitted p (s.channels c).queue) s (λ h. still_stand p (s.channels c).queue h) (λ q. admitted_up_to p q (s.channels c).queue) (λ n h. admitted_places p n (s.channels c).queue h)) (less_holder _ _ (with_queue c (admitted p (s.channels c).queue) s))
+less_after s who (Admit c p) h = less_then s (with_queue c (admitted p (s.channels c).queue) s) (after s who (Admit c p)) (less_queue c (admitted p (s.channels c).queue) s (λ h. still_stand p (s.channels c).queue h) (λ q. admitted_up_to p q (s.channels c).queue) (λ n h. admitted_places p n (s.channels c).queue h) (λ kind q m n h e. more_owes kind q m n (s.channels c).queue h (sym (admitted_owes p kind q m (s.channels c).queue) ∙ e))) (less_holder _ _ (with_queue c (admitted p (s.channels c).queue) s))
 less_after s who (Drop c p v) h = less_removed c (s.channels c).queue s refl
+less_after s who (Spurn c p v) h = less_queue c (spurned p (s.channels c).queue) s (λ h. fewer (is_elsewhere p) (s.channels c).queue h) (λ q. filtered_up_to (is_elsewhere p) q (s.channels c).queue) (λ n h. filtered_places (is_elsewhere p) n (s.channels c).queue h) (λ kind q m n h e. filtered_owes (is_elsewhere p) kind q m n (s.channels c).queue h e)
 less_after s who (Drain c p v) h = less_offer c (s.channels c).queue _ s refl
 less_after s who (WakeClosed c p) h = less_first (s.channels c).receivers _ s
 less_after s who (Withdraw w why) h = less_resolve w (resolved.Withdrawn why) s
@@ -236,6 +286,7 @@ close_raised shape s who c (Hand d p v) n f t = absurd (by_less (s.channels c) _
 close_raised shape s who c (Take d p v) n f t = absurd (by_less (s.channels c) _ (less_after s who (Take d p v) refl c) f t)
 close_raised shape s who c (Admit d p) n f t = absurd (by_less (s.channels c) _ (less_after s who (Admit d p) refl c) f t)
 close_raised shape s who c (Drop d p v) n f t = absurd (by_less (s.channels c) _ (less_after s who (Drop d p v) refl c) f t)
+close_raised shape s who c (Spurn d p v) n f t = absurd (by_less (s.channels c) _ (less_after s who (Spurn d p v) refl c) f t)
 close_raised shape s who c (Drain d p v) n f t = absurd (by_less (s.channels c) _ (less_after s who (Drain d p v) refl c) f t)
 close_raised shape s who c (WakeClosed d p) n f t = absurd (by_less (s.channels c) _ (less_after s who (WakeClosed d p) refl c) f t)
 close_raised shape s who c (Withdraw w why) n f t = absurd (by_less (s.channels c) _ (less_after s who (Withdraw w why) refl c) f t)
@@ -336,6 +387,7 @@ void_raised shape s who c (Hand d p v) fit n f t = absurd (queue_by_less (s.chan
 void_raised shape s who c (Take d p v) fit n f t = absurd (queue_by_less (s.channels c) _ (less_after s who (Take d p v) refl c) f t)
 void_raised shape s who c (Admit d p) fit n f t = absurd (queue_by_less (s.channels c) _ (less_after s who (Admit d p) refl c) f t)
 void_raised shape s who c (Drop d p v) fit n f t = absurd (queue_by_less (s.channels c) _ (less_after s who (Drop d p v) refl c) f t)
+void_raised shape s who c (Spurn d p v) fit n f t = absurd (queue_by_less (s.channels c) _ (less_after s who (Spurn d p v) refl c) f t)
 void_raised shape s who c (Drain d p v) fit n f t = absurd (queue_by_less (s.channels c) _ (less_after s who (Drain d p v) refl c) f t)
 void_raised shape s who c (WakeClosed d p) fit n f t = absurd (queue_by_less (s.channels c) _ (less_after s who (WakeClosed d p) refl c) f t)
 void_raised shape s who c (Withdraw w why) fit n f t = absurd (queue_by_less (s.channels c) _ (less_after s who (Withdraw w why) refl c) f t)

@@ -15,7 +15,7 @@ use Rattle.job_model.specs.declared.acts.JobAct.{JobAct}
 use Rattle.note_book.specs.declared.book.Item.{Item}
 use Rattle.note_book.specs.declared.book.Item.TheVariants as item
 use Rattle.call_meaning.specs.Telling.{Told, on_channels, on_jobs, PassedBelow, FailedUp, IsCancelling, NoneToAdmit, FitsUpTo, NoReceiver, NothingQueued, IsVoided, made, did, items_in}
-use Rattle.call_meaning.specs.ChannelCalls.{Call, sends, receives, channel_of, Answer, spent, blocked, placed, revoked, wait_at, Admits, Drops, Drains, Wakes, Closes, CancelsChannel, AtOnce, Refused, TryRefused, EndsAtOnce, PlainCall, TryCall, SelectCall, Places, AdmitsIn, Stops, GivesUp, offer_told}
+use Rattle.call_meaning.specs.ChannelCalls.{Call, sends, receives, channel_of, Answer, spent, blocked, placed, revoked, wait_at, Admits, Drops, Spurns, Overflows, Drains, Wakes, Closes, CancelsChannel, AtOnce, Refused, TryRefused, EndsAtOnce, PlainCall, TryCall, SelectCall, Places, AdmitsIn, Stops, GivesUp, offer_told}
 use Rattle.call_meaning.specs.JobCalls.{NotAttached, Starts, Passes, Breaks, Chain, EndsBody, BreaksOff}
 use Rattle.job_model.specs.Cancels.{own_cancel}
 use Rattle.script_grammar.specs.declared.instructions.Instruction.{Instruction}
@@ -96,6 +96,14 @@ module _ (base : ℕ) where
   unfolding items_in
   drops_none c q group h = ap (asks_in base) h.all ∙ neither (map (λ d. made (Drop c d.0 d.1)) h.dropped) (on_channels (FitsUpTo c q) ∷ []) (none_made (λ d. Drop c d.0 d.1) h.dropped (λ d. refl)) refl
 
+  spurns_none : (c q : ℕ) (group : List Told) → Spurns c q group → asks_in base group ≡ false
+  unfolding items_in
+  spurns_none c q _ (Spurns.gone v) = refl
+  spurns_none c q _ Spurns.stays = refl
+
+  overflows_none : (c q : ℕ) (group : List Told) → Overflows c q group → asks_in base group ≡ false
+  overflows_none c q group h = ap (asks_in base) h.all ∙ neither h.drops h.spurns (drops_none c q h.drops h.dropped) (spurns_none c q h.spurns h.spurned)
+
   drains_none : (c : ℕ) (group : List Told) → Drains c group → asks_in base group ≡ false
   unfolding items_in
   drains_none c group h = ap (asks_in base) h.all ∙ neither (map (λ d. made (Drain c d.0 d.1)) h.drained) (on_channels (NothingQueued c) ∷ on_channels (IsVoided c) ∷ []) (none_made (λ d. Drain c d.0 d.1) h.drained (λ d. refl)) refl
@@ -117,7 +125,7 @@ module _ (base : ℕ) where
   at_once_none : (call : Call) (group : List Told) (a : Answer) → IsLow base call → AtOnce call group a → asks_in base group ≡ false
   unfolding items_in
   at_once_none _ _ _ low (AtOnce.hands c v q) = none_of (nat_le base c) low
-  at_once_none _ _ _ low (AtOnce.puts c v q drops h) = or_from (nat_le base c) (asks_in base drops) low (drops_none c q drops h)
+  at_once_none _ _ _ low (AtOnce.puts c v q more h) = or_from (nat_le base c) (asks_in base more) low (overflows_none c q more h)
   at_once_none _ _ _ low (AtOnce.takes c v q admits h) = admits_none c admits h
 
   pub refused_none : (call : Call) (told : Told) (a : Answer) → Refused call told a → asks_in base (told ∷ []) ≡ false

@@ -6,7 +6,7 @@ use Rattle.std.proofs.lemmas.Bool.{or_from, or_parts}
 use Rattle.std.proofs.lemmas.Bool.Decides.{nat_tests}
 use Rattle.std.proofs.lemmas.List.Folds.{list_any-append}
 use Rattle.channel_model.specs.declared.acts.Act.{Act}
-use Rattle.channel_model.specs.declared.acts.Act.TheVariants.{Hand, Put, Offer, Await, Take, Admit, Drop, Close, Void, Drain, WakeClosed, Withdraw, Settle}
+use Rattle.channel_model.specs.declared.acts.Act.TheVariants.{Hand, Put, Offer, Await, Take, Admit, Drop, Spurn, Close, Void, Drain, WakeClosed, Withdraw, Settle}
 use Rattle.channel_model.specs.declared.acts.Settled.TheVariants as settled
 use Rattle.channel_model.specs.declared.acts.ChannelNote.TheVariants as of_channel
 use Rattle.job_model.specs.declared.acts.JobAct.{JobAct}
@@ -132,6 +132,7 @@ act_place base c (Await d q w n) le e = grind (arith, nat_tests)
 act_place base c (Take d q v) le e = refl
 act_place base c (Admit d q) le e = refl
 act_place base c (Drop d q v) le e = refl
+act_place base c (Spurn d q v) le e = refl
 act_place base c (Close d v) le e = refl
 act_place base c (Void d) le e = refl
 act_place base c (Drain d q v) le e = refl

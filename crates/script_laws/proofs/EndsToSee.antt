@@ -79,7 +79,7 @@ receive_waits _ c _ _ w (PlainCall.at_once call group a h) e f = absurd (no_wait
   where
     no_wait : (call : Call) (group : List Told) (a : Answer) → AtOnce call group a → a ≡ Waits w → ⊥
     no_wait _ _ _ (AtOnce.hands d v q) f = cc
-    no_wait _ _ _ (AtOnce.puts d v q drops i) f = cc
+    no_wait _ _ _ (AtOnce.puts d v q more i) f = cc
     no_wait _ _ _ (AtOnce.takes d v q admits i) f = cc
 receive_waits _ c _ _ w (PlainCall.refused call told a h) e f = absurd (no_wait call told a h f)
   where
@@ -99,7 +99,7 @@ receive_closed _ c _ _ v (PlainCall.at_once call group a h) e f = absurd (not_cl
   where
     not_closed : (call : Call) (group : List Told) (a : Answer) → AtOnce call group a → a ≡ Closed v → ⊥
     not_closed _ _ _ (AtOnce.hands d u q) f = cc
-    not_closed _ _ _ (AtOnce.puts d u q drops i) f = cc
+    not_closed _ _ _ (AtOnce.puts d u q more i) f = cc
     not_closed _ _ _ (AtOnce.takes d u q admits i) f = cc
 receive_closed _ c _ _ v (PlainCall.refused call told a h) e f = met call told a h e f
   where

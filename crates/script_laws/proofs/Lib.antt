@@ -6,6 +6,7 @@ pub mod TreesAtRest
 pub mod ChannelDebts
 pub mod ClosedChannels
 pub mod QueuesFit
+pub mod OversSpurned
 pub mod OffersAdmitted
 pub mod RoomRaised
 pub mod NothingOwed

@@ -6,7 +6,7 @@ use Rattle.std.proofs.Common.{sym, ap, ◌∙◌, subst, inl, inr, ⊎_elim, ari
 use Rattle.std.proofs.lemmas.Bool.{eqb-true, eq-eqb, or_right}
 use Rattle.co_base.specs.declared.names.WaitId.{WaitId}
 use Rattle.channel_model.specs.declared.acts.Act.{Act}
-use Rattle.channel_model.specs.declared.acts.Act.TheVariants.{Hand, Put, Offer, Await, Take, Admit, Drop, Close, Void, Drain, WakeClosed, Withdraw, Settle}
+use Rattle.channel_model.specs.declared.acts.Act.TheVariants.{Hand, Put, Offer, Await, Take, Admit, Drop, Spurn, Close, Void, Drain, WakeClosed, Withdraw, Settle}
 use Rattle.channel_model.specs.declared.acts.Entry.{Entry}
 use Rattle.channel_model.specs.declared.acts.Settled.{Settled}
 use Rattle.channel_model.specs.declared.acts.Settled.TheVariants as settled
@@ -74,6 +74,7 @@ act_next c s who (Await d p w k) = put_or c d _ s
 act_next c s who (Take d p v) = inl (offer_next c d (s.channels d).queue _ s)
 act_next c s who (Admit d p) = inl (holder_next c (holder_at p (s.channels d).queue) _ (with_queue d (admitted p (s.channels d).queue) s) ∙ queue_next c d (admitted p (s.channels d).queue) s)
 act_next c s who (Drop d p v) = inl (removed_next c d (s.channels d).queue s)
+act_next c s who (Spurn d p v) = inl (queue_next c d _ s)
 act_next c s who (Close d v) = inl (put_next c d _ s refl)
 act_next c s who (Void d) = inl (put_next c d _ s refl)
 act_next c s who (Drain d p v) = inl (offer_next c d (s.channels d).queue _ s)
@@ -252,6 +253,7 @@ ones_step shape c s who (Await d p u k) good n plain h = λ w e. named_clause c 
 ones_step shape c s who (Take d p v) good n plain h = λ w e. offer_clause c d _ (s.channels d).queue _ s w (closed_step shape s who (Take d p v) c n) (λ k. refl) h e
 ones_step shape c s who (Admit d p) good n plain h = λ w e. holder_clause c _ (holder_at p (s.channels d).queue) _ (with_queue d (admitted p (s.channels d).queue) s) w (is_some (s.channels c).closed) (closed_step shape s who (Admit d p) c n) (λ k. refl) h e
 ones_step shape c s who (Drop d p v) good n plain h = λ w e. removed_clause c d _ (s.channels d).queue s w (closed_step shape s who (Drop d p v) c n) h e
+ones_step shape c s who (Spurn d p v) good n plain h = λ w e. same_clause c (is_some (s.channels c).closed) _ (s.waits w) (closed_step shape s who (Spurn d p v) c n) (h w e)
 ones_step shape c s who (Close d v) good n plain h = λ w e. same_clause c (is_some (s.channels c).closed) _ (s.waits w) (closed_step shape s who (Close d v) c n) (h w e)
 ones_step shape c s who (Void d) good n plain h = λ w e. same_clause c (is_some (s.channels c).closed) _ (s.waits w) (closed_step shape s who (Void d) c n) (h w e)
 ones_step shape c s who (Drain d p v) good n plain h = λ w e. offer_clause c d _ (s.channels d).queue _ s w (closed_step shape s who (Drain d p v) c n) (λ k. refl) h e
@@ -290,6 +292,7 @@ settles_there c s who (Await d p w k) shape need h e = cc
 settles_there c s who (Take d p v) shape need h e = cc
 settles_there c s who (Admit d p) shape need h e = cc
 settles_there c s who (Drop d p v) shape need h e = cc
+settles_there c s who (Spurn d p v) shape need h e = cc
 settles_there c s who (Close d v) shape need h e = cc
 settles_there c s who (Void d) shape need h e = cc
 settles_there c s who (Drain d p v) shape need h e = cc

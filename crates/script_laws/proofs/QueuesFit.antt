@@ -4,10 +4,10 @@ use Rattle.std.specs.Prelude.{◌==◌, ◌+◌, nat_le, nat_lt}
 use Rattle.std.proofs.lemmas.Bool.{eqb-true}
 use Rattle.std.proofs.lemmas.Bool.Decides.{nat_tests}
 use Rattle.channel_model.specs.declared.acts.Act.{Act}
-use Rattle.channel_model.specs.declared.acts.Act.TheVariants.{Hand, Put, Offer, Await, Take, Admit, Drop, Close, Void, Drain, WakeClosed, Withdraw, Settle}
+use Rattle.channel_model.specs.declared.acts.Act.TheVariants.{Hand, Put, Offer, Await, Take, Admit, Drop, Spurn, Close, Void, Drain, WakeClosed, Withdraw, Settle}
 use Rattle.channel_model.specs.declared.acts.Entry.{Entry}
 use Rattle.channel_model.specs.declared.acts.Kind.{Kind}
-use Rattle.channel_model.specs.declared.acts.Kind.TheVariants.{Rendezvous, Buffered, Unlimited, Conflated, DropOldest, Signal}
+use Rattle.channel_model.specs.declared.acts.Kind.TheVariants.{Rendezvous, Buffered, Unlimited, Conflated, DropOldest, DropLatest, Signal}
 use Rattle.channel_model.specs.declared.standing.Standing.{Standing}
 use Rattle.channel_model.specs.Channels.{Shape, State, Channel, kind_at, drops, suspends}
 use Rattle.channel_model.specs.Effects.{after, is_open, place_offer, place_receiver}
@@ -66,6 +66,7 @@ fewer_drop (Buffered k) m n h d = cc
 fewer_drop Unlimited m n h d = cc
 fewer_drop Conflated m n h d = grind (arith, nat_tests)
 fewer_drop (DropOldest k) m n h d = grind (arith, nat_tests)
+fewer_drop (DropLatest k) m n h d = cc
 fewer_drop Signal m n h d = cc
 
 none_drops : (kind : Kind) → drops kind 0 ≡ true → ⊥
@@ -74,6 +75,7 @@ none_drops (Buffered k) d = cc
 none_drops Unlimited d = cc
 none_drops Conflated d = cc
 none_drops (DropOldest k) d = grind (arith, nat_tests)
+none_drops (DropLatest k) d = cc
 none_drops Signal d = cc
 
 waiting_keeps : (kind : Kind) (n : ℕ) → suspends kind ≡ true → drops kind n ≡ true → ⊥
@@ -82,6 +84,7 @@ waiting_keeps (Buffered k) n s d = cc
 waiting_keeps Unlimited n s d = cc
 waiting_keeps Conflated n s d = cc
 waiting_keeps (DropOldest k) n s d = cc
+waiting_keeps (DropLatest k) n s d = cc
 waiting_keeps Signal n s d = cc
 
 -- ---- which act raises it
@@ -154,6 +157,7 @@ drop_raised shape s who c q (Hand d p v) n f t = absurd (drop_by_less (kind_at s
 drop_raised shape s who c q (Take d p v) n f t = absurd (drop_by_less (kind_at shape c) q (s.channels c) _ (less_after s who (Take d p v) refl c) f t)
 drop_raised shape s who c q (Admit d p) n f t = absurd (drop_by_less (kind_at shape c) q (s.channels c) _ (less_after s who (Admit d p) refl c) f t)
 drop_raised shape s who c q (Drop d p v) n f t = absurd (drop_by_less (kind_at shape c) q (s.channels c) _ (less_after s who (Drop d p v) refl c) f t)
+drop_raised shape s who c q (Spurn d p v) n f t = absurd (drop_by_less (kind_at shape c) q (s.channels c) _ (less_after s who (Spurn d p v) refl c) f t)
 drop_raised shape s who c q (Drain d p v) n f t = absurd (drop_by_less (kind_at shape c) q (s.channels c) _ (less_after s who (Drain d p v) refl c) f t)
 drop_raised shape s who c q (WakeClosed d p) n f t = absurd (drop_by_less (kind_at shape c) q (s.channels c) _ (less_after s who (WakeClosed d p) refl c) f t)
 drop_raised shape s who c q (Withdraw w why) n f t = absurd (drop_by_less (kind_at shape c) q (s.channels c) _ (less_after s who (Withdraw w why) refl c) f t)
@@ -164,7 +168,7 @@ no_drop true b h = h
 no_drop false b h = refl
 
 drop_pays : (shape : Shape) (channels : List Entry) (c q k : ℕ) (act : Act) (before : List Entry) (ys : List Told) → BehindOf shape k channels before act ys → IsPutAt c q act → Follows act ys → CallPaidAt shape k (λ s. owes_drop (kind_at shape c) q (s.channels c)) (IsPutAt c q) channels (part who_did deed k before ++ act ∷ [])
-drop_pays shape channels c q k (Put d r v) before ys b e f = by_fact shape channels (λ s. owes_drop (kind_at shape c) q (s.channels c)) (IsPutAt c q) k (FitsUpTo d r) (λ s h. no_drop (nat_lt q (s.channels c).next) _ (subst (λ u. drops (kind_at shape c) (offers_up_to u (s.channels c).queue) ≡ false) e.1 (subst (λ u. drops (kind_at shape u) (offers_up_to r (s.channels u).queue) ≡ false) e.0 h))) before (Put d r v) ys b f
+drop_pays shape channels c q k (Put d r v) before ys b e f = by_fact shape channels (λ s. owes_drop (kind_at shape c) q (s.channels c)) (IsPutAt c q) k (FitsUpTo d r) (λ s h. no_drop (nat_lt q (s.channels c).next) _ (subst (λ u. drops (kind_at shape c) (offers_up_to u (s.channels c).queue) ≡ false) e.1 (subst (λ u. drops (kind_at shape u) (offers_up_to r (s.channels u).queue) ≡ false) e.0 h))) before (Put d r v) ys b f.0
 drop_pays shape channels c q k other before ys b e f = absurd e
 
 drops_none : (kind : Kind) → drops kind 0 ≡ false

@@ -6,17 +6,17 @@ use Rattle.std.proofs.lemmas.Bool.{eqb-true, or_right}
 use Rattle.std.proofs.lemmas.Bool.Decides.{nat_tests}
 use Rattle.co_base.specs.declared.names.WaitId.{WaitId}
 use Rattle.channel_model.specs.declared.acts.Act.{Act}
-use Rattle.channel_model.specs.declared.acts.Act.TheVariants.{Hand, Put, Offer, Await, Take, Admit, Drop, Close, Void, Drain, WakeClosed, Withdraw, Settle}
+use Rattle.channel_model.specs.declared.acts.Act.TheVariants.{Hand, Put, Offer, Await, Take, Admit, Drop, Spurn, Close, Void, Drain, WakeClosed, Withdraw, Settle}
 use Rattle.channel_model.specs.declared.acts.Entry.{Entry}
 use Rattle.channel_model.specs.declared.acts.Kind.{Kind}
-use Rattle.channel_model.specs.declared.acts.Kind.TheVariants.{Rendezvous, Buffered, Unlimited, Conflated, DropOldest, Signal}
+use Rattle.channel_model.specs.declared.acts.Kind.TheVariants.{Rendezvous, Buffered, Unlimited, Conflated, DropOldest, DropLatest, Signal}
 use Rattle.channel_model.specs.declared.standing.Party.{Party}
 use Rattle.channel_model.specs.declared.standing.Standing.{Standing}
 use Rattle.channel_model.specs.declared.standing.Receiver.{Receiver}
 use Rattle.channel_model.specs.declared.standing.Resolution.{Resolution}
 use Rattle.channel_model.specs.declared.standing.Resolution.TheVariants as resolved
-use Rattle.channel_model.specs.Channels.{Shape, State, Channel, kind_at, is_full, suspends, drops}
-use Rattle.channel_model.specs.Effects.{after, is_open, is_held_by, admitted, place_offer, place_receiver, put_channel, resolve_first, resolve_holder, with_queue, remove_first, resolve_offer}
+use Rattle.channel_model.specs.Channels.{Shape, State, Channel, kind_at, is_full, suspends, drops, spurns}
+use Rattle.channel_model.specs.Effects.{after, is_open, is_elsewhere, spurned, is_held_by, admitted, place_offer, place_receiver, put_channel, resolve_first, resolve_holder, with_queue, remove_first, resolve_offer}
 use Rattle.channel_model.specs.Needs.{Needs}
 use Rattle.channel_model.specs.Histories.{replay, Legal}
 use Rattle.channel_model.specs.Laws.{Ascends as ChannelAscends}
@@ -43,6 +43,7 @@ one_full (Buffered k) n h = grind (arith, nat_tests)
 one_full Unlimited n h = refl
 one_full Conflated n h = refl
 one_full (DropOldest k) n h = refl
+one_full (DropLatest k) n h = refl
 one_full Signal n h = cc
 
 -- where some offer below the mark has room, there is room at the front, and the front is below the mark
@@ -371,7 +372,33 @@ dropping (Buffered k) n d = cc
 dropping Unlimited n d = cc
 dropping Conflated n d = refl
 dropping (DropOldest k) n d = refl
+dropping (DropLatest k) n d = cc
 dropping Signal n d = cc
+
+spurning : (kind : Kind) (n : ℕ) → spurns kind n ≡ true → suspends kind ≡ false
+spurning Rendezvous n d = cc
+spurning (Buffered k) n d = cc
+spurning Unlimited n d = cc
+spurning Conflated n d = cc
+spurning (DropOldest k) n d = cc
+spurning (DropLatest k) n d = refl
+spurning Signal n d = cc
+
+filtered_none : (test : Standing → Bool) (os : List Standing) → NoneHeld os → NoneHeld (filter test os)
+unfolding NoneHeld
+filtered_none test [] h = tt
+filtered_none test (o ∷ os) h = at (filtered_none test os h.1) (test o)
+  where
+    at : NoneHeld (filter test os) → (b : Bool) → NoneHeld (if b then o ∷ filter test os else filter test os)
+    at k true = (h.0, k)
+    at k false = k
+
+spurned_room : (shape : Shape) (s : State) (c q d p : ℕ) → NoneHeld (s.channels d).queue → owes_admit (kind_at shape c) q (s.channels c) ≡ false → owes_admit (kind_at shape c) q ((with_queue d (spurned p (s.channels d).queue) s).channels c) ≡ true → ⊥
+spurned_room shape s c q d p n f t =
+    let ch = record (s.channels d) { queue = spurned p (s.channels d).queue } in
+    by_channel ⊥ d c
+    (λ k. contrary (owes_admit (kind_at shape c) q (s.channels c)) (at_other shape s c q d ch k t) f)
+    (λ k. none_room (kind_at shape c) q ch (filtered_none (is_elsewhere p) (s.channels d).queue n) (at_same shape s c q d ch k t))
 
 rest_none : (o : Standing) (os : List Standing) → NoneHeld (o ∷ os) → NoneHeld os
 unfolding NoneHeld
@@ -406,6 +433,7 @@ room_raised shape s who c q (Admit d r) p h n f t = absurd (contrary (owes_admit
 room_raised shape s who c q (Take d r v) p h n f t = by_channel (d ≡ c) d c (λ k. absurd (elsewhere shape s c q d (s.channels d).queue resolved.Taken h k f t)) (λ k. k)
 room_raised shape s who c q (Drain d r v) p h n f t = by_channel (d ≡ c) d c (λ k. absurd (elsewhere shape s c q d (s.channels d).queue (λ i. resolved.Voided) h k f t)) (λ k. k)
 room_raised shape s who c q (Drop d r v) p h n f t = absurd (removed_room shape s c q d (s.channels d).queue refl ((h d).none (dropping (kind_at shape d) (length (s.channels d).queue) n.1)) f t)
+room_raised shape s who c q (Spurn d r v) p h n f t = absurd (spurned_room shape s c q d r ((h d).none (spurning (kind_at shape d) (s.stood d r) n.1)) f t)
 room_raised shape s who c q (Settle w outcome) p h n f t = absurd (contrary (owes_admit (kind_at shape c) q (s.channels c)) t f)
 
 pub admit_is_raised : AdmitIsRaised

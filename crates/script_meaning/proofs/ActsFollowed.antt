@@ -2,15 +2,15 @@
 use Rattle.std.proofs.Common.{◌≡◌, ℕ, Bool, true, false, List, [], ◌∷◌, ◌++◌, refl, ap, sym, ◌∙◌, subst, inl, inr, ◌⊎◌, ⊎_elim, append_assoc, Option, Some, None}
 use Rattle.std.specs.Prelude.{map, ◌+◌}
 use Rattle.channel_model.specs.declared.acts.Act.{Act}
-use Rattle.channel_model.specs.declared.acts.Act.TheVariants.{Hand, Put, Offer, Await, Take, Admit, Drop, Close, Void, Drain, WakeClosed, Withdraw, Settle}
+use Rattle.channel_model.specs.declared.acts.Act.TheVariants.{Hand, Put, Offer, Await, Take, Admit, Drop, Spurn, Close, Void, Drain, WakeClosed, Withdraw, Settle}
 use Rattle.channel_model.specs.declared.acts.ChannelNote.{ChannelNote}
 use Rattle.channel_model.specs.declared.acts.ChannelNote.TheVariants as of_channel
 use Rattle.job_model.specs.declared.acts.JobAct.{JobAct}
 use Rattle.job_model.specs.Cancels.{own_cancel}
 use Rattle.note_book.specs.declared.book.Item.{Item}
 use Rattle.note_book.specs.declared.book.Item.TheVariants as item
-use Rattle.call_meaning.specs.Telling.{Told, note, on_channels, on_jobs, NextIs, NoneToAdmit, FitsUpTo, NoReceiver, NothingQueued, IsVoided, did, made, heard}
-use Rattle.call_meaning.specs.ChannelCalls.{Call, sends, receives, Answer, PlainCall, TryCall, SelectCall, Admits, Drops, Wakes, Drains, Closes, CancelsChannel, AtOnce, Refused, TryRefused, blocked, spent, EndsAtOnce, Places, AdmitsIn, GivesUp, Stops, wait_at, revoked}
+use Rattle.call_meaning.specs.Telling.{Told, note, on_channels, on_jobs, NextIs, NoneToAdmit, FitsUpTo, StandsWithRoom, NoReceiver, NothingQueued, IsVoided, did, made, heard}
+use Rattle.call_meaning.specs.ChannelCalls.{Call, sends, receives, Answer, PlainCall, TryCall, SelectCall, Admits, Drops, Spurns, Overflows, Wakes, Drains, Closes, CancelsChannel, AtOnce, Refused, TryRefused, blocked, spent, EndsAtOnce, Places, AdmitsIn, GivesUp, Stops, wait_at, revoked}
 use Rattle.call_meaning.specs.JobCalls.{NotAttached, Starts, Passes, Breaks, Chain, EndsBody, BreaksOff}
 use Rattle.script_grammar.specs.Programs.{Program}
 use Rattle.script_grammar.specs.Tags.{spawned}
@@ -53,6 +53,7 @@ is_plain (Await c q w n) = true
 is_plain (Take c q v) = false
 is_plain (Admit c q) = true
 is_plain (Drop c q v) = false
+is_plain (Spurn c q v) = true
 is_plain (Close c v) = false
 is_plain (Void c) = false
 is_plain (Drain c q v) = false
@@ -106,8 +107,12 @@ unfolding HasAdmits
 admits_left c [] ys h = absurd h
 admits_left c (x ∷ xs) ys h = ⊎_elim (λ (a : (m : ℕ) × (x ≡ on_channels (NextIs c m)) × Exists (IsTold (on_channels (NoneToAdmit c m))) xs). inl (a.0, a.1, exists_left (IsTold (on_channels (NoneToAdmit c a.0))) xs ys a.2)) (λ (b : HasAdmits c xs). inr (admits_left c xs ys b)) h
 
+-- the element that was put at this place was found to fit before it, or is gone
+abbrev pub IsSpurned : ℕ → ℕ → Told → Type 0
+IsSpurned c q t = (t ≡ on_channels (StandsWithRoom c q)) ⊎ ((v : ℕ) × (t ≡ made (Spurn c q v)))
+
 abbrev pub Follows : Act → List Told → Type 0
-Follows (Put c q v) ts = Exists (IsTold (on_channels (FitsUpTo c q))) ts
+Follows (Put c q v) ts = Exists (IsTold (on_channels (FitsUpTo c q))) ts × Exists (IsSpurned c q) ts
 Follows (Offer c q v w n) ts = HasAdmits c ts
 Follows (Take c q v) ts = HasAdmits c ts
 Follows (Close c v) ts = Exists (IsTold (on_channels (NoReceiver c))) ts
@@ -117,6 +122,7 @@ Follows (Hand c q v) ts = Unit {0}
 Follows (Await c q w n) ts = Unit {0}
 Follows (Admit c q) ts = Unit {0}
 Follows (Drop c q v) ts = Unit {0}
+Follows (Spurn c q v) ts = Unit {0}
 Follows (WakeClosed c q) ts = Unit {0}
 Follows (Withdraw w why) ts = Unit {0}
 Follows (Settle w outcome) ts = Unit {0}
@@ -130,7 +136,7 @@ AllFollowed [] = Unit {0}
 AllFollowed (t ∷ ts) = IsFollowed (call_told t) ts × AllFollowed ts
 
 follows_left : (a : Act) (xs ys : List Told) → Follows a xs → Follows a (xs ++ ys)
-follows_left (Put c q v) xs ys h = exists_left (IsTold (on_channels (FitsUpTo c q))) xs ys h
+follows_left (Put c q v) xs ys h = (exists_left (IsTold (on_channels (FitsUpTo c q))) xs ys h.0, exists_left (IsSpurned c q) xs ys h.1)
 follows_left (Offer c q v w n) xs ys h = admits_left c xs ys h
 follows_left (Take c q v) xs ys h = admits_left c xs ys h
 follows_left (Close c v) xs ys h = exists_left (IsTold (on_channels (NoReceiver c))) xs ys h
@@ -140,6 +146,7 @@ follows_left (Hand c q v) xs ys h = tt
 follows_left (Await c q w n) xs ys h = tt
 follows_left (Admit c q) xs ys h = tt
 follows_left (Drop c q v) xs ys h = tt
+follows_left (Spurn c q v) xs ys h = tt
 follows_left (WakeClosed c q) xs ys h = tt
 follows_left (Withdraw w why) xs ys h = tt
 follows_left (Settle w outcome) xs ys h = tt
@@ -164,6 +171,7 @@ plain_followed (Hand c q v) ts h = tt
 plain_followed (Await c q w n) ts h = tt
 plain_followed (Admit c q) ts h = tt
 plain_followed (Drop c q v) ts h = tt
+plain_followed (Spurn c q v) ts h = tt
 plain_followed (WakeClosed c q) ts h = tt
 plain_followed (Withdraw w why) ts h = tt
 plain_followed (Settle w outcome) ts h = tt
@@ -210,6 +218,22 @@ drops_followed c q g h = subst AllFollowed (sym h.all) (all h.dropped)
 drops_has : (c q : ℕ) (g : List Told) → Drops c q g → Exists (IsTold (on_channels (FitsUpTo c q))) g
 drops_has c q g h = subst (Exists (IsTold (on_channels (FitsUpTo c q)))) (sym h.all) (last_of _ (map (λ d. made (Drop c d.0 d.1)) h.dropped))
 
+spurns_followed : (c q : ℕ) (g : List Told) → Spurns c q g → AllFollowed g
+spurns_followed c q _ (Spurns.gone v) = lone _ refl
+spurns_followed c q _ Spurns.stays = lone _ refl
+
+spurns_has : (c q : ℕ) (g : List Told) → Spurns c q g → Exists (IsSpurned c q) g
+spurns_has c q _ (Spurns.gone v) = exists_first (IsSpurned c q) _ [] (inr (v, refl))
+spurns_has c q _ Spurns.stays = exists_first (IsSpurned c q) _ [] (inl refl)
+
+overflows_followed : (c q : ℕ) (g : List Told) → Overflows c q g → AllFollowed g
+overflows_followed c q g h = subst AllFollowed (sym h.all) (followed_then h.drops h.spurns (drops_followed c q h.drops h.dropped) (spurns_followed c q h.spurns h.spurned))
+
+overflows_has : (c q v : ℕ) (g : List Told) → Overflows c q g → Follows (Put c q v) g
+overflows_has c q v g h =
+    subst (Follows (Put c q v)) (sym h.all)
+    (exists_left (IsTold (on_channels (FitsUpTo c q))) h.drops h.spurns (drops_has c q h.drops h.dropped), exists_right (IsSpurned c q) h.drops h.spurns (spurns_has c q h.spurns h.spurned))
+
 wakes_followed : (c : ℕ) (g : List Told) → Wakes c g → AllFollowed g
 wakes_followed c g h = subst AllFollowed (sym h.all) (quiet_followed _ (quiet_then (map (λ q. made (WakeClosed c q)) h.places) _ (quiet_map (λ q. made (WakeClosed c q)) h.places (λ q. refl)) (one _ refl)))
 
@@ -236,7 +260,7 @@ cancels_followed c g (CancelsChannel.before closes drains _ a d e) = subst AllFo
 
 at_once_followed : (call : Call) (g : List Told) (a : Answer) → AtOnce call g a → AllFollowed g
 at_once_followed _ _ _ (AtOnce.hands c v q) = lone _ refl
-at_once_followed _ _ _ (AtOnce.puts c v q drops d) = front _ drops (drops_has c q drops d) (drops_followed c q drops d)
+at_once_followed _ _ _ (AtOnce.puts c v q more d) = front _ more (overflows_has c q v more d) (overflows_followed c q more d)
 at_once_followed _ _ _ (AtOnce.takes c v q admits d) = front _ admits (admits_has c admits d) (admits_quiet c admits d)
 
 refused_still : (call : Call) (t : Told) (a : Answer) → Refused call t a → is_still (call_told t) ≡ true

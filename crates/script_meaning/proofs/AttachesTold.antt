@@ -16,7 +16,7 @@ use Rattle.job_model.specs.Cancels.{own_cancel}
 use Rattle.note_book.specs.declared.book.Item.{Item}
 use Rattle.note_book.specs.declared.book.Item.TheVariants as item
 use Rattle.call_meaning.specs.Telling.{Told, on_channels, on_jobs, PassedBelow, FailedUp, IsCancelling, NoneToAdmit, FitsUpTo, NoReceiver, NothingQueued, IsVoided, ParentIs, made, did, items_in}
-use Rattle.call_meaning.specs.ChannelCalls.{Call, sends, receives, Answer, spent, blocked, placed, revoked, wait_at, Admits, Drops, Drains, Wakes, Closes, CancelsChannel, AtOnce, Refused, TryRefused, EndsAtOnce, PlainCall, TryCall, SelectCall, Places, AdmitsIn, Stops, GivesUp, offer_told}
+use Rattle.call_meaning.specs.ChannelCalls.{Call, sends, receives, Answer, spent, blocked, placed, revoked, wait_at, Admits, Drops, Spurns, Overflows, Drains, Wakes, Closes, CancelsChannel, AtOnce, Refused, TryRefused, EndsAtOnce, PlainCall, TryCall, SelectCall, Places, AdmitsIn, Stops, GivesUp, offer_told}
 use Rattle.call_meaning.specs.JobCalls.{Starts, Passes, Breaks, reason_for, Chain, EndsBody, BreaksOff}
 use Rattle.script_grammar.specs.Programs.{Program}
 use Rattle.script_meaning.specs.Configs.{Config}
@@ -66,6 +66,14 @@ drops_none : (c q : ℕ) (group : List Told) → Drops c q group → attach_in g
 unfolding items_in
 drops_none c q group h = ap attach_in h.all ∙ neither (map (λ d. made (Drop c d.0 d.1)) h.dropped) (on_channels (FitsUpTo c q) ∷ []) (none_made (λ d. Drop c d.0 d.1) h.dropped) refl
 
+spurns_none : (c q : ℕ) (group : List Told) → Spurns c q group → attach_in group ≡ false
+unfolding items_in
+spurns_none c q _ (Spurns.gone v) = refl
+spurns_none c q _ Spurns.stays = refl
+
+overflows_none : (c q : ℕ) (group : List Told) → Overflows c q group → attach_in group ≡ false
+overflows_none c q group h = ap attach_in h.all ∙ neither h.drops h.spurns (drops_none c q h.drops h.dropped) (spurns_none c q h.spurns h.spurned)
+
 drains_none : (c : ℕ) (group : List Told) → Drains c group → attach_in group ≡ false
 unfolding items_in
 drains_none c group h = ap attach_in h.all ∙ neither (map (λ d. made (Drain c d.0 d.1)) h.drained) (on_channels (NothingQueued c) ∷ on_channels (IsVoided c) ∷ []) (none_made (λ d. Drain c d.0 d.1) h.drained) refl
@@ -87,7 +95,7 @@ cancels_channel_none c group (CancelsChannel.before closes drains _ h d e) = ap 
 at_once_none : (call : Call) (group : List Told) (a : Answer) → AtOnce call group a → attach_in group ≡ false
 unfolding items_in
 at_once_none _ _ _ (AtOnce.hands c v q) = refl
-at_once_none _ _ _ (AtOnce.puts c v q drops h) = drops_none c q drops h
+at_once_none _ _ _ (AtOnce.puts c v q more h) = overflows_none c q more h
 at_once_none _ _ _ (AtOnce.takes c v q admits h) = admits_none c admits h
 
 refused_none : (call : Call) (told : Told) (a : Answer) → Refused call told a → attach_in (told ∷ []) ≡ false

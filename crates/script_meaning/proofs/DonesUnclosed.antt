@@ -5,7 +5,7 @@ use Rattle.std.proofs.Common.{ap, ◌∙◌, arith}
 use Rattle.std.proofs.lemmas.Bool.{eqb-true}
 use Rattle.std.proofs.lemmas.Bool.Decides.{nat_tests}
 use Rattle.channel_model.specs.declared.acts.Act.{Act}
-use Rattle.channel_model.specs.declared.acts.Act.TheVariants.{Hand, Put, Offer, Await, Take, Admit, Drop, Close, Void, Drain, WakeClosed, Withdraw, Settle}
+use Rattle.channel_model.specs.declared.acts.Act.TheVariants.{Hand, Put, Offer, Await, Take, Admit, Drop, Spurn, Close, Void, Drain, WakeClosed, Withdraw, Settle}
 use Rattle.channel_model.specs.declared.standing.Party.{Party}
 use Rattle.channel_model.specs.declared.standing.Standing.{Standing}
 use Rattle.channel_model.specs.declared.standing.Receiver.{Receiver}
@@ -66,6 +66,7 @@ closed_same base s who (Await c p w k) d le e = put_closed c d _ s (placed_recei
 closed_same base s who (Take c p v) d le e = offer_closed c d (s.channels c).queue _ s
 closed_same base s who (Admit c p) d le e = holder_closed _ _ (with_queue c _ s) d ∙ queue_closed c d _ s
 closed_same base s who (Drop c p v) d le e = removed_closed c d (s.channels c).queue s
+closed_same base s who (Spurn c p v) d le e = queue_closed c d _ s
 closed_same base s who (Close c v) d le e = other_closed c d _ s (apart base c d e le)
 closed_same base s who (Void c) d le e = put_closed c d (record (s.channels c) { voided = true }) s refl
 closed_same base s who (Drain c p v) d le e = offer_closed c d (s.channels c).queue _ s

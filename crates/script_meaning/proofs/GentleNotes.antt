@@ -4,7 +4,7 @@ use Rattle.std.specs.List.{list_any, list_all}
 use Rattle.std.proofs.Common.{ap, ◌∙◌, arith}
 use Rattle.std.proofs.lemmas.Bool.Decides.{nat_tests}
 use Rattle.channel_model.specs.declared.acts.Act.{Act}
-use Rattle.channel_model.specs.declared.acts.Act.TheVariants.{Hand, Put, Offer, Await, Take, Admit, Drop, Close, Void, Drain, WakeClosed, Withdraw, Settle}
+use Rattle.channel_model.specs.declared.acts.Act.TheVariants.{Hand, Put, Offer, Await, Take, Admit, Drop, Spurn, Close, Void, Drain, WakeClosed, Withdraw, Settle}
 use Rattle.channel_model.specs.declared.acts.ChannelNote.{ChannelNote}
 use Rattle.channel_model.specs.declared.acts.ChannelNote.TheVariants as heard_as
 use Rattle.job_model.specs.declared.acts.JobAct.{JobAct}
@@ -84,6 +84,7 @@ leaves_most base (Await c p w k) e = refl
 leaves_most base (Take c p v) e = refl
 leaves_most base (Admit c p) e = refl
 leaves_most base (Drop c p v) e = refl
+leaves_most base (Spurn c p v) e = refl
 leaves_most base (Close c v) e = cc
 leaves_most base (Void c) e = refl
 leaves_most base (Drain c p v) e = refl

@@ -4,7 +4,7 @@ use Rattle.std.specs.List.{list_all}
 use Rattle.std.proofs.Common.{sym, ap, ◌∙◌, subst}
 use Rattle.co_base.specs.declared.names.WaitId.{WaitId}
 use Rattle.channel_model.specs.declared.acts.Act.{Act}
-use Rattle.channel_model.specs.declared.acts.Act.TheVariants.{Hand, Put, Offer, Await, Take, Admit, Drop, Close, Void, Drain, WakeClosed, Settle}
+use Rattle.channel_model.specs.declared.acts.Act.TheVariants.{Hand, Put, Offer, Await, Take, Admit, Drop, Spurn, Close, Void, Drain, WakeClosed, Settle}
 use Rattle.channel_model.specs.declared.acts.ChannelNote.{ChannelNote}
 use Rattle.channel_model.specs.declared.acts.ChannelNote.TheVariants as heard_as
 use Rattle.channel_model.specs.declared.acts.Settled.{Settled}
@@ -17,7 +17,7 @@ use Rattle.job_model.specs.Done.{done_channel}
 use Rattle.note_book.specs.declared.book.Item.{Item}
 use Rattle.note_book.specs.declared.book.Item.TheVariants as item
 use Rattle.call_meaning.specs.Telling.{Told, note, on_channels, on_jobs, ChannelFact, JobFact, TakenBack, FailedUp, IsCancelling, ParentIs, items_in, made, heard, did, knew, saw, saw_end}
-use Rattle.call_meaning.specs.ChannelCalls.{Call, sends, receives, channel_of, Answer, NoPlace, Admits, Drops, Wakes, Drains, Closes, CancelsChannel, AtOnce, Refused, TryRefused, blocked, spent, EndsAtOnce, PlainCall, TryCall, SelectCall, Places, AdmitsIn, Stops, placed, revoked, offer_told, wait_at, GivesUp}
+use Rattle.call_meaning.specs.ChannelCalls.{Call, sends, receives, channel_of, Answer, NoPlace, Admits, Drops, Spurns, Overflows, Wakes, Drains, Closes, CancelsChannel, AtOnce, Refused, TryRefused, blocked, spent, EndsAtOnce, PlainCall, TryCall, SelectCall, Places, AdmitsIn, Stops, placed, revoked, offer_told, wait_at, GivesUp}
 use Rattle.call_meaning.specs.JobCalls.{Starts, Passes, Breaks, reason_for, Chain, EndsBody, BreaksOff}
 use Rattle.script_grammar.specs.Programs.{Program}
 use Rattle.script_meaning.specs.Shapes.{base_of}
@@ -106,6 +106,13 @@ admits_all T a c g h = all_as T g _ h.all (channel_fact T _ _ (map_all T (λ q. 
 drops_all : (T : Item → Bool) → PassesCalls T → (c q : ℕ) (g : List Told) → Drops c q g → AllPass T g
 drops_all T a c q g h = all_as T g _ h.all (map_all T (λ (d : ℕ × ℕ). Drop c d.0 d.1) (λ d. a.acts (Drop c d.0 d.1) refl) h.dropped _ (channel_fact T _ [] (all_none T)))
 
+spurns_all : (T : Item → Bool) → PassesCalls T → (c q : ℕ) (g : List Told) → Spurns c q g → AllPass T g
+spurns_all T a c q _ (Spurns.gone v) = noted_all T _ [] (a.acts (Spurn c q v) refl) (all_none T)
+spurns_all T a c q _ Spurns.stays = channel_fact T _ [] (all_none T)
+
+overflows_all : (T : Item → Bool) → PassesCalls T → (c q : ℕ) (g : List Told) → Overflows c q g → AllPass T g
+overflows_all T a c q g h = all_as T g _ h.all (all_then T h.drops h.spurns (drops_all T a c q h.drops h.dropped) (spurns_all T a c q h.spurns h.spurned))
+
 pub wakes_all : (T : Item → Bool) → PassesCalls T → (c : ℕ) (g : List Told) → Wakes c g → AllPass T g
 wakes_all T a c g h = all_as T g _ h.all (map_all T (λ q. WakeClosed c q) (λ q. a.acts (WakeClosed c q) refl) h.places _ (channel_fact T _ [] (all_none T)))
 
@@ -128,7 +135,7 @@ cancels_channel_all T a c g e (CancelsChannel.before closes drains _ h d is) =
 
 once_all : (T : Item → Bool) → PassesCalls T → (call : Call) (g : List Told) (a : Answer) → AtOnce call g a → AllPass T g
 once_all T al _ _ _ (AtOnce.hands c v q) = noted_all T _ [] (al.acts (Hand c q v) refl) (all_none T)
-once_all T al _ _ _ (AtOnce.puts c v q drops d) = noted_all T _ drops (al.acts (Put c q v) refl) (drops_all T al c q drops d)
+once_all T al _ _ _ (AtOnce.puts c v q more d) = noted_all T _ more (al.acts (Put c q v) refl) (overflows_all T al c q more d)
 once_all T al _ _ _ (AtOnce.takes c v q admits d) = noted_all T _ admits (al.acts (Take c q v) refl) (admits_all T al c admits d)
 
 refused_all : (T : Item → Bool) → PassesCalls T → (call : Call) (t : Told) (a : Answer) → Refused call t a → AllPass T (t ∷ [])

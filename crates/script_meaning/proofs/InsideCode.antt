@@ -212,7 +212,7 @@ waits_there p k x _ _ _ w (LineCalls.trysend c o group a call) e = absurd (no_wa
   where
     at_once : (t : _) (g : List Told) (a : Answer) → AtOnce t g a → a ≡ Waits w → ⊥
     at_once _ _ _ (AtOnce.hands c v q) e = cc
-    at_once _ _ _ (AtOnce.puts c v q drops d) e = cc
+    at_once _ _ _ (AtOnce.puts c v q more d) e = cc
     at_once _ _ _ (AtOnce.takes c v q admits d) e = cc
 
     no_wait : (t : _) (g : List Told) (a : Answer) → TryCall t g a → a ≡ Waits w → ⊥
@@ -224,7 +224,7 @@ waits_there p k x _ _ _ w (LineCalls.tryreceive c group a call) e = absurd (no_w
   where
     at_once : (t : _) (g : List Told) (a : Answer) → AtOnce t g a → a ≡ Waits w → ⊥
     at_once _ _ _ (AtOnce.hands c v q) e = cc
-    at_once _ _ _ (AtOnce.puts c v q drops d) e = cc
+    at_once _ _ _ (AtOnce.puts c v q more d) e = cc
     at_once _ _ _ (AtOnce.takes c v q admits d) e = cc
 
     no_wait : (t : _) (g : List Told) (a : Answer) → TryCall t g a → a ≡ Waits w → ⊥

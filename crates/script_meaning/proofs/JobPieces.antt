@@ -13,7 +13,7 @@ use Rattle.job_model.specs.declared.acts.JobNote.TheVariants as of_job
 use Rattle.note_book.specs.declared.book.Item.{Item}
 use Rattle.note_book.specs.declared.book.Item.TheVariants as item
 use Rattle.call_meaning.specs.Telling.{Told, note, on_channels, on_jobs, FailedUp, NotNew, IsCancelling, did, made}
-use Rattle.call_meaning.specs.ChannelCalls.{Call, sends, receives, Answer, PlainCall, TryCall, SelectCall, Admits, Drops, Wakes, Drains, Closes, CancelsChannel, AtOnce, Refused, TryRefused, blocked, spent, EndsAtOnce, Places, AdmitsIn, GivesUp, Stops, placed, wait_at, revoked}
+use Rattle.call_meaning.specs.ChannelCalls.{Call, sends, receives, Answer, PlainCall, TryCall, SelectCall, Admits, Drops, Spurns, Overflows, Wakes, Drains, Closes, CancelsChannel, AtOnce, Refused, TryRefused, blocked, spent, EndsAtOnce, Places, AdmitsIn, GivesUp, Stops, placed, wait_at, revoked}
 use Rattle.call_meaning.specs.JobCalls.{NotAttached, Starts, Passes, Breaks, reason_for, Chain, EndsBody, BreaksOff}
 use Rattle.script_grammar.specs.Programs.{Program}
 use Rattle.script_grammar.specs.Tags.{spawned}
@@ -73,6 +73,13 @@ quiet_admits c g h = subst IsQuiet (sym h.all) (cons _ _ refl (quiet_then (map (
 quiet_drops : (c q : ℕ) (g : List Told) → Drops c q g → IsQuiet g
 quiet_drops c q g h = subst IsQuiet (sym h.all) (quiet_then (map (λ d. made (Drop c d.0 d.1)) h.dropped) _ (quiet_map (λ d. made (Drop c d.0 d.1)) h.dropped (λ d. refl)) (one _ refl))
 
+quiet_spurns : (c q : ℕ) (g : List Told) → Spurns c q g → IsQuiet g
+quiet_spurns c q _ (Spurns.gone v) = one _ refl
+quiet_spurns c q _ Spurns.stays = one _ refl
+
+quiet_overflows : (c q : ℕ) (g : List Told) → Overflows c q g → IsQuiet g
+quiet_overflows c q g h = subst IsQuiet (sym h.all) (quiet_then h.drops h.spurns (quiet_drops c q h.drops h.dropped) (quiet_spurns c q h.spurns h.spurned))
+
 quiet_wakes : (c : ℕ) (g : List Told) → Wakes c g → IsQuiet g
 quiet_wakes c g h = subst IsQuiet (sym h.all) (quiet_then (map (λ q. made (WakeClosed c q)) h.places) _ (quiet_map (λ q. made (WakeClosed c q)) h.places (λ q. refl)) (one _ refl))
 
@@ -89,7 +96,7 @@ quiet_cancels c g (CancelsChannel.before closes drains _ a d e) = subst IsQuiet 
 
 quiet_at_once : (call : Call) (g : List Told) (a : Answer) → AtOnce call g a → IsQuiet g
 quiet_at_once _ _ _ (AtOnce.hands c v q) = one _ refl
-quiet_at_once _ _ _ (AtOnce.puts c v q drops d) = cons _ drops refl (quiet_drops c q drops d)
+quiet_at_once _ _ _ (AtOnce.puts c v q more d) = cons _ more refl (quiet_overflows c q more d)
 quiet_at_once _ _ _ (AtOnce.takes c v q admits d) = cons _ admits refl (quiet_admits c admits d)
 
 quiet_refused : (call : Call) (t : Told) (a : Answer) → Refused call t a → job_told t ≡ None

@@ -115,7 +115,7 @@ plain_receipt _ c _ _ (PlainCall.at_once call group a at) e h = at_once call gro
   where
     at_once : (call : Call) (group : List Told) (a : Answer) → AtOnce call group a → call ≡ receives c → 1 ≤ receipts group
     at_once _ _ _ (AtOnce.hands d v q) e = cc
-    at_once _ _ _ (AtOnce.puts d v q drops f) e = cc
+    at_once _ _ _ (AtOnce.puts d v q more f) e = cc
     at_once _ _ _ (AtOnce.takes d v q admits f) e = one_receipt (Take d q v) admits refl
 plain_receipt _ c _ _ (PlainCall.refused call told a r) e h = absurd (no_receipt call told a r h)
   where

@@ -2,7 +2,7 @@
 use Rattle.std.proofs.Common.{◌≡◌, ℕ, ◌<◌, Bool, true, false, List, ◌∷◌, ◌++◌, length, refl, ap, sym, ◌∙◌, subst, Option, Some, None, if◌then◌else◌}
 use Rattle.co_base.specs.declared.names.WaitId.{WaitId}
 use Rattle.channel_model.specs.declared.acts.Act.{Act}
-use Rattle.channel_model.specs.declared.acts.Act.TheVariants.{Hand, Put, Offer, Await, Take, Admit, Drop, Close, Void, Drain, WakeClosed, Withdraw, Settle}
+use Rattle.channel_model.specs.declared.acts.Act.TheVariants.{Hand, Put, Offer, Await, Take, Admit, Drop, Spurn, Close, Void, Drain, WakeClosed, Withdraw, Settle}
 use Rattle.channel_model.specs.Channels.{same_wait}
 use Rattle.channel_model.specs.Histories.{replay, acts_of, Legal}
 use Rattle.channel_model.proofs.Waits.{same_wait-eq, same_wait-refl}
@@ -56,6 +56,7 @@ waitless_by w b (Some (Await c q u n)) e = cc
 waitless_by w b (Some (Take c q v)) e = refl
 waitless_by w b (Some (Admit c q)) e = refl
 waitless_by w b (Some (Drop c q v)) e = refl
+waitless_by w b (Some (Spurn c q v)) e = refl
 waitless_by w b (Some (Close c v)) e = refl
 waitless_by w b (Some (Void c)) e = refl
 waitless_by w b (Some (Drain c q v)) e = refl
@@ -79,6 +80,7 @@ named_is w u (Put c q v) b e h = cc
 named_is w u (Take c q v) b e h = cc
 named_is w u (Admit c q) b e h = cc
 named_is w u (Drop c q v) b e h = cc
+named_is w u (Spurn c q v) b e h = cc
 named_is w u (Close c v) b e h = cc
 named_is w u (Void c) b e h = cc
 named_is w u (Drain c q v) b e h = cc

@@ -5,7 +5,7 @@ use Rattle.std.proofs.Common.{sym, ap, ◌∙◌, subst, arith}
 use Rattle.std.proofs.lemmas.Bool.{eqb-true}
 use Rattle.co_base.specs.declared.names.WaitId.{WaitId}
 use Rattle.channel_model.specs.declared.acts.Act.{Act}
-use Rattle.channel_model.specs.declared.acts.Act.TheVariants.{Hand, Put, Offer, Await, Take, Admit, Drop, Close, Void, Drain, WakeClosed, Withdraw, Settle}
+use Rattle.channel_model.specs.declared.acts.Act.TheVariants.{Hand, Put, Offer, Await, Take, Admit, Drop, Spurn, Close, Void, Drain, WakeClosed, Withdraw, Settle}
 use Rattle.channel_model.specs.declared.acts.Entry.{Entry}
 use Rattle.channel_model.specs.declared.acts.Settled.{Settled}
 use Rattle.channel_model.specs.declared.standing.Party.{Party}
@@ -55,6 +55,7 @@ unsettled_by w (Await c p u n) b = if same_wait u w then true else b
 unsettled_by w (Take c p v) b = b
 unsettled_by w (Admit c p) b = b
 unsettled_by w (Drop c p v) b = b
+unsettled_by w (Spurn c p v) b = b
 unsettled_by w (Close c v) b = b
 unsettled_by w (Void c) b = b
 unsettled_by w (Drain c p v) b = b
@@ -171,6 +172,7 @@ own_act shape s who (Await c p w k) v h n = own_named who k c p _ w v s h n.1 n.
 own_act shape s who (Take c p x) v h n = by_offer who v c (s.channels c).queue _ s
 own_act shape s who (Admit c p) v h n = by_holder who v (holder_at p (s.channels c).queue) _ (with_queue c (admitted p (s.channels c).queue) s)
 own_act shape s who (Drop c p x) v h n = by_removal who v c (s.channels c).queue s
+own_act shape s who (Spurn c p x) v h n = refl
 own_act shape s who (Close c x) v h n = refl
 own_act shape s who (Void c) v h n = refl
 own_act shape s who (Drain c p x) v h n = by_offer who v c (s.channels c).queue _ s
@@ -186,6 +188,7 @@ other_act shape s m who (Await c p w k) v apart n = same_there who s.waits w v (
 other_act shape s m who (Take c p x) v apart n = by_offer who v c (s.channels c).queue _ s
 other_act shape s m who (Admit c p) v apart n = by_holder who v (holder_at p (s.channels c).queue) _ (with_queue c (admitted p (s.channels c).queue) s)
 other_act shape s m who (Drop c p x) v apart n = by_removal who v c (s.channels c).queue s
+other_act shape s m who (Spurn c p x) v apart n = refl
 other_act shape s m who (Close c x) v apart n = refl
 other_act shape s m who (Void c) v apart n = refl
 other_act shape s m who (Drain c p x) v apart n = by_offer who v c (s.channels c).queue _ s

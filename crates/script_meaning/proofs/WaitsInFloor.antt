@@ -3,7 +3,7 @@ use Rattle.std.specs.Prelude.{◌≡◌, ℕ, ◌<◌, ◌≤◌, Bool, true, fa
 use Rattle.std.proofs.Common.{sym, subst, inl, inr, ⊎_elim}
 use Rattle.co_base.specs.declared.names.WaitId.{WaitId}
 use Rattle.channel_model.specs.declared.acts.Act.{Act}
-use Rattle.channel_model.specs.declared.acts.Act.TheVariants.{Hand, Put, Offer, Await, Take, Admit, Drop, Close, Void, Drain, WakeClosed, Withdraw, Settle}
+use Rattle.channel_model.specs.declared.acts.Act.TheVariants.{Hand, Put, Offer, Await, Take, Admit, Drop, Spurn, Close, Void, Drain, WakeClosed, Withdraw, Settle}
 use Rattle.channel_model.specs.declared.acts.Entry.{Entry}
 use Rattle.channel_model.specs.Channels.{Shape, State, Wait, same_wait, start}
 use Rattle.channel_model.specs.Answers.{IsOwnWait, IsUnsettledOf}
@@ -45,6 +45,7 @@ begun_there shape n v s (Put c p x) h needs e = cc
 begun_there shape n v s (Take c p x) h needs e = cc
 begun_there shape n v s (Admit c p) h needs e = cc
 begun_there shape n v s (Drop c p x) h needs e = cc
+begun_there shape n v s (Spurn c p x) h needs e = cc
 begun_there shape n v s (Close c x) h needs e = cc
 begun_there shape n v s (Void c) h needs e = cc
 begun_there shape n v s (Drain c p x) h needs e = cc

@@ -143,7 +143,7 @@ IsOfCall IsClause n (receives c) = IsClause false n c
 
 once_not : {A : Type 0} (call : Call) (g : List Told) (a : Answer) (w : WaitId) → AtOnce call g a → a ≡ Waits w → A
 once_not _ _ _ w (AtOnce.hands c v q) e = absurd (let u : ⊥ = cc in u)
-once_not _ _ _ w (AtOnce.puts c v q drops d) e = absurd (let u : ⊥ = cc in u)
+once_not _ _ _ w (AtOnce.puts c v q more d) e = absurd (let u : ⊥ = cc in u)
 once_not _ _ _ w (AtOnce.takes c v q admits d) e = absurd (let u : ⊥ = cc in u)
 
 refused_not : {A : Type 0} (call : Call) (t : Told) (a : Answer) (w : WaitId) → Refused call t a → a ≡ Waits w → A

@@ -3,7 +3,7 @@ use Rattle.std.proofs.Common.{◌≡◌, ℕ, Bool, true, false, List, [], ◌�
 use Rattle.std.specs.Prelude.{map, ◌+◌}
 use Rattle.co_base.specs.declared.names.WaitId.{WaitId}
 use Rattle.channel_model.specs.declared.acts.Act.{Act}
-use Rattle.channel_model.specs.declared.acts.Act.TheVariants.{Hand, Put, Offer, Await, Take, Admit, Drop, Close, Void, Drain, WakeClosed, Withdraw, Settle}
+use Rattle.channel_model.specs.declared.acts.Act.TheVariants.{Hand, Put, Offer, Await, Take, Admit, Drop, Spurn, Close, Void, Drain, WakeClosed, Withdraw, Settle}
 use Rattle.channel_model.specs.declared.acts.Why.TheVariants as why
 use Rattle.channel_model.specs.declared.acts.Settled.{Settled}
 use Rattle.channel_model.specs.declared.acts.Settled.TheVariants as settled
@@ -12,7 +12,7 @@ use Rattle.job_model.specs.declared.acts.JobAct.{JobAct}
 use Rattle.job_model.specs.declared.acts.End.{End}
 use Rattle.job_model.specs.Cancels.{own_cancel}
 use Rattle.call_meaning.specs.Telling.{Told, on_channels, TakenBack, made, heard, did, saw}
-use Rattle.call_meaning.specs.ChannelCalls.{Call, sends, receives, Answer, Done, Got, Closed, Waits, NoPlace, LooksAgain, PlainCall, TryCall, SelectCall, Admits, Drops, Wakes, Drains, Closes, CancelsChannel, AtOnce, Refused, TryRefused, blocked, spent, EndsAtOnce, Begins as BeginsPlaces, Places, PlacesFirst, AdmitsIn, Stops, GivesUp, placed, wait_at, revoked, is_given_up}
+use Rattle.call_meaning.specs.ChannelCalls.{Call, sends, receives, Answer, Done, Got, Closed, Waits, NoPlace, LooksAgain, PlainCall, TryCall, SelectCall, Admits, Drops, Spurns, Overflows, Wakes, Drains, Closes, CancelsChannel, AtOnce, Refused, TryRefused, blocked, spent, EndsAtOnce, Begins as BeginsPlaces, Places, PlacesFirst, AdmitsIn, Stops, GivesUp, placed, wait_at, revoked, is_given_up}
 use Rattle.call_meaning.specs.JobCalls.{NotAttached, Starts, Passes, Breaks, Chain, EndsBody, BreaksOff}
 use Rattle.script_grammar.specs.declared.instructions.Instruction.{Instruction}
 use Rattle.script_grammar.specs.Programs.{Program}
@@ -36,6 +36,7 @@ is_waitless (Some (Await c q w n)) = false
 is_waitless (Some (Take c q v)) = true
 is_waitless (Some (Admit c q)) = true
 is_waitless (Some (Drop c q v)) = true
+is_waitless (Some (Spurn c q v)) = true
 is_waitless (Some (Close c v)) = true
 is_waitless (Some (Void c)) = true
 is_waitless (Some (Drain c q v)) = true
@@ -109,6 +110,13 @@ of_admits c g h = same g _ h.all (cons _ _ refl (both (map (λ q. made (Admit c 
 of_drops : (c q : ℕ) (g : List Told) → Drops c q g → IsWaitless g
 of_drops c q g h = same g _ h.all (both (map (λ d. made (Drop c d.0 d.1)) h.dropped) _ (mapped (λ d. made (Drop c d.0 d.1)) h.dropped (λ d. refl)) (one _ refl))
 
+of_spurns : (c q : ℕ) (g : List Told) → Spurns c q g → IsWaitless g
+of_spurns c q _ (Spurns.gone v) = one _ refl
+of_spurns c q _ Spurns.stays = one _ refl
+
+of_overflows : (c q : ℕ) (g : List Told) → Overflows c q g → IsWaitless g
+of_overflows c q g h = same g _ h.all (both h.drops h.spurns (of_drops c q h.drops h.dropped) (of_spurns c q h.spurns h.spurned))
+
 of_wakes : (c : ℕ) (g : List Told) → Wakes c g → IsWaitless g
 of_wakes c g h = same g _ h.all (both (map (λ q. made (WakeClosed c q)) h.places) _ (mapped (λ q. made (WakeClosed c q)) h.places (λ q. refl)) (one _ refl))
 
@@ -144,7 +152,7 @@ of_try_refused _ _ (TryRefused.receive c u) = refl
 
 of_at_once : (call : Call) (g : List Told) (a : Answer) → AtOnce call g a → IsWaitless g
 of_at_once _ _ _ (AtOnce.hands c v q) = one _ refl
-of_at_once _ _ _ (AtOnce.puts c v q drops d) = cons _ drops refl (of_drops c q drops d)
+of_at_once _ _ _ (AtOnce.puts c v q more d) = cons _ more refl (of_overflows c q more d)
 of_at_once _ _ _ (AtOnce.takes c v q admits d) = cons _ admits refl (of_admits c admits d)
 
 of_stops : (call : Call) (g : List Told) (a : Answer) → Stops call g a → IsWaitless g
@@ -204,7 +212,7 @@ wait_by LooksAgain = None
 
 once_by : (call : Call) (g : List Told) (a : Answer) → AtOnce call g a → wait_by a ≡ None
 once_by _ _ _ (AtOnce.hands c v q) = refl
-once_by _ _ _ (AtOnce.puts c v q drops d) = refl
+once_by _ _ _ (AtOnce.puts c v q more d) = refl
 once_by _ _ _ (AtOnce.takes c v q admits d) = refl
 
 refused_by : (call : Call) (t : Told) (a : Answer) → Refused call t a → wait_by a ≡ None

@@ -9,7 +9,7 @@ use Rattle.script_grammar.specs.declared.instructions.Instruction.TheVariants.{L
 use Rattle.script_grammar.specs.Programs.{Block, block_names}
 use Rattle.script_grammar.specs.Lines.{Names, line_words}
 use Rattle.script_grammar.specs.Blocks.{Open, with_line, product, own_weight, nest_after, after_end, but_first, fits, job_given, listed}
-use Rattle.script_grammar.specs.Reads.{Read, Form, channel_is, coroutine_is, spawn_is, line_is, end_is, start, after, names_for, closed_block, closed_weight}
+use Rattle.script_grammar.specs.Reads.{Read, Form, version_is, channel_is, coroutine_is, spawn_is, line_is, end_is, start, after, names_for, closed_block, closed_weight}
 use Rattle.script_grammar.specs.Grammar.{is_name, names_job, Says, Within}
 use Rattle.script_grammar.proofs.Truths.{both, both_true, lt-true, lt-from_true, le-true, le-from_true}
 use Rattle.script_grammar.proofs.DistinctNames.{fresh_none}
@@ -90,6 +90,7 @@ IsKept-start = record {
 }
 
 pub IsKept-after : (s : Read) (words : List (List ℕ)) (f : Form) → IsKept s → Says s words f → Within (after f s) → IsKept (after f s)
+IsKept-after s words version_is is says within = record { within = within; weights = is.weights; some = is.some; spawns = is.spawns; jobs = is.jobs; new = is.new }
 IsKept-after s words (channel_is c) is says within = record { within = within; weights = is.weights; some = is.some; spawns = is.spawns; jobs = is.jobs; new = is.new }
 IsKept-after s words (coroutine_is p) is says within = record {
   within = within;
@@ -141,6 +142,7 @@ new-job n jobs (Some j) (Some name) e = (fresh_none jobs name (both_true _ _ e).
 
 -- what is said may be entered
 pub CanEnter-from_Says : (s : Read) (words : List (List ℕ)) (f : Form) → IsKept s → Says s words f → CanEnter s f
+CanEnter-from_Says s words version_is is says = tt
 CanEnter-from_Says s words (channel_is c) is says = (fresh_none _ c.name says.4).1
 CanEnter-from_Says s words (coroutine_is p) is says = tt
 CanEnter-from_Says s words (spawn_is i n) is says = tt
@@ -159,6 +161,7 @@ line_count-push (c ∷ bs) b = omega (arith, line_count-push bs b)
 
 -- a line costs no more bytes than it has
 pub cost-after : (s : Read) (words : List (List ℕ)) (f : Form) → Says s words f → cost (after f s) ≤ cost s + text_length words
+cost-after s words version_is says = omega arith
 cost-after s words (channel_is c) says = omega arith
 cost-after s words (coroutine_is p) says =
     omega (arith, ap text_length says.1, name-some p (fresh_none (block_names s.blocks) p says.2).0, ap open_cost says.0)

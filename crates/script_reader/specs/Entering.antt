@@ -3,7 +3,7 @@ use Rattle.std.specs.Prelude.{◌≡◌, ℕ, ◌+◌, ◌*◌, ◌<◌, List, O
 use Rattle.script_grammar.specs.declared.instructions.Instruction.{Instruction}
 use Rattle.script_grammar.specs.Programs.{channel_names}
 use Rattle.script_grammar.specs.Blocks.{Open, product, own_weight}
-use Rattle.script_grammar.specs.Reads.{Read, Form, channel_is, coroutine_is, spawn_is, line_is, end_is}
+use Rattle.script_grammar.specs.Reads.{Read, Form, version_is, channel_is, coroutine_is, spawn_is, line_is, end_is}
 use Rattle.script_grammar.specs.Places.{place_from}
 use Rattle.script_reader.specs.Holding.{IsNewBlock}
 
@@ -28,6 +28,7 @@ HasRoom blocks (Some b) = blocks < 65536
 
 -- new names are new
 abbrev pub CanEnter : Read → Form → Type 0
+CanEnter s version_is = Unit {0}
 CanEnter s (channel_is c) = place_from 0 c.name (channel_names s.channels) ≡ None
 CanEnter s (coroutine_is p) = Unit {0}
 CanEnter s (spawn_is i n) = Unit {0}

@@ -14,6 +14,6 @@ block_of c = record { name = string_bytes c.name; jobs = map string_bytes c.jobs
 abbrev pub spawn_of : Spawn → ℕ × ℕ
 spawn_of s = (s.coroutine, s.count)
 
-abbrev pub program_from : List Channel → List Coroutine → List Spawn → Program
-program_from channels coroutines spawns =
-    record { channels = map declared_of channels; blocks = map block_of coroutines; spawns = map spawn_of spawns }
+abbrev pub program_from : ℕ → List Channel → List Coroutine → List Spawn → Program
+program_from version channels coroutines spawns =
+    record { version = version; channels = map declared_of channels; blocks = map block_of coroutines; spawns = map spawn_of spawns }

@@ -2,7 +2,7 @@
 use Rattle.std.specs.Prelude.{ℕ, ◌≤◌, List, length, map, Option, Some, None, option_map, string_bytes}
 use denote.Ref.{Bor}
 use Rattle.script_grammar.specs.Blocks.{Open}
-use Rattle.script_grammar.specs.Reads.{Read, Form, channel_is, coroutine_is, spawn_is, line_is, end_is}
+use Rattle.script_grammar.specs.Reads.{Read, Form, version_is, channel_is, coroutine_is, spawn_is, line_is, end_is}
 use Rattle.script_reader.specs.Programs.{declared_of, block_of, spawn_of}
 use Rattle.script_reader.specs.declared.reading.OpenBlock.{OpenBlock}
 use Rattle.script_reader.specs.declared.reading.Reading.{Reading}
@@ -14,6 +14,7 @@ abbrev pub name_in : Option (Bor (List ℕ)) → Option (List ℕ)
 name_in name = option_map (λ n. n.now) name
 
 abbrev pub said : Spoken → Form
+said spoken.Version = version_is
 said (spoken.Channel name kind places) = channel_is (record { name = name.now; kind = kind; places = places })
 said (spoken.Coroutine name) = coroutine_is name.now
 said (spoken.Spawn block count) = spawn_is block count
@@ -35,6 +36,7 @@ open_of b = record {
 -- what the memory holds
 abbrev pub view : Reading → Read
 view r = record {
+  version = r.version;
   channels = map declared_of r.channels.items.items;
   blocks = map block_of r.coroutines.items.items;
   spawns = map spawn_of r.spawns.items;

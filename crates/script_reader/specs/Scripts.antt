@@ -5,4 +5,4 @@ use Rattle.script_reader.specs.Programs.{program_from}
 
 -- what the script says
 abbrev pub program_of : Script → Program
-program_of s = program_from s.channels.items s.coroutines.items s.spawns.items
+program_of s = program_from s.version s.channels.items s.coroutines.items s.spawns.items

@@ -3,7 +3,7 @@
 ghost use Rattle.std.specs.Prelude.{◌≡◌, IfOk, ◌≤◌};
 ghost use Rattle.script_grammar.specs.Words.{texts};
 ghost use Rattle.script_grammar.specs.Places.{places_at, count_at, buffered_at, made, number_at, kind_at};
-ghost use Rattle.channel_model.specs.declared.acts.Kind.TheVariants.{Buffered, DropOldest};
+ghost use Rattle.channel_model.specs.declared.acts.Kind.TheVariants.{Buffered, DropOldest, DropLatest};
 ghost use Rattle.script_reader.specs.Answers.{Gives};
 
 use crate::place::number_of;
@@ -61,10 +61,21 @@ fn dropping<'a, 'b>(words: &'b [&'a [u8]]) -> Result<(Kind, &'b [&'a [u8]]), Fau
     Ok((Kind::DropOldest(capacity), rest))
 }
 
-/// The kind of a channel, and the words after it.
+/// A channel that spurns its latest element beyond a capacity that stands here.
+fn spurning<'a, 'b>(words: &'b [&'a [u8]]) -> Result<(Kind, &'b [&'a [u8]]), FaultKind>
+    ensures { Gives (λ x. (x.0, texts x.1.now)) result (made (λ k. DropLatest k) (number_at 1 65535 (texts words.now))) }
+{
+    let (capacity, rest) = number_of(1, 65_535, words)?;
+    Ok((Kind::DropLatest(capacity), rest))
+}
+
+/// The kind of a channel of a script of this version, and the words after it.
 #[tactic(auto, unfolding(script_grammar::specs::Places::kind_at))]
-pub(crate) fn kind_of<'a, 'b>(words: &'b [&'a [u8]]) -> Result<(Kind, &'b [&'a [u8]]), FaultKind>
-    ensures { Gives (λ x. (x.0, texts x.1.now)) result (kind_at (texts words.now)) }
+pub(crate) fn kind_of<'a, 'b>(
+    version: u8,
+    words: &'b [&'a [u8]],
+) -> Result<(Kind, &'b [&'a [u8]]), FaultKind>
+    ensures { Gives (λ x. (x.0, texts x.1.now)) result (kind_at version (texts words.now)) }
 {
     let [word, rest @ ..] = words else {
         return Err(FaultKind::UnknownWord);
@@ -79,6 +90,8 @@ pub(crate) fn kind_of<'a, 'b>(words: &'b [&'a [u8]]) -> Result<(Kind, &'b [&'a [
         Ok((Kind::Conflated, rest))
     } else if *word == b"dropoldest".as_slice() {
         dropping(rest)
+    } else if *word == b"droplatest".as_slice() && version == 2 {
+        spurning(rest)
     } else {
         Err(FaultKind::UnknownWord)
     }

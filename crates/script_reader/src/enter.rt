@@ -26,6 +26,7 @@ pub(crate) fn empty(alloc: Global) -> Reading
     ensures load { result.load ≡ 0 }
 {
     Reading {
+        version: 1,
         channels: Indexed::new(alloc),
         places: 0,
         coroutines: Indexed::new(alloc),
@@ -201,6 +202,10 @@ pub(crate) fn enter(
     ensures view { OnOk result (view reading.new ≡ after (said form.entry) (view reading.old)) }
 {
     match form {
+        Spoken::Version => {
+            reading.version = 2;
+            Ok(())
+        }
         Spoken::Channel(name, kind, places) => {
             enter_channel(alloc, &mut reading.channels, name, kind, places)
         }

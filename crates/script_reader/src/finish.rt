@@ -26,23 +26,25 @@ use std::alloc::{AllocError, Global};
 /// The script of these parts, with its tables. The load is the number of its Jobs.
 fn script_from(
     alloc: Global,
+    version: u8,
     channels: Vec<Channel>,
     coroutines: Vec<Coroutine>,
     spawns: Vec<Spawn>,
     main: u16,
     load: u32,
 ) -> Result<Script, AllocError>
-    requires program { IsProgram (program_from channels.items coroutines.items spawns.items) }
+    requires program { IsProgram (program_from version channels.items coroutines.items spawns.items) }
     requires main { block_named (codes "main") 0 (map block_of coroutines.items) ≡ Some main }
-    requires load { load ≡ whole_load (program_from channels.items coroutines.items spawns.items) }
+    requires load { load ≡ whole_load (program_from version channels.items coroutines.items spawns.items) }
     requires short { list_all (λ c. nat_le (length c.code.items) 1048577) coroutines.items ≡ true }
-    ensures { IfOk result (λ script. program_of script ≡ program_from channels.items coroutines.items spawns.items) }
+    ensures { IfOk result (λ script. program_of script ≡ program_from version channels.items coroutines.items spawns.items) }
 {
     let sizes = all_sizes(alloc, &coroutines)?;
     let tags = tags_in(alloc, &coroutines, &spawns, main)?;
     let closings = all_closings(alloc, &coroutines)?;
     let scopes = load as u16 - tags.len() as u16;
     Ok(Script {
+        version,
         channels,
         coroutines,
         spawns,
@@ -76,6 +78,7 @@ pub(crate) fn finished(alloc: Global, reading: Reading) -> Result<Script, FaultK
 {
     let main = main_of(&reading)?;
     let Reading {
+        version,
         channels,
         places: _,
         coroutines,
@@ -92,6 +95,6 @@ pub(crate) fn finished(alloc: Global, reading: Reading) -> Result<Script, FaultK
         items: coroutines,
         index: _,
     } = coroutines;
-    let script = script_from(alloc, channels, coroutines, spawns, main, load)?;
+    let script = script_from(alloc, version, channels, coroutines, spawns, main, load)?;
     Ok(script)
 }

@@ -6,6 +6,8 @@ use script_grammar::Instruction;
 /// What a line says: new names as they stand there, and other names as their numbers.
 #[derive(Clone, Copy)]
 pub(crate) enum Spoken<'a> {
+    /// The script is of version 2.
+    Version,
     /// The new name, the kind and the number of places.
     Channel(&'a str, Kind, u32),
     Coroutine(&'a str),

@@ -3,7 +3,7 @@
 ghost use Rattle.std.specs.Prelude.{◌≡◌, ◌+◌, ◌-◌, ◌*◌, ◌≤◌, ℕ, List, Option, None, Some, min, option_map, is_some, length, slice_index_or, string_bytes};
 ghost use Rattle.script_grammar.specs.Programs.{Declared};
 ghost use Rattle.script_grammar.specs.Blocks.{product, own_weight, nest_after, clauses_after};
-ghost use Rattle.script_grammar.specs.Reads.{after, main_weight, channel_is, coroutine_is, spawn_is, line_is, end_is};
+ghost use Rattle.script_grammar.specs.Reads.{after, main_weight, version_is, channel_is, coroutine_is, spawn_is, line_is, end_is};
 ghost use Rattle.script_grammar.specs.Forms.{clause_count};
 ghost use Rattle.script_reader.specs.Limits.{IsUpTo, AreTotals, GivesTotals};
 ghost use Rattle.script_reader.specs.Reading.{view, said, open_of};
@@ -114,6 +114,14 @@ fn same_totals(reading: &Reading) -> Totals
         weight,
         load: reading.load,
     }
+}
+
+/// The totals of the script as one of version 2.
+fn version_totals(reading: &Reading) -> Totals
+    requires { Holds reading.now }
+    ensures { AreTotals result (after version_is (view reading.now)) }
+{
+    same_totals(reading)
 }
 
 /// The totals with one more channel of so many places.
@@ -244,6 +252,7 @@ pub(crate) fn totals_after(reading: &Reading, form: &Spoken<'_>) -> Result<Total
     ensures { GivesTotals result (after (said form.now) (view reading.now)) }
 {
     match form {
+        Spoken::Version => Ok(version_totals(reading)),
         Spoken::Channel(_, _, places) => channel_totals(reading, *places),
         Spoken::Coroutine(name) => block_totals(reading, *name),
         Spoken::Spawn(block, count) => spawn_totals(reading, *block, *count),

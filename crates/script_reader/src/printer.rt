@@ -7,7 +7,7 @@ ghost use lib.Chars.{codes};
 ghost use Rattle.script_grammar.specs.Programs.{channel_names, block_names, name_of};
 ghost use Rattle.script_grammar.specs.Lines.{kind_words, channel_words, coroutine_words, spawn_words};
 ghost use Rattle.script_grammar.specs.Nesting.{depth_after};
-ghost use Rattle.script_grammar.specs.Canonical.{depth_of, code_lines, flat, deep_block, deep_blocks, canonical_text};
+ghost use Rattle.script_grammar.specs.Canonical.{version_lines, depth_of, code_lines, flat, deep_block, deep_blocks, canonical_text};
 ghost use Rattle.script_grammar.specs.Texts.{reading_of};
 ghost use Rattle.script_reader.specs.Programs.{declared_of, block_of, spawn_of};
 ghost use Rattle.script_reader.specs.Printing.{text_of, line_text, names_in};
@@ -20,6 +20,16 @@ use crate::script::{Channel, Coroutine, Script, Spawn};
 use channel_model::Kind;
 use script_grammar::Instruction;
 use std::alloc::{AllocError, Global};
+
+/// The first line of a script of version 2.
+fn push_version(out: &mut Vec<u8>, version: u8) -> Result<(), AllocError>
+    ensures { OnOk result (out.new.items ≡ out.old.items ++ text_of (flat (version_lines version))) }
+{
+    if version == 2 {
+        push_line(out, 0, &[b"script".as_slice(), b"2".as_slice()])?;
+    }
+    Ok(())
+}
 
 /// A channel of a kind with no number.
 fn push_plain_channel(
@@ -88,6 +98,9 @@ fn push_kind(
         }
         Kind::DropOldest(capacity) => {
             push_sized_channel(alloc, out, name, b"dropoldest", capacity, places)
+        }
+        Kind::DropLatest(capacity) => {
+            push_sized_channel(alloc, out, name, b"droplatest", capacity, places)
         }
         // No script declares a signal: it has no word.
         Kind::Signal => push_line(out, 0, &[b"channel", name, b"places", places]),
@@ -265,7 +278,7 @@ fn push_spawns(
     Ok(())
 }
 
-/// The canonical text of a script: its channels, then its coroutines, then its spawns, with all numbers that may be left out.
+/// The canonical text of a script: its version, then its channels, then its coroutines, then its spawns, with all numbers that may be left out.
 ///
 /// A text of at most 1,048,576 bytes is read as the same script.
 pub fn print(alloc: Global, script: &Script) -> Result<Vec<u8>, AllocError>
@@ -273,6 +286,7 @@ pub fn print(alloc: Global, script: &Script) -> Result<Vec<u8>, AllocError>
     ensures read_again { IfOk result (λ text. length text.items ≤ 1048576 → reading_of text.items ≡ Ok (program_of script.now)) }
 {
     let mut out = Vec::new(alloc);
+    push_version(&mut out, script.version)?;
     push_channels(alloc, &mut out, &script.channels)?;
     push_blocks(alloc, &script.channels, &script.coroutines, &mut out)?;
     push_spawns(alloc, &script.coroutines, &mut out, &script.spawns)?;

@@ -19,9 +19,10 @@ pub(crate) struct OpenBlock {
     pub(crate) weight: u16,
 }
 
-/// What the lines so far declare, and the block that is open.
+/// The version, what the lines so far declare, and the block that is open.
 #[derive(Drop)]
 pub(crate) struct Reading {
+    pub(crate) version: u8,
     pub(crate) channels: Indexed<Channel>,
     /// How many places the channels have together.
     pub(crate) places: u32,

@@ -16,7 +16,7 @@ use co_base::Tag;
 use script_grammar::Instruction;
 
 /// A channel that a script declares.
-#[derive(Debug, Drop)]
+#[derive(Drop)]
 pub struct Channel {
     pub name: String,
     pub kind: Kind,
@@ -24,7 +24,7 @@ pub struct Channel {
 }
 
 /// A coroutine that a script declares: its name, the names of its Jobs, and its lines.
-#[derive(Debug, Drop)]
+#[derive(Drop)]
 pub struct Coroutine {
     pub name: String,
     /// In the order of the lines that give them.
@@ -65,8 +65,10 @@ impl Named for String {
 }
 
 /// A script that was read. Channels, coroutines and spawns are numbered from 0, each in the order of their lines.
-#[derive(Debug, Drop)]
+#[derive(Drop)]
 pub struct Script {
+    /// 1 or 2.
+    pub(crate) version: u8,
     pub(crate) channels: Vec<Channel>,
     pub(crate) coroutines: Vec<Coroutine>,
     pub(crate) spawns: Vec<Spawn>,
@@ -78,17 +80,24 @@ pub struct Script {
     pub(crate) closings: Vec<Vec<u32>>,
     /// How many scopes may be entered in all.
     pub(crate) scopes: u16,
-    pub ghost well_formed: { IsProgram (program_from channels.items coroutines.items spawns.items) } by { Prim.hlevel props },
+    pub ghost well_formed: { IsProgram (program_from version channels.items coroutines.items spawns.items) } by { Prim.hlevel props },
     pub ghost sized: { sizes.items ≡ sizes_in (map block_of coroutines.items) } by { Prim.hlevel props },
-    pub ghost tagged: { tags.items ≡ tags_of (program_from channels.items coroutines.items spawns.items) } by { Prim.hlevel props },
+    pub ghost tagged: { tags.items ≡ tags_of (program_from version channels.items coroutines.items spawns.items) } by { Prim.hlevel props },
     pub ghost closed: { map (λ places. places.items) closings.items
         ≡ map (λ c. closing_places c.code.items) coroutines.items } by { Prim.hlevel props },
     pub ghost short: { list_all (λ c. nat_le (length c.code.items) 1048577) coroutines.items ≡ true } by { Prim.hlevel props },
-    pub ghost counted: { scopes ≡ scope_count (program_from channels.items coroutines.items spawns.items) } by { Prim.hlevel props },
+    pub ghost counted: { scopes ≡ scope_count (program_from version channels.items coroutines.items spawns.items) } by { Prim.hlevel props },
 }
 
 impl Script {
     ghost use Rattle.script_reader.specs.Scripts.{program_of};
+
+    /// The version of the language that the script is written in: 1 or 2.
+    pub fn version(&self) -> u8
+        ensures { result ≡ (program_of self.now).version }
+    {
+        self.version
+    }
 
     /// The channels, in the order of their lines. A channel's id is its place here.
     pub fn channels(&self) -> &[Channel]

@@ -5,7 +5,7 @@ use Rattle.std.proofs.Common.{sym, ap, ◌∙◌, subst, arith}
 use Rattle.std.proofs.lemmas.Bool.Decides.{nat_tests}
 use Rattle.co_base.specs.declared.names.WaitId.{WaitId}
 use Rattle.channel_model.specs.declared.acts.Act.{Act}
-use Rattle.channel_model.specs.declared.acts.Act.TheVariants.{Hand, Put, Offer, Await, Take, Admit, Drop, Close, Void, Drain, WakeClosed, Withdraw, Settle}
+use Rattle.channel_model.specs.declared.acts.Act.TheVariants.{Hand, Put, Offer, Await, Take, Admit, Drop, Spurn, Close, Void, Drain, WakeClosed, Withdraw, Settle}
 use Rattle.channel_model.specs.declared.acts.Entry.{Entry}
 use Rattle.channel_model.specs.declared.acts.Settled.{Settled}
 use Rattle.channel_model.specs.declared.standing.Party.{Party}
@@ -83,6 +83,7 @@ module _ (who : ℕ) (cs : List (ℕ × ℕ)) where
   other_has shape n w s (Take c p x) placed apart m h = offer_has w c _ _ s h
   other_has shape n w s (Admit c p) placed apart m h = holder_has w (holder_at p (s.channels c).queue) _ _ h
   other_has shape n w s (Drop c p x) placed apart m h = removed_has w c (s.channels c).queue s h
+  other_has shape n w s (Spurn c p x) placed apart m h = h
   other_has shape n w s (Close c x) placed apart m h = h
   other_has shape n w s (Void c) placed apart m h = h
   other_has shape n w s (Drain c p x) placed apart m h = offer_has w c _ _ s h

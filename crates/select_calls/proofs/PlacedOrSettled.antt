@@ -8,7 +8,7 @@ use Rattle.std.proofs.lemmas.List.Folds.{list_any-append}
 use Rattle.co_base.specs.declared.names.WaitId.{WaitId}
 use Rattle.channel_model.specs.declared.acts.Act.TheVariants.{Admit, Drop}
 use Rattle.call_meaning.specs.Telling.{Told, ChannelFact, on_channels, NextIs, NoneToAdmit, FitsUpTo, made}
-use Rattle.call_meaning.specs.ChannelCalls.{Call, sends, receives, Answer, Admits, AtOnce, Refused, blocked, spent, Places, Stops, AdmitsIn, revoked}
+use Rattle.call_meaning.specs.ChannelCalls.{Call, sends, receives, Answer, Admits, Drops, Spurns, Overflows, AtOnce, Refused, blocked, spent, Places, Stops, AdmitsIn, revoked}
 use Rattle.select_calls.specs.Selects.{places, settles}
 
 -- ---- lists of what was told
@@ -57,10 +57,20 @@ block_settles (receives c) = refl
 pub blocked_settle_none : (calls : List Call) → HasNo settles (map blocked calls)
 blocked_settle_none calls = none_mapped settles blocked block_settles calls
 
+drops_places_none : (c q : ℕ) (told : List Told) → Drops c q told → HasNo places told
+drops_places_none c q told h =
+    ap (list_any places) h.all ∙ none_in_both places (map (λ d. made (Drop c d.0 d.1)) h.dropped) (on_channels (FitsUpTo c q) ∷ []) (none_mapped places (λ d. made (Drop c d.0 d.1)) (λ d. refl) h.dropped) refl
+
+spurns_places_none : (c q : ℕ) (told : List Told) → Spurns c q told → HasNo places told
+spurns_places_none c q _ (Spurns.gone v) = refl
+spurns_places_none c q _ Spurns.stays = refl
+
+overflows_places_none : (c q : ℕ) (told : List Told) → Overflows c q told → HasNo places told
+overflows_places_none c q told h = ap (list_any places) h.all ∙ none_in_both places h.drops h.spurns (drops_places_none c q h.drops h.dropped) (spurns_places_none c q h.spurns h.spurned)
+
 pub at_once_places_none : (call : Call) (told : List Told) (a : Answer) → AtOnce call told a → HasNo places told
 at_once_places_none _ _ _ (AtOnce.hands c v q) = refl
-at_once_places_none _ _ _ (AtOnce.puts c v q drops h) =
-    ap (list_any places) h.all ∙ none_in_both places (map (λ d. made (Drop c d.0 d.1)) h.dropped) (on_channels (FitsUpTo c q) ∷ []) (none_mapped places (λ d. made (Drop c d.0 d.1)) (λ d. refl) h.dropped) refl
+at_once_places_none _ _ _ (AtOnce.puts c v q more h) = overflows_places_none c q more h
 at_once_places_none _ _ _ (AtOnce.takes c v q admits h) = none_admits places (λ fact. refl) (λ d k. refl) c admits h
 
 -- ---- where they are placed

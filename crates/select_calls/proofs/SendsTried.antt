@@ -39,13 +39,13 @@ module _ (who c v n : ℕ) (a b d : Floor) (i j k : List Item) (h : HasRoom n a 
       → TriedAnswer who (sends c v) a g i l (Ok (tried.Ready outcome.Sent))
   put kind place g l o f t = record {
     told = made (Put c place v) ∷ t.told;
-    goes = Meets.sent c v (made (Put c place v) ∷ t.told) (AtOnce.puts c v place t.told t.goes.drops);
+    goes = Meets.sent c v (made (Put c place v) ∷ t.told) (AtOnce.puts c v place t.told t.goes.overflows);
     left = told_roomed who n a b g i j l (made (Put c place v) ∷ t.told) h e
         (told_then who b d g j k l (made (Put c place v) ∷ []) t.told (told_made who (Put c place v) b d j k o (moment_before who (Put c place v) b d (ActHolds (Put c place v)) o tt) f) t.left);
   }
 
   pub put_stopped : (kind : Kind) (place : ℕ) (g : Floor) (l : List Item) (m : Memory) → TriedOfferAnswer who c v b d (tried_offer.Put place) → k ≡ j ++ made_note (Put c place v) ∷ [] → ToldPart who (FollowsPut kind c place) d g k l → TriedAnswer who (sends c v) a g i l (Err m)
-  put_stopped kind place g l m o f t = part_then who who (FollowsPut kind c place) (GoesAtOnceSomehow (sends c v)) (made (Put c place v) ∷ []) (λ all r. (Done, AtOnce.puts c v place all r.drops)) a d g i k l refl
+  put_stopped kind place g l m o f t = part_then who who (FollowsPut kind c place) (GoesAtOnceSomehow (sends c v)) (made (Put c place v) ∷ []) (λ all r. (Done, AtOnce.puts c v place all r.overflows)) a d g i k l refl
       (told_roomed who n a b d i j k (made (Put c place v) ∷ []) h e (told_made who (Put c place v) b d j k o (moment_before who (Put c place v) b d (ActHolds (Put c place v)) o tt) f)) t
 
   pub full : TriedOfferAnswer who c v b d tried_offer.Full → k ≡ j ++ item.Channel (Full c v) ∷ [] → TriedAnswer who (sends c v) a d i k (Ok tried.Blocked)

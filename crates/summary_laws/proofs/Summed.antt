@@ -66,6 +66,7 @@ received_step n None = omega arith
 received_step n (Some (v, fate.Received)) = refl
 received_step n (Some (v, fate.Undelivered)) = omega arith
 received_step n (Some (v, fate.Dropped)) = omega arith
+received_step n (Some (v, fate.Spurned)) = omega arith
 received_step n (Some (v, fate.Withdrawn)) = omega arith
 received_step n (Some (v, fate.Held)) = omega arith
 
@@ -74,6 +75,7 @@ undelivered_step n None = omega arith
 undelivered_step n (Some (v, fate.Received)) = omega arith
 undelivered_step n (Some (v, fate.Undelivered)) = refl
 undelivered_step n (Some (v, fate.Dropped)) = omega arith
+undelivered_step n (Some (v, fate.Spurned)) = omega arith
 undelivered_step n (Some (v, fate.Withdrawn)) = omega arith
 undelivered_step n (Some (v, fate.Held)) = omega arith
 
@@ -82,14 +84,25 @@ dropped_step n None = omega arith
 dropped_step n (Some (v, fate.Received)) = omega arith
 dropped_step n (Some (v, fate.Undelivered)) = omega arith
 dropped_step n (Some (v, fate.Dropped)) = refl
+dropped_step n (Some (v, fate.Spurned)) = omega arith
 dropped_step n (Some (v, fate.Withdrawn)) = omega arith
 dropped_step n (Some (v, fate.Held)) = omega arith
+
+spurned_step : (n : _) (x : Option (ℕ × Fate)) → (with_place n x).spurned ≡ n.spurned + fated fate.Spurned x
+spurned_step n None = omega arith
+spurned_step n (Some (v, fate.Received)) = omega arith
+spurned_step n (Some (v, fate.Undelivered)) = omega arith
+spurned_step n (Some (v, fate.Dropped)) = omega arith
+spurned_step n (Some (v, fate.Spurned)) = refl
+spurned_step n (Some (v, fate.Withdrawn)) = omega arith
+spurned_step n (Some (v, fate.Held)) = omega arith
 
 withdrawn_step : (n : _) (x : Option (ℕ × Fate)) → (with_place n x).withdrawn ≡ n.withdrawn + fated fate.Withdrawn x
 withdrawn_step n None = omega arith
 withdrawn_step n (Some (v, fate.Received)) = omega arith
 withdrawn_step n (Some (v, fate.Undelivered)) = omega arith
 withdrawn_step n (Some (v, fate.Dropped)) = omega arith
+withdrawn_step n (Some (v, fate.Spurned)) = omega arith
 withdrawn_step n (Some (v, fate.Withdrawn)) = refl
 withdrawn_step n (Some (v, fate.Held)) = omega arith
 
@@ -98,6 +111,7 @@ held_step n None = omega arith
 held_step n (Some (v, fate.Received)) = omega arith
 held_step n (Some (v, fate.Undelivered)) = omega arith
 held_step n (Some (v, fate.Dropped)) = omega arith
+held_step n (Some (v, fate.Spurned)) = omega arith
 held_step n (Some (v, fate.Withdrawn)) = omega arith
 held_step n (Some (v, fate.Held)) = refl
 
@@ -116,27 +130,29 @@ fate_sum g acts e channels same =
     (λ p m. let q : 0 + d ≡ d = omega arith in ap {B = ℕ} (λ y. fated g (e y p)) q ∙ (ap {B = ℕ} (fated g) (sym (same d p)) ∙ fated_here g (element_at d p acts) (fate_at d p acts))))
 
 -- the same numbers give the same text
-same_text : (a b c d e a' b' c' d' e' : ℕ) → a ≡ a' → b ≡ b' → c ≡ c' → d ≡ d' → e ≡ e' → numbers_text a b c d e ≡ numbers_text a' b' c' d' e'
-same_text a b c d e a' b' c' d' e' p q r s t =
-    ap (λ i. numbers_text i b c d e) p
-    ∙ (ap (λ i. numbers_text a' i c d e) q
-    ∙ (ap (λ i. numbers_text a' b' i d e) r
-    ∙ (ap (λ i. numbers_text a' b' c' i e) s
-    ∙ ap (λ i. numbers_text a' b' c' d' i) t)))
+same_text : (v a b c d e f a' b' c' d' e' f' : ℕ) → a ≡ a' → b ≡ b' → c ≡ c' → d ≡ d' → e ≡ e' → f ≡ f' → numbers_text v a b c d e f ≡ numbers_text v a' b' c' d' e' f'
+same_text v a b c d e f a' b' c' d' e' f' p q r s t u =
+    ap (λ i. numbers_text v i b c d e f) p
+    ∙ (ap (λ i. numbers_text v a' i c d e f) q
+    ∙ (ap (λ i. numbers_text v a' b' i d e f) r
+    ∙ (ap (λ i. numbers_text v a' b' c' i e f) s
+    ∙ (ap (λ i. numbers_text v a' b' c' d' i f) t
+    ∙ ap (λ i. numbers_text v a' b' c' d' e' i) u))))
 
 -- what the folds give where this became of so many elements
-elements_counted : (channels : List Declared) (acts : List Act) (e : ℕ → ℕ → Option (ℕ × Fate)) (n : Counts) → ((c p : ℕ) → element_of acts c p ≡ e c p) → AreFatesOf (shape_in channels) acts n
-    → element_counts_text (with_channels e 0 no_elements channels) ≡ tally_text n
-elements_counted channels acts e n same f =
-    same_text _ _ _ _ _ _ _ _ _ _
+elements_counted : (version : ℕ) (channels : List Declared) (acts : List Act) (e : ℕ → ℕ → Option (ℕ × Fate)) (n : Counts) → ((c p : ℕ) → element_of acts c p ≡ e c p) → AreFatesOf (shape_in channels) acts n
+    → element_counts_text version (with_channels e 0 no_elements channels) ≡ tally_text version n
+elements_counted version channels acts e n same f =
+    same_text version _ _ _ _ _ _ _ _ _ _ _ _
     (let a = channels_field (λ x. x.received) fate.Received received_step e 0 no_elements channels in let b = fate_sum fate.Received acts e channels same in let c = f.received in omega arith)
     (let a = channels_field (λ x. x.undelivered) fate.Undelivered undelivered_step e 0 no_elements channels in let b = fate_sum fate.Undelivered acts e channels same in let c = f.undelivered in omega arith)
     (let a = channels_field (λ x. x.dropped) fate.Dropped dropped_step e 0 no_elements channels in let b = fate_sum fate.Dropped acts e channels same in let c = f.dropped in omega arith)
+    (let a = channels_field (λ x. x.spurned) fate.Spurned spurned_step e 0 no_elements channels in let b = fate_sum fate.Spurned acts e channels same in let c = f.spurned in omega arith)
     (let a = channels_field (λ x. x.withdrawn) fate.Withdrawn withdrawn_step e 0 no_elements channels in let b = fate_sum fate.Withdrawn acts e channels same in let c = f.withdrawn in omega arith)
     (let a = channels_field (λ x. x.held) fate.Held held_step e 0 no_elements channels in let b = fate_sum fate.Held acts e channels same in let c = f.held in omega arith)
 
 pub summary_tallied : (p : Program) (books : List (List Item)) (channels : List Entry) (jobs : List JobEntry) → BooksOf p books channels jobs → ResolvedAreSettled (replay channels) → ((c q : ℕ) → element_of (acts_in channels) c q ≡ element_of (channel_acts_noted books) c q)
-    → summary_text p books ≡ line_of_tallies (job_counts_text (jobs_counted (job_acts_noted books) (job_count p))) (tallied books) (end_noted 0 (job_acts_noted books))
+    → summary_text p books ≡ line_of_tallies p.version (job_counts_text (jobs_counted (job_acts_noted books) (job_count p))) (tallied books) (end_noted 0 (job_acts_noted books))
 summary_tallied p books channels jobs of rest same =
     ap (λ t. job_counts_text (jobs_counted (job_acts_noted books) (job_count p)) ++ t ++ codes "result " ++ result_text (end_noted 0 (job_acts_noted books)) ++ codes "\n")
-    (elements_counted p.channels (acts_in channels) (element_of (channel_acts_noted books)) (tallied books) same (run_tallied p books channels jobs of rest))
+    (elements_counted p.version p.channels (acts_in channels) (element_of (channel_acts_noted books)) (tallied books) same (run_tallied p books channels jobs of rest))

@@ -22,6 +22,6 @@ pub fn tallies_give_the_elements_of_the_summary()
         → BooksOf p books channels jobs → ResolvedAreSettled (replay channels)
         → ((c q : ℕ) → element_of (acts_in channels) c q ≡ element_of (channel_acts_noted books) c q)
         → summary_text p books
-        ≡ line_of_tallies (job_counts_text (jobs_counted (job_acts_noted books) (job_count p))) (tallied books)
+        ≡ line_of_tallies p.version (job_counts_text (jobs_counted (job_acts_noted books) (job_count p))) (tallied books)
         (end_noted 0 (job_acts_noted books)) }
 {}

@@ -5,7 +5,7 @@ use Rattle.std.proofs.Common.{sym, ap, ◌∙◌, arith}
 use Rattle.std.proofs.Math.Bool.{or-true}
 use Rattle.co_base.specs.declared.names.WaitId.{WaitId}
 use Rattle.channel_model.specs.declared.acts.Act.{Act}
-use Rattle.channel_model.specs.declared.acts.Act.TheVariants.{Hand, Put, Offer, Take, Drop, Drain, WakeClosed, Withdraw, Settle}
+use Rattle.channel_model.specs.declared.acts.Act.TheVariants.{Hand, Put, Offer, Take, Drop, Spurn, Drain, WakeClosed, Withdraw, Settle}
 use Rattle.channel_model.specs.declared.acts.Entry.{Entry}
 use Rattle.channel_model.specs.Answers.{IsUnsettledOf, IsSettledWait}
 use Rattle.channel_model.specs.Channels.{Shape, Wait}
@@ -15,7 +15,7 @@ use Rattle.note_book.specs.declared.book.Item.{Item}
 use Rattle.note_book.specs.Items.{channel_acts_in}
 use Rattle.tally_laws.specs.Counts.{Counts, nothing, added}
 use Rattle.tally_laws.specs.Elements.{AreFatesOf}
-use Rattle.tally_laws.specs.Kinds.{is_hand, is_put, is_offer, is_take, is_drop, is_drain, is_wake, is_withdraw, is_settle, gives_value, gives_up, settles_wait, takes_back, offers_settled}
+use Rattle.tally_laws.specs.Kinds.{is_hand, is_put, is_offer, is_take, is_drop, is_spurn, is_drain, is_wake, is_withdraw, is_settle, gives_value, gives_up, settles_wait, takes_back, offers_settled}
 use Rattle.tally_laws.specs.Settlings.{ResolvedAreSettled, has_one_wait, AreBooks}
 use Rattle.tally_laws.specs.Tallies.{Tally, empty, count_of, tally_of, tallied}
 use Rattle.tally_laws.proofs.Summed.{sum_same}
@@ -119,6 +119,10 @@ drops_step : (t : Tally) (a : Act) → (count_of t a).drops ≡ cond (is_drop a)
 drops_step t (Drop c p v) = refl
 drops_step t other = refl
 
+spurns_step : (t : Tally) (a : Act) → (count_of t a).spurns ≡ cond (is_spurn a) 1 0
+spurns_step t (Spurn c p v) = refl
+spurns_step t other = refl
+
 drains_step : (t : Tally) (a : Act) → (count_of t a).drains ≡ cond (is_drain a) 1 0
 drains_step t (Drain c p v) = refl
 drains_step t other = refl
@@ -151,6 +155,7 @@ books_counted shape history books l rest are =
     let c = plain_total history books are (λ x. x.offers) is_offer (λ x y. refl) refl offers_step in
     let d = plain_total history books are (λ x. x.takes) is_take (λ x y. refl) refl takes_step in
     let e = plain_total history books are (λ x. x.drops) is_drop (λ x y. refl) refl drops_step in
+    let p = plain_total history books are (λ x. x.spurns) is_spurn (λ x y. refl) refl spurns_step in
     let g = plain_total history books are (λ x. x.drains) is_drain (λ x y. refl) refl drains_step in
     let h = plain_total history books are (λ x. x.wakes) is_wake (λ x y. refl) refl wakes_step in
     let i = plain_total history books are (λ x. x.withdraws) is_withdraw (λ x y. refl) refl withdraws_step in
@@ -163,6 +168,7 @@ books_counted shape history books l rest are =
     let received_are = f.received in
     let undelivered_are = f.undelivered in
     let dropped_are = f.dropped in
+    let spurned_are = f.spurned in
     let withdrawn_are = f.withdrawn in
     let held_are = f.held in
-    record { elements = omega arith; received = omega arith; undelivered = omega arith; dropped = omega arith; withdrawn = omega arith; held = omega arith }
+    record { elements = omega arith; received = omega arith; undelivered = omega arith; dropped = omega arith; spurned = omega arith; withdrawn = omega arith; held = omega arith }

@@ -5,11 +5,11 @@ use Rattle.std.proofs.Common.{sym, ap, ◌∙◌, arith, ⊎_elim}
 use Rattle.std.proofs.lemmas.Bool.{eqb-true}
 use Rattle.co_base.specs.declared.names.WaitId.{WaitId}
 use Rattle.channel_model.specs.declared.acts.Act.{Act}
-use Rattle.channel_model.specs.declared.acts.Act.TheVariants.{Hand, Put, Offer, Await, Take, Drop, Drain, WakeClosed, Withdraw, Settle}
+use Rattle.channel_model.specs.declared.acts.Act.TheVariants.{Hand, Put, Offer, Await, Take, Drop, Spurn, Drain, WakeClosed, Withdraw, Settle}
 use Rattle.channel_model.specs.declared.acts.Settled.TheVariants as settled
 use Rattle.channel_model.specs.Channels.{Shape, State, Wait, same_wait, places_at}
 use Rattle.channel_model.specs.Answers.{IsResolvedWait}
-use Rattle.channel_model.specs.Fates.{is_at, hands, takes, drops_at, drains, admits, withdraws, settles_value, settles_undelivered, is_value, is_undelivered, offers_at, first_some, wait_at, places_wait, of_wait, of_offer, or_else, is_taken_back, removes}
+use Rattle.channel_model.specs.Fates.{is_at, hands, takes, drops_at, spurns_at, drains, admits, withdraws, settles_value, settles_undelivered, is_value, is_undelivered, offers_at, first_some, wait_at, places_wait, of_wait, of_offer, or_else, is_taken_back, removes}
 use Rattle.channel_model.specs.Laws.{how_many}
 use Rattle.channel_model.proofs.Waits.{same_wait-eq, same_wait-refl}
 use Rattle.channel_fates.proofs.Appended.{any_count, none_count, count_any, found, first_there}
@@ -20,7 +20,7 @@ use Rattle.channel_fates.proofs.ChosenOnce.{admitted_resolved}
 use Rattle.channel_fates.proofs.OwnPlaces.{name_of, alone}
 use Rattle.channel_fates.proofs.AtMostOne.{and_both, some_wait, leaves_count}
 use Rattle.tally_laws.specs.Sums.{sum_places}
-use Rattle.tally_laws.specs.Kinds.{is_hand, is_put, is_offer, is_take, is_drop, is_drain, is_wake, is_withdraw, is_settle, gives_value, gives_up, settles_wait, is_plain_offer, takes_back, offers_settled}
+use Rattle.tally_laws.specs.Kinds.{is_hand, is_put, is_offer, is_take, is_drop, is_spurn, is_drain, is_wake, is_withdraw, is_settle, gives_value, gives_up, settles_wait, is_plain_offer, takes_back, offers_settled}
 use Rattle.tally_laws.specs.Settlings.{ResolvedAreSettled}
 use Rattle.tally_laws.proofs.Summed.{places_same}
 use Rattle.tally_laws.proofs.Counting.{count_sum, count_less, any_one, spread, IsIn, AtOne, by_places, at_its_place, by_one_test}
@@ -197,7 +197,7 @@ module _ (shape : Shape) (acts : List Act) (s : State) (k : Kept shape acts s) w
   handed_here : (c p : ℕ) → list_any (hands c p) acts ≡ true → IsPlace shape c p
   handed_here c p e = answered c p (any_by (hands c p) (answers c p) (hand_answers c p) acts e)
 
-  left_here : (c p : ℕ) → 1 ≤ how_many (takes c p) acts + how_many (drains c p) acts + how_many (drops_at c p) acts → IsPlace shape c p
+  left_here : (c p : ℕ) → 1 ≤ how_many (takes c p) acts + how_many (drains c p) acts + how_many (drops_at c p) acts + how_many (spurns_at c p) acts → IsPlace shape c p
   left_here c p l = let h = counted c p in k.given.range c p (omega (arith, h.queue, leaves_count c p acts))
 
   brought_here : (c p : ℕ) → 1 ≤ how_many (puts c p) acts + how_many (offers c p) acts → IsPlace shape c p
@@ -250,6 +250,13 @@ module _ (shape : Shape) (acts : List Act) (s : State) (k : Kept shape acts s) w
 
   pub drops_sum : over shape (λ c p. how_many (drops_at c p) acts) ≡ how_many is_drop acts
   drops_sum = by_places (length shape) (places_at shape) (λ a c p. drops_at c p a) is_drop acts drop_at
+
+  spurn_at : (a : Act) → IsIn a acts → AtOne (length shape) (places_at shape) (λ c p. spurns_at c p a) (is_spurn a)
+  spurn_at (Spurn d q v) i = at_its_place (length shape) (places_at shape) d q (left_here d q (let n = any_count (spurns_at d q) acts (i (spurns_at d q) (here d q)) in omega arith))
+  spurn_at other i = λ c p. refl
+
+  pub spurns_sum : over shape (λ c p. how_many (spurns_at c p) acts) ≡ how_many is_spurn acts
+  spurns_sum = by_places (length shape) (places_at shape) (λ a c p. spurns_at c p a) is_spurn acts spurn_at
 
   drain_at : (a : Act) → IsIn a acts → AtOne (length shape) (places_at shape) (λ c p. drains c p a) (is_drain a)
   drain_at (Drain d q v) i = at_its_place (length shape) (places_at shape) d q (left_here d q (let n = any_count (drains d q) acts (i (drains d q) (here d q)) in omega arith))

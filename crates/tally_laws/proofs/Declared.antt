@@ -112,6 +112,7 @@ fates_of_declared declared signals history n h l f = record {
   received = sym (declared_alone declared signals (has_fate fate.Received (acts_in history)) (no_fate fate.Received)) ∙ f.received;
   undelivered = sym (declared_alone declared signals (has_fate fate.Undelivered (acts_in history)) (no_fate fate.Undelivered)) ∙ f.undelivered;
   dropped = sym (declared_alone declared signals (has_fate fate.Dropped (acts_in history)) (no_fate fate.Dropped)) ∙ f.dropped;
+  spurned = sym (declared_alone declared signals (has_fate fate.Spurned (acts_in history)) (no_fate fate.Spurned)) ∙ f.spurned;
   withdrawn = sym (declared_alone declared signals (has_fate fate.Withdrawn (acts_in history)) (no_fate fate.Withdrawn)) ∙ f.withdrawn;
   held = sym (declared_alone declared signals (has_fate fate.Held (acts_in history)) (no_fate fate.Held)) ∙ f.held;
 }

@@ -6,7 +6,7 @@ use Rattle.std.proofs.Common.{sym, ap, ◌∙◌, subst, arith, inl, inr, ⊎_el
 use Rattle.std.proofs.lemmas.Bool.{cases_lt}
 use Rattle.co_base.specs.declared.names.WaitId.{WaitId}
 use Rattle.channel_model.specs.declared.acts.Act.{Act}
-use Rattle.channel_model.specs.declared.acts.Act.TheVariants.{Hand, Put, Offer, Await, Take, Admit, Drop, Close, Void, Drain, WakeClosed, Withdraw, Settle}
+use Rattle.channel_model.specs.declared.acts.Act.TheVariants.{Hand, Put, Offer, Await, Take, Admit, Drop, Spurn, Close, Void, Drain, WakeClosed, Withdraw, Settle}
 use Rattle.channel_model.specs.declared.acts.Entry.{Entry}
 use Rattle.channel_model.specs.declared.acts.Settled.{Settled}
 use Rattle.channel_model.specs.declared.acts.Settled.TheVariants as settled
@@ -168,6 +168,7 @@ module _ (shape : Shape) (acts : List Act) (s : State) (t : Told acts s) where
   handed_from who (Take c p v) w n h = inl (offer_not w c (s.channels c).queue resolved.Taken s (λ k. refl) h)
   handed_from who (Admit c p) w n h = inl (holder_not w (holder_at p (s.channels c).queue) resolved.Admitted (with_queue c (admitted p (s.channels c).queue) s) (λ k. refl) h)
   handed_from who (Drop c p v) w n h = inl (removed_not w c (s.channels c).queue s h)
+  handed_from who (Spurn c p v) w n h = inl h
   handed_from who (Close c v) w n h = inl h
   handed_from who (Void c) w n h = inl h
   handed_from who (Drain c p v) w n h = inl (offer_not w c (s.channels c).queue (λ k. resolved.Voided) s (λ k. refl) h)

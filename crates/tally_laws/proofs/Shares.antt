@@ -10,7 +10,7 @@ use Rattle.channel_model.specs.declared.acts.Act.{Act}
 use Rattle.channel_model.specs.declared.acts.Act.TheVariants.{Hand, Put, Offer, Drain}
 use Rattle.channel_model.specs.Channels.{Shape, State}
 use Rattle.channel_model.specs.Answers.{IsResolvedWait, IsSettledWait}
-use Rattle.channel_model.specs.Fates.{is_at, brings, hands, takes, admits, drops_at, drains, withdraws, settles_value, settles_undelivered, resolves_at, places_wait, offers_at, first_some, element_at, wait_at, is_wait, resolves_elsewhere, is_chosen_elsewhere, of_wait, of_offer, is_received, is_taken_back, is_undelivered_at, is_dropped, is_withdrawn}
+use Rattle.channel_model.specs.Fates.{is_at, brings, hands, takes, admits, drops_at, spurns_at, drains, withdraws, settles_value, settles_undelivered, resolves_at, places_wait, offers_at, first_some, element_at, wait_at, is_wait, resolves_elsewhere, is_chosen_elsewhere, of_wait, of_offer, is_received, is_taken_back, is_undelivered_at, is_dropped, is_spurned, is_withdrawn}
 use Rattle.channel_model.specs.Laws.{how_many}
 use Rattle.channel_model.proofs.Waits.{same_wait-refl}
 use Rattle.channel_fates.proofs.Appended.{any_count, none_count, found, first_found, first_there}
@@ -131,11 +131,11 @@ module _ (shape : Shape) (acts : List Act) (s : State) (t : Traced shape acts s)
   brought_once : how_many (hands c p) acts + (how_many (puts c p) acts + how_many (offers c p) acts) ≤ 1
   brought_once = let e = enters_count c p acts in omega (arith, hands_few, counted.receivers, counted.given)
 
-  left_once : how_many (takes c p) acts + how_many (drains c p) acts + how_many (drops_at c p) acts ≤ 1
+  left_once : how_many (takes c p) acts + how_many (drains c p) acts + how_many (drops_at c p) acts + how_many (spurns_at c p) acts ≤ 1
   left_once = omega (arith, leaves_count c p acts, counted.queue, counted.given)
 
   -- what left was brought
-  left_brought : 1 ≤ how_many (takes c p) acts + how_many (drains c p) acts + how_many (drops_at c p) acts → 1 ≤ how_many (puts c p) acts + how_many (offers c p) acts
+  left_brought : 1 ≤ how_many (takes c p) acts + how_many (drains c p) acts + how_many (drops_at c p) acts + how_many (spurns_at c p) acts → 1 ≤ how_many (puts c p) acts + how_many (offers c p) acts
   left_brought h = omega (arith, leaves_count c p acts, counted.queue, enters_count c p acts)
 
   there : {f : Act → Bool} → ((act : Act) → f act ≡ true → (v : ℕ) × (brings c p act ≡ Some v)) → list_any f acts ≡ true → is_some (element_at c p acts) ≡ true
@@ -197,10 +197,13 @@ module _ (shape : Shape) (acts : List Act) (s : State) (t : Traced shape acts s)
   pub dropped_there : is_dropped c p acts ≡ true → is_some (element_at c p acts) ≡ true
   dropped_there e = let n = any_count (drops_at c p) acts e in let m = left_brought (omega arith) in element_there (omega arith)
 
+  pub spurned_there : is_spurned c p acts ≡ true → is_some (element_at c p acts) ≡ true
+  spurned_there e = let n = any_count (spurns_at c p) acts e in let m = left_brought (omega arith) in element_there (omega arith)
+
   pub withdrawn_there : is_withdrawn c p acts ≡ true → is_some (element_at c p acts) ≡ true
   withdrawn_there e = let o = withdrawn_is c p acts e in offered_there o.0 o.1
 
-  -- ---- received, undelivered, dropped
+  -- ---- received, undelivered, dropped, spurned
 
   handed_test : (test : WaitId → Act → Bool) → is_handed_as test acts c p ≡ true → list_any (hands c p) acts ≡ true
   handed_test test e = (and_both _ _ e).0
@@ -235,6 +238,9 @@ module _ (shape : Shape) (acts : List Act) (s : State) (t : Traced shape acts s)
 
   pub dropped_share : cond (is_dropped c p acts) 1 0 ≡ how_many (drops_at c p) acts
   dropped_share = any_one (drops_at c p) acts (let m = left_once in omega arith)
+
+  pub spurned_share : cond (is_spurned c p acts) 1 0 ≡ how_many (spurns_at c p) acts
+  spurned_share = any_one (spurns_at c p) acts (let m = left_once in omega arith)
 
   -- ---- offers
 

@@ -2,7 +2,7 @@
 use Rattle.std.specs.Prelude.{ℕ, ◌+◌, ◌-◌, List}
 use Rattle.channel_model.specs.declared.acts.Act.{Act}
 use Rattle.channel_model.specs.Laws.{how_many}
-use Rattle.tally_laws.specs.Kinds.{is_hand, is_put, is_offer, is_take, is_drop, is_drain, is_wake, is_withdraw, is_settle}
+use Rattle.tally_laws.specs.Kinds.{is_hand, is_put, is_offer, is_take, is_drop, is_spurn, is_drain, is_wake, is_withdraw, is_settle}
 use Rattle.tally_laws.specs.Kinds.{gives_value, gives_up, takes_back, offers_settled}
 
 pub record Counts : Type 0 where
@@ -11,6 +11,7 @@ pub record Counts : Type 0 where
   pub offers : ℕ
   pub takes : ℕ
   pub drops : ℕ
+  pub spurns : ℕ
   pub drains : ℕ
   -- how many receivers were told that their channel is closed
   pub wakes : ℕ
@@ -31,6 +32,7 @@ nothing = record {
   offers = 0;
   takes = 0;
   drops = 0;
+  spurns = 0;
   drains = 0;
   wakes = 0;
   withdraws = 0;
@@ -49,6 +51,7 @@ added x y = record {
   offers = x.offers + y.offers;
   takes = x.takes + y.takes;
   drops = x.drops + y.drops;
+  spurns = x.spurns + y.spurns;
   drains = x.drains + y.drains;
   wakes = x.wakes + y.wakes;
   withdraws = x.withdraws + y.withdraws;
@@ -67,6 +70,7 @@ counts_of acts = record {
   offers = how_many is_offer acts;
   takes = how_many is_take acts;
   drops = how_many is_drop acts;
+  spurns = how_many is_spurn acts;
   drains = how_many is_drain acts;
   wakes = how_many is_wake acts;
   withdraws = how_many is_withdraw acts;
@@ -93,6 +97,9 @@ undelivered n = n.drains + n.given_up + n.taken_back
 abbrev pub dropped : Counts → ℕ
 dropped n = n.drops
 
+abbrev pub spurned : Counts → ℕ
+spurned n = n.spurns
+
 -- how many waits were resolved at one of their offers: each that was settled was that, or was handed an element, told of a
 -- close or withdrawn
 abbrev pub resolved_at_offers : Counts → ℕ
@@ -104,4 +111,4 @@ withdrawn n = n.ended - (resolved_at_offers n + n.taken_back)
 
 -- the rest
 abbrev pub held : Counts → ℕ
-held n = elements n - (received n + undelivered n + dropped n + withdrawn n)
+held n = elements n - (received n + undelivered n + dropped n + spurned n + withdrawn n)

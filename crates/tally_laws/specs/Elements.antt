@@ -6,7 +6,7 @@ use Rattle.channel_model.specs.declared.acts.Fate.{Fate}
 use Rattle.channel_model.specs.declared.acts.Fate.TheVariants as fate
 use Rattle.channel_model.specs.Channels.{Shape, places_at, is_signal}
 use Rattle.channel_model.specs.Fates.{element_at, fate_at}
-use Rattle.tally_laws.specs.Counts.{Counts, elements, received, undelivered, dropped, withdrawn, held}
+use Rattle.tally_laws.specs.Counts.{Counts, elements, received, undelivered, dropped, spurned, withdrawn, held}
 use Rattle.tally_laws.specs.Sums.{sum_places}
 
 -- a number for each fate
@@ -14,8 +14,9 @@ abbrev pub number_of : Fate → ℕ
 number_of fate.Received = 0
 number_of fate.Undelivered = 1
 number_of fate.Dropped = 2
-number_of fate.Withdrawn = 3
-number_of fate.Held = 4
+number_of fate.Spurned = 3
+number_of fate.Withdrawn = 4
+number_of fate.Held = 5
 
 -- the place has an element
 abbrev pub has_element : List Act → ℕ → ℕ → Bool
@@ -39,5 +40,6 @@ pub record AreFatesOf (shape : Shape) (acts : List Act) (n : Counts) : Type 0 wh
   pub received : places_where shape (has_fate fate.Received acts) ≡ received n
   pub undelivered : places_where shape (has_fate fate.Undelivered acts) ≡ undelivered n
   pub dropped : places_where shape (has_fate fate.Dropped acts) ≡ dropped n
+  pub spurned : places_where shape (has_fate fate.Spurned acts) ≡ spurned n
   pub withdrawn : places_where shape (has_fate fate.Withdrawn acts) ≡ withdrawn n
   pub held : places_where shape (has_fate fate.Held acts) ≡ held n

@@ -1,7 +1,7 @@
 -- Examples of runs: the acts on channels of each book, and what their tallies tell.
 use Rattle.std.specs.Prelude.{ℕ, List, [], ◌∷◌, map}
 use Rattle.channel_model.specs.declared.acts.Act.{Act}
-use Rattle.channel_model.specs.declared.acts.Act.TheVariants.{Hand, Put, Offer, Await, Take, Admit, Drop}
+use Rattle.channel_model.specs.declared.acts.Act.TheVariants.{Hand, Put, Offer, Await, Take, Admit, Drop, Spurn}
 use Rattle.channel_model.specs.declared.acts.Act.TheVariants.{Close, Void, Drain, WakeClosed, Withdraw, Settle}
 use Rattle.channel_model.specs.declared.acts.ChannelNote.TheVariants as of_channel
 use Rattle.channel_model.specs.declared.acts.Settled.TheVariants as settled
@@ -9,7 +9,7 @@ use Rattle.channel_model.specs.declared.acts.Why.TheVariants as why
 use Rattle.co_base.specs.declared.names.WaitId.{WaitId}
 use Rattle.note_book.specs.declared.book.Item.{Item}
 use Rattle.note_book.specs.declared.book.Item.TheVariants as item
-use Rattle.tally_laws.specs.Counts.{elements, received, undelivered, dropped, withdrawn, held}
+use Rattle.tally_laws.specs.Counts.{elements, received, undelivered, dropped, spurned, withdrawn, held}
 use Rattle.tally_laws.specs.Tallies.{tallied}
 
 -- ---- words
@@ -21,11 +21,11 @@ wait_at p = record { channel = 0; place = p }
 abbrev pub made : Act → Item
 made act = item.Channel (of_channel.Made act)
 
--- how many elements, and how many of them received, undelivered, dropped, withdrawn and held
+-- how many elements, and how many of them received, undelivered, dropped, spurned, withdrawn and held
 abbrev pub told : List (List Act) → List ℕ
 told books =
     let n = tallied (map (λ acts. map made acts) books) in
-    elements n ∷ received n ∷ undelivered n ∷ dropped n ∷ withdrawn n ∷ held n ∷ []
+    elements n ∷ received n ∷ undelivered n ∷ dropped n ∷ spurned n ∷ withdrawn n ∷ held n ∷ []
 
 -- ---- books
 
@@ -41,6 +41,10 @@ admitted =
 -- the newest alone is kept
 abbrev pub newest : List (List Act)
 newest = (Put 0 0 1 ∷ Put 0 1 2 ∷ Drop 0 0 1 ∷ Put 0 2 3 ∷ Drop 0 1 2 ∷ Take 0 2 3 ∷ []) ∷ []
+
+-- the first two alone are kept
+abbrev pub oldest : List (List Act)
+oldest = (Put 0 0 1 ∷ Put 0 1 2 ∷ Put 0 2 3 ∷ Spurn 0 2 3 ∷ Take 0 0 1 ∷ []) ∷ []
 
 -- a channel is cancelled on which one element is kept and another one waits
 abbrev pub drained : List (List Act)
@@ -94,17 +98,18 @@ select_closed = (Close 1 0 ∷ WakeClosed 1 0 ∷ []) ∷ select_then (Settle (w
 -- the books, and what is told of them
 abbrev pub examples : List (List (List Act) × List ℕ)
 examples =
-    (waits, 1 ∷ 0 ∷ 0 ∷ 0 ∷ 0 ∷ 1 ∷ [])
-    ∷ (admitted, 3 ∷ 1 ∷ 0 ∷ 0 ∷ 0 ∷ 2 ∷ [])
-    ∷ (newest, 3 ∷ 1 ∷ 0 ∷ 2 ∷ 0 ∷ 0 ∷ [])
-    ∷ (drained, 2 ∷ 0 ∷ 2 ∷ 0 ∷ 0 ∷ 0 ∷ [])
-    ∷ (given_up, 1 ∷ 0 ∷ 1 ∷ 0 ∷ 0 ∷ 0 ∷ [])
-    ∷ (closed, 0 ∷ 0 ∷ 0 ∷ 0 ∷ 0 ∷ 0 ∷ [])
-    ∷ (chosen, 2 ∷ 1 ∷ 0 ∷ 0 ∷ 1 ∷ 0 ∷ [])
-    ∷ (taken_back, 1 ∷ 0 ∷ 1 ∷ 0 ∷ 0 ∷ 0 ∷ [])
-    ∷ (select_receives, 2 ∷ 1 ∷ 0 ∷ 0 ∷ 1 ∷ 0 ∷ [])
-    ∷ (select_withdrawn, 1 ∷ 0 ∷ 0 ∷ 0 ∷ 1 ∷ 0 ∷ [])
-    ∷ (select_voided, 1 ∷ 0 ∷ 1 ∷ 0 ∷ 0 ∷ 0 ∷ [])
-    ∷ (select_taken, 1 ∷ 1 ∷ 0 ∷ 0 ∷ 0 ∷ 0 ∷ [])
-    ∷ (select_closed, 1 ∷ 0 ∷ 0 ∷ 0 ∷ 1 ∷ 0 ∷ [])
+    (waits, 1 ∷ 0 ∷ 0 ∷ 0 ∷ 0 ∷ 0 ∷ 1 ∷ [])
+    ∷ (admitted, 3 ∷ 1 ∷ 0 ∷ 0 ∷ 0 ∷ 0 ∷ 2 ∷ [])
+    ∷ (newest, 3 ∷ 1 ∷ 0 ∷ 2 ∷ 0 ∷ 0 ∷ 0 ∷ [])
+    ∷ (oldest, 3 ∷ 1 ∷ 0 ∷ 0 ∷ 1 ∷ 0 ∷ 1 ∷ [])
+    ∷ (drained, 2 ∷ 0 ∷ 2 ∷ 0 ∷ 0 ∷ 0 ∷ 0 ∷ [])
+    ∷ (given_up, 1 ∷ 0 ∷ 1 ∷ 0 ∷ 0 ∷ 0 ∷ 0 ∷ [])
+    ∷ (closed, 0 ∷ 0 ∷ 0 ∷ 0 ∷ 0 ∷ 0 ∷ 0 ∷ [])
+    ∷ (chosen, 2 ∷ 1 ∷ 0 ∷ 0 ∷ 0 ∷ 1 ∷ 0 ∷ [])
+    ∷ (taken_back, 1 ∷ 0 ∷ 1 ∷ 0 ∷ 0 ∷ 0 ∷ 0 ∷ [])
+    ∷ (select_receives, 2 ∷ 1 ∷ 0 ∷ 0 ∷ 0 ∷ 1 ∷ 0 ∷ [])
+    ∷ (select_withdrawn, 1 ∷ 0 ∷ 0 ∷ 0 ∷ 0 ∷ 1 ∷ 0 ∷ [])
+    ∷ (select_voided, 1 ∷ 0 ∷ 1 ∷ 0 ∷ 0 ∷ 0 ∷ 0 ∷ [])
+    ∷ (select_taken, 1 ∷ 1 ∷ 0 ∷ 0 ∷ 0 ∷ 0 ∷ 0 ∷ [])
+    ∷ (select_closed, 1 ∷ 0 ∷ 0 ∷ 0 ∷ 0 ∷ 1 ∷ 0 ∷ [])
     ∷ []

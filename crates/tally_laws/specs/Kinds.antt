@@ -2,7 +2,7 @@
 use Rattle.std.specs.Prelude.{◌==◌, Bool, true, false, List}
 use Rattle.std.specs.List.{list_any}
 use Rattle.channel_model.specs.declared.acts.Act.{Act}
-use Rattle.channel_model.specs.declared.acts.Act.TheVariants.{Hand, Put, Offer, Take, Drop, Drain, WakeClosed, Withdraw, Settle}
+use Rattle.channel_model.specs.declared.acts.Act.TheVariants.{Hand, Put, Offer, Take, Drop, Spurn, Drain, WakeClosed, Withdraw, Settle}
 use Rattle.co_base.specs.declared.names.WaitId.{WaitId}
 use Rattle.channel_model.specs.Channels.{same_wait}
 use Rattle.channel_model.specs.Fates.{is_value, is_undelivered, of_offer, first_some, offers_at}
@@ -28,6 +28,10 @@ is_take other = false
 abbrev pub is_drop : Act → Bool
 is_drop (Drop c p v) = true
 is_drop other = false
+
+abbrev pub is_spurn : Act → Bool
+is_spurn (Spurn c p v) = true
+is_spurn other = false
 
 abbrev pub is_drain : Act → Bool
 is_drain (Drain c p v) = true

@@ -1,7 +1,7 @@
 -- What one caller keeps of its acts: their counts, and of the wait that it has how many offers it placed.
 use Rattle.std.specs.Prelude.{ℕ, ◌+◌, ◌==◌, cond, List, [], ◌∷◌}
 use Rattle.channel_model.specs.declared.acts.Act.{Act}
-use Rattle.channel_model.specs.declared.acts.Act.TheVariants.{Hand, Put, Offer, Take, Drop, Drain, WakeClosed, Withdraw, Settle}
+use Rattle.channel_model.specs.declared.acts.Act.TheVariants.{Hand, Put, Offer, Take, Drop, Spurn, Drain, WakeClosed, Withdraw, Settle}
 use Rattle.channel_model.specs.Fates.{is_value, is_undelivered}
 use Rattle.note_book.specs.declared.book.Item.{Item}
 use Rattle.note_book.specs.Items.{channel_acts_in}
@@ -23,6 +23,7 @@ count_of t (Put c p v) = record nothing { puts = 1 }
 count_of t (Offer c p v w k) = record nothing { offers = 1 }
 count_of t (Take c p v) = record nothing { takes = 1 }
 count_of t (Drop c p v) = record nothing { drops = 1 }
+count_of t (Spurn c p v) = record nothing { spurns = 1 }
 count_of t (Drain c p v) = record nothing { drains = 1 }
 count_of t (WakeClosed c p) = record nothing { wakes = 1 }
 count_of t (Withdraw w why) = record nothing { withdraws = 1; taken_back = t.plain_offers }

@@ -189,6 +189,14 @@ impl<N: HubName> ChannelFloor for HubSeat<'_, N> {
         .trim(who, c, mine)
     }
 
+    fn spurn(&mut self, who: Tag, c: ChannelId, mine: Place) -> Option<Value> {
+        Desk {
+            hub: self.hub,
+            pass: &mut self.pass,
+        }
+        .spurn(who, c, mine)
+    }
+
     ghost legal = { λ s. hub_legal s.hub.now s.pass s.of };
 
     ghost shaped = { λ s. s.hub.now.sized.places };

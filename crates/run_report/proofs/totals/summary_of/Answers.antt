@@ -16,4 +16,4 @@ returns c =
     let elements = c.count_elements.ensures
     ∙ ap (λ known. with_channels known 0 no_elements (map declared_of c.args.channels.now)) (c.in_ok-known.ensures.elements ∙ ap element_of (c.as_slice.ensures.value ∙ c.in_ok-acts.ensures)) in
     let root = c.root_end.ensures ∙ ap (λ t. (facts_at t 0).end) c.as_slice-3.ensures.value ∙ ap (λ f. f.end) (c.in_ok-table.ensures.facts 0 c.requires.root) in
-    c.in_ok-text.ensures ∙ (λ i. summary_line (jobs i) (elements i) (root i))
+    c.in_ok-text.ensures ∙ (λ i. summary_line c.args.version (jobs i) (elements i) (root i))

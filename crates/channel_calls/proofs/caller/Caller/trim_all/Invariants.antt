@@ -3,7 +3,7 @@ use Rattle.channel_model.proofs.Left.{left_of}
 use Rattle.channel_calls.specs.Calls.{SameCaller}
 use Rattle.channel_calls.proofs.Repeated.{Repeats}
 use Rattle.channel_calls.proofs.DropsTold.{drop_of, AllFollow}
-use Rattle.channel_calls.proofs.caller.Caller.after_put.Given as goal
+use Rattle.channel_calls.proofs.caller.Caller.trim_all.Given as goal
 
 abbrev pub invariant-loop-memory : goal.invariant-loop-memory
 invariant-loop-memory g l = record {
