@@ -58,6 +58,31 @@ end
 0 take a 2 3
 element a 0 1 dropped
 element a 1 2 dropped
+# A channel that does not keep its latest holds what came first; an empty line may stand before the version.
+
+script 2
+channel a droplatest 2
+coroutine main
+send a 1
+send a 2
+send a 3
+trysend a 4
+receive a
+send a 5
+end
+= 0 channels
+0 put a 0 1
+0 put a 1 2
+0 put a 2 3
+0 spurn a 2 3
+0 put a 3 4
+0 spurn a 3 4
+0 take a 0 1
+0 put a 4 5
+element a 1 2 held
+element a 2 3 spurned
+element a 3 4 spurned
+element a 4 5 held
 # A closed channel gives out what it holds, and then answers each call that it is closed.
 channel a buffered 2
 coroutine main

@@ -49,6 +49,37 @@ await j
 end
 = 3 report
 line 5: Undeclared
+# A channel of the second version in a script that does not begin with it.
+channel a droplatest 2
+coroutine main
+end
+= 3 report
+line 1: UnknownWord
+# A version that is none.
+script 3
+channel a droplatest 2
+coroutine main
+end
+= 3 report
+line 1: BadNumber
+# The version after another line.
+channel a rendezvous
+script 2
+coroutine main
+end
+= 3 report
+line 2: UnknownWord
+# The version twice.
+script 2
+script 2
+coroutine main
+end
+= 3 report
+line 2: UnknownWord
+# The version without a number.
+script
+= 3 report
+line 1: BadNumber
 # A word too many.
 coroutine main extra
 = 3 report

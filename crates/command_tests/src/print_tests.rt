@@ -67,3 +67,22 @@ fn a_script_of_every_line_is_printed_as_it_was(rt: HostRuntime) -> Result<(), Fa
     assert_eq!(rt; script.coroutine_of(16), 0);
     Ok(())
 }
+
+/// A script of the second version, as it is printed.
+const SECOND_VERSION: &[u8] = b"script 2
+channel a droplatest 65535 places 8
+channel b dropoldest 1 places 16384
+coroutine main
+end
+";
+
+#[test]
+fn a_script_of_the_second_version_is_printed_as_it_was(rt: HostRuntime) -> Result<(), Fail> {
+    let script = read(rt.alloc(), SECOND_VERSION)?;
+    let text = print(rt.alloc(), &script)?;
+    assert_eq!(rt; text.as_slice(), SECOND_VERSION);
+    assert_eq!(rt; script.version(), 2);
+    let first = read(rt.alloc(), EVERY_LINE)?;
+    assert_eq!(rt; first.version(), 1);
+    Ok(())
+}

@@ -37,7 +37,8 @@ attaches above line = bytes_eq (word 0 line) (codes "0") || (tells (codes "attac
 -- the line gets no element, or the other brought it
 abbrev pub brings : List ℕ → List ℕ → Bool
 brings above line =
-    not (tells (codes "take") line || (tells (codes "drop") line || tells (codes "drain") line))
+    not (tells (codes "take") line
+    || (tells (codes "drop") line || (tells (codes "spurn") line || tells (codes "drain") line)))
     || ((tells (codes "put") above || tells (codes "offer") above) && agree_on_place above line)
 
 -- the line placed this wait

@@ -56,7 +56,7 @@ fn push_channel<'a>(
             push(causes, of.brings, here)?;
             push(causes, of.admits, here)
         }
-        Verb::Admit | Verb::Drop | Verb::Drain => push(causes, of.brings, here),
+        Verb::Admit | Verb::Drop | Verb::Spurn | Verb::Drain => push(causes, of.brings, here),
         Verb::Offer => {
             let by = sent_by(of);
             let wait = tables.wait(note.wait);

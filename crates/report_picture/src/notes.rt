@@ -14,6 +14,7 @@ pub(crate) enum Verb {
     Take,
     Admit,
     Drop,
+    Spurn,
     Drain,
     WakeClosed,
     Close,
@@ -32,7 +33,7 @@ pub(crate) enum Verb {
     Other,
 }
 
-const VERBS: [(&[u8], Verb); 25] = [
+const VERBS: [(&[u8], Verb); 26] = [
     (b"hand", Verb::Hand),
     (b"put", Verb::Put),
     (b"offer", Verb::Offer),
@@ -40,6 +41,7 @@ const VERBS: [(&[u8], Verb); 25] = [
     (b"take", Verb::Take),
     (b"admit", Verb::Admit),
     (b"drop", Verb::Drop),
+    (b"spurn", Verb::Spurn),
     (b"drain", Verb::Drain),
     (b"wakeclosed", Verb::WakeClosed),
     (b"close", Verb::Close),
@@ -124,7 +126,7 @@ fn note_of<'a>(tag: u32, text: &'a [u8], words: &[&'a [u8]]) -> Note<'a> {
         cancelled: false,
     };
     match verb {
-        Verb::Hand | Verb::Put | Verb::Take | Verb::Drop | Verb::Drain => {
+        Verb::Hand | Verb::Put | Verb::Take | Verb::Drop | Verb::Spurn | Verb::Drain => {
             note.channel = word_at(words, 2);
             note.place = word_at(words, 3);
             note.value = word_at(words, 4);

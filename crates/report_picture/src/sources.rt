@@ -82,7 +82,8 @@ fn attaches(above: &[u8], line: &[u8]) -> bool
 fn brings(above: &[u8], line: &[u8]) -> bool
     ensures { result ≡ brings above.now line.now }
 {
-    !(tells(b"take", line) || (tells(b"drop", line) || tells(b"drain", line)))
+    !(tells(b"take", line)
+        || (tells(b"drop", line) || (tells(b"spurn", line) || tells(b"drain", line))))
         || ((tells(b"put", above) || tells(b"offer", above)) && agree_on_place(above, line))
 }
 

@@ -98,7 +98,7 @@ impl<'a> Tables<'a> {
             Verb::Await => of.awaits = Some(number),
             Verb::Admit => of.admits = Some(number),
             Verb::Take => of.takes = Some(number),
-            Verb::Drop | Verb::Drain => of.gives_up = Some(number),
+            Verb::Drop | Verb::Spurn | Verb::Drain => of.gives_up = Some(number),
             Verb::WakeClosed => of.wakes = Some(number),
             _ => {}
         }
@@ -154,6 +154,7 @@ impl<'a> Tables<'a> {
             | Verb::Take
             | Verb::Admit
             | Verb::Drop
+            | Verb::Spurn
             | Verb::Drain
             | Verb::WakeClosed => self.add_place(number, note),
             Verb::Settle | Verb::Late => self.add_wait(number, note),

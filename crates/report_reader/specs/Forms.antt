@@ -55,8 +55,8 @@ forms_in text = slice_split (λ b. b == 10) text
 -- what stands behind the tag in a line of a book: acts and notes on channels, then those on Jobs
 abbrev pub note_forms : List ℕ
 note_forms =
-    codes "hand C N N\nput C N N\noffer C N N W N\nawait C N W N\ntake C N N\nadmit C N\ndrop C N N\nclose C N\n"
-    ++ codes "void C\ndrain C N N\nwakeclosed C N\nwithdraw W cancelled\nwithdraw W revoked\nsettle W value N N\n"
+    codes "hand C N N\nput C N N\noffer C N N W N\nawait C N W N\ntake C N N\nadmit C N\ndrop C N N\n"
+    ++ codes "spurn C N N\nclose C N\nvoid C\ndrain C N N\nwakeclosed C N\nwithdraw W cancelled\nwithdraw W revoked\nsettle W value N N\n"
     ++ codes "settle W sent N\nsettle W closed N N\nsettle W cancelled\nsettle W undelivered N\nsendclosed C N N\n"
     ++ codes "trysendclosed C N N\nreceiveclosed C N\ntryreceiveclosed C N\nalreadyclosed C N\nfull C N\nempty C\n"
     ++ codes "spent C\npartner C N\nresolved W\nlate W\n"
@@ -73,7 +73,7 @@ job_forms = codes "completed N\ncancelled\nfailed N\nnew\nactive\ncompleting\nca
 
 -- what stands behind the first word in the line of an element that nobody received
 abbrev pub element_forms : List ℕ
-element_forms = codes "C N N held\nC N N undelivered\nC N N dropped\nC N N withdrawn"
+element_forms = codes "C N N held\nC N N undelivered\nC N N dropped\nC N N spurned\nC N N withdrawn"
 
 -- ---- what a line is
 

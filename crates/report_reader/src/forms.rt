@@ -115,8 +115,8 @@ fn have_one_of(forms: &[u8], words: &[&[u8]]) -> bool
 fn note_forms() -> &'static [u8]
     ensures { result.now ≡ note_forms }
 {
-    b"hand C N N\nput C N N\noffer C N N W N\nawait C N W N\ntake C N N\nadmit C N\ndrop C N N\nclose C N\n\
-    void C\ndrain C N N\nwakeclosed C N\nwithdraw W cancelled\nwithdraw W revoked\nsettle W value N N\n\
+    b"hand C N N\nput C N N\noffer C N N W N\nawait C N W N\ntake C N N\nadmit C N\ndrop C N N\n\
+    spurn C N N\nclose C N\nvoid C\ndrain C N N\nwakeclosed C N\nwithdraw W cancelled\nwithdraw W revoked\nsettle W value N N\n\
     settle W sent N\nsettle W closed N N\nsettle W cancelled\nsettle W undelivered N\nsendclosed C N N\n\
     trysendclosed C N N\nreceiveclosed C N\ntryreceiveclosed C N\nalreadyclosed C N\nfull C N\nempty C\n\
     spent C\npartner C N\nresolved W\nlate W\n\
@@ -139,7 +139,7 @@ fn job_forms() -> &'static [u8]
 fn element_forms() -> &'static [u8]
     ensures { result.now ≡ element_forms }
 {
-    b"C N N held\nC N N undelivered\nC N N dropped\nC N N withdrawn"
+    b"C N N held\nC N N undelivered\nC N N dropped\nC N N spurned\nC N N withdrawn"
 }
 
 /// What the line of a Job is, of which these are the words behind the first.

@@ -285,6 +285,12 @@ fn says_what_became_of_each_element(rt: HostRuntime) -> Result<(), Fail> {
             }),
             hand(1, 0, 13),
             hand(0, 8, 16),
+            put(9, 17),
+            act(Act::Spurn {
+                c: 0,
+                place: 9,
+                value: 17,
+            }),
         ],
     )?;
     assert_eq!(rt;
@@ -313,6 +319,8 @@ fn says_what_became_of_each_element(rt: HostRuntime) -> Result<(), Fail> {
 1 drain a 4 11
 1 hand b_2 0 13
 1 hand a 8 16
+1 put a 9 17
+1 spurn a 9 17
 job 0 active
 element a 1 8 undelivered
 element a 2 9 undelivered
@@ -322,6 +330,7 @@ element a 5 12 withdrawn
 element a 6 14 held
 element a 7 15 withdrawn
 element a 8 16 held
+element a 9 17 spurned
 "
             .as_slice()
     );

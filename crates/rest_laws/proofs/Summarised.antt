@@ -68,8 +68,8 @@ module _ (p : Program) (books : List (List Item)) (channels : List Entry) (jobs 
       (completed_counted (job_shape p) jobs (shape_fits p 0 some) of.legal_jobs (job_acts_noted books) same ∙ (count_same (finishes_one is_completed) completes_one completes_same (acts_in jobs) ∙ sym (completed_over books ∙ over_books completes_one)))
       (cancelled_counted (job_shape p) jobs (shape_fits p 0 some) of.legal_jobs (job_acts_noted books) same ∙ (count_same (finishes_one is_cancelled) cancels_one cancels_same (acts_in jobs) ∙ sym (cancelled_over books ∙ over_books cancels_one)))
 
-pub summary_told : (p : Program) (books : List (List Item)) (channels : List Entry) (jobs : List JobEntry) (root : Option End) → 0 < coroutine_count p → IsRunAtRest p books channels jobs root → summary_text p books ≡ line_of_books books root
+pub summary_told : (p : Program) (books : List (List Item)) (channels : List Entry) (jobs : List JobEntry) (root : Option End) → 0 < coroutine_count p → IsRunAtRest p books channels jobs root → summary_text p books ≡ line_of_books p.version books root
 summary_told p books channels jobs root some rests =
     summary_tallied p books channels jobs rests.0 (none_lost p books channels jobs rests.0 root rests.1) (λ c q. sym (printed p books channels jobs rests.0 c q))
-    ∙ (ap (λ t. line_of_tallies t (tallied books) (end_noted 0 (job_acts_noted books))) (jobs_told p books channels jobs some rests.0)
-    ∙ ap (line_of_tallies (job_tally_text (jobs_tallied books)) (tallied books)) ((printed_jobs p books channels jobs rests.0).root ∙ rests.1.ended))
+    ∙ (ap (λ t. line_of_tallies p.version t (tallied books) (end_noted 0 (job_acts_noted books))) (jobs_told p books channels jobs some rests.0)
+    ∙ ap (line_of_tallies p.version (job_tally_text (jobs_tallied books)) (tallied books)) ((printed_jobs p books channels jobs rests.0).root ∙ rests.1.ended))

@@ -20,6 +20,6 @@ job_numbers_text attached completed cancelled =
 abbrev pub job_tally_text : JobTally → List ℕ
 job_tally_text n = job_numbers_text (1 + n.attached) n.completed n.cancelled
 
--- the line of a run with these books, whose root has ended so, if it has
-abbrev pub line_of_books : List (List Item) → Option End → List ℕ
-line_of_books books root = line_of_tallies (job_tally_text (jobs_tallied books)) (tallied books) root
+-- the line of a run of a script of this version with these books, whose root has ended so, if it has
+abbrev pub line_of_books : ℕ → List (List Item) → Option End → List ℕ
+line_of_books version books root = line_of_tallies version (job_tally_text (jobs_tallied books)) (tallied books) root

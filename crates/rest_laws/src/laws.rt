@@ -15,5 +15,5 @@ ghost use Rattle.rest_laws.specs.LinesTold.{line_of_books};
 /// has ended.
 pub fn the_summary_of_a_run_is_told_by_its_tallies()
     ensures { (p : Program) (books : List (List Item)) (channels : List Entry) (jobs : List JobEntry) (root : Option End)
-        → 0 < coroutine_count p → IsRunAtRest p books channels jobs root → summary_text p books ≡ line_of_books books root }
+        → 0 < coroutine_count p → IsRunAtRest p books channels jobs root → summary_text p books ≡ line_of_books p.version books root }
 {}

@@ -2,7 +2,7 @@
 use Rattle.std.specs.Prelude.{◌≡◌, ℕ, ◌+◌, cond, List, [], ◌∷◌, ◌++◌, length, refl}
 use Rattle.std.proofs.Common.{sym, ap, ◌∙◌, subst, arith, append-nil, length-append}
 use Rattle.channel_model.specs.declared.acts.Act.{Act}
-use Rattle.channel_model.specs.declared.acts.Act.TheVariants.{Hand, Put, Offer, Take, Drop, Drain, WakeClosed, Withdraw, Settle}
+use Rattle.channel_model.specs.declared.acts.Act.TheVariants.{Hand, Put, Offer, Take, Drop, Spurn, Drain, WakeClosed, Withdraw, Settle}
 use Rattle.channel_model.specs.declared.acts.ChannelNote.TheVariants as of_channel
 use Rattle.channel_model.specs.declared.acts.Settled.{Settled}
 use Rattle.channel_model.specs.declared.acts.Settled.TheVariants as settled
@@ -38,6 +38,7 @@ by_adding : (n m : ActNumbers) (k : Counts) (o p : ℕ)
     → m.offers ≡ n.offers + k.offers
     → m.takes ≡ n.takes + k.takes
     → m.drops ≡ n.drops + k.drops
+    → m.spurns ≡ n.spurns + k.spurns
     → m.drains ≡ n.drains + k.drains
     → m.wakes ≡ n.wakes + k.wakes
     → m.withdraws ≡ n.withdraws + k.withdraws
@@ -48,25 +49,26 @@ by_adding : (n m : ActNumbers) (k : Counts) (o p : ℕ)
     → m.ended ≡ n.ended + k.ended
     → m.open_offers ≡ o → m.plain_offers ≡ p
     → tally_in m ≡ record { counts = added (tally_in n).counts k; open_offers = o; plain_offers = p }
-by_adding n m k o p e0 e1 e2 e3 e4 e5 e6 e7 e8 e9 e10 e11 e12 eo ep =
-    λ i. record { counts = record { hands = e0 i; puts = e1 i; offers = e2 i; takes = e3 i; drops = e4 i; drains = e5 i; wakes = e6 i; withdraws = e7 i; taken_back = e8 i; settles = e9 i; values = e10 i; given_up = e11 i; ended = e12 i }; open_offers = eo i; plain_offers = ep i }
+by_adding n m k o p e0 e1 e2 e3 e4 es e5 e6 e7 e8 e9 e10 e11 e12 eo ep =
+    λ i. record { counts = record { hands = e0 i; puts = e1 i; offers = e2 i; takes = e3 i; drops = e4 i; spurns = es i; drains = e5 i; wakes = e6 i; withdraws = e7 i; taken_back = e8 i; settles = e9 i; values = e10 i; given_up = e11 i; ended = e12 i }; open_offers = eo i; plain_offers = ep i }
 
 settle_step : (n : ActNumbers) (w : _) (outcome : Settled) → tally_in (with_outcome (settled_with n) outcome) ≡ with_act (tally_in n) (Settle w outcome)
-settle_step n w (settled.Value k v) = by_adding n _ _ _ _ (z n.hands) (z n.puts) (z n.offers) (z n.takes) (z n.drops) (z n.drains) (z n.wakes) (z n.withdraws) (z n.taken_back) refl refl (z n.given_up) refl refl refl
-settle_step n w (settled.Undelivered v) = by_adding n _ _ _ _ (z n.hands) (z n.puts) (z n.offers) (z n.takes) (z n.drops) (z n.drains) (z n.wakes) (z n.withdraws) (z n.taken_back) refl (z n.values) refl refl refl refl
-settle_step n w other = by_adding n _ _ _ _ (z n.hands) (z n.puts) (z n.offers) (z n.takes) (z n.drops) (z n.drains) (z n.wakes) (z n.withdraws) (z n.taken_back) refl (z n.values) (z n.given_up) refl refl refl
+settle_step n w (settled.Value k v) = by_adding n _ _ _ _ (z n.hands) (z n.puts) (z n.offers) (z n.takes) (z n.drops) (z n.spurns) (z n.drains) (z n.wakes) (z n.withdraws) (z n.taken_back) refl refl (z n.given_up) refl refl refl
+settle_step n w (settled.Undelivered v) = by_adding n _ _ _ _ (z n.hands) (z n.puts) (z n.offers) (z n.takes) (z n.drops) (z n.spurns) (z n.drains) (z n.wakes) (z n.withdraws) (z n.taken_back) refl (z n.values) refl refl refl refl
+settle_step n w other = by_adding n _ _ _ _ (z n.hands) (z n.puts) (z n.offers) (z n.takes) (z n.drops) (z n.spurns) (z n.drains) (z n.wakes) (z n.withdraws) (z n.taken_back) refl (z n.values) (z n.given_up) refl refl refl
 
 act_step : (n : ActNumbers) (a : Act) → tally_in (with_act_in n a) ≡ with_act (tally_in n) a
-act_step n (Hand c p v) = by_adding n _ _ _ _ refl (z n.puts) (z n.offers) (z n.takes) (z n.drops) (z n.drains) (z n.wakes) (z n.withdraws) (z n.taken_back) (z n.settles) (z n.values) (z n.given_up) (z n.ended) refl refl
-act_step n (Put c p v) = by_adding n _ _ _ _ (z n.hands) refl (z n.offers) (z n.takes) (z n.drops) (z n.drains) (z n.wakes) (z n.withdraws) (z n.taken_back) (z n.settles) (z n.values) (z n.given_up) (z n.ended) refl refl
-act_step n (Offer c p v w k) = by_adding n _ _ _ _ (z n.hands) (z n.puts) refl (z n.takes) (z n.drops) (z n.drains) (z n.wakes) (z n.withdraws) (z n.taken_back) (z n.settles) (z n.values) (z n.given_up) (z n.ended) refl refl
-act_step n (Take c p v) = by_adding n _ _ _ _ (z n.hands) (z n.puts) (z n.offers) refl (z n.drops) (z n.drains) (z n.wakes) (z n.withdraws) (z n.taken_back) (z n.settles) (z n.values) (z n.given_up) (z n.ended) refl refl
-act_step n (Drop c p v) = by_adding n _ _ _ _ (z n.hands) (z n.puts) (z n.offers) (z n.takes) refl (z n.drains) (z n.wakes) (z n.withdraws) (z n.taken_back) (z n.settles) (z n.values) (z n.given_up) (z n.ended) refl refl
-act_step n (Drain c p v) = by_adding n _ _ _ _ (z n.hands) (z n.puts) (z n.offers) (z n.takes) (z n.drops) refl (z n.wakes) (z n.withdraws) (z n.taken_back) (z n.settles) (z n.values) (z n.given_up) (z n.ended) refl refl
-act_step n (WakeClosed c p) = by_adding n _ _ _ _ (z n.hands) (z n.puts) (z n.offers) (z n.takes) (z n.drops) (z n.drains) refl (z n.withdraws) (z n.taken_back) (z n.settles) (z n.values) (z n.given_up) (z n.ended) refl refl
-act_step n (Withdraw w why) = by_adding n _ _ _ _ (z n.hands) (z n.puts) (z n.offers) (z n.takes) (z n.drops) (z n.drains) (z n.wakes) refl refl (z n.settles) (z n.values) (z n.given_up) (z n.ended) refl refl
+act_step n (Hand c p v) = by_adding n _ _ _ _ refl (z n.puts) (z n.offers) (z n.takes) (z n.drops) (z n.spurns) (z n.drains) (z n.wakes) (z n.withdraws) (z n.taken_back) (z n.settles) (z n.values) (z n.given_up) (z n.ended) refl refl
+act_step n (Put c p v) = by_adding n _ _ _ _ (z n.hands) refl (z n.offers) (z n.takes) (z n.drops) (z n.spurns) (z n.drains) (z n.wakes) (z n.withdraws) (z n.taken_back) (z n.settles) (z n.values) (z n.given_up) (z n.ended) refl refl
+act_step n (Offer c p v w k) = by_adding n _ _ _ _ (z n.hands) (z n.puts) refl (z n.takes) (z n.drops) (z n.spurns) (z n.drains) (z n.wakes) (z n.withdraws) (z n.taken_back) (z n.settles) (z n.values) (z n.given_up) (z n.ended) refl refl
+act_step n (Take c p v) = by_adding n _ _ _ _ (z n.hands) (z n.puts) (z n.offers) refl (z n.drops) (z n.spurns) (z n.drains) (z n.wakes) (z n.withdraws) (z n.taken_back) (z n.settles) (z n.values) (z n.given_up) (z n.ended) refl refl
+act_step n (Drop c p v) = by_adding n _ _ _ _ (z n.hands) (z n.puts) (z n.offers) (z n.takes) refl (z n.spurns) (z n.drains) (z n.wakes) (z n.withdraws) (z n.taken_back) (z n.settles) (z n.values) (z n.given_up) (z n.ended) refl refl
+act_step n (Spurn c p v) = by_adding n _ _ _ _ (z n.hands) (z n.puts) (z n.offers) (z n.takes) (z n.drops) refl (z n.drains) (z n.wakes) (z n.withdraws) (z n.taken_back) (z n.settles) (z n.values) (z n.given_up) (z n.ended) refl refl
+act_step n (Drain c p v) = by_adding n _ _ _ _ (z n.hands) (z n.puts) (z n.offers) (z n.takes) (z n.drops) (z n.spurns) refl (z n.wakes) (z n.withdraws) (z n.taken_back) (z n.settles) (z n.values) (z n.given_up) (z n.ended) refl refl
+act_step n (WakeClosed c p) = by_adding n _ _ _ _ (z n.hands) (z n.puts) (z n.offers) (z n.takes) (z n.drops) (z n.spurns) (z n.drains) refl (z n.withdraws) (z n.taken_back) (z n.settles) (z n.values) (z n.given_up) (z n.ended) refl refl
+act_step n (Withdraw w why) = by_adding n _ _ _ _ (z n.hands) (z n.puts) (z n.offers) (z n.takes) (z n.drops) (z n.spurns) (z n.drains) (z n.wakes) refl refl (z n.settles) (z n.values) (z n.given_up) (z n.ended) refl refl
 act_step n (Settle w outcome) = settle_step n w outcome
-act_step n other = by_adding n _ _ _ _ (z n.hands) (z n.puts) (z n.offers) (z n.takes) (z n.drops) (z n.drains) (z n.wakes) (z n.withdraws) (z n.taken_back) (z n.settles) (z n.values) (z n.given_up) (z n.ended) refl refl
+act_step n other = by_adding n _ _ _ _ (z n.hands) (z n.puts) (z n.offers) (z n.takes) (z n.drops) (z n.spurns) (z n.drains) (z n.wakes) (z n.withdraws) (z n.taken_back) (z n.settles) (z n.values) (z n.given_up) (z n.ended) refl refl
 
 -- ---- one act on Jobs
 

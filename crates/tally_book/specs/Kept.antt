@@ -20,6 +20,7 @@ tally_in n =
             offers = n.offers;
             takes = n.takes;
             drops = n.drops;
+            spurns = n.spurns;
             drains = n.drains;
             wakes = n.wakes;
             withdraws = n.withdraws;

@@ -1,7 +1,7 @@
 -- What numbers of acts become with one more.
 use Rattle.std.specs.Prelude.{ℕ, ◌+◌, ◌*◌, ◌≤◌, ◌==◌, cond}
 use Rattle.channel_model.specs.declared.acts.Act.{Act}
-use Rattle.channel_model.specs.declared.acts.Act.TheVariants.{Hand, Put, Offer, Take, Drop, Drain, WakeClosed, Withdraw, Settle}
+use Rattle.channel_model.specs.declared.acts.Act.TheVariants.{Hand, Put, Offer, Take, Drop, Spurn, Drain, WakeClosed, Withdraw, Settle}
 use Rattle.channel_model.specs.declared.acts.ChannelNote.TheVariants as of_channel
 use Rattle.channel_model.specs.declared.acts.Settled.{Settled}
 use Rattle.channel_model.specs.declared.acts.Settled.TheVariants as settled
@@ -34,6 +34,7 @@ with_act_in n (Offer c p v w k) =
     record n { offers = n.offers + 1; open_offers = n.open_offers + 1; plain_offers = n.plain_offers + cond (k == 0) 1 0 }
 with_act_in n (Take c p v) = record n { takes = n.takes + 1 }
 with_act_in n (Drop c p v) = record n { drops = n.drops + 1 }
+with_act_in n (Spurn c p v) = record n { spurns = n.spurns + 1 }
 with_act_in n (Drain c p v) = record n { drains = n.drains + 1 }
 with_act_in n (WakeClosed c p) = record n { wakes = n.wakes + 1 }
 with_act_in n (Withdraw w why) = record n { withdraws = n.withdraws + 1; taken_back = n.taken_back + n.plain_offers }
@@ -69,7 +70,7 @@ with_note n x = record { notes = n.notes + 1; acts = acts_with n.acts x; jobs = 
 -- so many acts make no number larger than this
 abbrev pub AreActsUpTo : ℕ → ActNumbers → Type 0
 AreActsUpTo most n =
-    (n.hands ≤ most) × (n.puts ≤ most) × (n.offers ≤ most) × (n.takes ≤ most) × (n.drops ≤ most) × (n.drains ≤ most)
+    (n.hands ≤ most) × (n.puts ≤ most) × (n.offers ≤ most) × (n.takes ≤ most) × (n.drops ≤ most) × (n.spurns ≤ most) × (n.drains ≤ most)
     × (n.wakes ≤ most) × (n.withdraws ≤ most) × (n.settles ≤ most) × (n.values ≤ most) × (n.given_up ≤ most)
     × (n.ended + n.open_offers ≤ most) × (n.plain_offers ≤ most) × (n.taken_back ≤ most * 4294967296)
 

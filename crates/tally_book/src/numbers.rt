@@ -15,6 +15,7 @@ pub struct ActNumbers {
     pub offers: u32,
     pub takes: u32,
     pub drops: u32,
+    pub spurns: u32,
     pub drains: u32,
     /// How many receivers were told that their channel is closed.
     pub wakes: u32,
@@ -56,6 +57,7 @@ pub(crate) const NO_NUMBERS: Numbers = Numbers {
         offers: 0,
         takes: 0,
         drops: 0,
+        spurns: 0,
         drains: 0,
         wakes: 0,
         withdraws: 0,
@@ -110,6 +112,7 @@ impl ActNumbers {
             }
             Act::Take { .. } => self.takes += 1,
             Act::Drop { .. } => self.drops += 1,
+            Act::Spurn { .. } => self.spurns += 1,
             Act::Drain { .. } => self.drains += 1,
             Act::WakeClosed { .. } => self.wakes += 1,
             Act::Withdraw { .. } => {

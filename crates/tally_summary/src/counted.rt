@@ -12,6 +12,7 @@ pub(crate) struct Fates {
     pub(crate) received: u128,
     pub(crate) undelivered: u128,
     pub(crate) dropped: u128,
+    pub(crate) spurned: u128,
     pub(crate) withdrawn: u128,
     pub(crate) held: u128,
 }
@@ -25,11 +26,12 @@ pub(crate) fn fates_of(n: &ActTotals) -> Fates
     let undelivered = n.drains + n.given_up + n.taken_back;
     let withdrawn = withdrawn(n);
     let elements = n.puts + n.hands + n.offers;
-    let gone = received + undelivered + n.drops + withdrawn;
+    let gone = received + undelivered + n.drops + n.spurns + withdrawn;
     Fates {
         received,
         undelivered,
         dropped: n.drops,
+        spurned: n.spurns,
         withdrawn,
         held: elements.saturating_sub(gone),
     }

@@ -66,10 +66,15 @@ fn the_line_tells_what_was_noted(rt: HostRuntime) -> Result<(), Fail> {
     assert_eq!(rt; numbers.acts.open_offers, 0);
     assert_eq!(rt; numbers.jobs.completed, 1);
     let tallies = [sent(book)];
-    let text = line_of(rt.alloc(), tallies.as_slice(), Some(End::Completed(7)))?;
+    let text = line_of(rt.alloc(), 1, tallies.as_slice(), Some(End::Completed(7)))?;
     assert_eq!(rt;
         text.as_str(),
         "jobs 1 completed 1 cancelled 0 received 0 undelivered 1 dropped 0 withdrawn 0 held 0 result 7\n"
+    );
+    let text = line_of(rt.alloc(), 2, tallies.as_slice(), None)?;
+    assert_eq!(rt;
+        text.as_str(),
+        "jobs 1 completed 1 cancelled 0 received 0 undelivered 1 dropped 0 spurned 0 withdrawn 0 held 0 result none\n"
     );
     Ok(())
 }
