@@ -16,7 +16,7 @@ use Rattle.channel_fates.proofs.Appended.{any_count, found}
 use Rattle.channel_fates.proofs.OncePlaced.{enters, Counted}
 use Rattle.channel_fates.proofs.StandsByActs.{offers, enters_count, handed_answered, clause_offered, here}
 use Rattle.channel_fates.proofs.Chosen.{Chosen, resolver, is_this}
-use Rattle.channel_fates.proofs.Endings.{waits_or_drops, waits_or_spurns, waits_or_spurns}
+use Rattle.channel_fates.proofs.Endings.{waits_or_drops, waits_or_spurns}
 use Rattle.channel_fates.proofs.OwnPlaces.{two_clauses}
 use Rattle.channel_fates.proofs.Traced.{Traced, replay_traced}
 
