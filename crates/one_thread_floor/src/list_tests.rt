@@ -22,6 +22,9 @@ enum Call {
     /// An offer that is put, or one that never waits, and what a trim drops then.
     Put(Tag, Value, Place, Option<(Place, Value)>),
     TryPut(Tag, Value, Place, Option<(Place, Value)>),
+    /// An offer that is put, or one that never waits, and what a spurn of its place removes then.
+    Latest(Tag, Value, Place, Option<Value>),
+    TryLatest(Tag, Value, Place, Option<Value>),
     Receive(Tag, Got),
     TryReceive(Tag, TriedGot),
     /// The next place, and who is admitted below it.
@@ -152,6 +155,36 @@ fn try_put(
     }
 }
 
+fn latest(
+    floor: &mut ListFloor,
+    who: Tag,
+    value: Value,
+) -> Result<Option<(Place, Option<Value>)>, Memory> {
+    if !carries_elements(floor) {
+        return Err(Memory);
+    }
+    floor.room(2)?;
+    match floor.offer(who, 0, value) {
+        Offered::Put(place) => Ok(Some((place, floor.spurn(who, 0, place)))),
+        _ => Ok(None),
+    }
+}
+
+fn try_latest(
+    floor: &mut ListFloor,
+    who: Tag,
+    value: Value,
+) -> Result<Option<(Place, Option<Value>)>, Memory> {
+    if !carries_elements(floor) {
+        return Err(Memory);
+    }
+    floor.room(2)?;
+    match floor.try_offer(who, 0, value) {
+        TriedOffer::Put(place) => Ok(Some((place, floor.spurn(who, 0, place)))),
+        _ => Ok(None),
+    }
+}
+
 fn receive(floor: &mut ListFloor, who: Tag) -> Result<Got, Memory> {
     if !has_channel(floor) {
         return Err(Memory);
@@ -258,6 +291,12 @@ fn answers(floor: &mut ListFloor, call: Call) -> Result<bool, Memory> {
         ),
         Call::TryPut(who, value, place, dropped) => Ok(
             try_put(floor, who, value)? == Some((place, dropped)),
+        ),
+        Call::Latest(who, value, place, spurned) => Ok(
+            latest(floor, who, value)? == Some((place, spurned)),
+        ),
+        Call::TryLatest(who, value, place, spurned) => Ok(
+            try_latest(floor, who, value)? == Some((place, spurned)),
         ),
         Call::Receive(who, answer) => Ok(receive(floor, who)? == answer),
         Call::TryReceive(who, answer) => Ok(try_receive(floor, who)? == answer),
@@ -420,6 +459,28 @@ const DROP_OLDEST: [Call; 9] = [
     Call::TryReceive(0, TriedGot::Empty),
 ];
 
+/// What came first is kept, and an element is removed again that came when enough stood.
+const DROP_LATEST: [Call; 11] = [
+    Call::Latest(0, 1, 0, None),
+    Call::Latest(1, 2, 1, None),
+    Call::Latest(0, 3, 2, Some(3)),
+    Call::TryLatest(1, 4, 3, Some(4)),
+    Call::Admit(0, 4, None),
+    Call::Receive(0, Got::Taken(0, 1, None)),
+    Call::TryLatest(0, 5, 4, None),
+    Call::Latest(0, 6, 5, Some(6)),
+    Call::Receive(0, Got::Taken(1, 2, None)),
+    Call::TryReceive(0, TriedGot::Taken(4, 5, None)),
+    Call::TryReceive(0, TriedGot::Empty),
+];
+
+/// A kind that keeps its latest removes none.
+const KEEPS_LATEST: [Call; 3] = [
+    Call::Latest(0, 1, 0, None),
+    Call::Latest(0, 2, 1, None),
+    Call::Receive(0, Got::Taken(0, 1, None)),
+];
+
 /// What was sent before a close is still received.
 const CLOSED: [Call; 9] = [
     Call::Put(0, 7, 0, None),
@@ -465,7 +526,7 @@ const WOKEN: [Call; 9] = [
 
 #[test]
 fn calls_answer_as_worked_out_by_hand(rt: HostRuntime) {
-    let tables: [(Kind, u32, &[Call]); 12] = [
+    let tables: [(Kind, u32, &[Call]); 14] = [
         (Kind::Rendezvous, 4, &RENDEZVOUS),
         (Kind::Rendezvous, 4, &WITHDRAWN),
         (Kind::Rendezvous, 4, &TRIED),
@@ -475,6 +536,8 @@ fn calls_answer_as_worked_out_by_hand(rt: HostRuntime) {
         (Kind::Buffered(2), 8, &LEADS),
         (Kind::Conflated, 4, &CONFLATED),
         (Kind::DropOldest(2), 8, &DROP_OLDEST),
+        (Kind::DropLatest(2), 8, &DROP_LATEST),
+        (Kind::Buffered(2), 8, &KEEPS_LATEST),
         (Kind::Unlimited, 4, &CLOSED),
         (Kind::Buffered(1), 4, &DRAINED),
         (Kind::Signal, 2, &WOKEN),
