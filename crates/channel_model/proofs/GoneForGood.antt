@@ -6,7 +6,7 @@ use Rattle.std.proofs.lemmas.Bool.Decides.{nat_tests}
 use Rattle.channel_model.specs.declared.standing.Standing.{Standing}
 use Rattle.channel_model.specs.declared.standing.Receiver.{Receiver}
 use Rattle.channel_model.specs.Channels.{Shape, Channel, same_wait, places_at}
-use Rattle.channel_model.specs.Effects.{is_held_by, is_elsewhere, admitted, spurned, place_offer, place_receiver}
+use Rattle.channel_model.specs.Effects.{is_held_by, is_elsewhere, admitted, place_offer, place_receiver}
 use Rattle.channel_model.specs.Needs.{HasPlace}
 use Rattle.channel_model.specs.declared.acts.Entry.{Entry}
 use Rattle.channel_model.specs.Histories.{replay, Legal}

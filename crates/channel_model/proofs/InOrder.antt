@@ -5,7 +5,7 @@ use Rattle.channel_model.specs.declared.acts.Entry.{Entry}
 use Rattle.channel_model.specs.declared.standing.Standing.{Standing}
 use Rattle.channel_model.specs.declared.standing.Receiver.{Receiver}
 use Rattle.channel_model.specs.Channels.{Shape, Channel, same_wait, start}
-use Rattle.channel_model.specs.Effects.{is_held_by, admitted, place_offer, place_receiver, is_elsewhere, spurned}
+use Rattle.channel_model.specs.Effects.{is_held_by, admitted, place_offer, place_receiver, is_elsewhere}
 use Rattle.channel_model.specs.Needs.{HasPlace}
 use Rattle.channel_model.specs.Histories.{replay, Legal}
 use Rattle.channel_model.specs.Laws.{Ascends, StandsInOrder}

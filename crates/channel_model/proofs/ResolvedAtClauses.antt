@@ -12,7 +12,7 @@ use Rattle.channel_model.specs.declared.standing.Receiver.{Receiver}
 use Rattle.channel_model.specs.declared.standing.Resolution.{Resolution}
 use Rattle.channel_model.specs.declared.standing.Resolution.TheVariants.{Handed, Taken, Admitted, Closed, Withdrawn, Voided}
 use Rattle.channel_model.specs.Channels.{Shape, State, Channel, Wait, same_wait, start}
-use Rattle.channel_model.specs.Effects.{after, put_channel, put_wait, resolved_wait, resolve, resolve_holder, resolve_first, with_queue, remove_first, resolve_offer, name_clause, is_open, place_offer, place_receiver, admitted, holder_at, settled_wait, is_elsewhere, spurned}
+use Rattle.channel_model.specs.Effects.{after, put_channel, put_wait, resolved_wait, resolve, resolve_holder, resolve_first, with_queue, remove_first, resolve_offer, name_clause, is_open, place_offer, place_receiver, admitted, holder_at, settled_wait, is_elsewhere}
 use Rattle.channel_model.specs.Needs.{Needs, MayName, JoinsWait, IsOpenOf, HasPlace}
 use Rattle.channel_model.specs.Outcomes.{outcome_of}
 use Rattle.channel_model.specs.Answers.{outcome_at, outcome_of_some}

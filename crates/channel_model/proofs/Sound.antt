@@ -12,7 +12,7 @@ use Rattle.channel_model.specs.declared.standing.Standing.{Standing}
 use Rattle.channel_model.specs.declared.standing.Receiver.{Receiver}
 use Rattle.channel_model.specs.declared.standing.Resolution.{Resolution}
 use Rattle.channel_model.specs.Channels.{Shape, State, Channel, Wait, start, places_at, kind_at, suspends}
-use Rattle.channel_model.specs.Effects.{after, is_held_by, admitted, place_offer, place_receiver, resolved_wait, settled_wait, name_clause, is_elsewhere, spurned}
+use Rattle.channel_model.specs.Effects.{after, is_held_by, admitted, place_offer, place_receiver, resolved_wait, settled_wait, name_clause, is_elsewhere}
 use Rattle.channel_model.specs.Needs.{Needs, HasPlace, MaySettle}
 use Rattle.channel_model.specs.Outcomes.{IsOutcome}
 use Rattle.channel_model.specs.Histories.{replay, replay_from, Legal, LegalFrom}

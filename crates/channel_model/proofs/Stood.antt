@@ -1,10 +1,8 @@
 -- An offer has no more offers before it than stood as it was placed, and that number stays.
-use Rattle.std.specs.Prelude.{◌≡◌, ℕ, suc, ◌+◌, ◌<◌, ◌≤◌, ◌==◌, nat_le, Bool, true, false, ◌&&◌, ◌||◌, cond, List, [], ◌∷◌, ◌++◌, length, filter, Option, Some, None, refl, if◌then◌else◌}
-use mathlib.Core.List.{IsPrefix}
+use Rattle.std.specs.Prelude.{◌≡◌, ℕ, suc, ◌+◌, ◌<◌, ◌≤◌, ◌==◌, Bool, true, false, ◌&&◌, ◌||◌, cond, List, [], ◌∷◌, ◌++◌, length, filter, Option, Some, None, refl, if◌then◌else◌}
 use Rattle.std.proofs.Common.{sym, ap, ◌∙◌, subst, arith, inl, ne_eqb}
 use Rattle.std.proofs.lemmas.Bool.{eqb-true}
 use Rattle.std.proofs.lemmas.Bool.Decides.{nat_tests}
-use Rattle.co_base.specs.declared.names.WaitId.{WaitId}
 use Rattle.channel_model.specs.declared.acts.Kind.{Kind}
 use Rattle.channel_model.specs.declared.acts.Kind.TheVariants.{Rendezvous, Buffered, Unlimited, Conflated, DropOldest, DropLatest, Signal}
 use Rattle.channel_model.specs.declared.acts.Act.{Act}
@@ -18,12 +16,12 @@ use Rattle.channel_model.specs.Channels.{Shape, State, Channel, start, kind_at, 
 use Rattle.channel_model.specs.Effects.{after, resolve_first, resolve_holder, resolve_offer, remove_first, with_queue, put_channel, put_stood, admitted, spurned, holder_at, is_open, place_offer, place_receiver}
 use Rattle.channel_model.specs.Needs.{Needs, HasPlace}
 use Rattle.channel_model.specs.Histories.{replay, Legal}
-use Rattle.channel_model.specs.Laws.{Ascends, StandsInOrder, StoodAll}
+use Rattle.channel_model.specs.Laws.{StandsInOrder, StoodAll}
 use Rattle.channel_model.specs.Owing.{owes_spurn_at}
 use Rattle.channel_model.proofs.EveryAct.{after_keeps}
-use Rattle.channel_model.proofs.InOrder.{OffersAscend, order_keeps, replay_in_order}
+use Rattle.channel_model.proofs.InOrder.{OffersAscend, order_keeps}
 use Rattle.channel_model.proofs.Placed.{same_number}
-use Rattle.channel_model.proofs.Sound.{Sound, sound_start, Lasts, lasts_from, lasts, given_keeps}
+use Rattle.channel_model.proofs.Sound.{sound_start, Lasts, lasts_from, lasts, given_keeps}
 
 -- ---- lists
 

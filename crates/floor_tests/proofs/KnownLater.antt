@@ -1,7 +1,7 @@
 -- What is known stays known as a floor grows, and what each call adds to it.
-use Rattle.std.specs.Prelude.{◌≡◌, ℕ, ◌<◌, Bool, true, false, List, [], ◌∷◌, length, Option, Some, None, is_some, Result, Ok, Err, refl}
+use Rattle.std.specs.Prelude.{◌≡◌, ℕ, ◌+◌, ◌<◌, ◌≤◌, Bool, true, false, List, [], ◌∷◌, length, Option, Some, None, is_some, Result, Ok, Err, refl}
 use mathlib.Core.List.{IsPrefix}
-use Rattle.std.proofs.Common.{sym, ap, ◌∙◌, subst}
+use Rattle.std.proofs.Common.{sym, ap, ◌∙◌, subst, arith}
 use Rattle.co_base.specs.declared.names.WaitId.{WaitId}
 use Rattle.channel_model.specs.declared.acts.Act.{Act}
 use Rattle.channel_model.specs.declared.acts.Act.TheVariants.{Close, Void}
@@ -22,10 +22,11 @@ use Rattle.channel_model.specs.Channels.{Shape, State, kind_at, is_signal}
 use Rattle.channel_model.specs.Effects.{after}
 use Rattle.channel_model.specs.Histories.{replay, Legal}
 use Rattle.channel_model.specs.Floors.{Floor, Looked, Made}
-use Rattle.channel_model.specs.Answers.{OfferAnswer, GotAnswer, TriedGotAnswer, CloseAnswer, WakeAnswer, VoidAnswer, DrainAnswer, LookAnswer, SettleAnswer, WithdrawAnswer, AdmitAnswer, IsOwn, IsSeenClosed, IsSeenVoided}
+use Rattle.channel_model.specs.Answers.{OfferAnswer, GotAnswer, TriedGotAnswer, CloseAnswer, WakeAnswer, VoidAnswer, DrainAnswer, LookAnswer, SettleAnswer, WithdrawAnswer, AdmitAnswer, SpurnAnswer, HasPut, IsOwn, IsSeenClosed, IsSeenVoided}
 use Rattle.channel_model.proofs.Histories.{replay_push}
 use Rattle.channel_model.proofs.Later.{closed_later, voided_later}
-use Rattle.channel_model.proofs.Spans.{prefix_then, prefix_append, setting_then}
+use Rattle.channel_model.proofs.Puts.{put_owned, put_lasts}
+use Rattle.channel_model.proofs.Spans.{prefix_then, prefix_append, setting_then, added_looked, added_made}
 use Rattle.call_meaning.specs.ChannelCalls.{wait_at}
 use Rattle.floor_tests.specs.declared.known_calls.Known.{Known}
 use Rattle.floor_tests.specs.Known.{Knows, Grows, with_wait, after_offer, after_receive, after_close, after_void}
@@ -89,6 +90,29 @@ settle_grows who w cancelled a b r h = made_grows who _ a b h.0
 pub withdraw_grows : (who : ℕ) (w : WaitId) (why : Why) (a b : Floor) (r : Withdrawn) → WithdrawAnswer who w why a b r → Grows a b
 withdraw_grows who w why a b (withdrawn.Done t) h = made_grows who _ a b h.0
 withdraw_grows who w why a b withdrawn.Late h = looked_grows who a b h.0
+
+pub spurn_grows : (who c p : ℕ) (a b : Floor) (r : Option ℕ) → SpurnAnswer who c p a b r → Grows a b
+spurn_grows who c p a b (Some v) h = made_grows who _ a b h
+spurn_grows who c p a b None h = looked_grows who a b h.0
+
+-- ---- a place that was put, and room
+
+pub got_put : (who c p : ℕ) (a b : Floor) (r : TriedGot) → TriedGotAnswer who 0 a b r → HasPut who c p a → HasPut who c p b
+got_put who c p a b (tried_got.Taken q v t) h put = put_lasts who c p _ a b (added_made who _ a b h.made) put
+got_put who c p a b tried_got.Empty h put = put_lasts who c p _ a b (added_looked who a b h.0) put
+got_put who c p a b (tried_got.Closed x) h put = put_lasts who c p _ a b (added_looked who a b h.0.looked) put
+
+pub got_room : (who : ℕ) (a b : Floor) (r : TriedGot) → TriedGotAnswer who 0 a b r → 1 < a.spare → 0 < b.spare
+got_room who a b (tried_got.Taken q v t) h room = let s = h.made.spare in omega (arith, room)
+got_room who a b tried_got.Empty h room = let s = h.0.spare in omega (arith, room)
+got_room who a b (tried_got.Closed x) h room = let s = h.0.looked.spare in omega (arith, room)
+
+pub offer_room : (who v : ℕ) (a b : Floor) (r : Offered) → OfferAnswer who 0 v a b r → 2 < a.spare → 1 < b.spare
+offer_room who v a b (offered.Handed p t) h room = let s = h.made.spare in omega (arith, room)
+offer_room who v a b (offered.Put p) h room = let s = h.spare in omega (arith, room)
+offer_room who v a b (offered.Held p) h room = let s = h.0.spare in omega (arith, room)
+offer_room who v a b (offered.Closed x) h room = let s = h.looked.spare in omega (arith, room)
+offer_room who v a b offered.Spent h room = let s = h.0.spare in omega (arith, room)
 
 -- ---- what is known stays known
 

@@ -1,6 +1,7 @@
 //! Calls on the first channel of a floor, where what they ask is known.
 
-ghost use Rattle.std.specs.Prelude.{◌≡◌, ◌<◌, true, OnOk, IfOk};
+ghost use Rattle.std.specs.Prelude.{◌≡◌, ◌<◌, true, OnOk, IfOk, IfSome};
+ghost use Rattle.channel_model.specs.Answers.{HasPut};
 ghost use Rattle.floor_tests.specs.Known.{Knows, Grows, after_offer, after_receive, after_close, after_void};
 
 use channel_model::{
@@ -33,6 +34,12 @@ pub enum Call {
     Look(WaitState),
     Withdraw(Withdrawn),
     Settle(bool, Settled),
+    /// An offer that is put; then an element is received, if so said; and then what a spurn of its place removes.
+    Latest {
+        value: Value,
+        receives: bool,
+        answer: Option<(Place, Option<Value>)>,
+    },
 }
 
 fn after_offer(known: Known, who: Tag, answer: Offered) -> Known
@@ -70,9 +77,9 @@ fn room<F: ChannelFloor>(floor: &mut F, known: Known) -> Result<(), Memory>
     ensures anchor { F.anchor floor.new ≡ F.anchor floor.old }
     ensures grows { Grows (F.view floor.old) (F.view floor.new) }
     ensures knows { Knows known (F.view floor.new) }
-    ensures room { OnOk result (0 < (F.view floor.new).spare) }
+    ensures room { OnOk result (2 < (F.view floor.new).spare) }
 {
-    floor.room(1)
+    floor.room(3)
 }
 
 pub(crate) fn offer<F: ChannelFloor>(
@@ -257,6 +264,80 @@ pub(crate) fn settle<F: ChannelFloor>(
     }
 }
 
+fn spurn<F: ChannelFloor>(floor: &mut F, known: Known, who: Tag, place: Place) -> Option<Value>
+    requires caller { (F.view floor.old).callers who ≡ true }
+    requires room { 0 < (F.view floor.old).spare }
+    requires knows { Knows known (F.view floor.old) }
+    requires own { HasPut who 0 place (F.view floor.old) }
+    ensures anchor { F.anchor floor.new ≡ F.anchor floor.old }
+    ensures grows { Grows (F.view floor.old) (F.view floor.new) }
+    ensures knows { Knows known (F.view floor.new) }
+{
+    floor.spurn(who, 0, place)
+}
+
+/// Removes the own element, after an element was received.
+fn spurn_later<F: ChannelFloor>(
+    floor: &mut F,
+    known: Known,
+    who: Tag,
+    place: Place,
+) -> Option<Value>
+    requires caller { (F.view floor.old).callers who ≡ true }
+    requires room { 1 < (F.view floor.old).spare }
+    requires knows { Knows known (F.view floor.old) }
+    requires own { HasPut who 0 place (F.view floor.old) }
+    ensures anchor { F.anchor floor.new ≡ F.anchor floor.old }
+    ensures grows { Grows (F.view floor.old) (F.view floor.new) }
+    ensures knows { Knows known (F.view floor.new) }
+{
+    let _got = floor.try_receive(who, 0);
+    spurn(floor, known, who, place)
+}
+
+/// Puts an element: its place.
+fn put<F: ChannelFloor>(floor: &mut F, known: Known, who: Tag, value: Value) -> Option<Place>
+    requires caller { (F.view floor.old).callers who ≡ true }
+    requires room { 2 < (F.view floor.old).spare }
+    requires knows { Knows known (F.view floor.old) }
+    ensures anchor { F.anchor floor.new ≡ F.anchor floor.old }
+    ensures grows { Grows (F.view floor.old) (F.view floor.new) }
+    ensures knows { Knows known (F.view floor.new) }
+    ensures room { 1 < (F.view floor.new).spare }
+    ensures own { IfSome result (λ place. HasPut who 0 place (F.view floor.new)) }
+{
+    match floor.offer(who, 0, value) {
+        Offered::Put(place) => Some(place),
+        _ => None,
+    }
+}
+
+/// Puts an element, receives one, if so said, and removes the own one, if it was one too many.
+fn latest<F: ChannelFloor>(
+    floor: &mut F,
+    known: Known,
+    who: Tag,
+    value: Value,
+    receives: bool,
+) -> Option<(Place, Option<Value>)>
+    requires caller { (F.view floor.old).callers who ≡ true }
+    requires room { 2 < (F.view floor.old).spare }
+    requires knows { Knows known (F.view floor.old) }
+    ensures anchor { F.anchor floor.new ≡ F.anchor floor.old }
+    ensures grows { Grows (F.view floor.old) (F.view floor.new) }
+    ensures knows { Knows known (F.view floor.new) }
+{
+    match put(floor, known, who, value) {
+        Some(place) => {
+            if receives {
+                return Some((place, spurn_later(floor, known, who, place)));
+            }
+            Some((place, spurn(floor, known, who, place)))
+        }
+        None => None,
+    }
+}
+
 /// Whether the call is made, and answers so; and what is known then.
 pub fn answers<F: ChannelFloor>(
     floor: &mut F,
@@ -325,5 +406,10 @@ pub fn answers<F: ChannelFloor>(
             }
             Ok((false, known))
         }
+        Call::Latest {
+            value,
+            receives,
+            answer,
+        } => Ok((latest(floor, known, who, value, receives) == answer, known)),
     }
 }
