@@ -13,7 +13,7 @@ use cell_words::{Hub, Pass};
 use channel_model::{
     AlreadyClosed, ChannelFloor, Got, Kind, Offered, Settled, TriedGot, WaitState, Withdrawn,
 };
-use co_base::{Memory, Tag};
+use co_base::{Memory, Place, Tag, Value};
 use floor_tests::{Call, Known, answers};
 use one_thread_floor::ListFloor;
 use std::alloc::Global;
@@ -312,6 +312,46 @@ const RECEIVED: [(Tag, Call); 7] = [
     (1, Call::Settle(false, Settled::Sent(0))),
     (2, Call::Receive(Got::Waiting(2))),
 ];
+
+/// An element is put, and then this is removed.
+const fn put(value: Value, place: Place, spurned: Option<Value>) -> Call {
+    Call::Latest {
+        value,
+        receives: false,
+        answer: Some((place, spurned)),
+    }
+}
+
+/// An element is put, another one received, and the first one kept.
+const fn put_and_receive(value: Value, place: Place) -> Call {
+    Call::Latest {
+        value,
+        receives: true,
+        answer: Some((place, None)),
+    }
+}
+
+/// Two elements are kept, and one that comes then is not; but it is kept where another was received before it was looked for.
+const LATEST: [(Tag, Call); 10] = [
+    (1, put(1, 0, None)),
+    (2, put(2, 1, None)),
+    (1, put(3, 2, Some(3))),
+    (2, put_and_receive(4, 3)),
+    (3, Call::Receive(Got::Taken(1, 2, None))),
+    (3, Call::Receive(Got::Taken(3, 4, None))),
+    (3, Call::TryReceive(TriedGot::Empty)),
+    (1, put(5, 4, None)),
+    (2, put(6, 5, None)),
+    (1, put_and_receive(7, 6)),
+];
+
+#[test]
+fn what_came_first_is_kept(rt: HostRuntime) -> Result<(), Fail> {
+    let kind = Kind::DropLatest(2);
+    assert_eq!(rt; right_on_list(rt.alloc(), kind, 7, &LATEST), Ok(10));
+    assert_eq!(rt; right_on_hub(rt.alloc(), kind, 7, &LATEST), Ok(10));
+    Ok(())
+}
 
 #[test]
 fn an_offer_is_kept_and_a_cancelled_channel_is_emptied(rt: HostRuntime) -> Result<(), Fail> {

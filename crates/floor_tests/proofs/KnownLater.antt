@@ -1,5 +1,5 @@
 -- What is known stays known as a floor grows, and what each call adds to it.
-use Rattle.std.specs.Prelude.{◌≡◌, ℕ, ◌+◌, ◌<◌, ◌≤◌, Bool, true, false, List, [], ◌∷◌, length, Option, Some, None, is_some, Result, Ok, Err, refl}
+use Rattle.std.specs.Prelude.{◌≡◌, ℕ, ◌+◌, ◌<◌, ◌≤◌, Bool, true, false, List, [], ◌∷◌, length, Option, Some, None, is_some, IfSome, Result, Ok, Err, refl}
 use mathlib.Core.List.{IsPrefix}
 use Rattle.std.proofs.Common.{sym, ap, ◌∙◌, subst, arith}
 use Rattle.co_base.specs.declared.names.WaitId.{WaitId}
@@ -29,7 +29,7 @@ use Rattle.channel_model.proofs.Puts.{put_owned, put_lasts}
 use Rattle.channel_model.proofs.Spans.{prefix_then, prefix_append, setting_then, added_looked, added_made}
 use Rattle.call_meaning.specs.ChannelCalls.{wait_at}
 use Rattle.floor_tests.specs.declared.known_calls.Known.{Known}
-use Rattle.floor_tests.specs.Known.{Knows, Grows, with_wait, after_offer, after_receive, after_close, after_void}
+use Rattle.floor_tests.specs.Known.{Knows, Grows, with_wait, after_offer, after_receive, after_close, after_void, place_put}
 use Rattle.floor_tests.proofs.WaitsBegun.{Begun, made_own, own_lasts}
 
 -- ---- how a floor grows
@@ -106,6 +106,13 @@ pub got_room : (who : ℕ) (a b : Floor) (r : TriedGot) → TriedGotAnswer who 0
 got_room who a b (tried_got.Taken q v t) h room = let s = h.made.spare in omega (arith, room)
 got_room who a b tried_got.Empty h room = let s = h.0.spare in omega (arith, room)
 got_room who a b (tried_got.Closed x) h room = let s = h.0.looked.spare in omega (arith, room)
+
+pub put_seen : (who v : ℕ) (a b : Floor) (r : Offered) → OfferAnswer who 0 v a b r → IfSome (place_put r) (λ p. HasPut who 0 p b)
+put_seen who v a b (offered.Handed p t) h = tt
+put_seen who v a b (offered.Put p) h = put_owned who 0 p v a b h
+put_seen who v a b (offered.Held p) h = tt
+put_seen who v a b (offered.Closed x) h = tt
+put_seen who v a b offered.Spent h = tt
 
 pub offer_room : (who v : ℕ) (a b : Floor) (r : Offered) → OfferAnswer who 0 v a b r → 2 < a.spare → 1 < b.spare
 offer_room who v a b (offered.Handed p t) h room = let s = h.made.spare in omega (arith, room)

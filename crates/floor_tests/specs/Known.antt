@@ -1,5 +1,5 @@
 -- What the callers of a floor know of its first channel, and how a call lets a floor grow.
-use Rattle.std.specs.Prelude.{◌≡◌, ℕ, ◌<◌, true, false, length}
+use Rattle.std.specs.Prelude.{◌≡◌, ℕ, ◌<◌, true, false, length, Option, Some, None}
 use mathlib.Core.List.{IsPrefix}
 use Rattle.channel_model.specs.declared.floor.Offered.{Offered}
 use Rattle.channel_model.specs.declared.floor.Offered.TheVariants as offered
@@ -35,6 +35,14 @@ after_offer k who (offered.Put p) = k
 after_offer k who (offered.Held p) = with_wait k who p
 after_offer k who (offered.Closed x) = k
 after_offer k who offered.Spent = k
+
+-- where an element was put
+abbrev pub place_put : Offered → Option ℕ
+place_put (offered.Handed p t) = None
+place_put (offered.Put p) = Some p
+place_put (offered.Held p) = None
+place_put (offered.Closed x) = None
+place_put offered.Spent = None
 
 abbrev pub after_receive : Known → ℕ → Got → Known
 after_receive k who (got.Taken p v t) = k

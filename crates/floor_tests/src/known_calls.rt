@@ -2,7 +2,7 @@
 
 ghost use Rattle.std.specs.Prelude.{◌≡◌, ◌<◌, true, OnOk, IfOk, IfSome};
 ghost use Rattle.channel_model.specs.Answers.{HasPut};
-ghost use Rattle.floor_tests.specs.Known.{Knows, Grows, after_offer, after_receive, after_close, after_void};
+ghost use Rattle.floor_tests.specs.Known.{Knows, Grows, after_offer, after_receive, after_close, after_void, place_put};
 
 use channel_model::{
     AlreadyClosed, ChannelFloor, Got, Offered, Settled, TriedGot, WaitState, Why, Withdrawn,
@@ -264,6 +264,16 @@ pub(crate) fn settle<F: ChannelFloor>(
     }
 }
 
+/// The place at which an offer was put.
+fn place_put(answer: Offered) -> Option<Place>
+    ensures { result ≡ place_put answer }
+{
+    match answer {
+        Offered::Put(place) => Some(place),
+        Offered::Handed(_, _) | Offered::Held(_) | Offered::Closed(_) | Offered::Spent => None,
+    }
+}
+
 fn spurn<F: ChannelFloor>(floor: &mut F, known: Known, who: Tag, place: Place) -> Option<Value>
     requires caller { (F.view floor.old).callers who ≡ true }
     requires room { 0 < (F.view floor.old).spare }
@@ -306,10 +316,8 @@ fn put<F: ChannelFloor>(floor: &mut F, known: Known, who: Tag, value: Value) -> 
     ensures room { 1 < (F.view floor.new).spare }
     ensures own { IfSome result (λ place. HasPut who 0 place (F.view floor.new)) }
 {
-    match floor.offer(who, 0, value) {
-        Offered::Put(place) => Some(place),
-        _ => None,
-    }
+    let answer = floor.offer(who, 0, value);
+    place_put(answer)
 }
 
 /// Puts an element, receives one, if so said, and removes the own one, if it was one too many.

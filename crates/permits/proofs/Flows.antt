@@ -306,7 +306,7 @@ name_other who k c d p w ch s h ne may =
 
 -- a plain receiver is placed here
 await_here : (who c p places : ℕ) (w : WaitId) (s : State) → Plain c s → Placed s → HasPlace places p (s.channels c) → MayName who 0 c p w s
-    → Flows c 0 0 s (record { channels = put_channel c (place_receiver (is_open (s.waits w)) (record { place = p; party = record { wait = w; clause = 0 } }) (s.channels c)) s.channels; waits = put_wait w (name_clause who 0 c (s.waits w)) s.waits })
+    → Flows c 0 0 s (record { channels = put_channel c (place_receiver (is_open (s.waits w)) (record { place = p; party = record { wait = w; clause = 0 } }) (s.channels c)) s.channels; waits = put_wait w (name_clause who 0 c (s.waits w)) s.waits; stood = s.stood })
 await_here who c p places w s h l place may = by_test (same_wait w (wait_of c p)) refl may
   where
     joins : (x : Option Wait) → JoinsWait who 0 c x → ⊥
@@ -326,7 +326,7 @@ await_here who c p places w s h l place may = by_test (same_wait w (wait_of c p)
     next_is false r ch = refl
 
     by_test : (b : Bool) → same_wait w (wait_of c p) ≡ b → MatchBool b (0 ≤ 7) (JoinsWait who 0 c (s.waits w))
-        → Flows c 0 0 s (record { channels = put_channel c (place_receiver (is_open (s.waits w)) (record { place = p; party = record { wait = w; clause = 0 } }) (s.channels c)) s.channels; waits = put_wait w (name_clause who 0 c (s.waits w)) s.waits })
+        → Flows c 0 0 s (record { channels = put_channel c (place_receiver (is_open (s.waits w)) (record { place = p; party = record { wait = w; clause = 0 } }) (s.channels c)) s.channels; waits = put_wait w (name_clause who 0 c (s.waits w)) s.waits; stood = s.stood })
     by_test false e m = absurd (joins (s.waits w) m)
     by_test true e m =
         let is : w ≡ wait_of c p = same_wait-eq w (wait_of c p) e in
