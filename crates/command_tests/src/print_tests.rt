@@ -76,12 +76,25 @@ coroutine main
 end
 ";
 
+/// The same with comments and an empty line before the version.
+const COMMENTED: &[u8] = b"# the version
+
+script 2 # of two
+channel a droplatest 65535 places 8
+channel b dropoldest 1
+coroutine main
+end
+";
+
 #[test]
 fn a_script_of_the_second_version_is_printed_as_it_was(rt: HostRuntime) -> Result<(), Fail> {
     let script = read(rt.alloc(), SECOND_VERSION)?;
     let text = print(rt.alloc(), &script)?;
     assert_eq!(rt; text.as_slice(), SECOND_VERSION);
     assert_eq!(rt; script.version(), 2);
+    let commented = read(rt.alloc(), COMMENTED)?;
+    let text = print(rt.alloc(), &commented)?;
+    assert_eq!(rt; text.as_slice(), SECOND_VERSION);
     let first = read(rt.alloc(), EVERY_LINE)?;
     assert_eq!(rt; first.version(), 1);
     Ok(())
