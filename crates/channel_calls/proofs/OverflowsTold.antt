@@ -22,12 +22,11 @@ use Rattle.note_book.specs.Items.{channel_acts_in}
 use Rattle.note_book.proofs.Appended.{channel_acts_in-append}
 use Rattle.call_meaning.specs.Telling.{Told, on_channels, FitsUpTo, StandsWithRoom, items_in, made}
 use Rattle.call_meaning.specs.Facts.{ActHolds}
-use Rattle.call_meaning.specs.ChannelCalls.{Drops, Spurns}
-use Rattle.call_meaning.specs.Calls.{ToldOnChannels}
+use Rattle.call_meaning.specs.ChannelCalls.{Spurns}
 use Rattle.call_meaning.proofs.ChannelsHeard.{items_in-append, told_then, told_roomed, told_made, moment_before}
 use Rattle.call_meaning.proofs.Prefixes.{prefix_on}
 use Rattle.channel_calls.specs.Groups.{made_note}
-use Rattle.channel_calls.specs.Calls.{Tells, ToldPart, IsUntouched, FollowsPut, AfterPutAnswer}
+use Rattle.channel_calls.specs.Calls.{Tells, IsUntouched, FollowsPut, AfterPutAnswer}
 use Rattle.channel_calls.specs.Parts.{DropsAfterPut, SpurnsAfterPut, DroppedAnswer, SpurnedAnswer}
 use Rattle.channel_calls.proofs.DropsTold.{drop_of}
 use Rattle.channel_calls.proofs.Untold.{told_seen, part_stopped}

@@ -1,5 +1,5 @@
 -- What is known stays known as a floor grows, and what each call adds to it.
-use Rattle.std.specs.Prelude.{◌≡◌, ℕ, ◌+◌, ◌<◌, ◌≤◌, Bool, true, false, List, [], ◌∷◌, length, Option, Some, None, is_some, IfSome, Result, Ok, Err, refl}
+use Rattle.std.specs.Prelude.{◌≡◌, ℕ, ◌<◌, Bool, true, false, List, [], ◌∷◌, length, Option, Some, None, is_some, IfSome, Result, Ok, Err, refl}
 use mathlib.Core.List.{IsPrefix}
 use Rattle.std.proofs.Common.{sym, ap, ◌∙◌, subst, arith}
 use Rattle.co_base.specs.declared.names.WaitId.{WaitId}

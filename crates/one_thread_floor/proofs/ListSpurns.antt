@@ -1,6 +1,6 @@
 -- An offer that is one too many, on the lists.
-use Rattle.std.specs.Prelude.{◌≡◌, ℕ, zero, suc, ◌+◌, ◌<◌, ◌≤◌, ◌≢◌, ◌==◌, nat_le, not, Bool, true, false, ◌&&◌, ◌||◌, List, [], ◌∷◌, filter, length, refl, MatchBool}
-use Rattle.std.specs.List.{list_all, remove}
+use Rattle.std.specs.Prelude.{◌≡◌, ℕ, zero, suc, ◌+◌, ◌<◌, ◌≤◌, ◌≢◌, ◌==◌, nat_le, Bool, true, false, ◌&&◌, ◌||◌, List, [], ◌∷◌, length, refl, MatchBool}
+use Rattle.std.specs.List.{remove}
 use Rattle.std.proofs.Common.{get_or, sym, ap, ◌∙◌, subst, arith, ne_eqb}
 use Rattle.std.proofs.lemmas.Bool.{eqb-true}
 use Rattle.std.proofs.lemmas.Bool.Decides.{nat_tests}
@@ -12,7 +12,6 @@ use Rattle.channel_model.specs.Channels.{kind_at, Channel, State, Shape, spurns}
 use Rattle.channel_model.specs.Effects.{after, is_elsewhere, spurned}
 use Rattle.channel_model.specs.Needs.{Needs, IsOfferAt}
 use Rattle.channel_model.specs.Histories.{replay, Legal}
-use Rattle.channel_model.specs.Laws.{Ascends}
 use Rattle.channel_model.specs.Owing.{owes_spurn_at}
 use Rattle.channel_model.specs.Answers.{StandsWithRoom}
 use Rattle.channel_model.proofs.Elements.{all_filter}

@@ -1,5 +1,5 @@
 -- At the end of a run no channel that does not keep its latest has an element that is too many.
-use Rattle.std.proofs.Common.{◌≡◌, ℕ, ◌≤◌, arith, Bool, true, false, ◌&&◌, List, [], ◌∷◌, ◌++◌, refl, ap, sym, ◌∙◌, subst, inl, inr, ◌⊎◌, ⊎_elim, Option, Some, None, if◌then◌else◌}
+use Rattle.std.proofs.Common.{◌≡◌, ℕ, arith, Bool, true, false, ◌&&◌, List, [], ◌∷◌, ◌++◌, refl, ap, sym, ◌∙◌, subst, ◌⊎◌, ⊎_elim, Some, None, if◌then◌else◌}
 use Rattle.std.specs.Prelude.{◌==◌, ◌||◌, ◌+◌, not}
 use Rattle.std.proofs.lemmas.List.{append-nil}
 use Rattle.std.proofs.lemmas.Bool.{eqb-true, eq-eqb}
@@ -9,7 +9,7 @@ use Rattle.channel_model.specs.declared.acts.Entry.{Entry}
 use Rattle.channel_model.specs.declared.acts.Kind.{Kind}
 use Rattle.channel_model.specs.declared.acts.Kind.TheVariants.{Rendezvous, Buffered, Unlimited, Conflated, DropOldest, DropLatest, Signal}
 use Rattle.channel_model.specs.declared.standing.Standing.{Standing}
-use Rattle.channel_model.specs.Channels.{Shape, State, Channel, start, kind_at, spurns, suspends}
+use Rattle.channel_model.specs.Channels.{Shape, State, start, kind_at, spurns, suspends}
 use Rattle.channel_model.specs.Effects.{after, is_open, place_offer, place_receiver, spurned}
 use Rattle.channel_model.specs.Needs.{Needs}
 use Rattle.channel_model.specs.Histories.{replay, Legal}
@@ -17,7 +17,6 @@ use Rattle.channel_model.specs.Owing.{owes_spurn, owes_spurn_at}
 use Rattle.job_model.specs.declared.acts.JobEntry.{JobEntry}
 use Rattle.note_book.specs.declared.book.Item.{Item}
 use Rattle.call_meaning.specs.Telling.{Told, on_channels, StandsWithRoom, made}
-use Rattle.call_meaning.specs.Facts.{ChannelFactHolds}
 use Rattle.script_grammar.specs.Programs.{Program}
 use Rattle.script_meaning.specs.Shapes.{floor_shape}
 use Rattle.script_meaning.specs.Books.{BooksOf}
@@ -26,7 +25,7 @@ use Rattle.script_meaning.proofs.Payments.{acts_told, takes_off}
 use Rattle.script_meaning.proofs.ActsFollowed.{call_told, IsSpurned, Follows}
 use Rattle.script_meaning.proofs.ChannelStories.{step, who_did, deed, CallHolds, CallsSo, same_state}
 use Rattle.script_laws.proofs.ChannelDebts.{CallDebt, BehindOf, CallPaidAt, nobody_owes, needs_there}
-use Rattle.script_laws.proofs.ClosedChannels.{less_after, more_owes, contrary}
+use Rattle.script_laws.proofs.ClosedChannels.{less_after, contrary}
 use Rattle.script_laws.proofs.QueuesFit.{IsPutAt}
 
 abbrev owes_at : Shape → ℕ → ℕ → State → Bool

@@ -1,4 +1,4 @@
-use Rattle.std.specs.Prelude.{◌<◌, length, None}
+use Rattle.std.specs.Prelude.{None}
 use Rattle.std.proofs.Common.{rules, arith}
 use Rattle.std.proofs.lemmas.List.Sorted.{answers_always}
 use Rattle.channel_model.specs.declared.standing.Standing.{Standing}

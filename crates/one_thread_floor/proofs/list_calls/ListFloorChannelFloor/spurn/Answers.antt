@@ -1,4 +1,4 @@
-use Rattle.std.proofs.Common.{arith, sym}
+use Rattle.std.proofs.Common.{arith}
 use Rattle.channel_model.specs.Histories.{replay}
 use Rattle.channel_model.proofs.Alone.{recorded_legal, made_alone, looked_alone, here_moment}
 use Rattle.one_thread_floor.specs.GhostLists.{ghost_items}
