@@ -109,16 +109,18 @@ more_owes kind q m n (o ∷ os) h e = at (o.place == q) (spurns kind m) refl (λ
 
 filtered_owes : (test : Standing → Bool) (kind : Kind) (q m n : ℕ) (os : List Standing) → m ≤ n → owes_spurn_at kind q m (filter test os) ≡ true → owes_spurn_at kind q n os ≡ true
 filtered_owes test kind q m n [] h e = cc
-filtered_owes test kind q m n (o ∷ os) h e = by_test (test o) e
+filtered_owes test kind q m n (o ∷ os) h e =
+    by_test (test o) (λ r. filtered_owes test kind q (m + 1) (n + 1) os (omega (arith, h)) r) (λ r. filtered_owes test kind q m (n + 1) os (omega (arith, h)) r) e
   where
-    at : (b s : Bool) → spurns kind m ≡ s → ((b && s) || owes_spurn_at kind q (m + 1) (filter test os)) ≡ true → ((b && spurns kind n) || owes_spurn_at kind q (n + 1) os) ≡ true
-    at true true t e = ap (λ (x : Bool). x || owes_spurn_at kind q (n + 1) os) (more_spurns kind m n h t)
-    at true false t e = or_right (spurns kind n) _ (filtered_owes test kind q (m + 1) (n + 1) os (omega (arith, h)) e)
-    at false s t e = filtered_owes test kind q (m + 1) (n + 1) os (omega (arith, h)) e
+    at : (b s : Bool) → spurns kind m ≡ s → (owes_spurn_at kind q (m + 1) (filter test os) ≡ true → owes_spurn_at kind q (n + 1) os ≡ true) → ((b && s) || owes_spurn_at kind q (m + 1) (filter test os)) ≡ true → ((b && spurns kind n) || owes_spurn_at kind q (n + 1) os) ≡ true
+    at true true t later e = ap (λ (x : Bool). x || owes_spurn_at kind q (n + 1) os) (more_spurns kind m n h t)
+    at true false t later e = or_right (spurns kind n) _ (later e)
+    at false s t later e = later e
 
-    by_test : (b : Bool) → owes_spurn_at kind q m (if b then o ∷ filter test os else filter test os) ≡ true → owes_spurn_at kind q n (o ∷ os) ≡ true
-    by_test true e = at (o.place == q) (spurns kind m) refl e
-    by_test false e = or_right ((o.place == q) && spurns kind n) _ (filtered_owes test kind q m (n + 1) os (omega (arith, h)) e)
+    by_test : (b : Bool) → (owes_spurn_at kind q (m + 1) (filter test os) ≡ true → owes_spurn_at kind q (n + 1) os ≡ true) → (owes_spurn_at kind q m (filter test os) ≡ true → owes_spurn_at kind q (n + 1) os ≡ true)
+        → owes_spurn_at kind q m (if b then o ∷ filter test os else filter test os) ≡ true → owes_spurn_at kind q n (o ∷ os) ≡ true
+    by_test true later without e = at (o.place == q) (spurns kind m) refl later e
+    by_test false later without e = or_right ((o.place == q) && spurns kind n) _ (without e)
 
 admitted_owes : (p : ℕ) (kind : Kind) (q n : ℕ) (os : List Standing) → owes_spurn_at kind q n (admitted p os) ≡ owes_spurn_at kind q n os
 admitted_owes p kind q n [] = refl

@@ -20,7 +20,7 @@ use Rattle.call_meaning.specs.Telling.{Told, on_channels, StandsWithRoom, made}
 use Rattle.script_grammar.specs.Programs.{Program}
 use Rattle.script_meaning.specs.Shapes.{floor_shape}
 use Rattle.script_meaning.specs.Books.{BooksOf}
-use Rattle.script_meaning.proofs.Debts.{part}
+use Rattle.script_meaning.proofs.Debts.{part, state_after}
 use Rattle.script_meaning.proofs.Payments.{acts_told, takes_off}
 use Rattle.script_meaning.proofs.ActsFollowed.{call_told, IsSpurned, Follows}
 use Rattle.script_meaning.proofs.ChannelStories.{step, who_did, deed, CallHolds, CallsSo, same_state}
@@ -45,12 +45,12 @@ waiting_spurns Signal n s d = cc
 -- a kind whose sends wait owes none
 none_waits : (kind : Kind) (q n : ℕ) (os : List Standing) → suspends kind ≡ true → owes_spurn_at kind q n os ≡ true → ⊥
 none_waits kind q n [] s e = cc
-none_waits kind q n (o ∷ os) s e = at (o.place == q) (spurns kind n) refl e
+none_waits kind q n (o ∷ os) s e = at (o.place == q) (spurns kind n) refl (λ r. none_waits kind q (n + 1) os s r) e
   where
-    at : (a b : Bool) → spurns kind n ≡ b → ((a && b) || owes_spurn_at kind q (n + 1) os) ≡ true → ⊥
-    at true true t e = waiting_spurns kind n s t
-    at true false t e = none_waits kind q (n + 1) os s e
-    at false b t e = none_waits kind q (n + 1) os s e
+    at : (a b : Bool) → spurns kind n ≡ b → (owes_spurn_at kind q (n + 1) os ≡ true → ⊥) → ((a && b) || owes_spurn_at kind q (n + 1) os) ≡ true → ⊥
+    at true true t later e = waiting_spurns kind n s t
+    at true false t later e = later e
+    at false b t later e = later e
 
 -- one more offer at the end: it was owed before, or the offer is that of the place
 pushed_owes : (kind : Kind) (q n : ℕ) (os : List Standing) (o : Standing) → owes_spurn_at kind q n os ≡ false → owes_spurn_at kind q n (os ++ o ∷ []) ≡ true → o.place ≡ q
@@ -59,11 +59,12 @@ pushed_owes kind q n [] o f t = at (o.place == q) refl t
     at : (a : Bool) → (o.place == q) ≡ a → ((a && spurns kind n) || false) ≡ true → o.place ≡ q
     at true e t = eqb-true o.place q e
     at false e t = cc
-pushed_owes kind q n (x ∷ os) o f t = at ((x.place == q) && spurns kind n) f t
+pushed_owes kind q n (x ∷ os) o f t = at ((x.place == q) && spurns kind n) (λ g u. pushed_owes kind q (n + 1) os o g u) f t
   where
-    at : (a : Bool) → (a || owes_spurn_at kind q (n + 1) os) ≡ false → (a || owes_spurn_at kind q (n + 1) (os ++ o ∷ [])) ≡ true → o.place ≡ q
-    at true f t = cc
-    at false f t = pushed_owes kind q (n + 1) os o f t
+    at : (a : Bool) → (owes_spurn_at kind q (n + 1) os ≡ false → owes_spurn_at kind q (n + 1) (os ++ o ∷ []) ≡ true → o.place ≡ q)
+        → (a || owes_spurn_at kind q (n + 1) os) ≡ false → (a || owes_spurn_at kind q (n + 1) (os ++ o ∷ [])) ≡ true → o.place ≡ q
+    at true later f t = cc
+    at false later f t = later f t
 
 spurn_raised : (shape : Shape) (s : State) (who c q : ℕ) (act : Act) → Needs shape s who act → owes_at shape c q s ≡ false → owes_at shape c q (after s who act) ≡ true → IsPutAt c q act
 spurn_raised shape s who c q (Put d r v) n f t = at (d == c) refl t
@@ -113,11 +114,12 @@ spurn_raised shape s who c q (Settle w outcome) n f t = absurd (contrary (owes_a
 -- an offer that is gone is not too many
 gone_owes : (kind : Kind) (q n : ℕ) (os : List Standing) → owes_spurn_at kind q n (spurned q os) ≡ false
 gone_owes kind q n [] = refl
-gone_owes kind q n (o ∷ os) = at (o.place == q) refl
+gone_owes kind q n (o ∷ os) = at (o.place == q) refl (gone_owes kind q n os) (gone_owes kind q (n + 1) os)
   where
-    at : (b : Bool) → (o.place == q) ≡ b → owes_spurn_at kind q n (if not b then o ∷ spurned q os else spurned q os) ≡ false
-    at true e = gone_owes kind q n os
-    at false e = ap (λ b. (b && spurns kind n) || owes_spurn_at kind q (n + 1) (spurned q os)) e ∙ gone_owes kind q (n + 1) os
+    at : (b : Bool) → (o.place == q) ≡ b → owes_spurn_at kind q n (spurned q os) ≡ false → owes_spurn_at kind q (n + 1) (spurned q os) ≡ false
+        → owes_spurn_at kind q n (if not b then o ∷ spurned q os else spurned q os) ≡ false
+    at true e here later = here
+    at false e here later = ap (λ b. (b && spurns kind n) || owes_spurn_at kind q (n + 1) (spurned q os)) e ∙ later
 
 spurned_owes : (shape : Shape) (s : State) (who c q v : ℕ) → owes_at shape c q (after s who (Spurn c q v)) ≡ false
 spurned_owes shape s who c q v = at (c == c) (eq-eqb c c refl)
@@ -140,9 +142,10 @@ spurn_pays shape channels c q k (Put d r v) before ys b e f =
     (λ (i : (y : ℕ) × (t ≡ made (Spurn d r y))).
     let h : Some (Spurn d r i.0) ≡ Some a = ap call_told (sym i.1) ∙ m in
     let same : Spurn d r i.0 ≡ x.act = some_same (Spurn d r i.0) a h ∙ sym g in
-    subst (λ u. owes_at shape c q (after _ x.who u) ≡ false) same
-    (subst (λ u. owes_at shape c u (after _ x.who (Spurn d r i.0)) ≡ false) e.1
-    (subst (λ u. owes_at shape u r (after _ x.who (Spurn d r i.0)) ≡ false) e.0 (spurned_owes shape _ x.who d r i.0))))
+    let s : State = state_after step start earlier in
+    subst (λ u. owes_at shape c q (after s x.who u) ≡ false) same
+    (subst (λ u. owes_at shape c u (after s x.who (Spurn d r i.0)) ≡ false) e.1
+    (subst (λ u. owes_at shape u r (after s x.who (Spurn d r i.0)) ≡ false) e.0 (spurned_owes shape s x.who d r i.0))))
     is)
     (part who_did deed k before ++ Put d r v ∷ []) [] ys
     (b.0 ∙ ap (λ l. l ++ acts_told step start who_did deed k call_told (CallHolds shape) ys) (sym (append-nil (part who_did deed k before ++ Put d r v ∷ []))))
