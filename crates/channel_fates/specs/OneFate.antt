@@ -9,7 +9,9 @@ use Rattle.channel_model.specs.Laws.{how_many}
 
 -- which of received, undelivered, dropped, spurned and withdrawn apply to the element of a place
 abbrev pub fates_of : ℕ → ℕ → List Act → List Bool
-fates_of c p acts = is_received c p acts ∷ is_undelivered_at c p acts ∷ is_dropped c p acts ∷ is_spurned c p acts ∷ is_withdrawn c p acts ∷ []
+fates_of c p acts =
+    is_received c p acts ∷ is_undelivered_at c p acts ∷ is_dropped c p acts
+    ∷ is_spurned c p acts ∷ is_withdrawn c p acts ∷ []
 
 -- at most one of them does
 abbrev pub IsAtMostOneFate : ℕ → ℕ → List Act → Type 0
