@@ -5,12 +5,12 @@ use Rattle.std.proofs.lemmas.Bool.Decides.{nat_tests}
 use Rattle.std.proofs.lemmas.Bool.{eqb-true, and_parts}
 use Rattle.worded.specs.Views.{has_tag}
 use Rattle.channel_model.specs.declared.acts.Kind.{Kind}
-use Rattle.channel_model.specs.declared.acts.Kind.TheVariants.{Rendezvous, Buffered, Unlimited, Conflated, DropOldest, Signal}
+use Rattle.channel_model.specs.declared.acts.Kind.TheVariants.{Rendezvous, Buffered, Unlimited, Conflated, DropOldest, DropLatest, Signal}
 use Rattle.channel_model.specs.declared.acts.Act.{Act}
-use Rattle.channel_model.specs.declared.acts.Act.TheVariants.{Hand, Put, Offer, Await, Take, Admit, Drop, Close, Void, Drain, WakeClosed, Withdraw, Settle}
+use Rattle.channel_model.specs.declared.acts.Act.TheVariants.{Hand, Put, Offer, Await, Take, Admit, Drop, Spurn, Close, Void, Drain, WakeClosed, Withdraw, Settle}
 use Rattle.channel_model.specs.declared.acts.Entry.{Entry}
 use Rattle.channel_model.specs.declared.standing.Standing.{Standing}
-use Rattle.channel_model.specs.Channels.{Shape, State, Channel, kind_at, places_at, suspends, drops}
+use Rattle.channel_model.specs.Channels.{Shape, State, Channel, kind_at, places_at, suspends, drops, spurns}
 use Rattle.channel_model.specs.Effects.{after}
 use Rattle.channel_model.specs.Needs.{Needs}
 use Rattle.channel_model.specs.Histories.{replay, acts_of, Legal}
@@ -59,7 +59,21 @@ dropping_waits_not (Buffered k) most h = let e : false ≡ true = h (most + 1) �
 dropping_waits_not Unlimited most h = refl
 dropping_waits_not Conflated most h = refl
 dropping_waits_not (DropOldest k) most h = refl
+dropping_waits_not (DropLatest k) most h = refl
 dropping_waits_not Signal most h = refl
+
+-- and where the latest is not kept
+as_many : (n : ℕ) → nat_le n n ≡ true
+as_many n = grind (arith, nat_tests)
+
+pub spurning_waits_not : (kind : Kind) (most : ℕ) → ((n : ℕ) → spurns kind n ≡ nat_le most n) → suspends kind ≡ false
+spurning_waits_not Rendezvous most h = let e : false ≡ true = h most ∙ as_many most in cc
+spurning_waits_not (Buffered k) most h = let e : false ≡ true = h most ∙ as_many most in cc
+spurning_waits_not Unlimited most h = refl
+spurning_waits_not Conflated most h = refl
+spurning_waits_not (DropOldest k) most h = refl
+spurning_waits_not (DropLatest k) most h = refl
+spurning_waits_not Signal most h = refl
 
 drops_none : (kind : Kind) → drops kind 0 ≡ false
 drops_none Rendezvous = refl
@@ -67,6 +81,7 @@ drops_none (Buffered k) = refl
 drops_none Unlimited = refl
 drops_none Conflated = refl
 drops_none (DropOldest k) = grind (arith, nat_tests)
+drops_none (DropLatest k) = refl
 drops_none Signal = refl
 
 -- no offer waits in a channel that drops
@@ -124,6 +139,7 @@ module _ (shape : Shape) (who c p : ℕ) where
   given_next xs e l (Take d q v) is h = cc
   given_next xs e l (Admit d q) is h = cc
   given_next xs e l (Drop d q v) is h = cc
+  given_next xs e l (Spurn d q v) is h = cc
   given_next xs e l (Close d v) is h = cc
   given_next xs e l (Void d) is h = cc
   given_next xs e l (Drain d q v) is h = cc

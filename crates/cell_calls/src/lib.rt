@@ -62,7 +62,7 @@ mod way;
 pub use cancelling::{drain, void};
 pub use desk::{Desk, DeskAnchor};
 pub use ending::{close, mark, wake_closed};
-pub use keeping::{admit, trim};
+pub use keeping::{admit, spurn, trim};
 pub use receiving::{receive, try_receive};
 pub use registering::{register_offer, register_receive};
 pub use sending::{offer, try_offer};

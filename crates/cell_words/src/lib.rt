@@ -18,6 +18,7 @@
 //! | cell | Free | Closed | `close_at`: who closes | that the channel ends here |
 //! | cell | Closed | Voided | `void_at`: who cancels | that the channel is cancelled |
 //! | cell | Buffered | Emptied | `remove_kept`: who receives, drops or drains | who has the element |
+//! | cell | Buffered | Emptied | `spurn_kept`: who put it there | that it is not kept |
 //! | cell | Offer of an admitted wait | Emptied | `remove_admitted`: who receives or drains | who has the element |
 //! | wait | 0 | handed | `hand`: who sends | who resolves the wait of the first receiver |
 //! | wait | 0 | closed | `wake`: anybody, once the channel is closed | the same |
@@ -109,7 +110,7 @@ pub use admitting::{admit_at, admit_below, sender_at};
 pub use cell_word::{CellState, CellWord};
 pub use cells::{kind_of, load_cell, places_of};
 pub use counters::{raise_receives, raise_sends, receives_from, sends_from};
-pub use counting::is_over;
+pub use counting::{is_over, was_too_many};
 pub use ending::{close_at, end_at, receiver_at, void_at, wake};
 pub use found::{Admission, At, End, Holder, Removal, Tried, Waiter};
 pub use hub::{CellHistory, Hub, HubTable};
@@ -122,6 +123,6 @@ pub use own_waits::{look_at, settle_at, wait_word_at, withdraw_at};
 pub use pass::Pass;
 pub use placing::{await_at, offer_at, try_await_at};
 pub use registering::{await_clause_at, offer_clause_at, offer_stands, receiver_stands};
-pub use removing::{remove, remove_admitted, remove_kept};
+pub use removing::{remove, remove_admitted, remove_kept, spurn_kept};
 pub use resolving::hand;
 pub use wait_word::{ResolvedBy, WaitWord};

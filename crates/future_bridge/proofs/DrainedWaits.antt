@@ -5,7 +5,7 @@ use Rattle.std.specs.List.{list_any}
 use Rattle.std.proofs.Common.{sym, ap, ◌∙◌, subst, arith, eqb-true, ⊎_elim}
 use Rattle.co_base.specs.declared.names.WaitId.{WaitId}
 use Rattle.channel_model.specs.declared.acts.Act.{Act}
-use Rattle.channel_model.specs.declared.acts.Act.TheVariants.{Hand, Put, Offer, Await, Take, Admit, Drop, Close, Void, Drain, WakeClosed, Withdraw, Settle}
+use Rattle.channel_model.specs.declared.acts.Act.TheVariants.{Hand, Put, Offer, Await, Take, Admit, Drop, Spurn, Close, Void, Drain, WakeClosed, Withdraw, Settle}
 use Rattle.channel_model.specs.declared.acts.Entry.{Entry}
 use Rattle.channel_model.specs.declared.acts.Settled.{Settled}
 use Rattle.channel_model.specs.declared.acts.Settled.TheVariants as settled
@@ -134,6 +134,7 @@ waits_on shape c w s who (Await d p u k) l o n h = named_on c _ who k d p u w s 
 waits_on shape c w s who (Take d p v) l o n h = offer_on c _ w d (s.channels d).queue _ s (λ m. tt) h
 waits_on shape c w s who (Admit d p) l o n h = holder_on c _ w (holder_at p (s.channels d).queue) _ (with_queue d (admitted p (s.channels d).queue) s) (λ m. tt) h
 waits_on shape c w s who (Drop d p v) l o n h = removed_on c _ w d (s.channels d).queue s h
+waits_on shape c w s who (Spurn d p v) l o n h = h
 waits_on shape c w s who (Close d v) l o n h = h
 waits_on shape c w s who (Void d) l o n h = h
 waits_on shape c w s who (Drain d p v) l o n h = offer_on c _ w d (s.channels d).queue _ s (λ m. tt) h
