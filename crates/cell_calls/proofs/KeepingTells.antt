@@ -1,5 +1,5 @@
 -- What an admittance and a drop tell of a floor, and where nothing is to be dropped.
-use Rattle.std.proofs.Common.{◌≡◌, ℕ, ◌+◌, ◌<◌, ◌==◌, nat_le, nat_lt, cond, Bool, true, false, true≢false, ◌||◌, List, [], ◌∷◌, ◌++◌, if◌then◌else◌, Option, Some, None, sym, refl, ap, ◌∙◌, subst, inl, arith, append_assoc}
+use Rattle.std.proofs.Common.{◌≡◌, ℕ, ◌+◌, ◌<◌, ◌≤◌, ◌==◌, nat_le, nat_lt, cond, Bool, true, false, true≢false, ◌||◌, List, [], ◌∷◌, ◌++◌, if◌then◌else◌, Option, Some, None, sym, refl, ap, ◌∙◌, subst, inl, arith, append_assoc}
 use Rattle.std.specs.List.{list_any, list_all}
 use Rattle.std.proofs.lemmas.Bool.Decides.{nat_tests}
 use Rattle.std.proofs.lemmas.Bool.{eqb-true, and_parts}
@@ -29,7 +29,7 @@ use Rattle.cell_words.specs.Hubs.{shape_of, seen_by, SameGiving}
 use Rattle.cell_words.specs.Seen.{Seen, Sees}
 use Rattle.cell_words.specs.Answers.{AdmitBelowAnswer, Offers, WasPut}
 use Rattle.cell_words.proofs.CellsLast.{kept_more}
-use Rattle.cell_words.proofs.LooksAtCells.{sees_then}
+use Rattle.cell_words.proofs.LooksAtCells.{sees_then, given_seen}
 use Rattle.cell_words.proofs.HeldWhereSendsWait.{is_offer, never_held}
 use Rattle.cell_calls.specs.HubFloors.{hub_floor}
 use Rattle.cell_calls.proofs.CallsTell.{sees_self, looked_of, made_of, step_of, prefix_seen, no_more_places}
@@ -179,3 +179,13 @@ module _ (shape : Shape) (who c p : ℕ) where
 
   pub own_put_within : (log : List Entry) → Legal shape log → list_any (is_put_at c p) (acts_of who log) ≡ true → p < places_at shape c
   own_put_within log l h = let g = own_put_given log l h in let m = no_more_places shape log c (p + 1) l (omega arith) in omega arith
+
+-- so it is later, and the channel does not end there
+pub later_given : (shape : Shape) (who c p : ℕ) (v w : Seen) → Sees v w → Legal shape v.seen → Legal shape w.seen → list_any (is_put_at c p) (acts_of who v.seen) ≡ true → p < ((replay w.seen).channels c).next
+later_given shape who c p v w s lv lw h =
+    let g = own_put_given shape who c p v.seen lv h in
+    let later : p + 1 ≤ ((replay w.seen).channels c).next = given_seen shape (p + 1) c v w s lw (omega arith) in
+    omega arith
+
+pub not_the_end : (shape : Shape) (who c p : ℕ) (v w : Seen) → Sees v w → Legal shape v.seen → Legal shape w.seen → list_any (is_put_at c p) (acts_of who v.seen) ≡ true → ((replay w.seen).channels c).next ≡ p → ⊥
+not_the_end shape who c p v w s lv lw h end = let g = later_given shape who c p v w s lv lw h in omega (arith, end)

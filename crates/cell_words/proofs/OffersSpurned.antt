@@ -81,13 +81,13 @@ none_awaits waits p y o none (held who h x cell place holder was still_open) = l
 none_awaits waits p y o none (kept_here line place holder) = line
 
 module _ (b : Board) (c p : ℕ) (o : Standing) (lt : p < (b.state.channels c).next) (at : o.place ≡ p) (here : standing b.state.waits p (b.cells c p) ≡ Some o) (line : awaiting b.state.waits p (b.cells c p) ≡ None) (t : Tied b) where
-  cells' : ℕ → Cell
+  abbrev cells' : ℕ → Cell
   cells' = set_cell b.cells c p (emptied o.value) c
 
   else_at : (q : ℕ) → (p ≡ q → ⊥) → cells' q ≡ b.cells c q
   else_at q ne = cell_else b.cells c p (emptied o.value) c q (λ _ e. ne e)
 
-  stands : ℕ → Option Standing
+  abbrev stands : ℕ → Option Standing
   stands q = standing b.state.waits q (b.cells c q)
 
   gone_here : keep (is_elsewhere p) (Some o) ≡ None

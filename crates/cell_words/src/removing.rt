@@ -206,9 +206,9 @@ pub fn spurn_kept(
     ensures spurned { SpurnAt who c place value (seen_by pass.old) (seen_by pass.new) result }
 {
     let entry = removal_entry(who, Removal::Spurn, c, place, value);
-    let old = plain_cell(CellState::Buffered, value);
-    let new = plain_cell(CellState::Emptied, value);
-    match exchange_cell(hub, pass, who, c, place, old, new, &entry) {
+    let before = plain_cell(CellState::Buffered, value);
+    let after = plain_cell(CellState::Emptied, value);
+    match exchange_cell(hub, pass, who, c, place, before, after, &entry) {
         None => true,
         Some(_) => false,
     }

@@ -35,3 +35,16 @@ returns-clause-too_many c =
     let later : c.args.mine + 1 ≤ (at_channel v.seen c.args.c).next = given_seen shape (c.args.mine + 1) c.args.c f v h.sees lv at in
     too_many_told shape c.args.c c.args.mine _ f v h.sees lf lv (omega (arith, at)) (omega (arith, later))
     (spurns_as c.kind_of.result (kind_at shape c.args.c) _ c.kind_of.ensures c.in-Some.ensures) c.count_from.result h.count
+
+pub count_from-requires-clause-given : goal.count_from-requires-clause-given
+count_from-requires-clause-given c =
+    let shape = shape_of c.args.hub.now in
+    let u = c.args.pass.now.seat.me.0 in
+    let f = c.offers_from-from.new.pass.seat.me.0 in
+    let o = c.offers_from-from.ensures in
+    let given : c.args.mine + 1 ≤ (at_channel u.seen c.args.c).next = omega (arith, c.requires.given) in
+    let at : c.args.mine + 1 ≤ (at_channel f.seen c.args.c).next = given_seen shape (c.args.mine + 1) c.args.c u f o.sees (hub_legal c.args.hub.now c.offers_from-from.new.pass o.own.0) given in
+    omega (arith, at)
+
+pub returns-clause-sees : goal.returns-clause-sees
+returns-clause-sees c = sees_then c.args.pass.now.seat.me.0 c.offers_from-from.new.pass.seat.me.0 c.count_from.new.pass.seat.me.0 c.offers_from-from.ensures.sees c.count_from.ensures.sees
