@@ -124,6 +124,7 @@ voided_seen shape c v w s l h = subst (λ (es : List Entry). (at_channel es c).v
 pub may_admitted : (shape : Shape) (by : Removal) (c p : ℕ) (v w : Seen) → Sees v w → Legal shape w.seen → MayRemoveHeld by c v.seen → MayRemove by shape c p w.seen
 may_admitted shape removal.Take c p v w s l h = tt
 may_admitted shape removal.Drop c p v w s l h = absurd h
+may_admitted shape removal.Spurn c p v w s l h = absurd h
 may_admitted shape removal.Drain c p v w s l h = voided_seen shape c v w s l h
 
 pub closed_seen : (shape : Shape) (c y : ℕ) (v w : Seen) → Sees v w → Legal shape w.seen → (at_channel v.seen c).closed ≡ Some y → (at_channel w.seen c).closed ≡ Some y

@@ -1,16 +1,16 @@
 -- What an admittance and a drop tell of a floor, and where nothing is to be dropped.
-use Rattle.std.proofs.Common.{◌≡◌, ℕ, ◌+◌, ◌<◌, ◌==◌, nat_le, nat_lt, cond, Bool, true, false, true≢false, ◌||◌, List, [], ◌∷◌, ◌++◌, if◌then◌else◌, Option, Some, None, sym, refl, ap, ◌∙◌, subst, inl, arith, append_assoc}
+use Rattle.std.proofs.Common.{◌≡◌, ℕ, ◌+◌, ◌<◌, ◌≤◌, ◌==◌, nat_le, nat_lt, cond, Bool, true, false, true≢false, ◌||◌, List, [], ◌∷◌, ◌++◌, if◌then◌else◌, Option, Some, None, sym, refl, ap, ◌∙◌, subst, inl, arith, append_assoc}
 use Rattle.std.specs.List.{list_any, list_all}
 use Rattle.std.proofs.lemmas.Bool.Decides.{nat_tests}
 use Rattle.std.proofs.lemmas.Bool.{eqb-true, and_parts}
 use Rattle.worded.specs.Views.{has_tag}
 use Rattle.channel_model.specs.declared.acts.Kind.{Kind}
-use Rattle.channel_model.specs.declared.acts.Kind.TheVariants.{Rendezvous, Buffered, Unlimited, Conflated, DropOldest, Signal}
+use Rattle.channel_model.specs.declared.acts.Kind.TheVariants.{Rendezvous, Buffered, Unlimited, Conflated, DropOldest, DropLatest, Signal}
 use Rattle.channel_model.specs.declared.acts.Act.{Act}
-use Rattle.channel_model.specs.declared.acts.Act.TheVariants.{Hand, Put, Offer, Await, Take, Admit, Drop, Close, Void, Drain, WakeClosed, Withdraw, Settle}
+use Rattle.channel_model.specs.declared.acts.Act.TheVariants.{Hand, Put, Offer, Await, Take, Admit, Drop, Spurn, Close, Void, Drain, WakeClosed, Withdraw, Settle}
 use Rattle.channel_model.specs.declared.acts.Entry.{Entry}
 use Rattle.channel_model.specs.declared.standing.Standing.{Standing}
-use Rattle.channel_model.specs.Channels.{Shape, State, Channel, kind_at, places_at, suspends, drops}
+use Rattle.channel_model.specs.Channels.{Shape, State, Channel, kind_at, places_at, suspends, drops, spurns}
 use Rattle.channel_model.specs.Effects.{after}
 use Rattle.channel_model.specs.Needs.{Needs}
 use Rattle.channel_model.specs.Histories.{replay, acts_of, Legal}
@@ -29,7 +29,7 @@ use Rattle.cell_words.specs.Hubs.{shape_of, seen_by, SameGiving}
 use Rattle.cell_words.specs.Seen.{Seen, Sees}
 use Rattle.cell_words.specs.Answers.{AdmitBelowAnswer, Offers, WasPut}
 use Rattle.cell_words.proofs.CellsLast.{kept_more}
-use Rattle.cell_words.proofs.LooksAtCells.{sees_then}
+use Rattle.cell_words.proofs.LooksAtCells.{sees_then, given_seen}
 use Rattle.cell_words.proofs.HeldWhereSendsWait.{is_offer, never_held}
 use Rattle.cell_calls.specs.HubFloors.{hub_floor}
 use Rattle.cell_calls.proofs.CallsTell.{sees_self, looked_of, made_of, step_of, prefix_seen, no_more_places}
@@ -59,7 +59,21 @@ dropping_waits_not (Buffered k) most h = let e : false ≡ true = h (most + 1) �
 dropping_waits_not Unlimited most h = refl
 dropping_waits_not Conflated most h = refl
 dropping_waits_not (DropOldest k) most h = refl
+dropping_waits_not (DropLatest k) most h = refl
 dropping_waits_not Signal most h = refl
+
+-- and where the latest is not kept
+as_many : (n : ℕ) → nat_le n n ≡ true
+as_many n = grind (arith, nat_tests)
+
+pub spurning_waits_not : (kind : Kind) (most : ℕ) → ((n : ℕ) → spurns kind n ≡ nat_le most n) → suspends kind ≡ false
+spurning_waits_not Rendezvous most h = let e : false ≡ true = h most ∙ as_many most in cc
+spurning_waits_not (Buffered k) most h = let e : false ≡ true = h most ∙ as_many most in cc
+spurning_waits_not Unlimited most h = refl
+spurning_waits_not Conflated most h = refl
+spurning_waits_not (DropOldest k) most h = refl
+spurning_waits_not (DropLatest k) most h = refl
+spurning_waits_not Signal most h = refl
 
 drops_none : (kind : Kind) → drops kind 0 ≡ false
 drops_none Rendezvous = refl
@@ -67,6 +81,7 @@ drops_none (Buffered k) = refl
 drops_none Unlimited = refl
 drops_none Conflated = refl
 drops_none (DropOldest k) = grind (arith, nat_tests)
+drops_none (DropLatest k) = refl
 drops_none Signal = refl
 
 -- no offer waits in a channel that drops
@@ -124,6 +139,7 @@ module _ (shape : Shape) (who c p : ℕ) where
   given_next xs e l (Take d q v) is h = cc
   given_next xs e l (Admit d q) is h = cc
   given_next xs e l (Drop d q v) is h = cc
+  given_next xs e l (Spurn d q v) is h = cc
   given_next xs e l (Close d v) is h = cc
   given_next xs e l (Void d) is h = cc
   given_next xs e l (Drain d q v) is h = cc
@@ -163,3 +179,13 @@ module _ (shape : Shape) (who c p : ℕ) where
 
   pub own_put_within : (log : List Entry) → Legal shape log → list_any (is_put_at c p) (acts_of who log) ≡ true → p < places_at shape c
   own_put_within log l h = let g = own_put_given log l h in let m = no_more_places shape log c (p + 1) l (omega arith) in omega arith
+
+-- so it is later, and the channel does not end there
+pub later_given : (shape : Shape) (who c p : ℕ) (v w : Seen) → Sees v w → Legal shape v.seen → Legal shape w.seen → list_any (is_put_at c p) (acts_of who v.seen) ≡ true → p < ((replay w.seen).channels c).next
+later_given shape who c p v w s lv lw h =
+    let g = own_put_given shape who c p v.seen lv h in
+    let later : p + 1 ≤ ((replay w.seen).channels c).next = given_seen shape (p + 1) c v w s lw (omega arith) in
+    omega arith
+
+pub not_the_end : (shape : Shape) (who c p : ℕ) (v w : Seen) → Sees v w → Legal shape v.seen → Legal shape w.seen → list_any (is_put_at c p) (acts_of who v.seen) ≡ true → ((replay w.seen).channels c).next ≡ p → ⊥
+not_the_end shape who c p v w s lv lw h end = let g = later_given shape who c p v w s lv lw h in omega (arith, end)

@@ -141,6 +141,13 @@ entry_leaves shape v w e P m l f =
     let k = Legal-last shape xs e (subst (Legal shape) m.now l) in
     subst (λ (es : List Entry). P (replay es)) (sym m.now) (subst P (sym (replay_push xs e)) (f xs k.0 k.1))
 
+-- the act removes what stands first
+abbrev pub FromFront : Removal → Type 0
+FromFront removal.Take = Unit {0}
+FromFront removal.Drop = Unit {0}
+FromFront removal.Spurn = ⊥
+FromFront removal.Drain = Unit {0}
+
 module _ (shape : Shape) (who c p : ℕ) (old new : Seen) (l : Legal shape new.seen) where
   pub held_past : (v k : ℕ) (w : WaitId) → Makes old (record { who = who; act = Offer c p v w k }) new → NoneBelow (p + 1) 0 (at_channel new.seen c)
   held_past v k w m = entry_leaves shape old new _ (λ (s : State). NoneBelow (p + 1) 0 (s.channels c)) m l
@@ -162,10 +169,11 @@ module _ (shape : Shape) (who c p : ℕ) (old new : Seen) (l : Legal shape new.s
   awaited_past k w m = entry_leaves shape old new _ (λ (s : State). NoneBelow 0 (p + 1) (s.channels c)) m l
       (λ xs legal n. subst (NoneBelow 0 (p + 1)) (sym (put_here c _ (replay xs).channels)) (past_receiver p _ _ _ ((replay xs).channels c) n.1 n.2))
 
-  pub removed_past : (by : Removal) (v : ℕ) (t : Option ℕ) → RemovesFrom by who c p v t old new → NoneBelow 0 (p + 1) (at_channel new.seen c)
-  removed_past removal.Take v t h = entry_leaves shape old new _ (λ (s : State). NoneBelow 0 (p + 1) (s.channels c)) h.made l
+  pub removed_past : (by : Removal) → FromFront by → (v : ℕ) (t : Option ℕ) → RemovesFrom by who c p v t old new → NoneBelow 0 (p + 1) (at_channel new.seen c)
+  removed_past removal.Take front v t h = entry_leaves shape old new _ (λ (s : State). NoneBelow 0 (p + 1) (s.channels c)) h.made l
       (λ xs legal n. past_taken_offer c p v shape ((replay xs).channels c).queue _ (replay xs) refl n.1 (replay_in_order shape xs c legal).offers)
-  removed_past removal.Drop v t h = entry_leaves shape old new _ (λ (s : State). NoneBelow 0 (p + 1) (s.channels c)) h.made l
+  removed_past removal.Drop front v t h = entry_leaves shape old new _ (λ (s : State). NoneBelow 0 (p + 1) (s.channels c)) h.made l
       (λ xs legal n. past_removed_offer c p v ((replay xs).channels c).queue (replay xs) refl n.2 (replay_in_order shape xs c legal).offers)
-  removed_past removal.Drain v t h = entry_leaves shape old new _ (λ (s : State). NoneBelow 0 (p + 1) (s.channels c)) h.made l
+  removed_past removal.Spurn front v t h = absurd front
+  removed_past removal.Drain front v t h = entry_leaves shape old new _ (λ (s : State). NoneBelow 0 (p + 1) (s.channels c)) h.made l
       (λ xs legal n. past_taken_offer c p v shape ((replay xs).channels c).queue _ (replay xs) refl n.2 (replay_in_order shape xs c legal).offers)

@@ -129,6 +129,10 @@ impl ChannelFloor for Desk<'_> {
         keeping::trim(self.hub, self.pass, who, c, mine)
     }
 
+    fn spurn(&mut self, who: Tag, c: ChannelId, mine: Place) -> Option<Value> {
+        keeping::spurn(self.hub, self.pass, who, c, mine)
+    }
+
     ghost legal = { λ s. hub_legal s.hub.now s.pass.now s.of };
 
     ghost shaped = { λ s. s.hub.now.sized.places };

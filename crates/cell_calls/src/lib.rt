@@ -26,6 +26,11 @@
 //! may be was so at a moment of its walk (`cell_words` says why one walk tells it). A trim looks at the first element. While that stands,
 //! those behind it do too, since no send waits in a channel that drops its oldest; so where more stand than are kept, the first may go.
 //!
+//! **Who does not fit** in a channel that does not keep its latest was placed all the same, and counts afterwards. Each offer that stands
+//! before the own one stood there when the own one was placed. So if at least as many do as the channel keeps, the own one was too many
+//! then, whatever was received meanwhile, and one exchange of its cell removes it, unless somebody has received it. The receive counter
+//! alone tells that it fits where fewer places lie between than the channel keeps.
+//!
 //! **A select's clause** walks as a plain call does. First it looks at the select's wait: where that was resolved, the clause takes no
 //! place, also where the channel was closed. Where the other side stands, it says at which place, and resolves nothing. Its wait may be
 //! resolved by another between the look and the exchange; then the clause has a place at which it does not stand.
@@ -44,7 +49,7 @@
 //! - `ending`: where a channel ends, and its close.
 //! - `waiting`: the own wait.
 //! - `cancelling`: a closed channel is cancelled, and emptied.
-//! - `keeping`: an offer is kept from now on, and the oldest element is dropped.
+//! - `keeping`: an offer is kept from now on; the oldest element is dropped, or the own one is removed.
 //! - `way`: which places a walk passed.
 #![tactic(auto)]
 
@@ -62,7 +67,7 @@ mod way;
 pub use cancelling::{drain, void};
 pub use desk::{Desk, DeskAnchor};
 pub use ending::{close, mark, wake_closed};
-pub use keeping::{admit, trim};
+pub use keeping::{admit, spurn, trim};
 pub use receiving::{receive, try_receive};
 pub use registering::{register_offer, register_receive};
 pub use sending::{offer, try_offer};

@@ -2,7 +2,7 @@
 use Rattle.std.proofs.Common.{◌≡◌, ℕ, true, arith}
 use Rattle.std.proofs.lemmas.Bool.Decides.{nat_tests}
 use Rattle.channel_model.specs.declared.acts.Act.{Act}
-use Rattle.channel_model.specs.declared.acts.Act.TheVariants.{Hand, Put, Offer, Await, Take, Admit, Drop, Close, Void, Drain, WakeClosed, Withdraw, Settle}
+use Rattle.channel_model.specs.declared.acts.Act.TheVariants.{Hand, Put, Offer, Await, Take, Admit, Drop, Spurn, Close, Void, Drain, WakeClosed, Withdraw, Settle}
 use Rattle.channel_model.specs.Fates.{removes, is_at}
 use Rattle.cell_words.specs.declared.found.Removal.{Removal}
 use Rattle.cell_words.specs.declared.found.Removal.TheVariants as removal
@@ -17,6 +17,7 @@ at_place c p d q e = (grind (arith, nat_tests), grind (arith, nat_tests))
 pub removing_removes : (by : Removal) (c p v : ℕ) → removes c p (removal_act by c p v) ≡ true
 removing_removes removal.Take c p v = same_place c p
 removing_removes removal.Drop c p v = same_place c p
+removing_removes removal.Spurn c p v = same_place c p
 removing_removes removal.Drain c p v = same_place c p
 
 pub removes_only : (act : Act) (c p : ℕ) → removes c p act ≡ true → IsRemovalAt c p act
@@ -27,6 +28,7 @@ removes_only (Await d q w k) c p e = cc
 removes_only (Take d q v) c p e = let h = at_place c p d q e in record { by = removal.Take; value = v; is = λ i. Take (h.0 i) (h.1 i) v }
 removes_only (Admit d q) c p e = cc
 removes_only (Drop d q v) c p e = let h = at_place c p d q e in record { by = removal.Drop; value = v; is = λ i. Drop (h.0 i) (h.1 i) v }
+removes_only (Spurn d q v) c p e = let h = at_place c p d q e in record { by = removal.Spurn; value = v; is = λ i. Spurn (h.0 i) (h.1 i) v }
 removes_only (Close d v) c p e = cc
 removes_only (Void d) c p e = cc
 removes_only (Drain d q v) c p e = let h = at_place c p d q e in record { by = removal.Drain; value = v; is = λ i. Drain (h.0 i) (h.1 i) v }

@@ -2,14 +2,14 @@
 use Rattle.std.proofs.Common.{◌≡◌, ℕ, Bool, true, false, List, [], ◌∷◌, ◌++◌, Option, Some, None, sym, refl, ap, subst, arith, is_some, is_none}
 use Rattle.std.specs.List.{list_all}
 use Rattle.channel_model.specs.declared.acts.Act.{Act}
-use Rattle.channel_model.specs.declared.acts.Act.TheVariants.{Hand, Put, Offer, Await, Take, Admit, Drop, Close, Void, Drain, WakeClosed, Withdraw, Settle}
+use Rattle.channel_model.specs.declared.acts.Act.TheVariants.{Hand, Put, Offer, Await, Take, Admit, Drop, Spurn, Close, Void, Drain, WakeClosed, Withdraw, Settle}
 use Rattle.channel_model.specs.declared.acts.Entry.{Entry}
 use Rattle.channel_model.specs.declared.acts.Kind.{Kind}
 use Rattle.channel_model.specs.declared.acts.Kind.TheVariants.{Rendezvous, Buffered, Unlimited, Conflated, DropOldest, DropLatest, Signal}
 use Rattle.channel_model.specs.declared.standing.Party.{Party}
 use Rattle.channel_model.specs.declared.standing.Standing.{Standing}
 use Rattle.channel_model.specs.declared.standing.Resolution.TheVariants as resolved
-use Rattle.channel_model.specs.Channels.{Shape, State, start, kind_at, places_at, drops, suspends}
+use Rattle.channel_model.specs.Channels.{Shape, State, start, kind_at, places_at, drops, spurns, suspends}
 use Rattle.channel_model.specs.Effects.{close_value}
 use Rattle.channel_model.specs.Needs.{Needs}
 use Rattle.channel_model.specs.Histories.{replay_from, Legal, LegalFrom}
@@ -21,6 +21,7 @@ use Rattle.cell_words.proofs.OffersAdmitted.{ties_admit}
 use Rattle.channel_model.proofs.Elements.{all_first}
 use Rattle.channel_model.proofs.Sound.{Sound, sound_step, sound_start, sound}
 use Rattle.cell_words.proofs.OffersRemoved.{ties_first, ties_withdraw, ties_take, ties_drop, ties_end}
+use Rattle.cell_words.proofs.OffersSpurned.{ties_spurn}
 
 -- an offer is held only where its kind lets it wait
 drops_not : (k : Kind) (n : ℕ) → drops k n ≡ true → suspends k ≡ false
@@ -31,6 +32,16 @@ drops_not Conflated n e = refl
 drops_not (DropOldest k) n e = refl
 drops_not (DropLatest k) n e = cc
 drops_not Signal n e = cc
+
+-- the same of one that is one too many
+spurns_not : (k : Kind) (n : ℕ) → spurns k n ≡ true → suspends k ≡ false
+spurns_not Rendezvous n e = cc
+spurns_not (Buffered k) n e = cc
+spurns_not Unlimited n e = cc
+spurns_not Conflated n e = cc
+spurns_not (DropOldest k) n e = cc
+spurns_not (DropLatest k) n e = refl
+spurns_not Signal n e = cc
 
 kept_none : (h : Option Party) → is_none h ≡ true → h ≡ None
 kept_none None e = refl
@@ -57,6 +68,7 @@ ties_step shape b e h n t = go e.who e.act n
     go who (Take c p v) n = ties_take b c p v resolved.Taken (λ k. tt) n.1 t
     go who (Admit c p) n = ties_admit b (kind_at shape c) c p n.1 t
     go who (Drop c p v) n = ties_drop b c p v n.2 (none_held shape b.state h c _ n.1) t
+    go who (Spurn c p v) n = ties_spurn b c p v n.2 ((h.channels c).kept (spurns_not (kind_at shape c) (b.state.stood c p) n.1)) t
     go who (Close c v) n = ties_end b c (closed_by v) (record (b.state.channels c) { closed = Some v }) refl refl refl (open_end (b.state.channels c).closed v (b.state.channels c).voided ((h.channels c).voided n.1)) tt (λ w k m. m) t
     go who (Void c) n = ties_end b c (voided_by (close_value (b.state.channels c).closed)) (record (b.state.channels c) { voided = true }) refl refl refl (close_end (b.state.channels c).closed n.1) tt (λ w k m. m) t
     go who (Drain c p v) n = ties_take b c p v (λ k. resolved.Voided) (λ k. tt) n.2 t

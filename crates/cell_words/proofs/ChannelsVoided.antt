@@ -29,6 +29,7 @@ ends_keeps shape p v = record {
   without = λ w d ch h. h;
   rest = λ d o os ch e h. h;
   admit = λ d q ch h. h;
+  spurn = λ d q ch h. h;
   put = λ d q u ch h n x. absurd (shut ch h.open_now x.1);
   offer = λ d q b o ch h n s e x. absurd (shut ch h.open_now x.1);
   await = λ d q b r ch h n e x. absurd (shut ch h.open_now x.1);

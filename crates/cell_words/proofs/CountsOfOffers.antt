@@ -10,7 +10,8 @@ use Rattle.cell_words.specs.Answers.{stands}
 use Rattle.cell_words.proofs.GatheredLists.{gather_all, all_gather}
 use Rattle.cell_words.proofs.ListsOfCells.{standing_is}
 use Rattle.cell_words.proofs.OffersRemoved.{offer_place}
-use Rattle.channel_model.specs.Laws.{NoOffer, is_elsewhere}
+use Rattle.channel_model.specs.Effects.{is_elsewhere}
+use Rattle.channel_model.specs.Laws.{NoOffer}
 use Rattle.channel_model.proofs.GoneForGood.{elsewhere, none_lasts}
 use Rattle.cell_words.proofs.CellsTellFacts.{tied_now}
 

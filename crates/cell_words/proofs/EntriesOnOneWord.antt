@@ -3,7 +3,7 @@ use Rattle.std.proofs.Common.{◌≡◌, ◌≢◌, ℕ, ◌/◌, ◌%◌, ◌<�
 use Rattle.channel_model.specs.Laws.{NoneBelow}
 use Rattle.co_base.specs.declared.names.WaitId.{WaitId}
 use Rattle.channel_model.specs.declared.acts.Act.{Act}
-use Rattle.channel_model.specs.declared.acts.Act.TheVariants.{Hand, Put, Offer, Await, Take, Drop, Close, Drain, Withdraw}
+use Rattle.channel_model.specs.declared.acts.Act.TheVariants.{Hand, Put, Offer, Await, Take, Drop, Spurn, Close, Drain, Withdraw}
 use Rattle.channel_model.specs.declared.acts.Why.{Why}
 use Rattle.channel_model.specs.declared.acts.Entry.{Entry}
 use Rattle.channel_model.specs.declared.acts.Settled.{Settled}
@@ -11,9 +11,9 @@ use Rattle.channel_model.specs.declared.standing.Standing.{Standing}
 use Rattle.channel_model.specs.declared.standing.Receiver.{Receiver}
 use Rattle.channel_model.specs.declared.standing.Resolution.{Resolution}
 use Rattle.channel_model.specs.declared.standing.Resolution.TheVariants as resolved
-use Rattle.channel_model.specs.Channels.{Shape, State, Wait, same_wait, places_at, kind_at, is_signal, suspends, is_full, drops}
+use Rattle.channel_model.specs.Channels.{Shape, State, Wait, same_wait, places_at, kind_at, is_signal, suspends, is_full, drops, spurns}
 use Rattle.channel_model.specs.Effects.{after, resolve_first, resolve_offer, remove_first, put_wait, resolved_wait, name_clause}
-use Rattle.channel_model.specs.Needs.{Needs, HasPlace, IsFirstReceiver, IsFirstOffer, IsOpenOf}
+use Rattle.channel_model.specs.Needs.{Needs, HasPlace, IsFirstReceiver, IsFirstOffer, IsOfferAt, IsOpenOf}
 use Rattle.channel_model.specs.Histories.{replay, Legal}
 use Rattle.channel_model.specs.Answers.{first_receiver, first_holder, owner_of, IsOwnWait}
 use Rattle.channel_model.proofs.Histories.{replay_push, Legal_push}
@@ -27,7 +27,9 @@ use Rattle.cell_words.specs.declared.found.Removal.TheVariants as removal
 use Rattle.cell_words.specs.Removals.{removal_act, how_removed}
 use Rattle.cell_words.specs.Answers.{MayRemoveHeld}
 use Rattle.cell_words.proofs.OneNumberOneWord.{number_apart, cell_not_wait, wait_not_send, cell_not_receive, cell_not_send, wait_not_receive, cell_not_run, wait_not_run, same_number, same_number_odd}
-use Rattle.cell_words.proofs.ListsOfCells.{IsNamed, CellNamed, cell_here, cell_else, set_same}
+use Rattle.cell_words.proofs.ListsOfCells.{IsNamed, CellNamed, standing_is, cell_here, cell_else, set_same}
+use Rattle.cell_words.proofs.OffersRemoved.{offer_place}
+use Rattle.cell_words.proofs.OffersSpurned.{offer_gathered}
 use Rattle.channel_model.proofs.Sound.{sound, EndsResolved}
 use Rattle.cell_words.proofs.CellsGiveLists.{board_push, board_state}
 use Rattle.cell_words.proofs.CellsTellFacts.{now, tied_now, used_given, first_line, first_queue, free_end}
@@ -192,6 +194,7 @@ module _ (shape : Shape) (log : List Entry) (who c p value owner k : ℕ) (w : W
       × ((j n : ℕ) → j ≢ wait_number shape w.channel w.place → Fits shape log j n → Fits shape (log ++ record { who = who; act = removal_act by c p value } ∷ []) j n)
   removed_steps removal.Take may = resolve_steps shape log who w.channel w.place (Take c p value) (resolved.Taken k) take_wait.wait l wc wp (lc, first_offer) (removed_waits resolved.Taken) removed_marks take_wait.was take_wait.still_open lk
   removed_steps removal.Drop may = absurd may
+  removed_steps removal.Spurn may = absurd may
   removed_steps removal.Drain may = resolve_steps shape log who w.channel w.place (Drain c p value) resolved.Voided take_wait.wait l wc wp (lc, may, first_offer) (removed_waits (λ k. resolved.Voided)) removed_marks take_wait.was take_wait.still_open tt
 
 -- ---- Withdraw
@@ -292,11 +295,28 @@ module _ (shape : Shape) (log : List Entry) (who c p : ℕ) (act : Act) (x : Cel
 
 -- ---- an element that is kept is removed
 
+-- one that was too many, wherever it stands
+module _ (shape : Shape) (log : List Entry) (who c p value : ℕ) (l : Legal shape log) (lc : c < length shape) (lp : p ≤ places_at shape c) (lv : value < 4294967296)
+    (used : is_used (cell_of log c p) ≡ true) (stands : standing (replay log).waits p (cell_of log c p) ≡ Some (record { place = p; value = value; holder = None })) where
+  offer_here : IsOfferAt p value ((replay log).channels c).queue
+  offer_here = subst (IsOfferAt p value) (sym ((tied_now shape log l).queues c))
+      (offer_gathered (λ q. standing (replay log).waits q (cell_of log c q)) (λ q o e. offer_place (replay log).waits q (cell_of log c q) o (standing_is (replay log).waits q (cell_of log c q) o e))
+      p ((replay log).channels c).next _ (used_given (now log) c p (tied_now shape log l) used) stands)
+
+  emptied_marks : set_cell (board_of log).cells c p (emptied_if (standing (board_of log).state.waits p (cell_of log c p)) (cell_of log c p)) ≡ set_cell (board_of log).cells c p (emptied value)
+  emptied_marks = ap (λ (y : Cell). set_cell (board_of log).cells c p y) (ap (λ (s : State). emptied_if (standing s.waits p (cell_of log c p)) (cell_of log c p)) (board_state blank log) ∙ ap (λ (o : Option Standing). emptied_if o (cell_of log c p)) stands)
+
+  pub spurned_steps : spurns (kind_at shape c) ((replay log).stood c p) ≡ true → Legal shape (log ++ record { who = who; act = Spurn c p value } ∷ [])
+      × Fits shape (log ++ record { who = who; act = Spurn c p value } ∷ []) (cell_number shape c p) (cell_code shape c p (emptied value))
+      × ((j m : ℕ) → j ≢ cell_number shape c p → Fits shape log j m → Fits shape (log ++ record { who = who; act = Spurn c p value } ∷ []) j m)
+  spurned_steps many = cell_steps shape log who c p (Spurn c p value) (emptied value) (cell_code shape c p (emptied value)) l lc lp (lc, many, offer_here) emptied_marks refl refl lv
+
 -- what the act asks besides an element that stands first
-abbrev pub AsksNow : Removal → Shape → ℕ → List Entry → Type 0
-AsksNow removal.Take shape c log = Unit {0}
-AsksNow removal.Drop shape c log = drops (kind_at shape c) (length ((replay log).channels c).queue) ≡ true
-AsksNow removal.Drain shape c log = ((replay log).channels c).voided ≡ true
+abbrev pub AsksNow : Removal → Shape → ℕ → ℕ → List Entry → Type 0
+AsksNow removal.Take shape c p log = Unit {0}
+AsksNow removal.Drop shape c p log = drops (kind_at shape c) (length ((replay log).channels c).queue) ≡ true
+AsksNow removal.Spurn shape c p log = spurns (kind_at shape c) ((replay log).stood c p) ≡ true
+AsksNow removal.Drain shape c p log = ((replay log).channels c).voided ≡ true
 
 module _ (shape : Shape) (log : List Entry) (who c p value : ℕ) (l : Legal shape log) (lc : c < length shape) (lp : p ≤ places_at shape c) (lv : value < 4294967296) (low : NoneBelow 0 p ((replay log).channels c))
     (used : is_used (cell_of log c p) ≡ true) (stands : standing (replay log).waits p (cell_of log c p) ≡ Some (record { place = p; value = value; holder = None })) where
@@ -312,13 +332,14 @@ module _ (shape : Shape) (log : List Entry) (who c p value : ℕ) (l : Legal sha
   kept_marks : set_cell (board_of log).cells c p (emptied_if (standing (board_of log).state.waits p (cell_of log c p)) (cell_of log c p)) ≡ set_cell (board_of log).cells c p (emptied value)
   kept_marks = ap (λ (y : Cell). set_cell (board_of log).cells c p y) (ap (λ (s : State). emptied_if (standing s.waits p (cell_of log c p)) (cell_of log c p)) (board_state blank log) ∙ ap (λ (o : Option Standing). emptied_if o (cell_of log c p)) stands)
 
-  pub emptied_steps : (by : Removal) → AsksNow by shape c log → Legal shape (log ++ record { who = who; act = removal_act by c p value } ∷ [])
+  pub emptied_steps : (by : Removal) → AsksNow by shape c p log → Legal shape (log ++ record { who = who; act = removal_act by c p value } ∷ [])
       × Fits shape (log ++ record { who = who; act = removal_act by c p value } ∷ []) (cell_number shape c p) (cell_code shape c p (emptied value))
       × ((j m : ℕ) → j ≢ cell_number shape c p → Fits shape log j m → Fits shape (log ++ record { who = who; act = removal_act by c p value } ∷ []) j m)
   emptied_steps removal.Take asks = cell_steps shape log who c p (Take c p value) (emptied value) (cell_code shape c p (emptied value)) l lc lp (lc, kept_first) kept_marks
       (ap (λ (q : List Standing). (resolve_offer c q resolved.Taken (replay log)).waits) kept_queue.1) refl lv
   emptied_steps removal.Drop asks = cell_steps shape log who c p (Drop c p value) (emptied value) (cell_code shape c p (emptied value)) l lc lp (lc, asks, kept_first) kept_marks
       (ap (λ (q : List Standing). (remove_first c q (replay log)).waits) kept_queue.1) refl lv
+  emptied_steps removal.Spurn asks = spurned_steps shape log who c p value l lc lp lv used stands asks
   emptied_steps removal.Drain asks = cell_steps shape log who c p (Drain c p value) (emptied value) (cell_code shape c p (emptied value)) l lc lp (lc, asks, kept_first) kept_marks
       (ap (λ (q : List Standing). (resolve_offer c q (λ k. resolved.Voided) (replay log)).waits) kept_queue.1) refl lv
 

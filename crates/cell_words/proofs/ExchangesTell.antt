@@ -16,20 +16,21 @@ use Rattle.channel_model.specs.Answers.{IsResolvedWait}
 use Rattle.channel_model.proofs.Histories.{LegalFrom-parts}
 use Rattle.channel_model.proofs.GoneForGood.{below_lasts}
 use Rattle.channel_model.proofs.Later.{resolved_later}
+use Rattle.cell_words.specs.declared.cell_word.CellState.TheVariants as state
 use Rattle.cell_words.specs.declared.cell_word.CellWord.{CellWord}
 use Rattle.cell_words.specs.declared.wait_word.WaitWord.{WaitWord}
 use Rattle.cell_words.specs.declared.found.Removal.{Removal}
 use Rattle.cell_words.specs.declared.found.Waiter.{Waiter}
 use Rattle.cell_words.specs.Cells.{Cell, receiver, offer, buffered, emptied, cell_of, standing, awaiting, offer_of, offer_by, offer_after, receiver_of, receiver_by, is_used}
 use Rattle.cell_words.specs.Codes.{packed_cell, packed_wait}
-use Rattle.cell_words.specs.Words.{number, PartyFits, cell_code, how_word, parts_word, word_of_wait, Fits}
+use Rattle.cell_words.specs.Words.{number, plain_word, PartyFits, cell_code, how_word, parts_word, word_of_wait, Fits}
 use Rattle.worded.specs.Views.{has_tag}
 use Rattle.worded.specs.Histories.{entries_of}
 use Rattle.worded.proofs.TagsAndPrefixes.{entries_of-append}
 use Rattle.cell_words.specs.Seen.{Seen, maker, at_channel, Sees, Makes, Turns, ExchangeAnswer}
 use Rattle.cell_words.specs.Looks.{lets_stand}
 use Rattle.cell_words.specs.Removals.{removal_act}
-use Rattle.cell_words.specs.Answers.{IsCellWord, IsWaitWord, IsHolder, HandsTo, RemovesFrom, IsAdmitted, IsKept, put, held, stands}
+use Rattle.cell_words.specs.Answers.{IsCellWord, IsWaitWord, IsHolder, HandsTo, RemovesFrom, IsAdmitted, IsKept, put, held, stands, WasPut}
 use Rattle.cell_words.proofs.ListsOfCells.{IsNamed, CellNamed}
 use Rattle.cell_words.proofs.CellsTellFacts.{now, tied_now, used_given, past_receiver, past_offer}
 use Rattle.cell_words.proofs.CellsLast.{receiver_more, offer_used_more, kept_more, held_more}
@@ -236,6 +237,15 @@ module _ (shape : Shape) (v w : Seen) (l : Legal shape w.seen) (who c p value : 
           (λ (y : cell_of w.seen c p ≡ offer x.value a.who a.wait x.clause). absurd (other (offer x.value a.who a.wait x.clause) y (ap packed_cell is_old ∙ ap (λ (z : ℕ). cell_code shape c p (offer z a.who a.wait x.clause)) (sym same))))
           (λ (y : cell_of w.seen c p ≡ emptied x.value). empty x.value y)
           (subst (λ (es : List Entry). (cell_of es c p ≡ offer x.value a.who a.wait x.clause) ⊎ (cell_of es c p ≡ emptied x.value)) (sym s.now) (held_more shape c p x.value a.who x.clause a.wait v.seen s.others l' a.cell))
+
+-- ---- one that was too many is removed
+
+-- another word says that the cell was emptied
+pub spurn_lost : (shape : Shape) (v w : Seen) → Legal shape w.seen → (c p value : ℕ) → WasPut c p value v.seen → (found : CellWord) → Sees v w → IsCellWord shape c p w.seen found → (packed_cell found ≡ packed_cell (plain_word state.Buffered value) → ⊥) → stands w.seen c p ≡ None
+spurn_lost shape v w l c p value at found s is ne = ⊎_elim
+    (λ (x : cell_of w.seen c p ≡ buffered value). absurd (ne (ap packed_cell is.0 ∙ ap (cell_code shape c p) x)))
+    (λ (x : cell_of w.seen c p ≡ emptied value). ap (standing (replay w.seen).waits p) x)
+    (subst (λ (es : List Entry). (cell_of es c p ≡ buffered value) ⊎ (cell_of es c p ≡ emptied value)) (sym s.now) (kept_more shape c p value v.seen s.others (subst (Legal shape) s.now l) at))
 
 -- ---- an offer that was seen in its cell, and then its wait
 

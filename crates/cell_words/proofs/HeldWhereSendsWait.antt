@@ -1,7 +1,7 @@
 -- A cell has an offer that a sender began to wait with only where the kind of its channel lets a send wait.
 use Rattle.std.proofs.Common.{◌≡◌, ℕ, Bool, true, false, true≢false, List, [], Option, Some, None, sym, refl, ap, ◌∙◌}
 use Rattle.channel_model.specs.declared.acts.Act.{Act}
-use Rattle.channel_model.specs.declared.acts.Act.TheVariants.{Hand, Put, Offer, Await, Take, Admit, Drop, Close, Void, Drain, WakeClosed, Withdraw, Settle}
+use Rattle.channel_model.specs.declared.acts.Act.TheVariants.{Hand, Put, Offer, Await, Take, Admit, Drop, Spurn, Close, Void, Drain, WakeClosed, Withdraw, Settle}
 use Rattle.channel_model.specs.declared.acts.Entry.{Entry}
 use Rattle.channel_model.specs.declared.standing.Party.{Party}
 use Rattle.channel_model.specs.declared.standing.Standing.{Standing}
@@ -46,6 +46,7 @@ module _ (shape : Shape) (c p : ℕ) (kind : suspends (kind_at shape c) ≡ fals
   never_step b who (Take d q v) n h = removed b d q h
   never_step b who (Admit d q) n h = h
   never_step b who (Drop d q v) n h = removed b d q h
+  never_step b who (Spurn d q v) n h = removed b d q h
   never_step b who (Close d v) n h = placed b d (b.state.channels d).next (closed_by v) (λ e. refl) h
   never_step b who (Void d) n h = placed b d (b.state.channels d).next _ (λ e. refl) h
   never_step b who (Drain d q v) n h = removed b d q h

@@ -1,4 +1,5 @@
--- While an offer stands, an element that is kept behind it stands. So a queue of kept elements gets no shorter while its first stands.
+-- While an offer stands, an element that is kept behind it stands, unless the channel does not keep its latest. So a queue of kept elements
+-- gets no shorter while its first stands.
 use Rattle.std.proofs.Common.{◌≡◌, ◌⊎◌, ℕ, ◌+◌, ◌-◌, ◌<◌, ◌≤◌, ◌==◌, Bool, true, false, true≢false, List, [], ◌∷◌, ◌++◌, length, if◌then◌else◌, Option, Some, None, is_some, is_none, sym, refl, ap, ◌∙◌, subst, ⊎_elim, inl, inr, arith}
 use Rattle.std.specs.List.{list_all}
 use Rattle.std.proofs.lemmas.Bool.Decides.{nat_tests}
@@ -7,18 +8,18 @@ use mathlib.Core.Logic.{dite}
 use native.Mathlib.Decide.{ℕ_discrete, dec_le}
 use Rattle.co_base.specs.declared.names.WaitId.{WaitId}
 use Rattle.channel_model.specs.declared.acts.Act.{Act}
-use Rattle.channel_model.specs.declared.acts.Act.TheVariants.{Hand, Put, Offer, Await, Take, Admit, Drop, Close, Void, Drain, WakeClosed, Withdraw, Settle}
+use Rattle.channel_model.specs.declared.acts.Act.TheVariants.{Hand, Put, Offer, Await, Take, Admit, Drop, Spurn, Close, Void, Drain, WakeClosed, Withdraw, Settle}
 use Rattle.channel_model.specs.declared.acts.Entry.{Entry}
 use Rattle.channel_model.specs.declared.acts.Kind.{Kind}
-use Rattle.channel_model.specs.declared.acts.Kind.TheVariants.{Rendezvous, Buffered, Unlimited, Conflated, DropOldest, Signal}
+use Rattle.channel_model.specs.declared.acts.Kind.TheVariants.{Rendezvous, Buffered, Unlimited, Conflated, DropOldest, DropLatest, Signal}
 use Rattle.channel_model.specs.declared.standing.Standing.{Standing}
 use Rattle.channel_model.specs.declared.standing.Resolution.{Resolution}
 use Rattle.channel_model.specs.declared.standing.Resolution.TheVariants as resolved
-use Rattle.channel_model.specs.Channels.{Shape, State, Wait, places_at, kind_at, suspends, drops}
-use Rattle.channel_model.specs.Effects.{after}
+use Rattle.channel_model.specs.Channels.{Shape, State, Wait, places_at, kind_at, suspends, drops, spurns}
+use Rattle.channel_model.specs.Effects.{after, is_elsewhere}
 use Rattle.channel_model.specs.Needs.{Needs, HasPlace, IsFirstOffer}
 use Rattle.channel_model.specs.Histories.{replay, Legal}
-use Rattle.channel_model.specs.Laws.{NoneBelow, NoOffer, is_elsewhere, IsResolvedAs}
+use Rattle.channel_model.specs.Laws.{NoneBelow, NoOffer, IsResolvedAs}
 use Rattle.channel_model.proofs.EveryAct.{after_keeps}
 use Rattle.channel_model.proofs.GoneForGood.{elsewhere, none_keeps}
 use Rattle.channel_model.proofs.Later.{given_later}
@@ -102,10 +103,14 @@ module _ (shape : Shape) (c p q : ℕ) (lt : p < q) (b : Board) (e : Entry) (s :
   placed : (d r places : ℕ) (y : Cell) → HasPlace places r (b.state.channels d) → Then (set_cell b.cells d r y c q)
   placed d r places y h' = subst Then (sym (cell_else b.cells d r y c q (λ m k. let f : r ≡ (b.state.channels c).next = h'.first ∙ ap (λ (z : ℕ). (b.state.channels z).next) m in omega (arith, f, k, given)))) (inl keeps_then)
 
+  -- of another channel
+  other : (d r : ℕ) (y : Cell) → (d ≡ c → ⊥) → Then (set_cell b.cells d r y c q)
+  other d r y ne = subst Then (sym (cell_else b.cells d r y c q (λ m k. ne m))) (inl keeps_then)
+
   ended : (d : ℕ) (y : Cell) → Then (set_cell b.cells d (b.state.channels d).next y c q)
   ended d y = subst Then (sym (cell_else b.cells d (b.state.channels d).next y c q (λ m k. let f : (b.state.channels d).next ≡ (b.state.channels c).next = ap (λ (z : ℕ). (b.state.channels z).next) m in omega (arith, f, k, given)))) (inl keeps_then)
 
-module _ (shape : Shape) (c p q : ℕ) (lt : p < q) where
+module _ (shape : Shape) (c p q : ℕ) (lt : p < q) (never : (n : ℕ) → spurns (kind_at shape c) n ≡ false) where
   keeps_step : (b : Board) (e : Entry) → Sound shape b.state → Tied b → Needs shape b.state e.who e.act → Keeps b.state.waits (b.cells c q) → KeepsOr c p q (step_board b e)
   keeps_step b e s t n h = go e.who e.act n
     where
@@ -117,6 +122,8 @@ module _ (shape : Shape) (c p q : ℕ) (lt : p < q) where
       go who (Take d r v) n = removed shape c p q lt b (record { who = who; act = Take d r v }) s t n h d r v n.1
       go who (Admit d r) n = inl (keeps_then shape c p q lt b (record { who = who; act = Admit d r }) s t n h)
       go who (Drop d r v) n = removed shape c p q lt b (record { who = who; act = Drop d r v }) s t n h d r v n.2
+      go who (Spurn d r v) n = other shape c p q lt b (record { who = who; act = Spurn d r v }) s t n h d r _
+          (λ m. true≢false (sym n.1 ∙ ap (λ (z : ℕ). spurns (kind_at shape z) (b.state.stood d r)) m ∙ never (b.state.stood d r)))
       go who (Close d v) n = ended shape c p q lt b (record { who = who; act = Close d v }) s t n h d _
       go who (Void d) n = ended shape c p q lt b (record { who = who; act = Void d }) s t n h d _
       go who (Drain d r v) n = removed shape c p q lt b (record { who = who; act = Drain d r v }) s t n h d r v n.2
@@ -184,7 +191,7 @@ none_is : {A : Type 0} (x : Option A) → is_none x ≡ true → x ≡ None
 none_is None e = refl
 none_is (Some x) e = cc
 
-module _ (shape : Shape) (c p : ℕ) (xs ys : List Entry) (lx : Legal shape xs) (l : Legal shape (xs ++ ys)) (kind : suspends (kind_at shape c) ≡ false)
+module _ (shape : Shape) (c p : ℕ) (xs ys : List Entry) (lx : Legal shape xs) (l : Legal shape (xs ++ ys)) (kind : suspends (kind_at shape c) ≡ false) (never : (n : ℕ) → spurns (kind_at shape c) n ≡ false)
     (low : NoneBelow 0 p (at_channel xs c)) (stays : is_some (stands (xs ++ ys) c p) ≡ true) where
   -- who stood behind it stands
   stood_none : (q : ℕ) → q < (at_channel xs c).next → stands (xs ++ ys) c q ≡ None → stands xs c q ≡ None
@@ -195,7 +202,7 @@ module _ (shape : Shape) (c p : ℕ) (xs ys : List Entry) (lx : Legal shape xs) 
 
       beyond : (o : Standing) → stands xs c q ≡ Some o → p < q → stands xs c q ≡ None
       beyond o is after_p = let h = kept_cell (replay xs).waits q (cell_of xs c q) o is (none_is o.holder (gather_all (λ (o : Standing). is_none o.holder) (stands xs c) (at_channel xs c).next all q o lt is)) in
-          let k = kept_behind shape c p q after_p xs ys l h stays in
+          let k = kept_behind shape c p q after_p never xs ys l h stays in
           absurd (true≢false (sym (stands_kept (replay (xs ++ ys)).waits q (cell_of (xs ++ ys) c q) k) ∙ ap is_some e))
 
       go : (x : Option Standing) → stands xs c q ≡ x → stands xs c q ≡ None
@@ -223,6 +230,7 @@ drops_more (Buffered k) n m le e = e
 drops_more Unlimited n m le e = e
 drops_more Conflated n m le e = grind (arith, nat_tests)
 drops_more (DropOldest k) n m le e = grind (arith, nat_tests)
+drops_more (DropLatest k) n m le e = e
 drops_more Signal n m le e = e
 
 drops_holds : (k : Kind) (n : ℕ) → drops k n ≡ true → suspends k ≡ false
@@ -231,7 +239,27 @@ drops_holds (Buffered k) n e = cc
 drops_holds Unlimited n e = refl
 drops_holds Conflated n e = refl
 drops_holds (DropOldest k) n e = refl
+drops_holds (DropLatest k) n e = cc
 drops_holds Signal n e = refl
+
+drops_keeps : (k : Kind) (n : ℕ) → drops k n ≡ true → (m : ℕ) → spurns k m ≡ false
+drops_keeps Rendezvous n e m = refl
+drops_keeps (Buffered k) n e m = refl
+drops_keeps Unlimited n e m = refl
+drops_keeps Conflated n e m = refl
+drops_keeps (DropOldest k) n e m = refl
+drops_keeps (DropLatest k) n e m = cc
+drops_keeps Signal n e m = refl
+
+-- a kind on which a send may wait keeps its latest
+pub waits_keeps : (k : Kind) → suspends k ≡ true → (n : ℕ) → spurns k n ≡ false
+waits_keeps Rendezvous e n = refl
+waits_keeps (Buffered k) e n = refl
+waits_keeps Unlimited e n = refl
+waits_keeps Conflated e n = refl
+waits_keeps (DropOldest k) e n = refl
+waits_keeps (DropLatest k) e n = cc
+waits_keeps Signal e n = refl
 
 -- a queue that is too long stays so while its first element stands
 pub over_later : (shape : Shape) (c p : ℕ) (xs ys : List Entry) → Legal shape xs → Legal shape (xs ++ ys) → p < (at_channel xs c).next → NoneBelow 0 p (at_channel xs c) → IsOver shape c p xs → is_some (stands (xs ++ ys) c p) ≡ true
@@ -239,5 +267,5 @@ pub over_later : (shape : Shape) (c p : ℕ) (xs ys : List Entry) → Legal shap
 over_later shape c p xs ys lx l lt low over stays = ⊎_elim
     (λ (gone : stands xs c p ≡ None). absurd (true≢false (sym stays ∙ ap is_some (gone_more shape c p xs ys lx l lt gone))))
     (λ (long : drops (kind_at shape c) (length (at_channel xs c).queue) ≡ true). drops_more (kind_at shape c) (length (at_channel xs c).queue) (length (at_channel (xs ++ ys) c).queue)
-    (no_shorter shape c p xs ys lx l (drops_holds (kind_at shape c) (length (at_channel xs c).queue) long) low stays) long)
+    (no_shorter shape c p xs ys lx l (drops_holds (kind_at shape c) (length (at_channel xs c).queue) long) (drops_keeps (kind_at shape c) (length (at_channel xs c).queue) long) low stays) long)
     over

@@ -2,6 +2,7 @@ pub mod GatheredLists
 pub mod ListsOfCells
 pub mod PlacesGivenOut
 pub mod OffersRemoved
+pub mod OffersSpurned
 pub mod OffersAdmitted
 pub mod CellsGiveLists
 pub mod CellsTellFacts
@@ -10,6 +11,7 @@ pub mod PlacesWereKept
 pub mod OneNumberOneWord
 pub mod CountsOfOffers
 pub mod KeptBehind
+pub mod OffersBefore
 pub mod EntriesOnOneWord
 pub mod WaitsAtHome
 pub mod OneCodeOneWord

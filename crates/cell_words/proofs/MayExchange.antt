@@ -4,10 +4,10 @@ use Rattle.std.proofs.lemmas.Bool.Decides.{nat_tests}
 use Rattle.worded.specs.Views.{has_tag}
 use Rattle.worded.specs.Histories.{entries_of}
 use Rattle.co_base.specs.declared.names.WaitId.{WaitId}
-use Rattle.channel_model.specs.declared.acts.Act.TheVariants.{Hand, Offer, Await, Put, Close, Withdraw}
+use Rattle.channel_model.specs.declared.acts.Act.TheVariants.{Hand, Offer, Await, Put, Spurn, Close, Withdraw}
 use Rattle.channel_model.specs.declared.acts.Entry.{Entry}
 use Rattle.channel_model.specs.declared.acts.Kind.{Kind}
-use Rattle.channel_model.specs.declared.acts.Kind.TheVariants.{Rendezvous, Buffered, Unlimited, Conflated, DropOldest, Signal}
+use Rattle.channel_model.specs.declared.acts.Kind.TheVariants.{Rendezvous, Buffered, Unlimited, Conflated, DropOldest, DropLatest, Signal}
 use Rattle.channel_model.specs.declared.acts.Why.{Why}
 use Rattle.channel_model.specs.declared.standing.Resolution.TheVariants as resolved
 use Rattle.channel_model.specs.Channels.{Shape, Wait, places_at, kind_at, is_signal, suspends, is_full}
@@ -18,20 +18,22 @@ use Rattle.channel_model.proofs.Histories.{acts_of-append}
 use Rattle.channel_model.proofs.Others.{others_keep, own_stays}
 use Rattle.channel_model.proofs.GoneForGood.{below_lasts}
 use Rattle.channel_model.proofs.Later.{resolved_later, voided_later}
+use Rattle.cell_words.specs.declared.cell_word.CellState.TheVariants as state
 use Rattle.cell_words.specs.declared.cell_word.CellWord.{CellWord}
 use Rattle.cell_words.specs.Cells.{Cell, free, receiver, offer, buffered, emptied, closed_by, voided_by, spot, cell_of, standing, offer_of, offer_by, gather, is_used}
 use Rattle.cell_words.specs.Codes.{packed_cell}
-use Rattle.cell_words.specs.Words.{number, cell_number, wait_number, PartyFits, CellFits, cell_code, wait_code, how_code}
+use Rattle.cell_words.specs.Words.{number, cell_number, wait_number, plain_word, PartyFits, CellFits, cell_code, wait_code, how_code}
 use Rattle.cell_words.specs.Seen.{Seen, maker}
-use Rattle.cell_words.specs.Answers.{MayTurn, IsKept, put, held, stands, MayRemove, MayRemoveHeld}
+use Rattle.cell_words.specs.Answers.{MayTurn, IsKept, put, held, stands, MayRemove, MayRemoveHeld, WasPut, WasTooMany}
 use Rattle.cell_words.specs.Removals.{removal_act, how_removed}
 use Rattle.cell_words.specs.declared.found.Removal.{Removal}
 use Rattle.cell_words.specs.declared.found.Removal.TheVariants as removal
 use Rattle.cell_words.proofs.CellsTellFacts.{now, tied_now, used_given, free_end, none_line, none_queue}
 use Rattle.cell_words.proofs.CellsLast.{resolved_more, receiver_more, offer_more, given_more, kept_more, held_more}
-use Rattle.cell_words.proofs.EntriesOnOneWord.{AsksNow, hand_steps, removed_steps, withdraw_steps, await_steps, offer_steps, emptied_steps, put_steps, close_steps, parts_open}
+use Rattle.cell_words.proofs.EntriesOnOneWord.{AsksNow, hand_steps, removed_steps, withdraw_steps, await_steps, offer_steps, emptied_steps, spurned_steps, put_steps, close_steps, parts_open}
 use Rattle.cell_words.proofs.CountsOfOffers.{gone_more, count_less}
 use Rattle.cell_words.proofs.KeptBehind.{over_later}
+use Rattle.cell_words.proofs.OffersBefore.{too_many_later}
 
 -- ---- codes
 
@@ -116,12 +118,14 @@ kept_given shape c p value word log l (held x a same is) = used_given (now log) 
 pub held_later : (shape : Shape) (by : Removal) (c : ℕ) (xs ys : List Entry) → Legal shape (xs ++ ys) → MayRemoveHeld by c xs → MayRemoveHeld by c (xs ++ ys)
 held_later shape removal.Take c xs ys l h = tt
 held_later shape removal.Drop c xs ys l h = h
+held_later shape removal.Spurn c xs ys l h = h
 held_later shape removal.Drain c xs ys l h = voided_later shape xs ys c l h
 
 asks_later : (shape : Shape) (by : Removal) (c p : ℕ) (xs ys : List Entry) → Legal shape xs → Legal shape (xs ++ ys) → p < ((replay xs).channels c).next → NoneBelow 0 p ((replay xs).channels c) → is_some (stands (xs ++ ys) c p) ≡ true
-    → MayRemove by shape c p xs → AsksNow by shape c (xs ++ ys)
+    → MayRemove by shape c p xs → AsksNow by shape c p (xs ++ ys)
 asks_later shape removal.Take c p xs ys lx l lt low stays h = tt
 asks_later shape removal.Drop c p xs ys lx l lt low stays h = over_later shape c p xs ys lx l lt low h stays
+asks_later shape removal.Spurn c p xs ys lx l lt low stays h = too_many_later shape c p xs ys lx l lt stays h
 asks_later shape removal.Drain c p xs ys lx l lt low stays h = voided_later shape xs ys c l h
 
 -- ---- each kind of step
@@ -133,6 +137,7 @@ full_less (Buffered k) n m le e = grind (arith, nat_tests)
 full_less Unlimited n m le e = refl
 full_less Conflated n m le e = refl
 full_less (DropOldest k) n m le e = refl
+full_less (DropLatest k) n m le e = refl
 full_less Signal n m le e = e
 
 module _ (shape : Shape) (v : Seen) (who c p : ℕ) (own : has_tag who v.tags ≡ true) (lc : c < length shape) where
@@ -199,6 +204,19 @@ module _ (shape : Shape) (v : Seen) (who c p : ℕ) (own : has_tag who v.tags �
         let s = kept_stands shape c p value word v.seen others l k at.0 at.1 in
         emptied_steps shape (v.seen ++ others) who c p value l lc lp s.small (below_lasts shape v.seen others c 0 p l low) s.used s.stands by
         (asks_later shape by c p v.seen others lx l (kept_given shape c p value word v.seen lx k) low (ap is_some s.stands) may);
+  }
+
+  pub spurns_kept : (value : ℕ) → Legal shape v.seen → WasTooMany shape c p v.seen → p ≤ places_at shape c → WasPut c p value v.seen
+      → MayTurn shape (cell_number shape c p) (packed_cell (plain_word state.Buffered value)) (cell_code shape c p (emptied value)) (record { who = who; act = Spurn c p value }) v
+  spurns_kept value lx may lp k = record {
+    own = own;
+    steps = λ others added f.
+        let l = added.is_legal in
+        let at = f.cell c p lc lp refl in
+        let kept : IsKept shape c p value v.seen (plain_word state.Buffered value) = put refl k in
+        let s = kept_stands shape c p value (plain_word state.Buffered value) v.seen others l kept at.0 at.1 in
+        spurned_steps shape (v.seen ++ others) who c p value l lc lp s.small s.used s.stands
+        (too_many_later shape c p v.seen others lx l (kept_given shape c p value (plain_word state.Buffered value) v.seen lx kept) (ap is_some s.stands) may);
   }
 
   pub puts : (value : ℕ) → p < places_at shape c → value < 4294967296 → NoneBelow p 0 ((replay v.seen).channels c) → Legal shape v.seen

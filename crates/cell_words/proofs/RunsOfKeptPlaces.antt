@@ -8,7 +8,7 @@ use Rattle.channel_model.specs.declared.acts.Kind.{Kind}
 use Rattle.channel_model.specs.declared.standing.Party.{Party}
 use Rattle.channel_model.specs.declared.standing.Standing.{Standing}
 use Rattle.channel_model.specs.declared.standing.Resolution.TheVariants as resolved
-use Rattle.channel_model.specs.Channels.{Shape, State, start, kind_at}
+use Rattle.channel_model.specs.Channels.{Shape, State, start, kind_at, suspends}
 use Rattle.channel_model.specs.Effects.{after, resolve, resolve_holder, with_queue, put_wait, resolved_wait, admitted, holder_at}
 use Rattle.channel_model.specs.Needs.{MayBeAdmitted}
 use Rattle.channel_model.specs.Histories.{replay, replay_from, Legal, LegalFrom}
@@ -81,14 +81,14 @@ admit_kept shape who c p t v w l a = one_kept w.seen c p (subst (λ (es : List E
 
 -- ---- a walk that begins where the run ends
 
-module _ (shape : Shape) (c low from to : ℕ) (log : List Entry) (l : Legal shape log) (below : NoneBelow 0 low (at_channel log c)) (run : WereKept log c from to) where
+module _ (shape : Shape) (c low from to : ℕ) (kind : suspends (kind_at shape c) ≡ true) (log : List Entry) (l : Legal shape log) (below : NoneBelow 0 low (at_channel log c)) (run : WereKept log c from to) where
   pub walked_run : from ≤ low → (d n : ℕ) → n ≡ low + d → n ≤ to → Walked c low n d log
   walked_run le zero n is within = let e : low ≡ n = omega arith in subst (λ (z : ℕ). Walked c low z 0 log) e (walked_none shape c low log l below)
   walked_run le (suc d) n is within =
       let e : (low + d) + 1 ≡ n = omega arith in
       let f : d + 1 ≡ suc d = omega arith in
       subst (λ (z : ℕ × ℕ). Walked c low z.0 z.1 log) (λ i. (e i, f i))
-      (walked_kept c low (low + d) d log (omega arith) (walked_run le d (low + d) refl (omega arith)) (place_kept shape c (low + d) log l (cell_of log c (low + d)) refl (run (low + d) (omega arith) (omega arith))))
+      (walked_kept c low (low + d) d log (omega arith) (walked_run le d (low + d) refl (omega arith)) (place_kept shape c (low + d) kind log l (cell_of log c (low + d)) refl (run (low + d) (omega arith) (omega arith))))
 
   -- at the run's end, or where it is not one of these places at the place itself
   pub walked_start : (first : ℕ) → low ≤ first → (first ≡ low) ⊎ ((from ≤ low) × (first ≤ to)) → Walked c low first (first - low) log

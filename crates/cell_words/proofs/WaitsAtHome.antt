@@ -2,7 +2,7 @@
 use Rattle.std.proofs.Common.{is_some, ◌≡◌, ℕ, ◌≤◌, Bool, true, false, List, [], ◌∷◌, if◌then◌else◌, Option, Some, None, MatchBool, sym, refl, ap, ◌∙◌, subst, arith}
 use Rattle.co_base.specs.declared.names.WaitId.{WaitId}
 use Rattle.channel_model.specs.declared.acts.Act.{Act}
-use Rattle.channel_model.specs.declared.acts.Act.TheVariants.{Hand, Put, Offer, Await, Take, Admit, Drop, Close, Void, Drain, WakeClosed, Withdraw, Settle}
+use Rattle.channel_model.specs.declared.acts.Act.TheVariants.{Hand, Put, Offer, Await, Take, Admit, Drop, Spurn, Close, Void, Drain, WakeClosed, Withdraw, Settle}
 use Rattle.channel_model.specs.declared.acts.Entry.{Entry}
 use Rattle.channel_model.specs.declared.acts.Settled.{Settled}
 use Rattle.channel_model.specs.declared.standing.Party.{Party}
@@ -161,6 +161,7 @@ home_step shape b e s n h = go e.who e.act n
     go who (Take d r v) n = record { home = removed b s.placed h _ (offer_owner b.state d (b.state.channels d).queue _) d r }
     go who (Admit d r) n = record { home = still b s.placed h _ (holder_owner _ (holder_at r (b.state.channels d).queue) _) }
     go who (Drop d r v) n = record { home = removed b s.placed h _ (removed_owner b.state d (b.state.channels d).queue) d r }
+    go who (Spurn d r v) n = record { home = removed b s.placed h b.state.waits (λ w. same_owner (b.state.waits w)) d r }
     go who (Close d v) n = record { home = fresh_cell b s.placed h b.state.waits (λ w. same_owner (b.state.waits w)) (λ w e. e) d (b.state.channels d).next _ refl }
     go who (Void d) n = record { home = fresh_cell b s.placed h b.state.waits (λ w. same_owner (b.state.waits w)) (λ w e. e) d (b.state.channels d).next _ refl }
     go who (Drain d r v) n = record { home = removed b s.placed h _ (offer_owner b.state d (b.state.channels d).queue _) d r }

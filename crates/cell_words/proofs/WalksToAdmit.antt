@@ -5,13 +5,13 @@ use mathlib.Core.Logic.{dite}
 use native.Mathlib.Decide.{ℕ_discrete, dec_le}
 use Rattle.co_base.specs.declared.names.WaitId.{WaitId}
 use Rattle.channel_model.specs.declared.acts.Act.{Act}
-use Rattle.channel_model.specs.declared.acts.Act.TheVariants.{Hand, Put, Offer, Await, Take, Admit, Drop, Close, Void, Drain, WakeClosed, Withdraw, Settle}
+use Rattle.channel_model.specs.declared.acts.Act.TheVariants.{Hand, Put, Offer, Await, Take, Admit, Drop, Spurn, Close, Void, Drain, WakeClosed, Withdraw, Settle}
 use Rattle.channel_model.specs.declared.acts.Entry.{Entry}
 use Rattle.channel_model.specs.declared.acts.Kind.{Kind}
 use Rattle.channel_model.specs.declared.standing.Party.{Party}
 use Rattle.channel_model.specs.declared.standing.Standing.{Standing}
 use Rattle.channel_model.specs.declared.standing.Resolution.TheVariants as resolved
-use Rattle.channel_model.specs.Channels.{Shape, State, Wait, kind_at, places_at, is_full, suspends}
+use Rattle.channel_model.specs.Channels.{Shape, State, Wait, kind_at, places_at, is_full, suspends, spurns}
 use Rattle.channel_model.specs.declared.acts.Kind.TheVariants.{Buffered}
 use Rattle.channel_model.specs.Effects.{after, close_value, holder_at}
 use Rattle.channel_model.specs.Needs.{Needs, IsFirstOffer}
@@ -37,7 +37,7 @@ use Rattle.cell_words.proofs.CellsGiveLists.{board_lasts, board_state}
 use Rattle.cell_words.proofs.CellsTellFacts.{now, tied_now, used_given, none_offers, past_offer}
 use Rattle.cell_words.proofs.CellsLast.{offer_used_more, kept_more, given_more}
 use Rattle.cell_words.proofs.CountsOfOffers.{cell_by_none, gone_more, stood_before, count_some, count_none, count_next, count_less, count_up}
-use Rattle.cell_words.proofs.KeptBehind.{Keeps, kept_cell, stands_kept, kept_behind, board_none}
+use Rattle.cell_words.proofs.KeptBehind.{Keeps, kept_cell, stands_kept, kept_behind, board_none, waits_keeps}
 use Rattle.cell_words.proofs.MayExchange.{full_less}
 use Rattle.cell_words.proofs.LooksAtCells.{below_seen, given_seen, sees_then, sees_makes}
 
@@ -100,7 +100,7 @@ none_before b t c p q v lt first = go (b.state.channels c).queue refl first
     go (o ∷ os) e h = let f = first_in_queue b c o os t e in let at : o.place ≡ f.place = offer_place b.state.waits f.place (b.cells c f.place) o f.is in
         board_none b t c p (let g = f.given in omega (arith, h.0)) (f.before p (omega (arith, h.0)))
 
-module _ (shape : Shape) (c p q : ℕ) (lt : p < q) where
+module _ (shape : Shape) (c p q : ℕ) (lt : p < q) (never : (n : ℕ) → spurns (kind_at shape c) n ≡ false) where
   abbrev NoneIfEmptied : Board → Type 0
   NoneIfEmptied b = (v : ℕ) → b.cells c q ≡ emptied v → NoOffer p (b.state.channels c)
 
@@ -119,6 +119,11 @@ module _ (shape : Shape) (c p q : ℕ) (lt : p < q) where
           (λ x z is. still who act n (none_before b t c p q u lt (subst (λ (k : ℕ × ℕ). IsFirstOffer k.1 u (b.state.channels k.0).queue) (λ i. (x i, z i)) first)))
           c q (λ ne x z is. still who act n (h v is)) refl refl
 
+      spurned : (who : ℕ) (d r u : ℕ) (n : Needs shape b.state who (Spurn d r u)) → (v : ℕ) → mark b.state b.cells who (Spurn d r u) c q ≡ emptied v → NoOffer p ((after b.state who (Spurn d r u)).channels c)
+      spurned who d r u n v = by_spot (λ x z w. x ≡ c → w ≡ emptied v → NoOffer p ((after b.state who (Spurn d r u)).channels c)) b.cells d r _
+          (λ x is. absurd (true≢false (sym n.1 ∙ ap (λ (k : ℕ). spurns (kind_at shape k) (b.state.stood d r)) x ∙ never (b.state.stood d r))))
+          c q (λ ne x is. still who (Spurn d r u) n (h v is)) refl
+
       go : (who : ℕ) (act : Act) → Needs shape b.state who act → (v : ℕ) → mark b.state b.cells who act c q ≡ emptied v → NoOffer p ((after b.state who act).channels c)
       go who (Hand d r u) n v is = still who (Hand d r u) n (h v is)
       go who (Put d r u) n v is = still who (Put d r u) n (h v (other d r (buffered u) v refl is))
@@ -127,6 +132,7 @@ module _ (shape : Shape) (c p q : ℕ) (lt : p < q) where
       go who (Take d r u) n v is = removed who (Take d r u) n d r u n.1 v is
       go who (Admit d r) n v is = still who (Admit d r) n (h v is)
       go who (Drop d r u) n v is = removed who (Drop d r u) n d r u n.2 v is
+      go who (Spurn d r u) n v is = spurned who d r u n v is
       go who (Close d u) n v is = still who (Close d u) n (h v (other d (b.state.channels d).next (closed_by u) v refl is))
       go who (Void d) n v is = still who (Void d) n (h v (other d (b.state.channels d).next (voided_by (close_value (b.state.channels d).closed)) v refl is))
       go who (Drain d r u) n v is = removed who (Drain d r u) n d r u n.2 v is
@@ -151,38 +157,38 @@ pub one_kept : (log : List Entry) (c p : ℕ) → WasKept (replay log).waits (ce
 one_kept log c p h q le lt = let is : p ≡ q = omega arith in subst (λ (z : ℕ). WasKept (replay log).waits (cell_of log c z)) is h
 
 -- what a place tells that was kept once
-pub place_kept : (shape : Shape) (c p : ℕ) (log : List Entry) → Legal shape log → (y : Cell) → cell_of log c p ≡ y → WasKept (replay log).waits y → KeptHere c p log
-place_kept shape c p log l free e h = absurd h
-place_kept shape c p log l (receiver who w k) e h = absurd h
-place_kept shape c p log l (offer v who w k) e h = record {
+pub place_kept : (shape : Shape) (c p : ℕ) → suspends (kind_at shape c) ≡ true → (log : List Entry) → Legal shape log → (y : Cell) → cell_of log c p ≡ y → WasKept (replay log).waits y → KeptHere c p log
+place_kept shape c p kind log l free e h = absurd h
+place_kept shape c p kind log l (receiver who w k) e h = absurd h
+place_kept shape c p kind log l (offer v who w k) e h = record {
   kept = one_kept log c p (subst (WasKept (replay log).waits) (sym e) h);
   given = place_given shape c p log l (ap is_used e);
   nobody = ap (λ (z : Cell). waits_with (standing (replay log).waits p z)) e ∙ admitted_free p v k w ((replay log).waits w) h;
   behind = λ q le st. stands_kept (replay log).waits p (cell_of log c p) (subst (Keeps (replay log).waits) (sym e) h);
 }
-place_kept shape c p log l (buffered v) e h = record {
+place_kept shape c p kind log l (buffered v) e h = record {
   kept = one_kept log c p (subst (WasKept (replay log).waits) (sym e) h);
   given = place_given shape c p log l (ap is_used e);
   nobody = ap (λ (z : Cell). waits_with (standing (replay log).waits p z)) e;
   behind = λ q le st. ap (λ (z : Cell). is_some (standing (replay log).waits p z)) e;
 }
-place_kept shape c p log l (emptied v) e h = record {
+place_kept shape c p kind log l (emptied v) e h = record {
   kept = one_kept log c p (subst (WasKept (replay log).waits) (sym e) h);
   given = place_given shape c p log l (ap is_used e);
   nobody = ap (λ (z : Cell). waits_with (standing (replay log).waits p z)) e;
   behind = λ q le st. dite (ℕ_discrete q p) (λ (same : q ≡ p). subst (λ (z : ℕ). is_some (stands log c z) ≡ true) same st)
-      (λ ne. absurd (true≢false (sym st ∙ ap is_some (emptied_first shape c q p (omega arith) log v l e))));
+      (λ ne. absurd (true≢false (sym st ∙ ap is_some (emptied_first shape c q p (omega arith) (waits_keeps (kind_at shape c) kind) log v l e))));
 }
-place_kept shape c p log l (closed_by v) e h = absurd h
-place_kept shape c p log l (voided_by v) e h = absurd h
+place_kept shape c p kind log l (closed_by v) e h = absurd h
+place_kept shape c p kind log l (voided_by v) e h = absurd h
 
-pub kept_here : (shape : Shape) (c p v : ℕ) (log : List Entry) → Legal shape log → cell_of log c p ≡ buffered v → KeptHere c p log
-kept_here shape c p v log l e = place_kept shape c p log l (buffered v) e tt
+pub kept_here : (shape : Shape) (c p v : ℕ) → suspends (kind_at shape c) ≡ true → (log : List Entry) → Legal shape log → cell_of log c p ≡ buffered v → KeptHere c p log
+kept_here shape c p v kind log l e = place_kept shape c p kind log l (buffered v) e tt
 
-pub admitted_here : (shape : Shape) (c p : ℕ) (x : Waiter) (log : List Entry) → Legal shape log → IsAdmitted shape c p x log → KeptHere c p log
-admitted_here shape c p x log l a = ⊎_elim
-    (λ (e : cell_of log c p ≡ offer x.value a.who a.wait x.clause). place_kept shape c p log l (offer x.value a.who a.wait x.clause) e a.admitted)
-    (λ (e : cell_of log c p ≡ emptied x.value). place_kept shape c p log l (emptied x.value) e tt)
+pub admitted_here : (shape : Shape) (c p : ℕ) (x : Waiter) → suspends (kind_at shape c) ≡ true → (log : List Entry) → Legal shape log → IsAdmitted shape c p x log → KeptHere c p log
+admitted_here shape c p x kind log l a = ⊎_elim
+    (λ (e : cell_of log c p ≡ offer x.value a.who a.wait x.clause). place_kept shape c p kind log l (offer x.value a.who a.wait x.clause) e a.admitted)
+    (λ (e : cell_of log c p ≡ emptied x.value). place_kept shape c p kind log l (emptied x.value) e tt)
     a.cell
 
 -- ---- the walk
@@ -208,9 +214,9 @@ walked_none shape c low log l h =
     }
 
 -- so many stand that stood
-still_stand : (shape : Shape) (c low : ℕ) (xs ys : List Entry) → Legal shape xs → Legal shape (xs ++ ys) → (place : ℕ) → place ≤ (at_channel xs c).next → NoneBelow 0 low (at_channel xs c) → ((q : ℕ) → q < place → waits_with (stands xs c q) ≡ false)
+still_stand : (shape : Shape) (c low : ℕ) → suspends (kind_at shape c) ≡ true → (xs ys : List Entry) → Legal shape xs → Legal shape (xs ++ ys) → (place : ℕ) → place ≤ (at_channel xs c).next → NoneBelow 0 low (at_channel xs c) → ((q : ℕ) → q < place → waits_with (stands xs c q) ≡ false)
     → is_some (stands (xs ++ ys) c low) ≡ true → length (gather (stands xs c) place) ≤ length (gather (stands (xs ++ ys) c) place)
-still_stand shape c low xs ys lx l place le below nobody stays = count_less (stands (xs ++ ys) c) (stands xs c) place stood
+still_stand shape c low kind xs ys lx l place le below nobody stays = count_less (stands (xs ++ ys) c) (stands xs c) place stood
   where
     stood : (q : ℕ) → q < place → stands (xs ++ ys) c q ≡ None → stands xs c q ≡ None
     stood q lt e = go (stands xs c q) refl
@@ -221,23 +227,23 @@ still_stand shape c low xs ys lx l place le below nobody stays = count_less (sta
             (λ before. none_offers (now xs) c (tied_now shape xs lx) 0 low below q (omega arith))
             (λ other. dite (ℕ_discrete q low)
             (λ (same : q ≡ low). absurd (true≢false (sym stays ∙ ap is_some (ap (stands (xs ++ ys) c) (sym same) ∙ e))))
-            (λ ne. absurd (true≢false (sym (stands_kept (replay (xs ++ ys)).waits q (cell_of (xs ++ ys) c q) (kept_behind shape c low q (omega arith) xs ys l (free_keeps xs c q o is (nobody q lt)) stays)) ∙ ap is_some e))))
+            (λ ne. absurd (true≢false (sym (stands_kept (replay (xs ++ ys)).waits q (cell_of (xs ++ ys) c q) (kept_behind shape c low q (omega arith) (waits_keeps (kind_at shape c) kind) xs ys l (free_keeps xs c q o is (nobody q lt)) stays)) ∙ ap is_some e))))
 
-walked_more : (shape : Shape) (c low place count : ℕ) (xs ys : List Entry) → Legal shape xs → Legal shape (xs ++ ys) → NoneBelow 0 low (at_channel (xs ++ ys) c) → Walked c low place count xs → Walked c low place count (xs ++ ys)
-walked_more shape c low place count xs ys lx l below h = record {
+walked_more : (shape : Shape) (c low place count : ℕ) → suspends (kind_at shape c) ≡ true → (xs ys : List Entry) → Legal shape xs → Legal shape (xs ++ ys) → NoneBelow 0 low (at_channel (xs ++ ys) c) → Walked c low place count xs → Walked c low place count (xs ++ ys)
+walked_more shape c low place count kind xs ys lx l below h = record {
   given = given_more shape place c xs ys l h.given;
   below = below;
   nobody = λ q lt. free_more shape c q xs ys lx l (let g = h.given in omega arith) (h.nobody q lt);
   upper = let m = count_less (stands xs c) (stands (xs ++ ys) c) place (λ q lt e. gone_more shape c q xs ys lx l (let g = h.given in omega arith) e) in let u = h.upper in omega arith;
   lower = λ st. dite (dec_le (low + 1) place)
-      (λ inside. let before = h.lower (stood_before shape c low xs ys lx l (let g = h.given in omega arith) st) in let m = still_stand shape c low xs ys lx l place h.given h.below h.nobody st in omega arith)
+      (λ inside. let before = h.lower (stood_before shape c low xs ys lx l (let g = h.given in omega arith) st) in let m = still_stand shape c low kind xs ys lx l place h.given h.below h.nobody st in omega arith)
       (λ outside. let f = h.few in omega arith);
   few = h.few;
 }
 
-pub walked_seen : (shape : Shape) (c low place count : ℕ) (u v : Seen) → Sees u v → Legal shape u.seen → Legal shape v.seen → Walked c low place count u.seen → Walked c low place count v.seen
-walked_seen shape c low place count u v s lu l h = subst (λ (es : List Entry). Walked c low place count es) (sym s.now)
-    (walked_more shape c low place count u.seen s.others lu (subst (Legal shape) s.now l) (subst (λ (es : List Entry). NoneBelow 0 low (at_channel es c)) s.now (below_seen shape 0 low c u v s l h.below)) h)
+pub walked_seen : (shape : Shape) (c low place count : ℕ) → suspends (kind_at shape c) ≡ true → (u v : Seen) → Sees u v → Legal shape u.seen → Legal shape v.seen → Walked c low place count u.seen → Walked c low place count v.seen
+walked_seen shape c low place count kind u v s lu l h = subst (λ (es : List Entry). Walked c low place count es) (sym s.now)
+    (walked_more shape c low place count kind u.seen s.others lu (subst (Legal shape) s.now l) (subst (λ (es : List Entry). NoneBelow 0 low (at_channel es c)) s.now (below_seen shape 0 low c u v s l h.below)) h)
 
 free_next : (c place : ℕ) (log : List Entry) → ((q : ℕ) → q < place → waits_with (stands log c q) ≡ false) → waits_with (stands log c place) ≡ false → (q : ℕ) → q < place + 1 → waits_with (stands log c q) ≡ false
 free_next c place log nobody at q lt = dite (ℕ_discrete q place) (λ (same : q ≡ place). ap (λ (z : ℕ). waits_with (stands log c z)) same ∙ at) (λ ne. nobody q (omega arith))

@@ -2,11 +2,11 @@
 use Rattle.std.specs.Prelude.{◌≡◌, ◌≢◌, ◌⊎◌, ℕ, ◌+◌, ◌*◌, ◌<◌, ◌≤◌, Bool, true, false, List, [], ◌++◌, length, Option, Some, None, is_some}
 use Rattle.co_base.specs.declared.names.WaitId.{WaitId}
 use Rattle.channel_model.specs.declared.acts.Entry.{Entry}
-use Rattle.channel_model.specs.declared.acts.Act.TheVariants.{Offer, Hand, Await, Put, Admit, Close, Void, WakeClosed, Withdraw}
+use Rattle.channel_model.specs.declared.acts.Act.TheVariants.{Offer, Hand, Await, Put, Admit, Spurn, Close, Void, WakeClosed, Withdraw}
 use Rattle.channel_model.specs.declared.acts.Why.{Why}
 use Rattle.channel_model.specs.declared.standing.Resolution.TheVariants as resolved
 use Rattle.channel_model.specs.declared.standing.Standing.{Standing}
-use Rattle.channel_model.specs.Channels.{Shape, same_wait, kind_at, is_full, drops}
+use Rattle.channel_model.specs.Channels.{Shape, same_wait, kind_at, is_full, drops, spurns}
 use Rattle.channel_model.specs.Effects.{holder_at}
 use Rattle.channel_model.specs.Histories.{replay, Legal}
 use Rattle.channel_model.specs.Laws.{NoneBelow, IsResolvedAs}
@@ -225,17 +225,28 @@ stands log c p = standing (replay log).waits p (cell_of log c p)
 abbrev pub IsOver : Shape → ℕ → ℕ → List Entry → Type 0
 IsOver shape c p log = (stands log c p ≡ None) ⊎ (drops (kind_at shape c) (length (at_channel log c).queue) ≡ true)
 
+-- the offer at this place was one too many when it was placed, if the channel does not keep its latest; or none stands there any more
+abbrev pub WasTooMany : Shape → ℕ → ℕ → List Entry → Type 0
+WasTooMany shape c p log = (stands log c p ≡ None) ⊎ (spurns (kind_at shape c) ((replay log).stood c p) ≡ true)
+
 -- what a removal asks besides an element that stands first
 abbrev pub MayRemove : Removal → Shape → ℕ → ℕ → List Entry → Type 0
 MayRemove removal.Take shape c p log = Unit {0}
 MayRemove removal.Drop shape c p log = IsOver shape c p log
+MayRemove removal.Spurn shape c p log = WasTooMany shape c p log
 MayRemove removal.Drain shape c p log = (at_channel log c).voided ≡ true
 
--- and where one waits with it, which a channel that drops has none of
+-- and where one waits with it, which a channel that drops or spurns has none of
 abbrev pub MayRemoveHeld : Removal → ℕ → List Entry → Type 0
 MayRemoveHeld removal.Take c log = Unit {0}
 MayRemoveHeld removal.Drop c log = ⊥
+MayRemoveHeld removal.Spurn c log = ⊥
 MayRemoveHeld removal.Drain c log = (at_channel log c).voided ≡ true
+
+-- the element was removed, wherever it stood; or it was so before
+abbrev pub SpurnAt : ℕ → ℕ → ℕ → ℕ → Seen → Seen → Bool → Type 0
+SpurnAt who c p v old new true = Makes old (record { who = who; act = Spurn c p v }) new
+SpurnAt who c p v old new false = Sees old new × (stands new.seen c p ≡ None)
 
 -- what stands at a place, for one who looks for offers
 abbrev pub SenderAt : Shape → ℕ → ℕ → Seen → Seen → At → Type 0

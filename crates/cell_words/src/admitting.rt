@@ -1,7 +1,7 @@
 //! A held offer is admitted: its element is kept from now on, and its wait is resolved. A walk finds one that may be.
-ghost use Rattle.std.specs.Prelude.{◌≡◌, ◌<◌, ◌≤◌, false, length};
+ghost use Rattle.std.specs.Prelude.{◌≡◌, ◌<◌, ◌≤◌, true, false, length};
 ghost use Rattle.channel_model.specs.declared.acts.Kind.TheVariants as kinds;
-ghost use Rattle.channel_model.specs.Channels.{kind_at, is_full};
+ghost use Rattle.channel_model.specs.Channels.{kind_at, suspends, is_full};
 ghost use Rattle.channel_model.specs.Laws.{NoneBelow};
 ghost use Rattle.cell_words.specs.Cells.{gather};
 ghost use Rattle.cell_words.specs.Words.{IsCell};
@@ -82,6 +82,7 @@ pub fn admit_at(
 fn admit_here(hub: &Hub, pass: &mut Pass, who: Tag, c: ChannelId, place: Place) -> Here
     requires own { IsOwn hub.now pass.old who }
     requires at { IsCell (shape_of hub.now) c place }
+    requires kind { suspends (kind_at (shape_of hub.now) c) ≡ true }
     requires given { place ≤ (at_channel (seen_by pass.old).seen c).next }
     requires room { is_full (kind_at (shape_of hub.now) c) (length (gather (stands (seen_by pass.old).seen c) place)) ≡ false }
     ensures own { IsOwn hub.now pass.new who }
@@ -167,6 +168,7 @@ pub fn admit_below(
         Kind::Unlimited => return None,
         Kind::Conflated => return None,
         Kind::DropOldest(_) => return None,
+        Kind::DropLatest(_) => return None,
         Kind::Signal => return None,
     };
     if most == 0 {

@@ -1,14 +1,14 @@
 //! How many offers stand, by one walk: each that is found later stood at the beginning, since who is gone does not come back.
 ghost use Rattle.std.specs.Prelude.{◌≡◌, ◌<◌, ◌≤◌, MatchBool, true, false, length, None, is_some};
-ghost use Rattle.channel_model.specs.Channels.{kind_at, places_at, is_full};
+ghost use Rattle.channel_model.specs.Channels.{kind_at, places_at, is_full, suspends};
 ghost use Rattle.channel_model.specs.Histories.{replay};
 ghost use Rattle.channel_model.specs.Laws.{NoneBelow};
-ghost use Rattle.channel_model.specs.Answers.{IsTrimmed};
+ghost use Rattle.channel_model.specs.Answers.{IsTrimmed, StandsWithRoom};
 ghost use Rattle.cell_words.specs.Cells.{gather};
 ghost use Rattle.cell_words.specs.Words.{IsCell};
 ghost use Rattle.cell_words.specs.Hubs.{shape_of, seen_by, IsOwn};
 ghost use Rattle.cell_words.specs.Seen.{Sees, at_channel};
-ghost use Rattle.cell_words.specs.Answers.{stands, IsOver};
+ghost use Rattle.cell_words.specs.Answers.{stands, IsOver, WasTooMany};
 
 use crate::cell_word::CellState;
 use crate::cells::{kind_of, load_cell, load_wait};
@@ -98,10 +98,12 @@ fn count_from(
     count >= most
 }
 
-/// Whether so many offers stand below a place: true if they did at the beginning, false if fewer do at the end.
+/// Whether so many offers stand below a place of a channel on which a send may wait: true if they did at the beginning, false if fewer do
+/// at the end.
 fn count_below(hub: &Hub, pass: &mut Pass, who: Tag, c: ChannelId, end: Place, most: u32) -> bool
     requires own { IsOwn hub.now pass.old who }
     requires at { IsCell (shape_of hub.now) c end }
+    requires kind { suspends (kind_at (shape_of hub.now) c) ≡ true }
     requires given { end ≤ (at_channel (seen_by pass.old).seen c).next }
     ensures own { IsOwn hub.now pass.new who }
     ensures sees { Sees (seen_by pass.old) (seen_by pass.new) }
@@ -144,7 +146,7 @@ pub(crate) fn has_room(hub: &Hub, pass: &mut Pass, who: Tag, c: ChannelId, end: 
     match kind_of(hub, c) {
         Kind::Rendezvous | Kind::Signal => false,
         Kind::Buffered(most) => !count_below(hub, pass, who, c, end, most),
-        Kind::Unlimited | Kind::Conflated | Kind::DropOldest(_) => true,
+        Kind::Unlimited | Kind::Conflated | Kind::DropOldest(_) | Kind::DropLatest(_) => true,
     }
 }
 
@@ -176,4 +178,28 @@ pub fn is_over(
         return false;
     }
     count_from(hub, pass, who, c, first, mine + 1, most + 1)
+}
+
+/// Whether the offer at `mine` was one too many when it was placed, if the channel does not keep its latest: true if at the beginning so
+/// many stood before it as the channel keeps, false if fewer do at the end.
+pub fn was_too_many(hub: &Hub, pass: &mut Pass, who: Tag, c: ChannelId, mine: Place) -> bool
+    requires own { IsOwn hub.now pass.old who }
+    requires at { (c < length (shape_of hub.now)) × (mine < places_at (shape_of hub.now) c) }
+    requires given { mine < (at_channel (seen_by pass.old).seen c).next }
+    ensures own { IsOwn hub.now pass.new who }
+    ensures sees { Sees (seen_by pass.old) (seen_by pass.new) }
+    ensures too_many { MatchBool result
+        (WasTooMany (shape_of hub.now) c mine (seen_by pass.new).seen)
+        (StandsWithRoom (shape_of hub.now) c mine (replay (seen_by pass.new).seen)) }
+{
+    let most = match kind_of(hub, c).spurns_beyond() {
+        Some(most) => most,
+        None => return false,
+    };
+    // Fewer places: nothing is loaded.
+    if mine < most {
+        return false;
+    }
+    let from = offers_from(hub, pass, who, c, mine);
+    count_from(hub, pass, who, c, from, mine, most)
 }

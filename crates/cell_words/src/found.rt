@@ -52,13 +52,15 @@ pub enum End {
     Closed(Value),
 }
 
-/// Which act removes an element that stands first.
+/// Which act removes an element.
 #[derive(Clone, Copy, Debug, PartialEq, Eq)]
 pub enum Removal {
     /// It is received.
     Take,
     /// It is dropped for a newer one.
     Drop,
+    /// It was one too many when it was placed.
+    Spurn,
     /// It is lost with its channel, which was cancelled.
     Drain,
 }

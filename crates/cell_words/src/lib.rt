@@ -18,6 +18,7 @@
 //! | cell | Free | Closed | `close_at`: who closes | that the channel ends here |
 //! | cell | Closed | Voided | `void_at`: who cancels | that the channel is cancelled |
 //! | cell | Buffered | Emptied | `remove_kept`: who receives, drops or drains | who has the element |
+//! | cell | Buffered | Emptied | `spurn_kept`: who put it there | that it is not kept |
 //! | cell | Offer of an admitted wait | Emptied | `remove_admitted`: who receives or drains | who has the element |
 //! | wait | 0 | handed | `hand`: who sends | who resolves the wait of the first receiver |
 //! | wait | 0 | closed | `wake`: anybody, once the channel is closed | the same |
@@ -45,8 +46,9 @@
 //! element's cell says that it was emptied, one of a closed cell that the channel was cancelled.
 //!
 //! **What a step rests on** was seen before, and others cannot undo it while the word is as it was: nobody of the same side stands below
-//! the place; no more offers stand before an offer than did; a channel that was closed or cancelled stays so and ends where it ended;
-//! while an offer stands, the elements that are kept behind it stand, so that a queue that was too long still is.
+//! the place; no more offers stand before an offer than did, so that one that has too many before it had too many when it was placed; a
+//! channel that was closed or cancelled stays so and ends where it ended; while an offer stands, the elements that are kept behind it
+//! stand, but in a channel that does not keep its latest, so that a queue that was too long still is.
 //!
 //! **Walks.** A caller comes from below, from a counter on, below which nobody of the other side stands. `offer_at` and `await_at` say
 //! what is at one place; the answer is a fact of the moment of their last load. An offer waits only if the channel was full: it counts
@@ -58,8 +60,8 @@
 //! seen. It is raised where the walk passed two places or more: each raise takes the counter's line from the other side, and a few places
 //! more to look at cost less than that.
 //!
-//! **The run** spares both walks the places that it has. Kept elements leave from the front alone: so while an offer stands in the run,
-//! all behind it stand, and nobody waits with one of them. Where the first that stands is in the run, and the run has as many places from
+//! **The run** spares both walks the places that it has. It is that of a channel on which a send may wait. Kept elements leave it from
+//! the front alone: so while an offer stands in the run, all behind it stand, and nobody waits with one of them. Where the first that stands is in the run, and the run has as many places from
 //! there on as the channel keeps, the channel is full; a walk for an offer to admit begins where the run ends. A place that somebody gave
 //! up ends a run, and until the receivers have passed it the walks go on from there, or over all.
 //!
@@ -73,10 +75,11 @@
 //! - `meeting`: how a hub is made, and its passes are split, met and ended.
 //! - `steps`, `cells`: the three steps on a word, and those on cells and waits.
 //! - `found`, `looks`: what a caller finds at a place, and what the words tell.
-//! - `counting`, `placing`: whether a channel is full, or keeps too many; a caller is placed where the channel ends.
+//! - `counting`, `placing`: whether a channel is full, or keeps too many, or an offer was one too many; a caller is placed where the
+//!   channel ends.
 //! - `registering`: a select's clause is placed where the channel ends; whether the other side stands.
 //! - `resolving`: the first receiver is handed an element.
-//! - `removing`: the first offer's element is taken, dropped or drained.
+//! - `removing`: the first offer's element is taken, dropped or drained; one that was too many is removed from where it stands.
 //! - `admitting`: a held offer is kept from now on; a walk for one that may be.
 //! - `own_waits`: a coroutine looks at its own wait, withdraws it or settles it.
 //! - `ending`, `counters`: where a channel ends, is closed and cancelled, its receivers are told so; from where to look, and which
@@ -109,7 +112,7 @@ pub use admitting::{admit_at, admit_below, sender_at};
 pub use cell_word::{CellState, CellWord};
 pub use cells::{kind_of, load_cell, places_of};
 pub use counters::{raise_receives, raise_sends, receives_from, sends_from};
-pub use counting::is_over;
+pub use counting::{is_over, was_too_many};
 pub use ending::{close_at, end_at, receiver_at, void_at, wake};
 pub use found::{Admission, At, End, Holder, Removal, Tried, Waiter};
 pub use hub::{CellHistory, Hub, HubTable};
@@ -122,6 +125,6 @@ pub use own_waits::{look_at, settle_at, wait_word_at, withdraw_at};
 pub use pass::Pass;
 pub use placing::{await_at, offer_at, try_await_at};
 pub use registering::{await_clause_at, offer_clause_at, offer_stands, receiver_stands};
-pub use removing::{remove, remove_admitted, remove_kept};
+pub use removing::{remove, remove_admitted, remove_kept, spurn_kept};
 pub use resolving::hand;
 pub use wait_word::{ResolvedBy, WaitWord};

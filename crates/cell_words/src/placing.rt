@@ -107,8 +107,12 @@ fn keep_at(hub: &Hub, pass: &mut Pass, who: Tag, c: ChannelId, place: Place, val
 {
     let counts = match kind_of(hub, c) {
         Kind::Buffered(_) => true,
-        Kind::Rendezvous | Kind::Unlimited | Kind::Conflated | Kind::DropOldest(_) | Kind::Signal =>
-            false,
+        Kind::Rendezvous
+        | Kind::Unlimited
+        | Kind::Conflated
+        | Kind::DropOldest(_)
+        | Kind::DropLatest(_)
+        | Kind::Signal => false,
     };
     if !counts {
         return put_at(hub, pass, who, c, place, value);

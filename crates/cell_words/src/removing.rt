@@ -1,10 +1,11 @@
-//! The first offer's element is removed: it is taken, dropped for a newer one, or drained from a cancelled channel.
+//! An element is removed: the first offer's is taken, dropped for a newer one, or drained from a cancelled channel; one that was too many
+//! is removed wherever it stands.
 ghost use Rattle.std.specs.Prelude.{◌≡◌, ◌<◌};
 ghost use Rattle.channel_model.specs.Laws.{NoneBelow};
 ghost use Rattle.cell_words.specs.Words.{IsCell, how_word};
 ghost use Rattle.cell_words.specs.Hubs.{shape_of, seen_by, IsOwn};
 ghost use Rattle.cell_words.specs.Seen.{at_channel};
-ghost use Rattle.cell_words.specs.Answers.{Offers, RemoveAnswer, IsKept, WasPut, IsAdmitted, MayRemove, MayRemoveHeld, EmptyAnswer};
+ghost use Rattle.cell_words.specs.Answers.{Offers, RemoveAnswer, IsKept, WasPut, IsAdmitted, MayRemove, MayRemoveHeld, EmptyAnswer, WasTooMany, SpurnAt};
 ghost use Rattle.cell_words.specs.Codes.{IsNarrowCell, IsNarrowWait};
 ghost use Rattle.cell_words.specs.Looks.{offer_word};
 ghost use Rattle.cell_words.specs.Removals.{removal_act, how_removed};
@@ -29,6 +30,7 @@ fn removal_entry(who: Tag, removal: Removal, c: ChannelId, place: Place, value: 
         act: match removal {
             Removal::Take => Act::Take { c, place, value },
             Removal::Drop => Act::Drop { c, place, value },
+            Removal::Spurn => Act::Spurn { c, place, value },
             Removal::Drain => Act::Drain { c, place, value },
         },
     }
@@ -48,7 +50,7 @@ fn removed_wait(removal: Removal, clause: u8) -> WaitWord
             cancelled: false,
             value: 0,
         },
-        Removal::Drop | Removal::Drain => WaitWord {
+        Removal::Drop | Removal::Spurn | Removal::Drain => WaitWord {
             by: ResolvedBy::Void,
             clause: 0,
             settled: false,
@@ -185,4 +187,29 @@ pub fn remove_admitted(
 {
     let old = offer_cell(waiter);
     empty(hub, pass, who, c, place, waiter.value, old, removal)
+}
+
+/// Removes the element that was put at a place, if it was one too many, wherever it stands: false where it was removed before.
+pub fn spurn_kept(
+    hub: &Hub,
+    pass: &mut Pass,
+    who: Tag,
+    c: ChannelId,
+    place: Place,
+    value: Value,
+) -> bool
+    requires own { IsOwn hub.now pass.old who }
+    requires at { IsCell (shape_of hub.now) c place }
+    requires may { WasTooMany (shape_of hub.now) c place (seen_by pass.old).seen }
+    requires kept { WasPut c place value (seen_by pass.old).seen }
+    ensures own { IsOwn hub.now pass.new who }
+    ensures spurned { SpurnAt who c place value (seen_by pass.old) (seen_by pass.new) result }
+{
+    let entry = removal_entry(who, Removal::Spurn, c, place, value);
+    let before = plain_cell(CellState::Buffered, value);
+    let after = plain_cell(CellState::Emptied, value);
+    match exchange_cell(hub, pass, who, c, place, before, after, &entry) {
+        None => true,
+        Some(_) => false,
+    }
 }

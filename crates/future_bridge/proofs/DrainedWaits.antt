@@ -5,7 +5,7 @@ use Rattle.std.specs.List.{list_any}
 use Rattle.std.proofs.Common.{sym, ap, ◌∙◌, subst, arith, eqb-true, ⊎_elim}
 use Rattle.co_base.specs.declared.names.WaitId.{WaitId}
 use Rattle.channel_model.specs.declared.acts.Act.{Act}
-use Rattle.channel_model.specs.declared.acts.Act.TheVariants.{Hand, Put, Offer, Await, Take, Admit, Drop, Close, Void, Drain, WakeClosed, Withdraw, Settle}
+use Rattle.channel_model.specs.declared.acts.Act.TheVariants.{Hand, Put, Offer, Await, Take, Admit, Drop, Spurn, Close, Void, Drain, WakeClosed, Withdraw, Settle}
 use Rattle.channel_model.specs.declared.acts.Entry.{Entry}
 use Rattle.channel_model.specs.declared.acts.Settled.{Settled}
 use Rattle.channel_model.specs.declared.acts.Settled.TheVariants as settled
@@ -17,7 +17,7 @@ use Rattle.channel_model.specs.declared.standing.Resolution.TheVariants as resol
 use Rattle.channel_model.specs.Answers.{outcome_at, outcome_of_some}
 use Rattle.channel_model.specs.Steps.{stands_none}
 use Rattle.channel_model.specs.Channels.{Shape, State, Channel, Wait, same_wait, start}
-use Rattle.channel_model.specs.Effects.{after, resolve, resolve_first, resolve_holder, resolve_offer, remove_first, with_queue, resolved_wait, name_clause, settled_wait, put_wait, admitted, holder_at, is_held_by, close_value}
+use Rattle.channel_model.specs.Effects.{after, resolve, resolve_first, resolve_holder, resolve_offer, remove_first, with_queue, resolved_wait, name_clause, settled_wait, put_wait, admitted, spurned, holder_at, is_held_by, close_value}
 use Rattle.channel_model.specs.Needs.{Needs, JoinsWait, MayName, IsFirstReceiver, began_by_select}
 use Rattle.channel_model.specs.Laws.{IsStandingAt, ReceiversStand, StandsInOrder}
 use Rattle.channel_model.specs.Histories.{replay, replay_from, acts_of, Legal, LegalFrom}
@@ -134,6 +134,7 @@ waits_on shape c w s who (Await d p u k) l o n h = named_on c _ who k d p u w s 
 waits_on shape c w s who (Take d p v) l o n h = offer_on c _ w d (s.channels d).queue _ s (λ m. tt) h
 waits_on shape c w s who (Admit d p) l o n h = holder_on c _ w (holder_at p (s.channels d).queue) _ (with_queue d (admitted p (s.channels d).queue) s) (λ m. tt) h
 waits_on shape c w s who (Drop d p v) l o n h = removed_on c _ w d (s.channels d).queue s h
+waits_on shape c w s who (Spurn d p v) l o n h = h
 waits_on shape c w s who (Close d v) l o n h = h
 waits_on shape c w s who (Void d) l o n h = h
 waits_on shape c w s who (Drain d p v) l o n h = offer_on c _ w d (s.channels d).queue _ s (λ m. tt) h
@@ -155,6 +156,7 @@ done_keeps shape v = record {
   without = λ w d ch h. (h.0, ap (filter (λ (o : Standing). not (is_held_by w o.holder))) h.1);
   rest = λ d o os ch e h. absurd (cons_none o os ch.queue e h.1);
   admit = λ d p ch h. (h.0, ap (admitted p) h.1);
+  spurn = λ d p ch h. (h.0, ap (spurned p) h.1);
   put = λ d p u ch n e h. absurd (open_closed ch.closed n.open_now h.0);
   offer = λ d p b o ch n e f g h. absurd (open_closed ch.closed n.open_now h.0);
   await = λ d p b r ch n e g h. absurd (open_closed ch.closed n.open_now h.0);

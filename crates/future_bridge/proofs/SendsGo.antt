@@ -4,7 +4,7 @@ use Rattle.std.specs.List.{list_all}
 use Rattle.std.proofs.Common.{sym, ap, ◌∙◌, subst, arith, append_assoc}
 use Rattle.co_base.specs.declared.names.WaitId.{WaitId}
 use Rattle.channel_model.specs.declared.acts.Act.{Act}
-use Rattle.channel_model.specs.declared.acts.Act.TheVariants.{Hand, Put, Offer, Admit, Drop, Settle}
+use Rattle.channel_model.specs.declared.acts.Act.TheVariants.{Hand, Put, Offer, Admit, Drop, Spurn, Settle}
 use Rattle.channel_model.specs.declared.acts.Settled.{Settled}
 use Rattle.channel_model.specs.declared.acts.Settled.TheVariants as settled
 use Rattle.channel_model.specs.declared.floor.Offered.TheVariants as offered
@@ -12,7 +12,7 @@ use Rattle.channel_model.specs.declared.floor.WaitState.TheVariants as state
 use Rattle.channel_model.specs.Channels.{Shape}
 use Rattle.channel_model.specs.Histories.{replay, Legal}
 use Rattle.channel_model.specs.Floors.{Floor, HasRoom, Looked, Made, Added, AtStep}
-use Rattle.channel_model.specs.Answers.{OfferAnswer, HandedTo, LookAnswer, SettleAnswer, TrimAnswer, HasPut, IsTrimmed, IsReady, IsOwn, state_of_wait}
+use Rattle.channel_model.specs.Answers.{OfferAnswer, HandedTo, LookAnswer, SettleAnswer, TrimAnswer, SpurnAnswer, HasPut, IsTrimmed, IsReady, IsOwn, state_of_wait}
 use Rattle.channel_model.specs.PlainOffers.{OffersPlainly}
 use Rattle.channel_model.proofs.Left.{left_of, left_lower}
 use Rattle.channel_model.proofs.PlainOffers.{is_quiet, plain_lasts}
@@ -23,7 +23,7 @@ use Rattle.channel_calls.proofs.OwnOffers as own
 use Rattle.future_bridge.specs.declared.send_steps.SendStep.{SendStep}
 use Rattle.future_bridge.specs.declared.send_steps.SendStep.TheVariants as step
 use Rattle.future_bridge.specs.Gains.{wait_at, AdmitsAll}
-use Rattle.future_bridge.specs.Sends.{offer_acts, SendsOne, SendsNone, Acted, OffersAt, OfferWaits, Follows, AdmitsFirst, OfferedSo, LookedSo, HeldSo, TrimsAll}
+use Rattle.future_bridge.specs.Sends.{offer_acts, spurn_acts, put_acts, SendsOne, SendsNone, Acted, OffersAt, OfferWaits, Follows, AdmitsFirst, OfferedSo, LookedSo, HeldSo, TrimsAll, SpurnsOwn, RemovesTooMany}
 use Rattle.future_bridge.specs.Sinks.{SentOrWaits}
 use Rattle.future_bridge.proofs.StopsGo.{same_room}
 
@@ -58,6 +58,20 @@ put_still who c mine a b h p = put_lasts who c mine (map (λ (d : ℕ × ℕ). D
 
 pub fewer : (who c mine : ℕ) (x : ℕ × ℕ) (shape : Shape) (b d : Floor) → shape ≡ d.shape → Legal d.shape d.seen → TrimAnswer who c mine b d (Some x) → left_of shape c d.seen < left_of shape c b.seen
 fewer who c mine x shape b d is l m = left_lower who c (Drop c x.0 x.1) shape b d is l m.0 refl
+
+-- ---- the own element
+
+pub put_after : (who c mine : ℕ) (a b : Floor) → TrimsAll who c mine a b → HasPut who c mine a → HasPut who c mine b
+put_after who c mine a b h p = put_lasts who c mine (map (λ (d : ℕ × ℕ). Drop c d.0 d.1) h.dropped) a b h.added p
+
+pub spurned_own : (who c mine v : ℕ) (a b : Floor) → SpurnAnswer who c mine a b (Some v) → SpurnsOwn who c mine a b
+spurned_own who c mine v a b m = record { spurned = Some v; added = added_made who (Spurn c mine v) a b m; fits = λ e. cc }
+
+pub stays_own : (who c mine : ℕ) (a b : Floor) → SpurnAnswer who c mine a b None → SpurnsOwn who c mine a b
+stays_own who c mine a b m = record { spurned = None; added = added_looked who a b m.0; fits = λ e. m.1 }
+
+pub too_many_gone : (who c mine : ℕ) (a b d : Floor) → TrimsAll who c mine a b → SpurnsOwn who c mine b d → RemovesTooMany who c mine a d
+too_many_gone who c mine a b d t s = record { trimmed = b; trims = t; spurns = s }
 
 -- ---- a look at the own offer
 
@@ -141,13 +155,15 @@ handed who c v p t a d m =
     let added = added_made who (Hand c p v) a d m.made in
     (record { acts = Hand c p v ∷ []; added = added; are = SendsOne.hands p }, Follows.hands p added)
 
-pub put : (who c v p : ℕ) (a b d : Floor) → Made who (Put c p v) a b → TrimsAll who c p b d → OfferedSo who c v a d step.Sent
+pub put : (who c v p : ℕ) (a b d : Floor) → Made who (Put c p v) a b → RemovesTooMany who c p b d → OfferedSo who c v a d step.Sent
 put who c v p a b d m t =
-    let added = added_made who (Put c p v) a b m in (
+    let added = added_made who (Put c p v) a b m in
+    let drops : List Act = map (λ (x : ℕ × ℕ). Drop c x.0 x.1) t.trims.dropped in
+    let spurns : List Act = spurn_acts c p t.spurns.spurned in (
       record {
-        acts = Put c p v ∷ map (λ (x : ℕ × ℕ). Drop c x.0 x.1) t.dropped;
-        added = added_then who (Put c p v ∷ []) (map (λ (x : ℕ × ℕ). Drop c x.0 x.1) t.dropped) a b d added t.added;
-        are = SendsOne.puts p t.dropped;
+        acts = put_acts c v p t.trims.dropped t.spurns.spurned;
+        added = added_then who (Put c p v ∷ []) (drops ++ spurns) a b d added (added_then who drops spurns b t.trimmed d t.trims.added t.spurns.added);
+        are = SendsOne.puts p t.trims.dropped t.spurns.spurned;
       },
       Follows.puts p b added t,
     )

@@ -5,7 +5,7 @@ use Rattle.futures.specs.declared.task.Poll.{Poll}
 use Rattle.futures.specs.declared.task.Poll.TheVariants.{Ready, Pending}
 use Rattle.futures.specs.Sent.{UnlessFailed}
 use Rattle.channel_model.specs.declared.acts.Act.{Act}
-use Rattle.channel_model.specs.declared.acts.Act.TheVariants.{Hand, Put, Offer, Admit, Drop, Settle}
+use Rattle.channel_model.specs.declared.acts.Act.TheVariants.{Hand, Put, Offer, Admit, Drop, Spurn, Settle}
 use Rattle.channel_model.specs.declared.acts.Settled.TheVariants as settled
 use Rattle.channel_model.specs.Histories.{acts_of}
 use Rattle.channel_model.specs.Floors.{Floor, Added}
@@ -18,7 +18,7 @@ use Rattle.future_bridge.specs.declared.sending.SinkFault.{SinkFault}
 use Rattle.future_bridge.specs.declared.sending.Flush.TheVariants as flush
 use Rattle.future_bridge.specs.declared.send_steps.SendStep.TheVariants as step
 use Rattle.future_bridge.specs.Gains.{wait_at}
-use Rattle.future_bridge.specs.Sends.{offer_acts, given_by, given, SendsOne, Acted, OfferedSo}
+use Rattle.future_bridge.specs.Sends.{offer_acts, spurn_acts, given_by, given, SendsOne, Acted, OfferedSo}
 use Rattle.future_bridge.specs.Sinks.{SameSink, sink_floor, ActedBy, EndsSent, FlushedSo, SinkTook}
 
 -- ---- what acts gave
@@ -35,6 +35,11 @@ none_by_drops : (c : ℕ) (ds : List (ℕ × ℕ)) → given c (map (λ (d : ℕ
 unfolding given
 none_by_drops c [] = refl
 none_by_drops c (d ∷ ds) = none_by_drops c ds
+
+none_by_spurn : (c q : ℕ) (spurned : Option ℕ) → given c (spurn_acts c q spurned) ≡ []
+unfolding given
+none_by_spurn c q None = refl
+none_by_spurn c q (Some v) = refl
 
 none_by_admits : (c : ℕ) (qs : List ℕ) → given c (map (λ (q : ℕ). Admit c q) qs) ≡ []
 unfolding given
@@ -63,7 +68,10 @@ given_none c = refl
 
 one_sent : (c v : ℕ) (acts : List Act) → SendsOne c v acts → given c acts ≡ v ∷ []
 one_sent c v _ (SendsOne.hands q) = one_handed c q v
-one_sent c v _ (SendsOne.puts q dropped) = one_first c q v (map (λ (d : ℕ × ℕ). Drop c d.0 d.1) dropped) (none_by_drops c dropped)
+one_sent c v _ (SendsOne.puts q dropped spurned) =
+    let drops : List Act = map (λ (d : ℕ × ℕ). Drop c d.0 d.1) dropped in
+    one_first c q v (drops ++ spurn_acts c q spurned)
+    (given_append c drops (spurn_acts c q spurned) ∙ ap (λ l. l ++ given c (spurn_acts c q spurned)) (none_by_drops c dropped) ∙ none_by_spurn c q spurned)
 one_sent c v all (SendsOne.offers q k admits _ is) =
     let settle : List Act = Settle (wait_at c q) (settled.Sent k) ∷ [] in
     ap (given c) is

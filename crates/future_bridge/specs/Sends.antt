@@ -1,13 +1,13 @@
 -- What one send comes to.
-use Rattle.std.specs.Prelude.{◌≡◌, ℕ, ◌==◌, List, [], ◌∷◌, ◌++◌, map, Some, if◌then◌else◌}
+use Rattle.std.specs.Prelude.{◌≡◌, ℕ, ◌==◌, List, [], ◌∷◌, ◌++◌, map, Option, Some, None, if◌then◌else◌}
 use mathlib.Core.List.{IsPrefix}
 use Rattle.channel_model.specs.declared.acts.Act.{Act}
-use Rattle.channel_model.specs.declared.acts.Act.TheVariants.{Hand, Put, Offer, Admit, Drop, Settle}
+use Rattle.channel_model.specs.declared.acts.Act.TheVariants.{Hand, Put, Offer, Admit, Drop, Spurn, Settle}
 use Rattle.channel_model.specs.declared.acts.Settled.TheVariants as settled
 use Rattle.channel_model.specs.declared.floor.WaitState.TheVariants as state
 use Rattle.channel_model.specs.Histories.{replay}
 use Rattle.channel_model.specs.Floors.{Floor, Added, AtStep}
-use Rattle.channel_model.specs.Answers.{IsSpentForOffers, IsTrimmed, state_of_wait}
+use Rattle.channel_model.specs.Answers.{IsSpentForOffers, IsTrimmed, StandsWithRoom, state_of_wait}
 use Rattle.channel_model.specs.PlainOffers.{OffersPlainly}
 use Rattle.future_bridge.specs.Gains.{wait_at, AdmitsAll}
 use Rattle.future_bridge.specs.declared.send_steps.SendStep.{SendStep}
@@ -19,10 +19,18 @@ use Rattle.future_bridge.specs.declared.send_steps.SendStep.TheVariants as step
 abbrev pub offer_acts : ℕ → ℕ → ℕ → List ℕ → List Act
 offer_acts c v q admits = Offer c q v (wait_at c q) 0 ∷ map (λ p. Admit c p) admits
 
--- the element was handed; or put, and the oldest were dropped that are too many; or offered, and the offer was received or kept
+-- an element is put at place q, and the oldest are dropped that are too many; then it is removed itself, if it is one too many
+abbrev pub spurn_acts : ℕ → ℕ → Option ℕ → List Act
+spurn_acts c q None = []
+spurn_acts c q (Some v) = Spurn c q v ∷ []
+
+abbrev pub put_acts : ℕ → ℕ → ℕ → List (ℕ × ℕ) → Option ℕ → List Act
+put_acts c v q dropped spurned = Put c q v ∷ (map (λ d. Drop c d.0 d.1) dropped ++ spurn_acts c q spurned)
+
+-- the element was handed; or put, and those were removed that are too many; or offered, and the offer was received or kept
 pub data SendsOne (c v : ℕ) : List Act → Type 0 where
   hands : (q : ℕ) → SendsOne c v (Hand c q v ∷ [])
-  puts : (q : ℕ) (dropped : List (ℕ × ℕ)) → SendsOne c v (Put c q v ∷ map (λ d. Drop c d.0 d.1) dropped)
+  puts : (q : ℕ) (dropped : List (ℕ × ℕ)) (spurned : Option ℕ) → SendsOne c v (put_acts c v q dropped spurned)
   offers : (q k : ℕ) (admits : List ℕ) (all : List Act) → all ≡ offer_acts c v q admits ++ Settle (wait_at c q) (settled.Sent k) ∷ []
       → SendsOne c v all
 
@@ -77,16 +85,28 @@ pub record TrimsAll (who c mine : ℕ) (old new : Floor) : Type 0 where
   pub added : Added who (map (λ d. Drop c d.0 d.1) dropped) old new
   pub fits : AtStep old new (IsTrimmed old.shape c mine)
 
+-- the own element was removed, if the channel does not keep its latest and too many stood before it
+pub record SpurnsOwn (who c mine : ℕ) (old new : Floor) : Type 0 where
+  pub spurned : Option ℕ
+  pub added : Added who (spurn_acts c mine spurned) old new
+  pub fits : spurned ≡ None → AtStep old new (StandsWithRoom old.shape c mine)
+
+-- both, one after the other
+pub record RemovesTooMany (who c mine : ℕ) (old new : Floor) : Type 0 where
+  pub trimmed : Floor
+  pub trims : TrimsAll who c mine old trimmed
+  pub spurns : SpurnsOwn who c mine trimmed new
+
 -- those were admitted for whom there is room, and then who may have made more
 pub record AdmitsFirst (who c : ℕ) (old new : Floor) : Type 0 where
   pub admitted : Floor
   pub admits : AdmitsAll who c old admitted
   pub longer : IsPrefix admitted.seen new.seen
 
--- nothing follows a Hand; the oldest are dropped after a Put; after an offer those are admitted for whom there is room
+-- nothing follows a Hand; after a Put those are removed that are too many; after an offer those are admitted for whom there is room
 pub data Follows (who c v : ℕ) (old new : Floor) : Type 0 where
   hands : (q : ℕ) → Added who (Hand c q v ∷ []) old new → Follows who c v old new
-  puts : (q : ℕ) (put : Floor) → Added who (Put c q v ∷ []) old put → TrimsAll who c q put new → Follows who c v old new
+  puts : (q : ℕ) (put : Floor) → Added who (Put c q v ∷ []) old put → RemovesTooMany who c q put new → Follows who c v old new
   offers : (q : ℕ) (offered : Floor) → Added who (Offer c q v (wait_at c q) 0 ∷ []) old offered → AdmitsFirst who c offered new
       → Follows who c v old new
 

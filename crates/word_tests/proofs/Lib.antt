@@ -1,1 +1,2 @@
 pub mod CellsStayDrawn
+pub mod LatestCalls

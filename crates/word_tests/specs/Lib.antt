@@ -1,1 +1,2 @@
 pub mod CellsDrawn
+pub mod LatestChannels

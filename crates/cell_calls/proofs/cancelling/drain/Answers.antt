@@ -19,7 +19,7 @@ remove_kept-requires-clause-may c = voided_seen (shape_of c.args.hub.now) c.args
 
 pub raise_receives-requires-clause-low : goal.raise_receives-requires-clause-low
 raise_receives-requires-clause-low c = let t = c.in-Some.ensures.removed in
-    removed_past (shape_of c.args.hub.now) c.args.who c.args.c c.loop-place.place t.then c.remove_offer.new.pass.seat.me.0 (hub_legal c.args.hub.now c.remove_offer.new.pass c.remove_offer.ensures.own.0) removal.Drain _ _ t.removes
+    removed_past (shape_of c.args.hub.now) c.args.who c.args.c c.loop-place.place t.then c.remove_offer.new.pass.seat.me.0 (hub_legal c.args.hub.now c.remove_offer.new.pass c.remove_offer.ensures.own.0) removal.Drain tt _ _ t.removes
 
 pub returns-in-Some-clause-answer : goal.returns-in-Some-clause-answer
 returns-in-Some-clause-answer c = let t = c.in-Some.ensures.removed in
@@ -35,7 +35,7 @@ remove_kept-requires-clause-kept c = inl c.in-Kept.ensures.at.2
 
 pub raise_receives-requires-then-remove_kept-clause-low : goal.raise_receives-requires-then-remove_kept-clause-low
 raise_receives-requires-then-remove_kept-clause-low c =
-    removed_past (shape_of c.args.hub.now) c.args.who c.args.c c.loop-place.place c.try_await_at.new.pass.seat.me.0 c.remove_kept.new.pass.seat.me.0 (hub_legal c.args.hub.now c.remove_kept.new.pass c.remove_kept.ensures.own.0) removal.Drain _ _ (rw c.if-remove_kept.true at c.remove_kept.ensures.removed)
+    removed_past (shape_of c.args.hub.now) c.args.who c.args.c c.loop-place.place c.try_await_at.new.pass.seat.me.0 c.remove_kept.new.pass.seat.me.0 (hub_legal c.args.hub.now c.remove_kept.new.pass c.remove_kept.ensures.own.0) removal.Drain tt _ _ (rw c.if-remove_kept.true at c.remove_kept.ensures.removed)
 
 pub returns-then-remove_kept-clause-answer : goal.returns-then-remove_kept-clause-answer
 returns-then-remove_kept-clause-answer c = let w = c.try_await_at.new.pass.seat.me.0 in

@@ -62,7 +62,7 @@ remove_kept-requires-clause-kept c = put_seen (shape_of c.args.hub.now) c.args.c
 
 pub raise_receives-requires-clause-low : goal.raise_receives-requires-clause-low
 raise_receives-requires-clause-low c =
-    removed_past (shape_of c.args.hub.now) c.args.who c.args.c c.loop-first.first c.is_over.new.pass.seat.me.0 c.remove_kept.new.pass.seat.me.0 (hub_legal c.args.hub.now c.remove_kept.new.pass c.remove_kept.ensures.own.0) removal.Drop _ None c.if-remove_kept.ensures.removed
+    removed_past (shape_of c.args.hub.now) c.args.who c.args.c c.loop-first.first c.is_over.new.pass.seat.me.0 c.remove_kept.new.pass.seat.me.0 (hub_legal c.args.hub.now c.remove_kept.new.pass c.remove_kept.ensures.own.0) removal.Drop tt _ None c.if-remove_kept.ensures.removed
 
 pub returns-then-remove_kept-clause-answer : goal.returns-then-remove_kept-clause-answer
 returns-then-remove_kept-clause-answer c =

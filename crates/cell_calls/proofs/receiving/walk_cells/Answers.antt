@@ -19,7 +19,7 @@ returns-in-Placed-clause-giving c = c.in-Placed.ensures.at.1.giving ∙ c.loop-p
 
 pub returns-in-Some-clause-low : goal.returns-in-Some-clause-low
 returns-in-Some-clause-low c = let t = c.in-Some.ensures.removed in
-    removed_past (shape_of c.args.hub.now) c.args.who c.args.c c.loop-place.place t.then c.remove_offer.new.pass.seat.me.0 (hub_legal c.args.hub.now c.remove_offer.new.pass c.remove_offer.ensures.own.0) removal.Take _ _ t.removes
+    removed_past (shape_of c.args.hub.now) c.args.who c.args.c c.loop-place.place t.then c.remove_offer.new.pass.seat.me.0 (hub_legal c.args.hub.now c.remove_offer.new.pass c.remove_offer.ensures.own.0) removal.Take tt _ _ t.removes
 
 pub returns-in-Some-clause-walked : goal.returns-in-Some-clause-walked
 returns-in-Some-clause-walked c = let t = c.in-Some.ensures.removed in
@@ -34,7 +34,7 @@ remove_kept-requires-clause-kept c = inl c.in-Kept.ensures.at.2
 
 pub returns-then-remove_kept-clause-low : goal.returns-then-remove_kept-clause-low
 returns-then-remove_kept-clause-low c =
-    removed_past (shape_of c.args.hub.now) c.args.who c.args.c c.loop-place.place c.await_here.new.pass.seat.me.0 c.remove_kept.new.pass.seat.me.0 (hub_legal c.args.hub.now c.remove_kept.new.pass c.remove_kept.ensures.own.0) removal.Take _ _ c.if-remove_kept.ensures.removed
+    removed_past (shape_of c.args.hub.now) c.args.who c.args.c c.loop-place.place c.await_here.new.pass.seat.me.0 c.remove_kept.new.pass.seat.me.0 (hub_legal c.args.hub.now c.remove_kept.new.pass c.remove_kept.ensures.own.0) removal.Take tt _ _ c.if-remove_kept.ensures.removed
 
 pub returns-then-remove_kept-clause-walked : goal.returns-then-remove_kept-clause-walked
 returns-then-remove_kept-clause-walked c =

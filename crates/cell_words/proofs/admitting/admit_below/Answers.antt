@@ -27,6 +27,10 @@ pub returns-in-DropOldest-clause-admitted : goal.returns-in-DropOldest-clause-ad
 returns-in-DropOldest-clause-admitted c = let u = c.args.pass.now.seat.me.0 in let shape = shape_of c.args.hub.now in
     nothing_now shape c.args.c c.args.mark u u (sees_self u) (never_waits shape c.args.c c.args.mark u.seen (hub_legal c.args.hub.now c.args.pass.now c.requires.own.0) (ap (λ (k : Kind). suspends k) (sym c.kind_of.ensures ∙ c.in-DropOldest.is)))
 
+pub returns-in-DropLatest-clause-admitted : goal.returns-in-DropLatest-clause-admitted
+returns-in-DropLatest-clause-admitted c = let u = c.args.pass.now.seat.me.0 in let shape = shape_of c.args.hub.now in
+    nothing_now shape c.args.c c.args.mark u u (sees_self u) (never_waits shape c.args.c c.args.mark u.seen (hub_legal c.args.hub.now c.args.pass.now c.requires.own.0) (ap (λ (k : Kind). suspends k) (sym c.kind_of.ensures ∙ c.in-DropLatest.is)))
+
 pub returns-then-most-eq0-clause-admitted : goal.returns-then-most-eq0-clause-admitted
 returns-then-most-eq0-clause-admitted c = let u = c.args.pass.now.seat.me.0 in let shape = shape_of c.args.hub.now in
     nothing_now shape c.args.c c.args.mark u u (sees_self u) (never_keeps shape c.args.c c.args.mark (replay u.seen) (keeps_none shape c.args.c _ (sym c.kind_of.ensures ∙ c.in-Buffered.is) c.if-most-eq0.true))

@@ -1,4 +1,6 @@
-use Rattle.std.proofs.Common.{◌+◌, sym, subst, arith}
+use Rattle.std.proofs.Common.{◌+◌, sym, ap, subst, arith}
+use Rattle.channel_model.specs.declared.acts.Kind.{Kind}
+use Rattle.channel_model.specs.Channels.{suspends}
 use Rattle.cell_words.specs.Hubs.{shape_of}
 use Rattle.cell_words.proofs.LooksAtCells.{hub_legal, sees_then, below_seen}
 use Rattle.cell_words.proofs.RunsOfKeptPlaces.{run_seen, run_made, admit_kept, walked_start}
@@ -21,7 +23,7 @@ loop-place-init c =
     record {
       own = h.own;
       sees = sees_self v;
-      walked = walked_start shape c.args.c c.args.low _ _ v.seen l (below_seen shape 0 c.args.low c.args.c c.args.pass.now.seat.me.0 v h.sees l c.requires.low) h.kept c.first_not_kept-first.result f.least f.run;
+      walked = walked_start shape c.args.c c.args.low _ _ (ap (λ (k : Kind). suspends k) c.requires.kind) v.seen l (below_seen shape 0 c.args.low c.args.c c.args.pass.now.seat.me.0 v h.sees l c.requires.low) h.kept c.first_not_kept-first.result f.least f.run;
       least = f.least;
       few = omega arith;
       run = h.kept;
@@ -64,7 +66,7 @@ returns-then-count-most-clause-search c =
     let v = c.loop-place.pass.seat.me.0 in
     let w = c.stands_at.new.pass.seat.me.0 in
     let l = hub_legal c.args.hub.now c.stands_at.new.pass c.stands_at.ensures.own.0 in
-    let walked = walked_seen shape c.args.c c.args.low c.loop-place.place c.loop-place.count v w c.stands_at.ensures.sees (hub_legal c.args.hub.now c.loop-place.pass i.own.0) l i.walked in
+    let walked = walked_seen shape c.args.c c.args.low c.loop-place.place c.loop-place.count (ap (λ (k : Kind). suspends k) c.requires.kind) v w c.stands_at.ensures.sees (hub_legal c.args.hub.now c.loop-place.pass i.own.0) l i.walked in
     let few = i.walked.few in
     let given = walked.given in
     let some = c.requires.some in
@@ -114,7 +116,7 @@ returns-in-End-clause-search c =
     let l = hub_legal c.args.hub.now c.admit_here.new.pass c.admit_here.ensures.own.0 in
     nothing_now shape c.args.c c.args.mark u w (sees_then u v w (sees_then u c.kept_run-run.new.pass.seat.me.0 v c.kept_run-run.ensures.sees i.sees) t.0)
     (all_given shape c.args.c c.args.low c.loop-place.place c.loop-place.count c.args.mark w.seen l
-    (walked_seen shape c.args.c c.args.low c.loop-place.place c.loop-place.count v w t.0 (hub_legal c.args.hub.now c.loop-place.pass i.own.0) l i.walked) t.1)
+    (walked_seen shape c.args.c c.args.low c.loop-place.place c.loop-place.count (ap (λ (k : Kind). suspends k) c.requires.kind) v w t.0 (hub_legal c.args.hub.now c.loop-place.pass i.own.0) l i.walked) t.1)
 
 pub loop-place-preserved : goal.loop-place-preserved
 loop-place-preserved c =
@@ -132,7 +134,7 @@ loop-place-preserved c =
         own = x.raise_run-run.ensures.own;
         sees = subst (λ (z : Seen). Sees u z) same (sees_then u v w i.sees t.0);
         walked = subst (λ (z : Seen). Walked c.args.c c.args.low (c.loop-place.place + 1) (c.loop-place.count + 1) z.seen) same
-            (walked_kept c.args.c c.args.low c.loop-place.place c.loop-place.count w.seen i.least (walked_seen shape c.args.c c.args.low c.loop-place.place c.loop-place.count v w t.0 lv l i.walked) t.1);
+            (walked_kept c.args.c c.args.low c.loop-place.place c.loop-place.count w.seen i.least (walked_seen shape c.args.c c.args.low c.loop-place.place c.loop-place.count (ap (λ (k : Kind). suspends k) c.requires.kind) v w t.0 lv l i.walked) t.1);
         least = omega arith;
         few = more;
         run = subst (λ (z : Seen). WereKept z.seen c.args.c x.raise_run-run.result.from x.raise_run-run.result.to) same x.raise_run-run.ensures.kept;
@@ -140,7 +142,7 @@ loop-place-preserved c =
       | in-Gone x ↦ let t = x.in-Gone.ensures.here in rw x.pass-is (rw x.run-is (rw x.count-is (record {
         own = c.admit_here.ensures.own;
         sees = sees_then u v w i.sees t.0;
-        walked = walked_gone c.args.c c.args.low c.loop-place.place c.loop-place.count w.seen (walked_seen shape c.args.c c.args.low c.loop-place.place c.loop-place.count v w t.0 lv l i.walked) t.1 t.2;
+        walked = walked_gone c.args.c c.args.low c.loop-place.place c.loop-place.count w.seen (walked_seen shape c.args.c c.args.low c.loop-place.place c.loop-place.count (ap (λ (k : Kind). suspends k) c.requires.kind) v w t.0 lv l i.walked) t.1 t.2;
         least = omega arith;
         few = i.few;
         run = run_seen shape c.args.c _ _ v w t.0 l i.run;
@@ -166,3 +168,6 @@ returns-clause-search c =
     let i = c.loop-place.invariant in
     nothing_now (shape_of c.args.hub.now) c.args.c c.args.mark c.args.pass.now.seat.me.0 c.loop-place.pass.seat.me.0 (sees_then c.args.pass.now.seat.me.0 c.kept_run-run.new.pass.seat.me.0 c.loop-place.pass.seat.me.0 c.kept_run-run.ensures.sees i.sees)
     (all_passed (shape_of c.args.hub.now) c.args.c c.args.low c.loop-place.place c.loop-place.count c.args.mark c.loop-place.pass.seat.me.0.seen (hub_legal c.args.hub.now c.loop-place.pass i.own.0) i.walked c.loop-place-test.false)
+
+pub admit_here-requires-clause-kind : goal.admit_here-requires-clause-kind
+admit_here-requires-clause-kind c = ap (λ (k : Kind). suspends k) c.requires.kind

@@ -15,7 +15,7 @@ returns-in-Done-clause-here c = admits_seen _ _ _ _ c.args.pass.now.seat.me.0 c.
 pub returns-in-Kept-admit_at-clause-here : goal.returns-in-Kept-admit_at-clause-here
 returns-in-Kept-admit_at-clause-here c =
     let t = c.in-Kept-admit_at.ensures.admitted in
-    (sees_then c.args.pass.now.seat.me.0 c.sender_at.new.pass.seat.me.0 c.admit_at.new.pass.seat.me.0 c.in-Waiting.ensures.at.0 t.0, admitted_here (shape_of c.args.hub.now) c.args.c c.args.place _ c.admit_at.new.pass.seat.me.0.seen (hub_legal c.args.hub.now c.admit_at.new.pass c.admit_at.ensures.own.0) t.1)
+    (sees_then c.args.pass.now.seat.me.0 c.sender_at.new.pass.seat.me.0 c.admit_at.new.pass.seat.me.0 c.in-Waiting.ensures.at.0 t.0, admitted_here (shape_of c.args.hub.now) c.args.c c.args.place _ c.requires.kind c.admit_at.new.pass.seat.me.0.seen (hub_legal c.args.hub.now c.admit_at.new.pass c.admit_at.ensures.own.0) t.1)
 
 pub returns-in-Gone-admit_at-clause-here : goal.returns-in-Gone-admit_at-clause-here
 returns-in-Gone-admit_at-clause-here c =
@@ -31,4 +31,4 @@ returns-in-Gone-admit_at-clause-here c =
 pub returns-in-Kept-clause-here : goal.returns-in-Kept-clause-here
 returns-in-Kept-clause-here c =
     let t = c.in-Kept.ensures.at in
-    (t.0, kept_here (shape_of c.args.hub.now) c.args.c c.args.place _ c.sender_at.new.pass.seat.me.0.seen (hub_legal c.args.hub.now c.sender_at.new.pass c.sender_at.ensures.own.0) t.1)
+    (t.0, kept_here (shape_of c.args.hub.now) c.args.c c.args.place _ c.requires.kind c.sender_at.new.pass.seat.me.0.seen (hub_legal c.args.hub.now c.sender_at.new.pass c.sender_at.ensures.own.0) t.1)

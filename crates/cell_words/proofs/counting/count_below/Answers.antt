@@ -66,7 +66,7 @@ returns-then-has_from-clause-count c =
     let l = hub_legal c.args.hub.now c.loop-low.pass i.own.0 in
     let r = rw c.if-has_from.true at c.has_from.ensures in
     count_before shape c.args.c c.args.end c.args.most u v c.stands_at.new.pass.seat.me.0 s (hub_legal c.args.hub.now c.args.pass.now c.requires.own.0) l c.requires.given true
-    (run_stands shape c.args.c c.loop-low.low _ _ v.seen l i.low i.run c.args.most c.args.end r.0 r.1 (omega (arith, c.if-end-low.false, c.loop-low-test.true)) (rw c.if-stands_at.true at c.stands_at.ensures.stands))
+    (run_stands shape c.args.c c.loop-low.low _ _ c.requires.kind v.seen l i.low i.run c.args.most c.args.end r.0 r.1 (omega (arith, c.if-end-low.false, c.loop-low-test.true)) (rw c.if-stands_at.true at c.stands_at.ensures.stands))
 
 pub count_from-requires-clause-given : goal.count_from-requires-clause-given
 count_from-requires-clause-given c =
