@@ -77,7 +77,8 @@ fn room<F: ChannelFloor>(floor: &mut F, known: Known) -> Result<(), Memory>
     ensures anchor { F.anchor floor.new ≡ F.anchor floor.old }
     ensures grows { Grows (F.view floor.old) (F.view floor.new) }
     ensures knows { Knows known (F.view floor.new) }
-    ensures room { OnOk result (2 < (F.view floor.new).spare) }
+    ensures room { OnOk result (0 < (F.view floor.new).spare) }
+    ensures more { OnOk result (2 < (F.view floor.new).spare) }
 {
     floor.room(3)
 }
