@@ -1,5 +1,5 @@
 -- What is known stays known as a floor grows, and what each call adds to it.
-use Rattle.std.specs.Prelude.{◌≡◌, ℕ, ◌<◌, Bool, true, false, List, [], ◌∷◌, length, Option, Some, None, is_some, IfSome, Result, Ok, Err, refl}
+use Rattle.std.specs.Prelude.{◌≡◌, ℕ, ◌<◌, Bool, true, false, List, [], ◌∷◌, length, Option, Some, None, is_some, IfSome, OnOk, Result, Ok, Err, refl}
 use mathlib.Core.List.{IsPrefix}
 use Rattle.std.proofs.Common.{sym, ap, ◌∙◌, subst, arith}
 use Rattle.co_base.specs.declared.names.WaitId.{WaitId}
@@ -21,7 +21,7 @@ use Rattle.channel_model.specs.declared.floor.Withdrawn.TheVariants as withdrawn
 use Rattle.channel_model.specs.Channels.{Shape, State, kind_at, is_signal}
 use Rattle.channel_model.specs.Effects.{after}
 use Rattle.channel_model.specs.Histories.{replay, Legal}
-use Rattle.channel_model.specs.Floors.{Floor, Looked, Made}
+use Rattle.channel_model.specs.Floors.{Floor, HasRoom, Looked, Made}
 use Rattle.channel_model.specs.Answers.{OfferAnswer, GotAnswer, TriedGotAnswer, CloseAnswer, WakeAnswer, VoidAnswer, DrainAnswer, LookAnswer, SettleAnswer, WithdrawAnswer, AdmitAnswer, SpurnAnswer, HasPut, IsOwn, IsSeenClosed, IsSeenVoided}
 use Rattle.channel_model.proofs.Histories.{replay_push}
 use Rattle.channel_model.proofs.Later.{closed_later, voided_later}
@@ -106,6 +106,14 @@ pub got_room : (who : ℕ) (a b : Floor) (r : TriedGot) → TriedGotAnswer who 0
 got_room who a b (tried_got.Taken q v t) h room = let s = h.made.spare in omega (arith, room)
 got_room who a b tried_got.Empty h room = let s = h.0.spare in omega (arith, room)
 got_room who a b (tried_got.Closed x) h room = let s = h.0.looked.spare in omega (arith, room)
+
+pub some_room : {T E : Type 0} (r : Result T E) (a b : Floor) → OnOk r (HasRoom 3 a b) → OnOk r (0 < b.spare)
+some_room (Ok x) a b h = let s = h.room in omega arith
+some_room (Err e) a b h = tt
+
+pub more_room : {T E : Type 0} (r : Result T E) (a b : Floor) → OnOk r (HasRoom 3 a b) → OnOk r (2 < b.spare)
+more_room (Ok x) a b h = h.room
+more_room (Err e) a b h = tt
 
 pub put_seen : (who v : ℕ) (a b : Floor) (r : Offered) → OfferAnswer who 0 v a b r → IfSome (place_put r) (λ p. HasPut who 0 p b)
 put_seen who v a b (offered.Handed p t) h = tt
