@@ -12,8 +12,8 @@ returns-in_default-clause-answer c = (
   here_moment _ (ghost_items c.args.self.now.entries) _ _ (keeps_latest _ c.args.self.now.channels.items (replay (ghost_items c.args.self.now.entries)) c.args.c c.args.mine c.kind_at.result c.args.self.now.stands c.kind_at.ensures c.in_default.ensures),
 )
 
-pub index_behind-index-requires-clause-order : goal.index_behind-index-requires-clause-order
-index_behind-index-requires-clause-order c = queue_in_order _ c.args.self.now.channels.items (ghost_items c.args.self.now.entries) c.args.c c.args.self.now.legal c.args.self.now.stands
+pub index_behind-requires-clause-order : goal.index_behind-requires-clause-order
+index_behind-requires-clause-order c = queue_in_order _ c.args.self.now.channels.items (ghost_items c.args.self.now.entries) c.args.c c.args.self.now.legal c.args.self.now.stands
 
 pub returns-in_default-index_behind-clause-answer : goal.returns-in_default-index_behind-clause-answer
 returns-in_default-index_behind-clause-answer c = (
