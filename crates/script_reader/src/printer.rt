@@ -26,7 +26,7 @@ fn push_version(out: &mut Vec<u8>, version: u8) -> Result<(), AllocError>
     ensures { OnOk result (out.new.items ≡ out.old.items ++ text_of (flat (version_lines version))) }
 {
     if version == 2 {
-        push_line(out, 0, &[b"script".as_slice(), b"2".as_slice()])?;
+        return push_line(out, 0, &[b"script".as_slice(), b"2".as_slice()]);
     }
     Ok(())
 }
