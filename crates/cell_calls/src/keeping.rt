@@ -97,8 +97,8 @@ fn spurns_latest(hub: &Hub, c: ChannelId) -> bool
     }
 }
 
-/// Removes the own element, if at least as many stand before it as the channel keeps, which does not keep its latest. The element was placed
-/// before they are counted: whoever stands before it then stood there when it was placed.
+/// Removes the own element, if at least as many stand before it as the channel keeps, which does not keep its latest. The element
+/// was placed before they are counted: whoever stands before it then stood there when it was placed.
 pub fn spurn(hub: &Hub, pass: &mut Pass, who: Tag, c: ChannelId, mine: Place) -> Option<Value>
     requires of { IsOf hub.now pass.old }
     requires can { MayCall who c (hub_floor hub.now pass.old) }

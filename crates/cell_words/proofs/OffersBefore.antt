@@ -60,13 +60,13 @@ module _ (kind : Kind) (p : ℕ) where
     owes_gathered zero o lt e = absurd (omega arith)
     owes_gathered (suc n) o lt e = dite (ℕ_discrete n p) last (λ ne. more ne (f n) refl (owes_gathered n o (omega arith) e))
       where
+        less : n ≡ p → 0 + length (gather f n) ≡ length (gather f p)
+        less is = let e : length (gather f n) ≡ length (gather f p) = ap (λ (m : ℕ). length (gather f m)) is in omega arith
+
         last : n ≡ p → owes_spurn_at kind p 0 (add_some (f n) (gather f n)) ≡ spurns kind (length (gather f p))
         last is = ap (λ (x : Option Standing). owes_spurn_at kind p 0 (add_some x (gather f n))) (ap f is ∙ e)
             ∙ owes_last 0 (gather f n) o (none_gathered f at p n (λ q lt k. absurd (omega arith))) (at p o e)
             ∙ ap (spurns kind) (less is)
-
-        less : n ≡ p → 0 + length (gather f n) ≡ length (gather f p)
-        less is = let e : length (gather f n) ≡ length (gather f p) = ap (λ (m : ℕ). length (gather f m)) is in omega arith
 
         more : (n ≡ p → ⊥) → (x : Option Standing) → f n ≡ x → owes_spurn_at kind p 0 (gather f n) ≡ spurns kind (length (gather f p)) → owes_spurn_at kind p 0 (add_some x (gather f n)) ≡ spurns kind (length (gather f p))
         more ne None is ih = ih

@@ -1,7 +1,7 @@
 -- What one send comes to, by the answers of the hub.
-use Rattle.std.specs.Prelude.{◌≡◌, ℕ, ◌<◌, List, [], ◌∷◌, ◌++◌, map, Option, Some, None, true, false, refl}
+use Rattle.std.specs.Prelude.{◌≡◌, ℕ, ◌<◌, List, [], ◌∷◌, ◌++◌, map, Option, Some, None, is_some, true, false, refl}
 use Rattle.std.specs.List.{list_all}
-use Rattle.std.proofs.Common.{sym, ap, ◌∙◌, subst, arith, append_assoc}
+use Rattle.std.proofs.Common.{sym, ap, ◌∙◌, subst, arith, append_assoc, true≢false}
 use Rattle.co_base.specs.declared.names.WaitId.{WaitId}
 use Rattle.channel_model.specs.declared.acts.Act.{Act}
 use Rattle.channel_model.specs.declared.acts.Act.TheVariants.{Hand, Put, Offer, Admit, Drop, Spurn, Settle}
@@ -65,7 +65,7 @@ pub put_after : (who c mine : ℕ) (a b : Floor) → TrimsAll who c mine a b →
 put_after who c mine a b h p = put_lasts who c mine (map (λ (d : ℕ × ℕ). Drop c d.0 d.1) h.dropped) a b h.added p
 
 pub spurned_own : (who c mine v : ℕ) (a b : Floor) → SpurnAnswer who c mine a b (Some v) → SpurnsOwn who c mine a b
-spurned_own who c mine v a b m = record { spurned = Some v; added = added_made who (Spurn c mine v) a b m; fits = λ e. cc }
+spurned_own who c mine v a b m = record { spurned = Some v; added = added_made who (Spurn c mine v) a b m; fits = λ e. absurd (true≢false (ap is_some e)) }
 
 pub stays_own : (who c mine : ℕ) (a b : Floor) → SpurnAnswer who c mine a b None → SpurnsOwn who c mine a b
 stays_own who c mine a b m = record { spurned = None; added = added_looked who a b m.0; fits = λ e. m.1 }

@@ -1,10 +1,12 @@
 -- What the calls on a channel that does not keep its latest leave of those whose calls a pass makes, and of the places that were put.
-use Rattle.std.specs.Prelude.{◌≡◌, ℕ, Option, Some, None}
+use Rattle.std.proofs.Common.{◌≡◌, ℕ, Option, Some, None, subst}
 use Rattle.channel_model.specs.Floors.{Floor}
+use Rattle.channel_model.specs.declared.floor.Offered.{Offered}
+use Rattle.channel_model.specs.declared.floor.Offered.TheVariants as offered
 use Rattle.channel_model.specs.declared.floor.TriedGot.{TriedGot}
 use Rattle.channel_model.specs.declared.floor.TriedGot.TheVariants as got
-use Rattle.channel_model.specs.Answers.{TriedGotAnswer, SpurnAnswer, HasPut}
-use Rattle.channel_model.proofs.Puts.{put_lasts}
+use Rattle.channel_model.specs.Answers.{OfferAnswer, TriedGotAnswer, SpurnAnswer, HasPut}
+use Rattle.channel_model.proofs.Puts.{put_owned, put_lasts}
 use Rattle.channel_model.proofs.Spans.{added_looked, added_made}
 
 pub got_callers : (who c : ℕ) (a b : Floor) (r : TriedGot) → TriedGotAnswer who c a b r → b.callers ≡ a.callers
@@ -20,3 +22,10 @@ got_puts who c p a b (got.Closed x) h put = put_lasts who c p _ a b (added_looke
 pub spurn_callers : (who c mine : ℕ) (a b : Floor) (r : Option ℕ) → SpurnAnswer who c mine a b r → b.callers ≡ a.callers
 spurn_callers who c mine a b (Some v) h = h.same.callers
 spurn_callers who c mine a b None h = h.0.same.callers
+
+pub offer_puts : (who c v : ℕ) (a b : Floor) (r : Offered) → OfferAnswer who c v a b r → (p : ℕ) → r ≡ offered.Put p → HasPut who c p b
+offer_puts who c v a b (offered.Put q) h p e = let same : q ≡ p = cc in subst (λ (z : ℕ). HasPut who c z b) same (put_owned who c q v a b h)
+offer_puts who c v a b (offered.Handed q t) h p e = cc
+offer_puts who c v a b (offered.Held q) h p e = cc
+offer_puts who c v a b (offered.Closed x) h p e = cc
+offer_puts who c v a b offered.Spent h p e = cc

@@ -1,7 +1,8 @@
 //! A channel over words that does not keep its latest: call by call, and while one thread sends and another receives.
 
-ghost use Rattle.std.specs.Prelude.{◌≡◌, ℕ, ⊤, IfOk, MatchOption};
+ghost use Rattle.std.specs.Prelude.{◌≡◌, ℕ, [], ◌∷◌, IfOk};
 ghost use Rattle.channel_model.specs.Answers.{HasPut};
+ghost use Rattle.channel_model.specs.declared.floor.Offered.TheVariants as offered;
 ghost use Rattle.cell_words.specs.Hubs.{shape_of, IsOf, IsOwn, GivesTags};
 ghost use Rattle.cell_calls.specs.HubFloors.{hub_floor};
 ghost use Rattle.word_tests.specs.LatestChannels.{one_latest};
@@ -25,50 +26,66 @@ fn new_hub(alloc: Global) -> Result<(Hub, Pass), Memory>
     ensures shape { IfOk result (λ r. shape_of r.0 ≡ one_latest) }
     ensures of { IfOk result (λ r. IsOf r.0 r.1) }
     ensures own { IfOk result (λ r. IsOwn r.0 r.1 0) }
+    ensures gives { IfOk result (λ r. GivesTags (0 ∷ []) r.1) }
 {
     Hub::new(alloc, &KINDS)
 }
 
-/// The bit of a value.
-fn bit(value: Value) -> u64 {
-    1u64 << (value % 64)
-}
-
-/// Puts an element: at which place.
-fn put(hub: &Hub, pass: &mut Pass, who: Tag, value: Value) -> Option<Place>
-    requires shape { shape_of hub.now ≡ one_latest }
-    requires own { IsOwn hub.now pass.old who }
-    ensures own { IsOwn hub.now pass.new who }
-    ensures put { MatchOption result ⊤ (λ place. HasPut who 0 place (hub_floor hub.now pass.new)) }
-{
-    match offer(hub, pass, who, 0, value) {
-        Offered::Put(place) => Some(place),
-        Offered::Handed(_, _) | Offered::Held(_) | Offered::Closed(_) | Offered::Spent => None,
+/// The bit of a value, if there is one.
+fn bit(value: Option<Value>) -> u64 {
+    match value {
+        Some(value) => 1u64 << (value % 64),
+        None => 0,
     }
 }
 
-/// Removes the own element, if it is one too many: its bit.
-fn remove_own(hub: &Hub, pass: &mut Pass, who: Tag, place: Place) -> u64
+/// Offers an element; where it was put, the place is the caller's own.
+fn offer_one(hub: &Hub, pass: &mut Pass, who: Tag, value: Value) -> Offered
+    requires shape { shape_of hub.now ≡ one_latest }
+    requires own { IsOwn hub.now pass.old who }
+    ensures own { IsOwn hub.now pass.new who }
+    ensures put { (p : ℕ) → result ≡ offered.Put p → HasPut who 0 p (hub_floor hub.now pass.new) }
+{
+    offer(hub, pass, who, 0, value)
+}
+
+/// Removes the own element, if it is one too many.
+fn spurn_one(hub: &Hub, pass: &mut Pass, who: Tag, place: Place) -> Option<Value>
     requires shape { shape_of hub.now ≡ one_latest }
     requires own { IsOwn hub.now pass.old who }
     requires put { HasPut who 0 place (hub_floor hub.now pass.old) }
     ensures own { IsOwn hub.now pass.new who }
 {
-    match spurn(hub, pass, who, 0, place) {
-        Some(value) => bit(value),
-        None => 0,
-    }
+    spurn(hub, pass, who, 0, place)
 }
 
-/// Puts an element, and removes it if it is one too many: the bit of one that was removed.
+/// Receives an element, if one stands. What was put was put.
+fn take_one(hub: &Hub, pass: &mut Pass, who: Tag) -> TriedGot
+    requires shape { shape_of hub.now ≡ one_latest }
+    requires own { IsOwn hub.now pass.old who }
+    ensures own { IsOwn hub.now pass.new who }
+    ensures puts { (p : ℕ) → HasPut who 0 p (hub_floor hub.now pass.old) → HasPut who 0 p (hub_floor hub.now pass.new) }
+{
+    try_receive(hub, pass, who, 0)
+}
+
+/// Offers an element, and removes it if it was put and is one too many: the bit of one that was removed.
 fn send(hub: &Hub, pass: &mut Pass, who: Tag, value: Value) -> u64
     requires shape { shape_of hub.now ≡ one_latest }
     requires own { IsOwn hub.now pass.old who }
     ensures own { IsOwn hub.now pass.new who }
 {
-    match put(hub, pass, who, value) {
-        Some(place) => remove_own(hub, pass, who, place),
-        None => 0,
+    match offer_one(hub, pass, who, value) {
+        Offered::Put(place) => bit(spurn_one(hub, pass, who, place)),
+        Offered::Handed(_, _) | Offered::Held(_) | Offered::Closed(_) | Offered::Spent => 0,
+    }
+}
+
+/// The element of a receive.
+fn element(got: TriedGot) -> Option<Value> {
+    match got {
+        TriedGot::Taken(_, value, _) => Some(value),
+        TriedGot::Empty | TriedGot::Closed(_) => None,
     }
 }
 
@@ -77,12 +94,8 @@ fn take(hub: &Hub, pass: &mut Pass, who: Tag) -> u64
     requires shape { shape_of hub.now ≡ one_latest }
     requires own { IsOwn hub.now pass.old who }
     ensures own { IsOwn hub.now pass.new who }
-    ensures puts { (p : ℕ) → HasPut who 0 p (hub_floor hub.now pass.old) → HasPut who 0 p (hub_floor hub.now pass.new) }
 {
-    match try_receive(hub, pass, who, 0) {
-        TriedGot::Taken(_, value, _) => bit(value),
-        TriedGot::Empty | TriedGot::Closed(_) => 0,
-    }
+    bit(element(take_one(hub, pass, who)))
 }
 
 /// Sends all values: those that were removed.
@@ -175,16 +188,28 @@ fn a_channel_that_keeps_two_spurns_what_comes_while_two_stand(rt: HostRuntime) -
     Ok(())
 }
 
-/// The same element is put, the oldest received, and only then is it looked whether the own one is too many.
-fn received_between(alloc: Global) -> Result<[u64; 4], Memory> {
+/// An element is put, the oldest received, and only then it is looked whether the own one is too many: what was received, and then removed.
+fn received_between(hub: &Hub, pass: &mut Pass, value: Value) -> (u64, u64)
+    requires shape { shape_of hub.now ≡ one_latest }
+    requires own { IsOwn hub.now pass.old 0 }
+    ensures own { IsOwn hub.now pass.new 0 }
+{
+    match offer_one(hub, pass, 0, value) {
+        Offered::Put(place) => {
+            let taken = take_one(hub, pass, 0);
+            let spurned = spurn_one(hub, pass, 0, place);
+            (bit(element(taken)), bit(spurned))
+        }
+        Offered::Handed(_, _) | Offered::Held(_) | Offered::Closed(_) | Offered::Spent => (0, 0),
+    }
+}
+
+/// The same where two elements stand; and what stands then.
+fn third_of_three(alloc: Global) -> Result<[u64; 4], Memory> {
     let (hub, mut main) = new_hub(alloc)?;
     let pass = &mut main;
     let first = send(&hub, pass, 0, 1) | send(&hub, pass, 0, 2);
-    let Some(place) = put(&hub, pass, 0, 3) else {
-        return Ok([first, 0, 0, 0]);
-    };
-    let taken = take(&hub, pass, 0);
-    let spurned = remove_own(&hub, pass, 0, place);
+    let (taken, spurned) = received_between(&hub, pass, 3);
     Ok([first, taken, spurned, take_some(&hub, pass, 0, 2)])
 }
 
@@ -192,6 +217,6 @@ fn received_between(alloc: Global) -> Result<[u64; 4], Memory> {
 fn an_element_stays_where_another_was_received_before_it_was_looked_at(
     rt: HostRuntime,
 ) -> Result<(), Fail> {
-    assert_eq!(rt; received_between(rt.alloc())?, [0, 2, 0, 12]);
+    assert_eq!(rt; third_of_three(rt.alloc())?, [0, 2, 0, 12]);
     Ok(())
 }

@@ -1,4 +1,4 @@
-use Rattle.std.proofs.Common.{ap, refl}
+use Rattle.std.proofs.Common.{sym, ap, ◌∙◌, refl}
 use Rattle.cell_words.specs.declared.cell_word.CellWord.{CellWord}
 use Rattle.cell_words.specs.Codes.{packed_cell}
 use Rattle.cell_words.specs.Hubs.{shape_of}
@@ -21,4 +21,4 @@ pub returns-in-Some-clause-spurned : goal.returns-in-Some-clause-spurned
 returns-in-Some-clause-spurned c =
     let t = c.in-Some.ensures.told in
     (t.0, spurn_lost (shape_of c.args.hub.now) c.args.pass.now.seat.me.0 c.exchange_cell.new.pass.seat.me.0 (hub_legal c.args.hub.now c.exchange_cell.new.pass c.exchange_cell.ensures.own.0) c.args.c c.args.place c.args.value c.requires.kept c.in-Some.field-0 t.0 t.1
-    (rw (ap (λ (z : CellWord). packed_cell z) c.plain_cell-before.ensures.word) at t.2))
+    (λ e. t.2 (e ∙ sym (ap (λ (z : CellWord). packed_cell z) c.plain_cell-before.ensures.word))))
