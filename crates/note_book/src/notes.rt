@@ -8,7 +8,7 @@ use co_base::Memory;
 use std::alloc::Global;
 
 /// What a coroutine noted of its calls.
-#[derive(Debug, Drop)]
+#[derive(Drop)]
 pub struct Notes {
     pub(crate) items: Vec<Item>,
 }
