@@ -19,7 +19,7 @@ use script_reader::{Script, read};
 use std::alloc::Global;
 
 /// A script, or the line that names the fault of a text which is none.
-#[derive(Debug, Drop)]
+#[derive(Drop)]
 pub enum Input {
     Script(Script),
     Fault(Vec<u8>),

@@ -17,7 +17,7 @@ use script_reader::{Script, generate, print};
 use std::alloc::Global;
 
 /// An answer, or a command with the script that has to be run for it.
-#[derive(Debug, Drop)]
+#[derive(Drop)]
 pub enum Prepared {
     Ready(Answer),
     Script(Command, Script),

@@ -51,7 +51,9 @@ spawn mid 1
 
 #[test]
 fn a_script_of_every_line_is_printed_as_it_was(rt: HostRuntime) -> Result<(), Fail> {
-    let script = read(rt.alloc(), EVERY_LINE)?;
+    let Ok(script) = read(rt.alloc(), EVERY_LINE) else {
+        panic!(rt; "no script");
+    };
     let text = print(rt.alloc(), &script)?;
     assert_eq!(rt; text.as_slice(), EVERY_LINE);
     assert_eq!(rt; script.blocks().len(), 3);

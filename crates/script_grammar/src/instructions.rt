@@ -3,7 +3,7 @@
 use co_base::{ChannelId, Value};
 
 /// What a line sends, or gives as the result: a number, or the word that stands for one while the script runs.
-#[derive(Clone, Copy, Debug, PartialEq, Eq)]
+#[derive(Clone, Copy)]
 pub enum Operand {
     Number(Value),
     /// The word `it`: the value that was received or awaited last.
@@ -13,7 +13,7 @@ pub enum Operand {
 }
 
 /// How a line launches a coroutine.
-#[derive(Clone, Copy, Debug, PartialEq, Eq)]
+#[derive(Clone, Copy)]
 pub enum Launching {
     /// The word `launch`: it is started at once, and its Job may not be awaited.
     Plain,
@@ -25,7 +25,7 @@ pub enum Launching {
 
 /// One line of a coroutine. A channel and a block are named by their numbers in the script, and a Job by the number of its
 /// name among the names of the block.
-#[derive(Clone, Copy, Debug, PartialEq, Eq)]
+#[derive(Clone, Copy)]
 pub enum Instruction {
     Send {
         c: ChannelId,

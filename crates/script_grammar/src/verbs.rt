@@ -1,7 +1,7 @@
 //! The first words of the lines of a coroutine.
 
 /// The first word of a line.
-#[derive(Clone, Copy, Debug, PartialEq, Eq)]
+#[derive(Clone, Copy)]
 pub enum Verb {
     Send,
     TrySend,

@@ -16,7 +16,7 @@ use co_base::Tag;
 use script_grammar::Instruction;
 
 /// A channel that a script declares.
-#[derive(Debug, Drop)]
+#[derive(Drop)]
 pub struct Channel {
     pub name: String,
     pub kind: Kind,
@@ -24,7 +24,7 @@ pub struct Channel {
 }
 
 /// A coroutine that a script declares: its name, the names of its Jobs, and its lines.
-#[derive(Debug, Drop)]
+#[derive(Drop)]
 pub struct Coroutine {
     pub name: String,
     /// In the order of the lines that give them.
@@ -33,7 +33,7 @@ pub struct Coroutine {
 }
 
 /// Instances of a coroutine that run from the start: the coroutine's number in the script, and how many they are.
-#[derive(Clone, Copy, Debug, PartialEq, Eq)]
+#[derive(Clone, Copy)]
 pub struct Spawn {
     pub coroutine: u16,
     /// 1 to 16,000.
@@ -65,7 +65,7 @@ impl Named for String {
 }
 
 /// A script that was read. Channels, coroutines and spawns are numbered from 0, each in the order of their lines.
-#[derive(Debug, Drop)]
+#[derive(Drop)]
 pub struct Script {
     pub(crate) channels: Vec<Channel>,
     pub(crate) coroutines: Vec<Coroutine>,
