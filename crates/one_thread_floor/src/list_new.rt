@@ -74,6 +74,8 @@ pub fn make_boxes(boxes: &mut Vec<ClauseBox>, n: usize) -> Result<(), Memory>
 
 impl ListFloor {
     /// A floor with a channel of each of these kinds, with so many places. It takes the memory for all places.
+    ///
+    /// Example: `one_element` in `docs/LIBRARY.md`.
     pub fn new(alloc: Global, kinds: &[(Kind, u32)]) -> Result<ListFloor, Memory>
         requires channels { length kinds.now ≤ 65536 }
         requires kinds { All MayBeMade kinds.now }

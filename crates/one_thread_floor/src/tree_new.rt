@@ -57,6 +57,8 @@ impl TreeFloor {
     ghost use Rattle.one_thread_floor.specs.TreeFloors.{floor_of};
 
     /// A floor for so many coroutines and so many scopes, with the root alone.
+    ///
+    /// Example: `two_jobs` in `docs/LIBRARY.md`.
     pub fn new(alloc: Global, coroutines: u16, scopes: u16) -> Result<TreeFloor, Memory>
         requires some { 0 < coroutines }
         requires few { coroutines + scopes ≤ 16000 }
