@@ -10,7 +10,7 @@ ghost use Rattle.poll_states.specs.Frames.{config_of};
 ghost use Rattle.poll_states.specs.Steps.{GoesPast};
 ghost use Rattle.poll_states.specs.Calls.{came_of_send, came_of_try_send, came_of_receive, came_of_try_receive, enters, after_call};
 ghost use Rattle.poll_states.specs.Named.{came_of_joined, after_named};
-ghost use Rattle.poll_states.specs.Ends.{unwinds_for};
+ghost use Rattle.poll_states.specs.SeenEnds.{unwinds_for};
 
 use crate::code::closing;
 use crate::coroutine::Coroutine;

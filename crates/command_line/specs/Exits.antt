@@ -3,8 +3,8 @@ use Rattle.std.specs.Prelude.{ℕ, ◌==◌, List, map, drop, string_bytes, Opti
 use Rattle.std.specs.Global.{Global}
 use Rattle.std.specs.Vec.Iter.{into_iter_items}
 use Rattle.std.specs.declared.vec.IntoIter.{IntoIter}
-use Rattle.command_line.specs.declared.ends.Message.{Message}
-use Rattle.command_line.specs.declared.ends.Message.TheVariants.{Usage, ReadFault, WriteFault, NoMemory}
+use Rattle.command_line.specs.declared.exit.Message.{Message}
+use Rattle.command_line.specs.declared.exit.Message.TheVariants.{Usage, ReadFault, WriteFault, NoMemory}
 use Rattle.command_line.specs.declared.words.Command.{Command}
 use Rattle.command_line.specs.Commands.{command_of}
 

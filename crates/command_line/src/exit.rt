@@ -2,7 +2,7 @@
 
 ghost use Rattle.std.specs.Prelude.{◌≡◌};
 ghost use Rattle.std.specs.Process.{exit_status};
-ghost use Rattle.command_line.specs.Ends.{message_at};
+ghost use Rattle.command_line.specs.Exits.{message_at};
 
 use std::process::ExitCode;
 use thiserror::Error;

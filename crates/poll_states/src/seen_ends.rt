@@ -5,7 +5,7 @@ ghost use Rattle.script_reader.specs.Scripts.{program_of};
 ghost use Rattle.script_meaning.specs.declared.stage.Stage.TheVariants.{SeesJob};
 ghost use Rattle.script_meaning.specs.Polls.{HasToSee, is_seeing};
 ghost use Rattle.poll_states.specs.Frames.{config_of, Stands, SameFloors, noted};
-ghost use Rattle.poll_states.specs.Ends.{after_job, AwaitsNamed, SeenAnswer};
+ghost use Rattle.poll_states.specs.SeenEnds.{after_job, AwaitsNamed, SeenAnswer};
 
 use crate::answers::unwinds_for;
 use crate::code::code_of;

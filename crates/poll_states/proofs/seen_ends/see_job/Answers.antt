@@ -6,7 +6,7 @@ use Rattle.poll_states.proofs.Stepping.{cut_jobs}
 use Rattle.poll_states.proofs.WaitsForEnds.{saw_job, not_yet_seen}
 use Rattle.poll_states.proofs.EndsNamed.{awaits_named, seen_attached}
 use Rattle.std.proofs.Common.{inl, inr}
-use Rattle.poll_states.proofs.ends.see_job.Goals as goal
+use Rattle.poll_states.proofs.seen_ends.see_job.Goals as goal
 
 pub awaited-row-requires : goal.awaited-row-requires
 awaited-row-requires g c = awaits_named _ _ _ _ c.args.script.now.well_formed (g.met.J.JobFloor.legal c.args.floors.now.jobs.now) c.requires.stands c.requires.sees
