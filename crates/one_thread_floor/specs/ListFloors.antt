@@ -4,13 +4,13 @@ use Rattle.channel_model.specs.declared.acts.Kind.{Kind}
 use Rattle.channel_model.specs.declared.acts.Kind.TheVariants.{Rendezvous, Buffered, Unlimited, Conflated, DropOldest, Signal}
 use Rattle.channel_model.specs.Floors.{Floor}
 use Rattle.one_thread_floor.specs.declared.list_floor.ListFloor.{ListFloor}
-use Rattle.one_thread_floor.specs.GhostLists.{ghost_items}
+use Rattle.one_thread_floor.specs.Entries.{channel_entries}
 
 -- one thread calls it, for every tag; an act takes one box at most, and no other memory
 abbrev pub floor_of : ListFloor → Floor
 floor_of f = record {
   shape = f.kinds.items;
-  seen = ghost_items f.entries;
+  seen = channel_entries f.entries;
   spare = vec_len f.boxes;
   alone = true;
   callers = λ t. true;

@@ -6,7 +6,7 @@ ghost use Rattle.channel_model.specs.Channels.{empty, start};
 ghost use Rattle.one_thread_floor.specs.ListStands.{channel_of, IsAt};
 ghost use Rattle.one_thread_floor.specs.ListFloors.{floor_of, MayBeMade};
 
-use crate::ghost_list::GhostList;
+use crate::entries::ChannelEntries;
 use crate::list_channel::{ClauseBox, ListChannel};
 use crate::list_floor::ListFloor;
 use arrayvec::ArrayVec;
@@ -85,7 +85,7 @@ impl ListFloor {
         ensures callers { IfOk result (λ f. (t : ℕ) → (floor_of f).callers t ≡ true) }
     {
         let channels = new_channels(alloc, kinds)?;
-        let entries = GhostList::new(alloc)?;
+        let entries = ChannelEntries::new();
         Ok(ListFloor {
             kinds: Vec::from_slice(alloc, kinds)?,
             channels,
