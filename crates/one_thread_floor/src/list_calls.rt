@@ -25,10 +25,15 @@ impl ChannelFloor for ListFloor {
 
     ghost anchor = { λ f. record { kinds = f.kinds } };
 
+    #[inline(always)]
     fn room(&mut self, n: u32) -> Result<(), Memory> {
+        if n as usize <= self.boxes.len() {
+            return Ok(());
+        }
         make_boxes(&mut self.boxes, n as usize)
     }
 
+    #[inline(always)]
     fn offer(&mut self, who: Tag, c: ChannelId, value: Value) -> Offered {
         if let Some(v) = closed_with(&self.channels, c) {
             return Offered::Closed(v);
@@ -63,6 +68,7 @@ impl ChannelFloor for ListFloor {
         TriedOffer::Put(self.put(who, c, value))
     }
 
+    #[inline(always)]
     fn receive(&mut self, who: Tag, c: ChannelId) -> Got {
         if queue_len(&self.channels, c) > 0 {
             let (place, value, from) = self.take(who, c);
@@ -229,6 +235,7 @@ impl ChannelFloor for ListFloor {
         next_place(&self.channels, c)
     }
 
+    #[inline(always)]
     fn admit(&mut self, who: Tag, c: ChannelId, mark: Place) -> Option<(Place, Tag)> {
         let index = leading_in(&mut self.channels, c);
         let Some(offer) = offer_at(&self.channels, c, index) else {

@@ -59,6 +59,8 @@ fn add_boxes(boxes: &mut Vec<ClauseBox>, n: usize) -> Result<(), Memory>
 }
 
 /// Makes so many boxes, or none.
+#[cold]
+#[inline(never)]
 pub fn make_boxes(boxes: &mut Vec<ClauseBox>, n: usize) -> Result<(), Memory>
     ensures kept { vec_len boxes.old ≤ vec_len boxes.new }
     ensures made { OnOk result (n ≤ vec_len boxes.new) }
