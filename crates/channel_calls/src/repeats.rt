@@ -13,6 +13,7 @@ use note_book::{Item, NoteBook};
 
 impl<F: ChannelFloor, B: NoteBook, W: Wakes> Caller<'_, '_, '_, F, B, W> {
     /// Admits each offer that came before this call and for which the channel has room, and wakes whoever waits with it.
+    #[inline(always)]
     pub fn admit_all(&mut self, c: ChannelId) -> Result<(), Memory>
         requires can { MayCall self.old.who c (F.view self.old.floor.now) }
         ensures same { SameCaller F.anchor self.old self.new }
@@ -24,6 +25,7 @@ impl<F: ChannelFloor, B: NoteBook, W: Wakes> Caller<'_, '_, '_, F, B, W> {
     }
 
     /// Admits each offer below the mark for which the channel has room.
+    #[inline(always)]
     fn admit_below(&mut self, c: ChannelId, mark: Place) -> Result<(), Memory>
         requires can { MayCall self.old.who c (F.view self.old.floor.now) }
         ensures same { SameCaller F.anchor self.old self.new }

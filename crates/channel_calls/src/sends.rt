@@ -19,6 +19,7 @@ impl<F: ChannelFloor, B: NoteBook, W: Wakes> Caller<'_, '_, '_, F, B, W> {
     /// If it offered it admits whoever may be admitted, and then looks at its offer: one that was resolved by then ends here.
     ///
     /// Example: `send_last` in `docs/LIBRARY.md`.
+    #[inline(always)]
     pub fn send(&mut self, c: ChannelId, value: Value) -> Result<SendAnswer, Memory>
         requires can { MayCall self.old.who c (F.view self.old.floor.now) }
         requires kind { is_signal (kind_at (F.view self.old.floor.now).shape c) ≡ false }
