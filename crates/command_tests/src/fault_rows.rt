@@ -80,4 +80,24 @@ launch p
 end
 = 3 report
 line 2: Recursive
+# Four repeats of a million turns, one in the other.
+coroutine w
+end
+coroutine main
+repeat 1000000
+repeat 1000000
+repeat 1000000
+repeat 1000000
+launch w
+= 3 report
+line 8: TooMany
+# A launch for each element, and nobody knows how many come.
+channel a rendezvous
+coroutine w
+end
+coroutine main
+each a
+launch w
+= 3 report
+line 6: TooMany
 ";
