@@ -326,9 +326,10 @@ const CLOSED: [OtherCall; 5] = at_second_clause!(
     OtherCall::Nothing
 );
 
-const TAKEN_BACK_FOR_A_CLOSE: [ChannelNote; 6] = taken_back!(Item::Channel(
-    ChannelNote::ReceiveClosed { c: 1, v: 4 }
-));
+const TAKEN_BACK_FOR_A_CLOSE: [ChannelNote; 6] = taken_back!(ChannelNote::ReceiveClosed {
+    c: 1,
+    v: 4
+});
 
 #[test]
 fn a_select_looks_again_where_its_second_channel_was_closed(rt: HostRuntime) -> Result<(), Fail> {
