@@ -46,6 +46,7 @@ impl<F: ChannelFloor, B: NoteBook, W: Wakes> Caller<'_, '_, '_, F, B, W> {
     }
 
     /// Drops the oldest elements, as long as more stand up to the own one, at this place, than the channel keeps.
+    #[inline(always)]
     pub fn after_put(&mut self, c: ChannelId, place: Place) -> Result<(), Memory>
         requires can { MayCall self.old.who c (F.view self.old.floor.now) }
         requires own { HasPut self.old.who c place (F.view self.old.floor.now) }

@@ -71,6 +71,7 @@ impl<F: ChannelFloor, B: NoteBook, W: Wakes> Caller<'_, '_, '_, F, B, W> {
 
     /// Admits whoever waits where the channel has room now, and then settles the own plain offer, if it was resolved by now, whoever
     /// resolved it.
+    #[inline(always)]
     fn after_held(&mut self, w: WaitId) -> Result<SendAnswer, Memory>
         requires can { MayCall self.old.who w.channel (F.view self.old.floor.now) }
         requires plain { OffersPlainly self.old.who w (replay (F.view self.old.floor.now).seen) }
@@ -85,6 +86,7 @@ impl<F: ChannelFloor, B: NoteBook, W: Wakes> Caller<'_, '_, '_, F, B, W> {
     }
 
     /// Settles the own plain offer, if it was received, kept or removed by now.
+    #[inline(always)]
     fn settle_offer(&mut self, w: WaitId) -> Result<SendAnswer, Memory>
         requires can { MayCall self.old.who w.channel (F.view self.old.floor.now) }
         requires plain { OffersPlainly self.old.who w (replay (F.view self.old.floor.now).seen) }

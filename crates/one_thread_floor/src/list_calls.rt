@@ -206,10 +206,12 @@ impl ChannelFloor for ListFloor {
         Some((offer.place, offer.value, from))
     }
 
+    #[inline(always)]
     fn look(&mut self, who: Tag, w: WaitId) -> WaitState {
         state_at(&self.channels, w)
     }
 
+    #[inline(always)]
     fn settle(&mut self, who: Tag, w: WaitId, cancelled: bool) -> Settled {
         let outcome = settle(&mut self.channels, w, cancelled);
         self.entries.push(&Entry {
@@ -231,6 +233,7 @@ impl ChannelFloor for ListFloor {
         Withdrawn::Done(who)
     }
 
+    #[inline(always)]
     fn mark(&mut self, who: Tag, c: ChannelId) -> Place {
         next_place(&self.channels, c)
     }
@@ -263,6 +266,7 @@ impl ChannelFloor for ListFloor {
         Some((offer.place, to))
     }
 
+    #[inline(always)]
     fn trim(&mut self, who: Tag, c: ChannelId, mine: Place) -> Option<(Place, Value)> {
         let Some(capacity) = kind_at(&self.kinds, c).drops_beyond() else {
             return None;
