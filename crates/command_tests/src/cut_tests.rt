@@ -1,4 +1,4 @@
-//! Scripts that are cut off, and some that would run for too many Jobs.
+//! Scripts that are cut off.
 
 use crate::calls::{ONE_WORKER, RENDEZVOUS, found};
 use std::alloc::Global;
@@ -48,9 +48,10 @@ const CUT_OFF: [(usize, &str); 14] = [
 fn found_after<R: Threads + Wait + Sync>(
     rt: &R,
     alloc: Global,
+    script: &[u8],
     bytes: usize,
 ) -> Result<String, Fail> {
-    match RENDEZVOUS.as_bytes().get(..bytes) {
+    match script.get(..bytes) {
         Some(script) => found(rt, alloc, ONE_WORKER, script, "report"),
         None => Err(Fail::new("the script is shorter")),
     }
@@ -63,7 +64,7 @@ fn first_wrong<R: Threads + Wait + Sync>(
     rows: &[(usize, &str)],
 ) -> Result<Option<String>, Fail> {
     for (bytes, answer) in rows {
-        let found = found_after(rt, alloc, *bytes)?;
+        let found = found_after(rt, alloc, RENDEZVOUS.as_bytes(), *bytes)?;
         if found.as_str() != *answer {
             return Ok(Some(format!(in alloc; "after {bytes} bytes: {found}")?));
         }
@@ -75,29 +76,5 @@ fn first_wrong<R: Threads + Wait + Sync>(
 fn a_script_that_is_cut_off_has_its_answer(rt: HostRuntime) -> Result<(), Fail> {
     let wrong = first_wrong(&rt, rt.alloc(), &CUT_OFF)?;
     assert_eq!(rt; wrong, None);
-    Ok(())
-}
-
-/// Fourteen coroutines of which each but the first launches the one before it twice.
-fn doubling(alloc: Global) -> Result<String, Fail> {
-    let mut script = String::from_str(alloc, "coroutine b0\nend\n")?;
-    for k in 1..14u32 {
-        let below = k - 1;
-        let block = format!(in alloc; "coroutine b{k}\nlaunch b{below}\nlaunch b{below}\nend\n")?;
-        script.push_str(block.as_str())?;
-    }
-    Ok(script)
-}
-
-/// What they are answered with.
-fn found_of_doubling<R: Threads + Wait + Sync>(rt: &R, alloc: Global) -> Result<String, Fail> {
-    let script = doubling(alloc)?;
-    found(rt, alloc, ONE_WORKER, script.as_bytes(), "report")
-}
-
-#[test]
-fn a_script_of_too_many_jobs_is_refused(rt: HostRuntime) -> Result<(), Fail> {
-    let found = found_of_doubling(&rt, rt.alloc())?;
-    assert_eq!(rt; found.as_str(), "3 report\nline 53: TooMany\n");
     Ok(())
 }
