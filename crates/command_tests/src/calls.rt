@@ -106,7 +106,7 @@ fn answer_alone(alloc: Global, words: &str, script: &[u8]) -> Result<(u8, Vec<u8
 }
 
 /// Appends a line to a text.
-fn push_line(text: &mut String, line: &str) -> Result<(), Memory> {
+pub(crate) fn push_line(text: &mut String, line: &str) -> Result<(), Memory> {
     text.push_str(line)?;
     text.push('\n')?;
     Ok(())

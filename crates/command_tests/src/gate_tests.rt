@@ -1,5 +1,6 @@
 //! The points of the gate that polls pass, in their order.
 
+use crate::calls::push_line;
 use co_base::{Gate, Memory, Tag};
 use engine_one::{ListRun, run_one};
 use note_book::Notes;
@@ -120,26 +121,34 @@ impl Gate for RecordingGate {
     }
 }
 
-/// The points that a coroutine passed, a digit each.
-fn digits_of(alloc: Global, passed: &[(Tag, u8)], tag: Tag) -> Result<String, Memory> {
-    let mut digits = String::new(alloc);
-    for (who, point) in passed {
-        if *who == tag {
-            let digit = b'0'.wrapping_add(*point);
-            digits.push(digit as char)?;
-        }
+/// Adds a point as a digit, and ends the line at the last point of a poll.
+fn push_point(polls: &mut String, point: u8) -> Result<(), Memory> {
+    let digit = b'0'.wrapping_add(point);
+    polls.push(digit as char)?;
+    if point == 8 {
+        polls.push('\n')?;
     }
-    Ok(digits)
+    Ok(())
 }
 
-/// The polls of a coroutine by their points, a line each, without those that passed no point but the first and the last.
-fn polls_of(alloc: Global, passed: &[(Tag, u8)], tag: Tag) -> Result<String, Memory> {
-    let digits = digits_of(alloc, passed, tag)?;
+/// The polls of a coroutine by their points, a line each.
+fn all_polls_of(alloc: Global, passed: &[(Tag, u8)], tag: Tag) -> Result<String, Memory> {
     let mut polls = String::new(alloc);
-    for poll in digits.as_str().split_inclusive('8') {
+    for (who, point) in passed {
+        if *who == tag {
+            push_point(&mut polls, *point)?;
+        }
+    }
+    Ok(polls)
+}
+
+/// The same without those that passed no point but the first and the last.
+fn polls_of(alloc: Global, passed: &[(Tag, u8)], tag: Tag) -> Result<String, Memory> {
+    let all = all_polls_of(alloc, passed, tag)?;
+    let mut polls = String::new(alloc);
+    for poll in all.as_str().lines() {
         if poll != "18" {
-            polls.push_str(poll)?;
-            polls.push('\n')?;
+            push_line(&mut polls, poll)?;
         }
     }
     Ok(polls)
@@ -150,8 +159,7 @@ fn points_in(alloc: Global, table: &str) -> Result<String, Memory> {
     let mut points = String::new(alloc);
     for line in table.lines() {
         if let Some((_line, passed)) = line.split_once(' ') {
-            points.push_str(passed)?;
-            points.push('\n')?;
+            push_line(&mut points, passed)?;
         }
     }
     Ok(points)
