@@ -182,6 +182,16 @@ impl Tickets {
         unreachable!()
     }
 
+    /// An own ticket, unless a poll found no memory.
+    pub(crate) fn own(&mut self) -> Option<Tag> {
+        if self.is_stopped() {
+            return None;
+        }
+        let tag = self.take()?;
+        self.ran = self.ran.saturating_add(1);
+        Some(tag)
+    }
+
     /// The next ticket, one of the own first. The worker is at work. None: nobody has a ticket, or a poll found no memory; then the worker
     /// is not at work any more.
     pub(crate) fn next<R: Wait>(&mut self, rt: &R) -> Option<Tag> {
