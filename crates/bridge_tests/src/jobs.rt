@@ -107,14 +107,11 @@ fn a_job_that_ended_gives_its_result(rt: HostRuntime) -> Result<(), Fail> {
         mut child_jobs,
     } = new_family(rt.alloc())?;
     let answers = attach_and_end(rt.alloc(), &forest, &mut root_jobs, &mut child_jobs)?;
-    assert_eq!(rt; answers, ATTACHED_AND_ENDED);
+    assert!(rt; answers == ATTACHED_AND_ENDED);
     meet_both(&forest, &mut root_jobs, 0, &mut child_jobs, 1);
     let finish = Call::Finish { row: 1 };
     let finished = make_by(&forest, 2, &mut child_jobs, rt.alloc(), 1, finish)?;
-    assert_eq!(rt;
-        finished,
-        Answer::Finished(Finished::Now(End::Completed(9)))
-    );
+    assert!(rt; finished == Answer::Finished(Finished::Now(End::Completed(9))));
     meet_passes(&hub, &mut root, 0, &mut child, 1);
     assert_eq!(rt; close(&hub, &mut child, 1, 1, 9), Ok(()));
     meet_both(&forest, &mut root_jobs, 0, &mut child_jobs, 1);
@@ -141,7 +138,7 @@ fn a_job_whose_done_channel_is_spent_gives_no_result(rt: HostRuntime) -> Result<
         mut child_jobs,
     } = new_family(rt.alloc())?;
     let answers = attach_and_end(rt.alloc(), &forest, &mut root_jobs, &mut child_jobs)?;
-    assert_eq!(rt; answers, ATTACHED_AND_ENDED);
+    assert!(rt; answers == ATTACHED_AND_ENDED);
     meet_passes(&hub, &mut root, 0, &mut child, 1);
     assert_eq!(rt; receive(&hub, &mut child, 1, 1), Got::Waiting(0));
     meet_both(&forest, &mut root_jobs, 0, &mut child_jobs, 1);

@@ -29,4 +29,4 @@ mod tries;
 mod waits;
 
 pub use caller::{Caller, ReceiveAnswer, SendAnswer, TryReceiveAnswer, TrySendAnswer};
-pub use rooms::make_room;
+pub use rooms::{make_room, wake_some};

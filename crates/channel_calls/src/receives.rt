@@ -13,6 +13,7 @@ impl<F: ChannelFloor, B: NoteBook, W: Wakes> Caller<'_, '_, '_, F, B, W> {
     /// Takes the element that came first, and admits whoever waits where the channel has room now; or waits for an element.
     ///
     /// Example: `cancelled_receive` in `docs/LIBRARY.md`.
+    #[inline(always)]
     pub fn receive(&mut self, c: ChannelId) -> Result<ReceiveAnswer, Memory>
         requires can { MayCall self.old.who c (F.view self.old.floor.now) }
         ensures same { SameCaller F.anchor self.old self.new }

@@ -13,6 +13,7 @@ use note_book::{Item, NoteBook};
 
 impl<F: ChannelFloor, B: NoteBook, W: Wakes> Caller<'_, '_, '_, F, B, W> {
     /// Admits each offer that came before this call and for which the channel has room, and wakes whoever waits with it.
+    #[inline(always)]
     pub fn admit_all(&mut self, c: ChannelId) -> Result<(), Memory>
         requires can { MayCall self.old.who c (F.view self.old.floor.now) }
         ensures same { SameCaller F.anchor self.old self.new }
@@ -24,6 +25,7 @@ impl<F: ChannelFloor, B: NoteBook, W: Wakes> Caller<'_, '_, '_, F, B, W> {
     }
 
     /// Admits each offer below the mark for which the channel has room.
+    #[inline(always)]
     fn admit_below(&mut self, c: ChannelId, mark: Place) -> Result<(), Memory>
         requires can { MayCall self.old.who c (F.view self.old.floor.now) }
         ensures same { SameCaller F.anchor self.old self.new }
@@ -45,6 +47,7 @@ impl<F: ChannelFloor, B: NoteBook, W: Wakes> Caller<'_, '_, '_, F, B, W> {
 
     /// Drops the oldest elements, as long as more stand up to the own one, at this place, than the channel keeps; then removes the own
     /// one, if the channel does not keep its latest, and it is one too many.
+    #[inline(always)]
     pub fn after_put(&mut self, c: ChannelId, place: Place) -> Result<(), Memory>
         requires can { MayCall self.old.who c (F.view self.old.floor.now) }
         requires own { HasPut self.old.who c place (F.view self.old.floor.now) }
@@ -59,6 +62,7 @@ impl<F: ChannelFloor, B: NoteBook, W: Wakes> Caller<'_, '_, '_, F, B, W> {
     }
 
     /// Removes the own element, at this place, if the channel does not keep its latest, and it is one too many.
+    #[inline(always)]
     fn spurn_own(&mut self, c: ChannelId, place: Place) -> Result<(), Memory>
         requires can { MayCall self.old.who c (F.view self.old.floor.now) }
         requires own { HasPut self.old.who c place (F.view self.old.floor.now) }
@@ -80,6 +84,7 @@ impl<F: ChannelFloor, B: NoteBook, W: Wakes> Caller<'_, '_, '_, F, B, W> {
     }
 
     /// Drops the oldest elements, as long as more stand up to the own one, at this place, than the channel keeps.
+    #[inline(always)]
     fn trim_all(&mut self, c: ChannelId, place: Place) -> Result<(), Memory>
         requires can { MayCall self.old.who c (F.view self.old.floor.now) }
         requires own { HasPut self.old.who c place (F.view self.old.floor.now) }

@@ -29,7 +29,7 @@ pub fn make_room<F: ChannelFloor, B: NoteBook>(
 }
 
 /// Wakes whoever waits with an element, if somebody does.
-pub(crate) fn wake_some<W: Wakes>(wakes: &mut W, sender: Option<Tag>) {
+pub fn wake_some<W: Wakes>(wakes: &mut W, sender: Option<Tag>) {
     if let Some(sender) = sender {
         wakes.wake(sender);
     }

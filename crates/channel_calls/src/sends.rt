@@ -19,6 +19,7 @@ impl<F: ChannelFloor, B: NoteBook, W: Wakes> Caller<'_, '_, '_, F, B, W> {
     /// If it offered it admits whoever may be admitted, and then looks at its offer: one that was resolved by then ends here.
     ///
     /// Example: `send_last` in `docs/LIBRARY.md`.
+    #[inline(always)]
     pub fn send(&mut self, c: ChannelId, value: Value) -> Result<SendAnswer, Memory>
         requires can { MayCall self.old.who c (F.view self.old.floor.now) }
         requires kind { is_signal (kind_at (F.view self.old.floor.now).shape c) ≡ false }
@@ -70,6 +71,7 @@ impl<F: ChannelFloor, B: NoteBook, W: Wakes> Caller<'_, '_, '_, F, B, W> {
 
     /// Admits whoever waits where the channel has room now, and then settles the own plain offer, if it was resolved by now, whoever
     /// resolved it.
+    #[inline(always)]
     fn after_held(&mut self, w: WaitId) -> Result<SendAnswer, Memory>
         requires can { MayCall self.old.who w.channel (F.view self.old.floor.now) }
         requires plain { OffersPlainly self.old.who w (replay (F.view self.old.floor.now).seen) }
@@ -84,6 +86,7 @@ impl<F: ChannelFloor, B: NoteBook, W: Wakes> Caller<'_, '_, '_, F, B, W> {
     }
 
     /// Settles the own plain offer, if it was received, kept or removed by now.
+    #[inline(always)]
     fn settle_offer(&mut self, w: WaitId) -> Result<SendAnswer, Memory>
         requires can { MayCall self.old.who w.channel (F.view self.old.floor.now) }
         requires plain { OffersPlainly self.old.who w (replay (F.view self.old.floor.now).seen) }

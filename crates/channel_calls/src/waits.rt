@@ -15,6 +15,7 @@ use note_book::{Item, NoteBook};
 
 impl<F: ChannelFloor, B: NoteBook, W: Wakes> Caller<'_, '_, '_, F, B, W> {
     /// Settles the caller's wait, which was seen resolved, and notes it. Takes no memory.
+    #[inline(always)]
     pub(crate) fn settle(&mut self, w: WaitId, cancelled: bool) -> Settled
         requires can { MayCall self.old.who w.channel (F.view self.old.floor.now) }
         requires ready { IsReady self.old.who w (F.view self.old.floor.now) }
@@ -32,6 +33,7 @@ impl<F: ChannelFloor, B: NoteBook, W: Wakes> Caller<'_, '_, '_, F, B, W> {
     }
 
     /// Ends the caller's wait, which was seen resolved. `cancelled` says that its Job was cancelled before.
+    #[inline(always)]
     pub fn dispatch(&mut self, w: WaitId, cancelled: bool) -> Result<Settled, Memory>
         requires can { MayCall self.old.who w.channel (F.view self.old.floor.now) }
         requires ready { IsReady self.old.who w (F.view self.old.floor.now) }

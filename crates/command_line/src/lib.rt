@@ -9,13 +9,13 @@
 //! - `writing`: the end of a call: its answer is written, if there is one.
 //! - `top`: the whole call over any source and sink.
 //! - `alone`: the same for one worker, without threads.
-//! - `ends`: the code with which the process ends, and what standard error says.
+//! - `exit`: the code with which the process ends, and what standard error says.
 //! - `program`: the whole process, from the arguments that the system gives to its code.
 #![tactic(auto)]
 
 mod alone;
 mod answer;
-mod ends;
+mod exit;
 mod input;
 mod prepare;
 mod program;
@@ -26,7 +26,7 @@ mod words;
 mod writing;
 
 pub use alone::coroutine_main_alone;
-pub use ends::{Message, message_of};
+pub use exit::{Message, message_of};
 pub use program::{Left, process};
 pub use status::Status;
 pub use top::coroutine_main;

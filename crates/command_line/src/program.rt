@@ -4,11 +4,11 @@ ghost use Rattle.std.specs.Prelude.{◌≡◌, ◌⊎◌, drop, false, option_ma
 ghost use Rattle.std.specs.Process.{exit_status};
 ghost use Rattle.std.specs.Vec.Iter.{into_iter_items};
 ghost use Rattle.command_line.specs.Commands.{is_asked_to_read};
-ghost use Rattle.command_line.specs.Ends.{arguments_given, asked_by, message_at};
+ghost use Rattle.command_line.specs.Exits.{arguments_given, asked_by, message_at};
 ghost use Rattle.command_line.specs.Statuses.{Completes, Means, number_of, stream};
 ghost use Rattle.command_line.specs.declared.status.Status.{Status as Outcome};
 
-use crate::ends::{Message, exit_code, message_of};
+use crate::exit::{Message, exit_code, message_of};
 use crate::status::Status;
 use crate::top::coroutine_main;
 use co_base::{Gate, Memory, Sink, Source};

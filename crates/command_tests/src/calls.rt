@@ -6,6 +6,7 @@ use co_base::{Gate, Memory, MemorySink, MemorySource, OpenGate};
 use command_line::{coroutine_main, coroutine_main_alone};
 use std::alloc::Global;
 use std::sync::Wait;
+use std::test::Fail;
 use std::thread::Threads;
 
 /// One sender and one receiver.
@@ -23,7 +24,12 @@ spawn p
 spawn c
 ";
 
-pub(crate) const RENDEZVOUS_REPORT: &str = "\
+/// The words of a run by one worker.
+pub(crate) const ONE_WORKER: &str = "run --workers 1";
+
+/// What such a run of it is answered with.
+pub(crate) const RENDEZVOUS_ANSWER: &str = "\
+0 report
 0 attach 1 to 0 tag 1 plain
 0 attach 2 to 0 tag 2 plain
 0 endbody 0 0
@@ -57,20 +63,22 @@ pub(crate) const AT_ONCE: Pace<'static> = Pace {
     fails: &[],
 };
 
-/// The words as strings.
-fn strings(alloc: Global, words: &[&str]) -> Result<Vec<String>, Memory> {
-    let mut list = Vec::new(alloc);
-    for word in words {
-        list.push(String::from_str(alloc, *word)?)?;
+/// The words of a line.
+fn words_of(alloc: Global, line: &str) -> Result<Vec<String>, Memory> {
+    let mut words = Vec::new(alloc);
+    for word in line.split(' ') {
+        if !word.is_empty() {
+            words.push(String::from_str(alloc, word)?)?;
+        }
     }
-    Ok(list)
+    Ok(words)
 }
 
-/// The status, and what the sink holds, of a call at this gate.
+/// The status, and what the sink holds, of a call with the words of a line at this gate.
 pub(crate) fn answer<R: Threads + Wait + Sync, G: Gate + Sync>(
     rt: &R,
     alloc: Global,
-    words: &[&str],
+    words: &str,
     script: &[u8],
     given: Pace<'_>,
     taken: Pace<'_>,
@@ -79,7 +87,7 @@ pub(crate) fn answer<R: Threads + Wait + Sync, G: Gate + Sync>(
     requires given { 1 ≤ given.step }
     requires taken { 1 ≤ taken.step }
 {
-    let list = strings(alloc, words)?;
+    let list = words_of(alloc, words)?;
     let mut source = MemorySource::new(alloc, script, given.step, given.fails)?;
     let mut sink = MemorySink::new(alloc, taken.step, taken.fails)?;
     let status = coroutine_main(rt, alloc, list.as_slice(), &mut source, &mut sink, gate);
@@ -87,23 +95,9 @@ pub(crate) fn answer<R: Threads + Wait + Sync, G: Gate + Sync>(
     Ok((status, text))
 }
 
-/// The same, where nothing fails and nobody is held.
-pub(crate) fn at_once<R: Threads + Wait + Sync>(
-    rt: &R,
-    alloc: Global,
-    words: &[&str],
-    script: &[u8],
-) -> Result<(u8, Vec<u8>), Memory> {
-    answer(rt, alloc, words, script, AT_ONCE, AT_ONCE, &OpenGate)
-}
-
-/// The same, of the call that has no threads.
-pub(crate) fn answer_alone(
-    alloc: Global,
-    words: &[&str],
-    script: &[u8],
-) -> Result<(u8, Vec<u8>), Memory> {
-    let list = strings(alloc, words)?;
+/// The same of the call that has no threads, where nothing fails and nobody is held.
+fn answer_alone(alloc: Global, words: &str, script: &[u8]) -> Result<(u8, Vec<u8>), Memory> {
+    let list = words_of(alloc, words)?;
     let mut source = MemorySource::new(alloc, script, AT_ONCE.step, AT_ONCE.fails)?;
     let mut sink = MemorySink::new(alloc, AT_ONCE.step, AT_ONCE.fails)?;
     let status = coroutine_main_alone(alloc, list.as_slice(), &mut source, &mut sink, &OpenGate);
@@ -118,16 +112,28 @@ pub(crate) fn push_line(text: &mut String, line: &str) -> Result<(), Memory> {
     Ok(())
 }
 
+/// The second words of the lines that tell of Jobs.
+const OF_JOBS: [&str; 8] = [
+    "attach ", "start ", "endbody ", "cancel ", "finish ", "gone ", "sawend ", "fail ",
+];
+
+/// Whether a text begins with one of these.
+fn begins_with_one(text: &str, fronts: &[&str]) -> bool {
+    for front in fronts {
+        if text.starts_with(*front) {
+            return true;
+        }
+    }
+    false
+}
+
 /// Whether a line of a report tells of Jobs alone.
 fn tells_of_jobs(line: &str) -> bool {
-    let of_jobs = [
-        "attach ", "start ", "endbody ", "cancel ", "finish ", "gone ", "sawend ", "fail ",
-    ];
     if line.starts_with("job ") || line.contains("@") {
         return true;
     }
     match line.split_once(' ') {
-        Some((_tag, rest)) => of_jobs.iter().any(|word| rest.starts_with(*word)),
+        Some((_tag, rest)) => begins_with_one(rest, &OF_JOBS),
         None => false,
     }
 }
@@ -144,8 +150,11 @@ fn is_told(told: &str, line: &str) -> bool {
     }
 }
 
-/// The lines of a text that a row tells of.
-pub(crate) fn told_of(alloc: Global, told: &str, text: &str) -> Result<String, Memory> {
+/// The lines of a text that a row tells of: of `report` the text itself.
+fn told_of(alloc: Global, told: &str, text: &str) -> Result<String, Memory> {
+    if told == "report" {
+        return Ok(String::from_str(alloc, text)?);
+    }
     let mut lines = String::new(alloc);
     for line in text.lines() {
         if is_told(told, line) {
@@ -153,4 +162,33 @@ pub(crate) fn told_of(alloc: Global, told: &str, text: &str) -> Result<String, M
         }
     }
     Ok(lines)
+}
+
+/// What a call is answered with, as a row says it: its status, which lines it tells of, and these lines.
+pub(crate) fn in_a_row(
+    alloc: Global,
+    status: u8,
+    told: &str,
+    written: &[u8],
+) -> Result<String, Fail> {
+    let text = told_of(alloc, told, str::from_utf8(written)?)?;
+    Ok(format!(in alloc; "{status} {told}\n{text}")?)
+}
+
+/// What a call is answered with, where nothing fails and nobody is held.
+pub(crate) fn found<R: Threads + Wait + Sync>(
+    rt: &R,
+    alloc: Global,
+    words: &str,
+    script: &[u8],
+    told: &str,
+) -> Result<String, Fail> {
+    let (status, written) = answer(rt, alloc, words, script, AT_ONCE, AT_ONCE, &OpenGate)?;
+    in_a_row(alloc, status, told, written.as_slice())
+}
+
+/// What the call that has no threads is answered with.
+pub(crate) fn found_alone(alloc: Global, words: &str, script: &[u8]) -> Result<String, Fail> {
+    let (status, written) = answer_alone(alloc, words, script)?;
+    in_a_row(alloc, status, "report", written.as_slice())
 }

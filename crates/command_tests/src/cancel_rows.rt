@@ -55,8 +55,7 @@ job 0 completed 0
 job 1 cancelled
 job 2 completed 0
 job 3 cancelled
-# A send that was taken, then cancelled before its dispatch, is settled as cancelled though its
-# element is received.
+# A send that was taken, then cancelled before its dispatch, is settled as cancelled though its element is received.
 channel a rendezvous
 coroutine p
 send a 5

@@ -1,13 +1,14 @@
-//! Scripts that are cut off, and some that would run for too many Jobs.
+//! Scripts that are cut off.
 
-use crate::calls::{RENDEZVOUS, at_once};
+use crate::calls::{ONE_WORKER, RENDEZVOUS, found};
 use std::alloc::Global;
+use std::sync::Wait;
 use std::test::Fail;
-
-const ONE_WORKER: [&str; 3] = ["run", "--workers", "1"];
+use std::thread::Threads;
 
 /// The root alone, which ends.
 const ROOT_ALONE: &str = "\
+0 report
 0 endbody 0 0
 0 finish 0 completed 0
 0 close @0 0
@@ -16,6 +17,7 @@ job 0 completed 0
 
 /// The sender without its receiver.
 const SENDER_ALONE: &str = "\
+4 report
 0 attach 1 to 0 tag 1 plain
 0 endbody 0 0
 1 offer a 0 5 a.0 0
@@ -24,84 +26,55 @@ job 1 active
 element a 0 5 held
 ";
 
+/// After how many bytes a script is cut off, and its answer.
+const CUT_OFF: [(usize, &str); 14] = [
+    (0, "3 report\nline 1: NoMain\n"),
+    (15, "3 report\nline 1: UnknownWord\n"),
+    (20, "3 report\nline 1: NoMain\n"),
+    (21, "3 report\nline 1: NoMain\n"),
+    (33, "3 report\nline 2: NoEnd\n"),
+    (40, "3 report\nline 3: BadNumber\n"),
+    (41, "3 report\nline 3: NoEnd\n"),
+    (86, "3 report\nline 8: NoEnd\n"),
+    (90, ROOT_ALONE),
+    (91, ROOT_ALONE),
+    (95, "3 report\nline 10: UnknownWord\n"),
+    (96, "3 report\nline 10: BadName\n"),
+    (97, "3 report\nline 10: BadName\n"),
+    (98, SENDER_ALONE),
+];
+
+/// What a script is answered with that is cut off after so many bytes.
+fn found_after<R: Threads + Wait + Sync>(
+    rt: &R,
+    alloc: Global,
+    script: &[u8],
+    bytes: usize,
+) -> Result<String, Fail> {
+    match script.get(..bytes) {
+        Some(script) => found(rt, alloc, ONE_WORKER, script, "report"),
+        None => Err(Fail::new("the script is shorter")),
+    }
+}
+
+/// The first row that does not hold, with what was found.
+fn first_wrong<R: Threads + Wait + Sync>(
+    rt: &R,
+    alloc: Global,
+    rows: &[(usize, &str)],
+) -> Result<Option<String>, Fail> {
+    for (bytes, answer) in rows {
+        let found = found_after(rt, alloc, RENDEZVOUS.as_bytes(), *bytes)?;
+        if found.as_str() != *answer {
+            return Ok(Some(format!(in alloc; "after {bytes} bytes: {found}")?));
+        }
+    }
+    Ok(None)
+}
+
 #[test]
 fn a_script_that_is_cut_off_has_its_answer(rt: HostRuntime) -> Result<(), Fail> {
-    let rows = [
-        (0, 3, "line 1: NoMain\n"),
-        (15, 3, "line 1: UnknownWord\n"),
-        (20, 3, "line 1: NoMain\n"),
-        (21, 3, "line 1: NoMain\n"),
-        (33, 3, "line 2: NoEnd\n"),
-        (40, 3, "line 3: BadNumber\n"),
-        (41, 3, "line 3: NoEnd\n"),
-        (86, 3, "line 8: NoEnd\n"),
-        (90, 0, ROOT_ALONE),
-        (91, 0, ROOT_ALONE),
-        (95, 3, "line 10: UnknownWord\n"),
-        (96, 3, "line 10: BadName\n"),
-        (97, 3, "line 10: BadName\n"),
-        (98, 4, SENDER_ALONE),
-    ];
-    for (bytes, wanted, text) in rows {
-        let Some(script) = RENDEZVOUS.as_bytes().get(..bytes) else {
-            return Err(Fail::new("the script is shorter"));
-        };
-        let (status, written) = at_once(&rt, rt.alloc(), &ONE_WORKER, script)?;
-        assert_eq!(rt;
-            str::from_utf8(written.as_slice())?,
-            text,
-            "after {bytes} bytes"
-        );
-        assert_eq!(rt; status, wanted, "after {bytes} bytes");
-    }
-    Ok(())
-}
-
-/// Fourteen coroutines of which each but the first launches the one before it twice.
-fn doubling(alloc: Global) -> Result<String, Fail> {
-    let mut script = String::from_str(alloc, "coroutine b0\nend\n")?;
-    for k in 1..14u32 {
-        let below = k - 1;
-        let block = format!(in alloc; "coroutine b{k}\nlaunch b{below}\nlaunch b{below}\nend\n")?;
-        script.push_str(block.as_str())?;
-    }
-    Ok(script)
-}
-
-/// Four repeats of a million turns, one in the other.
-const REPEATED: &str = "\
-coroutine w
-end
-coroutine main
-repeat 1000000
-repeat 1000000
-repeat 1000000
-repeat 1000000
-launch w
-";
-
-/// A launch for each element, and nobody knows how many come.
-const FOR_EACH: &str = "\
-channel a rendezvous
-coroutine w
-end
-coroutine main
-each a
-launch w
-";
-
-#[test]
-fn a_script_of_too_many_jobs_is_refused(rt: HostRuntime) -> Result<(), Fail> {
-    let doubling = doubling(rt.alloc())?;
-    let rows = [
-        (doubling.as_str(), "line 53: TooMany\n"),
-        (REPEATED, "line 8: TooMany\n"),
-        (FOR_EACH, "line 6: TooMany\n"),
-    ];
-    for (script, text) in rows {
-        let (status, written) = at_once(&rt, rt.alloc(), &ONE_WORKER, script.as_bytes())?;
-        assert_eq!(rt; str::from_utf8(written.as_slice())?, text);
-        assert_eq!(rt; status, 3);
-    }
+    let wrong = first_wrong(&rt, rt.alloc(), &CUT_OFF)?;
+    assert_eq!(rt; wrong, None);
     Ok(())
 }

@@ -111,4 +111,81 @@ launch p
 end
 = 3 report
 line 2: Recursive
+# Fourteen coroutines of which each but the first launches the one before it twice.
+coroutine b0
+end
+coroutine b1
+launch b0
+launch b0
+end
+coroutine b2
+launch b1
+launch b1
+end
+coroutine b3
+launch b2
+launch b2
+end
+coroutine b4
+launch b3
+launch b3
+end
+coroutine b5
+launch b4
+launch b4
+end
+coroutine b6
+launch b5
+launch b5
+end
+coroutine b7
+launch b6
+launch b6
+end
+coroutine b8
+launch b7
+launch b7
+end
+coroutine b9
+launch b8
+launch b8
+end
+coroutine b10
+launch b9
+launch b9
+end
+coroutine b11
+launch b10
+launch b10
+end
+coroutine b12
+launch b11
+launch b11
+end
+coroutine b13
+launch b12
+launch b12
+end
+= 3 report
+line 53: TooMany
+# Four repeats of a million turns, one in the other.
+coroutine w
+end
+coroutine main
+repeat 1000000
+repeat 1000000
+repeat 1000000
+repeat 1000000
+launch w
+= 3 report
+line 8: TooMany
+# A launch for each element, and nobody knows how many come.
+channel a rendezvous
+coroutine w
+end
+coroutine main
+each a
+launch w
+= 3 report
+line 6: TooMany
 ";

@@ -1,5 +1,6 @@
 //! The points of the gate that polls pass, in their order.
 
+use crate::calls::push_line;
 use co_base::{Gate, Memory, Tag};
 use engine_one::{ListRun, run_one};
 use note_book::Notes;
@@ -120,24 +121,36 @@ impl Gate for RecordingGate {
     }
 }
 
-/// The polls of a coroutine by their points, a line each, without those that passed no point but the first and the last.
-fn polls_of(alloc: Global, passed: &[(Tag, u8)], tag: Tag) -> Result<String, Memory> {
+/// Adds a point as a digit, and ends the line at the last point of a poll.
+fn push_point(polls: &mut String, point: u8) -> Result<(), Memory> {
+    let digit = b'0'.wrapping_add(point);
+    polls.push(digit as char)?;
+    if point == 8 {
+        polls.push('\n')?;
+    }
+    Ok(())
+}
+
+/// The polls of a coroutine by their points, a line each.
+fn all_polls_of(alloc: Global, passed: &[(Tag, u8)], tag: Tag) -> Result<String, Memory> {
     let mut polls = String::new(alloc);
-    let mut poll = String::new(alloc);
     for (who, point) in passed {
         if *who == tag {
-            let digit = b'0'.wrapping_add(*point);
-            poll.push(digit as char)?;
-            if *point == 8 {
-                if poll.as_str() != "18" {
-                    polls.push_str(poll.as_str())?;
-                    polls.push('\n')?;
-                }
-                poll = String::new(alloc);
-            }
+            push_point(&mut polls, *point)?;
         }
     }
-    polls.push_str(poll.as_str())?;
+    Ok(polls)
+}
+
+/// The same without those that passed no point but the first and the last.
+fn polls_of(alloc: Global, passed: &[(Tag, u8)], tag: Tag) -> Result<String, Memory> {
+    let all = all_polls_of(alloc, passed, tag)?;
+    let mut polls = String::new(alloc);
+    for poll in all.as_str().lines() {
+        if poll != "18" {
+            push_line(&mut polls, poll)?;
+        }
+    }
     Ok(polls)
 }
 
@@ -146,8 +159,7 @@ fn points_in(alloc: Global, table: &str) -> Result<String, Memory> {
     let mut points = String::new(alloc);
     for line in table.lines() {
         if let Some((_line, passed)) = line.split_once(' ') {
-            points.push_str(passed)?;
-            points.push('\n')?;
+            push_line(&mut points, passed)?;
         }
     }
     Ok(points)
@@ -162,25 +174,45 @@ fn passed_by(alloc: Global, script: &Script) -> Result<Vec<(Tag, u8)>, Memory> {
     Ok(gate.passed.into_inner())
 }
 
-#[test]
-fn each_line_passes_its_points(rt: HostRuntime) -> Result<(), Fail> {
-    let alloc = rt.alloc();
+/// The polls of each coroutine, as in the tables above.
+const TABLES: [(Tag, &str); 7] = [
+    (0, OF_MAIN),
+    (1, OF_SENDER),
+    (2, ""),
+    (3, OF_SLOW),
+    (4, ""),
+    (5, OF_SLOW),
+    (6, ""),
+];
+
+/// The polls of the first coroutine whose polls are not those of its table.
+fn first_other(
+    alloc: Global,
+    passed: &[(Tag, u8)],
+    tables: &[(Tag, &str)],
+) -> Result<Option<String>, Memory> {
+    for (tag, table) in tables {
+        let polls = polls_of(alloc, passed, *tag)?;
+        let points = points_in(alloc, *table)?;
+        if polls.as_str() != points.as_str() {
+            return Ok(Some(format!(in alloc; "coroutine {tag}\n{polls}")?));
+        }
+    }
+    Ok(None)
+}
+
+/// The same of a run of the script of every line.
+fn first_other_of_every_line(alloc: Global) -> Result<Option<String>, Memory> {
     let Ok(script) = read(alloc, EVERY_LINE.as_bytes()) else {
-        return Err(Fail::from(Memory));
+        return Err(Memory);
     };
     let passed = passed_by(alloc, &script)?;
-    let rows = [
-        (0, OF_MAIN),
-        (1, OF_SENDER),
-        (2, ""),
-        (3, OF_SLOW),
-        (4, ""),
-        (5, OF_SLOW),
-        (6, ""),
-    ];
-    for (tag, table) in rows {
-        let polls = polls_of(alloc, passed.as_slice(), tag)?;
-        assert_eq!(rt; polls.as_str(), points_in(alloc, table)?.as_str());
-    }
+    first_other(alloc, passed.as_slice(), &TABLES)
+}
+
+#[test]
+fn each_line_passes_its_points(rt: HostRuntime) -> Result<(), Fail> {
+    let other = first_other_of_every_line(rt.alloc())?;
+    assert_eq!(rt; other, None);
     Ok(())
 }

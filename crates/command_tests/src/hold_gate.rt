@@ -7,7 +7,7 @@ use std::alloc::Global;
 use std::sync::atomic::{AtomicU64, Ordering};
 
 /// Holds `tag` at `point` until `other` has passed `other_point` so many times, or has come to it, where `passed` is false.
-#[derive(Clone, Copy, Debug, PartialEq, Eq)]
+#[derive(Clone, Copy)]
 pub struct HoldRule {
     pub tag: Tag,
     pub point: u8,

@@ -3,9 +3,9 @@
 //! Where a gate had to let a coroutine go, no worker came to what it waited for: the workers did not run beside one another, or did not
 //! steal.
 
-use crate::calls::{AT_ONCE, answer, told_of};
+use crate::calls::{AT_ONCE, answer, in_a_row};
 use crate::hold_gate::{HoldGate, HoldRule};
-use co_base::Tag;
+use co_base::Memory;
 use std::alloc::Global;
 use std::sync::Wait;
 use std::test::Fail;
@@ -106,81 +106,84 @@ spawn q
 /// So many looks are made before a coroutine is let go.
 const TURNS: u64 = 1_000_000_000;
 
-/// Holds `tag` at `point` until `other` has passed `other_point` so many times.
-const fn until_passed(tag: Tag, point: u8, other: Tag, other_point: u8, times: u32) -> HoldRule {
-    HoldRule {
-        tag,
-        point,
-        other,
-        other_point,
-        passed: true,
-        times,
-    }
+/// Holds a tag at a point until another has passed a point so many times.
+macro_rules! until_passed {
+    ($tag:expr, $point:expr, $other:expr, $other_point:expr, $times:expr) => {
+        HoldRule {
+            tag: $tag,
+            point: $point,
+            other: $other,
+            other_point: $other_point,
+            passed: true,
+            times: $times,
+        }
+    };
 }
 
-/// Holds `tag` at `point` until `other` has come to `other_point`.
-const fn until_come(tag: Tag, point: u8, other: Tag, other_point: u8) -> HoldRule {
-    HoldRule {
-        tag,
-        point,
-        other,
-        other_point,
-        passed: false,
-        times: 1,
-    }
+/// Holds a tag at a point until another has come to a point.
+macro_rules! until_come {
+    ($tag:expr, $point:expr, $other:expr, $other_point:expr) => {
+        HoldRule {
+            tag: $tag,
+            point: $point,
+            other: $other,
+            other_point: $other_point,
+            passed: false,
+            times: 1,
+        }
+    };
 }
 
-/// What a script is answered with by so many workers at a gate with these rules, in the form in which a row says it; and whether the gate
-/// let somebody go.
+/// What a call is answered with at a gate with these rules, as a row says it; and that the gate let somebody go, if it did.
 fn held<R: Threads + Wait + Sync>(
     rt: &R,
     alloc: Global,
-    workers: &str,
+    words: &str,
     script: &str,
     rules: &[HoldRule],
     told: &str,
-) -> Result<(String, bool), Fail> {
+) -> Result<String, Fail> {
     let gate = HoldGate::new(alloc, rules, TURNS)?;
-    let words = ["run", "--workers", workers];
-    let (status, written) = answer(
-        rt,
-        alloc,
-        &words,
-        script.as_bytes(),
-        AT_ONCE,
-        AT_ONCE,
-        &gate,
-    )?;
-    let text = told_of(alloc, told, str::from_utf8(written.as_slice())?)?;
-    let answer = format!(in alloc; "{status} {told}\n{text}")?;
-    Ok((answer, gate.gave_up()))
+    let script = script.as_bytes();
+    let (status, written) = answer(rt, alloc, words, script, AT_ONCE, AT_ONCE, &gate)?;
+    let found = in_a_row(alloc, status, told, written.as_slice())?;
+    if gate.gave_up() {
+        return Ok(format!(in alloc; "{found}and the gate let somebody go\n")?);
+    }
+    Ok(found)
 }
+
+const TWO: &str = "run --workers 2";
+
+const THREE: &str = "run --workers 3";
+
+const SIDE_BY_SIDE: [HoldRule; 1] = [until_passed!(1, 2, 2, 3, 1)];
 
 #[test]
 fn two_workers_run_side_by_side(rt: HostRuntime) -> Result<(), Fail> {
-    let rules = [until_passed(1, 2, 2, 3, 1)];
-    let (answer, gave_up) = held(&rt, rt.alloc(), "2", TWO_SPAWNED, &rules, "jobs")?;
+    let found = held(&rt, rt.alloc(), TWO, TWO_SPAWNED, &SIDE_BY_SIDE, "jobs")?;
     assert_eq!(rt;
-        answer.as_str(),
+        found.as_str(),
         "0 jobs\njob 0 completed 0\njob 1 completed 0\njob 2 completed 0\n"
     );
-    assert_eq!(rt; gave_up, false);
     Ok(())
 }
+
+const RESUMED_THEN_CANCELLED: [HoldRule; 4] = [
+    until_passed!(2, 2, 1, 3, 1),
+    until_passed!(0, 6, 1, 3, 1),
+    until_come!(0, 6, 1, 4),
+    until_passed!(1, 4, 0, 7, 1),
+];
 
 #[test]
 fn a_receiver_that_was_resumed_and_then_cancelled_gives_its_element_up(
     rt: HostRuntime,
 ) -> Result<(), Fail> {
-    let rules = [
-        until_passed(2, 2, 1, 3, 1),
-        until_passed(0, 6, 1, 3, 1),
-        until_come(0, 6, 1, 4),
-        until_passed(1, 4, 0, 7, 1),
-    ];
-    let (answer, gave_up) = held(&rt, rt.alloc(), "2", CANCELLED_RECEIVER, &rules, "channels")?;
+    let rules = &RESUMED_THEN_CANCELLED;
+    let found = held(&rt, rt.alloc(), TWO, CANCELLED_RECEIVER, rules, "channels")?;
     assert_eq!(rt;
-        answer.as_str(),
+        found.as_str(),
         "0 channels
 1 await a 0 a.0 0
 1 saw 1
@@ -189,21 +192,22 @@ fn a_receiver_that_was_resumed_and_then_cancelled_gives_its_element_up(
 element a 0 5 undelivered
 "
     );
-    assert_eq!(rt; gave_up, false);
     Ok(())
 }
 
+const CANCELLED_BEFORE_THE_SENDER: [HoldRule; 4] = [
+    until_passed!(0, 6, 1, 8, 1),
+    until_passed!(2, 2, 1, 3, 1),
+    until_passed!(3, 2, 1, 8, 2),
+    until_passed!(3, 2, 2, 3, 1),
+];
+
 #[test]
 fn a_receiver_that_was_cancelled_lets_the_next_one_receive(rt: HostRuntime) -> Result<(), Fail> {
-    let rules = [
-        until_passed(0, 6, 1, 8, 1),
-        until_passed(2, 2, 1, 3, 1),
-        until_passed(3, 2, 1, 8, 2),
-        until_passed(3, 2, 2, 3, 1),
-    ];
-    let (answer, gave_up) = held(&rt, rt.alloc(), "3", CANCELLED_FIRST, &rules, "channels")?;
+    let rules = &CANCELLED_BEFORE_THE_SENDER;
+    let found = held(&rt, rt.alloc(), THREE, CANCELLED_FIRST, rules, "channels")?;
     assert_eq!(rt;
-        answer.as_str(),
+        found.as_str(),
         "0 channels
 1 await a 0 a.0 0
 1 saw 1
@@ -214,75 +218,95 @@ fn a_receiver_that_was_cancelled_lets_the_next_one_receive(rt: HostRuntime) -> R
 3 hand a 1 5
 "
     );
-    assert_eq!(rt; gave_up, false);
     Ok(())
 }
 
+const STOLEN: [HoldRule; 1] = [until_passed!(0, 8, 1, 3, 1)];
+
 #[test]
 fn a_worker_steals_what_another_launched(rt: HostRuntime) -> Result<(), Fail> {
-    let rules = [until_passed(0, 8, 1, 3, 1)];
-    let (answer, gave_up) = held(&rt, rt.alloc(), "2", LAUNCHED, &rules, "jobs")?;
+    let found = held(&rt, rt.alloc(), TWO, LAUNCHED, &STOLEN, "jobs")?;
     assert_eq!(rt;
-        answer.as_str(),
+        found.as_str(),
         "0 jobs\njob 0 completed 0\njob 1 completed 0\n"
     );
-    assert_eq!(rt; gave_up, false);
     Ok(())
+}
+
+/// Each of sixteen coroutines is held until all others come to the same point.
+fn all_at_once(alloc: Global) -> Result<Vec<HoldRule>, Memory> {
+    let mut rules = Vec::new(alloc);
+    for tag in 0..16 {
+        for other in 0..16 {
+            if other != tag {
+                rules.push(until_come!(tag, 2, other, 2))?;
+            }
+        }
+    }
+    Ok(rules)
+}
+
+/// What sixteen workers answer that poll sixteen coroutines at once.
+fn held_at_once<R: Threads + Wait + Sync>(rt: &R, alloc: Global) -> Result<String, Fail> {
+    let rules = all_at_once(alloc)?;
+    held(
+        rt,
+        alloc,
+        "run --workers 16",
+        SIXTEEN,
+        rules.as_slice(),
+        "none",
+    )
 }
 
 #[test]
 fn sixteen_workers_poll_sixteen_coroutines_at_once(rt: HostRuntime) -> Result<(), Fail> {
-    let mut rules = Vec::new(rt.alloc());
-    for tag in 0..16 {
-        for other in 0..16 {
-            if other != tag {
-                rules.push(until_come(tag, 2, other, 2))?;
-            }
-        }
-    }
-    let (answer, gave_up) = held(&rt, rt.alloc(), "16", SIXTEEN, rules.as_slice(), "none")?;
-    assert_eq!(rt; answer.as_str(), "0 none\n");
-    assert_eq!(rt; gave_up, false);
+    let found = held_at_once(&rt, rt.alloc())?;
+    assert_eq!(rt; found.as_str(), "0 none\n");
     Ok(())
 }
 
+const CANCELLED_AFTER_ITS_LOOK: [HoldRule; 3] = [
+    until_passed!(2, 2, 1, 3, 1),
+    until_come!(0, 6, 1, 5),
+    until_passed!(1, 5, 0, 7, 1),
+];
+
 #[test]
 fn a_receiver_that_is_cancelled_behind_its_look_receives(rt: HostRuntime) -> Result<(), Fail> {
-    let rules = [
-        until_passed(2, 2, 1, 3, 1),
-        until_come(0, 6, 1, 5),
-        until_passed(1, 5, 0, 7, 1),
-    ];
-    let (answer, gave_up) = held(&rt, rt.alloc(), "3", CANCELLED_RECEIVER, &rules, "channels")?;
+    let rules = &CANCELLED_AFTER_ITS_LOOK;
+    let found = held(
+        &rt,
+        rt.alloc(),
+        THREE,
+        CANCELLED_RECEIVER,
+        rules,
+        "channels",
+    )?;
     assert_eq!(rt;
-        answer.as_str(),
+        found.as_str(),
         "0 channels
 1 await a 0 a.0 0
 1 settle a.0 value 0 5
 2 hand a 0 5
 "
     );
-    assert_eq!(rt; gave_up, false);
     Ok(())
 }
 
+const SECOND_SENDER_FIRST: [HoldRule; 3] = [
+    until_passed!(2, 2, 1, 3, 1),
+    until_passed!(3, 2, 1, 3, 1),
+    until_passed!(2, 2, 3, 3, 1),
+];
+
 #[test]
 fn a_select_takes_the_clause_whose_sender_came_first(rt: HostRuntime) -> Result<(), Fail> {
-    let rules = [
-        until_passed(2, 2, 1, 3, 1),
-        until_passed(3, 2, 1, 3, 1),
-        until_passed(2, 2, 3, 3, 1),
-    ];
-    let (answer, gave_up) = held(
-        &rt,
-        rt.alloc(),
-        "3",
-        SELECT_OF_TWO,
-        &rules,
-        "channels-and-jobs",
-    )?;
+    let rules = &SECOND_SENDER_FIRST;
+    let told = "channels-and-jobs";
+    let found = held(&rt, rt.alloc(), THREE, SELECT_OF_TWO, rules, told)?;
     assert_eq!(rt;
-        answer.as_str(),
+        found.as_str(),
         "4 channels-and-jobs
 1 empty a
 1 empty b
@@ -298,6 +322,5 @@ job 3 completed 0
 element a 1 1 held
 "
     );
-    assert_eq!(rt; gave_up, false);
     Ok(())
 }

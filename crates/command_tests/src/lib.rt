@@ -2,8 +2,8 @@
 //!
 //! - `calls`: calls of the command line over sources and sinks in memory, and the lines of a report that a row tells of.
 //! - `tests`: what such calls come to. Its worked scripts stand in `channel_rows`, `buffer_rows`, `job_rows`,
-//!   `cancel_rows`, `select_rows`, `scope_rows`, `await_rows` and `fault_rows`.
-//! - `stream_tests`: a source and a sink of which a call fails. `cut_tests`: scripts that are cut off, and some of too many Jobs.
+//!   `cancel_rows`, `select_rows`, `scope_rows`, `await_rows`, `fault_rows` and `word_rows`.
+//! - `stream_tests`: a source and a sink of which a call fails. `cut_tests`: scripts that are cut off.
 //! - `print_tests`: a script that is read and printed again.
 //! - `worker_tests`: runs by several workers.
 //! - `gate_tests`: the points of the gate that polls pass.
@@ -42,5 +42,7 @@ mod select_rows;
 mod stream_tests;
 #[cfg(test)]
 mod tests;
+#[cfg(test)]
+mod word_rows;
 #[cfg(test)]
 mod worker_tests;

@@ -1,6 +1,7 @@
 //! A script that is read and printed again.
 
-use script_reader::{print, read};
+use script_reader::{Script, print, read};
+use std::alloc::Global;
 use std::test::Fail;
 
 /// A script of every line, as it is printed.
@@ -49,22 +50,48 @@ spawn leaf 2
 spawn mid 1
 ";
 
+fn script_of(alloc: Global, text: &[u8]) -> Result<Script, Fail> {
+    match read(alloc, text) {
+        Ok(script) => Ok(script),
+        Err(_) => Err(Fail::new("no script")),
+    }
+}
+
+/// The script of a text as it is printed.
+fn printed(alloc: Global, text: &[u8]) -> Result<Vec<u8>, Fail> {
+    let script = script_of(alloc, text)?;
+    Ok(print(alloc, &script)?)
+}
+
 #[test]
 fn a_script_of_every_line_is_printed_as_it_was(rt: HostRuntime) -> Result<(), Fail> {
-    let script = read(rt.alloc(), EVERY_LINE)?;
-    let text = print(rt.alloc(), &script)?;
+    let text = printed(rt.alloc(), EVERY_LINE)?;
     assert_eq!(rt; text.as_slice(), EVERY_LINE);
-    assert_eq!(rt; script.blocks().len(), 3);
+    Ok(())
+}
+
+/// How many blocks there are, how large `mid` is, how many coroutines and scopes a run has, and of which blocks four of the coroutines are.
+fn counts(alloc: Global) -> Result<[usize; 8], Fail> {
+    let script = script_of(alloc, EVERY_LINE)?;
+    Ok([
+        script.blocks().len(),
+        usize::from(script.size_of(1)),
+        usize::from(script.coroutines()),
+        usize::from(script.scopes()),
+        usize::from(script.coroutine_of(0)),
+        usize::from(script.coroutine_of(2)),
+        usize::from(script.coroutine_of(3)),
+        usize::from(script.coroutine_of(16)),
+    ])
+}
+
+#[test]
+fn a_script_of_every_line_counts_its_coroutines_and_scopes(rt: HostRuntime) -> Result<(), Fail> {
+    let counts = counts(rt.alloc())?;
     // Of mid: itself, three that it launches, and three in the repeat.
-    assert_eq!(rt; script.size_of(1), 7);
     // Main, two leaves, two instances of mid with all that they launch.
-    assert_eq!(rt; script.coroutines(), 17);
     // Three turns of the supervisor in each of two instances of mid, and main's scope.
-    assert_eq!(rt; script.scopes(), 7);
-    assert_eq!(rt; script.coroutine_of(0), 2);
-    assert_eq!(rt; script.coroutine_of(2), 0);
-    assert_eq!(rt; script.coroutine_of(3), 1);
-    assert_eq!(rt; script.coroutine_of(16), 0);
+    assert_eq!(rt; counts, [3, 7, 17, 7, 2, 0, 1, 0]);
     Ok(())
 }
 
@@ -88,14 +115,28 @@ end
 
 #[test]
 fn a_script_of_the_second_version_is_printed_as_it_was(rt: HostRuntime) -> Result<(), Fail> {
-    let script = read(rt.alloc(), SECOND_VERSION)?;
-    let text = print(rt.alloc(), &script)?;
+    let text = printed(rt.alloc(), SECOND_VERSION)?;
     assert_eq!(rt; text.as_slice(), SECOND_VERSION);
-    assert_eq!(rt; script.version(), 2);
-    let commented = read(rt.alloc(), COMMENTED)?;
-    let text = print(rt.alloc(), &commented)?;
+    Ok(())
+}
+
+#[test]
+fn a_comment_may_stand_before_the_version(rt: HostRuntime) -> Result<(), Fail> {
+    let text = printed(rt.alloc(), COMMENTED)?;
     assert_eq!(rt; text.as_slice(), SECOND_VERSION);
-    let first = read(rt.alloc(), EVERY_LINE)?;
-    assert_eq!(rt; first.version(), 1);
+    Ok(())
+}
+
+/// The versions of two scripts.
+fn versions(alloc: Global) -> Result<[u8; 2], Fail> {
+    let first = script_of(alloc, EVERY_LINE)?;
+    let second = script_of(alloc, SECOND_VERSION)?;
+    Ok([first.version(), second.version()])
+}
+
+#[test]
+fn a_script_without_a_version_is_of_the_first(rt: HostRuntime) -> Result<(), Fail> {
+    let versions = versions(rt.alloc())?;
+    assert_eq!(rt; versions, [1, 2]);
     Ok(())
 }

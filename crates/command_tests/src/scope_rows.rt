@@ -58,8 +58,7 @@ end
 job 0 failed 1
 job 1 failed 1
 job 2 failed 1
-# A scope waits for its children, then the coroutine goes on; its Job is no child of the parent any
-# more.
+# A scope waits for its children, then the coroutine goes on; its Job is no child of the parent any more.
 coroutine w
 yield
 result 3
@@ -98,8 +97,7 @@ job 0 completed 4
 job 1 completed 3
 job 2 completed 3
 job 3 completed 0
-# A failure inside a scope cancels the scope with the coroutine's own row, goes on when the scope
-# has ended, and only then cancels the parent.
+# A failure inside a scope cancels the scope by the coroutine's own row, goes on when that has ended, and only then cancels the parent.
 coroutine c
 yield
 yield
@@ -201,8 +199,7 @@ job 0 completed 2
 job 1 failed 1
 job 2 completed 2
 job 3 completed 0
-# A child that fails in a scope cancels its sibling, the scope ends failed, and the coroutine
-# unwinds with that failure.
+# A child that fails in a scope cancels its sibling, the scope ends failed, and the coroutine unwinds with that failure.
 coroutine bad
 fail 1
 end
@@ -254,8 +251,7 @@ job 0 failed 2
 job 1 cancelled
 job 2 failed 2
 job 3 failed 2
-# Scopes in scopes: the inner one fails, the outer one is cancelled with it by the unwinding
-# coroutine, each ended before the next.
+# Scopes in scopes: the inner one fails, the outer one is cancelled with it by the unwinding coroutine, each ended before the next.
 coroutine c
 yield
 yield
@@ -328,7 +324,7 @@ end
 job 0 active
 job 1 new
 job 2 completing
-# The same lazy Job, cancelled, lets the scope end.
+# A lazy async that nobody starts, cancelled, lets its scope end.
 coroutine w
 end
 coroutine main

@@ -23,7 +23,7 @@ end
 0 take b 0 2
 0 empty b
 0 take a 0 1
-# The same with the clauses in the other order.
+# A select takes the first of its clauses that is ready, also in the other order.
 channel a unlimited
 channel b unlimited
 coroutine main
@@ -98,8 +98,7 @@ spawn r
 0 settle a.0 sent 2
 1 take b 0 2
 element a 0 1 withdrawn
-# A select that waits is resolved at its second clause; the offer at the first is withdrawn by that,
-# and nobody is handed it.
+# A select that waits is resolved at its second clause; the offer at the first is withdrawn by that, and nobody is handed it.
 channel a rendezvous
 channel b rendezvous
 coroutine s
@@ -135,8 +134,7 @@ job 0 completing
 job 1 completed 0
 job 2 active
 element a 0 7 withdrawn
-# The order of the clauses decides, not that of the partners; the second select finds what the first
-# left.
+# The order of the clauses decides, not that of the partners; the second select finds what the first left.
 channel a buffered 1
 channel b buffered 1
 coroutine main

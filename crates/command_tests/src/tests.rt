@@ -1,9 +1,11 @@
 //! The worked rows, over sources and sinks in memory.
 
+ghost use Rattle.std.specs.Prelude.{◌≤◌};
+
 use crate::await_rows::AWAIT_ROWS;
 use crate::buffer_rows::BUFFER_ROWS;
 use crate::calls::{
-    Pace, RENDEZVOUS, RENDEZVOUS_REPORT, answer, answer_alone, at_once, push_line, told_of,
+    ONE_WORKER, Pace, RENDEZVOUS, RENDEZVOUS_ANSWER, answer, found, found_alone, in_a_row,
 };
 use crate::cancel_rows::CANCEL_ROWS;
 use crate::channel_rows::CHANNEL_ROWS;
@@ -11,6 +13,7 @@ use crate::fault_rows::FAULT_ROWS;
 use crate::job_rows::JOB_ROWS;
 use crate::scope_rows::SCOPE_ROWS;
 use crate::select_rows::SELECT_ROWS;
+use crate::word_rows::WORD_ROWS;
 use co_base::{Memory, OpenGate};
 use command_line::message_of;
 use std::alloc::Global;
@@ -18,17 +21,41 @@ use std::sync::Wait;
 use std::test::Fail;
 use std::thread::Threads;
 
-/// What a script is answered with, in the form in which a row says it.
-fn found<R: Threads + Wait + Sync>(
-    rt: &R,
-    alloc: Global,
-    script: &str,
-    told: &str,
-) -> Result<String, Fail> {
-    let words = ["run", "--workers", "1"];
-    let (status, written) = at_once(rt, alloc, &words, script.as_bytes())?;
-    let text = told_of(alloc, told, str::from_utf8(written.as_slice())?)?;
-    Ok(format!(in alloc; "{status} {told}\n{text}")?)
+/// A row of a table, in its parts.
+#[derive(Clone, Copy)]
+struct Row<'a> {
+    /// What it shows.
+    name: &'a str,
+    words: &'a str,
+    script: &'a str,
+    answer: &'a str,
+}
+
+/// The words of a call, and its script.
+fn words_and_script<'a>(call: &'a str) -> (&'a str, &'a str) {
+    match call.strip_prefix("$ ") {
+        Some(rest) => match rest.split_once('\n') {
+            Some(cut) => cut,
+            None => (rest, ""),
+        },
+        None => (ONE_WORKER, call),
+    }
+}
+
+/// The parts of a row.
+///
+/// A row has a comment that says what it shows, which is its name; a line `$ WORDS`, if its words are not `run --workers 1`; the lines of a
+/// script; a line `= STATUS TOLD`; and the lines that are told of the text. TOLD says which lines these are.
+fn row_of<'a>(text: &'a str) -> Option<Row<'a>> {
+    let (name, rest) = text.split_once('\n')?;
+    let (call, answer) = rest.split_once("= ")?;
+    let (words, script) = words_and_script(call);
+    Some(Row {
+        name,
+        words,
+        script,
+        answer,
+    })
 }
 
 /// The word of an answer that says of which lines it tells.
@@ -43,79 +70,94 @@ fn told_by(answer: &str) -> &str {
     }
 }
 
-/// The script of a row that does not hold, with what was found in place of its answer.
+/// The name and the script of a row that does not hold, with what was found in place of its answer.
 fn wrong<R: Threads + Wait + Sync>(
     rt: &R,
     alloc: Global,
-    script: &str,
-    answer: &str,
+    row: Row<'_>,
 ) -> Result<Option<String>, Fail> {
-    let text = found(rt, alloc, script, told_by(answer))?;
-    if text.as_str() == answer {
+    let Row {
+        name,
+        words,
+        script,
+        answer,
+    } = row;
+    let found = found(rt, alloc, words, script.as_bytes(), told_by(answer))?;
+    if found.as_str() == answer {
         return Ok(None);
     }
-    Ok(Some(format!(in alloc; "{script}{text}")?))
+    Ok(Some(format!(in alloc; "{name}\n{script}= {found}")?))
 }
 
 /// The first row of a table that does not hold.
-///
-/// A row has a comment that says what it shows, the lines of a script, a line `= STATUS TOLD`, and the lines that are told of the text.
-/// TOLD says which lines these are.
 fn first_wrong<R: Threads + Wait + Sync>(
     rt: &R,
     alloc: Global,
     rows: &str,
 ) -> Result<Option<String>, Fail> {
-    let mut script = String::new(alloc);
-    let mut answer = String::new(alloc);
-    for line in rows.lines() {
-        if line.starts_with("#") {
-            if !answer.is_empty() {
-                let wrong = wrong(rt, alloc, script.as_str(), answer.as_str())?;
-                if wrong.is_some() {
-                    return Ok(wrong);
-                }
-                script = String::new(alloc);
-                answer = String::new(alloc);
+    for text in rows.split("# ") {
+        if let Some(row) = row_of(text) {
+            let wrong = wrong(rt, alloc, row)?;
+            if wrong.is_some() {
+                return Ok(wrong);
             }
-        } else if let Some(head) = line.strip_prefix("= ") {
-            push_line(&mut answer, head)?;
-        } else if answer.is_empty() {
-            push_line(&mut script, line)?;
-        } else {
-            push_line(&mut answer, line)?;
+        } else if !text.is_empty() {
+            return Err(Fail::new("a row has no answer"));
         }
     }
-    wrong(rt, alloc, script.as_str(), answer.as_str())
+    Ok(None)
+}
+
+/// All tables.
+const TABLES: [&str; 9] = [
+    CHANNEL_ROWS,
+    BUFFER_ROWS,
+    JOB_ROWS,
+    CANCEL_ROWS,
+    SELECT_ROWS,
+    SCOPE_ROWS,
+    AWAIT_ROWS,
+    FAULT_ROWS,
+    WORD_ROWS,
+];
+
+/// The first row of these tables that does not hold.
+fn first_wrong_of<R: Threads + Wait + Sync>(
+    rt: &R,
+    alloc: Global,
+    tables: &[&str],
+) -> Result<Option<String>, Fail> {
+    for rows in tables {
+        let wrong = first_wrong(rt, alloc, *rows)?;
+        if wrong.is_some() {
+            return Ok(wrong);
+        }
+    }
+    Ok(None)
 }
 
 #[test]
 fn each_script_has_its_status_and_its_text(rt: HostRuntime) -> Result<(), Fail> {
-    let tables = [
-        CHANNEL_ROWS,
-        BUFFER_ROWS,
-        JOB_ROWS,
-        CANCEL_ROWS,
-        SELECT_ROWS,
-        SCOPE_ROWS,
-        AWAIT_ROWS,
-        FAULT_ROWS,
-    ];
-    for rows in tables {
-        assert_eq!(rt; first_wrong(&rt, rt.alloc(), rows)?, None);
-    }
+    let wrong = first_wrong_of(&rt, rt.alloc(), &TABLES)?;
+    assert_eq!(rt; wrong, None);
     Ok(())
+}
+
+/// What a run is answered with whose source gives so many bytes in each call, and whose sink takes as many.
+fn at_pace<R: Threads + Wait + Sync>(rt: &R, alloc: Global, step: u32) -> Result<String, Fail>
+    requires { 1 ≤ step }
+{
+    let script = RENDEZVOUS.as_bytes();
+    let pace = Pace { step, fails: &[] };
+    let (status, written) = answer(rt, alloc, ONE_WORKER, script, pace, pace, &OpenGate)?;
+    in_a_row(alloc, status, "report", written.as_slice())
 }
 
 #[test]
 fn a_source_and_a_sink_may_be_slow(rt: HostRuntime) -> Result<(), Fail> {
-    let words = ["run", "--workers", "1"];
-    let script = RENDEZVOUS.as_bytes();
     for step in [1, 7, 1_000] {
-        let pace = Pace { step, fails: &[] };
-        let (status, written) = answer(&rt, rt.alloc(), &words, script, pace, pace, &OpenGate)?;
-        assert_eq!(rt; written.as_slice(), RENDEZVOUS_REPORT.as_bytes());
-        assert_eq!(rt; status, 0);
+        let found = at_pace(&rt, rt.alloc(), step)?;
+        assert_eq!(rt; found.as_str(), RENDEZVOUS_ANSWER);
     }
     Ok(())
 }
@@ -128,22 +170,35 @@ fn standard_error(alloc: Global, number: u8) -> Result<String, Memory> {
     }
 }
 
+const MESSAGES: [(u8, &str); 8] = [
+    (0, ""),
+    (1, ""),
+    (
+        2,
+        "usage: coroutine_cli run [--workers N] | check | sum --size N [--workers N]",
+    ),
+    (3, ""),
+    (4, ""),
+    (5, "read fault"),
+    (6, "write fault"),
+    (7, "out of memory"),
+];
+
+/// What standard error says of the first of these numbers of which it says something else.
+fn first_other_message(alloc: Global, rows: &[(u8, &str)]) -> Result<Option<String>, Fail> {
+    for (number, text) in rows {
+        let said = standard_error(alloc, *number)?;
+        if said.as_str() != *text {
+            return Ok(Some(said));
+        }
+    }
+    Ok(None)
+}
+
 #[test]
 fn standard_error_says_why_there_is_no_text(rt: HostRuntime) -> Result<(), Fail> {
-    let usage = "usage: coroutine_cli run [--workers N] | check | sum --size N [--workers N]";
-    let rows = [
-        (0, ""),
-        (1, ""),
-        (2, usage),
-        (3, ""),
-        (4, ""),
-        (5, "read fault"),
-        (6, "write fault"),
-        (7, "out of memory"),
-    ];
-    for (number, text) in rows {
-        assert_eq!(rt; standard_error(rt.alloc(), number)?.as_str(), text);
-    }
+    let other = first_other_message(rt.alloc(), &MESSAGES)?;
+    assert_eq!(rt; other, None);
     Ok(())
 }
 
@@ -173,25 +228,25 @@ sum --size 5 --size 5
 sum --size 5 --workers 17
 ";
 
-/// The words of a line.
-fn words_of<'a>(alloc: Global, line: &'a str) -> Result<Vec<&'a str>, Memory> {
-    let mut words = Vec::new(alloc);
-    for word in line.split(' ') {
-        if !word.is_empty() {
-            words.push(word)?;
+/// The first of these lines whose words are not refused, with what they are answered with.
+fn first_taken<R: Threads + Wait + Sync>(
+    rt: &R,
+    alloc: Global,
+    lines: &str,
+) -> Result<Option<String>, Fail> {
+    for line in lines.lines() {
+        let found = found(rt, alloc, line, RENDEZVOUS.as_bytes(), "report")?;
+        if found.as_str() != "2 report\n" {
+            return Ok(Some(format!(in alloc; "{line}\n{found}")?));
         }
     }
-    Ok(words)
+    Ok(None)
 }
 
 #[test]
 fn other_words_are_refused(rt: HostRuntime) -> Result<(), Fail> {
-    for line in REFUSED.lines() {
-        let words = words_of(rt.alloc(), line)?;
-        let (status, written) = at_once(&rt, rt.alloc(), words.as_slice(), RENDEZVOUS.as_bytes())?;
-        assert!(rt; written.is_empty());
-        assert_eq!(rt; status, 2);
-    }
+    let taken = first_taken(&rt, rt.alloc(), REFUSED)?;
+    assert_eq!(rt; taken, None);
     Ok(())
 }
 
@@ -239,131 +294,84 @@ fn beginning(text: &str, front: &str) -> usize {
         .count()
 }
 
+/// How many lines of the answer say that the root ended with 15,000 and that the status is 0, tell of a Job, and tell of an element that
+/// was not received.
+fn added_by<R: Threads + Wait + Sync>(
+    rt: &R,
+    alloc: Global,
+    words: &str,
+) -> Result<[usize; 4], Fail> {
+    let found = found(rt, alloc, words, ADDERS.as_bytes(), "report")?;
+    let text = found.as_str();
+    Ok([
+        beginning(text, "0 report"),
+        beginning(text, "job 0 completed 15000"),
+        beginning(text, "job "),
+        beginning(text, "element "),
+    ])
+}
+
+const BY_WORKERS: &str = "\
+run --workers 1
+run --workers 2
+run --workers 4
+run --workers 16
+";
+
 #[test]
 fn any_number_of_workers_adds_up_the_same(rt: HostRuntime) -> Result<(), Fail> {
-    for workers in ["1", "2", "4", "16"] {
-        let words = ["sum", "--size", "1000", "--workers", workers];
-        let (status, written) = at_once(&rt, rt.alloc(), &words, b"".as_slice())?;
-        assert_eq!(rt; str::from_utf8(written.as_slice())?, SUM_OF_1000);
-        assert_eq!(rt; status, 0);
-        let words = ["run", "--workers", workers];
-        let (status, written) = at_once(&rt, rt.alloc(), &words, ADDERS.as_bytes())?;
-        let text = str::from_utf8(written.as_slice())?;
-        assert_eq!(rt; beginning(text, "job 0 completed 15000"), 1);
-        assert_eq!(rt; beginning(text, "job "), 9);
-        assert_eq!(rt; beginning(text, "element "), 0);
-        assert_eq!(rt; status, 0);
+    for words in BY_WORKERS.lines() {
+        let counts = added_by(&rt, rt.alloc(), words)?;
+        assert_eq!(rt; counts, [1, 1, 9, 0]);
     }
-    Ok(())
-}
-
-#[test]
-fn a_sender_and_a_receiver_meet_by_any_number_of_workers(rt: HostRuntime) -> Result<(), Fail> {
-    for workers in ["2", "4", "16"] {
-        let words = ["run", "--workers", workers];
-        let (status, written) = at_once(&rt, rt.alloc(), &words, RENDEZVOUS.as_bytes())?;
-        let text = told_of(rt.alloc(), "jobs", str::from_utf8(written.as_slice())?)?;
-        assert_eq!(rt;
-            text.as_str(),
-            "job 0 completed 0\njob 1 completed 0\njob 2 completed 0\n"
-        );
-        assert_eq!(rt; status, 0);
-    }
-    Ok(())
-}
-
-const SUM_OF_1000: &str =
-    "jobs 11 completed 11 cancelled 0 received 8000 undelivered 0 dropped 0 withdrawn 0 held 0 result 10000\n";
-
-#[test]
-fn four_workers_where_none_is_said(rt: HostRuntime) -> Result<(), Fail> {
-    let words = ["sum", "--size=1000"];
-    let (status, written) = at_once(&rt, rt.alloc(), &words, b"".as_slice())?;
-    assert_eq!(rt; str::from_utf8(written.as_slice())?, SUM_OF_1000);
-    assert_eq!(rt; status, 0);
-    Ok(())
-}
-
-/// A script with spaces, an empty line and a comment.
-const SPACED: &str = "\
-# two elements
-channel   a buffered
-
-coroutine main
-repeat 2
-send a 1
-end
-end
-";
-
-/// The same in its canonical form.
-const CANONICAL: &str = "\
-channel a buffered 64 places 16384
-coroutine main
-  repeat 2
-    send a 1
-  end
-end
-";
-
-#[test]
-fn a_check_writes_the_canonical_script(rt: HostRuntime) -> Result<(), Fail> {
-    let (status, written) = at_once(&rt, rt.alloc(), &["check"], SPACED.as_bytes())?;
-    assert_eq!(rt; str::from_utf8(written.as_slice())?, CANONICAL);
-    assert_eq!(rt; status, 0);
-    let no_script = [35, 32, 195, 169, 10];
-    let (status, written) = at_once(&rt, rt.alloc(), &["check"], no_script.as_slice())?;
-    assert_eq!(rt; written.as_slice(), b"line 1: NotAscii\n".as_slice());
-    assert_eq!(rt; status, 3);
     Ok(())
 }
 
 #[test]
 fn the_call_without_threads_serves_one_worker(rt: HostRuntime) -> Result<(), Fail> {
-    let (status, written) = answer_alone(
-        rt.alloc(),
-        &["run", "--workers", "1"],
-        RENDEZVOUS.as_bytes(),
-    )?;
-    assert_eq!(rt; str::from_utf8(written.as_slice())?, RENDEZVOUS_REPORT);
-    assert_eq!(rt; status, 0);
-    let (status, written) = answer_alone(rt.alloc(), &["run"], RENDEZVOUS.as_bytes())?;
-    assert!(rt; written.is_empty());
-    assert_eq!(rt; status, 2);
+    let found = found_alone(rt.alloc(), ONE_WORKER, RENDEZVOUS.as_bytes())?;
+    assert_eq!(rt; found.as_str(), RENDEZVOUS_ANSWER);
     Ok(())
+}
+
+#[test]
+fn the_call_without_threads_refuses_several_workers(rt: HostRuntime) -> Result<(), Fail> {
+    let found = found_alone(rt.alloc(), "run", RENDEZVOUS.as_bytes())?;
+    assert_eq!(rt; found.as_str(), "2 report\n");
+    Ok(())
+}
+
+/// What a script is answered with that is one byte too long.
+fn found_of_too_long<R: Threads + Wait + Sync>(rt: &R, alloc: Global) -> Result<String, Fail> {
+    let mut input = Vec::new(alloc);
+    for _ in 0..1_048_577u32 {
+        input.push(b'\n')?;
+    }
+    found(rt, alloc, ONE_WORKER, input.as_slice(), "report")
 }
 
 #[test]
 fn an_input_may_be_too_long(rt: HostRuntime) -> Result<(), Fail> {
-    let mut input = Vec::new(rt.alloc());
-    for _ in 0..1_048_577u32 {
-        input.push(b'\n')?;
-    }
-    let (status, written) = at_once(
-        &rt,
-        rt.alloc(),
-        &["run", "--workers", "1"],
-        input.as_slice(),
-    )?;
-    assert_eq!(rt; written.as_slice(), b"line 1: TooMany\n".as_slice());
-    assert_eq!(rt; status, 3);
+    let found = found_of_too_long(&rt, rt.alloc())?;
+    assert_eq!(rt; found.as_str(), "3 report\nline 1: TooMany\n");
     Ok(())
+}
+
+/// What a script is answered with that comments make as long as it may be.
+fn found_of_longest<R: Threads + Wait + Sync>(rt: &R, alloc: Global) -> Result<String, Fail> {
+    let mut input = Vec::from_slice(alloc, RENDEZVOUS.as_bytes())?;
+    for place in 107..1_048_576u32 {
+        input.push(if place % 64 == 63 { b'\n' } else { b'#' })?;
+    }
+    if input.len() != 1_048_576 {
+        return Err(Fail::new("the script is not as long as it may be"));
+    }
+    found(rt, alloc, ONE_WORKER, input.as_slice(), "report")
 }
 
 #[test]
 fn an_input_may_be_as_long_as_a_script_may(rt: HostRuntime) -> Result<(), Fail> {
-    let mut input = Vec::from_slice(rt.alloc(), RENDEZVOUS.as_bytes())?;
-    for place in 107..1_048_576u32 {
-        input.push(if place % 64 == 63 { b'\n' } else { b'#' })?;
-    }
-    assert_eq!(rt; input.len(), 1_048_576);
-    let (status, written) = at_once(
-        &rt,
-        rt.alloc(),
-        &["run", "--workers", "1"],
-        input.as_slice(),
-    )?;
-    assert_eq!(rt; str::from_utf8(written.as_slice())?, RENDEZVOUS_REPORT);
-    assert_eq!(rt; status, 0);
+    let found = found_of_longest(&rt, rt.alloc())?;
+    assert_eq!(rt; found.as_str(), RENDEZVOUS_ANSWER);
     Ok(())
 }

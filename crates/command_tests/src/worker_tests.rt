@@ -3,7 +3,7 @@
 ghost use Rattle.std.specs.Prelude.{◌≤◌};
 
 use channel_model::{Act, ChannelNote, Settled};
-use co_base::{Memory, OpenGate};
+use co_base::{Memory, OpenGate, Value};
 use engine_many::run_many;
 use engine_one::{run_locked, run_one};
 use job_model::End;
@@ -75,14 +75,24 @@ fn received(books: &[Notes]) -> u32 {
     count
 }
 
-/// How the root has ended, how many books there are, and how many elements were received.
-fn told_of(done: &Done<Notes>) -> (Option<End>, usize, u32) {
+/// The result of a Job that was completed.
+fn result_of(end: Option<End>) -> Option<Value> {
+    match end {
+        Some(End::Completed(value)) => Some(value),
+        Some(End::Cancelled(_)) | None => None,
+    }
+}
+
+/// The result of the root, how many books there are, and how many elements were received.
+type Told = (Option<Value>, usize, u32);
+
+fn told_of(done: &Done<Notes>) -> Told {
     let books = done.books.as_slice();
-    (done.end, books.len(), received(books))
+    (result_of(done.end), books.len(), received(books))
 }
 
 /// What a run by one worker comes to.
-fn by_one(alloc: Global, script: &Script) -> Result<(Option<End>, usize, u32), Memory> {
+fn by_one(alloc: Global, script: &Script) -> Result<Told, Memory> {
     let run = run_one(alloc, script, &OpenGate)?;
     Ok(told_of(&run.done))
 }
@@ -93,7 +103,7 @@ fn by_lock<R: Threads + Wait + Sync>(
     alloc: Global,
     script: &Script,
     workers: u8,
-) -> Result<(Option<End>, usize, u32), Memory>
+) -> Result<Told, Memory>
     requires { (2 ≤ workers) × (workers ≤ 16) }
 {
     let run = run_locked(rt, alloc, script, workers, &OpenGate)?;
@@ -106,37 +116,56 @@ fn over_words<R: Threads + Wait + Sync>(
     alloc: Global,
     script: &Script,
     workers: u8,
-) -> Result<(Option<End>, usize, u32), Memory>
+) -> Result<Told, Memory>
     requires { (2 ≤ workers) × (workers ≤ 16) }
 {
     let run = run_many(rt, alloc, script, workers, &OpenGate)?;
     Ok(told_of(&run.done))
 }
 
+/// What runs by one worker come to, and by two, four and sixteen round one lock and over words.
+fn by_each<R: Threads + Wait + Sync>(
+    rt: &R,
+    alloc: Global,
+    script: &Script,
+) -> Result<[Told; 7], Memory> {
+    Ok([
+        by_one(alloc, script)?,
+        by_lock(rt, alloc, script, 2)?,
+        by_lock(rt, alloc, script, 4)?,
+        by_lock(rt, alloc, script, 16)?,
+        over_words(rt, alloc, script, 2)?,
+        over_words(rt, alloc, script, 4)?,
+        over_words(rt, alloc, script, 16)?,
+    ])
+}
+
+/// How many coroutines and scopes a script has, and what its runs come to.
+fn found_of<R: Threads + Wait + Sync>(
+    rt: &R,
+    alloc: Global,
+    script: Script,
+) -> Result<([u16; 2], [Told; 7]), Memory> {
+    let counts = [script.coroutines(), script.scopes()];
+    Ok((counts, by_each(rt, alloc, &script)?))
+}
+
 #[test]
-fn any_number_of_workers_comes_to_the_same(rt: HostRuntime) -> Result<(), Fail> {
-    let alloc = rt.alloc();
-    let select = script_of(alloc, SELECT_IN_A_SCOPE)?;
-    assert_eq!(rt; select.coroutines(), 3);
-    assert_eq!(rt; select.scopes(), 1);
-    let wanted = (Some(End::Completed(300)), 3, 200);
-    assert_eq!(rt; by_one(alloc, &select)?, wanted);
-    assert_eq!(rt; by_lock(&rt, alloc, &select, 2)?, wanted);
-    assert_eq!(rt; by_lock(&rt, alloc, &select, 4)?, wanted);
-    assert_eq!(rt; by_lock(&rt, alloc, &select, 16)?, wanted);
-    assert_eq!(rt; over_words(&rt, alloc, &select, 2)?, wanted);
-    assert_eq!(rt; over_words(&rt, alloc, &select, 4)?, wanted);
-    assert_eq!(rt; over_words(&rt, alloc, &select, 16)?, wanted);
-    let pipeline = generate(alloc, 1000)?;
-    assert_eq!(rt; pipeline.coroutines(), 10);
-    assert_eq!(rt; pipeline.scopes(), 1);
-    let wanted = (Some(End::Completed(10_000)), 10, 8_000);
-    assert_eq!(rt; by_one(alloc, &pipeline)?, wanted);
-    assert_eq!(rt; by_lock(&rt, alloc, &pipeline, 2)?, wanted);
-    assert_eq!(rt; by_lock(&rt, alloc, &pipeline, 4)?, wanted);
-    assert_eq!(rt; by_lock(&rt, alloc, &pipeline, 16)?, wanted);
-    assert_eq!(rt; over_words(&rt, alloc, &pipeline, 2)?, wanted);
-    assert_eq!(rt; over_words(&rt, alloc, &pipeline, 4)?, wanted);
-    assert_eq!(rt; over_words(&rt, alloc, &pipeline, 16)?, wanted);
+fn a_select_in_a_scope_comes_to_the_same_by_any_number_of_workers(
+    rt: HostRuntime,
+) -> Result<(), Fail> {
+    let script = script_of(rt.alloc(), SELECT_IN_A_SCOPE)?;
+    let found = found_of(&rt, rt.alloc(), script)?;
+    let told = (Some(300), 3, 200);
+    assert_eq!(rt; found, ([3, 1], [told; 7]));
+    Ok(())
+}
+
+#[test]
+fn a_pipeline_comes_to_the_same_by_any_number_of_workers(rt: HostRuntime) -> Result<(), Fail> {
+    let script = generate(rt.alloc(), 1000)?;
+    let found = found_of(&rt, rt.alloc(), script)?;
+    let told = (Some(10_000), 10, 8_000);
+    assert_eq!(rt; found, ([10, 1], [told; 7]));
     Ok(())
 }

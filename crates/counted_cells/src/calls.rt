@@ -34,6 +34,8 @@ impl Counted {
     }
 
     /// Draws a cell and receives there: waits for the sender of the cell, or meets it.
+    ///
+    /// Example: `two_sends` in `docs/LIBRARY.md`.
     pub fn receive(&self, pass: &mut CountedPass) -> CountedGot
         requires of { IsOf self.now pass.old }
         ensures of { IsOf self.now pass.new }

@@ -14,6 +14,8 @@ use worded::{end, new_history, split};
 
 impl Counted {
     /// So many free cells, and the first pass, whose number is 0.
+    ///
+    /// Example: `two_sends` in `docs/LIBRARY.md`.
     pub fn new(alloc: Global, cells: u32) -> Result<(Counted, CountedPass), Memory>
         requires cells { (0 < cells) × (cells ≤ 1048576) }
         ensures of { IfOk result (λ r. IsOf r.0 r.1) }
@@ -38,6 +40,8 @@ impl Counted {
     }
 
     /// A further pass, which has seen what the first one has seen, and has made no entry.
+    ///
+    /// Example: `two_sends` in `docs/LIBRARY.md`.
     pub fn split(&self, pass: &mut CountedPass) -> CountedPass
         requires of { IsOf self.now pass.old }
         requires first { IsFirst pass.old }

@@ -1,7 +1,7 @@
 //! All coroutines of a script by several workers, without a lock.
 //!
 //! Each coroutine is a task: its frame, and a floor of channels and one of Jobs that it alone calls. The workers of `task_crew` poll the
-//! tasks; whom a poll wakes gets a ticket. A coroutine that is ready is polled several times behind one another.
+//! tasks; whom a poll wakes gets a ticket. A coroutine that is ready is polled several times in a row.
 //!
 //! **The last round.** When no ticket is left all workers end, and the calling thread holds a last round: the floors hear of one another,
 //! so that each has seen all; then each coroutine is polled once. If that came to nothing all floors hear of one another once more, which

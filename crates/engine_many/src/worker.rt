@@ -12,7 +12,7 @@ use shared_floors::{SharedChannels, SharedJobs};
 use std::marker::PhantomData;
 use task_crew::{Polls, Tickets};
 
-/// How many polls of one coroutine come behind one another while it is ready, before it goes back to its berth. So the way to it is paid
+/// How many polls of one coroutine come one after another while it is ready, before it goes back to its berth. So the way to it is paid
 /// once for several lines, and one that never waits keeps no worker for good.
 const POLLS_IN_A_ROW: u32 = 64;
 

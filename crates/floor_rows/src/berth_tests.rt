@@ -52,16 +52,17 @@ fn a_seat_that_is_asked_hears_it_when_it_leaves(rt: HostRuntime) -> Result<(), F
     let Taken::Busy = berths.take(&mut b, 0) else {
         panic!(rt; "task 0 is not away still")
     };
-    assert_eq!(rt; berths.leave(&mut a, 0, job), true);
-    assert_eq!(rt; berths.leave(&mut a, 1, other), false);
+    let asked = berths.leave(&mut a, 0, job);
+    let other_asked = berths.leave(&mut a, 1, other);
     let Taken::Task(job) = berths.take(&mut b, 0) else {
         panic!(rt; "task 0 did not come home")
     };
-    assert_eq!(rt; job.tag(), 0);
-    assert_eq!(rt; berths.leave(&mut b, 0, job), false);
+    let tag = job.tag();
+    let last_asked = berths.leave(&mut b, 0, job);
     berths.end(&mut a, b);
     let jobs = berths.close(a);
-    assert_eq!(rt; jobs.len(), 2);
+    let found = ([asked, other_asked, last_asked], tag, jobs.len());
+    assert_eq!(rt; found, ([true, false, false], 0, 2));
     Ok(())
 }
 
@@ -151,21 +152,6 @@ fn visit_by_two<R: Threads + Wait + Sync>(
     )
 }
 
-/// The tasks after the visits, and what became of these.
-fn visited<R: Threads + Wait + Sync>(
-    rt: &R,
-    alloc: Global,
-    times: u32,
-) -> Result<(Vec<Job>, Visits, Visits), Memory> {
-    let (berths, mut main) = Berths::new(two_jobs(alloc)?)?;
-    let a = berths.split(&mut main);
-    let b = berths.split(&mut main);
-    let ((a, by_a), (b, by_b)) = visit_by_two(rt, &berths, a, b, times);
-    berths.end(&mut main, a);
-    berths.end(&mut main, b);
-    Ok((berths.close(main), by_a, by_b))
-}
-
 /// The visits that the tasks counted.
 fn counted(jobs: &[Job]) -> u64 {
     let mut sum = 0u64;
@@ -175,15 +161,34 @@ fn counted(jobs: &[Job]) -> u64 {
     sum
 }
 
+/// How many visits the tasks counted, and what became of those of each thread.
+fn visited<R: Threads + Wait + Sync>(
+    rt: &R,
+    alloc: Global,
+    times: u32,
+) -> Result<(u64, Visits, Visits), Memory> {
+    let (berths, mut main) = Berths::new(two_jobs(alloc)?)?;
+    let a = berths.split(&mut main);
+    let b = berths.split(&mut main);
+    let ((a, by_a), (b, by_b)) = visit_by_two(rt, &berths, a, b, times);
+    berths.end(&mut main, a);
+    berths.end(&mut main, b);
+    let jobs = berths.close(main);
+    Ok((counted(jobs.as_slice()), by_a, by_b))
+}
+
 #[test]
 fn no_visit_of_two_threads_is_lost_and_no_leave_was_asked_without_a_busy_take(
     rt: HostRuntime,
 ) -> Result<(), Fail> {
-    let (jobs, a, b) = visited(&rt, rt.alloc(), 20_000)?;
-    assert_eq!(rt; counted(jobs.as_slice()), a.made.wrapping_add(b.made));
-    assert_eq!(rt; a.made.wrapping_add(a.busy), 40_000);
-    assert_eq!(rt; b.made.wrapping_add(b.busy), 40_000);
-    assert!(rt; a.asked <= b.busy);
-    assert!(rt; b.asked <= a.busy);
+    let (counted, a, b) = visited(&rt, rt.alloc(), 20_000)?;
+    let visits = [a.made.wrapping_add(a.busy), b.made.wrapping_add(b.busy)];
+    let unasked = [a.asked > b.busy, b.asked > a.busy];
+    let wanted = (
+        a.made.wrapping_add(b.made),
+        [40_000, 40_000],
+        [false, false],
+    );
+    assert_eq!(rt; (counted, visits, unasked), wanted);
     Ok(())
 }

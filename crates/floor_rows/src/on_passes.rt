@@ -394,25 +394,43 @@ fn four_threads_lose_no_call_and_no_element(rt: HostRuntime) -> Result<(), Fail>
     let taken = c.tally.met.wrapping_add(d.tally.met);
     let waiting = c.tally.waits.wrapping_add(d.tally.waits);
     let received = c.tally.received.wrapping_add(d.tally.received);
-    assert_eq!(rt; handed.wrapping_add(held), 2000);
-    assert_eq!(rt; taken.wrapping_add(waiting), 2000);
     let (a, of_a) = waits_after(&hub, a);
     let (b, of_b) = waits_after(&hub, b);
     let (c, of_c) = waits_after(&hub, c);
     let (d, of_d) = waits_after(&hub, d);
-    assert_eq!(rt; of_a.resolved.wrapping_add(of_b.resolved), taken);
-    assert_eq!(rt; of_c.resolved.wrapping_add(of_d.resolved), handed);
-    // As many offered as received, so that nobody is left on either side.
-    assert_eq!(rt; of_a.standing.wrapping_add(of_b.standing), 0);
-    assert_eq!(rt; of_c.standing.wrapping_add(of_d.standing), 0);
+    let resolved = [
+        of_a.resolved.wrapping_add(of_b.resolved),
+        of_c.resolved.wrapping_add(of_d.resolved),
+    ];
+    let standing = [
+        of_a.standing.wrapping_add(of_b.standing),
+        of_c.standing.wrapping_add(of_d.standing),
+    ];
     let by_a = end_and_settle(&hub, &mut main, a);
     let by_b = end_and_settle(&hub, &mut main, b);
     let by_c = end_and_settle(&hub, &mut main, c);
     let by_d = end_and_settle(&hub, &mut main, d);
-    assert_eq!(rt; by_a.sent.wrapping_add(by_b.sent), taken);
-    assert_eq!(rt; by_c.handed.wrapping_add(by_d.handed), handed);
+    let settled = [
+        by_a.sent.wrapping_add(by_b.sent),
+        by_c.handed.wrapping_add(by_d.handed),
+    ];
     let later = by_c.received.wrapping_add(by_d.received);
-    // Each of the elements 0 to 1,999 was received once.
-    assert_eq!(rt; received.wrapping_add(later), 1999000);
+    let calls = [handed.wrapping_add(held), taken.wrapping_add(waiting)];
+    let found = [
+        calls,
+        resolved,
+        standing,
+        settled,
+        [received.wrapping_add(later), 0],
+    ];
+    // As many offered as received, so that nobody is left on either side, and each of the elements 0 to 1,999 was received once.
+    let wanted = [
+        [2000, 2000],
+        [taken, handed],
+        [0, 0],
+        [taken, handed],
+        [1999000, 0],
+    ];
+    assert_eq!(rt; found, wanted);
     Ok(())
 }

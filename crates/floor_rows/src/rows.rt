@@ -356,39 +356,44 @@ fn what_came_first_is_kept(rt: HostRuntime) -> Result<(), Fail> {
 #[test]
 fn an_offer_is_kept_and_a_cancelled_channel_is_emptied(rt: HostRuntime) -> Result<(), Fail> {
     let kind = Kind::Buffered(1);
-    assert_eq!(rt; right_on_list(rt.alloc(), kind, 3, &KEPT), Ok(14));
-    assert_eq!(rt; right_on_hub(rt.alloc(), kind, 3, &KEPT), Ok(14));
+    let on_list = right_on_list(rt.alloc(), kind, 3, &KEPT)?;
+    let on_hub = right_on_hub(rt.alloc(), kind, 3, &KEPT)?;
+    assert_eq!(rt; [on_list, on_hub], [14, 14]);
     Ok(())
 }
 
 #[test]
 fn a_receiver_is_told_where_no_place_is_left(rt: HostRuntime) -> Result<(), Fail> {
     let kind = Kind::Rendezvous;
-    assert_eq!(rt; right_on_list(rt.alloc(), kind, 1, &SPENT), Ok(8));
-    assert_eq!(rt; right_on_hub(rt.alloc(), kind, 1, &SPENT), Ok(8));
+    let on_list = right_on_list(rt.alloc(), kind, 1, &SPENT)?;
+    let on_hub = right_on_hub(rt.alloc(), kind, 1, &SPENT)?;
+    assert_eq!(rt; [on_list, on_hub], [8, 8]);
     Ok(())
 }
 
 #[test]
 fn a_withdraw_comes_too_late(rt: HostRuntime) -> Result<(), Fail> {
     let kind = Kind::Rendezvous;
-    assert_eq!(rt; right_on_list(rt.alloc(), kind, 4, &LATE), Ok(4));
-    assert_eq!(rt; right_on_hub(rt.alloc(), kind, 4, &LATE), Ok(4));
+    let on_list = right_on_list(rt.alloc(), kind, 4, &LATE)?;
+    let on_hub = right_on_hub(rt.alloc(), kind, 4, &LATE)?;
+    assert_eq!(rt; [on_list, on_hub], [4, 4]);
     Ok(())
 }
 
 #[test]
 fn who_withdrew_is_passed_by(rt: HostRuntime) -> Result<(), Fail> {
     let kind = Kind::Rendezvous;
-    assert_eq!(rt; right_on_list(rt.alloc(), kind, 4, &WITHDRAWN), Ok(8));
-    assert_eq!(rt; right_on_hub(rt.alloc(), kind, 4, &WITHDRAWN), Ok(8));
+    let on_list = right_on_list(rt.alloc(), kind, 4, &WITHDRAWN)?;
+    let on_hub = right_on_hub(rt.alloc(), kind, 4, &WITHDRAWN)?;
+    assert_eq!(rt; [on_list, on_hub], [8, 8]);
     Ok(())
 }
 
 #[test]
 fn elements_are_received_in_the_order_of_their_offers(rt: HostRuntime) -> Result<(), Fail> {
     let kind = Kind::Buffered(1);
-    assert_eq!(rt; right_on_list(rt.alloc(), kind, 4, &RECEIVED), Ok(7));
-    assert_eq!(rt; right_on_hub(rt.alloc(), kind, 4, &RECEIVED), Ok(7));
+    let on_list = right_on_list(rt.alloc(), kind, 4, &RECEIVED)?;
+    let on_hub = right_on_hub(rt.alloc(), kind, 4, &RECEIVED)?;
+    assert_eq!(rt; [on_list, on_hub], [7, 7]);
     Ok(())
 }

@@ -78,15 +78,17 @@ fn a_select_at_two_channels_is_taken_at_one(rt: HostRuntime) -> Result<(), Fail>
     let mut a = hub.split(&mut main, 1);
     let mut b = hub.split(&mut main, 2);
     let first = begin(&hub, &mut a, 1);
-    assert_eq!(rt; first, Some(0));
-    assert_eq!(rt; join(&hub, &mut a, 1, first), Some(Registered::Stands(0)));
-    assert_eq!(rt; offer(&hub, &mut b, 2, 1, 7), Offered::Handed(0, 1));
+    let second = join(&hub, &mut a, 1, first);
     // At the other channel it stands no more.
-    assert_eq!(rt; offer(&hub, &mut b, 2, 0, 8), Offered::Held(1));
-    assert_eq!(rt;
-        settle(&hub, &mut a, 1, 0, false),
-        Some(Settled::Value(2, 7))
+    let offered = [offer(&hub, &mut b, 2, 1, 7), offer(&hub, &mut b, 2, 0, 8)];
+    let settled = settle(&hub, &mut a, 1, 0, false);
+    let wanted = (
+        Some(0),
+        Some(Registered::Stands(0)),
+        [Offered::Handed(0, 1), Offered::Held(1)],
+        Some(Settled::Value(2, 7)),
     );
+    assert_eq!(rt; (first, second, offered, settled), wanted);
     Ok(())
 }
 
@@ -97,10 +99,15 @@ fn a_select_that_was_withdrawn_stands_nowhere(rt: HostRuntime) -> Result<(), Fai
     let mut a = hub.split(&mut main, 1);
     let mut b = hub.split(&mut main, 2);
     let first = begin(&hub, &mut a, 1);
-    assert_eq!(rt; join(&hub, &mut a, 1, first), Some(Registered::Stands(0)));
-    assert_eq!(rt; withdraw(&hub, &mut a, 1, 0), Some(Withdrawn::Done(1)));
-    assert_eq!(rt; offer(&hub, &mut b, 2, 0, 5), Offered::Put(1));
-    assert_eq!(rt; offer(&hub, &mut b, 2, 1, 6), Offered::Put(1));
+    let second = join(&hub, &mut a, 1, first);
+    let withdrawn = withdraw(&hub, &mut a, 1, 0);
+    let offered = [offer(&hub, &mut b, 2, 0, 5), offer(&hub, &mut b, 2, 1, 6)];
+    let wanted = (
+        Some(Registered::Stands(0)),
+        Some(Withdrawn::Done(1)),
+        [Offered::Put(1), Offered::Put(1)],
+    );
+    assert_eq!(rt; (second, withdrawn, offered), wanted);
     Ok(())
 }
 
@@ -111,19 +118,26 @@ fn a_clause_is_not_placed_where_its_select_was_resolved(rt: HostRuntime) -> Resu
     let mut a = hub.split(&mut main, 1);
     let mut b = hub.split(&mut main, 2);
     let first = begin(&hub, &mut a, 1);
-    assert_eq!(rt; first, Some(0));
-    assert_eq!(rt; offer(&hub, &mut b, 2, 0, 5), Offered::Handed(0, 1));
-    assert_eq!(rt; join(&hub, &mut a, 1, first), Some(Registered::Resolved));
-    // It waits even where the channel would keep the element, and is the partner of who receives.
-    assert_eq!(rt; begin_to_send(&hub, &mut b, 2, 1, 6), Registered::Stands(0));
-    assert_eq!(rt;
+    let offered = offer(&hub, &mut b, 2, 0, 5);
+    let second = join(&hub, &mut a, 1, first);
+    // The sender waits even where the channel would keep the element, and is the partner of who receives.
+    let registered = [
+        begin_to_send(&hub, &mut b, 2, 1, 6),
         begin_to_receive(&hub, &mut a, 1, 1),
-        Registered::Partner(0)
-    );
-    assert_eq!(rt; begin_to_receive(&hub, &mut a, 1, 0), Registered::Stands(1));
-    assert_eq!(rt;
+        begin_to_receive(&hub, &mut a, 1, 0),
         begin_to_send(&hub, &mut b, 2, 0, 7),
-        Registered::Partner(1)
+    ];
+    let wanted = (
+        Some(0),
+        Offered::Handed(0, 1),
+        Some(Registered::Resolved),
+        [
+            Registered::Stands(0),
+            Registered::Partner(0),
+            Registered::Stands(1),
+            Registered::Partner(1),
+        ],
     );
+    assert_eq!(rt; (first, offered, second, registered), wanted);
     Ok(())
 }

@@ -11,7 +11,7 @@ use cell_calls::Desk;
 use cell_words::{Hub, Pass};
 use channel_calls::Caller;
 use channel_model::{Act, ChannelFloor, ChannelNote, Kind, Settled, WaitState, Why};
-use co_base::{ChannelId, Memory, Tag, Value, WaitId, Wakes};
+use co_base::{Memory, Tag, Value, WaitId, Wakes};
 use floor_tests::{Beside, Between, OTHER, OtherCall};
 use note_book::{Item, NoteBook, Notes};
 use one_thread_floor::ListFloor;
@@ -32,7 +32,7 @@ impl Wakes for NoWakes {
 pub(crate) const USER: Tag = 1;
 
 /// What a select came to.
-#[derive(Clone, Copy, Debug, PartialEq, Eq)]
+#[derive(Clone, Copy, PartialEq, Eq)]
 pub(crate) struct Found {
     pub(crate) answer: SelectAnswer,
     held: Option<WaitId>,
@@ -195,31 +195,51 @@ const FIRST: WaitId = WaitId {
     place: 0,
 };
 
-fn made(act: Act) -> Item {
-    Item::Channel(ChannelNote::Made(act))
+/// Whether a book has these notes of channels, and no others.
+fn has_noted(book: &Notes, wanted: &[ChannelNote]) -> bool {
+    let items = book.items();
+    if items.len() != wanted.len() {
+        return false;
+    }
+    for (item, note) in items.iter().zip(wanted.iter()) {
+        let Item::Channel(found) = item else {
+            return false;
+        };
+        if found != note {
+            return false;
+        }
+    }
+    true
 }
 
-fn is_empty(c: ChannelId) -> Item {
-    Item::Channel(ChannelNote::Empty { c })
-}
+const FIRST_IS_EMPTY: ChannelNote = ChannelNote::Empty { c: 0 };
+
+const SECOND_IS_EMPTY: ChannelNote = ChannelNote::Empty { c: 1 };
 
 /// The first clause was placed.
-fn placed() -> Item {
-    made(Act::Await {
-        c: 0,
-        place: 0,
-        main: FIRST,
-        clause: 1,
-    })
-}
+const PLACED: ChannelNote = ChannelNote::Made(Act::Await {
+    c: 0,
+    place: 0,
+    main: FIRST,
+    clause: 1,
+});
 
 /// An offer stands at the first place of the second channel.
-fn has_partner() -> Item {
-    Item::Channel(ChannelNote::Partner { c: 1, place: 0 })
-}
+const HAS_PARTNER: ChannelNote = ChannelNote::Partner { c: 1, place: 0 };
 
-fn settled(outcome: Settled) -> Item {
-    made(Act::Settle { w: FIRST, outcome })
+/// The first clause was taken back.
+const WITHDRAWN: ChannelNote = ChannelNote::Made(Act::Withdraw {
+    w: FIRST,
+    why: Why::Revoked,
+});
+
+macro_rules! settled {
+    ($outcome:expr) => {
+        ChannelNote::Made(Act::Settle {
+            w: FIRST,
+            outcome: $outcome,
+        })
+    };
 }
 
 /// Nothing of the select stands any more.
@@ -228,22 +248,6 @@ const AGAIN: Found = Found {
     held: None,
     ended: None,
 };
-
-/// What a select notes that took its first clause back for this.
-fn taken_back(change: Item) -> [Item; 6] {
-    let withdrawn = Act::Withdraw {
-        w: FIRST,
-        why: Why::Revoked,
-    };
-    [
-        is_empty(0),
-        is_empty(1),
-        placed(),
-        change,
-        made(withdrawn),
-        settled(Settled::Cancelled),
-    ]
-}
 
 /// The select waited, and its first clause received this.
 fn received_first(value: Value) -> Found {
@@ -255,114 +259,154 @@ fn received_first(value: Value) -> Found {
 }
 
 /// A call before the second clause is placed, and one before the call that follows.
-fn at_second_clause(call: OtherCall, next: OtherCall) -> [OtherCall; 5] {
-    [
-        OtherCall::Nothing,
-        OtherCall::Nothing,
-        OtherCall::Nothing,
-        call,
-        next,
-    ]
+macro_rules! at_second_clause {
+    ($call:expr, $next:expr) => {
+        [
+            OtherCall::Nothing,
+            OtherCall::Nothing,
+            OtherCall::Nothing,
+            $call,
+            $next,
+        ]
+    };
 }
+
+/// What a select notes that took its first clause back for this.
+macro_rules! taken_back {
+    ($change:expr) => {
+        [
+            FIRST_IS_EMPTY,
+            SECOND_IS_EMPTY,
+            PLACED,
+            $change,
+            WITHDRAWN,
+            settled!(Settled::Cancelled),
+        ]
+    };
+}
+
+/// Whether a select between whose calls the other makes these comes to this, and whether it notes these notes: on lists, and over a hub.
+fn comes_to(
+    alloc: Global,
+    calls: [OtherCall; 5],
+    wanted: Found,
+    noted: &[ChannelNote],
+) -> Result<[bool; 4], Memory> {
+    let (on_lists, on_lists_noted) = select_between(alloc, calls)?;
+    let (over_hub, over_hub_noted) = select_beside(alloc, calls)?;
+    Ok([
+        on_lists == wanted,
+        has_noted(&on_lists_noted, noted),
+        over_hub == wanted,
+        has_noted(&over_hub_noted, noted),
+    ])
+}
+
+/// All of it holds.
+const ALL: [bool; 4] = [true, true, true, true];
+
+const OFFERED: [OtherCall; 5] = at_second_clause!(
+    OtherCall::Offer { c: 1, value: 6 },
+    OtherCall::Nothing
+);
+
+const TAKEN_BACK_FOR_AN_OFFER: [ChannelNote; 6] = taken_back!(HAS_PARTNER);
 
 #[test]
 fn a_select_looks_again_where_an_offer_came_before_its_second_clause(
     rt: HostRuntime,
 ) -> Result<(), Fail> {
-    let offer = OtherCall::Offer { c: 1, value: 6 };
-    let calls = at_second_clause(offer, OtherCall::Nothing);
-    let (found, book) = select_between(rt.alloc(), calls)?;
-    assert_eq!(rt; found, AGAIN);
-    assert!(rt; book.items() == taken_back(has_partner()).as_slice());
-    let (found, book) = select_beside(rt.alloc(), calls)?;
-    assert_eq!(rt; found, AGAIN);
-    assert!(rt; book.items() == taken_back(has_partner()).as_slice());
+    let found = comes_to(rt.alloc(), OFFERED, AGAIN, &TAKEN_BACK_FOR_AN_OFFER)?;
+    assert_eq!(rt; found, ALL);
     Ok(())
 }
+
+const CLOSED: [OtherCall; 5] = at_second_clause!(
+    OtherCall::Close { c: 1, v: 4 },
+    OtherCall::Nothing
+);
+
+const TAKEN_BACK_FOR_A_CLOSE: [ChannelNote; 6] = taken_back!(ChannelNote::ReceiveClosed {
+    c: 1,
+    v: 4
+});
 
 #[test]
 fn a_select_looks_again_where_its_second_channel_was_closed(rt: HostRuntime) -> Result<(), Fail> {
-    let close = OtherCall::Close { c: 1, v: 4 };
-    let calls = at_second_clause(close, OtherCall::Nothing);
-    let closed = Item::Channel(ChannelNote::ReceiveClosed { c: 1, v: 4 });
-    let (found, book) = select_between(rt.alloc(), calls)?;
-    assert_eq!(rt; found, AGAIN);
-    assert!(rt; book.items() == taken_back(closed).as_slice());
-    let (found, book) = select_beside(rt.alloc(), calls)?;
-    assert_eq!(rt; found, AGAIN);
-    assert!(rt; book.items() == taken_back(closed).as_slice());
+    let found = comes_to(rt.alloc(), CLOSED, AGAIN, &TAKEN_BACK_FOR_A_CLOSE)?;
+    assert_eq!(rt; found, ALL);
     Ok(())
 }
 
-#[test]
-fn a_select_takes_what_was_offered_after_its_first_try(rt: HostRuntime) -> Result<(), Fail> {
-    let offer = OtherCall::Offer { c: 1, value: 6 };
-    let calls = [
-        OtherCall::Nothing,
-        offer,
-        OtherCall::Nothing,
-        OtherCall::Nothing,
-        OtherCall::Nothing,
-    ];
-    let wanted = Found {
-        answer: SelectAnswer::Chosen(2, Outcome::Value(6)),
-        held: None,
-        ended: None,
-    };
-    let taken = Act::Take {
+const OFFERED_EARLY: [OtherCall; 5] = [
+    OtherCall::Nothing,
+    OtherCall::Offer { c: 1, value: 6 },
+    OtherCall::Nothing,
+    OtherCall::Nothing,
+    OtherCall::Nothing,
+];
+
+const SECOND_CHOSEN: Found = Found {
+    answer: SelectAnswer::Chosen(2, Outcome::Value(6)),
+    held: None,
+    ended: None,
+};
+
+const TAKEN: [ChannelNote; 2] = [
+    FIRST_IS_EMPTY,
+    ChannelNote::Made(Act::Take {
         c: 1,
         place: 0,
         value: 6,
-    };
-    let (found, book) = select_between(rt.alloc(), calls)?;
-    assert_eq!(rt; found, wanted);
-    assert!(rt; book.items() == [is_empty(0), made(taken)].as_slice());
-    let (found, book) = select_beside(rt.alloc(), calls)?;
-    assert_eq!(rt; found, wanted);
-    assert!(rt; book.items() == [is_empty(0), made(taken)].as_slice());
+    }),
+];
+
+#[test]
+fn a_select_takes_what_was_offered_after_its_first_try(rt: HostRuntime) -> Result<(), Fail> {
+    let found = comes_to(rt.alloc(), OFFERED_EARLY, SECOND_CHOSEN, &TAKEN)?;
+    assert_eq!(rt; found, ALL);
     Ok(())
 }
 
+const RESOLVED: [OtherCall; 5] = at_second_clause!(
+    OtherCall::Offer { c: 0, value: 6 },
+    OtherCall::Nothing
+);
+
+const PLACES_NO_MORE: [ChannelNote; 5] = [
+    FIRST_IS_EMPTY,
+    SECOND_IS_EMPTY,
+    PLACED,
+    ChannelNote::MainResolved { w: FIRST },
+    settled!(Settled::Value(1, 6)),
+];
+
 #[test]
 fn a_select_that_was_resolved_places_no_more(rt: HostRuntime) -> Result<(), Fail> {
-    let offer = OtherCall::Offer { c: 0, value: 6 };
-    let calls = at_second_clause(offer, OtherCall::Nothing);
-    let noted = [
-        is_empty(0),
-        is_empty(1),
-        placed(),
-        Item::Channel(ChannelNote::MainResolved { w: FIRST }),
-        settled(Settled::Value(1, 6)),
-    ];
-    let (found, book) = select_between(rt.alloc(), calls)?;
-    assert_eq!(rt; found, received_first(6));
-    assert!(rt; book.items() == noted.as_slice());
-    let (found, book) = select_beside(rt.alloc(), calls)?;
-    assert_eq!(rt; found, received_first(6));
-    assert!(rt; book.items() == noted.as_slice());
+    let found = comes_to(rt.alloc(), RESOLVED, received_first(6), &PLACES_NO_MORE)?;
+    assert_eq!(rt; found, ALL);
     Ok(())
 }
+
+const BOTH_OFFERED: [OtherCall; 5] = at_second_clause!(
+    OtherCall::Offer { c: 1, value: 6 },
+    OtherCall::Offer { c: 0, value: 7 }
+);
+
+const TOO_LATE: [ChannelNote; 6] = [
+    FIRST_IS_EMPTY,
+    SECOND_IS_EMPTY,
+    PLACED,
+    HAS_PARTNER,
+    ChannelNote::Late { w: FIRST },
+    settled!(Settled::Value(1, 7)),
+];
 
 #[test]
 fn a_select_waits_where_it_came_too_late_to_take_its_wait_back(
     rt: HostRuntime,
 ) -> Result<(), Fail> {
-    let second = OtherCall::Offer { c: 1, value: 6 };
-    let first = OtherCall::Offer { c: 0, value: 7 };
-    let calls = at_second_clause(second, first);
-    let noted = [
-        is_empty(0),
-        is_empty(1),
-        placed(),
-        has_partner(),
-        Item::Channel(ChannelNote::Late { w: FIRST }),
-        settled(Settled::Value(1, 7)),
-    ];
-    let (found, book) = select_between(rt.alloc(), calls)?;
-    assert_eq!(rt; found, received_first(7));
-    assert!(rt; book.items() == noted.as_slice());
-    let (found, book) = select_beside(rt.alloc(), calls)?;
-    assert_eq!(rt; found, received_first(7));
-    assert!(rt; book.items() == noted.as_slice());
+    let found = comes_to(rt.alloc(), BOTH_OFFERED, received_first(7), &TOO_LATE)?;
+    assert_eq!(rt; found, ALL);
     Ok(())
 }

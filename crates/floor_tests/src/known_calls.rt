@@ -10,7 +10,7 @@ use channel_model::{
 use co_base::{Memory, Place, Tag, Value, WaitId};
 
 /// What callers know of a channel.
-#[derive(Clone, Copy, Debug)]
+#[derive(Clone, Copy)]
 pub struct Known {
     /// Whether a wait of theirs began, whose it is, and at which place: that of the last that began.
     pub owns: bool,
@@ -21,7 +21,7 @@ pub struct Known {
 }
 
 /// A call, and what it answers. A look, a withdraw and a settle are of the wait that began last.
-#[derive(Clone, Copy, Debug)]
+#[derive(Clone, Copy)]
 pub enum Call {
     Offer(Value, Offered),
     Receive(Got),

@@ -12,7 +12,7 @@ use std::collections::VecDeque;
 pub const OTHER: Tag = 2;
 
 /// What the other does before a call of the user.
-#[derive(Clone, Copy, Debug, PartialEq, Eq)]
+#[derive(Clone, Copy)]
 pub enum OtherCall {
     Nothing,
     /// Offers an element, and waits where the channel keeps no more.

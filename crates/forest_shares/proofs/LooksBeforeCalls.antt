@@ -17,21 +17,6 @@ use Rattle.job_model.proofs.Lasting.{Lasts, attached_lasts, parent_lasts, tag_la
 use Rattle.job_model.proofs.Own.{prefix_keeps, own_body_kept}
 use Rattle.job_tree.proofs.Looks.{moment_legal, holds_later, link_is}
 
-is_seen : (x : Option Job) (v : JobView) → option_map view_of x ≡ Some v → is_some x ≡ true
-is_seen None v e = cc
-is_seen (Some j) v e = refl
-
--- what was seen is attached
-pub seen_attached : (who row : ℕ) (v : JobView) (a b : Floor) → Legal b.shape b.seen → LookAnswer who row a b (Some v) → is_some (replay b.seen row) ≡ true
-seen_attached who row v a b l k =
-    let m = k.1 in
-    prefix_keeps _ attached_lasts b.shape m.moment b.seen row l m.before (is_seen (replay m.moment row) v m.holds)
-
--- the root is attached
-pub root_attached : (shape : Shape) (es : List JobEntry) → Legal shape es → is_some (replay es 0) ≡ true
-unfolding replay_from
-root_attached shape es l = prefix_keeps _ attached_lasts shape [] es 0 l (es, refl) refl
-
 -- ---- the own body
 
 linked_tag : (tree : Tree) (r : ℕ) (x : Option Job) (l : Link) → link_of tree r x ≡ Some l → tag_of x ≡ Some l.tag

@@ -13,7 +13,7 @@ use note_book::{NoteBook, Notes};
 use std::alloc::Global;
 
 /// A call that one tag makes.
-#[derive(Clone, Copy, Debug, PartialEq, Eq)]
+#[derive(Clone, Copy)]
 pub enum Call {
     Attach {
         parent: Row,
@@ -49,7 +49,7 @@ pub enum Call {
 }
 
 /// What a call answers.
-#[derive(Clone, Copy, Debug, PartialEq, Eq)]
+#[derive(Clone, Copy, PartialEq)]
 pub enum Answer {
     /// The call may not be made.
     NotMade,

@@ -23,7 +23,7 @@ pub struct Share {
 }
 
 /// What is done with each tag of a share.
-#[derive(Clone, Copy, Debug, PartialEq, Eq)]
+#[derive(Clone, Copy, Debug)]
 pub enum Work {
     /// Its Job is attached to the root.
     Attach,

@@ -43,6 +43,8 @@ impl<'a, R> HostDrive<'a, R> {
     ghost use Rattle.future_bridge.specs.Drives.{host_faults};
 
     /// A drive that has not failed.
+    ///
+    /// Example: `through_a_channel` in `docs/LIBRARY.md`.
     pub fn new(rt: &'a R) -> HostDrive<'a, R>
         ensures { host_faults result ≡ 0 }
     {

@@ -33,6 +33,8 @@ pub struct SendList<'hub, 'list> {
 
 impl<'hub, 'list> SendList<'hub, 'list> {
     /// A future that sent nothing yet.
+    ///
+    /// Example: `at_a_rendezvous` in `docs/LIBRARY.md`.
     pub fn new(sink: SendSink<'hub>, values: &'list [Value]) -> SendList<'hub, 'list>
         ensures sink { result.sink ≡ Some sink.entry }
         ensures values { result.values.now ≡ values.now }

@@ -42,6 +42,8 @@ pub struct ReceiveStream<'a> {
 
 impl<'a> ReceiveStream<'a> {
     /// A stream that received nothing yet. It calls as the coroutine `who`, which has this pass.
+    ///
+    /// Example: `first_doubled` in `docs/LIBRARY.md`.
     pub fn new(hub: &'a Hub, pass: Pass, who: Tag, c: ChannelId) -> ReceiveStream<'a>
         requires own { IsOwn hub.now pass who }
         requires channel { c < length (shape_of hub.now) }

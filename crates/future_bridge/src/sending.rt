@@ -47,6 +47,8 @@ pub struct SendSink<'a> {
 
 impl<'a> SendSink<'a> {
     /// A sink that sent nothing yet. It calls as the coroutine `who`, which has this pass.
+    ///
+    /// Example: `at_a_rendezvous` in `docs/LIBRARY.md`.
     pub fn new(hub: &'a Hub, pass: Pass, who: Tag, c: ChannelId) -> SendSink<'a>
         requires own { IsOwn hub.now pass who }
         requires channel { c < length (shape_of hub.now) }

@@ -1,5 +1,5 @@
 -- What later calls leave of a caller's own Jobs.
-use Rattle.std.specs.Prelude.{◌≡◌, ℕ, ◌==◌, Bool, true, false, ◌||◌, List, [], ◌∷◌, ◌++◌, Option, Some, None, if◌then◌else◌, refl}
+use Rattle.std.specs.Prelude.{◌≡◌, ℕ, ◌==◌, Bool, true, false, ◌||◌, List, [], ◌∷◌, ◌++◌, Option, Some, None, if◌then◌else◌, refl, is_some, option_map}
 use Rattle.std.specs.List.{list_any}
 use mathlib.Core.List.{IsPrefix}
 use Rattle.std.proofs.Common.{sym, ap, ◌∙◌, subst}
@@ -9,6 +9,7 @@ use Rattle.job_model.specs.declared.acts.JobState.TheVariants.{New, Active, Comp
 use Rattle.job_model.specs.declared.acts.JobAct.{JobAct}
 use Rattle.job_model.specs.declared.acts.JobAct.TheVariants.{Attach, Start, EndBody, Cancel, Finish, Gone}
 use Rattle.job_model.specs.declared.acts.JobEntry.{JobEntry}
+use Rattle.job_model.specs.declared.floor.JobView.{JobView}
 use Rattle.job_model.specs.Trees.{Shape, Job, Tree, is_new, is_cancellable, is_ended, state_of, parent_of, parent_row, was_told}
 use Rattle.job_model.specs.Acts.{ends_body, tells}
 use Rattle.job_model.specs.Effects.{after}
@@ -16,11 +17,12 @@ use Rattle.job_model.specs.Needs.{Needs, OwnsBody, MayEndBody, MayTell, IsFinish
 use Rattle.job_model.specs.Families.{IsEnded, IsCancellingOrEnded}
 use Rattle.job_model.specs.Histories.{replay, replay_from, Legal, LegalFrom, acts_of}
 use Rattle.job_model.specs.Floors.{Floor, Added}
+use Rattle.job_model.specs.Answers.{view_of, LookAnswer}
 use Rattle.job_model.specs.Laws.{HasFamilies, IsSoundRow, is_bodiless, has_ended}
 use Rattle.job_model.proofs.Histories.{replay-append, Legal-append, acts_of-append}
 use Rattle.job_model.proofs.Rows.{same}
 use Rattle.job_model.proofs.Steps.{RowStep, row_step}
-use Rattle.job_model.proofs.Lasting.{Lasts, history_keeps}
+use Rattle.job_model.proofs.Lasting.{Lasts, history_keeps, attached_lasts}
 use Rattle.job_model.proofs.Families.{after_families, replay_families, finished_ended}
 use Rattle.job_model.proofs.RowMarks.{live_before}
 use Rattle.job_model.proofs.Ends.{told_only}
@@ -194,3 +196,20 @@ tell_step shape tree n who r act k m f h = (finisher_step shape tree n who r act
 pub own_gone_kept : (who row : ℕ) (acts : List JobAct) (rows : List ℕ) (old new : Floor) → Legal new.shape new.seen → Added who acts rows old new → list_any (tells row) acts ≡ false → MayTell who row (replay old.seen) → MayTell who row (replay new.seen)
 own_gone_kept who row acts rows old new l a none h =
     own_kept (MayTell who row) (tells row) who (λ shape tree n act k m f p. tell_step shape tree n who row act k m f p) acts rows old new l a none h
+
+-- ---- what is attached
+
+is_seen : (x : Option Job) (v : JobView) → option_map view_of x ≡ Some v → is_some x ≡ true
+is_seen None v e = cc
+is_seen (Some j) v e = refl
+
+-- what was seen is attached
+pub seen_attached : (who row : ℕ) (v : JobView) (a b : Floor) → Legal b.shape b.seen → LookAnswer who row a b (Some v) → is_some (replay b.seen row) ≡ true
+seen_attached who row v a b l k =
+    let m = k.1 in
+    prefix_keeps _ attached_lasts b.shape m.moment b.seen row l m.before (is_seen (replay m.moment row) v m.holds)
+
+-- the root is attached
+pub root_attached : (shape : Shape) (es : List JobEntry) → Legal shape es → is_some (replay es 0) ≡ true
+unfolding replay_from
+root_attached shape es l = prefix_keeps _ attached_lasts shape [] es 0 l (es, refl) refl

@@ -15,7 +15,7 @@ use co_base::{Row, Tag, Value};
 /// | Cancelling | no | no | yes |
 /// | Cancelled | no | yes | yes |
 /// | Completed | no | yes | no |
-#[derive(Clone, Copy, Debug, PartialEq, Eq)]
+#[derive(Clone, Copy, PartialEq)]
 pub enum JobState {
     New,
     Active,
@@ -66,7 +66,7 @@ impl JobState {
 }
 
 /// What sort of Job it is.
-#[derive(Clone, Copy, Debug, PartialEq, Eq)]
+#[derive(Clone, Copy, PartialEq)]
 pub struct JobKind {
     /// A child's failure leaves it alone.
     pub supervisor: bool,
@@ -77,7 +77,7 @@ pub struct JobKind {
 }
 
 /// Why a Job was cancelled, in the end.
-#[derive(Clone, Copy, Debug, PartialEq, Eq)]
+#[derive(Clone, Copy, PartialEq)]
 pub enum Cause {
     /// It was not.
     None,
@@ -88,7 +88,7 @@ pub enum Cause {
 }
 
 /// Why a Cancel is made.
-#[derive(Clone, Copy, Debug, PartialEq, Eq)]
+#[derive(Clone, Copy)]
 pub enum Reason {
     Request,
     /// The parent is cancelled.
@@ -100,14 +100,14 @@ pub enum Reason {
 }
 
 /// How a Job ended: with its result, or as cancelled.
-#[derive(Clone, Copy, Debug, PartialEq, Eq)]
+#[derive(Clone, Copy, PartialEq)]
 pub enum End {
     Completed(Value),
     Cancelled(Cause),
 }
 
 /// What one step does to the tree of Jobs.
-#[derive(Clone, Copy, Debug, PartialEq, Eq)]
+#[derive(Clone, Copy)]
 pub enum JobAct {
     /// Makes a row the newest child of another. `cancelled` says that the child is Cancelling at once.
     Attach {
@@ -143,14 +143,14 @@ pub enum JobAct {
 }
 
 /// An act, and the coroutine that made it.
-#[derive(Clone, Copy, Debug, PartialEq, Eq)]
+#[derive(Clone, Copy)]
 pub struct JobEntry {
     pub who: Tag,
     pub act: JobAct,
 }
 
 /// What a coroutine notes of a call on a Job: the act that it made, or an answer without one.
-#[derive(Clone, Copy, Debug, PartialEq, Eq)]
+#[derive(Clone, Copy)]
 pub enum JobNote {
     Made(JobAct),
     /// It saw that this Job is Cancelling.

@@ -11,14 +11,14 @@ use crate::acts::{Cause, End, JobKind, JobState, Reason};
 use co_base::{Memory, Row, Tag, Value};
 
 /// A new child: its row, and whether it is Cancelling at once.
-#[derive(Clone, Copy, Debug, PartialEq, Eq)]
+#[derive(Clone, Copy, PartialEq)]
 pub struct Attached {
     pub row: Row,
     pub cancelled: bool,
 }
 
 /// Why no child was attached.
-#[derive(Clone, Copy, Debug, PartialEq, Eq)]
+#[derive(Clone, Copy, PartialEq)]
 pub enum AttachError {
     /// All rows for scopes are claimed.
     NoRow,
@@ -29,7 +29,7 @@ pub enum AttachError {
 }
 
 /// What is left to do for a Job whose body ended, or whose child is gone.
-#[derive(Clone, Copy, Debug, PartialEq, Eq)]
+#[derive(Clone, Copy, PartialEq)]
 pub enum Ended {
     /// Its Finish.
     Owes,
@@ -38,7 +38,7 @@ pub enum Ended {
 }
 
 /// What a cancel came to.
-#[derive(Clone, Copy, Debug, PartialEq, Eq)]
+#[derive(Clone, Copy, PartialEq)]
 pub enum CancelledNow {
     Now,
     /// The Job was Cancelling or ended before.
@@ -46,7 +46,7 @@ pub enum CancelledNow {
 }
 
 /// What the end of a Job came to.
-#[derive(Clone, Copy, Debug, PartialEq, Eq)]
+#[derive(Clone, Copy, PartialEq)]
 pub enum Finished {
     Now(End),
     /// The Job had ended.
@@ -56,7 +56,7 @@ pub enum Finished {
 }
 
 /// A Job at one moment.
-#[derive(Clone, Copy, Debug, PartialEq, Eq)]
+#[derive(Clone, Copy, PartialEq)]
 pub struct JobView {
     pub state: JobState,
     pub kind: JobKind,
@@ -71,7 +71,7 @@ pub struct JobView {
 }
 
 /// Where a Job stands in the tree.
-#[derive(Clone, Copy, Debug, PartialEq, Eq)]
+#[derive(Clone, Copy, PartialEq)]
 pub struct Link {
     pub parent: Row,
     /// The child of the same parent that was attached before it.

@@ -17,7 +17,7 @@ use co_base::Row;
 use job_model::JobState;
 
 /// A Job word.
-#[derive(Clone, Copy, Debug, PartialEq, Eq)]
+#[derive(Clone, Copy)]
 pub struct JobWord {
     pub state: JobState,
     pub body_ended: bool,

@@ -12,7 +12,7 @@ use co_base::{Row, Tag};
 use job_model::JobKind;
 
 /// A link word.
-#[derive(Clone, Copy, Debug, PartialEq, Eq)]
+#[derive(Clone, Copy)]
 pub struct LinkWord {
     /// At most 16,383.
     pub parent: Row,

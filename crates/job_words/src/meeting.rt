@@ -27,6 +27,8 @@ fn first_words(alloc: Global, rows: u16) -> Result<Vec<u64>, Memory>
 
 impl Forest {
     /// A forest that has the root alone, and the pass of tag 0, which gives out the other tags.
+    ///
+    /// Example: `result_awaited` in `docs/LIBRARY.md`.
     pub fn new(alloc: Global, coroutines: u16, scopes: u16) -> Result<(Forest, JobPass), Memory>
         requires some { 0 < coroutines }
         requires few { coroutines + scopes ≤ 16000 }

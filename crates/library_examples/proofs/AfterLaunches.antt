@@ -41,11 +41,6 @@ launched_attached who parent tag lazy a b i j child alone h =
 pub attached_later : (row : ℕ) (a b : Floor) → Legal b.shape b.seen → IsPrefix a.seen b.seen → is_some (replay a.seen row) ≡ true → is_some (replay b.seen row) ≡ true
 attached_later row a b l p h = prefix_keeps _ attached_lasts b.shape a.seen b.seen row l p h
 
--- the root is attached
-pub root_attached : (shape : Shape) (es : List JobEntry) → Legal shape es → is_some (replay es 0) ≡ true
-unfolding replay_from
-root_attached shape es l = prefix_keeps _ attached_lasts shape [] es 0 l (es, refl) refl
-
 saw_noted : (row value : ℕ) → items_in (saw_end row (Completed value) ∷ []) ≡ Job (SawEnd row (Completed value)) ∷ []
 unfolding items_in
 saw_noted row value = refl

@@ -8,7 +8,7 @@ use co_base::Memory;
 use job_model::JobNote;
 
 /// What a coroutine notes of one call.
-#[derive(Clone, Copy, PartialEq, Eq)]
+#[derive(Clone, Copy)]
 pub enum Item {
     Channel(ChannelNote),
     Job(JobNote),

@@ -18,5 +18,13 @@ fn notes_of_channels_and_jobs_stand_in_their_order(rt: HostRuntime) {
     let failed = Item::Job(JobNote::Fail { code: 7 });
     assert_eq!(rt; note_one(&mut book, spent), Ok(()));
     assert_eq!(rt; note_one(&mut book, failed), Ok(()));
-    assert!(rt; book.items() == [spent, failed].as_slice());
+    assert!(rt;
+        matches!(
+            book.items(),
+            [
+                Item::Channel(ChannelNote::Spent { c: 3 }),
+                Item::Job(JobNote::Fail { code: 7 })
+            ]
+        )
+    );
 }

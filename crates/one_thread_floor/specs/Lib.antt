@@ -1,5 +1,4 @@
-pub mod Appends
-pub mod GhostLists
+pub mod Entries
 pub mod ListStands
 pub mod ListFloors
 pub mod TreeRows

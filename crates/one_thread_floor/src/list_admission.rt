@@ -15,6 +15,7 @@ use co_base::ChannelId;
 use std::collections::VecDeque;
 
 /// The index of the first offer from `from` on with which somebody waits, or how many offers stand.
+#[inline(always)]
 fn past_buffered(queue: &VecDeque<Standing>, from: usize) -> usize
     requires fits { from ≤ length queue.now.items }
     requires buffered { list_all is_buffered (take from queue.now.items) ≡ true }
@@ -27,6 +28,7 @@ fn past_buffered(queue: &VecDeque<Standing>, from: usize) -> usize
     index
 }
 
+#[inline(always)]
 fn count_leading(channel: &mut ListChannel) -> usize
     ensures leads { LeadsTo result (channel_of channel.old).queue }
     ensures channel { channel_of channel.new ≡ channel_of channel.old }
@@ -38,6 +40,7 @@ fn count_leading(channel: &mut ListChannel) -> usize
 }
 
 /// How many offers with which nobody waits lead the queue.
+#[inline(always)]
 pub fn leading_in(channels: &mut Vec<ListChannel>, c: ChannelId) -> usize
     requires { c < length channels.old.items }
     ensures leads { LeadsTo result (channel_in channels.new.items c).queue }
@@ -49,6 +52,7 @@ pub fn leading_in(channels: &mut Vec<ListChannel>, c: ChannelId) -> usize
     count_leading(&mut channels[c as usize])
 }
 
+#[inline(always)]
 fn buffer_offer_of(channel: &mut ListChannel, index: usize, offer: Standing)
     requires { index < deque_len channel.old.queue }
     ensures channel { channel_of channel.new ≡ record (channel_of channel.old) {
@@ -63,6 +67,7 @@ fn buffer_offer_of(channel: &mut ListChannel, index: usize, offer: Standing)
 }
 
 /// Keeps the offer that stands at this index: nobody waits with it any more.
+#[inline(always)]
 pub fn buffer_offer(channels: &mut Vec<ListChannel>, c: ChannelId, index: usize, offer: Standing)
     requires { index < length (channel_in channels.old.items c).queue }
     ensures { Becomes c

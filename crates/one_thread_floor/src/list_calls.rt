@@ -26,10 +26,15 @@ impl ChannelFloor for ListFloor {
 
     ghost anchor = { λ f. record { kinds = f.kinds } };
 
+    #[inline(always)]
     fn room(&mut self, n: u32) -> Result<(), Memory> {
+        if n as usize <= self.boxes.len() {
+            return Ok(());
+        }
         make_boxes(&mut self.boxes, n as usize)
     }
 
+    #[inline(always)]
     fn offer(&mut self, who: Tag, c: ChannelId, value: Value) -> Offered {
         if let Some(v) = closed_with(&self.channels, c) {
             return Offered::Closed(v);
@@ -64,6 +69,7 @@ impl ChannelFloor for ListFloor {
         TriedOffer::Put(self.put(who, c, value))
     }
 
+    #[inline(always)]
     fn receive(&mut self, who: Tag, c: ChannelId) -> Got {
         if queue_len(&self.channels, c) > 0 {
             let (place, value, from) = self.take(who, c);
@@ -201,10 +207,12 @@ impl ChannelFloor for ListFloor {
         Some((offer.place, offer.value, from))
     }
 
+    #[inline(always)]
     fn look(&mut self, who: Tag, w: WaitId) -> WaitState {
         state_at(&self.channels, w)
     }
 
+    #[inline(always)]
     fn settle(&mut self, who: Tag, w: WaitId, cancelled: bool) -> Settled {
         let outcome = settle(&mut self.channels, w, cancelled);
         self.entries.push(&Entry {
@@ -226,10 +234,12 @@ impl ChannelFloor for ListFloor {
         Withdrawn::Done(who)
     }
 
+    #[inline(always)]
     fn mark(&mut self, who: Tag, c: ChannelId) -> Place {
         next_place(&self.channels, c)
     }
 
+    #[inline(always)]
     fn admit(&mut self, who: Tag, c: ChannelId, mark: Place) -> Option<(Place, Tag)> {
         let index = leading_in(&mut self.channels, c);
         let Some(offer) = offer_at(&self.channels, c, index) else {
@@ -257,6 +267,7 @@ impl ChannelFloor for ListFloor {
         Some((offer.place, to))
     }
 
+    #[inline(always)]
     fn trim(&mut self, who: Tag, c: ChannelId, mine: Place) -> Option<(Place, Value)> {
         let Some(capacity) = kind_at(&self.kinds, c).drops_beyond() else {
             return None;
@@ -279,6 +290,7 @@ impl ChannelFloor for ListFloor {
         Some((offer.place, offer.value))
     }
 
+    #[inline(always)]
     fn spurn(&mut self, who: Tag, c: ChannelId, mine: Place) -> Option<Value> {
         let Some(capacity) = kind_at(&self.kinds, c).spurns_beyond() else {
             return None;

@@ -16,6 +16,7 @@ use co_base::{ChannelId, Place, Tag, Value, WaitId};
 
 impl ListFloor {
     /// Places an offer on an open channel that has a place, and no receiver: a wait begins with it.
+    #[inline(always)]
     pub(crate) fn begin_offer(&mut self, who: Tag, c: ChannelId, clause: u8, value: Value) -> Place
         requires channel { c < length (floor_of self.old).shape }
         requires room { 0 < (floor_of self.old).spare }
@@ -77,6 +78,7 @@ impl ListFloor {
     }
 
     /// Places a receiver on an open channel that has a place, and no offer: a wait begins with it.
+    #[inline(always)]
     pub(crate) fn begin_receiver(&mut self, who: Tag, c: ChannelId, clause: u8) -> Place
         requires channel { c < length (floor_of self.old).shape }
         requires room { 0 < (floor_of self.old).spare }

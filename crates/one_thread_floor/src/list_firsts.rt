@@ -18,6 +18,7 @@ use std::collections::VecDeque;
 use std::mem::replace;
 
 /// Lets a queue in which nothing stands begin at the front of its memory, so that no more of it is touched than what stands at once takes.
+#[inline(always)]
 fn begin_anew<T: Drop>(queue: &mut VecDeque<T>)
     ensures items { queue.new.items ≡ queue.old.items }
     ensures len { deque_len queue.new ≡ deque_len queue.old }
@@ -30,6 +31,7 @@ fn begin_anew<T: Drop>(queue: &mut VecDeque<T>)
     }
 }
 
+#[inline(always)]
 fn pop_receiver_of(channel: &mut ListChannel) -> Receiver
     requires { 0 < deque_len channel.old.receivers }
     ensures first { channel.old.receivers.items ≡ result ∷ channel.new.receivers.items }
@@ -42,6 +44,7 @@ fn pop_receiver_of(channel: &mut ListChannel) -> Receiver
 }
 
 /// Takes the receiver that stands first.
+#[inline(always)]
 fn pop_receiver(channels: &mut Vec<ListChannel>, c: ChannelId) -> Receiver
     requires { 0 < length (channel_in channels.old.items c).receivers }
     ensures first { (channel_in channels.old.items c).receivers ≡ result ∷ (channel_in channels.new.items c).receivers }
@@ -53,6 +56,7 @@ fn pop_receiver(channels: &mut Vec<ListChannel>, c: ChannelId) -> Receiver
 }
 
 /// Resolves the wait of the receiver that stands first: it stands nowhere any more.
+#[inline(always)]
 pub fn resolve_first(
     channels: &mut Vec<ListChannel>,
     c: ChannelId,
@@ -71,6 +75,7 @@ pub fn resolve_first(
     resolve_elsewhere(channels, c, first.party.wait, how);
 }
 
+#[inline(always)]
 fn pop_offer_of(channel: &mut ListChannel) -> Standing
     requires { 0 < deque_len channel.old.queue }
     ensures first { channel.old.queue.items ≡ result ∷ channel.new.queue.items }
@@ -84,6 +89,7 @@ fn pop_offer_of(channel: &mut ListChannel) -> Standing
 }
 
 /// Takes the first offer.
+#[inline(always)]
 pub fn pop_offer(channels: &mut Vec<ListChannel>, c: ChannelId) -> Standing
     requires { 0 < length (channel_in channels.old.items c).queue }
     ensures first { (channel_in channels.old.items c).queue ≡ result ∷ (channel_in channels.new.items c).queue }
@@ -95,6 +101,7 @@ pub fn pop_offer(channels: &mut Vec<ListChannel>, c: ChannelId) -> Standing
 }
 
 /// Resolves the wait of a party that is left at no other clause's channel and stands at channel `c` no more, and says whose it was.
+#[inline(always)]
 pub fn resolve_party(
     channels: &mut Vec<ListChannel>,
     c: ChannelId,
@@ -115,6 +122,7 @@ pub fn resolve_party(
 }
 
 /// How the holder of an offer that was taken, or was removed from a cancelled channel, is resolved.
+#[inline(always)]
 fn removal(clause: u8, voided: bool) -> Resolution
     ensures { result ≡ removed_as voided clause }
 {
@@ -127,6 +135,7 @@ fn removal(clause: u8, voided: bool) -> Resolution
 
 /// Resolves the holder of an offer that left channel `c`, if it has one, and says whose wait it was: it was taken, or removed since the
 /// channel is cancelled.
+#[inline(always)]
 pub fn resolve_holder(
     channels: &mut Vec<ListChannel>,
     c: ChannelId,

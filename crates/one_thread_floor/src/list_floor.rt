@@ -3,11 +3,11 @@
 ghost use Rattle.channel_model.specs.Channels.{IsShape};
 ghost use Rattle.channel_model.specs.Histories.{Legal};
 ghost use Rattle.channel_model.proofs.Once.{Legal-prop};
-ghost use Rattle.one_thread_floor.specs.GhostLists.{ghost_items};
+ghost use Rattle.one_thread_floor.specs.Entries.{channel_entries};
 ghost use Rattle.one_thread_floor.specs.ListStands.{StandsFor, PlacesKept};
 ghost use Rattle.std.proofs.Props.{props};
 
-use crate::ghost_list::GhostList;
+use crate::entries::ChannelEntries;
 use crate::list_channel::{ClauseBox, ListChannel};
 use channel_model::{Entry, Kind};
 
@@ -21,12 +21,12 @@ pub struct ListFloor {
     pub(crate) kinds: Vec<(Kind, u32)>,
     pub(crate) channels: Vec<ListChannel>,
     /// What was made of the floor so far. Contracts alone see it.
-    pub(crate) entries: GhostList<Entry>,
+    pub(crate) entries: ChannelEntries,
     /// What selects take at their second clause, made by `room`.
     pub(crate) boxes: Vec<ClauseBox>,
     ghost shaped: { IsShape kinds.items } by { Prim.hlevel props },
-    ghost legal: { Legal kinds.items (ghost_items entries) } by { Legal-prop kinds.items (ghost_items entries) },
-    ghost stands: { StandsFor kinds.items channels.items (ghost_items entries) } by { Prim.hlevel props },
+    ghost legal: { Legal kinds.items (channel_entries entries) } by { Legal-prop kinds.items (channel_entries entries) },
+    ghost stands: { StandsFor kinds.items channels.items (channel_entries entries) } by { Prim.hlevel props },
     ghost kept: { PlacesKept channels.items } by { Prim.hlevel props },
 }
 

@@ -6,7 +6,7 @@ ghost use Rattle.channel_model.specs.Channels.{empty, start};
 ghost use Rattle.one_thread_floor.specs.ListStands.{channel_of, IsAt};
 ghost use Rattle.one_thread_floor.specs.ListFloors.{floor_of, MayBeMade};
 
-use crate::ghost_list::GhostList;
+use crate::entries::ChannelEntries;
 use crate::list_channel::{ClauseBox, ListChannel};
 use crate::list_floor::ListFloor;
 use arrayvec::ArrayVec;
@@ -59,6 +59,8 @@ fn add_boxes(boxes: &mut Vec<ClauseBox>, n: usize) -> Result<(), Memory>
 }
 
 /// Makes so many boxes, or none.
+#[cold]
+#[inline(never)]
 pub fn make_boxes(boxes: &mut Vec<ClauseBox>, n: usize) -> Result<(), Memory>
     ensures kept { vec_len boxes.old ≤ vec_len boxes.new }
     ensures made { OnOk result (n ≤ vec_len boxes.new) }
@@ -74,6 +76,8 @@ pub fn make_boxes(boxes: &mut Vec<ClauseBox>, n: usize) -> Result<(), Memory>
 
 impl ListFloor {
     /// A floor with a channel of each of these kinds, with so many places. It takes the memory for all places.
+    ///
+    /// Example: `one_element` in `docs/LIBRARY.md`.
     pub fn new(alloc: Global, kinds: &[(Kind, u32)]) -> Result<ListFloor, Memory>
         requires channels { length kinds.now ≤ 65536 }
         requires kinds { All MayBeMade kinds.now }
@@ -83,7 +87,7 @@ impl ListFloor {
         ensures callers { IfOk result (λ f. (t : ℕ) → (floor_of f).callers t ≡ true) }
     {
         let channels = new_channels(alloc, kinds)?;
-        let entries = GhostList::new(alloc)?;
+        let entries = ChannelEntries::new();
         Ok(ListFloor {
             kinds: Vec::from_slice(alloc, kinds)?,
             channels,

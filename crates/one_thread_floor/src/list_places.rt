@@ -12,6 +12,7 @@ use channel_model::{Party, Receiver, Standing};
 use co_base::{ChannelId, Place, Tag, Value, WaitId};
 
 /// A wait that begins with this clause.
+#[inline(always)]
 fn new_wait(who: Tag, clause: ListClause) -> ListWait
     ensures wait { Some (wait_of result) ≡ name_clause who clause.number clause.channel None }
     ensures clauses { items_of result.clauses ≡ clause ∷ [] }
@@ -25,6 +26,7 @@ fn new_wait(who: Tag, clause: ListClause) -> ListWait
 }
 
 /// Gives out a place to an offer. The slot is that of the wait that begins there, if one does.
+#[inline(always)]
 fn place_offer(channel: &mut ListChannel, slot: Option<ListWait>, offer: Standing)
     requires { vec_len channel.old.slots < channel.old.places }
     ensures channel { channel_of channel.new ≡ place_offer true offer (channel_of channel.old) }
@@ -39,6 +41,7 @@ fn place_offer(channel: &mut ListChannel, slot: Option<ListWait>, offer: Standin
 }
 
 /// Gives out a place to a receiver. The slot is that of the wait that begins there, if one does.
+#[inline(always)]
 fn place_receiver(channel: &mut ListChannel, slot: Option<ListWait>, receiver: Receiver)
     requires { vec_len channel.old.slots < channel.old.places }
     ensures channel { channel_of channel.new ≡ place_receiver true receiver (channel_of channel.old) }
@@ -72,6 +75,7 @@ fn append_offer_to(channel: &mut ListChannel, value: Value, holder: Option<Party
 }
 
 /// Gives out a place to an offer, at which no wait begins.
+#[inline(always)]
 pub fn append_offer(
     channels: &mut Vec<ListChannel>,
     c: ChannelId,
@@ -113,6 +117,7 @@ fn append_receiver(channels: &mut Vec<ListChannel>, c: ChannelId, party: Party) 
 }
 
 /// Gives out a place to an offer that waits, and begins its wait.
+#[inline(always)]
 pub fn begin_offer(
     channels: &mut Vec<ListChannel>,
     c: ChannelId,
@@ -150,6 +155,7 @@ pub fn begin_offer(
 }
 
 /// Gives out a place to a receiver, and begins its wait.
+#[inline(always)]
 pub fn begin_receiver(channels: &mut Vec<ListChannel>, c: ChannelId, who: Tag, clause: u8) -> Place
     requires { (channel_in channels.old.items c).next < places_in channels.old.items c }
     ensures place { result ≡ (channel_in channels.old.items c).next }

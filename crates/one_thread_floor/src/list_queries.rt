@@ -13,6 +13,7 @@ use co_base::{ChannelId, Place, Tag, Value, WaitId};
 use std::slice::from_ref;
 
 /// The kind of a channel.
+#[inline(always)]
 pub fn kind_at(kinds: &Vec<(Kind, u32)>, c: ChannelId) -> Kind
     requires { c < length kinds.now.items }
     ensures { result ≡ kind_at kinds.now.items c }
@@ -21,6 +22,7 @@ pub fn kind_at(kinds: &Vec<(Kind, u32)>, c: ChannelId) -> Kind
 }
 
 /// The receiver that stands first.
+#[inline(always)]
 pub fn first_receiver(channels: &Vec<ListChannel>, c: ChannelId) -> Option<Receiver>
     requires { c < length channels.now.items }
     ensures { result ≡ slice_get (channel_in channels.now.items c).receivers 0 }
@@ -29,6 +31,7 @@ pub fn first_receiver(channels: &Vec<ListChannel>, c: ChannelId) -> Option<Recei
 }
 
 /// The offer that stands at this index of the queue.
+#[inline(always)]
 pub fn offer_at(channels: &Vec<ListChannel>, c: ChannelId, index: usize) -> Option<Standing>
     requires { c < length channels.now.items }
     ensures { result ≡ slice_get (channel_in channels.now.items c).queue index }
@@ -37,6 +40,7 @@ pub fn offer_at(channels: &Vec<ListChannel>, c: ChannelId, index: usize) -> Opti
 }
 
 /// How many offers stand.
+#[inline(always)]
 pub fn queue_len(channels: &Vec<ListChannel>, c: ChannelId) -> usize
     requires { c < length channels.now.items }
     ensures { result ≡ length (channel_in channels.now.items c).queue }
@@ -45,6 +49,7 @@ pub fn queue_len(channels: &Vec<ListChannel>, c: ChannelId) -> usize
 }
 
 /// The value with which the channel was closed.
+#[inline(always)]
 pub fn closed_with(channels: &Vec<ListChannel>, c: ChannelId) -> Option<Value>
     requires { c < length channels.now.items }
     ensures { result ≡ (channel_in channels.now.items c).closed }
@@ -61,6 +66,7 @@ pub fn is_voided(channels: &Vec<ListChannel>, c: ChannelId) -> bool
 }
 
 /// Whether all places were given out.
+#[inline(always)]
 pub fn is_spent(channels: &Vec<ListChannel>, c: ChannelId) -> bool
     requires { c < length channels.now.items }
     ensures { result ≡ nat_le (places_in channels.now.items c) (channel_in channels.now.items c).next }
@@ -70,6 +76,7 @@ pub fn is_spent(channels: &Vec<ListChannel>, c: ChannelId) -> bool
 }
 
 /// The place that is given out next.
+#[inline(always)]
 pub fn next_place(channels: &Vec<ListChannel>, c: ChannelId) -> Place
     requires { c < length channels.now.items }
     ensures { result ≡ (channel_in channels.now.items c).next }
@@ -78,6 +85,7 @@ pub fn next_place(channels: &Vec<ListChannel>, c: ChannelId) -> Place
 }
 
 /// The slot of a wait that began.
+#[inline(always)]
 fn slot_at(channels: &Vec<ListChannel>, w: WaitId) -> &Option<ListWait>
     requires { IsSome (wait_in channels.now.items w) }
     ensures wait { wait_of_slot result.now ≡ wait_in channels.now.items w }
@@ -87,6 +95,7 @@ fn slot_at(channels: &Vec<ListChannel>, w: WaitId) -> &Option<ListWait>
 }
 
 /// The coroutine that waits.
+#[inline(always)]
 pub fn owner_at(channels: &Vec<ListChannel>, w: WaitId) -> Tag
     requires { IsSome (wait_in channels.now.items w) }
     ensures { owner_of (wait_in channels.now.items w) ≡ Some result }
@@ -98,6 +107,7 @@ pub fn owner_at(channels: &Vec<ListChannel>, w: WaitId) -> Tag
 }
 
 /// How far the wait is.
+#[inline(always)]
 pub fn state_at(channels: &Vec<ListChannel>, w: WaitId) -> WaitState
     requires { IsSome (wait_in channels.now.items w) }
     ensures { state_of_wait (wait_in channels.now.items w) ≡ Some result }

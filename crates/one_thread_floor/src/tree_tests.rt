@@ -109,20 +109,14 @@ fn rows_are_given_out_and_ended_as_worked_out_by_hand(rt: HostRuntime) -> Result
         (0, 0, SCOPE, 0, Ok(scope)),
         (0, 0, SCOPE, 0, Err(AttachError::NoRow)),
     ] {
-        assert_eq!(rt;
-            attach(&mut floor, who, parent, kind, tag)?,
-            Some(answer),
-            "tag {tag}"
-        );
+        let found = attach(&mut floor, who, parent, kind, tag)?;
+        assert!(rt; found == Some(answer), "tag {tag}");
     }
-    assert_eq!(rt; end_body(&mut floor, 1, 1, 9)?, Some(Ended::Owes));
-    assert_eq!(rt;
-        finish(&mut floor, 1, 1)?,
-        Some(Finished::Now(End::Completed(9)))
-    );
-    assert_eq!(rt;
-        attach(&mut floor, 0, 1, PLAIN, 2)?,
-        Some(Err(AttachError::ParentEnded))
-    );
+    let ended = end_body(&mut floor, 1, 1, 9)?;
+    assert!(rt; ended == Some(Ended::Owes));
+    let finished = finish(&mut floor, 1, 1)?;
+    assert!(rt; finished == Some(Finished::Now(End::Completed(9))));
+    let late = attach(&mut floor, 0, 1, PLAIN, 2)?;
+    assert!(rt; late == Some(Err(AttachError::ParentEnded)));
     Ok(())
 }

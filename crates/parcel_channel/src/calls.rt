@@ -84,6 +84,8 @@ fn send_number<T>(hub: &ParcelHub<T>, pass: &mut ParcelPass<T>, number: Value) -
 impl<T> ParcelHub<T> {
     /// Moves the value in, and sends its number; or waits. Where the channel is closed or has no place left, the value comes back. A sender
     /// that is admitted meanwhile is named in no answer: it finds out by `look`.
+    ///
+    /// Example: `send_text` in `docs/LIBRARY.md`.
     pub fn send(&self, pass: &mut ParcelPass<T>, value: T) -> ParcelSent<T>
         requires of { IsOf self.now pass.old }
         ensures of { IsOf self.now pass.new }
@@ -132,6 +134,8 @@ impl<T> ParcelHub<T> {
     }
 
     /// Receives a number, and moves its value out; or waits. A sender that is admitted then is named in no answer: it finds out by `look`.
+    ///
+    /// Example: `three_texts` in `docs/LIBRARY.md`.
     pub fn receive(&self, pass: &mut ParcelPass<T>) -> ParcelGot<T>
         requires of { IsOf self.now pass.old }
         ensures of { IsOf self.now pass.new }
@@ -180,6 +184,8 @@ impl<T> ParcelHub<T> {
     }
 
     /// Closes the channel with a value. What stands there still stands.
+    ///
+    /// Example: `three_texts` in `docs/LIBRARY.md`.
     pub fn close(&self, pass: &mut ParcelPass<T>, v: Value) -> Result<(), AlreadyClosed>
         requires of { IsOf self.now pass.old }
         ensures of { IsOf self.now pass.new }

@@ -25,6 +25,8 @@ fn zeros(alloc: Global, n: usize) -> Result<Vec<u64>, AllocError>
 
 impl<T> ParcelHub<T> {
     /// A channel of this kind, with so many places and parcel numbers, and the pass of tag 0, which gives out the other tags.
+    ///
+    /// Example: `three_texts` in `docs/LIBRARY.md`.
     pub fn new(
         alloc: Global,
         kind: Kind,
@@ -62,6 +64,8 @@ impl<T> ParcelHub<T> {
     }
 
     /// A pass of a tag that was not given out before. It has seen what the first pass has seen, and has made no entry.
+    ///
+    /// Example: `three_texts` in `docs/LIBRARY.md`.
     pub fn split(&self, pass: &mut ParcelPass<T>, tag: Tag) -> ParcelPass<T>
         requires of { IsOf self.now pass.old }
         requires first { IsFirst pass.old }
@@ -99,6 +103,8 @@ impl<T> ParcelHub<T> {
     }
 
     /// `main` takes in what another pass has seen of values and of numbers, and its tags.
+    ///
+    /// Example: `left_over` in `docs/LIBRARY.md`.
     pub fn end(&self, main: &mut ParcelPass<T>, pass: ParcelPass<T>)
         requires main { IsOf self.now main.old }
         requires pass { IsOf self.now pass }

@@ -15,6 +15,8 @@ use note_book::NoteBook;
 
 /// Gives all permits, the elements 0 to n - 1, for a caller that has not called on the channel yet. Whoever waits already is handed one.
 /// Memory: the first of them were given, and the caller is not to fill again.
+///
+/// Example: `fill_by` in `docs/LIBRARY.md`.
 pub fn fill<F: ChannelFloor, B: NoteBook, W: Wakes>(
     x: &mut Caller<'_, '_, '_, F, B, W>,
     p: &Permits,

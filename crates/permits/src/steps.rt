@@ -9,11 +9,11 @@ ghost use Rattle.channel_calls.specs.Groups.{settle_group};
 ghost use Rattle.channel_calls.specs.Calls.{SameCaller, HoldsWait};
 ghost use Rattle.permits.specs.Answers.{ReceivedOnce, TriedOnce, GivenOnce, EndedOnce};
 
-use channel_calls::{Caller, ReceiveAnswer, TryReceiveAnswer, make_room};
+use channel_calls::{Caller, ReceiveAnswer, TryReceiveAnswer, make_room, wake_some};
 use channel_model::{
     Act, ChannelFloor, ChannelNote, Got, Offered, Settled, TriedGot, Why, Withdrawn,
 };
-use co_base::{ChannelId, Memory, Tag, Value, WaitId, Wakes};
+use co_base::{ChannelId, Memory, Value, WaitId, Wakes};
 use note_book::{Item, NoteBook};
 
 /// What an offer to a channel that keeps all came to.
@@ -25,13 +25,6 @@ pub(crate) enum Given {
     Closed(Value),
     /// The channel has no place left.
     Spent,
-}
-
-/// Wakes whoever waits with an element, if somebody does.
-fn wake_some<W: Wakes>(wakes: &mut W, sender: Option<Tag>) {
-    if let Some(sender) = sender {
-        wakes.wake(sender);
-    }
 }
 
 /// Takes the first element, or waits for one.

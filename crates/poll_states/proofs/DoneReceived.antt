@@ -31,7 +31,7 @@ use Rattle.scope_builders.specs.Dones.{KeepsDones}
 use Rattle.scope_builders.specs.Calls.{MayBuild, TellsBoth, ReceivesDone, IsNothing, DoneAnswer, EndedJob, BeginsToBreakOff, BrokeJob, BrokenAnswer}
 use Rattle.scope_builders.proofs.DonesKept.{kept_then}
 use Rattle.scope_builders.proofs.Rooms.{may_call_after}
-use Rattle.poll_states.specs.Ends.{EndsAndReceives, BreaksAndReceives}
+use Rattle.poll_states.specs.SeenEnds.{EndsAndReceives, BreaksAndReceives}
 
 -- ---- what is so behind the first call
 

@@ -25,7 +25,7 @@ use Rattle.script_meaning.proofs.BodiesOpen.{runs_scopes, scope_here}
 use Rattle.script_meaning.proofs.OwnRows.{not_new_attached}
 use Rattle.poll_states.specs.declared.entered.OpenScope.{OpenScope}
 use Rattle.poll_states.specs.Frames.{Frame, config_of, items_of, Stands}
-use Rattle.poll_states.specs.Ends.{AwaitsNamed, IsInScope}
+use Rattle.poll_states.specs.SeenEnds.{AwaitsNamed, IsInScope}
 use Rattle.poll_states.proofs.Standing.{stands_fits, stands_knows, named_attached}
 
 -- ---- an await

@@ -35,7 +35,7 @@ use Rattle.script_meaning.proofs.GentleNotes.{leaves_dones}
 use Rattle.poll_states.specs.declared.jobs.OwnState.TheVariants as own
 use Rattle.poll_states.specs.Frames.{Frame, config_of, items_of, frame_of, Stands, IsUnmoved}
 use Rattle.poll_states.specs.Steps.{Stepped, CutShort, OwnStateSeen, PolledTo, PollAnswer, AnsweredAfter}
-use Rattle.poll_states.specs.Ends.{HasSeen, NotYetSeen, Seen, WentOn, WentOnAnswer}
+use Rattle.poll_states.specs.SeenEnds.{HasSeen, NotYetSeen, Seen, WentOn, WentOnAnswer}
 use Rattle.poll_states.proofs.Standing.{stands_fits}
 use Rattle.poll_states.proofs.Moving.{Tells, tells_step, polled_to, rows_in-append}
 use Rattle.poll_states.proofs.Turning.{claims_later, tells_later, answer_at, polled_still}
@@ -56,7 +56,7 @@ use Rattle.script_meaning.specs.Shapes.{floor_shape}
 use Rattle.script_meaning.proofs.WaitsEnd.{scope_wait_ends}
 use Rattle.script_meaning.proofs.GroupNotes.{settle_all, all_none}
 use Rattle.poll_states.specs.Steps.{SeenWait}
-use Rattle.poll_states.specs.Ends.{EndedScopeWait}
+use Rattle.poll_states.specs.SeenEnds.{EndedScopeWait}
 use Rattle.poll_states.proofs.DonesLeft.{unclosed_kept}
 use Rattle.poll_states.proofs.QuietNotes.{is_quiet, quiet_allows}
 use Rattle.poll_states.proofs.WaitsForEnds.{quiet_step}

@@ -38,7 +38,7 @@ use Rattle.script_meaning.proofs.GentleNotes.{is_mild, mild_allows, below_dones}
 use Rattle.script_meaning.proofs.ClausesSpent.{clauses_spent}
 use Rattle.poll_states.specs.Frames.{Frame, config_of, items_of, Stands}
 use Rattle.poll_states.specs.Steps.{Stepped, MovesOn}
-use Rattle.poll_states.specs.Ends.{WentOn, WentOnAnswer}
+use Rattle.poll_states.specs.SeenEnds.{WentOn, WentOnAnswer}
 use Rattle.poll_states.specs.Selecting.{AfterChosen, AfterSelect, waits_with}
 use Rattle.poll_states.proofs.FloorsOfScripts.{no_signal}
 use Rattle.poll_states.proofs.LineNeeds.{stands_call}

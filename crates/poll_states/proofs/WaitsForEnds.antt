@@ -58,7 +58,7 @@ use Rattle.poll_states.specs.declared.entered.OpenScope.{OpenScope}
 use Rattle.poll_states.specs.Frames.{Frame, config_of, items_of, Stands}
 use Rattle.poll_states.specs.Steps.{HasBody, Stepped, CutShort}
 use Rattle.poll_states.specs.Named.{came_of_joined, after_named}
-use Rattle.poll_states.specs.Ends.{after_job, AfterDone, GoesOutside, LeavesEnded, IsInScope, IsScopeTop, EndsAndReceives, BreaksAndReceives, HasSeen, NotYetSeen}
+use Rattle.poll_states.specs.SeenEnds.{after_job, AfterDone, GoesOutside, LeavesEnded, IsInScope, IsScopeTop, EndsAndReceives, BreaksAndReceives, HasSeen, NotYetSeen}
 use Rattle.poll_states.proofs.Standing.{stands_knows, stands_body}
 use Rattle.script_meaning.proofs.GentleNotes.{attach_mild}
 use Rattle.poll_states.proofs.JobLines.{never_told_over}

@@ -10,7 +10,7 @@ ghost use Rattle.poll_states.specs.Frames.{config_of};
 ghost use Rattle.poll_states.specs.Steps.{GoesPast};
 ghost use Rattle.poll_states.specs.Calls.{came_of_send, came_of_try_send, came_of_receive, came_of_try_receive, enters, after_call};
 ghost use Rattle.poll_states.specs.Named.{came_of_joined, after_named};
-ghost use Rattle.poll_states.specs.Ends.{unwinds_for};
+ghost use Rattle.poll_states.specs.SeenEnds.{unwinds_for};
 
 use crate::code::closing;
 use crate::coroutine::Coroutine;
@@ -108,6 +108,7 @@ pub(crate) fn unwinds_for(cause: Cause) -> Stage
 
 impl<B: NoteBook> Coroutine<B> {
     /// Goes on after the call of this line came to this. Takes no memory.
+    #[inline(always)]
     pub(crate) fn go_on(&mut self, script: &Script, line: Instruction, came: Came)
         requires tag { self.old.tag < coroutine_count (program_of script.now) }
         requires at { LineIs (program_of script.now) self.old.tag (config_of self.old) line }
@@ -155,6 +156,7 @@ impl<B: NoteBook> Coroutine<B> {
     }
 
     /// Goes on after the wait of this line ended so. Takes no memory.
+    #[inline(always)]
     pub(crate) fn go_on_after(&mut self, script: &Script, line: Instruction, outcome: Settled)
         requires tag { self.old.tag < coroutine_count (program_of script.now) }
         requires at { LineIs (program_of script.now) self.old.tag (config_of self.old) line }
@@ -173,6 +175,7 @@ impl<B: NoteBook> Coroutine<B> {
     }
 
     /// Goes on after this line is done, and brought no element.
+    #[inline(always)]
     fn go_on_done(&mut self, script: &Script, line: Instruction)
         requires tag { self.old.tag < coroutine_count (program_of script.now) }
         requires at { LineIs (program_of script.now) self.old.tag (config_of self.old) line }
@@ -188,6 +191,7 @@ impl<B: NoteBook> Coroutine<B> {
     }
 
     /// Goes on after this line brought an element. Takes no memory.
+    #[inline(always)]
     fn go_on_with(&mut self, script: &Script, line: Instruction, value: Value)
         requires tag { self.old.tag < coroutine_count (program_of script.now) }
         requires at { LineIs (program_of script.now) self.old.tag (config_of self.old) line }
@@ -206,6 +210,7 @@ impl<B: NoteBook> Coroutine<B> {
     }
 
     /// Goes on after this line met a closed channel.
+    #[inline(always)]
     fn go_on_closed(&mut self, script: &Script, line: Instruction)
         requires tag { self.old.tag < coroutine_count (program_of script.now) }
         requires at { LineIs (program_of script.now) self.old.tag (config_of self.old) line }

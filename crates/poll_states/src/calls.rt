@@ -64,6 +64,7 @@ impl<B: NoteBook> Coroutine<B> {
 }
 
 /// Makes a call, with the element that it sends.
+#[inline(always)]
 fn make<B: NoteBook, F: ChannelFloor, W: Wakes>(
     caller: &mut Caller<'_, '_, '_, F, B, W>,
     call: ChannelCall,
@@ -108,6 +109,7 @@ fn make<B: NoteBook, F: ChannelFloor, W: Wakes>(
 }
 
 /// Makes the call of a line, and goes on by what it came to.
+#[inline(always)]
 pub(crate) fn call<B: NoteBook, C: ChannelFloor, J: JobFloor, W: Wakes, G: Gate>(
     script: &Script,
     frame: &mut Coroutine<B>,

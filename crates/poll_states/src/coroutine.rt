@@ -153,7 +153,7 @@ impl<B: NoteBook> Coroutine<B> {
     }
 
     /// Gives the row of a launched Job its name, if it gets one, and passes over the tags of its instance. Takes no memory.
-    pub(crate) fn pass_launch(&mut self, job: Option<u16>, size: u16)
+    pub(crate) fn skip_launched(&mut self, job: Option<u16>, size: u16)
         requires line { self.old.line < usize.MAX }
         requires free { self.old.free + size < 2 ^ 16 }
         requires room { vec_len self.old.rows < vec_capacity self.old.rows }

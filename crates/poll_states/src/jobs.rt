@@ -119,7 +119,7 @@ pub(crate) fn launch<B: NoteBook, C: ChannelFloor, J: JobFloor, W: Wakes, G: Gat
     gate.pass(frame.tag, 3);
     match answer {
         Ok(_) => {
-            frame.pass_launch(job, size);
+            frame.skip_launched(job, size);
             Ok(())
         }
         Err(error) => match error {

@@ -34,7 +34,7 @@
 //! - `named`: the lines that name a Job.
 //! - `jobs`: `yield` and the launch of a Job, and the end of the body.
 //! - `scopes`: the lines of scopes, and how the end of one is waited for and seen.
-//! - `ends`: how a coroutine sees an end.
+//! - `seen_ends`: how a coroutine sees an end.
 //! - `loops`: the lines of repeats, and the ends of what a coroutine entered.
 //! - `selects`: a select.
 //! - `waits`: the end of a wait.
@@ -49,7 +49,6 @@ mod book;
 mod calls;
 mod code;
 mod coroutine;
-mod ends;
 mod entered;
 mod floors;
 mod frame;
@@ -60,6 +59,7 @@ mod loops;
 mod named;
 mod polls;
 mod scopes;
+mod seen_ends;
 mod selects;
 mod waits;
 

@@ -24,6 +24,7 @@ use note_book::{Item, NoteBook};
 use script_reader::{Instruction, Operand, Script};
 
 /// Runs the line of a coroutine, or ends its body if none is left.
+#[inline(always)]
 pub(crate) fn run<B: NoteBook, C: ChannelFloor, J: JobFloor, W: Wakes, G: Gate>(
     script: &Script,
     frame: &mut Coroutine<B>,
@@ -47,6 +48,7 @@ pub(crate) fn run<B: NoteBook, C: ChannelFloor, J: JobFloor, W: Wakes, G: Gate>(
 }
 
 /// Runs this line.
+#[inline(always)]
 fn run_line<B: NoteBook, C: ChannelFloor, J: JobFloor, W: Wakes, G: Gate>(
     script: &Script,
     frame: &mut Coroutine<B>,

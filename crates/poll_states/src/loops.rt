@@ -6,7 +6,7 @@ ghost use Rattle.script_reader.specs.Scripts.{program_of};
 ghost use Rattle.script_meaning.specs.Configs.{IsAt};
 ghost use Rattle.poll_states.specs.Frames.{config_of, Stands, SameFloors, noted};
 ghost use Rattle.poll_states.specs.Steps.{StepAnswer};
-ghost use Rattle.poll_states.specs.Ends.{EndsNoScope};
+ghost use Rattle.poll_states.specs.SeenEnds.{EndsNoScope};
 
 use crate::coroutine::Coroutine;
 use crate::entered::Entered;

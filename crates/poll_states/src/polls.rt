@@ -6,16 +6,16 @@ ghost use Rattle.script_meaning.specs.declared.stage.Stage.TheVariants.{Fresh, R
 ghost use Rattle.script_meaning.specs.Polls.{is_seeing};
 ghost use Rattle.poll_states.specs.Frames.{Stands, SameFloors, IsUnmoved, noted};
 ghost use Rattle.poll_states.specs.Steps.{AnsweredAfter, MovesOn, PollAnswer, StepAnswer};
-ghost use Rattle.poll_states.specs.Ends.{WentOnAnswer};
+ghost use Rattle.poll_states.specs.SeenEnds.{WentOnAnswer};
 
 use crate::book::Book;
 use crate::coroutine::Coroutine;
-use crate::ends::see_end;
 use crate::floors::Floors;
 use crate::frame::Frame;
 use crate::jobs::{OwnState, break_off, own_state};
 use crate::lines::run;
 use crate::scopes::{break_scope, end_scope_wait};
+use crate::seen_ends::see_end;
 use crate::waits::{end_wait, give_up, was_resolved};
 use channel_model::ChannelFloor;
 use co_base::{Gate, Memory, Row, WaitId, Wakes};

@@ -15,7 +15,7 @@ ghost use Rattle.script_meaning.specs.declared.stage.Stage.TheVariants.{Unwindin
 ghost use Rattle.script_meaning.specs.Configs.{IsAt};
 ghost use Rattle.poll_states.specs.Frames.{config_of, Stands, SameFloors, SameLoans, noted};
 ghost use Rattle.poll_states.specs.Steps.{StepAnswer};
-ghost use Rattle.poll_states.specs.Ends.{
+ghost use Rattle.poll_states.specs.SeenEnds.{
   IsInScope,
   IsScopeTop,
   AfterDone,

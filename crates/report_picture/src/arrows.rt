@@ -23,6 +23,68 @@ fn next_lane(lanes: &mut Vec<u64>, column: usize) -> u64 {
     }
 }
 
+/// A way with its point: from where it starts, by a lane in front of the column where it ends.
+fn push_bent<'a>(
+    marks: &mut Vec<Mark<'a>>,
+    start: (u64, u64),
+    lane: u64,
+    end: (u64, u64),
+    looks: (Look, Look),
+    title: &'a [u8],
+) -> Result<(), AllocError> {
+    let (x, y) = start;
+    let (to_left, to_y) = end;
+    let way = Way::Bent {
+        x,
+        y,
+        level: y.saturating_add(LEVEL),
+        lane: to_left.saturating_sub(lane.saturating_mul(5).saturating_add(12)),
+        to_y,
+        to_x: to_left.saturating_sub(2),
+    };
+    push_path(marks, way, looks.0, title)?;
+    let point = Way::Point {
+        x: to_left,
+        y: to_y,
+    };
+    push_path(marks, point, looks.1, title)
+}
+
+fn push_path<'a>(
+    marks: &mut Vec<Mark<'a>>,
+    way: Way,
+    look: Look,
+    title: &'a [u8],
+) -> Result<(), AllocError> {
+    marks.push(Mark::Path { way, look, title })?;
+    Ok(())
+}
+
+fn push_label<'a>(
+    marks: &mut Vec<Mark<'a>>,
+    x: u64,
+    y: u64,
+    text: Vec<u8>,
+    title: &'a [u8],
+) -> Result<(), AllocError> {
+    marks.push(Mark::Text {
+        x,
+        y,
+        look: Look::Label,
+        text,
+        title,
+    })?;
+    Ok(())
+}
+
+/// The lane in front of a column for its next way, if there is a column.
+fn lane_to(lanes: &mut Vec<u64>, column: Option<usize>) -> u64 {
+    match column {
+        Some(column) => next_lane(lanes, column),
+        None => 0,
+    }
+}
+
 /// A way from one line to another, if both have a column.
 fn push_way<'a>(
     marks: &mut Vec<Mark<'a>>,
@@ -30,8 +92,7 @@ fn push_way<'a>(
     sheet: &Sheet<'_, 'a>,
     from: usize,
     to: usize,
-    look: Look,
-    point: Look,
+    looks: (Look, Look),
 ) -> Result<bool, AllocError> {
     let (Some(source), Some(target)) = (sheet.note(from), sheet.note(to)) else {
         return Ok(false);
@@ -39,32 +100,16 @@ fn push_way<'a>(
     let (Some(left), Some(to_left)) = (sheet.left(source.tag), sheet.left(target.tag)) else {
         return Ok(false);
     };
-    let lane = match sheet.column(target.tag) {
-        Some(column) => next_lane(lanes, column),
-        None => 0,
-    };
-    let y = sheet.y(from);
-    let to_y = sheet.y(to);
-    marks.push(Mark::Path {
-        way: Way::Bent {
-            x: left.saturating_add(BAR / 2),
-            y,
-            level: y.saturating_add(LEVEL),
-            lane: to_left.saturating_sub(lane.saturating_mul(5).saturating_add(12)),
-            to_y,
-            to_x: to_left.saturating_sub(2),
-        },
-        look,
-        title: source.text,
-    })?;
-    marks.push(Mark::Path {
-        way: Way::Point {
-            x: to_left,
-            y: to_y,
-        },
-        look: point,
-        title: source.text,
-    })?;
+    let lane = lane_to(lanes, sheet.column(target.tag));
+    let start = (left.saturating_add(BAR / 2), sheet.y(from));
+    push_bent(
+        marks,
+        start,
+        lane,
+        (to_left, sheet.y(to)),
+        looks,
+        source.text,
+    )?;
     Ok(true)
 }
 
@@ -94,6 +139,30 @@ fn element(
     Ok(text)
 }
 
+/// The way of the element that this line brought, if another line got it.
+fn push_element<'a>(
+    alloc: Global,
+    marks: &mut Vec<Mark<'a>>,
+    lanes: &mut Vec<u64>,
+    sheet: &Sheet<'_, 'a>,
+    number: usize,
+    note: &Note<'a>,
+) -> Result<(), AllocError> {
+    let Some(to) = got(sheet, note) else {
+        return Ok(());
+    };
+    let looks = (Look::Brings, Look::BringsEnd);
+    if !push_way(marks, lanes, sheet, number, to, looks)? {
+        return Ok(());
+    }
+    let Some(left) = sheet.left(note.tag) else {
+        return Ok(());
+    };
+    let text = element(alloc, note.channel, note.place, note.value, b"")?;
+    let y = sheet.y(number).saturating_add(LEVEL - 5);
+    push_label(marks, left.saturating_add(INDENT), y, text, note.text)
+}
+
 /// The ways of the elements, each from the line that brought it to the line that got it.
 pub(crate) fn push_elements<'a>(
     alloc: Global,
@@ -102,26 +171,7 @@ pub(crate) fn push_elements<'a>(
     sheet: &Sheet<'_, 'a>,
 ) -> Result<(), AllocError> {
     for (number, note) in sheet.notes.iter().enumerate() {
-        if let Some(to) = got(sheet, note)
-            && push_way(
-                marks,
-                lanes,
-                sheet,
-                number,
-                to,
-                Look::Brings,
-                Look::BringsEnd,
-            )?
-            && let Some(left) = sheet.left(note.tag)
-        {
-            marks.push(Mark::Text {
-                x: left.saturating_add(INDENT),
-                y: sheet.y(number).saturating_add(LEVEL - 5),
-                look: Look::Label,
-                text: element(alloc, note.channel, note.place, note.value, b"")?,
-                title: note.text,
-            })?;
-        }
+        push_element(alloc, marks, lanes, sheet, number, note)?;
     }
     Ok(())
 }
@@ -132,19 +182,12 @@ pub(crate) fn push_cancels<'a>(
     lanes: &mut Vec<u64>,
     sheet: &Sheet<'_, 'a>,
 ) -> Result<(), AllocError> {
+    let looks = (Look::Cancels, Look::CancelsEnd);
     for (number, note) in sheet.notes.iter().enumerate() {
         if matches!(note.verb, Verb::Saw)
             && let Some(from) = sheet.tables.row(note.row).cancels
         {
-            push_way(
-                marks,
-                lanes,
-                sheet,
-                from,
-                number,
-                Look::Cancels,
-                Look::CancelsEnd,
-            )?;
+            push_way(marks, lanes, sheet, from, number, looks)?;
         }
     }
     Ok(())
@@ -186,28 +229,30 @@ fn push_lost_one<'a>(
     let [_, channel, place, value, fate] = words else {
         return Ok(());
     };
-    if let Some(number) = end_of(sheet, *channel, *place)
-        && let Some(note) = sheet.note(number)
-        && let Some(left) = sheet.left(note.tag)
-    {
-        let y = sheet.y(number).saturating_add(LEVEL - 6);
-        marks.push(Mark::Path {
-            way: Way::Cross {
-                x: left.saturating_add(INDENT + 4),
-                y,
-            },
-            look: Look::Lost,
-            title,
-        })?;
-        let mut text = element(alloc, *channel, *place, *value, b" ")?;
-        text.extend_from_slice(*fate)?;
-        marks.push(Mark::Text {
-            x: left.saturating_add(INDENT + 14),
-            y: y.saturating_add(4),
-            look: Look::Label,
-            text,
-            title,
-        })?;
+    let Some(number) = end_of(sheet, *channel, *place) else {
+        return Ok(());
+    };
+    let Some(left) = left_at(sheet, number) else {
+        return Ok(());
+    };
+    let y = sheet.y(number).saturating_add(LEVEL - 6);
+    let x = left.saturating_add(INDENT + 4);
+    push_path(marks, Way::Cross { x, y }, Look::Lost, title)?;
+    let mut text = element(alloc, *channel, *place, *value, b" ")?;
+    text.extend_from_slice(*fate)?;
+    push_label(
+        marks,
+        x.saturating_add(10),
+        y.saturating_add(4),
+        text,
+        title,
+    )
+}
+
+/// Where the column of this line stands, if its coroutine has one.
+fn left_at(sheet: &Sheet<'_, '_>, number: usize) -> Option<u64> {
+    match sheet.note(number) {
+        Some(note) => sheet.left(note.tag),
+        None => None,
     }
-    Ok(())
 }

@@ -2,7 +2,7 @@
 
 use crate::layout::{BAR, HALF};
 use crate::looks::{Look, State};
-use crate::notes::Verb;
+use crate::notes::{Note, Verb};
 use crate::picture::{Mark, Way};
 use crate::sheet::Sheet;
 use std::alloc::{AllocError, Global};
@@ -73,6 +73,77 @@ fn end_of(sheet: &Sheet<'_, '_>, last: Option<&usize>, life: Life) -> u64 {
     }
 }
 
+/// A line of the coroutine in a column, which is Active from its first line on, if nothing else was said of its Job.
+fn see_line(
+    lives: &mut Vec<Option<Life>>,
+    last: &mut Vec<usize>,
+    column: Option<usize>,
+    since: usize,
+) {
+    let Some(column) = column else {
+        return;
+    };
+    if life_at(lives.as_slice(), column).is_none() {
+        let state = State::Active;
+        set_life(lives, column, Life { state, since });
+    }
+    if let Some(place) = last.get_mut(column) {
+        *place = since;
+    }
+}
+
+/// The Job of the coroutine in a column comes to a state, if it does.
+fn change<'a>(
+    marks: &mut Vec<Mark<'a>>,
+    sheet: &Sheet<'_, 'a>,
+    lives: &mut Vec<Option<Life>>,
+    column: usize,
+    new: Life,
+) -> Result<(), AllocError> {
+    if let Some(old) = life_at(lives.as_slice(), column) {
+        if !comes_to(old.state, new.state) {
+            return Ok(());
+        }
+        push_stretch(marks, sheet, column, old, sheet.y(new.since))?;
+    }
+    set_life(lives, column, new);
+    Ok(())
+}
+
+/// What a line says of the lives.
+fn pass_line<'a>(
+    marks: &mut Vec<Mark<'a>>,
+    sheet: &Sheet<'_, 'a>,
+    lives: &mut Vec<Option<Life>>,
+    last: &mut Vec<usize>,
+    since: usize,
+) -> Result<(), AllocError> {
+    let Some(note) = sheet.note(since) else {
+        return Ok(());
+    };
+    see_line(lives, last, sheet.column(note.tag), since);
+    match (note.state(), sheet.column(note.row)) {
+        (Some(state), Some(column)) => change(marks, sheet, lives, column, Life { state, since }),
+        _ => Ok(()),
+    }
+}
+
+/// The last stretches of the lives.
+fn push_last<'a>(
+    marks: &mut Vec<Mark<'a>>,
+    sheet: &Sheet<'_, 'a>,
+    lives: &[Option<Life>],
+    last: &[usize],
+) -> Result<(), AllocError> {
+    for (column, life) in lives.iter().enumerate() {
+        if let Some(life) = *life {
+            let until = end_of(sheet, last.get(column), life);
+            push_stretch(marks, sheet, column, life, until)?;
+        }
+    }
+    Ok(())
+}
+
 /// The lives, each in stretches of one state of its Job.
 pub(crate) fn push_lives<'a>(
     alloc: Global,
@@ -83,38 +154,38 @@ pub(crate) fn push_lives<'a>(
     let mut lives: Vec<Option<Life>> = vec![in alloc; None; sheet.columns.len()]?;
     let mut last = vec![in alloc; 0usize; sheet.columns.len()]?;
     for number in order {
-        let Some(note) = sheet.note(*number) else {
-            continue;
-        };
-        let since = *number;
-        if let Some(column) = sheet.column(note.tag) {
-            if life_at(lives.as_slice(), column).is_none() {
-                let state = State::Active;
-                set_life(&mut lives, column, Life { state, since });
-            }
-            if let Some(place) = last.get_mut(column) {
-                *place = since;
-            }
-        }
-        if let Some(state) = note.state()
-            && let Some(column) = sheet.column(note.row)
-        {
-            match life_at(lives.as_slice(), column) {
-                Some(life) if comes_to(life.state, state) => {
-                    push_stretch(marks, sheet, column, life, sheet.y(since))?;
-                    set_life(&mut lives, column, Life { state, since });
-                }
-                Some(_) => {}
-                None => set_life(&mut lives, column, Life { state, since }),
-            }
-        }
+        pass_line(marks, sheet, &mut lives, &mut last, *number)?;
     }
-    for (column, life) in lives.iter().enumerate() {
-        if let Some(life) = *life {
-            let until = end_of(sheet, last.get(column), life);
-            push_stretch(marks, sheet, column, life, until)?;
-        }
+    push_last(marks, sheet, lives.as_slice(), last.as_slice())
+}
+
+/// Where a wait ends.
+fn bottom_of<'a>(sheet: &Sheet<'_, 'a>, wait: &'a [u8]) -> u64 {
+    match sheet.tables.wait(wait).settles {
+        Some(settle) => sheet.y(settle),
+        None => sheet.y(sheet.notes.len()),
     }
+}
+
+fn push_wait<'a>(
+    marks: &mut Vec<Mark<'a>>,
+    sheet: &Sheet<'_, 'a>,
+    number: usize,
+    note: &Note<'a>,
+) -> Result<(), AllocError> {
+    let Some(left) = sheet.left(note.tag) else {
+        return Ok(());
+    };
+    let way = Way::Down {
+        x: left.saturating_add(BAR / 2),
+        from: sheet.y(number),
+        to: bottom_of(sheet, note.wait),
+    };
+    marks.push(Mark::Path {
+        way,
+        look: Look::Wait,
+        title: note.text,
+    })?;
     Ok(())
 }
 
@@ -128,22 +199,7 @@ pub(crate) fn push_waits<'a>(
         let begins = matches!(note.verb, Verb::Offer | Verb::Await);
         if begins && !(drawn.0 == note.tag && drawn.1 == note.wait) {
             drawn = (note.tag, note.wait);
-            if let Some(left) = sheet.left(note.tag) {
-                let to = match sheet.tables.wait(note.wait).settles {
-                    Some(settle) => sheet.y(settle),
-                    None => sheet.y(sheet.notes.len()),
-                };
-                let way = Way::Down {
-                    x: left.saturating_add(BAR / 2),
-                    from: sheet.y(number),
-                    to,
-                };
-                marks.push(Mark::Path {
-                    way,
-                    look: Look::Wait,
-                    title: note.text,
-                })?;
-            }
+            push_wait(marks, sheet, number, note)?;
         }
     }
     Ok(())

@@ -112,7 +112,7 @@ fn number_at(words: &[&[u8]], i: usize) -> u32 {
 
 fn note_of<'a>(tag: u32, text: &'a [u8], words: &[&'a [u8]]) -> Note<'a> {
     let verb = verb_among(&VERBS, word_at(words, 1));
-    let mut note = Note {
+    let note = Note {
         text,
         tag,
         verb,
@@ -126,52 +126,63 @@ fn note_of<'a>(tag: u32, text: &'a [u8], words: &[&'a [u8]]) -> Note<'a> {
         cancelled: false,
     };
     match verb {
-        Verb::Hand | Verb::Put | Verb::Take | Verb::Drop | Verb::Spurn | Verb::Drain => {
-            note.channel = word_at(words, 2);
-            note.place = word_at(words, 3);
-            note.value = word_at(words, 4);
-        }
-        Verb::Offer => {
-            note.channel = word_at(words, 2);
-            note.place = word_at(words, 3);
-            note.value = word_at(words, 4);
-            note.wait = word_at(words, 5);
-        }
-        Verb::Await => {
-            note.channel = word_at(words, 2);
-            note.place = word_at(words, 3);
-            note.wait = word_at(words, 4);
-        }
-        Verb::Admit | Verb::WakeClosed => {
-            note.channel = word_at(words, 2);
-            note.place = word_at(words, 3);
-        }
-        Verb::Close | Verb::Refused => note.channel = word_at(words, 2),
-        Verb::Settle | Verb::Withdraw | Verb::Late => {
-            note.wait = word_at(words, 2);
-            note.how = word_at(words, 3);
-        }
-        Verb::Attach => {
-            note.row = number_at(words, 2);
-            note.other = number_at(words, 4);
-            note.how = word_at(words, 7);
-            note.cancelled = words.len() > 8;
-        }
-        Verb::Cancel => {
-            note.row = number_at(words, 2);
-            note.how = word_at(words, 3);
-            note.other = number_at(words, 4);
-        }
-        Verb::Finish => {
-            note.row = number_at(words, 2);
-            note.how = word_at(words, 3);
-        }
-        Verb::Start | Verb::EndBody | Verb::Gone | Verb::Saw | Verb::SawEnd => {
-            note.row = number_at(words, 2);
-        }
-        Verb::Other => {}
+        Verb::Hand | Verb::Put | Verb::Take | Verb::Drop | Verb::Spurn | Verb::Drain => Note {
+            channel: word_at(words, 2),
+            place: word_at(words, 3),
+            value: word_at(words, 4),
+            ..note
+        },
+        Verb::Offer => Note {
+            channel: word_at(words, 2),
+            place: word_at(words, 3),
+            value: word_at(words, 4),
+            wait: word_at(words, 5),
+            ..note
+        },
+        Verb::Await => Note {
+            channel: word_at(words, 2),
+            place: word_at(words, 3),
+            wait: word_at(words, 4),
+            ..note
+        },
+        Verb::Admit | Verb::WakeClosed => Note {
+            channel: word_at(words, 2),
+            place: word_at(words, 3),
+            ..note
+        },
+        Verb::Close | Verb::Refused => Note {
+            channel: word_at(words, 2),
+            ..note
+        },
+        Verb::Settle | Verb::Withdraw | Verb::Late => Note {
+            wait: word_at(words, 2),
+            how: word_at(words, 3),
+            ..note
+        },
+        Verb::Attach => Note {
+            row: number_at(words, 2),
+            other: number_at(words, 4),
+            how: word_at(words, 7),
+            cancelled: words.len() > 8,
+            ..note
+        },
+        Verb::Cancel => Note {
+            row: number_at(words, 2),
+            how: word_at(words, 3),
+            other: number_at(words, 4),
+            ..note
+        },
+        Verb::Finish => Note {
+            row: number_at(words, 2),
+            how: word_at(words, 3),
+            ..note
+        },
+        Verb::Start | Verb::EndBody | Verb::Gone | Verb::Saw | Verb::SawEnd => Note {
+            row: number_at(words, 2),
+            ..note
+        },
+        Verb::Other => note,
     }
-    note
 }
 
 impl Note<'_> {

@@ -12,7 +12,7 @@ pub(crate) struct OfPlace {
     pub(crate) awaits: Option<usize>,
     pub(crate) admits: Option<usize>,
     pub(crate) takes: Option<usize>,
-    /// Drop or drain.
+    /// Drop, spurn or drain.
     pub(crate) gives_up: Option<usize>,
     pub(crate) wakes: Option<usize>,
 }
@@ -32,6 +32,11 @@ pub(crate) struct OfWait {
     pub(crate) settles: Option<usize>,
     pub(crate) late: Option<usize>,
 }
+
+const NO_WAIT: OfWait = OfWait {
+    settles: None,
+    late: None,
+};
 
 /// The lines on one row.
 #[derive(Clone, Copy)]
@@ -54,6 +59,71 @@ const NO_ROW: OfRow = OfRow {
     first: None,
 };
 
+// ---- with one line more
+
+fn of_place(of: OfPlace, number: usize, verb: Verb) -> OfPlace {
+    let here = Some(number);
+    match verb {
+        Verb::Hand | Verb::Put | Verb::Offer => OfPlace { brings: here, ..of },
+        Verb::Await => OfPlace { awaits: here, ..of },
+        Verb::Admit => OfPlace { admits: here, ..of },
+        Verb::Take => OfPlace { takes: here, ..of },
+        Verb::Drop | Verb::Spurn | Verb::Drain => OfPlace {
+            gives_up: here,
+            ..of
+        },
+        Verb::WakeClosed => OfPlace { wakes: here, ..of },
+        _ => of,
+    }
+}
+
+fn of_wait(of: OfWait, number: usize, verb: Verb) -> OfWait {
+    match verb {
+        Verb::Settle => OfWait {
+            settles: Some(number),
+            ..of
+        },
+        _ => OfWait {
+            late: Some(number),
+            ..of
+        },
+    }
+}
+
+fn of_row(of: OfRow, number: usize, note: &Note<'_>) -> OfRow {
+    let here = Some(number);
+    match note.verb {
+        Verb::Attach => OfRow {
+            attaches: here,
+            parent: Some(note.other),
+            cancels: if note.cancelled { here } else { of.cancels },
+            ..of
+        },
+        Verb::Start => OfRow { starts: here, ..of },
+        Verb::Cancel => OfRow {
+            cancels: here,
+            ..of
+        },
+        Verb::Finish => OfRow {
+            finishes: here,
+            ..of
+        },
+        _ => of,
+    }
+}
+
+fn of_first(of: OfRow, number: usize) -> OfRow {
+    match of.first {
+        Some(_) => of,
+        None => OfRow {
+            first: Some(number),
+            ..of
+        },
+    }
+}
+
+// ---- the tables
+
 /// Which lines say what, each by its number among the lines of the books.
 #[derive(Drop)]
 pub(crate) struct Tables<'a> {
@@ -74,10 +144,7 @@ impl<'a> Tables<'a> {
     pub(crate) fn wait(&self, wait: &'a [u8]) -> OfWait {
         match self.waits.get(&wait) {
             Some(found) => *found,
-            None => OfWait {
-                settles: None,
-                late: None,
-            },
+            None => NO_WAIT,
         }
     }
 
@@ -93,54 +160,25 @@ impl<'a> Tables<'a> {
             .places
             .entry((note.channel, note.place))?
             .or_insert(NO_PLACE);
-        match note.verb {
-            Verb::Hand | Verb::Put | Verb::Offer => of.brings = Some(number),
-            Verb::Await => of.awaits = Some(number),
-            Verb::Admit => of.admits = Some(number),
-            Verb::Take => of.takes = Some(number),
-            Verb::Drop | Verb::Spurn | Verb::Drain => of.gives_up = Some(number),
-            Verb::WakeClosed => of.wakes = Some(number),
-            _ => {}
-        }
+        *of = of_place(*of, number, note.verb);
         Ok(())
     }
 
     fn add_wait(&mut self, number: usize, note: &Note<'a>) -> Result<(), AllocError> {
-        let of = self.waits.entry(note.wait)?.or_insert(OfWait {
-            settles: None,
-            late: None,
-        });
-        if matches!(note.verb, Verb::Settle) {
-            of.settles = Some(number);
-        } else {
-            of.late = Some(number);
-        }
+        let of = self.waits.entry(note.wait)?.or_insert(NO_WAIT);
+        *of = of_wait(*of, number, note.verb);
         Ok(())
     }
 
     fn add_row(&mut self, number: usize, note: &Note<'a>) -> Result<(), AllocError> {
         let of = self.rows.entry(note.row)?.or_insert(NO_ROW);
-        match note.verb {
-            Verb::Attach => {
-                of.attaches = Some(number);
-                of.parent = Some(note.other);
-                if note.cancelled {
-                    of.cancels = Some(number);
-                }
-            }
-            Verb::Start => of.starts = Some(number),
-            Verb::Cancel => of.cancels = Some(number),
-            Verb::Finish => of.finishes = Some(number),
-            _ => {}
-        }
+        *of = of_row(*of, number, note);
         Ok(())
     }
 
     fn add_first(&mut self, number: usize, note: &Note<'a>) -> Result<(), AllocError> {
         let of = self.rows.entry(note.tag)?.or_insert(NO_ROW);
-        if of.first.is_none() {
-            of.first = Some(number);
-        }
+        *of = of_first(*of, number);
         Ok(())
     }
 

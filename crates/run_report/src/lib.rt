@@ -40,4 +40,4 @@ mod totals;
 
 pub use fault::fault_line;
 pub use text::{report, report_of};
-pub use totals::summary;
+pub use totals::{push_result, summary};

@@ -150,7 +150,8 @@ fn push_first_counts(out: &mut String, elements: ElementCounts) -> Result<(), Al
     )
 }
 
-fn push_result(out: &mut String, root: Option<End>) -> Result<(), AllocError>
+/// Writes the last part of a summary: the root's result, and the end of the line.
+pub fn push_result(out: &mut String, root: Option<End>) -> Result<(), AllocError>
     ensures { OnOk result (string_bytes out.new ≡ string_bytes out.old ++ (codes "result " ++ result_text root ++ codes "\n")) }
 {
     let result = ShownResult(root);

@@ -17,7 +17,7 @@ ghost use Rattle.scope_builders.specs.Calls.{
 };
 
 use crate::builder::{Builder, LaunchError};
-use crate::parts::{attach, cancel_first, finish_up, pass};
+use crate::parts::{attach, cancel_first, cancel_tree, finish_up};
 use channel_model::ChannelFloor;
 use co_base::{Memory, Row, Tag, Value, Wakes};
 use job_model::{Attached, Ended, JobAct, JobFloor, JobKind, JobNote, Reason};
@@ -121,7 +121,7 @@ impl<C: ChannelFloor, J: JobFloor, B: NoteBook, W: Wakes> Builder<'_, '_, '_, '_
         ensures answer { CancelledAllAnswer self.old.who row (J.view self.old.jobs.now) (J.view self.new.jobs.now)
             (B.items self.old.book.now) (B.items self.new.book.now) result }
     {
-        match pass(
+        match cancel_tree(
             self.jobs,
             self.book,
             self.wakes,

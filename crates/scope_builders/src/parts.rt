@@ -69,7 +69,7 @@ pub(crate) fn attach<J: JobFloor, B: NoteBook>(
 }
 
 /// Cancels a Job with all below it, and makes room for each Cancel before it.
-pub(crate) fn pass<J: JobFloor, B: NoteBook, W: Wakes>(
+pub(crate) fn cancel_tree<J: JobFloor, B: NoteBook, W: Wakes>(
     jobs: &mut J,
     book: &mut B,
     wakes: &mut W,
@@ -140,7 +140,7 @@ fn fail_off<J: JobFloor, B: NoteBook, W: Wakes>(
     ensures jobs_anchor { J.anchor jobs.new ≡ J.anchor jobs.old }
     ensures broken { BreakAnswer who row (Some failed) (J.view jobs.old) (J.view jobs.new) (B.items book.old) (B.items book.new) result }
 {
-    match pass(jobs, book, wakes, who, row, Reason::Own(failed)) {
+    match cancel_tree(jobs, book, wakes, who, row, Reason::Own(failed)) {
         Ok(passed) => {
             if passed.newly && row == who {
                 match fail_up(jobs, book, wakes, who, row) {
@@ -172,7 +172,7 @@ fn break_off<J: JobFloor, B: NoteBook, W: Wakes>(
     ensures broken { BreakAnswer who row failure (J.view jobs.old) (J.view jobs.new) (B.items book.old) (B.items book.new) result }
 {
     match failure {
-        None => match pass(jobs, book, wakes, who, row, Reason::Request) {
+        None => match cancel_tree(jobs, book, wakes, who, row, Reason::Request) {
             Ok(_passed) => Ok(()),
             Err(memory) => Err(memory),
         },

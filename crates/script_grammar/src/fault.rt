@@ -6,7 +6,7 @@ ghost use Rattle.script_grammar.specs.declared.fault.FaultKind.TheVariants.{Memo
 use std::alloc::{AllocError, AllocFailed};
 
 /// What is wrong with a line.
-#[derive(Clone, Copy, Debug, PartialEq, Eq)]
+#[derive(Clone, Copy)]
 pub enum FaultKind {
     /// A byte that is neither a space nor a printed character.
     NotAscii,
@@ -27,7 +27,7 @@ pub enum FaultKind {
 }
 
 /// The first faulty line, numbered from 1, and its fault. With `Memory` the line is 0.
-#[derive(Clone, Copy, Debug, PartialEq, Eq)]
+#[derive(Clone, Copy)]
 pub struct ScriptFault {
     pub line: u32,
     pub kind: FaultKind,

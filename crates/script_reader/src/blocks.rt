@@ -1,13 +1,13 @@
 //! The lines of a block: clauses, launches, and the form of each.
 
-ghost use Rattle.std.specs.Prelude.{◌≡◌, ◌≤◌, length, map, string_bytes, option_map};
+ghost use Rattle.std.specs.Prelude.{◌≡◌, ◌≤◌, true, length, map, string_bytes, option_map};
 ghost use Rattle.script_grammar.specs.Words.{texts};
 ghost use Rattle.script_grammar.specs.Programs.{channel_names, block_names};
 ghost use Rattle.script_grammar.specs.Blocks.{is_new, is_among};
 ghost use Rattle.script_grammar.specs.Places.{clause_at, awaitable_at, target_at};
 ghost use Rattle.script_grammar.specs.Forms.{named_line, sending_line, await_line, launch_line, onsend_line, onreceive_line, clause_form, ending, line_form, verb_form, number_for};
 ghost use Rattle.script_reader.specs.Answers.{Gives};
-ghost use Rattle.script_reader.specs.Families.{with_name, with_operand};
+ghost use Rattle.script_reader.specs.Families.{is_of_a_name, is_of_an_operand, with_name, with_operand};
 ghost use Rattle.script_reader.specs.Reading.{view, open_of, said, name_in};
 
 use crate::form::Spoken;
@@ -195,6 +195,7 @@ fn channel_line<'a>(
     verb: Verb,
     words: &[&'a [u8]],
 ) -> Result<Spoken<'a>, FaultKind>
+    requires { is_of_a_name verb ≡ true }
     ensures { Gives said result (named_line (channel_names (view reading.now).channels) (with_name verb) (texts words.now)) }
 {
     named_line(&reading.channels, verb, words)
@@ -207,6 +208,7 @@ fn channel_send<'a>(
     verb: Verb,
     words: &[&'a [u8]],
 ) -> Result<Spoken<'a>, FaultKind>
+    requires { is_of_an_operand verb ≡ true }
     ensures { Gives said result (sending_line (channel_names (view reading.now).channels) (with_operand verb) (texts words.now)) }
 {
     sending_line(&reading.channels, verb, words)
@@ -214,6 +216,7 @@ fn channel_send<'a>(
 
 /// A line of a Job.
 fn job_line<'a>(block: &OpenBlock, verb: Verb, words: &[&'a [u8]]) -> Result<Spoken<'a>, FaultKind>
+    requires { is_of_a_name verb ≡ true }
     ensures { Gives said result (named_line (open_of block.now).jobs (with_name verb) (texts words.now)) }
 {
     named_line(&block.jobs, verb, words)

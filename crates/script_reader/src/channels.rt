@@ -6,6 +6,7 @@ ghost use Rattle.script_grammar.specs.Places.{places_at, count_at, buffered_at, 
 ghost use Rattle.channel_model.specs.declared.acts.Kind.TheVariants.{Buffered, DropOldest, DropLatest};
 ghost use Rattle.script_reader.specs.Answers.{Gives};
 
+use crate::limits::MOST_JOBS;
 use crate::place::number_of;
 use channel_model::Kind;
 use script_grammar::FaultKind;
@@ -28,7 +29,7 @@ pub(crate) fn count_of<'a, 'b>(words: &'b [&'a [u8]]) -> Result<(u16, &'b [&'a [
     match words {
         [] => Ok((1, words)),
         _ => {
-            let (count, rest) = number_of(1, 16_000, words)?;
+            let (count, rest) = number_of(1, MOST_JOBS, words)?;
             Ok((count as u16, rest))
         }
     }

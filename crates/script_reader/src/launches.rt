@@ -7,6 +7,7 @@ ghost use Rattle.script_grammar.specs.Tags.{times_over, launched};
 ghost use Rattle.script_reader.specs.Launching.{turns_opened, launched_with, AreNested};
 
 use crate::closings::is_end;
+use crate::limits::TOO_MANY_TURNS;
 use crate::sizes::launch_of;
 use script_grammar::Instruction as Line;
 use std::alloc::{AllocError, Global};
@@ -24,7 +25,7 @@ fn turns_opened(line: Line) -> Option<u32>
 {
     match line {
         Line::Repeat { turns } => Some(turns),
-        Line::Each { .. } => Some(16_001),
+        Line::Each { .. } => Some(TOO_MANY_TURNS),
         Line::Scope { .. } => Some(1),
         Line::Select => Some(1),
         _ => None,

@@ -14,6 +14,24 @@ use crate::place::names_main;
 use crate::reading::{OpenBlock, Reading};
 use script_grammar::{FaultKind, Instruction};
 
+/// The most channels of a script.
+const MOST_CHANNELS: usize = 256;
+
+/// The most places of all its channels together.
+const MOST_PLACES: u64 = 4_194_304;
+
+/// The most coroutines and scopes: the most that a block weighs, and `main` with all that is spawned.
+pub(crate) const MOST_JOBS: u32 = 16_000;
+
+/// So many turns are more than any limit allows.
+pub(crate) const TOO_MANY_TURNS: u32 = MOST_JOBS + 1;
+
+/// The most lines that stand in one another and need an end each.
+const MOST_DEPTH: usize = 8;
+
+/// The most clauses of a select.
+const MOST_CLAUSES: usize = 7;
+
 /// What is counted of a script: the places of all channels, the weight of the open block, and the load.
 #[derive(Clone, Copy)]
 pub(crate) struct Totals {
@@ -30,8 +48,8 @@ pub(crate) fn turns_within(nest: &[u32]) -> u32
     let mut rest = nest;
     while let [more, outer @ ..] = rest {
         let product = u64::from(turns) * u64::from(*more);
-        turns = if product > 16_001 {
-            16_001
+        turns = if product > u64::from(TOO_MANY_TURNS) {
+            TOO_MANY_TURNS
         } else {
             product as u32
         };
@@ -130,10 +148,10 @@ fn channel_totals(reading: &Reading, places: u32) -> Result<Totals, FaultKind>
     ensures { (c : Declared) → c.places ≡ places → GivesTotals result (after (channel_is c) (view reading.now)) }
 {
     let all = u64::from(reading.places) + u64::from(places);
-    if reading.channels.items.len() >= 256 {
+    if reading.channels.items.len() >= MOST_CHANNELS {
         return Err(FaultKind::TooMany);
     }
-    if all > 4_194_304 {
+    if all > MOST_PLACES {
         return Err(FaultKind::TooMany);
     }
     let old = same_totals(reading);
@@ -155,7 +173,7 @@ fn block_totals(reading: &Reading, name: &str) -> Result<Totals, FaultKind>
     } else {
         reading.load
     };
-    if load > 16_000 {
+    if load > MOST_JOBS {
         return Err(FaultKind::TooMany);
     }
     Ok(Totals {
@@ -181,7 +199,7 @@ fn spawn_totals(reading: &Reading, block: u16, count: u16) -> Result<Totals, Fau
     ensures { GivesTotals result (after (spawn_is block count) (view reading.now)) }
 {
     let load = u64::from(reading.load) + u64::from(count) * u64::from(weight_of(reading, block));
-    if load > 16_000 {
+    if load > u64::from(MOST_JOBS) {
         return Err(FaultKind::TooMany);
     }
     let old = same_totals(reading);
@@ -212,18 +230,18 @@ fn line_totals(reading: &Reading, block: &OpenBlock, line: Instruction) -> Resul
     requires current { (view reading.now).current ≡ Some (open_of block.now) }
     ensures { (job : Option (List ℕ)) → GivesTotals result (after (line_is line job) (view reading.now)) }
 {
-    if depth_after(&block.nest, block.clauses.is_some(), line) > 8 {
+    if depth_after(&block.nest, block.clauses.is_some(), line) > MOST_DEPTH {
         return Err(FaultKind::TooDeep);
     }
-    if clauses_after(&block.clauses, line) > 7 {
+    if clauses_after(&block.clauses, line) > MOST_CLAUSES {
         return Err(FaultKind::TooMany);
     }
     let weight = grown(block, own_weight(&reading.weights, line));
-    if weight > 16_000 {
+    if weight > MOST_JOBS {
         return Err(FaultKind::TooMany);
     }
     let load = grown_load(reading, block, weight);
-    if load > 16_000 {
+    if load > MOST_JOBS {
         return Err(FaultKind::TooMany);
     }
     Ok(Totals {

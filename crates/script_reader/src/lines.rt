@@ -1,11 +1,11 @@
 //! The lines of a block, by families.
 
-ghost use Rattle.std.specs.Prelude.{◌≡◌, map};
+ghost use Rattle.std.specs.Prelude.{◌≡◌, true, map};
 ghost use Rattle.script_grammar.specs.Words.{texts};
 ghost use Rattle.script_grammar.specs.Forms.{plain_line, named_line, sending_line, number_line, result_line};
 ghost use Rattle.script_grammar.specs.declared.instructions.Instruction.TheVariants.{Fail, Repeat};
 ghost use Rattle.script_reader.specs.Answers.{Gives};
-ghost use Rattle.script_reader.specs.Families.{with_name, with_operand};
+ghost use Rattle.script_reader.specs.Families.{is_of_a_name, is_of_an_operand, with_name, with_operand};
 ghost use Rattle.script_reader.specs.Reading.{said};
 
 use crate::form::Spoken;
@@ -14,6 +14,7 @@ use crate::place::{end_of, known_of, number_of, operand_of};
 use script_grammar::{FaultKind, Instruction, Operand, Verb};
 
 fn with_name(verb: Verb, i: u16) -> Instruction
+    requires { is_of_a_name verb ≡ true }
     ensures { result ≡ with_name verb i }
 {
     match verb {
@@ -25,18 +26,19 @@ fn with_name(verb: Verb, i: u16) -> Instruction
         Verb::Start => Instruction::Start { job: i },
         Verb::Join => Instruction::Join { job: i },
         Verb::Cancel => Instruction::Cancel { job: i },
-        _ => Instruction::Yield,
+        _ => unreachable!(),
     }
 }
 
 fn with_operand(verb: Verb, c: u16, value: Operand) -> Instruction
+    requires { is_of_an_operand verb ≡ true }
     ensures { result ≡ with_operand verb c value }
 {
     match verb {
         Verb::Send => Instruction::Send { c, value },
         Verb::TrySend => Instruction::TrySend { c, value },
         Verb::OnSend => Instruction::OnSend { c, value },
-        _ => Instruction::Yield,
+        _ => unreachable!(),
     }
 }
 
@@ -46,6 +48,7 @@ pub(crate) fn named_line<'a, T: Named + Drop>(
     verb: Verb,
     words: &[&'a [u8]],
 ) -> Result<Spoken<'a>, FaultKind>
+    requires { is_of_a_name verb ≡ true }
     ensures { Gives said result (named_line (map T.name_of items.now.items.items) (with_name verb) (texts words.now)) }
 {
     let (i, rest) = known_of(items, words)?;
@@ -59,6 +62,7 @@ pub(crate) fn sending_line<'a, T: Named + Drop>(
     verb: Verb,
     words: &[&'a [u8]],
 ) -> Result<Spoken<'a>, FaultKind>
+    requires { is_of_an_operand verb ≡ true }
     ensures { Gives said result (sending_line (map T.name_of items.now.items.items) (with_operand verb) (texts words.now)) }
 {
     let (c, rest) = known_of(items, words)?;

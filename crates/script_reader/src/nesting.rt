@@ -3,6 +3,7 @@
 ghost use Rattle.std.specs.Prelude.{◌≡◌, ◌++◌, ◌∷◌, [], ℕ, List, OnOk, Option, is_some, option_map};
 ghost use Rattle.script_grammar.specs.Blocks.{nest_after, clauses_after};
 
+use crate::limits::TOO_MANY_TURNS;
 use script_grammar::Instruction;
 use std::alloc::{AllocError, Global};
 
@@ -28,7 +29,7 @@ pub(crate) fn enter_nest(
             Ok(())
         }
         Instruction::Each { .. } => {
-            nest.insert(0, 16_001)?;
+            nest.insert(0, TOO_MANY_TURNS)?;
             Ok(())
         }
         Instruction::Scope { .. } => {

@@ -12,11 +12,9 @@ ghost use Rattle.script_reader.specs.Scripts.{program_of};
 use crate::finish::finished;
 use crate::script::Script;
 use crate::text::{Whole, lines_in};
+use co_base::LONGEST_SCRIPT;
 use script_grammar::{FaultKind, ScriptFault};
 use std::alloc::Global;
-
-/// The most bytes of a text.
-const MOST_BYTES: usize = 1_048_576;
 
 /// Reads a text that is not too long.
 fn read_short(alloc: Global, bytes: &[u8]) -> Result<Script, ScriptFault>
@@ -54,7 +52,7 @@ fn read_or_fault(alloc: Global, bytes: &[u8]) -> Result<Script, ScriptFault>
     ensures exact { GivesAt program_of result (reading_of bytes.now) }
     ensures memory { IfErr result (λ fault. fault.kind ≡ Memory → fault.line ≡ 0) }
 {
-    if bytes.len() > MOST_BYTES {
+    if bytes.len() > LONGEST_SCRIPT {
         return Err(ScriptFault {
             line: 1,
             kind: FaultKind::TooMany,

@@ -33,7 +33,7 @@ pub struct Coroutine {
 }
 
 /// Instances of a coroutine that run from the start: the coroutine's number in the script, and how many they are.
-#[derive(Clone, Copy, Debug, PartialEq, Eq)]
+#[derive(Clone, Copy)]
 pub struct Spawn {
     pub coroutine: u16,
     /// 1 to 16,000.

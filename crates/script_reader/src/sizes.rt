@@ -5,7 +5,7 @@ ghost use Rattle.script_grammar.specs.Blocks.{product, launch_of};
 ghost use Rattle.script_grammar.specs.Tags.{nest_with, counted, launches_from, sizes_in, size_in};
 ghost use Rattle.script_reader.specs.Programs.{block_of};
 
-use crate::limits::turns_within;
+use crate::limits::{TOO_MANY_TURNS, turns_within};
 use crate::script::Coroutine;
 use script_grammar::Instruction;
 use std::alloc::{AllocError, Global};
@@ -49,7 +49,7 @@ fn enter_runs(nest: &mut Vec<u32>, line: Instruction) -> Result<(), AllocError>
             Ok(())
         }
         Instruction::Each { .. } => {
-            nest.insert(0, 16_001)?;
+            nest.insert(0, TOO_MANY_TURNS)?;
             Ok(())
         }
         Instruction::Scope { .. } => {

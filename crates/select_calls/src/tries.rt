@@ -9,9 +9,9 @@ ghost use Rattle.select_calls.specs.Clauses.{calls_of, MaySelect};
 ghost use Rattle.select_calls.specs.Parts.{TriedAnswer, TriedAt, TriesAll};
 
 use crate::clause::{Clause, Outcome};
-use channel_calls::{Caller, make_room};
+use channel_calls::{Caller, make_room, wake_some};
 use channel_model::{Act, ChannelFloor, ChannelNote, TriedGot, TriedOffer};
-use co_base::{ChannelId, Memory, Tag, Value, Wakes};
+use co_base::{ChannelId, Memory, Value, Wakes};
 use note_book::{Item, NoteBook};
 
 /// What a clause came to that was tried.
@@ -77,13 +77,6 @@ fn try_to_send<F: ChannelFloor, B: NoteBook, W: Wakes>(
     }
 }
 
-/// Wakes the sender that waited, if one did.
-fn wake_sender<W: Wakes>(wakes: &mut W, sender: Option<Tag>) {
-    if let Some(sender) = sender {
-        wakes.wake(sender);
-    }
-}
-
 /// Tries to receive an element, and never waits.
 fn try_to_receive<F: ChannelFloor, B: NoteBook, W: Wakes>(
     x: &mut Caller<'_, '_, '_, F, B, W>,
@@ -101,7 +94,7 @@ fn try_to_receive<F: ChannelFloor, B: NoteBook, W: Wakes>(
         TriedGot::Taken(place, value, sender) => {
             let act = Act::Take { c, place, value };
             x.book.note(Item::Channel(ChannelNote::Made(act)));
-            wake_sender(x.wakes, sender);
+            wake_some(x.wakes, sender);
             match x.admit_all(c) {
                 Ok(()) => Ok(Tried::Ready(Outcome::Value(value))),
                 Err(memory) => Err(memory),

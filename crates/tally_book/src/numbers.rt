@@ -78,6 +78,7 @@ pub(crate) const NO_NUMBERS: Numbers = Numbers {
 
 impl Numbers {
     /// With one note more.
+    #[inline(always)]
     pub(crate) fn add(&mut self, item: &Item)
         requires within { AreWithin self.old }
         requires room { self.old.notes < 4294967295 }
@@ -96,6 +97,7 @@ impl Numbers {
 
 impl ActNumbers {
     /// With one act more after so many notes.
+    #[inline(always)]
     fn add(&mut self, act: &Act, notes: u32)
         requires within { AreActsUpTo notes self.old }
         requires room { notes < 4294967295 }

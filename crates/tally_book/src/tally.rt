@@ -68,6 +68,7 @@ impl NoteBook for Tally {
         }
     }
 
+    #[inline(always)]
     fn note(&mut self, item: Item) {
         self.numbers.add(&item);
         self.noted = Noted::with(&self.noted, &item);

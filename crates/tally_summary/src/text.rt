@@ -1,12 +1,11 @@
 //! The line.
 
-ghost use Rattle.std.specs.Prelude.{◌≡◌, ◌+◌, ◌≤◌, ◌++◌, List, IfOk, OnOk, Some, length, string_bytes};
-ghost use lib.Chars.{codes};
+ghost use Rattle.std.specs.Prelude.{◌≡◌, ◌+◌, ◌≤◌, ◌++◌, List, IfOk, OnOk, length, string_bytes};
 ghost use Rattle.channel_model.specs.declared.acts.Entry.{Entry};
 ghost use Rattle.job_model.specs.declared.acts.JobEntry.{JobEntry};
 ghost use Rattle.script_reader.specs.Scripts.{program_of};
 ghost use Rattle.run_laws.specs.Ends.{IsRunAtRest};
-ghost use Rattle.run_report.specs.Summaries.{result_text, summary_text};
+ghost use Rattle.run_report.specs.Summaries.{summary_text};
 ghost use Rattle.summary_laws.specs.TallyTexts.{first_numbers_text, numbers_text, second_numbers_text};
 ghost use Rattle.rest_laws.specs.LinesTold.{job_numbers_text, line_of_books};
 ghost use Rattle.tally_summary.specs.Totals.{AreJobsOf, line_of};
@@ -15,9 +14,9 @@ use crate::counted::{Fates, fates_of};
 use crate::totals::{JobTotals, act_totals, job_totals};
 use co_base::Memory;
 use job_model::End;
+use run_report::push_result;
 use script_reader::Script;
 use std::alloc::{AllocError, Global};
-use std::fmt;
 use tally_book::Tally;
 
 /// The summary of a run of the script whose coroutines kept these tallies, and whose root has ended so, if it has: if the run came to rest,
@@ -142,26 +141,4 @@ fn push_second_fates(out: &mut String, fates: &Fates) -> Result<(), AllocError>
         out,
         "received {received} undelivered {undelivered} dropped {dropped} spurned {spurned} withdrawn {withdrawn} held {held} "
     )
-}
-
-fn push_result(out: &mut String, root: Option<End>) -> Result<(), AllocError>
-    ensures { OnOk result (string_bytes out.new ≡ string_bytes out.old ++ (codes "result " ++ result_text root ++ codes "\n")) }
-{
-    let result = ShownResult(root);
-    write!(out, "result {result}\n")
-}
-
-/// The root's result, as it is printed.
-#[derive(Clone, Copy)]
-struct ShownResult(Option<End>);
-
-impl fmt::Display for ShownResult {
-    ghost output = { λ s. Some (result_text s.0) };
-
-    fn fmt<W: fmt::Write>(&self, f: &mut fmt::Formatter<W>) -> fmt::Result {
-        match self.0 {
-            Some(End::Completed(value)) => write!(f, "{value}"),
-            Some(End::Cancelled(_)) | None => write!(f, "none"),
-        }
-    }
 }

@@ -1,9 +1,13 @@
 //! Tasks that are polled by several workers, without a lock.
 //!
 //! Each task waits in a berth of its own. A **ticket** with its tag asks that somebody polls it. A worker takes an own ticket, or else one
-//! of another worker, takes the task from its berth, polls it and leaves it there again. Whom the poll woke has the worker's latest ticket,
-//! and the one before goes into its lane; so does one for the task itself where it is to be polled again, or where another worker came for
-//! it meanwhile. So a task is never polled by two at once, and a wake that comes while it is polled is not lost.
+//! of another worker, takes the task from its berth and polls it. Whom the poll woke has the worker's latest ticket, and the one before
+//! goes into its lane; so does one for the task itself if it is to be polled again. So a task is never polled by two at once. If another
+//! worker comes for a task that is not in its berth, the task gets a ticket as it is left there, so that no wake is lost.
+//!
+//! **At hand.** A worker keeps the task that it polled last at hand, and the one before while the two take turns. So two that wait for one
+//! another go to and fro without a step on a berth. The one before is left at its berth as soon as a ticket is not its own, and both are
+//! left before the worker looks for tickets of others.
 //!
 //! **The order.** A worker takes its latest ticket first, so that whom a poll woke goes on with what is at hand, and two that wait for one
 //! another stay with one worker. After 64 of these one of its lane has its turn.

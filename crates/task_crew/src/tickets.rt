@@ -10,7 +10,7 @@ use std::sync::{Arc, Wait};
 use std::time::Duration;
 use steal_lanes::{Lane, lanes};
 
-/// How many latest tickets a worker takes behind one another, before one of its lane has its turn.
+/// How many latest tickets a worker takes one after another, before one of its lane has its turn.
 const LATEST_IN_A_ROW: u32 = 64;
 
 /// How many tickets a worker has to run before it has none, so that it looks at once for those of others. If it ran fewer, what it took
@@ -38,7 +38,7 @@ pub struct Tickets {
     lane: Lane,
     latest: Latest,
     other_latest: Vec<OtherLatest>,
-    /// How many latest tickets it took behind one another.
+    /// How many latest tickets it took one after another.
     in_a_row: u32,
     /// How many tickets it ran since it had none.
     ran: u32,
@@ -120,7 +120,7 @@ impl Tickets {
         self.pause = self.pause.saturating_mul(2).min(LONGEST_PAUSE);
     }
 
-    /// An own ticket: the latest one, or where several of these came behind one another, the first of the lane.
+    /// An own ticket: the latest one, or, if many of these came one after another, the first of the lane.
     fn take(&mut self) -> Option<Tag> {
         if self.in_a_row < LATEST_IN_A_ROW {
             if let Some(tag) = self.latest.take() {
@@ -180,6 +180,16 @@ impl Tickets {
             self.at_work.fetch_add(1, Ordering::SeqCst);
         }
         unreachable!()
+    }
+
+    /// An own ticket, unless a poll found no memory.
+    pub(crate) fn own(&mut self) -> Option<Tag> {
+        if self.is_stopped() {
+            return None;
+        }
+        let tag = self.take()?;
+        self.ran = self.ran.saturating_add(1);
+        Some(tag)
     }
 
     /// The next ticket, one of the own first. The worker is at work. None: nobody has a ticket, or a poll found no memory; then the worker

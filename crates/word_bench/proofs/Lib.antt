@@ -1,1 +1,2 @@
 mod CallersGoOn
+mod WaitsBegun

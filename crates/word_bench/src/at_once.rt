@@ -3,6 +3,7 @@ ghost use Rattle.std.specs.Prelude.{◌≡◌, [], ◌∷◌};
 ghost use Rattle.cell_words.specs.Hubs.{IsOf, IsOwn, GivesTags};
 ghost use Rattle.word_bench.specs.Channels.{CarryElements};
 
+use crate::apart::{receive_next, send};
 use crate::on_passes::{offer, receive};
 use crate::waits::select;
 use cell_words::{Hub, Pass};
@@ -16,9 +17,9 @@ use std::thread::{Threads, join};
 pub(crate) enum Work {
     /// An offer and a receive.
     Both,
-    /// Two offers.
-    Offers,
-    /// Two receives.
+    /// Two sends, each of which waits for its receiver or for room.
+    Sends,
+    /// Two receives, each of which waits for its element.
     Receives,
     /// A select that receives from both channels, and an offer on one of them.
     Selects,
@@ -30,7 +31,7 @@ pub(crate) struct Caller {
     pub pass: Pass,
     pub who: Tag,
     pub work: Work,
-    /// How many of its calls found a receiver, or an element.
+    /// How many transfers it counts: those of its calls that found a receiver, or an element. One that only sends counts none.
     pub met: u32,
 }
 
@@ -44,7 +45,7 @@ pub(crate) struct Four {
 }
 
 impl Four {
-    /// How many calls found a receiver, or an element. Each of them made a transfer.
+    /// How many transfers all count.
     pub(crate) fn count(&self) -> u32 {
         self.a
             .met
@@ -123,7 +124,7 @@ fn receives(hub: &Hub, pass: &mut Pass, who: Tag) -> bool
     matches!(receive(hub, pass, who), Got::Taken(_, _, _))
 }
 
-/// One turn: whether its calls found a receiver, or an element.
+/// One turn: whether its calls made a transfer each.
 fn turn(hub: &Hub, pass: &mut Pass, who: Tag, work: Work, value: Value) -> (bool, bool)
     requires channels { CarryElements hub.now }
     requires own { IsOwn hub.now pass.old who }
@@ -134,13 +135,13 @@ fn turn(hub: &Hub, pass: &mut Pass, who: Tag, work: Work, value: Value) -> (bool
             let handed = offers(hub, pass, who, value);
             (handed, receives(hub, pass, who))
         }
-        Work::Offers => {
-            let handed = offers(hub, pass, who, value);
-            (handed, offers(hub, pass, who, value))
+        Work::Sends => {
+            let sent = send(hub, pass, who, value);
+            (sent, send(hub, pass, who, value))
         }
         Work::Receives => {
-            let taken = receives(hub, pass, who);
-            (taken, receives(hub, pass, who))
+            let came = receive_next(hub, pass, who);
+            (came, receive_next(hub, pass, who))
         }
         Work::Selects => {
             let taken = select(hub, pass, who);
@@ -149,7 +150,25 @@ fn turn(hub: &Hub, pass: &mut Pass, who: Tag, work: Work, value: Value) -> (bool
     }
 }
 
-/// So many turns.
+/// How many transfers a turn counts whose calls made these. The receiver counts them if it waits for each.
+fn counted(work: Work, first: bool, second: bool) -> u32 {
+    match (work, first, second) {
+        (Work::Sends, _, _) => 0,
+        (_, true, true) => 2,
+        (_, true, false) | (_, false, true) => 1,
+        (_, false, false) => 0,
+    }
+}
+
+/// Whether a wait was given up in a turn whose calls made these transfers.
+fn gave_up(work: Work, first: bool, second: bool) -> bool {
+    match work {
+        Work::Sends | Work::Receives => !first || !second,
+        Work::Both | Work::Selects => false,
+    }
+}
+
+/// So many turns, or fewer if a wait is given up: its partner will not come, and a wait more would be as long.
 fn work_on(hub: &Hub, caller: Caller, times: u32) -> Caller
     requires channels { CarryElements hub.now }
     requires own { IsOwn hub.now caller.pass caller.who }
@@ -164,11 +183,9 @@ fn work_on(hub: &Hub, caller: Caller, times: u32) -> Caller
     let mut met = 0u32;
     for i in 0..times {
         let (first, second) = turn(hub, &mut pass, who, work, i);
-        if first {
-            met = met.saturating_add(1);
-        }
-        if second {
-            met = met.saturating_add(1);
+        met = met.saturating_add(counted(work, first, second));
+        if gave_up(work, first, second) {
+            break;
         }
     }
     Caller {

@@ -38,6 +38,76 @@ fn receive_all<R: Wait>(rt: &R, from: Receiver<u32>, times: u32) -> u32 {
     met
 }
 
+/// So many sends, each before a receive: how many found an element. What a thread sends is there when it receives, unless another thread has
+/// received it; so none waits for ever.
+fn exchange_all<R: Wait>(rt: &R, to: Sender<u32>, from: Receiver<u32>, times: u32) -> u32 {
+    let mut met = 0u32;
+    for i in 0..times {
+        if to.send(rt, i).is_err() {
+            return met;
+        }
+        if from.recv(rt).is_err() {
+            return met;
+        }
+        met = met.saturating_add(1);
+    }
+    met
+}
+
+/// The work of two, one after the other, or at once by a thread each.
+fn exchange_by_two<R: Threads + Wait + Sync>(
+    rt: &R,
+    to: (Sender<u32>, Sender<u32>),
+    from: (Receiver<u32>, Receiver<u32>),
+    times: u32,
+    at_once: bool,
+) -> u32 {
+    let (to_a, to_b) = to;
+    let (from_a, from_b) = from;
+    if at_once {
+        let (a, b) = join(
+            rt,
+            || exchange_all(rt, to_a, from_a, times),
+            || exchange_all(rt, to_b, from_b, times),
+        );
+        return a.saturating_add(b);
+    }
+    let a = exchange_all(rt, to_a, from_a, times);
+    let b = exchange_all(rt, to_b, from_b, times);
+    a.saturating_add(b)
+}
+
+/// So many transfers by four, who send and receive by turns, by so many threads, which are none, one, two or four.
+pub(crate) fn by_turns<R: Threads + Wait + Sync>(
+    rt: &R,
+    alloc: Global,
+    capacity: Option<usize>,
+    transfers: u32,
+    threads: u32,
+) -> Result<u32, AllocError> {
+    let (to, from) = new_channel(alloc, capacity)?;
+    let to_first = (to.clone()?, to.clone()?);
+    let from_first = (from.clone()?, from.clone()?);
+    let to_other = (to.clone()?, to);
+    let from_other = (from.clone()?, from);
+    let quarter = transfers / 4;
+    if threads == 0 {
+        return Ok(0);
+    }
+    if threads == 1 {
+        let a = exchange_by_two(rt, to_first, from_first, quarter, false);
+        let b = exchange_by_two(rt, to_other, from_other, quarter, false);
+        return Ok(a.saturating_add(b));
+    }
+    let four_threads = threads != 2;
+    let (a, b) = join(
+        rt,
+        || exchange_by_two(rt, to_first, from_first, quarter, four_threads),
+        || exchange_by_two(rt, to_other, from_other, quarter, four_threads),
+    );
+    Ok(a.saturating_add(b))
+}
+
 /// Two senders at once, and two receivers, who make half of the transfers each.
 fn apart_by_four<R: Threads + Wait + Sync>(
     rt: &R,

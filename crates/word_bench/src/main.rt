@@ -9,21 +9,25 @@
 //! - `rendezvous`, `buffered`, `unlimited`: four coroutines make as many offers as receives each, by turns, all on one channel. A buffered
 //!   one keeps 64 elements.
 //! - `counted`: the same through as many counted cells.
-//! - `apart`: two coroutines make the offers, and two the receives. By 2 and 4 threads these have threads of their own.
+//! - `apart`: two coroutines send, and two receive, by 2 or 4 threads of which each only sends or only receives. Each call waits for its
+//!   partner or for room: between its looks it spins, each time twice as long, and then gives the processor to others. A wait that was
+//!   looked at ten million times is given up, and with it the turns that are left.
 //! - `select`: four coroutines each select the first element of two channels, or wait on both, and then offer on one of them. There are
 //!   262144 selects at most.
 //! - `full`: one coroutine makes offers and receives, by turns, where so many elements are kept already.
 //! - `withdrawn`: one makes a sixteenth as many offers that do not wait, where there is no receiver, or so many that were withdrawn.
 //!
-//! A transfer is an offer and a receive that meet, or an element that is kept and received; nobody waits for anybody. There are as many
-//! offers as receives. So each offer is received, whatever the schedule. The last two cases are made by one thread.
+//! A transfer is an offer and a receive that meet, or an element that is kept and received. Nobody waits for anybody, except in `apart`.
+//! There are as many offers as receives. So each offer is received, whatever the schedule. The last two cases are made by one thread.
 //!
-//! `crossbeam` is the same work on channels of crossbeam_channel, whose calls wait for one another: by two or four threads where senders
-//! and receivers are apart, by four where each sends and then selects. There a receive that gave up leaves nothing behind.
+//! `crossbeam` is the same work on channels of crossbeam_channel, whose calls wait for one another: by turns on those that keep elements, by
+//! two or four threads where senders and receivers are apart, by four where each sends and then selects. There a receive that gave up leaves
+//! nothing behind.
 //!
 //! - `measured`: the channels.
 //! - `on_passes`: calls of one pass of a hub.
 //! - `waits`: selects, and waits that are taken back.
+//! - `apart`: sends and receives that wait.
 //! - `at_once`: four coroutines, at work on one, two or four threads at once.
 //! - `by_one`: one coroutine.
 //! - `counted_at_once`: four passes of counted cells.
@@ -33,6 +37,7 @@
 ghost use Rattle.std.specs.Prelude.{◌≡◌, ◌≤◌, false, IfOk};
 ghost use Rattle.channel_model.specs.Channels.{is_signal};
 
+mod apart;
 mod at_once;
 mod beside;
 mod by_one;
@@ -134,6 +139,35 @@ fn bench_four<R: Threads + Wait + Sync + Clock + Print + Eprint + AllocGlobal>(
     tell(rt, name, threads, four.count(), begun)
 }
 
+/// Transfers by coroutines that offer and receive by turns.
+fn bench_by_turns<R: Threads + Wait + Sync + Clock + Print + Eprint + AllocGlobal>(
+    rt: &R,
+    case: &Option<String>,
+    channel: Measured,
+    transfers: u32,
+    threads: u32,
+) -> io::Result<()>
+    requires some { 4 ≤ transfers }
+    requires few { transfers ≤ 1048576 }
+{
+    let name = channel.name();
+    if is_wanted(case, name, name) {
+        let work = (Work::Both, Work::Both);
+        bench_four(rt, name, channel.kind(), work, transfers, threads)?;
+    }
+    let Some(beside) = channel.beside_by_turns() else {
+        return Ok(());
+    };
+    if !is_wanted(case, beside, beside) {
+        return Ok(());
+    }
+    let begun = Instant::now(rt)?;
+    let Ok(done) = beside::by_turns(rt, rt.alloc(), channel.capacity(), transfers, threads) else {
+        return Err(no_memory());
+    };
+    tell(rt, beside, threads, done, begun)
+}
+
 /// So many transfers through as many counted cells.
 fn bench_counted<R: Threads + Wait + Sync + Clock + Print + Eprint + AllocGlobal>(
     rt: &R,
@@ -162,12 +196,15 @@ fn bench_apart<R: Threads + Wait + Sync + Clock + Print + Eprint + AllocGlobal>(
     requires some { 4 ≤ transfers }
     requires few { transfers ≤ 1048576 }
 {
+    if threads < 2 {
+        return Ok(());
+    }
     let (name, beside) = channel.names_apart();
     if is_wanted(case, "apart", name) {
-        let work = (Work::Offers, Work::Receives);
+        let work = (Work::Sends, Work::Receives);
         bench_four(rt, name, channel.kind(), work, transfers, threads)?;
     }
-    if threads < 2 || !is_wanted(case, "apart", beside) {
+    if !is_wanted(case, "apart", beside) {
         return Ok(());
     }
     let begun = Instant::now(rt)?;
@@ -213,11 +250,7 @@ fn bench_at_once<R: Threads + Wait + Sync + Clock + Print + Eprint + AllocGlobal
     requires few { transfers ≤ 1048576 }
 {
     for channel in ALL {
-        let name = channel.name();
-        if is_wanted(case, name, name) {
-            let work = (Work::Both, Work::Both);
-            bench_four(rt, name, channel.kind(), work, transfers, threads)?;
-        }
+        bench_by_turns(rt, case, channel, transfers, threads)?;
     }
     if is_wanted(case, "counted", "counted") {
         bench_counted(rt, transfers, threads)?;

@@ -48,6 +48,15 @@ impl Measured {
         }
     }
 
+    /// The name of the channel beside it by turns. At a rendezvous one of crossbeam_channel makes the sender wait, so there is none.
+    pub(crate) fn beside_by_turns(self) -> Option<&'static str> {
+        match self {
+            Measured::Rendezvous => None,
+            Measured::Buffered => Some("buffered crossbeam"),
+            Measured::Unlimited => Some("unlimited crossbeam"),
+        }
+    }
+
     /// Its name where senders and receivers are apart, and that of the channel beside it.
     pub(crate) fn names_apart(self) -> (&'static str, &'static str) {
         match self {

@@ -3,6 +3,7 @@ ghost use Rattle.std.specs.Prelude.{◌≡◌, ◌≤◌, ◌<◌, false, [], �
 ghost use Rattle.channel_model.specs.Channels.{kind_at, is_signal};
 ghost use Rattle.cell_words.specs.Hubs.{shape_of, IsOf, IsOwn, GivesTags};
 ghost use Rattle.word_bench.specs.Channels.{CarryElements};
+ghost use Rattle.word_bench.specs.Waits.{BeginsOffer, BeginsWait, KeepsOffers};
 
 use cell_words::{Hub, Pass};
 use channel_model::{Got, Kind, Offered, TriedGot, TriedOffer};
@@ -33,6 +34,7 @@ pub(crate) fn offer(hub: &Hub, pass: &mut Pass, who: Tag, c: ChannelId, value: V
     requires channel { c < length (shape_of hub.now) }
     requires kind { is_signal (kind_at (shape_of hub.now) c) ≡ false }
     ensures own { IsOwn hub.now pass.new who }
+    ensures begins { BeginsOffer who c pass.new result }
 {
     cell_calls::offer(hub, pass, who, c, value)
 }
@@ -49,6 +51,7 @@ pub(crate) fn receive(hub: &Hub, pass: &mut Pass, who: Tag) -> Got
     requires own { IsOwn hub.now pass.old who }
     requires channels { CarryElements hub.now }
     ensures own { IsOwn hub.now pass.new who }
+    ensures begins { BeginsWait who 0 pass.new result }
 {
     cell_calls::receive(hub, pass, who, 0)
 }
@@ -65,6 +68,7 @@ pub(crate) fn mark(hub: &Hub, pass: &mut Pass, who: Tag) -> Place
     requires own { IsOwn hub.now pass.old who }
     requires channels { CarryElements hub.now }
     ensures own { IsOwn hub.now pass.new who }
+    ensures keeps { KeepsOffers who pass.old pass.new }
 {
     cell_calls::mark(hub, pass, who, 0)
 }
@@ -73,6 +77,7 @@ pub(crate) fn admit(hub: &Hub, pass: &mut Pass, who: Tag, mark: Place) -> Option
     requires own { IsOwn hub.now pass.old who }
     requires channels { CarryElements hub.now }
     ensures own { IsOwn hub.now pass.new who }
+    ensures keeps { KeepsOffers who pass.old pass.new }
 {
     cell_calls::admit(hub, pass, who, 0, mark)
 }

@@ -1,4 +1,4 @@
-use Rattle.library_examples.proofs.AfterLaunches.{root_attached}
+use Rattle.job_model.proofs.Own.{root_attached}
 use Rattle.library_examples.proofs.entered.Goals as goal
 
 pub scope_result-requires-clause-parent : goal.scope_result-requires-clause-parent

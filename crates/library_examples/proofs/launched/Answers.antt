@@ -1,4 +1,4 @@
-use Rattle.library_examples.proofs.AfterLaunches.{root_attached}
+use Rattle.job_model.proofs.Own.{root_attached}
 use Rattle.library_examples.proofs.launched.Goals as goal
 
 pub launch_and_cancel-requires-clause-parent : goal.launch_and_cancel-requires-clause-parent

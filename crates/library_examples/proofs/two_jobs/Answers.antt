@@ -1,5 +1,5 @@
 use Rattle.std.proofs.Common.{refl}
-use Rattle.library_examples.proofs.AfterLaunches.{root_attached}
+use Rattle.job_model.proofs.Own.{root_attached}
 use Rattle.library_examples.proofs.two_jobs.Goals as goal
 
 pub attach-requires-clause-can : goal.attach-requires-clause-can

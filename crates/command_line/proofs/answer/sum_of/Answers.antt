@@ -1,6 +1,5 @@
-use Rattle.std.proofs.Common.{arith, map-id, subst, ◌≡◌}
+use Rattle.std.proofs.Common.{arith}
 use Rattle.script_reader.specs.Scripts.{program_of}
-use Rattle.run_laws.specs.Ends.{IsRunAtRest}
 use Rattle.run_laws.proofs.Lists.{few_coroutines}
 use Rattle.command_line.specs.declared.words.Command.TheVariants.{Sum}
 use Rattle.command_line.proofs.Answering.{answered, tallied_rest}

@@ -1,4 +1,4 @@
-use Rattle.forest_shares.proofs.LooksBeforeCalls.{seen_attached}
+use Rattle.job_model.proofs.Own.{seen_attached}
 use Rattle.forest_shares.proofs.calls.is_attached.Goals as goal
 
 pub returns-in-Some-clause-attached : goal.returns-in-Some-clause-attached

@@ -4,7 +4,7 @@ use Rattle.job_words.specs.Passes.{floor_seen}
 use Rattle.job_words.specs.Forests.{seen_by}
 use Rattle.job_tree.specs.Rooms.{uncancelled}
 use Rattle.job_tree.proofs.Rooms.{uncancelled_rows}
-use Rattle.forest_shares.proofs.LooksBeforeCalls.{root_attached}
+use Rattle.job_model.proofs.Own.{root_attached}
 use Rattle.forest_shares.proofs.on_passes.cancel_root.Goals as goal
 
 pub cancel_pass-requires-clause-attached : goal.cancel_pass-requires-clause-attached

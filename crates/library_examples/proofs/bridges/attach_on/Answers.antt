@@ -2,7 +2,8 @@ use Rattle.std.proofs.Common.{◌≡◌, ap, ◌∙◌, arith}
 use Rattle.job_model.proofs.Spans.{setting_then}
 use Rattle.job_words.specs.declared.size.ForestSize.{ForestSize}
 use Rattle.forest_calls.proofs.PassesStayOwn.{stays_own}
-use Rattle.library_examples.proofs.AttachedChild.{seen_attached, root_attached, attach_same, look_same, same_callers}
+use Rattle.job_model.proofs.Own.{seen_attached, root_attached}
+use Rattle.library_examples.proofs.AttachedChild.{attach_same, look_same, same_callers}
 use Rattle.library_examples.proofs.bridges.attach_on.Goals as goal
 
 pub attach-requires-clause-can : goal.attach-requires-clause-can

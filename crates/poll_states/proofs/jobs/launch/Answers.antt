@@ -30,16 +30,16 @@ launch-answer-requires-clause-parent g c =
 pub launch-answer-requires-clause-tag : goal.launch-answer-requires-clause-tag
 launch-answer-requires-clause-tag g c = free_row _ _ _ _ _ _ _ c.args.script.now.well_formed (g.met.J.JobFloor.legal c.args.floors.now.jobs.now) c.requires.stands c.requires.at
 
-pub pass_launch-requires-clause-line : goal.pass_launch-requires-clause-line
-pass_launch-requires-clause-line g c = let h = line_short c.args.script.now c.args.frame.now.tag _ _ c.requires.at.line_is in omega (arith, h)
+pub skip_launched-requires-clause-line : goal.skip_launched-requires-clause-line
+skip_launched-requires-clause-line g c = let h = line_short c.args.script.now c.args.frame.now.tag _ _ c.requires.at.line_is in omega (arith, h)
 
-pub pass_launch-requires-clause-free : goal.pass_launch-requires-clause-free
-pass_launch-requires-clause-free g c = let h = free_short _ _ _ _ _ _ _ c.args.script.now.well_formed (g.met.J.JobFloor.legal c.args.floors.now.jobs.now) c.requires.stands c.requires.at in omega (arith, h, c.size_of-size.ensures)
+pub skip_launched-requires-clause-free : goal.skip_launched-requires-clause-free
+skip_launched-requires-clause-free g c = let h = free_short _ _ _ _ _ _ _ c.args.script.now.well_formed (g.met.J.JobFloor.legal c.args.floors.now.jobs.now) c.requires.stands c.requires.at in omega (arith, h, c.size_of-size.ensures)
 
 pub returns-in-Ok-clause-came : goal.returns-in-Ok-clause-came
 returns-in-Ok-clause-came g c =
-    has_launched (program_of c.args.script.now) _ _ _ _ _ _ _ _ _ _ _ _ _ (ap g.C.ChannelFloor.view c.in-Ok.ensures.channels) (g.met.J.JobFloor.legal c.launch-answer.new.self.jobs.now) c.requires.at c.innermost-parent.ensures c.is_lazy.ensures c.size_of-size.ensures (jobs_same _ _ _ _ _ _ _ _ c.in-Ok.ensures.answer.1 c.pass_launch.ensures.items) c.pass_launch.ensures.tag
-    (c.pass_launch.ensures.config ∙ launch_config (config_of c.args.frame.now) _ _ _ c.reserve.ensures.items)
+    has_launched (program_of c.args.script.now) _ _ _ _ _ _ _ _ _ _ _ _ _ (ap g.C.ChannelFloor.view c.in-Ok.ensures.channels) (g.met.J.JobFloor.legal c.launch-answer.new.self.jobs.now) c.requires.at c.innermost-parent.ensures c.is_lazy.ensures c.size_of-size.ensures (jobs_same _ _ _ _ _ _ _ _ c.in-Ok.ensures.answer.1 c.skip_launched.ensures.items) c.skip_launched.ensures.tag
+    (c.skip_launched.ensures.config ∙ launch_config (config_of c.args.frame.now) _ _ _ c.reserve.ensures.items)
 
 pub returns-in-Used-clause-came : goal.returns-in-Used-clause-came
 returns-in-Used-clause-came g c =

@@ -1,5 +1,5 @@
 use Rattle.std.proofs.Common.{refl, ap}
-use Rattle.poll_states.specs.Ends.{WentOn}
+use Rattle.poll_states.specs.SeenEnds.{WentOn}
 use Rattle.poll_states.proofs.GoneOn.{sees_end}
 use Rattle.poll_states.proofs.polls.go_on.Goals as goal
 

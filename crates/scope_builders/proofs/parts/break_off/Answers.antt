@@ -2,7 +2,7 @@ use Rattle.scope_builders.proofs.Breaks.{broken_request, broken_as, part_request
 use Rattle.scope_builders.proofs.parts.break_off.Goals as goal
 
 pub returns-in-Ok-clause-broken : goal.returns-in-Ok-clause-broken
-returns-in-Ok-clause-broken g c = broken_request _ _ _ _ _ _ _ _ _ c.in-None.is (g.met.J.JobFloor.legal c.pass.new.jobs) c.requires.own c.in-Ok.ensures.answer
+returns-in-Ok-clause-broken g c = broken_request _ _ _ _ _ _ _ _ _ c.in-None.is (g.met.J.JobFloor.legal c.cancel_tree.new.jobs) c.requires.own c.in-Ok.ensures.answer
 
 pub returns-in-Err-clause-broken : goal.returns-in-Err-clause-broken
 returns-in-Err-clause-broken g c = part_request _ _ _ _ _ _ _ c.in-None.is c.in-Err.ensures.answer.1

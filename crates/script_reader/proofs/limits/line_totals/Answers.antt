@@ -10,8 +10,8 @@ is_some-map : {A B : Type 0} (f : A → B) (o : Option A) → is_some o ≡ is_s
 is_some-map f None = refl
 is_some-map f (Some x) = refl
 
-pub returns-then-load-gt16000 : goal.returns-then-load-gt16000
-returns-then-load-gt16000 c = λ job.
+pub returns-then-load-gt-MOST_JOBS : goal.returns-then-load-gt-MOST_JOBS
+returns-then-load-gt-MOST_JOBS c = λ job.
     let s = view c.args.reading.now in
     let b = open_of c.args.block.now in
     let h = c.requires.holds in
@@ -19,10 +19,10 @@ returns-then-load-gt16000 c = λ job.
     let selecting : c.is_some.result ≡ is_some b.clauses = c.is_some.ensures ∙ is_some-map (λ (v : Vec ℕ Global). v.items) c.args.block.now.clauses in
     let deep : c.depth_after.result ≡ length (nest_after b.clauses b.nest c.args.line) = c.depth_after.ensures b.clauses selecting ∙ ap (λ n. length (nest_after b.clauses n c.args.line)) c.deref.ensures.value in
     let own : c.own_weight.result ≡ own_weight s.weights c.args.line = c.own_weight.ensures ∙ ap (λ w. own_weight w c.args.line) c.deref-2.ensures.value in
-    let grown : c.grown-weight.result ≡ b.weight + more = c.grown-weight.ensures.same c.if-weight-gt16000.false ∙ ap (λ w. b.weight + product b.nest * w) own in
+    let grown : c.grown-weight.result ≡ b.weight + more = c.grown-weight.ensures.same c.if-weight-gt-MOST_JOBS.false ∙ ap (λ w. b.weight + product b.nest * w) own in
     let added : c.grown-weight.result - c.args.block.now.weight ≡ more = omega (arith, grown) in
     limited-line s b c.args.line job c.requires.current h.kept.within
-    (omega (arith, deep, c.if-depth_after-gt8.false))
-    (omega (arith, c.clauses_after.ensures, c.if-clauses_after-gt7.false))
-    (omega (arith, grown, c.if-weight-gt16000.false))
-    (omega (arith, c.if-load-gt16000.true, c.grown_load-load.ensures, h.load, ap (main_weight b.name) added))
+    (omega (arith, deep, c.if-depth_after-gt-MOST_DEPTH.false))
+    (omega (arith, c.clauses_after.ensures, c.if-clauses_after-gt-MOST_CLAUSES.false))
+    (omega (arith, grown, c.if-weight-gt-MOST_JOBS.false))
+    (omega (arith, c.if-load-gt-MOST_JOBS.true, c.grown_load-load.ensures, h.load, ap (main_weight b.name) added))

@@ -1,7 +1,7 @@
 use Rattle.std.specs.Prelude.{Some}
 use Rattle.channel_model.specs.Channels.{Channel}
 use Rattle.channel_model.proofs.Alone.{recorded_legal}
-use Rattle.one_thread_floor.specs.GhostLists.{ghost_items}
+use Rattle.one_thread_floor.specs.Entries.{channel_entries}
 use Rattle.one_thread_floor.proofs.ListEntries.{recorded_at, changed_at, close_needs}
 use Rattle.one_thread_floor.specs.ListStands.{clauses_in}
 use Rattle.one_thread_floor.proofs.KeptPlaces.{becomes_kept, closed_kept}
@@ -10,11 +10,11 @@ use Rattle.one_thread_floor.proofs.list_calls.ListFloorChannelFloor.close.Goals 
 pub invariant_of-self : goal.invariant_of-self
 invariant_of-self c =
     let xs = c.args.self.now.channels.items in
-    let es = ghost_items c.args.self.now.entries in
+    let es = channel_entries c.args.self.now.entries in
     let at = c.args.self.now.stands in
     record {
       shaped = c.args.self.now.shaped;
-      legal = recorded_legal _ es (ghost_items c.push.new.self) _ c.args.self.now.legal c.push.ensures (close_needs _ xs es c.args.who c.args.c c.args.v at c.requires.can.channel c.in_default.ensures);
-      stands = recorded_at _ c.close_in.new.channels.items es (ghost_items c.push.new.self) _ c.push.ensures (changed_at _ xs c.close_in.new.channels.items _ c.args.c (λ (ch : Channel). record ch { closed = Some c.args.v }) at c.close_in.ensures);
+      legal = recorded_legal _ es (channel_entries c.push.new.self) _ c.args.self.now.legal c.push.ensures (close_needs _ xs es c.args.who c.args.c c.args.v at c.requires.can.channel c.in_default.ensures);
+      stands = recorded_at _ c.close_in.new.channels.items es (channel_entries c.push.new.self) _ c.push.ensures (changed_at _ xs c.close_in.new.channels.items _ c.args.c (λ (ch : Channel). record ch { closed = Some c.args.v }) at c.close_in.ensures);
       kept = becomes_kept c.args.c _ xs c.close_in.new.channels.items c.close_in.ensures c.args.self.now.kept (closed_kept (clauses_in xs) c.args.c c.args.v _ (c.args.self.now.kept c.args.c));
     }

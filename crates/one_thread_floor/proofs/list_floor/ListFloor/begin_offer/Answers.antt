@@ -1,5 +1,5 @@
 use Rattle.channel_model.proofs.Alone.{recorded_legal}
-use Rattle.one_thread_floor.specs.GhostLists.{ghost_items}
+use Rattle.one_thread_floor.specs.Entries.{channel_entries}
 use Rattle.one_thread_floor.proofs.ListEntries.{recorded_at, offer_needs, offer_at}
 use Rattle.one_thread_floor.proofs.KeptPlaces.{begun_offer_kept}
 use Rattle.one_thread_floor.proofs.list_floor.ListFloor.begin_offer.Goals as goal
@@ -7,14 +7,14 @@ use Rattle.one_thread_floor.proofs.list_floor.ListFloor.begin_offer.Goals as goa
 pub invariant_of-self : goal.invariant_of-self
 invariant_of-self c =
     let xs = c.args.self.now.channels.items in
-    let es = ghost_items c.args.self.now.entries in
+    let es = channel_entries c.args.self.now.entries in
     let at = c.args.self.now.stands in
     let b = c.begin_offer-place.ensures in
     let p = c.begin_offer-place.result in
     record {
       shaped = c.args.self.now.shaped;
-      legal = recorded_legal _ es (ghost_items c.push.new.self) _ c.args.self.now.legal c.push.ensures
+      legal = recorded_legal _ es (channel_entries c.push.new.self) _ c.args.self.now.legal c.push.ensures
           (offer_needs _ xs es c.args.who c.args.clause c.args.c p c.args.value at c.requires.channel c.requires.kind c.requires.is_open c.requires.left b.place c.requires.nobody c.requires.clause);
-      stands = recorded_at _ c.begin_offer-place.new.channels.items es (ghost_items c.push.new.self) _ c.push.ensures (offer_at _ xs c.begin_offer-place.new.channels.items es c.args.who c.args.clause c.args.c p c.args.value at b.place b.change);
+      stands = recorded_at _ c.begin_offer-place.new.channels.items es (channel_entries c.push.new.self) _ c.push.ensures (offer_at _ xs c.begin_offer-place.new.channels.items es c.args.who c.args.clause c.args.c p c.args.value at b.place b.change);
       kept = begun_offer_kept c.args.who c.args.clause c.args.c p c.args.value xs c.begin_offer-place.new.channels.items b.place b.change c.args.self.now.kept;
     }

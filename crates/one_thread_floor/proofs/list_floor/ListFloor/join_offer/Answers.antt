@@ -1,5 +1,5 @@
 use Rattle.channel_model.proofs.Alone.{recorded_legal}
-use Rattle.one_thread_floor.specs.GhostLists.{ghost_items}
+use Rattle.one_thread_floor.specs.Entries.{channel_entries}
 use Rattle.one_thread_floor.proofs.ListEntries.{recorded_at, joined_offer_needs, joined_offer_at, began, room_for_clause}
 use Rattle.one_thread_floor.proofs.KeptPlaces.{joined_offer_kept}
 use Rattle.one_thread_floor.proofs.list_floor.ListFloor.join_offer.Goals as goal
@@ -8,19 +8,19 @@ pub join_offer-place-requires-clause-there : goal.join_offer-place-requires-clau
 join_offer-place-requires-clause-there c = began c.args.who c.args.clause c.args.c _ c.requires.joins
 
 pub join_offer-place-requires-clause-few : goal.join_offer-place-requires-clause-few
-join_offer-place-requires-clause-few c = room_for_clause _ c.args.self.now.channels.items (ghost_items c.args.self.now.entries) c.args.who c.args.clause c.args.c c.args.main c.args.self.now.legal c.args.self.now.stands c.requires.joins
+join_offer-place-requires-clause-few c = room_for_clause _ c.args.self.now.channels.items (channel_entries c.args.self.now.entries) c.args.who c.args.clause c.args.c c.args.main c.args.self.now.legal c.args.self.now.stands c.requires.joins
 
 pub invariant_of-self : goal.invariant_of-self
 invariant_of-self c =
     let xs = c.args.self.now.channels.items in
-    let es = ghost_items c.args.self.now.entries in
+    let es = channel_entries c.args.self.now.entries in
     let at = c.args.self.now.stands in
     let b = c.join_offer-place.ensures in
     let p = c.join_offer-place.result in
     record {
       shaped = c.args.self.now.shaped;
-      legal = recorded_legal _ es (ghost_items c.push.new.self) _ c.args.self.now.legal c.push.ensures
+      legal = recorded_legal _ es (channel_entries c.push.new.self) _ c.args.self.now.legal c.push.ensures
           (joined_offer_needs _ xs es c.args.who c.args.clause c.args.c p c.args.value c.args.main at c.requires.channel c.requires.kind c.requires.is_open c.requires.left b.place c.requires.nobody c.requires.joins);
-      stands = recorded_at _ c.join_offer-place.new.channels.items es (ghost_items c.push.new.self) _ c.push.ensures (joined_offer_at _ xs c.join_offer-place.new.channels.items es c.args.who c.args.clause c.args.c p c.args.value c.args.main at c.requires.waits c.requires.joins b.change);
+      stands = recorded_at _ c.join_offer-place.new.channels.items es (channel_entries c.push.new.self) _ c.push.ensures (joined_offer_at _ xs c.join_offer-place.new.channels.items es c.args.who c.args.clause c.args.c p c.args.value c.args.main at c.requires.waits c.requires.joins b.change);
       kept = joined_offer_kept c.args.who c.args.clause c.args.c p c.args.value c.args.main xs c.join_offer-place.new.channels.items c.requires.joins b.change c.args.self.now.kept;
     }

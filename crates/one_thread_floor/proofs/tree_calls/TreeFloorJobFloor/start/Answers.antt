@@ -1,6 +1,6 @@
 use Rattle.std.proofs.Common.{refl, sym, ◌∙◌}
 use Rattle.job_model.specs.Effects.{started}
-use Rattle.one_thread_floor.specs.GhostLists.{ghost_items}
+use Rattle.one_thread_floor.specs.Entries.{job_entries}
 use Rattle.one_thread_floor.specs.declared.tree_row.TreeRow.{TreeRow}
 use Rattle.job_model.specs.declared.acts.JobState.TheVariants.{Active}
 use Rattle.one_thread_floor.proofs.TreeRows.{changed_rows}
@@ -14,9 +14,9 @@ invariant_of-self c =
     record {
       few = f.few;
       shaped = f.shaped;
-      legal = legal_more _ (ghost_items f.entries) (ghost_items c.push.new.self) _ f.legal c.push.ensures
+      legal = legal_more _ (job_entries f.entries) (job_entries c.push.new.self) _ f.legal c.push.ensures
           (may_start _ x _ (c.job_at-job.ensures ∙ f.stands.rows c.args.row) (new_is x.state (sym c.is_new.ensures ∙ c.if-not-is_new.false)));
-      stands = stands_still _ _ f.rows.items c.put_at.new.rows.items _ (ghost_items f.entries) (ghost_items c.push.new.self) _ f.stands c.push.ensures c.put_at.ensures.count
+      stands = stands_still _ _ f.rows.items c.put_at.new.rows.items _ (job_entries f.entries) (job_entries c.push.new.self) _ f.stands c.push.ensures c.put_at.ensures.count
           (changed_rows _ c.args.row started (λ (y : TreeRow). record y { state = Active }) f.rows.items c.put_at.new.rows.items x (record { parent = λ j. refl; children = λ j. refl }) (λ o j e. refl) f.stands.rows c.job_at-job.ensures c.put_at.ensures.rows)
           (λ r. refl);
     }
