@@ -348,8 +348,9 @@ const LATEST: [(Tag, Call); 10] = [
 #[test]
 fn what_came_first_is_kept(rt: HostRuntime) -> Result<(), Fail> {
     let kind = Kind::DropLatest(2);
-    assert_eq!(rt; right_on_list(rt.alloc(), kind, 7, &LATEST), Ok(10));
-    assert_eq!(rt; right_on_hub(rt.alloc(), kind, 7, &LATEST), Ok(10));
+    let on_list = right_on_list(rt.alloc(), kind, 7, &LATEST)?;
+    let on_hub = right_on_hub(rt.alloc(), kind, 7, &LATEST)?;
+    assert_eq!(rt; [on_list, on_hub], [10, 10]);
     Ok(())
 }
 
