@@ -151,9 +151,7 @@ fn both<R: Threads + Wait + Sync + AllocGlobal>(rt: &R) -> Result<(u64, u64, u64
 }
 
 #[test]
-fn each_element_of_two_threads_is_received_or_spurned_or_held(
-    rt: HostRuntime,
-) -> Result<(), Fail> {
+fn each_element_of_two_threads_is_received_or_spurned_or_held(rt: HostRuntime) -> Result<(), Fail> {
     for _ in 0..100 {
         let (spurned, received, held) = both(&rt)?;
         assert_eq!(rt; spurned & received, 0);
