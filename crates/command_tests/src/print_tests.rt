@@ -1,7 +1,6 @@
 //! A script that is read and printed again.
 
-use script_reader::{Script, print, read};
-use std::alloc::Global;
+use script_reader::{print, read};
 use std::test::Fail;
 
 /// A script of every line, as it is printed.
@@ -65,33 +64,22 @@ fn printed(alloc: Global, text: &[u8]) -> Result<Vec<u8>, Fail> {
 
 #[test]
 fn a_script_of_every_line_is_printed_as_it_was(rt: HostRuntime) -> Result<(), Fail> {
-    let text = printed(rt.alloc(), EVERY_LINE)?;
+    let Ok(script) = read(rt.alloc(), EVERY_LINE) else {
+        panic!(rt; "no script");
+    };
+    let text = print(rt.alloc(), &script)?;
     assert_eq!(rt; text.as_slice(), EVERY_LINE);
-    Ok(())
-}
-
-/// How many blocks there are, how large `mid` is, how many coroutines and scopes a run has, and of which blocks four of the coroutines are.
-fn counts(alloc: Global) -> Result<[usize; 8], Fail> {
-    let script = script_of(alloc, EVERY_LINE)?;
-    Ok([
-        script.blocks().len(),
-        usize::from(script.size_of(1)),
-        usize::from(script.coroutines()),
-        usize::from(script.scopes()),
-        usize::from(script.coroutine_of(0)),
-        usize::from(script.coroutine_of(2)),
-        usize::from(script.coroutine_of(3)),
-        usize::from(script.coroutine_of(16)),
-    ])
-}
-
-#[test]
-fn a_script_of_every_line_counts_its_coroutines_and_scopes(rt: HostRuntime) -> Result<(), Fail> {
-    let counts = counts(rt.alloc())?;
+    assert_eq!(rt; script.blocks().len(), 3);
     // Of mid: itself, three that it launches, and three in the repeat.
+    assert_eq!(rt; script.size_of(1), 7);
     // Main, two leaves, two instances of mid with all that they launch.
+    assert_eq!(rt; script.coroutines(), 17);
     // Three turns of the supervisor in each of two instances of mid, and main's scope.
-    assert_eq!(rt; counts, [3, 7, 17, 7, 2, 0, 1, 0]);
+    assert_eq!(rt; script.scopes(), 7);
+    assert_eq!(rt; script.coroutine_of(0), 2);
+    assert_eq!(rt; script.coroutine_of(2), 0);
+    assert_eq!(rt; script.coroutine_of(3), 1);
+    assert_eq!(rt; script.coroutine_of(16), 0);
     Ok(())
 }
 
