@@ -159,14 +159,14 @@ closed_still shape c = record { step = λ s who act l n h. still_closed shape c 
 
 -- ---- who's own entries
 
--- who's entry with this act, and what comes before and behind it
-record OwnEntry (who : ℕ) (act : Act) (ys : List Act) (history : List Entry) : Type 0 where
-  before : List Entry
-  rest : List Entry
-  parts : history ≡ before ++ record { who = who; act = act } ∷ rest
-  behind : acts_of who rest ≡ ys
+-- who's entry with this act, and what comes before and after it
+pub record OwnEntry (who : ℕ) (act : Act) (ys : List Act) (history : List Entry) : Type 0 where
+  pub before : List Entry
+  pub rest : List Entry
+  pub parts : history ≡ before ++ record { who = who; act = act } ∷ rest
+  pub behind : acts_of who rest ≡ ys
 
-own_entry : (who : ℕ) (act : Act) (history : List Entry) (xs ys : List Act) → acts_of who history ≡ xs ++ act ∷ ys → OwnEntry who act ys history
+pub own_entry : (who : ℕ) (act : Act) (history : List Entry) (xs ys : List Act) → acts_of who history ≡ xs ++ act ∷ ys → OwnEntry who act ys history
 unfolding acts_of
 own_entry who act [] [] ys h = cc
 own_entry who act [] (x ∷ xs) ys h = cc

@@ -22,6 +22,7 @@ use Rattle.channel_model.specs.Needs.{Needs, JoinsWait, MayName, IsFirstReceiver
 use Rattle.channel_model.specs.Laws.{IsStandingAt, ReceiversStand, StandsInOrder}
 use Rattle.channel_model.specs.Histories.{replay, replay_from, acts_of, Legal, LegalFrom}
 use Rattle.channel_model.proofs.Histories.{replay_from-append, LegalFrom-parts}
+use Rattle.channel_model.proofs.ClosedWaits.{OwnEntry, own_entry}
 use Rattle.channel_model.proofs.EveryAct.{ChannelKeeps, after_keeps}
 use Rattle.channel_model.proofs.InOrder.{order_keeps, replay_in_order}
 use Rattle.channel_model.proofs.Placed.{Placed}
@@ -216,36 +217,6 @@ on_lasts shape c w = record {
     on = weaker_on c (end_of (s.channels c)) (end_of ((after s who act).channels c)) _ (still_drained shape c s who act n) (waits_on shape c w s who act l h.order n h.on);
   };
 }
-
--- ---- who's own entries
-
--- who's entry with this act, and what comes before and behind it
-record OwnEntry (who : ℕ) (act : Act) (ys : List Act) (history : List Entry) : Type 0 where
-  before : List Entry
-  rest : List Entry
-  parts : history ≡ before ++ record { who = who; act = act } ∷ rest
-  behind : acts_of who rest ≡ ys
-
-own_entry : (who : ℕ) (act : Act) (history : List Entry) (xs ys : List Act) → acts_of who history ≡ xs ++ act ∷ ys → OwnEntry who act ys history
-unfolding acts_of
-own_entry who act [] [] ys h = cc
-own_entry who act [] (x ∷ xs) ys h = cc
-own_entry who act (e ∷ es) xs ys h = by_test (e.who == who) refl h (own_entry who act es)
-  where
-    later : OwnEntry who act ys es → OwnEntry who act ys (e ∷ es)
-    later f = record { before = e ∷ f.before; rest = f.rest; parts = ap (λ l. e ∷ l) f.parts; behind = f.behind }
-
-    own : (xs : List Act) → e.who ≡ who → e.act ∷ acts_of who es ≡ xs ++ act ∷ ys → ((xs ys : List Act) → acts_of who es ≡ xs ++ act ∷ ys → OwnEntry who act ys es) → OwnEntry who act ys (e ∷ es)
-    own [] k h more =
-        let same : e.act ≡ act = cc in
-        let behind : acts_of who es ≡ ys = cc in
-        let entry : e ≡ record { who = who; act = act } = ap (λ n. record { who = n; act = e.act }) k ∙ ap (λ a. record { who = who; act = a }) same in
-        record { before = []; rest = es; parts = ap (λ f. f ∷ es) entry; behind = behind }
-    own (x ∷ xs) k h more = later (more xs ys (let same : acts_of who es ≡ xs ++ act ∷ ys = cc in same))
-
-    by_test : (b : Bool) → (e.who == who) ≡ b → (if b then e.act ∷ acts_of who es else acts_of who es) ≡ xs ++ act ∷ ys → ((xs ys : List Act) → acts_of who es ≡ xs ++ act ∷ ys → OwnEntry who act ys es) → OwnEntry who act ys (e ∷ es)
-    by_test true k h more = own xs (eqb-true e.who who k) h more
-    by_test false k h more = later (more xs ys h)
 
 -- ---- the end
 
