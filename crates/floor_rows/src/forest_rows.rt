@@ -336,7 +336,7 @@ fn last_result(ends: LastEnd) -> Option<(Row, Value)> {
     }
 }
 
-/// How many of these calls answer so, how many Jobs ended when the child ended, with the last of them, and how many when it was ended again.
+/// How many of these calls answer so, how many Jobs ended when the child ended, with the last of them, and how many at its second end.
 fn ended_twice(alloc: Global) -> Result<(usize, u32, Option<(Row, Value)>, u32), Memory> {
     let (forest, mut p) = new_forest(alloc, 3, 0)?;
     let mut q = split_off(&forest, &mut p, 1);

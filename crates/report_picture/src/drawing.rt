@@ -52,7 +52,7 @@ fn push_ticks<'a>(
 }
 
 /// The picture of a report: a column for each coroutine asked for that has a line in its book, the first 64 of them. The lines stand in
-/// an order that both histories allow, if the report has one.
+/// an order that both histories allow, if one was found.
 pub fn draw<'a>(alloc: Global, wanted: Wanted, lines: &[Line<'a>]) -> Result<Drawing<'a>, Memory>
     ensures shown { IfOk result (λ drawing. Shows wanted (told_lines lines.now) drawing.picture) }
     ensures ordered { IfOk result (λ drawing.

@@ -2,8 +2,8 @@
 //! of `laws`, whose bodies are empty.
 //!
 //! The files of `specs`: `Kinds` (kinds of acts), `Counts` (their numbers, and what follows from them), `Tallies` (what one caller keeps,
-//! act by act), `JobTallies` (the same of Jobs), `Elements` (the elements of all places), `Settlings` (what the laws ask of a history and of
-//! its books), `Sums`; `Examples`, proved by computing.
+//! act by act), `JobTallies` (the same of Jobs), `Elements` (the elements of all places), `Settlings` (what the laws ask of a history and
+//! of its books), `Sums`; `Examples`, proved by computing.
 //!
 //! The files of `proofs` that show each law, in the order to read:
 //!

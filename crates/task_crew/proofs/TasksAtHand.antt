@@ -1,5 +1,5 @@
 -- What a seat holds as tasks come to hand and are left.
-use Rattle.std.proofs.Common.{◌≡◌, ℕ, ◌<◌, true, false, true≢false, Bool, List, [], ◌∷◌, ◌⊎◌, inl, inr, ⊎_elim, Option, Some, None, sym, refl, ap, ◌∙◌, subst}
+use Rattle.std.proofs.Common.{◌≡◌, ℕ, ◌<◌, true, false, true≢false, Bool, List, [], ◌∷◌, inl, inr, ⊎_elim, Option, Some, None, sym, refl, ap, ◌∙◌, subst}
 use mathlib.Core.Logic.{dite}
 use native.Mathlib.Decide.{ℕ_discrete}
 use Rattle.task_berths.specs.Views.{has_tag, without_tag}

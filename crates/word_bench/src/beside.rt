@@ -38,8 +38,8 @@ fn receive_all<R: Wait>(rt: &R, from: Receiver<u32>, times: u32) -> u32 {
     met
 }
 
-/// So many sends, each before a receive: how many found an element. What a thread sends is there when it receives, unless another thread has
-/// received it; so none waits for ever.
+/// So many sends, each before a receive: how many found an element. What a thread sends is there when it receives, unless another thread
+/// has received it; so none waits for ever.
 fn exchange_all<R: Wait>(rt: &R, to: Sender<u32>, from: Receiver<u32>, times: u32) -> u32 {
     let mut met = 0u32;
     for i in 0..times {

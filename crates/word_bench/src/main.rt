@@ -20,8 +20,8 @@
 //! A transfer is an offer and a receive that meet, or an element that is kept and received. Nobody waits for anybody, except in `apart`.
 //! There are as many offers as receives. So each offer is received, whatever the schedule. The last two cases are made by one thread.
 //!
-//! `crossbeam` is the same work on channels of crossbeam_channel, whose calls wait for one another: by turns on those that keep elements, by
-//! two or four threads where senders and receivers are apart, by four where each sends and then selects. There a receive that gave up leaves
+//! `crossbeam` is the same work on channels of crossbeam_channel, whose calls wait for one another: by turns on those that keep elements,
+//! by two or four threads where senders and receivers are apart, by four where each sends and then selects. There a receive that gave up leaves
 //! nothing behind.
 //!
 //! - `measured`: the channels.
