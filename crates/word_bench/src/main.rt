@@ -21,8 +21,8 @@
 //! There are as many offers as receives. So each offer is received, whatever the schedule. The last two cases are made by one thread.
 //!
 //! `crossbeam` is the same work on channels of crossbeam_channel, whose calls wait for one another: by turns on those that keep elements,
-//! by two or four threads where senders and receivers are apart, by four where each sends and then selects. There a receive that gave up leaves
-//! nothing behind.
+//! by two or four threads where senders and receivers are apart, by four where each sends and then selects. There a receive that gave up
+//! leaves nothing behind.
 //!
 //! - `measured`: the channels.
 //! - `on_passes`: calls of one pass of a hub.
