@@ -13,7 +13,8 @@ use crate::input::{Input, read_input};
 use crate::status::{Ending, NoAnswer, unless_memory};
 use crate::words::Command;
 use co_base::{Memory, Source};
-use script_reader::{Script, generate, print};
+use script_printer::{generate, print};
+use script_reader::Script;
 use std::alloc::Global;
 
 /// An answer, or a command with the script that has to be run for it.

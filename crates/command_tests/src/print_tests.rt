@@ -1,6 +1,7 @@
 //! A script that is read and printed again.
 
-use script_reader::{print, read};
+use script_printer::print;
+use script_reader::read;
 use std::test::Fail;
 
 /// A script of every line, as it is printed.

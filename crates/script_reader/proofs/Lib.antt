@@ -6,11 +6,10 @@ mod Loads
 mod Lengths
 mod Kept
 mod LineLoops
-mod Sized
+pub mod Sized
 mod Launchings
 mod Stacks
 mod Tables
 mod Finished
 mod WholeTexts
-mod Answered
-mod Spacing
+pub mod Answered

@@ -13,5 +13,3 @@ pub mod TagTables
 pub mod Scripts
 pub mod Lines
 pub mod Ending
-pub mod Printing
-pub mod GeneratedText

@@ -10,13 +10,15 @@ use crate::script::Coroutine;
 use script_grammar::Instruction;
 use std::alloc::{AllocError, Global};
 
-pub(crate) fn is_end(line: Instruction) -> bool
+/// Whether the line closes what another opens.
+pub fn is_end(line: Instruction) -> bool
     ensures { result ≡ is_end line }
 {
     matches!(line, Instruction::End)
 }
 
-pub(crate) fn opens_lines(line: Instruction) -> bool
+/// Whether lines stand within this one, up to its `end`.
+pub fn opens_lines(line: Instruction) -> bool
     ensures { result ≡ opens_lines line }
 {
     matches!(

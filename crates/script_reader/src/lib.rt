@@ -1,8 +1,7 @@
-//! Scripts of coroutines: read from text, printed as text.
+//! Scripts of coroutines, read from text.
 //!
-//! `read` makes a script of a text, or names its first line that is at fault; `print` writes a script out, so that it is read as
-//! the same script; `generate` makes the script whose run adds up numbers. What a text spells, and which line is first at fault,
-//! is said by the definitions of `script_grammar`.
+//! `read` makes a script of a text, or names its first line that is at fault. What a text spells, and which line is first at fault, is said
+//! by the definitions of `script_grammar`.
 //!
 //! The script:
 //!
@@ -24,12 +23,6 @@
 //! - `closings`, `launches`, `sizes`, `tags`: the tables of a script.
 //! - `finish`: the script, after the last line.
 //! - `reader`: the script of a text.
-//!
-//! From a script to a text:
-//!
-//! - `lines_out`, `printed_lines`: lines as they are printed.
-//! - `printer`: a script written out.
-//! - `generator`: the script whose run adds up numbers.
 #![tactic(auto)]
 
 mod blocks;
@@ -38,17 +31,13 @@ mod closings;
 mod enter;
 mod finish;
 mod form;
-mod generator;
 mod launches;
 mod limits;
 mod lines;
-mod lines_out;
 mod names;
 mod nesting;
 mod outside;
 mod place;
-mod printed_lines;
-mod printer;
 mod reader;
 mod reading;
 mod script;
@@ -58,9 +47,8 @@ mod text;
 mod verbs;
 mod words;
 
-pub use generator::generate;
+pub use closings::{is_end, opens_lines};
 pub use place::value_of;
-pub use printer::print;
 pub use reader::read;
 pub use script::{Channel, Coroutine, Script, Spawn};
 pub use script_grammar::{FaultKind, Instruction, Launching, Operand, ScriptFault};

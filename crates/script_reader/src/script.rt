@@ -108,7 +108,8 @@ impl Script {
 
     /// The coroutines, in the order of their lines.
     pub fn blocks(&self) -> &[Coroutine]
-        ensures { map block_of result.now ≡ (program_of self.now).blocks }
+        ensures blocks { map block_of result.now ≡ (program_of self.now).blocks }
+        ensures short { list_all (λ c. nat_le (length c.code.items) 1048577) result.now ≡ true }
     {
         self.coroutines.as_slice()
     }
