@@ -1,7 +1,8 @@
 //! A script that is read and printed again.
 
 use script_printer::print;
-use script_reader::read;
+use script_reader::{Script, read};
+use std::alloc::Global;
 use std::test::Fail;
 
 /// A script of every line, as it is printed.
