@@ -7,7 +7,7 @@ use native.Mathlib.Decide.{ℕ_discrete}
 use Rattle.co_base.specs.declared.names.WaitId.{WaitId}
 use Rattle.channel_model.specs.declared.standing.Party.{Party}
 use Rattle.channel_model.specs.declared.standing.Standing.{Standing}
-use Rattle.channel_model.specs.Channels.{State, Wait}
+use Rattle.channel_model.specs.Channels.{Wait}
 use Rattle.channel_model.specs.Effects.{with_queue, is_elsewhere, spurned}
 use Rattle.channel_model.specs.Needs.{IsOfferAt}
 use Rattle.channel_model.proofs.Elements.{all_first, all_rest}
@@ -127,7 +127,7 @@ ties_spurn b c p v at free t =
     let is = standing_is b.state.waits g.0 (b.cells c g.0) f.it g.2 in
     let same : g.0 ≡ p = sym (offer_place b.state.waits g.0 (b.cells c g.0) f.it is) ∙ f.place in
     let none : f.it.holder ≡ None = none_holder f.it.holder (gather_all (λ (o : Standing). is_none o.holder) (λ q. standing b.state.waits q (b.cells c q)) (b.state.channels c).next
-        (subst (λ (l : List Standing). list_all (λ (o : Standing). is_none o.holder) l ≡ true) (t.queues c) free) g.0 f.it g.1 g.2) in
+    (subst (λ (l : List Standing). list_all (λ (o : Standing). is_none o.holder) l ≡ true) (t.queues c) free) g.0 f.it g.1 g.2) in
     let here : standing b.state.waits p (b.cells c p) ≡ Some f.it = subst (λ (z : ℕ). standing b.state.waits z (b.cells c z) ≡ Some f.it) same g.2 in
     let line : awaiting b.state.waits p (b.cells c p) ≡ None = subst (λ (z : ℕ). awaiting b.state.waits z (b.cells c z) ≡ None) same (none_awaits b.state.waits g.0 (b.cells c g.0) f.it none is) in
     let y_is : emptied_if (standing b.state.waits p (b.cells c p)) (b.cells c p) ≡ emptied f.it.value = ap (λ (z : Option Standing). emptied_if z (b.cells c p)) here ∙ ap (λ (z : Option Party). emptied_unless z f.it.value (b.cells c p)) none in

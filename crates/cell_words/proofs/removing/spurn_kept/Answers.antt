@@ -19,6 +19,8 @@ returns-in-None-clause-spurned c =
 
 pub returns-in-Some-clause-spurned : goal.returns-in-Some-clause-spurned
 returns-in-Some-clause-spurned c =
-    let t = c.in-Some.ensures.told in
-    (t.0, spurn_lost (shape_of c.args.hub.now) c.args.pass.now.seat.me.0 c.exchange_cell.new.pass.seat.me.0 (hub_legal c.args.hub.now c.exchange_cell.new.pass c.exchange_cell.ensures.own.0) c.args.c c.args.place c.args.value c.requires.kept c.in-Some.field-0 t.0 t.1
-    (λ e. t.2 (e ∙ sym (ap (λ (z : CellWord). packed_cell z) c.plain_cell-before.ensures.word))))
+    let t = c.in-Some.ensures.told in (
+      t.0,
+      spurn_lost (shape_of c.args.hub.now) c.args.pass.now.seat.me.0 c.exchange_cell.new.pass.seat.me.0 (hub_legal c.args.hub.now c.exchange_cell.new.pass c.exchange_cell.ensures.own.0) c.args.c c.args.place c.args.value c.requires.kept c.in-Some.field-0 t.0 t.1
+          (λ e. t.2 (e ∙ sym (ap (λ (z : CellWord). packed_cell z) c.plain_cell-before.ensures.word))),
+    )
