@@ -7,7 +7,7 @@ use native.Mathlib.Decide.{ℕ_discrete}
 use Rattle.co_base.specs.declared.names.WaitId.{WaitId}
 use Rattle.channel_model.specs.declared.standing.Party.{Party}
 use Rattle.channel_model.specs.declared.standing.Standing.{Standing}
-use Rattle.channel_model.specs.Channels.{State, Wait}
+use Rattle.channel_model.specs.Channels.{Wait}
 use Rattle.channel_model.specs.Effects.{with_queue, is_elsewhere, spurned}
 use Rattle.channel_model.specs.Needs.{IsOfferAt}
 use Rattle.channel_model.proofs.Elements.{all_first, all_rest}

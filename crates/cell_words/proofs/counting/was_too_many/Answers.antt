@@ -3,7 +3,7 @@ use Rattle.channel_model.specs.Channels.{kind_at}
 use Rattle.cell_words.specs.Hubs.{shape_of}
 use Rattle.cell_words.specs.Seen.{at_channel}
 use Rattle.cell_words.proofs.LooksAtCells.{hub_legal, sees_then, given_seen}
-use Rattle.cell_words.proofs.WalksCount.{few_places, count_before}
+use Rattle.cell_words.proofs.WalksCount.{few_places}
 use Rattle.cell_words.proofs.OffersBefore.{spurns_as, room_before, room_few, too_many_told}
 use Rattle.cell_words.proofs.counting.was_too_many.Goals as goal
 
