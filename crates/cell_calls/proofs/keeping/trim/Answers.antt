@@ -1,4 +1,4 @@
-use Rattle.std.proofs.Common.{ℕ, ◌+◌, ◌<◌, ◌≤◌, None, sym, subst, ◌∙◌, arith}
+use Rattle.std.proofs.Common.{◌+◌, ◌<◌, ◌≤◌, None, sym, subst, ◌∙◌, arith}
 use Rattle.channel_model.specs.Channels.{places_at}
 use Rattle.channel_model.specs.Histories.{replay}
 use Rattle.channel_model.specs.Answers.{IsTrimmed}
