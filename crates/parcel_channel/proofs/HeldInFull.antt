@@ -1,5 +1,5 @@
 -- An offer that waits was placed in a full channel.
-use Rattle.std.specs.Prelude.{◌≡◌, ◌⊎◌, ℕ, ◌<◌, ◌≤◌, Bool, false, List, [], ◌∷◌, ◌++◌, Option, Some, None}
+use Rattle.std.specs.Prelude.{◌≡◌, ◌⊎◌, ℕ, ◌<◌, ◌≤◌, Bool, false, List, Option, Some, None}
 use mathlib.Core.List.{IsPrefix}
 use Rattle.std.proofs.Common.{inl, inr, sym, ap, ◌∙◌, subst, arith, ⊎_elim}
 use Rattle.co_base.specs.declared.names.WaitId.{WaitId}
@@ -14,7 +14,7 @@ use Rattle.channel_model.specs.Histories.{replay, Legal}
 use Rattle.channel_model.specs.Floors.{Floor, Made}
 use Rattle.channel_model.specs.Answers.{IsAdmittedBelow, state_of_wait, state_of_parts}
 use Rattle.channel_model.specs.Laws.{IsResolvedAs}
-use Rattle.channel_model.specs.PlainOffers.{IsPlainOffer, OffersPlainly, plain_offer}
+use Rattle.channel_model.specs.PlainOffers.{IsPlainOffer, OffersPlainly}
 use Rattle.channel_model.proofs.Histories.{Legal-prefix}
 use Rattle.channel_model.proofs.Marks.{next_grows}
 use Rattle.channel_model.proofs.Placed.{replay_placed}

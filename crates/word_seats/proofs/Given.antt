@@ -1,5 +1,5 @@
 -- Tags that a pass has not given out.
-use Rattle.std.specs.Prelude.{◌≡◌, ℕ, Bool, true, false, List, if◌then◌else◌, refl}
+use Rattle.std.specs.Prelude.{◌≡◌, ℕ, Bool, true, false, List, refl}
 use Rattle.worded.specs.Views.{has_tag}
 use Rattle.word_seats.specs.Seats.{may_act}
 

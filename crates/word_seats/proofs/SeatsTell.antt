@@ -1,8 +1,6 @@
 -- What the meetings and ends of passes come to for seats.
 use Rattle.std.specs.Prelude.{◌≡◌, ℕ, Bool, false, List, refl}
 use Rattle.std.proofs.Common.{ap}
-use Rattle.channel_model.specs.Floors.{Floor as ChannelFloor}
-use Rattle.job_model.specs.Floors.{Floor}
 use Rattle.worded.specs.Views.{has_tag}
 use Rattle.cell_words.specs.declared.hub.Hub.{Hub}
 use Rattle.cell_words.specs.declared.pass.Pass.{Pass}
