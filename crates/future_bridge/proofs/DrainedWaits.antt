@@ -22,7 +22,7 @@ use Rattle.channel_model.specs.Needs.{Needs, JoinsWait, MayName, IsFirstReceiver
 use Rattle.channel_model.specs.Laws.{IsStandingAt, ReceiversStand, StandsInOrder}
 use Rattle.channel_model.specs.Histories.{replay, replay_from, acts_of, Legal, LegalFrom}
 use Rattle.channel_model.proofs.Histories.{replay_from-append, LegalFrom-parts}
-use Rattle.channel_model.proofs.ClosedWaits.{OwnEntry, own_entry}
+use Rattle.channel_model.proofs.ClosedWaits.{own_entry}
 use Rattle.channel_model.proofs.EveryAct.{ChannelKeeps, after_keeps}
 use Rattle.channel_model.proofs.InOrder.{order_keeps, replay_in_order}
 use Rattle.channel_model.proofs.Placed.{Placed}

@@ -1,8 +1,7 @@
 -- What one send comes to, by the answers of the hub.
 use Rattle.std.specs.Prelude.{◌≡◌, ℕ, ◌<◌, List, [], ◌∷◌, ◌++◌, map, Option, Some, None, is_some, true, false, refl}
 use Rattle.std.specs.List.{list_all}
-use Rattle.std.proofs.Common.{sym, ap, ◌∙◌, subst, arith, append_assoc, true≢false}
-use Rattle.co_base.specs.declared.names.WaitId.{WaitId}
+use Rattle.std.proofs.Common.{sym, ap, ◌∙◌, subst, true≢false}
 use Rattle.channel_model.specs.declared.acts.Act.{Act}
 use Rattle.channel_model.specs.declared.acts.Act.TheVariants.{Hand, Put, Offer, Admit, Drop, Spurn, Settle}
 use Rattle.channel_model.specs.declared.acts.Settled.{Settled}
@@ -10,10 +9,9 @@ use Rattle.channel_model.specs.declared.acts.Settled.TheVariants as settled
 use Rattle.channel_model.specs.declared.floor.Offered.TheVariants as offered
 use Rattle.channel_model.specs.declared.floor.WaitState.TheVariants as state
 use Rattle.channel_model.specs.Channels.{Shape}
-use Rattle.channel_model.specs.Histories.{replay, Legal}
-use Rattle.channel_model.specs.Floors.{Floor, HasRoom, Looked, Made, Added, AtStep}
-use Rattle.channel_model.specs.Answers.{OfferAnswer, HandedTo, LookAnswer, SettleAnswer, TrimAnswer, SpurnAnswer, HasPut, IsTrimmed, IsReady, IsOwn, state_of_wait}
-use Rattle.channel_model.specs.PlainOffers.{OffersPlainly}
+use Rattle.channel_model.specs.Histories.{Legal}
+use Rattle.channel_model.specs.Floors.{Floor, Made, Added, AtStep}
+use Rattle.channel_model.specs.Answers.{OfferAnswer, HandedTo, LookAnswer, SettleAnswer, TrimAnswer, SpurnAnswer, HasPut, IsTrimmed, IsReady, IsOwn}
 use Rattle.channel_model.proofs.Left.{left_of, left_lower}
 use Rattle.channel_model.proofs.PlainOffers.{is_quiet, plain_lasts}
 use Rattle.channel_model.proofs.Puts.{put_lasts}
@@ -23,7 +21,7 @@ use Rattle.channel_calls.proofs.OwnOffers as own
 use Rattle.future_bridge.specs.declared.send_steps.SendStep.{SendStep}
 use Rattle.future_bridge.specs.declared.send_steps.SendStep.TheVariants as step
 use Rattle.future_bridge.specs.Gains.{wait_at, AdmitsAll}
-use Rattle.future_bridge.specs.Sends.{offer_acts, spurn_acts, put_acts, SendsOne, SendsNone, Acted, OffersAt, OfferWaits, Follows, AdmitsFirst, OfferedSo, LookedSo, HeldSo, TrimsAll, SpurnsOwn, RemovesTooMany}
+use Rattle.future_bridge.specs.Sends.{offer_acts, spurn_acts, put_acts, SendsOne, Acted, OffersAt, OfferWaits, Follows, OfferedSo, LookedSo, HeldSo, TrimsAll, SpurnsOwn, RemovesTooMany}
 use Rattle.future_bridge.specs.Sinks.{SentOrWaits}
 use Rattle.future_bridge.proofs.StopsGo.{same_room}
 

@@ -1,20 +1,17 @@
 -- What a sink was sent, its coroutine gave to the channel.
-use Rattle.std.specs.Prelude.{◌≡◌, ℕ, ◌==◌, Bool, true, List, [], ◌∷◌, ◌++◌, map, Option, Some, None, Result, Ok, Err, OnOk, refl, if◌then◌else◌}
+use Rattle.std.specs.Prelude.{◌≡◌, ℕ, ◌==◌, List, [], ◌∷◌, ◌++◌, map, Option, Some, None, Result, Ok, Err, refl, if◌then◌else◌}
 use Rattle.std.proofs.Common.{sym, ap, ◌∙◌, subst, append_assoc}
 use Rattle.futures.specs.declared.task.Poll.{Poll}
 use Rattle.futures.specs.declared.task.Poll.TheVariants.{Ready, Pending}
 use Rattle.futures.specs.Sent.{UnlessFailed}
 use Rattle.channel_model.specs.declared.acts.Act.{Act}
-use Rattle.channel_model.specs.declared.acts.Act.TheVariants.{Hand, Put, Offer, Admit, Drop, Spurn, Settle}
+use Rattle.channel_model.specs.declared.acts.Act.TheVariants.{Hand, Put, Offer, Admit, Drop, Settle}
 use Rattle.channel_model.specs.declared.acts.Settled.TheVariants as settled
 use Rattle.channel_model.specs.Histories.{acts_of}
-use Rattle.channel_model.specs.Floors.{Floor, Added}
+use Rattle.channel_model.specs.Floors.{Floor}
 use Rattle.channel_model.proofs.Placed.{same_number}
 use Rattle.channel_model.proofs.Spans.{nothing_more}
-use Rattle.cell_words.specs.declared.hub.Hub.{Hub}
-use Rattle.cell_calls.specs.HubFloors.{hub_floor}
 use Rattle.future_bridge.specs.declared.sending.SendSink.{SendSink}
-use Rattle.future_bridge.specs.declared.sending.SinkFault.{SinkFault}
 use Rattle.future_bridge.specs.declared.sending.Flush.TheVariants as flush
 use Rattle.future_bridge.specs.declared.send_steps.SendStep.TheVariants as step
 use Rattle.future_bridge.specs.Gains.{wait_at}
