@@ -98,7 +98,8 @@ fn push_jobs(out: &mut String, jobs: &JobTotals) -> Result<(), AllocError>
 /// Of elements that were spurned it tells in version 2.
 fn push_fates(out: &mut String, version: u8, fates: &Fates) -> Result<(), AllocError>
     ensures { OnOk result (string_bytes out.new ≡ string_bytes out.old
-        ++ numbers_text version fates.now.received fates.now.undelivered fates.now.dropped fates.now.spurned fates.now.withdrawn fates.now.held) }
+        ++ numbers_text version fates.now.received fates.now.undelivered fates.now.dropped fates.now.spurned
+        fates.now.withdrawn fates.now.held) }
 {
     if version == 2 {
         push_second_fates(out, fates)
@@ -127,7 +128,8 @@ fn push_first_fates(out: &mut String, fates: &Fates) -> Result<(), AllocError>
 
 fn push_second_fates(out: &mut String, fates: &Fates) -> Result<(), AllocError>
     ensures { OnOk result (string_bytes out.new ≡ string_bytes out.old
-        ++ second_numbers_text fates.now.received fates.now.undelivered fates.now.dropped fates.now.spurned fates.now.withdrawn fates.now.held) }
+        ++ second_numbers_text fates.now.received fates.now.undelivered fates.now.dropped fates.now.spurned
+        fates.now.withdrawn fates.now.held) }
 {
     let Fates {
         received,
@@ -139,6 +141,8 @@ fn push_second_fates(out: &mut String, fates: &Fates) -> Result<(), AllocError>
     } = *fates;
     write!(
         out,
-        "received {received} undelivered {undelivered} dropped {dropped} spurned {spurned} withdrawn {withdrawn} held {held} "
-    )
+        "received {received} undelivered {undelivered} dropped {dropped} spurned {spurned} "
+    )?;
+    write!(out, "withdrawn {withdrawn} held {held} ")?;
+    Ok(())
 }
