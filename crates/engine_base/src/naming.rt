@@ -12,5 +12,5 @@ pub trait ScriptName {
 impl ScriptName for Brand {
     ghost use Rattle.std.specs.Prelude.{[]};
 
-    ghost program = { record { channels = []; blocks = []; spawns = [] } };
+    ghost program = { record { version = 1; channels = []; blocks = []; spawns = [] } };
 }
