@@ -129,8 +129,10 @@ fn push_second_counts(out: &mut String, elements: ElementCounts) -> Result<(), A
     } = elements;
     write!(
         out,
-        "received {received} undelivered {undelivered} dropped {dropped} spurned {spurned} withdrawn {withdrawn} held {held} "
-    )
+        "received {received} undelivered {undelivered} dropped {dropped} spurned {spurned} "
+    )?;
+    write!(out, "withdrawn {withdrawn} held {held} ")?;
+    Ok(())
 }
 
 fn push_first_counts(out: &mut String, elements: ElementCounts) -> Result<(), AllocError>
