@@ -1,4 +1,4 @@
-use Rattle.std.proofs.Common.{◌≡◌, ◌×◌, ◌++◌, append_assoc, [], ap, ap₂, sym, ◌∙◌, List, ℕ, map, length, ◌≤◌, subst, true, rules}
+use Rattle.std.proofs.Common.{◌≡◌, ◌++◌, append_assoc, [], ap, ap₂, sym, ◌∙◌, List, ℕ, map, length, ◌≤◌, subst, true, rules}
 use Rattle.script_grammar.specs.Programs.{Declared, Block, channel_names, block_names, name_of}
 use Rattle.script_grammar.specs.Lines.{channel_words, spawn_words}
 use Rattle.script_grammar.specs.Canonical.{version_lines, flat, deep_blocks}
@@ -10,7 +10,7 @@ use Rattle.script_printer.proofs.Spacing.{text_of-append}
 use Rattle.script_printer.proofs.printer.print.Goals as goal
 
 pub push_blocks-requires : goal.push_blocks-requires
-push_blocks-requires c = c.blocks.ensures.short
+push_blocks-requires c = c.blocks-2.ensures.short
 
 abbrev version_text : ℕ → List ℕ
 version_text v = text_of (flat (version_lines v))
@@ -33,9 +33,9 @@ returns-clause-canonical c =
     let one : c.push_channels.new.out.items ≡ version_text p.version ++ channels_text p.channels =
     c.in_ok-push_channels.ensures ∙ ap₂ (λ (l m : List ℕ). l ++ m) zero (ap channels_text c.channels.ensures) in
     let two : c.push_blocks.new.out.items ≡ (version_text p.version ++ channels_text p.channels) ++ blocks_text p.channels p.blocks =
-    c.in_ok-push_blocks.ensures ∙ ap₂ (λ (l m : List ℕ). l ++ m) one (ap₂ blocks_text c.channels-2.ensures c.blocks.ensures.blocks) in
+    c.in_ok-push_blocks.ensures ∙ ap₂ (λ (l m : List ℕ). l ++ m) one (ap₂ blocks_text c.channels-2.ensures c.blocks-2.ensures.blocks) in
     let three : c.push_spawns.new.out.items ≡ ((version_text p.version ++ channels_text p.channels) ++ blocks_text p.channels p.blocks) ++ spawns_text p.blocks p.spawns =
-    c.in_ok-push_spawns.ensures ∙ ap₂ (λ (l m : List ℕ). l ++ m) two (ap₂ spawns_text c.blocks-2.ensures.blocks c.spawns.ensures) in
+    c.in_ok-push_spawns.ensures ∙ ap₂ (λ (l m : List ℕ). l ++ m) two (ap₂ spawns_text c.blocks-3.ensures.blocks c.spawns.ensures) in
     let vs = flat (version_lines p.version) in
     let xs = flat (map (λ d. channel_words d true true) p.channels) in
     let ys = deep_blocks (channel_names p.channels) (block_names p.blocks) p.blocks in
