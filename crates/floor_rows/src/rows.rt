@@ -13,7 +13,7 @@ use cell_words::{Hub, Pass};
 use channel_model::{
     AlreadyClosed, ChannelFloor, Got, Kind, Offered, Settled, TriedGot, WaitState, Withdrawn,
 };
-use co_base::{Memory, Place, Tag, Value};
+use co_base::{Memory, Tag};
 use floor_tests::{Call, Known, answers};
 use one_thread_floor::ListFloor;
 use std::alloc::Global;
@@ -314,35 +314,39 @@ const RECEIVED: [(Tag, Call); 7] = [
 ];
 
 /// An element is put, and then this is removed.
-const fn put(value: Value, place: Place, spurned: Option<Value>) -> Call {
-    Call::Latest {
-        value,
-        receives: false,
-        answer: Some((place, spurned)),
-    }
+macro_rules! put {
+    ($value:expr, $place:expr, $spurned:expr) => {
+        Call::Latest {
+            value: $value,
+            receives: false,
+            answer: Some(($place, $spurned)),
+        }
+    };
 }
 
 /// An element is put, another one received, and the first one kept.
-const fn put_and_receive(value: Value, place: Place) -> Call {
-    Call::Latest {
-        value,
-        receives: true,
-        answer: Some((place, None)),
-    }
+macro_rules! put_and_receive {
+    ($value:expr, $place:expr) => {
+        Call::Latest {
+            value: $value,
+            receives: true,
+            answer: Some(($place, None)),
+        }
+    };
 }
 
 /// Two elements are kept, and one that comes then is not; but it is kept where another was received before it was looked for.
 const LATEST: [(Tag, Call); 10] = [
-    (1, put(1, 0, None)),
-    (2, put(2, 1, None)),
-    (1, put(3, 2, Some(3))),
-    (2, put_and_receive(4, 3)),
+    (1, put!(1, 0, None)),
+    (2, put!(2, 1, None)),
+    (1, put!(3, 2, Some(3))),
+    (2, put_and_receive!(4, 3)),
     (3, Call::Receive(Got::Taken(1, 2, None))),
     (3, Call::Receive(Got::Taken(3, 4, None))),
     (3, Call::TryReceive(TriedGot::Empty)),
-    (1, put(5, 4, None)),
-    (2, put(6, 5, None)),
-    (1, put_and_receive(7, 6)),
+    (1, put!(5, 4, None)),
+    (2, put!(6, 5, None)),
+    (1, put_and_receive!(7, 6)),
 ];
 
 #[test]
