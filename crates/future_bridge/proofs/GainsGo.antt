@@ -1,8 +1,7 @@
 -- What one step of a receive gained, by the answers of the hub.
-use Rattle.std.specs.Prelude.{◌≡◌, ◌⊎◌, ℕ, ◌<◌, ◌==◌, Bool, true, false, List, [], ◌∷◌, ◌++◌, length, map, Option, Some, None, is_some, refl, if◌then◌else◌}
+use Rattle.std.specs.Prelude.{◌≡◌, ◌⊎◌, ℕ, ◌==◌, Bool, true, false, List, [], ◌∷◌, ◌++◌, map, Option, Some, None, is_some, refl, if◌then◌else◌}
 use mathlib.Core.List.{IsPrefix}
-use Rattle.std.proofs.Common.{sym, ap, ◌∙◌, subst, arith, append_assoc, ⊎_elim}
-use Rattle.co_base.specs.declared.names.WaitId.{WaitId}
+use Rattle.std.proofs.Common.{sym, ap, ◌∙◌, subst, append_assoc, ⊎_elim}
 use Rattle.channel_model.specs.declared.acts.Act.{Act}
 use Rattle.channel_model.specs.declared.acts.Act.TheVariants.{Await, Take, Admit, Settle}
 use Rattle.channel_model.specs.declared.acts.Entry.{Entry}
@@ -13,21 +12,21 @@ use Rattle.channel_model.specs.declared.floor.Got.TheVariants as got
 use Rattle.channel_model.specs.declared.floor.WaitState.TheVariants as state
 use Rattle.channel_model.specs.declared.acts.Kind.{Kind}
 use Rattle.channel_model.specs.declared.acts.Kind.TheVariants as kinds
-use Rattle.channel_model.specs.Channels.{Shape, State, Wait, kind_at, is_signal}
+use Rattle.channel_model.specs.Channels.{Shape, Wait, kind_at, is_signal}
 use Rattle.channel_model.specs.Histories.{replay, acts_of, Legal}
-use Rattle.channel_model.specs.Floors.{Floor, Looked, Made, Added, AtStep}
-use Rattle.channel_model.specs.Answers.{GotAnswer, TakenFrom, LookAnswer, SettleAnswer, IsUnsettledOf, IsReadyWait, IsReady, IsOwnWait, IsOwn, IsDrainedAndClosed, state_of_wait, state_of_parts, outcome_at}
-use Rattle.channel_model.specs.ClauseSides.{AllAllowed, ResolvedAtClause, EndsAtClause}
+use Rattle.channel_model.specs.Floors.{Floor, Looked, Made}
+use Rattle.channel_model.specs.Answers.{GotAnswer, TakenFrom, LookAnswer, SettleAnswer, IsUnsettledOf, IsReadyWait, IsReady, IsOwnWait, IsOwn, state_of_wait, state_of_parts}
+use Rattle.channel_model.specs.ClauseSides.{AllAllowed, EndsAtClause}
 use Rattle.channel_model.proofs.Histories.{Legal-prefix}
 use Rattle.channel_model.proofs.Placed.{same_number}
-use Rattle.channel_model.proofs.Spans.{nothing_more, prefix_self, prefix_then, added_none, added_looked, added_made, added_then}
+use Rattle.channel_model.proofs.Spans.{nothing_more, added_none, added_looked, added_made, added_then}
 use Rattle.channel_model.proofs.Others.{others_keep, between, unsettled_stays, ready_stays}
 use Rattle.channel_model.proofs.Later.{closed_later}
 use Rattle.channel_model.proofs.ResolvedAtClauses.{begun_at_clause, ends_at_clause}
 use Rattle.channel_calls.proofs.Begun.{receiver_waits}
 use Rattle.scope_builders.proofs.NothingReceived.{never_taken}
 use Rattle.future_bridge.specs.declared.steps.Step.TheVariants as step
-use Rattle.future_bridge.specs.Gains.{received_by, received, Gained, wait_at, AwaitsLast, WaitsAt, EndsAs, HasNoPlace, Receives, Stepped, AdmitsBelow, AdmitsAll}
+use Rattle.future_bridge.specs.Gains.{received_by, received, Gained, wait_at, AwaitsLast, Receives, Stepped, AdmitsBelow, AdmitsAll}
 use Rattle.future_bridge.proofs.DrainedWaits.{closed_drained}
 
 -- ---- spans

@@ -1,14 +1,12 @@
 -- What a future of a Job may give.
-use Rattle.std.specs.Prelude.{◌≡◌, ℕ, true, false, [], Option, Some, None, Result, Ok, Err, IsSomeAnd, refl}
+use Rattle.std.specs.Prelude.{◌≡◌, ℕ, true, false, [], Option, Some, Result, Ok, Err, IsSomeAnd}
 use Rattle.std.proofs.Common.{sym, ap, ◌∙◌, subst}
 use Rattle.channel_model.specs.declared.acts.Kind.{Kind}
 use Rattle.channel_model.specs.declared.acts.Kind.TheVariants.{Signal}
 use Rattle.channel_model.specs.Channels.{kind_at, is_signal}
 use Rattle.channel_model.specs.Floors.{Floor}
-use Rattle.job_words.specs.declared.forest.Forest.{Forest}
 use Rattle.job_words.specs.declared.pass.JobPass.{JobPass}
 use Rattle.job_words.specs.Forests.{IsOwn as IsOwnOfJobs, SameGiving as SameGivingOfJobs}
-use Rattle.cell_words.specs.declared.hub.Hub.{Hub}
 use Rattle.cell_words.specs.declared.pass.Pass.{Pass}
 use Rattle.cell_words.specs.Hubs.{shape_of, IsOwn, SameGiving}
 use Rattle.cell_calls.specs.HubFloors.{hub_floor}

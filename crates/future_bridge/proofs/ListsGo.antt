@@ -1,5 +1,5 @@
 -- What a future that sends a list may give.
-use Rattle.std.specs.Prelude.{◌≡◌, ℕ, zero, suc, ◌<◌, ◌≤◌, ◌+◌, List, [], ◌∷◌, ◌++◌, map, length, drop, Option, Some, None, Result, Ok, Err, IsSomeAnd, refl}
+use Rattle.std.specs.Prelude.{◌≡◌, ℕ, zero, suc, ◌<◌, ◌≤◌, ◌+◌, List, [], ◌∷◌, ◌++◌, length, drop, Option, Some, None, Result, Ok, Err, IsSomeAnd, refl}
 use Rattle.std.proofs.Common.{sym, ap, ◌∙◌, subst, append_assoc, arith, get_or}
 use Rattle.std.proofs.lemmas.List.{at_drop_more}
 use Rattle.futures.specs.declared.task.Poll.TheVariants.{Ready, Pending}
@@ -13,7 +13,7 @@ use Rattle.channel_model.specs.Answers.{IsSpentForOffers}
 use Rattle.channel_model.proofs.Spans.{prefix_self, nothing_more, added_then, moment_within}
 use Rattle.cell_words.specs.declared.hub.Hub.{Hub}
 use Rattle.cell_words.specs.declared.pass.Pass.{Pass}
-use Rattle.cell_words.specs.Hubs.{IsOwn, SameGiving}
+use Rattle.cell_words.specs.Hubs.{IsOwn}
 use Rattle.cell_calls.specs.HubFloors.{hub_floor}
 use Rattle.future_bridge.specs.declared.sending.SendSink.{SendSink}
 use Rattle.future_bridge.specs.declared.sending.SinkFault.{SinkFault}

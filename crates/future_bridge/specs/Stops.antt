@@ -1,6 +1,5 @@
 -- How a wait ends that is given up.
-use Rattle.std.specs.Prelude.{◌≡◌, ℕ, List, [], ◌∷◌}
-use Rattle.channel_model.specs.declared.acts.Act.{Act}
+use Rattle.std.specs.Prelude.{ℕ, [], ◌∷◌}
 use Rattle.channel_model.specs.declared.acts.Act.TheVariants.{Withdraw, Settle}
 use Rattle.channel_model.specs.declared.acts.Settled.{Settled}
 use Rattle.channel_model.specs.declared.acts.Settled.TheVariants as settled

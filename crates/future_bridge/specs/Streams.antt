@@ -1,10 +1,8 @@
 -- A channel as a stream of its elements.
-use Rattle.std.specs.Prelude.{◌≡◌, ℕ, ◌<◌, Bool, true, false, List, [], ◌∷◌, ◌++◌, length, map, Option, Some, None, Result, Ok, Err, IsSomeAnd}
+use Rattle.std.specs.Prelude.{◌≡◌, ℕ, ◌<◌, Bool, true, false, List, [], ◌∷◌, ◌++◌, length, map, Option, Some, None, Result, Ok, Err}
 use Rattle.futures.specs.declared.task.Poll.{Poll}
 use Rattle.futures.specs.declared.task.Poll.TheVariants.{Ready, Pending}
-use Rattle.co_base.specs.declared.names.Memory.{Memory}
-use Rattle.channel_model.specs.declared.acts.Act.{Act}
-use Rattle.channel_model.specs.Floors.{Floor, Added}
+use Rattle.channel_model.specs.Floors.{Floor}
 use Rattle.cell_words.specs.declared.hub.Hub.{Hub}
 use Rattle.cell_words.specs.declared.pass.Pass.{Pass}
 use Rattle.cell_words.specs.Hubs.{shape_of, IsOwn, SameGiving}
@@ -13,8 +11,6 @@ use Rattle.future_bridge.specs.declared.receiving.ReceiveStream.{ReceiveStream}
 use Rattle.future_bridge.specs.declared.receiving.Spent.{Spent}
 use Rattle.future_bridge.specs.declared.receiving.Stopped.{Stopped}
 use Rattle.future_bridge.specs.declared.receiving.Stopped.TheVariants as stopped
-use Rattle.future_bridge.specs.declared.collecting.CollectAll.{CollectAll}
-use Rattle.future_bridge.specs.declared.drives.DriveError.{DriveError}
 use Rattle.future_bridge.specs.Gains.{Gained, Receives, AwaitsLast, WaitsAt, IsOver, HasNoPlace}
 use Rattle.future_bridge.specs.Stops.{EndedSo}
 

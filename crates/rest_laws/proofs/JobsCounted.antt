@@ -1,11 +1,11 @@
 -- How many Jobs there are, and how they ended, by how many acts there are of each kind.
-use Rattle.std.specs.Prelude.{◌≡◌, ℕ, zero, suc, ◌+◌, ◌<◌, ◌≤◌, ◌==◌, Bool, true, false, ◌&&◌, ◌||◌, cond, List, [], ◌∷◌, map, Option, Some, None, is_some, refl, if◌then◌else◌}
+use Rattle.std.specs.Prelude.{◌≡◌, ℕ, zero, suc, ◌+◌, ◌<◌, ◌≤◌, ◌==◌, Bool, true, false, ◌&&◌, ◌||◌, cond, List, [], ◌∷◌, Option, Some, None, is_some, refl, if◌then◌else◌}
 use Rattle.std.specs.List.{list_any, fold, range_with_len}
 use Rattle.std.specs.Option.{option_or}
 use Rattle.std.proofs.Common.{sym, ap, ◌∙◌, arith}
 use Rattle.std.proofs.lemmas.Bool.{eqb-true}
 use Rattle.channel_model.specs.Laws.{how_many}
-use Rattle.channel_fates.proofs.Appended.{any_count, none_count}
+use Rattle.channel_fates.proofs.Appended.{none_count}
 use Rattle.job_model.specs.declared.acts.End.{End}
 use Rattle.job_model.specs.declared.acts.End.TheVariants as ends
 use Rattle.job_model.specs.declared.acts.JobAct.{JobAct}
@@ -14,18 +14,18 @@ use Rattle.job_model.specs.declared.acts.JobEntry.{JobEntry}
 use Rattle.job_model.specs.Trees.{Shape, IsShape, Job, Tree, start}
 use Rattle.job_model.specs.Acts.{attaches, finishes}
 use Rattle.job_model.specs.Histories.{replay, acts_in, Legal}
-use Rattle.job_model.specs.Laws.{has, has_ended, count_of, row_of_act}
+use Rattle.job_model.specs.Laws.{has_ended, count_of}
 use Rattle.job_model.proofs.Ends.{by_entries}
 use Rattle.job_model.proofs.Marks.{attach_mark, none_later, count-cons}
 use Rattle.job_model.proofs.RowMarks.{each_once}
 use Rattle.job_model.proofs.Short.{attached_within}
 use Rattle.call_meaning.specs.Facts.{end_at}
-use Rattle.run_report.specs.Jobs.{ends_as, end_noted}
+use Rattle.run_report.specs.Jobs.{end_noted}
 use Rattle.run_report.specs.Summaries.{no_jobs, with_job, jobs_counted}
-use Rattle.tally_laws.specs.JobTallies.{is_completed, is_cancelled, attaches_one, completes_one, cancels_one}
+use Rattle.tally_laws.specs.JobTallies.{is_completed, is_cancelled, attaches_one}
 use Rattle.tally_laws.specs.Sums.{sum_below}
 use Rattle.tally_laws.proofs.Counting.{any_one, count_less}
-use Rattle.tally_laws.proofs.Summed.{sum_add, sum_same, sum_at, sum_none}
+use Rattle.tally_laws.proofs.Summed.{sum_add, sum_same, sum_at}
 use Rattle.tally_laws.proofs.Summing.{sum_first}
 use Rattle.rest_laws.specs.JobsTold.{with_row_of}
 use Rattle.rest_laws.proofs.SameMembers.{SameMembers}

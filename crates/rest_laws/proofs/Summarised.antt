@@ -1,6 +1,6 @@
 -- The summary of a run at rest, by the tallies of its books.
 use Rattle.std.specs.Prelude.{◌≡◌, ℕ, ◌+◌, ◌<◌, Bool, List, [], ◌∷◌, Option, refl}
-use Rattle.std.proofs.Common.{sym, ap, ◌∙◌, arith}
+use Rattle.std.proofs.Common.{sym, ap, ◌∙◌}
 use Rattle.channel_model.specs.Laws.{how_many}
 use Rattle.channel_model.specs.declared.acts.Entry.{Entry}
 use Rattle.job_model.specs.declared.acts.End.{End}

@@ -1,11 +1,10 @@
 -- Who came to a cell has come to it.
-use Rattle.std.specs.Prelude.{◌≡◌, ℕ, ◌<◌, List, [], ◌∷◌, ◌++◌}
+use Rattle.std.specs.Prelude.{ℕ, ◌<◌, List, [], ◌∷◌, ◌++◌}
 use Rattle.std.proofs.Common.{sym, subst}
 use Rattle.std.proofs.lemmas.List.Elements.{All-weaker, All-push}
 use Rattle.counted_cells.specs.declared.counted.Counted.{Counted}
 use Rattle.counted_cells.specs.declared.pass.CountedPass.{CountedPass}
-use Rattle.counted_cells.specs.Cells.{State}
-use Rattle.counted_cells.specs.Seen.{Seen, now_in}
+use Rattle.counted_cells.specs.Seen.{now_in}
 use Rattle.counted_cells.specs.Passes.{seen_by, SamePass}
 use Rattle.counted_cells.specs.Answers.{HasCome, MayGiveUp, Stays}
 use Rattle.word_tests.specs.CellsDrawn.{Came, AllCame}
