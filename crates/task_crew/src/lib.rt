@@ -34,8 +34,6 @@
 mod crew;
 mod latest;
 mod polls;
-#[cfg(test)]
-mod tests;
 mod tickets;
 mod worker;
 

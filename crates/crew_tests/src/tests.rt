@@ -2,7 +2,6 @@
 ghost use Rattle.std.specs.Prelude.{◌≡◌, ◌≤◌, IfOk, length};
 ghost use Rattle.task_berths.specs.Answers.{HaveTags};
 
-use crate::{Polls, Tickets, no_tickets, run_crew};
 use co_base::{Memory, Tag};
 use std::alloc::Global;
 use std::sync::Wait;
@@ -10,6 +9,7 @@ use std::sync::atomic::{AtomicU64, Ordering};
 use std::test::Fail;
 use std::thread::Threads;
 use task_berths::Tagged;
+use task_crew::{Polls, Tickets, no_tickets, run_crew};
 
 /// A task that is to be polled so many times more, and the count that it has seen.
 #[derive(Drop)]
