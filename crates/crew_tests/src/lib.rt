@@ -1,5 +1,10 @@
-//! Tests of crews of one to four workers: who is woken is polled again, and a poll without memory ends all.
+//! Tests of lanes of tickets, and of crews of workers over them.
+//!
+//! - `lane_tests`: what a few lanes give, also to two workers at once.
+//! - `crew_runs`: by one to four workers, who is woken is polled again, and a poll without memory ends all.
 #![tactic(auto)]
 
 #[cfg(test)]
-mod tests;
+mod crew_runs;
+#[cfg(test)]
+mod lane_tests;

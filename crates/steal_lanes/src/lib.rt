@@ -22,8 +22,6 @@ mod lane;
 mod lane_view;
 mod other_lane;
 mod stealing;
-#[cfg(test)]
-mod tests;
 
 pub use all_lanes::lanes;
 pub use lane::Lane;

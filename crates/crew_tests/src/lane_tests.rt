@@ -1,34 +1,35 @@
 //! What a few lanes give.
+ghost use Rattle.std.specs.Prelude.{◌≤◌};
 
-use crate::lane::Lane;
-use crate::lanes;
 use co_base::{Memory, Tag};
 use std::alloc::Global;
 use std::sync::Wait;
 use std::test::Fail;
 use std::thread::{Threads, join};
+use steal_lanes::{Lane, lanes};
+
+/// Three tickets that the last of so many workers finds, where the first had put one into its lane, and then the last one into its own.
+fn three_found(alloc: Global, workers: u8) -> Result<[Option<Tag>; 3], Memory>
+    requires { (1 ≤ workers) × (workers ≤ 2) }
+{
+    let mut all = lanes(alloc, workers, 4)?;
+    let last = all.len() - 1;
+    let _ = all[0].put(7);
+    let _ = all[last].put(8);
+    Ok([all[last].next(), all[last].next(), all[last].next()])
+}
 
 #[test]
 fn a_lane_gives_its_tickets_in_the_order_of_their_puts(rt: HostRuntime) -> Result<(), Fail> {
-    let mut all = lanes(rt.alloc(), 1, 4)?;
-    assert_eq!(rt; all.len(), 1);
-    assert_eq!(rt; all[0].put(7), Ok(()));
-    assert_eq!(rt; all[0].put(8), Ok(()));
-    assert_eq!(rt; all[0].next(), Some(7));
-    assert_eq!(rt; all[0].next(), Some(8));
-    assert_eq!(rt; all[0].next(), None);
+    let found = three_found(rt.alloc(), 1)?;
+    assert_eq!(rt; found, [Some(7), Some(8), None]);
     Ok(())
 }
 
 #[test]
 fn a_worker_takes_from_its_own_lane_before_it_steals(rt: HostRuntime) -> Result<(), Fail> {
-    let mut all = lanes(rt.alloc(), 2, 4)?;
-    assert_eq!(rt; all.len(), 2);
-    assert_eq!(rt; all[0].put(7), Ok(()));
-    assert_eq!(rt; all[1].put(8), Ok(()));
-    assert_eq!(rt; all[1].next(), Some(8));
-    assert_eq!(rt; all[1].next(), Some(7));
-    assert_eq!(rt; all[1].next(), None);
+    let found = three_found(rt.alloc(), 2)?;
+    assert_eq!(rt; found, [Some(8), Some(7), None]);
     Ok(())
 }
 
@@ -118,8 +119,10 @@ fn of_two_workers_each_ticket_is_taken_once_and_none_is_left_where_none_is_found
 ) -> Result<(), Fail> {
     for _ in 0..20 {
         let taken = taken_by_two(&rt, rt.alloc(), 4000)?;
-        assert_eq!(rt; taken.len(), 4000);
-        assert_eq!(rt; are_each_once(taken.as_slice()), true);
+        assert_eq!(rt;
+            (taken.len(), are_each_once(taken.as_slice())),
+            (4000, true)
+        );
     }
     Ok(())
 }
