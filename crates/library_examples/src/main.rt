@@ -35,7 +35,10 @@ use parcel_channel::{ParcelGot, ParcelHub};
 use parcels::{left_over, send_text};
 use scope_builders::{Builder, LaunchError};
 use scopes::{launch_and_cancel, scope_result};
-use std::alloc::Global;
+use std::alloc::{AllocGlobal, Global};
+use std::fmt::Debug;
+use std::random::RandomSource;
+use std::sync::Wait;
 use three_passes::{free_permits, given_up, number_behind_a_mutex};
 
 /// Whoever was woken last.
@@ -194,26 +197,41 @@ fn three_texts(alloc: Global) -> Result<Texts, Memory> {
     })
 }
 
+/// Says what an example answers.
+fn tell<R: Print, T: Debug>(rt: &R, example: &str, answer: &T) {
+    let _ = println!(rt; "{example}: {answer:?}");
+}
+
+fn tell_of_channels<R: Print>(rt: &R, alloc: Global) {
+    tell(rt, "one element", &one_element(alloc));
+    tell(rt, "met by a cancellation", &met_by_a_cancellation(alloc));
+}
+
+fn tell_of_permits<R: Print>(rt: &R, alloc: Global) {
+    tell(rt, "a number behind a mutex", &number_behind_a_mutex(alloc));
+    tell(rt, "free permits", &free_permits(alloc));
+    tell(rt, "a wait for a permit that is given up", &given_up(alloc));
+}
+
+fn tell_of_jobs<R: Print>(rt: &R, alloc: Global) {
+    tell(rt, "two Jobs", &two_jobs(alloc));
+    tell(rt, "launched", &launched(alloc));
+    tell(rt, "entered", &entered(alloc));
+}
+
+fn tell_of_bridges<R: Print + Wait + RandomSource + AllocGlobal>(rt: &R) {
+    tell(rt, "through a channel", &through_a_channel(rt));
+    tell(rt, "two doubled", &two_doubled(rt));
+    tell(rt, "at a rendezvous", &at_a_rendezvous(rt));
+    tell(rt, "a result awaited", &result_awaited(rt));
+}
+
 fn main(rt: HostRuntime) {
     let alloc = rt.alloc();
-    let _ = println!(rt; "one element: {:?}", one_element(alloc));
-    let _ = println!(rt; "met by a cancellation: {:?}", met_by_a_cancellation(alloc));
-    let _ = println!(rt;
-        "a number behind a mutex: {:?}",
-        number_behind_a_mutex(alloc)
-    );
-    let _ = println!(rt; "free permits: {:?}", free_permits(alloc));
-    let _ = println!(rt;
-        "a wait for a permit that is given up: {:?}",
-        given_up(alloc)
-    );
-    let _ = println!(rt; "two Jobs: {:?}", two_jobs(alloc));
-    let _ = println!(rt; "launched: {:?}", launched(alloc));
-    let _ = println!(rt; "entered: {:?}", entered(alloc));
-    let _ = println!(rt; "through a channel: {:?}", through_a_channel(&rt));
-    let _ = println!(rt; "two doubled: {:?}", two_doubled(&rt));
-    let _ = println!(rt; "at a rendezvous: {:?}", at_a_rendezvous(&rt));
-    let _ = println!(rt; "a result awaited: {:?}", result_awaited(&rt));
-    let _ = println!(rt; "two sends: {:?}", two_sends(alloc));
-    let _ = println!(rt; "three texts: {:?}", three_texts(alloc));
+    tell_of_channels(&rt, alloc);
+    tell_of_permits(&rt, alloc);
+    tell_of_jobs(&rt, alloc);
+    tell_of_bridges(&rt);
+    tell(&rt, "two sends", &two_sends(alloc));
+    tell(&rt, "three texts", &three_texts(alloc));
 }
