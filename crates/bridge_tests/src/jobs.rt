@@ -9,12 +9,14 @@ use crate::pass_calls::meet_passes;
 use cell_calls::{close, receive};
 use cell_words::{Hub, Pass};
 use channel_model::{Got, Kind};
-use co_base::Memory;
+use co_base::{Memory, Value};
 use forest_shares::{Answer, Call, make_by, meet_both, new_forest, split_off};
 use future_bridge::{HostDrive, Spent, await_job};
 use job_model::{Attached, End, Ended, Finished, JobKind};
 use job_words::{Forest, JobPass};
-use std::alloc::Global;
+use std::alloc::{AllocGlobal, Global};
+use std::random::RandomSource;
+use std::sync::Wait;
 use std::test::Fail;
 
 /// Two done channels of one place, two coroutines, and the passes of both.
@@ -96,6 +98,49 @@ const ATTACHED_AND_ENDED: (Answer, Answer) = (
     Answer::Ended(Ended::Owes),
 );
 
+/// The Finish of the other coroutine's Job.
+fn finish_child(
+    alloc: Global,
+    forest: &Forest,
+    root: &mut JobPass,
+    child: &mut JobPass,
+) -> Result<Answer, Memory>
+    requires size { forest.now.size.coroutines ≡ 2 }
+    requires root { IsOwnOfJobs forest.now root.old 0 }
+    requires child { IsOwnOfJobs forest.now child.old 1 }
+    ensures root { IsOwnOfJobs forest.now root.new 0 }
+    ensures child { IsOwnOfJobs forest.now child.new 1 }
+{
+    meet_both(forest, root, 0, child, 1);
+    make_by(forest, 2, child, alloc, 1, Call::Finish { row: 1 })
+}
+
+/// What the Job of the other coroutine gives the root. None: the root has not seen it attached, or the drive failed.
+fn awaited<R: Wait + RandomSource + AllocGlobal>(
+    rt: &R,
+    hub: &Hub,
+    root: Pass,
+    forest: &Forest,
+    root_jobs: JobPass,
+    child_jobs: &mut JobPass,
+) -> Option<Result<Value, Spent>>
+    requires shape { shape_of hub.now ≡ (Signal, 1) ∷ (Signal, 1) ∷ [] }
+    requires root { IsOwn hub.now root 0 }
+    requires root_jobs { IsOwnOfJobs forest.now root_jobs 0 }
+    requires child_jobs { IsOwnOfJobs forest.now child_jobs.old 1 }
+{
+    let mut root_jobs = root_jobs;
+    meet_both(forest, &mut root_jobs, 0, child_jobs, 1);
+    if !sees_job(forest, &mut root_jobs, 0, 1) {
+        return None;
+    }
+    let mut host = HostDrive::new(rt);
+    match await_job(&mut host, hub, root, forest, root_jobs, 0, 0, 1) {
+        Ok((_pass, _jobs, result)) => Some(result),
+        Err(_failed) => None,
+    }
+}
+
 #[test]
 fn a_job_that_ended_gives_its_result(rt: HostRuntime) -> Result<(), Fail> {
     let Family {
@@ -107,23 +152,13 @@ fn a_job_that_ended_gives_its_result(rt: HostRuntime) -> Result<(), Fail> {
         mut child_jobs,
     } = new_family(rt.alloc())?;
     let answers = attach_and_end(rt.alloc(), &forest, &mut root_jobs, &mut child_jobs)?;
-    assert!(rt; answers == ATTACHED_AND_ENDED);
-    meet_both(&forest, &mut root_jobs, 0, &mut child_jobs, 1);
-    let finish = Call::Finish { row: 1 };
-    let finished = make_by(&forest, 2, &mut child_jobs, rt.alloc(), 1, finish)?;
-    assert!(rt; finished == Answer::Finished(Finished::Now(End::Completed(9))));
+    let finished = finish_child(rt.alloc(), &forest, &mut root_jobs, &mut child_jobs)?;
     meet_passes(&hub, &mut root, 0, &mut child, 1);
-    assert_eq!(rt; close(&hub, &mut child, 1, 1, 9), Ok(()));
-    meet_both(&forest, &mut root_jobs, 0, &mut child_jobs, 1);
-    if !sees_job(&forest, &mut root_jobs, 0, 1) {
-        panic!(rt; "attached");
-    }
-    let mut host = HostDrive::new(&rt);
-    let Ok((_pass, _jobs, result)) = await_job(&mut host, &hub, root, &forest, root_jobs, 0, 0, 1)
-    else {
-        panic!(rt; "driven");
-    };
-    assert_eq!(rt; result, Ok(9));
+    let closed = close(&hub, &mut child, 1, 1, 9);
+    let result = awaited(&rt, &hub, root, &forest, root_jobs, &mut child_jobs);
+    let completed = Answer::Finished(Finished::Now(End::Completed(9)));
+    assert!(rt; answers == ATTACHED_AND_ENDED && finished == completed);
+    assert_eq!(rt; (closed, result), (Ok(()), Some(Ok(9))));
     Ok(())
 }
 
@@ -138,18 +173,10 @@ fn a_job_whose_done_channel_is_spent_gives_no_result(rt: HostRuntime) -> Result<
         mut child_jobs,
     } = new_family(rt.alloc())?;
     let answers = attach_and_end(rt.alloc(), &forest, &mut root_jobs, &mut child_jobs)?;
-    assert!(rt; answers == ATTACHED_AND_ENDED);
     meet_passes(&hub, &mut root, 0, &mut child, 1);
-    assert_eq!(rt; receive(&hub, &mut child, 1, 1), Got::Waiting(0));
-    meet_both(&forest, &mut root_jobs, 0, &mut child_jobs, 1);
-    if !sees_job(&forest, &mut root_jobs, 0, 1) {
-        panic!(rt; "attached");
-    }
-    let mut host = HostDrive::new(&rt);
-    let Ok((_pass, _jobs, result)) = await_job(&mut host, &hub, root, &forest, root_jobs, 0, 0, 1)
-    else {
-        panic!(rt; "driven");
-    };
-    assert_eq!(rt; result, Err(Spent));
+    let waits = receive(&hub, &mut child, 1, 1);
+    let result = awaited(&rt, &hub, root, &forest, root_jobs, &mut child_jobs);
+    assert!(rt; answers == ATTACHED_AND_ENDED);
+    assert_eq!(rt; (waits, result), (Got::Waiting(0), Some(Err(Spent))));
     Ok(())
 }
