@@ -26,11 +26,32 @@ struct Tally {
     received: u32,
 }
 
+impl Tally {
+    /// Both, added.
+    fn and(self, other: Tally) -> Tally {
+        Tally {
+            met: self.met.wrapping_add(other.met),
+            waits: self.waits.wrapping_add(other.waits),
+            received: self.received.wrapping_add(other.received),
+        }
+    }
+}
+
 /// How far the waits of one coroutine are.
 #[derive(Clone, Copy, Drop)]
 struct OwnWaits {
     standing: u32,
     resolved: u32,
+}
+
+impl OwnWaits {
+    /// Both, added.
+    fn and(self, other: OwnWaits) -> OwnWaits {
+        OwnWaits {
+            standing: self.standing.wrapping_add(other.standing),
+            resolved: self.resolved.wrapping_add(other.resolved),
+        }
+    }
 }
 
 /// How the waits of one coroutine ended.
@@ -42,6 +63,17 @@ struct Endings {
     handed: u32,
     /// The sum of those elements.
     received: u32,
+}
+
+impl Endings {
+    /// Both, added.
+    fn and(self, other: Endings) -> Endings {
+        Endings {
+            sent: self.sent.wrapping_add(other.sent),
+            handed: self.handed.wrapping_add(other.handed),
+            received: self.received.wrapping_add(other.received),
+        }
+    }
 }
 
 fn offer(hub: &Hub, pass: &mut Pass, who: Tag, value: Value) -> Offered
@@ -376,6 +408,62 @@ fn end_one(hub: &Hub, main: &mut Pass, pass: Pass, who: Tag)
     hub.end(main, pass);
 }
 
+/// What two coroutines came to that both offer, or both receive.
+#[derive(Clone, Copy, Drop)]
+struct Side {
+    tally: Tally,
+    /// How far their waits were when all threads had ended.
+    waits: OwnWaits,
+    endings: Endings,
+}
+
+/// Looks at the waits of two coroutines, ends their passes, and settles the waits.
+fn side_of(hub: &Hub, main: &mut Pass, a: Caller, b: Caller) -> Side
+    requires main { IsOf hub.now main.old }
+    requires a { IsOwn hub.now a.pass a.who }
+    requires b { IsOwn hub.now b.pass b.who }
+    requires channel { 0 < length (shape_of hub.now) }
+    ensures main { IsOf hub.now main.new }
+{
+    let tally = a.tally.and(b.tally);
+    let (a, of_a) = waits_after(hub, a);
+    let (b, of_b) = waits_after(hub, b);
+    let by_a = end_and_settle(hub, main, a);
+    let by_b = end_and_settle(hub, main, b);
+    Side {
+        tally,
+        waits: of_a.and(of_b),
+        endings: by_a.and(by_b),
+    }
+}
+
+/// Of those who offered and those who received: how many calls there were, how many of their waits were resolved, how many stood, how many
+/// were settled; and the sum of all elements that were received.
+fn told_of(senders: Side, receivers: Side) -> ([[u32; 2]; 4], u32) {
+    (
+        [
+            [
+                senders.tally.met.wrapping_add(senders.tally.waits),
+                receivers.tally.met.wrapping_add(receivers.tally.waits),
+            ],
+            [senders.waits.resolved, receivers.waits.resolved],
+            [senders.waits.standing, receivers.waits.standing],
+            [senders.endings.sent, receivers.endings.handed],
+        ],
+        receivers
+            .tally
+            .received
+            .wrapping_add(receivers.endings.received),
+    )
+}
+
+/// The same where nothing is lost: as many offered as received, so that nobody is left on either side, and each of the elements 0 to 1,999
+/// was received once.
+fn told_of_all(senders: Side, receivers: Side) -> ([[u32; 2]; 4], u32) {
+    let met = [receivers.tally.met, senders.tally.met];
+    ([[2000, 2000], met, [0, 0], met], 1999000)
+}
+
 #[test]
 fn four_threads_lose_no_call_and_no_element(rt: HostRuntime) -> Result<(), Fail> {
     let kinds = [(Kind::Rendezvous, 4000u32)];
@@ -389,48 +477,9 @@ fn four_threads_lose_no_call_and_no_element(rt: HostRuntime) -> Result<(), Fail>
     let c = caller_of(&hub, third, 3, None);
     let d = caller_of(&hub, fourth, 4, None);
     let ((a, b), (c, d)) = by_four(&rt, &hub, a, b, c, d);
-    let handed = a.tally.met.wrapping_add(b.tally.met);
-    let held = a.tally.waits.wrapping_add(b.tally.waits);
-    let taken = c.tally.met.wrapping_add(d.tally.met);
-    let waiting = c.tally.waits.wrapping_add(d.tally.waits);
-    let received = c.tally.received.wrapping_add(d.tally.received);
-    let (a, of_a) = waits_after(&hub, a);
-    let (b, of_b) = waits_after(&hub, b);
-    let (c, of_c) = waits_after(&hub, c);
-    let (d, of_d) = waits_after(&hub, d);
-    let resolved = [
-        of_a.resolved.wrapping_add(of_b.resolved),
-        of_c.resolved.wrapping_add(of_d.resolved),
-    ];
-    let standing = [
-        of_a.standing.wrapping_add(of_b.standing),
-        of_c.standing.wrapping_add(of_d.standing),
-    ];
-    let by_a = end_and_settle(&hub, &mut main, a);
-    let by_b = end_and_settle(&hub, &mut main, b);
-    let by_c = end_and_settle(&hub, &mut main, c);
-    let by_d = end_and_settle(&hub, &mut main, d);
-    let settled = [
-        by_a.sent.wrapping_add(by_b.sent),
-        by_c.handed.wrapping_add(by_d.handed),
-    ];
-    let later = by_c.received.wrapping_add(by_d.received);
-    let calls = [handed.wrapping_add(held), taken.wrapping_add(waiting)];
-    let found = [
-        calls,
-        resolved,
-        standing,
-        settled,
-        [received.wrapping_add(later), 0],
-    ];
-    // As many offered as received, so that nobody is left on either side, and each of the elements 0 to 1,999 was received once.
-    let wanted = [
-        [2000, 2000],
-        [taken, handed],
-        [0, 0],
-        [taken, handed],
-        [1999000, 0],
-    ];
-    assert_eq!(rt; found, wanted);
+    let senders = side_of(&hub, &mut main, a, b);
+    let receivers = side_of(&hub, &mut main, c, d);
+    let found = told_of(senders, receivers);
+    assert_eq!(rt; found, told_of_all(senders, receivers));
     Ok(())
 }
