@@ -11,6 +11,7 @@ pub mod ReceivesTold
 pub mod SendsTold
 pub mod WithdrawnWaits
 pub mod EndsTold
+pub mod HeardMoments
 pub mod PlacedFull
 pub mod OwnClause
 pub mod OwnOffers

@@ -16,9 +16,8 @@ use Rattle.channel_model.proofs.Marks.{next_grows}
 use Rattle.channel_model.proofs.Placed.{replay_placed}
 use Rattle.channel_model.proofs.PlacedFull.{placed_full_before}
 use Rattle.channel_model.proofs.Spans.{prefix_then}
-use Rattle.job_model.specs.Histories.{replay as replay_jobs, acts_of as job_acts_of}
+use Rattle.job_model.specs.Histories.{replay as replay_jobs}
 use Rattle.note_book.specs.declared.book.Item.{Item}
-use Rattle.note_book.specs.Items.{channel_acts_in, job_acts_in}
 use Rattle.call_meaning.specs.Telling.{Told, on_channels, NextIs, NoneToAdmit, made}
 use Rattle.call_meaning.specs.Facts.{ToldHolds}
 use Rattle.call_meaning.specs.Stories.{Moment, IsBy, IsTrue, story_of, with_told}
@@ -27,21 +26,8 @@ use Rattle.call_meaning.specs.Calls.{ToldOnChannels}
 use Rattle.call_meaning.proofs.Tellings.{by_then}
 use Rattle.channel_calls.specs.Groups.{made_note}
 use Rattle.channel_calls.proofs.Begun.{offer_plain}
+use Rattle.channel_calls.proofs.HeardMoments.{noted_acts, no_jobs_noted}
 use Rattle.channel_calls.proofs.OwedWords.{owed_below}
-
--- ---- the book of a caller, from its acts
-
-noted_acts : (acts : List Act) → channel_acts_in (map made_note acts) ≡ acts
-noted_acts [] = refl
-noted_acts (a ∷ acts) = ap (λ l. a ∷ l) (noted_acts acts)
-
-noted_jobs : (acts : List Act) → job_acts_in (map made_note acts) ≡ []
-noted_jobs [] = refl
-noted_jobs (a ∷ acts) = noted_jobs acts
-
-no_job_acts : (who : ℕ) → job_acts_of who [] ≡ []
-unfolding job_acts_of
-no_job_acts who = refl
 
 -- ---- the last of what was told
 
@@ -83,7 +69,7 @@ placed_in_full who c v q z b between d j k told l m h t look =
     let to_end : IsPrefix b.seen d.seen = prefix_then b.seen between.seen d.seen t.added.longer look.0.longer in
     let legal_b : Legal b.shape b.seen = Legal-prefix b.shape b.seen to_end.0 (subst (Legal b.shape) (sym to_end.1) legal) in
     let book : List Item = map made_note (acts_of who b.seen) in
-    let all = t.was_so book [] (sym (noted_acts (acts_of who b.seen))) (no_job_acts who ∙ sym (noted_jobs (acts_of who b.seen))) in
+    let all = t.was_so book [] (sym (noted_acts (acts_of who b.seen))) (no_jobs_noted who (acts_of who b.seen)) in
     let now : Moment = record { channels = between.seen; jobs = [] } in
     let first : Moment = record { channels = b.seen; jobs = [] } in
     let r = admitted_after b.shape who c h.mark now book first (map (λ p. made (Admit c p)) h.places) (subst (IsTrue (story_of b.shape who now) book first) h.all all) in

@@ -1,8 +1,9 @@
 -- What a receive tells, by the floor's answer.
-use Rattle.std.specs.Prelude.{◌≡◌, ℕ, true, List, [], ◌∷◌, ◌++◌, Option, Some, None, is_some, Ok, Err, refl}
-use Rattle.std.proofs.Common.{sym, ◌∙◌, subst}
+use Rattle.std.specs.Prelude.{◌≡◌, ℕ, true, List, [], ◌∷◌, ◌++◌, Option, Some, None, is_some, Result, Ok, Err, refl}
+use Rattle.std.proofs.Common.{sym, ap, ◌∙◌, subst}
 use Rattle.co_base.specs.declared.names.Memory.{Memory}
 use Rattle.channel_model.specs.declared.acts.Act.TheVariants.{Await, Take}
+use Rattle.channel_model.specs.declared.acts.ChannelNote.{ChannelNote}
 use Rattle.channel_model.specs.declared.acts.ChannelNote.TheVariants.{ReceiveClosed, TryReceiveClosed, Empty, Spent}
 use Rattle.channel_model.specs.declared.acts.Entry.{Entry}
 use Rattle.channel_model.specs.declared.floor.Got.TheVariants as got
@@ -17,12 +18,15 @@ use Rattle.note_book.specs.declared.book.Item.TheVariants as item
 use Rattle.call_meaning.specs.Telling.{SpentForReceives, items_in, made, heard}
 use Rattle.call_meaning.specs.Facts.{ActHolds, IsDrained}
 use Rattle.call_meaning.specs.Calls.{ToldOnChannels}
-use Rattle.call_meaning.specs.ChannelCalls.{Got, Closed, Waits, receives, wait_at, spent, Admits, AtOnce, Refused, PlainCall}
+use Rattle.call_meaning.specs.ChannelCalls.{Got, Closed, Waits, receives, wait_at, blocked, spent, Admits, AtOnce, Refused, PlainCall}
 use Rattle.call_meaning.proofs.ChannelsHeard.{told_then, told_roomed, told_made, told_met, told_met_after, moment_before}
 use Rattle.channel_calls.specs.declared.caller.ReceiveAnswer.TheVariants as receive
+use Rattle.channel_calls.specs.declared.caller.TriedAs.{TriedAs}
+use Rattle.channel_calls.specs.declared.caller.TriedAs.TheVariants as tried_as
+use Rattle.channel_calls.specs.declared.caller.TryReceiveAnswer.{TryReceiveAnswer}
 use Rattle.channel_calls.specs.declared.caller.TryReceiveAnswer.TheVariants as try_receive
 use Rattle.channel_calls.specs.Groups.{made_note}
-use Rattle.channel_calls.specs.Calls.{Tells, ToldPart, Goes, GoesSomehow, GoesAtOnce, GoesAtOnceSomehow, ReceivedAnswer, TryReceivedAnswer, AdmittedAnswer}
+use Rattle.channel_calls.specs.Calls.{Tells, ToldPart, Goes, GoesSomehow, GoesAtOnce, GoesAtOnceSomehow, closed_note, ReceivedAnswer, TryReceivedAnswer, ReceiveTriedAs, AdmittedAnswer}
 use Rattle.channel_calls.proofs.Begun.{receiver_waits}
 use Rattle.channel_calls.proofs.AdmitsTold.{none_admitted}
 use Rattle.channel_calls.proofs.Untold.{part_none, part_of, part_then}
@@ -94,12 +98,24 @@ module _ (who c n : ℕ) (a b d : Floor) (i j k : List Item) (h : HasRoom n a b)
 
   -- ---- without waiting
 
-  pub empty : TriedGotAnswer who c b d tried.Empty → k ≡ j ++ item.Channel (Empty c) ∷ [] → TryReceivedAnswer who c a d i k (Ok try_receive.Empty)
+  pub empty : TriedGotAnswer who c b d tried.Empty → k ≡ j ++ item.Channel (Empty c) ∷ [] → ToldOnChannels who a d i k (blocked (receives c) ∷ [])
   empty o f = told_roomed who n a b d i j k (heard (Empty c) ∷ []) h e
       (told_met who (Empty c) b d j k refl o.0 (let m : AtStep b d (IsEmptyToTry c) = o.1 in record { moment = m.moment; after = m.after; before = m.before; holds = record { is_open = m.holds.not_closed; nothing = m.holds.nothing } }) f)
 
-  pub try_closed : (x : ℕ) → Legal d.shape d.seen → TriedGotAnswer who c b d (tried.Closed x) → k ≡ j ++ item.Channel (TryReceiveClosed c x) ∷ [] → TryReceivedAnswer who c a d i k (Ok (try_receive.Closed x))
-  try_closed x l o f = told_roomed who n a b d i j k (heard (TryReceiveClosed c x) ∷ []) h e (told_met who (TryReceiveClosed c x) b d j k refl o.0.looked (drained_at who c x b d l o.0 o.1) f)
+  -- as a call or as a clause
+  pub try_closed : (by : TriedAs) (x : ℕ) (note : ChannelNote) → note ≡ closed_note by (receives c) x → Legal d.shape d.seen → TriedGotAnswer who c b d (tried.Closed x) → k ≡ j ++ item.Channel note ∷ [] → ToldOnChannels who a d i k (heard (closed_note by (receives c) x) ∷ [])
+  try_closed by x note is l o f = told_roomed who n a b d i j k _ h e (noted by (f ∙ ap (λ (m : ChannelNote). j ++ item.Channel m ∷ []) is))
+    where
+      noted : (by : TriedAs) → k ≡ j ++ item.Channel (closed_note by (receives c) x) ∷ [] → ToldOnChannels who b d j k (heard (closed_note by (receives c) x) ∷ [])
+      noted tried_as.Call m = told_met who (TryReceiveClosed c x) b d j k refl o.0.looked (drained_at who c x b d l o.0 o.1) m
+      noted tried_as.Clause m = told_met who (ReceiveClosed c x) b d j k refl o.0.looked (drained_at who c x b d l o.0 o.1) m
+
+-- what a call told that never waits
+pub received_as_call : (who c : ℕ) (a d : Floor) (i k : List Item) (r : Result TryReceiveAnswer Memory) → ReceiveTriedAs tried_as.Call who c a d i k r → TryReceivedAnswer who c a d i k r
+received_as_call who c a d i k (Ok (try_receive.Value v)) t = t
+received_as_call who c a d i k (Ok try_receive.Empty) t = t
+received_as_call who c a d i k (Ok (try_receive.Closed x)) t = t
+received_as_call who c a d i k (Err m) t = t
 
 -- a receive that waits where it must goes so too
 pub received : (who c v : ℕ) (a d : Floor) (i k : List Item) → Tells who (GoesAtOnce (receives c) (Got v)) a d i k → Tells who (Goes (receives c) (Got v)) a d i k

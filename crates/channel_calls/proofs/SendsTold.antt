@@ -1,8 +1,9 @@
 -- What a send tells, by the floor's answer to its offer.
-use Rattle.std.specs.Prelude.{◌≡◌, ℕ, List, [], ◌∷◌, ◌++◌, Ok, Err, refl}
-use Rattle.std.proofs.Common.{subst}
+use Rattle.std.specs.Prelude.{◌≡◌, ℕ, List, [], ◌∷◌, ◌++◌, Result, Ok, Err, refl}
+use Rattle.std.proofs.Common.{ap, ◌∙◌, subst}
 use Rattle.co_base.specs.declared.names.Memory.{Memory}
 use Rattle.channel_model.specs.declared.acts.Act.TheVariants.{Hand, Put, Offer}
+use Rattle.channel_model.specs.declared.acts.ChannelNote.{ChannelNote}
 use Rattle.channel_model.specs.declared.acts.ChannelNote.TheVariants.{SendClosed, TrySendClosed, Full, Spent}
 use Rattle.channel_model.specs.declared.floor.Offered.TheVariants as offered
 use Rattle.channel_model.specs.declared.floor.TriedOffer.TheVariants as tried
@@ -14,14 +15,17 @@ use Rattle.channel_model.proofs.Spans.{prefix_self}
 use Rattle.note_book.specs.declared.book.Item.{Item}
 use Rattle.note_book.specs.declared.book.Item.TheVariants as item
 use Rattle.call_meaning.specs.Telling.{on_channels, WasFull, SpentForOffers, made, heard}
-use Rattle.call_meaning.specs.Facts.{ActHolds}
+use Rattle.call_meaning.specs.Facts.{ActHolds, IsClosedWith}
 use Rattle.call_meaning.specs.Calls.{ToldOnChannels}
-use Rattle.call_meaning.specs.ChannelCalls.{Done, sends, wait_at, spent, AtOnce, PlainCall}
+use Rattle.call_meaning.specs.ChannelCalls.{Done, sends, wait_at, blocked, spent, AtOnce, PlainCall}
 use Rattle.call_meaning.proofs.ChannelsHeard.{told_then, told_roomed, told_made, told_made_after, told_met, told_met_after, moment_before}
 use Rattle.channel_calls.specs.declared.caller.SendAnswer.TheVariants as send
+use Rattle.channel_calls.specs.declared.caller.TriedAs.{TriedAs}
+use Rattle.channel_calls.specs.declared.caller.TriedAs.TheVariants as tried_as
+use Rattle.channel_calls.specs.declared.caller.TrySendAnswer.{TrySendAnswer}
 use Rattle.channel_calls.specs.declared.caller.TrySendAnswer.TheVariants as try_send
 use Rattle.channel_calls.specs.Groups.{made_note}
-use Rattle.channel_calls.specs.Calls.{Tells, ToldPart, GoesSomehow, GoesAtOnce, GoesAtOnceSomehow, FollowsPut, IsSent, IsUnsent, SentAnswer, TrySentAnswer, AfterPutAnswer}
+use Rattle.channel_calls.specs.Calls.{Tells, ToldPart, GoesSomehow, GoesAtOnce, GoesAtOnceSomehow, FollowsPut, IsSent, IsUnsent, closed_note, SentAnswer, TrySentAnswer, SendTriedAs, AfterPutAnswer}
 use Rattle.channel_calls.proofs.Untold.{part_none, part_of, part_then}
 
 module _ (who c v n : ℕ) (a b d : Floor) (i j k : List Item) (h : HasRoom n a b) (e : j ≡ i) where
@@ -55,13 +59,16 @@ module _ (who c v n : ℕ) (a b d : Floor) (i j k : List Item) (h : HasRoom n a 
   offer_told place o f = told_roomed who n a b d i j k (on_channels (WasFull c) ∷ made (Offer c place v (wait_at c place) 0) ∷ []) h e
       (told_made_after who (WasFull c) (Offer c place v (wait_at c place) 0) b d j k o.0 (λ s. tt) o.1 f)
 
+  closed_so : (x : ℕ) → ClosedWith who c x b d → AtStep b d (IsClosedWith c x)
+  closed_so x o = record { moment = d.seen; after = o.looked.longer; before = prefix_self d.seen; holds = o.is_closed }
+
   pub refused : (x : ℕ) → ClosedWith who c x b d → k ≡ j ++ item.Channel (SendClosed c v x) ∷ [] → SentAnswer who c v a d i k (Ok (send.Closed x))
   refused x o f = (
     record {
       told = heard (SendClosed c v x) ∷ [];
       goes = IsUnsent.refused;
       left = told_roomed who n a b d i j k (heard (SendClosed c v x) ∷ []) h e
-          (told_met who (SendClosed c v x) b d j k refl o.looked (record { moment = d.seen; after = o.looked.longer; before = prefix_self d.seen; holds = o.is_closed }) f);
+          (told_met who (SendClosed c v x) b d j k refl o.looked (closed_so x o) f);
     },
     o.is_closed,
   )
@@ -75,7 +82,7 @@ module _ (who c v n : ℕ) (a b d : Floor) (i j k : List Item) (h : HasRoom n a 
 
   -- ---- without waiting
 
-  pub full : TriedOfferAnswer who c v b d tried.Full → k ≡ j ++ item.Channel (Full c v) ∷ [] → TrySentAnswer who c v a d i k (Ok try_send.Full)
+  pub full : TriedOfferAnswer who c v b d tried.Full → k ≡ j ++ item.Channel (Full c v) ∷ [] → ToldOnChannels who a d i k (blocked (sends c v) ∷ [])
   full o f = told_roomed who n a b d i j k (heard (Full c v) ∷ []) h e
       (told_met who (Full c v) b d j k refl o.0
       (let m : AtStep b d (IsFullToTry b.shape c) = o.1 in record {
@@ -85,12 +92,24 @@ module _ (who c v n : ℕ) (a b d : Floor) (i j k : List Item) (h : HasRoom n a 
         holds = record { waits = m.holds.may_wait; is_open = m.holds.not_closed; nobody = m.holds.nobody; full = m.holds.full };
       }) f)
 
-  pub try_refused : (x : ℕ) → ClosedWith who c x b d → k ≡ j ++ item.Channel (TrySendClosed c v x) ∷ [] → TrySentAnswer who c v a d i k (Ok (try_send.Closed x))
-  try_refused x o f = told_roomed who n a b d i j k (heard (TrySendClosed c v x) ∷ []) h e
-      (told_met who (TrySendClosed c v x) b d j k refl o.looked (record { moment = d.seen; after = o.looked.longer; before = prefix_self d.seen; holds = o.is_closed }) f)
+  -- as a call or as a clause
+  pub try_refused : (by : TriedAs) (x : ℕ) (note : ChannelNote) → note ≡ closed_note by (sends c v) x → ClosedWith who c x b d → k ≡ j ++ item.Channel note ∷ [] → ToldOnChannels who a d i k (heard (closed_note by (sends c v) x) ∷ [])
+  try_refused by x note is o f = told_roomed who n a b d i j k _ h e (noted by (f ∙ ap (λ (m : ChannelNote). j ++ item.Channel m ∷ []) is))
+    where
+      noted : (by : TriedAs) → k ≡ j ++ item.Channel (closed_note by (sends c v) x) ∷ [] → ToldOnChannels who b d j k (heard (closed_note by (sends c v) x) ∷ [])
+      noted tried_as.Call l = told_met who (TrySendClosed c v x) b d j k refl o.looked (closed_so x o) l
+      noted tried_as.Clause l = told_met who (SendClosed c v x) b d j k refl o.looked (closed_so x o) l
 
-  pub try_no_place : TriedOfferAnswer who c v b d tried.Spent → k ≡ j ++ item.Channel (Spent c) ∷ [] → TrySentAnswer who c v a d i k (Ok try_send.Spent)
+  pub try_no_place : TriedOfferAnswer who c v b d tried.Spent → k ≡ j ++ item.Channel (Spent c) ∷ [] → ToldOnChannels who a d i k (spent (sends c v))
   try_no_place o f = spent_told o.0 o.1 f
+
+-- what a call told that never waits
+pub sent_as_call : (who c v : ℕ) (a d : Floor) (i k : List Item) (r : Result TrySendAnswer Memory) → SendTriedAs tried_as.Call who c v a d i k r → TrySentAnswer who c v a d i k r
+sent_as_call who c v a d i k (Ok try_send.Sent) t = t
+sent_as_call who c v a d i k (Ok try_send.Full) t = t
+sent_as_call who c v a d i k (Ok (try_send.Closed x)) t = t
+sent_as_call who c v a d i k (Ok try_send.Spent) t = t
+sent_as_call who c v a d i k (Err m) t = t
 
 -- a send that waits where it must is sent so too
 pub sent : (who c v : ℕ) (a d : Floor) (i k : List Item) → Tells who (GoesAtOnce (sends c v) Done) a d i k → Tells who (IsSent c v) a d i k

@@ -5,7 +5,8 @@ use Rattle.co_base.specs.declared.names.WaitId.{WaitId}
 use Rattle.co_base.specs.declared.names.Memory.{Memory}
 use Rattle.channel_model.specs.declared.acts.Act.{Act}
 use Rattle.channel_model.specs.declared.acts.Act.TheVariants.{Close, Void, Withdraw, Settle}
-use Rattle.channel_model.specs.declared.acts.ChannelNote.TheVariants.{SendClosed, TrySendClosed, TryReceiveClosed, AlreadyClosed, Late}
+use Rattle.channel_model.specs.declared.acts.ChannelNote.{ChannelNote}
+use Rattle.channel_model.specs.declared.acts.ChannelNote.TheVariants.{SendClosed, TrySendClosed, ReceiveClosed, TryReceiveClosed, AlreadyClosed, Late}
 use Rattle.channel_model.specs.declared.acts.Entry.{Entry}
 use Rattle.channel_model.specs.declared.acts.Kind.{Kind}
 use Rattle.channel_model.specs.declared.acts.Settled.{Settled}
@@ -28,6 +29,8 @@ use Rattle.call_meaning.specs.Calls.{ToldOnChannels}
 use Rattle.channel_calls.specs.declared.caller.Caller.{Caller}
 use Rattle.channel_calls.specs.declared.caller.SendAnswer.{SendAnswer}
 use Rattle.channel_calls.specs.declared.caller.SendAnswer.TheVariants as send
+use Rattle.channel_calls.specs.declared.caller.TriedAs.{TriedAs}
+use Rattle.channel_calls.specs.declared.caller.TriedAs.TheVariants as tried_as
 use Rattle.channel_calls.specs.declared.caller.TrySendAnswer.{TrySendAnswer}
 use Rattle.channel_calls.specs.declared.caller.TrySendAnswer.TheVariants as try_send
 use Rattle.channel_calls.specs.declared.caller.ReceiveAnswer.{ReceiveAnswer}
@@ -103,6 +106,15 @@ pub record IsSeenWaiting (who : ℕ) (w : WaitId) (told : List Told) (old new : 
   pub look : LookAnswer who w between new state.Standing
   pub holds : HoldsWait who w new
 
+-- ---- closed channels
+
+-- what a send or a receive that is tried notes of a channel closed with x
+abbrev pub closed_note : TriedAs → Call → ℕ → ChannelNote
+closed_note tried_as.Call (sends c v) x = TrySendClosed c v x
+closed_note tried_as.Clause (sends c v) x = SendClosed c v x
+closed_note tried_as.Call (receives c) x = TryReceiveClosed c x
+closed_note tried_as.Clause (receives c) x = ReceiveClosed c x
+
 -- ---- send
 
 -- a send that was done: the element was handed or put, or its offer was received or kept before the call answered
@@ -147,6 +159,15 @@ TrySentAnswer who c v old new i i' (Ok (try_send.Closed x)) =
 TrySentAnswer who c v old new i i' (Ok try_send.Spent) = ToldOnChannels who old new i i' (spent (sends c v))
 TrySentAnswer who c v old new i i' (Err m) = ToldPart who (GoesAtOnceSomehow (sends c v)) old new i i'
 
+-- as a call or as a clause
+abbrev pub SendTriedAs : TriedAs → ℕ → ℕ → ℕ → Floor → Floor → List Item → List Item → Result TrySendAnswer Memory → Type 0
+SendTriedAs by who c v old new i i' (Ok try_send.Sent) = Tells who (GoesAtOnce (sends c v) Done) old new i i'
+SendTriedAs by who c v old new i i' (Ok try_send.Full) = ToldOnChannels who old new i i' (blocked (sends c v) ∷ [])
+SendTriedAs by who c v old new i i' (Ok (try_send.Closed x)) =
+    ToldOnChannels who old new i i' (heard (closed_note by (sends c v) x) ∷ [])
+SendTriedAs by who c v old new i i' (Ok try_send.Spent) = ToldOnChannels who old new i i' (spent (sends c v))
+SendTriedAs by who c v old new i i' (Err m) = ToldPart who (GoesAtOnceSomehow (sends c v)) old new i i'
+
 -- ---- receive
 
 abbrev pub ReceivedAnswer : ℕ → ℕ → Floor → Floor → List Item → List Item → Result ReceiveAnswer Memory → Type 0
@@ -165,6 +186,14 @@ TryReceivedAnswer who c old new i i' (Ok try_receive.Empty) = ToldOnChannels who
 TryReceivedAnswer who c old new i i' (Ok (try_receive.Closed x)) =
     ToldOnChannels who old new i i' (heard (TryReceiveClosed c x) ∷ [])
 TryReceivedAnswer who c old new i i' (Err m) = ToldPart who (GoesAtOnceSomehow (receives c)) old new i i'
+
+-- as a call or as a clause
+abbrev pub ReceiveTriedAs : TriedAs → ℕ → ℕ → Floor → Floor → List Item → List Item → Result TryReceiveAnswer Memory → Type 0
+ReceiveTriedAs by who c old new i i' (Ok (try_receive.Value v)) = Tells who (GoesAtOnce (receives c) (Got v)) old new i i'
+ReceiveTriedAs by who c old new i i' (Ok try_receive.Empty) = ToldOnChannels who old new i i' (blocked (receives c) ∷ [])
+ReceiveTriedAs by who c old new i i' (Ok (try_receive.Closed x)) =
+    ToldOnChannels who old new i i' (heard (closed_note by (receives c) x) ∷ [])
+ReceiveTriedAs by who c old new i i' (Err m) = ToldPart who (GoesAtOnceSomehow (receives c)) old new i i'
 
 -- ---- what follows an act
 

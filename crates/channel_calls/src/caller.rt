@@ -37,6 +37,15 @@ pub enum TrySendAnswer {
     Spent,
 }
 
+/// What a send or a receive that never waits is tried as. It notes so what it finds closed.
+#[derive(Clone, Copy, Debug, PartialEq, Eq)]
+pub enum TriedAs {
+    /// A call of its own.
+    Call,
+    /// A clause of a select.
+    Clause,
+}
+
 /// What a receive came to.
 #[derive(Clone, Copy, Debug, PartialEq, Eq)]
 pub enum ReceiveAnswer {

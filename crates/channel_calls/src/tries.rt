@@ -3,13 +3,36 @@
 ghost use Rattle.std.specs.Prelude.{◌≡◌, false};
 ghost use Rattle.channel_model.specs.Channels.{kind_at, is_signal};
 ghost use Rattle.channel_model.specs.Floors.{MayCall};
-ghost use Rattle.channel_calls.specs.Calls.{SameCaller, TrySentAnswer, TryReceivedAnswer};
+ghost use Rattle.call_meaning.specs.ChannelCalls.{sends, receives};
+ghost use Rattle.channel_calls.specs.Calls.{SameCaller, closed_note, SendTriedAs, TrySentAnswer, ReceiveTriedAs, TryReceivedAnswer};
 
-use crate::caller::{Caller, TryReceiveAnswer, TrySendAnswer};
+use crate::caller::{Caller, TriedAs, TryReceiveAnswer, TrySendAnswer};
 use crate::rooms::{make_room, wake_some};
 use channel_model::{Act, ChannelFloor, ChannelNote, TriedGot, TriedOffer};
 use co_base::{ChannelId, Memory, Value, Wakes};
 use note_book::{Item, NoteBook};
+
+impl TriedAs {
+    /// What is noted of a send to a channel that was closed with `v`.
+    fn of_closed_send(self, c: ChannelId, value: Value, v: Value) -> ChannelNote
+        ensures is { result ≡ closed_note self (sends c value) v }
+    {
+        match self {
+            TriedAs::Call => ChannelNote::TrySendClosed { c, value, v },
+            TriedAs::Clause => ChannelNote::SendClosed { c, value, v },
+        }
+    }
+
+    /// What is noted of a receive from a channel that was closed with `v`.
+    fn of_closed_receive(self, c: ChannelId, v: Value) -> ChannelNote
+        ensures is { result ≡ closed_note self (receives c) v }
+    {
+        match self {
+            TriedAs::Call => ChannelNote::TryReceiveClosed { c, v },
+            TriedAs::Clause => ChannelNote::ReceiveClosed { c, v },
+        }
+    }
+}
 
 impl<F: ChannelFloor, B: NoteBook, W: Wakes> Caller<'_, '_, '_, F, B, W> {
     /// Hands an element to the receiver that stands first, or leaves it if the channel keeps it.
@@ -18,6 +41,23 @@ impl<F: ChannelFloor, B: NoteBook, W: Wakes> Caller<'_, '_, '_, F, B, W> {
         requires kind { is_signal (kind_at (F.view self.old.floor.now).shape c) ≡ false }
         ensures same { SameCaller F.anchor self.old self.new }
         ensures answer { TrySentAnswer self.old.who c value (F.view self.old.floor.now) (F.view self.new.floor.now)
+            (B.items self.old.book.now) (B.items self.new.book.now) result }
+    {
+        self.try_send_as(TriedAs::Call, c, value)
+    }
+
+    /// Sends so without waiting, as a call or as a clause.
+    #[inline(always)]
+    pub fn try_send_as(
+        &mut self,
+        tried_as: TriedAs,
+        c: ChannelId,
+        value: Value,
+    ) -> Result<TrySendAnswer, Memory>
+        requires can { MayCall self.old.who c (F.view self.old.floor.now) }
+        requires kind { is_signal (kind_at (F.view self.old.floor.now).shape c) ≡ false }
+        ensures same { SameCaller F.anchor self.old self.new }
+        ensures answer { SendTriedAs tried_as self.old.who c value (F.view self.old.floor.now) (F.view self.new.floor.now)
             (B.items self.old.book.now) (B.items self.new.book.now) result }
     {
         if let Err(memory) = make_room(self.floor, self.book, 1) {
@@ -44,7 +84,7 @@ impl<F: ChannelFloor, B: NoteBook, W: Wakes> Caller<'_, '_, '_, F, B, W> {
                 Ok(TrySendAnswer::Full)
             }
             TriedOffer::Closed(v) => {
-                let note = ChannelNote::TrySendClosed { c, value, v };
+                let note = tried_as.of_closed_send(c, value, v);
                 self.book.note(Item::Channel(note));
                 Ok(TrySendAnswer::Closed(v))
             }
@@ -62,6 +102,21 @@ impl<F: ChannelFloor, B: NoteBook, W: Wakes> Caller<'_, '_, '_, F, B, W> {
         requires can { MayCall self.old.who c (F.view self.old.floor.now) }
         ensures same { SameCaller F.anchor self.old self.new }
         ensures answer { TryReceivedAnswer self.old.who c (F.view self.old.floor.now) (F.view self.new.floor.now)
+            (B.items self.old.book.now) (B.items self.new.book.now) result }
+    {
+        self.try_receive_as(TriedAs::Call, c)
+    }
+
+    /// Receives so without waiting, as a call or as a clause.
+    #[inline(always)]
+    pub fn try_receive_as(
+        &mut self,
+        tried_as: TriedAs,
+        c: ChannelId,
+    ) -> Result<TryReceiveAnswer, Memory>
+        requires can { MayCall self.old.who c (F.view self.old.floor.now) }
+        ensures same { SameCaller F.anchor self.old self.new }
+        ensures answer { ReceiveTriedAs tried_as self.old.who c (F.view self.old.floor.now) (F.view self.new.floor.now)
             (B.items self.old.book.now) (B.items self.new.book.now) result }
     {
         if let Err(memory) = make_room(self.floor, self.book, 1) {
@@ -82,7 +137,7 @@ impl<F: ChannelFloor, B: NoteBook, W: Wakes> Caller<'_, '_, '_, F, B, W> {
                 Ok(TryReceiveAnswer::Empty)
             }
             TriedGot::Closed(v) => {
-                let note = ChannelNote::TryReceiveClosed { c, v };
+                let note = tried_as.of_closed_receive(c, v);
                 self.book.note(Item::Channel(note));
                 Ok(TryReceiveAnswer::Closed(v))
             }

@@ -1,6 +1,5 @@
 mod StillMoments
-mod SendsTried
-mod ReceivesTried
+mod ClausesTried
 mod ClausesAt
 mod PlacedOrSettled
 mod AllTried

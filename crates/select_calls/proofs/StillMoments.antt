@@ -22,9 +22,14 @@ same_moment xs m p q =
     let none : p.0 ≡ [] = front_empty p.0 q.0 (nothing_left xs (p.0 ++ q.0) all) in
     sym p.1 ∙ ap (λ l. xs ++ l) none ∙ nothing_more xs
 
--- what was so at a step of a look, is so behind it
+-- what was so at a step that left the history as it was, is so behind it
+pub still_so : (a d : Floor) (P : State → Type 0) → AtStep a d P → d.seen ≡ a.seen → P (replay d.seen)
+still_so a d P m same =
+    let at : m.moment ≡ a.seen = same_moment a.seen m.moment m.after (subst (IsPrefix m.moment) same m.before) in
+    subst (λ es. P (replay es)) (at ∙ sym same) m.holds
+
+-- behind a look
 pub still : (who n : ℕ) (a b d : Floor) (P : State → Type 0) → HasRoom n a b → Looked who b d → AtStep b d P → a.alone ≡ true → (d.seen ≡ a.seen) × P (replay d.seen)
 still who n a b d P h l m alone =
     let same : d.seen ≡ b.seen = l.alone (h.same.alone ∙ alone) in
-    let at : m.moment ≡ b.seen = same_moment b.seen m.moment m.after (subst (IsPrefix m.moment) same m.before) in
-    (same ∙ h.seen, subst (λ es. P (replay es)) (at ∙ sym same) m.holds)
+    (same ∙ h.seen, still_so b d P m same)

@@ -9,10 +9,10 @@ ghost use Rattle.select_calls.specs.Clauses.{calls_of, MaySelect};
 ghost use Rattle.select_calls.specs.Parts.{TriedAnswer, TriedAt, TriesAll};
 
 use crate::clause::{Clause, Outcome};
-use channel_calls::{Caller, make_room, wake_some};
-use channel_model::{Act, ChannelFloor, ChannelNote, TriedGot, TriedOffer};
+use channel_calls::{Caller, TriedAs, TryReceiveAnswer, TrySendAnswer};
+use channel_model::ChannelFloor;
 use co_base::{ChannelId, Memory, Value, Wakes};
-use note_book::{Item, NoteBook};
+use note_book::NoteBook;
 
 /// What a clause came to that was tried.
 #[derive(Clone, Copy)]
@@ -43,37 +43,12 @@ fn try_to_send<F: ChannelFloor, B: NoteBook, W: Wakes>(
     ensures answer { TriedAnswer x.old.who (sends c value) (F.view x.old.floor.now) (F.view x.new.floor.now)
         (B.items x.old.book.now) (B.items x.new.book.now) result }
 {
-    if let Err(memory) = make_room(x.floor, x.book, 1) {
-        return Err(memory);
-    }
-    match x.floor.try_offer(x.who, c, value) {
-        TriedOffer::Handed(place, receiver) => {
-            let act = Act::Hand { c, place, value };
-            x.book.note(Item::Channel(ChannelNote::Made(act)));
-            x.wakes.wake(receiver);
-            Ok(Tried::Ready(Outcome::Sent))
-        }
-        TriedOffer::Put(place) => {
-            let act = Act::Put { c, place, value };
-            x.book.note(Item::Channel(ChannelNote::Made(act)));
-            match x.after_put(c, place) {
-                Ok(()) => Ok(Tried::Ready(Outcome::Sent)),
-                Err(memory) => Err(memory),
-            }
-        }
-        TriedOffer::Full => {
-            x.book.note(Item::Channel(ChannelNote::Full { c, value }));
-            Ok(Tried::Blocked)
-        }
-        TriedOffer::Closed(v) => {
-            let note = ChannelNote::SendClosed { c, value, v };
-            x.book.note(Item::Channel(note));
-            Ok(Tried::Ready(Outcome::Closed(v)))
-        }
-        TriedOffer::Spent => {
-            x.book.note(Item::Channel(ChannelNote::Spent { c }));
-            Ok(Tried::Spent)
-        }
+    match x.try_send_as(TriedAs::Clause, c, value) {
+        Ok(TrySendAnswer::Sent) => Ok(Tried::Ready(Outcome::Sent)),
+        Ok(TrySendAnswer::Full) => Ok(Tried::Blocked),
+        Ok(TrySendAnswer::Closed(v)) => Ok(Tried::Ready(Outcome::Closed(v))),
+        Ok(TrySendAnswer::Spent) => Ok(Tried::Spent),
+        Err(memory) => Err(memory),
     }
 }
 
@@ -87,28 +62,11 @@ fn try_to_receive<F: ChannelFloor, B: NoteBook, W: Wakes>(
     ensures answer { TriedAnswer x.old.who (receives c) (F.view x.old.floor.now) (F.view x.new.floor.now)
         (B.items x.old.book.now) (B.items x.new.book.now) result }
 {
-    if let Err(memory) = make_room(x.floor, x.book, 1) {
-        return Err(memory);
-    }
-    match x.floor.try_receive(x.who, c) {
-        TriedGot::Taken(place, value, sender) => {
-            let act = Act::Take { c, place, value };
-            x.book.note(Item::Channel(ChannelNote::Made(act)));
-            wake_some(x.wakes, sender);
-            match x.admit_all(c) {
-                Ok(()) => Ok(Tried::Ready(Outcome::Value(value))),
-                Err(memory) => Err(memory),
-            }
-        }
-        TriedGot::Empty => {
-            x.book.note(Item::Channel(ChannelNote::Empty { c }));
-            Ok(Tried::Blocked)
-        }
-        TriedGot::Closed(v) => {
-            let note = ChannelNote::ReceiveClosed { c, v };
-            x.book.note(Item::Channel(note));
-            Ok(Tried::Ready(Outcome::Closed(v)))
-        }
+    match x.try_receive_as(TriedAs::Clause, c) {
+        Ok(TryReceiveAnswer::Value(value)) => Ok(Tried::Ready(Outcome::Value(value))),
+        Ok(TryReceiveAnswer::Empty) => Ok(Tried::Blocked),
+        Ok(TryReceiveAnswer::Closed(v)) => Ok(Tried::Ready(Outcome::Closed(v))),
+        Err(memory) => Err(memory),
     }
 }
 

@@ -1,18 +1,11 @@
-use Rattle.channel_calls.proofs.ReceivesTold.{receive_untold}
-use Rattle.select_calls.proofs.ReceivesTried.{taken, taken_stopped, empty, closed}
+use Rattle.select_calls.proofs.ClausesTried.{received, empty, receive_closed}
 use Rattle.select_calls.proofs.tries.try_to_receive.Goals as goal
 
-pub returns-in-Err-clause-answer : goal.returns-in-Err-clause-answer
-returns-in-Err-clause-answer g c = receive_untold _ _ _ _ _ _ c.in-Err.ensures.same c.make_room.ensures.items
+pub returns-in-Ok-Value-clause-answer : goal.returns-in-Ok-Value-clause-answer
+returns-in-Ok-Value-clause-answer g c = received _ _ _ _ _ _ _ (rw c.in-Ok-Value.field-0-is at c.in-Ok-Value.ensures.answer)
 
-pub returns-in-Ok-clause-answer : goal.returns-in-Ok-clause-answer
-returns-in-Ok-clause-answer g c = taken _ _ _ _ _ _ _ _ _ c.in_default.ensures.floor c.make_room.ensures.items _ _ _ _ _ c.in-Taken.ensures.answer c.note.ensures.items c.in-Ok.ensures.answer
+pub returns-in-Ok-Empty-clause-answer : goal.returns-in-Ok-Empty-clause-answer
+returns-in-Ok-Empty-clause-answer g c = empty _ _ _ _ _ _ (rw c.in-Ok-Empty.field-0-is at c.in-Ok-Empty.ensures.answer)
 
-pub returns-in-Err-admit_all-clause-answer : goal.returns-in-Err-admit_all-clause-answer
-returns-in-Err-admit_all-clause-answer g c = taken_stopped _ _ _ _ _ _ _ _ _ c.in_default.ensures.floor c.make_room.ensures.items _ _ _ _ _ _ c.in-Taken.ensures.answer c.note.ensures.items c.in-Err-admit_all.ensures.answer
-
-pub returns-in-Empty-clause-answer : goal.returns-in-Empty-clause-answer
-returns-in-Empty-clause-answer g c = empty _ _ _ _ _ _ _ _ _ c.in_default.ensures.floor c.make_room.ensures.items c.in-Empty.ensures.answer c.note-in-Empty.ensures.items
-
-pub returns-in-Closed-clause-answer : goal.returns-in-Closed-clause-answer
-returns-in-Closed-clause-answer g c = closed _ _ _ _ _ _ _ _ _ c.in_default.ensures.floor c.make_room.ensures.items _ (g.met.F.ChannelFloor.legal c.try_receive.new.self) c.in-Closed.ensures.answer c.note-in-Closed.ensures.items
+pub returns-in-Ok-Closed-clause-answer : goal.returns-in-Ok-Closed-clause-answer
+returns-in-Ok-Closed-clause-answer g c = receive_closed _ _ _ _ _ _ _ (rw c.in-Ok-Closed.field-0-is at c.in-Ok-Closed.ensures.answer)

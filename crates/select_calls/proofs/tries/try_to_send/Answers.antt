@@ -1,28 +1,14 @@
-use Rattle.channel_model.proofs.Puts.{put_owned}
-use Rattle.channel_calls.proofs.SendsTold.{send_untold}
-use Rattle.select_calls.proofs.SendsTried.{handed, put, put_stopped, full, closed, no_place}
+use Rattle.select_calls.proofs.ClausesTried.{sent, full, send_closed, no_place}
 use Rattle.select_calls.proofs.tries.try_to_send.Goals as goal
 
-pub returns-in-Err-clause-answer : goal.returns-in-Err-clause-answer
-returns-in-Err-clause-answer g c = send_untold _ _ c.args.value _ _ _ _ c.in-Err.ensures.same c.make_room.ensures.items
+pub returns-in-Ok-Sent-clause-answer : goal.returns-in-Ok-Sent-clause-answer
+returns-in-Ok-Sent-clause-answer g c = sent _ _ _ _ _ _ _ (rw c.in-Ok-Sent.field-0-is at c.in-Ok-Sent.ensures.answer)
 
-pub after_put-requires-clause-own : goal.after_put-requires-clause-own
-after_put-requires-clause-own g c = put_owned _ _ _ _ _ _ c.in-Put.ensures.answer
+pub returns-in-Ok-Full-clause-answer : goal.returns-in-Ok-Full-clause-answer
+returns-in-Ok-Full-clause-answer g c = full _ _ _ _ _ _ _ (rw c.in-Ok-Full.field-0-is at c.in-Ok-Full.ensures.answer)
 
-pub returns-in-Handed-clause-answer : goal.returns-in-Handed-clause-answer
-returns-in-Handed-clause-answer g c = handed _ _ _ _ _ _ _ _ _ _ c.in_default.ensures.floor c.make_room.ensures.items _ _ c.in-Handed.ensures.answer c.note.ensures.items
+pub returns-in-Ok-Closed-clause-answer : goal.returns-in-Ok-Closed-clause-answer
+returns-in-Ok-Closed-clause-answer g c = send_closed _ _ _ _ _ _ _ _ (rw c.in-Ok-Closed.field-0-is at c.in-Ok-Closed.ensures.answer)
 
-pub returns-in-Ok-clause-answer : goal.returns-in-Ok-clause-answer
-returns-in-Ok-clause-answer g c = put _ _ _ _ _ _ _ _ _ _ c.in_default.ensures.floor c.make_room.ensures.items _ _ _ _ c.in-Put.ensures.answer c.note-in-Put.ensures.items c.in-Ok.ensures.answer
-
-pub returns-in-Err-after_put-clause-answer : goal.returns-in-Err-after_put-clause-answer
-returns-in-Err-after_put-clause-answer g c = put_stopped _ _ _ _ _ _ _ _ _ _ c.in_default.ensures.floor c.make_room.ensures.items _ _ _ _ _ c.in-Put.ensures.answer c.note-in-Put.ensures.items c.in-Err-after_put.ensures.answer
-
-pub returns-in-Full-clause-answer : goal.returns-in-Full-clause-answer
-returns-in-Full-clause-answer g c = full _ _ _ _ _ _ _ _ _ _ c.in_default.ensures.floor c.make_room.ensures.items c.in-Full.ensures.answer c.note-in-Full.ensures.items
-
-pub returns-in-Closed-clause-answer : goal.returns-in-Closed-clause-answer
-returns-in-Closed-clause-answer g c = closed _ _ _ _ _ _ _ _ _ _ c.in_default.ensures.floor c.make_room.ensures.items _ c.in-Closed.ensures.answer c.note-in-Closed.ensures.items
-
-pub returns-in-Spent-clause-answer : goal.returns-in-Spent-clause-answer
-returns-in-Spent-clause-answer g c = no_place _ _ c.args.value _ _ _ _ _ _ _ c.in_default.ensures.floor c.make_room.ensures.items c.in-Spent.ensures.answer c.note-in-Spent.ensures.items
+pub returns-in-Ok-Spent-clause-answer : goal.returns-in-Ok-Spent-clause-answer
+returns-in-Ok-Spent-clause-answer g c = no_place _ _ _ _ _ _ _ (rw c.in-Ok-Spent.field-0-is at c.in-Ok-Spent.ensures.answer)
