@@ -38,7 +38,7 @@ pub enum TrySendAnswer {
 }
 
 /// What a send or a receive that never waits is tried as. It notes so what it finds closed.
-#[derive(Clone, Copy, Debug, PartialEq, Eq)]
+#[derive(Clone, Copy)]
 pub enum TriedAs {
     /// A call of its own.
     Call,
