@@ -55,13 +55,13 @@ fn all_elements_of_a_closed_channel_come_in_order(rt: HostRuntime) -> Result<(),
     let (hub, mut main) = Hub::new(rt.alloc(), &kinds)?;
     let mut a = hub.split(&mut main, 1);
     let b = hub.split(&mut main, 2);
-    assert!(rt; send_both(&hub, &mut a, 1, 7, 8));
+    let sent = send_both(&hub, &mut a, 1, 7, 8);
     let mut host = HostDrive::new(&rt);
     let Ok((_pass, items)) = collect_all(rt.alloc(), &mut host, &hub, b, 2, 0) else {
         panic!(rt; "collected");
     };
-    assert_eq!(rt; items.as_slice(), [Ok(7), Ok(8)].as_slice());
-    assert_eq!(rt; host.faults(), 0);
+    let found = (sent, items.as_slice(), host.faults());
+    assert_eq!(rt; found, (true, [Ok(7), Ok(8)].as_slice(), 0));
     Ok(())
 }
 
@@ -71,12 +71,13 @@ fn the_fault_is_the_last_item(rt: HostRuntime) -> Result<(), Fail> {
     let (hub, mut main) = Hub::new(rt.alloc(), &kinds)?;
     let mut a = hub.split(&mut main, 1);
     let b = hub.split(&mut main, 2);
-    assert_eq!(rt; wait(&hub, &mut a, 1), Got::Waiting(0));
+    let waits = wait(&hub, &mut a, 1);
     let mut host = HostDrive::new(&rt);
     let Ok((_pass, items)) = collect_all(rt.alloc(), &mut host, &hub, b, 2, 0) else {
         panic!(rt; "collected");
     };
-    assert_eq!(rt; items.as_slice(), [Err(Spent)].as_slice());
+    let found = (waits, items.as_slice());
+    assert_eq!(rt; found, (Got::Waiting(0), [Err(Spent)].as_slice()));
     Ok(())
 }
 
@@ -94,12 +95,12 @@ fn a_stream_that_is_stopped_gives_its_element_up(rt: HostRuntime) -> Result<(), 
     let Ok((stream, pending)) = host.drive(once) else {
         panic!(rt; "driven");
     };
-    assert!(rt; pending);
-    assert_eq!(rt; send(&hub, &mut b, 2, 5), Offered::Handed(0, 1));
+    let sent = send(&hub, &mut b, 2, 5);
     let (_pass, stopped) = stream.stop();
-    assert_eq!(rt; stopped, Stopped::Undelivered(5));
-    let (_pass, stopped) = ReceiveStream::new(&hub, idle, 3, 0).stop();
-    assert_eq!(rt; stopped, Stopped::Idle);
+    let (_pass, idle) = ReceiveStream::new(&hub, idle, 3, 0).stop();
+    let found = (pending, sent, [stopped, idle]);
+    let wanted = [Stopped::Undelivered(5), Stopped::Idle];
+    assert_eq!(rt; found, (true, Offered::Handed(0, 1), wanted));
     Ok(())
 }
 
@@ -110,17 +111,17 @@ fn a_drive_that_fails_makes_no_entry(rt: HostRuntime) -> Result<(), Fail> {
     let mut a = hub.split(&mut main, 1);
     let b = hub.split(&mut main, 2);
     let c = hub.split(&mut main, 3);
-    assert!(rt; send_both(&hub, &mut a, 1, 7, 8));
+    let sent = send_both(&hub, &mut a, 1, 7, 8);
     let mut refuses = Refuses { calls: 0 };
     let failed = matches!(
         collect_all(rt.alloc(), &mut refuses, &hub, b, 2, 0),
         Err(DriveError::Failed)
     );
-    assert!(rt; failed);
     let mut host = HostDrive::new(&rt);
     let Ok((_pass, items)) = collect_all(rt.alloc(), &mut host, &hub, c, 3, 0) else {
         panic!(rt; "collected");
     };
-    assert_eq!(rt; items.as_slice(), [Ok(7), Ok(8)].as_slice());
+    let found = ([sent, failed], items.as_slice());
+    assert_eq!(rt; found, ([true, true], [Ok(7), Ok(8)].as_slice()));
     Ok(())
 }

@@ -54,6 +54,16 @@ pub(crate) fn rest_of<T>(
     hub.into_rest(main)
 }
 
+/// Whether nothing lies in any of these slots.
+pub(crate) fn are_empty<T>(slots: &[Option<T>]) -> bool {
+    for slot in slots {
+        if slot.is_some() {
+            return false;
+        }
+    }
+    true
+}
+
 /// Takes the own wait back, unless it was resolved before.
 pub(crate) fn take_back<T>(hub: &ParcelHub<T>, pass: &mut ParcelPass<T>, wait: WaitId) -> Withdrawn
     requires of { IsOf hub.now pass.old }

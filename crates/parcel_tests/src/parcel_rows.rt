@@ -1,8 +1,8 @@
 //! Calls on channels of owned values, one after the other.
 
 use crate::parcel_calls::{
-    Three, cancel, close_and_wake, drain_one, look_at, new_channel, receive_first, rest_of,
-    send_first, take_back,
+    Three, are_empty, cancel, close_and_wake, drain_one, look_at, new_channel, receive_first,
+    rest_of, send_first, take_back,
 };
 use channel_model::{Kind, WaitState, Withdrawn};
 use co_base::Value;
@@ -22,18 +22,15 @@ fn a_value_that_was_handed_to_a_cancelled_receiver_is_given_up(
     let Some(wait) = receive_first(&hub, &mut one) else {
         panic!(rt; "nobody sends yet")
     };
-    assert!(rt; wait.place == 0);
-    assert!(rt; matches!(hub.send(&mut two, 70), ParcelSent::Sent(Some(1))));
-    assert!(rt; take_back(&hub, &mut one, wait) == Withdrawn::Late);
-    assert!(rt;
-        matches!(
-            hub.settle(&mut one, wait, true),
-            ParcelSettled::Undelivered(70)
-        )
+    let sent = matches!(hub.send(&mut two, 70), ParcelSent::Sent(Some(1)));
+    let late = take_back(&hub, &mut one, wait) == Withdrawn::Late;
+    let back = matches!(
+        hub.settle(&mut one, wait, true),
+        ParcelSettled::Undelivered(70)
     );
     let rest = rest_of(hub, main, one, two);
-    assert!(rt; rest.len() == 4);
-    assert!(rt; rest.iter().all(|value| value.is_none()));
+    let empty = rest.len() == 4 && are_empty(rest.as_slice());
+    assert_eq!(rt; (wait.place, [sent, late, back, empty]), (0, [true; 4]));
     Ok(())
 }
 
@@ -44,17 +41,18 @@ fn an_offer_that_is_withdrawn_comes_back(rt: HostRuntime) -> Result<(), Fail> {
     let Some(wait) = send_first(&hub, &mut one, 70) else {
         panic!(rt; "nobody receives yet")
     };
-    assert!(rt; wait.place == 0);
-    assert!(rt; take_back(&hub, &mut one, wait) == Withdrawn::Done(1));
-    assert!(rt;
-        matches!(
-            hub.settle(&mut one, wait, true),
-            ParcelSettled::Cancelled(Some(70))
-        )
+    let taken_back = take_back(&hub, &mut one, wait) == Withdrawn::Done(1);
+    let back = matches!(
+        hub.settle(&mut one, wait, true),
+        ParcelSettled::Cancelled(Some(70))
     );
-    assert!(rt; matches!(hub.send(&mut one, 71), ParcelSent::NoParcel(71)));
+    let no_number = matches!(hub.send(&mut one, 71), ParcelSent::NoParcel(71));
     let rest = rest_of(hub, main, one, two);
-    assert!(rt; rest.iter().all(|value| value.is_none()));
+    let empty = are_empty(rest.as_slice());
+    assert_eq!(rt;
+        (wait.place, [taken_back, back, no_number, empty]),
+        (0, [true; 4])
+    );
     Ok(())
 }
 
@@ -66,10 +64,10 @@ fn a_closed_channel_gives_the_value_back(rt: HostRuntime) -> Result<(), Fail> {
         mut one,
         mut two,
     } = three;
-    assert!(rt; hub.close(&mut two, 4).is_ok());
-    assert!(rt; matches!(hub.send(&mut one, 70), ParcelSent::Closed(70, 4)));
+    let closed = hub.close(&mut two, 4).is_ok();
+    let back = matches!(hub.send(&mut one, 70), ParcelSent::Closed(70, 4));
     let rest = rest_of(hub, main, one, two);
-    assert!(rt; rest.iter().all(|value| value.is_none()));
+    assert_eq!(rt; [closed, back, are_empty(rest.as_slice())], [true; 3]);
     Ok(())
 }
 
@@ -77,12 +75,11 @@ fn a_closed_channel_gives_the_value_back(rt: HostRuntime) -> Result<(), Fail> {
 fn a_channel_without_a_place_gives_the_value_back(rt: HostRuntime) -> Result<(), Fail> {
     let (hub, three) = new_channel::<Value>(rt.alloc(), Kind::Unlimited, 1, 2)?;
     let Three { main, mut one, two } = three;
-    assert!(rt; matches!(hub.send(&mut one, 70), ParcelSent::Sent(None)));
-    assert!(rt; matches!(hub.send(&mut one, 71), ParcelSent::Spent(71)));
+    let sent = matches!(hub.send(&mut one, 70), ParcelSent::Sent(None));
+    let back = matches!(hub.send(&mut one, 71), ParcelSent::Spent(71));
     let rest = rest_of(hub, main, one, two);
-    assert!(rt; rest.len() == 2);
-    assert!(rt; matches!(rest.first(), Some(Some(70))));
-    assert!(rt; matches!(rest.last(), Some(None)));
+    let left = matches!(rest.as_slice(), [Some(70), None]);
+    assert_eq!(rt; [sent, back, left], [true; 3]);
     Ok(())
 }
 
@@ -97,14 +94,15 @@ fn a_receiver_is_told_of_the_close(rt: HostRuntime) -> Result<(), Fail> {
     let Some(wait) = receive_first(&hub, &mut one) else {
         panic!(rt; "nobody sends yet")
     };
-    assert!(rt; look_at(&hub, &mut one, wait) == WaitState::Standing);
-    assert!(rt; matches!(close_and_wake(&hub, &mut two, 4), (true, Some(1))));
+    let waits = look_at(&hub, &mut one, wait) == WaitState::Standing;
+    let (closed, told) = close_and_wake(&hub, &mut two, 4);
     let WaitState::Resolved = look_at(&hub, &mut one, wait) else {
         panic!(rt; "it was told")
     };
-    assert!(rt; matches!(hub.settle(&mut one, wait, false), ParcelSettled::Closed(4)));
+    let ended = matches!(hub.settle(&mut one, wait, false), ParcelSettled::Closed(4));
     let rest = rest_of(hub, main, one, two);
-    assert!(rt; rest.iter().all(|value| value.is_none()));
+    let found = [waits, closed, ended, are_empty(rest.as_slice())];
+    assert_eq!(rt; (told, found), (Some(1), [true; 4]));
     Ok(())
 }
 
@@ -116,17 +114,18 @@ fn an_admitted_value_is_drained(rt: HostRuntime) -> Result<(), Fail> {
         mut one,
         mut two,
     } = three;
-    assert!(rt; matches!(hub.send(&mut one, 70), ParcelSent::Sent(None)));
+    let sent = matches!(hub.send(&mut one, 70), ParcelSent::Sent(None));
     let Some(wait) = send_first(&hub, &mut one, 71) else {
         panic!(rt; "the channel is full")
     };
-    assert!(rt; wait.place == 1);
-    assert!(rt; matches!(hub.receive(&mut two), ParcelGot::Value(70, None)));
-    assert!(rt; matches!(cancel(&hub, &mut one), (true, true)));
-    assert!(rt; matches!(drain_one(&hub, &mut one), Some((Some(71), None))));
-    assert!(rt; drain_one(&hub, &mut one).is_none());
+    let received = matches!(hub.receive(&mut two), ParcelGot::Value(70, None));
+    let (closed, voided) = cancel(&hub, &mut one);
+    let drained = matches!(drain_one(&hub, &mut one), Some((Some(71), None)));
+    let no_more = drain_one(&hub, &mut one).is_none();
     let rest = rest_of(hub, main, one, two);
-    assert!(rt; rest.iter().all(|value| value.is_none()));
+    let empty = are_empty(rest.as_slice());
+    let found = [sent, received, closed, voided, drained, no_more, empty];
+    assert_eq!(rt; (wait.place, found), (1, [true; 7]));
     Ok(())
 }
 
@@ -138,10 +137,10 @@ fn who_meets_another_has_seen_what_it_saw(rt: HostRuntime) -> Result<(), Fail> {
         mut one,
         mut two,
     } = three;
-    assert!(rt; matches!(hub.send(&mut one, 70), ParcelSent::Sent(None)));
+    let sent = matches!(hub.send(&mut one, 70), ParcelSent::Sent(None));
     hub.meet(&mut two, &mut one);
-    assert!(rt; matches!(hub.receive(&mut two), ParcelGot::Value(70, None)));
+    let received = matches!(hub.receive(&mut two), ParcelGot::Value(70, None));
     let rest = rest_of(hub, main, one, two);
-    assert!(rt; rest.iter().all(|value| value.is_none()));
+    assert_eq!(rt; [sent, received, are_empty(rest.as_slice())], [true; 3]);
     Ok(())
 }

@@ -5,7 +5,7 @@ ghost use Rattle.parcel_channel.specs.Hubs.{IsOf, floor_by};
 ghost use Rattle.parcel_channel.specs.Numbers.{HoldsWait};
 ghost use Rattle.parcel_tests.specs.ParcelPasses.{Keeps};
 
-use crate::parcel_calls::{Three, look_at, new_channel, rest_of, take_back};
+use crate::parcel_calls::{Three, are_empty, look_at, new_channel, rest_of, take_back};
 use channel_model::{Kind, WaitState, Withdrawn};
 use co_base::WaitId;
 use parcel_channel::{ParcelGot, ParcelHub, ParcelPass, ParcelSent, ParcelSettled};
@@ -305,11 +305,10 @@ fn boxes_go_over_or_come_back(rt: HostRuntime) -> Result<(), Fail> {
     let Three { main, one, two } = three;
     let ((one, sent), (two, received)) = try_by_two(&rt, &hub, one, two, alloc);
     let rest = rest_of(hub, main, one, two);
-    assert!(rt; sent.lost == 0);
-    assert!(rt; received.lost == 0);
-    assert!(rt; sent.over == received.over);
-    assert!(rt; sent.over.saturating_add(sent.back) == TRIES);
-    assert!(rt; rest.iter().all(|value| value.is_none()));
+    let tries = sent.over.saturating_add(sent.back);
+    let found = ([sent.lost, received.lost], received.over, tries);
+    let empty = are_empty(rest.as_slice());
+    assert_eq!(rt; (found, empty), (([0, 0], sent.over, TRIES), true));
     Ok(())
 }
 
@@ -320,8 +319,7 @@ fn boxes_arrive_once_and_in_order(rt: HostRuntime) -> Result<(), Fail> {
     let Three { main, one, two } = three;
     let ((one, sent), (two, in_order)) = by_two(&rt, &hub, one, two, alloc);
     let rest = rest_of(hub, main, one, two);
-    assert!(rt; sent == BOXES);
-    assert!(rt; in_order == BOXES);
-    assert!(rt; rest.iter().all(|value| value.is_none()));
+    let empty = are_empty(rest.as_slice());
+    assert_eq!(rt; ([sent, in_order], empty), ([BOXES, BOXES], true));
     Ok(())
 }
