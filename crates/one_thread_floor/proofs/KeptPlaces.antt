@@ -16,7 +16,8 @@ use Rattle.channel_model.specs.Needs.{JoinsWait}
 use Rattle.channel_model.proofs.Waits.{same_wait-eq, same_wait-refl}
 use Rattle.one_thread_floor.specs.declared.list_channel.ListChannel.{ListChannel}
 use Rattle.one_thread_floor.specs.declared.list_channel.ListClause.{ListClause}
-use Rattle.one_thread_floor.specs.declared.list_channel.ListWait.{ListWait}
+use Rattle.one_thread_floor.specs.declared.list_channel.ListSlot.{ListSlot}
+use Rattle.one_thread_floor.proofs.ListClauses.{clauses_of_wait}
 use Rattle.one_thread_floor.specs.ListStands.{channel_in, channel_or_empty, wait_in, wait_in_channel, wait_in_slot, clause_of, clauses_of, clauses_in, clauses_in_channel, clauses_in_slot, named, clause_at, held_offer, held_receiver, BeginsWait, JoinsClause, place_for, is_place, holder_keeps, ChannelKept, PlacesKept, StandOnlyAt, StandsAt, SameClauses, SameChannels, Becomes, IsWithout}
 
 -- ---- fewer stand
@@ -258,10 +259,9 @@ not_there c (y ∷ ys) e = let k = or_parts (y.channel == c) _ e in ap (λ b. if
 clauses_are : (xs : List ListChannel) (w : WaitId) → clauses_of (wait_in xs w) ≡ map clause_of (clauses_in xs w)
 clauses_are xs w = in_channel (slice_get xs w.channel)
   where
-    in_slot : (s : Option (Option ListWait)) → clauses_of (wait_in_slot s) ≡ map clause_of (clauses_in_slot s)
+    in_slot : (s : Option ListSlot) → clauses_of (wait_in_slot s) ≡ map clause_of (clauses_in_slot s)
     in_slot None = refl
-    in_slot (Some None) = refl
-    in_slot (Some (Some x)) = refl
+    in_slot (Some x) = clauses_of_wait x
 
     in_channel : (o : Option ListChannel) → clauses_of (wait_in_channel o w.place) ≡ map clause_of (clauses_in_channel o w.place)
     in_channel None = refl

@@ -1,28 +1,19 @@
--- One clause more of a wait, in its slot.
-use Rattle.std.specs.Prelude.{◌≡◌, ℕ, zero, suc, ◌<◌, ◌==◌, Bool, true, false, List, [], ◌∷◌, ◌++◌, Option, Some, None, map, length, option_map, slice_get, slice_set, refl, if◌then◌else◌}
-use Rattle.std.proofs.Common.{get_or, sym, ap, ◌∙◌, subst, arith}
-use Rattle.std.proofs.lemmas.List.{map-append, length-map}
+-- The clauses of a wait in its slot, and a place at which no wait begins.
+use Rattle.std.specs.Prelude.{◌≡◌, ℕ, zero, suc, ◌==◌, Bool, true, false, List, [], ◌∷◌, Option, Some, None, map, length, slice_get, slice_set, refl, if◌then◌else◌}
+use Rattle.std.proofs.Common.{get_or, sym, ap, ◌∙◌, arith}
 use Rattle.std.proofs.lemmas.Option.{slice_get_past}
 use Rattle.std.proofs.lemmas.Bool.{eqb-true}
 use Rattle.channel_model.specs.Channels.{Wait}
 use Rattle.one_thread_floor.specs.declared.list_channel.ListChannel.{ListChannel}
 use Rattle.one_thread_floor.specs.declared.list_channel.ListClause.{ListClause}
-use Rattle.one_thread_floor.specs.declared.list_channel.ListWait.{ListWait}
-use Rattle.one_thread_floor.specs.ListStands.{clause_of, items_of, wait_of, clauses_of, with_clause, wait_in_channel, wait_in_slot, clauses_of_slot, clauses_in_slot, clauses_in_channel}
+use Rattle.one_thread_floor.specs.declared.list_channel.ListSlot.{ListSlot}
+use Rattle.one_thread_floor.specs.declared.list_channel.ListSlot.TheVariants.{Nobody, One, Several}
+use Rattle.one_thread_floor.specs.ListStands.{clause_of, wait_of_slot, clauses_of, wait_in_channel, wait_in_slot, clauses_of_slot, clauses_in_slot, clauses_in_channel}
 
-pub fewer_items : (slot : Option ListWait) (x : ListWait) → slot ≡ Some x → length (clauses_of (option_map wait_of slot)) < 7 → length (items_of x.clauses) < 7
-fewer_items slot x is few =
-    let l : length (map clause_of (items_of x.clauses)) < 7 = subst (λ (s : Option ListWait). length (clauses_of (option_map wait_of s)) < 7) is few in
-    subst (λ n. n < 7) (length-map (items_of x.clauses) clause_of) l
-
-pub pushed : (slot : Option ListWait) (x : ListWait) (y : ListClause) (ys : List ListClause) → slot ≡ Some x → ys ≡ items_of x.clauses ++ y ∷ []
-    → Some (record (wait_of x) { clauses = map clause_of ys }) ≡ with_clause y.number y.channel (option_map wait_of slot)
-pushed slot x y ys is e =
-    ap (λ cs. Some (record (wait_of x) { clauses = cs })) (ap (map clause_of) e ∙ map-append clause_of (items_of x.clauses) (y ∷ []))
-    ∙ ap (λ (s : Option ListWait). with_clause y.number y.channel (option_map wait_of s)) (sym is)
-
-pub pushed_clauses : (slot : Option ListWait) (x : ListWait) (y : ListClause) (ys : List ListClause) → slot ≡ Some x → ys ≡ items_of x.clauses ++ y ∷ [] → ys ≡ clauses_of_slot slot ++ y ∷ []
-pushed_clauses slot x y ys is e = e ∙ ap (λ (s : Option ListWait). clauses_of_slot s ++ y ∷ []) (sym is)
+pub clauses_of_wait : (slot : ListSlot) → clauses_of (wait_of_slot slot) ≡ map clause_of (clauses_of_slot slot)
+clauses_of_wait Nobody = refl
+clauses_of_wait (One who y far) = refl
+clauses_of_wait (Several x) = refl
 
 -- ---- a place at which no wait begins
 

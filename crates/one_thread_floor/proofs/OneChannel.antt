@@ -7,7 +7,7 @@ use Rattle.channel_model.specs.Channels.{Channel, Wait, same_wait}
 use Rattle.channel_model.specs.Effects.{put_channel}
 use Rattle.one_thread_floor.specs.declared.list_channel.ListChannel.{ListChannel}
 use Rattle.one_thread_floor.specs.declared.list_channel.ListClause.{ListClause}
-use Rattle.one_thread_floor.specs.declared.list_channel.ListWait.{ListWait}
+use Rattle.one_thread_floor.specs.declared.list_channel.ListSlot.{ListSlot}
 use Rattle.one_thread_floor.specs.ListStands.{channel_of, channel_or_empty, channel_in, places_in, wait_of_slot, wait_in_slot, wait_in_channel, wait_in, clauses_in_slot, clauses_in_channel, clauses_in, SamePlaces, SameShape, SameChannels, SameWaits, SameClauses, OneSlot, OneWait, Becomes}
 use Rattle.one_thread_floor.proofs.ListClauses.{waits_kept, clauses_kept}
 
@@ -136,7 +136,7 @@ has_wait P n [] c p h = absurd (n h)
 has_wait P n (x ∷ xs) zero p h = omega arith
 has_wait P n (x ∷ xs) (suc c) p h = let k : c < length xs = has_wait P n xs c p h in omega (arith, k)
 
-slot_becomes : (a b : Option (Option ListWait)) (f : Option Wait → Option Wait) → f None ≡ None
+slot_becomes : (a b : Option ListSlot) (f : Option Wait → Option Wait) → f None ≡ None
     → option_map wait_of_slot a ≡ option_map (λ x. f (wait_of_slot x)) b → wait_in_slot a ≡ f (wait_in_slot b)
 slot_becomes None None f none h = sym none
 slot_becomes None (Some s) f none h = cc

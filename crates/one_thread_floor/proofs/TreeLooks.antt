@@ -1,14 +1,13 @@
 -- What a row is, as a call without an entry tells it.
-use Rattle.std.specs.Prelude.{◌≡◌, ℕ, true, false, List, [], Option, Some, None, option_map, is_some, refl}
+use Rattle.std.specs.Prelude.{◌≡◌, ℕ, List, [], Option, Some, None, option_map, refl}
 use Rattle.std.proofs.Common.{sym, ap, ◌∙◌, arith}
 use Rattle.job_model.specs.declared.acts.JobEntry.{JobEntry}
 use Rattle.job_model.specs.declared.floor.JobView.{JobView}
 use Rattle.job_model.specs.declared.floor.Link.{Link}
-use Rattle.job_model.specs.Trees.{Shape, Job, Tree, is_new}
+use Rattle.job_model.specs.Trees.{Shape, Job, Tree}
 use Rattle.job_model.specs.Families.{older_sibling}
 use Rattle.job_model.specs.Histories.{replay}
 use Rattle.job_model.specs.Floors.{Looked, AtStep, is_claimed_by}
-use Rattle.job_model.specs.Needs.{MayEndBody}
 use Rattle.job_model.specs.Answers.{link_of, view_of}
 use Rattle.one_thread_floor.specs.declared.tree_row.TreeRow.{TreeRow}
 use Rattle.one_thread_floor.specs.TreeRows.{item_in, row_of_job, AreRowsOf, link_of_row, view_of_row}
@@ -26,24 +25,6 @@ looked_alone shape who es n claims = record {
 
 abbrev pub at_once : (shape : Shape) (es : List JobEntry) (n : ℕ) (claims : ℕ → Option ℕ) (P : Tree → Type 0) → P (replay es) → AtStep (floor shape es n claims) (floor shape es n claims) P
 at_once shape es n claims P h = record { moment = es; after = ([], nothing_more es); before = ([], nothing_more es); holds = h }
-
--- who has a row is attached
-pub seen_attached : (tree : Tree) (rows : List (Option TreeRow)) (r : ℕ) (x : TreeRow) → AreRowsOf tree rows → Some x ≡ item_in rows r → is_some (tree r) ≡ true
-seen_attached tree rows r x at e = same (tree r) ∙ ap is_some (sym (at r)) ∙ ap is_some (sym e)
-  where
-    same : (y : Option Job) → is_some y ≡ is_some (option_map (row_of_job (older_sibling tree r)) y)
-    same None = refl
-    same (Some j) = refl
-
-pub seen_at_work : (tree : Tree) (rows : List (Option TreeRow)) (r who : ℕ) (x : TreeRow) → AreRowsOf tree rows → Some x ≡ item_in rows r
-    → (x.tag ≡ who) × (is_new x.state ≡ false) × (x.body_ended ≡ false) → MayEndBody who (tree r)
-seen_at_work tree rows r who x at e h = of (tree r) (e ∙ at r)
-  where
-    of : (y : Option Job) → Some x ≡ option_map (row_of_job (older_sibling tree r)) y → MayEndBody who y
-    of None f = cc
-    of (Some j) f =
-        let k : x ≡ row_of_job (older_sibling tree r) j = cc in
-        (ap (λ (u : TreeRow). u.tag) (sym k) ∙ h.0, ap (λ (u : TreeRow). is_new u.state) (sym k) ∙ h.1, ap (λ (u : TreeRow). u.body_ended) (sym k) ∙ h.2)
 
 pub viewed : (tree : Tree) (rows : List (Option TreeRow)) (r : ℕ) (v : Option JobView) → AreRowsOf tree rows → v ≡ option_map view_of_row (item_in rows r) → option_map view_of (tree r) ≡ v
 viewed tree rows r v at e = same (tree r) ∙ ap (option_map view_of_row) (sym (at r)) ∙ sym e

@@ -16,34 +16,36 @@ use Rattle.channel_model.specs.declared.acts.Entry.{Entry}
 use Rattle.channel_model.specs.Channels.{Shape, State, Channel, Wait, empty, places_at, same_wait}
 use Rattle.channel_model.specs.Histories.{replay}
 use Rattle.one_thread_floor.specs.declared.list_channel.ListClause.{ListClause}
-use Rattle.one_thread_floor.specs.declared.list_channel.ListClauses.{ListClauses}
-use Rattle.one_thread_floor.specs.declared.list_channel.ListClauses.TheVariants.{One, Several}
-use Rattle.one_thread_floor.specs.declared.list_channel.ListWait.{ListWait}
+use Rattle.one_thread_floor.specs.declared.list_channel.Progress.{Progress}
+use Rattle.one_thread_floor.specs.declared.list_channel.Progress.TheVariants as progress
+use Rattle.one_thread_floor.specs.declared.list_channel.ListSlot.{ListSlot}
+use Rattle.one_thread_floor.specs.declared.list_channel.ListSlot.TheVariants.{Nobody, One, Several}
 use Rattle.one_thread_floor.specs.declared.list_channel.ListChannel.{ListChannel}
 
 -- the number and the channel of a clause
 abbrev pub clause_of : ListClause → ℕ × ℕ
 clause_of y = (y.number, y.channel)
 
--- the clauses, that at which the wait began first
-abbrev pub items_of : ListClauses → List ListClause
-items_of (One y) = y ∷ []
-items_of (Several ys) = ys.value.items
+-- how a wait was resolved, if it was
+abbrev pub resolution_of : Progress → Option Resolution
+resolution_of progress.Standing = None
+resolution_of (progress.Resolved how) = Some how
+resolution_of (progress.Settled cancelled how) = Some how
 
--- how a wait that was so resolved ended, once it was settled, with its Job cancelled or not
-abbrev pub settled_as : Option Resolution → Option Bool → Option Settled
-settled_as how None = None
-settled_as how (Some cancelled) = option_map (λ h. outcome_of h cancelled) how
+-- how it ended, if it was settled
+abbrev pub settled_of : Progress → Option Settled
+settled_of progress.Standing = None
+settled_of (progress.Resolved how) = None
+settled_of (progress.Settled cancelled how) = Some (outcome_of how cancelled)
 
 -- a wait of the model
-abbrev pub wait_of : ListWait → Wait
-wait_of x =
-    record {
-      owner = x.owner;
-      clauses = map clause_of (items_of x.clauses);
-      resolved = x.resolved;
-      settled = settled_as x.resolved x.settled;
-    }
+abbrev pub wait_of : ℕ → List ListClause → Progress → Wait
+wait_of who clauses far = record {
+  owner = who;
+  clauses = map clause_of clauses;
+  resolved = resolution_of far;
+  settled = settled_of far;
+}
 
 -- a channel of the model; its places are counted by its slots
 abbrev pub channel_of : ListChannel → Channel
@@ -64,12 +66,26 @@ channel_or_empty (Some ch) = channel_of ch
 abbrev pub channel_in : List ListChannel → ℕ → Channel
 channel_in channels c = channel_or_empty (slice_get channels c)
 
+-- the clauses of the wait in a slot, that at which it began first
+abbrev pub clauses_of_slot : ListSlot → List ListClause
+clauses_of_slot Nobody = []
+clauses_of_slot (One who y far) = y ∷ []
+clauses_of_slot (Several x) = x.value.clauses.items
+
+-- how far it is
+abbrev pub progress_of_slot : ListSlot → Option Progress
+progress_of_slot Nobody = None
+progress_of_slot (One who y far) = Some far
+progress_of_slot (Several x) = Some x.value.progress
+
 -- the wait that began at a place
-abbrev pub wait_of_slot : Option ListWait → Option Wait
-wait_of_slot slot = option_map wait_of slot
+abbrev pub wait_of_slot : ListSlot → Option Wait
+wait_of_slot Nobody = None
+wait_of_slot (One who y far) = Some (wait_of who (y ∷ []) far)
+wait_of_slot (Several x) = Some (wait_of x.value.owner x.value.clauses.items x.value.progress)
 
 -- the wait that began at a place that may not have been given out
-abbrev pub wait_in_slot : Option (Option ListWait) → Option Wait
+abbrev pub wait_in_slot : Option ListSlot → Option Wait
 wait_in_slot None = None
 wait_in_slot (Some slot) = wait_of_slot slot
 
@@ -82,13 +98,8 @@ wait_in_channel (Some ch) place = wait_in_slot (slice_get ch.slots.items place)
 abbrev pub wait_in : List ListChannel → WaitId → Option Wait
 wait_in channels w = wait_in_channel (slice_get channels w.channel) w.place
 
--- the clauses of the wait in a slot
-abbrev pub clauses_of_slot : Option ListWait → List ListClause
-clauses_of_slot None = []
-clauses_of_slot (Some x) = items_of x.clauses
-
 -- the clauses of the wait in a slot that may not have been given out
-abbrev pub clauses_in_slot : Option (Option ListWait) → List ListClause
+abbrev pub clauses_in_slot : Option ListSlot → List ListClause
 clauses_in_slot None = []
 clauses_in_slot (Some slot) = clauses_of_slot slot
 

@@ -35,18 +35,12 @@ mod list_places;
 mod list_queries;
 mod list_removal;
 mod list_spurns;
-#[cfg(test)]
-mod list_tests;
-#[cfg(test)]
-mod select_tests;
 mod tree_calls;
 mod tree_claims;
 mod tree_floor;
 mod tree_new;
 mod tree_row;
 mod tree_rows;
-#[cfg(test)]
-mod tree_tests;
 
 pub use list_floor::{ListAnchor, ListFloor};
 pub use tree_floor::TreeFloor;

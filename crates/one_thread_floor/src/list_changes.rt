@@ -1,11 +1,11 @@
 //! How a channel is closed and cancelled, and how a wait is settled.
 
-ghost use Rattle.std.specs.Prelude.{◌≡◌, ◌<◌, length, vec_len, IsSome, Some, true, option_map};
+ghost use Rattle.std.specs.Prelude.{◌≡◌, ◌<◌, length, vec_len, IsSome, Some, true};
 ghost use Rattle.channel_model.specs.Effects.{settled_wait};
-ghost use Rattle.channel_model.specs.Answers.{outcome_at};
-ghost use Rattle.one_thread_floor.specs.ListStands.{wait_of, channel_of, channel_in, wait_in, wait_in_channel, clauses_of_slot, clauses_in_channel, SamePlaces, SameShape, SameChannels, SameClauses, Becomes, OneWait, OneSlot};
+ghost use Rattle.channel_model.specs.Answers.{outcome_at, outcome_of_some};
+ghost use Rattle.one_thread_floor.specs.ListStands.{resolution_of, settled_of, wait_of_slot, channel_of, channel_in, wait_in, wait_in_channel, clauses_of_slot, clauses_in_channel, SamePlaces, SameShape, SameChannels, SameClauses, Becomes, OneWait, OneSlot};
 
-use crate::list_channel::{ListChannel, ListWait};
+use crate::list_channel::{ListChannel, ListSlot, Progress};
 use channel_model::{Settled, outcome};
 use co_base::{ChannelId, Value, WaitId};
 
@@ -39,21 +39,31 @@ pub fn void_in(channels: &mut Vec<ListChannel>, c: ChannelId)
     void_channel(&mut channels[c as usize]);
 }
 
-fn settle_slot(slot: &mut Option<ListWait>, cancelled: bool) -> Settled
-    requires { IsSome (outcome_at cancelled (option_map wait_of slot.old)) }
-    ensures outcome { outcome_at cancelled (option_map wait_of slot.old) ≡ Some result }
-    ensures wait { option_map wait_of slot.new ≡ settled_wait result (option_map wait_of slot.old) }
+fn settle_progress(progress: &mut Progress, cancelled: bool) -> Settled
+    requires { IsSome (outcome_of_some cancelled (resolution_of progress.old)) }
+    ensures outcome { outcome_of_some cancelled (resolution_of progress.old) ≡ Some result }
+    ensures resolution { resolution_of progress.new ≡ resolution_of progress.old }
+    ensures settled { settled_of progress.new ≡ Some result }
+{
+    match *progress {
+        Progress::Resolved(how) | Progress::Settled(_, how) => {
+            *progress = Progress::Settled(cancelled, how);
+            outcome(how, cancelled)
+        }
+        Progress::Standing => unreachable!(),
+    }
+}
+
+fn settle_slot(slot: &mut ListSlot, cancelled: bool) -> Settled
+    requires { IsSome (outcome_at cancelled (wait_of_slot slot.old)) }
+    ensures outcome { outcome_at cancelled (wait_of_slot slot.old) ≡ Some result }
+    ensures wait { wait_of_slot slot.new ≡ settled_wait result (wait_of_slot slot.old) }
     ensures clauses { clauses_of_slot slot.new ≡ clauses_of_slot slot.old }
 {
     match slot {
-        Some(wait) => match wait.resolved {
-            Some(how) => {
-                wait.settled = Some(cancelled);
-                outcome(how, cancelled)
-            }
-            None => unreachable!(),
-        },
-        None => unreachable!(),
+        ListSlot::One { progress, .. } => settle_progress(progress, cancelled),
+        ListSlot::Several(select) => settle_progress(&mut select.progress, cancelled),
+        ListSlot::Nobody => unreachable!(),
     }
 }
 

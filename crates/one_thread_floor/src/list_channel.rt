@@ -18,35 +18,45 @@ pub struct ListClause {
     pub(crate) place: Place,
 }
 
-/// Memory for the clauses of a select.
-pub type ClauseBox = Box<ArrayVec<ListClause, 7>>;
-
-/// The clauses of a wait, that at which it began first.
-///
-/// A plain call has one clause, and takes no memory of its own for it.
-#[derive(Drop)]
-pub enum ListClauses {
-    One(ListClause),
-    Several(ClauseBox),
+/// How far a wait is.
+#[derive(Clone, Copy)]
+pub enum Progress {
+    Standing,
+    Resolved(Resolution),
+    /// With whether its Job was cancelled before. How it ended follows from that and the resolution.
+    Settled(bool, Resolution),
 }
 
-/// A wait, with its clauses.
+/// A wait with several clauses, that at which it began first.
 #[derive(Drop)]
-pub struct ListWait {
-    pub(crate) clauses: ListClauses,
-    pub(crate) resolved: Option<Resolution>,
-    /// Whether its Job was cancelled before it was settled, once it was. How it ended follows from that and the resolution.
-    pub(crate) settled: Option<bool>,
+pub struct SelectWait {
     pub(crate) owner: Tag,
+    pub(crate) progress: Progress,
+    pub(crate) clauses: ArrayVec<ListClause, 7>,
 }
 
-/// A channel, with one slot for each place that was given out: the wait that began there, if one did.
+/// What began at a place that was given out. It takes 24 bytes, by the order of the fields.
 ///
-/// Memory for all its places is taken when it is made, and touched as they are given out; a slot takes 40 bytes.
+/// A wait with one clause takes no memory of its own.
+#[derive(Drop)]
+pub enum ListSlot {
+    /// No wait.
+    Nobody,
+    One {
+        owner: Tag,
+        clause: ListClause,
+        progress: Progress,
+    },
+    Several(Box<SelectWait>),
+}
+
+/// A channel, with one slot for each place that was given out.
+///
+/// Memory for all its places is taken when it is made, and touched as they are given out.
 #[derive(Drop)]
 pub struct ListChannel {
     pub(crate) places: u32,
-    pub(crate) slots: Vec<Option<ListWait>>,
+    pub(crate) slots: Vec<ListSlot>,
     pub(crate) queue: VecDeque<Standing>,
     /// At least so many offers lead the queue with which nobody waits, so that an admission need not look at them.
     pub(crate) leading: usize,

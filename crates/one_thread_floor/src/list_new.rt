@@ -7,7 +7,7 @@ ghost use Rattle.one_thread_floor.specs.ListStands.{channel_of, IsAt};
 ghost use Rattle.one_thread_floor.specs.ListFloors.{floor_of, MayBeMade};
 
 use crate::entries::ChannelEntries;
-use crate::list_channel::{ClauseBox, ListChannel};
+use crate::list_channel::{ListChannel, Progress, SelectWait};
 use crate::list_floor::ListFloor;
 use arrayvec::ArrayVec;
 use channel_model::Kind;
@@ -46,14 +46,23 @@ fn new_channels(alloc: Global, kinds: &[(Kind, u32)]) -> Result<Vec<ListChannel>
     Ok(channels)
 }
 
+/// A wait without a clause, to be filled.
+fn empty_select() -> SelectWait {
+    SelectWait {
+        owner: 0,
+        progress: Progress::Standing,
+        clauses: ArrayVec::new(),
+    }
+}
+
 /// Makes boxes until there are so many.
-fn add_boxes(boxes: &mut Vec<ClauseBox>, n: usize) -> Result<(), Memory>
+fn add_boxes(boxes: &mut Vec<Box<SelectWait>>, n: usize) -> Result<(), Memory>
     ensures kept { vec_len boxes.old ≤ vec_len boxes.new }
     ensures made { OnOk result (n ≤ vec_len boxes.new) }
 {
     let alloc = *boxes.allocator();
     while boxes.len() < n {
-        boxes.push(Box::new(alloc, ArrayVec::new())?)?;
+        boxes.push(Box::new(alloc, empty_select())?)?;
     }
     Ok(())
 }
@@ -61,7 +70,7 @@ fn add_boxes(boxes: &mut Vec<ClauseBox>, n: usize) -> Result<(), Memory>
 /// Makes so many boxes, or none.
 #[cold]
 #[inline(never)]
-pub fn make_boxes(boxes: &mut Vec<ClauseBox>, n: usize) -> Result<(), Memory>
+pub fn make_boxes(boxes: &mut Vec<Box<SelectWait>>, n: usize) -> Result<(), Memory>
     ensures kept { vec_len boxes.old ≤ vec_len boxes.new }
     ensures made { OnOk result (n ≤ vec_len boxes.new) }
     ensures none { OnErr result (vec_len boxes.new ≡ vec_len boxes.old) }

@@ -1,37 +1,36 @@
 //! How places are given out: to an offer or a receiver, with which a wait begins, that is one more clause of a wait, or with
 //! which nobody waits.
 
-ghost use Rattle.std.specs.Prelude.{◌≡◌, ℕ, ◌+◌, ◌<◌, ◌≤◌, length, vec_len, IsSome, Some, None, true, if◌then◌else◌, ◌==◌, [], ◌∷◌, ◌++◌, option_map};
+ghost use Rattle.std.specs.Prelude.{◌≡◌, ℕ, ◌+◌, ◌<◌, ◌≤◌, length, vec_len, IsSome, Some, None, true, if◌then◌else◌, ◌==◌, [], ◌∷◌, ◌++◌};
 ghost use Rattle.channel_model.specs.Channels.{same_wait};
 ghost use Rattle.channel_model.specs.Effects.{place_receiver, place_offer, name_clause};
-ghost use Rattle.one_thread_floor.specs.ListStands.{places_in, wait_in_channel, items_of, wait_of, channel_of, channel_in, wait_in, clauses_of, clauses_of_slot, clauses_in_channel, clauses_in, named, held_offer, held_receiver, with_clause, SameShape, SameChannels, Becomes, BeginsWait, JoinsClause, OneWait, OneSlot};
+ghost use Rattle.one_thread_floor.specs.ListStands.{places_in, wait_in_channel, wait_of_slot, channel_of, channel_in, wait_in, clauses_of, clauses_of_slot, clauses_in_channel, clauses_in, named, held_offer, held_receiver, with_clause, SameShape, SameChannels, Becomes, BeginsWait, JoinsClause, OneWait, OneSlot};
 
-use crate::list_channel::{ClauseBox, ListChannel, ListClause, ListClauses, ListWait};
+use crate::list_channel::{ListChannel, ListClause, ListSlot, Progress, SelectWait};
 use crate::list_queries::next_place;
 use channel_model::{Party, Receiver, Standing};
 use co_base::{ChannelId, Place, Tag, Value, WaitId};
 
 /// A wait that begins with this clause.
 #[inline(always)]
-fn new_wait(who: Tag, clause: ListClause) -> ListWait
-    ensures wait { Some (wait_of result) ≡ name_clause who clause.number clause.channel None }
-    ensures clauses { items_of result.clauses ≡ clause ∷ [] }
+fn new_wait(who: Tag, clause: ListClause) -> ListSlot
+    ensures wait { wait_of_slot result ≡ name_clause who clause.number clause.channel None }
+    ensures clauses { clauses_of_slot result ≡ clause ∷ [] }
 {
-    ListWait {
-        clauses: ListClauses::One(clause),
-        resolved: None,
-        settled: None,
+    ListSlot::One {
         owner: who,
+        clause,
+        progress: Progress::Standing,
     }
 }
 
 /// Gives out a place to an offer. The slot is that of the wait that begins there, if one does.
 #[inline(always)]
-fn place_offer(channel: &mut ListChannel, slot: Option<ListWait>, offer: Standing)
+fn place_offer(channel: &mut ListChannel, slot: ListSlot, offer: Standing)
     requires { vec_len channel.old.slots < channel.old.places }
     ensures channel { channel_of channel.new ≡ place_offer true offer (channel_of channel.old) }
     ensures slots { (p : ℕ) → wait_in_channel (Some channel.new) p
-        ≡ (if p == (channel_of channel.old).next then option_map wait_of slot else wait_in_channel (Some channel.old) p) }
+        ≡ (if p == (channel_of channel.old).next then wait_of_slot slot else wait_in_channel (Some channel.old) p) }
     ensures clauses { (p : ℕ) → clauses_in_channel (Some channel.new) p
         ≡ (if p == (channel_of channel.old).next then clauses_of_slot slot else clauses_in_channel (Some channel.old) p) }
     ensures places { channel.new.places ≡ channel.old.places }
@@ -42,11 +41,11 @@ fn place_offer(channel: &mut ListChannel, slot: Option<ListWait>, offer: Standin
 
 /// Gives out a place to a receiver. The slot is that of the wait that begins there, if one does.
 #[inline(always)]
-fn place_receiver(channel: &mut ListChannel, slot: Option<ListWait>, receiver: Receiver)
+fn place_receiver(channel: &mut ListChannel, slot: ListSlot, receiver: Receiver)
     requires { vec_len channel.old.slots < channel.old.places }
     ensures channel { channel_of channel.new ≡ place_receiver true receiver (channel_of channel.old) }
     ensures slots { (p : ℕ) → wait_in_channel (Some channel.new) p
-        ≡ (if p == (channel_of channel.old).next then option_map wait_of slot else wait_in_channel (Some channel.old) p) }
+        ≡ (if p == (channel_of channel.old).next then wait_of_slot slot else wait_in_channel (Some channel.old) p) }
     ensures clauses { (p : ℕ) → clauses_in_channel (Some channel.new) p
         ≡ (if p == (channel_of channel.old).next then clauses_of_slot slot else clauses_in_channel (Some channel.old) p) }
     ensures places { channel.new.places ≡ channel.old.places }
@@ -70,7 +69,7 @@ fn append_offer_to(channel: &mut ListChannel, value: Value, holder: Option<Party
         value,
         holder,
     };
-    place_offer(channel, None, offer);
+    place_offer(channel, ListSlot::Nobody, offer);
     place
 }
 
@@ -101,7 +100,7 @@ fn append_receiver_to(channel: &mut ListChannel, party: Party) -> Place
     ensures places { channel.new.places ≡ channel.old.places }
 {
     let place = channel.slots.len() as Place;
-    place_receiver(channel, None, Receiver { place, party });
+    place_receiver(channel, ListSlot::Nobody, Receiver { place, party });
     place
 }
 
@@ -144,7 +143,7 @@ pub fn begin_offer(
     let holder = Some(Party { wait, clause });
     place_offer(
         &mut channels[c as usize],
-        Some(slot),
+        slot,
         Standing {
             place,
             value,
@@ -174,50 +173,56 @@ pub fn begin_receiver(channels: &mut Vec<ListChannel>, c: ChannelId, who: Tag, c
     );
     let wait = WaitId { channel: c, place };
     let party = Party { wait, clause };
-    place_receiver(
-        &mut channels[c as usize],
-        Some(slot),
-        Receiver { place, party },
-    );
+    place_receiver(&mut channels[c as usize], slot, Receiver { place, party });
     place
 }
 
-/// Appends a clause; the second takes a box.
-fn push_item(clauses: &mut ListClauses, boxes: &mut Vec<ClauseBox>, clause: ListClause)
-    requires few { length (items_of clauses.old) < 7 }
-    requires room { 0 < vec_len boxes.old }
-    ensures clauses { items_of clauses.new ≡ items_of clauses.old ++ clause ∷ [] }
-    ensures boxes { vec_len boxes.old ≤ vec_len boxes.new + 1 }
+/// Fills in a wait that had the clause `first`, and has one more.
+fn begin_several(
+    select: &mut SelectWait,
+    owner: Tag,
+    progress: Progress,
+    first: ListClause,
+    clause: ListClause,
+)
+    ensures owner { select.new.owner ≡ owner }
+    ensures progress { select.new.progress ≡ progress }
+    ensures clauses { select.new.clauses.items ≡ first ∷ clause ∷ [] }
 {
-    match clauses {
-        ListClauses::One(first) => {
-            let first = *first;
-            let mut several = boxes.pop().unwrap();
-            several.clear();
-            several.push(first);
-            several.push(clause);
-            *clauses = ListClauses::Several(several);
-        }
-        ListClauses::Several(several) => several.push(clause),
-    }
+    select.owner = owner;
+    select.progress = progress;
+    select.clauses.clear();
+    select.clauses.push(first);
+    select.clauses.push(clause);
 }
 
-fn push_clause(slot: &mut Option<ListWait>, boxes: &mut Vec<ClauseBox>, clause: ListClause)
-    requires there { IsSome slot.old }
-    requires few { length (clauses_of (option_map wait_of slot.old)) < 7 }
+/// Appends a clause; the second takes a box.
+fn push_clause(slot: &mut ListSlot, boxes: &mut Vec<Box<SelectWait>>, clause: ListClause)
+    requires there { IsSome (wait_of_slot slot.old) }
+    requires few { length (clauses_of (wait_of_slot slot.old)) < 7 }
     requires room { 0 < vec_len boxes.old }
-    ensures wait { option_map wait_of slot.new ≡ with_clause clause.number clause.channel (option_map wait_of slot.old) }
+    ensures wait { wait_of_slot slot.new ≡ with_clause clause.number clause.channel (wait_of_slot slot.old) }
     ensures clauses { clauses_of_slot slot.new ≡ clauses_of_slot slot.old ++ clause ∷ [] }
     ensures boxes { vec_len boxes.old ≤ vec_len boxes.new + 1 }
 {
-    if let Some(wait) = slot {
-        push_item(&mut wait.clauses, boxes, clause);
+    match slot {
+        ListSlot::One {
+            owner,
+            clause: first,
+            progress,
+        } => {
+            let mut several = boxes.pop().unwrap();
+            begin_several(&mut several, *owner, *progress, *first, clause);
+            *slot = ListSlot::Several(several);
+        }
+        ListSlot::Several(select) => select.clauses.push(clause),
+        ListSlot::Nobody => unreachable!(),
     }
 }
 
 fn push_clause_in(
     channel: &mut ListChannel,
-    boxes: &mut Vec<ClauseBox>,
+    boxes: &mut Vec<Box<SelectWait>>,
     place: usize,
     clause: ListClause,
 )
@@ -237,7 +242,7 @@ fn push_clause_in(
 /// Gives the wait one clause more.
 fn add_clause(
     channels: &mut Vec<ListChannel>,
-    boxes: &mut Vec<ClauseBox>,
+    boxes: &mut Vec<Box<SelectWait>>,
     w: WaitId,
     clause: ListClause,
 )
@@ -262,7 +267,7 @@ fn add_clause(
 /// Gives out a place to an offer, as one more clause of the wait.
 pub fn join_offer(
     channels: &mut Vec<ListChannel>,
-    boxes: &mut Vec<ClauseBox>,
+    boxes: &mut Vec<Box<SelectWait>>,
     c: ChannelId,
     w: WaitId,
     clause: u8,
@@ -295,7 +300,7 @@ pub fn join_offer(
 /// Gives out a place to a receiver, as one more clause of the wait.
 pub fn join_receiver(
     channels: &mut Vec<ListChannel>,
-    boxes: &mut Vec<ClauseBox>,
+    boxes: &mut Vec<Box<SelectWait>>,
     c: ChannelId,
     w: WaitId,
     clause: u8,

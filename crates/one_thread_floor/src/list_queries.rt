@@ -5,9 +5,9 @@ ghost use Rattle.std.specs.Option.{ForSome};
 ghost use Rattle.channel_model.specs.Channels.{kind_at};
 ghost use Rattle.channel_model.specs.Effects.{is_open};
 ghost use Rattle.channel_model.specs.Answers.{owner_of, state_of_wait};
-ghost use Rattle.one_thread_floor.specs.ListStands.{channel_in, wait_of_slot, wait_in, places_in, items_of, clauses_of, clauses_of_slot, clauses_in, place_for, is_resolved_main};
+ghost use Rattle.one_thread_floor.specs.ListStands.{channel_in, wait_of_slot, progress_of_slot, wait_in, places_in, clauses_of, clauses_of_slot, clauses_in, place_for, is_resolved_main};
 
-use crate::list_channel::{ListChannel, ListClause, ListClauses, ListWait};
+use crate::list_channel::{ListChannel, ListClause, ListSlot, Progress};
 use channel_model::{Kind, Receiver, Standing, WaitState};
 use co_base::{ChannelId, Place, Tag, Value, WaitId};
 use std::slice::from_ref;
@@ -86,7 +86,7 @@ pub fn next_place(channels: &Vec<ListChannel>, c: ChannelId) -> Place
 
 /// The slot of a wait that began.
 #[inline(always)]
-fn slot_at(channels: &Vec<ListChannel>, w: WaitId) -> &Option<ListWait>
+fn slot_at(channels: &Vec<ListChannel>, w: WaitId) -> &ListSlot
     requires { IsSome (wait_in channels.now.items w) }
     ensures wait { wait_of_slot result.now ≡ wait_in channels.now.items w }
     ensures clauses { clauses_of_slot result.now ≡ clauses_in channels.now.items w }
@@ -101,8 +101,20 @@ pub fn owner_at(channels: &Vec<ListChannel>, w: WaitId) -> Tag
     ensures { owner_of (wait_in channels.now.items w) ≡ Some result }
 {
     match slot_at(channels, w) {
-        Some(wait) => wait.owner,
-        None => unreachable!(),
+        ListSlot::One { owner, .. } => *owner,
+        ListSlot::Several(select) => select.owner,
+        ListSlot::Nobody => unreachable!(),
+    }
+}
+
+fn progress_of(slot: &ListSlot) -> Progress
+    requires { IsSome (wait_of_slot slot.now) }
+    ensures { Some result ≡ progress_of_slot slot.now }
+{
+    match slot {
+        ListSlot::One { progress, .. } => *progress,
+        ListSlot::Several(select) => select.progress,
+        ListSlot::Nobody => unreachable!(),
     }
 }
 
@@ -112,15 +124,10 @@ pub fn state_at(channels: &Vec<ListChannel>, w: WaitId) -> WaitState
     requires { IsSome (wait_in channels.now.items w) }
     ensures { state_of_wait (wait_in channels.now.items w) ≡ Some result }
 {
-    match slot_at(channels, w) {
-        Some(wait) => match wait.resolved {
-            Some(_) => match wait.settled {
-                Some(_) => WaitState::Settled,
-                None => WaitState::Resolved,
-            },
-            None => WaitState::Standing,
-        },
-        None => unreachable!(),
+    match progress_of(slot_at(channels, w)) {
+        Progress::Standing => WaitState::Standing,
+        Progress::Resolved(_) => WaitState::Resolved,
+        Progress::Settled(_, _) => WaitState::Settled,
     }
 }
 
@@ -129,9 +136,9 @@ pub fn is_open_wait(channels: &Vec<ListChannel>, w: WaitId) -> bool
     requires { IsSome (wait_in channels.now.items w) }
     ensures { result ≡ is_open (wait_in channels.now.items w) }
 {
-    match slot_at(channels, w) {
-        Some(wait) => wait.resolved.is_none(),
-        None => unreachable!(),
+    match progress_of(slot_at(channels, w)) {
+        Progress::Standing => true,
+        _ => false,
     }
 }
 
@@ -146,13 +153,14 @@ pub fn is_main_resolved(channels: &Vec<ListChannel>, main: Option<WaitId>) -> bo
     }
 }
 
-/// The clauses of a wait, that at which it began first.
-pub fn items(clauses: &ListClauses) -> &[ListClause]
-    ensures { result.now ≡ items_of clauses.now }
+/// The clauses of the wait in a slot, that at which it began first.
+fn items(slot: &ListSlot) -> &[ListClause]
+    ensures { result.now ≡ clauses_of_slot slot.now }
 {
-    match clauses {
-        ListClauses::One(clause) => from_ref(clause),
-        ListClauses::Several(several) => several.as_slice(),
+    match slot {
+        ListSlot::One { clause, .. } => from_ref(clause),
+        ListSlot::Several(select) => select.clauses.as_slice(),
+        ListSlot::Nobody => &[],
     }
 }
 
@@ -161,10 +169,7 @@ pub fn clause_count(channels: &Vec<ListChannel>, w: WaitId) -> usize
     requires { IsSome (wait_in channels.now.items w) }
     ensures { result ≡ length (clauses_of (wait_in channels.now.items w)) }
 {
-    match slot_at(channels, w) {
-        Some(wait) => items(&wait.clauses).len(),
-        None => 0,
-    }
+    items(slot_at(channels, w)).len()
 }
 
 /// The channel of a clause of a wait.
@@ -173,10 +178,7 @@ pub fn clause_channel(channels: &Vec<ListChannel>, w: WaitId, i: usize) -> Chann
     requires within { i < length (clauses_of (wait_in channels.now.items w)) }
     ensures { result ≡ (slice_index_or (clauses_of (wait_in channels.now.items w)) i (0, 0)).1 }
 {
-    match slot_at(channels, w) {
-        Some(wait) => items(&wait.clauses)[i].channel,
-        None => 0,
-    }
+    items(slot_at(channels, w))[i].channel
 }
 
 fn place_among(clauses: &[ListClause], c: ChannelId) -> Option<Place>
@@ -195,8 +197,5 @@ pub fn place_for(channels: &Vec<ListChannel>, w: WaitId, c: ChannelId) -> Option
     requires { IsSome (wait_in channels.now.items w) }
     ensures { result ≡ place_for c (clauses_in channels.now.items w) }
 {
-    match slot_at(channels, w) {
-        Some(wait) => place_among(items(&wait.clauses), c),
-        None => None,
-    }
+    place_among(items(slot_at(channels, w)), c)
 }

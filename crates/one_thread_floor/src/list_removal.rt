@@ -1,13 +1,13 @@
 //! How a wait that is resolved leaves the channels.
 
-ghost use Rattle.std.specs.Prelude.{◌≡◌, ◌<◌, ◌≤◌, length, vec_len, Some, IsSome, filter, not, ◌&&◌, ◌==◌, option_map};
+ghost use Rattle.std.specs.Prelude.{◌≡◌, ◌<◌, ◌≤◌, length, vec_len, Some, IsSome, filter, not, ◌&&◌, ◌==◌};
 ghost use Rattle.std.specs.VecDeque.{deque_len, deque_capacity};
 ghost use Rattle.channel_model.specs.Channels.{Shape, State, same_wait};
 ghost use Rattle.channel_model.specs.Effects.{is_held_by, without, resolve, resolved_wait};
 ghost use Rattle.channel_model.specs.Laws.{AllStandOpen, StandsInOrder};
-ghost use Rattle.one_thread_floor.specs.ListStands.{wait_of, channel_of, channel_in, wait_in, wait_in_channel, IsUnresolved, clauses_of, clauses_of_slot, clauses_in_channel, IsAt, has_clause_elsewhere, SamePlaces, SameShape, IsWithout, SameWaits, SameClauses, SameChannels, Becomes, OneWait, OneSlot, AllInOrder, PlacesKept, PlacesAscend, StandOnlyAt, StandsAt};
+ghost use Rattle.one_thread_floor.specs.ListStands.{wait_of_slot, channel_of, channel_in, wait_in, wait_in_channel, IsUnresolved, clauses_of, clauses_of_slot, clauses_in_channel, IsAt, has_clause_elsewhere, SamePlaces, SameShape, IsWithout, SameWaits, SameClauses, SameChannels, Becomes, OneWait, OneSlot, AllInOrder, PlacesKept, PlacesAscend, StandOnlyAt, StandsAt};
 
-use crate::list_channel::{ListChannel, ListWait};
+use crate::list_channel::{ListChannel, ListSlot, Progress};
 use crate::list_queries::{clause_channel, clause_count, place_for};
 use channel_model::{Receiver, Resolution, Standing};
 use co_base::{ChannelId, Place, WaitId};
@@ -124,14 +124,15 @@ fn remove_elsewhere(channels: &mut Vec<ListChannel>, c: ChannelId, w: WaitId)
     }
 }
 
-fn mark_slot(slot: &mut Option<ListWait>, how: Resolution)
-    requires { IsUnresolved (option_map wait_of slot.old) }
-    ensures wait { option_map wait_of slot.new ≡ resolved_wait how (option_map wait_of slot.old) }
+fn mark_slot(slot: &mut ListSlot, how: Resolution)
+    requires { IsUnresolved (wait_of_slot slot.old) }
+    ensures wait { wait_of_slot slot.new ≡ resolved_wait how (wait_of_slot slot.old) }
     ensures clauses { clauses_of_slot slot.new ≡ clauses_of_slot slot.old }
 {
-    if let Some(wait) = slot {
-        wait.resolved = Some(how);
-        wait.settled = None;
+    match slot {
+        ListSlot::Nobody => {}
+        ListSlot::One { progress, .. } => *progress = Progress::Resolved(how),
+        ListSlot::Several(select) => select.progress = Progress::Resolved(how),
     }
 }
 
