@@ -11,4 +11,4 @@ pub returns-in-Ok-Closed-clause-answer : goal.returns-in-Ok-Closed-clause-answer
 returns-in-Ok-Closed-clause-answer g c = send_closed _ _ _ _ _ _ _ _ (rw c.in-Ok-Closed.field-0-is at c.in-Ok-Closed.ensures.answer)
 
 pub returns-in-Ok-Spent-clause-answer : goal.returns-in-Ok-Spent-clause-answer
-returns-in-Ok-Spent-clause-answer g c = no_place _ _ _ _ _ _ _ (rw c.in-Ok-Spent.field-0-is at c.in-Ok-Spent.ensures.answer)
+returns-in-Ok-Spent-clause-answer g c = no_place _ _ _ _ _ _ c.args.value (rw c.in-Ok-Spent.field-0-is at c.in-Ok-Spent.ensures.answer)
