@@ -13,21 +13,25 @@ use crate::list_channel::ListChannel;
 use crate::list_queries::owner_at;
 use crate::list_removal::resolve_elsewhere;
 use channel_model::{Party, Receiver, Resolution, Standing};
-use co_base::{ChannelId, Tag, Value};
+use co_base::{ChannelId, Place, Tag};
 use std::collections::VecDeque;
 use std::mem::replace;
 
-/// Lets a queue in which nothing stands begin at the front of its memory, so that no more of it is touched than what stands at once takes.
+/// After so many places a queue in which no more than so many stand begins at the front of its memory.
+const STRETCH: Place = 256;
+
+/// Lets a queue begin at the front of its memory, so that little more of it is touched than what stands at once takes: one in which nothing
+/// stands, and one in which few stand if the place that left it ends a stretch. So one move a place is the most.
 #[inline(always)]
-fn begin_anew<T: Drop>(queue: &mut VecDeque<T>)
+fn begin_anew<T: Drop>(queue: &mut VecDeque<T>, left: Place)
     ensures items { queue.new.items ≡ queue.old.items }
     ensures len { deque_len queue.new ≡ deque_len queue.old }
     ensures capacity { deque_capacity queue.new ≡ deque_capacity queue.old }
 {
-    if queue.is_empty() {
+    if queue.is_empty() || (left % STRETCH == 0 && queue.len() <= STRETCH as usize) {
         let none = VecDeque::new(*queue.allocator());
-        let emptied = replace(queue, none);
-        *queue = VecDeque::from_vec(emptied.into_vec());
+        let full = replace(queue, none);
+        *queue = VecDeque::from_vec(full.into_vec());
     }
 }
 
@@ -39,7 +43,7 @@ fn pop_receiver_of(channel: &mut ListChannel) -> Receiver
     ensures places { SamePlaces channel.old channel.new }
 {
     let receiver = channel.receivers.pop_front().unwrap();
-    begin_anew(&mut channel.receivers);
+    begin_anew(&mut channel.receivers, receiver.place);
     receiver
 }
 
@@ -84,7 +88,7 @@ fn pop_offer_of(channel: &mut ListChannel) -> Standing
 {
     channel.leading = channel.leading.saturating_sub(1);
     let offer = channel.queue.pop_front().unwrap();
-    begin_anew(&mut channel.queue);
+    begin_anew(&mut channel.queue, offer.place);
     offer
 }
 
