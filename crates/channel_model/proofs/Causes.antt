@@ -35,27 +35,32 @@ one_resolves w v x waits = by_test (same_wait w v) refl
     by_test true e = inr (ap (λ u. Some u) (same_wait-eq w v e))
     by_test false e = inl refl
 
-first_resolves : (v : WaitId) (rs : List Receiver) (how : ℕ → Resolution) (s : State) → Resolves (first_waiting rs) v s.waits (resolve_first rs how s).waits
+first_resolves : (v : WaitId) (rs : List Receiver) (how : ℕ → Resolution) (s : State)
+    → Resolves (first_waiting rs) v s.waits (resolve_first rs how s).waits
 first_resolves v [] how s = inl refl
 first_resolves v (r ∷ rs) how s = one_resolves r.party.wait v _ s.waits
 
-holder_resolves : (v : WaitId) (p : Option Party) (how : ℕ → Resolution) (s : State) → Resolves (wait_of_party p) v s.waits (resolve_holder p how s).waits
+holder_resolves : (v : WaitId) (p : Option Party) (how : ℕ → Resolution) (s : State)
+    → Resolves (wait_of_party p) v s.waits (resolve_holder p how s).waits
 holder_resolves v None how s = inl refl
 holder_resolves v (Some p) how s = one_resolves p.wait v _ s.waits
 
-offer_resolves : (v : WaitId) (c : ℕ) (os : List Standing) (how : ℕ → Resolution) (s : State) → Resolves (first_holding os) v s.waits (resolve_offer c os how s).waits
+offer_resolves : (v : WaitId) (c : ℕ) (os : List Standing) (how : ℕ → Resolution) (s : State)
+    → Resolves (first_holding os) v s.waits (resolve_offer c os how s).waits
 offer_resolves v c [] how s = inl refl
 offer_resolves v c (o ∷ os) how s = holder_resolves v o.holder how (with_queue c os s)
 
 -- a change of one wait that leaves what f says of each
-one_leaves : {A : Type 0} (f : Option Wait → A) (w v : WaitId) (g : Option Wait → Option Wait) (waits : WaitId → Option Wait) → ((x : Option Wait) → f (g x) ≡ f x) → f (put_wait w (g (waits w)) waits v) ≡ f (waits v)
+one_leaves : {A : Type 0} (f : Option Wait → A) (w v : WaitId) (g : Option Wait → Option Wait) (waits : WaitId → Option Wait)
+    → ((x : Option Wait) → f (g x) ≡ f x) → f (put_wait w (g (waits w)) waits v) ≡ f (waits v)
 one_leaves f w v g waits k = by_test (same_wait w v) refl
   where
     by_test : (b : Bool) → same_wait w v ≡ b → f (if b then g (waits w) else waits v) ≡ f (waits v)
     by_test true e = k (waits w) ∙ ap (λ u. f (waits u)) (same_wait-eq w v e)
     by_test false e = refl
 
-remove_leaves : {A : Type 0} (f : Option Wait → A) (v : WaitId) (c : ℕ) (os : List Standing) (s : State) → f ((remove_first c os s).waits v) ≡ f (s.waits v)
+remove_leaves : {A : Type 0} (f : Option Wait → A) (v : WaitId) (c : ℕ) (os : List Standing) (s : State)
+    → f ((remove_first c os s).waits v) ≡ f (s.waits v)
 remove_leaves f v c [] s = refl
 remove_leaves f v c (o ∷ os) s = refl
 
@@ -67,13 +72,15 @@ settled_resolution : (outcome : Settled) (x : Option Wait) → resolution_of (se
 settled_resolution outcome None = refl
 settled_resolution outcome (Some x) = refl
 
-pub resolution_kept : (s : State) (who : ℕ) (act : Act) (v : WaitId) → (resolution_of ((after s who act).waits v) ≡ resolution_of (s.waits v)) ⊎ (resolves s act ≡ Some v)
+pub resolution_kept : (s : State) (who : ℕ) (act : Act) (v : WaitId)
+    → (resolution_of ((after s who act).waits v) ≡ resolution_of (s.waits v)) ⊎ (resolves s act ≡ Some v)
 resolution_kept s who (Hand c p x) v = first_resolves v (s.channels c).receivers _ s
 resolution_kept s who (Put c p x) v = inl refl
 resolution_kept s who (Offer c p x w k) v = inl (one_leaves resolution_of w v (name_clause who k c) s.waits (named_resolution who k c))
 resolution_kept s who (Await c p w k) v = inl (one_leaves resolution_of w v (name_clause who k c) s.waits (named_resolution who k c))
 resolution_kept s who (Take c p x) v = offer_resolves v c (s.channels c).queue _ s
-resolution_kept s who (Admit c p) v = holder_resolves v (holder_at p (s.channels c).queue) _ (with_queue c (admitted p (s.channels c).queue) s)
+resolution_kept s who (Admit c p) v = holder_resolves v (holder_at p (s.channels c).queue) _
+    (with_queue c (admitted p (s.channels c).queue) s)
 resolution_kept s who (Drop c p x) v = inl (remove_leaves resolution_of v c (s.channels c).queue s)
 resolution_kept s who (Spurn c p x) v = inl refl
 resolution_kept s who (Close c x) v = inl refl
@@ -90,8 +97,10 @@ resolved_same (Some x) None e h = let f : x.resolved ≡ None = e in cc
 resolved_same (Some x) (Some y) e h = ap is_some (sym e) ∙ h
 
 -- what is resolved was so before, or is so by the act
-pub resolved_before : (s : State) (who : ℕ) (act : Act) (v : WaitId) → IsResolvedWait ((after s who act).waits v) → IsResolvedWait (s.waits v) ⊎ (resolves s act ≡ Some v)
-resolved_before s who act v h = ⊎_elim (λ e. inl (resolved_same ((after s who act).waits v) (s.waits v) e h)) (λ e. inr e) (resolution_kept s who act v)
+pub resolved_before : (s : State) (who : ℕ) (act : Act) (v : WaitId) → IsResolvedWait ((after s who act).waits v)
+    → IsResolvedWait (s.waits v) ⊎ (resolves s act ≡ Some v)
+resolved_before s who act v h = ⊎_elim (λ e. inl (resolved_same ((after s who act).waits v) (s.waits v) e h)) (λ e. inr e)
+    (resolution_kept s who act v)
 
 -- ---- whether a wait ended stays, unless the act ends it
 
@@ -110,26 +119,31 @@ named_end who k c (Some x) = refl
 resolve_end : (v w : WaitId) (how : Resolution) (s : State) → has_ended ((resolve w how s).waits v) ≡ has_ended (s.waits v)
 resolve_end v w how s = one_leaves has_ended w v (resolved_wait how) s.waits (resolved_end how)
 
-first_end : (v : WaitId) (rs : List Receiver) (how : ℕ → Resolution) (s : State) → has_ended ((resolve_first rs how s).waits v) ≡ has_ended (s.waits v)
+first_end : (v : WaitId) (rs : List Receiver) (how : ℕ → Resolution) (s : State)
+    → has_ended ((resolve_first rs how s).waits v) ≡ has_ended (s.waits v)
 first_end v [] how s = refl
 first_end v (r ∷ rs) how s = resolve_end v r.party.wait (how r.party.clause) s
 
-holder_end : (v : WaitId) (p : Option Party) (how : ℕ → Resolution) (s : State) → has_ended ((resolve_holder p how s).waits v) ≡ has_ended (s.waits v)
+holder_end : (v : WaitId) (p : Option Party) (how : ℕ → Resolution) (s : State)
+    → has_ended ((resolve_holder p how s).waits v) ≡ has_ended (s.waits v)
 holder_end v None how s = refl
 holder_end v (Some p) how s = resolve_end v p.wait (how p.clause) s
 
-offer_end : (v : WaitId) (c : ℕ) (os : List Standing) (how : ℕ → Resolution) (s : State) → has_ended ((resolve_offer c os how s).waits v) ≡ has_ended (s.waits v)
+offer_end : (v : WaitId) (c : ℕ) (os : List Standing) (how : ℕ → Resolution) (s : State)
+    → has_ended ((resolve_offer c os how s).waits v) ≡ has_ended (s.waits v)
 offer_end v c [] how s = refl
 offer_end v c (o ∷ os) how s = holder_end v o.holder how (with_queue c os s)
 
-one_ends : (w v : WaitId) (x : Option Wait) (waits : WaitId → Option Wait) → (has_ended (put_wait w x waits v) ≡ has_ended (waits v)) ⊎ (Some w ≡ Some v)
+one_ends : (w v : WaitId) (x : Option Wait) (waits : WaitId → Option Wait) → (has_ended (put_wait w x waits v) ≡ has_ended (waits v))
+    ⊎ (Some w ≡ Some v)
 one_ends w v x waits = by_test (same_wait w v) refl
   where
     by_test : (b : Bool) → same_wait w v ≡ b → (has_ended (if b then x else waits v) ≡ has_ended (waits v)) ⊎ (Some w ≡ Some v)
     by_test true e = inr (ap (λ u. Some u) (same_wait-eq w v e))
     by_test false e = inl refl
 
-end_kept : (s : State) (who : ℕ) (act : Act) (v : WaitId) → (has_ended ((after s who act).waits v) ≡ has_ended (s.waits v)) ⊎ (settles act ≡ Some v)
+end_kept : (s : State) (who : ℕ) (act : Act) (v : WaitId) → (has_ended ((after s who act).waits v) ≡ has_ended (s.waits v))
+    ⊎ (settles act ≡ Some v)
 end_kept s who (Hand c p x) v = inl (first_end v (s.channels c).receivers _ s)
 end_kept s who (Put c p x) v = inl refl
 end_kept s who (Offer c p x w k) v = inl (one_leaves has_ended w v (name_clause who k c) s.waits (named_end who k c))
@@ -151,8 +165,10 @@ settled_same (Some x) None e h = let f : is_some x.settled ≡ false = e in cc
 settled_same (Some x) (Some y) e h = sym e ∙ h
 
 -- what has ended had so before, or has so by the act
-pub settled_before : (s : State) (who : ℕ) (act : Act) (v : WaitId) → IsSettledWait ((after s who act).waits v) → IsSettledWait (s.waits v) ⊎ (settles act ≡ Some v)
-settled_before s who act v h = ⊎_elim (λ e. inl (settled_same ((after s who act).waits v) (s.waits v) e h)) (λ e. inr e) (end_kept s who act v)
+pub settled_before : (s : State) (who : ℕ) (act : Act) (v : WaitId) → IsSettledWait ((after s who act).waits v) → IsSettledWait (s.waits v)
+    ⊎ (settles act ≡ Some v)
+settled_before s who act v h = ⊎_elim (λ e. inl (settled_same ((after s who act).waits v) (s.waits v) e h)) (λ e. inr e)
+    (end_kept s who act v)
 
 -- ---- counts of entries for a wait
 
@@ -174,11 +190,14 @@ same_truth false true f g = g refl
 same_truth false false f g = refl
 
 -- the act makes it so, or leaves it as it was
-pub counted_one : (test : Option Wait → Bool) (P : Option Wait → Type 0) → ((x : Option Wait) → (test x ≡ true) ↔ P x) → (w : WaitId) (o : Option WaitId) (waits waits' : WaitId → Option Wait)
+pub counted_one : (test : Option Wait → Bool) (P : Option Wait → Type 0) → ((x : Option Wait) → (test x ≡ true) ↔ P x)
+    → (w : WaitId) (o : Option WaitId) (waits waits' : WaitId → Option Wait)
     → ((v : WaitId) → o ≡ Some v → Turns P v waits waits') → (P (waits w) → P (waits' w)) → (P (waits' w) → P (waits w) ⊎ (o ≡ Some w))
     → cond (test (waits' w)) 1 0 ≡ cond (test (waits w)) 1 0 + one_if w o
 counted_one test P is w None waits waits' turns keeps back =
-    let same : test (waits' w) ≡ test (waits w) = same_truth _ _ (λ e. ⊎_elim (λ h. (is (waits w)).1 h) (λ f. cc) (back ((is (waits' w)).0 e))) (λ e. (is (waits' w)).1 (keeps ((is (waits w)).0 e))) in
+    let same : test (waits' w) ≡ test (waits w) = same_truth _ _
+    (λ e. ⊎_elim (λ h. (is (waits w)).1 h) (λ f. cc) (back ((is (waits' w)).0 e))) (λ e. (is (waits' w)).1 (keeps ((is (waits w)).0 e)))
+    in
     ap (λ b. cond b 1 0) same ∙ omega arith
 counted_one test P is w (Some v) waits waits' turns keeps back = by_test (same_wait w v) refl
   where

@@ -23,7 +23,8 @@ abbrev numbered : ℕ → List (ℕ × ℕ) → ℕ
 numbered k xs = how_many (λ (y : ℕ × ℕ). y.0 == k) xs
 
 one_of_seven : (n : ℕ) → 0 < n → n ≤ 7
-    → cond (n == 1) 1 0 + cond (n == 2) 1 0 + cond (n == 3) 1 0 + cond (n == 4) 1 0 + cond (n == 5) 1 0 + cond (n == 6) 1 0 + cond (n == 7) 1 0 ≡ 1
+    → cond (n == 1) 1 0 + cond (n == 2) 1 0 + cond (n == 3) 1 0 + cond (n == 4) 1 0 + cond (n == 5) 1 0 + cond (n == 6) 1 0 + cond (n == 7)
+    1 0 ≡ 1
 one_of_seven n lo hi = grind (arith, nat_tests)
 
 seven_numbers : (xs : List (ℕ × ℕ)) → list_all is_select_clause xs ≡ true
@@ -49,17 +50,21 @@ none_counted f (x ∷ xs) e =
     ap (λ b. cond b 1 0 + how_many f xs) k.0 ∙ omega arith
 
 -- a number that none has is had by one at most
-one_more : (f : ℕ × ℕ → Bool) (xs : List (ℕ × ℕ)) (y : ℕ × ℕ) → how_many f xs ≤ 1 → (f y ≡ true → list_any f xs ≡ false) → how_many f (xs ++ y ∷ []) ≤ 1
+one_more : (f : ℕ × ℕ → Bool) (xs : List (ℕ × ℕ)) (y : ℕ × ℕ) → how_many f xs ≤ 1 → (f y ≡ true → list_any f xs ≡ false)
+    → how_many f (xs ++ y ∷ []) ≤ 1
 one_more f xs y h fresh = by_test (f y) refl
   where
     by_test : (b : Bool) → f y ≡ b → how_many f (xs ++ y ∷ []) ≤ 1
-    by_test true e = let n = none_counted f xs (fresh e) in let m = count_push f xs y in let one : ◌≡◌ {A = ℕ} (cond (f y) 1 0) 1 = ap (λ b. cond b 1 0) e in omega arith
+    by_test true e = let n = none_counted f xs (fresh e) in let m = count_push f xs y
+        in let one : ◌≡◌ {A = ℕ} (cond (f y) 1 0) 1 = ap (λ b. cond b 1 0) e in omega arith
     by_test false e = let m = count_push f xs y in let none : ◌≡◌ {A = ℕ} (cond (f y) 1 0) 0 = ap (λ b. cond b 1 0) e in omega arith
 
-at_number : (k j : ℕ) (xs : List (ℕ × ℕ)) → (k == j) ≡ true → list_any (λ (y : ℕ × ℕ). y.0 == k) xs ≡ false → list_any (λ (y : ℕ × ℕ). y.0 == j) xs ≡ false
+at_number : (k j : ℕ) (xs : List (ℕ × ℕ)) → (k == j) ≡ true → list_any (λ (y : ℕ × ℕ). y.0 == k) xs ≡ false
+    → list_any (λ (y : ℕ × ℕ). y.0 == j) xs ≡ false
 at_number k j xs e h = subst (λ n. list_any (λ (y : ℕ × ℕ). y.0 == n) xs ≡ false) (eqb-true k j e) h
 
-at_channel : (c d : ℕ) (xs : List (ℕ × ℕ)) → (c == d) ≡ true → list_any (λ (y : ℕ × ℕ). y.1 == c) xs ≡ false → list_any (λ (y : ℕ × ℕ). y.1 == d) xs ≡ false
+at_channel : (c d : ℕ) (xs : List (ℕ × ℕ)) → (c == d) ≡ true → list_any (λ (y : ℕ × ℕ). y.1 == c) xs ≡ false
+    → list_any (λ (y : ℕ × ℕ). y.1 == d) xs ≡ false
 at_channel c d xs e h = subst (λ n. list_any (λ (y : ℕ × ℕ). y.1 == n) xs ≡ false) (eqb-true c d e) h
 
 select_push : (xs : List (ℕ × ℕ)) (y : ℕ × ℕ) → began_by_select xs ≡ true → began_by_select (xs ++ y ∷ []) ≡ true
@@ -70,11 +75,27 @@ select_push (x ∷ xs) y e = e
 
 resolved_fits : (how : Resolution) (x : Option Wait) → ClausesFit x → ClausesFit (resolved_wait how x)
 resolved_fits how None h = h
-resolved_fits how (Some x) h = record { some = h.some; few = h.few; plain = h.plain; select = h.select; numbers = h.numbers; channels = h.channels }
+resolved_fits how (Some x) h = record {
+  some = h.some;
+  few = h.few;
+  plain = h.plain;
+  select = h.select;
+  numbers = h.numbers;
+  channels =
+      h.channels;
+}
 
 settled_fits : (outcome : Settled) (x : Option Wait) → ClausesFit x → ClausesFit (settled_wait outcome x)
 settled_fits outcome None h = h
-settled_fits outcome (Some x) h = record { some = h.some; few = h.few; plain = h.plain; select = h.select; numbers = h.numbers; channels = h.channels }
+settled_fits outcome (Some x) h = record {
+  some = h.some;
+  few = h.few;
+  plain = h.plain;
+  select = h.select;
+  numbers = h.numbers;
+  channels =
+      h.channels;
+}
 
 at_most_one : (b : Bool) → cond b 1 0 + 0 ≤ 1
 at_most_one true = omega arith
@@ -105,7 +126,8 @@ joined_fits who k c (Some x) m h = record {
     numbers j = one_more (λ (y : ℕ × ℕ). y.0 == j) x.clauses (k, c) (h.numbers j) (λ e. at_number k j x.clauses e m.other_clause)
 
     all : list_all is_select_clause (x.clauses ++ (k, c) ∷ []) ≡ true
-    all = all_push is_select_clause x.clauses (k, c) (h.select m.select) (and_from (nat_lt 0 k) (nat_le k 7) (lt-ltb 0 k (let l = m.low in omega arith)) (le-leb k 7 m.high))
+    all = all_push is_select_clause x.clauses (k, c) (h.select m.select)
+        (and_from (nat_lt 0 k) (nat_le k 7) (lt-ltb 0 k (let l = m.low in omega arith)) (le-leb k 7 m.high))
 
     few : length (x.clauses ++ (k, c) ∷ []) ≤ 7
     few =
@@ -129,5 +151,6 @@ clauses_keep = record {
 
 pub replay_clauses_fit : (shape : Shape) (history : List Entry) (w : WaitId) → Legal shape history → ClausesFit ((replay history).waits w)
 replay_clauses_fit shape history w l =
-    lasts_from shape (λ s. ClausesFit (s.waits w)) (record { step = λ s who act h n p. after_waits ClausesFit clauses_keep shape s who act w h.placed n p })
+    lasts_from shape (λ s. ClausesFit (s.waits w)) (record
+    { step = λ s who act h n p. after_waits ClausesFit clauses_keep shape s who act w h.placed n p })
     start history l (sound_start shape) tt

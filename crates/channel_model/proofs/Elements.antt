@@ -8,7 +8,8 @@ pub all_filter : {X : Type 0} (p q : X → Bool) (xs : List X) → list_all p xs
 all_filter p q [] h = refl
 all_filter p q (x ∷ xs) h = by_test (λ h. all_filter p q xs h) (p x) (q x) refl h
   where
-    by_test : (list_all p xs ≡ true → list_all p (filter q xs) ≡ true) → (a b : Bool) → p x ≡ a → (a && list_all p xs) ≡ true → list_all p (cond b (x ∷ filter q xs) (filter q xs)) ≡ true
+    by_test : (list_all p xs ≡ true → list_all p (filter q xs) ≡ true) → (a b : Bool) → p x ≡ a → (a && list_all p xs) ≡ true
+        → list_all p (cond b (x ∷ filter q xs) (filter q xs)) ≡ true
     by_test rest true true e h = ap (λ (t : Bool). t && list_all p (filter q xs)) e ∙ rest h
     by_test rest true false e h = rest h
     by_test rest false b e h = absurd (true≢false (sym h))

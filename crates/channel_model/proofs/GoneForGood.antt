@@ -19,31 +19,49 @@ at_least : (n m : ℕ) → n ≤ m → nat_le n m ≡ true
 at_least n m h = grind (arith, nat_tests)
 
 -- an admission moves no offer
-admitted_all : (f : ℕ → Bool) (p : ℕ) (os : List Standing) → list_all (λ (o : Standing). f o.place) os ≡ true → list_all (λ (o : Standing). f o.place) (admitted p os) ≡ true
+admitted_all : (f : ℕ → Bool) (p : ℕ) (os : List Standing) → list_all (λ (o : Standing). f o.place) os ≡ true
+    → list_all (λ (o : Standing). f o.place) (admitted p os) ≡ true
 admitted_all f p [] h = refl
 admitted_all f p (o ∷ os) h = by_test (admitted_all f p os (all_rest (λ (o : Standing). f o.place) o os h)) (o.place == p)
   where
-    by_test : list_all (λ (o : Standing). f o.place) (admitted p os) ≡ true → (b : Bool) → list_all (λ (o : Standing). f o.place) (if b then record o { holder = None } ∷ os else o ∷ admitted p os) ≡ true
+    by_test : list_all (λ (o : Standing). f o.place) (admitted p os) ≡ true → (b : Bool)
+        → list_all (λ (o : Standing). f o.place) (if b then record o { holder = None } ∷ os else o ∷ admitted p os) ≡ true
     by_test rest true = h
     by_test rest false = all_more (λ (o : Standing). f o.place) o (admitted p os) (all_first (λ (o : Standing). f o.place) o os h) rest
 
 -- ---- below a place
 
-offer_below : (n m p places : ℕ) (b : Bool) (o : Standing) (ch : Channel) → HasPlace places p ch → o.place ≡ p → NoneBelow n m ch → NoneBelow n m (place_offer b o ch)
-offer_below n m p places false o ch h e x = record { given = let g = x.given in omega arith; given_offers = let g = x.given_offers in omega arith; receivers = x.receivers; offers = x.offers }
+offer_below : (n m p places : ℕ) (b : Bool) (o : Standing) (ch : Channel) → HasPlace places p ch → o.place ≡ p → NoneBelow n m ch
+    → NoneBelow n m (place_offer b o ch)
+offer_below n m p places false o ch h e x = record {
+  given = let g = x.given in omega arith;
+  given_offers = let g = x.given_offers
+      in omega arith;
+  receivers = x.receivers;
+  offers = x.offers;
+}
 offer_below n m p places true o ch h e x = record {
   given = let g = x.given in omega arith;
   given_offers = let g = x.given_offers in omega arith;
   receivers = x.receivers;
-  offers = all_push (λ (o : Standing). nat_le m o.place) ch.queue o x.offers (at_least m o.place (let g = x.given_offers in let f = h.first in omega arith));
+  offers = all_push (λ (o : Standing). nat_le m o.place) ch.queue o x.offers
+      (at_least m o.place (let g = x.given_offers in let f = h.first in omega arith));
 }
 
-receiver_below : (n m p places : ℕ) (b : Bool) (r : Receiver) (ch : Channel) → HasPlace places p ch → r.place ≡ p → NoneBelow n m ch → NoneBelow n m (place_receiver b r ch)
-receiver_below n m p places false r ch h e x = record { given = let g = x.given in omega arith; given_offers = let g = x.given_offers in omega arith; receivers = x.receivers; offers = x.offers }
+receiver_below : (n m p places : ℕ) (b : Bool) (r : Receiver) (ch : Channel) → HasPlace places p ch → r.place ≡ p → NoneBelow n m ch
+    → NoneBelow n m (place_receiver b r ch)
+receiver_below n m p places false r ch h e x = record {
+  given = let g = x.given in omega arith;
+  given_offers = let g = x.given_offers
+      in omega arith;
+  receivers = x.receivers;
+  offers = x.offers;
+}
 receiver_below n m p places true r ch h e x = record {
   given = let g = x.given in omega arith;
   given_offers = let g = x.given_offers in omega arith;
-  receivers = all_push (λ (r : Receiver). nat_le n r.place) ch.receivers r x.receivers (at_least n r.place (let g = x.given in let f = h.first in omega arith));
+  receivers = all_push (λ (r : Receiver). nat_le n r.place) ch.receivers r x.receivers
+      (at_least n r.place (let g = x.given in let f = h.first in omega arith));
   offers = x.offers;
 }
 
@@ -59,10 +77,23 @@ below_keeps shape n m = record {
     given = h.given;
     given_offers = h.given_offers;
     receivers = h.receivers;
-    offers = all_rest (λ (o : Standing). nat_le m o.place) o os (subst (λ (l : List Standing). list_all (λ (o : Standing). nat_le m o.place) l ≡ true) e h.offers);
+    offers = all_rest (λ (o : Standing). nat_le m o.place) o os
+        (subst (λ (l : List Standing). list_all (λ (o : Standing). nat_le m o.place) l ≡ true) e h.offers);
   };
-  admit = λ d p ch h. record { given = h.given; given_offers = h.given_offers; receivers = h.receivers; offers = admitted_all (nat_le m) p ch.queue h.offers };
-  spurn = λ d p ch h. record { given = h.given; given_offers = h.given_offers; receivers = h.receivers; offers = all_filter (λ (o : Standing). nat_le m o.place) (is_elsewhere p) ch.queue h.offers };
+  admit = λ d p ch h. record {
+    given = h.given;
+    given_offers = h.given_offers;
+    receivers = h.receivers;
+    offers =
+        admitted_all (nat_le m) p ch.queue h.offers;
+  };
+  spurn = λ d p ch h. record {
+    given = h.given;
+    given_offers = h.given_offers;
+    receivers = h.receivers;
+    offers =
+        all_filter (λ (o : Standing). nat_le m o.place) (is_elsewhere p) ch.queue h.offers;
+  };
   put = λ d p v ch h k x. offer_below n m p (places_at shape d) true (record { place = p; value = v; holder = None }) ch h refl x;
   offer = λ d p b o ch h k s e x. offer_below n m p (places_at shape d) b o ch h e x;
   await = λ d p b r ch h k e x. receiver_below n m p (places_at shape d) b r ch h e x;
@@ -75,9 +106,15 @@ below_keeps shape n m = record {
 pub elsewhere : (o : Standing) (p : ℕ) → (o.place ≡ p → ⊥) → is_elsewhere p o ≡ true
 elsewhere o p ne = ap not (ne_eqb o.place p ne)
 
-offer_elsewhere : (m p places : ℕ) (b : Bool) (o : Standing) (ch : Channel) → HasPlace places p ch → o.place ≡ p → NoOffer m ch → NoOffer m (place_offer b o ch)
+offer_elsewhere : (m p places : ℕ) (b : Bool) (o : Standing) (ch : Channel) → HasPlace places p ch → o.place ≡ p → NoOffer m ch
+    → NoOffer m (place_offer b o ch)
 offer_elsewhere m p places false o ch h e x = record { given = let g = x.given in omega arith; none = x.none }
-offer_elsewhere m p places true o ch h e x = record { given = let g = x.given in omega arith; none = all_push (is_elsewhere m) ch.queue o x.none (elsewhere o m (λ is. let g = x.given in let f = h.first in omega arith)) }
+offer_elsewhere m p places true o ch h e x = record {
+  given = let g = x.given
+      in omega arith;
+  none = all_push (is_elsewhere m) ch.queue o x.none
+      (elsewhere o m (λ is. let g = x.given in let f = h.first in omega arith));
+}
 
 receiver_elsewhere : (m : ℕ) (b : Bool) (r : Receiver) (ch : Channel) → NoOffer m ch → NoOffer m (place_receiver b r ch)
 receiver_elsewhere m true r ch x = record { given = let g = x.given in omega arith; none = x.none }
@@ -85,8 +122,16 @@ receiver_elsewhere m false r ch x = record { given = let g = x.given in omega ar
 
 pub none_keeps : (shape : Shape) (m : ℕ) → ChannelKeeps shape (λ d ch. NoOffer m ch)
 none_keeps shape m = record {
-  without = λ w d ch h. record { given = h.given; none = all_filter (is_elsewhere m) (λ (o : Standing). not (is_held_by w o.holder)) ch.queue h.none };
-  rest = λ d o os ch e h. record { given = h.given; none = all_rest (is_elsewhere m) o os (subst (λ (l : List Standing). list_all (is_elsewhere m) l ≡ true) e h.none) };
+  without = λ w d ch h. record {
+    given = h.given;
+    none =
+        all_filter (is_elsewhere m) (λ (o : Standing). not (is_held_by w o.holder)) ch.queue h.none;
+  };
+  rest = λ d o os ch e h. record {
+    given = h.given;
+    none =
+        all_rest (is_elsewhere m) o os (subst (λ (l : List Standing). list_all (is_elsewhere m) l ≡ true) e h.none);
+  };
   admit = λ d p ch h. record { given = h.given; none = admitted_all (λ n. not (n == m)) p ch.queue h.none };
   spurn = λ d p ch h. record { given = h.given; none = all_filter (is_elsewhere m) (is_elsewhere p) ch.queue h.none };
   put = λ d p v ch h k x. offer_elsewhere m p (places_at shape d) true (record { place = p; value = v; holder = None }) ch h refl x;
@@ -98,8 +143,10 @@ none_keeps shape m = record {
 
 -- ---- histories that go on
 
-pub below_lasts : (shape : Shape) (xs ys : List Entry) (c n m : ℕ) → Legal shape (xs ++ ys) → NoneBelow n m ((replay xs).channels c) → NoneBelow n m ((replay (xs ++ ys)).channels c)
+pub below_lasts : (shape : Shape) (xs ys : List Entry) (c n m : ℕ) → Legal shape (xs ++ ys) → NoneBelow n m ((replay xs).channels c)
+    → NoneBelow n m ((replay (xs ++ ys)).channels c)
 below_lasts shape xs ys c n m l h = channel_lasts shape (λ d ch. NoneBelow n m ch) (below_keeps shape n m) c xs (xs ++ ys) (ys, refl) l h
 
-pub none_lasts : (shape : Shape) (xs ys : List Entry) (c p : ℕ) → Legal shape (xs ++ ys) → NoOffer p ((replay xs).channels c) → NoOffer p ((replay (xs ++ ys)).channels c)
+pub none_lasts : (shape : Shape) (xs ys : List Entry) (c p : ℕ) → Legal shape (xs ++ ys) → NoOffer p ((replay xs).channels c)
+    → NoOffer p ((replay (xs ++ ys)).channels c)
 none_lasts shape xs ys c p l h = channel_lasts shape (λ d ch. NoOffer p ch) (none_keeps shape p) c xs (xs ++ ys) (ys, refl) l h

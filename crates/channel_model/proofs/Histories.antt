@@ -16,16 +16,19 @@ pub replay_push : (xs : List Entry) (e : Entry) → replay (xs ++ e ∷ []) ≡ 
 unfolding replay_from
 replay_push xs e = replay_from-append start xs (e ∷ [])
 
-pub LegalFrom-append : (shape : Shape) (s : State) (xs ys : List Entry) → LegalFrom shape s xs → LegalFrom shape (replay_from s xs) ys → LegalFrom shape s (xs ++ ys)
+pub LegalFrom-append : (shape : Shape) (s : State) (xs ys : List Entry) → LegalFrom shape s xs → LegalFrom shape (replay_from s xs) ys
+    → LegalFrom shape s (xs ++ ys)
 unfolding replay_from LegalFrom
 LegalFrom-append shape s [] ys h k = k
 LegalFrom-append shape s (e ∷ es) ys h k = (h.0, LegalFrom-append shape (after s e.who e.act) es ys h.1 k)
 
-pub Legal_push : (shape : Shape) (xs : List Entry) (e : Entry) → Legal shape xs → Needs shape (replay xs) e.who e.act → Legal shape (xs ++ e ∷ [])
+pub Legal_push : (shape : Shape) (xs : List Entry) (e : Entry) → Legal shape xs → Needs shape (replay xs) e.who e.act
+    → Legal shape (xs ++ e ∷ [])
 unfolding replay_from LegalFrom
 Legal_push shape xs e h k = LegalFrom-append shape start xs (e ∷ []) h (k, tt)
 
-pub LegalFrom-parts : (shape : Shape) (s : State) (xs ys : List Entry) → LegalFrom shape s (xs ++ ys) → LegalFrom shape s xs × LegalFrom shape (replay_from s xs) ys
+pub LegalFrom-parts : (shape : Shape) (s : State) (xs ys : List Entry) → LegalFrom shape s (xs ++ ys) → LegalFrom shape s xs
+    × LegalFrom shape (replay_from s xs) ys
 unfolding replay_from LegalFrom
 LegalFrom-parts shape s [] ys h = (tt, h)
 LegalFrom-parts shape s (e ∷ es) ys h = let r = LegalFrom-parts shape (after s e.who e.act) es ys h.1 in ((h.0, r.0), r.1)
@@ -34,10 +37,12 @@ pub acts_of-append : (who : ℕ) (xs ys : List Entry) → acts_of who (xs ++ ys)
 unfolding acts_of
 acts_of-append who [] ys = refl
 acts_of-append who (e ∷ es) ys =
-    elim (e.who == who) as (λ b. (if b then e.act ∷ acts_of who (es ++ ys) else acts_of who (es ++ ys)) ≡ (if b then e.act ∷ acts_of who es else acts_of who es) ++ acts_of who ys)
+    elim (e.who == who) as (λ b. (if b then e.act ∷ acts_of who (es ++ ys) else acts_of who (es ++ ys)) ≡
+    (if b then e.act ∷ acts_of who es else acts_of who es) ++ acts_of who ys)
     [ true ↦ ap (λ l. e.act ∷ l) (acts_of-append who es ys) | false ↦ acts_of-append who es ys ]
 
-pub Legal-last : (shape : Shape) (es : List Entry) (e : Entry) → Legal shape (es ++ e ∷ []) → Legal shape es × Needs shape (replay es) e.who e.act
+pub Legal-last : (shape : Shape) (es : List Entry) (e : Entry) → Legal shape (es ++ e ∷ []) → Legal shape es
+    × Needs shape (replay es) e.who e.act
 unfolding LegalFrom replay_from
 Legal-last shape es e l = let r = LegalFrom-parts shape start es (e ∷ []) l in (r.0, r.1.0)
 

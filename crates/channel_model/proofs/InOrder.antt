@@ -27,7 +27,8 @@ module _ {X : Type 0} (number : X → ℕ) where
   ascends_filter keep p n [] b = b
   ascends_filter keep p n (x ∷ xs) b = by_test (keep x) (ascends_filter keep (number x + 1) n xs b.1)
     where
-      by_test : (t : Bool) → Ascends number (number x + 1) n (filter keep xs) → Ascends number p n (cond t (x ∷ filter keep xs) (filter keep xs))
+      by_test : (t : Bool) → Ascends number (number x + 1) n (filter keep xs)
+          → Ascends number p n (cond t (x ∷ filter keep xs) (filter keep xs))
       by_test true r = (b.0, r)
       by_test false r = ascends_lower (number x + 1) p n (filter keep xs) (let k = b.0 in omega arith) r
 
@@ -49,7 +50,8 @@ ascends_admitted : (at p n : ℕ) (os : List Standing) → Ascends place_of p n 
 ascends_admitted at p n [] b = b
 ascends_admitted at p n (o ∷ os) b = by_test (o.place == at) (ascends_admitted at (o.place + 1) n os b.1)
   where
-    by_test : (t : Bool) → Ascends place_of (o.place + 1) n (admitted at os) → Ascends place_of p n (if t then record o { holder = None } ∷ os else o ∷ admitted at os)
+    by_test : (t : Bool) → Ascends place_of (o.place + 1) n (admitted at os)
+        → Ascends place_of p n (if t then record o { holder = None } ∷ os else o ∷ admitted at os)
     by_test true r = b
     by_test false r = (b.0, r)
 
@@ -64,7 +66,8 @@ admitted_none at os e = ap (admitted at) e
 rest_none : (o : Standing) (os : List Standing) (q : List Standing) → q ≡ o ∷ os → q ≡ [] → os ≡ []
 rest_none o os q e f = cc
 
-offer_in_order : (p places : ℕ) (b : Bool) (o : Standing) (ch : Channel) → HasPlace places p ch → ch.receivers ≡ [] → o.place ≡ p → StandsInOrder ch → StandsInOrder (place_offer b o ch)
+offer_in_order : (p places : ℕ) (b : Bool) (o : Standing) (ch : Channel) → HasPlace places p ch → ch.receivers ≡ [] → o.place ≡ p
+    → StandsInOrder ch → StandsInOrder (place_offer b o ch)
 offer_in_order p places true o ch h n e x = record {
   offers = ascends_push place_of 0 ch.next ch.queue o (e ∙ h.first) x.offers;
   receivers = ascends_more receiver_place 0 ch.next (ch.next + 1) ch.receivers (omega arith) x.receivers;
@@ -76,7 +79,8 @@ offer_in_order p places false o ch h n e x = record {
   one_side = inr n;
 }
 
-receiver_in_order : (p places : ℕ) (b : Bool) (r : Receiver) (ch : Channel) → HasPlace places p ch → ch.queue ≡ [] → r.place ≡ p → StandsInOrder ch → StandsInOrder (place_receiver b r ch)
+receiver_in_order : (p places : ℕ) (b : Bool) (r : Receiver) (ch : Channel) → HasPlace places p ch → ch.queue ≡ [] → r.place ≡ p
+    → StandsInOrder ch → StandsInOrder (place_receiver b r ch)
 receiver_in_order p places true r ch h n e x = record {
   offers = ascends_more place_of 0 ch.next (ch.next + 1) ch.queue (omega arith) x.offers;
   receivers = ascends_push receiver_place 0 ch.next ch.receivers r (e ∙ h.first) x.receivers;
@@ -93,10 +97,12 @@ order_keeps shape = record {
   without = λ w d ch h. record {
     offers = ascends_filter place_of (λ (o : Standing). not (is_held_by w o.holder)) 0 ch.next ch.queue h.offers;
     receivers = ascends_filter receiver_place (λ (r : Receiver). not (same_wait w r.party.wait)) 0 ch.next ch.receivers h.receivers;
-    one_side = ⊎_elim (λ e. inl (filter_none (λ (o : Standing). not (is_held_by w o.holder)) ch.queue e)) (λ e. inr (filter_none (λ (r : Receiver). not (same_wait w r.party.wait)) ch.receivers e)) h.one_side;
+    one_side = ⊎_elim (λ e. inl (filter_none (λ (o : Standing). not (is_held_by w o.holder)) ch.queue e))
+        (λ e. inr (filter_none (λ (r : Receiver). not (same_wait w r.party.wait)) ch.receivers e)) h.one_side;
   };
   rest = λ d o os ch e h. record {
-    offers = let b : Ascends place_of 0 ch.next (o ∷ os) = subst (Ascends place_of 0 ch.next) e h.offers in ascends_lower place_of (o.place + 1) 0 ch.next os (omega arith) b.1;
+    offers = let b : Ascends place_of 0 ch.next (o ∷ os) = subst (Ascends place_of 0 ch.next) e h.offers
+        in ascends_lower place_of (o.place + 1) 0 ch.next os (omega arith) b.1;
     receivers = h.receivers;
     one_side = ⊎_elim (λ f. inl (rest_none o os ch.queue e f)) (λ f. inr f) h.one_side;
   };
@@ -121,5 +127,6 @@ order_keeps shape = record {
 
 pub replay_in_order : (shape : Shape) (history : List Entry) (c : ℕ) → Legal shape history → StandsInOrder ((replay history).channels c)
 replay_in_order shape history c l =
-    lasts_from shape (λ s. StandsInOrder (s.channels c)) (record { step = λ s who act h n p. after_keeps shape (λ d ch. StandsInOrder ch) (order_keeps shape) s who act c n p })
+    lasts_from shape (λ s. StandsInOrder (s.channels c)) (record
+    { step = λ s who act h n p. after_keeps shape (λ d ch. StandsInOrder ch) (order_keeps shape) s who act c n p })
     start history l (sound_start shape) (record { offers = omega arith; receivers = omega arith; one_side = inl refl })

@@ -18,7 +18,8 @@ some_lasts None y h e = cc
 some_lasts (Some v) y h e = ap is_some (h v refl)
 
 pub closed_lasts : (c : ℕ) (a b : Floor) → Legal b.shape b.seen → IsPrefix a.seen b.seen → IsSeenClosed c a → IsSeenClosed c b
-closed_lasts c a b l p h = some_lasts _ _ (λ v. channel_lasts b.shape (λ d ch. ch.closed ≡ Some v) (closed_keeps b.shape v) c a.seen b.seen p l) h
+closed_lasts c a b l p h = some_lasts _ _ (λ v. channel_lasts b.shape (λ d ch. ch.closed ≡ Some v) (closed_keeps b.shape v) c a.seen b.seen
+    p l) h
 
 pub voided_lasts : (c : ℕ) (a b : Floor) → Legal b.shape b.seen → IsPrefix a.seen b.seen → IsSeenVoided c a → IsSeenVoided c b
 voided_lasts c a b l p h = channel_lasts b.shape (λ d ch. ch.voided ≡ true) (voided_keeps b.shape) c a.seen b.seen p l h
@@ -27,13 +28,18 @@ voided_lasts c a b l p h = channel_lasts b.shape (λ d ch. ch.voided ≡ true) (
 pub close_made : (who c v : ℕ) (a b : Floor) → Made who (Close c v) a b → IsSeenClosed c b
 close_made who c v a b m =
     let last : Entry = record { who = who; act = Close c v } in
-    let at : ((after (replay m.before) who (Close c v)).channels c).closed ≡ Some v = ap (λ b. (if b then record ((replay m.before).channels c) { closed = Some v } else (replay m.before).channels c).closed) (same_number c) in
-    ap (λ es. is_some ((replay es).channels c).closed) m.last ∙ ap (λ (s : State). is_some (s.channels c).closed) (replay_push m.before last) ∙ ap is_some at
+    let at : ((after (replay m.before) who (Close c v)).channels c).closed ≡ Some v =
+    ap (λ b. (if b then record ((replay m.before).channels c) { closed = Some v } else (replay m.before).channels c).closed)
+    (same_number c) in
+    ap (λ es. is_some ((replay es).channels c).closed) m.last
+    ∙ ap (λ (s : State). is_some (s.channels c).closed) (replay_push m.before last) ∙ ap is_some at
 
 pub void_made : (who c : ℕ) (a b : Floor) → Made who (Void c) a b → IsSeenVoided c b
 void_made who c a b m =
     let last : Entry = record { who = who; act = Void c } in
-    let at : ((after (replay m.before) who (Void c)).channels c).voided ≡ true = ap (λ b. (if b then record ((replay m.before).channels c) { voided = true } else (replay m.before).channels c).voided) (same_number c) in
+    let at : ((after (replay m.before) who (Void c)).channels c).voided ≡ true =
+    ap (λ b. (if b then record ((replay m.before).channels c) { voided = true } else (replay m.before).channels c).voided)
+    (same_number c) in
     ap (λ es. ((replay es).channels c).voided) m.last ∙ ap (λ (s : State). (s.channels c).voided) (replay_push m.before last) ∙ at
 
 -- a channel that was seen voided was seen closed

@@ -29,6 +29,7 @@ pub mod Marks
 pub mod Left
 pub mod LeftOnFloors
 pub mod ClosedWaits
+pub mod OneClause
 pub mod Leads
 pub mod UpTo
 pub mod Puts

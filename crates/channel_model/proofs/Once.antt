@@ -43,15 +43,13 @@ JoinsWait-prop who k c None = hlevel props
 JoinsWait-prop who k c (Some x) = hlevel props
 
 MayName-prop : (who k c p : ℕ) (w : WaitId) (s : State) → IsProp (MayName who k c p w s)
-MayName-prop who k c p w s = MatchBool-prop (same_wait w (record { channel = c; place = p })) (hlevel props) (JoinsWait-prop who k c (s.waits w))
+MayName-prop who k c p w s = MatchBool-prop (same_wait w (record { channel = c; place = p })) (hlevel props)
+    (JoinsWait-prop who k c (s.waits w))
 
 IsOutcome-prop : (outcome : Settled) (how : Option Resolution) → IsProp (IsOutcome outcome how)
 IsOutcome-prop outcome None = hlevel props
 IsOutcome-prop (settled.Value k v) (Some how) = hlevel props
-IsOutcome-prop (settled.Sent k) (Some how) = hlevel props
-IsOutcome-prop (settled.Closed k v) (Some how) = hlevel props
-IsOutcome-prop (settled.Undelivered v) (Some how) = hlevel props
-IsOutcome-prop settled.Cancelled (Some how) = hlevel props
+IsOutcome-prop other (Some how) = hlevel props
 
 IsOpenOf-prop : (who : ℕ) (x : Option Wait) → IsProp (IsOpenOf who x)
 IsOpenOf-prop who None = hlevel props

@@ -33,7 +33,8 @@ unfolding LegalFrom replay_from resolutions_from
 resolutions_add shape w s [] h l = omega arith
 resolutions_add shape w s (e ∷ es) h l =
     let rest = resolutions_add shape w (after s e.who e.act) es (after_open s e.who e.act h) l.1 in
-    let first = counted_one is_resolved IsResolvedWait resolved_is w (resolves s e.act) s.waits (after s e.who e.act).waits (resolves_turns shape s e.who e.act h l.0)
+    let first = counted_one is_resolved IsResolvedWait resolved_is w (resolves s e.act) s.waits (after s e.who e.act).waits
+    (resolves_turns shape s e.who e.act h l.0)
     (always_keeps shape IsResolvedWait resolved_stays e.who w s e.act l.0) (resolved_before s e.who e.act w) in
     omega arith
 
@@ -43,18 +44,23 @@ unfolding LegalFrom replay_from settlements_of
 settlements_add shape w s [] l = omega arith
 settlements_add shape w s (e ∷ es) l =
     let rest = settlements_add shape w (after s e.who e.act) es l.1 in
-    let first = counted_one has_ended IsSettledWait ended_is w (settles e.act) s.waits (after s e.who e.act).waits (settles_turns shape s e.who e.act l.0)
+    let first = counted_one has_ended IsSettledWait ended_is w (settles e.act) s.waits (after s e.who e.act).waits
+    (settles_turns shape s e.who e.act l.0)
     (always_keeps shape IsSettledWait settled_stays e.who w s e.act l.0) (settled_before s e.who e.act w) in
     omega arith
 
 iff_then : {P Q R : Type 0} → (P ↔ Q) → (Q ↔ R) → P ↔ R
 iff_then h k = (λ p. k.0 (h.0 p), λ r. h.1 (k.1 r))
 
-resolutions_one : (shape : Shape) (history : List Entry) (w : WaitId) → Legal shape history → (resolutions_of w history ≤ 1) × ((resolutions_of w history ≡ 1) ↔ (is_resolved ((replay history).waits w) ≡ true))
-resolutions_one shape history w l = one_entry (is_resolved ((replay history).waits w)) (resolutions_of w history) (resolutions_add shape w start history start_open l)
+resolutions_one : (shape : Shape) (history : List Entry) (w : WaitId) → Legal shape history → (resolutions_of w history ≤ 1)
+    × ((resolutions_of w history ≡ 1) ↔ (is_resolved ((replay history).waits w) ≡ true))
+resolutions_one shape history w l = one_entry (is_resolved ((replay history).waits w)) (resolutions_of w history)
+    (resolutions_add shape w start history start_open l)
 
-settlements_one : (shape : Shape) (history : List Entry) (w : WaitId) → Legal shape history → (settlements_of w history ≤ 1) × ((settlements_of w history ≡ 1) ↔ (has_ended ((replay history).waits w) ≡ true))
-settlements_one shape history w l = one_entry (has_ended ((replay history).waits w)) (settlements_of w history) (settlements_add shape w start history l)
+settlements_one : (shape : Shape) (history : List Entry) (w : WaitId) → Legal shape history → (settlements_of w history ≤ 1)
+    × ((settlements_of w history ≡ 1) ↔ (has_ended ((replay history).waits w) ≡ true))
+settlements_one shape history w l = one_entry (has_ended ((replay history).waits w)) (settlements_of w history)
+    (settlements_add shape w start history l)
 
 pub resolutions_of_bound : (shape : Shape) (history : List Entry) (w : WaitId) → Legal shape history → resolutions_of w history ≤ 1
 resolutions_of_bound shape history w l = (resolutions_one shape history w l).0
@@ -62,10 +68,12 @@ resolutions_of_bound shape history w l = (resolutions_one shape history w l).0
 pub settlements_of_bound : (shape : Shape) (history : List Entry) (w : WaitId) → Legal shape history → settlements_of w history ≤ 1
 settlements_of_bound shape history w l = (settlements_one shape history w l).0
 
-pub resolved_by_one : (shape : Shape) (history : List Entry) (w : WaitId) → Legal shape history → (resolutions_of w history ≡ 1) ↔ IsResolvedWait ((replay history).waits w)
+pub resolved_by_one : (shape : Shape) (history : List Entry) (w : WaitId) → Legal shape history
+    → (resolutions_of w history ≡ 1) ↔ IsResolvedWait ((replay history).waits w)
 resolved_by_one shape history w l = iff_then (resolutions_one shape history w l).1 (resolved_is ((replay history).waits w))
 
-pub settled_by_one : (shape : Shape) (history : List Entry) (w : WaitId) → Legal shape history → (settlements_of w history ≡ 1) ↔ IsSettledWait ((replay history).waits w)
+pub settled_by_one : (shape : Shape) (history : List Entry) (w : WaitId) → Legal shape history
+    → (settlements_of w history ≡ 1) ↔ IsSettledWait ((replay history).waits w)
 settled_by_one shape history w l = iff_then (settlements_one shape history w l).1 (ended_is ((replay history).waits w))
 
 -- ---- channels
@@ -77,68 +85,93 @@ record Ends (closing voiding : Bool) (ch ch' : Channel) : Type 0 where
 
 as_open : (ch ch' : Channel) → ch'.closed ≡ ch.closed → ch'.voided ≡ ch.voided → Ends false false ch ch'
 as_open ch ch' e f = record {
-  closed = let k : ◌≡◌ {A = ℕ} (cond (is_some ch'.closed) 1 0) (cond (is_some ch.closed) 1 0) = ap (λ (x : Option ℕ). cond (is_some x) 1 0) e in omega arith;
+  closed = let k : ◌≡◌ {A = ℕ} (cond (is_some ch'.closed) 1 0) (cond (is_some ch.closed) 1 0) =
+      ap (λ (x : Option ℕ). cond (is_some x) 1 0) e in omega arith;
   voided = let k : ◌≡◌ {A = ℕ} (cond ch'.voided 1 0) (cond ch.voided 1 0) = ap (λ b. cond b 1 0) f in omega arith;
 }
 
 ends_then : (a b : Bool) (x y z : Channel) → Ends false false x y → Ends a b y z → Ends a b x z
-ends_then a b x y z h k = record { closed = let m = h.closed in let n = k.closed in omega arith; voided = let m = h.voided in let n = k.voided in omega arith }
+ends_then a b x y z h k = record {
+  closed = let m = h.closed in let n = k.closed in omega arith;
+  voided = let m = h.voided
+      in let n = k.voided in omega arith;
+}
 
-first_ends : (c : ℕ) (rs : List Receiver) (how : ℕ → Resolution) (s : State) → Ends false false (s.channels c) ((resolve_first rs how s).channels c)
+first_ends : (c : ℕ) (rs : List Receiver) (how : ℕ → Resolution) (s : State)
+    → Ends false false (s.channels c) ((resolve_first rs how s).channels c)
 first_ends c [] how s = as_open (s.channels c) _ refl refl
 first_ends c (r ∷ rs) how s = as_open (s.channels c) _ refl refl
 
-holder_ends : (c : ℕ) (p : Option Party) (how : ℕ → Resolution) (s : State) → Ends false false (s.channels c) ((resolve_holder p how s).channels c)
+holder_ends : (c : ℕ) (p : Option Party) (how : ℕ → Resolution) (s : State)
+    → Ends false false (s.channels c) ((resolve_holder p how s).channels c)
 holder_ends c None how s = as_open (s.channels c) _ refl refl
 holder_ends c (Some p) how s = as_open (s.channels c) _ refl refl
 
-put_open : (d c : ℕ) (x : Channel) (s : State) → x.closed ≡ (s.channels d).closed → x.voided ≡ (s.channels d).voided → Ends false false (s.channels c) (put_channel d x s.channels c)
+put_open : (d c : ℕ) (x : Channel) (s : State) → x.closed ≡ (s.channels d).closed → x.voided ≡ (s.channels d).voided
+    → Ends false false (s.channels c) (put_channel d x s.channels c)
 put_open d c x s e f = by_test (d == c) refl
   where
     by_test : (t : Bool) → (d == c) ≡ t → Ends false false (s.channels c) (if t then x else s.channels c)
     by_test true k = subst (λ n. Ends false false (s.channels n) x) (eqb-true d c k) (as_open (s.channels d) x e f)
     by_test false k = as_open (s.channels c) (s.channels c) refl refl
 
-offer_ends : (d c : ℕ) (os : List Standing) (how : ℕ → Resolution) (s : State) → Ends false false (s.channels c) ((resolve_offer d os how s).channels c)
+offer_ends : (d c : ℕ) (os : List Standing) (how : ℕ → Resolution) (s : State)
+    → Ends false false (s.channels c) ((resolve_offer d os how s).channels c)
 offer_ends d c [] how s = as_open (s.channels c) _ refl refl
-offer_ends d c (o ∷ os) how s = ends_then false false (s.channels c) ((with_queue d os s).channels c) _ (put_open d c (record (s.channels d) { queue = os }) s refl refl) (holder_ends c o.holder how (with_queue d os s))
+offer_ends d c (o ∷ os) how s = ends_then false false (s.channels c) ((with_queue d os s).channels c) _
+    (put_open d c (record (s.channels d) { queue = os }) s refl refl) (holder_ends c o.holder how (with_queue d os s))
 
 removed_ends : (d c : ℕ) (os : List Standing) (s : State) → Ends false false (s.channels c) ((remove_first d os s).channels c)
 removed_ends d c [] s = as_open (s.channels c) _ refl refl
 removed_ends d c (o ∷ os) s = put_open d c (record (s.channels d) { queue = os }) s refl refl
 
-offered_ends : (b : Bool) (o : Standing) (ch : Channel) → ((place_offer b o ch).closed ≡ ch.closed) × ((place_offer b o ch).voided ≡ ch.voided)
+offered_ends : (b : Bool) (o : Standing) (ch : Channel) → ((place_offer b o ch).closed ≡ ch.closed)
+    × ((place_offer b o ch).voided ≡ ch.voided)
 offered_ends true o ch = (refl, refl)
 offered_ends false o ch = (refl, refl)
 
-awaited_ends : (b : Bool) (r : Receiver) (ch : Channel) → ((place_receiver b r ch).closed ≡ ch.closed) × ((place_receiver b r ch).voided ≡ ch.voided)
+awaited_ends : (b : Bool) (r : Receiver) (ch : Channel) → ((place_receiver b r ch).closed ≡ ch.closed)
+    × ((place_receiver b r ch).voided ≡ ch.voided)
 awaited_ends true r ch = (refl, refl)
 awaited_ends false r ch = (refl, refl)
 
-closing : (d c v : ℕ) (s : State) → (s.channels d).closed ≡ None → Ends (d == c) false (s.channels c) (put_channel d (record (s.channels d) { closed = Some v }) s.channels c)
+closing : (d c v : ℕ) (s : State) → (s.channels d).closed ≡ None
+    → Ends (d == c) false (s.channels c) (put_channel d (record (s.channels d) { closed = Some v }) s.channels c)
 closing d c v s e = by_test (d == c) refl
   where
-    by_test : (t : Bool) → (d == c) ≡ t → Ends t false (s.channels c) (if t then record (s.channels d) { closed = Some v } else s.channels c)
+    by_test : (t : Bool) → (d == c) ≡ t → Ends t false (s.channels c)
+        (if t then record (s.channels d) { closed = Some v } else s.channels c)
     by_test true k = subst (λ n. Ends true false (s.channels n) (record (s.channels d) { closed = Some v })) (eqb-true d c k)
-        (record { closed = let m : ◌≡◌ {A = ℕ} (cond (is_some (s.channels d).closed) 1 0) 0 = ap (λ (x : Option ℕ). cond (is_some x) 1 0) e in omega arith; voided = omega arith })
+        (record {
+          closed = let m : ◌≡◌ {A = ℕ} (cond (is_some (s.channels d).closed) 1 0) 0 = ap (λ (x : Option ℕ). cond (is_some x) 1 0) e
+              in omega arith;
+          voided = omega arith;
+        })
     by_test false k = as_open (s.channels c) (s.channels c) refl refl
 
-voiding : (d c : ℕ) (s : State) → (s.channels d).voided ≡ false → Ends false (d == c) (s.channels c) (put_channel d (record (s.channels d) { voided = true }) s.channels c)
+voiding : (d c : ℕ) (s : State) → (s.channels d).voided ≡ false
+    → Ends false (d == c) (s.channels c) (put_channel d (record (s.channels d) { voided = true }) s.channels c)
 voiding d c s e = by_test (d == c) refl
   where
     by_test : (t : Bool) → (d == c) ≡ t → Ends false t (s.channels c) (if t then record (s.channels d) { voided = true } else s.channels c)
     by_test true k = subst (λ n. Ends false true (s.channels n) (record (s.channels d) { voided = true })) (eqb-true d c k)
-        (record { closed = omega arith; voided = let m : ◌≡◌ {A = ℕ} (cond (s.channels d).voided 1 0) 0 = ap (λ b. cond b 1 0) e in omega arith })
+        (record {
+          closed = omega arith;
+          voided = let m : ◌≡◌ {A = ℕ} (cond (s.channels d).voided 1 0) 0 = ap (λ b. cond b 1 0) e
+              in omega arith;
+        })
     by_test false k = as_open (s.channels c) (s.channels c) refl refl
 
-act_ends : (shape : Shape) (s : State) (who : ℕ) (act : Act) (c : ℕ) → Needs shape s who act → Ends (closes c act) (voids c act) (s.channels c) ((after s who act).channels c)
+act_ends : (shape : Shape) (s : State) (who : ℕ) (act : Act) (c : ℕ) → Needs shape s who act
+    → Ends (closes c act) (voids c act) (s.channels c) ((after s who act).channels c)
 act_ends shape s who (Hand d p v) c n = first_ends c (s.channels d).receivers _ s
 act_ends shape s who (Put d p v) c n = put_open d c _ s refl refl
 act_ends shape s who (Offer d p v w k) c n = let e = offered_ends (is_open (s.waits w)) _ (s.channels d) in put_open d c _ s e.0 e.1
 act_ends shape s who (Await d p w k) c n = let e = awaited_ends (is_open (s.waits w)) _ (s.channels d) in put_open d c _ s e.0 e.1
 act_ends shape s who (Take d p v) c n = offer_ends d c (s.channels d).queue _ s
 act_ends shape s who (Admit d p) c n =
-    ends_then false false (s.channels c) ((with_queue d (admitted p (s.channels d).queue) s).channels c) _ (put_open d c (record (s.channels d) { queue = admitted p (s.channels d).queue }) s refl refl)
+    ends_then false false (s.channels c) ((with_queue d (admitted p (s.channels d).queue) s).channels c) _
+    (put_open d c (record (s.channels d) { queue = admitted p (s.channels d).queue }) s refl refl)
     (holder_ends c (holder_at p (s.channels d).queue) _ (with_queue d (admitted p (s.channels d).queue) s))
 act_ends shape s who (Drop d p v) c n = removed_ends d c (s.channels d).queue s
 act_ends shape s who (Spurn d p v) c n = put_open d c _ s refl refl
@@ -150,7 +183,8 @@ act_ends shape s who (Withdraw w why) c n = as_open (s.channels c) _ refl refl
 act_ends shape s who (Settle w outcome) c n = as_open (s.channels c) _ refl refl
 
 ends_add : (shape : Shape) (c : ℕ) (s : State) (es : List Entry) → LegalFrom shape s es
-    → (◌≡◌ {A = ℕ} (cond (is_some ((replay_from s es).channels c).closed) 1 0) (cond (is_some (s.channels c).closed) 1 0 + closings_of c es))
+    → (◌≡◌ {A = ℕ} (cond (is_some ((replay_from s es).channels c).closed) 1 0)
+    (cond (is_some (s.channels c).closed) 1 0 + closings_of c es))
     × (◌≡◌ {A = ℕ} (cond ((replay_from s es).channels c).voided 1 0) (cond (s.channels c).voided 1 0 + voidings_of c es))
 unfolding LegalFrom replay_from
 ends_add shape c s [] l = (omega arith, omega arith)
@@ -159,16 +193,21 @@ ends_add shape c s (e ∷ es) l =
     let first = act_ends shape s e.who e.act c l.0 in
     (let m = first.closed in let n = rest.0 in omega arith, let m = first.voided in let n = rest.1 in omega arith)
 
-closings_one : (shape : Shape) (history : List Entry) (c : ℕ) → Legal shape history → (closings_of c history ≤ 1) × ((closings_of c history ≡ 1) ↔ (is_some ((replay history).channels c).closed ≡ true))
-closings_one shape history c l = one_entry (is_some ((replay history).channels c).closed) (closings_of c history) (ends_add shape c start history l).0
+closings_one : (shape : Shape) (history : List Entry) (c : ℕ) → Legal shape history → (closings_of c history ≤ 1)
+    × ((closings_of c history ≡ 1) ↔ (is_some ((replay history).channels c).closed ≡ true))
+closings_one shape history c l = one_entry (is_some ((replay history).channels c).closed) (closings_of c history)
+    (ends_add shape c start history l).0
 
-voidings_one : (shape : Shape) (history : List Entry) (c : ℕ) → Legal shape history → (voidings_of c history ≤ 1) × ((voidings_of c history ≡ 1) ↔ (((replay history).channels c).voided ≡ true))
+voidings_one : (shape : Shape) (history : List Entry) (c : ℕ) → Legal shape history → (voidings_of c history ≤ 1)
+    × ((voidings_of c history ≡ 1) ↔ (((replay history).channels c).voided ≡ true))
 voidings_one shape history c l = one_entry ((replay history).channels c).voided (voidings_of c history) (ends_add shape c start history l).1
 
-pub closed_by_one : (shape : Shape) (history : List Entry) (c : ℕ) → Legal shape history → (closings_of c history ≡ 1) ↔ (is_some ((replay history).channels c).closed ≡ true)
+pub closed_by_one : (shape : Shape) (history : List Entry) (c : ℕ) → Legal shape history
+    → (closings_of c history ≡ 1) ↔ (is_some ((replay history).channels c).closed ≡ true)
 closed_by_one shape history c l = (closings_one shape history c l).1
 
-pub voided_by_one : (shape : Shape) (history : List Entry) (c : ℕ) → Legal shape history → (voidings_of c history ≡ 1) ↔ (((replay history).channels c).voided ≡ true)
+pub voided_by_one : (shape : Shape) (history : List Entry) (c : ℕ) → Legal shape history
+    → (voidings_of c history ≡ 1) ↔ (((replay history).channels c).voided ≡ true)
 voided_by_one shape history c l = (voidings_one shape history c l).1
 
 pub closings_of_bound : (shape : Shape) (history : List Entry) (c : ℕ) → Legal shape history → closings_of c history ≤ 1
@@ -177,5 +216,6 @@ closings_of_bound shape history c l = (closings_one shape history c l).0
 pub voidings_of_bound : (shape : Shape) (history : List Entry) (c : ℕ) → Legal shape history → voidings_of c history ≤ 1
 voidings_of_bound shape history c l = (voidings_one shape history c l).0
 
-pub endings_of_bound : (shape : Shape) (history : List Entry) (c : ℕ) → Legal shape history → closings_of c history + voidings_of c history ≤ 2
+pub endings_of_bound : (shape : Shape) (history : List Entry) (c : ℕ) → Legal shape history
+    → closings_of c history + voidings_of c history ≤ 2
 endings_of_bound shape history c l = omega (arith, closings_of_bound shape history c l, voidings_of_bound shape history c l)

@@ -55,22 +55,26 @@ within t (suc n) (o ∷ os) = t o || within t n os
 more : (t : Standing → Bool) (n : ℕ) (q : List Standing) → within t n q ≡ true → within t (suc n) q ≡ true
 more t n [] e = cc
 more t zero (o ∷ os) e = or_left (t o) (within t zero os) e
-more t (suc n) (o ∷ os) e = ⊎_elim (λ a. or_left (t o) (within t (suc n) os) a) (λ b. or_right (t o) (within t (suc n) os) (more t n os b)) (or_case (t o) (within t n os) e)
+more t (suc n) (o ∷ os) e = ⊎_elim (λ a. or_left (t o) (within t (suc n) os) a) (λ b. or_right (t o) (within t (suc n) os) (more t n os b))
+    (or_case (t o) (within t n os) e)
 
-rest_or : (t : Standing → Bool) (n : ℕ) (o : Standing) (os : List Standing) → within t n (o ∷ os) ≡ true → (t o ≡ true) ⊎ (within t n os ≡ true)
+rest_or : (t : Standing → Bool) (n : ℕ) (o : Standing) (os : List Standing) → within t n (o ∷ os) ≡ true → (t o ≡ true)
+    ⊎ (within t n os ≡ true)
 rest_or t zero o os e = inl e
 rest_or t (suc n) o os e = ⊎_elim (λ a. inl a) (λ b. inr (more t n os b)) (or_case (t o) (within t n os) e)
 
 pushed : (t : Standing → Bool) (n : ℕ) (q : List Standing) (x : Standing) → within t n q ≡ true → within t n (q ++ x ∷ []) ≡ true
 pushed t n [] x e = cc
 pushed t zero (o ∷ os) x e = e
-pushed t (suc n) (o ∷ os) x e = ⊎_elim (λ a. or_left (t o) (within t n (os ++ x ∷ [])) a) (λ b. or_right (t o) (within t n (os ++ x ∷ [])) (pushed t n os x b)) (or_case (t o) (within t n os) e)
+pushed t (suc n) (o ∷ os) x e = ⊎_elim (λ a. or_left (t o) (within t n (os ++ x ∷ [])) a)
+    (λ b. or_right (t o) (within t n (os ++ x ∷ [])) (pushed t n os x b)) (or_case (t o) (within t n os) e)
 
 placed_last : (t : Standing → Bool) (q : List Standing) (x : Standing) → t x ≡ true → within t (length q) (q ++ x ∷ []) ≡ true
 placed_last t [] x e = e
 placed_last t (o ∷ os) x e = or_right (t o) (within t (length os) (os ++ x ∷ [])) (placed_last t os x e)
 
-filtered : (t g : Standing → Bool) → ((o : Standing) → t o ≡ true → g o ≡ true) → (n : ℕ) (q : List Standing) → within t n q ≡ true → within t n (filter g q) ≡ true
+filtered : (t g : Standing → Bool) → ((o : Standing) → t o ≡ true → g o ≡ true) → (n : ℕ) (q : List Standing) → within t n q ≡ true
+    → within t n (filter g q) ≡ true
 filtered t g k n [] e = e
 filtered t g k zero (o ∷ os) e = at (g o) (k o e)
   where
@@ -79,9 +83,12 @@ filtered t g k zero (o ∷ os) e = at (g o) (k o e)
     at false h = cc
 filtered t g k (suc n) (o ∷ os) e = at (g o) refl (λ b. filtered t g k n os b)
   where
-    at : (b : Bool) → g o ≡ b → (within t n os ≡ true → within t n (filter g os) ≡ true) → within t (suc n) (if b then o ∷ filter g os else filter g os) ≡ true
-    at true h rec = ⊎_elim (λ a. or_left (t o) (within t n (filter g os)) a) (λ b. or_right (t o) (within t n (filter g os)) (rec b)) (or_case (t o) (within t n os) e)
-    at false h rec = ⊎_elim (λ a. absurd (true≢false (sym (k o a) ∙ h))) (λ b. more t n (filter g os) (rec b)) (or_case (t o) (within t n os) e)
+    at : (b : Bool) → g o ≡ b → (within t n os ≡ true → within t n (filter g os) ≡ true)
+        → within t (suc n) (if b then o ∷ filter g os else filter g os) ≡ true
+    at true h rec = ⊎_elim (λ a. or_left (t o) (within t n (filter g os)) a) (λ b. or_right (t o) (within t n (filter g os)) (rec b))
+        (or_case (t o) (within t n os) e)
+    at false h rec = ⊎_elim (λ a. absurd (true≢false (sym (k o a) ∙ h))) (λ b. more t n (filter g os) (rec b))
+        (or_case (t o) (within t n os) e)
 
 -- ---- the offer of a wait at its place
 
@@ -121,28 +128,35 @@ without_in n p w v ch h = by_test (same_wait v w) refl
   where
     by_test : (b : Bool) → same_wait v w ≡ b → InOr n p w (Some v) (without v ch)
     by_test true e = inr (ap (λ u. Some u) (same_wait-eq v w e))
-    by_test false e = inl (filtered (is_held p w) (λ (o : Standing). not (is_held_by v o.holder)) (λ o m. held_stays w v o.holder e (both (o.place == p) (is_held_by w o.holder) m).1) n ch.queue h)
+    by_test false e = inl (filtered (is_held p w) (λ (o : Standing). not (is_held_by v o.holder))
+        (λ o m. held_stays w v o.holder e (both (o.place == p) (is_held_by w o.holder) m).1) n ch.queue h)
 
-first_in : (n p c : ℕ) (w : WaitId) (rs : List Receiver) (how : ℕ → Resolution) (s : State) → In n p w (s.channels c) → InOr n p w (first_waiting rs) ((resolve_first rs how s).channels c)
+first_in : (n p c : ℕ) (w : WaitId) (rs : List Receiver) (how : ℕ → Resolution) (s : State) → In n p w (s.channels c)
+    → InOr n p w (first_waiting rs) ((resolve_first rs how s).channels c)
 first_in n p c w [] how s h = inl h
 first_in n p c w (r ∷ rs) how s h = without_in n p w r.party.wait (s.channels c) h
 
-holder_in : (n p c : ℕ) (w : WaitId) (x : Option Party) (how : ℕ → Resolution) (s : State) → InOr n p w (wait_of_party x) (s.channels c) → InOr n p w (wait_of_party x) ((resolve_holder x how s).channels c)
+holder_in : (n p c : ℕ) (w : WaitId) (x : Option Party) (how : ℕ → Resolution) (s : State) → InOr n p w (wait_of_party x) (s.channels c)
+    → InOr n p w (wait_of_party x) ((resolve_holder x how s).channels c)
 holder_in n p c w None how s h = h
 holder_in n p c w (Some x) how s h = ⊎_elim (λ k. without_in n p w x.wait (s.channels c) k) (λ e. inr e) h
 
-put_in : (n p d c : ℕ) (w : WaitId) (o : Option WaitId) (x : Channel) (s : State) → (In n p w (s.channels d) → InOr n p w o x) → In n p w (s.channels c) → InOr n p w o (put_channel d x s.channels c)
+put_in : (n p d c : ℕ) (w : WaitId) (o : Option WaitId) (x : Channel) (s : State) → (In n p w (s.channels d) → InOr n p w o x)
+    → In n p w (s.channels c) → InOr n p w o (put_channel d x s.channels c)
 put_in n p d c w o x s k h = by_test (d == c) refl
   where
     by_test : (b : Bool) → (d == c) ≡ b → InOr n p w o (if b then x else s.channels c)
     by_test true e = k (subst (λ m. In n p w (s.channels m)) (sym (eqb-true d c e)) h)
     by_test false e = inl h
 
-popped : (n p d c : ℕ) (w : WaitId) (o : Standing) (os : List Standing) (s : State) → (s.channels d).queue ≡ o ∷ os → In n p w (s.channels c) → InOr n p w (wait_of_party o.holder) ((with_queue d os s).channels c)
+popped : (n p d c : ℕ) (w : WaitId) (o : Standing) (os : List Standing) (s : State) → (s.channels d).queue ≡ o ∷ os
+    → In n p w (s.channels c) → InOr n p w (wait_of_party o.holder) ((with_queue d os s).channels c)
 popped n p d c w o os s e h = put_in n p d c w (wait_of_party o.holder) (record (s.channels d) { queue = os }) s
-    (λ k. ⊎_elim (λ a. inr (party_of p w o a)) (λ b. inl b) (rest_or (is_held p w) n o os (subst (λ q. within (is_held p w) n q ≡ true) e k))) h
+    (λ k. ⊎_elim (λ a. inr (party_of p w o a)) (λ b. inl b)
+    (rest_or (is_held p w) n o os (subst (λ q. within (is_held p w) n q ≡ true) e k))) h
 
-offer_in : (n p d c : ℕ) (w : WaitId) (os : List Standing) (how : ℕ → Resolution) (s : State) → (s.channels d).queue ≡ os → In n p w (s.channels c) → InOr n p w (first_holding os) ((resolve_offer d os how s).channels c)
+offer_in : (n p d c : ℕ) (w : WaitId) (os : List Standing) (how : ℕ → Resolution) (s : State) → (s.channels d).queue ≡ os
+    → In n p w (s.channels c) → InOr n p w (first_holding os) ((resolve_offer d os how s).channels c)
 offer_in n p d c w [] how s e h = inl h
 offer_in n p d c w (o ∷ os) how s e h = holder_in n p c w o.holder how (with_queue d os s) (popped n p d c w o os s e h)
 
@@ -160,9 +174,12 @@ none_waits : (w : WaitId) (h : Option Party) → is_none h ≡ true → wait_of_
 none_waits w None e f = cc
 none_waits w (Some x) e f = cc
 
-drop_in : (n p d c : ℕ) (w : WaitId) (os : List Standing) (s : State) → list_all (λ (o : Standing). is_none o.holder) os ≡ true → (s.channels d).queue ≡ os → In n p w (s.channels c) → In n p w ((remove_first d os s).channels c)
+drop_in : (n p d c : ℕ) (w : WaitId) (os : List Standing) (s : State) → list_all (λ (o : Standing). is_none o.holder) os ≡ true
+    → (s.channels d).queue ≡ os → In n p w (s.channels c) → In n p w ((remove_first d os s).channels c)
 drop_in n p d c w [] s f e h = h
-drop_in n p d c w (o ∷ os) s f e h = ⊎_elim (λ x. x) (λ x. absurd (none_waits w o.holder (both (is_none o.holder) (list_all (λ (o : Standing). is_none o.holder) os) f).0 x)) (popped n p d c w o os s e h)
+drop_in n p d c w (o ∷ os) s f e h = ⊎_elim (λ x. x) (λ x. absurd
+    (none_waits w o.holder (both (is_none o.holder) (list_all (λ (o : Standing). is_none o.holder) os) f).0 x))
+    (popped n p d c w o os s e h)
 
 -- so was one that is spurned
 spurns_not : (k : Kind) (n : ℕ) → spurns k n ≡ true → suspends k ≡ false
@@ -174,30 +191,42 @@ spurns_not (DropOldest k) n e = cc
 spurns_not (DropLatest k) n e = refl
 spurns_not Signal n e = cc
 
-none_within : (p : ℕ) (w : WaitId) (n : ℕ) (os : List Standing) → list_all (λ (o : Standing). is_none o.holder) os ≡ true → within (is_held p w) n os ≡ true → ⊥
+none_within : (p : ℕ) (w : WaitId) (n : ℕ) (os : List Standing) → list_all (λ (o : Standing). is_none o.holder) os ≡ true
+    → within (is_held p w) n os ≡ true → ⊥
 none_within p w n [] f h = cc
-none_within p w zero (o ∷ os) f h = none_waits w o.holder (both (is_none o.holder) (list_all (λ (o : Standing). is_none o.holder) os) f).0 (party_of p w o h)
+none_within p w zero (o ∷ os) f h = none_waits w o.holder (both (is_none o.holder) (list_all (λ (o : Standing). is_none o.holder) os) f).0
+    (party_of p w o h)
 none_within p w (suc n) (o ∷ os) f h =
     let k = both (is_none o.holder) (list_all (λ (o : Standing). is_none o.holder) os) f in
-    ⊎_elim (λ a. none_waits w o.holder k.0 (party_of p w o a)) (λ b. none_within p w n os k.1 b) (or_case (is_held p w o) (within (is_held p w) n os) h)
+    ⊎_elim (λ a. none_waits w o.holder k.0 (party_of p w o a)) (λ b. none_within p w n os k.1 b)
+    (or_case (is_held p w o) (within (is_held p w) n os) h)
 
-spurn_in : (n p d c q : ℕ) (w : WaitId) (s : State) → list_all (λ (o : Standing). is_none o.holder) (s.channels d).queue ≡ true → In n p w (s.channels c) → In n p w ((with_queue d (spurned q (s.channels d).queue) s).channels c)
-spurn_in n p d c q w s f h = ⊎_elim (λ x. x) (λ e. cc) (put_in n p d c w None (record (s.channels d) { queue = spurned q (s.channels d).queue }) s (λ x. absurd (none_within p w n (s.channels d).queue f x)) h)
+spurn_in : (n p d c q : ℕ) (w : WaitId) (s : State) → list_all (λ (o : Standing). is_none o.holder) (s.channels d).queue ≡ true
+    → In n p w (s.channels c) → In n p w ((with_queue d (spurned q (s.channels d).queue) s).channels c)
+spurn_in n p d c q w s f h = ⊎_elim (λ x. x) (λ e. cc) (put_in n p d c w None
+    (record (s.channels d) { queue = spurned q (s.channels d).queue }) s (λ x. absurd (none_within p w n (s.channels d).queue f x)) h)
 
-admitted_in : (p q : ℕ) (w : WaitId) (n : ℕ) (os : List Standing) → within (is_held p w) n os ≡ true → (within (is_held p w) n (admitted q os) ≡ true) ⊎ (wait_of_party (holder_at q os) ≡ Some w)
+admitted_in : (p q : ℕ) (w : WaitId) (n : ℕ) (os : List Standing) → within (is_held p w) n os ≡ true
+    → (within (is_held p w) n (admitted q os) ≡ true) ⊎ (wait_of_party (holder_at q os) ≡ Some w)
 admitted_in p q w n [] e = inl e
 admitted_in p q w zero (o ∷ os) e = at (o.place == q)
   where
-    at : (b : Bool) → (within (is_held p w) zero (if b then record o { holder = None } ∷ os else o ∷ admitted q os) ≡ true) ⊎ (wait_of_party (if b then o.holder else holder_at q os) ≡ Some w)
+    at : (b : Bool) → (within (is_held p w) zero (if b then record o { holder = None } ∷ os else o ∷ admitted q os) ≡ true)
+        ⊎ (wait_of_party (if b then o.holder else holder_at q os) ≡ Some w)
     at true = inr (party_of p w o e)
     at false = inl e
 admitted_in p q w (suc n) (o ∷ os) e = at (o.place == q) (λ b. admitted_in p q w n os b)
   where
-    at : (b : Bool) → (within (is_held p w) n os ≡ true → (within (is_held p w) n (admitted q os) ≡ true) ⊎ (wait_of_party (holder_at q os) ≡ Some w))
-        → (within (is_held p w) (suc n) (if b then record o { holder = None } ∷ os else o ∷ admitted q os) ≡ true) ⊎ (wait_of_party (if b then o.holder else holder_at q os) ≡ Some w)
-    at true rec = ⊎_elim (λ a. inr (party_of p w o a)) (λ b. inl (or_right (is_held p w (record o { holder = None })) (within (is_held p w) n os) b)) (or_case (is_held p w o) (within (is_held p w) n os) e)
+    at : (b : Bool) → (within (is_held p w) n os ≡ true → (within (is_held p w) n (admitted q os) ≡ true)
+        ⊎ (wait_of_party (holder_at q os) ≡ Some w))
+        → (within (is_held p w) (suc n) (if b then record o { holder = None } ∷ os else o ∷ admitted q os) ≡ true)
+        ⊎ (wait_of_party (if b then o.holder else holder_at q os) ≡ Some w)
+    at true rec = ⊎_elim (λ a. inr (party_of p w o a)) (λ b. inl
+        (or_right (is_held p w (record o { holder = None })) (within (is_held p w) n os) b))
+        (or_case (is_held p w o) (within (is_held p w) n os) e)
     at false rec = ⊎_elim (λ a. inl (or_left (is_held p w o) (within (is_held p w) n (admitted q os)) a))
-        (λ b. ⊎_elim (λ c. inl (or_right (is_held p w o) (within (is_held p w) n (admitted q os)) c)) (λ d. inr d) (rec b)) (or_case (is_held p w o) (within (is_held p w) n os) e)
+        (λ b. ⊎_elim (λ c. inl (or_right (is_held p w o) (within (is_held p w) n (admitted q os)) c)) (λ d. inr d) (rec b))
+        (or_case (is_held p w o) (within (is_held p w) n os) e)
 
 offer_comes : (n p : ℕ) (w : WaitId) (b : Bool) (o : Standing) (ch : Channel) → In n p w ch → In n p w (place_offer b o ch)
 offer_comes n p w false o ch h = h
@@ -207,18 +236,24 @@ receiver_comes : (n p : ℕ) (w : WaitId) (b : Bool) (r : Receiver) (ch : Channe
 receiver_comes n p w false r ch h = h
 receiver_comes n p w true r ch h = h
 
-act_in : (shape : Shape) (s : State) (who : ℕ) (act : Act) → Needs shape s who act → Sound shape s → (n c p : ℕ) (w : WaitId) → In n p w (s.channels c) → InOr n p w (resolves s act) ((after s who act).channels c)
+act_in : (shape : Shape) (s : State) (who : ℕ) (act : Act) → Needs shape s who act → Sound shape s → (n c p : ℕ) (w : WaitId)
+    → In n p w (s.channels c) → InOr n p w (resolves s act) ((after s who act).channels c)
 act_in shape s who (Hand d q v) f t n c p w h = first_in n p c w (s.channels d).receivers _ s h
-act_in shape s who (Put d q v) f t n c p w h = put_in n p d c w None _ s (λ x. inl (offer_comes n p w true (record { place = q; value = v; holder = None }) (s.channels d) x)) h
+act_in shape s who (Put d q v) f t n c p w h = put_in n p d c w None _ s
+    (λ x. inl (offer_comes n p w true (record { place = q; value = v; holder = None }) (s.channels d) x)) h
 act_in shape s who (Offer d q v u j) f t n c p w h =
-    put_in n p d c w None _ s (λ x. inl (offer_comes n p w (is_open (s.waits u)) (record { place = q; value = v; holder = Some (record { wait = u; clause = j }) }) (s.channels d) x)) h
+    put_in n p d c w None _ s (λ x. inl (offer_comes n p w (is_open (s.waits u))
+    (record { place = q; value = v; holder = Some (record { wait = u; clause = j }) }) (s.channels d) x)) h
 act_in shape s who (Await d q u j) f t n c p w h =
-    put_in n p d c w None _ s (λ x. inl (receiver_comes n p w (is_open (s.waits u)) (record { place = q; party = record { wait = u; clause = j } }) (s.channels d) x)) h
+    put_in n p d c w None _ s (λ x. inl (receiver_comes n p w (is_open (s.waits u))
+    (record { place = q; party = record { wait = u; clause = j } }) (s.channels d) x)) h
 act_in shape s who (Take d q v) f t n c p w h = offer_in n p d c w (s.channels d).queue _ s refl h
 act_in shape s who (Admit d q) f t n c p w h =
     holder_in n p c w (holder_at q (s.channels d).queue) _ (with_queue d (admitted q (s.channels d).queue) s)
-    (put_in n p d c w (wait_of_party (holder_at q (s.channels d).queue)) (record (s.channels d) { queue = admitted q (s.channels d).queue }) s (λ x. admitted_in p q w n (s.channels d).queue x) h)
-act_in shape s who (Drop d q v) f t n c p w h = inl (drop_in n p d c w (s.channels d).queue s ((t.channels d).kept (drops_not (kind_at shape d) _ f.1)) refl h)
+    (put_in n p d c w (wait_of_party (holder_at q (s.channels d).queue)) (record (s.channels d) { queue = admitted q (s.channels d).queue })
+    s (λ x. admitted_in p q w n (s.channels d).queue x) h)
+act_in shape s who (Drop d q v) f t n c p w h = inl (drop_in n p d c w (s.channels d).queue s
+    ((t.channels d).kept (drops_not (kind_at shape d) _ f.1)) refl h)
 act_in shape s who (Spurn d q v) f t n c p w h = inl (spurn_in n p d c q w s ((t.channels d).kept (spurns_not (kind_at shape d) _ f.1)) h)
 act_in shape s who (Close d v) f t n c p w h = put_in n p d c w None _ s (λ x. inl x) h
 act_in shape s who (Void d) f t n c p w h = put_in n p d c w None _ s (λ x. inl x) h
@@ -259,7 +294,8 @@ not_owed true true false d e g = cc
 not_owed true false f d e g = cc
 not_owed false b f d e g = cc
 
-has_none : (kind : Kind) (mark k n : ℕ) (t : Standing → Bool) (q : List Standing) → ((o : Standing) → t o ≡ true → (is_some o.holder ≡ true) × (nat_lt o.place mark ≡ true))
+has_none : (kind : Kind) (mark k n : ℕ) (t : Standing → Bool) (q : List Standing)
+    → ((o : Standing) → t o ≡ true → (is_some o.holder ≡ true) × (nat_lt o.place mark ≡ true))
     → within t n q ≡ true → owes_admission_below kind mark k q ≡ false → is_full kind (k + n) ≡ true
 has_none kind mark k n t [] f e d = cc
 has_none kind mark k zero t (o ∷ os) f e d =
@@ -269,7 +305,8 @@ has_none kind mark k zero t (o ∷ os) f e d =
 has_none kind mark k (suc n) t (o ∷ os) f e d =
     let at = or_parts (is_some o.holder && (nat_lt o.place mark && not (is_full kind k))) (owes_admission_below kind mark (k + 1) os) d in
     ⊎_elim
-    (λ a. let here = f o a in full_more kind k (k + suc n) (omega arith) (not_owed (is_some o.holder) (nat_lt o.place mark) (is_full kind k) here.0 here.1 at.0))
+    (λ a. let here = f o a in full_more kind k (k + suc n) (omega arith)
+    (not_owed (is_some o.holder) (nat_lt o.place mark) (is_full kind k) here.0 here.1 at.0))
     (λ b. full_more kind ((k + 1) + n) (k + suc n) (omega arith) (has_none kind mark (k + 1) n t os f b at.1))
     (or_case (t o) (within t n os) e)
 
@@ -290,13 +327,17 @@ held_itself p w = ap (λ b. b && same_wait w w) (same_number p) ∙ same_wait-re
 at_channel : (c : ℕ) (x : Channel) (channels : ℕ → Channel) → put_channel c x channels c ≡ x
 at_channel c x channels = ap (λ b. if b then x else channels c) (same_number c)
 
-offered : (shape : Shape) (s : State) (who c p v : ℕ) → Needs shape s who (Offer c p v (record { channel = c; place = p }) 0) → Sound shape s
-    → In (length (s.channels c).queue) p (record { channel = c; place = p }) ((after s who (Offer c p v (record { channel = c; place = p }) 0)).channels c)
+offered : (shape : Shape) (s : State) (who c p v : ℕ) → Needs shape s who (Offer c p v (record { channel = c; place = p }) 0)
+    → Sound shape s
+    → In (length (s.channels c).queue) p (record { channel = c; place = p })
+    ((after s who (Offer c p v (record { channel = c; place = p }) 0)).channels c)
 offered shape s who c p v f t =
     let w : WaitId = record { channel = c; place = p } in
     let o : Standing = record { place = p; value = v; holder = Some (record { wait = w; clause = 0 }) } in
     let none : s.waits w ≡ None = t.placed w (let e = f.1.first in omega arith) in
-    let new : ((after s who (Offer c p v w 0)).channels c) ≡ place_offer true o (s.channels c) = at_channel c (place_offer (is_open (s.waits w)) o (s.channels c)) s.channels ∙ ap (λ x. place_offer (is_open x) o (s.channels c)) none in
+    let new : ((after s who (Offer c p v w 0)).channels c) ≡ place_offer true o (s.channels c) =
+    at_channel c (place_offer (is_open (s.waits w)) o (s.channels c)) s.channels
+    ∙ ap (λ x. place_offer (is_open x) o (s.channels c)) none in
     subst (In (length (s.channels c).queue) p w) (sym new) (placed_last (is_held p w) (s.channels c).queue o (held_itself p w))
 
 module _ (shape : Shape) (xs ys : List Entry) (who c p v mark : ℕ) where
@@ -306,7 +347,8 @@ module _ (shape : Shape) (xs ys : List Entry) (who c p v mark : ℕ) where
   abbrev e : Entry
   e = plain_offer who c p v
 
-  placed_unresolved : Legal shape (xs ++ e ∷ ys) → p < mark → IsAdmittedBelow shape c mark (replay (xs ++ e ∷ ys)) → (IsResolvedWait ((replay (xs ++ e ∷ ys)).waits w) → ⊥) → IsFullAt shape c (replay xs)
+  placed_unresolved : Legal shape (xs ++ e ∷ ys) → p < mark → IsAdmittedBelow shape c mark (replay (xs ++ e ∷ ys))
+      → (IsResolvedWait ((replay (xs ++ e ∷ ys)).waits w) → ⊥) → IsFullAt shape c (replay xs)
   unfolding LegalFrom replay_from
   placed_unresolved l lt owed unresolved =
       let parts = LegalFrom-parts shape start xs (e ∷ ys) l in
@@ -314,28 +356,40 @@ module _ (shape : Shape) (xs ys : List Entry) (who c p v mark : ℕ) where
       let n : ℕ = length ((replay xs).channels c).queue in
       let s : State = after (replay xs) who (Offer c p v w 0) in
       let there : replay (xs ++ e ∷ ys) ≡ replay_from s ys = replay_from-append start xs (e ∷ ys) in
-      let kept = lasts_from shape (Stays n c p w) (stays_lasts shape n c p w) s ys parts.1.1 (sound_step shape (replay xs) who (Offer c p v w 0) parts.1.0 t) (inr (offered shape (replay xs) who c p v parts.1.0 t)) in
+      let kept = lasts_from shape (Stays n c p w) (stays_lasts shape n c p w) s ys parts.1.1
+      (sound_step shape (replay xs) who (Offer c p v w 0) parts.1.0 t) (inr (offered shape (replay xs) who c p v parts.1.0 t)) in
       let last : Stays n c p w (replay (xs ++ e ∷ ys)) = subst (Stays n c p w) (sym there) kept in
       ⊎_elim
       (λ r. absurd (unresolved r))
       (λ h. full_more (kind_at shape c) (0 + n) n (omega arith)
       (has_none (kind_at shape c) mark 0 n (is_held p w) ((replay (xs ++ e ∷ ys)).channels c).queue
-      (λ o k. (held_some w o.holder (both (o.place == p) (is_held_by w o.holder) k).1, let same = eqb-true o.place p (both (o.place == p) (is_held_by w o.holder) k).0 in grind (arith, nat_tests)))
+      (λ o k. (
+        held_some w o.holder (both (o.place == p) (is_held_by w o.holder) k).1,
+        let same =
+            eqb-true o.place p (both (o.place == p) (is_held_by w o.holder) k).0 in grind (arith, nat_tests),
+      ))
       h owed))
       last
 
-  pub placed_full : Legal shape (xs ++ e ∷ ys) → p < mark → IsAdmittedBelow shape c mark (replay (xs ++ e ∷ ys)) → state_of_wait ((replay (xs ++ e ∷ ys)).waits w) ≡ Some wait_state.Standing → IsFullAt shape c (replay xs)
+  pub placed_full : Legal shape (xs ++ e ∷ ys) → p < mark → IsAdmittedBelow shape c mark (replay (xs ++ e ∷ ys))
+      → state_of_wait ((replay (xs ++ e ∷ ys)).waits w) ≡ Some wait_state.Standing → IsFullAt shape c (replay xs)
   placed_full l lt owed stood = placed_unresolved l lt owed (not_resolved ((replay (xs ++ e ∷ ys)).waits w) stood)
 
 -- the wait stood at a moment behind the one at which nobody was to be admitted
-resolved_later : (shape : Shape) (w : WaitId) (xs ys : List Entry) → Legal shape ys → IsPrefix xs ys → IsResolvedWait ((replay xs).waits w) → IsResolvedWait ((replay ys).waits w)
-resolved_later shape w xs ys l p h = lasts shape (λ s. IsResolvedWait (s.waits w)) (record { step = λ s who act t f r. always_keeps shape IsResolvedWait resolved_stays who w s act f r }) xs ys p l h
+resolved_later : (shape : Shape) (w : WaitId) (xs ys : List Entry) → Legal shape ys → IsPrefix xs ys → IsResolvedWait ((replay xs).waits w)
+    → IsResolvedWait ((replay ys).waits w)
+resolved_later shape w xs ys l p h = lasts shape (λ s. IsResolvedWait (s.waits w))
+    (record { step = λ s who act t f r. always_keeps shape IsResolvedWait resolved_stays who w s act f r }) xs ys p l h
 
-pub placed_full_before : (shape : Shape) (xs ys zs : List Entry) (who c p v mark : ℕ) → Legal shape zs → IsPrefix (xs ++ plain_offer who c p v ∷ []) ys → IsPrefix ys zs → p < mark → IsAdmittedBelow shape c mark (replay ys)
+pub placed_full_before : (shape : Shape) (xs ys zs : List Entry) (who c p v mark : ℕ) → Legal shape zs
+    → IsPrefix (xs ++ plain_offer who c p v ∷ []) ys → IsPrefix ys zs → p < mark → IsAdmittedBelow shape c mark (replay ys)
     → state_of_wait ((replay zs).waits (record { channel = c; place = p })) ≡ Some wait_state.Standing → IsFullAt shape c (replay xs)
 placed_full_before shape xs ys zs who c p v mark l begins goes lt owed stood =
     let w : WaitId = record { channel = c; place = p } in
     let is : ys ≡ xs ++ plain_offer who c p v ∷ begins.0 = sym begins.1 ∙ append_assoc xs (plain_offer who c p v ∷ []) begins.0 in
     let legal : Legal shape ys = Legal-prefix shape ys goes.0 (subst (Legal shape) (sym goes.1) l) in
-    let unresolved : IsResolvedWait ((replay ys).waits w) → ⊥ = λ r. not_resolved ((replay zs).waits w) stood (resolved_later shape w ys zs l goes r) in
-    placed_unresolved shape xs begins.0 who c p v mark (subst (Legal shape) is legal) lt (subst (λ es. IsAdmittedBelow shape c mark (replay es)) is owed) (subst (λ es. IsResolvedWait ((replay es).waits w) → ⊥) is unresolved)
+    let unresolved : IsResolvedWait ((replay ys).waits w)
+    → ⊥ = λ r. not_resolved ((replay zs).waits w) stood (resolved_later shape w ys zs l goes r) in
+    placed_unresolved shape xs begins.0 who c p v mark (subst (Legal shape) is legal) lt
+    (subst (λ es. IsAdmittedBelow shape c mark (replay es)) is owed)
+    (subst (λ es. IsResolvedWait ((replay es).waits w) → ⊥) is unresolved)

@@ -43,15 +43,18 @@ resolve_plain w how s e h = record {
   waits = λ v. one_change PlainWait s.waits w v (resolved_wait how) (plain_resolved how (s.waits v) e) (h.waits v);
 }
 
-first_plain : (rs : List Receiver) (how : ℕ → Resolution) (s : State) → ((k : ℕ) → is_exchange (how k) ≡ true) → IsPlain s → IsPlain (resolve_first rs how s)
+first_plain : (rs : List Receiver) (how : ℕ → Resolution) (s : State) → ((k : ℕ) → is_exchange (how k) ≡ true) → IsPlain s
+    → IsPlain (resolve_first rs how s)
 first_plain [] how s e h = h
 first_plain (r ∷ rs) how s e h = resolve_plain r.party.wait (how r.party.clause) s (e r.party.clause) h
 
-holder_plain : (p : Option Party) (how : ℕ → Resolution) (s : State) → ((k : ℕ) → is_exchange (how k) ≡ true) → IsPlain s → IsPlain (resolve_holder p how s)
+holder_plain : (p : Option Party) (how : ℕ → Resolution) (s : State) → ((k : ℕ) → is_exchange (how k) ≡ true) → IsPlain s
+    → IsPlain (resolve_holder p how s)
 holder_plain None how s e h = h
 holder_plain (Some p) how s e h = resolve_plain p.wait (how p.clause) s (e p.clause) h
 
-put_plain : (c : ℕ) (ch : Channel) (s : State) → ch.closed ≡ None → ch.voided ≡ false → IsPlain s → IsPlain (record s { channels = put_channel c ch s.channels })
+put_plain : (c : ℕ) (ch : Channel) (s : State) → ch.closed ≡ None → ch.voided ≡ false → IsPlain s
+    → IsPlain (record s { channels = put_channel c ch s.channels })
 put_plain c ch s e f h = record {
   not_closed = λ d. elim (c == d) as (λ b. (if b then ch else s.channels d).closed ≡ None) [ true ↦ e | false ↦ h.not_closed d ];
   not_voided = λ d. elim (c == d) as (λ b. (if b then ch else s.channels d).voided ≡ false) [ true ↦ f | false ↦ h.not_voided d ];
@@ -61,12 +64,19 @@ put_plain c ch s e f h = record {
 stood_plain : (stood : ℕ → ℕ → ℕ) (s : State) → IsPlain s → IsPlain (record s { stood = stood })
 stood_plain stood s h = record { not_closed = h.not_closed; not_voided = h.not_voided; waits = h.waits }
 
-offer_plain : (c : ℕ) (os : List Standing) (how : ℕ → Resolution) (s : State) → ((k : ℕ) → is_exchange (how k) ≡ true) → IsPlain s → IsPlain (resolve_offer c os how s)
+offer_plain : (c : ℕ) (os : List Standing) (how : ℕ → Resolution) (s : State) → ((k : ℕ) → is_exchange (how k) ≡ true) → IsPlain s
+    → IsPlain (resolve_offer c os how s)
 offer_plain c [] how s e h = h
 offer_plain c (o ∷ os) how s e h = holder_plain o.holder how (with_queue c os s) e (put_plain c _ s (h.not_closed c) (h.not_voided c) h)
 
-waits_plain : (s : State) (w : WaitId) (f : Option Wait → Option Wait) → ((x : Option Wait) → PlainWait x → PlainWait (f x)) → IsPlain s → IsPlain (record s { waits = put_wait w (f (s.waits w)) s.waits })
-waits_plain s w f k h = record { not_closed = h.not_closed; not_voided = h.not_voided; waits = λ v. one_change PlainWait s.waits w v f (k (s.waits v)) (h.waits v) }
+waits_plain : (s : State) (w : WaitId) (f : Option Wait → Option Wait) → ((x : Option Wait) → PlainWait x → PlainWait (f x)) → IsPlain s
+    → IsPlain (record s { waits = put_wait w (f (s.waits w)) s.waits })
+waits_plain s w f k h = record {
+  not_closed = h.not_closed;
+  not_voided = h.not_voided;
+  waits =
+      λ v. one_change PlainWait s.waits w v f (k (s.waits v)) (h.waits v);
+}
 
 offer_closed : (b : Bool) (o : Standing) (ch : Channel) → (place_offer b o ch).closed ≡ ch.closed
 offer_closed true o ch = refl
@@ -89,10 +99,12 @@ after_plain s who (Hand c p v) e h = first_plain _ _ s (λ k. refl) h
 after_plain s who (Put c p v) e h = stood_plain _ _ (put_plain c _ s (h.not_closed c) (h.not_voided c) h)
 after_plain s who (Offer c p v w k) e h =
     let b = is_open (s.waits w) in
-    stood_plain _ _ (waits_plain _ w (name_clause who k c) (plain_named who k c) (put_plain c _ s (offer_closed b _ (s.channels c) ∙ h.not_closed c) (offer_voided b _ (s.channels c) ∙ h.not_voided c) h))
+    stood_plain _ _ (waits_plain _ w (name_clause who k c) (plain_named who k c)
+    (put_plain c _ s (offer_closed b _ (s.channels c) ∙ h.not_closed c) (offer_voided b _ (s.channels c) ∙ h.not_voided c) h))
 after_plain s who (Await c p w k) e h =
     let b = is_open (s.waits w) in
-    waits_plain _ w (name_clause who k c) (plain_named who k c) (put_plain c _ s (receiver_closed b _ (s.channels c) ∙ h.not_closed c) (receiver_voided b _ (s.channels c) ∙ h.not_voided c) h)
+    waits_plain _ w (name_clause who k c) (plain_named who k c)
+    (put_plain c _ s (receiver_closed b _ (s.channels c) ∙ h.not_closed c) (receiver_voided b _ (s.channels c) ∙ h.not_voided c) h)
 after_plain s who (Take c p v) e h = offer_plain c _ _ s (λ k. refl) h
 after_plain s who (Admit c p) e h = cc
 after_plain s who (Drop c p v) e h = cc
@@ -157,7 +169,8 @@ or_false false b e f = f
 
 none_admitted : (kind : Kind) (n : ℕ) (os : List Standing) → keeps_none kind ≡ true → owes_admission kind n os ≡ false
 none_admitted kind n [] e = refl
-none_admitted kind n (o ∷ os) e = or_false _ _ (and_false (is_some o.holder) (is_full kind n) (full_when_none kind n e)) (none_admitted kind (n + 1) os e)
+none_admitted kind n (o ∷ os) e = or_false _ _ (and_false (is_some o.holder) (is_full kind n) (full_when_none kind n e))
+    (none_admitted kind (n + 1) os e)
 
 none_spurned : (kind : Kind) (n : ℕ) (os : List Standing) → keeps_none kind ≡ true → owes_spurn kind n os ≡ false
 none_spurned kind n [] e = refl
@@ -167,7 +180,9 @@ owes_plain : (kind : Kind) (ch : Channel) → keeps_none kind ≡ true → ch.cl
 owes_plain kind ch e f g =
     or_false _ _ (none_admitted kind 0 ch.queue e)
     (or_false _ _ (ap (λ (x : Option ℕ). is_some x && stands_any ch.receivers) f)
-    (or_false _ _ (ap (λ (b : Bool). b && stands_any ch.queue) g) (or_false _ _ (none_dropped kind (length ch.queue) e) (none_spurned kind 0 ch.queue e))))
+    (or_false _ _ (ap (λ (b : Bool). b && stands_any ch.queue) g)
+    (or_false _ _ (none_dropped kind (length ch.queue) e) (none_spurned kind 0 ch.queue e))))
 
-pub plain_owes_nothing : (shape : Shape) (s : State) → IsPlain s → ((c : ℕ) → c < length shape → keeps_none (kind_at shape c) ≡ true) → OwesNothing shape s
+pub plain_owes_nothing : (shape : Shape) (s : State) → IsPlain s → ((c : ℕ) → c < length shape → keeps_none (kind_at shape c) ≡ true)
+    → OwesNothing shape s
 plain_owes_nothing shape s h k c lt = owes_plain (kind_at shape c) (s.channels c) (k c lt) (h.not_closed c) (h.not_voided c)

@@ -31,7 +31,8 @@ dropping (DropLatest k) c p place v n d h = cc
 dropping Signal c p place v n d h = cc
 
 -- a drop that a call made up to its own place follows its Put
-pub drop_follows : (who c p v place : ℕ) (a b : Floor) → Legal b.shape b.seen → Made who (Drop c p v) a b → p ≤ place → follows_put (kind_at b.shape c) c place (Drop c p v) ≡ true
+pub drop_follows : (who c p v place : ℕ) (a b : Floor) → Legal b.shape b.seen → Made who (Drop c p v) a b → p ≤ place
+    → follows_put (kind_at b.shape c) c place (Drop c p v) ≡ true
 drop_follows who c p v place a b l m h =
     let last : Entry = record { who = who; act = Drop c p v } in
     let needs = (Legal-last b.shape m.before last (subst (Legal b.shape) m.last l)).1 in
@@ -51,8 +52,10 @@ here_put c p v = ap (λ b. b && (p == p)) (same_number c) ∙ same_number p
 
 -- right after the act
 pub put_owned : (who c p v : ℕ) (a b : Floor) → Made who (Put c p v) a b → HasPut who c p b
-put_owned who c p v a b m = ap (list_any (is_put_at c p)) (added_made who (Put c p v) a b m).mine ∙ any_last (is_put_at c p) (acts_of who a.seen) (Put c p v) (here_put c p v)
+put_owned who c p v a b m = ap (list_any (is_put_at c p)) (added_made who (Put c p v) a b m).mine
+    ∙ any_last (is_put_at c p) (acts_of who a.seen) (Put c p v) (here_put c p v)
 
 -- and after all that the caller does
 pub put_lasts : (who c p : ℕ) (acts : List Act) (a b : Floor) → Added who acts a b → HasPut who c p a → HasPut who c p b
-put_lasts who c p acts a b h put = ap (list_any (is_put_at c p)) h.mine ∙ list_any-append (is_put_at c p) (acts_of who a.seen) acts ∙ ap (λ b. b || list_any (is_put_at c p) acts) put
+put_lasts who c p acts a b h put = ap (list_any (is_put_at c p)) h.mine ∙ list_any-append (is_put_at c p) (acts_of who a.seen) acts
+    ∙ ap (λ b. b || list_any (is_put_at c p) acts) put

@@ -20,22 +20,26 @@ use Rattle.channel_model.proofs.Others.{Stays, other_keeps}
 pub resolved_stays : (who : ℕ) → Stays who IsResolvedWait
 resolved_stays who = record {
   resolved = λ how x h. elim x as (λ y. IsResolvedWait y → IsResolvedWait (resolved_wait how y)) [ None ↦ λ k. k | Some y ↦ λ k. refl ] h;
-  named = λ n k c x h. elim x as (λ y. IsResolvedWait y → IsResolvedWait (name_clause n k c y)) [ None ↦ λ f. absurd f | Some y ↦ λ f. f ] h;
-  settled = λ n outcome x apart m h. elim x as (λ y. IsResolvedWait y → IsResolvedWait (settled_wait outcome y)) [ None ↦ λ k. k | Some y ↦ λ k. k ] h;
+  named = λ n k c x h. elim x as (λ y. IsResolvedWait y → IsResolvedWait (name_clause n k c y)) [ None ↦ λ f. absurd f | Some y ↦ λ f. f ]
+      h;
+  settled = λ n outcome x apart m h. elim x as (λ y. IsResolvedWait y
+      → IsResolvedWait (settled_wait outcome y)) [ None ↦ λ k. k | Some y ↦ λ k. k ] h;
 }
 
 pub settled_stays : (who : ℕ) → Stays who IsSettledWait
 settled_stays who = record {
   resolved = λ how x h. elim x as (λ y. IsSettledWait y → IsSettledWait (resolved_wait how y)) [ None ↦ λ k. k | Some y ↦ λ k. k ] h;
   named = λ n k c x h. elim x as (λ y. IsSettledWait y → IsSettledWait (name_clause n k c y)) [ None ↦ λ f. absurd f | Some y ↦ λ f. f ] h;
-  settled = λ n outcome x apart m h. elim x as (λ y. IsSettledWait y → IsSettledWait (settled_wait outcome y)) [ None ↦ λ k. k | Some y ↦ λ k. refl ] h;
+  settled = λ n outcome x apart m h. elim x as (λ y. IsSettledWait y
+      → IsSettledWait (settled_wait outcome y)) [ None ↦ λ k. k | Some y ↦ λ k. refl ] h;
 }
 
 apart : (n : ℕ) → n ≡ n + 1 → ⊥
 apart n e = omega arith
 
 -- a fact that nobody takes away
-pub always_keeps : (shape : Shape) (P : Option Wait → Type 0) → ((who : ℕ) → Stays who P) → (n : ℕ) (v : WaitId) (s : State) (act : Act) → Needs shape s n act → P (s.waits v) → P ((after s n act).waits v)
+pub always_keeps : (shape : Shape) (P : Option Wait → Type 0) → ((who : ℕ) → Stays who P) → (n : ℕ) (v : WaitId) (s : State) (act : Act)
+    → Needs shape s n act → P (s.waits v) → P ((after s n act).waits v)
 always_keeps shape P y n v s act m h = other_keeps shape (n + 1) P (y (n + 1)) n v s act (apart n) m h
 
 -- P did not hold of the wait, and holds now
@@ -53,35 +57,42 @@ made_resolved : (c : ℕ) (how : Resolution) (x : Option Wait) → IsStandingAt 
 made_resolved c how None h = h
 made_resolved c how (Some x) h = refl
 
-resolving : (w : WaitId) (how : Resolution) (s : State) (c : ℕ) → IsStandingAt c (s.waits w) → Turns IsResolvedWait w s.waits (resolve w how s).waits
+resolving : (w : WaitId) (how : Resolution) (s : State) (c : ℕ) → IsStandingAt c (s.waits w)
+    → Turns IsResolvedWait w s.waits (resolve w how s).waits
 resolving w how s c h = record {
   before = not_open c (s.waits w) h;
   now = subst IsResolvedWait (sym (at_wait w _ s.waits)) (made_resolved c how (s.waits w) h);
 }
 
-first_resolved : (c : ℕ) (rs : List Receiver) (how : ℕ → Resolution) (s : State) → ReceiversStand s.waits c rs → (v : WaitId) → first_waiting rs ≡ Some v → Turns IsResolvedWait v s.waits (resolve_first rs how s).waits
+first_resolved : (c : ℕ) (rs : List Receiver) (how : ℕ → Resolution) (s : State) → ReceiversStand s.waits c rs → (v : WaitId)
+    → first_waiting rs ≡ Some v → Turns IsResolvedWait v s.waits (resolve_first rs how s).waits
 unfolding ReceiversStand
 first_resolved c [] how s h v e = cc
 first_resolved c (r ∷ rs) how s h v e =
     let k : r.party.wait ≡ v = cc in
-    subst (λ u. Turns IsResolvedWait u s.waits (resolve r.party.wait (how r.party.clause) s).waits) k (resolving r.party.wait (how r.party.clause) s c h.0)
+    subst (λ u. Turns IsResolvedWait u s.waits (resolve r.party.wait (how r.party.clause) s).waits) k
+    (resolving r.party.wait (how r.party.clause) s c h.0)
 
-holder_resolved : (c : ℕ) (p : Option Party) (how : ℕ → Resolution) (s : State) → HolderStands s.waits c p → (v : WaitId) → wait_of_party p ≡ Some v → Turns IsResolvedWait v s.waits (resolve_holder p how s).waits
+holder_resolved : (c : ℕ) (p : Option Party) (how : ℕ → Resolution) (s : State) → HolderStands s.waits c p → (v : WaitId)
+    → wait_of_party p ≡ Some v → Turns IsResolvedWait v s.waits (resolve_holder p how s).waits
 holder_resolved c None how s h v e = cc
 holder_resolved c (Some p) how s h v e =
     let k : p.wait ≡ v = cc in
     subst (λ u. Turns IsResolvedWait u s.waits (resolve p.wait (how p.clause) s).waits) k (resolving p.wait (how p.clause) s c h)
 
-offer_resolved : (c : ℕ) (os : List Standing) (how : ℕ → Resolution) (s : State) → OffersStand s.waits c os → (v : WaitId) → first_holding os ≡ Some v → Turns IsResolvedWait v s.waits (resolve_offer c os how s).waits
+offer_resolved : (c : ℕ) (os : List Standing) (how : ℕ → Resolution) (s : State) → OffersStand s.waits c os → (v : WaitId)
+    → first_holding os ≡ Some v → Turns IsResolvedWait v s.waits (resolve_offer c os how s).waits
 unfolding OffersStand
 offer_resolved c [] how s h v e = cc
 offer_resolved c (o ∷ os) how s h v e = holder_resolved c o.holder how (with_queue c os s) h.0 v e
 
-holder_at_stands : (waits : WaitId → Option Wait) (c p : ℕ) (os : List Standing) → OffersStand waits c os → HolderStands waits c (holder_at p os)
+holder_at_stands : (waits : WaitId → Option Wait) (c p : ℕ) (os : List Standing) → OffersStand waits c os
+    → HolderStands waits c (holder_at p os)
 unfolding OffersStand
 holder_at_stands waits c p [] h = tt
 holder_at_stands waits c p (o ∷ os) h =
-    elim (o.place == p) as (λ b. HolderStands waits c (if b then o.holder else holder_at p os)) [ true ↦ h.0 | false ↦ holder_at_stands waits c p os h.1 ]
+    elim (o.place == p) as (λ b. HolderStands waits c (if b then o.holder else holder_at p os))
+    [ true ↦ h.0 | false ↦ holder_at_stands waits c p os h.1 ]
 
 open_of : (who : ℕ) (x : Option Wait) → IsOpenOf who x → IsResolvedWait x → ⊥
 open_of who None h k = h
@@ -91,20 +102,27 @@ made_withdrawn : (who : ℕ) (how : Resolution) (x : Option Wait) → IsOpenOf w
 made_withdrawn who how None h = h
 made_withdrawn who how (Some x) h = refl
 
-withdrawing : (who : ℕ) (w : WaitId) (how : Resolution) (s : State) → IsOpenOf who (s.waits w) → (v : WaitId) → Some w ≡ Some v → Turns IsResolvedWait v s.waits (resolve w how s).waits
+withdrawing : (who : ℕ) (w : WaitId) (how : Resolution) (s : State) → IsOpenOf who (s.waits w) → (v : WaitId) → Some w ≡ Some v
+    → Turns IsResolvedWait v s.waits (resolve w how s).waits
 withdrawing who w how s h v e =
     let k : w ≡ v = cc in
     subst (λ u. Turns IsResolvedWait u s.waits (resolve w how s).waits) k
-    (record { before = open_of who (s.waits w) h; now = subst IsResolvedWait (sym (at_wait w _ s.waits)) (made_withdrawn who how (s.waits w) h) })
+    (record {
+      before = open_of who (s.waits w) h;
+      now = subst IsResolvedWait (sym (at_wait w _ s.waits))
+          (made_withdrawn who how (s.waits w) h);
+    })
 
-pub resolves_turns : (shape : Shape) (s : State) (who : ℕ) (act : Act) → AllStandOpen s → Needs shape s who act → (v : WaitId) → resolves s act ≡ Some v → Turns IsResolvedWait v s.waits (after s who act).waits
+pub resolves_turns : (shape : Shape) (s : State) (who : ℕ) (act : Act) → AllStandOpen s → Needs shape s who act → (v : WaitId)
+    → resolves s act ≡ Some v → Turns IsResolvedWait v s.waits (after s who act).waits
 resolves_turns shape s who (Hand c p x) h n v e = first_resolved c _ _ s (h c).receivers v e
 resolves_turns shape s who (Put c p x) h n v e = cc
 resolves_turns shape s who (Offer c p x w k) h n v e = cc
 resolves_turns shape s who (Await c p w k) h n v e = cc
 resolves_turns shape s who (Take c p x) h n v e = offer_resolved c _ _ s (h c).offers v e
 resolves_turns shape s who (Admit c p) h n v e =
-    holder_resolved c (holder_at p (s.channels c).queue) _ (with_queue c (admitted p (s.channels c).queue) s) (holder_at_stands s.waits c p (s.channels c).queue (h c).offers) v e
+    holder_resolved c (holder_at p (s.channels c).queue) _ (with_queue c (admitted p (s.channels c).queue) s)
+    (holder_at_stands s.waits c p (s.channels c).queue (h c).offers) v e
 resolves_turns shape s who (Drop c p x) h n v e = cc
 resolves_turns shape s who (Spurn c p x) h n v e = cc
 resolves_turns shape s who (Close c x) h n v e = cc
@@ -124,13 +142,19 @@ made_settled : (who : ℕ) (outcome : Settled) (x : Option Wait) → MaySettle w
 made_settled who outcome None h = h
 made_settled who outcome (Some x) h = refl
 
-settling : (who : ℕ) (outcome : Settled) (w : WaitId) (waits : WaitId → Option Wait) → MaySettle who outcome (waits w) → (v : WaitId) → Some w ≡ Some v → Turns IsSettledWait v waits (put_wait w (settled_wait outcome (waits w)) waits)
+settling : (who : ℕ) (outcome : Settled) (w : WaitId) (waits : WaitId → Option Wait) → MaySettle who outcome (waits w) → (v : WaitId)
+    → Some w ≡ Some v → Turns IsSettledWait v waits (put_wait w (settled_wait outcome (waits w)) waits)
 settling who outcome w waits h v e =
     let k : w ≡ v = cc in
     subst (λ u. Turns IsSettledWait u waits (put_wait w (settled_wait outcome (waits w)) waits)) k
-    (record { before = not_settled who outcome (waits w) h; now = subst IsSettledWait (sym (at_wait w _ waits)) (made_settled who outcome (waits w) h) })
+    (record {
+      before = not_settled who outcome (waits w) h;
+      now =
+          subst IsSettledWait (sym (at_wait w _ waits)) (made_settled who outcome (waits w) h);
+    })
 
-pub settles_turns : (shape : Shape) (s : State) (who : ℕ) (act : Act) → Needs shape s who act → (v : WaitId) → settles act ≡ Some v → Turns IsSettledWait v s.waits (after s who act).waits
+pub settles_turns : (shape : Shape) (s : State) (who : ℕ) (act : Act) → Needs shape s who act → (v : WaitId) → settles act ≡ Some v
+    → Turns IsSettledWait v s.waits (after s who act).waits
 settles_turns shape s who (Hand c p x) n v e = cc
 settles_turns shape s who (Put c p x) n v e = cc
 settles_turns shape s who (Offer c p x w k) n v e = cc

@@ -39,15 +39,28 @@ admitted_kept : (p : ℕ) (os : List Standing) → list_all is_kept os ≡ true 
 admitted_kept p [] h = refl
 admitted_kept p (o ∷ os) h = by_test (admitted_kept p os (all_rest is_kept o os h)) (o.place == p)
   where
-    by_test : list_all is_kept (admitted p os) ≡ true → (b : Bool) → list_all is_kept (if b then record o { holder = None } ∷ os else o ∷ admitted p os) ≡ true
+    by_test : list_all is_kept (admitted p os) ≡ true → (b : Bool)
+        → list_all is_kept (if b then record o { holder = None } ∷ os else o ∷ admitted p os) ≡ true
     by_test rest true = all_rest is_kept o os h
     by_test rest false = all_more is_kept o (admitted p os) (all_first is_kept o os h) rest
 
-offer_sound : (shape : Shape) (d p : ℕ) (b : Bool) (o : Standing) (ch : Channel) → HasPlace (places_at shape d) p ch → suspends (kind_at shape d) ≡ true → ChannelSound shape d ch → ChannelSound shape d (place_offer b o ch)
-offer_sound shape d p true o ch h s x = record { kept = λ e. absurd (true≢false (sym s ∙ e)); voided = x.voided; within = let l = h.left in omega arith }
-offer_sound shape d p false o ch h s x = record { kept = λ e. absurd (true≢false (sym s ∙ e)); voided = x.voided; within = let l = h.left in omega arith }
+offer_sound : (shape : Shape) (d p : ℕ) (b : Bool) (o : Standing) (ch : Channel) → HasPlace (places_at shape d) p ch
+    → suspends (kind_at shape d) ≡ true → ChannelSound shape d ch → ChannelSound shape d (place_offer b o ch)
+offer_sound shape d p true o ch h s x = record {
+  kept = λ e. absurd (true≢false (sym s ∙ e));
+  voided = x.voided;
+  within = let l = h.left
+      in omega arith;
+}
+offer_sound shape d p false o ch h s x = record {
+  kept = λ e. absurd (true≢false (sym s ∙ e));
+  voided = x.voided;
+  within = let l = h.left
+      in omega arith;
+}
 
-receiver_sound : (shape : Shape) (d p : ℕ) (b : Bool) (r : Receiver) (ch : Channel) → HasPlace (places_at shape d) p ch → ChannelSound shape d ch → ChannelSound shape d (place_receiver b r ch)
+receiver_sound : (shape : Shape) (d p : ℕ) (b : Bool) (r : Receiver) (ch : Channel) → HasPlace (places_at shape d) p ch
+    → ChannelSound shape d ch → ChannelSound shape d (place_receiver b r ch)
 receiver_sound shape d p true r ch h x = record { kept = x.kept; voided = x.voided; within = let l = h.left in omega arith }
 receiver_sound shape d p false r ch h x = record { kept = x.kept; voided = x.voided; within = let l = h.left in omega arith }
 
@@ -57,11 +70,24 @@ some_not (Some v) e f = cc
 
 pub sound_keeps : (shape : Shape) → ChannelKeeps shape (ChannelSound shape)
 sound_keeps shape = record {
-  without = λ w d ch h. record { kept = λ e. all_filter is_kept (λ (o : Standing). not (is_held_by w o.holder)) ch.queue (h.kept e); voided = h.voided; within = h.within };
-  rest = λ d o os ch e h. record { kept = λ s. all_rest is_kept o os (subst (λ (l : List Standing). list_all is_kept l ≡ true) e (h.kept s)); voided = h.voided; within = h.within };
+  without = λ w d ch h. record {
+    kept = λ e. all_filter is_kept (λ (o : Standing). not (is_held_by w o.holder)) ch.queue (h.kept e);
+    voided = h.voided;
+    within = h.within;
+  };
+  rest = λ d o os ch e h. record {
+    kept = λ s. all_rest is_kept o os
+        (subst (λ (l : List Standing). list_all is_kept l ≡ true) e (h.kept s));
+    voided = h.voided;
+    within = h.within;
+  };
   admit = λ d p ch h. record { kept = λ e. admitted_kept p ch.queue (h.kept e); voided = h.voided; within = h.within };
   spurn = λ d p ch h. record { kept = λ e. all_filter is_kept (is_elsewhere p) ch.queue (h.kept e); voided = h.voided; within = h.within };
-  put = λ d p v ch h n x. record { kept = λ e. all_push is_kept ch.queue (record { place = p; value = v; holder = None }) (x.kept e) refl; voided = x.voided; within = let l = h.left in omega arith };
+  put = λ d p v ch h n x. record {
+    kept = λ e. all_push is_kept ch.queue (record { place = p; value = v; holder = None }) (x.kept e) refl;
+    voided = x.voided;
+    within = let l = h.left in omega arith;
+  };
   offer = λ d p b o ch h n s e x. offer_sound shape d p b o ch h s x;
   await = λ d p b r ch h n e x. receiver_sound shape d p b r ch h x;
   close = λ d v ch e h. record { kept = h.kept; voided = λ f. cc; within = h.within };
@@ -87,7 +113,8 @@ ends_joined : (who k c : ℕ) (x : Option Wait) → EndsResolved x → EndsResol
 ends_joined who k c None h = λ e. refl
 ends_joined who k c (Some x) h = h
 
-ends_settled : (who : ℕ) (outcome : Settled) (x : Option Wait) → MaySettle who outcome x → EndsResolved x → EndsResolved (settled_wait outcome x)
+ends_settled : (who : ℕ) (outcome : Settled) (x : Option Wait) → MaySettle who outcome x → EndsResolved x
+    → EndsResolved (settled_wait outcome x)
 ends_settled who outcome None m h = h
 ends_settled who outcome (Some x) m h = λ e. absurd (not_open outcome x.resolved m.2 e)
 
@@ -116,7 +143,13 @@ sound_step shape s who act n h = record {
 }
 
 pub sound_start : (shape : Shape) → Sound shape start
-sound_start shape = record { placed = start_placed; stand = start_open; ended = λ w. tt; channels = λ d. record { kept = λ e. refl; voided = λ e. refl; within = omega arith } }
+sound_start shape = record {
+  placed = start_placed;
+  stand = start_open;
+  ended = λ w. tt;
+  channels =
+      λ d. record { kept = λ e. refl; voided = λ e. refl; within = omega arith };
+}
 
 -- ---- histories that go on
 
@@ -125,13 +158,16 @@ pub record Lasts (shape : Shape) (P : State → Type 0) : Type 0 where
   pub step : (s : State) (who : ℕ) (act : Act) → Sound shape s → Needs shape s who act → P s → P (after s who act)
 
 module _ (shape : Shape) where
-  pub lasts_from : (P : State → Type 0) → Lasts shape P → (s : State) (es : List Entry) → LegalFrom shape s es → Sound shape s → P s → P (replay_from s es)
+  pub lasts_from : (P : State → Type 0) → Lasts shape P → (s : State) (es : List Entry) → LegalFrom shape s es → Sound shape s → P s
+      → P (replay_from s es)
   unfolding LegalFrom replay_from
   lasts_from P k s [] l h p = p
-  lasts_from P k s (e ∷ es) l h p = lasts_from P k (after s e.who e.act) es l.1 (sound_step shape s e.who e.act l.0 h) (k.step s e.who e.act h l.0 p)
+  lasts_from P k s (e ∷ es) l h p = lasts_from P k (after s e.who e.act) es l.1 (sound_step shape s e.who e.act l.0 h)
+      (k.step s e.who e.act h l.0 p)
 
   pub sound : (es : List Entry) → Legal shape es → Sound shape (replay es)
-  sound es l = lasts_from (Sound shape) (record { step = λ s who act h n p. sound_step shape s who act n p }) start es l (sound_start shape) (sound_start shape)
+  sound es l = lasts_from (Sound shape) (record { step = λ s who act h n p. sound_step shape s who act n p }) start es l (sound_start shape)
+      (sound_start shape)
 
   -- it holds of what every history leaves that goes on
   pub lasts : (P : State → Type 0) → Lasts shape P → (xs ys : List Entry) → IsPrefix xs ys → Legal shape ys → P (replay xs) → P (replay ys)
@@ -141,8 +177,10 @@ module _ (shape : Shape) where
       let r = lasts_from P k (replay xs) le.0 parts.1 (sound xs parts.0) p in
       subst (λ es. P (replay es)) le.1 (subst P (sym (replay_from-append start xs le.0)) r)
 
-  pub channel_lasts : (P : ℕ → Channel → Type 0) → ChannelKeeps shape P → (c : ℕ) (xs ys : List Entry) → IsPrefix xs ys → Legal shape ys → P c ((replay xs).channels c) → P c ((replay ys).channels c)
-  channel_lasts P k c xs ys le l p = lasts (λ s. P c (s.channels c)) (record { step = λ s who act h n p. after_keeps shape P k s who act c n p }) xs ys le l p
+  pub channel_lasts : (P : ℕ → Channel → Type 0) → ChannelKeeps shape P → (c : ℕ) (xs ys : List Entry) → IsPrefix xs ys → Legal shape ys
+      → P c ((replay xs).channels c) → P c ((replay ys).channels c)
+  channel_lasts P k c xs ys le l p = lasts (λ s. P c (s.channels c))
+      (record { step = λ s who act h n p. after_keeps shape P k s who act c n p }) xs ys le l p
 
 -- ---- what lasts
 

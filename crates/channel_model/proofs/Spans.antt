@@ -56,7 +56,8 @@ pub added_made : (who : ℕ) (act : Act) (old new : Floor) → Made who act old 
 added_made who act old new h = record {
   same = h.same;
   longer = (let k = prefix_append old.seen h.before (record { who = who; act = act } ∷ []) h.longer in (k.0, k.1 ∙ sym h.last));
-  mine = ap (acts_of who) h.last ∙ acts_of-append who h.before (record { who = who; act = act } ∷ []) ∙ ap (λ l. l ++ acts_of who (record { who = who; act = act } ∷ [])) h.mine ∙ ap (λ l. acts_of who old.seen ++ l) (own_act who act);
+  mine = ap (acts_of who) h.last ∙ acts_of-append who h.before (record { who = who; act = act } ∷ [])
+      ∙ ap (λ l. l ++ acts_of who (record { who = who; act = act } ∷ [])) h.mine ∙ ap (λ l. acts_of who old.seen ++ l) (own_act who act);
   alone = λ a. h.last ∙ ap (λ l. l ++ record { who = who; act = act } ∷ []) (h.alone a);
 }
 
@@ -70,7 +71,8 @@ added_then who xs ys a b c h k = record {
   same = setting_then a b c h.same k.same;
   longer = prefix_then a.seen b.seen c.seen h.longer k.longer;
   mine = k.mine ∙ ap (λ l. l ++ ys) h.mine ∙ append_assoc (acts_of who a.seen) xs ys;
-  alone = λ e. k.alone (h.same.alone ∙ e) ∙ ap (λ l. l ++ entries_by who ys) (h.alone e) ∙ append_assoc a.seen (entries_by who xs) (entries_by who ys) ∙ ap (λ l. a.seen ++ l) (sym (entries_append who xs ys));
+  alone = λ e. k.alone (h.same.alone ∙ e) ∙ ap (λ l. l ++ entries_by who ys) (h.alone e)
+      ∙ append_assoc a.seen (entries_by who xs) (entries_by who ys) ∙ ap (λ l. a.seen ++ l) (sym (entries_append who xs ys));
 }
 
 -- a moment of one call is one of a longer span

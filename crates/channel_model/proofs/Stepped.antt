@@ -67,19 +67,30 @@ at_decides p v (o ∷ os) = if_decides (o.place == p) _ _ (Decides-eqb o.value v
 
 place_decides : (places p : ℕ) (ch : Channel) → Decides (gives_place places p ch) (HasPlace places p ch)
 place_decides places p ch =
-    Decides-like (gives_place places p ch) (λ h. record { open_now = h.0; left = h.1.0; first = h.1.1 }) (λ h. (h.open_now, (h.left, h.first)))
+    Decides-like (gives_place places p ch) (λ h. record { open_now = h.0; left = h.1.0; first = h.1.1 })
+    (λ h. (h.open_now, (h.left, h.first)))
     (Decides-and _ _ (none_decides ch.closed) (Decides-and _ _ (lt_decides ch.next places) (Decides-eqb p ch.next)))
 
 admissible_decides : (kind : Kind) (p n : ℕ) (os : List Standing) → Decides (is_admissible kind p n os) (MayBeAdmitted kind p n os)
 admissible_decides kind p n [] = never_decides (λ h. h)
 admissible_decides kind p n (o ∷ os) =
-    if_decides (o.place == p) _ _ (Decides-and _ _ (true_decides (is_some o.holder)) (false_decides (is_full kind n))) (admissible_decides kind p (n + 1) os)
+    if_decides (o.place == p) _ _ (Decides-and _ _ (true_decides (is_some o.holder)) (false_decides (is_full kind n)))
+    (admissible_decides kind p (n + 1) os)
 
 join_decides : (who k c : ℕ) (x : Option Wait) → Decides (may_join who k c x) (JoinsWait who k c x)
 join_decides who k c None = never_decides (λ h. h)
 join_decides who k c (Some x) =
     Decides-like (may_join who k c (Some x))
-    (λ h. record { own = h.0; select = h.1.0; unsettled = h.1.1.0; other_channel = h.1.1.1.0; other_clause = h.1.1.1.1.0; low = h.1.1.1.1.1.0; high = h.1.1.1.1.1.1 })
+    (λ h. record {
+      own = h.0;
+      select = h.1.0;
+      unsettled = h.1.1.0;
+      other_channel = h.1.1.1.0;
+      other_clause = h.1.1.1.1.0;
+      low =
+          h.1.1.1.1.1.0;
+      high = h.1.1.1.1.1.1;
+    })
     (λ h. (h.own, (h.select, (h.unsettled, (h.other_channel, (h.other_clause, (h.low, h.high)))))))
     (Decides-and _ _ (Decides-eqb x.owner who)
     (Decides-and _ _ (true_decides (began_by_select x.clauses))
@@ -89,7 +100,8 @@ join_decides who k c (Some x) =
     (Decides-and _ _ (le_decides 1 k) (le_decides k 7)))))))
 
 name_decides : (who k c p : ℕ) (w : WaitId) (s : State) → Decides (may_name who k c p w s) (MayName who k c p w s)
-name_decides who k c p w s = if_decides (same_wait w (record { channel = c; place = p })) _ _ (le_decides k 7) (join_decides who k c (s.waits w))
+name_decides who k c p w s = if_decides (same_wait w (record { channel = c; place = p })) _ _ (le_decides k 7)
+    (join_decides who k c (s.waits w))
 
 open_decides : (who : ℕ) (x : Option Wait) → Decides (is_open_of who x) (IsOpenOf who x)
 open_decides who None = never_decides (λ h. h)
@@ -148,18 +160,12 @@ settled_decides x y = (settled_same x y, λ e. subst (λ z. same_settled x z ≡
 no_value : (how : Resolution) → IsOutcome settled.Cancelled (Some how) → settled.Cancelled ≡ outcome_of how true
 no_value (resolved.Handed k v) e = cc
 no_value (resolved.Taken k) e = refl
-no_value (resolved.Admitted k) e = refl
-no_value (resolved.Closed k v) e = refl
-no_value (resolved.Withdrawn why) e = refl
-no_value resolved.Voided e = refl
+no_value other e = refl
 
 some_value : (v : ℕ) (how : Resolution) → IsOutcome (settled.Undelivered v) (Some how) → settled.Undelivered v ≡ outcome_of how true
 some_value v (resolved.Handed k u) e = let f : u ≡ v = cc in ap settled.Undelivered (sym f)
 some_value v (resolved.Taken k) e = cc
-some_value v (resolved.Admitted k) e = cc
-some_value v (resolved.Closed k u) e = cc
-some_value v (resolved.Withdrawn why) e = cc
-some_value v resolved.Voided e = cc
+some_value v other e = cc
 
 was_sent : (k : ℕ) (how : Resolution) → IsOutcome (settled.Sent k) (Some how) → settled.Sent k ≡ outcome_of how false
 was_sent k (resolved.Handed j v) e = cc
@@ -169,7 +175,8 @@ was_sent k (resolved.Closed j v) e = cc
 was_sent k (resolved.Withdrawn why) e = cc
 was_sent k resolved.Voided e = cc
 
-ends_as : (outcome : Settled) (how : Resolution) → IsOutcome outcome (Some how) → (outcome ≡ outcome_of how false) ⊎ (outcome ≡ outcome_of how true)
+ends_as : (outcome : Settled) (how : Resolution) → IsOutcome outcome (Some how) → (outcome ≡ outcome_of how false)
+    ⊎ (outcome ≡ outcome_of how true)
 ends_as (settled.Value k v) how e = inl (ap (λ x. outcome_of x false) (sym e))
 ends_as (settled.Sent k) how e = inl (was_sent k how e)
 ends_as (settled.Closed k v) how e = inl (ap (λ x. outcome_of x false) (sym e))
@@ -180,7 +187,8 @@ outcome_decides : (outcome : Settled) (how : Option Resolution) → Decides (is_
 outcome_decides outcome None = never_decides (λ h. h)
 outcome_decides outcome (Some how) =
     Decides-like (is_outcome outcome (Some how))
-    (λ h. ⊎_elim (λ e. subst (λ x. IsOutcome x (Some how)) (sym e) (outcome_is how false)) (λ e. subst (λ x. IsOutcome x (Some how)) (sym e) (outcome_is how true)) h)
+    (λ h. ⊎_elim (λ e. subst (λ x. IsOutcome x (Some how)) (sym e) (outcome_is how false))
+    (λ e. subst (λ x. IsOutcome x (Some how)) (sym e) (outcome_is how true)) h)
     (ends_as outcome how)
     (Decides-or _ _ (settled_decides outcome (outcome_of how false)) (settled_decides outcome (outcome_of how true)))
 
@@ -195,39 +203,49 @@ settle_decides who outcome (Some x) =
 needs_decides : (shape : Shape) (s : State) (who : ℕ) (act : Act) → Decides (may_come shape s who act) (Needs shape s who act)
 needs_decides shape s who (Hand c p v) =
     Decides-like (may_come shape s who (Hand c p v)) (λ h. (h.0, h.1.0, h.1.1)) (λ h. (h.0, (h.1, h.2)))
-    (Decides-and _ _ (lt_decides c (length shape)) (Decides-and _ _ (false_decides (is_signal (kind_at shape c))) (receiver_decides p (s.channels c).receivers)))
+    (Decides-and _ _ (lt_decides c (length shape)) (Decides-and _ _ (false_decides (is_signal (kind_at shape c)))
+    (receiver_decides p (s.channels c).receivers)))
 needs_decides shape s who (Put c p v) =
     Decides-like (may_come shape s who (Put c p v)) (λ h. (h.0, h.1.0, h.1.1.0, h.1.1.1)) (λ h. (h.0, (h.1, (h.2, h.3))))
     (Decides-and _ _ (lt_decides c (length shape))
     (Decides-and _ _ (place_decides (places_at shape c) p (s.channels c))
     (Decides-and _ _ (empty_decides (s.channels c).receivers) (false_decides (is_full (kind_at shape c) (length (s.channels c).queue))))))
 needs_decides shape s who (Offer c p v w k) =
-    Decides-like (may_come shape s who (Offer c p v w k)) (λ h. (h.0, h.1.0, h.1.1.0, h.1.1.1.0, h.1.1.1.1)) (λ h. (h.0, (h.1, (h.2, (h.3, h.4)))))
+    Decides-like (may_come shape s who (Offer c p v w k)) (λ h. (h.0, h.1.0, h.1.1.0, h.1.1.1.0, h.1.1.1.1))
+    (λ h. (h.0, (h.1, (h.2, (h.3, h.4)))))
     (Decides-and _ _ (lt_decides c (length shape))
     (Decides-and _ _ (place_decides (places_at shape c) p (s.channels c))
-    (Decides-and _ _ (empty_decides (s.channels c).receivers) (Decides-and _ _ (true_decides (suspends (kind_at shape c))) (name_decides who k c p w s)))))
+    (Decides-and _ _ (empty_decides (s.channels c).receivers)
+    (Decides-and _ _ (true_decides (suspends (kind_at shape c))) (name_decides who k c p w s)))))
 needs_decides shape s who (Await c p w k) =
     Decides-like (may_come shape s who (Await c p w k)) (λ h. (h.0, h.1.0, h.1.1.0, h.1.1.1)) (λ h. (h.0, (h.1, (h.2, h.3))))
     (Decides-and _ _ (lt_decides c (length shape))
-    (Decides-and _ _ (place_decides (places_at shape c) p (s.channels c)) (Decides-and _ _ (empty_decides (s.channels c).queue) (name_decides who k c p w s))))
+    (Decides-and _ _ (place_decides (places_at shape c) p (s.channels c))
+    (Decides-and _ _ (empty_decides (s.channels c).queue) (name_decides who k c p w s))))
 needs_decides shape s who (Take c p v) = Decides-and _ _ (lt_decides c (length shape)) (offer_decides p v (s.channels c).queue)
-needs_decides shape s who (Admit c p) = Decides-and _ _ (lt_decides c (length shape)) (admissible_decides (kind_at shape c) p 0 (s.channels c).queue)
+needs_decides shape s who (Admit c p) = Decides-and _ _ (lt_decides c (length shape))
+    (admissible_decides (kind_at shape c) p 0 (s.channels c).queue)
 needs_decides shape s who (Drop c p v) =
     Decides-like (may_come shape s who (Drop c p v)) (λ h. (h.0, h.1.0, h.1.1)) (λ h. (h.0, (h.1, h.2)))
-    (Decides-and _ _ (lt_decides c (length shape)) (Decides-and _ _ (true_decides (drops (kind_at shape c) (length (s.channels c).queue))) (offer_decides p v (s.channels c).queue)))
+    (Decides-and _ _ (lt_decides c (length shape)) (Decides-and _ _ (true_decides (drops (kind_at shape c) (length (s.channels c).queue)))
+    (offer_decides p v (s.channels c).queue)))
 needs_decides shape s who (Spurn c p v) =
     Decides-like (may_come shape s who (Spurn c p v)) (λ h. (h.0, h.1.0, h.1.1)) (λ h. (h.0, (h.1, h.2)))
-    (Decides-and _ _ (lt_decides c (length shape)) (Decides-and _ _ (true_decides (spurns (kind_at shape c) (s.stood c p))) (at_decides p v (s.channels c).queue)))
+    (Decides-and _ _ (lt_decides c (length shape)) (Decides-and _ _ (true_decides (spurns (kind_at shape c) (s.stood c p)))
+    (at_decides p v (s.channels c).queue)))
 needs_decides shape s who (Close c v) = Decides-and _ _ (lt_decides c (length shape)) (none_decides (s.channels c).closed)
 needs_decides shape s who (Void c) =
     Decides-like (may_come shape s who (Void c)) (λ h. (h.0, h.1.0, h.1.1)) (λ h. (h.0, (h.1, h.2)))
-    (Decides-and _ _ (lt_decides c (length shape)) (Decides-and _ _ (true_decides (is_some (s.channels c).closed)) (false_decides (s.channels c).voided)))
+    (Decides-and _ _ (lt_decides c (length shape)) (Decides-and _ _ (true_decides (is_some (s.channels c).closed))
+    (false_decides (s.channels c).voided)))
 needs_decides shape s who (Drain c p v) =
     Decides-like (may_come shape s who (Drain c p v)) (λ h. (h.0, h.1.0, h.1.1)) (λ h. (h.0, (h.1, h.2)))
-    (Decides-and _ _ (lt_decides c (length shape)) (Decides-and _ _ (true_decides (s.channels c).voided) (offer_decides p v (s.channels c).queue)))
+    (Decides-and _ _ (lt_decides c (length shape)) (Decides-and _ _ (true_decides (s.channels c).voided)
+    (offer_decides p v (s.channels c).queue)))
 needs_decides shape s who (WakeClosed c p) =
     Decides-like (may_come shape s who (WakeClosed c p)) (λ h. (h.0, h.1.0, h.1.1)) (λ h. (h.0, (h.1, h.2)))
-    (Decides-and _ _ (lt_decides c (length shape)) (Decides-and _ _ (true_decides (is_some (s.channels c).closed)) (receiver_decides p (s.channels c).receivers)))
+    (Decides-and _ _ (lt_decides c (length shape)) (Decides-and _ _ (true_decides (is_some (s.channels c).closed))
+    (receiver_decides p (s.channels c).receivers)))
 needs_decides shape s who (Withdraw w why) = open_decides who (s.waits w)
 needs_decides shape s who (Settle w outcome) = settle_decides who outcome (s.waits w)
 
@@ -237,14 +255,17 @@ chosen : (b : Bool) (s t : State) {P : Type 0} → Decides b P → ((if b then S
 chosen true s t d = (λ e. let k : s ≡ t = cc in (d.0 refl, k), λ h. ap (λ x. Some x) h.1)
 chosen false s t d = (λ e. cc, λ h. let k = d.1 h.0 in cc)
 
-pub step_taken : (shape : Shape) (s t : State) (e : Entry) → (step shape s e ≡ Some t) ↔ (Needs shape s e.who e.act × (after s e.who e.act ≡ t))
+pub step_taken : (shape : Shape) (s t : State) (e : Entry)
+    → (step shape s e ≡ Some t) ↔ (Needs shape s e.who e.act × (after s e.who e.act ≡ t))
 step_taken shape s t e = chosen (may_come shape s e.who e.act) (after s e.who e.act) t (needs_decides shape s e.who e.act)
 
-next_step : (o : Option State) (f : State → Option State) (t : State) → or_nothing o f ≡ Some t → (u : State) × (o ≡ Some u) × (f u ≡ Some t)
+next_step : (o : Option State) (f : State → Option State) (t : State) → or_nothing o f ≡ Some t → (u : State) × (o ≡ Some u)
+    × (f u ≡ Some t)
 next_step None f t e = cc
 next_step (Some u) f t e = (u, refl, e)
 
-first_unfolds : (shape : Shape) (s : State) (e : Entry) (es : List Entry) → steps shape s (e ∷ es) ≡ or_nothing (step shape s e) (λ t. steps shape t es)
+first_unfolds : (shape : Shape) (s : State) (e : Entry) (es : List Entry)
+    → steps shape s (e ∷ es) ≡ or_nothing (step shape s e) (λ t. steps shape t es)
 unfolding steps
 first_unfolds shape s e es = refl
 
@@ -269,5 +290,6 @@ legal_taken shape s t (e ∷ es) l k =
     ∙ ap (λ o. or_nothing o (λ u. steps shape u es)) ((step_taken shape s (after s e.who e.act) e).1 (l.0, refl))
     ∙ legal_taken shape (after s e.who e.act) t es l.1 k
 
-pub steps_taken : (shape : Shape) (s t : State) (es : List Entry) → (steps shape s es ≡ Some t) ↔ (LegalFrom shape s es × (replay_from s es ≡ t))
+pub steps_taken : (shape : Shape) (s t : State) (es : List Entry)
+    → (steps shape s es ≡ Some t) ↔ (LegalFrom shape s es × (replay_from s es ≡ t))
 steps_taken shape s t es = (taken_legal shape s t es, λ h. legal_taken shape s t es h.0 h.1)

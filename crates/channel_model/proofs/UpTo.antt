@@ -14,7 +14,8 @@ at_most_one false n m h = omega arith
 -- above the place none stands
 none_up_to : (mine p next : ℕ) (q : List Standing) → mine < p → OffersAscend p next q → offers_up_to mine q ≡ 0
 none_up_to mine p next [] h b = refl
-none_up_to mine p next (o ∷ os) h b = not_counted (nat_le o.place mine) _ (above o.place (let k = b.0 in omega arith)) (none_up_to mine (o.place + 1) next os (let k = b.0 in omega arith) b.1)
+none_up_to mine p next (o ∷ os) h b = not_counted (nat_le o.place mine) _ (above o.place (let k = b.0 in omega arith))
+    (none_up_to mine (o.place + 1) next os (let k = b.0 in omega arith) b.1)
   where
     above : (x : ℕ) → mine < x → nat_le x mine ≡ false
     above x h = grind (arith, nat_tests)
@@ -34,17 +35,20 @@ few_stand mine zero (o ∷ os) e = cc
 few_stand mine (suc k) (o ∷ os) e = at_most_one (nat_le o.place mine) _ k (few_stand mine k os e)
 
 -- what stands at the index came later
-pub later_stands : (mine p next k : ℕ) (q : List Standing) (o : Standing) → OffersAscend p next q → slice_get q k ≡ Some o → mine < o.place → offers_up_to mine q ≤ k
+pub later_stands : (mine p next k : ℕ) (q : List Standing) (o : Standing) → OffersAscend p next q → slice_get q k ≡ Some o → mine < o.place
+    → offers_up_to mine q ≤ k
 later_stands mine p next k [] o b e h = cc
 later_stands mine p next zero (x ∷ xs) o b e h =
     let is : x ≡ o = cc in
     let above : mine < x.place = subst (λ (y : Standing). mine < y.place) (sym is) h in
     let none : offers_up_to mine (x ∷ xs) ≡ 0 = none_up_to mine x.place next (x ∷ xs) above (omega arith, b.1) in
     omega (arith, none)
-later_stands mine p next (suc k) (x ∷ xs) o b e h = at_most_one (nat_le x.place mine) _ k (later_stands mine (x.place + 1) next k xs o b.1 e h)
+later_stands mine p next (suc k) (x ∷ xs) o b e h = at_most_one (nat_le x.place mine) _ k
+    (later_stands mine (x.place + 1) next k xs o b.1 e h)
 
 -- what stands at the index came no later, and so did all before it
-pub more_stand : (mine p next k : ℕ) (q : List Standing) (o : Standing) → OffersAscend p next q → slice_get q k ≡ Some o → o.place ≤ mine → (k < offers_up_to mine q) × (p ≤ o.place)
+pub more_stand : (mine p next k : ℕ) (q : List Standing) (o : Standing) → OffersAscend p next q → slice_get q k ≡ Some o → o.place ≤ mine
+    → (k < offers_up_to mine q) × (p ≤ o.place)
 more_stand mine p next k [] o b e h = cc
 more_stand mine p next zero (x ∷ xs) o b e h =
     let is : x ≡ o = cc in

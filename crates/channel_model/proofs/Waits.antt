@@ -28,7 +28,8 @@ pub at_wait : (w : WaitId) (x : Option Wait) (waits : WaitId → Option Wait) �
 at_wait w x waits = ap (λ b. if b then x else waits w) (same_wait-refl w)
 
 -- whatever P says of a wait that is changed at w alone
-pub one_change : (P : Option Wait → Type 0) (waits : WaitId → Option Wait) (w v : WaitId) (f : Option Wait → Option Wait) → (P (waits v) → P (f (waits v))) → P (waits v) → P (put_wait w (f (waits w)) waits v)
+pub one_change : (P : Option Wait → Type 0) (waits : WaitId → Option Wait) (w v : WaitId) (f : Option Wait → Option Wait)
+    → (P (waits v) → P (f (waits v))) → P (waits v) → P (put_wait w (f (waits w)) waits v)
 one_change P waits w v f k h = by_test (same_wait w v) refl
   where
     by_test : (b : Bool) → same_wait w v ≡ b → P (if b then f (waits w) else waits v)
@@ -36,7 +37,8 @@ one_change P waits w v f k h = by_test (same_wait w v) refl
     by_test false e = h
 
 -- a wait that did not begin does not begin by a change of another
-pub put_none : (waits : WaitId → Option Wait) (w v : WaitId) (f : Option Wait → Option Wait) → f None ≡ None → waits v ≡ None → put_wait w (f (waits w)) waits v ≡ None
+pub put_none : (waits : WaitId → Option Wait) (w v : WaitId) (f : Option Wait → Option Wait) → f None ≡ None → waits v ≡ None
+    → put_wait w (f (waits w)) waits v ≡ None
 put_none waits w v f k e = by_test (same_wait w v) refl
   where
     by_test : (b : Bool) → same_wait w v ≡ b → (if b then f (waits w) else waits v) ≡ None

@@ -48,7 +48,8 @@
 //! Others show what floors and callers need of histories:
 //!
 //! - what a call finds: `Firsts`, `Marks`, `Leads`, `UpTo`, `Alone`, `Lasts`, `Spans`.
-//! - a caller's own waits and entries: `OwnWaits`, `Entries`, `Joining`, `Puts`, `PlainOffers`, `ResolvedAtClauses`, `ClosedWaits`.
+//! - a caller's own waits and entries: `OwnWaits`, `Entries`, `Joining`, `Puts`, `PlainOffers`, `ResolvedAtClauses`, `OneClause`,
+//!   `ClosedWaits`.
 //! - how much is left to do: `Left`, `LeftOnFloors`. `Once`: legality has one proof. `Elements`: lists.
 #![tactic(auto)]
 

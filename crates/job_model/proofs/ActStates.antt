@@ -31,8 +31,10 @@ body_goes Completed n b = let k : true ≡ false = b refl in cc
 end_goes : (s : JobState) (j : Job) (end : End) → end_of s j ≡ Some end → FinishesFrom end s (state_of_end end)
 end_goes New j end e = cc
 end_goes Active j end e = cc
-end_goes Completing j end e = let k : ends.Completed j.value ≡ end = cc in subst (λ x. FinishesFrom x Completing (state_of_end x)) k (refl, refl)
-end_goes Cancelling j end e = let k : ends.Cancelled j.cause ≡ end = cc in subst (λ x. FinishesFrom x Cancelling (state_of_end x)) k (refl, refl)
+end_goes Completing j end e = let k : ends.Completed j.value ≡ end = cc
+    in subst (λ x. FinishesFrom x Completing (state_of_end x)) k (refl, refl)
+end_goes Cancelling j end e = let k : ends.Cancelled j.cause ≡ end = cc
+    in subst (λ x. FinishesFrom x Cancelling (state_of_end x)) k (refl, refl)
 end_goes Cancelled j end e = cc
 end_goes Completed j end e = cc
 
@@ -40,15 +42,18 @@ start_takes : (r : ℕ) (x : Option Job) → state_of x ≡ Some New → ActTake
 start_takes r None e = cc
 start_takes r (Some j) e = (let k : j.state ≡ New = cc in k, refl)
 
-body_takes : (who r v : ℕ) (x : Option Job) → MayEndBody who x → IsSoundRow x → ActTakes (EndBody r v) (state_of x) (state_of (option_map (without_body v) x))
+body_takes : (who r v : ℕ) (x : Option Job) → MayEndBody who x → IsSoundRow x
+    → ActTakes (EndBody r v) (state_of x) (state_of (option_map (without_body v) x))
 body_takes who r v None m s = absurd m
 body_takes who r v (Some j) m s = body_goes j.state m.1 (λ b. sym (s.bodiless b) ∙ m.2)
 
-cancel_takes : (r : ℕ) (reason : Reason) (cause : Cause) (x : Option Job) → MayBeCancelled x → ActTakes (Cancel r reason) (state_of x) (state_of (option_map (cancelled_for cause) x))
+cancel_takes : (r : ℕ) (reason : Reason) (cause : Cause) (x : Option Job) → MayBeCancelled x
+    → ActTakes (Cancel r reason) (state_of x) (state_of (option_map (cancelled_for cause) x))
 cancel_takes r reason cause None m = absurd m
 cancel_takes r reason cause (Some j) m = (m, refl)
 
-finish_takes : (who r : ℕ) (end : End) (x : Option Job) → MayFinish end x → ActTakes (Finish r end) (state_of x) (state_of (option_map (ended_by who end) x))
+finish_takes : (who r : ℕ) (end : End) (x : Option Job) → MayFinish end x
+    → ActTakes (Finish r end) (state_of x) (state_of (option_map (ended_by who end) x))
 finish_takes who r end None m = absurd m
 finish_takes who r end (Some j) m = end_goes j.state j end m.2
 
@@ -73,30 +78,42 @@ tell_takes r None e = absurd e
 tell_takes r (Some j) e = (e, refl)
 
 -- at the row of the act
-act_takes : (shape : Shape) (tree : Tree) (who : ℕ) (act : JobAct) → HasFamilies tree → Needs shape tree who act → ActTakes act (state_of (tree (row_of_act act))) (state_of (after tree who act (row_of_act act)))
+act_takes : (shape : Shape) (tree : Tree) (who : ℕ) (act : JobAct) → HasFamilies tree → Needs shape tree who act
+    → ActTakes act (state_of (tree (row_of_act act))) (state_of (after tree who act (row_of_act act)))
 act_takes shape tree who (Attach p r kind tag cancelled) h n = (ap state_of n.0, ap state_of (attached_now tree who p r kind tag cancelled))
-act_takes shape tree who (Start r) h n = subst (λ x. ActTakes (Start r) (state_of (tree r)) (state_of x)) (sym (changed_here r started tree)) (start_takes r (tree r) n)
-act_takes shape tree who (EndBody r v) h n = subst (λ x. ActTakes (EndBody r v) (state_of (tree r)) (state_of x)) (sym (changed_here r (without_body v) tree)) (body_takes who r v (tree r) n (h.rows r))
+act_takes shape tree who (Start r) h n = subst (λ x. ActTakes (Start r) (state_of (tree r)) (state_of x))
+    (sym (changed_here r started tree)) (start_takes r (tree r) n)
+act_takes shape tree who (EndBody r v) h n = subst (λ x. ActTakes (EndBody r v) (state_of (tree r)) (state_of x))
+    (sym (changed_here r (without_body v) tree)) (body_takes who r v (tree r) n (h.rows r))
 act_takes shape tree who (Cancel r reason) h n =
     let cause = cause_of_reason tree reason in
-    subst (λ x. ActTakes (Cancel r reason) (state_of (tree r)) (state_of x)) (sym (changed_here r (cancelled_for cause) tree)) (cancel_takes r reason cause (tree r) n.0)
-act_takes shape tree who (Finish r end) h n = subst (λ x. ActTakes (Finish r end) (state_of (tree r)) (state_of x)) (sym (changed_here r (ended_by who end) tree)) (finish_takes who r end (tree r) n)
+    subst (λ x. ActTakes (Cancel r reason) (state_of (tree r)) (state_of x)) (sym (changed_here r (cancelled_for cause) tree))
+    (cancel_takes r reason cause (tree r) n.0)
+act_takes shape tree who (Finish r end) h n = subst (λ x. ActTakes (Finish r end) (state_of (tree r)) (state_of x))
+    (sym (changed_here r (ended_by who end) tree)) (finish_takes who r end (tree r) n)
 act_takes shape tree who (Gone r) h n =
-    subst (λ s. ActTakes (Gone r) (state_of (tree r)) s) (sym (kept_told r r (parent_of (tree r)) tree)) (tell_takes r (tree r) (finished_ended who (tree r) n.0 (h.rows r)))
+    subst (λ s. ActTakes (Gone r) (state_of (tree r)) s) (sym (kept_told r r (parent_of (tree r)) tree))
+    (tell_takes r (tree r) (finished_ended who (tree r) n.0 (h.rows r)))
 
 -- at any other row
-other_stays : (tree : Tree) (who : ℕ) (act : JobAct) (q : ℕ) → (row_of_act act == q) ≡ false → state_of (after tree who act q) ≡ state_of (tree q)
-other_stays tree who (Attach p r kind tag cancelled) q e = ap (λ b. state_of (if b then Some (new_child p kind tag cancelled) else change p (with_child r) tree q)) e ∙ kept_at (with_child r) (λ j. refl) p q tree
+other_stays : (tree : Tree) (who : ℕ) (act : JobAct) (q : ℕ) → (row_of_act act == q) ≡ false
+    → state_of (after tree who act q) ≡ state_of (tree q)
+other_stays tree who (Attach p r kind tag cancelled) q e =
+    ap (λ b. state_of (if b then Some (new_child p kind tag cancelled) else change p (with_child r) tree q)) e
+    ∙ kept_at (with_child r) (λ j. refl) p q tree
 other_stays tree who (Start r) q e = ap (λ b. state_of (if b then option_map started (tree r) else tree q)) e
 other_stays tree who (EndBody r v) q e = ap (λ b. state_of (if b then option_map (without_body v) (tree r) else tree q)) e
-other_stays tree who (Cancel r reason) q e = ap (λ b. state_of (if b then option_map (cancelled_for (cause_of_reason tree reason)) (tree r) else tree q)) e
+other_stays tree who (Cancel r reason) q e = ap (λ b. state_of
+    (if b then option_map (cancelled_for (cause_of_reason tree reason)) (tree r) else tree q)) e
 other_stays tree who (Finish r end) q e = ap (λ b. state_of (if b then option_map (ended_by who end) (tree r) else tree q)) e
 other_stays tree who (Gone r) q e = kept_told r q (parent_of (tree r)) tree
 
-pub entry_takes : (shape : Shape) (xs : List JobEntry) (e : JobEntry) → Legal shape (xs ++ e ∷ []) → ActTakes e.act (state_of (replay xs (row_of_act e.act))) (state_of (replay (xs ++ e ∷ []) (row_of_act e.act)))
+pub entry_takes : (shape : Shape) (xs : List JobEntry) (e : JobEntry) → Legal shape (xs ++ e ∷ [])
+    → ActTakes e.act (state_of (replay xs (row_of_act e.act))) (state_of (replay (xs ++ e ∷ []) (row_of_act e.act)))
 entry_takes shape xs e l =
     let parts = Legal-last shape xs e l in
-    subst (λ (t : Tree). ActTakes e.act (state_of (replay xs (row_of_act e.act))) (state_of (t (row_of_act e.act)))) (sym (replay_push xs e))
+    subst (λ (t : Tree). ActTakes e.act (state_of (replay xs (row_of_act e.act))) (state_of (t (row_of_act e.act))))
+    (sym (replay_push xs e))
     (act_takes shape (replay xs) e.who e.act (replay_families shape xs parts.0) parts.1)
 
 apart : (a b : ℕ) → b ≢ a → (a == b) ≡ false
@@ -106,5 +123,7 @@ apart a b n = by_test (a == b) refl
     by_test true e = absurd (n (sym (eqb-true a b e)))
     by_test false e = e
 
-pub entry_leaves : (xs : List JobEntry) (e : JobEntry) (q : ℕ) → q ≢ row_of_act e.act → state_of (replay (xs ++ e ∷ []) q) ≡ state_of (replay xs q)
-entry_leaves xs e q n = ap (λ (t : Tree). state_of (t q)) (replay_push xs e) ∙ other_stays (replay xs) e.who e.act q (apart (row_of_act e.act) q n)
+pub entry_leaves : (xs : List JobEntry) (e : JobEntry) (q : ℕ) → q ≢ row_of_act e.act
+    → state_of (replay (xs ++ e ∷ []) q) ≡ state_of (replay xs q)
+entry_leaves xs e q n = ap (λ (t : Tree). state_of (t q)) (replay_push xs e)
+    ∙ other_stays (replay xs) e.who e.act q (apart (row_of_act e.act) q n)

@@ -17,9 +17,11 @@ use Rattle.job_model.proofs.Own.{prefix_keeps}
 
 -- ---- what stands below stays below
 
-pub below_kept : (shape : Shape) (xs ys : List JobEntry) (row d : ℕ) → Legal shape ys → IsPrefix xs ys → IsBelow (replay xs) row d → IsBelow (replay ys) row d
+pub below_kept : (shape : Shape) (xs ys : List JobEntry) (row d : ℕ) → Legal shape ys → IsPrefix xs ys → IsBelow (replay xs) row d
+    → IsBelow (replay ys) row d
 below_kept shape xs ys row d l p (IsBelow.is_child _ e) = IsBelow.is_child d (prefix_keeps _ (parent_lasts row) shape xs ys d l p e)
-below_kept shape xs ys row d l p (IsBelow.is_further c _ b e) = IsBelow.is_further c d (below_kept shape xs ys row c l p b) (prefix_keeps _ (parent_lasts c) shape xs ys d l p e)
+below_kept shape xs ys row d l p (IsBelow.is_further c _ b e) =
+    IsBelow.is_further c d (below_kept shape xs ys row c l p b) (prefix_keeps _ (parent_lasts c) shape xs ys d l p e)
 
 -- ---- Cancelling or ended
 
@@ -52,7 +54,8 @@ cancelling_lasts = record {
 
 -- ---- children that come later
 
-must_be_cancelled : (s : JobState) (cancelled : Bool) → is_cancellable s ≡ false → is_ended s ≡ false → is_cancelling s ≡ cancelled → cancelled ≡ true
+must_be_cancelled : (s : JobState) (cancelled : Bool) → is_cancellable s ≡ false → is_ended s ≡ false → is_cancelling s ≡ cancelled
+    → cancelled ≡ true
 must_be_cancelled New cancelled c e k = cc
 must_be_cancelled Active cancelled c e k = cc
 must_be_cancelled Completing cancelled c e k = cc

@@ -13,7 +13,8 @@ use Rattle.job_model.proofs.Families.{start_root}
 use Rattle.job_model.proofs.Rows.{same}
 
 -- who attached a row did so before the last entry, or by it
-pub attacher_was : (P : Type 0) (r t : ℕ) (es : List JobEntry) (e : JobEntry) → attacher r (es ++ e ∷ []) ≡ Some t → (attacher r es ≡ Some t → P) → (attaches r e.act ≡ true → e.who ≡ t → P) → P
+pub attacher_was : (P : Type 0) (r t : ℕ) (es : List JobEntry) (e : JobEntry) → attacher r (es ++ e ∷ []) ≡ Some t
+    → (attacher r es ≡ Some t → P) → (attaches r e.act ≡ true → e.who ≡ t → P) → P
 attacher_was P r t [] e h old new = by_test (attaches r e.act) refl h
   where
     by_test : (b : Bool) → attaches r e.act ≡ b → (if b then Some e.who else None) ≡ Some t → P
@@ -27,7 +28,8 @@ attacher_was P r t (x ∷ xs) e h old new = by_test (attaches r x.act) refl h (�
     by_test false k h rest = rest h (λ m. old (ap (λ b. if b then Some x.who else attacher r xs) k ∙ m)) new
 
 -- where a row is attached, it was before, or this act attaches it
-pub attached_was : (shape : Shape) (tree : Tree) (who q : ℕ) (act : JobAct) (x y : Option Job) (P : Type 0) → RowStep shape tree who q act x y → is_some y ≡ true → (is_some x ≡ true → P) → (attaches q act ≡ true → P) → P
+pub attached_was : (shape : Shape) (tree : Tree) (who q : ℕ) (act : JobAct) (x y : Option Job) (P : Type 0)
+    → RowStep shape tree who q act x y → is_some y ≡ true → (is_some x ≡ true → P) → (attaches q act ≡ true → P) → P
 attached_was shape tree who q _ _ _ P (RowStep.is_attached p kind tag cancelled m i) h old new = new (same q)
 attached_was shape tree who q _ _ _ P (RowStep.has_child r kind tag cancelled j none m) h old new = old refl
 attached_was shape tree who q _ _ _ P (RowStep.is_started j n) h old new = old refl
@@ -37,17 +39,21 @@ attached_was shape tree who q _ _ _ P (RowStep.ends end j m) h old new = old ref
 attached_was shape tree who q _ _ _ P (RowStep.is_told d j m p) h old new = old refl
 attached_was shape tree who q _ _ _ P (RowStep.stays act x a b d e f) h old new = old h
 
-attached_from : (shape : Shape) (tree : Tree) (es : List JobEntry) (r : ℕ) (P : Type 0) → LegalFrom shape tree es → is_some (replay_from tree es r) ≡ true → (is_some (tree r) ≡ true → P) → ((t : ℕ) → attacher r es ≡ Some t → P) → P
+attached_from : (shape : Shape) (tree : Tree) (es : List JobEntry) (r : ℕ) (P : Type 0) → LegalFrom shape tree es
+    → is_some (replay_from tree es r) ≡ true → (is_some (tree r) ≡ true → P) → ((t : ℕ) → attacher r es ≡ Some t → P) → P
 unfolding LegalFrom replay_from
 attached_from shape tree [] r P l a old new = old a
-attached_from shape tree (e ∷ es) r P l a old new = attached_from shape (after tree e.who e.act) es r P l.1 a (λ h. attached_was shape tree e.who r e.act _ _ P (row_step shape tree e.who e.act r l.0) h old (λ k. new e.who (ap (λ b. if b then Some e.who else attacher r es) k))) (λ t h. later (attaches r e.act) refl t h)
+attached_from shape tree (e ∷ es) r P l a old new = attached_from shape (after tree e.who e.act) es r P l.1 a
+    (λ h. attached_was shape tree e.who r e.act _ _ P (row_step shape tree e.who e.act r l.0) h old
+    (λ k. new e.who (ap (λ b. if b then Some e.who else attacher r es) k))) (λ t h. later (attaches r e.act) refl t h)
   where
     later : (b : Bool) → attaches r e.act ≡ b → (t : ℕ) → attacher r es ≡ Some t → P
     later true k t h = new e.who (ap (λ b. if b then Some e.who else attacher r es) k)
     later false k t h = new t (ap (λ b. if b then Some e.who else attacher r es) k ∙ h)
 
 -- an attached row is the root, or somebody attached it
-pub attached_by : (shape : Shape) (es : List JobEntry) (r : ℕ) (P : Type 0) → Legal shape es → is_some (replay es r) ≡ true → (r ≡ 0 → P) → ((t : ℕ) → attacher r es ≡ Some t → P) → P
+pub attached_by : (shape : Shape) (es : List JobEntry) (r : ℕ) (P : Type 0) → Legal shape es → is_some (replay es r) ≡ true → (r ≡ 0 → P)
+    → ((t : ℕ) → attacher r es ≡ Some t → P) → P
 attached_by shape es r P l a old new = attached_from shape start es r P l a (λ h. old (start_root r h)) new
 
 some_is : {A : Type 0} (x : Option A) (a : A) → x ≡ Some a → is_some x ≡ true

@@ -31,7 +31,8 @@ use Rattle.job_model.proofs.Claims.{attached_was}
 -- a mark that nothing but these acts makes
 pub record IsOnlyMark (acts : ℕ → JobAct → Bool) (mark : Tree → ℕ → Bool) : Type 0 where
   pub is_mark : IsMark acts mark
-  pub only : (shape : Shape) (tree : Tree) (who : ℕ) (act : JobAct) (r : ℕ) → HasFamilies tree → Needs shape tree who act → mark (after tree who act) r ≡ true → acts r act ≡ false → mark tree r ≡ true
+  pub only : (shape : Shape) (tree : Tree) (who : ℕ) (act : JobAct) (r : ℕ) → HasFamilies tree → Needs shape tree who act
+      → mark (after tree who act) r ≡ true → acts r act ≡ false → mark tree r ≡ true
 
 true_or : (a b c : Bool) → (a ≡ true → c ≡ true) → (b ≡ true → c ≡ true) → (c ≡ true → b ≡ false → a ≡ true) → c ≡ (a || b)
 true_or true b c h k l = h refl
@@ -43,26 +44,31 @@ or_false : (a : Bool) → a ≡ (a || false)
 or_false true = refl
 or_false false = refl
 
-marked_from : (acts : ℕ → JobAct → Bool) (mark : Tree → ℕ → Bool) → IsOnlyMark acts mark → (shape : Shape) (tree : Tree) (es : List JobEntry) (r : ℕ) → HasFamilies tree → LegalFrom shape tree es → mark (replay_from tree es) r ≡ (mark tree r || has acts r es)
+marked_from : (acts : ℕ → JobAct → Bool) (mark : Tree → ℕ → Bool) → IsOnlyMark acts mark
+    → (shape : Shape) (tree : Tree) (es : List JobEntry) (r : ℕ) → HasFamilies tree → LegalFrom shape tree es
+    → mark (replay_from tree es) r ≡ (mark tree r || has acts r es)
 unfolding LegalFrom replay_from
 marked_from acts mark k shape tree [] r h l = or_false (mark tree r)
 marked_from acts mark k shape tree (e ∷ es) r h l =
     marked_from acts mark k shape (after tree e.who e.act) es r (after_families shape tree e.who e.act l.0 h) l.1
-    ∙ ap (λ b. b || has acts r es) (true_or (mark tree r) (acts r e.act) (mark (after tree e.who e.act) r) (λ m. k.is_mark.kept shape tree e.who e.act r l.0 m) (λ m. k.is_mark.sets shape tree e.who e.act r h l.0 m) (λ m n. k.only shape tree e.who e.act r h l.0 m n))
+    ∙ ap (λ b. b || has acts r es) (true_or (mark tree r) (acts r e.act) (mark (after tree e.who e.act) r)
+    (λ m. k.is_mark.kept shape tree e.who e.act r l.0 m) (λ m. k.is_mark.sets shape tree e.who e.act r h l.0 m)
+    (λ m n. k.only shape tree e.who e.act r h l.0 m n))
     ∙ or_assoc (mark tree r) (acts r e.act) (has acts r es)
 
-some_only : (shape : Shape) (tree : Tree) (who : ℕ) (act : JobAct) (r : ℕ) → Needs shape tree who act → is_some (after tree who act r) ≡ true → attaches r act ≡ false → is_some (tree r) ≡ true
-some_only shape tree who act r n m e = attached_was shape tree who r act _ _ _ (row_step shape tree who act r n) m (λ o. o) (λ f. absurd (let k : true ≡ false = sym f ∙ e in cc))
+some_only : (shape : Shape) (tree : Tree) (who : ℕ) (act : JobAct) (r : ℕ) → Needs shape tree who act
+    → is_some (after tree who act r) ≡ true → attaches r act ≡ false → is_some (tree r) ≡ true
+some_only shape tree who act r n m e = attached_was shape tree who r act _ _ _ (row_step shape tree who act r n) m (λ o. o)
+    (λ f. absurd (let k : true ≡ false = sym f ∙ e in cc))
 
-body_only : (shape : Shape) (tree : Tree) (who q : ℕ) (act : JobAct) (x y : Option Job) → RowStep shape tree who q act x y → has_ended_body y ≡ true → ends_body q act ≡ false → has_ended_body x ≡ true
+body_only : (shape : Shape) (tree : Tree) (who q : ℕ) (act : JobAct) (x y : Option Job) → RowStep shape tree who q act x y
+    → has_ended_body y ≡ true → ends_body q act ≡ false → has_ended_body x ≡ true
 body_only shape tree who q _ _ _ (RowStep.is_attached p kind tag cancelled m i) h e = cc
 body_only shape tree who q _ _ _ (RowStep.has_child r kind tag cancelled j none m) h e = h
 body_only shape tree who q _ _ _ (RowStep.is_started j n) h e = h
 body_only shape tree who q _ _ _ (RowStep.body_ends v j m) h e = absurd (let k : true ≡ false = sym (same q) ∙ e in cc)
 body_only shape tree who q _ _ _ (RowStep.is_cancelled reason j m o) h e = h
-body_only shape tree who q _ _ _ (RowStep.ends end j m) h e = h
-body_only shape tree who q _ _ _ (RowStep.is_told d j m p) h e = h
-body_only shape tree who q _ _ _ (RowStep.stays act x a b c d f) h e = h
+body_only shape tree who q _ _ _ other h e = h
 
 not_first : (cancelled lazy : Bool) → is_ended (first_state cancelled lazy) ≡ true → ⊥
 not_first true lazy e = cc
@@ -77,7 +83,8 @@ ended_before_body Cancelling e = cc
 ended_before_body Cancelled e = refl
 ended_before_body Completed e = refl
 
-end_only : (shape : Shape) (tree : Tree) (who q : ℕ) (act : JobAct) (x y : Option Job) → RowStep shape tree who q act x y → has_ended y ≡ true → finishes q act ≡ false → has_ended x ≡ true
+end_only : (shape : Shape) (tree : Tree) (who q : ℕ) (act : JobAct) (x y : Option Job) → RowStep shape tree who q act x y
+    → has_ended y ≡ true → finishes q act ≡ false → has_ended x ≡ true
 end_only shape tree who q _ _ _ (RowStep.is_attached p kind tag cancelled m i) h e = absurd (not_first cancelled kind.lazy h)
 end_only shape tree who q _ _ _ (RowStep.has_child r kind tag cancelled j none m) h e = h
 end_only shape tree who q _ _ _ (RowStep.is_started j n) h e = cc
@@ -87,7 +94,9 @@ end_only shape tree who q _ _ _ (RowStep.ends end j m) h e = absurd (let k : tru
 end_only shape tree who q _ _ _ (RowStep.is_told d j m p) h e = h
 end_only shape tree who q _ _ _ (RowStep.stays act x a b c d f) h e = h
 
-pub told_only : (shape : Shape) (tree : Tree) (who : ℕ) (act : JobAct) (r : ℕ) → HasFamilies tree → Needs shape tree who act → (o : Option ℕ) → parent_of (after tree who act r) ≡ o → was_told r (row_of (after tree who act) o) ≡ true → tells r act ≡ false → was_told r (parent_row tree r) ≡ true
+pub told_only : (shape : Shape) (tree : Tree) (who : ℕ) (act : JobAct) (r : ℕ) → HasFamilies tree → Needs shape tree who act
+    → (o : Option ℕ) → parent_of (after tree who act r) ≡ o → was_told r (row_of (after tree who act) o) ≡ true → tells r act ≡ false
+    → was_told r (parent_row tree r) ≡ true
 told_only shape tree who act r k n None e h f = cc
 told_only shape tree who act r k n (Some p) e h f =
     told_was shape tree who p r act _ _ _ (row_step shape tree who act p n) h
@@ -103,13 +112,25 @@ attach_only : IsOnlyMark attaches (λ tree r. is_some (tree r))
 attach_only = record { is_mark = attach_mark; only = λ shape tree who act r h n m e. some_only shape tree who act r n m e }
 
 bodiless_only : IsOnlyMark ends_body (λ tree r. has_ended_body (tree r))
-bodiless_only = record { is_mark = body_mark; only = λ shape tree who act r h n m e. body_only shape tree who r act _ _ (row_step shape tree who act r n) m e }
+bodiless_only = record {
+  is_mark = body_mark;
+  only = λ shape tree who act r h n m e. body_only shape tree who r act _ _
+      (row_step shape tree who act r n) m e;
+}
 
 finish_only : IsOnlyMark finishes (λ tree r. has_ended (tree r))
-finish_only = record { is_mark = finish_mark; only = λ shape tree who act r h n m e. end_only shape tree who r act _ _ (row_step shape tree who act r n) m e }
+finish_only = record {
+  is_mark = finish_mark;
+  only = λ shape tree who act r h n m e. end_only shape tree who r act _ _
+      (row_step shape tree who act r n) m e;
+}
 
 tell_only : IsOnlyMark tells (λ tree r. was_told r (parent_row tree r))
-tell_only = record { is_mark = tell_mark; only = λ shape tree who act r h n m e. told_only shape tree who act r h n (parent_of (after tree who act r)) refl m e }
+tell_only = record {
+  is_mark = tell_mark;
+  only = λ shape tree who act r h n m e. told_only shape tree who act r h n
+      (parent_of (after tree who act r)) refl m e;
+}
 
 start_attached : (r : ℕ) → is_some (start r) ≡ (r == 0)
 start_attached r = by_test (r == 0)
@@ -124,10 +145,14 @@ start_told r (Some p) = at_start (λ x. was_told r x ≡ false) refl refl p
 
 pub by_entries : (shape : Shape) (history : List JobEntry) (r : ℕ) → Legal shape history → IsByEntries r history (replay history)
 by_entries shape history r l = record {
-  attached = marked_from attaches _ attach_only shape start history r start_families l ∙ ap (λ b. b || has attaches r history) (start_attached r);
-  bodiless = marked_from ends_body _ bodiless_only shape start history r start_families l ∙ ap (λ b. b || has ends_body r history) (at_start (λ x. has_ended_body x ≡ false) refl refl r);
-  ended = marked_from finishes _ finish_only shape start history r start_families l ∙ ap (λ b. b || has finishes r history) (at_start (λ x. has_ended x ≡ false) refl refl r);
-  told = marked_from tells _ tell_only shape start history r start_families l ∙ ap (λ b. b || has tells r history) (start_told r (parent_of (start r)));
+  attached = marked_from attaches _ attach_only shape start history r start_families l
+      ∙ ap (λ b. b || has attaches r history) (start_attached r);
+  bodiless = marked_from ends_body _ bodiless_only shape start history r start_families l
+      ∙ ap (λ b. b || has ends_body r history) (at_start (λ x. has_ended_body x ≡ false) refl refl r);
+  ended = marked_from finishes _ finish_only shape start history r start_families l
+      ∙ ap (λ b. b || has finishes r history) (at_start (λ x. has_ended x ≡ false) refl refl r);
+  told = marked_from tells _ tell_only shape start history r start_families l
+      ∙ ap (λ b. b || has tells r history) (start_told r (parent_of (start r)));
 }
 
 -- ---- children of an ended Job
@@ -140,13 +165,15 @@ nothing_lives f c (x ∷ xs) n a = by_test (f x) refl n (λ k m. nothing_lives f
     by_place true e g m rest = ap f (eqb-true c x e) ∙ g
     by_place false e g m rest = rest m
 
-    by_test : (b : Bool) → f x ≡ b → is_none_left (if b then x ∷ filter f xs else filter f xs) ≡ true → (is_none_left (filter f xs) ≡ true → is_among c xs ≡ true → f c ≡ false) → f c ≡ false
+    by_test : (b : Bool) → f x ≡ b → is_none_left (if b then x ∷ filter f xs else filter f xs) ≡ true
+        → (is_none_left (filter f xs) ≡ true → is_among c xs ≡ true → f c ≡ false) → f c ≡ false
     by_test true g k rest = cc
     by_test false g k rest = by_place (c == x) refl g a (rest k)
 
 told_of_childless : (c : ℕ) (x : Option Job) → IsEnded x → IsSoundRow x → is_among c (children_of x) ≡ true → was_told c x ≡ true
 told_of_childless c None e h a = absurd e
-told_of_childless c (Some j) e h a = was_true (is_among c j.told) (nothing_lives (λ d. not (is_among d j.told)) c j.children (h.childless e) a)
+told_of_childless c (Some j) e h a = was_true (is_among c j.told)
+    (nothing_lives (λ d. not (is_among d j.told)) c j.children (h.childless e) a)
   where
     was_true : (b : Bool) → not b ≡ false → b ≡ true
     was_true true k = refl
@@ -160,17 +187,20 @@ below_ended : (tree : Tree) (p d : ℕ) → HasFamilies tree → IsEnded (tree p
 below_ended tree p d h e (IsBelow.is_child _ q) = child_ended tree p d h e q
 below_ended tree p d h e (IsBelow.is_further c _ b q) = child_ended tree c d h (below_ended tree p c h e b) q
 
-pub descendants_ended : (shape : Shape) (history : List JobEntry) (p d : ℕ) → Legal shape history → IsEnded (replay history p) → IsBelow (replay history) p d → IsEnded (replay history d)
+pub descendants_ended : (shape : Shape) (history : List JobEntry) (p d : ℕ) → Legal shape history → IsEnded (replay history p)
+    → IsBelow (replay history) p d → IsEnded (replay history d)
 descendants_ended shape history p d l e b = below_ended (replay history) p d (replay_families shape history l) e b
 
 -- ---- a child's Finish stands before its parent's
 
 -- nobody becomes a child of an ended Job
-parent_before : (shape : Shape) (tree : Tree) (es : List JobEntry) (p c : ℕ) → LegalFrom shape tree es → IsEnded (tree p) → parent_of (replay_from tree es c) ≡ Some p → parent_of (tree c) ≡ Some p
+parent_before : (shape : Shape) (tree : Tree) (es : List JobEntry) (p c : ℕ) → LegalFrom shape tree es → IsEnded (tree p)
+    → parent_of (replay_from tree es c) ≡ Some p → parent_of (tree c) ≡ Some p
 unfolding LegalFrom replay_from
 parent_before shape tree [] p c l e h = h
 parent_before shape tree (x ∷ xs) p c l e h =
-    parent_was shape tree x.who c p x.act _ _ _ (row_step shape tree x.who x.act c l.0) (parent_before shape (after tree x.who x.act) xs p c l.1 (act_keeps IsEnded ended_lasts shape tree x.who x.act p l.0 e) h)
+    parent_was shape tree x.who c p x.act _ _ _ (row_step shape tree x.who x.act c l.0)
+    (parent_before shape (after tree x.who x.act) xs p c l.1 (act_keeps IsEnded ended_lasts shape tree x.who x.act p l.0 e) h)
     (λ q. q)
     (λ kind tag cancelled g. absurd (not_taken (tree p) cancelled e (subst (Needs shape tree x.who) g l.0).1))
   where
@@ -188,7 +218,8 @@ ended_is None e = absurd e
 ended_is (Some j) e = e
 
 -- a Job that may finish has no child that has not ended
-child_before : (tree : Tree) (p c : ℕ) (end : End) → HasFamilies tree → MayFinish end (tree p) → parent_of (tree c) ≡ Some p → IsEnded (tree c)
+child_before : (tree : Tree) (p c : ℕ) (end : End) → HasFamilies tree → MayFinish end (tree p) → parent_of (tree c) ≡ Some p
+    → IsEnded (tree c)
 child_before tree p c end h m q = h.gone p c (told_of_done c (tree p) m (h.listed p c q))
   where
     was_true : (b : Bool) → not b ≡ false → b ≡ true
@@ -199,12 +230,21 @@ child_before tree p c end h m q = h.gone p c (told_of_done c (tree p) m (h.liste
     told_of_done c None m a = absurd m
     told_of_done c (Some j) m a = was_true (is_among c j.told) (nothing_lives (λ d. not (is_among d j.told)) c j.children m.1 a)
 
-pub children_first : (shape : Shape) (xs ys : List JobEntry) (who p c : ℕ) (end : End) → Legal shape (xs ++ record { who = who; act = Finish p end } ∷ ys) → parent_of (replay (xs ++ record { who = who; act = Finish p end } ∷ ys) c) ≡ Some p → has finishes c xs ≡ true
+pub children_first : (shape : Shape) (xs ys : List JobEntry) (who p c : ℕ) (end : End)
+    → Legal shape (xs ++ record { who = who; act = Finish p end } ∷ ys)
+    → parent_of (replay (xs ++ record { who = who; act = Finish p end } ∷ ys) c) ≡ Some p → has finishes c xs ≡ true
 children_first shape xs ys who p c end l q =
     let parts = (Legal-append shape xs (record { who = who; act = Finish p end } ∷ ys)).0 l in
     let rest = LegalFrom-cons shape (replay xs) (record { who = who; act = Finish p end }) ys parts.1 in
-    let ended : IsEnded (after (replay xs) who (Finish p end) p) = subst IsEnded (sym (changed_here p (ended_by who end) (replay xs))) (finished_now who end (replay xs p) rest.0) in
-    let whole : replay (xs ++ record { who = who; act = Finish p end } ∷ ys) ≡ replay_from (after (replay xs) who (Finish p end)) ys = replay-append xs (record { who = who; act = Finish p end } ∷ ys) ∙ replay_from-cons (replay xs) (record { who = who; act = Finish p end }) ys in
-    let later : parent_of (after (replay xs) who (Finish p end) c) ≡ Some p = parent_before shape (after (replay xs) who (Finish p end)) ys p c rest.1 ended (ap (λ (t : Tree). parent_of (t c)) (sym whole) ∙ q) in
-    let before : parent_of (replay xs c) ≡ Some p = parent_was shape (replay xs) who c p (Finish p end) _ _ _ (row_step shape (replay xs) who (Finish p end) c rest.0) later (λ u. u) (λ kind tag cancelled g. cc) in
-    sym (by_entries shape xs c parts.0).ended ∙ ended_is (replay xs c) (child_before (replay xs) p c end (replay_families shape xs parts.0) rest.0 before)
+    let ended : IsEnded (after (replay xs) who (Finish p end) p) =
+    subst IsEnded (sym (changed_here p (ended_by who end) (replay xs))) (finished_now who end (replay xs p) rest.0) in
+    let whole : replay (xs ++ record { who = who; act = Finish p end } ∷ ys) ≡ replay_from (after (replay xs) who (Finish p end)) ys =
+    replay-append xs (record { who = who; act = Finish p end } ∷ ys)
+    ∙ replay_from-cons (replay xs) (record { who = who; act = Finish p end }) ys in
+    let later : parent_of (after (replay xs) who (Finish p end) c) ≡ Some p =
+    parent_before shape (after (replay xs) who (Finish p end)) ys p c rest.1 ended (ap (λ (t : Tree). parent_of (t c)) (sym whole)
+    ∙ q) in
+    let before : parent_of (replay xs c) ≡ Some p = parent_was shape (replay xs) who c p (Finish p end) _ _ _
+    (row_step shape (replay xs) who (Finish p end) c rest.0) later (λ u. u) (λ kind tag cancelled g. cc) in
+    sym (by_entries shape xs c parts.0).ended ∙ ended_is (replay xs c)
+    (child_before (replay xs) p c end (replay_families shape xs parts.0) rest.0 before)

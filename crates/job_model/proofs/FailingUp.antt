@@ -15,7 +15,8 @@ use Rattle.job_model.proofs.Below.{below_kept}
 
 -- ---- Cancels of Jobs below a row
 
-cancel_below_kept : (shape : Shape) (xs ys : List JobEntry) (row : ℕ) (act : JobAct) → Legal shape ys → IsPrefix xs ys → IsCancelBelow (replay xs) row act → IsCancelBelow (replay ys) row act
+cancel_below_kept : (shape : Shape) (xs ys : List JobEntry) (row : ℕ) (act : JobAct) → Legal shape ys → IsPrefix xs ys
+    → IsCancelBelow (replay xs) row act → IsCancelBelow (replay ys) row act
 cancel_below_kept shape xs ys row (Attach p q kind tag cancelled) l p' h = absurd h
 cancel_below_kept shape xs ys row (Start q) l p' h = absurd h
 cancel_below_kept shape xs ys row (EndBody q v) l p' h = absurd h
@@ -23,9 +24,11 @@ cancel_below_kept shape xs ys row (Cancel q reason) l p' h = (h.0, below_kept sh
 cancel_below_kept shape xs ys row (Finish q end) l p' h = absurd h
 cancel_below_kept shape xs ys row (Gone q) l p' h = absurd h
 
-pub cancels_below_kept : (shape : Shape) (xs ys : List JobEntry) (row : ℕ) (acts : List JobAct) → Legal shape ys → IsPrefix xs ys → AreCancelsBelow (replay xs) row acts → AreCancelsBelow (replay ys) row acts
+pub cancels_below_kept : (shape : Shape) (xs ys : List JobEntry) (row : ℕ) (acts : List JobAct) → Legal shape ys → IsPrefix xs ys
+    → AreCancelsBelow (replay xs) row acts → AreCancelsBelow (replay ys) row acts
 cancels_below_kept shape xs ys row [] l p h = tt
-cancels_below_kept shape xs ys row (act ∷ acts) l p h = (cancel_below_kept shape xs ys row act l p h.0, cancels_below_kept shape xs ys row acts l p h.1)
+cancels_below_kept shape xs ys row (act ∷ acts) l p h =
+    (cancel_below_kept shape xs ys row act l p h.0, cancels_below_kept shape xs ys row acts l p h.1)
 
 -- ---- kinds stay
 
@@ -67,7 +70,8 @@ supervisor_lasts b = record {
 
 -- ---- a failure goes on to go as far
 
-pub goes_kept : (shape : Shape) (xs ys : List JobEntry) (row p : ℕ) → Legal shape ys → IsPrefix xs ys → GoesUpTo (replay xs) row p → GoesUpTo (replay ys) row p
+pub goes_kept : (shape : Shape) (xs ys : List JobEntry) (row p : ℕ) → Legal shape ys → IsPrefix xs ys → GoesUpTo (replay xs) row p
+    → GoesUpTo (replay ys) row p
 goes_kept shape xs ys row p l pre h = record {
   parent = prefix_keeps _ (parent_lasts p) shape xs ys row l pre h.parent;
   child = prefix_keeps _ (scope_lasts false) shape xs ys row l pre h.child;

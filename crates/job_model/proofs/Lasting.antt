@@ -27,7 +27,8 @@ pub record Lasts (P : Option Job → Type 0) : Type 0 where
   pub told : (c : ℕ) (j : Job) → P (Some j) → P (Some (with_told c j))
   pub attached : P None → (x : Option Job) → P x
 
-pub step_keeps : (P : Option Job → Type 0) → Lasts P → (shape : Shape) (tree : Tree) (who q : ℕ) (act : JobAct) (x y : Option Job) → RowStep shape tree who q act x y → P x → P y
+pub step_keeps : (P : Option Job → Type 0) → Lasts P → (shape : Shape) (tree : Tree) (who q : ℕ) (act : JobAct) (x y : Option Job)
+    → RowStep shape tree who q act x y → P x → P y
 step_keeps P k shape tree who q _ _ _ (RowStep.is_attached p kind tag cancelled m i) h = k.attached h _
 step_keeps P k shape tree who q _ _ _ (RowStep.has_child r kind tag cancelled j none m) h = k.child r j m.0 h
 step_keeps P k shape tree who q _ _ _ (RowStep.is_started j n) h = k.start j n h
@@ -38,13 +39,17 @@ step_keeps P k shape tree who q _ _ _ (RowStep.is_told c j m p) h = k.told c j h
 step_keeps P k shape tree who q _ _ _ (RowStep.stays act x a b c d f) h = h
 
 -- what lasts is kept by every act, and by every history that goes on
-pub act_keeps : (P : Option Job → Type 0) → Lasts P → (shape : Shape) (tree : Tree) (who : ℕ) (act : JobAct) (q : ℕ) → Needs shape tree who act → P (tree q) → P (after tree who act q)
-act_keeps P k shape tree who act q n h = step_keeps P k shape tree who q act (tree q) (after tree who act q) (row_step shape tree who act q n) h
+pub act_keeps : (P : Option Job → Type 0) → Lasts P → (shape : Shape) (tree : Tree) (who : ℕ) (act : JobAct) (q : ℕ)
+    → Needs shape tree who act → P (tree q) → P (after tree who act q)
+act_keeps P k shape tree who act q n h = step_keeps P k shape tree who q act (tree q) (after tree who act q)
+    (row_step shape tree who act q n) h
 
-pub history_keeps : (P : Option Job → Type 0) → Lasts P → (shape : Shape) (tree : Tree) (es : List JobEntry) (q : ℕ) → LegalFrom shape tree es → P (tree q) → P (replay_from tree es q)
+pub history_keeps : (P : Option Job → Type 0) → Lasts P → (shape : Shape) (tree : Tree) (es : List JobEntry) (q : ℕ)
+    → LegalFrom shape tree es → P (tree q) → P (replay_from tree es q)
 unfolding LegalFrom replay_from
 history_keeps P k shape tree [] q l h = h
-history_keeps P k shape tree (e ∷ es) q l h = history_keeps P k shape (after tree e.who e.act) es q l.1 (act_keeps P k shape tree e.who e.act q l.0 h)
+history_keeps P k shape tree (e ∷ es) q l h = history_keeps P k shape (after tree e.who e.act) es q l.1
+    (act_keeps P k shape tree e.who e.act q l.0 h)
 
 -- ---- facts that last
 
@@ -76,11 +81,7 @@ ended_body Completed e = refl
 
 pub ended_not_cancellable : (s : JobState) → is_cancellable s ≡ true → is_ended s ≡ true → ⊥
 ended_not_cancellable New c e = cc
-ended_not_cancellable Active c e = cc
-ended_not_cancellable Completing c e = cc
-ended_not_cancellable Cancelling c e = cc
-ended_not_cancellable Cancelled c e = cc
-ended_not_cancellable Completed c e = cc
+ended_not_cancellable other c e = cc
 
 pub new_not_ended : (s : JobState) → s ≡ New → is_ended s ≡ true → ⊥
 new_not_ended s e f = let k : is_ended New ≡ true = ap is_ended (sym e) ∙ f in cc
@@ -105,10 +106,7 @@ ended_lasts = record {
 past_start : (s : JobState) → is_new s ≡ false → is_new (state_after_body s) ≡ false
 past_start New e = cc
 past_start Active e = refl
-past_start Completing e = refl
-past_start Cancelling e = refl
-past_start Cancelled e = refl
-past_start Completed e = refl
+past_start other e = refl
 
 end_not_new : (end : End) → is_new (state_of_end end) ≡ false
 end_not_new (ends.Completed v) = refl

@@ -42,7 +42,8 @@ three a b c p q r = (
   λ h. both_true a (b && c) (p.1 h.0) (both_true b c (q.1 h.1) (r.1 h.2)),
 )
 
-four : {P Q R S : Type 0} (a b c d : Bool) → Decides a P → Decides b Q → Decides c R → Decides d S → Decides (a && (b && (c && d))) (P × Q × R × S)
+four : {P Q R S : Type 0} (a b c d : Bool) → Decides a P → Decides b Q → Decides c R → Decides d S
+    → Decides (a && (b && (c && d))) (P × Q × R × S)
 four a b c d p q r s = (
   λ e.
       let f = and_right a (b && (c && d)) e in
@@ -80,24 +81,26 @@ le_is m n = (λ e. grind (arith, nat_tests), λ h. grind (arith, nat_tests))
 
 -- ---- parts of the needs
 
-row_for_is : (shape : Shape) (who : ℕ) (kind : JobKind) (tag r : ℕ) → Decides (is_row_for shape who kind tag r) (IsRowFor shape who kind tag r)
+row_for_is : (shape : Shape) (who : ℕ) (kind : JobKind) (tag r : ℕ)
+    → Decides (is_row_for shape who kind tag r) (IsRowFor shape who kind tag r)
 row_for_is shape who kind tag r = by_kind kind.scoped
   where
-    by_kind : (b : Bool) → Decides (if b then (tag == who) && (nat_le shape.coroutines r && nat_lt r shape.rows) else r == tag) (MatchBool b ((tag ≡ who) × (shape.coroutines ≤ r) × (r < shape.rows)) (r ≡ tag))
-    by_kind true = three (tag == who) (nat_le shape.coroutines r) (nat_lt r shape.rows) (Decides-eqb tag who) (le_is shape.coroutines r) (Decides-ltb r shape.rows)
+    by_kind : (b : Bool) → Decides (if b then (tag == who)
+        && (nat_le shape.coroutines r && nat_lt r shape.rows) else r == tag)
+        (MatchBool b ((tag ≡ who) × (shape.coroutines ≤ r) × (r < shape.rows)) (r ≡ tag))
+    by_kind true = three (tag == who) (nat_le shape.coroutines r) (nat_lt r shape.rows) (Decides-eqb tag who) (le_is shape.coroutines r)
+        (Decides-ltb r shape.rows)
     by_kind false = Decides-eqb r tag
 
 child_is : (cancelled : Bool) (x : Option Job) → Decides (may_have_child cancelled x) (MayHaveChild cancelled x)
 child_is cancelled None = (λ e. cc, λ h. absurd h)
-child_is cancelled (Some j) = Decides-and (not (is_ended j.state)) (is_same (is_cancelling j.state) cancelled) (is_false (is_ended j.state)) (same_tests (is_cancelling j.state) cancelled)
+child_is cancelled (Some j) = Decides-and (not (is_ended j.state)) (is_same (is_cancelling j.state) cancelled) (is_false (is_ended j.state))
+    (same_tests (is_cancelling j.state) cancelled)
 
 new_state : (s : JobState) → Decides (is_new s) (s ≡ New)
 new_state New = (λ e. refl, λ e. refl)
 new_state Active = (λ e. cc, λ e. cc)
-new_state Completing = (λ e. cc, λ e. cc)
-new_state Cancelling = (λ e. cc, λ e. cc)
-new_state Cancelled = (λ e. cc, λ e. cc)
-new_state Completed = (λ e. cc, λ e. cc)
+new_state other = (λ e. cc, λ e. cc)
 
 start_is : (x : Option Job) → Decides (may_start x) (state_of x ≡ Some New)
 start_is None = (λ e. cc, λ e. cc)
@@ -105,7 +108,8 @@ start_is (Some j) = (λ e. ap (λ s. Some s) ((new_state j.state).0 e), λ e. (n
 
 body_is : (who : ℕ) (x : Option Job) → Decides (may_end_body who x) (MayEndBody who x)
 body_is who None = (λ e. cc, λ h. absurd h)
-body_is who (Some j) = three (j.tag == who) (not (is_new j.state)) (not j.body_ended) (Decides-eqb j.tag who) (is_false (is_new j.state)) (is_false j.body_ended)
+body_is who (Some j) = three (j.tag == who) (not (is_new j.state)) (not j.body_ended) (Decides-eqb j.tag who) (is_false (is_new j.state))
+    (is_false j.body_ended)
 
 cancel_is : (x : Option Job) → Decides (may_be_cancelled x) (MayBeCancelled x)
 cancel_is None = (λ e. cc, λ h. absurd h)
@@ -120,13 +124,19 @@ cause_is because.Request because.Request = (λ e. refl, λ e. refl)
 cause_is because.Request (because.Failure g) = (λ e. cc, λ e. cc)
 cause_is (because.Failure f) because.None = (λ e. cc, λ e. cc)
 cause_is (because.Failure f) because.Request = (λ e. cc, λ e. cc)
-cause_is (because.Failure f) (because.Failure g) = (λ e. ap (λ u. because.Failure u) (eqb-true f g e), λ e. eq-eqb f g (let k : f ≡ g = cc in k))
+cause_is (because.Failure f) (because.Failure g) = (
+  λ e. ap (λ u. because.Failure u) (eqb-true f g e),
+  λ e. eq-eqb f g (let k : f ≡ g = cc in k),
+)
 
 end_is : (e f : End) → Decides (same_end e f) (e ≡ f)
 end_is (ends.Completed v) (ends.Completed w) = (λ e. ap (λ u. ends.Completed u) (eqb-true v w e), λ e. eq-eqb v w (let k : v ≡ w = cc in k))
 end_is (ends.Completed v) (ends.Cancelled d) = (λ e. cc, λ e. cc)
 end_is (ends.Cancelled c) (ends.Completed w) = (λ e. cc, λ e. cc)
-end_is (ends.Cancelled c) (ends.Cancelled d) = (λ e. ap (λ u. ends.Cancelled u) ((cause_is c d).0 e), λ e. (cause_is c d).1 (let k : c ≡ d = cc in k))
+end_is (ends.Cancelled c) (ends.Cancelled d) = (
+  λ e. ap (λ u. ends.Cancelled u) ((cause_is c d).0 e),
+  λ e. (cause_is c d).1 (let k : c ≡ d = cc in k),
+)
 
 ends_so : (end : End) (o : Option End) → Decides (is_end end o) (o ≡ Some end)
 ends_so end None = (λ e. cc, λ e. cc)
@@ -134,14 +144,16 @@ ends_so end (Some f) = (λ e. ap (λ u. Some u) ((end_is f end).0 e), λ e. (end
 
 finish_is : (end : End) (x : Option Job) → Decides (may_finish end x) (MayFinish end x)
 finish_is end None = (λ e. cc, λ h. absurd h)
-finish_is end (Some j) = three j.body_ended (is_none_left (living j)) (is_end end (end_of j.state j)) (is_true j.body_ended) (is_true (is_none_left (living j))) (ends_so end (end_of j.state j))
+finish_is end (Some j) = three j.body_ended (is_none_left (living j)) (is_end end (end_of j.state j)) (is_true j.body_ended)
+    (is_true (is_none_left (living j))) (ends_so end (end_of j.state j))
 
 finished_is : (who : ℕ) (x : Option Job) → Decides (is_finished_by who x) (IsFinishedBy who x)
 finished_is who None = (λ e. cc, λ h. absurd h)
 finished_is who (Some j) = number_is who j.finisher
 
 tell_is : (who r : ℕ) (tree : Tree) → Decides (may_tell who r tree) (MayTell who r tree)
-tell_is who r tree = three (is_finished_by who (tree r)) (not (was_told r (parent_row tree r))) (not (r == 0)) (finished_is who (tree r)) (is_false (was_told r (parent_row tree r))) (not_zero r)
+tell_is who r tree = three (is_finished_by who (tree r)) (not (was_told r (parent_row tree r))) (not (r == 0)) (finished_is who (tree r))
+    (is_false (was_told r (parent_row tree r))) (not_zero r)
 
 -- ---- reasons
 
@@ -151,12 +163,15 @@ cancelled_is (Some j) = (λ e. e, λ e. e)
 
 failed_is : (r : ℕ) (x : Option Job) → Decides (is_failed_child r x) (IsFailedChild r x)
 failed_is r None = (λ e. cc, λ h. absurd h)
-failed_is r (Some j) = three (is_number r j.parent) (is_failure j.cause) (not j.kind.scoped) (number_is r j.parent) (is_true (is_failure j.cause)) (is_false j.kind.scoped)
+failed_is r (Some j) = three (is_number r j.parent) (is_failure j.cause) (not j.kind.scoped) (number_is r j.parent)
+    (is_true (is_failure j.cause)) (is_false j.kind.scoped)
 
-reason_is : (shape : Shape) (tree : Tree) (who r : ℕ) (reason : Reason) → Decides (does_hold shape tree who r reason) (Holds shape tree who r reason)
+reason_is : (shape : Shape) (tree : Tree) (who r : ℕ) (reason : Reason)
+    → Decides (does_hold shape tree who r reason) (Holds shape tree who r reason)
 reason_is shape tree who r reasons.Request = (λ e. tt, λ h. refl)
 reason_is shape tree who r reasons.Parent = cancelled_is (parent_row tree r)
-reason_is shape tree who r (reasons.Child c) = Decides-and (is_failed_child r (tree c)) (not (is_supervisor (tree r))) (failed_is r (tree c)) (is_false (is_supervisor (tree r)))
+reason_is shape tree who r (reasons.Child c) = Decides-and (is_failed_child r (tree c)) (not (is_supervisor (tree r)))
+    (failed_is r (tree c)) (is_false (is_supervisor (tree r)))
 reason_is shape tree who r (reasons.Own f) =
     Decides-and (is_number who (tag_of (tree r))) ((f == r) || ((f == who) || any_below shape.rows (λ q. ended_by_failure f (tree q))))
     (number_is who (tag_of (tree r))) (is_true ((f == r) || ((f == who) || any_below shape.rows (λ q. ended_by_failure f (tree q)))))
@@ -169,7 +184,8 @@ make_is shape tree who (Attach p r kind tag cancelled) =
     (is_nothing (tree r)) (child_is cancelled (tree p)) (Decides-ltb tag shape.coroutines) (row_for_is shape who kind tag r)
 make_is shape tree who (Start r) = start_is (tree r)
 make_is shape tree who (EndBody r v) = body_is who (tree r)
-make_is shape tree who (Cancel r reason) = Decides-and (may_be_cancelled (tree r)) (does_hold shape tree who r reason) (cancel_is (tree r)) (reason_is shape tree who r reason)
+make_is shape tree who (Cancel r reason) = Decides-and (may_be_cancelled (tree r)) (does_hold shape tree who r reason) (cancel_is (tree r))
+    (reason_is shape tree who r reason)
 make_is shape tree who (Finish r end) = finish_is end (tree r)
 make_is shape tree who (Gone r) = tell_is who r tree
 
@@ -183,7 +199,8 @@ none_made : (b : Bool) (t : Tree) → Decides (not b) ((if b then Some t else No
 none_made true t = (λ e. cc, λ e. cc)
 none_made false t = (λ e. refl, λ e. refl)
 
-pub step_made : (shape : Shape) (tree : Tree) (e : JobEntry) → Needs shape tree e.who e.act ↔ (step shape tree e ≡ Some (after tree e.who e.act))
+pub step_made : (shape : Shape) (tree : Tree) (e : JobEntry)
+    → Needs shape tree e.who e.act ↔ (step shape tree e ≡ Some (after tree e.who e.act))
 step_made shape tree e =
     let m = make_is shape tree e.who e.act in
     let s = some_made (may_make shape tree e.who e.act) (after tree e.who e.act) in
@@ -192,16 +209,21 @@ step_made shape tree e =
 pub step_refused : (shape : Shape) (tree : Tree) (e : JobEntry) → (¬ Needs shape tree e.who e.act) ↔ (step shape tree e ≡ None)
 step_refused shape tree e =
     let m = make_is shape tree e.who e.act in
-    let s = none_made (may_make shape tree e.who e.act) (after tree e.who e.act) in
-    (λ n. by_test (may_make shape tree e.who e.act) refl n m s, λ k. not_from_Decides (may_make shape tree e.who e.act) m ((is_false (may_make shape tree e.who e.act)).0 (s.1 k)))
+    let s = none_made (may_make shape tree e.who e.act) (after tree e.who e.act) in (
+      λ n. by_test (may_make shape tree e.who e.act) refl n m s,
+      λ k. not_from_Decides (may_make shape tree e.who e.act) m ((is_false (may_make shape tree e.who e.act)).0 (s.1 k)),
+    )
   where
-    by_test : (b : Bool) → may_make shape tree e.who e.act ≡ b → (¬ Needs shape tree e.who e.act) → Decides (may_make shape tree e.who e.act) (Needs shape tree e.who e.act)
+    by_test : (b : Bool) → may_make shape tree e.who e.act ≡ b → (¬ Needs shape tree e.who e.act)
+        → Decides (may_make shape tree e.who e.act) (Needs shape tree e.who e.act)
         → Decides (not (may_make shape tree e.who e.act)) (step shape tree e ≡ None) → step shape tree e ≡ None
     by_test true k n m s = absurd (n (m.0 k))
     by_test false k n m s = s.0 (ap not k)
 
 -- all steps of a history are made, or one is not and there is no tree
-all_or_none : (shape : Shape) (tree : Tree) (es : List JobEntry) (P : Type 0) → (LegalFrom shape tree es → steps_from shape tree es ≡ Some (replay_from tree es) → P) → ((¬ LegalFrom shape tree es) → steps_from shape tree es ≡ None → P) → P
+all_or_none : (shape : Shape) (tree : Tree) (es : List JobEntry) (P : Type 0)
+    → (LegalFrom shape tree es → steps_from shape tree es ≡ Some (replay_from tree es) → P)
+    → ((¬ LegalFrom shape tree es) → steps_from shape tree es ≡ None → P) → P
 unfolding steps_from LegalFrom replay_from
 all_or_none shape tree [] P all none = all tt refl
 all_or_none shape tree (e ∷ es) P all none =

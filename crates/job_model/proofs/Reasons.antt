@@ -23,11 +23,7 @@ new_not_cancelled s e h = let k : is_cancelled New ≡ true = ap is_cancelled (s
 
 pub cancelled_not_cancellable : (s : JobState) → is_cancellable s ≡ true → is_cancelled s ≡ true → ⊥
 cancelled_not_cancellable New c e = cc
-cancelled_not_cancellable Active c e = cc
-cancelled_not_cancellable Completing c e = cc
-cancelled_not_cancellable Cancelling c e = cc
-cancelled_not_cancellable Cancelled c e = cc
-cancelled_not_cancellable Completed c e = cc
+cancelled_not_cancellable other c e = cc
 
 cancelled_lasts : Lasts IsCancelled
 cancelled_lasts = record {
@@ -104,7 +100,8 @@ failure_lasts : (f : ℕ) → Lasts (λ x. ended_by_failure f x ≡ true)
 failure_lasts f = record {
   child = λ c j live h. h;
   start = λ j n h. absurd (new_not_ended j.state n (left_of (is_ended j.state) (is_failure_of f j.cause) h));
-  body = λ v j h. both_of _ _ (ended_body j.state (left_of (is_ended j.state) (is_failure_of f j.cause) h)) (right_of (is_ended j.state) (is_failure_of f j.cause) h);
+  body = λ v j h. both_of _ _ (ended_body j.state (left_of (is_ended j.state) (is_failure_of f j.cause) h))
+      (right_of (is_ended j.state) (is_failure_of f j.cause) h);
   cancel = λ cause j c h. absurd (ended_not_cancellable j.state c (left_of (is_ended j.state) (is_failure_of f j.cause) h));
   finish = λ w end j m h. both_of _ _ (end_ends end) (right_of (is_ended j.state) (is_failure_of f j.cause) h);
   told = λ c j h. h;
@@ -129,24 +126,31 @@ any_more (suc n) f g h e = or_both (f n) (any_below n f) (g n) (any_below n g) (
 
 -- ---- each reason
 
-parent_holds : (shape : Shape) (tree : Tree) (es : List JobEntry) (r : ℕ) → LegalFrom shape tree es → (o : Option ℕ) → parent_of (tree r) ≡ o → IsCancelled (row_of tree o) → IsCancelled (parent_row (replay_from tree es) r)
+parent_holds : (shape : Shape) (tree : Tree) (es : List JobEntry) (r : ℕ) → LegalFrom shape tree es → (o : Option ℕ)
+    → parent_of (tree r) ≡ o → IsCancelled (row_of tree o) → IsCancelled (parent_row (replay_from tree es) r)
 parent_holds shape tree es r l None e h = absurd h
 parent_holds shape tree es r l (Some p) e h =
-    subst (λ o. IsCancelled (row_of (replay_from tree es) o)) (sym (history_keeps _ (parent_lasts p) shape tree es r l e)) (history_keeps IsCancelled cancelled_lasts shape tree es p l h)
+    subst (λ o. IsCancelled (row_of (replay_from tree es) o)) (sym (history_keeps _ (parent_lasts p) shape tree es r l e))
+    (history_keeps IsCancelled cancelled_lasts shape tree es p l h)
 
-holds_from : (shape : Shape) (tree : Tree) (es : List JobEntry) (who r : ℕ) (reason : Reason) → HasFamilies tree → LegalFrom shape tree es → Holds shape tree who r reason → Holds shape (replay_from tree es) who r reason
+holds_from : (shape : Shape) (tree : Tree) (es : List JobEntry) (who r : ℕ) (reason : Reason) → HasFamilies tree → LegalFrom shape tree es
+    → Holds shape tree who r reason → Holds shape (replay_from tree es) who r reason
 holds_from shape tree es who r reasons.Request k l h = tt
 holds_from shape tree es who r reasons.Parent k l h = parent_holds shape tree es r l (parent_of (tree r)) refl h
 holds_from shape tree es who r (reasons.Child c) k l h =
     let failed = history_keeps (HasFailed r) (failed_lasts r) shape tree es c l (h.0, failed_is_cancelled r (tree c) (k.rows c) h.0) in
-    let plain = history_keeps IsPlain plain_lasts shape tree es r l (listed_attached c (tree r) (k.listed r c (failed_parent r (tree c) h.0)), h.1) in
+    let plain = history_keeps IsPlain plain_lasts shape tree es r l
+    (listed_attached c (tree r) (k.listed r c (failed_parent r (tree c) h.0)), h.1) in
     (failed.0, plain.1)
 holds_from shape tree es who r (reasons.Own f) k l h = (
   history_keeps _ (tag_lasts who) shape tree es r l h.0,
-  or_more (f == r) _ _ (or_more (f == who) _ _ (any_more shape.rows (λ q. ended_by_failure f (tree q)) (λ q. ended_by_failure f (replay_from tree es q)) (λ q e. history_keeps _ (failure_lasts f) shape tree es q l e))) h.1,
+  or_more (f == r) _ _ (or_more (f == who) _ _ (any_more shape.rows (λ q. ended_by_failure f (tree q))
+      (λ q. ended_by_failure f (replay_from tree es q)) (λ q e. history_keeps _ (failure_lasts f) shape tree es q l e))) h.1,
 )
 
-pub reason_holds_on : (shape : Shape) (xs ys : List JobEntry) (who r : ℕ) (reason : Reason) → Legal shape (xs ++ ys) → Holds shape (replay xs) who r reason → Holds shape (replay (xs ++ ys)) who r reason
+pub reason_holds_on : (shape : Shape) (xs ys : List JobEntry) (who r : ℕ) (reason : Reason) → Legal shape (xs ++ ys)
+    → Holds shape (replay xs) who r reason → Holds shape (replay (xs ++ ys)) who r reason
 reason_holds_on shape xs ys who r reason l h =
     let parts = (Legal-append shape xs ys).0 l in
-    subst (λ (t : Tree). Holds shape t who r reason) (sym (replay-append xs ys)) (holds_from shape (replay xs) ys who r reason (replay_families shape xs parts.0) parts.1 h)
+    subst (λ (t : Tree). Holds shape t who r reason) (sym (replay-append xs ys))
+    (holds_from shape (replay xs) ys who r reason (replay_families shape xs parts.0) parts.1 h)

@@ -27,10 +27,7 @@ use Rattle.job_model.proofs.Marks.{IsMark, row_mark, attach_mark, at_most_once, 
 started_body : (s : JobState) → not (is_new s) ≡ true → not (is_new (state_after_body s)) ≡ true
 started_body New e = cc
 started_body Active e = refl
-started_body Completing e = refl
-started_body Cancelling e = refl
-started_body Cancelled e = refl
-started_body Completed e = refl
+started_body other e = refl
 
 started_end : (end : End) → not (is_new (state_of_end end)) ≡ true
 started_end (ends.Completed v) = refl
@@ -51,27 +48,20 @@ started_lasts = record {
     none : has_started None ≡ true → ⊥
     none e = cc
 
-start_sets : (shape : Shape) (tree : Tree) (who q : ℕ) (act : JobAct) (x y : Option Job) → RowStep shape tree who q act x y → starts q act ≡ true → has_started y ≡ true
+start_sets : (shape : Shape) (tree : Tree) (who q : ℕ) (act : JobAct) (x y : Option Job) → RowStep shape tree who q act x y
+    → starts q act ≡ true → has_started y ≡ true
 unfolding has_started
-start_sets shape tree who q _ _ _ (RowStep.is_attached p kind tag cancelled m i) e = cc
-start_sets shape tree who q _ _ _ (RowStep.has_child r kind tag cancelled j none m) e = cc
 start_sets shape tree who q _ _ _ (RowStep.is_started j n) e = refl
-start_sets shape tree who q _ _ _ (RowStep.body_ends v j m) e = cc
-start_sets shape tree who q _ _ _ (RowStep.is_cancelled reason j m h) e = cc
-start_sets shape tree who q _ _ _ (RowStep.ends end j m) e = cc
-start_sets shape tree who q _ _ _ (RowStep.is_told d j m p) e = cc
 start_sets shape tree who q _ _ _ (RowStep.stays act x a b c d f) e = cc
+start_sets shape tree who q _ _ _ other e = cc
 
-start_unset : (shape : Shape) (tree : Tree) (who q : ℕ) (act : JobAct) (x y : Option Job) → RowStep shape tree who q act x y → starts q act ≡ true → has_started x ≡ false
+start_unset : (shape : Shape) (tree : Tree) (who q : ℕ) (act : JobAct) (x y : Option Job) → RowStep shape tree who q act x y
+    → starts q act ≡ true → has_started x ≡ false
 unfolding has_started
 start_unset shape tree who q _ _ _ (RowStep.is_attached p kind tag cancelled m i) e = refl
-start_unset shape tree who q _ _ _ (RowStep.has_child r kind tag cancelled j none m) e = cc
 start_unset shape tree who q _ _ _ (RowStep.is_started j n) e = ap (λ s. not (is_new s)) n
-start_unset shape tree who q _ _ _ (RowStep.body_ends v j m) e = cc
-start_unset shape tree who q _ _ _ (RowStep.is_cancelled reason j m h) e = cc
-start_unset shape tree who q _ _ _ (RowStep.ends end j m) e = cc
-start_unset shape tree who q _ _ _ (RowStep.is_told d j m p) e = cc
 start_unset shape tree who q _ _ _ (RowStep.stays act x a b c d f) e = cc
+start_unset shape tree who q _ _ _ other e = cc
 
 -- ---- end of the body
 
@@ -89,25 +79,18 @@ bodiless_lasts = record {
     none : has_ended_body None ≡ true → ⊥
     none e = cc
 
-body_sets : (shape : Shape) (tree : Tree) (who q : ℕ) (act : JobAct) (x y : Option Job) → RowStep shape tree who q act x y → ends_body q act ≡ true → has_ended_body y ≡ true
-body_sets shape tree who q _ _ _ (RowStep.is_attached p kind tag cancelled m i) e = cc
-body_sets shape tree who q _ _ _ (RowStep.has_child r kind tag cancelled j none m) e = cc
-body_sets shape tree who q _ _ _ (RowStep.is_started j n) e = cc
+body_sets : (shape : Shape) (tree : Tree) (who q : ℕ) (act : JobAct) (x y : Option Job) → RowStep shape tree who q act x y
+    → ends_body q act ≡ true → has_ended_body y ≡ true
 body_sets shape tree who q _ _ _ (RowStep.body_ends v j m) e = refl
-body_sets shape tree who q _ _ _ (RowStep.is_cancelled reason j m h) e = cc
-body_sets shape tree who q _ _ _ (RowStep.ends end j m) e = cc
-body_sets shape tree who q _ _ _ (RowStep.is_told d j m p) e = cc
 body_sets shape tree who q _ _ _ (RowStep.stays act x a b c d f) e = cc
+body_sets shape tree who q _ _ _ other e = cc
 
-body_unset : (shape : Shape) (tree : Tree) (who q : ℕ) (act : JobAct) (x y : Option Job) → RowStep shape tree who q act x y → ends_body q act ≡ true → has_ended_body x ≡ false
+body_unset : (shape : Shape) (tree : Tree) (who q : ℕ) (act : JobAct) (x y : Option Job) → RowStep shape tree who q act x y
+    → ends_body q act ≡ true → has_ended_body x ≡ false
 body_unset shape tree who q _ _ _ (RowStep.is_attached p kind tag cancelled m i) e = refl
-body_unset shape tree who q _ _ _ (RowStep.has_child r kind tag cancelled j none m) e = cc
-body_unset shape tree who q _ _ _ (RowStep.is_started j n) e = cc
 body_unset shape tree who q _ _ _ (RowStep.body_ends v j m) e = m.2
-body_unset shape tree who q _ _ _ (RowStep.is_cancelled reason j m h) e = cc
-body_unset shape tree who q _ _ _ (RowStep.ends end j m) e = cc
-body_unset shape tree who q _ _ _ (RowStep.is_told d j m p) e = cc
 body_unset shape tree who q _ _ _ (RowStep.stays act x a b c d f) e = cc
+body_unset shape tree who q _ _ _ other e = cc
 
 -- ---- cancel
 
@@ -141,27 +124,20 @@ past_lasts = record {
     none : is_past_cancelling None ≡ true → ⊥
     none e = cc
 
-cancel_sets : (shape : Shape) (tree : Tree) (who q : ℕ) (act : JobAct) (x y : Option Job) → RowStep shape tree who q act x y → cancels q act ≡ true → is_past_cancelling y ≡ true
+cancel_sets : (shape : Shape) (tree : Tree) (who q : ℕ) (act : JobAct) (x y : Option Job) → RowStep shape tree who q act x y
+    → cancels q act ≡ true → is_past_cancelling y ≡ true
 unfolding is_past_cancelling
-cancel_sets shape tree who q _ _ _ (RowStep.is_attached p kind tag cancelled m i) e = cc
-cancel_sets shape tree who q _ _ _ (RowStep.has_child r kind tag cancelled j none m) e = cc
-cancel_sets shape tree who q _ _ _ (RowStep.is_started j n) e = cc
-cancel_sets shape tree who q _ _ _ (RowStep.body_ends v j m) e = cc
 cancel_sets shape tree who q _ _ _ (RowStep.is_cancelled reason j m h) e = refl
-cancel_sets shape tree who q _ _ _ (RowStep.ends end j m) e = cc
-cancel_sets shape tree who q _ _ _ (RowStep.is_told d j m p) e = cc
 cancel_sets shape tree who q _ _ _ (RowStep.stays act x a b c d f) e = cc
+cancel_sets shape tree who q _ _ _ other e = cc
 
-cancel_unset : (shape : Shape) (tree : Tree) (who q : ℕ) (act : JobAct) (x y : Option Job) → RowStep shape tree who q act x y → cancels q act ≡ true → is_past_cancelling x ≡ false
+cancel_unset : (shape : Shape) (tree : Tree) (who q : ℕ) (act : JobAct) (x y : Option Job) → RowStep shape tree who q act x y
+    → cancels q act ≡ true → is_past_cancelling x ≡ false
 unfolding is_past_cancelling
 cancel_unset shape tree who q _ _ _ (RowStep.is_attached p kind tag cancelled m i) e = refl
-cancel_unset shape tree who q _ _ _ (RowStep.has_child r kind tag cancelled j none m) e = cc
-cancel_unset shape tree who q _ _ _ (RowStep.is_started j n) e = cc
-cancel_unset shape tree who q _ _ _ (RowStep.body_ends v j m) e = cc
 cancel_unset shape tree who q _ _ _ (RowStep.is_cancelled reason j m h) e = ap not m
-cancel_unset shape tree who q _ _ _ (RowStep.ends end j m) e = cc
-cancel_unset shape tree who q _ _ _ (RowStep.is_told d j m p) e = cc
 cancel_unset shape tree who q _ _ _ (RowStep.stays act x a b c d f) e = cc
+cancel_unset shape tree who q _ _ _ other e = cc
 
 -- ---- finish
 
@@ -179,15 +155,11 @@ end_lasts = record {
     none : has_ended None ≡ true → ⊥
     none e = cc
 
-finish_sets : (shape : Shape) (tree : Tree) (who q : ℕ) (act : JobAct) (x y : Option Job) → RowStep shape tree who q act x y → finishes q act ≡ true → has_ended y ≡ true
-finish_sets shape tree who q _ _ _ (RowStep.is_attached p kind tag cancelled m i) e = cc
-finish_sets shape tree who q _ _ _ (RowStep.has_child r kind tag cancelled j none m) e = cc
-finish_sets shape tree who q _ _ _ (RowStep.is_started j n) e = cc
-finish_sets shape tree who q _ _ _ (RowStep.body_ends v j m) e = cc
-finish_sets shape tree who q _ _ _ (RowStep.is_cancelled reason j m h) e = cc
+finish_sets : (shape : Shape) (tree : Tree) (who q : ℕ) (act : JobAct) (x y : Option Job) → RowStep shape tree who q act x y
+    → finishes q act ≡ true → has_ended y ≡ true
 finish_sets shape tree who q _ _ _ (RowStep.ends end j m) e = end_ends end
-finish_sets shape tree who q _ _ _ (RowStep.is_told d j m p) e = cc
 finish_sets shape tree who q _ _ _ (RowStep.stays act x a b c d f) e = cc
+finish_sets shape tree who q _ _ _ other e = cc
 
 pub live_before : (s : JobState) (j : Job) (end : End) → end_of s j ≡ Some end → is_ended s ≡ false
 live_before New j end e = cc
@@ -197,15 +169,12 @@ live_before Cancelling j end e = refl
 live_before Cancelled j end e = cc
 live_before Completed j end e = cc
 
-finish_unset : (shape : Shape) (tree : Tree) (who q : ℕ) (act : JobAct) (x y : Option Job) → RowStep shape tree who q act x y → finishes q act ≡ true → has_ended x ≡ false
+finish_unset : (shape : Shape) (tree : Tree) (who q : ℕ) (act : JobAct) (x y : Option Job) → RowStep shape tree who q act x y
+    → finishes q act ≡ true → has_ended x ≡ false
 finish_unset shape tree who q _ _ _ (RowStep.is_attached p kind tag cancelled m i) e = refl
-finish_unset shape tree who q _ _ _ (RowStep.has_child r kind tag cancelled j none m) e = cc
-finish_unset shape tree who q _ _ _ (RowStep.is_started j n) e = cc
-finish_unset shape tree who q _ _ _ (RowStep.body_ends v j m) e = cc
-finish_unset shape tree who q _ _ _ (RowStep.is_cancelled reason j m h) e = cc
 finish_unset shape tree who q _ _ _ (RowStep.ends end j m) e = live_before j.state j end m.2
-finish_unset shape tree who q _ _ _ (RowStep.is_told d j m p) e = cc
 finish_unset shape tree who q _ _ _ (RowStep.stays act x a b c d f) e = cc
+finish_unset shape tree who q _ _ _ other e = cc
 
 -- ---- gone
 
@@ -223,10 +192,12 @@ told_lasts c = record {
     none : was_told c None ≡ true → ⊥
     none e = cc
 
-told_kept : (shape : Shape) (tree : Tree) (who : ℕ) (act : JobAct) (r : ℕ) → Needs shape tree who act → (o : Option ℕ) → parent_of (tree r) ≡ o → was_told r (row_of tree o) ≡ true → was_told r (parent_row (after tree who act) r) ≡ true
+told_kept : (shape : Shape) (tree : Tree) (who : ℕ) (act : JobAct) (r : ℕ) → Needs shape tree who act → (o : Option ℕ)
+    → parent_of (tree r) ≡ o → was_told r (row_of tree o) ≡ true → was_told r (parent_row (after tree who act) r) ≡ true
 told_kept shape tree who act r n None e h = cc
 told_kept shape tree who act r n (Some p) e h =
-    ap (λ o. was_told r (row_of (after tree who act) o)) (act_keeps _ (parent_lasts p) shape tree who act r n e) ∙ act_keeps _ (told_lasts r) shape tree who act p n h
+    ap (λ o. was_told r (row_of (after tree who act) o)) (act_keeps _ (parent_lasts p) shape tree who act r n e)
+    ∙ act_keeps _ (told_lasts r) shape tree who act p n h
 
 told_now : (r : ℕ) (x : Option Job) → is_some x ≡ true → was_told r (option_map (with_told r) x) ≡ true
 told_now r None e = cc
@@ -240,11 +211,14 @@ finished_some : (who : ℕ) (x : Option Job) → IsFinishedBy who x → is_some 
 finished_some who None f = absurd f
 finished_some who (Some j) f = refl
 
-told_set : (shape : Shape) (tree : Tree) (who r : ℕ) → HasFamilies tree → Needs shape tree who (Gone r) → (o : Option ℕ) → parent_of (tree r) ≡ o → was_told r (parent_row (change_parent o (with_told r) tree) r) ≡ true
+told_set : (shape : Shape) (tree : Tree) (who r : ℕ) → HasFamilies tree → Needs shape tree who (Gone r) → (o : Option ℕ)
+    → parent_of (tree r) ≡ o → was_told r (parent_row (change_parent o (with_told r) tree) r) ≡ true
 told_set shape tree who r h n None e = absurd (n.2 (h.root r (finished_some who (tree r) n.0) e))
 told_set shape tree who r h n (Some p) e =
-    let after_gone : change_parent (parent_of (tree r)) (with_told r) tree ≡ change_parent (Some p) (with_told r) tree = ap (λ o. change_parent o (with_told r) tree) e in
-    let kept : parent_of (change_parent (Some p) (with_told r) tree r) ≡ Some p = ap (λ t. parent_of (t r)) (sym after_gone) ∙ act_keeps _ (parent_lasts p) shape tree who (Gone r) r n e in
+    let after_gone : change_parent (parent_of (tree r)) (with_told r) tree ≡ change_parent (Some p) (with_told r) tree =
+    ap (λ o. change_parent o (with_told r) tree) e in
+    let kept : parent_of (change_parent (Some p) (with_told r) tree r) ≡ Some p = ap (λ t. parent_of (t r)) (sym after_gone)
+    ∙ act_keeps _ (parent_lasts p) shape tree who (Gone r) r n e in
     ap (λ o. was_told r (row_of (change_parent (Some p) (with_told r) tree) o)) kept
     ∙ ap (was_told r) (changed_here p (with_told r) tree)
     ∙ told_now r (tree p) (listed_some r (tree p) (h.listed p r e))
@@ -256,23 +230,18 @@ tell_mark = record {
   unset = λ shape tree who act r n e. unset_told shape tree who act r n e;
 }
   where
-    sets_told : (shape : Shape) (tree : Tree) (who : ℕ) (act : JobAct) (r : ℕ) → HasFamilies tree → Needs shape tree who act → tells r act ≡ true → was_told r (parent_row (after tree who act) r) ≡ true
+    sets_told : (shape : Shape) (tree : Tree) (who : ℕ) (act : JobAct) (r : ℕ) → HasFamilies tree → Needs shape tree who act
+        → tells r act ≡ true → was_told r (parent_row (after tree who act) r) ≡ true
     sets_told shape tree who (Gone q) r h n e =
         let k : r ≡ q = eqb-true r q e in
-        subst (λ u. was_told r (parent_row (after tree who (Gone u)) r) ≡ true) k (told_set shape tree who r h (subst (λ u. Needs shape tree who (Gone u)) (sym k) n) (parent_of (tree r)) refl)
-    sets_told shape tree who (Attach p q kind tag cancelled) r h n e = cc
-    sets_told shape tree who (Start q) r h n e = cc
-    sets_told shape tree who (EndBody q v) r h n e = cc
-    sets_told shape tree who (Cancel q reason) r h n e = cc
-    sets_told shape tree who (Finish q end) r h n e = cc
+        subst (λ u. was_told r (parent_row (after tree who (Gone u)) r) ≡ true) k
+        (told_set shape tree who r h (subst (λ u. Needs shape tree who (Gone u)) (sym k) n) (parent_of (tree r)) refl)
+    sets_told shape tree who other r h n e = cc
 
-    unset_told : (shape : Shape) (tree : Tree) (who : ℕ) (act : JobAct) (r : ℕ) → Needs shape tree who act → tells r act ≡ true → was_told r (parent_row tree r) ≡ false
+    unset_told : (shape : Shape) (tree : Tree) (who : ℕ) (act : JobAct) (r : ℕ) → Needs shape tree who act → tells r act ≡ true
+        → was_told r (parent_row tree r) ≡ false
     unset_told shape tree who (Gone q) r n e = subst (λ u. was_told u (parent_row tree u) ≡ false) (sym (eqb-true r q e)) n.1
-    unset_told shape tree who (Attach p q kind tag cancelled) r n e = cc
-    unset_told shape tree who (Start q) r n e = cc
-    unset_told shape tree who (EndBody q v) r n e = cc
-    unset_told shape tree who (Cancel q reason) r n e = cc
-    unset_told shape tree who (Finish q end) r n e = cc
+    unset_told shape tree who other r n e = cc
 
 -- ---- at most once
 

@@ -27,7 +27,8 @@ pub among_last : (c : ℕ) (rows : List ℕ) → is_among c (rows ++ c ∷ []) �
 among_last c rows = among-push c c rows ∙ ap (λ b. is_among c rows || b) (same c) ∙ or_true (is_among c rows)
 
 -- what stands in a longer list stood before, or is the new one
-pub among_before : (P : Type 0) (c r : ℕ) (rows : List ℕ) → is_among c (rows ++ r ∷ []) ≡ true → (is_among c rows ≡ true → P) → (c ≡ r → P) → P
+pub among_before : (P : Type 0) (c r : ℕ) (rows : List ℕ) → is_among c (rows ++ r ∷ []) ≡ true → (is_among c rows ≡ true → P) → (c ≡ r → P)
+    → P
 among_before P c r rows e old new = by_test (is_among c rows) refl
   where
     by_test : (b : Bool) → is_among c rows ≡ b → P
@@ -35,11 +36,14 @@ among_before P c r rows e old new = by_test (is_among c rows) refl
     by_test false f = new (eqb-true c r (sym (among-push c r rows ∙ ap (λ b. b || (c == r)) f) ∙ e))
 
 -- a filter that lets less through leaves nothing where the other did
-pub none_left_of_less : (f g : ℕ → Bool) (rows : List ℕ) → ((c : ℕ) → f c ≡ false → g c ≡ false) → is_none_left (filter f rows) ≡ true → is_none_left (filter g rows) ≡ true
+pub none_left_of_less : (f g : ℕ → Bool) (rows : List ℕ) → ((c : ℕ) → f c ≡ false → g c ≡ false) → is_none_left (filter f rows) ≡ true
+    → is_none_left (filter g rows) ≡ true
 none_left_of_less f g [] h e = e
 none_left_of_less f g (c ∷ cs) h e = by_test (f c) refl e (none_left_of_less f g cs h)
   where
-    by_test : (b : Bool) → f c ≡ b → is_none_left (if b then c ∷ filter f cs else filter f cs) ≡ true → (is_none_left (filter f cs) ≡ true → is_none_left (filter g cs) ≡ true) → is_none_left (if g c then c ∷ filter g cs else filter g cs) ≡ true
+    by_test : (b : Bool) → f c ≡ b → is_none_left (if b then c ∷ filter f cs else filter f cs) ≡ true
+        → (is_none_left (filter f cs) ≡ true → is_none_left (filter g cs) ≡ true)
+        → is_none_left (if g c then c ∷ filter g cs else filter g cs) ≡ true
     by_test true k e rest = cc
     by_test false k e rest = subst (λ b. is_none_left (if b then c ∷ filter g cs else filter g cs) ≡ true) (sym (h c k)) (rest e)
 

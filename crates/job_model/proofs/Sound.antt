@@ -28,11 +28,7 @@ finisher_is who (ends.Cancelled cause) = refl
 
 body_ended_is : (s : JobState) → is_ended s ≡ is_ended (state_after_body s)
 body_ended_is New = refl
-body_ended_is Active = refl
-body_ended_is Completing = refl
-body_ended_is Cancelling = refl
-body_ended_is Cancelled = refl
-body_ended_is Completed = refl
+body_ended_is other = refl
 
 not_ended : (s : JobState) → is_cancellable s ≡ true → is_ended s ≡ false
 not_ended New e = refl
@@ -44,11 +40,7 @@ not_ended Completed e = cc
 
 not_running : (s : JobState) → is_new s ≡ false → is_running (state_after_body s) ≡ true → ⊥
 not_running New n e = cc
-not_running Active n e = cc
-not_running Completing n e = cc
-not_running Cancelling n e = cc
-not_running Cancelled n e = cc
-not_running Completed n e = cc
+not_running other n e = cc
 
 first_running : (cancelled lazy : Bool) → is_bodiless (first_state cancelled lazy) ≡ true → ⊥
 first_running true lazy e = cc
@@ -74,7 +66,8 @@ child_cause q None h = absurd h
 child_cause q (Some j) h = failure_is_cause j.cause h.1
 
 -- each reason gives a cause
-reason_caused : (shape : Shape) (tree : Tree) (who q : ℕ) (reason : Reason) → Holds shape tree who q reason → is_cause (cause_of_reason tree reason) ≡ true
+reason_caused : (shape : Shape) (tree : Tree) (who q : ℕ) (reason : Reason) → Holds shape tree who q reason
+    → is_cause (cause_of_reason tree reason) ≡ true
 reason_caused shape tree who q reasons.Request h = refl
 reason_caused shape tree who q reasons.Parent h = refl
 reason_caused shape tree who q (reasons.Child c) h = child_cause q (tree c) h.0
@@ -82,11 +75,7 @@ reason_caused shape tree who q (reasons.Own f) h = refl
 
 pub body_cancelled : (s : JobState) → is_cancelled s ≡ is_cancelled (state_after_body s)
 body_cancelled New = refl
-body_cancelled Active = refl
-body_cancelled Completing = refl
-body_cancelled Cancelling = refl
-body_cancelled Cancelled = refl
-body_cancelled Completed = refl
+body_cancelled other = refl
 
 pub end_cancelled : (s : JobState) (j : Job) (end : End) → end_of s j ≡ Some end → is_cancelled s ≡ is_cancelled (state_of_end end)
 end_cancelled New j end e = cc
@@ -96,20 +85,67 @@ end_cancelled Cancelling j end e = let k : ends.Cancelled j.cause ≡ end = cc i
 end_cancelled Cancelled j end e = cc
 end_cancelled Completed j end e = cc
 
-pub step_sound : (shape : Shape) (tree : Tree) (who q : ℕ) (act : JobAct) (x y : Option Job) → RowStep shape tree who q act x y → IsSoundRow x → IsSoundRow y
+pub step_sound : (shape : Shape) (tree : Tree) (who q : ℕ) (act : JobAct) (x y : Option Job) → RowStep shape tree who q act x y
+    → IsSoundRow x → IsSoundRow y
 step_sound shape tree who q _ _ _ (RowStep.is_attached p kind tag cancelled m i) h =
-    record { finished = sound_child cancelled kind.lazy; running = λ f. refl; bodiless = λ f. absurd (first_running cancelled kind.lazy f); childless = λ f. refl; caused = first_caused cancelled kind.lazy }
+    record {
+      finished = sound_child cancelled kind.lazy;
+      running = λ f. refl;
+      bodiless = λ f. absurd (first_running cancelled kind.lazy f);
+      childless = λ f. refl;
+      caused = first_caused cancelled kind.lazy;
+    }
 step_sound shape tree who q _ _ _ (RowStep.has_child r kind tag cancelled j none m) h =
-    record { finished = h.finished; running = h.running; bodiless = h.bodiless; childless = λ f. absurd (let k : false ≡ true = sym m.0 ∙ f in cc); caused = h.caused }
+    record {
+      finished = h.finished;
+      running = h.running;
+      bodiless = h.bodiless;
+      childless =
+          λ f. absurd (let k : false ≡ true = sym m.0 ∙ f in cc);
+      caused = h.caused;
+    }
 step_sound shape tree who q _ _ _ (RowStep.is_started j n) h =
     let e : is_ended j.state ≡ false = ap is_ended n in
-    record { finished = h.finished ∙ e; running = λ f. h.running (ap is_running n); bodiless = λ f. cc; childless = λ f. cc; caused = h.caused ∙ ap is_cancelled n }
+    record {
+      finished = h.finished ∙ e;
+      running = λ f. h.running (ap is_running n);
+      bodiless = λ f. cc;
+      childless = λ f. cc;
+      caused =
+          h.caused ∙ ap is_cancelled n;
+    }
 step_sound shape tree who q _ _ _ (RowStep.body_ends v j m) h =
-    record { finished = h.finished ∙ body_ended_is j.state; running = λ f. absurd (not_running j.state m.1 f); bodiless = λ f. refl; childless = λ f. h.childless (body_ended_is j.state ∙ f); caused = h.caused ∙ body_cancelled j.state }
+    record {
+      finished = h.finished ∙ body_ended_is j.state;
+      running = λ f. absurd (not_running j.state m.1 f);
+      bodiless = λ f. refl;
+      childless = λ f. h.childless (body_ended_is j.state ∙ f);
+      caused = h.caused ∙ body_cancelled j.state;
+    }
 step_sound shape tree who q _ _ _ (RowStep.is_cancelled reason j m o) h =
-    record { finished = h.finished ∙ not_ended j.state m; running = λ f. cc; bodiless = λ f. cc; childless = λ f. cc; caused = reason_caused shape tree who q reason o }
+    record {
+      finished = h.finished ∙ not_ended j.state m;
+      running = λ f. cc;
+      bodiless = λ f. cc;
+      childless = λ f. cc;
+      caused =
+          reason_caused shape tree who q reason o;
+    }
 step_sound shape tree who q _ _ _ (RowStep.ends end j m) h =
-    record { finished = finisher_is who end; running = λ f. absurd (end_not_running end f); bodiless = λ f. m.0; childless = λ f. m.1; caused = h.caused ∙ end_cancelled j.state j end m.2 }
+    record {
+      finished = finisher_is who end;
+      running = λ f. absurd (end_not_running end f);
+      bodiless = λ f. m.0;
+      childless = λ f. m.1;
+      caused = h.caused ∙ end_cancelled j.state j end m.2;
+    }
 step_sound shape tree who q _ _ _ (RowStep.is_told c j m p) h =
-    record { finished = h.finished; running = h.running; bodiless = h.bodiless; childless = λ f. none_left_of_less _ _ j.children (λ d. not_among_more d c j.told) (h.childless f); caused = h.caused }
+    record {
+      finished = h.finished;
+      running = h.running;
+      bodiless = h.bodiless;
+      childless =
+          λ f. none_left_of_less _ _ j.children (λ d. not_among_more d c j.told) (h.childless f);
+      caused = h.caused;
+    }
 step_sound shape tree who q _ _ _ (RowStep.stays act x a b c d f) h = h

@@ -63,17 +63,23 @@ fresh_either : (P : Type 0) (a b : Bool) → (a || b) ≡ true → (a ≡ true �
 fresh_either P true b e h k = h refl
 fresh_either P false b e h k = k e
 
-pub claimed_then : (who : ℕ) (xs ys : List ℕ) (a b c : Floor) → SameSetting a b → Claimed who xs a b → Claimed who ys b c → Claimed who (xs ++ ys) a c
+pub claimed_then : (who : ℕ) (xs ys : List ℕ) (a b c : Floor) → SameSetting a b → Claimed who xs a b → Claimed who ys b c
+    → Claimed who (xs ++ ys) a c
 claimed_then who xs ys a b c same h k = record {
   kept = λ r t e. k.kept r t (h.kept r t e);
-  fresh = λ r e. fresh_either _ (is_among r xs) (is_among r ys) (sym (among-append r xs ys) ∙ e) (h.fresh r) (λ f. free_before (a.claims r) (b.claims r) (h.kept r) (k.fresh r f));
-  mine = λ r. k.mine r ∙ ap (λ u. u || is_among r ys) (h.mine r) ∙ or_assoc (is_claimed_by who (a.claims r)) (is_among r xs) (is_among r ys) ∙ ap (λ u. is_claimed_by who (a.claims r) || u) (sym (among-append r xs ys));
-  alone = λ e r. k.alone (same.alone ∙ e) r ∙ ap (λ u. if is_among r ys then Some who else u) (h.alone e r) ∙ later_or (is_among r xs) (is_among r ys) (Some who) (a.claims r) ∙ ap (λ u. if u then Some who else a.claims r) (sym (among-append r xs ys));
+  fresh = λ r e. fresh_either _ (is_among r xs) (is_among r ys) (sym (among-append r xs ys)
+      ∙ e) (h.fresh r) (λ f. free_before (a.claims r) (b.claims r) (h.kept r) (k.fresh r f));
+  mine = λ r. k.mine r ∙ ap (λ u. u || is_among r ys) (h.mine r) ∙ or_assoc (is_claimed_by who (a.claims r)) (is_among r xs) (is_among r ys)
+      ∙ ap (λ u. is_claimed_by who (a.claims r) || u) (sym (among-append r xs ys));
+  alone = λ e r. k.alone (same.alone ∙ e) r ∙ ap (λ u. if is_among r ys then Some who else u) (h.alone e r)
+      ∙ later_or (is_among r xs) (is_among r ys) (Some who) (a.claims r)
+      ∙ ap (λ u. if u then Some who else a.claims r) (sym (among-append r xs ys));
 }
 
 -- ---- calls
 
-pub added_none : (who : ℕ) (old new : Floor) → SameSetting old new → new.seen ≡ old.seen → ((r : ℕ) → new.claims r ≡ old.claims r) → Added who [] [] old new
+pub added_none : (who : ℕ) (old new : Floor) → SameSetting old new → new.seen ≡ old.seen → ((r : ℕ) → new.claims r ≡ old.claims r)
+    → Added who [] [] old new
 added_none who old new same e claims = record {
   same = same;
   longer = ([], nothing_more old.seen ∙ sym e);
@@ -105,7 +111,8 @@ pub added_made : (who : ℕ) (act : JobAct) (rows : List ℕ) (old new : Floor) 
 added_made who act rows old new h = record {
   same = h.same;
   longer = (let k = prefix_append old.seen h.before (record { who = who; act = act } ∷ []) h.longer in (k.0, k.1 ∙ sym h.last));
-  mine = ap (acts_of who) h.last ∙ acts_of-append who h.before (record { who = who; act = act } ∷ []) ∙ ap (λ l. l ++ acts_of who (record { who = who; act = act } ∷ [])) h.mine ∙ ap (λ l. acts_of who old.seen ++ l) (own_act who act);
+  mine = ap (acts_of who) h.last ∙ acts_of-append who h.before (record { who = who; act = act } ∷ [])
+      ∙ ap (λ l. l ++ acts_of who (record { who = who; act = act } ∷ [])) h.mine ∙ ap (λ l. acts_of who old.seen ++ l) (own_act who act);
   alone = λ a. h.last ∙ ap (λ l. l ++ record { who = who; act = act } ∷ []) (h.alone a);
   claims = h.claims;
 }
@@ -115,12 +122,14 @@ entries_append who [] ys = refl
 entries_append who (x ∷ xs) ys = ap (λ l. record { who = who; act = x } ∷ l) (entries_append who xs ys)
 
 -- one call after another
-pub added_then : (who : ℕ) (xs ys : List JobAct) (rows more : List ℕ) (a b c : Floor) → Added who xs rows a b → Added who ys more b c → Added who (xs ++ ys) (rows ++ more) a c
+pub added_then : (who : ℕ) (xs ys : List JobAct) (rows more : List ℕ) (a b c : Floor) → Added who xs rows a b → Added who ys more b c
+    → Added who (xs ++ ys) (rows ++ more) a c
 added_then who xs ys rows more a b c h k = record {
   same = setting_then a b c h.same k.same;
   longer = prefix_then a.seen b.seen c.seen h.longer k.longer;
   mine = k.mine ∙ ap (λ l. l ++ ys) h.mine ∙ append_assoc (acts_of who a.seen) xs ys;
-  alone = λ e. k.alone (h.same.alone ∙ e) ∙ ap (λ l. l ++ entries_by who ys) (h.alone e) ∙ append_assoc a.seen (entries_by who xs) (entries_by who ys) ∙ ap (λ l. a.seen ++ l) (sym (entries_append who xs ys));
+  alone = λ e. k.alone (h.same.alone ∙ e) ∙ ap (λ l. l ++ entries_by who ys) (h.alone e)
+      ∙ append_assoc a.seen (entries_by who xs) (entries_by who ys) ∙ ap (λ l. a.seen ++ l) (sym (entries_append who xs ys));
   claims = claimed_then who rows more a b c h.same h.claims k.claims;
 }
 
@@ -143,15 +152,18 @@ no_rest xs ys zs e = empty zs (omega (arith, ap length e, length-append (xs ++ y
     empty (x ∷ l) e = absurd (omega arith)
 
 -- between two histories with the same acts of who
-pub same_between : (who : ℕ) (xs m ys : List JobEntry) → IsPrefix xs m → IsPrefix m ys → acts_of who ys ≡ acts_of who xs → acts_of who m ≡ acts_of who xs
+pub same_between : (who : ℕ) (xs m ys : List JobEntry) → IsPrefix xs m → IsPrefix m ys → acts_of who ys ≡ acts_of who xs
+    → acts_of who m ≡ acts_of who xs
 same_between who xs m ys p q e =
     let first : acts_of who m ≡ acts_of who xs ++ acts_of who p.0 = ap (acts_of who) (sym p.1) ∙ acts_of-append who xs p.0 in
     let second : acts_of who ys ≡ acts_of who m ++ acts_of who q.0 = ap (acts_of who) (sym q.1) ∙ acts_of-append who m q.0 in
-    let none : acts_of who q.0 ≡ [] = no_rest (acts_of who xs) (acts_of who p.0) (acts_of who q.0) (ap (λ (l : List JobAct). l ++ acts_of who q.0) (sym first) ∙ sym second ∙ e) in
+    let none : acts_of who q.0 ≡ [] = no_rest (acts_of who xs) (acts_of who p.0) (acts_of who q.0)
+    (ap (λ (l : List JobAct). l ++ acts_of who q.0) (sym first) ∙ sym second ∙ e) in
     sym (second ∙ ap (λ (l : List JobAct). acts_of who m ++ l) none ∙ nothing_more (acts_of who m)) ∙ e
 
 -- at each moment of a call without an entry the caller had made nothing of its own
-pub looked_moment : (who : ℕ) (rows : List ℕ) (old new : Floor) (P : Tree → Type 0) → Looked who rows old new → AtStep old new P → AtMoment who [] old new P
+pub looked_moment : (who : ℕ) (rows : List ℕ) (old new : Floor) (P : Tree → Type 0) → Looked who rows old new → AtStep old new P
+    → AtMoment who [] old new P
 looked_moment who rows old new P h m = record {
   moment = m.moment;
   after = m.after;
@@ -161,7 +173,8 @@ looked_moment who rows old new P h m = record {
 }
 
 -- what is so at the end of calls was so when the caller had made all of their acts
-pub added_after : (who : ℕ) (acts : List JobAct) (rows : List ℕ) (old new : Floor) (P : Tree → Type 0) → Added who acts rows old new → P (replay new.seen) → AtMoment who acts old new P
+pub added_after : (who : ℕ) (acts : List JobAct) (rows : List ℕ) (old new : Floor) (P : Tree → Type 0) → Added who acts rows old new
+    → P (replay new.seen) → AtMoment who acts old new P
 added_after who acts rows old new P h p = record {
   moment = new.seen;
   after = h.longer;
@@ -171,7 +184,8 @@ added_after who acts rows old new P h p = record {
 }
 
 -- what was so right before an entry of one call, in longer spans
-pub entry_made : (who : ℕ) (act : JobAct) (rows : List ℕ) (old new : Floor) (P : Tree → Type 0) → (m : Made who act rows old new) → P (replay m.before) → AtEntry who [] act old new P
+pub entry_made : (who : ℕ) (act : JobAct) (rows : List ℕ) (old new : Floor) (P : Tree → Type 0) → (m : Made who act rows old new)
+    → P (replay m.before) → AtEntry who [] act old new P
 entry_made who act rows old new P m h = record {
   before = m.before;
   after = m.longer;
@@ -180,7 +194,8 @@ entry_made who act rows old new P m h = record {
   holds = h;
 }
 
-pub entry_before : (who : ℕ) (acts : List JobAct) (act : JobAct) (a b c : Floor) (P : Tree → Type 0) → AtEntry who acts act a b P → IsPrefix b.seen c.seen → AtEntry who acts act a c P
+pub entry_before : (who : ℕ) (acts : List JobAct) (act : JobAct) (a b c : Floor) (P : Tree → Type 0) → AtEntry who acts act a b P
+    → IsPrefix b.seen c.seen → AtEntry who acts act a c P
 entry_before who acts act a b c P m p = record {
   before = m.before;
   after = m.after;
@@ -189,7 +204,8 @@ entry_before who acts act a b c P m p = record {
   holds = m.holds;
 }
 
-pub entry_after : (who : ℕ) (first acts : List JobAct) (act : JobAct) (rows : List ℕ) (a b c : Floor) (P : Tree → Type 0) → Added who first rows a b → AtEntry who acts act b c P → AtEntry who (first ++ acts) act a c P
+pub entry_after : (who : ℕ) (first acts : List JobAct) (act : JobAct) (rows : List ℕ) (a b c : Floor) (P : Tree → Type 0)
+    → Added who first rows a b → AtEntry who acts act b c P → AtEntry who (first ++ acts) act a c P
 entry_after who first acts act rows a b c P h m = record {
   before = m.before;
   after = prefix_then a.seen b.seen m.before h.longer m.after;

@@ -27,9 +27,7 @@ body_goes : (s : JobState) → GoesTo s (state_after_body s)
 body_goes New = GoesTo.stays
 body_goes Active = goes_once Active Completing refl
 body_goes Completing = GoesTo.stays
-body_goes Cancelling = GoesTo.stays
-body_goes Cancelled = GoesTo.stays
-body_goes Completed = GoesTo.stays
+body_goes other = GoesTo.stays
 
 cancel_goes : (s : JobState) → is_cancellable s ≡ true → GoesTo s Cancelling
 cancel_goes New e = goes_once New Cancelling refl
@@ -42,8 +40,10 @@ cancel_goes Completed e = cc
 end_goes : (s : JobState) (j : Job) (end : End) → end_of s j ≡ Some end → GoesTo s (state_of_end end)
 end_goes New j end e = cc
 end_goes Active j end e = cc
-end_goes Completing j end e = let k : ends.Completed j.value ≡ end = cc in subst (λ x. GoesTo Completing (state_of_end x)) k (goes_once Completing Completed refl)
-end_goes Cancelling j end e = let k : ends.Cancelled j.cause ≡ end = cc in subst (λ x. GoesTo Cancelling (state_of_end x)) k (goes_once Cancelling Cancelled refl)
+end_goes Completing j end e = let k : ends.Completed j.value ≡ end = cc
+    in subst (λ x. GoesTo Completing (state_of_end x)) k (goes_once Completing Completed refl)
+end_goes Cancelling j end e = let k : ends.Cancelled j.cause ≡ end = cc
+    in subst (λ x. GoesTo Cancelling (state_of_end x)) k (goes_once Cancelling Cancelled refl)
 end_goes Cancelled j end e = cc
 end_goes Completed j end e = cc
 
@@ -71,23 +71,22 @@ no_history : (x : Option Job) → RowGoesTo x x
 no_history None = tt
 no_history (Some j) = GoesTo.stays
 
-goes_from : (shape : Shape) (tree : Tree) (es : List JobEntry) (r : ℕ) → LegalFrom shape tree es → RowGoesTo (tree r) (replay_from tree es r)
+goes_from : (shape : Shape) (tree : Tree) (es : List JobEntry) (r : ℕ) → LegalFrom shape tree es
+    → RowGoesTo (tree r) (replay_from tree es r)
 unfolding LegalFrom replay_from
 goes_from shape tree [] r l = no_history (tree r)
-goes_from shape tree (e ∷ es) r l = row_goes_through (tree r) (after tree e.who e.act r) _ (step_goes shape tree e.who r e.act _ _ (row_step shape tree e.who e.act r l.0)) (goes_from shape (after tree e.who e.act) es r l.1)
+goes_from shape tree (e ∷ es) r l = row_goes_through (tree r) (after tree e.who e.act r) _
+    (step_goes shape tree e.who r e.act _ _ (row_step shape tree e.who e.act r l.0)) (goes_from shape (after tree e.who e.act) es r l.1)
 
 pub states_go_on : (shape : Shape) (xs ys : List JobEntry) (r : ℕ) → Legal shape (xs ++ ys) → RowGoesTo (replay xs r) (replay (xs ++ ys) r)
-states_go_on shape xs ys r l = subst (λ (t : Tree). RowGoesTo (replay xs r) (t r)) (sym (replay-append xs ys)) (goes_from shape (replay xs) ys r ((Legal-append shape xs ys).0 l).1)
+states_go_on shape xs ys r l = subst (λ (t : Tree). RowGoesTo (replay xs r) (t r)) (sym (replay-append xs ys))
+    (goes_from shape (replay xs) ys r ((Legal-append shape xs ys).0 l).1)
 
 -- ---- the two final states
 
 from_ended : (s t : JobState) → is_ended s ≡ true → is_step s t ≡ true → ⊥
 from_ended New t e f = cc
-from_ended Active t e f = cc
-from_ended Completing t e f = cc
-from_ended Cancelling t e f = cc
-from_ended Cancelled t e f = cc
-from_ended Completed t e f = cc
+from_ended other t e f = cc
 
 ended_goes : (s t : JobState) → GoesTo s t → is_ended s ≡ true → t ≡ s
 ended_goes s _ GoesTo.stays e = refl
@@ -98,5 +97,6 @@ ended_row None y g e = absurd e
 ended_row (Some j) None g e = absurd g
 ended_row (Some j) (Some k) g e = ap (λ s. Some s) (ended_goes j.state k.state g e)
 
-pub ended_stays : (shape : Shape) (xs ys : List JobEntry) (r : ℕ) → Legal shape (xs ++ ys) → IsEnded (replay xs r) → state_of (replay (xs ++ ys) r) ≡ state_of (replay xs r)
+pub ended_stays : (shape : Shape) (xs ys : List JobEntry) (r : ℕ) → Legal shape (xs ++ ys) → IsEnded (replay xs r)
+    → state_of (replay (xs ++ ys) r) ≡ state_of (replay xs r)
 ended_stays shape xs ys r l e = ended_row (replay xs r) (replay (xs ++ ys) r) (states_go_on shape xs ys r l) e

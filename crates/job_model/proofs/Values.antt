@@ -15,7 +15,8 @@ use Rattle.job_model.specs.Laws.{has_result, HasNoOtherValue}
 use Rattle.job_model.proofs.Steps.{RowStep, row_step}
 use Rattle.job_model.proofs.Families.{at_start}
 
-body_value : (s : JobState) (v x : ℕ) → (has_result s ≡ false → x ≡ 0) → has_result (state_after_body s) ≡ false → value_after_body s v x ≡ 0
+body_value : (s : JobState) (v x : ℕ) → (has_result s ≡ false → x ≡ 0) → has_result (state_after_body s) ≡ false
+    → value_after_body s v x ≡ 0
 body_value New v x h e = h e
 body_value Active v x h e = cc
 body_value Completing v x h e = cc
@@ -31,7 +32,8 @@ end_value Cancelling j end e = let k : ends.Cancelled j.cause ≡ end = cc in ap
 end_value Cancelled j end e = cc
 end_value Completed j end e = cc
 
-step_value : (shape : Shape) (tree : Tree) (who q : ℕ) (act : JobAct) (x y : Option Job) → RowStep shape tree who q act x y → HasNoOtherValue x → HasNoOtherValue y
+step_value : (shape : Shape) (tree : Tree) (who q : ℕ) (act : JobAct) (x y : Option Job) → RowStep shape tree who q act x y
+    → HasNoOtherValue x → HasNoOtherValue y
 step_value shape tree who q _ _ _ (RowStep.is_attached p kind tag cancelled m i) h = λ e. refl
 step_value shape tree who q _ _ _ (RowStep.has_child r kind tag cancelled j none m) h = h
 step_value shape tree who q _ _ _ (RowStep.is_started j n) h = λ e. h (ap has_result n)
@@ -41,10 +43,12 @@ step_value shape tree who q _ _ _ (RowStep.ends end j m) h = λ e. h (sym (end_v
 step_value shape tree who q _ _ _ (RowStep.is_told c j m p) h = h
 step_value shape tree who q _ _ _ (RowStep.stays act x a b c d f) h = h
 
-value_from : (shape : Shape) (tree : Tree) (es : List JobEntry) (r : ℕ) → LegalFrom shape tree es → HasNoOtherValue (tree r) → HasNoOtherValue (replay_from tree es r)
+value_from : (shape : Shape) (tree : Tree) (es : List JobEntry) (r : ℕ) → LegalFrom shape tree es → HasNoOtherValue (tree r)
+    → HasNoOtherValue (replay_from tree es r)
 unfolding LegalFrom replay_from
 value_from shape tree [] r l h = h
-value_from shape tree (e ∷ es) r l h = value_from shape (after tree e.who e.act) es r l.1 (step_value shape tree e.who r e.act _ _ (row_step shape tree e.who e.act r l.0) h)
+value_from shape tree (e ∷ es) r l h = value_from shape (after tree e.who e.act) es r l.1
+    (step_value shape tree e.who r e.act _ _ (row_step shape tree e.who e.act r l.0) h)
 
 pub no_other_value : (shape : Shape) (history : List JobEntry) (r : ℕ) → Legal shape history → HasNoOtherValue (replay history r)
 no_other_value shape history r l = value_from shape start history r l (at_start HasNoOtherValue (λ e. refl) tt r)

@@ -7,8 +7,6 @@
 
 mod book;
 mod notes;
-#[cfg(test)]
-mod tests;
 
 pub use book::{Item, NoteBook};
 pub use notes::Notes;
