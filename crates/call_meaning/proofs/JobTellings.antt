@@ -6,7 +6,7 @@ use Rattle.channel_model.specs.declared.acts.Act.{Act}
 use Rattle.channel_model.specs.declared.acts.Entry.{Entry}
 use Rattle.channel_model.specs.Channels.{Shape}
 use Rattle.channel_model.specs.Histories.{replay, acts_of}
-use Rattle.channel_model.specs.Floors.{Floor as ChannelFloor, Added as AddedToChannels}
+use Rattle.channel_model.specs.Floors.{Added as AddedToChannels}
 use Rattle.channel_model.proofs.Spans as spans
 use Rattle.job_model.specs.declared.acts.JobAct.{JobAct}
 use Rattle.job_model.specs.declared.acts.JobEntry.{JobEntry}
@@ -25,6 +25,7 @@ use Rattle.note_book.proofs.Appended.{channel_acts_in-append, job_acts_in-append
 use Rattle.call_meaning.specs.Telling.{Told, note, on_channels, on_jobs, JobFact, items_in, did, knew}
 use Rattle.call_meaning.specs.Facts.{ToldHolds, JobFactHolds, JobNoteHolds}
 use Rattle.call_meaning.specs.Stories.{Moment, IsBy, IsSo, IsTrue, story_of}
+use Rattle.call_meaning.specs.Seen.{SeenOnJobs, SeenOnBoth, channels_of, jobs_of, tree_in}
 use Rattle.call_meaning.specs.Calls.{ToldOnChannels, ToldOnJobs, ToldOnBoth, seen_by}
 use Rattle.call_meaning.proofs.Tellings.{true_later, true_sooner, true_then}
 
@@ -59,12 +60,15 @@ acts_did acts = ap job_acts_in (items_did acts) ∙ made_acts acts
 abbrev pub moment_of : List Entry → List JobEntry → Moment
 moment_of channels jobs = record { channels = channels; jobs = jobs }
 
-jobs_by : (channels : List Entry) (early late : List JobEntry) → IsPrefix early late → IsBy (moment_of channels early) (moment_of channels late)
+jobs_by : (channels : List Entry) (early late : List JobEntry) → IsPrefix early late
+    → IsBy (moment_of channels early) (moment_of channels late)
 jobs_by channels early late p = record { channels = spans.prefix_self channels; jobs = p }
 
 -- this was so at a moment of a call at which the caller had made nothing of its own
-so_at : (shape : Shape) (who : ℕ) (items : List Item) (old new : Floor) (channels : List Entry) (told : Told) (P : Tree → Type 0) → (m : AtMoment who [] old new P) → ToldHolds shape told (replay channels) (replay_jobs m.moment)
-    → acts_of who channels ≡ channel_acts_in items → job_acts_of who old.seen ≡ job_acts_in items → IsSo (story_of shape who (moment_of channels new.seen)) items (moment_of channels old.seen) told (moment_of channels m.moment)
+so_at : (shape : Shape) (who : ℕ) (items : List Item) (old new : Floor) (channels : List Entry) (told : Told) (P : Tree → Type 0)
+    → (m : AtMoment who [] old new P) → ToldHolds shape told (replay channels) (replay_jobs m.moment)
+    → acts_of who channels ≡ channel_acts_in items → job_acts_of who old.seen ≡ job_acts_in items
+    → IsSo (story_of shape who (moment_of channels new.seen)) items (moment_of channels old.seen) told (moment_of channels m.moment)
 so_at shape who items old new channels told P m h e f = record {
   not_before = jobs_by channels old.seen m.moment m.after;
   not_after = jobs_by channels m.moment new.seen m.before;
@@ -76,141 +80,238 @@ so_at shape who items old new channels told P m h e f = record {
 -- ---- one thing told
 
 -- nothing
-pub told_nothing : (who : ℕ) (rows : List ℕ) (a b : Floor) (i j : List Item) → j ≡ i → Added who [] rows a b → ToldOnJobs who rows a b i j []
+pub told_nothing : {rows : List ℕ} {a b : SeenOnJobs} → b.who ≡ a.who → b.items ≡ a.items → Added a.who [] rows a.floor b.floor
+    → ToldOnJobs rows a b []
 unfolding IsTrue items_in
-told_nothing who rows a b i j e h = record { appended = e ∙ sym (nothing_more i); added = h; no_channels = refl; was_so = λ book shape channels c d. tt }
-
--- a fact
-pub told_fact : (who : ℕ) (rows : List ℕ) (a b : Floor) (i j : List Item) (fact : JobFact) → j ≡ i → Added who [] rows a b → AtMoment who [] a b (JobFactHolds fact) → ToldOnJobs who rows a b i j (on_jobs fact ∷ [])
-unfolding IsTrue items_in
-told_fact who rows a b i j fact e h m = record {
-  appended = e ∙ sym (nothing_more i);
+told_nothing {rows} {a} w e h = record {
+  who = w;
+  appended = e ∙ sym (nothing_more a.items);
   added = h;
   no_channels = refl;
-  was_so = λ book shape channels c d. (moment_of channels m.moment, so_at shape who book a b channels (on_jobs fact) _ m m.holds c d, tt);
+  was_so = λ book shape channels c d. tt;
+}
+
+-- a fact
+pub told_fact : (fact : JobFact) {rows : List ℕ} {a b : SeenOnJobs} → b.who ≡ a.who → b.items ≡ a.items
+    → Added a.who [] rows a.floor b.floor
+    → AtMoment a.who [] a.floor b.floor (JobFactHolds fact) → ToldOnJobs rows a b (on_jobs fact ∷ [])
+unfolding IsTrue items_in
+told_fact fact {rows} {a} {b} w e h m = record {
+  who = w;
+  appended = e ∙ sym (nothing_more a.items);
+  added = h;
+  no_channels = refl;
+  was_so = λ book shape channels c d.
+      (moment_of channels m.moment, so_at shape a.who book a.floor b.floor channels (on_jobs fact) _ m m.holds c d, tt);
 }
 
 -- an answer that made no entry
-pub told_knew : (who : ℕ) (rows : List ℕ) (a b : Floor) (i j : List Item) (n : JobNote) → job_act n ≡ [] → j ≡ i ++ item.Job n ∷ [] → Added who [] rows a b → AtMoment who [] a b (JobNoteHolds n) → ToldOnJobs who rows a b i j (knew n ∷ [])
+pub told_knew : (n : JobNote) {rows : List ℕ} {a b : SeenOnJobs} → job_act n ≡ [] → b.who ≡ a.who → b.items ≡ a.items ++ item.Job n ∷ []
+    → Added a.who [] rows a.floor b.floor → AtMoment a.who [] a.floor b.floor (JobNoteHolds n) → ToldOnJobs rows a b (knew n ∷ [])
 unfolding IsTrue items_in
-told_knew who rows a b i j n none e h m = record {
+told_knew n {rows} {a} {b} none w e h m = record {
+  who = w;
   appended = e;
-  added = subst (λ (l : List JobAct). Added who l rows a b) (sym (ap (λ (l : List JobAct). l ++ []) none)) h;
+  added = subst (λ (l : List JobAct). Added a.who l rows a.floor b.floor) (sym (ap (λ (l : List JobAct). l ++ []) none)) h;
   no_channels = refl;
-  was_so = λ book shape channels c d. (moment_of channels m.moment, so_at shape who book a b channels (knew n) _ m m.holds c d, tt);
+  was_so = λ book shape channels c d.
+      (moment_of channels m.moment, so_at shape a.who book a.floor b.floor channels (knew n) _ m m.holds c d, tt);
 }
 
 -- ---- acts
 
-own_first : (who : ℕ) (e : JobEntry) (es : List JobEntry) (P : Type 0) → (job_acts_of who (e ∷ []) ≡ e.act ∷ [] → job_acts_of who (e ∷ es) ≡ e.act ∷ job_acts_of who es → P) → (job_acts_of who (e ∷ []) ≡ [] → job_acts_of who (e ∷ es) ≡ job_acts_of who es → P) → P
+own_first : (who : ℕ) (e : JobEntry) (es : List JobEntry) (P : Type 0)
+    → (job_acts_of who (e ∷ []) ≡ e.act ∷ [] → job_acts_of who (e ∷ es) ≡ e.act ∷ job_acts_of who es → P)
+    → (job_acts_of who (e ∷ []) ≡ [] → job_acts_of who (e ∷ es) ≡ job_acts_of who es → P) → P
 unfolding job_acts_of
 own_first who e es P own other = by_test (e.who == who) refl
   where
     by_test : (b : Bool) → (e.who == who) ≡ b → P
-    by_test true k = own (ap (λ c. if c then e.act ∷ [] else []) k) (ap (λ c. if c then e.act ∷ job_acts_of who es else job_acts_of who es) k)
-    by_test false k = other (ap (λ c. if c then e.act ∷ [] else []) k) (ap (λ c. if c then e.act ∷ job_acts_of who es else job_acts_of who es) k)
+    by_test true k = own (ap (λ c. if c then e.act ∷ [] else []) k)
+        (ap (λ c. if c then e.act ∷ job_acts_of who es else job_acts_of who es) k)
+    by_test false k = other (ap (λ c. if c then e.act ∷ [] else []) k)
+        (ap (λ c. if c then e.act ∷ job_acts_of who es else job_acts_of who es) k)
 
 -- the acts that a caller made in a history that goes on were made one after the other
-did_true : (shape : Shape) (who : ℕ) (items : List Item) (channels : List Entry) (xs rest now : List JobEntry) → IsPrefix (xs ++ rest) now → acts_of who channels ≡ channel_acts_in items → job_acts_of who xs ≡ job_acts_in items
+did_true : (shape : Shape) (who : ℕ) (items : List Item) (channels : List Entry) (xs rest now : List JobEntry) → IsPrefix (xs ++ rest) now
+    → acts_of who channels ≡ channel_acts_in items → job_acts_of who xs ≡ job_acts_in items
     → IsTrue (story_of shape who (moment_of channels now)) items (moment_of channels xs) (map did (job_acts_of who rest))
 unfolding IsTrue job_acts_of
 did_true shape who items channels xs [] now p c d = tt
 did_true shape who items channels xs (e ∷ es) now p c d =
-    let further : IsPrefix ((xs ++ e ∷ []) ++ es) now = subst (λ (l : List JobEntry). IsPrefix l now) (sym (append_assoc xs (e ∷ []) es)) p in
+    let further : IsPrefix ((xs ++ e ∷ []) ++ es) now = subst (λ (l : List JobEntry). IsPrefix l now) (sym (append_assoc xs (e ∷ []) es)) p
+    in
     let here : IsPrefix xs now = prefix_then xs (xs ++ e ∷ es) now (e ∷ es, refl) p in
     own_first who e es _
     (λ one all.
     let i : Item = item.Job (of_job.Made e.act) in
-    let c' : acts_of who channels ≡ channel_acts_in (items ++ i ∷ []) = c ∙ sym (channel_acts_in-append items (i ∷ []) ∙ nothing_more (channel_acts_in items)) in
-    let d' : job_acts_of who (xs ++ e ∷ []) ≡ job_acts_in (items ++ i ∷ []) = acts_of-append who xs (e ∷ []) ∙ ap (λ (l : List JobAct). job_acts_of who xs ++ l) one ∙ ap (λ (l : List JobAct). l ++ e.act ∷ []) d ∙ sym (job_acts_in-append items (i ∷ [])) in
+    let c' : acts_of who channels ≡ channel_acts_in (items ++ i ∷ []) = c
+    ∙ sym (channel_acts_in-append items (i ∷ []) ∙ nothing_more (channel_acts_in items)) in
+    let d' : job_acts_of who (xs ++ e ∷ []) ≡ job_acts_in (items ++ i ∷ []) = acts_of-append who xs (e ∷ [])
+    ∙ ap (λ (l : List JobAct). job_acts_of who xs ++ l) one ∙ ap (λ (l : List JobAct). l ++ e.act ∷ []) d
+    ∙ sym (job_acts_in-append items (i ∷ [])) in
     let later = did_true shape who (items ++ i ∷ []) channels (xs ++ e ∷ []) es now further c' d' in
     subst (λ (l : List JobAct). IsTrue (story_of shape who (moment_of channels now)) items (moment_of channels xs) (map did l)) (sym all) (
       moment_of channels xs,
-      record { not_before = jobs_by channels xs xs (prefix_self xs); not_after = jobs_by channels xs now here; channel_acts = c; job_acts = d; holds = tt },
-      true_sooner _ (items ++ i ∷ []) (moment_of channels xs) (moment_of channels (xs ++ e ∷ [])) (map did (job_acts_of who es)) (jobs_by channels xs (xs ++ e ∷ []) (e ∷ [], refl)) later,
+      record {
+        not_before = jobs_by channels xs xs (prefix_self xs);
+        not_after = jobs_by channels xs now here;
+        channel_acts = c;
+        job_acts =
+            d;
+        holds = tt;
+      },
+      true_sooner _ (items ++ i ∷ []) (moment_of channels xs) (moment_of channels (xs ++ e ∷ [])) (map did (job_acts_of who es))
+          (jobs_by channels xs (xs ++ e ∷ []) (e ∷ [], refl)) later,
     ))
     (λ none all.
-    let d' : job_acts_of who (xs ++ e ∷ []) ≡ job_acts_in items = acts_of-append who xs (e ∷ []) ∙ ap (λ (l : List JobAct). job_acts_of who xs ++ l) none ∙ nothing_more (job_acts_of who xs) ∙ d in
+    let d' : job_acts_of who (xs ++ e ∷ []) ≡ job_acts_in items = acts_of-append who xs (e ∷ [])
+    ∙ ap (λ (l : List JobAct). job_acts_of who xs ++ l) none ∙ nothing_more (job_acts_of who xs) ∙ d in
     let later = did_true shape who items channels (xs ++ e ∷ []) es now further c d' in
     subst (λ (l : List JobAct). IsTrue (story_of shape who (moment_of channels now)) items (moment_of channels xs) (map did l)) (sym all)
-    (true_sooner _ items (moment_of channels xs) (moment_of channels (xs ++ e ∷ [])) (map did (job_acts_of who es)) (jobs_by channels xs (xs ++ e ∷ []) (e ∷ [], refl)) later))
+    (true_sooner _ items (moment_of channels xs) (moment_of channels (xs ++ e ∷ [])) (map did (job_acts_of who es))
+    (jobs_by channels xs (xs ++ e ∷ []) (e ∷ [], refl)) later))
 
 -- acts
-pub told_dids : (who : ℕ) (acts : List JobAct) (rows : List ℕ) (a b : Floor) (i j : List Item) → j ≡ i ++ map (λ act. item.Job (of_job.Made act)) acts → Added who acts rows a b → ToldOnJobs who rows a b i j (map did acts)
-told_dids who acts rows a b i j e h =
-    let own : job_acts_of who h.longer.0 ≡ acts = acts_between who a.seen h.longer.0 acts (ap (job_acts_of who) h.longer.1 ∙ h.mine) in
+pub told_dids : (acts : List JobAct) {rows : List ℕ} {a b : SeenOnJobs} → b.who ≡ a.who
+    → b.items ≡ a.items ++ map (λ act. item.Job (of_job.Made act)) acts → Added a.who acts rows a.floor b.floor
+    → ToldOnJobs rows a b (map did acts)
+told_dids acts {rows} {a} {b} w e h =
+    let who : ℕ = a.who in
+    let xs : List JobEntry = a.floor.seen in
+    let own : job_acts_of who h.longer.0 ≡ acts = acts_between who xs h.longer.0 acts (ap (job_acts_of who) h.longer.1 ∙ h.mine) in
+    let here : IsPrefix (xs ++ h.longer.0) b.floor.seen =
+    subst (λ (l : List JobEntry). IsPrefix l b.floor.seen) (sym h.longer.1) (prefix_self b.floor.seen) in
     record {
-      appended = e ∙ ap (λ (l : List Item). i ++ l) (sym (items_did acts));
-      added = subst (λ (l : List JobAct). Added who l rows a b) (sym (acts_did acts)) h;
+      who = w;
+      appended = e ∙ ap (λ (l : List Item). a.items ++ l) (sym (items_did acts));
+      added = subst (λ (l : List JobAct). Added who l rows a.floor b.floor) (sym (acts_did acts)) h;
       no_channels = ap channel_acts_in (items_did acts) ∙ no_channel_acts acts;
-      was_so = λ book shape channels c d. subst (λ (l : List JobAct). IsTrue (story_of shape who (moment_of channels b.seen)) book (moment_of channels a.seen) (map did l)) own
-          (did_true shape who book channels a.seen h.longer.0 b.seen (subst (λ (l : List JobEntry). IsPrefix l b.seen) (sym h.longer.1) (prefix_self b.seen)) c d);
+      was_so = λ book shape channels c d.
+          subst (λ (l : List JobAct). IsTrue (story_of shape who (moment_of channels b.floor.seen)) book (moment_of channels xs)
+          (map did l)) own
+          (did_true shape who book channels xs h.longer.0 b.floor.seen here c d);
     }
 
-pub told_did : (who : ℕ) (act : JobAct) (rows : List ℕ) (a b : Floor) (i j : List Item) → j ≡ i ++ item.Job (of_job.Made act) ∷ [] → Made who act rows a b → ToldOnJobs who rows a b i j (did act ∷ [])
-told_did who act rows a b i j e h = told_dids who (act ∷ []) rows a b i j e (added_made who act rows a b h)
+pub told_did : (act : JobAct) {rows : List ℕ} {a b : SeenOnJobs} → b.who ≡ a.who → b.items ≡ a.items ++ item.Job (of_job.Made act) ∷ []
+    → Made a.who act rows a.floor b.floor → ToldOnJobs rows a b (did act ∷ [])
+told_did act {rows} {a} {b} w e h = told_dids (act ∷ []) w e (added_made a.who act rows a.floor b.floor h)
 
 -- ---- one call behind another
 
-pub told_then : (who : ℕ) (rows more : List ℕ) (a b c : Floor) (i j k : List Item) (xs ys : List Told) → ToldOnJobs who rows a b i j xs → ToldOnJobs who more b c j k ys → ToldOnJobs who (rows ++ more) a c i k (xs ++ ys)
-told_then who rows more a b c i j k xs ys h m = record {
-  appended = m.appended ∙ ap (λ (l : List Item). l ++ items_in ys) h.appended ∙ append_assoc i (items_in xs) (items_in ys) ∙ ap (λ (l : List Item). i ++ l) (sym (items_in-append xs ys));
-  added = subst (λ (l : List JobAct). Added who l (rows ++ more) a c) (sym (ap job_acts_in (items_in-append xs ys) ∙ job_acts_in-append (items_in xs) (items_in ys))) (added_then who (job_acts_in (items_in xs)) (job_acts_in (items_in ys)) rows more a b c h.added m.added);
-  no_channels = ap channel_acts_in (items_in-append xs ys) ∙ channel_acts_in-append (items_in xs) (items_in ys) ∙ ap (λ (l : List Act). l ++ channel_acts_in (items_in ys)) h.no_channels ∙ m.no_channels;
-  was_so = λ book shape channels e f.
-      let e' : acts_of who channels ≡ channel_acts_in (book ++ items_in xs) = e ∙ sym (channel_acts_in-append book (items_in xs) ∙ ap (λ (l : List Act). channel_acts_in book ++ l) h.no_channels ∙ nothing_more (channel_acts_in book)) in
-      let f' : job_acts_of who b.seen ≡ job_acts_in (book ++ items_in xs) = h.added.mine ∙ ap (λ (l : List JobAct). l ++ job_acts_in (items_in xs)) f ∙ sym (job_acts_in-append book (items_in xs)) in
-      true_then shape who (moment_of channels b.seen) (moment_of channels c.seen) book (moment_of channels a.seen) xs ys (jobs_by channels a.seen b.seen h.added.longer) (jobs_by channels b.seen c.seen m.added.longer) (h.was_so book shape channels e f)
-      (m.was_so (book ++ items_in xs) shape channels e' f');
-}
+-- the same caller by another name
+pub by_who : (who : ℕ) {rows : List ℕ} {a b : SeenOnJobs} {told : List Told} → a.who ≡ who → ToldOnJobs rows a b told
+    → ToldOnJobs rows (record a { who = who }) b told
+by_who who {rows} {a} {b} {told} e h = subst (λ n. ToldOnJobs rows (record a { who = n }) b told) e h
+
+pub told_then : {rows more : List ℕ} {a b c : SeenOnJobs} {xs ys : List Told} → ToldOnJobs rows a b xs → ToldOnJobs more b c ys
+    → ToldOnJobs (rows ++ more) a c (xs ++ ys)
+told_then {rows} {more} {a} {b} {c} {xs} {ys} h n =
+    let who : ℕ = a.who in
+    let m : ToldOnJobs more (record b { who = who }) c ys = by_who who h.who n in
+    record {
+      who = m.who;
+      appended = m.appended ∙ ap (λ (l : List Item). l ++ items_in ys) h.appended ∙ append_assoc a.items (items_in xs) (items_in ys)
+          ∙ ap (λ (l : List Item). a.items ++ l) (sym (items_in-append xs ys));
+      added = subst (λ (l : List JobAct). Added who l (rows ++ more) a.floor c.floor)
+          (sym (ap job_acts_in (items_in-append xs ys) ∙ job_acts_in-append (items_in xs) (items_in ys)))
+          (added_then who (job_acts_in (items_in xs)) (job_acts_in (items_in ys)) rows more a.floor b.floor c.floor h.added m.added);
+      no_channels = ap channel_acts_in (items_in-append xs ys) ∙ channel_acts_in-append (items_in xs) (items_in ys)
+          ∙ ap (λ (l : List Act). l ++ channel_acts_in (items_in ys)) h.no_channels ∙ m.no_channels;
+      was_so = λ book shape channels e f.
+          let e' : acts_of who channels ≡ channel_acts_in (book ++ items_in xs) =
+          e ∙ sym (channel_acts_in-append book (items_in xs) ∙ ap (λ (l : List Act). channel_acts_in book ++ l) h.no_channels
+          ∙ nothing_more (channel_acts_in book)) in
+          let f' : job_acts_of who b.floor.seen ≡ job_acts_in (book ++ items_in xs) =
+          h.added.mine ∙ ap (λ (l : List JobAct). l ++ job_acts_in (items_in xs)) f ∙ sym (job_acts_in-append book (items_in xs)) in
+          let at : Floor → Moment = λ floor. moment_of channels floor.seen in
+          true_then shape who (at b.floor) (at c.floor) book (at a.floor) xs ys
+          (jobs_by channels a.floor.seen b.floor.seen h.added.longer) (jobs_by channels b.floor.seen c.floor.seen m.added.longer)
+          (h.was_so book shape channels e f) (m.was_so (book ++ items_in xs) shape channels e' f');
+    }
 
 -- after calls that told nothing
-pub told_after : (who : ℕ) (rows : List ℕ) (a b c : Floor) (i j k : List Item) (told : List Told) → Added who [] [] a b → j ≡ i → ToldOnJobs who rows b c j k told → ToldOnJobs who rows a c i k told
-told_after who rows a b c i j k told h e m = told_then who [] rows a b c i j k [] told (told_nothing who [] a b i j e h) m
+pub told_after : {rows : List ℕ} {a b c : SeenOnJobs} {told : List Told} → b.who ≡ a.who → b.items ≡ a.items
+    → Added a.who [] [] a.floor b.floor → ToldOnJobs rows b c told → ToldOnJobs rows a c told
+told_after w e h m = told_then (told_nothing w e h) m
 
 -- and before such
-pub told_before : (who : ℕ) (rows : List ℕ) (a b c : Floor) (i j k : List Item) (told : List Told) → ToldOnJobs who rows a b i j told → Added who [] [] b c → k ≡ j → ToldOnJobs who rows a c i k told
-told_before who rows a b c i j k told h m e =
-    subst (λ (l : List ℕ). ToldOnJobs who l a c i k told) (nothing_more rows)
-    (subst (ToldOnJobs who (rows ++ []) a c i k) (nothing_more told) (told_then who rows [] a b c i j k told [] h (told_nothing who [] b c j k e m)))
+pub told_before : {rows : List ℕ} {a b c : SeenOnJobs} {told : List Told} → ToldOnJobs rows a b told → c.who ≡ b.who → c.items ≡ b.items
+    → Added b.who [] [] b.floor c.floor → ToldOnJobs rows a c told
+told_before {rows} {a} {b} {c} {told} h w e m =
+    subst (λ (l : List ℕ). ToldOnJobs l a c told) (nothing_more rows)
+    (subst (ToldOnJobs (rows ++ []) a c) (nothing_more told) (told_then h (told_nothing w e m)))
 
 pub nobody_called : (who : ℕ) (a : Floor) → Added who [] [] a a
 nobody_called who a = added_none who a a (record { shape = refl; alone = refl; callers = refl }) refl (λ r. refl)
 
 -- and then this was so
-pub told_so : (who : ℕ) (rows : List ℕ) (a b : Floor) (i j : List Item) (told : List Told) (fact : JobFact) → ToldOnJobs who rows a b i j told → JobFactHolds fact (replay_jobs b.seen) → ToldOnJobs who rows a b i j (told ++ on_jobs fact ∷ [])
-told_so who rows a b i j told fact h f =
-    subst (λ (l : List ℕ). ToldOnJobs who l a b i j (told ++ on_jobs fact ∷ [])) (nothing_more rows)
-    (told_then who rows [] a b b i j j told (on_jobs fact ∷ []) h (told_fact who [] b b j j fact refl (nobody_called who b) (added_after who [] [] b b (JobFactHolds fact) (nobody_called who b) f)))
+pub told_so : (fact : JobFact) {rows : List ℕ} {a b : SeenOnJobs} {told : List Told} → ToldOnJobs rows a b told
+    → JobFactHolds fact (tree_in b) → ToldOnJobs rows a b (told ++ on_jobs fact ∷ [])
+told_so fact {rows} {a} {b} {told} h f =
+    let none = nobody_called b.who b.floor in
+    let so : ToldOnJobs [] b b (on_jobs fact ∷ []) =
+    told_fact fact refl refl none (added_after b.who [] [] b.floor b.floor (JobFactHolds fact) none f) in
+    subst (λ (l : List ℕ). ToldOnJobs l a b (told ++ on_jobs fact ∷ [])) (nothing_more rows) (told_then h so)
 
 -- ---- on both floors
 
-pub both_then : (who : ℕ) (rows more : List ℕ) (c c' c'' : ChannelFloor) (j j' j'' : Floor) (i i' i'' : List Item) (xs ys : List Told) → ToldOnBoth who rows c c' j j' i i' xs → ToldOnBoth who more c' c'' j' j'' i' i'' ys → ToldOnBoth who (rows ++ more) c c'' j j'' i i'' (xs ++ ys)
-both_then who rows more c c' c'' j j' j'' i i' i'' xs ys h m = record {
-  appended = m.appended ∙ ap (λ (l : List Item). l ++ items_in ys) h.appended ∙ append_assoc i (items_in xs) (items_in ys) ∙ ap (λ (l : List Item). i ++ l) (sym (items_in-append xs ys));
-  channels = subst (λ (l : List Act). AddedToChannels who l c c'') (sym (ap channel_acts_in (items_in-append xs ys) ∙ channel_acts_in-append (items_in xs) (items_in ys))) (spans.added_then who (channel_acts_in (items_in xs)) (channel_acts_in (items_in ys)) c c' c'' h.channels m.channels);
-  jobs = subst (λ (l : List JobAct). Added who l (rows ++ more) j j'') (sym (ap job_acts_in (items_in-append xs ys) ∙ job_acts_in-append (items_in xs) (items_in ys))) (added_then who (job_acts_in (items_in xs)) (job_acts_in (items_in ys)) rows more j j' j'' h.jobs m.jobs);
-  was_so = λ book e f.
-      let e' : acts_of who c'.seen ≡ channel_acts_in (book ++ items_in xs) = h.channels.mine ∙ ap (λ (l : List Act). l ++ channel_acts_in (items_in xs)) e ∙ sym (channel_acts_in-append book (items_in xs)) in
-      let f' : job_acts_of who j'.seen ≡ job_acts_in (book ++ items_in xs) = h.jobs.mine ∙ ap (λ (l : List JobAct). l ++ job_acts_in (items_in xs)) f ∙ sym (job_acts_in-append book (items_in xs)) in
-      let later : IsTrue (story_of c.shape who (seen_by c'' j'')) (book ++ items_in xs) (seen_by c' j') ys = subst (λ (s : Shape). IsTrue (story_of s who (seen_by c'' j'')) (book ++ items_in xs) (seen_by c' j') ys) h.channels.same.shape (m.was_so (book ++ items_in xs) e' f') in
-      true_then c.shape who (seen_by c' j') (seen_by c'' j'') book (seen_by c j) xs ys (record { channels = h.channels.longer; jobs = h.jobs.longer }) (record { channels = m.channels.longer; jobs = m.jobs.longer }) (h.was_so book e f) later;
-}
+both_by_who : (who : ℕ) {rows : List ℕ} {a b : SeenOnBoth} {told : List Told} → a.who ≡ who → ToldOnBoth rows a b told
+    → ToldOnBoth rows (record a { who = who }) b told
+both_by_who who {rows} {a} {b} {told} e h = subst (λ n. ToldOnBoth rows (record a { who = n }) b told) e h
+
+pub both_then : {rows more : List ℕ} {a b c : SeenOnBoth} {xs ys : List Told} → ToldOnBoth rows a b xs → ToldOnBoth more b c ys
+    → ToldOnBoth (rows ++ more) a c (xs ++ ys)
+both_then {rows} {more} {a} {b} {c} {xs} {ys} h n =
+    let who : ℕ = a.who in
+    let m : ToldOnBoth more (record b { who = who }) c ys = both_by_who who h.who n in
+    record {
+      who = m.who;
+      appended = m.appended ∙ ap (λ (l : List Item). l ++ items_in ys) h.appended ∙ append_assoc a.items (items_in xs) (items_in ys)
+          ∙ ap (λ (l : List Item). a.items ++ l) (sym (items_in-append xs ys));
+      channels = subst (λ (l : List Act). AddedToChannels who l a.channels c.channels)
+          (sym (ap channel_acts_in (items_in-append xs ys) ∙ channel_acts_in-append (items_in xs) (items_in ys)))
+          (spans.added_then who (channel_acts_in (items_in xs)) (channel_acts_in (items_in ys)) a.channels b.channels c.channels h.channels
+          m.channels);
+      jobs = subst (λ (l : List JobAct). Added who l (rows ++ more) a.jobs c.jobs)
+          (sym (ap job_acts_in (items_in-append xs ys) ∙ job_acts_in-append (items_in xs) (items_in ys)))
+          (added_then who (job_acts_in (items_in xs)) (job_acts_in (items_in ys)) rows more a.jobs b.jobs c.jobs h.jobs m.jobs);
+      was_so = λ book e f.
+          let e' : acts_of who b.channels.seen ≡ channel_acts_in (book ++ items_in xs) =
+          h.channels.mine ∙ ap (λ (l : List Act). l ++ channel_acts_in (items_in xs)) e ∙ sym (channel_acts_in-append book (items_in xs)) in
+          let f' : job_acts_of who b.jobs.seen ≡ job_acts_in (book ++ items_in xs) =
+          h.jobs.mine ∙ ap (λ (l : List JobAct). l ++ job_acts_in (items_in xs)) f ∙ sym (job_acts_in-append book (items_in xs)) in
+          let at : SeenOnBoth → Moment = λ s. seen_by s.channels s.jobs in
+          let IsTold : Shape → Type 0 = λ s. IsTrue (story_of s who (at c)) (book ++ items_in xs) (at b) ys in
+          let later : IsTold a.channels.shape = subst IsTold h.channels.same.shape (m.was_so (book ++ items_in xs) e' f') in
+          true_then a.channels.shape who (at b) (at c) book (at a) xs ys (record { channels = h.channels.longer; jobs = h.jobs.longer })
+          (record { channels = m.channels.longer; jobs = m.jobs.longer }) (h.was_so book e f) later;
+    }
 
 -- a call on Jobs alone, while the floor of channels made no act of the caller
-pub both_jobs : (who : ℕ) (rows : List ℕ) (c c' : ChannelFloor) (j j' : Floor) (i i' : List Item) (told : List Told) → AddedToChannels who [] c c' → ToldOnJobs who rows j j' i i' told → ToldOnBoth who rows c c' j j' i i' told
-both_jobs who rows c c' j j' i i' told a h = record {
+pub both_jobs : {rows : List ℕ} {a b : SeenOnBoth} {told : List Told} → AddedToChannels a.who [] a.channels b.channels
+    → ToldOnJobs rows (jobs_of a) (jobs_of b) told → ToldOnBoth rows a b told
+both_jobs {rows} {a} {b} {told} c h = record {
+  who = h.who;
   appended = h.appended;
-  channels = subst (λ (l : List Act). AddedToChannels who l c c') (sym h.no_channels) a;
+  channels = subst (λ (l : List Act). AddedToChannels a.who l a.channels b.channels) (sym h.no_channels) c;
   jobs = h.added;
-  was_so = λ book e f. true_later c.shape who (moment_of c.seen j'.seen) (seen_by c' j') book (seen_by c j) told (record { channels = a.longer; jobs = prefix_self j'.seen }) (h.was_so book c.shape c.seen e f);
+  was_so = λ book e f.
+      true_later a.channels.shape a.who (moment_of a.channels.seen b.jobs.seen) (seen_by b.channels b.jobs) book (seen_by a.channels a.jobs)
+      told
+      (record { channels = c.longer; jobs = prefix_self b.jobs.seen }) (h.was_so book a.channels.shape a.channels.seen e f);
 }
 
 -- a call on channels alone
-pub both_channels : (who : ℕ) (c c' : ChannelFloor) (j j' : Floor) (i i' : List Item) (told : List Told) → Added who [] [] j j' → ToldOnChannels who c c' i i' told → ToldOnBoth who [] c c' j j' i i' told
-both_channels who c c' j j' i i' told a h = record {
+pub both_channels : {a b : SeenOnBoth} {told : List Told} → Added a.who [] [] a.jobs b.jobs
+    → ToldOnChannels (channels_of a) (channels_of b) told → ToldOnBoth [] a b told
+both_channels {a} {b} {told} j h = record {
+  who = h.who;
   appended = h.appended;
   channels = h.added;
-  jobs = subst (λ (l : List JobAct). Added who l [] j j') (sym h.no_jobs) a;
-  was_so = λ book e f. true_later c.shape who (moment_of c'.seen j.seen) (seen_by c' j') book (seen_by c j) told (record { channels = spans.prefix_self c'.seen; jobs = a.longer }) (h.was_so book j.seen e f);
+  jobs = subst (λ (l : List JobAct). Added a.who l [] a.jobs b.jobs) (sym h.no_jobs) j;
+  was_so = λ book e f.
+      true_later a.channels.shape a.who (moment_of b.channels.seen a.jobs.seen) (seen_by b.channels b.jobs) book (seen_by a.channels a.jobs)
+      told
+      (record { channels = spans.prefix_self b.channels.seen; jobs = j.longer }) (h.was_so book a.jobs.seen e f);
 }

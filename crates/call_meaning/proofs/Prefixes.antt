@@ -14,11 +14,13 @@ pub prefix_of : (P Q : List Told → Type 0) → ((all : List Told) → P all �
 prefix_of P Q k told h = record { rest = h.rest; all = k (told ++ h.rest) h.all }
 
 -- before what comes last
-pub prefix_on : (P Q : List Told → Type 0) (end : List Told) → ((all : List Told) → P all → Q (all ++ end)) → (told : List Told) → PrefixOf P told → PrefixOf Q told
+pub prefix_on : (P Q : List Told → Type 0) (end : List Told) → ((all : List Told) → P all → Q (all ++ end)) → (told : List Told)
+    → PrefixOf P told → PrefixOf Q told
 prefix_on P Q end k told h = record { rest = h.rest ++ end; all = subst Q (append_assoc told h.rest end) (k (told ++ h.rest) h.all) }
 
 -- behind what comes first
-pub prefix_behind : (P Q : List Told → Type 0) (first : List Told) → ((all : List Told) → P all → Q (first ++ all)) → (told : List Told) → PrefixOf P told → PrefixOf Q (first ++ told)
+pub prefix_behind : (P Q : List Told → Type 0) (first : List Told) → ((all : List Told) → P all → Q (first ++ all)) → (told : List Told)
+    → PrefixOf P told → PrefixOf Q (first ++ told)
 prefix_behind P Q first k told h = record { rest = h.rest; all = subst Q (sym (append_assoc first told h.rest)) (k (told ++ h.rest) h.all) }
 
 -- the first of what comes

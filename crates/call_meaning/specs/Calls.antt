@@ -13,6 +13,7 @@ use Rattle.note_book.specs.declared.book.Item.{Item}
 use Rattle.note_book.specs.Items.{channel_acts_in, job_acts_in}
 use Rattle.call_meaning.specs.Telling.{Told, items_in}
 use Rattle.call_meaning.specs.Stories.{Moment, IsTrue, story_of}
+use Rattle.call_meaning.specs.Seen.{SeenOnChannels, SeenOnJobs, SeenOnBoth}
 
 -- how far both floors are seen
 abbrev pub seen_by : ChannelFloor → Floor → Moment
@@ -25,28 +26,33 @@ WasSo shape who items old new told =
     → IsTrue (story_of shape who new) items old told
 
 -- a call on channels alone: it was so whatever the history of Jobs beside it
-pub record ToldOnChannels (who : ℕ) (old new : ChannelFloor) (items items' : List Item) (told : List Told) : Type 0 where
-  pub appended : items' ≡ items ++ items_in told
-  pub added : AddedToChannels who (channel_acts_in (items_in told)) old new
+pub record ToldOnChannels (old new : SeenOnChannels) (told : List Told) : Type 0 where
+  pub who : new.who ≡ old.who
+  pub appended : new.items ≡ old.items ++ items_in told
+  pub added : AddedToChannels old.who (channel_acts_in (items_in told)) old.floor new.floor
   pub no_jobs : job_acts_in (items_in told) ≡ []
   pub was_so : (book : List Item) (jobs : List JobEntry)
-      → WasSo old.shape who book (record { channels = old.seen; jobs = jobs }) (record { channels = new.seen; jobs = jobs }) told
+      → WasSo old.floor.shape old.who book (record { channels = old.floor.seen; jobs = jobs })
+      (record { channels = new.floor.seen; jobs = jobs }) told
 
 -- a call on Jobs alone, which claimed these rows: it was so whatever the history of channels beside it
-pub record ToldOnJobs (who : ℕ) (rows : List ℕ) (old new : Floor) (items items' : List Item) (told : List Told) : Type 0 where
-  pub appended : items' ≡ items ++ items_in told
-  pub added : Added who (job_acts_in (items_in told)) rows old new
+pub record ToldOnJobs (rows : List ℕ) (old new : SeenOnJobs) (told : List Told) : Type 0 where
+  pub who : new.who ≡ old.who
+  pub appended : new.items ≡ old.items ++ items_in told
+  pub added : Added old.who (job_acts_in (items_in told)) rows old.floor new.floor
   pub no_channels : channel_acts_in (items_in told) ≡ []
   pub was_so : (book : List Item) (shape : Shape) (channels : List Entry)
-      → WasSo shape who book (record { channels = channels; jobs = old.seen }) (record { channels = channels; jobs = new.seen }) told
+      → WasSo shape old.who book (record { channels = channels; jobs = old.floor.seen })
+      (record { channels = channels; jobs = new.floor.seen }) told
 
 -- a call on both, which claimed these rows
-pub record ToldOnBoth (who : ℕ) (rows : List ℕ) (c c' : ChannelFloor) (j j' : Floor) (items items' : List Item) (told : List Told)
-    : Type 0 where
-  pub appended : items' ≡ items ++ items_in told
-  pub channels : AddedToChannels who (channel_acts_in (items_in told)) c c'
-  pub jobs : Added who (job_acts_in (items_in told)) rows j j'
-  pub was_so : (book : List Item) → WasSo c.shape who book (seen_by c j) (seen_by c' j') told
+pub record ToldOnBoth (rows : List ℕ) (old new : SeenOnBoth) (told : List Told) : Type 0 where
+  pub who : new.who ≡ old.who
+  pub appended : new.items ≡ old.items ++ items_in told
+  pub channels : AddedToChannels old.who (channel_acts_in (items_in told)) old.channels new.channels
+  pub jobs : Added old.who (job_acts_in (items_in told)) rows old.jobs new.jobs
+  pub was_so : (book : List Item)
+      → WasSo old.channels.shape old.who book (seen_by old.channels old.jobs) (seen_by new.channels new.jobs) told
 
 -- ---- the rows that acts attach
 

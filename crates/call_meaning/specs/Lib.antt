@@ -5,4 +5,5 @@ pub mod ChannelCalls
 pub mod JobCalls
 pub mod Endings
 pub mod Prefixes
+pub mod Seen
 pub mod Calls

@@ -8,6 +8,7 @@
 //! - `JobCalls`: what one call on a Job tells
 //! - `Endings`: that the done channel of a Job that ended is closed at once
 //! - `Prefixes`: what a call told that broke off
+//! - `Seen`: what a caller sees, in one record for each layer
 //! - `Calls`: what a call leaves on the floors and in the book
 //!
 //! The laws are the contracts of the functions of `laws`, whose bodies are empty; `proofs/Tellings.antt` shows them.

@@ -25,7 +25,8 @@ pub cancels_goes : (c : ℕ) (first : Bool) (told : List Told) → CancelsBy c f
 cancels_goes c _ _ (CancelsBy.now closes drains all h k is) = CancelsChannel.now closes drains all h k is
 cancels_goes c _ _ (CancelsBy.before closes drains all h k is) = CancelsChannel.before closes drains all h k is
 
-late_goes : (w : WaitId) (outcome : Settled) (admits : List Told) → is_given_up outcome ≡ true → Admits w.channel admits → GivesUp w (heard (Late w) ∷ made (Settle w outcome) ∷ admits)
+late_goes : (w : WaitId) (outcome : Settled) (admits : List Told) → is_given_up outcome ≡ true → Admits w.channel admits
+    → GivesUp w (heard (Late w) ∷ made (Settle w outcome) ∷ admits)
 late_goes w (settled.Value n v) admits e h = cc
 late_goes w (settled.Sent n) admits e h = cc
 late_goes w (settled.Closed n v) admits e h = cc

@@ -9,16 +9,18 @@ use Rattle.channel_model.specs.declared.acts.Kind.{Kind}
 use Rattle.channel_model.specs.declared.acts.Kind.TheVariants.{Rendezvous, Buffered, Unlimited, Conflated, DropOldest, DropLatest, Signal}
 use Rattle.channel_model.specs.Channels.{Shape, kind_at, drops}
 use Rattle.channel_model.specs.Histories.{replay, acts_of, Legal}
-use Rattle.channel_model.specs.Floors.{Floor, HasRoom, Looked, Made, AtStep}
+use Rattle.channel_model.specs.Floors.{Looked, Made, AtStep, Floor}
 use Rattle.channel_model.specs.Answers.{IsTrimmed, HasPut, is_put_at}
 use Rattle.channel_model.specs.Puts.{follows_put, after_put}
 use Rattle.channel_model.proofs.Puts.{drop_follows, put_lasts}
-use Rattle.note_book.specs.declared.book.Item.{Item}
 use Rattle.note_book.specs.Items.{channel_acts_in}
 use Rattle.call_meaning.specs.Telling.{on_channels, FitsUpTo, items_in}
 use Rattle.channel_calls.specs.Parts.{DropsAfterPut, DroppedAnswer}
 use Rattle.channel_calls.proofs.OwedWords.{up_to}
 use Rattle.channel_calls.proofs.Repeated.{Repeats, all_made, repeated_until, still_repeated}
+use Rattle.call_meaning.specs.Seen.{SeenOnChannels}
+use Rattle.channel_calls.proofs.Roomed.{IsRoomed}
+use Rattle.channel_calls.specs.Calls.{IsUntouched}
 
 -- an act that drops an element
 abbrev pub drop_of : ℕ → ℕ × ℕ → Act
@@ -32,21 +34,26 @@ both : (x a b : Bool) → (x && a) ≡ true → (a ≡ true → b ≡ true) → 
 both true a b h f = f h
 both false a b h f = cc
 
-pub one_follows : (kind : Kind) (c place : ℕ) (ds : List (ℕ × ℕ)) (d : ℕ × ℕ) → AllFollow kind c place ds → follows_put kind c place (drop_of c d) ≡ true → AllFollow kind c place (ds ++ d ∷ [])
+pub one_follows : (kind : Kind) (c place : ℕ) (ds : List (ℕ × ℕ)) (d : ℕ × ℕ) → AllFollow kind c place ds
+    → follows_put kind c place (drop_of c d) ≡ true → AllFollow kind c place (ds ++ d ∷ [])
 one_follows kind c place [] d h e = ap (λ b. b && true) e
 one_follows kind c place (x ∷ xs) d h e = both (follows_put kind c place (drop_of c x)) _ _ h (λ t. one_follows kind c place xs d t e)
 
-all_follow : (kind : Kind) (c place : ℕ) (ds : List (ℕ × ℕ)) → AllFollow kind c place ds → list_all (follows_put kind c place) (channel_acts_in (items_in (all_made (drop_of c) ds ++ on_channels (FitsUpTo c place) ∷ []))) ≡ true
+all_follow : (kind : Kind) (c place : ℕ) (ds : List (ℕ × ℕ)) → AllFollow kind c place ds
+    → list_all (follows_put kind c place) (channel_acts_in (items_in (all_made (drop_of c) ds ++ on_channels (FitsUpTo c place) ∷ []))) ≡
+    true
 unfolding items_in
 all_follow kind c place [] h = refl
 all_follow kind c place (x ∷ xs) h = both (follows_put kind c place (drop_of c x)) _ _ h (λ t. all_follow kind c place xs t)
 
-none_follow : (k c place : ℕ) (ds : List (ℕ × ℕ)) → AllFollow (DropLatest k) c place ds → after_put (DropLatest k) c place (channel_acts_in (items_in (all_made (drop_of c) ds ++ on_channels (FitsUpTo c place) ∷ []))) ≡ true
+none_follow : (k c place : ℕ) (ds : List (ℕ × ℕ)) → AllFollow (DropLatest k) c place ds
+    → after_put (DropLatest k) c place (channel_acts_in (items_in (all_made (drop_of c) ds ++ on_channels (FitsUpTo c place) ∷ []))) ≡ true
 unfolding items_in
 none_follow k c place [] h = refl
 none_follow k c place (x ∷ xs) h = cc
 
-acts_follow : (kind : Kind) (c place : ℕ) (ds : List (ℕ × ℕ)) → AllFollow kind c place ds → after_put kind c place (channel_acts_in (items_in (all_made (drop_of c) ds ++ on_channels (FitsUpTo c place) ∷ []))) ≡ true
+acts_follow : (kind : Kind) (c place : ℕ) (ds : List (ℕ × ℕ)) → AllFollow kind c place ds
+    → after_put kind c place (channel_acts_in (items_in (all_made (drop_of c) ds ++ on_channels (FitsUpTo c place) ∷ []))) ≡ true
 acts_follow (DropLatest k) c place ds h = none_follow k c place ds h
 acts_follow Rendezvous c place ds h = all_follow Rendezvous c place ds h
 acts_follow (Buffered k) c place ds h = all_follow (Buffered k) c place ds h
@@ -56,26 +63,44 @@ acts_follow (DropOldest k) c place ds h = all_follow (DropOldest k) c place ds h
 acts_follow Signal c place ds h = all_follow Signal c place ds h
 
 -- the drop that was just made follows too
-pub still_follow : (who who' c place n : ℕ) (x : ℕ × ℕ) (a b d e : Floor) (i j : List Item) → (h : Repeats (drop_of c) who a b i j) → Legal e.shape e.seen → HasRoom n b d → Made who' (drop_of c x) d e → x.0 ≤ place → AllFollow (kind_at a.shape c) c place h.of → AllFollow (kind_at a.shape c) c place (h.of ++ x ∷ [])
-still_follow who who' c place n x a b d e i j h l r m le follow =
-    one_follows (kind_at a.shape c) c place h.of x follow
-    (subst (λ (s : Shape). follows_put (kind_at s c) c place (drop_of c x) ≡ true) (m.same.shape ∙ r.same.shape ∙ h.left.added.same.shape) (drop_follows who' c x.0 x.1 place d e l m le))
+pub still_follow : (c place : ℕ) (x : ℕ × ℕ) {n : ℕ} {a b d : SeenOnChannels} {e : Floor} → (h : Repeats (drop_of c) a b)
+    → Legal e.shape e.seen
+    → IsRoomed n b d → Made b.who (drop_of c x) d.floor e → x.0 ≤ place → AllFollow (kind_at a.floor.shape c) c place h.of
+    → AllFollow (kind_at a.floor.shape c) c place (h.of ++ x ∷ [])
+still_follow c place x {a = a} {b = b} {d = d} {e = e} h l r m le follow =
+    let drops = drop_follows b.who c x.0 x.1 place d.floor e l m le in
+    let same = m.same.shape ∙ r.room.same.shape ∙ h.left.added.same.shape in
+    one_follows (kind_at a.floor.shape c) c place h.of x follow
+    (subst (λ (s : Shape). follows_put (kind_at s c) c place (drop_of c x) ≡ true) same drops)
 
 -- the own Put still stands among the acts
-pub put_still : (who who' c place n : ℕ) (a b d : Floor) (i j : List Item) → who' ≡ who → (h : Repeats (drop_of c) who a b i j) → HasRoom n b d → HasPut who c place a → HasPut who' c place d
-put_still who who' c place n a b d i j is h r put =
-    subst (λ x. HasPut x c place d) (sym is) (subst (λ es. list_any (is_put_at c place) (acts_of who es) ≡ true) (sym r.seen) (put_lasts who c place _ a b h.left.added put))
+pub put_still : (c place : ℕ) {n : ℕ} {a b d : SeenOnChannels} → (h : Repeats (drop_of c) a b) → IsRoomed n b d
+    → HasPut a.who c place a.floor
+    → HasPut b.who c place d.floor
+put_still c place {a = a} {b = b} {d = d} h r put =
+    let lasts = put_lasts a.who c place _ a.floor b.floor h.left.added put in
+    let now : HasPut a.who c place d.floor = subst (λ es. list_any (is_put_at c place) (acts_of a.who es) ≡ true) (sym r.room.seen) lasts in
+    subst (λ x. HasPut x c place d.floor) (sym h.left.who) now
 
-pub dropped_all : (who who' c place n : ℕ) (a b d e : Floor) (i j k : List Item) → who' ≡ who → (h : Repeats (drop_of c) who a b i j) → HasRoom n b d → k ≡ j → Looked who' d e → AtStep d e (IsTrimmed d.shape c place)
-    → AllFollow (kind_at a.shape c) c place h.of → DroppedAnswer who c place a e i k (Ok tt)
-dropped_all who who' c place n a b d e i j k is h r g look at follow = record {
-  told = all_made (drop_of c) h.of ++ on_channels (FitsUpTo c place) ∷ [];
-  goes = record { drops = record { dropped = h.of; all = refl }; acts = acts_follow (kind_at a.shape c) c place h.of follow };
-  left = repeated_until (drop_of c) who who' n (FitsUpTo c place) a b d e i j k is h r g look
-      (record { moment = at.moment; after = at.after; before = at.before; holds = ap (drops (kind_at d.shape c)) (up_to place ((replay at.moment).channels c).queue) ∙ at.holds });
-}
+pub dropped_all : {c place n : ℕ} {a b d e : SeenOnChannels} → (h : Repeats (drop_of c) a b) → IsRoomed n b d → Looked b.who d.floor e.floor
+    → AtStep d.floor e.floor (IsTrimmed d.floor.shape c place) → e.who ≡ b.who → e.items ≡ d.items
+    → AllFollow (kind_at a.floor.shape c) c place h.of → DroppedAnswer c place a e (Ok tt)
+dropped_all {c} {place} {a = a} {d = d} h r look at w g follow =
+    let fits = ap (drops (kind_at d.floor.shape c)) (up_to place ((replay at.moment).channels c).queue) ∙ at.holds in
+    record {
+      told = all_made (drop_of c) h.of ++ on_channels (FitsUpTo c place) ∷ [];
+      goes = record {
+        drops = record { dropped = h.of; all = refl };
+        acts = acts_follow (kind_at a.floor.shape c) c place h.of follow;
+      };
+      left = repeated_until (drop_of c) (FitsUpTo c place) h r look
+          (record { moment = at.moment; after = at.after; before = at.before; holds = fits }) w g;
+    }
 
 -- no memory was found
-pub drops_stopped : (who c place : ℕ) (a b d : Floor) (i j k : List Item) (m : Memory) → (h : Repeats (drop_of c) who a b i j) → AllFollow (kind_at a.shape c) c place h.of → d ≡ b → k ≡ j → DroppedAnswer who c place a d i k (Err m)
-drops_stopped who c place a b d i j k m h follow e g = still_repeated (drop_of c) who (DropsAfterPut (kind_at a.shape c) c place) (on_channels (FitsUpTo c place) ∷ []) a b d i j k h
-    (record { drops = record { dropped = h.of; all = refl }; acts = acts_follow (kind_at a.shape c) c place h.of follow }) e g
+pub drops_stopped : {c place : ℕ} {a b d : SeenOnChannels} (m : Memory) → (h : Repeats (drop_of c) a b)
+    → AllFollow (kind_at a.floor.shape c) c place h.of
+    → IsUntouched b d → DroppedAnswer c place a d (Err m)
+drops_stopped {c} {place} {a} m h follow u =
+    still_repeated (drop_of c) (DropsAfterPut (kind_at a.floor.shape c) c place) (on_channels (FitsUpTo c place) ∷ []) h
+    (record { drops = record { dropped = h.of; all = refl }; acts = acts_follow (kind_at a.floor.shape c) c place h.of follow }) u

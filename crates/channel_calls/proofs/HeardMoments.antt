@@ -4,15 +4,15 @@ use Rattle.std.proofs.Common.{sym, ap, ◌∙◌}
 use Rattle.channel_model.specs.declared.acts.Act.{Act}
 use Rattle.channel_model.specs.declared.acts.ChannelNote.{ChannelNote}
 use Rattle.channel_model.specs.Histories.{acts_of}
-use Rattle.channel_model.specs.Floors.{Floor, AtStep}
+use Rattle.channel_model.specs.Floors.{AtStep}
 use Rattle.job_model.specs.Histories.{acts_of as job_acts_of}
-use Rattle.note_book.specs.declared.book.Item.{Item}
 use Rattle.note_book.specs.Items.{channel_acts_in, job_acts_in}
 use Rattle.call_meaning.specs.Telling.{heard}
 use Rattle.call_meaning.specs.Facts.{ChannelNoteHolds}
 use Rattle.call_meaning.specs.Stories.{IsTrue}
 use Rattle.call_meaning.specs.Calls.{ToldOnChannels}
 use Rattle.channel_calls.specs.Groups.{made_note}
+use Rattle.call_meaning.specs.Seen.{SeenOnChannels}
 
 -- ---- the book of a caller, from its acts
 
@@ -33,8 +33,10 @@ no_jobs_noted who acts = no_job_acts who ∙ sym (noted_jobs acts)
 
 -- ---- one note
 
-pub heard_at : (who : ℕ) (note : ChannelNote) (a b : Floor) (i j : List Item) → ToldOnChannels who a b i j (heard note ∷ []) → AtStep a b (ChannelNoteHolds a.shape note)
+pub heard_at : (note : ChannelNote) {a b : SeenOnChannels} → ToldOnChannels a b (heard note ∷ [])
+    → AtStep a.floor b.floor (ChannelNoteHolds a.floor.shape note)
 unfolding IsTrue
-heard_at who note a b i j t =
-    let so = t.was_so (map made_note (acts_of who a.seen)) [] (sym (noted_acts (acts_of who a.seen))) (no_jobs_noted who (acts_of who a.seen)) in
+heard_at note {a} t =
+    let acts : List Act = acts_of a.who a.floor.seen in
+    let so = t.was_so (map made_note acts) [] (sym (noted_acts acts)) (no_jobs_noted a.who acts) in
     record { moment = so.0.channels; after = so.1.not_before.channels; before = so.1.not_after.channels; holds = so.1.holds }

@@ -99,7 +99,8 @@ offers_more : (waits waits' : WaitId → Option Wait) (os : List Standing) → G
 offers_more waits waits' [] g h = h
 offers_more waits waits' (o ∷ os) g h = (holder_more waits waits' o.holder g h.0, offers_more waits waits' os g h.1)
 
-offers_filter : (waits : WaitId → Option Wait) (keep : Standing → Bool) (os : List Standing) → OffersFit waits os → OffersFit waits (filter keep os)
+offers_filter : (waits : WaitId → Option Wait) (keep : Standing → Bool) (os : List Standing) → OffersFit waits os
+    → OffersFit waits (filter keep os)
 offers_filter waits keep [] h = h
 offers_filter waits keep (o ∷ os) h = by_test (keep o) (offers_filter waits keep os h.1)
   where
@@ -107,7 +108,8 @@ offers_filter waits keep (o ∷ os) h = by_test (keep o) (offers_filter waits ke
     by_test true r = (h.0, r)
     by_test false r = r
 
-offers_push : (waits : WaitId → Option Wait) (os : List Standing) (o : Standing) → OffersFit waits os → HolderFits waits o.holder → OffersFit waits (os ++ o ∷ [])
+offers_push : (waits : WaitId → Option Wait) (os : List Standing) (o : Standing) → OffersFit waits os → HolderFits waits o.holder
+    → OffersFit waits (os ++ o ∷ [])
 offers_push waits [] o h k = (k, tt)
 offers_push waits (x ∷ xs) o h k = (h.0, offers_push waits xs o h.1 k)
 
@@ -115,7 +117,8 @@ offers_admitted : (waits : WaitId → Option Wait) (p : ℕ) (os : List Standing
 offers_admitted waits p [] h = h
 offers_admitted waits p (o ∷ os) h = by_test (o.place == p) (offers_admitted waits p os h.1)
   where
-    by_test : (b : Bool) → OffersFit waits (admitted p os) → OffersFit waits (if b then record o { holder = None } ∷ os else o ∷ admitted p os)
+    by_test : (b : Bool) → OffersFit waits (admitted p os)
+        → OffersFit waits (if b then record o { holder = None } ∷ os else o ∷ admitted p os)
     by_test true r = (tt, h.1)
     by_test false r = (h.0, r)
 
@@ -141,7 +144,8 @@ resolved_end resolved.Voided (Some x) e = tt
 resolve_fits : (v : WaitId) (how : Resolution) (s : State) → EndFits how (s.waits v) → Fits s → Fits (resolve v how s)
 resolve_fits v how s e h = record {
   offers = λ c. offers_filter _ (λ o. not (is_held_by v o.holder)) (s.channels c).queue
-      (offers_more s.waits _ (s.channels c).queue (λ j u k. one_change (HasClause j) s.waits v u (resolved_wait how) (resolved_has j how (s.waits u)) k) (h.offers c));
+      (offers_more s.waits _ (s.channels c).queue (λ j u k. one_change (HasClause j) s.waits v u (resolved_wait how)
+      (resolved_has j how (s.waits u)) k) (h.offers c));
   waits = λ w. by_test w (same_wait v w);
 }
   where
@@ -149,7 +153,8 @@ resolve_fits v how s e h = record {
     by_test w true = resolved_end how (s.waits v) e
     by_test w false = h.waits w
 
-put_fits : (c : ℕ) (ch : Channel) (s : State) → OffersFit s.waits ch.queue → Fits s → Fits (record s { channels = put_channel c ch s.channels })
+put_fits : (c : ℕ) (ch : Channel) (s : State) → OffersFit s.waits ch.queue → Fits s
+    → Fits (record s { channels = put_channel c ch s.channels })
 put_fits c ch s k h = record { offers = λ d. by_test d (c == d); waits = h.waits }
   where
     by_test : (d : ℕ) (b : Bool) → OffersFit s.waits (if b then ch else s.channels d).queue
@@ -159,15 +164,18 @@ put_fits c ch s k h = record { offers = λ d. by_test d (c == d); waits = h.wait
 stood_fits : (stood : ℕ → ℕ → ℕ) (s : State) → Fits s → Fits (record s { stood = stood })
 stood_fits stood s h = record { offers = h.offers; waits = h.waits }
 
-first_fits : (rs : List Receiver) (how : ℕ → Resolution) (s : State) → ((k : ℕ) (x : Option Wait) → EndFits (how k) x) → Fits s → Fits (resolve_first rs how s)
+first_fits : (rs : List Receiver) (how : ℕ → Resolution) (s : State) → ((k : ℕ) (x : Option Wait) → EndFits (how k) x) → Fits s
+    → Fits (resolve_first rs how s)
 first_fits [] how s f h = h
 first_fits (r ∷ rs) how s f h = resolve_fits r.party.wait (how r.party.clause) s (f r.party.clause _) h
 
-holder_fits : (p : Option Party) (how : ℕ → Resolution) (s : State) → ((k : ℕ) (x : Option Wait) → HasClause k x → EndFits (how k) x) → HolderFits s.waits p → Fits s → Fits (resolve_holder p how s)
+holder_fits : (p : Option Party) (how : ℕ → Resolution) (s : State) → ((k : ℕ) (x : Option Wait) → HasClause k x → EndFits (how k) x)
+    → HolderFits s.waits p → Fits s → Fits (resolve_holder p how s)
 holder_fits None how s f e h = h
 holder_fits (Some p) how s f e h = resolve_fits p.wait (how p.clause) s (f p.clause _ e) h
 
-offer_fits : (c : ℕ) (q : List Standing) (how : ℕ → Resolution) (s : State) → ((k : ℕ) (x : Option Wait) → HasClause k x → EndFits (how k) x) → OffersFit s.waits q → Fits s → Fits (resolve_offer c q how s)
+offer_fits : (c : ℕ) (q : List Standing) (how : ℕ → Resolution) (s : State)
+    → ((k : ℕ) (x : Option Wait) → HasClause k x → EndFits (how k) x) → OffersFit s.waits q → Fits s → Fits (resolve_offer c q how s)
 offer_fits c [] how s f e h = h
 offer_fits c (o ∷ os) how s f e h = holder_fits o.holder how (with_queue c os s) f e.0 (put_fits c _ s e.1 h)
 
@@ -191,7 +199,8 @@ named_end n k c (Some x) h = by_end x.resolved h
 named_grows : (n k c : ℕ) (v : WaitId) (s : State) → Grows s.waits (put_wait v (name_clause n k c (s.waits v)) s.waits)
 named_grows n k c v s j u e = one_change (HasClause j) s.waits v u (name_clause n k c) (named_has j n k c (s.waits u)) e
 
-named_fits : (n k c : ℕ) (v : WaitId) (ch : Channel) (s : State) → OffersFit (put_wait v (name_clause n k c (s.waits v)) s.waits) ch.queue → Fits s → Fits (record s { channels = put_channel c ch s.channels; waits = put_wait v (name_clause n k c (s.waits v)) s.waits })
+named_fits : (n k c : ℕ) (v : WaitId) (ch : Channel) (s : State) → OffersFit (put_wait v (name_clause n k c (s.waits v)) s.waits) ch.queue
+    → Fits s → Fits (record s { channels = put_channel c ch s.channels; waits = put_wait v (name_clause n k c (s.waits v)) s.waits })
 named_fits n k c v ch s e h = record {
   offers = λ d. by_test d (c == d);
   waits = λ w. one_change WaitFits s.waits v w (name_clause n k c) (named_end n k c (s.waits w)) (h.waits w);
@@ -214,17 +223,21 @@ settled_end outcome (Some x) h = by_end x.resolved h
     by_end (Some (resolved.Withdrawn why)) e = tt
     by_end (Some resolved.Voided) e = tt
 
-settled_fits : (outcome : Settled) (v : WaitId) (s : State) → Fits s → Fits (record s { waits = put_wait v (settled_wait outcome (s.waits v)) s.waits })
+settled_fits : (outcome : Settled) (v : WaitId) (s : State) → Fits s
+    → Fits (record s { waits = put_wait v (settled_wait outcome (s.waits v)) s.waits })
 settled_fits outcome v s h = record {
-  offers = λ c. offers_more s.waits _ (s.channels c).queue (λ j u e. one_change (HasClause j) s.waits v u (settled_wait outcome) (settled_has j outcome (s.waits u)) e) (h.offers c);
+  offers = λ c. offers_more s.waits _ (s.channels c).queue
+      (λ j u e. one_change (HasClause j) s.waits v u (settled_wait outcome) (settled_has j outcome (s.waits u)) e) (h.offers c);
   waits = λ w. one_change WaitFits s.waits v w (settled_wait outcome) (settled_end outcome (s.waits w)) (h.waits w);
 }
 
-placed_offers : (waits : WaitId → Option Wait) (b : Bool) (o : Standing) (ch : Channel) → OffersFit waits ch.queue → HolderFits waits o.holder → OffersFit waits (place_offer b o ch).queue
+placed_offers : (waits : WaitId → Option Wait) (b : Bool) (o : Standing) (ch : Channel) → OffersFit waits ch.queue
+    → HolderFits waits o.holder → OffersFit waits (place_offer b o ch).queue
 placed_offers waits true o ch h k = offers_push waits ch.queue o h k
 placed_offers waits false o ch h k = h
 
-placed_receivers : (waits : WaitId → Option Wait) (b : Bool) (r : Receiver) (ch : Channel) → OffersFit waits ch.queue → OffersFit waits (place_receiver b r ch).queue
+placed_receivers : (waits : WaitId → Option Wait) (b : Bool) (r : Receiver) (ch : Channel) → OffersFit waits ch.queue
+    → OffersFit waits (place_receiver b r ch).queue
 placed_receivers waits true r ch h = h
 placed_receivers waits false r ch h = h
 
@@ -235,14 +248,17 @@ after_fits s who (Hand c p v) h = first_fits (s.channels c).receivers _ s (λ k 
 after_fits s who (Put c p v) h = stood_fits _ _ (put_fits c _ s (offers_push s.waits (s.channels c).queue _ (h.offers c) tt) h)
 after_fits s who (Offer c p v w k) h =
     stood_fits _ _ (named_fits who k c w _ s
-    (placed_offers _ (is_open (s.waits w)) (record { place = p; value = v; holder = Some (record { wait = w; clause = k }) }) (s.channels c) (offers_more s.waits _ (s.channels c).queue (named_grows who k c w s) (h.offers c))
+    (placed_offers _ (is_open (s.waits w)) (record { place = p; value = v; holder = Some (record { wait = w; clause = k }) }) (s.channels c)
+    (offers_more s.waits _ (s.channels c).queue (named_grows who k c w s) (h.offers c))
     (subst (HasClause k) (sym (at_wait w _ s.waits)) (named_one who k c (s.waits w))))
     h)
 after_fits s who (Await c p w k) h =
-    named_fits who k c w _ s (placed_receivers _ (is_open (s.waits w)) (record { place = p; party = record { wait = w; clause = k } }) (s.channels c) (offers_more s.waits _ (s.channels c).queue (named_grows who k c w s) (h.offers c))) h
+    named_fits who k c w _ s (placed_receivers _ (is_open (s.waits w)) (record { place = p; party = record { wait = w; clause = k } })
+    (s.channels c) (offers_more s.waits _ (s.channels c).queue (named_grows who k c w s) (h.offers c))) h
 after_fits s who (Take c p v) h = offer_fits c (s.channels c).queue resolved.Taken s (λ k x e. e) (h.offers c) h
 after_fits s who (Admit c p) h =
-    holder_fits (holder_at p (s.channels c).queue) resolved.Admitted (with_queue c (admitted p (s.channels c).queue) s) (λ k x e. e) (holder_at_fits s.waits p (s.channels c).queue (h.offers c))
+    holder_fits (holder_at p (s.channels c).queue) resolved.Admitted (with_queue c (admitted p (s.channels c).queue) s) (λ k x e. e)
+    (holder_at_fits s.waits p (s.channels c).queue (h.offers c))
     (put_fits c _ s (offers_admitted s.waits p (s.channels c).queue (h.offers c)) h)
 after_fits s who (Drop c p v) h = removed_fits c (s.channels c).queue s (h.offers c) h
 after_fits s who (Spurn c p v) h = put_fits c _ s (offers_filter s.waits (is_elsewhere p) (s.channels c).queue (h.offers c)) h
@@ -254,12 +270,14 @@ after_fits s who (Withdraw w why) h = resolve_fits w (resolved.Withdrawn why) s 
 after_fits s who (Settle w outcome) h = settled_fits outcome w s h
 
 replay_fits : (shape : Shape) (es : List Entry) → Legal shape es → Fits (replay es)
-replay_fits shape es l = lasts_from shape Fits (record { step = λ s who act h n p. after_fits s who act p }) start es l (sound_start shape) (record { offers = λ c. tt; waits = λ w. tt })
+replay_fits shape es l = lasts_from shape Fits (record { step = λ s who act h n p. after_fits s who act p }) start es l (sound_start shape)
+    (record { offers = λ c. tt; waits = λ w. tt })
 
 -- ---- the wait of a plain offer
 
 -- that it was sent says so of its only clause
-sent_zero : (who c k : ℕ) (b : Bool) (x : Option Wait) → IsPlainOffer who c b x → WaitFits x → outcome_at false x ≡ Some (settled.Sent k) → k ≡ 0
+sent_zero : (who c k : ℕ) (b : Bool) (x : Option Wait) → IsPlainOffer who c b x → WaitFits x → outcome_at false x ≡ Some (settled.Sent k)
+    → k ≡ 0
 sent_zero who c k b None h f e = absurd h
 sent_zero who c k b (Some x) h f e = by_end x.resolved f e
   where
@@ -281,5 +299,6 @@ sent_zero who c k b (Some x) h f e = by_end x.resolved f e
     by_end (Some (resolved.Withdrawn why)) t q = cc
     by_end (Some resolved.Voided) t q = cc
 
-pub plain_sent : (shape : Shape) (es : List Entry) (who c k : ℕ) (b : Bool) (w : WaitId) → Legal shape es → IsPlainOffer who c b ((replay es).waits w) → outcome_at false ((replay es).waits w) ≡ Some (settled.Sent k) → k ≡ 0
+pub plain_sent : (shape : Shape) (es : List Entry) (who c k : ℕ) (b : Bool) (w : WaitId) → Legal shape es
+    → IsPlainOffer who c b ((replay es).waits w) → outcome_at false ((replay es).waits w) ≡ Some (settled.Sent k) → k ≡ 0
 plain_sent shape es who c k b w l h e = sent_zero who c k b ((replay es).waits w) h ((replay_fits shape es l).waits w) e

@@ -10,123 +10,152 @@ use Rattle.channel_model.specs.declared.floor.Got.TheVariants as got
 use Rattle.channel_model.specs.declared.floor.TriedGot.TheVariants as tried
 use Rattle.channel_model.specs.Channels.{Shape}
 use Rattle.channel_model.specs.Histories.{replay, Legal}
-use Rattle.channel_model.specs.Floors.{Floor, HasRoom, AtStep}
+use Rattle.channel_model.specs.Floors.{Floor, AtStep}
 use Rattle.channel_model.specs.Answers.{GotAnswer, TriedGotAnswer, TakenFrom, ClosedWith, IsSpentForReceives, IsDrainedAndClosed, IsEmptyToTry}
 use Rattle.channel_model.proofs.Later.{closed_later}
-use Rattle.note_book.specs.declared.book.Item.{Item}
 use Rattle.note_book.specs.declared.book.Item.TheVariants as item
 use Rattle.call_meaning.specs.Telling.{SpentForReceives, items_in, made, heard}
-use Rattle.call_meaning.specs.Facts.{ActHolds, IsDrained}
+use Rattle.call_meaning.specs.Facts.{ActHolds, IsDrained, IsEmptyNow}
 use Rattle.call_meaning.specs.Calls.{ToldOnChannels}
 use Rattle.call_meaning.specs.ChannelCalls.{Got, Closed, Waits, receives, wait_at, blocked, spent, Admits, AtOnce, Refused, PlainCall}
-use Rattle.call_meaning.proofs.ChannelsHeard.{told_then, told_roomed, told_made, told_met, told_met_after, moment_before}
+use Rattle.call_meaning.proofs.ChannelsHeard.{told_then, told_made, told_met, told_met_after, moment_before}
 use Rattle.channel_calls.specs.declared.caller.ReceiveAnswer.TheVariants as receive
 use Rattle.channel_calls.specs.declared.caller.TriedAs.{TriedAs}
 use Rattle.channel_calls.specs.declared.caller.TriedAs.TheVariants as tried_as
 use Rattle.channel_calls.specs.declared.caller.TryReceiveAnswer.{TryReceiveAnswer}
 use Rattle.channel_calls.specs.declared.caller.TryReceiveAnswer.TheVariants as try_receive
 use Rattle.channel_calls.specs.Groups.{made_note}
-use Rattle.channel_calls.specs.Calls.{Tells, ToldPart, Goes, GoesSomehow, GoesAtOnce, GoesAtOnceSomehow, closed_note, ReceivedAnswer, TryReceivedAnswer, ReceiveTriedAs, AdmittedAnswer}
+use Rattle.channel_calls.specs.Calls.{Tells, ToldPart, Goes, GoesSomehow, GoesAtOnce, GoesAtOnceSomehow, closed_note, ReceivedAnswer, TryReceivedAnswer, ReceiveTriedAs, AdmittedAnswer, IsUntouched}
 use Rattle.channel_calls.proofs.Begun.{receiver_waits}
 use Rattle.channel_calls.proofs.AdmitsTold.{none_admitted}
 use Rattle.channel_calls.proofs.Untold.{part_none, part_of, part_then}
+use Rattle.call_meaning.specs.Seen.{SeenOnChannels}
+use Rattle.channel_calls.proofs.Roomed.{IsRoomed, roomed}
+use Rattle.channel_model.specs.declared.acts.Act.{Act}
 
 -- a channel that was closed at a moment had its last close value
-pub closed_as : (shape : Shape) (c x : ℕ) (moment seen rest : List Entry) → moment ++ rest ≡ seen → Legal shape seen → is_some ((replay moment).channels c).closed ≡ true → ((replay seen).channels c).closed ≡ Some x → ((replay moment).channels c).closed ≡ Some x
+pub closed_as : (shape : Shape) (c x : ℕ) (moment seen rest : List Entry) → moment ++ rest ≡ seen → Legal shape seen
+    → is_some ((replay moment).channels c).closed ≡ true → ((replay seen).channels c).closed ≡ Some x
+    → ((replay moment).channels c).closed ≡ Some x
 closed_as shape c x moment seen rest is l some at = by_value ((replay moment).channels c).closed refl some
   where
     by_value : (y : Option ℕ) → ((replay moment).channels c).closed ≡ y → is_some y ≡ true → ((replay moment).channels c).closed ≡ Some x
     by_value None e f = cc
     by_value (Some u) e f =
-        let later : ((replay (moment ++ rest)).channels c).closed ≡ Some u = closed_later shape moment rest c u (subst (Legal shape) (sym is) l) e in
+        let later : ((replay (moment ++ rest)).channels c).closed ≡ Some u =
+        closed_later shape moment rest c u (subst (Legal shape) (sym is) l) e in
         let last : ((replay seen).channels c).closed ≡ Some u = subst (λ es. ((replay es).channels c).closed ≡ Some u) is later in
         e ∙ sym last ∙ at
 
 -- nothing was left of a channel closed with x
-drained_at : (who c x : ℕ) (b d : Floor) → Legal d.shape d.seen → ClosedWith who c x b d → AtStep b d (IsDrainedAndClosed c) → AtStep b d (IsDrained c x)
+drained_at : (who c x : ℕ) (b d : Floor) → Legal d.shape d.seen → ClosedWith who c x b d → AtStep b d (IsDrainedAndClosed c)
+    → AtStep b d (IsDrained c x)
 drained_at who c x b d l o m = record {
   moment = m.moment;
   after = m.after;
   before = m.before;
-  holds = record { is_closed = closed_as d.shape c x m.moment d.seen m.before.0 m.before.1 l m.holds.is_closed o.is_closed; nothing = m.holds.nothing };
+  holds = record {
+    is_closed = closed_as d.shape c x m.moment d.seen m.before.0 m.before.1 l m.holds.is_closed o.is_closed;
+    nothing =
+        m.holds.nothing;
+  };
 }
 
-module _ (who c n : ℕ) (a b d : Floor) (i j k : List Item) (h : HasRoom n a b) (e : j ≡ i) where
-  take_told : (place v : ℕ) (t : Option ℕ) → TakenFrom who c place v t b d → k ≡ j ++ made_note (Take c place v) ∷ [] → ToldOnChannels who a d i k (made (Take c place v) ∷ [])
-  take_told place v t o f = told_roomed who n a b d i j k (made (Take c place v) ∷ []) h e
-      (told_made who (Take c place v) b d j k o.made (moment_before who (Take c place v) b d (ActHolds (Take c place v)) o.made tt) f)
+module _ {c n : ℕ} {a b d : SeenOnChannels} (h : IsRoomed n a b) where
+  take_told : {place v : ℕ} {t : Option ℕ} → TakenFrom a.who c place v t b.floor d.floor → d.who ≡ a.who
+      → d.items ≡ b.items ++ made_note (Take c place v) ∷ [] → ToldOnChannels a d (made (Take c place v) ∷ [])
+  take_told {place} {v} o w f =
+      let act : Act = Take c place v in
+      roomed h (told_made act o.made (moment_before a.who act b.floor d.floor (ActHolds act) o.made tt) w f)
 
   -- an element was taken, and then those were admitted for whom there is room
-  pub taken : (who' place v : ℕ) (t : Option ℕ) (g : Floor) (l : List Item) → who' ≡ who → TakenFrom who c place v t b d → k ≡ j ++ made_note (Take c place v) ∷ [] → AdmittedAnswer who' c d g k l (Ok tt) → Tells who (GoesAtOnce (receives c) (Got v)) a g i l
-  taken who' place v t g l is o f m' =
-      let m : Tells who (Admits c) d g k l = subst (λ x. Tells x (Admits c) d g k l) is m' in
-      record {
-        told = made (Take c place v) ∷ m.told;
-        goes = AtOnce.takes c v place m.told m.goes;
-        left = told_then who a d g i k l (made (Take c place v) ∷ []) m.told (take_told place v t o f) m.left;
-      }
+  pub taken : {place v : ℕ} {t : Option ℕ} {e : SeenOnChannels} → TakenFrom a.who c place v t b.floor d.floor → d.who ≡ a.who
+      → d.items ≡ b.items ++ made_note (Take c place v) ∷ [] → AdmittedAnswer c d e (Ok tt) → Tells (GoesAtOnce (receives c) (Got v)) a e
+  taken {place} {v} o w f m = record {
+    told = made (Take c place v) ∷ m.told;
+    goes = AtOnce.takes c v place m.told m.goes;
+    left = told_then (take_told o w f) m.left;
+  }
 
   -- or no memory was found
-  pub take_stopped : (who' place v : ℕ) (t : Option ℕ) (g : Floor) (l : List Item) (m : Memory) → who' ≡ who → TakenFrom who c place v t b d → k ≡ j ++ made_note (Take c place v) ∷ [] → AdmittedAnswer who' c d g k l (Err m) → ToldPart who (GoesAtOnceSomehow (receives c)) a g i l
-  take_stopped who' place v t g l m is o f s = part_then who who' (Admits c) (GoesAtOnceSomehow (receives c)) (made (Take c place v) ∷ []) (λ all r. (Got v, AtOnce.takes c v place all r)) a d g i k l is (take_told place v t o f) s
+  pub take_stopped : {place v : ℕ} {t : Option ℕ} {e : SeenOnChannels} (m : Memory) → TakenFrom a.who c place v t b.floor d.floor
+      → d.who ≡ a.who
+      → d.items ≡ b.items ++ made_note (Take c place v) ∷ [] → AdmittedAnswer c d e (Err m) → ToldPart (GoesAtOnceSomehow (receives c)) a e
+  take_stopped {place} {v} m o w f s =
+      part_then (Admits c) (GoesAtOnceSomehow (receives c)) (made (Take c place v) ∷ []) (λ all r. (Got v, AtOnce.takes c v place all r))
+      (take_told o w f) s
 
-  pub waiting : (place : ℕ) → Legal d.shape d.seen → GotAnswer who c b d (got.Waiting place) → k ≡ j ++ made_note (Await c place (wait_at c place) 0) ∷ [] → ReceivedAnswer who c a d i k (Ok (receive.Waits (wait_at c place)))
+  pub waiting : {place : ℕ} → Legal d.floor.shape d.floor.seen → GotAnswer a.who c b.floor d.floor (got.Waiting place) → d.who ≡ a.who
+      → d.items ≡ b.items ++ made_note (Await c place (wait_at c place) 0) ∷ []
+      → ReceivedAnswer c a d (Ok (receive.Waits (wait_at c place)))
   unfolding items_in
-  waiting place l o f = (t, receiver_waits who c place (Await c place (wait_at c place) 0 ∷ []) a b d l o left.added)
-    where
-      left : ToldOnChannels who a d i k (made (Await c place (wait_at c place) 0) ∷ [])
-      left = told_roomed who n a b d i j k (made (Await c place (wait_at c place) 0) ∷ []) h e
-          (told_made who (Await c place (wait_at c place) 0) b d j k o (moment_before who (Await c place (wait_at c place) 0) b d (ActHolds (Await c place (wait_at c place) 0)) o tt) f)
+  waiting {place} l o w f =
+      let act : Act = Await c place (wait_at c place) 0 in
+      let at = moment_before a.who act b.floor d.floor (ActHolds act) o tt in
+      let left : ToldOnChannels a d (made act ∷ []) = roomed h (told_made act o at w f) in
+      let t : Tells (Goes (receives c) (Waits (wait_at c place))) a d =
+      record { told = made act ∷ []; goes = PlainCall.awaits c place; left = left } in
+      (t, receiver_waits l o left.added w)
 
-      t : Tells who (Goes (receives c) (Waits (wait_at c place))) a d i k
-      t = record { told = made (Await c place (wait_at c place) 0) ∷ []; goes = PlainCall.awaits c place; left = left }
-
-  pub closed : (x : ℕ) → Legal d.shape d.seen → GotAnswer who c b d (got.Closed x) → k ≡ j ++ item.Channel (ReceiveClosed c x) ∷ [] → ReceivedAnswer who c a d i k (Ok (receive.Closed x))
-  closed x l o f = record {
+  pub closed : {x : ℕ} → Legal d.floor.shape d.floor.seen → GotAnswer a.who c b.floor d.floor (got.Closed x) → d.who ≡ a.who
+      → d.items ≡ b.items ++ item.Channel (ReceiveClosed c x) ∷ [] → ReceivedAnswer c a d (Ok (receive.Closed x))
+  closed {x} l o w f = record {
     told = heard (ReceiveClosed c x) ∷ [];
     goes = PlainCall.refused (receives c) (heard (ReceiveClosed c x)) (Closed x) (Refused.receive c x);
-    left = told_roomed who n a b d i j k (heard (ReceiveClosed c x) ∷ []) h e (told_met who (ReceiveClosed c x) b d j k refl o.0.looked (drained_at who c x b d l o.0 o.1) f);
+    left = roomed h (told_met (ReceiveClosed c x) refl o.0.looked (drained_at a.who c x b.floor d.floor l o.0 o.1) w f);
   }
 
-  pub no_place : GotAnswer who c b d got.Spent → k ≡ j ++ item.Channel (Spent c) ∷ [] → ReceivedAnswer who c a d i k (Ok receive.Spent)
-  no_place o f = record {
-    told = spent (receives c);
-    goes = PlainCall.no_place (receives c) (spent (receives c)) refl;
-    left = told_roomed who n a b d i j k (spent (receives c)) h e
-        (told_met_after who (SpentForReceives c) (Spent c) b d j k refl o.0 o.1 (let m : IsSpentForReceives b.shape c (replay o.1.moment) = o.1.holds in record { is_open = m.not_closed; spent = m.spent }) f);
-  }
+  pub no_place : GotAnswer a.who c b.floor d.floor got.Spent → d.who ≡ a.who → d.items ≡ b.items ++ item.Channel (Spent c) ∷ []
+      → ReceivedAnswer c a d (Ok receive.Spent)
+  no_place o w f =
+      let m : IsSpentForReceives b.floor.shape c (replay o.1.moment) = o.1.holds in
+      record {
+        told = spent (receives c);
+        goes = PlainCall.no_place (receives c) (spent (receives c)) refl;
+        left = roomed h (told_met_after (SpentForReceives c) (Spent c) refl o.0 o.1 (record { is_open = m.not_closed; spent = m.spent }) w
+            f);
+      }
 
   -- ---- without waiting
 
-  pub empty : TriedGotAnswer who c b d tried.Empty → k ≡ j ++ item.Channel (Empty c) ∷ [] → ToldOnChannels who a d i k (blocked (receives c) ∷ [])
-  empty o f = told_roomed who n a b d i j k (heard (Empty c) ∷ []) h e
-      (told_met who (Empty c) b d j k refl o.0 (let m : AtStep b d (IsEmptyToTry c) = o.1 in record { moment = m.moment; after = m.after; before = m.before; holds = record { is_open = m.holds.not_closed; nothing = m.holds.nothing } }) f)
+  pub empty : TriedGotAnswer a.who c b.floor d.floor tried.Empty → d.who ≡ a.who → d.items ≡ b.items ++ item.Channel (Empty c) ∷ []
+      → ToldOnChannels a d (blocked (receives c) ∷ [])
+  empty o w f =
+      let m : AtStep b.floor d.floor (IsEmptyToTry c) = o.1 in
+      let is : IsEmptyNow c (replay m.moment) = record { is_open = m.holds.not_closed; nothing = m.holds.nothing } in
+      roomed h (told_met (Empty c) refl o.0 (record { moment = m.moment; after = m.after; before = m.before; holds = is }) w f)
 
   -- as a call or as a clause
-  pub try_closed : (by : TriedAs) (x : ℕ) (note : ChannelNote) → note ≡ closed_note by (receives c) x → Legal d.shape d.seen → TriedGotAnswer who c b d (tried.Closed x) → k ≡ j ++ item.Channel note ∷ [] → ToldOnChannels who a d i k (heard (closed_note by (receives c) x) ∷ [])
-  try_closed by x note is l o f = told_roomed who n a b d i j k _ h e (noted by (f ∙ ap (λ (m : ChannelNote). j ++ item.Channel m ∷ []) is))
+  pub try_closed : (by : TriedAs) {x : ℕ} {note : ChannelNote} → note ≡ closed_note by (receives c) x → Legal d.floor.shape d.floor.seen
+      → TriedGotAnswer a.who c b.floor d.floor (tried.Closed x) → d.who ≡ a.who → d.items ≡ b.items ++ item.Channel note ∷ []
+      → ToldOnChannels a d (heard (closed_note by (receives c) x) ∷ [])
+  try_closed by {x} {note} is l o w f = roomed h (noted by (f ∙ ap (λ (m : ChannelNote). b.items ++ item.Channel m ∷ []) is))
     where
-      noted : (by : TriedAs) → k ≡ j ++ item.Channel (closed_note by (receives c) x) ∷ [] → ToldOnChannels who b d j k (heard (closed_note by (receives c) x) ∷ [])
-      noted tried_as.Call m = told_met who (TryReceiveClosed c x) b d j k refl o.0.looked (drained_at who c x b d l o.0 o.1) m
-      noted tried_as.Clause m = told_met who (ReceiveClosed c x) b d j k refl o.0.looked (drained_at who c x b d l o.0 o.1) m
+      noted : (by : TriedAs) → d.items ≡ b.items ++ item.Channel (closed_note by (receives c) x) ∷ []
+          → ToldOnChannels (record b { who = a.who }) d (heard (closed_note by (receives c) x) ∷ [])
+      noted tried_as.Call m = told_met (TryReceiveClosed c x) refl o.0.looked (drained_at a.who c x b.floor d.floor l o.0 o.1) w m
+      noted tried_as.Clause m = told_met (ReceiveClosed c x) refl o.0.looked (drained_at a.who c x b.floor d.floor l o.0 o.1) w m
 
 -- what a call told that never waits
-pub received_as_call : (who c : ℕ) (a d : Floor) (i k : List Item) (r : Result TryReceiveAnswer Memory) → ReceiveTriedAs tried_as.Call who c a d i k r → TryReceivedAnswer who c a d i k r
-received_as_call who c a d i k (Ok (try_receive.Value v)) t = t
-received_as_call who c a d i k (Ok try_receive.Empty) t = t
-received_as_call who c a d i k (Ok (try_receive.Closed x)) t = t
-received_as_call who c a d i k (Err m) t = t
+pub received_as_call : (c : ℕ) (a d : SeenOnChannels) (r : Result TryReceiveAnswer Memory) → ReceiveTriedAs tried_as.Call c a d r
+    → TryReceivedAnswer c a d r
+received_as_call c a d (Ok (try_receive.Value v)) t = t
+received_as_call c a d (Ok try_receive.Empty) t = t
+received_as_call c a d (Ok (try_receive.Closed x)) t = t
+received_as_call c a d (Err m) t = t
 
 -- a receive that waits where it must goes so too
-pub received : (who c v : ℕ) (a d : Floor) (i k : List Item) → Tells who (GoesAtOnce (receives c) (Got v)) a d i k → Tells who (Goes (receives c) (Got v)) a d i k
-received who c v a d i k t = record { told = t.told; goes = PlainCall.at_once (receives c) t.told (Got v) t.goes; left = t.left }
+pub received : {c v : ℕ} {a d : SeenOnChannels} → Tells (GoesAtOnce (receives c) (Got v)) a d → Tells (Goes (receives c) (Got v)) a d
+received {c} {v} t = record { told = t.told; goes = PlainCall.at_once (receives c) t.told (Got v) t.goes; left = t.left }
 
 -- ---- a receive that found no memory
 
 -- a receive that waits where it must stops so too
-pub receive_stopped : (who c : ℕ) (a d : Floor) (i k : List Item) → ToldPart who (GoesAtOnceSomehow (receives c)) a d i k → ToldPart who (GoesSomehow (receives c)) a d i k
-receive_stopped who c a d i k h = part_of who (GoesAtOnceSomehow (receives c)) (GoesSomehow (receives c)) (λ all g. (g.0, PlainCall.at_once (receives c) all g.0 g.1)) a d i k h
+pub receive_stopped : (c : ℕ) {a d : SeenOnChannels} → ToldPart (GoesAtOnceSomehow (receives c)) a d
+    → ToldPart (GoesSomehow (receives c)) a d
+receive_stopped c h =
+    part_of (GoesAtOnceSomehow (receives c)) (GoesSomehow (receives c)) (λ all g. (g.0, PlainCall.at_once (receives c) all g.0 g.1)) h
 
 -- nothing was told
-pub receive_untold : (who c : ℕ) (a b : Floor) (i j : List Item) → b ≡ a → j ≡ i → ToldPart who (GoesAtOnceSomehow (receives c)) a b i j
-receive_untold who c a b i j e f = part_none who (GoesAtOnceSomehow (receives c)) _ (Got 0, AtOnce.takes c 0 0 _ (none_admitted c)) a b i j e f
+pub receive_untold : (c : ℕ) {a b : SeenOnChannels} → IsUntouched a b → ToldPart (GoesAtOnceSomehow (receives c)) a b
+receive_untold c h = part_none (GoesAtOnceSomehow (receives c)) _ (Got 0, AtOnce.takes c 0 0 _ (none_admitted c)) h

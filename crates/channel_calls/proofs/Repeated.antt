@@ -6,15 +6,16 @@ use Rattle.channel_model.specs.Channels.{Shape, State}
 use Rattle.channel_model.specs.Histories.{replay, Legal}
 use Rattle.channel_model.specs.Floors.{Floor, HasRoom, Looked, Made, AtStep, MayCall, SameSetting}
 use Rattle.channel_model.proofs.Left.{left_of, left_lower, removes_from}
-use Rattle.note_book.specs.declared.book.Item.{Item}
 use Rattle.call_meaning.specs.Telling.{Told, ChannelFact, on_channels, made}
 use Rattle.call_meaning.specs.Facts.{ActHolds, ChannelFactHolds}
 use Rattle.call_meaning.specs.Calls.{ToldOnChannels}
-use Rattle.call_meaning.proofs.ChannelsHeard.{told_then, told_roomed, told_made, moment_before}
+use Rattle.call_meaning.proofs.ChannelsHeard.{told_then, told_made, moment_before}
 use Rattle.channel_calls.specs.Groups.{made_note}
 use Rattle.channel_calls.specs.declared.caller.Caller.{Caller}
-use Rattle.channel_calls.specs.Calls.{SameCaller, ToldPart}
+use Rattle.channel_calls.specs.Calls.{SameCaller, ToldPart, IsUntouched}
 use Rattle.channel_calls.proofs.Untold.{told_none, told_seen, part_stopped}
+use Rattle.call_meaning.specs.Seen.{SeenOnChannels}
+use Rattle.channel_calls.proofs.Roomed.{IsRoomed, roomed}
 
 -- ---- the caller, once more
 
@@ -22,9 +23,18 @@ pub same_self : {F B W A : Type 0} {anchor : F → A} (a : Caller F B W) → Sam
 same_self a = record { floor = refl; book = refl; wakes = refl; who = refl; anchor_is = refl }
 
 -- it is the same while the floor, the book and the wakes that it holds change
-pub still_same : {F B W A : Type 0} {anchor : F → A} (a b d : Caller F B W) → SameCaller anchor a b → d.floor.ghost_name ≡ b.floor.ghost_name → d.book.ghost_name ≡ b.book.ghost_name → d.wakes.ghost_name ≡ b.wakes.ghost_name → d.who ≡ b.who → anchor d.floor.now ≡ anchor b.floor.now
+pub still_same : {F B W A : Type 0} {anchor : F → A} (a b d : Caller F B W) → SameCaller anchor a b
+    → d.floor.ghost_name ≡ b.floor.ghost_name → d.book.ghost_name ≡ b.book.ghost_name → d.wakes.ghost_name ≡ b.wakes.ghost_name
+    → d.who ≡ b.who → anchor d.floor.now ≡ anchor b.floor.now
     → SameCaller anchor a d
-still_same a b d s floor book wakes who is = record { floor = floor ∙ s.floor; book = book ∙ s.book; wakes = wakes ∙ s.wakes; who = who ∙ s.who; anchor_is = is ∙ s.anchor_is }
+still_same a b d s floor book wakes who is = record {
+  floor = floor ∙ s.floor;
+  book = book ∙ s.book;
+  wakes = wakes ∙ s.wakes;
+  who = who
+      ∙ s.who;
+  anchor_is = is ∙ s.anchor_is;
+}
 
 -- it may still call, also after room was made
 pub may_still : (who who' c n : ℕ) (a b d : Floor) → who' ≡ who → MayCall who c a → SameSetting a b → HasRoom n b d → MayCall who' c d
@@ -34,9 +44,11 @@ may_still who who' c n a b d e m same h = record {
 }
 
 -- fewer acts may still come
-pub fewer_left : (who c n : ℕ) (act : Act) (a b d e : Floor) → SameSetting a b → Legal e.shape e.seen → HasRoom n b d → Made who act d e → removes_from act ≡ Some c → left_of a.shape c e.seen < left_of a.shape c b.seen
-fewer_left who c n act a b d e h l r m x =
-    subst (λ es. left_of a.shape c e.seen < left_of a.shape c es) r.seen (left_lower who c act a.shape d e (sym (m.same.shape ∙ r.same.shape ∙ h.shape)) l m x)
+pub fewer_left : {who c n : ℕ} {act : Act} {a b d e : Floor} → SameSetting a b → Legal e.shape e.seen → HasRoom n b d → Made who act d e
+    → removes_from act ≡ Some c → left_of a.shape c e.seen < left_of a.shape c b.seen
+fewer_left {who} {c} {n} {act} {a} {b} {d} {e} h l r m x =
+    subst (λ es. left_of a.shape c e.seen < left_of a.shape c es) r.seen
+    (left_lower who c act a.shape d e (sym (m.same.shape ∙ r.same.shape ∙ h.shape)) l m x)
 
 -- ---- the acts
 
@@ -47,34 +59,37 @@ pub made_append : {X : Type 0} (f : X → Act) (xs ys : List X) → all_made f (
 made_append f [] ys = refl
 made_append f (x ∷ xs) ys = ap (λ l. made (f x) ∷ l) (made_append f xs ys)
 
--- who made one such act for each of these, and noted it
-pub record Repeats {X : Type 0} (f : X → Act) (who : ℕ) (old new : Floor) (items items' : List Item) : Type 0 where
+-- the caller made one such act for each of these, and noted it
+pub record Repeats {X : Type 0} (f : X → Act) (old new : SeenOnChannels) : Type 0 where
   pub of : List X
-  pub left : ToldOnChannels who old new items items' (all_made f of)
+  pub left : ToldOnChannels old new (all_made f of)
 
-module _ {X : Type 0} (f : X → Act) (who : ℕ) where
-  abbrev pub none_repeated : (a : Floor) (i : List Item) → Repeats f who a a i i
-  none_repeated a i = record { of = []; left = told_none who a i }
+module _ {X : Type 0} (f : X → Act) where
+  abbrev pub none_repeated : (a : SeenOnChannels) → Repeats f a a
+  none_repeated a = record { of = []; left = told_none a }
 
   -- one more
-  unfoldable pub one_repeated : (who' n : ℕ) (x : X) (a b d e : Floor) (i j j' k : List Item) → who' ≡ who → (h : Repeats f who a b i j) → HasRoom n b d → j' ≡ j → Made who' (f x) d e → ((s : State) → ActHolds (f x) s) → k ≡ j' ++ made_note (f x) ∷ []
-      → Repeats f who a e i k
-  one_repeated who' n x a b d e i j j' k is h r g m' holds note =
-      let m : Made who (f x) d e = subst (λ y. Made y (f x) d e) is m' in
+  unfoldable pub one_repeated : (x : X) {n : ℕ} {a b d e : SeenOnChannels} → (h : Repeats f a b) → IsRoomed n b d
+      → Made b.who (f x) d.floor e.floor
+      → ((s : State) → ActHolds (f x) s) → e.who ≡ b.who → e.items ≡ d.items ++ made_note (f x) ∷ [] → Repeats f a e
+  one_repeated x {n} {a} {b} {d} {e} h r m holds w note =
+      let at = moment_before b.who (f x) d.floor e.floor (ActHolds (f x)) m (holds (replay d.floor.seen)) in
+      let one : ToldOnChannels (record d { who = b.who }) e (made (f x) ∷ []) = told_made (f x) m at w note in
       record {
         of = h.of ++ x ∷ [];
-        left = subst (λ l. ToldOnChannels who a e i k l) (sym (made_append f h.of (x ∷ [])))
-            (told_then who a b e i j k (all_made f h.of) (made (f x) ∷ []) h.left
-            (told_roomed who n b d e j j' k (made (f x) ∷ []) r g (told_made who (f x) d e j' k m (moment_before who (f x) d e (ActHolds (f x)) m (holds (replay d.seen))) note)));
+        left = subst (ToldOnChannels a e) (sym (made_append f h.of (x ∷ []))) (told_then h.left (roomed r one));
       }
 
   -- nothing is left to do
-  pub repeated_until : (who' n : ℕ) (fact : ChannelFact) (a b d e : Floor) (i j k : List Item) → who' ≡ who → (h : Repeats f who a b i j) → HasRoom n b d → k ≡ j → Looked who' d e → AtStep d e (ChannelFactHolds d.shape fact)
-      → ToldOnChannels who a e i k (all_made f h.of ++ on_channels fact ∷ [])
-  repeated_until who' n fact a b d e i j k is h r g look at =
-      told_then who a b e i j k (all_made f h.of) (on_channels fact ∷ []) h.left
-      (told_roomed who n b d e j k k (on_channels fact ∷ []) r g (told_seen who fact d e k k (subst (λ y. Looked y d e) is look) at refl))
+  pub repeated_until : (fact : ChannelFact) {n : ℕ} {a b d e : SeenOnChannels} → (h : Repeats f a b) → IsRoomed n b d
+      → Looked b.who d.floor e.floor → AtStep d.floor e.floor (ChannelFactHolds d.floor.shape fact) → e.who ≡ b.who → e.items ≡ d.items
+      → ToldOnChannels a e (all_made f h.of ++ on_channels fact ∷ [])
+  repeated_until fact {n} {a} {b} {d} {e} h r look at w g =
+      let seen : ToldOnChannels (record d { who = b.who }) e (on_channels fact ∷ []) = told_seen fact look at w g in
+      told_then h.left (roomed r seen)
 
   -- no memory was found
-  pub still_repeated : (P : List Told → Type 0) (end : List Told) (a b d : Floor) (i j k : List Item) → (h : Repeats f who a b i j) → P (all_made f h.of ++ end) → d ≡ b → k ≡ j → ToldPart who P a d i k
-  still_repeated P end a b d i j k h p e g = part_stopped who P (all_made f h.of) end p a b d i j k h.left (record { floor = e; book = g })
+  pub still_repeated : (P : List Told → Type 0) (end : List Told) {a b d : SeenOnChannels} → (h : Repeats f a b)
+      → P (all_made f h.of ++ end)
+      → IsUntouched b d → ToldPart P a d
+  still_repeated P end h p u = part_stopped P (all_made f h.of) end p h.left u

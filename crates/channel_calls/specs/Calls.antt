@@ -13,7 +13,7 @@ use Rattle.channel_model.specs.declared.acts.Settled.{Settled}
 use Rattle.channel_model.specs.declared.acts.Settled.TheVariants as settled
 use Rattle.channel_model.specs.declared.acts.Why.TheVariants as why
 use Rattle.channel_model.specs.declared.floor.WaitState.TheVariants as state
-use Rattle.channel_model.specs.Channels.{kind_at}
+use Rattle.channel_model.specs.Channels.{kind_at, is_signal}
 use Rattle.channel_model.specs.Histories.{replay}
 use Rattle.channel_model.specs.Floors.{Floor, AtMoment}
 use Rattle.channel_model.specs.Answers.{IsFullAt, IsUnsettledOf, LookAnswer, IsSeenClosed, IsSeenVoided, outcome_at, state_of_wait}
@@ -25,6 +25,7 @@ use Rattle.call_meaning.specs.Telling.{Told, on_channels, TakenBack, items_in, m
 use Rattle.call_meaning.specs.Facts.{IsClosedWith}
 use Rattle.call_meaning.specs.ChannelCalls.{Answer, Done, Got, Closed, Waits, NoPlace, Call, sends, receives, wait_at, offer_told, blocked, spent, Admits, Overflows, Wakes, Drains, Closes, CancelsChannel, AtOnce, PlainCall, is_given_up}
 use Rattle.call_meaning.specs.Prefixes.{PrefixOf}
+use Rattle.call_meaning.specs.Seen.{SeenOnChannels, seen_channels, state_in}
 use Rattle.call_meaning.specs.Calls.{ToldOnChannels}
 use Rattle.channel_calls.specs.declared.caller.Caller.{Caller}
 use Rattle.channel_calls.specs.declared.caller.SendAnswer.{SendAnswer}
@@ -48,22 +49,31 @@ pub record SameCaller {F B W A : Type 0} (anchor : F → A) (old new : Caller F 
   pub who : new.who ≡ old.who
   pub anchor_is : anchor new.floor.now ≡ anchor old.floor.now
 
+-- what the caller sees of its floor and its book
+abbrev pub seen : {F B W : Type 0} → (F → Floor) → (B → List Item) → Caller F B W → SeenOnChannels
+seen view items caller = seen_channels view items caller.who caller.floor.now caller.book.now
+
+-- the channel is none of those that carry no element
+abbrev pub CarriesElements : ℕ → SeenOnChannels → Type 0
+CarriesElements c seen = is_signal (kind_at seen.floor.shape c) ≡ false
+
 -- no memory was found; nothing was made or noted
-pub record IsUntouched (old new : Floor) (items items' : List Item) : Type 0 where
-  pub floor : new ≡ old
-  pub book : items' ≡ items
+pub record IsUntouched (old new : SeenOnChannels) : Type 0 where
+  pub who : new.who ≡ old.who
+  pub floor : new.floor ≡ old.floor
+  pub book : new.items ≡ old.items
 
 -- ---- what is told
 
 -- the call told this
-pub record Tells (who : ℕ) (P : List Told → Type 0) (old new : Floor) (items items' : List Item) : Type 0 where
+pub record Tells (P : List Told → Type 0) (old new : SeenOnChannels) : Type 0 where
   pub told : List Told
   pub goes : P told
-  pub left : ToldOnChannels who old new items items' told
+  pub left : ToldOnChannels old new told
 
 -- no memory was found; what the call told by then begins a list that P accepts
-abbrev pub ToldPart : ℕ → (List Told → Type 0) → Floor → Floor → List Item → List Item → Type 0
-ToldPart who P old new i i' = Tells who (PrefixOf P) old new i i'
+abbrev pub ToldPart : (List Told → Type 0) → SeenOnChannels → SeenOnChannels → Type 0
+ToldPart P old new = Tells (PrefixOf P) old new
 
 -- a send or receive goes so
 abbrev pub Goes : Call → Answer → List Told → Type 0
@@ -85,26 +95,28 @@ abbrev pub Anything : List Told → Type 0
 Anything told = Unit {0}
 
 -- what the call told stands, whatever it is
-abbrev pub ToldSome : ℕ → Floor → Floor → List Item → List Item → Type 0
-ToldSome who old new i i' = Tells who Anything old new i i'
+abbrev pub ToldSome : SeenOnChannels → SeenOnChannels → Type 0
+ToldSome old new = Tells Anything old new
 
 -- ---- waits
 
--- the wait was seen, is who's, and did not end
-abbrev pub HoldsWait : ℕ → WaitId → Floor → Type 0
-HoldsWait who w floor = IsUnsettledOf who ((replay floor.seen).waits w)
+-- the wait was seen, is the caller's, and did not end
+abbrev pub HoldsWait : WaitId → SeenOnChannels → Type 0
+HoldsWait w seen = IsUnsettledOf seen.who ((state_in seen).waits w)
 
--- when the call had made these acts its wait stood; it is who's, and did not end
-pub record IsLeftWaiting (who : ℕ) (w : WaitId) (acts : List Act) (old new : Floor) : Type 0 where
-  pub stood : AtMoment who acts old new (λ s. state_of_wait (s.waits w) ≡ Some state.Standing)
-  pub holds : HoldsWait who w new
+-- when the call had made these acts its wait stood; it is the caller's, and did not end
+pub record IsLeftWaiting (w : WaitId) (acts : List Act) (old new : SeenOnChannels) : Type 0 where
+  pub stood : AtMoment old.who acts old.floor new.floor (λ s. state_of_wait (s.waits w) ≡ Some state.Standing)
+  pub holds : HoldsWait w new
 
--- the call told this, and then a look found that the wait stood; it is who's, and did not end
-pub record IsSeenWaiting (who : ℕ) (w : WaitId) (told : List Told) (old new : Floor) (items items' : List Item) : Type 0 where
-  pub between : Floor
-  pub before : ToldOnChannels who old between items items' told
-  pub look : LookAnswer who w between new state.Standing
-  pub holds : HoldsWait who w new
+-- the call told this, and then a look found that the wait stood; it is the caller's, and did not end
+pub record IsSeenWaiting (w : WaitId) (told : List Told) (old new : SeenOnChannels) : Type 0 where
+  pub between : SeenOnChannels
+  pub before : ToldOnChannels old between told
+  pub look : LookAnswer between.who w between.floor new.floor state.Standing
+  pub who : new.who ≡ between.who
+  pub items : new.items ≡ between.items
+  pub holds : HoldsWait w new
 
 -- ---- closed channels
 
@@ -133,83 +145,80 @@ pub data IsUnsent (c v x : ℕ) : List Told → Type 0 where
       → IsUnsent c v x all
 
 -- when the call placed its offer, at least as many offers stood as the channel keeps
-pub record WasPlacedFull (who c v place : ℕ) (old new : Floor) : Type 0 where
+pub record WasPlacedFull (c v place : ℕ) (old new : SeenOnChannels) : Type 0 where
   pub before : List Entry
-  pub begins : IsPrefix old.seen before
-  pub placed : IsPrefix (before ++ plain_offer who c place v ∷ []) new.seen
-  pub full : IsFullAt old.shape c (replay before)
+  pub begins : IsPrefix old.floor.seen before
+  pub placed : IsPrefix (before ++ plain_offer old.who c place v ∷ []) new.floor.seen
+  pub full : IsFullAt old.floor.shape c (replay before)
 
-abbrev pub SentAnswer : ℕ → ℕ → ℕ → Floor → Floor → List Item → List Item → Result SendAnswer Memory → Type 0
-SentAnswer who c v old new i i' (Ok send.Sent) = Tells who (IsSent c v) old new i i'
-SentAnswer who c v old new i i' (Ok (send.Waits w)) =
-    (t : Tells who (Goes (sends c v) (Waits w)) old new i i')
-    × IsSeenWaiting who w t.told old new i i'
-    × WasPlacedFull who c v w.place old new
-SentAnswer who c v old new i i' (Ok (send.Closed x)) =
-    Tells who (IsUnsent c v x) old new i i' × IsClosedWith c x (replay new.seen)
-SentAnswer who c v old new i i' (Ok send.Spent) = Tells who (Goes (sends c v) NoPlace) old new i i'
-SentAnswer who c v old new i i' (Err m) = ToldPart who (GoesSomehow (sends c v)) old new i i'
+abbrev pub SentAnswer : ℕ → ℕ → SeenOnChannels → SeenOnChannels → Result SendAnswer Memory → Type 0
+SentAnswer c v old new (Ok send.Sent) = Tells (IsSent c v) old new
+SentAnswer c v old new (Ok (send.Waits w)) =
+    (t : Tells (Goes (sends c v) (Waits w)) old new)
+    × IsSeenWaiting w t.told old new
+    × WasPlacedFull c v w.place old new
+SentAnswer c v old new (Ok (send.Closed x)) = Tells (IsUnsent c v x) old new × IsClosedWith c x (state_in new)
+SentAnswer c v old new (Ok send.Spent) = Tells (Goes (sends c v) NoPlace) old new
+SentAnswer c v old new (Err m) = ToldPart (GoesSomehow (sends c v)) old new
 
 -- the same without waiting
-abbrev pub TrySentAnswer : ℕ → ℕ → ℕ → Floor → Floor → List Item → List Item → Result TrySendAnswer Memory → Type 0
-TrySentAnswer who c v old new i i' (Ok try_send.Sent) = Tells who (GoesAtOnce (sends c v) Done) old new i i'
-TrySentAnswer who c v old new i i' (Ok try_send.Full) = ToldOnChannels who old new i i' (blocked (sends c v) ∷ [])
-TrySentAnswer who c v old new i i' (Ok (try_send.Closed x)) =
-    ToldOnChannels who old new i i' (heard (TrySendClosed c v x) ∷ [])
-TrySentAnswer who c v old new i i' (Ok try_send.Spent) = ToldOnChannels who old new i i' (spent (sends c v))
-TrySentAnswer who c v old new i i' (Err m) = ToldPart who (GoesAtOnceSomehow (sends c v)) old new i i'
+abbrev pub TrySentAnswer : ℕ → ℕ → SeenOnChannels → SeenOnChannels → Result TrySendAnswer Memory → Type 0
+TrySentAnswer c v old new (Ok try_send.Sent) = Tells (GoesAtOnce (sends c v) Done) old new
+TrySentAnswer c v old new (Ok try_send.Full) = ToldOnChannels old new (blocked (sends c v) ∷ [])
+TrySentAnswer c v old new (Ok (try_send.Closed x)) = ToldOnChannels old new (heard (TrySendClosed c v x) ∷ [])
+TrySentAnswer c v old new (Ok try_send.Spent) = ToldOnChannels old new (spent (sends c v))
+TrySentAnswer c v old new (Err m) = ToldPart (GoesAtOnceSomehow (sends c v)) old new
 
 -- as a call or as a clause
-abbrev pub SendTriedAs : TriedAs → ℕ → ℕ → ℕ → Floor → Floor → List Item → List Item → Result TrySendAnswer Memory → Type 0
-SendTriedAs by who c v old new i i' (Ok try_send.Sent) = Tells who (GoesAtOnce (sends c v) Done) old new i i'
-SendTriedAs by who c v old new i i' (Ok try_send.Full) = ToldOnChannels who old new i i' (blocked (sends c v) ∷ [])
-SendTriedAs by who c v old new i i' (Ok (try_send.Closed x)) =
-    ToldOnChannels who old new i i' (heard (closed_note by (sends c v) x) ∷ [])
-SendTriedAs by who c v old new i i' (Ok try_send.Spent) = ToldOnChannels who old new i i' (spent (sends c v))
-SendTriedAs by who c v old new i i' (Err m) = ToldPart who (GoesAtOnceSomehow (sends c v)) old new i i'
+abbrev pub SendTriedAs : TriedAs → ℕ → ℕ → SeenOnChannels → SeenOnChannels → Result TrySendAnswer Memory → Type 0
+SendTriedAs by c v old new (Ok try_send.Sent) = Tells (GoesAtOnce (sends c v) Done) old new
+SendTriedAs by c v old new (Ok try_send.Full) = ToldOnChannels old new (blocked (sends c v) ∷ [])
+SendTriedAs by c v old new (Ok (try_send.Closed x)) =
+    ToldOnChannels old new (heard (closed_note by (sends c v) x) ∷ [])
+SendTriedAs by c v old new (Ok try_send.Spent) = ToldOnChannels old new (spent (sends c v))
+SendTriedAs by c v old new (Err m) = ToldPart (GoesAtOnceSomehow (sends c v)) old new
 
 -- ---- receive
 
-abbrev pub ReceivedAnswer : ℕ → ℕ → Floor → Floor → List Item → List Item → Result ReceiveAnswer Memory → Type 0
-ReceivedAnswer who c old new i i' (Ok (receive.Value v)) = Tells who (Goes (receives c) (Got v)) old new i i'
-ReceivedAnswer who c old new i i' (Ok (receive.Waits w)) =
-    (t : Tells who (Goes (receives c) (Waits w)) old new i i')
-    × IsLeftWaiting who w (channel_acts_in (items_in t.told)) old new
-ReceivedAnswer who c old new i i' (Ok (receive.Closed x)) = Tells who (Goes (receives c) (Closed x)) old new i i'
-ReceivedAnswer who c old new i i' (Ok receive.Spent) = Tells who (Goes (receives c) NoPlace) old new i i'
-ReceivedAnswer who c old new i i' (Err m) = ToldPart who (GoesSomehow (receives c)) old new i i'
+abbrev pub ReceivedAnswer : ℕ → SeenOnChannels → SeenOnChannels → Result ReceiveAnswer Memory → Type 0
+ReceivedAnswer c old new (Ok (receive.Value v)) = Tells (Goes (receives c) (Got v)) old new
+ReceivedAnswer c old new (Ok (receive.Waits w)) =
+    (t : Tells (Goes (receives c) (Waits w)) old new)
+    × IsLeftWaiting w (channel_acts_in (items_in t.told)) old new
+ReceivedAnswer c old new (Ok (receive.Closed x)) = Tells (Goes (receives c) (Closed x)) old new
+ReceivedAnswer c old new (Ok receive.Spent) = Tells (Goes (receives c) NoPlace) old new
+ReceivedAnswer c old new (Err m) = ToldPart (GoesSomehow (receives c)) old new
 
 -- the same without waiting
-abbrev pub TryReceivedAnswer : ℕ → ℕ → Floor → Floor → List Item → List Item → Result TryReceiveAnswer Memory → Type 0
-TryReceivedAnswer who c old new i i' (Ok (try_receive.Value v)) = Tells who (GoesAtOnce (receives c) (Got v)) old new i i'
-TryReceivedAnswer who c old new i i' (Ok try_receive.Empty) = ToldOnChannels who old new i i' (blocked (receives c) ∷ [])
-TryReceivedAnswer who c old new i i' (Ok (try_receive.Closed x)) =
-    ToldOnChannels who old new i i' (heard (TryReceiveClosed c x) ∷ [])
-TryReceivedAnswer who c old new i i' (Err m) = ToldPart who (GoesAtOnceSomehow (receives c)) old new i i'
+abbrev pub TryReceivedAnswer : ℕ → SeenOnChannels → SeenOnChannels → Result TryReceiveAnswer Memory → Type 0
+TryReceivedAnswer c old new (Ok (try_receive.Value v)) = Tells (GoesAtOnce (receives c) (Got v)) old new
+TryReceivedAnswer c old new (Ok try_receive.Empty) = ToldOnChannels old new (blocked (receives c) ∷ [])
+TryReceivedAnswer c old new (Ok (try_receive.Closed x)) = ToldOnChannels old new (heard (TryReceiveClosed c x) ∷ [])
+TryReceivedAnswer c old new (Err m) = ToldPart (GoesAtOnceSomehow (receives c)) old new
 
 -- as a call or as a clause
-abbrev pub ReceiveTriedAs : TriedAs → ℕ → ℕ → Floor → Floor → List Item → List Item → Result TryReceiveAnswer Memory → Type 0
-ReceiveTriedAs by who c old new i i' (Ok (try_receive.Value v)) = Tells who (GoesAtOnce (receives c) (Got v)) old new i i'
-ReceiveTriedAs by who c old new i i' (Ok try_receive.Empty) = ToldOnChannels who old new i i' (blocked (receives c) ∷ [])
-ReceiveTriedAs by who c old new i i' (Ok (try_receive.Closed x)) =
-    ToldOnChannels who old new i i' (heard (closed_note by (receives c) x) ∷ [])
-ReceiveTriedAs by who c old new i i' (Err m) = ToldPart who (GoesAtOnceSomehow (receives c)) old new i i'
+abbrev pub ReceiveTriedAs : TriedAs → ℕ → SeenOnChannels → SeenOnChannels → Result TryReceiveAnswer Memory → Type 0
+ReceiveTriedAs by c old new (Ok (try_receive.Value v)) = Tells (GoesAtOnce (receives c) (Got v)) old new
+ReceiveTriedAs by c old new (Ok try_receive.Empty) = ToldOnChannels old new (blocked (receives c) ∷ [])
+ReceiveTriedAs by c old new (Ok (try_receive.Closed x)) =
+    ToldOnChannels old new (heard (closed_note by (receives c) x) ∷ [])
+ReceiveTriedAs by c old new (Err m) = ToldPart (GoesAtOnceSomehow (receives c)) old new
 
 -- ---- what follows an act
 
 -- those were admitted for whom the channel has room
-abbrev pub AdmittedAnswer : ℕ → ℕ → Floor → Floor → List Item → List Item → Result (Unit {0}) Memory → Type 0
-AdmittedAnswer who c old new i i' (Ok done) = Tells who (Admits c) old new i i'
-AdmittedAnswer who c old new i i' (Err m) = ToldPart who (Admits c) old new i i'
+abbrev pub AdmittedAnswer : ℕ → SeenOnChannels → SeenOnChannels → Result (Unit {0}) Memory → Type 0
+AdmittedAnswer c old new (Ok done) = Tells (Admits c) old new
+AdmittedAnswer c old new (Err m) = ToldPart (Admits c) old new
 
 -- what follows a Put at this place of a channel of this kind
 pub record FollowsPut (kind : Kind) (c place : ℕ) (told : List Told) : Type 0 where
   pub overflows : Overflows c place told
   pub acts : after_put kind c place (channel_acts_in (items_in told)) ≡ true
 
-abbrev pub AfterPutAnswer : ℕ → ℕ → ℕ → Floor → Floor → List Item → List Item → Result (Unit {0}) Memory → Type 0
-AfterPutAnswer who c place old new i i' (Ok done) = Tells who (FollowsPut (kind_at old.shape c) c place) old new i i'
-AfterPutAnswer who c place old new i i' (Err m) = ToldPart who (FollowsPut (kind_at old.shape c) c place) old new i i'
+abbrev pub AfterPutAnswer : ℕ → ℕ → SeenOnChannels → SeenOnChannels → Result (Unit {0}) Memory → Type 0
+AfterPutAnswer c place old new (Ok done) = Tells (FollowsPut (kind_at old.floor.shape c) c place) old new
+AfterPutAnswer c place old new (Err m) = ToldPart (FollowsPut (kind_at old.floor.shape c) c place) old new
 
 -- ---- close and cancel
 
@@ -218,9 +227,9 @@ pub data ClosesBy (c v : ℕ) : Bool → List Told → Type 0 where
   now : (wakes : List Told) → Wakes c wakes → ClosesBy c v true (made (Close c v) ∷ wakes)
   before : (u : ℕ) (wakes : List Told) → Wakes c wakes → ClosesBy c v false (heard (AlreadyClosed c u) ∷ wakes)
 
-abbrev pub ClosedAnswer : ℕ → ℕ → ℕ → Floor → Floor → List Item → List Item → Result Bool Memory → Type 0
-ClosedAnswer who c v old new i i' (Ok first) = Tells who (ClosesBy c v first) old new i i' × IsSeenClosed c new
-ClosedAnswer who c v old new i i' (Err m) = ToldPart who (Closes c v) old new i i'
+abbrev pub ClosedAnswer : ℕ → ℕ → SeenOnChannels → SeenOnChannels → Result Bool Memory → Type 0
+ClosedAnswer c v old new (Ok first) = Tells (ClosesBy c v first) old new × IsSeenClosed c new.floor
+ClosedAnswer c v old new (Err m) = ToldPart (Closes c v) old new
 
 -- the channel was closed with 0, or had been; then it was voided by this call, or had been, and no element is left
 pub data CancelsBy (c : ℕ) : Bool → List Told → Type 0 where
@@ -229,9 +238,9 @@ pub data CancelsBy (c : ℕ) : Bool → List Told → Type 0 where
   before : (closes drains all : List Told) → Closes c 0 closes → Drains c drains → all ≡ closes ++ drains
       → CancelsBy c false all
 
-abbrev pub CancelledChannelAnswer : ℕ → ℕ → Floor → Floor → List Item → List Item → Result Bool Memory → Type 0
-CancelledChannelAnswer who c old new i i' (Ok first) = Tells who (CancelsBy c first) old new i i' × IsSeenVoided c new
-CancelledChannelAnswer who c old new i i' (Err m) = ToldPart who (CancelsChannel c) old new i i'
+abbrev pub CancelledChannelAnswer : ℕ → SeenOnChannels → SeenOnChannels → Result Bool Memory → Type 0
+CancelledChannelAnswer c old new (Ok first) = Tells (CancelsBy c first) old new × IsSeenVoided c new.floor
+CancelledChannelAnswer c old new (Err m) = ToldPart (CancelsChannel c) old new
 
 -- ---- the end of a wait
 
@@ -241,10 +250,10 @@ end_told w false settled.Cancelled = on_channels (TakenBack w) ∷ made (Settle 
 end_told w false outcome = made (Settle w outcome) ∷ []
 end_told w true outcome = made (Settle w outcome) ∷ []
 
-abbrev pub DispatchedAnswer : ℕ → WaitId → Bool → Floor → Floor → List Item → List Item → Result Settled Memory → Type 0
-DispatchedAnswer who w cancelled old new i i' (Ok outcome) =
-    ToldOnChannels who old new i i' (end_told w cancelled outcome) × (outcome_at cancelled ((replay old.seen).waits w) ≡ Some outcome)
-DispatchedAnswer who w cancelled old new i i' (Err m) = IsUntouched old new i i'
+abbrev pub DispatchedAnswer : WaitId → Bool → SeenOnChannels → SeenOnChannels → Result Settled Memory → Type 0
+DispatchedAnswer w cancelled old new (Ok outcome) =
+    ToldOnChannels old new (end_told w cancelled outcome) × (outcome_at cancelled ((state_in old).waits w) ≡ Some outcome)
+DispatchedAnswer w cancelled old new (Err m) = IsUntouched old new
 
 -- the wait was withdrawn, or that came too late; it ended so, for a Job that was cancelled, and then those were
 -- admitted for whom its channel has room
@@ -258,6 +267,6 @@ pub data TakesBack (w : WaitId) : Settled → List Told → Type 0 where
 abbrev pub TakesBackSomehow : WaitId → List Told → Type 0
 TakesBackSomehow w told = (outcome : Settled) × TakesBack w outcome told
 
-abbrev pub CancelledAnswer : ℕ → WaitId → Floor → Floor → List Item → List Item → Result Settled Memory → Type 0
-CancelledAnswer who w old new i i' (Ok outcome) = Tells who (TakesBack w outcome) old new i i'
-CancelledAnswer who w old new i i' (Err m) = ToldPart who (TakesBackSomehow w) old new i i'
+abbrev pub CancelledAnswer : WaitId → SeenOnChannels → SeenOnChannels → Result Settled Memory → Type 0
+CancelledAnswer w old new (Ok outcome) = Tells (TakesBack w outcome) old new
+CancelledAnswer w old new (Err m) = ToldPart (TakesBackSomehow w) old new

@@ -10,15 +10,13 @@ use Rattle.channel_model.specs.declared.acts.Why.TheVariants as why
 use Rattle.channel_model.specs.declared.floor.WaitState.TheVariants as state
 use Rattle.channel_model.specs.declared.acts.Kind.{Kind}
 use Rattle.channel_model.specs.Channels.{kind_at}
-use Rattle.channel_model.specs.Histories.{replay}
-use Rattle.channel_model.specs.Floors.{Floor}
 use Rattle.channel_model.specs.Answers.{LookAnswer, IsSeenClosed, IsSeenVoided}
 use Rattle.channel_model.specs.Puts.{after_put}
-use Rattle.note_book.specs.declared.book.Item.{Item}
 use Rattle.note_book.specs.Items.{channel_acts_in}
 use Rattle.call_meaning.specs.Telling.{Told, on_channels, TakenBack, NoneToAdmit, items_in, made, heard}
 use Rattle.call_meaning.specs.Facts.{IsClosedWith}
 use Rattle.call_meaning.specs.ChannelCalls.{Admits, Drops, Spurns, Wakes, Drains, is_given_up}
+use Rattle.call_meaning.specs.Seen.{SeenOnChannels, state_in}
 use Rattle.call_meaning.specs.Calls.{ToldOnChannels}
 use Rattle.channel_calls.specs.declared.caller.SendAnswer.{SendAnswer}
 use Rattle.channel_calls.specs.declared.caller.SendAnswer.TheVariants as send
@@ -31,9 +29,9 @@ pub record AdmitsBelow (c mark : ℕ) (told : List Told) : Type 0 where
   pub places : List ℕ
   pub all : told ≡ map (λ q. made (Admit c q)) places ++ on_channels (NoneToAdmit c mark) ∷ []
 
-abbrev pub AdmittedBelowAnswer : ℕ → ℕ → ℕ → Floor → Floor → List Item → List Item → Result (Unit {0}) Memory → Type 0
-AdmittedBelowAnswer who c mark old new i i' (Ok done) = Tells who (AdmitsBelow c mark) old new i i'
-AdmittedBelowAnswer who c mark old new i i' (Err m) = ToldPart who (AdmitsBelow c mark) old new i i'
+abbrev pub AdmittedBelowAnswer : ℕ → ℕ → SeenOnChannels → SeenOnChannels → Result (Unit {0}) Memory → Type 0
+AdmittedBelowAnswer c mark old new (Ok done) = Tells (AdmitsBelow c mark) old new
+AdmittedBelowAnswer c mark old new (Err m) = ToldPart (AdmitsBelow c mark) old new
 
 -- ---- what follows a put
 
@@ -42,34 +40,34 @@ pub record DropsAfterPut (kind : Kind) (c place : ℕ) (told : List Told) : Type
   pub drops : Drops c place told
   pub acts : after_put kind c place (channel_acts_in (items_in told)) ≡ true
 
-abbrev pub DroppedAnswer : ℕ → ℕ → ℕ → Floor → Floor → List Item → List Item → Result (Unit {0}) Memory → Type 0
-DroppedAnswer who c place old new i i' (Ok done) = Tells who (DropsAfterPut (kind_at old.shape c) c place) old new i i'
-DroppedAnswer who c place old new i i' (Err m) = ToldPart who (DropsAfterPut (kind_at old.shape c) c place) old new i i'
+abbrev pub DroppedAnswer : ℕ → ℕ → SeenOnChannels → SeenOnChannels → Result (Unit {0}) Memory → Type 0
+DroppedAnswer c place old new (Ok done) = Tells (DropsAfterPut (kind_at old.floor.shape c) c place) old new
+DroppedAnswer c place old new (Err m) = ToldPart (DropsAfterPut (kind_at old.floor.shape c) c place) old new
 
 -- the element itself was removed, or it was not one too many
 pub record SpurnsAfterPut (kind : Kind) (c place : ℕ) (told : List Told) : Type 0 where
   pub spurns : Spurns c place told
   pub acts : after_put kind c place (channel_acts_in (items_in told)) ≡ true
 
-abbrev pub SpurnedAnswer : ℕ → ℕ → ℕ → Floor → Floor → List Item → List Item → Result (Unit {0}) Memory → Type 0
-SpurnedAnswer who c place old new i i' (Ok done) = Tells who (SpurnsAfterPut (kind_at old.shape c) c place) old new i i'
-SpurnedAnswer who c place old new i i' (Err m) = IsUntouched old new i i'
+abbrev pub SpurnedAnswer : ℕ → ℕ → SeenOnChannels → SeenOnChannels → Result (Unit {0}) Memory → Type 0
+SpurnedAnswer c place old new (Ok done) = Tells (SpurnsAfterPut (kind_at old.floor.shape c) c place) old new
+SpurnedAnswer c place old new (Err m) = IsUntouched old new
 
 -- ---- to close
 
 -- each receiver was told
-abbrev pub WokenAnswer : ℕ → ℕ → Floor → Floor → List Item → List Item → Result (Unit {0}) Memory → Type 0
-WokenAnswer who c old new i i' (Ok done) = Tells who (Wakes c) old new i i'
-WokenAnswer who c old new i i' (Err m) = ToldPart who (Wakes c) old new i i'
+abbrev pub WokenAnswer : ℕ → SeenOnChannels → SeenOnChannels → Result (Unit {0}) Memory → Type 0
+WokenAnswer c old new (Ok done) = Tells (Wakes c) old new
+WokenAnswer c old new (Err m) = ToldPart (Wakes c) old new
 
 -- the channel was closed by this call, or had been
 pub data ClosesOnce (c v : ℕ) : Bool → List Told → Type 0 where
   now : ClosesOnce c v true (made (Close c v) ∷ [])
   before : (u : ℕ) → ClosesOnce c v false (heard (AlreadyClosed c u) ∷ [])
 
-abbrev pub ClosedOnceAnswer : ℕ → ℕ → ℕ → Floor → Floor → List Item → List Item → Result Bool Memory → Type 0
-ClosedOnceAnswer who c v old new i i' (Ok first) = Tells who (ClosesOnce c v first) old new i i' × IsSeenClosed c new
-ClosedOnceAnswer who c v old new i i' (Err m) = IsUntouched old new i i'
+abbrev pub ClosedOnceAnswer : ℕ → ℕ → SeenOnChannels → SeenOnChannels → Result Bool Memory → Type 0
+ClosedOnceAnswer c v old new (Ok first) = Tells (ClosesOnce c v first) old new × IsSeenClosed c new.floor
+ClosedOnceAnswer c v old new (Err m) = IsUntouched old new
 
 -- ---- to cancel
 
@@ -78,27 +76,28 @@ abbrev pub void_told : ℕ → Bool → List Told
 void_told c true = made (Void c) ∷ []
 void_told c false = []
 
-abbrev pub VoidedOnceAnswer : ℕ → ℕ → Floor → Floor → List Item → List Item → Result Bool Memory → Type 0
-VoidedOnceAnswer who c old new i i' (Ok first) = ToldOnChannels who old new i i' (void_told c first) × IsSeenVoided c new
-VoidedOnceAnswer who c old new i i' (Err m) = IsUntouched old new i i'
+abbrev pub VoidedOnceAnswer : ℕ → SeenOnChannels → SeenOnChannels → Result Bool Memory → Type 0
+VoidedOnceAnswer c old new (Ok first) = ToldOnChannels old new (void_told c first) × IsSeenVoided c new.floor
+VoidedOnceAnswer c old new (Err m) = IsUntouched old new
 
 -- each element was removed
-abbrev pub DrainedAnswer : ℕ → ℕ → Floor → Floor → List Item → List Item → Result (Unit {0}) Memory → Type 0
-DrainedAnswer who c old new i i' (Ok done) = Tells who (Drains c) old new i i'
-DrainedAnswer who c old new i i' (Err m) = ToldPart who (Drains c) old new i i'
+abbrev pub DrainedAnswer : ℕ → SeenOnChannels → SeenOnChannels → Result (Unit {0}) Memory → Type 0
+DrainedAnswer c old new (Ok done) = Tells (Drains c) old new
+DrainedAnswer c old new (Err m) = ToldPart (Drains c) old new
 
 -- ---- the own offer of a send, and the admits before
 
 -- it was received or kept, it stands, or it was removed with the channel
-abbrev pub OwnOfferAnswer : ℕ → WaitId → Floor → Floor → List Item → List Item → Result SendAnswer Memory → Type 0
-OwnOfferAnswer who w old new i i' (Ok send.Sent) = ToldOnChannels who old new i i' (made (Settle w (settled.Sent 0)) ∷ [])
-OwnOfferAnswer who w old new i i' (Ok (send.Waits v)) =
-    (v ≡ w) × (i' ≡ i) × LookAnswer who w old new state.Standing × HoldsWait who w new
-OwnOfferAnswer who w old new i i' (Ok (send.Closed x)) =
-    ToldOnChannels who old new i i' (on_channels (TakenBack w) ∷ made (Settle w settled.Cancelled) ∷ [])
-    × IsClosedWith w.channel x (replay new.seen)
-OwnOfferAnswer who w old new i i' (Ok send.Spent) = ⊥
-OwnOfferAnswer who w old new i i' (Err m) = IsUntouched old new i i'
+abbrev pub OwnOfferAnswer : WaitId → SeenOnChannels → SeenOnChannels → Result SendAnswer Memory → Type 0
+OwnOfferAnswer w old new (Ok send.Sent) = ToldOnChannels old new (made (Settle w (settled.Sent 0)) ∷ [])
+OwnOfferAnswer w old new (Ok (send.Waits v)) =
+    (v ≡ w) × (new.who ≡ old.who) × (new.items ≡ old.items) × LookAnswer old.who w old.floor new.floor state.Standing
+    × HoldsWait w new
+OwnOfferAnswer w old new (Ok (send.Closed x)) =
+    ToldOnChannels old new (on_channels (TakenBack w) ∷ made (Settle w settled.Cancelled) ∷ [])
+    × IsClosedWith w.channel x (state_in new)
+OwnOfferAnswer w old new (Ok send.Spent) = ⊥
+OwnOfferAnswer w old new (Err m) = IsUntouched old new
 
 -- those were admitted for whom there is room, and then this came
 pub record AdmitsThen (c : ℕ) (end told : List Told) : Type 0 where
@@ -107,18 +106,18 @@ pub record AdmitsThen (c : ℕ) (end told : List Told) : Type 0 where
   pub all : told ≡ admits ++ end
 
 -- both parts
-abbrev pub HeldAnswer : ℕ → WaitId → Floor → Floor → List Item → List Item → Result SendAnswer Memory → Type 0
-HeldAnswer who w old new i i' (Ok send.Sent) =
-    Tells who (AdmitsThen w.channel (made (Settle w (settled.Sent 0)) ∷ [])) old new i i'
-HeldAnswer who w old new i i' (Ok (send.Waits v)) =
+abbrev pub HeldAnswer : WaitId → SeenOnChannels → SeenOnChannels → Result SendAnswer Memory → Type 0
+HeldAnswer w old new (Ok send.Sent) =
+    Tells (AdmitsThen w.channel (made (Settle w (settled.Sent 0)) ∷ [])) old new
+HeldAnswer w old new (Ok (send.Waits v)) =
     (v ≡ w)
-    × (t : Tells who (Admits w.channel) old new i i')
-    × IsSeenWaiting who w t.told old new i i'
-HeldAnswer who w old new i i' (Ok (send.Closed x)) =
-    Tells who (AdmitsThen w.channel (on_channels (TakenBack w) ∷ made (Settle w settled.Cancelled) ∷ [])) old new i i'
-    × IsClosedWith w.channel x (replay new.seen)
-HeldAnswer who w old new i i' (Ok send.Spent) = ⊥
-HeldAnswer who w old new i i' (Err m) = ToldPart who (Admits w.channel) old new i i'
+    × (t : Tells (Admits w.channel) old new)
+    × IsSeenWaiting w t.told old new
+HeldAnswer w old new (Ok (send.Closed x)) =
+    Tells (AdmitsThen w.channel (on_channels (TakenBack w) ∷ made (Settle w settled.Cancelled) ∷ [])) old new
+    × IsClosedWith w.channel x (state_in new)
+HeldAnswer w old new (Ok send.Spent) = ⊥
+HeldAnswer w old new (Err m) = ToldPart (Admits w.channel) old new
 
 -- ---- the end of a wait that meets a cancellation
 
@@ -128,6 +127,6 @@ pub data EndsCancelled (w : WaitId) : Settled → List Told → Type 0 where
   late : (outcome : Settled) → is_given_up outcome ≡ true
       → EndsCancelled w outcome (heard (Late w) ∷ made (Settle w outcome) ∷ [])
 
-abbrev pub EndedCancelledAnswer : ℕ → WaitId → Floor → Floor → List Item → List Item → Result Settled Memory → Type 0
-EndedCancelledAnswer who w old new i i' (Ok outcome) = Tells who (EndsCancelled w outcome) old new i i'
-EndedCancelledAnswer who w old new i i' (Err m) = IsUntouched old new i i'
+abbrev pub EndedCancelledAnswer : WaitId → SeenOnChannels → SeenOnChannels → Result Settled Memory → Type 0
+EndedCancelledAnswer w old new (Ok outcome) = Tells (EndsCancelled w outcome) old new
+EndedCancelledAnswer w old new (Err m) = IsUntouched old new

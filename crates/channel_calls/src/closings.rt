@@ -1,8 +1,8 @@
 //! To close and to cancel a channel.
 
-ghost use Rattle.channel_model.specs.Floors.{MayCall};
+ghost use Rattle.call_meaning.specs.Seen.{MayCallChannel};
 ghost use Rattle.channel_model.specs.Answers.{IsSeenClosed, IsSeenVoided};
-ghost use Rattle.channel_calls.specs.Calls.{SameCaller, ClosedAnswer, CancelledChannelAnswer};
+ghost use Rattle.channel_calls.specs.Calls.{SameCaller, seen, ClosedAnswer, CancelledChannelAnswer};
 ghost use Rattle.channel_calls.specs.Parts.{WokenAnswer, ClosedOnceAnswer, VoidedOnceAnswer, DrainedAnswer};
 
 use crate::caller::Caller;
@@ -16,10 +16,9 @@ impl<F: ChannelFloor, B: NoteBook, W: Wakes> Caller<'_, '_, '_, F, B, W> {
     ///
     /// Example: `send_last` in `docs/LIBRARY.md`.
     pub fn close(&mut self, c: ChannelId, v: Value) -> Result<bool, Memory>
-        requires can { MayCall self.old.who c (F.view self.old.floor.now) }
+        requires can { MayCallChannel c (seen F.view B.items self.old) }
         ensures same { SameCaller F.anchor self.old self.new }
-        ensures answer { ClosedAnswer self.old.who c v (F.view self.old.floor.now) (F.view self.new.floor.now)
-            (B.items self.old.book.now) (B.items self.new.book.now) result }
+        ensures answer { ClosedAnswer c v (seen F.view B.items self.old) (seen F.view B.items self.new) result }
     {
         match self.close_once(c, v) {
             Ok(closed) => match self.wake_all(c) {
@@ -32,10 +31,9 @@ impl<F: ChannelFloor, B: NoteBook, W: Wakes> Caller<'_, '_, '_, F, B, W> {
 
     /// Closes the channel with 0, tells each receiver, and removes each element. Answers whether this call cancelled it.
     pub fn cancel_channel(&mut self, c: ChannelId) -> Result<bool, Memory>
-        requires can { MayCall self.old.who c (F.view self.old.floor.now) }
+        requires can { MayCallChannel c (seen F.view B.items self.old) }
         ensures same { SameCaller F.anchor self.old self.new }
-        ensures answer { CancelledChannelAnswer self.old.who c (F.view self.old.floor.now) (F.view self.new.floor.now)
-            (B.items self.old.book.now) (B.items self.new.book.now) result }
+        ensures answer { CancelledChannelAnswer c (seen F.view B.items self.old) (seen F.view B.items self.new) result }
     {
         match self.close(c, 0) {
             Ok(_closed) => match self.void_once(c) {
@@ -51,10 +49,9 @@ impl<F: ChannelFloor, B: NoteBook, W: Wakes> Caller<'_, '_, '_, F, B, W> {
 
     /// Closes the channel, unless it was closed before. Answers whether this call did.
     fn close_once(&mut self, c: ChannelId, v: Value) -> Result<bool, Memory>
-        requires can { MayCall self.old.who c (F.view self.old.floor.now) }
+        requires can { MayCallChannel c (seen F.view B.items self.old) }
         ensures same { SameCaller F.anchor self.old self.new }
-        ensures answer { ClosedOnceAnswer self.old.who c v (F.view self.old.floor.now) (F.view self.new.floor.now)
-            (B.items self.old.book.now) (B.items self.new.book.now) result }
+        ensures answer { ClosedOnceAnswer c v (seen F.view B.items self.old) (seen F.view B.items self.new) result }
     {
         if let Err(memory) = make_room(self.floor, self.book, 1) {
             return Err(memory);
@@ -75,11 +72,10 @@ impl<F: ChannelFloor, B: NoteBook, W: Wakes> Caller<'_, '_, '_, F, B, W> {
 
     /// Tells each receiver that stands at a channel which was seen closed, and wakes it.
     fn wake_all(&mut self, c: ChannelId) -> Result<(), Memory>
-        requires can { MayCall self.old.who c (F.view self.old.floor.now) }
+        requires can { MayCallChannel c (seen F.view B.items self.old) }
         requires closed { IsSeenClosed c (F.view self.old.floor.now) }
         ensures same { SameCaller F.anchor self.old self.new }
-        ensures answer { WokenAnswer self.old.who c (F.view self.old.floor.now) (F.view self.new.floor.now)
-            (B.items self.old.book.now) (B.items self.new.book.now) result }
+        ensures answer { WokenAnswer c (seen F.view B.items self.old) (seen F.view B.items self.new) result }
     {
         loop {
             if let Err(memory) = make_room(self.floor, self.book, 1) {
@@ -96,11 +92,10 @@ impl<F: ChannelFloor, B: NoteBook, W: Wakes> Caller<'_, '_, '_, F, B, W> {
 
     /// Voids a channel that was seen closed, unless it was voided before. Answers whether this call did.
     fn void_once(&mut self, c: ChannelId) -> Result<bool, Memory>
-        requires can { MayCall self.old.who c (F.view self.old.floor.now) }
+        requires can { MayCallChannel c (seen F.view B.items self.old) }
         requires closed { IsSeenClosed c (F.view self.old.floor.now) }
         ensures same { SameCaller F.anchor self.old self.new }
-        ensures answer { VoidedOnceAnswer self.old.who c (F.view self.old.floor.now) (F.view self.new.floor.now)
-            (B.items self.old.book.now) (B.items self.new.book.now) result }
+        ensures answer { VoidedOnceAnswer c (seen F.view B.items self.old) (seen F.view B.items self.new) result }
     {
         if let Err(memory) = make_room(self.floor, self.book, 1) {
             return Err(memory);
@@ -116,11 +111,10 @@ impl<F: ChannelFloor, B: NoteBook, W: Wakes> Caller<'_, '_, '_, F, B, W> {
 
     /// Removes each element of a channel that was seen voided, and wakes whoever waits with it.
     fn drain_all(&mut self, c: ChannelId) -> Result<(), Memory>
-        requires can { MayCall self.old.who c (F.view self.old.floor.now) }
+        requires can { MayCallChannel c (seen F.view B.items self.old) }
         requires voided { IsSeenVoided c (F.view self.old.floor.now) }
         ensures same { SameCaller F.anchor self.old self.new }
-        ensures answer { DrainedAnswer self.old.who c (F.view self.old.floor.now) (F.view self.new.floor.now)
-            (B.items self.old.book.now) (B.items self.new.book.now) result }
+        ensures answer { DrainedAnswer c (seen F.view B.items self.old) (seen F.view B.items self.new) result }
     {
         loop {
             if let Err(memory) = make_room(self.floor, self.book, 1) {

@@ -1,7 +1,7 @@
 //! To receive.
 
-ghost use Rattle.channel_model.specs.Floors.{MayCall};
-ghost use Rattle.channel_calls.specs.Calls.{SameCaller, ReceivedAnswer};
+ghost use Rattle.call_meaning.specs.Seen.{MayCallChannel};
+ghost use Rattle.channel_calls.specs.Calls.{SameCaller, seen, ReceivedAnswer};
 
 use crate::caller::{Caller, ReceiveAnswer};
 use crate::rooms::{make_room, wake_some};
@@ -15,10 +15,9 @@ impl<F: ChannelFloor, B: NoteBook, W: Wakes> Caller<'_, '_, '_, F, B, W> {
     /// Example: `cancelled_receive` in `docs/LIBRARY.md`.
     #[inline(always)]
     pub fn receive(&mut self, c: ChannelId) -> Result<ReceiveAnswer, Memory>
-        requires can { MayCall self.old.who c (F.view self.old.floor.now) }
+        requires can { MayCallChannel c (seen F.view B.items self.old) }
         ensures same { SameCaller F.anchor self.old self.new }
-        ensures answer { ReceivedAnswer self.old.who c (F.view self.old.floor.now) (F.view self.new.floor.now)
-            (B.items self.old.book.now) (B.items self.new.book.now) result }
+        ensures answer { ReceivedAnswer c (seen F.view B.items self.old) (seen F.view B.items self.new) result }
     {
         if let Err(memory) = make_room(self.floor, self.book, 1) {
             return Err(memory);

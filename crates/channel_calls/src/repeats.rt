@@ -1,8 +1,8 @@
 //! What follows an act, repeated until nothing is owed.
 
-ghost use Rattle.channel_model.specs.Floors.{MayCall};
+ghost use Rattle.call_meaning.specs.Seen.{MayCallChannel};
 ghost use Rattle.channel_model.specs.Answers.{HasPut};
-ghost use Rattle.channel_calls.specs.Calls.{SameCaller, AdmittedAnswer, AfterPutAnswer};
+ghost use Rattle.channel_calls.specs.Calls.{SameCaller, seen, AdmittedAnswer, AfterPutAnswer};
 ghost use Rattle.channel_calls.specs.Parts.{AdmittedBelowAnswer, DroppedAnswer, SpurnedAnswer};
 
 use crate::caller::Caller;
@@ -15,10 +15,9 @@ impl<F: ChannelFloor, B: NoteBook, W: Wakes> Caller<'_, '_, '_, F, B, W> {
     /// Admits each offer that came before this call and for which the channel has room, and wakes whoever waits with it.
     #[inline(always)]
     pub fn admit_all(&mut self, c: ChannelId) -> Result<(), Memory>
-        requires can { MayCall self.old.who c (F.view self.old.floor.now) }
+        requires can { MayCallChannel c (seen F.view B.items self.old) }
         ensures same { SameCaller F.anchor self.old self.new }
-        ensures answer { AdmittedAnswer self.old.who c (F.view self.old.floor.now) (F.view self.new.floor.now)
-            (B.items self.old.book.now) (B.items self.new.book.now) result }
+        ensures answer { AdmittedAnswer c (seen F.view B.items self.old) (seen F.view B.items self.new) result }
     {
         let mark = self.floor.mark(self.who, c);
         self.admit_below(c, mark)
@@ -27,10 +26,9 @@ impl<F: ChannelFloor, B: NoteBook, W: Wakes> Caller<'_, '_, '_, F, B, W> {
     /// Admits each offer below the mark for which the channel has room.
     #[inline(always)]
     fn admit_below(&mut self, c: ChannelId, mark: Place) -> Result<(), Memory>
-        requires can { MayCall self.old.who c (F.view self.old.floor.now) }
+        requires can { MayCallChannel c (seen F.view B.items self.old) }
         ensures same { SameCaller F.anchor self.old self.new }
-        ensures answer { AdmittedBelowAnswer self.old.who c mark (F.view self.old.floor.now) (F.view self.new.floor.now)
-            (B.items self.old.book.now) (B.items self.new.book.now) result }
+        ensures answer { AdmittedBelowAnswer c mark (seen F.view B.items self.old) (seen F.view B.items self.new) result }
     {
         loop {
             if let Err(memory) = make_room(self.floor, self.book, 1) {
@@ -49,11 +47,10 @@ impl<F: ChannelFloor, B: NoteBook, W: Wakes> Caller<'_, '_, '_, F, B, W> {
     /// one, if the channel does not keep its latest, and it is one too many.
     #[inline(always)]
     pub fn after_put(&mut self, c: ChannelId, place: Place) -> Result<(), Memory>
-        requires can { MayCall self.old.who c (F.view self.old.floor.now) }
+        requires can { MayCallChannel c (seen F.view B.items self.old) }
         requires own { HasPut self.old.who c place (F.view self.old.floor.now) }
         ensures same { SameCaller F.anchor self.old self.new }
-        ensures answer { AfterPutAnswer self.old.who c place (F.view self.old.floor.now) (F.view self.new.floor.now)
-            (B.items self.old.book.now) (B.items self.new.book.now) result }
+        ensures answer { AfterPutAnswer c place (seen F.view B.items self.old) (seen F.view B.items self.new) result }
     {
         match self.trim_all(c, place) {
             Ok(()) => self.spurn_own(c, place),
@@ -64,11 +61,10 @@ impl<F: ChannelFloor, B: NoteBook, W: Wakes> Caller<'_, '_, '_, F, B, W> {
     /// Removes the own element, at this place, if the channel does not keep its latest, and it is one too many.
     #[inline(always)]
     fn spurn_own(&mut self, c: ChannelId, place: Place) -> Result<(), Memory>
-        requires can { MayCall self.old.who c (F.view self.old.floor.now) }
+        requires can { MayCallChannel c (seen F.view B.items self.old) }
         requires own { HasPut self.old.who c place (F.view self.old.floor.now) }
         ensures same { SameCaller F.anchor self.old self.new }
-        ensures answer { SpurnedAnswer self.old.who c place (F.view self.old.floor.now) (F.view self.new.floor.now)
-            (B.items self.old.book.now) (B.items self.new.book.now) result }
+        ensures answer { SpurnedAnswer c place (seen F.view B.items self.old) (seen F.view B.items self.new) result }
     {
         if let Err(memory) = make_room(self.floor, self.book, 1) {
             return Err(memory);
@@ -86,11 +82,10 @@ impl<F: ChannelFloor, B: NoteBook, W: Wakes> Caller<'_, '_, '_, F, B, W> {
     /// Drops the oldest elements, as long as more stand up to the own one, at this place, than the channel keeps.
     #[inline(always)]
     fn trim_all(&mut self, c: ChannelId, place: Place) -> Result<(), Memory>
-        requires can { MayCall self.old.who c (F.view self.old.floor.now) }
+        requires can { MayCallChannel c (seen F.view B.items self.old) }
         requires own { HasPut self.old.who c place (F.view self.old.floor.now) }
         ensures same { SameCaller F.anchor self.old self.new }
-        ensures answer { DroppedAnswer self.old.who c place (F.view self.old.floor.now) (F.view self.new.floor.now)
-            (B.items self.old.book.now) (B.items self.new.book.now) result }
+        ensures answer { DroppedAnswer c place (seen F.view B.items self.old) (seen F.view B.items self.new) result }
     {
         loop {
             if let Err(memory) = make_room(self.floor, self.book, 1) {

@@ -1,11 +1,8 @@
 //! To send.
 
-ghost use Rattle.std.specs.Prelude.{◌≡◌, false};
-ghost use Rattle.channel_model.specs.Channels.{kind_at, is_signal};
-ghost use Rattle.channel_model.specs.Histories.{replay};
-ghost use Rattle.channel_model.specs.Floors.{MayCall};
+ghost use Rattle.call_meaning.specs.Seen.{MayCallChannel, state_in};
 ghost use Rattle.channel_model.specs.PlainOffers.{OffersPlainly};
-ghost use Rattle.channel_calls.specs.Calls.{SameCaller, SentAnswer};
+ghost use Rattle.channel_calls.specs.Calls.{SameCaller, seen, CarriesElements, SentAnswer};
 ghost use Rattle.channel_calls.specs.Parts.{HeldAnswer, OwnOfferAnswer};
 
 use crate::caller::{Caller, SendAnswer};
@@ -21,11 +18,10 @@ impl<F: ChannelFloor, B: NoteBook, W: Wakes> Caller<'_, '_, '_, F, B, W> {
     /// Example: `send_last` in `docs/LIBRARY.md`.
     #[inline(always)]
     pub fn send(&mut self, c: ChannelId, value: Value) -> Result<SendAnswer, Memory>
-        requires can { MayCall self.old.who c (F.view self.old.floor.now) }
-        requires kind { is_signal (kind_at (F.view self.old.floor.now).shape c) ≡ false }
+        requires can { MayCallChannel c (seen F.view B.items self.old) }
+        requires kind { CarriesElements c (seen F.view B.items self.old) }
         ensures same { SameCaller F.anchor self.old self.new }
-        ensures answer { SentAnswer self.old.who c value (F.view self.old.floor.now) (F.view self.new.floor.now)
-            (B.items self.old.book.now) (B.items self.new.book.now) result }
+        ensures answer { SentAnswer c value (seen F.view B.items self.old) (seen F.view B.items self.new) result }
     {
         if let Err(memory) = make_room(self.floor, self.book, 1) {
             return Err(memory);
@@ -73,11 +69,10 @@ impl<F: ChannelFloor, B: NoteBook, W: Wakes> Caller<'_, '_, '_, F, B, W> {
     /// resolved it.
     #[inline(always)]
     fn after_held(&mut self, w: WaitId) -> Result<SendAnswer, Memory>
-        requires can { MayCall self.old.who w.channel (F.view self.old.floor.now) }
-        requires plain { OffersPlainly self.old.who w (replay (F.view self.old.floor.now).seen) }
+        requires can { MayCallChannel w.channel (seen F.view B.items self.old) }
+        requires plain { OffersPlainly self.old.who w (state_in (seen F.view B.items self.old)) }
         ensures same { SameCaller F.anchor self.old self.new }
-        ensures answer { HeldAnswer self.old.who w (F.view self.old.floor.now) (F.view self.new.floor.now)
-            (B.items self.old.book.now) (B.items self.new.book.now) result }
+        ensures answer { HeldAnswer w (seen F.view B.items self.old) (seen F.view B.items self.new) result }
     {
         match self.admit_all(w.channel) {
             Ok(()) => self.settle_offer(w),
@@ -88,11 +83,10 @@ impl<F: ChannelFloor, B: NoteBook, W: Wakes> Caller<'_, '_, '_, F, B, W> {
     /// Settles the own plain offer, if it was received, kept or removed by now.
     #[inline(always)]
     fn settle_offer(&mut self, w: WaitId) -> Result<SendAnswer, Memory>
-        requires can { MayCall self.old.who w.channel (F.view self.old.floor.now) }
-        requires plain { OffersPlainly self.old.who w (replay (F.view self.old.floor.now).seen) }
+        requires can { MayCallChannel w.channel (seen F.view B.items self.old) }
+        requires plain { OffersPlainly self.old.who w (state_in (seen F.view B.items self.old)) }
         ensures same { SameCaller F.anchor self.old self.new }
-        ensures answer { OwnOfferAnswer self.old.who w (F.view self.old.floor.now) (F.view self.new.floor.now)
-            (B.items self.old.book.now) (B.items self.new.book.now) result }
+        ensures answer { OwnOfferAnswer w (seen F.view B.items self.old) (seen F.view B.items self.new) result }
     {
         if let Err(memory) = make_room(self.floor, self.book, 2) {
             return Err(memory);

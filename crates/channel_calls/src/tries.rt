@@ -1,10 +1,18 @@
 //! To send and to receive without waiting.
 
-ghost use Rattle.std.specs.Prelude.{◌≡◌, false};
-ghost use Rattle.channel_model.specs.Channels.{kind_at, is_signal};
-ghost use Rattle.channel_model.specs.Floors.{MayCall};
+ghost use Rattle.std.specs.Prelude.{◌≡◌};
+ghost use Rattle.call_meaning.specs.Seen.{MayCallChannel};
 ghost use Rattle.call_meaning.specs.ChannelCalls.{sends, receives};
-ghost use Rattle.channel_calls.specs.Calls.{SameCaller, closed_note, SendTriedAs, TrySentAnswer, ReceiveTriedAs, TryReceivedAnswer};
+ghost use Rattle.channel_calls.specs.Calls.{
+  SameCaller,
+  seen,
+  CarriesElements,
+  closed_note,
+  SendTriedAs,
+  TrySentAnswer,
+  ReceiveTriedAs,
+  TryReceivedAnswer,
+};
 
 use crate::caller::{Caller, TriedAs, TryReceiveAnswer, TrySendAnswer};
 use crate::rooms::{make_room, wake_some};
@@ -37,11 +45,10 @@ impl TriedAs {
 impl<F: ChannelFloor, B: NoteBook, W: Wakes> Caller<'_, '_, '_, F, B, W> {
     /// Hands an element to the receiver that stands first, or leaves it if the channel keeps it.
     pub fn try_send(&mut self, c: ChannelId, value: Value) -> Result<TrySendAnswer, Memory>
-        requires can { MayCall self.old.who c (F.view self.old.floor.now) }
-        requires kind { is_signal (kind_at (F.view self.old.floor.now).shape c) ≡ false }
+        requires can { MayCallChannel c (seen F.view B.items self.old) }
+        requires kind { CarriesElements c (seen F.view B.items self.old) }
         ensures same { SameCaller F.anchor self.old self.new }
-        ensures answer { TrySentAnswer self.old.who c value (F.view self.old.floor.now) (F.view self.new.floor.now)
-            (B.items self.old.book.now) (B.items self.new.book.now) result }
+        ensures answer { TrySentAnswer c value (seen F.view B.items self.old) (seen F.view B.items self.new) result }
     {
         self.try_send_as(TriedAs::Call, c, value)
     }
@@ -54,11 +61,10 @@ impl<F: ChannelFloor, B: NoteBook, W: Wakes> Caller<'_, '_, '_, F, B, W> {
         c: ChannelId,
         value: Value,
     ) -> Result<TrySendAnswer, Memory>
-        requires can { MayCall self.old.who c (F.view self.old.floor.now) }
-        requires kind { is_signal (kind_at (F.view self.old.floor.now).shape c) ≡ false }
+        requires can { MayCallChannel c (seen F.view B.items self.old) }
+        requires kind { CarriesElements c (seen F.view B.items self.old) }
         ensures same { SameCaller F.anchor self.old self.new }
-        ensures answer { SendTriedAs tried_as self.old.who c value (F.view self.old.floor.now) (F.view self.new.floor.now)
-            (B.items self.old.book.now) (B.items self.new.book.now) result }
+        ensures answer { SendTriedAs tried_as c value (seen F.view B.items self.old) (seen F.view B.items self.new) result }
     {
         if let Err(memory) = make_room(self.floor, self.book, 1) {
             return Err(memory);
@@ -99,10 +105,9 @@ impl<F: ChannelFloor, B: NoteBook, W: Wakes> Caller<'_, '_, '_, F, B, W> {
     ///
     /// Example: `receive_or` in `docs/LIBRARY.md`.
     pub fn try_receive(&mut self, c: ChannelId) -> Result<TryReceiveAnswer, Memory>
-        requires can { MayCall self.old.who c (F.view self.old.floor.now) }
+        requires can { MayCallChannel c (seen F.view B.items self.old) }
         ensures same { SameCaller F.anchor self.old self.new }
-        ensures answer { TryReceivedAnswer self.old.who c (F.view self.old.floor.now) (F.view self.new.floor.now)
-            (B.items self.old.book.now) (B.items self.new.book.now) result }
+        ensures answer { TryReceivedAnswer c (seen F.view B.items self.old) (seen F.view B.items self.new) result }
     {
         self.try_receive_as(TriedAs::Call, c)
     }
@@ -114,10 +119,9 @@ impl<F: ChannelFloor, B: NoteBook, W: Wakes> Caller<'_, '_, '_, F, B, W> {
         tried_as: TriedAs,
         c: ChannelId,
     ) -> Result<TryReceiveAnswer, Memory>
-        requires can { MayCall self.old.who c (F.view self.old.floor.now) }
+        requires can { MayCallChannel c (seen F.view B.items self.old) }
         ensures same { SameCaller F.anchor self.old self.new }
-        ensures answer { ReceiveTriedAs tried_as self.old.who c (F.view self.old.floor.now) (F.view self.new.floor.now)
-            (B.items self.old.book.now) (B.items self.new.book.now) result }
+        ensures answer { ReceiveTriedAs tried_as c (seen F.view B.items self.old) (seen F.view B.items self.new) result }
     {
         if let Err(memory) = make_room(self.floor, self.book, 1) {
             return Err(memory);

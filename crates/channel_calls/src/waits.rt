@@ -1,10 +1,10 @@
 //! To end a call that waits.
 
 ghost use Rattle.std.specs.Prelude.{◌≡◌, ◌<◌, ◌++◌};
-ghost use Rattle.channel_model.specs.Floors.{MayCall};
+ghost use Rattle.call_meaning.specs.Seen.{MayCallChannel};
 ghost use Rattle.channel_model.specs.Answers.{IsReady, SettleAnswer};
 ghost use Rattle.channel_calls.specs.Groups.{settle_group};
-ghost use Rattle.channel_calls.specs.Calls.{SameCaller, HoldsWait, DispatchedAnswer, CancelledAnswer};
+ghost use Rattle.channel_calls.specs.Calls.{SameCaller, seen, HoldsWait, DispatchedAnswer, CancelledAnswer};
 ghost use Rattle.channel_calls.specs.Parts.{EndedCancelledAnswer};
 
 use crate::caller::Caller;
@@ -17,7 +17,7 @@ impl<F: ChannelFloor, B: NoteBook, W: Wakes> Caller<'_, '_, '_, F, B, W> {
     /// Settles the caller's wait, which was seen resolved, and notes it. Takes no memory.
     #[inline(always)]
     pub(crate) fn settle(&mut self, w: WaitId, cancelled: bool) -> Settled
-        requires can { MayCall self.old.who w.channel (F.view self.old.floor.now) }
+        requires can { MayCallChannel w.channel (seen F.view B.items self.old) }
         requires ready { IsReady self.old.who w (F.view self.old.floor.now) }
         requires room { 0 < (F.view self.old.floor.now).spare }
         requires book { 0 < B.spare self.old.book.now }
@@ -35,12 +35,11 @@ impl<F: ChannelFloor, B: NoteBook, W: Wakes> Caller<'_, '_, '_, F, B, W> {
     /// Ends the caller's wait, which was seen resolved. `cancelled` says that its Job was cancelled before.
     #[inline(always)]
     pub fn dispatch(&mut self, w: WaitId, cancelled: bool) -> Result<Settled, Memory>
-        requires can { MayCall self.old.who w.channel (F.view self.old.floor.now) }
+        requires can { MayCallChannel w.channel (seen F.view B.items self.old) }
         requires ready { IsReady self.old.who w (F.view self.old.floor.now) }
         ensures same { SameCaller F.anchor self.old self.new }
         ensures quiet { self.new.wakes.now ≡ self.old.wakes.now }
-        ensures answer { DispatchedAnswer self.old.who w cancelled (F.view self.old.floor.now) (F.view self.new.floor.now)
-            (B.items self.old.book.now) (B.items self.new.book.now) result }
+        ensures answer { DispatchedAnswer w cancelled (seen F.view B.items self.old) (seen F.view B.items self.new) result }
     {
         if let Err(memory) = make_room(self.floor, self.book, 1) {
             return Err(memory);
@@ -53,11 +52,10 @@ impl<F: ChannelFloor, B: NoteBook, W: Wakes> Caller<'_, '_, '_, F, B, W> {
     ///
     /// Example: `cancelled_receive` in `docs/LIBRARY.md`.
     pub fn cancel_wait(&mut self, w: WaitId) -> Result<Settled, Memory>
-        requires can { MayCall self.old.who w.channel (F.view self.old.floor.now) }
-        requires holds { HoldsWait self.old.who w (F.view self.old.floor.now) }
+        requires can { MayCallChannel w.channel (seen F.view B.items self.old) }
+        requires holds { HoldsWait w (seen F.view B.items self.old) }
         ensures same { SameCaller F.anchor self.old self.new }
-        ensures answer { CancelledAnswer self.old.who w (F.view self.old.floor.now) (F.view self.new.floor.now)
-            (B.items self.old.book.now) (B.items self.new.book.now) result }
+        ensures answer { CancelledAnswer w (seen F.view B.items self.old) (seen F.view B.items self.new) result }
     {
         match self.end_cancelled(w) {
             Ok(outcome) => match self.admit_all(w.channel) {
@@ -70,11 +68,10 @@ impl<F: ChannelFloor, B: NoteBook, W: Wakes> Caller<'_, '_, '_, F, B, W> {
 
     /// Takes the caller's wait back, unless it was resolved before, and settles it as cancelled.
     fn end_cancelled(&mut self, w: WaitId) -> Result<Settled, Memory>
-        requires can { MayCall self.old.who w.channel (F.view self.old.floor.now) }
-        requires holds { HoldsWait self.old.who w (F.view self.old.floor.now) }
+        requires can { MayCallChannel w.channel (seen F.view B.items self.old) }
+        requires holds { HoldsWait w (seen F.view B.items self.old) }
         ensures same { SameCaller F.anchor self.old self.new }
-        ensures answer { EndedCancelledAnswer self.old.who w (F.view self.old.floor.now) (F.view self.new.floor.now)
-            (B.items self.old.book.now) (B.items self.new.book.now) result }
+        ensures answer { EndedCancelledAnswer w (seen F.view B.items self.old) (seen F.view B.items self.new) result }
     {
         if let Err(memory) = make_room(self.floor, self.book, 2) {
             return Err(memory);

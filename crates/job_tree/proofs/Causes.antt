@@ -41,7 +41,8 @@ failure_cancelled None h f = absurd f
 failure_cancelled (Some j) h f = sym h.caused ∙ failure_is_cause j.cause f
 
 -- a cause that is a failure stays one
-pub failure_later : (shape : Shape) (xs ys : List JobEntry) (r : ℕ) → Legal shape ys → IsPrefix xs ys → IsFailure (replay xs r) → IsFailure (replay ys r)
+pub failure_later : (shape : Shape) (xs ys : List JobEntry) (r : ℕ) → Legal shape ys → IsPrefix xs ys → IsFailure (replay xs r)
+    → IsFailure (replay ys r)
 failure_later shape xs ys r l p h =
     let lx = Legal-prefix shape xs p.0 (subst (Legal shape) (sym p.1) l) in
     (prefix_keeps HasFailed failed_lasts shape xs ys r l p (h, failure_cancelled (replay xs r) ((replay_families shape xs lx).rows r) h)).0
@@ -51,7 +52,8 @@ child_failed r None h = absurd h
 child_failed r (Some j) h = h.1
 
 -- the reason gives a failure
-gives_failure : (shape : Shape) (tree : Tree) (who r : ℕ) (reason : Reason) → Holds shape tree who r reason → is_for_failure reason ≡ true → is_failure (cause_of_reason tree reason) ≡ true
+gives_failure : (shape : Shape) (tree : Tree) (who r : ℕ) (reason : Reason) → Holds shape tree who r reason → is_for_failure reason ≡ true
+    → is_failure (cause_of_reason tree reason) ≡ true
 gives_failure shape tree who r reasons.Request h e = cc
 gives_failure shape tree who r reasons.Parent h e = cc
 gives_failure shape tree who r (reasons.Child c) h e = child_failed r (tree c) h.0
@@ -62,12 +64,15 @@ is_given cause None m e = absurd m
 is_given cause (Some j) m e = e
 
 -- after a Cancel for a failure the cause is a failure
-pub made_failure : (who r : ℕ) (reason : Reason) (a b c : Floor) → Legal b.shape b.seen → Legal c.shape c.seen → Made who (Cancel r reason) [] a b → IsPrefix b.seen c.seen → is_for_failure reason ≡ true → IsFailure (replay c.seen r)
+pub made_failure : (who r : ℕ) (reason : Reason) (a b c : Floor) → Legal b.shape b.seen → Legal c.shape c.seen
+    → Made who (Cancel r reason) [] a b → IsPrefix b.seen c.seen → is_for_failure reason ≡ true → IsFailure (replay c.seen r)
 made_failure who r reason a b c l lc m p e =
     let entry : JobEntry = record { who = who; act = Cancel r reason } in
     let parts = Legal-last b.shape m.before entry (subst (Legal b.shape) m.last l) in
     let tree : Tree = replay m.before in
     let given = is_given (cause_of_reason tree reason) (tree r) parts.1.0 (gives_failure b.shape tree who r reason parts.1.1 e) in
-    let now : IsFailure (after tree who (Cancel r reason) r) = subst IsFailure (sym (changed_here r (cancelled_for (cause_of_reason tree reason)) tree)) given in
-    let here : IsFailure (replay b.seen r) = subst (λ (t : Tree). IsFailure (t r)) (sym (ap replay m.last ∙ replay_push m.before entry)) now in
+    let now : IsFailure (after tree who (Cancel r reason) r) =
+    subst IsFailure (sym (changed_here r (cancelled_for (cause_of_reason tree reason)) tree)) given in
+    let here : IsFailure (replay b.seen r) = subst (λ (t : Tree). IsFailure (t r)) (sym (ap replay m.last ∙ replay_push m.before entry)) now
+    in
     failure_later c.shape b.seen c.seen r lc p here

@@ -22,7 +22,7 @@ use Rattle.job_model.proofs.Own.{prefix_keeps}
 use Rattle.job_model.proofs.Reasons.{reason_holds_on}
 use Rattle.job_model.proofs.Below.{cancelling_lasts}
 use Rattle.job_model.proofs.Short.{attached_within}
-use Rattle.note_book.specs.declared.book.Item.{Item}
+use Rattle.call_meaning.specs.Seen.{SeenOnJobs}
 use Rattle.job_tree.specs.Notes.{made_note, Noted}
 use Rattle.job_tree.specs.Rooms.{MayCancelAll}
 use Rattle.job_tree.specs.Passes.{IsNewestOf, HasNoneBelow}
@@ -31,12 +31,20 @@ use Rattle.job_tree.proofs.Rooms.{HasRoomNow, seen_room, marked, now_marked}
 pub in_rows : (who row : ℕ) (a : Floor) → IsShape a.shape → Legal a.shape a.seen → MayCall who row a → row < a.shape.rows
 in_rows who row a s l h = attached_within a.shape a.seen row s l h.attached
 
-pub may_later : (who row : ℕ) (a b : Floor) → SameSetting a b → IsPrefix a.seen b.seen → Legal b.shape b.seen → MayCall who row a → MayCall who row b
-may_later who row a b same p l h = record { caller = ap (λ (f : ℕ → Bool). f who) same.callers ∙ h.caller; attached = prefix_keeps _ attached_lasts b.shape a.seen b.seen row l p h.attached }
+pub may_later : (who row : ℕ) (a b : Floor) → SameSetting a b → IsPrefix a.seen b.seen → Legal b.shape b.seen → MayCall who row a
+    → MayCall who row b
+may_later who row a b same p l h = record {
+  caller = ap (λ (f : ℕ → Bool). f who) same.callers
+      ∙ h.caller;
+  attached = prefix_keeps _ attached_lasts b.shape a.seen b.seen row l p h.attached;
+}
 
-pub holds_later : (who row : ℕ) (reason : Reason) (a b : Floor) → SameSetting a b → IsPrefix a.seen b.seen → Legal b.shape b.seen → Holds a.shape (replay a.seen) who row reason → Holds b.shape (replay b.seen) who row reason
+pub holds_later : (who row : ℕ) (reason : Reason) (a b : Floor) → SameSetting a b → IsPrefix a.seen b.seen → Legal b.shape b.seen
+    → Holds a.shape (replay a.seen) who row reason → Holds b.shape (replay b.seen) who row reason
 holds_later who row reason a b same p l h =
-    subst (λ es. Holds b.shape (replay es) who row reason) p.1 (reason_holds_on b.shape a.seen p.0 who row reason (subst (Legal b.shape) (sym p.1) l) (subst (λ (s : Shape). Holds s (replay a.seen) who row reason) (sym same.shape) h))
+    subst (λ es. Holds b.shape (replay es) who row reason) p.1
+    (reason_holds_on b.shape a.seen p.0 who row reason (subst (Legal b.shape) (sym p.1) l)
+    (subst (λ (s : Shape). Holds s (replay a.seen) who row reason) (sym same.shape) h))
 
 -- a moment of the call has a legal history
 pub moment_legal : (a b : Floor) (P : Tree → Type 0) (m : AtStep a b P) → Legal b.shape b.seen → Legal b.shape m.moment
@@ -55,7 +63,15 @@ looked_then who a b c h k = record {
 }
 
 pub looked_self : (who : ℕ) (a : Floor) → Looked who [] a a
-looked_self who a = record { same = record { shape = refl; alone = refl; callers = refl }; longer = prefix_self a.seen; mine = refl; alone = λ e. refl; spare = omega arith; claims = claimed_none who a a (λ r. refl) }
+looked_self who a = record {
+  same = record { shape = refl; alone = refl; callers = refl };
+  longer = prefix_self a.seen;
+  mine = refl;
+  alone =
+      λ e. refl;
+  spare = omega arith;
+  claims = claimed_none who a a (λ r. refl);
+}
 
 -- room was made
 pub looked_made : (who n : ℕ) (a b : Floor) → HasRoom n a b → Looked who [] a b
@@ -81,7 +97,8 @@ no_view (Some j) P a e = cc
 pub never_none : (who row : ℕ) (a b : Floor) (P : Type 0) → Legal b.shape b.seen → MayCall who row a → LookAnswer who row a b None → P
 never_none who row a b P l h k =
     let m = k.1 in
-    no_view (replay m.moment row) P (prefix_keeps _ attached_lasts b.shape a.seen m.moment row (moment_legal a b _ m l) m.after h.attached) m.holds
+    no_view (replay m.moment row) P (prefix_keeps _ attached_lasts b.shape a.seen m.moment row (moment_legal a b _ m l) m.after h.attached)
+    m.holds
 
 view_state : (x : Option Job) (v : JobView) → option_map view_of x ≡ Some v → is_cancellable v.state ≡ false → IsCancellingOrEnded x
 view_state None v e h = cc
@@ -92,56 +109,77 @@ view_live None v e h = cc
 view_live (Some j) v e h = let k : view_of j ≡ v = cc in ap (λ (u : JobView). is_cancellable u.state) k ∙ h
 
 -- a Job that was seen Cancelling or ended is so
-pub seen_cancelled : (who row : ℕ) (v : JobView) (a b : Floor) → Legal b.shape b.seen → LookAnswer who row a b (Some v) → is_cancellable v.state ≡ false → IsCancellingOrEnded (replay b.seen row)
+pub seen_cancelled : (who row : ℕ) (v : JobView) (a b : Floor) → Legal b.shape b.seen → LookAnswer who row a b (Some v)
+    → is_cancellable v.state ≡ false → IsCancellingOrEnded (replay b.seen row)
 seen_cancelled who row v a b l k h =
     let m = k.1 in
     prefix_keeps _ cancelling_lasts b.shape m.moment b.seen row l m.before (view_state (replay m.moment row) v m.holds h)
 
 -- for a Job that was seen neither Cancelling nor ended there is room
-pub room_seen : (who row : ℕ) (v : JobView) (a b : Floor) (spare : ℕ) → IsShape a.shape → Legal a.shape a.seen → Legal b.shape b.seen → MayCall who row a → LookAnswer who row a b (Some v) → is_cancellable v.state ≡ true → MayCancelAll a spare → HasRoomNow b spare
+pub room_seen : (who row : ℕ) (v : JobView) (a b : Floor) (spare : ℕ) → IsShape a.shape → Legal a.shape a.seen → Legal b.shape b.seen
+    → MayCall who row a → LookAnswer who row a b (Some v) → is_cancellable v.state ≡ true → MayCancelAll a spare → HasRoomNow b spare
 room_seen who row v a b spare s l l' h k e room =
     let m = k.1 in
-    seen_room row a b m.moment spare s (subst (λ (x : Shape). Legal x m.moment) k.0.same.shape (moment_legal a b _ m l')) (in_rows who row a s l h) m.after (view_live (replay m.moment row) v m.holds e) k.0.spare room
+    seen_room row a b m.moment spare s (subst (λ (x : Shape). Legal x m.moment) k.0.same.shape (moment_legal a b _ m l'))
+    (in_rows who row a s l h) m.after (view_live (replay m.moment row) v m.holds e) k.0.spare room
 
 -- ---- a Cancel
 
-pub step_cancelled : (row : ℕ) (a b : Floor) → Legal b.shape b.seen → AtStep a b (λ tree. IsCancellingOrEnded (tree row)) → IsCancellingOrEnded (replay b.seen row)
+pub step_cancelled : (row : ℕ) (a b : Floor) → Legal b.shape b.seen → AtStep a b (λ tree. IsCancellingOrEnded (tree row))
+    → IsCancellingOrEnded (replay b.seen row)
 step_cancelled row a b l m = prefix_keeps _ cancelling_lasts b.shape m.moment b.seen row l m.before m.holds
 
-pub made_cancelled : (who row : ℕ) (reason : Reason) (a b c : Floor) → Legal c.shape c.seen → Made who (Cancel row reason) [] a b → IsPrefix b.seen c.seen → IsCancellingOrEnded (replay c.seen row)
+pub made_cancelled : (who row : ℕ) (reason : Reason) (a b c : Floor) → Legal c.shape c.seen → Made who (Cancel row reason) [] a b
+    → IsPrefix b.seen c.seen → IsCancellingOrEnded (replay c.seen row)
 made_cancelled who row reason a b c l m p =
     let lb = Legal-prefix c.shape b.seen p.0 (subst (Legal c.shape) (sym p.1) l) in
-    prefix_keeps _ cancelling_lasts c.shape b.seen c.seen row l p (marked c.shape b.seen row lb (ap (has cancels row) m.last ∙ now_marked row m.before who reason))
+    prefix_keeps _ cancelling_lasts c.shape b.seen c.seen row l p
+    (marked c.shape b.seen row lb (ap (has cancels row) m.last ∙ now_marked row m.before who reason))
 
 -- a look, an act that was noted, and a look
-pub noted_one : (who : ℕ) (act : JobAct) (a b c d : Floor) (items items' : List Item) → Looked who [] a b → Made who act [] b c → Looked who [] c d → items' ≡ items ++ made_note act ∷ [] → Noted who (act ∷ []) a d items items'
-noted_one who act a b c d items items' h m k e = record {
-  appended = e;
-  added = added_then who [] (act ∷ []) [] [] a b d (added_looked who [] a b h) (added_then who (act ∷ []) [] [] [] b c d (added_made who act [] b c m) (added_looked who [] c d k));
-}
+pub noted_one : {act : JobAct} {a d : SeenOnJobs} {b c : Floor} → Looked a.who [] a.floor b → Made a.who act [] b c
+    → Looked a.who [] c d.floor
+    → d.who ≡ a.who → d.items ≡ a.items ++ made_note act ∷ [] → Noted (act ∷ []) a d
+noted_one {act} {a} {d} {b} {c} h m k w e =
+    let who : ℕ = a.who in
+    let later = added_then who (act ∷ []) [] [] [] b c d.floor (added_made who act [] b c m) (added_looked who [] c d.floor k) in
+    record {
+      who = w;
+      appended = e;
+      added = added_then who [] (act ∷ []) [] [] a.floor b d.floor (added_looked who [] a.floor b h) later;
+    }
 
 -- ---- steps of a walk
 
-newest_seen : (x : Option Job) (v : JobView) (c : ℕ) → option_map view_of x ≡ Some v → v.first_child ≡ Some c → is_ended v.state ≡ false → IsNewestOf c x
+newest_seen : (x : Option Job) (v : JobView) (c : ℕ) → option_map view_of x ≡ Some v → v.first_child ≡ Some c → is_ended v.state ≡ false
+    → IsNewestOf c x
 newest_seen None v c e f h = cc
-newest_seen (Some j) v c e f h = let k : view_of j ≡ v = cc in (ap (λ (u : JobView). is_ended u.state) k ∙ h, ap (λ (u : JobView). u.first_child) k ∙ f)
+newest_seen (Some j) v c e f h = let k : view_of j ≡ v = cc
+    in (ap (λ (u : JobView). is_ended u.state) k ∙ h, ap (λ (u : JobView). u.first_child) k ∙ f)
 
-pub walk_step_down : (who row c : ℕ) (v : JobView) (a b : Floor) → LookAnswer who row a b (Some v) → v.first_child ≡ Some c → is_ended v.state ≡ false → AtStep a b (λ tree. IsNewestOf c (tree row))
-walk_step_down who row c v a b k f h = let m = k.1 in record { moment = m.moment; after = m.after; before = m.before; holds = newest_seen (replay m.moment row) v c m.holds f h }
+pub walk_step_down : (who row c : ℕ) (v : JobView) (a b : Floor) → LookAnswer who row a b (Some v) → v.first_child ≡ Some c
+    → is_ended v.state ≡ false → AtStep a b (λ tree. IsNewestOf c (tree row))
+walk_step_down who row c v a b k f h = let m = k.1 in record
+    { moment = m.moment; after = m.after; before = m.before; holds = newest_seen (replay m.moment row) v c m.holds f h }
 
 no_children : (cs : List ℕ) → newest cs ≡ None → cs ≡ []
 no_children [] e = refl
 no_children (c ∷ cs) e = cc
 
-none_seen : (x : Option Job) (v : JobView) → option_map view_of x ≡ Some v → (is_ended v.state ≡ false → v.first_child ≡ None) → HasNoneBelow x
+none_seen : (x : Option Job) (v : JobView) → option_map view_of x ≡ Some v → (is_ended v.state ≡ false → v.first_child ≡ None)
+    → HasNoneBelow x
 none_seen None v e f = cc
-none_seen (Some j) v e f = let k : view_of j ≡ v = cc in λ h. no_children j.children (ap (λ (u : JobView). u.first_child) k ∙ f (ap (λ (u : JobView). is_ended u.state) (sym k) ∙ h))
+none_seen (Some j) v e f = let k : view_of j ≡ v = cc in
+    λ h. no_children j.children (ap (λ (u : JobView). u.first_child) k ∙ f (ap (λ (u : JobView). is_ended u.state) (sym k) ∙ h))
 
-pub walk_step_over : (who row : ℕ) (v : JobView) (a b : Floor) → LookAnswer who row a b (Some v) → (is_ended v.state ≡ false → v.first_child ≡ None) → AtStep a b (λ tree. HasNoneBelow (tree row))
-walk_step_over who row v a b k f = let m = k.1 in record { moment = m.moment; after = m.after; before = m.before; holds = none_seen (replay m.moment row) v m.holds f }
+pub walk_step_over : (who row : ℕ) (v : JobView) (a b : Floor) → LookAnswer who row a b (Some v)
+    → (is_ended v.state ≡ false → v.first_child ≡ None) → AtStep a b (λ tree. HasNoneBelow (tree row))
+walk_step_over who row v a b k f = let m = k.1 in record
+    { moment = m.moment; after = m.after; before = m.before; holds = none_seen (replay m.moment row) v m.holds f }
 
 -- what a link says
-pub link_is : (tree : Tree) (r : ℕ) (x : Option Job) (l : Link) → link_of tree r x ≡ Some l → (parent_of x ≡ Some l.parent) × (older_sibling tree r ≡ l.next)
+pub link_is : (tree : Tree) (r : ℕ) (x : Option Job) (l : Link) → link_of tree r x ≡ Some l → (parent_of x ≡ Some l.parent)
+    × (older_sibling tree r ≡ l.next)
 link_is tree r None l e = cc
 link_is tree r (Some j) l e = by_parent j.parent e
   where
@@ -151,8 +189,12 @@ link_is tree r (Some j) l e = by_parent j.parent e
         let k : record { parent = p; next = older_sibling tree r; tag = j.tag } ≡ l = cc in
         (ap (λ (u : Link). Some u.parent) k, ap (λ (u : Link). u.next) k)
 
-pub walk_step_next : (who row c : ℕ) (l : Link) (a b : Floor) → LinkAnswer who row a b l → l.next ≡ Some c → AtStep a b (λ tree. older_sibling tree row ≡ Some c)
-walk_step_next who row c l a b k e = let m = k.1 in record { moment = m.moment; after = m.after; before = m.before; holds = (link_is (replay m.moment) row (replay m.moment row) l m.holds).1 ∙ e }
+pub walk_step_next : (who row c : ℕ) (l : Link) (a b : Floor) → LinkAnswer who row a b l → l.next ≡ Some c
+    → AtStep a b (λ tree. older_sibling tree row ≡ Some c)
+walk_step_next who row c l a b k e = let m = k.1 in record
+    { moment = m.moment; after = m.after; before = m.before; holds = (link_is (replay m.moment) row (replay m.moment row) l m.holds).1 ∙ e }
 
-pub walk_step_up : (who row : ℕ) (l : Link) (a b : Floor) → LinkAnswer who row a b l → l.next ≡ None → AtStep a b (λ tree. (parent_of (tree row) ≡ Some l.parent) × (older_sibling tree row ≡ None))
-walk_step_up who row l a b k e = let m = k.1 in let i = link_is (replay m.moment) row (replay m.moment row) l m.holds in record { moment = m.moment; after = m.after; before = m.before; holds = (i.0, i.1 ∙ e) }
+pub walk_step_up : (who row : ℕ) (l : Link) (a b : Floor) → LinkAnswer who row a b l → l.next ≡ None
+    → AtStep a b (λ tree. (parent_of (tree row) ≡ Some l.parent) × (older_sibling tree row ≡ None))
+walk_step_up who row l a b k e = let m = k.1 in let i = link_is (replay m.moment) row (replay m.moment row) l m.holds
+    in record { moment = m.moment; after = m.after; before = m.before; holds = (i.0, i.1 ∙ e) }

@@ -6,35 +6,41 @@ use Rattle.job_model.specs.declared.acts.JobAct.{JobAct}
 use Rattle.job_model.specs.declared.acts.JobAct.TheVariants.{Attach, Start, EndBody, Cancel, Finish, Gone}
 use Rattle.job_model.specs.declared.acts.Reason.{Reason}
 use Rattle.job_model.specs.Trees.{Tree}
-use Rattle.job_model.specs.Histories.{replay}
 use Rattle.job_model.specs.Cancels.{own_cancel, AreCancelsBelow, IsAllCancelled}
-use Rattle.job_model.specs.Floors.{Floor, Added}
+use Rattle.job_model.specs.Floors.{Added}
 use Rattle.job_model.proofs.Spans.{nothing_more}
 use Rattle.note_book.specs.declared.book.Item.{Item}
 use Rattle.note_book.specs.Items.{job_acts_in}
 use Rattle.call_meaning.specs.Telling.{Told, on_jobs, PassedBelow, items_in, did}
+use Rattle.call_meaning.specs.Seen.{SeenOnJobs, tree_in}
 use Rattle.call_meaning.specs.Calls.{ToldOnJobs}
 use Rattle.call_meaning.proofs.JobTellings.{items_in-append, items_did, acts_did, told_dids, told_so}
 use Rattle.job_tree.specs.Notes.{made_note, Noted}
 use Rattle.job_tree.specs.Passes.{IsPass, is_cancel}
 
 -- acts that were noted are told
-pub told_noted : (who : ℕ) (acts : List JobAct) (a b : Floor) (i j : List Item) → Noted who acts a b i j → ToldOnJobs who [] a b i j (map did acts)
-told_noted who acts a b i j h = told_dids who acts [] a b i j h.appended h.added
+pub told_noted : {acts : List JobAct} {a b : SeenOnJobs} → Noted acts a b → ToldOnJobs [] a b (map did acts)
+told_noted {acts} h = told_dids acts h.who h.appended h.added
 
 -- and acts that are told were noted
-pub noted_told : (who : ℕ) (acts : List JobAct) (a b : Floor) (i j : List Item) → ToldOnJobs who [] a b i j (map did acts) → Noted who acts a b i j
-noted_told who acts a b i j h = record { appended = h.appended ∙ ap (λ (l : List Item). i ++ l) (items_did acts); added = subst (λ (l : List JobAct). Added who l [] a b) (acts_did acts) h.added }
+pub noted_told : {acts : List JobAct} {a b : SeenOnJobs} → ToldOnJobs [] a b (map did acts) → Noted acts a b
+noted_told {acts} {a} {b} h = record {
+  who = h.who;
+  appended = h.appended ∙ ap (λ (l : List Item). a.items ++ l) (items_did acts);
+  added = subst (λ (l : List JobAct). Added a.who l [] a.floor b.floor) (acts_did acts) h.added;
+}
 
 abbrev pub pass_told : ℕ → Reason → Bool → List JobAct → List Told
 pass_told row reason newly below = map did (own_cancel newly row reason ++ below) ++ on_jobs (PassedBelow row below) ∷ []
 
-pub pass_tells : (who row : ℕ) (reason : Reason) (newly : Bool) (below : List JobAct) (a b : Floor) (i j : List Item) → Noted who (own_cancel newly row reason ++ below) a b i j → AreCancelsBelow (replay b.seen) row below → IsAllCancelled (replay b.seen) row → ToldOnJobs who [] a b i j (pass_told row reason newly below)
-pass_tells who row reason newly below a b i j h c all =
-    told_so who [] a b i j (map did (own_cancel newly row reason ++ below)) (PassedBelow row below) (told_noted who (own_cancel newly row reason ++ below) a b i j h) (c, all)
+pub pass_tells : (row : ℕ) (reason : Reason) (newly : Bool) (below : List JobAct) {a b : SeenOnJobs}
+    → Noted (own_cancel newly row reason ++ below) a b → AreCancelsBelow (tree_in b) row below → IsAllCancelled (tree_in b) row
+    → ToldOnJobs [] a b (pass_told row reason newly below)
+pass_tells row reason newly below h c all = told_so (PassedBelow row below) (told_noted h) (c, all)
 
 -- the notes of a pass
-pub pass_items : (row : ℕ) (reason : Reason) (newly : Bool) (below : List JobAct) → items_in (pass_told row reason newly below) ≡ map made_note (own_cancel newly row reason ++ below)
+pub pass_items : (row : ℕ) (reason : Reason) (newly : Bool) (below : List JobAct)
+    → items_in (pass_told row reason newly below) ≡ map made_note (own_cancel newly row reason ++ below)
 unfolding items_in
 pass_items row reason newly below =
     let acts = own_cancel newly row reason ++ below in
@@ -44,7 +50,8 @@ notes_length : (acts : List JobAct) → length (map made_note acts) ≡ length a
 notes_length [] = refl
 notes_length (x ∷ xs) = ap suc (notes_length xs)
 
-pub pass_count : (row : ℕ) (reason : Reason) (newly : Bool) (below : List JobAct) → length (items_in (pass_told row reason newly below)) ≡ length (own_cancel newly row reason ++ below)
+pub pass_count : (row : ℕ) (reason : Reason) (newly : Bool) (below : List JobAct)
+    → length (items_in (pass_told row reason newly below)) ≡ length (own_cancel newly row reason ++ below)
 pass_count row reason newly below = ap length (pass_items row reason newly below) ∙ notes_length (own_cancel newly row reason ++ below)
 
 made_acts : (acts : List JobAct) → job_acts_in (map made_note acts) ≡ acts
@@ -52,15 +59,21 @@ made_acts [] = refl
 made_acts (x ∷ xs) = ap (λ (l : List JobAct). x ∷ l) (made_acts xs)
 
 -- the acts of a pass
-pub pass_acts : (who row : ℕ) (reason : Reason) (newly : Bool) (a b : Floor) (i j : List Item) (count : ℕ) → (h : IsPass who row reason newly a b i j count) → job_acts_in (items_in h.told) ≡ own_cancel newly row reason ++ h.group.below
-pass_acts who row reason newly a b i j count h = ap (λ (l : List Told). job_acts_in (items_in l)) h.group.all ∙ ap job_acts_in (pass_items row reason newly h.group.below) ∙ made_acts (own_cancel newly row reason ++ h.group.below)
+pub pass_acts : {row : ℕ} {reason : Reason} {newly : Bool} {a b : SeenOnJobs} {count : ℕ} → (h : IsPass row reason newly a b count)
+    → job_acts_in (items_in h.told) ≡ own_cancel newly row reason ++ h.group.below
+pass_acts {row} {reason} {newly} h =
+    ap (λ (l : List Told). job_acts_in (items_in l)) h.group.all ∙ ap job_acts_in (pass_items row reason newly h.group.below)
+    ∙ made_acts (own_cancel newly row reason ++ h.group.below)
 
-pub pass_noted : (who row : ℕ) (reason : Reason) (newly : Bool) (a b : Floor) (i j : List Item) (count : ℕ) → (h : IsPass who row reason newly a b i j count) → Noted who (own_cancel newly row reason ++ h.group.below) a b i j
-pass_noted who row reason newly a b i j count h =
-    let items : items_in h.told ≡ map made_note (own_cancel newly row reason ++ h.group.below) = ap items_in h.group.all ∙ pass_items row reason newly h.group.below in
+pub pass_noted : {row : ℕ} {reason : Reason} {newly : Bool} {a b : SeenOnJobs} {count : ℕ} → (h : IsPass row reason newly a b count)
+    → Noted (own_cancel newly row reason ++ h.group.below) a b
+pass_noted {row} {reason} {newly} {a} {b} h =
+    let acts = own_cancel newly row reason ++ h.group.below in
+    let items : items_in h.told ≡ map made_note acts = ap items_in h.group.all ∙ pass_items row reason newly h.group.below in
     record {
-      appended = h.noted.appended ∙ ap (λ (l : List Item). i ++ l) items;
-      added = subst (λ (l : List JobAct). Added who l [] a b) (ap job_acts_in items ∙ made_acts (own_cancel newly row reason ++ h.group.below)) h.noted.added;
+      who = h.noted.who;
+      appended = h.noted.appended ∙ ap (λ (l : List Item). a.items ++ l) items;
+      added = subst (λ (l : List JobAct). Added a.who l [] a.floor b.floor) (ap job_acts_in items ∙ made_acts acts) h.noted.added;
     }
 
 -- ---- all of them are Cancels
@@ -69,7 +82,8 @@ pub all_append : (xs ys : List JobAct) → list_all is_cancel xs ≡ true → li
 all_append [] ys e f = f
 all_append (x ∷ xs) ys e f = by_test (is_cancel x) refl e (λ k. all_append xs ys k f)
   where
-    by_test : (b : Bool) → is_cancel x ≡ b → (b && list_all is_cancel xs) ≡ true → (list_all is_cancel xs ≡ true → list_all is_cancel (xs ++ ys) ≡ true) → (is_cancel x && list_all is_cancel (xs ++ ys)) ≡ true
+    by_test : (b : Bool) → is_cancel x ≡ b → (b && list_all is_cancel xs) ≡ true
+        → (list_all is_cancel xs ≡ true → list_all is_cancel (xs ++ ys) ≡ true) → (is_cancel x && list_all is_cancel (xs ++ ys)) ≡ true
     by_test true k h rest = ap (λ b. b && list_all is_cancel (xs ++ ys)) k ∙ rest h
     by_test false k h rest = cc
 

@@ -36,7 +36,8 @@ count_le (suc n) t s h = both (t n) (s n) (h n) (count_below n t) (count_below n
     both false true k x y le = omega arith
     both false false k x y le = omega arith
 
-pub count_less : (n : ℕ) (t s : ℕ → Bool) (q : ℕ) → q < n → t q ≡ false → s q ≡ true → ((r : ℕ) → t r ≡ true → s r ≡ true) → count_below n t + 1 ≤ count_below n s
+pub count_less : (n : ℕ) (t s : ℕ → Bool) (q : ℕ) → q < n → t q ≡ false → s q ≡ true → ((r : ℕ) → t r ≡ true → s r ≡ true)
+    → count_below n t + 1 ≤ count_below n s
 count_less zero t s q l a b h = omega arith
 count_less (suc n) t s q l a b h = by_test (q == n) refl (λ k. count_less n t s q k a b h)
   where
@@ -52,7 +53,8 @@ count_less (suc n) t s q l a b h = by_test (q == n) refl (λ k. count_less n t s
     below : (q n : ℕ) → q < suc n → (q == n) ≡ false → q < n
     below q n l e = grind (arith, nat_tests)
 
-    by_test : (b' : Bool) → (q == n) ≡ b' → (q < n → count_below n t + 1 ≤ count_below n s) → (if t n then 1 else 0) + count_below n t + 1 ≤ (if s n then 1 else 0) + count_below n s
+    by_test : (b' : Bool) → (q == n) ≡ b' → (q < n → count_below n t + 1 ≤ count_below n s)
+        → (if t n then 1 else 0) + count_below n t + 1 ≤ (if s n then 1 else 0) + count_below n s
     by_test true k rest =
         let is : q ≡ n = eqb-true q n k in
         let a' : t n ≡ false = subst (λ z. t z ≡ false) is a in
@@ -66,7 +68,8 @@ count_some n t q l e =
 
 -- ---- a Cancel leaves its mark
 
-cancelled_by : (shape : Shape) (tree : Tree) (who q : ℕ) (act : JobAct) (x y : Option Job) → RowStep shape tree who q act x y → cancels q act ≡ true → IsCancellingOrEnded y
+cancelled_by : (shape : Shape) (tree : Tree) (who q : ℕ) (act : JobAct) (x y : Option Job) → RowStep shape tree who q act x y
+    → cancels q act ≡ true → IsCancellingOrEnded y
 cancelled_by shape tree who q _ _ _ (RowStep.is_attached p kind tag cancelled m i) e = cc
 cancelled_by shape tree who q _ _ _ (RowStep.has_child r kind tag cancelled j none m) e = cc
 cancelled_by shape tree who q _ _ _ (RowStep.is_started j n) e = cc
@@ -76,13 +79,17 @@ cancelled_by shape tree who q _ _ _ (RowStep.ends end j m) e = cc
 cancelled_by shape tree who q _ _ _ (RowStep.is_told d j m o) e = cc
 cancelled_by shape tree who q _ _ _ (RowStep.stays act x a b d f g) e = absurd (let u : false ≡ true = sym f ∙ e in cc)
 
-marked_from : (shape : Shape) (tree : Tree) (es : List JobEntry) (r : ℕ) → LegalFrom shape tree es → has cancels r es ≡ true → IsCancellingOrEnded (replay_from tree es r)
+marked_from : (shape : Shape) (tree : Tree) (es : List JobEntry) (r : ℕ) → LegalFrom shape tree es → has cancels r es ≡ true
+    → IsCancellingOrEnded (replay_from tree es r)
 unfolding LegalFrom replay_from
 marked_from shape tree [] r l h = cc
 marked_from shape tree (e ∷ es) r l h = by_test (cancels r e.act) refl h (marked_from shape (after tree e.who e.act) es r l.1)
   where
-    by_test : (b : Bool) → cancels r e.act ≡ b → (b || has cancels r es) ≡ true → (has cancels r es ≡ true → IsCancellingOrEnded (replay_from (after tree e.who e.act) es r)) → IsCancellingOrEnded (replay_from (after tree e.who e.act) es r)
-    by_test true k h rest = history_keeps IsCancellingOrEnded cancelling_lasts shape (after tree e.who e.act) es r l.1 (cancelled_by shape tree e.who r e.act _ _ (row_step shape tree e.who e.act r l.0) k)
+    by_test : (b : Bool) → cancels r e.act ≡ b → (b || has cancels r es) ≡ true
+        → (has cancels r es ≡ true → IsCancellingOrEnded (replay_from (after tree e.who e.act) es r))
+        → IsCancellingOrEnded (replay_from (after tree e.who e.act) es r)
+    by_test true k h rest = history_keeps IsCancellingOrEnded cancelling_lasts shape (after tree e.who e.act) es r l.1
+        (cancelled_by shape tree e.who r e.act _ _ (row_step shape tree e.who e.act r l.0) k)
     by_test false k h rest = rest h
 
 not_cancellable : (x : Option Job) → MayBeCancelled x → IsCancellingOrEnded x → ⊥
@@ -118,7 +125,8 @@ not_true false e = refl
 still_none : (r : ℕ) (xs ys : List JobEntry) → IsPrefix xs ys → not (has cancels r ys) ≡ true → not (has cancels r xs) ≡ true
 still_none r xs ys p h = ap not (had_none r xs ys p (not_true (has cancels r ys) h))
 
-uncancelled_le : (n : ℕ) (xs ys : List JobEntry) → IsPrefix xs ys → count_below n (λ r. not (has cancels r ys)) ≤ count_below n (λ r. not (has cancels r xs))
+uncancelled_le : (n : ℕ) (xs ys : List JobEntry) → IsPrefix xs ys
+    → count_below n (λ r. not (has cancels r ys)) ≤ count_below n (λ r. not (has cancels r xs))
 uncancelled_le n xs ys p = count_le n _ _ (λ r h. still_none r xs ys p h)
 
 -- ---- calls
@@ -126,7 +134,8 @@ uncancelled_le n xs ys p = count_le n _ _ (λ r h. still_none r xs ys p h)
 same_rows : (a b : Floor) → b.shape ≡ a.shape → uncancelled b ≡ count_below a.shape.rows (λ r. not (has cancels r b.seen))
 same_rows a b e = ap (λ (s : Shape). count_below s.rows (λ r. not (has cancels r b.seen))) e
 
-pub looked_room : (who : ℕ) (rows : List ℕ) (a b : Floor) (spare spare' : ℕ) → Looked who rows a b → spare' ≡ spare → MayCancelAll a spare → MayCancelAll b spare'
+pub looked_room : (who : ℕ) (rows : List ℕ) (a b : Floor) (spare spare' : ℕ) → Looked who rows a b → spare' ≡ spare → MayCancelAll a spare
+    → MayCancelAll b spare'
 looked_room who rows a b spare spare' h e m =
     let k = uncancelled_le a.shape.rows a.seen b.seen h.longer in
     let same = same_rows a b h.same.shape in
@@ -140,7 +149,8 @@ pub record HasRoomNow (floor : Floor) (spare : ℕ) : Type 0 where
   pub floor_room : 0 < floor.spare
   pub book_room : 0 < spare
 
-pub seen_room : (row : ℕ) (a b : Floor) (moment : List JobEntry) (spare : ℕ) → IsShape a.shape → Legal a.shape moment → row < a.shape.rows → IsPrefix a.seen moment → MayBeCancelled (replay moment row) → a.spare ≤ b.spare → MayCancelAll a spare → HasRoomNow b spare
+pub seen_room : (row : ℕ) (a b : Floor) (moment : List JobEntry) (spare : ℕ) → IsShape a.shape → Legal a.shape moment → row < a.shape.rows
+    → IsPrefix a.seen moment → MayBeCancelled (replay moment row) → a.spare ≤ b.spare → MayCancelAll a spare → HasRoomNow b spare
 seen_room row a b moment spare s l w p m le room =
     let none = had_none row a.seen moment p (unmarked a.shape moment row l m) in
     let k = count_some a.shape.rows (λ r. not (has cancels r a.seen)) row w (ap not none) in
@@ -148,7 +158,8 @@ seen_room row a b moment spare s l w p m le room =
     let g = room.book_room in
     record { floor_room = omega arith; book_room = omega arith }
 
-pub now_marked : (r : ℕ) (xs : List JobEntry) (who : ℕ) (reason : Reason) → has cancels r (xs ++ record { who = who; act = Cancel r reason } ∷ []) ≡ true
+pub now_marked : (r : ℕ) (xs : List JobEntry) (who : ℕ) (reason : Reason)
+    → has cancels r (xs ++ record { who = who; act = Cancel r reason } ∷ []) ≡ true
 now_marked r xs who reason = has_more r xs _ ∙ ap (λ b. has cancels r xs || (b || false)) (same r) ∙ or_true (has cancels r xs)
   where
     or_true : (b : Bool) → (b || true) ≡ true
@@ -161,24 +172,28 @@ looked_fewer who rows a b h =
     let same = same_rows a b h.same.shape in
     omega arith
 
-pub looked_fewer_twice : (who : ℕ) (rows : List ℕ) (a b c : Floor) → Looked who rows a b → Looked who rows b c → 0 + uncancelled c ≤ uncancelled a
+pub looked_fewer_twice : (who : ℕ) (rows : List ℕ) (a b c : Floor) → Looked who rows a b → Looked who rows b c
+    → 0 + uncancelled c ≤ uncancelled a
 looked_fewer_twice who rows a b c h k =
     let x = looked_fewer who rows a b h in
     let y = looked_fewer who rows b c k in
     omega arith
 
 -- after a Cancel one row less has none
-made_fewer : (who row : ℕ) (reason : Reason) (a b : Floor) → Legal b.shape b.seen → row < a.shape.rows → Made who (Cancel row reason) [] a b → 1 + uncancelled b ≤ uncancelled a
+made_fewer : (who row : ℕ) (reason : Reason) (a b : Floor) → Legal b.shape b.seen → row < a.shape.rows → Made who (Cancel row reason) [] a b
+    → 1 + uncancelled b ≤ uncancelled a
 made_fewer who row reason a b l w m =
     let parts = Legal-last b.shape m.before _ (subst (Legal b.shape) m.last l) in
     let none = unmarked b.shape m.before row parts.0 parts.1.0 in
     let now : has cancels row b.seen ≡ true = ap (has cancels row) m.last ∙ now_marked row m.before who reason in
     let k = uncancelled_le a.shape.rows a.seen m.before m.longer in
-    let less = count_less a.shape.rows (λ r. not (has cancels r b.seen)) (λ r. not (has cancels r m.before)) row w (ap not now) (ap not none) (λ r h. still_none r m.before b.seen (_, sym m.last) h) in
+    let less = count_less a.shape.rows (λ r. not (has cancels r b.seen)) (λ r. not (has cancels r m.before)) row w (ap not now)
+    (ap not none) (λ r h. still_none r m.before b.seen (_, sym m.last) h) in
     let same = same_rows a b m.same.shape in
     omega arith
 
-pub cancel_fewer : (who row : ℕ) (reason : Reason) (a b c : Floor) {d : Floor} → Looked who [] a b → Legal c.shape c.seen → row < a.shape.rows → Made who (Cancel row reason) [] b c → Looked who [] c d → 1 + uncancelled d ≤ uncancelled a
+pub cancel_fewer : (who row : ℕ) (reason : Reason) (a b c : Floor) {d : Floor} → Looked who [] a b → Legal c.shape c.seen
+    → row < a.shape.rows → Made who (Cancel row reason) [] b c → Looked who [] c d → 1 + uncancelled d ≤ uncancelled a
 cancel_fewer who row reason a b c {d} h l w m k =
     let x = looked_fewer who [] a b h in
     let y = made_fewer who row reason b c l (subst (λ (s : Shape). row < s.rows) (sym h.same.shape) w) m in
@@ -186,7 +201,8 @@ cancel_fewer who row reason a b c {d} h l w m k =
     omega arith
 
 -- a Cancel takes one of each
-pub cancel_room : (who row : ℕ) (reason : Reason) (a b : Floor) (spare spare' : ℕ) → Legal b.shape b.seen → row < a.shape.rows → Made who (Cancel row reason) [] a b → spare ≡ spare' + 1 → MayCancelAll a spare → MayCancelAll b spare'
+pub cancel_room : (who row : ℕ) (reason : Reason) (a b : Floor) (spare spare' : ℕ) → Legal b.shape b.seen → row < a.shape.rows
+    → Made who (Cancel row reason) [] a b → spare ≡ spare' + 1 → MayCancelAll a spare → MayCancelAll b spare'
 cancel_room who row reason a b spare spare' l w m e room =
     let k = made_fewer who row reason a b l w m in
     let f = room.floor_room in

@@ -7,20 +7,18 @@ use Rattle.job_model.specs.declared.acts.Reason.TheVariants as reasons
 use Rattle.job_model.specs.Trees.{Tree}
 use Rattle.job_model.specs.Cancels.{IsAllCancelled, own_cancel, AreCancelsBelow}
 use Rattle.job_model.specs.Failures.{StaysBelow, GoesUpTo, FailsUp}
-use Rattle.job_model.specs.Histories.{replay}
-use Rattle.job_model.specs.Floors.{Floor, Looked}
-use Rattle.note_book.specs.declared.book.Item.{Item}
 use Rattle.call_meaning.specs.Telling.{did}
+use Rattle.call_meaning.specs.Seen.{SeenOnJobs, tree_in}
 use Rattle.call_meaning.specs.Calls.{ToldOnJobs}
-use Rattle.job_tree.specs.Notes.{Noted}
+use Rattle.job_tree.specs.Notes.{Noted, OnlyLooked}
 use Rattle.job_tree.specs.declared.caller.Reserve.{Reserve}
 use Rattle.job_tree.specs.declared.caller.Reserve.TheVariants.{AsItGoes}
 
 -- the Cancels that took the failure of the Job up are told and noted
-pub record IsFailedUp (who row : ℕ) (old new : Floor) (items items' : List Item) : Type 0 where
+pub record IsFailedUp (row : ℕ) (old new : SeenOnJobs) : Type 0 where
   pub acts : List JobAct
-  pub noted : ToldOnJobs who [] old new items items' (map did acts)
-  pub up : FailsUp (replay new.seen) row acts
+  pub noted : ToldOnJobs [] old new (map did acts)
+  pub up : FailsUp (tree_in new) row acts
 
 -- these acts began to take the failure of the row up
 pub data BeginsToFailUp (tree : Tree) : ℕ → List JobAct → Type 0 where
@@ -33,15 +31,15 @@ pub data BeginsToFailUp (tree : Tree) : ℕ → List JobAct → Type 0 where
       → all ≡ Cancel p (reasons.Child row) ∷ acts ++ more → BeginsToFailUp tree row all
 
 -- the Cancels that began to take the failure of the Job up are noted
-pub record HasBegunToFailUp (who row : ℕ) (old new : Floor) (items items' : List Item) : Type 0 where
+pub record HasBegunToFailUp (row : ℕ) (old new : SeenOnJobs) : Type 0 where
   pub acts : List JobAct
-  pub noted : Noted who acts old new items items'
-  pub up : BeginsToFailUp (replay new.seen) row acts
+  pub noted : Noted acts old new
+  pub up : BeginsToFailUp (tree_in new) row acts
 
 -- the failure went up, or as far as there was memory
-abbrev pub ClimbAnswer : ℕ → ℕ → Reserve → Floor → Floor → List Item → List Item → Result (Unit {0}) Memory → Type 0
-ClimbAnswer who row reserve old new items items' (Ok done) = IsFailedUp who row old new items items'
-ClimbAnswer who row reserve old new items items' (Err m) = (reserve ≡ AsItGoes) × HasBegunToFailUp who row old new items items'
+abbrev pub ClimbAnswer : ℕ → Reserve → SeenOnJobs → SeenOnJobs → Result (Unit {0}) Memory → Type 0
+ClimbAnswer row reserve old new (Ok done) = IsFailedUp row old new
+ClimbAnswer row reserve old new (Err m) = (reserve ≡ AsItGoes) × HasBegunToFailUp row old new
 
 -- the parent that a failure of the Job cancels, if it cancels one
 abbrev pub IsParentAnswer : Tree → ℕ → Option ℕ → Type 0
@@ -49,6 +47,6 @@ IsParentAnswer tree row None = StaysBelow tree row
 IsParentAnswer tree row (Some p) = GoesUpTo tree row p
 
 -- the parent that a failure of the Job cancels
-pub record ParentAnswer (who row : ℕ) (old new : Floor) (result : Option ℕ) : Type 0 where
-  pub looked : Looked who [] old new
-  pub is : IsParentAnswer (replay new.seen) row result
+pub record ParentAnswer (row : ℕ) (old new : SeenOnJobs) (result : Option ℕ) : Type 0 where
+  pub looked : OnlyLooked old new
+  pub is : IsParentAnswer (tree_in new) row result

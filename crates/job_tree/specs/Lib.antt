@@ -1,6 +1,6 @@
+pub mod Rooms
 pub mod Callers
 pub mod Notes
-pub mod Rooms
 pub mod Passes
 pub mod Failures
 pub mod Endings

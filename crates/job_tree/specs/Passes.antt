@@ -8,11 +8,10 @@ use Rattle.job_model.specs.declared.acts.Reason.TheVariants as reasons
 use Rattle.job_model.specs.Trees.{Job, Tree, parent_of, is_ended, is_failure}
 use Rattle.job_model.specs.Families.{IsCancellingOrEnded, newest, older_sibling}
 use Rattle.job_model.specs.Cancels.{IsAllCancelled, own_cancel, AreCancelsBelow}
-use Rattle.job_model.specs.Histories.{replay}
-use Rattle.job_model.specs.Floors.{Floor, AtStep}
-use Rattle.note_book.specs.declared.book.Item.{Item}
+use Rattle.job_model.specs.Floors.{AtStep}
 use Rattle.call_meaning.specs.Telling.{Told, items_in}
 use Rattle.call_meaning.specs.JobCalls.{Passes}
+use Rattle.call_meaning.specs.Seen.{SeenOnJobs, tree_in}
 use Rattle.call_meaning.specs.Calls.{ToldOnJobs}
 use Rattle.job_tree.specs.Notes.{Noted}
 use Rattle.job_tree.specs.Rooms.{uncancelled}
@@ -37,64 +36,63 @@ IsFailure (Some j) = is_failure j.cause ≡ true
 -- ---- answers
 
 -- whether the Cancel of one Job was made; in the end the Job is Cancelling or ended
-pub record CancelledJob (who row : ℕ) (reason : Reason) (old new : Floor) (items items' : List Item) (now : Bool) : Type 0 where
-  pub noted : Noted who (own_cancel now row reason) old new items items'
-  pub fewer : length (own_cancel now row reason) + uncancelled new ≤ uncancelled old
-  pub cancelled : IsCancellingOrEnded (replay new.seen row)
-  pub failed : now ≡ true → is_for_failure reason ≡ true → IsFailure (replay new.seen row)
+pub record CancelledJob (row : ℕ) (reason : Reason) (old new : SeenOnJobs) (now : Bool) : Type 0 where
+  pub noted : Noted (own_cancel now row reason) old new
+  pub fewer : length (own_cancel now row reason) + uncancelled new.floor ≤ uncancelled old.floor
+  pub cancelled : IsCancellingOrEnded (tree_in new row)
+  pub failed : now ≡ true → is_for_failure reason ≡ true → IsFailure (tree_in new row)
 
 -- the Cancel of one Job; without memory nothing was cancelled
-abbrev pub CancelAnswer : ℕ → ℕ → Reason → Reserve → Floor → Floor → List Item → List Item → Result Bool Memory → Type 0
-CancelAnswer who row reason reserve old new items items' (Ok now) = CancelledJob who row reason old new items items' now
-CancelAnswer who row reason reserve old new items items' (Err m) = (reserve ≡ AsItGoes) × Noted who [] old new items items'
+abbrev pub CancelAnswer : ℕ → Reason → Reserve → SeenOnJobs → SeenOnJobs → Result Bool Memory → Type 0
+CancelAnswer row reason reserve old new (Ok now) = CancelledJob row reason old new now
+CancelAnswer row reason reserve old new (Err m) = (reserve ≡ AsItGoes) × Noted [] old new
 
 -- the Jobs below the row were cancelled, so many by this call, and are all Cancelling or ended
-pub record IsPassBelow (who row : ℕ) (old new : Floor) (items items' : List Item) (count : ℕ) : Type 0 where
+pub record IsPassBelow (row : ℕ) (old new : SeenOnJobs) (count : ℕ) : Type 0 where
   pub acts : List JobAct
-  pub noted : Noted who acts old new items items'
-  pub cancels : AreCancelsBelow (replay new.seen) row acts
+  pub noted : Noted acts old new
+  pub cancels : AreCancelsBelow (tree_in new) row acts
   pub counted : count ≡ length acts
-  pub all : IsAllCancelled (replay new.seen) row
+  pub all : IsAllCancelled (tree_in new) row
 
 -- some Jobs below the row were cancelled
-pub record IsPartBelow (who row : ℕ) (old new : Floor) (items items' : List Item) : Type 0 where
+pub record IsPartBelow (row : ℕ) (old new : SeenOnJobs) : Type 0 where
   pub acts : List JobAct
-  pub noted : Noted who acts old new items items'
-  pub cancels : AreCancelsBelow (replay new.seen) row acts
+  pub noted : Noted acts old new
+  pub cancels : AreCancelsBelow (tree_in new) row acts
 
 -- all of them, or as far as there was memory
-abbrev pub BelowAnswer : ℕ → ℕ → Reserve → Floor → Floor → List Item → List Item → Result ℕ Memory → Type 0
-BelowAnswer who row reserve old new items items' (Ok count) = IsPassBelow who row old new items items' count × (count < 65536)
-BelowAnswer who row reserve old new items items' (Err m) = (reserve ≡ AsItGoes) × IsPartBelow who row old new items items'
+abbrev pub BelowAnswer : ℕ → Reserve → SeenOnJobs → SeenOnJobs → Result ℕ Memory → Type 0
+BelowAnswer row reserve old new (Ok count) = IsPassBelow row old new count × (count < 65536)
+BelowAnswer row reserve old new (Err m) = (reserve ≡ AsItGoes) × IsPartBelow row old new
 
 -- a pass is told and noted: the Job was cancelled for this reason, or had been, and then those below it; in the end all are Cancelling or
 -- ended
-pub record IsPass (who row : ℕ) (reason : Reason) (newly : Bool) (old new : Floor) (items items' : List Item) (count : ℕ) : Type 0 where
+pub record IsPass (row : ℕ) (reason : Reason) (newly : Bool) (old new : SeenOnJobs) (count : ℕ) : Type 0 where
   pub told : List Told
   pub group : Passes row reason newly told
-  pub noted : ToldOnJobs who [] old new items items' told
+  pub noted : ToldOnJobs [] old new told
   pub counted : count ≡ length (items_in told)
-  pub cancels : AreCancelsBelow (replay new.seen) row group.below
-  pub all : IsAllCancelled (replay new.seen) row
-  pub failed : newly ≡ true → is_for_failure reason ≡ true → IsFailure (replay new.seen row)
+  pub cancels : AreCancelsBelow (tree_in new) row group.below
+  pub all : IsAllCancelled (tree_in new) row
+  pub failed : newly ≡ true → is_for_failure reason ≡ true → IsFailure (tree_in new row)
 
 -- a pass, whether it cancelled the Job itself or that had been cancelled
-pub record IsSomePass (who row : ℕ) (reason : Reason) (old new : Floor) (items items' : List Item) (count : ℕ) : Type 0 where
+pub record IsSomePass (row : ℕ) (reason : Reason) (old new : SeenOnJobs) (count : ℕ) : Type 0 where
   pub newly : Bool
-  pub pass : IsPass who row reason newly old new items items' count
+  pub pass : IsPass row reason newly old new count
 
 -- a part of a pass: the Job was cancelled for this reason, or was not by this call, and some Jobs below it were
-pub record IsPartOfPass (who row : ℕ) (reason : Reason) (old new : Floor) (items items' : List Item) : Type 0 where
+pub record IsPartOfPass (row : ℕ) (reason : Reason) (old new : SeenOnJobs) : Type 0 where
   pub newly : Bool
   pub below : List JobAct
-  pub noted : Noted who (own_cancel newly row reason ++ below) old new items items'
-  pub cancels : AreCancelsBelow (replay new.seen) row below
+  pub noted : Noted (own_cancel newly row reason ++ below) old new
+  pub cancels : AreCancelsBelow (tree_in new) row below
 
 -- a whole pass, or as far as there was memory
-abbrev pub PassAnswer : ℕ → ℕ → Reason → Reserve → Floor → Floor → List Item → List Item → Result Passed Memory → Type 0
-PassAnswer who row reason reserve old new items items' (Ok passed) =
-    IsPass who row reason passed.newly old new items items' passed.count
-PassAnswer who row reason reserve old new items items' (Err m) = (reserve ≡ AsItGoes) × IsPartOfPass who row reason old new items items'
+abbrev pub PassAnswer : ℕ → Reason → Reserve → SeenOnJobs → SeenOnJobs → Result Passed Memory → Type 0
+PassAnswer row reason reserve old new (Ok passed) = IsPass row reason passed.newly old new passed.count
+PassAnswer row reason reserve old new (Err m) = (reserve ≡ AsItGoes) × IsPartOfPass row reason old new
 
 -- the covered row and all below it are Cancelling or ended
 abbrev pub IsCovered : Tree → Option ℕ → Type 0
@@ -129,10 +127,11 @@ HasNoneBelow None = ⊥
 HasNoneBelow (Some j) = is_ended j.state ≡ false → j.children ≡ []
 
 -- to the newest child, or where all below the row was passed, to the child that is next in age; up from the oldest
-abbrev pub WalkStepAnswer : ℕ → Bool → Floor → Floor → WalkStep → Type 0
-WalkStepAnswer at false old new (To c) = AtStep old new (λ tree. IsNewestOf c (tree at))
-WalkStepAnswer at true old new (To c) = AtStep old new (λ tree. older_sibling tree at ≡ Some c)
-WalkStepAnswer at false old new Over = AtStep old new (λ tree. HasNoneBelow (tree at))
+abbrev pub WalkStepAnswer : ℕ → Bool → SeenOnJobs → SeenOnJobs → WalkStep → Type 0
+WalkStepAnswer at false old new (To c) = AtStep old.floor new.floor (λ tree. IsNewestOf c (tree at))
+WalkStepAnswer at true old new (To c) = AtStep old.floor new.floor (λ tree. older_sibling tree at ≡ Some c)
+WalkStepAnswer at false old new Over = AtStep old.floor new.floor (λ tree. HasNoneBelow (tree at))
 WalkStepAnswer at true old new Over = ⊥
 WalkStepAnswer at false old new (Up p) = ⊥
-WalkStepAnswer at true old new (Up p) = AtStep old new (λ tree. (parent_of (tree at) ≡ Some p) × (older_sibling tree at ≡ None))
+WalkStepAnswer at true old new (Up p) =
+    AtStep old.floor new.floor (λ tree. (parent_of (tree at) ≡ Some p) × (older_sibling tree at ≡ None))

@@ -2,10 +2,10 @@
 
 ghost use Rattle.std.specs.Prelude.{◌≡◌, ℕ, ◌+◌, ◌≤◌, Bool, true, List, OnOk};
 ghost use Rattle.job_model.specs.declared.acts.End.{End as AnEnd};
-ghost use Rattle.job_model.specs.Floors.{MayCall};
 ghost use Rattle.note_book.specs.declared.book.Item.{Item as AnItem};
-ghost use Rattle.job_tree.specs.Callers.{SameCaller};
-ghost use Rattle.job_tree.specs.Endings.{HasEnded, EndAnswer, IsFinishedUp};
+ghost use Rattle.call_meaning.specs.Seen.{MayCallJob};
+ghost use Rattle.job_tree.specs.Callers.{SameCaller, seen};
+ghost use Rattle.job_tree.specs.Endings.{book_seen, HasEnded, seen_with, EndAnswer, IsFinishedUp};
 
 use crate::caller::JobCaller;
 use co_base::{Memory, Row, Wakes};
@@ -39,8 +39,8 @@ pub trait Ends<B: NoteBook, W: Wakes> {
         requires ready { is_ready self.old ≡ true }
         requires room { most self.old ≤ B.spare book.old }
         ensures most { most self.new ≡ most self.old }
-        ensures ended { HasEnded (most self.old) (λ items. does self.old row end items self.new) (B.items book.old) (B.items book.new)
-            (B.spare book.old) (B.spare book.new) };
+        ensures ended { HasEnded (most self.old) (λ items. does self.old row end items self.new)
+            (book_seen B.items B.spare book.old) (book_seen B.items B.spare book.new) };
 }
 
 /// Where the end of a Job leads.
@@ -54,10 +54,10 @@ pub(crate) enum Rise {
 impl<F: JobFloor, B: NoteBook, W: Wakes> JobCaller<'_, '_, '_, F, B, W> {
     /// Ends one Job, if it may end, and tells its parent.
     fn finish_one<E: Ends<B, W>>(&mut self, row: Row, ends: &mut E) -> Result<Rise, Memory>
-        requires can { MayCall self.old.who row (F.view self.old.floor.now) }
+        requires can { MayCallJob row (seen F.view B.items self.old) }
         ensures same { SameCaller F.anchor self.old self.new }
-        ensures answer { EndAnswer E.prepares E.does self.old.who row (F.view self.old.floor.now)
-            (F.view self.new.floor.now) ends.old ends.new (B.items self.old.book.now) (B.items self.new.book.now) result }
+        ensures answer { EndAnswer E.prepares E.does row (seen_with (seen F.view B.items self.old) ends.old)
+            (seen_with (seen F.view B.items self.new) ends.new) result }
     {
         if let Err(memory) = ends.ready(self.book, 2) {
             return Err(memory);
@@ -86,10 +86,10 @@ impl<F: JobFloor, B: NoteBook, W: Wakes> JobCaller<'_, '_, '_, F, B, W> {
     /// Ends a Job, if it may end, and then its parents, as far as the end of a child was all that they waited for.
     /// Memory: what was done so far stands and is noted.
     pub fn finish_up<E: Ends<B, W>>(&mut self, row: Row, ends: &mut E) -> Result<(), Memory>
-        requires can { MayCall self.old.who row (F.view self.old.floor.now) }
+        requires can { MayCallJob row (seen F.view B.items self.old) }
         ensures same { SameCaller F.anchor self.old self.new }
-        ensures finished { IsFinishedUp E.prepares E.does self.old.who row (F.view self.old.floor.now) ends.old
-            (B.items self.old.book.now) (F.view self.new.floor.now) ends.new (B.items self.new.book.now) result }
+        ensures finished { IsFinishedUp E.prepares E.does row (seen_with (seen F.view B.items self.old) ends.old)
+            (seen_with (seen F.view B.items self.new) ends.new) result }
     {
         let mut at = row;
         loop {

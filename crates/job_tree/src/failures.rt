@@ -1,10 +1,8 @@
 //! To pass a failure on to the parents.
 
-ghost use Rattle.std.specs.Prelude.{◌≡◌, []};
-ghost use Rattle.job_model.specs.Histories.{replay};
-ghost use Rattle.job_model.specs.Floors.{MayCall, Looked};
-ghost use Rattle.job_tree.specs.Callers.{SameCaller};
-ghost use Rattle.job_tree.specs.Rooms.{MayCancelAll};
+ghost use Rattle.std.specs.Prelude.{◌≡◌};
+ghost use Rattle.call_meaning.specs.Seen.{MayCallJob, tree_in};
+ghost use Rattle.job_tree.specs.Callers.{SameCaller, seen, HasRoomForAll};
 ghost use Rattle.job_tree.specs.Passes.{IsFailure};
 ghost use Rattle.job_tree.specs.Failures.{ParentAnswer, IsFailedUp, ClimbAnswer};
 ghost use Rattle.job_tree.specs.declared.caller.Reserve.TheVariants.{Before};
@@ -17,10 +15,10 @@ use note_book::NoteBook;
 impl<F: JobFloor, B: NoteBook, W: Wakes> JobCaller<'_, '_, '_, F, B, W> {
     /// The parent that a failure of this Job cancels.
     fn failing_parent(&mut self, row: Row) -> Option<Row>
-        requires can { MayCall self.old.who row (F.view self.old.floor.now) }
+        requires can { MayCallJob row (seen F.view B.items self.old) }
         ensures same { SameCaller F.anchor self.old self.new }
         ensures book { self.new.book.now ≡ self.old.book.now }
-        ensures answer { ParentAnswer self.old.who row (F.view self.old.floor.now) (F.view self.new.floor.now) result }
+        ensures answer { ParentAnswer row (seen F.view B.items self.old) (seen F.view B.items self.new) result }
     {
         if row == 0 {
             return None;
@@ -44,13 +42,12 @@ impl<F: JobFloor, B: NoteBook, W: Wakes> JobCaller<'_, '_, '_, F, B, W> {
     /// Cancels the parent of a Job that failed, with all below it, and so on upwards: up to the root, a scope, the child
     /// of a supervisor, or a parent that was Cancelling or had ended before. Takes no memory.
     pub fn fail_up(&mut self, row: Row)
-        requires can { MayCall self.old.who row (F.view self.old.floor.now) }
-        requires failed { IsFailure (replay (F.view self.old.floor.now).seen row) }
-        requires room { MayCancelAll (F.view self.old.floor.now) (B.spare self.old.book.now) }
+        requires can { MayCallJob row (seen F.view B.items self.old) }
+        requires failed { IsFailure (tree_in (seen F.view B.items self.old) row) }
+        requires room { HasRoomForAll F.view B.spare self.old }
         ensures same { SameCaller F.anchor self.old self.new }
-        ensures up { IsFailedUp self.old.who row (F.view self.old.floor.now) (F.view self.new.floor.now) (B.items self.old.book.now)
-            (B.items self.new.book.now) }
-        ensures room { MayCancelAll (F.view self.new.floor.now) (B.spare self.new.book.now) }
+        ensures up { IsFailedUp row (seen F.view B.items self.old) (seen F.view B.items self.new) }
+        ensures room { HasRoomForAll F.view B.spare self.new }
     {
         match self.climb(row, Reserve::Before) {
             Ok(()) => {}
@@ -61,13 +58,12 @@ impl<F: JobFloor, B: NoteBook, W: Wakes> JobCaller<'_, '_, '_, F, B, W> {
     /// As `fail_up`. Memory, which comes only if room is made as it goes: the Cancels made so far stand and are noted.
     /// Each pass leaves out what the one before it walked, so that a chain costs in step with its length.
     pub fn climb(&mut self, row: Row, reserve: Reserve) -> Result<(), Memory>
-        requires can { MayCall self.old.who row (F.view self.old.floor.now) }
-        requires failed { IsFailure (replay (F.view self.old.floor.now).seen row) }
-        requires room { reserve ≡ Before → MayCancelAll (F.view self.old.floor.now) (B.spare self.old.book.now) }
+        requires can { MayCallJob row (seen F.view B.items self.old) }
+        requires failed { IsFailure (tree_in (seen F.view B.items self.old) row) }
+        requires room { reserve ≡ Before → HasRoomForAll F.view B.spare self.old }
         ensures same { SameCaller F.anchor self.old self.new }
-        ensures answer { ClimbAnswer self.old.who row reserve (F.view self.old.floor.now) (F.view self.new.floor.now)
-            (B.items self.old.book.now) (B.items self.new.book.now) result }
-        ensures room { reserve ≡ Before → MayCancelAll (F.view self.new.floor.now) (B.spare self.new.book.now) }
+        ensures answer { ClimbAnswer row reserve (seen F.view B.items self.old) (seen F.view B.items self.new) result }
+        ensures room { reserve ≡ Before → HasRoomForAll F.view B.spare self.new }
     {
         let mut at = row;
         let mut covered = None;

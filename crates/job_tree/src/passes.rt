@@ -1,12 +1,9 @@
 //! To cancel a Job and all below it.
 
 ghost use Rattle.std.specs.Prelude.{◌≡◌};
-ghost use Rattle.job_model.specs.Needs.{Holds};
-ghost use Rattle.job_model.specs.Histories.{replay};
 ghost use Rattle.job_model.specs.Families.{IsCancellingOrEnded};
-ghost use Rattle.job_model.specs.Floors.{MayCall};
-ghost use Rattle.job_tree.specs.Callers.{SameCaller};
-ghost use Rattle.job_tree.specs.Rooms.{MayCancelAll};
+ghost use Rattle.call_meaning.specs.Seen.{MayCallJob, tree_in};
+ghost use Rattle.job_tree.specs.Callers.{SameCaller, seen, HasRoomForAll, HoldsFor};
 ghost use Rattle.job_tree.specs.Passes.{BelowAnswer, PassAnswer, IsSomePass, IsCovered, covers};
 ghost use Rattle.job_tree.specs.declared.caller.Reserve.TheVariants.{Before};
 
@@ -43,14 +40,13 @@ impl<F: JobFloor, B: NoteBook, W: Wakes> JobCaller<'_, '_, '_, F, B, W> {
         covered: Option<Row>,
         reserve: Reserve,
     ) -> Result<u32, Memory>
-        requires can { MayCall self.old.who row (F.view self.old.floor.now) }
-        requires cancelled { IsCancellingOrEnded (replay (F.view self.old.floor.now).seen row) }
-        requires covered { IsCovered (replay (F.view self.old.floor.now).seen) covered }
-        requires room { reserve ≡ Before → MayCancelAll (F.view self.old.floor.now) (B.spare self.old.book.now) }
+        requires can { MayCallJob row (seen F.view B.items self.old) }
+        requires cancelled { IsCancellingOrEnded (tree_in (seen F.view B.items self.old) row) }
+        requires covered { IsCovered (tree_in (seen F.view B.items self.old)) covered }
+        requires room { reserve ≡ Before → HasRoomForAll F.view B.spare self.old }
         ensures same { SameCaller F.anchor self.old self.new }
-        ensures answer { BelowAnswer self.old.who row reserve (F.view self.old.floor.now) (F.view self.new.floor.now)
-            (B.items self.old.book.now) (B.items self.new.book.now) result }
-        ensures room { reserve ≡ Before → MayCancelAll (F.view self.new.floor.now) (B.spare self.new.book.now) }
+        ensures answer { BelowAnswer row reserve (seen F.view B.items self.old) (seen F.view B.items self.new) result }
+        ensures room { reserve ≡ Before → HasRoomForAll F.view B.spare self.new }
     {
         let most = u32::from(self.floor.rows());
         let mut count = 0;
@@ -79,13 +75,12 @@ impl<F: JobFloor, B: NoteBook, W: Wakes> JobCaller<'_, '_, '_, F, B, W> {
     ///
     /// Example: `cancel_family` in `docs/LIBRARY.md`.
     pub fn cancel_pass(&mut self, row: Row, reason: Reason) -> u32
-        requires can { MayCall self.old.who row (F.view self.old.floor.now) }
-        requires reason { Holds (F.view self.old.floor.now).shape (replay (F.view self.old.floor.now).seen) self.old.who row reason }
-        requires room { MayCancelAll (F.view self.old.floor.now) (B.spare self.old.book.now) }
+        requires can { MayCallJob row (seen F.view B.items self.old) }
+        requires reason { HoldsFor row reason (seen F.view B.items self.old) }
+        requires room { HasRoomForAll F.view B.spare self.old }
         ensures same { SameCaller F.anchor self.old self.new }
-        ensures pass { IsSomePass self.old.who row reason (F.view self.old.floor.now) (F.view self.new.floor.now)
-            (B.items self.old.book.now) (B.items self.new.book.now) result }
-        ensures room { MayCancelAll (F.view self.new.floor.now) (B.spare self.new.book.now) }
+        ensures pass { IsSomePass row reason (seen F.view B.items self.old) (seen F.view B.items self.new) result }
+        ensures room { HasRoomForAll F.view B.spare self.new }
     {
         match self.pass(row, reason, Reserve::Before) {
             Ok(passed) => passed.count,
@@ -96,13 +91,12 @@ impl<F: JobFloor, B: NoteBook, W: Wakes> JobCaller<'_, '_, '_, F, B, W> {
     /// As `cancel_pass`, and answers besides whether the Job itself was cancelled now. Memory, which comes only if room is made as
     /// the pass goes: the Cancels made so far stand and are noted.
     pub fn pass(&mut self, row: Row, reason: Reason, reserve: Reserve) -> Result<Passed, Memory>
-        requires can { MayCall self.old.who row (F.view self.old.floor.now) }
-        requires reason { Holds (F.view self.old.floor.now).shape (replay (F.view self.old.floor.now).seen) self.old.who row reason }
-        requires room { reserve ≡ Before → MayCancelAll (F.view self.old.floor.now) (B.spare self.old.book.now) }
+        requires can { MayCallJob row (seen F.view B.items self.old) }
+        requires reason { HoldsFor row reason (seen F.view B.items self.old) }
+        requires room { reserve ≡ Before → HasRoomForAll F.view B.spare self.old }
         ensures same { SameCaller F.anchor self.old self.new }
-        ensures answer { PassAnswer self.old.who row reason reserve (F.view self.old.floor.now) (F.view self.new.floor.now)
-            (B.items self.old.book.now) (B.items self.new.book.now) result }
-        ensures room { reserve ≡ Before → MayCancelAll (F.view self.new.floor.now) (B.spare self.new.book.now) }
+        ensures answer { PassAnswer row reason reserve (seen F.view B.items self.old) (seen F.view B.items self.new) result }
+        ensures room { reserve ≡ Before → HasRoomForAll F.view B.spare self.new }
     {
         self.pass_except(row, reason, None, reserve)
     }
@@ -115,14 +109,13 @@ impl<F: JobFloor, B: NoteBook, W: Wakes> JobCaller<'_, '_, '_, F, B, W> {
         covered: Option<Row>,
         reserve: Reserve,
     ) -> Result<Passed, Memory>
-        requires can { MayCall self.old.who row (F.view self.old.floor.now) }
-        requires reason { Holds (F.view self.old.floor.now).shape (replay (F.view self.old.floor.now).seen) self.old.who row reason }
-        requires covered { IsCovered (replay (F.view self.old.floor.now).seen) covered }
-        requires room { reserve ≡ Before → MayCancelAll (F.view self.old.floor.now) (B.spare self.old.book.now) }
+        requires can { MayCallJob row (seen F.view B.items self.old) }
+        requires reason { HoldsFor row reason (seen F.view B.items self.old) }
+        requires covered { IsCovered (tree_in (seen F.view B.items self.old)) covered }
+        requires room { reserve ≡ Before → HasRoomForAll F.view B.spare self.old }
         ensures same { SameCaller F.anchor self.old self.new }
-        ensures answer { PassAnswer self.old.who row reason reserve (F.view self.old.floor.now) (F.view self.new.floor.now)
-            (B.items self.old.book.now) (B.items self.new.book.now) result }
-        ensures room { reserve ≡ Before → MayCancelAll (F.view self.new.floor.now) (B.spare self.new.book.now) }
+        ensures answer { PassAnswer row reason reserve (seen F.view B.items self.old) (seen F.view B.items self.new) result }
+        ensures room { reserve ≡ Before → HasRoomForAll F.view B.spare self.new }
     {
         match self.cancel_job(row, reason, reserve) {
             Ok(newly) => match self.cancel_below(row, covered, reserve) {

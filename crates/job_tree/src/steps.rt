@@ -1,11 +1,10 @@
 //! One step of a call, noted.
 
 ghost use Rattle.std.specs.Prelude.{◌≡◌, ◌≢◌, ◌<◌, ◌≤◌, ℕ, true, [], OnOk, OnErr};
-ghost use Rattle.job_model.specs.Needs.{Holds};
-ghost use Rattle.job_model.specs.Histories.{replay};
 ghost use Rattle.job_model.specs.Floors.{MayCall, HasRoom, Looked};
-ghost use Rattle.job_tree.specs.Callers.{SameCaller};
-ghost use Rattle.job_tree.specs.Rooms.{MayCancelAll};
+ghost use Rattle.call_meaning.specs.Seen.{MayCallJob};
+ghost use Rattle.job_tree.specs.Callers.{SameCaller, seen, HasRoomForAll, HoldsFor};
+ghost use Rattle.job_tree.specs.Notes.{OnlyLooked};
 ghost use Rattle.job_tree.specs.Passes.{CancelAnswer, WalkStepAnswer};
 ghost use Rattle.job_tree.specs.declared.caller.Reserve.TheVariants.{Before, AsItGoes};
 
@@ -93,13 +92,12 @@ impl<F: JobFloor, B: NoteBook, W: Wakes> JobCaller<'_, '_, '_, F, B, W> {
         reason: Reason,
         reserve: Reserve,
     ) -> Result<bool, Memory>
-        requires can { MayCall self.old.who row (F.view self.old.floor.now) }
-        requires reason { Holds (F.view self.old.floor.now).shape (replay (F.view self.old.floor.now).seen) self.old.who row reason }
-        requires room { reserve ≡ Before → MayCancelAll (F.view self.old.floor.now) (B.spare self.old.book.now) }
+        requires can { MayCallJob row (seen F.view B.items self.old) }
+        requires reason { HoldsFor row reason (seen F.view B.items self.old) }
+        requires room { reserve ≡ Before → HasRoomForAll F.view B.spare self.old }
         ensures same { SameCaller F.anchor self.old self.new }
-        ensures answer { CancelAnswer self.old.who row reason reserve (F.view self.old.floor.now) (F.view self.new.floor.now)
-            (B.items self.old.book.now) (B.items self.new.book.now) result }
-        ensures room { reserve ≡ Before → MayCancelAll (F.view self.new.floor.now) (B.spare self.new.book.now) }
+        ensures answer { CancelAnswer row reason reserve (seen F.view B.items self.old) (seen F.view B.items self.new) result }
+        ensures room { reserve ≡ Before → HasRoomForAll F.view B.spare self.new }
     {
         let Some(job) = self.floor.look(self.who, row) else {
             return Ok(false);
@@ -123,12 +121,12 @@ impl<F: JobFloor, B: NoteBook, W: Wakes> JobCaller<'_, '_, '_, F, B, W> {
 
     /// Where a walk that came to this row goes next. `done`: it came to all below the row.
     pub(crate) fn walk_step(&mut self, at: Row, done: bool) -> WalkStep
-        requires can { MayCall self.old.who at (F.view self.old.floor.now) }
+        requires can { MayCallJob at (seen F.view B.items self.old) }
         requires child { done ≡ true → at ≢ 0 }
         ensures same { SameCaller F.anchor self.old self.new }
         ensures book { self.new.book.now ≡ self.old.book.now }
-        ensures looked { Looked self.old.who [] (F.view self.old.floor.now) (F.view self.new.floor.now) }
-        ensures answer { WalkStepAnswer at done (F.view self.old.floor.now) (F.view self.new.floor.now) result }
+        ensures looked { OnlyLooked (seen F.view B.items self.old) (seen F.view B.items self.new) }
+        ensures answer { WalkStepAnswer at done (seen F.view B.items self.old) (seen F.view B.items self.new) result }
     {
         if done {
             let link = self.floor.link(self.who, at);

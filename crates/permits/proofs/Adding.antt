@@ -25,7 +25,8 @@ all_fit : (p : Act → Bool) (es : List Entry) → ((k : ℕ) → list_all p (ac
 unfolding acts_of
 all_fit p [] h = refl
 all_fit p (e ∷ es) h =
-    let own : list_all p (e.act ∷ acts_of e.who es) ≡ true = ap (λ b. list_all p (if b then e.act ∷ acts_of e.who es else acts_of e.who es)) (sym (same_number e.who)) ∙ h e.who in
+    let own : list_all p (e.act ∷ acts_of e.who es) ≡ true =
+    ap (λ b. list_all p (if b then e.act ∷ acts_of e.who es else acts_of e.who es)) (sym (same_number e.who)) ∙ h e.who in
     all_more p e.act (acts_in es) (all_first p e.act (acts_of e.who es) own) (all_fit p es (λ k. rest k (e.who == k) (h k)))
   where
     rest : (k : ℕ) (b : Bool) → list_all p (if b then e.act ∷ acts_of k es else acts_of k es) ≡ true → list_all p (acts_of k es) ≡ true
@@ -47,7 +48,8 @@ none_above p m f [] h le = refl
 none_above p m f (e ∷ es) h le =
     let low : e.who < m = below (all_first (λ (x : Entry). nat_lt x.who m) e es h) in
     let other : (e.who == f) ≡ false = grind (arith, nat_tests) in
-    ap (λ b. how_many p (if b then e.act ∷ acts_of f es else acts_of f es)) other ∙ none_above p m f es (all_rest (λ (x : Entry). nat_lt x.who m) e es h) le
+    ap (λ b. how_many p (if b then e.act ∷ acts_of f es else acts_of f es)) other
+    ∙ none_above p m f es (all_rest (λ (x : Entry). nat_lt x.who m) e es h) le
   where
     below : nat_lt e.who m ≡ true → e.who < m
     below k = grind (arith, nat_tests)
@@ -62,19 +64,22 @@ add_up shape c n f m before history kind legal h p filled low = record { all = a
     covered k = (h.parts k).covered (acts_of k before) (begins_own k before history p)
 
     fits : list_all (is_permit_act c) (acts_in before) ≡ true
-    fits = all_fit (is_permit_act c) before (λ k. all_left (is_permit_act c) (acts_of k before) (acts_of k p.0) (ap (list_all (is_permit_act c)) (sym (acts_of-append k before p.0) ∙ ap (acts_of k) p.1) ∙ (h.parts k).fits))
+    fits = all_fit (is_permit_act c) before (λ k. all_left (is_permit_act c) (acts_of k before) (acts_of k p.0)
+        (ap (list_all (is_permit_act c)) (sym (acts_of-append k before p.0) ∙ ap (acts_of k) p.1) ∙ (h.parts k).fits))
 
     -- as the whole says
     filler_is : (k : ℕ) → 1 ≤ given c (acts_of k before) → is_filler c (acts_of k before) ≡ is_filler c (acts_of k history)
     filler_is k le =
         let o = given_on c (acts_of k before) in
-        sym (filler_append c (acts_of k before) (acts_of k p.0) (omega arith)) ∙ ap (is_filler c) (sym (acts_of-append k before p.0) ∙ ap (acts_of k) p.1)
+        sym (filler_append c (acts_of k before) (acts_of k p.0) (omega arith))
+        ∙ ap (is_filler c) (sym (acts_of-append k before p.0) ∙ ap (acts_of k) p.1)
 
     -- what a coroutine gave back, and the fill
     by_tag : (k : ℕ) → gave c n (acts_of k before) + cond (f == k) n 0 ≡ given c (acts_of k before)
     by_tag k = by_test (f == k) refl
       where
-        other : (f == k) ≡ false → (b : Bool) → is_filler c (acts_of k before) ≡ b → (if b then given c (acts_of k before) - n else given c (acts_of k before)) ≡ given c (acts_of k before)
+        other : (f == k) ≡ false → (b : Bool) → is_filler c (acts_of k before) ≡ b
+            → (if b then given c (acts_of k before) - n else given c (acts_of k before)) ≡ given c (acts_of k before)
         other e false t = refl
         other e true t = ⊎_elim
             (λ z. let w : given c (acts_of k before) ≡ 0 = omega arith in omega arith)
@@ -88,13 +93,16 @@ add_up shape c n f m before history kind legal h p filled low = record { all = a
         by_test true e =
             let is : f ≡ k = eqb-true f k e in
             let filled' : n ≤ given c (acts_of k before) = subst (λ j. n ≤ given c (acts_of j before)) is filled in
-            let t : is_filler c (acts_of k before) ≡ true = filler_is k (let s = h.some in omega arith) ∙ subst (λ j. is_filler c (acts_of j history) ≡ true) is h.filler in
-            let g : gave c n (acts_of k before) ≡ given c (acts_of k before) - n = ap (λ b. if b then given c (acts_of k before) - n else given c (acts_of k before)) t in
+            let t : is_filler c (acts_of k before) ≡ true = filler_is k (let s = h.some in omega arith)
+            ∙ subst (λ j. is_filler c (acts_of j history) ≡ true) is h.filler in
+            let g : gave c n (acts_of k before) ≡ given c (acts_of k before) - n =
+            ap (λ b. if b then given c (acts_of k before) - n else given c (acts_of k before)) t in
             omega arith
         by_test false e = let o = other e (is_filler c (acts_of k before)) refl in omega arith
 
     f_low : f < m
-    f_low = ⊎_elim (λ lt. lt) (λ le. let z = none_above (gives_permit c) m f before low le in let s = h.some in absurd (omega arith)) (cases_lt f m)
+    f_low = ⊎_elim (λ lt. lt) (λ le. let z = none_above (gives_permit c) m f before low le in let s = h.some
+        in absurd (omega arith)) (cases_lt f m)
 
     all : permits_of c n m before ≡ n
     all =
@@ -106,5 +114,6 @@ add_up shape c n f m before history kind legal h p filled low = record { all = a
         let a = sum_plus m (λ k. gave c n (acts_of k before)) (λ k. cond (f == k) n 0) in
         let b = sum_same m (λ k. gave c n (acts_of k before) + cond (f == k) n 0) (λ k. given c (acts_of k before)) by_tag in
         let d = sum_plus m (λ k. held c n (acts_of k before)) (λ k. gave c n (acts_of k before)) in
-        let e = sum_same m (λ k. held c n (acts_of k before) + gave c n (acts_of k before)) (λ k. got c (acts_of k before)) (λ k. let v = covered k in omega arith) in
+        let e = sum_same m (λ k. held c n (acts_of k before) + gave c n (acts_of k before)) (λ k. got c (acts_of k before))
+        (λ k. let v = covered k in omega arith) in
         omega arith

@@ -64,10 +64,13 @@ holder_sheds c None how s = omega arith
 holder_sheds c (Some p) how s = resolve_sheds c p.wait (how p.clause) s
 
 -- a channel is put that shed so much
-put_sheds : (c d t : ℕ) (ch : Channel) (s : State) (waits : WaitId → Option Wait) → t + (length ch.queue + (s.channels d).next) ≤ length (s.channels d).queue + ch.next → Sheds c (cond (d == c) t 0) s (record { channels = put_channel d ch s.channels; waits = waits; stood = s.stood })
+put_sheds : (c d t : ℕ) (ch : Channel) (s : State) (waits : WaitId → Option Wait)
+    → t + (length ch.queue + (s.channels d).next) ≤ length (s.channels d).queue + ch.next
+    → Sheds c (cond (d == c) t 0) s (record { channels = put_channel d ch s.channels; waits = waits; stood = s.stood })
 put_sheds c d t ch s waits h = by_test (d == c) refl
   where
-    by_test : (b : Bool) → (d == c) ≡ b → cond b t 0 + (length (if b then ch else s.channels c).queue + (s.channels c).next) ≤ length (s.channels c).queue + (if b then ch else s.channels c).next
+    by_test : (b : Bool) → (d == c) ≡ b → cond b t 0 + (length (if b then ch else s.channels c).queue + (s.channels c).next) ≤ length
+        (s.channels c).queue + (if b then ch else s.channels c).next
     by_test true e = subst (λ n. t + (length ch.queue + (s.channels n).next) ≤ length (s.channels n).queue + ch.next) (eqb-true d c e) h
     by_test false e = omega arith
 
@@ -75,10 +78,13 @@ none_of : (b : Bool) → cond b 0 0 ≡ (let n : ℕ = 0 in n)
 none_of true = refl
 none_of false = refl
 
-put_keeps : (c d : ℕ) (ch : Channel) (s : State) (waits : WaitId → Option Wait) → length ch.queue + (s.channels d).next ≤ length (s.channels d).queue + ch.next → Sheds c 0 s (record { channels = put_channel d ch s.channels; waits = waits; stood = s.stood })
+put_keeps : (c d : ℕ) (ch : Channel) (s : State) (waits : WaitId → Option Wait)
+    → length ch.queue + (s.channels d).next ≤ length (s.channels d).queue + ch.next
+    → Sheds c 0 s (record { channels = put_channel d ch s.channels; waits = waits; stood = s.stood })
 put_keeps c d ch s waits h = let k = put_sheds c d 0 ch s waits (omega (arith, h)) in let z = none_of (d == c) in omega arith
 
-offer_grows : (b : Bool) (o : Standing) (ch : Channel) → length (place_offer b o ch).queue + ch.next ≤ length ch.queue + (place_offer b o ch).next
+offer_grows : (b : Bool) (o : Standing) (ch : Channel) → length (place_offer b o ch).queue + ch.next ≤ length ch.queue +
+    (place_offer b o ch).next
 offer_grows true o ch = let k = pushed ch.queue in omega arith
   where
     pushed : (os : List Standing) → length (os ++ o ∷ []) ≡ length os + 1
@@ -86,19 +92,24 @@ offer_grows true o ch = let k = pushed ch.queue in omega arith
     pushed (x ∷ os) = let k = pushed os in omega arith
 offer_grows false o ch = omega arith
 
-receiver_grows : (b : Bool) (r : Receiver) (ch : Channel) → length (place_receiver b r ch).queue + ch.next ≤ length ch.queue + (place_receiver b r ch).next
+receiver_grows : (b : Bool) (r : Receiver) (ch : Channel)
+    → length (place_receiver b r ch).queue + ch.next ≤ length ch.queue + (place_receiver b r ch).next
 receiver_grows true r ch = omega arith
 receiver_grows false r ch = omega arith
 
 popped : (o : Standing) (os q : List Standing) → q ≡ o ∷ os → length q ≡ length os + 1
 popped o os q e = ap length e ∙ (let k : length (o ∷ os) ≡ length os + 1 = omega arith in k)
 
-offer_sheds : (c d : ℕ) (q : List Standing) (how : ℕ → Resolution) (s : State) → (s.channels d).queue ≡ q → Sheds c 0 s (resolve_offer d q how s)
+offer_sheds : (c d : ℕ) (q : List Standing) (how : ℕ → Resolution) (s : State) → (s.channels d).queue ≡ q
+    → Sheds c 0 s (resolve_offer d q how s)
 offer_sheds c d [] how s e = omega arith
 offer_sheds c d (o ∷ os) how s e =
-    sheds_on c 0 0 s (with_queue d os s) (resolve_holder o.holder how (with_queue d os s)) (put_keeps c d (record (s.channels d) { queue = os }) s s.waits (let k = popped o os (s.channels d).queue e in omega arith)) (holder_sheds c o.holder how (with_queue d os s))
+    sheds_on c 0 0 s (with_queue d os s) (resolve_holder o.holder how (with_queue d os s))
+    (put_keeps c d (record (s.channels d) { queue = os }) s s.waits (let k = popped o os (s.channels d).queue e in omega arith))
+    (holder_sheds c o.holder how (with_queue d os s))
 
-take_sheds : (c d p v : ℕ) (q : List Standing) (how : ℕ → Resolution) (s : State) → (s.channels d).queue ≡ q → IsFirstOffer p v q → Sheds c (one (d == c)) s (resolve_offer d q how s)
+take_sheds : (c d p v : ℕ) (q : List Standing) (how : ℕ → Resolution) (s : State) → (s.channels d).queue ≡ q → IsFirstOffer p v q
+    → Sheds c (one (d == c)) s (resolve_offer d q how s)
 take_sheds c d p v [] how s e first = absurd first
 take_sheds c d p v (o ∷ os) how s e first =
     let a = put_sheds c d 1 (record (s.channels d) { queue = os }) s s.waits (let k = popped o os (s.channels d).queue e in omega arith) in
@@ -107,7 +118,8 @@ take_sheds c d p v (o ∷ os) how s e first =
 
 removed_sheds : (c d : ℕ) (q : List Standing) (s : State) → (s.channels d).queue ≡ q → Sheds c 0 s (remove_first d q s)
 removed_sheds c d [] s e = omega arith
-removed_sheds c d (o ∷ os) s e = put_keeps c d (record (s.channels d) { queue = os }) s s.waits (let k = popped o os (s.channels d).queue e in omega arith)
+removed_sheds c d (o ∷ os) s e = put_keeps c d (record (s.channels d) { queue = os }) s s.waits (let k = popped o os (s.channels d).queue e
+    in omega arith)
 
 fewer_stand : (test : Standing → Bool) (os : List Standing) → length (filter test os) ≤ length os
 fewer_stand test [] = omega arith
@@ -121,20 +133,29 @@ same_length : (p : ℕ) (os : List Standing) → length (admitted p os) ≡ leng
 same_length p [] = refl
 same_length p (o ∷ os) = by_test (o.place == p) (same_length p os)
   where
-    by_test : (b : Bool) → length (admitted p os) ≡ length os → length (if b then record o { holder = None } ∷ os else o ∷ admitted p os) ≡ length (o ∷ os)
+    by_test : (b : Bool) → length (admitted p os) ≡ length os
+        → length (if b then record o { holder = None } ∷ os else o ∷ admitted p os) ≡ length (o ∷ os)
     by_test true h = omega arith
     by_test false h = omega arith
 
-after_sheds : (shape : Shape) (c : ℕ) (s : State) (who : ℕ) (act : Act) → Needs shape s who act → Sheds c (one (takes_on c act)) s (after s who act)
+after_sheds : (shape : Shape) (c : ℕ) (s : State) (who : ℕ) (act : Act) → Needs shape s who act
+    → Sheds c (one (takes_on c act)) s (after s who act)
 after_sheds shape c s who (Hand d p v) n = first_sheds c (s.channels d).receivers _ s
-after_sheds shape c s who (Put d p v) n = put_keeps c d _ s s.waits (offer_grows true (record { place = p; value = v; holder = None }) (s.channels d))
-after_sheds shape c s who (Offer d p v w k) n = put_keeps c d _ s (put_wait w (name_clause who k d (s.waits w)) s.waits) (offer_grows (is_open (s.waits w)) (record { place = p; value = v; holder = Some (record { wait = w; clause = k }) }) (s.channels d))
-after_sheds shape c s who (Await d p w k) n = put_keeps c d _ s (put_wait w (name_clause who k d (s.waits w)) s.waits) (receiver_grows (is_open (s.waits w)) (record { place = p; party = record { wait = w; clause = k } }) (s.channels d))
+after_sheds shape c s who (Put d p v) n = put_keeps c d _ s s.waits
+    (offer_grows true (record { place = p; value = v; holder = None }) (s.channels d))
+after_sheds shape c s who (Offer d p v w k) n = put_keeps c d _ s (put_wait w (name_clause who k d (s.waits w)) s.waits)
+    (offer_grows (is_open (s.waits w)) (record { place = p; value = v; holder = Some (record { wait = w; clause = k }) }) (s.channels d))
+after_sheds shape c s who (Await d p w k) n = put_keeps c d _ s (put_wait w (name_clause who k d (s.waits w)) s.waits)
+    (receiver_grows (is_open (s.waits w)) (record { place = p; party = record { wait = w; clause = k } }) (s.channels d))
 after_sheds shape c s who (Take d p v) n = take_sheds c d p v (s.channels d).queue resolved.Taken s refl n.1
 after_sheds shape c s who (Admit d p) n =
-    sheds_on c 0 0 s (with_queue d (admitted p (s.channels d).queue) s) (resolve_holder (holder_at p (s.channels d).queue) resolved.Admitted (with_queue d (admitted p (s.channels d).queue) s)) (put_keeps c d (record (s.channels d) { queue = admitted p (s.channels d).queue }) s s.waits (let k = same_length p (s.channels d).queue in omega arith)) (holder_sheds c (holder_at p (s.channels d).queue) resolved.Admitted _)
+    sheds_on c 0 0 s (with_queue d (admitted p (s.channels d).queue) s)
+    (resolve_holder (holder_at p (s.channels d).queue) resolved.Admitted (with_queue d (admitted p (s.channels d).queue) s))
+    (put_keeps c d (record (s.channels d) { queue = admitted p (s.channels d).queue }) s s.waits
+    (let k = same_length p (s.channels d).queue in omega arith)) (holder_sheds c (holder_at p (s.channels d).queue) resolved.Admitted _)
 after_sheds shape c s who (Drop d p v) n = removed_sheds c d (s.channels d).queue s refl
-after_sheds shape c s who (Spurn d p v) n = put_keeps c d (record (s.channels d) { queue = spurned p (s.channels d).queue }) s s.waits (let k = fewer_stand (is_elsewhere p) (s.channels d).queue in omega arith)
+after_sheds shape c s who (Spurn d p v) n = put_keeps c d (record (s.channels d) { queue = spurned p (s.channels d).queue }) s s.waits
+    (let k = fewer_stand (is_elsewhere p) (s.channels d).queue in omega arith)
 after_sheds shape c s who (Close d v) n = put_keeps c d _ s s.waits (omega arith)
 after_sheds shape c s who (Void d) n = put_keeps c d _ s s.waits (omega arith)
 after_sheds shape c s who (Drain d p v) n = offer_sheds c d (s.channels d).queue (λ k. resolved.Voided) s refl
@@ -142,7 +163,8 @@ after_sheds shape c s who (WakeClosed d p) n = first_sheds c (s.channels d).rece
 after_sheds shape c s who (Withdraw w why) n = resolve_sheds c w (resolved.Withdrawn why) s
 after_sheds shape c s who (Settle w outcome) n = omega arith
 
-takes_from : (shape : Shape) (c : ℕ) (s : State) (es : List Entry) → LegalFrom shape s es → Sheds c (how_many (takes_on c) (acts_in es)) s (replay_from s es)
+takes_from : (shape : Shape) (c : ℕ) (s : State) (es : List Entry) → LegalFrom shape s es
+    → Sheds c (how_many (takes_on c) (acts_in es)) s (replay_from s es)
 unfolding LegalFrom replay_from
 takes_from shape c s [] l = omega arith
 takes_from shape c s (e ∷ es) l =
@@ -160,32 +182,40 @@ abbrev settles_below : ℕ → ℕ → Act → Bool
 settles_below c m (Settle w outcome) = not (w.channel == c) || nat_lt w.place m
 settles_below c m other = true
 
-wait_below : (s : State) (w : WaitId) (who : ℕ) (outcome : Settled) → Placed s → MaySettle who outcome (s.waits w) → w.place < (s.channels w.channel).next
-wait_below s w who outcome h m = ⊎_elim (λ lt. lt) (λ le. absurd (gone (s.waits w) (h w le) m)) (cases_lt w.place (s.channels w.channel).next)
+wait_below : (s : State) (w : WaitId) (who : ℕ) (outcome : Settled) → Placed s → MaySettle who outcome (s.waits w)
+    → w.place < (s.channels w.channel).next
+wait_below s w who outcome h m = ⊎_elim (λ lt. lt) (λ le. absurd (gone (s.waits w) (h w le) m))
+    (cases_lt w.place (s.channels w.channel).next)
   where
     gone : (x : Option Wait) → x ≡ None → MaySettle who outcome x → ⊥
     gone None e m = m
     gone (Some x) e m = cc
 
-next_grows : (shape : Shape) (c : ℕ) (s : State) (es : List Entry) → LegalFrom shape s es → (s.channels c).next ≤ ((replay_from s es).channels c).next
+next_grows : (shape : Shape) (c : ℕ) (s : State) (es : List Entry) → LegalFrom shape s es
+    → (s.channels c).next ≤ ((replay_from s es).channels c).next
 unfolding LegalFrom replay_from
 next_grows shape c s [] l = omega arith
 next_grows shape c s (e ∷ es) l =
-    let a : (s.channels c).next ≤ ((after s e.who e.act).channels c).next = after_keeps shape (λ d ch. (s.channels c).next ≤ ch.next) (given_keeps shape (s.channels c).next) s e.who e.act c l.0 (omega arith) in
+    let a : (s.channels c).next ≤ ((after s e.who e.act).channels c).next =
+    after_keeps shape (λ d ch. (s.channels c).next ≤ ch.next) (given_keeps shape (s.channels c).next) s e.who e.act c l.0 (omega arith)
+    in
     let b = next_grows shape c (after s e.who e.act) es l.1 in
     omega arith
 
-act_below : (c m : ℕ) (shape : Shape) (s : State) (who : ℕ) (act : Act) → Placed s → Needs shape s who act → (s.channels c).next ≤ m → settles_below c m act ≡ true
+act_below : (c m : ℕ) (shape : Shape) (s : State) (who : ℕ) (act : Act) → Placed s → Needs shape s who act → (s.channels c).next ≤ m
+    → settles_below c m act ≡ true
 act_below c m shape s who (Settle w outcome) h n le = by_test (w.channel == c) refl
   where
     by_test : (b : Bool) → (w.channel == c) ≡ b → (not b || nat_lt w.place m) ≡ true
     by_test true e =
-        let lt : w.place < (s.channels c).next = subst (λ k. w.place < (s.channels k).next) (eqb-true w.channel c e) (wait_below s w who outcome h n) in
+        let lt : w.place < (s.channels c).next = subst (λ k. w.place < (s.channels k).next) (eqb-true w.channel c e)
+        (wait_below s w who outcome h n) in
         grind (arith, nat_tests)
     by_test false e = refl
 act_below c m shape s who other h n le = refl
 
-settled_below : (shape : Shape) (c m : ℕ) (s : State) (es : List Entry) → LegalFrom shape s es → Placed s → ((replay_from s es).channels c).next ≤ m → list_all (settles_below c m) (acts_in es) ≡ true
+settled_below : (shape : Shape) (c m : ℕ) (s : State) (es : List Entry) → LegalFrom shape s es → Placed s
+    → ((replay_from s es).channels c).next ≤ m → list_all (settles_below c m) (acts_in es) ≡ true
 unfolding LegalFrom replay_from
 settled_below shape c m s [] l h le = refl
 settled_below shape c m s (e ∷ es) l h le =
@@ -201,7 +231,8 @@ unfolding sum_of
 zeros zero = refl
 zeros (suc m) = let k = zeros m in omega arith
 
-one_settled : (c m : ℕ) (act : Act) → settles_below c m act ≡ true → sum_of m (λ p. one_if (wait_of c p) (settles act)) ≡ one (settles_on c act)
+one_settled : (c m : ℕ) (act : Act) → settles_below c m act ≡ true
+    → sum_of m (λ p. one_if (wait_of c p) (settles act)) ≡ one (settles_on c act)
 one_settled c m (Settle w outcome) h = by_test (w.channel == c) refl h
   where
     below_one : nat_lt w.place m ≡ true → w.place < m
@@ -225,7 +256,8 @@ one_settled c m (Settle w outcome) h = by_test (w.channel == c) refl h
     by_test false e h = sum_same m _ _ (λ p. other p e) ∙ zeros m
 one_settled c m other h = zeros m
 
-settled_sum : (c m : ℕ) (es : List Entry) → list_all (settles_below c m) (acts_in es) ≡ true → sum_of m (λ p. settlements_of (wait_of c p) es) ≡ how_many (settles_on c) (acts_in es)
+settled_sum : (c m : ℕ) (es : List Entry) → list_all (settles_below c m) (acts_in es) ≡ true
+    → sum_of m (λ p. settlements_of (wait_of c p) es) ≡ how_many (settles_on c) (acts_in es)
 unfolding settlements_of
 settled_sum c m [] h = zeros m
 settled_sum c m (e ∷ es) h =
@@ -258,11 +290,13 @@ unfolding acts_of
 own_less p who [] = omega arith
 own_less p who (e ∷ es) = by_test (e.who == who) (own_less p who es)
   where
-    by_test : (b : Bool) → how_many p (acts_of who es) ≤ how_many p (acts_in es) → how_many p (if b then e.act ∷ acts_of who es else acts_of who es) ≤ cond (p e.act) 1 0 + how_many p (acts_in es)
+    by_test : (b : Bool) → how_many p (acts_of who es) ≤ how_many p (acts_in es)
+        → how_many p (if b then e.act ∷ acts_of who es else acts_of who es) ≤ cond (p e.act) 1 0 + how_many p (acts_in es)
     by_test true h = omega arith
     by_test false h = omega arith
 
-pub got_bound : (shape : Shape) (c who : ℕ) (es : List Entry) → Legal shape es → IsShape shape → c < length shape → got c (acts_of who es) ≤ 2097152
+pub got_bound : (shape : Shape) (c who : ℕ) (es : List Entry) → Legal shape es → IsShape shape → c < length shape
+    → got c (acts_of who es) ≤ 2097152
 got_bound shape c who es l is c_low =
     let next = ((replay es).channels c).next in
     let few : next ≤ 1048576 = (let a = ((sound shape es l).channels c).within in let b = (is c c_low).few in omega arith) in

@@ -76,7 +76,8 @@ pub got_on : (c : ℕ) (acts : List Act) → got c acts ≤ how_many (is_on c) a
 got_on c [] = omega arith
 got_on c (a ∷ rest) = by_test (is_on c a) refl (got_on c rest)
   where
-    by_test : (b : Bool) → is_on c a ≡ b → got c rest ≤ how_many (is_on c) rest → cond (gets_permit c a) 1 0 + got c rest ≤ cond b 1 0 + how_many (is_on c) rest
+    by_test : (b : Bool) → is_on c a ≡ b → got c rest ≤ how_many (is_on c) rest
+        → cond (gets_permit c a) 1 0 + got c rest ≤ cond b 1 0 + how_many (is_on c) rest
     by_test true e k = at_most (gets_permit c a)
       where
         at_most : (b : Bool) → cond b 1 0 + got c rest ≤ 1 + how_many (is_on c) rest
@@ -88,7 +89,8 @@ pub given_on : (c : ℕ) (acts : List Act) → given c acts ≤ how_many (is_on 
 given_on c [] = omega arith
 given_on c (a ∷ rest) = by_test (is_on c a) refl (given_on c rest)
   where
-    by_test : (b : Bool) → is_on c a ≡ b → given c rest ≤ how_many (is_on c) rest → cond (gives_permit c a) 1 0 + given c rest ≤ cond b 1 0 + how_many (is_on c) rest
+    by_test : (b : Bool) → is_on c a ≡ b → given c rest ≤ how_many (is_on c) rest
+        → cond (gives_permit c a) 1 0 + given c rest ≤ cond b 1 0 + how_many (is_on c) rest
     by_test true e k = at_most (gives_permit c a)
       where
         at_most : (b : Bool) → cond b 1 0 + given c rest ≤ 1 + how_many (is_on c) rest
@@ -114,7 +116,9 @@ unfolding is_filler
 filler_append c [] more h = absurd (omega arith)
 filler_append c (a ∷ rest) more h = by_test (is_on c a) h (filler_append c rest more)
   where
-    by_test : (b : Bool) → 1 ≤ cond b 1 0 + how_many (is_on c) rest → (1 ≤ how_many (is_on c) rest → is_filler c (rest ++ more) ≡ is_filler c rest) → (if b then gives_permit c a else is_filler c (rest ++ more)) ≡ (if b then gives_permit c a else is_filler c rest)
+    by_test : (b : Bool) → 1 ≤ cond b 1 0 + how_many (is_on c) rest
+        → (1 ≤ how_many (is_on c) rest → is_filler c (rest ++ more) ≡ is_filler c rest)
+        → (if b then gives_permit c a else is_filler c (rest ++ more)) ≡ (if b then gives_permit c a else is_filler c rest)
     by_test true h k = refl
     by_test false h k = k (omega arith)
 
@@ -124,17 +128,20 @@ unfolding is_filler
 filler_none c [] h = refl
 filler_none c (a ∷ rest) h = by_test (is_on c a) h (filler_none c rest)
   where
-    by_test : (b : Bool) → cond b 1 0 + how_many (is_on c) rest ≡ 0 → (how_many (is_on c) rest ≡ 0 → is_filler c rest ≡ false) → (if b then gives_permit c a else is_filler c rest) ≡ false
+    by_test : (b : Bool) → cond b 1 0 + how_many (is_on c) rest ≡ 0 → (how_many (is_on c) rest ≡ 0 → is_filler c rest ≡ false)
+        → (if b then gives_permit c a else is_filler c rest) ≡ false
     by_test true h k = absurd (omega arith)
     by_test false h k = k (omega arith)
 
 -- the first on the channel, and it gives
-pub filler_first : (c : ℕ) (acts : List Act) (act : Act) → how_many (is_on c) acts ≡ 0 → is_on c act ≡ true → gives_permit c act ≡ true → is_filler c (acts ++ act ∷ []) ≡ true
+pub filler_first : (c : ℕ) (acts : List Act) (act : Act) → how_many (is_on c) acts ≡ 0 → is_on c act ≡ true → gives_permit c act ≡ true
+    → is_filler c (acts ++ act ∷ []) ≡ true
 unfolding is_filler
 filler_first c [] act h e f = ap (λ b. if b then gives_permit c act else false) e ∙ f
 filler_first c (a ∷ rest) act h e f = by_test (is_on c a) h (λ k. filler_first c rest act k e f)
   where
-    by_test : (b : Bool) → cond b 1 0 + how_many (is_on c) rest ≡ 0 → (how_many (is_on c) rest ≡ 0 → is_filler c (rest ++ act ∷ []) ≡ true) → (if b then gives_permit c a else is_filler c (rest ++ act ∷ [])) ≡ true
+    by_test : (b : Bool) → cond b 1 0 + how_many (is_on c) rest ≡ 0 → (how_many (is_on c) rest ≡ 0 → is_filler c (rest ++ act ∷ []) ≡ true)
+        → (if b then gives_permit c a else is_filler c (rest ++ act ∷ [])) ≡ true
     by_test true h k = absurd (omega arith)
     by_test false h k = k (omega arith)
 
@@ -149,11 +156,14 @@ gave_other c n acts e = ap (λ b. if b then given c acts - n else given c acts) 
 -- an act that gives nothing
 pub gave_same : (c n : ℕ) (acts : List Act) (act : Act) → gives_permit c act ≡ false → gave c n (acts ++ act ∷ []) ≡ gave c n acts
 gave_same c n acts act e =
-    let k : given c (acts ++ act ∷ []) ≡ given c acts = (let p = count_push (gives_permit c) acts act in let q = one_false (gives_permit c act) e in omega (arith, p, q)) in
-    ap (λ b. if b then given c (acts ++ act ∷ []) - n else given c (acts ++ act ∷ [])) (filler_push c acts act e) ∙ ap (λ m. if is_filler c acts then m - n else m) k
+    let k : given c (acts ++ act ∷ []) ≡ given c acts = (let p = count_push (gives_permit c) acts act
+    in let q = one_false (gives_permit c act) e in omega (arith, p, q)) in
+    ap (λ b. if b then given c (acts ++ act ∷ []) - n else given c (acts ++ act ∷ [])) (filler_push c acts act e)
+    ∙ ap (λ m. if is_filler c acts then m - n else m) k
 
 -- an act that gives, of one who filled the channel or got something before
-pub gave_more : (c n : ℕ) (acts : List Act) (act : Act) → 1 ≤ how_many (is_on c) acts → (is_filler c acts ≡ true → n ≤ given c acts) → gives_permit c act ≡ true → gave c n (acts ++ act ∷ []) ≡ gave c n acts + 1
+pub gave_more : (c n : ℕ) (acts : List Act) (act : Act) → 1 ≤ how_many (is_on c) acts → (is_filler c acts ≡ true → n ≤ given c acts)
+    → gives_permit c act ≡ true → gave c n (acts ++ act ∷ []) ≡ gave c n acts + 1
 gave_more c n acts act h filled e = by_test (is_filler c acts) refl
   where
     more : given c (acts ++ act ∷ []) ≡ given c acts + 1
@@ -174,7 +184,8 @@ gave_more c n acts act h filled e = by_test (is_filler c acts) refl
 
 -- ---- parts
 
-pub part_push : (c n : ℕ) (acts : List Act) (act : Act) → IsPermitPart c n acts → is_permit_act c act ≡ true → gave c n (acts ++ act ∷ []) ≤ got c (acts ++ act ∷ []) → IsPermitPart c n (acts ++ act ∷ [])
+pub part_push : (c n : ℕ) (acts : List Act) (act : Act) → IsPermitPart c n acts → is_permit_act c act ≡ true
+    → gave c n (acts ++ act ∷ []) ≤ got c (acts ++ act ∷ []) → IsPermitPart c n (acts ++ act ∷ [])
 part_push c n acts act h fits le = record {
   fits = all_push (is_permit_act c) acts act h.fits fits;
   covered = λ before p. ⊎_elim
@@ -197,7 +208,9 @@ pub record Goes (c n count count' : ℕ) (acts acts' : List Act) : Type 0 where
   pub filled : (is_filler c acts ≡ true → n ≤ given c acts) → is_filler c acts' ≡ true → n ≤ given c acts'
 
 -- an act that gives nothing, and gets a permit or not
-pub goes_getting : (c n count : ℕ) (acts : List Act) (act : Act) (b : Bool) → IsPermitPart c n acts → count ≡ held c n acts → is_permit_act c act ≡ true → gives_permit c act ≡ false → gets_permit c act ≡ b → Goes c n count (count + cond b 1 0) acts (acts ++ act ∷ [])
+pub goes_getting : (c n count : ℕ) (acts : List Act) (act : Act) (b : Bool) → IsPermitPart c n acts → count ≡ held c n acts
+    → is_permit_act c act ≡ true → gives_permit c act ≡ false → gets_permit c act ≡ b
+    → Goes c n count (count + cond b 1 0) acts (acts ++ act ∷ [])
 goes_getting c n count acts act b h is fits gives gets =
     let a = gave_same c n acts act gives in
     let g = count_push (gets_permit c) acts act in
@@ -214,7 +227,9 @@ goes_getting c n count acts act b h is fits gives gets =
     }
 
 -- an act that gives one of the permits that are held
-pub goes_giving : (c n count : ℕ) (acts : List Act) (act : Act) → IsPermitPart c n acts → count + 1 ≡ held c n acts → (is_filler c acts ≡ true → n ≤ given c acts) → is_permit_act c act ≡ true → gives_permit c act ≡ true → gets_permit c act ≡ false → Goes c n (count + 1) count acts (acts ++ act ∷ [])
+pub goes_giving : (c n count : ℕ) (acts : List Act) (act : Act) → IsPermitPart c n acts → count + 1 ≡ held c n acts
+    → (is_filler c acts ≡ true → n ≤ given c acts) → is_permit_act c act ≡ true → gives_permit c act ≡ true → gets_permit c act ≡ false
+    → Goes c n (count + 1) count acts (acts ++ act ∷ [])
 goes_giving c n count acts act h is filled fits gives gets =
     let some : 1 ≤ how_many (is_on c) acts = (let k = got_on c acts in omega arith) in
     let a = gave_more c n acts act some filled gives in

@@ -80,11 +80,13 @@ sum_change m q f g h e =
 
 -- ---- the acts of all coroutines
 
-own_count : (p : Act → Bool) (k : ℕ) (e : Entry) (es : List Entry) → how_many p (acts_of k (e ∷ es)) ≡ cond (e.who == k) (cond (p e.act) 1 0) 0 + how_many p (acts_of k es)
+own_count : (p : Act → Bool) (k : ℕ) (e : Entry) (es : List Entry)
+    → how_many p (acts_of k (e ∷ es)) ≡ cond (e.who == k) (cond (p e.act) 1 0) 0 + how_many p (acts_of k es)
 unfolding acts_of
 own_count p k e es = by_test (e.who == k)
   where
-    by_test : (b : Bool) → how_many p (if b then e.act ∷ acts_of k es else acts_of k es) ≡ cond b (cond (p e.act) 1 0) 0 + how_many p (acts_of k es)
+    by_test : (b : Bool) → how_many p (if b then e.act ∷ acts_of k es else acts_of k es) ≡
+        cond b (cond (p e.act) 1 0) 0 + how_many p (acts_of k es)
     by_test true = refl
     by_test false = omega arith
 
@@ -96,12 +98,14 @@ unfolding sum_of acts_of
 none_of_none p zero = refl
 none_of_none p (suc m) = let h = none_of_none p m in omega arith
 
-pub counted_by_tag : (p : Act → Bool) (m : ℕ) (es : List Entry) → are_below m es ≡ true → sum_of m (λ k. how_many p (acts_of k es)) ≡ how_many p (acts_in es)
+pub counted_by_tag : (p : Act → Bool) (m : ℕ) (es : List Entry) → are_below m es ≡ true
+    → sum_of m (λ k. how_many p (acts_of k es)) ≡ how_many p (acts_in es)
 counted_by_tag p m [] h = none_of_none p m
 counted_by_tag p m (e ∷ es) h =
     let rest = counted_by_tag p m es (all_rest (λ (x : Entry). nat_lt x.who m) e es h) in
     let low = below_one m e.who (all_first (λ (x : Entry). nat_lt x.who m) e es h) in
-    let a = sum_same m (λ k. how_many p (acts_of k (e ∷ es))) (λ k. cond (e.who == k) (cond (p e.act) 1 0) 0 + how_many p (acts_of k es)) (λ k. own_count p k e es) in
+    let a = sum_same m (λ k. how_many p (acts_of k (e ∷ es))) (λ k. cond (e.who == k) (cond (p e.act) 1 0) 0 + how_many p (acts_of k es))
+    (λ k. own_count p k e es) in
     let b = sum_plus m (λ k. cond (e.who == k) (cond (p e.act) 1 0) 0) (λ k. how_many p (acts_of k es)) in
     let c = sum_one m e.who (cond (p e.act) 1 0) low in
     omega arith

@@ -5,7 +5,6 @@ use Rattle.co_base.specs.declared.names.WaitId.{WaitId}
 use Rattle.channel_model.specs.declared.acts.Act.{Act}
 use Rattle.channel_model.specs.declared.acts.Act.TheVariants.{Hand, Put, Await, Take, Withdraw, Settle}
 use Rattle.channel_model.specs.declared.acts.ChannelNote.{ChannelNote}
-use Rattle.channel_model.specs.declared.acts.ChannelNote.TheVariants.{Late}
 use Rattle.channel_model.specs.declared.acts.Settled.{Settled}
 use Rattle.channel_model.specs.declared.acts.Settled.TheVariants as settled
 use Rattle.channel_model.specs.declared.acts.Why.{Why}
@@ -17,12 +16,13 @@ use Rattle.channel_model.proofs.Placed.{same_number}
 use Rattle.channel_model.proofs.Spans.{nothing_more}
 use Rattle.note_book.specs.declared.book.Item.{Item}
 use Rattle.note_book.specs.Items.{channel_act}
-use Rattle.call_meaning.specs.Telling.{Told, ChannelFact, on_channels, TakenBack, items_in, made, heard}
+use Rattle.call_meaning.specs.Telling.{Told, ChannelFact, on_channels, items_in, made, heard}
+use Rattle.call_meaning.specs.Seen.{SeenOnChannels}
 use Rattle.call_meaning.specs.Calls.{ToldOnChannels}
 use Rattle.call_meaning.proofs.ChannelsHeard.{told_then}
-use Rattle.channel_calls.specs.Calls.{Tells, IsUntouched, DispatchedAnswer}
+use Rattle.channel_calls.specs.Calls.{Tells, IsUntouched, DispatchedAnswer, end_told}
 use Rattle.channel_calls.specs.Parts.{EndsCancelled}
-use Rattle.channel_calls.proofs.Untold.{told_none}
+use Rattle.channel_calls.proofs.Untold.{untouched_told}
 use Rattle.permits.specs.Parts.{is_permit_act, gives_permit, gets_permit, brings_element, is_filler, given, held, IsPermitPart, UsesPermits}
 use Rattle.permits.specs.Answers.{TakesOne, AwaitsOne, GivesOne, GivenJust, EndsThen, GivesAgain}
 use Rattle.permits.proofs.PartsGo.{Goes, goes_getting, goes_giving, one_false}
@@ -30,29 +30,34 @@ use Rattle.permits.proofs.Bounds.{got_bound}
 
 -- ---- what a call added
 
-pub told_adds : (who : ℕ) (act : Act) (a d : Floor) (i k : List Item) → ToldOnChannels who a d i k (made act ∷ []) → Added who (act ∷ []) a d
+pub told_adds : {act : Act} {a d : SeenOnChannels} → ToldOnChannels a d (made act ∷ []) → Added a.who (act ∷ []) a.floor d.floor
 unfolding items_in
-told_adds who act a d i k h = h.added
+told_adds h = h.added
 
-pub heard_adds : (who : ℕ) (n : ChannelNote) (a d : Floor) (i k : List Item) → channel_act n ≡ [] → ToldOnChannels who a d i k (heard n ∷ []) → Added who [] a d
+pub heard_adds : {n : ChannelNote} {a d : SeenOnChannels} → channel_act n ≡ [] → ToldOnChannels a d (heard n ∷ [])
+    → Added a.who [] a.floor d.floor
 unfolding items_in
-heard_adds who n a d i k e h = subst (λ l. Added who l a d) (nothing_more (channel_act n) ∙ e) h.added
+heard_adds {n} {a} {d} e h = subst (λ l. Added a.who l a.floor d.floor) (nothing_more (channel_act n) ∙ e) h.added
 
-pub met_adds : (who : ℕ) (fact : ChannelFact) (n : ChannelNote) (a d : Floor) (i k : List Item) → channel_act n ≡ [] → ToldOnChannels who a d i k (on_channels fact ∷ heard n ∷ []) → Added who [] a d
+pub met_adds : {fact : ChannelFact} {n : ChannelNote} {a d : SeenOnChannels} → channel_act n ≡ []
+    → ToldOnChannels a d (on_channels fact ∷ heard n ∷ []) → Added a.who [] a.floor d.floor
 unfolding items_in
-met_adds who fact n a d i k e h = subst (λ l. Added who l a d) (nothing_more (channel_act n) ∙ e) h.added
+met_adds {fact} {n} {a} {d} e h = subst (λ l. Added a.who l a.floor d.floor) (nothing_more (channel_act n) ∙ e) h.added
 
-pub fact_adds : (who : ℕ) (fact : ChannelFact) (act : Act) (a d : Floor) (i k : List Item) → ToldOnChannels who a d i k (on_channels fact ∷ made act ∷ []) → Added who (act ∷ []) a d
+pub fact_adds : {fact : ChannelFact} {act : Act} {a d : SeenOnChannels} → ToldOnChannels a d (on_channels fact ∷ made act ∷ [])
+    → Added a.who (act ∷ []) a.floor d.floor
 unfolding items_in
-fact_adds who fact act a d i k h = h.added
+fact_adds h = h.added
 
-pub two_add : (who : ℕ) (one two : Act) (a d : Floor) (i k : List Item) → ToldOnChannels who a d i k (made one ∷ made two ∷ []) → Added who (one ∷ two ∷ []) a d
+pub two_add : {one two : Act} {a d : SeenOnChannels} → ToldOnChannels a d (made one ∷ made two ∷ [])
+    → Added a.who (one ∷ two ∷ []) a.floor d.floor
 unfolding items_in
-two_add who one two a d i k h = h.added
+two_add h = h.added
 
-pub late_adds : (who : ℕ) (n : ChannelNote) (act : Act) (a d : Floor) (i k : List Item) → channel_act n ≡ [] → ToldOnChannels who a d i k (heard n ∷ made act ∷ []) → Added who (act ∷ []) a d
+pub late_adds : {n : ChannelNote} {act : Act} {a d : SeenOnChannels} → channel_act n ≡ [] → ToldOnChannels a d (heard n ∷ made act ∷ [])
+    → Added a.who (act ∷ []) a.floor d.floor
 unfolding items_in
-late_adds who n act a d i k e h = subst (λ l. Added who (l ++ act ∷ []) a d) e h.added
+late_adds {n} {act} {a} {d} e h = subst (λ l. Added a.who (l ++ act ∷ []) a.floor d.floor) e h.added
 
 pub can_kept : (c who : ℕ) (a d : Floor) → SameSetting a d → MayCall who c a → MayCall who c d
 can_kept c who a d same m = record {
@@ -62,7 +67,8 @@ can_kept c who a d same m = record {
 
 -- ---- who uses permits, after that
 
-pub uses_added : (c n who count count' : ℕ) (act : Act) (a d : Floor) → Added who (act ∷ []) a d → UsesPermits c n who count a → Goes c n count count' (acts_of who a.seen) (acts_of who a.seen ++ act ∷ []) → UsesPermits c n who count' d
+pub uses_added : (c n who count count' : ℕ) (act : Act) (a d : Floor) → Added who (act ∷ []) a d → UsesPermits c n who count a
+    → Goes c n count count' (acts_of who a.seen) (acts_of who a.seen ++ act ∷ []) → UsesPermits c n who count' d
 uses_added c n who count count' act a d h u g =
     let mine = sym h.mine in
     record {
@@ -78,7 +84,8 @@ uses_added c n who count count' act a d h u g =
     }
 
 -- who has the same acts uses permits as before
-pub uses_kept : (c n who count : ℕ) (a d : Floor) → SameSetting a d → acts_of who d.seen ≡ acts_of who a.seen → UsesPermits c n who count a → UsesPermits c n who count d
+pub uses_kept : (c n who count : ℕ) (a d : Floor) → SameSetting a d → acts_of who d.seen ≡ acts_of who a.seen → UsesPermits c n who count a
+    → UsesPermits c n who count d
 uses_kept c n who count a d same e u = record {
   holds = record {
     can = can_kept c who a d same u.holds.can;
@@ -94,23 +101,37 @@ uses_kept c n who count a d same e u = record {
 pub uses_still : (c n who count : ℕ) (a d : Floor) → Added who [] a d → UsesPermits c n who count a → UsesPermits c n who count d
 uses_still c n who count a d h u = uses_kept c n who count a d h.same (h.mine ∙ nothing_more (acts_of who a.seen)) u
 
-pub uses_same : (c n who count : ℕ) (a d : Floor) (i k : List Item) → IsUntouched a d i k → UsesPermits c n who count a → UsesPermits c n who count d
-uses_same c n who count a d i k h u = subst (UsesPermits c n who count) (sym h.floor) u
+-- in parts, as a search finds it
+pub uses_same : (c n who me count : ℕ) (a d : Floor) (i k : List Item)
+    → IsUntouched (record { who = who; floor = a; items = i }) (record { who = me; floor = d; items = k }) → UsesPermits c n who count a
+    → UsesPermits c n who count d
+uses_same c n who me count a d i k h u = subst (UsesPermits c n who count) (sym h.floor) u
 
 -- an act that gives no permit, and gets one or not
-pub uses_getting : (c n who count : ℕ) (act : Act) (b : Bool) (a d : Floor) → Added who (act ∷ []) a d → UsesPermits c n who count a → is_permit_act c act ≡ true → gives_permit c act ≡ false → gets_permit c act ≡ b → UsesPermits c n who (count + cond b 1 0) d
-uses_getting c n who count act b a d h u fits gives gets = uses_added c n who count _ act a d h u (goes_getting c n count (acts_of who a.seen) act b u.holds.part u.holds.count_is fits gives gets)
+pub uses_getting : (c n who count : ℕ) (act : Act) (b : Bool) (a d : Floor) → Added who (act ∷ []) a d → UsesPermits c n who count a
+    → is_permit_act c act ≡ true → gives_permit c act ≡ false → gets_permit c act ≡ b → UsesPermits c n who (count + cond b 1 0) d
+uses_getting c n who count act b a d h u fits gives gets =
+    uses_added c n who count _ act a d h u (goes_getting c n count (acts_of who a.seen) act b u.holds.part u.holds.count_is fits gives gets)
 
-pub uses_giving : (c n who count : ℕ) (act : Act) (a d : Floor) → Added who (act ∷ []) a d → UsesPermits c n who (count + 1) a → is_permit_act c act ≡ true → gives_permit c act ≡ true → gets_permit c act ≡ false → UsesPermits c n who count d
-uses_giving c n who count act a d h u fits gives gets = uses_added c n who (count + 1) count act a d h u (goes_giving c n count (acts_of who a.seen) act u.holds.part u.holds.count_is u.filled fits gives gets)
+pub uses_giving : (c n who count : ℕ) (act : Act) (a d : Floor) → Added who (act ∷ []) a d → UsesPermits c n who (count + 1) a
+    → is_permit_act c act ≡ true → gives_permit c act ≡ true → gets_permit c act ≡ false → UsesPermits c n who count d
+uses_giving c n who count act a d h u fits gives gets =
+    uses_added c n who (count + 1) count act a d h u (goes_giving c n count (acts_of who a.seen) act u.holds.part u.holds.count_is u.filled
+    fits gives gets)
 
 -- two acts, of which the second settles
-uses_two : (c n who count : ℕ) (w : WaitId) (why : Why) (outcome : Settled) (a d : Floor) → w.channel ≡ c → Added who (Withdraw w why ∷ Settle w outcome ∷ []) a d → UsesPermits c n who count a → UsesPermits c n who (count + cond (brings_element outcome) 1 0) d
+uses_two : (c n who count : ℕ) (w : WaitId) (why : Why) (outcome : Settled) (a d : Floor) → w.channel ≡ c
+    → Added who (Withdraw w why ∷ Settle w outcome ∷ []) a d → UsesPermits c n who count a
+    → UsesPermits c n who (count + cond (brings_element outcome) 1 0) d
 uses_two c n who count w why outcome a d here h u =
     let first = goes_getting c n count (acts_of who a.seen) (Withdraw w why) false u.holds.part u.holds.count_is refl refl refl in
     let is : (w.channel == c) ≡ true = ap (λ (x : ℕ). x == c) here ∙ same_number c in
-    let second = goes_getting c n (count + 0) (acts_of who a.seen ++ Withdraw w why ∷ []) (Settle w outcome) (brings_element outcome) first.part first.count_is refl refl (ap (λ (b : Bool). b && brings_element outcome) is) in
-    let mine : (acts_of who a.seen ++ Withdraw w why ∷ []) ++ Settle w outcome ∷ [] ≡ acts_of who d.seen = append_assoc (acts_of who a.seen) (Withdraw w why ∷ []) (Settle w outcome ∷ []) ∙ sym h.mine in
+    let second = goes_getting c n (count + 0) (acts_of who a.seen
+    ++ Withdraw w why ∷ []) (Settle w outcome) (brings_element outcome) first.part first.count_is refl refl
+    (ap (λ (b : Bool). b && brings_element outcome) is) in
+    let mine : (acts_of who a.seen ++ Withdraw w why ∷ [])
+    ++ Settle w outcome ∷ [] ≡ acts_of who d.seen = append_assoc (acts_of who a.seen) (Withdraw w why ∷ []) (Settle w outcome ∷ [])
+    ∙ sym h.mine in
     let same : count + 0 + cond (brings_element outcome) 1 0 ≡ count + cond (brings_element outcome) 1 0 = omega arith in
     record {
       holds = record {
@@ -126,31 +147,38 @@ uses_two c n who count w why outcome a d here h u =
 
 -- ---- by the steps
 
-pub uses_taking : (c n who v count : ℕ) (a d : Floor) (i k : List Item) → TakesOne who c v a d i k → UsesPermits c n who count a → UsesPermits c n who (count + 1) d
-uses_taking c n who v count a d i k t u =
-    uses_getting c n who count (Take c t.place v) true a d (told_adds who (Take c t.place v) a d i k t.told) u refl refl (same_number c)
+pub uses_taking : {c n v count : ℕ} {a d : SeenOnChannels} → TakesOne c v a d → UsesPermits c n a.who count a.floor
+    → UsesPermits c n a.who (count + 1) d.floor
+uses_taking {c} {n} {v} {count} {a} {d} t u =
+    uses_getting c n a.who count (Take c t.place v) true a.floor d.floor (told_adds t.told) u refl refl (same_number c)
 
-pub uses_awaiting : (c n who count : ℕ) (w : WaitId) (a d : Floor) (i k : List Item) → AwaitsOne who c w a d i k → UsesPermits c n who count a → UsesPermits c n who count d
-uses_awaiting c n who count w a d i k t u =
-    let r = uses_getting c n who count (Await c t.place w 0) false a d (told_adds who (Await c t.place w 0) a d i k t.told) u (or_true _) refl refl in
-    subst (λ m. UsesPermits c n who m d) (let e : count + 0 ≡ count = omega arith in e) r
+pub uses_awaiting : {c n count : ℕ} {w : WaitId} {a d : SeenOnChannels} → AwaitsOne c w a d → UsesPermits c n a.who count a.floor
+    → UsesPermits c n a.who count d.floor
+uses_awaiting {c} {n} {count} {w} {a} {d} t u =
+    let r = uses_getting c n a.who count (Await c t.place w 0) false a.floor d.floor (told_adds t.told) u (or_true _) refl refl in
+    subst (λ m. UsesPermits c n a.who m d.floor) (let e : count + 0 ≡ count = omega arith in e) r
   where
     or_true : (b : Bool) → (b || true) ≡ true
     or_true true = refl
     or_true false = refl
 
-pub uses_given : (c n who v count : ℕ) (a d : Floor) (i k : List Item) → GivenJust who c v a d i k → UsesPermits c n who (count + 1) a → UsesPermits c n who count d
-uses_given c n who v count a d i k t u = by_act t.act t.gives (told_adds who t.act a d i k t.told)
+pub uses_given : {c n v count : ℕ} {a d : SeenOnChannels} → GivenJust c v a d → UsesPermits c n a.who (count + 1) a.floor
+    → UsesPermits c n a.who count d.floor
+uses_given {c} {n} {v} {count} {a} {d} t u = by_act t.act t.gives (told_adds t.told)
   where
-    by_act : (act : Act) → GivesOne c v act → Added who (act ∷ []) a d → UsesPermits c n who count d
-    by_act _ (GivesOne.hands place) h = uses_giving c n who count (Hand c place v) a d h u refl (same_number c) refl
-    by_act _ (GivesOne.puts place) h = uses_giving c n who count (Put c place v) a d h u refl (same_number c) refl
+    by_act : (act : Act) → GivesOne c v act → Added a.who (act ∷ []) a.floor d.floor → UsesPermits c n a.who count d.floor
+    by_act _ (GivesOne.hands place) h = uses_giving c n a.who count (Hand c place v) a.floor d.floor h u refl (same_number c) refl
+    by_act _ (GivesOne.puts place) h = uses_giving c n a.who count (Put c place v) a.floor d.floor h u refl (same_number c) refl
 
-pub uses_settling : (c n who count : ℕ) (w : WaitId) (outcome : Settled) (a d : Floor) → w.channel ≡ c → Added who (Settle w outcome ∷ []) a d → UsesPermits c n who count a → UsesPermits c n who (count + cond (brings_element outcome) 1 0) d
+pub uses_settling : (c n who count : ℕ) (w : WaitId) (outcome : Settled) (a d : Floor) → w.channel ≡ c
+    → Added who (Settle w outcome ∷ []) a d → UsesPermits c n who count a
+    → UsesPermits c n who (count + cond (brings_element outcome) 1 0) d
 uses_settling c n who count w outcome a d here h u =
-    uses_getting c n who count (Settle w outcome) (brings_element outcome) a d h u refl refl (ap (λ (x : ℕ). (x == c) && brings_element outcome) here ∙ ap (λ (b : Bool). b && brings_element outcome) (same_number c))
+    uses_getting c n who count (Settle w outcome) (brings_element outcome) a d h u refl refl
+    (ap (λ (x : ℕ). (x == c) && brings_element outcome) here ∙ ap (λ (b : Bool). b && brings_element outcome) (same_number c))
 
-pub uses_withdrawing : (c n who count : ℕ) (w : WaitId) (why : Why) (a d : Floor) → Added who (Withdraw w why ∷ []) a d → UsesPermits c n who count a → UsesPermits c n who count d
+pub uses_withdrawing : (c n who count : ℕ) (w : WaitId) (why : Why) (a d : Floor) → Added who (Withdraw w why ∷ []) a d
+    → UsesPermits c n who count a → UsesPermits c n who count d
 uses_withdrawing c n who count w why a d h u =
     let r = uses_getting c n who count (Withdraw w why) false a d h u refl refl refl in
     subst (λ m. UsesPermits c n who m d) (let e : count + 0 ≡ count = omega arith in e) r
@@ -160,7 +188,8 @@ uses_withdrawing c n who count w why a d h u =
 pub one_more_fits : (count : ℕ) → count ≤ 2097152 → Fits w32 (count + 1)
 one_more_fits count h = record { fits = omega arith }
 
-pub count_small : (c n who count : ℕ) (floor : Floor) → Legal floor.shape floor.seen → IsShape floor.shape → UsesPermits c n who count floor → count ≤ 2097152
+pub count_small : (c n who count : ℕ) (floor : Floor) → Legal floor.shape floor.seen → IsShape floor.shape → UsesPermits c n who count floor
+    → count ≤ 2097152
 count_small c n who count floor l s u =
     let g = got_bound floor.shape c who floor.seen l s u.holds.can.channel in
     let e = u.holds.count_is in
@@ -169,49 +198,57 @@ count_small c n who count floor l s u =
 -- ---- by the end of a wait
 
 -- a wait that ended as it was resolved gives the permit that was handed to it
-pub uses_ending : (c n who count : ℕ) (w : WaitId) (outcome : Settled) (a d : Floor) (i k : List Item) → w.channel ≡ c → DispatchedAnswer who w false a d i k (Ok outcome) → UsesPermits c n who count a → UsesPermits c n who (count + cond (brings_element outcome) 1 0) d
-uses_ending c n who count w (settled.Value j v) a d i k here h u = uses_settling c n who count w (settled.Value j v) a d here (told_adds who (Settle w (settled.Value j v)) a d i k h.0) u
-uses_ending c n who count w (settled.Sent j) a d i k here h u = uses_settling c n who count w (settled.Sent j) a d here (told_adds who (Settle w (settled.Sent j)) a d i k h.0) u
-uses_ending c n who count w (settled.Closed j v) a d i k here h u = uses_settling c n who count w (settled.Closed j v) a d here (told_adds who (Settle w (settled.Closed j v)) a d i k h.0) u
-uses_ending c n who count w settled.Cancelled a d i k here h u = uses_settling c n who count w settled.Cancelled a d here (fact_adds who (TakenBack w) (Settle w settled.Cancelled) a d i k h.0) u
-uses_ending c n who count w (settled.Undelivered v) a d i k here h u = uses_settling c n who count w (settled.Undelivered v) a d here (told_adds who (Settle w (settled.Undelivered v)) a d i k h.0) u
+pub uses_ending : (w : WaitId) (outcome : Settled) {c n count : ℕ} {a d : SeenOnChannels} → w.channel ≡ c
+    → DispatchedAnswer w false a d (Ok outcome) → UsesPermits c n a.who count a.floor
+    → UsesPermits c n a.who (count + cond (brings_element outcome) 1 0) d.floor
+uses_ending w outcome {c} {n} {count} {a} {d} here h u = uses_settling c n a.who count w outcome a.floor d.floor here (adds outcome h.0) u
+  where
+    adds : (x : Settled) → ToldOnChannels a d (end_told w false x) → Added a.who (Settle w x ∷ []) a.floor d.floor
+    adds (settled.Value j v) t = told_adds t
+    adds (settled.Sent j) t = told_adds t
+    adds (settled.Closed j v) t = told_adds t
+    adds settled.Cancelled t = fact_adds t
+    adds (settled.Undelivered v) t = told_adds t
 
-pub uses_ending_none : (c n who count : ℕ) (w : WaitId) (outcome : Settled) (a d : Floor) (i k : List Item) → w.channel ≡ c → DispatchedAnswer who w false a d i k (Ok outcome) → brings_element outcome ≡ false → UsesPermits c n who count a → UsesPermits c n who count d
-uses_ending_none c n who count w outcome a d i k here h none u =
+pub uses_ending_none : (w : WaitId) (outcome : Settled) {c n count : ℕ} {a d : SeenOnChannels} → w.channel ≡ c
+    → DispatchedAnswer w false a d (Ok outcome) → brings_element outcome ≡ false → UsesPermits c n a.who count a.floor
+    → UsesPermits c n a.who count d.floor
+uses_ending_none w outcome {c} {n} {count} {a} {d} here h none u =
     let z = one_false (brings_element outcome) none in
-    subst (λ m. UsesPermits c n who m d) (let e : count + cond (brings_element outcome) 1 0 ≡ count = omega (arith, z) in e) (uses_ending c n who count w outcome a d i k here h u)
+    subst (λ m. UsesPermits c n a.who m d.floor) (let e : count + cond (brings_element outcome) 1 0 ≡ count = omega (arith, z) in e)
+    (uses_ending w outcome here h u)
 
 -- one that ended as cancelled too, whether it was taken back or that came too late
-pub uses_cancelling : (c n who count : ℕ) (w : WaitId) (outcome : Settled) (a d : Floor) (i k : List Item) → w.channel ≡ c → Tells who (EndsCancelled w outcome) a d i k → UsesPermits c n who count a → UsesPermits c n who (count + cond (brings_element outcome) 1 0) d
-uses_cancelling c n who count w outcome a d i k here t u = by_case outcome t.told t.goes t.left
+pub uses_cancelling : {c n count : ℕ} {w : WaitId} {outcome : Settled} {a d : SeenOnChannels} → w.channel ≡ c
+    → Tells (EndsCancelled w outcome) a d → UsesPermits c n a.who count a.floor
+    → UsesPermits c n a.who (count + cond (brings_element outcome) 1 0) d.floor
+uses_cancelling {c} {n} {count} {w} {outcome} {a} {d} here t u = by_case outcome t.told t.goes t.left
   where
-    by_case : (outcome : Settled) (told : List Told) → EndsCancelled w outcome told → ToldOnChannels who a d i k told → UsesPermits c n who (count + cond (brings_element outcome) 1 0) d
-    by_case _ _ EndsCancelled.withdrawn h = uses_two c n who count w why.Cancelled settled.Cancelled a d here (two_add who (Withdraw w why.Cancelled) (Settle w settled.Cancelled) a d i k h) u
-    by_case _ _ (EndsCancelled.late outcome e) h = uses_settling c n who count w outcome a d here (late_adds who (Late w) (Settle w outcome) a d i k refl h) u
+    by_case : (outcome : Settled) (told : List Told) → EndsCancelled w outcome told → ToldOnChannels a d told
+        → UsesPermits c n a.who (count + cond (brings_element outcome) 1 0) d.floor
+    by_case _ _ EndsCancelled.withdrawn h = uses_two c n a.who count w why.Cancelled settled.Cancelled a.floor d.floor here (two_add h) u
+    by_case _ _ (EndsCancelled.late outcome e) h = uses_settling c n a.who count w outcome a.floor d.floor here (late_adds refl h) u
 
-pub uses_cancelling_none : (c n who count : ℕ) (w : WaitId) (a d : Floor) (i k : List Item) → w.channel ≡ c → Tells who (EndsCancelled w settled.Cancelled) a d i k → UsesPermits c n who count a → UsesPermits c n who count d
-uses_cancelling_none c n who count w a d i k here t u =
-    subst (λ m. UsesPermits c n who m d) (let e : count + 0 ≡ count = omega arith in e) (uses_cancelling c n who count w settled.Cancelled a d i k here t u)
+pub uses_cancelling_none : {c n count : ℕ} {w : WaitId} {a d : SeenOnChannels} → w.channel ≡ c
+    → Tells (EndsCancelled w settled.Cancelled) a d
+    → UsesPermits c n a.who count a.floor → UsesPermits c n a.who count d.floor
+uses_cancelling_none {c} {n} {count} {w} {a} {d} here t u =
+    subst (λ m. UsesPermits c n a.who m d.floor) (let e : count + 0 ≡ count = omega arith in e) (uses_cancelling here t u)
 
 -- ---- what a wait that was given up tells, with what came after
 
-abbrev GivesUp : WaitId → (ℕ → List Told → Type 0) → ℕ → Floor → Floor → List Item → List Item → Type 0
-GivesUp w P who a d i l = Tells who (EndsThen w P) a d i l
+pub ends_then : {v : ℕ} {w : WaitId} {P : ℕ → List Told → Type 0} {more : List Told} {a b d : SeenOnChannels}
+    → Tells (EndsCancelled w (settled.Undelivered v)) a b → P v more → ToldOnChannels b d more → Tells (EndsThen w P) a d
+ends_then {v} {w} {P} {more} t p m = record {
+  told = t.told ++ more;
+  goes = record { value = v; ends = t.told; more = more; ended = t.goes; goes = p; whole = refl };
+  left = told_then t.left m;
+}
 
-pub ends_then : (who who' v : ℕ) (w : WaitId) (P : ℕ → List Told → Type 0) (more : List Told) (a b d : Floor) (i k l : List Item) → who' ≡ who → Tells who (EndsCancelled w (settled.Undelivered v)) a b i k → P v more → ToldOnChannels who' b d k l more → GivesUp w P who a d i l
-ends_then who who' v w P more a b d i k l is t p m' =
-    let m : ToldOnChannels who b d k l more = subst (λ x. ToldOnChannels x b d k l more) is m' in
-    record {
-      told = t.told ++ more;
-      goes = record { value = v; ends = t.told; more = more; ended = t.goes; goes = p; whole = refl };
-      left = told_then who a b d i k l t.told more t.left m;
-    }
+pub ends_given : {c v : ℕ} {w : WaitId} {a b d : SeenOnChannels} → Tells (EndsCancelled w (settled.Undelivered v)) a b → GivenJust c v b d
+    → Tells (EndsThen w (GivesAgain c)) a d
+ends_given {c} {v} {w} t m = ends_then t (record { act = m.act; gives = m.gives; is = refl }) m.told
 
-pub ends_given : (c who who' v : ℕ) (w : WaitId) (a b d : Floor) (i k l : List Item) → who' ≡ who → Tells who (EndsCancelled w (settled.Undelivered v)) a b i k → GivenJust who' c v b d k l → Tells who (EndsThen w (GivesAgain c)) a d i l
-ends_given c who who' v w a b d i k l is t m = ends_then who who' v w (GivesAgain c) (made m.act ∷ []) a b d i k l is t (record { act = m.act; gives = m.gives; is = refl }) m.told
-
-pub ends_alone : (who who' v : ℕ) (w : WaitId) (a b d : Floor) (i k l : List Item) → who' ≡ who → Tells who (EndsCancelled w (settled.Undelivered v)) a b i k → IsUntouched b d k l → Tells who (EndsThen w (λ v more. more ≡ [])) a d i l
-ends_alone who who' v w a b d i k l is t m =
-    subst (λ x. Tells who (EndsThen w (λ v more. more ≡ [])) a x i l) (sym m.floor)
-    (subst (λ x. Tells who (EndsThen w (λ v more. more ≡ [])) a b i x) (sym m.book)
-    (ends_then who who v w (λ v more. more ≡ []) [] a b b i k k refl t refl (told_none who b k)))
+pub ends_alone : {v : ℕ} {w : WaitId} {a b d : SeenOnChannels} → Tells (EndsCancelled w (settled.Undelivered v)) a b → IsUntouched b d
+    → Tells (EndsThen w (λ v more. more ≡ [])) a d
+ends_alone t m = ends_then t refl (untouched_told m)

@@ -7,8 +7,7 @@ use Rattle.channel_model.specs.declared.acts.Act.TheVariants.{Hand, Put, Await, 
 use Rattle.channel_model.specs.declared.acts.ChannelNote.TheVariants.{SendClosed, ReceiveClosed, TryReceiveClosed}
 use Rattle.channel_model.specs.declared.acts.Settled.{Settled}
 use Rattle.channel_model.specs.declared.acts.Settled.TheVariants as settled
-use Rattle.channel_model.specs.Floors.{Floor}
-use Rattle.note_book.specs.declared.book.Item.{Item}
+use Rattle.call_meaning.specs.Seen.{SeenOnChannels}
 use Rattle.call_meaning.specs.Telling.{Told, made, heard}
 use Rattle.call_meaning.specs.ChannelCalls.{sends, receives, wait_at, blocked, spent}
 use Rattle.call_meaning.specs.Calls.{ToldOnChannels}
@@ -63,49 +62,49 @@ given_once other = 0
 -- ---- the steps
 
 -- the first element was taken
-pub record TakesOne (who c v : ℕ) (old new : Floor) (items items' : List Item) : Type 0 where
+pub record TakesOne (c v : ℕ) (old new : SeenOnChannels) : Type 0 where
   pub place : ℕ
-  pub told : ToldOnChannels who old new items items' (made (Take c place v) ∷ [])
+  pub told : ToldOnChannels old new (made (Take c place v) ∷ [])
 
 -- a receiver was placed, and waits
-pub record AwaitsOne (who c : ℕ) (w : WaitId) (old new : Floor) (items items' : List Item) : Type 0 where
+pub record AwaitsOne (c : ℕ) (w : WaitId) (old new : SeenOnChannels) : Type 0 where
   pub place : ℕ
   pub is : w ≡ wait_at c place
-  pub told : ToldOnChannels who old new items items' (made (Await c place w 0) ∷ [])
-  pub waits : IsLeftWaiting who w (Await c place w 0 ∷ []) old new
+  pub told : ToldOnChannels old new (made (Await c place w 0) ∷ [])
+  pub waits : IsLeftWaiting w (Await c place w 0 ∷ []) old new
 
-abbrev pub ReceivedOnce : ℕ → ℕ → Floor → Floor → List Item → List Item → Result ReceiveAnswer Memory → Type 0
-ReceivedOnce who c old new i i' (Ok (receive.Value v)) = TakesOne who c v old new i i'
-ReceivedOnce who c old new i i' (Ok (receive.Waits w)) = AwaitsOne who c w old new i i'
-ReceivedOnce who c old new i i' (Ok (receive.Closed x)) = ToldOnChannels who old new i i' (heard (ReceiveClosed c x) ∷ [])
-ReceivedOnce who c old new i i' (Ok receive.Spent) = ToldOnChannels who old new i i' (spent (receives c))
-ReceivedOnce who c old new i i' (Err m) = IsUntouched old new i i'
+abbrev pub ReceivedOnce : ℕ → SeenOnChannels → SeenOnChannels → Result ReceiveAnswer Memory → Type 0
+ReceivedOnce c old new (Ok (receive.Value v)) = TakesOne c v old new
+ReceivedOnce c old new (Ok (receive.Waits w)) = AwaitsOne c w old new
+ReceivedOnce c old new (Ok (receive.Closed x)) = ToldOnChannels old new (heard (ReceiveClosed c x) ∷ [])
+ReceivedOnce c old new (Ok receive.Spent) = ToldOnChannels old new (spent (receives c))
+ReceivedOnce c old new (Err m) = IsUntouched old new
 
-abbrev pub TriedOnce : ℕ → ℕ → Floor → Floor → List Item → List Item → Result TryReceiveAnswer Memory → Type 0
-TriedOnce who c old new i i' (Ok (try_receive.Value v)) = TakesOne who c v old new i i'
-TriedOnce who c old new i i' (Ok try_receive.Empty) = ToldOnChannels who old new i i' (blocked (receives c) ∷ [])
-TriedOnce who c old new i i' (Ok (try_receive.Closed x)) = ToldOnChannels who old new i i' (heard (TryReceiveClosed c x) ∷ [])
-TriedOnce who c old new i i' (Err m) = IsUntouched old new i i'
+abbrev pub TriedOnce : ℕ → SeenOnChannels → SeenOnChannels → Result TryReceiveAnswer Memory → Type 0
+TriedOnce c old new (Ok (try_receive.Value v)) = TakesOne c v old new
+TriedOnce c old new (Ok try_receive.Empty) = ToldOnChannels old new (blocked (receives c) ∷ [])
+TriedOnce c old new (Ok (try_receive.Closed x)) = ToldOnChannels old new (heard (TryReceiveClosed c x) ∷ [])
+TriedOnce c old new (Err m) = IsUntouched old new
 
 -- an element was handed or put
 pub data GivesOne (c v : ℕ) : Act → Type 0 where
   hands : (place : ℕ) → GivesOne c v (Hand c place v)
   puts : (place : ℕ) → GivesOne c v (Put c place v)
 
-pub record GivenJust (who c v : ℕ) (old new : Floor) (items items' : List Item) : Type 0 where
+pub record GivenJust (c v : ℕ) (old new : SeenOnChannels) : Type 0 where
   pub act : Act
   pub gives : GivesOne c v act
-  pub told : ToldOnChannels who old new items items' (made act ∷ [])
+  pub told : ToldOnChannels old new (made act ∷ [])
 
-abbrev pub GivenOnce : ℕ → ℕ → ℕ → Floor → Floor → List Item → List Item → Result Given Memory → Type 0
-GivenOnce who c v old new i i' (Ok given.Done) = GivenJust who c v old new i i'
-GivenOnce who c v old new i i' (Ok (given.Closed x)) = ToldOnChannels who old new i i' (heard (SendClosed c v x) ∷ [])
-GivenOnce who c v old new i i' (Ok given.Spent) = ToldOnChannels who old new i i' (spent (sends c v))
-GivenOnce who c v old new i i' (Err m) = IsUntouched old new i i'
+abbrev pub GivenOnce : ℕ → ℕ → SeenOnChannels → SeenOnChannels → Result Given Memory → Type 0
+GivenOnce c v old new (Ok given.Done) = GivenJust c v old new
+GivenOnce c v old new (Ok (given.Closed x)) = ToldOnChannels old new (heard (SendClosed c v x) ∷ [])
+GivenOnce c v old new (Ok given.Spent) = ToldOnChannels old new (spent (sends c v))
+GivenOnce c v old new (Err m) = IsUntouched old new
 
-abbrev pub EndedOnce : ℕ → WaitId → Floor → Floor → List Item → List Item → Result Settled Memory → Type 0
-EndedOnce who w old new i i' (Ok outcome) = Tells who (EndsCancelled w outcome) old new i i'
-EndedOnce who w old new i i' (Err m) = IsUntouched old new i i'
+abbrev pub EndedOnce : WaitId → SeenOnChannels → SeenOnChannels → Result Settled Memory → Type 0
+EndedOnce w old new (Ok outcome) = Tells (EndsCancelled w outcome) old new
+EndedOnce w old new (Err m) = IsUntouched old new
 
 -- ---- fill
 
@@ -119,39 +118,39 @@ pub data GivesAll (c m : ℕ) : ℕ → List Told → Type 0 where
 pub data GivesSome (c n : ℕ) (stops : ℕ → List Told) : List Told → Type 0 where
   some : (m : ℕ) (gave all : List Told) → m < n → GivesAll c m 0 gave → all ≡ gave ++ stops m → GivesSome c n stops all
 
-abbrev pub FilledAnswer : ℕ → ℕ → ℕ → Floor → Floor → List Item → List Item → Result Filled Memory → Type 0
-FilledAnswer who c n old new i i' (Ok filled.Done) = Tells who (GivesAll c n 0) old new i i'
-FilledAnswer who c n old new i i' (Ok (filled.Closed x)) = Tells who (GivesSome c n (λ m. heard (SendClosed c m x) ∷ [])) old new i i'
-FilledAnswer who c n old new i i' (Ok filled.Spent) = Tells who (GivesSome c n (λ m. spent (sends c m))) old new i i'
-FilledAnswer who c n old new i i' (Err m) = Tells who (GivesSome c n (λ m. [])) old new i i'
+abbrev pub FilledAnswer : ℕ → ℕ → SeenOnChannels → SeenOnChannels → Result Filled Memory → Type 0
+FilledAnswer c n old new (Ok filled.Done) = Tells (GivesAll c n 0) old new
+FilledAnswer c n old new (Ok (filled.Closed x)) = Tells (GivesSome c n (λ m. heard (SendClosed c m x) ∷ [])) old new
+FilledAnswer c n old new (Ok filled.Spent) = Tells (GivesSome c n (λ m. spent (sends c m))) old new
+FilledAnswer c n old new (Err m) = Tells (GivesSome c n (λ m. [])) old new
 
 -- ---- acquire
 
-pub record TakesPermit (who c : ℕ) (old new : Floor) (items items' : List Item) : Type 0 where
+pub record TakesPermit (c : ℕ) (old new : SeenOnChannels) : Type 0 where
   pub value : ℕ
-  pub takes : TakesOne who c value old new items items'
+  pub takes : TakesOne c value old new
 
-abbrev pub AcquiredAnswer : ℕ → ℕ → Floor → Floor → List Item → List Item → Result Acquired Memory → Type 0
-AcquiredAnswer who c old new i i' (Ok acquired.Held) = TakesPermit who c old new i i'
-AcquiredAnswer who c old new i i' (Ok (acquired.Waits w)) = AwaitsOne who c w old new i i'
-AcquiredAnswer who c old new i i' (Ok acquired.Cancelled) = ⊥
-AcquiredAnswer who c old new i i' (Ok (acquired.Closed x)) = ToldOnChannels who old new i i' (heard (ReceiveClosed c x) ∷ [])
-AcquiredAnswer who c old new i i' (Ok acquired.Spent) = ToldOnChannels who old new i i' (spent (receives c))
-AcquiredAnswer who c old new i i' (Err m) = IsUntouched old new i i'
+abbrev pub AcquiredAnswer : ℕ → SeenOnChannels → SeenOnChannels → Result Acquired Memory → Type 0
+AcquiredAnswer c old new (Ok acquired.Held) = TakesPermit c old new
+AcquiredAnswer c old new (Ok (acquired.Waits w)) = AwaitsOne c w old new
+AcquiredAnswer c old new (Ok acquired.Cancelled) = ⊥
+AcquiredAnswer c old new (Ok (acquired.Closed x)) = ToldOnChannels old new (heard (ReceiveClosed c x) ∷ [])
+AcquiredAnswer c old new (Ok acquired.Spent) = ToldOnChannels old new (spent (receives c))
+AcquiredAnswer c old new (Err m) = IsUntouched old new
 
-abbrev pub TryAcquiredAnswer : ℕ → ℕ → Floor → Floor → List Item → List Item → Result TryAcquired Memory → Type 0
-TryAcquiredAnswer who c old new i i' (Ok try_acquired.Held) = TakesPermit who c old new i i'
-TryAcquiredAnswer who c old new i i' (Ok try_acquired.Empty) = ToldOnChannels who old new i i' (blocked (receives c) ∷ [])
-TryAcquiredAnswer who c old new i i' (Ok (try_acquired.Closed x)) = ToldOnChannels who old new i i' (heard (TryReceiveClosed c x) ∷ [])
-TryAcquiredAnswer who c old new i i' (Err m) = IsUntouched old new i i'
+abbrev pub TryAcquiredAnswer : ℕ → SeenOnChannels → SeenOnChannels → Result TryAcquired Memory → Type 0
+TryAcquiredAnswer c old new (Ok try_acquired.Held) = TakesPermit c old new
+TryAcquiredAnswer c old new (Ok try_acquired.Empty) = ToldOnChannels old new (blocked (receives c) ∷ [])
+TryAcquiredAnswer c old new (Ok (try_acquired.Closed x)) = ToldOnChannels old new (heard (TryReceiveClosed c x) ∷ [])
+TryAcquiredAnswer c old new (Err m) = IsUntouched old new
 
 -- ---- take up
 
 -- the wait ended in such a way, as it had been resolved
-pub record TakesUp (who : ℕ) (w : WaitId) (P : Settled → Type 0) (old new : Floor) (items items' : List Item) : Type 0 where
+pub record TakesUp (w : WaitId) (P : Settled → Type 0) (old new : SeenOnChannels) : Type 0 where
   pub outcome : Settled
   pub is : P outcome
-  pub ended : DispatchedAnswer who w false old new items items' (Ok outcome)
+  pub ended : DispatchedAnswer w false old new (Ok outcome)
 
 abbrev pub BringsElement : Settled → Type 0
 BringsElement outcome = brings_element outcome ≡ true
@@ -160,22 +159,22 @@ abbrev pub IsClosedBy : ℕ → Settled → Type 0
 IsClosedBy x (settled.Closed k v) = v ≡ x
 IsClosedBy x other = ⊥
 
-abbrev pub TakenUpAnswer : ℕ → WaitId → Floor → Floor → List Item → List Item → Result Acquired Memory → Type 0
-TakenUpAnswer who w old new i i' (Ok acquired.Held) = TakesUp who w BringsElement old new i i'
-TakenUpAnswer who w old new i i' (Ok (acquired.Waits u)) = ⊥
-TakenUpAnswer who w old new i i' (Ok acquired.Cancelled) = TakesUp who w (λ outcome. outcome ≡ settled.Cancelled) old new i i'
-TakenUpAnswer who w old new i i' (Ok (acquired.Closed x)) = TakesUp who w (IsClosedBy x) old new i i'
-TakenUpAnswer who w old new i i' (Ok acquired.Spent) = ⊥
-TakenUpAnswer who w old new i i' (Err m) = IsUntouched old new i i'
+abbrev pub TakenUpAnswer : WaitId → SeenOnChannels → SeenOnChannels → Result Acquired Memory → Type 0
+TakenUpAnswer w old new (Ok acquired.Held) = TakesUp w BringsElement old new
+TakenUpAnswer w old new (Ok (acquired.Waits u)) = ⊥
+TakenUpAnswer w old new (Ok acquired.Cancelled) = TakesUp w (λ outcome. outcome ≡ settled.Cancelled) old new
+TakenUpAnswer w old new (Ok (acquired.Closed x)) = TakesUp w (IsClosedBy x) old new
+TakenUpAnswer w old new (Ok acquired.Spent) = ⊥
+TakenUpAnswer w old new (Err m) = IsUntouched old new
 
 -- ---- release
 
-abbrev pub ReleasedAnswer : ℕ → ℕ → Floor → Floor → List Item → List Item → Result Released Memory → Type 0
-ReleasedAnswer who c old new i i' (Ok released.Done) = GivenJust who c 0 old new i i'
-ReleasedAnswer who c old new i i' (Ok released.NotHeld) = IsUntouched old new i i'
-ReleasedAnswer who c old new i i' (Ok (released.Closed x)) = ToldOnChannels who old new i i' (heard (SendClosed c 0 x) ∷ [])
-ReleasedAnswer who c old new i i' (Ok released.Spent) = ToldOnChannels who old new i i' (spent (sends c 0))
-ReleasedAnswer who c old new i i' (Err m) = IsUntouched old new i i'
+abbrev pub ReleasedAnswer : ℕ → SeenOnChannels → SeenOnChannels → Result Released Memory → Type 0
+ReleasedAnswer c old new (Ok released.Done) = GivenJust c 0 old new
+ReleasedAnswer c old new (Ok released.NotHeld) = IsUntouched old new
+ReleasedAnswer c old new (Ok (released.Closed x)) = ToldOnChannels old new (heard (SendClosed c 0 x) ∷ [])
+ReleasedAnswer c old new (Ok released.Spent) = ToldOnChannels old new (spent (sends c 0))
+ReleasedAnswer c old new (Err m) = IsUntouched old new
 
 -- ---- cancel
 
@@ -195,14 +194,14 @@ pub record GivesAgain (c v : ℕ) (told : List Told) : Type 0 where
   pub is : told ≡ made act ∷ []
 
 -- no memory was found: nothing was done, or the wait ended with an element that the caller has
-pub data StopsEarly (who : ℕ) (w : WaitId) (old new : Floor) (items items' : List Item) : Type 0 where
-  untouched : IsUntouched old new items items' → StopsEarly who w old new items items'
-  ended : Tells who (EndsThen w (λ v more. more ≡ [])) old new items items' → StopsEarly who w old new items items'
+pub data StopsEarly (w : WaitId) (old new : SeenOnChannels) : Type 0 where
+  untouched : IsUntouched old new → StopsEarly w old new
+  ended : Tells (EndsThen w (λ v more. more ≡ [])) old new → StopsEarly w old new
 
-abbrev pub GivenBackAnswer : ℕ → ℕ → WaitId → Floor → Floor → List Item → List Item → Result GivenBack Memory → Type 0
-GivenBackAnswer who c w old new i i' (Ok back.Cancelled) = Tells who (EndsCancelled w settled.Cancelled) old new i i'
-GivenBackAnswer who c w old new i i' (Ok back.Back) = Tells who (EndsThen w (GivesAgain c)) old new i i'
-GivenBackAnswer who c w old new i i' (Ok (back.Closed x)) =
-    Tells who (EndsThen w (λ v more. more ≡ heard (SendClosed c v x) ∷ [])) old new i i'
-GivenBackAnswer who c w old new i i' (Ok back.Spent) = Tells who (EndsThen w (λ v more. more ≡ spent (sends c v))) old new i i'
-GivenBackAnswer who c w old new i i' (Err m) = StopsEarly who w old new i i'
+abbrev pub GivenBackAnswer : ℕ → WaitId → SeenOnChannels → SeenOnChannels → Result GivenBack Memory → Type 0
+GivenBackAnswer c w old new (Ok back.Cancelled) = Tells (EndsCancelled w settled.Cancelled) old new
+GivenBackAnswer c w old new (Ok back.Back) = Tells (EndsThen w (GivesAgain c)) old new
+GivenBackAnswer c w old new (Ok (back.Closed x)) =
+    Tells (EndsThen w (λ v more. more ≡ heard (SendClosed c v x) ∷ [])) old new
+GivenBackAnswer c w old new (Ok back.Spent) = Tells (EndsThen w (λ v more. more ≡ spent (sends c v))) old new
+GivenBackAnswer c w old new (Err m) = StopsEarly w old new

@@ -2,7 +2,7 @@
 
 ghost use Rattle.std.specs.Prelude.{◌≡◌, ◌+◌};
 ghost use Rattle.channel_model.specs.Answers.{IsReady};
-ghost use Rattle.channel_calls.specs.Calls.{SameCaller};
+ghost use Rattle.channel_calls.specs.Calls.{SameCaller, seen};
 ghost use Rattle.permits.specs.Parts.{UsesPermits};
 ghost use Rattle.permits.specs.Answers.{AcquiredAnswer, TryAcquiredAnswer, TakenUpAnswer, got_by_acquire, got_by_try};
 
@@ -26,8 +26,7 @@ pub fn acquire<F: ChannelFloor, B: NoteBook, W: Wakes>(
     ensures same { SameCaller F.anchor x.old x.new }
     ensures uses { UsesPermits p.now.c p.now.n x.old.who held.new (F.view x.new.floor.now) }
     ensures number { held.new ≡ held.old + got_by_acquire result }
-    ensures answer { AcquiredAnswer x.old.who p.now.c (F.view x.old.floor.now) (F.view x.new.floor.now)
-        (B.items x.old.book.now) (B.items x.new.book.now) result }
+    ensures answer { AcquiredAnswer p.now.c (seen F.view B.items x.old) (seen F.view B.items x.new) result }
 {
     match receive_once(x, p.c) {
         Ok(ReceiveAnswer::Value(_value)) => {
@@ -53,8 +52,7 @@ pub fn try_acquire<F: ChannelFloor, B: NoteBook, W: Wakes>(
     ensures same { SameCaller F.anchor x.old x.new }
     ensures uses { UsesPermits p.now.c p.now.n x.old.who held.new (F.view x.new.floor.now) }
     ensures number { held.new ≡ held.old + got_by_try result }
-    ensures answer { TryAcquiredAnswer x.old.who p.now.c (F.view x.old.floor.now) (F.view x.new.floor.now)
-        (B.items x.old.book.now) (B.items x.new.book.now) result }
+    ensures answer { TryAcquiredAnswer p.now.c (seen F.view B.items x.old) (seen F.view B.items x.new) result }
 {
     match try_receive_once(x, p.c) {
         Ok(TryReceiveAnswer::Value(_value)) => {
@@ -81,8 +79,7 @@ pub fn take_up<F: ChannelFloor, B: NoteBook, W: Wakes>(
     ensures same { SameCaller F.anchor x.old x.new }
     ensures uses { UsesPermits p.now.c p.now.n x.old.who held.new (F.view x.new.floor.now) }
     ensures number { held.new ≡ held.old + got_by_acquire result }
-    ensures answer { TakenUpAnswer x.old.who w (F.view x.old.floor.now) (F.view x.new.floor.now)
-        (B.items x.old.book.now) (B.items x.new.book.now) result }
+    ensures answer { TakenUpAnswer w (seen F.view B.items x.old) (seen F.view B.items x.new) result }
 {
     match x.dispatch(w, false) {
         Ok(Settled::Value(_clause, _value)) => {

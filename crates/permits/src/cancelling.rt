@@ -1,7 +1,7 @@
 //! To give up waiting for a permit.
 
 ghost use Rattle.std.specs.Prelude.{◌≡◌};
-ghost use Rattle.channel_calls.specs.Calls.{SameCaller, HoldsWait};
+ghost use Rattle.channel_calls.specs.Calls.{SameCaller, seen, HoldsWait};
 ghost use Rattle.permits.specs.Parts.{UsesPermits};
 ghost use Rattle.permits.specs.Answers.{GivenBackAnswer, NumberAfterCancel};
 
@@ -25,12 +25,11 @@ pub fn cancel_acquire<F: ChannelFloor, B: NoteBook, W: Wakes>(
 ) -> Result<GivenBack, Memory>
     requires uses { UsesPermits p.now.c p.now.n x.old.who held.old (F.view x.old.floor.now) }
     requires here { w.channel ≡ p.now.c }
-    requires holds { HoldsWait x.old.who w (F.view x.old.floor.now) }
+    requires holds { HoldsWait w (seen F.view B.items x.old) }
     ensures same { SameCaller F.anchor x.old x.new }
     ensures uses { UsesPermits p.now.c p.now.n x.old.who held.new (F.view x.new.floor.now) }
     ensures number { NumberAfterCancel result held.old held.new }
-    ensures answer { GivenBackAnswer x.old.who p.now.c w (F.view x.old.floor.now) (F.view x.new.floor.now)
-        (B.items x.old.book.now) (B.items x.new.book.now) result }
+    ensures answer { GivenBackAnswer p.now.c w (seen F.view B.items x.old) (seen F.view B.items x.new) result }
 {
     match end_once(x, w) {
         Ok(Settled::Undelivered(value)) => {

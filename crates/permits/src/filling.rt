@@ -2,7 +2,7 @@
 
 ghost use Rattle.std.specs.Prelude.{◌≡◌, ◌≤◌, Ok};
 ghost use Rattle.permits.specs.declared.permits.Filled.TheVariants as filled;
-ghost use Rattle.channel_calls.specs.Calls.{SameCaller};
+ghost use Rattle.channel_calls.specs.Calls.{SameCaller, seen};
 ghost use Rattle.permits.specs.Parts.{HoldsPermits, UsesPermits, MayFill};
 ghost use Rattle.permits.specs.Answers.{FilledAnswer};
 
@@ -25,8 +25,7 @@ pub fn fill<F: ChannelFloor, B: NoteBook, W: Wakes>(
     ensures same { SameCaller F.anchor x.old x.new }
     ensures holds { HoldsPermits p.now.c p.now.n x.old.who 0 (F.view x.new.floor.now) }
     ensures done { result ≡ Ok filled.Done → UsesPermits p.now.c p.now.n x.old.who 0 (F.view x.new.floor.now) }
-    ensures answer { FilledAnswer x.old.who p.now.c p.now.n (F.view x.old.floor.now) (F.view x.new.floor.now)
-        (B.items x.old.book.now) (B.items x.new.book.now) result }
+    ensures answer { FilledAnswer p.now.c p.now.n (seen F.view B.items x.old) (seen F.view B.items x.new) result }
 {
     for value in 0..p.n {
         match give_once(x, p.c, value) {

@@ -2,7 +2,7 @@
 
 ghost use Rattle.std.specs.Prelude.{◌≡◌, ◌+◌, ◌≤◌, ◌↔◌, Ok};
 ghost use Rattle.permits.specs.declared.permits.Released.TheVariants as released;
-ghost use Rattle.channel_calls.specs.Calls.{SameCaller};
+ghost use Rattle.channel_calls.specs.Calls.{SameCaller, seen};
 ghost use Rattle.permits.specs.Parts.{UsesPermits};
 ghost use Rattle.permits.specs.Answers.{ReleasedAnswer, GivenOnce, given_by_release, given_once};
 
@@ -27,8 +27,7 @@ pub fn release<F: ChannelFloor, B: NoteBook, W: Wakes>(
     ensures uses { UsesPermits p.now.c p.now.n x.old.who held.new (F.view x.new.floor.now) }
     ensures none { (result ≡ Ok released.NotHeld) ↔ (held.old ≡ 0) }
     ensures number { held.old ≡ held.new + given_by_release result }
-    ensures answer { ReleasedAnswer x.old.who p.now.c (F.view x.old.floor.now) (F.view x.new.floor.now)
-        (B.items x.old.book.now) (B.items x.new.book.now) result }
+    ensures answer { ReleasedAnswer p.now.c (seen F.view B.items x.old) (seen F.view B.items x.new) result }
 {
     if *held == 0 {
         return Ok(Released::NotHeld);
@@ -53,8 +52,7 @@ pub(crate) fn give_back<F: ChannelFloor, B: NoteBook, W: Wakes>(
     ensures same { SameCaller F.anchor x.old x.new }
     ensures uses { UsesPermits p.now.c p.now.n x.old.who held.new (F.view x.new.floor.now) }
     ensures number { held.old ≡ held.new + given_once result }
-    ensures answer { GivenOnce x.old.who p.now.c value (F.view x.old.floor.now) (F.view x.new.floor.now)
-        (B.items x.old.book.now) (B.items x.new.book.now) result }
+    ensures answer { GivenOnce p.now.c value (seen F.view B.items x.old) (seen F.view B.items x.new) result }
 {
     match give_once(x, p.c, value) {
         Ok(Given::Done) => {

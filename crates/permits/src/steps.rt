@@ -3,10 +3,10 @@
 ghost use Rattle.std.specs.Prelude.{◌≡◌, ◌<◌, ◌++◌, true};
 ghost use Rattle.channel_model.specs.declared.acts.Kind.TheVariants as kinds;
 ghost use Rattle.channel_model.specs.Channels.{kind_at};
-ghost use Rattle.channel_model.specs.Floors.{MayCall};
 ghost use Rattle.channel_model.specs.Answers.{IsReady, SettleAnswer};
+ghost use Rattle.call_meaning.specs.Seen.{MayCallChannel};
 ghost use Rattle.channel_calls.specs.Groups.{settle_group};
-ghost use Rattle.channel_calls.specs.Calls.{SameCaller, HoldsWait};
+ghost use Rattle.channel_calls.specs.Calls.{SameCaller, seen, HoldsWait};
 ghost use Rattle.permits.specs.Answers.{ReceivedOnce, TriedOnce, GivenOnce, EndedOnce};
 
 use channel_calls::{Caller, ReceiveAnswer, TryReceiveAnswer, make_room, wake_some};
@@ -32,10 +32,9 @@ pub(crate) fn receive_once<F: ChannelFloor, B: NoteBook, W: Wakes>(
     x: &mut Caller<'_, '_, '_, F, B, W>,
     c: ChannelId,
 ) -> Result<ReceiveAnswer, Memory>
-    requires can { MayCall x.old.who c (F.view x.old.floor.now) }
+    requires can { MayCallChannel c (seen F.view B.items x.old) }
     ensures same { SameCaller F.anchor x.old x.new }
-    ensures answer { ReceivedOnce x.old.who c (F.view x.old.floor.now) (F.view x.new.floor.now)
-        (B.items x.old.book.now) (B.items x.new.book.now) result }
+    ensures answer { ReceivedOnce c (seen F.view B.items x.old) (seen F.view B.items x.new) result }
 {
     if let Err(memory) = make_room(x.floor, x.book, 1) {
         return Err(memory);
@@ -75,10 +74,9 @@ pub(crate) fn try_receive_once<F: ChannelFloor, B: NoteBook, W: Wakes>(
     x: &mut Caller<'_, '_, '_, F, B, W>,
     c: ChannelId,
 ) -> Result<TryReceiveAnswer, Memory>
-    requires can { MayCall x.old.who c (F.view x.old.floor.now) }
+    requires can { MayCallChannel c (seen F.view B.items x.old) }
     ensures same { SameCaller F.anchor x.old x.new }
-    ensures answer { TriedOnce x.old.who c (F.view x.old.floor.now) (F.view x.new.floor.now)
-        (B.items x.old.book.now) (B.items x.new.book.now) result }
+    ensures answer { TriedOnce c (seen F.view B.items x.old) (seen F.view B.items x.new) result }
 {
     if let Err(memory) = make_room(x.floor, x.book, 1) {
         return Err(memory);
@@ -108,11 +106,10 @@ pub(crate) fn give_once<F: ChannelFloor, B: NoteBook, W: Wakes>(
     c: ChannelId,
     value: Value,
 ) -> Result<Given, Memory>
-    requires can { MayCall x.old.who c (F.view x.old.floor.now) }
+    requires can { MayCallChannel c (seen F.view B.items x.old) }
     requires kind { kind_at (F.view x.old.floor.now).shape c ≡ kinds.Unlimited }
     ensures same { SameCaller F.anchor x.old x.new }
-    ensures answer { GivenOnce x.old.who c value (F.view x.old.floor.now) (F.view x.new.floor.now)
-        (B.items x.old.book.now) (B.items x.new.book.now) result }
+    ensures answer { GivenOnce c value (seen F.view B.items x.old) (seen F.view B.items x.new) result }
 {
     if let Err(memory) = make_room(x.floor, x.book, 1) {
         return Err(memory);
@@ -147,11 +144,10 @@ pub(crate) fn end_once<F: ChannelFloor, B: NoteBook, W: Wakes>(
     x: &mut Caller<'_, '_, '_, F, B, W>,
     w: WaitId,
 ) -> Result<Settled, Memory>
-    requires can { MayCall x.old.who w.channel (F.view x.old.floor.now) }
-    requires holds { HoldsWait x.old.who w (F.view x.old.floor.now) }
+    requires can { MayCallChannel w.channel (seen F.view B.items x.old) }
+    requires holds { HoldsWait w (seen F.view B.items x.old) }
     ensures same { SameCaller F.anchor x.old x.new }
-    ensures answer { EndedOnce x.old.who w (F.view x.old.floor.now) (F.view x.new.floor.now)
-        (B.items x.old.book.now) (B.items x.new.book.now) result }
+    ensures answer { EndedOnce w (seen F.view B.items x.old) (seen F.view B.items x.new) result }
 {
     if let Err(memory) = make_room(x.floor, x.book, 2) {
         return Err(memory);
@@ -176,7 +172,7 @@ fn settle_cancelled<F: ChannelFloor, B: NoteBook, W: Wakes>(
     x: &mut Caller<'_, '_, '_, F, B, W>,
     w: WaitId,
 ) -> Settled
-    requires can { MayCall x.old.who w.channel (F.view x.old.floor.now) }
+    requires can { MayCallChannel w.channel (seen F.view B.items x.old) }
     requires ready { IsReady x.old.who w (F.view x.old.floor.now) }
     requires room { 0 < (F.view x.old.floor.now).spare }
     requires book { 0 < B.spare x.old.book.now }

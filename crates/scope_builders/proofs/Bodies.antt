@@ -10,7 +10,7 @@ use Rattle.job_model.specs.declared.acts.JobNote.{JobNote}
 use Rattle.job_model.specs.declared.acts.JobNote.TheVariants as of_job
 use Rattle.job_model.specs.declared.acts.JobEntry.{JobEntry}
 use Rattle.job_model.specs.declared.floor.Ended.{Ended}
-use Rattle.job_model.specs.Trees.{Job, is_childless}
+use Rattle.job_model.specs.Trees.{Job, Tree, is_childless}
 use Rattle.job_model.specs.Effects.{without_body}
 use Rattle.job_model.specs.Needs.{MayEndBody}
 use Rattle.job_model.specs.Histories.{replay, Legal}
@@ -25,6 +25,7 @@ use Rattle.note_book.specs.Items.{job_act, job_acts_in}
 use Rattle.call_meaning.specs.Telling.{Told, on_jobs, MayRun, NotNew, IsCancelling, OwesNoEnd, items_in, did}
 use Rattle.call_meaning.specs.JobCalls.{Starts, Chain, EndsBody}
 use Rattle.call_meaning.specs.Prefixes.{PrefixOf}
+use Rattle.call_meaning.specs.Seen.{SeenOnJobs, SeenOnBoth, jobs_of}
 use Rattle.call_meaning.specs.Calls.{ToldOnJobs, ToldOnBoth}
 use Rattle.call_meaning.proofs.JobTellings.{items_in-append, told_did, told_so, both_then, both_jobs}
 use Rattle.call_meaning.proofs.Prefixes.{prefix_behind}
@@ -36,28 +37,38 @@ use Rattle.scope_builders.specs.Calls.{TellsBoth, EndedJob, EndedAnswer, BeginsT
 use Rattle.scope_builders.specs.Parts.{IsCancelledFirst, HasBegunToBreak, FinishedUp}
 use Rattle.scope_builders.proofs.ChannelsTold as channels
 use Rattle.scope_builders.proofs.DonesKept.{quiet_kept, kept_then}
-use Rattle.scope_builders.proofs.Rooms.{told_roomed, added_roomed}
+use Rattle.scope_builders.proofs.Rooms.{IsRoomed, told_roomed, added_roomed}
 
 -- ---- the end of a body
 
 -- the EndBody was told, and whether a child lived then
-pub record EndedBody (who row value : ℕ) (a b : Floor) (i j : List Item) (answer : Ended) : Type 0 where
-  pub noted : ToldOnJobs who [] a b i j (did (EndBody row value) ∷ [])
-  pub owes : AtEntry who [] (EndBody row value) a b (λ tree. is_childless (tree row) ≡ is_owed answer)
+pub record EndedBody (row value : ℕ) (a b : SeenOnJobs) (answer : Ended) : Type 0 where
+  pub noted : ToldOnJobs [] a b (did (EndBody row value) ∷ [])
+  pub owes : AtEntry a.who [] (EndBody row value) a.floor b.floor (λ tree. is_childless (tree row) ≡ is_owed answer)
 
-pub ended_body : (who row value n : ℕ) (a b c : Floor) (i j k : List Item) (answer : Ended) → HasRoom n a b → EndBodyAnswer who row value b c answer → j ≡ i → k ≡ j ++ made_note (EndBody row value) ∷ [] → EndedBody who row value a c i k answer
-ended_body who row value n a b c i j k answer h m e f = record {
-  noted = told_roomed who n [] a b c i j k (did (EndBody row value) ∷ []) h e (told_did who (EndBody row value) [] b c j k f m.made);
-  owes = entry_after who [] [] (EndBody row value) [] a b c (λ tree. is_childless (tree row) ≡ is_owed answer) (added_room who n a b h) (entry_made who (EndBody row value) [] b c (λ tree. is_childless (tree row) ≡ is_owed answer) m.made (sym m.owes));
-}
+pub ended_body : {row value n : ℕ} {a b c : SeenOnJobs} {answer : Ended} → IsRoomed n a b
+    → EndBodyAnswer a.who row value b.floor c.floor answer
+    → c.who ≡ a.who → c.items ≡ b.items ++ made_note (EndBody row value) ∷ [] → EndedBody row value a c answer
+ended_body {row} {value} {n} {a} {b} {c} {answer} h m w f =
+    let who : ℕ = a.who in
+    let act : JobAct = EndBody row value in
+    let told : ToldOnJobs [] (record b { who = who }) c (did act ∷ []) = told_did act w f m.made in
+    let Owes : Tree → Type 0 = λ tree. is_childless (tree row) ≡ is_owed answer in
+    let made = entry_made who act [] b.floor c.floor Owes m.made (sym m.owes) in
+    record {
+      noted = told_roomed (record { who = refl; items = h.items; room = h.room }) told;
+      owes = entry_after who [] [] act [] a.floor b.floor c.floor Owes (added_room who n a.floor b.floor h.room) made;
+    }
 
 -- a Job whose body may be ended is attached
 pub own_attached : (who : ℕ) (x : Option Job) → MayEndBody who x → is_some x ≡ true
 own_attached who None m = absurd m
 own_attached who (Some j) m = refl
 
-pub body_added : (who row value n : ℕ) (a b c : Floor) (answer : Ended) → HasRoom n a b → EndBodyAnswer who row value b c answer → Added who (EndBody row value ∷ []) [] a c
-body_added who row value n a b c answer h m = added_roomed who n (EndBody row value ∷ []) [] a b c h (added_made who (EndBody row value) [] b c m.made)
+pub body_added : {who row value n : ℕ} {a b c : Floor} {answer : Ended} → HasRoom n a b → EndBodyAnswer who row value b c answer
+    → Added who (EndBody row value ∷ []) [] a c
+body_added {who} {row} {value} {n} {a} {b} {c} h m =
+    added_roomed who n (EndBody row value ∷ []) [] a b c h (added_made who (EndBody row value) [] b c m.made)
 
 -- ---- end_job
 
@@ -66,81 +77,115 @@ still_lives who v None m e = absurd m
 still_lives who v (Some j) m e = e
 
 -- a child lived as the body ended: the Job owes no end
-body_not_done : (who row value : ℕ) (a b : Floor) (answer : Ended) → Legal b.shape b.seen → is_owed answer ≡ false → EndBodyAnswer who row value a b answer → IsNotDone (replay b.seen row)
+body_not_done : (who row value : ℕ) (a b : Floor) (answer : Ended) → Legal b.shape b.seen → is_owed answer ≡ false
+    → EndBodyAnswer who row value a b answer → IsNotDone (replay b.seen row)
 body_not_done who row value a b answer l n m =
     let entry : JobEntry = record { who = who; act = EndBody row value } in
     let need = (Legal-last b.shape m.made.before entry (subst (Legal b.shape) m.made.last l)).1 in
-    subst IsNotDone (sym (ap (λ t. t row) (ap replay m.made.last ∙ replay_push m.made.before entry) ∙ changed_here row (without_body value) (replay m.made.before)))
+    subst IsNotDone (sym (ap (λ t. t row) (ap replay m.made.last ∙ replay_push m.made.before entry)
+    ∙ changed_here row (without_body value) (replay m.made.before)))
     (still_lives who value (replay m.made.before row) need (sym m.owes ∙ n))
 
-pub ended_alone : (who base row value n : ℕ) (c c' : ChannelFloor) (a b d : Floor) (i j k : List Item) (answer : Ended) → HasRoom n a b → Legal d.shape d.seen → is_owed answer ≡ false → c' ≡ c → EndBodyAnswer who row value b d answer → j ≡ i → k ≡ j ++ made_note (EndBody row value) ∷ [] → EndedJob who base row value c c' a d i k answer
+pub ended_alone : {base row value n : ℕ} {a d : SeenOnBoth} {b : SeenOnJobs} {answer : Ended} → IsRoomed n (jobs_of a) b
+    → Legal d.jobs.shape d.jobs.seen → is_owed answer ≡ false → d.channels ≡ a.channels
+    → EndBodyAnswer a.who row value b.floor d.jobs answer
+    → d.who ≡ a.who → d.items ≡ b.items ++ made_note (EndBody row value) ∷ [] → EndedJob base row value a d answer
 unfolding items_in
-ended_alone who base row value n c c' a b d i j k answer r l o same m e f =
-    let h = ended_body who row value n a b d i j k answer r m e f in
-    subst (λ (x : ChannelFloor). EndedJob who base row value c x a d i k answer) (sym same)
-    (record {
+ended_alone {base} {row} {value} {n} {a} {d} {b} {answer} r l o same m w f =
+    let who : ℕ = a.who in
+    let h : EndedBody row value (jobs_of a) (jobs_of d) answer = ended_body r m w f in
+    let added = body_added r.room m in
+    let none = channels.same_called who a.channels d.channels same in
+    record {
       told = did (EndBody row value) ∷ on_jobs (OwesNoEnd row) ∷ [];
       group = EndsBody.ends_body (on_jobs (OwesNoEnd row) ∷ []) (Chain.stops row);
-      noted = both_jobs who [] c c a d i k (did (EndBody row value) ∷ on_jobs (OwesNoEnd row) ∷ []) (channels.nobody_called who c)
-          (told_so who [] a d i k (did (EndBody row value) ∷ []) (OwesNoEnd row) h.noted (inr (body_not_done who row value b d answer l o m)));
+      noted = both_jobs none (told_so (OwesNoEnd row) h.noted (inr (body_not_done who row value b.floor d.jobs answer l o m)));
       owes = h.owes;
-      dones = quiet_kept who base (EndBody row value ∷ []) [] c c a d (made_note (EndBody row value) ∷ []) l (body_added who row value n a b d answer r m) (channels.nobody_called who c) (tt, tt);
-    })
+      dones = quiet_kept base (made_note (EndBody row value) ∷ []) l added none (tt, tt);
+    }
 
-body_kept : (who base row value : ℕ) (c : ChannelFloor) (a b : Floor) → Legal b.shape b.seen → Added who (EndBody row value ∷ []) [] a b → KeepsDones base c c a b (items_in (did (EndBody row value) ∷ []))
+body_kept : (base row value : ℕ) {a b : SeenOnBoth} → Legal b.jobs.shape b.jobs.seen → Added a.who (EndBody row value ∷ []) [] a.jobs b.jobs
+    → b.channels ≡ a.channels → KeepsDones base a b (items_in (did (EndBody row value) ∷ []))
 unfolding items_in
-body_kept who base row value c a b l h = quiet_kept who base (EndBody row value ∷ []) [] c c a b (made_note (EndBody row value) ∷ []) l h (channels.nobody_called who c) (tt, tt)
+body_kept base row value {a} {b} l h same =
+    quiet_kept base (made_note (EndBody row value) ∷ []) l h (channels.same_called a.who a.channels b.channels same) (tt, tt)
 
-first_item : (row value : ℕ) (told : List Told) → items_in (did (EndBody row value) ∷ []) ++ items_in told ≡ items_in (did (EndBody row value) ∷ told)
+first_item : (row value : ℕ) (told : List Told) → items_in (did (EndBody row value) ∷ [])
+    ++ items_in told ≡ items_in (did (EndBody row value) ∷ told)
 unfolding items_in
 first_item row value told = refl
 
-up_noted : (who base row value : ℕ) (c c' : ChannelFloor) (j j1 j2 : Floor) (i i1 i2 : List Item) (answer : Ended) (r : Result (Unit {0}) Memory) → EndedBody who row value j j1 i i1 answer → (k : FinishedUp who base row c c' j1 j2 i1 i2 r) → ToldOnBoth who [] c c' j j2 i i2 (did (EndBody row value) ∷ k.told)
-up_noted who base row value c c' j j1 j2 i i1 i2 answer r h k =
-    both_then who [] [] c c c' j j1 j2 i i1 i2 (did (EndBody row value) ∷ []) k.told (both_jobs who [] c c j j1 i i1 (did (EndBody row value) ∷ []) (channels.nobody_called who c) h.noted) k.noted
+-- the body of a Job was ended, on the floor of Jobs alone
+pub record HasEndedBody (row value : ℕ) (a b : SeenOnBoth) (answer : Ended) : Type 0 where
+  pub legal : Legal b.jobs.shape b.jobs.seen
+  pub same : b.channels ≡ a.channels
+  pub added : Added a.who (EndBody row value ∷ []) [] a.jobs b.jobs
+  pub body : EndedBody row value (jobs_of a) (jobs_of b) answer
 
-up_kept : (who base row value : ℕ) (c c' : ChannelFloor) (j j1 j2 : Floor) (i i1 i2 : List Item) (r : Result (Unit {0}) Memory) → Legal j1.shape j1.seen → Added who (EndBody row value ∷ []) [] j j1 → (k : FinishedUp who base row c c' j1 j2 i1 i2 r) → KeepsDones base c c' j j2 (items_in (did (EndBody row value) ∷ k.told))
-up_kept who base row value c c' j j1 j2 i i1 i2 r l h k =
-    subst (KeepsDones base c c' j j2) (first_item row value k.told) (kept_then base c c c' j j1 j2 (items_in (did (EndBody row value) ∷ [])) (items_in k.told) refl h.same.alone (body_kept who base row value c j j1 l h) k.dones)
+up_noted : {base row value : ℕ} {a b c : SeenOnBoth} {answer : Ended} {r : Result (Unit {0}) Memory} → HasEndedBody row value a b answer
+    → (k : FinishedUp base row b c r) → ToldOnBoth [] a c (did (EndBody row value) ∷ k.told)
+up_noted {a = a} {b = b} h k = both_then (both_jobs (channels.same_called a.who a.channels b.channels h.same) h.body.noted) k.noted
+
+up_kept : {base row value : ℕ} {a b c : SeenOnBoth} {answer : Ended} {r : Result (Unit {0}) Memory} → HasEndedBody row value a b answer
+    → (k : FinishedUp base row b c r) → KeepsDones base a c (items_in (did (EndBody row value) ∷ k.told))
+up_kept {base} {row} {value} {a} {b} {c} h k =
+    let alone = ap (λ (x : ChannelFloor). x.alone) h.same in
+    subst (KeepsDones base a c) (first_item row value k.told)
+    (kept_then alone h.added.same.alone (body_kept base row value h.legal h.added h.same) k.dones)
 
 -- no child lived: the chain of ends
-pub ended_up : (who base row value : ℕ) (c c' : ChannelFloor) (j j1 j2 : Floor) (i i1 i2 : List Item) (answer : Ended) → Legal j1.shape j1.seen → Added who (EndBody row value ∷ []) [] j j1 → EndedBody who row value j j1 i i1 answer → FinishedUp who base row c c' j1 j2 i1 i2 (Ok tt) → EndedJob who base row value c c' j j2 i i2 answer
-ended_up who base row value c c' j j1 j2 i i1 i2 answer l a h k = record {
+pub ended_up : {base row value : ℕ} {a b c : SeenOnBoth} {answer : Ended} → HasEndedBody row value a b answer
+    → FinishedUp base row b c (Ok tt)
+    → EndedJob base row value a c answer
+ended_up {row = row} {value = value} {a = a} {b = b} {c = c} {answer = answer} h k = record {
   told = did (EndBody row value) ∷ k.told;
   group = EndsBody.ends_body k.told k.chain;
-  noted = up_noted who base row value c c' j j1 j2 i i1 i2 answer (Ok tt) h k;
-  owes = entry_before who [] (EndBody row value) j j1 j2 (λ tree. is_childless (tree row) ≡ is_owed answer) h.owes k.noted.jobs.longer;
-  dones = up_kept who base row value c c' j j1 j2 i i1 i2 (Ok tt) l a k;
+  noted = up_noted h k;
+  owes = entry_before a.who [] (EndBody row value) a.jobs b.jobs c.jobs (λ tree. is_childless (tree row) ≡ is_owed answer) h.body.owes
+      k.noted.jobs.longer;
+  dones = up_kept h k;
 }
 
-pub ended_some : (who base row value : ℕ) (c c' : ChannelFloor) (j j1 j2 : Floor) (i i1 i2 : List Item) (answer : Ended) (m : Memory) → Legal j1.shape j1.seen → Added who (EndBody row value ∷ []) [] j j1 → EndedBody who row value j j1 i i1 answer → FinishedUp who base row c c' j1 j2 i1 i2 (Err m) → TellsBoth who base (PrefixOf (EndsBody base row value)) c c' j j2 i i2
-ended_some who base row value c c' j j1 j2 i i1 i2 answer m l a h k = record {
+pub ended_some : {base row value : ℕ} {a b c : SeenOnBoth} {answer : Ended} {m : Memory} → HasEndedBody row value a b answer
+    → FinishedUp base row b c (Err m) → TellsBoth base (PrefixOf (EndsBody base row value)) a c
+ended_some {base} {row} {value} h k = record {
   told = did (EndBody row value) ∷ k.told;
-  goes = prefix_behind (Chain base row) (EndsBody base row value) (did (EndBody row value) ∷ []) (λ all chain. EndsBody.ends_body all chain) k.told k.chain;
-  noted = up_noted who base row value c c' j j1 j2 i i1 i2 answer (Err m) h k;
-  dones = up_kept who base row value c c' j j1 j2 i i1 i2 (Err m) l a k;
+  goes = prefix_behind (Chain base row) (EndsBody base row value) (did (EndBody row value) ∷ []) (λ all chain. EndsBody.ends_body all chain)
+      k.told k.chain;
+  noted = up_noted h k;
+  dones = up_kept h k;
 }
 
 -- no memory: nothing was done
-pub did_none : (who base : ℕ) (P : List Told → Type 0) (c c' : ChannelFloor) (j j' : Floor) (i i' : List Item) → P [] → Legal j'.shape j'.seen → c' ≡ c → ToldOnJobs who [] j j' i i' [] → TellsBoth who base P c c' j j' i i'
+pub did_none : {base : ℕ} {P : List Told → Type 0} {a b : SeenOnBoth} → P [] → Legal b.jobs.shape b.jobs.seen → b.channels ≡ a.channels
+    → ToldOnJobs [] (jobs_of a) (jobs_of b) [] → TellsBoth base P a b
 unfolding items_in
-did_none who base P c c' j j' i i' goes l same h =
-    subst (λ (x : ChannelFloor). TellsBoth who base P c x j j' i i') (sym same)
-    (record { told = []; goes = goes; noted = both_jobs who [] c c j j' i i' [] (channels.nobody_called who c) h; dones = quiet_kept who base [] [] c c j j' [] l h.added (channels.nobody_called who c) tt })
+did_none {base} {P} {a} {b} goes l same h =
+    let none = channels.same_called a.who a.channels b.channels same in
+    record { told = []; goes = goes; noted = both_jobs none h; dones = quiet_kept base [] l h.added none tt }
 
 -- what a body that ends tells begins with nothing; so does an await, and a join
 pub ends_nothing : (base row value : ℕ) → PrefixOf (EndsBody base row value) []
-ends_nothing base row value = record { rest = did (EndBody row value) ∷ on_jobs (OwesNoEnd row) ∷ []; all = EndsBody.ends_body (on_jobs (OwesNoEnd row) ∷ []) (Chain.stops row) }
+ends_nothing base row value = record {
+  rest = did (EndBody row value) ∷ on_jobs (OwesNoEnd row) ∷ [];
+  all =
+      EndsBody.ends_body (on_jobs (OwesNoEnd row) ∷ []) (Chain.stops row);
+}
 
 pub starts_nothing : (row : ℕ) → PrefixOf (Starts row) []
 starts_nothing row = record { rest = on_jobs (NotNew row) ∷ []; all = Starts.before }
 
 pub joins_nothing : (own row : ℕ) → PrefixOf (JoinStarts own row) []
-joins_nothing own row = record { rest = on_jobs (MayRun own) ∷ on_jobs (NotNew row) ∷ []; all = (on_jobs (NotNew row) ∷ [], Starts.before, refl) }
+joins_nothing own row = record {
+  rest = on_jobs (MayRun own) ∷ on_jobs (NotNew row) ∷ [];
+  all =
+      (on_jobs (NotNew row) ∷ [], Starts.before, refl);
+}
 
 -- ---- break_job
 
-note_quiet : (base : ℕ) (n : JobNote) (more : List Item) → list_all is_cancel (job_act n ++ job_acts_in more) ≡ true → (list_all is_cancel (job_acts_in more) ≡ true → ClosesAtOnce base more) → ClosesAtOnce base (item.Job n ∷ more)
+note_quiet : (base : ℕ) (n : JobNote) (more : List Item) → list_all is_cancel (job_act n ++ job_acts_in more) ≡ true
+    → (list_all is_cancel (job_acts_in more) ≡ true → ClosesAtOnce base more) → ClosesAtOnce base (item.Job n ∷ more)
 note_quiet base (of_job.Made (Attach p r kind tag cancelled)) more e h = cc
 note_quiet base (of_job.Made (Start r)) more e h = cc
 note_quiet base (of_job.Made (EndBody r v)) more e h = cc
@@ -148,11 +193,7 @@ note_quiet base (of_job.Made (Cancel r reason)) more e h = (tt, h e)
 note_quiet base (of_job.Made (Finish r end)) more e h = cc
 note_quiet base (of_job.Made (Gone r)) more e h = cc
 note_quiet base (of_job.Saw row) more e h = (tt, h e)
-note_quiet base (of_job.SawEnd row end) more e h = (tt, h e)
-note_quiet base (of_job.Fail code) more e h = (tt, h e)
-note_quiet base of_job.NoRow more e h = (tt, h e)
-note_quiet base of_job.Used more e h = (tt, h e)
-note_quiet base of_job.ParentEnded more e h = (tt, h e)
+note_quiet base other more e h = (tt, h e)
 
 -- Cancels end no Job
 cancels_quiet : (base : ℕ) (items : List Item) → list_all is_cancel (job_acts_in items) ≡ true → ClosesAtOnce base items
@@ -168,44 +209,78 @@ break_items : (cancels end : List Told) (row : ℕ) → items_in (cancels ++ on_
 unfolding items_in
 break_items cancels end row = items_in-append cancels (on_jobs (IsCancelling row) ∷ []) ∙ nothing_more (items_in cancels)
 
+-- the cancellations were told, on the floor of Jobs alone
+first_noted : {a b : SeenOnBoth} {told : List Told} → b.channels ≡ a.channels → ToldOnJobs [] (jobs_of a) (jobs_of b) told
+    → ToldOnBoth [] a b told
+first_noted {a} {b} same h = both_jobs (channels.same_called a.who a.channels b.channels same) h
+
 -- floors that nobody else calls, while the Job is cancelled
-first_kept : (who base row : ℕ) (c : ChannelFloor) (a b : Floor) (told : List Told) → Legal b.shape b.seen → Added who (job_acts_in (items_in told)) [] a b → ClosesAtOnce base (items_in told) → KeepsDones base c c a b (items_in told)
-first_kept who base row c a b told l h quiet = quiet_kept who base (job_acts_in (items_in told)) [] c c a b (items_in told) l h (channels.nobody_called who c) quiet
+first_kept : {base : ℕ} {a b : SeenOnBoth} (told : List Told) → Legal b.jobs.shape b.jobs.seen → b.channels ≡ a.channels
+    → Added a.who (job_acts_in (items_in told)) [] a.jobs b.jobs → ClosesAtOnce base (items_in told) → KeepsDones base a b (items_in told)
+first_kept {base} {a} {b} told l same h quiet =
+    quiet_kept base (items_in told) l h (channels.same_called a.who a.channels b.channels same) quiet
 
 -- no memory: the cancellations were begun alone
-pub did_cancels : (who base row : ℕ) (failure : Option ℕ) (c : ChannelFloor) (j j' : Floor) (i i' : List Item) (m : Memory) → Legal j'.shape j'.seen → HasBegunToBreak who row failure j j' i i' → BrokenAnswer who base row failure c c j j' i i' (Err m)
-did_cancels who base row failure c j j' i i' m l h = record {
+pub did_cancels : (m : Memory) {base row : ℕ} {failure : Option ℕ} {a b : SeenOnBoth} → Legal b.jobs.shape b.jobs.seen
+    → b.channels ≡ a.channels
+    → HasBegunToBreak row failure (jobs_of a) (jobs_of b) → BrokenAnswer base row failure a b (Err m)
+did_cancels m {base} l same h = record {
   told = h.told;
   goes = BeginsToBreakOff.cancels h.told h.begun;
-  noted = both_jobs who [] c c j j' i i' h.told (channels.nobody_called who c) h.noted;
-  dones = first_kept who base row c j j' h.told l h.noted.added (cancels_quiet base (items_in h.told) h.cancels);
+  noted = first_noted same h.noted;
+  dones = first_kept h.told l same h.noted.added (cancels_quiet base (items_in h.told) h.cancels);
 }
 
+behind : (told more : List Told) (row : ℕ) → (told ++ on_jobs (IsCancelling row) ∷ []) ++ more ≡ told ++ on_jobs (IsCancelling row) ∷ more
+behind told more row = told_assoc told (on_jobs (IsCancelling row) ∷ []) more
+
+-- what came first, and what the end of the body told
+module _ {row : ℕ} {failure : Option ℕ} {a b c : SeenOnBoth} (l : Legal b.jobs.shape b.jobs.seen) (same : b.channels ≡ a.channels)
+    (h : IsCancelledFirst row failure (jobs_of a) (jobs_of b)) where
+  broke_noted : (told : List Told) → ToldOnBoth [] b c told → ToldOnBoth [] a c (h.told ++ on_jobs (IsCancelling row) ∷ told)
+  broke_noted told k =
+      let all : ToldOnBoth [] a c ((h.told ++ on_jobs (IsCancelling row) ∷ []) ++ told) = both_then (first_noted same h.noted) k in
+      subst (ToldOnBoth [] a c) (behind h.told told row) all
+
+  broke_kept : {base : ℕ} (told : List Told) → KeepsDones base b c (items_in told)
+      → KeepsDones base a c (items_in (h.told ++ on_jobs (IsCancelling row) ∷ told))
+  broke_kept {base} told k =
+      let first : List Told = h.told ++ on_jobs (IsCancelling row) ∷ [] in
+      let few = ap (λ (x : List Item). list_all is_cancel (job_acts_in x)) (break_items h.told told row) ∙ h.cancels in
+      let quiet : ClosesAtOnce base (items_in first) = cancels_quiet base (items_in first) few in
+      let kept : KeepsDones base a b (items_in first) = first_kept first l same h.noted.added quiet in
+      let alone = ap (λ (x : ChannelFloor). x.alone) same in
+      subst (KeepsDones base a c) (sym (items_in-append first told) ∙ ap items_in (behind h.told told row))
+      (kept_then alone h.noted.added.same.alone kept k)
+
 -- the body broke off
-broke_job : (who base row : ℕ) (failure : Option ℕ) (c c' : ChannelFloor) (j j1 j2 : Floor) (i i1 i2 : List Item) (answer : Ended) → Legal j1.shape j1.seen → IsCancelledFirst who row failure j j1 i i1 → EndedJob who base row 0 c c' j1 j2 i1 i2 answer → BrokeJob who base row failure c c' j j2 i i2 answer
-broke_job who base row failure c c' j j1 j2 i i1 i2 answer l h k =
-    let first : List Told = h.told ++ on_jobs (IsCancelling row) ∷ [] in
-    let is : first ++ k.told ≡ h.told ++ on_jobs (IsCancelling row) ∷ k.told = told_assoc h.told (on_jobs (IsCancelling row) ∷ []) k.told in
-    let added : Added who (job_acts_in (items_in h.told)) [] j j1 = subst (λ (l : List Item). Added who (job_acts_in l) [] j j1) (break_items h.told k.told row) h.noted.added in
+broke_job : {base row : ℕ} {failure : Option ℕ} {a b c : SeenOnBoth} {answer : Ended} → Legal b.jobs.shape b.jobs.seen
+    → b.channels ≡ a.channels
+    → IsCancelledFirst row failure (jobs_of a) (jobs_of b) → EndedJob base row 0 b c answer → BrokeJob base row failure a c answer
+broke_job {base} {row} {failure} {a} {b} {c} {answer} l same h k =
+    let who : ℕ = a.who in
+    let acts : List JobAct = job_acts_in (items_in h.told) in
+    let Owes : Tree → Type 0 = λ tree. is_childless (tree row) ≡ is_owed answer in
+    let added : Added who acts [] a.jobs b.jobs =
+    subst (λ (x : List Item). Added who (job_acts_in x) [] a.jobs b.jobs) (break_items h.told k.told row) h.noted.added in
+    let owes : AtEntry who [] (EndBody row 0) b.jobs c.jobs Owes =
+    subst (λ n. AtEntry n [] (EndBody row 0) b.jobs c.jobs Owes) h.noted.who k.owes in
     record {
       told = h.told ++ on_jobs (IsCancelling row) ∷ k.told;
       group = record { cancels = h.told; end = k.told; breaks = h.breaks; ends = k.group; all = refl };
-      noted = subst (ToldOnBoth who [] c c' j j2 i i2) is (both_then who [] [] c c c' j j1 j2 i i1 i2 first k.told (both_jobs who [] c c j j1 i i1 first (channels.nobody_called who c) h.noted) k.noted);
-      owes = subst (λ (acts : List JobAct). AtEntry who acts (EndBody row 0) j j2 (λ tree. is_childless (tree row) ≡ is_owed answer)) (nothing_more (job_acts_in (items_in h.told)))
-          (entry_after who (job_acts_in (items_in h.told)) [] (EndBody row 0) [] j j1 j2 (λ tree. is_childless (tree row) ≡ is_owed answer) added k.owes);
-      dones = subst (KeepsDones base c c' j j2) (sym (items_in-append first k.told) ∙ ap items_in is)
-          (kept_then base c c c' j j1 j2 (items_in first) (items_in k.told) refl h.noted.added.same.alone (first_kept who base row c j j1 first l h.noted.added (cancels_quiet base (items_in first) (ap (λ (l : List Item). list_all is_cancel (job_acts_in l)) (break_items h.told k.told row) ∙ h.cancels))) k.dones);
+      noted = broke_noted l same h k.told k.noted;
+      owes = subst (λ (xs : List JobAct). AtEntry who xs (EndBody row 0) a.jobs c.jobs Owes) (nothing_more acts)
+          (entry_after who acts [] (EndBody row 0) [] a.jobs b.jobs c.jobs Owes added owes);
+      dones = broke_kept l same h k.told k.dones;
     }
 
-pub broken : (who base row : ℕ) (failure : Option ℕ) (c c' : ChannelFloor) (j j1 j2 : Floor) (i i1 i2 : List Item) (r : Result Ended Memory) → Legal j1.shape j1.seen → IsCancelledFirst who row failure j j1 i i1 → EndedAnswer who base row 0 c c' j1 j2 i1 i2 r → BrokenAnswer who base row failure c c' j j2 i i2 r
-broken who base row failure c c' j j1 j2 i i1 i2 (Ok answer) l h k = broke_job who base row failure c c' j j1 j2 i i1 i2 answer l h k
-broken who base row failure c c' j j1 j2 i i1 i2 (Err memory) l h k =
-    let first : List Told = h.told ++ on_jobs (IsCancelling row) ∷ [] in
-    let is : first ++ k.told ≡ h.told ++ on_jobs (IsCancelling row) ∷ k.told = told_assoc h.told (on_jobs (IsCancelling row) ∷ []) k.told in
-    record {
-      told = h.told ++ on_jobs (IsCancelling row) ∷ k.told;
-      goes = BeginsToBreakOff.ends h.told k.told h.breaks k.goes;
-      noted = subst (ToldOnBoth who [] c c' j j2 i i2) is (both_then who [] [] c c c' j j1 j2 i i1 i2 first k.told (both_jobs who [] c c j j1 i i1 first (channels.nobody_called who c) h.noted) k.noted);
-      dones = subst (KeepsDones base c c' j j2) (sym (items_in-append first k.told) ∙ ap items_in is)
-          (kept_then base c c c' j j1 j2 (items_in first) (items_in k.told) refl h.noted.added.same.alone (first_kept who base row c j j1 first l h.noted.added (cancels_quiet base (items_in first) (ap (λ (l : List Item). list_all is_cancel (job_acts_in l)) (break_items h.told k.told row) ∙ h.cancels))) k.dones);
-    }
+pub broken : (base : ℕ) {row : ℕ} {failure : Option ℕ} (a b c : SeenOnBoth) (r : Result Ended Memory) → Legal b.jobs.shape b.jobs.seen
+    → b.channels ≡ a.channels → IsCancelledFirst row failure (jobs_of a) (jobs_of b) → EndedAnswer base row 0 b c r
+    → BrokenAnswer base row failure a c r
+broken base a b c (Ok answer) l same h k = broke_job l same h k
+broken base {row} a b c (Err memory) l same h k = record {
+  told = h.told ++ on_jobs (IsCancelling row) ∷ k.told;
+  goes = BeginsToBreakOff.ends h.told k.told h.breaks k.goes;
+  noted = broke_noted l same h k.told k.noted;
+  dones = broke_kept l same h k.told k.dones;
+}

@@ -8,22 +8,22 @@ use Rattle.channel_model.specs.declared.acts.Act.TheVariants.{Close, WakeClosed}
 use Rattle.channel_model.specs.declared.acts.ChannelNote.TheVariants as of_channel
 use Rattle.channel_model.specs.declared.acts.Entry.{Entry}
 use Rattle.channel_model.specs.Histories.{replay as replay_channels}
-use Rattle.channel_model.specs.Floors.{Floor as ChannelFloor, Added as AddedToChannels, entries_by as channel_entries}
+use Rattle.channel_model.specs.Floors.{Added as AddedToChannels, entries_by as channel_entries}
 use Rattle.channel_model.proofs.Spans.{nothing_more}
 use Rattle.job_model.specs.declared.acts.End.{End}
 use Rattle.job_model.specs.declared.acts.JobAct.{JobAct}
 use Rattle.job_model.specs.declared.acts.JobAct.TheVariants.{Finish}
-use Rattle.job_model.specs.declared.acts.JobEntry.{JobEntry}
 use Rattle.job_model.specs.Trees.{Shape}
 use Rattle.job_model.specs.Acts.{finishes}
 use Rattle.job_model.specs.Done.{done_channel}
 use Rattle.job_model.specs.Histories.{replay, Legal}
 use Rattle.job_model.specs.Laws.{has_ended}
-use Rattle.job_model.specs.Floors.{Floor, Added, entries_by}
+use Rattle.job_model.specs.Floors.{Added, entries_by}
 use Rattle.note_book.specs.declared.book.Item.{Item}
 use Rattle.note_book.specs.declared.book.Item.TheVariants as item
 use Rattle.note_book.specs.Items.{channel_acts_in}
 use Rattle.call_meaning.specs.Telling.{Told, on_channels, NoReceiver, items_in, made, did}
+use Rattle.call_meaning.specs.Seen.{SeenOnBoth}
 use Rattle.call_meaning.specs.ChannelCalls.{Wakes, Closes}
 use Rattle.call_meaning.specs.JobCalls.{value_of}
 use Rattle.call_meaning.proofs.JobTellings.{items_in-append}
@@ -45,7 +45,8 @@ wake_items c (q ∷ qs) = ap (λ (l : List Item). wake_note c q ∷ l) (wake_ite
 wakes_items : (c : ℕ) (wakes : List Told) → (w : Wakes c wakes) → items_in wakes ≡ map (wake_note c) w.places
 unfolding items_in
 wakes_items c wakes w =
-    ap items_in w.all ∙ items_in-append (map (λ q. made (WakeClosed c q)) w.places) (on_channels (NoReceiver c) ∷ []) ∙ nothing_more (items_in (map (λ q. made (WakeClosed c q)) w.places)) ∙ wake_items c w.places
+    ap items_in w.all ∙ items_in-append (map (λ q. made (WakeClosed c q)) w.places) (on_channels (NoReceiver c) ∷ [])
+    ∙ nothing_more (items_in (map (λ q. made (WakeClosed c q)) w.places)) ∙ wake_items c w.places
 
 note_acts : (c : ℕ) (places : List ℕ) → channel_acts_in (map (wake_note c) places) ≡ map (λ q. WakeClosed c q) places
 note_acts c [] = refl
@@ -57,18 +58,25 @@ wakes_acts c wakes w = ap channel_acts_in (wakes_items c wakes w) ∙ note_acts 
 -- ---- what is closed
 
 -- a close closes no other channel
-closes_none_else : (who c v d : ℕ) (told : List Told) (xs ys : List Entry) → Closes c v told → ys ≡ xs ++ channel_entries who (channel_acts_in (items_in told)) → (c == d) ≡ false → ((replay_channels ys).channels d).closed ≡ ((replay_channels xs).channels d).closed
+closes_none_else : (who c v d : ℕ) (told : List Told) (xs ys : List Entry) → Closes c v told → ys ≡ xs
+    ++ channel_entries who (channel_acts_in (items_in told)) → (c == d) ≡ false
+    → ((replay_channels ys).channels d).closed ≡ ((replay_channels xs).channels d).closed
 unfolding items_in
-closes_none_else who c v d _ xs ys (Closes.now wakes w) e apart = closed_else who c v d w.places xs ys (e ∙ ap (λ (l : List Act). xs ++ channel_entries who (Close c v ∷ l)) (wakes_acts c wakes w)) apart
-closes_none_else who c v d _ xs ys (Closes.before u wakes w) e apart = closed_woken who c d w.places xs ys (e ∙ ap (λ (l : List Act). xs ++ channel_entries who l) (wakes_acts c wakes w))
+closes_none_else who c v d _ xs ys (Closes.now wakes w) e apart =
+    closed_else who c v d w.places xs ys (e ∙ ap (λ (l : List Act). xs ++ channel_entries who (Close c v ∷ l)) (wakes_acts c wakes w)) apart
+closes_none_else who c v d _ xs ys (Closes.before u wakes w) e apart =
+    closed_woken who c d w.places xs ys (e ∙ ap (λ (l : List Act). xs ++ channel_entries who l) (wakes_acts c wakes w))
 
 -- the first note is the Close, unless the channel had been closed
-close_cases : (P : Type 0) (who c v : ℕ) (told : List Told) (xs ys : List Entry) → Closes c v told → ys ≡ xs ++ channel_entries who (channel_acts_in (items_in told)) → is_some ((replay_channels ys).channels c).closed ≡ true
-    → ((wakes : List Told) → Wakes c wakes → told ≡ made (Close c v) ∷ wakes → P) → (is_some ((replay_channels xs).channels c).closed ≡ true → P) → P
+close_cases : (P : Type 0) (who c v : ℕ) (told : List Told) (xs ys : List Entry) → Closes c v told → ys ≡ xs
+    ++ channel_entries who (channel_acts_in (items_in told)) → is_some ((replay_channels ys).channels c).closed ≡ true
+    → ((wakes : List Told) → Wakes c wakes → told ≡ made (Close c v) ∷ wakes → P)
+    → (is_some ((replay_channels xs).channels c).closed ≡ true → P) → P
 unfolding items_in
 close_cases P who c v _ xs ys (Closes.now wakes w) e closed now before = now wakes w refl
 close_cases P who c v _ xs ys (Closes.before u wakes w) e closed now before =
-    before (sym (ap is_some (closed_woken who c c w.places xs ys (e ∙ ap (λ (l : List Act). xs ++ channel_entries who l) (wakes_acts c wakes w)))) ∙ closed)
+    before (sym (ap is_some (closed_woken who c c w.places xs ys (e
+    ∙ ap (λ (l : List Act). xs ++ channel_entries who l) (wakes_acts c wakes w)))) ∙ closed)
 
 shifted : (base row r : ℕ) → ((base + row) == (base + r)) ≡ (r == row)
 shifted base row r = grind (arith, nat_tests)
@@ -85,50 +93,72 @@ or_first false false c e = cc
 -- ---- one end
 
 -- only done channels of ended Jobs are closed
-one_keeps : (shape : Shape) (who base row : ℕ) (end : End) (told : List JobAct) (closes : List Told) (xs xs' : List Entry) (ys ys' : List JobEntry) → Legal shape ys' → ys' ≡ ys ++ entries_by who (Finish row end ∷ told)
-    → Closes (done_channel base row) (value_of end) closes → xs' ≡ xs ++ channel_entries who (channel_acts_in (items_in closes))
-    → (r : ℕ) → (is_some ((replay_channels xs).channels (done_channel base r)).closed ≡ true → has_ended (replay ys r) ≡ true) → is_some ((replay_channels xs').channels (done_channel base r)).closed ≡ true → has_ended (replay ys' r) ≡ true
-one_keeps shape who base row end told closes xs xs' ys ys' l e g f r had closed = by_test (r == row) refl
+one_keeps : (who base row : ℕ) (end : End) (told : List JobAct) (closes : List Told) (a b : SeenOnBoth) → Legal b.jobs.shape b.jobs.seen
+    → b.jobs.seen ≡ a.jobs.seen ++ entries_by who (Finish row end ∷ told) → Closes (done_channel base row) (value_of end) closes
+    → b.channels.seen ≡ a.channels.seen ++ channel_entries who (channel_acts_in (items_in closes))
+    → (r : ℕ) → (IsSeenClosed (done_channel base r) a.channels → has_ended (replay a.jobs.seen r) ≡ true)
+    → IsSeenClosed (done_channel base r) b.channels → has_ended (replay b.jobs.seen r) ≡ true
+one_keeps who base row end told closes a b l e g f r had closed = by_test (r == row) refl
   where
-    by_test : (b : Bool) → (r == row) ≡ b → has_ended (replay ys' r) ≡ true
-    by_test true k = ended_after shape who (Finish row end ∷ told) ys ys' r l e ∙ or_first (has_ended (replay ys r)) (r == row) (list_any (finishes r) told) k
-    by_test false k =
-        ended_after shape who (Finish row end ∷ told) ys ys' r l e
-        ∙ or_left (has_ended (replay ys r)) (list_any (finishes r) (Finish row end ∷ told))
-        (had (sym (ap is_some (closes_none_else who (done_channel base row) (value_of end) (done_channel base r) closes xs xs' g f (shifted base row r ∙ k))) ∙ closed))
+    after : has_ended (replay b.jobs.seen r) ≡ (has_ended (replay a.jobs.seen r) || list_any (finishes r) (Finish row end ∷ told))
+    after = ended_after b.jobs.shape who (Finish row end ∷ told) a.jobs.seen b.jobs.seen r l e
 
-wakes_quiet : (base c : ℕ) (places : List ℕ) (more : List Item) → ClosesAtOnce base more → ClosesAtOnce base (map (wake_note c) places ++ more)
+    by_test : (t : Bool) → (r == row) ≡ t → has_ended (replay b.jobs.seen r) ≡ true
+    by_test true k = after ∙ or_first (has_ended (replay a.jobs.seen r)) (r == row) (list_any (finishes r) told) k
+    by_test false k =
+        let apart = shifted base row r ∙ k in
+        let same = closes_none_else who (done_channel base row) (value_of end) (done_channel base r) closes a.channels.seen b.channels.seen
+        g f apart in
+        after ∙ or_left (has_ended (replay a.jobs.seen r)) (list_any (finishes r) (Finish row end ∷ told))
+        (had (sym (ap is_some same) ∙ closed))
+
+wakes_quiet : (base c : ℕ) (places : List ℕ) (more : List Item) → ClosesAtOnce base more
+    → ClosesAtOnce base (map (wake_note c) places ++ more)
 wakes_quiet base c [] more h = h
 wakes_quiet base c (q ∷ qs) more h = (tt, wakes_quiet base c qs more h)
 
 -- the Close comes right after the Finish
-one_at_once : (shape : Shape) (who base row : ℕ) (end : End) (told : List JobAct) (closes : List Told) (xs xs' : List Entry) (ys ys' : List JobEntry) → Legal shape ys' → ys' ≡ ys ++ entries_by who (Finish row end ∷ told)
-    → Closes (done_channel base row) (value_of end) closes → xs' ≡ xs ++ channel_entries who (channel_acts_in (items_in closes)) → is_some ((replay_channels xs').channels (done_channel base row)).closed ≡ true
-    → (is_some ((replay_channels xs).channels (done_channel base row)).closed ≡ true → has_ended (replay ys row) ≡ true) → ClosesAtOnce base (items_in (map did told)) → ClosesAtOnce base (items_in (did (Finish row end) ∷ (closes ++ map did told)))
+one_at_once : (who base row : ℕ) (end : End) (told : List JobAct) (closes : List Told) (a b : SeenOnBoth) → Legal b.jobs.shape b.jobs.seen
+    → b.jobs.seen ≡ a.jobs.seen ++ entries_by who (Finish row end ∷ told) → Closes (done_channel base row) (value_of end) closes
+    → b.channels.seen ≡ a.channels.seen ++ channel_entries who (channel_acts_in (items_in closes))
+    → IsSeenClosed (done_channel base row) b.channels → (IsSeenClosed (done_channel base row) a.channels
+    → has_ended (replay a.jobs.seen row) ≡ true)
+    → ClosesAtOnce base (items_in (map did told)) → ClosesAtOnce base (items_in (did (Finish row end) ∷ (closes ++ map did told)))
 unfolding items_in
-one_at_once shape who base row end told closes xs xs' ys ys' l e g f closed had quiet =
-    close_cases _ who (done_channel base row) (value_of end) closes xs xs' g f closed
+one_at_once who base row end told closes a b l e g f closed had quiet =
+    let c : ℕ = done_channel base row in
+    let last : List Item = items_in (map did told) in
+    close_cases _ who c (value_of end) closes a.channels.seen b.channels.seen g f closed
     (λ wakes w is.
+    let items = items_in-append wakes (map did told) ∙ ap (λ (x : List Item). x ++ last) (wakes_items c wakes w) in
     subst (λ (x : List Told). ClosesAtOnce base (items_in (did (Finish row end) ∷ (x ++ map did told)))) (sym is)
-    (refl, (tt, subst (ClosesAtOnce base) (sym (items_in-append wakes (map did told) ∙ ap (λ (x : List Item). x ++ items_in (map did told)) (wakes_items (done_channel base row) wakes w))) (wakes_quiet base (done_channel base row) w.places (items_in (map did told)) quiet))))
-    (λ was. absurd (let k : true ≡ false = sym (had was) ∙ live_till_now shape who row end told ys ys' l e in cc))
+    (refl, (tt, subst (ClosesAtOnce base) (sym items) (wakes_quiet base c w.places last quiet))))
+    (λ was. absurd (let k : true ≡ false = sym (had was) ∙ live_till_now b.jobs.shape who row end told a.jobs.seen b.jobs.seen l e in cc))
 
-pub one_kept : (who base row : ℕ) (end : End) (told : List JobAct) (closes : List Told) (c c' : ChannelFloor) (j j' : Floor) → Legal j'.shape j'.seen → row < j.shape.rows → Added who (Finish row end ∷ told) [] j j'
-    → Closes (done_channel base row) (value_of end) closes → AddedToChannels who (channel_acts_in (items_in closes)) c c' → IsSeenClosed (done_channel base row) c' → ClosesAtOnce base (items_in (map did told))
-    → KeepsDones base c c' j j' (items_in (did (Finish row end) ∷ (closes ++ map did told)))
-one_kept who base row end told closes c c' j j' l lt h g a closed quiet = record {
-  only = λ ca ja o r k is. one_keeps j'.shape who base row end told closes c.seen c'.seen j.seen j'.seen l (h.alone ja) g (a.alone ca) r (o r (subst (λ (s : Shape). r < s.rows) h.same.shape k)) is;
-  at_once = λ ca ja o. one_at_once j'.shape who base row end told closes c.seen c'.seen j.seen j'.seen l (h.alone ja) g (a.alone ca) closed (o row lt) quiet;
+pub one_kept : (base row : ℕ) (end : End) (told : List JobAct) (closes : List Told) {who : ℕ} {a b : SeenOnBoth}
+    → Legal b.jobs.shape b.jobs.seen
+    → row < a.jobs.shape.rows → Added who (Finish row end ∷ told) [] a.jobs b.jobs → Closes (done_channel base row) (value_of end) closes
+    → AddedToChannels who (channel_acts_in (items_in closes)) a.channels b.channels → IsSeenClosed (done_channel base row) b.channels
+    → ClosesAtOnce base (items_in (map did told)) → KeepsDones base a b (items_in (did (Finish row end) ∷ (closes ++ map did told)))
+one_kept base row end told closes {who} {a} {b} l lt h g added closed quiet = record {
+  only = λ ca ja o r k is.
+      one_keeps who base row end told closes a b l (h.alone ja) g (added.alone ca) r
+      (o r (subst (λ (s : Shape). r < s.rows) h.same.shape k)) is;
+  at_once = λ ca ja o. one_at_once who base row end told closes a b l (h.alone ja) g (added.alone ca) closed (o row lt) quiet;
 }
 
 -- ---- calls that end no Job and close no channel
 
-pub quiet_kept : (who base : ℕ) (acts : List JobAct) (rows : List ℕ) (c c' : ChannelFloor) (j j' : Floor) (group : List Item) → Legal j'.shape j'.seen → Added who acts rows j j' → AddedToChannels who [] c c' → ClosesAtOnce base group → KeepsDones base c c' j j' group
-quiet_kept who base acts rows c c' j j' group l h a quiet = record {
+pub quiet_kept : (base : ℕ) (group : List Item) {who : ℕ} {acts : List JobAct} {rows : List ℕ} {a b : SeenOnBoth}
+    → Legal b.jobs.shape b.jobs.seen
+    → Added who acts rows a.jobs b.jobs → AddedToChannels who [] a.channels b.channels → ClosesAtOnce base group → KeepsDones base a b group
+quiet_kept base group {who} {acts} {rows} {a} {b} l h added quiet = record {
   only = λ ca ja o r k is.
-      ended_after j'.shape who acts j.seen j'.seen r l (h.alone ja)
-      ∙ or_left (has_ended (replay j.seen r)) (list_any (finishes r) acts)
-      (o r (subst (λ (s : Shape). r < s.rows) h.same.shape k) (ap (λ (xs : List Entry). is_some ((replay_channels xs).channels (done_channel base r)).closed) (sym (a.alone ca ∙ nothing_more c.seen)) ∙ is));
+      let row = subst (λ (s : Shape). r < s.rows) h.same.shape k in
+      let closed = λ (xs : List Entry). is_some ((replay_channels xs).channels (done_channel base r)).closed in
+      let was = ap closed (sym (added.alone ca ∙ nothing_more a.channels.seen)) ∙ is in
+      ended_after b.jobs.shape who acts a.jobs.seen b.jobs.seen r l (h.alone ja)
+      ∙ or_left (has_ended (replay a.jobs.seen r)) (list_any (finishes r) acts) (o r row was);
   at_once = λ ca ja o. quiet;
 }
 
@@ -143,8 +173,9 @@ pub at_once_then : (base : ℕ) (xs ys : List Item) → ClosesAtOnce base xs →
 at_once_then base [] ys h k = k
 at_once_then base (i ∷ xs) ys h k = (next_more base (finish_of i) xs ys h.0, at_once_then base xs ys h.1 k)
 
-pub kept_then : (base : ℕ) (c c' c'' : ChannelFloor) (j j' j'' : Floor) (g h : List Item) → c'.alone ≡ c.alone → j'.alone ≡ j.alone → KeepsDones base c c' j j' g → KeepsDones base c' c'' j' j'' h → KeepsDones base c c'' j j'' (g ++ h)
-kept_then base c c' c'' j j' j'' g h e f m k = record {
+pub kept_then : {base : ℕ} {a b c : SeenOnBoth} {g h : List Item} → b.channels.alone ≡ a.channels.alone → b.jobs.alone ≡ a.jobs.alone
+    → KeepsDones base a b g → KeepsDones base b c h → KeepsDones base a c (g ++ h)
+kept_then {base} {g = g} {h = h} e f m k = record {
   only = λ ca ja o. k.only (e ∙ ca) (f ∙ ja) (m.only ca ja o);
   at_once = λ ca ja o. at_once_then base g h (m.at_once ca ja o) (k.at_once (e ∙ ca) (f ∙ ja) (m.only ca ja o));
 }

@@ -41,48 +41,60 @@ has-entries acts r who [] = refl
 has-entries acts r who (x ∷ xs) = ap (λ b. acts r x || b) (has-entries acts r who xs)
 
 -- what ended in a history is what its entries finished
-ended-append : (shape : Shape) (xs es : List JobEntry) (r : ℕ) → Legal shape (xs ++ es) → has_ended (replay (xs ++ es) r) ≡ (has_ended (replay xs r) || has finishes r es)
+ended-append : (shape : Shape) (xs es : List JobEntry) (r : ℕ) → Legal shape (xs ++ es)
+    → has_ended (replay (xs ++ es) r) ≡ (has_ended (replay xs r) || has finishes r es)
 ended-append shape xs es r l =
-    (by_entries shape (xs ++ es) r l).ended ∙ has-append finishes r xs es ∙ ap (λ b. b || has finishes r es) (sym (by_entries shape xs r (Legal-prefix shape xs es l)).ended)
+    (by_entries shape (xs ++ es) r l).ended ∙ has-append finishes r xs es
+    ∙ ap (λ b. b || has finishes r es) (sym (by_entries shape xs r (Legal-prefix shape xs es l)).ended)
 
 -- a row has ended where it had, or where one of these acts ends it
-pub ended_after : (shape : Shape) (who : ℕ) (acts : List JobAct) (xs ys : List JobEntry) (r : ℕ) → Legal shape ys → ys ≡ xs ++ entries_by who acts → has_ended (replay ys r) ≡ (has_ended (replay xs r) || list_any (finishes r) acts)
+pub ended_after : (shape : Shape) (who : ℕ) (acts : List JobAct) (xs ys : List JobEntry) (r : ℕ) → Legal shape ys → ys ≡ xs
+    ++ entries_by who acts → has_ended (replay ys r) ≡ (has_ended (replay xs r) || list_any (finishes r) acts)
 ended_after shape who acts xs ys r l e =
-    ap (λ (es : List JobEntry). has_ended (replay es r)) e ∙ ended-append shape xs (entries_by who acts) r (subst (Legal shape) e l) ∙ ap (λ b. has_ended (replay xs r) || b) (has-entries finishes r who acts)
+    ap (λ (es : List JobEntry). has_ended (replay es r)) e ∙ ended-append shape xs (entries_by who acts) r (subst (Legal shape) e l)
+    ∙ ap (λ b. has_ended (replay xs r) || b) (has-entries finishes r who acts)
 
 may_finish_live : (end : End) (x : Option Job) → MayFinish end x → has_ended x ≡ false
 may_finish_live end None m = absurd m
 may_finish_live end (Some j) m = live_before j.state j end m.2
 
 -- a Job that is ended now had not ended
-pub live_till_now : (shape : Shape) (who row : ℕ) (end : End) (told : List JobAct) (xs ys : List JobEntry) → Legal shape ys → ys ≡ xs ++ entries_by who (Finish row end ∷ told) → has_ended (replay xs row) ≡ false
+pub live_till_now : (shape : Shape) (who row : ℕ) (end : End) (told : List JobAct) (xs ys : List JobEntry) → Legal shape ys → ys ≡ xs
+    ++ entries_by who (Finish row end ∷ told) → has_ended (replay xs row) ≡ false
 live_till_now shape who row end told xs ys l e =
     let entry : JobEntry = record { who = who; act = Finish row end } in
-    may_finish_live end (replay xs row) (LegalFrom-cons shape (replay xs) entry (entries_by who told) ((Legal-append shape xs (entry ∷ entries_by who told)).0 (subst (Legal shape) e l)).1).0
+    may_finish_live end (replay xs row) (LegalFrom-cons shape (replay xs) entry (entries_by who told)
+    ((Legal-append shape xs (entry ∷ entries_by who told)).0 (subst (Legal shape) e l)).1).0
 
 -- ---- channels
 
-first_keeps : (d : ℕ) (rs : List Receiver) (how : ℕ → Resolution) (s : State) → ((resolve_first rs how s).channels d).closed ≡ (s.channels d).closed
+first_keeps : (d : ℕ) (rs : List Receiver) (how : ℕ → Resolution) (s : State)
+    → ((resolve_first rs how s).channels d).closed ≡ (s.channels d).closed
 first_keeps d [] how s = refl
 first_keeps d (r ∷ rs) how s = refl
 
-wakes_from : (who c d : ℕ) (places : List ℕ) (s : State) → ((channels_from s (channel_entries who (map (λ q. WakeClosed c q) places))).channels d).closed ≡ (s.channels d).closed
+wakes_from : (who c d : ℕ) (places : List ℕ) (s : State)
+    → ((channels_from s (channel_entries who (map (λ q. WakeClosed c q) places))).channels d).closed ≡ (s.channels d).closed
 unfolding channels_from
 wakes_from who c d [] s = refl
 wakes_from who c d (q ∷ qs) s = wakes_from who c d qs (after s who (WakeClosed c q)) ∙ first_keeps d (s.channels c).receivers _ s
 
 -- whoever is woken, no channel is closed by it
-pub closed_woken : (who c d : ℕ) (places : List ℕ) (xs ys : List Entry) → ys ≡ xs ++ channel_entries who (map (λ q. WakeClosed c q) places) → ((replay_channels ys).channels d).closed ≡ ((replay_channels xs).channels d).closed
+pub closed_woken : (who c d : ℕ) (places : List ℕ) (xs ys : List Entry) → ys ≡ xs ++ channel_entries who (map (λ q. WakeClosed c q) places)
+    → ((replay_channels ys).channels d).closed ≡ ((replay_channels xs).channels d).closed
 closed_woken who c d places xs ys e =
     ap (λ (l : List Entry). ((replay_channels l).channels d).closed) e
     ∙ ap (λ (s : State). (s.channels d).closed) (channels-append channels_start xs (channel_entries who (map (λ q. WakeClosed c q) places)))
     ∙ wakes_from who c d places (replay_channels xs)
 
 -- a close closes no other channel
-pub closed_else : (who c v d : ℕ) (places : List ℕ) (xs ys : List Entry) → ys ≡ xs ++ channel_entries who (Close c v ∷ map (λ q. WakeClosed c q) places) → (c == d) ≡ false → ((replay_channels ys).channels d).closed ≡ ((replay_channels xs).channels d).closed
+pub closed_else : (who c v d : ℕ) (places : List ℕ) (xs ys : List Entry) → ys ≡ xs
+    ++ channel_entries who (Close c v ∷ map (λ q. WakeClosed c q) places) → (c == d) ≡ false
+    → ((replay_channels ys).channels d).closed ≡ ((replay_channels xs).channels d).closed
 unfolding channels_from
 closed_else who c v d places xs ys e apart =
     ap (λ (l : List Entry). ((replay_channels l).channels d).closed) e
-    ∙ ap (λ (s : State). (s.channels d).closed) (channels-append channels_start xs (channel_entries who (Close c v ∷ map (λ q. WakeClosed c q) places)))
+    ∙ ap (λ (s : State). (s.channels d).closed) (channels-append channels_start xs
+    (channel_entries who (Close c v ∷ map (λ q. WakeClosed c q) places)))
     ∙ wakes_from who c d places (after (replay_channels xs) who (Close c v))
     ∙ ap (λ b. (if b then record ((replay_channels xs).channels c) { closed = Some v } else (replay_channels xs).channels d).closed) apart

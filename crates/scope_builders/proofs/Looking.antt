@@ -22,9 +22,9 @@ use Rattle.job_model.proofs.Lasting.{ended_lasts, not_new_lasts, attached_lasts}
 use Rattle.job_model.proofs.Own.{prefix_keeps, owned_body_kept, owned_not_ended}
 use Rattle.note_book.specs.declared.book.Item.{Item}
 use Rattle.note_book.specs.declared.book.Item.TheVariants as item
-use Rattle.call_meaning.specs.Telling.{saw_end, MayRun}
+use Rattle.call_meaning.specs.Telling.{MayRun}
 use Rattle.call_meaning.specs.Facts.{IsRunning, IsAlive, end_at, JobFactHolds, JobNoteHolds}
-use Rattle.call_meaning.specs.Calls.{ToldOnJobs}
+use Rattle.call_meaning.specs.Seen.{SeenOnJobs, tree_in}
 use Rattle.call_meaning.proofs.JobTellings.{told_knew, told_nothing}
 use Rattle.scope_builders.specs.Calls.{SeenEndAnswer}
 use Rattle.scope_builders.specs.Parts.{OwnAnswer, goes_on, goes_on_in, end_in}
@@ -33,22 +33,25 @@ use Rattle.scope_builders.specs.Parts.{OwnAnswer, goes_on, goes_on_in, end_in}
 
 end_in-state : (s : JobState) (j : Job) → j.state ≡ s → end_in (Some (view_of j)) ≡ end_at (Some j)
 end_in-state New j e = rw e refl
-end_in-state Active j e = rw e refl
-end_in-state Completing j e = rw e refl
-end_in-state Cancelling j e = rw e refl
-end_in-state Cancelled j e = rw e refl
-end_in-state Completed j e = rw e refl
+end_in-state other j e = rw e refl
 
 end_in-view : (x : Option Job) → end_in (option_map view_of x) ≡ end_at x
 end_in-view None = refl
 end_in-view (Some j) = end_in-state j.state j refl
 
-pub seen_ended : (who row : ℕ) (v : Option JobView) (end : End) (a b : Floor) (i j k : List Item) → end_in v ≡ Some end → LookAnswer who row a b v → j ≡ i → k ≡ j ++ item.Job (SawEnd row end) ∷ [] → SeenEndAnswer who row a b i k (Ok (Some end))
-seen_ended who row v end a b i j k e h f g =
+pub seen_ended : (v : Option JobView) {row : ℕ} {end : End} {a b : SeenOnJobs} {ready : List Item} → end_in v ≡ Some end
+    → LookAnswer a.who row a.floor b.floor v → b.who ≡ a.who → ready ≡ a.items → b.items ≡ ready ++ item.Job (SawEnd row end) ∷ []
+    → SeenEndAnswer row a b (Ok (Some end))
+seen_ended v {row} {end} {a} {b} e h w f g =
     let m = h.1 in
-    let at : AtStep a b (JobNoteHolds (SawEnd row end)) = record { moment = m.moment; after = m.after; before = m.before; holds = sym (end_in-view (replay m.moment row)) ∙ ap end_in m.holds ∙ e } in
-    subst (λ (l : List Item). ToldOnJobs who [] a b l k (saw_end row end ∷ [])) f
-    (told_knew who [] a b j k (SawEnd row end) refl g (added_looked who [] a b h.0) (looked_moment who [] a b (JobNoteHolds (SawEnd row end)) h.0 at))
+    let so : AtStep a.floor b.floor (JobNoteHolds (SawEnd row end)) = record {
+      moment = m.moment;
+      after = m.after;
+      before = m.before;
+      holds = sym (end_in-view (replay m.moment row)) ∙ ap end_in m.holds ∙ e;
+    } in
+    told_knew (SawEnd row end) refl w (g ∙ ap (λ l. l ++ item.Job (SawEnd row end) ∷ []) f) (added_looked a.who [] a.floor b.floor h.0)
+    (looked_moment a.who [] a.floor b.floor (JobNoteHolds (SawEnd row end)) h.0 so)
 
 still_alive : (x : Option Job) → is_some x ≡ true → end_at x ≡ None → IsAlive x
 still_alive None s e = cc
@@ -62,16 +65,18 @@ still_alive (Some j) s e = by_state j.state refl
     by_state Cancelled k = cc
     by_state Completed k = cc
 
-pub seen_alive : (who row : ℕ) (v : Option JobView) (a b : Floor) (i j : List Item) → Legal b.shape b.seen → is_some (replay a.seen row) ≡ true → end_in v ≡ None → LookAnswer who row a b v → j ≡ i → SeenEndAnswer who row a b i j (Ok None)
-seen_alive who row v a b i j l s e h f =
+pub seen_alive : (row : ℕ) (v : Option JobView) {a b : SeenOnJobs} → Legal b.floor.shape b.floor.seen → is_some (tree_in a row) ≡ true
+    → end_in v ≡ None → LookAnswer a.who row a.floor b.floor v → b.who ≡ a.who → b.items ≡ a.items → SeenEndAnswer row a b (Ok None)
+seen_alive row v {a} {b} l s e h w f =
     let m = h.1 in
-    let legal = Legal-prefix b.shape m.moment m.before.0 (rw m.before.1 l) in (
-      told_nothing who [] a b i j f (added_looked who [] a b h.0),
+    let legal = Legal-prefix b.floor.shape m.moment m.before.0 (rw m.before.1 l) in
+    let attached = prefix_keeps _ attached_lasts b.floor.shape a.floor.seen m.moment row legal m.after s in (
+      told_nothing w f (added_looked a.who [] a.floor b.floor h.0),
       record {
         moment = m.moment;
         after = m.after;
         before = m.before;
-        holds = still_alive (replay m.moment row) (prefix_keeps _ attached_lasts b.shape a.seen m.moment row legal m.after s) (sym (end_in-view (replay m.moment row)) ∙ ap end_in m.holds ∙ e);
+        holds = still_alive (replay m.moment row) attached (sym (end_in-view (replay m.moment row)) ∙ ap end_in m.holds ∙ e);
       },
     )
 
@@ -90,18 +95,21 @@ not_ended None e h = h
 not_ended (Some j) e h = cc
 
 -- a Job that is seen neither New nor ended goes on, or is Cancelling
-own_by : (who row : ℕ) (a b : Floor) (m : List JobEntry) (x : Option Job) → IsPrefix a.seen m → IsPrefix m b.seen → replay m row ≡ x → Looked who [] a b → IsNotNew x → (IsEnded x → ⊥) → OwnAnswer who row a b (goes_on (option_map view_of x))
+own_by : (who row : ℕ) (a b : Floor) (m : List JobEntry) (x : Option Job) → IsPrefix a.seen m → IsPrefix m b.seen → replay m row ≡ x
+    → Looked who [] a b → IsNotNew x → (IsEnded x → ⊥) → OwnAnswer who row a b (goes_on (option_map view_of x))
 own_by who row a b m None p q e look begun lives = absurd begun
 own_by who row a b m (Some j) p q e look begun lives = by_state j.state refl
   where
     runs : (s : JobState) → j.state ≡ s → is_active s ≡ true → goes_on_in s ≡ true → OwnAnswer who row a b (goes_on_in j.state)
     runs s k r g =
-        let at : AtStep a b (JobFactHolds (MayRun row)) = record { moment = m; after = p; before = q; holds = subst IsRunning (sym e) (ap is_active k ∙ r) } in
+        let at : AtStep a b (JobFactHolds (MayRun row)) = record
+        { moment = m; after = p; before = q; holds = subst IsRunning (sym e) (ap is_active k ∙ r) } in
         subst (OwnAnswer who row a b) (sym (ap goes_on_in k ∙ g)) (look, at)
 
     stops : j.state ≡ Cancelling → OwnAnswer who row a b (goes_on_in j.state)
     stops k =
-        let at : AtStep a b (λ tree. state_of (tree row) ≡ Some Cancelling) = record { moment = m; after = p; before = q; holds = ap state_of e ∙ ap (λ (s : JobState). Some s) k } in
+        let at : AtStep a b (λ tree. state_of (tree row) ≡ Some Cancelling) =
+        record { moment = m; after = p; before = q; holds = ap state_of e ∙ ap (λ (s : JobState). Some s) k } in
         subst (OwnAnswer who row a b) (sym (ap goes_on_in k)) (look, at)
 
     by_state : (s : JobState) → j.state ≡ s → OwnAnswer who row a b (goes_on_in j.state)
@@ -112,12 +120,18 @@ own_by who row a b m (Some j) p q e look begun lives = by_state j.state refl
     by_state Cancelled k = absurd (lives (ap is_ended k))
     by_state Completed k = absurd (lives (ap is_ended k))
 
-pub own_answer : (who row : ℕ) (v : Option JobView) (a b : Floor) → Legal b.shape b.seen → MayEndBody who (replay a.seen row) → LookAnswer who row a b v → OwnAnswer who row a b (goes_on v)
+pub own_answer : (who row : ℕ) (v : Option JobView) (a b : Floor) → Legal b.shape b.seen → MayEndBody who (replay a.seen row)
+    → LookAnswer who row a b v → OwnAnswer who row a b (goes_on v)
 own_answer who row v a b l own h =
     let m = h.1 in
     let legal = Legal-prefix b.shape m.moment m.before.0 (rw m.before.1 l) in
-    let begun : IsNotNew (replay m.moment row) = prefix_keeps IsNotNew not_new_lasts b.shape a.seen m.moment row legal m.after (may_be_begun who (replay a.seen row) own) in
-    let owned : OwnsBody who (replay b.seen row) = owned_body_kept who row [] [] a b l (added_looked who [] a b h.0) refl (may_be_owned who (replay a.seen row) own) in
-    let alive : has_ended (replay b.seen row) ≡ false = owned_not_ended who (replay b.seen row) owned ((replay_families b.shape b.seen l).rows row) in
-    let lives : IsEnded (replay m.moment row) → ⊥ = λ e. not_ended (replay b.seen row) alive (prefix_keeps IsEnded ended_lasts b.shape m.moment b.seen row l m.before e) in
-    subst (λ (x : Option JobView). OwnAnswer who row a b (goes_on x)) m.holds (own_by who row a b m.moment (replay m.moment row) m.after m.before refl h.0 begun lives)
+    let begun : IsNotNew (replay m.moment row) = prefix_keeps IsNotNew not_new_lasts b.shape a.seen m.moment row legal m.after
+    (may_be_begun who (replay a.seen row) own) in
+    let owned : OwnsBody who (replay b.seen row) = owned_body_kept who row [] [] a b l (added_looked who [] a b h.0) refl
+    (may_be_owned who (replay a.seen row) own) in
+    let alive : has_ended (replay b.seen row) ≡ false = owned_not_ended who (replay b.seen row) owned
+    ((replay_families b.shape b.seen l).rows row) in
+    let lives : IsEnded (replay m.moment row) → ⊥ = λ e. not_ended (replay b.seen row) alive
+    (prefix_keeps IsEnded ended_lasts b.shape m.moment b.seen row l m.before e) in
+    subst (λ (x : Option JobView). OwnAnswer who row a b (goes_on x)) m.holds
+    (own_by who row a b m.moment (replay m.moment row) m.after m.before refl h.0 begun lives)

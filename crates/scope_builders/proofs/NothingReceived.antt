@@ -44,9 +44,11 @@ put_empty d c ch s f h = by_test (d == c) refl
 queue_here : (d c : ℕ) (s : State) → d ≡ c → IsEmpty c s → IsEmpty d s
 queue_here d c s e h = ap (λ n. (s.channels n).queue) e ∙ h
 
-offer_empty : (d : ℕ) (q : List Standing) (how : ℕ → Resolution) (s : State) (c : ℕ) → (s.channels d).queue ≡ q → IsEmpty c s → IsEmpty c (resolve_offer d q how s)
+offer_empty : (d : ℕ) (q : List Standing) (how : ℕ → Resolution) (s : State) (c : ℕ) → (s.channels d).queue ≡ q → IsEmpty c s
+    → IsEmpty c (resolve_offer d q how s)
 offer_empty d [] how s c e h = h
-offer_empty d (o ∷ os) how s c e h = holder_empty o.holder how (with_queue d os s) c (put_empty d c _ s (λ k. let u : o ∷ os ≡ [] = sym e ∙ queue_here d c s k h in cc) h)
+offer_empty d (o ∷ os) how s c e h = holder_empty o.holder how (with_queue d os s) c
+    (put_empty d c _ s (λ k. let u : o ∷ os ≡ [] = sym e ∙ queue_here d c s k h in cc) h)
 
 removed_empty : (d : ℕ) (q : List Standing) (s : State) (c : ℕ) → (s.channels d).queue ≡ q → IsEmpty c s → IsEmpty c (remove_first d q s)
 removed_empty d [] s c e h = h
@@ -68,14 +70,17 @@ no_offer k A e f = let u : false ≡ true = sym (ap suspends e) ∙ f in cc
 here : (shape : Shape) (d c : ℕ) → d ≡ c → kind_at shape c ≡ Signal → kind_at shape d ≡ Signal
 here shape d c e k = ap (kind_at shape) e ∙ k
 
-signal_step : (shape : Shape) (c : ℕ) → kind_at shape c ≡ Signal → (s : State) (who : ℕ) (act : Act) → Needs shape s who act → IsEmpty c s → IsEmpty c (after s who act)
+signal_step : (shape : Shape) (c : ℕ) → kind_at shape c ≡ Signal → (s : State) (who : ℕ) (act : Act) → Needs shape s who act → IsEmpty c s
+    → IsEmpty c (after s who act)
 signal_step shape c k s who (Hand d p v) n h = first_empty (s.channels d).receivers _ s c h
 signal_step shape c k s who (Put d p v) n h = put_empty d c _ s (λ e. no_put (kind_at shape d) _ _ (here shape d c e k) n.3) h
 signal_step shape c k s who (Offer d p v w j) n h = put_empty d c _ s (λ e. no_offer (kind_at shape d) _ (here shape d c e k) n.3) h
-signal_step shape c k s who (Await d p w j) n h = put_empty d c _ s (λ e. placed_empty (is_open (s.waits w)) _ (s.channels d) (queue_here d c s e h)) h
+signal_step shape c k s who (Await d p w j) n h = put_empty d c _ s
+    (λ e. placed_empty (is_open (s.waits w)) _ (s.channels d) (queue_here d c s e h)) h
 signal_step shape c k s who (Take d p v) n h = offer_empty d (s.channels d).queue _ s c refl h
 signal_step shape c k s who (Admit d p) n h =
-    holder_empty (holder_at p (s.channels d).queue) _ (with_queue d (admitted p (s.channels d).queue) s) c (put_empty d c _ s (λ e. ap (admitted p) (queue_here d c s e h)) h)
+    holder_empty (holder_at p (s.channels d).queue) _ (with_queue d (admitted p (s.channels d).queue) s) c
+    (put_empty d c _ s (λ e. ap (admitted p) (queue_here d c s e h)) h)
 signal_step shape c k s who (Drop d p v) n h = removed_empty d (s.channels d).queue s c refl h
 signal_step shape c k s who (Spurn d p v) n h = put_empty d c _ s (λ e. ap (filter (is_elsewhere p)) (queue_here d c s e h)) h
 signal_step shape c k s who (Close d v) n h = put_empty d c _ s (λ e. queue_here d c s e h) h
@@ -91,8 +96,10 @@ start_empty : (c : ℕ) → IsEmpty c (replay [])
 unfolding replay_from
 start_empty c = refl
 
-pub signal_empty : (shape : Shape) (c : ℕ) (xs : List Entry) → kind_at shape c ≡ Signal → Legal shape xs → ((replay xs).channels c).queue ≡ []
-signal_empty shape c xs k l = lasts shape (IsEmpty c) (record { step = λ s who act sound n h. signal_step shape c k s who act n h }) [] xs (xs, refl) l (start_empty c)
+pub signal_empty : (shape : Shape) (c : ℕ) (xs : List Entry) → kind_at shape c ≡ Signal → Legal shape xs
+    → ((replay xs).channels c).queue ≡ []
+signal_empty shape c xs k l = lasts shape (IsEmpty c) (record { step = λ s who act sound n h. signal_step shape c k s who act n h }) [] xs
+    (xs, refl) l (start_empty c)
 
 none_first : (p v : ℕ) (q : List Standing) → q ≡ [] → IsFirstOffer p v q → ⊥
 none_first p v [] e h = h

@@ -15,7 +15,6 @@ use Rattle.job_model.specs.Trees.{Tree, is_childless}
 use Rattle.job_model.specs.Done.{done_channel}
 use Rattle.job_model.specs.Answers.{is_owed}
 use Rattle.job_model.specs.Needs.{MayEndBody}
-use Rattle.job_model.specs.Histories.{replay}
 use Rattle.job_model.specs.Cancels.{IsAllCancelled, own_cancel, AreCancelsBelow}
 use Rattle.job_model.specs.Floors.{Floor, AtStep, AtEntry}
 use Rattle.note_book.specs.declared.book.Item.{Item}
@@ -25,6 +24,7 @@ use Rattle.call_meaning.specs.Facts.{IsAlive}
 use Rattle.call_meaning.specs.ChannelCalls.{Answer, Closed, Waits, NoPlace, receives, PlainCall}
 use Rattle.call_meaning.specs.JobCalls.{child_kind, scope_kind, reason_for, Starts, Passes, Breaks, EndsBody, BreaksOff}
 use Rattle.call_meaning.specs.Prefixes.{PrefixOf}
+use Rattle.call_meaning.specs.Seen.{SeenOnJobs, SeenOnBoth, seen_jobs, seen_both, channels_of, jobs_of, tree_in}
 use Rattle.call_meaning.specs.Calls.{ToldOnJobs, ToldOnBoth}
 use Rattle.channel_calls.specs.Calls.{IsLeftWaiting}
 use Rattle.job_tree.specs.Failures.{BeginsToFailUp}
@@ -46,28 +46,40 @@ pub record SameBuilder {C J B W A D : Type 0} (channels_anchor : C → A) (jobs_
   pub of_channels : channels_anchor new.channels.now ≡ channels_anchor old.channels.now
   pub of_jobs : jobs_anchor new.jobs.now ≡ jobs_anchor old.jobs.now
 
+-- what a caller sees of both floors and of its book
+abbrev pub seen : {C J B W : Type 0} → (C → ChannelFloor) → (J → Floor) → (B → List Item) → Builder C J B W → SeenOnBoth
+seen channels_view jobs_view items b = seen_both channels_view jobs_view items b.who b.channels.now b.jobs.now b.book.now
+
+-- of the Jobs alone
+abbrev pub seen_on_jobs : {C J B W : Type 0} → (J → Floor) → (B → List Item) → Builder C J B W → SeenOnJobs
+seen_on_jobs view items b = seen_jobs view items b.who b.jobs.now b.book.now
+
+-- the row was seen attached
+abbrev pub IsAttached : ℕ → SeenOnJobs → Type 0
+IsAttached row seen = is_some (tree_in seen row) ≡ true
+
 -- the tag may call both floors, and each row has its done channel, a signal of one place, those of all rows one after the other from the
 -- base; a channel's number is below 65,536
-pub record MayBuild (who base : ℕ) (channels : ChannelFloor) (jobs : Floor) : Type 0 where
-  pub of_channels : channels.callers who ≡ true
-  pub of_jobs : jobs.callers who ≡ true
-  pub done : base + jobs.shape.rows ≤ length channels.shape
-  pub signals : (r : ℕ) → r < jobs.shape.rows → slice_get channels.shape (done_channel base r) ≡ Some (Signal, 1)
-  pub few : length channels.shape ≤ 65536
+pub record MayBuild (base : ℕ) (seen : SeenOnBoth) : Type 0 where
+  pub of_channels : seen.channels.callers seen.who ≡ true
+  pub of_jobs : seen.jobs.callers seen.who ≡ true
+  pub done : base + seen.jobs.shape.rows ≤ length seen.channels.shape
+  pub signals : (r : ℕ) → r < seen.jobs.shape.rows → slice_get seen.channels.shape (done_channel base r) ≡ Some (Signal, 1)
+  pub few : length seen.channels.shape ≤ 65536
 
 -- ---- launch
 
 -- the Attach, and that its row was claimed; or why there is none: the coroutine's row was seen claimed, or the parent had ended. That
 -- of a coroutine is not one of the rows for scopes
-abbrev pub LaunchAnswer : ℕ → ℕ → ℕ → Bool → Floor → Floor → List Item → List Item → Result Attached LaunchError → Type 0
-LaunchAnswer who parent tag lazy j j' i i' (Ok a) =
-    (a.row ≡ tag) × ToldOnJobs who (tag ∷ []) j j' i i' (did (Attach parent tag (child_kind lazy) tag a.cancelled) ∷ [])
-LaunchAnswer who parent tag lazy j j' i i' (Err launch.NoRow) = ⊥
-LaunchAnswer who parent tag lazy j j' i i' (Err launch.Used) =
-    (is_some (j'.claims tag) ≡ true) × ToldOnJobs who [] j j' i i' (knew Used ∷ [])
-LaunchAnswer who parent tag lazy j j' i i' (Err launch.ParentEnded) =
-    ToldOnJobs who (tag ∷ []) j j' i i' (on_jobs (HasEnded parent) ∷ knew ParentEnded ∷ [])
-LaunchAnswer who parent tag lazy j j' i i' (Err launch.Memory) = ToldOnJobs who [] j j' i i' []
+abbrev pub LaunchAnswer : ℕ → ℕ → Bool → SeenOnJobs → SeenOnJobs → Result Attached LaunchError → Type 0
+LaunchAnswer parent tag lazy old new (Ok a) =
+    (a.row ≡ tag) × ToldOnJobs (tag ∷ []) old new (did (Attach parent tag (child_kind lazy) tag a.cancelled) ∷ [])
+LaunchAnswer parent tag lazy old new (Err launch.NoRow) = ⊥
+LaunchAnswer parent tag lazy old new (Err launch.Used) =
+    (is_some (new.floor.claims tag) ≡ true) × ToldOnJobs [] old new (knew Used ∷ [])
+LaunchAnswer parent tag lazy old new (Err launch.ParentEnded) =
+    ToldOnJobs (tag ∷ []) old new (on_jobs (HasEnded parent) ∷ knew ParentEnded ∷ [])
+LaunchAnswer parent tag lazy old new (Err launch.Memory) = ToldOnJobs [] old new []
 
 -- ---- enter
 
@@ -81,24 +93,24 @@ abbrev pub NoneLeft : Floor → Type 0
 NoneLeft jobs = (r : ℕ) → IsScopeRow jobs r → is_some (jobs.claims r) ≡ true
 
 -- the Attach of a scope, whose row was claimed; its body is the caller's, and may end
-pub record Entered (who parent : ℕ) (supervisor : Bool) (j j' : Floor) (items items' : List Item) (scope : Attached) : Type 0 where
-  pub of_scopes : IsScopeRow j scope.row
-  pub noted : ToldOnJobs who (scope.row ∷ []) j j' items items'
-      (did (Attach parent scope.row (scope_kind supervisor) who scope.cancelled) ∷ [])
-  pub own : MayEndBody who (replay j'.seen scope.row)
+pub record Entered (parent : ℕ) (supervisor : Bool) (old new : SeenOnJobs) (scope : Attached) : Type 0 where
+  pub of_scopes : IsScopeRow old.floor scope.row
+  pub noted : ToldOnJobs (scope.row ∷ []) old new
+      (did (Attach parent scope.row (scope_kind supervisor) old.who scope.cancelled) ∷ [])
+  pub own : MayEndBody old.who (tree_in new scope.row)
 
 -- a row for scopes was claimed, and the parent had ended
-pub record EnteredNone (who parent : ℕ) (j j' : Floor) (items items' : List Item) : Type 0 where
+pub record EnteredNone (parent : ℕ) (old new : SeenOnJobs) : Type 0 where
   pub row : ℕ
-  pub of_scopes : IsScopeRow j row
-  pub noted : ToldOnJobs who (row ∷ []) j j' items items' (on_jobs (HasEnded parent) ∷ knew ParentEnded ∷ [])
+  pub of_scopes : IsScopeRow old.floor row
+  pub noted : ToldOnJobs (row ∷ []) old new (on_jobs (HasEnded parent) ∷ knew ParentEnded ∷ [])
 
-abbrev pub EnterAnswer : ℕ → ℕ → Bool → Floor → Floor → List Item → List Item → Result Attached LaunchError → Type 0
-EnterAnswer who parent supervisor j j' i i' (Ok scope) = Entered who parent supervisor j j' i i' scope
-EnterAnswer who parent supervisor j j' i i' (Err launch.NoRow) = NoneLeft j' × ToldOnJobs who [] j j' i i' (knew NoRow ∷ [])
-EnterAnswer who parent supervisor j j' i i' (Err launch.Used) = ⊥
-EnterAnswer who parent supervisor j j' i i' (Err launch.ParentEnded) = EnteredNone who parent j j' i i'
-EnterAnswer who parent supervisor j j' i i' (Err launch.Memory) = ToldOnJobs who [] j j' i i' []
+abbrev pub EnterAnswer : ℕ → Bool → SeenOnJobs → SeenOnJobs → Result Attached LaunchError → Type 0
+EnterAnswer parent supervisor old new (Ok scope) = Entered parent supervisor old new scope
+EnterAnswer parent supervisor old new (Err launch.NoRow) = NoneLeft new.floor × ToldOnJobs [] old new (knew NoRow ∷ [])
+EnterAnswer parent supervisor old new (Err launch.Used) = ⊥
+EnterAnswer parent supervisor old new (Err launch.ParentEnded) = EnteredNone parent old new
+EnterAnswer parent supervisor old new (Err launch.Memory) = ToldOnJobs [] old new []
 
 -- ---- start and cancel
 
@@ -107,53 +119,50 @@ abbrev pub start_told : Bool → ℕ → List Told
 start_told true row = did (Start row) ∷ on_jobs (NotNew row) ∷ []
 start_told false row = on_jobs (NotNew row) ∷ []
 
-abbrev pub StartedAnswer : ℕ → ℕ → Floor → Floor → List Item → List Item → Result Bool Memory → Type 0
-StartedAnswer who row j j' i i' (Ok now) = ToldOnJobs who [] j j' i i' (start_told now row)
-StartedAnswer who row j j' i i' (Err m) = ToldOnJobs who [] j j' i i' []
+abbrev pub StartedAnswer : ℕ → SeenOnJobs → SeenOnJobs → Result Bool Memory → Type 0
+StartedAnswer row old new (Ok now) = ToldOnJobs [] old new (start_told now row)
+StartedAnswer row old new (Err m) = ToldOnJobs [] old new []
 
 -- a pass on request, of so many Jobs; in the end the Job and all below it are Cancelling or ended
-pub record CancelledAll (who row : ℕ) (j j' : Floor) (items items' : List Item) (count : ℕ) : Type 0 where
+pub record CancelledAll (row : ℕ) (old new : SeenOnJobs) (count : ℕ) : Type 0 where
   pub newly : Bool
   pub told : List Told
   pub group : Passes row reasons.Request newly told
-  pub noted : ToldOnJobs who [] j j' items items' told
+  pub noted : ToldOnJobs [] old new told
   pub counted : count ≡ length (items_in told)
-  pub all : IsAllCancelled (replay j'.seen) row
+  pub all : IsAllCancelled (tree_in new) row
 
 -- a part of such a pass: the Job was cancelled, or was not by this call, and some Jobs below it were
-pub record CancelledSome (who row : ℕ) (j j' : Floor) (items items' : List Item) : Type 0 where
+pub record CancelledSome (row : ℕ) (old new : SeenOnJobs) : Type 0 where
   pub newly : Bool
   pub below : List JobAct
-  pub noted : ToldOnJobs who [] j j' items items' (map did (own_cancel newly row reasons.Request ++ below))
-  pub cancels : AreCancelsBelow (replay j'.seen) row below
+  pub noted : ToldOnJobs [] old new (map did (own_cancel newly row reasons.Request ++ below))
+  pub cancels : AreCancelsBelow (tree_in new) row below
 
-abbrev pub CancelledAllAnswer : ℕ → ℕ → Floor → Floor → List Item → List Item → Result ℕ Memory → Type 0
-CancelledAllAnswer who row j j' i i' (Ok count) = CancelledAll who row j j' i i' count
-CancelledAllAnswer who row j j' i i' (Err m) = CancelledSome who row j j' i i'
+abbrev pub CancelledAllAnswer : ℕ → SeenOnJobs → SeenOnJobs → Result ℕ Memory → Type 0
+CancelledAllAnswer row old new (Ok count) = CancelledAll row old new count
+CancelledAllAnswer row old new (Err m) = CancelledSome row old new
 
 -- ---- the ends of bodies
 
 -- this was told so
-pub record TellsBoth (who base : ℕ) (P : List Told → Type 0) (c c' : ChannelFloor) (j j' : Floor) (items items' : List Item)
-    : Type 0 where
+pub record TellsBoth (base : ℕ) (P : List Told → Type 0) (old new : SeenOnBoth) : Type 0 where
   pub told : List Told
   pub goes : P told
-  pub noted : ToldOnBoth who [] c c' j j' items items' told
-  pub dones : KeepsDones base c c' j j' (items_in told)
+  pub noted : ToldOnBoth [] old new told
+  pub dones : KeepsDones base old new (items_in told)
 
 -- the body ended, and then what its end brought about; the answer is Owes exactly if no child lived at the end of the body
-pub record EndedJob (who base row value : ℕ) (c c' : ChannelFloor) (j j' : Floor) (items items' : List Item)
-    (answer : Ended) : Type 0 where
+pub record EndedJob (base row value : ℕ) (old new : SeenOnBoth) (answer : Ended) : Type 0 where
   pub told : List Told
   pub group : EndsBody base row value told
-  pub noted : ToldOnBoth who [] c c' j j' items items' told
-  pub owes : AtEntry who [] (EndBody row value) j j' (λ tree. is_childless (tree row) ≡ is_owed answer)
-  pub dones : KeepsDones base c c' j j' (items_in told)
+  pub noted : ToldOnBoth [] old new told
+  pub owes : AtEntry old.who [] (EndBody row value) old.jobs new.jobs (λ tree. is_childless (tree row) ≡ is_owed answer)
+  pub dones : KeepsDones base old new (items_in told)
 
-abbrev pub EndedAnswer : ℕ → ℕ → ℕ → ℕ → ChannelFloor → ChannelFloor → Floor → Floor → List Item → List Item
-    → Result Ended Memory → Type 0
-EndedAnswer who base row value c c' j j' i i' (Ok answer) = EndedJob who base row value c c' j j' i i' answer
-EndedAnswer who base row value c c' j j' i i' (Err m) = TellsBoth who base (PrefixOf (EndsBody base row value)) c c' j j' i i'
+abbrev pub EndedAnswer : ℕ → ℕ → ℕ → SeenOnBoth → SeenOnBoth → Result Ended Memory → Type 0
+EndedAnswer base row value old new (Ok answer) = EndedJob base row value old new answer
+EndedAnswer base row value old new (Err m) = TellsBoth base (PrefixOf (EndsBody base row value)) old new
 
 -- the cancellations of a body of k that breaks off were begun
 pub data BeginsToBreak (k row : ℕ) (tree : Tree) : Option ℕ → List Told → Type 0 where
@@ -172,20 +181,18 @@ pub data BeginsToBreakOff (base k row : ℕ) (failure : Option ℕ) (tree : Tree
       → BeginsToBreakOff base k row failure tree (told ++ on_jobs (IsCancelling row) ∷ end)
 
 -- the body broke off: its Job was cancelled, or seen Cancelling, and the body ended
-pub record BrokeJob (who base row : ℕ) (failure : Option ℕ) (c c' : ChannelFloor) (j j' : Floor) (items items' : List Item)
-    (answer : Ended) : Type 0 where
+pub record BrokeJob (base row : ℕ) (failure : Option ℕ) (old new : SeenOnBoth) (answer : Ended) : Type 0 where
   pub told : List Told
-  pub group : BreaksOff base who row failure told
-  pub noted : ToldOnBoth who [] c c' j j' items items' told
-  pub owes : AtEntry who (job_acts_in (items_in group.cancels)) (EndBody row 0) j j'
+  pub group : BreaksOff base old.who row failure told
+  pub noted : ToldOnBoth [] old new told
+  pub owes : AtEntry old.who (job_acts_in (items_in group.cancels)) (EndBody row 0) old.jobs new.jobs
       (λ tree. is_childless (tree row) ≡ is_owed answer)
-  pub dones : KeepsDones base c c' j j' (items_in told)
+  pub dones : KeepsDones base old new (items_in told)
 
-abbrev pub BrokenAnswer : ℕ → ℕ → ℕ → Option ℕ → ChannelFloor → ChannelFloor → Floor → Floor → List Item → List Item
-    → Result Ended Memory → Type 0
-BrokenAnswer who base row failure c c' j j' i i' (Ok answer) = BrokeJob who base row failure c c' j j' i i' answer
-BrokenAnswer who base row failure c c' j j' i i' (Err m) =
-    TellsBoth who base (BeginsToBreakOff base who row failure (replay j'.seen)) c c' j j' i i'
+abbrev pub BrokenAnswer : ℕ → ℕ → Option ℕ → SeenOnBoth → SeenOnBoth → Result Ended Memory → Type 0
+BrokenAnswer base row failure old new (Ok answer) = BrokeJob base row failure old new answer
+BrokenAnswer base row failure old new (Err m) =
+    TellsBoth base (BeginsToBreakOff base old.who row failure (tree_in (jobs_of new))) old new
 
 -- ---- join, await and the end of a scope
 
@@ -216,24 +223,22 @@ JoinStarts own row told = (starts : List Told) × Starts row starts × (told ≡
 
 -- what such a receive told, by its answer; an element is never received. Without memory no wait was placed: a beginning of what comes
 -- before the receive was told
-abbrev pub DoneAnswer : ℕ → ℕ → (Answer → List Told → Type 0) → (List Told → Type 0) → ChannelFloor → ChannelFloor → Floor → Floor
-    → List Item → List Item → Result Joined Memory → Type 0
-DoneAnswer who base P before c c' j j' i i' (Ok (joined.Closed v)) = TellsBoth who base (P (Closed v)) c c' j j' i i'
-DoneAnswer who base P before c c' j j' i i' (Ok (joined.Waits w)) =
-    (t : TellsBoth who base (P (Waits w)) c c' j j' i i') × IsLeftWaiting who w (channel_acts_in (items_in t.told)) c c'
-DoneAnswer who base P before c c' j j' i i' (Ok joined.Cancelled) = ⊥
-DoneAnswer who base P before c c' j j' i i' (Ok joined.Spent) = TellsBoth who base (P NoPlace) c c' j j' i i'
-DoneAnswer who base P before c c' j j' i i' (Err m) = TellsBoth who base (PrefixOf before) c c' j j' i i'
+abbrev pub DoneAnswer : ℕ → (Answer → List Told → Type 0) → (List Told → Type 0) → SeenOnBoth → SeenOnBoth → Result Joined Memory → Type 0
+DoneAnswer base P before old new (Ok (joined.Closed v)) = TellsBoth base (P (Closed v)) old new
+DoneAnswer base P before old new (Ok (joined.Waits w)) =
+    (t : TellsBoth base (P (Waits w)) old new)
+    × IsLeftWaiting w (channel_acts_in (items_in t.told)) (channels_of old) (channels_of new)
+DoneAnswer base P before old new (Ok joined.Cancelled) = ⊥
+DoneAnswer base P before old new (Ok joined.Spent) = TellsBoth base (P NoPlace) old new
+DoneAnswer base P before old new (Err m) = TellsBoth base (PrefixOf before) old new
 
 -- a join, whose caller's own Job may be seen Cancelling
-abbrev pub JoinAnswer : ℕ → ℕ → ℕ → ℕ → ChannelFloor → ChannelFloor → Floor → Floor → List Item → List Item
-    → Result Joined Memory → Type 0
-JoinAnswer who base own row c c' j j' i i' (Ok joined.Cancelled) = TellsBoth who base (λ told. told ≡ saw own ∷ []) c c' j j' i i'
-JoinAnswer who base own row c c' j j' i i' other =
-    DoneAnswer who base (JoinsJob base own row) (JoinStarts own row) c c' j j' i i' other
+abbrev pub JoinAnswer : ℕ → ℕ → ℕ → SeenOnBoth → SeenOnBoth → Result Joined Memory → Type 0
+JoinAnswer base own row old new (Ok joined.Cancelled) = TellsBoth base (λ told. told ≡ saw own ∷ []) old new
+JoinAnswer base own row old new other = DoneAnswer base (JoinsJob base own row) (JoinStarts own row) old new other
 
 -- how the Job ended, or that it had not
-abbrev pub SeenEndAnswer : ℕ → ℕ → Floor → Floor → List Item → List Item → Result (Option End) Memory → Type 0
-SeenEndAnswer who row j j' i i' (Ok (Some end)) = ToldOnJobs who [] j j' i i' (saw_end row end ∷ [])
-SeenEndAnswer who row j j' i i' (Ok None) = ToldOnJobs who [] j j' i i' [] × AtStep j j' (λ tree. IsAlive (tree row))
-SeenEndAnswer who row j j' i i' (Err m) = ToldOnJobs who [] j j' i i' []
+abbrev pub SeenEndAnswer : ℕ → SeenOnJobs → SeenOnJobs → Result (Option End) Memory → Type 0
+SeenEndAnswer row old new (Ok (Some end)) = ToldOnJobs [] old new (saw_end row end ∷ [])
+SeenEndAnswer row old new (Ok None) = ToldOnJobs [] old new [] × AtStep old.floor new.floor (λ tree. IsAlive (tree row))
+SeenEndAnswer row old new (Err m) = ToldOnJobs [] old new []

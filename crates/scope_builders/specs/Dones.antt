@@ -19,6 +19,7 @@ use Rattle.call_meaning.specs.Facts.{IsClosedWith}
 use Rattle.call_meaning.specs.ChannelCalls.{receives, wait_at, spent, Wakes, Closes}
 use Rattle.call_meaning.specs.JobCalls.{value_of}
 use Rattle.call_meaning.specs.Endings.{ClosesAtOnce}
+use Rattle.call_meaning.specs.Seen.{SeenOnChannels, SeenOnBoth}
 use Rattle.call_meaning.specs.Calls.{ToldOnChannels}
 use Rattle.channel_calls.specs.Calls.{IsLeftWaiting}
 use Rattle.scope_builders.specs.declared.builder.Joined.{Joined}
@@ -35,7 +36,9 @@ pub record MayClose (who base rows : ℕ) (channels : ChannelFloor) : Type 0 whe
 
 -- this was told by a call on channels, whatever the book held before
 abbrev pub IsTold : ℕ → ChannelFloor → ChannelFloor → List Told → Type 0
-IsTold who old new told = (book : List Item) → ToldOnChannels who old new book (book ++ items_in told) told
+IsTold who old new told = (book : List Item)
+    → ToldOnChannels (record { who = who; floor = old; items = book }) (record { who = who; floor = new; items = book ++ items_in told })
+    told
 
 -- the channel is closed with v, or had been closed
 pub data ClosesFirst (c v : ℕ) : Told → Type 0 where
@@ -43,19 +46,21 @@ pub data ClosesFirst (c v : ℕ) : Told → Type 0 where
   before : (u : ℕ) → ClosesFirst c v (heard (AlreadyClosed c u))
 
 -- that was told and noted, and the channel is closed
-pub record ClosedFirst (who c v : ℕ) (old new : ChannelFloor) (items items' : List Item) : Type 0 where
+pub record ClosedFirst (c v : ℕ) (old new : SeenOnChannels) : Type 0 where
+  pub who : new.who ≡ old.who
   pub told : Told
   pub first : ClosesFirst c v told
-  pub is_told : IsTold who old new (told ∷ [])
-  pub noted : items' ≡ items ++ items_in (told ∷ [])
-  pub closed : IsSeenClosed c new
+  pub is_told : IsTold old.who old.floor new.floor (told ∷ [])
+  pub noted : new.items ≡ old.items ++ items_in (told ∷ [])
+  pub closed : IsSeenClosed c new.floor
 
 -- a receiver of the closed channel was told, if one stood, and then none did
-pub record WokenLast (who c : ℕ) (old new : ChannelFloor) (items items' : List Item) (spare spare' : ℕ) : Type 0 where
+pub record WokenLast (c : ℕ) (old new : SeenOnChannels) (spare spare' : ℕ) : Type 0 where
+  pub who : new.who ≡ old.who
   pub told : List Told
   pub wakes : Wakes c told
-  pub is_told : IsTold who old new told
-  pub noted : items' ≡ items ++ items_in told
+  pub is_told : IsTold old.who old.floor new.floor told
+  pub noted : new.items ≡ old.items ++ items_in told
   pub few : length (items_in told) ≤ 1
   pub room : spare ≡ spare' + length (items_in told)
 
@@ -69,19 +74,19 @@ pub data EndsDone (who base rows row : ℕ) (end : End) (old new : ChannelFloor)
 -- ---- a receive
 
 -- a wait of its own stands at a place of the channel
-pub record WaitsAt (who c : ℕ) (w : WaitId) (old new : ChannelFloor) (items items' : List Item) : Type 0 where
+pub record WaitsAt (c : ℕ) (w : WaitId) (old new : SeenOnChannels) : Type 0 where
   pub place : ℕ
   pub named : w ≡ wait_at c place
-  pub left : ToldOnChannels who old new items items' (made (Await c place (wait_at c place) 0) ∷ [])
-  pub waits : IsLeftWaiting who w (Await c place (wait_at c place) 0 ∷ []) old new
+  pub left : ToldOnChannels old new (made (Await c place (wait_at c place) 0) ∷ [])
+  pub waits : IsLeftWaiting w (Await c place (wait_at c place) 0 ∷ []) old new
 
 -- a receive on a channel that carries no element; without memory nothing was told
-abbrev pub SignalAnswer : ℕ → ℕ → ChannelFloor → ChannelFloor → List Item → List Item → Result Joined Memory → Type 0
-SignalAnswer who c old new i i' (Ok (joined.Closed v)) = ToldOnChannels who old new i i' (heard (ReceiveClosed c v) ∷ [])
-SignalAnswer who c old new i i' (Ok (joined.Waits w)) = WaitsAt who c w old new i i'
-SignalAnswer who c old new i i' (Ok joined.Cancelled) = ⊥
-SignalAnswer who c old new i i' (Ok joined.Spent) = ToldOnChannels who old new i i' (spent (receives c))
-SignalAnswer who c old new i i' (Err m) = ToldOnChannels who old new i i' []
+abbrev pub SignalAnswer : ℕ → SeenOnChannels → SeenOnChannels → Result Joined Memory → Type 0
+SignalAnswer c old new (Ok (joined.Closed v)) = ToldOnChannels old new (heard (ReceiveClosed c v) ∷ [])
+SignalAnswer c old new (Ok (joined.Waits w)) = WaitsAt c w old new
+SignalAnswer c old new (Ok joined.Cancelled) = ⊥
+SignalAnswer c old new (Ok joined.Spent) = ToldOnChannels old new (spent (receives c))
+SignalAnswer c old new (Err m) = ToldOnChannels old new []
 
 -- if the answer is that the channel is closed, its close was seen
 abbrev pub ClosedIsSeen : ℕ → ChannelFloor → Result Joined Memory → Type 0
@@ -95,6 +100,8 @@ abbrev pub OnlyEndedAreClosed : ℕ → ChannelFloor → Floor → Type 0
 OnlyEndedAreClosed base c j = (r : ℕ) → r < j.shape.rows → IsSeenClosed (done_channel base r) c → has_ended (replay j.seen r) ≡ true
 
 -- floors that nobody else calls keep that only done channels of ended Jobs are closed, and each Finish is closed at once
-pub record KeepsDones (base : ℕ) (c c' : ChannelFloor) (j j' : Floor) (group : List Item) : Type 0 where
-  pub only : c.alone ≡ true → j.alone ≡ true → OnlyEndedAreClosed base c j → OnlyEndedAreClosed base c' j'
-  pub at_once : c.alone ≡ true → j.alone ≡ true → OnlyEndedAreClosed base c j → ClosesAtOnce base group
+pub record KeepsDones (base : ℕ) (old new : SeenOnBoth) (group : List Item) : Type 0 where
+  pub only : old.channels.alone ≡ true → old.jobs.alone ≡ true → OnlyEndedAreClosed base old.channels old.jobs
+      → OnlyEndedAreClosed base new.channels new.jobs
+  pub at_once : old.channels.alone ≡ true → old.jobs.alone ≡ true → OnlyEndedAreClosed base old.channels old.jobs
+      → ClosesAtOnce base group

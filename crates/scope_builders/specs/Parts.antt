@@ -16,7 +16,6 @@ use Rattle.job_model.specs.Effects.{new_child}
 use Rattle.job_model.specs.Trees.{state_of}
 use Rattle.job_model.specs.Needs.{IsRowFor, OwnsBody, MayEndBody}
 use Rattle.job_model.specs.Families.{IsCancellingOrEnded}
-use Rattle.job_model.specs.Histories.{replay}
 use Rattle.job_model.specs.Floors.{Floor, Looked, AtStep}
 use Rattle.note_book.specs.declared.book.Item.{Item}
 use Rattle.note_book.specs.Items.{job_acts_in}
@@ -24,7 +23,9 @@ use Rattle.call_meaning.specs.Telling.{Told, on_jobs, MayRun, IsCancelling, HasE
 use Rattle.call_meaning.specs.Facts.{JobFactHolds}
 use Rattle.call_meaning.specs.JobCalls.{Breaks, Chain}
 use Rattle.call_meaning.specs.Prefixes.{PrefixOf}
+use Rattle.call_meaning.specs.Seen.{SeenOnJobs, SeenOnBoth, seen_both, tree_in}
 use Rattle.call_meaning.specs.Calls.{ToldOnJobs, ToldOnBoth}
+use Rattle.job_tree.specs.declared.caller.JobCaller.{JobCaller}
 use Rattle.job_tree.specs.Passes.{is_cancel}
 use Rattle.scope_builders.specs.declared.builder.LaunchError.{LaunchError}
 use Rattle.scope_builders.specs.declared.builder.LaunchError.TheVariants as launch
@@ -34,26 +35,25 @@ use Rattle.scope_builders.specs.Calls.{NoneLeft, BeginsToBreak}
 -- ---- attach
 
 -- the Attach of a child, whose row was claimed, and which is as it was attached
-pub record HasAttached (who parent : ℕ) (kind : JobKind) (tag : ℕ) (j j' : Floor) (items items' : List Item) (child : Attached)
-    : Type 0 where
-  pub row_for : IsRowFor j.shape who kind tag child.row
-  pub noted : ToldOnJobs who (child.row ∷ []) j j' items items' (did (Attach parent child.row kind tag child.cancelled) ∷ [])
-  pub here : replay j'.seen child.row ≡ Some (new_child parent kind tag child.cancelled)
+pub record HasAttached (parent : ℕ) (kind : JobKind) (tag : ℕ) (old new : SeenOnJobs) (child : Attached) : Type 0 where
+  pub row_for : IsRowFor old.floor.shape old.who kind tag child.row
+  pub noted : ToldOnJobs (child.row ∷ []) old new (did (Attach parent child.row kind tag child.cancelled) ∷ [])
+  pub here : tree_in new child.row ≡ Some (new_child parent kind tag child.cancelled)
 
 -- a row for the child was claimed, and the parent had ended
-pub record MetParentEnded (who parent : ℕ) (kind : JobKind) (tag : ℕ) (j j' : Floor) (items items' : List Item) : Type 0 where
+pub record MetParentEnded (parent : ℕ) (kind : JobKind) (tag : ℕ) (old new : SeenOnJobs) : Type 0 where
   pub row : ℕ
-  pub row_for : IsRowFor j.shape who kind tag row
-  pub noted : ToldOnJobs who (row ∷ []) j j' items items' (on_jobs (HasEnded parent) ∷ knew ParentEnded ∷ [])
+  pub row_for : IsRowFor old.floor.shape old.who kind tag row
+  pub noted : ToldOnJobs (row ∷ []) old new (on_jobs (HasEnded parent) ∷ knew ParentEnded ∷ [])
 
-abbrev pub AttachedAnswer : ℕ → ℕ → JobKind → ℕ → Floor → Floor → List Item → List Item → Result Attached LaunchError → Type 0
-AttachedAnswer who parent kind tag j j' i i' (Ok child) = HasAttached who parent kind tag j j' i i' child
-AttachedAnswer who parent kind tag j j' i i' (Err launch.NoRow) =
-    (kind.scoped ≡ true) × NoneLeft j' × ToldOnJobs who [] j j' i i' (knew NoRow ∷ [])
-AttachedAnswer who parent kind tag j j' i i' (Err launch.Used) =
-    (kind.scoped ≡ false) × (is_some (j'.claims tag) ≡ true) × ToldOnJobs who [] j j' i i' (knew Used ∷ [])
-AttachedAnswer who parent kind tag j j' i i' (Err launch.ParentEnded) = MetParentEnded who parent kind tag j j' i i'
-AttachedAnswer who parent kind tag j j' i i' (Err launch.Memory) = ToldOnJobs who [] j j' i i' []
+abbrev pub AttachedAnswer : ℕ → JobKind → ℕ → SeenOnJobs → SeenOnJobs → Result Attached LaunchError → Type 0
+AttachedAnswer parent kind tag old new (Ok child) = HasAttached parent kind tag old new child
+AttachedAnswer parent kind tag old new (Err launch.NoRow) =
+    (kind.scoped ≡ true) × NoneLeft new.floor × ToldOnJobs [] old new (knew NoRow ∷ [])
+AttachedAnswer parent kind tag old new (Err launch.Used) =
+    (kind.scoped ≡ false) × (is_some (new.floor.claims tag) ≡ true) × ToldOnJobs [] old new (knew Used ∷ [])
+AttachedAnswer parent kind tag old new (Err launch.ParentEnded) = MetParentEnded parent kind tag old new
+AttachedAnswer parent kind tag old new (Err launch.Memory) = ToldOnJobs [] old new []
 
 -- ---- looks
 
@@ -100,33 +100,33 @@ abbrev pub AreCancels : List Told → Type 0
 AreCancels told = list_all is_cancel (job_acts_in (items_in told)) ≡ true
 
 -- the cancellations with which a body breaks off were told; in the end its Job is Cancelling, and the body may end
-pub record IsBroken (who row : ℕ) (failure : Option ℕ) (old new : Floor) (items items' : List Item) : Type 0 where
+pub record IsBroken (row : ℕ) (failure : Option ℕ) (old new : SeenOnJobs) : Type 0 where
   pub told : List Told
-  pub breaks : Breaks who row failure told
+  pub breaks : Breaks old.who row failure told
   pub cancels : AreCancels told
-  pub noted : ToldOnJobs who [] old new items items' told
-  pub owned : OwnsBody who (replay new.seen row)
-  pub here : IsCancellingOrEnded (replay new.seen row)
+  pub noted : ToldOnJobs [] old new told
+  pub owned : OwnsBody old.who (tree_in new row)
+  pub here : IsCancellingOrEnded (tree_in new row)
 
 -- these cancellations were begun
-pub record HasBegunToBreak (who row : ℕ) (failure : Option ℕ) (old new : Floor) (items items' : List Item) : Type 0 where
+pub record HasBegunToBreak (row : ℕ) (failure : Option ℕ) (old new : SeenOnJobs) : Type 0 where
   pub told : List Told
-  pub begun : BeginsToBreak who row (replay new.seen) failure told
+  pub begun : BeginsToBreak old.who row (tree_in new) failure told
   pub cancels : AreCancels told
-  pub noted : ToldOnJobs who [] old new items items' told
+  pub noted : ToldOnJobs [] old new told
 
 -- the body broke off so, or as far as there was memory
-abbrev pub BreakAnswer : ℕ → ℕ → Option ℕ → Floor → Floor → List Item → List Item → Result (Unit {0}) Memory → Type 0
-BreakAnswer who row failure old new items items' (Ok done) = IsBroken who row failure old new items items'
-BreakAnswer who row failure old new items items' (Err m) = HasBegunToBreak who row failure old new items items'
+abbrev pub BreakAnswer : ℕ → Option ℕ → SeenOnJobs → SeenOnJobs → Result (Unit {0}) Memory → Type 0
+BreakAnswer row failure old new (Ok done) = IsBroken row failure old new
+BreakAnswer row failure old new (Err m) = HasBegunToBreak row failure old new
 
 -- the Job was cancelled so, or was seen Cancelling
-pub record IsCancelledFirst (who row : ℕ) (failure : Option ℕ) (old new : Floor) (items items' : List Item) : Type 0 where
+pub record IsCancelledFirst (row : ℕ) (failure : Option ℕ) (old new : SeenOnJobs) : Type 0 where
   pub told : List Told
-  pub breaks : Breaks who row failure told
+  pub breaks : Breaks old.who row failure told
   pub cancels : AreCancels told
-  pub noted : ToldOnJobs who [] old new items items' (told ++ on_jobs (IsCancelling row) ∷ [])
-  pub may : MayEndBody who (replay new.seen row)
+  pub noted : ToldOnJobs [] old new (told ++ on_jobs (IsCancelling row) ∷ [])
+  pub may : MayEndBody old.who (tree_in new row)
 
 -- ---- to end Jobs
 
@@ -136,9 +136,13 @@ ChainAnswer base row told (Ok done) = Chain base row told
 ChainAnswer base row told (Err m) = PrefixOf (Chain base row) told
 
 -- the chain of ends from a Job upwards; without memory it stops
-pub record FinishedUp (who base row : ℕ) (c c' : ChannelFloor) (j j' : Floor) (items items' : List Item)
-    (result : Result (Unit {0}) Memory) : Type 0 where
+pub record FinishedUp (base row : ℕ) (old new : SeenOnBoth) (result : Result (Unit {0}) Memory) : Type 0 where
   pub told : List Told
   pub chain : ChainAnswer base row told result
-  pub noted : ToldOnBoth who [] c c' j j' items items' told
-  pub dones : KeepsDones base c c' j j' (items_in told)
+  pub noted : ToldOnBoth [] old new told
+  pub dones : KeepsDones base old new (items_in told)
+
+-- what a caller of Jobs sees, with the channels that it closes
+abbrev pub seen_closing : {C J B W : Type 0} → (C → ChannelFloor) → (J → Floor) → (B → List Item) → JobCaller J B W → C → SeenOnBoth
+seen_closing channels_view jobs_view items caller channels =
+    seen_both channels_view jobs_view items caller.who channels caller.floor.now caller.book.now

@@ -1,12 +1,16 @@
 //! The calls that attach, start and cancel Jobs, and those that end a body.
 
-ghost use Rattle.std.specs.Prelude.{◌≡◌, ◌<◌, true, is_some};
-ghost use Rattle.job_model.specs.Needs.{Holds, OwnsBody, MayEndBody};
-ghost use Rattle.job_model.specs.Histories.{replay};
+ghost use Rattle.std.specs.Prelude.{◌≡◌, ◌<◌};
+ghost use Rattle.job_model.specs.Needs.{OwnsBody, MayEndBody};
 ghost use Rattle.job_model.specs.Floors.{MayCall};
+ghost use Rattle.call_meaning.specs.Seen.{seen_jobs, tree_in};
 ghost use Rattle.call_meaning.specs.JobCalls.{reason_for};
+ghost use Rattle.job_tree.specs.Callers.{HoldsFor};
 ghost use Rattle.scope_builders.specs.Calls.{
   SameBuilder,
+  seen,
+  seen_on_jobs,
+  IsAttached,
   MayBuild,
   LaunchAnswer,
   EnterAnswer,
@@ -36,8 +40,7 @@ pub fn attach_coroutine<J: JobFloor, B: NoteBook>(
     requires can { MayCall who parent (J.view jobs.old) }
     requires tag { tag < (J.view jobs.old).shape.coroutines }
     ensures jobs_anchor { J.anchor jobs.new ≡ J.anchor jobs.old }
-    ensures answer { LaunchAnswer who parent tag lazy (J.view jobs.old) (J.view jobs.new)
-        (B.items book.old) (B.items book.new) result }
+    ensures answer { LaunchAnswer parent tag lazy (seen_jobs J.view B.items who jobs.old book.old) (seen_jobs J.view B.items who jobs.new book.new) result }
 {
     let kind = JobKind {
         supervisor: false,
@@ -52,13 +55,12 @@ impl<C: ChannelFloor, J: JobFloor, B: NoteBook, W: Wakes> Builder<'_, '_, '_, '_
     ///
     /// Example: `launch_and_cancel` in `docs/LIBRARY.md`.
     pub fn launch(&mut self, parent: Row, tag: Tag, lazy: bool) -> Result<Attached, LaunchError>
-        requires may { MayBuild self.old.who self.old.base (C.view self.old.channels.now) (J.view self.old.jobs.now) }
-        requires parent { is_some (replay (J.view self.old.jobs.now).seen parent) ≡ true }
+        requires may { MayBuild self.old.base (seen C.view J.view B.items self.old) }
+        requires parent { IsAttached parent (seen_on_jobs J.view B.items self.old) }
         requires tag { tag < (J.view self.old.jobs.now).shape.coroutines }
         ensures same { SameBuilder C.anchor J.anchor self.old self.new }
         ensures channels { self.new.channels.now ≡ self.old.channels.now }
-        ensures answer { LaunchAnswer self.old.who parent tag lazy (J.view self.old.jobs.now) (J.view self.new.jobs.now)
-            (B.items self.old.book.now) (B.items self.new.book.now) result }
+        ensures answer { LaunchAnswer parent tag lazy (seen_on_jobs J.view B.items self.old) (seen_on_jobs J.view B.items self.new) result }
     {
         let answer = attach_coroutine(self.jobs, self.book, self.who, parent, tag, lazy);
         if let Ok(child) = answer {
@@ -73,13 +75,12 @@ impl<C: ChannelFloor, J: JobFloor, B: NoteBook, W: Wakes> Builder<'_, '_, '_, '_
     ///
     /// Example: `scope_result` in `docs/LIBRARY.md`.
     pub fn enter(&mut self, parent: Row, supervisor: bool) -> Result<Attached, LaunchError>
-        requires may { MayBuild self.old.who self.old.base (C.view self.old.channels.now) (J.view self.old.jobs.now) }
-        requires parent { is_some (replay (J.view self.old.jobs.now).seen parent) ≡ true }
+        requires may { MayBuild self.old.base (seen C.view J.view B.items self.old) }
+        requires parent { IsAttached parent (seen_on_jobs J.view B.items self.old) }
         requires tag { self.old.who < (J.view self.old.jobs.now).shape.coroutines }
         ensures same { SameBuilder C.anchor J.anchor self.old self.new }
         ensures channels { self.new.channels.now ≡ self.old.channels.now }
-        ensures answer { EnterAnswer self.old.who parent supervisor (J.view self.old.jobs.now) (J.view self.new.jobs.now)
-            (B.items self.old.book.now) (B.items self.new.book.now) result }
+        ensures answer { EnterAnswer parent supervisor (seen_on_jobs J.view B.items self.old) (seen_on_jobs J.view B.items self.new) result }
     {
         let kind = JobKind {
             supervisor,
@@ -91,12 +92,11 @@ impl<C: ChannelFloor, J: JobFloor, B: NoteBook, W: Wakes> Builder<'_, '_, '_, '_
 
     /// Starts a Job that is New, and wakes its coroutine. The answer says whether it was New.
     pub fn start(&mut self, row: Row) -> Result<bool, Memory>
-        requires may { MayBuild self.old.who self.old.base (C.view self.old.channels.now) (J.view self.old.jobs.now) }
-        requires row { is_some (replay (J.view self.old.jobs.now).seen row) ≡ true }
+        requires may { MayBuild self.old.base (seen C.view J.view B.items self.old) }
+        requires row { IsAttached row (seen_on_jobs J.view B.items self.old) }
         ensures same { SameBuilder C.anchor J.anchor self.old self.new }
         ensures channels { self.new.channels.now ≡ self.old.channels.now }
-        ensures answer { StartedAnswer self.old.who row (J.view self.old.jobs.now) (J.view self.new.jobs.now)
-            (B.items self.old.book.now) (B.items self.new.book.now) result }
+        ensures answer { StartedAnswer row (seen_on_jobs J.view B.items self.old) (seen_on_jobs J.view B.items self.new) result }
     {
         if let Err(memory) = make_room(self.jobs, self.book, 1) {
             return Err(memory);
@@ -114,12 +114,11 @@ impl<C: ChannelFloor, J: JobFloor, B: NoteBook, W: Wakes> Builder<'_, '_, '_, '_
     ///
     /// Example: `launch_and_cancel` in `docs/LIBRARY.md`.
     pub fn cancel(&mut self, row: Row) -> Result<u32, Memory>
-        requires may { MayBuild self.old.who self.old.base (C.view self.old.channels.now) (J.view self.old.jobs.now) }
-        requires row { is_some (replay (J.view self.old.jobs.now).seen row) ≡ true }
+        requires may { MayBuild self.old.base (seen C.view J.view B.items self.old) }
+        requires row { IsAttached row (seen_on_jobs J.view B.items self.old) }
         ensures same { SameBuilder C.anchor J.anchor self.old self.new }
         ensures channels { self.new.channels.now ≡ self.old.channels.now }
-        ensures answer { CancelledAllAnswer self.old.who row (J.view self.old.jobs.now) (J.view self.new.jobs.now)
-            (B.items self.old.book.now) (B.items self.new.book.now) result }
+        ensures answer { CancelledAllAnswer row (seen_on_jobs J.view B.items self.old) (seen_on_jobs J.view B.items self.new) result }
     {
         match cancel_tree(
             self.jobs,
@@ -139,11 +138,10 @@ impl<C: ChannelFloor, J: JobFloor, B: NoteBook, W: Wakes> Builder<'_, '_, '_, '_
     ///
     /// Example: `scope_result` in `docs/LIBRARY.md`.
     pub fn end_job(&mut self, row: Row, value: Value) -> Result<Ended, Memory>
-        requires may { MayBuild self.old.who self.old.base (C.view self.old.channels.now) (J.view self.old.jobs.now) }
-        requires own { MayEndBody self.old.who (replay (J.view self.old.jobs.now).seen row) }
+        requires may { MayBuild self.old.base (seen C.view J.view B.items self.old) }
+        requires own { MayEndBody self.old.who (tree_in (seen_on_jobs J.view B.items self.old) row) }
         ensures same { SameBuilder C.anchor J.anchor self.old self.new }
-        ensures answer { EndedAnswer self.old.who self.old.base row value (C.view self.old.channels.now) (C.view self.new.channels.now)
-            (J.view self.old.jobs.now) (J.view self.new.jobs.now) (B.items self.old.book.now) (B.items self.new.book.now) result }
+        ensures answer { EndedAnswer self.old.base row value (seen C.view J.view B.items self.old) (seen C.view J.view B.items self.new) result }
     {
         if let Err(memory) = make_room(self.jobs, self.book, 1) {
             return Err(memory);
@@ -172,14 +170,11 @@ impl<C: ChannelFloor, J: JobFloor, B: NoteBook, W: Wakes> Builder<'_, '_, '_, '_
     /// the failure of a coroutine up to its parents, and ends the body. Where the Job is seen Cancelling, whoever cancelled it does
     /// that, and this call ends the body alone. Memory: the entries made so far stand and are noted.
     pub fn break_job(&mut self, row: Row, failure: Option<Row>) -> Result<Ended, Memory>
-        requires may { MayBuild self.old.who self.old.base (C.view self.old.channels.now) (J.view self.old.jobs.now) }
-        requires own { OwnsBody self.old.who (replay (J.view self.old.jobs.now).seen row) }
-        requires reason { Holds (J.view self.old.jobs.now).shape (replay (J.view self.old.jobs.now).seen) self.old.who row
-            (reason_for failure) }
+        requires may { MayBuild self.old.base (seen C.view J.view B.items self.old) }
+        requires own { OwnsBody self.old.who (tree_in (seen_on_jobs J.view B.items self.old) row) }
+        requires reason { HoldsFor row (reason_for failure) (seen_on_jobs J.view B.items self.old) }
         ensures same { SameBuilder C.anchor J.anchor self.old self.new }
-        ensures answer { BrokenAnswer self.old.who self.old.base row failure
-            (C.view self.old.channels.now) (C.view self.new.channels.now) (J.view self.old.jobs.now) (J.view self.new.jobs.now)
-            (B.items self.old.book.now) (B.items self.new.book.now) result }
+        ensures answer { BrokenAnswer self.old.base row failure (seen C.view J.view B.items self.old) (seen C.view J.view B.items self.new) result }
     {
         if let Err(memory) = cancel_first(
             self.jobs, self.book, self.wakes, self.who, row, failure,

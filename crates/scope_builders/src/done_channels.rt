@@ -6,6 +6,7 @@ ghost use Rattle.channel_model.specs.declared.acts.Kind.TheVariants.{Signal};
 ghost use Rattle.channel_model.specs.Channels.{kind_at, places_at};
 ghost use Rattle.channel_model.specs.Floors.{Added, MayCall};
 ghost use Rattle.channel_model.specs.Answers.{IsSeenClosed};
+ghost use Rattle.call_meaning.specs.Seen.{seen_channels};
 ghost use Rattle.call_meaning.specs.JobCalls.{value_of};
 ghost use Rattle.scope_builders.specs.Dones.{MayClose, ClosedFirst, WokenLast, EndsDone, SignalAnswer, ClosedIsSeen};
 
@@ -50,7 +51,8 @@ fn close_first<C: ChannelFloor, B: NoteBook>(
     requires room { 0 < (C.view channels.old).spare }
     requires book { 0 < B.spare book.old }
     ensures channels_anchor { C.anchor channels.new ≡ C.anchor channels.old }
-    ensures closed { ClosedFirst who c value (C.view channels.old) (C.view channels.new) (B.items book.old) (B.items book.new) }
+    ensures closed { ClosedFirst c value (seen_channels C.view B.items who channels.old book.old)
+        (seen_channels C.view B.items who channels.new book.new) }
     ensures spare { B.spare book.old ≡ B.spare book.new + 1 }
     ensures left { (C.view channels.old).spare ≤ (C.view channels.new).spare + 1 }
 {
@@ -80,7 +82,7 @@ fn wake_last<C: ChannelFloor, B: NoteBook, W: Wakes>(
     requires room { 0 < (C.view channels.old).spare }
     requires book { 0 < B.spare book.old }
     ensures channels_anchor { C.anchor channels.new ≡ C.anchor channels.old }
-    ensures woken { WokenLast who c (C.view channels.old) (C.view channels.new) (B.items book.old) (B.items book.new)
+    ensures woken { WokenLast c (seen_channels C.view B.items who channels.old book.old) (seen_channels C.view B.items who channels.new book.new)
         (B.spare book.old) (B.spare book.new) }
 {
     if let Some((place, tag)) = channels.wake_closed(who, c) {
@@ -100,7 +102,8 @@ pub(crate) fn receive_signal<C: ChannelFloor, B: NoteBook>(
     requires can { MayCall who c (C.view channels.old) }
     requires signal { kind_at (C.view channels.old).shape c ≡ Signal }
     ensures channels_anchor { C.anchor channels.new ≡ C.anchor channels.old }
-    ensures answer { SignalAnswer who c (C.view channels.old) (C.view channels.new) (B.items book.old) (B.items book.new) result }
+    ensures answer { SignalAnswer c (seen_channels C.view B.items who channels.old book.old)
+        (seen_channels C.view B.items who channels.new book.new) result }
     ensures closed { ClosedIsSeen c (C.view channels.new) result }
 {
     if let Err(memory) = book.room(1) {

@@ -1,13 +1,26 @@
 //! The calls that wait for the end of a Job, and that see it.
 
-ghost use Rattle.std.specs.Prelude.{◌≡◌, true, is_some};
+ghost use Rattle.std.specs.Prelude.{◌≡◌, true};
 ghost use Rattle.job_model.specs.Needs.{MayEndBody};
 ghost use Rattle.job_model.specs.Histories.{replay};
 ghost use Rattle.job_model.specs.Done.{done_channel};
+ghost use Rattle.call_meaning.specs.Seen.{tree_in};
 ghost use Rattle.call_meaning.specs.JobCalls.{Starts};
 ghost use Rattle.scope_builders.specs.Dones.{ClosedIsSeen};
 ghost use Rattle.scope_builders.specs.Parts.{OwnAnswer, goes_on, end_in};
-ghost use Rattle.scope_builders.specs.Calls.{SameBuilder, MayBuild, ReceivesDone, AwaitsEnd, IsNothing, DoneAnswer, JoinAnswer, SeenEndAnswer};
+ghost use Rattle.scope_builders.specs.Calls.{
+  SameBuilder,
+  seen,
+  seen_on_jobs,
+  IsAttached,
+  MayBuild,
+  ReceivesDone,
+  AwaitsEnd,
+  IsNothing,
+  DoneAnswer,
+  JoinAnswer,
+  SeenEndAnswer,
+};
 
 use crate::builder::{Builder, Joined};
 use crate::done_channels::receive_signal;
@@ -59,12 +72,11 @@ impl<C: ChannelFloor, J: JobFloor, B: NoteBook, W: Wakes> Builder<'_, '_, '_, '_
     ///
     /// It asks more of the own Job than the look at it needs: its body is the caller's, may run and has not ended.
     pub fn join(&mut self, own: Row, row: Row) -> Result<Joined, Memory>
-        requires may { MayBuild self.old.who self.old.base (C.view self.old.channels.now) (J.view self.old.jobs.now) }
-        requires own { MayEndBody self.old.who (replay (J.view self.old.jobs.now).seen own) }
-        requires row { is_some (replay (J.view self.old.jobs.now).seen row) ≡ true }
+        requires may { MayBuild self.old.base (seen C.view J.view B.items self.old) }
+        requires own { MayEndBody self.old.who (tree_in (seen_on_jobs J.view B.items self.old) own) }
+        requires row { IsAttached row (seen_on_jobs J.view B.items self.old) }
         ensures same { SameBuilder C.anchor J.anchor self.old self.new }
-        ensures answer { JoinAnswer self.old.who self.old.base own row (C.view self.old.channels.now) (C.view self.new.channels.now)
-            (J.view self.old.jobs.now) (J.view self.new.jobs.now) (B.items self.old.book.now) (B.items self.new.book.now) result }
+        ensures answer { JoinAnswer self.old.base own row (seen C.view J.view B.items self.old) (seen C.view J.view B.items self.new) result }
         ensures closed { ClosedIsSeen (done_channel self.old.base row) (C.view self.new.channels.now) result }
     {
         if let Err(memory) = self.book.room(1) {
@@ -79,12 +91,11 @@ impl<C: ChannelFloor, J: JobFloor, B: NoteBook, W: Wakes> Builder<'_, '_, '_, '_
 
     /// Waits for the end of a Job, without a look at the caller's own. A Job that is New is started. The answer is never Cancelled.
     pub fn await_end(&mut self, row: Row) -> Result<Joined, Memory>
-        requires may { MayBuild self.old.who self.old.base (C.view self.old.channels.now) (J.view self.old.jobs.now) }
-        requires row { is_some (replay (J.view self.old.jobs.now).seen row) ≡ true }
+        requires may { MayBuild self.old.base (seen C.view J.view B.items self.old) }
+        requires row { IsAttached row (seen_on_jobs J.view B.items self.old) }
         ensures same { SameBuilder C.anchor J.anchor self.old self.new }
-        ensures answer { DoneAnswer self.old.who self.old.base (AwaitsEnd self.old.base row) (Starts row)
-            (C.view self.old.channels.now) (C.view self.new.channels.now) (J.view self.old.jobs.now) (J.view self.new.jobs.now)
-            (B.items self.old.book.now) (B.items self.new.book.now) result }
+        ensures answer { DoneAnswer self.old.base (AwaitsEnd self.old.base row) (Starts row)
+            (seen C.view J.view B.items self.old) (seen C.view J.view B.items self.new) result }
         ensures closed { ClosedIsSeen (done_channel self.old.base row) (C.view self.new.channels.now) result }
     {
         if let Err(memory) = self.start(row) {
@@ -97,13 +108,12 @@ impl<C: ChannelFloor, J: JobFloor, B: NoteBook, W: Wakes> Builder<'_, '_, '_, '_
     ///
     /// Example: `result_of` in `docs/LIBRARY.md`.
     pub fn receive_done(&mut self, row: Row) -> Result<Joined, Memory>
-        requires may { MayBuild self.old.who self.old.base (C.view self.old.channels.now) (J.view self.old.jobs.now) }
-        requires row { is_some (replay (J.view self.old.jobs.now).seen row) ≡ true }
+        requires may { MayBuild self.old.base (seen C.view J.view B.items self.old) }
+        requires row { IsAttached row (seen_on_jobs J.view B.items self.old) }
         ensures same { SameBuilder C.anchor J.anchor self.old self.new }
         ensures jobs { self.new.jobs.now ≡ self.old.jobs.now }
-        ensures answer { DoneAnswer self.old.who self.old.base (ReceivesDone self.old.base row) IsNothing
-            (C.view self.old.channels.now) (C.view self.new.channels.now) (J.view self.old.jobs.now) (J.view self.new.jobs.now)
-            (B.items self.old.book.now) (B.items self.new.book.now) result }
+        ensures answer { DoneAnswer self.old.base (ReceivesDone self.old.base row) IsNothing
+            (seen C.view J.view B.items self.old) (seen C.view J.view B.items self.new) result }
         ensures closed { ClosedIsSeen (done_channel self.old.base row) (C.view self.new.channels.now) result }
     {
         receive_signal(
@@ -118,13 +128,12 @@ impl<C: ChannelFloor, J: JobFloor, B: NoteBook, W: Wakes> Builder<'_, '_, '_, '_
     ///
     /// Example: `result_of` in `docs/LIBRARY.md`.
     pub fn seen_end(&mut self, row: Row) -> Result<Option<End>, Memory>
-        requires may { MayBuild self.old.who self.old.base (C.view self.old.channels.now) (J.view self.old.jobs.now) }
-        requires row { is_some (replay (J.view self.old.jobs.now).seen row) ≡ true }
+        requires may { MayBuild self.old.base (seen C.view J.view B.items self.old) }
+        requires row { IsAttached row (seen_on_jobs J.view B.items self.old) }
         ensures same { SameBuilder C.anchor J.anchor self.old self.new }
         ensures wakes { self.new.wakes.now ≡ self.old.wakes.now }
         ensures channels { self.new.channels.now ≡ self.old.channels.now }
-        ensures answer { SeenEndAnswer self.old.who row (J.view self.old.jobs.now) (J.view self.new.jobs.now)
-            (B.items self.old.book.now) (B.items self.new.book.now) result }
+        ensures answer { SeenEndAnswer row (seen_on_jobs J.view B.items self.old) (seen_on_jobs J.view B.items self.new) result }
     {
         if let Err(memory) = self.book.room(1) {
             return Err(memory);

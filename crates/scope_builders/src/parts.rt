@@ -2,16 +2,17 @@
 
 ghost use Rattle.std.specs.Prelude.{◌≡◌, ◌<◌, true, is_some, Some, OnOk, OnErr};
 ghost use Rattle.job_model.specs.declared.acts.Reason.TheVariants.{Own};
-ghost use Rattle.job_model.specs.Needs.{Holds, OwnsBody};
+ghost use Rattle.job_model.specs.Needs.{OwnsBody};
 ghost use Rattle.job_model.specs.Histories.{replay};
 ghost use Rattle.job_model.specs.Floors.{MayCall};
+ghost use Rattle.call_meaning.specs.Seen.{seen_jobs, seen_both};
 ghost use Rattle.call_meaning.specs.JobCalls.{reason_for};
 ghost use Rattle.job_tree.specs.declared.caller.Reserve.TheVariants.{AsItGoes};
-ghost use Rattle.job_tree.specs.Callers.{SameCaller};
+ghost use Rattle.job_tree.specs.Callers.{SameCaller, HoldsFor};
 ghost use Rattle.job_tree.specs.Passes.{PassAnswer, IsFailure};
 ghost use Rattle.job_tree.specs.Failures.{ClimbAnswer};
 ghost use Rattle.scope_builders.specs.Calls.{MayBuild};
-ghost use Rattle.scope_builders.specs.Parts.{AttachedAnswer, SeenAnswer, BreakAnswer, HasBegunToBreak, IsCancelledFirst, FinishedUp};
+ghost use Rattle.scope_builders.specs.Parts.{AttachedAnswer, SeenAnswer, BreakAnswer, HasBegunToBreak, IsCancelledFirst, FinishedUp, seen_closing};
 
 use crate::builder::LaunchError;
 use crate::done_channels::DoneChannels;
@@ -34,7 +35,8 @@ pub(crate) fn attach<J: JobFloor, B: NoteBook>(
     requires tag { tag < (J.view jobs.old).shape.coroutines }
     requires scope { kind.scoped ≡ true → tag ≡ who }
     ensures jobs_anchor { J.anchor jobs.new ≡ J.anchor jobs.old }
-    ensures answer { AttachedAnswer who parent kind tag (J.view jobs.old) (J.view jobs.new) (B.items book.old) (B.items book.new) result }
+    ensures answer { AttachedAnswer parent kind tag (seen_jobs J.view B.items who jobs.old book.old)
+        (seen_jobs J.view B.items who jobs.new book.new) result }
 {
     if let Err(_memory) = make_room(jobs, book, 1) {
         return Err(LaunchError::Memory);
@@ -78,9 +80,10 @@ pub(crate) fn cancel_tree<J: JobFloor, B: NoteBook, W: Wakes>(
     reason: Reason,
 ) -> Result<Passed, Memory>
     requires can { MayCall who row (J.view jobs.old) }
-    requires reason { Holds (J.view jobs.old).shape (replay (J.view jobs.old).seen) who row reason }
+    requires reason { HoldsFor row reason (seen_jobs J.view B.items who jobs.old book.old) }
     ensures jobs_anchor { J.anchor jobs.new ≡ J.anchor jobs.old }
-    ensures answer { PassAnswer who row reason AsItGoes (J.view jobs.old) (J.view jobs.new) (B.items book.old) (B.items book.new) result }
+    ensures answer { PassAnswer row reason AsItGoes (seen_jobs J.view B.items who jobs.old book.old)
+        (seen_jobs J.view B.items who jobs.new book.new) result }
 {
     let mut caller = JobCaller {
         floor: &mut *jobs,
@@ -102,7 +105,8 @@ fn fail_up<J: JobFloor, B: NoteBook, W: Wakes>(
     requires can { MayCall who row (J.view jobs.old) }
     requires failed { IsFailure (replay (J.view jobs.old).seen row) }
     ensures jobs_anchor { J.anchor jobs.new ≡ J.anchor jobs.old }
-    ensures answer { ClimbAnswer who row AsItGoes (J.view jobs.old) (J.view jobs.new) (B.items book.old) (B.items book.new) result }
+    ensures answer { ClimbAnswer row AsItGoes (seen_jobs J.view B.items who jobs.old book.old)
+        (seen_jobs J.view B.items who jobs.new book.new) result }
 {
     let mut caller = JobCaller {
         floor: &mut *jobs,
@@ -136,9 +140,10 @@ fn fail_off<J: JobFloor, B: NoteBook, W: Wakes>(
 ) -> Result<(), Memory>
     requires can { MayCall who row (J.view jobs.old) }
     requires own { OwnsBody who (replay (J.view jobs.old).seen row) }
-    requires reason { Holds (J.view jobs.old).shape (replay (J.view jobs.old).seen) who row (Own failed) }
+    requires reason { HoldsFor row (Own failed) (seen_jobs J.view B.items who jobs.old book.old) }
     ensures jobs_anchor { J.anchor jobs.new ≡ J.anchor jobs.old }
-    ensures broken { BreakAnswer who row (Some failed) (J.view jobs.old) (J.view jobs.new) (B.items book.old) (B.items book.new) result }
+    ensures broken { BreakAnswer row (Some failed) (seen_jobs J.view B.items who jobs.old book.old)
+        (seen_jobs J.view B.items who jobs.new book.new) result }
 {
     match cancel_tree(jobs, book, wakes, who, row, Reason::Own(failed)) {
         Ok(passed) => {
@@ -167,9 +172,10 @@ fn break_off<J: JobFloor, B: NoteBook, W: Wakes>(
 ) -> Result<(), Memory>
     requires can { MayCall who row (J.view jobs.old) }
     requires own { OwnsBody who (replay (J.view jobs.old).seen row) }
-    requires reason { Holds (J.view jobs.old).shape (replay (J.view jobs.old).seen) who row (reason_for failure) }
+    requires reason { HoldsFor row (reason_for failure) (seen_jobs J.view B.items who jobs.old book.old) }
     ensures jobs_anchor { J.anchor jobs.new ≡ J.anchor jobs.old }
-    ensures broken { BreakAnswer who row failure (J.view jobs.old) (J.view jobs.new) (B.items book.old) (B.items book.new) result }
+    ensures broken { BreakAnswer row failure (seen_jobs J.view B.items who jobs.old book.old)
+        (seen_jobs J.view B.items who jobs.new book.new) result }
 {
     match failure {
         None => match cancel_tree(jobs, book, wakes, who, row, Reason::Request) {
@@ -191,12 +197,14 @@ pub(crate) fn cancel_first<J: JobFloor, B: NoteBook, W: Wakes>(
 ) -> Result<(), Memory>
     requires can { MayCall who row (J.view jobs.old) }
     requires own { OwnsBody who (replay (J.view jobs.old).seen row) }
-    requires reason { Holds (J.view jobs.old).shape (replay (J.view jobs.old).seen) who row (reason_for failure) }
+    requires reason { HoldsFor row (reason_for failure) (seen_jobs J.view B.items who jobs.old book.old) }
     ensures jobs_anchor { J.anchor jobs.new ≡ J.anchor jobs.old }
     ensures cancelled { OnOk result
-        (IsCancelledFirst who row failure (J.view jobs.old) (J.view jobs.new) (B.items book.old) (B.items book.new)) }
+        (IsCancelledFirst row failure (seen_jobs J.view B.items who jobs.old book.old)
+        (seen_jobs J.view B.items who jobs.new book.new)) }
     ensures begun { OnErr result
-        (HasBegunToBreak who row failure (J.view jobs.old) (J.view jobs.new) (B.items book.old) (B.items book.new)) }
+        (HasBegunToBreak row failure (seen_jobs J.view B.items who jobs.old book.old)
+        (seen_jobs J.view B.items who jobs.new book.new)) }
 {
     if is_cancelling(jobs, who, row) {
         return Ok(());
@@ -218,12 +226,12 @@ pub(crate) fn finish_up<C: ChannelFloor, J: JobFloor, B: NoteBook, W: Wakes>(
     base: ChannelId,
     row: Row,
 ) -> Result<(), Memory>
-    requires may { MayBuild who base (C.view channels.old) (J.view jobs.old) }
+    requires may { MayBuild base (seen_both C.view J.view B.items who channels.old jobs.old book.old) }
     requires row { is_some (replay (J.view jobs.old).seen row) ≡ true }
     ensures channels_anchor { C.anchor channels.new ≡ C.anchor channels.old }
     ensures jobs_anchor { J.anchor jobs.new ≡ J.anchor jobs.old }
-    ensures finished { FinishedUp who base row (C.view channels.old) (C.view channels.new) (J.view jobs.old) (J.view jobs.new)
-        (B.items book.old) (B.items book.new) result }
+    ensures finished { FinishedUp base row (seen_both C.view J.view B.items who channels.old jobs.old book.old)
+        (seen_both C.view J.view B.items who channels.new jobs.new book.new) result }
 {
     let rows = jobs.rows();
     let mut done = DoneChannels {
@@ -253,8 +261,8 @@ fn finish_with<C: ChannelFloor, J: JobFloor, B: NoteBook, W: Wakes>(
     ensures same { SameCaller J.anchor caller.old caller.new }
     ensures same_channels { done.new.channels.ghost_name ≡ done.old.channels.ghost_name }
     ensures channels_anchor { C.anchor done.new.channels.now ≡ C.anchor done.old.channels.now }
-    ensures finished { FinishedUp caller.old.who done.old.base row (C.view done.old.channels.now) (C.view done.new.channels.now)
-        (J.view caller.old.floor.now) (J.view caller.new.floor.now) (B.items caller.old.book.now) (B.items caller.new.book.now) result }
+    ensures finished { FinishedUp done.old.base row (seen_closing C.view J.view B.items caller.old done.old.channels.now)
+        (seen_closing C.view J.view B.items caller.new done.new.channels.now) result }
 {
     caller.finish_up(row, done)
 }

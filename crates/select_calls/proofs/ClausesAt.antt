@@ -5,14 +5,16 @@ use Rattle.std.proofs.lemmas.Option.{slice_get-map, slice_get-get_or}
 use Rattle.select_calls.specs.declared.clause.Clause.{Clause}
 use Rattle.select_calls.specs.Clauses.{call_of, calls_of}
 
-pub call_at : (clauses : List Clause) (i : ℕ) (d x : Clause) → i < length clauses → get_or clauses i d ≡ x → slice_get (calls_of clauses) i ≡ Some (call_of x)
+pub call_at : (clauses : List Clause) (i : ℕ) (d x : Clause) → i < length clauses → get_or clauses i d ≡ x
+    → slice_get (calls_of clauses) i ≡ Some (call_of x)
 call_at clauses i d x lt e = slice_get-map call_of clauses i ∙ ap (option_map call_of) (slice_get-get_or clauses i d lt ∙ ap Some e)
 
 pub length_calls : (clauses : List Clause) → length (calls_of clauses) ≡ length clauses
 length_calls [] = refl
 length_calls (x ∷ xs) = ap suc (length_calls xs)
 
-pub call_there : (clauses : List Clause) (i : ℕ) (d x : Clause) → i < length (calls_of clauses) → get_or clauses i d ≡ x → slice_get (calls_of clauses) i ≡ Some (call_of x)
+pub call_there : (clauses : List Clause) (i : ℕ) (d x : Clause) → i < length (calls_of clauses) → get_or clauses i d ≡ x
+    → slice_get (calls_of clauses) i ≡ Some (call_of x)
 call_there clauses i d x lt e = call_at clauses i d x (let same = length_calls clauses in omega (arith, lt, same)) e
 
 one_more : (i : ℕ) → i + 1 ≡ suc i
@@ -53,7 +55,8 @@ map_next f [] x = refl
 map_next f (y ∷ xs) x = ap (λ l. f y ∷ l) (map_next f xs x)
 
 -- those up to a place, and what is left of the first so many
-pub take_before : {A : Type 0} (xs : List A) (count i : ℕ) (x : A) → i < count → slice_get xs i ≡ Some x → (later : List A) × (take count xs ≡ take i xs ++ x ∷ later)
+pub take_before : {A : Type 0} (xs : List A) (count i : ℕ) (x : A) → i < count → slice_get xs i ≡ Some x → (later : List A)
+    × (take count xs ≡ take i xs ++ x ∷ later)
 take_before [] count i x lt e = cc
 take_before (y ∷ xs) zero i x lt e = absurd (omega (arith, lt))
 take_before (y ∷ xs) (suc count) zero x lt e = (take count xs, let k : y ≡ x = cc in ap (λ z. z ∷ take count xs) k)

@@ -14,7 +14,7 @@ use Rattle.channel_model.specs.Channels.{Shape, State, Channel}
 use Rattle.channel_model.specs.Effects.{after, put_wait, put_channel, name_clause}
 use Rattle.channel_model.specs.Needs.{Needs}
 use Rattle.channel_model.specs.Histories.{replay, Legal}
-use Rattle.channel_model.specs.Floors.{Floor, HasRoom, Looked, Made, AtStep}
+use Rattle.channel_model.specs.Floors.{Floor, Looked, Made, AtStep}
 use Rattle.channel_model.specs.Answers.{ClosedWith, IsSpentForOffers, IsSpentForReceives, IsDrainedAndClosed, state_of_wait}
 use Rattle.channel_model.specs.Registers.{main_at, IsMainResolved, StandsReceiver, StandsOffer, RegisterOfferAnswer, RegisterReceiveAnswer}
 use Rattle.channel_model.proofs.Histories.{replay_push, Legal-last, Legal-prefix}
@@ -23,10 +23,12 @@ use Rattle.channel_model.proofs.Waits.{at_wait}
 use Rattle.channel_model.proofs.Spans.{prefix_self}
 use Rattle.note_book.specs.declared.book.Item.{Item}
 use Rattle.note_book.specs.declared.book.Item.TheVariants as item
-use Rattle.call_meaning.specs.Telling.{ReceiverAt, OfferAt, SpentForOffers, SpentForReceives, on_channels, made, heard}
-use Rattle.call_meaning.specs.Facts.{ActHolds, IsClosedWith, IsDrained}
+use Rattle.call_meaning.specs.Telling.{ReceiverAt, OfferAt, SpentForOffers, SpentForReceives, on_channels, heard}
+use Rattle.call_meaning.specs.Facts.{ActHolds, ChannelNoteHolds, IsClosedWith, IsDrained}
+use Rattle.call_meaning.specs.Seen.{SeenOnChannels, state_in}
 use Rattle.call_meaning.specs.ChannelCalls.{Call, sends, receives, Done, Closed, Refused, Stops, spent}
-use Rattle.call_meaning.proofs.ChannelsHeard.{told_roomed, told_made, told_met, told_met_after, moment_before}
+use Rattle.call_meaning.proofs.ChannelsHeard.{told_made, told_met, told_met_after, moment_before}
+use Rattle.channel_calls.proofs.Roomed.{IsRoomed, roomed}
 use Rattle.channel_calls.specs.Groups.{made_note}
 use Rattle.channel_calls.specs.Calls.{Tells}
 use Rattle.select_calls.specs.declared.placing.Placed.TheVariants as placing
@@ -51,52 +53,76 @@ other_channel c x ch channels n = by_test (c == x) refl
     by_test false e = refl
 
 offer_names : (who k c place v : ℕ) (w : WaitId) → Names who k c place w (Offer c place v w k)
-offer_names who k c place v w = record { waits = λ s. refl; others = λ s x n. other_channel c x _ s.channels n; first = λ shape s m. m.1.first }
+offer_names who k c place v w = record {
+  waits = λ s. refl;
+  others = λ s x n. other_channel c x _ s.channels n;
+  first =
+      λ shape s m. m.1.first;
+}
 
 await_names : (who k c place : ℕ) (w : WaitId) → Names who k c place w (Await c place w k)
-await_names who k c place w = record { waits = λ s. refl; others = λ s x n. other_channel c x _ s.channels n; first = λ shape s m. m.1.first }
+await_names who k c place w = record {
+  waits = λ s. refl;
+  others = λ s x n. other_channel c x _ s.channels n;
+  first =
+      λ shape s m. m.1.first;
+}
 
-module _ (who k c place n : ℕ) (w : WaitId) (act : Act) (a b d : Floor) (h : HasRoom n a b) (l : Legal d.shape d.seen) (names : Names who k c place w act) (m : Made who act b d) where
-  before_legal : Legal d.shape m.before × Needs d.shape (replay m.before) who act
-  before_legal = Legal-last d.shape m.before (record { who = who; act = act }) (subst (Legal d.shape) m.last l)
+module _ {k c place n : ℕ} {w : WaitId} {act : Act} {a b : SeenOnChannels} {d : Floor} (h : IsRoomed n a b) (l : Legal d.shape d.seen)
+    (names : Names a.who k c place w act) (m : Made a.who act b.floor d) where
+  before_legal : Legal d.shape m.before × Needs d.shape (replay m.before) a.who act
+  before_legal = Legal-last d.shape m.before (record { who = a.who; act = act }) (subst (Legal d.shape) m.last l)
 
-  now_waits : (replay d.seen).waits w ≡ name_clause who k c ((replay m.before).waits w)
+  now_waits : (replay d.seen).waits w ≡ name_clause a.who k c ((replay m.before).waits w)
   now_waits =
       ap (λ es. (replay es).waits w) m.last
-      ∙ ap (λ (s : State). s.waits w) (replay_push m.before (record { who = who; act = act }))
+      ∙ ap (λ (s : State). s.waits w) (replay_push m.before (record { who = a.who; act = act }))
       ∙ ap (λ f. f w) (names.waits (replay m.before))
       ∙ at_wait w _ (replay m.before).waits
 
   none_before : w ≡ record { channel = c; place = place } → (replay m.before).waits w ≡ None
   none_before e =
       let at : place ≡ ((replay m.before).channels c).next = names.first d.shape (replay m.before) before_legal.1 in
-      ap (replay m.before).waits e ∙ replay_placed d.shape m.before before_legal.0 (record { channel = c; place = place }) (omega (arith, at))
+      ap (replay m.before).waits e ∙ replay_placed d.shape m.before before_legal.0 (record { channel = c; place = place })
+      (omega (arith, at))
 
-  begins_at : w ≡ record { channel = c; place = place } → (replay d.seen).waits w ≡ name_clause who k c None
-  begins_at e = now_waits ∙ ap (name_clause who k c) (none_before e)
+  begins_at : w ≡ record { channel = c; place = place } → (replay d.seen).waits w ≡ name_clause a.who k c None
+  begins_at e = now_waits ∙ ap (name_clause a.who k c) (none_before e)
 
-  has_now : (main : Option WaitId) (cs : List (ℕ × ℕ)) → w ≡ main_at c place main → HasPlaced who main cs a → HasClauses who (cs ++ (k, c) ∷ []) ((replay d.seen).waits w)
-  has_now None cs e f = subst (λ x. HasClauses who (cs ++ (k, c) ∷ []) x) (sym (begins_at e)) (subst (λ xs. HasClauses who (xs ++ (k, c) ∷ []) (name_clause who k c None)) (sym f) (begun_has who k c))
+  has_now : (main : Option WaitId) (cs : List (ℕ × ℕ)) → w ≡ main_at c place main → HasPlaced main cs a
+      → HasClauses a.who (cs ++ (k, c) ∷ []) ((replay d.seen).waits w)
+  has_now None cs e f = subst (λ x. HasClauses a.who (cs ++ (k, c) ∷ []) x) (sym (begins_at e))
+      (subst (λ xs. HasClauses a.who (xs ++ (k, c) ∷ []) (name_clause a.who k c None)) (sym f) (begun_has a.who k c))
   has_now (Some u) cs e f =
-      let at_b : HasClauses who cs ((replay b.seen).waits w) = subst (λ es. HasClauses who cs ((replay es).waits w)) (sym h.seen) (subst (λ x. HasClauses who cs ((replay a.seen).waits x)) (sym e) f) in
-      let placed_b : Placed (replay b.seen) = replay_placed d.shape b.seen (Legal-prefix d.shape b.seen m.longer.0 (subst (Legal d.shape) (sym m.longer.1) before_legal.0)) in
-      let at_before = others_keep_clauses d.shape who cs w b.seen m.before before_legal.0 placed_b m.longer m.mine at_b in
-      subst (HasClauses who (cs ++ (k, c) ∷ [])) (sym now_waits) (joined_has who k c cs ((replay m.before).waits w) at_before)
+      let at_b : HasClauses a.who cs ((state_in b).waits w) =
+      subst (λ es. HasClauses a.who cs ((replay es).waits w)) (sym h.room.seen)
+      (subst (λ x. HasClauses a.who cs ((state_in a).waits x)) (sym e) f) in
+      let placed_b : Placed (state_in b) = replay_placed d.shape b.floor.seen
+      (Legal-prefix d.shape b.floor.seen m.longer.0 (subst (Legal d.shape) (sym m.longer.1) before_legal.0)) in
+      let at_before = others_keep_clauses d.shape a.who cs w b.floor.seen m.before before_legal.0 placed_b m.longer m.mine at_b in
+      subst (HasClauses a.who (cs ++ (k, c) ∷ [])) (sym now_waits) (joined_has a.who k c cs ((replay m.before).waits w) at_before)
 
-  other_channels : a.alone ≡ true → (x : ℕ) → (x ≡ c → ⊥) → (replay d.seen).channels x ≡ (replay a.seen).channels x
+  other_channels : a.floor.alone ≡ true → (x : ℕ) → (x ≡ c → ⊥) → (replay d.seen).channels x ≡ (state_in a).channels x
   other_channels alone x ne =
-      let same : m.before ≡ a.seen = m.alone (h.same.alone ∙ alone) ∙ h.seen in
+      let same : m.before ≡ a.floor.seen = m.alone (h.room.same.alone ∙ alone) ∙ h.room.seen in
       ap (λ es. (replay es).channels x) m.last
-      ∙ ap (λ (s : State). s.channels x) (replay_push m.before (record { who = who; act = act }))
+      ∙ ap (λ (s : State). s.channels x) (replay_push m.before (record { who = a.who; act = act }))
       ∙ names.others (replay m.before) x ne
       ∙ ap (λ es. (replay es).channels x) same
 
+-- what a caller sees behind a call of its floor, with this in its book
+abbrev pub behind : SeenOnChannels → Floor → List Item → SeenOnChannels
+behind a d l = record { who = a.who; floor = d; items = l }
+
 -- what is placed is not settled when others did something
-held_on : (who n : ℕ) (main : Option WaitId) (a b d : Floor) → Legal d.shape d.seen → HasRoom n a b → Looked who b d → (cs : List (ℕ × ℕ)) → HasPlaced who main cs a → HasPlaced who main cs d
-held_on who n None a b d l h m cs f = f
-held_on who n (Some w) a b d l h m cs f =
-    let legal_b : Legal d.shape b.seen = Legal-prefix d.shape b.seen m.longer.0 (subst (Legal d.shape) (sym m.longer.1) l) in
-    others_keep_clauses d.shape who cs w b.seen d.seen l (replay_placed d.shape b.seen legal_b) m.longer m.mine (subst (λ es. HasClauses who cs ((replay es).waits w)) (sym h.seen) f)
+held_on : {n : ℕ} {a b : SeenOnChannels} {d : Floor} (l : List Item) (main : Option WaitId) → Legal d.shape d.seen → IsRoomed n a b
+    → Looked a.who b.floor d → (cs : List (ℕ × ℕ)) → HasPlaced main cs a → HasPlaced main cs (behind a d l)
+held_on l None legal h m cs f = f
+held_on {n} {a} {b} {d} l (Some w) legal h m cs f =
+    let legal_b : Legal d.shape b.floor.seen = Legal-prefix d.shape b.floor.seen m.longer.0 (subst (Legal d.shape) (sym m.longer.1) legal)
+    in
+    let at_b : HasClauses a.who cs ((state_in b).waits w) = subst (λ es. HasClauses a.who cs ((replay es).waits w)) (sym h.room.seen) f in
+    others_keep_clauses d.shape a.who cs w b.floor.seen d.seen legal (replay_placed d.shape b.floor.seen legal_b) m.longer m.mine at_b
 
 either_left : (x y : Bool) → x ≡ true → (x || y) ≡ true
 either_left x y e = ap (λ b. b || y) e
@@ -116,130 +142,153 @@ not_both e f = let no_way : None ≡ Some _ = sym e ∙ f in cc
 
 -- ---- a clause that sends
 
-module _ (who k c v n : ℕ) (main : Option WaitId) (a b d : Floor) (i j l : List Item) (h : HasRoom n a b) (e : j ≡ i) (legal : Legal d.shape d.seen) where
-  pub send_stands : (place : ℕ) (w : WaitId) → w ≡ main_at c place main → RegisterOfferAnswer who main k c v b d (registered.Stands place) → l ≡ j ++ made_note (Offer c place v w k) ∷ [] → PlacedAnswer who (sends c v) main k a d i l (Ok (placing.Stands w))
-  send_stands place w is o f =
-      let m : Made who (Offer c place v w k) b d = subst (λ u. Made who (Offer c place v u k) b d) (sym is) o in
-      let names = offer_names who k c place v w in
+now_closed : (c x : ℕ) {who : ℕ} {b d : Floor} → ClosedWith who c x b d → AtStep b d (IsClosedWith c x)
+now_closed c x {who} {b} {d} o = record { moment = d.seen; after = o.looked.longer; before = prefix_self d.seen; holds = o.is_closed }
+
+-- what the others left is so at this moment too
+blocked_still : {n : ℕ} {a b : SeenOnChannels} {d : Floor} (P : State → Type 0) → IsRoomed n a b → Looked a.who b.floor d
+    → AtStep b.floor d P
+    → a.floor.alone ≡ true → P (state_in a)
+blocked_still {n} {a} {b} {d} P h o m alone =
+    let s = still a.who n a.floor b.floor d P h.room o m alone in
+    subst (λ es. P (replay es)) s.0 s.1
+
+module _ (c v k : ℕ) (main : Option WaitId) {n : ℕ} {a b : SeenOnChannels} {d : Floor} {l : List Item} (h : IsRoomed n a b)
+    (legal : Legal d.shape d.seen) where
+  pub send_stands : {place : ℕ} {w : WaitId} → w ≡ main_at c place main
+      → RegisterOfferAnswer a.who main k c v b.floor d (registered.Stands place) → l ≡ b.items ++ made_note (Offer c place v w k) ∷ []
+      → PlacedAnswer (sends c v) main k a (behind a d l) (Ok (placing.Stands w))
+  send_stands {place} {w} is o f =
+      let act : Act = Offer c place v w k in
+      let m : Made a.who act b.floor d = subst (λ u. Made a.who (Offer c place v u k) b.floor d) (sym is) o in
+      let names : Names a.who k c place w act = offer_names a.who k c place v w in
       record {
         place = place;
         wait = is;
-        told = told_roomed who n a b d i j l (made (Offer c place v w k) ∷ []) h e (told_made who (Offer c place v w k) b d j l m (moment_before who (Offer c place v w k) b d (ActHolds (Offer c place v w k)) m tt) f);
-        clauses = λ cs g. has_now who k c place n w (Offer c place v w k) a b d h legal names m main cs is g;
-        begins = λ none. ap state_of_wait (begins_at who k c place n w (Offer c place v w k) a b d h legal names m (is ∙ ap (main_at c place) none));
-        others = other_channels who k c place n w (Offer c place v w k) a b d h legal names m;
+        told = roomed h (told_made act m (moment_before a.who act b.floor d (ActHolds act) m tt) refl f);
+        clauses = λ cs g. has_now h legal names m main cs is g;
+        begins = λ none. ap state_of_wait (begins_at h legal names m (is ∙ ap (main_at c place) none));
+        others = other_channels h legal names m;
       }
 
-  now_closed : (x : ℕ) → ClosedWith who c x b d → AtStep b d (IsClosedWith c x)
-  now_closed x o = record { moment = d.seen; after = o.looked.longer; before = prefix_self d.seen; holds = o.is_closed }
-
-  -- what the others left is so at this moment too
-  blocked_still : (P : State → Type 0) → Looked who b d → AtStep b d P → a.alone ≡ true → P (replay a.seen)
-  blocked_still P o m alone = let s = still who n a b d P h o m alone in subst (λ es. P (replay es)) s.0 s.1
-
-  pub send_partner : (place : ℕ) → RegisterOfferAnswer who main k c v b d (registered.Partner place) → l ≡ j ++ item.Channel (Partner c place) ∷ [] → PlacedAnswer who (sends c v) main k a d i l (Ok placing.Changed)
+  pub send_partner : (place : ℕ) → RegisterOfferAnswer a.who main k c v b.floor d (registered.Partner place)
+      → l ≡ b.items ++ item.Channel (Partner c place) ∷ [] → PlacedAnswer (sends c v) main k a (behind a d l) (Ok placing.Changed)
   send_partner place o f = (
     (
       record {
         told = on_channels (ReceiverAt c place) ∷ heard (Partner c place) ∷ [];
         goes = Stops.receiver c v place;
-        left = told_roomed who n a b d i j l _ h e (told_met_after who (ReceiverAt c place) (Partner c place) b d j l refl o.0 o.1 (either_left _ _ o.1.holds) f);
+        left = roomed h (told_met_after (ReceiverAt c place) (Partner c place) refl o.0 o.1 (either_left _ _ o.1.holds) refl f);
       },
-      held_on who n main a b d legal h o.0,
+      held_on l main legal h o.0,
     ),
-    λ alone x. none_stands place _ x.nobody (blocked_still (StandsReceiver c place) o.0 o.1 alone),
+    λ alone x. none_stands place _ x.nobody (blocked_still (StandsReceiver c place) h o.0 o.1 alone),
   )
 
-  pub send_closed : (x : ℕ) → RegisterOfferAnswer who main k c v b d (registered.Closed x) → l ≡ j ++ item.Channel (SendClosed c v x) ∷ [] → PlacedAnswer who (sends c v) main k a d i l (Ok placing.Changed)
-  send_closed x o f = (
+  pub send_closed : {x : ℕ} → RegisterOfferAnswer a.who main k c v b.floor d (registered.Closed x)
+      → l ≡ b.items ++ item.Channel (SendClosed c v x) ∷ [] → PlacedAnswer (sends c v) main k a (behind a d l) (Ok placing.Changed)
+  send_closed {x} o f = (
     (
       record {
         told = heard (SendClosed c v x) ∷ [];
         goes = Stops.closed (sends c v) (heard (SendClosed c v x)) Done (Refused.send c v x);
-        left = told_roomed who n a b d i j l _ h e (told_met who (SendClosed c v x) b d j l refl o.looked (now_closed x o) f);
+        left = roomed h (told_met (SendClosed c v x) refl o.looked (now_closed c x o) refl f);
       },
-      held_on who n main a b d legal h o.looked,
+      held_on l main legal h o.looked,
     ),
-    λ alone y. not_both y.not_closed (blocked_still (IsClosedWith c x) o.looked (now_closed x o) alone),
+    λ alone y. not_both y.not_closed (blocked_still (IsClosedWith c x) h o.looked (now_closed c x o) alone),
   )
 
-  pub send_spent : RegisterOfferAnswer who main k c v b d registered.Spent → l ≡ j ++ item.Channel (Spent c) ∷ [] → PlacedAnswer who (sends c v) main k a d i l (Ok placing.Spent)
-  send_spent o f = (
-    record {
-      told = spent (sends c v);
-      goes = Stops.no_place (sends c v) (spent (sends c v)) refl;
-      left = told_roomed who n a b d i j l (spent (sends c v)) h e
-          (told_met_after who (SpentForOffers c) (Spent c) b d j l refl o.0 o.1 (let m : IsSpentForOffers b.shape c (replay o.1.moment) = o.1.holds in record { is_open = m.not_closed; spent = m.spent }) f);
-    },
-    held_on who n main a b d legal h o.0,
-  )
+  pub send_spent : RegisterOfferAnswer a.who main k c v b.floor d registered.Spent → l ≡ b.items ++ item.Channel (Spent c) ∷ []
+      → PlacedAnswer (sends c v) main k a (behind a d l) (Ok placing.Spent)
+  send_spent o f =
+      let m : IsSpentForOffers b.floor.shape c (replay o.1.moment) = o.1.holds in (
+        record {
+          told = spent (sends c v);
+          goes = Stops.no_place (sends c v) (spent (sends c v)) refl;
+          left = roomed h
+              (told_met_after (SpentForOffers c) (Spent c) refl o.0 o.1 (record { is_open = m.not_closed; spent = m.spent }) refl f);
+        },
+        held_on l main legal h o.0,
+      )
 
-  pub resolved : (call : Call) → Looked who b d → IsMainResolved main d → NotesResolved main j l → PlacedAnswer who call main k a d i l (Ok placing.Resolved)
-  resolved call o is f = (by_main main is f, held_on who n main a b d legal h o)
-    where
-      by_main : (u : Option WaitId) → IsMainResolved u d → NotesResolved u j l → Tells who (ResolvedAfter u) a d i l
-      by_main None r g = absurd r
-      by_main (Some w) r g = record {
-        told = heard (MainResolved w) ∷ [];
-        goes = refl;
-        left = told_roomed who n a b d i j l (heard (MainResolved w) ∷ []) h e
-            (told_met who (MainResolved w) b d j l refl o (record { moment = d.seen; after = o.longer; before = prefix_self d.seen; holds = r }) g);
-      }
+-- the select's wait was resolved
+pub resolved : (call : Call) (k : ℕ) (main : Option WaitId) {n : ℕ} {a b : SeenOnChannels} {d : Floor} {l : List Item} → IsRoomed n a b
+    → Legal d.shape d.seen → Looked a.who b.floor d → IsMainResolved main d → NotesResolved main b.items l
+    → PlacedAnswer call main k a (behind a d l) (Ok placing.Resolved)
+resolved call k main {n} {a} {b} {d} {l} h legal o is f = (by_main main is f, held_on l main legal h o)
+  where
+    by_main : (u : Option WaitId) → IsMainResolved u d → NotesResolved u b.items l → Tells (ResolvedAfter u) a (behind a d l)
+    by_main None r g = absurd r
+    by_main (Some w) r g =
+        let at : AtStep b.floor d (ChannelNoteHolds b.floor.shape (MainResolved w)) =
+        record { moment = d.seen; after = o.longer; before = prefix_self d.seen; holds = r } in
+        record { told = heard (MainResolved w) ∷ []; goes = refl; left = roomed h (told_met (MainResolved w) refl o at refl g) }
 
 -- ---- a clause that receives
 
-module _ (who k c n : ℕ) (main : Option WaitId) (a b d : Floor) (i j l : List Item) (h : HasRoom n a b) (e : j ≡ i) (legal : Legal d.shape d.seen) where
-  pub receive_stands : (place : ℕ) (w : WaitId) → w ≡ main_at c place main → RegisterReceiveAnswer who main k c b d (registered.Stands place) → l ≡ j ++ made_note (Await c place w k) ∷ [] → PlacedAnswer who (receives c) main k a d i l (Ok (placing.Stands w))
-  receive_stands place w is o f =
-      let m : Made who (Await c place w k) b d = subst (λ u. Made who (Await c place u k) b d) (sym is) o in
-      let names = await_names who k c place w in
+module _ (c k : ℕ) (main : Option WaitId) {n : ℕ} {a b : SeenOnChannels} {d : Floor} {l : List Item} (h : IsRoomed n a b)
+    (legal : Legal d.shape d.seen) where
+  pub receive_stands : {place : ℕ} {w : WaitId} → w ≡ main_at c place main
+      → RegisterReceiveAnswer a.who main k c b.floor d (registered.Stands place) → l ≡ b.items ++ made_note (Await c place w k) ∷ []
+      → PlacedAnswer (receives c) main k a (behind a d l) (Ok (placing.Stands w))
+  receive_stands {place} {w} is o f =
+      let act : Act = Await c place w k in
+      let m : Made a.who act b.floor d = subst (λ u. Made a.who (Await c place u k) b.floor d) (sym is) o in
+      let names : Names a.who k c place w act = await_names a.who k c place w in
       record {
         place = place;
         wait = is;
-        told = told_roomed who n a b d i j l (made (Await c place w k) ∷ []) h e (told_made who (Await c place w k) b d j l m (moment_before who (Await c place w k) b d (ActHolds (Await c place w k)) m tt) f);
-        clauses = λ cs g. has_now who k c place n w (Await c place w k) a b d h legal names m main cs is g;
-        begins = λ none. ap state_of_wait (begins_at who k c place n w (Await c place w k) a b d h legal names m (is ∙ ap (main_at c place) none));
-        others = other_channels who k c place n w (Await c place w k) a b d h legal names m;
+        told = roomed h (told_made act m (moment_before a.who act b.floor d (ActHolds act) m tt) refl f);
+        clauses = λ cs g. has_now h legal names m main cs is g;
+        begins = λ none. ap state_of_wait (begins_at h legal names m (is ∙ ap (main_at c place) none));
+        others = other_channels h legal names m;
       }
 
-  still_so : (P : State → Type 0) → Looked who b d → AtStep b d P → a.alone ≡ true → P (replay a.seen)
-  still_so P o m alone = let s = still who n a b d P h o m alone in subst (λ es. P (replay es)) s.0 s.1
-
-  pub receive_partner : (place : ℕ) → RegisterReceiveAnswer who main k c b d (registered.Partner place) → l ≡ j ++ item.Channel (Partner c place) ∷ [] → PlacedAnswer who (receives c) main k a d i l (Ok placing.Changed)
+  pub receive_partner : (place : ℕ) → RegisterReceiveAnswer a.who main k c b.floor d (registered.Partner place)
+      → l ≡ b.items ++ item.Channel (Partner c place) ∷ [] → PlacedAnswer (receives c) main k a (behind a d l) (Ok placing.Changed)
   receive_partner place o f = (
     (
       record {
         told = on_channels (OfferAt c place) ∷ heard (Partner c place) ∷ [];
         goes = Stops.offer c place;
-        left = told_roomed who n a b d i j l _ h e (told_met_after who (OfferAt c place) (Partner c place) b d j l refl o.0 o.1 (either_right _ _ o.1.holds) f);
+        left = roomed h (told_met_after (OfferAt c place) (Partner c place) refl o.0 o.1 (either_right _ _ o.1.holds) refl f);
       },
-      held_on who n main a b d legal h o.0,
+      held_on l main legal h o.0,
     ),
-    λ alone x. none_queued place _ x.nothing (still_so (StandsOffer c place) o.0 o.1 alone),
+    λ alone x. none_queued place _ x.nothing (blocked_still (StandsOffer c place) h o.0 o.1 alone),
   )
 
-  pub receive_closed : (x : ℕ) → RegisterReceiveAnswer who main k c b d (registered.Closed x) → l ≡ j ++ item.Channel (ReceiveClosed c x) ∷ [] → PlacedAnswer who (receives c) main k a d i l (Ok placing.Changed)
-  receive_closed x o f =
-      let m : AtStep b d (IsDrainedAndClosed c) = o.1 in
-      let drained : IsDrained c x (replay m.moment) = record { is_closed = closed_as d.shape c x m.moment d.seen m.before.0 m.before.1 legal m.holds.is_closed o.0.is_closed; nothing = m.holds.nothing } in (
+  pub receive_closed : {x : ℕ} → RegisterReceiveAnswer a.who main k c b.floor d (registered.Closed x)
+      → l ≡ b.items ++ item.Channel (ReceiveClosed c x) ∷ [] → PlacedAnswer (receives c) main k a (behind a d l) (Ok placing.Changed)
+  receive_closed {x} o f =
+      let m : AtStep b.floor d (IsDrainedAndClosed c) = o.1 in
+      let drained : IsDrained c x (replay m.moment) = record {
+        is_closed = closed_as d.shape c x m.moment d.seen m.before.0 m.before.1 legal m.holds.is_closed o.0.is_closed;
+        nothing = m.holds.nothing;
+      } in (
         (
           record {
             told = heard (ReceiveClosed c x) ∷ [];
             goes = Stops.closed (receives c) (heard (ReceiveClosed c x)) (Closed x) (Refused.receive c x);
-            left = told_roomed who n a b d i j l _ h e (told_met who (ReceiveClosed c x) b d j l refl o.0.looked (record { moment = m.moment; after = m.after; before = m.before; holds = drained }) f);
+            left = roomed h
+                (told_met (ReceiveClosed c x) refl o.0.looked (record
+                { moment = m.moment; after = m.after; before = m.before; holds = drained }) refl f);
           },
-          held_on who n main a b d legal h o.0.looked,
+          held_on l main legal h o.0.looked,
         ),
-        λ alone y. not_both y.not_closed (still_so (IsClosedWith c x) o.0.looked (record { moment = d.seen; after = o.0.looked.longer; before = prefix_self d.seen; holds = o.0.is_closed }) alone),
+        λ alone y. not_both y.not_closed (blocked_still (IsClosedWith c x) h o.0.looked (now_closed c x o.0) alone),
       )
 
-  pub receive_spent : RegisterReceiveAnswer who main k c b d registered.Spent → l ≡ j ++ item.Channel (Spent c) ∷ [] → PlacedAnswer who (receives c) main k a d i l (Ok placing.Spent)
-  receive_spent o f = (
-    record {
-      told = spent (receives c);
-      goes = Stops.no_place (receives c) (spent (receives c)) refl;
-      left = told_roomed who n a b d i j l (spent (receives c)) h e
-          (told_met_after who (SpentForReceives c) (Spent c) b d j l refl o.0 o.1 (let m : IsSpentForReceives b.shape c (replay o.1.moment) = o.1.holds in record { is_open = m.not_closed; spent = m.spent }) f);
-    },
-    held_on who n main a b d legal h o.0,
-  )
+  pub receive_spent : RegisterReceiveAnswer a.who main k c b.floor d registered.Spent → l ≡ b.items ++ item.Channel (Spent c) ∷ []
+      → PlacedAnswer (receives c) main k a (behind a d l) (Ok placing.Spent)
+  receive_spent o f =
+      let m : IsSpentForReceives b.floor.shape c (replay o.1.moment) = o.1.holds in (
+        record {
+          told = spent (receives c);
+          goes = Stops.no_place (receives c) (spent (receives c)) refl;
+          left = roomed h
+              (told_met_after (SpentForReceives c) (Spent c) refl o.0 o.1 (record { is_open = m.not_closed; spent = m.spent }) refl f);
+        },
+        held_on l main legal h o.0,
+      )

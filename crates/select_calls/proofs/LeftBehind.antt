@@ -13,23 +13,29 @@ use Rattle.select_calls.proofs.AdmittedIn.{nothing_more, none_in}
 use Rattle.select_calls.proofs.PlacedOrSettled.{HasNo, none_in_both, blocked_place_none, blocked_settle_none, places_settle_none}
 
 -- the wait of what was placed is left
-pub left_named : (calls : List Call) (n : ℕ) (w : WaitId) (group rest : List Told) → PlacesFirst w (take n calls) group → HasNo settles rest → NamesLeft calls (Some w) (map blocked calls ++ (group ++ rest))
+pub left_named : (calls : List Call) (n : ℕ) (w : WaitId) (group rest : List Told) → PlacesFirst w (take n calls) group → HasNo settles rest
+    → NamesLeft calls (Some w) (map blocked calls ++ (group ++ rest))
 left_named calls n w group rest p none = (
   record { before = take n calls; later = drop n calls; group = group; rest = rest; clauses = take_drop calls n; first = p; all = refl },
-  none_in_both settles (map blocked calls) (group ++ rest) (blocked_settle_none calls) (none_in_both settles group rest (places_settle_none w 1 (take n calls) group p.places) none),
+  none_in_both settles (map blocked calls) (group ++ rest) (blocked_settle_none calls)
+      (none_in_both settles group rest (places_settle_none w 1 (take n calls) group p.places) none),
 )
 
 -- nothing was placed
 pub none_left : (calls : List Call) → 1 ≤ length calls → StopsSelect calls None (map blocked calls ++ [])
 none_left [] some = absurd (omega (arith, some))
 none_left (call ∷ later) some = record {
-  part = prefix_first (SelectsSomehow (call ∷ later)) (map blocked (call ∷ later) ++ []) (spent call)
-      (NoPlace, SelectCall.stops_at_first later call (spent call) _ NoPlace refl (Stops.no_place call (spent call) refl) (append_assoc (map blocked (call ∷ later)) [] (spent call)));
+  part = prefix_first (SelectsSomehow (call ∷ later)) (map blocked (call ∷ later) ++ []) (spent call) (
+    NoPlace,
+    SelectCall.stops_at_first later call (spent call) _ NoPlace refl (Stops.no_place call (spent call) refl)
+        (append_assoc (map blocked (call ∷ later)) [] (spent call)),
+  );
   left = inl (none_in_both places (map blocked (call ∷ later)) [] (blocked_place_none (call ∷ later)) refl);
 }
 
 -- some clauses were
-pub some_left : (calls : List Call) (n : ℕ) (w : WaitId) (group : List Told) → PlacesFirst w (take n calls) group → StopsSelect calls (Some w) (map blocked calls ++ (group ++ []))
+pub some_left : (calls : List Call) (n : ℕ) (w : WaitId) (group : List Told) → PlacesFirst w (take n calls) group
+    → StopsSelect calls (Some w) (map blocked calls ++ (group ++ []))
 some_left calls n w group p = record { part = by_rest (drop n calls) (take_drop calls n); left = left_named calls n w group [] p refl }
   where
     none : (told : List Told) × AdmitsIn (take n calls) told
@@ -40,14 +46,16 @@ some_left calls n w group p = record { part = by_rest (drop n calls) (take_drop 
         let all : calls ≡ take n calls = e ∙ sym (nothing_more (take n calls)) in
         prefix_first (SelectsSomehow calls) (map blocked calls ++ (group ++ [])) none.0 (
           Waits w,
-          SelectCall.waits w group none.0 _ (subst (λ l. PlacesFirst w l group) (sym all) p) (subst (λ l. AdmitsIn l none.0) (sym all) none.1)
+          SelectCall.waits w group none.0 _ (subst (λ l. PlacesFirst w l group) (sym all) p)
+              (subst (λ l. AdmitsIn l none.0) (sym all) none.1)
               (append_assoc (map blocked calls) (group ++ []) none.0 ∙ ap (λ l. map blocked calls ++ l) (append_assoc group [] none.0)),
         )
     by_rest (call ∷ later) e =
         prefix_first (SelectsSomehow calls) (map blocked calls ++ (group ++ [])) (heard (MainResolved w) ∷ none.0) (
           Waits w,
           SelectCall.resolved w (take n calls) later call group none.0 _ e p none.1
-              (append_assoc (map blocked calls) (group ++ []) (heard (MainResolved w) ∷ none.0) ∙ ap (λ l. map blocked calls ++ l) (append_assoc group [] (heard (MainResolved w) ∷ none.0))),
+              (append_assoc (map blocked calls) (group ++ []) (heard (MainResolved w) ∷ none.0)
+              ∙ ap (λ l. map blocked calls ++ l) (append_assoc group [] (heard (MainResolved w) ∷ none.0))),
         )
 
 -- what is told behind

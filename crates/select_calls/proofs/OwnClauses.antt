@@ -26,7 +26,8 @@ module _ (who : ℕ) (cs : List (ℕ × ℕ)) where
   resolved_has how None h = h
   resolved_has how (Some x) h = h
 
-  settled_has : (n : ℕ) (outcome : Settled) (x : Option Wait) → n ≢ who → MaySettle n outcome x → HasClauses who cs x → HasClauses who cs (settled_wait outcome x)
+  settled_has : (n : ℕ) (outcome : Settled) (x : Option Wait) → n ≢ who → MaySettle n outcome x → HasClauses who cs x
+      → HasClauses who cs (settled_wait outcome x)
   settled_has n outcome None apart m h = h
   settled_has n outcome (Some x) apart m h = absurd (apart (sym m.0 ∙ h.0))
 
@@ -34,48 +35,59 @@ module _ (who : ℕ) (cs : List (ℕ × ℕ)) where
   joined_never n k c None apart m h = absurd m
   joined_never n k c (Some x) apart m h = absurd (apart (sym m.own ∙ h.0))
 
-  resolve_has : (w v : WaitId) (how : Resolution) (s : State) → HasClauses who cs (s.waits w) → HasClauses who cs ((resolve v how s).waits w)
+  resolve_has : (w v : WaitId) (how : Resolution) (s : State) → HasClauses who cs (s.waits w)
+      → HasClauses who cs ((resolve v how s).waits w)
   resolve_has w v how s h = one_change (HasClauses who cs) s.waits v w (resolved_wait how) (resolved_has how (s.waits w)) h
 
-  first_has : (w : WaitId) (rs : List Receiver) (how : ℕ → Resolution) (s : State) → HasClauses who cs (s.waits w) → HasClauses who cs ((resolve_first rs how s).waits w)
+  first_has : (w : WaitId) (rs : List Receiver) (how : ℕ → Resolution) (s : State) → HasClauses who cs (s.waits w)
+      → HasClauses who cs ((resolve_first rs how s).waits w)
   first_has w [] how s h = h
   first_has w (r ∷ rs) how s h = resolve_has w r.party.wait (how r.party.clause) s h
 
-  holder_has : (w : WaitId) (p : Option Party) (how : ℕ → Resolution) (s : State) → HasClauses who cs (s.waits w) → HasClauses who cs ((resolve_holder p how s).waits w)
+  holder_has : (w : WaitId) (p : Option Party) (how : ℕ → Resolution) (s : State) → HasClauses who cs (s.waits w)
+      → HasClauses who cs ((resolve_holder p how s).waits w)
   holder_has w None how s h = h
   holder_has w (Some p) how s h = resolve_has w p.wait (how p.clause) s h
 
-  removed_has : (w : WaitId) (c : ℕ) (q : List Standing) (s : State) → HasClauses who cs (s.waits w) → HasClauses who cs ((remove_first c q s).waits w)
+  removed_has : (w : WaitId) (c : ℕ) (q : List Standing) (s : State) → HasClauses who cs (s.waits w)
+      → HasClauses who cs ((remove_first c q s).waits w)
   removed_has w c [] s h = h
   removed_has w c (o ∷ os) s h = h
 
-  offer_has : (w : WaitId) (c : ℕ) (q : List Standing) (how : ℕ → Resolution) (s : State) → HasClauses who cs (s.waits w) → HasClauses who cs ((resolve_offer c q how s).waits w)
+  offer_has : (w : WaitId) (c : ℕ) (q : List Standing) (how : ℕ → Resolution) (s : State) → HasClauses who cs (s.waits w)
+      → HasClauses who cs ((resolve_offer c q how s).waits w)
   offer_has w c [] how s h = h
   offer_has w c (o ∷ os) how s h = holder_has w o.holder how _ h
 
   -- another names no wait of who: a wait that begins has a place that was not given out
-  named_has : (n k c p places : ℕ) (u w : WaitId) (s : State) → Placed s → n ≢ who → HasPlace places p (s.channels c) → MayName n k c p u s → HasClauses who cs (s.waits w)
+  named_has : (n k c p places : ℕ) (u w : WaitId) (s : State) → Placed s → n ≢ who → HasPlace places p (s.channels c) → MayName n k c p u s
+      → HasClauses who cs (s.waits w)
       → HasClauses who cs (put_wait u (name_clause n k c (s.waits u)) s.waits w)
   named_has n k c p places u w s placed apart place may h = by_test (same_wait u w) refl
     where
-      named : {A : Type 0} (b : Bool) → same_wait u (record { channel = c; place = p }) ≡ b → MatchBool b (k ≤ 7) (JoinsWait n k c (s.waits u)) → HasClauses who cs (s.waits u) → A
+      named : {A : Type 0} (b : Bool) → same_wait u (record { channel = c; place = p }) ≡ b
+          → MatchBool b (k ≤ 7) (JoinsWait n k c (s.waits u)) → HasClauses who cs (s.waits u) → A
       named true e m f =
-          let none : s.waits u ≡ None = placed u (subst (λ (v : WaitId). (s.channels v.channel).next ≤ v.place) (sym (same_wait-eq u _ e)) (let g = place.first in omega arith)) in
+          let none : s.waits u ≡ None = placed u (subst (λ (v : WaitId). (s.channels v.channel).next ≤ v.place) (sym (same_wait-eq u _ e))
+          (let g = place.first in omega arith)) in
           let no_way : ⊥ = subst (HasClauses who cs) none f in absurd no_way
       named false e m f = joined_never n k c (s.waits u) apart m f
 
       by_test : (b : Bool) → same_wait u w ≡ b → HasClauses who cs (if b then name_clause n k c (s.waits u) else s.waits w)
-      by_test true e = named (same_wait u (record { channel = c; place = p })) refl may (subst (λ v. HasClauses who cs (s.waits v)) (sym (same_wait-eq u w e)) h)
+      by_test true e = named (same_wait u (record { channel = c; place = p })) refl may
+          (subst (λ v. HasClauses who cs (s.waits v)) (sym (same_wait-eq u w e)) h)
       by_test false e = h
 
-  settle_has : (n : ℕ) (outcome : Settled) (u w : WaitId) (s : State) → n ≢ who → MaySettle n outcome (s.waits u) → HasClauses who cs (s.waits w) → HasClauses who cs (put_wait u (settled_wait outcome (s.waits u)) s.waits w)
+  settle_has : (n : ℕ) (outcome : Settled) (u w : WaitId) (s : State) → n ≢ who → MaySettle n outcome (s.waits u)
+      → HasClauses who cs (s.waits w) → HasClauses who cs (put_wait u (settled_wait outcome (s.waits u)) s.waits w)
   settle_has n outcome u w s apart m h = by_test (same_wait u w) refl
     where
       by_test : (b : Bool) → same_wait u w ≡ b → HasClauses who cs (if b then settled_wait outcome (s.waits u) else s.waits w)
       by_test true e = settled_has n outcome (s.waits u) apart m (subst (λ v. HasClauses who cs (s.waits v)) (sym (same_wait-eq u w e)) h)
       by_test false e = h
 
-  other_has : (shape : Shape) (n : ℕ) (w : WaitId) (s : State) (act : Act) → Placed s → n ≢ who → Needs shape s n act → HasClauses who cs (s.waits w) → HasClauses who cs ((after s n act).waits w)
+  other_has : (shape : Shape) (n : ℕ) (w : WaitId) (s : State) (act : Act) → Placed s → n ≢ who → Needs shape s n act
+      → HasClauses who cs (s.waits w) → HasClauses who cs ((after s n act).waits w)
   other_has shape n w s (Hand c p x) placed apart m h = first_has w _ _ s h
   other_has shape n w s (Put c p x) placed apart m h = h
   other_has shape n w s (Offer c p x u k) placed apart m h = named_has n k c p _ u w s placed apart m.1 m.4 h
@@ -92,30 +104,36 @@ module _ (who : ℕ) (cs : List (ℕ × ℕ)) where
   other_has shape n w s (Settle u outcome) placed apart m h = settle_has n outcome u w s apart m h
 
   -- entries of others alone
-  none_own : (e : Entry) (es : List Entry) (b : Bool) → (e.who == who) ≡ b → (if b then e.act ∷ acts_of who es else acts_of who es) ≡ [] → (e.who ≢ who) × (acts_of who es ≡ [])
+  none_own : (e : Entry) (es : List Entry) (b : Bool) → (e.who == who) ≡ b → (if b then e.act ∷ acts_of who es else acts_of who es) ≡ []
+      → (e.who ≢ who) × (acts_of who es ≡ [])
   none_own e es true k h = cc
   none_own e es false k h = (λ q. grind (arith, nat_tests), h)
 
-  others_from : (shape : Shape) (w : WaitId) (s : State) (es : List Entry) → LegalFrom shape s es → Placed s → acts_of who es ≡ [] → HasClauses who cs (s.waits w) → HasClauses who cs ((replay_from s es).waits w)
+  others_from : (shape : Shape) (w : WaitId) (s : State) (es : List Entry) → LegalFrom shape s es → Placed s → acts_of who es ≡ []
+      → HasClauses who cs (s.waits w) → HasClauses who cs ((replay_from s es).waits w)
   unfolding LegalFrom replay_from acts_of
   others_from shape w s [] l placed n h = h
   others_from shape w s (e ∷ es) l placed n h =
       let m = none_own e es (e.who == who) refl n in
-      others_from shape w (after s e.who e.act) es l.1 (placed_after shape s e.who e.act l.0 placed) m.1 (other_has shape e.who w s e.act placed m.0 l.0 h)
+      others_from shape w (after s e.who e.act) es l.1 (placed_after shape s e.who e.act l.0 placed) m.1
+      (other_has shape e.who w s e.act placed m.0 l.0 h)
 
 nothing_left : {A : Type 0} (xs ys : List A) → xs ++ ys ≡ xs → ys ≡ []
 nothing_left [] ys e = e
 nothing_left (x ∷ xs) ys e = nothing_left xs ys (let k : xs ++ ys ≡ xs = cc in k)
 
 -- between two moments with no act of who
-pub others_keep_clauses : (shape : Shape) (who : ℕ) (cs : List (ℕ × ℕ)) (w : WaitId) (xs ys : List Entry) → Legal shape ys → Placed (replay xs) → IsPrefix xs ys → acts_of who ys ≡ acts_of who xs
+pub others_keep_clauses : (shape : Shape) (who : ℕ) (cs : List (ℕ × ℕ)) (w : WaitId) (xs ys : List Entry) → Legal shape ys
+    → Placed (replay xs) → IsPrefix xs ys → acts_of who ys ≡ acts_of who xs
     → HasClauses who cs ((replay xs).waits w) → HasClauses who cs ((replay ys).waits w)
 others_keep_clauses shape who cs w xs ys l placed p e h =
     let l' : Legal shape (xs ++ p.0) = rw p.1 l in
     let parts = LegalFrom-parts shape start xs p.0 l' in
-    let n : acts_of who p.0 ≡ [] = nothing_left (acts_of who xs) (acts_of who p.0) (sym (acts_of-append who xs p.0) ∙ ap (acts_of who) p.1 ∙ e) in
+    let n : acts_of who p.0 ≡ [] = nothing_left (acts_of who xs) (acts_of who p.0) (sym (acts_of-append who xs p.0) ∙ ap (acts_of who) p.1
+    ∙ e) in
     let r = others_from who cs shape w (replay xs) p.0 parts.1 placed n h in
-    subst (λ es. HasClauses who cs ((replay es).waits w)) p.1 (subst (λ s. HasClauses who cs (s.waits w)) (sym (replay_from-append start xs p.0)) r)
+    subst (λ es. HasClauses who cs ((replay es).waits w)) p.1
+    (subst (λ s. HasClauses who cs (s.waits w)) (sym (replay_from-append start xs p.0)) r)
 
 -- ---- one more clause
 
@@ -124,6 +142,7 @@ pub begun_has : (who k c : ℕ) → HasClauses who ((k, c) ∷ []) (name_clause 
 begun_has who k c = (refl, refl, refl)
 
 -- one that gets a clause more
-pub joined_has : (who k c : ℕ) (cs : List (ℕ × ℕ)) (x : Option Wait) → HasClauses who cs x → HasClauses who (cs ++ (k, c) ∷ []) (name_clause who k c x)
+pub joined_has : (who k c : ℕ) (cs : List (ℕ × ℕ)) (x : Option Wait) → HasClauses who cs x
+    → HasClauses who (cs ++ (k, c) ∷ []) (name_clause who k c x)
 joined_has who k c cs None h = absurd h
 joined_has who k c cs (Some x) h = (h.0, ap (λ l. l ++ (k, c) ∷ []) h.1, h.2)

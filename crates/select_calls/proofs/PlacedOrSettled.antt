@@ -29,16 +29,19 @@ none_mapped p f h (x ∷ xs) = ap (λ b. b || list_any p (map f xs)) (h x) ∙ n
 
 -- ---- where those are admitted for whom there is room
 
-none_admits : (p : Told → Bool) → ((fact : ChannelFact) → p (on_channels fact) ≡ false) → ((c q : ℕ) → p (made (Admit c q)) ≡ false) → (c : ℕ) (told : List Told) → Admits c told → HasNo p told
+none_admits : (p : Told → Bool) → ((fact : ChannelFact) → p (on_channels fact) ≡ false) → ((c q : ℕ) → p (made (Admit c q)) ≡ false)
+    → (c : ℕ) (told : List Told) → Admits c told → HasNo p told
 none_admits p facts acts c told h =
     let last : HasNo p (on_channels (NoneToAdmit c h.mark) ∷ []) = ap (λ b. b || false) (facts (NoneToAdmit c h.mark)) in
     ap (list_any p) h.all
     ∙ ap (λ b. b || list_any p (map (λ q. made (Admit c q)) h.places ++ on_channels (NoneToAdmit c h.mark) ∷ [])) (facts (NextIs c h.mark))
-    ∙ none_in_both p (map (λ q. made (Admit c q)) h.places) (on_channels (NoneToAdmit c h.mark) ∷ []) (none_mapped p (λ q. made (Admit c q)) (acts c) h.places) last
+    ∙ none_in_both p (map (λ q. made (Admit c q)) h.places) (on_channels (NoneToAdmit c h.mark) ∷ [])
+    (none_mapped p (λ q. made (Admit c q)) (acts c) h.places) last
 
 pub admits_settle_none : (calls : List Call) (told : List Told) → AdmitsIn calls told → HasNo settles told
 admits_settle_none _ _ AdmitsIn.none = refl
-admits_settle_none _ _ (AdmitsIn.offered c v calls admits more all h r e) = ap (list_any settles) e ∙ none_in_both settles admits more (none_admits settles (λ fact. refl) (λ d q. refl) c admits h) (admits_settle_none calls more r)
+admits_settle_none _ _ (AdmitsIn.offered c v calls admits more all h r e) = ap (list_any settles) e
+    ∙ none_in_both settles admits more (none_admits settles (λ fact. refl) (λ d q. refl) c admits h) (admits_settle_none calls more r)
 admits_settle_none _ _ (AdmitsIn.awaited c calls all r) = admits_settle_none calls all r
 
 -- ---- where the clauses are tried
@@ -59,14 +62,16 @@ blocked_settle_none calls = none_mapped settles blocked block_settles calls
 
 drops_places_none : (c q : ℕ) (told : List Told) → Drops c q told → HasNo places told
 drops_places_none c q told h =
-    ap (list_any places) h.all ∙ none_in_both places (map (λ d. made (Drop c d.0 d.1)) h.dropped) (on_channels (FitsUpTo c q) ∷ []) (none_mapped places (λ d. made (Drop c d.0 d.1)) (λ d. refl) h.dropped) refl
+    ap (list_any places) h.all ∙ none_in_both places (map (λ d. made (Drop c d.0 d.1)) h.dropped) (on_channels (FitsUpTo c q) ∷ [])
+    (none_mapped places (λ d. made (Drop c d.0 d.1)) (λ d. refl) h.dropped) refl
 
 spurns_places_none : (c q : ℕ) (told : List Told) → Spurns c q told → HasNo places told
 spurns_places_none c q _ (Spurns.gone v) = refl
 spurns_places_none c q _ Spurns.stays = refl
 
 overflows_places_none : (c q : ℕ) (told : List Told) → Overflows c q told → HasNo places told
-overflows_places_none c q told h = ap (list_any places) h.all ∙ none_in_both places h.drops h.spurns (drops_places_none c q h.drops h.dropped) (spurns_places_none c q h.spurns h.spurned)
+overflows_places_none c q told h = ap (list_any places) h.all
+    ∙ none_in_both places h.drops h.spurns (drops_places_none c q h.drops h.dropped) (spurns_places_none c q h.spurns h.spurned)
 
 pub at_once_places_none : (call : Call) (told : List Told) (a : Answer) → AtOnce call told a → HasNo places told
 at_once_places_none _ _ _ (AtOnce.hands c v q) = refl

@@ -29,7 +29,8 @@ still_so a d P m same =
     subst (λ es. P (replay es)) (at ∙ sym same) m.holds
 
 -- behind a look
-pub still : (who n : ℕ) (a b d : Floor) (P : State → Type 0) → HasRoom n a b → Looked who b d → AtStep b d P → a.alone ≡ true → (d.seen ≡ a.seen) × P (replay d.seen)
+pub still : (who n : ℕ) (a b d : Floor) (P : State → Type 0) → HasRoom n a b → Looked who b d → AtStep b d P → a.alone ≡ true
+    → (d.seen ≡ a.seen) × P (replay d.seen)
 still who n a b d P h l m alone =
     let same : d.seen ≡ b.seen = l.alone (h.same.alone ∙ alone) in
     (same ∙ h.seen, still_so b d P m same)

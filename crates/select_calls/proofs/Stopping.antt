@@ -8,11 +8,9 @@ use Rattle.co_base.specs.declared.names.WaitId.{WaitId}
 use Rattle.channel_model.specs.declared.acts.ChannelNote.TheVariants.{Late, MainResolved}
 use Rattle.channel_model.specs.declared.floor.WaitState.TheVariants.{Standing}
 use Rattle.channel_model.specs.Channels.{Shape, Wait}
-use Rattle.channel_model.specs.Histories.{replay}
 use Rattle.channel_model.specs.Answers.{IsUnsettledOf, state_of_wait}
-use Rattle.channel_model.specs.Floors.{Floor, MayCall, Added}
 use Rattle.channel_model.proofs.Spans.{prefix_self, moment_within}
-use Rattle.note_book.specs.declared.book.Item.{Item}
+use Rattle.call_meaning.specs.Seen.{SeenOnChannels, MayCallChannel, state_in}
 use Rattle.call_meaning.specs.Telling.{Told, heard}
 use Rattle.call_meaning.specs.Calls.{ToldOnChannels}
 use Rattle.call_meaning.specs.ChannelCalls.{Call, sends, receives, Answer, Waits, LooksAgain, NoPlace, blocked, revoked, wait_at, placed, Begins, Places, PlacesFirst, AdmitsIn, SelectCall, channel_of}
@@ -22,73 +20,76 @@ use Rattle.call_meaning.proofs.ChannelsHeard.{told_then}
 use Rattle.channel_calls.specs.Calls.{Tells, ToldPart, IsUntouched, HoldsWait}
 use Rattle.select_calls.specs.declared.clause.SelectAnswer.{SelectAnswer}
 use Rattle.select_calls.specs.declared.clause.SelectAnswer.TheVariants as answer
-use Rattle.select_calls.specs.declared.placing.Placings.{Placings}
 use Rattle.select_calls.specs.declared.placing.Placings.TheVariants as placings
 use Rattle.select_calls.specs.Clauses.{MaySelect}
 use Rattle.select_calls.specs.Selects.{HasStood, settles, SelectsSomehow, SelectedAnswer}
-use Rattle.select_calls.specs.Parts.{BlockedAt, MayWait, AllMayWait, AreBlocked, HasClauses, ArePlaced, PlacedSoFar, PlacedAndThen, StopsAt, ResolvedAfter, PlacingsAnswer, PlacesAll, RevokedAnswer, MayStop, Revokes, ComesLate, StopsSo, RevokesPart, StopsPart, StoppedAnswer, WasStopped, StopsBehind, SelectsBehind, WaitedAnswer, Waited}
+use Rattle.select_calls.specs.Parts.{BlockedAt, MayWait, AllMayWait, AreBlocked, HasClauses, ArePlaced, PlacedSoFar, PlacedAndThen, StopsAt, ResolvedAfter, PlacingsAnswer, RevokedAnswer, MayStop, Revokes, ComesLate, StopsSo, RevokesPart, StopsPart, StoppedAnswer, WasStopped, StopsBehind, SelectsBehind, WaitedAnswer, Waited}
 use Rattle.select_calls.proofs.ClausesAt.{split_at, take_all}
 use Rattle.select_calls.proofs.AllTried.{may_later}
 use Rattle.select_calls.proofs.LeftBehind.{left_named, none_left, some_left, behind_more}
 use Rattle.select_calls.proofs.AdmittedIn.{nothing_more, none_in}
 use Rattle.select_calls.proofs.PlacedOrSettled.{HasNo, none_in_both, none_in_first, admits_settle_none, stop_settles_none, revoked_settles}
 
--- the same by another name of the caller
-pub tells_by : (x who : ℕ) (P : List Told → Type 0) (b d : Floor) (j k : List Item) → x ≡ who → Tells x P b d j k → Tells who P b d j k
-tells_by x who P b d j k is t = subst (λ w. Tells w P b d j k) is t
-
 -- ---- what was placed is withdrawn
 
-module _ (who : ℕ) (calls : List Call) (n : ℕ) (asked : SelectAnswer) (held : Option WaitId) (w : WaitId) (a b d : Floor) (i j k : List Item) (is : held ≡ Some w) (y : Bool) (r : RevokedAnswer who w a b i j (Ok y)) where
-  told_revoked : y ≡ true → ToldOnChannels who a b i j (revoked w)
-  told_revoked e = subst (λ z. RevokedAnswer who w a b i j (Ok z)) e r
+told_revoked : {w : WaitId} {a b : SeenOnChannels} {y : Bool} → RevokedAnswer w a b (Ok y) → y ≡ true → ToldOnChannels a b (revoked w)
+told_revoked {w} {a} {b} r e = subst (λ z. RevokedAnswer w a b (Ok z)) e r
 
-  told_late : y ≡ false → ToldOnChannels who a b i j (heard (Late w) ∷ [])
-  told_late e = subst (λ z. RevokedAnswer who w a b i j (Ok z)) e r
+told_late : {w : WaitId} {a b : SeenOnChannels} {y : Bool} → RevokedAnswer w a b (Ok y) → y ≡ false
+    → ToldOnChannels a b (heard (Late w) ∷ [])
+told_late {w} {a} {b} r e = subst (λ z. RevokedAnswer w a b (Ok z)) e r
 
-  pub withdrawn_then : y ≡ true → Tells who (AdmitsIn (take n calls)) b d j k → StopsSo who calls n asked a d i k held None asked
-  withdrawn_then e t = subst (λ h. StopsSo who calls n asked a d i k h None asked) (sym is) (inl (
+module _ (calls : List Call) (n : ℕ) (asked : SelectAnswer) (a : SeenOnChannels) {held : Option WaitId} {w : WaitId} {b d : SeenOnChannels}
+    (is : held ≡ Some w) {y : Bool} (r : RevokedAnswer w a b (Ok y)) where
+  pub withdrawn_then : y ≡ true → Tells (AdmitsIn (take n calls)) b d → StopsSo calls n asked a d held None asked
+  withdrawn_then e t = subst (λ h. StopsSo calls n asked a d h None asked) (sym is) (inl (
     refl,
     refl,
     record {
       told = revoked w ++ t.told;
       goes = record { admits = t.told; admits_are = t.goes; all = refl };
-      left = told_then who a b d i j k (revoked w) t.told (told_revoked e) t.left;
+      left = told_then (told_revoked r e) t.left;
     },
   ))
 
-  pub late_then : y ≡ false → Tells who (AdmitsIn (take n calls)) b d j k → StopsSo who calls n asked a d i k held held answer.Waiting
-  late_then e t = subst (λ h. StopsSo who calls n asked a d i k h h answer.Waiting) (sym is) (inr (
+  pub late_then : y ≡ false → Tells (AdmitsIn (take n calls)) b d → StopsSo calls n asked a d held held answer.Waiting
+  late_then e t = subst (λ h. StopsSo calls n asked a d h h answer.Waiting) (sym is) (inr (
     refl,
     refl,
     record {
       told = heard (Late w) ∷ t.told;
       goes = record { admits = t.told; admits_are = t.goes; all = refl };
-      left = told_then who a b d i j k (heard (Late w) ∷ []) t.told (told_late e) t.left;
+      left = told_then (told_late r e) t.left;
     },
   ))
 
-  pub stopped_withdrawn : y ≡ true → ToldPart who (AdmitsIn (take n calls)) b d j k → StopsPart who calls n a d i k held None
-  stopped_withdrawn e t = subst (λ h. StopsPart who calls n a d i k h None) (sym is) (inl (
+  pub stopped_withdrawn : y ≡ true → ToldPart (AdmitsIn (take n calls)) b d → StopsPart calls n a d held None
+  stopped_withdrawn e t = subst (λ h. StopsPart calls n a d h None) (sym is) (inl (
     refl,
     record {
       told = revoked w ++ t.told;
       goes = record { admits = t.told; part = t.goes; all = refl };
-      left = told_then who a b d i j k (revoked w) t.told (told_revoked e) t.left;
+      left = told_then (told_revoked r e) t.left;
     },
   ))
 
-  pub stopped_late : y ≡ false → ToldPart who (AdmitsIn (take n calls)) b d j k → StopsPart who calls n a d i k held held
-  stopped_late e t = subst (λ h. StopsPart who calls n a d i k h h) (sym is) (inr (
+  pub stopped_late : y ≡ false → ToldPart (AdmitsIn (take n calls)) b d → StopsPart calls n a d held held
+  stopped_late e t = subst (λ h. StopsPart calls n a d h h) (sym is) (inr (
     refl,
-    part_then who who (AdmitsIn (take n calls)) (ComesLate calls n w) (heard (Late w) ∷ []) (λ all r. record { admits = all; admits_are = r; all = refl }) a b d i j k refl (told_late e) t,
+    part_then (AdmitsIn (take n calls)) (ComesLate calls n w) (heard (Late w) ∷ [])
+        (λ all r. record { admits = all; admits_are = r; all = refl }) (told_late r e) t,
   ))
 
 -- it was not tried
-pub stopped_untold : (who : ℕ) (calls : List Call) (n : ℕ) (held : Option WaitId) (w : WaitId) (a b : Floor) (i j : List Item) → held ≡ Some w → IsUntouched a b i j → StopsPart who calls n a b i j held held
-stopped_untold who calls n held w a b i j is h =
+pub stopped_untold : (calls : List Call) (n : ℕ) {held : Option WaitId} {w : WaitId} {a b : SeenOnChannels} → held ≡ Some w
+    → IsUntouched a b
+    → StopsPart calls n a b held held
+stopped_untold calls n {held} {w} {a} {b} is h =
     let none = none_in (take n calls) in
-    subst (λ u. StopsPart who calls n a b i j u u) (sym is) (inr (refl, part_none who (ComesLate calls n w) (heard (Late w) ∷ none.0) (record { admits = none.0; admits_are = none.1; all = refl }) a b i j h.floor h.book))
+    subst (λ u. StopsPart calls n a b u u) (sym is) (inr (
+      refl,
+      part_none (ComesLate calls n w) (heard (Late w) ∷ none.0) (record { admits = none.0; admits_are = none.1; all = refl }) h,
+    ))
 
 -- ---- where the clauses are placed
 
@@ -98,16 +99,19 @@ first_of [] (suc n) x xs e = cc
 first_of (y ∷ ys) zero x xs e = cc
 first_of (y ∷ ys) (suc n) x xs e = let k : y ≡ x = cc in ap Some k
 
-channel_at : (w : WaitId) (xs : List Call) (group : List Told) → Begins w group → Places w 1 xs group → (x : Call) × (ys : List Call) × (xs ≡ x ∷ ys) × (w.channel ≡ channel_of x)
+channel_at : (w : WaitId) (xs : List Call) (group : List Told) → Begins w group → Places w 1 xs group → (x : Call) × (ys : List Call)
+    × (xs ≡ x ∷ ys) × (w.channel ≡ channel_of x)
 channel_at _ _ _ (Begins.send c v q more) p = sent p refl
   where
-    sent : {xs : List Call} {group : List Told} → Places (wait_at c q) 1 xs group → group ≡ placed (wait_at c q) 1 q (sends c v) ∷ more → (x : Call) × (ys : List Call) × (xs ≡ x ∷ ys) × (c ≡ channel_of x)
+    sent : {xs : List Call} {group : List Told} → Places (wait_at c q) 1 xs group → group ≡ placed (wait_at c q) 1 q (sends c v) ∷ more
+        → (x : Call) × (ys : List Call) × (xs ≡ x ∷ ys) × (c ≡ channel_of x)
     sent (Places.none n) e = cc
     sent (Places.one n p (sends d u) calls rest h) e = let k : d ≡ c = cc in (sends d u, calls, refl, sym k)
     sent (Places.one n p (receives d) calls rest h) e = cc
 channel_at _ _ _ (Begins.receive c q more) p = awaited p refl
   where
-    awaited : {xs : List Call} {group : List Told} → Places (wait_at c q) 1 xs group → group ≡ placed (wait_at c q) 1 q (receives c) ∷ more → (x : Call) × (ys : List Call) × (xs ≡ x ∷ ys) × (c ≡ channel_of x)
+    awaited : {xs : List Call} {group : List Told} → Places (wait_at c q) 1 xs group → group ≡ placed (wait_at c q) 1 q (receives c) ∷ more
+        → (x : Call) × (ys : List Call) × (xs ≡ x ∷ ys) × (c ≡ channel_of x)
     awaited (Places.none n) e = cc
     awaited (Places.one n p (sends d u) calls rest h) e = cc
     awaited (Places.one n p (receives d) calls rest h) e = let k : d ≡ c = cc in (receives d, calls, refl, sym k)
@@ -116,260 +120,311 @@ holds_clauses : (who : ℕ) (cs : List (ℕ × ℕ)) (x : Option Wait) → HasCl
 holds_clauses who cs None h = h
 holds_clauses who cs (Some x) h = (h.0, h.2)
 
-pub may_stop : (who : ℕ) (calls : List Call) (n : ℕ) (held : Option WaitId) (x : Answer) (a b : Floor) (i j : List Item) → MaySelect who calls a → PlacedAndThen who calls n held (StopsAt calls n x) a b i j → MayStop who calls n held b
-may_stop who calls n held x a b i j may h = record {
+pub may_stop : (x : Answer) {calls : List Call} {n : ℕ} {held : Option WaitId} {a b : SeenOnChannels} → MaySelect calls a
+    → PlacedAndThen calls n held (StopsAt calls n x) a b → MayStop calls n held b
+may_stop x {calls} {n} {held} {a} {b} may h = record {
   may = later;
   within = let lt = slice_get_within calls n h.goes.0 h.goes.1 in omega (arith, lt);
   wait = λ w e. of_wait held h.placed w e;
 }
   where
-    later : MaySelect who calls b
-    later = may_later who calls a b may h.told.added.same
+    later : MaySelect calls b
+    later = may_later may h.told.who h.told.added.same
 
-    of_wait : (u : Option WaitId) → ArePlaced who calls n u h.group a b → (w : WaitId) → u ≡ Some w → MayCall who w.channel b × HoldsWait who w b
+    of_wait : (u : Option WaitId) → ArePlaced calls n u h.group a b → (w : WaitId) → u ≡ Some w → MayCallChannel w.channel b × HoldsWait w b
     of_wait None p w e = cc
     of_wait (Some u) p w e =
         let same : u ≡ w = cc in
         let at = channel_at u (take n calls) h.group p.first.begins p.first.places in
         let call = later.may_call 0 at.0 (first_of calls n at.0 at.1 at.2) in (
-          subst (λ (y : WaitId). MayCall who y.channel b) same (subst (λ c. MayCall who c b) (sym at.3) call),
-          subst (λ y. IsUnsettledOf who ((replay b.seen).waits y)) same (holds_clauses who _ ((replay b.seen).waits u) p.clauses),
+          subst (λ (y : WaitId). MayCallChannel y.channel b) same (subst (λ c. MayCallChannel c b) (sym at.3) call),
+          subst (λ y. HoldsWait y b) same (holds_clauses b.who _ ((state_in b).waits u) p.clauses),
         )
 
-stood_on : (who : ℕ) (w : WaitId) (a b d : Floor) (acts : List _) → HasStood w a b → Added who acts b d → HasStood w a d
-stood_on who w a b d acts h m = moment_within a a b d (λ s. state_of_wait (s.waits w) ≡ Some Standing) (prefix_self a.seen) h m.longer
+stood_on : (w : WaitId) (a b d : SeenOnChannels) (told : List Told) → HasStood w a b → ToldOnChannels b d told → HasStood w a d
+stood_on w a b d told h m =
+    moment_within a.floor a.floor b.floor d.floor (λ s. state_of_wait (s.waits w) ≡ Some Standing) (prefix_self a.floor.seen) h
+    m.added.longer
 
-module _ (who : ℕ) (calls : List Call) (held : Option WaitId) (a b d : Floor) (i j k : List Item) where
+module _ {calls : List Call} {held : Option WaitId} {a b d : SeenOnChannels} where
   -- all were placed
-  pub waits_on_all : (m : ℕ) → m ≡ length calls → MaySelect who calls a → PlacedSoFar who calls (length calls) held a b i j → Tells who (AdmitsIn (take m calls)) b d j k → WaitedAnswer who calls a d i k held (Ok answer.Waiting)
+  pub waits_on_all : (m : ℕ) → m ≡ length calls → MaySelect calls a → PlacedSoFar calls (length calls) held a b
+      → Tells (AdmitsIn (take m calls)) b d → WaitedAnswer calls a d held (Ok answer.Waiting)
   waits_on_all m is may h t = by_held held refl h.placed
     where
-      by_held : (u : Option WaitId) → held ≡ u → ArePlaced who calls (length calls) u h.group a b → WaitedAnswer who calls a d i k u (Ok answer.Waiting)
+      by_held : (u : Option WaitId) → held ≡ u → ArePlaced calls (length calls) u h.group a b → WaitedAnswer calls a d u (Ok answer.Waiting)
       by_held None e p = let some = may.some in let none = p.0 in absurd (omega (arith, some, none))
       by_held (Some w) e p = (
         w,
         refl,
-        stood_on who w a b d _ p.stood t.left.added,
+        stood_on w a b d _ p.stood t.left,
         record {
           told = h.group ++ t.told;
-          goes = SelectCall.waits w h.group t.told (map blocked calls ++ (h.group ++ t.told)) (subst (λ l. PlacesFirst w l h.group) (take_all calls) p.first) (subst (λ l. AdmitsIn l t.told) (ap (λ z. take z calls) is ∙ take_all calls) t.goes) refl;
-          left = told_then who a b d i j k h.group t.told h.told t.left;
+          goes = SelectCall.waits w h.group t.told (map blocked calls
+              ++ (h.group ++ t.told)) (subst (λ l. PlacesFirst w l h.group) (take_all calls) p.first)
+              (subst (λ l. AdmitsIn l t.told) (ap (λ z. take z calls) is ∙ take_all calls) t.goes) refl;
+          left = told_then h.told t.left;
         },
       )
 
-  pub stops_on_all : (m : ℕ) (e : Memory) → m ≡ length calls → MaySelect who calls a → PlacedSoFar who calls (length calls) held a b i j → ToldPart who (AdmitsIn (take m calls)) b d j k → WaitedAnswer who calls a d i k held (Err e)
+  pub stops_on_all : (m : ℕ) (e : Memory) → m ≡ length calls → MaySelect calls a → PlacedSoFar calls (length calls) held a b
+      → ToldPart (AdmitsIn (take m calls)) b d → WaitedAnswer calls a d held (Err e)
   stops_on_all m e is may h t = by_held held refl h.placed
     where
       same : take m calls ≡ calls
       same = ap (λ z. take z calls) is ∙ take_all calls
 
-      by_held : (u : Option WaitId) → held ≡ u → ArePlaced who calls (length calls) u h.group a b → WaitedAnswer who calls a d i k u (Err e)
+      by_held : (u : Option WaitId) → held ≡ u → ArePlaced calls (length calls) u h.group a b → WaitedAnswer calls a d u (Err e)
       by_held None f p = let some = may.some in let none = p.0 in absurd (omega (arith, some, none))
       by_held (Some w) f p = record {
         told = h.group ++ t.told;
         goes = record {
-          part = prefix_first (SelectsSomehow calls) (map blocked calls ++ (h.group ++ t.told)) t.goes.rest
-              (Waits w, SelectCall.waits w h.group (t.told ++ t.goes.rest) _ (subst (λ l. PlacesFirst w l h.group) (take_all calls) p.first) (subst (λ l. AdmitsIn l (t.told ++ t.goes.rest)) same t.goes.all) (behind_more (map blocked calls) h.group t.told t.goes.rest));
-          left = left_named calls (length calls) w h.group t.told p.first (none_in_first settles t.told t.goes.rest (admits_settle_none (take m calls) (t.told ++ t.goes.rest) t.goes.all));
+          part = prefix_first (SelectsSomehow calls) (map blocked calls ++ (h.group ++ t.told)) t.goes.rest (
+            Waits w,
+            SelectCall.waits w h.group (t.told ++ t.goes.rest) _ (subst (λ l. PlacesFirst w l h.group) (take_all calls) p.first)
+                (subst (λ l. AdmitsIn l (t.told ++ t.goes.rest)) same t.goes.all)
+                (behind_more (map blocked calls) h.group t.told t.goes.rest),
+          );
+          left = left_named calls (length calls) w h.group t.told p.first
+              (none_in_first settles t.told t.goes.rest (admits_settle_none (take m calls) (t.told ++ t.goes.rest) t.goes.all));
         };
-        left = told_then who a b d i j k h.group t.told h.told t.left;
+        left = told_then h.told t.left;
       }
 
   -- the wait was resolved
-  pub waits_resolved : (n : ℕ) → n < length calls → PlacedAndThen who calls n held (ResolvedAfter held) a b i j → Tells who (AdmitsIn (take n calls)) b d j k → WaitedAnswer who calls a d i k held (Ok answer.Waiting)
+  pub waits_resolved : (n : ℕ) → n < length calls → PlacedAndThen calls n held (ResolvedAfter held) a b
+      → Tells (AdmitsIn (take n calls)) b d → WaitedAnswer calls a d held (Ok answer.Waiting)
   waits_resolved n lt h t = by_held held refl h.placed h.goes
     where
-      by_held : (u : Option WaitId) → held ≡ u → ArePlaced who calls n u h.group a b → ResolvedAfter u h.then_told → WaitedAnswer who calls a d i k u (Ok answer.Waiting)
+      by_held : (u : Option WaitId) → held ≡ u → ArePlaced calls n u h.group a b → ResolvedAfter u h.then_told
+          → WaitedAnswer calls a d u (Ok answer.Waiting)
       by_held None e p r = absurd r
       by_held (Some w) e p r = (
         w,
         refl,
-        stood_on who w a b d _ p.stood t.left.added,
+        stood_on w a b d _ p.stood t.left,
         record {
           told = (h.group ++ h.then_told) ++ t.told;
-          goes = SelectCall.resolved w (take n calls) (drop (n + 1) calls) (get_or calls n (receives 0)) h.group t.told (map blocked calls ++ ((h.group ++ h.then_told) ++ t.told)) (split_at calls n (get_or calls n (receives 0)) (slice_get-get_or calls n (receives 0) lt)) p.first t.goes
+          goes = SelectCall.resolved w (take n calls) (drop (n + 1) calls) (get_or calls n (receives 0)) h.group t.told (map blocked calls
+              ++ ((h.group ++ h.then_told) ++ t.told)) (split_at calls n (get_or calls n (receives 0))
+              (slice_get-get_or calls n (receives 0) lt)) p.first t.goes
               (ap (λ l. map blocked calls ++ l) (append_assoc h.group h.then_told t.told ∙ ap (λ l. h.group ++ (l ++ t.told)) r));
-          left = told_then who a b d i j k (h.group ++ h.then_told) t.told h.told t.left;
+          left = told_then h.told t.left;
         },
       )
 
-  pub stops_resolved : (n : ℕ) (e : Memory) → n < length calls → PlacedAndThen who calls n held (ResolvedAfter held) a b i j → ToldPart who (AdmitsIn (take n calls)) b d j k → WaitedAnswer who calls a d i k held (Err e)
+  pub stops_resolved : (n : ℕ) (e : Memory) → n < length calls → PlacedAndThen calls n held (ResolvedAfter held) a b
+      → ToldPart (AdmitsIn (take n calls)) b d → WaitedAnswer calls a d held (Err e)
   stops_resolved n e lt h t = by_held held refl h.placed h.goes
     where
       call : Call
       call = get_or calls n (receives 0)
 
-      by_held : (u : Option WaitId) → held ≡ u → ArePlaced who calls n u h.group a b → ResolvedAfter u h.then_told → WaitedAnswer who calls a d i k u (Err e)
+      by_held : (u : Option WaitId) → held ≡ u → ArePlaced calls n u h.group a b → ResolvedAfter u h.then_told
+          → WaitedAnswer calls a d u (Err e)
       by_held None f p r = absurd r
       by_held (Some w) f p r =
-          let told : (h.group ++ h.then_told) ++ t.told ≡ h.group ++ (heard (MainResolved w) ∷ t.told) = append_assoc h.group h.then_told t.told ∙ ap (λ l. h.group ++ (l ++ t.told)) r in
+          let told : (h.group ++ h.then_told) ++ t.told ≡ h.group
+          ++ (heard (MainResolved w) ∷ t.told) = append_assoc h.group h.then_told t.told ∙ ap (λ l. h.group ++ (l ++ t.told)) r in
           record {
             told = (h.group ++ h.then_told) ++ t.told;
             goes = subst (StopsBehind calls (Some w)) (sym told) (record {
-              part = prefix_first (SelectsSomehow calls) (map blocked calls ++ (h.group ++ (heard (MainResolved w) ∷ t.told))) t.goes.rest
-                  (Waits w, SelectCall.resolved w (take n calls) (drop (n + 1) calls) call h.group (t.told ++ t.goes.rest) _ (split_at calls n call (slice_get-get_or calls n (receives 0) lt)) p.first t.goes.all (behind_more (map blocked calls) h.group (heard (MainResolved w) ∷ t.told) t.goes.rest));
-              left = left_named calls n w h.group (heard (MainResolved w) ∷ t.told) p.first (none_in_first settles t.told t.goes.rest (admits_settle_none (take n calls) (t.told ++ t.goes.rest) t.goes.all));
+              part = prefix_first (SelectsSomehow calls) (map blocked calls ++ (h.group ++ (heard (MainResolved w) ∷ t.told))) t.goes.rest (
+                Waits w,
+                SelectCall.resolved w (take n calls) (drop (n + 1) calls) call h.group (t.told
+                    ++ t.goes.rest) _ (split_at calls n call (slice_get-get_or calls n (receives 0) lt)) p.first t.goes.all
+                    (behind_more (map blocked calls) h.group (heard (MainResolved w) ∷ t.told) t.goes.rest),
+              );
+              left = left_named calls n w h.group (heard (MainResolved w) ∷ t.told) p.first
+                  (none_in_first settles t.told t.goes.rest (admits_settle_none (take n calls) (t.told ++ t.goes.rest) t.goes.all));
             });
-            left = told_then who a b d i j k (h.group ++ h.then_told) t.told h.told t.left;
+            left = told_then h.told t.left;
           }
 
-pub stops_placing : (who : ℕ) (calls : List Call) (held : Option WaitId) (a b : Floor) (i j : List Item) (m : Memory) → MaySelect who calls a → (n : ℕ) × PlacedSoFar who calls n held a b i j → WaitedAnswer who calls a b i j held (Err m)
-stops_placing who calls held a b i j m may h = record { told = h.1.group; goes = by_held held h.1.placed; left = h.1.told }
+pub stops_placing : {calls : List Call} {held : Option WaitId} {a b : SeenOnChannels} (m : Memory) → MaySelect calls a
+    → (n : ℕ) × PlacedSoFar calls n held a b → WaitedAnswer calls a b held (Err m)
+stops_placing {calls} {held} {a} {b} m may h = record { told = h.1.group; goes = by_held held h.1.placed; left = h.1.told }
   where
-    by_held : (u : Option WaitId) → ArePlaced who calls h.0 u h.1.group a b → StopsBehind calls u h.1.group
+    by_held : (u : Option WaitId) → ArePlaced calls h.0 u h.1.group a b → StopsBehind calls u h.1.group
     by_held None p = subst (StopsBehind calls None) (sym p.1) (none_left calls may.some)
     by_held (Some w) p = subst (StopsBehind calls (Some w)) (sym (nothing_more h.1.group)) (some_left calls h.0 w h.1.group p.first)
 
 -- ---- a clause had changed
 
 -- the select answers so, with nothing left of it; or it waits
-abbrev pub StopsOrWaits : ℕ → List Call → Answer → SelectAnswer → Floor → Floor → List Item → List Item → Option WaitId → SelectAnswer → Type 0
-StopsOrWaits who calls x asked old new i i' held' y =
-    ((y ≡ asked) × (held' ≡ None) × Tells who (SelectsBehind calls x) old new i i')
-    ⊎ ((y ≡ answer.Waiting) × ((w : WaitId) × (held' ≡ Some w) × HasStood w old new × Tells who (SelectsBehind calls (Waits w)) old new i i'))
+abbrev pub StopsOrWaits : List Call → Answer → SelectAnswer → SeenOnChannels → SeenOnChannels → Option WaitId → SelectAnswer → Type 0
+StopsOrWaits calls x asked old new held' y =
+    ((y ≡ asked) × (held' ≡ None) × Tells (SelectsBehind calls x) old new)
+    ⊎ ((y ≡ answer.Waiting) × ((w : WaitId) × (held' ≡ Some w) × HasStood w old new × Tells (SelectsBehind calls (Waits w)) old new))
 
-module _ (who : ℕ) (calls : List Call) (n : ℕ) (x : Answer) (asked : SelectAnswer) (held held' : Option WaitId) (a b d : Floor) (i j k : List Item) (h : PlacedAndThen who calls n held (StopsAt calls n x) a b i j) where
+module _ {calls : List Call} {n : ℕ} (x : Answer) (asked : SelectAnswer) {held : Option WaitId} (held' : Option WaitId)
+    {a b : SeenOnChannels} (d : SeenOnChannels)
+    (h : PlacedAndThen calls n held (StopsAt calls n x) a b) where
   abbrev call : Call
   call = h.goes.0
 
   parts : calls ≡ take n calls ++ call ∷ drop (n + 1) calls
   parts = split_at calls n call h.goes.1
 
-  stopped_none : (u : Option WaitId) → u ≡ None → ArePlaced who calls n u h.group a b → Tells who (SelectsBehind calls x) a b i j
+  stopped_none : (u : Option WaitId) → u ≡ None → ArePlaced calls n u h.group a b → Tells (SelectsBehind calls x) a b
   stopped_none None e p = record {
     told = h.group ++ h.then_told;
-    goes = SelectCall.stops_at_first (drop 1 calls) call h.then_told (map blocked calls ++ (h.group ++ h.then_told)) x (subst (λ m. calls ≡ take m calls ++ call ∷ drop (m + 1) calls) p.0 parts) h.goes.2 (ap (λ l. map blocked calls ++ (l ++ h.then_told)) p.1);
+    goes = SelectCall.stops_at_first (drop 1 calls) call h.then_told (map blocked calls
+        ++ (h.group ++ h.then_told)) x (subst (λ m. calls ≡ take m calls ++ call ∷ drop (m + 1) calls) p.0 parts) h.goes.2
+        (ap (λ l. map blocked calls ++ (l ++ h.then_told)) p.1);
     left = h.told;
   }
   stopped_none (Some w) e p = cc
 
-  then_revoked : (w : WaitId) → ArePlaced who calls n (Some w) h.group a b → Tells who (Revokes calls n w) b d j k → Tells who (SelectsBehind calls x) a d i k
+  then_revoked : (w : WaitId) → ArePlaced calls n (Some w) h.group a b → Tells (Revokes calls n w) b d → Tells (SelectsBehind calls x) a d
   then_revoked w p t = record {
     told = (h.group ++ h.then_told) ++ t.told;
-    goes = SelectCall.stops w (take n calls) (drop (n + 1) calls) call h.group h.then_told t.goes.admits (map blocked calls ++ ((h.group ++ h.then_told) ++ t.told)) x parts p.first h.goes.2 t.goes.admits_are
-        (ap (λ l. map blocked calls ++ l) (ap (λ l. (h.group ++ h.then_told) ++ l) t.goes.all ∙ sym (append_assoc (h.group ++ h.then_told) (revoked w) t.goes.admits)));
-    left = told_then who a b d i j k (h.group ++ h.then_told) t.told h.told t.left;
+    goes = SelectCall.stops w (take n calls) (drop (n + 1) calls) call h.group h.then_told t.goes.admits (map blocked calls
+        ++ ((h.group ++ h.then_told) ++ t.told)) x parts p.first h.goes.2 t.goes.admits_are
+        (ap (λ l. map blocked calls ++ l) (ap (λ l. (h.group ++ h.then_told) ++ l) t.goes.all
+        ∙ sym (append_assoc (h.group ++ h.then_told) (revoked w) t.goes.admits)));
+    left = told_then h.told t.left;
   }
 
-  then_late : (w : WaitId) → ArePlaced who calls n (Some w) h.group a b → Tells who (ComesLate calls n w) b d j k → Tells who (SelectsBehind calls (Waits w)) a d i k
+  then_late : (w : WaitId) → ArePlaced calls n (Some w) h.group a b → Tells (ComesLate calls n w) b d
+      → Tells (SelectsBehind calls (Waits w)) a d
   then_late w p t = record {
     told = (h.group ++ h.then_told) ++ t.told;
-    goes = SelectCall.stops_late w (take n calls) (drop (n + 1) calls) call h.group h.then_told t.goes.admits (map blocked calls ++ ((h.group ++ h.then_told) ++ t.told)) x parts p.first h.goes.2 t.goes.admits_are
+    goes = SelectCall.stops_late w (take n calls) (drop (n + 1) calls) call h.group h.then_told t.goes.admits (map blocked calls
+        ++ ((h.group ++ h.then_told) ++ t.told)) x parts p.first h.goes.2 t.goes.admits_are
         (ap (λ l. map blocked calls ++ ((h.group ++ h.then_told) ++ l)) t.goes.all);
-    left = told_then who a b d i j k (h.group ++ h.then_told) t.told h.told t.left;
+    left = told_then h.told t.left;
   }
 
-  pub stops_or_waits : (y : SelectAnswer) → StopsSo who calls n asked b d j k held held' y → StopsOrWaits who calls x asked a d i k held' y
+  pub stops_or_waits : (y : SelectAnswer) → StopsSo calls n asked b d held held' y → StopsOrWaits calls x asked a d held' y
   stops_or_waits y s = by_held held refl h.placed s
     where
-      by_held : (u : Option WaitId) → held ≡ u → ArePlaced who calls n u h.group a b → StopsSo who calls n asked b d j k u held' y → StopsOrWaits who calls x asked a d i k held' y
-      by_held None e p q = inl (q.0, q.1, subst (λ (f : Floor). Tells who (SelectsBehind calls x) a f i k) (sym q.2) (subst (Tells who (SelectsBehind calls x) a b i) (sym q.3) (stopped_none None refl p)))
+      by_held : (u : Option WaitId) → held ≡ u → ArePlaced calls n u h.group a b → StopsSo calls n asked b d u held' y
+          → StopsOrWaits calls x asked a d held' y
+      by_held None e p q = inl (q.0, q.1, subst (Tells (SelectsBehind calls x) a) (sym q.2) (stopped_none None refl p))
       by_held (Some w) e p q =
           ⊎_elim (λ r. inl (r.0, r.1, then_revoked w p r.2))
-          (λ r. inr (r.0, (w, r.1, stood_on who w a b d _ p.stood r.2.left.added, then_late w p r.2))) q
+          (λ r. inr (r.0, (w, r.1, stood_on w a b d _ p.stood r.2.left, then_late w p r.2))) q
 
   -- without memory, what was placed was withdrawn
-  part_revoked : (w : WaitId) → ArePlaced who calls n (Some w) h.group a b → Tells who (RevokesPart calls n w) b d j k → Tells who (StopsBehind calls None) a d i k
+  part_revoked : (w : WaitId) → ArePlaced calls n (Some w) h.group a b → Tells (RevokesPart calls n w) b d
+      → Tells (StopsBehind calls None) a d
   part_revoked w p t =
-      let told : (h.group ++ h.then_told) ++ t.told ≡ (h.group ++ h.then_told) ++ (revoked w ++ t.goes.admits) = ap (λ l. (h.group ++ h.then_told) ++ l) t.goes.all in
+      let told : (h.group ++ h.then_told) ++ t.told ≡ (h.group ++ h.then_told)
+      ++ (revoked w ++ t.goes.admits) = ap (λ l. (h.group ++ h.then_told) ++ l) t.goes.all in
       record {
         told = (h.group ++ h.then_told) ++ t.told;
         goes = subst (StopsBehind calls None) (sym told) (record {
-          part = prefix_first (SelectsSomehow calls) (map blocked calls ++ ((h.group ++ h.then_told) ++ (revoked w ++ t.goes.admits))) t.goes.part.rest (
-            x,
-            SelectCall.stops w (take n calls) (drop (n + 1) calls) call h.group h.then_told (t.goes.admits ++ t.goes.part.rest) _ x parts p.first h.goes.2 t.goes.part.all
-                (behind_more (map blocked calls) (h.group ++ h.then_told) (revoked w ++ t.goes.admits) t.goes.part.rest ∙ ap (λ l. map blocked calls ++ l) (sym (append_assoc (h.group ++ h.then_told) (revoked w) (t.goes.admits ++ t.goes.part.rest)))),
-          );
-          left = inr (subst (λ l. list_any settles l ≡ true) (append_assoc (map blocked calls) (h.group ++ h.then_told) (revoked w ++ t.goes.admits)) (revoked_settles w (map blocked calls ++ (h.group ++ h.then_told)) t.goes.admits));
+          part = prefix_first (SelectsSomehow calls) (map blocked calls
+              ++ ((h.group ++ h.then_told) ++ (revoked w ++ t.goes.admits))) t.goes.part.rest (
+                x,
+                SelectCall.stops w (take n calls) (drop (n + 1) calls) call h.group h.then_told (t.goes.admits
+                    ++ t.goes.part.rest) _ x parts p.first h.goes.2 t.goes.part.all
+                    (behind_more (map blocked calls) (h.group ++ h.then_told) (revoked w ++ t.goes.admits) t.goes.part.rest
+                    ∙ ap (λ l. map blocked calls ++ l) (sym (append_assoc (h.group ++ h.then_told) (revoked w) (t.goes.admits
+                    ++ t.goes.part.rest)))),
+              );
+          left = inr (subst (λ l. list_any settles l ≡ true) (append_assoc (map blocked calls) (h.group ++ h.then_told) (revoked w
+              ++ t.goes.admits)) (revoked_settles w (map blocked calls ++ (h.group ++ h.then_told)) t.goes.admits));
         });
-        left = told_then who a b d i j k (h.group ++ h.then_told) t.told h.told t.left;
+        left = told_then h.told t.left;
       }
 
   -- or that came too late
-  part_late : (w : WaitId) → ArePlaced who calls n (Some w) h.group a b → ToldPart who (ComesLate calls n w) b d j k → Tells who (StopsBehind calls (Some w)) a d i k
+  part_late : (w : WaitId) → ArePlaced calls n (Some w) h.group a b → ToldPart (ComesLate calls n w) b d
+      → Tells (StopsBehind calls (Some w)) a d
   part_late w p t =
       let late : ComesLate calls n w (t.told ++ t.goes.rest) = t.goes.all in
-      let quiet : HasNo settles (t.told ++ t.goes.rest) = ap (list_any settles) late.all ∙ admits_settle_none (take n calls) late.admits late.admits_are in
+      let quiet : HasNo settles (t.told ++ t.goes.rest) = ap (list_any settles) late.all
+      ∙ admits_settle_none (take n calls) late.admits late.admits_are in
       record {
         told = (h.group ++ h.then_told) ++ t.told;
         goes = subst (StopsBehind calls (Some w)) (sym (append_assoc h.group h.then_told t.told)) (record {
           part = prefix_first (SelectsSomehow calls) (map blocked calls ++ (h.group ++ (h.then_told ++ t.told))) t.goes.rest (
             Waits w,
-            SelectCall.stops_late w (take n calls) (drop (n + 1) calls) call h.group h.then_told late.admits _ x parts p.first h.goes.2 late.admits_are
+            SelectCall.stops_late w (take n calls) (drop (n + 1) calls) call h.group h.then_told late.admits _ x parts p.first h.goes.2
+                late.admits_are
                 (behind_more (map blocked calls) h.group (h.then_told ++ t.told) t.goes.rest
-                ∙ ap (λ l. map blocked calls ++ l) (ap (λ l. h.group ++ l) (append_assoc h.then_told t.told t.goes.rest ∙ ap (λ l. h.then_told ++ l) late.all) ∙ sym (append_assoc h.group h.then_told (heard (Late w) ∷ late.admits)))),
+                ∙ ap (λ l. map blocked calls ++ l) (ap (λ l. h.group ++ l) (append_assoc h.then_told t.told t.goes.rest
+                ∙ ap (λ l. h.then_told ++ l) late.all) ∙ sym (append_assoc h.group h.then_told (heard (Late w) ∷ late.admits)))),
           );
-          left = left_named calls n w h.group (h.then_told ++ t.told) p.first (none_in_both settles h.then_told t.told (stop_settles_none call h.then_told x h.goes.2) (none_in_first settles t.told t.goes.rest quiet));
+          left = left_named calls n w h.group (h.then_told ++ t.told) p.first
+              (none_in_both settles h.then_told t.told (stop_settles_none call h.then_told x h.goes.2)
+              (none_in_first settles t.told t.goes.rest quiet));
         });
-        left = told_then who a b d i j k (h.group ++ h.then_told) t.told h.told t.left;
+        left = told_then h.told t.left;
       }
 
-  pub stops_stopping : (m : Memory) → StoppedAnswer who calls n asked b d j k held held' (Err m) → WaitedAnswer who calls a d i k held' (Err m)
+  pub stops_stopping : (m : Memory) → StoppedAnswer calls n asked b d held held' (Err m) → WaitedAnswer calls a d held' (Err m)
   stops_stopping m s = by_held held h.placed s
     where
-      by_held : (u : Option WaitId) → ArePlaced who calls n u h.group a b → StopsPart who calls n b d j k u held' → WaitedAnswer who calls a d i k held' (Err m)
+      by_held : (u : Option WaitId) → ArePlaced calls n u h.group a b → StopsPart calls n b d u held' → WaitedAnswer calls a d held' (Err m)
       by_held None p q = absurd q
       by_held (Some w) p q =
-          ⊎_elim (λ r. subst (λ u. WaitedAnswer who calls a d i k u (Err m)) (sym r.0) (part_revoked w p r.1))
-          (λ r. subst (λ u. WaitedAnswer who calls a d i k u (Err m)) (sym r.0) (part_late w p r.1)) q
+          ⊎_elim (λ r. subst (λ u. WaitedAnswer calls a d u (Err m)) (sym r.0) (part_revoked w p r.1))
+          (λ r. subst (λ u. WaitedAnswer calls a d u (Err m)) (sym r.0) (part_late w p r.1)) q
 
 -- ---- by cases on the answer
 
-again_or_waits : (who : ℕ) (calls : List Call) (a d : Floor) (i k : List Item) (held' : Option WaitId) (y : SelectAnswer) → (a.alone ≡ true → ((n : ℕ) (call : Call) → slice_get calls n ≡ Some call → BlockedAt a.shape call (replay a.seen)) → ⊥)
-    → StopsOrWaits who calls LooksAgain answer.Again a d i k held' y → WaitedAnswer who calls a d i k held' (Ok y)
-again_or_waits who calls a d i k held' y not_alone s =
-    ⊎_elim (λ r. subst (λ z. WaitedAnswer who calls a d i k held' (Ok z)) (sym r.0) (r.1, r.2, not_alone))
-    (λ r. subst (λ z. WaitedAnswer who calls a d i k held' (Ok z)) (sym r.0) r.1) s
+again_or_waits : (calls : List Call) (a d : SeenOnChannels) (held' : Option WaitId) (y : SelectAnswer)
+    → (a.floor.alone ≡ true
+    → ((n : ℕ) (call : Call) → slice_get calls n ≡ Some call → BlockedAt a.floor.shape call (state_in a)) → ⊥)
+    → StopsOrWaits calls LooksAgain answer.Again a d held' y → WaitedAnswer calls a d held' (Ok y)
+again_or_waits calls a d held' y not_alone s =
+    ⊎_elim (λ r. subst (λ z. WaitedAnswer calls a d held' (Ok z)) (sym r.0) (r.1, r.2, not_alone))
+    (λ r. subst (λ z. WaitedAnswer calls a d held' (Ok z)) (sym r.0) r.1) s
 
-spent_or_waits : (who : ℕ) (calls : List Call) (a d : Floor) (i k : List Item) (held' : Option WaitId) (y : SelectAnswer) → StopsOrWaits who calls NoPlace answer.Spent a d i k held' y → WaitedAnswer who calls a d i k held' (Ok y)
-spent_or_waits who calls a d i k held' y s =
-    ⊎_elim (λ r. subst (λ z. WaitedAnswer who calls a d i k held' (Ok z)) (sym r.0) (r.1, r.2))
-    (λ r. subst (λ z. WaitedAnswer who calls a d i k held' (Ok z)) (sym r.0) r.1) s
+spent_or_waits : (calls : List Call) (a d : SeenOnChannels) (held' : Option WaitId) (y : SelectAnswer)
+    → StopsOrWaits calls NoPlace answer.Spent a d held' y → WaitedAnswer calls a d held' (Ok y)
+spent_or_waits calls a d held' y s =
+    ⊎_elim (λ r. subst (λ z. WaitedAnswer calls a d held' (Ok z)) (sym r.0) (r.1, r.2))
+    (λ r. subst (λ z. WaitedAnswer calls a d held' (Ok z)) (sym r.0) r.1) s
 
-pub changed_then : (who : ℕ) (calls : List Call) (n : ℕ) (held held' : Option WaitId) (a b d : Floor) (i j k : List Item) (r : Result SelectAnswer Memory) → PlacingsAnswer who calls a b i j held (Ok (placings.Changed n)) → WasStopped who calls n answer.Again b d j k held held' r → Waited who calls a d i k held' r
-changed_then who calls n held held' a b d i j k (Ok y) h s = record { answer = again_or_waits who calls a d i k held' y h.1 (stops_or_waits who calls n LooksAgain answer.Again held held' a b d i j k h.0 y s.answer) }
-changed_then who calls n held held' a b d i j k (Err m) h s = record { answer = stops_stopping who calls n LooksAgain answer.Again held held' a b d i j k h.0 m s.answer }
+pub changed_then : {n : ℕ} {calls : List Call} {held held' : Option WaitId} {a b d : SeenOnChannels} {r : Result SelectAnswer Memory}
+    → PlacingsAnswer calls a b held (Ok (placings.Changed n)) → WasStopped calls n answer.Again b d held held' r → Waited calls a d held' r
+changed_then {n} {calls} {held} {held'} {a} {b} {d} {r = Ok y} h s =
+    record { answer = again_or_waits calls a d held' y h.1 (stops_or_waits LooksAgain answer.Again held' d h.0 y s.answer) }
+changed_then {n} {calls} {held} {held'} {a} {b} {d} {r = Err m} h s =
+    record { answer = stops_stopping LooksAgain answer.Again held' d h.0 m s.answer }
 
-pub spent_then : (who : ℕ) (calls : List Call) (n : ℕ) (held held' : Option WaitId) (a b d : Floor) (i j k : List Item) (r : Result SelectAnswer Memory) → PlacingsAnswer who calls a b i j held (Ok (placings.Spent n)) → WasStopped who calls n answer.Spent b d j k held held' r → Waited who calls a d i k held' r
-spent_then who calls n held held' a b d i j k (Ok y) h s = record { answer = spent_or_waits who calls a d i k held' y (stops_or_waits who calls n NoPlace answer.Spent held held' a b d i j k h y s.answer) }
-spent_then who calls n held held' a b d i j k (Err m) h s = record { answer = stops_stopping who calls n NoPlace answer.Spent held held' a b d i j k h m s.answer }
+pub spent_then : {n : ℕ} {calls : List Call} {held held' : Option WaitId} {a b d : SeenOnChannels} {r : Result SelectAnswer Memory}
+    → PlacingsAnswer calls a b held (Ok (placings.Spent n)) → WasStopped calls n answer.Spent b d held held' r → Waited calls a d held' r
+spent_then {n} {calls} {held} {held'} {a} {b} {d} {r = Ok y} h s =
+    record { answer = spent_or_waits calls a d held' y (stops_or_waits NoPlace answer.Spent held' d h y s.answer) }
+spent_then {n} {calls} {held} {held'} {a} {b} {d} {r = Err m} h s =
+    record { answer = stops_stopping NoPlace answer.Spent held' d h m s.answer }
 
 -- ---- behind the tries
 
-pub all_wait : (who : ℕ) (calls : List Call) (a b : Floor) (i j : List Item) → AreBlocked who calls (length calls) a b i j → AllMayWait b.shape calls
-all_wait who calls a b i j h n call e =
+pub all_wait : {calls : List Call} {a b : SeenOnChannels} → AreBlocked calls (length calls) a b → AllMayWait b.floor.shape calls
+all_wait {calls} {a} {b} h n call e =
     let lt = slice_get_within calls n call e in
     subst (λ (s : Shape). MayWait s call) (sym h.told.added.same.shape) (h.wait n call lt e)
 
-module _ (who : ℕ) (calls : List Call) (held : Option WaitId) (a b d : Floor) (i j k : List Item) (h : AreBlocked who calls (length calls) a b i j) where
-  before : ToldOnChannels who a b i j (map blocked calls)
-  before = subst (λ l. ToldOnChannels who a b i j (map blocked l)) (take_all calls) h.told
+module _ {calls : List Call} (held : Option WaitId) {a b : SeenOnChannels} (d : SeenOnChannels) (h : AreBlocked calls (length calls) a b)
+  where
+    before : ToldOnChannels a b (map blocked calls)
+    before = subst (λ l. ToldOnChannels a b (map blocked l)) (take_all calls) h.told
 
-  behind : (x : Answer) → Tells who (SelectsBehind calls x) b d j k → Tells who (λ told. SelectCall calls told x) a d i k
-  behind x t = record { told = map blocked calls ++ t.told; goes = t.goes; left = told_then who a b d i j k (map blocked calls) t.told before t.left }
+    behind : (x : Answer) → Tells (SelectsBehind calls x) b d → Tells (λ told. SelectCall calls told x) a d
+    behind x t = record { told = map blocked calls ++ t.told; goes = t.goes; left = told_then before t.left }
 
-  all_blocked : a.alone ≡ true → (n : ℕ) (call : Call) → slice_get calls n ≡ Some call → BlockedAt b.shape call (replay b.seen)
-  all_blocked alone n call e = let lt = slice_get_within calls n call e in subst (λ (s : Shape). BlockedAt s call (replay b.seen)) (sym h.told.added.same.shape) (h.still alone n call lt e)
+    all_blocked : a.floor.alone ≡ true → (n : ℕ) (call : Call) → slice_get calls n ≡ Some call → BlockedAt b.floor.shape call (state_in b)
+    all_blocked alone n call e = let lt = slice_get_within calls n call e
+        in subst (λ (s : Shape). BlockedAt s call (state_in b)) (sym h.told.added.same.shape) (h.still alone n call lt e)
 
-  waited_then : (r : Result SelectAnswer Memory) → WaitedAnswer who calls b d j k held r → SelectedAnswer who calls a d i k held r
-  waited_then (Ok (answer.Chosen n o)) w = absurd w
-  waited_then (Ok answer.Waiting) w = (w.0, w.1, moment_within a b d d (λ s. state_of_wait (s.waits w.0) ≡ Some Standing) before.added.longer w.2 (prefix_self d.seen), behind (Waits w.0) w.3)
-  waited_then (Ok answer.Again) w = (w.0, λ alone. w.2 (before.added.same.alone ∙ alone) (all_blocked alone), behind LooksAgain w.1)
-  waited_then (Ok answer.Spent) w = (w.0, behind NoPlace w.1)
-  waited_then (Err m) w = record { told = map blocked calls ++ w.told; goes = w.goes; left = told_then who a b d i j k (map blocked calls) w.told before w.left }
+    waited_then : (r : Result SelectAnswer Memory) → WaitedAnswer calls b d held r → SelectedAnswer calls a d held r
+    waited_then (Ok (answer.Chosen n o)) w = absurd w
+    waited_then (Ok answer.Waiting) w = (
+      w.0,
+      w.1,
+      moment_within a.floor b.floor d.floor d.floor
+          (λ s. state_of_wait (s.waits w.0) ≡ Some Standing) before.added.longer w.2 (prefix_self d.floor.seen),
+      behind (Waits w.0) w.3,
+    )
+    waited_then (Ok answer.Again) w = (w.0, λ alone. w.2 (before.added.same.alone ∙ alone) (all_blocked alone), behind LooksAgain w.1)
+    waited_then (Ok answer.Spent) w = (w.0, behind NoPlace w.1)
+    waited_then (Err m) w = record { told = map blocked calls ++ w.told; goes = w.goes; left = told_then before w.left }
 
-  pub selected_then : (r : Result SelectAnswer Memory) → Waited who calls b d j k held r → SelectedAnswer who calls a d i k held r
-  selected_then r w = waited_then r w.answer
-
--- the same by other names
-pub places_by : (x who : ℕ) (calls : List Call) (a b : Floor) (i j : List Item) (held : Option WaitId) (y z : Placings) → x ≡ who → y ≡ z → PlacesAll x calls a b i j held (Ok y) → PlacingsAnswer who calls a b i j held (Ok z)
-places_by x who calls a b i j held y z is e t = subst (λ w. PlacingsAnswer w calls a b i j held (Ok z)) is (subst (λ (q : Placings). PlacingsAnswer x calls a b i j held (Ok q)) e t.answer)
-
-pub stopped_by : (x who : ℕ) (calls : List Call) (n : ℕ) (asked : SelectAnswer) (b d : Floor) (j k : List Item) (held held' : Option WaitId) (r : Result SelectAnswer Memory) → x ≡ who → WasStopped x calls n asked b d j k held held' r → WasStopped who calls n asked b d j k held held' r
-stopped_by x who calls n asked b d j k held held' r is t = subst (λ w. WasStopped w calls n asked b d j k held held' r) is t
-
-pub waited_by : (x who : ℕ) (calls : List Call) (b d : Floor) (j k : List Item) (held : Option WaitId) (r : Result SelectAnswer Memory) → x ≡ who → Waited x calls b d j k held r → Waited who calls b d j k held r
-waited_by x who calls b d j k held r is t = subst (λ w. Waited w calls b d j k held r) is t
-
-pub stop_by : (x who : ℕ) (calls : List Call) (n : ℕ) (held : Option WaitId) (b : Floor) → x ≡ who → MayStop who calls n held b → MayStop x calls n held b
-stop_by x who calls n held b is m = subst (λ w. MayStop w calls n held b) (sym is) m
+    pub selected_then : (r : Result SelectAnswer Memory) → Waited calls b d held r → SelectedAnswer calls a d held r
+    selected_then r w = waited_then r w.answer

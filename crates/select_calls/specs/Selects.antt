@@ -7,11 +7,11 @@ use Rattle.channel_model.specs.declared.acts.Act.TheVariants.{Offer, Await, Sett
 use Rattle.channel_model.specs.declared.acts.ChannelNote.TheVariants.{Made, SendClosed, ReceiveClosed}
 use Rattle.channel_model.specs.declared.floor.WaitState.TheVariants.{Standing}
 use Rattle.channel_model.specs.Answers.{state_of_wait}
-use Rattle.channel_model.specs.Floors.{Floor, AtStep}
-use Rattle.note_book.specs.declared.book.Item.{Item}
+use Rattle.channel_model.specs.Floors.{AtStep}
 use Rattle.note_book.specs.declared.book.Item.TheVariants as item
 use Rattle.call_meaning.specs.Telling.{Told, note, heard}
 use Rattle.call_meaning.specs.Prefixes.{PrefixOf}
+use Rattle.call_meaning.specs.Seen.{SeenOnChannels}
 use Rattle.call_meaning.specs.ChannelCalls.{Call, Answer, sends, receives, Done, Got, Waits, LooksAgain, NoPlace, AtOnce, blocked, PlacesFirst, SelectCall}
 use Rattle.channel_calls.specs.Calls.{Tells}
 use Rattle.select_calls.specs.declared.clause.Outcome.{Outcome}
@@ -38,8 +38,8 @@ pub record Chooses (calls : List Call) (k : ℕ) (outcome : Outcome) (told : Lis
   pub all : told ≡ map blocked passed ++ group
 
 -- the wait stood at a moment of the call
-abbrev pub HasStood : WaitId → Floor → Floor → Type 0
-HasStood w old new = AtStep old new (λ s. state_of_wait (s.waits w) ≡ Some Standing)
+abbrev pub HasStood : WaitId → SeenOnChannels → SeenOnChannels → Type 0
+HasStood w old new = AtStep old.floor new.floor (λ s. state_of_wait (s.waits w) ≡ Some Standing)
 
 -- ---- without memory
 
@@ -78,16 +78,16 @@ pub record StopsSelect (calls : List Call) (held : Option WaitId) (told : List T
   pub part : PrefixOf (SelectsSomehow calls) told
   pub left : NamesLeft calls held told
 
-abbrev pub SelectedAnswer : ℕ → List Call → Floor → Floor → List Item → List Item → Option WaitId → Result SelectAnswer Memory
+abbrev pub SelectedAnswer : List Call → SeenOnChannels → SeenOnChannels → Option WaitId → Result SelectAnswer Memory
     → Type 0
-SelectedAnswer who calls old new i i' held (Ok (answer.Chosen k outcome)) =
-    (held ≡ None) × Tells who (Chooses calls k outcome) old new i i'
-SelectedAnswer who calls old new i i' held (Ok answer.Waiting) =
-    (w : WaitId) × (held ≡ Some w) × HasStood w old new × Tells who (λ told. SelectCall calls told (Waits w)) old new i i'
+SelectedAnswer calls old new held (Ok (answer.Chosen k outcome)) =
+    (held ≡ None) × Tells (Chooses calls k outcome) old new
+SelectedAnswer calls old new held (Ok answer.Waiting) =
+    (w : WaitId) × (held ≡ Some w) × HasStood w old new × Tells (λ told. SelectCall calls told (Waits w)) old new
 -- it looks again only if others make entries too
-SelectedAnswer who calls old new i i' held (Ok answer.Again) =
-    (held ≡ None) × (old.alone ≡ true → ⊥) × Tells who (λ told. SelectCall calls told LooksAgain) old new i i'
-SelectedAnswer who calls old new i i' held (Ok answer.Spent) =
-    (held ≡ None) × Tells who (λ told. SelectCall calls told NoPlace) old new i i'
+SelectedAnswer calls old new held (Ok answer.Again) =
+    (held ≡ None) × (old.floor.alone ≡ true → ⊥) × Tells (λ told. SelectCall calls told LooksAgain) old new
+SelectedAnswer calls old new held (Ok answer.Spent) =
+    (held ≡ None) × Tells (λ told. SelectCall calls told NoPlace) old new
 -- the entries made so far stand and are noted
-SelectedAnswer who calls old new i i' held (Err m) = Tells who (StopsSelect calls held) old new i i'
+SelectedAnswer calls old new held (Err m) = Tells (StopsSelect calls held) old new

@@ -2,10 +2,10 @@
 
 ghost use Rattle.std.specs.Prelude.{◌≡◌, ◌<◌, ◌≤◌, true, None, length, take};
 ghost use Rattle.channel_model.specs.Channels.{kind_at, suspends};
-ghost use Rattle.channel_model.specs.Floors.{MayCall};
 ghost use Rattle.channel_model.specs.Registers.{main_at, MayRegister};
+ghost use Rattle.call_meaning.specs.Seen.{MayCallChannel};
 ghost use Rattle.call_meaning.specs.ChannelCalls.{sends, receives};
-ghost use Rattle.channel_calls.specs.Calls.{SameCaller, HoldsWait};
+ghost use Rattle.channel_calls.specs.Calls.{SameCaller, seen, HoldsWait};
 ghost use Rattle.select_calls.specs.Clauses.{calls_of, MaySelect};
 ghost use Rattle.select_calls.specs.Parts.{AllMayWait, MayPlaceAt, NotesResolved, PlacedAnswer, PlacesAt, PlacesAll, RevokedAnswer, AdmitsAt, AdmittedInAnswer};
 
@@ -54,12 +54,11 @@ fn place_send<F: ChannelFloor, B: NoteBook, W: Wakes>(
     c: ChannelId,
     value: Value,
 ) -> Result<Placed, Memory>
-    requires can { MayCall x.old.who c (F.view x.old.floor.now) }
+    requires can { MayCallChannel c (seen F.view B.items x.old) }
     requires kind { suspends (kind_at (F.view x.old.floor.now).shape c) ≡ true }
     requires joins { MayRegister x.old.who clause c main (F.view x.old.floor.now) }
     ensures same { SameCaller F.anchor x.old x.new }
-    ensures answer { PlacedAnswer x.old.who (sends c value) main clause (F.view x.old.floor.now) (F.view x.new.floor.now)
-        (B.items x.old.book.now) (B.items x.new.book.now) result }
+    ensures answer { PlacedAnswer (sends c value) main clause (seen F.view B.items x.old) (seen F.view B.items x.new) result }
 {
     if let Err(memory) = make_room(x.floor, x.book, 1) {
         return Err(memory);
@@ -115,11 +114,10 @@ fn place_receive<F: ChannelFloor, B: NoteBook, W: Wakes>(
     clause: u8,
     c: ChannelId,
 ) -> Result<Placed, Memory>
-    requires can { MayCall x.old.who c (F.view x.old.floor.now) }
+    requires can { MayCallChannel c (seen F.view B.items x.old) }
     requires joins { MayRegister x.old.who clause c main (F.view x.old.floor.now) }
     ensures same { SameCaller F.anchor x.old x.new }
-    ensures answer { PlacedAnswer x.old.who (receives c) main clause (F.view x.old.floor.now) (F.view x.new.floor.now)
-        (B.items x.old.book.now) (B.items x.new.book.now) result }
+    ensures answer { PlacedAnswer (receives c) main clause (seen F.view B.items x.old) (seen F.view B.items x.new) result }
 {
     if let Err(memory) = make_room(x.floor, x.book, 1) {
         return Err(memory);
@@ -164,10 +162,9 @@ fn place_at<F: ChannelFloor, B: NoteBook, W: Wakes>(
     i: usize,
     main: Option<WaitId>,
 ) -> Result<Placed, Memory>
-    requires may { MayPlaceAt x.old.who (calls_of clauses.now) i main (F.view x.old.floor.now) }
+    requires may { MayPlaceAt (calls_of clauses.now) i main (seen F.view B.items x.old) }
     ensures same { SameCaller F.anchor x.old x.new }
-    ensures answer { PlacesAt x.old.who (calls_of clauses.now) i main (F.view x.old.floor.now) (F.view x.new.floor.now)
-        (B.items x.old.book.now) (B.items x.new.book.now) result }
+    ensures answer { PlacesAt (calls_of clauses.now) i main (seen F.view B.items x.old) (seen F.view B.items x.new) result }
 {
     let number = i as u8 + 1;
     match clauses[i] {
@@ -182,12 +179,11 @@ pub(crate) fn place_all<F: ChannelFloor, B: NoteBook, W: Wakes>(
     clauses: &[Clause],
     held: &mut Option<WaitId>,
 ) -> Result<Placings, Memory>
-    requires may { MaySelect x.old.who (calls_of clauses.now) (F.view x.old.floor.now) }
+    requires may { MaySelect (calls_of clauses.now) (seen F.view B.items x.old) }
     requires waits { AllMayWait (F.view x.old.floor.now).shape (calls_of clauses.now) }
     requires none { held.old ≡ None }
     ensures same { SameCaller F.anchor x.old x.new }
-    ensures all { PlacesAll x.old.who (calls_of clauses.now) (F.view x.old.floor.now) (F.view x.new.floor.now)
-        (B.items x.old.book.now) (B.items x.new.book.now) held.new result }
+    ensures all { PlacesAll (calls_of clauses.now) (seen F.view B.items x.old) (seen F.view B.items x.new) held.new result }
 {
     let mut i = 0usize;
     while i < clauses.len() {
@@ -210,11 +206,10 @@ pub(crate) fn revoke<F: ChannelFloor, B: NoteBook, W: Wakes>(
     x: &mut Caller<'_, '_, '_, F, B, W>,
     w: WaitId,
 ) -> Result<bool, Memory>
-    requires can { MayCall x.old.who w.channel (F.view x.old.floor.now) }
-    requires holds { HoldsWait x.old.who w (F.view x.old.floor.now) }
+    requires can { MayCallChannel w.channel (seen F.view B.items x.old) }
+    requires holds { HoldsWait w (seen F.view B.items x.old) }
     ensures same { SameCaller F.anchor x.old x.new }
-    ensures answer { RevokedAnswer x.old.who w (F.view x.old.floor.now) (F.view x.new.floor.now)
-        (B.items x.old.book.now) (B.items x.new.book.now) result }
+    ensures answer { RevokedAnswer w (seen F.view B.items x.old) (seen F.view B.items x.new) result }
 {
     if let Err(memory) = make_room(x.floor, x.book, 2) {
         return Err(memory);
@@ -243,11 +238,10 @@ pub(crate) fn admit_in<F: ChannelFloor, B: NoteBook, W: Wakes>(
     clauses: &[Clause],
     count: usize,
 ) -> Result<(), Memory>
-    requires may { MaySelect x.old.who (calls_of clauses.now) (F.view x.old.floor.now) }
+    requires may { MaySelect (calls_of clauses.now) (seen F.view B.items x.old) }
     requires within { count ≤ length clauses.now }
     ensures same { SameCaller F.anchor x.old x.new }
-    ensures answer { AdmittedInAnswer x.old.who (take count (calls_of clauses.now)) (F.view x.old.floor.now)
-        (F.view x.new.floor.now) (B.items x.old.book.now) (B.items x.new.book.now) result }
+    ensures answer { AdmittedInAnswer (take count (calls_of clauses.now)) (seen F.view B.items x.old) (seen F.view B.items x.new) result }
 {
     let mut i = 0usize;
     while i < count {
@@ -265,11 +259,10 @@ fn admit_at<F: ChannelFloor, B: NoteBook, W: Wakes>(
     clauses: &[Clause],
     i: usize,
 ) -> Result<(), Memory>
-    requires may { MaySelect x.old.who (calls_of clauses.now) (F.view x.old.floor.now) }
+    requires may { MaySelect (calls_of clauses.now) (seen F.view B.items x.old) }
     requires there { i < length clauses.now }
     ensures same { SameCaller F.anchor x.old x.new }
-    ensures answer { AdmitsAt x.old.who (calls_of clauses.now) i (F.view x.old.floor.now) (F.view x.new.floor.now)
-        (B.items x.old.book.now) (B.items x.new.book.now) result }
+    ensures answer { AdmitsAt (calls_of clauses.now) i (seen F.view B.items x.old) (seen F.view B.items x.new) result }
 {
     match clauses[i] {
         Clause::OnSend { c, value: _ } => x.admit_all(c),

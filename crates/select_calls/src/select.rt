@@ -1,7 +1,7 @@
 //! The whole select.
 
 ghost use Rattle.std.specs.Prelude.{◌≡◌, None};
-ghost use Rattle.channel_calls.specs.Calls.{SameCaller};
+ghost use Rattle.channel_calls.specs.Calls.{SameCaller, seen};
 ghost use Rattle.select_calls.specs.Clauses.{calls_of, MaySelect};
 ghost use Rattle.select_calls.specs.Parts.{AllMayWait, Waited, MayStop, WasStopped};
 ghost use Rattle.select_calls.specs.Selects.{SelectedAnswer};
@@ -23,11 +23,10 @@ pub fn select_poll<F: ChannelFloor, B: NoteBook, W: Wakes>(
     clauses: &[Clause],
     held: &mut Option<WaitId>,
 ) -> Result<SelectAnswer, Memory>
-    requires may { MaySelect x.old.who (calls_of clauses.now) (F.view x.old.floor.now) }
+    requires may { MaySelect (calls_of clauses.now) (seen F.view B.items x.old) }
     requires none { held.old ≡ None }
     ensures same { SameCaller F.anchor x.old x.new }
-    ensures answer { SelectedAnswer x.old.who (calls_of clauses.now) (F.view x.old.floor.now) (F.view x.new.floor.now)
-        (B.items x.old.book.now) (B.items x.new.book.now) held.new result }
+    ensures answer { SelectedAnswer (calls_of clauses.now) (seen F.view B.items x.old) (seen F.view B.items x.new) held.new result }
 {
     match try_all(x, clauses) {
         Ok(Tries::Chosen(k, outcome)) => Ok(SelectAnswer::Chosen(k, outcome)),
@@ -43,12 +42,11 @@ fn wait_on_all<F: ChannelFloor, B: NoteBook, W: Wakes>(
     clauses: &[Clause],
     held: &mut Option<WaitId>,
 ) -> Result<SelectAnswer, Memory>
-    requires may { MaySelect x.old.who (calls_of clauses.now) (F.view x.old.floor.now) }
+    requires may { MaySelect (calls_of clauses.now) (seen F.view B.items x.old) }
     requires waits { AllMayWait (F.view x.old.floor.now).shape (calls_of clauses.now) }
     requires none { held.old ≡ None }
     ensures same { SameCaller F.anchor x.old x.new }
-    ensures waited { Waited x.old.who (calls_of clauses.now) (F.view x.old.floor.now) (F.view x.new.floor.now)
-        (B.items x.old.book.now) (B.items x.new.book.now) held.new result }
+    ensures waited { Waited (calls_of clauses.now) (seen F.view B.items x.old) (seen F.view B.items x.new) held.new result }
 {
     match place_all(x, clauses, held) {
         Ok(Placings::All) => match admit_in(x, clauses, clauses.len()) {
@@ -73,10 +71,10 @@ fn stop<F: ChannelFloor, B: NoteBook, W: Wakes>(
     count: usize,
     answer: SelectAnswer,
 ) -> Result<SelectAnswer, Memory>
-    requires may { MayStop x.old.who (calls_of clauses.now) count held.old (F.view x.old.floor.now) }
+    requires may { MayStop (calls_of clauses.now) count held.old (seen F.view B.items x.old) }
     ensures same { SameCaller F.anchor x.old x.new }
-    ensures stopped { WasStopped x.old.who (calls_of clauses.now) count answer (F.view x.old.floor.now) (F.view x.new.floor.now)
-        (B.items x.old.book.now) (B.items x.new.book.now) held.old held.new result }
+    ensures stopped { WasStopped (calls_of clauses.now) count answer (seen F.view B.items x.old) (seen F.view B.items x.new)
+        held.old held.new result }
 {
     let Some(w) = *held else {
         return Ok(answer);

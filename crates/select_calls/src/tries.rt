@@ -1,10 +1,9 @@
 //! The clauses are tried, in their order.
 
-ghost use Rattle.std.specs.Prelude.{◌≡◌, ◌<◌, false, length};
-ghost use Rattle.channel_model.specs.Channels.{kind_at, is_signal};
-ghost use Rattle.channel_model.specs.Floors.{MayCall};
+ghost use Rattle.std.specs.Prelude.{◌<◌, length};
+ghost use Rattle.call_meaning.specs.Seen.{MayCallChannel};
 ghost use Rattle.call_meaning.specs.ChannelCalls.{sends, receives};
-ghost use Rattle.channel_calls.specs.Calls.{SameCaller};
+ghost use Rattle.channel_calls.specs.Calls.{SameCaller, seen, CarriesElements};
 ghost use Rattle.select_calls.specs.Clauses.{calls_of, MaySelect};
 ghost use Rattle.select_calls.specs.Parts.{TriedAnswer, TriedAt, TriesAll};
 
@@ -37,11 +36,10 @@ fn try_to_send<F: ChannelFloor, B: NoteBook, W: Wakes>(
     c: ChannelId,
     value: Value,
 ) -> Result<Tried, Memory>
-    requires can { MayCall x.old.who c (F.view x.old.floor.now) }
-    requires kind { is_signal (kind_at (F.view x.old.floor.now).shape c) ≡ false }
+    requires can { MayCallChannel c (seen F.view B.items x.old) }
+    requires kind { CarriesElements c (seen F.view B.items x.old) }
     ensures same { SameCaller F.anchor x.old x.new }
-    ensures answer { TriedAnswer x.old.who (sends c value) (F.view x.old.floor.now) (F.view x.new.floor.now)
-        (B.items x.old.book.now) (B.items x.new.book.now) result }
+    ensures answer { TriedAnswer (sends c value) (seen F.view B.items x.old) (seen F.view B.items x.new) result }
 {
     match x.try_send_as(TriedAs::Clause, c, value) {
         Ok(TrySendAnswer::Sent) => Ok(Tried::Ready(Outcome::Sent)),
@@ -57,10 +55,9 @@ fn try_to_receive<F: ChannelFloor, B: NoteBook, W: Wakes>(
     x: &mut Caller<'_, '_, '_, F, B, W>,
     c: ChannelId,
 ) -> Result<Tried, Memory>
-    requires can { MayCall x.old.who c (F.view x.old.floor.now) }
+    requires can { MayCallChannel c (seen F.view B.items x.old) }
     ensures same { SameCaller F.anchor x.old x.new }
-    ensures answer { TriedAnswer x.old.who (receives c) (F.view x.old.floor.now) (F.view x.new.floor.now)
-        (B.items x.old.book.now) (B.items x.new.book.now) result }
+    ensures answer { TriedAnswer (receives c) (seen F.view B.items x.old) (seen F.view B.items x.new) result }
 {
     match x.try_receive_as(TriedAs::Clause, c) {
         Ok(TryReceiveAnswer::Value(value)) => Ok(Tried::Ready(Outcome::Value(value))),
@@ -76,11 +73,10 @@ fn try_clause<F: ChannelFloor, B: NoteBook, W: Wakes>(
     clauses: &[Clause],
     i: usize,
 ) -> Result<Tried, Memory>
-    requires may { MaySelect x.old.who (calls_of clauses.now) (F.view x.old.floor.now) }
+    requires may { MaySelect (calls_of clauses.now) (seen F.view B.items x.old) }
     requires there { i < length clauses.now }
     ensures same { SameCaller F.anchor x.old x.new }
-    ensures answer { TriedAt x.old.who (calls_of clauses.now) i (F.view x.old.floor.now) (F.view x.new.floor.now)
-        (B.items x.old.book.now) (B.items x.new.book.now) result }
+    ensures answer { TriedAt (calls_of clauses.now) i (seen F.view B.items x.old) (seen F.view B.items x.new) result }
 {
     match clauses[i] {
         Clause::OnSend { c, value } => try_to_send(x, c, value),
@@ -93,10 +89,9 @@ pub(crate) fn try_all<F: ChannelFloor, B: NoteBook, W: Wakes>(
     x: &mut Caller<'_, '_, '_, F, B, W>,
     clauses: &[Clause],
 ) -> Result<Tries, Memory>
-    requires may { MaySelect x.old.who (calls_of clauses.now) (F.view x.old.floor.now) }
+    requires may { MaySelect (calls_of clauses.now) (seen F.view B.items x.old) }
     ensures same { SameCaller F.anchor x.old x.new }
-    ensures tried { TriesAll x.old.who (calls_of clauses.now) (F.view x.old.floor.now) (F.view x.new.floor.now)
-        (B.items x.old.book.now) (B.items x.new.book.now) result }
+    ensures tried { TriesAll (calls_of clauses.now) (seen F.view B.items x.old) (seen F.view B.items x.new) result }
 {
     let mut i = 0usize;
     while i < clauses.len() {

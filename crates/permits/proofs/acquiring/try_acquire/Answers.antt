@@ -8,10 +8,12 @@ overflow_add-held g c =
     one_more_fits c.args.held.now (count_small _ _ _ _ _ (g.met.F.ChannelFloor.legal f) (g.met.F.ChannelFloor.shaped f) c.requires.uses)
 
 pub returns-in-Ok-Value-clause-uses : goal.returns-in-Ok-Value-clause-uses
-returns-in-Ok-Value-clause-uses g c = uses_taking _ _ _ _ _ _ _ _ _ (rw c.in-Ok-Value.field-0-is at c.in-Ok-Value.ensures.answer) c.requires.uses
+returns-in-Ok-Value-clause-uses g c = uses_taking (rw c.in-Ok-Value.field-0-is at c.in-Ok-Value.ensures.answer) c.requires.uses
 
 pub returns-in-Ok-Empty-clause-uses : goal.returns-in-Ok-Empty-clause-uses
-returns-in-Ok-Empty-clause-uses g c = uses_still _ _ _ _ _ _ (heard_adds _ _ _ _ _ _ refl (rw c.in-Ok-Empty.field-0-is at c.in-Ok-Empty.ensures.answer)) c.requires.uses
+returns-in-Ok-Empty-clause-uses g c = uses_still _ _ _ _ _ _ (heard_adds refl (rw c.in-Ok-Empty.field-0-is at c.in-Ok-Empty.ensures.answer))
+    c.requires.uses
 
 pub returns-in-Ok-Closed-clause-uses : goal.returns-in-Ok-Closed-clause-uses
-returns-in-Ok-Closed-clause-uses g c = uses_still _ _ _ _ _ _ (heard_adds _ _ _ _ _ _ refl (rw c.in-Ok-Closed.field-0-is at c.in-Ok-Closed.ensures.answer)) c.requires.uses
+returns-in-Ok-Closed-clause-uses g c = uses_still _ _ _ _ _ _
+    (heard_adds refl (rw c.in-Ok-Closed.field-0-is at c.in-Ok-Closed.ensures.answer)) c.requires.uses

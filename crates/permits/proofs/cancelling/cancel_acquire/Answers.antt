@@ -11,24 +11,30 @@ overflow_add-held g c =
 
 pub give_back-requires-clause-uses : goal.give_back-requires-clause-uses
 give_back-requires-clause-uses g c =
-    subst (λ k. UsesPermits c.args.p.now.c c.args.p.now.n k (c.args.held.now + 1) (g.F.ChannelFloor.view c.end_once.new.x.floor.now)) (sym c.end_once.ensures.same.who)
-    (uses_cancelling _ _ _ _ _ _ _ _ _ _ c.requires.here (rw c.in-Ok-Undelivered.field-0-is at c.in-Ok-Undelivered.ensures.answer) c.requires.uses)
+    subst (λ k. UsesPermits c.args.p.now.c c.args.p.now.n k (c.args.held.now + 1) (g.F.ChannelFloor.view c.end_once.new.x.floor.now))
+    (sym c.end_once.ensures.same.who)
+    (uses_cancelling c.requires.here (rw c.in-Ok-Undelivered.field-0-is at c.in-Ok-Undelivered.ensures.answer) c.requires.uses)
 
 pub returns-in-Ok-Done-clause-answer : goal.returns-in-Ok-Done-clause-answer
 returns-in-Ok-Done-clause-answer g c =
-    ends_given _ _ _ _ _ _ _ _ _ _ _ c.end_once.ensures.same.who (rw c.in-Ok-Undelivered.field-0-is at c.in-Ok-Undelivered.ensures.answer) (rw c.in-Ok-Done.field-0-is at c.in-Ok-Done.ensures.answer)
+    ends_given (rw c.in-Ok-Undelivered.field-0-is at c.in-Ok-Undelivered.ensures.answer)
+    (rw c.in-Ok-Done.field-0-is at c.in-Ok-Done.ensures.answer)
 
 pub returns-in-Ok-Closed-give_back-clause-answer : goal.returns-in-Ok-Closed-give_back-clause-answer
 returns-in-Ok-Closed-give_back-clause-answer g c =
-    ends_then _ _ _ _ _ _ _ _ _ _ _ _ c.end_once.ensures.same.who (rw c.in-Ok-Undelivered.field-0-is at c.in-Ok-Undelivered.ensures.answer) refl (rw c.in-Ok-Closed-give_back.field-0-is at c.in-Ok-Closed-give_back.ensures.answer)
+    ends_then (rw c.in-Ok-Undelivered.field-0-is at c.in-Ok-Undelivered.ensures.answer) refl
+    (rw c.in-Ok-Closed-give_back.field-0-is at c.in-Ok-Closed-give_back.ensures.answer)
 
 pub returns-in-Ok-Spent-clause-answer : goal.returns-in-Ok-Spent-clause-answer
 returns-in-Ok-Spent-clause-answer g c =
-    ends_then _ _ _ _ _ _ _ _ _ _ _ _ c.end_once.ensures.same.who (rw c.in-Ok-Undelivered.field-0-is at c.in-Ok-Undelivered.ensures.answer) refl (rw c.in-Ok-Spent.field-0-is at c.in-Ok-Spent.ensures.answer)
+    ends_then (rw c.in-Ok-Undelivered.field-0-is at c.in-Ok-Undelivered.ensures.answer) refl
+    (rw c.in-Ok-Spent.field-0-is at c.in-Ok-Spent.ensures.answer)
 
 pub returns-in-Err-give_back-clause-answer : goal.returns-in-Err-give_back-clause-answer
 returns-in-Err-give_back-clause-answer g c =
-    StopsEarly.ended (ends_alone _ _ _ _ _ _ _ _ _ _ c.end_once.ensures.same.who (rw c.in-Ok-Undelivered.field-0-is at c.in-Ok-Undelivered.ensures.answer) c.in-Err-give_back.ensures.answer)
+    StopsEarly.ended (ends_alone (rw c.in-Ok-Undelivered.field-0-is at c.in-Ok-Undelivered.ensures.answer)
+    c.in-Err-give_back.ensures.answer)
 
 pub returns-in-Ok-Cancelled-clause-uses : goal.returns-in-Ok-Cancelled-clause-uses
-returns-in-Ok-Cancelled-clause-uses g c = uses_cancelling_none _ _ _ _ _ _ _ _ _ c.requires.here (rw c.in-Ok-Cancelled.field-0-is at c.in-Ok-Cancelled.ensures.answer) c.requires.uses
+returns-in-Ok-Cancelled-clause-uses g c = uses_cancelling_none c.requires.here
+    (rw c.in-Ok-Cancelled.field-0-is at c.in-Ok-Cancelled.ensures.answer) c.requires.uses

@@ -13,14 +13,17 @@ fail_up-requires-clause-failed g c = c.in-Ok.ensures.answer.failed c.if-passed.t
 
 pub returns-in-Ok-fail_up-clause-broken : goal.returns-in-Ok-fail_up-clause-broken
 returns-in-Ok-fail_up-clause-broken g c =
-    broken_up _ _ _ _ _ _ _ _ _ _ _ _ refl c.if-passed.true c.if-row-who.true (g.met.J.JobFloor.legal c.cancel_tree.new.jobs) (g.met.J.JobFloor.legal c.fail_up.new.jobs) c.requires.own c.in-Ok.ensures.answer c.in-Ok-fail_up.ensures.answer
+    broken_up refl c.if-passed.true c.if-row-who.true (g.met.J.JobFloor.legal c.cancel_tree.new.jobs)
+    (g.met.J.JobFloor.legal c.fail_up.new.jobs) c.requires.own c.in-Ok.ensures.answer c.in-Ok-fail_up.ensures.answer
 
 pub returns-in-Err-fail_up-clause-broken : goal.returns-in-Err-fail_up-clause-broken
-returns-in-Err-fail_up-clause-broken g c = broken_later _ _ _ _ _ _ _ _ _ _ _ c.if-passed.true c.if-row-who.true c.in-Ok.ensures.answer c.in-Err-fail_up.ensures.answer.1
+returns-in-Err-fail_up-clause-broken g c =
+    broken_later c.if-passed.true c.if-row-who.true c.in-Ok.ensures.answer c.in-Err-fail_up.ensures.answer.1
 
 pub returns-else-passed-clause-broken : goal.returns-else-passed-clause-broken
 returns-else-passed-clause-broken g c =
-    broken_own _ _ _ _ _ _ _ _ _ _ refl (not_both _ _ _ c.else-passed.either) (g.met.J.JobFloor.legal c.cancel_tree.new.jobs) c.requires.own c.in-Ok.ensures.answer
+    broken_own refl (not_both _ _ _ c.else-passed.either) (g.met.J.JobFloor.legal c.cancel_tree.new.jobs) c.requires.own
+    c.in-Ok.ensures.answer
 
 pub returns-in-Err-clause-broken : goal.returns-in-Err-clause-broken
-returns-in-Err-clause-broken g c = part_begun _ _ _ _ _ _ _ c.in-Err.ensures.answer.1
+returns-in-Err-clause-broken g c = part_begun c.in-Err.ensures.answer.1

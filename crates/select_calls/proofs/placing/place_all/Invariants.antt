@@ -1,5 +1,5 @@
 use Rattle.std.proofs.Common.{◌-◌, ◌≤◌, length}
-use Rattle.channel_calls.specs.Calls.{SameCaller}
+use Rattle.channel_calls.specs.Calls.{SameCaller, seen}
 use Rattle.select_calls.specs.Clauses.{calls_of}
 use Rattle.select_calls.specs.Parts.{PlacedSoFar}
 use Rattle.select_calls.proofs.AllPlaced.{StillLeft}
@@ -9,8 +9,10 @@ abbrev pub invariant-loop-i : goal.invariant-loop-i
 invariant-loop-i g l = record {
   within : l.i ≤ length l.clauses;
   same : SameCaller g.F.ChannelFloor.anchor l.fn.x l.x;
-  so_far : PlacedSoFar l.fn.x.who (calls_of l.clauses) l.i l.held (g.F.ChannelFloor.view l.fn.x.floor.now) (g.F.ChannelFloor.view l.x.floor.now) (g.B.NoteBook.items l.fn.x.book.now) (g.B.NoteBook.items l.x.book.now);
-  left : StillLeft (calls_of l.clauses) l.i (g.F.ChannelFloor.view l.fn.x.floor.now) (g.F.ChannelFloor.view l.x.floor.now);
+  so_far : PlacedSoFar (calls_of l.clauses) l.i l.held
+      (seen g.F.ChannelFloor.view g.B.NoteBook.items l.fn.x) (seen g.F.ChannelFloor.view g.B.NoteBook.items l.x);
+  left : StillLeft (calls_of l.clauses) l.i
+      (seen g.F.ChannelFloor.view g.B.NoteBook.items l.fn.x) (seen g.F.ChannelFloor.view g.B.NoteBook.items l.x);
 }
 
 abbrev pub decreases-loop-i : goal.decreases-loop-i

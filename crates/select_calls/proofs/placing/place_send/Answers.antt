@@ -1,23 +1,30 @@
 use Rattle.call_meaning.specs.ChannelCalls.{sends}
+use Rattle.channel_calls.proofs.Roomed.{made_room}
 use Rattle.select_calls.proofs.ClausesPlaced.{send_stands, send_partner, send_closed, send_spent, resolved}
 use Rattle.select_calls.proofs.placing.place_send.Goals as goal
 
 pub returns-in-Stands-clause-answer : goal.returns-in-Stands-clause-answer
 returns-in-Stands-clause-answer g c =
-    send_stands _ _ _ _ _ _ _ _ _ _ _ _ c.in_default.ensures.floor c.make_room.ensures.items (g.met.F.ChannelFloor.legal c.register_offer.new.self) _ _ c.main_at-w.ensures c.in-Stands.ensures.answer c.note.ensures.items
+    send_stands c.args.c c.args.value c.args.clause c.args.main (made_room c.in_default.ensures.floor c.make_room.ensures.items)
+    (g.met.F.ChannelFloor.legal c.register_offer.new.self) c.main_at-w.ensures c.in-Stands.ensures.answer c.note.ensures.items
 
 pub returns-in-Partner-clause-answer : goal.returns-in-Partner-clause-answer
 returns-in-Partner-clause-answer g c =
-    send_partner _ c.args.clause _ _ _ _ _ _ _ _ _ _ c.in_default.ensures.floor c.make_room.ensures.items (g.met.F.ChannelFloor.legal c.register_offer.new.self) _ c.in-Partner.ensures.answer c.note-in-Partner.ensures.items
+    send_partner c.args.c c.args.value c.args.clause c.args.main (made_room c.in_default.ensures.floor c.make_room.ensures.items)
+    (g.met.F.ChannelFloor.legal c.register_offer.new.self) _ c.in-Partner.ensures.answer c.note-in-Partner.ensures.items
 
 pub returns-in-Closed-clause-answer : goal.returns-in-Closed-clause-answer
 returns-in-Closed-clause-answer g c =
-    send_closed _ c.args.clause _ _ _ _ _ _ _ _ _ _ c.in_default.ensures.floor c.make_room.ensures.items (g.met.F.ChannelFloor.legal c.register_offer.new.self) _ c.in-Closed.ensures.answer c.note-in-Closed.ensures.items
+    send_closed c.args.c c.args.value c.args.clause c.args.main (made_room c.in_default.ensures.floor c.make_room.ensures.items)
+    (g.met.F.ChannelFloor.legal c.register_offer.new.self) c.in-Closed.ensures.answer c.note-in-Closed.ensures.items
 
 pub returns-in-Spent-clause-answer : goal.returns-in-Spent-clause-answer
 returns-in-Spent-clause-answer g c =
-    send_spent _ c.args.clause _ _ _ _ _ _ _ _ _ _ c.in_default.ensures.floor c.make_room.ensures.items (g.met.F.ChannelFloor.legal c.register_offer.new.self) c.in-Spent.ensures.answer c.note-in-Spent.ensures.items
+    send_spent c.args.c c.args.value c.args.clause c.args.main (made_room c.in_default.ensures.floor c.make_room.ensures.items)
+    (g.met.F.ChannelFloor.legal c.register_offer.new.self) c.in-Spent.ensures.answer c.note-in-Spent.ensures.items
 
 pub returns-in-Resolved-clause-answer : goal.returns-in-Resolved-clause-answer
 returns-in-Resolved-clause-answer g c =
-    resolved _ c.args.clause c.args.c c.args.value _ _ _ _ _ _ _ _ c.in_default.ensures.floor c.make_room.ensures.items (g.met.F.ChannelFloor.legal c.register_offer.new.self) (sends c.args.c c.args.value) c.in-Resolved.ensures.answer.0 c.in-Resolved.ensures.answer.1 c.note_resolved.ensures
+    resolved (sends c.args.c c.args.value) c.args.clause c.args.main (made_room c.in_default.ensures.floor c.make_room.ensures.items)
+    (g.met.F.ChannelFloor.legal c.register_offer.new.self) c.in-Resolved.ensures.answer.0 c.in-Resolved.ensures.answer.1
+    c.note_resolved.ensures

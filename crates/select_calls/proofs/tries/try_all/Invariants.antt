@@ -1,5 +1,5 @@
 use Rattle.std.proofs.Common.{◌-◌, ◌≤◌, length}
-use Rattle.channel_calls.specs.Calls.{SameCaller}
+use Rattle.channel_calls.specs.Calls.{SameCaller, seen}
 use Rattle.select_calls.specs.Clauses.{calls_of}
 use Rattle.select_calls.specs.Parts.{AreBlocked}
 use Rattle.select_calls.proofs.tries.try_all.Given as goal
@@ -8,7 +8,8 @@ abbrev pub invariant-loop-i : goal.invariant-loop-i
 invariant-loop-i g l = record {
   within : l.i ≤ length l.clauses;
   same : SameCaller g.F.ChannelFloor.anchor l.fn.x l.x;
-  blocked : AreBlocked l.fn.x.who (calls_of l.clauses) l.i (g.F.ChannelFloor.view l.fn.x.floor.now) (g.F.ChannelFloor.view l.x.floor.now) (g.B.NoteBook.items l.fn.x.book.now) (g.B.NoteBook.items l.x.book.now);
+  blocked : AreBlocked (calls_of l.clauses) l.i
+      (seen g.F.ChannelFloor.view g.B.NoteBook.items l.fn.x) (seen g.F.ChannelFloor.view g.B.NoteBook.items l.x);
 }
 
 abbrev pub decreases-loop-i : goal.decreases-loop-i

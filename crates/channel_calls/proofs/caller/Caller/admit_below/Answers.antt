@@ -3,18 +3,20 @@ use Rattle.channel_model.specs.declared.acts.Act.TheVariants.{Admit}
 use Rattle.channel_calls.proofs.Repeated.{same_self, still_same, may_still, fewer_left, none_repeated, one_repeated}
 use Rattle.channel_calls.proofs.AdmitsTold.{admits_stopped, admitted_below}
 use Rattle.channel_calls.proofs.caller.Caller.admit_below.Goals as goal
+use Rattle.channel_calls.proofs.Roomed.{untouched, made_room}
 
 pub loop-memory-init : goal.loop-memory-init
 loop-memory-init g c = record {
   same = same_self _;
-  each = none_repeated _ _ _ _;
+  each = none_repeated _ _;
 }
 
 pub returns-in-Err-clause-same : goal.returns-in-Err-clause-same
 returns-in-Err-clause-same g c = still_same _ _ _ c.loop-memory.invariant.same refl refl refl refl c.make_room.ensures.anchor
 
 pub returns-in-Err-clause-answer : goal.returns-in-Err-clause-answer
-returns-in-Err-clause-answer g c = admits_stopped _ _ _ _ _ _ _ _ _ _ c.loop-memory.invariant.each c.in-Err.ensures.same c.make_room.ensures.items
+returns-in-Err-clause-answer g c = admits_stopped _ c.loop-memory.invariant.each
+    (untouched c.in-Err.ensures.same refl c.make_room.ensures.items)
 
 pub admit-requires-clause-can : goal.admit-requires-clause-can
 admit-requires-clause-can g c =
@@ -22,22 +24,26 @@ admit-requires-clause-can g c =
     may_still _ _ _ _ _ _ _ i.same.who c.requires.can i.each.left.added.same c.in_default.ensures.floor
 
 pub returns-in_default-admit-clause-same : goal.returns-in_default-admit-clause-same
-returns-in_default-admit-clause-same g c = still_same _ _ _ c.loop-memory.invariant.same refl refl refl refl (c.admit.ensures.anchor ∙ c.make_room.ensures.anchor)
+returns-in_default-admit-clause-same g c = still_same _ _ _ c.loop-memory.invariant.same refl refl refl refl (c.admit.ensures.anchor
+    ∙ c.make_room.ensures.anchor)
 
 pub returns-in_default-admit-clause-answer : goal.returns-in_default-admit-clause-answer
 returns-in_default-admit-clause-answer g c =
     let i = c.loop-memory.invariant in
-    admitted_below _ _ _ _ _ _ _ _ _ _ _ _ i.same.who i.each c.in_default.ensures.floor c.make_room.ensures.items c.in_default-admit.ensures.answer.0 c.in_default-admit.ensures.answer.1
+    admitted_below i.each (made_room c.in_default.ensures.floor c.make_room.ensures.items)
+    c.in_default-admit.ensures.answer.0 c.in_default-admit.ensures.answer.1 refl refl
 
 pub loop-memory-smaller : goal.loop-memory-smaller
 loop-memory-smaller g c =
     let i = c.loop-memory.invariant in
-    fewer_left _ _ _ _ _ _ _ _ i.each.left.added.same (g.met.F.ChannelFloor.legal c.admit.new.self) c.in_default.ensures.floor c.in-Some.ensures.answer.made refl
+    fewer_left i.each.left.added.same (g.met.F.ChannelFloor.legal c.admit.new.self) c.in_default.ensures.floor c.in-Some.ensures.answer.made
+    refl
 
 pub loop-memory-preserved : goal.loop-memory-preserved
 loop-memory-preserved g c =
     let i = c.loop-memory.invariant in
     record {
       same = still_same _ _ _ i.same refl refl refl refl (c.admit.ensures.anchor ∙ c.make_room.ensures.anchor);
-      each = one_repeated (λ q. Admit c.args.c q) _ _ _ _ _ _ _ _ _ _ _ _ i.same.who i.each c.in_default.ensures.floor c.make_room.ensures.items c.in-Some.ensures.answer.made (λ s. tt) c.note.ensures.items;
+      each = one_repeated (λ q. Admit c.args.c q) _ i.each (made_room c.in_default.ensures.floor c.make_room.ensures.items)
+          c.in-Some.ensures.answer.made (λ s. tt) refl c.note.ensures.items;
     }

@@ -1,13 +1,14 @@
 use Rattle.channel_model.specs.declared.acts.Act.TheVariants.{Admit}
 use Rattle.channel_model.proofs.Left.{left_of}
-use Rattle.channel_calls.specs.Calls.{SameCaller}
+use Rattle.channel_calls.specs.Calls.{SameCaller, seen}
 use Rattle.channel_calls.proofs.Repeated.{Repeats}
 use Rattle.channel_calls.proofs.caller.Caller.admit_below.Given as goal
 
 abbrev pub invariant-loop-memory : goal.invariant-loop-memory
 invariant-loop-memory g l = record {
   same : SameCaller g.F.ChannelFloor.anchor l.initial.self l.self;
-  each : Repeats (λ q. Admit l.c q) l.initial.self.who (g.F.ChannelFloor.view l.initial.self.floor.now) (g.F.ChannelFloor.view l.self.floor.now) (g.B.NoteBook.items l.initial.self.book.now) (g.B.NoteBook.items l.self.book.now);
+  each : Repeats (λ q. Admit l.c q) (seen g.F.ChannelFloor.view g.B.NoteBook.items l.initial.self)
+      (seen g.F.ChannelFloor.view g.B.NoteBook.items l.self);
 }
 
 abbrev pub decreases-loop-memory : goal.decreases-loop-memory

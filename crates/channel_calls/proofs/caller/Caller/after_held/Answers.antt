@@ -2,7 +2,8 @@ use Rattle.channel_calls.proofs.OwnOffers.{plain_admits, held_then}
 use Rattle.channel_calls.proofs.caller.Caller.after_held.Goals as goal
 
 pub settle_offer-requires-clause-plain : goal.settle_offer-requires-clause-plain
-settle_offer-requires-clause-plain g c = plain_admits _ _ _ _ _ _ _ c.admit_all.ensures.same.who (g.met.F.ChannelFloor.legal c.admit_all.new.self.floor.now) c.requires.plain c.in-Ok.ensures.answer
+settle_offer-requires-clause-plain g c = plain_admits _ (g.met.F.ChannelFloor.legal c.admit_all.new.self.floor.now) c.requires.plain
+    c.in-Ok.ensures.answer
 
 pub returns-in-Ok-clause-answer : goal.returns-in-Ok-clause-answer
-returns-in-Ok-clause-answer g c = held_then _ _ _ _ _ _ _ _ _ _ c.admit_all.ensures.same.who c.in-Ok.ensures.answer c.settle_offer.ensures.answer
+returns-in-Ok-clause-answer g c = held_then _ _ _ c.in-Ok.ensures.answer c.settle_offer.ensures.answer

@@ -1,14 +1,15 @@
 use Rattle.channel_model.specs.declared.acts.Act.TheVariants.{WakeClosed}
 use Rattle.channel_model.specs.Answers.{IsSeenClosed}
 use Rattle.channel_model.proofs.Left.{left_of}
-use Rattle.channel_calls.specs.Calls.{SameCaller}
+use Rattle.channel_calls.specs.Calls.{SameCaller, seen}
 use Rattle.channel_calls.proofs.Repeated.{Repeats}
 use Rattle.channel_calls.proofs.caller.Caller.wake_all.Given as goal
 
 abbrev pub invariant-loop-memory : goal.invariant-loop-memory
 invariant-loop-memory g l = record {
   same : SameCaller g.F.ChannelFloor.anchor l.initial.self l.self;
-  each : Repeats (λ q. WakeClosed l.c q) l.initial.self.who (g.F.ChannelFloor.view l.initial.self.floor.now) (g.F.ChannelFloor.view l.self.floor.now) (g.B.NoteBook.items l.initial.self.book.now) (g.B.NoteBook.items l.self.book.now);
+  each : Repeats (λ q. WakeClosed l.c q) (seen g.F.ChannelFloor.view g.B.NoteBook.items l.initial.self)
+      (seen g.F.ChannelFloor.view g.B.NoteBook.items l.self);
   ever : IsSeenClosed l.c (g.F.ChannelFloor.view l.self.floor.now);
 }
 

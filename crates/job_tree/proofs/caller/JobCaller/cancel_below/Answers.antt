@@ -28,7 +28,7 @@ loop-done-init g c = record {
   same = caller_self _ _;
   way = record {
     walk = first_walk _ _ _ c.requires.can.attached c.requires.cancelled;
-    so_far = none_so_far _ _ _ _;
+    so_far = none_so_far _ _;
     room = c.requires.room;
     rows = c.from-most.ensures ∙ c.rows.ensures;
     few = omega (arith, c.from-most.ensures, c.rows.type_inv);
@@ -43,50 +43,73 @@ walk_step-requires-clause-can g c =
 pub walk_step-requires-clause-child : goal.walk_step-requires-clause-child
 walk_step-requires-clause-child g c = λ e.
     let i = c.loop-done.invariant in
-    walk_not_root _ _ _ _ _ (legal_as _ _ i.way.so_far.noted.added.same (g.met.F.JobFloor.legal c.loop-done.self.floor.now)) i.way.walk (not_there _ _ _ c.if-not-at-row.either e)
+    let l = legal_as _ _ i.way.so_far.noted.added.same (g.met.F.JobFloor.legal c.loop-done.self.floor.now) in
+    walk_not_root _ _ _ _ _ l i.way.walk (not_there _ _ _ c.if-not-at-row.either e)
 
 pub cancel_job-requires-clause-can : goal.cancel_job-requires-clause-can
 cancel_job-requires-clause-can g c =
     let i = c.loop-done.invariant in
     let t = c.in-To.ensures in
-    let next = to_next _ _ _ _ _ _ _ _ _ _ _ _ (g.met.F.JobFloor.shaped c.args.self.now.floor.now) (g.met.F.JobFloor.legal c.walk_step.new.self.floor.now) i.way.so_far i.way.walk (not_there _ _ _ c.if-not-at-row.either) t.looked t.answer in
-    may_next _ _ _ _ _ _ (t.same.who ∙ i.same.who) c.requires.can (setting_then _ _ _ i.way.so_far.noted.added.same t.looked.same) next.attached
+    let shaped = g.met.F.JobFloor.shaped c.args.self.now.floor.now in
+    let legal = g.met.F.JobFloor.legal c.walk_step.new.self.floor.now in
+    let next = to_next shaped legal i.way.so_far i.way.walk (not_there _ _ _ c.if-not-at-row.either) t.looked t.answer in
+    let same = setting_then _ _ _ i.way.so_far.noted.added.same t.looked.looked.same in
+    may_next _ _ _ _ _ _ (t.same.who ∙ i.same.who) c.requires.can same next.attached
 
 pub cancel_job-requires-clause-reason : goal.cancel_job-requires-clause-reason
 cancel_job-requires-clause-reason g c =
     let i = c.loop-done.invariant in
     let t = c.in-To.ensures in
-    (to_next _ _ _ _ _ _ _ _ _ _ _ _ (g.met.F.JobFloor.shaped c.args.self.now.floor.now) (g.met.F.JobFloor.legal c.walk_step.new.self.floor.now) i.way.so_far i.way.walk (not_there _ _ _ c.if-not-at-row.either) t.looked t.answer).holds
+    let shaped = g.met.F.JobFloor.shaped c.args.self.now.floor.now in
+    let legal = g.met.F.JobFloor.legal c.walk_step.new.self.floor.now in
+    (to_next shaped legal i.way.so_far i.way.walk (not_there _ _ _ c.if-not-at-row.either) t.looked t.answer).holds
 
 pub cancel_job-requires-clause-room : goal.cancel_job-requires-clause-room
-cancel_job-requires-clause-room g c = λ e. looked_room _ _ _ _ _ _ c.walk_step.ensures.looked (ap g.B.NoteBook.spare c.walk_step.ensures.book) (c.loop-done.invariant.way.room e)
+cancel_job-requires-clause-room g c = λ e.
+    let t = c.walk_step.ensures in
+    looked_room _ _ _ _ _ _ t.looked.looked (ap g.B.NoteBook.spare t.book) (c.loop-done.invariant.way.room e)
 
 pub overflow_add-count : goal.overflow_add-count
 overflow_add-count g c =
     let i = c.loop-done.invariant in
-    let k = so_far_small _ _ _ _ _ _ _ i.way.so_far in
+    let k = so_far_small i.way.so_far in
     let one = at_most_one c.in-Ok.is_newly in
     omega (arith, i.way.rows, i.way.few)
 
 pub prove-unreachable-requires : goal.prove-unreachable-requires
 prove-unreachable-requires g c =
     let i = c.loop-done.invariant in
-    let k = so_far_small _ _ _ _ _ _ _ i.way.so_far in
+    let k = so_far_small i.way.so_far in
     omega (arith, i.way.rows, c.if-prove.true)
 
 pub loop-done-smaller-in-Ok : goal.loop-done-smaller-in-Ok
 loop-done-smaller-in-Ok g c =
     let i = c.loop-done.invariant in
     let t = c.in-To.ensures in
-    let m = c.in-Ok.ensures in
-    (after_to _ _ _ _ _ _ c.args.covered _ c.in-Ok.is_newly _ _ _ _ _ _ _ _ _ _ _ i.same.who (t.same.who ∙ i.same.who) (ap g.B.NoteBook.items t.book) (ap (λ x. c.loop-done.count + x) c.from.ensures) c.is_covered-done.ensures c.requires.covered (g.met.F.JobFloor.shaped c.args.self.now.floor.now) (g.met.F.JobFloor.legal c.walk_step.new.self.floor.now) (g.met.F.JobFloor.legal c.cancel_job.new.self.floor.now) i.way.so_far i.way.walk (not_there _ _ _ c.if-not-at-row.either) t.looked t.answer m.answer).less
+    let newly = c.in-Ok.is_newly in
+    let shaped = g.met.F.JobFloor.shaped c.args.self.now.floor.now in
+    let looked = g.met.F.JobFloor.legal c.walk_step.new.self.floor.now in
+    let legal = g.met.F.JobFloor.legal c.cancel_job.new.self.floor.now in
+    let counted = ap (λ x. c.loop-done.count + x) c.from.ensures in
+    let apart = not_there _ _ _ c.if-not-at-row.either in
+    (after_to c.args.covered newly counted c.is_covered-done.ensures c.requires.covered shaped looked legal i.way.so_far i.way.walk apart
+    t.looked
+    t.answer c.in-Ok.ensures.answer).less
 
 pub loop-done-preserved-in-Ok : goal.loop-done-preserved-in-Ok
 loop-done-preserved-in-Ok g c =
     let i = c.loop-done.invariant in
     let t = c.in-To.ensures in
     let m = c.in-Ok.ensures in
-    let r = (after_to _ _ _ _ _ _ c.args.covered _ c.in-Ok.is_newly _ _ _ _ _ _ _ _ _ _ _ i.same.who (t.same.who ∙ i.same.who) (ap g.B.NoteBook.items t.book) (ap (λ x. c.loop-done.count + x) c.from.ensures) c.is_covered-done.ensures c.requires.covered (g.met.F.JobFloor.shaped c.args.self.now.floor.now) (g.met.F.JobFloor.legal c.walk_step.new.self.floor.now) (g.met.F.JobFloor.legal c.cancel_job.new.self.floor.now) i.way.so_far i.way.walk (not_there _ _ _ c.if-not-at-row.either) t.looked t.answer m.answer) in
+    let newly = c.in-Ok.is_newly in
+    let shaped = g.met.F.JobFloor.shaped c.args.self.now.floor.now in
+    let looked = g.met.F.JobFloor.legal c.walk_step.new.self.floor.now in
+    let legal = g.met.F.JobFloor.legal c.cancel_job.new.self.floor.now in
+    let counted = ap (λ x. c.loop-done.count + x) c.from.ensures in
+    let apart = not_there _ _ _ c.if-not-at-row.either in
+    let r = after_to c.args.covered newly counted c.is_covered-done.ensures c.requires.covered shaped looked legal i.way.so_far i.way.walk
+    apart
+    t.looked t.answer m.answer in
     record {
       same = caller_then _ _ _ _ i.same (caller_then _ _ _ _ t.same m.same);
       way = record { walk = r.walk; so_far = r.so_far; room = m.room; rows = i.way.rows; few = i.way.few };
@@ -96,45 +119,45 @@ pub loop-done-smaller-in-Over : goal.loop-done-smaller-in-Over
 loop-done-smaller-in-Over g c =
     let i = c.loop-done.invariant in
     let t = c.in-Over.ensures in
-    (after_over _ _ _ _ _ _ _ _ _ _ _ _ i.same.who (ap g.B.NoteBook.items t.book) (g.met.F.JobFloor.shaped c.args.self.now.floor.now) (g.met.F.JobFloor.legal c.walk_step.new.self.floor.now) i.way.so_far i.way.walk t.looked t.answer).less
+    let shaped = g.met.F.JobFloor.shaped c.args.self.now.floor.now in
+    (after_over shaped (g.met.F.JobFloor.legal c.walk_step.new.self.floor.now) i.way.so_far i.way.walk t.looked t.answer).less
 
 pub loop-done-preserved-in-Over : goal.loop-done-preserved-in-Over
 loop-done-preserved-in-Over g c =
     let i = c.loop-done.invariant in
     let t = c.in-Over.ensures in
-    let r = (after_over _ _ _ _ _ _ _ _ _ _ _ _ i.same.who (ap g.B.NoteBook.items t.book) (g.met.F.JobFloor.shaped c.args.self.now.floor.now) (g.met.F.JobFloor.legal c.walk_step.new.self.floor.now) i.way.so_far i.way.walk t.looked t.answer) in
-    record {
-      same = caller_then _ _ _ _ i.same t.same;
-      way = way_looked _ _ _ _ _ _ _ _ _ _ _ _ _ _ _ _ _ _ _ t.looked (ap g.B.NoteBook.spare t.book) i.way r;
-    }
+    let shaped = g.met.F.JobFloor.shaped c.args.self.now.floor.now in
+    let r = after_over shaped (g.met.F.JobFloor.legal c.walk_step.new.self.floor.now) i.way.so_far i.way.walk t.looked t.answer in
+    record { same = caller_then _ _ _ _ i.same t.same; way = way_looked t.looked (ap g.B.NoteBook.spare t.book) i.way r }
 
 pub loop-done-smaller : goal.loop-done-smaller
 loop-done-smaller g c =
     let i = c.loop-done.invariant in
     let t = c.in-Up.ensures in
-    (after_up _ _ _ _ _ _ _ _ _ _ _ _ _ i.same.who (ap g.B.NoteBook.items t.book) (g.met.F.JobFloor.shaped c.args.self.now.floor.now) (g.met.F.JobFloor.legal c.walk_step.new.self.floor.now) i.way.so_far i.way.walk (not_there _ _ _ c.if-not-at-row.either) t.looked t.answer).less
+    let shaped = g.met.F.JobFloor.shaped c.args.self.now.floor.now in
+    let legal = g.met.F.JobFloor.legal c.walk_step.new.self.floor.now in
+    (after_up shaped legal i.way.so_far i.way.walk (not_there _ _ _ c.if-not-at-row.either) t.looked t.answer).less
 
 pub loop-done-preserved : goal.loop-done-preserved
 loop-done-preserved g c =
     let i = c.loop-done.invariant in
     let t = c.in-Up.ensures in
-    let r = (after_up _ _ _ _ _ _ _ _ _ _ _ _ _ i.same.who (ap g.B.NoteBook.items t.book) (g.met.F.JobFloor.shaped c.args.self.now.floor.now) (g.met.F.JobFloor.legal c.walk_step.new.self.floor.now) i.way.so_far i.way.walk (not_there _ _ _ c.if-not-at-row.either) t.looked t.answer) in
-    record {
-      same = caller_then _ _ _ _ i.same t.same;
-      way = way_looked _ _ _ _ _ _ _ _ _ _ _ _ _ _ _ _ _ _ _ t.looked (ap g.B.NoteBook.spare t.book) i.way r;
-    }
+    let shaped = g.met.F.JobFloor.shaped c.args.self.now.floor.now in
+    let legal = g.met.F.JobFloor.legal c.walk_step.new.self.floor.now in
+    let r = after_up shaped legal i.way.so_far i.way.walk (not_there _ _ _ c.if-not-at-row.either) t.looked t.answer in
+    record { same = caller_then _ _ _ _ i.same t.same; way = way_looked t.looked (ap g.B.NoteBook.spare t.book) i.way r }
 
 pub returns-clause-answer : goal.returns-clause-answer
 returns-clause-answer g c =
     let i = c.loop-done.invariant in
     let h = c.if-not-at-row.false in
-    let k = so_far_small _ _ _ _ _ _ _ i.way.so_far in (
-      pass_below_done _ _ _ _ _ _ _ i.way.so_far (subst (IsAllCancelled (replay (g.F.JobFloor.view c.loop-done.self.floor.now).seen)) h.1 (i.way.walk.all h.0)),
-      omega (arith, i.way.rows, i.way.few),
-    )
+    let k = so_far_small i.way.so_far in
+    let all = subst (IsAllCancelled (replay (g.F.JobFloor.view c.loop-done.self.floor.now).seen)) h.1 (i.way.walk.all h.0) in
+    (pass_below_done i.way.so_far all, omega (arith, i.way.rows, i.way.few))
 
 pub returns-in-Err-clause-answer : goal.returns-in-Err-clause-answer
 returns-in-Err-clause-answer g c =
     let i = c.loop-done.invariant in
-    let t = c.in-To.ensures in
-    (c.in-Err.ensures.answer.0, part_below _ _ _ _ _ _ _ _ _ _ _ _ _ i.same.who (t.same.who ∙ i.same.who) (ap g.B.NoteBook.items t.book) (g.met.F.JobFloor.legal c.walk_step.new.self.floor.now) (g.met.F.JobFloor.legal c.cancel_job.new.self.floor.now) i.way.so_far t.looked c.in-Err.ensures.answer.1)
+    let looked = g.met.F.JobFloor.legal c.walk_step.new.self.floor.now in
+    let legal = g.met.F.JobFloor.legal c.cancel_job.new.self.floor.now in
+    (c.in-Err.ensures.answer.0, part_below looked legal i.way.so_far c.in-To.ensures.looked c.in-Err.ensures.answer.1)

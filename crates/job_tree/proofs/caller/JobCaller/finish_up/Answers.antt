@@ -8,7 +8,7 @@ use Rattle.job_tree.proofs.caller.JobCaller.finish_up.Goals as goal
 pub loop-parent-init : goal.loop-parent-init
 loop-parent-init g c = record {
   same = caller_self _ _;
-  rise = first_rise _ _ _ _ _ _ _ c.requires.can.attached;
+  rise = first_rise c.requires.can.attached;
 }
 
 pub finish_one-requires : goal.finish_one-requires
@@ -20,7 +20,7 @@ pub loop-parent-smaller : goal.loop-parent-smaller
 loop-parent-smaller g c =
     let i = c.loop-parent.invariant in
     let t = c.in-Ok-To.ensures in
-    let o = owed _ _ _ _ _ _ _ _ _ _ _ (same_answer _ _ _ _ _ _ _ _ _ _ _ _ c.in-Ok-To.field-0-is t.answer) in
+    let o = owed (same_answer c.in-Ok-To.field-0-is t.answer) in
     let l = legal_as _ _ (setting_then _ _ _ i.rise.same o.added.same) (g.met.F.JobFloor.legal c.finish_one.new.self.floor.now) in
     rank_less _ _ _ _ _ (g.met.F.JobFloor.shaped c.args.self.now.floor.now) l o.added.longer i.rise.attached o.parent
 
@@ -30,15 +30,15 @@ loop-parent-preserved g c =
     let t = c.in-Ok-To.ensures in
     record {
       same = caller_then _ _ _ _ i.same t.same;
-      rise = rise_up _ _ _ _ _ _ _ _ _ _ _ _ _ _ _ _ i.same.who (g.met.F.JobFloor.legal c.finish_one.new.self.floor.now) i.rise (same_answer _ _ _ _ _ _ _ _ _ _ _ _ c.in-Ok-To.field-0-is t.answer);
+      rise = rise_up (g.met.F.JobFloor.legal c.finish_one.new.self.floor.now) i.rise (same_answer c.in-Ok-To.field-0-is t.answer);
     }
 
 pub returns-in-Ok-Stops-clause-finished : goal.returns-in-Ok-Stops-clause-finished
 returns-in-Ok-Stops-clause-finished g c =
     let i = c.loop-parent.invariant in
-    rise_stops _ _ _ _ _ _ _ _ _ _ _ _ _ _ _ i.same.who i.rise (same_answer _ _ _ _ _ _ _ _ _ _ _ _ c.in-Ok-Stops.field-0-is c.in-Ok-Stops.ensures.answer)
+    rise_stops i.rise (same_answer c.in-Ok-Stops.field-0-is c.in-Ok-Stops.ensures.answer)
 
 pub returns-in-Err-clause-finished : goal.returns-in-Err-clause-finished
 returns-in-Err-clause-finished g c =
     let i = c.loop-parent.invariant in
-    rise_fails _ _ _ _ _ _ _ _ _ _ _ _ _ _ _ _ i.same.who i.rise c.in-Err.ensures.answer
+    rise_fails i.rise c.in-Err.ensures.answer

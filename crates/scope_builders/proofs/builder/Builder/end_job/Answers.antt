@@ -1,27 +1,43 @@
 use Rattle.std.proofs.Common.{refl}
-use Rattle.scope_builders.proofs.Rooms.{told_none, may_call_after}
+use Rattle.scope_builders.proofs.Rooms.{told_none, may_call_after, made_room}
 use Rattle.scope_builders.proofs.Bodies.{ended_body, own_attached, body_added, did_none, ends_nothing, ended_alone, ended_up, ended_some}
 use Rattle.scope_builders.proofs.builder.Builder.end_job.Goals as goal
 
 pub returns-in-Err-clause-answer : goal.returns-in-Err-clause-answer
-returns-in-Err-clause-answer g c = did_none _ _ _ _ _ _ _ _ _ (ends_nothing _ _ _) (g.met.J.JobFloor.legal c.make_room.new.floor) refl (told_none _ _ _ _ _ c.in-Err.ensures.same c.make_room.ensures.items)
+returns-in-Err-clause-answer g c =
+    did_none (ends_nothing _ _ _) (g.met.J.JobFloor.legal c.make_room.new.floor) refl
+    (told_none c.in-Err.ensures.same refl c.make_room.ensures.items)
 
 pub finish_up-requires-clause-row : goal.finish_up-requires-clause-row
 finish_up-requires-clause-row g c =
-    (may_call_after _ _ _ _ _ _ _ _ c.requires.may (own_attached _ _ c.requires.own) (body_added _ _ _ _ _ _ _ _ c.in_default.ensures.floor c.in-Owes.ensures.answer) (g.met.J.JobFloor.legal c.end_body-ended.new.self)).attached
+    let added = body_added c.in_default.ensures.floor c.in-Owes.ensures.answer in
+    (may_call_after c.requires.may (own_attached _ _ c.requires.own) added (g.met.J.JobFloor.legal c.end_body-ended.new.self)).attached
 
 pub returns-in-Waits-clause-answer : goal.returns-in-Waits-clause-answer
 returns-in-Waits-clause-answer g c =
-    ended_alone _ _ _ _ _ _ _ _ _ _ _ _ _ _ c.in_default.ensures.floor (g.met.J.JobFloor.legal c.end_body-ended.new.self) refl refl c.in-Waits.ensures.answer c.make_room.ensures.items c.note.ensures.items
+    ended_alone (made_room c.in_default.ensures.floor c.make_room.ensures.items)
+    (g.met.J.JobFloor.legal c.end_body-ended.new.self) refl refl c.in-Waits.ensures.answer refl c.note.ensures.items
 
 pub returns-in-Ok-clause-answer : goal.returns-in-Ok-clause-answer
 returns-in-Ok-clause-answer g c =
-    ended_up _ _ _ _ _ _ _ _ _ _ _ _ _ (g.met.J.JobFloor.legal c.end_body-ended.new.self) (body_added _ _ _ _ _ _ _ _ c.in_default.ensures.floor c.in-Owes.ensures.answer)
-    (ended_body _ _ _ _ _ _ _ _ _ _ _ c.in_default.ensures.floor c.in-Owes.ensures.answer c.make_room.ensures.items c.note.ensures.items)
+    ended_up
+    (record {
+      legal = g.met.J.JobFloor.legal c.end_body-ended.new.self;
+      same = refl;
+      added = body_added c.in_default.ensures.floor c.in-Owes.ensures.answer;
+      body = ended_body (made_room c.in_default.ensures.floor c.make_room.ensures.items) c.in-Owes.ensures.answer
+          refl c.note.ensures.items;
+    })
     c.in-Ok.ensures.finished
 
 pub returns-in-Err-finish_up-clause-answer : goal.returns-in-Err-finish_up-clause-answer
 returns-in-Err-finish_up-clause-answer g c =
-    ended_some _ _ _ _ _ _ _ _ _ _ _ _ _ _ (g.met.J.JobFloor.legal c.end_body-ended.new.self) (body_added _ _ _ _ _ _ _ _ c.in_default.ensures.floor c.in-Owes.ensures.answer)
-    (ended_body _ _ _ _ _ _ _ _ _ _ _ c.in_default.ensures.floor c.in-Owes.ensures.answer c.make_room.ensures.items c.note.ensures.items)
+    ended_some
+    (record {
+      legal = g.met.J.JobFloor.legal c.end_body-ended.new.self;
+      same = refl;
+      added = body_added c.in_default.ensures.floor c.in-Owes.ensures.answer;
+      body = ended_body (made_room c.in_default.ensures.floor c.make_room.ensures.items) c.in-Owes.ensures.answer
+          refl c.note.ensures.items;
+    })
     c.in-Err-finish_up.ensures.finished

@@ -1,17 +1,25 @@
+use Rattle.std.proofs.Common.{refl}
 use Rattle.job_model.proofs.Short.{attached_within}
 use Rattle.scope_builders.proofs.ReceivesDone.{short_done, call_done, signal_done, done_answer}
 use Rattle.scope_builders.proofs.builder.Builder.receive_done.Goals as goal
 
 pub done_channel-requires : goal.done_channel-requires
-done_channel-requires g c = short_done _ _ _ _ _ c.requires.may (attached_within _ _ _ (g.met.J.JobFloor.shaped c.args.self.now.jobs.now) (g.met.J.JobFloor.legal c.args.self.now.jobs.now) c.requires.row)
+done_channel-requires g c =
+    short_done _ c.requires.may
+    (attached_within _ _ _ (g.met.J.JobFloor.shaped c.args.self.now.jobs.now) (g.met.J.JobFloor.legal c.args.self.now.jobs.now)
+    c.requires.row)
 
 pub receive_signal-requires-clause-can : goal.receive_signal-requires-clause-can
 receive_signal-requires-clause-can g c =
-    call_done _ _ _ _ _ _ c.done_channel.ensures c.requires.may (attached_within _ _ _ (g.met.J.JobFloor.shaped c.args.self.now.jobs.now) (g.met.J.JobFloor.legal c.args.self.now.jobs.now) c.requires.row)
+    call_done _ c.done_channel.ensures c.requires.may
+    (attached_within _ _ _ (g.met.J.JobFloor.shaped c.args.self.now.jobs.now) (g.met.J.JobFloor.legal c.args.self.now.jobs.now)
+    c.requires.row)
 
 pub receive_signal-requires-clause-signal : goal.receive_signal-requires-clause-signal
 receive_signal-requires-clause-signal g c =
-    signal_done _ _ _ _ _ _ c.done_channel.ensures c.requires.may (attached_within _ _ _ (g.met.J.JobFloor.shaped c.args.self.now.jobs.now) (g.met.J.JobFloor.legal c.args.self.now.jobs.now) c.requires.row)
+    signal_done _ c.done_channel.ensures c.requires.may
+    (attached_within _ _ _ (g.met.J.JobFloor.shaped c.args.self.now.jobs.now) (g.met.J.JobFloor.legal c.args.self.now.jobs.now)
+    c.requires.row)
 
 pub returns-clause-answer : goal.returns-clause-answer
-returns-clause-answer g c = done_answer _ _ _ _ _ _ _ _ _ _ c.done_channel.ensures c.receive_signal.ensures.answer
+returns-clause-answer g c = done_answer _ _ _ _ _ _ c.done_channel.ensures refl c.receive_signal.ensures.answer

@@ -1,7 +1,7 @@
 use Rattle.std.proofs.Common.{refl, sym, ◌∙◌, arith, []}
 use Rattle.job_model.proofs.Spans.{nothing_more}
 use Rattle.scope_builders.specs.Dones.{EndsDone}
-use Rattle.scope_builders.proofs.Closings.{closed_still, ends_done, ends_noted, ends_length, ends_no_jobs}
+use Rattle.scope_builders.proofs.Closings.{closed_still, both_closed, both_told, ends_done, ends_noted, ends_length, ends_no_jobs}
 use Rattle.scope_builders.proofs.done_channels.DoneChannelsEnds.ended.Goals as goal
 
 pub returns-then-row-self-clause-ended : goal.returns-then-row-self-clause-ended
@@ -18,7 +18,7 @@ pub returns-clause-ended : goal.returns-clause-ended
 returns-clause-ended g c =
     let h = c.close_first.ensures.closed in
     let w = c.wake_last.ensures.woken in
-    let count = ends_length _ _ _ _ _ _ _ _ _ _ _ h w in
+    let count = ends_length h w in
     record {
       ended = _;
       does_it = (
@@ -27,10 +27,11 @@ returns-clause-ended g c =
         refl,
         refl,
         c.wake_last.ensures.channels_anchor ∙ c.close_first.ensures.channels_anchor,
-        ends_done _ _ _ _ _ _ _ _ _ _ _ _ _ _ _ c.if-row-self.false c.done_channel-c.ensures c.value_of.ensures h w (closed_still _ _ _ _ _ _ _ _ _ _ _ (g.met.C.ChannelFloor.legal c.wake_last.new.channels) h w),
+        ends_done c.if-row-self.false c.done_channel-c.ensures c.value_of.ensures (both_closed h w) (both_told h w)
+            (closed_still (g.met.C.ChannelFloor.legal c.wake_last.new.channels) h w),
       );
       few = omega (arith, w.few);
-      no_jobs = ends_no_jobs _ _ _ _ _ _ _ _ _ _ _ h w;
-      appended = ends_noted _ _ _ _ _ _ _ _ _ _ _ h w;
+      no_jobs = ends_no_jobs h w;
+      appended = ends_noted h w;
       room = omega (arith, c.close_first.ensures.spare, w.room);
     }
