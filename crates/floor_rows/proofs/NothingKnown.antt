@@ -35,10 +35,12 @@ nothing_there f g e h = record {
   voided = λ c. cc;
 }
 
-pub hub_known : (kind : Kind) (places : ℕ) (x : Result (Hub × Pass) Memory) → is_signal kind ≡ false → IfOk x (λ (r : Hub × Pass). shape_of r.0 ≡ (kind, places) ∷ []) → IfOk x (λ (r : Hub × Pass). Knows nothing (hub_floor r.0 r.1))
+pub hub_known : (kind : Kind) (places : ℕ) (x : Result (Hub × Pass) Memory) → is_signal kind ≡ false
+    → IfOk x (λ (r : Hub × Pass). shape_of r.0 ≡ (kind, places) ∷ []) → IfOk x (λ (r : Hub × Pass). Knows nothing (hub_floor r.0 r.1))
 hub_known kind places (Ok r) h e = knows_nothing kind places (hub_floor r.0 r.1) e h
 hub_known kind places (Err m) h e = e
 
-pub list_known : (kind : Kind) (places : ℕ) (x : Result ListFloor Memory) → is_signal kind ≡ false → IfOk x (λ (f : ListFloor). (floor_of f).shape ≡ (kind, places) ∷ []) → IfOk x (λ (f : ListFloor). Knows nothing (floor_of f))
+pub list_known : (kind : Kind) (places : ℕ) (x : Result ListFloor Memory) → is_signal kind ≡ false
+    → IfOk x (λ (f : ListFloor). (floor_of f).shape ≡ (kind, places) ∷ []) → IfOk x (λ (f : ListFloor). Knows nothing (floor_of f))
 list_known kind places (Ok f) h e = knows_nothing kind places (floor_of f) e h
 list_known kind places (Err m) h e = e

@@ -1,3 +1,2 @@
-pub mod EndingsKeepSettings
 pub mod PassesStayOwn
 pub mod RangersHaveRoom

@@ -2,10 +2,11 @@
 ghost use Rattle.std.specs.Prelude.{◌≡◌, is_some, true};
 ghost use Rattle.job_model.specs.Histories.{replay};
 ghost use Rattle.job_model.specs.Floors.{MayCall};
-ghost use Rattle.job_tree.specs.Endings.{IsFinishedUp};
-ghost use Rattle.job_words.specs.Passes.{floor_seen};
-ghost use Rattle.job_words.specs.Forests.{seen_by, IsOwn, SameGiving};
+ghost use Rattle.call_meaning.specs.Seen.{seen_jobs};
+ghost use Rattle.job_tree.specs.Endings.{seen_with, IsFinishedUp};
+ghost use Rattle.job_words.specs.Forests.{IsOwn, SameGiving};
 ghost use Rattle.job_words.specs.Rangers.{ranger_floor, ranger_anchor};
+ghost use Rattle.forest_calls.specs.Passes.{pass_floor};
 
 use co_base::{Memory, Row, Tag, Wakes};
 use job_model::JobFloor;
@@ -24,8 +25,8 @@ fn finish_over<J: JobFloor, B: NoteBook, W: Wakes, E: Ends<B, W>>(
 ) -> Result<(), Memory>
     requires can { MayCall who row (J.view jobs.old) }
     ensures anchor { J.anchor jobs.new ≡ J.anchor jobs.old }
-    ensures finished { IsFinishedUp E.prepares E.does who row (J.view jobs.old) ends.old (B.items book.old)
-        (J.view jobs.new) ends.new (B.items book.new) result }
+    ensures finished { IsFinishedUp E.prepares E.does row (seen_with (seen_jobs J.view B.items who jobs.old book.old) ends.old)
+        (seen_with (seen_jobs J.view B.items who jobs.new book.new) ends.new) result }
 {
     let mut caller = JobCaller {
         floor: &mut *jobs,
@@ -49,8 +50,8 @@ fn finish_on<B: NoteBook, W: Wakes, E: Ends<B, W>>(
     ensures anchor { ranger_anchor ranger.new ≡ ranger_anchor ranger.old }
     ensures own { IsOwn ranger.old.forest.now ranger.new.pass.now who }
     ensures giving { SameGiving ranger.old.pass.now ranger.new.pass.now }
-    ensures finished { IsFinishedUp E.prepares E.does who row (ranger_floor ranger.old) ends.old (B.items book.old)
-        (ranger_floor ranger.new) ends.new (B.items book.new) result }
+    ensures finished { IsFinishedUp E.prepares E.does row (seen_with (seen_jobs ranger_floor B.items who ranger.old book.old) ends.old)
+        (seen_with (seen_jobs ranger_floor B.items who ranger.new book.new) ends.new) result }
 {
     finish_over(ranger, book, wakes, who, row, ends)
 }
@@ -67,11 +68,11 @@ pub fn finish_up<B: NoteBook, W: Wakes, E: Ends<B, W>>(
     ends: &mut E,
 ) -> Result<(), Memory>
     requires own { IsOwn forest.now pass.old who }
-    requires attached { is_some (replay (floor_seen (seen_by pass.old)).seen row) ≡ true }
+    requires attached { is_some (replay (pass_floor pass.old).seen row) ≡ true }
     ensures own { IsOwn forest.now pass.new who }
     ensures giving { SameGiving pass.old pass.new }
-    ensures finished { IsFinishedUp E.prepares E.does who row (floor_seen (seen_by pass.old)) ends.old (B.items book.old)
-        (floor_seen (seen_by pass.new)) ends.new (B.items book.new) result }
+    ensures finished { IsFinishedUp E.prepares E.does row (seen_with (seen_jobs pass_floor B.items who pass.old book.old) ends.old)
+        (seen_with (seen_jobs pass_floor B.items who pass.new book.new) ends.new) result }
 {
     let mut ranger = Ranger { forest, pass };
     finish_on(&mut ranger, book, wakes, who, row, ends)

@@ -1,13 +1,14 @@
 //! To cancel a Job of a forest and all below it.
 ghost use Rattle.std.specs.Prelude.{◌≡◌, ◌≤◌, is_some, true};
-ghost use Rattle.job_model.specs.Needs.{Holds};
 ghost use Rattle.job_model.specs.Histories.{replay};
 ghost use Rattle.job_model.specs.Floors.{MayCall};
+ghost use Rattle.call_meaning.specs.Seen.{seen_jobs};
+ghost use Rattle.job_tree.specs.Callers.{HoldsFor};
 ghost use Rattle.job_tree.specs.Rooms.{uncancelled, MayCancelAll};
 ghost use Rattle.job_tree.specs.Passes.{IsSomePass};
-ghost use Rattle.job_words.specs.Passes.{floor_seen};
-ghost use Rattle.job_words.specs.Forests.{seen_by, IsOwn, SameGiving};
+ghost use Rattle.job_words.specs.Forests.{IsOwn, SameGiving};
 ghost use Rattle.job_words.specs.Rangers.{ranger_floor, ranger_anchor};
+ghost use Rattle.forest_calls.specs.Passes.{pass_floor};
 
 use co_base::{Row, Tag, Wakes};
 use job_model::{JobFloor, Reason};
@@ -25,10 +26,11 @@ fn cancel_over<J: JobFloor, B: NoteBook, W: Wakes>(
     reason: Reason,
 ) -> u32
     requires can { MayCall who row (J.view jobs.old) }
-    requires reason { Holds (J.view jobs.old).shape (replay (J.view jobs.old).seen) who row reason }
+    requires reason { HoldsFor row reason (seen_jobs J.view B.items who jobs.old book.old) }
     requires room { MayCancelAll (J.view jobs.old) (B.spare book.old) }
     ensures anchor { J.anchor jobs.new ≡ J.anchor jobs.old }
-    ensures pass { IsSomePass who row reason (J.view jobs.old) (J.view jobs.new) (B.items book.old) (B.items book.new) result }
+    ensures pass { IsSomePass row reason (seen_jobs J.view B.items who jobs.old book.old)
+        (seen_jobs J.view B.items who jobs.new book.new) result }
     ensures room { MayCancelAll (J.view jobs.new) (B.spare book.new) }
 {
     let mut caller = JobCaller {
@@ -50,13 +52,13 @@ fn cancel_on<B: NoteBook, W: Wakes>(
     reason: Reason,
 ) -> u32
     requires can { MayCall who row (ranger_floor ranger.old) }
-    requires reason { Holds (ranger_floor ranger.old).shape (replay (ranger_floor ranger.old).seen) who row reason }
+    requires reason { HoldsFor row reason (seen_jobs ranger_floor B.items who ranger.old book.old) }
     requires room { uncancelled (ranger_floor ranger.old) ≤ B.spare book.old }
     ensures anchor { ranger_anchor ranger.new ≡ ranger_anchor ranger.old }
     ensures own { IsOwn ranger.old.forest.now ranger.new.pass.now who }
     ensures giving { SameGiving ranger.old.pass.now ranger.new.pass.now }
-    ensures pass { IsSomePass who row reason (ranger_floor ranger.old) (ranger_floor ranger.new)
-        (B.items book.old) (B.items book.new) result }
+    ensures pass { IsSomePass row reason (seen_jobs ranger_floor B.items who ranger.old book.old)
+        (seen_jobs ranger_floor B.items who ranger.new book.new) result }
     ensures room { uncancelled (ranger_floor ranger.new) ≤ B.spare book.new }
 {
     cancel_over(ranger, book, wakes, who, row, reason)
@@ -74,14 +76,14 @@ pub fn cancel_pass<B: NoteBook, W: Wakes>(
     reason: Reason,
 ) -> u32
     requires own { IsOwn forest.now pass.old who }
-    requires attached { is_some (replay (floor_seen (seen_by pass.old)).seen row) ≡ true }
-    requires reason { Holds (floor_seen (seen_by pass.old)).shape (replay (floor_seen (seen_by pass.old)).seen) who row reason }
-    requires room { uncancelled (floor_seen (seen_by pass.old)) ≤ B.spare book.old }
+    requires attached { is_some (replay (pass_floor pass.old).seen row) ≡ true }
+    requires reason { HoldsFor row reason (seen_jobs pass_floor B.items who pass.old book.old) }
+    requires room { uncancelled (pass_floor pass.old) ≤ B.spare book.old }
     ensures own { IsOwn forest.now pass.new who }
     ensures giving { SameGiving pass.old pass.new }
-    ensures pass { IsSomePass who row reason (floor_seen (seen_by pass.old)) (floor_seen (seen_by pass.new)) (B.items book.old)
-        (B.items book.new) result }
-    ensures room { uncancelled (floor_seen (seen_by pass.new)) ≤ B.spare book.new }
+    ensures pass { IsSomePass row reason (seen_jobs pass_floor B.items who pass.old book.old)
+        (seen_jobs pass_floor B.items who pass.new book.new) result }
+    ensures room { uncancelled (pass_floor pass.new) ≤ B.spare book.new }
 {
     let mut ranger = Ranger { forest, pass };
     cancel_on(&mut ranger, book, wakes, who, row, reason)

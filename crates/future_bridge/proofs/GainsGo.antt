@@ -23,6 +23,8 @@ use Rattle.channel_model.proofs.Spans.{nothing_more, added_none, added_looked, a
 use Rattle.channel_model.proofs.Others.{others_keep, between, unsettled_stays, ready_stays}
 use Rattle.channel_model.proofs.Later.{closed_later}
 use Rattle.channel_model.proofs.ResolvedAtClauses.{begun_at_clause, ends_at_clause}
+use Rattle.call_meaning.specs.Seen.{SeenOnChannels}
+use Rattle.channel_calls.specs.Calls.{IsLeftWaiting}
 use Rattle.channel_calls.proofs.Begun.{receiver_waits}
 use Rattle.scope_builders.proofs.NothingReceived.{never_taken}
 use Rattle.future_bridge.specs.declared.steps.Step.TheVariants as step
@@ -34,7 +36,8 @@ use Rattle.future_bridge.proofs.DrainedWaits.{closed_drained}
 pub received_append : (c : ℕ) (xs ys : List Act) → received c (xs ++ ys) ≡ received c xs ++ received c ys
 unfolding received
 received_append c [] ys = refl
-received_append c (x ∷ xs) ys = ap (λ l. received_by c x ++ l) (received_append c xs ys) ∙ sym (append_assoc (received_by c x) (received c xs) (received c ys))
+received_append c (x ∷ xs) ys = ap (λ l. received_by c x ++ l) (received_append c xs ys)
+    ∙ sym (append_assoc (received_by c x) (received c xs) (received c ys))
 
 received_one : (c : ℕ) (act : Act) → received c (act ∷ []) ≡ received_by c act
 unfolding received
@@ -52,7 +55,12 @@ gained_then who c vs ws a b d h k = record {
 }
 
 pub gained_none : (who c : ℕ) (a : Floor) → Gained who c [] a a
-gained_none who c a = record { acts = []; added = added_none who a a (record { shape = refl; alone = refl; callers = refl }) refl; gets = received_none c }
+gained_none who c a = record {
+  acts = [];
+  added = added_none who a a (record { shape = refl; alone = refl; callers = refl }) refl;
+  gets =
+      received_none c;
+}
 
 pub gained_looked : (who c : ℕ) (a d : Floor) → Looked who a d → Gained who c [] a d
 gained_looked who c a d h = record { acts = []; added = added_looked who a d h; gets = received_none c }
@@ -81,18 +89,25 @@ no_signal who c p v a b l m = by_kind (kind_at b.shape c) refl
     by_kind kinds.Signal e = absurd (never_taken who c p v a b (ap (λ (s : Shape). kind_at s c) (sym m.same.shape) ∙ e) l m)
     by_kind other e = refl
 
-pub taken_gains : (who c p v : ℕ) (t : _) (a b d : Floor) → Legal b.shape b.seen → TakenFrom who c p v t a b → AdmitsAll who c b d → Stepped who c a d (step.Item v)
+pub taken_gains : (who c p v : ℕ) (t : _) (a b d : Floor) → Legal b.shape b.seen → TakenFrom who c p v t a b → AdmitsAll who c b d
+    → Stepped who c a d (step.Item v)
 taken_gains who c p v t a b d l h k = (
-  gained_then who c (v ∷ []) [] a b d (gained_made who c (Take c p v) (v ∷ []) a b h.made (here c (v ∷ []))) (gained_admits who c k.mark b d k.below),
+  gained_then who c (v ∷ []) [] a b d (gained_made who c (Take c p v) (v ∷ []) a b h.made (here c (v ∷ [])))
+      (gained_admits who c k.mark b d k.below),
   Receives.takes p b (added_made who (Take c p v) a b h.made) k,
   ap (λ (s : Shape). is_signal (kind_at s c)) k.below.added.same.shape ∙ no_signal who c p v a b l h.made,
 )
 
-pub waiting_gains : (who c p : ℕ) (a d : Floor) → Legal d.shape d.seen → GotAnswer who c a d (got.Waiting p) → Stepped who c a d (step.Waits p)
+-- what a tag sees of a floor, with an empty book
+abbrev at_floor : ℕ → Floor → SeenOnChannels
+at_floor who floor = record { who = who; floor = floor; items = [] }
+
+pub waiting_gains : (who c p : ℕ) (a d : Floor) → Legal d.shape d.seen → GotAnswer who c a d (got.Waiting p)
+    → Stepped who c a d (step.Waits p)
 waiting_gains who c p a d l m =
     let w = wait_at c p in
     let added = added_made who (Await c p w 0) a d m in
-    let left = receiver_waits who c p (Await c p w 0 ∷ []) a a d l m added in (
+    let left : IsLeftWaiting w (Await c p w 0 ∷ []) (at_floor who a) (at_floor who d) = receiver_waits l m added refl in (
       gained_made who c (Await c p w 0) [] a d m refl,
       record {
         last = record { earlier = acts_of who a.seen; last = added.mine; holds = left.holds };
@@ -122,19 +137,23 @@ still_last who c p a d l h k = record {
   holds = others_keep d.shape who (IsUnsettledOf who) (unsettled_stays who) (wait_at c p) a.seen d.seen l h.longer h.mine k.holds;
 }
 
-pub standing_gains : (who c p : ℕ) (a d : Floor) → Legal d.shape d.seen → AwaitsLast who c p a → LookAnswer who (wait_at c p) a d state.Standing → Stepped who c a d (step.Waits p)
+pub standing_gains : (who c p : ℕ) (a d : Floor) → Legal d.shape d.seen → AwaitsLast who c p a
+    → LookAnswer who (wait_at c p) a d state.Standing → Stepped who c a d (step.Waits p)
 standing_gains who c p a d l k m = (gained_looked who c a d m.0, record { last = still_last who c p a d l m.0 k; stood = m.1 })
 
 -- at the moment of the look it did not end
-at_moment : (who c p : ℕ) (a d : Floor) (how : _) → Legal d.shape d.seen → AwaitsLast who c p a → (m : LookAnswer who (wait_at c p) a d how) → IsUnsettledOf who ((replay m.1.moment).waits (wait_at c p))
+at_moment : (who c p : ℕ) (a d : Floor) (how : _) → Legal d.shape d.seen → AwaitsLast who c p a → (m : LookAnswer who (wait_at c p) a d how)
+    → IsUnsettledOf who ((replay m.1.moment).waits (wait_at c p))
 at_moment who c p a d how l k m =
     let mine = (between who a.seen m.1.moment d.seen m.1.after m.1.before m.0.mine).0 in
-    others_keep d.shape who (IsUnsettledOf who) (unsettled_stays who) (wait_at c p) a.seen m.1.moment (earlier_legal d.shape m.1.moment d.seen m.1.before l) m.1.after mine k.holds
+    others_keep d.shape who (IsUnsettledOf who) (unsettled_stays who) (wait_at c p) a.seen m.1.moment
+    (earlier_legal d.shape m.1.moment d.seen m.1.before l) m.1.after mine k.holds
   where
     earlier_legal : (shape : Shape) (xs ys : List Entry) → IsPrefix xs ys → Legal shape ys → Legal shape xs
     earlier_legal shape xs ys q h = Legal-prefix shape xs q.0 (subst (Legal shape) (sym q.1) h)
 
-pub never_settled : (who c p : ℕ) (a d : Floor) → Legal d.shape d.seen → AwaitsLast who c p a → LookAnswer who (wait_at c p) a d state.Settled → ⊥
+pub never_settled : (who c p : ℕ) (a d : Floor) → Legal d.shape d.seen → AwaitsLast who c p a
+    → LookAnswer who (wait_at c p) a d state.Settled → ⊥
 never_settled who c p a d l k m = by_wait ((replay m.1.moment).waits (wait_at c p)) (at_moment who c p a d state.Settled l k m) m.1.holds
   where
     by_parts : (how : Option Resolution) (end : Option Settled) → end ≡ None → state_of_parts how end ≡ state.Settled → ⊥
@@ -146,10 +165,12 @@ never_settled who c p a d l k m = by_wait ((replay m.1.moment).waits (wait_at c 
     by_wait None h f = h
     by_wait (Some x) h f = by_parts x.resolved x.settled h.1 (let e : state_of_parts x.resolved x.settled ≡ state.Settled = cc in e)
 
-pub ready_now : (who c p : ℕ) (a d : Floor) → Legal d.shape d.seen → AwaitsLast who c p a → LookAnswer who (wait_at c p) a d state.Resolved → IsReady who (wait_at c p) d
+pub ready_now : (who c p : ℕ) (a d : Floor) → Legal d.shape d.seen → AwaitsLast who c p a → LookAnswer who (wait_at c p) a d state.Resolved
+    → IsReady who (wait_at c p) d
 ready_now who c p a d l k m =
     let apart = between who a.seen m.1.moment d.seen m.1.after m.1.before m.0.mine in
-    others_keep d.shape who (IsReadyWait who) (ready_stays who) (wait_at c p) m.1.moment d.seen l m.1.before apart.1 (by_wait ((replay m.1.moment).waits (wait_at c p)) (at_moment who c p a d state.Resolved l k m) m.1.holds)
+    others_keep d.shape who (IsReadyWait who) (ready_stays who) (wait_at c p) m.1.moment d.seen l m.1.before apart.1
+    (by_wait ((replay m.1.moment).waits (wait_at c p)) (at_moment who c p a d state.Resolved l k m) m.1.holds)
   where
     by_parts : (how : Option Resolution) (end : Option Settled) → end ≡ None → state_of_parts how end ≡ state.Resolved → is_some how ≡ true
     by_parts None None e f = cc
@@ -158,7 +179,11 @@ ready_now who c p a d l k m =
 
     by_wait : (x : Option Wait) → IsUnsettledOf who x → state_of_wait x ≡ Some state.Resolved → IsReadyWait who x
     by_wait None h f = h
-    by_wait (Some x) h f = (h.0, by_parts x.resolved x.settled h.1 (let e : state_of_parts x.resolved x.settled ≡ state.Resolved = cc in e), h.1)
+    by_wait (Some x) h f = (
+      h.0,
+      by_parts x.resolved x.settled h.1 (let e : state_of_parts x.resolved x.settled ≡ state.Resolved = cc in e),
+      h.1,
+    )
 
 -- ---- the end of the wait
 
@@ -166,38 +191,60 @@ ready_now who c p a d l k m =
 abbrev ReceivesAt : ℕ → Bool → ℕ → ℕ → Type 0
 ReceivesAt c side n d = (side ≡ false) × (d ≡ c)
 
-ends_so : (who c p : ℕ) (a d e : Floor) (outcome : Settled) → Legal d.shape d.seen → AwaitsLast who c p a → LookAnswer who (wait_at c p) a d state.Resolved → SettleAnswer who (wait_at c p) false d e outcome → EndsAtClause d.shape (ReceivesAt c) ⊥ outcome
+ends_so : (who c p : ℕ) (a d e : Floor) (outcome : Settled) → Legal d.shape d.seen → AwaitsLast who c p a
+    → LookAnswer who (wait_at c p) a d state.Resolved → SettleAnswer who (wait_at c p) false d e outcome
+    → EndsAtClause d.shape (ReceivesAt c) ⊥ outcome
 unfolding AllAllowed
 ends_so who c p a d e outcome l k m s =
     let last = still_last who c p a d l m.0 k in
-    ends_at_clause d.shape (ReceivesAt c) ⊥ ((replay d.seen).waits (wait_at c p)) outcome (begun_at_clause d.shape (ReceivesAt c) ⊥ who (wait_at c p) d.seen last.earlier (Await c p (wait_at c p) 0) [] l last.last (refl, refl) ((λ z. (refl, refl)), tt)) s.1
+    ends_at_clause d.shape (ReceivesAt c) ⊥ ((replay d.seen).waits (wait_at c p)) outcome
+    (begun_at_clause d.shape (ReceivesAt c) ⊥ who (wait_at c p) d.seen last.earlier (Await c p (wait_at c p) 0) [] l last.last
+    (refl, refl) ((λ z. (refl, refl)), tt)) s.1
 
-pub never_sent : (who c p n : ℕ) (a d e : Floor) → Legal d.shape d.seen → AwaitsLast who c p a → LookAnswer who (wait_at c p) a d state.Resolved → SettleAnswer who (wait_at c p) false d e (settled.Sent n) → ⊥
+pub never_sent : (who c p n : ℕ) (a d e : Floor) → Legal d.shape d.seen → AwaitsLast who c p a
+    → LookAnswer who (wait_at c p) a d state.Resolved → SettleAnswer who (wait_at c p) false d e (settled.Sent n) → ⊥
 never_sent who c p n a d e l k m s = let h = ends_so who c p a d e (settled.Sent n) l k m s in (let q : true ≡ false = h.1.0 in cc)
 
-pub never_cancelled : (who c p : ℕ) (a d e : Floor) → Legal d.shape d.seen → AwaitsLast who c p a → LookAnswer who (wait_at c p) a d state.Resolved → SettleAnswer who (wait_at c p) false d e settled.Cancelled → ⊥
-never_cancelled who c p a d e l k m s = ⊎_elim (λ h. h) (λ h. let q : true ≡ false = h.2.0 in cc) (ends_so who c p a d e settled.Cancelled l k m s)
+pub never_cancelled : (who c p : ℕ) (a d e : Floor) → Legal d.shape d.seen → AwaitsLast who c p a
+    → LookAnswer who (wait_at c p) a d state.Resolved → SettleAnswer who (wait_at c p) false d e settled.Cancelled → ⊥
+never_cancelled who c p a d e l k m s = ⊎_elim (λ h. h) (λ h. let q : true ≡ false = h.2.0
+    in cc) (ends_so who c p a d e settled.Cancelled l k m s)
 
-pub never_undelivered : (who c p v : ℕ) (a d e : Floor) → Legal d.shape d.seen → AwaitsLast who c p a → LookAnswer who (wait_at c p) a d state.Resolved → SettleAnswer who (wait_at c p) false d e (settled.Undelivered v) → ⊥
+pub never_undelivered : (who c p v : ℕ) (a d e : Floor) → Legal d.shape d.seen → AwaitsLast who c p a
+    → LookAnswer who (wait_at c p) a d state.Resolved → SettleAnswer who (wait_at c p) false d e (settled.Undelivered v) → ⊥
 never_undelivered who c p v a d e l k m s = ends_so who c p a d e (settled.Undelivered v) l k m s
 
-pub value_gains : (who c p n v : ℕ) (a d e : Floor) → Legal d.shape d.seen → AwaitsLast who c p a → LookAnswer who (wait_at c p) a d state.Resolved → SettleAnswer who (wait_at c p) false d e (settled.Value n v) → Stepped who c a e (step.Item v)
+pub value_gains : (who c p n v : ℕ) (a d e : Floor) → Legal d.shape d.seen → AwaitsLast who c p a
+    → LookAnswer who (wait_at c p) a d state.Resolved → SettleAnswer who (wait_at c p) false d e (settled.Value n v)
+    → Stepped who c a e (step.Item v)
 value_gains who c p n v a d e l k m s =
     let h = ends_so who c p a d e (settled.Value n v) l k m s in (
-      gained_then who c [] (v ∷ []) a d e (gained_looked who c a d m.0) (gained_made who c (Settle (wait_at c p) (settled.Value n v)) (v ∷ []) d e s.0 (here c (v ∷ []))),
-      Receives.ends p n (added_then who [] (Settle (wait_at c p) (settled.Value n v) ∷ []) a d e (added_looked who a d m.0) (added_made who (Settle (wait_at c p) (settled.Value n v)) d e s.0)),
+      gained_then who c [] (v ∷ []) a d e (gained_looked who c a d m.0)
+          (gained_made who c (Settle (wait_at c p) (settled.Value n v)) (v ∷ []) d e s.0 (here c (v ∷ []))),
+      Receives.ends p n (added_then who [] (Settle (wait_at c p) (settled.Value n v) ∷ []) a d e (added_looked who a d m.0)
+          (added_made who (Settle (wait_at c p) (settled.Value n v)) d e s.0)),
       ap (λ (z : Shape). is_signal (kind_at z c)) s.0.same.shape ∙ ap (λ (i : ℕ). is_signal (kind_at d.shape i)) (sym h.1.1) ∙ h.2,
     )
 
-pub over_gains : (who c p n v : ℕ) (a d e : Floor) → Legal d.shape d.seen → Legal e.shape e.seen → AwaitsLast who c p a → LookAnswer who (wait_at c p) a d state.Resolved → SettleAnswer who (wait_at c p) false d e (settled.Closed n v) → Stepped who c a e (step.Ended v)
+pub over_gains : (who c p n v : ℕ) (a d e : Floor) → Legal d.shape d.seen → Legal e.shape e.seen → AwaitsLast who c p a
+    → LookAnswer who (wait_at c p) a d state.Resolved → SettleAnswer who (wait_at c p) false d e (settled.Closed n v)
+    → Stepped who c a e (step.Ended v)
 over_gains who c p n v a d e l l' k m s =
     let last = still_last who c p a d l m.0 k in
     let done = closed_drained d.shape d.seen who c p n v last.earlier [] l last.last s.1 in
     let more = (added_made who (Settle (wait_at c p) (settled.Closed n v)) d e s.0).longer in
-    let later : ((replay (d.seen ++ more.0)).channels c).closed ≡ Some v = closed_later e.shape d.seen more.0 c v (subst (Legal e.shape) (sym more.1) l') done.0 in (
-      gained_then who c [] [] a d e (gained_looked who c a d m.0) (gained_made who c (Settle (wait_at c p) (settled.Closed n v)) [] d e s.0 (here c [])),
+    let later : ((replay (d.seen ++ more.0)).channels c).closed ≡ Some v =
+    closed_later e.shape d.seen more.0 c v (subst (Legal e.shape) (sym more.1) l') done.0 in (
+      gained_then who c [] [] a d e (gained_looked who c a d m.0)
+          (gained_made who c (Settle (wait_at c p) (settled.Closed n v)) [] d e s.0 (here c [])),
       record {
         closed = subst (λ es. ((replay es).channels c).closed ≡ Some v) more.1 later;
-        drained = record { moment = d.seen; after = m.0.longer; before = more; holds = record { is_closed = ap is_some done.0; nothing = done.1 } };
+        drained = record {
+          moment = d.seen;
+          after = m.0.longer;
+          before = more;
+          holds =
+              record { is_closed = ap is_some done.0; nothing = done.1 };
+        };
       },
     )

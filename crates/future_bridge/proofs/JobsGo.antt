@@ -43,8 +43,10 @@ pub record Begun (s : JobWait) (j : JobPass) : Type 0 where
   pub starts : StartsFirst s.wait s.who s.row s.jobs j
 
 -- the poll was the last
-pub gives_end : (m : Option JobWait) (s : JobWait) (p : Pass) (j : JobPass) (r : Result ℕ Spent) → m ≡ Some s → IsOwn s.hub.now p s.who → SameGiving s.pass p → Begun s j
-    → Gained s.who s.done [] (hub_floor s.hub.now s.pass) (hub_floor s.hub.now p) → EndsWithResult s.done (hub_floor s.hub.now s.pass) (hub_floor s.hub.now p) r → Gives m p j r
+pub gives_end : (m : Option JobWait) (s : JobWait) (p : Pass) (j : JobPass) (r : Result ℕ Spent) → m ≡ Some s → IsOwn s.hub.now p s.who
+    → SameGiving s.pass p → Begun s j
+    → Gained s.who s.done [] (hub_floor s.hub.now s.pass) (hub_floor s.hub.now p)
+    → EndsWithResult s.done (hub_floor s.hub.now s.pass) (hub_floor s.hub.now p) r → Gives m p j r
 gives_end m s p j r was own giving b g e =
     gives m s p j r was
     (record { own = own; giving = giving; jobs_own = b.own; jobs_giving = b.giving; starts = b.starts; gained = g; ends = e })
@@ -56,7 +58,8 @@ earlier who c a b d (Err spent) g h = no_place_earlier who c [] a b d g h
 -- what it may give after a poll that left it waiting, it might give before
 pub gives_still : (m : Option JobWait) (s : JobWait) (q : Pass) (k : JobPass) (place : ℕ) → m ≡ Some s → SameGiving s.pass q → Begun s k
     → Stepped s.who s.done (hub_floor s.hub.now s.pass) (hub_floor s.hub.now q) (step.Waits place)
-    → (x : Pass × JobPass × Result ℕ Spent) → JobEnds s.hub.now q s.forest.now k s.who s.row s.done (Some place) x.0 x.1 x.2 → Gives m x.0 x.1 x.2
+    → (x : Pass × JobPass × Result ℕ Spent) → JobEnds s.hub.now q s.forest.now k s.who s.row s.done (Some place) x.0 x.1 x.2
+    → Gives m x.0 x.1 x.2
 gives_still m s q k place was giving b t x h =
     gives m s x.0 x.1 x.2 was
     (record {

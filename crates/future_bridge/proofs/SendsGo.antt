@@ -34,27 +34,33 @@ pub record Trimmed (who c : ℕ) (old new : Floor) : Type 0 where
 pub trimmed_none : (who c : ℕ) (a : Floor) → Trimmed who c a a
 trimmed_none who c a = record { dropped = []; added = added_none who a a (record { shape = refl; alone = refl; callers = refl }) refl }
 
-map_push : (c : ℕ) (x : ℕ × ℕ) (ds : List (ℕ × ℕ)) → map (λ (d : ℕ × ℕ). Drop c d.0 d.1) ds ++ Drop c x.0 x.1 ∷ [] ≡ map (λ (d : ℕ × ℕ). Drop c d.0 d.1) (ds ++ x ∷ [])
+map_push : (c : ℕ) (x : ℕ × ℕ) (ds : List (ℕ × ℕ)) → map (λ (d : ℕ × ℕ). Drop c d.0 d.1) ds
+    ++ Drop c x.0 x.1 ∷ [] ≡ map (λ (d : ℕ × ℕ). Drop c d.0 d.1) (ds ++ x ∷ [])
 map_push c x [] = refl
 map_push c x (d ∷ ds) = ap (λ l. Drop c d.0 d.1 ∷ l) (map_push c x ds)
 
 pub trimmed_more : (who c mine : ℕ) (x : ℕ × ℕ) (a b d : Floor) → Trimmed who c a b → TrimAnswer who c mine b d (Some x) → Trimmed who c a d
 trimmed_more who c mine x a b d h m = record {
   dropped = h.dropped ++ x ∷ [];
-  added = subst (λ l. Added who l a d) (map_push c x h.dropped) (added_then who (map (λ (d : ℕ × ℕ). Drop c d.0 d.1) h.dropped) (Drop c x.0 x.1 ∷ []) a b d h.added (added_made who (Drop c x.0 x.1) b d m.0));
+  added = subst (λ l. Added who l a d) (map_push c x h.dropped)
+      (added_then who (map (λ (d : ℕ × ℕ). Drop c d.0 d.1) h.dropped) (Drop c x.0 x.1 ∷ []) a b d h.added
+      (added_made who (Drop c x.0 x.1) b d m.0));
 }
 
 pub trims_all : (who c mine : ℕ) (a b d : Floor) → Trimmed who c a b → TrimAnswer who c mine b d None → TrimsAll who c mine a d
 trims_all who c mine a b d h m = record {
   dropped = h.dropped;
-  added = subst (λ l. Added who l a d) (nothing_more (map (λ (d : ℕ × ℕ). Drop c d.0 d.1) h.dropped)) (added_then who (map (λ (d : ℕ × ℕ). Drop c d.0 d.1) h.dropped) [] a b d h.added (added_looked who b d m.0));
-  fits = moment_within a b d d (IsTrimmed a.shape c mine) h.added.longer (subst (λ (s : Shape). AtStep b d (IsTrimmed s c mine)) h.added.same.shape m.1) (prefix_self d.seen);
+  added = subst (λ l. Added who l a d) (nothing_more (map (λ (d : ℕ × ℕ). Drop c d.0 d.1) h.dropped))
+      (added_then who (map (λ (d : ℕ × ℕ). Drop c d.0 d.1) h.dropped) [] a b d h.added (added_looked who b d m.0));
+  fits = moment_within a b d d (IsTrimmed a.shape c mine) h.added.longer
+      (subst (λ (s : Shape). AtStep b d (IsTrimmed s c mine)) h.added.same.shape m.1) (prefix_self d.seen);
 }
 
 pub put_still : (who c mine : ℕ) (a b : Floor) → Trimmed who c a b → HasPut who c mine a → HasPut who c mine b
 put_still who c mine a b h p = put_lasts who c mine (map (λ (d : ℕ × ℕ). Drop c d.0 d.1) h.dropped) a b h.added p
 
-pub fewer : (who c mine : ℕ) (x : ℕ × ℕ) (shape : Shape) (b d : Floor) → shape ≡ d.shape → Legal d.shape d.seen → TrimAnswer who c mine b d (Some x) → left_of shape c d.seen < left_of shape c b.seen
+pub fewer : (who c mine : ℕ) (x : ℕ × ℕ) (shape : Shape) (b d : Floor) → shape ≡ d.shape → Legal d.shape d.seen
+    → TrimAnswer who c mine b d (Some x) → left_of shape c d.seen < left_of shape c b.seen
 fewer who c mine x shape b d is l m = left_lower who c (Drop c x.0 x.1) shape b d is l m.0 refl
 
 -- ---- the own element
@@ -63,7 +69,12 @@ pub put_after : (who c mine : ℕ) (a b : Floor) → TrimsAll who c mine a b →
 put_after who c mine a b h p = put_lasts who c mine (map (λ (d : ℕ × ℕ). Drop c d.0 d.1) h.dropped) a b h.added p
 
 pub spurned_own : (who c mine v : ℕ) (a b : Floor) → SpurnAnswer who c mine a b (Some v) → SpurnsOwn who c mine a b
-spurned_own who c mine v a b m = record { spurned = Some v; added = added_made who (Spurn c mine v) a b m; fits = λ e. absurd (true≢false (ap is_some e)) }
+spurned_own who c mine v a b m = record {
+  spurned = Some v;
+  added = added_made who (Spurn c mine v) a b m;
+  fits =
+      λ e. absurd (true≢false (ap is_some e));
+}
 
 pub stays_own : (who c mine : ℕ) (a b : Floor) → SpurnAnswer who c mine a b None → SpurnsOwn who c mine a b
 stays_own who c mine a b m = record { spurned = None; added = added_looked who a b m.0; fits = λ e. m.1 }
@@ -76,36 +87,60 @@ too_many_gone who c mine a b d t s = record { trimmed = b; trims = t; spurns = s
 pub own_of : (who c p : ℕ) (a : Floor) → OffersAt who c p a → IsOwn who (wait_at c p) a
 own_of who c p a h = own.own_offer who 0 (wait_at c p) a a (same_room a) h
 
-pub never_settled : (who c p : ℕ) (a d : Floor) → Legal d.shape d.seen → OffersAt who c p a → LookAnswer who (wait_at c p) a d state.Settled → ⊥
+pub never_settled : (who c p : ℕ) (a d : Floor) → Legal d.shape d.seen → OffersAt who c p a → LookAnswer who (wait_at c p) a d state.Settled
+    → ⊥
 never_settled who c p a d l h m = own.never_settled who 0 (wait_at c p) a a d l (same_room a) h m
 
-pub ready_now : (who c p : ℕ) (a d : Floor) → Legal d.shape d.seen → OffersAt who c p a → LookAnswer who (wait_at c p) a d state.Resolved → IsReady who (wait_at c p) d
+pub ready_now : (who c p : ℕ) (a d : Floor) → Legal d.shape d.seen → OffersAt who c p a → LookAnswer who (wait_at c p) a d state.Resolved
+    → IsReady who (wait_at c p) d
 ready_now who c p a d l h m = own.ready_now who 0 (wait_at c p) a a d l (same_room a) h m
 
-pub never_value : (who c p k v : ℕ) (a d e : Floor) → Legal d.shape d.seen → OffersAt who c p a → LookAnswer who (wait_at c p) a d state.Resolved → SettleAnswer who (wait_at c p) false d e (settled.Value k v) → ⊥
-never_value who c p k v a d e l h m s = own.never_value who 0 k v (wait_at c p) a a d e l (same_room a) h m s
+pub never_value : (who c p k v : ℕ) (a d e : Floor) → Legal d.shape d.seen → OffersAt who c p a
+    → LookAnswer who (wait_at c p) a d state.Resolved → SettleAnswer who (wait_at c p) false d e (settled.Value k v) → ⊥
+never_value who c p k v a d e l h m s = own.never_value l (same_room a) h m s
 
-pub never_closed : (who c p k v : ℕ) (a d e : Floor) → Legal d.shape d.seen → OffersAt who c p a → LookAnswer who (wait_at c p) a d state.Resolved → SettleAnswer who (wait_at c p) false d e (settled.Closed k v) → ⊥
-never_closed who c p k v a d e l h m s = own.never_closed who 0 k v (wait_at c p) a a d e l (same_room a) h m s
+pub never_closed : (who c p k v : ℕ) (a d e : Floor) → Legal d.shape d.seen → OffersAt who c p a
+    → LookAnswer who (wait_at c p) a d state.Resolved → SettleAnswer who (wait_at c p) false d e (settled.Closed k v) → ⊥
+never_closed who c p k v a d e l h m s = own.never_closed l (same_room a) h m s
 
-pub never_undelivered : (who c p v : ℕ) (a d e : Floor) → Legal d.shape d.seen → OffersAt who c p a → LookAnswer who (wait_at c p) a d state.Resolved → SettleAnswer who (wait_at c p) false d e (settled.Undelivered v) → ⊥
-never_undelivered who c p v a d e l h m s = own.never_undelivered who 0 v (wait_at c p) a a d e l (same_room a) h m s
+pub never_undelivered : (who c p v : ℕ) (a d e : Floor) → Legal d.shape d.seen → OffersAt who c p a
+    → LookAnswer who (wait_at c p) a d state.Resolved → SettleAnswer who (wait_at c p) false d e (settled.Undelivered v) → ⊥
+never_undelivered who c p v a d e l h m s = own.never_undelivered l (same_room a) h m s
 
-pub stands : (who c p : ℕ) (a d : Floor) → Legal d.shape d.seen → OffersAt who c p a → LookAnswer who (wait_at c p) a d state.Standing → LookedSo who c p a d (step.Waits p)
+pub stands : (who c p : ℕ) (a d : Floor) → Legal d.shape d.seen → OffersAt who c p a → LookAnswer who (wait_at c p) a d state.Standing
+    → LookedSo who c p a d (step.Waits p)
 stands who c p a d l h m = (
   refl,
   record { acts = []; added = added_looked who a d m.0; are = refl },
-  record { plain = plain_lasts d.shape who (wait_at c p) [] a.seen d.seen l m.0.longer (m.0.mine ∙ sym (nothing_more _)) refl h; stood = m.1 },
+  record {
+    plain = plain_lasts d.shape who (wait_at c p) [] a.seen d.seen l m.0.longer (m.0.mine ∙ sym (nothing_more _)) refl h;
+    stood =
+        m.1;
+  },
 )
 
-ended : (who c p : ℕ) (outcome : Settled) (a d e : Floor) (how : _) → LookAnswer who (wait_at c p) a d how → SettleAnswer who (wait_at c p) false d e outcome → Added who (Settle (wait_at c p) outcome ∷ []) a e
-ended who c p outcome a d e how m s = added_then who [] (Settle (wait_at c p) outcome ∷ []) a d e (added_looked who a d m.0) (added_made who (Settle (wait_at c p) outcome) d e s.0)
+ended : (who c p : ℕ) (outcome : Settled) (a d e : Floor) (how : _) → LookAnswer who (wait_at c p) a d how
+    → SettleAnswer who (wait_at c p) false d e outcome → Added who (Settle (wait_at c p) outcome ∷ []) a e
+ended who c p outcome a d e how m s = added_then who [] (Settle (wait_at c p) outcome ∷ []) a d e (added_looked who a d m.0)
+    (added_made who (Settle (wait_at c p) outcome) d e s.0)
 
-pub was_sent : (who c p k : ℕ) (a d e : Floor) → LookAnswer who (wait_at c p) a d state.Resolved → SettleAnswer who (wait_at c p) false d e (settled.Sent k) → LookedSo who c p a e step.Sent
-was_sent who c p k a d e m s = record { acts = Settle (wait_at c p) (settled.Sent k) ∷ []; added = ended who c p (settled.Sent k) a d e state.Resolved m s; are = (k, refl) }
+pub was_sent : (who c p k : ℕ) (a d e : Floor) → LookAnswer who (wait_at c p) a d state.Resolved
+    → SettleAnswer who (wait_at c p) false d e (settled.Sent k) → LookedSo who c p a e step.Sent
+was_sent who c p k a d e m s = record {
+  acts = Settle (wait_at c p) (settled.Sent k) ∷ [];
+  added =
+      ended who c p (settled.Sent k) a d e state.Resolved m s;
+  are = (k, refl);
+}
 
-pub was_voided : (who c p : ℕ) (a d e : Floor) → LookAnswer who (wait_at c p) a d state.Resolved → SettleAnswer who (wait_at c p) false d e settled.Cancelled → LookedSo who c p a e step.Cancelled
-was_voided who c p a d e m s = record { acts = Settle (wait_at c p) settled.Cancelled ∷ []; added = ended who c p settled.Cancelled a d e state.Resolved m s; are = refl }
+pub was_voided : (who c p : ℕ) (a d e : Floor) → LookAnswer who (wait_at c p) a d state.Resolved
+    → SettleAnswer who (wait_at c p) false d e settled.Cancelled → LookedSo who c p a e step.Cancelled
+was_voided who c p a d e m s = record {
+  acts = Settle (wait_at c p) settled.Cancelled ∷ [];
+  added =
+      ended who c p settled.Cancelled a d e state.Resolved m s;
+  are = refl;
+}
 
 -- ---- admits, and a look
 
@@ -114,7 +149,8 @@ admits_quiet c [] = refl
 admits_quiet c (q ∷ qs) = admits_quiet c qs
 
 pub plain_admits : (who c p : ℕ) (a b : Floor) → Legal b.shape b.seen → AdmitsAll who c a b → OffersAt who c p a → OffersAt who c p b
-plain_admits who c p a b l m h = plain_lasts b.shape who (wait_at c p) (map (λ q. Admit c q) m.below.places) a.seen b.seen l m.below.added.longer m.below.added.mine (admits_quiet c m.below.places) h
+plain_admits who c p a b l m h = plain_lasts b.shape who (wait_at c p) (map (λ q. Admit c q) m.below.places) a.seen b.seen l
+    m.below.added.longer m.below.added.mine (admits_quiet c m.below.places) h
 
 pub held_so : (who c p : ℕ) (a b d : Floor) (r : SendStep) → AdmitsAll who c a b → LookedSo who c p b d r → HeldSo who c p a d r
 held_so who c p a b d step.Sent m h = (
@@ -160,7 +196,8 @@ put who c v p a b d m t =
     let spurns : List Act = spurn_acts c p t.spurns.spurned in (
       record {
         acts = put_acts c v p t.trims.dropped t.spurns.spurned;
-        added = added_then who (Put c p v ∷ []) (drops ++ spurns) a b d added (added_then who drops spurns b t.trimmed d t.trims.added t.spurns.added);
+        added = added_then who (Put c p v ∷ []) (drops ++ spurns) a b d added
+            (added_then who drops spurns b t.trimmed d t.trims.added t.spurns.added);
         are = SendsOne.puts p t.trims.dropped t.spurns.spurned;
       },
       Follows.puts p b added t,
@@ -169,7 +206,8 @@ put who c v p a b d m t =
 pub plain_now : (who c v p : ℕ) (a b : Floor) → Legal b.shape b.seen → Made who (Offer c p v (wait_at c p) 0) a b → OffersAt who c p b
 plain_now who c v p a b l m = offer_plain who c p v a b l m
 
-pub held : (who c v p : ℕ) (a b d : Floor) (r : SendStep) → Made who (Offer c p v (wait_at c p) 0) a b → HeldSo who c p b d r → OfferedSo who c v a d r
+pub held : (who c v p : ℕ) (a b d : Floor) (r : SendStep) → Made who (Offer c p v (wait_at c p) 0) a b → HeldSo who c p b d r
+    → OfferedSo who c v a d r
 held who c v p a b d step.Sent m h =
     let added = added_made who (Offer c p v (wait_at c p) 0) a b m in (
       record {
@@ -186,7 +224,8 @@ held who c v p a b d (step.Waits q) m h =
         added = added_then who (Offer c p v (wait_at c p) 0 ∷ []) h.1.acts a b d added h.1.added;
         are = (h.1.are.0, ap (λ l. Offer c p v (wait_at c p) 0 ∷ l) h.1.are.1 ∙ ap (λ z. offer_acts c v z h.1.are.0) (sym h.0));
       },
-      subst (λ z. OfferWaits who c z a d) (sym h.0) (record { plain = h.2.plain; stood = moment_within a b d d _ added.longer h.2.stood (prefix_self d.seen) }),
+      subst (λ z. OfferWaits who c z a d) (sym h.0) (record
+          { plain = h.2.plain; stood = moment_within a b d d _ added.longer h.2.stood (prefix_self d.seen) }),
       Follows.offers p b added h.3,
     )
 held who c v p a b d (step.Closed x) m h = absurd h
@@ -209,8 +248,10 @@ spent who c v a d m = (record { acts = []; added = added_looked who a d m.0; are
 
 -- ---- a start, by the sink's wait behind it
 
-pub started_sent : (who c v : ℕ) (wait : Option (ℕ × ℕ)) (a d : Floor) → wait ≡ None → OfferedSo who c v a d step.Sent → Acted who (SentOrWaits c v wait) a d × Follows who c v a d
+pub started_sent : (who c v : ℕ) (wait : Option (ℕ × ℕ)) (a d : Floor) → wait ≡ None → OfferedSo who c v a d step.Sent
+    → Acted who (SentOrWaits c v wait) a d × Follows who c v a d
 started_sent who c v wait a d e h = (subst (λ (w : Option (ℕ × ℕ)). Acted who (SentOrWaits c v w) a d) (sym e) h.0, h.1)
 
-pub started_waits : (who c v q : ℕ) (a d : Floor) → OfferedSo who c v a d (step.Waits q) → Acted who (SentOrWaits c v (Some (q, v))) a d × Follows who c v a d
+pub started_waits : (who c v q : ℕ) (a d : Floor) → OfferedSo who c v a d (step.Waits q) → Acted who (SentOrWaits c v (Some (q, v))) a d
+    × Follows who c v a d
 started_waits who c v q a d h = (record { acts = h.0.acts; added = h.0.added; are = (refl, h.0.are) }, h.2)

@@ -33,7 +33,8 @@ starts who row a d true l m =
       acts = Start row ∷ [];
       added = added_made who (Start row) [] a d m;
       at_most = inl refl;
-      not_new = subst IsNotNew (sym (changed_here row started (replay m.before)) ∙ sym (ap (λ t. t row) (ap replay m.last ∙ replay_push m.before entry))) (started_not_new (replay m.before row) need);
+      not_new = subst IsNotNew (sym (changed_here row started (replay m.before))
+          ∙ sym (ap (λ t. t row) (ap replay m.last ∙ replay_push m.before entry))) (started_not_new (replay m.before row) need);
     }
 starts who row a d false l m = record {
   acts = [];
@@ -46,11 +47,13 @@ starts who row a d false l m = record {
 pub row_here : (row : ℕ) (pass : JobPass) (wait : Option ℕ) → wait ≡ None → RowStands row pass wait → RowStands row pass None
 row_here row pass wait e h = subst (RowStands row pass) e h
 
-pub starts_here : (who row : ℕ) (a d : JobPass) (wait : Option ℕ) → wait ≡ None → Started who row (jobs_seen a) (jobs_seen d) → StartsFirst wait who row a d
+pub starts_here : (who row : ℕ) (a d : JobPass) (wait : Option ℕ) → wait ≡ None → Started who row (jobs_seen a) (jobs_seen d)
+    → StartsFirst wait who row a d
 starts_here who row a d wait e h = subst (λ (w : Option ℕ). StartsFirst w who row a d) (sym e) h
 
 pub left_here : (who row place : ℕ) (a : JobPass) (wait : Option ℕ) → wait ≡ Some place → StartsFirst wait who row a a
 left_here who row place a wait e = subst (λ (w : Option ℕ). StartsFirst w who row a a) (sym e) refl
 
-pub not_new_here : (row place : ℕ) (pass : JobPass) (wait : Option ℕ) → wait ≡ Some place → RowStands row pass wait → IsNotNew (replay (jobs_seen pass).seen row)
+pub not_new_here : (row place : ℕ) (pass : JobPass) (wait : Option ℕ) → wait ≡ Some place → RowStands row pass wait
+    → IsNotNew (replay (jobs_seen pass).seen row)
 not_new_here row place pass wait e h = subst (RowStands row pass) e h

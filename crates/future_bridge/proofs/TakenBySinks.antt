@@ -23,7 +23,8 @@ use Rattle.future_bridge.specs.Sinks.{SameSink, sink_floor, ActedBy, EndsSent, F
 given_append : (c : ℕ) (xs ys : List Act) → given c (xs ++ ys) ≡ given c xs ++ given c ys
 unfolding given
 given_append c [] ys = refl
-given_append c (x ∷ xs) ys = ap (λ l. given_by c x ++ l) (given_append c xs ys) ∙ sym (append_assoc (given_by c x) (given c xs) (given c ys))
+given_append c (x ∷ xs) ys = ap (λ l. given_by c x ++ l) (given_append c xs ys)
+    ∙ sym (append_assoc (given_by c x) (given c xs) (given c ys))
 
 here : (c v : ℕ) (rest : List ℕ) → (if c == c then v ∷ [] else []) ++ rest ≡ v ∷ rest
 here c v rest = ap (λ b. (if b then v ∷ [] else []) ++ rest) (same_number c)
@@ -68,12 +69,14 @@ one_sent c v _ (SendsOne.hands q) = one_handed c q v
 one_sent c v _ (SendsOne.puts q dropped spurned) =
     let drops : List Act = map (λ (d : ℕ × ℕ). Drop c d.0 d.1) dropped in
     one_first c q v (drops ++ spurn_acts c q spurned)
-    (given_append c drops (spurn_acts c q spurned) ∙ ap (λ l. l ++ given c (spurn_acts c q spurned)) (none_by_drops c dropped) ∙ none_by_spurn c q spurned)
+    (given_append c drops (spurn_acts c q spurned) ∙ ap (λ l. l ++ given c (spurn_acts c q spurned)) (none_by_drops c dropped)
+    ∙ none_by_spurn c q spurned)
 one_sent c v all (SendsOne.offers q k admits _ is) =
     let settle : List Act = Settle (wait_at c q) (settled.Sent k) ∷ [] in
     ap (given c) is
     ∙ one_offered c q v (map (λ (p : ℕ). Admit c p) admits ++ settle)
-    (given_append c (map (λ (p : ℕ). Admit c p) admits) settle ∙ ap (λ l. l ++ given c settle) (none_by_admits c admits) ∙ none_by_settle c (wait_at c q) (settled.Sent k))
+    (given_append c (map (λ (p : ℕ). Admit c p) admits) settle ∙ ap (λ l. l ++ given c settle) (none_by_admits c admits)
+    ∙ none_by_settle c (wait_at c q) (settled.Sent k))
 
 none_ended : (c : ℕ) (wait : Option (ℕ × ℕ)) (acts : List Act) → EndsSent c wait acts → given c acts ≡ []
 none_ended c None acts h = ap (given c) h ∙ given_none c
@@ -81,7 +84,8 @@ none_ended c (Some x) acts h = ap (given c) h.1 ∙ none_by_settle c (wait_at c 
 
 -- ---- what a sink took
 
-more_given : (who c : ℕ) (P : List Act → Type 0) (ys : List ℕ) (a d : Floor) → Acted who P a d → ((acts : List Act) → P acts → given c acts ≡ ys)
+more_given : (who c : ℕ) (P : List Act → Type 0) (ys : List ℕ) (a d : Floor) → Acted who P a d
+    → ((acts : List Act) → P acts → given c acts ≡ ys)
     → (xs : List ℕ) → given c (acts_of who a.seen) ≡ xs → given c (acts_of who d.seen) ≡ xs ++ ys
 more_given who c P ys a d h gave xs was =
     ap (given c) h.added.mine
@@ -89,26 +93,31 @@ more_given who c P ys a d h gave xs was =
     ∙ ap (λ l. l ++ given c h.acts) was
     ∙ ap (λ l. xs ++ l) (gave h.acts h.are)
 
-same_taken : (old new : SendSink) (P : List Act → Type 0) → SameSink old new → ActedBy old P new → ((acts : List Act) → P acts → given old.c acts ≡ []) → (xs : List ℕ) → SinkTook old xs → SinkTook new xs
+same_taken : (old new : SendSink) (P : List Act → Type 0) → SameSink old new → ActedBy old P new
+    → ((acts : List Act) → P acts → given old.c acts ≡ []) → (xs : List ℕ) → SinkTook old xs → SinkTook new xs
 same_taken old new P s h gave xs was =
     subst (λ (c : ℕ). given c (acts_of new.who (sink_floor new).seen) ≡ xs) (sym s.channel)
     (subst (λ (who : ℕ). given old.c (acts_of who (sink_floor new).seen) ≡ xs) (sym s.who)
     (more_given old.who old.c P [] (sink_floor old) (sink_floor new) h gave xs was ∙ nothing_more xs))
 
 -- after a flush that left its offer waiting
-pub waits_taken : (old new : SendSink) → SameSink old new → FlushedSo old new flush.Waits → (xs : List ℕ) → SinkTook old xs → SinkTook new xs
+pub waits_taken : (old new : SendSink) → SameSink old new → FlushedSo old new flush.Waits → (xs : List ℕ) → SinkTook old xs
+    → SinkTook new xs
 waits_taken old new s h = same_taken old new (λ acts. acts ≡ []) s h.1 (λ acts e. ap (given old.c) e ∙ given_none old.c)
 
 -- after one that was done
-pub flushed_taken : (old new : SendSink) → SameSink old new → FlushedSo old new flush.Done → (xs : List ℕ) → SinkTook old xs → SinkTook new xs
+pub flushed_taken : (old new : SendSink) → SameSink old new → FlushedSo old new flush.Done → (xs : List ℕ) → SinkTook old xs
+    → SinkTook new xs
 flushed_taken old new s h = same_taken old new (EndsSent old.c old.wait) s h.1 (λ acts e. none_ended old.c old.wait acts e)
 
 -- after the next was sent
-pub sent_given : (who c v : ℕ) (a d : Floor) → OfferedSo who c v a d step.Sent → (xs : List ℕ) → given c (acts_of who a.seen) ≡ xs → given c (acts_of who d.seen) ≡ xs ++ v ∷ []
+pub sent_given : (who c v : ℕ) (a d : Floor) → OfferedSo who c v a d step.Sent → (xs : List ℕ) → given c (acts_of who a.seen) ≡ xs
+    → given c (acts_of who d.seen) ≡ xs ++ v ∷ []
 sent_given who c v a d h = more_given who c (SendsOne c v) (v ∷ []) a d h.0 (λ acts e. one_sent c v acts e)
 
 -- or its offer waits
-pub waits_given : (who c v q : ℕ) (a d : Floor) → OfferedSo who c v a d (step.Waits q) → (xs : List ℕ) → given c (acts_of who a.seen) ≡ xs → given c (acts_of who d.seen) ≡ xs ++ v ∷ []
+pub waits_given : (who c v q : ℕ) (a d : Floor) → OfferedSo who c v a d (step.Waits q) → (xs : List ℕ) → given c (acts_of who a.seen) ≡ xs
+    → given c (acts_of who d.seen) ≡ xs ++ v ∷ []
 waits_given who c v q a d h =
     more_given who c (λ acts. (admits : List ℕ) × (acts ≡ offer_acts c v q admits)) (v ∷ []) a d h.0
     (λ acts e. ap (given c) e.1 ∙ one_offered c q v (map (λ (p : ℕ). Admit c p) e.0) (none_by_admits c e.0))

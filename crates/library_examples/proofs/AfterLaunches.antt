@@ -19,6 +19,7 @@ use Rattle.job_model.proofs.Own.{prefix_keeps}
 use Rattle.note_book.specs.declared.book.Item.{Item}
 use Rattle.note_book.specs.declared.book.Item.TheVariants.{Job}
 use Rattle.note_book.specs.Items.{job_acts_in}
+use Rattle.call_meaning.specs.Seen.{SeenOnJobs}
 use Rattle.call_meaning.specs.Telling.{did, saw_end, items_in}
 use Rattle.call_meaning.specs.JobCalls.{child_kind}
 use Rattle.call_meaning.specs.Calls.{ToldOnJobs}
@@ -26,19 +27,26 @@ use Rattle.call_meaning.proofs.JobTellings.{acts_did}
 use Rattle.scope_builders.specs.Calls.{LaunchAnswer, SeenEndAnswer}
 use Rattle.library_examples.specs.Examples.{SawCompleted}
 
+-- what a coroutine sees of the Jobs
+abbrev sees : ℕ → Floor → List Item → SeenOnJobs
+sees who floor items = record { who = who; floor = floor; items = items }
+
 -- where nobody else makes entries, the child is attached
-pub launched_attached : (who parent tag : ℕ) (lazy : Bool) (a b : Floor) (i j : List Item) (child : Attached) → a.alone ≡ true → LaunchAnswer who parent tag lazy a b i j (Ok child) → is_some (replay b.seen child.row) ≡ true
-launched_attached who parent tag lazy a b i j child alone h =
+pub launched_attached : (who me parent tag : ℕ) (lazy : Bool) (a b : Floor) (i j : List Item) (child : Attached) → a.alone ≡ true
+    → LaunchAnswer parent tag lazy (sees who a i) (sees me b j) (Ok child) → is_some (replay b.seen child.row) ≡ true
+launched_attached who me parent tag lazy a b i j child alone h =
     let act : JobAct = Attach parent tag (child_kind lazy) tag child.cancelled in
     let acts : job_acts_in (items_in (did act ∷ [])) ≡ act ∷ [] = acts_did (act ∷ []) in
-    let seen : b.seen ≡ a.seen ++ record { who = who; act = act } ∷ [] = h.1.added.alone alone ∙ ap (λ l. a.seen ++ entries_by who l) acts in
+    let seen : b.seen ≡ a.seen ++ record { who = who; act = act } ∷ [] = h.1.added.alone alone
+    ∙ ap (λ l. a.seen ++ entries_by who l) acts in
     ap (λ r. is_some (replay b.seen r)) h.0
     ∙ ap (λ (es : List JobEntry). is_some (replay es tag)) seen
     ∙ ap (λ (t : Tree). is_some (t tag)) (replay_push a.seen (record { who = who; act = act }))
     ∙ ap is_some (attached_now (replay a.seen) who parent tag (child_kind lazy) tag child.cancelled)
 
 -- what was attached is so later
-pub attached_later : (row : ℕ) (a b : Floor) → Legal b.shape b.seen → IsPrefix a.seen b.seen → is_some (replay a.seen row) ≡ true → is_some (replay b.seen row) ≡ true
+pub attached_later : (row : ℕ) (a b : Floor) → Legal b.shape b.seen → IsPrefix a.seen b.seen → is_some (replay a.seen row) ≡ true
+    → is_some (replay b.seen row) ≡ true
 attached_later row a b l p h = prefix_keeps _ attached_lasts b.shape a.seen b.seen row l p h
 
 saw_noted : (row value : ℕ) → items_in (saw_end row (Completed value) ∷ []) ≡ Job (SawEnd row (Completed value)) ∷ []
@@ -46,7 +54,9 @@ unfolding items_in
 saw_noted row value = refl
 
 -- what was seen is the last note
-pub saw_completed : (who row value : ℕ) (o : Option End) (e : End) (a b : Floor) (i j : List Item) → o ≡ Some e → e ≡ Completed value → SeenEndAnswer who row a b i j (Ok o) → SawCompleted row value j
-saw_completed who row value o e a b i j p q h =
-    let k : ToldOnJobs who [] a b i j (saw_end row (Completed value) ∷ []) = subst (λ x. SeenEndAnswer who row a b i j (Ok x)) (p ∙ ap Some q) h in
-    record { before = i; noted = k.appended ∙ ap (λ l. i ++ l) (saw_noted row value) }
+pub saw_completed : (who me row value : ℕ) (o : Option End) (e : End) (a b : Floor) (i j : List Item) → o ≡ Some e → e ≡ Completed value
+    → SeenEndAnswer row (sees who a i) (sees me b j) (Ok o) → SawCompleted row value j
+saw_completed who me row value o e a b i j p q h =
+    let told : ToldOnJobs [] (sees who a i) (sees me b j) (saw_end row (Completed value) ∷ []) =
+    subst (λ x. SeenEndAnswer row (sees who a i) (sees me b j) (Ok x)) (p ∙ ap Some q) h in
+    record { before = i; noted = told.appended ∙ ap (λ l. i ++ l) (saw_noted row value) }

@@ -11,36 +11,46 @@ use Rattle.channel_model.proofs.Others.{others_keep, unsettled_stays}
 use Rattle.channel_model.proofs.Spans.{nothing_more}
 use Rattle.note_book.specs.declared.book.Item.{Item}
 use Rattle.note_book.specs.Items.{channel_acts_in}
+use Rattle.call_meaning.specs.Seen.{SeenOnChannels}
 use Rattle.call_meaning.specs.Telling.{Told, items_in}
 use Rattle.call_meaning.specs.ChannelCalls.{Call, receives, Answer, Done, Got, Closed, Waits, NoPlace, LooksAgain, AtOnce, Refused, PlainCall, channel_of}
 use Rattle.channel_calls.specs.declared.caller.SendAnswer.{SendAnswer}
 use Rattle.channel_calls.specs.declared.caller.SendAnswer.TheVariants as send
 use Rattle.channel_calls.specs.declared.caller.ReceiveAnswer.TheVariants as receive
-use Rattle.channel_calls.specs.Calls.{ReceivedAnswer, SentAnswer, HoldsWait}
+use Rattle.channel_calls.specs.Calls.{ReceivedAnswer, SentAnswer}
+use Rattle.channel_calls.proofs.Roomed.{HoldsAt}
 
 -- ---- a send
 
 -- the sender's acts were added
-pub sent_added : (who c v : ℕ) (a b : Floor) (i j : List Item) (r : SendAnswer) → SentAnswer who c v a b i j (Ok r) → (acts : List Act) × Added who acts a b
-sent_added who c v a b i j send.Sent s = (channel_acts_in (items_in s.told), s.left.added)
-sent_added who c v a b i j (send.Waits w) s = (channel_acts_in (items_in s.0.told), s.0.left.added)
-sent_added who c v a b i j (send.Closed x) s = (channel_acts_in (items_in s.0.told), s.0.left.added)
-sent_added who c v a b i j send.Spent s = (channel_acts_in (items_in s.told), s.left.added)
+pub sent_added : (c v : ℕ) (a b : SeenOnChannels) (r : SendAnswer) → SentAnswer c v a b (Ok r)
+    → (acts : List Act) × Added a.who acts a.floor b.floor
+sent_added c v a b send.Sent s = (channel_acts_in (items_in s.told), s.left.added)
+sent_added c v a b (send.Waits w) s = (channel_acts_in (items_in s.0.told), s.0.left.added)
+sent_added c v a b (send.Closed x) s = (channel_acts_in (items_in s.0.told), s.0.left.added)
+sent_added c v a b send.Spent s = (channel_acts_in (items_in s.told), s.left.added)
 
 -- whoever might call may still call
 pub call_added : (who k c : ℕ) (acts : List Act) (a b : Floor) → Added k acts a b → MayCall who c a → MayCall who c b
-call_added who k c acts a b h m = record { caller = ap (λ (t : ℕ → Bool). t who) h.same.callers ∙ m.caller; channel = rw h.same.shape m.channel }
+call_added who k c acts a b h m = record {
+  caller = ap (λ (t : ℕ → Bool). t who) h.same.callers
+      ∙ m.caller;
+  channel = rw h.same.shape m.channel;
+}
 
 none_of : (who k : ℕ) (acts : List Act) → (k == who) ≡ false → acts_of who (entries_by k acts) ≡ []
 unfolding acts_of
 none_of who k [] n = refl
-none_of who k (act ∷ acts) n = ap (λ b. if b then act ∷ acts_of who (entries_by k acts) else acts_of who (entries_by k acts)) n ∙ none_of who k acts n
+none_of who k (act ∷ acts) n = ap (λ b. if b then act ∷ acts_of who (entries_by k acts) else acts_of who (entries_by k acts)) n
+    ∙ none_of who k acts n
 
 -- where nobody else makes entries, a wait of another goes on to be held
-pub holds_added : (who k : ℕ) (acts : List Act) (w : WaitId) (a b : Floor) → Legal b.shape b.seen → a.alone ≡ true → (k == who) ≡ false → Added k acts a b → HoldsWait who w a → HoldsWait who w b
+pub holds_added : (who k : ℕ) (acts : List Act) (w : WaitId) (a b : Floor) → Legal b.shape b.seen → a.alone ≡ true → (k == who) ≡ false
+    → Added k acts a b → HoldsAt who w a → HoldsAt who w b
 holds_added who k acts w a b l alone n h holds =
     let mine : acts_of who b.seen ≡ acts_of who a.seen =
-    ap (acts_of who) (h.alone alone) ∙ acts_of-append who a.seen (entries_by k acts) ∙ ap (λ xs. acts_of who a.seen ++ xs) (none_of who k acts n) ∙ nothing_more (acts_of who a.seen) in
+    ap (acts_of who) (h.alone alone) ∙ acts_of-append who a.seen (entries_by k acts)
+    ∙ ap (λ xs. acts_of who a.seen ++ xs) (none_of who k acts n) ∙ nothing_more (acts_of who a.seen) in
     others_keep b.shape who (IsUnsettledOf who) (unsettled_stays who) w a.seen b.seen l h.longer mine holds
 
 -- ---- a receive
@@ -77,14 +87,22 @@ received_at c w told h = waits_at (receives c) told (Waits w) h
 
 -- ---- a send behind a receive that waits
 
+-- what a coroutine sees
+abbrev sees : ℕ → Floor → List Item → SeenOnChannels
+sees who floor items = record { who = who; floor = floor; items = items }
+
 -- whoever waits may still call for its wait
-pub may_call_waiting : (c v : ℕ) (w : WaitId) (a b d : Floor) (i j k l : List Item) (r : SendAnswer) → ReceivedAnswer 1 c a b i j (Ok (receive.Waits w)) → SentAnswer 2 c v b d k l (Ok r) → MayCall 1 c a → MayCall 1 w.channel d
+pub may_call_waiting : (c v : ℕ) (w : WaitId) (a b d : Floor) (i j k l : List Item) (r : SendAnswer)
+    → ReceivedAnswer c (sees 1 a i) (sees 1 b j) (Ok (receive.Waits w)) → SentAnswer c v (sees 2 b k) (sees 2 d l) (Ok r) → MayCall 1 c a
+    → MayCall 1 w.channel d
 may_call_waiting c v w a b d i j k l r h s m =
-    let t = sent_added 2 c v b d k l r s in
-    subst (λ n. MayCall 1 n d) (sym (received_at c w h.0.told h.0.goes)) (call_added 1 2 c t.0 b d t.1 (call_added 1 1 c _ a b h.0.left.added m))
+    let t = sent_added c v (sees 2 b k) (sees 2 d l) r s in
+    subst (λ n. MayCall 1 n d) (sym (received_at c w h.0.told h.0.goes))
+    (call_added 1 2 c t.0 b d t.1 (call_added 1 1 c _ a b h.0.left.added m))
 
 -- and its wait is held
-pub holds_waiting : (c v : ℕ) (w : WaitId) (a b d : Floor) (i j k l : List Item) (r : SendAnswer) → Legal d.shape d.seen → a.alone ≡ true → ReceivedAnswer 1 c a b i j (Ok (receive.Waits w)) → SentAnswer 2 c v b d k l (Ok r) → HoldsWait 1 w d
+pub holds_waiting : (c v : ℕ) (w : WaitId) (a b d : Floor) (i j k l : List Item) (r : SendAnswer) → Legal d.shape d.seen → a.alone ≡ true
+    → ReceivedAnswer c (sees 1 a i) (sees 1 b j) (Ok (receive.Waits w)) → SentAnswer c v (sees 2 b k) (sees 2 d l) (Ok r) → HoldsAt 1 w d
 holds_waiting c v w a b d i j k l r legal alone h s =
-    let t = sent_added 2 c v b d k l r s in
+    let t = sent_added c v (sees 2 b k) (sees 2 d l) r s in
     holds_added 1 2 t.0 w b d legal (h.0.left.added.same.alone ∙ alone) refl t.1 h.1.holds

@@ -14,7 +14,8 @@ use Rattle.job_model.specs.Answers.{view_of, AttachAnswer, LookAnswer}
 use Rattle.job_model.proofs.Lasting.{attached_lasts}
 use Rattle.job_model.proofs.Own.{prefix_keeps}
 
-pub attach_same : (who parent : ℕ) (kind : JobKind) (tag : ℕ) (a d : Floor) (r : Result Attached AttachError) → AttachAnswer who parent kind tag a d r → SameSetting a d
+pub attach_same : (who parent : ℕ) (kind : JobKind) (tag : ℕ) (a d : Floor) (r : Result Attached AttachError)
+    → AttachAnswer who parent kind tag a d r → SameSetting a d
 attach_same who parent kind tag a d (Ok x) m = m.same
 attach_same who parent kind tag a d (Err error.NoRow) m = m.looked.same
 attach_same who parent kind tag a d (Err error.Used) m = m.looked.same

@@ -22,7 +22,8 @@ pub nothing_made : (who : ℕ) (es : List Entry) → acts_of who es ≡ [] → a
 unfolding acts_of
 nothing_made who es e = e
 
-pub pass_fresh : (places n who : ℕ) (hub : Hub) (pass : Pass) → shape_of hub ≡ (Unlimited, places) ∷ [] → 1 ≤ n → n ≤ 65535 → has_tag who (seen_by pass).tags ≡ true → acts_of who (seen_by pass).seen ≡ acts_of who [] → MayFill 0 n who (hub_floor hub pass)
+pub pass_fresh : (places n who : ℕ) (hub : Hub) (pass : Pass) → shape_of hub ≡ (Unlimited, places) ∷ [] → 1 ≤ n → n ≤ 65535
+    → has_tag who (seen_by pass).tags ≡ true → acts_of who (seen_by pass).seen ≡ acts_of who [] → MayFill 0 n who (hub_floor hub pass)
 pass_fresh places n who hub pass s some few tag none = record {
   can = record { caller = tag; channel = subst (λ (x : Shape). 0 < length x) (sym s) (omega arith) };
   kind = ap (λ (x : Shape). kind_at x 0) s;

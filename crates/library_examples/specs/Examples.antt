@@ -2,11 +2,11 @@
 use Rattle.std.specs.Prelude.{◌≡◌, ℕ, true, List, [], ◌∷◌, ◌++◌, Option, Some, None, Result, Ok, Err}
 use Rattle.channel_model.specs.declared.acts.Settled.{Settled}
 use Rattle.channel_model.specs.declared.acts.ChannelNote.TheVariants.{TryReceiveClosed}
-use Rattle.channel_model.specs.Floors.{Floor}
 use Rattle.job_model.specs.declared.acts.End.TheVariants.{Completed}
 use Rattle.job_model.specs.declared.acts.JobNote.TheVariants.{SawEnd}
 use Rattle.note_book.specs.declared.book.Item.{Item}
 use Rattle.note_book.specs.declared.book.Item.TheVariants.{Job}
+use Rattle.call_meaning.specs.Seen.{SeenOnChannels}
 use Rattle.call_meaning.specs.Telling.{heard}
 use Rattle.call_meaning.specs.ChannelCalls.{Got, receives, blocked, is_given_up}
 use Rattle.call_meaning.specs.Calls.{ToldOnChannels}
@@ -16,13 +16,10 @@ use Rattle.permits.specs.declared.permits.GivenBack.{GivenBack}
 use Rattle.permits.specs.Answers.{NumberAfterCancel}
 
 -- this element was received; or none was, since the channel was empty, or closed and empty, and the answer is the other value
-pub data ReceivedOr (who c other : ℕ) (old new : Floor) (items items' : List Item) : ℕ → Type 0 where
-  received : (v : ℕ) → Tells who (GoesAtOnce (receives c) (Got v)) old new items items'
-      → ReceivedOr who c other old new items items' v
-  empty : ToldOnChannels who old new items items' (blocked (receives c) ∷ [])
-      → ReceivedOr who c other old new items items' other
-  closed : (x : ℕ) → ToldOnChannels who old new items items' (heard (TryReceiveClosed c x) ∷ [])
-      → ReceivedOr who c other old new items items' other
+pub data ReceivedOr (c other : ℕ) (old new : SeenOnChannels) : ℕ → Type 0 where
+  received : (v : ℕ) → Tells (GoesAtOnce (receives c) (Got v)) old new → ReceivedOr c other old new v
+  empty : ToldOnChannels old new (blocked (receives c) ∷ []) → ReceivedOr c other old new other
+  closed : (x : ℕ) → ToldOnChannels old new (heard (TryReceiveClosed c x) ∷ []) → ReceivedOr c other old new other
 
 -- a wait that ended did so as cancelled, or with its element given up
 abbrev pub IsGivenUp : Option Settled → Type 0

@@ -4,7 +4,8 @@ ghost use Rattle.std.specs.Prelude.{◌≡◌, true, false, IfOk, OnOk};
 ghost use Rattle.channel_model.specs.Channels.{kind_at, is_signal};
 ghost use Rattle.channel_model.specs.Floors.{MayCall};
 ghost use Rattle.channel_model.specs.Answers.{IsSeenClosed};
-ghost use Rattle.channel_calls.specs.Calls.{SameCaller, SentAnswer, ReceivedAnswer};
+ghost use Rattle.call_meaning.specs.Seen.{seen_channels, MayCallChannel};
+ghost use Rattle.channel_calls.specs.Calls.{SameCaller, seen, CarriesElements, SentAnswer, ReceivedAnswer};
 ghost use Rattle.library_examples.specs.Examples.{ReceivedOr, IsGivenUp};
 
 use channel_calls::{Caller, ReceiveAnswer, SendAnswer, TryReceiveAnswer};
@@ -18,8 +19,8 @@ pub(crate) fn send_last<F: ChannelFloor, B: NoteBook, W: Wakes>(
     c: ChannelId,
     value: Value,
 ) -> Result<SendAnswer, Memory>
-    requires can { MayCall caller.old.who c (F.view caller.old.floor.now) }
-    requires kind { is_signal (kind_at (F.view caller.old.floor.now).shape c) ≡ false }
+    requires can { MayCallChannel c (seen F.view B.items caller.old) }
+    requires kind { CarriesElements c (seen F.view B.items caller.old) }
     ensures same { SameCaller F.anchor caller.old caller.new }
     ensures closed { OnOk result (IsSeenClosed c (F.view caller.new.floor.now)) }
 {
@@ -38,10 +39,9 @@ pub(crate) fn receive_or<F: ChannelFloor, B: NoteBook, W: Wakes>(
     c: ChannelId,
     other: Value,
 ) -> Result<Value, Memory>
-    requires can { MayCall caller.old.who c (F.view caller.old.floor.now) }
+    requires can { MayCallChannel c (seen F.view B.items caller.old) }
     ensures same { SameCaller F.anchor caller.old caller.new }
-    ensures received { IfOk result (λ value. ReceivedOr caller.old.who c other (F.view caller.old.floor.now)
-        (F.view caller.new.floor.now) (B.items caller.old.book.now) (B.items caller.new.book.now) value) }
+    ensures received { IfOk result (λ value. ReceivedOr c other (seen F.view B.items caller.old) (seen F.view B.items caller.new) value) }
 {
     match caller.try_receive(c) {
         Ok(TryReceiveAnswer::Value(value)) => Ok(value),
@@ -63,7 +63,8 @@ fn send_as<F: ChannelFloor, B: NoteBook, W: Wakes>(
     requires can { MayCall who c (F.view floor.old) }
     requires kind { is_signal (kind_at (F.view floor.old).shape c) ≡ false }
     ensures anchor { F.anchor floor.new ≡ F.anchor floor.old }
-    ensures answer { SentAnswer who c value (F.view floor.old) (F.view floor.new) (B.items book.old) (B.items book.new) result }
+    ensures answer { SentAnswer c value (seen_channels F.view B.items who floor.old book.old)
+        (seen_channels F.view B.items who floor.new book.new) result }
 {
     let mut caller = Caller {
         floor: &mut *floor,
@@ -84,7 +85,8 @@ fn receive_as<F: ChannelFloor, B: NoteBook, W: Wakes>(
 ) -> Result<ReceiveAnswer, Memory>
     requires can { MayCall who c (F.view floor.old) }
     ensures anchor { F.anchor floor.new ≡ F.anchor floor.old }
-    ensures answer { ReceivedAnswer who c (F.view floor.old) (F.view floor.new) (B.items book.old) (B.items book.new) result }
+    ensures answer { ReceivedAnswer c (seen_channels F.view B.items who floor.old book.old)
+        (seen_channels F.view B.items who floor.new book.new) result }
 {
     let mut caller = Caller {
         floor: &mut *floor,

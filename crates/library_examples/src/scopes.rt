@@ -3,7 +3,7 @@
 ghost use Rattle.std.specs.Prelude.{◌≡◌, ◌<◌, true, is_some, IfOk, OnOk};
 ghost use Rattle.job_model.specs.Histories.{replay};
 ghost use Rattle.job_model.specs.Cancels.{IsAllCancelled};
-ghost use Rattle.scope_builders.specs.Calls.{SameBuilder, MayBuild};
+ghost use Rattle.scope_builders.specs.Calls.{SameBuilder, seen, MayBuild};
 ghost use Rattle.library_examples.specs.Examples.{SawResult, SawSome};
 
 use channel_model::ChannelFloor;
@@ -18,7 +18,7 @@ pub(crate) fn launch_and_cancel<C: ChannelFloor, J: JobFloor, B: NoteBook, W: Wa
     parent: Row,
     tag: Tag,
 ) -> Result<u32, LaunchError>
-    requires may { MayBuild builder.old.who builder.old.base (C.view builder.old.channels.now) (J.view builder.old.jobs.now) }
+    requires may { MayBuild builder.old.base (seen C.view J.view B.items builder.old) }
     requires parent { is_some (replay (J.view builder.old.jobs.now).seen parent) ≡ true }
     requires tag { tag < (J.view builder.old.jobs.now).shape.coroutines }
     requires alone { (J.view builder.old.jobs.now).alone ≡ true }
@@ -38,7 +38,7 @@ pub(crate) fn result_of<C: ChannelFloor, J: JobFloor, B: NoteBook, W: Wakes>(
     builder: &mut Builder<'_, '_, '_, '_, C, J, B, W>,
     row: Row,
 ) -> Result<Option<Value>, Memory>
-    requires may { MayBuild builder.old.who builder.old.base (C.view builder.old.channels.now) (J.view builder.old.jobs.now) }
+    requires may { MayBuild builder.old.base (seen C.view J.view B.items builder.old) }
     requires row { is_some (replay (J.view builder.old.jobs.now).seen row) ≡ true }
     ensures same { SameBuilder C.anchor J.anchor builder.old builder.new }
     ensures saw { IfOk result (λ value. SawResult row value (B.items builder.new.book.now)) }
@@ -60,7 +60,7 @@ pub(crate) fn scope_result<C: ChannelFloor, J: JobFloor, B: NoteBook, W: Wakes>(
     parent: Row,
     value: Value,
 ) -> Result<Option<Value>, LaunchError>
-    requires may { MayBuild builder.old.who builder.old.base (C.view builder.old.channels.now) (J.view builder.old.jobs.now) }
+    requires may { MayBuild builder.old.base (seen C.view J.view B.items builder.old) }
     requires parent { is_some (replay (J.view builder.old.jobs.now).seen parent) ≡ true }
     requires tag { builder.old.who < (J.view builder.old.jobs.now).shape.coroutines }
     ensures saw { IfOk result (λ value. SawSome value (B.items builder.new.book.now)) }

@@ -19,24 +19,31 @@ use Rattle.permits.specs.Parts.{is_on, UsesPermits, MayFill}
 use Rattle.permits.specs.Answers.{AcquiredAnswer}
 use Rattle.permits.proofs.UsesGo.{uses_kept}
 use Rattle.permit_calls.specs.declared.known_calls.Known.{Known}
-use Rattle.permit_calls.specs.Known.{Knows, IsOwnWait, Adds, used, after_acquire}
+use Rattle.permit_calls.specs.Known.{HoldsWait, Knows, IsOwnWait, Adds, used, after_acquire}
 
 pub knows_used : (c n who held : ℕ) (f : Floor) → UsesPermits c n who held f → Knows c n who (used held) f
 knows_used c n who held f u = record { uses = u; fresh = λ e. cc; wait = tt }
 
-pub knows_acquired : (c n who held : ℕ) (a d : Floor) (i k : List Item) (answer : Acquired) → AcquiredAnswer who c a d i k (Ok answer) → UsesPermits c n who held d → Knows c n who (after_acquire held answer) d
-knows_acquired c n who held a d i k acquired.Held h u = knows_used c n who held d u
-knows_acquired c n who held a d i k (acquired.Waits w) h u = record { uses = u; fresh = λ e. cc; wait = (ap (λ (x : WaitId). x.channel) h.is, h.waits.holds) }
-knows_acquired c n who held a d i k acquired.Cancelled h u = absurd h
-knows_acquired c n who held a d i k (acquired.Closed x) h u = knows_used c n who held d u
-knows_acquired c n who held a d i k acquired.Spent h u = knows_used c n who held d u
+pub knows_acquired : (c n who me held : ℕ) (a d : Floor) (i k : List Item) (answer : Acquired)
+    → AcquiredAnswer c (record { who = who; floor = a; items = i }) (record { who = me; floor = d; items = k }) (Ok answer)
+    → UsesPermits c n who held d → Knows c n who (after_acquire held answer) d
+knows_acquired c n who me held a d i k acquired.Held h u = knows_used c n who held d u
+knows_acquired c n who me held a d i k (acquired.Waits w) h u = record {
+  uses = u;
+  fresh = λ e. cc;
+  wait = (ap (λ (x : WaitId). x.channel) h.is, subst (λ t. HoldsWait t w d) h.told.who h.waits.holds);
+}
+knows_acquired c n who me held a d i k acquired.Cancelled h u = absurd h
+knows_acquired c n who me held a d i k (acquired.Closed x) h u = knows_used c n who held d u
+knows_acquired c n who me held a d i k acquired.Spent h u = knows_used c n who held d u
 
 -- ---- behind another's call
 
 none_of_other : (k who : ℕ) (acts : List Act) → k ≢ who → acts_of k (entries_by who acts) ≡ []
 unfolding acts_of
 none_of_other k who [] ne = refl
-none_of_other k who (act ∷ acts) ne = ap (λ (b : Bool). if b then act ∷ acts_of k (entries_by who acts) else acts_of k (entries_by who acts)) (by_test (who == k) refl) ∙ none_of_other k who acts ne
+none_of_other k who (act ∷ acts) ne = ap (λ (b : Bool). if b then act ∷ acts_of k (entries_by who acts) else acts_of k
+    (entries_by who acts)) (by_test (who == k) refl) ∙ none_of_other k who acts ne
   where
     by_test : (b : Bool) → (who == k) ≡ b → b ≡ false
     by_test true e = absurd (ne (sym (eqb-true who k e)))
@@ -44,7 +51,8 @@ none_of_other k who (act ∷ acts) ne = ap (λ (b : Bool). if b then act ∷ act
 
 same_acts : (k who : ℕ) (a d : Floor) → k ≢ who → a.alone ≡ true → Adds who a d → acts_of k d.seen ≡ acts_of k a.seen
 same_acts k who a d ne alone h =
-    ap (acts_of k) (h.added.alone alone) ∙ acts_of-append k a.seen (entries_by who h.acts) ∙ ap (λ l. acts_of k a.seen ++ l) (none_of_other k who h.acts ne) ∙ nothing_more (acts_of k a.seen)
+    ap (acts_of k) (h.added.alone alone) ∙ acts_of-append k a.seen (entries_by who h.acts)
+    ∙ ap (λ l. acts_of k a.seen ++ l) (none_of_other k who h.acts ne) ∙ nothing_more (acts_of k a.seen)
 
 fill_kept : (c n k : ℕ) (a d : Floor) → SameSetting a d → acts_of k d.seen ≡ acts_of k a.seen → MayFill c n k a → MayFill c n k d
 fill_kept c n k a d same e m = record {
@@ -58,11 +66,17 @@ fill_kept c n k a d same e m = record {
   none = ap (how_many (is_on c)) e ∙ m.none;
 }
 
-wait_kept : (c k who : ℕ) (w : Option WaitId) (a d : Floor) → Legal d.shape d.seen → Adds who a d → acts_of k d.seen ≡ acts_of k a.seen → IsOwnWait c k w a → IsOwnWait c k w d
+wait_kept : (c k who : ℕ) (w : Option WaitId) (a d : Floor) → Legal d.shape d.seen → Adds who a d → acts_of k d.seen ≡ acts_of k a.seen
+    → IsOwnWait c k w a → IsOwnWait c k w d
 wait_kept c k who None a d l h e x = tt
-wait_kept c k who (Some w) a d l h e x = (x.0, others_keep d.shape k (IsUnsettledOf k) (unsettled_stays k) w a.seen d.seen l h.added.longer e x.1)
+wait_kept c k who (Some w) a d l h e x = (
+  x.0,
+  others_keep d.shape k (IsUnsettledOf k) (unsettled_stays k) w a.seen d.seen l h.added.longer
+      e x.1,
+)
 
-pub others_know : (c n k who : ℕ) (known : Known) (a d : Floor) → Legal d.shape d.seen → k ≢ who → a.alone ≡ true → Adds who a d → Knows c n k known a → Knows c n k known d
+pub others_know : (c n k who : ℕ) (known : Known) (a d : Floor) → Legal d.shape d.seen → k ≢ who → a.alone ≡ true → Adds who a d
+    → Knows c n k known a → Knows c n k known d
 others_know c n k who known a d l ne alone h x =
     let e = same_acts k who a d ne alone h in
     record {

@@ -33,7 +33,8 @@ none_done : (who : ℕ) (es : List Entry) → acts_of who es ≡ acts_of who [] 
 unfolding acts_of
 none_done who es e = ap (how_many (is_on 0)) e
 
-pub fresh_there : (places n who : ℕ) (f : Floor) → f.shape ≡ (Unlimited, places) ∷ [] → 1 ≤ n → n ≤ 65535 → f.callers who ≡ true → acts_of who f.seen ≡ acts_of who [] → MayFill 0 n who f
+pub fresh_there : (places n who : ℕ) (f : Floor) → f.shape ≡ (Unlimited, places) ∷ [] → 1 ≤ n → n ≤ 65535 → f.callers who ≡ true
+    → acts_of who f.seen ≡ acts_of who [] → MayFill 0 n who f
 fresh_there places n who f e some few can none =
     let k = shape_kind places f.shape e in
     record {
@@ -54,7 +55,8 @@ knows_fresh c n who f m = record { uses = uses_fresh c n who f m; fresh = λ e. 
 
 -- ---- on lists
 
-pub list_fresh : (x : Result ListFloor Memory) → IfOk x (λ (f : ListFloor). (floor_of f).shape ≡ (Unlimited, 8) ∷ []) → IfOk x (λ (f : ListFloor). (floor_of f).seen ≡ []) → IfOk x (λ (f : ListFloor). (t : ℕ) → (floor_of f).callers t ≡ true)
+pub list_fresh : (x : Result ListFloor Memory) → IfOk x (λ (f : ListFloor). (floor_of f).shape ≡ (Unlimited, 8) ∷ [])
+    → IfOk x (λ (f : ListFloor). (floor_of f).seen ≡ []) → IfOk x (λ (f : ListFloor). (t : ℕ) → (floor_of f).callers t ≡ true)
     → IfOk x (λ (f : ListFloor). (t : ℕ) → MayFill 0 1 t (floor_of f))
 list_fresh (Ok f) s n c = λ t. fresh_there 8 1 t (floor_of f) s (omega arith) (omega arith) (c t) (ap (acts_of t) n)
 list_fresh (Err m) s n c = s
@@ -68,7 +70,8 @@ all_know_fresh k f a b c m = record {
 
 -- ---- over words
 
-pub pass_fresh : (places n who : ℕ) (hub : Hub) (pass : Pass) → shape_of hub ≡ (Unlimited, places) ∷ [] → 1 ≤ n → n ≤ 65535 → has_tag who (seen_by pass).tags ≡ true → acts_of who (seen_by pass).seen ≡ acts_of who [] → MayFill 0 n who (hub_floor hub pass)
+pub pass_fresh : (places n who : ℕ) (hub : Hub) (pass : Pass) → shape_of hub ≡ (Unlimited, places) ∷ [] → 1 ≤ n → n ≤ 65535
+    → has_tag who (seen_by pass).tags ≡ true → acts_of who (seen_by pass).seen ≡ acts_of who [] → MayFill 0 n who (hub_floor hub pass)
 pass_fresh places n who hub pass s some few tag none = fresh_there places n who (hub_floor hub pass) s some few tag none
 
 pub each_knows_fresh : (hub : Hub) (k : Three) (p : Passes) → k.a ≡ fresh → k.b ≡ fresh → k.c ≡ fresh → AreFresh hub p → EachKnows hub k p
@@ -79,4 +82,5 @@ each_knows_fresh hub k p a b c m = record {
 }
 
 pub starts : (c n : ℕ) (k : Known) (f : Floor) → c ≡ 0 → k ≡ fresh → MayFill 0 n 0 f → Knows c n 0 k f
-starts c n k f first is m = subst (λ (d : ℕ). Knows d n 0 k f) (sym first) (subst (λ (x : Known). Knows 0 n 0 x f) (sym is) (knows_fresh 0 n 0 f m))
+starts c n k f first is m = subst (λ (d : ℕ). Knows d n 0 k f) (sym first)
+    (subst (λ (x : Known). Knows 0 n 0 x f) (sym is) (knows_fresh 0 n 0 f m))

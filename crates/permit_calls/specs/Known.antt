@@ -3,8 +3,9 @@ use Rattle.std.specs.Prelude.{◌≡◌, ◌≤◌, ℕ, true, false, List, Opti
 use Rattle.co_base.specs.declared.names.WaitId.{WaitId}
 use Rattle.co_base.specs.declared.names.Memory.{Memory}
 use Rattle.channel_model.specs.declared.acts.Act.{Act}
+use Rattle.channel_model.specs.Histories.{replay}
 use Rattle.channel_model.specs.Floors.{Floor, Added}
-use Rattle.channel_calls.specs.Calls.{HoldsWait}
+use Rattle.channel_model.specs.Answers.{IsUnsettledOf}
 use Rattle.cell_words.specs.declared.hub.Hub.{Hub}
 use Rattle.cell_words.specs.Hubs.{IsOf}
 use Rattle.cell_calls.specs.HubFloors.{hub_floor}
@@ -13,6 +14,10 @@ use Rattle.permits.specs.declared.permits.Acquired.TheVariants as acquired
 use Rattle.permits.specs.Parts.{UsesPermits, MayFill}
 use Rattle.permit_calls.specs.declared.known_calls.Known.{Known}
 use Rattle.permit_calls.specs.declared.at_once.Four.{Four}
+
+-- the wait was seen, is who's, and did not end
+abbrev pub HoldsWait : ℕ → WaitId → Floor → Type 0
+HoldsWait who w f = IsUnsettledOf who ((replay f.seen).waits w)
 
 -- the wait, if there is one, is who's, on the channel, and did not end
 abbrev pub IsOwnWait : ℕ → ℕ → Option WaitId → Floor → Type 0

@@ -1,8 +1,9 @@
 //! To acquire and to release a permit, while a shared number counts who holds one.
 
 ghost use Rattle.std.specs.Prelude.{◌≡◌, OnOk};
-ghost use Rattle.channel_calls.specs.Calls.{SameCaller, HoldsWait};
+ghost use Rattle.channel_calls.specs.Calls.{SameCaller};
 ghost use Rattle.permits.specs.Parts.{UsesPermits};
+ghost use Rattle.permit_calls.specs.Known.{HoldsWait};
 
 use crate::known_calls::{NoWakes, take_up_if_resolved};
 use channel_calls::Caller;

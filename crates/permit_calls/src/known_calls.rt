@@ -1,12 +1,12 @@
 //! Calls of a coroutine on the permits of a semaphore, if what they ask is known.
 
 ghost use Rattle.std.specs.Prelude.{◌≡◌};
-ghost use Rattle.channel_calls.specs.Calls.{SameCaller, HoldsWait};
+ghost use Rattle.channel_calls.specs.Calls.{SameCaller};
 ghost use Rattle.cell_words.specs.Hubs.{IsOf};
 ghost use Rattle.cell_calls.specs.Desks.{desk_floor, desk_anchor};
 ghost use Rattle.cell_calls.specs.HubFloors.{hub_floor};
 ghost use Rattle.permits.specs.Parts.{UsesPermits};
-ghost use Rattle.permit_calls.specs.Known.{Knows, KnowsThen, EndsOrWaits, Adds, fresh, used, after_acquire};
+ghost use Rattle.permit_calls.specs.Known.{HoldsWait, Knows, KnowsThen, EndsOrWaits, Adds, fresh, used, after_acquire};
 
 use cell_calls::Desk;
 use cell_words::{Hub, Pass};

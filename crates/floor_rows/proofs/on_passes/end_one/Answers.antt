@@ -10,4 +10,10 @@ or_true false = refl
 pub returns : goal.returns
 returns c =
     let old = has_tag c.args.who c.args.main.now.seat.me.0.tags in
-    record { own = (c.end.ensures.main, c.end.ensures.ended.callers c.args.who ∙ ap (λ (b : Bool). old || b) c.requires.own.1 ∙ or_true old) }
+    record {
+      own = (
+        c.end.ensures.main,
+        c.end.ensures.ended.callers c.args.who ∙ ap (λ (b : Bool). old || b) c.requires.own.1
+            ∙ or_true old,
+      );
+    }

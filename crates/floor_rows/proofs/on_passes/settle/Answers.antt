@@ -11,8 +11,15 @@ settle-requires-clause-ready c =
     let h = c.look_at.ensures in
     let w = spot 0 c.args.place in
     ready_told c.args.who ((replay c.look_at.new.pass.seat.me.0.seen).waits w) c.look_at.result
-    (own_seen (shape_of c.args.hub.now) c.args.who w c.is_own.new.pass.seat.me.0 c.look_at.new.pass.seat.me.0 c.is_own.ensures.own.1 h.sees (hub_legal c.args.hub.now c.look_at.new.pass h.own.0) (c.is_own.ensures.mine c.if-is_own.true))
+    (own_seen (shape_of c.args.hub.now) c.args.who w c.is_own.new.pass.seat.me.0 c.look_at.new.pass.seat.me.0 c.is_own.ensures.own.1 h.sees
+    (hub_legal c.args.hub.now c.look_at.new.pass h.own.0) (c.is_own.ensures.mine c.if-is_own.true))
     h.state c.in-Resolved.is
 
 pub returns-in-Resolved : goal.returns-in-Resolved
-returns-in-Resolved c = record { own = (c.settle.ensures.of, ap (λ (f : ℕ → Bool). f c.args.who) c.settle.ensures.answer.0.same.callers ∙ c.look_at.ensures.own.1) }
+returns-in-Resolved c = record {
+  own = (
+    c.settle.ensures.of,
+    ap (λ (f : ℕ → Bool). f c.args.who) c.settle.ensures.answer.0.same.callers
+        ∙ c.look_at.ensures.own.1,
+  );
+}

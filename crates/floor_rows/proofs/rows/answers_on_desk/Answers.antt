@@ -9,7 +9,10 @@ use Rattle.floor_tests.specs.Known.{Knows}
 use Rattle.floor_rows.proofs.rows.answers_on_desk.Goals as goal
 
 pub returns-clause-own : goal.returns-clause-own
-returns-clause-own c = stays_own c.args.desk.now c.answers.new.floor c.args.who c.answers.ensures.anchor c.answers.ensures.grows.same.callers c.requires.caller
+returns-clause-own c = stays_own c.args.desk.now c.answers.new.floor c.args.who c.answers.ensures.anchor
+    c.answers.ensures.grows.same.callers c.requires.caller
 
 pub returns-clause-knows : goal.returns-clause-knows
-returns-clause-knows c = subst (λ (h : Hub). IfOk c.answers.result (λ (r : Bool × Known). Knows r.1 (hub_floor h c.answers.new.floor.pass.now))) (ap (λ (x : DeskAnchor). x.hub) c.answers.ensures.anchor) c.answers.ensures.knows
+returns-clause-knows c = subst (λ (h : Hub). IfOk c.answers.result
+    (λ (r : Bool × Known). Knows r.1 (hub_floor h c.answers.new.floor.pass.now))) (ap (λ (x : DeskAnchor). x.hub) c.answers.ensures.anchor)
+    c.answers.ensures.knows

@@ -5,5 +5,6 @@ use Rattle.floor_rows.proofs.selects_on_passes.begin_to_receive.Goals as goal
 
 pub returns : goal.returns
 returns c =
-    let same = register_receive_callers c.args.who 1 c.args.c None (hub_floor c.args.hub.now c.args.pass.now) (hub_floor c.args.hub.now c.register_receive.new.pass) c.register_receive.result c.register_receive.ensures.answer in
+    let same = register_receive_callers c.args.who 1 c.args.c None (hub_floor c.args.hub.now c.args.pass.now)
+    (hub_floor c.args.hub.now c.register_receive.new.pass) c.register_receive.result c.register_receive.ensures.answer in
     record { own = (c.register_receive.ensures.of, ap (λ (f : ℕ → Bool). f c.args.who) same ∙ c.requires.own.1) }

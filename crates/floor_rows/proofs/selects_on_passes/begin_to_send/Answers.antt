@@ -5,5 +5,6 @@ use Rattle.floor_rows.proofs.selects_on_passes.begin_to_send.Goals as goal
 
 pub returns : goal.returns
 returns c =
-    let same = register_offer_callers c.args.who 1 c.args.c c.args.value None (hub_floor c.args.hub.now c.args.pass.now) (hub_floor c.args.hub.now c.register_offer.new.pass) c.register_offer.result c.register_offer.ensures.answer in
+    let same = register_offer_callers c.args.who 1 c.args.c c.args.value None (hub_floor c.args.hub.now c.args.pass.now)
+    (hub_floor c.args.hub.now c.register_offer.new.pass) c.register_offer.result c.register_offer.ensures.answer in
     record { own = (c.register_offer.ensures.of, ap (λ (f : ℕ → Bool). f c.args.who) same ∙ c.requires.own.1) }

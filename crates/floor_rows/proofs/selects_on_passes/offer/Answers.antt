@@ -5,5 +5,6 @@ use Rattle.floor_rows.proofs.selects_on_passes.offer.Goals as goal
 
 pub returns : goal.returns
 returns c =
-    let same = offer_callers c.args.who c.args.c c.args.value (hub_floor c.args.hub.now c.args.pass.now) (hub_floor c.args.hub.now c.offer.new.pass) c.offer.result c.offer.ensures.answer in
+    let same = offer_callers c.args.who c.args.c c.args.value (hub_floor c.args.hub.now c.args.pass.now)
+    (hub_floor c.args.hub.now c.offer.new.pass) c.offer.result c.offer.ensures.answer in
     record { own = (c.offer.ensures.of, ap (λ (f : ℕ → Bool). f c.args.who) same ∙ c.requires.own.1) }

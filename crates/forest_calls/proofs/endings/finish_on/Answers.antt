@@ -1,5 +1,5 @@
 use Rattle.forest_calls.proofs.PassesStayOwn.{stays_own, gives_on}
-use Rattle.forest_calls.proofs.EndingsKeepSettings.{finished_keeps}
+use Rattle.job_tree.proofs.Endings.{finished_added}
 use Rattle.forest_calls.proofs.endings.finish_on.Goals as goal
 
 pub returns-clause-own : goal.returns-clause-own
@@ -9,7 +9,7 @@ returns-clause-own g c =
     c.finish_over.new.jobs
     c.args.who
     c.finish_over.ensures.anchor
-    (finished_keeps _ _ _ _ _ _ _ _ _ _ _ c.finish_over.ensures.finished)
+    (finished_added c.finish_over.ensures.finished).added.same
     c.requires.can.caller
 
 pub returns-clause-giving : goal.returns-clause-giving

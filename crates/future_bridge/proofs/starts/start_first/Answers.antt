@@ -5,7 +5,8 @@ pub start_by-requires-clause-row : goal.start_by-requires-clause-row
 start_by-requires-clause-row c = row_here c.args.row c.args.pass.now c.args.wait c.in-None.is c.requires.row
 
 pub returns-in-None-clause-starts : goal.returns-in-None-clause-starts
-returns-in-None-clause-starts c = starts_here c.args.who c.args.row c.args.pass.now c.start_by.new.pass c.args.wait c.in-None.is c.start_by.ensures.started
+returns-in-None-clause-starts c = starts_here c.args.who c.args.row c.args.pass.now c.start_by.new.pass c.args.wait c.in-None.is
+    c.start_by.ensures.started
 
 pub returns-in-Some-clause-starts : goal.returns-in-Some-clause-starts
 returns-in-Some-clause-starts c = left_here c.args.who c.args.row c.in-Some._place c.args.pass.now c.args.wait c.in-Some.is

@@ -11,7 +11,8 @@ attach-requires-clause-can c = record { caller = c.requires.caller; attached = r
 
 pub attach-requires-clause-tag : goal.attach-requires-clause-tag
 attach-requires-clause-tag c =
-    let two : c.args.ranger.now.pass.now.seat.me.0.key.coroutines ≡ 2 = ap (λ (k : ForestSize). k.coroutines) c.args.ranger.now.of.1 ∙ c.requires.size in
+    let two : c.args.ranger.now.pass.now.seat.me.0.key.coroutines ≡ 2 = ap (λ (k : ForestSize). k.coroutines) c.args.ranger.now.of.1
+    ∙ c.requires.size in
     omega (arith, two)
 
 pub look-requires-clause-caller : goal.look-requires-clause-caller
@@ -34,4 +35,5 @@ returns-in-None-clause-own c =
 
 pub returns-then-is_err-clause-own : goal.returns-then-is_err-clause-own
 returns-then-is_err-clause-own c =
-    stays_own c.args.ranger.now c.attach.new.self 0 c.attach.ensures.anchor (attach_same _ _ _ _ _ _ _ c.attach.ensures.answer) c.requires.caller
+    stays_own c.args.ranger.now c.attach.new.self 0 c.attach.ensures.anchor (attach_same _ _ _ _ _ _ _ c.attach.ensures.answer)
+    c.requires.caller

@@ -28,7 +28,10 @@ returns-clause-uses c =
       of_a = c.split-a.ensures.own.0;
       of_b = c.split-b.ensures.own.0;
       of_c = c.split-c.ensures.own.0;
-      a = uses_fresh 0 n 1 _ (pass_fresh 16 n 1 hub c.split-a.result s some few c.split-a.ensures.own.1 (nothing_made 1 (seen_by c.split-a.result).seen c.split-a.ensures.none));
-      b = uses_fresh 0 n 2 _ (pass_fresh 16 n 2 hub c.split-b.result s some few c.split-b.ensures.own.1 (nothing_made 2 (seen_by c.split-b.result).seen c.split-b.ensures.none));
-      c = uses_fresh 0 n 3 _ (pass_fresh 16 n 3 hub c.split-c.result s some few c.split-c.ensures.own.1 (nothing_made 3 (seen_by c.split-c.result).seen c.split-c.ensures.none));
+      a = uses_fresh 0 n 1 _ (pass_fresh 16 n 1 hub c.split-a.result s some few c.split-a.ensures.own.1
+          (nothing_made 1 (seen_by c.split-a.result).seen c.split-a.ensures.none));
+      b = uses_fresh 0 n 2 _ (pass_fresh 16 n 2 hub c.split-b.result s some few c.split-b.ensures.own.1
+          (nothing_made 2 (seen_by c.split-b.result).seen c.split-b.ensures.none));
+      c = uses_fresh 0 n 3 _ (pass_fresh 16 n 3 hub c.split-c.result s some few c.split-c.ensures.own.1
+          (nothing_made 3 (seen_by c.split-c.result).seen c.split-c.ensures.none));
     }

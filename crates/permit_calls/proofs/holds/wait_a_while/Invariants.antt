@@ -1,5 +1,6 @@
-use Rattle.channel_calls.specs.Calls.{SameCaller, HoldsWait}
+use Rattle.channel_calls.specs.Calls.{SameCaller}
 use Rattle.permits.specs.Parts.{UsesPermits}
+use Rattle.permit_calls.specs.Known.{HoldsWait}
 use Rattle.permit_calls.proofs.holds.wait_a_while.Given as goal
 
 abbrev pub invariant-loop : goal.invariant-loop

@@ -5,12 +5,13 @@ use Rattle.permit_calls.proofs.ReadyWaits.{held_seen, ready_seen}
 use Rattle.permit_calls.proofs.known_calls.take_up_if_resolved.Goals as goal
 
 pub take_up-requires-clause-ready : goal.take_up-requires-clause-ready
-take_up-requires-clause-ready g c = ready_seen _ _ _ _ (g.met.F.ChannelFloor.legal c.look.new.self) c.requires.holds c.in-Resolved.ensures.answer
+take_up-requires-clause-ready g c = ready_seen _ _ _ _ (g.met.F.ChannelFloor.legal c.look.new.self) c.requires.holds
+    c.in-Resolved.ensures.answer
 
 pub returns-in-Err-clause-adds : goal.returns-in-Err-clause-adds
 returns-in-Err-clause-adds g c =
     adds_then _ _ _ _ (looked_adds _ _ _ c.in-Resolved.ensures.answer.0)
-    (take_up_adds _ _ _ _ _ _ c.take_up.result c.take_up.ensures.answer)
+    (take_up_adds _ _ _ _ _ _ _ c.take_up.result c.take_up.ensures.answer)
 
 pub returns-in-Standing-clause-ends : goal.returns-in-Standing-clause-ends
 returns-in-Standing-clause-ends g c = (

@@ -4,23 +4,30 @@ use Rattle.future_bridge.proofs.JobsGo.{Begun, done_kind, no_item, gives_end, gi
 use Rattle.future_bridge.proofs.jobs.JobFutureFuture.poll.Goals as goal
 
 pub unreachable-requires-in-Item : goal.unreachable-requires-in-Item
-unreachable-requires-in-Item c = no_item _ (done_kind c.args.self.now.state c.in-Some.taken (sym c.take.ensures.value ∙ c.in-Some.is) c.requires) c.in-Item.ensures.stepped.2
+unreachable-requires-in-Item c = no_item _ (done_kind c.args.self.now.state c.in-Some.taken (sym c.take.ensures.value
+    ∙ c.in-Some.is) c.requires) c.in-Item.ensures.stepped.2
 
 pub returns-in-Ended-clause-value : goal.returns-in-Ended-clause-value
 returns-in-Ended-clause-value c =
-    let begun : Begun c.in-Some.taken c.start_first.new.pass = record { own = c.start_first.ensures.own; giving = c.start_first.ensures.giving; starts = c.start_first.ensures.starts } in
-    gives_end c.args.self.now.state c.in-Some.taken c.step_on.new.pass c.start_first.new.pass _ (sym c.take.ensures.value ∙ c.in-Some.is) c.step_on.ensures.own c.step_on.ensures.giving begun c.in-Ended.ensures.stepped.0 c.in-Ended.ensures.stepped.1
+    let begun : Begun c.in-Some.taken c.start_first.new.pass =
+    record { own = c.start_first.ensures.own; giving = c.start_first.ensures.giving; starts = c.start_first.ensures.starts } in
+    gives_end c.args.self.now.state c.in-Some.taken c.step_on.new.pass c.start_first.new.pass _ (sym c.take.ensures.value
+    ∙ c.in-Some.is) c.step_on.ensures.own c.step_on.ensures.giving begun c.in-Ended.ensures.stepped.0 c.in-Ended.ensures.stepped.1
 
 pub returns-in-Spent-clause-value : goal.returns-in-Spent-clause-value
 returns-in-Spent-clause-value c =
-    let begun : Begun c.in-Some.taken c.start_first.new.pass = record { own = c.start_first.ensures.own; giving = c.start_first.ensures.giving; starts = c.start_first.ensures.starts } in
-    gives_end c.args.self.now.state c.in-Some.taken c.step_on.new.pass c.start_first.new.pass _ (sym c.take.ensures.value ∙ c.in-Some.is) c.step_on.ensures.own c.step_on.ensures.giving begun c.in-Spent.ensures.stepped.0 c.in-Spent.ensures.stepped.1
+    let begun : Begun c.in-Some.taken c.start_first.new.pass =
+    record { own = c.start_first.ensures.own; giving = c.start_first.ensures.giving; starts = c.start_first.ensures.starts } in
+    gives_end c.args.self.now.state c.in-Some.taken c.step_on.new.pass c.start_first.new.pass _ (sym c.take.ensures.value
+    ∙ c.in-Some.is) c.step_on.ensures.own c.step_on.ensures.giving begun c.in-Spent.ensures.stepped.0 c.in-Spent.ensures.stepped.1
 
 pub returns-in-Waits-clause-same : goal.returns-in-Waits-clause-same
 returns-in-Waits-clause-same c =
-    let begun : Begun c.in-Some.taken c.start_first.new.pass = record { own = c.start_first.ensures.own; giving = c.start_first.ensures.giving; starts = c.start_first.ensures.starts } in
+    let begun : Begun c.in-Some.taken c.start_first.new.pass =
+    record { own = c.start_first.ensures.own; giving = c.start_first.ensures.giving; starts = c.start_first.ensures.starts } in
     on_pending c.yield_now.result _
-    (gives_still c.args.self.now.state c.in-Some.taken c.step_on.new.pass c.start_first.new.pass c.in-Waits.place (sym c.take.ensures.value ∙ c.in-Some.is) c.step_on.ensures.giving begun c.in-Waits.ensures.stepped)
+    (gives_still c.args.self.now.state c.in-Some.taken c.step_on.new.pass c.start_first.new.pass c.in-Waits.place (sym c.take.ensures.value
+    ∙ c.in-Some.is) c.step_on.ensures.giving begun c.in-Waits.ensures.stepped)
 
 pub returns-in-Waits-clause-waits : goal.returns-in-Waits-clause-waits
 returns-in-Waits-clause-waits c =
