@@ -63,17 +63,22 @@ acts_first (x ∷ xs) = none (acts_in (x ∷ xs))
     none n = omega arith
 
 -- n were counted before place k, and m at that place
-pub acts_after : (xs : List Item) (k n m : ℕ) (z : Item) → k < length xs → n + acts_in (drop k xs) ≡ acts_in xs → m ≡ acts_in (get_or xs k z ∷ []) → (n + m) + acts_in (drop (k + 1) xs) ≡ acts_in xs
+pub acts_after : (xs : List Item) (k n m : ℕ) (z : Item) → k < length xs → n + acts_in (drop k xs) ≡ acts_in xs
+    → m ≡ acts_in (get_or xs k z ∷ []) → (n + m) + acts_in (drop (k + 1) xs) ≡ acts_in xs
 acts_after xs k n m z lt so_far here =
     let at : acts_in (drop k xs) ≡ acts_in (get_or xs k z ∷ drop (k + 1) xs) = at_drop_more acts_in xs k z lt in
-    let more : acts_in (get_or xs k z ∷ drop (k + 1) xs) ≡ acts_in (get_or xs k z ∷ []) + acts_in (drop (k + 1) xs) = acts_more (get_or xs k z) (drop (k + 1) xs) in
-    sums n m (acts_in (drop k xs)) (acts_in (get_or xs k z ∷ drop (k + 1) xs)) (acts_in (get_or xs k z ∷ [])) (acts_in (drop (k + 1) xs)) (acts_in xs) so_far at more here
+    let more : acts_in (get_or xs k z ∷ drop (k + 1) xs) ≡ acts_in (get_or xs k z ∷ []) + acts_in (drop (k + 1) xs) =
+    acts_more (get_or xs k z) (drop (k + 1) xs) in
+    sums n m (acts_in (drop k xs)) (acts_in (get_or xs k z ∷ drop (k + 1) xs)) (acts_in (get_or xs k z ∷ [])) (acts_in (drop (k + 1) xs))
+    (acts_in xs) so_far at more here
   where
     sums : (n m a b c d all : ℕ) → n + a ≡ all → a ≡ b → b ≡ c + d → m ≡ c → (n + m) + d ≡ all
     sums n m a b c d all e f g h = omega arith
 
-pub acts_fit : (xs : List Item) (k n m : ℕ) (z : Item) → k < length xs → n + acts_in (drop k xs) ≡ acts_in xs → m ≡ acts_in (get_or xs k z ∷ []) → n + m ≤ length xs
-acts_fit xs k n m z lt so_far here = fits (n + m) (acts_in (drop (k + 1) xs)) (acts_in xs) (length xs) (acts_after xs k n m z lt so_far here) (acts_few xs)
+pub acts_fit : (xs : List Item) (k n m : ℕ) (z : Item) → k < length xs → n + acts_in (drop k xs) ≡ acts_in xs
+    → m ≡ acts_in (get_or xs k z ∷ []) → n + m ≤ length xs
+acts_fit xs k n m z lt so_far here = fits (n + m) (acts_in (drop (k + 1) xs)) (acts_in xs) (length xs)
+    (acts_after xs k n m z lt so_far here) (acts_few xs)
   where
     fits : (a b all len : ℕ) → a + b ≡ all → all ≤ len → a ≤ len
     fits a b all len e f = omega arith

@@ -31,12 +31,16 @@ refused_not _ _ _ (Refused.receive c u) e = absurd (let w : ⊥ = cc in w)
 blocked_noted : (call : Call) (more all : List Told) → all ≡ blocked call ∷ more → items_in all ≡ [] → ⊥
 unfolding items_in
 blocked_noted (sends c v) more all is none = let both_ways : items_in (blocked (sends c v) ∷ more) ≡ [] = ap items_in (sym is) ∙ none in cc
-blocked_noted (receives c) more all is none = let both_ways : items_in (blocked (receives c) ∷ more) ≡ [] = ap items_in (sym is) ∙ none in cc
+blocked_noted (receives c) more all is none = let both_ways : items_in (blocked (receives c) ∷ more) ≡ [] = ap items_in (sym is) ∙ none
+    in cc
 
 -- the clauses before a select looks again are noted
-clauses_noted : (before : List Call) (call : Call) (later clauses : List Call) (more all : List Told) → clauses ≡ before ++ call ∷ later → all ≡ map blocked clauses ++ more → items_in all ≡ [] → ⊥
-clauses_noted [] call later clauses more all is e none = blocked_noted call (map blocked later ++ more) all (e ∙ ap (λ cs. map blocked cs ++ more) is) none
-clauses_noted (b ∷ before) call later clauses more all is e none = blocked_noted b (map blocked (before ++ call ∷ later) ++ more) all (e ∙ ap (λ cs. map blocked cs ++ more) is) none
+clauses_noted : (before : List Call) (call : Call) (later clauses : List Call) (more all : List Told) → clauses ≡ before ++ call ∷ later
+    → all ≡ map blocked clauses ++ more → items_in all ≡ [] → ⊥
+clauses_noted [] call later clauses more all is e none =
+    blocked_noted call (map blocked later ++ more) all (e ∙ ap (λ cs. map blocked cs ++ more) is) none
+clauses_noted (b ∷ before) call later clauses more all is e none =
+    blocked_noted b (map blocked (before ++ call ∷ later) ++ more) all (e ∙ ap (λ cs. map blocked cs ++ more) is) none
 
 looks_noted : (clauses : List Call) (told : List Told) (a : Answer) → SelectCall clauses told a → a ≡ LooksAgain → items_in told ≡ [] → ⊥
 looks_noted clauses _ _ (SelectCall.chooses passed later call group all a is h e) again none = once_not call group a h again
@@ -44,16 +48,20 @@ looks_noted clauses _ _ (SelectCall.meets_close passed later call told all a is 
 looks_noted clauses _ _ (SelectCall.no_place passed later c v all is e) again none = cc
 looks_noted clauses _ _ (SelectCall.waits w group admits all p d e) again none = cc
 looks_noted clauses _ _ (SelectCall.resolved w before later call group admits all is p d e) again none = cc
-looks_noted clauses _ _ (SelectCall.stops_at_first later call stop all a is s e) again none = clauses_noted [] call later clauses stop all is e none
-looks_noted clauses _ _ (SelectCall.stops w before later call group stop admits all a is p s d e) again none = clauses_noted before call later clauses _ all is e none
+looks_noted clauses _ _ (SelectCall.stops_at_first later call stop all a is s e) again none =
+    clauses_noted [] call later clauses stop all is e none
+looks_noted clauses _ _ (SelectCall.stops w before later call group stop admits all a is p s d e) again none =
+    clauses_noted before call later clauses _ all is e none
 looks_noted clauses _ _ (SelectCall.stops_late w before later call group stop admits all a is p s d e) again none = cc
 
-pub turn_changes : (p : Program) (k : ℕ) (x : Config) (told : List Told) (y : Config) → IsProgram p → Fits p k x → MovesOnce p k x told y → y ≡ x → items_in told ≡ [] → ⊥
+pub turn_changes : (p : Program) (k : ℕ) (x : Config) (told : List Told) (y : Config) → IsProgram p → Fits p k x → MovesOnce p k x told y
+    → y ≡ x → items_in told ≡ [] → ⊥
 turn_changes p k x told y ok fits m same none =
     ⊎_elim
     (λ (falls : FallsBy p k x told y).
     let received : receipts told ≡ 0 = ap (λ i. receipts_of i) none in
-    let less : moves_left p k y < moves_left p k x + most_moves p * 0 = subst (λ n. moves_left p k y < moves_left p k x + most_moves p * n) received falls in
+    let less : moves_left p k y < moves_left p k x + most_moves p * 0 =
+    subst (λ n. moves_left p k y < moves_left p k x + most_moves p * n) received falls in
     omega (arith, less, ap (moves_left p k) same))
     (λ (again : LooksAgainAt p k x told y). looks_noted _ told LooksAgain again.call refl none)
     (once_falls p k x told y ok fits m)
@@ -62,5 +70,8 @@ turn_changes p k x told y ok fits m same none =
     receipts_of items = receipts_in (channel_acts_in items)
 
 -- a frame of which a turn was made is not unmoved
-pub never_unmoved : {A : Type 0} (p : Program) (k : ℕ) (f g : Frame) (told : List Told) → IsProgram p → Fits p k (config_of f) → MovesOnce p k (config_of f) told (config_of g) → items_of g ≡ items_of f ++ items_in told → IsUnmoved f g → A
-never_unmoved p k f g told ok fits m appended u = absurd (turn_changes p k (config_of f) told (config_of g) ok fits m u.config (nothing_left (items_of f) (items_in told) (sym appended ∙ u.items)))
+pub never_unmoved : {A : Type 0} (p : Program) (k : ℕ) (f g : Frame) (told : List Told) → IsProgram p → Fits p k (config_of f)
+    → MovesOnce p k (config_of f) told (config_of g) → items_of g ≡ items_of f ++ items_in told → IsUnmoved f g → A
+never_unmoved p k f g told ok fits m appended u = absurd
+    (turn_changes p k (config_of f) told (config_of g) ok fits m u.config
+    (nothing_left (items_of f) (items_in told) (sym appended ∙ u.items)))

@@ -1,15 +1,17 @@
 -- The lines of a coroutine that call channels.
-use Rattle.std.specs.Prelude.{◌≡◌, ℕ, ◌<◌, nat_lt, length, Bool, true, false, List, [], ◌∷◌, Option, Some, None, refl, Ok}
+use Rattle.std.specs.Prelude.{◌≡◌, ℕ, ◌<◌, nat_lt, length, Bool, true, false, ◌&&◌, not, List, [], ◌∷◌, Option, Some, None, is_some, unwrap_or, refl, Ok}
 use Rattle.std.proofs.Common.{sym, ap, ◌∙◌, subst, arith}
 use Rattle.std.proofs.lemmas.Bool.Decides.{nat_tests}
 use Rattle.co_base.specs.declared.names.WaitId.{WaitId}
+use Rattle.channel_model.specs.declared.acts.Act.{Act}
 use Rattle.channel_model.specs.declared.acts.ChannelNote.TheVariants.{TrySendClosed, TryReceiveClosed}
 use Rattle.channel_model.specs.Floors.{Floor as ChannelFloor}
 use Rattle.job_model.specs.Histories.{Legal}
 use Rattle.job_model.specs.Floors.{Floor}
 use Rattle.note_book.specs.declared.book.Item.{Item}
 use Rattle.call_meaning.specs.Telling.{Told, heard}
-use Rattle.call_meaning.specs.ChannelCalls.{sends, receives, Answer, Done, Got, Closed, TryRefused, blocked, spent, PlainCall, TryCall}
+use Rattle.call_meaning.specs.ChannelCalls.{sends, receives, Answer as AnswerMeant, Done, Got, Closed, TryRefused, blocked, spent, PlainCall, TryCall}
+use Rattle.call_meaning.specs.Seen.{SeenOnChannels}
 use Rattle.call_meaning.specs.Calls.{ToldOnChannels}
 use Rattle.channel_calls.specs.declared.caller.SendAnswer.{SendAnswer}
 use Rattle.channel_calls.specs.declared.caller.SendAnswer.TheVariants as send
@@ -24,7 +26,7 @@ use Rattle.script_grammar.specs.declared.instructions.Operand.{Operand}
 use Rattle.script_grammar.specs.declared.instructions.Instruction.{Instruction}
 use Rattle.script_grammar.specs.declared.instructions.Instruction.TheVariants as line
 use Rattle.script_grammar.specs.Programs.{Program, shape_of}
-use Rattle.script_grammar.specs.Blocks.{channel_of}
+use Rattle.script_grammar.specs.Blocks.{channel_of, is_clause}
 use Rattle.script_grammar.specs.Declarations.{is_below}
 use Rattle.script_grammar.specs.WellFormed.{IsProgram}
 use Rattle.script_grammar.proofs.Declarations.{line-within, length-shape_of}
@@ -35,43 +37,49 @@ use Rattle.script_meaning.proofs.LinesPlaced.{opened_closed}
 use Rattle.script_meaning.specs.Lines.{LineCalls, After}
 use Rattle.script_meaning.specs.Moves.{Move}
 use Rattle.script_meaning.specs.Polls.{HasStood}
-use Rattle.poll_states.specs.declared.answers.Came.{Came}
-use Rattle.poll_states.specs.declared.answers.Came.TheVariants as came
-use Rattle.poll_states.specs.declared.calls.ChannelCall.{ChannelCall}
-use Rattle.poll_states.specs.declared.calls.ChannelCall.TheVariants as call
-use Rattle.poll_states.specs.Frames.{Frame, config_of, items_of}
-use Rattle.poll_states.specs.Calls.{line_of, channel_in, element_of, came_of_send, came_of_try_send, came_of_try_receive, answer_of, is_done, is_closed, IsSendEnd, LeftWaiting, Made, after_call}
+use Rattle.poll_states.specs.declared.answers.Answer.{Answer}
+use Rattle.poll_states.specs.declared.answers.Answer.TheVariants as came
+use Rattle.poll_states.specs.Frames.{Frame, config_of, items_of, channels_at, at_poll}
+use Rattle.poll_states.specs.Calls.{does_call, channel_in, element_of, answer_of_send, answer_of_try_send, answer_of_try_receive, meant, is_done, is_closed, IsSendEnd, LeftWaiting, Made, after_call}
 use Rattle.poll_states.specs.Steps.{Stepped}
 use Rattle.script_meaning.specs.Laws.{wait_of}
 use Rattle.poll_states.proofs.Mild.{AllMild, plain_mild, try_mild, closes_mild, cancels_channel_mild}
-use Rattle.poll_states.proofs.Stepping.{no_wait, mild_step, channels_noted}
+use Rattle.poll_states.proofs.Stepping.{as_frame_on_channels, no_wait, mild_step, channels_noted}
 
 -- the channel of a line is declared
-pub line_low : (p : Program) (k : ℕ) (x : Config) (i : Instruction) (c : ℕ) → IsProgram p → IsAt p k x i → channel_of i ≡ Some c → c < base_of p
+pub line_low : (p : Program) (k : ℕ) (x : Config) (i : Instruction) (c : ℕ) → IsProgram p → IsAt p k x i → channel_of i ≡ Some c
+    → c < base_of p
 line_low p k x i c ok at of =
-    let low : is_below (length (shape_of p)) (Some c) ≡ true = ap (is_below (length (shape_of p))) (sym of) ∙ line-within p ok k x.line i at.line_is in
+    let low : is_below (length (shape_of p)) (Some c) ≡ true = ap (is_below (length (shape_of p))) (sym of)
+    ∙ line-within p ok k x.line i at.line_is in
     let lt : c < length (shape_of p) = lower low in
     subst (λ m. c < m) (length-shape_of p) lt
   where
     lower : nat_lt c (length (shape_of p)) ≡ true → c < length (shape_of p)
     lower e = grind (arith, nat_tests)
 
-pub line_channel : (p : Program) (k : ℕ) (x : Config) (i : Instruction) (c : ℕ) → IsProgram p → IsAt p k x i → channel_of i ≡ Some c → c < length (shape_of p)
+pub line_channel : (p : Program) (k : ℕ) (x : Config) (i : Instruction) (c : ℕ) → IsProgram p → IsAt p k x i → channel_of i ≡ Some c
+    → c < length (shape_of p)
 line_channel p k x i c ok at of = subst (λ m. c < m) (sym (length-shape_of p)) (line_low p k x i c ok at of)
 
 -- ---- what a line calls
 
-left_waiting : (who : ℕ) (acts : _) (w : WaitId) (c c' : ChannelFloor) → IsLeftWaiting who w acts c c' → HasStood c c' w
-left_waiting who acts w c c' h = record { moment = h.stood.moment; after = h.stood.after; before = h.stood.before; holds = h.stood.holds }
+left_waiting : {acts : List Act} (w : WaitId) (a b : SeenOnChannels) → IsLeftWaiting w acts a b → HasStood a.floor b.floor w
+left_waiting w a b h = record { moment = h.stood.moment; after = h.stood.after; before = h.stood.before; holds = h.stood.holds }
 
 pub same_wait_stood : (c c' : ChannelFloor) (v w : WaitId) → HasStood c c' v → Some v ≡ Some w → HasStood c c' w
 same_wait_stood c c' v w h e = let same : v ≡ w = cc in subst (HasStood c c') same h
 
 -- a call that leaves the coroutine here
-pub called : (p : Program) (c c' : ChannelFloor) (j : Floor) (f g : Frame) (i : Instruction) (told : List Told) (a : Answer) (y : Config) → Legal j.shape j.seen → IsAt p f.tag (config_of f) i → LineCalls p f.tag (config_of f) i told a → After p f.tag (config_of f) i a y → ToldOnChannels f.tag c c' (items_of f) (items_of g) told
-    → AllMild (base_of p) told → g.tag ≡ f.tag → config_of g ≡ y → ((w : WaitId) → wait_of y.stage ≡ Some w → HasStood c c' w) → Stepped p c c' j j f g
+pub called : (p : Program) (c c' : ChannelFloor) (j : Floor) (f g : Frame) (i : Instruction) (told : List Told) (a : AnswerMeant)
+    (y : Config)
+    → Legal j.shape j.seen → IsAt p f.tag (config_of f) i → LineCalls p f.tag (config_of f) i told a → After p f.tag (config_of f) i a y
+    → ToldOnChannels (channels_at c f) (channels_at c' g) told
+    → AllMild (base_of p) told → g.tag ≡ f.tag → config_of g ≡ y → ((w : WaitId) → wait_of y.stage ≡ Some w → HasStood c c' w)
+    → Stepped p (at_poll c j f) (at_poll c' j g)
 called p c c' j f g i told a y l at call after noted mild t config stood =
-    mild_step p c c' j j f g told y l (Move.calls (config_of f) y i told a at call after) (channels_noted f.tag c c' j (items_of f) (items_of g) told noted) mild t config
+    mild_step p c c' j j f g told y l (Move.calls (config_of f) y i told a at call after) (channels_noted c c' j f g told noted) mild t
+    config
     (λ w e. stood w (sym (ap (λ (x : Config). wait_of x.stage) config) ∙ e))
 
 pub no_more_wait : {A : Type 0} (w : WaitId) → None ≡ Some w → A
@@ -79,84 +87,153 @@ no_more_wait w e = absurd (let u : ⊥ = cc in u)
 
 -- ---- what a call told
 
-pub sent_made : (o : Operand) (who n v : ℕ) (c c' : ChannelFloor) (i i' : List Item) (answer : SendAnswer) (a : Came) → a ≡ came_of_send answer → SentAnswer who n v c c' i i' (Ok answer) → Made v (call.Send n o) who c c' i i' a
-sent_made o who n v c c' i i' answer a e h = subst (Made v (call.Send n o) who c c' i i') (sym e) (by_answer answer h)
+pub sent_made : (o : Operand) (n v : ℕ) (old new : SeenOnChannels) (answer : SendAnswer) (a : Answer) → a ≡ answer_of_send answer
+    → SentAnswer n v old new (Ok answer) → Made v (line.Send n o) old new a
+sent_made o n v old new answer a e h = subst (Made v (line.Send n o) old new) (sym e) (by_answer answer h)
   where
-    by_answer : (answer : SendAnswer) → SentAnswer who n v c c' i i' (Ok answer) → Made v (call.Send n o) who c c' i i' (came_of_send answer)
+    by_answer : (answer : SendAnswer) → SentAnswer n v old new (Ok answer) → Made v (line.Send n o) old new (answer_of_send answer)
     by_answer send.Sent m = record { told = m.told; goes = ((refl, refl), sent_goes n v m.told m.goes); left = m.left; stood = tt }
-    by_answer (send.Waits w) m = record { told = m.0.told; goes = ((refl, refl), m.0.goes); left = m.0.left; stood = left_waiting who _ w c c' (left_seen who w m.0.told c c' i i' m.1) }
-    by_answer (send.Closed x) m = record { told = m.0.told; goes = ((refl, refl), unsent_goes n v x m.0.told m.0.goes); left = m.0.left; stood = tt }
+    by_answer (send.Waits w) m = record {
+      told = m.0.told;
+      goes = ((refl, refl), m.0.goes);
+      left = m.0.left;
+      stood =
+          left_waiting w old new (left_seen m.1);
+    }
+    by_answer (send.Closed x) m = record {
+      told = m.0.told;
+      goes = ((refl, refl), unsent_goes n v x m.0.told m.0.goes);
+      left = m.0.left;
+      stood = tt;
+    }
     by_answer send.Spent m = record { told = m.told; goes = ((refl, refl), m.goes); left = m.left; stood = tt }
 
-pub tried_to_send_made : (o : Operand) (who n v : ℕ) (c c' : ChannelFloor) (i i' : List Item) (answer : TrySendAnswer) (a : Came) → a ≡ came_of_try_send answer → TrySentAnswer who n v c c' i i' (Ok answer) → Made v (call.TrySend n o) who c c' i i' a
-tried_to_send_made o who n v c c' i i' answer a e h = subst (Made v (call.TrySend n o) who c c' i i') (sym e) (by_answer answer h)
+pub tried_to_send_made : (o : Operand) (n v : ℕ) (old new : SeenOnChannels) (answer : TrySendAnswer) (a : Answer)
+    → a ≡ answer_of_try_send answer → TrySentAnswer n v old new (Ok answer) → Made v (line.TrySend n o) old new a
+tried_to_send_made o n v old new answer a e h = subst (Made v (line.TrySend n o) old new) (sym e) (by_answer answer h)
   where
-    by_answer : (answer : TrySendAnswer) → TrySentAnswer who n v c c' i i' (Ok answer) → Made v (call.TrySend n o) who c c' i i' (came_of_try_send answer)
-    by_answer try_send.Sent m = record { told = m.told; goes = ((refl, refl), TryCall.at_once (sends n v) m.told Done m.goes); left = m.left; stood = tt }
-    by_answer try_send.Full m = record { told = blocked (sends n v) ∷ []; goes = ((refl, refl), TryCall.blocks (sends n v)); left = m; stood = tt }
-    by_answer (try_send.Closed x) m = record { told = heard (TrySendClosed n v x) ∷ []; goes = ((refl, refl), TryCall.refused (sends n v) _ (TryRefused.send n v x)); left = m; stood = tt }
+    by_answer : (answer : TrySendAnswer) → TrySentAnswer n v old new (Ok answer)
+        → Made v (line.TrySend n o) old new (answer_of_try_send answer)
+    by_answer try_send.Sent m = record {
+      told = m.told;
+      goes = ((refl, refl), TryCall.at_once (sends n v) m.told Done m.goes);
+      left =
+          m.left;
+      stood = tt;
+    }
+    by_answer try_send.Full m = record {
+      told = blocked (sends n v) ∷ [];
+      goes = ((refl, refl), TryCall.blocks (sends n v));
+      left = m;
+      stood = tt;
+    }
+    by_answer (try_send.Closed x) m = record {
+      told = heard (TrySendClosed n v x) ∷ [];
+      goes =
+          ((refl, refl), TryCall.refused (sends n v) _ (TryRefused.send n v x));
+      left = m;
+      stood = tt;
+    }
     by_answer try_send.Spent m = record { told = spent (sends n v); goes = ((refl, refl), TryCall.no_place n v); left = m; stood = tt }
 
-pub tried_to_receive_made : (who n v : ℕ) (c c' : ChannelFloor) (i i' : List Item) (answer : TryReceiveAnswer) (a : Came) → a ≡ came_of_try_receive answer → TryReceivedAnswer who n c c' i i' (Ok answer) → Made v (call.TryReceive n) who c c' i i' a
-tried_to_receive_made who n v c c' i i' answer a e h = subst (Made v (call.TryReceive n) who c c' i i') (sym e) (by_answer answer h)
+pub tried_to_receive_made : (n v : ℕ) (old new : SeenOnChannels) (answer : TryReceiveAnswer) (a : Answer) → a ≡ answer_of_try_receive answer
+    → TryReceivedAnswer n old new (Ok answer) → Made v (line.TryReceive n) old new a
+tried_to_receive_made n v old new answer a e h = subst (Made v (line.TryReceive n) old new) (sym e) (by_answer answer h)
   where
-    by_answer : (answer : TryReceiveAnswer) → TryReceivedAnswer who n c c' i i' (Ok answer) → Made v (call.TryReceive n) who c c' i i' (came_of_try_receive answer)
-    by_answer (try_receive.Value x) m = record { told = m.told; goes = (refl, TryCall.at_once (receives n) m.told (Got x) m.goes); left = m.left; stood = tt }
-    by_answer try_receive.Empty m = record { told = blocked (receives n) ∷ []; goes = (refl, TryCall.blocks (receives n)); left = m; stood = tt }
-    by_answer (try_receive.Closed x) m = record { told = heard (TryReceiveClosed n x) ∷ []; goes = (refl, TryCall.refused (receives n) _ (TryRefused.receive n x)); left = m; stood = tt }
+    by_answer : (answer : TryReceiveAnswer) → TryReceivedAnswer n old new (Ok answer)
+        → Made v (line.TryReceive n) old new (answer_of_try_receive answer)
+    by_answer (try_receive.Value x) m = record {
+      told = m.told;
+      goes = (refl, TryCall.at_once (receives n) m.told (Got x) m.goes);
+      left =
+          m.left;
+      stood = tt;
+    }
+    by_answer try_receive.Empty m = record {
+      told = blocked (receives n) ∷ [];
+      goes = (refl, TryCall.blocks (receives n));
+      left = m;
+      stood =
+          tt;
+    }
+    by_answer (try_receive.Closed x) m = record {
+      told = heard (TryReceiveClosed n x) ∷ [];
+      goes =
+          (refl, TryCall.refused (receives n) _ (TryRefused.receive n x));
+      left = m;
+      stood = tt;
+    }
 
-pub closed_made : (who n v : ℕ) (c c' : ChannelFloor) (i i' : List Item) (first : Bool) → ClosedAnswer who n 0 c c' i i' (Ok first) → Made v (call.Close n) who c c' i i' came.Done
-closed_made who n v c c' i i' first m = record { told = m.0.told; goes = (refl, closes_goes n 0 first m.0.told m.0.goes); left = m.0.left; stood = tt }
+pub closed_made : (n v : ℕ) (old new : SeenOnChannels) (first : Bool) → ClosedAnswer n 0 old new (Ok first)
+    → Made v (line.Close n) old new came.Done
+closed_made n v old new first m = record {
+  told = m.0.told;
+  goes = (refl, closes_goes n 0 first m.0.told m.0.goes);
+  left = m.0.left;
+  stood =
+      tt;
+}
 
-pub cancelled_made : (who n v : ℕ) (c c' : ChannelFloor) (i i' : List Item) (first : Bool) → CancelledChannelAnswer who n c c' i i' (Ok first) → Made v (call.Cancel n) who c c' i i' came.Done
-cancelled_made who n v c c' i i' first m = record { told = m.0.told; goes = (refl, cancels_goes n first m.0.told m.0.goes); left = m.0.left; stood = tt }
+pub cancelled_made : (n v : ℕ) (old new : SeenOnChannels) (first : Bool) → CancelledChannelAnswer n old new (Ok first)
+    → Made v (line.CancelChannel n) old new came.Done
+cancelled_made n v old new first m = record {
+  told = m.0.told;
+  goes = (refl, cancels_goes n first m.0.told m.0.goes);
+  left = m.0.left;
+  stood = tt;
+}
 
 -- ---- the move of a line that calls
 
-pub call_channel : (k : ChannelCall) → channel_of (line_of k) ≡ Some (channel_in k)
-call_channel (call.Send n o) = refl
-call_channel (call.TrySend n o) = refl
-call_channel (call.Receive n) = refl
-call_channel (call.TryReceive n) = refl
-call_channel (call.Each n) = refl
-call_channel (call.Close n) = refl
-call_channel (call.Cancel n) = refl
+pub call_channel : (i : Instruction) → does_call i ≡ true → channel_of i ≡ Some (channel_in i)
+call_channel i h = by_channel (channel_of i) h
+  where
+    by_channel : (o : Option ℕ) → (is_some o && not (is_clause i)) ≡ true → o ≡ Some (unwrap_or o 0)
+    by_channel None e = cc
+    by_channel (Some n) e = refl
 
 never : {A : Type 0} → true ≡ false → A
 never e = absurd (let u : ⊥ = cc in u)
 
 -- a coroutine goes on from this line where its call came to this; where it waits, that wait stood
-abbrev GoesOn : Program → ℕ → Config → Instruction → ChannelFloor → ChannelFloor → Came → Type 0
-GoesOn p k x i c c' a = After p k x i (answer_of a) (after_call p k x i a) × ((w : WaitId) → wait_of (after_call p k x i a).stage ≡ Some w → HasStood c c' w)
+abbrev GoesOn : Program → ℕ → Config → Instruction → ChannelFloor → ChannelFloor → Answer → Type 0
+GoesOn p k x i c c' a = After p k x i (meant a) (after_call p k x i a)
+    × ((w : WaitId) → wait_of (after_call p k x i a).stage ≡ Some w → HasStood c c' w)
 
-goes_waiting : (p : Program) (k : ℕ) (x : Config) (i : Instruction) (c c' : ChannelFloor) (w : WaitId) → HasStood c c' w → GoesOn p k x i c c' (came.Waits w)
+goes_waiting : (p : Program) (k : ℕ) (x : Config) (i : Instruction) (c c' : ChannelFloor) (w : WaitId) → HasStood c c' w
+    → GoesOn p k x i c c' (came.Waits w)
 goes_waiting p k x i c c' w h = (After.waits i w, λ u e. same_wait_stood c c' w u h e)
 
 goes_spent : (p : Program) (k : ℕ) (x : Config) (i : Instruction) (c c' : ChannelFloor) → GoesOn p k x i c c' came.NoPlace
 goes_spent p k x i c c' = (After.no_place i, λ w e. no_more_wait w e)
 
-send_goes : (p : Program) (k : ℕ) (x : Config) (n : ℕ) (o : Operand) (c c' : ChannelFloor) (a : Came) → IsSendEnd a → LeftWaiting a c c' → GoesOn p k x (line.Send n o) c c' a
+send_goes : (p : Program) (k : ℕ) (x : Config) (n : ℕ) (o : Operand) (c c' : ChannelFloor) (a : Answer) → IsSendEnd a → LeftWaiting a c c'
+    → GoesOn p k x (line.Send n o) c c' a
 send_goes p k x n o c c' came.Done e h = (After.sent n o, λ w q. no_more_wait w q)
 send_goes p k x n o c c' (came.Got v) e h = never e.0
 send_goes p k x n o c c' (came.Closed v) e h = never e.1
 send_goes p k x n o c c' (came.Waits w) e h = goes_waiting p k x _ c c' w h
 send_goes p k x n o c c' came.NoPlace e h = goes_spent p k x _ c c'
 
-try_send_goes : (p : Program) (k : ℕ) (x : Config) (n : ℕ) (o : Operand) (c c' : ChannelFloor) (a : Came) → IsSendEnd a → LeftWaiting a c c' → GoesOn p k x (line.TrySend n o) c c' a
+try_send_goes : (p : Program) (k : ℕ) (x : Config) (n : ℕ) (o : Operand) (c c' : ChannelFloor) (a : Answer) → IsSendEnd a
+    → LeftWaiting a c c'
+    → GoesOn p k x (line.TrySend n o) c c' a
 try_send_goes p k x n o c c' came.Done e h = (After.tried_to_send n o, λ w q. no_more_wait w q)
 try_send_goes p k x n o c c' (came.Got v) e h = never e.0
 try_send_goes p k x n o c c' (came.Closed v) e h = never e.1
 try_send_goes p k x n o c c' (came.Waits w) e h = goes_waiting p k x _ c c' w h
 try_send_goes p k x n o c c' came.NoPlace e h = goes_spent p k x _ c c'
 
-receive_goes : (p : Program) (k : ℕ) (x : Config) (n : ℕ) (c c' : ChannelFloor) (a : Came) → is_done a ≡ false → LeftWaiting a c c' → GoesOn p k x (line.Receive n) c c' a
+receive_goes : (p : Program) (k : ℕ) (x : Config) (n : ℕ) (c c' : ChannelFloor) (a : Answer) → is_done a ≡ false → LeftWaiting a c c'
+    → GoesOn p k x (line.Receive n) c c' a
 receive_goes p k x n c c' came.Done e h = never e
 receive_goes p k x n c c' (came.Got v) e h = (After.got n v, λ w q. no_more_wait w q)
 receive_goes p k x n c c' (came.Closed v) e h = (After.no_more n v, λ w q. no_more_wait w q)
 receive_goes p k x n c c' (came.Waits w) e h = goes_waiting p k x _ c c' w h
 receive_goes p k x n c c' came.NoPlace e h = goes_spent p k x _ c c'
 
-try_receive_goes : (p : Program) (k : ℕ) (x : Config) (n : ℕ) (c c' : ChannelFloor) (a : Came) → is_closed a ≡ false → LeftWaiting a c c' → GoesOn p k x (line.TryReceive n) c c' a
+try_receive_goes : (p : Program) (k : ℕ) (x : Config) (n : ℕ) (c c' : ChannelFloor) (a : Answer) → is_closed a ≡ false → LeftWaiting a c c'
+    → GoesOn p k x (line.TryReceive n) c c' a
 try_receive_goes p k x n c c' came.Done e h = (After.tried_to_get n, λ w q. no_more_wait w q)
 try_receive_goes p k x n c c' (came.Got v) e h = (After.tried_and_got n v, λ w q. no_more_wait w q)
 try_receive_goes p k x n c c' (came.Closed v) e h = never e
@@ -164,51 +241,73 @@ try_receive_goes p k x n c c' (came.Waits w) e h = goes_waiting p k x _ c c' w h
 try_receive_goes p k x n c c' came.NoPlace e h = goes_spent p k x _ c c'
 
 -- a turn of an each begins, or the last one is done
-each_goes : (p : Program) (k : ℕ) (x : Config) (n : ℕ) (c c' : ChannelFloor) (a : Came) → IsProgram p → IsAt p k x (line.Each n) → is_done a ≡ false → LeftWaiting a c c' → GoesOn p k x (line.Each n) c c' a
+each_goes : (p : Program) (k : ℕ) (x : Config) (n : ℕ) (c c' : ChannelFloor) (a : Answer) → IsProgram p → IsAt p k x (line.Each n)
+    → is_done a ≡ false → LeftWaiting a c c' → GoesOn p k x (line.Each n) c c' a
 each_goes p k x n c c' came.Done ok at e h = never e
 each_goes p k x n c c' (came.Got v) ok at e h = (After.got_one_more n v, λ w q. no_more_wait w q)
 each_goes p k x n c c' (came.Closed v) ok at e h =
     let closed = opened_closed p k x.line (line.Each n) ok at.line_is refl in
-    subst (λ (o : Option ℕ). After p k x (line.Each n) (Closed v) (past o x) × ((w : WaitId) → wait_of (past o x).stage ≡ Some w → HasStood c c' w)) (sym closed.1)
+    subst (λ (o : Option ℕ). After p k x (line.Each n) (Closed v) (past o x)
+    × ((w : WaitId) → wait_of (past o x).stage ≡ Some w → HasStood c c' w)) (sym closed.1)
     (After.got_all n v closed.0 closed.1, λ w q. no_more_wait w q)
 each_goes p k x n c c' (came.Waits w) ok at e h = goes_waiting p k x _ c c' w h
 each_goes p k x n c c' came.NoPlace ok at e h = goes_spent p k x _ c c'
 
-pub has_called : (p : Program) (c c' : ChannelFloor) (j : Floor) (f g : Frame) (k : ChannelCall) (v : ℕ) (a : Came) (mid : List Item) → IsProgram p → Legal j.shape j.seen → IsAt p f.tag (config_of f) (line_of k) → v ≡ element_of (config_of f) k
-    → Made v k f.tag c c' (items_of f) mid a → g.tag ≡ f.tag → config_of g ≡ after_call p f.tag (config_of f) (line_of k) a → items_of g ≡ mid → Stepped p c c' j j f g
-has_called p c c' j f g k v a mid ok l at is made t config items = by_call k at is (subst (λ i. Made v k f.tag c c' (items_of f) i a) (sym items) made) config
+pub has_called : (p : Program) (c : ChannelFloor) (j : Floor) (f : Frame) (b : SeenOnChannels) (g : Frame) (i : Instruction) (v : ℕ)
+    (a : Answer) → IsProgram p → Legal j.shape j.seen → IsAt p f.tag (config_of f) i → v ≡ element_of (config_of f) i
+    → Made v i (channels_at c f) b a → b.who ≡ f.tag → g.tag ≡ f.tag → config_of g ≡ after_call p f.tag (config_of f) i a
+    → items_of g ≡ b.items → Stepped p (at_poll c j f) (at_poll b.floor j g)
+has_called p c j f b g i v a ok l at is made who t config items =
+    by_call i at is (as_frame_on_channels (λ (z : SeenOnChannels). Made v i (channels_at c f) z a) c' b.who b.items g (who ∙ sym t) items
+    made) config
   where
+    c' : ChannelFloor
+    c' = b.floor
+
     x : Config
     x = config_of f
 
-    by_call : (k : ChannelCall) → IsAt p f.tag x (line_of k) → v ≡ element_of x k → Made v k f.tag c c' (items_of f) (items_of g) a → config_of g ≡ after_call p f.tag x (line_of k) a → Stepped p c c' j j f g
-    by_call (call.Send n o) at is m e =
-        let plain : PlainCall (sends n (operand x o)) m.told (answer_of a) = subst (λ u. PlainCall (sends n u) m.told (answer_of a)) is m.goes.1 in
+    by_call : (i : Instruction) → IsAt p f.tag x i → v ≡ element_of x i → Made v i (channels_at c f) (channels_at c' g) a
+        → config_of g ≡ after_call p f.tag x i a → Stepped p (at_poll c j f) (at_poll c' j g)
+    by_call (line.Send n o) at is m e =
+        let plain : PlainCall (sends n (operand x o)) m.told (meant a) =
+        subst (λ u. PlainCall (sends n u) m.told (meant a)) is m.goes.1 in
         let on = send_goes p f.tag x n o c c' a m.goes.0 m.stood in
-        called p c c' j f g (line.Send n o) m.told (answer_of a) (after_call p f.tag x (line.Send n o) a) l at (LineCalls.send n o m.told (answer_of a) plain) on.0 m.left
-        (plain_mild (base_of p) (sends n (operand x o)) m.told (answer_of a) (line_low p f.tag x (line.Send n o) n ok at refl) plain) t e on.1
-    by_call (call.TrySend n o) at is m e =
-        let tries : TryCall (sends n (operand x o)) m.told (answer_of a) = subst (λ u. TryCall (sends n u) m.told (answer_of a)) is m.goes.1 in
+        called p c c' j f g (line.Send n o) m.told (meant a) (after_call p f.tag x (line.Send n o) a) l at
+        (LineCalls.send n o m.told (meant a) plain) on.0 m.left
+        (plain_mild (base_of p) (sends n (operand x o)) m.told (meant a) (line_low p f.tag x (line.Send n o) n ok at refl) plain) t e
+        on.1
+    by_call (line.TrySend n o) at is m e =
+        let tries : TryCall (sends n (operand x o)) m.told (meant a) =
+        subst (λ u. TryCall (sends n u) m.told (meant a)) is m.goes.1 in
         let on = try_send_goes p f.tag x n o c c' a m.goes.0 m.stood in
-        called p c c' j f g (line.TrySend n o) m.told (answer_of a) (after_call p f.tag x (line.TrySend n o) a) l at (LineCalls.trysend n o m.told (answer_of a) tries) on.0 m.left
-        (try_mild (base_of p) (sends n (operand x o)) m.told (answer_of a) (line_low p f.tag x (line.TrySend n o) n ok at refl) tries) t e on.1
-    by_call (call.Receive n) at is m e =
+        called p c c' j f g (line.TrySend n o) m.told (meant a) (after_call p f.tag x (line.TrySend n o) a) l at
+        (LineCalls.trysend n o m.told (meant a) tries) on.0 m.left
+        (try_mild (base_of p) (sends n (operand x o)) m.told (meant a) (line_low p f.tag x (line.TrySend n o) n ok at refl) tries) t e
+        on.1
+    by_call (line.Receive n) at is m e =
         let on = receive_goes p f.tag x n c c' a m.goes.0 m.stood in
-        called p c c' j f g (line.Receive n) m.told (answer_of a) (after_call p f.tag x (line.Receive n) a) l at (LineCalls.receive n m.told (answer_of a) m.goes.1) on.0 m.left
-        (plain_mild (base_of p) (receives n) m.told (answer_of a) (line_low p f.tag x (line.Receive n) n ok at refl) m.goes.1) t e on.1
-    by_call (call.TryReceive n) at is m e =
+        called p c c' j f g (line.Receive n) m.told (meant a) (after_call p f.tag x (line.Receive n) a) l at
+        (LineCalls.receive n m.told (meant a) m.goes.1) on.0 m.left
+        (plain_mild (base_of p) (receives n) m.told (meant a) (line_low p f.tag x (line.Receive n) n ok at refl) m.goes.1) t e on.1
+    by_call (line.TryReceive n) at is m e =
         let on = try_receive_goes p f.tag x n c c' a m.goes.0 m.stood in
-        called p c c' j f g (line.TryReceive n) m.told (answer_of a) (after_call p f.tag x (line.TryReceive n) a) l at (LineCalls.tryreceive n m.told (answer_of a) m.goes.1) on.0 m.left
-        (try_mild (base_of p) (receives n) m.told (answer_of a) (line_low p f.tag x (line.TryReceive n) n ok at refl) m.goes.1) t e on.1
-    by_call (call.Each n) at is m e =
+        called p c c' j f g (line.TryReceive n) m.told (meant a) (after_call p f.tag x (line.TryReceive n) a) l at
+        (LineCalls.tryreceive n m.told (meant a) m.goes.1) on.0 m.left
+        (try_mild (base_of p) (receives n) m.told (meant a) (line_low p f.tag x (line.TryReceive n) n ok at refl) m.goes.1) t e on.1
+    by_call (line.Each n) at is m e =
         let on = each_goes p f.tag x n c c' a ok at m.goes.0 m.stood in
-        called p c c' j f g (line.Each n) m.told (answer_of a) (after_call p f.tag x (line.Each n) a) l at (LineCalls.each n m.told (answer_of a) m.goes.1) on.0 m.left
-        (plain_mild (base_of p) (receives n) m.told (answer_of a) (line_low p f.tag x (line.Each n) n ok at refl) m.goes.1) t e on.1
-    by_call (call.Close n) at is m e =
+        called p c c' j f g (line.Each n) m.told (meant a) (after_call p f.tag x (line.Each n) a) l at
+        (LineCalls.each n m.told (meant a) m.goes.1) on.0 m.left
+        (plain_mild (base_of p) (receives n) m.told (meant a) (line_low p f.tag x (line.Each n) n ok at refl) m.goes.1) t e on.1
+    by_call (line.Close n) at is m e =
         let goes : config_of g ≡ next x = e ∙ ap (after_call p f.tag x (line.Close n)) m.goes.0 in
-        mild_step p c c' j j f g m.told (next x) l (Move.closes x n m.told at m.goes.1) (channels_noted f.tag c c' j (items_of f) (items_of g) m.told m.left)
-        (closes_mild (base_of p) n 0 m.told (line_low p f.tag x (line.Close n) n ok at refl) m.goes.1) t goes (λ w q. no_wait g _ w goes refl q)
-    by_call (call.Cancel n) at is m e =
+        mild_step p c c' j j f g m.told (next x) l (Move.closes x n m.told at m.goes.1) (channels_noted c c' j f g m.told m.left)
+        (closes_mild (base_of p) n 0 m.told (line_low p f.tag x (line.Close n) n ok at refl) m.goes.1) t goes
+        (λ w q. no_wait g _ w goes refl q)
+    by_call (line.CancelChannel n) at is m e =
         let goes : config_of g ≡ next x = e ∙ ap (after_call p f.tag x (line.CancelChannel n)) m.goes.0 in
-        mild_step p c c' j j f g m.told (next x) l (Move.cancels_channel x n m.told at m.goes.1) (channels_noted f.tag c c' j (items_of f) (items_of g) m.told m.left)
-        (cancels_channel_mild (base_of p) n m.told (line_low p f.tag x (line.CancelChannel n) n ok at refl) m.goes.1) t goes (λ w q. no_wait g _ w goes refl q)
+        mild_step p c c' j j f g m.told (next x) l (Move.cancels_channel x n m.told at m.goes.1) (channels_noted c c' j f g m.told m.left)
+        (cancels_channel_mild (base_of p) n m.told (line_low p f.tag x (line.CancelChannel n) n ok at refl) m.goes.1) t goes
+        (λ w q. no_wait g _ w goes refl q)
+    by_call other at is m e = absurd m.goes

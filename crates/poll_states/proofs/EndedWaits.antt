@@ -23,9 +23,10 @@ use Rattle.note_book.specs.declared.book.Item.TheVariants as item
 use Rattle.note_book.specs.Items.{channel_acts_in, job_acts_in}
 use Rattle.call_meaning.specs.Telling.{Told, on_jobs, on_channels, MayRun, TakenBack, items_in, made, saw}
 use Rattle.call_meaning.specs.ChannelCalls.{Answer}
+use Rattle.call_meaning.specs.Seen.{SeenOnChannels, SeenOnBoth, state_in}
 use Rattle.call_meaning.specs.Calls.{ToldOnChannels, ToldOnBoth, rows_in}
 use Rattle.call_meaning.proofs.JobTellings.{told_nothing, told_fact, told_knew, both_jobs, both_channels, both_then}
-use Rattle.channel_calls.specs.Calls.{HoldsWait, IsUntouched, ToldSome, Tells, TakesBack, end_told}
+use Rattle.channel_calls.specs.Calls.{IsUntouched, ToldSome, Tells, TakesBack, end_told}
 use Rattle.channel_calls.proofs.AnswersGo.{takes_back_goes}
 use Rattle.channel_calls.proofs.Untold.{untouched_some}
 use Rattle.script_grammar.specs.Blocks.{opens_lines}
@@ -42,17 +43,16 @@ use Rattle.script_meaning.proofs.WaitsEnd.{wait_ends, after_wait_none}
 use Rattle.script_meaning.proofs.WaitsGivenUp.{given_up_end, dispatched}
 use Rattle.script_grammar.specs.declared.instructions.Instruction.{Instruction}
 use Rattle.script_grammar.specs.Programs.{Program}
-use Rattle.script_meaning.specs.declared.stage.Stage.{Stage}
-use Rattle.script_meaning.specs.declared.stage.Stage.TheVariants.{Running, Waiting, SeesJob, Unwinding}
+use Rattle.script_meaning.specs.declared.stage.Stage.TheVariants.{Waiting, Unwinding}
 use Rattle.script_meaning.specs.Shapes.{base_of}
 use Rattle.script_meaning.specs.Configs.{Config, LineIs, at_stage, innermost}
-use Rattle.script_meaning.specs.Lines.{After, Resumed}
+use Rattle.script_meaning.specs.Lines.{Resumed}
 use Rattle.script_meaning.specs.Moves.{Move}
 use Rattle.poll_states.specs.declared.jobs.OwnState.TheVariants as own
-use Rattle.poll_states.specs.Frames.{Frame, config_of, items_of, Stands}
-use Rattle.poll_states.specs.Steps.{OwnStateSeen, EndedWait, GaveUp, with_saw, Stepped, CutShort}
+use Rattle.poll_states.specs.Frames.{Frame, config_of, items_of, Stands, seen_at, channels_at, SeenAtPoll, at_poll, both_of}
+use Rattle.poll_states.specs.Steps.{OwnStateSeen, EndedWait, GaveUp, Stepped, CutShort}
 use Rattle.poll_states.proofs.Mild.{gives_up_mild, saw_mild, resumed_mild, taken_back_mild}
-use Rattle.poll_states.proofs.Stepping.{mild_step, no_wait, self_jobs}
+use Rattle.poll_states.proofs.Stepping.{told_on_channels_at, mild_step, no_wait, self_jobs}
 
 -- ---- the look at a wait
 
@@ -70,78 +70,115 @@ own_of : (who : ℕ) (x : Option Wait) → IsUnsettledOf who x → IsOwnWait who
 own_of who None h = h
 own_of who (Some x) h = h.0
 
-pub own_wait : (who : ℕ) (w : WaitId) (a : ChannelFloor) → HoldsWait who w a → IsOwn who w a
+pub own_wait : (who : ℕ) (w : WaitId) (a : ChannelFloor) → IsUnsettledOf who ((replay a.seen).waits w) → IsOwn who w a
 own_wait who w a h = own_of who ((replay a.seen).waits w) h
 
 -- at a moment of the look the wait is still unsettled
-held_at : (who : ℕ) (w : WaitId) (a b : ChannelFloor) (P : State → Type 0) → LegalChannels b.shape b.seen → HoldsWait who w a → LookedAtChannels who a b → (m : AtChannelStep a b P) → IsUnsettledOf who ((replay m.moment).waits w)
+held_at : (who : ℕ) (w : WaitId) (a b : ChannelFloor) (P : State → Type 0) → LegalChannels b.shape b.seen
+    → IsUnsettledOf who ((replay a.seen).waits w) → LookedAtChannels who a b → (m : AtChannelStep a b P)
+    → IsUnsettledOf who ((replay m.moment).waits w)
 held_at who w a b P l h look m =
     let t = between who a.seen m.moment b.seen m.after m.before look.mine in
     let l' : LegalChannels b.shape m.moment = Legal-prefix b.shape m.moment m.before.0 (rw m.before.1 l) in
     others_keep b.shape who (IsUnsettledOf who) (unsettled_stays who) w a.seen m.moment l' m.after t.0 h
 
 -- a wait that was seen resolved may be settled
-pub settle_ready : (who : ℕ) (w : WaitId) (a b : ChannelFloor) → LegalChannels b.shape b.seen → HoldsWait who w a → LookAnswer who w a b state.Resolved → IsReady who w b
+pub settle_ready : (who : ℕ) (w : WaitId) (a b : ChannelFloor) → LegalChannels b.shape b.seen → IsUnsettledOf who ((replay a.seen).waits w)
+    → LookAnswer who w a b state.Resolved → IsReady who w b
 settle_ready who w a b l h look =
     let m = look.1 in
     let t = between who a.seen m.moment b.seen m.after m.before look.0.mine in
-    others_keep b.shape who (IsReadyWait who) (ready_stays who) w m.moment b.seen l m.before t.1 (ready_of who _ (held_at who w a b _ l h look.0 m) m.holds)
+    others_keep b.shape who (IsReadyWait who) (ready_stays who) w m.moment b.seen l m.before t.1
+    (ready_of who _ (held_at who w a b _ l h look.0 m) m.holds)
 
 not_settled : (who : ℕ) (x : Option Wait) → IsUnsettledOf who x → state_of_wait x ≡ Some state.Settled → ⊥
 not_settled who None h e = h
-not_settled who (Some x) h e = (let k : Some (state_of_parts x.resolved x.settled) ≡ Some state.Settled = e in open_parts x.resolved (ap (state_of_parts x.resolved) (sym h.1) ∙ cc))
+not_settled who (Some x) h e = (let k : Some (state_of_parts x.resolved x.settled) ≡ Some state.Settled = e
+    in open_parts x.resolved (ap (state_of_parts x.resolved) (sym h.1) ∙ cc))
   where
     open_parts : (r : Option Resolution) → state_of_parts r None ≡ state.Settled → ⊥
     open_parts None q = cc
     open_parts (Some how) q = cc
 
 -- a wait that is not settled is not seen settled
-pub never_settled : (who : ℕ) (w : WaitId) (a b : ChannelFloor) → LegalChannels b.shape b.seen → HoldsWait who w a → LookAnswer who w a b state.Settled → ⊥
+pub never_settled : (who : ℕ) (w : WaitId) (a b : ChannelFloor) → LegalChannels b.shape b.seen → IsUnsettledOf who ((replay a.seen).waits w)
+    → LookAnswer who w a b state.Settled → ⊥
 never_settled who w a b l h look = not_settled who _ (held_at who w a b _ l h look.0 look.1) look.1.holds
 
 -- the wait is held after the look
-pub holds_looked : (who : ℕ) (w : WaitId) (c d : ChannelFloor) → LegalChannels d.shape d.seen → LookedAtChannels who c d → HoldsWait who w c → HoldsWait who w d
-holds_looked who w c d l look h = others_keep d.shape who (IsUnsettledOf who) (unsettled_stays who) w c.seen d.seen l look.longer look.mine h
+pub holds_looked : (who : ℕ) (w : WaitId) (c d : ChannelFloor) → LegalChannels d.shape d.seen → LookedAtChannels who c d
+    → IsUnsettledOf who ((replay c.seen).waits w) → IsUnsettledOf who ((replay d.seen).waits w)
+holds_looked who w c d l look h = others_keep d.shape who (IsUnsettledOf who) (unsettled_stays who) w c.seen d.seen l look.longer look.mine
+    h
 
 pub call_looked : (who n : ℕ) (c d : ChannelFloor) → LookedAtChannels who c d → MayCall who n c → MayCall who n d
-call_looked who n c d look h = record { caller = ap (λ (t : ℕ → Bool). t who) look.same.callers ∙ h.caller; channel = rw look.same.shape h.channel }
+call_looked who n c d look h = record {
+  caller = ap (λ (t : ℕ → Bool). t who) look.same.callers
+      ∙ h.caller;
+  channel = rw look.same.shape h.channel;
+}
 
 -- ---- ends for a Job that was cancelled
 
-pub gave_resolved : (w : WaitId) (row : ℕ) (c c' : ChannelFloor) (f g : Frame) (mid : List Item) (outcome : Settled) → mid ≡ with_saw row f → ToldOnChannels f.tag c c' mid (items_of g) (end_told w true outcome) × (outcome_at true ((replay c.seen).waits w) ≡ Some outcome) → GaveUp w row c c' f g
-gave_resolved w row c c' f g mid outcome e did = record {
+pub gave_resolved : {w : WaitId} {row : ℕ} {a : SeenOnChannels} {c' : ChannelFloor} {n k : ℕ} {mid i' : List Item} (outcome : Settled)
+    → mid ≡ a.items ++ item.Job (known.Saw row) ∷ [] → k ≡ a.who
+    → ToldOnChannels (record a { items = mid }) (record { who = n; floor = c'; items = i' }) (end_told w true outcome)
+    × (outcome_at true ((state_in a).waits w) ≡ Some outcome) → GaveUp w row a (record { who = k; floor = c'; items = i' })
+gave_resolved {w} {row} {a} {c'} {n} {k} {mid} {i'} outcome e t did = record {
   told = end_told w true outcome;
-  goes = dispatched w outcome (given_up_end ((replay c.seen).waits w) outcome did.1);
-  noted = subst (λ l. ToldOnChannels f.tag c c' l (items_of g) (end_told w true outcome)) e did.0;
+  goes = dispatched w outcome (given_up_end ((state_in a).waits w) outcome did.1);
+  noted = subst (λ (l : List Item). ToldOnChannels (record a { items = l }) (record { who = k; floor = c'; items = i' })
+      (end_told w true outcome)) e (told_on_channels_at k i' did.0 t refl);
 }
 
-pub gave_cancelled : (w : WaitId) (row : ℕ) (c c' : ChannelFloor) (f g : Frame) (mid : List Item) (outcome : Settled) → mid ≡ with_saw row f → Tells f.tag (TakesBack w outcome) c c' mid (items_of g) → GaveUp w row c c' f g
-gave_cancelled w row c c' f g mid outcome e did = record {
+pub gave_cancelled : {w : WaitId} {row : ℕ} {a : SeenOnChannels} {c' : ChannelFloor} {n k : ℕ} {mid i' : List Item} (outcome : Settled)
+    → mid ≡ a.items ++ item.Job (known.Saw row) ∷ [] → k ≡ a.who
+    → Tells (TakesBack w outcome) (record a { items = mid }) (record { who = n; floor = c'; items = i' })
+    → GaveUp w row a (record { who = k; floor = c'; items = i' })
+gave_cancelled {w} {row} {a} {c'} {n} {k} {mid} {i'} outcome e t did = record {
   told = did.told;
   goes = takes_back_goes w outcome did.told did.goes;
-  noted = subst (λ l. ToldOnChannels f.tag c c' l (items_of g) did.told) e did.left;
+  noted = subst (λ (l : List Item). ToldOnChannels (record a { items = l }) (record { who = k; floor = c'; items = i' }) did.told) e
+      (told_on_channels_at k i' did.left t refl);
 }
 
-pub untouched_after : (who : ℕ) (c c' : ChannelFloor) (mid early late : List Item) → mid ≡ early → IsUntouched c c' mid late → ToldSome who c c' early late
-untouched_after who c c' mid early late e h = untouched_some who c c' early late h.floor (h.book ∙ e)
+pub told_after : (a : SeenOnChannels) (c' : ChannelFloor) (n k : ℕ) (mid i' : List Item) → mid ≡ a.items → k ≡ a.who
+    → ToldSome (record a { items = mid }) (record { who = n; floor = c'; items = i' })
+    → ToldSome a (record { who = k; floor = c'; items = i' })
+told_after a c' n k mid i' e t h = record {
+  told = h.told;
+  goes = tt;
+  left = subst (λ (l : List Item). ToldOnChannels (record a { items = l }) (record { who = k; floor = c'; items = i' }) h.told) e
+      (told_on_channels_at k i' h.left t refl);
+}
 
-pub told_after : (who : ℕ) (c c' : ChannelFloor) (mid early late : List Item) → mid ≡ early → ToldSome who c c' mid late → ToldSome who c c' early late
-told_after who c c' mid early late e h = subst (λ l. ToldSome who c c' l late) e h
+pub untouched_after : (a : SeenOnChannels) (c' : ChannelFloor) (n k : ℕ) (mid i' : List Item) → mid ≡ a.items → k ≡ a.who
+    → IsUntouched (record a { items = mid }) (record { who = n; floor = c'; items = i' })
+    → ToldSome a (record { who = k; floor = c'; items = i' })
+untouched_after a c' n k mid i' e t h = told_after a c' n k mid i' e t (untouched_some h)
 
 -- ---- the move
 
 -- what was told of it on both floors, after the looks
-ended_noted : (c d c' : ChannelFloor) (a b : Floor) (k row : ℕ) (i mid i' : List Item) (told : List Told) → LookedAtChannels k c d → OwnStateSeen k row a b own.MayRun → mid ≡ i → ToldOnChannels k d c' mid i' told → ToldOnBoth k [] c c' a b i i' (on_jobs (MayRun row) ∷ told)
-ended_noted c d c' a b k row i mid i' told look s e h =
-    both_then k [] [] c d c' a b b i mid i' (on_jobs (MayRun row) ∷ []) told
-    (both_jobs k [] c d a b i mid _ (spans.added_looked k c d look) (told_fact k [] a b i mid (MayRun row) e (added_looked k [] a b s.looked) (looked_moment k [] a b _ s.looked s.was)))
-    (both_channels k d c' b b mid i' told (self_jobs k b) h)
+ended_noted : (c d c' : ChannelFloor) (a b : Floor) (f m g : Frame) (row : ℕ) (told : List Told) → LookedAtChannels f.tag c d
+    → OwnStateSeen f.tag row a b own.MayRun → m.tag ≡ f.tag → items_of m ≡ items_of f
+    → ToldOnChannels (channels_at d m) (channels_at c' g) told
+    → ToldOnBoth [] (seen_at c a f) (seen_at c' b g) (on_jobs (MayRun row) ∷ told)
+ended_noted c d c' a b f m g row told look s t e h =
+    let first : ToldOnBoth [] (seen_at c a f) (seen_at d b m) (on_jobs (MayRun row) ∷ []) =
+    both_jobs (spans.added_looked f.tag c d look) (told_fact (MayRun row) t e (added_looked f.tag [] a b s.looked)
+    (looked_moment f.tag [] a b _ s.looked s.was)) in
+    let second : ToldOnBoth [] (seen_at d b m) (seen_at c' b g) told = both_channels (self_jobs m.tag b) h in
+    both_then first second
 
-taken_noted : (c d c' : ChannelFloor) (a b : Floor) (k : ℕ) (i mid i' : List Item) (told : List Told) → LookedAtChannels k c d → Looked k [] a b → mid ≡ i → ToldOnChannels k d c' mid i' told → ToldOnBoth k [] c c' a b i i' told
-taken_noted c d c' a b k i mid i' told look s e h =
-    both_then k [] [] c d c' a b b i mid i' [] told
-    (both_jobs k [] c d a b i mid [] (spans.added_looked k c d look) (told_nothing k [] a b i mid e (added_looked k [] a b s)))
-    (both_channels k d c' b b mid i' told (self_jobs k b) h)
+taken_noted : (c d c' : ChannelFloor) (a b : Floor) (f m g : Frame) (told : List Told) → LookedAtChannels f.tag c d → Looked f.tag [] a b
+    → m.tag ≡ f.tag → items_of m ≡ items_of f → ToldOnChannels (channels_at d m) (channels_at c' g) told
+    → ToldOnBoth [] (seen_at c a f) (seen_at c' b g) told
+taken_noted c d c' a b f m g told look s t e h =
+    let first : ToldOnBoth [] (seen_at c a f) (seen_at d b m) [] =
+    both_jobs (spans.added_looked f.tag c d look) (told_nothing t e (added_looked f.tag [] a b s)) in
+    let second : ToldOnBoth [] (seen_at d b m) (seen_at c' b g) told = both_channels (self_jobs m.tag b) h in
+    both_then first second
 
 -- an answer is told by the end of the wait alone
 answer_told : (w : WaitId) (outcome : Settled) (a : Answer) → Resumed outcome a → end_told w false outcome ≡ made (Settle w outcome) ∷ []
@@ -150,15 +187,21 @@ answer_told w _ _ (Resumed.sent n) = refl
 answer_told w _ _ (Resumed.closed n v) = refl
 
 -- a line does not end the body
-ends_open : (p : Program) (k : ℕ) (x : Config) (i : Instruction) (outcome : Settled) → is_over x.stage ≡ false → WaitEnds p k x i outcome → is_over (after_wait p k x i outcome).stage ≡ false
-ends_open p k x i _ o (WaitEnds.answered outcome a r after) = after_stage is_over (λ w. refl) (λ failure. refl) refl refl p k x i a _ o after
+ends_open : (p : Program) (k : ℕ) (x : Config) (i : Instruction) (outcome : Settled) → is_over x.stage ≡ false → WaitEnds p k x i outcome
+    → is_over (after_wait p k x i outcome).stage ≡ false
+ends_open p k x i _ o (WaitEnds.answered outcome a r after) =
+    after_stage is_over (λ w. refl) (λ failure. refl) refl refl p k x i a _ o after
 ends_open p k x i _ o WaitEnds.taken_back = refl
 
 -- the wait ended as its line says, and the body did not end by it
-pub wait_ended : (p : Program) (c d c' : ChannelFloor) (a b : Floor) (f m g : Frame) (w : WaitId) → IsProgram p → LegalChannels d.shape d.seen → Legal b.shape b.seen → Stands p c a f → f.stage ≡ Waiting w → LookedAtChannels f.tag c d → OwnStateSeen f.tag (innermost f.tag (config_of f)) a b own.MayRun
-    → m.tag ≡ f.tag → config_of m ≡ config_of f → items_of m ≡ items_of f → EndedWait p w d c' m g → g.tag ≡ m.tag → Stepped p c c' a b f g × (is_over g.stage ≡ false)
+pub wait_ended : (p : Program) {c d c' : ChannelFloor} {a b : Floor} {f m g : Frame} {w : WaitId} → IsProgram p
+    → LegalChannels d.shape d.seen → Legal b.shape b.seen → Stands p c a f → f.stage ≡ Waiting w → LookedAtChannels f.tag c d
+    → OwnStateSeen f.tag (innermost f.tag (config_of f)) a b own.MayRun
+    → m.tag ≡ f.tag → config_of m ≡ config_of f → items_of m ≡ items_of f → EndedWait p w (channels_at d m) (channels_at c' g) m g
+    → g.tag ≡ m.tag → Stepped p (at_poll c a f) (at_poll c' b g) × (is_over g.stage ≡ false)
 unfolding items_in rows_in
-wait_ended p c d c' a b f m g w ok l lj h e look s tag config items end t = (by_end ends refl, ap (λ (x : Config). is_over x.stage) goes ∙ ends_open p f.tag x end.line end.outcome (ap is_over e) ends)
+wait_ended p {c} {d} {c'} {a} {b} {f} {m} {g} {w} ok l lj h e look s tag config items end t =
+    (by_end ends refl, ap (λ (x : Config). is_over x.stage) goes ∙ ends_open p f.tag x end.line end.outcome (ap is_over e) ends)
   where
     x : Config
     x = config_of f
@@ -172,45 +215,64 @@ wait_ended p c d c' a b f m g w ok l lj h e look s tag config items end t = (by_
     ends : WaitEnds p f.tag x end.line end.outcome
     ends =
         wait_ends p f.tag h.on.runs.told x w end.line d.seen end.outcome h.on.runs.reaches e at (λ opens. closed opens)
-        (subst (λ sh. LegalChannels sh d.seen) (look.same.shape ∙ h.on.channels) l) (look.mine ∙ h.on.channel_acts ∙ ap channel_acts_in (sym h.on.runs.written)) end.ends
+        (subst (λ sh. LegalChannels sh d.seen) (look.same.shape ∙ h.on.channels) l) (look.mine ∙ h.on.channel_acts
+        ∙ ap channel_acts_in (sym h.on.runs.written)) end.ends
       where
         closed : opens_lines end.line ≡ true → is_some (closing_of (code_of p f.tag) x.line) ≡ true
         closed opens = ap is_some (opened_closed p f.tag x.line end.line ok at opens).1
 
     goes : config_of g ≡ after_wait p f.tag x end.line end.outcome
-    goes = subst (λ k. config_of g ≡ after_wait p k x end.line end.outcome) tag (subst (λ y. config_of g ≡ after_wait p m.tag y end.line end.outcome) config end.config)
+    goes = subst (λ k. config_of g ≡ after_wait p k x end.line end.outcome) tag
+        (subst (λ y. config_of g ≡ after_wait p m.tag y end.line end.outcome) config end.config)
 
-    noted : (outcome : Settled) → end.outcome ≡ outcome → ToldOnChannels f.tag d c' (items_of m) (items_of g) (end_told w false outcome)
-    noted outcome k = subst (λ o. ToldOnChannels f.tag d c' (items_of m) (items_of g) (end_told w false o)) k (subst (λ n. ToldOnChannels n d c' (items_of m) (items_of g) (end_told w false end.outcome)) tag end.noted)
+    noted : (outcome : Settled) → end.outcome ≡ outcome → ToldOnChannels (channels_at d m) (channels_at c' g) (end_told w false outcome)
+    noted outcome k = subst (λ o. ToldOnChannels (channels_at d m) (channels_at c' g) (end_told w false o)) k end.noted
 
     none : (v : WaitId) → wait_of g.stage ≡ Some v → HasStood c c' v
     none v q = no_wait g _ v goes (after_wait_none p f.tag x end.line end.outcome ends) q
 
-    by_end : {outcome : Settled} → WaitEnds p f.tag x end.line outcome → end.outcome ≡ outcome → Stepped p c c' a b f g
+    by_end : {outcome : Settled} → WaitEnds p f.tag x end.line outcome → end.outcome ≡ outcome
+        → Stepped p (at_poll c a f) (at_poll c' b g)
     by_end (WaitEnds.answered outcome answer r after) k =
-        mild_step p c c' a b f g (on_jobs (MayRun row) ∷ made (Settle w outcome) ∷ []) (after_wait p f.tag x end.line outcome) lj (Move.resumes x _ w end.line outcome answer e at r after)
-        (ended_noted c d c' a b f.tag row (items_of f) (items_of m) (items_of g) _ look s items (subst (ToldOnChannels f.tag d c' (items_of m) (items_of g)) (answer_told w outcome answer r) (noted outcome k)))
+        mild_step p c c' a b f g (on_jobs (MayRun row) ∷ made (Settle w outcome) ∷ []) (after_wait p f.tag x end.line outcome) lj
+        (Move.resumes x _ w end.line outcome answer e at r after)
+        (ended_noted c d c' a b f m g row _ look s tag items
+        (subst (ToldOnChannels (channels_at d m) (channels_at c' g)) (answer_told w outcome answer r) (noted outcome k)))
         (resumed_mild (base_of p) w outcome (MayRun row)) (t ∙ tag) (goes ∙ ap (after_wait p f.tag x end.line) k) none
     by_end WaitEnds.taken_back k =
-        mild_step p c c' a b f g (on_channels (TakenBack w) ∷ made (Settle w settled.Cancelled) ∷ []) (at_stage (Unwinding None) x) lj (Move.cancelled x w e)
-        (taken_noted c d c' a b f.tag (items_of f) (items_of m) (items_of g) _ look s.looked items (noted settled.Cancelled k)) (taken_back_mild (base_of p) w settled.Cancelled) (t ∙ tag)
+        mild_step p c c' a b f g (on_channels (TakenBack w) ∷ made (Settle w settled.Cancelled) ∷ []) (at_stage (Unwinding None) x) lj
+        (Move.cancelled x w e)
+        (taken_noted c d c' a b f m g _ look s.looked tag items (noted settled.Cancelled k))
+        (taken_back_mild (base_of p) w settled.Cancelled) (t ∙ tag)
         (goes ∙ ap (after_wait p f.tag x end.line) k) none
 
 -- the wait was given up
-pub gave_up : (p : Program) (c d c' : ChannelFloor) (a b : Floor) (f m g : Frame) (w : WaitId) (row : ℕ) → Legal b.shape b.seen → f.stage ≡ Waiting w → row ≡ innermost f.tag (config_of f) → LookedAtChannels f.tag c d → OwnStateSeen f.tag row a b own.Cancelling → m.tag ≡ f.tag → config_of m ≡ config_of f → items_of m ≡ items_of f
-    → GaveUp w row d c' m g → g.tag ≡ m.tag → config_of g ≡ at_stage (Unwinding None) (config_of m) → Stepped p c c' a b f g
+pub gave_up : (p : Program) (x y : SeenAtPoll) (d : ChannelFloor) (m : Frame) (w : WaitId) (row : ℕ) → Legal y.jobs.shape y.jobs.seen
+    → x.frame.stage ≡ Waiting w → row ≡ innermost x.frame.tag (config_of x.frame) → LookedAtChannels x.frame.tag x.channels d
+    → OwnStateSeen x.frame.tag row x.jobs y.jobs own.Cancelling → m.tag ≡ x.frame.tag → config_of m ≡ config_of x.frame
+    → items_of m ≡ items_of x.frame → GaveUp w row (channels_at d m) (channels_at y.channels y.frame) → y.frame.tag ≡ m.tag
+    → config_of y.frame ≡ at_stage (Unwinding None) (config_of m) → Stepped p x y
 unfolding items_in rows_in
-gave_up p c d c' a b f m g w row lj e is look s tag config items up t goes =
+gave_up p x y d m w row lj e is look s tag config items up t goes =
+    let f : Frame = x.frame in
+    let g : Frame = y.frame in
     let mid : List Item = items_of f ++ item.Job (known.Saw row) ∷ [] in
-    let same : with_saw row m ≡ mid = ap (λ l. l ++ item.Job (known.Saw row) ∷ []) items in
-    let noted : ToldOnChannels f.tag d c' mid (items_of g) up.told = subst (λ n. ToldOnChannels n d c' mid (items_of g) up.told) tag (subst (λ l. ToldOnChannels m.tag d c' l (items_of g) up.told) same up.noted) in
-    let both : ToldOnBoth f.tag [] c c' a b (items_of f) (items_of g) (saw row ∷ up.told) =
-    both_then f.tag [] [] c d c' a b b (items_of f) mid (items_of g) (saw row ∷ []) up.told
-    (both_jobs f.tag [] c d a b (items_of f) mid (saw row ∷ []) (spans.added_looked f.tag c d look) (told_knew f.tag [] a b (items_of f) mid (known.Saw row) refl refl (added_looked f.tag [] a b s.looked) (looked_moment f.tag [] a b _ s.looked s.was)))
-    (both_channels f.tag d c' b b mid (items_of g) up.told (self_jobs f.tag b) noted) in
+    let same : items_of m ++ item.Job (known.Saw row) ∷ [] ≡ mid = ap (λ l. l ++ item.Job (known.Saw row) ∷ []) items in
+    let noted : ToldOnChannels (record { who = m.tag; floor = d; items = mid }) (channels_at y.channels g) up.told =
+    subst (λ (l : List Item). ToldOnChannels (record { who = m.tag; floor = d; items = l }) (channels_at y.channels g) up.told) same
+    up.noted in
+    let first : ToldOnBoth [] (both_of x) (record { who = m.tag; channels = d; jobs = y.jobs; items = mid }) (saw row ∷ []) =
+    both_jobs (spans.added_looked f.tag x.channels d look)
+    (told_knew (known.Saw row) refl tag refl (added_looked f.tag [] x.jobs y.jobs s.looked)
+    (looked_moment f.tag [] x.jobs y.jobs _ s.looked s.was)) in
+    let second : ToldOnBoth [] (record { who = m.tag; channels = d; jobs = y.jobs; items = mid }) (both_of y) up.told =
+    both_channels (self_jobs m.tag y.jobs) noted in
+    let both : ToldOnBoth [] (both_of x) (both_of y) (saw row ∷ up.told) = both_then first second in
     let config' : config_of g ≡ at_stage (Unwinding None) (config_of f) = goes ∙ ap (at_stage (Unwinding None)) config in
-    mild_step p c c' a b f g (saw row ∷ up.told) (at_stage (Unwinding None) (config_of f)) lj (subst (λ r. Move p f.tag (config_of f) (saw r ∷ up.told) (at_stage (Unwinding None) (config_of f))) (sym is) (Move.gives_up (config_of f) w up.told e up.goes))
-    (subst (λ (l : List ℕ). ToldOnBoth f.tag l c c' a b (items_of f) (items_of g) (saw row ∷ up.told)) (sym (saw_rows up.told noted.no_jobs)) both)
+    mild_step p x.channels y.channels x.jobs y.jobs f g (saw row ∷ up.told) (at_stage (Unwinding None) (config_of f)) lj
+    (subst (λ r. Move p f.tag (config_of f) (saw r ∷ up.told) (at_stage (Unwinding None) (config_of f))) (sym is)
+    (Move.gives_up (config_of f) w up.told e up.goes))
+    (subst (λ (l : List ℕ). ToldOnBoth l (both_of x) (both_of y) (saw row ∷ up.told)) (sym (saw_rows up.told noted.no_jobs)) both)
     (saw_mild (base_of p) row up.told (gives_up_mild (base_of p) w up.told up.goes)) (t ∙ tag) config' (λ v q. no_wait g _ v config' refl q)
   where
     saw_rows : (told : List Told) → job_acts_in (items_in told) ≡ [] → rows_in (job_acts_in (items_in (saw row ∷ told))) ≡ []
@@ -219,26 +281,30 @@ gave_up p c d c' a b f m g w row lj e is look s tag config items up t goes =
 -- ---- want of memory
 
 -- items were noted before, by the frame of this tag
-pub cut_end : (c d c' : ChannelFloor) (a b : Floor) (f g : Frame) (mid : List Item) → LookedAtChannels f.tag c d → Looked f.tag [] a b → mid ≡ items_of f → IsUntouched d c' mid (items_of g) → g.tag ≡ f.tag → CutShort c c' a b f g
-cut_end c d c' a b f g mid look s items h t = record {
-  tag = t;
-  noted = record {
-    group = [];
-    rows = [];
-    appended = h.book ∙ items ∙ sym (spans.nothing_more (items_of f));
-    channels = subst (AddedToChannels f.tag [] c) (sym h.floor) (spans.added_looked f.tag c d look);
-    jobs = added_looked f.tag [] a b s;
-  };
+pub cut_end : {a b : SeenOnBoth} (d : ChannelFloor) (n w : ℕ) (mid : List Item) → LookedAtChannels a.who a.channels d
+    → Looked a.who [] a.jobs b.jobs → mid ≡ a.items → IsUntouched (record { who = n; floor = d; items = mid })
+    (record { who = w; floor = b.channels; items = b.items }) → b.who ≡ a.who → CutShort a b
+cut_end {a} {b} d n w mid look s items h t = record {
+  who = t;
+  group = [];
+  rows = [];
+  appended = h.book ∙ items ∙ sym (spans.nothing_more a.items);
+  channels = subst (AddedToChannels a.who [] a.channels) (sym h.floor) (spans.added_looked a.who a.channels d look);
+  jobs = added_looked a.who [] a.jobs b.jobs s;
 }
 
-pub cut_given : (c d c' : ChannelFloor) (a b : Floor) (f g : Frame) (row : ℕ) (mid : List Item) → LookedAtChannels f.tag c d → Looked f.tag [] a b → mid ≡ items_of f → ToldSome f.tag d c' (mid ++ item.Job (known.Saw row) ∷ []) (items_of g) → g.tag ≡ f.tag → CutShort c c' a b f g
-cut_given c d c' a b f g row mid look s items h t = record {
-  tag = t;
-  noted = record {
-    group = item.Job (known.Saw row) ∷ items_in h.told;
-    rows = [];
-    appended = h.left.appended ∙ ap (λ l. (l ++ item.Job (known.Saw row) ∷ []) ++ items_in h.told) items ∙ append_assoc (items_of f) (item.Job (known.Saw row) ∷ []) (items_in h.told);
-    channels = spans.added_then f.tag [] (channel_acts_in (items_in h.told)) c d c' (spans.added_looked f.tag c d look) h.left.added;
-    jobs = subst (λ acts. Added f.tag acts [] a b) (sym h.left.no_jobs) (added_looked f.tag [] a b s);
-  };
+pub cut_given : {a b : SeenOnBoth} (d : ChannelFloor) (n w : ℕ) (row : ℕ) (mid : List Item) → LookedAtChannels a.who a.channels d
+    → Looked a.who [] a.jobs b.jobs → n ≡ a.who → mid ≡ a.items
+    → ToldSome (record { who = n; floor = d; items = mid ++ item.Job (known.Saw row) ∷ [] })
+    (record { who = w; floor = b.channels; items = b.items }) → b.who ≡ a.who → CutShort a b
+cut_given {a} {b} d n w row mid look s e items h t = record {
+  who = t;
+  group = item.Job (known.Saw row) ∷ items_in h.told;
+  rows = [];
+  appended = h.left.appended ∙ ap (λ l. (l ++ item.Job (known.Saw row) ∷ []) ++ items_in h.told) items
+      ∙ append_assoc a.items (item.Job (known.Saw row) ∷ []) (items_in h.told);
+  channels = spans.added_then a.who [] (channel_acts_in (items_in h.told)) a.channels d b.channels
+      (spans.added_looked a.who a.channels d look) (subst (λ k. AddedToChannels k (channel_acts_in (items_in h.told)) d b.channels) e
+      h.left.added);
+  jobs = subst (λ acts. Added a.who acts [] a.jobs b.jobs) (sym h.left.no_jobs) (added_looked a.who [] a.jobs b.jobs s);
 }

@@ -55,57 +55,73 @@ await_line (Some (line.OnReceive x)) a = cc
 await_line (Some line.End) a = cc
 
 -- where it has to see how a Job ended, its line is an await, whose name means a row
-pub awaits_named : (p : Program) (c : ChannelFloor) (j : Floor) (f : Frame) → IsProgram p → Legal j.shape j.seen → Stands p c j f → f.stage ≡ SeesJob → AwaitsNamed p f
+pub awaits_named : (p : Program) (c : ChannelFloor) (j : Floor) (f : Frame) → IsProgram p → Legal j.shape j.seen → Stands p c j f
+    → f.stage ≡ SeesJob → AwaitsNamed p f
 awaits_named p c j f ok l h e =
-    let at = await_line (slice_get (code_of p f.tag) f.line) (subst (λ t. CallsAt t (slice_get (code_of p f.tag) f.line)) e (stands_fits p c j f h).calls) in
+    let at = await_line (slice_get (code_of p f.tag) f.line)
+    (subst (λ t. CallsAt t (slice_get (code_of p f.tag) f.line)) e (stands_fits p c j f h).calls) in
     record {
       in_run = h.on.in_run;
       sees = e;
       job = at.0;
       line_is = at.1;
-      named = job_known p f.tag (seen_by c j) (items_of f) (config_of f) (line.Await at.0) at.0 ok (subst (λ s. Legal s j.seen) h.on.jobs l) h.on.runs (ap is_in_lines e) at.1 refl;
+      named = job_known p f.tag (seen_by c j) (items_of f) (config_of f) (line.Await at.0) at.0 ok (subst (λ s. Legal s j.seen) h.on.jobs l)
+          h.on.runs (ap is_in_lines e) at.1 refl;
     }
 
-pub awaited_row : (p : Program) (f : Frame) → AwaitsNamed p f → (code : List Instruction) (d : Instruction) (job row : ℕ) → code ≡ code_of p f.tag → get_or code f.line d ≡ line.Await job → row ≡ get_or f.rows.items job row → HasToSee p f.tag (config_of f) row
+pub awaited_row : (p : Program) (f : Frame) → AwaitsNamed p f → (code : List Instruction) (d : Instruction) (job row : ℕ)
+    → code ≡ code_of p f.tag → get_or code f.line d ≡ line.Await job → row ≡ get_or f.rows.items job row
+    → HasToSee p f.tag (config_of f) row
 awaited_row p f h code d job row is at e =
-    let lt : f.line < length code = subst (λ (l : List Instruction). f.line < length l) (sym is) (slice_get_within (code_of p f.tag) f.line (line.Await h.job) h.line_is) in
+    let lt : f.line < length code = subst (λ (l : List Instruction). f.line < length l) (sym is)
+    (slice_get_within (code_of p f.tag) f.line (line.Await h.job) h.line_is) in
     let here : slice_get code f.line ≡ Some (line.Await job) = slice_get-get_or code f.line d lt ∙ ap Some at in
     let there : slice_get code f.line ≡ Some (line.Await h.job) = ap (λ (l : List Instruction). slice_get l f.line) is ∙ h.line_is in
     let both_ways : Some (line.Await job) ≡ Some (line.Await h.job) = sym here ∙ there in
     let same : job ≡ h.job = cc in
     let short : job < length f.rows.items = subst (λ n. n < length f.rows.items) (sym same) h.named in
-    HasToSee.job job row h.sees (ap (λ (l : List Instruction). slice_get l f.line) (sym is) ∙ here) (slice_get_read f.rows.items (length f.rows.items) job row refl short e)
+    HasToSee.job job row h.sees (ap (λ (l : List Instruction). slice_get l f.line) (sym is)
+    ∙ here) (slice_get_read f.rows.items (length f.rows.items) job row refl short e)
 
 -- ---- the Job
 
-scope_attached : (p : Program) (c : ChannelFloor) (j : Floor) (f : Frame) (s : InScope) → Legal j.shape j.seen → Stands p c j f → scope_in (config_of f).entered ≡ Some s → is_some (replay j.seen s.row) ≡ true
-scope_attached p c j f s l h e = not_new_attached (replay j.seen s.row) (scope_here p f.tag (seen_by c j) (items_of f) (config_of f) s (stands_knows p c j f l h) e).live
+scope_attached : (p : Program) (c : ChannelFloor) (j : Floor) (f : Frame) (s : InScope) → Legal j.shape j.seen → Stands p c j f
+    → scope_in (config_of f).entered ≡ Some s → is_some (replay j.seen s.row) ≡ true
+scope_attached p c j f s l h e = not_new_attached (replay j.seen s.row)
+    (scope_here p f.tag (seen_by c j) (items_of f) (config_of f) s (stands_knows p c j f l h) e).live
 
 -- it is attached
-pub seen_attached : (p : Program) (c : ChannelFloor) (j : Floor) (f : Frame) (row : ℕ) → Legal j.shape j.seen → Stands p c j f → HasToSee p f.tag (config_of f) row → is_some (replay j.seen row) ≡ true
+pub seen_attached : (p : Program) (c : ChannelFloor) (j : Floor) (f : Frame) (row : ℕ) → Legal j.shape j.seen → Stands p c j f
+    → HasToSee p f.tag (config_of f) row → is_some (replay j.seen row) ≡ true
 seen_attached p c j f _ l h (HasToSee.job job row e at names) = named_attached p c j f job row l h names
 seen_attached p c j f _ l h (HasToSee.scope s e at) = scope_attached p c j f s l h at
 
 -- ---- a scope
 
 -- where it has to see how a scope ended, it has entered one
-pub sees_in_scope : {A : Type 0} (p : Program) (c : ChannelFloor) (j : Floor) (f : Frame) → Legal j.shape j.seen → Stands p c j f → f.stage ≡ SeesScope → scope_in (config_of f).entered ≡ None → A
+pub sees_in_scope : {A : Type 0} (p : Program) (c : ChannelFloor) (j : Floor) (f : Frame) → Legal j.shape j.seen → Stands p c j f
+    → f.stage ≡ SeesScope → scope_in (config_of f).entered ≡ None → A
 sees_in_scope p c j f l h e none =
     let knows = stands_knows p c j f l h in
-    let s = leaves_scope (job_shape p) f.tag knows.runs.told (config_of f) (runs_scopes p f.tag (seen_by c j) (items_of f) (config_of f) knows) (ap is_leaving e) in
+    let s = leaves_scope (job_shape p) f.tag knows.runs.told (config_of f)
+    (runs_scopes p f.tag (seen_by c j) (items_of f) (config_of f) knows) (ap is_leaving e) in
     absurd (let both_ways : None ≡ Some s.0 = sym none ∙ s.1 in let no_way : ⊥ = cc in no_way)
 
-pub scope_to_see : (p : Program) (f : Frame) (s : OpenScope) → f.stage ≡ SeesScope → IsInScope (config_of f) s → HasToSee p f.tag (config_of f) s.row
+pub scope_to_see : (p : Program) (f : Frame) (s : OpenScope) → f.stage ≡ SeesScope → IsInScope (config_of f) s
+    → HasToSee p f.tag (config_of f) s.row
 scope_to_see p f s e inside = HasToSee.scope (record { head = s.head; row = s.row; around = inside.0 }) e inside.1
 
 -- the scope's first line opens it
-pub scope_opens : (p : Program) (c : ChannelFloor) (j : Floor) (f : Frame) (s : OpenScope) → Stands p c j f → IsInScope (config_of f) s → does_open (slice_get (code_of p f.tag) s.head) ≡ true
+pub scope_opens : (p : Program) (c : ChannelFloor) (j : Floor) (f : Frame) (s : OpenScope) → Stands p c j f → IsInScope (config_of f) s
+    → does_open (slice_get (code_of p f.tag) s.head) ≡ true
 scope_opens p c j f s h inside =
     let meant : InScope = record { head = s.head; row = s.row; around = inside.0 } in
     let parts = scope_splits (config_of f).entered meant inside.1 in
     let at = enters parts.inside s.head s.row inside.0 (subst (AllEnter (code_of p f.tag)) parts.all (stands_fits p c j f h).enters) in
     ap does_open at.1
   where
-    enters : (inside : List Entered) (head row : ℕ) (around : List Entered) → AllEnter (code_of p f.tag) (inside ++ in_scope head row ∷ around) → (supervisor : Bool) × (slice_get (code_of p f.tag) head ≡ Some (line.Scope supervisor))
+    enters : (inside : List Entered) (head row : ℕ) (around : List Entered)
+        → AllEnter (code_of p f.tag) (inside ++ in_scope head row ∷ around) → (supervisor : Bool)
+        × (slice_get (code_of p f.tag) head ≡ Some (line.Scope supervisor))
     enters [] head row around a = a.0
     enters (e ∷ inside) head row around a = enters inside head row around a.1

@@ -1,7 +1,7 @@
 -- The lines of a coroutine on Jobs, and the end of its body.
 use Rattle.std.specs.Prelude.{◌≡◌, ℕ, ◌+◌, ◌<◌, ◌⊎◌, Bool, true, false, List, [], ◌∷◌, ◌++◌, Option, Some, None, is_some, slice_get, refl, Err}
 use Rattle.std.specs.List.{list_any}
-use Rattle.std.proofs.Common.{sym, ap, ◌∙◌, subst, ⊎_elim}
+use Rattle.std.proofs.Common.{sym, ap, ◌∙◌, subst, inl, inr, ⊎_elim}
 use Rattle.channel_model.specs.Histories.{acts_of}
 use Rattle.channel_model.specs.Floors.{Floor as ChannelFloor}
 use Rattle.job_model.specs.declared.acts.JobAct.TheVariants.{Attach}
@@ -23,6 +23,7 @@ use Rattle.note_book.specs.Items.{channel_acts_in, job_acts_in}
 use Rattle.call_meaning.specs.Telling.{Told, on_jobs, MayRun, HasEnded, items_in, did, knew, saw}
 use Rattle.call_meaning.specs.Stories.{IsTrue}
 use Rattle.call_meaning.specs.JobCalls.{child_kind, NotAttached, Starts, EndsBody, BreaksOff}
+use Rattle.call_meaning.specs.Seen.{SeenOnJobs}
 use Rattle.call_meaning.specs.Calls.{ToldOnJobs, ToldOnBoth, rows_in}
 use Rattle.call_meaning.proofs.JobTellings.{told_fact, told_knew, both_jobs}
 use Rattle.scope_builders.specs.declared.builder.LaunchError.{LaunchError}
@@ -40,7 +41,7 @@ use Rattle.script_meaning.specs.Lines.{is_lazy}
 use Rattle.script_meaning.specs.Moves.{Move}
 use Rattle.script_meaning.proofs.JobDebts.{parents_in}
 use Rattle.poll_states.specs.declared.jobs.OwnState.TheVariants as own
-use Rattle.poll_states.specs.Frames.{Frame, config_of, items_of, Stands}
+use Rattle.poll_states.specs.Frames.{Frame, config_of, items_of, Stands, seen_at, jobs_at, SeenAtPoll, at_poll, both_of, StandsAt}
 use Rattle.poll_states.specs.Steps.{OwnStateSeen, IsAtEnd, HasBody, Stepped}
 use Rattle.script_meaning.specs.Laws.{wait_of}
 use Rattle.script_meaning.specs.Bodies.{is_over, is_fresh, is_leaving, IsOwnRow, HasBodyAt}
@@ -52,60 +53,98 @@ use Rattle.script_meaning.proofs.GroupNotes.{passes_all, end_all, break_all}
 use Rattle.script_meaning.proofs.GentleNotes.{attach_mild}
 use Rattle.poll_states.proofs.Mild.{saw_mild, nothing_mild, one_fact_mild, starts_mild, passes_mild}
 use Rattle.poll_states.proofs.QuietNotes.{is_quiet, quiet_allows, quiet_ends, quiet_rows, quiet_refused}
-use Rattle.poll_states.proofs.Stepping.{self_channels, uncalled, no_wait, mild_step, jobs_noted, known_of}
+use Rattle.poll_states.proofs.Stepping.{told_at, both_at, dones_at, self_channels, uncalled, no_wait, mild_step, jobs_noted, known_of}
 
 -- ---- looks at one's own Job
 
 -- a Job of its own was seen Cancelling, and that was noted
-pub saw_noted : (c : ChannelFloor) (a b : Floor) (k row : ℕ) (i i' : List Item) → OwnStateSeen k row a b own.Cancelling → i' ≡ i ++ item.Job (known.Saw row) ∷ [] → ToldOnBoth k [] c c a b i i' (saw row ∷ [])
-saw_noted c a b k row i i' s is = both_jobs k [] c c a b i i' (saw row ∷ []) (self_channels k c) (told_knew k [] a b i i' (known.Saw row) refl is (added_looked k [] a b s.looked) (looked_moment k [] a b _ s.looked s.was))
+pub saw_noted : (c : ChannelFloor) (a b : Floor) (f g : Frame) (row : ℕ) → OwnStateSeen f.tag row a b own.Cancelling → g.tag ≡ f.tag
+    → items_of g ≡ items_of f ++ item.Job (known.Saw row) ∷ [] → ToldOnBoth [] (seen_at c a f) (seen_at c b g) (saw row ∷ [])
+saw_noted c a b f g row s t is = both_jobs (self_channels f.tag c)
+    (told_knew (known.Saw row) refl t is (added_looked f.tag [] a b s.looked) (looked_moment f.tag [] a b _ s.looked s.was))
 
 -- it was seen running
-pub may_run_noted : (c : ChannelFloor) (a b : Floor) (k row : ℕ) (i i' : List Item) → OwnStateSeen k row a b own.MayRun → i' ≡ i → ToldOnBoth k [] c c a b i i' (on_jobs (MayRun row) ∷ [])
-may_run_noted c a b k row i i' s is = both_jobs k [] c c a b i i' _ (self_channels k c) (told_fact k [] a b i i' (MayRun row) is (added_looked k [] a b s.looked) (looked_moment k [] a b _ s.looked s.was))
+pub may_run_noted : (c : ChannelFloor) (a b : Floor) (f g : Frame) (row : ℕ) → OwnStateSeen f.tag row a b own.MayRun → g.tag ≡ f.tag
+    → items_of g ≡ items_of f → ToldOnBoth [] (seen_at c a f) (seen_at c b g) (on_jobs (MayRun row) ∷ [])
+may_run_noted c a b f g row s t is = both_jobs (self_channels f.tag c)
+    (told_fact (MayRun row) t is (added_looked f.tag [] a b s.looked) (looked_moment f.tag [] a b _ s.looked s.was))
 
-saw_step : (p : Program) (c : ChannelFloor) (a b : Floor) (f g : Frame) (row : ℕ) → Legal b.shape b.seen → Move p f.tag (config_of f) (saw row ∷ []) (at_stage (Unwinding None) (config_of f)) → OwnStateSeen f.tag row a b own.Cancelling → g.tag ≡ f.tag → config_of g ≡ at_stage (Unwinding None) (config_of f) → items_of g ≡ items_of f ++ item.Job (known.Saw row) ∷ [] → Stepped p c c a b f g
+saw_step : (p : Program) (c : ChannelFloor) (a b : Floor) (f g : Frame) (row : ℕ) → Legal b.shape b.seen
+    → Move p f.tag (config_of f) (saw row ∷ []) (at_stage (Unwinding None) (config_of f)) → OwnStateSeen f.tag row a b own.Cancelling
+    → g.tag ≡ f.tag → config_of g ≡ at_stage (Unwinding None) (config_of f) → items_of g ≡ items_of f ++ item.Job (known.Saw row) ∷ []
+    → Stepped p (at_poll c a f) (at_poll c b g)
 unfolding items_in rows_in
 saw_step p c a b f g row l move s t config items =
-    mild_step p c c a b f g (saw row ∷ []) _ l move (saw_noted c a b f.tag row (items_of f) (items_of g) s items) (saw_mild (base_of p) row [] (nothing_mild (base_of p))) t config (λ w e. no_wait g _ w config refl e)
+    mild_step p c c a b f g (saw row ∷ []) _ l move (saw_noted c a b f g row s t items)
+    (saw_mild (base_of p) row [] (nothing_mild (base_of p))) t config (λ w e. no_wait g _ w config refl e)
 
-run_step : (p : Program) (c : ChannelFloor) (a b : Floor) (f g : Frame) (row : ℕ) (y : Config) → Legal b.shape b.seen → Move p f.tag (config_of f) (on_jobs (MayRun row) ∷ []) y → wait_of y.stage ≡ None → OwnStateSeen f.tag row a b own.MayRun → g.tag ≡ f.tag → config_of g ≡ y → items_of g ≡ items_of f → Stepped p c c a b f g
+run_step : (p : Program) (c : ChannelFloor) (a b : Floor) (f g : Frame) (row : ℕ) (y : Config) → Legal b.shape b.seen
+    → Move p f.tag (config_of f) (on_jobs (MayRun row) ∷ []) y → wait_of y.stage ≡ None → OwnStateSeen f.tag row a b own.MayRun
+    → g.tag ≡ f.tag → config_of g ≡ y → items_of g ≡ items_of f → Stepped p (at_poll c a f) (at_poll c b g)
 unfolding items_in rows_in
 run_step p c a b f g row y l move none s t config items =
-    mild_step p c c a b f g (on_jobs (MayRun row) ∷ []) y l move (may_run_noted c a b f.tag row (items_of f) (items_of g) s items) (one_fact_mild (base_of p) (MayRun row)) t config (λ w e. no_wait g y w config none e)
+    mild_step p c c a b f g (on_jobs (MayRun row) ∷ []) y l move (may_run_noted c a b f g row s t items)
+    (one_fact_mild (base_of p) (MayRun row)) t config (λ w e. no_wait g y w config none e)
 
-pub stopped : (p : Program) (c : ChannelFloor) (a b : Floor) (f g : Frame) → Legal b.shape b.seen → IsAt p f.tag (config_of f) line.Yield → OwnStateSeen f.tag (innermost f.tag (config_of f)) a b own.Cancelling → g.tag ≡ f.tag → config_of g ≡ at_stage (Unwinding None) (config_of f)
-    → items_of g ≡ items_of f ++ item.Job (known.Saw (innermost f.tag (config_of f))) ∷ [] → Stepped p c c a b f g
-stopped p c a b f g l at s t config items = saw_step p c a b f g (innermost f.tag (config_of f)) l (Move.stops_at_yield (config_of f) at) s t config items
+pub stopped : (p : Program) (c : ChannelFloor) (a b : Floor) (f g : Frame) → Legal b.shape b.seen → IsAt p f.tag (config_of f) line.Yield
+    → OwnStateSeen f.tag (innermost f.tag (config_of f)) a b own.Cancelling → g.tag ≡ f.tag
+    → config_of g ≡ at_stage (Unwinding None) (config_of f)
+    → items_of g ≡ items_of f ++ item.Job (known.Saw (innermost f.tag (config_of f))) ∷ [] → Stepped p (at_poll c a f) (at_poll c b g)
+stopped p c a b f g l at s t config items = saw_step p c a b f g (innermost f.tag (config_of f)) l (Move.stops_at_yield (config_of f) at) s
+    t config items
 
-pub yielded : (p : Program) (c : ChannelFloor) (a b : Floor) (f g : Frame) → Legal b.shape b.seen → IsAt p f.tag (config_of f) line.Yield → OwnStateSeen f.tag (innermost f.tag (config_of f)) a b own.MayRun → g.tag ≡ f.tag → config_of g ≡ next (config_of f) → items_of g ≡ items_of f → Stepped p c c a b f g
-yielded p c a b f g l at s t config items = run_step p c a b f g (innermost f.tag (config_of f)) _ l (Move.yields (config_of f) at) refl s t config items
+pub yielded : (p : Program) (c : ChannelFloor) (a b : Floor) (f g : Frame) → Legal b.shape b.seen → IsAt p f.tag (config_of f) line.Yield
+    → OwnStateSeen f.tag (innermost f.tag (config_of f)) a b own.MayRun → g.tag ≡ f.tag → config_of g ≡ next (config_of f)
+    → items_of g ≡ items_of f → Stepped p (at_poll c a f) (at_poll c b g)
+yielded p c a b f g l at s t config items = run_step p c a b f g (innermost f.tag (config_of f)) _ l (Move.yields (config_of f) at) refl s t
+    config items
 
 -- the same before the first line
-pub never_begun : (p : Program) (c : ChannelFloor) (a b : Floor) (f g : Frame) → Legal b.shape b.seen → f.stage ≡ Fresh → OwnStateSeen f.tag f.tag a b own.Cancelling → g.tag ≡ f.tag → config_of g ≡ at_stage (Unwinding None) (config_of f) → items_of g ≡ items_of f ++ item.Job (known.Saw f.tag) ∷ [] → Stepped p c c a b f g
+pub never_begun : (p : Program) (c : ChannelFloor) (a b : Floor) (f g : Frame) → Legal b.shape b.seen → f.stage ≡ Fresh
+    → OwnStateSeen f.tag f.tag a b own.Cancelling → g.tag ≡ f.tag → config_of g ≡ at_stage (Unwinding None) (config_of f)
+    → items_of g ≡ items_of f ++ item.Job (known.Saw f.tag) ∷ [] → Stepped p (at_poll c a f) (at_poll c b g)
 never_begun p c a b f g l fresh s t config items = saw_step p c a b f g f.tag l (Move.never_runs (config_of f) fresh) s t config items
 
-pub has_begun : (p : Program) (c : ChannelFloor) (a b : Floor) (f g : Frame) → Legal b.shape b.seen → f.stage ≡ Fresh → OwnStateSeen f.tag f.tag a b own.MayRun → g.tag ≡ f.tag → config_of g ≡ at_stage Running (config_of f) → items_of g ≡ items_of f → Stepped p c c a b f g
+pub has_begun : (p : Program) (c : ChannelFloor) (a b : Floor) (f g : Frame) → Legal b.shape b.seen → f.stage ≡ Fresh
+    → OwnStateSeen f.tag f.tag a b own.MayRun → g.tag ≡ f.tag → config_of g ≡ at_stage Running (config_of f) → items_of g ≡ items_of f
+    → Stepped p (at_poll c a f) (at_poll c b g)
 has_begun p c a b f g l fresh s t config items = run_step p c a b f g f.tag _ l (Move.runs (config_of f) fresh) refl s t config items
 
 -- ---- launch
 
-pub has_launched : (p : Program) (c d : ChannelFloor) (j j' : Floor) (f g : Frame) (parent block size : ℕ) (how : Launching) (lazy : Bool) (job : Option ℕ) (now : Bool) → d ≡ c → Legal j'.shape j'.seen → IsAt p f.tag (config_of f) (line.Launch block how job) → parent ≡ innermost f.tag (config_of f) → lazy ≡ is_lazy how → size ≡ size_of p block
-    → ToldOnJobs f.tag (f.free ∷ []) j j' (items_of f) (items_of g) (did (Attach parent f.free (child_kind lazy) f.free now) ∷ []) → g.tag ≡ f.tag → config_of g ≡ next (record (config_of f) { rows = named job f.free f.rows.items; free = f.free + size }) → Stepped p c d j j' f g
+pub has_launched : (p : Program) {a b : SeenAtPoll} {parent block size : ℕ} {how : Launching} {lazy : Bool} {job : Option ℕ} {now : Bool}
+    → b.channels ≡ a.channels → Legal b.jobs.shape b.jobs.seen
+    → IsAt p a.frame.tag (config_of a.frame) (line.Launch block how job)
+    → parent ≡ innermost a.frame.tag (config_of a.frame) → lazy ≡ is_lazy how → size ≡ size_of p block
+    → ToldOnJobs (a.frame.free ∷ []) (jobs_at a.jobs a.frame) (jobs_at b.jobs b.frame)
+    (did (Attach parent a.frame.free (child_kind lazy) a.frame.free now) ∷ []) → b.frame.tag ≡ a.frame.tag
+    → config_of b.frame ≡ next (record (config_of a.frame) { rows = named job a.frame.free a.frame.rows.items; free = a.frame.free + size })
+    → Stepped p a b
 unfolding items_in rows_in
-has_launched p c d j j' f g parent block size how lazy job now e l at under same is noted t config =
+has_launched p {a} {b} {parent} {block} {size} {how} {lazy} {job} {now} e l at under same is noted t config =
+    let f : Frame = a.frame in
+    let g : Frame = b.frame in
+    let j : Floor = a.jobs in
+    let j' : Floor = b.jobs in
     let row : ℕ = innermost f.tag (config_of f) in
     let told : List Told = did (Attach row f.free (child_kind (is_lazy how)) f.free now) ∷ [] in
-    mild_step p c d j j' f g told (next (past_launch p block job (config_of f))) l (Move.launches (config_of f) block how job now at)
-    (jobs_noted f.tag (f.free ∷ []) c d j j' (items_of f) (items_of g) told e refl
-    (subst (λ b. ToldOnJobs f.tag (f.free ∷ []) j j' (items_of f) (items_of g) (did (Attach row f.free (child_kind b) f.free now) ∷ [])) same
-    (subst (λ r. ToldOnJobs f.tag (f.free ∷ []) j j' (items_of f) (items_of g) (did (Attach r f.free (child_kind lazy) f.free now) ∷ [])) under noted)))
-    (attach_mild (base_of p) row f.free (child_kind (is_lazy how)) f.free now) t (config ∙ ap (λ n. next (record (config_of f) { rows = named job f.free f.rows.items; free = f.free + n })) is) (λ w k. no_wait g _ w config refl k)
+    mild_step p a.channels b.channels j j' f g told (next (past_launch p block job (config_of f))) l
+    (Move.launches (config_of f) block how job now at)
+    (jobs_noted (f.free ∷ []) a.channels b.channels j j' f g told e refl
+    (subst (λ b. ToldOnJobs (f.free ∷ []) (jobs_at j f) (jobs_at j' g) (did (Attach row f.free (child_kind b) f.free now) ∷ [])) same
+    (subst (λ r. ToldOnJobs (f.free ∷ []) (jobs_at j f) (jobs_at j' g) (did (Attach r f.free (child_kind lazy) f.free now) ∷ [])) under
+    noted)))
+    (attach_mild (base_of p) row f.free (child_kind (is_lazy how)) f.free now) t (config
+    ∙ ap (λ n. next (record (config_of f) { rows = named job f.free f.rows.items; free = f.free + n })) is)
+    (λ w k. no_wait g _ w config refl k)
 
 -- a coroutine is not told that a Job of its own has ended whose body has not
-pub never_told_over : (who row : ℕ) (rows : List ℕ) (c : ChannelFloor) (j j' : Floor) (i i' : List Item) (more : List Told) → Legal j'.shape j'.seen → HasBodyAt who row j → acts_of who c.seen ≡ channel_acts_in i → job_acts_of who j.seen ≡ job_acts_in i → ToldOnJobs who rows j j' i i' (on_jobs (HasEnded row) ∷ more) → ⊥
+pub never_told_over : (w who row : ℕ) (rows : List ℕ) (c : ChannelFloor) (j j' : Floor) (i i' : List Item) (more : List Told)
+    → Legal j'.shape j'.seen → HasBodyAt who row j → acts_of who c.seen ≡ channel_acts_in i → job_acts_of who j.seen ≡ job_acts_in i
+    → ToldOnJobs rows (record { who = who; floor = j; items = i }) (record { who = w; floor = j'; items = i' })
+    (on_jobs (HasEnded row) ∷ more) → ⊥
 unfolding IsTrue
-never_told_over who row rows c j j' i i' more l body e f h =
+never_told_over w who row rows c j j' i i' more l body e f h =
     let so = h.was_so i c.shape c.seen e f in
     let at : List JobEntry = so.0.jobs in
     let q : IsPrefix at j'.seen = so.1.not_after.jobs in
@@ -121,29 +160,50 @@ never_told_over who row rows c j j' i i' more l body e f h =
     own_at at l p (IsOwnRow.own k lt) = IsOwnRow.own k (subst (λ n. who < n) (sym (ap (λ (s : Shape). s.coroutines) h.added.same.shape)) lt)
     own_at at l p (IsOwnRow.scope t) = IsOwnRow.scope (prefix_keeps (λ x. tag_of x ≡ Some who) (tag_lasts who) j'.shape j.seen at row l p t)
 
-refused_step : (p : Program) (c d : ChannelFloor) (j j' : Floor) (f g : Frame) (block : ℕ) (how : Launching) (job : Option ℕ) → d ≡ c → IsAt p f.tag (config_of f) (line.Launch block how job) → is_some (j'.claims f.free) ≡ true → ToldOnJobs f.tag [] j j' (items_of f) (items_of g) (knew known.Used ∷ [])
-    → Legal j'.shape j'.seen → g.tag ≡ f.tag → config_of g ≡ at_stage (Unwinding (Some f.tag)) (config_of f) → Stepped p c d j j' f g
+refused_step : (p : Program) (c d : ChannelFloor) (j j' : Floor) (f g : Frame) (block : ℕ) (how : Launching) (job : Option ℕ) → d ≡ c
+    → IsAt p f.tag (config_of f) (line.Launch block how job) → is_some (j'.claims f.free) ≡ true
+    → ToldOnJobs [] (jobs_at j f) (jobs_at j' g) (knew known.Used ∷ [])
+    → Legal j'.shape j'.seen → g.tag ≡ f.tag → config_of g ≡ at_stage (Unwinding (Some f.tag)) (config_of f)
+    → Stepped p (at_poll c j f) (at_poll d j' g)
 unfolding items_in rows_in
 refused_step p c d j j' f g block how job e at claimed noted l t config = record {
   tag = t;
   told = knew known.Used ∷ [];
-  move = subst (Move p f.tag (config_of f) (knew known.Used ∷ [])) (sym config) (Move.launch_refused (config_of f) block how job _ at NotAttached.used);
-  noted = jobs_noted f.tag [] c d j j' (items_of f) (items_of g) _ e refl noted;
+  move = subst (Move p f.tag (config_of f) (knew known.Used ∷ [])) (sym config)
+      (Move.launch_refused (config_of f) block how job _ at NotAttached.used);
+  noted = jobs_noted [] c d j j' f g _ e refl noted;
   refused = record { no_row = λ k. absurd (let u : ⊥ = cc in u); used = λ k. claimed; none_ended = refl };
-  dones = unclosed_kept f.tag (base_of p) [] [] [] c d j j' _ l (uncalled f.tag c d e) refl noted.added (tt, tt);
+  dones = unclosed_kept f.tag (base_of p) [] [] [] (seen_at c j f) (seen_at d j' g) _ l (uncalled f.tag c d e) refl noted.added (tt, tt);
   stood = λ w k. no_wait g _ w config refl k;
 }
 
-pub launch_refused : (p : Program) (c d : ChannelFloor) (j j' : Floor) (f g : Frame) (parent block : ℕ) (how : Launching) (lazy : Bool) (job : Option ℕ) (error : LaunchError) (mid : List Item) → (error ≡ launch.Used) ⊎ (error ≡ launch.ParentEnded) → d ≡ c → Legal j.shape j.seen → Legal j'.shape j'.seen → Stands p c j f → IsAt p f.tag (config_of f) (line.Launch block how job) → parent ≡ innermost f.tag (config_of f)
-    → LaunchAnswer f.tag parent f.free lazy j j' (items_of f) mid (Err error) → g.tag ≡ f.tag → config_of g ≡ at_stage (Unwinding (Some f.tag)) (config_of f) → items_of g ≡ mid → Stepped p c d j j' f g
-launch_refused p c d j j' f g parent block how lazy job error mid which e l l' h at under answer t config items =
-    let answer : LaunchAnswer f.tag parent f.free lazy j j' (items_of f) (items_of g) (Err error) = subst (λ i. LaunchAnswer f.tag parent f.free lazy j j' (items_of f) i (Err error)) (sym items) answer in
-    let body : HasBody f.tag (innermost f.tag (config_of f)) j = stands_body p c j f l h (ap is_fresh at.stage) (ap is_leaving at.stage) (ap is_over at.stage) in
+-- why it was refused: its row was claimed, or the parent had ended
+pub refused_for : {parent tag : ℕ} (lazy : Bool) {old new : SeenOnJobs} {error : LaunchError} → (error ≡ launch.Used)
+    ⊎ (error ≡ launch.ParentEnded) → LaunchAnswer parent tag lazy old new (Err error)
+    → ((is_some (new.floor.claims tag) ≡ true) × ToldOnJobs [] old new (knew known.Used ∷ []))
+    ⊎ ToldOnJobs (tag ∷ []) old new (on_jobs (HasEnded parent) ∷ knew known.ParentEnded ∷ [])
+refused_for {parent} {tag} lazy {old} {new} which answer =
     ⊎_elim
-    (λ k. let q = subst (λ x. LaunchAnswer f.tag parent f.free lazy j j' (items_of f) (items_of g) (Err x)) k answer in refused_step p c d j j' f g block how job e at q.0 q.1 l' t config)
-    (λ k. let q = subst (λ x. LaunchAnswer f.tag parent f.free lazy j j' (items_of f) (items_of g) (Err x)) k answer in
-    absurd (never_told_over f.tag parent (f.free ∷ []) c j j' (items_of f) (items_of g) _ l' (subst (λ r. HasBodyAt f.tag r j) (sym under) body.at) h.on.channel_acts h.on.job_acts q))
+    (λ k. inl (subst (λ x. LaunchAnswer parent tag lazy old new (Err x)) k answer))
+    (λ k. inr (subst (λ x. LaunchAnswer parent tag lazy old new (Err x)) k answer))
     which
+
+pub launch_refused : (p : Program) {a : SeenAtPoll} {d : ChannelFloor} {m : SeenOnJobs} {g : Frame} {parent block : ℕ} {how : Launching}
+    {job : Option ℕ} → d ≡ a.channels → Legal a.jobs.shape a.jobs.seen → Legal m.floor.shape m.floor.seen → StandsAt p a
+    → IsAt p a.frame.tag (config_of a.frame) (line.Launch block how job) → parent ≡ innermost a.frame.tag (config_of a.frame)
+    → ((is_some (m.floor.claims a.frame.free) ≡ true) × ToldOnJobs [] (jobs_at a.jobs a.frame) m (knew known.Used ∷ []))
+    ⊎ ToldOnJobs (a.frame.free ∷ []) (jobs_at a.jobs a.frame) m (on_jobs (HasEnded parent) ∷ knew known.ParentEnded ∷ [])
+    → g.tag ≡ a.frame.tag → config_of g ≡ at_stage (Unwinding (Some a.frame.tag)) (config_of a.frame) → items_of g ≡ m.items
+    → Stepped p a (at_poll d m.floor g)
+launch_refused p {a} {d} {m} {g} {parent} {block} {how} {job} e l l' h at under why t config items =
+    let f : Frame = a.frame in
+    let body : HasBody f.tag (innermost f.tag (config_of f)) a.jobs =
+    stands_body p a.channels a.jobs f l h (ap is_fresh at.stage) (ap is_leaving at.stage) (ap is_over at.stage) in
+    ⊎_elim
+    (λ q. refused_step p a.channels d a.jobs m.floor f g block how job e at q.0 (told_at g q.1 t items) l' t config)
+    (λ q. absurd (never_told_over m.who f.tag parent (f.free ∷ []) a.channels a.jobs m.floor (items_of f) m.items _ l'
+    (subst (λ r. HasBodyAt f.tag r a.jobs) (sym under) body.at) h.on.channel_acts h.on.job_acts q))
+    why
 
 -- ---- start and cancel
 
@@ -156,51 +216,67 @@ unfolding items_in rows_in
 started_rows true row = refl
 started_rows false row = refl
 
-pub has_started : (p : Program) (c d : ChannelFloor) (j j' : Floor) (f g : Frame) (job row : ℕ) (now : Bool) → d ≡ c → Legal j'.shape j'.seen → IsAt p f.tag (config_of f) (line.Start job) → slice_get f.rows.items job ≡ Some row
-    → ToldOnJobs f.tag [] j j' (items_of f) (items_of g) (start_told now row) → g.tag ≡ f.tag → config_of g ≡ next (config_of f) → Stepped p c d j j' f g
+pub has_started : (p : Program) (c d : ChannelFloor) (j j' : Floor) (f g : Frame) (job row : ℕ) (now : Bool) → d ≡ c
+    → Legal j'.shape j'.seen → IsAt p f.tag (config_of f) (line.Start job) → slice_get f.rows.items job ≡ Some row
+    → ToldOnJobs [] (jobs_at j f) (jobs_at j' g) (start_told now row) → g.tag ≡ f.tag → config_of g ≡ next (config_of f)
+    → Stepped p (at_poll c j f) (at_poll d j' g)
 has_started p c d j j' f g job row now e l at is noted t config =
     mild_step p c d j j' f g (start_told now row) _ l (Move.starts (config_of f) job row _ at is (started_group now row))
-    (jobs_noted f.tag [] c d j j' (items_of f) (items_of g) (start_told now row) e (started_rows now row) noted) (starts_mild (base_of p) row _ (started_group now row)) t config
+    (jobs_noted [] c d j j' f g (start_told now row) e (started_rows now row) noted) (starts_mild (base_of p) row _ (started_group now row))
+    t config
     (λ w k. no_wait g _ w config refl k)
 
-pub has_cancelled : (p : Program) (c d : ChannelFloor) (j j' : Floor) (f g : Frame) (job row count : ℕ) → d ≡ c → Legal j'.shape j'.seen → Stands p c j f → IsAt p f.tag (config_of f) (line.Cancel job) → slice_get f.rows.items job ≡ Some row
-    → CancelledAll f.tag row j j' (items_of f) (items_of g) count → g.tag ≡ f.tag → config_of g ≡ next (config_of f) → Stepped p c d j j' f g
+pub has_cancelled : (p : Program) (c d : ChannelFloor) (j j' : Floor) (f g : Frame) (job row count : ℕ) → d ≡ c → Legal j'.shape j'.seen
+    → Stands p c j f → IsAt p f.tag (config_of f) (line.Cancel job) → slice_get f.rows.items job ≡ Some row
+    → CancelledAll row (jobs_at j f) (jobs_at j' g) count → g.tag ≡ f.tag → config_of g ≡ next (config_of f)
+    → Stepped p (at_poll c j f) (at_poll d j' g)
 has_cancelled p c d j j' f g job row count e l h at is all t config =
-    let raw = both_jobs f.tag [] c d j j' (items_of f) (items_of g) all.told (uncalled f.tag c d e) all.noted in
-    let known = known_of c d j j' f.tag [] (items_of f) (items_of g) all.told l h.on.channel_acts h.on.job_acts raw in
-    let rows = quiet_rows all.told (passes_all is_quiet quiet_allows (parents_in j'.seen) row reasons.Request all.newly all.told known all.group) in
+    let raw : ToldOnBoth [] (seen_at c j f) (seen_at d j' g) all.told = both_jobs (uncalled f.tag c d e) all.noted in
+    let known = known_of c d j j' f g [] all.told l h.on.channel_acts h.on.job_acts raw in
+    let rows = quiet_rows all.told (passes_all is_quiet quiet_allows (parents_in j'.seen) row reasons.Request all.newly all.told known
+    all.group) in
     mild_step p c d j j' f g all.told _ l (Move.cancels (config_of f) job row all.newly all.told at is all.group)
-    (jobs_noted f.tag [] c d j j' (items_of f) (items_of g) all.told e (sym rows) all.noted) (passes_mild (base_of p) (parents_in j'.seen) row reasons.Request all.newly all.told known all.group) t config
+    (jobs_noted [] c d j j' f g all.told e (sym rows) all.noted)
+    (passes_mild (base_of p) (parents_in j'.seen) row reasons.Request all.newly all.told known all.group) t config
     (λ w k. no_wait g _ w config refl k)
 
 -- ---- the end of a body
 
-pub has_ended : (p : Program) (base : ℕ) (c c' : ChannelFloor) (j j' : Floor) (f g : Frame) (answer : BodyEnd) → base ≡ base_of p → IsAtEnd p f → EndedJob f.tag base f.tag f.result c c' j j' (items_of f) (items_of g) answer → g.tag ≡ f.tag → config_of g ≡ at_stage Ended (config_of f) → Stepped p c c' j j' f g
-has_ended p base c c' j j' f g answer e end did t config =
-    let group : EndsBody (base_of p) f.tag f.result did.told = subst (λ b. EndsBody b f.tag f.result did.told) e did.group in
+pub has_ended : (p : Program) {base w : ℕ} {a b : SeenAtPoll} {answer : BodyEnd} → base ≡ base_of p → IsAtEnd p a.frame
+    → EndedJob base a.frame.tag a.frame.result (both_of a) (record (both_of b) { who = w }) answer → b.frame.tag ≡ a.frame.tag
+    → config_of b.frame ≡ at_stage Ended (config_of a.frame) → Stepped p a b
+has_ended p {base} {w} {a} {b} {answer} e end did t config =
+    let f : Frame = a.frame in
+    let group : EndsBody (base_of p) f.tag f.result did.told = subst (λ n. EndsBody n f.tag f.result did.told) e did.group in
     let quiet = end_all is_quiet quiet_allows quiet_ends (base_of p) f.tag f.result did.told group in
     record {
       tag = t;
       told = did.told;
       move = subst (Move p f.tag (config_of f) did.told) (sym config) (Move.ends (config_of f) did.told end.running end.none_left group);
-      noted = subst (λ (l : List ℕ). ToldOnBoth f.tag l c c' j j' (items_of f) (items_of g) did.told) (sym (quiet_rows did.told quiet)) did.noted;
-      refused = quiet_refused (config_of f) did.told j' quiet;
-      dones = subst (λ b. KeepsDones b c c' j j' (items_in did.told)) e did.dones;
-      stood = λ w k. no_wait g _ w config refl k;
+      noted = subst (λ (l : List ℕ). ToldOnBoth l (both_of a) (both_of b) did.told) (sym (quiet_rows did.told quiet))
+          (both_at b.frame did.noted t refl);
+      refused = quiet_refused (config_of f) did.told b.jobs quiet;
+      dones = subst (λ n. KeepsDones n (both_of a) (both_of b) (items_in did.told)) e (dones_at b.frame did.dones);
+      stood = λ w k. no_wait b.frame _ w config refl k;
     }
 
-pub has_broken : (p : Program) (base : ℕ) (c c' : ChannelFloor) (j j' : Floor) (f g : Frame) (failure : Option ℕ) (answer : BodyEnd) → base ≡ base_of p → Legal j'.shape j'.seen → Stands p c j f → scope_in (config_of f).entered ≡ None → f.stage ≡ Unwinding failure
-    → BrokeJob f.tag base f.tag failure c c' j j' (items_of f) (items_of g) answer → g.tag ≡ f.tag → config_of g ≡ at_stage Ended (config_of f) → Stepped p c c' j j' f g
-has_broken p base c c' j j' f g failure answer e l h none at did t config =
-    let group : BreaksOff (base_of p) f.tag f.tag failure did.told = subst (λ b. BreaksOff b f.tag f.tag failure did.told) e did.group in
-    let known = known_of c c' j j' f.tag [] (items_of f) (items_of g) did.told l h.on.channel_acts h.on.job_acts did.noted in
-    let quiet = break_all is_quiet quiet_allows quiet_ends (parents_in j'.seen) (base_of p) f.tag f.tag failure did.told known group in
+pub has_broken : (p : Program) {base w : ℕ} {a b : SeenAtPoll} {failure : Option ℕ} {answer : BodyEnd} → base ≡ base_of p
+    → Legal b.jobs.shape b.jobs.seen → StandsAt p a → scope_in (config_of a.frame).entered ≡ None → a.frame.stage ≡ Unwinding failure
+    → BrokeJob base a.frame.tag failure (both_of a) (record (both_of b) { who = w }) answer → b.frame.tag ≡ a.frame.tag
+    → config_of b.frame ≡ at_stage Ended (config_of a.frame) → Stepped p a b
+has_broken p {base} {w} {a} {b} {failure} {answer} e l h none at did t config =
+    let f : Frame = a.frame in
+    let parents = parents_in b.jobs.seen in
+    let group : BreaksOff (base_of p) f.tag f.tag failure did.told = subst (λ n. BreaksOff n f.tag f.tag failure did.told) e did.group in
+    let noted : ToldOnBoth [] (both_of a) (both_of b) did.told = both_at b.frame did.noted t refl in
+    let known = known_of a.channels b.channels a.jobs b.jobs f b.frame [] did.told l h.on.channel_acts h.on.job_acts noted in
+    let quiet = break_all is_quiet quiet_allows quiet_ends parents (base_of p) f.tag f.tag failure did.told known group in
     record {
       tag = t;
       told = did.told;
       move = subst (Move p f.tag (config_of f) did.told) (sym config) (Move.breaks (config_of f) failure did.told at none group);
-      noted = subst (λ (l : List ℕ). ToldOnBoth f.tag l c c' j j' (items_of f) (items_of g) did.told) (sym (quiet_rows did.told quiet)) did.noted;
-      refused = quiet_refused (config_of f) did.told j' quiet;
-      dones = subst (λ b. KeepsDones b c c' j j' (items_in did.told)) e did.dones;
-      stood = λ w k. no_wait g _ w config refl k;
+      noted = subst (λ (l : List ℕ). ToldOnBoth l (both_of a) (both_of b) did.told) (sym (quiet_rows did.told quiet)) noted;
+      refused = quiet_refused (config_of f) did.told b.jobs quiet;
+      dones = subst (λ n. KeepsDones n (both_of a) (both_of b) (items_in did.told)) e (dones_at b.frame did.dones);
+      stood = λ w k. no_wait b.frame _ w config refl k;
     }

@@ -74,15 +74,18 @@ one_fact_mild base = one_fact_all (is_mild base)
 pub starts_mild : (base row : ℕ) (g : List Told) → Starts row g → AllMild base g
 starts_mild base = starts_all (is_mild base) (mild_allows base)
 
-pub passes_mild : (base : ℕ) (parents : Parents) (row : ℕ) (reason : Reason) (newly : Bool) (g : List Told) → AllKnown parents g → Passes row reason newly g → AllMild base g
+pub passes_mild : (base : ℕ) (parents : Parents) (row : ℕ) (reason : Reason) (newly : Bool) (g : List Told) → AllKnown parents g
+    → Passes row reason newly g → AllMild base g
 passes_mild base = passes_all (is_mild base) (mild_allows base)
 
 -- ---- what mild notes are
 
-pub mild_no_close : (base : ℕ) (items : List Item) → list_all (is_mild base) items ≡ true → list_all (leaves_dones base) (channel_acts_in items) ≡ true
+pub mild_no_close : (base : ℕ) (items : List Item) → list_all (is_mild base) items ≡ true
+    → list_all (leaves_dones base) (channel_acts_in items) ≡ true
 mild_no_close base items h = gentle_leaves base items (mild_gentle base items h)
 
-act_unfinished : (base : ℕ) (act : JobAct) (items : List Item) → is_no_finish act ≡ true → IsClosedNext base (finish_of (item.Job (known.Made act))) items
+act_unfinished : (base : ℕ) (act : JobAct) (items : List Item) → is_no_finish act ≡ true
+    → IsClosedNext base (finish_of (item.Job (known.Made act))) items
 act_unfinished base (Attach p q kind tag now) items e = tt
 act_unfinished base (Start q) items e = tt
 act_unfinished base (EndBody q v) items e = tt
@@ -102,7 +105,8 @@ note_unfinished base known.ParentEnded items e = tt
 pub mild_closes : (base : ℕ) (items : List Item) → list_all (is_mild base) items ≡ true → ClosesAtOnce base items
 mild_closes base [] h = tt
 mild_closes base (item.Channel n ∷ items) h = (tt, mild_closes base items (both (is_mild_call base n) _ h).1)
-mild_closes base (item.Job n ∷ items) h = let two = both (is_mild_note n) (list_all (is_mild base) items) h in (note_unfinished base n items two.0, mild_closes base items two.1)
+mild_closes base (item.Job n ∷ items) h = let two = both (is_mild_note n) (list_all (is_mild base) items) h
+    in (note_unfinished base n items two.0, mild_closes base items two.1)
 
 -- ---- no refusal of a claim
 
@@ -144,14 +148,18 @@ either : (a b : Bool) → (a || b) ≡ false → (a ≡ false) × (b ≡ false)
 either true b e = cc
 either false b e = (refl, e)
 
-none_of : (base : ℕ) (test : Item → Bool) → ((i : Item) → is_refusal base i ≡ false → test i ≡ false) → (items : List Item) → list_any (is_refusal base) items ≡ false → list_any test items ≡ false
+none_of : (base : ℕ) (test : Item → Bool) → ((i : Item) → is_refusal base i ≡ false → test i ≡ false) → (items : List Item)
+    → list_any (is_refusal base) items ≡ false → list_any test items ≡ false
 none_of base test k [] h = refl
-none_of base test k (i ∷ items) h = let two = either (is_refusal base i) (list_any (is_refusal base) items) h in nor _ _ (k i two.0) (none_of base test k items two.1)
+none_of base test k (i ∷ items) h = let two = either (is_refusal base i) (list_any (is_refusal base) items) h
+    in nor _ _ (k i two.0) (none_of base test k items two.1)
 
 -- where nothing is refused, nothing is said of claims
-pub unrefused_claims : (base : ℕ) (x : Config) (told : List Told) (jobs : Floor) → Unrefused base told → RefusedByClaims x (items_in told) jobs
+pub unrefused_claims : (base : ℕ) (x : Config) (told : List Told) (jobs : Floor) → Unrefused base told
+    → RefusedByClaims x (items_in told) jobs
 unrefused_claims base x told jobs h = record {
-  no_row = λ e. absurd (let u : true ≡ false = sym e ∙ none_of base is_no_row (no_row_refuses base) (items_in told) h in let v : ⊥ = cc in v);
+  no_row = λ e. absurd (let u : true ≡ false = sym e ∙ none_of base is_no_row (no_row_refuses base) (items_in told) h in let v : ⊥ = cc
+      in v);
   used = λ e. absurd (let u : true ≡ false = sym e ∙ none_of base is_used (used_refuses base) (items_in told) h in let v : ⊥ = cc in v);
   none_ended = none_of base is_parent_ended (ended_refuses base) (items_in told) h;
 }
@@ -160,9 +168,12 @@ or_none : (test : Item → Bool) (xs ys : List Item) → list_any test xs ≡ fa
 or_none test xs ys h = list_any-append test xs ys ∙ ap (λ b. b || list_any test ys) h
 
 -- a refusal behind notes that are none
-pub claims_behind : (base : ℕ) (x : Config) (told : List Told) (notes : List Item) (jobs : Floor) → Unrefused base told → RefusedByClaims x notes jobs → RefusedByClaims x (items_in told ++ notes) jobs
+pub claims_behind : (base : ℕ) (x : Config) (told : List Told) (notes : List Item) (jobs : Floor) → Unrefused base told
+    → RefusedByClaims x notes jobs → RefusedByClaims x (items_in told ++ notes) jobs
 claims_behind base x told notes jobs h m = record {
-  no_row = λ e. m.no_row (sym (or_none is_no_row (items_in told) notes (none_of base is_no_row (no_row_refuses base) (items_in told) h)) ∙ e);
+  no_row = λ e. m.no_row (sym (or_none is_no_row (items_in told) notes (none_of base is_no_row (no_row_refuses base) (items_in told) h))
+      ∙ e);
   used = λ e. m.used (sym (or_none is_used (items_in told) notes (none_of base is_used (used_refuses base) (items_in told) h)) ∙ e);
-  none_ended = or_none is_parent_ended (items_in told) notes (none_of base is_parent_ended (ended_refuses base) (items_in told) h) ∙ m.none_ended;
+  none_ended = or_none is_parent_ended (items_in told) notes (none_of base is_parent_ended (ended_refuses base) (items_in told) h)
+      ∙ m.none_ended;
 }

@@ -2,11 +2,10 @@
 use Rattle.std.specs.Prelude.{◌≡◌, ℕ, ◌<◌, ◌==◌, Bool, ◌||◌, List, [], ◌∷◌, ◌++◌, refl, if◌then◌else◌}
 use Rattle.std.proofs.Common.{sym, ap, ◌∙◌, subst, append_assoc}
 use Rattle.channel_model.specs.Histories.{acts_of}
-use Rattle.channel_model.specs.Floors.{Floor as ChannelFloor}
 use Rattle.job_model.specs.declared.acts.JobAct.{JobAct}
 use Rattle.job_model.specs.Trees.{is_among}
 use Rattle.job_model.specs.Histories.{acts_of as job_acts_of}
-use Rattle.job_model.specs.Floors.{Floor, is_claimed_by}
+use Rattle.job_model.specs.Floors.{is_claimed_by}
 use Rattle.job_model.proofs.Spans.{among-append}
 use Rattle.note_book.specs.declared.book.Item.{Item}
 use Rattle.note_book.specs.Items.{channel_acts_in, job_acts_in}
@@ -22,8 +21,8 @@ use Rattle.script_meaning.specs.Shapes.{base_of}
 use Rattle.script_meaning.specs.Books.{Runs, story}
 use Rattle.script_meaning.specs.Polls.{Turned, MovesOnce, RefusedByClaims, own_rows, TurnAnswer}
 use Rattle.script_meaning.proofs.BooksGoOn.{runs_then}
-use Rattle.poll_states.specs.Frames.{Frame, config_of, items_of, frame_of, Stands}
-use Rattle.poll_states.specs.Steps.{Stepped, PolledTo}
+use Rattle.poll_states.specs.Frames.{Frame, config_of, items_of, frame_of, SeenAtPoll, both_of, StandsAt}
+use Rattle.poll_states.specs.Steps.{Stepped, HasPolled}
 
 -- ---- rows
 
@@ -41,68 +40,86 @@ own_rows-append k book notes =
 
 -- ---- what was told, by at most one line
 
--- the coroutine of f told this, and is g
-pub record Tells (p : Program) (c c' : ChannelFloor) (j j' : Floor) (f g : Frame) (told : List Told) : Type 0 where
-  pub tag : g.tag ≡ f.tag
-  pub turned : Turned p f.tag (config_of f) told (config_of g)
-  pub noted : ToldOnBoth f.tag (rows_in (job_acts_in (items_in told))) c c' j j' (items_of f) (items_of g) told
-  pub refused : RefusedByClaims (config_of f) (items_in told) j'
-  pub dones : KeepsDones (base_of p) c c' j j' (items_in told)
+-- the coroutine of a told this, and is that of b
+pub record Tells (p : Program) (a b : SeenAtPoll) (told : List Told) : Type 0 where
+  pub tag : b.frame.tag ≡ a.frame.tag
+  pub turned : Turned p a.frame.tag (config_of a.frame) told (config_of b.frame)
+  pub noted : ToldOnBoth (rows_in (job_acts_in (items_in told))) (both_of a) (both_of b) told
+  pub refused : RefusedByClaims (config_of a.frame) (items_in told) b.jobs
+  pub dones : KeepsDones (base_of p) (both_of a) (both_of b) (items_in told)
 
-pub tells_step : (p : Program) (c c' : ChannelFloor) (j j' : Floor) (f g : Frame) → (s : Stepped p c c' j j' f g) → Tells p c c' j j' f g s.told
-tells_step p c c' j j' f g s = record {
+pub tells_step : {p : Program} {a b : SeenAtPoll} → (s : Stepped p a b) → Tells p a b s.told
+tells_step {p} {a} {b} s = record {
   tag = s.tag;
-  turned = Turned.moved (config_of f) (config_of g) s.told (MovesOnce.once (config_of f) (config_of g) s.told s.move);
+  turned = Turned.moved (config_of a.frame) (config_of b.frame) s.told
+      (MovesOnce.once (config_of a.frame) (config_of b.frame) s.told s.move);
   noted = s.noted;
   refused = s.refused;
   dones = s.dones;
 }
 
 -- it was so
-tells_true : (p : Program) (c c' : ChannelFloor) (j j' : Floor) (f g : Frame) (told : List Told) → Stands p c j f → Tells p c c' j j' f g told → IsTrue (story p f.tag (seen_by c' j')) (items_of f) (seen_by c j) told
-tells_true p c c' j j' f g told h s = subst (λ sh. IsTrue (story_of sh f.tag (seen_by c' j')) (items_of f) (seen_by c j) told) h.on.channels (s.noted.was_so (items_of f) h.on.channel_acts h.on.job_acts)
+tells_true : (p : Program) (a b : SeenAtPoll) (told : List Told) → StandsAt p a → Tells p a b told
+    → IsTrue (story p a.frame.tag (seen_by b.channels b.jobs)) (items_of a.frame) (seen_by a.channels a.jobs) told
+tells_true p a b told h s =
+    subst (λ sh. IsTrue (story_of sh a.frame.tag (seen_by b.channels b.jobs)) (items_of a.frame) (seen_by a.channels a.jobs) told)
+    h.on.channels (s.noted.was_so (items_of a.frame) h.on.channel_acts h.on.job_acts)
 
-pub tells_stand : (p : Program) (c c' : ChannelFloor) (j j' : Floor) (f g : Frame) (told : List Told) → Stands p c j f → Tells p c c' j j' f g told → Stands p c' j' g
-tells_stand p c c' j j' f g told h s = record {
-  on = record {
-    channels = s.noted.channels.same.shape ∙ h.on.channels;
-    jobs = s.noted.jobs.same.shape ∙ h.on.jobs;
-    of_channels = ap c'.callers s.tag ∙ ap (λ (k : ℕ → Bool). k f.tag) s.noted.channels.same.callers ∙ h.on.of_channels;
-    of_jobs = ap j'.callers s.tag ∙ ap (λ (k : ℕ → Bool). k f.tag) s.noted.jobs.same.callers ∙ h.on.of_jobs;
-    in_run = subst (λ k. k < coroutine_count p) (sym s.tag) h.on.in_run;
-    channel_acts = ap (λ k. acts_of k c'.seen) s.tag ∙ s.noted.channels.mine ∙ ap (λ l. l ++ channel_acts_in (items_in told)) h.on.channel_acts ∙ sym (channel_acts_in-append (items_of f) (items_in told)) ∙ ap channel_acts_in (sym s.noted.appended);
-    job_acts = ap (λ k. job_acts_of k j'.seen) s.tag ∙ s.noted.jobs.mine ∙ ap (λ l. l ++ job_acts_in (items_in told)) h.on.job_acts ∙ sym (job_acts_in-append (items_of f) (items_in told)) ∙ ap job_acts_in (sym s.noted.appended);
-    runs = subst (λ k. Runs p k (seen_by c' j') (items_of g) (config_of g)) (sym s.tag)
-        (subst (λ l. Runs p f.tag (seen_by c' j') l (config_of g)) (sym s.noted.appended)
-        (runs_then p f.tag (seen_by c j) (seen_by c' j') (items_of f) (config_of f) (config_of g) told (record { channels = s.noted.channels.longer; jobs = s.noted.jobs.longer }) h.on.runs s.turned (tells_true p c c' j j' f g told h s)));
-    claims = λ r.
-        ap (λ k. is_claimed_by k (j'.claims r)) s.tag ∙ s.noted.jobs.claims.mine r
-        ∙ ap (λ b. b || is_among r (rows_in (job_acts_in (items_in told)))) (h.on.claims r)
-        ∙ sym (among-append r (own_rows f.tag (items_of f)) (rows_in (job_acts_in (items_in told))))
-        ∙ ap (is_among r) (sym (own_rows-append f.tag (items_of f) (items_in told)))
-        ∙ ap (λ l. is_among r (own_rows f.tag l)) (sym s.noted.appended)
-        ∙ ap (λ k. is_among r (own_rows k (items_of g))) (sym s.tag);
-  };
-}
+pub tells_stand : (p : Program) (a b : SeenAtPoll) (told : List Told) → StandsAt p a → Tells p a b told → StandsAt p b
+tells_stand p a b told h s =
+    let f : Frame = a.frame in
+    let g : Frame = b.frame in
+    record {
+      on = record {
+        channels = s.noted.channels.same.shape ∙ h.on.channels;
+        jobs = s.noted.jobs.same.shape ∙ h.on.jobs;
+        of_channels = ap b.channels.callers s.tag ∙ ap (λ (k : ℕ → Bool). k f.tag) s.noted.channels.same.callers ∙ h.on.of_channels;
+        of_jobs = ap b.jobs.callers s.tag ∙ ap (λ (k : ℕ → Bool). k f.tag) s.noted.jobs.same.callers ∙ h.on.of_jobs;
+        in_run = subst (λ k. k < coroutine_count p) (sym s.tag) h.on.in_run;
+        channel_acts = ap (λ k. acts_of k b.channels.seen) s.tag ∙ s.noted.channels.mine
+            ∙ ap (λ l. l ++ channel_acts_in (items_in told)) h.on.channel_acts ∙ sym (channel_acts_in-append (items_of f) (items_in told))
+            ∙ ap channel_acts_in (sym s.noted.appended);
+        job_acts = ap (λ k. job_acts_of k b.jobs.seen) s.tag ∙ s.noted.jobs.mine
+            ∙ ap (λ l. l ++ job_acts_in (items_in told)) h.on.job_acts
+            ∙ sym (job_acts_in-append (items_of f) (items_in told)) ∙ ap job_acts_in (sym s.noted.appended);
+        runs = subst (λ k. Runs p k (seen_by b.channels b.jobs) (items_of g) (config_of g)) (sym s.tag)
+            (subst (λ l. Runs p f.tag (seen_by b.channels b.jobs) l (config_of g)) (sym s.noted.appended)
+            (runs_then p f.tag (seen_by a.channels a.jobs) (seen_by b.channels b.jobs) (items_of f) (config_of f) (config_of g) told
+            (record { channels = s.noted.channels.longer; jobs = s.noted.jobs.longer }) h.on.runs s.turned
+            (tells_true p a b told h s)));
+        claims = λ r.
+            ap (λ k. is_claimed_by k (b.jobs.claims r)) s.tag ∙ s.noted.jobs.claims.mine r
+            ∙ ap (λ q. q || is_among r (rows_in (job_acts_in (items_in told)))) (h.on.claims r)
+            ∙ sym (among-append r (own_rows f.tag (items_of f)) (rows_in (job_acts_in (items_in told))))
+            ∙ ap (is_among r) (sym (own_rows-append f.tag (items_of f) (items_in told)))
+            ∙ ap (λ l. is_among r (own_rows f.tag l)) (sym s.noted.appended)
+            ∙ ap (λ k. is_among r (own_rows k (items_of g))) (sym s.tag);
+      };
+    }
 
-pub step_stands : (p : Program) (c c' : ChannelFloor) (j j' : Floor) (f g : Frame) → Stands p c j f → Stepped p c c' j j' f g → Stands p c' j' g
-step_stands p c c' j j' f g h s = tells_stand p c c' j j' f g s.told h (tells_step p c c' j j' f g s)
+pub step_stands : {p : Program} {a b : SeenAtPoll} → StandsAt p a → Stepped p a b → StandsAt p b
+step_stands {p} {a} {b} h s = tells_stand p a b s.told h (tells_step s)
 
 -- ---- a poll
 
-pub polled_to : (p : Program) (c c' : ChannelFloor) (j j' : Floor) (f g : Frame) (told : List Told) (answer : Turn) → Stands p c j f → Tells p c c' j j' f g told → TurnAnswer p c c' j j' (frame_of f) (frame_of g) told answer → PolledTo p c c' j j' f g answer
-polled_to p c c' j j' f g told answer h s so = record {
+-- what is answered
+abbrev pub AnswersTurn : Program → SeenAtPoll → SeenAtPoll → List Told → Turn → Type 0
+AnswersTurn p a b told answer = TurnAnswer p a.channels b.channels a.jobs b.jobs (frame_of a.frame) (frame_of b.frame) told answer
+
+pub polled_to : (p : Program) (a b : SeenAtPoll) (told : List Told) (answer : Turn) → StandsAt p a → Tells p a b told
+    → AnswersTurn p a b told answer → HasPolled p a b answer
+polled_to p a b told answer h s so = record {
   polled = record {
     tag = s.tag;
     told = told;
     turned = s.turned;
     appended = s.noted.appended;
-    is_true = tells_true p c c' j j' f g told h s;
+    is_true = tells_true p a b told h s;
     channels = s.noted.channels;
     jobs = s.noted.jobs;
     refused = s.refused;
   };
   turn = so;
-  stands = tells_stand p c c' j j' f g told h s;
+  stands = tells_stand p a b told h s;
   dones = s.dones;
 }

@@ -64,9 +64,11 @@ pub quiet_rows : (told : List Told) → AllPass is_quiet told → rows_in (job_a
 quiet_rows told h = no_rows (items_in told) h
 
 -- each note of which a test says so is none of those that another test names
-none_named : (test : Item → Bool) → ((i : Item) → is_quiet i ≡ true → test i ≡ false) → (items : List Item) → list_all is_quiet items ≡ true → list_any test items ≡ false
+none_named : (test : Item → Bool) → ((i : Item) → is_quiet i ≡ true → test i ≡ false) → (items : List Item) → list_all is_quiet items ≡ true
+    → list_any test items ≡ false
 none_named test k [] h = refl
-none_named test k (i ∷ items) h = let two = both (is_quiet i) (list_all is_quiet items) h in ap (λ b. b || list_any test items) (k i two.0) ∙ none_named test k items two.1
+none_named test k (i ∷ items) h = let two = both (is_quiet i) (list_all is_quiet items) h in ap (λ b. b || list_any test items) (k i two.0)
+    ∙ none_named test k items two.1
 
 quiet_no_row : (i : Item) → is_quiet i ≡ true → is_no_row i ≡ false
 quiet_no_row (item.Channel n) e = refl

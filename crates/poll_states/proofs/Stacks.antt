@@ -8,7 +8,8 @@ use Rattle.poll_states.specs.declared.entered.Entered.TheVariants.{InRepeat, InE
 use Rattle.poll_states.specs.declared.entered.OpenScope.{OpenScope}
 use Rattle.poll_states.specs.Frames.{entered_of, stack_from, stack_of, IsScopeOf, IsTop, LeavesTop, ChangesTop, LeavesScope}
 
-pub stack_from-append : (before : List EnteredMeant) (es : List Entered) (e : Entered) → stack_from before (es ++ e ∷ []) ≡ entered_of e ∷ stack_from before es
+pub stack_from-append : (before : List EnteredMeant) (es : List Entered) (e : Entered)
+    → stack_from before (es ++ e ∷ []) ≡ entered_of e ∷ stack_from before es
 stack_from-append before [] e = refl
 stack_from-append before (x ∷ es) e = stack_from-append (entered_of x ∷ before) es e
 
@@ -17,7 +18,8 @@ stack_of-append es e = stack_from-append [] es e
 
 -- ---- what was entered last
 
-last_from : (before : List EnteredMeant) (es : List Entered) (n : ℕ) (e : Entered) → n + 1 ≡ length es → slice_get es n ≡ Some e → (around : List EnteredMeant) × (stack_from before es ≡ entered_of e ∷ around)
+last_from : (before : List EnteredMeant) (es : List Entered) (n : ℕ) (e : Entered) → n + 1 ≡ length es → slice_get es n ≡ Some e
+    → (around : List EnteredMeant) × (stack_from before es ≡ entered_of e ∷ around)
 last_from before [] n e short at = cc
 last_from before (x ∷ []) zero e short at = let same : x ≡ e = cc in (before, ap (λ y. entered_of y ∷ before) same)
 last_from before (x ∷ []) (suc n) e short at = cc
@@ -37,7 +39,8 @@ top_read (x ∷ es) None at = let none : x ∷ es ≡ [] = none_at (x ∷ es) (l
 top_read (x ∷ es) (Some e) at = last_from [] (x ∷ es) (length (x ∷ es) - 1) e (omega arith) (sym at)
 
 -- the last was removed, if there was one
-pub popped : (x : Config) (old new : List Entered) (o : Option Entered) → x.entered ≡ stack_of old → old ≡ new ++ option_to_list o → (o ≡ None → length old ≡ 0) → LeavesTop x (with_entered (stack_of new) x)
+pub popped : (x : Config) (old new : List Entered) (o : Option Entered) → x.entered ≡ stack_of old → old ≡ new ++ option_to_list o
+    → (o ≡ None → length old ≡ 0) → LeavesTop x (with_entered (stack_of new) x)
 popped x old new None is at none e es top =
     let empty : stack_of old ≡ [] = ap stack_of (nil_from_length old (none refl)) in
     let both : [] ≡ e ∷ es = sym empty ∙ sym is ∙ top in
@@ -48,13 +51,15 @@ popped x old new (Some last) is at none e es top =
     ap (λ l. with_entered l x) rest
 
 -- another stands in its place
-pub changed : (x : Config) (old mid new : List Entered) (last one : Entered) → x.entered ≡ stack_of old → old ≡ mid ++ last ∷ [] → new ≡ mid ++ one ∷ [] → ChangesTop (entered_of one) x (with_entered (stack_of new) x)
+pub changed : (x : Config) (old mid new : List Entered) (last one : Entered) → x.entered ≡ stack_of old → old ≡ mid ++ last ∷ [] → new ≡ mid
+    ++ one ∷ [] → ChangesTop (entered_of one) x (with_entered (stack_of new) x)
 changed x old mid new last one is at behind e es top =
     let both : entered_of last ∷ stack_of mid ≡ e ∷ es = sym (stack_of-append mid last) ∙ ap stack_of (sym at) ∙ sym is ∙ top in
     let rest : stack_of mid ≡ es = cc in
     ap (λ l. with_entered l x) (ap stack_of behind ∙ stack_of-append mid one ∙ ap (λ l. entered_of one ∷ l) rest)
 
-pub changed_top : (x : Config) (old mid new : List Entered) (o : Option Entered) (one : Entered) → x.entered ≡ stack_of old → old ≡ mid ++ option_to_list o → is_some o ≡ true → new ≡ mid ++ one ∷ [] → ChangesTop (entered_of one) x (with_entered (stack_of new) x)
+pub changed_top : (x : Config) (old mid new : List Entered) (o : Option Entered) (one : Entered) → x.entered ≡ stack_of old → old ≡ mid
+    ++ option_to_list o → is_some o ≡ true → new ≡ mid ++ one ∷ [] → ChangesTop (entered_of one) x (with_entered (stack_of new) x)
 changed_top x old mid new None one is at some behind = absurd (let no_way : ⊥ = cc in no_way)
 changed_top x old mid new (Some last) one is at some behind = changed x old mid new last one is at behind
 
@@ -67,15 +72,19 @@ row_read k es s h = sym (ap (row_or k) h.1)
 abbrev pub HasScope : List Entered → List Entered → Type 0
 HasScope old now = (s : ScopeMeant) → scope_in (stack_of old) ≡ Some s → scope_in (stack_of now) ≡ Some s
 
-pub passed : (old now new : List Entered) (e : Entered) → HasScope old now → now ≡ new ++ e ∷ [] → ((head row : ℕ) → e ≡ InScope head row → ⊥) → HasScope old new
-passed old now new (InRepeat head left) h at n s is = ap scope_in (sym (stack_of-append new (InRepeat head left)) ∙ ap stack_of (sym at)) ∙ h s is
+pub passed : (old now new : List Entered) (e : Entered) → HasScope old now → now ≡ new ++ e ∷ []
+    → ((head row : ℕ) → e ≡ InScope head row → ⊥) → HasScope old new
+passed old now new (InRepeat head left) h at n s is = ap scope_in (sym (stack_of-append new (InRepeat head left)) ∙ ap stack_of (sym at))
+    ∙ h s is
 passed old now new (InEach head) h at n s is = ap scope_in (sym (stack_of-append new (InEach head)) ∙ ap stack_of (sym at)) ∙ h s is
 passed old now new (InScope head row) h at n s is = absurd (n head row refl)
 
-pub left_scope : (x : Config) (old now new : List Entered) (head row : ℕ) → x.entered ≡ stack_of old → HasScope old now → now ≡ new ++ InScope head row ∷ [] → LeavesScope x (with_entered (stack_of new) x)
+pub left_scope : (x : Config) (old now new : List Entered) (head row : ℕ) → x.entered ≡ stack_of old → HasScope old now → now ≡ new
+    ++ InScope head row ∷ [] → LeavesScope x (with_entered (stack_of new) x)
 left_scope x old now new head row is h at s top =
     let there : scope_in (stack_of now) ≡ Some s = h s (ap scope_in (sym is) ∙ top) in
-    let last : scope_in (stack_of now) ≡ Some (record { head = head; row = row; around = stack_of new }) = ap scope_in (ap stack_of at ∙ stack_of-append new (InScope head row)) in
+    let last : scope_in (stack_of now) ≡ Some (record { head = head; row = row; around = stack_of new }) =
+    ap scope_in (ap stack_of at ∙ stack_of-append new (InScope head row)) in
     let same : Some (record { head = head; row = row; around = stack_of new }) ≡ Some s = sym last ∙ there in
     let around : stack_of new ≡ s.around = by_some _ s same in
     ap (λ l. with_entered l x) around

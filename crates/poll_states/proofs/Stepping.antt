@@ -10,9 +10,11 @@ use Rattle.job_model.specs.Floors.{Floor, Added}
 use Rattle.note_book.specs.declared.book.Item.{Item}
 use Rattle.note_book.specs.Items.{channel_acts_in, job_acts_in}
 use Rattle.call_meaning.specs.Telling.{Told, items_in, did}
+use Rattle.call_meaning.specs.Seen.{SeenOnChannels, SeenOnJobs, SeenOnBoth, jobs_of, channels_of}
 use Rattle.call_meaning.specs.Calls.{ToldOnChannels, ToldOnJobs, ToldOnBoth, seen_by, rows_in}
 use Rattle.call_meaning.proofs.JobTellings.{nobody_called, both_jobs, both_channels}
 use Rattle.channel_calls.specs.Calls.{ToldSome}
+use Rattle.scope_builders.specs.Dones.{KeepsDones}
 use Rattle.scope_builders.specs.Calls.{TellsBoth}
 use Rattle.script_grammar.specs.Programs.{Program}
 use Rattle.script_meaning.specs.Shapes.{base_of}
@@ -21,8 +23,8 @@ use Rattle.script_meaning.specs.Moves.{Move}
 use Rattle.script_meaning.specs.Polls.{HasStood}
 use Rattle.script_meaning.proofs.JobDebts.{AllKnown, parents_in, all_known}
 use Rattle.script_meaning.proofs.JobStories.{true_so}
-use Rattle.poll_states.specs.Frames.{Frame, config_of, items_of}
-use Rattle.poll_states.specs.Steps.{NotedSome, Stepped, CutShort}
+use Rattle.poll_states.specs.Frames.{Frame, config_of, items_of, seen_at, jobs_at, channels_at, at_poll}
+use Rattle.poll_states.specs.Steps.{Stepped, CutShort}
 use Rattle.script_meaning.specs.Laws.{wait_of}
 use Rattle.poll_states.proofs.DonesLeft.{unclosed_kept}
 use Rattle.script_meaning.proofs.GentleNotes.{mild_unrefused}
@@ -39,22 +41,56 @@ self_channels who c = spans.added_none who c c (record { shape = refl; alone = r
 pub uncalled : (who : ℕ) (c d : ChannelFloor) → d ≡ c → AddedToChannels who [] c d
 uncalled who c d e = subst (AddedToChannels who [] c) (sym e) (self_channels who c)
 
+-- ---- what is seen by who went on as a frame
+
+pub as_frame : (P : SeenOnBoth → Type 0) (c : ChannelFloor) (j : Floor) (w : ℕ) (mid : List Item) (g : Frame) → w ≡ g.tag → items_of g ≡ mid
+    → P (record { who = w; channels = c; jobs = j; items = mid }) → P (seen_at c j g)
+as_frame P c j w mid g t e h = subst (λ (n : ℕ). P (record { who = n; channels = c; jobs = j; items = items_of g })) t
+    (subst (λ (i : List Item). P (record { who = w; channels = c; jobs = j; items = i })) (sym e) h)
+
+pub as_frame_on_channels : (P : SeenOnChannels → Type 0) (c : ChannelFloor) (w : ℕ) (mid : List Item) (g : Frame) → w ≡ g.tag
+    → items_of g ≡ mid → P (record { who = w; floor = c; items = mid }) → P (channels_at c g)
+as_frame_on_channels P c w mid g t e h = subst (λ (n : ℕ). P (record { who = n; floor = c; items = items_of g })) t
+    (subst (λ (i : List Item). P (record { who = w; floor = c; items = i })) (sym e) h)
+
+-- what was told, and kept, is so of the frame
+pub both_at : {rows : List ℕ} {a b : SeenOnBoth} {told : List Told} (g : Frame) → ToldOnBoth rows a b told → g.tag ≡ a.who
+    → items_of g ≡ b.items → ToldOnBoth rows a (seen_at b.channels b.jobs g) told
+both_at g h t e = record { who = t; appended = e ∙ h.appended; channels = h.channels; jobs = h.jobs; was_so = h.was_so }
+
+pub told_at : {rows : List ℕ} {a b : SeenOnJobs} {told : List Told} (g : Frame) → ToldOnJobs rows a b told → g.tag ≡ a.who
+    → items_of g ≡ b.items → ToldOnJobs rows a (jobs_at b.floor g) told
+told_at g h t e = record { who = t; appended = e ∙ h.appended; added = h.added; no_channels = h.no_channels; was_so = h.was_so }
+
+pub told_on_channels_at : {a b : SeenOnChannels} {told : List Told} (w : ℕ) (i : List Item) → ToldOnChannels a b told → w ≡ a.who
+    → i ≡ b.items → ToldOnChannels a (record { who = w; floor = b.floor; items = i }) told
+told_on_channels_at w i h t e = record { who = t; appended = e ∙ h.appended; added = h.added; no_jobs = h.no_jobs; was_so = h.was_so }
+
+pub dones_at : {base : ℕ} {a b : SeenOnBoth} {group : List Item} (g : Frame) → KeepsDones base a b group
+    → KeepsDones base a (seen_at b.channels b.jobs g) group
+dones_at g h = record { only = h.only; at_once = h.at_once }
+
 -- ---- moves
 
 -- where a coroutine that is here has no wait
 pub no_wait : {A : Type 0} (g : Frame) (y : Config) (w : WaitId) → config_of g ≡ y → wait_of y.stage ≡ None → wait_of g.stage ≡ Some w → A
-no_wait g y w e n at = absurd (let both_ways : None ≡ Some w = sym n ∙ sym (ap (λ (x : Config). wait_of x.stage) e) ∙ at in let no_way : ⊥ = cc in no_way)
+no_wait g y w e n at = absurd (let both_ways : None ≡ Some w = sym n ∙ sym (ap (λ (x : Config). wait_of x.stage) e) ∙ at
+    in let no_way : ⊥ = cc in no_way)
 
 -- mild notes of a move
-pub mild_step : (p : Program) (c c' : ChannelFloor) (j j' : Floor) (f g : Frame) (told : List Told) (y : Config) → Legal j'.shape j'.seen → Move p f.tag (config_of f) told y → ToldOnBoth f.tag (rows_in (job_acts_in (items_in told))) c c' j j' (items_of f) (items_of g) told → AllMild (base_of p) told
-    → g.tag ≡ f.tag → config_of g ≡ y → ((w : WaitId) → wait_of g.stage ≡ Some w → HasStood c c' w) → Stepped p c c' j j' f g
+pub mild_step : (p : Program) (c c' : ChannelFloor) (j j' : Floor) (f g : Frame) (told : List Told) (y : Config) → Legal j'.shape j'.seen
+    → Move p f.tag (config_of f) told y → ToldOnBoth (rows_in (job_acts_in (items_in told))) (seen_at c j f) (seen_at c' j' g) told
+    → AllMild (base_of p) told
+    → g.tag ≡ f.tag → config_of g ≡ y → ((w : WaitId) → wait_of g.stage ≡ Some w → HasStood c c' w)
+    → Stepped p (at_poll c j f) (at_poll c' j' g)
 mild_step p c c' j j' f g told y l move noted mild t config stood = record {
   tag = t;
   told = told;
   move = subst (Move p f.tag (config_of f) told) (sym config) move;
   noted = noted;
   refused = unrefused_claims (base_of p) (config_of f) told j' (mild_unrefused (base_of p) told mild);
-  dones = unclosed_kept f.tag (base_of p) (channel_acts_in (items_in told)) (job_acts_in (items_in told)) (rows_in (job_acts_in (items_in told))) c c' j j' (items_in told) l noted.channels
+  dones = unclosed_kept f.tag (base_of p) (channel_acts_in (items_in told)) (job_acts_in (items_in told))
+      (rows_in (job_acts_in (items_in told))) (seen_at c j f) (seen_at c' j' g) (items_in told) l noted.channels
       (mild_no_close (base_of p) (items_in told) mild) noted.jobs (mild_closes (base_of p) (items_in told) mild);
   stood = stood;
 }
@@ -64,52 +100,102 @@ unfolding rows_in
 no_rows told e = ap rows_in e
 
 -- a call on channels alone
-pub channels_noted : (who : ℕ) (c c' : ChannelFloor) (j : Floor) (i i' : List Item) (told : List Told) → ToldOnChannels who c c' i i' told → ToldOnBoth who (rows_in (job_acts_in (items_in told))) c c' j j i i' told
-channels_noted who c c' j i i' told h = subst (λ (l : List ℕ). ToldOnBoth who l c c' j j i i' told) (sym (no_rows told h.no_jobs)) (both_channels who c c' j j i i' told (self_jobs who j) h)
+pub channels_noted : (c c' : ChannelFloor) (j : Floor) (f g : Frame) (told : List Told)
+    → ToldOnChannels (channels_at c f) (channels_at c' g) told
+    → ToldOnBoth (rows_in (job_acts_in (items_in told))) (seen_at c j f) (seen_at c' j g) told
+channels_noted c c' j f g told h = subst (λ (l : List ℕ). ToldOnBoth l (seen_at c j f) (seen_at c' j g) told) (sym (no_rows told h.no_jobs))
+    (both_channels (self_jobs f.tag j) h)
 
 -- a call on Jobs alone
-pub jobs_noted : (who : ℕ) (rows : List ℕ) (c d : ChannelFloor) (j j' : Floor) (i i' : List Item) (told : List Told) → d ≡ c → rows ≡ rows_in (job_acts_in (items_in told)) → ToldOnJobs who rows j j' i i' told → ToldOnBoth who (rows_in (job_acts_in (items_in told))) c d j j' i i' told
-jobs_noted who rows c d j j' i i' told e k h = subst (λ (l : List ℕ). ToldOnBoth who l c d j j' i i' told) k (both_jobs who rows c d j j' i i' told (uncalled who c d e) h)
+pub jobs_noted : (rows : List ℕ) (c d : ChannelFloor) (j j' : Floor) (f g : Frame) (told : List Told) → d ≡ c
+    → rows ≡ rows_in (job_acts_in (items_in told)) → ToldOnJobs rows (jobs_at j f) (jobs_at j' g) told
+    → ToldOnBoth (rows_in (job_acts_in (items_in told))) (seen_at c j f) (seen_at d j' g) told
+jobs_noted rows c d j j' f g told e k h = subst (λ (l : List ℕ). ToldOnBoth l (seen_at c j f) (seen_at d j' g) told) k
+    (both_jobs (uncalled f.tag c d e) h)
 
 -- what a call told is known
-pub known_of : (c c' : ChannelFloor) (j j' : Floor) (who : ℕ) (rows : List ℕ) (i i' : List Item) (told : List Told) → Legal j'.shape j'.seen → acts_of who c.seen ≡ channel_acts_in i → job_acts_of who j.seen ≡ job_acts_in i → ToldOnBoth who rows c c' j j' i i' told → AllKnown (parents_in j'.seen) told
-known_of c c' j j' who rows i i' told l e f h = all_known j'.shape who j'.seen (job_acts_in i) told l (true_so _ i (seen_by c j) told (h.was_so i e f))
+pub known_of : (c c' : ChannelFloor) (j j' : Floor) (f g : Frame) (rows : List ℕ) (told : List Told) → Legal j'.shape j'.seen
+    → acts_of f.tag c.seen ≡ channel_acts_in (items_of f) → job_acts_of f.tag j.seen ≡ job_acts_in (items_of f)
+    → ToldOnBoth rows (seen_at c j f) (seen_at c' j' g) told → AllKnown (parents_in j'.seen) told
+known_of c c' j j' f g rows told l e k h = all_known j'.shape f.tag j'.seen (job_acts_in (items_of f)) told l
+    (true_so _ (items_of f) (seen_by c j) told (h.was_so (items_of f) e k))
 
 -- ---- want of memory
 
-pub cut_nothing : (c d : ChannelFloor) (j k : Floor) (f g : Frame) → d ≡ c → k ≡ j → g.tag ≡ f.tag → items_of g ≡ items_of f → CutShort c d j k f g
-cut_nothing c d j k f g e h t is = record {
-  tag = t;
-  noted = record {
-    group = [];
-    rows = [];
-    appended = is ∙ sym (spans.nothing_more (items_of f));
-    channels = uncalled f.tag c d e;
-    jobs = subst (Added f.tag [] [] j) (sym h) (self_jobs f.tag j);
-  };
+pub cut_nothing : {a b : SeenOnBoth} → b.channels ≡ a.channels → b.jobs ≡ a.jobs → b.who ≡ a.who → b.items ≡ a.items → CutShort a b
+cut_nothing {a} {b} e h t is = record {
+  who = t;
+  group = [];
+  rows = [];
+  appended = is ∙ sym (spans.nothing_more a.items);
+  channels = uncalled a.who a.channels b.channels e;
+  jobs = subst (Added a.who [] [] a.jobs) (sym h) (self_jobs a.who a.jobs);
 }
 
-pub some_jobs : (who : ℕ) (c d : ChannelFloor) (j j' : Floor) (i i' : List Item) → d ≡ c → ToldOnJobs who [] j j' i i' [] → NotedSome who c d j j' i i'
+pub some_jobs : {a b : SeenOnBoth} → b.channels ≡ a.channels → ToldOnJobs [] (jobs_of a) (jobs_of b) [] → CutShort a b
 unfolding items_in
-some_jobs who c d j j' i i' e h = record { group = []; rows = []; appended = h.appended; channels = uncalled who c d e; jobs = h.added }
-
-pub cut_jobs : (c d : ChannelFloor) (j j' : Floor) (f g : Frame) → d ≡ c → g.tag ≡ f.tag → ToldOnJobs f.tag [] j j' (items_of f) (items_of g) [] → CutShort c d j j' f g
-cut_jobs c d j j' f g e t h = record { tag = t; noted = some_jobs f.tag c d j j' (items_of f) (items_of g) e h }
-
-pub some_told : (who base : ℕ) (P : List Told → Type 0) (c c' : ChannelFloor) (j j' : Floor) (i i' : List Item) → TellsBoth who base P c c' j j' i i' → NotedSome who c c' j j' i i'
-some_told who base P c c' j j' i i' h = record { group = items_in h.told; rows = []; appended = h.noted.appended; channels = h.noted.channels; jobs = h.noted.jobs }
-
-pub cut_some : (base : ℕ) (P : List Told → Type 0) (c c' : ChannelFloor) (j j' : Floor) (f g : Frame) → g.tag ≡ f.tag → TellsBoth f.tag base P c c' j j' (items_of f) (items_of g) → CutShort c c' j j' f g
-cut_some base P c c' j j' f g t h = record { tag = t; noted = some_told f.tag base P c c' j j' (items_of f) (items_of g) h }
-
-pub cut_told : (c c' : ChannelFloor) (j k : Floor) (f g : Frame) → k ≡ j → g.tag ≡ f.tag → ToldSome f.tag c c' (items_of f) (items_of g) → CutShort c c' j k f g
-cut_told c c' j k f g h t did = record {
-  tag = t;
-  noted = record {
-    group = items_in did.told;
-    rows = [];
-    appended = did.left.appended;
-    channels = did.left.added;
-    jobs = subst (Added f.tag (job_acts_in (items_in did.told)) [] j) (sym h) (subst (λ acts. Added f.tag acts [] j j) (sym did.left.no_jobs) (self_jobs f.tag j));
-  };
+some_jobs {a} {b} e h = record {
+  who = h.who;
+  group = [];
+  rows = [];
+  appended = h.appended;
+  channels =
+      uncalled a.who a.channels b.channels e;
+  jobs = h.added;
 }
+
+pub some_told : {base : ℕ} {P : List Told → Type 0} {a b : SeenOnBoth} → TellsBoth base P a b → CutShort a b
+some_told h = record {
+  who = h.noted.who;
+  group = items_in h.told;
+  rows = [];
+  appended = h.noted.appended;
+  channels = h.noted.channels;
+  jobs = h.noted.jobs;
+}
+
+-- of who went on with this tag
+pub cut_as : (w : ℕ) {a b : SeenOnBoth} → b.who ≡ a.who → CutShort a (record b { who = w }) → CutShort a b
+cut_as w t h = record { who = t; group = h.group; rows = h.rows; appended = h.appended; channels = h.channels; jobs = h.jobs }
+
+pub cut_jobs : (w : ℕ) {a b : SeenOnBoth} → b.channels ≡ a.channels → b.who ≡ a.who
+    → ToldOnJobs [] (jobs_of a) (record { who = w; floor = b.jobs; items = b.items }) [] → CutShort a b
+unfolding items_in
+cut_jobs w {a} {b} e t h = record {
+  who = t;
+  group = [];
+  rows = [];
+  appended = h.appended;
+  channels =
+      uncalled a.who a.channels b.channels e;
+  jobs = h.added;
+}
+
+pub cut_some : (base w : ℕ) (P : List Told → Type 0) {a b : SeenOnBoth} → b.who ≡ a.who → TellsBoth base P a (record b { who = w })
+    → CutShort a b
+cut_some base w P t h = record {
+  who = t;
+  group = items_in h.told;
+  rows = [];
+  appended = h.noted.appended;
+  channels = h.noted.channels;
+  jobs = h.noted.jobs;
+}
+
+pub cut_told : (w : ℕ) {a b : SeenOnBoth} → b.jobs ≡ a.jobs → b.who ≡ a.who
+    → ToldSome (channels_of a) (record { who = w; floor = b.channels; items = b.items }) → CutShort a b
+cut_told w {a} {b} h t did = record {
+  who = t;
+  group = items_in did.told;
+  rows = [];
+  appended = did.left.appended;
+  channels = did.left.added;
+  jobs = subst (Added a.who (job_acts_in (items_in did.told)) [] a.jobs) (sym h)
+      (subst (λ acts. Added a.who acts [] a.jobs a.jobs) (sym did.left.no_jobs) (self_jobs a.who a.jobs));
+}
+
+-- from who had this tag and these notes
+pub cut_from : (w : ℕ) (i : List Item) {a b : SeenOnBoth} → w ≡ a.who → i ≡ a.items → CutShort (record a { who = w; items = i }) b
+    → CutShort a b
+cut_from w i {a} {b} t e h = subst (λ (n : ℕ). CutShort (record a { who = n }) b) t
+    (subst (λ (l : List Item). CutShort (record a { who = w; items = l }) b) e h)

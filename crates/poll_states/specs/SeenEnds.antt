@@ -3,17 +3,16 @@ use Rattle.std.specs.Prelude.{◌≡◌, ◌≢◌, ◌+◌, ◌<◌, ◌⊎◌,
 use Rattle.co_base.specs.declared.names.Memory.{Memory}
 use Rattle.co_base.specs.declared.names.WaitId.{WaitId}
 use Rattle.channel_model.specs.declared.acts.Settled.{Settled}
-use Rattle.channel_model.specs.Histories.{replay as replay_channels}
-use Rattle.channel_model.specs.Floors.{Floor as ChannelFloor}
 use Rattle.channel_model.specs.Answers.{outcome_at}
 use Rattle.job_model.specs.declared.acts.Cause.{Cause}
 use Rattle.job_model.specs.declared.acts.Cause.TheVariants as because
 use Rattle.job_model.specs.declared.acts.End.{End}
 use Rattle.job_model.specs.declared.acts.End.TheVariants as ended
-use Rattle.job_model.specs.Floors.{Floor, Added}
+use Rattle.job_model.specs.Floors.{Added}
 use Rattle.call_meaning.specs.Telling.{Told, saw_end}
 use Rattle.call_meaning.specs.ChannelCalls.{Answer}
 use Rattle.call_meaning.specs.JobCalls.{EndsBody, BreaksOff}
+use Rattle.call_meaning.specs.Seen.{SeenOnChannels, state_in}
 use Rattle.call_meaning.specs.Calls.{ToldOnChannels}
 use Rattle.channel_calls.specs.Calls.{IsUntouched, end_told}
 use Rattle.scope_builders.specs.declared.builder.Joined.{Joined}
@@ -23,6 +22,8 @@ use Rattle.script_grammar.specs.declared.instructions.Instruction.TheVariants as
 use Rattle.script_grammar.specs.Programs.{Program}
 use Rattle.script_grammar.specs.Nesting.{closing_of}
 use Rattle.script_grammar.specs.Tags.{code_of, coroutine_count}
+use Rattle.script_reader.specs.declared.script.Script.{Script}
+use Rattle.script_reader.specs.Scripts.{program_of}
 use Rattle.script_meaning.specs.declared.stage.Stage.{Stage}
 use Rattle.script_meaning.specs.declared.stage.Stage.TheVariants.{SeesJob, Unwinding, Leaving, SeesScope, Ended}
 use Rattle.script_meaning.specs.declared.turn.Turn.{Turn}
@@ -30,7 +31,7 @@ use Rattle.script_meaning.specs.declared.turn.Turn.TheVariants as turn
 use Rattle.script_meaning.specs.Configs.{Config, Entered, in_scope, InScope, scope_in, outside, at_stage, at_line, next, received, LineIs}
 use Rattle.script_meaning.specs.Polls.{AsksAgain, is_seeing}
 use Rattle.poll_states.specs.declared.entered.OpenScope.{OpenScope}
-use Rattle.poll_states.specs.Frames.{Frame, config_of, items_of, IsScopeOf, IsUnmoved}
+use Rattle.poll_states.specs.Frames.{Frame, config_of, IsScopeOf, SeenAtPoll, both_of, IsUnmoved}
 use Rattle.poll_states.specs.Steps.{Stepped, CutShort, AnsweredAfter}
 
 -- ---- the end of a Job
@@ -101,48 +102,49 @@ pub record BreaksAndReceives (base k row : ℕ) (failure : Option ℕ) (a : Answ
   pub all : told ≡ cancels ++ group
 
 -- the wait at the end of a scope was settled as it was resolved
-pub record EndedScopeWait (w : WaitId) (old new : ChannelFloor) (f g : Frame) : Type 0 where
+pub record EndedScopeWait (w : WaitId) (old new : SeenOnChannels) (f g : Frame) : Type 0 where
   pub outcome : Settled
-  pub ends : outcome_at false ((replay_channels old.seen).waits w) ≡ Some outcome
+  pub ends : outcome_at false ((state_in old).waits w) ≡ Some outcome
   pub config : config_of g ≡ at_stage SeesScope (config_of f)
-  pub noted : ToldOnChannels f.tag old new (items_of f) (items_of g) (end_told w false outcome)
+  pub noted : ToldOnChannels old new (end_told w false outcome)
 
-abbrev pub ScopeWaitAnswer : WaitId → ChannelFloor → ChannelFloor → Frame → Frame → Result (Unit {0}) Memory → Type 0
+abbrev pub ScopeWaitAnswer : WaitId → SeenOnChannels → SeenOnChannels → Frame → Frame → Result (Unit {0}) Memory → Type 0
 ScopeWaitAnswer w old new f g (Ok done) = EndedScopeWait w old new f g
-ScopeWaitAnswer w old new f g (Err m) = IsUntouched old new (items_of f) (items_of g)
+ScopeWaitAnswer w old new f g (Err m) = IsUntouched old new
 
 -- ---- an end is seen
 
 -- the Job has not ended, and nothing was done
-pub record NotYetSeen (p : Program) (c c' : ChannelFloor) (j j' : Floor) (f g : Frame) : Type 0 where
-  pub tag : g.tag ≡ f.tag
-  pub unmoved : IsUnmoved f g
-  pub channels : c' ≡ c
-  pub looked : Added f.tag [] [] j j'
-  pub again : AsksAgain p j j' f.tag (config_of f)
+pub record NotYetSeen (p : Program) (old new : SeenAtPoll) : Type 0 where
+  pub tag : new.frame.tag ≡ old.frame.tag
+  pub unmoved : IsUnmoved old.frame new.frame
+  pub channels : new.channels ≡ old.channels
+  pub looked : Added old.frame.tag [] [] old.jobs new.jobs
+  pub again : AsksAgain p old.jobs new.jobs old.frame.tag (config_of old.frame)
 
 -- the end was seen, and the coroutine goes on
-pub record HasSeen (p : Program) (c c' : ChannelFloor) (j j' : Floor) (f g : Frame) : Type 0 where
-  pub step : Stepped p c c' j j' f g
+pub record HasSeen (p : Program) (old new : SeenAtPoll) : Type 0 where
+  pub step : Stepped p old new
   pub row : ℕ
   pub end : End
   pub told_is : step.told ≡ saw_end row end ∷ []
-  pub runs : g.stage ≢ Ended
+  pub runs : new.frame.stage ≢ Ended
 
-abbrev pub Seen : Program → ChannelFloor → ChannelFloor → Floor → Floor → Frame → Frame → Type 0
-Seen p c c' j j' f g = HasSeen p c c' j j' f g ⊎ NotYetSeen p c c' j j' f g
+abbrev pub Seen : Program → SeenAtPoll → SeenAtPoll → Type 0
+Seen p old new = HasSeen p old new ⊎ NotYetSeen p old new
 
-abbrev pub SeenAnswer : Program → ChannelFloor → ChannelFloor → Floor → Floor → Frame → Frame → Result (Unit {0}) Memory → Type 0
-SeenAnswer p c c' j j' f g (Ok done) = Seen p c c' j j' f g
-SeenAnswer p c c' j j' f g (Err m) = CutShort c c' j j' f g
+abbrev pub SeenAnswer : Script → SeenAtPoll → SeenAtPoll → Result (Unit {0}) Memory → Type 0
+SeenAnswer s old new (Ok done) = Seen (program_of s) old new
+SeenAnswer s old new (Err m) = CutShort (both_of old) (both_of new)
 
 -- ---- after a step
 
 -- what is done after a step: if an end is to be seen it is looked for; else the coroutine is looked at
-pub data WentOn (p : Program) (c c' : ChannelFloor) (j j' : Floor) (f g : Frame) (answer : Turn) : Type 0 where
-  seen : is_seeing f.stage ≡ true → answer ≡ turn.Ready → Seen p c c' j j' f g → WentOn p c c' j j' f g answer
-  answered : g ≡ f → c' ≡ c → AnsweredAfter f j j' answer → WentOn p c c' j j' f g answer
+pub data WentOn (p : Program) (old new : SeenAtPoll) (answer : Turn) : Type 0 where
+  seen : is_seeing old.frame.stage ≡ true → answer ≡ turn.Ready → Seen p old new → WentOn p old new answer
+  answered : new.frame ≡ old.frame → new.channels ≡ old.channels → AnsweredAfter old.frame old.jobs new.jobs answer
+      → WentOn p old new answer
 
-abbrev pub WentOnAnswer : Program → ChannelFloor → ChannelFloor → Floor → Floor → Frame → Frame → Result Turn Memory → Type 0
-WentOnAnswer p c c' j j' f g (Ok answer) = WentOn p c c' j j' f g answer
-WentOnAnswer p c c' j j' f g (Err m) = CutShort c c' j j' f g
+abbrev pub WentOnAnswer : Script → SeenAtPoll → SeenAtPoll → Result Turn Memory → Type 0
+WentOnAnswer s old new (Ok answer) = WentOn (program_of s) old new answer
+WentOnAnswer s old new (Err m) = CutShort (both_of old) (both_of new)

@@ -1,9 +1,9 @@
 -- What one move of a coroutine leaves, and what a poll does.
-use Rattle.std.specs.Prelude.{◌≡◌, ◌<◌, ◌≤◌, ◌+◌, ◌⊎◌, ℕ, Bool, true, false, List, [], ◌∷◌, ◌++◌, length, Some, None, Result, Ok, Err}
+use Rattle.std.specs.Prelude.{◌≡◌, ◌<◌, ◌≤◌, ◌+◌, ◌⊎◌, ℕ, Bool, true, false, List, [], ◌∷◌, ◌++◌, length, Some, None, Result, Ok, Err, OnOk}
 use Rattle.co_base.specs.declared.names.Memory.{Memory}
 use Rattle.co_base.specs.declared.names.WaitId.{WaitId}
 use Rattle.channel_model.specs.declared.acts.Settled.{Settled}
-use Rattle.channel_model.specs.Histories.{replay as replay_channels, acts_of as channel_acts_of}
+use Rattle.channel_model.specs.Histories.{acts_of as channel_acts_of}
 use Rattle.channel_model.specs.Floors.{Floor as ChannelFloor, Added as AddedToChannels, Looked as LookedAtChannels}
 use Rattle.channel_model.specs.Answers.{IsReady, outcome_at}
 use Rattle.job_model.specs.Trees.{Tree, state_of, is_among}
@@ -19,6 +19,7 @@ use Rattle.call_meaning.specs.Telling.{Told, items_in, did}
 use Rattle.call_meaning.specs.Facts.{IsRunning}
 use Rattle.call_meaning.specs.ChannelCalls.{GivesUp}
 use Rattle.call_meaning.specs.JobCalls.{child_kind, NotAttached}
+use Rattle.call_meaning.specs.Seen.{SeenOnChannels, SeenOnJobs, SeenOnBoth, state_in}
 use Rattle.call_meaning.specs.Calls.{ToldOnChannels, ToldOnJobs, ToldOnBoth, rows_in}
 use Rattle.channel_calls.specs.Calls.{IsUntouched, ToldSome, end_told}
 use Rattle.scope_builders.specs.Dones.{KeepsDones}
@@ -27,6 +28,8 @@ use Rattle.script_grammar.specs.declared.instructions.Instruction.TheVariants.{S
 use Rattle.script_grammar.specs.Programs.{Program}
 use Rattle.script_grammar.specs.Nesting.{closing_of}
 use Rattle.script_grammar.specs.Tags.{code_of, coroutine_count, size_of}
+use Rattle.script_reader.specs.declared.script.Script.{Script}
+use Rattle.script_reader.specs.Scripts.{program_of}
 use Rattle.script_meaning.specs.declared.stage.Stage.{Stage}
 use Rattle.script_meaning.specs.declared.stage.Stage.TheVariants.{Running, Waiting, Unwinding, Leaving, Ended}
 use Rattle.script_meaning.specs.declared.turn.Turn.{Turn}
@@ -42,36 +45,32 @@ use Rattle.script_meaning.specs.Idle.{IsNotStarted}
 use Rattle.script_meaning.specs.Polls.{RefusedByClaims, Begun, Polled, TurnAnswer, HasStood, own_rows, is_seeing}
 use Rattle.poll_states.specs.declared.jobs.OwnState.{OwnState}
 use Rattle.poll_states.specs.declared.jobs.OwnState.TheVariants as own
-use Rattle.poll_states.specs.Frames.{Frame, config_of, items_of, frame_of, Stands}
+use Rattle.poll_states.specs.Frames.{Frame, config_of, items_of, frame_of, seen_at, SeenAtPoll, both_of, Stands}
 
 -- ---- one move
 
--- one move of the coroutine of f, which told this, left g; where g waits, or leaves a scope, its wait stood at a moment
-pub record Stepped (p : Program) (c c' : ChannelFloor) (j j' : Floor) (f g : Frame) : Type 0 where
-  pub tag : g.tag ≡ f.tag
+-- one move of the coroutine, which told this, left it so; where it waits now, or leaves a scope, its wait stood at a moment
+pub record Stepped (p : Program) (old new : SeenAtPoll) : Type 0 where
+  pub tag : new.frame.tag ≡ old.frame.tag
   pub told : List Told
-  pub move : Move p f.tag (config_of f) told (config_of g)
-  pub noted : ToldOnBoth f.tag (rows_in (job_acts_in (items_in told))) c c' j j' (items_of f) (items_of g) told
-  pub refused : RefusedByClaims (config_of f) (items_in told) j'
-  pub dones : KeepsDones (base_of p) c c' j j' (items_in told)
-  pub stood : (w : WaitId) → wait_of g.stage ≡ Some w → HasStood c c' w
+  pub move : Move p old.frame.tag (config_of old.frame) told (config_of new.frame)
+  pub noted : ToldOnBoth (rows_in (job_acts_in (items_in told))) (both_of old) (both_of new) told
+  pub refused : RefusedByClaims (config_of old.frame) (items_in told) new.jobs
+  pub dones : KeepsDones (base_of p) (both_of old) (both_of new) (items_in told)
+  pub stood : (w : WaitId) → wait_of new.frame.stage ≡ Some w → HasStood old.channels new.channels w
 
--- the entries made so far stand and are noted
-pub record NotedSome (who : ℕ) (c c' : ChannelFloor) (j j' : Floor) (items items' : List Item) : Type 0 where
+-- there was no memory: the entries made so far stand and are noted
+pub record CutShort (old new : SeenOnBoth) : Type 0 where
+  pub who : new.who ≡ old.who
   pub group : List Item
   pub rows : List ℕ
-  pub appended : items' ≡ items ++ group
-  pub channels : AddedToChannels who (channel_acts_in group) c c'
-  pub jobs : Added who (job_acts_in group) rows j j'
+  pub appended : new.items ≡ old.items ++ group
+  pub channels : AddedToChannels old.who (channel_acts_in group) old.channels new.channels
+  pub jobs : Added old.who (job_acts_in group) rows old.jobs new.jobs
 
--- there was no memory: the frame notes the entries that were made
-pub record CutShort (c c' : ChannelFloor) (j j' : Floor) (f g : Frame) : Type 0 where
-  pub tag : g.tag ≡ f.tag
-  pub noted : NotedSome f.tag c c' j j' (items_of f) (items_of g)
-
-abbrev pub StepAnswer : Program → ChannelFloor → ChannelFloor → Floor → Floor → Frame → Frame → Result (Unit {0}) Memory → Type 0
-StepAnswer p c c' j j' f g (Ok done) = Stepped p c c' j j' f g
-StepAnswer p c c' j j' f g (Err m) = CutShort c c' j j' f g
+abbrev pub StepAnswer : Script → SeenAtPoll → SeenAtPoll → Result (Unit {0}) Memory → Type 0
+StepAnswer s old new (Ok done) = Stepped (program_of s) old new
+StepAnswer s old new (Err m) = CutShort (both_of old) (both_of new)
 
 -- ---- one's own Job
 
@@ -108,31 +107,31 @@ pub record SeenWait (who : ℕ) (w : WaitId) (old new : ChannelFloor) (resolved 
   pub so : IsSeenSo who w old new resolved
 
 -- the wait was settled as it was resolved, and the coroutine goes on as that says for its line
-pub record EndedWait (p : Program) (w : WaitId) (old new : ChannelFloor) (f g : Frame) : Type 0 where
+pub record EndedWait (p : Program) (w : WaitId) (old new : SeenOnChannels) (f g : Frame) : Type 0 where
   pub outcome : Settled
-  pub ends : outcome_at false ((replay_channels old.seen).waits w) ≡ Some outcome
+  pub ends : outcome_at false ((state_in old).waits w) ≡ Some outcome
   pub line : Instruction
   pub line_is : LineIs p f.tag (config_of f) line
   pub config : config_of g ≡ after_wait p f.tag (config_of f) line outcome
-  pub noted : ToldOnChannels f.tag old new (items_of f) (items_of g) (end_told w false outcome)
+  pub noted : ToldOnChannels old new (end_told w false outcome)
 
-abbrev pub EndedWaitAnswer : Program → WaitId → ChannelFloor → ChannelFloor → Frame → Frame → Result (Unit {0}) Memory → Type 0
+abbrev pub EndedWaitAnswer : Program → WaitId → SeenOnChannels → SeenOnChannels → Frame → Frame → Result (Unit {0}) Memory → Type 0
 EndedWaitAnswer p w old new f g (Ok done) = EndedWait p w old new f g
-EndedWaitAnswer p w old new f g (Err m) = IsUntouched old new (items_of f) (items_of g)
+EndedWaitAnswer p w old new f g (Err m) = IsUntouched old new
 
 -- with the note that the Job of this row was seen Cancelling
-abbrev pub with_saw : ℕ → Frame → List Item
-with_saw row f = items_of f ++ item.Job (known.Saw row) ∷ []
+abbrev pub with_saw : ℕ → SeenOnChannels → SeenOnChannels
+with_saw row seen = record seen { items = seen.items ++ item.Job (known.Saw row) ∷ [] }
 
 -- that was noted, and then the wait was given up
-pub record GaveUp (w : WaitId) (row : ℕ) (old new : ChannelFloor) (f g : Frame) : Type 0 where
+pub record GaveUp (w : WaitId) (row : ℕ) (old new : SeenOnChannels) : Type 0 where
   pub told : List Told
   pub goes : GivesUp w told
-  pub noted : ToldOnChannels f.tag old new (with_saw row f) (items_of g) told
+  pub noted : ToldOnChannels (with_saw row old) new told
 
-abbrev pub GaveUpAnswer : WaitId → ℕ → ChannelFloor → ChannelFloor → Frame → Frame → Result (Unit {0}) Memory → Type 0
-GaveUpAnswer w row old new f g (Ok done) = GaveUp w row old new f g
-GaveUpAnswer w row old new f g (Err m) = ToldSome f.tag old new (with_saw row f) (items_of g)
+abbrev pub GaveUpAnswer : WaitId → ℕ → SeenOnChannels → SeenOnChannels → Result (Unit {0}) Memory → Type 0
+GaveUpAnswer w row old new (Ok done) = GaveUp w row old new
+GaveUpAnswer w row old new (Err m) = ToldSome (with_saw row old) new
 
 -- ---- the line
 
@@ -148,11 +147,14 @@ pub record PolledTo (p : Program) (c c' : ChannelFloor) (j j' : Floor) (f g : Fr
   pub polled : Polled p c c' j j' (frame_of f) (frame_of g)
   pub turn : TurnAnswer p c c' j j' (frame_of f) (frame_of g) polled.told answer
   pub stands : Stands p c' j' g
-  pub dones : KeepsDones (base_of p) c c' j j' (items_in polled.told)
+  pub dones : KeepsDones (base_of p) (seen_at c j f) (seen_at c' j' g) (items_in polled.told)
 
-abbrev pub PollAnswer : Program → ChannelFloor → ChannelFloor → Floor → Floor → Frame → Frame → Result Turn Memory → Type 0
-PollAnswer p c c' j j' f g (Ok answer) = PolledTo p c c' j j' f g answer
-PollAnswer p c c' j j' f g (Err m) = CutShort c c' j j' f g
+abbrev pub HasPolled : Program → SeenAtPoll → SeenAtPoll → Turn → Type 0
+HasPolled p old new answer = PolledTo p old.channels new.channels old.jobs new.jobs old.frame new.frame answer
+
+abbrev pub PollAnswer : Script → SeenAtPoll → SeenAtPoll → Result Turn Memory → Type 0
+PollAnswer s old new (Ok answer) = HasPolled (program_of s) old new answer
+PollAnswer s old new (Err m) = CutShort (both_of old) (both_of new)
 
 -- what a poll answers after a line that left the coroutine so: one that waits is to be polled again where the Job of this row, its
 -- innermost, was Cancelling
@@ -173,6 +175,10 @@ abbrev pub MovesOn : Program → ChannelFloor → Frame → Frame → Type 0
 MovesOn p c f g =
     IsAt p f.tag (config_of f) Select
     → (is_seeing g.stage ≡ false) × (c.alone ≡ true → config_of g ≡ config_of f → ⊥)
+
+-- so it is after a poll of a coroutine of this script
+abbrev pub MovesAnswer : {A : Type 0} → Script → SeenAtPoll → SeenAtPoll → Result A Memory → Type 0
+MovesAnswer s old new result = OnOk result (MovesOn (program_of s) old.channels old.frame new.frame)
 
 -- ---- the beginning
 
@@ -199,12 +205,12 @@ pub record IsOnItsJobs (p : Program) (j : Floor) : Type 0 where
 pub record BegunTo (p : Program) (c c' : ChannelFloor) (j j' : Floor) (f g : Frame) : Type 0 where
   pub begun : Begun p j j' (frame_of f) (frame_of g)
   pub stands : Stands p c' j' g
-  pub dones : KeepsDones (base_of p) c c' j j' (items_of g)
+  pub dones : KeepsDones (base_of p) (seen_at c j f) (seen_at c' j' g) (items_of g)
 
 -- so it is beside any channels of the script
 abbrev pub BeginAnswer : Program → Floor → Floor → Frame → Frame → Result (Unit {0}) Memory → Type 0
 BeginAnswer p j j' f g (Ok done) = (c : ChannelFloor) → IsOnItsChannels p c → BegunTo p c c j j' f g
-BeginAnswer p j j' f g (Err m) = (c : ChannelFloor) → CutShort c c j j' f g
+BeginAnswer p j j' f g (Err m) = (c : ChannelFloor) → CutShort (seen_at c j f) (seen_at c j' g)
 
 -- main may attach an instance of this block to the root, which ended no body
 pub record IsForSpawn (p : Program) (block : ℕ) (j : Floor) (f : Frame) : Type 0 where
@@ -216,22 +222,20 @@ pub record IsForSpawn (p : Program) (block : ℕ) (j : Floor) (f : Frame) : Type
   pub room : f.free + size_of p block ≤ coroutine_count p
 
 -- the next tag was attached
-pub record HasSpawned (p : Program) (block : ℕ) (j j' : Floor) (f g : Frame) : Type 0 where
-  pub tag : g.tag ≡ f.tag
+pub record HasSpawned (p : Program) (block : ℕ) (old new : SeenOnJobs) (f g : Frame) : Type 0 where
   pub config : config_of g ≡ past_launch p block None (config_of f)
   pub now : Bool
-  pub noted : ToldOnJobs 0 (f.free ∷ []) j j' (items_of f) (items_of g) (did (Attach 0 f.free (child_kind false) f.free now) ∷ [])
+  pub noted : ToldOnJobs (f.free ∷ []) old new (did (Attach 0 f.free (child_kind false) f.free now) ∷ [])
 
 -- that was refused, and main fails
-pub record IsRefusedSpawn (j j' : Floor) (f g : Frame) : Type 0 where
-  pub tag : g.tag ≡ f.tag
+pub record IsRefusedSpawn (old new : SeenOnJobs) (f g : Frame) : Type 0 where
   pub config : config_of g ≡ at_stage (Unwinding (Some 0)) (config_of f)
   pub told : List Told
   pub goes : NotAttached 0 false told
-  pub noted : ToldOnJobs 0 [] j j' (items_of f) (items_of g) told
-  pub refused : RefusedByClaims (config_of g) (items_in told) j'
+  pub noted : ToldOnJobs [] old new told
+  pub refused : RefusedByClaims (config_of g) (items_in told) new.floor
 
-abbrev pub SpawnAnswer : Program → ℕ → Floor → Floor → Frame → Frame → Result Bool Memory → Type 0
-SpawnAnswer p block j j' f g (Ok true) = HasSpawned p block j j' f g
-SpawnAnswer p block j j' f g (Ok false) = IsRefusedSpawn j j' f g
-SpawnAnswer p block j j' f g (Err m) = (c : ChannelFloor) → CutShort c c j j' f g
+abbrev pub SpawnAnswer : Program → ℕ → SeenOnJobs → SeenOnJobs → Frame → Frame → Result Bool Memory → Type 0
+SpawnAnswer p block old new f g (Ok true) = HasSpawned p block old new f g
+SpawnAnswer p block old new f g (Ok false) = IsRefusedSpawn old new f g
+SpawnAnswer p block old new f g (Err m) = (c : ChannelFloor) → CutShort (seen_at c old.floor f) (seen_at c new.floor g)

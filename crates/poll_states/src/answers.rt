@@ -1,15 +1,12 @@
 //! Where a coroutine goes on by an answer.
 
-ghost use Rattle.std.specs.Prelude.{◌≡◌, ◌<◌, true, false, slice_get, vec_len, vec_capacity};
+ghost use Rattle.std.specs.Prelude.{◌≡◌, ◌<◌, true, false, vec_len, vec_capacity};
 ghost use Rattle.script_reader.specs.Scripts.{program_of};
-ghost use Rattle.script_reader.specs.Lines.{does_open};
-ghost use Rattle.script_grammar.specs.Tags.{code_of, coroutine_count};
-ghost use Rattle.script_meaning.specs.Configs.{LineIs};
 ghost use Rattle.script_meaning.specs.WaitEnds.{after_wait, after_sent, after_value, after_closed};
-ghost use Rattle.poll_states.specs.Frames.{config_of};
+ghost use Rattle.poll_states.specs.Frames.{config_of, HasLine, IsInRun, Opens};
 ghost use Rattle.poll_states.specs.Steps.{GoesPast};
-ghost use Rattle.poll_states.specs.Calls.{came_of_send, came_of_try_send, came_of_receive, came_of_try_receive, enters, after_call};
-ghost use Rattle.poll_states.specs.Named.{came_of_joined, after_named};
+ghost use Rattle.poll_states.specs.Calls.{answer_of_send, answer_of_try_send, answer_of_receive, answer_of_try_receive, enters, after_call};
+ghost use Rattle.poll_states.specs.Named.{answer_of_joined, after_named};
 ghost use Rattle.poll_states.specs.SeenEnds.{unwinds_for};
 
 use crate::code::closing;
@@ -24,9 +21,9 @@ use scope_builders::Joined;
 use script_meaning::Stage;
 use script_reader::{Instruction, Script};
 
-/// What the call of a line came to.
+/// What the call of a line came to: an answer as `call_meaning` has it. That of a select alone may be to look again.
 #[derive(Clone, Copy)]
-pub(crate) enum Came {
+pub(crate) enum Answer {
     /// It is done, and brought no element.
     Done,
     /// The element that was received.
@@ -39,59 +36,59 @@ pub(crate) enum Came {
     NoPlace,
 }
 
-impl Came {
+impl Answer {
     /// What a send came to.
-    pub(crate) fn of_send(answer: SendAnswer) -> Came
-        ensures { result ≡ came_of_send answer }
+    pub(crate) fn of_send(answer: SendAnswer) -> Answer
+        ensures { result ≡ answer_of_send answer }
     {
         match answer {
-            SendAnswer::Sent | SendAnswer::Closed(_) => Came::Done,
-            SendAnswer::Waits(w) => Came::Waits(w),
-            SendAnswer::Spent => Came::NoPlace,
+            SendAnswer::Sent | SendAnswer::Closed(_) => Answer::Done,
+            SendAnswer::Waits(w) => Answer::Waits(w),
+            SendAnswer::Spent => Answer::NoPlace,
         }
     }
 
     /// What a send came to that does not wait.
-    pub(crate) fn of_try_send(answer: TrySendAnswer) -> Came
-        ensures { result ≡ came_of_try_send answer }
+    pub(crate) fn of_try_send(answer: TrySendAnswer) -> Answer
+        ensures { result ≡ answer_of_try_send answer }
     {
         match answer {
-            TrySendAnswer::Sent | TrySendAnswer::Full | TrySendAnswer::Closed(_) => Came::Done,
-            TrySendAnswer::Spent => Came::NoPlace,
+            TrySendAnswer::Sent | TrySendAnswer::Full | TrySendAnswer::Closed(_) => Answer::Done,
+            TrySendAnswer::Spent => Answer::NoPlace,
         }
     }
 
     /// What a receive came to.
-    pub(crate) fn of_receive(answer: ReceiveAnswer) -> Came
-        ensures { result ≡ came_of_receive answer }
+    pub(crate) fn of_receive(answer: ReceiveAnswer) -> Answer
+        ensures { result ≡ answer_of_receive answer }
     {
         match answer {
-            ReceiveAnswer::Value(value) => Came::Got(value),
-            ReceiveAnswer::Closed(v) => Came::Closed(v),
-            ReceiveAnswer::Waits(w) => Came::Waits(w),
-            ReceiveAnswer::Spent => Came::NoPlace,
+            ReceiveAnswer::Value(value) => Answer::Got(value),
+            ReceiveAnswer::Closed(v) => Answer::Closed(v),
+            ReceiveAnswer::Waits(w) => Answer::Waits(w),
+            ReceiveAnswer::Spent => Answer::NoPlace,
         }
     }
 
     /// What a receive came to that does not wait.
-    pub(crate) fn of_try_receive(answer: TryReceiveAnswer) -> Came
-        ensures { result ≡ came_of_try_receive answer }
+    pub(crate) fn of_try_receive(answer: TryReceiveAnswer) -> Answer
+        ensures { result ≡ answer_of_try_receive answer }
     {
         match answer {
-            TryReceiveAnswer::Value(value) => Came::Got(value),
-            TryReceiveAnswer::Empty | TryReceiveAnswer::Closed(_) => Came::Done,
+            TryReceiveAnswer::Value(value) => Answer::Got(value),
+            TryReceiveAnswer::Empty | TryReceiveAnswer::Closed(_) => Answer::Done,
         }
     }
 
     /// What a join or an await came to, unless the innermost Job was seen Cancelling.
-    pub(crate) fn of_joined(answer: Joined) -> Option<Came>
-        ensures { result ≡ came_of_joined answer }
+    pub(crate) fn of_joined(answer: Joined) -> Option<Answer>
+        ensures { result ≡ answer_of_joined answer }
     {
         match answer {
-            Joined::Closed(v) => Some(Came::Closed(v)),
-            Joined::Waits(w) => Some(Came::Waits(w)),
+            Joined::Closed(v) => Some(Answer::Closed(v)),
+            Joined::Waits(w) => Some(Answer::Waits(w)),
             Joined::Cancelled => None,
-            Joined::Spent => Some(Came::NoPlace),
+            Joined::Spent => Some(Answer::NoPlace),
         }
     }
 }
@@ -109,44 +106,44 @@ pub(crate) fn unwinds_for(cause: Cause) -> Stage
 impl<B: NoteBook> Coroutine<B> {
     /// Goes on after the call of this line came to this. Takes no memory.
     #[inline(always)]
-    pub(crate) fn go_on(&mut self, script: &Script, line: Instruction, came: Came)
-        requires tag { self.old.tag < coroutine_count (program_of script.now) }
-        requires at { LineIs (program_of script.now) self.old.tag (config_of self.old) line }
+    pub(crate) fn go_on(&mut self, script: &Script, line: Instruction, answer: Answer)
+        requires tag { IsInRun script.now self.old.tag }
+        requires at { HasLine script.now self.old line }
         requires line { self.old.line < usize.MAX }
         requires room { enters line ≡ true → vec_len self.old.entered < vec_capacity self.old.entered }
         ensures tag { self.new.tag ≡ self.old.tag }
-        ensures config { config_of self.new ≡ after_call (program_of script.now) self.old.tag (config_of self.old) line came }
+        ensures config { config_of self.new ≡ after_call (program_of script.now) self.old.tag (config_of self.old) line answer }
         ensures items { B.items self.new.book ≡ B.items self.old.book }
     {
-        match came {
-            Came::Done => self.go_on_done(script, line),
-            Came::Got(value) => self.go_on_with(script, line, value),
-            Came::Closed(_) => self.go_on_closed(script, line),
-            Came::Waits(w) => self.wait_for(w),
-            Came::NoPlace => self.fail(),
+        match answer {
+            Answer::Done => self.go_on_done(script, line),
+            Answer::Got(value) => self.go_on_with(script, line, value),
+            Answer::Closed(_) => self.go_on_closed(script, line),
+            Answer::Waits(w) => self.wait_for(w),
+            Answer::NoPlace => self.fail(),
         }
     }
 
     /// Goes on after the call of this line on a Job came to this, or, if it made none, unwinds. Takes no memory.
-    pub(crate) fn go_on_named(&mut self, script: &Script, line: Instruction, came: Option<Came>)
-        requires tag { self.old.tag < coroutine_count (program_of script.now) }
-        requires at { LineIs (program_of script.now) self.old.tag (config_of self.old) line }
+    pub(crate) fn go_on_named(&mut self, script: &Script, line: Instruction, answer: Option<Answer>)
+        requires tag { IsInRun script.now self.old.tag }
+        requires at { HasLine script.now self.old line }
         requires line { self.old.line < usize.MAX }
         requires inside { enters line ≡ false }
         ensures tag { self.new.tag ≡ self.old.tag }
-        ensures config { config_of self.new ≡ after_named (program_of script.now) self.old.tag (config_of self.old) line came }
+        ensures config { config_of self.new ≡ after_named (program_of script.now) self.old.tag (config_of self.old) line answer }
         ensures items { B.items self.new.book ≡ B.items self.old.book }
     {
-        match came {
-            Some(came) => self.go_on(script, line, came),
+        match answer {
+            Some(answer) => self.go_on(script, line, answer),
             None => self.stage = Stage::Unwinding(None),
         }
     }
 
     /// Goes on past the line that closes what its line opens.
     pub(crate) fn go_past(&mut self, script: &Script)
-        requires tag { self.old.tag < coroutine_count (program_of script.now) }
-        requires opens { does_open (slice_get (code_of (program_of script.now) self.old.tag) self.old.line) ≡ true }
+        requires tag { IsInRun script.now self.old.tag }
+        requires opens { Opens script.now self.old.tag self.old.line }
         ensures tag { self.new.tag ≡ self.old.tag }
         ensures config { GoesPast (program_of script.now) self.old.tag (config_of self.old) (config_of self.new) }
         ensures items { B.items self.new.book ≡ B.items self.old.book }
@@ -158,10 +155,10 @@ impl<B: NoteBook> Coroutine<B> {
     /// Goes on after the wait of this line ended so. Takes no memory.
     #[inline(always)]
     pub(crate) fn go_on_after(&mut self, script: &Script, line: Instruction, outcome: Settled)
-        requires tag { self.old.tag < coroutine_count (program_of script.now) }
-        requires at { LineIs (program_of script.now) self.old.tag (config_of self.old) line }
+        requires tag { IsInRun script.now self.old.tag }
+        requires at { HasLine script.now self.old line }
         requires line { self.old.line < usize.MAX }
-        requires room { vec_len self.old.entered < vec_capacity self.old.entered }
+        requires room { enters line ≡ true → vec_len self.old.entered < vec_capacity self.old.entered }
         ensures tag { self.new.tag ≡ self.old.tag }
         ensures config { config_of self.new ≡ after_wait (program_of script.now) self.old.tag (config_of self.old) line outcome }
         ensures items { B.items self.new.book ≡ B.items self.old.book }
@@ -177,8 +174,8 @@ impl<B: NoteBook> Coroutine<B> {
     /// Goes on after this line is done, and brought no element.
     #[inline(always)]
     fn go_on_done(&mut self, script: &Script, line: Instruction)
-        requires tag { self.old.tag < coroutine_count (program_of script.now) }
-        requires at { LineIs (program_of script.now) self.old.tag (config_of self.old) line }
+        requires tag { IsInRun script.now self.old.tag }
+        requires at { HasLine script.now self.old line }
         requires line { self.old.line < usize.MAX }
         ensures tag { self.new.tag ≡ self.old.tag }
         ensures config { config_of self.new ≡ after_sent (program_of script.now) self.old.tag (config_of self.old) line }
@@ -193,8 +190,8 @@ impl<B: NoteBook> Coroutine<B> {
     /// Goes on after this line brought an element. Takes no memory.
     #[inline(always)]
     fn go_on_with(&mut self, script: &Script, line: Instruction, value: Value)
-        requires tag { self.old.tag < coroutine_count (program_of script.now) }
-        requires at { LineIs (program_of script.now) self.old.tag (config_of self.old) line }
+        requires tag { IsInRun script.now self.old.tag }
+        requires at { HasLine script.now self.old line }
         requires line { self.old.line < usize.MAX }
         requires room { enters line ≡ true → vec_len self.old.entered < vec_capacity self.old.entered }
         ensures tag { self.new.tag ≡ self.old.tag }
@@ -212,8 +209,8 @@ impl<B: NoteBook> Coroutine<B> {
     /// Goes on after this line met a closed channel.
     #[inline(always)]
     fn go_on_closed(&mut self, script: &Script, line: Instruction)
-        requires tag { self.old.tag < coroutine_count (program_of script.now) }
-        requires at { LineIs (program_of script.now) self.old.tag (config_of self.old) line }
+        requires tag { IsInRun script.now self.old.tag }
+        requires at { HasLine script.now self.old line }
         requires line { self.old.line < usize.MAX }
         ensures tag { self.new.tag ≡ self.old.tag }
         ensures config { config_of self.new ≡ after_closed (program_of script.now) self.old.tag (config_of self.old) line }

@@ -2,7 +2,7 @@
 
 ghost use Rattle.std.specs.Prelude.{◌≡◌, ◌<◌, length};
 ghost use Rattle.script_reader.specs.Scripts.{program_of};
-ghost use Rattle.poll_states.specs.Frames.{noted};
+ghost use Rattle.poll_states.specs.Frames.{noted, seen_on_jobs};
 ghost use Rattle.poll_states.specs.Steps.{IsNewRoot, IsOnItsJobs, BeginAnswer, IsForSpawn, SpawnAnswer};
 
 use crate::book::Book;
@@ -69,8 +69,8 @@ fn spawn_one<B: NoteBook, J: JobFloor>(
 ) -> Result<bool, Memory>
     requires block { block < length (program_of script.now).blocks }
     requires next { IsForSpawn (program_of script.now) block (J.view jobs.old) (noted B.items frame.old) }
-    ensures spawned { SpawnAnswer (program_of script.now) block (J.view jobs.old) (J.view jobs.new)
-        (noted B.items frame.old) (noted B.items frame.new) result }
+    ensures spawned { SpawnAnswer (program_of script.now) block (seen_on_jobs J.view B.items jobs.old frame.old)
+        (seen_on_jobs J.view B.items jobs.new frame.new) (noted B.items frame.old) (noted B.items frame.new) result }
     ensures anchor { J.anchor jobs.new ≡ J.anchor jobs.old }
 {
     let size = script.size_of(block);

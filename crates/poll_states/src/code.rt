@@ -1,17 +1,17 @@
 //! The code that a coroutine runs.
 
-ghost use Rattle.std.specs.Prelude.{◌≡◌, ◌<◌, true, slice_get, Some};
+ghost use Rattle.std.specs.Prelude.{◌≡◌, ◌<◌, Some};
 ghost use Rattle.script_reader.specs.Scripts.{program_of};
-ghost use Rattle.script_reader.specs.Lines.{does_open};
 ghost use Rattle.script_grammar.specs.Nesting.{closing_of};
-ghost use Rattle.script_grammar.specs.Tags.{code_of, coroutine_count};
+ghost use Rattle.script_grammar.specs.Tags.{code_of};
+ghost use Rattle.poll_states.specs.Frames.{IsInRun, Opens};
 
 use co_base::Tag;
 use script_reader::{Instruction, Script};
 
 /// The lines of the coroutine with this tag.
 pub(crate) fn code_of(script: &Script, tag: Tag) -> &[Instruction]
-    requires { tag < coroutine_count (program_of script.now) }
+    requires { IsInRun script.now tag }
     ensures { result.now ≡ code_of (program_of script.now) tag }
 {
     let block = script.coroutine_of(tag) as usize;
@@ -20,8 +20,8 @@ pub(crate) fn code_of(script: &Script, tag: Tag) -> &[Instruction]
 
 /// The line that closes what this line of the coroutine with this tag opens.
 pub(crate) fn closing(script: &Script, tag: Tag, line: usize) -> usize
-    requires tag { tag < coroutine_count (program_of script.now) }
-    requires opens { does_open (slice_get (code_of (program_of script.now) tag) line) ≡ true }
+    requires tag { IsInRun script.now tag }
+    requires opens { Opens script.now tag line }
     ensures closes { closing_of (code_of (program_of script.now) tag) line ≡ Some result }
     ensures few { result < 4294967296 }
 {

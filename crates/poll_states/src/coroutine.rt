@@ -5,9 +5,7 @@ ghost use Rattle.note_book.specs.declared.book.Item.TheVariants as item;
 ghost use Rattle.job_model.specs.declared.acts.JobNote.TheVariants as known;
 ghost use Rattle.script_meaning.specs.declared.stage.Stage.TheVariants.{Waiting, Unwinding};
 ghost use Rattle.script_meaning.specs.Configs.{at_stage, at_line, next, set_row, named, operand, received, fresh};
-ghost use Rattle.script_grammar.specs.Tags.{coroutine_count};
-ghost use Rattle.script_reader.specs.Scripts.{program_of};
-ghost use Rattle.poll_states.specs.Frames.{config_of};
+ghost use Rattle.poll_states.specs.Frames.{config_of, IsInRun};
 
 use crate::book::Book;
 use crate::entered::Entered;
@@ -43,7 +41,7 @@ pub struct Coroutine<B> {
 impl<B: Book> Coroutine<B> {
     /// A coroutine of the script that has not begun. What it launches has the tags after its own.
     pub(crate) fn new(alloc: Global, script: &Script, tag: Tag) -> Result<Coroutine<B>, Memory>
-        requires tag { tag < coroutine_count (program_of script.now) }
+        requires tag { IsInRun script.now tag }
         ensures tag { IfOk result (λ frame. frame.tag ≡ tag) }
         ensures config { IfOk result (λ frame. config_of frame ≡ fresh tag) }
         ensures book { IfOk result (λ frame. B.items frame.book ≡ []) }

@@ -2,9 +2,7 @@
 
 ghost use Rattle.std.specs.Prelude.{◌≡◌, ◌<◌, ◌∷◌, [], length, IfOk};
 ghost use Rattle.script_meaning.specs.Configs.{fresh};
-ghost use Rattle.script_grammar.specs.Tags.{coroutine_count};
-ghost use Rattle.script_reader.specs.Scripts.{program_of};
-ghost use Rattle.poll_states.specs.Frames.{config_of, items_of, acts_in};
+ghost use Rattle.poll_states.specs.Frames.{config_of, items_of, acts_in, IsInRun};
 
 use crate::book::Book;
 use crate::coroutine::Coroutine;
@@ -42,7 +40,7 @@ pub struct Done<B> {
 impl<B: Book> Frame<B> {
     /// A coroutine of the script that has not begun. What it launches has the tags after its own.
     pub fn new(alloc: Global, script: &Script, tag: Tag) -> Result<Frame<B>, Memory>
-        requires tag { tag < coroutine_count (program_of script.now) }
+        requires tag { IsInRun script.now tag }
         ensures tag { IfOk result (λ frame. frame.tag ≡ tag) }
         ensures config { IfOk result (λ frame. config_of frame ≡ fresh tag) }
         ensures book { IfOk result (λ frame. items_of frame ≡ []) }

@@ -1,13 +1,15 @@
 //! How a frame enters and leaves repeats, eaches and scopes.
 
-ghost use Rattle.std.specs.Prelude.{◌≡◌, ◌<◌, OnOk, vec_len, vec_capacity};
+ghost use Rattle.std.specs.Prelude.{◌≡◌, ◌<◌, true, OnOk, vec_len, vec_capacity};
 ghost use Rattle.script_meaning.specs.Configs.{into, innermost};
 ghost use Rattle.poll_states.specs.Frames.{config_of, entered_of, IsTop, LeavesTop, ChangesTop, LeavesScope, IsScopeOf};
+ghost use Rattle.poll_states.specs.Calls.{enters};
 
 use crate::coroutine::Coroutine;
 use crate::entered::{Entered, OpenScope, scope_of};
 use co_base::{Memory, Row};
 use note_book::NoteBook;
+use script_reader::Instruction;
 
 impl<B: NoteBook> Coroutine<B> {
     /// The innermost scope that it has entered and not left.
@@ -45,6 +47,19 @@ impl<B: NoteBook> Coroutine<B> {
             return Err(Memory);
         }
         Ok(())
+    }
+
+    /// Makes room to enter, if this line enters its block with an element.
+    pub(crate) fn room_for(&mut self, line: Instruction) -> Result<(), Memory>
+        ensures tag { self.new.tag ≡ self.old.tag }
+        ensures config { config_of self.new ≡ config_of self.old }
+        ensures items { B.items self.new.book ≡ B.items self.old.book }
+        ensures room { OnOk result (enters line ≡ true → vec_len self.new.entered < vec_capacity self.new.entered) }
+    {
+        match line {
+            Instruction::Each { .. } => self.room_to_enter(),
+            _ => Ok(()),
+        }
     }
 
     /// Enters this at its line, and goes on with the first line inside. Takes no memory.

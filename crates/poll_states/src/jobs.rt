@@ -4,9 +4,9 @@ ghost use Rattle.std.specs.Prelude.{◌≡◌, None, OnOk};
 ghost use Rattle.script_grammar.specs.declared.instructions.Instruction.TheVariants.{Yield, Launch};
 ghost use Rattle.script_reader.specs.Scripts.{program_of};
 ghost use Rattle.script_meaning.specs.declared.stage.Stage.TheVariants.{Unwinding, Ended};
-ghost use Rattle.script_meaning.specs.Configs.{IsAt, scope_in};
+ghost use Rattle.script_meaning.specs.Configs.{scope_in};
 ghost use Rattle.script_meaning.specs.Lines.{is_lazy};
-ghost use Rattle.poll_states.specs.Frames.{config_of, Stands, SameFloors, noted};
+ghost use Rattle.poll_states.specs.Frames.{config_of, SameFloors, noted, seen, IsStanding, IsAtLine};
 ghost use Rattle.poll_states.specs.Steps.{HasBody, OwnStateSeen, IsAtEnd, StepAnswer};
 
 use crate::coroutine::Coroutine;
@@ -52,11 +52,10 @@ pub(crate) fn look_up<B: NoteBook, C: ChannelFloor, J: JobFloor, W: Wakes, G: Ga
     floors: &mut Floors<'_, '_, '_, C, J, W>,
     gate: &G,
 ) -> Result<(), Memory>
-    requires stands { Stands (program_of script.now) (C.view floors.old.channels.now) (J.view floors.old.jobs.now)
-        (noted B.items frame.old) }
-    requires at { IsAt (program_of script.now) frame.old.tag (config_of frame.old) Yield }
-    ensures came { StepAnswer (program_of script.now) (C.view floors.old.channels.now) (C.view floors.new.channels.now)
-        (J.view floors.old.jobs.now) (J.view floors.new.jobs.now) (noted B.items frame.old) (noted B.items frame.new) result }
+    requires stands { IsStanding script.now (seen C.view J.view B.items floors.old frame.old) }
+    requires at { IsAtLine script.now frame.old Yield }
+    ensures came { StepAnswer script.now (seen C.view J.view B.items floors.old frame.old)
+        (seen C.view J.view B.items floors.new frame.new) result }
     ensures same { SameFloors C.anchor J.anchor floors.old floors.new }
 {
     if let Err(memory) = frame.book.room(1) {
@@ -100,11 +99,10 @@ pub(crate) fn launch<B: NoteBook, C: ChannelFloor, J: JobFloor, W: Wakes, G: Gat
     how: Launching,
     job: Option<u16>,
 ) -> Result<(), Memory>
-    requires stands { Stands (program_of script.now) (C.view floors.old.channels.now) (J.view floors.old.jobs.now)
-        (noted B.items frame.old) }
-    requires at { IsAt (program_of script.now) frame.old.tag (config_of frame.old) (Launch block how job) }
-    ensures came { StepAnswer (program_of script.now) (C.view floors.old.channels.now) (C.view floors.new.channels.now)
-        (J.view floors.old.jobs.now) (J.view floors.new.jobs.now) (noted B.items frame.old) (noted B.items frame.new) result }
+    requires stands { IsStanding script.now (seen C.view J.view B.items floors.old frame.old) }
+    requires at { IsAtLine script.now frame.old (Launch block how job) }
+    ensures came { StepAnswer script.now (seen C.view J.view B.items floors.old frame.old)
+        (seen C.view J.view B.items floors.new frame.new) result }
     ensures same { SameFloors C.anchor J.anchor floors.old floors.new }
 {
     if frame.rows.reserve(1).is_err() {
@@ -139,11 +137,10 @@ pub(crate) fn end_body<B: NoteBook, C: ChannelFloor, J: JobFloor, W: Wakes>(
     frame: &mut Coroutine<B>,
     floors: &mut Floors<'_, '_, '_, C, J, W>,
 ) -> Result<(), Memory>
-    requires stands { Stands (program_of script.now) (C.view floors.old.channels.now) (J.view floors.old.jobs.now)
-        (noted B.items frame.old) }
+    requires stands { IsStanding script.now (seen C.view J.view B.items floors.old frame.old) }
     requires left { IsAtEnd (program_of script.now) (noted B.items frame.old) }
-    ensures came { StepAnswer (program_of script.now) (C.view floors.old.channels.now) (C.view floors.new.channels.now)
-        (J.view floors.old.jobs.now) (J.view floors.new.jobs.now) (noted B.items frame.old) (noted B.items frame.new) result }
+    ensures came { StepAnswer script.now (seen C.view J.view B.items floors.old frame.old)
+        (seen C.view J.view B.items floors.new frame.new) result }
     ensures same { SameFloors C.anchor J.anchor floors.old floors.new }
 {
     let mut builder = builder!(script, frame, floors);
@@ -163,12 +160,11 @@ pub(crate) fn break_off<B: NoteBook, C: ChannelFloor, J: JobFloor, W: Wakes>(
     floors: &mut Floors<'_, '_, '_, C, J, W>,
     failure: Option<Row>,
 ) -> Result<(), Memory>
-    requires stands { Stands (program_of script.now) (C.view floors.old.channels.now) (J.view floors.old.jobs.now)
-        (noted B.items frame.old) }
+    requires stands { IsStanding script.now (seen C.view J.view B.items floors.old frame.old) }
     requires no_scope { scope_in (config_of frame.old).entered ≡ None }
     requires unwinds { frame.old.stage ≡ Unwinding failure }
-    ensures came { StepAnswer (program_of script.now) (C.view floors.old.channels.now) (C.view floors.new.channels.now)
-        (J.view floors.old.jobs.now) (J.view floors.new.jobs.now) (noted B.items frame.old) (noted B.items frame.new) result }
+    ensures came { StepAnswer script.now (seen C.view J.view B.items floors.old frame.old)
+        (seen C.view J.view B.items floors.new frame.new) result }
     ensures ended { OnOk result (frame.new.stage ≡ Ended) }
     ensures same { SameFloors C.anchor J.anchor floors.old floors.new }
 {

@@ -9,8 +9,8 @@
 //! | stage | what a poll does | next stage | function |
 //! |---|---|---|---|
 //! | `Fresh` | looks at the coroutine's own Job | may run: as `Running`, in this poll; Cancelling: `Unwinding` | `first_turn` |
-//! | `Running` | runs the line | `Running`, `Waiting`, `SeesJob`, `Leaving`, `SeesScope`, `Unwinding` | `line_turn`, `run_line` |
-//! | `Running`, no line left | ends the body | `Ended` | `line_turn`, `end_body` |
+//! | `Running` | runs the line | `Running`, `Waiting`, `SeesJob`, `Leaving`, `SeesScope`, `Unwinding` | `run`, `run_line` |
+//! | `Running`, no line left | ends the body | `Ended` | `run`, `end_body` |
 //! | `Waiting`, resolved | settles the wait, if the innermost Job may run | as its line says | `wait_turn`, `end_wait` |
 //! | `Waiting` | gives the wait up, if the innermost Job is Cancelling | `Unwinding` | `wait_turn`, `give_up` |
 //! | `SeesJob` | looks whether the awaited Job has ended | `Running`, `Unwinding` | `see_turn`, `see_job` |

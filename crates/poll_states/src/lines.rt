@@ -1,20 +1,18 @@
 //! The lines of a coroutine.
 
-ghost use Rattle.std.specs.Prelude.{◌≡◌, OnOk};
-ghost use Rattle.script_reader.specs.Scripts.{program_of};
+ghost use Rattle.std.specs.Prelude.{◌≡◌};
 ghost use Rattle.script_grammar.specs.declared.instructions.Instruction.TheVariants.{Fail, Select, SetResult};
 ghost use Rattle.script_meaning.specs.declared.stage.Stage.TheVariants.{Running};
-ghost use Rattle.script_meaning.specs.Configs.{IsAt};
-ghost use Rattle.poll_states.specs.Frames.{config_of, Stands, SameFloors, noted};
-ghost use Rattle.poll_states.specs.Steps.{MovesOn, StepAnswer};
+ghost use Rattle.poll_states.specs.Frames.{SameFloors, seen, IsStanding, IsAtLine};
+ghost use Rattle.poll_states.specs.Steps.{StepAnswer, MovesAnswer};
 
-use crate::calls::{ChannelCall, call};
+use crate::calls::call;
 use crate::code::code_of;
 use crate::coroutine::Coroutine;
 use crate::floors::Floors;
 use crate::jobs::{end_body, launch, look_up};
 use crate::loops::repeat;
-use crate::named::{NamedCall, call_named};
+use crate::named::call_named;
 use crate::scopes::{end_line, enter_scope};
 use crate::selects::select;
 use channel_model::ChannelFloor;
@@ -31,13 +29,12 @@ pub(crate) fn run<B: NoteBook, C: ChannelFloor, J: JobFloor, W: Wakes, G: Gate>(
     floors: &mut Floors<'_, '_, '_, C, J, W>,
     gate: &G,
 ) -> Result<(), Memory>
-    requires stands { Stands (program_of script.now) (C.view floors.old.channels.now) (J.view floors.old.jobs.now)
-        (noted B.items frame.old) }
+    requires stands { IsStanding script.now (seen C.view J.view B.items floors.old frame.old) }
     requires running { frame.old.stage ≡ Running }
-    ensures came { StepAnswer (program_of script.now) (C.view floors.old.channels.now) (C.view floors.new.channels.now)
-        (J.view floors.old.jobs.now) (J.view floors.new.jobs.now) (noted B.items frame.old) (noted B.items frame.new) result }
-    ensures moves { OnOk result (MovesOn (program_of script.now) (C.view floors.old.channels.now)
-        (noted B.items frame.old) (noted B.items frame.new)) }
+    ensures came { StepAnswer script.now (seen C.view J.view B.items floors.old frame.old)
+        (seen C.view J.view B.items floors.new frame.new) result }
+    ensures moves { MovesAnswer script.now (seen C.view J.view B.items floors.old frame.old)
+        (seen C.view J.view B.items floors.new frame.new) result }
     ensures same { SameFloors C.anchor J.anchor floors.old floors.new }
 {
     let code = code_of(script, frame.tag);
@@ -56,65 +53,35 @@ fn run_line<B: NoteBook, C: ChannelFloor, J: JobFloor, W: Wakes, G: Gate>(
     gate: &G,
     line: Instruction,
 ) -> Result<(), Memory>
-    requires stands { Stands (program_of script.now) (C.view floors.old.channels.now) (J.view floors.old.jobs.now)
-        (noted B.items frame.old) }
-    requires at { IsAt (program_of script.now) frame.old.tag (config_of frame.old) line }
-    ensures came { StepAnswer (program_of script.now) (C.view floors.old.channels.now) (C.view floors.new.channels.now)
-        (J.view floors.old.jobs.now) (J.view floors.new.jobs.now) (noted B.items frame.old) (noted B.items frame.new) result }
-    ensures moves { line ≡ Select → OnOk result (MovesOn (program_of script.now) (C.view floors.old.channels.now)
-        (noted B.items frame.old) (noted B.items frame.new)) }
+    requires stands { IsStanding script.now (seen C.view J.view B.items floors.old frame.old) }
+    requires at { IsAtLine script.now frame.old line }
+    ensures came { StepAnswer script.now (seen C.view J.view B.items floors.old frame.old)
+        (seen C.view J.view B.items floors.new frame.new) result }
+    ensures moves { line ≡ Select → MovesAnswer script.now (seen C.view J.view B.items floors.old frame.old)
+        (seen C.view J.view B.items floors.new frame.new) result }
     ensures same { SameFloors C.anchor J.anchor floors.old floors.new }
 {
     match line {
-        Instruction::Send { c, value } => {
-            call(script, frame, floors, gate, ChannelCall::Send(c, value))
-        }
-        Instruction::TrySend { c, value } => {
-            call(script, frame, floors, gate, ChannelCall::TrySend(c, value))
-        }
-        Instruction::Receive { c } => call(script, frame, floors, gate, ChannelCall::Receive(c)),
-        Instruction::TryReceive { c } => {
-            call(script, frame, floors, gate, ChannelCall::TryReceive(c))
-        }
-        Instruction::Each { c } => call(script, frame, floors, gate, ChannelCall::Each(c)),
-        Instruction::Close { c } => call(script, frame, floors, gate, ChannelCall::Close(c)),
-        Instruction::CancelChannel { c } => {
-            call(script, frame, floors, gate, ChannelCall::Cancel(c))
-        }
+        Instruction::Send { .. }
+        | Instruction::TrySend { .. }
+        | Instruction::Receive { .. }
+        | Instruction::TryReceive { .. }
+        | Instruction::Each { .. }
+        | Instruction::Close { .. }
+        | Instruction::CancelChannel { .. } => call(script, frame, floors, gate, line),
+        Instruction::Start { job }
+        | Instruction::Cancel { job }
+        | Instruction::Join { job }
+        | Instruction::Await { job } => call_named(script, frame, floors, gate, line, job),
         Instruction::Yield => look_up(script, frame, floors, gate),
         Instruction::Launch { block, how, job } => {
             launch(script, frame, floors, gate, block, how, job)
         }
-        Instruction::Start { job } => call_named(
-            script,
-            frame,
-            floors,
-            gate,
-            NamedCall::Start,
-            job,
-        ),
-        Instruction::Cancel { job } => call_named(
-            script,
-            frame,
-            floors,
-            gate,
-            NamedCall::Cancel,
-            job,
-        ),
         Instruction::Fail { code } => fail(script, frame, floors, code),
         Instruction::SetResult { value } => set_result(script, frame, floors, value),
         Instruction::Repeat { turns } => repeat(script, frame, floors, turns),
         Instruction::Select => select(script, frame, floors, gate),
         Instruction::Scope { supervisor } => enter_scope(script, frame, floors, gate, supervisor),
-        Instruction::Join { job } => call_named(script, frame, floors, gate, NamedCall::Join, job),
-        Instruction::Await { job } => call_named(
-            script,
-            frame,
-            floors,
-            gate,
-            NamedCall::Await,
-            job,
-        ),
         Instruction::End => end_line(script, frame, floors, gate),
         // the coroutine runs past the clauses of a select
         Instruction::OnSend { .. } => unreachable!(),
@@ -129,11 +96,10 @@ fn fail<B: NoteBook, C: ChannelFloor, J: JobFloor, W: Wakes>(
     floors: &mut Floors<'_, '_, '_, C, J, W>,
     code: Value,
 ) -> Result<(), Memory>
-    requires stands { Stands (program_of script.now) (C.view floors.old.channels.now) (J.view floors.old.jobs.now)
-        (noted B.items frame.old) }
-    requires at { IsAt (program_of script.now) frame.old.tag (config_of frame.old) (Fail code) }
-    ensures came { StepAnswer (program_of script.now) (C.view floors.old.channels.now) (C.view floors.new.channels.now)
-        (J.view floors.old.jobs.now) (J.view floors.new.jobs.now) (noted B.items frame.old) (noted B.items frame.new) result }
+    requires stands { IsStanding script.now (seen C.view J.view B.items floors.old frame.old) }
+    requires at { IsAtLine script.now frame.old (Fail code) }
+    ensures came { StepAnswer script.now (seen C.view J.view B.items floors.old frame.old)
+        (seen C.view J.view B.items floors.new frame.new) result }
     ensures same { SameFloors C.anchor J.anchor floors.old floors.new }
 {
     if let Err(memory) = frame.book.room(1) {
@@ -151,11 +117,10 @@ fn set_result<B: NoteBook, C: ChannelFloor, J: JobFloor, W: Wakes>(
     floors: &mut Floors<'_, '_, '_, C, J, W>,
     value: Operand,
 ) -> Result<(), Memory>
-    requires stands { Stands (program_of script.now) (C.view floors.old.channels.now) (J.view floors.old.jobs.now)
-        (noted B.items frame.old) }
-    requires at { IsAt (program_of script.now) frame.old.tag (config_of frame.old) (SetResult value) }
-    ensures came { StepAnswer (program_of script.now) (C.view floors.old.channels.now) (C.view floors.new.channels.now)
-        (J.view floors.old.jobs.now) (J.view floors.new.jobs.now) (noted B.items frame.old) (noted B.items frame.new) result }
+    requires stands { IsStanding script.now (seen C.view J.view B.items floors.old frame.old) }
+    requires at { IsAtLine script.now frame.old (SetResult value) }
+    ensures came { StepAnswer script.now (seen C.view J.view B.items floors.old frame.old)
+        (seen C.view J.view B.items floors.new frame.new) result }
     ensures same { SameFloors C.anchor J.anchor floors.old floors.new }
 {
     frame.result = frame.value_of(value);

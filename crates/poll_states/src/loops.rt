@@ -1,10 +1,7 @@
 //! The lines of repeats, and the ends of what a coroutine entered.
 
-ghost use Rattle.std.specs.Prelude.{◌≡◌};
 ghost use Rattle.script_grammar.specs.declared.instructions.Instruction.TheVariants.{Repeat, End};
-ghost use Rattle.script_reader.specs.Scripts.{program_of};
-ghost use Rattle.script_meaning.specs.Configs.{IsAt};
-ghost use Rattle.poll_states.specs.Frames.{config_of, Stands, SameFloors, noted};
+ghost use Rattle.poll_states.specs.Frames.{config_of, SameFloors, seen, IsStanding, IsAtLine};
 ghost use Rattle.poll_states.specs.Steps.{StepAnswer};
 ghost use Rattle.poll_states.specs.SeenEnds.{EndsNoScope};
 
@@ -24,11 +21,10 @@ pub(crate) fn repeat<B: NoteBook, C: ChannelFloor, J: JobFloor, W: Wakes>(
     floors: &mut Floors<'_, '_, '_, C, J, W>,
     turns: u32,
 ) -> Result<(), Memory>
-    requires stands { Stands (program_of script.now) (C.view floors.old.channels.now) (J.view floors.old.jobs.now)
-        (noted B.items frame.old) }
-    requires at { IsAt (program_of script.now) frame.old.tag (config_of frame.old) (Repeat turns) }
-    ensures came { StepAnswer (program_of script.now) (C.view floors.old.channels.now) (C.view floors.new.channels.now)
-        (J.view floors.old.jobs.now) (J.view floors.new.jobs.now) (noted B.items frame.old) (noted B.items frame.new) result }
+    requires stands { IsStanding script.now (seen C.view J.view B.items floors.old frame.old) }
+    requires at { IsAtLine script.now frame.old (Repeat turns) }
+    ensures came { StepAnswer script.now (seen C.view J.view B.items floors.old frame.old)
+        (seen C.view J.view B.items floors.new frame.new) result }
     ensures same { SameFloors C.anchor J.anchor floors.old floors.new }
 {
     if let Err(memory) = frame.room_to_enter() {
@@ -47,12 +43,11 @@ pub(crate) fn end_turn<B: NoteBook, C: ChannelFloor, J: JobFloor, W: Wakes>(
     frame: &mut Coroutine<B>,
     floors: &mut Floors<'_, '_, '_, C, J, W>,
 ) -> Result<(), Memory>
-    requires stands { Stands (program_of script.now) (C.view floors.old.channels.now) (J.view floors.old.jobs.now)
-        (noted B.items frame.old) }
-    requires at { IsAt (program_of script.now) frame.old.tag (config_of frame.old) End }
+    requires stands { IsStanding script.now (seen C.view J.view B.items floors.old frame.old) }
+    requires at { IsAtLine script.now frame.old End }
     requires turn { EndsNoScope (config_of frame.old) }
-    ensures came { StepAnswer (program_of script.now) (C.view floors.old.channels.now) (C.view floors.new.channels.now)
-        (J.view floors.old.jobs.now) (J.view floors.new.jobs.now) (noted B.items frame.old) (noted B.items frame.new) result }
+    ensures came { StepAnswer script.now (seen C.view J.view B.items floors.old frame.old)
+        (seen C.view J.view B.items floors.new frame.new) result }
     ensures same { SameFloors C.anchor J.anchor floors.old floors.new }
 {
     match frame.top() {

@@ -1,11 +1,10 @@
 //! One line of one coroutine.
 
-ghost use Rattle.std.specs.Prelude.{◌≡◌, true, OnOk};
-ghost use Rattle.script_reader.specs.Scripts.{program_of};
-ghost use Rattle.script_meaning.specs.declared.stage.Stage.TheVariants.{Fresh, Running, Waiting, Unwinding, Leaving};
+ghost use Rattle.std.specs.Prelude.{◌≡◌, true};
+ghost use Rattle.script_meaning.specs.declared.stage.Stage.TheVariants.{Fresh, Waiting, Unwinding, Leaving};
 ghost use Rattle.script_meaning.specs.Polls.{is_seeing};
-ghost use Rattle.poll_states.specs.Frames.{Stands, SameFloors, IsUnmoved, noted};
-ghost use Rattle.poll_states.specs.Steps.{AnsweredAfter, MovesOn, PollAnswer, StepAnswer};
+ghost use Rattle.poll_states.specs.Frames.{SameFloors, noted, seen_by_frame, seen, IsStanding, QuietAnswer};
+ghost use Rattle.poll_states.specs.Steps.{AnsweredAfter, PollAnswer, StepAnswer, MovesAnswer};
 ghost use Rattle.poll_states.specs.SeenEnds.{WentOnAnswer};
 
 use crate::book::Book;
@@ -36,11 +35,12 @@ pub fn poll<B: Book, C: ChannelFloor, J: JobFloor, W: Wakes, G: Gate>(
     floors: &mut Floors<'_, '_, '_, C, J, W>,
     gate: &G,
 ) -> Result<Turn, Memory>
-    requires { Stands (program_of script.now) (C.view floors.old.channels.now) (J.view floors.old.jobs.now) frame.old }
-    ensures polled { PollAnswer (program_of script.now) (C.view floors.old.channels.now) (C.view floors.new.channels.now)
-        (J.view floors.old.jobs.now) (J.view floors.new.jobs.now) frame.old frame.new result }
-    ensures moves { OnOk result (MovesOn (program_of script.now) (C.view floors.old.channels.now) frame.old frame.new) }
-    ensures quiet { OnOk result (IsUnmoved frame.old frame.new → floors.new.wakes.now ≡ floors.old.wakes.now) }
+    requires { IsStanding script.now (seen_by_frame C.view J.view floors.old frame.old) }
+    ensures polled { PollAnswer script.now (seen_by_frame C.view J.view floors.old frame.old)
+        (seen_by_frame C.view J.view floors.new frame.new) result }
+    ensures moves { MovesAnswer script.now (seen_by_frame C.view J.view floors.old frame.old)
+        (seen_by_frame C.view J.view floors.new frame.new) result }
+    ensures quiet { QuietAnswer frame.old frame.new floors.old floors.new result }
     ensures same { SameFloors C.anchor J.anchor floors.old floors.new }
 {
     gated_turn(script, &mut frame.coroutine, floors, gate)
@@ -53,13 +53,12 @@ fn gated_turn<B: NoteBook, C: ChannelFloor, J: JobFloor, W: Wakes, G: Gate>(
     floors: &mut Floors<'_, '_, '_, C, J, W>,
     gate: &G,
 ) -> Result<Turn, Memory>
-    requires { Stands (program_of script.now) (C.view floors.old.channels.now) (J.view floors.old.jobs.now) (noted B.items frame.old) }
-    ensures polled { PollAnswer (program_of script.now) (C.view floors.old.channels.now) (C.view floors.new.channels.now)
-        (J.view floors.old.jobs.now) (J.view floors.new.jobs.now) (noted B.items frame.old) (noted B.items frame.new) result }
-    ensures moves { OnOk result (MovesOn (program_of script.now) (C.view floors.old.channels.now)
-        (noted B.items frame.old) (noted B.items frame.new)) }
-    ensures quiet { OnOk result (IsUnmoved (noted B.items frame.old) (noted B.items frame.new) →
-        floors.new.wakes.now ≡ floors.old.wakes.now) }
+    requires { IsStanding script.now (seen C.view J.view B.items floors.old frame.old) }
+    ensures polled { PollAnswer script.now (seen C.view J.view B.items floors.old frame.old)
+        (seen C.view J.view B.items floors.new frame.new) result }
+    ensures moves { MovesAnswer script.now (seen C.view J.view B.items floors.old frame.old)
+        (seen C.view J.view B.items floors.new frame.new) result }
+    ensures quiet { QuietAnswer (noted B.items frame.old) (noted B.items frame.new) floors.old floors.new result }
     ensures same { SameFloors C.anchor J.anchor floors.old floors.new }
 {
     gate.pass(frame.tag, 1);
@@ -79,18 +78,20 @@ fn turn_of<B: NoteBook, C: ChannelFloor, J: JobFloor, W: Wakes, G: Gate>(
     floors: &mut Floors<'_, '_, '_, C, J, W>,
     gate: &G,
 ) -> Result<Turn, Memory>
-    requires { Stands (program_of script.now) (C.view floors.old.channels.now) (J.view floors.old.jobs.now) (noted B.items frame.old) }
-    ensures polled { PollAnswer (program_of script.now) (C.view floors.old.channels.now) (C.view floors.new.channels.now)
-        (J.view floors.old.jobs.now) (J.view floors.new.jobs.now) (noted B.items frame.old) (noted B.items frame.new) result }
-    ensures moves { OnOk result (MovesOn (program_of script.now) (C.view floors.old.channels.now)
-        (noted B.items frame.old) (noted B.items frame.new)) }
-    ensures quiet { OnOk result (IsUnmoved
-        (noted B.items frame.old) (noted B.items frame.new) → floors.new.wakes.now ≡ floors.old.wakes.now) }
+    requires { IsStanding script.now (seen C.view J.view B.items floors.old frame.old) }
+    ensures polled { PollAnswer script.now (seen C.view J.view B.items floors.old frame.old)
+        (seen C.view J.view B.items floors.new frame.new) result }
+    ensures moves { MovesAnswer script.now (seen C.view J.view B.items floors.old frame.old)
+        (seen C.view J.view B.items floors.new frame.new) result }
+    ensures quiet { QuietAnswer (noted B.items frame.old) (noted B.items frame.new) floors.old floors.new result }
     ensures same { SameFloors C.anchor J.anchor floors.old floors.new }
 {
     match frame.stage {
         Stage::Fresh => first_turn(script, frame, floors, gate),
-        Stage::Running => line_turn(script, frame, floors, gate),
+        Stage::Running => match run(script, frame, floors, gate) {
+            Ok(()) => go_on(script, frame, floors),
+            Err(memory) => Err(memory),
+        },
         Stage::Waiting(w) => wait_turn(script, frame, floors, gate, w),
         Stage::Unwinding(failure) => last_turn(script, frame, floors, failure),
         Stage::Leaving(w) => leave_turn(script, frame, floors, gate, w),
@@ -106,13 +107,11 @@ fn first_turn<B: NoteBook, C: ChannelFloor, J: JobFloor, W: Wakes, G: Gate>(
     floors: &mut Floors<'_, '_, '_, C, J, W>,
     gate: &G,
 ) -> Result<Turn, Memory>
-    requires stands { Stands (program_of script.now) (C.view floors.old.channels.now) (J.view floors.old.jobs.now)
-        (noted B.items frame.old) }
+    requires stands { IsStanding script.now (seen C.view J.view B.items floors.old frame.old) }
     requires fresh { frame.old.stage ≡ Fresh }
-    ensures polled { PollAnswer (program_of script.now) (C.view floors.old.channels.now) (C.view floors.new.channels.now)
-        (J.view floors.old.jobs.now) (J.view floors.new.jobs.now) (noted B.items frame.old) (noted B.items frame.new) result }
-    ensures quiet { OnOk result (IsUnmoved
-        (noted B.items frame.old) (noted B.items frame.new) → floors.new.wakes.now ≡ floors.old.wakes.now) }
+    ensures polled { PollAnswer script.now (seen C.view J.view B.items floors.old frame.old)
+        (seen C.view J.view B.items floors.new frame.new) result }
+    ensures quiet { QuietAnswer (noted B.items frame.old) (noted B.items frame.new) floors.old floors.new result }
     ensures same { SameFloors C.anchor J.anchor floors.old floors.new }
 {
     if let Err(memory) = frame.book.room(1) {
@@ -134,37 +133,13 @@ fn first_turn<B: NoteBook, C: ChannelFloor, J: JobFloor, W: Wakes, G: Gate>(
     }
 }
 
-/// Runs a line, or ends the body.
-fn line_turn<B: NoteBook, C: ChannelFloor, J: JobFloor, W: Wakes, G: Gate>(
-    script: &Script,
-    frame: &mut Coroutine<B>,
-    floors: &mut Floors<'_, '_, '_, C, J, W>,
-    gate: &G,
-) -> Result<Turn, Memory>
-    requires stands { Stands (program_of script.now) (C.view floors.old.channels.now) (J.view floors.old.jobs.now)
-        (noted B.items frame.old) }
-    requires running { frame.old.stage ≡ Running }
-    ensures polled { PollAnswer (program_of script.now) (C.view floors.old.channels.now) (C.view floors.new.channels.now)
-        (J.view floors.old.jobs.now) (J.view floors.new.jobs.now) (noted B.items frame.old) (noted B.items frame.new) result }
-    ensures moves { OnOk result (MovesOn (program_of script.now) (C.view floors.old.channels.now)
-        (noted B.items frame.old) (noted B.items frame.new)) }
-    ensures quiet { OnOk result (IsUnmoved
-        (noted B.items frame.old) (noted B.items frame.new) → floors.new.wakes.now ≡ floors.old.wakes.now) }
-    ensures same { SameFloors C.anchor J.anchor floors.old floors.new }
-{
-    match run(script, frame, floors, gate) {
-        Ok(()) => go_on(script, frame, floors),
-        Err(memory) => Err(memory),
-    }
-}
-
 /// What a poll answers after a line. A coroutine that now waits, and whose innermost Job is Cancelling, is to be polled again.
 fn answer<B: NoteBook, C: ChannelFloor, J: JobFloor, W: Wakes>(
     script: &Script,
     frame: &Coroutine<B>,
     floors: &mut Floors<'_, '_, '_, C, J, W>,
 ) -> Turn
-    requires { Stands (program_of script.now) (C.view floors.old.channels.now) (J.view floors.old.jobs.now) (noted B.items frame.now) }
+    requires { IsStanding script.now (seen C.view J.view B.items floors.old frame.now) }
     ensures answered { AnsweredAfter (noted B.items frame.now) (J.view floors.old.jobs.now) (J.view floors.new.jobs.now) result }
     ensures channels { floors.new.channels.now ≡ floors.old.channels.now }
     ensures wakes { floors.new.wakes.now ≡ floors.old.wakes.now }
@@ -189,9 +164,9 @@ fn go_on<B: NoteBook, C: ChannelFloor, J: JobFloor, W: Wakes>(
     frame: &mut Coroutine<B>,
     floors: &mut Floors<'_, '_, '_, C, J, W>,
 ) -> Result<Turn, Memory>
-    requires { Stands (program_of script.now) (C.view floors.old.channels.now) (J.view floors.old.jobs.now) (noted B.items frame.old) }
-    ensures went { WentOnAnswer (program_of script.now) (C.view floors.old.channels.now) (C.view floors.new.channels.now)
-        (J.view floors.old.jobs.now) (J.view floors.new.jobs.now) (noted B.items frame.old) (noted B.items frame.new) result }
+    requires { IsStanding script.now (seen C.view J.view B.items floors.old frame.old) }
+    ensures went { WentOnAnswer script.now (seen C.view J.view B.items floors.old frame.old)
+        (seen C.view J.view B.items floors.new frame.new) result }
     ensures same { SameFloors C.anchor J.anchor floors.old floors.new }
 {
     match frame.stage {
@@ -211,13 +186,11 @@ fn wait_turn<B: NoteBook, C: ChannelFloor, J: JobFloor, W: Wakes, G: Gate>(
     gate: &G,
     w: WaitId,
 ) -> Result<Turn, Memory>
-    requires stands { Stands (program_of script.now) (C.view floors.old.channels.now) (J.view floors.old.jobs.now)
-        (noted B.items frame.old) }
+    requires stands { IsStanding script.now (seen C.view J.view B.items floors.old frame.old) }
     requires waits { frame.old.stage ≡ Waiting w }
-    ensures polled { PollAnswer (program_of script.now) (C.view floors.old.channels.now) (C.view floors.new.channels.now)
-        (J.view floors.old.jobs.now) (J.view floors.new.jobs.now) (noted B.items frame.old) (noted B.items frame.new) result }
-    ensures quiet { OnOk result (IsUnmoved
-        (noted B.items frame.old) (noted B.items frame.new) → floors.new.wakes.now ≡ floors.old.wakes.now) }
+    ensures polled { PollAnswer script.now (seen C.view J.view B.items floors.old frame.old)
+        (seen C.view J.view B.items floors.new frame.new) result }
+    ensures quiet { QuietAnswer (noted B.items frame.old) (noted B.items frame.new) floors.old floors.new result }
     ensures same { SameFloors C.anchor J.anchor floors.old floors.new }
 {
     if let Err(memory) = frame.book.room(1) {
@@ -251,13 +224,11 @@ fn last_turn<B: NoteBook, C: ChannelFloor, J: JobFloor, W: Wakes>(
     floors: &mut Floors<'_, '_, '_, C, J, W>,
     failure: Option<Row>,
 ) -> Result<Turn, Memory>
-    requires stands { Stands (program_of script.now) (C.view floors.old.channels.now) (J.view floors.old.jobs.now)
-        (noted B.items frame.old) }
+    requires stands { IsStanding script.now (seen C.view J.view B.items floors.old frame.old) }
     requires unwinds { frame.old.stage ≡ Unwinding failure }
-    ensures polled { PollAnswer (program_of script.now) (C.view floors.old.channels.now) (C.view floors.new.channels.now)
-        (J.view floors.old.jobs.now) (J.view floors.new.jobs.now) (noted B.items frame.old) (noted B.items frame.new) result }
-    ensures quiet { OnOk result (IsUnmoved
-        (noted B.items frame.old) (noted B.items frame.new) → floors.new.wakes.now ≡ floors.old.wakes.now) }
+    ensures polled { PollAnswer script.now (seen C.view J.view B.items floors.old frame.old)
+        (seen C.view J.view B.items floors.new frame.new) result }
+    ensures quiet { QuietAnswer (noted B.items frame.old) (noted B.items frame.new) floors.old floors.new result }
     ensures same { SameFloors C.anchor J.anchor floors.old floors.new }
 {
     match unwind(script, frame, floors, failure) {
@@ -273,11 +244,10 @@ fn unwind<B: NoteBook, C: ChannelFloor, J: JobFloor, W: Wakes>(
     floors: &mut Floors<'_, '_, '_, C, J, W>,
     failure: Option<Row>,
 ) -> Result<(), Memory>
-    requires stands { Stands (program_of script.now) (C.view floors.old.channels.now) (J.view floors.old.jobs.now)
-        (noted B.items frame.old) }
+    requires stands { IsStanding script.now (seen C.view J.view B.items floors.old frame.old) }
     requires unwinds { frame.old.stage ≡ Unwinding failure }
-    ensures came { StepAnswer (program_of script.now) (C.view floors.old.channels.now) (C.view floors.new.channels.now)
-        (J.view floors.old.jobs.now) (J.view floors.new.jobs.now) (noted B.items frame.old) (noted B.items frame.new) result }
+    ensures came { StepAnswer script.now (seen C.view J.view B.items floors.old frame.old)
+        (seen C.view J.view B.items floors.new frame.new) result }
     ensures same { SameFloors C.anchor J.anchor floors.old floors.new }
 {
     match frame.scope() {
@@ -294,13 +264,11 @@ fn leave_turn<B: NoteBook, C: ChannelFloor, J: JobFloor, W: Wakes, G: Gate>(
     gate: &G,
     w: WaitId,
 ) -> Result<Turn, Memory>
-    requires stands { Stands (program_of script.now) (C.view floors.old.channels.now) (J.view floors.old.jobs.now)
-        (noted B.items frame.old) }
+    requires stands { IsStanding script.now (seen C.view J.view B.items floors.old frame.old) }
     requires leaves { frame.old.stage ≡ Leaving w }
-    ensures polled { PollAnswer (program_of script.now) (C.view floors.old.channels.now) (C.view floors.new.channels.now)
-        (J.view floors.old.jobs.now) (J.view floors.new.jobs.now) (noted B.items frame.old) (noted B.items frame.new) result }
-    ensures quiet { OnOk result (IsUnmoved
-        (noted B.items frame.old) (noted B.items frame.new) → floors.new.wakes.now ≡ floors.old.wakes.now) }
+    ensures polled { PollAnswer script.now (seen C.view J.view B.items floors.old frame.old)
+        (seen C.view J.view B.items floors.new frame.new) result }
+    ensures quiet { QuietAnswer (noted B.items frame.old) (noted B.items frame.new) floors.old floors.new result }
     ensures same { SameFloors C.anchor J.anchor floors.old floors.new }
 {
     if was_resolved(frame.tag, w, &mut *floors.channels, gate) {
@@ -319,13 +287,11 @@ fn see_turn<B: NoteBook, C: ChannelFloor, J: JobFloor, W: Wakes>(
     frame: &mut Coroutine<B>,
     floors: &mut Floors<'_, '_, '_, C, J, W>,
 ) -> Result<Turn, Memory>
-    requires stands { Stands (program_of script.now) (C.view floors.old.channels.now) (J.view floors.old.jobs.now)
-        (noted B.items frame.old) }
+    requires stands { IsStanding script.now (seen C.view J.view B.items floors.old frame.old) }
     requires seeing { is_seeing frame.old.stage ≡ true }
-    ensures polled { PollAnswer (program_of script.now) (C.view floors.old.channels.now) (C.view floors.new.channels.now)
-        (J.view floors.old.jobs.now) (J.view floors.new.jobs.now) (noted B.items frame.old) (noted B.items frame.new) result }
-    ensures quiet { OnOk result (IsUnmoved
-        (noted B.items frame.old) (noted B.items frame.new) → floors.new.wakes.now ≡ floors.old.wakes.now) }
+    ensures polled { PollAnswer script.now (seen C.view J.view B.items floors.old frame.old)
+        (seen C.view J.view B.items floors.new frame.new) result }
+    ensures quiet { QuietAnswer (noted B.items frame.old) (noted B.items frame.new) floors.old floors.new result }
     ensures same { SameFloors C.anchor J.anchor floors.old floors.new }
 {
     match see_end(script, frame, floors) {

@@ -1,19 +1,27 @@
 //! The lines of scopes: how one is entered, how its body ends or breaks off, and how its end is waited for and seen.
 
-ghost use Rattle.std.specs.Prelude.{◌≡◌, ◌<◌, true, slice_get, is_some, Some};
+ghost use Rattle.std.specs.Prelude.{◌≡◌, ◌<◌, Some};
 ghost use Rattle.channel_model.specs.Floors.{MayCall};
 ghost use Rattle.channel_model.specs.Answers.{IsReady};
 ghost use Rattle.job_model.specs.Needs.{Holds, OwnsBody, MayEndBody};
 ghost use Rattle.job_model.specs.Histories.{replay};
 ghost use Rattle.call_meaning.specs.JobCalls.{reason_for, EndsBody};
-ghost use Rattle.scope_builders.specs.Calls.{SameBuilder, MayBuild, BeginsToBreakOff, DoneAnswer};
+ghost use Rattle.scope_builders.specs.Calls.{SameBuilder, seen as seen_by_builder, MayBuild, BeginsToBreakOff, DoneAnswer};
 ghost use Rattle.script_grammar.specs.declared.instructions.Instruction.TheVariants.{Scope, End as EndLine};
-ghost use Rattle.script_grammar.specs.Tags.{code_of, coroutine_count};
 ghost use Rattle.script_reader.specs.Scripts.{program_of};
-ghost use Rattle.script_reader.specs.Lines.{does_open};
 ghost use Rattle.script_meaning.specs.declared.stage.Stage.TheVariants.{Unwinding, SeesScope};
-ghost use Rattle.script_meaning.specs.Configs.{IsAt};
-ghost use Rattle.poll_states.specs.Frames.{config_of, Stands, SameFloors, SameLoans, noted};
+ghost use Rattle.poll_states.specs.Frames.{
+  config_of,
+  SameFloors,
+  SameLoans,
+  noted,
+  seen,
+  seen_on_channels,
+  IsStanding,
+  IsAtLine,
+  IsInRun,
+  Opens,
+};
 ghost use Rattle.poll_states.specs.Steps.{StepAnswer};
 ghost use Rattle.poll_states.specs.SeenEnds.{
   IsInScope,
@@ -60,8 +68,8 @@ impl<B: NoteBook> Coroutine<B> {
 
     /// Leaves its innermost scope, which begins at this line and ended so, and goes on after it or unwinds.
     fn leave_ended(&mut self, script: &Script, head: usize, end: End)
-        requires tag { self.old.tag < coroutine_count (program_of script.now) }
-        requires opens { does_open (slice_get (code_of (program_of script.now) self.old.tag) head) ≡ true }
+        requires tag { IsInRun script.now self.old.tag }
+        requires opens { Opens script.now self.old.tag head }
         ensures tag { self.new.tag ≡ self.old.tag }
         ensures config { LeavesEnded (program_of script.now) self.old.tag head end (config_of self.old) (config_of self.new) }
         ensures items { B.items self.new.book ≡ B.items self.old.book }
@@ -85,11 +93,10 @@ pub(crate) fn enter_scope<B: NoteBook, C: ChannelFloor, J: JobFloor, W: Wakes, G
     gate: &G,
     supervisor: bool,
 ) -> Result<(), Memory>
-    requires stands { Stands (program_of script.now) (C.view floors.old.channels.now) (J.view floors.old.jobs.now)
-        (noted B.items frame.old) }
-    requires at { IsAt (program_of script.now) frame.old.tag (config_of frame.old) (Scope supervisor) }
-    ensures came { StepAnswer (program_of script.now) (C.view floors.old.channels.now) (C.view floors.new.channels.now)
-        (J.view floors.old.jobs.now) (J.view floors.new.jobs.now) (noted B.items frame.old) (noted B.items frame.new) result }
+    requires stands { IsStanding script.now (seen C.view J.view B.items floors.old frame.old) }
+    requires at { IsAtLine script.now frame.old (Scope supervisor) }
+    ensures came { StepAnswer script.now (seen C.view J.view B.items floors.old frame.old)
+        (seen C.view J.view B.items floors.new frame.new) result }
     ensures same { SameFloors C.anchor J.anchor floors.old floors.new }
 {
     if let Err(memory) = frame.room_to_enter() {
@@ -125,13 +132,12 @@ fn end_and_receive<B: NoteBook, C: ChannelFloor, J: JobFloor, W: Wakes>(
     builder: &mut Builder<'_, '_, '_, '_, C, J, B, W>,
     row: Row,
 ) -> Result<Joined, Memory>
-    requires may { MayBuild builder.old.who builder.old.base (C.view builder.old.channels.now) (J.view builder.old.jobs.now) }
+    requires may { MayBuild builder.old.base (seen_by_builder C.view J.view B.items builder.old) }
     requires own { MayEndBody builder.old.who (replay (J.view builder.old.jobs.now).seen row) }
     ensures same { SameBuilder C.anchor J.anchor builder.old builder.new }
-    ensures answer { DoneAnswer builder.old.who builder.old.base
+    ensures answer { DoneAnswer builder.old.base
         (EndsAndReceives builder.old.base row) (EndsBody builder.old.base row 0)
-        (C.view builder.old.channels.now) (C.view builder.new.channels.now) (J.view builder.old.jobs.now) (J.view builder.new.jobs.now)
-        (B.items builder.old.book.now) (B.items builder.new.book.now) result }
+        (seen_by_builder C.view J.view B.items builder.old) (seen_by_builder C.view J.view B.items builder.new) result }
 {
     match builder.end_job(row, 0) {
         Ok(_) => builder.receive_done(row),
@@ -145,16 +151,15 @@ fn break_and_receive<B: NoteBook, C: ChannelFloor, J: JobFloor, W: Wakes>(
     row: Row,
     failure: Option<Row>,
 ) -> Result<Joined, Memory>
-    requires may { MayBuild builder.old.who builder.old.base (C.view builder.old.channels.now) (J.view builder.old.jobs.now) }
+    requires may { MayBuild builder.old.base (seen_by_builder C.view J.view B.items builder.old) }
     requires own { OwnsBody builder.old.who (replay (J.view builder.old.jobs.now).seen row) }
     requires reason { Holds (J.view builder.old.jobs.now).shape (replay (J.view builder.old.jobs.now).seen) builder.old.who row
         (reason_for failure) }
     ensures same { SameBuilder C.anchor J.anchor builder.old builder.new }
-    ensures answer { DoneAnswer builder.old.who builder.old.base
+    ensures answer { DoneAnswer builder.old.base
         (BreaksAndReceives builder.old.base builder.old.who row failure)
         (BeginsToBreakOff builder.old.base builder.old.who row failure (replay (J.view builder.new.jobs.now).seen))
-        (C.view builder.old.channels.now) (C.view builder.new.channels.now) (J.view builder.old.jobs.now) (J.view builder.new.jobs.now)
-        (B.items builder.old.book.now) (B.items builder.new.book.now) result }
+        (seen_by_builder C.view J.view B.items builder.old) (seen_by_builder C.view J.view B.items builder.new) result }
 {
     match builder.break_job(row, failure) {
         Ok(_) => builder.receive_done(row),
@@ -170,12 +175,11 @@ pub(crate) fn end_scope<B: NoteBook, C: ChannelFloor, J: JobFloor, W: Wakes, G: 
     gate: &G,
     scope: OpenScope,
 ) -> Result<(), Memory>
-    requires stands { Stands (program_of script.now) (C.view floors.old.channels.now) (J.view floors.old.jobs.now)
-        (noted B.items frame.old) }
-    requires at { IsAt (program_of script.now) frame.old.tag (config_of frame.old) EndLine }
+    requires stands { IsStanding script.now (seen C.view J.view B.items floors.old frame.old) }
+    requires at { IsAtLine script.now frame.old EndLine }
     requires last { IsScopeTop (config_of frame.old) scope }
-    ensures came { StepAnswer (program_of script.now) (C.view floors.old.channels.now) (C.view floors.new.channels.now)
-        (J.view floors.old.jobs.now) (J.view floors.new.jobs.now) (noted B.items frame.old) (noted B.items frame.new) result }
+    ensures came { StepAnswer script.now (seen C.view J.view B.items floors.old frame.old)
+        (seen C.view J.view B.items floors.new frame.new) result }
     ensures same { SameFloors C.anchor J.anchor floors.old floors.new }
 {
     let mut builder = builder!(script, frame, floors);
@@ -198,11 +202,10 @@ pub(crate) fn end_line<B: NoteBook, C: ChannelFloor, J: JobFloor, W: Wakes, G: G
     floors: &mut Floors<'_, '_, '_, C, J, W>,
     gate: &G,
 ) -> Result<(), Memory>
-    requires stands { Stands (program_of script.now) (C.view floors.old.channels.now) (J.view floors.old.jobs.now)
-        (noted B.items frame.old) }
-    requires at { IsAt (program_of script.now) frame.old.tag (config_of frame.old) EndLine }
-    ensures came { StepAnswer (program_of script.now) (C.view floors.old.channels.now) (C.view floors.new.channels.now)
-        (J.view floors.old.jobs.now) (J.view floors.new.jobs.now) (noted B.items frame.old) (noted B.items frame.new) result }
+    requires stands { IsStanding script.now (seen C.view J.view B.items floors.old frame.old) }
+    requires at { IsAtLine script.now frame.old EndLine }
+    ensures came { StepAnswer script.now (seen C.view J.view B.items floors.old frame.old)
+        (seen C.view J.view B.items floors.new frame.new) result }
     ensures same { SameFloors C.anchor J.anchor floors.old floors.new }
 {
     match frame.top() {
@@ -223,12 +226,11 @@ pub(crate) fn break_scope<B: NoteBook, C: ChannelFloor, J: JobFloor, W: Wakes>(
     scope: OpenScope,
     failure: Option<Row>,
 ) -> Result<(), Memory>
-    requires stands { Stands (program_of script.now) (C.view floors.old.channels.now) (J.view floors.old.jobs.now)
-        (noted B.items frame.old) }
+    requires stands { IsStanding script.now (seen C.view J.view B.items floors.old frame.old) }
     requires unwinds { frame.old.stage ≡ Unwinding failure }
     requires inside { IsInScope (config_of frame.old) scope }
-    ensures came { StepAnswer (program_of script.now) (C.view floors.old.channels.now) (C.view floors.new.channels.now)
-        (J.view floors.old.jobs.now) (J.view floors.new.jobs.now) (noted B.items frame.old) (noted B.items frame.new) result }
+    ensures came { StepAnswer script.now (seen C.view J.view B.items floors.old frame.old)
+        (seen C.view J.view B.items floors.new frame.new) result }
     ensures same { SameFloors C.anchor J.anchor floors.old floors.new }
 {
     let mut builder = builder!(script, frame, floors);
@@ -251,8 +253,8 @@ pub(crate) fn end_scope_wait<B: NoteBook, C: ChannelFloor, J, W: Wakes, G: Gate>
     requires can { MayCall frame.old.tag w.channel (C.view floors.old.channels.now) }
     requires ready { IsReady frame.old.tag w (C.view floors.old.channels.now) }
     ensures tag { frame.new.tag ≡ frame.old.tag }
-    ensures answer { ScopeWaitAnswer w (C.view floors.old.channels.now) (C.view floors.new.channels.now)
-        (noted B.items frame.old) (noted B.items frame.new) result }
+    ensures answer { ScopeWaitAnswer w (seen_on_channels C.view B.items floors.old frame.old)
+        (seen_on_channels C.view B.items floors.new frame.new) (noted B.items frame.old) (noted B.items frame.new) result }
     ensures jobs { floors.new.jobs.now ≡ floors.old.jobs.now }
     ensures same { SameLoans C.anchor floors.old floors.new }
 {
@@ -273,11 +275,10 @@ pub(crate) fn see_scope<B: NoteBook, C: ChannelFloor, J: JobFloor, W: Wakes>(
     frame: &mut Coroutine<B>,
     floors: &mut Floors<'_, '_, '_, C, J, W>,
 ) -> Result<(), Memory>
-    requires stands { Stands (program_of script.now) (C.view floors.old.channels.now) (J.view floors.old.jobs.now)
-        (noted B.items frame.old) }
+    requires stands { IsStanding script.now (seen C.view J.view B.items floors.old frame.old) }
     requires sees { frame.old.stage ≡ SeesScope }
-    ensures came { SeenAnswer (program_of script.now) (C.view floors.old.channels.now) (C.view floors.new.channels.now)
-        (J.view floors.old.jobs.now) (J.view floors.new.jobs.now) (noted B.items frame.old) (noted B.items frame.new) result }
+    ensures came { SeenAnswer script.now (seen C.view J.view B.items floors.old frame.old)
+        (seen C.view J.view B.items floors.new frame.new) result }
     ensures wakes { floors.new.wakes.now ≡ floors.old.wakes.now }
     ensures same { SameFloors C.anchor J.anchor floors.old floors.new }
 {

@@ -4,7 +4,7 @@ ghost use Rattle.std.specs.Prelude.{◌≡◌, ◌<◌, true};
 ghost use Rattle.script_reader.specs.Scripts.{program_of};
 ghost use Rattle.script_meaning.specs.declared.stage.Stage.TheVariants.{SeesJob};
 ghost use Rattle.script_meaning.specs.Polls.{HasToSee, is_seeing};
-ghost use Rattle.poll_states.specs.Frames.{config_of, Stands, SameFloors, noted};
+ghost use Rattle.poll_states.specs.Frames.{config_of, SameFloors, noted, seen, IsStanding};
 ghost use Rattle.poll_states.specs.SeenEnds.{after_job, AwaitsNamed, SeenAnswer};
 
 use crate::answers::unwinds_for;
@@ -54,11 +54,10 @@ fn see_job<B: NoteBook, C: ChannelFloor, J: JobFloor, W: Wakes>(
     frame: &mut Coroutine<B>,
     floors: &mut Floors<'_, '_, '_, C, J, W>,
 ) -> Result<(), Memory>
-    requires stands { Stands (program_of script.now) (C.view floors.old.channels.now) (J.view floors.old.jobs.now)
-        (noted B.items frame.old) }
+    requires stands { IsStanding script.now (seen C.view J.view B.items floors.old frame.old) }
     requires sees { frame.old.stage ≡ SeesJob }
-    ensures came { SeenAnswer (program_of script.now) (C.view floors.old.channels.now) (C.view floors.new.channels.now)
-        (J.view floors.old.jobs.now) (J.view floors.new.jobs.now) (noted B.items frame.old) (noted B.items frame.new) result }
+    ensures came { SeenAnswer script.now (seen C.view J.view B.items floors.old frame.old)
+        (seen C.view J.view B.items floors.new frame.new) result }
     ensures wakes { floors.new.wakes.now ≡ floors.old.wakes.now }
     ensures same { SameFloors C.anchor J.anchor floors.old floors.new }
 {
@@ -80,11 +79,10 @@ pub(crate) fn see_end<B: NoteBook, C: ChannelFloor, J: JobFloor, W: Wakes>(
     frame: &mut Coroutine<B>,
     floors: &mut Floors<'_, '_, '_, C, J, W>,
 ) -> Result<(), Memory>
-    requires stands { Stands (program_of script.now) (C.view floors.old.channels.now) (J.view floors.old.jobs.now)
-        (noted B.items frame.old) }
+    requires stands { IsStanding script.now (seen C.view J.view B.items floors.old frame.old) }
     requires seeing { is_seeing frame.old.stage ≡ true }
-    ensures came { SeenAnswer (program_of script.now) (C.view floors.old.channels.now) (C.view floors.new.channels.now)
-        (J.view floors.old.jobs.now) (J.view floors.new.jobs.now) (noted B.items frame.old) (noted B.items frame.new) result }
+    ensures came { SeenAnswer script.now (seen C.view J.view B.items floors.old frame.old)
+        (seen C.view J.view B.items floors.new frame.new) result }
     ensures wakes { floors.new.wakes.now ≡ floors.old.wakes.now }
     ensures same { SameFloors C.anchor J.anchor floors.old floors.new }
 {

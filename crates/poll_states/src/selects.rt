@@ -1,15 +1,13 @@
 //! A select.
 
-ghost use Rattle.std.specs.Prelude.{◌≡◌, ◌<◌, ◌≤◌, true, length, slice_get, option_map, OnOk};
+ghost use Rattle.std.specs.Prelude.{◌≡◌, ◌<◌, ◌≤◌, length, option_map};
 ghost use Rattle.script_grammar.specs.declared.instructions.Instruction.TheVariants.{Select};
-ghost use Rattle.script_grammar.specs.Tags.{code_of, coroutine_count};
+ghost use Rattle.script_grammar.specs.Tags.{code_of};
 ghost use Rattle.script_reader.specs.Scripts.{program_of};
-ghost use Rattle.script_reader.specs.Lines.{does_open};
-ghost use Rattle.script_meaning.specs.Configs.{IsAt};
 ghost use Rattle.script_meaning.specs.Lines.{clauses_in};
 ghost use Rattle.select_calls.specs.Clauses.{call_of, calls_of};
-ghost use Rattle.poll_states.specs.Frames.{config_of, Stands, SameFloors, noted};
-ghost use Rattle.poll_states.specs.Steps.{MovesOn, StepAnswer};
+ghost use Rattle.poll_states.specs.Frames.{config_of, SameFloors, seen, IsStanding, IsAtLine, IsInRun, Opens};
+ghost use Rattle.poll_states.specs.Steps.{StepAnswer, MovesAnswer};
 ghost use Rattle.poll_states.specs.Selecting.{clause_in, AfterChosen, AfterSelect};
 
 use crate::code::code_of;
@@ -57,8 +55,8 @@ impl<B: NoteBook> Coroutine<B> {
 
     /// Goes on, at a select, where that came to this.
     fn go_on_selected(&mut self, script: &Script, answer: SelectAnswer, held: Option<WaitId>)
-        requires tag { self.old.tag < coroutine_count (program_of script.now) }
-        requires opens { does_open (slice_get (code_of (program_of script.now) self.old.tag) self.old.line) ≡ true }
+        requires tag { IsInRun script.now self.old.tag }
+        requires opens { Opens script.now self.old.tag self.old.line }
         ensures tag { self.new.tag ≡ self.old.tag }
         ensures config { AfterSelect (program_of script.now) self.old.tag answer held (config_of self.old) (config_of self.new) }
         ensures items { B.items self.new.book ≡ B.items self.old.book }
@@ -77,8 +75,8 @@ impl<B: NoteBook> Coroutine<B> {
 
     /// Goes on after the chosen clause of its select came to this.
     fn go_on_chosen(&mut self, script: &Script, outcome: Outcome)
-        requires tag { self.old.tag < coroutine_count (program_of script.now) }
-        requires opens { does_open (slice_get (code_of (program_of script.now) self.old.tag) self.old.line) ≡ true }
+        requires tag { IsInRun script.now self.old.tag }
+        requires opens { Opens script.now self.old.tag self.old.line }
         ensures tag { self.new.tag ≡ self.old.tag }
         ensures config { AfterChosen (program_of script.now) self.old.tag outcome (config_of self.old) (config_of self.new) }
         ensures items { B.items self.new.book ≡ B.items self.old.book }
@@ -97,13 +95,12 @@ pub(crate) fn select<B: NoteBook, C: ChannelFloor, J: JobFloor, W: Wakes, G: Gat
     floors: &mut Floors<'_, '_, '_, C, J, W>,
     gate: &G,
 ) -> Result<(), Memory>
-    requires stands { Stands (program_of script.now) (C.view floors.old.channels.now) (J.view floors.old.jobs.now)
-        (noted B.items frame.old) }
-    requires at { IsAt (program_of script.now) frame.old.tag (config_of frame.old) Select }
-    ensures came { StepAnswer (program_of script.now) (C.view floors.old.channels.now) (C.view floors.new.channels.now)
-        (J.view floors.old.jobs.now) (J.view floors.new.jobs.now) (noted B.items frame.old) (noted B.items frame.new) result }
-    ensures moves { OnOk result (MovesOn (program_of script.now) (C.view floors.old.channels.now)
-        (noted B.items frame.old) (noted B.items frame.new)) }
+    requires stands { IsStanding script.now (seen C.view J.view B.items floors.old frame.old) }
+    requires at { IsAtLine script.now frame.old Select }
+    ensures came { StepAnswer script.now (seen C.view J.view B.items floors.old frame.old)
+        (seen C.view J.view B.items floors.new frame.new) result }
+    ensures moves { MovesAnswer script.now (seen C.view J.view B.items floors.old frame.old)
+        (seen C.view J.view B.items floors.new frame.new) result }
     ensures same { SameFloors C.anchor J.anchor floors.old floors.new }
 {
     let code = code_of(script, frame.tag);

@@ -2,13 +2,14 @@
 
 ghost use Rattle.std.specs.Prelude.{◌≡◌, ◌<◌, length, None, IsTrue};
 ghost use Rattle.channel_model.specs.Floors.{MayCall};
-ghost use Rattle.channel_model.specs.Answers.{IsReady};
+ghost use Rattle.channel_model.specs.Histories.{replay};
+ghost use Rattle.channel_model.specs.Answers.{IsReady, IsUnsettledOf};
 ghost use Rattle.channel_calls.specs.Calls.{HoldsWait};
 ghost use Rattle.script_reader.specs.Scripts.{program_of};
-ghost use Rattle.script_grammar.specs.Tags.{code_of, coroutine_count};
+ghost use Rattle.script_grammar.specs.Tags.{code_of};
 ghost use Rattle.script_meaning.specs.declared.stage.Stage.TheVariants.{Unwinding};
 ghost use Rattle.script_meaning.specs.Configs.{at_stage};
-ghost use Rattle.poll_states.specs.Frames.{config_of, SameLoans, noted};
+ghost use Rattle.poll_states.specs.Frames.{config_of, SameLoans, noted, seen_on_channels, IsInRun};
 ghost use Rattle.poll_states.specs.Steps.{SeenWait, EndedWaitAnswer, GaveUpAnswer};
 
 use crate::code::code_of;
@@ -27,7 +28,7 @@ pub(crate) fn was_resolved<C: ChannelFloor, G: Gate>(
     gate: &G,
 ) -> bool
     requires can { MayCall who w.channel (C.view channels.old) }
-    requires holds { HoldsWait who w (C.view channels.old) }
+    requires holds { IsUnsettledOf who ((replay (C.view channels.old).seen).waits w) }
     ensures seen { SeenWait who w (C.view channels.old) (C.view channels.new) result }
     ensures anchor { C.anchor channels.new ≡ C.anchor channels.old }
 {
@@ -51,18 +52,18 @@ pub(crate) fn end_wait<B: NoteBook, C: ChannelFloor, J, W: Wakes, G: Gate>(
 ) -> Result<(), Memory>
     requires can { MayCall frame.old.tag w.channel (C.view floors.old.channels.now) }
     requires ready { IsReady frame.old.tag w (C.view floors.old.channels.now) }
-    requires in_run { frame.old.tag < coroutine_count (program_of script.now) }
+    requires in_run { IsInRun script.now frame.old.tag }
     requires line { frame.old.line < length (code_of (program_of script.now) frame.old.tag) }
     ensures tag { frame.new.tag ≡ frame.old.tag }
-    ensures answer { EndedWaitAnswer (program_of script.now) w (C.view floors.old.channels.now)
-        (C.view floors.new.channels.now) (noted B.items frame.old) (noted B.items frame.new) result }
+    ensures answer { EndedWaitAnswer (program_of script.now) w (seen_on_channels C.view B.items floors.old frame.old)
+        (seen_on_channels C.view B.items floors.new frame.new) (noted B.items frame.old) (noted B.items frame.new) result }
     ensures jobs { floors.new.jobs.now ≡ floors.old.jobs.now }
     ensures same { SameLoans C.anchor floors.old floors.new }
 {
-    if let Err(memory) = frame.room_to_enter() {
+    let line = code_of(script, frame.tag)[frame.line];
+    if let Err(memory) = frame.room_for(line) {
         return Err(memory);
     }
-    let line = code_of(script, frame.tag)[frame.line];
     let mut caller = caller!(frame, floors, frame.tag);
     gate.pass(frame.tag, 5);
     match caller.dispatch(w, false) {
@@ -85,13 +86,13 @@ pub(crate) fn give_up<B: NoteBook, C: ChannelFloor, J, W: Wakes, G: Gate>(
     resolved: bool,
 ) -> Result<(), Memory>
     requires can { MayCall frame.old.tag w.channel (C.view floors.old.channels.now) }
-    requires holds { HoldsWait frame.old.tag w (C.view floors.old.channels.now) }
+    requires holds { HoldsWait w (seen_on_channels C.view B.items floors.old frame.old) }
     requires ready { IsTrue resolved → IsReady frame.old.tag w (C.view floors.old.channels.now) }
     requires book { 0 < B.spare frame.old.book }
     ensures tag { frame.new.tag ≡ frame.old.tag }
     ensures config { config_of frame.new ≡ at_stage (Unwinding None) (config_of frame.old) }
-    ensures answer { GaveUpAnswer w row (C.view floors.old.channels.now) (C.view floors.new.channels.now)
-        (noted B.items frame.old) (noted B.items frame.new) result }
+    ensures answer { GaveUpAnswer w row (seen_on_channels C.view B.items floors.old frame.old)
+        (seen_on_channels C.view B.items floors.new frame.new) result }
     ensures jobs { floors.new.jobs.now ≡ floors.old.jobs.now }
     ensures same { SameLoans C.anchor floors.old floors.new }
 {

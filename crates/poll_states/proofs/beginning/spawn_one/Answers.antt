@@ -16,10 +16,13 @@ pub attach_coroutine-requires-clause-tag : goal.attach_coroutine-requires-clause
 attach_coroutine-requires-clause-tag g c = spawn_row _ _ _ _ c.requires.block c.requires.next
 
 pub returns-in-Ok-clause-spawned : goal.returns-in-Ok-clause-spawned
-returns-in-Ok-clause-spawned g c = has_spawned (program_of c.args.script.now) _ _ _ _ _ _ c.in-Ok.field-0.cancelled c.requires.next.tag refl refl (c.from.ensures ∙ c.size_of-size.ensures) c.in-Ok.ensures.answer.1
+returns-in-Ok-clause-spawned g c = has_spawned (program_of c.args.script.now) _ _ _ _ _ _ c.in-Ok.field-0.cancelled refl refl
+    (c.from.ensures ∙ c.size_of-size.ensures) c.in-Ok.ensures.answer.1
 
 pub returns-in-Used-clause-spawned : goal.returns-in-Used-clause-spawned
-returns-in-Used-clause-spawned g c = spawn_refused (program_of c.args.script.now) _ _ _ _ _ c.in-Err.error _ c.in-Used.is (g.met.J.JobFloor.legal c.attach_coroutine.new.jobs) c.requires.next c.in-Err.ensures.answer c.fail.ensures.tag c.fail.ensures.config c.fail.ensures.items
+returns-in-Used-clause-spawned g c = spawn_refused (program_of c.args.script.now) _ _ _ _ _ c.in-Err.error _ _ c.in-Used.is
+    (g.met.J.JobFloor.legal c.attach_coroutine.new.jobs) c.requires.next c.in-Err.ensures.answer c.fail.ensures.tag c.fail.ensures.config
+    c.fail.ensures.items
 
 pub returns-in-Memory-clause-spawned : goal.returns-in-Memory-clause-spawned
-returns-in-Memory-clause-spawned g c = λ channels. spawn_cut channels _ _ _ _ c.in-Err.error c.in-Memory.is refl c.in-Err.ensures.answer
+returns-in-Memory-clause-spawned g c = λ channels. spawn_cut channels _ _ _ c.in-Err.error c.in-Memory.is refl c.in-Err.ensures.answer

@@ -10,12 +10,14 @@ loop-item-init c = record { counted = acts_first c.args.items.now; few = omega (
 
 pub overflow_add-acts : goal.overflow_add-acts
 overflow_add-acts c =
-    let fits = acts_fit c.args.items.now c.loop-item.item-index c.loop-item.acts _ (item.Channel (note.Made (Hand 0 0 0))) c.loop-item-test.true c.loop-item.invariant.counted c.acts_of_item-acts.ensures in
+    let fits = acts_fit c.args.items.now c.loop-item.item-index c.loop-item.acts _ (item.Channel (note.Made (Hand 0 0 0)))
+    c.loop-item-test.true c.loop-item.invariant.counted c.acts_of_item-acts.ensures in
     omega (arith, fits, c.loop-item.invariant.few)
 
 pub loop-item-preserved : goal.loop-item-preserved
 loop-item-preserved c = record {
-  counted = acts_after c.args.items.now c.loop-item.item-index c.loop-item.acts _ (item.Channel (note.Made (Hand 0 0 0))) c.loop-item-test.true c.loop-item.invariant.counted c.acts_of_item-acts.ensures;
+  counted = acts_after c.args.items.now c.loop-item.item-index c.loop-item.acts _ (item.Channel (note.Made (Hand 0 0 0)))
+      c.loop-item-test.true c.loop-item.invariant.counted c.acts_of_item-acts.ensures;
   few = c.loop-item.invariant.few;
 }
 

@@ -11,10 +11,12 @@ pub end_job-requires-clause-may : goal.end_job-requires-clause-may
 end_job-requires-clause-may g c = stands_build _ _ _ _ _ c.args.script.now.well_formed c.requires.stands c.first_done.ensures
 
 pub end_job-requires-clause-own : goal.end_job-requires-clause-own
-end_job-requires-clause-own g c = own_end _ _ _ _ (g.met.J.JobFloor.legal c.args.floors.now.jobs.now) c.requires.stands (ap is_fresh c.requires.left.running) (ap is_over c.requires.left.running)
+end_job-requires-clause-own g c = own_end _ _ _ _ (g.met.J.JobFloor.legal c.args.floors.now.jobs.now) c.requires.stands
+    (ap is_fresh c.requires.left.running) (ap is_over c.requires.left.running)
 
 pub returns-in-Ok-clause-came : goal.returns-in-Ok-clause-came
-returns-in-Ok-clause-came g c = has_ended (program_of c.args.script.now) _ _ _ _ _ _ _ c.in-Ok.field-0 c.first_done.ensures c.requires.left c.in-Ok.ensures.answer refl refl
+returns-in-Ok-clause-came g c = has_ended (program_of c.args.script.now) c.first_done.ensures
+    c.requires.left c.in-Ok.ensures.answer refl refl
 
 pub returns-in-Err-clause-came : goal.returns-in-Err-clause-came
-returns-in-Err-clause-came g c = cut_some _ _ _ _ _ _ _ _ refl c.in-Err.ensures.answer
+returns-in-Err-clause-came g c = cut_some _ _ _ refl c.in-Err.ensures.answer

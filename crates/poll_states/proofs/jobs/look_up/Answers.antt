@@ -9,22 +9,29 @@ use Rattle.poll_states.proofs.JobLines.{stopped, yielded}
 use Rattle.poll_states.proofs.jobs.look_up.Goals as goal
 
 pub returns-in-Err-clause-came : goal.returns-in-Err-clause-came
-returns-in-Err-clause-came g c = cut_nothing _ _ _ _ _ _ refl refl refl c.room.ensures.items
+returns-in-Err-clause-came g c = cut_nothing refl refl refl c.room.ensures.items
 
 pub own_state-state-requires : goal.own_state-state-requires
 own_state-state-requires g c =
     subst (λ r. HasBody c.args.frame.now.tag r (g.J.JobFloor.view c.args.floors.now.jobs.now)) (sym c.innermost-row.ensures)
-    (stands_body _ _ _ _ (g.met.J.JobFloor.legal c.args.floors.now.jobs.now) c.requires.stands (ap is_fresh c.requires.at.stage) (ap is_leaving c.requires.at.stage) (ap is_over c.requires.at.stage))
+    (stands_body _ _ _ _ (g.met.J.JobFloor.legal c.args.floors.now.jobs.now) c.requires.stands (ap is_fresh c.requires.at.stage)
+    (ap is_leaving c.requires.at.stage) (ap is_over c.requires.at.stage))
 
 pub unreachable-requires : goal.unreachable-requires
-unreachable-requires g c = never_new _ _ _ _ _ (g.met.J.JobFloor.legal c.args.floors.now.jobs.now) (g.met.J.JobFloor.legal c.own_state-state.new.jobs) c.requires.stands (ap is_fresh c.requires.at.stage) (rw c.innermost-row.ensures at (rw c.in-NotStarted.is at c.own_state-state.ensures.seen))
+unreachable-requires g c = never_new _ _ _ _ _ (g.met.J.JobFloor.legal c.args.floors.now.jobs.now)
+    (g.met.J.JobFloor.legal c.own_state-state.new.jobs) c.requires.stands (ap is_fresh c.requires.at.stage)
+    (rw c.innermost-row.ensures at (rw c.in-NotStarted.is at c.own_state-state.ensures.seen))
 
 pub next_line-requires : goal.next_line-requires
 next_line-requires g c = let h = line_short c.args.script.now c.args.frame.now.tag _ _ c.requires.at.line_is in omega (arith, h)
 
 pub returns-in-Cancelling-clause-came : goal.returns-in-Cancelling-clause-came
-returns-in-Cancelling-clause-came g c = stopped (program_of c.args.script.now) _ _ _ _ _ (g.met.J.JobFloor.legal c.own_state-state.new.jobs) c.requires.at (rw c.innermost-row.ensures at (rw c.in-Cancelling.is at c.own_state-state.ensures.seen)) c.see_cancelling.ensures.tag c.see_cancelling.ensures.config
+returns-in-Cancelling-clause-came g c = stopped (program_of c.args.script.now) _ _ _ _ _ (g.met.J.JobFloor.legal c.own_state-state.new.jobs)
+    c.requires.at (rw c.innermost-row.ensures at (rw c.in-Cancelling.is at c.own_state-state.ensures.seen)) c.see_cancelling.ensures.tag
+    c.see_cancelling.ensures.config
     (note_after _ _ _ _ (rw c.innermost-row.ensures at c.see_cancelling.ensures.items) c.room.ensures.items)
 
 pub returns-in-MayRun-clause-came : goal.returns-in-MayRun-clause-came
-returns-in-MayRun-clause-came g c = yielded (program_of c.args.script.now) _ _ _ _ _ (g.met.J.JobFloor.legal c.own_state-state.new.jobs) c.requires.at (rw c.innermost-row.ensures at (rw c.in-MayRun.is at c.own_state-state.ensures.seen)) c.next_line.ensures.tag c.next_line.ensures.config (c.next_line.ensures.items ∙ c.room.ensures.items)
+returns-in-MayRun-clause-came g c = yielded (program_of c.args.script.now) _ _ _ _ _ (g.met.J.JobFloor.legal c.own_state-state.new.jobs)
+    c.requires.at (rw c.innermost-row.ensures at (rw c.in-MayRun.is at c.own_state-state.ensures.seen)) c.next_line.ensures.tag
+    c.next_line.ensures.config (c.next_line.ensures.items ∙ c.room.ensures.items)

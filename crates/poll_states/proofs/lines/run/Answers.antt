@@ -5,12 +5,18 @@ use Rattle.poll_states.proofs.SelectLines.{run_moves}
 use Rattle.poll_states.proofs.lines.run.Goals as goal
 
 pub end_body-requires-clause-left : goal.end_body-requires-clause-left
-end_body-requires-clause-left g c = at_end (program_of c.args.script.now) _ _ _ _ c.requires.stands c.requires.running c.code_of-code.ensures c.if-frame-code.true
+end_body-requires-clause-left g c = at_end (program_of c.args.script.now) _ _ _ _ c.requires.stands c.requires.running
+    c.code_of-code.ensures c.if-frame-code.true
 
 pub run_line-requires-clause-at : goal.run_line-requires-clause-at
-run_line-requires-clause-at g c = at_line (program_of c.args.script.now) (g.C.ChannelFloor.view c.args.floors.now.channels.now) (g.J.JobFloor.view c.args.floors.now.jobs.now) (noted g.B.NoteBook.items c.args.frame.now) _ _ c.requires.running c.code_of-code.ensures c.if-frame-code.false
+run_line-requires-clause-at g c = at_line (program_of c.args.script.now) (g.C.ChannelFloor.view c.args.floors.now.channels.now)
+    (g.J.JobFloor.view c.args.floors.now.jobs.now) (noted g.B.NoteBook.items c.args.frame.now) _ _ c.requires.running c.code_of-code.ensures
+    c.if-frame-code.false
 
 pub returns-clause-moves : goal.returns-clause-moves
 returns-clause-moves g c =
-    run_moves (program_of c.args.script.now) (g.C.ChannelFloor.view c.args.floors.now.channels.now) (noted g.B.NoteBook.items c.args.frame.now) (noted g.B.NoteBook.items c.run_line.new.frame) _ c.run_line.result
-    (at_line (program_of c.args.script.now) (g.C.ChannelFloor.view c.args.floors.now.channels.now) (g.J.JobFloor.view c.args.floors.now.jobs.now) (noted g.B.NoteBook.items c.args.frame.now) _ _ c.requires.running c.code_of-code.ensures c.if-frame-code.false) c.run_line.ensures.moves
+    run_moves (program_of c.args.script.now) (g.C.ChannelFloor.view c.args.floors.now.channels.now)
+    (noted g.B.NoteBook.items c.args.frame.now) (noted g.B.NoteBook.items c.run_line.new.frame) _ c.run_line.result
+    (at_line (program_of c.args.script.now) (g.C.ChannelFloor.view c.args.floors.now.channels.now)
+    (g.J.JobFloor.view c.args.floors.now.jobs.now) (noted g.B.NoteBook.items c.args.frame.now) _ _ c.requires.running
+    c.code_of-code.ensures c.if-frame-code.false) c.run_line.ensures.moves

@@ -7,9 +7,11 @@ use Rattle.poll_states.proofs.polls.answer.Goals as goal
 pub own_state-requires : goal.own_state-requires
 own_state-requires g c =
     subst (λ r. HasBody c.args.frame.now.tag r (g.J.JobFloor.view c.args.floors.now.jobs.now)) (sym c.innermost.ensures)
-    (stands_body _ _ _ _ (g.met.J.JobFloor.legal c.args.floors.now.jobs.now) c.requires (ap is_fresh c.in-Waiting.is) (ap is_leaving c.in-Waiting.is) (ap is_over c.in-Waiting.is))
+    (stands_body _ _ _ _ (g.met.J.JobFloor.legal c.args.floors.now.jobs.now) c.requires (ap is_fresh c.in-Waiting.is)
+    (ap is_leaving c.in-Waiting.is) (ap is_over c.in-Waiting.is))
 
 pub unreachable-requires : goal.unreachable-requires
 unreachable-requires g c =
-    never_new _ _ _ _ _ (g.met.J.JobFloor.legal c.args.floors.now.jobs.now) (g.met.J.JobFloor.legal c.own_state.new.jobs) c.requires (ap is_fresh c.in-Waiting.is)
+    never_new _ _ _ _ _ (g.met.J.JobFloor.legal c.args.floors.now.jobs.now) (g.met.J.JobFloor.legal c.own_state.new.jobs) c.requires
+    (ap is_fresh c.in-Waiting.is)
     (rw c.innermost.ensures at (rw c.in-NotStarted.is at c.own_state.ensures.seen))

@@ -12,31 +12,59 @@ use Rattle.poll_states.proofs.GoneOn.{poll_first_on, quiet_first_on}
 use Rattle.poll_states.proofs.polls.first_turn.Goals as goal
 
 pub returns-in-Err-clause-polled : goal.returns-in-Err-clause-polled
-returns-in-Err-clause-polled g c = cut_nothing _ _ _ _ _ _ refl refl refl c.room.ensures.items
+returns-in-Err-clause-polled g c = cut_nothing refl refl refl c.room.ensures.items
 
 pub own_state-requires : goal.own_state-requires
-own_state-requires g c = fresh_body _ _ _ _ (g.met.J.JobFloor.legal c.args.floors.now.jobs.now) c.requires.stands (ap is_over c.requires.fresh)
+own_state-requires g c = fresh_body _ _ _ _ (g.met.J.JobFloor.legal c.args.floors.now.jobs.now) c.requires.stands
+    (ap is_over c.requires.fresh)
 
 pub run-requires-clause-stands : goal.run-requires-clause-stands
-run-requires-clause-stands g c = first_stands (program_of c.args.script.now) _ _ _ _ _ (g.met.J.JobFloor.legal c.own_state.new.jobs) c.requires.stands c.requires.fresh (rw c.in-MayRun.is at c.own_state.ensures.seen) refl refl c.room.ensures.items
+run-requires-clause-stands g c = first_stands (program_of c.args.script.now) _ _ _ _ _ (g.met.J.JobFloor.legal c.own_state.new.jobs)
+    c.requires.stands c.requires.fresh (rw c.in-MayRun.is at c.own_state.ensures.seen) refl refl c.room.ensures.items
 
 pub go_on-requires : goal.go_on-requires
-go_on-requires g c = step_stands _ _ _ _ _ _ _ (first_stands (program_of c.args.script.now) _ _ _ _ _ (g.met.J.JobFloor.legal c.own_state.new.jobs) c.requires.stands c.requires.fresh (rw c.in-MayRun.is at c.own_state.ensures.seen) refl refl c.room.ensures.items) c.in-Ok.ensures.came
+go_on-requires g c = step_stands (first_stands (program_of c.args.script.now) _ _ _ _ _
+    (g.met.J.JobFloor.legal c.own_state.new.jobs) c.requires.stands c.requires.fresh (rw c.in-MayRun.is at c.own_state.ensures.seen) refl
+    refl c.room.ensures.items) c.in-Ok.ensures.came
 
 pub returns-in-NotStarted-clause-polled : goal.returns-in-NotStarted-clause-polled
-returns-in-NotStarted-clause-polled g c = polled_idle _ _ _ _ _ _ (g.met.J.JobFloor.legal c.own_state.new.jobs) c.requires.stands c.requires.fresh (rw c.in-NotStarted.is at c.own_state.ensures.seen) refl refl c.room.ensures.items
+returns-in-NotStarted-clause-polled g c = polled_idle _ _ _ _ _ _ (g.met.J.JobFloor.legal c.own_state.new.jobs) c.requires.stands
+    c.requires.fresh (rw c.in-NotStarted.is at c.own_state.ensures.seen) refl refl c.room.ensures.items
 
 pub returns-in-Cancelling-clause-polled : goal.returns-in-Cancelling-clause-polled
 returns-in-Cancelling-clause-polled g c =
-    polled_ready _ _ _ _ _ _ _ _ c.requires.stands
-    (never_begun (program_of c.args.script.now) _ _ _ _ _ (g.met.J.JobFloor.legal c.own_state.new.jobs) c.requires.fresh (rw c.in-Cancelling.is at c.own_state.ensures.seen) c.see_cancelling.ensures.tag c.see_cancelling.ensures.config (note_after _ _ _ _ c.see_cancelling.ensures.items c.room.ensures.items))
+    polled_ready c.requires.stands
+    (never_begun (program_of c.args.script.now) _ _ _ _ _ (g.met.J.JobFloor.legal c.own_state.new.jobs) c.requires.fresh
+    (rw c.in-Cancelling.is at c.own_state.ensures.seen) c.see_cancelling.ensures.tag c.see_cancelling.ensures.config
+    (note_after _ _ _ _ c.see_cancelling.ensures.items c.room.ensures.items))
     (ap (λ (x : Config). x.stage) c.see_cancelling.ensures.config) refl
 
 pub returns-in-Ok-clause-polled : goal.returns-in-Ok-clause-polled
-returns-in-Ok-clause-polled g c = poll_first_on (program_of c.args.script.now) _ _ _ _ _ _ _ _ _ _ _ c.go_on.result (g.met.J.JobFloor.legal c.own_state.new.jobs) (g.met.J.JobFloor.legal c.go_on.new.floors.jobs.now) c.requires.stands c.requires.fresh (rw c.in-MayRun.is at c.own_state.ensures.seen) refl refl c.room.ensures.items c.in-Ok.ensures.came c.go_on.ensures.went
+returns-in-Ok-clause-polled g c = poll_first_on c.args.script.now _ c.go_on.result (g.met.J.JobFloor.legal c.go_on.new.floors.jobs.now)
+    c.requires.stands
+    (record {
+      channels = refl;
+      legal = g.met.J.JobFloor.legal c.own_state.new.jobs;
+      fresh = c.requires.fresh;
+      runs = rw c.in-MayRun.is at c.own_state.ensures.seen;
+      tag = refl;
+      config = refl;
+      items = c.room.ensures.items;
+    }) c.in-Ok.ensures.came c.go_on.ensures.went
 
 pub returns-in-Ok-clause-quiet : goal.returns-in-Ok-clause-quiet
-returns-in-Ok-clause-quiet g c = quiet_first_on _ (program_of c.args.script.now) _ _ _ _ _ _ _ _ _ _ _ c.go_on.result c.args.script.now.well_formed (g.met.J.JobFloor.legal c.own_state.new.jobs) (g.met.J.JobFloor.legal c.go_on.new.floors.jobs.now) c.requires.stands c.requires.fresh (rw c.in-MayRun.is at c.own_state.ensures.seen) refl refl c.room.ensures.items c.in-Ok.ensures.came c.go_on.ensures.went
+returns-in-Ok-clause-quiet g c = quiet_first_on _ c.args.script.now _ c.go_on.result (g.met.J.JobFloor.legal c.go_on.new.floors.jobs.now)
+    c.requires.stands
+    (record {
+      channels = refl;
+      legal = g.met.J.JobFloor.legal c.own_state.new.jobs;
+      fresh = c.requires.fresh;
+      runs = rw c.in-MayRun.is at c.own_state.ensures.seen;
+      tag = refl;
+      config = refl;
+      items = c.room.ensures.items;
+    }) c.in-Ok.ensures.came c.go_on.ensures.went
 
 pub returns-in-Err-run-clause-polled : goal.returns-in-Err-run-clause-polled
-returns-in-Err-run-clause-polled g c = cut_first _ _ _ _ _ _ _ _ (rw c.in-MayRun.is at c.own_state.ensures.seen) refl c.room.ensures.items c.in-Err-run.ensures.came
+returns-in-Err-run-clause-polled g c = cut_first (rw c.in-MayRun.is at c.own_state.ensures.seen) refl refl c.room.ensures.items
+    c.in-Err-run.ensures.came

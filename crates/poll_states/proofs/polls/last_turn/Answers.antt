@@ -1,13 +1,14 @@
-use Rattle.script_reader.specs.Scripts.{program_of}
 use Rattle.poll_states.proofs.Moving.{step_stands}
 use Rattle.poll_states.proofs.GoneOn.{poll_on, quiet_on}
 use Rattle.poll_states.proofs.polls.last_turn.Goals as goal
 
 pub go_on-requires : goal.go_on-requires
-go_on-requires g c = step_stands _ _ _ _ _ _ _ c.requires.stands c.in-Ok.ensures.came
+go_on-requires g c = step_stands c.requires.stands c.in-Ok.ensures.came
 
 pub returns-in-Ok-clause-polled : goal.returns-in-Ok-clause-polled
-returns-in-Ok-clause-polled g c = poll_on (program_of c.args.script.now) _ _ _ _ _ _ _ _ _ c.go_on.result (g.met.J.JobFloor.legal c.go_on.new.floors.jobs.now) c.requires.stands c.in-Ok.ensures.came c.go_on.ensures.went
+returns-in-Ok-clause-polled g c = poll_on c.args.script.now _ c.go_on.result
+    (g.met.J.JobFloor.legal c.go_on.new.floors.jobs.now) c.requires.stands c.in-Ok.ensures.came c.go_on.ensures.went
 
 pub returns-in-Ok-clause-quiet : goal.returns-in-Ok-clause-quiet
-returns-in-Ok-clause-quiet g c = quiet_on _ (program_of c.args.script.now) _ _ _ _ _ _ _ _ _ c.go_on.result c.args.script.now.well_formed (g.met.J.JobFloor.legal c.go_on.new.floors.jobs.now) c.requires.stands c.in-Ok.ensures.came c.go_on.ensures.went
+returns-in-Ok-clause-quiet g c = quiet_on _ c.args.script.now _ c.go_on.result
+    (g.met.J.JobFloor.legal c.go_on.new.floors.jobs.now) c.requires.stands c.in-Ok.ensures.came c.go_on.ensures.went

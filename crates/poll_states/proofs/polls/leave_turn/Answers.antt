@@ -1,6 +1,6 @@
 use Rattle.std.proofs.Common.{refl, ap, sym, subst}
 use Rattle.script_reader.specs.Scripts.{program_of}
-use Rattle.poll_states.specs.Frames.{noted}
+use Rattle.poll_states.specs.Frames.{noted, at_poll}
 use Rattle.poll_states.specs.Steps.{Stepped}
 use Rattle.poll_states.proofs.EndedWaits.{call_looked}
 use Rattle.poll_states.proofs.Moving.{step_stands}
@@ -10,25 +10,53 @@ use Rattle.poll_states.proofs.Standing.{wait_call, waits_unsettled}
 use Rattle.poll_states.proofs.polls.leave_turn.Goals as goal
 
 pub was_resolved-requires-clause-can : goal.was_resolved-requires-clause-can
-was_resolved-requires-clause-can g c = wait_call _ _ _ _ _ (g.met.C.ChannelFloor.legal c.args.floors.now.channels.now) c.requires.stands (ap wait_of c.requires.leaves)
+was_resolved-requires-clause-can g c = wait_call _ _ _ _ _ (g.met.C.ChannelFloor.legal c.args.floors.now.channels.now) c.requires.stands
+    (ap wait_of c.requires.leaves)
 
 pub was_resolved-requires-clause-holds : goal.was_resolved-requires-clause-holds
-was_resolved-requires-clause-holds g c = waits_unsettled _ _ _ _ _ (g.met.C.ChannelFloor.legal c.args.floors.now.channels.now) c.requires.stands (ap wait_of c.requires.leaves)
+was_resolved-requires-clause-holds g c = waits_unsettled _ _ _ _ _ (g.met.C.ChannelFloor.legal c.args.floors.now.channels.now)
+    c.requires.stands (ap wait_of c.requires.leaves)
 
 pub end_scope_wait-requires-clause-can : goal.end_scope_wait-requires-clause-can
-end_scope_wait-requires-clause-can g c = call_looked _ _ _ _ c.was_resolved.ensures.seen.looked (wait_call _ _ _ _ _ (g.met.C.ChannelFloor.legal c.args.floors.now.channels.now) c.requires.stands (ap wait_of c.requires.leaves))
+end_scope_wait-requires-clause-can g c = call_looked _ _ _ _ c.was_resolved.ensures.seen.looked
+    (wait_call _ _ _ _ _ (g.met.C.ChannelFloor.legal c.args.floors.now.channels.now) c.requires.stands (ap wait_of c.requires.leaves))
 
 pub go_on-requires : goal.go_on-requires
-go_on-requires g c = step_stands _ _ _ _ _ _ _ c.requires.stands (subst (λ z. Stepped (program_of c.args.script.now) (g.C.ChannelFloor.view c.args.floors.now.channels.now) (g.C.ChannelFloor.view c.end_scope_wait.new.floors.channels.now) (g.J.JobFloor.view c.args.floors.now.jobs.now) (g.J.JobFloor.view z) (noted g.B.NoteBook.items c.args.frame.now) (noted g.B.NoteBook.items c.end_scope_wait.new.frame)) (sym c.end_scope_wait.ensures.jobs) (scope_waited (program_of c.args.script.now) _ _ _ _ _ _ _ (g.met.C.ChannelFloor.legal c.was_resolved.new.channels) (g.met.J.JobFloor.legal c.args.floors.now.jobs.now) c.requires.stands c.requires.leaves c.was_resolved.ensures.seen.looked c.in-Ok.ensures.answer c.end_scope_wait.ensures.tag))
+go_on-requires g c = step_stands c.requires.stands
+    (subst (λ z. Stepped (program_of c.args.script.now) (at_poll (g.C.ChannelFloor.view c.args.floors.now.channels.now)
+    (g.J.JobFloor.view c.args.floors.now.jobs.now) (noted g.B.NoteBook.items c.args.frame.now))
+    (at_poll (g.C.ChannelFloor.view c.end_scope_wait.new.floors.channels.now) (g.J.JobFloor.view z)
+    (noted g.B.NoteBook.items c.end_scope_wait.new.frame))) (sym c.end_scope_wait.ensures.jobs)
+    (scope_waited (program_of c.args.script.now) _ _ _ _ _ _ _ (g.met.C.ChannelFloor.legal c.was_resolved.new.channels)
+    (g.met.J.JobFloor.legal c.args.floors.now.jobs.now) c.requires.stands c.requires.leaves c.was_resolved.ensures.seen.looked
+    c.in-Ok.ensures.answer c.end_scope_wait.ensures.tag))
 
 pub returns-in-Ok-clause-polled : goal.returns-in-Ok-clause-polled
-returns-in-Ok-clause-polled g c = poll_on (program_of c.args.script.now) _ _ _ _ _ _ _ _ _ c.go_on.result (g.met.J.JobFloor.legal c.go_on.new.floors.jobs.now) c.requires.stands (subst (λ z. Stepped (program_of c.args.script.now) (g.C.ChannelFloor.view c.args.floors.now.channels.now) (g.C.ChannelFloor.view c.end_scope_wait.new.floors.channels.now) (g.J.JobFloor.view c.args.floors.now.jobs.now) (g.J.JobFloor.view z) (noted g.B.NoteBook.items c.args.frame.now) (noted g.B.NoteBook.items c.end_scope_wait.new.frame)) (sym c.end_scope_wait.ensures.jobs) (scope_waited (program_of c.args.script.now) _ _ _ _ _ _ _ (g.met.C.ChannelFloor.legal c.was_resolved.new.channels) (g.met.J.JobFloor.legal c.args.floors.now.jobs.now) c.requires.stands c.requires.leaves c.was_resolved.ensures.seen.looked c.in-Ok.ensures.answer c.end_scope_wait.ensures.tag)) c.go_on.ensures.went
+returns-in-Ok-clause-polled g c = poll_on c.args.script.now _ c.go_on.result
+    (g.met.J.JobFloor.legal c.go_on.new.floors.jobs.now) c.requires.stands
+    (subst (λ z. Stepped (program_of c.args.script.now) (at_poll (g.C.ChannelFloor.view c.args.floors.now.channels.now)
+    (g.J.JobFloor.view c.args.floors.now.jobs.now) (noted g.B.NoteBook.items c.args.frame.now))
+    (at_poll (g.C.ChannelFloor.view c.end_scope_wait.new.floors.channels.now) (g.J.JobFloor.view z)
+    (noted g.B.NoteBook.items c.end_scope_wait.new.frame))) (sym c.end_scope_wait.ensures.jobs)
+    (scope_waited (program_of c.args.script.now) _ _ _ _ _ _ _ (g.met.C.ChannelFloor.legal c.was_resolved.new.channels)
+    (g.met.J.JobFloor.legal c.args.floors.now.jobs.now) c.requires.stands c.requires.leaves c.was_resolved.ensures.seen.looked
+    c.in-Ok.ensures.answer c.end_scope_wait.ensures.tag)) c.go_on.ensures.went
 
 pub returns-in-Ok-clause-quiet : goal.returns-in-Ok-clause-quiet
-returns-in-Ok-clause-quiet g c = quiet_on _ (program_of c.args.script.now) _ _ _ _ _ _ _ _ _ c.go_on.result c.args.script.now.well_formed (g.met.J.JobFloor.legal c.go_on.new.floors.jobs.now) c.requires.stands (subst (λ z. Stepped (program_of c.args.script.now) (g.C.ChannelFloor.view c.args.floors.now.channels.now) (g.C.ChannelFloor.view c.end_scope_wait.new.floors.channels.now) (g.J.JobFloor.view c.args.floors.now.jobs.now) (g.J.JobFloor.view z) (noted g.B.NoteBook.items c.args.frame.now) (noted g.B.NoteBook.items c.end_scope_wait.new.frame)) (sym c.end_scope_wait.ensures.jobs) (scope_waited (program_of c.args.script.now) _ _ _ _ _ _ _ (g.met.C.ChannelFloor.legal c.was_resolved.new.channels) (g.met.J.JobFloor.legal c.args.floors.now.jobs.now) c.requires.stands c.requires.leaves c.was_resolved.ensures.seen.looked c.in-Ok.ensures.answer c.end_scope_wait.ensures.tag)) c.go_on.ensures.went
+returns-in-Ok-clause-quiet g c = quiet_on _ c.args.script.now _ c.go_on.result
+    (g.met.J.JobFloor.legal c.go_on.new.floors.jobs.now) c.requires.stands
+    (subst (λ z. Stepped (program_of c.args.script.now) (at_poll (g.C.ChannelFloor.view c.args.floors.now.channels.now)
+    (g.J.JobFloor.view c.args.floors.now.jobs.now) (noted g.B.NoteBook.items c.args.frame.now))
+    (at_poll (g.C.ChannelFloor.view c.end_scope_wait.new.floors.channels.now) (g.J.JobFloor.view z)
+    (noted g.B.NoteBook.items c.end_scope_wait.new.frame))) (sym c.end_scope_wait.ensures.jobs)
+    (scope_waited (program_of c.args.script.now) _ _ _ _ _ _ _ (g.met.C.ChannelFloor.legal c.was_resolved.new.channels)
+    (g.met.J.JobFloor.legal c.args.floors.now.jobs.now) c.requires.stands c.requires.leaves c.was_resolved.ensures.seen.looked
+    c.in-Ok.ensures.answer c.end_scope_wait.ensures.tag)) c.go_on.ensures.went
 
 pub returns-in-Err-clause-polled : goal.returns-in-Err-clause-polled
-returns-in-Err-clause-polled g c = rw c.end_scope_wait.ensures.jobs (cut_scope_wait _ _ _ _ _ _ c.was_resolved.ensures.seen.looked c.in-Err.ensures.answer c.end_scope_wait.ensures.tag)
+returns-in-Err-clause-polled g c = cut_scope_wait _ _ _ c.was_resolved.ensures.seen.looked
+    (ap g.J.JobFloor.view c.end_scope_wait.ensures.jobs) c.in-Err.ensures.answer c.end_scope_wait.ensures.tag
 
 pub returns-else-was_resolved-clause-polled : goal.returns-else-was_resolved-clause-polled
-returns-else-was_resolved-clause-polled g c = leave_waits _ _ _ _ _ _ _ (g.met.J.JobFloor.legal c.args.floors.now.jobs.now) c.requires.stands c.requires.leaves (rw c.if-was_resolved.false at c.was_resolved.ensures.seen) refl refl refl
+returns-else-was_resolved-clause-polled g c = leave_waits _ _ _ _ _ _ _ (g.met.J.JobFloor.legal c.args.floors.now.jobs.now)
+    c.requires.stands c.requires.leaves (rw c.if-was_resolved.false at c.was_resolved.ensures.seen) refl refl refl

@@ -2,4 +2,5 @@ use Rattle.poll_states.proofs.GoneOn.{see_polled}
 use Rattle.poll_states.proofs.polls.see_turn.Goals as goal
 
 pub returns-in-Ok-clause-polled : goal.returns-in-Ok-clause-polled
-returns-in-Ok-clause-polled g c = see_polled _ _ _ _ _ _ _ (g.met.J.JobFloor.legal c.see_end.new.floors.jobs.now) c.requires.stands c.requires.seeing c.in-Ok.ensures.came
+returns-in-Ok-clause-polled g c = see_polled (g.met.J.JobFloor.legal c.see_end.new.floors.jobs.now) c.requires.stands
+    c.requires.seeing c.in-Ok.ensures.came

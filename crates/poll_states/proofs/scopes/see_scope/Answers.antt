@@ -8,22 +8,32 @@ use Rattle.poll_states.proofs.EndsNamed.{sees_in_scope, seen_attached, scope_to_
 use Rattle.poll_states.proofs.scopes.see_scope.Goals as goal
 
 pub unreachable-requires : goal.unreachable-requires
-unreachable-requires g c = sees_in_scope (program_of c.args.script.now) _ _ _ (g.met.J.JobFloor.legal c.args.floors.now.jobs.now) c.requires.stands c.requires.sees (rw c.in_default.is at c.scope.ensures)
+unreachable-requires g c = sees_in_scope (program_of c.args.script.now) _ _ _ (g.met.J.JobFloor.legal c.args.floors.now.jobs.now)
+    c.requires.stands c.requires.sees (rw c.in_default.is at c.scope.ensures)
 
 pub seen_end-requires-clause-may : goal.seen_end-requires-clause-may
 seen_end-requires-clause-may g c = stands_build _ _ _ _ _ c.args.script.now.well_formed c.requires.stands c.first_done.ensures
 
 pub seen_end-requires-clause-row : goal.seen_end-requires-clause-row
-seen_end-requires-clause-row g c = seen_attached (program_of c.args.script.now) _ _ _ _ (g.met.J.JobFloor.legal c.args.floors.now.jobs.now) c.requires.stands (scope_to_see (program_of c.args.script.now) (noted g.B.NoteBook.items c.args.frame.now) c.in-Some.scope c.requires.sees c.in-Some.ensures)
+seen_end-requires-clause-row g c = seen_attached (program_of c.args.script.now) _ _ _ _ (g.met.J.JobFloor.legal c.args.floors.now.jobs.now)
+    c.requires.stands (scope_to_see (program_of c.args.script.now) (noted g.B.NoteBook.items c.args.frame.now) c.in-Some.scope
+    c.requires.sees c.in-Some.ensures)
 
 pub leave_ended-requires-clause-opens : goal.leave_ended-requires-clause-opens
 leave_ended-requires-clause-opens g c = scope_opens (program_of c.args.script.now) _ _ _ c.in-Some.scope c.requires.stands c.in-Some.ensures
 
 pub returns-in-Ok-Some-clause-came : goal.returns-in-Ok-Some-clause-came
-returns-in-Ok-Some-clause-came g c = inl (saw_scope (program_of c.args.script.now) _ _ _ _ _ _ c.in-Some.scope _ _ (ap g.C.ChannelFloor.view c.in-Ok-Some.ensures.channels) (g.met.J.JobFloor.legal c.seen_end.new.self.jobs.now) c.requires.stands c.requires.sees c.in-Some.ensures (rw c.in-Ok-Some.field-0-is at c.in-Ok-Some.ensures.answer) c.leave_ended.ensures.tag c.leave_ended.ensures.config c.leave_ended.ensures.items)
+returns-in-Ok-Some-clause-came g c = inl (saw_scope (program_of c.args.script.now) _ _ _ _ c.in-Some.scope _
+    (ap g.C.ChannelFloor.view c.in-Ok-Some.ensures.channels) (g.met.J.JobFloor.legal c.seen_end.new.self.jobs.now) c.requires.stands
+    c.requires.sees c.in-Some.ensures (rw c.in-Ok-Some.field-0-is at c.in-Ok-Some.ensures.answer) c.leave_ended.ensures.tag
+    c.leave_ended.ensures.config c.leave_ended.ensures.items)
 
 pub returns-in-Ok-None-clause-came : goal.returns-in-Ok-None-clause-came
-returns-in-Ok-None-clause-came g c = inr (not_yet_seen (program_of c.args.script.now) _ _ _ _ _ _ _ (ap g.C.ChannelFloor.view c.in-Ok-None.ensures.channels) (scope_to_see (program_of c.args.script.now) (noted g.B.NoteBook.items c.args.frame.now) c.in-Some.scope c.requires.sees c.in-Some.ensures) (rw c.in-Ok-None.field-0-is at c.in-Ok-None.ensures.answer).0 (rw c.in-Ok-None.field-0-is at c.in-Ok-None.ensures.answer).1 refl refl)
+returns-in-Ok-None-clause-came g c = inr (not_yet_seen
+    (ap g.C.ChannelFloor.view c.in-Ok-None.ensures.channels)
+    (scope_to_see (program_of c.args.script.now) (noted g.B.NoteBook.items c.args.frame.now) c.in-Some.scope c.requires.sees
+    c.in-Some.ensures) (rw c.in-Ok-None.field-0-is at c.in-Ok-None.ensures.answer).0
+    (rw c.in-Ok-None.field-0-is at c.in-Ok-None.ensures.answer).1 refl refl)
 
 pub returns-in-Err-clause-came : goal.returns-in-Err-clause-came
-returns-in-Err-clause-came g c = cut_jobs _ _ _ _ _ _ (ap g.C.ChannelFloor.view c.in-Err.ensures.channels) refl c.in-Err.ensures.answer
+returns-in-Err-clause-came g c = cut_jobs _ (ap g.C.ChannelFloor.view c.in-Err.ensures.channels) refl c.in-Err.ensures.answer

@@ -9,21 +9,31 @@ use Rattle.poll_states.proofs.selects.select.Goals as goal
 
 pub clauses_of-clauses-requires : goal.clauses_of-clauses-requires
 clauses_of-clauses-requires g c =
-    subst (λ (calls : List Call). length calls ≤ 7) (sym (behind_select (program_of c.args.script.now) (noted g.B.NoteBook.items c.args.frame.now) _ c.code_of-code.ensures)) (few_clauses (program_of c.args.script.now) (noted g.B.NoteBook.items c.args.frame.now) c.args.script.now.well_formed c.requires.at)
+    subst (λ (calls : List Call). length calls ≤ 7) (sym (behind_select (program_of c.args.script.now)
+    (noted g.B.NoteBook.items c.args.frame.now) _ c.code_of-code.ensures))
+    (few_clauses (program_of c.args.script.now) (noted g.B.NoteBook.items c.args.frame.now) c.args.script.now.well_formed c.requires.at)
 
 pub select_poll-answer-requires-clause-may : goal.select_poll-answer-requires-clause-may
 select_poll-answer-requires-clause-may g c =
-    may_select (program_of c.args.script.now) _ _ (noted g.B.NoteBook.items c.args.frame.now) _ c.args.script.now.well_formed c.requires.stands c.requires.at
-    (ap calls_of c.as_slice.ensures.value ∙ c.clauses_of-clauses.ensures ∙ behind_select (program_of c.args.script.now) (noted g.B.NoteBook.items c.args.frame.now) _ c.code_of-code.ensures)
+    may_select (program_of c.args.script.now) _ _ (noted g.B.NoteBook.items c.args.frame.now) _ c.args.script.now.well_formed
+    c.requires.stands c.requires.at
+    (ap calls_of c.as_slice.ensures.value ∙ c.clauses_of-clauses.ensures
+    ∙ behind_select (program_of c.args.script.now) (noted g.B.NoteBook.items c.args.frame.now) _ c.code_of-code.ensures)
 
 pub returns-in-Ok-clause-came : goal.returns-in-Ok-clause-came
 returns-in-Ok-clause-came g c =
-    has_selected (program_of c.args.script.now) _ _ _ (noted g.B.NoteBook.items c.args.frame.now) (noted g.B.NoteBook.items c.go_on_selected.new.self) _ _ c.in-Ok.answer _ c.args.script.now.well_formed (g.met.J.JobFloor.legal c.args.floors.now.jobs.now) c.requires.at
-    (ap calls_of c.as_slice.ensures.value ∙ c.clauses_of-clauses.ensures ∙ behind_select (program_of c.args.script.now) (noted g.B.NoteBook.items c.args.frame.now) _ c.code_of-code.ensures)
-    c.in-Ok.ensures.answer c.go_on_selected.ensures.tag c.go_on_selected.ensures.config c.go_on_selected.ensures.items
+    has_selected (program_of c.args.script.now) _ _ (noted g.B.NoteBook.items c.go_on_selected.new.self) _ _ c.in-Ok.answer
+    c.args.script.now.well_formed
+    (g.met.J.JobFloor.legal c.args.floors.now.jobs.now) c.requires.at
+    (ap calls_of c.as_slice.ensures.value ∙ c.clauses_of-clauses.ensures
+    ∙ behind_select (program_of c.args.script.now) (noted g.B.NoteBook.items c.args.frame.now) _ c.code_of-code.ensures)
+    c.in-Ok.ensures.answer c.in-Ok.ensures.same.who c.go_on_selected.ensures.tag c.go_on_selected.ensures.config
+    c.go_on_selected.ensures.items
 
 pub returns-in-Err-clause-came : goal.returns-in-Err-clause-came
-returns-in-Err-clause-came g c = cut_told _ _ _ _ _ _ refl refl (record { goes = tt; told = c.in-Err.ensures.answer.told; left = c.in-Err.ensures.answer.left })
+returns-in-Err-clause-came g c = cut_told _ refl refl (record
+    { goes = tt; told = c.in-Err.ensures.answer.told; left = c.in-Err.ensures.answer.left })
 
 pub returns-in-Ok-clause-moves : goal.returns-in-Ok-clause-moves
-returns-in-Ok-clause-moves g c = moves_on (program_of c.args.script.now) _ _ (noted g.B.NoteBook.items c.args.frame.now) (noted g.B.NoteBook.items c.go_on_selected.new.self) _ _ c.in-Ok.answer _ _ c.in-Ok.ensures.answer c.go_on_selected.ensures.config
+returns-in-Ok-clause-moves g c = moves_on (program_of c.args.script.now) (noted g.B.NoteBook.items c.args.frame.now)
+    (noted g.B.NoteBook.items c.go_on_selected.new.self) _ _ _ _ c.in-Ok.answer c.in-Ok.ensures.answer c.go_on_selected.ensures.config

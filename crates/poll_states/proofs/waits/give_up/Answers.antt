@@ -3,13 +3,17 @@ use Rattle.poll_states.proofs.EndedWaits.{gave_resolved, gave_cancelled, untouch
 use Rattle.poll_states.proofs.waits.give_up.Goals as goal
 
 pub returns-in-Ok-clause-answer : goal.returns-in-Ok-clause-answer
-returns-in-Ok-clause-answer g c = gave_resolved _ _ _ _ _ _ _ c.in-Ok.field-0 c.see_cancelling.ensures.items c.in-Ok.ensures.answer
+returns-in-Ok-clause-answer g c = gave_resolved c.in-Ok.field-0 c.see_cancelling.ensures.items c.see_cancelling.ensures.tag
+    c.in-Ok.ensures.answer
 
 pub returns-in-Ok-cancel_wait-clause-answer : goal.returns-in-Ok-cancel_wait-clause-answer
-returns-in-Ok-cancel_wait-clause-answer g c = gave_cancelled _ _ _ _ _ _ _ c.in-Ok-cancel_wait.field-0 c.see_cancelling.ensures.items c.in-Ok-cancel_wait.ensures.answer
+returns-in-Ok-cancel_wait-clause-answer g c = gave_cancelled c.in-Ok-cancel_wait.field-0 c.see_cancelling.ensures.items
+    c.see_cancelling.ensures.tag c.in-Ok-cancel_wait.ensures.answer
 
 pub returns-in-Err-clause-answer : goal.returns-in-Err-clause-answer
-returns-in-Err-clause-answer g c = untouched_after _ _ _ _ _ _ c.see_cancelling.ensures.items c.in-Err.ensures.answer
+returns-in-Err-clause-answer g c = untouched_after _ _ _ _ _ _ c.see_cancelling.ensures.items c.see_cancelling.ensures.tag
+    c.in-Err.ensures.answer
 
 pub returns-in-Err-cancel_wait-clause-answer : goal.returns-in-Err-cancel_wait-clause-answer
-returns-in-Err-cancel_wait-clause-answer g c = told_after _ _ _ _ _ _ c.see_cancelling.ensures.items (part_some _ _ _ _ _ _ c.in-Err-cancel_wait.ensures.answer)
+returns-in-Err-cancel_wait-clause-answer g c = told_after _ _ _ _ _ _ c.see_cancelling.ensures.items c.see_cancelling.ensures.tag
+    (part_some c.in-Err-cancel_wait.ensures.answer)
