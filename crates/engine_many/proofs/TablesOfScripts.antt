@@ -25,10 +25,16 @@ cells-signals (suc n) = let h = cells-signals n in omega arith
 
 -- each channel has a cell for each place and one more; each done channel has two
 cells-script : (p : Program) → cells_in (floor_shape p) ≡ places_in p.channels + length p.channels + 2 * job_count p
-cells-script p = omega (arith, cells-append (shape_of p) (replicate (job_count p) (Signal, 1)), cells-declared p.channels, cells-signals (job_count p))
+cells-script p = omega (
+  arith,
+  cells-append (shape_of p) (replicate (job_count p) (Signal, 1)),
+  cells-declared p.channels,
+  cells-signals (job_count p),
+)
 
 pub few_cells : (p : Program) → IsProgram p → cells_in (floor_shape p) < 8388608
 few_cells p ok = omega (arith, cells-script p, ok.few_channels, ok.few_places, few_jobs p ok)
 
 pub is_shape : (p : Program) → IsProgram p → IsShape (floor_shape p)
-is_shape p ok = each_channel (λ x. HasPlaces x.1) p (λ c lt. let places = places_at-shape_of p ok c lt in record { some = places.0; few = places.1 }) (record { some = omega arith; few = omega arith })
+is_shape p ok = each_channel (λ x. HasPlaces x.1) p (λ c lt. let places = places_at-shape_of p ok c lt
+    in record { some = places.0; few = places.1 }) (record { some = omega arith; few = omega arith })

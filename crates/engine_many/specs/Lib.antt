@@ -1,3 +1,5 @@
 pub mod Parts
+pub mod Meetings
+pub mod Endings
 pub mod Rounds
 pub mod WordRuns

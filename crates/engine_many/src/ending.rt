@@ -1,13 +1,9 @@
 //! The floors of all coroutines are ended into those of the root.
 
-ghost use Rattle.std.specs.Prelude.{◌≡◌, ◌≢◌, ℕ, true, false, [], ◌∷◌, All, IfOk, map};
-ghost use Rattle.channel_model.specs.Histories.{acts_of};
-ghost use Rattle.job_model.specs.Histories.{acts_of as job_acts_of};
-ghost use Rattle.job_model.specs.Floors.{is_claimed_by};
-ghost use Rattle.script_grammar.specs.Tags.{coroutine_count};
+ghost use Rattle.std.specs.Prelude.{◌≡◌, ◌∷◌, All, IfOk, map};
 ghost use Rattle.engine_many.specs.Parts.{sight_of};
-ghost use Rattle.run_laws.specs.Sights.{Keeps};
-ghost use Rattle.run_laws.specs.Ends.{IsBroughtTo, NoOthers, IsSpare};
+ghost use Rattle.engine_many.specs.Endings.{IsBroughtInto};
+ghost use Rattle.run_laws.specs.Ends.{NoOthers, IsSpare};
 ghost use Rattle.run_laws.specs.LastRounds.{books_seen};
 
 use crate::task::Task;
@@ -37,9 +33,8 @@ pub(crate) fn end_floors<N: ScriptName, C: SharedChannels + Drop, J: SharedJobs 
     requires root { root.0.tag ≡ 0 }
     requires aside { IsSpare N.program (C.view aside.0) (J.view aside.1) }
     ensures books { IfOk result (λ left. map B.items left.books.items ≡ books_seen (sight_of C.view J.view) (root ∷ others.items)) }
-    ensures root { IfOk result (λ left. IsBroughtTo N.program (C.view left.channels) (J.view left.jobs) (sight_of C.view J.view root)) }
-    ensures others { IfOk result (λ left. All (λ x. IsBroughtTo N.program (C.view left.channels) (J.view left.jobs)
-        (sight_of C.view J.view x)) others.items) }
+    ensures root { IfOk result (λ left. IsBroughtInto C.view J.view N.program left root) }
+    ensures others { IfOk result (λ left. All (λ x. IsBroughtInto C.view J.view N.program left x) others.items) }
     ensures none { IfOk result (λ left. NoOthers N.program (C.view left.channels) (J.view left.jobs)) }
 {
     let mut books = Vec::with_capacity(alloc, others.len())?;

@@ -1,10 +1,10 @@
 //! All coroutines hear of all that each of them has seen.
 
-ghost use Rattle.std.specs.Prelude.{◌≡◌, ◌<◌, All, IfOk, length};
+ghost use Rattle.std.specs.Prelude.{◌≡◌, ◌<◌, IfOk, length};
 ghost use Rattle.engine_many.specs.Parts.{sight_of, tags_of};
-ghost use Rattle.run_laws.specs.Sights.{Sight, SawMore, IsSeenSame, IsWithin};
-ghost use Rattle.run_laws.specs.LastRounds.{KnowsAllOf, HasRested, AllMet, AllRested};
-ghost use Rattle.script_grammar.specs.Programs.{Program};
+ghost use Rattle.engine_many.specs.Meetings.{AllWithin, AllKnown, StayKnown, StayRested, StayAtRest};
+ghost use Rattle.run_laws.specs.Sights.{SawMore, IsSeenSame};
+ghost use Rattle.run_laws.specs.LastRounds.{AllMet};
 
 use crate::task::Task;
 use co_base::Memory;
@@ -21,13 +21,9 @@ pub(crate) fn hear_all<N: ScriptName, C: SharedChannels + Drop, J: SharedJobs + 
 ) -> Result<Vec<Task<N, C, J, B>>, Memory>
     ensures root { SawMore (sight_of C.view J.view root.old) (sight_of C.view J.view root.new) }
     ensures tags { IfOk result (λ v. tags_of v.items ≡ tags_of others.items) }
-    ensures heard { IfOk result (λ v. All (λ x. KnowsAllOf (sight_of C.view J.view root.new) (sight_of C.view J.view x)) v.items) }
-    ensures known { IfOk result (λ v. (first : Sight)
-        → All (λ x. KnowsAllOf first (sight_of C.view J.view x)) others.items
-        → All (λ x. KnowsAllOf first (sight_of C.view J.view x)) v.items) }
-    ensures rested { IfOk result (λ v. (p : Program) (first : Sight)
-        → All (λ x. HasRested p first (sight_of C.view J.view x)) others.items
-        → All (λ x. HasRested p first (sight_of C.view J.view x)) v.items) }
+    ensures heard { IfOk result (λ v. AllKnown (sight_of C.view J.view) (sight_of C.view J.view root.new) v.items) }
+    ensures known { IfOk result (λ v. StayKnown (sight_of C.view J.view) others.items v.items) }
+    ensures rested { IfOk result (λ v. StayRested (sight_of C.view J.view) others.items v.items) }
 {
     let mut heard = Vec::with_capacity(alloc, others.len())?;
     for other in others {
@@ -46,13 +42,9 @@ pub(crate) fn tell_all<N: ScriptName, C: SharedChannels + Drop, J: SharedJobs + 
 ) -> Result<Vec<Task<N, C, J, B>>, Memory>
     ensures root { IsSeenSame (sight_of C.view J.view root.old) (sight_of C.view J.view root.new) }
     ensures tags { IfOk result (λ v. tags_of v.items ≡ tags_of others.items) }
-    ensures told { IfOk result (λ v. All (λ x. IsWithin (sight_of C.view J.view root.old) (sight_of C.view J.view x)) v.items) }
-    ensures known { IfOk result (λ v. (first : Sight)
-        → All (λ x. KnowsAllOf first (sight_of C.view J.view x)) others.items
-        → All (λ x. KnowsAllOf first (sight_of C.view J.view x)) v.items) }
-    ensures rested { IfOk result (λ v. (p : Program) (first : Sight)
-        → All (λ x. HasRested p first (sight_of C.view J.view x)) others.items
-        → All (λ x. HasRested p first (sight_of C.view J.view x)) v.items) }
+    ensures told { IfOk result (λ v. AllWithin (sight_of C.view J.view) (sight_of C.view J.view root.old) v.items) }
+    ensures known { IfOk result (λ v. StayKnown (sight_of C.view J.view) others.items v.items) }
+    ensures rested { IfOk result (λ v. StayRested (sight_of C.view J.view) others.items v.items) }
 {
     let mut told = Vec::with_capacity(alloc, others.len())?;
     for other in others {
@@ -71,8 +63,7 @@ pub(crate) fn meet_all<N: ScriptName, C: SharedChannels + Drop, J: SharedJobs + 
     requires some { 0 < length tasks.items }
     ensures tags { IfOk result (λ v. tags_of v.items ≡ tags_of tasks.items) }
     ensures met { IfOk result (λ v. AllMet (sight_of C.view J.view) v.items) }
-    ensures rested { IfOk result (λ v. (p : Program) → AllRested (sight_of C.view J.view) p tasks.items
-        → AllRested (sight_of C.view J.view) p v.items) }
+    ensures rested { IfOk result (λ v. StayAtRest (sight_of C.view J.view) tasks.items v.items) }
 {
     let mut others = tasks;
     let mut root = others.remove(0);

@@ -1,13 +1,14 @@
 //! What the calling thread does when the workers have ended.
 
-ghost use Rattle.std.specs.Prelude.{◌≡◌, All, IfOk, map, length};
+ghost use Rattle.std.specs.Prelude.{◌≡◌, IfOk, length};
 ghost use Rattle.script_grammar.specs.Tags.{coroutine_count};
 ghost use Rattle.script_reader.specs.Scripts.{program_of};
 ghost use Rattle.script_grammar.specs.WellFormed.{IsProgram};
 ghost use Rattle.engine_many.specs.Parts.{sight_of, tags_of};
-ghost use Rattle.run_laws.specs.Sights.{Sight, CountUp};
-ghost use Rattle.run_laws.specs.LastRounds.{AllMet, AllRested};
-ghost use Rattle.run_laws.specs.Ends.{IsSpare, IsRunAtRest};
+ghost use Rattle.run_laws.specs.Sights.{CountUp};
+ghost use Rattle.run_laws.specs.LastRounds.{AllRested};
+ghost use Rattle.run_laws.specs.Ends.{IsSpare};
+ghost use Rattle.engine_many.specs.Endings.{IsLeftAtRest};
 ghost use Rattle.engine_many.specs.Rounds.{RoundAnswer};
 
 use crate::ending::{Left, end_floors};
@@ -44,8 +45,7 @@ pub(crate) fn end_run<N: ScriptName, C: SharedChannels + Drop, J: SharedJobs + D
     requires tags { CountUp 0 (tags_of tasks.items) }
     requires rested { AllRested (sight_of C.view J.view) N.program tasks.items }
     requires aside { IsSpare N.program (C.view aside.0) (J.view aside.1) }
-    ensures { IfOk result (λ r. IsRunAtRest N.program (map B.items r.0.books.items)
-        (C.view r.0.channels).seen (J.view r.0.jobs).seen r.1) }
+    ensures { IfOk result (λ r. IsLeftAtRest B.items C.view J.view N.program r.0 r.1) }
 {
     let mut others = tasks;
     let mut root = others.remove(0);

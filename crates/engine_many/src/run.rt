@@ -1,11 +1,12 @@
 //! A whole run by several workers without a lock.
 
-ghost use Rattle.std.specs.Prelude.{◌≡◌, ◌<◌, ◌≤◌, IfOk, length, map, vec_len};
+ghost use Rattle.std.specs.Prelude.{◌≡◌, ◌<◌, ◌≤◌, IfOk, length, vec_len};
 ghost use Rattle.script_grammar.specs.Tags.{coroutine_count};
 ghost use Rattle.script_reader.specs.Scripts.{program_of};
 ghost use Rattle.engine_many.specs.Parts.{tags_of};
+ghost use Rattle.engine_many.specs.Endings.{IsLeftAtRest};
 ghost use Rattle.run_laws.specs.Sights.{CountUp};
-ghost use Rattle.run_laws.specs.Ends.{IsSpare, IsRunAtRest};
+ghost use Rattle.run_laws.specs.Ends.{IsSpare};
 
 use crate::dealing::deal;
 use crate::ending::Left;
@@ -80,8 +81,7 @@ pub fn run_tasks<
     requires count { length tasks.items ≡ coroutine_count N.program }
     requires tags { CountUp 0 (tags_of tasks.items) }
     requires aside { IsSpare N.program (C.view aside.0) (J.view aside.1) }
-    ensures { IfOk result (λ r. IsRunAtRest N.program (map B.items r.0.books.items)
-        (C.view r.0.channels).seen (J.view r.0.jobs).seen r.1) }
+    ensures { IfOk result (λ r. IsLeftAtRest B.items C.view J.view N.program r.0 r.1) }
 {
     let mut lanes = no_tickets(alloc, workers, u32::from(script.coroutines()))?;
     deal(&mut lanes, script);

@@ -6,8 +6,7 @@ ghost use Rattle.job_model.specs.Floors.{AtStep};
 ghost use Rattle.call_meaning.specs.Facts.{end_at};
 ghost use Rattle.script_reader.specs.Scripts.{program_of};
 ghost use Rattle.poll_states.specs.Frames.{items_of, Stands};
-ghost use Rattle.poll_states.specs.Steps.{PolledTo};
-ghost use Rattle.engine_many.specs.Parts.{sight_of};
+ghost use Rattle.engine_many.specs.Parts.{sight_of, TaskPolled};
 ghost use Rattle.run_laws.specs.Sights.{Keeps, KnowsTags, SawMore, IsSeenSame, IsWithin};
 ghost use Rattle.run_laws.specs.LastRounds.{Did};
 
@@ -65,8 +64,8 @@ fn poll_on<B: Book, C: ChannelFloor, J: JobFloor, G: Gate>(
     gate: &G,
 ) -> Result<Turn, Memory>
     requires { Stands (program_of script.now) (C.view channels.old) (J.view jobs.old) frame.old }
-    ensures polled { IfOk result (λ turn. PolledTo (program_of script.now) (C.view channels.old) (C.view channels.new)
-        (J.view jobs.old) (J.view jobs.new) frame.old frame.new turn) }
+    ensures polled { IfOk result (λ turn. TaskPolled C.view J.view (program_of script.now)
+        (frame.old, channels.old, jobs.old) (frame.new, channels.new, jobs.new) turn) }
     ensures channels_anchor { C.anchor channels.new ≡ C.anchor channels.old }
     ensures jobs_anchor { J.anchor jobs.new ≡ J.anchor jobs.old }
 {
@@ -101,8 +100,7 @@ impl<N: ScriptName, C: SharedChannels + Drop, J: SharedJobs + Drop, B: Book> Tas
         gate: &G,
     ) -> Result<(Task<N, C, J, B>, Turn), Memory>
         requires { program_of script.now ≡ N.program }
-        ensures polled { IfOk result (λ r. PolledTo N.program (C.view self.1) (C.view r.0.1) (J.view self.2) (J.view r.0.2)
-            self.0 r.0.0 r.1) }
+        ensures polled { IfOk result (λ r. TaskPolled C.view J.view N.program self r.0 r.1) }
         ensures keeps { IfOk result (λ r. Keeps N.program (sight_of C.view J.view r.0)) }
     {
         let Task {

@@ -1,12 +1,10 @@
 //! A whole run.
 
-ghost use Rattle.std.specs.Prelude.{◌≡◌, ◌<◌, [], false, IfOk, OnOk};
-ghost use Rattle.one_thread_floor.specs.ListFloors.{floor_of};
-ghost use Rattle.one_thread_floor.specs.TreeFloors.{floor_of as tree_of};
+ghost use Rattle.std.specs.Prelude.{◌≡◌, [], IfOk, OnOk};
 ghost use Rattle.script_reader.specs.Scripts.{program_of};
 ghost use Rattle.engine_one.specs.Runs.{CameToRest, TellsIdle};
-ghost use Rattle.engine_one.specs.Coroutines.{AllStand, AllLeft, scene};
-ghost use Rattle.engine_one.specs.Progress.{LeftWhere, RoundIsCalm, turns_left};
+ghost use Rattle.engine_one.specs.Moments.{list_moment, RunStands, RunIsOver};
+ghost use Rattle.engine_one.specs.Progress.{LeftWhere, RoundIsCalm, TurnsFall};
 
 use crate::start::start;
 use crate::state::Run;
@@ -50,8 +48,8 @@ pub(crate) fn run_left<B: Book>(
     script: &Script,
     run: Run<ListFloor, TreeFloor, B>,
 ) -> Result<ListRun<B>, Memory>
-    requires stand { AllStand (program_of script.now) (scene (floor_of run.channels) (tree_of run.jobs)) run.frames.items }
-    requires left { AllLeft (scene (floor_of run.channels) (tree_of run.jobs)) run.frames.items }
+    requires stand { RunStands (program_of script.now) (list_moment run) }
+    requires left { RunIsOver (list_moment run) }
     ensures run { IfOk result (λ run. CameToRest B.items (program_of script.now) run) }
     ensures idle { IfOk result (λ run. TellsIdle run) }
 {
@@ -72,10 +70,9 @@ pub(crate) fn run_left<B: Book>(
 impl<B: Book> Run<ListFloor, TreeFloor, B> {
     /// Turns, until the run is over.
     pub(crate) fn run_out<G: Gate>(&mut self, script: &Script, gate: &G) -> Result<(), Memory>
-        requires { AllStand (program_of script.now) (scene (floor_of self.old.channels) (tree_of self.old.jobs)) self.old.frames.items }
-        ensures stand { OnOk result (AllStand (program_of script.now)
-            (scene (floor_of self.new.channels) (tree_of self.new.jobs)) self.new.frames.items) }
-        ensures left { OnOk result (AllLeft (scene (floor_of self.new.channels) (tree_of self.new.jobs)) self.new.frames.items) }
+        requires { RunStands (program_of script.now) (list_moment self.old) }
+        ensures stand { OnOk result (RunStands (program_of script.now) (list_moment self.new)) }
+        ensures left { OnOk result (RunIsOver (list_moment self.new)) }
     {
         'turns: loop {
             if self.one_turn(script, gate)? {
@@ -87,16 +84,10 @@ impl<B: Book> Run<ListFloor, TreeFloor, B> {
     /// One turn: polls the coroutine whose tag stands first; where no tag stands, every coroutine once. The answer says whether the run is
     /// over.
     pub(crate) fn one_turn<G: Gate>(&mut self, script: &Script, gate: &G) -> Result<bool, Memory>
-        requires { AllStand (program_of script.now) (scene (floor_of self.old.channels) (tree_of self.old.jobs)) self.old.frames.items }
-        ensures stand { OnOk result (AllStand (program_of script.now)
-            (scene (floor_of self.new.channels) (tree_of self.new.jobs)) self.new.frames.items) }
-        ensures left { IfOk result (λ over. LeftWhere over
-            (scene (floor_of self.new.channels) (tree_of self.new.jobs)) self.new.frames.items) }
-        ensures fewer { IfOk result (λ over. over ≡ false →
-            turns_left (program_of script.now) (scene (floor_of self.new.channels) (tree_of self.new.jobs)) self.new.frames.items
-            self.new.ready.tags.items
-            < turns_left (program_of script.now) (scene (floor_of self.old.channels) (tree_of self.old.jobs)) self.old.frames.items
-            self.old.ready.tags.items) }
+        requires { RunStands (program_of script.now) (list_moment self.old) }
+        ensures stand { OnOk result (RunStands (program_of script.now) (list_moment self.new)) }
+        ensures left { IfOk result (λ over. LeftWhere over (list_moment self.new)) }
+        ensures fewer { IfOk result (TurnsFall (program_of script.now) (list_moment self.old) (list_moment self.new)) }
     {
         match self.ready.take_first() {
             Some(tag) => {
@@ -111,15 +102,10 @@ impl<B: Book> Run<ListFloor, TreeFloor, B> {
 
     /// Polls every coroutine once. The answer says whether nothing happened and no tag is to be polled.
     fn is_round_calm<G: Gate>(&mut self, script: &Script, gate: &G) -> Result<bool, Memory>
-        requires stand { AllStand (program_of script.now)
-            (scene (floor_of self.old.channels) (tree_of self.old.jobs)) self.old.frames.items }
+        requires stand { RunStands (program_of script.now) (list_moment self.old) }
         requires none { self.old.ready.tags.items ≡ [] }
-        ensures stand { OnOk result (AllStand (program_of script.now)
-            (scene (floor_of self.new.channels) (tree_of self.new.jobs)) self.new.frames.items) }
-        ensures calm { IfOk result (λ calm. RoundIsCalm (program_of script.now)
-            (scene (floor_of self.old.channels) (tree_of self.old.jobs))
-            (scene (floor_of self.new.channels) (tree_of self.new.jobs)) self.old.frames.items
-            self.new.frames.items calm) }
+        ensures stand { OnOk result (RunStands (program_of script.now) (list_moment self.new)) }
+        ensures calm { IfOk result (RoundIsCalm (program_of script.now) (list_moment self.old) (list_moment self.new)) }
     {
         let moved = self.round(script, gate)?;
         Ok(!moved && self.ready.is_empty())

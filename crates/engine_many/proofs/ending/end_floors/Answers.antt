@@ -15,35 +15,51 @@ pub loop-other-preserved : goal.loop-other-preserved
 loop-other-preserved g c =
     let i = c.loop-other.invariant in
     let same = c.into_parts-frame-in-loop-other.ensures.same in
-    let ended = subst (λ z. EndedOnChannels (g.C.ChannelFloor.view c.loop-other.channels) (g.C.ChannelFloor.view c.end.new.self) (g.C.ChannelFloor.view z.1)) same c.end.ensures.ended in
-    let jobs = subst (λ z. EndedOnJobs (g.J.JobFloor.view c.loop-other.jobs) (g.J.JobFloor.view c.end-in-loop-other.new.self) (g.J.JobFloor.view z.2)) same c.end-in-loop-other.ensures.ended in
+    let ended = subst (λ z. EndedOnChannels (g.C.ChannelFloor.view c.loop-other.channels) (g.C.ChannelFloor.view c.end.new.self)
+    (g.C.ChannelFloor.view z.1)) same c.end.ensures.ended in
+    let jobs = subst (λ z. EndedOnJobs (g.J.JobFloor.view c.loop-other.jobs) (g.J.JobFloor.view c.end-in-loop-other.new.self)
+    (g.J.JobFloor.view z.2)) same c.end-in-loop-other.ensures.ended in
     record {
-      books = ap (map g.B.NoteBook.items) c.in_ok-push-2.ensures.items ∙ map-append g.B.NoteBook.items _ _ ∙ books_push (sight_of g.C.ChannelFloor.view g.J.JobFloor.view) c.args.root c.in-Some.other c.loop-other.yielded (map g.B.NoteBook.items c.loop-other.books.items) _ i.books (c.into_book-in-loop-other.ensures ∙ ap (λ z. items_of z.0) same);
-      root = brought_still g.N.ScriptName.program _ _ _ _ _ _ (sight_of g.C.ChannelFloor.view g.J.JobFloor.view c.args.root) ended jobs i.root;
-      others = all_brought (sight_of g.C.ChannelFloor.view g.J.JobFloor.view) g.N.ScriptName.program _ _ _ _ c.loop-other.yielded c.args.root c.in-Some.other ended jobs i.root c.into_parts-frame-in-loop-other.ensures.keeps i.others;
-      tags = tags_same g.N.ScriptName.program _ _ _ _ _ (ap g.C.SharedChannels.may_act c.end.ensures.anchor) (ap g.J.SharedJobs.may_act c.end-in-loop-other.ensures.anchor) i.tags;
+      books = ap (map g.B.NoteBook.items) c.in_ok-push-2.ensures.items ∙ map-append g.B.NoteBook.items _ _
+          ∙ books_push (sight_of g.C.ChannelFloor.view g.J.JobFloor.view) c.args.root c.in-Some.other c.loop-other.yielded
+          (map g.B.NoteBook.items c.loop-other.books.items) _ i.books (c.into_book-in-loop-other.ensures ∙ ap (λ z. items_of z.0) same);
+      root = brought_still g.N.ScriptName.program _ _ _ _ _ _ (sight_of g.C.ChannelFloor.view g.J.JobFloor.view c.args.root) ended jobs
+          i.root;
+      others = all_brought (sight_of g.C.ChannelFloor.view g.J.JobFloor.view) g.N.ScriptName.program _ _ _ _ c.loop-other.yielded
+          c.args.root c.in-Some.other ended jobs i.root c.into_parts-frame-in-loop-other.ensures.keeps i.others;
+      tags = tags_same g.N.ScriptName.program _ _ _ _ _ (ap g.C.SharedChannels.may_act c.end.ensures.anchor)
+          (ap g.J.SharedJobs.may_act c.end-in-loop-other.ensures.anchor) i.tags;
     }
 
 pub returns-clause-books : goal.returns-clause-books
 returns-clause-books g c =
     let began = c.into_iter-other-iterator.ensures.into_iter_gives in
-    let end = YieldsList-end (YieldsList-from_vec c.args.others.items began.0 (c.into_iter-other-iterator.result.rest.ok.0 ∙ ap length began.0)) c.loop-other.yielded c.loop-other.other-iterator c.loop-other.yielded_by c.next.result c.next.new.self c.in-None.is c.next.ensures.steps in
+    let end = YieldsList-end (YieldsList-from_vec c.args.others.items began.0 (c.into_iter-other-iterator.result.rest.ok.0
+    ∙ ap length began.0)) c.loop-other.yielded c.loop-other.other-iterator c.loop-other.yielded_by c.next.result c.next.new.self
+    c.in-None.is c.next.ensures.steps in
     let e : c.loop-other.yielded ≡ c.args.others.items = sym (map-id c.loop-other.yielded) ∙ end.0 in
     c.loop-other.invariant.books ∙ ap (λ l. books_seen (sight_of g.C.ChannelFloor.view g.J.JobFloor.view) (c.args.root ∷ l)) e
 
 pub returns-clause-root : goal.returns-clause-root
-returns-clause-root g c = brought_still g.N.ScriptName.program _ _ _ _ _ _ (sight_of g.C.ChannelFloor.view g.J.JobFloor.view c.args.root) c.end-2.ensures.ended c.end-3.ensures.ended c.loop-other.invariant.root
+returns-clause-root g c = brought_still g.N.ScriptName.program _ _ _ _ _ _ (sight_of g.C.ChannelFloor.view g.J.JobFloor.view c.args.root)
+    c.end-2.ensures.ended c.end-3.ensures.ended c.loop-other.invariant.root
 
 pub returns-clause-others : goal.returns-clause-others
 returns-clause-others g c =
     let began = c.into_iter-other-iterator.ensures.into_iter_gives in
-    let end = YieldsList-end (YieldsList-from_vec c.args.others.items began.0 (c.into_iter-other-iterator.result.rest.ok.0 ∙ ap length began.0)) c.loop-other.yielded c.loop-other.other-iterator c.loop-other.yielded_by c.next.result c.next.new.self c.in-None.is c.next.ensures.steps in
+    let end = YieldsList-end (YieldsList-from_vec c.args.others.items began.0 (c.into_iter-other-iterator.result.rest.ok.0
+    ∙ ap length began.0)) c.loop-other.yielded c.loop-other.other-iterator c.loop-other.yielded_by c.next.result c.next.new.self
+    c.in-None.is c.next.ensures.steps in
     let e : c.loop-other.yielded ≡ c.args.others.items = sym (map-id c.loop-other.yielded) ∙ end.0 in
-    subst (All (λ x. IsBroughtTo g.N.ScriptName.program (g.C.ChannelFloor.view c.end-2.new.self) (g.J.JobFloor.view c.end-3.new.self) (sight_of g.C.ChannelFloor.view g.J.JobFloor.view x))) e
-    (all_still (sight_of g.C.ChannelFloor.view g.J.JobFloor.view) g.N.ScriptName.program _ _ _ _ _ _ c.loop-other.yielded c.end-2.ensures.ended c.end-3.ensures.ended c.loop-other.invariant.others)
+    subst (All (λ x. IsBroughtTo g.N.ScriptName.program (g.C.ChannelFloor.view c.end-2.new.self) (g.J.JobFloor.view c.end-3.new.self)
+    (sight_of g.C.ChannelFloor.view g.J.JobFloor.view x))) e
+    (all_still (sight_of g.C.ChannelFloor.view g.J.JobFloor.view) g.N.ScriptName.program _ _ _ _ _ _ c.loop-other.yielded
+    c.end-2.ensures.ended c.end-3.ensures.ended c.loop-other.invariant.others)
 
 pub returns-clause-none : goal.returns-clause-none
 returns-clause-none g c =
-    none_else g.N.ScriptName.program _ _ _ _ _ _ (g.C.SharedChannels.may_act (g.C.ChannelFloor.anchor c.end-2.new.self)) (g.J.SharedJobs.may_act (g.J.JobFloor.anchor c.end-3.new.self)) c.end-2.ensures.ended c.end-3.ensures.ended c.requires.aside
-    (tags_same g.N.ScriptName.program _ _ _ _ _ (ap g.C.SharedChannels.may_act c.end-2.ensures.anchor) (ap g.J.SharedJobs.may_act c.end-3.ensures.anchor) c.loop-other.invariant.tags)
+    none_else g.N.ScriptName.program _ _ _ _ _ _ (g.C.SharedChannels.may_act (g.C.ChannelFloor.anchor c.end-2.new.self))
+    (g.J.SharedJobs.may_act (g.J.JobFloor.anchor c.end-3.new.self)) c.end-2.ensures.ended c.end-3.ensures.ended c.requires.aside
+    (tags_same g.N.ScriptName.program _ _ _ _ _ (ap g.C.SharedChannels.may_act c.end-2.ensures.anchor)
+    (ap g.J.SharedJobs.may_act c.end-3.ensures.anchor) c.loop-other.invariant.tags)
     c.end-2.ensures.none c.end-3.ensures.none c.end-3.ensures.unclaimed

@@ -14,10 +14,15 @@ loop-other-preserved g c =
     let same = c.hear.ensures.other in
     record {
       root = saw_then _ _ _ i.root c.hear.ensures.more;
-      tags = rw c.in_ok-push.ensures.items (tags_push tag_of c.loop-other.yielded c.loop-other.heard.items c.in-Some.other c.hear.new.other i.tags (ap (λ f. f.tag) same.frame));
-      heard = rw c.in_ok-push.ensures.items (heard_more (sight_of g.C.ChannelFloor.view g.J.JobFloor.view) _ _ c.loop-other.heard.items c.in-Some.other c.hear.new.other c.hear.ensures.more i.heard c.hear.ensures.heard same);
-      known = λ first all. rw c.in_ok-push.ensures.items (known_push (sight_of g.C.ChannelFloor.view g.J.JobFloor.view) first c.loop-other.yielded c.loop-other.heard.items c.in-Some.other c.hear.new.other (i.known first) (known_same first _ _ same) all);
-      rested = λ p first all. rw c.in_ok-push.ensures.items (rested_push (sight_of g.C.ChannelFloor.view g.J.JobFloor.view) p first c.loop-other.yielded c.loop-other.heard.items c.in-Some.other c.hear.new.other (i.rested p first) (rested_same p first _ _ same) all);
+      tags = rw c.in_ok-push.ensures.items (tags_push tag_of c.loop-other.yielded c.loop-other.heard.items c.in-Some.other c.hear.new.other
+          i.tags (ap (λ f. f.tag) same.frame));
+      heard = rw c.in_ok-push.ensures.items (heard_more (sight_of g.C.ChannelFloor.view g.J.JobFloor.view) _ _ c.loop-other.heard.items
+          c.in-Some.other c.hear.new.other c.hear.ensures.more i.heard c.hear.ensures.heard same);
+      known = λ first all. rw c.in_ok-push.ensures.items (known_push (sight_of g.C.ChannelFloor.view g.J.JobFloor.view) first
+          c.loop-other.yielded c.loop-other.heard.items c.in-Some.other c.hear.new.other (i.known first) (known_same first _ _ same) all);
+      rested = λ p first all. rw c.in_ok-push.ensures.items
+          (rested_push (sight_of g.C.ChannelFloor.view g.J.JobFloor.view) p first c.loop-other.yielded c.loop-other.heard.items
+          c.in-Some.other c.hear.new.other (i.rested p first) (rested_same p first _ _ same) all);
     }
 
 pub returns-in_err-push-clause-root : goal.returns-in_err-push-clause-root
@@ -26,13 +31,19 @@ returns-in_err-push-clause-root g c = saw_then _ _ _ c.loop-other.invariant.root
 pub returns-clause-known : goal.returns-clause-known
 returns-clause-known g c =
     let began = c.into_iter-other-iterator.ensures.into_iter_gives in
-    let end = YieldsList-end (YieldsList-from_vec c.args.others.items began.0 (c.into_iter-other-iterator.result.rest.ok.0 ∙ ap length began.0)) c.loop-other.yielded c.loop-other.other-iterator c.loop-other.yielded_by c.next.result c.next.new.self c.in-None.is c.next.ensures.steps in
+    let end = YieldsList-end (YieldsList-from_vec c.args.others.items began.0 (c.into_iter-other-iterator.result.rest.ok.0
+    ∙ ap length began.0)) c.loop-other.yielded c.loop-other.other-iterator c.loop-other.yielded_by c.next.result c.next.new.self
+    c.in-None.is c.next.ensures.steps in
     let e : c.loop-other.yielded ≡ c.args.others.items = sym (map-id c.loop-other.yielded) ∙ end.0 in
-    λ first all. c.loop-other.invariant.known first (subst (All (λ x. KnowsAllOf first (sight_of g.C.ChannelFloor.view g.J.JobFloor.view x))) (sym e) all)
+    λ first all. c.loop-other.invariant.known first (subst
+    (All (λ x. KnowsAllOf first (sight_of g.C.ChannelFloor.view g.J.JobFloor.view x))) (sym e) all)
 
 pub returns-clause-rested : goal.returns-clause-rested
 returns-clause-rested g c =
     let began = c.into_iter-other-iterator.ensures.into_iter_gives in
-    let end = YieldsList-end (YieldsList-from_vec c.args.others.items began.0 (c.into_iter-other-iterator.result.rest.ok.0 ∙ ap length began.0)) c.loop-other.yielded c.loop-other.other-iterator c.loop-other.yielded_by c.next.result c.next.new.self c.in-None.is c.next.ensures.steps in
+    let end = YieldsList-end (YieldsList-from_vec c.args.others.items began.0 (c.into_iter-other-iterator.result.rest.ok.0
+    ∙ ap length began.0)) c.loop-other.yielded c.loop-other.other-iterator c.loop-other.yielded_by c.next.result c.next.new.self
+    c.in-None.is c.next.ensures.steps in
     let e : c.loop-other.yielded ≡ c.args.others.items = sym (map-id c.loop-other.yielded) ∙ end.0 in
-    λ p first all. c.loop-other.invariant.rested p first (subst (All (λ x. HasRested p first (sight_of g.C.ChannelFloor.view g.J.JobFloor.view x))) (sym e) all)
+    λ p first all. c.loop-other.invariant.rested p first (subst
+    (All (λ x. HasRested p first (sight_of g.C.ChannelFloor.view g.J.JobFloor.view x))) (sym e) all)

@@ -12,18 +12,28 @@ pub loop-task-preserved : goal.loop-task-preserved
 loop-task-preserved g c =
     let i = c.loop-task.invariant in
     record {
-      tags = rw c.in_ok-push.ensures.items (tags_push tag_of c.loop-task.yielded c.loop-task.polled.items c.in-Some.task c.in_ok-task.task i.tags c.in_ok-task.ensures.tag);
-      rested = λ e first all. rw c.in_ok-push.ensures.items (poll_rested (sight_of g.C.ChannelFloor.view g.J.JobFloor.view) g.N.ScriptName.program c.loop-task.yielded c.loop-task.polled.items c.in-Some.task c.in_ok-task.task c.loop-task.moved c.in_ok-task.did i.rested c.in_ok-task.ensures.did c.in_ok-task.ensures.keeps e first all);
-      known = λ e first all. rw c.in_ok-push.ensures.items (poll_known (sight_of g.C.ChannelFloor.view g.J.JobFloor.view) g.N.ScriptName.program c.loop-task.yielded c.loop-task.polled.items c.in-Some.task c.in_ok-task.task c.loop-task.moved c.in_ok-task.did i.known c.in_ok-task.ensures.did e first all);
+      tags = rw c.in_ok-push.ensures.items (tags_push tag_of c.loop-task.yielded c.loop-task.polled.items c.in-Some.task c.in_ok-task.task
+          i.tags c.in_ok-task.ensures.tag);
+      rested = λ e first all. rw c.in_ok-push.ensures.items
+          (poll_rested (sight_of g.C.ChannelFloor.view g.J.JobFloor.view) g.N.ScriptName.program c.loop-task.yielded
+          c.loop-task.polled.items c.in-Some.task c.in_ok-task.task c.loop-task.moved c.in_ok-task.did i.rested c.in_ok-task.ensures.did
+          c.in_ok-task.ensures.keeps e first all);
+      known = λ e first all. rw c.in_ok-push.ensures.items (poll_known (sight_of g.C.ChannelFloor.view g.J.JobFloor.view)
+          g.N.ScriptName.program c.loop-task.yielded c.loop-task.polled.items c.in-Some.task c.in_ok-task.task c.loop-task.moved
+          c.in_ok-task.did i.known c.in_ok-task.ensures.did e first all);
     }
 
 pub returns-clause-rested : goal.returns-clause-rested
 returns-clause-rested g c = λ e met.
     let began = c.into_iter-task-iterator.ensures.into_iter_gives in
-    let end = YieldsList-end (YieldsList-from_vec c.args.tasks.items began.0 (c.into_iter-task-iterator.result.rest.ok.0 ∙ ap length began.0)) c.loop-task.yielded c.loop-task.task-iterator c.loop-task.yielded_by c.next.result c.next.new.self c.in-None.is c.next.ensures.steps in
+    let end = YieldsList-end (YieldsList-from_vec c.args.tasks.items began.0 (c.into_iter-task-iterator.result.rest.ok.0
+    ∙ ap length began.0)) c.loop-task.yielded c.loop-task.task-iterator c.loop-task.yielded_by c.next.result c.next.new.self
+    c.in-None.is c.next.ensures.steps in
     let all : c.args.tasks.items ≡ c.loop-task.yielded = sym end.0 ∙ map-id c.loop-task.yielded in
     record {
       first = met.first;
-      rested = c.loop-task.invariant.rested e met.first (subst (All (λ x. IsWithin met.first (sight_of g.C.ChannelFloor.view g.J.JobFloor.view x))) all met.seen);
-      known = c.loop-task.invariant.known e met.first (subst (All (λ x. KnowsAllOf met.first (sight_of g.C.ChannelFloor.view g.J.JobFloor.view x))) all met.known);
+      rested = c.loop-task.invariant.rested e met.first (subst
+          (All (λ x. IsWithin met.first (sight_of g.C.ChannelFloor.view g.J.JobFloor.view x))) all met.seen);
+      known = c.loop-task.invariant.known e met.first (subst
+          (All (λ x. KnowsAllOf met.first (sight_of g.C.ChannelFloor.view g.J.JobFloor.view x))) all met.known);
     }

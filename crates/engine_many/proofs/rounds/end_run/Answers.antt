@@ -10,16 +10,24 @@ use Rattle.engine_many.specs.Parts.{sight_of, tags_of}
 use Rattle.engine_many.proofs.rounds.end_run.Goals as goal
 
 pub remove-root-requires : goal.remove-root-requires
-remove-root-requires g c = let some : 0 < length c.args.tasks.items = subst (λ n. 0 < n) (sym c.requires.count) (some_coroutine g.N.ScriptName.program c.requires.script) in first_of (search rules, grind (arith, common_steps))
+remove-root-requires g c = let some : 0 < length c.args.tasks.items =
+    subst (λ n. 0 < n) (sym c.requires.count) (some_coroutine g.N.ScriptName.program c.requires.script)
+    in first_of (search rules, grind (arith, common_steps))
 
 pub returns : goal.returns
 returns g c =
     let at = sight_of g.C.ChannelFloor.view g.J.JobFloor.view in
     let p = g.N.ScriptName.program in
-    let whole = taken_first c.args.tasks.items c.remove-root.new.self.items c.remove-root.result (subst (λ n. 0 < n) (sym c.requires.count) (some_coroutine p c.requires.script)) c.remove-root.ensures.value c.remove-root.ensures.items in
+    let whole = taken_first c.args.tasks.items c.remove-root.new.self.items c.remove-root.result
+    (subst (λ n. 0 < n) (sym c.requires.count) (some_coroutine p c.requires.script)) c.remove-root.ensures.value
+    c.remove-root.ensures.items in
     let left = c.in_ok-left.left in
-    subst (λ b. IsRunAtRest p b (g.C.ChannelFloor.view left.channels).seen (g.J.JobFloor.view left.jobs).seen c.look_at_root-end.result) (sym c.in_ok-left.ensures.books)
-    (run_over at p c.remove-root.result c.look_at_root-end.new.self c.remove-root.new.self.items (g.C.ChannelFloor.view left.channels) (g.J.JobFloor.view left.jobs) c.look_at_root-end.result
-    c.requires.script (ap length (sym whole) ∙ c.requires.count) (subst (λ l. CountUp 0 (tags_of l)) whole c.requires.tags) (subst (AllRested at p) whole c.requires.rested)
-    c.look_at_root-end.ensures.more c.look_at_root-end.ensures.seen c.in_ok-left.ensures.root c.in_ok-left.ensures.others c.in_ok-left.ensures.none
+    subst (λ b. IsRunAtRest p b (g.C.ChannelFloor.view left.channels).seen (g.J.JobFloor.view left.jobs).seen c.look_at_root-end.result)
+    (sym c.in_ok-left.ensures.books)
+    (run_over at p c.remove-root.result c.look_at_root-end.new.self c.remove-root.new.self.items (g.C.ChannelFloor.view left.channels)
+    (g.J.JobFloor.view left.jobs) c.look_at_root-end.result
+    c.requires.script (ap length (sym whole) ∙ c.requires.count) (subst (λ l. CountUp 0 (tags_of l)) whole c.requires.tags)
+    (subst (AllRested at p) whole c.requires.rested)
+    c.look_at_root-end.ensures.more c.look_at_root-end.ensures.seen c.in_ok-left.ensures.root c.in_ok-left.ensures.others
+    c.in_ok-left.ensures.none
     (g.met.C.ChannelFloor.legal left.channels) (g.met.J.JobFloor.legal left.jobs) (g.met.J.JobFloor.claimed left.jobs))

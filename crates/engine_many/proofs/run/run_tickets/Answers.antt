@@ -5,7 +5,8 @@ use Rattle.engine_many.specs.Parts.{tag_of}
 use Rattle.engine_many.proofs.run.run_tickets.Goals as goal
 
 pub run_crew-requires-clause-few : goal.run_crew-requires-clause-few
-run_crew-requires-clause-few g c = let few = few_coroutines g.N.ScriptName.program (subst IsProgram c.requires.script c.args.script.now.well_formed) in let n = c.requires.count in omega (arith, few, n)
+run_crew-requires-clause-few g c = let few = few_coroutines g.N.ScriptName.program
+    (subst IsProgram c.requires.script c.args.script.now.well_formed) in let n = c.requires.count in omega (arith, few, n)
 
 pub run_crew-requires-clause-tags : goal.run_crew-requires-clause-tags
 run_crew-requires-clause-tags g c κs within = have_tags tag_of c.args.tasks.items c.requires.tags

@@ -5,10 +5,12 @@ use Rattle.engine_many.proofs.NewTasks.{nobody_first}
 use Rattle.engine_many.proofs.word_run.run_seated.Goals as goal
 
 pub seat_tasks-requires-clause-nobody : goal.seat_tasks-requires-clause-nobody
-seat_tasks-requires-clause-nobody g c = nobody_first (seen_by c.args.pass).chief (seen_by c.args.pass).given c.requires.hub.2.0 c.requires.hub.2.1
+seat_tasks-requires-clause-nobody g c = nobody_first (seen_by c.args.pass).chief (seen_by c.args.pass).given c.requires.hub.2.0
+    c.requires.hub.2.1
 
 pub seat_tasks-requires-clause-nobody_on_jobs : goal.seat_tasks-requires-clause-nobody_on_jobs
-seat_tasks-requires-clause-nobody_on_jobs g c = nobody_first (jobs_seen_by c.args.jobs).chief (jobs_seen_by c.args.jobs).given c.requires.forest.2.0 c.requires.forest.2.1
+seat_tasks-requires-clause-nobody_on_jobs g c = nobody_first (jobs_seen_by c.args.jobs).chief (jobs_seen_by c.args.jobs).given
+    c.requires.forest.2.0 c.requires.forest.2.1
 
 pub returns-clause-pass : goal.returns-clause-pass
 returns-clause-pass g c =

@@ -16,5 +16,10 @@ pub returns-clause-did : goal.returns-clause-did
 returns-clause-did g c =
     let p = c.in_ok-task.ensures.polled in
     let n : c.in_ok-task.turn ≢ Ready = search rules in
-    let few : nat_lt c.notes-before.result c.notes.result ≡ false → length (items_of c.in_ok-task.task.0) ≤ length (items_of c.args.self.0) = λ e. subst (λ a. a ≤ length (items_of c.args.self.0)) c.notes.ensures (subst (λ b. c.notes.result ≤ b) c.notes-before.ensures (le-from_lt_false c.notes-before.result c.notes.result e)) in
-    did_by g.N.ScriptName.program _ _ (nat_lt c.notes-before.result c.notes.result) (λ e. rested g.N.ScriptName.program (frame_of c.args.self.0) (frame_of c.in_ok-task.task.0) _ _ _ _ c.in_ok-task.turn p.polled p.turn n (few e))
+    let few : nat_lt c.notes-before.result c.notes.result ≡ false
+    → length (items_of c.in_ok-task.task.0) ≤ length (items_of c.args.self.0) =
+    λ e. subst (λ a. a ≤ length (items_of c.args.self.0)) c.notes.ensures
+    (subst (λ b. c.notes.result ≤ b) c.notes-before.ensures (le-from_lt_false c.notes-before.result c.notes.result e)) in
+    did_by g.N.ScriptName.program _ _ (nat_lt c.notes-before.result c.notes.result)
+    (λ e. rested g.N.ScriptName.program (frame_of c.args.self.0) (frame_of c.in_ok-task.task.0) _ _ _ _ c.in_ok-task.turn p.polled
+    p.turn n (few e))

@@ -6,4 +6,6 @@ use Rattle.engine_many.proofs.task.Task.root.Goals as goal
 pub new-requires-3-clause-keeps : goal.new-requires-3-clause-keeps
 new-requires-3-clause-keeps g c =
     let b = c.in_ok-begin.ensures.begun (g.C.ChannelFloor.view c.args.channels) c.requires.channels in
-    rw c.in_ok-boxed.ensures.ok (keeps_begun g.N.ScriptName.program (program_of c.args.script.now) (g.C.ChannelFloor.view c.args.channels) (g.J.JobFloor.view c.args.jobs) (g.J.JobFloor.view c.begin.new.jobs) (frame_of c.in_ok-frame.frame) (frame_of c.begin.new.frame) c.requires.script c.args.script.now.well_formed (g.met.J.JobFloor.legal c.begin.new.jobs) b.stands.on b.begun)
+    rw c.in_ok-boxed.ensures.ok (keeps_begun g.N.ScriptName.program (program_of c.args.script.now) (g.C.ChannelFloor.view c.args.channels)
+    (g.J.JobFloor.view c.args.jobs) (g.J.JobFloor.view c.begin.new.jobs) (frame_of c.in_ok-frame.frame) (frame_of c.begin.new.frame)
+    c.requires.script c.args.script.now.well_formed (g.met.J.JobFloor.legal c.begin.new.jobs) b.stands.on b.begun)
