@@ -16,9 +16,7 @@ at_place c p d q e = (grind (arith, nat_tests), grind (arith, nat_tests))
 
 pub removing_removes : (by : Removal) (c p v : ℕ) → removes c p (removal_act by c p v) ≡ true
 removing_removes removal.Take c p v = same_place c p
-removing_removes removal.Drop c p v = same_place c p
-removing_removes removal.Spurn c p v = same_place c p
-removing_removes removal.Drain c p v = same_place c p
+removing_removes other c p v = same_place c p
 
 pub removes_only : (act : Act) (c p : ℕ) → removes c p act ≡ true → IsRemovalAt c p act
 removes_only (Hand d q v) c p e = cc

@@ -54,10 +54,14 @@ close_end (Some v) e = refl
 open_end : (x : Option ℕ) (v : ℕ) (voided : Bool) → voided ≡ false → closed_by v ≡ end_cell (Some v) voided
 open_end x v voided e = ap (λ (t : Bool). end_cell (Some v) t) (sym e)
 
-none_held : (shape : Shape) (s : State) → Sound shape s → (c n : ℕ) → drops (kind_at shape c) n ≡ true → (o : Standing) (os : List Standing) → (s.channels c).queue ≡ o ∷ os → o.holder ≡ None
-none_held shape s h c n e o os is = kept_none o.holder (all_first (λ (o : Standing). is_none o.holder) o os (subst (λ (l : List Standing). list_all (λ (o : Standing). is_none o.holder) l ≡ true) is ((h.channels c).kept (drops_not (kind_at shape c) n e))))
+none_held : (shape : Shape) (s : State) → Sound shape s → (c n : ℕ) → drops (kind_at shape c) n ≡ true → (o : Standing) (os : List Standing)
+    → (s.channels c).queue ≡ o ∷ os → o.holder ≡ None
+none_held shape s h c n e o os is = kept_none o.holder (all_first (λ (o : Standing). is_none o.holder) o os
+    (subst (λ (l : List Standing). list_all (λ (o : Standing). is_none o.holder) l ≡ true) is
+    ((h.channels c).kept (drops_not (kind_at shape c) n e))))
 
-pub ties_step : (shape : Shape) (b : Board) (e : Entry) → Sound shape b.state → Needs shape b.state e.who e.act → Tied b → Tied (step_board b e)
+pub ties_step : (shape : Shape) (b : Board) (e : Entry) → Sound shape b.state → Needs shape b.state e.who e.act → Tied b
+    → Tied (step_board b e)
 ties_step shape b e h n t = go e.who e.act n
   where
     go : (who : ℕ) (act : Act) → Needs shape b.state who act → Tied (step_board b (record { who = who; act = act }))
@@ -69,8 +73,10 @@ ties_step shape b e h n t = go e.who e.act n
     go who (Admit c p) n = ties_admit b (kind_at shape c) c p n.1 t
     go who (Drop c p v) n = ties_drop b c p v n.2 (none_held shape b.state h c _ n.1) t
     go who (Spurn c p v) n = ties_spurn b c p v n.2 ((h.channels c).kept (spurns_not (kind_at shape c) (b.state.stood c p) n.1)) t
-    go who (Close c v) n = ties_end b c (closed_by v) (record (b.state.channels c) { closed = Some v }) refl refl refl (open_end (b.state.channels c).closed v (b.state.channels c).voided ((h.channels c).voided n.1)) tt (λ w k m. m) t
-    go who (Void c) n = ties_end b c (voided_by (close_value (b.state.channels c).closed)) (record (b.state.channels c) { voided = true }) refl refl refl (close_end (b.state.channels c).closed n.1) tt (λ w k m. m) t
+    go who (Close c v) n = ties_end b c (closed_by v) (record (b.state.channels c) { closed = Some v }) refl refl refl
+        (open_end (b.state.channels c).closed v (b.state.channels c).voided ((h.channels c).voided n.1)) tt (λ w k m. m) t
+    go who (Void c) n = ties_end b c (voided_by (close_value (b.state.channels c).closed)) (record (b.state.channels c) { voided = true })
+        refl refl refl (close_end (b.state.channels c).closed n.1) tt (λ w k m. m) t
     go who (Drain c p v) n = ties_take b c p v (λ k. resolved.Voided) (λ k. tt) n.2 t
     go who (WakeClosed c p) n = ties_first b c _ (λ k. tt) t (b.state.channels c).receivers refl
     go who (Withdraw w why) n = ties_withdraw b who w (resolved.Withdrawn why) tt n t
@@ -115,12 +121,17 @@ module _ (shape : Shape) where
   pub tied : (es : List Entry) → Legal shape es → Tied (board_of es)
   tied es l = tied_from blank es l (sound_start shape) tied_blank
 
-  lasts_from : (P : Board → Type 0) → BoardLasts shape P → (b : Board) (es : List Entry) → LegalFrom shape b.state es → Sound shape b.state → Tied b → P b → P (board_from b es)
+  lasts_from : (P : Board → Type 0) → BoardLasts shape P → (b : Board) (es : List Entry) → LegalFrom shape b.state es → Sound shape b.state
+      → Tied b → P b → P (board_from b es)
   unfolding LegalFrom board_from
   lasts_from P k b [] l h t p = p
-  lasts_from P k b (e ∷ es) l h t p = lasts_from P k (step_board b e) es l.1 (sound_step shape b.state e.who e.act l.0 h) (ties_step shape b e h l.0 t) (k.step b e h t l.0 p)
+  lasts_from P k b (e ∷ es) l h t p = lasts_from P k (step_board b e) es l.1 (sound_step shape b.state e.who e.act l.0 h)
+      (ties_step shape b e h l.0 t) (k.step b e h t l.0 p)
 
   -- it holds of all that a history goes on to
-  pub board_lasts : (P : Board → Type 0) → BoardLasts shape P → (xs ys : List Entry) → Legal shape (xs ++ ys) → P (board_of xs) → P (board_of (xs ++ ys))
+  pub board_lasts : (P : Board → Type 0) → BoardLasts shape P → (xs ys : List Entry) → Legal shape (xs ++ ys) → P (board_of xs)
+      → P (board_of (xs ++ ys))
   board_lasts P k xs ys l p = let parts = LegalFrom-parts shape start xs ys l in let at = board_state blank xs in
-      subst P (sym (board_append blank xs ys)) (lasts_from P k (board_of xs) ys (subst (λ (s : State). LegalFrom shape s ys) (sym at) parts.1) (subst (Sound shape) (sym at) (sound shape xs parts.0)) (tied xs parts.0) p)
+      subst P (sym (board_append blank xs ys)) (lasts_from P k (board_of xs) ys
+      (subst (λ (s : State). LegalFrom shape s ys) (sym at) parts.1) (subst (Sound shape) (sym at) (sound shape xs parts.0))
+      (tied xs parts.0) p)

@@ -18,9 +18,7 @@ is_offer free = false
 is_offer (receiver who w k) = false
 is_offer (offer v who w k) = true
 is_offer (buffered v) = false
-is_offer (emptied v) = false
-is_offer (closed_by v) = false
-is_offer (voided_by v) = false
+is_offer other = false
 
 emptied_none : (o : Option Standing) (x : Cell) → is_offer x ≡ false → is_offer (emptied_if o x) ≡ false
 emptied_none None x h = h
@@ -32,16 +30,21 @@ emptied_none (Some o) x h = by_holder o.holder
 
 module _ (shape : Shape) (c p : ℕ) (kind : suspends (kind_at shape c) ≡ false) where
   -- another cell was placed
-  placed : (b : Board) (d q : ℕ) (y : Cell) → (d ≡ c → is_offer y ≡ false) → is_offer (b.cells c p) ≡ false → is_offer (set_cell b.cells d q y c p) ≡ false
+  placed : (b : Board) (d q : ℕ) (y : Cell) → (d ≡ c → is_offer y ≡ false) → is_offer (b.cells c p) ≡ false
+      → is_offer (set_cell b.cells d q y c p) ≡ false
   placed b d q y here h = by_spot (λ x z w. x ≡ c → is_offer w ≡ false) b.cells d q y here c p (λ ne e. h) refl
 
-  removed : (b : Board) (d q : ℕ) → is_offer (b.cells c p) ≡ false → is_offer (set_cell b.cells d q (emptied_if (standing b.state.waits q (b.cells d q)) (b.cells d q)) c p) ≡ false
-  removed b d q h = by_spot (λ x z w. is_offer (b.cells x z) ≡ false → is_offer w ≡ false) b.cells d q _ (emptied_none (standing b.state.waits q (b.cells d q)) (b.cells d q)) c p (λ ne k. k) h
+  removed : (b : Board) (d q : ℕ) → is_offer (b.cells c p) ≡ false
+      → is_offer (set_cell b.cells d q (emptied_if (standing b.state.waits q (b.cells d q)) (b.cells d q)) c p) ≡ false
+  removed b d q h = by_spot (λ x z w. is_offer (b.cells x z) ≡ false
+      → is_offer w ≡ false) b.cells d q _ (emptied_none (standing b.state.waits q (b.cells d q)) (b.cells d q)) c p (λ ne k. k) h
 
-  never_step : (b : Board) (who : ℕ) (act : Act) → Needs shape b.state who act → is_offer (b.cells c p) ≡ false → is_offer (mark b.state b.cells who act c p) ≡ false
+  never_step : (b : Board) (who : ℕ) (act : Act) → Needs shape b.state who act → is_offer (b.cells c p) ≡ false
+      → is_offer (mark b.state b.cells who act c p) ≡ false
   never_step b who (Hand d q v) n h = h
   never_step b who (Put d q v) n h = placed b d q (buffered v) (λ e. refl) h
-  never_step b who (Offer d q v w k) n h = placed b d q (offer v who w k) (λ e. absurd (true≢false (sym n.3 ∙ ap (λ (x : ℕ). suspends (kind_at shape x)) e ∙ kind))) h
+  never_step b who (Offer d q v w k) n h = placed b d q (offer v who w k)
+      (λ e. absurd (true≢false (sym n.3 ∙ ap (λ (x : ℕ). suspends (kind_at shape x)) e ∙ kind))) h
   never_step b who (Await d q w k) n h = placed b d q (receiver who w k) (λ e. refl) h
   never_step b who (Take d q v) n h = removed b d q h
   never_step b who (Admit d q) n h = h

@@ -54,37 +54,44 @@ keeps_used waits (emptied v) h = absurd h
 keeps_used waits (closed_by v) h = absurd h
 keeps_used waits (voided_by v) h = absurd h
 
-keeps_waits : (waits waits' : WaitId → Option Wait) → ((how : Resolution) (w : WaitId) → IsResolvedAs how (waits w) → IsResolvedAs how (waits' w)) → (y : Cell) → Keeps waits y → Keeps waits' y
+keeps_waits : (waits waits' : WaitId → Option Wait) → ((how : Resolution) (w : WaitId) → IsResolvedAs how (waits w)
+    → IsResolvedAs how (waits' w)) → (y : Cell) → Keeps waits y → Keeps waits' y
 keeps_waits waits waits' f free h = h
 keeps_waits waits waits' f (receiver who w k) h = h
 keeps_waits waits waits' f (offer v who w k) h = f (resolved.Admitted k) w h
 keeps_waits waits waits' f (buffered v) h = h
-keeps_waits waits waits' f (emptied v) h = h
-keeps_waits waits waits' f (closed_by v) h = h
-keeps_waits waits waits' f (voided_by v) h = h
+keeps_waits waits waits' f other h = h
 
-pub board_none : (b : Board) → Tied b → (c p : ℕ) → p < (b.state.channels c).next → standing b.state.waits p (b.cells c p) ≡ None → NoOffer p (b.state.channels c)
+pub board_none : (b : Board) → Tied b → (c p : ℕ) → p < (b.state.channels c).next → standing b.state.waits p (b.cells c p) ≡ None
+    → NoOffer p (b.state.channels c)
 board_none b t c p lt e = record {
   given = lt;
-  none = subst (λ (q : List Standing). list_all (is_elsewhere p) q ≡ true) (sym (t.queues c)) (all_gather (is_elsewhere p) (λ q. standing b.state.waits q (b.cells c q)) (b.state.channels c).next
-      (λ q o lt' f. elsewhere o p (λ is. let m : q ≡ p = sym (offer_place b.state.waits q (b.cells c q) o (standing_is b.state.waits q (b.cells c q) o f)) ∙ is in let g : Some o ≡ None = sym f ∙ ap (λ (z : ℕ). standing b.state.waits z (b.cells c z)) m ∙ e in cc)));
+  none = subst (λ (q : List Standing). list_all (is_elsewhere p) q ≡ true) (sym (t.queues c))
+      (all_gather (is_elsewhere p) (λ q. standing b.state.waits q (b.cells c q)) (b.state.channels c).next
+      (λ q o lt' f. elsewhere o p (λ is. let m : q ≡ p = sym
+      (offer_place b.state.waits q (b.cells c q) o (standing_is b.state.waits q (b.cells c q) o f)) ∙ is
+      in let g : Some o ≡ None = sym f ∙ ap (λ (z : ℕ). standing b.state.waits z (b.cells c z)) m ∙ e in cc)));
 }
 
 -- where an offer behind p is the first, none stands at p
-first_none : (b : Board) → Tied b → (c p q v : ℕ) → p < q → q < (b.state.channels c).next → IsFirstOffer q v (b.state.channels c).queue → NoOffer p (b.state.channels c)
+first_none : (b : Board) → Tied b → (c p q v : ℕ) → p < q → q < (b.state.channels c).next → IsFirstOffer q v (b.state.channels c).queue
+    → NoOffer p (b.state.channels c)
 first_none b t c p q v lt given first = go (b.state.channels c).queue refl first
   where
     go : (os : List Standing) → (b.state.channels c).queue ≡ os → IsFirstOffer q v os → NoOffer p (b.state.channels c)
     go [] e h = absurd h
-    go (o ∷ os) e h = let f = first_in_queue b c o os t e in let at : o.place ≡ f.place = offer_place b.state.waits f.place (b.cells c f.place) o f.is in
+    go (o ∷ os) e h = let f = first_in_queue b c o os t e
+        in let at : o.place ≡ f.place = offer_place b.state.waits f.place (b.cells c f.place) o f.is in
         board_none b t c p (omega arith) (f.before p (omega (arith, h.0)))
 
 abbrev KeepsOr : ℕ → ℕ → ℕ → Board → Type 0
 KeepsOr c p q b = Keeps b.state.waits (b.cells c q) ⊎ NoOffer p (b.state.channels c)
 
-module _ (shape : Shape) (c p q : ℕ) (lt : p < q) (b : Board) (e : Entry) (s : Sound shape b.state) (t : Tied b) (n : Needs shape b.state e.who e.act) (h : Keeps b.state.waits (b.cells c q)) where
+module _ (shape : Shape) (c p q : ℕ) (lt : p < q) (b : Board) (e : Entry) (s : Sound shape b.state) (t : Tied b)
+    (n : Needs shape b.state e.who e.act) (h : Keeps b.state.waits (b.cells c q)) where
   keeps_then : Keeps (after b.state e.who e.act).waits (b.cells c q)
-  keeps_then = keeps_waits b.state.waits (after b.state e.who e.act).waits (λ how w. resolved_step shape how w b.state e.who e.act s.stand n) (b.cells c q) h
+  keeps_then = keeps_waits b.state.waits (after b.state e.who e.act).waits
+      (λ how w. resolved_step shape how w b.state e.who e.act s.stand n) (b.cells c q) h
 
   given : q < (b.state.channels c).next
   given = used_given b c q t (keeps_used b.state.waits (b.cells c q) h)
@@ -95,29 +102,38 @@ module _ (shape : Shape) (c p q : ℕ) (lt : p < q) (b : Board) (e : Entry) (s :
   abbrev Then : Cell → Type 0
   Then y = Keeps (after b.state e.who e.act).waits y ⊎ NoOffer p ((after b.state e.who e.act).channels c)
 
-  removed : (d r v : ℕ) → IsFirstOffer r v (b.state.channels d).queue → Then (set_cell b.cells d r (emptied_if (standing b.state.waits r (b.cells d r)) (b.cells d r)) c q)
+  removed : (d r v : ℕ) → IsFirstOffer r v (b.state.channels d).queue
+      → Then (set_cell b.cells d r (emptied_if (standing b.state.waits r (b.cells d r)) (b.cells d r)) c q)
   removed d r v first = by_spot (λ x z y. x ≡ c → z ≡ q → Then y) b.cells d r _
-      (λ x z. inr (gone_then (first_none b t c p q v lt given (subst (λ (k : ℕ × ℕ). IsFirstOffer k.1 v (b.state.channels k.0).queue) (λ i. (x i, z i)) first))))
+      (λ x z. inr (gone_then (first_none b t c p q v lt given
+      (subst (λ (k : ℕ × ℕ). IsFirstOffer k.1 v (b.state.channels k.0).queue) (λ i. (x i, z i)) first))))
       c q (λ ne x z. inl keeps_then) refl refl
 
   placed : (d r places : ℕ) (y : Cell) → HasPlace places r (b.state.channels d) → Then (set_cell b.cells d r y c q)
-  placed d r places y h' = subst Then (sym (cell_else b.cells d r y c q (λ m k. let f : r ≡ (b.state.channels c).next = h'.first ∙ ap (λ (z : ℕ). (b.state.channels z).next) m in omega (arith, f, k, given)))) (inl keeps_then)
+  placed d r places y h' =
+      subst Then (sym (cell_else b.cells d r y c q (λ m k. let f : r ≡ (b.state.channels c).next = h'.first
+      ∙ ap (λ (z : ℕ). (b.state.channels z).next) m in omega (arith, f, k, given)))) (inl keeps_then)
 
   -- of another channel
   other : (d r : ℕ) (y : Cell) → (d ≡ c → ⊥) → Then (set_cell b.cells d r y c q)
   other d r y ne = subst Then (sym (cell_else b.cells d r y c q (λ m k. ne m))) (inl keeps_then)
 
   ended : (d : ℕ) (y : Cell) → Then (set_cell b.cells d (b.state.channels d).next y c q)
-  ended d y = subst Then (sym (cell_else b.cells d (b.state.channels d).next y c q (λ m k. let f : (b.state.channels d).next ≡ (b.state.channels c).next = ap (λ (z : ℕ). (b.state.channels z).next) m in omega (arith, f, k, given)))) (inl keeps_then)
+  ended d y =
+      subst Then (sym (cell_else b.cells d (b.state.channels d).next y c q
+      (λ m k. let f : (b.state.channels d).next ≡ (b.state.channels c).next = ap (λ (z : ℕ). (b.state.channels z).next) m
+      in omega (arith, f, k, given)))) (inl keeps_then)
 
 module _ (shape : Shape) (c p q : ℕ) (lt : p < q) (never : (n : ℕ) → spurns (kind_at shape c) n ≡ false) where
-  keeps_step : (b : Board) (e : Entry) → Sound shape b.state → Tied b → Needs shape b.state e.who e.act → Keeps b.state.waits (b.cells c q) → KeepsOr c p q (step_board b e)
+  keeps_step : (b : Board) (e : Entry) → Sound shape b.state → Tied b → Needs shape b.state e.who e.act → Keeps b.state.waits (b.cells c q)
+      → KeepsOr c p q (step_board b e)
   keeps_step b e s t n h = go e.who e.act n
     where
       go : (who : ℕ) (act : Act) → Needs shape b.state who act → KeepsOr c p q (step_board b (record { who = who; act = act }))
       go who (Hand d r v) n = inl (keeps_then shape c p q lt b (record { who = who; act = Hand d r v }) s t n h)
       go who (Put d r v) n = placed shape c p q lt b (record { who = who; act = Put d r v }) s t n h d r (places_at shape d) _ n.1
-      go who (Offer d r v w k) n = placed shape c p q lt b (record { who = who; act = Offer d r v w k }) s t n h d r (places_at shape d) _ n.1
+      go who (Offer d r v w k) n = placed shape c p q lt b (record { who = who; act = Offer d r v w k }) s t n h d r (places_at shape d) _
+          n.1
       go who (Await d r w k) n = placed shape c p q lt b (record { who = who; act = Await d r w k }) s t n h d r (places_at shape d) _ n.1
       go who (Take d r v) n = removed shape c p q lt b (record { who = who; act = Take d r v }) s t n h d r v n.1
       go who (Admit d r) n = inl (keeps_then shape c p q lt b (record { who = who; act = Admit d r }) s t n h)
@@ -132,13 +148,21 @@ module _ (shape : Shape) (c p q : ℕ) (lt : p < q) (never : (n : ℕ) → spurn
       go who (Settle w outcome) n = inl (keeps_then shape c p q lt b (record { who = who; act = Settle w outcome }) s t n h)
 
   keeps_lasts : BoardLasts shape (λ b. Keeps b.state.waits (b.cells c q) ⊎ NoOffer p (b.state.channels c))
-  keeps_lasts = record { step = λ b e s t n h. ⊎_elim (λ k. keeps_step b e s t n k) (λ g. inr (after_keeps shape (λ d ch. NoOffer p ch) (none_keeps shape p) b.state e.who e.act c n g)) h }
+  keeps_lasts = record {
+    step = λ b e s t n h. ⊎_elim (λ k. keeps_step b e s t n k)
+        (λ g. inr (after_keeps shape (λ d ch. NoOffer p ch) (none_keeps shape p) b.state e.who e.act c n g)) h;
+  }
 
   -- what is kept stays while an offer stands before it
-  pub kept_behind : (xs ys : List Entry) → Legal shape (xs ++ ys) → Keeps (replay xs).waits (cell_of xs c q) → is_some (stands (xs ++ ys) c p) ≡ true → Keeps (replay (xs ++ ys)).waits (cell_of (xs ++ ys) c q)
+  pub kept_behind : (xs ys : List Entry) → Legal shape (xs ++ ys) → Keeps (replay xs).waits (cell_of xs c q)
+      → is_some (stands (xs ++ ys) c p) ≡ true → Keeps (replay (xs ++ ys)).waits (cell_of (xs ++ ys) c q)
   kept_behind xs ys l h st = ⊎_elim (λ k. subst (λ (s : State). Keeps s.waits (cell_of (xs ++ ys) c q)) (board_state blank (xs ++ ys)) k)
-      (λ g. absurd (true≢false (sym st ∙ ap is_some (cell_by_none shape (xs ++ ys) l c p (subst (λ (s : State). NoOffer p (s.channels c)) (board_state blank (xs ++ ys)) g)))))
-      (board_lasts shape (λ b. Keeps b.state.waits (b.cells c q) ⊎ NoOffer p (b.state.channels c)) keeps_lasts xs ys l (inl (subst (λ (s : State). Keeps s.waits (cell_of xs c q)) (sym (board_state blank xs)) h)))
+      (λ g. absurd
+      (true≢false (sym st ∙ ap is_some (cell_by_none shape (xs
+      ++ ys) l c p (subst (λ (s : State). NoOffer p (s.channels c)) (board_state blank (xs ++ ys)) g)))))
+      (board_lasts shape (λ b. Keeps b.state.waits (b.cells c q)
+      ⊎ NoOffer p (b.state.channels c)) keeps_lasts xs ys l
+      (inl (subst (λ (s : State). Keeps s.waits (cell_of xs c q)) (sym (board_state blank xs)) h)))
 
 -- ---- who stands without a holder is kept
 
@@ -149,7 +173,8 @@ module _ (p v k : ℕ) (w : WaitId) (o : Standing) (none : o.holder ≡ None) wh
   kept_by_how (Some (resolved.Taken j)) e = cc
   kept_by_how (Some (resolved.Admitted j)) e = go (j == k) refl e
     where
-      go : (b : Bool) → (j == k) ≡ b → (if b then Some (record { place = p; value = v; holder = None }) else None) ≡ Some o → Some (resolved.Admitted j) ≡ Some (resolved.Admitted k)
+      go : (b : Bool) → (j == k) ≡ b → (if b then Some (record { place = p; value = v; holder = None }) else None) ≡ Some o
+          → Some (resolved.Admitted j) ≡ Some (resolved.Admitted k)
       go true is e = ap (λ (z : ℕ). Some (resolved.Admitted z)) (eqb-true j k is)
       go false is e = cc
   kept_by_how (Some (resolved.Closed j x)) e = cc
@@ -160,7 +185,8 @@ module _ (p v k : ℕ) (w : WaitId) (o : Standing) (none : o.holder ≡ None) wh
   kept_by_wait None e = cc
   kept_by_wait (Some x) e = kept_by_how x.resolved e
 
-pub kept_cell : (waits : WaitId → Option Wait) (p : ℕ) (y : Cell) (o : Standing) → standing waits p y ≡ Some o → o.holder ≡ None → Keeps waits y
+pub kept_cell : (waits : WaitId → Option Wait) (p : ℕ) (y : Cell) (o : Standing) → standing waits p y ≡ Some o → o.holder ≡ None
+    → Keeps waits y
 kept_cell waits p free o e n = cc
 kept_cell waits p (receiver who w k) o e n = cc
 kept_cell waits p (offer v who w k) o e n = kept_by_wait p v k w o n (waits w) e
@@ -174,7 +200,8 @@ same_clause k = grind (arith, nat_tests)
 
 kept_stays : (p v k : ℕ) (w : WaitId) (y : Option Wait) → IsResolvedAs (resolved.Admitted k) y → is_some (offer_of p v w k y) ≡ true
 kept_stays p v k w None h = absurd h
-kept_stays p v k w (Some x) h = ap (λ (z : Option Resolution). is_some (offer_by p v w k z)) h ∙ ap (λ (b : Bool). is_some {T = Standing} (if b then Some (record { place = p; value = v; holder = None }) else None)) (same_clause k)
+kept_stays p v k w (Some x) h = ap (λ (z : Option Resolution). is_some (offer_by p v w k z)) h
+    ∙ ap (λ (b : Bool). is_some {T = Standing} (if b then Some (record { place = p; value = v; holder = None }) else None)) (same_clause k)
 
 pub stands_kept : (waits : WaitId → Option Wait) (p : ℕ) (y : Cell) → Keeps waits y → is_some (standing waits p y) ≡ true
 stands_kept waits p free h = absurd h
@@ -191,17 +218,20 @@ none_is : {A : Type 0} (x : Option A) → is_none x ≡ true → x ≡ None
 none_is None e = refl
 none_is (Some x) e = cc
 
-module _ (shape : Shape) (c p : ℕ) (xs ys : List Entry) (lx : Legal shape xs) (l : Legal shape (xs ++ ys)) (kind : suspends (kind_at shape c) ≡ false) (never : (n : ℕ) → spurns (kind_at shape c) n ≡ false)
+module _ (shape : Shape) (c p : ℕ) (xs ys : List Entry) (lx : Legal shape xs) (l : Legal shape (xs ++ ys))
+    (kind : suspends (kind_at shape c) ≡ false) (never : (n : ℕ) → spurns (kind_at shape c) n ≡ false)
     (low : NoneBelow 0 p (at_channel xs c)) (stays : is_some (stands (xs ++ ys) c p) ≡ true) where
   -- who stood behind it stands
   stood_none : (q : ℕ) → q < (at_channel xs c).next → stands (xs ++ ys) c q ≡ None → stands xs c q ≡ None
   stood_none q lt e = go (stands xs c q) refl
     where
       all : list_all (λ (o : Standing). is_none o.holder) (gather (stands xs c) (at_channel xs c).next) ≡ true
-      all = subst (λ (os : List Standing). list_all (λ (o : Standing). is_none o.holder) os ≡ true) ((tied_now shape xs lx).queues c) (((sound shape xs lx).channels c).kept kind)
+      all = subst (λ (os : List Standing). list_all (λ (o : Standing). is_none o.holder) os ≡ true) ((tied_now shape xs lx).queues c)
+          (((sound shape xs lx).channels c).kept kind)
 
       beyond : (o : Standing) → stands xs c q ≡ Some o → p < q → stands xs c q ≡ None
-      beyond o is after_p = let h = kept_cell (replay xs).waits q (cell_of xs c q) o is (none_is o.holder (gather_all (λ (o : Standing). is_none o.holder) (stands xs c) (at_channel xs c).next all q o lt is)) in
+      beyond o is after_p = let h = kept_cell (replay xs).waits q (cell_of xs c q) o is
+          (none_is o.holder (gather_all (λ (o : Standing). is_none o.holder) (stands xs c) (at_channel xs c).next all q o lt is)) in
           let k = kept_behind shape c p q after_p never xs ys l h stays in
           absurd (true≢false (sym (stands_kept (replay (xs ++ ys)).waits q (cell_of (xs ++ ys) c q) k) ∙ ap is_some e))
 
@@ -218,10 +248,13 @@ module _ (shape : Shape) (c p : ℕ) (xs ys : List Entry) (lx : Legal shape xs) 
       let n = (at_channel xs c).next in
       let m = (at_channel (xs ++ ys) c).next in
       let le : n ≤ m = given_later shape xs ys c l in
-      let fewer : length (gather (stands xs c) n) ≤ length (gather (stands (xs ++ ys) c) n) = count_less (stands (xs ++ ys) c) (stands xs c) n stood_none in
-      let more : length (gather (stands (xs ++ ys) c) n) ≤ length (gather (stands (xs ++ ys) c) m) = count_up (stands (xs ++ ys) c) n (m - n) m (omega arith) in
+      let fewer : length (gather (stands xs c) n) ≤ length (gather (stands (xs ++ ys) c) n) =
+      count_less (stands (xs ++ ys) c) (stands xs c) n stood_none in
+      let more : length (gather (stands (xs ++ ys) c) n) ≤ length (gather (stands (xs ++ ys) c) m) =
+      count_up (stands (xs ++ ys) c) n (m - n) m (omega arith) in
       let before : length (at_channel xs c).queue ≡ length (gather (stands xs c) n) = ap length ((tied_now shape xs lx).queues c) in
-      let later : length (at_channel (xs ++ ys) c).queue ≡ length (gather (stands (xs ++ ys) c) m) = ap length ((tied_now shape (xs ++ ys) l).queues c) in
+      let later : length (at_channel (xs ++ ys) c).queue ≡ length (gather (stands (xs ++ ys) c) m) =
+      ap length ((tied_now shape (xs ++ ys) l).queues c) in
       omega arith
 
 drops_more : (k : Kind) (n m : ℕ) → n ≤ m → drops k n ≡ true → drops k m ≡ true
@@ -262,10 +295,13 @@ waits_keeps (DropLatest k) e n = cc
 waits_keeps Signal e n = refl
 
 -- a queue that is too long stays so while its first element stands
-pub over_later : (shape : Shape) (c p : ℕ) (xs ys : List Entry) → Legal shape xs → Legal shape (xs ++ ys) → p < (at_channel xs c).next → NoneBelow 0 p (at_channel xs c) → IsOver shape c p xs → is_some (stands (xs ++ ys) c p) ≡ true
+pub over_later : (shape : Shape) (c p : ℕ) (xs ys : List Entry) → Legal shape xs → Legal shape (xs ++ ys) → p < (at_channel xs c).next
+    → NoneBelow 0 p (at_channel xs c) → IsOver shape c p xs → is_some (stands (xs ++ ys) c p) ≡ true
     → drops (kind_at shape c) (length (at_channel (xs ++ ys) c).queue) ≡ true
 over_later shape c p xs ys lx l lt low over stays = ⊎_elim
     (λ (gone : stands xs c p ≡ None). absurd (true≢false (sym stays ∙ ap is_some (gone_more shape c p xs ys lx l lt gone))))
-    (λ (long : drops (kind_at shape c) (length (at_channel xs c).queue) ≡ true). drops_more (kind_at shape c) (length (at_channel xs c).queue) (length (at_channel (xs ++ ys) c).queue)
-    (no_shorter shape c p xs ys lx l (drops_holds (kind_at shape c) (length (at_channel xs c).queue) long) (drops_keeps (kind_at shape c) (length (at_channel xs c).queue) long) low stays) long)
+    (λ (long : drops (kind_at shape c) (length (at_channel xs c).queue) ≡ true). drops_more (kind_at shape c)
+    (length (at_channel xs c).queue) (length (at_channel (xs ++ ys) c).queue)
+    (no_shorter shape c p xs ys lx l (drops_holds (kind_at shape c) (length (at_channel xs c).queue) long)
+    (drops_keeps (kind_at shape c) (length (at_channel xs c).queue) long) low stays) long)
     over

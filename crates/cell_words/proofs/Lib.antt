@@ -16,7 +16,6 @@ pub mod EntriesOnOneWord
 pub mod WaitsAtHome
 pub mod OneCodeOneWord
 pub mod WordsFound
-pub mod StepsOfATable
 pub mod MayExchange
 pub mod LooksAtCells
 pub mod ExchangesTell
@@ -28,7 +27,6 @@ pub mod ReceiversOfClosedChannels
 pub mod OffersMayBeAdmitted
 pub mod ChannelsVoided
 pub mod NewHubs
-pub mod PassesMeet
 pub mod TableHoldsChannels
 pub mod ActsOfTags
 pub mod ActsThatRemove

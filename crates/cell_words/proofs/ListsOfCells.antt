@@ -27,18 +27,14 @@ CellNamed waits free = Unit {0}
 CellNamed waits (receiver who w k) = IsNamed who k (waits w)
 CellNamed waits (offer v who w k) = IsNamed who k (waits w)
 CellNamed waits (buffered v) = Unit {0}
-CellNamed waits (emptied v) = Unit {0}
-CellNamed waits (closed_by v) = Unit {0}
-CellNamed waits (voided_by v) = Unit {0}
+CellNamed waits other = Unit {0}
 
 abbrev pub NamesAt : WaitId → ℕ → Cell → Type 0
 NamesAt w k free = ⊥
 NamesAt w k (receiver who u j) = (u ≡ w) × (j ≡ k)
 NamesAt w k (offer v who u j) = (u ≡ w) × (j ≡ k)
 NamesAt w k (buffered v) = ⊥
-NamesAt w k (emptied v) = ⊥
-NamesAt w k (closed_by v) = ⊥
-NamesAt w k (voided_by v) = ⊥
+NamesAt w k other = ⊥
 
 abbrev pub AdmittedAmong : List (ℕ × ℕ) → Option Resolution → Type 0
 AdmittedAmong clauses None = Unit {0}
@@ -71,7 +67,8 @@ pub spots_apart : (c p d q : ℕ) → (c ≡ d → p ≡ q → ⊥) → same_wai
 spots_apart c p d q ne = go (same_wait (spot c p) (spot d q)) refl
   where
     go : (b : Bool) → same_wait (spot c p) (spot d q) ≡ b → b ≡ false
-    go true e = let k = same_wait-eq (spot c p) (spot d q) e in absurd (ne (ap (λ (w : WaitId). w.channel) k) (ap (λ (w : WaitId). w.place) k))
+    go true e = let k = same_wait-eq (spot c p) (spot d q) e
+        in absurd (ne (ap (λ (w : WaitId). w.channel) k) (ap (λ (w : WaitId). w.place) k))
     go false e = refl
 
 pub cell_here : (f : Cells) (c p : ℕ) (x : Cell) → set_cell f c p x c p ≡ x
@@ -81,12 +78,15 @@ pub cell_else : (f : Cells) (c p : ℕ) (x : Cell) (d q : ℕ) → (c ≡ d → 
 cell_else f c p x d q ne = ap (λ (b : Bool). if b then x else f d q) (spots_apart c p d q ne)
 
 -- what holds of the new cell and of all others
-pub by_spot : (P : ℕ → ℕ → Cell → Type 0) (f : Cells) (c p : ℕ) (x : Cell) → P c p x → (d q : ℕ) → ((c ≡ d → p ≡ q → ⊥) → P d q (f d q)) → P d q (set_cell f c p x d q)
+pub by_spot : (P : ℕ → ℕ → Cell → Type 0) (f : Cells) (c p : ℕ) (x : Cell) → P c p x → (d q : ℕ) → ((c ≡ d → p ≡ q → ⊥) → P d q (f d q))
+    → P d q (set_cell f c p x d q)
 by_spot P f c p x here d q there = go (same_wait (spot c p) (spot d q)) refl
   where
     go : (b : Bool) → same_wait (spot c p) (spot d q) ≡ b → P d q (if b then x else f d q)
     go true e = let k = same_wait-eq (spot c p) (spot d q) e in subst (λ (w : WaitId). P w.channel w.place x) k here
-    go false e = there (λ m n. true≢false (sym (subst (λ (w : WaitId). same_wait (spot c p) w ≡ true) (λ i. spot (m i) (n i)) (same_wait-refl (spot c p))) ∙ e))
+    go false e =
+        there (λ m n. true≢false (sym (subst (λ (w : WaitId). same_wait (spot c p) w ≡ true) (λ i. spot (m i) (n i))
+        (same_wait-refl (spot c p))) ∙ e))
 
 pub set_same : (f : Cells) (c p : ℕ) (x : Cell) → x ≡ f c p → set_cell f c p x ≡ f
 set_same f c p x is = λ i d q. by_spot (λ d q y. y ≡ f d q) f c p x is d q (λ ne. refl) i
@@ -116,9 +116,11 @@ final_none p v k (resolved.Closed j x) h = refl
 final_none p v k (resolved.Withdrawn why) h = refl
 final_none p v k resolved.Voided h = refl
 
-open_gone : (w u : WaitId) (p v k : ℕ) (y : Option Wait) (x : Wait) → y ≡ Some x → x.resolved ≡ None → same_wait w u ≡ true → keep (not_held w) (offer_of p v u k y) ≡ None
+open_gone : (w u : WaitId) (p v k : ℕ) (y : Option Wait) (x : Wait) → y ≡ Some x → x.resolved ≡ None → same_wait w u ≡ true
+    → keep (not_held w) (offer_of p v u k y) ≡ None
 open_gone w u p v k y x was still_open e =
-    ap (λ (z : Option Wait). keep (not_held w) (offer_of p v u k z)) was ∙ ap (λ (z : Option Resolution). keep (not_held w) (offer_by p v u k z)) still_open
+    ap (λ (z : Option Wait). keep (not_held w) (offer_of p v u k z)) was
+    ∙ ap (λ (z : Option Resolution). keep (not_held w) (offer_by p v u k z)) still_open
     ∙ ap (λ (b : Bool). if not b then Some (record { place = p; value = v; holder = Some (record { wait = u; clause = k }) }) else None) e
 
 kept_after : (w : WaitId) (p v k : ℕ) (how : Resolution) → keep (not_held w) (offer_after p v k how) ≡ offer_after p v k how
@@ -126,65 +128,73 @@ kept_after w p v k (resolved.Handed j x) = refl
 kept_after w p v k (resolved.Taken j) = refl
 kept_after w p v k (resolved.Admitted j) = go (j == k)
   where
-    go : (b : Bool) → keep (not_held w) (if b then Some (record { place = p; value = v; holder = None }) else None) ≡ (if b then Some (record { place = p; value = v; holder = None }) else None)
+    go : (b : Bool) → keep (not_held w) (if b then Some (record { place = p; value = v; holder = None }) else None) ≡
+        (if b then Some (record { place = p; value = v; holder = None }) else None)
     go true = refl
     go false = refl
 kept_after w p v k (resolved.Closed j x) = refl
 kept_after w p v k (resolved.Withdrawn why) = refl
 kept_after w p v k resolved.Voided = refl
 
-kept_by : (w u : WaitId) (p v k : ℕ) (y : Option Resolution) → same_wait w u ≡ false → keep (not_held w) (offer_by p v u k y) ≡ offer_by p v u k y
-kept_by w u p v k None e = ap (λ (b : Bool). if not b then Some (record { place = p; value = v; holder = Some (record { wait = u; clause = k }) }) else None) e
+kept_by : (w u : WaitId) (p v k : ℕ) (y : Option Resolution) → same_wait w u ≡ false
+    → keep (not_held w) (offer_by p v u k y) ≡ offer_by p v u k y
+kept_by w u p v k None e = ap (λ (b : Bool). if not b then Some
+    (record { place = p; value = v; holder = Some (record { wait = u; clause = k }) }) else None) e
 kept_by w u p v k (Some how) e = kept_after w p v k how
 
 kept : (w u : WaitId) (p v k : ℕ) (y : Option Wait) → same_wait w u ≡ false → keep (not_held w) (offer_of p v u k y) ≡ offer_of p v u k y
 kept w u p v k None e = refl
 kept w u p v k (Some x) e = kept_by w u p v k x.resolved e
 
-line_gone : (w u : WaitId) (p k : ℕ) (y : Option Wait) (x : Wait) → y ≡ Some x → x.resolved ≡ None → same_wait w u ≡ true → keep (not_mine w) (receiver_of p u k y) ≡ None
+line_gone : (w u : WaitId) (p k : ℕ) (y : Option Wait) (x : Wait) → y ≡ Some x → x.resolved ≡ None → same_wait w u ≡ true
+    → keep (not_mine w) (receiver_of p u k y) ≡ None
 line_gone w u p k y x was still_open e =
-    ap (λ (z : Option Wait). keep (not_mine w) (receiver_of p u k z)) was ∙ ap (λ (z : Option Resolution). keep (not_mine w) (receiver_by p u k z)) still_open
+    ap (λ (z : Option Wait). keep (not_mine w) (receiver_of p u k z)) was
+    ∙ ap (λ (z : Option Resolution). keep (not_mine w) (receiver_by p u k z)) still_open
     ∙ ap (λ (b : Bool). if not b then Some (record { place = p; party = record { wait = u; clause = k } }) else None) e
 
-line_kept_by : (w u : WaitId) (p k : ℕ) (y : Option Resolution) → same_wait w u ≡ false → keep (not_mine w) (receiver_by p u k y) ≡ receiver_by p u k y
-line_kept_by w u p k None e = ap (λ (b : Bool). if not b then Some (record { place = p; party = record { wait = u; clause = k } }) else None) e
+line_kept_by : (w u : WaitId) (p k : ℕ) (y : Option Resolution) → same_wait w u ≡ false
+    → keep (not_mine w) (receiver_by p u k y) ≡ receiver_by p u k y
+line_kept_by w u p k None e = ap (λ (b : Bool). if not b then Some (record { place = p; party = record { wait = u; clause = k } }) else
+    None) e
 line_kept_by w u p k (Some how) e = refl
 
-line_kept : (w u : WaitId) (p k : ℕ) (y : Option Wait) → same_wait w u ≡ false → keep (not_mine w) (receiver_of p u k y) ≡ receiver_of p u k y
+line_kept : (w u : WaitId) (p k : ℕ) (y : Option Wait) → same_wait w u ≡ false
+    → keep (not_mine w) (receiver_of p u k y) ≡ receiver_of p u k y
 line_kept w u p k None e = refl
 line_kept w u p k (Some x) e = line_kept_by w u p k x.resolved e
 
-module _ (waits : WaitId → Option Wait) (w : WaitId) (how : Resolution) (x : Wait) (was : waits w ≡ Some x) (still_open : x.resolved ≡ None) where
-  resolve_offer_point : (p v k : ℕ) (u : WaitId) → (w ≡ u → offer_after p v k how ≡ None) → (t : Bool) → same_wait w u ≡ t → keep (not_held w) (offer_of p v u k (waits u)) ≡ offer_of p v u k (if t then resolved_wait how (waits w) else waits u)
-  resolve_offer_point p v k u fin true e =
-      open_gone w u p v k (waits u) x (ap waits (sym (same_wait-eq w u e)) ∙ was) still_open e
-      ∙ sym (ap (λ (z : Option Wait). offer_of p v u k (resolved_wait how z)) was ∙ fin (same_wait-eq w u e))
-  resolve_offer_point p v k u fin false e = kept w u p v k (waits u) e
+module _ (waits : WaitId → Option Wait) (w : WaitId) (how : Resolution) (x : Wait) (was : waits w ≡ Some x) (still_open : x.resolved ≡ None)
+  where
+    resolve_offer_point : (p v k : ℕ) (u : WaitId) → (w ≡ u → offer_after p v k how ≡ None) → (t : Bool) → same_wait w u ≡ t
+        → keep (not_held w) (offer_of p v u k (waits u)) ≡ offer_of p v u k (if t then resolved_wait how (waits w) else waits u)
+    resolve_offer_point p v k u fin true e =
+        open_gone w u p v k (waits u) x (ap waits (sym (same_wait-eq w u e)) ∙ was) still_open e
+        ∙ sym (ap (λ (z : Option Wait). offer_of p v u k (resolved_wait how z)) was ∙ fin (same_wait-eq w u e))
+    resolve_offer_point p v k u fin false e = kept w u p v k (waits u) e
 
-  resolve_line_point : (p k : ℕ) (u : WaitId) (t : Bool) → same_wait w u ≡ t → keep (not_mine w) (receiver_of p u k (waits u)) ≡ receiver_of p u k (if t then resolved_wait how (waits w) else waits u)
-  resolve_line_point p k u true e =
-      line_gone w u p k (waits u) x (ap waits (sym (same_wait-eq w u e)) ∙ was) still_open e
-      ∙ sym (ap (λ (z : Option Wait). receiver_of p u k (resolved_wait how z)) was)
-  resolve_line_point p k u false e = line_kept w u p k (waits u) e
+    resolve_line_point : (p k : ℕ) (u : WaitId) (t : Bool) → same_wait w u ≡ t
+        → keep (not_mine w) (receiver_of p u k (waits u)) ≡ receiver_of p u k (if t then resolved_wait how (waits w) else waits u)
+    resolve_line_point p k u true e =
+        line_gone w u p k (waits u) x (ap waits (sym (same_wait-eq w u e)) ∙ was) still_open e
+        ∙ sym (ap (λ (z : Option Wait). receiver_of p u k (resolved_wait how z)) was)
+    resolve_line_point p k u false e = line_kept w u p k (waits u) e
 
-  -- a cell, where the wait is not admitted at it
-  pub resolve_point : (p : ℕ) (y : Cell) → ((v k : ℕ) → NamesAt w k y → offer_after p v k how ≡ None) → keep (not_held w) (standing waits p y) ≡ standing (put_wait w (resolved_wait how (waits w)) waits) p y
-  resolve_point p free fin = refl
-  resolve_point p (receiver who u k) fin = refl
-  resolve_point p (offer v who u k) fin = resolve_offer_point p v k u (λ is. fin v k (sym is, refl)) (same_wait w u) refl
-  resolve_point p (buffered v) fin = refl
-  resolve_point p (emptied v) fin = refl
-  resolve_point p (closed_by v) fin = refl
-  resolve_point p (voided_by v) fin = refl
+    -- a cell, where the wait is not admitted at it
+    pub resolve_point : (p : ℕ) (y : Cell) → ((v k : ℕ) → NamesAt w k y → offer_after p v k how ≡ None)
+        → keep (not_held w) (standing waits p y) ≡ standing (put_wait w (resolved_wait how (waits w)) waits) p y
+    resolve_point p free fin = refl
+    resolve_point p (receiver who u k) fin = refl
+    resolve_point p (offer v who u k) fin = resolve_offer_point p v k u (λ is. fin v k (sym is, refl)) (same_wait w u) refl
+    resolve_point p (buffered v) fin = refl
+    resolve_point p other fin = refl
 
-  pub resolve_dot : (p : ℕ) (y : Cell) → keep (not_mine w) (awaiting waits p y) ≡ awaiting (put_wait w (resolved_wait how (waits w)) waits) p y
-  resolve_dot p free = refl
-  resolve_dot p (receiver who u k) = resolve_line_point p k u (same_wait w u) refl
-  resolve_dot p (offer v who u k) = refl
-  resolve_dot p (buffered v) = refl
-  resolve_dot p (emptied v) = refl
-  resolve_dot p (closed_by v) = refl
-  resolve_dot p (voided_by v) = refl
+    pub resolve_dot : (p : ℕ) (y : Cell) → keep (not_mine w) (awaiting waits p y) ≡
+        awaiting (put_wait w (resolved_wait how (waits w)) waits) p y
+    resolve_dot p free = refl
+    resolve_dot p (receiver who u k) = resolve_line_point p k u (same_wait w u) refl
+    resolve_dot p (offer v who u k) = refl
+    resolve_dot p other = refl
 
 pub named_resolved : (who k : ℕ) (how : Resolution) (y : Option Wait) → IsNamed who k y → IsNamed who k (resolved_wait how y)
 named_resolved who k how None h = h
@@ -200,26 +210,32 @@ own_resolved (resolved.Withdrawn why) fin (Some x) h = tt
 own_resolved resolved.Voided fin (Some x) h = tt
 
 -- what a change of waits leaves of the names in cells
-pub cell_named : (waits waits' : WaitId → Option Wait) → ((who k : ℕ) (u : WaitId) → IsNamed who k (waits u) → IsNamed who k (waits' u)) → (y : Cell) → CellNamed waits y → CellNamed waits' y
+pub cell_named : (waits waits' : WaitId → Option Wait) → ((who k : ℕ) (u : WaitId) → IsNamed who k (waits u) → IsNamed who k (waits' u))
+    → (y : Cell) → CellNamed waits y → CellNamed waits' y
 cell_named waits waits' f free h = tt
 cell_named waits waits' f (receiver who u k) h = f who k u h
 cell_named waits waits' f (offer v who u k) h = f who k u h
 cell_named waits waits' f (buffered v) h = tt
-cell_named waits waits' f (emptied v) h = tt
-cell_named waits waits' f (closed_by v) h = tt
-cell_named waits waits' f (voided_by v) h = tt
+cell_named waits waits' f other h = tt
 
 -- the waits and the cells keep the lists, where the wait w is taken out of all
-pub ties_resolve : (b : Board) (w : WaitId) (how : Resolution) (x : Wait) → Final how → b.state.waits w ≡ Some x → x.resolved ≡ None → Tied b → Tied (board (resolve w how b.state) b.cells)
+pub ties_resolve : (b : Board) (w : WaitId) (how : Resolution) (x : Wait) → Final how → b.state.waits w ≡ Some x → x.resolved ≡ None
+    → Tied b → Tied (board (resolve w how b.state) b.cells)
 ties_resolve b w how x fin was still_open t = record {
-  queues = λ c. ap (filter (not_held w)) (t.queues c) ∙ gather_filter (not_held w) _ (b.state.channels c).next ∙ gather_same _ _ (b.state.channels c).next (λ p lt. resolve_point b.state.waits w how x was still_open p (b.cells c p) (λ v k m. final_none p v k how fin));
-  lines = λ c. ap (filter (not_mine w)) (t.lines c) ∙ gather_filter (not_mine w) _ (b.state.channels c).next ∙ gather_same _ _ (b.state.channels c).next (λ p lt. resolve_dot b.state.waits w how x was still_open p (b.cells c p));
+  queues = λ c. ap (filter (not_held w)) (t.queues c) ∙ gather_filter (not_held w) _ (b.state.channels c).next
+      ∙ gather_same _ _ (b.state.channels c).next (λ p lt. resolve_point b.state.waits w how x was still_open p (b.cells c p)
+      (λ v k m. final_none p v k how fin));
+  lines = λ c. ap (filter (not_mine w)) (t.lines c) ∙ gather_filter (not_mine w) _ (b.state.channels c).next
+      ∙ gather_same _ _ (b.state.channels c).next (λ p lt. resolve_dot b.state.waits w how x was still_open p (b.cells c p));
   used = t.used;
   ending = t.ending;
   unused = t.unused;
-  named = λ c p. cell_named b.state.waits (put_wait w (resolved_wait how (b.state.waits w)) b.state.waits) (λ who k u h. one_change (IsNamed who k) b.state.waits w u (resolved_wait how) (named_resolved who k how (b.state.waits u)) h) (b.cells c p) (t.named c p);
+  named = λ c p. cell_named b.state.waits (put_wait w (resolved_wait how (b.state.waits w)) b.state.waits)
+      (λ who k u h. one_change (IsNamed who k) b.state.waits w u (resolved_wait how) (named_resolved who k how (b.state.waits u)) h)
+      (b.cells c p) (t.named c p);
   apart = t.apart;
-  at_own_clause = λ u. one_change IsAtOwnClause b.state.waits w u (resolved_wait how) (own_resolved how fin (b.state.waits u)) (t.at_own_clause u);
+  at_own_clause = λ u. one_change IsAtOwnClause b.state.waits w u (resolved_wait how) (own_resolved how fin (b.state.waits u))
+      (t.at_own_clause u);
 }
 
 -- ---- who stands, and by which cell
@@ -241,9 +257,11 @@ awaiting_is waits p (closed_by v) r e = cc
 awaiting_is waits p (voided_by v) r e = cc
 awaiting_is waits p (receiver who u k) r e = go (waits u) refl e
   where
-    by_how : (x : Wait) (how : Option Resolution) → waits u ≡ Some x → x.resolved ≡ how → receiver_by p u k how ≡ Some r → IsReceiver waits p (receiver who u k) r
+    by_how : (x : Wait) (how : Option Resolution) → waits u ≡ Some x → x.resolved ≡ how → receiver_by p u k how ≡ Some r
+        → IsReceiver waits p (receiver who u k) r
     by_how x None was still_open e = let same : record { place = p; party = record { wait = u; clause = k } } ≡ r = cc in
-        subst (λ (z : Receiver). IsReceiver waits p (receiver who u k) z) same (record { who = who; cell = refl; place = refl; wait = x; was = was; still_open = still_open })
+        subst (λ (z : Receiver). IsReceiver waits p (receiver who u k) z) same
+        (record { who = who; cell = refl; place = refl; wait = x; was = was; still_open = still_open })
     by_how x (Some how) was still_open e = cc
 
     go : (y : Option Wait) → waits u ≡ y → receiver_of p u k y ≡ Some r → IsReceiver waits p (receiver who u k) r
@@ -252,7 +270,8 @@ awaiting_is waits p (receiver who u k) r e = go (waits u) refl e
 
 -- an offer that stands is held by an still_open wait, or kept without one
 pub data IsOffer (waits : WaitId → Option Wait) (p : ℕ) (y : Cell) (o : Standing) : Type 0 where
-  held : (who : ℕ) (h : Party) (x : Wait) → y ≡ offer o.value who h.wait h.clause → o.place ≡ p → o.holder ≡ Some h → waits h.wait ≡ Some x → x.resolved ≡ None → IsOffer waits p y o
+  held : (who : ℕ) (h : Party) (x : Wait) → y ≡ offer o.value who h.wait h.clause → o.place ≡ p → o.holder ≡ Some h → waits h.wait ≡ Some x
+      → x.resolved ≡ None → IsOffer waits p y o
   kept_here : awaiting waits p y ≡ None → o.place ≡ p → o.holder ≡ None → IsOffer waits p y o
 
 pub standing_is : (waits : WaitId → Option Wait) (p : ℕ) (y : Cell) (o : Standing) → standing waits p y ≡ Some o → IsOffer waits p y o
@@ -261,11 +280,14 @@ standing_is waits p (receiver who u k) o e = cc
 standing_is waits p (emptied v) o e = cc
 standing_is waits p (closed_by v) o e = cc
 standing_is waits p (voided_by v) o e = cc
-standing_is waits p (buffered v) o e = let same : record { place = p; value = v; holder = None } ≡ o = cc in subst (λ (z : Standing). IsOffer waits p (buffered v) z) same (kept_here refl refl refl)
+standing_is waits p (buffered v) o e = let same : record { place = p; value = v; holder = None } ≡ o = cc
+    in subst (λ (z : Standing). IsOffer waits p (buffered v) z) same (kept_here refl refl refl)
 standing_is waits p (offer v who u k) o e = go (waits u) refl e
   where
-    here : (b : Bool) → (if b then Some (record { place = p; value = v; holder = None }) else None) ≡ Some o → IsOffer waits p (offer v who u k) o
-    here true e = let same : record { place = p; value = v; holder = None } ≡ o = cc in subst (λ (z : Standing). IsOffer waits p (offer v who u k) z) same (kept_here refl refl refl)
+    here : (b : Bool) → (if b then Some (record { place = p; value = v; holder = None }) else None) ≡ Some o
+        → IsOffer waits p (offer v who u k) o
+    here true e = let same : record { place = p; value = v; holder = None } ≡ o = cc
+        in subst (λ (z : Standing). IsOffer waits p (offer v who u k) z) same (kept_here refl refl refl)
     here false e = cc
 
     by_how : (how : Resolution) → offer_after p v k how ≡ Some o → IsOffer waits p (offer v who u k) o
@@ -276,9 +298,12 @@ standing_is waits p (offer v who u k) o e = go (waits u) refl e
     by_how (resolved.Withdrawn why) e = cc
     by_how resolved.Voided e = cc
 
-    by_state : (x : Wait) (how : Option Resolution) → waits u ≡ Some x → x.resolved ≡ how → offer_by p v u k how ≡ Some o → IsOffer waits p (offer v who u k) o
-    by_state x None was still_open e = let same : record { place = p; value = v; holder = Some (record { wait = u; clause = k }) } ≡ o = cc in
-        subst (λ (z : Standing). IsOffer waits p (offer v who u k) z) same (held who (record { wait = u; clause = k }) x refl refl refl was still_open)
+    by_state : (x : Wait) (how : Option Resolution) → waits u ≡ Some x → x.resolved ≡ how → offer_by p v u k how ≡ Some o
+        → IsOffer waits p (offer v who u k) o
+    by_state x None was still_open e = let same : record { place = p; value = v; holder = Some (record { wait = u; clause = k }) } ≡ o =
+        cc in
+        subst (λ (z : Standing). IsOffer waits p (offer v who u k) z) same
+        (held who (record { wait = u; clause = k }) x refl refl refl was still_open)
     by_state x (Some how) was still_open e = by_how how e
 
     go : (y : Option Wait) → waits u ≡ y → offer_of p v u k y ≡ Some o → IsOffer waits p (offer v who u k) o
@@ -288,7 +313,8 @@ standing_is waits p (offer v who u k) o e = go (waits u) refl e
 -- ---- one channel and one cell change
 
 -- what holds of the new channel and of all others
-pub by_channel : (P : ℕ → Channel → Type 0) (c : ℕ) (ch : Channel) (channels : ℕ → Channel) → P c ch → ((d : ℕ) → (c ≡ d → ⊥) → P d (channels d)) → (d : ℕ) → P d (put_channel c ch channels d)
+pub by_channel : (P : ℕ → Channel → Type 0) (c : ℕ) (ch : Channel) (channels : ℕ → Channel) → P c ch
+    → ((d : ℕ) → (c ≡ d → ⊥) → P d (channels d)) → (d : ℕ) → P d (put_channel c ch channels d)
 by_channel P c ch channels here there d = go (c == d) refl
   where
     go : (t : Bool) → (c == d) ≡ t → P d (if t then ch else channels d)
@@ -310,7 +336,8 @@ pub record Unmoved (b : Board) (waits' : WaitId → Option Wait) : Type 0 where
   pub named : (who k : ℕ) (u : WaitId) → IsNamed who k (b.state.waits u) → IsNamed who k (waits' u)
   pub own : (u : WaitId) → IsAtOwnClause (waits' u)
 
-pub ties_change : (b : Board) (c p : ℕ) (y : Cell) (ch : Channel) (waits' : WaitId → Option Wait) → Tied b → Unmoved b waits' → ChannelTied waits' (set_cell b.cells c p y c) ch
+pub ties_change : (b : Board) (c p : ℕ) (y : Cell) (ch : Channel) (waits' : WaitId → Option Wait) → Tied b → Unmoved b waits'
+    → ChannelTied waits' (set_cell b.cells c p y c) ch
     → CellNamed waits' y → ((w : WaitId) (k : ℕ) → NamesAt w k y → (d q : ℕ) → NamesAt w k (b.cells d q) → ⊥)
     → Tied (board (record { channels = put_channel c ch b.state.channels; waits = waits'; stood = b.state.stood }) (set_cell b.cells c p y))
 ties_change b c p y ch waits' t m h named fresh = record {
@@ -319,7 +346,8 @@ ties_change b c p y ch waits' t m h named fresh = record {
   used = λ d. (all d).used;
   ending = λ d. (all d).ending;
   unused = λ d. (all d).unused;
-  named = λ d q. by_spot (λ d q z. CellNamed waits' z) b.cells c p y named d q (λ ne. cell_named b.state.waits waits' m.named (b.cells d q) (t.named d q));
+  named = λ d q. by_spot (λ d q z. CellNamed waits' z) b.cells c p y named d q
+      (λ ne. cell_named b.state.waits waits' m.named (b.cells d q) (t.named d q));
   apart = λ c1 p1 c2 p2 w k m1 m2. two c1 p1 c2 p2 w k (which w k c1 p1 m1) (which w k c2 p2 m2);
   at_own_clause = m.own;
 }
@@ -345,13 +373,16 @@ ties_change b c p y ch waits' t m h named fresh = record {
 
     two : (c1 p1 c2 p2 : ℕ) (w : WaitId) (k : ℕ) → Which w k c1 p1 → Which w k c2 p2 → spot c1 p1 ≡ spot c2 p2
     two c1 p1 c2 p2 w k h1 h2 = ⊎_elim
-        (λ (x : (spot c p ≡ spot c1 p1) × NamesAt w k y). ⊎_elim (λ (z : (spot c p ≡ spot c2 p2) × NamesAt w k y). sym x.0 ∙ z.0) (λ z. absurd (fresh w k x.1 c2 p2 z)) h2)
-        (λ x. ⊎_elim (λ (z : (spot c p ≡ spot c2 p2) × NamesAt w k y). absurd (fresh w k z.1 c1 p1 x)) (λ z. t.apart c1 p1 c2 p2 w k x z) h2)
+        (λ (x : (spot c p ≡ spot c1 p1) × NamesAt w k y). ⊎_elim (λ (z : (spot c p ≡ spot c2 p2) × NamesAt w k y). sym x.0
+        ∙ z.0) (λ z. absurd (fresh w k x.1 c2 p2 z)) h2)
+        (λ x. ⊎_elim (λ (z : (spot c p ≡ spot c2 p2) × NamesAt w k y). absurd (fresh w k z.1 c1 p1 x)) (λ z. t.apart c1 p1 c2 p2 w k x z)
+        h2)
         h1
 
 -- how many stood at the placings is nothing to it
 pub ties_stood : (channels : ℕ → Channel) (waits : WaitId → Option Wait) (stood stood' : ℕ → ℕ → ℕ) (cells : Cells)
-    → Tied (board (record { channels = channels; waits = waits; stood = stood }) cells) → Tied (board (record { channels = channels; waits = waits; stood = stood' }) cells)
+    → Tied (board (record { channels = channels; waits = waits; stood = stood }) cells)
+    → Tied (board (record { channels = channels; waits = waits; stood = stood' }) cells)
 ties_stood channels waits stood stood' cells t = record {
   queues = t.queues;
   lines = t.lines;
@@ -364,7 +395,8 @@ ties_stood channels waits stood stood' cells t = record {
 }
 
 -- waits alone change, and nobody's standing
-pub ties_waits : (b : Board) (waits' : WaitId → Option Wait) → Tied b → Unmoved b waits' → Tied (board (record { channels = b.state.channels; waits = waits'; stood = b.state.stood }) b.cells)
+pub ties_waits : (b : Board) (waits' : WaitId → Option Wait) → Tied b → Unmoved b waits'
+    → Tied (board (record { channels = b.state.channels; waits = waits'; stood = b.state.stood }) b.cells)
 ties_waits b waits' t m = record {
   queues = λ d. t.queues d ∙ gather_same _ _ (b.state.channels d).next (λ q lt. sym (m.stand d q));
   lines = λ d. t.lines d ∙ gather_same _ _ (b.state.channels d).next (λ q lt. sym (m.await d q));

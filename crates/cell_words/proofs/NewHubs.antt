@@ -18,7 +18,13 @@ none_legal shape = tt
 
 pub all_free : (shape : Shape) (i : ℕ) → Fits shape [] i 0
 unfolding board_from replay_from
-all_free shape i = record { cell = λ c p lc lp e. (refl, tt); wait = λ c p lc lp e. (refl, tt); sends = λ c lc e. none_below_start empty; receives = λ c lc e. none_below_start empty; run = λ c lc e p le lt. absurd (omega (arith, lt)) }
+all_free shape i = record {
+  cell = λ c p lc lp e. (refl, tt);
+  wait = λ c p lc lp e. (refl, tt);
+  sends = λ c lc e. none_below_start empty;
+  receives = λ c lc e. none_below_start empty;
+  run = λ c lc e p le lt. absurd (omega (arith, lt));
+}
 
 -- ---- the numbers of first cells
 
@@ -29,7 +35,8 @@ base_step (x ∷ xs) zero lt = base_zero xs
     base_zero : (xs : Shape) → (x.1 + 1) + base xs 0 ≡ 0 + (x.1 + 1)
     base_zero [] = omega arith
     base_zero (y ∷ ys) = omega arith
-base_step (x ∷ xs) (suc i) lt = let h = base_step xs i (omega arith) in let e : suc i + 1 ≡ suc (i + 1) = omega arith in ap (base (x ∷ xs)) e ∙ omega arith
+base_step (x ∷ xs) (suc i) lt = let h = base_step xs i (omega arith) in let e : suc i + 1 ≡ suc (i + 1) = omega arith
+    in ap (base (x ∷ xs)) e ∙ omega arith
 
 pub base_start : (shape : Shape) → base shape 0 ≡ 0
 base_start [] = refl
@@ -42,20 +49,25 @@ base_all (x ∷ xs) = let h = base_all xs in omega arith
 pub base_below : (shape : Shape) (i : ℕ) → i < length shape → base shape (i + 1) ≤ cells_in shape
 base_below [] i lt = absurd (omega arith)
 base_below (x ∷ xs) zero lt = let h = base_start xs in omega arith
-base_below (x ∷ xs) (suc i) lt = let h = base_below xs i (omega arith) in let e : suc i + 1 ≡ suc (i + 1) = omega arith in subst (λ (n : ℕ). base (x ∷ xs) n ≤ cells_in (x ∷ xs)) (sym e) (omega arith)
+base_below (x ∷ xs) (suc i) lt = let h = base_below xs i (omega arith) in let e : suc i + 1 ≡ suc (i + 1) = omega arith
+    in subst (λ (n : ℕ). base (x ∷ xs) n ≤ cells_in (x ∷ xs)) (sym e) (omega arith)
 
 -- as many words as are asked for
-pub count_is : (shape kinds : Shape) (cells i : ℕ) → shape ≡ kinds → cells ≡ cells_in kinds → i < word_count shape → i < 2 * cells + 3 * length kinds + 1
+pub count_is : (shape kinds : Shape) (cells i : ℕ) → shape ≡ kinds → cells ≡ cells_in kinds → i < word_count shape
+    → i < 2 * cells + 3 * length kinds + 1
 count_is shape kinds cells i same total h = let a = ap cells_in same in let b = ap (λ (s : Shape). length s) same in omega arith
 
 pub no_firsts : (shape : Shape) (firsts : List ℕ) → firsts ≡ [] → AreFirsts shape 0 firsts
 no_firsts shape firsts e = record { count = ap length e; first = λ c lt. absurd (omega arith) }
 
 -- one channel more
-pub firsts_more : (shape : Shape) (i next : ℕ) (firsts more : List ℕ) → more ≡ firsts ++ next ∷ [] → next ≡ base shape i → AreFirsts shape i firsts → AreFirsts shape (i + 1) more
+pub firsts_more : (shape : Shape) (i next : ℕ) (firsts more : List ℕ) → more ≡ firsts ++ next ∷ [] → next ≡ base shape i
+    → AreFirsts shape i firsts → AreFirsts shape (i + 1) more
 firsts_more shape i next firsts more e is h = record {
   count = ap length e ∙ length-append firsts (next ∷ []) ∙ ap (λ (n : ℕ). n + 1) h.count;
   first = λ c lt. dite (ℕ_discrete c i)
-      (λ (same : c ≡ i). ap (λ (l : List ℕ). get_or l c 0) e ∙ ap (λ (n : ℕ). get_or (firsts ++ next ∷ []) n 0) (same ∙ sym h.count) ∙ get_or-append_seam firsts next [] 0 ∙ is ∙ ap (base shape) (sym same))
-      (λ ne. ap (λ (l : List ℕ). get_or l c 0) e ∙ get_or-append firsts (next ∷ []) 0 c (let k = h.count in omega arith) ∙ h.first c (omega arith));
+      (λ (same : c ≡ i). ap (λ (l : List ℕ). get_or l c 0) e ∙ ap (λ (n : ℕ). get_or (firsts ++ next ∷ []) n 0) (same ∙ sym h.count)
+      ∙ get_or-append_seam firsts next [] 0 ∙ is ∙ ap (base shape) (sym same))
+      (λ ne. ap (λ (l : List ℕ). get_or l c 0) e ∙ get_or-append firsts (next ∷ []) 0 c (let k = h.count in omega arith)
+      ∙ h.first c (omega arith));
 }

@@ -31,16 +31,21 @@ use Rattle.cell_words.proofs.WalksToAdmit.{Walked, one_kept, place_kept, walked_
 
 -- ---- what lasts
 
-pub run_seen : (shape : Shape) (c from to : ℕ) (v w : Seen) → Sees v w → Legal shape w.seen → WereKept v.seen c from to → WereKept w.seen c from to
-run_seen shape c from to v w s l h = subst (λ (es : List Entry). WereKept es c from to) (sym s.now) (were_kept_more shape c from to v.seen s.others (subst (Legal shape) s.now l) h)
+pub run_seen : (shape : Shape) (c from to : ℕ) (v w : Seen) → Sees v w → Legal shape w.seen → WereKept v.seen c from to
+    → WereKept w.seen c from to
+run_seen shape c from to v w s l h = subst (λ (es : List Entry). WereKept es c from to) (sym s.now)
+    (were_kept_more shape c from to v.seen s.others (subst (Legal shape) s.now l) h)
 
-pub run_made : (shape : Shape) (c from to : ℕ) (e : Entry) (v w : Seen) → Makes v e w → Legal shape w.seen → WereKept v.seen c from to → WereKept w.seen c from to
+pub run_made : (shape : Shape) (c from to : ℕ) (e : Entry) (v w : Seen) → Makes v e w → Legal shape w.seen → WereKept v.seen c from to
+    → WereKept w.seen c from to
 run_made shape c from to e v w m l h = subst (λ (es : List Entry). WereKept es c from to) (sym m.now)
-    (were_kept_more shape c from to (v.seen ++ m.others) (e ∷ []) (subst (Legal shape) m.now l) (were_kept_more shape c from to v.seen m.others (before_legal shape v w e l m) h))
+    (were_kept_more shape c from to (v.seen ++ m.others) (e ∷ []) (subst (Legal shape) m.now l)
+    (were_kept_more shape c from to v.seen m.others (before_legal shape v w e l m) h))
 
 -- ---- one place more
 
-pub run_next : (log : List Entry) (c from to place : ℕ) → to ≡ place → WereKept log c from to → WereKept log c place (place + 1) → WereKept log c from (place + 1)
+pub run_next : (log : List Entry) (c from to place : ℕ) → to ≡ place → WereKept log c from to → WereKept log c place (place + 1)
+    → WereKept log c from (place + 1)
 run_next log c from to place is h k q le lt = dite (dec_le (q + 1) place) (λ below. h q le (omega arith)) (λ at. k q (omega arith) lt)
 
 pub put_kept : (who c p value : ℕ) (v w : Seen) → Makes v (record { who = who; act = Put c p value }) w → WereKept w.seen c p (p + 1)
@@ -50,55 +55,73 @@ put_kept who c p value v w m = let log = v.seen ++ m.others in let e : Entry = r
 
 -- an offer that is admitted is kept from then on
 admit_keeps : (b : Board) (kind : Kind) (c p : ℕ) → MayBeAdmitted kind p 0 (b.state.channels c).queue → Tied b
-    → WasKept (resolve_holder (holder_at p (b.state.channels c).queue) resolved.Admitted (with_queue c (admitted p (b.state.channels c).queue) b.state)).waits (b.cells c p)
+    → WasKept (resolve_holder (holder_at p (b.state.channels c).queue) resolved.Admitted
+    (with_queue c (admitted p (b.state.channels c).queue) b.state)).waits (b.cells c p)
 admit_keeps b kind c p m t =
     let s = held_at kind p 0 (b.state.channels c).queue m in
     let g = gather_in _ (b.state.channels c).next s.before s.it s.rest (sym (t.queues c) ∙ s.all) in
-    subst (λ (z : Option Party). WasKept (resolve_holder z resolved.Admitted (with_queue c (admitted p (b.state.channels c).queue) b.state)).waits (b.cells c p)) (sym s.found) (go s g.0 (standing_is b.state.waits g.0 (b.cells c g.0) s.it g.2))
+    subst (λ (z : Option Party). WasKept (resolve_holder z resolved.Admitted
+    (with_queue c (admitted p (b.state.channels c).queue) b.state)).waits (b.cells c p)) (sym s.found)
+    (go s g.0 (standing_is b.state.waits g.0 (b.cells c g.0) s.it g.2))
   where
-    go : (s : HeldAt p (b.state.channels c).queue) (q : ℕ) → IsOffer b.state.waits q (b.cells c q) s.it → WasKept (resolve s.holder.wait (resolved.Admitted s.holder.clause) (with_queue c (admitted p (b.state.channels c).queue) b.state)).waits (b.cells c p)
+    go : (s : HeldAt p (b.state.channels c).queue) (q : ℕ) → IsOffer b.state.waits q (b.cells c q) s.it
+        → WasKept (resolve s.holder.wait (resolved.Admitted s.holder.clause)
+        (with_queue c (admitted p (b.state.channels c).queue) b.state)).waits (b.cells c p)
     go s q (held who h x cell place holder was still_open) =
         let at : q ≡ p = sym place ∙ s.place in
         let same : Some h ≡ Some s.holder = sym holder ∙ s.holds in
         let is : h ≡ s.holder = cc in
-        let here : b.cells c p ≡ offer s.it.value who h.wait h.clause = subst (λ (z : ℕ). b.cells c z ≡ offer s.it.value who h.wait h.clause) at cell in
+        let here : b.cells c p ≡ offer s.it.value who h.wait h.clause =
+        subst (λ (z : ℕ). b.cells c z ≡ offer s.it.value who h.wait h.clause) at cell in
         let waits = put_wait h.wait (resolved_wait (resolved.Admitted h.clause) (b.state.waits h.wait)) b.state.waits in
-        subst (λ (z : Party). WasKept (resolve z.wait (resolved.Admitted z.clause) (with_queue c (admitted p (b.state.channels c).queue) b.state)).waits (b.cells c p)) is
-        (subst (WasKept waits) (sym here) (subst (IsResolvedAs (resolved.Admitted h.clause)) (sym (at_wait h.wait (resolved_wait (resolved.Admitted h.clause) (b.state.waits h.wait)) b.state.waits ∙ ap (resolved_wait (resolved.Admitted h.clause)) was)) refl))
+        subst (λ (z : Party). WasKept (resolve z.wait (resolved.Admitted z.clause)
+        (with_queue c (admitted p (b.state.channels c).queue) b.state)).waits (b.cells c p)) is
+        (subst (WasKept waits) (sym here) (subst (IsResolvedAs (resolved.Admitted h.clause))
+        (sym (at_wait h.wait (resolved_wait (resolved.Admitted h.clause) (b.state.waits h.wait)) b.state.waits
+        ∙ ap (resolved_wait (resolved.Admitted h.clause)) was)) refl))
     go s q (kept_here line place holder) = let f : Some s.holder ≡ None = sym s.holds ∙ holder in cc
 
-admit_pushed : (shape : Shape) (who c p : ℕ) (log : List Entry) → Legal shape (log ++ record { who = who; act = Admit c p } ∷ []) → WasKept (replay (log ++ record { who = who; act = Admit c p } ∷ [])).waits (cell_of (log ++ record { who = who; act = Admit c p } ∷ []) c p)
+admit_pushed : (shape : Shape) (who c p : ℕ) (log : List Entry) → Legal shape (log ++ record { who = who; act = Admit c p } ∷ [])
+    → WasKept (replay (log ++ record { who = who; act = Admit c p } ∷ [])).waits
+    (cell_of (log ++ record { who = who; act = Admit c p } ∷ []) c p)
 unfolding replay_from LegalFrom
 admit_pushed shape who c p log l =
     let e : Entry = record { who = who; act = Admit c p } in
     let parts = LegalFrom-parts shape start log (e ∷ []) l in
     subst (λ (s : State). WasKept s.waits (cell_of (log ++ e ∷ []) c p)) (sym (replay_push log e))
-    (subst (WasKept (after (replay log) who (Admit c p)).waits) (sym (cells_push log e c p)) (admit_keeps (now log) (kind_at shape c) c p parts.1.0.1 (tied_now shape log parts.0)))
+    (subst (WasKept (after (replay log) who (Admit c p)).waits) (sym (cells_push log e c p))
+    (admit_keeps (now log) (kind_at shape c) c p parts.1.0.1 (tied_now shape log parts.0)))
 
 pub admit_kept : (shape : Shape) (who c p t : ℕ) (v w : Seen) → Legal shape w.seen → Admits who c p t v w → WereKept w.seen c p (p + 1)
-admit_kept shape who c p t v w l a = one_kept w.seen c p (subst (λ (es : List Entry). WasKept (replay es).waits (cell_of es c p)) (sym a.made.now)
+admit_kept shape who c p t v w l a = one_kept w.seen c p
+    (subst (λ (es : List Entry). WasKept (replay es).waits (cell_of es c p)) (sym a.made.now)
     (admit_pushed shape who c p (v.seen ++ a.made.others) (subst (Legal shape) a.made.now l)))
 
 -- ---- a walk that begins where the run ends
 
-module _ (shape : Shape) (c low from to : ℕ) (kind : suspends (kind_at shape c) ≡ true) (log : List Entry) (l : Legal shape log) (below : NoneBelow 0 low (at_channel log c)) (run : WereKept log c from to) where
+module _ (shape : Shape) (c low from to : ℕ) (kind : suspends (kind_at shape c) ≡ true) (log : List Entry) (l : Legal shape log)
+    (below : NoneBelow 0 low (at_channel log c)) (run : WereKept log c from to) where
   pub walked_run : from ≤ low → (d n : ℕ) → n ≡ low + d → n ≤ to → Walked c low n d log
-  walked_run le zero n is within = let e : low ≡ n = omega arith in subst (λ (z : ℕ). Walked c low z 0 log) e (walked_none shape c low log l below)
+  walked_run le zero n is within = let e : low ≡ n = omega arith
+      in subst (λ (z : ℕ). Walked c low z 0 log) e (walked_none shape c low log l below)
   walked_run le (suc d) n is within =
       let e : (low + d) + 1 ≡ n = omega arith in
       let f : d + 1 ≡ suc d = omega arith in
       subst (λ (z : ℕ × ℕ). Walked c low z.0 z.1 log) (λ i. (e i, f i))
-      (walked_kept c low (low + d) d log (omega arith) (walked_run le d (low + d) refl (omega arith)) (place_kept shape c (low + d) kind log l (cell_of log c (low + d)) refl (run (low + d) (omega arith) (omega arith))))
+      (walked_kept c low (low + d) d log (omega arith) (walked_run le d (low + d) refl (omega arith))
+      (place_kept shape c (low + d) kind log l (cell_of log c (low + d)) refl (run (low + d) (omega arith) (omega arith))))
 
   -- at the run's end, or where it is not one of these places at the place itself
   pub walked_start : (first : ℕ) → low ≤ first → (first ≡ low) ⊎ ((from ≤ low) × (first ≤ to)) → Walked c low first (first - low) log
   walked_start first le at = ⊎_elim
-      (λ (e : first ≡ low). let f : low ≡ first = sym e in let d : 0 ≡ first - low = omega arith in subst (λ (z : ℕ × ℕ). Walked c low z.0 z.1 log) (λ i. (f i, d i)) (walked_none shape c low log l below))
+      (λ (e : first ≡ low). let f : low ≡ first = sym e in let d : 0 ≡ first - low = omega arith
+      in subst (λ (z : ℕ × ℕ). Walked c low z.0 z.1 log) (λ i. (f i, d i)) (walked_none shape c low log l below))
       (λ (r : (from ≤ low) × (first ≤ to)). walked_run r.0 (first - low) first (omega arith) r.1)
       at
 
   -- so many stand as the run has from its first offer on
-  pub run_stands : (most end : ℕ) → from ≤ low → low + most ≤ to → low + most ≤ end → is_some (stands log c low) ≡ true → most ≤ length (gather (stands log c) end)
+  pub run_stands : (most end : ℕ) → from ≤ low → low + most ≤ to → low + most ≤ end → is_some (stands log c low) ≡ true
+      → most ≤ length (gather (stands log c) end)
   run_stands most end le within before st =
       let w = walked_run le most (low + most) refl within in
       let k = w.lower st in
@@ -106,9 +129,11 @@ module _ (shape : Shape) (c low from to : ℕ) (kind : suspends (kind_at shape c
       omega arith
 
 -- where none stands below, no more stand than there are places
-pub few_from : (shape : Shape) (c low : ℕ) (log : List Entry) → Legal shape log → NoneBelow 0 low (at_channel log c) → (d n : ℕ) → n ≡ low + d → length (gather (stands log c) n) ≤ d
+pub few_from : (shape : Shape) (c low : ℕ) (log : List Entry) → Legal shape log → NoneBelow 0 low (at_channel log c) → (d n : ℕ)
+    → n ≡ low + d → length (gather (stands log c) n) ≤ d
 few_from shape c low log l below zero n is =
-    let none : length (gather (stands log c) low) ≡ 0 = ap (λ (os : List Standing). length os) (gather_none (stands log c) low (λ q lt. none_offers (now log) c (tied_now shape log l) 0 low below q lt)) in
+    let none : length (gather (stands log c) low) ≡ 0 = ap (λ (os : List Standing). length os)
+    (gather_none (stands log c) low (λ q lt. none_offers (now log) c (tied_now shape log l) 0 low below q lt)) in
     let e : low ≡ n = omega arith in
     subst (λ (z : ℕ). length (gather (stands log c) z) ≤ 0) e (omega arith)
 few_from shape c low log l below (suc d) n is =

@@ -83,19 +83,30 @@ first_at place x xs p e = ap (λ (n : ℕ). (n == p) || list_any (λ y. place y 
 
 -- ---- a receiver
 
-module _ (shape : Shape) (c p : ℕ) (x : Waiter) (v w : Seen) (l : Legal shape w.seen) (s : Sees v w) (low : NoneBelow p 0 (at_channel v.seen c)) (first : Receives shape c p x v.seen)
+module _ (shape : Shape) (c p : ℕ) (x : Waiter) (v w : Seen) (l : Legal shape w.seen) (s : Sees v w)
+    (low : NoneBelow p 0 (at_channel v.seen c)) (first : Receives shape c p x v.seen)
     (word : WaitWord) (is : word ≡ word_of_wait ((replay w.seen).waits first.held.wait)) where
   pub receiver_told : (b : Bool) → b ≡ is_nobody word.by → ReceiverStandsAt c p v w b
   receiver_told true e =
-      let front = in_front shape w.seen l c p first.held.who x.clause first.held.wait (below_seen shape p 0 c v w s l low) (receiver_seen shape c p first.held.who x.clause first.held.wait v w s l first.cell)
-      (nobody_code ((replay w.seen).waits first.held.wait) (sym (ap (λ (z : WaitWord). is_nobody z.by) is) ∙ sym e)) in
-      (s, ap (λ (rs : List Receiver). list_any (λ (r : Receiver). r.place == p) rs) front.1 ∙ first_at (λ (r : Receiver). r.place) (record { place = p; party = record { wait = first.held.wait; clause = x.clause } }) front.0 p refl)
-  receiver_told false e = (s, receiver_lost shape v w l s c p first.held.who x.clause first.held.wait low first.cell (somebody ((replay w.seen).waits first.held.wait) (sym (ap (λ (z : WaitWord). is_nobody z.by) is) ∙ sym e)))
+      let front = in_front shape w.seen l c p first.held.who x.clause first.held.wait (below_seen shape p 0 c v w s l low)
+      (receiver_seen shape c p first.held.who x.clause first.held.wait v w s l first.cell)
+      (nobody_code ((replay w.seen).waits first.held.wait) (sym (ap (λ (z : WaitWord). is_nobody z.by) is) ∙ sym e)) in (
+        s,
+        ap (λ (rs : List Receiver). list_any (λ (r : Receiver). r.place == p) rs) front.1
+            ∙ first_at (λ (r : Receiver). r.place) (record { place = p; party = record { wait = first.held.wait; clause = x.clause } })
+            front.0 p refl,
+      )
+  receiver_told false e = (
+    s,
+    receiver_lost shape v w l s c p first.held.who x.clause first.held.wait low first.cell
+        (somebody ((replay w.seen).waits first.held.wait) (sym (ap (λ (z : WaitWord). is_nobody z.by) is) ∙ sym e)),
+  )
 
 -- ---- an offer
 
 -- one that stands, where none does below, is the first
-pub stands_first : (shape : Shape) (log : List Entry) (c p : ℕ) → Legal shape log → NoneBelow 0 p (at_channel log c) → p < (at_channel log c).next → is_some (stands log c p) ≡ true → StandsOffer c p (replay log)
+pub stands_first : (shape : Shape) (log : List Entry) (c p : ℕ) → Legal shape log → NoneBelow 0 p (at_channel log c)
+    → p < (at_channel log c).next → is_some (stands log c p) ≡ true → StandsOffer c p (replay log)
 stands_first shape log c p l low lt h = go (stands log c p) refl h
   where
     go : (o : Option Standing) → stands log c p ≡ o → is_some o ≡ true → StandsOffer c p (replay log)
@@ -103,9 +114,11 @@ stands_first shape log c p l low lt h = go (stands log c p) refl h
     go (Some o) e h =
         let t = tied_now shape log l in
         ap (λ (os : List Standing). list_any (λ (o : Standing). o.place == p) os) (first_queue (now log) c t 0 p o low e lt)
-        ∙ first_at (λ (o : Standing). o.place) o _ p (offer_place (replay log).waits p (cell_of log c p) o (standing_is (replay log).waits p (cell_of log c p) o e))
+        ∙ first_at (λ (o : Standing). o.place) o _ p (offer_place (replay log).waits p (cell_of log c p) o
+        (standing_is (replay log).waits p (cell_of log c p) o e))
 
-pub offer_told : (shape : Shape) (c p : ℕ) (v w : Seen) → Legal shape v.seen → Legal shape w.seen → Sees v w → NoneBelow 0 p (at_channel v.seen c) → p < (at_channel v.seen c).next → (b : Bool)
+pub offer_told : (shape : Shape) (c p : ℕ) (v w : Seen) → Legal shape v.seen → Legal shape w.seen → Sees v w
+    → NoneBelow 0 p (at_channel v.seen c) → p < (at_channel v.seen c).next → (b : Bool)
     → MatchBool b (is_some (stands v.seen c p) ≡ true) (stands w.seen c p ≡ None) → OfferStandsAt c p v w b
 offer_told shape c p v w lv lw s low lt true h = (s, stands_first shape v.seen c p lv low lt h)
 offer_told shape c p v w lv lw s low lt false h =
@@ -113,36 +126,32 @@ offer_told shape c p v w lv lw s low lt false h =
     (s, past_offer (now w.seen) c (tied_now shape w.seen lw) 0 p (below_seen shape 0 p c v w s lw low) (omega arith) h)
 
 -- an element that was put stands
-pub kept_first : (shape : Shape) (log : List Entry) (c p y : ℕ) → Legal shape log → NoneBelow 0 p (at_channel log c) → cell_of log c p ≡ buffered y → StandsOffer c p (replay log)
-kept_first shape log c p y l low e = stands_first shape log c p l low (used_given (now log) c p (tied_now shape log l) (ap is_used e)) (ap (λ (x : Cell). is_some (standing (replay log).waits p x)) e)
+pub kept_first : (shape : Shape) (log : List Entry) (c p y : ℕ) → Legal shape log → NoneBelow 0 p (at_channel log c)
+    → cell_of log c p ≡ buffered y → StandsOffer c p (replay log)
+kept_first shape log c p y l low e = stands_first shape log c p l low (used_given (now log) c p (tied_now shape log l) (ap is_used e))
+    (ap (λ (x : Cell). is_some (standing (replay log).waits p x)) e)
 
 -- an offer's place was given out
-pub offers_given : (shape : Shape) (log : List Entry) (c p : ℕ) (x : Waiter) → Legal shape log → Offers shape c p x log → p < (at_channel log c).next
+pub offers_given : (shape : Shape) (log : List Entry) (c p : ℕ) (x : Waiter) → Legal shape log → Offers shape c p x log
+    → p < (at_channel log c).next
 offers_given shape log c p x l h = used_given (now log) c p (tied_now shape log l) (ap is_used h.cell)
 
 -- ---- a word that was found says to a clause what it says to a plain call
 
-pub clause_offer_found : (shape : Shape) (who c p k value : ℕ) (main : Option WaitId) (word : CellWord) (s : CellState) (u v : Seen) → OfferAt shape who c p value u v (found_by_sender word s) → ClauseOfferAt shape who c p main k value u v (found_by_sender word s)
+pub clause_offer_found : (shape : Shape) (who c p k value : ℕ) (main : Option WaitId) (word : CellWord) (s : CellState) (u v : Seen)
+    → OfferAt shape who c p value u v (found_by_sender word s) → ClauseOfferAt shape who c p main k value u v (found_by_sender word s)
 clause_offer_found shape who c p k value main word state.Free u v h = h
-clause_offer_found shape who c p k value main word state.Receiver u v h = h
-clause_offer_found shape who c p k value main word state.Offer u v h = h
-clause_offer_found shape who c p k value main word state.Buffered u v h = h
-clause_offer_found shape who c p k value main word state.Emptied u v h = h
-clause_offer_found shape who c p k value main word state.Closed u v h = h
-clause_offer_found shape who c p k value main word state.Voided u v h = h
+clause_offer_found shape who c p k value main word other u v h = h
 
-pub clause_receive_found : (shape : Shape) (who c p k : ℕ) (main : Option WaitId) (word : CellWord) (s : CellState) (u v : Seen) → ReceiveAt shape who c p u v (found_by_receiver word s) → ClauseReceiveAt shape who c p main k u v (found_by_receiver word s)
+pub clause_receive_found : (shape : Shape) (who c p k : ℕ) (main : Option WaitId) (word : CellWord) (s : CellState) (u v : Seen)
+    → ReceiveAt shape who c p u v (found_by_receiver word s) → ClauseReceiveAt shape who c p main k u v (found_by_receiver word s)
 clause_receive_found shape who c p k main word state.Free u v h = h
-clause_receive_found shape who c p k main word state.Receiver u v h = h
-clause_receive_found shape who c p k main word state.Offer u v h = h
-clause_receive_found shape who c p k main word state.Buffered u v h = h
-clause_receive_found shape who c p k main word state.Emptied u v h = h
-clause_receive_found shape who c p k main word state.Closed u v h = h
-clause_receive_found shape who c p k main word state.Voided u v h = h
+clause_receive_found shape who c p k main word other u v h = h
 
 -- ---- after a look, what the last step found
 
-pub clause_offer_later : (shape : Shape) (who c p k value : ℕ) (main : Option WaitId) (u v w : Seen) → Sees u v → (a : At) → ClauseOfferAt shape who c p main k value v w a → ClauseOfferAt shape who c p main k value u w a
+pub clause_offer_later : (shape : Shape) (who c p k value : ℕ) (main : Option WaitId) (u v w : Seen) → Sees u v → (a : At)
+    → ClauseOfferAt shape who c p main k value v w a → ClauseOfferAt shape who c p main k value u w a
 clause_offer_later shape who c p k value main u v w s at.Spent h = (sees_then u v w s h.0, h.1)
 clause_offer_later shape who c p k value main u v w s at.Open h = h
 clause_offer_later shape who c p k value main u v w s at.Placed h = sees_makes u v w _ s h
@@ -152,7 +161,8 @@ clause_offer_later shape who c p k value main u v w s (at.Kept y) h = h
 clause_offer_later shape who c p k value main u v w s (at.Closed y) h = (sees_then u v w s h.0, h.1)
 clause_offer_later shape who c p k value main u v w s at.Gone h = (sees_then u v w s h.0, h.1)
 
-pub clause_receive_later : (shape : Shape) (who c p k : ℕ) (main : Option WaitId) (u v w : Seen) → Sees u v → (a : At) → ClauseReceiveAt shape who c p main k v w a → ClauseReceiveAt shape who c p main k u w a
+pub clause_receive_later : (shape : Shape) (who c p k : ℕ) (main : Option WaitId) (u v w : Seen) → Sees u v → (a : At)
+    → ClauseReceiveAt shape who c p main k v w a → ClauseReceiveAt shape who c p main k u w a
 clause_receive_later shape who c p k main u v w s at.Spent h = (sees_then u v w s h.0, h.1)
 clause_receive_later shape who c p k main u v w s at.Open h = h
 clause_receive_later shape who c p k main u v w s at.Placed h = sees_makes u v w _ s h

@@ -3,21 +3,20 @@ use Rattle.atomic_table.specs.Table.{State}
 use Rattle.worded.specs.Histories.{HasOneHistory}
 use Rattle.worded.specs.declared.view.View.{View}
 use Rattle.channel_model.specs.declared.acts.Entry.{Entry}
-use Rattle.channel_model.specs.Histories.{Legal}
+use Rattle.channel_model.specs.Histories.{Legal, acts_of}
 use Rattle.cell_words.specs.declared.layout.Layout.{Layout}
 use Rattle.cell_words.specs.Words.{Fits, word_count}
 use Rattle.cell_words.specs.Seen.{maker}
 use Rattle.cell_words.specs.Tables.{HoldsChannels}
-use Rattle.worded.proofs.TagsHeld.{none_of_unheld, one_holder}
+use Rattle.worded.proofs.TagsHeld.{are_seats}
 use Rattle.cell_words.proofs.ActsOfTags.{same_acts, no_acts}
 
-pub holds_channels : (layout : Layout) (s : State Entry (View Entry Layout)) → HasOneHistory (Legal layout.kinds) (Fits layout.kinds) maker (word_count layout.kinds) s → HoldsChannels layout.kinds s
+pub holds_channels : (layout : Layout) (s : State Entry (View Entry Layout))
+    → HasOneHistory (Legal layout.kinds) (Fits layout.kinds) maker (word_count layout.kinds) s → HoldsChannels layout.kinds s
 holds_channels layout s r = record {
   entries = r.log;
   legal = r.is_legal;
   words = λ i lt. r.words_fit i lt;
-  prefixes = λ id v at. (r.views_fit id v at).begins;
-  own = λ id t v at h. same_acts t v.seen r.log ((r.views_fit id v at).owned t h).1;
-  apart = λ id id' t v v' at at' h h'. one_holder (Legal layout.kinds) (Fits layout.kinds) maker (word_count layout.kinds) s r t id id' v v' at at' h h';
-  unheld = λ t none. no_acts t r.log (none_of_unheld (Legal layout.kinds) (Fits layout.kinds) maker (word_count layout.kinds) s r t none);
+  passes = are_seats (Legal layout.kinds) (Fits layout.kinds) maker (word_count layout.kinds) (λ log. log) acts_of (λ xs ys p. p) same_acts
+      no_acts s r;
 }

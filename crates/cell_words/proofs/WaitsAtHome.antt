@@ -45,7 +45,8 @@ pub record KeepsOwner (x y : Option Wait) : Type 0 where
 same_owner : (x : Option Wait) → KeepsOwner x x
 same_owner x = record { keeps = λ w c h. h }
 
-home_resolved : (owner : ℕ) (how : Option Resolution) (by : Resolution) (w : WaitId) (c : Cell) → IsHome owner how w c → IsHome owner (Some by) w c
+home_resolved : (owner : ℕ) (how : Option Resolution) (by : Resolution) (w : WaitId) (c : Cell) → IsHome owner how w c
+    → IsHome owner (Some by) w c
 home_resolved owner how by w free h = h
 home_resolved owner how by w (receiver who u k) h = h
 home_resolved owner how by w (offer v who u k) h = h
@@ -62,22 +63,26 @@ settled_owner : (outcome : Settled) (x : Option Wait) → KeepsOwner x (settled_
 settled_owner outcome None = record { keeps = λ w c h. h }
 settled_owner outcome (Some x) = record { keeps = λ w c h. h }
 
-one_owner : (waits : WaitId → Option Wait) (u w : WaitId) (f : Option Wait → Option Wait) → ((x : Option Wait) → KeepsOwner x (f x)) → KeepsOwner (waits w) (put_wait u (f (waits u)) waits w)
+one_owner : (waits : WaitId → Option Wait) (u w : WaitId) (f : Option Wait → Option Wait) → ((x : Option Wait) → KeepsOwner x (f x))
+    → KeepsOwner (waits w) (put_wait u (f (waits u)) waits w)
 one_owner waits u w f k = go (same_wait u w) refl
   where
     go : (b : Bool) → same_wait u w ≡ b → KeepsOwner (waits w) (if b then f (waits u) else waits w)
     go true e = subst (λ (z : WaitId). KeepsOwner (waits z) (f (waits u))) (same_wait-eq u w e) (k (waits u))
     go false e = same_owner (waits w)
 
-first_owner : (s : State) (rs : List Receiver) (how : ℕ → Resolution) (w : WaitId) → KeepsOwner (s.waits w) ((resolve_first rs how s).waits w)
+first_owner : (s : State) (rs : List Receiver) (how : ℕ → Resolution) (w : WaitId)
+    → KeepsOwner (s.waits w) ((resolve_first rs how s).waits w)
 first_owner s [] how w = same_owner (s.waits w)
 first_owner s (r ∷ rs) how w = one_owner s.waits r.party.wait w (resolved_wait (how r.party.clause)) (resolved_owner (how r.party.clause))
 
-holder_owner : (s : State) (p : Option Party) (how : ℕ → Resolution) (w : WaitId) → KeepsOwner (s.waits w) ((resolve_holder p how s).waits w)
+holder_owner : (s : State) (p : Option Party) (how : ℕ → Resolution) (w : WaitId)
+    → KeepsOwner (s.waits w) ((resolve_holder p how s).waits w)
 holder_owner s None how w = same_owner (s.waits w)
 holder_owner s (Some p) how w = one_owner s.waits p.wait w (resolved_wait (how p.clause)) (resolved_owner (how p.clause))
 
-offer_owner : (s : State) (c : ℕ) (q : List Standing) (how : ℕ → Resolution) (w : WaitId) → KeepsOwner (s.waits w) ((resolve_offer c q how s).waits w)
+offer_owner : (s : State) (c : ℕ) (q : List Standing) (how : ℕ → Resolution) (w : WaitId)
+    → KeepsOwner (s.waits w) ((resolve_offer c q how s).waits w)
 offer_owner s c [] how w = same_owner (s.waits w)
 offer_owner s c (o ∷ os) how w = holder_owner (with_queue c os s) o.holder how w
 
@@ -86,7 +91,8 @@ removed_owner s c [] w = same_owner (s.waits w)
 removed_owner s c (o ∷ os) w = same_owner (s.waits w)
 
 -- an offer's cell is emptied only where its wait was admitted
-emptied_offer : (r v who k : ℕ) (u w : WaitId) (owner : ℕ) (how : Option Resolution) → IsHome owner how w (offer v who u k) → IsHome owner how w (emptied_if (offer_by r v u k how) (offer v who u k))
+emptied_offer : (r v who k : ℕ) (u w : WaitId) (owner : ℕ) (how : Option Resolution) → IsHome owner how w (offer v who u k)
+    → IsHome owner how w (emptied_if (offer_by r v u k how) (offer v who u k))
 emptied_offer r v who k u w owner None h = h
 emptied_offer r v who k u w owner (Some how) h = by_offer (offer_after r v k how)
   where
@@ -98,12 +104,14 @@ emptied_offer r v who k u w owner (Some how) h = by_offer (offer_after r v k how
     by_offer None = h
     by_offer (Some o) = by_holder o.holder o.value
 
-emptied_of : (waits : WaitId → Option Wait) (r : ℕ) (w : WaitId) (y : Cell) (x : Option Wait) → waits w ≡ x → HomeOf w x y → HomeOf w x (emptied_if (standing waits r y) y)
+emptied_of : (waits : WaitId → Option Wait) (r : ℕ) (w : WaitId) (y : Cell) (x : Option Wait) → waits w ≡ x → HomeOf w x y
+    → HomeOf w x (emptied_if (standing waits r y) y)
 emptied_of waits r w y None e h = tt
 emptied_of waits r w free (Some x) e h = h
 emptied_of waits r w (receiver who u k) (Some x) e h = h
 emptied_of waits r w (offer v who u k) (Some x) e h =
-    subst (λ (z : Option Wait). IsHome x.owner x.resolved w (emptied_if (offer_of r v u k z) (offer v who u k))) (sym (ap waits h.1 ∙ e)) (emptied_offer r v who k u w x.owner x.resolved h)
+    subst (λ (z : Option Wait). IsHome x.owner x.resolved w (emptied_if (offer_of r v u k z) (offer v who u k))) (sym (ap waits h.1 ∙ e))
+    (emptied_offer r v who k u w x.owner x.resolved h)
 emptied_of waits r w (buffered v) (Some x) e h = absurd h
 emptied_of waits r w (emptied v) (Some x) e h = h
 emptied_of waits r w (closed_by v) (Some x) e h = h
@@ -115,22 +123,29 @@ none_home w (Some x) y e = cc
 
 module _ (b : Board) (s : Placed b.state) (h : AtHome b) where
   -- cells stay
-  still : (waits' : WaitId → Option Wait) → ((w : WaitId) → KeepsOwner (b.state.waits w) (waits' w)) → (w : WaitId) → HomeOf w (waits' w) (b.cells w.channel w.place)
+  still : (waits' : WaitId → Option Wait) → ((w : WaitId) → KeepsOwner (b.state.waits w) (waits' w)) → (w : WaitId)
+      → HomeOf w (waits' w) (b.cells w.channel w.place)
   still waits' k w = (k w).keeps w (b.cells w.channel w.place) (h.home w)
 
-  removed : (waits' : WaitId → Option Wait) → ((w : WaitId) → KeepsOwner (b.state.waits w) (waits' w)) → (d r : ℕ) (w : WaitId) → HomeOf w (waits' w) (set_cell b.cells d r (emptied_if (standing b.state.waits r (b.cells d r)) (b.cells d r)) w.channel w.place)
+  removed : (waits' : WaitId → Option Wait) → ((w : WaitId) → KeepsOwner (b.state.waits w) (waits' w)) → (d r : ℕ) (w : WaitId)
+      → HomeOf w (waits' w) (set_cell b.cells d r (emptied_if (standing b.state.waits r (b.cells d r)) (b.cells d r)) w.channel w.place)
   removed waits' k d r w =
       let emptied_if_here : Cells = set_cell b.cells d r (emptied_if (standing b.state.waits r (b.cells d r)) (b.cells d r)) in
       (k w).keeps w (emptied_if_here w.channel w.place)
-      (by_spot (λ x z y. HomeOf w (b.state.waits w) (b.cells x z) → HomeOf w (b.state.waits w) y) b.cells d r _ (λ g. emptied_of b.state.waits r w (b.cells d r) (b.state.waits w) refl g) w.channel w.place (λ ne g. g) (h.home w))
+      (by_spot (λ x z y. HomeOf w (b.state.waits w) (b.cells x z)
+      → HomeOf w (b.state.waits w) y) b.cells d r _ (λ g. emptied_of b.state.waits r w (b.cells d r) (b.state.waits w) refl g) w.channel
+      w.place (λ ne g. g) (h.home w))
 
   -- the next cell of a channel is no wait's home
-  fresh_cell : (waits' : WaitId → Option Wait) → ((w : WaitId) → KeepsOwner (b.state.waits w) (waits' w)) → ((w : WaitId) → b.state.waits w ≡ None → waits' w ≡ None) → (d r : ℕ) (y : Cell) → r ≡ (b.state.channels d).next → (w : WaitId) → HomeOf w (waits' w) (set_cell b.cells d r y w.channel w.place)
+  fresh_cell : (waits' : WaitId → Option Wait) → ((w : WaitId) → KeepsOwner (b.state.waits w) (waits' w))
+      → ((w : WaitId) → b.state.waits w ≡ None → waits' w ≡ None) → (d r : ℕ) (y : Cell) → r ≡ (b.state.channels d).next → (w : WaitId)
+      → HomeOf w (waits' w) (set_cell b.cells d r y w.channel w.place)
   fresh_cell waits' k none d r y at w = by_spot (λ x z y. spot x z ≡ w → HomeOf w (waits' w) y) b.cells d r y
       (λ e. none_home w (waits' w) y (none w (s w (subst (λ (u : WaitId). (b.state.channels u.channel).next ≤ u.place) e (omega arith)))))
       w.channel w.place (λ ne e. still waits' k w) refl
 
-  named : (who k c p places : ℕ) (u : WaitId) (y : Cell) → HasPlace places p (b.state.channels c) → MayName who k c p u b.state → ((w : WaitId) → w ≡ u → IsHome who None w y) → (w : WaitId)
+  named : (who k c p places : ℕ) (u : WaitId) (y : Cell) → HasPlace places p (b.state.channels c) → MayName who k c p u b.state
+      → ((w : WaitId) → w ≡ u → IsHome who None w y) → (w : WaitId)
       → HomeOf w (put_wait u (name_clause who k c (b.state.waits u)) b.state.waits w) (set_cell b.cells c p y w.channel w.place)
   named who k c p places u y place may here w = by_wait (same_wait u w) refl
     where
@@ -138,36 +153,63 @@ module _ (b : Board) (s : Placed b.state) (h : AtHome b) where
       absent_at z e = s z (subst (λ (u : WaitId). (b.state.channels u.channel).next ≤ u.place) e (let f = place.first in omega arith))
 
       other : (z : WaitId) → HomeOf z (b.state.waits z) (set_cell b.cells c p y z.channel z.place)
-      other z = by_spot (λ x q y. spot x q ≡ z → HomeOf z (b.state.waits z) y) b.cells c p y (λ e. none_home z (b.state.waits z) y (absent_at z e)) z.channel z.place (λ ne e. h.home z) refl
+      other z = by_spot (λ x q y. spot x q ≡ z → HomeOf z (b.state.waits z) y) b.cells c p y
+          (λ e. none_home z (b.state.waits z) y (absent_at z e)) z.channel z.place (λ ne e. h.home z) refl
 
       -- the wait begins here, or has another home
-      at_u : (x : Option Wait) → b.state.waits u ≡ x → (t : Bool) → same_wait u (spot c p) ≡ t → MatchBool t (k ≤ 7) (JoinsWait who k c x) → HomeOf u (name_clause who k c x) (set_cell b.cells c p y u.channel u.place)
-      at_u None e true f m = subst (λ (z : WaitId). IsHome who None u (set_cell b.cells c p y z.channel z.place)) (sym (same_wait-eq u (spot c p) f)) (subst (IsHome who None u) (sym (cell_here b.cells c p y)) (here u refl))
+      at_u : (x : Option Wait) → b.state.waits u ≡ x → (t : Bool) → same_wait u (spot c p) ≡ t → MatchBool t (k ≤ 7) (JoinsWait who k c x)
+          → HomeOf u (name_clause who k c x) (set_cell b.cells c p y u.channel u.place)
+      at_u None e true f m = subst (λ (z : WaitId). IsHome who None u (set_cell b.cells c p y z.channel z.place))
+          (sym (same_wait-eq u (spot c p) f)) (subst (IsHome who None u) (sym (cell_here b.cells c p y)) (here u refl))
       at_u None e false f m = absurd m
       at_u (Some x) e t f m = subst (λ (z : Option Wait). HomeOf u z (set_cell b.cells c p y u.channel u.place)) e (other u)
 
-      by_wait : (t : Bool) → same_wait u w ≡ t → HomeOf w (if t then name_clause who k c (b.state.waits u) else b.state.waits w) (set_cell b.cells c p y w.channel w.place)
-      by_wait true e = subst (λ (z : WaitId). HomeOf z (name_clause who k c (b.state.waits u)) (set_cell b.cells c p y z.channel z.place)) (same_wait-eq u w e) (at_u (b.state.waits u) refl (same_wait u (spot c p)) refl may)
+      by_wait : (t : Bool) → same_wait u w ≡ t → HomeOf w (if t then name_clause who k c (b.state.waits u) else b.state.waits w)
+          (set_cell b.cells c p y w.channel w.place)
+      by_wait true e = subst (λ (z : WaitId). HomeOf z (name_clause who k c (b.state.waits u)) (set_cell b.cells c p y z.channel z.place))
+          (same_wait-eq u w e) (at_u (b.state.waits u) refl (same_wait u (spot c p)) refl may)
       by_wait false e = other w
 
-home_step : (shape : Shape) (b : Board) (e : Entry) → Sound shape b.state → Needs shape b.state e.who e.act → AtHome b → AtHome (step_board b e)
+home_step : (shape : Shape) (b : Board) (e : Entry) → Sound shape b.state → Needs shape b.state e.who e.act → AtHome b
+    → AtHome (step_board b e)
 home_step shape b e s n h = go e.who e.act n
   where
     go : (who : ℕ) (act : Act) → Needs shape b.state who act → AtHome (step_board b (record { who = who; act = act }))
     go who (Hand d r v) n = record { home = still b s.placed h _ (first_owner b.state (b.state.channels d).receivers _) }
-    go who (Put d r v) n = record { home = fresh_cell b s.placed h b.state.waits (λ w. same_owner (b.state.waits w)) (λ w e. e) d r _ n.1.first }
-    go who (Offer d r v u k) n = record { home = named b s.placed h who k d r (places_at shape d) u (offer v who u k) n.1 n.4 (λ w e. (refl, sym e)) }
-    go who (Await d r u k) n = record { home = named b s.placed h who k d r (places_at shape d) u (receiver who u k) n.1 n.3 (λ w e. (refl, sym e)) }
+    go who (Put d r v) n = record {
+      home = fresh_cell b s.placed h b.state.waits (λ w. same_owner (b.state.waits w)) (λ w e. e) d r _
+          n.1.first;
+    }
+    go who (Offer d r v u k) n = record {
+      home = named b s.placed h who k d r (places_at shape d) u (offer v who u k) n.1 n.4
+          (λ w e. (refl, sym e));
+    }
+    go who (Await d r u k) n = record {
+      home = named b s.placed h who k d r (places_at shape d) u (receiver who u k) n.1 n.3
+          (λ w e. (refl, sym e));
+    }
     go who (Take d r v) n = record { home = removed b s.placed h _ (offer_owner b.state d (b.state.channels d).queue _) d r }
     go who (Admit d r) n = record { home = still b s.placed h _ (holder_owner _ (holder_at r (b.state.channels d).queue) _) }
     go who (Drop d r v) n = record { home = removed b s.placed h _ (removed_owner b.state d (b.state.channels d).queue) d r }
     go who (Spurn d r v) n = record { home = removed b s.placed h b.state.waits (λ w. same_owner (b.state.waits w)) d r }
-    go who (Close d v) n = record { home = fresh_cell b s.placed h b.state.waits (λ w. same_owner (b.state.waits w)) (λ w e. e) d (b.state.channels d).next _ refl }
-    go who (Void d) n = record { home = fresh_cell b s.placed h b.state.waits (λ w. same_owner (b.state.waits w)) (λ w e. e) d (b.state.channels d).next _ refl }
+    go who (Close d v) n = record {
+      home = fresh_cell b s.placed h b.state.waits (λ w. same_owner (b.state.waits w)) (λ w e. e) d
+          (b.state.channels d).next _ refl;
+    }
+    go who (Void d) n = record {
+      home = fresh_cell b s.placed h b.state.waits (λ w. same_owner (b.state.waits w)) (λ w e. e) d
+          (b.state.channels d).next _ refl;
+    }
     go who (Drain d r v) n = record { home = removed b s.placed h _ (offer_owner b.state d (b.state.channels d).queue _) d r }
     go who (WakeClosed d r) n = record { home = still b s.placed h _ (first_owner b.state (b.state.channels d).receivers _) }
-    go who (Withdraw w why) n = record { home = still b s.placed h _ (λ u. one_owner b.state.waits w u (resolved_wait _) (resolved_owner _)) }
-    go who (Settle w outcome) n = record { home = still b s.placed h _ (λ u. one_owner b.state.waits w u (settled_wait outcome) (settled_owner outcome)) }
+    go who (Withdraw w why) n = record {
+      home = still b s.placed h _
+          (λ u. one_owner b.state.waits w u (resolved_wait _) (resolved_owner _));
+    }
+    go who (Settle w outcome) n = record {
+      home = still b s.placed h _
+          (λ u. one_owner b.state.waits w u (settled_wait outcome) (settled_owner outcome));
+    }
 
 pub home_lasts : (shape : Shape) → BoardLasts shape AtHome
 home_lasts shape = record { step = λ b e s t n h. home_step shape b e s n h }
@@ -175,6 +217,8 @@ home_lasts shape = record { step = λ b e s t n h. home_step shape b e s n h }
 pub home_blank : AtHome blank
 home_blank = record { home = λ w. tt }
 
-pub at_home : (shape : Shape) (log : List Entry) → Legal shape log → (w : WaitId) → HomeOf w ((replay log).waits w) (cell_of log w.channel w.place)
+pub at_home : (shape : Shape) (log : List Entry) → Legal shape log → (w : WaitId)
+    → HomeOf w ((replay log).waits w) (cell_of log w.channel w.place)
 unfolding board_from
-at_home shape log l w = subst (λ (s : State). HomeOf w (s.waits w) (cell_of log w.channel w.place)) (board_state blank log) ((board_lasts shape AtHome (home_lasts shape) [] log l home_blank).home w)
+at_home shape log l w = subst (λ (s : State). HomeOf w (s.waits w) (cell_of log w.channel w.place)) (board_state blank log)
+    ((board_lasts shape AtHome (home_lasts shape) [] log l home_blank).home w)

@@ -82,6 +82,7 @@ pub(crate) fn load_wait(hub: &Hub, pass: &mut Pass, who: Tag, cell: usize) -> Wa
 }
 
 /// Makes the entry by turning a cell from `old` into `new`; or the word that was found instead.
+#[inline(always)]
 pub(crate) fn exchange_cell(
     hub: &Hub,
     pass: &mut Pass,
@@ -114,6 +115,7 @@ pub(crate) fn exchange_cell(
 
 /// Makes the entry by turning the wait that began at the cell of this number from `old` into `new`; or the word that was found
 /// instead.
+#[inline(always)]
 pub(crate) fn exchange_wait(
     hub: &Hub,
     pass: &mut Pass,

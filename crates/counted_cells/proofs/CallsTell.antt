@@ -25,13 +25,23 @@ use Rattle.counted_cells.proofs.OthersLeave.{Becomes, becomes_step, drawer_step,
 -- ---- entries added
 
 pub adds_sees : (who : ℕ) (v w : Seen) → has_tag who v.tags ≡ true → Sees v w → Adds who [] v w
-adds_sees who v w own s = record { rest = s.others; now = s.now; mine = s.apart who own; apart = λ t h ne. s.apart t h; tags = s.tags; giving = s.giving }
+adds_sees who v w own s = record {
+  rest = s.others;
+  now = s.now;
+  mine = s.apart who own;
+  apart = λ t h ne. s.apart t h;
+  tags = s.tags;
+  giving = s.giving;
+}
 
-pub adds_makes : (who : ℕ) (act : CellAct) (v w : Seen) → has_tag who v.tags ≡ true → Makes v (entry_of who act) w → Adds who (entry_of who act ∷ []) v w
+pub adds_makes : (who : ℕ) (act : CellAct) (v w : Seen) → has_tag who v.tags ≡ true → Makes v (entry_of who act) w
+    → Adds who (entry_of who act ∷ []) v w
 adds_makes who act v w own m = record {
   rest = m.others ++ entry_of who act ∷ [];
   now = m.now ∙ append_assoc v.seen m.others (entry_of who act ∷ []);
-  mine = entries_of-append maker who m.others (entry_of who act ∷ []) ∙ ap (λ l. l ++ entries_of maker who (entry_of who act ∷ [])) (m.apart who own) ∙ ap (λ (b : Bool). if b then entry_of who act ∷ [] else []) (eq-eqb who who refl);
+  mine = entries_of-append maker who m.others (entry_of who act ∷ [])
+      ∙ ap (λ l. l ++ entries_of maker who (entry_of who act ∷ [])) (m.apart who own)
+      ∙ ap (λ (b : Bool). if b then entry_of who act ∷ [] else []) (eq-eqb who who refl);
   apart = λ t h ne. entries_of_else maker t m.others (entry_of who act) (λ same. ne (sym same)) ∙ m.apart t h;
   tags = m.tags;
   giving = m.giving;
@@ -53,47 +63,67 @@ pub made_state : (v w : Seen) (e : CellEntry) (m : Makes v e w) → now_in w ≡
 made_state v w e m = ap state_of m.now ∙ state_push (v.seen ++ m.others) e
 
 pub placed_cell : (who i : ℕ) (x : Waiter) (v w : Seen) → Makes v (entry_of who (Place i x)) w → cell_in w i ≡ Waits x
-placed_cell who i x v w m = ap (λ (s : State). s.cells i) (made_state v w (entry_of who (Place i x)) m) ∙ put_here i (Waits x) (state_of (v.seen ++ m.others)).cells
+placed_cell who i x v w m = ap (λ (s : State). s.cells i) (made_state v w (entry_of who (Place i x)) m)
+    ∙ put_here i (Waits x) (state_of (v.seen ++ m.others)).cells
 
 pub paired_cell : (who i u : ℕ) (d : Side) (v w : Seen) → Makes v (entry_of who (Pair d i u)) w → cell_in w i ≡ Paired u
-paired_cell who i u d v w m = ap (λ (s : State). s.cells i) (made_state v w (entry_of who (Pair d i u)) m) ∙ put_here i (Paired u) (state_of (v.seen ++ m.others)).cells
+paired_cell who i u d v w m = ap (λ (s : State). s.cells i) (made_state v w (entry_of who (Pair d i u)) m)
+    ∙ put_here i (Paired u) (state_of (v.seen ++ m.others)).cells
 
 pub left_cell : (who i : ℕ) (d : Side) (v w : Seen) → Makes v (entry_of who (GiveUp d i)) w → cell_in w i ≡ Broken d
-left_cell who i d v w m = ap (λ (s : State). s.cells i) (made_state v w (entry_of who (GiveUp d i)) m) ∙ put_here i (Broken d) (state_of (v.seen ++ m.others)).cells
+left_cell who i d v w m = ap (λ (s : State). s.cells i) (made_state v w (entry_of who (GiveUp d i)) m)
+    ∙ put_here i (Broken d) (state_of (v.seen ++ m.others)).cells
 
 -- ---- what a look leaves
 
 -- what each of others' entries keeps still holds after all that others added
-pub kept_apart : (cells who : ℕ) (v w : Seen) (others : List CellEntry) (P : State → Type 0) → ((s : State) (t : ℕ) (act : CellAct) → Sound cells s → Needs cells s t act → (t ≡ who → ⊥) → P s → P (after s t act))
+pub kept_apart : (cells who : ℕ) (v w : Seen) (others : List CellEntry) (P : State → Type 0)
+    → ((s : State) (t : ℕ) (act : CellAct) → Sound cells s → Needs cells s t act → (t ≡ who → ⊥) → P s → P (after s t act))
     → w.seen ≡ v.seen ++ others → Legal cells (v.seen ++ others) → entries_of maker who others ≡ [] → P (now_in v) → P (now_in w)
 kept_apart cells who v w others P step now legal apart h = let r = Legal-rest cells v.seen others legal in
-    subst P (sym (ap state_of now ∙ state_more v.seen others)) (others_keep cells who P step (now_in v) others (sound_of cells v.seen r.0) r.1 apart h)
+    subst P (sym (ap state_of now ∙ state_more v.seen others))
+    (others_keep cells who P step (now_in v) others (sound_of cells v.seen r.0) r.1 apart h)
 
 -- and after a look
-pub kept_sees : (cells who : ℕ) (v w : Seen) (P : State → Type 0) → ((s : State) (t : ℕ) (act : CellAct) → Sound cells s → Needs cells s t act → (t ≡ who → ⊥) → P s → P (after s t act))
+pub kept_sees : (cells who : ℕ) (v w : Seen) (P : State → Type 0)
+    → ((s : State) (t : ℕ) (act : CellAct) → Sound cells s → Needs cells s t act → (t ≡ who → ⊥) → P s → P (after s t act))
     → has_tag who v.tags ≡ true → Legal cells w.seen → Sees v w → P (now_in v) → P (now_in w)
-kept_sees cells who v w P step own legal s h = kept_apart cells who v w s.others P step s.now (subst (Legal cells) s.now legal) (s.apart who own) h
+kept_sees cells who v w P step own legal s h = kept_apart cells who v w s.others P step s.now (subst (Legal cells) s.now legal)
+    (s.apart who own) h
 
 -- what each entry keeps still holds
-pub kept_adds : (cells who : ℕ) (made : List CellEntry) (v w : Seen) (P : State → Type 0) → ((s : State) (t : ℕ) (act : CellAct) → Sound cells s → Needs cells s t act → P s → P (after s t act))
+pub kept_adds : (cells who : ℕ) (made : List CellEntry) (v w : Seen) (P : State → Type 0)
+    → ((s : State) (t : ℕ) (act : CellAct) → Sound cells s → Needs cells s t act → P s → P (after s t act))
     → Legal cells w.seen → Adds who made v w → P (now_in v) → P (now_in w)
 kept_adds cells who made v w P step legal s h = let r = Legal-rest cells v.seen s.rest (subst (Legal cells) s.now legal) in
     subst P (sym (ap state_of s.now ∙ state_more v.seen s.rest)) (all_keep cells P step (now_in v) s.rest (sound_of cells v.seen r.0) r.1 h)
 
-pub still_drawer : (cells who i : ℕ) (d : Side) (v w : Seen) → has_tag who v.tags ≡ true → Legal cells w.seen → Sees v w → IsDrawer d who i (now_in v) → IsDrawer d who i (now_in w)
-still_drawer cells who i d v w own legal s h = kept_sees cells who v w (IsDrawer d who i) (λ s t act sound k ne q. drawer_step cells s t act d i who sound k q) own legal s h
+pub still_drawer : (cells who i : ℕ) (d : Side) (v w : Seen) → has_tag who v.tags ≡ true → Legal cells w.seen → Sees v w
+    → IsDrawer d who i (now_in v) → IsDrawer d who i (now_in w)
+still_drawer cells who i d v w own legal s h = kept_sees cells who v w (IsDrawer d who i)
+    (λ s t act sound k ne q. drawer_step cells s t act d i who sound k q) own legal s h
 
-pub drawer_adds : (cells who i : ℕ) (d : Side) (made : List CellEntry) (v w : Seen) → Legal cells w.seen → Adds who made v w → IsDrawer d who i (now_in v) → IsDrawer d who i (now_in w)
-drawer_adds cells who i d made v w legal s h = kept_adds cells who made v w (IsDrawer d who i) (λ s t act sound k q. drawer_step cells s t act d i who sound k q) legal s h
+pub drawer_adds : (cells who i : ℕ) (d : Side) (made : List CellEntry) (v w : Seen) → Legal cells w.seen → Adds who made v w
+    → IsDrawer d who i (now_in v) → IsDrawer d who i (now_in w)
+drawer_adds cells who i d made v w legal s h = kept_adds cells who made v w (IsDrawer d who i)
+    (λ s t act sound k q. drawer_step cells s t act d i who sound k q) legal s h
 
-mine_step : (cells who i : ℕ) (d : Side) (s : State) (t : ℕ) (act : CellAct) → Sound cells s → Needs cells s t act → (t ≡ who → ⊥) → IsMine d who i s → IsMine d who i (after s t act)
-mine_step cells who i d s t act sound k ne m = record { drawer = drawer_step cells s t act d i who sound k m.drawer; not_yet = not_come_step cells s t act d i who k ne m.drawer m.not_yet }
+mine_step : (cells who i : ℕ) (d : Side) (s : State) (t : ℕ) (act : CellAct) → Sound cells s → Needs cells s t act → (t ≡ who → ⊥)
+    → IsMine d who i s → IsMine d who i (after s t act)
+mine_step cells who i d s t act sound k ne m = record {
+  drawer = drawer_step cells s t act d i who sound k m.drawer;
+  not_yet =
+      not_come_step cells s t act d i who k ne m.drawer m.not_yet;
+}
 
-pub still_mine : (cells who i : ℕ) (d : Side) (v w : Seen) → has_tag who v.tags ≡ true → Legal cells w.seen → Sees v w → IsMine d who i (now_in v) → IsMine d who i (now_in w)
+pub still_mine : (cells who i : ℕ) (d : Side) (v w : Seen) → has_tag who v.tags ≡ true → Legal cells w.seen → Sees v w
+    → IsMine d who i (now_in v) → IsMine d who i (now_in w)
 still_mine cells who i d v w own legal s h = kept_sees cells who v w (IsMine d who i) (mine_step cells who i d) own legal s h
 
-pub became : (cells who i : ℕ) (x : CellState) (v w : Seen) → has_tag who v.tags ≡ true → Legal cells w.seen → Sees v w → Becomes x (cell_in v i) → Becomes x (cell_in w i)
-became cells who i x v w own legal s h = kept_sees cells who v w (λ s. Becomes x (s.cells i)) (λ s t act sound k ne q. becomes_step cells s t act x i k q) own legal s h
+pub became : (cells who i : ℕ) (x : CellState) (v w : Seen) → has_tag who v.tags ≡ true → Legal cells w.seen → Sees v w
+    → Becomes x (cell_in v i) → Becomes x (cell_in w i)
+became cells who i x v w own legal s h = kept_sees cells who v w (λ s. Becomes x (s.cells i))
+    (λ s t act sound k ne q. becomes_step cells s t act x i k q) own legal s h
 
 -- ---- sides
 
@@ -106,7 +136,8 @@ other_of Receive Receive h = cc
 -- ---- a cell of which the other side may stand
 
 -- who waited is gone: it gave up
-pub partner_left : (d : Side) (x : Waiter) (y : CellState) → same_side (side_of x) d ≡ false → Becomes (Waits x) y → has_come d y ≡ false → y ≢ Waits x → y ≡ Broken (other_side d)
+pub partner_left : (d : Side) (x : Waiter) (y : CellState) → same_side (side_of x) d ≡ false → Becomes (Waits x) y → has_come d y ≡ false
+    → y ≢ Waits x → y ≡ Broken (other_side d)
 partner_left d x Free apart h none ne = absurd h
 partner_left d x (Waits z) apart h none ne = absurd (ne (ap Waits h))
 partner_left d x (Paired v) apart h none ne = cc
@@ -114,14 +145,17 @@ partner_left d x (Broken e) apart h none ne = ap Broken (h ∙ other_of (side_of
 
 -- ---- a number is drawn
 
-pub none_left : (cells who : ℕ) (d : Side) (v w : Seen) → has_tag who v.tags ≡ true → Sees v w → cells ≤ (now_in w).drawn d → IsSpent cells d who v w
+pub none_left : (cells who : ℕ) (d : Side) (v w : Seen) → has_tag who v.tags ≡ true → Sees v w → cells ≤ (now_in w).drawn d
+    → IsSpent cells d who v w
 none_left cells who d v w own s all = record { made = []; adds = adds_sees who v w own s; none = inl refl; all = all }
 
-drawn_made : (cells who n : ℕ) (d : Side) (u w : Seen) → DrawnAnswer cells d who u w n → (b : Bool) → nat_lt n cells ≡ b → Makes u (entry_of who (if b then Draw d n else Miss d)) w
+drawn_made : (cells who n : ℕ) (d : Side) (u w : Seen) → DrawnAnswer cells d who u w n → (b : Bool) → nat_lt n cells ≡ b
+    → Makes u (entry_of who (if b then Draw d n else Miss d)) w
 drawn_made cells who n d u w a b is = subst (λ (c : Bool). Makes u (entry_of who (if c then Draw d n else Miss d)) w) is a.makes
 
 -- who has seen that a cell is left has not drawn past the last
-pub still_early : (cells key who n : ℕ) (d : Side) (v : Seen) → Legal key v.seen → key ≡ cells → n ≡ (now_in v).drawn d → n < cells → (now_in v).late d who ≡ false
+pub still_early : (cells key who n : ℕ) (d : Side) (v : Seen) → Legal key v.seen → key ≡ cells → n ≡ (now_in v).drawn d → n < cells
+    → (now_in v).late d who ≡ false
 still_early cells key who n d v legal at is lt = (sound_of key v.seen legal).early d (few at is lt) who
   where
     few : key ≡ cells → n ≡ (now_in v).drawn d → n < cells → (now_in v).drawn d < key
@@ -130,17 +164,21 @@ still_early cells key who n d v legal at is lt = (sound_of key v.seen legal).ear
 pub drawn_by : (cells who t n : ℕ) (d : Side) (u w : Seen) → t ≡ who → DrawnAnswer cells d t u w n → DrawnAnswer cells d who u w n
 drawn_by cells who t n d u w is a = subst (λ k. DrawnAnswer cells d k u w n) is a
 
-pub too_late : (cells who n : ℕ) (d : Side) (v u w : Seen) → has_tag who v.tags ≡ true → Sees v u → DrawnAnswer cells d who u w n → cells ≤ n → IsSpent cells d who v w
+pub too_late : (cells who n : ℕ) (d : Side) (v u w : Seen) → has_tag who v.tags ≡ true → Sees v u → DrawnAnswer cells d who u w n
+    → cells ≤ n → IsSpent cells d who v w
 too_late cells who n d v u w own s a le = record {
   made = entry_of who (Miss d) ∷ [];
-  adds = adds_then who [] (entry_of who (Miss d) ∷ []) v u w (adds_sees who v u own s) (adds_makes who (Miss d) u w (ap (has_tag who) s.tags ∙ own) (drawn_made cells who n d u w a false (le-ltb n cells le)));
+  adds = adds_then who [] (entry_of who (Miss d) ∷ []) v u w (adds_sees who v u own s)
+      (adds_makes who (Miss d) u w (ap (has_tag who) s.tags ∙ own) (drawn_made cells who n d u w a false (le-ltb n cells le)));
   none = inr refl;
   all = let e = a.number in omega (arith, e, le);
 }
 
-pub in_time : (cells who n : ℕ) (d : Side) (v u w : Seen) → has_tag who v.tags ≡ true → Sees v u → DrawnAnswer cells d who u w n → n < cells → DrawAnswer cells d who v w (Some n)
+pub in_time : (cells who n : ℕ) (d : Side) (v u w : Seen) → has_tag who v.tags ≡ true → Sees v u → DrawnAnswer cells d who u w n → n < cells
+    → DrawAnswer cells d who v w (Some n)
 in_time cells who n d v u w own s a lt = let c = a.cell lt in (
-  adds_then who [] (entry_of who (Draw d n) ∷ []) v u w (adds_sees who v u own s) (adds_makes who (Draw d n) u w (ap (has_tag who) s.tags ∙ own) (drawn_made cells who n d u w a true (lt-ltb n cells lt))),
+  adds_then who [] (entry_of who (Draw d n) ∷ []) v u w (adds_sees who v u own s)
+      (adds_makes who (Draw d n) u w (ap (has_tag who) s.tags ∙ own) (drawn_made cells who n d u w a true (lt-ltb n cells lt))),
   lt,
   c,
 )
@@ -159,36 +197,53 @@ abbrev pub keeps_on : ℕ → List CellEntry → Bool
 keeps_on p [] = true
 keeps_on p (e ∷ es) = if gives_up_in p e.act then false else keeps_on p es
 
-keep_waits : (cells who i : ℕ) (s : State) (es : List CellEntry) → Sound cells s → LegalFrom cells s es → keeps_on i (entries_of maker who es) ≡ true → MayGiveUp who i s → MayGiveUp who i (state_from s es)
+keep_waits : (cells who i : ℕ) (s : State) (es : List CellEntry) → Sound cells s → LegalFrom cells s es
+    → keeps_on i (entries_of maker who es) ≡ true → MayGiveUp who i s → MayGiveUp who i (state_from s es)
 unfolding state_from LegalFrom
 keep_waits cells who i s [] sound k keeps h = h
-keep_waits cells who i s (e ∷ es) sound k keeps h = by_test (e.who == who) refl keeps (keep_waits cells who i (after s e.who e.act) es (sound_step cells s e.who e.act sound k.0) k.1)
+keep_waits cells who i s (e ∷ es) sound k keeps h = by_test (e.who == who) refl keeps
+    (keep_waits cells who i (after s e.who e.act) es (sound_step cells s e.who e.act sound k.0) k.1)
   where
     by_test : (b : Bool) → (e.who == who) ≡ b → keeps_on i (if b then e ∷ entries_of maker who es else entries_of maker who es) ≡ true
-        → (keeps_on i (entries_of maker who es) ≡ true → MayGiveUp who i (after s e.who e.act) → MayGiveUp who i (state_from (after s e.who e.act) es)) → MayGiveUp who i (state_from (after s e.who e.act) es)
+        → (keeps_on i (entries_of maker who es) ≡ true → MayGiveUp who i (after s e.who e.act)
+        → MayGiveUp who i (state_from (after s e.who e.act) es)) → MayGiveUp who i (state_from (after s e.who e.act) es)
     by_test true is q rest = by_act (gives_up_in i e.act) refl q
       where
-        by_act : (c : Bool) → gives_up_in i e.act ≡ c → (if c then false else keeps_on i (entries_of maker who es)) ≡ true → MayGiveUp who i (state_from (after s e.who e.act) es)
+        by_act : (c : Bool) → gives_up_in i e.act ≡ c → (if c then false else keeps_on i (entries_of maker who es)) ≡ true
+            → MayGiveUp who i (state_from (after s e.who e.act) es)
         by_act true g p = cc
-        by_act false g p = rest p (whole_step cells s e.who e.act who i sound k.0 (λ d at same. let z : true ≡ false = sym (ap (gives_up_in i) at ∙ eq-eqb i i refl) ∙ g in cc) h)
-    by_test false is q rest = rest q (whole_step cells s e.who e.act who i sound k.0 (λ d at same. let z : true ≡ false = sym (eq-eqb e.who who same) ∙ is in cc) h)
+        by_act false g p = rest p (whole_step cells s e.who e.act who i sound k.0
+            (λ d at same. let z : true ≡ false = sym (ap (gives_up_in i) at ∙ eq-eqb i i refl) ∙ g in cc) h)
+    by_test false is q rest = rest q (whole_step cells s e.who e.act who i sound k.0
+        (λ d at same. let z : true ≡ false = sym (eq-eqb e.who who same) ∙ is in cc) h)
 
-pub waits_after : (cells who i : ℕ) (made : List CellEntry) (v w : Seen) → Legal cells w.seen → Adds who made v w → keeps_on i made ≡ true → MayGiveUp who i (now_in v) → MayGiveUp who i (now_in w)
+pub waits_after : (cells who i : ℕ) (made : List CellEntry) (v w : Seen) → Legal cells w.seen → Adds who made v w → keeps_on i made ≡ true
+    → MayGiveUp who i (now_in v) → MayGiveUp who i (now_in w)
 waits_after cells who i made v w legal a keeps h = let r = Legal-rest cells v.seen a.rest (subst (Legal cells) a.now legal) in
-    subst (MayGiveUp who i) (sym (ap state_of a.now ∙ state_more v.seen a.rest)) (keep_waits cells who i (now_in v) a.rest (sound_of cells v.seen r.0) r.1 (ap (keeps_on i) a.mine ∙ keeps) h)
+    subst (MayGiveUp who i) (sym (ap state_of a.now ∙ state_more v.seen a.rest))
+    (keep_waits cells who i (now_in v) a.rest (sound_of cells v.seen r.0) r.1 (ap (keeps_on i) a.mine ∙ keeps) h)
 
-pub come_after : (cells who i : ℕ) (made : List CellEntry) (v w : Seen) → Legal cells w.seen → Adds who made v w → HasCome who i (now_in v) → HasCome who i (now_in w)
-come_after cells who i made v w legal a h = kept_adds cells who made v w (HasCome who i) (λ s t act sound k q. come_step cells s t act who i sound k q) legal a h
+pub come_after : (cells who i : ℕ) (made : List CellEntry) (v w : Seen) → Legal cells w.seen → Adds who made v w → HasCome who i (now_in v)
+    → HasCome who i (now_in w)
+come_after cells who i made v w legal a h = kept_adds cells who made v w (HasCome who i)
+    (λ s t act sound k q. come_step cells s t act who i sound k q) legal a h
 
-pub stays_after : (cells who : ℕ) (made : List CellEntry) (v w : Seen) → Legal cells w.seen → Adds who made v w → ((i : ℕ) → keeps_on i made ≡ true) → Stays who v w
-stays_after cells who made v w legal a keeps = record { come = λ i. come_after cells who i made v w legal a; waits = λ i. waits_after cells who i made v w legal a (keeps i) }
+pub stays_after : (cells who : ℕ) (made : List CellEntry) (v w : Seen) → Legal cells w.seen → Adds who made v w
+    → ((i : ℕ) → keeps_on i made ≡ true) → Stays who v w
+stays_after cells who made v w legal a keeps = record {
+  come = λ i. come_after cells who i made v w legal a;
+  waits =
+      λ i. waits_after cells who i made v w legal a (keeps i);
+}
 
 -- ---- to come to a cell
 
-pub stood_waiting : (who i : ℕ) (x : Waiter) (v w : Seen) → has_tag who v.tags ≡ true → Makes v (entry_of who (Place i x)) w → StoodAnswer who i x v w stood.Waits
+pub stood_waiting : (who i : ℕ) (x : Waiter) (v w : Seen) → has_tag who v.tags ≡ true → Makes v (entry_of who (Place i x)) w
+    → StoodAnswer who i x v w stood.Waits
 stood_waiting who i x v w own m = (adds_makes who (Place i x) v w own m, placed_cell who i x v w m)
 
-pub met : (who i u : ℕ) (d : Side) (x : Waiter) (v w : Seen) → d ≡ side_of x → has_tag who v.tags ≡ true → Makes v (entry_of who (Pair d i u)) w → MeetsWith x u → PairAnswer who i x v w (Some u)
+pub met : (who i u : ℕ) (d : Side) (x : Waiter) (v w : Seen) → d ≡ side_of x → has_tag who v.tags ≡ true
+    → Makes v (entry_of who (Pair d i u)) w → MeetsWith x u → PairAnswer who i x v w (Some u)
 met who i u d x v w side own m value = (
   ap_side (adds_makes who (Pair d i u) v w own m),
   paired_cell who i u d v w m,
@@ -198,43 +253,52 @@ met who i u d x v w side own m value = (
     ap_side : Adds who (entry_of who (Pair d i u) ∷ []) v w → Adds who (entry_of who (Pair (side_of x) i u) ∷ []) v w
     ap_side a = subst (λ (e : Side). Adds who (entry_of who (Pair e i u) ∷ []) v w) side a
 
-pub not_met : (cells who i : ℕ) (x y : Waiter) (z : CellState) (v w : Seen) → has_tag who v.tags ≡ true → Legal cells w.seen → Sees v w → IsDrawer (side_of x) who i (now_in v) → cell_in v i ≡ Waits y → same_side (side_of y) (side_of x) ≡ false
+pub not_met : (cells who i : ℕ) (x y : Waiter) (z : CellState) (v w : Seen) → has_tag who v.tags ≡ true → Legal cells w.seen → Sees v w
+    → IsDrawer (side_of x) who i (now_in v) → cell_in v i ≡ Waits y → same_side (side_of y) (side_of x) ≡ false
     → cell_in w i ≡ z → z ≢ Waits y → PairAnswer who i x v w None
 not_met cells who i x y z v w own legal s drawer waits apart is ne = (
   adds_sees who v w own s,
   is ∙ partner_left (side_of x) y z apart
-      (subst (Becomes (Waits y)) is (became cells who i (Waits y) v w own legal s (subst (Becomes (Waits y)) (sym waits) (stays_so (Waits y)))))
-      (sym (ap (has_come (side_of x)) is) ∙ (still_mine cells who i (side_of x) v w own legal s (record { drawer = drawer; not_yet = ap (has_come (side_of x)) waits ∙ apart })).not_yet)
+      (subst (Becomes (Waits y)) is (became cells who i (Waits y) v w own legal s
+      (subst (Becomes (Waits y)) (sym waits) (stays_so (Waits y)))))
+      (sym (ap (has_come (side_of x)) is)
+      ∙ (still_mine cells who i (side_of x) v w own legal s
+      (record { drawer = drawer; not_yet = ap (has_come (side_of x)) waits ∙ apart })).not_yet)
       ne,
 )
 
 -- who meets somebody who waits for the other side
-pub apart_from : (who i : ℕ) (x y : Waiter) (v : Seen) → IsMine (side_of x) who i (now_in v) → cell_in v i ≡ Waits y → same_side (side_of y) (side_of x) ≡ false
+pub apart_from : (who i : ℕ) (x y : Waiter) (v : Seen) → IsMine (side_of x) who i (now_in v) → cell_in v i ≡ Waits y
+    → same_side (side_of y) (side_of x) ≡ false
 apart_from who i x y v m is = sym (ap (has_come (side_of x)) is) ∙ m.not_yet
 
 pub never_paired : (who i u : ℕ) (x : Waiter) (v : Seen) → IsMine (side_of x) who i (now_in v) → cell_in v i ≡ Paired u → ⊥
 never_paired who i u x v m is = let z : true ≡ false = sym (ap (has_come (side_of x)) is) ∙ m.not_yet in cc
 
-pub left_before : (cells who i : ℕ) (d : Side) (x : Waiter) (v : Seen) → IsMine (side_of x) who i (now_in v) → cell_in v i ≡ Broken d → cell_in v i ≡ Broken (other_side (side_of x))
+pub left_before : (cells who i : ℕ) (d : Side) (x : Waiter) (v : Seen) → IsMine (side_of x) who i (now_in v) → cell_in v i ≡ Broken d
+    → cell_in v i ≡ Broken (other_side (side_of x))
 left_before cells who i d x v m is = is ∙ ap Broken (other_of d (side_of x) (sym (ap (has_come (side_of x)) is) ∙ m.not_yet))
 
 pub sees_self : (v : Seen) → Sees v v
 sees_self v = record { others = []; now = sym (append-nil v.seen); apart = λ t h. refl; tags = refl; giving = refl }
 
-pub mine_now : (cells who t i : ℕ) (d : Side) (v w : Seen) → t ≡ who → has_tag who v.tags ≡ true → Legal cells w.seen → Sees v w → IsMine d who i (now_in v) → IsMine d t i (now_in w)
+pub mine_now : (cells who t i : ℕ) (d : Side) (v w : Seen) → t ≡ who → has_tag who v.tags ≡ true → Legal cells w.seen → Sees v w
+    → IsMine d who i (now_in v) → IsMine d t i (now_in w)
 mine_now cells who t i d v w is own legal s h = subst (λ n. IsMine d n i (now_in w)) (sym is) (still_mine cells who i d v w own legal s h)
 
 pub stood_by : (who t i : ℕ) (x : Waiter) (v w : Seen) (a : Stood) → t ≡ who → StoodAnswer t i x v w a → StoodAnswer who i x v w a
 stood_by who t i x v w a is h = subst (λ n. StoodAnswer n i x v w a) is h
 
-pub stood_after : (who i : ℕ) (x : Waiter) (v u w : Seen) (a : Stood) → has_tag who v.tags ≡ true → Sees v u → StoodAnswer who i x u w a → StoodAnswer who i x v w a
+pub stood_after : (who i : ℕ) (x : Waiter) (v u w : Seen) (a : Stood) → has_tag who v.tags ≡ true → Sees v u → StoodAnswer who i x u w a
+    → StoodAnswer who i x v w a
 stood_after who i x v u w stood.Waits own s h = (adds_then who [] _ v u w (adds_sees who v u own s) h.0, h.1)
 stood_after who i x v u w (stood.Paired n) own s h = (adds_then who [] _ v u w (adds_sees who v u own s) h.0, h.1, h.2)
 stood_after who i x v u w stood.Broken own s h = (adds_then who [] [] v u w (adds_sees who v u own s) h.0, h.1)
 
 -- ---- to send and to receive
 
-pub waits_now : (cells who i : ℕ) (d : Side) (x : Waiter) (made : List CellEntry) (m w : Seen) → side_of x ≡ d → Legal cells w.seen → IsMine d who i (now_in m) → Adds who made m w → cell_in w i ≡ Waits x → MayGiveUp who i (now_in w)
+pub waits_now : (cells who i : ℕ) (d : Side) (x : Waiter) (made : List CellEntry) (m w : Seen) → side_of x ≡ d → Legal cells w.seen
+    → IsMine d who i (now_in m) → Adds who made m w → cell_in w i ≡ Waits x → MayGiveUp who i (now_in w)
 waits_now cells who i d x made m w side legal mine a is = record {
   come = record {
     side = d;
@@ -245,4 +309,5 @@ waits_now cells who i d x made m w side legal mine a is = record {
 }
 
 pub spent_stays : (cells key who : ℕ) (d : Side) (v w : Seen) → Legal key w.seen → IsSpent cells d who v w → Stays who v w
-spent_stays cells key who d v w legal s = stays_after key who s.made v w legal s.adds (λ i. ⊎_elim (λ e. ap (keeps_on i) e) (λ e. ap (keeps_on i) e) s.none)
+spent_stays cells key who d v w legal s = stays_after key who s.made v w legal s.adds
+    (λ i. ⊎_elim (λ e. ap (keeps_on i) e) (λ e. ap (keeps_on i) e) s.none)

@@ -26,7 +26,8 @@ use Rattle.counted_cells.proofs.OthersLeave.{drawer_step, same_drawer}
 -- ---- what a story says of the cell
 
 -- a story is that of any state in which the cell has the same drawers
-kept : (s t : State) (p : ℕ) (x : CellState) (xs : List CellEntry) → ((d : Side) (u : ℕ) → s.drawer d p ≡ Some u → t.drawer d p ≡ Some u) → Story s p x xs → Story t p x xs
+kept : (s t : State) (p : ℕ) (x : CellState) (xs : List CellEntry) → ((d : Side) (u : ℕ) → s.drawer d p ≡ Some u → t.drawer d p ≡ Some u)
+    → Story s p x xs → Story t p x xs
 kept s t p Free xs f Story.nobody = Story.nobody
 kept s t p x xs f (Story.one u w h) = Story.one u w (f (side_of w) u h)
 kept s t p x xs f (Story.two u z v d h k) = Story.two u z v d (f (other_side d) u h) (f d z k)
@@ -51,7 +52,8 @@ record Waiting (s : State) (p : ℕ) (w : Waiter) (xs : List CellEntry) : Type 0
 
 waits_story : (s : State) (p : ℕ) (x : CellState) (xs : List CellEntry) (w : Waiter) → x ≡ Waits w → Story s p x xs → Waiting s p w xs
 waits_story s p x xs w e Story.nobody = cc
-waits_story s p x xs w e (Story.one u z h) = subst (λ (y : Waiter). Waiting s p y (entry_of u (Place p z) ∷ [])) (ap waiter_of e) (record { who = u; drawer = h; story = refl })
+waits_story s p x xs w e (Story.one u z h) = subst (λ (y : Waiter). Waiting s p y (entry_of u (Place p z) ∷ [])) (ap waiter_of e)
+    (record { who = u; drawer = h; story = refl })
 waits_story s p x xs w e (Story.two u z v d h k) = cc
 waits_story s p x xs w e (Story.left u z h) = cc
 
@@ -76,27 +78,36 @@ abbrev after_cell : State → ℕ → CellAct → ℕ → CellState
 after_cell s who act p = (after s who act).cells p
 
 -- an entry elsewhere
-elsewhere : (s : State) (who : ℕ) (act : CellAct) (p : ℕ) (xs : List CellEntry) → is_at p act ≡ false → after_cell s who act p ≡ s.cells p → ((d : Side) (u : ℕ) → s.drawer d p ≡ Some u → (after s who act).drawer d p ≡ Some u)
+elsewhere : (s : State) (who : ℕ) (act : CellAct) (p : ℕ) (xs : List CellEntry) → is_at p act ≡ false → after_cell s who act p ≡ s.cells p
+    → ((d : Side) (u : ℕ) → s.drawer d p ≡ Some u → (after s who act).drawer d p ≡ Some u)
     → Story s p (s.cells p) xs → Story (after s who act) p (after_cell s who act p) (xs ++ at_cell p (entry_of who act ∷ []))
-elsewhere s who act p xs away same f h = subst (λ (y : CellState × List CellEntry). Story (after s who act) p y.0 y.1) (λ i. (sym same i, sym (ap (λ (b : Bool). xs ++ (if b then entry_of who act ∷ [] else [])) away ∙ append-nil xs) i)) (kept s (after s who act) p (s.cells p) xs f h)
+elsewhere s who act p xs away same f h = subst (λ (y : CellState × List CellEntry). Story (after s who act) p y.0 y.1)
+    (λ i. (sym same i, sym (ap (λ (b : Bool). xs ++ (if b then entry_of who act ∷ [] else [])) away ∙ append-nil xs) i))
+    (kept s (after s who act) p (s.cells p) xs f h)
 
 -- an entry at this cell
-here : (s : State) (who : ℕ) (act : CellAct) (p : ℕ) (xs : List CellEntry) (x : CellState) (ys : List CellEntry) → is_at p act ≡ true → after_cell s who act p ≡ x → xs ++ entry_of who act ∷ [] ≡ ys
+here : (s : State) (who : ℕ) (act : CellAct) (p : ℕ) (xs : List CellEntry) (x : CellState) (ys : List CellEntry) → is_at p act ≡ true
+    → after_cell s who act p ≡ x → xs ++ entry_of who act ∷ [] ≡ ys
     → Story (after s who act) p x ys → Story (after s who act) p (after_cell s who act p) (xs ++ at_cell p (entry_of who act ∷ []))
-here s who act p xs x ys at is same h = subst (λ (y : CellState × List CellEntry). Story (after s who act) p y.0 y.1) (λ i. (sym is i, sym (ap (λ (b : Bool). xs ++ (if b then entry_of who act ∷ [] else [])) at ∙ same) i)) h
+here s who act p xs x ys at is same h = subst (λ (y : CellState × List CellEntry). Story (after s who act) p y.0 y.1)
+    (λ i. (sym is i, sym (ap (λ (b : Bool). xs ++ (if b then entry_of who act ∷ [] else [])) at ∙ same) i)) h
 
-story_step : (cells : ℕ) (s : State) (who : ℕ) (act : CellAct) (p : ℕ) (xs : List CellEntry) → Sound cells s → Needs cells s who act → Story s p (s.cells p) xs
+story_step : (cells : ℕ) (s : State) (who : ℕ) (act : CellAct) (p : ℕ) (xs : List CellEntry) → Sound cells s → Needs cells s who act
+    → Story s p (s.cells p) xs
     → Story (after s who act) p (after_cell s who act p) (xs ++ at_cell p (entry_of who act ∷ []))
-story_step cells s who (Draw d i) p xs sound k h = elsewhere s who (Draw d i) p xs refl refl (λ e u q. drawer_step cells s who (Draw d i) e p u sound k q) h
+story_step cells s who (Draw d i) p xs sound k h = elsewhere s who (Draw d i) p xs refl refl
+    (λ e u q. drawer_step cells s who (Draw d i) e p u sound k q) h
 story_step cells s who (Miss d) p xs sound k h = elsewhere s who (Miss d) p xs refl refl (λ e u q. q) h
 story_step cells s who (Place i w) p xs sound k h = dite (ℕ_discrete i p)
-    (λ is. here s who (Place i w) p xs (Waits w) (entry_of who (Place p w) ∷ []) (eq-eqb i p is) (ap (put i (Waits w) s.cells) (sym is) ∙ put_here i (Waits w) s.cells)
+    (λ is. here s who (Place i w) p xs (Waits w) (entry_of who (Place p w) ∷ []) (eq-eqb i p is) (ap (put i (Waits w) s.cells) (sym is)
+    ∙ put_here i (Waits w) s.cells)
     (λ j. free_story s p (s.cells p) xs (ap s.cells (sym is) ∙ k.1) h j ++ entry_of who (Place (is j) w) ∷ [])
     (Story.one who w (ap (s.drawer (side_of w)) (sym is) ∙ k.0)))
     (λ ne. elsewhere s who (Place i w) p xs (ne_eqb i p ne) (put_else i p (Waits w) s.cells ne) (λ e u q. q) h)
 story_step cells s who (Pair d i v) p xs sound k h = dite (ℕ_discrete i p)
     (λ is. let q = waits_story s p (s.cells p) xs (partner d v) (ap s.cells (sym is) ∙ k.1) h in
-    here s who (Pair d i v) p xs (Paired v) (entry_of q.who (Place p (partner d v)) ∷ entry_of who (Pair d p v) ∷ []) (eq-eqb i p is) (ap (put i (Paired v) s.cells) (sym is) ∙ put_here i (Paired v) s.cells)
+    here s who (Pair d i v) p xs (Paired v) (entry_of q.who (Place p (partner d v)) ∷ entry_of who (Pair d p v) ∷ []) (eq-eqb i p is)
+    (ap (put i (Paired v) s.cells) (sym is) ∙ put_here i (Paired v) s.cells)
     (λ j. q.story j ++ entry_of who (Pair d (is j) v) ∷ [])
     (Story.two q.who who v d (ap (λ (e : Side). s.drawer e p) (sym (partner_of d v)) ∙ q.drawer) (ap (s.drawer d) (sym is) ∙ k.0)))
     (λ ne. elsewhere s who (Pair d i v) p xs (ne_eqb i p ne) (put_else i p (Paired v) s.cells ne) (λ e u q. q) h)
@@ -105,9 +116,11 @@ story_step cells s who (GiveUp d i) p xs sound k h = dite (ℕ_discrete i p)
     let q = waits_story s p (s.cells p) xs z.waiter z.is h in
     let mine : s.drawer (side_of z.waiter) p ≡ Some who = ap (λ (e : Side). s.drawer e p) z.side ∙ ap (s.drawer d) (sym is) ∙ k.0 in
     let same : q.who ≡ who = same_drawer q.drawer mine in
-    here s who (GiveUp d i) p xs (Broken (side_of z.waiter)) (entry_of who (Place p z.waiter) ∷ entry_of who (GiveUp (side_of z.waiter) p) ∷ []) (eq-eqb i p is)
+    here s who (GiveUp d i) p xs (Broken (side_of z.waiter))
+    (entry_of who (Place p z.waiter) ∷ entry_of who (GiveUp (side_of z.waiter) p) ∷ []) (eq-eqb i p is)
     (ap (put i (Broken d) s.cells) (sym is) ∙ put_here i (Broken d) s.cells ∙ ap Broken (sym z.side))
-    (ap (λ (l : List CellEntry). l ++ entry_of who (GiveUp d i) ∷ []) q.story ∙ (λ j. entry_of (same j) (Place p z.waiter) ∷ entry_of who (GiveUp (sym z.side j) (is j)) ∷ []))
+    (ap (λ (l : List CellEntry). l ++ entry_of who (GiveUp d i) ∷ []) q.story
+    ∙ (λ j. entry_of (same j) (Place p z.waiter) ∷ entry_of who (GiveUp (sym z.side j) (is j)) ∷ []))
     (Story.left who z.waiter mine))
     (λ ne. elsewhere s who (GiveUp d i) p xs (ne_eqb i p ne) (put_else i p (Broken d) s.cells ne) (λ e u q. q) h)
 
@@ -120,13 +133,16 @@ at_cell_first p e es = by_test (is_at p e.act)
     by_test true = refl
     by_test false = refl
 
-story_from : (cells : ℕ) (s : State) (es : List CellEntry) (p : ℕ) (xs : List CellEntry) → Sound cells s → LegalFrom cells s es → Story s p (s.cells p) xs → Story (state_from s es) p ((state_from s es).cells p) (xs ++ at_cell p es)
+story_from : (cells : ℕ) (s : State) (es : List CellEntry) (p : ℕ) (xs : List CellEntry) → Sound cells s → LegalFrom cells s es
+    → Story s p (s.cells p) xs → Story (state_from s es) p ((state_from s es).cells p) (xs ++ at_cell p es)
 unfolding state_from LegalFrom
 story_from cells s [] p xs sound k h = subst (Story s p (s.cells p)) (sym (append-nil xs)) h
 story_from cells s (e ∷ es) p xs sound k h =
     let t : State = after s e.who e.act in
-    let r = story_from cells t es p (xs ++ at_cell p (e ∷ [])) (sound_step cells s e.who e.act sound k.0) k.1 (story_step cells s e.who e.act p xs sound k.0 h) in
-    subst (Story (state_from t es) p ((state_from t es).cells p)) (append_assoc xs (at_cell p (e ∷ [])) (at_cell p es) ∙ ap (λ l. xs ++ l) (at_cell_first p e es)) r
+    let r = story_from cells t es p (xs ++ at_cell p (e ∷ [])) (sound_step cells s e.who e.act sound k.0) k.1
+    (story_step cells s e.who e.act p xs sound k.0 h) in
+    subst (Story (state_from t es) p ((state_from t es).cells p)) (append_assoc xs (at_cell p (e ∷ [])) (at_cell p es)
+    ∙ ap (λ l. xs ++ l) (at_cell_first p e es)) r
 
 -- ---- draws
 
@@ -141,28 +157,31 @@ once_small (Some t) = omega arith
 zero_plus : (x : ℕ) → 0 + x ≡ x
 zero_plus x = omega arith
 
-draw_step : (cells : ℕ) (s : State) (who : ℕ) (act : CellAct) (d : Side) (p : ℕ) → Sound cells s → Needs cells s who act → one_if (draws_cell d p act) + once (s.drawer d p) ≡ once ((after s who act).drawer d p)
+draw_step : (cells : ℕ) (s : State) (who : ℕ) (act : CellAct) (d : Side) (p : ℕ) → Sound cells s → Needs cells s who act
+    → one_if (draws_cell d p act) + once (s.drawer d p) ≡ once ((after s who act).drawer d p)
 draw_step cells s who (Draw e i) d p sound k = go e d k.0
   where
     one : (e : Side) → i ≡ s.drawn e → one_if (i == p) + once (s.drawer e p) ≡ once (put i (Some who) (s.drawer e) p)
     one e is = dite (ℕ_discrete i p)
         (λ at. let a : one_if (i == p) ≡ 1 = ap one_if (eq-eqb i p at) in
         let b : once (s.drawer e p) ≡ 0 = ap once (sound.undrawn e p (omega (arith, is, at))) in
-        let c : once (put i (Some who) (s.drawer e) p) ≡ 1 = ap once (ap (put i (Some who) (s.drawer e)) (sym at) ∙ put_here i (Some who) (s.drawer e)) in omega (arith, a, b, c))
+        let c : once (put i (Some who) (s.drawer e) p) ≡ 1 =
+        ap once (ap (put i (Some who) (s.drawer e)) (sym at) ∙ put_here i (Some who) (s.drawer e)) in omega (arith, a, b, c))
         (λ ne. let a : one_if (i == p) ≡ 0 = ap one_if (ne_eqb i p ne) in
-        let c : once (put i (Some who) (s.drawer e) p) ≡ once (s.drawer e p) = ap once (put_else i p (Some who) (s.drawer e) ne) in omega (arith, a, c))
+        let c : once (put i (Some who) (s.drawer e) p) ≡ once (s.drawer e p) = ap once (put_else i p (Some who) (s.drawer e) ne)
+        in omega (arith, a, c))
 
-    go : (e d : Side) → i ≡ s.drawn e → one_if (draws_cell d p (Draw e i)) + once (s.drawer d p) ≡ once (put_side e (put i (Some who) (s.drawer e)) s.drawer d p)
+    go : (e d : Side) → i ≡ s.drawn e → one_if (draws_cell d p (Draw e i)) + once (s.drawer d p) ≡
+        once (put_side e (put i (Some who) (s.drawer e)) s.drawer d p)
     go Send Send is = one Send is
     go Send Receive is = zero_plus (once (s.drawer Receive p))
     go Receive Send is = zero_plus (once (s.drawer Send p))
     go Receive Receive is = one Receive is
 draw_step cells s who (Miss e) d p sound k = zero_plus (once (s.drawer d p))
-draw_step cells s who (Place i w) d p sound k = zero_plus (once (s.drawer d p))
-draw_step cells s who (Pair e i v) d p sound k = zero_plus (once (s.drawer d p))
-draw_step cells s who (GiveUp e i) d p sound k = zero_plus (once (s.drawer d p))
+draw_step cells s who other d p sound k = zero_plus (once (s.drawer d p))
 
-draws_first : (d : Side) (p : ℕ) (e : CellEntry) (es : List CellEntry) → draws_of d p (e ∷ es) ≡ one_if (draws_cell d p e.act) + draws_of d p es
+draws_first : (d : Side) (p : ℕ) (e : CellEntry) (es : List CellEntry)
+    → draws_of d p (e ∷ es) ≡ one_if (draws_cell d p e.act) + draws_of d p es
 draws_first d p e es = by_test (draws_cell d p e.act)
   where
     by_test : (b : Bool) → (if b then 1 + draws_of d p es else draws_of d p es) ≡ one_if b + draws_of d p es
@@ -172,12 +191,14 @@ draws_first d p e es = by_test (draws_cell d p e.act)
 add_up : (a b x y z m : ℕ) → m ≡ a + b → a + x ≡ y → b + y ≡ z → m + x ≡ z
 add_up a b x y z m e f g = omega (arith, e, f, g)
 
-draws_from : (cells : ℕ) (s : State) (es : List CellEntry) (d : Side) (p : ℕ) → Sound cells s → LegalFrom cells s es → draws_of d p es + once (s.drawer d p) ≡ once ((state_from s es).drawer d p)
+draws_from : (cells : ℕ) (s : State) (es : List CellEntry) (d : Side) (p : ℕ) → Sound cells s → LegalFrom cells s es
+    → draws_of d p es + once (s.drawer d p) ≡ once ((state_from s es).drawer d p)
 unfolding state_from LegalFrom
 draws_from cells s [] d p sound k = zero_plus (once (s.drawer d p))
 draws_from cells s (e ∷ es) d p sound k =
     let t : State = after s e.who e.act in
-    add_up (one_if (draws_cell d p e.act)) (draws_of d p es) (once (s.drawer d p)) (once (t.drawer d p)) (once ((state_from t es).drawer d p)) (draws_of d p (e ∷ es)) (draws_first d p e es)
+    add_up (one_if (draws_cell d p e.act)) (draws_of d p es) (once (s.drawer d p)) (once (t.drawer d p))
+    (once ((state_from t es).drawer d p)) (draws_of d p (e ∷ es)) (draws_first d p e es)
     (draw_step cells s e.who e.act d p sound k.0) (draws_from cells t es d p (sound_step cells s e.who e.act sound k.0) k.1)
 
 at_most : (m k : ℕ) → m + 0 ≡ k → k ≤ 1 → m ≤ 1
@@ -185,11 +206,13 @@ at_most m k e le = omega (arith, e, le)
 
 pub has_story : (cells : ℕ) (log : List CellEntry) (p : ℕ) → Legal cells log → HasStory log p
 has_story cells log p k = record {
-  drawn = λ d. at_most (draws_of d p log) (once ((state_of log).drawer d p)) (draws_from cells start log d p (start_sound cells) k) (once_small ((state_of log).drawer d p));
+  drawn = λ d. at_most (draws_of d p log) (once ((state_of log).drawer d p)) (draws_from cells start log d p (start_sound cells) k)
+      (once_small ((state_of log).drawer d p));
   story = story_from cells start log p [] (start_sound cells) k Story.nobody;
 }
 
-pub holds_cells : (cells : ℕ) (s : Table CellEntry (View CellEntry ℕ)) → HasOneHistory (Legal cells) Fits maker (word_count cells) s → HoldsCells cells s
+pub holds_cells : (cells : ℕ) (s : Table CellEntry (View CellEntry ℕ)) → HasOneHistory (Legal cells) Fits maker (word_count cells) s
+    → HoldsCells cells s
 holds_cells cells s r = record {
   log = r.log;
   legal = r.is_legal;

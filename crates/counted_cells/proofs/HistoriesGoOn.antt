@@ -29,17 +29,20 @@ state_more xs ys = state_from-append start xs ys
 
 -- ---- legal histories
 
-pub LegalFrom-append : (cells : ℕ) (s : State) (xs ys : List CellEntry) → LegalFrom cells s xs → LegalFrom cells (state_from s xs) ys → LegalFrom cells s (xs ++ ys)
+pub LegalFrom-append : (cells : ℕ) (s : State) (xs ys : List CellEntry) → LegalFrom cells s xs → LegalFrom cells (state_from s xs) ys
+    → LegalFrom cells s (xs ++ ys)
 unfolding state_from LegalFrom
 LegalFrom-append cells s [] ys h k = k
 LegalFrom-append cells s (e ∷ es) ys h k = (h.0, LegalFrom-append cells (after s e.who e.act) es ys h.1 k)
 
-pub LegalFrom-parts : (cells : ℕ) (s : State) (xs ys : List CellEntry) → LegalFrom cells s (xs ++ ys) → LegalFrom cells s xs × LegalFrom cells (state_from s xs) ys
+pub LegalFrom-parts : (cells : ℕ) (s : State) (xs ys : List CellEntry) → LegalFrom cells s (xs ++ ys) → LegalFrom cells s xs
+    × LegalFrom cells (state_from s xs) ys
 unfolding state_from LegalFrom
 LegalFrom-parts cells s [] ys h = (tt, h)
 LegalFrom-parts cells s (e ∷ es) ys h = let r = LegalFrom-parts cells (after s e.who e.act) es ys h.1 in ((h.0, r.0), r.1)
 
-pub Legal_push : (cells : ℕ) (xs : List CellEntry) (e : CellEntry) → Legal cells xs → Needs cells (state_of xs) e.who e.act → Legal cells (xs ++ e ∷ [])
+pub Legal_push : (cells : ℕ) (xs : List CellEntry) (e : CellEntry) → Legal cells xs → Needs cells (state_of xs) e.who e.act
+    → Legal cells (xs ++ e ∷ [])
 unfolding state_from LegalFrom
 Legal_push cells xs e h k = LegalFrom-append cells start xs (e ∷ []) h (k, tt)
 
@@ -52,9 +55,11 @@ last_needs cells xs e h = (Legal-rest cells xs (e ∷ []) h).1.0
 
 -- ---- whose entries
 
-pub apart_first : (who : ℕ) (e : CellEntry) (es : List CellEntry) → entries_of maker who (e ∷ es) ≡ [] → (e.who ≡ who → ⊥) × (entries_of maker who es ≡ [])
+pub apart_first : (who : ℕ) (e : CellEntry) (es : List CellEntry) → entries_of maker who (e ∷ es) ≡ [] → (e.who ≡ who → ⊥)
+    × (entries_of maker who es ≡ [])
 apart_first who e es h = by_test (e.who == who) refl h
   where
-    by_test : (b : Bool) → (e.who == who) ≡ b → (if b then e ∷ entries_of maker who es else entries_of maker who es) ≡ [] → (e.who ≡ who → ⊥) × (entries_of maker who es ≡ [])
+    by_test : (b : Bool) → (e.who == who) ≡ b → (if b then e ∷ entries_of maker who es else entries_of maker who es) ≡ []
+        → (e.who ≡ who → ⊥) × (entries_of maker who es ≡ [])
     by_test true q k = cc
     by_test false q k = (λ u. let v : true ≡ false = sym (eq-eqb e.who who u) ∙ q in cc, k)

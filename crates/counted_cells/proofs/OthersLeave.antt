@@ -32,18 +32,21 @@ le_self n = omega arith
 
 -- ---- a cell stays drawn
 
-pub drawer_step : (cells : ℕ) (s : State) (who : ℕ) (act : CellAct) (d : Side) (i t : ℕ) → Sound cells s → Needs cells s who act → IsDrawer d t i s → IsDrawer d t i (after s who act)
+pub drawer_step : (cells : ℕ) (s : State) (who : ℕ) (act : CellAct) (d : Side) (i t : ℕ) → Sound cells s → Needs cells s who act
+    → IsDrawer d t i s → IsDrawer d t i (after s who act)
 drawer_step cells s who (Draw e j) d i t h k q = go e d k.0 q
   where
     go : (e d : Side) → j ≡ s.drawn e → s.drawer d i ≡ Some t → put_side e (put j (Some who) (s.drawer e)) s.drawer d i ≡ Some t
-    go Send Send is q = put_else j i (Some who) (s.drawer Send) (λ same. some_not (sym q ∙ sym (ap (s.drawer Send) same) ∙ h.undrawn Send j (subst (λ n. s.drawn Send ≤ n) (sym is) (le_self (s.drawn Send))))) ∙ q
+    go Send Send is q = put_else j i (Some who) (s.drawer Send)
+        (λ same. some_not (sym q ∙ sym (ap (s.drawer Send) same)
+        ∙ h.undrawn Send j (subst (λ n. s.drawn Send ≤ n) (sym is) (le_self (s.drawn Send))))) ∙ q
     go Send Receive is q = q
     go Receive Send is q = q
-    go Receive Receive is q = put_else j i (Some who) (s.drawer Receive) (λ same. some_not (sym q ∙ sym (ap (s.drawer Receive) same) ∙ h.undrawn Receive j (subst (λ n. s.drawn Receive ≤ n) (sym is) (le_self (s.drawn Receive))))) ∙ q
+    go Receive Receive is q = put_else j i (Some who) (s.drawer Receive)
+        (λ same. some_not (sym q ∙ sym (ap (s.drawer Receive) same)
+        ∙ h.undrawn Receive j (subst (λ n. s.drawn Receive ≤ n) (sym is) (le_self (s.drawn Receive))))) ∙ q
 drawer_step cells s who (Miss e) d i t h k q = q
-drawer_step cells s who (Place j w) d i t h k q = q
-drawer_step cells s who (Pair e j v) d i t h k q = q
-drawer_step cells s who (GiveUp e j) d i t h k q = q
+drawer_step cells s who other d i t h k q = q
 
 -- ---- how a cell goes on
 
@@ -103,11 +106,13 @@ at_put P s i j x h k = dite (ℕ_discrete j i)
     (λ is. subst P (sym (ap (put j x s.cells) (sym is) ∙ put_here j x s.cells)) (k (subst (λ n. P (s.cells n)) (sym is) h)))
     (λ ne. subst P (sym (put_else j i x s.cells ne)) h)
 
-pub becomes_step : (cells : ℕ) (s : State) (who : ℕ) (act : CellAct) (x : CellState) (i : ℕ) → Needs cells s who act → Becomes x (s.cells i) → Becomes x ((after s who act).cells i)
+pub becomes_step : (cells : ℕ) (s : State) (who : ℕ) (act : CellAct) (x : CellState) (i : ℕ) → Needs cells s who act → Becomes x (s.cells i)
+    → Becomes x ((after s who act).cells i)
 becomes_step cells s who (Draw e j) x i k h = h
 becomes_step cells s who (Miss e) x i k h = h
 becomes_step cells s who (Place j w) x i k h = at_put (Becomes x) s i j (Waits w) h (λ q. to_wait x w (subst (Becomes x) k.1 q))
-becomes_step cells s who (Pair e j v) x i k h = at_put (Becomes x) s i j (Paired v) h (λ q. to_pair x (partner e v) v (subst (Becomes x) k.1 q))
+becomes_step cells s who (Pair e j v) x i k h = at_put (Becomes x) s i j (Paired v) h
+    (λ q. to_pair x (partner e v) v (subst (Becomes x) k.1 q))
 becomes_step cells s who (GiveUp e j) x i k h = at_put (Becomes x) s i j (Broken e) h (λ q. to_broken x (s.cells j) e k.1 q)
 
 pub still_come : (d : Side) (x y : CellState) → Becomes x y → has_come d x ≡ true → has_come d y ≡ true
@@ -127,7 +132,8 @@ still_come d (Broken e) (Broken f) h k = ap (λ (z : Side). same_side z d) h ∙
 
 -- ---- who comes to a cell has drawn it
 
-comes : (d : Side) (s : State) (i who t : ℕ) (w : Waiter) → s.drawer (side_of w) i ≡ Some t → s.drawer d i ≡ Some who → (t ≡ who → ⊥) → same_side (side_of w) d ≡ false
+comes : (d : Side) (s : State) (i who t : ℕ) (w : Waiter) → s.drawer (side_of w) i ≡ Some t → s.drawer d i ≡ Some who → (t ≡ who → ⊥)
+    → same_side (side_of w) d ≡ false
 comes d s i who t w p q ne = go (same_side (side_of w) d) refl
   where
     go : (b : Bool) → same_side (side_of w) d ≡ b → b ≡ false
@@ -135,11 +141,13 @@ comes d s i who t w p q ne = go (same_side (side_of w) d) refl
     go false is = refl
 
 -- who has not come to the cell that it drew has not by what another does
-pub not_come_step : (cells : ℕ) (s : State) (t : ℕ) (act : CellAct) (d : Side) (i who : ℕ) → Needs cells s t act → (t ≡ who → ⊥) → IsDrawer d who i s → has_come d (s.cells i) ≡ false → has_come d ((after s t act).cells i) ≡ false
+pub not_come_step : (cells : ℕ) (s : State) (t : ℕ) (act : CellAct) (d : Side) (i who : ℕ) → Needs cells s t act → (t ≡ who → ⊥)
+    → IsDrawer d who i s → has_come d (s.cells i) ≡ false → has_come d ((after s t act).cells i) ≡ false
 not_come_step cells s t (Draw e j) d i who k ne q h = h
 not_come_step cells s t (Miss e) d i who k ne q h = h
 not_come_step cells s t (Place j w) d i who k ne q h = dite (ℕ_discrete j i)
-    (λ is. ap (has_come d) (ap (put j (Waits w) s.cells) (sym is) ∙ put_here j (Waits w) s.cells) ∙ comes d s i who t w (ap (s.drawer (side_of w)) (sym is) ∙ k.0) q ne)
+    (λ is. ap (has_come d) (ap (put j (Waits w) s.cells) (sym is) ∙ put_here j (Waits w) s.cells)
+    ∙ comes d s i who t w (ap (s.drawer (side_of w)) (sym is) ∙ k.0) q ne)
     (λ apart. ap (has_come d) (put_else j i (Waits w) s.cells apart) ∙ h)
 not_come_step cells s t (Pair e j v) d i who k ne q h = dite (ℕ_discrete j i)
     (λ is. absurd (pairs is))
@@ -170,21 +178,26 @@ not_come_step cells s t (GiveUp e j) d i who k ne q h = dite (ℕ_discrete j i)
 -- ---- others
 
 -- what each of others' entries keeps holds after all of them
-pub others_keep : (cells who : ℕ) (P : State → Type 0) → ((s : State) (t : ℕ) (act : CellAct) → Sound cells s → Needs cells s t act → (t ≡ who → ⊥) → P s → P (after s t act))
+pub others_keep : (cells who : ℕ) (P : State → Type 0) → ((s : State) (t : ℕ) (act : CellAct) → Sound cells s → Needs cells s t act
+    → (t ≡ who → ⊥) → P s → P (after s t act))
     → (s : State) (es : List CellEntry) → Sound cells s → LegalFrom cells s es → entries_of maker who es ≡ [] → P s → P (state_from s es)
 unfolding state_from LegalFrom
 others_keep cells who P step s [] sound k apart h = h
 others_keep cells who P step s (e ∷ es) sound k apart h = let a = apart_first who e es apart in
-    others_keep cells who P step (after s e.who e.act) es (sound_step cells s e.who e.act sound k.0) k.1 a.1 (step s e.who e.act sound k.0 a.0 h)
+    others_keep cells who P step (after s e.who e.act) es (sound_step cells s e.who e.act sound k.0) k.1 a.1
+    (step s e.who e.act sound k.0 a.0 h)
 
 -- what each entry keeps holds after all of them
-pub all_keep : (cells : ℕ) (P : State → Type 0) → ((s : State) (t : ℕ) (act : CellAct) → Sound cells s → Needs cells s t act → P s → P (after s t act))
+pub all_keep : (cells : ℕ) (P : State → Type 0) → ((s : State) (t : ℕ) (act : CellAct) → Sound cells s → Needs cells s t act → P s
+    → P (after s t act))
     → (s : State) (es : List CellEntry) → Sound cells s → LegalFrom cells s es → P s → P (state_from s es)
 unfolding state_from LegalFrom
 all_keep cells P step s [] sound k h = h
-all_keep cells P step s (e ∷ es) sound k h = all_keep cells P step (after s e.who e.act) es (sound_step cells s e.who e.act sound k.0) k.1 (step s e.who e.act sound k.0 h)
+all_keep cells P step s (e ∷ es) sound k h = all_keep cells P step (after s e.who e.act) es (sound_step cells s e.who e.act sound k.0) k.1
+    (step s e.who e.act sound k.0 h)
 
-pub late_step : (s : State) (t who : ℕ) (act : CellAct) (d : Side) → (t ≡ who → ⊥) → s.late d who ≡ false → (after s t act).late d who ≡ false
+pub late_step : (s : State) (t who : ℕ) (act : CellAct) (d : Side) → (t ≡ who → ⊥) → s.late d who ≡ false
+    → (after s t act).late d who ≡ false
 late_step s t who (Draw e j) d ne h = h
 late_step s t who (Miss e) d ne h = go e d h
   where
@@ -199,7 +212,8 @@ late_step s t who (GiveUp e j) d ne h = h
 
 -- ---- what a pass had done goes on to hold
 
-pub come_step : (cells : ℕ) (s : State) (t : ℕ) (act : CellAct) (who i : ℕ) → Sound cells s → Needs cells s t act → HasCome who i s → HasCome who i (after s t act)
+pub come_step : (cells : ℕ) (s : State) (t : ℕ) (act : CellAct) (who i : ℕ) → Sound cells s → Needs cells s t act → HasCome who i s
+    → HasCome who i (after s t act)
 come_step cells s t act who i sound k h = record {
   side = h.side;
   drawer = drawer_step cells s t act h.side i who sound k h.drawer;
@@ -215,7 +229,8 @@ gives_up (Pair d i v) = false
 gives_up (GiveUp d i) = true
 
 -- the cell that who drew is whole still, unless who gave up there
-pub whole_step : (cells : ℕ) (s : State) (t : ℕ) (act : CellAct) (who i : ℕ) → Sound cells s → Needs cells s t act → ((d : Side) → act ≡ GiveUp d i → t ≡ who → ⊥) → MayGiveUp who i s → MayGiveUp who i (after s t act)
+pub whole_step : (cells : ℕ) (s : State) (t : ℕ) (act : CellAct) (who i : ℕ) → Sound cells s → Needs cells s t act
+    → ((d : Side) → act ≡ GiveUp d i → t ≡ who → ⊥) → MayGiveUp who i s → MayGiveUp who i (after s t act)
 whole_step cells s t act who i sound k not h = record { come = come_step cells s t act who i sound k h.come; whole = go act k not }
   where
     go : (act : CellAct) → Needs cells s t act → ((d : Side) → act ≡ GiveUp d i → t ≡ who → ⊥) → is_whole ((after s t act).cells i) ≡ true
@@ -234,4 +249,6 @@ whole_step cells s t act who i sound k not h = record { come = come_step cells s
         same_cell (Broken f) d e a b = cc
 
         mine : (e : Side) → j ≡ i → s.drawer e j ≡ Some t → waits_for e (s.cells j) ≡ true → t ≡ who
-        mine e is a b = same_drawer (sym (ap (s.drawer e) is) ∙ a) (ap (λ (x : Side). s.drawer x i) (sym (same_cell (s.cells i) h.come.side e h.come.came (ap (waits_for e) (ap s.cells (sym is)) ∙ b))) ∙ h.come.drawer)
+        mine e is a b = same_drawer (sym (ap (s.drawer e) is)
+            ∙ a) (ap (λ (x : Side). s.drawer x i) (sym (same_cell (s.cells i) h.come.side e h.come.came
+            (ap (waits_for e) (ap s.cells (sym is)) ∙ b))) ∙ h.come.drawer)

@@ -36,7 +36,8 @@ count_small f (suc n) = go (f n) (count_small f n)
 count_same : (f : ℕ → Bool) (t n : ℕ) → n ≤ t → count (put t true f) n ≡ count f n
 unfolding count
 count_same f t zero le = refl
-count_same f t (suc n) le = let e : one_if (put t true f n) ≡ one_if (f n) = ap one_if (put_else t n true f (λ is. absurd (omega (arith, le, is)))) in
+count_same f t (suc n) le = let e : one_if (put t true f n) ≡ one_if (f n) =
+    ap one_if (put_else t n true f (λ is. absurd (omega (arith, le, is)))) in
     let h : count (put t true f) n ≡ count f n = count_same f t n (omega (arith, le)) in omega (arith, e, h)
 
 -- one name more
@@ -110,7 +111,8 @@ less_drawn i j who f h = by_test (i == j) h
     by_test false k = k
 
 -- how it holds after one side's counter has gone up
-sound_draw : (cells : ℕ) (s : State) (who i : ℕ) (d : Side) → Sound cells s → i ≡ s.drawn d → i < cells → Sound cells (after s who (Draw d i))
+sound_draw : (cells : ℕ) (s : State) (who i : ℕ) (d : Side) → Sound cells s → i ≡ s.drawn d → i < cells
+    → Sound cells (after s who (Draw d i))
 sound_draw cells s who i d h is lt = record {
   early = λ e less t. h.early e (before d e less) t;
   bound = λ e. within d e is;
@@ -130,11 +132,14 @@ sound_draw cells s who i d h is lt = record {
     within Receive Send k = h.bound Send
     within Receive Receive k = drawn_within (s.drawn Receive) i cells (late_count (s.late Receive)) k lt
 
-    none : (d e : Side) (j : ℕ) → i ≡ s.drawn d → put_side d (suc (s.drawn d)) s.drawn e ≤ j → put_side d (put i (Some who) (s.drawer d)) s.drawer e j ≡ None
-    none Send Send j k le = put_else i j (Some who) (s.drawer Send) (λ same. absurd (omega (arith, k, le, same))) ∙ h.undrawn Send j (omega (arith, le))
+    none : (d e : Side) (j : ℕ) → i ≡ s.drawn d → put_side d (suc (s.drawn d)) s.drawn e ≤ j
+        → put_side d (put i (Some who) (s.drawer d)) s.drawer e j ≡ None
+    none Send Send j k le = put_else i j (Some who) (s.drawer Send) (λ same. absurd (omega (arith, k, le, same)))
+        ∙ h.undrawn Send j (omega (arith, le))
     none Send Receive j k le = h.undrawn Receive j le
     none Receive Send j k le = h.undrawn Send j le
-    none Receive Receive j k le = put_else i j (Some who) (s.drawer Receive) (λ same. absurd (omega (arith, k, le, same))) ∙ h.undrawn Receive j (omega (arith, le))
+    none Receive Receive j k le = put_else i j (Some who) (s.drawer Receive) (λ same. absurd (omega (arith, k, le, same)))
+        ∙ h.undrawn Receive j (omega (arith, le))
 
     fewer : (d e : Side) (j : ℕ) → put_side d (put i (Some who) (s.drawer d)) s.drawer e j ≡ None → s.drawer e j ≡ None
     fewer Send Send j k = less_drawn i j who (s.drawer Send) k
@@ -142,7 +147,8 @@ sound_draw cells s who i d h is lt = record {
     fewer Receive Send j k = k
     fewer Receive Receive j k = less_drawn i j who (s.drawer Receive) k
 
-sound_miss : (cells : ℕ) (s : State) (who : ℕ) (d : Side) → Sound cells s → cells ≤ s.drawn d → s.late d who ≡ false → who < 65536 → Sound cells (after s who (Miss d))
+sound_miss : (cells : ℕ) (s : State) (who : ℕ) (d : Side) → Sound cells s → cells ≤ s.drawn d → s.late d who ≡ false → who < 65536
+    → Sound cells (after s who (Miss d))
 sound_miss cells s who d h le not few = record {
   early = λ e less t. early d e le less t;
   bound = λ e. within d e not;
@@ -150,17 +156,21 @@ sound_miss cells s who d h le not few = record {
   come = h.come;
 }
   where
-    early : (d e : Side) → cells ≤ s.drawn d → put_side d (suc (s.drawn d)) s.drawn e < cells → (t : ℕ) → put_side d (put who true (s.late d)) s.late e t ≡ false
+    early : (d e : Side) → cells ≤ s.drawn d → put_side d (suc (s.drawn d)) s.drawn e < cells → (t : ℕ)
+        → put_side d (put who true (s.late d)) s.late e t ≡ false
     early Send Send le less t = absurd (omega (arith, le, less))
     early Send Receive le less t = h.early Receive less t
     early Receive Send le less t = h.early Send less t
     early Receive Receive le less t = absurd (omega (arith, le, less))
 
-    within : (d e : Side) → s.late d who ≡ false → put_side d (suc (s.drawn d)) s.drawn e ≤ cells + late_count (put_side d (put who true (s.late d)) s.late e)
-    within Send Send k = missed_within (s.drawn Send) cells (late_count (s.late Send)) (late_count (put who true (s.late Send))) (h.bound Send) (late_put (s.late Send) who k few)
+    within : (d e : Side) → s.late d who ≡ false → put_side d (suc (s.drawn d)) s.drawn e ≤ cells + late_count
+        (put_side d (put who true (s.late d)) s.late e)
+    within Send Send k = missed_within (s.drawn Send) cells (late_count (s.late Send)) (late_count (put who true (s.late Send)))
+        (h.bound Send) (late_put (s.late Send) who k few)
     within Send Receive k = h.bound Receive
     within Receive Send k = h.bound Send
-    within Receive Receive k = missed_within (s.drawn Receive) cells (late_count (s.late Receive)) (late_count (put who true (s.late Receive))) (h.bound Receive) (late_put (s.late Receive) who k few)
+    within Receive Receive k = missed_within (s.drawn Receive) cells (late_count (s.late Receive))
+        (late_count (put who true (s.late Receive))) (h.bound Receive) (late_put (s.late Receive) who k few)
 
     before : (d e : Side) (j : ℕ) → put_side d (suc (s.drawn d)) s.drawn e ≤ j → s.drawn e ≤ j
     before Send Send j k = omega (arith, k)
@@ -169,7 +179,8 @@ sound_miss cells s who d h le not few = record {
     before Receive Receive j k = omega (arith, k)
 
 -- how it holds after one cell has changed, where those that have come to it had drawn it
-sound_cell : (cells : ℕ) (s : State) (i : ℕ) (x : CellState) → Sound cells s → ((e : Side) → s.drawer e i ≡ None → has_come e x ≡ false) → Sound cells (record s { cells = put i x s.cells })
+sound_cell : (cells : ℕ) (s : State) (i : ℕ) (x : CellState) → Sound cells s → ((e : Side) → s.drawer e i ≡ None → has_come e x ≡ false)
+    → Sound cells (record s { cells = put i x s.cells })
 sound_cell cells s i x h new = record {
   early = h.early;
   bound = h.bound;
@@ -202,7 +213,8 @@ sound_step cells s who (Draw d i) h k = sound_draw cells s who i d h k.0 k.1
 sound_step cells s who (Miss d) h k = sound_miss cells s who d h k.0 k.1 k.2
 sound_step cells s who (Place i w) h k = sound_cell cells s i (Waits w) h (λ e none. drew s i who (side_of w) e k.0 none)
 sound_step cells s who (Pair d i v) h k = sound_cell cells s i (Paired v) h (λ e none.
-    let other : same_side (side_of (partner d v)) e ≡ true = ap (λ (x : Side). same_side x e) (partner_same d v) ∙ apart_sides d e (drew s i who d e k.0 none) in
+    let other : same_side (side_of (partner d v)) e ≡ true = ap (λ (x : Side). same_side x e) (partner_same d v)
+    ∙ apart_sides d e (drew s i who d e k.0 none) in
     let came : has_come e (s.cells i) ≡ true = ap (has_come e) k.1 ∙ other in
     absurd (let z : true ≡ false = sym came ∙ h.come e i none in cc))
 sound_step cells s who (GiveUp d i) h k = sound_cell cells s i (Broken d) h (λ e none. drew s i who d e k.0 none)
@@ -216,7 +228,12 @@ none_drawn : (n : ℕ) → 0 ≤ n
 none_drawn n = omega arith
 
 pub start_sound : (cells : ℕ) → Sound cells start
-start_sound cells = record { early = λ d less t. refl; bound = λ d. none_drawn (cells + late_count (λ t. false)); undrawn = λ d i le. refl; come = λ d i none. refl }
+start_sound cells = record {
+  early = λ d less t. refl;
+  bound = λ d. none_drawn (cells + late_count (λ t. false));
+  undrawn = λ d i le. refl;
+  come = λ d i none. refl;
+}
 
 pub sound_of : (cells : ℕ) (log : List CellEntry) → Legal cells log → Sound cells (state_of log)
 sound_of cells log k = sound_from cells start log (start_sound cells) k

@@ -1,29 +1,21 @@
 -- Counted cells and a pass.
-use Rattle.std.specs.Prelude.{◌≡◌, ℕ, Bool, true, false, List, [], ◌∷◌, ◌||◌}
-use mathlib.Core.List.{IsPrefix}
-use Rattle.worded.specs.Views.{has_tag}
+use Rattle.std.specs.Prelude.{◌≡◌, ℕ, true, List}
+use Rattle.worded.specs.Views.{IsIdleSeatOf}
 use Rattle.worded.specs.Histories.{entries_of}
+use Rattle.worded.specs.Steps as steps
+use Rattle.counted_cells.specs.declared.act.CellEntry.{CellEntry}
 use Rattle.counted_cells.specs.declared.counted.Counted.{Counted}
 use Rattle.counted_cells.specs.declared.pass.CountedPass.{CountedPass}
 use Rattle.counted_cells.specs.Cells.{maker}
-use Rattle.counted_cells.specs.Seen.{Seen, tags_given}
+use Rattle.counted_cells.specs.Seen.{Seen}
 
 -- what the pass knows
 abbrev pub seen_by : CountedPass → Seen
 seen_by pass = pass.seat.me.0
 
--- nothing is carried: the table has no slots
-abbrev pub is_bare : {A : Type 0} → List A → Bool
-is_bare [] = true
-is_bare (x ∷ xs) = false
-
 -- the pass is one of these cells
 abbrev pub IsOf : Counted → CountedPass → Type 0
-IsOf counted pass =
-    (pass.seat.table_id ≡ counted.table.shared.table_id)
-    × (pass.seat.me.0.key ≡ counted.cells)
-    × (pass.seat.me.0.heard_tags ≡ [])
-    × (is_bare pass.seat.me.1 ≡ true)
+IsOf counted pass = IsIdleSeatOf counted.table.shared.table_id counted.cells pass.seat
 
 -- it has its number still, and has split off as many
 abbrev pub SamePass : CountedPass → CountedPass → Type 0
@@ -33,11 +25,10 @@ SamePass old new = (new.number ≡ old.number) × (new.splits ≡ old.splits)
 abbrev pub IsFirst : CountedPass → Type 0
 IsFirst pass = pass.seat.me.0.chief ≡ true
 
+-- the entries of one number are the same
+abbrev pub SameOf : ℕ → List CellEntry → List CellEntry → Type 0
+SameOf t old new = entries_of maker t new ≡ entries_of maker t old
+
 -- a pass that had seen `old` took in one that had seen `other`, and all of its numbers
-pub record EndAnswer (old other new : Seen) : Type 0 where
-  pub goes_on : IsPrefix old.seen new.seen
-  pub told : IsPrefix other.seen new.seen
-  pub own : (t : ℕ) → has_tag t old.tags ≡ true → entries_of maker t new.seen ≡ entries_of maker t old.seen
-  pub taken : (t : ℕ) → has_tag t other.tags ≡ true → entries_of maker t new.seen ≡ entries_of maker t other.seen
-  pub numbers : (t : ℕ) → has_tag t new.tags ≡ (has_tag t old.tags || has_tag t other.tags)
-  pub giving : tags_given new ≡ tags_given old
+abbrev pub EndAnswer : Seen → Seen → Seen → Type 0
+EndAnswer = steps.EndAnswer SameOf

@@ -1,7 +1,9 @@
 -- What was seen of counted cells, and what steps add.
 use Rattle.std.specs.Prelude.{◌≡◌, ◌≢◌, ℕ, ◌<◌, Bool, true, false, List, [], ◌∷◌, ◌++◌}
 use Rattle.worded.specs.Views.{has_tag}
+use Rattle.worded.specs.Views as views
 use Rattle.worded.specs.Histories.{entries_of}
+use Rattle.worded.specs.Steps as steps
 use Rattle.worded.specs.declared.view.View.{View}
 use Rattle.counted_cells.specs.declared.act.CellAct.{CellAct}
 use Rattle.counted_cells.specs.declared.act.CellEntry.{CellEntry}
@@ -28,27 +30,19 @@ first_tag (t ∷ ts) = t
 
 -- whether a pass splits others off, and which numbers it has given out
 abbrev pub tags_given : Seen → Bool × List ℕ
-tags_given v = (v.chief, v.given)
+tags_given = views.tags_given
 
 -- no number above n was given out
 abbrev pub Ungiven : ℕ → Seen → Type 0
 Ungiven n v = (t : ℕ) → n < t → has_tag t v.given ≡ false
 
 -- others added to what was seen, and nothing under the numbers of the pass
-pub record Sees (v w : Seen) : Type 0 where
-  pub others : List CellEntry
-  pub now : w.seen ≡ v.seen ++ others
-  pub apart : (t : ℕ) → has_tag t v.tags ≡ true → entries_of maker t others ≡ []
-  pub tags : w.tags ≡ v.tags
-  pub giving : tags_given w ≡ tags_given v
+abbrev pub Sees : Seen → Seen → Type 0
+Sees = steps.Sees maker
 
 -- the entry was made after all that was seen, and is the last that was then seen
-pub record Makes (v : Seen) (e : CellEntry) (w : Seen) : Type 0 where
-  pub others : List CellEntry
-  pub now : w.seen ≡ (v.seen ++ others) ++ e ∷ []
-  pub apart : (t : ℕ) → has_tag t v.tags ≡ true → entries_of maker t others ≡ []
-  pub tags : w.tags ≡ v.tags
-  pub giving : tags_given w ≡ tags_given v
+abbrev pub Makes : Seen → CellEntry → Seen → Type 0
+Makes = steps.Makes maker
 
 -- who made these entries after what was seen, in their order, and nobody else did under a number of the pass
 pub record Adds (who : ℕ) (made : List CellEntry) (v w : Seen) : Type 0 where

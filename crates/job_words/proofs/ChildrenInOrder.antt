@@ -30,9 +30,11 @@ right_false false b e = e
 or_false : (a b : Bool) → a ≡ false → b ≡ false → (a || b) ≡ false
 or_false a b e f = ap (λ x. x || b) e ∙ f
 
-older_at : (o : Option ℕ) (c : ℕ) (front back : List ℕ) → is_among c front ≡ false → older_after o c (front ++ c ∷ back) ≡ newest_from o front
+older_at : (o : Option ℕ) (c : ℕ) (front back : List ℕ) → is_among c front ≡ false
+    → older_after o c (front ++ c ∷ back) ≡ newest_from o front
 older_at o c [] back e = ap (λ b. if b then o else older_after (Some c) c back) (same c)
-older_at o c (x ∷ xs) back e = ap (λ b. if b then o else older_after (Some x) c (xs ++ c ∷ back)) (left_false (c == x) (is_among c xs) e) ∙ older_at (Some x) c xs back (right_false (c == x) (is_among c xs) e)
+older_at o c (x ∷ xs) back e = ap (λ b. if b then o else older_after (Some x) c (xs ++ c ∷ back)) (left_false (c == x) (is_among c xs) e)
+    ∙ older_at (Some x) c xs back (right_false (c == x) (is_among c xs) e)
 
 pub older_is : (c : ℕ) (front back : List ℕ) → is_among c front ≡ false → older c (front ++ c ∷ back) ≡ newest front
 older_is c front back e = older_at None c front back e ∙ newest_from-none front
@@ -40,7 +42,8 @@ older_is c front back e = older_at None c front back e ∙ newest_from-none fron
 rank_at : (c : ℕ) (front back : List ℕ) → is_among c front ≡ false → rank c (front ++ c ∷ back) ≡ length front
 unfolding rank
 rank_at c [] back e = ap (λ b. if b then 0 else suc (rank c back)) (same c)
-rank_at c (x ∷ xs) back e = ap (λ b. if b then 0 else suc (rank c (xs ++ c ∷ back))) (left_false (c == x) (is_among c xs) e) ∙ (let k = rank_at c xs back (right_false (c == x) (is_among c xs) e) in grind arith)
+rank_at c (x ∷ xs) back e = ap (λ b. if b then 0 else suc (rank c (xs ++ c ∷ back))) (left_false (c == x) (is_among c xs) e)
+    ∙ (let k = rank_at c xs back (right_false (c == x) (is_among c xs) e) in grind arith)
 
 turned : (a b : ℕ) → (a == b) ≡ false → (b == a) ≡ false
 turned a b e = grind (arith, nat_tests)
@@ -61,7 +64,8 @@ last_from c (d ∷ ds) = let k = last_from d ds in (c ∷ k.0, ap (λ l. c ∷ l
 
 pub newest_last : (l : List ℕ) (d : ℕ) → newest l ≡ Some d → (front : List ℕ) × (l ≡ front ++ d ∷ [])
 newest_last [] d e = cc
-newest_last (c ∷ cs) d e = let k : newest_after c cs ≡ d = cc in subst (λ x. (front : List ℕ) × (c ∷ cs ≡ front ++ x ∷ [])) k (last_from c cs)
+newest_last (c ∷ cs) d e = let k : newest_after c cs ≡ d = cc
+    in subst (λ x. (front : List ℕ) × (c ∷ cs ≡ front ++ x ∷ [])) k (last_from c cs)
 
 pub newest_none : (l : List ℕ) → newest l ≡ None → l ≡ []
 newest_none [] e = refl
@@ -69,7 +73,8 @@ newest_none (c ∷ cs) e = cc
 
 -- the walk stands at next, and the row is none of the newer children
 abbrev pub IsAhead : List ℕ → ℕ → ℕ → Type 0
-IsAhead children row next = (next ≡ 0 → is_among row children ≡ false) × (next ≢ 0 → (front : List ℕ) × (back : List ℕ) × (children ≡ front ++ next ∷ back) × (is_among row back ≡ false))
+IsAhead children row next = (next ≡ 0 → is_among row children ≡ false)
+    × (next ≢ 0 → (front : List ℕ) × (back : List ℕ) × (children ≡ front ++ next ∷ back) × (is_among row back ≡ false))
 
 pub among_at : (c : ℕ) (front back : List ℕ) → is_among c (front ++ c ∷ back) ≡ true
 among_at c [] back = ap (λ b. b || is_among c back) (same c)
@@ -80,7 +85,8 @@ among_at c (x ∷ xs) back = ap (λ b. (c == x) || b) (among_at c xs back) ∙ o
     or_true false = refl
 
 -- where the walk begins
-pub begin_walk : (children : List ℕ) (row first : ℕ) → ((d : ℕ) → is_among d children ≡ true → d ≢ 0) → (o : Option ℕ) → newest children ≡ o → first ≡ row_code o → IsAhead children row first
+pub begin_walk : (children : List ℕ) (row first : ℕ) → ((d : ℕ) → is_among d children ≡ true → d ≢ 0) → (o : Option ℕ) → newest children ≡ o
+    → first ≡ row_code o → IsAhead children row first
 begin_walk children row first some None e f = (λ z. ap (is_among row) (newest_none children e), λ ne. absurd (ne f))
 begin_walk children row first some (Some d) e f =
     let k = newest_last children d e in
@@ -88,15 +94,27 @@ begin_walk children row first some (Some d) e f =
     (λ z. absurd (some d a (sym f ∙ z)), λ ne. (k.0, [], k.1 ∙ ap (λ x. k.0 ++ x ∷ []) (sym f), refl))
 
 -- one step of it: from a child to the next older one
-pub step_walk : (children : List ℕ) (row next after : ℕ) → ((d : ℕ) → is_among d children ≡ true → d ≢ 0) → (front back : List ℕ) → children ≡ front ++ next ∷ back → is_among row back ≡ false → row ≢ next
+pub step_walk : (children : List ℕ) (row next after : ℕ) → ((d : ℕ) → is_among d children ≡ true → d ≢ 0) → (front back : List ℕ)
+    → children ≡ front ++ next ∷ back → is_among row back ≡ false → row ≢ next
     → (o : Option ℕ) → newest front ≡ o → after ≡ row_code o → IsAhead children row after
-step_walk children row next after some front back e n ne None w f =
-    (λ z. ap (is_among row) (e ∙ ap (λ l. l ++ next ∷ back) (newest_none front w)) ∙ or_false (row == next) (is_among row back) (ne_eqb row next ne) n, λ nz. absurd (nz f))
+step_walk children row next after some front back e n ne None w f = (
+  λ z. ap (is_among row) (e ∙ ap (λ l. l ++ next ∷ back) (newest_none front w))
+      ∙ or_false (row == next) (is_among row back) (ne_eqb row next ne) n,
+  λ nz. absurd (nz f),
+)
 step_walk children row next after some front back e n ne (Some d) w f =
     let k = newest_last front d w in
     let is : children ≡ k.0 ++ d ∷ (next ∷ back) = e ∙ ap (λ l. l ++ next ∷ back) k.1 ∙ append_assoc k.0 (d ∷ []) (next ∷ back) in
-    let a : is_among d children ≡ true = ap (is_among d) is ∙ among_at d k.0 (next ∷ back) in
-    (λ z. absurd (some d a (sym f ∙ z)), λ nz. (k.0, next ∷ back, is ∙ ap (λ x. k.0 ++ x ∷ (next ∷ back)) (sym f), or_false (row == next) (is_among row back) (ne_eqb row next ne) n))
+    let a : is_among d children ≡ true = ap (is_among d) is ∙ among_at d k.0 (next ∷ back) in (
+      λ z. absurd (some d a (sym f ∙ z)),
+      λ nz. (
+        k.0,
+        next ∷ back,
+        is
+            ∙ ap (λ x. k.0 ++ x ∷ (next ∷ back)) (sym f),
+        or_false (row == next) (is_among row back) (ne_eqb row next ne) n,
+      ),
+    )
 
 ahead_le : (n : ℕ) (l : List ℕ) → ahead n l ≤ suc (rank n l)
 ahead_le n l = by_test (n == 0)
@@ -109,19 +127,25 @@ ahead_is : (n : ℕ) (l : List ℕ) → n ≢ 0 → ahead n l ≡ suc (rank n l)
 ahead_is n l ne = ap (λ (b : Bool). if b then 0 else suc (rank n l)) (ne_eqb n 0 ne)
 
 -- the walk comes nearer to its end
-pub step_nearer : (next after : ℕ) (front back more : List ℕ) → next ≢ 0 → IsDistinct (λ (u : ℕ) (v : ℕ). u == v) (front ++ next ∷ back) → IsDistinct (λ (u : ℕ) (v : ℕ). u == v) ((front ++ next ∷ back) ++ more) → (o : Option ℕ) → newest front ≡ o → after ≡ row_code o
+pub step_nearer : (next after : ℕ) (front back more : List ℕ) → next ≢ 0 → IsDistinct (λ (u : ℕ) (v : ℕ). u == v) (front ++ next ∷ back)
+    → IsDistinct (λ (u : ℕ) (v : ℕ). u == v) ((front ++ next ∷ back) ++ more) → (o : Option ℕ) → newest front ≡ o → after ≡ row_code o
     → ahead after ((front ++ next ∷ back) ++ more) < ahead next (front ++ next ∷ back)
 step_nearer next after front back more nz dist distm None w f =
     let k = ahead_is next (front ++ next ∷ back) nz in
-    let l : ahead after ((front ++ next ∷ back) ++ more) ≡ 0 = ap (λ (b : Bool). if b then 0 else suc (rank after ((front ++ next ∷ back) ++ more))) (eq-eqb after 0 f) in
+    let l : ahead after ((front ++ next ∷ back) ++ more) ≡ 0 =
+    ap (λ (b : Bool). if b then 0 else suc (rank after ((front ++ next ∷ back) ++ more))) (eq-eqb after 0 f) in
     omega arith
 step_nearer next after front back more nz dist distm (Some d) w f =
     let k = newest_last front d w in
-    let is : (front ++ next ∷ back) ++ more ≡ k.0 ++ d ∷ (next ∷ (back ++ more)) = append_assoc front (next ∷ back) more ∙ ap (λ l. l ++ next ∷ (back ++ more)) k.1 ∙ append_assoc k.0 (d ∷ []) (next ∷ (back ++ more)) in
-    let here : rank d ((front ++ next ∷ back) ++ more) ≡ length k.0 = ap (rank d) is ∙ rank_at d k.0 (next ∷ (back ++ more)) (distinct_front d k.0 (next ∷ (back ++ more)) (subst (IsDistinct (λ (u : ℕ) (v : ℕ). u == v)) is distm)) in
+    let is : (front ++ next ∷ back) ++ more ≡ k.0 ++ d ∷ (next ∷ (back ++ more)) = append_assoc front (next ∷ back) more
+    ∙ ap (λ l. l ++ next ∷ (back ++ more)) k.1 ∙ append_assoc k.0 (d ∷ []) (next ∷ (back ++ more)) in
+    let here : rank d ((front ++ next ∷ back) ++ more) ≡ length k.0 = ap (rank d) is
+    ∙ rank_at d k.0 (next ∷ (back ++ more)) (distinct_front d k.0 (next ∷ (back ++ more))
+    (subst (IsDistinct (λ (u : ℕ) (v : ℕ). u == v)) is distm)) in
     let there : rank next (front ++ next ∷ back) ≡ length front = rank_at next front back (distinct_front next front back dist) in
     let one : length front ≡ length k.0 + 1 = ap length k.1 ∙ length-append k.0 (d ∷ []) in
     let m = ahead_is next (front ++ next ∷ back) nz in
     let n = ahead_le after ((front ++ next ∷ back) ++ more) in
-    let o : rank after ((front ++ next ∷ back) ++ more) ≡ rank d ((front ++ next ∷ back) ++ more) = ap (λ x. rank x ((front ++ next ∷ back) ++ more)) f in
+    let o : rank after ((front ++ next ∷ back) ++ more) ≡ rank d ((front ++ next ∷ back) ++ more) =
+    ap (λ x. rank x ((front ++ next ∷ back) ++ more)) f in
     omega arith

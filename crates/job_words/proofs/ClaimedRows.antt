@@ -23,20 +23,35 @@ use Rattle.job_words.proofs.DeedsAddUp.{tree_is}
 -- nothing was done yet
 pub goes_self : (who : ℕ) (v : Seen) → v.heard_tags ≡ [] → IsDone (shape_of v.key) v.seen → Goes who [] v v
 unfolding history_of rows_claimed
-goes_self who v idle h = record { rest = []; seen = sym (append-nil v.seen); mine = refl; rows = refl; tags = refl; key = refl; giving = refl; idle = idle; done = h }
+goes_self who v idle h = record {
+  rest = [];
+  seen = sym (append-nil v.seen);
+  mine = refl;
+  rows = refl;
+  tags = refl;
+  key = refl;
+  giving =
+      refl;
+  idle = idle;
+  done = h;
+}
 
 -- one row more was seen claimed
-pub claimed_more : (who : ℕ) (rows : List ℕ) (from n : ℕ) (v w : Seen) → Goes who rows v w → ((r : ℕ) → from ≤ r → r < n → IsClaimed v r) → IsClaimed w n → (r : ℕ) → from ≤ r → r < suc n → IsClaimed w r
-claimed_more who rows from n v w g h a r le lt = dite (ℕ_discrete r n) (λ is. subst (IsClaimed w) (sym is) a) (λ ne. claims_last who rows v w r g (h r le (omega arith)))
+pub claimed_more : (who : ℕ) (rows : List ℕ) (from n : ℕ) (v w : Seen) → Goes who rows v w → ((r : ℕ) → from ≤ r → r < n → IsClaimed v r)
+    → IsClaimed w n → (r : ℕ) → from ≤ r → r < suc n → IsClaimed w r
+claimed_more who rows from n v w g h a r le lt = dite (ℕ_discrete r n) (λ is. subst (IsClaimed w) (sym is) a)
+    (λ ne. claims_last who rows v w r g (h r le (omega arith)))
 
 -- an act after steps without one
-pub acted_after : (who row : ℕ) (old : JobWord) (act : JobAct) (u v w : Seen) → Goes who [] u v → ActedNow who row old act v w → ActedNow who row old act u w
+pub acted_after : (who row : ℕ) (old : JobWord) (act : JobAct) (u v w : Seen) → Goes who [] u v → ActedNow who row old act v w
+    → ActedNow who row old act u w
 acted_after who row old act u v w g a = record { before = a.before; goes = goes_trans who [] [] u v a.before g a.goes; does = a.does }
 
 -- ---- the answers of an attach
 
 -- no row was claimed
-pub drawn_err : (size : ForestSize) (who parent : ℕ) (kind : JobKind) (tag : ℕ) (v w : Seen) (e : AttachError) → v.key ≡ size → w.key ≡ size → RowAnswer size who kind tag v w (Err e) → AttachAnswer who parent kind tag (floor_seen v) (floor_seen w) (Err e)
+pub drawn_err : (size : ForestSize) (who parent : ℕ) (kind : JobKind) (tag : ℕ) (v w : Seen) (e : AttachError) → v.key ≡ size → w.key ≡ size
+    → RowAnswer size who kind tag v w (Err e) → AttachAnswer who parent kind tag (floor_seen v) (floor_seen w) (Err e)
 drawn_err size who parent kind tag v w NoRow kv kw d = record {
   looked = looked who [] v w d.0;
   scope = d.1;
@@ -46,12 +61,16 @@ drawn_err size who parent kind tag v w Used kv kw d = record { looked = looked w
 drawn_err size who parent kind tag v w ParentEnded kv kw d = absurd d
 
 -- the claimed row was attached
-pub drawn_attached : (size : ForestSize) (who parent : ℕ) (kind : JobKind) (tag row : ℕ) (cancelled : Bool) (u v w : Seen) → HasRow size who kind tag row u v → AttachedNow who parent kind tag row cancelled v w
+pub drawn_attached : (size : ForestSize) (who parent : ℕ) (kind : JobKind) (tag row : ℕ) (cancelled : Bool) (u v w : Seen)
+    → HasRow size who kind tag row u v → AttachedNow who parent kind tag row cancelled v w
     → AttachAnswer who parent kind tag (floor_seen u) (floor_seen w) (Ok (record { row = row; cancelled = cancelled }))
-drawn_attached size who parent kind tag row cancelled u v w d a = made who (Attach parent row kind tag cancelled) (row ∷ []) _ _ u a.1.before w (goes_trans who (row ∷ []) [] u v a.1.before d.goes a.1.goes) a.1.does
+drawn_attached size who parent kind tag row cancelled u v w d a =
+    made who (Attach parent row kind tag cancelled) (row ∷ []) _ _ u a.1.before w
+    (goes_trans who (row ∷ []) [] u v a.1.before d.goes a.1.goes) a.1.does
 
 -- or its parent was seen ended
-pub drawn_ended : (size : ForestSize) (who parent : ℕ) (kind : JobKind) (tag row : ℕ) (u v w : Seen) → u.key ≡ size → HasRow size who kind tag row u v → Goes who [] v w → w.heard_tags ≡ [] → IsEnded ((store_of w.seen).tree parent)
+pub drawn_ended : (size : ForestSize) (who parent : ℕ) (kind : JobKind) (tag row : ℕ) (u v w : Seen) → u.key ≡ size
+    → HasRow size who kind tag row u v → Goes who [] v w → w.heard_tags ≡ [] → IsEnded ((store_of w.seen).tree parent)
     → AttachAnswer who parent kind tag (floor_seen u) (floor_seen w) (Err ParentEnded)
 drawn_ended size who parent kind tag row u v w key d g idle e =
     let all = goes_trans who (row ∷ []) [] u v w d.goes g in
@@ -59,5 +78,7 @@ drawn_ended size who parent kind tag row u v w key d g idle e =
       row = row;
       row_for = subst (λ (k : ForestSize). IsRowFor (shape_of k) who kind tag row) (sym key) d.row_for;
       looked = looked who (row ∷ []) u w all;
-      ended = at_step who (row ∷ []) [] u w w (λ tree. IsEnded (tree parent)) all (goes_self who w idle (subst (λ (k : ForestSize). IsDone (shape_of k) w.seen) (sym g.key) g.done)) (subst (λ (t : Tree). IsEnded (t parent)) (tree_is w.seen) e);
+      ended = at_step who (row ∷ []) [] u w w (λ tree. IsEnded (tree parent)) all
+          (goes_self who w idle (subst (λ (k : ForestSize). IsDone (shape_of k) w.seen) (sym g.key) g.done))
+          (subst (λ (t : Tree). IsEnded (t parent)) (tree_is w.seen) e);
     }

@@ -13,6 +13,7 @@ pub mod ActsOnOneWord
 pub mod TriesOfAnAct
 pub mod ChildrenInOrder
 pub mod CausesInWords
+pub mod DecisionsOnWords
 pub mod LooksSee
 pub mod TreesReplay
 pub mod NewForests

@@ -3,15 +3,12 @@ use Rattle.std.specs.Prelude.{◌≡◌, ℕ, ◌+◌, ◌*◌, ◌==◌, Bool, 
 use Rattle.std.proofs.Common.{inl, sym, ap, ◌∙◌, arith, get_or, eq-eqb, ne_eqb}
 use mathlib.Core.Logic.{dite}
 use native.Mathlib.Decide.{ℕ_discrete}
-use Rattle.job_model.specs.Trees.{Shape, IsShape, root}
-use Rattle.job_model.specs.Histories.{Legal}
-use Rattle.job_model.specs.Floors.{HasClaims, IsFreshFloor}
+use Rattle.job_model.specs.Trees.{Shape, root}
+use Rattle.job_model.specs.Floors.{IsFreshFloor}
 use Rattle.job_words.specs.declared.size.ForestSize.{ForestSize}
 use Rattle.job_words.specs.Rows.{word_of}
-use Rattle.job_words.specs.Deeds.{shape_of, history_of, store_from, store_of, job_word, word_or, DoneFrom, IsDone, Fits}
+use Rattle.job_words.specs.Deeds.{history_of, store_from, store_of, job_word, word_or, DoneFrom, IsDone, Fits}
 use Rattle.job_words.specs.Passes.{floor_of}
-use Rattle.job_words.proofs.DeedsAddUp.{is_legal}
-use Rattle.job_words.proofs.StepsAsCalls.{has_claims}
 
 pub nothing_yet : (shape : Shape) → IsDone shape []
 unfolding DoneFrom
@@ -30,19 +27,16 @@ first_link : (r : ℕ) → (store_of []).links r ≡ 0
 unfolding store_from
 first_link r = refl
 
-pub first_fits : (ws : List ℕ) → ((i : ℕ) → get_or ws i 0 ≡ (if i == 0 then 2 else 0)) → (size : ForestSize) (i : ℕ) → Fits size [] i (get_or ws i 0)
+pub first_fits : (ws : List ℕ) → ((i : ℕ) → get_or ws i 0 ≡ (if i == 0 then 2 else 0)) → (size : ForestSize) (i : ℕ)
+    → Fits size [] i (get_or ws i 0)
 first_fits ws h size i = record {
   job = λ r e. h i ∙ ap (λ (n : ℕ). if n == 0 then 2 else 0) e ∙ sym (first_job r);
-  link = λ r ne e. inl (h i ∙ ap (λ (b : Bool). if b then 2 else 0) (ne_eqb i 0 (λ z. absurd (let k : 0 ≡ 2 * r + 1 = sym z ∙ e in omega arith))) ∙ sym (first_link r));
+  link = λ r ne e. inl (h i ∙ ap (λ (b : Bool). if b then 2 else 0)
+      (ne_eqb i 0 (λ z. absurd (let k : 0 ≡ 2 * r + 1 = sym z ∙ e in omega arith))) ∙ sym (first_link r));
   hint = λ e r le lt. absurd (let k : get_or ws i 0 ≡ 0 = h i ∙ ap (λ (n : ℕ). if n == 0 then 2 else 0) e in omega arith);
 }
 
-pub first_claims : (size : ForestSize) (tags : List ℕ) → IsShape (shape_of size) → HasClaims (floor_of size tags [])
-first_claims size tags s = has_claims size tags [] s (nothing_yet (shape_of size))
-
-pub first_legal : (shape : Shape) → Legal shape (history_of [])
-first_legal shape = is_legal shape [] (nothing_yet shape)
-
-pub fresh : (size : ForestSize) (tags : List ℕ) → IsFreshFloor (record { coroutines = size.coroutines; rows = size.rows }) (floor_of size tags [])
+pub fresh : (size : ForestSize) (tags : List ℕ) → IsFreshFloor (record { coroutines = size.coroutines; rows = size.rows })
+    (floor_of size tags [])
 unfolding history_of store_from
 fresh size tags = record { shape = refl; seen = refl; claims = λ r. refl }

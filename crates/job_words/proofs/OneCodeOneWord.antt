@@ -18,40 +18,30 @@ bit_small false = omega arith
 bit_small true = omega arith
 
 abbrev state_from : ℕ → JobState
-state_from n = if n == 1 then New else (if n == 2 then Active else (if n == 3 then Completing else (if n == 4 then Cancelling else (if n == 5 then Cancelled else Completed))))
+state_from n = if n == 1 then New else (if n == 2 then Active else
+    (if n == 3 then Completing else (if n == 4 then Cancelling else (if n == 5 then Cancelled else Completed))))
 
 from_code : (s : JobState) → state_from (state_code s) ≡ s
 from_code New = refl
-from_code Active = refl
-from_code Completing = refl
-from_code Cancelling = refl
-from_code Cancelled = refl
-from_code Completed = refl
+from_code other = refl
 
 pub state_is : (s t : JobState) → state_code s ≡ state_code t → s ≡ t
 state_is s t e = sym (from_code s) ∙ ap state_from e ∙ from_code t
 
 pub state_small : (s : JobState) → state_code s < 8
 state_small New = omega arith
-state_small Active = omega arith
-state_small Completing = omega arith
-state_small Cancelling = omega arith
-state_small Cancelled = omega arith
-state_small Completed = omega arith
+state_small other = omega arith
 
 pub state_some : (s : JobState) → 0 < state_code s
 state_some New = omega arith
-state_some Active = omega arith
-state_some Completing = omega arith
-state_some Cancelling = omega arith
-state_some Cancelled = omega arith
-state_some Completed = omega arith
+state_some other = omega arith
 
 fields_1 : (a b c d e f g h i j : ℕ) → a < 8 → f < 8 → b < 2 → g < 2 → c < 16384 → h < 16384 → d < 16384 → i < 16384
     → a + 8 * b + 16 * c + 262144 * d + 4294967296 * e ≡ f + 8 * g + 16 * h + 262144 * i + 4294967296 * j → a ≡ f
 fields_1 a b c d e f g h i j la lf lb lg lc lh ld li k = omega arith
 
-fields_2 : (b c d e g h i j : ℕ) → b < 2 → g < 2 → 8 * b + 16 * c + 262144 * d + 4294967296 * e ≡ 8 * g + 16 * h + 262144 * i + 4294967296 * j → b ≡ g
+fields_2 : (b c d e g h i j : ℕ) → b < 2 → g < 2 → 8 * b + 16 * c + 262144 * d + 4294967296 * e ≡
+    8 * g + 16 * h + 262144 * i + 4294967296 * j → b ≡ g
 fields_2 b c d e g h i j lb lg k = omega arith
 
 fields_3 : (c d e h i j : ℕ) → c < 16384 → h < 16384 → 16 * c + 262144 * d + 4294967296 * e ≡ 16 * h + 262144 * i + 4294967296 * j → c ≡ h
@@ -62,11 +52,17 @@ fields_4 d e i j ld li k = omega arith
 
 pub job_code_is : (v w : JobWord) → IsNarrow v → IsNarrow w → job_code v ≡ job_code w → v ≡ w
 job_code_is v w n m e =
-    let a : state_code v.state ≡ state_code w.state = fields_1 (state_code v.state) (bit v.body_ended) v.first_child v.living v.rest (state_code w.state) (bit w.body_ended) w.first_child w.living w.rest (state_small v.state) (state_small w.state) (bit_small v.body_ended) (bit_small w.body_ended) n.first_child m.first_child n.living m.living e in
-    let e2 : 8 * bit v.body_ended + 16 * v.first_child + 262144 * v.living + 4294967296 * v.rest ≡ 8 * bit w.body_ended + 16 * w.first_child + 262144 * w.living + 4294967296 * w.rest = omega arith in
-    let b : bit v.body_ended ≡ bit w.body_ended = fields_2 (bit v.body_ended) v.first_child v.living v.rest (bit w.body_ended) w.first_child w.living w.rest (bit_small v.body_ended) (bit_small w.body_ended) e2 in
-    let e3 : 16 * v.first_child + 262144 * v.living + 4294967296 * v.rest ≡ 16 * w.first_child + 262144 * w.living + 4294967296 * w.rest = omega arith in
-    let c : v.first_child ≡ w.first_child = fields_3 v.first_child v.living v.rest w.first_child w.living w.rest n.first_child m.first_child e3 in
+    let a : state_code v.state ≡ state_code w.state = fields_1 (state_code v.state) (bit v.body_ended) v.first_child v.living v.rest
+    (state_code w.state) (bit w.body_ended) w.first_child w.living w.rest (state_small v.state) (state_small w.state)
+    (bit_small v.body_ended) (bit_small w.body_ended) n.first_child m.first_child n.living m.living e in
+    let e2 : 8 * bit v.body_ended + 16 * v.first_child + 262144 * v.living + 4294967296 * v.rest ≡
+    8 * bit w.body_ended + 16 * w.first_child + 262144 * w.living + 4294967296 * w.rest = omega arith in
+    let b : bit v.body_ended ≡ bit w.body_ended = fields_2 (bit v.body_ended) v.first_child v.living v.rest (bit w.body_ended) w.first_child
+    w.living w.rest (bit_small v.body_ended) (bit_small w.body_ended) e2 in
+    let e3 : 16 * v.first_child + 262144 * v.living + 4294967296 * v.rest ≡ 16 * w.first_child + 262144 * w.living + 4294967296 * w.rest =
+    omega arith in
+    let c : v.first_child ≡ w.first_child = fields_3 v.first_child v.living v.rest w.first_child w.living w.rest n.first_child m.first_child
+    e3 in
     let e4 : 262144 * v.living + 4294967296 * v.rest ≡ 262144 * w.living + 4294967296 * w.rest = omega arith in
     let d : v.living ≡ w.living = fields_4 v.living v.rest w.living w.rest n.living m.living e4 in
     let r : v.rest ≡ w.rest = omega arith in
@@ -127,4 +123,5 @@ link_code_is v w n m e =
 
 -- without the hint a link word has 47 bits
 pub link_code_short : (w : LinkWord) → IsNarrowLink w → w.disclosed ≡ false → link_code w < 140737488355328
-link_code_short w n h = let a = bit_small w.kind.supervisor in let b = bit_small w.kind.scoped in let c = bit_small w.kind.lazy in let d : bit w.disclosed ≡ 0 = ap bit h in omega (arith, n.parent, n.next, n.tag)
+link_code_short w n h = let a = bit_small w.kind.supervisor in let b = bit_small w.kind.scoped in let c = bit_small w.kind.lazy
+    in let d : bit w.disclosed ≡ 0 = ap bit h in omega (arith, n.parent, n.next, n.tag)

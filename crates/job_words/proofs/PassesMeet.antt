@@ -1,41 +1,42 @@
 -- What a pass has seen after it met another, or took it in.
-use Rattle.std.specs.Prelude.{◌≡◌, ℕ, Bool, true, false, ◌||◌, List, [], ◌∷◌, ◌++◌, Option, Some, None, if◌then◌else◌, refl}
-use Rattle.std.proofs.Common.{true≢false, sym, ap, ◌∙◌, subst, ne_eqb, append-nil}
+use Rattle.std.specs.Prelude.{◌≡◌, ℕ, Bool, false, ◌||◌, List, [], ◌++◌, Option, Some, None, if◌then◌else◌, refl}
+use Rattle.std.proofs.Common.{sym, ap, ◌∙◌, subst, ne_eqb, append-nil}
 use mathlib.Core.List.{IsPrefix}
-use Rattle.worded.specs.Views.{has_tag, first_view, having_seen, with_next, next_given, new_view}
+use Rattle.worded.specs.Views.{has_tag}
 use Rattle.worded.specs.Histories.{entries_of}
 use Rattle.worded.specs.Exchanges.{Met, TookIn}
-use Rattle.worded.proofs.TagsAndPrefixes.{not_first, entries_of-append}
+use Rattle.worded.proofs.StepsOfSeats.{still_own}
 use Rattle.worded.proofs.TagsHeld.{has_tag-or}
-use Rattle.worded.proofs.TagsNotGiven.{NoneUngiven}
 use Rattle.job_model.specs.Histories.{acts_of}
 use Rattle.job_model.specs.Floors.{is_claimed_by}
 use Rattle.job_model.specs.Trees.{is_among}
 use Rattle.job_words.specs.declared.size.ForestSize.{ForestSize}
 use Rattle.job_words.specs.declared.deed.Deed.{Deed}
-use Rattle.job_words.specs.declared.forest.Forest.{Forest}
 use Rattle.job_words.specs.Deeds.{shape_of, doer, history_of, rows_claimed, first_claim, nothing_done, store_of, IsDone, Fits}
 use Rattle.job_words.specs.Passes.{Seen, floor_of, floor_seen}
-use Rattle.job_words.specs.Meetings.{HasSeen, SameOf, NothingOf, NothingUngiven, MeetAnswer, EndAnswer}
+use Rattle.job_words.specs.Meetings.{HasSeen, SameOf, NothingOf, NothingSeenOf, MeetAnswer, EndAnswer}
 use Rattle.job_words.proofs.DeedsAddUp.{store_more, IsDone-rest, history-append, acts_of-deeds, no_deeds, claims_kept, claims_mine}
-use Rattle.job_words.proofs.NewForests.{nothing_yet}
-use Rattle.job_words.proofs.StepsOfATable.{PassLaws, laws_of}
 
 -- ---- two beginnings of one history
 
-pub has_seen : (size k : ForestSize) (tags us : List ℕ) (xs log : List Deed) → IsPrefix xs log → IsDone (shape_of size) log → HasSeen (floor_of k tags xs) (floor_of size us log)
+pub has_seen : (size k : ForestSize) (tags us : List ℕ) (xs log : List Deed) → IsPrefix xs log → IsDone (shape_of size) log
+    → HasSeen (floor_of k tags xs) (floor_of size us log)
 has_seen size k tags us xs log p h =
     let d = (IsDone-rest (shape_of size) xs p.0 (subst (IsDone (shape_of size)) (sym p.1) h)).1 in
     record {
       longer = (history_of p.0, sym (history-append xs p.0) ∙ ap history_of p.1);
-      claims = λ r t c. ap (λ l. (store_of l).claimer r) (sym p.1) ∙ ap (λ s. s.claimer r) (store_more xs p.0) ∙ claims_kept (shape_of size) (store_of xs) p.0 r t d c;
+      claims = λ r t c. ap (λ l. (store_of l).claimer r) (sym p.1) ∙ ap (λ s. s.claimer r) (store_more xs p.0)
+          ∙ claims_kept (shape_of size) (store_of xs) p.0 r t d c;
     }
 
 -- what one caller did follows from its deeds
-pub same_of : (size k : ForestSize) (tags us : List ℕ) (who : ℕ) (xs log : List Deed) → IsDone (shape_of k) xs → IsDone (shape_of size) log → entries_of doer who log ≡ entries_of doer who xs → SameOf who (floor_of k tags xs) (floor_of size us log)
+pub same_of : (size k : ForestSize) (tags us : List ℕ) (who : ℕ) (xs log : List Deed) → IsDone (shape_of k) xs → IsDone (shape_of size) log
+    → entries_of doer who log ≡ entries_of doer who xs → SameOf who (floor_of k tags xs) (floor_of size us log)
 same_of size k tags us who xs log hx h e = record {
   acts = acts_of-deeds who log ∙ ap (λ l. acts_of who (history_of l)) e ∙ sym (acts_of-deeds who xs);
-  rows = λ r. claims_mine (shape_of size) nothing_done log who r h ∙ ap (λ l. is_claimed_by who (first_claim r) || is_among r (rows_claimed l)) e ∙ sym (claims_mine (shape_of k) nothing_done xs who r hx);
+  rows = λ r. claims_mine (shape_of size) nothing_done log who r h
+      ∙ ap (λ l. is_claimed_by who (first_claim r) || is_among r (rows_claimed l)) e
+      ∙ sym (claims_mine (shape_of k) nothing_done xs who r hx);
 }
 
 -- whose deeds are none, its acts are
@@ -46,31 +47,34 @@ no_acts who log e = acts_of-deeds who log ∙ of_none (no_deeds who log e).0
     of_none : history_of (entries_of doer who log) ≡ [] → acts_of who (history_of (entries_of doer who log)) ≡ []
     of_none n = ap (acts_of who) n
 
-pub nothing_of : (size : ForestSize) (tags : List ℕ) (who : ℕ) (log : List Deed) → IsDone (shape_of size) log → entries_of doer who log ≡ [] → NothingOf who (floor_of size tags log)
+pub nothing_of : (size : ForestSize) (tags : List ℕ) (who : ℕ) (log : List Deed) → IsDone (shape_of size) log → entries_of doer who log ≡ []
+    → NothingOf who (floor_of size tags log)
 nothing_of size tags who log h e = record {
   acts = no_acts who log e;
-  rows = λ r ne. claims_mine (shape_of size) nothing_done log who r h ∙ ap (λ l. is_claimed_by who (first_claim r) || is_among r l) (no_deeds who log e).1 ∙ ap (λ b. is_claimed_by who (if b then zero_claim else None) || false) (ne_eqb r 0 ne);
+  rows = λ r ne. claims_mine (shape_of size) nothing_done log who r h
+      ∙ ap (λ l. is_claimed_by who (first_claim r) || is_among r l) (no_deeds who log e).1
+      ∙ ap (λ b. is_claimed_by who (if b then zero_claim else None) || false) (ne_eqb r 0 ne);
 }
   where
     zero_claim : Option ℕ
     zero_claim = Some 0
 
--- ---- tags
-
 abbrev callers_of : List ℕ → ℕ → Bool
 callers_of ts t = has_tag t ts
 
-still_own : (t : ℕ) (xs others : List Deed) → entries_of doer t others ≡ [] → entries_of doer t (xs ++ others) ≡ entries_of doer t xs
-still_own t xs others e = entries_of-append doer t xs others ∙ ap (λ l. entries_of doer t xs ++ l) e ∙ append-nil (entries_of doer t xs)
+-- in what a pass has seen
+pub nothing_seen_of : (v : Seen) → IsDone (shape_of v.key) v.seen → (t : ℕ) → entries_of doer t v.seen ≡ [] → NothingSeenOf t v
+nothing_seen_of v h t e = nothing_of v.key v.tags t v.seen h e
 
 -- ---- a meeting
 
-pub meet_answer : (size : ForestSize) (v b w : Seen) → v.key ≡ size → v.heard_tags ≡ [] → IsDone (shape_of v.key) v.seen → Met (IsDone (shape_of size)) (Fits size) doer v b.seen w → MeetAnswer (floor_seen v) (floor_seen b) (floor_seen w)
+pub meet_answer : (size : ForestSize) (v b w : Seen) → v.key ≡ size → v.heard_tags ≡ [] → IsDone (shape_of v.key) v.seen
+    → Met (IsDone (shape_of size)) (Fits size) doer v b.seen w → MeetAnswer (floor_seen v) (floor_seen b) (floor_seen w)
 meet_answer size v b w key idle hv m = subst (λ (x : Seen). MeetAnswer (floor_seen v) (floor_seen b) (floor_seen x)) (sym m.now) (record {
   same = record { shape = refl; alone = refl; callers = ap callers_of (ap (λ l. v.tags ++ l) idle ∙ append-nil v.tags) };
   goes_on = has_seen v.key v.key v.tags (v.tags ++ v.heard_tags) v.seen log (m.others, refl) done;
   told = has_seen v.key b.key b.tags (v.tags ++ v.heard_tags) b.seen log m.told done;
-  own = λ t h. same_of v.key v.key v.tags (v.tags ++ v.heard_tags) t v.seen log hv done (still_own t v.seen m.others (m.apart t h));
+  own = λ t h. same_of v.key v.key v.tags (v.tags ++ v.heard_tags) t v.seen log hv done (still_own doer t v.seen m.others (m.apart t h));
 })
   where
     log : List Deed
@@ -79,34 +83,16 @@ meet_answer size v b w key idle hv m = subst (λ (x : Seen). MeetAnswer (floor_s
     done : IsDone (shape_of v.key) log
     done = subst (λ (k : ForestSize). IsDone (shape_of k) log) (sym key) m.is_legal
 
--- ---- a pass that has seen more
-
--- its laws
-pub laws_more : (f : Forest) (v w : Seen) (others : List Deed) → v.key ≡ f.size → w ≡ having_seen v (v.seen ++ others) → IsDone (shape_of f.table.shared.key) (v.seen ++ others) → PassLaws w
-laws_more f v w others key now h = laws_of f f.table.shared.key w (v.seen ++ others) f.sized.1 (ap (λ (x : Seen). x.key) now ∙ key ∙ sym f.sized.1) (ap (λ (x : Seen). x.seen) now) h
-
--- nobody did anything under a tag that was not given out
-pub ungiven_of : (size : ForestSize) (w : Seen) → IsDone (shape_of w.key) w.seen → NoneUngiven (IsDone (shape_of size)) (Fits size) doer w → NothingUngiven w
-ungiven_of size w done n c t h = nothing_of w.key w.tags t w.seen done (n c t h)
-
-pub ungiven_first : (size : ForestSize) → NothingUngiven (first_view size)
-ungiven_first size c t h = nothing_of size (0 ∷ []) t [] (nothing_yet (shape_of size)) refl
-
-pub ungiven_giver : (v : Seen) (t : ℕ) → NothingUngiven v → NothingUngiven (next_given (with_next v t))
-ungiven_giver v t n c u h = n c u (not_first u t v.given h).1
-
-pub ungiven_given : (v : Seen) → NothingUngiven (new_view v)
-ungiven_given v c t h = absurd (true≢false (sym c))
-
 -- ---- a pass that ends
 
-pub end_answer : (size : ForestSize) (v u w : Seen) → v.key ≡ size → IsDone (shape_of v.key) v.seen → IsDone (shape_of u.key) u.seen → TookIn (IsDone (shape_of size)) (Fits size) doer v u w → EndAnswer (floor_seen v) (floor_seen u) (floor_seen w)
+pub end_answer : (size : ForestSize) (v u w : Seen) → v.key ≡ size → IsDone (shape_of v.key) v.seen → IsDone (shape_of u.key) u.seen
+    → TookIn (IsDone (shape_of size)) (Fits size) doer v u w → EndAnswer (floor_seen v) (floor_seen u) (floor_seen w)
 end_answer size v u w key hv hu m = subst (λ (x : Seen). EndAnswer (floor_seen v) (floor_seen u) (floor_seen x)) (sym m.now) (record {
   shape = refl;
   callers = λ t. has_tag-or t v.tags u.tags;
   goes_on = has_seen v.key v.key v.tags (v.tags ++ u.tags) v.seen log (m.others, refl) done;
   told = has_seen v.key u.key u.tags (v.tags ++ u.tags) u.seen log m.told done;
-  own = λ t h. same_of v.key v.key v.tags (v.tags ++ u.tags) t v.seen log hv done (still_own t v.seen m.others (m.apart t h));
+  own = λ t h. same_of v.key v.key v.tags (v.tags ++ u.tags) t v.seen log hv done (still_own doer t v.seen m.others (m.apart t h));
   taken = λ t h. same_of v.key u.key u.tags (v.tags ++ u.tags) t u.seen log hu done (m.given_to t h);
 })
   where

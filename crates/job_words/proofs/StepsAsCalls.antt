@@ -20,7 +20,8 @@ use Rattle.job_words.proofs.DeedsAddUp.{store_more, IsDone-rest, history-append,
 
 -- ---- the laws of what was seen
 
-pub has_claims : (size : ForestSize) (tags : List ℕ) (log : List Deed) → IsShape (shape_of size) → IsDone (shape_of size) log → HasClaims (floor_of size tags log)
+pub has_claims : (size : ForestSize) (tags : List ℕ) (log : List Deed) → IsShape (shape_of size) → IsDone (shape_of size) log
+    → HasClaims (floor_of size tags log)
 has_claims size tags log s h = record {
   root = claims_root log h;
   attached = λ r t a. attacher_claimed (shape_of size) log r t h a;
@@ -35,19 +36,25 @@ has_claims size tags log s h = record {
 false_not : {P : Type 0} → false ≡ true → P
 false_not e = absurd (let k : false ≡ true = e in cc)
 
-pub claimed_of : (size : ForestSize) (tags us : List ℕ) (xs rest : List Deed) (who : ℕ) (rows : List ℕ) → IsDone (shape_of size) (xs ++ rest) → rows_claimed (entries_of doer who rest) ≡ rows → Claimed who rows (floor_of size tags xs) (floor_of size us (xs ++ rest))
+pub claimed_of : (size : ForestSize) (tags us : List ℕ) (xs rest : List Deed) (who : ℕ) (rows : List ℕ)
+    → IsDone (shape_of size) (xs ++ rest) → rows_claimed (entries_of doer who rest) ≡ rows
+    → Claimed who rows (floor_of size tags xs) (floor_of size us (xs ++ rest))
 claimed_of size tags us xs rest who rows h e = let d = (IsDone-rest (shape_of size) xs rest h).1 in record {
   kept = λ r t k. ap (λ s. s.claimer r) (store_more xs rest) ∙ claims_kept (shape_of size) (store_of xs) rest r t d k;
   fresh = λ r k. claims_fresh (shape_of size) (store_of xs) rest who r d (ap (is_among r) e ∙ k);
-  mine = λ r. ap (λ s. is_claimed_by who (s.claimer r)) (store_more xs rest) ∙ claims_mine (shape_of size) (store_of xs) rest who r d ∙ ap (λ l. is_claimed_by who ((store_of xs).claimer r) || is_among r l) e;
+  mine = λ r. ap (λ s. is_claimed_by who (s.claimer r)) (store_more xs rest) ∙ claims_mine (shape_of size) (store_of xs) rest who r d
+      ∙ ap (λ l. is_claimed_by who ((store_of xs).claimer r) || is_among r l) e;
   alone = λ k. false_not k;
 }
 
-pub mine_of : (xs rest : List Deed) (who : ℕ) → history_of (entries_of doer who rest) ≡ [] → acts_of who (history_of (xs ++ rest)) ≡ acts_of who (history_of xs)
+pub mine_of : (xs rest : List Deed) (who : ℕ) → history_of (entries_of doer who rest) ≡ []
+    → acts_of who (history_of (xs ++ rest)) ≡ acts_of who (history_of xs)
 mine_of xs rest who e =
-    ap (acts_of who) (history-append xs rest) ∙ acts_of-append who (history_of xs) (history_of rest) ∙ ap (λ l. acts_of who (history_of xs) ++ l) (no_acts who rest e) ∙ append-nil (acts_of who (history_of xs))
+    ap (acts_of who) (history-append xs rest) ∙ acts_of-append who (history_of xs) (history_of rest)
+    ∙ ap (λ l. acts_of who (history_of xs) ++ l) (no_acts who rest e) ∙ append-nil (acts_of who (history_of xs))
 
-pub looked_of : (size : ForestSize) (tags : List ℕ) (xs rest : List Deed) (who : ℕ) (rows : List ℕ) → IsDone (shape_of size) (xs ++ rest) → history_of (entries_of doer who rest) ≡ [] → rows_claimed (entries_of doer who rest) ≡ rows
+pub looked_of : (size : ForestSize) (tags : List ℕ) (xs rest : List Deed) (who : ℕ) (rows : List ℕ) → IsDone (shape_of size) (xs ++ rest)
+    → history_of (entries_of doer who rest) ≡ [] → rows_claimed (entries_of doer who rest) ≡ rows
     → Looked who rows (floor_of size tags xs) (floor_of size tags (xs ++ rest))
 looked_of size tags xs rest who rows h m e = record {
   same = record { shape = refl; alone = refl; callers = refl };
@@ -75,7 +82,8 @@ abbrev callers_of : List ℕ → ℕ → Bool
 callers_of ts t = has_tag t ts
 
 -- a call that made this act, after steps without an entry, and what was before it
-pub made_with : (who : ℕ) (act : JobAct) (rows : List ℕ) (word old : ℕ) (v m w : Seen) → Goes who rows v m → (d : Does who (Act (record { who = who; act = act })) word old m w)
+pub made_with : (who : ℕ) (act : JobAct) (rows : List ℕ) (word old : ℕ) (v m w : Seen) → Goes who rows v m
+    → (d : Does who (Act (record { who = who; act = act })) word old m w)
     → (x : Made who act rows (floor_seen v) (floor_seen w)) × (x.before ≡ history_of (m.seen ++ d.others))
 unfolding rows_claimed
 made_with who act rows word old v m w g d = (
@@ -84,10 +92,13 @@ made_with who act rows word old v m w g d = (
     before = history_of (m.seen ++ d.others);
     longer = (history_of more, sym (ap history_of there ∙ history-append v.seen more));
     mine = ap (λ l. acts_of who (history_of l)) there ∙ mine_of v.seen more who no_entry;
-    last = ap history_of d.seen ∙ history-append (m.seen ++ d.others) (e ∷ []) ∙ ap (λ l. history_of (m.seen ++ d.others) ++ l) (own_entry who act);
+    last = ap history_of d.seen ∙ history-append (m.seen ++ d.others) (e ∷ [])
+        ∙ ap (λ l. history_of (m.seen ++ d.others) ++ l) (own_entry who act);
     alone = λ k. false_not k;
     spare = omega arith;
-    claims = subst (λ (x : ForestSize × List Deed). Claimed who rows (floor_seen v) (floor_of x.0 w.tags x.1)) (λ i. (sym (d.key ∙ g.key) i, sym (seen ∙ append_assoc v.seen more (e ∷ [])) i)) (claimed_of v.key v.tags w.tags v.seen (more ++ e ∷ []) who rows done claims);
+    claims = subst (λ (x : ForestSize × List Deed). Claimed who rows (floor_seen v) (floor_of x.0 w.tags x.1))
+        (λ i. (sym (d.key ∙ g.key) i, sym (seen ∙ append_assoc v.seen more (e ∷ [])) i))
+        (claimed_of v.key v.tags w.tags v.seen (more ++ e ∷ []) who rows done claims);
   },
   refl,
 )
@@ -105,7 +116,8 @@ made_with who act rows word old v m w g d = (
     seen = d.seen ∙ ap (λ l. l ++ e ∷ []) there
 
     mine_more : entries_of doer who more ≡ entries_of doer who g.rest
-    mine_more = entries_of-append doer who g.rest d.others ∙ ap (λ l. entries_of doer who g.rest ++ l) d.apart ∙ append-nil (entries_of doer who g.rest)
+    mine_more = entries_of-append doer who g.rest d.others ∙ ap (λ l. entries_of doer who g.rest ++ l) d.apart
+        ∙ append-nil (entries_of doer who g.rest)
 
     no_entry : history_of (entries_of doer who more) ≡ []
     no_entry = ap history_of mine_more ∙ g.mine
@@ -114,12 +126,17 @@ made_with who act rows word old v m w g d = (
     nothing_claimed = ap (λ b. rows_claimed (if b then e ∷ [] else [])) (eq-eqb who who refl)
 
     claims : rows_claimed (entries_of doer who (more ++ e ∷ [])) ≡ rows
-    claims = ap rows_claimed (entries_of-append doer who more (e ∷ [])) ∙ claimed-append (entries_of doer who more) (entries_of doer who (e ∷ [])) ∙ ap (λ l. rows_claimed (entries_of doer who more) ++ l) nothing_claimed ∙ append-nil (rows_claimed (entries_of doer who more)) ∙ ap rows_claimed mine_more ∙ g.rows
+    claims = ap rows_claimed (entries_of-append doer who more (e ∷ []))
+        ∙ claimed-append (entries_of doer who more) (entries_of doer who (e ∷ []))
+        ∙ ap (λ l. rows_claimed (entries_of doer who more) ++ l) nothing_claimed ∙ append-nil (rows_claimed (entries_of doer who more))
+        ∙ ap rows_claimed mine_more ∙ g.rows
 
     done : IsDone (shape_of v.key) (v.seen ++ (more ++ e ∷ []))
-    done = subst (λ (k : ForestSize). IsDone (shape_of k) (v.seen ++ (more ++ e ∷ []))) g.key (subst (IsDone (shape_of m.key)) (seen ∙ append_assoc v.seen more (e ∷ [])) d.done)
+    done = subst (λ (k : ForestSize). IsDone (shape_of k) (v.seen ++ (more ++ e ∷ []))) g.key
+        (subst (IsDone (shape_of m.key)) (seen ∙ append_assoc v.seen more (e ∷ [])) d.done)
 
-pub made : (who : ℕ) (act : JobAct) (rows : List ℕ) (word old : ℕ) (v m w : Seen) → Goes who rows v m → Does who (Act (record { who = who; act = act })) word old m w → Made who act rows (floor_seen v) (floor_seen w)
+pub made : (who : ℕ) (act : JobAct) (rows : List ℕ) (word old : ℕ) (v m w : Seen) → Goes who rows v m
+    → Does who (Act (record { who = who; act = act })) word old m w → Made who act rows (floor_seen v) (floor_seen w)
 made who act rows word old v m w g d = (made_with who act rows word old v m w g d).0
 
 -- ---- steps one after another
@@ -128,8 +145,11 @@ pub goes_trans : (who : ℕ) (rows more : List ℕ) (u v w : Seen) → Goes who 
 goes_trans who rows more u v w a b = record {
   rest = a.rest ++ b.rest;
   seen = b.seen ∙ ap (λ l. l ++ b.rest) a.seen ∙ append_assoc u.seen a.rest b.rest;
-  mine = ap history_of (entries_of-append doer who a.rest b.rest) ∙ history-append (entries_of doer who a.rest) (entries_of doer who b.rest) ∙ ap (λ l. l ++ history_of (entries_of doer who b.rest)) a.mine ∙ b.mine;
-  rows = ap rows_claimed (entries_of-append doer who a.rest b.rest) ∙ claimed-append (entries_of doer who a.rest) (entries_of doer who b.rest) ∙ ap (λ l. l ++ rows_claimed (entries_of doer who b.rest)) a.rows ∙ ap (λ l. rows ++ l) b.rows;
+  mine = ap history_of (entries_of-append doer who a.rest b.rest) ∙ history-append (entries_of doer who a.rest) (entries_of doer who b.rest)
+      ∙ ap (λ l. l ++ history_of (entries_of doer who b.rest)) a.mine ∙ b.mine;
+  rows = ap rows_claimed (entries_of-append doer who a.rest b.rest)
+      ∙ claimed-append (entries_of doer who a.rest) (entries_of doer who b.rest)
+      ∙ ap (λ l. l ++ rows_claimed (entries_of doer who b.rest)) a.rows ∙ ap (λ l. rows ++ l) b.rows;
   tags = b.tags ∙ a.tags;
   key = b.key ∙ a.key;
   giving = b.giving ∙ a.giving;
@@ -137,11 +157,14 @@ goes_trans who rows more u v w a b = record {
   done = subst (λ (k : ForestSize). IsDone (shape_of k) w.seen) a.key b.done;
 }
 
-own_deed : (who : ℕ) (others : List Deed) (d : Deed) → doer d ≡ who → entries_of doer who others ≡ [] → entries_of doer who (others ++ d ∷ []) ≡ d ∷ []
-own_deed who others d is e = entries_of-append doer who others (d ∷ []) ∙ ap (λ l. l ++ entries_of doer who (d ∷ [])) e ∙ ap (λ b. if b then d ∷ [] else []) (eq-eqb (doer d) who is)
+own_deed : (who : ℕ) (others : List Deed) (d : Deed) → doer d ≡ who → entries_of doer who others ≡ []
+    → entries_of doer who (others ++ d ∷ []) ≡ d ∷ []
+own_deed who others d is e = entries_of-append doer who others (d ∷ []) ∙ ap (λ l. l ++ entries_of doer who (d ∷ [])) e
+    ∙ ap (λ b. if b then d ∷ [] else []) (eq-eqb (doer d) who is)
 
 -- a deed that is no entry
-pub does_goes : (who : ℕ) (d : Deed) (rows : List ℕ) (word old : ℕ) (v w : Seen) → doer d ≡ who → history_of (d ∷ []) ≡ [] → rows_claimed (d ∷ []) ≡ rows → Does who d word old v w → Goes who rows v w
+pub does_goes : (who : ℕ) (d : Deed) (rows : List ℕ) (word old : ℕ) (v w : Seen) → doer d ≡ who → history_of (d ∷ []) ≡ []
+    → rows_claimed (d ∷ []) ≡ rows → Does who d word old v w → Goes who rows v w
 does_goes who d rows word old v w is e c g = record {
   rest = g.others ++ d ∷ [];
   seen = g.seen ∙ append_assoc v.seen g.others (d ∷ []);
@@ -170,18 +193,38 @@ pub prefix_of : (who : ℕ) (rows : List ℕ) (v w : Seen) → Goes who rows v w
 prefix_of who rows v w g = (history_of g.rest, sym (ap history_of g.seen ∙ history-append v.seen g.rest))
 
 -- what was so of what was then seen was so at a step
-pub at_step : (who : ℕ) (rows more : List ℕ) (u v w : Seen) (P : Tree → Type 0) → Goes who rows u v → Goes who more v w → P (replay (history_of v.seen)) → AtStep (floor_seen u) (floor_seen w) P
-at_step who rows more u v w P a b p = record { moment = history_of v.seen; after = prefix_of who rows u v a; before = prefix_of who more v w b; holds = p }
+pub at_step : (who : ℕ) (rows more : List ℕ) (u v w : Seen) (P : Tree → Type 0) → Goes who rows u v → Goes who more v w
+    → P (replay (history_of v.seen)) → AtStep (floor_seen u) (floor_seen w) P
+at_step who rows more u v w P a b p = record {
+  moment = history_of v.seen;
+  after = prefix_of who rows u v a;
+  before =
+      prefix_of who more v w b;
+  holds = p;
+}
 
 pub sees_goes : (who : ℕ) (v w : Seen) → Sees who v w → Goes who [] v w
-sees_goes who v w s = record { rest = s.others; seen = s.seen; mine = (no_deeds who s.others s.apart).0; rows = (no_deeds who s.others s.apart).1; tags = s.tags; key = s.key; giving = s.giving; idle = s.idle; done = s.done }
+sees_goes who v w s = record {
+  rest = s.others;
+  seen = s.seen;
+  mine = (no_deeds who s.others s.apart).0;
+  rows =
+      (no_deeds who s.others s.apart).1;
+  tags = s.tags;
+  key = s.key;
+  giving = s.giving;
+  idle = s.idle;
+  done = s.done;
+}
 
 -- a claim that was seen lasts
-pub claims_last : (who : ℕ) (rows : List ℕ) (v w : Seen) (r : ℕ) → Goes who rows v w → is_some ((store_of v.seen).claimer r) ≡ true → is_some ((store_of w.seen).claimer r) ≡ true
+pub claims_last : (who : ℕ) (rows : List ℕ) (v w : Seen) (r : ℕ) → Goes who rows v w → is_some ((store_of v.seen).claimer r) ≡ true
+    → is_some ((store_of w.seen).claimer r) ≡ true
 claims_last who rows v w r g a = by_claim ((store_of v.seen).claimer r) refl a
   where
     by_claim : (x : Option ℕ) → (store_of v.seen).claimer r ≡ x → is_some x ≡ true → is_some ((store_of w.seen).claimer r) ≡ true
     by_claim None e k = cc
     by_claim (Some t) e k =
         let d = (IsDone-rest (shape_of v.key) v.seen g.rest (subst (IsDone (shape_of v.key)) g.seen g.done)).1 in
-        ap (λ l. is_some ((store_of l).claimer r)) g.seen ∙ ap (λ s. is_some (s.claimer r)) (store_more v.seen g.rest) ∙ ap is_some (claims_kept (shape_of v.key) (store_of v.seen) g.rest r t d e)
+        ap (λ l. is_some ((store_of l).claimer r)) g.seen ∙ ap (λ s. is_some (s.claimer r)) (store_more v.seen g.rest)
+        ∙ ap is_some (claims_kept (shape_of v.key) (store_of v.seen) g.rest r t d e)

@@ -39,42 +39,47 @@ some_not x e f = let k : false ≡ true = sym (ap is_some e) ∙ f in cc
 
 -- ---- a row that is not attached stays so, unless who claimed it attaches it
 
-stays_unattached : (shape : Shape) (tree : Tree) (who r : ℕ) (act : JobAct) → Needs shape tree who act → (attaches r act ≡ true → ⊥) → tree r ≡ None → after tree who act r ≡ None
-stays_unattached shape tree who r act n never e = is_none (after tree who act r) (λ a. attached_was shape tree who r act (tree r) (after tree who act r) ⊥ (row_step shape tree who act r n) a (some_not (tree r) e) never)
+stays_unattached : (shape : Shape) (tree : Tree) (who r : ℕ) (act : JobAct) → Needs shape tree who act → (attaches r act ≡ true → ⊥)
+    → tree r ≡ None → after tree who act r ≡ None
+stays_unattached shape tree who r act n never e = is_none (after tree who act r)
+    (λ a. attached_was shape tree who r act (tree r) (after tree who act r) ⊥ (row_step shape tree who act r n) a (some_not (tree r) e)
+    never)
 
 -- ---- rows within
 
-attached_row : (shape : Shape) (who r : ℕ) (tree : Tree) (act : JobAct) → IsShape shape → Needs shape tree who act → attaches r act ≡ true → r < shape.rows
-attached_row shape who r tree (Attach p q kind tag cancelled) s n e = let k : r ≡ q = eqb-true r q e in let l : q < shape.rows = by_kind kind.scoped n.3 in omega arith
+attached_row : (shape : Shape) (who r : ℕ) (tree : Tree) (act : JobAct) → IsShape shape → Needs shape tree who act → attaches r act ≡ true
+    → r < shape.rows
+attached_row shape who r tree (Attach p q kind tag cancelled) s n e = let k : r ≡ q = eqb-true r q e
+    in let l : q < shape.rows = by_kind kind.scoped n.3 in omega arith
   where
     by_kind : (b : Bool) → MatchBool b ((tag ≡ who) × (shape.coroutines ≤ q) × (q < shape.rows)) (q ≡ tag) → q < shape.rows
     by_kind true h = h.2
     by_kind false h = let t : tag < shape.coroutines = n.2 in omega (arith, s.fit)
 attached_row shape who r tree (Start q) s n e = cc
-attached_row shape who r tree (EndBody q v) s n e = cc
-attached_row shape who r tree (Cancel q reason) s n e = cc
-attached_row shape who r tree (Finish q end) s n e = cc
-attached_row shape who r tree (Gone q) s n e = cc
+attached_row shape who r tree other s n e = cc
 
-within_after : (shape : Shape) (tree : Tree) (who : ℕ) (act : JobAct) → IsShape shape → Needs shape tree who act → ((r : ℕ) → is_some (tree r) ≡ true → r < shape.rows) → (r : ℕ) → is_some (after tree who act r) ≡ true → r < shape.rows
-within_after shape tree who act s n w r a = attached_was shape tree who r act (tree r) (after tree who act r) (r < shape.rows) (row_step shape tree who act r n) a (w r) (attached_row shape who r tree act s n)
+within_after : (shape : Shape) (tree : Tree) (who : ℕ) (act : JobAct) → IsShape shape → Needs shape tree who act
+    → ((r : ℕ) → is_some (tree r) ≡ true → r < shape.rows) → (r : ℕ) → is_some (after tree who act r) ≡ true → r < shape.rows
+within_after shape tree who act s n w r a = attached_was shape tree who r act (tree r) (after tree who act r) (r < shape.rows)
+    (row_step shape tree who act r n) a (w r) (attached_row shape who r tree act s n)
 
 -- ---- an entry
 
-attach_link : (shape : Shape) (s : Store) (who q : ℕ) (act : JobAct) → Needs shape s.tree who act → IsStored s who act → HasFamilies s.tree → attaches q act ≡ true → (w : LinkWord) → link_at (after s.tree who act) q ≡ Some w → s.links q ≡ link_code w
+attach_link : (shape : Shape) (s : Store) (who q : ℕ) (act : JobAct) → Needs shape s.tree who act → IsStored s who act → HasFamilies s.tree
+    → attaches q act ≡ true → (w : LinkWord) → link_at (after s.tree who act) q ≡ Some w → s.links q ≡ link_code w
 attach_link shape s who q (Attach p r kind tag cancelled) n i h e w l =
     let k : q ≡ r = eqb-true q r e in
     let m = link_new s.tree p r kind tag cancelled h n.0 n.1 in
-    let u : Some (new_link p (row_code (newest (children_of (s.tree p)))) tag kind) ≡ Some w = sym m ∙ ap (link_at (after s.tree who (Attach p r kind tag cancelled))) (sym k) ∙ l in
+    let u : Some (new_link p (row_code (newest (children_of (s.tree p)))) tag kind) ≡ Some w = sym m
+    ∙ ap (link_at (after s.tree who (Attach p r kind tag cancelled))) (sym k) ∙ l in
     let v : new_link p (row_code (newest (children_of (s.tree p)))) tag kind ≡ w = cc in
     ap s.links k ∙ i.1 ∙ ap link_code v
 attach_link shape s who q (Start r) n i h e w l = cc
-attach_link shape s who q (EndBody r v) n i h e w l = cc
-attach_link shape s who q (Cancel r reason) n i h e w l = cc
-attach_link shape s who q (Finish r end) n i h e w l = cc
-attach_link shape s who q (Gone r) n i h e w l = cc
+attach_link shape s who q other n i h e w l = cc
 
-other_attach : (shape : Shape) (tree : Tree) (who q : ℕ) (act : JobAct) → Needs shape tree who act → attaches q act ≡ false → (p r tag : ℕ) (kind : JobKind) (cancelled : Bool) → act ≡ Attach p r kind tag cancelled → (tree r ≡ None) × MayHaveChild cancelled (tree p) × ((r == q) ≡ false)
+other_attach : (shape : Shape) (tree : Tree) (who q : ℕ) (act : JobAct) → Needs shape tree who act → attaches q act ≡ false
+    → (p r tag : ℕ) (kind : JobKind) (cancelled : Bool) → act ≡ Attach p r kind tag cancelled → (tree r ≡ None)
+    × MayHaveChild cancelled (tree p) × ((r == q) ≡ false)
 other_attach shape tree who q act n other p r tag kind cancelled e =
     let m : Needs shape tree who (Attach p r kind tag cancelled) = subst (λ a. Needs shape tree who a) e n in
     let f : (q == r) ≡ false = ap (attaches q) (sym e) ∙ other in
@@ -87,9 +92,11 @@ other_attach shape tree who q act n other p r tag kind cancelled e =
         by_test true u = absurd (let v : true ≡ false = sym (eq-eqb a b (sym (eqb-true b a u))) ∙ k in cc)
         by_test false u = u
 
-act_holds : (shape : Shape) (s : Store) (who : ℕ) (act : JobAct) → IsShape shape → Needs shape s.tree who act → IsStored s who act → IsRanged act → IsKept shape s → StoreHolds shape (record s { tree = after s.tree who act })
+act_holds : (shape : Shape) (s : Store) (who : ℕ) (act : JobAct) → IsShape shape → Needs shape s.tree who act → IsStored s who act
+    → IsRanged act → IsKept shape s → StoreHolds shape (record s { tree = after s.tree who act })
 act_holds shape s who act sh n i v k = record {
-  unclaimed = λ r none. let u = k.holds.unclaimed r none in (stays_unattached shape s.tree who r act n (λ e. none_some (s.claimer r) who none (stored_claimer s who r act i e)) u.0, u.1, u.2);
+  unclaimed = λ r none. let u = k.holds.unclaimed r none
+      in (stays_unattached shape s.tree who r act n (λ e. none_some (s.claimer r) who none (stored_claimer s who r act i e)) u.0, u.1, u.2);
   claimed = k.holds.claimed;
   linked = λ r w l ne. by_row r w l ne (attaches r act) refl;
   above = λ r w nw e. act_keeps _ attached_lasts shape s.tree who act w.parent n (k.holds.above r w nw e);
@@ -97,9 +104,11 @@ act_holds shape s who act sh n i v k = record {
   small = act_small shape s.tree who act sh n v (within_after shape s.tree who act sh n k.within) k.holds.small;
 }
   where
-    by_row : (r : ℕ) (w : LinkWord) → link_at (after s.tree who act) r ≡ Some w → r ≢ 0 → (b : Bool) → attaches r act ≡ b → s.links r ≡ link_code w
+    by_row : (r : ℕ) (w : LinkWord) → link_at (after s.tree who act) r ≡ Some w → r ≢ 0 → (b : Bool) → attaches r act ≡ b
+        → s.links r ≡ link_code w
     by_row r w l ne true e = attach_link shape s who r act n i k.families e w l
-    by_row r w l ne false e = k.holds.linked r w (sym (link_stays s.tree who r act k.families (other_attach shape s.tree who r act n e)) ∙ l) ne
+    by_row r w l ne false e = k.holds.linked r w (sym (link_stays s.tree who r act k.families (other_attach shape s.tree who r act n e))
+        ∙ l) ne
 
 -- ---- a claim and the two stores
 
@@ -113,10 +122,13 @@ put_here r q x f P h k = by_test (r == q) refl
     by_test true e = h (eqb-true r q e)
     by_test false e = k (apart e)
 
-deed_holds : (shape : Shape) (s : Store) (d : Deed) → IsShape shape → DeedNeeds shape s d → IsKept shape s → StoreHolds shape (after_deed s d)
+deed_holds : (shape : Shape) (s : Store) (d : Deed) → IsShape shape → DeedNeeds shape s d → IsKept shape s
+    → StoreHolds shape (after_deed s d)
 deed_holds shape s (Act e) sh n k = act_holds shape s e.who e.act sh n.0 n.1 n.2 k
 deed_holds shape s (Claim who q) sh n k = record {
-  unclaimed = λ r none. let apart : (q == r) ≡ false = is_apart r none in let u = k.holds.unclaimed r (sym (ap (λ b. if b then Some who else s.claimer r) apart) ∙ none) in (u.0, ap (λ b. if b then 7 else s.jobs r) apart ∙ u.1, u.2);
+  unclaimed = λ r none. let apart : (q == r) ≡ false = is_apart r none
+      in let u = k.holds.unclaimed r (sym (ap (λ b. if b then Some who else s.claimer r) apart) ∙ none)
+      in (u.0, ap (λ b. if b then 7 else s.jobs r) apart ∙ u.1, u.2);
   claimed = λ r t c. put_here q r 7 s.jobs (λ n. 0 < n) (λ e. omega arith) (λ ne. k.holds.claimed r t (was r t c ne));
   linked = k.holds.linked;
   above = k.holds.above;
@@ -138,18 +150,32 @@ deed_holds shape s (Claim who q) sh n k = record {
         by_test true e u = absurd (ne (sym (eqb-true q r e)))
         by_test false e u = u
 deed_holds shape s (StoreLink who q w) sh n k = record {
-  unclaimed = λ r none. let u = k.holds.unclaimed r none in (u.0, u.1, put_here q r w s.links (λ m. m ≡ 0) (λ e. absurd (none_some (s.claimer r) who none (ap s.claimer (sym e) ∙ n.0))) (λ ne. u.2));
+  unclaimed = λ r none. let u = k.holds.unclaimed r none
+      in (
+        u.0,
+        u.1,
+        put_here q r w s.links (λ m. m ≡ 0) (λ e. absurd (none_some (s.claimer r) who none (ap s.claimer (sym e) ∙ n.0)))
+            (λ ne. u.2),
+      );
   claimed = k.holds.claimed;
-  linked = λ r x l ne. put_here q r w s.links (λ m. m ≡ link_code x) (λ e. absurd (not_linked r x (ap s.tree (sym e) ∙ n.1) l)) (λ apart. k.holds.linked r x l ne);
-  above = λ r x nx e. put_here q r w s.links (λ m. link_code x ≡ m → is_some (s.tree x.parent) ≡ true) (λ i u. n.2 x nx u) (λ ne u. k.holds.above r x nx u) e;
+  linked = λ r x l ne. put_here q r w s.links (λ m. m ≡ link_code x) (λ e. absurd (not_linked r x (ap s.tree (sym e) ∙ n.1) l))
+      (λ apart. k.holds.linked r x l ne);
+  above = λ r x nx e. put_here q r w s.links (λ m. link_code x ≡ m
+      → is_some (s.tree x.parent) ≡ true) (λ i u. n.2 x nx u) (λ ne u. k.holds.above r x nx u) e;
   short = λ r. put_here q r w s.links (λ m. m < 140737488355328) (λ e. n.3) (λ ne. k.holds.short r);
   small = k.holds.small;
 }
   where
     not_linked : (r : ℕ) (x : LinkWord) → s.tree r ≡ None → link_at s.tree r ≡ Some x → ⊥
-    not_linked r x none l = none_some (link_at s.tree r) x (ap (λ (y : Option Job). option_map (link_word_of (older_sibling s.tree r)) y) none) l
+    not_linked r x none l = none_some (link_at s.tree r) x
+        (ap (λ (y : Option Job). option_map (link_word_of (older_sibling s.tree r)) y) none) l
 deed_holds shape s (StoreJob who q w) sh n k = record {
-  unclaimed = λ r none. let u = k.holds.unclaimed r none in (u.0, put_here q r w s.jobs (λ m. m ≡ 0) (λ e. absurd (none_some (s.claimer r) who none (ap s.claimer (sym e) ∙ n.0))) (λ ne. u.1), u.2);
+  unclaimed = λ r none. let u = k.holds.unclaimed r none
+      in (
+        u.0,
+        put_here q r w s.jobs (λ m. m ≡ 0) (λ e. absurd (none_some (s.claimer r) who none (ap s.claimer (sym e) ∙ n.0))) (λ ne. u.1),
+        u.2,
+      );
   claimed = λ r t c. put_here q r w s.jobs (λ m. 0 < m) (λ e. n.2) (λ ne. k.holds.claimed r t c);
   linked = k.holds.linked;
   above = k.holds.above;
@@ -158,12 +184,32 @@ deed_holds shape s (StoreJob who q w) sh n k = record {
 }
 
 deed_kept : (shape : Shape) (s : Store) (d : Deed) → IsShape shape → DeedNeeds shape s d → IsKept shape s → IsKept shape (after_deed s d)
-deed_kept shape s (Act e) sh n k = record { holds = deed_holds shape s (Act e) sh n k; families = after_families shape s.tree e.who e.act n.0 k.families; within = within_after shape s.tree e.who e.act sh n.0 k.within }
-deed_kept shape s (Claim who q) sh n k = record { holds = deed_holds shape s (Claim who q) sh n k; families = k.families; within = k.within }
-deed_kept shape s (StoreLink who q w) sh n k = record { holds = deed_holds shape s (StoreLink who q w) sh n k; families = k.families; within = k.within }
-deed_kept shape s (StoreJob who q w) sh n k = record { holds = deed_holds shape s (StoreJob who q w) sh n k; families = k.families; within = k.within }
+deed_kept shape s (Act e) sh n k = record {
+  holds = deed_holds shape s (Act e) sh n k;
+  families =
+      after_families shape s.tree e.who e.act n.0 k.families;
+  within = within_after shape s.tree e.who e.act sh n.0 k.within;
+}
+deed_kept shape s (Claim who q) sh n k = record {
+  holds = deed_holds shape s (Claim who q) sh n k;
+  families = k.families;
+  within =
+      k.within;
+}
+deed_kept shape s (StoreLink who q w) sh n k = record {
+  holds = deed_holds shape s (StoreLink who q w) sh n k;
+  families = k.families;
+  within = k.within;
+}
+deed_kept shape s (StoreJob who q w) sh n k = record {
+  holds = deed_holds shape s (StoreJob who q w) sh n k;
+  families = k.families;
+  within =
+      k.within;
+}
 
-pub kept_from : (shape : Shape) (s : Store) (ds : List Deed) → IsShape shape → DoneFrom shape s ds → IsKept shape s → IsKept shape (store_from s ds)
+pub kept_from : (shape : Shape) (s : Store) (ds : List Deed) → IsShape shape → DoneFrom shape s ds → IsKept shape s
+    → IsKept shape (store_from s ds)
 unfolding store_from DoneFrom
 kept_from shape s [] sh h k = k
 kept_from shape s (d ∷ ds) sh h k = kept_from shape (after_deed s d) ds sh h.1 (deed_kept shape s d sh h.0 k)
@@ -171,7 +217,8 @@ kept_from shape s (d ∷ ds) sh h k = kept_from shape (after_deed s d) ds sh h.1
 first_kept : (shape : Shape) → IsShape shape → IsKept shape nothing_done
 first_kept shape sh = record {
   holds = record {
-    unclaimed = λ r none. let apart : (r == 0) ≡ false = is_apart r none in (ap (λ b. if b then Some root else None) apart, ap (λ b. if b then 7 else 0) apart, refl);
+    unclaimed = λ r none. let apart : (r == 0) ≡ false = is_apart r none
+        in (ap (λ b. if b then Some root else None) apart, ap (λ b. if b then 7 else 0) apart, refl);
     claimed = λ r t c. by_test r t (r == 0) refl c;
     linked = λ r w l ne. absurd (no_link r w l ne);
     short = λ r. omega arith;
@@ -215,18 +262,23 @@ kept size ds s h = kept_from (shape_of size) nothing_done ds (size_shape size s)
 
 -- ---- what others leave of the caller's own row
 
-mine_deed : (shape : Shape) (s : Store) (d : Deed) (who row l j : ℕ) → DeedNeeds shape s d → (doer d ≡ who → ⊥) → IsMine who row l j s → IsMine who row l j (after_deed s d)
+mine_deed : (shape : Shape) (s : Store) (d : Deed) (who row l j : ℕ) → DeedNeeds shape s d → (doer d ≡ who → ⊥) → IsMine who row l j s
+    → IsMine who row l j (after_deed s d)
 mine_deed shape s (Act e) who row l j n ne m = record {
   claimer = m.claimer;
-  tree = stays_unattached shape s.tree e.who row e.act n.0 (λ a. let k : Some e.who ≡ Some who = sym (stored_claimer s e.who row e.act n.1 a) ∙ m.claimer in let u : e.who ≡ who = cc in ne u) m.tree;
+  tree = stays_unattached shape s.tree e.who row e.act n.0
+      (λ a. let k : Some e.who ≡ Some who = sym (stored_claimer s e.who row e.act n.1 a) ∙ m.claimer in let u : e.who ≡ who = cc
+      in ne u) m.tree;
   link = m.link;
   job = m.job;
 }
 mine_deed shape s (Claim t q) who row l j n ne m = record {
-  claimer = put_here q row (Some t) s.claimer (λ x. x ≡ Some who) (λ e. absurd (none_some (s.claimer row) who (ap s.claimer (sym e) ∙ n.0) m.claimer)) (λ u. m.claimer);
+  claimer = put_here q row (Some t) s.claimer (λ x. x ≡ Some who)
+      (λ e. absurd (none_some (s.claimer row) who (ap s.claimer (sym e) ∙ n.0) m.claimer)) (λ u. m.claimer);
   tree = m.tree;
   link = m.link;
-  job = put_here q row 7 s.jobs (λ x. x ≡ j) (λ e. absurd (none_some (s.claimer row) who (ap s.claimer (sym e) ∙ n.0) m.claimer)) (λ u. m.job);
+  job = put_here q row 7 s.jobs (λ x. x ≡ j) (λ e. absurd (none_some (s.claimer row) who (ap s.claimer (sym e) ∙ n.0) m.claimer))
+      (λ u. m.job);
 }
 mine_deed shape s (StoreLink t q w) who row l j n ne m = record {
   claimer = m.claimer;
@@ -247,26 +299,33 @@ mine_deed shape s (StoreJob t q w) who row l j n ne m = record {
     not_own : q ≡ row → ⊥
     not_own e = let k : Some t ≡ Some who = sym n.0 ∙ ap s.claimer e ∙ m.claimer in let u : t ≡ who = cc in ne u
 
-pub mine_kept : (shape : Shape) (s : Store) (ds : List Deed) (who row l j : ℕ) → DoneFrom shape s ds → entries_of doer who ds ≡ [] → IsMine who row l j s → IsMine who row l j (store_from s ds)
+pub mine_kept : (shape : Shape) (s : Store) (ds : List Deed) (who row l j : ℕ) → DoneFrom shape s ds → entries_of doer who ds ≡ []
+    → IsMine who row l j s → IsMine who row l j (store_from s ds)
 unfolding store_from DoneFrom
 mine_kept shape s [] who row l j h p m = m
-mine_kept shape s (d ∷ ds) who row l j h p m = let a = apart_first who d ds p in mine_kept shape (after_deed s d) ds who row l j h.1 a.1 (mine_deed shape s d who row l j h.0 a.0 m)
+mine_kept shape s (d ∷ ds) who row l j h p m = let a = apart_first who d ds p
+    in mine_kept shape (after_deed s d) ds who row l j h.1 a.1 (mine_deed shape s d who row l j h.0 a.0 m)
 
 -- ---- the link word of an attached row stays
 
-link_deed : (shape : Shape) (s : Store) (d : Deed) (row : ℕ) → DeedNeeds shape s d → is_some (s.tree row) ≡ true → (after_deed s d).links row ≡ s.links row
+link_deed : (shape : Shape) (s : Store) (d : Deed) (row : ℕ) → DeedNeeds shape s d → is_some (s.tree row) ≡ true
+    → (after_deed s d).links row ≡ s.links row
 link_deed shape s (Act e) row n a = refl
 link_deed shape s (Claim t q) row n a = refl
-link_deed shape s (StoreLink t q w) row n a = put_here q row w s.links (λ x. x ≡ s.links row) (λ e. absurd (some_not (s.tree row) (ap s.tree (sym e) ∙ n.1) a)) (λ u. refl)
+link_deed shape s (StoreLink t q w) row n a = put_here q row w s.links (λ x. x ≡ s.links row)
+    (λ e. absurd (some_not (s.tree row) (ap s.tree (sym e) ∙ n.1) a)) (λ u. refl)
 link_deed shape s (StoreJob t q w) row n a = refl
 
-attached_deed : (shape : Shape) (s : Store) (d : Deed) (row : ℕ) → DeedNeeds shape s d → is_some (s.tree row) ≡ true → is_some ((after_deed s d).tree row) ≡ true
+attached_deed : (shape : Shape) (s : Store) (d : Deed) (row : ℕ) → DeedNeeds shape s d → is_some (s.tree row) ≡ true
+    → is_some ((after_deed s d).tree row) ≡ true
 attached_deed shape s (Act e) row n a = act_keeps (λ x. is_some x ≡ true) attached_lasts shape s.tree e.who e.act row n.0 a
 attached_deed shape s (Claim t q) row n a = a
 attached_deed shape s (StoreLink t q w) row n a = a
 attached_deed shape s (StoreJob t q w) row n a = a
 
-pub links_more : (shape : Shape) (s : Store) (ds : List Deed) (row : ℕ) → DoneFrom shape s ds → is_some (s.tree row) ≡ true → (store_from s ds).links row ≡ s.links row
+pub links_more : (shape : Shape) (s : Store) (ds : List Deed) (row : ℕ) → DoneFrom shape s ds → is_some (s.tree row) ≡ true
+    → (store_from s ds).links row ≡ s.links row
 unfolding store_from DoneFrom
 links_more shape s [] row h a = refl
-links_more shape s (d ∷ ds) row h a = links_more shape (after_deed s d) ds row h.1 (attached_deed shape s d row h.0 a) ∙ link_deed shape s d row h.0 a
+links_more shape s (d ∷ ds) row h a = links_more shape (after_deed s d) ds row h.1 (attached_deed shape s d row h.0 a)
+    ∙ link_deed shape s d row h.0 a

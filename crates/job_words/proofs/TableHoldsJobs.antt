@@ -10,18 +10,18 @@ use Rattle.job_words.specs.Deeds.{shape_of, IsSize, doer, history_of, store_of, 
 use Rattle.job_words.specs.Tables.{HoldsJobs}
 use Rattle.job_words.proofs.DeedsAddUp.{history-append, is_legal, acts_of-deeds}
 use Rattle.job_words.proofs.WordsFollow.{words_of}
-use Rattle.worded.proofs.TagsHeld.{none_of_unheld, one_holder}
+use Rattle.worded.proofs.TagsHeld.{are_seats}
 use Rattle.job_words.proofs.PassesMeet.{has_seen, no_acts}
 
-pub holds_jobs : (size : ForestSize) (s : State Deed (View Deed ForestSize)) → IsSize size → HasOneHistory (IsDone (shape_of size)) (Fits size) doer (word_count size) s → HoldsJobs size s
+pub holds_jobs : (size : ForestSize) (s : State Deed (View Deed ForestSize)) → IsSize size
+    → HasOneHistory (IsDone (shape_of size)) (Fits size) doer (word_count size) s → HoldsJobs size s
 holds_jobs size s small r = record {
   entries = history_of r.log;
   legal = is_legal (shape_of size) r.log r.is_legal;
   claims = (store_of r.log).claimer;
   words = λ i lt. words_of size r.log i _ small r.is_legal (r.words_fit i lt);
-  prefixes = λ id v at. let b = (r.views_fit id v at).begins in (history_of b.0, sym (history-append v.seen b.0) ∙ ap history_of b.1);
-  own = λ id t v at h. acts_of-deeds t r.log ∙ ap (λ l. acts_of t (history_of l)) ((r.views_fit id v at).owned t h).1 ∙ sym (acts_of-deeds t v.seen);
+  passes = are_seats (IsDone (shape_of size)) (Fits size) doer (word_count size) history_of acts_of
+      (λ xs ys p. (history_of p.0, sym (history-append xs p.0) ∙ ap history_of p.1))
+      (λ t xs ys e. acts_of-deeds t ys ∙ ap (λ l. acts_of t (history_of l)) e ∙ sym (acts_of-deeds t xs)) no_acts s r;
   claims_seen = λ id rr t v at c. (has_seen size v.key v.tags v.tags v.seen r.log (r.views_fit id v at).begins r.is_legal).claims rr t c;
-  apart = λ id id' t v v' at at' h h'. one_holder (IsDone (shape_of size)) (Fits size) doer (word_count size) s r t id id' v v' at at' h h';
-  unheld = λ t none. no_acts t r.log (none_of_unheld (IsDone (shape_of size)) (Fits size) doer (word_count size) s r t none);
 }

@@ -18,5 +18,6 @@ may_seen log who r m = subst (λ (t : Tree). MayEndBody who (t r)) (sym (tree_is
 pub tell_seen : (log : List Deed) (who r : ℕ) → MayTell who r (replay (history_of log)) → MayTell who r (store_of log).tree
 tell_seen log who r m = subst (MayTell who r) (sym (tree_is log)) m
 
-pub holds_seen : (shape : Shape) (log : List Deed) (who r : ℕ) (reason : Reason) → Holds shape (replay (history_of log)) who r reason → Holds shape (store_of log).tree who r reason
+pub holds_seen : (shape : Shape) (log : List Deed) (who r : ℕ) (reason : Reason) → Holds shape (replay (history_of log)) who r reason
+    → Holds shape (store_of log).tree who r reason
 holds_seen shape log who r reason m = subst (λ (t : Tree). Holds shape t who r reason) (sym (tree_is log)) m

@@ -4,6 +4,7 @@ pub mod Once
 pub mod Passes
 pub mod Attaches
 pub mod Acts
+pub mod Decisions
 pub mod Looks
 pub mod Meetings
 pub mod Forests

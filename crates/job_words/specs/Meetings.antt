@@ -3,7 +3,7 @@ use Rattle.std.specs.Prelude.{◌≡◌, ◌≢◌, ℕ, true, false, ◌||◌, 
 use mathlib.Core.List.{IsPrefix}
 use Rattle.job_model.specs.Histories.{acts_of}
 use Rattle.job_model.specs.Floors.{Floor, SameSetting, is_claimed_by}
-use Rattle.worded.specs.Views.{has_tag}
+use Rattle.worded.specs.Views.{EachUngiven}
 use Rattle.job_words.specs.Passes.{Seen, floor_seen}
 
 -- all that was seen on `told` was seen on `new`
@@ -21,9 +21,13 @@ pub record NothingOf (who : ℕ) (floor : Floor) : Type 0 where
   pub acts : acts_of who floor.seen ≡ []
   pub rows : (r : ℕ) → r ≢ 0 → is_claimed_by who (floor.claims r) ≡ false
 
+-- as the pass has seen it
+abbrev pub NothingSeenOf : ℕ → Seen → Type 0
+NothingSeenOf t v = NothingOf t (floor_seen v)
+
 -- where a pass gives out tags, nobody did anything under one that it has not given out
 abbrev pub NothingUngiven : Seen → Type 0
-NothingUngiven v = v.chief ≡ true → (t : ℕ) → has_tag t v.given ≡ false → NothingOf t (floor_seen v)
+NothingUngiven = EachUngiven NothingSeenOf
 
 -- a pass that had seen `old` met one that had seen `other`
 pub record MeetAnswer (old other new : Floor) : Type 0 where

@@ -2,6 +2,7 @@
 use Rattle.std.specs.Prelude.{◌≡◌, ℕ, ◌==◌, Bool, false, List, [], ◌∷◌, ◌++◌, Some, None, MatchBool}
 use Rattle.job_model.specs.Floors.{Floor}
 use Rattle.worded.specs.Views.{has_tag}
+use Rattle.worded.specs.Views as views
 use Rattle.worded.specs.Histories.{entries_of}
 use Rattle.worded.specs.declared.view.View.{View}
 use Rattle.job_words.specs.declared.size.ForestSize.{ForestSize}
@@ -30,7 +31,7 @@ floor_seen v = floor_of v.key v.tags v.seen
 
 -- whether a pass gives out tags, and which it has given out
 abbrev pub tags_given : Seen → Bool × List ℕ
-tags_given v = (v.chief, v.given)
+tags_given = views.tags_given
 
 -- who claimed these rows and made no entry, after v, which led to w; others may have done theirs
 pub record Goes (who : ℕ) (claimed : List ℕ) (v w : Seen) : Type 0 where

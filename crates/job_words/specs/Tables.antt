@@ -1,10 +1,9 @@
 -- What holds of a forest's table between any two steps.
-use Rattle.std.specs.Prelude.{◌≡◌, ℕ, ◌<◌, true, false, List, [], Option, Some, slice_index}
+use Rattle.std.specs.Prelude.{◌≡◌, ℕ, ◌<◌, List, Option, Some, slice_index}
 use mathlib.Core.Option.{some}
-use mathlib.Core.List.{IsPrefix}
 use lib.ListN.{get_elem?}
 use Rattle.atomic_table.specs.Table.{State}
-use Rattle.worded.specs.Views.{has_tag, holds_tag}
+use Rattle.worded.specs.Histories.{AreSeatsOf}
 use Rattle.worded.specs.declared.view.View.{View}
 use Rattle.job_model.specs.declared.acts.JobEntry.{JobEntry}
 use Rattle.job_model.specs.Histories.{Legal, acts_of}
@@ -20,12 +19,6 @@ pub record HoldsJobs (size : ForestSize) (s : State Deed (View Deed ForestSize))
   pub legal : Legal (shape_of size) entries
   pub claims : ℕ → Option ℕ
   pub words : (i : ℕ) → i < word_count size → AreJobWordsOf entries claims i (slice_index s.words i)
-  pub prefixes : (id : ℕ) (v : View Deed ForestSize) → get_elem? s.views id ≡ some v → IsPrefix (history_of v.seen) entries
-  pub own : (id t : ℕ) (v : View Deed ForestSize)
-      → get_elem? s.views id ≡ some v → has_tag t v.tags ≡ true → acts_of t entries ≡ acts_of t (history_of v.seen)
+  pub passes : AreSeatsOf history_of acts_of entries s.views
   pub claims_seen : (id r t : ℕ) (v : View Deed ForestSize)
       → get_elem? s.views id ≡ some v → (store_of v.seen).claimer r ≡ Some t → claims r ≡ Some t
-  pub apart : (id id' t : ℕ) (v v' : View Deed ForestSize)
-      → get_elem? s.views id ≡ some v → get_elem? s.views id' ≡ some v' → holds_tag t v ≡ true → holds_tag t v' ≡ true → id ≡ id'
-  pub unheld : (t : ℕ)
-      → ((id : ℕ) (v : View Deed ForestSize) → get_elem? s.views id ≡ some v → holds_tag t v ≡ false) → acts_of t entries ≡ []

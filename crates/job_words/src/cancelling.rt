@@ -6,14 +6,17 @@ ghost use Rattle.job_words.specs.Rows.{cause_code};
 ghost use Rattle.job_words.specs.Deeds.{shape_of, store_of};
 ghost use Rattle.job_words.specs.Passes.{Goes, floor_seen};
 ghost use Rattle.job_words.specs.Attaches.{IsAttached};
-ghost use Rattle.job_words.specs.Acts.{CancelledRow, IsCauseOf};
+ghost use Rattle.job_words.specs.Acts.{IsCauseOf};
+ghost use Rattle.job_words.specs.Decisions.{cancel_decision};
 ghost use Rattle.job_words.specs.Forests.{seen_by, IsOwn, SameGiving};
 
+use crate::decision::Decision;
 use crate::finishing::cause_of_rest;
 use crate::forest::Forest;
 use crate::job_word::JobWord;
 use crate::pass::JobPass;
-use crate::words::{act_on, load_job};
+use crate::updating::update;
+use crate::words::load_job;
 use co_base::{Row, Tag};
 use job_model::{CancelledNow, Cause, JobAct, JobState, Reason};
 
@@ -42,34 +45,22 @@ fn cause_for(forest: &Forest, pass: &mut JobPass, who: Tag, row: Row, reason: Re
     }
 }
 
-/// One try. None: the Job's word had changed.
-fn cancel_once(
-    forest: &Forest,
-    pass: &mut JobPass,
-    who: Tag,
-    row: Row,
-    reason: Reason,
-    cause: Cause,
-) -> Option<CancelledNow>
-    requires own { IsOwn forest.now pass.old who }
-    requires cause { IsCauseOf forest.now.size who row reason (seen_by pass.old) cause }
-    ensures own { IsOwn forest.now pass.new who }
-    ensures answer { CancelledRow who row reason (seen_by pass.old) (seen_by pass.new) result }
+/// What a cancellation decides on the Job's word. `code` is the cause in that word.
+fn decide_cancel(row: Row, reason: Reason, code: u32, word: JobWord) -> Decision<CancelledNow>
+    ensures { result ≡ cancel_decision row reason code word }
 {
-    let word = load_job(forest, pass, who, row);
-    if !word.state.is_cancellable() {
-        return Some(CancelledNow::Already);
-    }
-    let cancelled = JobWord {
-        state: JobState::Cancelling,
-        rest: code_of_cause(cause),
-        ..word
-    };
-    let act = JobAct::Cancel { row, reason };
-    if act_on(forest, pass, who, row, word, cancelled, act) {
-        Some(CancelledNow::Now)
+    if word.state.is_cancellable() {
+        Decision::Change {
+            new: JobWord {
+                state: JobState::Cancelling,
+                rest: code,
+                ..word
+            },
+            act: JobAct::Cancel { row, reason },
+            answer: CancelledNow::Now,
+        }
     } else {
-        None
+        Decision::Keep(CancelledNow::Already)
     }
 }
 
@@ -89,10 +80,8 @@ pub(crate) fn cancel_one(
     ensures giving { SameGiving pass.old pass.new }
 {
     let cause = cause_for(forest, pass, who, row, reason);
-    'tries: loop {
-        match cancel_once(forest, pass, who, row, reason, cause) {
-            Some(cancelled) => return cancelled,
-            None => {}
-        }
-    }
+    let code = code_of_cause(cause);
+    update(forest, pass, who, row, move |word| {
+        decide_cancel(row, reason, code, word)
+    })
 }

@@ -5,14 +5,14 @@ ghost use Rattle.job_model.specs.Answers.{EndBodyAnswer};
 ghost use Rattle.job_words.specs.Rows.{word_without_body};
 ghost use Rattle.job_words.specs.Deeds.{store_of};
 ghost use Rattle.job_words.specs.Passes.{floor_seen};
-ghost use Rattle.job_words.specs.Attaches.{IsAttached};
-ghost use Rattle.job_words.specs.Acts.{EndedAnswer};
+ghost use Rattle.job_words.specs.Decisions.{owed_if, end_decision};
 ghost use Rattle.job_words.specs.Forests.{seen_by, IsOwn, SameGiving};
 
+use crate::decision::Decision;
 use crate::forest::Forest;
 use crate::job_word::JobWord;
 use crate::pass::JobPass;
-use crate::words::{act_on, load_job};
+use crate::updating::update;
 use co_base::{Row, Tag, Value};
 use job_model::{Ended, JobAct, JobState};
 
@@ -38,29 +38,22 @@ fn without_body(word: JobWord, value: Value) -> JobWord
     }
 }
 
-/// One try. None: the Job's word had changed.
-fn end_body_once(
-    forest: &Forest,
-    pass: &mut JobPass,
-    who: Tag,
-    row: Row,
-    value: Value,
-) -> Option<Ended>
-    requires own { IsOwn forest.now pass.old who }
-    requires may { MayEndBody who ((store_of (seen_by pass.old).seen).tree row) }
-    ensures own { IsOwn forest.now pass.new who }
-    ensures answer { EndedAnswer who row value (seen_by pass.old) (seen_by pass.new) result }
+/// A Finish is owed, or not yet.
+pub(crate) fn owed_if(owed: bool) -> Ended
+    ensures { result ≡ owed_if owed }
 {
-    let word = load_job(forest, pass, who, row);
-    let act = JobAct::EndBody { row, value };
-    if !act_on(forest, pass, who, row, word, without_body(word, value), act) {
-        return None;
+    if owed { Ended::Owes } else { Ended::Waits }
+}
+
+/// What the end of a body decides on the Job's word.
+fn decide_end(row: Row, value: Value, word: JobWord) -> Decision<Ended>
+    ensures { result ≡ end_decision row value word }
+{
+    Decision::Change {
+        new: without_body(word, value),
+        act: JobAct::EndBody { row, value },
+        answer: owed_if(word.living == 0),
     }
-    Some(if word.living == 0 {
-        Ended::Owes
-    } else {
-        Ended::Waits
-    })
 }
 
 /// Ends the body of the caller's own Job.
@@ -77,10 +70,11 @@ pub(crate) fn end_body(
     ensures answer { EndBodyAnswer who row value (floor_seen (seen_by pass.old)) (floor_seen (seen_by pass.new)) result }
     ensures giving { SameGiving pass.old pass.new }
 {
-    'tries: loop {
-        match end_body_once(forest, pass, who, row, value) {
-            Some(ended) => return ended,
-            None => {}
-        }
-    }
+    update(
+        forest,
+        pass,
+        who,
+        row,
+        move |word| decide_end(row, value, word),
+    )
 }

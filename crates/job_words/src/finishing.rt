@@ -1,17 +1,18 @@
 //! A Job ends.
-ghost use Rattle.std.specs.Prelude.{◌≡◌, IsSome, Some};
+ghost use Rattle.std.specs.Prelude.{◌≡◌};
 ghost use Rattle.job_model.specs.Effects.{state_of_end};
 ghost use Rattle.job_model.specs.Answers.{FinishAnswer};
 ghost use Rattle.job_words.specs.Rows.{cause_from, end_from};
 ghost use Rattle.job_words.specs.Passes.{floor_seen};
 ghost use Rattle.job_words.specs.Attaches.{IsAttached};
-ghost use Rattle.job_words.specs.Acts.{FinishedAnswer};
+ghost use Rattle.job_words.specs.Decisions.{finish_decision};
 ghost use Rattle.job_words.specs.Forests.{seen_by, IsOwn, SameGiving};
 
+use crate::decision::Decision;
 use crate::forest::Forest;
 use crate::job_word::JobWord;
 use crate::pass::JobPass;
-use crate::words::{act_on, load_job};
+use crate::updating::update;
 use co_base::{Row, Tag};
 use job_model::{Cause, End, Finished, JobAct, JobState};
 
@@ -26,17 +27,14 @@ pub(crate) fn cause_of_rest(rest: u32) -> Cause
     }
 }
 
-/// How the Job ends that has this word.
-fn end_of(word: JobWord) -> End
-    requires { IsSome (end_from word word.state) }
-    ensures { end_from word word.state ≡ Some result }
+/// How the Job ends that has this word, if its body has ended.
+fn end_of(word: JobWord) -> Option<End>
+    ensures { result ≡ end_from word word.state }
 {
     match word.state {
-        JobState::Completing => End::Completed(word.rest),
-        JobState::Cancelling => End::Cancelled(cause_of_rest(word.rest)),
-        JobState::New | JobState::Active | JobState::Cancelled | JobState::Completed => {
-            unreachable!()
-        }
+        JobState::Completing => Some(End::Completed(word.rest)),
+        JobState::Cancelling => Some(End::Cancelled(cause_of_rest(word.rest))),
+        JobState::New | JobState::Active | JobState::Cancelled | JobState::Completed => None,
     }
 }
 
@@ -49,38 +47,27 @@ fn state_of_end(end: End) -> JobState
     }
 }
 
-/// One try. None: the Job's word had changed.
-fn finish_once(forest: &Forest, pass: &mut JobPass, who: Tag, row: Row) -> Option<Finished>
-    requires own { IsOwn forest.now pass.old who }
-    requires attached { IsAttached (seen_by pass.old) row }
-    ensures own { IsOwn forest.now pass.new who }
-    ensures attached { IsAttached (seen_by pass.new) row }
-    ensures answer { FinishedAnswer who row (seen_by pass.old) (seen_by pass.new) result }
+/// What the end of a Job decides on its word.
+fn decide_finish(row: Row, word: JobWord) -> Decision<Finished>
+    ensures { result ≡ finish_decision row word }
 {
-    let word = load_job(forest, pass, who, row);
     if word.state.is_completed() {
-        return Some(Finished::Already);
+        return Decision::Keep(Finished::Already);
     }
     if !word.body_ended || word.living > 0 {
-        return Some(Finished::NotYet);
+        return Decision::Keep(Finished::NotYet);
     }
-    let end = end_of(word);
-    let ended = JobWord {
-        state: state_of_end(end),
-        ..word
-    };
-    if act_on(
-        forest,
-        pass,
-        who,
-        row,
-        word,
-        ended,
-        JobAct::Finish { row, end },
-    ) {
-        Some(Finished::Now(end))
-    } else {
-        None
+    match end_of(word) {
+        Some(end) => Decision::Change {
+            new: JobWord {
+                state: state_of_end(end),
+                ..word
+            },
+            act: JobAct::Finish { row, end },
+            answer: Finished::Now(end),
+        },
+        // New and Active: their bodies have not ended.
+        None => Decision::Keep(Finished::NotYet),
     }
 }
 
@@ -92,10 +79,5 @@ pub(crate) fn finish(forest: &Forest, pass: &mut JobPass, who: Tag, row: Row) ->
     ensures answer { FinishAnswer who row (floor_seen (seen_by pass.old)) (floor_seen (seen_by pass.new)) result }
     ensures giving { SameGiving pass.old pass.new }
 {
-    'tries: loop {
-        match finish_once(forest, pass, who, row) {
-            Some(finished) => return finished,
-            None => {}
-        }
-    }
+    update(forest, pass, who, row, move |word| decide_finish(row, word))
 }

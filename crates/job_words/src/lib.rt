@@ -41,6 +41,7 @@
 //! - `meeting`: how a forest is made, and its passes are split, met and ended.
 //! - `steps`, `words`: the three steps on a word, and those on the two words of a row.
 //! - `claiming`, `attaching`, `tried`: a row is claimed, stored and attached.
+//! - `updating`, `decision`: one act on a Job word: load, decide, exchange, and again if the word changed in between.
 //! - `starting`, `ending`, `cancelling`, `finishing`, `telling`: one act each.
 //! - `linking`, `looking`: where a Job stands, and how it is.
 //! - `ranger`: the floor of Jobs of one pass.
@@ -50,6 +51,7 @@
 mod attaching;
 mod cancelling;
 mod claiming;
+mod decision;
 mod deed;
 mod ending;
 mod finishing;
@@ -67,6 +69,7 @@ mod starting;
 mod steps;
 mod telling;
 mod tried;
+mod updating;
 mod words;
 
 pub use deed::Deed;

@@ -23,7 +23,9 @@ loop-place-init c =
     record {
       own = h.own;
       sees = sees_self v;
-      walked = walked_start shape c.args.c c.args.low _ _ (ap (λ (k : Kind). suspends k) c.requires.kind) v.seen l (below_seen shape 0 c.args.low c.args.c c.args.pass.now.seat.me.0 v h.sees l c.requires.low) h.kept c.first_not_kept-first.result f.least f.run;
+      walked = walked_start shape c.args.c c.args.low _ _ (ap (λ (k : Kind). suspends k) c.requires.kind) v.seen l
+          (below_seen shape 0 c.args.low c.args.c c.args.pass.now.seat.me.0 v h.sees l c.requires.low) h.kept c.first_not_kept-first.result
+          f.least f.run;
       least = f.least;
       few = omega arith;
       run = h.kept;
@@ -32,7 +34,8 @@ loop-place-init c =
 pub stands_at-requires-clause-at : goal.stands_at-requires-clause-at
 stands_at-requires-clause-at c =
     let i = c.loop-place.invariant in
-    let w = within_places (shape_of c.args.hub.now) c.args.c c.loop-place.place c.loop-place.pass.seat.me.0.seen (hub_legal c.args.hub.now c.loop-place.pass i.own.0) i.walked.given in
+    let w = within_places (shape_of c.args.hub.now) c.args.c c.loop-place.place c.loop-place.pass.seat.me.0.seen
+    (hub_legal c.args.hub.now c.loop-place.pass i.own.0) i.walked.given in
     let least = i.least in
     (c.requires.channel, omega arith)
 
@@ -55,8 +58,12 @@ returns-then-stands_at-clause-search c =
     let few = i.walked.few in
     let some = c.requires.some in
     let is = c.if-count-most.true in
-    search_told shape c.args.who c.args.c c.args.low c.loop-place.place c.loop-place.count c.args.mark u v w (sees_then u c.kept_run-run.new.pass.seat.me.0 v c.kept_run-run.ensures.sees i.sees) c.stands_at.ensures.sees (hub_legal c.args.hub.now c.loop-place.pass i.own.0) (hub_legal c.args.hub.now c.stands_at.new.pass c.stands_at.ensures.own.0) i.walked (omega arith)
-    (full_by shape c.args.c c.args.most c.loop-place.count c.requires.kind c.if-count-most.true) (rw c.if-stands_at.true at c.stands_at.ensures.stands)
+    search_told shape c.args.who c.args.c c.args.low c.loop-place.place c.loop-place.count c.args.mark u v w
+    (sees_then u c.kept_run-run.new.pass.seat.me.0 v c.kept_run-run.ensures.sees i.sees) c.stands_at.ensures.sees
+    (hub_legal c.args.hub.now c.loop-place.pass i.own.0) (hub_legal c.args.hub.now c.stands_at.new.pass c.stands_at.ensures.own.0)
+    i.walked (omega arith)
+    (full_by shape c.args.c c.args.most c.loop-place.count c.requires.kind c.if-count-most.true)
+    (rw c.if-stands_at.true at c.stands_at.ensures.stands)
 
 pub returns-then-count-most-clause-search : goal.returns-then-count-most-clause-search
 returns-then-count-most-clause-search c =
@@ -66,17 +73,23 @@ returns-then-count-most-clause-search c =
     let v = c.loop-place.pass.seat.me.0 in
     let w = c.stands_at.new.pass.seat.me.0 in
     let l = hub_legal c.args.hub.now c.stands_at.new.pass c.stands_at.ensures.own.0 in
-    let walked = walked_seen shape c.args.c c.args.low c.loop-place.place c.loop-place.count (ap (λ (k : Kind). suspends k) c.requires.kind) v w c.stands_at.ensures.sees (hub_legal c.args.hub.now c.loop-place.pass i.own.0) l i.walked in
+    let walked = walked_seen shape c.args.c c.args.low c.loop-place.place c.loop-place.count (ap (λ (k : Kind). suspends k) c.requires.kind)
+    v w c.stands_at.ensures.sees (hub_legal c.args.hub.now c.loop-place.pass i.own.0) l i.walked in
     let few = i.walked.few in
     let given = walked.given in
     let some = c.requires.some in
-    let is = c.if-count-most.true in
-    (sees_then u v w (sees_then u c.kept_run-run.new.pass.seat.me.0 v c.kept_run-run.ensures.sees i.sees) c.stands_at.ensures.sees, passed_low shape c.args.c c.args.low w.seen l walked.below (omega arith) (rw c.if-stands_at.false at c.stands_at.ensures.stands))
+    let is = c.if-count-most.true in (
+      sees_then u v w (sees_then u c.kept_run-run.new.pass.seat.me.0 v c.kept_run-run.ensures.sees i.sees) c.stands_at.ensures.sees,
+      passed_low shape c.args.c c.args.low w.seen l walked.below (omega arith) (rw c.if-stands_at.false at c.stands_at.ensures.stands),
+    )
 
 pub admit_here-requires-clause-at : goal.admit_here-requires-clause-at
 admit_here-requires-clause-at c =
-    let i = c.loop-place.invariant in
-    (c.requires.channel, within_places (shape_of c.args.hub.now) c.args.c c.loop-place.place c.loop-place.pass.seat.me.0.seen (hub_legal c.args.hub.now c.loop-place.pass i.own.0) i.walked.given)
+    let i = c.loop-place.invariant in (
+      c.requires.channel,
+      within_places (shape_of c.args.hub.now) c.args.c c.loop-place.place c.loop-place.pass.seat.me.0.seen
+          (hub_legal c.args.hub.now c.loop-place.pass i.own.0) i.walked.given,
+    )
 
 pub admit_here-requires-clause-given : goal.admit_here-requires-clause-given
 admit_here-requires-clause-given c = c.loop-place.invariant.walked.given
@@ -89,11 +102,13 @@ admit_here-requires-clause-room c =
 pub raise_run-requires-clause-run : goal.raise_run-requires-clause-run
 raise_run-requires-clause-run c =
     let t = c.in-Done.ensures.here in
-    run_made (shape_of c.args.hub.now) c.args.c _ _ _ c.loop-place.pass.seat.me.0 c.admit_here.new.pass.seat.me.0 t.made (hub_legal c.args.hub.now c.admit_here.new.pass c.admit_here.ensures.own.0) c.loop-place.invariant.run
+    run_made (shape_of c.args.hub.now) c.args.c _ _ _ c.loop-place.pass.seat.me.0 c.admit_here.new.pass.seat.me.0 t.made
+    (hub_legal c.args.hub.now c.admit_here.new.pass c.admit_here.ensures.own.0) c.loop-place.invariant.run
 
 pub raise_run-requires-clause-kept : goal.raise_run-requires-clause-kept
 raise_run-requires-clause-kept c =
-    admit_kept (shape_of c.args.hub.now) c.args.who c.args.c c.loop-place.place _ c.loop-place.pass.seat.me.0 c.admit_here.new.pass.seat.me.0 (hub_legal c.args.hub.now c.admit_here.new.pass c.admit_here.ensures.own.0) c.in-Done.ensures.here
+    admit_kept (shape_of c.args.hub.now) c.args.who c.args.c c.loop-place.place _ c.loop-place.pass.seat.me.0
+    c.admit_here.new.pass.seat.me.0 (hub_legal c.args.hub.now c.admit_here.new.pass c.admit_here.ensures.own.0) c.in-Done.ensures.here
 
 pub returns-in-Done-clause-search : goal.returns-in-Done-clause-search
 returns-in-Done-clause-search c =
@@ -101,7 +116,8 @@ returns-in-Done-clause-search c =
     let e = c.kept_run-run.new.pass.seat.me.0 in
     let v = c.loop-place.pass.seat.me.0 in (
       subst (λ (z : Seen). Admits c.args.who c.args.c c.loop-place.place c.in-Done.owner u z) (sym c.raise_run.ensures.same)
-          (admits_seen _ _ _ _ u v c.admit_here.new.pass.seat.me.0 (sees_then u e v c.kept_run-run.ensures.sees c.loop-place.invariant.sees) c.in-Done.ensures.here),
+          (admits_seen _ _ _ _ u v c.admit_here.new.pass.seat.me.0 (sees_then u e v c.kept_run-run.ensures.sees c.loop-place.invariant.sees)
+          c.in-Done.ensures.here),
       c.loop-place-test.true,
     )
 
@@ -114,9 +130,11 @@ returns-in-End-clause-search c =
     let w = c.admit_here.new.pass.seat.me.0 in
     let t = c.in-End.ensures.here in
     let l = hub_legal c.args.hub.now c.admit_here.new.pass c.admit_here.ensures.own.0 in
-    nothing_now shape c.args.c c.args.mark u w (sees_then u v w (sees_then u c.kept_run-run.new.pass.seat.me.0 v c.kept_run-run.ensures.sees i.sees) t.0)
+    nothing_now shape c.args.c c.args.mark u w (sees_then u v w
+    (sees_then u c.kept_run-run.new.pass.seat.me.0 v c.kept_run-run.ensures.sees i.sees) t.0)
     (all_given shape c.args.c c.args.low c.loop-place.place c.loop-place.count c.args.mark w.seen l
-    (walked_seen shape c.args.c c.args.low c.loop-place.place c.loop-place.count (ap (λ (k : Kind). suspends k) c.requires.kind) v w t.0 (hub_legal c.args.hub.now c.loop-place.pass i.own.0) l i.walked) t.1)
+    (walked_seen shape c.args.c c.args.low c.loop-place.place c.loop-place.count (ap (λ (k : Kind). suspends k) c.requires.kind) v w t.0
+    (hub_legal c.args.hub.now c.loop-place.pass i.own.0) l i.walked) t.1)
 
 pub loop-place-preserved : goal.loop-place-preserved
 loop-place-preserved c =
@@ -130,19 +148,25 @@ loop-place-preserved c =
     let more = less_than c.loop-place.count c.args.most i.few c.if-count-most.false in
     let least = i.least in
     elim c.match-admit_here.branch [
-      | in-Kept x ↦ let t = x.in-Kept.ensures.here in let same = sym x.raise_run-run.ensures.same in rw x.pass-is (rw x.run-is (rw x.count-is (record {
-        own = x.raise_run-run.ensures.own;
-        sees = subst (λ (z : Seen). Sees u z) same (sees_then u v w i.sees t.0);
-        walked = subst (λ (z : Seen). Walked c.args.c c.args.low (c.loop-place.place + 1) (c.loop-place.count + 1) z.seen) same
-            (walked_kept c.args.c c.args.low c.loop-place.place c.loop-place.count w.seen i.least (walked_seen shape c.args.c c.args.low c.loop-place.place c.loop-place.count (ap (λ (k : Kind). suspends k) c.requires.kind) v w t.0 lv l i.walked) t.1);
-        least = omega arith;
-        few = more;
-        run = subst (λ (z : Seen). WereKept z.seen c.args.c x.raise_run-run.result.from x.raise_run-run.result.to) same x.raise_run-run.ensures.kept;
-      })))
+      | in-Kept x ↦ let t = x.in-Kept.ensures.here in let same = sym x.raise_run-run.ensures.same
+          in rw x.pass-is (rw x.run-is (rw x.count-is (record {
+            own = x.raise_run-run.ensures.own;
+            sees = subst (λ (z : Seen). Sees u z) same (sees_then u v w i.sees t.0);
+            walked = subst (λ (z : Seen). Walked c.args.c c.args.low (c.loop-place.place + 1) (c.loop-place.count + 1) z.seen) same
+                (walked_kept c.args.c c.args.low c.loop-place.place c.loop-place.count w.seen i.least
+                (walked_seen shape c.args.c c.args.low c.loop-place.place c.loop-place.count (ap (λ (k : Kind). suspends k) c.requires.kind)
+                v w t.0 lv l i.walked) t.1);
+            least = omega arith;
+            few = more;
+            run = subst (λ (z : Seen). WereKept z.seen c.args.c x.raise_run-run.result.from x.raise_run-run.result.to) same
+                x.raise_run-run.ensures.kept;
+          })))
       | in-Gone x ↦ let t = x.in-Gone.ensures.here in rw x.pass-is (rw x.run-is (rw x.count-is (record {
         own = c.admit_here.ensures.own;
         sees = sees_then u v w i.sees t.0;
-        walked = walked_gone c.args.c c.args.low c.loop-place.place c.loop-place.count w.seen (walked_seen shape c.args.c c.args.low c.loop-place.place c.loop-place.count (ap (λ (k : Kind). suspends k) c.requires.kind) v w t.0 lv l i.walked) t.1 t.2;
+        walked = walked_gone c.args.c c.args.low c.loop-place.place c.loop-place.count w.seen
+            (walked_seen shape c.args.c c.args.low c.loop-place.place c.loop-place.count (ap (λ (k : Kind). suspends k) c.requires.kind) v w
+            t.0 lv l i.walked) t.1 t.2;
         least = omega arith;
         few = i.few;
         run = run_seen shape c.args.c _ _ v w t.0 l i.run;
@@ -151,23 +175,33 @@ loop-place-preserved c =
 
 pub raise_run-requires-clause-at : goal.raise_run-requires-clause-at
 raise_run-requires-clause-at c =
-    let i = c.loop-place.invariant in
-    (c.requires.channel, within_places (shape_of c.args.hub.now) c.args.c c.loop-place.place c.loop-place.pass.seat.me.0.seen (hub_legal c.args.hub.now c.loop-place.pass i.own.0) i.walked.given)
+    let i = c.loop-place.invariant in (
+      c.requires.channel,
+      within_places (shape_of c.args.hub.now) c.args.c c.loop-place.place c.loop-place.pass.seat.me.0.seen
+          (hub_legal c.args.hub.now c.loop-place.pass i.own.0) i.walked.given,
+    )
 
 pub raise_run-run-requires-clause-at : goal.raise_run-run-requires-clause-at
 raise_run-run-requires-clause-at c =
-    let i = c.loop-place.invariant in
-    (c.requires.channel, within_places (shape_of c.args.hub.now) c.args.c c.loop-place.place c.loop-place.pass.seat.me.0.seen (hub_legal c.args.hub.now c.loop-place.pass i.own.0) i.walked.given)
+    let i = c.loop-place.invariant in (
+      c.requires.channel,
+      within_places (shape_of c.args.hub.now) c.args.c c.loop-place.place c.loop-place.pass.seat.me.0.seen
+          (hub_legal c.args.hub.now c.loop-place.pass i.own.0) i.walked.given,
+    )
 
 pub raise_run-run-requires-clause-run : goal.raise_run-run-requires-clause-run
 raise_run-run-requires-clause-run c =
-    run_seen (shape_of c.args.hub.now) c.args.c _ _ c.loop-place.pass.seat.me.0 c.admit_here.new.pass.seat.me.0 c.in-Kept.ensures.here.0 (hub_legal c.args.hub.now c.admit_here.new.pass c.admit_here.ensures.own.0) c.loop-place.invariant.run
+    run_seen (shape_of c.args.hub.now) c.args.c _ _ c.loop-place.pass.seat.me.0 c.admit_here.new.pass.seat.me.0 c.in-Kept.ensures.here.0
+    (hub_legal c.args.hub.now c.admit_here.new.pass c.admit_here.ensures.own.0) c.loop-place.invariant.run
 
 pub returns-clause-search : goal.returns-clause-search
 returns-clause-search c =
     let i = c.loop-place.invariant in
-    nothing_now (shape_of c.args.hub.now) c.args.c c.args.mark c.args.pass.now.seat.me.0 c.loop-place.pass.seat.me.0 (sees_then c.args.pass.now.seat.me.0 c.kept_run-run.new.pass.seat.me.0 c.loop-place.pass.seat.me.0 c.kept_run-run.ensures.sees i.sees)
-    (all_passed (shape_of c.args.hub.now) c.args.c c.args.low c.loop-place.place c.loop-place.count c.args.mark c.loop-place.pass.seat.me.0.seen (hub_legal c.args.hub.now c.loop-place.pass i.own.0) i.walked c.loop-place-test.false)
+    nothing_now (shape_of c.args.hub.now) c.args.c c.args.mark c.args.pass.now.seat.me.0 c.loop-place.pass.seat.me.0
+    (sees_then c.args.pass.now.seat.me.0 c.kept_run-run.new.pass.seat.me.0 c.loop-place.pass.seat.me.0 c.kept_run-run.ensures.sees
+    i.sees)
+    (all_passed (shape_of c.args.hub.now) c.args.c c.args.low c.loop-place.place c.loop-place.count c.args.mark
+    c.loop-place.pass.seat.me.0.seen (hub_legal c.args.hub.now c.loop-place.pass i.own.0) i.walked c.loop-place-test.false)
 
 pub admit_here-requires-clause-kind : goal.admit_here-requires-clause-kind
 admit_here-requires-clause-kind c = ap (λ (k : Kind). suspends k) c.requires.kind

@@ -15,7 +15,8 @@ loop-low-init c =
     record {
       own = h.own;
       sees = sees_self v;
-      low = below_seen (shape_of c.args.hub.now) 0 _ c.args.c c.offers_from-from.new.pass.seat.me.0 v h.sees (hub_legal c.args.hub.now c.kept_run-run.new.pass h.own.0) o.low;
+      low = below_seen (shape_of c.args.hub.now) 0 _ c.args.c c.offers_from-from.new.pass.seat.me.0 v h.sees
+          (hub_legal c.args.hub.now c.kept_run-run.new.pass h.own.0) o.low;
       run = h.kept;
     }
 
@@ -24,14 +25,16 @@ returns-then-end-low-clause-sees c =
     let u = c.args.pass.now.seat.me.0 in
     let a = c.offers_from-from.new.pass.seat.me.0 in
     let b = c.kept_run-run.new.pass.seat.me.0 in
-    sees_then u b c.loop-low.pass.seat.me.0 (sees_then u a b c.offers_from-from.ensures.sees c.kept_run-run.ensures.sees) c.loop-low.invariant.sees
+    sees_then u b c.loop-low.pass.seat.me.0 (sees_then u a b c.offers_from-from.ensures.sees c.kept_run-run.ensures.sees)
+    c.loop-low.invariant.sees
 
 pub returns-then-end-low-clause-count : goal.returns-then-end-low-clause-count
 returns-then-end-low-clause-count c =
     let i = c.loop-low.invariant in
     let v = c.loop-low.pass.seat.me.0 in
     let inside = c.loop-low-test.true in
-    let f = few_from (shape_of c.args.hub.now) c.args.c c.loop-low.low v.seen (hub_legal c.args.hub.now c.loop-low.pass i.own.0) i.low (c.args.end - c.loop-low.low) c.args.end (omega arith) in
+    let f = few_from (shape_of c.args.hub.now) c.args.c c.loop-low.low v.seen (hub_legal c.args.hub.now c.loop-low.pass i.own.0) i.low
+    (c.args.end - c.loop-low.low) c.args.end (omega arith) in
     let t = c.if-end-low.true in
     omega arith
 
@@ -43,7 +46,8 @@ stands_at-requires-clause-given c =
     let b = c.kept_run-run.new.pass.seat.me.0 in
     let v = c.loop-low.pass.seat.me.0 in
     let s = sees_then u b v (sees_then u a b c.offers_from-from.ensures.sees c.kept_run-run.ensures.sees) i.sees in
-    let g = given_seen (shape_of c.args.hub.now) c.args.end c.args.c u v s (hub_legal c.args.hub.now c.loop-low.pass i.own.0) c.requires.given in
+    let g = given_seen (shape_of c.args.hub.now) c.args.end c.args.c u v s (hub_legal c.args.hub.now c.loop-low.pass i.own.0)
+    c.requires.given in
     omega (arith, g, c.loop-low-test.true)
 
 pub returns-then-has_from-clause-sees : goal.returns-then-has_from-clause-sees
@@ -52,7 +56,8 @@ returns-then-has_from-clause-sees c =
     let a = c.offers_from-from.new.pass.seat.me.0 in
     let b = c.kept_run-run.new.pass.seat.me.0 in
     let v = c.loop-low.pass.seat.me.0 in
-    sees_then u v c.stands_at.new.pass.seat.me.0 (sees_then u b v (sees_then u a b c.offers_from-from.ensures.sees c.kept_run-run.ensures.sees) c.loop-low.invariant.sees) c.stands_at.ensures.sees
+    sees_then u v c.stands_at.new.pass.seat.me.0 (sees_then u b v
+    (sees_then u a b c.offers_from-from.ensures.sees c.kept_run-run.ensures.sees) c.loop-low.invariant.sees) c.stands_at.ensures.sees
 
 pub returns-then-has_from-clause-count : goal.returns-then-has_from-clause-count
 returns-then-has_from-clause-count c =
@@ -65,8 +70,10 @@ returns-then-has_from-clause-count c =
     let s = sees_then u b v (sees_then u a b c.offers_from-from.ensures.sees c.kept_run-run.ensures.sees) i.sees in
     let l = hub_legal c.args.hub.now c.loop-low.pass i.own.0 in
     let r = rw c.if-has_from.true at c.has_from.ensures in
-    count_before shape c.args.c c.args.end c.args.most u v c.stands_at.new.pass.seat.me.0 s (hub_legal c.args.hub.now c.args.pass.now c.requires.own.0) l c.requires.given true
-    (run_stands shape c.args.c c.loop-low.low _ _ c.requires.kind v.seen l i.low i.run c.args.most c.args.end r.0 r.1 (omega (arith, c.if-end-low.false, c.loop-low-test.true)) (rw c.if-stands_at.true at c.stands_at.ensures.stands))
+    count_before shape c.args.c c.args.end c.args.most u v c.stands_at.new.pass.seat.me.0 s
+    (hub_legal c.args.hub.now c.args.pass.now c.requires.own.0) l c.requires.given true
+    (run_stands shape c.args.c c.loop-low.low _ _ c.requires.kind v.seen l i.low i.run c.args.most c.args.end r.0 r.1
+    (omega (arith, c.if-end-low.false, c.loop-low-test.true)) (rw c.if-stands_at.true at c.stands_at.ensures.stands))
 
 pub count_from-requires-clause-given : goal.count_from-requires-clause-given
 count_from-requires-clause-given c =
@@ -75,12 +82,15 @@ count_from-requires-clause-given c =
     let b = c.kept_run-run.new.pass.seat.me.0 in
     let v = c.loop-low.pass.seat.me.0 in
     let w = c.stands_at.new.pass.seat.me.0 in
-    given_seen (shape_of c.args.hub.now) c.args.end c.args.c u w (sees_then u v w (sees_then u b v (sees_then u a b c.offers_from-from.ensures.sees c.kept_run-run.ensures.sees) c.loop-low.invariant.sees) c.stands_at.ensures.sees)
+    given_seen (shape_of c.args.hub.now) c.args.end c.args.c u w
+    (sees_then u v w (sees_then u b v (sees_then u a b c.offers_from-from.ensures.sees c.kept_run-run.ensures.sees)
+    c.loop-low.invariant.sees) c.stands_at.ensures.sees)
     (hub_legal c.args.hub.now c.stands_at.new.pass c.stands_at.ensures.own.0) c.requires.given
 
 pub count_from-requires-clause-low : goal.count_from-requires-clause-low
 count_from-requires-clause-low c =
-    below_seen (shape_of c.args.hub.now) 0 c.loop-low.low c.args.c c.loop-low.pass.seat.me.0 c.stands_at.new.pass.seat.me.0 c.stands_at.ensures.sees (hub_legal c.args.hub.now c.stands_at.new.pass c.stands_at.ensures.own.0) c.loop-low.invariant.low
+    below_seen (shape_of c.args.hub.now) 0 c.loop-low.low c.args.c c.loop-low.pass.seat.me.0 c.stands_at.new.pass.seat.me.0
+    c.stands_at.ensures.sees (hub_legal c.args.hub.now c.stands_at.new.pass c.stands_at.ensures.own.0) c.loop-low.invariant.low
 
 pub returns-then-stands_at-clause-sees : goal.returns-then-stands_at-clause-sees
 returns-then-stands_at-clause-sees c =
@@ -89,7 +99,9 @@ returns-then-stands_at-clause-sees c =
     let b = c.kept_run-run.new.pass.seat.me.0 in
     let v = c.loop-low.pass.seat.me.0 in
     let w = c.stands_at.new.pass.seat.me.0 in
-    sees_then u w c.count_from.new.pass.seat.me.0 (sees_then u v w (sees_then u b v (sees_then u a b c.offers_from-from.ensures.sees c.kept_run-run.ensures.sees) c.loop-low.invariant.sees) c.stands_at.ensures.sees) c.count_from.ensures.sees
+    sees_then u w c.count_from.new.pass.seat.me.0 (sees_then u v w
+    (sees_then u b v (sees_then u a b c.offers_from-from.ensures.sees c.kept_run-run.ensures.sees) c.loop-low.invariant.sees)
+    c.stands_at.ensures.sees) c.count_from.ensures.sees
 
 pub returns-then-stands_at-clause-count : goal.returns-then-stands_at-clause-count
 returns-then-stands_at-clause-count c =
@@ -99,22 +111,26 @@ returns-then-stands_at-clause-count c =
     let v = c.loop-low.pass.seat.me.0 in
     let w = c.stands_at.new.pass.seat.me.0 in
     count_before (shape_of c.args.hub.now) c.args.c c.args.end c.args.most u w c.count_from.new.pass.seat.me.0
-    (sees_then u v w (sees_then u b v (sees_then u a b c.offers_from-from.ensures.sees c.kept_run-run.ensures.sees) c.loop-low.invariant.sees) c.stands_at.ensures.sees)
-    (hub_legal c.args.hub.now c.args.pass.now c.requires.own.0) (hub_legal c.args.hub.now c.stands_at.new.pass c.stands_at.ensures.own.0) c.requires.given c.count_from.result c.count_from.ensures.count
+    (sees_then u v w (sees_then u b v (sees_then u a b c.offers_from-from.ensures.sees c.kept_run-run.ensures.sees)
+    c.loop-low.invariant.sees) c.stands_at.ensures.sees)
+    (hub_legal c.args.hub.now c.args.pass.now c.requires.own.0) (hub_legal c.args.hub.now c.stands_at.new.pass c.stands_at.ensures.own.0)
+    c.requires.given c.count_from.result c.count_from.ensures.count
 
 pub returns-clause-sees : goal.returns-clause-sees
 returns-clause-sees c =
     let u = c.args.pass.now.seat.me.0 in
     let a = c.offers_from-from.new.pass.seat.me.0 in
     let b = c.kept_run-run.new.pass.seat.me.0 in
-    sees_then u b c.loop-low.pass.seat.me.0 (sees_then u a b c.offers_from-from.ensures.sees c.kept_run-run.ensures.sees) c.loop-low.invariant.sees
+    sees_then u b c.loop-low.pass.seat.me.0 (sees_then u a b c.offers_from-from.ensures.sees c.kept_run-run.ensures.sees)
+    c.loop-low.invariant.sees
 
 pub returns-clause-count : goal.returns-clause-count
 returns-clause-count c =
     let i = c.loop-low.invariant in
     let v = c.loop-low.pass.seat.me.0 in
     none_counted c.args.most _ _
-    (few_from (shape_of c.args.hub.now) c.args.c c.args.end v.seen (hub_legal c.args.hub.now c.loop-low.pass i.own.0) (fewer_below c.args.end c.loop-low.low (at_channel v.seen c.args.c) c.loop-low-test.false i.low) 0 c.args.end (omega arith))
+    (few_from (shape_of c.args.hub.now) c.args.c c.args.end v.seen (hub_legal c.args.hub.now c.loop-low.pass i.own.0)
+    (fewer_below c.args.end c.loop-low.low (at_channel v.seen c.args.c) c.loop-low-test.false i.low) 0 c.args.end (omega arith))
 
 pub loop-low-preserved : goal.loop-low-preserved
 loop-low-preserved c =
@@ -132,7 +148,8 @@ loop-low-preserved c =
     record {
       own = h.own;
       sees = sees_then b v w i.sees h.sees;
-      low = passed_low shape c.args.c c.loop-low.low w.seen l (below_seen shape 0 c.loop-low.low c.args.c v w h.sees l i.low) (omega (arith, g, c.loop-low-test.true)) (rw c.if-stands_at.false at h.stands);
+      low = passed_low shape c.args.c c.loop-low.low w.seen l (below_seen shape 0 c.loop-low.low c.args.c v w h.sees l i.low)
+          (omega (arith, g, c.loop-low-test.true)) (rw c.if-stands_at.false at h.stands);
       run = run_seen shape c.args.c _ _ v w h.sees l i.run;
     }
 

@@ -10,7 +10,9 @@ use Rattle.cell_words.proofs.counting.count_from.Goals.{then-stands_at, else-sta
 use Rattle.cell_words.proofs.counting.count_from.Goals as goal
 
 pub returns-then-count-most-clause-count : goal.returns-then-count-most-clause-count
-returns-then-count-most-clause-count c = subst (λ (n : ℕ). n ≤ length (gather (stands c.args.pass.now.seat.me.0.seen c.args.c) c.args.end)) c.if-count-most.true (lower_end c.args.c c.loop-place.place c.args.end c.loop-place.count c.args.pass.now.seat.me.0 c.loop-place.pass.seat.me.0 (c.loop-place.auto.place-end c.requires.from) c.loop-place.invariant.counted)
+returns-then-count-most-clause-count c = subst (λ (n : ℕ). n ≤ length (gather (stands c.args.pass.now.seat.me.0.seen c.args.c) c.args.end))
+    c.if-count-most.true (lower_end c.args.c c.loop-place.place c.args.end c.loop-place.count c.args.pass.now.seat.me.0
+    c.loop-place.pass.seat.me.0 (c.loop-place.auto.place-end c.requires.from) c.loop-place.invariant.counted)
 
 pub loop-place-preserved : goal.loop-place-preserved
 loop-place-preserved c =
@@ -29,29 +31,38 @@ loop-place-preserved c =
         own = h.own;
         sees = sees_then u v w i.sees h.sees;
         given = given_seen shape c.args.end c.args.c v w h.sees lw i.given;
-        counted = counted_stands shape c.args.c c.loop-place.place c.loop-place.count u v w i.sees h.sees lu lv lw lt i.counted (rw x.if-stands_at.true at h.stands);
+        counted = counted_stands shape c.args.c c.loop-place.place c.loop-place.count u v w i.sees h.sees lu lv lw lt i.counted
+            (rw x.if-stands_at.true at h.stands);
         few = less_than c.loop-place.count c.args.most i.few c.if-count-most.false;
       })
       | else-stands_at x ↦ rw x.count-is (record {
         own = h.own;
         sees = sees_then u v w i.sees h.sees;
         given = given_seen shape c.args.end c.args.c v w h.sees lw i.given;
-        counted = counted_gone shape c.args.c c.loop-place.place c.loop-place.count u v w i.sees h.sees lv lw lt i.counted (rw x.if-stands_at.false at h.stands);
+        counted = counted_gone shape c.args.c c.loop-place.place c.loop-place.count u v w i.sees h.sees lv lw lt i.counted
+            (rw x.if-stands_at.false at h.stands);
         few = i.few;
       })
     ]
 
 pub returns-clause-count : goal.returns-clause-count
-returns-clause-count c = count_end c.args.most c.loop-place.count _ _ (lower_end c.args.c c.loop-place.place c.args.end c.loop-place.count c.args.pass.now.seat.me.0 c.loop-place.pass.seat.me.0 (c.loop-place.auto.place-end c.requires.from) c.loop-place.invariant.counted) (upper_end c.args.c c.loop-place.place c.args.end c.loop-place.count c.args.pass.now.seat.me.0 c.loop-place.pass.seat.me.0 (c.loop-place.auto.place-end c.requires.from) c.loop-place-test.false c.loop-place.invariant.counted)
+returns-clause-count c = count_end c.args.most c.loop-place.count _ _
+    (lower_end c.args.c c.loop-place.place c.args.end c.loop-place.count c.args.pass.now.seat.me.0 c.loop-place.pass.seat.me.0
+    (c.loop-place.auto.place-end c.requires.from) c.loop-place.invariant.counted)
+    (upper_end c.args.c c.loop-place.place c.args.end c.loop-place.count c.args.pass.now.seat.me.0 c.loop-place.pass.seat.me.0
+    (c.loop-place.auto.place-end c.requires.from) c.loop-place-test.false c.loop-place.invariant.counted)
 
 pub loop-place-init : goal.loop-place-init
 loop-place-init c = let u = c.args.pass.now.seat.me.0 in record {
   own = c.requires.own;
   sees = sees_self u;
   given = c.requires.given;
-  counted = counted_low (shape_of c.args.hub.now) c.args.c c.args.from u (hub_legal c.args.hub.now c.args.pass.now c.requires.own.0) c.requires.low;
+  counted = counted_low (shape_of c.args.hub.now) c.args.c c.args.from u (hub_legal c.args.hub.now c.args.pass.now c.requires.own.0)
+      c.requires.low;
   few = omega arith;
 }
 
 pub returns-then-end-place-clause-count : goal.returns-then-end-place-clause-count
-returns-then-end-place-clause-count c = too_few c.args.c c.loop-place.place c.args.end c.loop-place.count c.args.most c.args.pass.now.seat.me.0 c.loop-place.pass.seat.me.0 (c.loop-place.auto.place-end c.requires.from) c.loop-place.invariant.few c.if-end-place.true c.loop-place.invariant.counted
+returns-then-end-place-clause-count c = too_few c.args.c c.loop-place.place c.args.end c.loop-place.count c.args.most
+    c.args.pass.now.seat.me.0 c.loop-place.pass.seat.me.0 (c.loop-place.auto.place-end c.requires.from) c.loop-place.invariant.few
+    c.if-end-place.true c.loop-place.invariant.counted

@@ -10,14 +10,17 @@ use Rattle.cell_words.proofs.counting.was_too_many.Goals as goal
 pub returns-in-None-clause-too_many : goal.returns-in-None-clause-too_many
 returns-in-None-clause-too_many c =
     let shape = shape_of c.args.hub.now in
-    room_before shape c.args.pass.now.seat.me.0.seen (hub_legal c.args.hub.now c.args.pass.now c.requires.own.0) c.args.c c.args.mine c.requires.given
+    room_before shape c.args.pass.now.seat.me.0.seen (hub_legal c.args.hub.now c.args.pass.now c.requires.own.0) c.args.c c.args.mine
+    c.requires.given
     (spurns_as c.kind_of.result (kind_at shape c.args.c) (λ n. false) c.kind_of.ensures c.in-None.ensures _)
 
 pub returns-then-mine-most-clause-too_many : goal.returns-then-mine-most-clause-too_many
 returns-then-mine-most-clause-too_many c =
     let shape = shape_of c.args.hub.now in
-    room_few shape c.args.pass.now.seat.me.0.seen (hub_legal c.args.hub.now c.args.pass.now c.requires.own.0) c.args.c c.args.mine c.requires.given _
-    (spurns_as c.kind_of.result (kind_at shape c.args.c) _ c.kind_of.ensures c.in-Some.ensures) (few_places c.args.c c.args.mine _ c.args.pass.now.seat.me.0 c.if-mine-most.true)
+    room_few shape c.args.pass.now.seat.me.0.seen (hub_legal c.args.hub.now c.args.pass.now c.requires.own.0) c.args.c c.args.mine
+    c.requires.given _
+    (spurns_as c.kind_of.result (kind_at shape c.args.c) _ c.kind_of.ensures c.in-Some.ensures)
+    (few_places c.args.c c.args.mine _ c.args.pass.now.seat.me.0 c.if-mine-most.true)
 
 pub returns-clause-too_many : goal.returns-clause-too_many
 returns-clause-too_many c =
@@ -43,8 +46,10 @@ count_from-requires-clause-given c =
     let f = c.offers_from-from.new.pass.seat.me.0 in
     let o = c.offers_from-from.ensures in
     let given : c.args.mine + 1 ≤ (at_channel u.seen c.args.c).next = omega (arith, c.requires.given) in
-    let at : c.args.mine + 1 ≤ (at_channel f.seen c.args.c).next = given_seen shape (c.args.mine + 1) c.args.c u f o.sees (hub_legal c.args.hub.now c.offers_from-from.new.pass o.own.0) given in
+    let at : c.args.mine + 1 ≤ (at_channel f.seen c.args.c).next =
+    given_seen shape (c.args.mine + 1) c.args.c u f o.sees (hub_legal c.args.hub.now c.offers_from-from.new.pass o.own.0) given in
     omega (arith, at)
 
 pub returns-clause-sees : goal.returns-clause-sees
-returns-clause-sees c = sees_then c.args.pass.now.seat.me.0 c.offers_from-from.new.pass.seat.me.0 c.count_from.new.pass.seat.me.0 c.offers_from-from.ensures.sees c.count_from.ensures.sees
+returns-clause-sees c = sees_then c.args.pass.now.seat.me.0 c.offers_from-from.new.pass.seat.me.0 c.count_from.new.pass.seat.me.0
+    c.offers_from-from.ensures.sees c.count_from.ensures.sees

@@ -12,4 +12,5 @@ returns-clause-end c =
     let w = c.load_cell-word.new.pass.seat.me.0 in
     let l = hub_legal c.args.hub.now c.load_cell-word.new.pass h.own.0 in
     subst (λ (z : End). EndAt c.args.c c.args.place z w.seen) (sym c.end_found.ensures)
-    (end_is shape c.args.c c.args.place w.seen l (given_seen shape c.args.place c.args.c c.args.pass.now.seat.me.0 w h.sees l c.requires.given) c.load_cell-word.result h.word)
+    (end_is shape c.args.c c.args.place w.seen l (given_seen shape c.args.place c.args.c c.args.pass.now.seat.me.0 w h.sees l
+    c.requires.given) c.load_cell-word.result h.word)

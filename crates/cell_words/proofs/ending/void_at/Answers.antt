@@ -9,10 +9,18 @@ use Rattle.cell_words.proofs.ending.void_at.Goals as goal
 
 pub exchange_cell-requires-clause-may : goal.exchange_cell-requires-clause-may
 exchange_cell-requires-clause-may c =
-    may_as (shape_of c.args.hub.now) _ _ _ _ _ _ _ c.args.pass.now.seat.me.0 refl (ap (λ (z : CellWord). packed_cell z) c.plain_cell-old.ensures.word) (ap (λ (z : CellWord). packed_cell z) c.plain_cell-new.ensures.word)
-    (voids (shape_of c.args.hub.now) c.args.pass.now.seat.me.0 c.args.who c.args.c c.args.place c.args.value c.requires.own.1 c.requires.at.0 c.requires.at.1 c.requires.closed)
+    may_as (shape_of c.args.hub.now) _ _ _ _ _ _ _ c.args.pass.now.seat.me.0 refl
+    (ap (λ (z : CellWord). packed_cell z) c.plain_cell-old.ensures.word)
+    (ap (λ (z : CellWord). packed_cell z) c.plain_cell-new.ensures.word)
+    (voids (shape_of c.args.hub.now) c.args.pass.now.seat.me.0 c.args.who c.args.c c.args.place c.args.value c.requires.own.1
+    c.requires.at.0 c.requires.at.1 c.requires.closed)
 
 pub returns-in-Some-clause-voided : goal.returns-in-Some-clause-voided
 returns-in-Some-clause-voided c =
-    let t = c.in-Some.ensures.told in
-    (t.0, void_lost (shape_of c.args.hub.now) c.args.pass.now.seat.me.0 c.exchange_cell.new.pass.seat.me.0 c.args.c c.args.place c.args.value c.in-Some.field-0 c.plain_cell-old.result (hub_legal c.args.hub.now c.exchange_cell.new.pass c.exchange_cell.ensures.own.0) c.requires.closed t.0 c.plain_cell-old.ensures.word t.1 t.2)
+    let t = c.in-Some.ensures.told in (
+      t.0,
+      void_lost (shape_of c.args.hub.now) c.args.pass.now.seat.me.0 c.exchange_cell.new.pass.seat.me.0 c.args.c c.args.place
+          c.args.value c.in-Some.field-0 c.plain_cell-old.result
+          (hub_legal c.args.hub.now c.exchange_cell.new.pass c.exchange_cell.ensures.own.0) c.requires.closed t.0
+          c.plain_cell-old.ensures.word t.1 t.2,
+    )

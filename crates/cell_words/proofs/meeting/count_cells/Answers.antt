@@ -21,7 +21,8 @@ overflow_add-cells-in-loop-i c =
     record { fits = omega arith }
 
 pub returns : goal.returns
-returns c = c.loop-i.invariant ∙ ap (base c.args.kinds.now) (omega (arith, c.loop-i-test.false, c.loop-i.auto.i-end)) ∙ base_all c.args.kinds.now
+returns c = c.loop-i.invariant ∙ ap (base c.args.kinds.now) (omega (arith, c.loop-i-test.false, c.loop-i.auto.i-end))
+    ∙ base_all c.args.kinds.now
 
 pub loop-i-init : goal.loop-i-init
 loop-i-init c = sym (base_start c.args.kinds.now)

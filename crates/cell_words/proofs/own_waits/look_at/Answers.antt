@@ -13,5 +13,6 @@ returns-clause-state c =
     let h = c.load_wait-word.ensures in
     let w = c.load_wait-word.new.pass.seat.me.0 in
     let l = hub_legal c.args.hub.now c.load_wait-word.new.pass h.own.0 in
-    state_told shape w.seen c.args.who c.args.w c.load_wait-word.result l (own_seen shape c.args.who c.args.w c.args.pass.now.seat.me.0 w c.requires.own.1 h.sees l c.requires.mine)
+    state_told shape w.seen c.args.who c.args.w c.load_wait-word.result l
+    (own_seen shape c.args.who c.args.w c.args.pass.now.seat.me.0 w c.requires.own.1 h.sees l c.requires.mine)
     (h.word c.args.w c.requires.at (sym c.number_of-cell.ensures)) ∙ ap (λ (z : WaitState). Some z) (sym c.state_found.ensures)

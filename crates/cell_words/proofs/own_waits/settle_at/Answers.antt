@@ -22,7 +22,8 @@ pub exchange_wait-requires-clause-narrow : goal.exchange_wait-requires-clause-na
 exchange_wait-requires-clause-narrow c =
     let w = c.args.w in
     let is = c.load_wait-old.ensures.word w c.requires.at (sym c.number_of-cell.ensures) in
-    let n : IsNarrowWait c.load_wait-old.result = subst IsNarrowWait (sym is.0) (wait_narrow ((replay c.load_wait-old.new.pass.seat.me.0.seen).waits w) is.1) in
+    let n : IsNarrowWait c.load_wait-old.result = subst IsNarrowWait (sym is.0)
+    (wait_narrow ((replay c.load_wait-old.new.pass.seat.me.0.seen).waits w) is.1) in
     (n, record { clause = n.clause; value = n.value })
 
 pub exchange_wait-requires-clause-may : goal.exchange_wait-requires-clause-may
@@ -31,8 +32,10 @@ exchange_wait-requires-clause-may c =
     let h = c.load_wait-old.ensures in
     let v = c.load_wait-old.new.pass.seat.me.0 in
     let old = c.load_wait-old.result in
-    let r = ready_found c.args.hub.now c.load_wait-old.new.pass h.own.0 c.args.who c.args.w c.args.cancelled c.args.pass.now.seat.me.0 c.requires.own.1 h.sees c.requires.ready old (h.word c.args.w c.requires.at (sym c.number_of-cell.ensures)) in
-    settles_as shape v c.args.who c.args.w.channel c.args.w.place (resolution_found old) c.args.cancelled h.own.1 c.requires.at.0 c.requires.at.1 r.1.fits r.0 r.1.how _ old _ c.outcome-settled.result (ap (λ (n : ℕ). 2 * n + 1) c.number_of-cell.ensures) r.1.code
+    let r = ready_found c.args.hub.now c.load_wait-old.new.pass h.own.0 c.args.who c.args.w c.args.cancelled c.args.pass.now.seat.me.0
+    c.requires.own.1 h.sees c.requires.ready old (h.word c.args.w c.requires.at (sym c.number_of-cell.ensures)) in
+    settles_as shape v c.args.who c.args.w.channel c.args.w.place (resolution_found old) c.args.cancelled h.own.1 c.requires.at.0
+    c.requires.at.1 r.1.fits r.0 r.1.how _ old _ c.outcome-settled.result (ap (λ (n : ℕ). 2 * n + 1) c.number_of-cell.ensures) r.1.code
     (c.outcome-settled.ensures ∙ ap (λ (z : Resolution). outcome_of z c.args.cancelled) c.resolution_found.ensures)
     (ap (λ (b : Bool). with_end old b) c.is_cancelled_end.ensures)
   where
@@ -45,10 +48,13 @@ returns-clause-settled c =
     let h = c.load_wait-old.ensures in
     let v = c.load_wait-old.new.pass.seat.me.0 in
     let old = c.load_wait-old.result in
-    let r = ready_found c.args.hub.now c.load_wait-old.new.pass h.own.0 c.args.who c.args.w c.args.cancelled c.args.pass.now.seat.me.0 c.requires.own.1 h.sees c.requires.ready old (h.word c.args.w c.requires.at (sym c.number_of-cell.ensures)) in
+    let r = ready_found c.args.hub.now c.load_wait-old.new.pass h.own.0 c.args.who c.args.w c.args.cancelled c.args.pass.now.seat.me.0
+    c.requires.own.1 h.sees c.requires.ready old (h.word c.args.w c.requires.at (sym c.number_of-cell.ensures)) in
     sees_makes c.args.pass.now.seat.me.0 v c.exchange_wait.new.pass.seat.me.0 _ h.sees
-    (settle_done shape v c.args.who c.args.w.channel c.args.w.place (resolution_found old) c.args.cancelled h.own.1 c.requires.at.0 c.requires.at.1 r.1.fits r.0 r.1.how _ old _ c.exchange_wait.new.pass.seat.me.0 c.exchange_wait.result
-    (hub_legal c.args.hub.now c.exchange_wait.new.pass c.exchange_wait.ensures.own.0) (sym c.number_of-cell.ensures) r.1.code c.exchange_wait.ensures.told)
+    (settle_done shape v c.args.who c.args.w.channel c.args.w.place (resolution_found old) c.args.cancelled h.own.1 c.requires.at.0
+    c.requires.at.1 r.1.fits r.0 r.1.how _ old _ c.exchange_wait.new.pass.seat.me.0 c.exchange_wait.result
+    (hub_legal c.args.hub.now c.exchange_wait.new.pass c.exchange_wait.ensures.own.0) (sym c.number_of-cell.ensures) r.1.code
+    c.exchange_wait.ensures.told)
 
 pub returns-clause-outcome : goal.returns-clause-outcome
 returns-clause-outcome c =
@@ -56,6 +62,9 @@ returns-clause-outcome c =
     let h = c.load_wait-old.ensures in
     let v = c.load_wait-old.new.pass.seat.me.0 in
     let old = c.load_wait-old.result in
-    let r = ready_found c.args.hub.now c.load_wait-old.new.pass h.own.0 c.args.who c.args.w c.args.cancelled c.args.pass.now.seat.me.0 c.requires.own.1 h.sees c.requires.ready old (h.word c.args.w c.requires.at (sym c.number_of-cell.ensures)) in
-    outcome_before shape c.args.who c.args.cancelled c.args.w (resolution_found old) c.args.pass.now.seat.me.0 v h.sees (hub_legal c.args.hub.now c.load_wait-old.new.pass h.own.0) c.requires.ready r.1.how
-    ∙ ap (λ (z : Settled). Some z) (sym (c.outcome-settled.ensures ∙ ap (λ (z : Resolution). outcome_of z c.args.cancelled) c.resolution_found.ensures))
+    let r = ready_found c.args.hub.now c.load_wait-old.new.pass h.own.0 c.args.who c.args.w c.args.cancelled c.args.pass.now.seat.me.0
+    c.requires.own.1 h.sees c.requires.ready old (h.word c.args.w c.requires.at (sym c.number_of-cell.ensures)) in
+    outcome_before shape c.args.who c.args.cancelled c.args.w (resolution_found old) c.args.pass.now.seat.me.0 v h.sees
+    (hub_legal c.args.hub.now c.load_wait-old.new.pass h.own.0) c.requires.ready r.1.how
+    ∙ ap (λ (z : Settled). Some z) (sym (c.outcome-settled.ensures
+    ∙ ap (λ (z : Resolution). outcome_of z c.args.cancelled) c.resolution_found.ensures))

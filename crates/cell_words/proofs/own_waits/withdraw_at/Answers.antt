@@ -10,5 +10,7 @@ exchange_wait-requires-clause-number c = record { wait = c.args.w; at = c.requir
 
 pub exchange_wait-requires-clause-may : goal.exchange_wait-requires-clause-may
 exchange_wait-requires-clause-may c =
-    may_as (shape_of c.args.hub.now) _ _ _ _ _ _ _ c.args.pass.now.seat.me.0 (ap (λ (n : ℕ). 2 * n + 1) c.number_of-cell.ensures) c.standing_wait.ensures.zero (ap (λ (z : WaitWord). packed_wait z) c.withdrawn_wait.ensures.word)
-    (withdraws (shape_of c.args.hub.now) c.args.pass.now.seat.me.0 c.args.who c.args.w.channel c.args.w.place c.requires.own.1 c.requires.at.0 c.args.why c.requires.at.1 c.requires.mine)
+    may_as (shape_of c.args.hub.now) _ _ _ _ _ _ _ c.args.pass.now.seat.me.0 (ap (λ (n : ℕ). 2 * n + 1) c.number_of-cell.ensures)
+    c.standing_wait.ensures.zero (ap (λ (z : WaitWord). packed_wait z) c.withdrawn_wait.ensures.word)
+    (withdraws (shape_of c.args.hub.now) c.args.pass.now.seat.me.0 c.args.who c.args.w.channel c.args.w.place c.requires.own.1
+    c.requires.at.0 c.args.why c.requires.at.1 c.requires.mine)

@@ -8,8 +8,12 @@ use Rattle.cell_words.proofs.placing.try_await_at.Goals as goal
 
 pub returns-then-is_used-clause-at : goal.returns-then-is_used-clause-at
 returns-then-is_used-clause-at c = let h = c.load_cell-word.ensures in
-    subst (λ (z : At). TriedReceiveAt (shape_of c.args.hub.now) c.args.who c.args.c c.args.place c.args.pass.now.seat.me.0 c.load_cell-word.new.pass.seat.me.0 z) (sym c.found_by_receiver.ensures)
-    (receive_tried (shape_of c.args.hub.now) c.args.who c.args.c c.args.place c.load_cell-word.result c.load_cell-word.result.state c.args.pass.now.seat.me.0 c.load_cell-word.new.pass.seat.me.0 (used_receive c.args.hub.now c.load_cell-word.new.pass h.own.0 c.args.c c.args.place c.args.pass.now.seat.me.0 h.sees c.load_cell-word.result h.word c.requires.low (sym c.is_used.ensures ∙ c.if-is_used.true) c.args.who))
+    subst (λ (z : At). TriedReceiveAt (shape_of c.args.hub.now) c.args.who c.args.c c.args.place c.args.pass.now.seat.me.0
+    c.load_cell-word.new.pass.seat.me.0 z) (sym c.found_by_receiver.ensures)
+    (receive_tried (shape_of c.args.hub.now) c.args.who c.args.c c.args.place c.load_cell-word.result c.load_cell-word.result.state
+    c.args.pass.now.seat.me.0 c.load_cell-word.new.pass.seat.me.0
+    (used_receive c.args.hub.now c.load_cell-word.new.pass h.own.0 c.args.c c.args.place c.args.pass.now.seat.me.0 h.sees
+    c.load_cell-word.result h.word c.requires.low (sym c.is_used.ensures ∙ c.if-is_used.true) c.args.who))
 
 pub returns-clause-at : goal.returns-clause-at
 returns-clause-at c =
@@ -17,5 +21,9 @@ returns-clause-at c =
     let v = c.args.pass.now.seat.me.0 in
     let w = c.load_cell-word.new.pass.seat.me.0 in
     let h = c.load_cell-word.ensures in
-    let l = hub_legal c.args.hub.now c.load_cell-word.new.pass h.own.0 in
-    (h.sees, empty_to_try shape c.args.c c.args.place c.load_cell-word.result w.seen l h.word (unused_free c.load_cell-word.result.state (sym c.is_used.ensures ∙ c.if-is_used.false)) (below_seen shape 0 c.args.place c.args.c v w h.sees l c.requires.low))
+    let l = hub_legal c.args.hub.now c.load_cell-word.new.pass h.own.0 in (
+      h.sees,
+      empty_to_try shape c.args.c c.args.place c.load_cell-word.result w.seen l h.word
+          (unused_free c.load_cell-word.result.state (sym c.is_used.ensures ∙ c.if-is_used.false))
+          (below_seen shape 0 c.args.place c.args.c v w h.sees l c.requires.low),
+    )

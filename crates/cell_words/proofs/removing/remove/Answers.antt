@@ -20,7 +20,8 @@ returns-in-None-clause-tried c =
     let s = c.load_wait-word.ensures.sees in
     let is = c.load_wait-word.ensures.word h.wait (h.fits.channel, h.fits.place) (c.wait_cell-cell.ensures h.who h.wait h.holder) in
     subst (RemoveAnswer c.args.removal shape c.args.who c.args.c c.args.place c.args.waiter v w) (sym c.tried_found.ensures)
-    (take_tried c.args.removal shape v w c.args.who c.args.c c.args.place c.args.waiter l (sees_then v c.owner_of.new.pass.seat.me.0 w o.sees s) c.requires.low c.requires.first c.load_wait-word.result is
+    (take_tried c.args.removal shape v w c.args.who c.args.c c.args.place c.args.waiter l
+    (sees_then v c.owner_of.new.pass.seat.me.0 w o.sees s) c.requires.low c.requires.first c.load_wait-word.result is
     (resolved_word shape h.wait c.owner_of.new.pass.seat.me.0 w c.load_wait-word.result s l (c.in-None.ensures.owner h) is))
 
 pub exchange_wait-requires-clause-may : goal.exchange_wait-requires-clause-may
@@ -33,8 +34,11 @@ exchange_wait-requires-clause-may c =
     let q = c.load_wait-seen.ensures in
     let s = sees_then v c.owner_of.new.pass.seat.me.0 w o.sees q.sees in
     let l = hub_legal c.args.hub.now c.load_wait-seen.new.pass q.own.0 in
-    may_by shape _ _ _ _ _ _ _ _ w (ap (λ (n : ℕ). 2 * n + 1) (sym (c.wait_cell-cell.ensures h.who h.wait h.holder))) c.standing_wait.ensures.zero (ap (λ (z : WaitWord). packed_wait z) c.removed_wait-new.ensures.word) c.removal_entry-entry.ensures
-    (removes shape w c.args.who c.args.c c.args.place q.own.1 c.requires.at.0 c.args.removal c.args.waiter.value h.who c.args.waiter.clause h.wait (held_seen_may shape c.args.removal c.args.c v w s l c.requires.may) h.fits (below_seen shape 0 c.args.place c.args.c v w s l c.requires.low)
+    may_by shape _ _ _ _ _ _ _ _ w (ap (λ (n : ℕ). 2 * n + 1) (sym (c.wait_cell-cell.ensures h.who h.wait h.holder)))
+    c.standing_wait.ensures.zero (ap (λ (z : WaitWord). packed_wait z) c.removed_wait-new.ensures.word) c.removal_entry-entry.ensures
+    (removes shape w c.args.who c.args.c c.args.place q.own.1 c.requires.at.0 c.args.removal c.args.waiter.value h.who c.args.waiter.clause
+    h.wait (held_seen_may shape c.args.removal c.args.c v w s l c.requires.may) h.fits
+    (below_seen shape 0 c.args.place c.args.c v w s l c.requires.low)
     (offer_seen shape c.args.c c.args.place c.args.waiter.value h.who c.args.waiter.clause h.wait v w s l c.requires.first.cell))
 
 pub returns-in-None-exchange_wait-clause-tried : goal.returns-in-None-exchange_wait-clause-tried
@@ -45,9 +49,14 @@ returns-in-None-exchange_wait-clause-tried c =
     let v = c.args.pass.now.seat.me.0 in
     let w = c.exchange_wait.new.pass.seat.me.0 in
     let l = hub_legal c.args.hub.now c.exchange_wait.new.pass c.exchange_wait.ensures.own.0 in
-    subst (λ (t : ℕ). RemovesFrom c.args.removal c.args.who c.args.c c.args.place c.args.waiter.value (Some t) v w) (sym (c.in-Some.ensures.owner h))
-    (take_told shape v w l c.args.who c.args.c c.args.place c.wait_cell-cell.result _ c.standing_wait.ensures.zero c.requires.at.0 c.args.removal c.args.waiter.value h.who c.args.waiter.clause h.wait h.fits (c.wait_cell-cell.ensures h.who h.wait h.holder) c.requires.low c.requires.first.cell
-    (sees_turns shape _ _ _ v c.load_wait-seen.new.pass.seat.me.0 w (sees_then v c.owner_of.new.pass.seat.me.0 c.load_wait-seen.new.pass.seat.me.0 o.sees c.load_wait-seen.ensures.sees) (turns_by shape _ _ _ _ c.load_wait-seen.new.pass.seat.me.0 w c.removal_entry-entry.ensures c.in-None-exchange_wait.ensures.told)))
+    subst (λ (t : ℕ). RemovesFrom c.args.removal c.args.who c.args.c c.args.place c.args.waiter.value (Some t) v w)
+    (sym (c.in-Some.ensures.owner h))
+    (take_told shape v w l c.args.who c.args.c c.args.place c.wait_cell-cell.result _ c.standing_wait.ensures.zero c.requires.at.0
+    c.args.removal c.args.waiter.value h.who c.args.waiter.clause h.wait h.fits (c.wait_cell-cell.ensures h.who h.wait h.holder)
+    c.requires.low c.requires.first.cell
+    (sees_turns shape _ _ _ v c.load_wait-seen.new.pass.seat.me.0 w
+    (sees_then v c.owner_of.new.pass.seat.me.0 c.load_wait-seen.new.pass.seat.me.0 o.sees c.load_wait-seen.ensures.sees)
+    (turns_by shape _ _ _ _ c.load_wait-seen.new.pass.seat.me.0 w c.removal_entry-entry.ensures c.in-None-exchange_wait.ensures.told)))
 
 pub returns-in-Some-exchange_wait-clause-tried : goal.returns-in-Some-exchange_wait-clause-tried
 returns-in-Some-exchange_wait-clause-tried c =
@@ -58,8 +67,12 @@ returns-in-Some-exchange_wait-clause-tried c =
     let w = c.exchange_wait.new.pass.seat.me.0 in
     let l = hub_legal c.args.hub.now c.exchange_wait.new.pass c.exchange_wait.ensures.own.0 in
     let t = c.in-Some-exchange_wait.ensures.told in
-    subst (RemoveAnswer c.args.removal shape c.args.who c.args.c c.args.place c.args.waiter v w) (sym c.tried_found-in-Some-exchange_wait.ensures)
-    (take_tried c.args.removal shape v w c.args.who c.args.c c.args.place c.args.waiter l (sees_then v c.load_wait-seen.new.pass.seat.me.0 w (sees_then v c.owner_of.new.pass.seat.me.0 c.load_wait-seen.new.pass.seat.me.0 o.sees c.load_wait-seen.ensures.sees) t.0) c.requires.low c.requires.first c.in-Some-exchange_wait.found (t.1 h.wait (h.fits.channel, h.fits.place) (c.wait_cell-cell.ensures h.who h.wait h.holder))
+    subst (RemoveAnswer c.args.removal shape c.args.who c.args.c c.args.place c.args.waiter v w)
+    (sym c.tried_found-in-Some-exchange_wait.ensures)
+    (take_tried c.args.removal shape v w c.args.who c.args.c c.args.place c.args.waiter l
+    (sees_then v c.load_wait-seen.new.pass.seat.me.0 w (sees_then v c.owner_of.new.pass.seat.me.0 c.load_wait-seen.new.pass.seat.me.0
+    o.sees c.load_wait-seen.ensures.sees) t.0) c.requires.low c.requires.first c.in-Some-exchange_wait.found
+    (t.1 h.wait (h.fits.channel, h.fits.place) (c.wait_cell-cell.ensures h.who h.wait h.holder))
     (λ z. t.2 (z ∙ sym c.standing_wait.ensures.zero)))
 
 pub returns-then-not-is_nobody-clause-tried : goal.returns-then-not-is_nobody-clause-tried
@@ -72,6 +85,8 @@ returns-then-not-is_nobody-clause-tried c =
     let l = hub_legal c.args.hub.now c.load_wait-seen.new.pass c.load_wait-seen.ensures.own.0 in
     let s = c.load_wait-seen.ensures.sees in
     let is = c.load_wait-seen.ensures.word h.wait (h.fits.channel, h.fits.place) (c.wait_cell-cell.ensures h.who h.wait h.holder) in
-    subst (RemoveAnswer c.args.removal shape c.args.who c.args.c c.args.place c.args.waiter v w) (sym c.tried_found-then-not-is_nobody.ensures)
-    (take_tried c.args.removal shape v w c.args.who c.args.c c.args.place c.args.waiter l (sees_then v c.owner_of.new.pass.seat.me.0 w o.sees s) c.requires.low c.requires.first c.load_wait-seen.result is
+    subst (RemoveAnswer c.args.removal shape c.args.who c.args.c c.args.place c.args.waiter v w)
+    (sym c.tried_found-then-not-is_nobody.ensures)
+    (take_tried c.args.removal shape v w c.args.who c.args.c c.args.place c.args.waiter l
+    (sees_then v c.owner_of.new.pass.seat.me.0 w o.sees s) c.requires.low c.requires.first c.load_wait-seen.result is
     (somebody_word c.load_wait-seen.result c.is_nobody.result c.is_nobody.ensures c.if-not-is_nobody.true))

@@ -13,7 +13,8 @@ returns-in-Own-holder_of-clause-owner c h =
     let w = c.load_numbered_cell-word in
     let at = subst (λ (z : Holder). IsHolder shape c.args.c c.args.place z h.who h.wait) c.in-At.is h.holder in
     subst (OwnerAnswer h.who h.wait w.new.pass.seat.me.0.seen) (ap owner_told (sym c.holder_of.ensures ∙ c.in-Own-holder_of.is))
-    (owner_found shape h.wait h.who c.args.pass.now.seat.me.0 w.new.pass.seat.me.0 w.ensures.sees (hub_legal c.args.hub.now w.new.pass w.ensures.own.0) w.result (w.ensures.word h.wait (h.fits.channel, h.fits.place) at.0) h.owner)
+    (owner_found shape h.wait h.who c.args.pass.now.seat.me.0 w.new.pass.seat.me.0 w.ensures.sees
+    (hub_legal c.args.hub.now w.new.pass w.ensures.own.0) w.result (w.ensures.word h.wait (h.fits.channel, h.fits.place) at.0) h.owner)
 
 pub returns-in-At-holder_of-clause-owner : goal.returns-in-At-holder_of-clause-owner
 returns-in-At-holder_of-clause-owner c h =
@@ -21,4 +22,5 @@ returns-in-At-holder_of-clause-owner c h =
     let w = c.load_numbered_cell-word in
     let at = subst (λ (z : Holder). IsHolder shape c.args.c c.args.place z h.who h.wait) c.in-At.is h.holder in
     subst (OwnerAnswer h.who h.wait w.new.pass.seat.me.0.seen) (ap owner_told (sym c.holder_of.ensures ∙ c.in-At-holder_of.is))
-    (owner_found shape h.wait h.who c.args.pass.now.seat.me.0 w.new.pass.seat.me.0 w.ensures.sees (hub_legal c.args.hub.now w.new.pass w.ensures.own.0) w.result (w.ensures.word h.wait (h.fits.channel, h.fits.place) at.0) h.owner)
+    (owner_found shape h.wait h.who c.args.pass.now.seat.me.0 w.new.pass.seat.me.0 w.ensures.sees
+    (hub_legal c.args.hub.now w.new.pass w.ensures.own.0) w.result (w.ensures.word h.wait (h.fits.channel, h.fits.place) at.0) h.owner)

@@ -23,10 +23,12 @@ pub returns-in-Send-clause-drawn : goal.returns-in-Send-clause-drawn
 returns-in-Send-clause-drawn c =
     let f = c.args.counted.now in
     let p = c.args.pass.now in
-    drawn_at f.cells f.table.shared.key p.number c.draw.result c.args.side Send p.seat.me.0 c.draw.new.seat.me.0 f.sized.1 p.numbered.0 c.in-Send.is c.requires.of.2 c.draw.ensures.entered
+    drawn_at f.cells f.table.shared.key p.number c.draw.result c.args.side Send p.seat.me.0 c.draw.new.seat.me.0 f.sized.1 p.numbered.0
+    c.in-Send.is c.requires.of.2 c.draw.ensures.entered
 
 pub returns-in-Receive-clause-drawn : goal.returns-in-Receive-clause-drawn
 returns-in-Receive-clause-drawn c =
     let f = c.args.counted.now in
     let p = c.args.pass.now in
-    drawn_at f.cells f.table.shared.key p.number c.draw-in-Receive.result c.args.side Receive p.seat.me.0 c.draw-in-Receive.new.seat.me.0 f.sized.1 p.numbered.0 c.in-Receive.is c.requires.of.2 c.draw-in-Receive.ensures.entered
+    drawn_at f.cells f.table.shared.key p.number c.draw-in-Receive.result c.args.side Receive p.seat.me.0 c.draw-in-Receive.new.seat.me.0
+    f.sized.1 p.numbered.0 c.in-Receive.is c.requires.of.2 c.draw-in-Receive.ensures.entered

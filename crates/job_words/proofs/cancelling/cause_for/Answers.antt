@@ -23,7 +23,9 @@ returns-in-Child-clause-cause c =
     let w = c.load_job.new.pass.seat.me.0 in
     subst (λ (y : Reason). IsCauseOf f.size c.args.who c.args.row y w c.cause_of_rest.result) (sym c.in-Child.is)
     (subst (λ (x : Cause). IsCauseOf f.size c.args.who c.args.row (reasons.Child c.in-Child.child) w x) (sym c.cause_of_rest.ensures)
-    (child_cause f.size c.args.who c.args.row c.in-Child.child p.seat.me.0 w c.load_job.result f.small c.requires.own.0.1 p.done c.load_job.ensures.sees c.requires.attached (subst (λ (x : Reason). Holds (shape_of f.size) (store_of p.seat.me.0.seen).tree c.args.who c.args.row x) c.in-Child.is c.requires.reason) c.load_job.ensures.word))
+    (child_cause f.size c.args.who c.args.row c.in-Child.child p.seat.me.0 w c.load_job.result f.small c.requires.own.0.1 p.done
+    c.load_job.ensures.sees c.requires.attached (subst (λ (x : Reason). Holds (shape_of f.size) (store_of p.seat.me.0.seen).tree
+    c.args.who c.args.row x) c.in-Child.is c.requires.reason) c.load_job.ensures.word))
 
 pub returns-in-Own-clause-goes : goal.returns-in-Own-clause-goes
 returns-in-Own-clause-goes c = goes_self c.args.who c.args.pass.now.seat.me.0 c.requires.own.0.2 c.args.pass.now.done

@@ -16,14 +16,18 @@ loop-row-init c = record {
 pub raise_scopes-requires-clause-claimed : goal.raise_scopes-requires-clause-claimed
 raise_scopes-requires-clause-claimed c r le lt =
     let a = c.if-claim.ensures.claimed in
-    claimed_more c.args.who (c.loop-row.row ∷ []) c.args.forest.now.size.coroutines c.loop-row.row c.loop-row.pass.seat.me.0 c.claim.new.pass.seat.me.0 a.0 c.loop-row.invariant.claimed (ap is_some a.1.claimer) r le (omega arith)
+    claimed_more c.args.who (c.loop-row.row ∷ []) c.args.forest.now.size.coroutines c.loop-row.row c.loop-row.pass.seat.me.0
+    c.claim.new.pass.seat.me.0 a.0 c.loop-row.invariant.claimed (ap is_some a.1.claimer) r le (omega arith)
 
 pub returns-then-claim-clause-claimed : goal.returns-then-claim-clause-claimed
 returns-then-claim-clause-claimed c =
     let u = c.args.pass.now.seat.me.0 in
     let a = c.if-claim.ensures.claimed in (
-      subst (λ (w : Seen). ClaimAnswer c.args.who c.loop-row.row u w true) (sym c.raise_scopes.ensures.same)
-          (goes_trans c.args.who [] (c.loop-row.row ∷ []) u c.loop-row.pass.seat.me.0 c.claim.new.pass.seat.me.0 c.loop-row.invariant.goes a.0, a.1),
+      subst (λ (w : Seen). ClaimAnswer c.args.who c.loop-row.row u w true) (sym c.raise_scopes.ensures.same) (
+        goes_trans c.args.who [] (c.loop-row.row ∷ []) u c.loop-row.pass.seat.me.0 c.claim.new.pass.seat.me.0 c.loop-row.invariant.goes
+            a.0,
+        a.1,
+      ),
       c.loop-row.invariant.from,
       c.loop-row-test.true,
     )
@@ -37,5 +41,6 @@ loop-row-preserved c =
       own = c.claim.ensures.own;
       goes = goes_trans c.args.who [] [] c.args.pass.now.seat.me.0 v w c.loop-row.invariant.goes a.0;
       from = omega (arith, c.loop-row.invariant.from);
-      claimed = λ r le lt. claimed_more c.args.who [] c.args.forest.now.size.coroutines c.loop-row.row v w a.0 c.loop-row.invariant.claimed a.1 r le (omega arith);
+      claimed = λ r le lt. claimed_more c.args.who [] c.args.forest.now.size.coroutines c.loop-row.row v w a.0 c.loop-row.invariant.claimed
+          a.1 r le (omega arith);
     }

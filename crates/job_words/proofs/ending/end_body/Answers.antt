@@ -1,26 +1,22 @@
-use Rattle.std.proofs.Common.{[], ◌∙◌}
-use Rattle.job_words.proofs.StepsAsCalls.{goes_trans}
-use Rattle.job_words.proofs.ClaimedRows.{goes_self}
-use Rattle.job_words.proofs.LostExchangesGrow.{nearer}
-use Rattle.job_words.proofs.TriesOfAnAct.{end_body_answer, may_attached, own_body_goes}
-use Rattle.job_words.proofs.GivingStays.{by_end}
+use Rattle.std.proofs.Common.{[], of_calls, arith}
+use Rattle.job_words.proofs.LostExchangesGrow.{attached_goes}
+use Rattle.job_words.proofs.TriesOfAnAct.{may_attached, own_body_goes}
+use Rattle.job_words.proofs.DecisionsOnWords.{tag_goes, end_may, end_answer}
 use Rattle.job_words.proofs.ending.end_body.Goals as goal
 
-pub tries-init : goal.tries-init
-tries-init c = record { own = c.requires.own; goes = goes_self c.args.who c.args.pass.now.seat.me.0 c.requires.own.0.2 c.args.pass.now.done; may = c.requires.may }
+pub update-requires-clause-attached : goal.update-requires-clause-attached
+update-requires-clause-attached c = may_attached c.args.who _ c.requires.may
 
-pub returns-in-Some-clause-answer : goal.returns-in-Some-clause-answer
-returns-in-Some-clause-answer c = end_body_answer c.args.forest.now.size c.args.who c.args.row c.args.value c.args.pass.now.seat.me.0 c.tries.pass.seat.me.0 c.end_body_once.new.pass.seat.me.0 c.in-Some.ended c.args.forest.now.small c.tries.invariant.own.0.1 (may_attached c.args.who _ c.tries.invariant.may) c.tries.invariant.goes c.in-Some.ensures.answer
+pub update-requires-clause-may : goal.update-requires-clause-may
+update-requires-clause-may c = λ v w d g k p.
+    let u = c.args.pass.now.seat.me.0 in
+    end_may c.args.forest.now.size c.args.who c.args.row c.args.value v w d c.args.forest.now.small
+    (tag_goes c.args.who u v g c.requires.own.1) (attached_goes c.args.who [] u v c.args.row g (may_attached c.args.who _ c.requires.may))
+    (omega (arith, c.ranges.value.fits)) (own_body_goes c.args.who c.args.row [] u v g c.requires.may) k (search of_calls)
 
-pub tries-smaller : goal.tries-smaller
-tries-smaller c = nearer c.args.forest.now.size c.tries.pass.seat.me.0 c.end_body_once.new.pass.seat.me.0 c.args.forest.now.small c.end_body_once.ensures.own.0.1 c.end_body_once.new.pass.done c.in-None.ensures.answer.grew
-
-pub tries-preserved : goal.tries-preserved
-tries-preserved c = record {
-  own = c.end_body_once.ensures.own;
-  goes = goes_trans c.args.who [] [] c.args.pass.now.seat.me.0 c.tries.pass.seat.me.0 c.end_body_once.new.pass.seat.me.0 c.tries.invariant.goes c.in-None.ensures.answer.goes;
-  may = own_body_goes c.args.who c.args.row [] c.tries.pass.seat.me.0 c.end_body_once.new.pass.seat.me.0 c.in-None.ensures.answer.goes c.tries.invariant.may;
-}
-
-pub returns-in-Some-clause-giving : goal.returns-in-Some-clause-giving
-returns-in-Some-clause-giving c = by_end c.args.who c.args.row c.args.value c.tries.pass.seat.me.0 c.end_body_once.new.pass.seat.me.0 c.in-Some.ended c.in-Some.ensures.answer ∙ c.tries.invariant.goes.giving
+pub returns-clause-answer : goal.returns-clause-answer
+returns-clause-answer c =
+    let t = c.update.ensures.answer in
+    end_answer c.args.forest.now.size c.args.who c.args.row c.args.value t.0 t.1 c.args.pass.now.seat.me.0 c.update.new.pass.seat.me.0
+    c.update.result c.args.forest.now.small c.requires.own.0.1 (may_attached c.args.who _ c.requires.may)
+    (let p = t.2 in search of_calls) t.3

@@ -12,4 +12,6 @@ returns-clause-link c =
     let w = c.load_any_link.new.pass.seat.me.0 in
     let size = c.args.forest.now.size in
     let sees = c.load_any_link.ensures.sees in
-    link_found size w c.args.row c.load_any_link.result c.args.forest.now.small (sees_done size c.args.who v w c.requires.own.0.1 sees) (attached_sees c.args.who v w c.args.row sees c.requires.attached) c.requires.child c.load_any_link.ensures.narrow c.load_any_link.ensures.word
+    link_found size w c.args.row c.load_any_link.result c.args.forest.now.small (sees_done size c.args.who v w c.requires.own.0.1 sees)
+    (attached_sees c.args.who v w c.args.row sees c.requires.attached) c.requires.child c.load_any_link.ensures.narrow
+    c.load_any_link.ensures.word

@@ -17,7 +17,8 @@ walk-init c =
       own = c.load_job-next.ensures.own;
       goes = goes_self c.args.who v1 c.load_job-next.ensures.own.0.2 c.load_job-next.new.pass.done;
       parent = a;
-      ahead = walk_begins size v1 c.args.parent c.args.row c.load_job-next.result c.args.forest.now.small (sees_done size c.args.who v0 v1 c.requires.own.0.1 c.load_job-next.ensures.sees) a c.load_job-next.ensures.word;
+      ahead = walk_begins size v1 c.args.parent c.args.row c.load_job-next.result c.args.forest.now.small
+          (sees_done size c.args.who v0 v1 c.requires.own.0.1 c.load_job-next.ensures.sees) a c.load_job-next.ensures.word;
     }
 
 pub returns-then-next-row-clause-found : goal.returns-then-next-row-clause-found
@@ -27,7 +28,9 @@ returns-then-next-row-clause-found c =
     let v = c.walk.pass.seat.me.0 in
     let size = c.args.forest.now.size in (
       goes_trans c.args.who [] [] v0 v1 v (sees_goes c.args.who v0 v1 c.load_job-next.ensures.sees) c.walk.invariant.goes,
-      subst (IsAttached v) c.if-next-row.true (next_attached size c.args.who c.args.parent c.args.row c.walk.next v1 v c.args.forest.now.small (sees_done size c.args.who v0 v1 c.requires.own.0.1 c.load_job-next.ensures.sees) c.walk.invariant.goes c.walk-test.true c.walk.invariant.ahead),
+      subst (IsAttached v) c.if-next-row.true (next_attached size c.args.who c.args.parent c.args.row c.walk.next v1 v
+          c.args.forest.now.small (sees_done size c.args.who v0 v1 c.requires.own.0.1 c.load_job-next.ensures.sees) c.walk.invariant.goes
+          c.walk-test.true c.walk.invariant.ahead),
     )
 
 pub load_link-next-requires-clause-attached : goal.load_link-next-requires-clause-attached
@@ -35,7 +38,9 @@ load_link-next-requires-clause-attached c =
     let v0 = c.args.pass.now.seat.me.0 in
     let v1 = c.load_job-next.new.pass.seat.me.0 in
     let size = c.args.forest.now.size in
-    next_attached size c.args.who c.args.parent c.args.row c.walk.next v1 c.walk.pass.seat.me.0 c.args.forest.now.small (sees_done size c.args.who v0 v1 c.requires.own.0.1 c.load_job-next.ensures.sees) c.walk.invariant.goes c.walk-test.true c.walk.invariant.ahead
+    next_attached size c.args.who c.args.parent c.args.row c.walk.next v1 c.walk.pass.seat.me.0 c.args.forest.now.small
+    (sees_done size c.args.who v0 v1 c.requires.own.0.1 c.load_job-next.ensures.sees) c.walk.invariant.goes c.walk-test.true
+    c.walk.invariant.ahead
 
 pub walk-smaller : goal.walk-smaller
 walk-smaller c =
@@ -45,8 +50,11 @@ walk-smaller c =
     let w = c.load_link-next.new.pass.seat.me.0 in
     let size = c.args.forest.now.size in
     (walk_steps size c.args.who c.args.parent c.args.row c.walk.next v1 v w (without_hint c.load_link-next.result) c.args.forest.now.small
-    (sees_done size c.args.who v0 v1 c.requires.own.0.1 c.load_job-next.ensures.sees) (goes_done size c.args.who [] v1 v c.load_job-next.ensures.own.0.1 c.walk.invariant.goes) (sees_done size c.args.who v w c.walk.invariant.own.0.1 c.load_link-next.ensures.sees)
-    c.walk.invariant.goes (sees_goes c.args.who v w c.load_link-next.ensures.sees) c.walk-test.true (λ e. c.if-next-row.false (sym e)) c.walk.invariant.ahead c.load_link-next.ensures.link).1
+    (sees_done size c.args.who v0 v1 c.requires.own.0.1 c.load_job-next.ensures.sees)
+    (goes_done size c.args.who [] v1 v c.load_job-next.ensures.own.0.1 c.walk.invariant.goes)
+    (sees_done size c.args.who v w c.walk.invariant.own.0.1 c.load_link-next.ensures.sees)
+    c.walk.invariant.goes (sees_goes c.args.who v w c.load_link-next.ensures.sees) c.walk-test.true (λ e. c.if-next-row.false (sym e))
+    c.walk.invariant.ahead c.load_link-next.ensures.link).1
 
 pub walk-preserved : goal.walk-preserved
 walk-preserved c =
@@ -55,9 +63,13 @@ walk-preserved c =
     let v = c.walk.pass.seat.me.0 in
     let w = c.load_link-next.new.pass.seat.me.0 in
     let size = c.args.forest.now.size in
-    let k = walk_steps size c.args.who c.args.parent c.args.row c.walk.next v1 v w (without_hint c.load_link-next.result) c.args.forest.now.small
-    (sees_done size c.args.who v0 v1 c.requires.own.0.1 c.load_job-next.ensures.sees) (goes_done size c.args.who [] v1 v c.load_job-next.ensures.own.0.1 c.walk.invariant.goes) (sees_done size c.args.who v w c.walk.invariant.own.0.1 c.load_link-next.ensures.sees)
-    c.walk.invariant.goes (sees_goes c.args.who v w c.load_link-next.ensures.sees) c.walk-test.true (λ e. c.if-next-row.false (sym e)) c.walk.invariant.ahead c.load_link-next.ensures.link in
+    let k = walk_steps size c.args.who c.args.parent c.args.row c.walk.next v1 v w (without_hint c.load_link-next.result)
+    c.args.forest.now.small
+    (sees_done size c.args.who v0 v1 c.requires.own.0.1 c.load_job-next.ensures.sees)
+    (goes_done size c.args.who [] v1 v c.load_job-next.ensures.own.0.1 c.walk.invariant.goes)
+    (sees_done size c.args.who v w c.walk.invariant.own.0.1 c.load_link-next.ensures.sees)
+    c.walk.invariant.goes (sees_goes c.args.who v w c.load_link-next.ensures.sees) c.walk-test.true (λ e. c.if-next-row.false (sym e))
+    c.walk.invariant.ahead c.load_link-next.ensures.link in
     record {
       own = c.load_link-next.ensures.own;
       goes = goes_trans c.args.who [] [] v1 v w c.walk.invariant.goes (sees_goes c.args.who v w c.load_link-next.ensures.sees);

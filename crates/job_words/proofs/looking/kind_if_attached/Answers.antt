@@ -10,8 +10,11 @@ use Rattle.job_words.proofs.looking.kind_if_attached.Goals as goal
 
 pub returns-then-row-eq0-clause-answer : goal.returns-then-row-eq0-clause-answer
 returns-then-row-eq0-clause-answer c =
-    let v = c.args.pass.now.seat.me.0 in
-    (goes_self c.args.who v c.requires.own.0.2 c.args.pass.now.done, ap (λ n. kind_of ((store_of v.seen).tree n)) c.if-row-eq0.true ∙ root_kind v.key v.seen c.args.pass.now.done)
+    let v = c.args.pass.now.seat.me.0 in (
+      goes_self c.args.who v c.requires.own.0.2 c.args.pass.now.done,
+      ap (λ n. kind_of ((store_of v.seen).tree n)) c.if-row-eq0.true
+          ∙ root_kind v.key v.seen c.args.pass.now.done,
+    )
 
 -- the hint was found
 pub returns-then-link-clause-answer : goal.returns-then-link-clause-answer
@@ -22,16 +25,26 @@ returns-then-link-clause-answer c =
     let sees = c.load_any_link-link.ensures.sees in
     let x = c.load_any_link-link.result in
     let h = sees_done size c.args.who v0 v1 c.requires.own.0.1 sees in
-    let a = hint_attached size v1 c.args.row x c.args.forest.now.small h c.load_any_link-link.ensures.word c.if-link.true in
-    (sees_goes c.args.who v0 v1 sees, link_kind v1 c.args.row (without_hint x) (link_found size v1 c.args.row x c.args.forest.now.small h a c.if-row-eq0.false c.load_any_link-link.ensures.narrow c.load_any_link-link.ensures.word))
+    let a = hint_attached size v1 c.args.row x c.args.forest.now.small h c.load_any_link-link.ensures.word c.if-link.true in (
+      sees_goes c.args.who v0 v1 sees,
+      link_kind v1 c.args.row (without_hint x)
+          (link_found size v1 c.args.row x c.args.forest.now.small h a c.if-row-eq0.false c.load_any_link-link.ensures.narrow
+          c.load_any_link-link.ensures.word),
+    )
 
 pub returns-in-None-clause-answer : goal.returns-in-None-clause-answer
 returns-in-None-clause-answer c =
     let v0 = c.args.pass.now.seat.me.0 in
     let v1 = c.load_any_link-link.new.pass.seat.me.0 in
     let v2 = c.load_word-number.new.pass.seat.me.0 in
-    let g = goes_trans c.args.who [] [] v0 v1 v2 (sees_goes c.args.who v0 v1 c.load_any_link-link.ensures.sees) (sees_goes c.args.who v1 v2 c.load_word-number.ensures.sees) in
-    (v2, g, goes_self c.args.who v2 c.load_word-number.ensures.own.0.2 c.load_word-number.new.pass.done, not_a_word v2 c.args.row c.load_word-number.result (c.load_word-number.ensures.found.job c.args.row refl) (λ w. c.in-None.ensures w))
+    let g = goes_trans c.args.who [] [] v0 v1 v2 (sees_goes c.args.who v0 v1 c.load_any_link-link.ensures.sees)
+    (sees_goes c.args.who v1 v2 c.load_word-number.ensures.sees) in (
+      v2,
+      g,
+      goes_self c.args.who v2 c.load_word-number.ensures.own.0.2 c.load_word-number.new.pass.done,
+      not_a_word v2 c.args.row c.load_word-number.result (c.load_word-number.ensures.found.job c.args.row refl)
+          (λ w. c.in-None.ensures w),
+    )
 
 pub is_child-requires-clause-parent : goal.is_child-requires-clause-parent
 is_child-requires-clause-parent c =
@@ -41,7 +54,9 @@ is_child-requires-clause-parent c =
     let v2 = c.load_word-number.new.pass.seat.me.0 in
     let x = c.load_any_link-link.result in
     attached_sees c.args.who v1 v2 x.parent c.load_word-number.ensures.sees
-    (link_above size v1 c.args.row x c.args.forest.now.small (sees_done size c.args.who v0 v1 c.requires.own.0.1 c.load_any_link-link.ensures.sees) c.load_any_link-link.ensures.narrow c.load_any_link-link.ensures.word c.if-link.false)
+    (link_above size v1 c.args.row x c.args.forest.now.small
+    (sees_done size c.args.who v0 v1 c.requires.own.0.1 c.load_any_link-link.ensures.sees) c.load_any_link-link.ensures.narrow
+    c.load_any_link-link.ensures.word c.if-link.false)
 
 pub returns-then-not-is_child-clause-answer : goal.returns-then-not-is_child-clause-answer
 returns-then-not-is_child-clause-answer c =
@@ -51,7 +66,10 @@ returns-then-not-is_child-clause-answer c =
     let v2 = c.load_word-number.new.pass.seat.me.0 in
     let v3 = c.is_child.new.pass.seat.me.0 in
     let sees = c.load_any_link-link.ensures.sees in
-    not_among size c.args.who c.args.row v0 v1 v2 v3 c.load_any_link-link.result c.args.forest.now.small c.load_any_link-link.ensures.own.0.1 (sees_done size c.args.who v0 v1 c.requires.own.0.1 sees) c.if-row-eq0.false (sees_goes c.args.who v0 v1 sees) (sees_goes c.args.who v1 v2 c.load_word-number.ensures.sees) c.load_any_link-link.ensures.narrow c.load_any_link-link.ensures.word c.if-not-is_child.ensures.found
+    not_among size c.args.who c.args.row v0 v1 v2 v3 c.load_any_link-link.result c.args.forest.now.small
+    c.load_any_link-link.ensures.own.0.1 (sees_done size c.args.who v0 v1 c.requires.own.0.1 sees) c.if-row-eq0.false
+    (sees_goes c.args.who v0 v1 sees) (sees_goes c.args.who v1 v2 c.load_word-number.ensures.sees) c.load_any_link-link.ensures.narrow
+    c.load_any_link-link.ensures.word c.if-not-is_child.ensures.found
 
 pub returns-clause-answer : goal.returns-clause-answer
 returns-clause-answer c =
@@ -60,6 +78,7 @@ returns-clause-answer c =
     let v2 = c.load_word-number.new.pass.seat.me.0 in
     let v3 = c.is_child.new.pass.seat.me.0 in
     let v4 = c.load_link.new.pass.seat.me.0 in
-    let a = goes_trans c.args.who [] [] v0 v1 v2 (sees_goes c.args.who v0 v1 c.load_any_link-link.ensures.sees) (sees_goes c.args.who v1 v2 c.load_word-number.ensures.sees) in
+    let a = goes_trans c.args.who [] [] v0 v1 v2 (sees_goes c.args.who v0 v1 c.load_any_link-link.ensures.sees)
+    (sees_goes c.args.who v1 v2 c.load_word-number.ensures.sees) in
     let b = goes_trans c.args.who [] [] v2 v3 v4 c.if-not-is_child.ensures.found.0 (sees_goes c.args.who v3 v4 c.load_link.ensures.sees) in
     (goes_trans c.args.who [] [] v0 v2 v4 a b, link_kind v4 c.args.row (without_hint c.load_link.result) c.load_link.ensures.link)

@@ -8,11 +8,14 @@ unreachable-requires c =
     let v = c.args.pass.now.seat.me.0 in
     let w = c.load_word-number.new.pass.seat.me.0 in
     let size = c.args.forest.now.size in
-    let lt = link_small size w c.args.row c.load_word-number.result c.args.forest.now.small (sees_done size c.args.who v w c.requires.own.0.1 c.load_word-number.ensures.sees) (c.load_word-number.ensures.found.link c.args.row c.requires.child refl) in
+    let lt = link_small size w c.args.row c.load_word-number.result c.args.forest.now.small
+    (sees_done size c.args.who v w c.requires.own.0.1 c.load_word-number.ensures.sees)
+    (c.load_word-number.ensures.found.link c.args.row c.requires.child refl) in
     let le = c.in-None.ensures.none in
     omega arith
 
 pub returns-clause-word : goal.returns-clause-word
 returns-clause-word c =
     let w = c.load_word-number.new.pass.seat.me.0 in
-    subst (MayBeLink (store_of w.seen) c.args.row) (sym c.in-Some.ensures.word.0) (c.load_word-number.ensures.found.link c.args.row c.requires.child refl)
+    subst (MayBeLink (store_of w.seen) c.args.row) (sym c.in-Some.ensures.word.0)
+    (c.load_word-number.ensures.found.link c.args.row c.requires.child refl)

@@ -8,7 +8,8 @@ new_history-requires-clause-legal c = nothing_yet c.args.cells
 
 pub new_history-requires-clause-fit : goal.new_history-requires-clause-fit
 new_history-requires-clause-fit c i h =
-    first_fits c.as_slice.result.now i (ap (λ l. get_or l i 0) (c.as_slice.ensures.value ∙ c.in_ok-words.ensures.items_if_clones_equal (λ y e. e)) ∙ get_or-replicate _ i 0 0 (omega arith))
+    first_fits c.as_slice.result.now i (ap (λ l. get_or l i 0) (c.as_slice.ensures.value
+    ∙ c.in_ok-words.ensures.items_if_clones_equal (λ y e. e)) ∙ get_or-replicate _ i 0 0 (omega arith))
 
 pub invariant_of-result-2 : goal.invariant_of-result-2
 invariant_of-result-2 c =

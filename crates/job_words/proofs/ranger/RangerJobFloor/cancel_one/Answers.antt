@@ -12,4 +12,5 @@ pub cancel_one-requires-clause-reason : goal.cancel_one-requires-clause-reason
 cancel_one-requires-clause-reason c =
     let r = c.args.self.now in
     let v = r.pass.now.seat.me.0 in
-    subst (λ (k : ForestSize). Holds (shape_of k) (store_of v.seen).tree c.args.who c.args.row c.args.reason) r.of.1 (holds_seen (shape_of v.key) v.seen c.args.who c.args.row c.args.reason c.requires.reason)
+    subst (λ (k : ForestSize). Holds (shape_of k) (store_of v.seen).tree c.args.who c.args.row c.args.reason) r.of.1
+    (holds_seen (shape_of v.key) v.seen c.args.who c.args.row c.args.reason c.requires.reason)
