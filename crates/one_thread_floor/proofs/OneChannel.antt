@@ -1,32 +1,33 @@
--- One channel becomes another, and all other channels stay.
-use Rattle.std.specs.Prelude.{◌≡◌, ℕ, zero, suc, ◌<◌, ◌≢◌, ◌==◌, Bool, true, false, ◌&&◌, List, [], ◌∷◌, Option, Some, None, length, option_map, slice_get, slice_set, refl, if◌then◌else◌}
-use Rattle.std.proofs.Common.{get_or, sym, ap, ◌∙◌, arith}
+-- One channel becomes another, or one slot of it, and all others stay.
+use Rattle.std.specs.Prelude.{◌≡◌, ℕ, zero, suc, ◌<◌, ◌≢◌, ◌==◌, Bool, true, false, ◌&&◌, List, [], ◌∷◌, Option, Some, None, length, slice_get, slice_set, refl, if◌then◌else◌}
+use Rattle.std.proofs.Common.{get_or, sym, ap, ◌∙◌, subst, arith}
 use Rattle.std.proofs.lemmas.Bool.{eqb-true, eqb-false}
+use Rattle.std.proofs.lemmas.List.{length-set}
 use Rattle.co_base.specs.declared.names.WaitId.{WaitId}
 use Rattle.channel_model.specs.Channels.{Channel, Wait, same_wait}
 use Rattle.channel_model.specs.Effects.{put_channel}
 use Rattle.one_thread_floor.specs.declared.list_channel.ListChannel.{ListChannel}
 use Rattle.one_thread_floor.specs.declared.list_channel.ListClause.{ListClause}
 use Rattle.one_thread_floor.specs.declared.list_channel.ListSlot.{ListSlot}
-use Rattle.one_thread_floor.specs.ListStands.{channel_of, channel_or_empty, channel_in, places_in, wait_of_slot, wait_in_slot, wait_in_channel, wait_in, clauses_in_slot, clauses_in_channel, clauses_in, SamePlaces, SameShape, SameChannels, SameWaits, SameClauses, OneSlot, OneWait, Becomes}
+use Rattle.one_thread_floor.specs.ListStands.{channel_of, channel_or_empty, channel_in, places_in, wait_of_slot, wait_in_slot, wait_in_channel, wait_in, clauses_of_slot, clauses_in_slot, clauses_in_channel, clauses_in, SamePlaces, SameShape, SameChannels, SameWaits, SameClauses, WaitBecomes, Becomes}
 use Rattle.one_thread_floor.proofs.ListClauses.{waits_kept, clauses_kept}
 
-got_put : (xs : List ListChannel) (c : ℕ) (new : ListChannel) → c < length xs → slice_get (slice_set xs c new) c ≡ Some new
-got_put [] c new lt = absurd (omega arith)
+got_put : {X : Type 0} (xs : List X) (i : ℕ) (new : X) → i < length xs → slice_get (slice_set xs i new) i ≡ Some new
+got_put [] i new lt = absurd (omega arith)
 got_put (x ∷ xs) zero new lt = refl
-got_put (x ∷ xs) (suc c) new lt = got_put xs c new (omega arith)
+got_put (x ∷ xs) (suc i) new lt = got_put xs i new (omega arith)
 
-got_other : (xs : List ListChannel) (c d : ℕ) (new : ListChannel) → c ≢ d → slice_get (slice_set xs c new) d ≡ slice_get xs d
-got_other [] c d new n = refl
+got_other : {X : Type 0} (xs : List X) (i j : ℕ) (new : X) → i ≢ j → slice_get (slice_set xs i new) j ≡ slice_get xs j
+got_other [] i j new n = refl
 got_other (x ∷ xs) zero zero new n = absurd (n refl)
-got_other (x ∷ xs) zero (suc d) new n = refl
-got_other (x ∷ xs) (suc c) zero new n = refl
-got_other (x ∷ xs) (suc c) (suc d) new n = got_other xs c d new (λ e. n (ap suc e))
+got_other (x ∷ xs) zero (suc j) new n = refl
+got_other (x ∷ xs) (suc i) zero new n = refl
+got_other (x ∷ xs) (suc i) (suc j) new n = got_other xs i j new (λ e. n (ap suc e))
 
-got_here : (xs : List ListChannel) (c : ℕ) (old : ListChannel) → c < length xs → old ≡ get_or xs c old → slice_get xs c ≡ Some old
-got_here [] c old lt e = absurd (omega arith)
+got_here : {X : Type 0} (xs : List X) (i : ℕ) (old : X) → i < length xs → old ≡ get_or xs i old → slice_get xs i ≡ Some old
+got_here [] i old lt e = absurd (omega arith)
 got_here (x ∷ xs) zero old lt e = ap Some (sym e)
-got_here (x ∷ xs) (suc c) old lt e = got_here xs c old (omega arith) e
+got_here (x ∷ xs) (suc i) old lt e = got_here xs i old (omega arith) e
 
 -- ---- which numbers are those of channels
 
@@ -85,7 +86,8 @@ becomes xs c old new x lt e is same waits clauses = record {
 
 -- ---- what f makes of a channel is put in its place
 
-here : (xs : List ListChannel) (c : ℕ) (old : ListChannel) → c < length xs → old ≡ get_or xs c old → channel_of old ≡ channel_in xs c
+-- the channel of this number as the vector hands it out
+pub here : (xs : List ListChannel) (c : ℕ) (old : ListChannel) → c < length xs → old ≡ get_or xs c old → channel_of old ≡ channel_in xs c
 here xs c old lt e = sym (ap channel_or_empty (got_here xs c old lt e))
 
 pub put_in : (xs : List ListChannel) (c : ℕ) (old new : ListChannel) (f : Channel → Channel) → c < length xs → old ≡ get_or xs c old
@@ -93,7 +95,8 @@ pub put_in : (xs : List ListChannel) (c : ℕ) (old new : ListChannel) (f : Chan
     → ((p : ℕ) → wait_in_channel (Some new) p ≡ wait_in_channel (Some old) p)
     → ((p : ℕ) → clauses_in_channel (Some new) p ≡ clauses_in_channel (Some old) p)
     → Becomes c (f (channel_in xs c)) xs (slice_set xs c new)
-put_in xs c old new f lt e is same waits clauses = becomes xs c old new (f (channel_in xs c)) lt e (is ∙ ap f (here xs c old lt e)) same waits clauses
+put_in xs c old new f lt e is same waits clauses = becomes xs c old new (f (channel_in xs c)) lt e (is
+    ∙ ap f (here xs c old lt e)) same waits clauses
 
 pub changed_in : (xs : List ListChannel) (c : ℕ) (old new : ListChannel) (f : Channel → Channel) → c < length xs → old ≡ get_or xs c old
     → channel_of new ≡ f (channel_of old) → SamePlaces old new → Becomes c (f (channel_in xs c)) xs (slice_set xs c new)
@@ -111,88 +114,127 @@ pub left_receivers : (xs : List ListChannel) (c : ℕ) (old new : ListChannel) �
     → channel_of new ≡ record (channel_of old) { receivers = new.receivers.items } → SamePlaces old new
     → Becomes c (record (channel_in xs c) { receivers = (channel_in (slice_set xs c new) c).receivers }) xs (slice_set xs c new)
 left_receivers xs c old new lt e is same =
-    rw (ap channel_or_empty (got_put xs c new lt)) (changed_in xs c old new (λ ch. record ch { receivers = new.receivers.items }) lt e is same)
+    rw (ap channel_or_empty (got_put xs c new lt)) (changed_in xs c old new (λ ch. record ch { receivers = new.receivers.items }) lt e is
+    same)
 
 -- ---- no channel changes, but for one of its waits
 
-pub same_shape : (xs : List ListChannel) (c : ℕ) (old new : ListChannel) → old ≡ get_or xs c old → new.places ≡ old.places → SameShape xs (slice_set xs c new)
+pub same_shape : (xs : List ListChannel) (c : ℕ) (old new : ListChannel) → old ≡ get_or xs c old → new.places ≡ old.places
+    → SameShape xs (slice_set xs c new)
 same_shape xs c old new e same = record { count = count_put xs c new; places = places_put xs c old new e same }
 
-pub same_channels : (xs : List ListChannel) (c : ℕ) (old new : ListChannel) → old ≡ get_or xs c old → channel_of new ≡ channel_of old → SameChannels xs (slice_set xs c new)
+pub same_channels : (xs : List ListChannel) (c : ℕ) (old new : ListChannel) → old ≡ get_or xs c old → channel_of new ≡ channel_of old
+    → SameChannels xs (slice_set xs c new)
 same_channels [] c old new e h d = refl
 same_channels (x ∷ xs) zero old new e h zero = h ∙ ap channel_of e
 same_channels (x ∷ xs) zero old new e h (suc d) = refl
 same_channels (x ∷ xs) (suc c) old new e h zero = refl
 same_channels (x ∷ xs) (suc c) old new e h (suc d) = same_channels xs c old new e h d
 
-pub same_waits : (xs : List ListChannel) (c : ℕ) (old new : ListChannel) → old ≡ get_or xs c old → SamePlaces old new → SameWaits xs (slice_set xs c new)
+pub same_waits : (xs : List ListChannel) (c : ℕ) (old new : ListChannel) → old ≡ get_or xs c old → SamePlaces old new
+    → SameWaits xs (slice_set xs c new)
 same_waits xs c old new e same v = waits_kept xs c old new e (λ p. rw same.slots refl) v.channel v.place
 
-pub same_clauses : (xs : List ListChannel) (c : ℕ) (old new : ListChannel) → old ≡ get_or xs c old → SamePlaces old new → SameClauses xs (slice_set xs c new)
+pub same_clauses : (xs : List ListChannel) (c : ℕ) (old new : ListChannel) → old ≡ get_or xs c old → SamePlaces old new
+    → SameClauses xs (slice_set xs c new)
 same_clauses xs c old new e same v = clauses_kept xs c old new e (λ p. rw same.slots refl) v.channel v.place
 
-pub has_wait : (P : Option Wait → Type 0) → (P None → ⊥) → (xs : List ListChannel) (c p : ℕ) → P (wait_in_channel (slice_get xs c) p) → c < length xs
-has_wait P n [] c p h = absurd (n h)
-has_wait P n (x ∷ xs) zero p h = omega arith
-has_wait P n (x ∷ xs) (suc c) p h = let k : c < length xs = has_wait P n xs c p h in omega (arith, k)
+-- ---- a slot becomes another, and with it a wait
 
-slot_becomes : (a b : Option ListSlot) (f : Option Wait → Option Wait) → f None ≡ None
-    → option_map wait_of_slot a ≡ option_map (λ x. f (wait_of_slot x)) b → wait_in_slot a ≡ f (wait_in_slot b)
-slot_becomes None None f none h = sym none
-slot_becomes None (Some s) f none h = cc
-slot_becomes (Some r) None f none h = cc
-slot_becomes (Some r) (Some s) f none h = cc
+pub has_some : {X : Type 0} (P : Option X → Type 0) → (P None → ⊥) → (xs : List X) (i : ℕ) → P (slice_get xs i) → i < length xs
+has_some P n [] i h = absurd (n h)
+has_some P n (x ∷ xs) zero h = omega arith
+has_some P n (x ∷ xs) (suc i) h = let k : i < length xs = has_some P n xs i h in omega (arith, k)
 
-pub one_wait : (xs : List ListChannel) (w : WaitId) (f : Option Wait → Option Wait) (old new : ListChannel) → f None ≡ None
-    → w.channel < length xs → old ≡ get_or xs w.channel old → OneSlot w.place f old new → OneWait w f xs (slice_set xs w.channel new)
-one_wait xs w f old new none lt e s v = by_test (w.channel == v.channel) (w.place == v.place) refl refl
+pub has_wait : (P : Option Wait → Type 0) → (P None → ⊥) → (xs : List ListChannel) (w : WaitId) → P (wait_in xs w)
+    → w.channel < length xs
+has_wait P n xs w h = has_some (λ ch. P (wait_in_channel ch w.place)) n xs w.channel h
+
+pub has_slot : (P : Option Wait → Type 0) → (P None → ⊥) → (xs : List ListChannel) (w : WaitId) (old : ListChannel)
+    → old ≡ get_or xs w.channel old → P (wait_in xs w) → w.place < length old.slots.items
+has_slot P n xs w old e h =
+    has_some (λ slot. P (wait_in_slot slot)) n old.slots.items w.place (subst (λ ch. P (wait_in_channel ch w.place))
+    (got_here xs w.channel old (has_wait P n xs w h) e) h)
+
+-- the slot at this place is another, and nothing else of the channel
+pub record IsSlotPut (place : ℕ) (slot : ListSlot) (old new : ListChannel) : Type 0 where
+  pub slots : new.slots.items ≡ slice_set old.slots.items place slot
+  pub others : channel_of new ≡ record (channel_of old) { next = length new.slots.items }
+  pub places : new.places ≡ old.places
+
+-- what is read of the slot that was put, and of all others
+slot_put : {Y : Type 0} (got : Option ListChannel → ℕ → Y) (read : Option ListSlot → Y)
+    → ((ch : ListChannel) (p : ℕ) → got (Some ch) p ≡ read (slice_get ch.slots.items p))
+    → (f : Y → Y) (xs : List ListChannel) (w : WaitId) (old new : ListChannel) (before slot : ListSlot)
+    → w.channel < length xs → old ≡ get_or xs w.channel old
+    → w.place < length old.slots.items → before ≡ get_or old.slots.items w.place before
+    → IsSlotPut w.place slot old new → read (Some slot) ≡ f (read (Some before)) → (v : WaitId)
+    → got (slice_get (slice_set xs w.channel new) v.channel) v.place
+    ≡ (if same_wait w v then f (got (slice_get xs w.channel) w.place) else got (slice_get xs v.channel) v.place)
+slot_put {Y} got read reads f xs w old new before slot lt e within is put becomes v =
+    by_test (w.channel == v.channel) (w.place == v.place) refl refl
   where
-    at : ℕ → ℕ → Option Wait
-    at d p = wait_in_channel (slice_get (slice_set xs w.channel new) d) p
+    at : ℕ → ℕ → Y
+    at d p = got (slice_get (slice_set xs w.channel new) d) p
 
-    by_test : (a b : Bool) → (w.channel == v.channel) ≡ a → (w.place == v.place) ≡ b → at v.channel v.place ≡ (if a && b then f (wait_in xs w) else wait_in xs v)
+    put_at : (p : ℕ) → at w.channel p ≡ read (slice_get (slice_set old.slots.items w.place slot) p)
+    put_at p = ap (λ ch. got ch p) (got_put xs w.channel new lt) ∙ reads new p ∙ ap (λ l. read (slice_get l p)) put.slots
+
+    was_at : (p : ℕ) → read (slice_get old.slots.items p) ≡ got (slice_get xs w.channel) p
+    was_at p = sym (reads old p) ∙ ap (λ ch. got ch p) (sym (got_here xs w.channel old lt e))
+
+    by_test : (a b : Bool) → (w.channel == v.channel) ≡ a → (w.place == v.place) ≡ b
+        → at v.channel v.place
+        ≡ (if a && b then f (got (slice_get xs w.channel) w.place) else got (slice_get xs v.channel) v.place)
     by_test true true i j =
         ap (λ d. at d v.place) (sym (eqb-true w.channel v.channel i))
         ∙ ap (at w.channel) (sym (eqb-true w.place v.place j))
-        ∙ ap (λ (ch : Option ListChannel). wait_in_channel ch w.place) (got_put xs w.channel new lt)
-        ∙ slot_becomes (slice_get new.slots.items w.place) (slice_get old.slots.items w.place) f none s.slot
-        ∙ ap (λ (ch : Option ListChannel). f (wait_in_channel ch w.place)) (sym (got_here xs w.channel old lt e))
+        ∙ put_at w.place
+        ∙ ap read (got_put old.slots.items w.place slot within)
+        ∙ becomes
+        ∙ ap (λ x. f (read x)) (sym (got_here old.slots.items w.place before within is))
+        ∙ ap f (was_at w.place)
     by_test true false i j =
         ap (λ d. at d v.place) (sym (eqb-true w.channel v.channel i))
-        ∙ ap (λ (ch : Option ListChannel). wait_in_channel ch v.place) (got_put xs w.channel new lt)
-        ∙ ap wait_in_slot (s.others v.place (λ k. eqb-false w.place v.place j (sym k)))
-        ∙ ap (λ (ch : Option ListChannel). wait_in_channel ch v.place) (sym (got_here xs w.channel old lt e))
-        ∙ ap (λ d. wait_in_channel (slice_get xs d) v.place) (eqb-true w.channel v.channel i)
-    by_test false b i j = ap (λ (ch : Option ListChannel). wait_in_channel ch v.place) (got_other xs w.channel v.channel new (eqb-false w.channel v.channel i))
+        ∙ put_at v.place
+        ∙ ap read (got_other old.slots.items w.place v.place slot (eqb-false w.place v.place j))
+        ∙ was_at v.place
+        ∙ ap (λ d. got (slice_get xs d) v.place) (eqb-true w.channel v.channel i)
+    by_test false b i j = ap (λ ch. got ch v.place) (got_other xs w.channel v.channel new (eqb-false w.channel v.channel i))
 
-pub slot_keeps_clauses : (xs : List ListChannel) (w : WaitId) (f : Option Wait → Option Wait) (old new : ListChannel) → old ≡ get_or xs w.channel old → OneSlot w.place f old new
-    → clauses_in_channel (Some new) w.place ≡ clauses_in_channel (Some old) w.place → SameClauses xs (slice_set xs w.channel new)
-slot_keeps_clauses xs w f old new e s h v = clauses_kept xs w.channel old new e (λ p. by_test p (w.place == p) refl) v.channel v.place
+pub wait_becomes : (P : Option Wait → Type 0) → (P None → ⊥)
+    → (f : Option Wait → Option Wait) (xs : List ListChannel) (w : WaitId) (old new : ListChannel) (before slot : ListSlot)
+    → P (wait_in xs w) → old ≡ get_or xs w.channel old → before ≡ get_or old.slots.items w.place before
+    → IsSlotPut w.place slot old new → wait_of_slot slot ≡ f (wait_of_slot before)
+    → WaitBecomes w f xs (slice_set xs w.channel new)
+wait_becomes P n f xs w old new before slot h e is put becomes = record {
+  shape = same_shape xs w.channel old new e put.places;
+  channels = same_channels xs w.channel old new e (put.others
+      ∙ ap (λ m. record (channel_of old) { next = m }) (ap length put.slots ∙ length-set old.slots.items w.place slot));
+  waits = slot_put wait_in_channel wait_in_slot (λ ch p. refl) f xs w old new before slot (has_wait P n xs w h) e
+      (has_slot P n xs w old e h) is put becomes;
+}
+
+pub clauses_become : (P : Option Wait → Type 0) → (P None → ⊥)
+    → (f : List ListClause → List ListClause) (xs : List ListChannel) (w : WaitId) (old new : ListChannel) (before slot : ListSlot)
+    → P (wait_in xs w) → old ≡ get_or xs w.channel old → before ≡ get_or old.slots.items w.place before
+    → IsSlotPut w.place slot old new → clauses_of_slot slot ≡ f (clauses_of_slot before)
+    → (v : WaitId) → clauses_in (slice_set xs w.channel new) v ≡ (if same_wait w v then f (clauses_in xs w) else clauses_in xs v)
+clauses_become P n f xs w old new before slot h e is put becomes =
+    slot_put clauses_in_channel clauses_in_slot (λ ch p. refl) f xs w old new before slot (has_wait P n xs w h) e
+    (has_slot P n xs w old e h) is put becomes
+
+pub clauses_stay : (P : Option Wait → Type 0) → (P None → ⊥)
+    → (xs : List ListChannel) (w : WaitId) (old new : ListChannel) (before slot : ListSlot)
+    → P (wait_in xs w) → old ≡ get_or xs w.channel old → before ≡ get_or old.slots.items w.place before
+    → IsSlotPut w.place slot old new → clauses_of_slot slot ≡ clauses_of_slot before → SameClauses xs (slice_set xs w.channel new)
+clauses_stay P n xs w old new before slot h e is put becomes v =
+    clauses_become P n (λ ys. ys) xs w old new before slot h e is put becomes v
+    ∙ by_test (w.channel == v.channel) (w.place == v.place) refl refl
   where
-    by_test : (p : ℕ) (b : Bool) → (w.place == p) ≡ b → clauses_in_channel (Some new) p ≡ clauses_in_channel (Some old) p
-    by_test p true i = ap (clauses_in_channel (Some new)) (sym (eqb-true w.place p i)) ∙ h ∙ ap (clauses_in_channel (Some old)) (eqb-true w.place p i)
-    by_test p false i = ap clauses_in_slot (s.others p (λ k. eqb-false w.place p i (sym k)))
-
-pub one_slot_clauses : (xs : List ListChannel) (w : WaitId) (f : Option Wait → Option Wait) (g : List ListClause → List ListClause) (old new : ListChannel)
-    → w.channel < length xs → old ≡ get_or xs w.channel old → OneSlot w.place f old new
-    → clauses_in_channel (Some new) w.place ≡ g (clauses_in_channel (Some old) w.place)
-    → (v : WaitId) → clauses_in (slice_set xs w.channel new) v ≡ (if same_wait w v then g (clauses_in xs w) else clauses_in xs v)
-one_slot_clauses xs w f g old new lt e s h v = by_test (w.channel == v.channel) (w.place == v.place) refl refl
-  where
-    at : ℕ → ℕ → List ListClause
-    at d p = clauses_in_channel (slice_get (slice_set xs w.channel new) d) p
-
-    by_test : (a b : Bool) → (w.channel == v.channel) ≡ a → (w.place == v.place) ≡ b → at v.channel v.place ≡ (if a && b then g (clauses_in xs w) else clauses_in xs v)
-    by_test true true i j =
-        ap (λ d. at d v.place) (sym (eqb-true w.channel v.channel i))
-        ∙ ap (at w.channel) (sym (eqb-true w.place v.place j))
-        ∙ ap (λ (ch : Option ListChannel). clauses_in_channel ch w.place) (got_put xs w.channel new lt)
-        ∙ h
-        ∙ ap (λ (ch : Option ListChannel). g (clauses_in_channel ch w.place)) (sym (got_here xs w.channel old lt e))
-    by_test true false i j =
-        ap (λ d. at d v.place) (sym (eqb-true w.channel v.channel i))
-        ∙ ap (λ (ch : Option ListChannel). clauses_in_channel ch v.place) (got_put xs w.channel new lt)
-        ∙ ap clauses_in_slot (s.others v.place (λ k. eqb-false w.place v.place j (sym k)))
-        ∙ ap (λ (ch : Option ListChannel). clauses_in_channel ch v.place) (sym (got_here xs w.channel old lt e))
-        ∙ ap (λ d. clauses_in_channel (slice_get xs d) v.place) (eqb-true w.channel v.channel i)
-    by_test false b i j = ap (λ (ch : Option ListChannel). clauses_in_channel ch v.place) (got_other xs w.channel v.channel new (eqb-false w.channel v.channel i))
+    by_test : (a b : Bool) → (w.channel == v.channel) ≡ a → (w.place == v.place) ≡ b
+        → (if a && b then clauses_in xs w else clauses_in xs v) ≡ clauses_in xs v
+    by_test true true i j = ap (λ d. clauses_in_channel (slice_get xs d) w.place) (eqb-true w.channel v.channel i)
+        ∙ ap (clauses_in_channel (slice_get xs v.channel)) (eqb-true w.place v.place j)
+    by_test true false i j = refl
+    by_test false b i j = refl

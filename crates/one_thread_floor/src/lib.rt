@@ -9,7 +9,7 @@
 //! - `list_queries`: what the lists say.
 //! - `list_removal`: how a wait that is resolved leaves the channels.
 //! - `list_places`: how places are given out.
-//! - `list_changes`: how a channel is closed and cancelled, and how a wait is settled.
+//! - `list_settling`: how a wait is settled.
 //! - `list_firsts`: how the first receiver or the first offer goes.
 //! - `list_admission`: which offer is kept next, and how.
 //! - `list_clauses`: how a clause is placed; `list_acts`: the acts that two calls share.
@@ -25,7 +25,6 @@ mod entries;
 mod list_acts;
 mod list_admission;
 mod list_calls;
-mod list_changes;
 mod list_channel;
 mod list_clauses;
 mod list_firsts;
@@ -34,6 +33,7 @@ mod list_new;
 mod list_places;
 mod list_queries;
 mod list_removal;
+mod list_settling;
 mod list_spurns;
 mod tree_calls;
 mod tree_claims;

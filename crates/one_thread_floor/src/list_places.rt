@@ -4,7 +4,7 @@
 ghost use Rattle.std.specs.Prelude.{◌≡◌, ℕ, ◌+◌, ◌<◌, ◌≤◌, length, vec_len, IsSome, Some, None, true, if◌then◌else◌, ◌==◌, [], ◌∷◌, ◌++◌};
 ghost use Rattle.channel_model.specs.Channels.{same_wait};
 ghost use Rattle.channel_model.specs.Effects.{place_receiver, place_offer, name_clause};
-ghost use Rattle.one_thread_floor.specs.ListStands.{places_in, wait_in_channel, wait_of_slot, channel_of, channel_in, wait_in, clauses_of, clauses_of_slot, clauses_in_channel, clauses_in, named, held_offer, held_receiver, with_clause, SameShape, SameChannels, Becomes, BeginsWait, JoinsClause, OneWait, OneSlot};
+ghost use Rattle.one_thread_floor.specs.ListStands.{places_in, wait_in_channel, wait_of_slot, channel_of, channel_in, wait_in, clauses_of, clauses_of_slot, clauses_in_channel, clauses_in, named, held_offer, held_receiver, with_clause, WaitBecomes, Becomes, BeginsWait, JoinsClause};
 
 use crate::list_channel::{ListChannel, ListClause, ListSlot, Progress, SelectWait};
 use crate::list_queries::next_place;
@@ -54,28 +54,9 @@ fn place_receiver(channel: &mut ListChannel, slot: ListSlot, receiver: Receiver)
     channel.receivers.push_back_reserved(receiver);
 }
 
-fn append_offer_to(channel: &mut ListChannel, value: Value, holder: Option<Party>) -> Place
-    requires { vec_len channel.old.slots < channel.old.places }
-    ensures place { result ≡ vec_len channel.old.slots }
-    ensures channel { channel_of channel.new
-        ≡ place_offer true (record { place = result; value = value; holder = holder }) (channel_of channel.old) }
-    ensures slots { (p : ℕ) → wait_in_channel (Some channel.new) p ≡ wait_in_channel (Some channel.old) p }
-    ensures clauses { (p : ℕ) → clauses_in_channel (Some channel.new) p ≡ clauses_in_channel (Some channel.old) p }
-    ensures places { channel.new.places ≡ channel.old.places }
-{
-    let place = channel.slots.len() as Place;
-    let offer = Standing {
-        place,
-        value,
-        holder,
-    };
-    place_offer(channel, ListSlot::Nobody, offer);
-    place
-}
-
 /// Gives out a place to an offer, at which no wait begins.
 #[inline(always)]
-pub fn append_offer(
+pub(crate) fn append_offer(
     channels: &mut Vec<ListChannel>,
     c: ChannelId,
     value: Value,
@@ -87,20 +68,16 @@ pub fn append_offer(
         (place_offer true (record { place = result; value = value; holder = holder }) (channel_in channels.old.items c))
         channels.old.items channels.new.items }
 {
-    append_offer_to(&mut channels[c as usize], value, holder)
-}
-
-fn append_receiver_to(channel: &mut ListChannel, party: Party) -> Place
-    requires { vec_len channel.old.slots < channel.old.places }
-    ensures place { result ≡ vec_len channel.old.slots }
-    ensures channel { channel_of channel.new
-        ≡ place_receiver true (record { place = result; party = party }) (channel_of channel.old) }
-    ensures slots { (p : ℕ) → wait_in_channel (Some channel.new) p ≡ wait_in_channel (Some channel.old) p }
-    ensures clauses { (p : ℕ) → clauses_in_channel (Some channel.new) p ≡ clauses_in_channel (Some channel.old) p }
-    ensures places { channel.new.places ≡ channel.old.places }
-{
-    let place = channel.slots.len() as Place;
-    place_receiver(channel, ListSlot::Nobody, Receiver { place, party });
+    let place = next_place(channels, c);
+    place_offer(
+        &mut channels[c as usize],
+        ListSlot::Nobody,
+        Standing {
+            place,
+            value,
+            holder,
+        },
+    );
     place
 }
 
@@ -112,12 +89,18 @@ fn append_receiver(channels: &mut Vec<ListChannel>, c: ChannelId, party: Party) 
         (place_receiver true (record { place = result; party = party }) (channel_in channels.old.items c))
         channels.old.items channels.new.items }
 {
-    append_receiver_to(&mut channels[c as usize], party)
+    let place = next_place(channels, c);
+    place_receiver(
+        &mut channels[c as usize],
+        ListSlot::Nobody,
+        Receiver { place, party },
+    );
+    place
 }
 
 /// Gives out a place to an offer that waits, and begins its wait.
 #[inline(always)]
-pub fn begin_offer(
+pub(crate) fn begin_offer(
     channels: &mut Vec<ListChannel>,
     c: ChannelId,
     who: Tag,
@@ -155,7 +138,12 @@ pub fn begin_offer(
 
 /// Gives out a place to a receiver, and begins its wait.
 #[inline(always)]
-pub fn begin_receiver(channels: &mut Vec<ListChannel>, c: ChannelId, who: Tag, clause: u8) -> Place
+pub(crate) fn begin_receiver(
+    channels: &mut Vec<ListChannel>,
+    c: ChannelId,
+    who: Tag,
+    clause: u8,
+) -> Place
     requires { (channel_in channels.old.items c).next < places_in channels.old.items c }
     ensures place { result ≡ (channel_in channels.old.items c).next }
     ensures change { BeginsWait who clause c result
@@ -220,25 +208,6 @@ fn push_clause(slot: &mut ListSlot, boxes: &mut Vec<Box<SelectWait>>, clause: Li
     }
 }
 
-fn push_clause_in(
-    channel: &mut ListChannel,
-    boxes: &mut Vec<Box<SelectWait>>,
-    place: usize,
-    clause: ListClause,
-)
-    requires place { place < vec_len channel.old.slots }
-    requires room { 0 < vec_len boxes.old }
-    requires there { IsSome (wait_in_channel (Some channel.old) place) }
-    requires few { length (clauses_of (wait_in_channel (Some channel.old) place)) < 7 }
-    ensures channel { channel_of channel.new ≡ channel_of channel.old }
-    ensures places { channel.new.places ≡ channel.old.places }
-    ensures waits { OneSlot place (with_clause clause.number clause.channel) channel.old channel.new }
-    ensures clauses { clauses_in_channel (Some channel.new) place ≡ clauses_in_channel (Some channel.old) place ++ clause ∷ [] }
-    ensures boxes { vec_len boxes.old ≤ vec_len boxes.new + 1 }
-{
-    push_clause(&mut channel.slots[place], boxes, clause);
-}
-
 /// Gives the wait one clause more.
 fn add_clause(
     channels: &mut Vec<ListChannel>,
@@ -249,23 +218,20 @@ fn add_clause(
     requires there { IsSome (wait_in channels.old.items w) }
     requires few { length (clauses_of (wait_in channels.old.items w)) < 7 }
     requires room { 0 < vec_len boxes.old }
-    ensures channels { SameChannels channels.old.items channels.new.items }
-    ensures waits { OneWait w (with_clause clause.number clause.channel) channels.old.items channels.new.items }
+    ensures change { WaitBecomes w (with_clause clause.number clause.channel) channels.old.items channels.new.items }
     ensures clauses { (v : WaitId) → clauses_in channels.new.items v
         ≡ (if same_wait w v then clauses_in channels.old.items w ++ clause ∷ [] else clauses_in channels.old.items v) }
-    ensures shape { SameShape channels.old.items channels.new.items }
     ensures boxes { vec_len boxes.old ≤ vec_len boxes.new + 1 }
 {
-    push_clause_in(
-        &mut channels[w.channel as usize],
+    push_clause(
+        &mut channels[w.channel as usize].slots[w.place as usize],
         boxes,
-        w.place as usize,
         clause,
     );
 }
 
 /// Gives out a place to an offer, as one more clause of the wait.
-pub fn join_offer(
+pub(crate) fn join_offer(
     channels: &mut Vec<ListChannel>,
     boxes: &mut Vec<Box<SelectWait>>,
     c: ChannelId,
@@ -298,7 +264,7 @@ pub fn join_offer(
 }
 
 /// Gives out a place to a receiver, as one more clause of the wait.
-pub fn join_receiver(
+pub(crate) fn join_receiver(
     channels: &mut Vec<ListChannel>,
     boxes: &mut Vec<Box<SelectWait>>,
     c: ChannelId,

@@ -14,7 +14,7 @@ use std::slice::from_ref;
 
 /// The kind of a channel.
 #[inline(always)]
-pub fn kind_at(kinds: &Vec<(Kind, u32)>, c: ChannelId) -> Kind
+pub(crate) fn kind_at(kinds: &Vec<(Kind, u32)>, c: ChannelId) -> Kind
     requires { c < length kinds.now.items }
     ensures { result ≡ kind_at kinds.now.items c }
 {
@@ -23,7 +23,7 @@ pub fn kind_at(kinds: &Vec<(Kind, u32)>, c: ChannelId) -> Kind
 
 /// The receiver that stands first.
 #[inline(always)]
-pub fn first_receiver(channels: &Vec<ListChannel>, c: ChannelId) -> Option<Receiver>
+pub(crate) fn first_receiver(channels: &Vec<ListChannel>, c: ChannelId) -> Option<Receiver>
     requires { c < length channels.now.items }
     ensures { result ≡ slice_get (channel_in channels.now.items c).receivers 0 }
 {
@@ -32,7 +32,7 @@ pub fn first_receiver(channels: &Vec<ListChannel>, c: ChannelId) -> Option<Recei
 
 /// The offer that stands at this index of the queue.
 #[inline(always)]
-pub fn offer_at(channels: &Vec<ListChannel>, c: ChannelId, index: usize) -> Option<Standing>
+pub(crate) fn offer_at(channels: &Vec<ListChannel>, c: ChannelId, index: usize) -> Option<Standing>
     requires { c < length channels.now.items }
     ensures { result ≡ slice_get (channel_in channels.now.items c).queue index }
 {
@@ -41,7 +41,7 @@ pub fn offer_at(channels: &Vec<ListChannel>, c: ChannelId, index: usize) -> Opti
 
 /// How many offers stand.
 #[inline(always)]
-pub fn queue_len(channels: &Vec<ListChannel>, c: ChannelId) -> usize
+pub(crate) fn queue_len(channels: &Vec<ListChannel>, c: ChannelId) -> usize
     requires { c < length channels.now.items }
     ensures { result ≡ length (channel_in channels.now.items c).queue }
 {
@@ -50,7 +50,7 @@ pub fn queue_len(channels: &Vec<ListChannel>, c: ChannelId) -> usize
 
 /// The value with which the channel was closed.
 #[inline(always)]
-pub fn closed_with(channels: &Vec<ListChannel>, c: ChannelId) -> Option<Value>
+pub(crate) fn closed_with(channels: &Vec<ListChannel>, c: ChannelId) -> Option<Value>
     requires { c < length channels.now.items }
     ensures { result ≡ (channel_in channels.now.items c).closed }
 {
@@ -58,7 +58,7 @@ pub fn closed_with(channels: &Vec<ListChannel>, c: ChannelId) -> Option<Value>
 }
 
 /// Whether the channel was cancelled.
-pub fn is_voided(channels: &Vec<ListChannel>, c: ChannelId) -> bool
+pub(crate) fn is_voided(channels: &Vec<ListChannel>, c: ChannelId) -> bool
     requires { c < length channels.now.items }
     ensures { result ≡ (channel_in channels.now.items c).voided }
 {
@@ -67,7 +67,7 @@ pub fn is_voided(channels: &Vec<ListChannel>, c: ChannelId) -> bool
 
 /// Whether all places were given out.
 #[inline(always)]
-pub fn is_spent(channels: &Vec<ListChannel>, c: ChannelId) -> bool
+pub(crate) fn is_spent(channels: &Vec<ListChannel>, c: ChannelId) -> bool
     requires { c < length channels.now.items }
     ensures { result ≡ nat_le (places_in channels.now.items c) (channel_in channels.now.items c).next }
 {
@@ -77,7 +77,7 @@ pub fn is_spent(channels: &Vec<ListChannel>, c: ChannelId) -> bool
 
 /// The place that is given out next.
 #[inline(always)]
-pub fn next_place(channels: &Vec<ListChannel>, c: ChannelId) -> Place
+pub(crate) fn next_place(channels: &Vec<ListChannel>, c: ChannelId) -> Place
     requires { c < length channels.now.items }
     ensures { result ≡ (channel_in channels.now.items c).next }
 {
@@ -96,7 +96,7 @@ fn slot_at(channels: &Vec<ListChannel>, w: WaitId) -> &ListSlot
 
 /// The coroutine that waits.
 #[inline(always)]
-pub fn owner_at(channels: &Vec<ListChannel>, w: WaitId) -> Tag
+pub(crate) fn owner_at(channels: &Vec<ListChannel>, w: WaitId) -> Tag
     requires { IsSome (wait_in channels.now.items w) }
     ensures { owner_of (wait_in channels.now.items w) ≡ Some result }
 {
@@ -120,7 +120,7 @@ fn progress_of(slot: &ListSlot) -> Progress
 
 /// How far the wait is.
 #[inline(always)]
-pub fn state_at(channels: &Vec<ListChannel>, w: WaitId) -> WaitState
+pub(crate) fn state_at(channels: &Vec<ListChannel>, w: WaitId) -> WaitState
     requires { IsSome (wait_in channels.now.items w) }
     ensures { state_of_wait (wait_in channels.now.items w) ≡ Some result }
 {
@@ -132,7 +132,7 @@ pub fn state_at(channels: &Vec<ListChannel>, w: WaitId) -> WaitState
 }
 
 /// Whether nobody resolved the wait yet.
-pub fn is_open_wait(channels: &Vec<ListChannel>, w: WaitId) -> bool
+pub(crate) fn is_open_wait(channels: &Vec<ListChannel>, w: WaitId) -> bool
     requires { IsSome (wait_in channels.now.items w) }
     ensures { result ≡ is_open (wait_in channels.now.items w) }
 {
@@ -143,7 +143,7 @@ pub fn is_open_wait(channels: &Vec<ListChannel>, w: WaitId) -> bool
 }
 
 /// Whether a select has a wait, and somebody resolved it.
-pub fn is_main_resolved(channels: &Vec<ListChannel>, main: Option<WaitId>) -> bool
+pub(crate) fn is_main_resolved(channels: &Vec<ListChannel>, main: Option<WaitId>) -> bool
     requires { ForSome main (λ w. IsSome (wait_in channels.now.items w)) }
     ensures { result ≡ is_resolved_main (wait_in channels.now.items) main }
 {
@@ -165,7 +165,7 @@ fn items(slot: &ListSlot) -> &[ListClause]
 }
 
 /// How many clauses a wait has.
-pub fn clause_count(channels: &Vec<ListChannel>, w: WaitId) -> usize
+pub(crate) fn clause_count(channels: &Vec<ListChannel>, w: WaitId) -> usize
     requires { IsSome (wait_in channels.now.items w) }
     ensures { result ≡ length (clauses_of (wait_in channels.now.items w)) }
 {
@@ -173,7 +173,7 @@ pub fn clause_count(channels: &Vec<ListChannel>, w: WaitId) -> usize
 }
 
 /// The channel of a clause of a wait.
-pub fn clause_channel(channels: &Vec<ListChannel>, w: WaitId, i: usize) -> ChannelId
+pub(crate) fn clause_channel(channels: &Vec<ListChannel>, w: WaitId, i: usize) -> ChannelId
     requires there { IsSome (wait_in channels.now.items w) }
     requires within { i < length (clauses_of (wait_in channels.now.items w)) }
     ensures { result ≡ (slice_index_or (clauses_of (wait_in channels.now.items w)) i (0, 0)).1 }
@@ -193,7 +193,7 @@ fn place_among(clauses: &[ListClause], c: ChannelId) -> Option<Place>
 }
 
 /// The place of the wait's clause at channel `c`.
-pub fn place_for(channels: &Vec<ListChannel>, w: WaitId, c: ChannelId) -> Option<Place>
+pub(crate) fn place_for(channels: &Vec<ListChannel>, w: WaitId, c: ChannelId) -> Option<Place>
     requires { IsSome (wait_in channels.now.items w) }
     ensures { result ≡ place_for c (clauses_in channels.now.items w) }
 {
