@@ -17,11 +17,13 @@ fold-range_more : {B : Type 0} (f : B → ℕ → B) (a : B) (n : ℕ) → fold 
 fold-range_more f a n = ap (fold f a) (range_with_len-more n) ∙ fold-append f a (range_with_len 0 n) (n ∷ [])
 
 -- with one more
-pub one_more : {B : Type 0} (f : B → ℕ → B) (a before new : B) (n : ℕ) → before ≡ fold f a (range_with_len 0 n) → new ≡ f before n → new ≡ fold f a (range_with_len 0 (n + 1))
+pub one_more : {B : Type 0} (f : B → ℕ → B) (a before new : B) (n : ℕ) → before ≡ fold f a (range_with_len 0 n) → new ≡ f before n
+    → new ≡ fold f a (range_with_len 0 (n + 1))
 one_more f a before new n b e = e ∙ ap (λ x. f x n) b ∙ sym (fold-range_more f a n)
 
 -- with the elements of one more channel
-pub channels_counted : (elements : ℕ → ℕ → Option (ℕ × Fate)) (c : ℕ) (n new all : ElementCounts) (channel : Channel) (rest more : List Channel)
+pub channels_counted : (elements : ℕ → ℕ → Option (ℕ × Fate)) (c : ℕ) (n new all : ElementCounts) (channel : Channel)
+    (rest more : List Channel)
     → channel ∷ more ≡ rest
     → new ≡ with_places elements c n channel.places
     → with_channels elements c n (map declared_of rest) ≡ all
@@ -30,7 +32,8 @@ channels_counted elements c n new all channel rest more r e h =
     ap (λ m. with_channels elements (c + 1) m (map declared_of more)) e ∙ ap (λ l. with_channels elements c n (map declared_of l)) r ∙ h
 
 -- what is counted by the same steps
-fold-range_same : {B : Type 0} (f g : B → ℕ → B) (a : B) (n : ℕ) → ((b : B) (r : ℕ) → r < n → f b r ≡ g b r) → fold f a (range_with_len 0 n) ≡ fold g a (range_with_len 0 n)
+fold-range_same : {B : Type 0} (f g : B → ℕ → B) (a : B) (n : ℕ) → ((b : B) (r : ℕ) → r < n → f b r ≡ g b r)
+    → fold f a (range_with_len 0 n) ≡ fold g a (range_with_len 0 n)
 fold-range_same f g a zero h = refl
 fold-range_same f g a (suc n) h =
     let m : n + 1 ≡ suc n = omega arith in
@@ -41,7 +44,8 @@ fold-range_same f g a (suc n) h =
     ∙ sym (fold-range_more g a n))
 
 -- what is counted of a row is what the acts say of it
-pub rows_counted-said : (n : ℕ) (table : List JobFacts) (acts : List JobAct) → length table ≡ n → ((r : ℕ) → r < n → facts_at table r ≡ job_facts_of r acts) → rows_counted table (length table) ≡ jobs_counted acts n
+pub rows_counted-said : (n : ℕ) (table : List JobFacts) (acts : List JobAct) → length table ≡ n
+    → ((r : ℕ) → r < n → facts_at table r ≡ job_facts_of r acts) → rows_counted table (length table) ≡ jobs_counted acts n
 rows_counted-said n table acts e h =
     ap (rows_counted table) e
     ∙ fold-range_same (λ m r. with_row_by m r (facts_at table r)) (with_row acts) no_jobs n (λ b r k. ap (with_row_by b r) (h r k))

@@ -14,11 +14,13 @@ use Rattle.run_report.specs.Known.{facts_of_wait, fate_by, element_from}
 
 -- ---- where a wait was resolved
 
-is_resolved_at-same : (acts : List Act) (c p : ℕ) (w : WaitId) (x : Option (ℕ × ℕ)) → is_resolved_at (λ d q. wait_at d q acts) c p w x ≡ resolves_elsewhere c p w acts x
+is_resolved_at-same : (acts : List Act) (c p : ℕ) (w : WaitId) (x : Option (ℕ × ℕ))
+    → is_resolved_at (λ d q. wait_at d q acts) c p w x ≡ resolves_elsewhere c p w acts x
 is_resolved_at-same acts c p w None = refl
 is_resolved_at-same acts c p w (Some x) = refl
 
-is_resolved_elsewhere-same : (acts : List Act) (c p : ℕ) (w : WaitId) → is_resolved_elsewhere (λ d q. wait_at d q acts) c p w acts ≡ is_chosen_elsewhere c p w acts
+is_resolved_elsewhere-same : (acts : List Act) (c p : ℕ) (w : WaitId)
+    → is_resolved_elsewhere (λ d q. wait_at d q acts) c p w acts ≡ is_chosen_elsewhere c p w acts
 is_resolved_elsewhere-same acts c p w = λ i. list_any (λ a. is_resolved_at-same acts c p w (resolves_at a) i) acts
 
 -- ---- the fate of one element
@@ -28,19 +30,24 @@ abbrev fate_with : List Act → ℕ → ℕ → Option WaitId → Fate
 fate_with acts c p o =
     let taken_back = not (list_any (admits c p) acts) && of_wait (λ w. list_any (withdraws w) acts) o in
     if list_any (takes c p) acts || (list_any (hands c p) acts && of_wait (λ w. list_any (settles_value w) acts) o) then fate.Received
-    else if list_any (drains c p) acts || ((list_any (hands c p) acts && of_wait (λ w. list_any (settles_undelivered w) acts) o) || of_offer (λ k. (k == 0) && taken_back) (first_some (offers_at c p) acts)) then fate.Undelivered
+    else if list_any (drains c p) acts || ((list_any (hands c p) acts && of_wait (λ w. list_any (settles_undelivered w) acts) o)
+    || of_offer (λ k. (k == 0) && taken_back) (first_some (offers_at c p) acts)) then fate.Undelivered
     else if is_dropped c p acts then fate.Dropped
     else if is_spurned c p acts then fate.Spurned
-    else if of_offer (λ k. nat_lt 0 k && (taken_back || (not (list_any (admits c p) acts) && of_wait (λ w. is_chosen_elsewhere c p w acts) o))) (first_some (offers_at c p) acts) then fate.Withdrawn
+    else if of_offer (λ k. nat_lt 0 k && (taken_back || (not (list_any (admits c p) acts)
+    && of_wait (λ w. is_chosen_elsewhere c p w acts) o))) (first_some (offers_at c p) acts) then fate.Withdrawn
     else fate.Held
 
-fate_by-wait : (acts : List Act) (c p : ℕ) (o : Option WaitId) → fate_by (facts_of c p acts) (facts_of_wait (λ d q. facts_of d q acts) o) (of_wait (λ w. is_chosen_elsewhere c p w acts) o) ≡ fate_with acts c p o
+fate_by-wait : (acts : List Act) (c p : ℕ) (o : Option WaitId)
+    → fate_by (facts_of c p acts) (facts_of_wait (λ d q. facts_of d q acts) o) (of_wait (λ w. is_chosen_elsewhere c p w acts) o) ≡
+    fate_with acts c p o
 fate_by-wait acts c p None = refl
 fate_by-wait acts c p (Some w) = refl
 
 -- ---- all elements
 
-element_from-exact : (acts : List Act) (c p : ℕ) → element_from (λ d q. facts_of d q acts) (λ d q w. is_chosen_elsewhere d q w acts) c p ≡ element_of acts c p
+element_from-exact : (acts : List Act) (c p : ℕ) → element_from (λ d q. facts_of d q acts) (λ d q w. is_chosen_elsewhere d q w acts) c p ≡
+    element_of acts c p
 element_from-exact acts c p = ap (with_fate (element_at c p acts)) (fate_by-wait acts c p (wait_at c p acts))
 
 -- two tables that say what the acts say

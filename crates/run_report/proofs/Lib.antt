@@ -2,6 +2,7 @@ pub mod Rows
 pub mod Answered
 pub mod Joining
 pub mod Told
+pub mod Resolving
 pub mod Said
 pub mod Deduced
 pub mod Lines

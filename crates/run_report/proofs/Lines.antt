@@ -18,13 +18,15 @@ map-same (x ∷ xs) = ap (λ l. x ∷ l) (map-same xs)
 
 pub range_with_len-more : (n : ℕ) → range_with_len 0 (n + 1) ≡ range_with_len 0 n ++ n ∷ []
 range_with_len-more n =
-    sym (map-same (range_with_len 0 (n + 1))) ∙ map-range_with_len_more (λ k. k) 0 n n (omega arith) ∙ ap (λ l. l ++ n ∷ []) (map-same (range_with_len 0 n))
+    sym (map-same (range_with_len 0 (n + 1))) ∙ map-range_with_len_more (λ k. k) 0 n n (omega arith)
+    ∙ ap (λ l. l ++ n ∷ []) (map-same (range_with_len 0 n))
 
 flat_map-range_more : (f : ℕ → List ℕ) (n : ℕ) → flat_map f (range_with_len 0 (n + 1)) ≡ flat_map f (range_with_len 0 n) ++ f n
 flat_map-range_more f n = ap (flat_map f) (range_with_len-more n) ∙ sym (flat_map_more f [] (range_with_len 0 n) n)
 
 -- the lines of one place more
-pub places_more : (f : ℕ → List ℕ) (out before new : List ℕ) (n : ℕ) → before ≡ out ++ flat_map f (range_with_len 0 n) → new ≡ before ++ f n → new ≡ out ++ flat_map f (range_with_len 0 (n + 1))
+pub places_more : (f : ℕ → List ℕ) (out before new : List ℕ) (n : ℕ) → before ≡ out ++ flat_map f (range_with_len 0 n) → new ≡ before ++ f n
+    → new ≡ out ++ flat_map f (range_with_len 0 (n + 1))
 places_more f out before new n b e =
     e
     ∙ ap (λ l. l ++ f n) b
@@ -32,7 +34,8 @@ places_more f out before new n b e =
     ∙ ap (λ l. out ++ l) (sym (flat_map-range_more f n))
 
 -- no line stands behind the last place that has one
-pub places_end : (f : ℕ → List ℕ) (m k n : ℕ) → m + k ≡ n → ((p : ℕ) → m ≤ p → f p ≡ []) → flat_map f (range_with_len 0 n) ≡ flat_map f (range_with_len 0 m)
+pub places_end : (f : ℕ → List ℕ) (m k n : ℕ) → m + k ≡ n → ((p : ℕ) → m ≤ p → f p ≡ [])
+    → flat_map f (range_with_len 0 n) ≡ flat_map f (range_with_len 0 m)
 places_end f m zero n e h = ap (λ (j : ℕ). flat_map f (range_with_len 0 j)) (omega (arith, e))
 places_end f m (suc k) n e h =
     let s : n ≡ (m + k) + 1 = omega (arith, e) in
@@ -57,19 +60,23 @@ channels_more elements c out new all channel rest more r n h =
 -- ---- the lines of the rows
 
 -- the lines of a range, where each is the same
-flat_map-range : (f g : ℕ → List ℕ) (n : ℕ) → ((r : ℕ) → r < n → f r ≡ g r) → flat_map f (range_with_len 0 n) ≡ flat_map g (range_with_len 0 n)
+flat_map-range : (f g : ℕ → List ℕ) (n : ℕ) → ((r : ℕ) → r < n → f r ≡ g r)
+    → flat_map f (range_with_len 0 n) ≡ flat_map g (range_with_len 0 n)
 flat_map-range f g zero h = refl
 flat_map-range f g (suc n) h =
     let m : n + 1 ≡ suc n = omega arith in
     let Same : ℕ → Type 0 = λ k. flat_map f (range_with_len 0 k) ≡ flat_map g (range_with_len 0 k) in
-    subst Same m (flat_map-range_more f n ∙ (λ i. flat_map-range f g n (λ r k. h r (omega (arith, k))) i ++ h n (omega arith) i) ∙ sym (flat_map-range_more g n))
+    subst Same m (flat_map-range_more f n ∙ (λ i. flat_map-range f g n (λ r k. h r (omega (arith, k))) i ++ h n (omega arith) i)
+    ∙ sym (flat_map-range_more g n))
 
 -- what the lines of a row are is what the acts say of it
 job_line-said : (r : ℕ) (acts : List JobAct) → job_line_by r (job_facts_of r acts) ≡ job_line r acts
 job_line-said r acts = refl
 
 -- the lines of a table that says what the acts say
-pub lines_by-table : (n : ℕ) (table : List JobFacts) (acts : List JobAct) → length table ≡ n → ((r : ℕ) → r < n → facts_at table r ≡ job_facts_of r acts) → lines_by (length table) table ≡ jobs_text n acts
+pub lines_by-table : (n : ℕ) (table : List JobFacts) (acts : List JobAct) → length table ≡ n
+    → ((r : ℕ) → r < n → facts_at table r ≡ job_facts_of r acts) → lines_by (length table) table ≡ jobs_text n acts
 lines_by-table n table acts e h =
     ap (λ k. lines_by k table) e
-    ∙ flat_map-range (λ r. job_line_by r (facts_at table r)) (λ r. job_line r acts) n (λ r k. ap (job_line_by r) (h r k) ∙ job_line-said r acts)
+    ∙ flat_map-range (λ r. job_line_by r (facts_at table r)) (λ r. job_line r acts) n (λ r k. ap (job_line_by r) (h r k)
+    ∙ job_line-said r acts)

@@ -27,23 +27,29 @@ both_said-assoc x y z = λ i. record {
 
 -- ---- one act
 
-attach_said : (b lazy cancelled : Bool) (x : JobFacts) → both_said (if b then record nothing_said { attached = true; lazy = lazy; cancelled = cancelled } else nothing_said) x ≡ record x { attached = b || x.attached; lazy = (b && lazy) || x.lazy; cancelled = (b && cancelled) || x.cancelled }
+attach_said : (b lazy cancelled : Bool) (x : JobFacts) → both_said
+    (if b then record nothing_said { attached = true; lazy = lazy; cancelled = cancelled } else nothing_said) x ≡
+    record x { attached = b || x.attached; lazy = (b && lazy) || x.lazy; cancelled = (b && cancelled) || x.cancelled }
 attach_said true l k x = refl
 attach_said false l k x = refl
 
-start_said : (b : Bool) (x : JobFacts) → both_said (if b then record nothing_said { started = true } else nothing_said) x ≡ record x { started = b || x.started }
+start_said : (b : Bool) (x : JobFacts) → both_said (if b then record nothing_said { started = true } else nothing_said) x ≡
+    record x { started = b || x.started }
 start_said true x = refl
 start_said false x = refl
 
-end_body_said : (b : Bool) (x : JobFacts) → both_said (if b then record nothing_said { body_ended = true } else nothing_said) x ≡ record x { body_ended = b || x.body_ended }
+end_body_said : (b : Bool) (x : JobFacts) → both_said (if b then record nothing_said { body_ended = true } else nothing_said) x ≡
+    record x { body_ended = b || x.body_ended }
 end_body_said true x = refl
 end_body_said false x = refl
 
-cancel_said : (b : Bool) (x : JobFacts) → both_said (if b then record nothing_said { cancelled = true } else nothing_said) x ≡ record x { cancelled = b || x.cancelled }
+cancel_said : (b : Bool) (x : JobFacts) → both_said (if b then record nothing_said { cancelled = true } else nothing_said) x ≡
+    record x { cancelled = b || x.cancelled }
 cancel_said true x = refl
 cancel_said false x = refl
 
-finish_said : (b : Bool) (end : End) (x : JobFacts) → both_said (if b then record nothing_said { end = Some end } else nothing_said) x ≡ record x { end = option_or (if b then Some end else None) x.end }
+finish_said : (b : Bool) (end : End) (x : JobFacts) → both_said (if b then record nothing_said { end = Some end } else nothing_said) x ≡
+    record x { end = option_or (if b then Some end else None) x.end }
 finish_said true end x = refl
 finish_said false end x = refl
 
@@ -52,7 +58,8 @@ gone_said true x = refl
 gone_said false x = refl
 
 -- what the first act says, with what the others say
-pub job_facts_of-cons : (r : ℕ) (a : JobAct) (acts : List JobAct) → both_said (said_of r a) (job_facts_of r acts) ≡ job_facts_of r (a ∷ acts)
+pub job_facts_of-cons : (r : ℕ) (a : JobAct) (acts : List JobAct)
+    → both_said (said_of r a) (job_facts_of r acts) ≡ job_facts_of r (a ∷ acts)
 job_facts_of-cons r (Attach p q kind tag cancelled) acts = attach_said (r == q) kind.lazy cancelled (job_facts_of r acts)
 job_facts_of-cons r (Start q) acts = start_said (r == q) (job_facts_of r acts)
 job_facts_of-cons r (EndBody q v) acts = end_body_said (r == q) (job_facts_of r acts)
@@ -72,7 +79,8 @@ job_facts_of-append r (x ∷ xs) ys =
     ∙ job_facts_of-cons r x (xs ++ ys)
 
 -- some acts more were added
-pub said_more : (before here all : JobFacts) (r : ℕ) (acts more : List JobAct) → here ≡ both_said before (job_facts_of r acts) → both_said before (job_facts_of r (acts ++ more)) ≡ all → both_said here (job_facts_of r more) ≡ all
+pub said_more : (before here all : JobFacts) (r : ℕ) (acts more : List JobAct) → here ≡ both_said before (job_facts_of r acts)
+    → both_said before (job_facts_of r (acts ++ more)) ≡ all → both_said here (job_facts_of r more) ≡ all
 said_more before here all r acts more h e =
     ap (λ x. both_said x (job_facts_of r more)) h
     ∙ both_said-assoc before (job_facts_of r acts) (job_facts_of r more)
@@ -102,7 +110,9 @@ no_act (item.Job note.Used) items e = refl
 no_act (item.Job note.ParentEnded) items e = refl
 
 -- the act of one item more was added
-pub said_one_more : (before here all : JobFacts) (r : ℕ) (i : Item) (items : List Item) (a : JobAct) → Some a ≡ act_noted i → here ≡ both_said before (said_of r a) → both_said before (job_facts_of r (job_acts_in (i ∷ items))) ≡ all → both_said here (job_facts_of r (job_acts_in items)) ≡ all
+pub said_one_more : (before here all : JobFacts) (r : ℕ) (i : Item) (items : List Item) (a : JobAct) → Some a ≡ act_noted i
+    → here ≡ both_said before (said_of r a) → both_said before (job_facts_of r (job_acts_in (i ∷ items))) ≡ all
+    → both_said here (job_facts_of r (job_acts_in items)) ≡ all
 said_one_more before here all r i items a n h e =
     ap (λ x. both_said x (job_facts_of r (job_acts_in items))) h
     ∙ both_said-assoc before (said_of r a) (job_facts_of r (job_acts_in items))
@@ -110,7 +120,8 @@ said_one_more before here all r i items a n h e =
     ∙ e
 
 -- one item more notes no act
-pub said_no_more : (before here all : JobFacts) (r : ℕ) (i : Item) (items : List Item) → None ≡ act_noted i → here ≡ before → both_said before (job_facts_of r (job_acts_in (i ∷ items))) ≡ all → both_said here (job_facts_of r (job_acts_in items)) ≡ all
+pub said_no_more : (before here all : JobFacts) (r : ℕ) (i : Item) (items : List Item) → None ≡ act_noted i → here ≡ before
+    → both_said before (job_facts_of r (job_acts_in (i ∷ items))) ≡ all → both_said here (job_facts_of r (job_acts_in items)) ≡ all
 said_no_more before here all r i items n h e =
     ap (λ x. both_said x (job_facts_of r (job_acts_in items))) h
     ∙ ap (λ l. both_said before (job_facts_of r l)) (sym (no_act i items n))

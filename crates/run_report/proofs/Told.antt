@@ -1,15 +1,19 @@
 -- What an act tells, joined with what those before and after it tell.
-use Rattle.std.proofs.Common.{◌≡◌, ℕ, Bool, true, false, ◌&&◌, ◌||◌, List, ◌∷◌, Option, Some, None, if◌then◌else◌, refl, sym, ap, ◌∙◌, inl, inr, arith}
+use Rattle.std.proofs.Common.{◌≡◌, ℕ, Bool, true, false, ◌&&◌, ◌||◌, List, [], ◌∷◌, ◌++◌, Option, Some, None, if◌then◌else◌, refl, sym, ap, ◌∙◌, inl, inr, arith}
 use Rattle.std.proofs.Math.Bool.{or-false, or_assoc}
 use Rattle.std.proofs.lemmas.Bool.Decides.{eqb_tells, nat_tests}
 use Rattle.channel_model.specs.declared.acts.Act.{Act}
+use Rattle.channel_model.specs.declared.acts.ChannelNote.TheVariants as note
 use Rattle.channel_model.specs.declared.acts.Act.TheVariants.{Hand, Put, Offer, Await, Take, Admit, Drop, Spurn, Close, Void, Drain, WakeClosed, Withdraw, Settle}
 use Rattle.co_base.specs.declared.names.WaitId.{WaitId}
 use Rattle.channel_model.specs.Channels.{same_wait}
 use Rattle.channel_model.specs.Fates.{is_at, or_else, is_value, is_undelivered}
+use Rattle.note_book.specs.declared.book.Item.{Item}
+use Rattle.note_book.specs.declared.book.Item.TheVariants as item
+use Rattle.note_book.specs.Items.{channel_acts_in}
 use Rattle.run_report.specs.declared.facts.Facts.{Facts}
 use Rattle.run_report.proofs.Joining.{option_or-none, option_or-assoc}
-use Rattle.run_report.specs.Facts.{nothing, facts_of, joined, told, told_at}
+use Rattle.run_report.specs.Facts.{nothing, facts_of, joined, told, told_at, told_by}
 
 -- ---- joining
 
@@ -47,19 +51,29 @@ joined-assoc x y z = λ i. record {
 
 -- ---- one act
 
-hand_told : (b : Bool) (v : ℕ) (x : Facts) → joined (if b then record nothing { element = Some v; handed = true } else nothing) x ≡ record x { element = or_else (if b then Some v else None) x.element; handed = b || x.handed }
+hand_told : (b : Bool) (v : ℕ) (x : Facts) → joined (if b then record nothing { element = Some v; handed = true } else nothing) x ≡
+    record x { element = or_else (if b then Some v else None) x.element; handed = b || x.handed }
 hand_told true v x = refl
 hand_told false v x = refl
 
-put_told : (b : Bool) (v : ℕ) (x : Facts) → joined (if b then record nothing { element = Some v } else nothing) x ≡ record x { element = or_else (if b then Some v else None) x.element }
+put_told : (b : Bool) (v : ℕ) (x : Facts) → joined (if b then record nothing { element = Some v } else nothing) x ≡
+    record x { element = or_else (if b then Some v else None) x.element }
 put_told true v x = refl
 put_told false v x = refl
 
-offer_told : (b : Bool) (v : ℕ) (w : WaitId) (k : ℕ) (x : Facts) → joined (if b then record nothing { element = Some v; wait = Some w; clause = Some k } else nothing) x ≡ record x { element = or_else (if b then Some v else None) x.element; wait = or_else (if b then Some w else None) x.wait; clause = or_else (if b then Some k else None) x.clause }
+offer_told : (b : Bool) (v : ℕ) (w : WaitId) (k : ℕ) (x : Facts)
+    → joined (if b then record nothing { element = Some v; wait = Some w; clause = Some k } else nothing) x ≡
+    record x {
+      element = or_else (if b then Some v else None) x.element;
+      wait = or_else (if b then Some w else None) x.wait;
+      clause =
+          or_else (if b then Some k else None) x.clause;
+    }
 offer_told true v w k x = refl
 offer_told false v w k x = refl
 
-await_told : (b : Bool) (w : WaitId) (x : Facts) → joined (if b then record nothing { wait = Some w } else nothing) x ≡ record x { wait = or_else (if b then Some w else None) x.wait }
+await_told : (b : Bool) (w : WaitId) (x : Facts) → joined (if b then record nothing { wait = Some w } else nothing) x ≡
+    record x { wait = or_else (if b then Some w else None) x.wait }
 await_told true w x = refl
 await_told false w x = refl
 
@@ -67,27 +81,34 @@ take_told : (b : Bool) (x : Facts) → joined (if b then record nothing { taken 
 take_told true x = refl
 take_told false x = refl
 
-admit_told : (b : Bool) (x : Facts) → joined (if b then record nothing { admitted = true } else nothing) x ≡ record x { admitted = b || x.admitted }
+admit_told : (b : Bool) (x : Facts) → joined (if b then record nothing { admitted = true } else nothing) x ≡
+    record x { admitted = b || x.admitted }
 admit_told true x = refl
 admit_told false x = refl
 
-drop_told : (b : Bool) (x : Facts) → joined (if b then record nothing { dropped = true } else nothing) x ≡ record x { dropped = b || x.dropped }
+drop_told : (b : Bool) (x : Facts) → joined (if b then record nothing { dropped = true } else nothing) x ≡
+    record x { dropped = b || x.dropped }
 drop_told true x = refl
 drop_told false x = refl
 
-spurn_told : (b : Bool) (x : Facts) → joined (if b then record nothing { spurned = true } else nothing) x ≡ record x { spurned = b || x.spurned }
+spurn_told : (b : Bool) (x : Facts) → joined (if b then record nothing { spurned = true } else nothing) x ≡
+    record x { spurned = b || x.spurned }
 spurn_told true x = refl
 spurn_told false x = refl
 
-drain_told : (b : Bool) (x : Facts) → joined (if b then record nothing { drained = true } else nothing) x ≡ record x { drained = b || x.drained }
+drain_told : (b : Bool) (x : Facts) → joined (if b then record nothing { drained = true } else nothing) x ≡
+    record x { drained = b || x.drained }
 drain_told true x = refl
 drain_told false x = refl
 
-withdraw_told : (b : Bool) (x : Facts) → joined (if b then record nothing { withdrawn = true } else nothing) x ≡ record x { withdrawn = b || x.withdrawn }
+withdraw_told : (b : Bool) (x : Facts) → joined (if b then record nothing { withdrawn = true } else nothing) x ≡
+    record x { withdrawn = b || x.withdrawn }
 withdraw_told true x = refl
 withdraw_told false x = refl
 
-settle_told : (b is_received is_given_up : Bool) (x : Facts) → joined (if b then record nothing { received = is_received; gave_up = is_given_up } else nothing) x ≡ record x { received = (b && is_received) || x.received; gave_up = (b && is_given_up) || x.gave_up }
+settle_told : (b is_received is_given_up : Bool) (x : Facts)
+    → joined (if b then record nothing { received = is_received; gave_up = is_given_up } else nothing) x ≡
+    record x { received = (b && is_received) || x.received; gave_up = (b && is_given_up) || x.gave_up }
 settle_told true r g x = refl
 settle_told false r g x = refl
 
@@ -111,15 +132,22 @@ facts_of-cons c p (Drain d q v) acts = drain_told (is_at c p d q) (facts_of c p 
 facts_of-cons c p (WakeClosed d q) acts = refl
 facts_of-cons c p (Withdraw w why) acts =
     withdraw_told (is_at c p w.channel w.place) (facts_of c p acts)
-    ∙ ap (λ b. record (facts_of c p acts) { withdrawn = b || (facts_of c p acts).withdrawn }) (is_at-wait (record { channel = c; place = p }) w)
+    ∙ ap (λ b. record (facts_of c p acts) { withdrawn = b || (facts_of c p acts).withdrawn })
+    (is_at-wait (record { channel = c; place = p }) w)
 facts_of-cons c p (Settle w outcome) acts =
     settle_told (is_at c p w.channel w.place) (is_value outcome) (is_undelivered outcome) (facts_of c p acts)
-    ∙ ap (λ b. record (facts_of c p acts) { received = (b && is_value outcome) || (facts_of c p acts).received; gave_up = (b && is_undelivered outcome) || (facts_of c p acts).gave_up }) (is_at-wait (record { channel = c; place = p }) w)
+    ∙ ap (λ b. record (facts_of c p acts) {
+      received = (b && is_value outcome)
+          || (facts_of c p acts).received;
+      gave_up = (b && is_undelivered outcome) || (facts_of c p acts).gave_up;
+    })
+    (is_at-wait (record { channel = c; place = p }) w)
 
 -- ---- what is added at one place
 
 -- the value that was joined there, seen from any place
-pub joined-at : (value : ℕ → ℕ → Facts) (c p d q : ℕ) (x : Facts) → (if is_at c p d q then joined (value d q) x else value c p) ≡ joined (value c p) (if is_at c p d q then x else nothing)
+pub joined-at : (value : ℕ → ℕ → Facts) (c p d q : ℕ) (x : Facts)
+    → (if is_at c p d q then joined (value d q) x else value c p) ≡ joined (value c p) (if is_at c p d q then x else nothing)
 joined-at value c p d q x =
     elim (eqb_tells d c) [
       | inl h ↦ elim (eqb_tells q p) [
@@ -145,10 +173,37 @@ added_at value at x all stored new c p e s n =
 pub nothing_added : (x : Facts) (all : Option (WaitId × Facts)) (c p : ℕ) → all ≡ None → x ≡ joined x (told_at c p all)
 nothing_added x all c p e = sym (joined-nothing x) ∙ ap (λ y. joined x (told_at c p y)) (sym e)
 
--- one act more was told of
-pub told_more : (before here all : Facts) (c p : ℕ) (a : Act) (acts : List Act) → here ≡ joined before (told_at c p (told a)) → joined before (facts_of c p (a ∷ acts)) ≡ all → joined here (facts_of c p acts) ≡ all
-told_more before here all c p a acts h e =
-    ap (λ x. joined x (facts_of c p acts)) h
-    ∙ joined-assoc before (told_at c p (told a)) (facts_of c p acts)
-    ∙ ap (joined before) (facts_of-cons c p a acts)
+-- ---- items and books
+
+-- what the first item tells, joined with what the others tell
+facts_of-item : (c p : ℕ) (i : Item) (items : List Item)
+    → joined (told_at c p (told_by i)) (facts_of c p (channel_acts_in items)) ≡ facts_of c p (channel_acts_in (i ∷ items))
+facts_of-item c p (item.Channel (note.Made a)) items = facts_of-cons c p a (channel_acts_in items)
+facts_of-item c p other items = refl
+
+-- what some acts tell, joined with what others tell after them
+facts_of-append : (c p : ℕ) (xs ys : List Act) → joined (facts_of c p xs) (facts_of c p ys) ≡ facts_of c p (xs ++ ys)
+facts_of-append c p [] ys = refl
+facts_of-append c p (x ∷ xs) ys =
+    ap (λ y. joined y (facts_of c p ys)) (sym (facts_of-cons c p x xs))
+    ∙ joined-assoc (told_at c p (told x)) (facts_of c p xs) (facts_of c p ys)
+    ∙ ap (joined (told_at c p (told x))) (facts_of-append c p xs ys)
+    ∙ facts_of-cons c p x (xs ++ ys)
+
+-- one item more was told of
+pub told_more : (before here all : Facts) (c p : ℕ) (i : Item) (items : List Item) → here ≡ joined before (told_at c p (told_by i))
+    → joined before (facts_of c p (channel_acts_in (i ∷ items))) ≡ all → joined here (facts_of c p (channel_acts_in items)) ≡ all
+told_more before here all c p i items h e =
+    ap (λ x. joined x (facts_of c p (channel_acts_in items))) h
+    ∙ joined-assoc before (told_at c p (told_by i)) (facts_of c p (channel_acts_in items))
+    ∙ ap (joined before) (facts_of-item c p i items)
+    ∙ e
+
+-- some acts more were told of
+pub all_told_more : (before here all : Facts) (c p : ℕ) (acts more : List Act) → here ≡ joined before (facts_of c p acts)
+    → joined before (facts_of c p (acts ++ more)) ≡ all → joined here (facts_of c p more) ≡ all
+all_told_more before here all c p acts more h e =
+    ap (λ x. joined x (facts_of c p more)) h
+    ∙ joined-assoc before (facts_of c p acts) (facts_of c p more)
+    ∙ ap (joined before) (facts_of-append c p acts more)
     ∙ e

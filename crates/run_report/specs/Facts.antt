@@ -3,9 +3,12 @@ use Rattle.std.specs.Prelude.{ℕ, true, false, ◌||◌, List, Option, Some, No
 use Rattle.std.specs.List.{list_any}
 use Rattle.std.specs.Option.{option_or}
 use Rattle.channel_model.specs.declared.acts.Act.{Act}
+use Rattle.channel_model.specs.declared.acts.ChannelNote.TheVariants as note
 use Rattle.channel_model.specs.declared.acts.Act.TheVariants.{Hand, Put, Offer, Await, Take, Admit, Drop, Spurn, Close, Void, Drain, WakeClosed, Withdraw, Settle}
 use Rattle.co_base.specs.declared.names.WaitId.{WaitId}
 use Rattle.channel_model.specs.Fates.{is_at, first_some, element_at, wait_at, offers_at, hands, takes, admits, drops_at, spurns_at, drains, withdraws, is_value, is_undelivered, settles_value, settles_undelivered}
+use Rattle.note_book.specs.declared.book.Item.{Item}
+use Rattle.note_book.specs.declared.book.Item.TheVariants as item
 use Rattle.run_report.specs.declared.facts.Facts.{Facts}
 
 -- what no act says anything of
@@ -81,6 +84,11 @@ told (Drain c p v) = at_place c p (record nothing { drained = true })
 told (WakeClosed c p) = None
 told (Withdraw w why) = Some (w, record nothing { withdrawn = true })
 told (Settle w outcome) = Some (w, record nothing { received = is_value outcome; gave_up = is_undelivered outcome })
+
+-- the same of the act that an item notes
+abbrev pub told_by : Item → Option (WaitId × Facts)
+told_by (item.Channel (note.Made act)) = told act
+told_by other = None
 
 -- what was told, where it is of this place
 abbrev pub told_at : ℕ → ℕ → Option (WaitId × Facts) → Facts

@@ -1,12 +1,16 @@
 //! What the acts say of each place, and of the wait that is named by it.
 
-ghost use Rattle.std.specs.Prelude.{◌≡◌, ℕ, Some, OnOk, IfOk};
-ghost use Rattle.run_report.specs.Facts.{facts_of, joined, nothing, told, told_at};
+ghost use Rattle.std.specs.Prelude.{◌≡◌, ℕ, map, OnOk, IfOk};
+ghost use Rattle.note_book.specs.Books.{notes_of};
+ghost use Rattle.note_book.specs.Items.{channel_acts_in};
+ghost use Rattle.run_report.specs.Elements.{channel_acts_noted};
+ghost use Rattle.run_report.specs.Facts.{facts_of, joined, nothing, told, told_at, told_by};
 ghost use Rattle.run_report.specs.Tables.{value_at};
 
 use crate::table::Table;
-use channel_model::{Act, Settled};
+use channel_model::{Act, ChannelNote, Settled};
 use co_base::{Value, WaitId};
+use note_book::{Item, Notes};
 use std::alloc::{AllocError, Global};
 
 /// What the acts say of one place, and of the wait that is named by it.
@@ -49,24 +53,38 @@ pub(crate) const NOTHING: Facts = Facts {
     withdrawn: false,
 };
 
-/// What all these acts say of each place.
-pub(crate) fn facts_in(alloc: Global, acts: &[Act]) -> Result<Table<Facts>, AllocError>
+/// What the acts of all these books say of each place.
+pub(crate) fn facts_in(alloc: Global, books: &[Notes]) -> Result<Table<Facts>, AllocError>
     ensures plain { IfOk result (λ table. table.plain ≡ nothing) }
-    ensures facts { IfOk result (λ table. (c p : ℕ) → value_at table c p ≡ facts_of c p acts.now) }
+    ensures facts { IfOk result (λ table. (c p : ℕ)
+        → value_at table c p ≡ facts_of c p (channel_acts_noted (map notes_of books.now))) }
 {
     let mut table = Table::new(alloc, NOTHING);
-    for act in acts {
-        add_act(alloc, &mut table, *act)?;
+    for book in books {
+        add_book(alloc, &mut table, book.items())?;
     }
     Ok(table)
 }
 
-/// Adds what one act says to what those before it said.
-fn add_act(alloc: Global, table: &mut Table<Facts>, act: Act) -> Result<(), AllocError>
+/// Adds what the acts of one book say to what those before them said.
+fn add_book(alloc: Global, table: &mut Table<Facts>, notes: &[Item]) -> Result<(), AllocError>
     ensures plain { table.new.plain ≡ table.old.plain }
-    ensures joined { OnOk result ((c p : ℕ) → value_at table.new c p ≡ joined (value_at table.old c p) (told_at c p (told act))) }
+    ensures joined { OnOk result ((c p : ℕ)
+        → value_at table.new c p ≡ joined (value_at table.old c p) (facts_of c p (channel_acts_in notes.now))) }
 {
-    match told_of(act) {
+    for item in notes {
+        add_item(alloc, table, *item)?;
+    }
+    Ok(())
+}
+
+/// Adds what one item tells to what those before it told.
+fn add_item(alloc: Global, table: &mut Table<Facts>, item: Item) -> Result<(), AllocError>
+    ensures plain { table.new.plain ≡ table.old.plain }
+    ensures joined { OnOk result ((c p : ℕ)
+        → value_at table.new c p ≡ joined (value_at table.old c p) (told_at c p (told_by item))) }
+{
+    match told_by(item) {
         Some((at, facts)) => {
             let before = table.get(at.channel, at.place);
             table.set(alloc, at.channel, at.place, before.and(facts))
@@ -94,6 +112,16 @@ impl Facts {
             gave_up: self.gave_up | other.gave_up,
             withdrawn: self.withdrawn | other.withdrawn,
         }
+    }
+}
+
+/// The place or the wait of which the item tells something, and what it tells.
+fn told_by(item: Item) -> Option<(WaitId, Facts)>
+    ensures { result ≡ told_by item }
+{
+    match item {
+        Item::Channel(ChannelNote::Made(act)) => told_of(act),
+        Item::Channel(_) | Item::Job(_) => None,
     }
 }
 

@@ -1,14 +1,16 @@
 //! What became of each element, from one look at all acts and a second one at those that resolve a wait.
 
-ghost use Rattle.std.specs.Prelude.{◌≡◌, ◌≤◌, ℕ, None, IfOk};
-ghost use Rattle.run_report.specs.Elements.{element_of};
+ghost use Rattle.std.specs.Prelude.{◌≡◌, ◌≤◌, ℕ, None, map, IfOk};
+ghost use Rattle.note_book.specs.Books.{notes_of};
+ghost use Rattle.run_report.specs.Elements.{channel_acts_noted, element_of};
 ghost use Rattle.run_report.specs.Known.{IsPlain, element_in, fate_by, has_given_up, has_left, has_received, has_withdrawn};
 
 use crate::facts::{Facts, NOTHING, facts_in};
 use crate::resolutions::{Resolved, resolutions_in};
 use crate::table::Table;
-use channel_model::{Act, Fate};
+use channel_model::Fate;
 use co_base::{ChannelId, Place, Value};
+use note_book::Notes;
 use std::alloc::{AllocError, Global};
 
 /// What is known of each place, and where each wait was resolved.
@@ -19,13 +21,13 @@ pub(crate) struct Known {
 }
 
 impl Known {
-    /// What these acts make known.
-    pub(crate) fn from_acts(alloc: Global, acts: &[Act]) -> Result<Known, AllocError>
+    /// What the acts of all these books make known. Each book is read where it is.
+    pub(crate) fn from_books(alloc: Global, books: &[Notes]) -> Result<Known, AllocError>
         ensures plain { IfOk result (λ known. IsPlain known) }
-        ensures elements { IfOk result (λ known. element_in known ≡ element_of acts.now) }
+        ensures elements { IfOk result (λ known. element_in known ≡ element_of (channel_acts_noted (map notes_of books.now))) }
     {
-        let facts = facts_in(alloc, acts)?;
-        let resolved = resolutions_in(alloc, &facts, acts)?;
+        let facts = facts_in(alloc, books)?;
+        let resolved = resolutions_in(alloc, &facts, books)?;
         Ok(Known { facts, resolved })
     }
 

@@ -10,7 +10,6 @@
 //! - `books`: the lines of the books.
 //! - `job_facts`: what the acts say of each row.
 //! - `job_lines`: the lines of the Jobs.
-//! - `noted`: the acts on channels that are noted in books.
 //! - `table`: a value for each place of each channel.
 //! - `facts`: what the acts say of each place.
 //! - `resolutions`: where each wait was resolved.
@@ -31,7 +30,6 @@ mod items;
 mod job_facts;
 mod job_items;
 mod job_lines;
-mod noted;
 mod resolutions;
 mod shown;
 mod table;

@@ -1,16 +1,20 @@
 //! Where each wait was resolved.
 
-ghost use Rattle.std.specs.Prelude.{◌≡◌, ℕ, ◌&&◌, ◌||◌, not, OnOk, IfOk};
+ghost use Rattle.std.specs.Prelude.{◌≡◌, ℕ, map, ◌&&◌, ◌||◌, not, OnOk, IfOk};
+ghost use Rattle.note_book.specs.Books.{notes_of};
+ghost use Rattle.note_book.specs.Items.{channel_acts_in};
 ghost use Rattle.co_base.specs.declared.names.WaitId.{WaitId};
 ghost use Rattle.channel_model.specs.Channels.{same_wait};
 ghost use Rattle.channel_model.specs.Fates.{is_at, resolves_at};
-ghost use Rattle.run_report.specs.Resolutions.{also, is_elsewhere, is_resolved_at, is_resolved_elsewhere};
+ghost use Rattle.run_report.specs.Elements.{channel_acts_noted};
+ghost use Rattle.run_report.specs.Resolutions.{also, is_elsewhere, is_resolved_at, is_resolved_elsewhere, resolved_by};
 ghost use Rattle.run_report.specs.Tables.{value_at};
 
 use crate::facts::Facts;
 use crate::table::Table;
-use channel_model::Act;
+use channel_model::{Act, ChannelNote};
 use co_base::{ChannelId, Place, WaitId};
+use note_book::{Item, Notes};
 use std::alloc::{AllocError, Global};
 
 /// The places at which a wait was resolved, so far as it matters whether one of them is another than a given one.
@@ -55,32 +59,50 @@ impl Resolved {
 pub(crate) fn resolutions_in(
     alloc: Global,
     facts: &Table<Facts>,
-    acts: &[Act],
+    books: &[Notes],
 ) -> Result<Table<Resolved>, AllocError>
     ensures { IfOk result (λ table. (c p : ℕ) (w : WaitId)
         → is_elsewhere c p (value_at table w.channel w.place)
-        ≡ is_resolved_elsewhere (λ d q. (value_at facts.now d q).wait) c p w acts.now) }
+        ≡ is_resolved_elsewhere (λ d q. (value_at facts.now d q).wait) c p w (channel_acts_noted (map notes_of books.now))) }
 {
     let mut table = Table::new(alloc, Resolved::Nowhere);
-    for act in acts {
-        add_resolution(alloc, &mut table, facts, *act)?;
+    for book in books {
+        add_book(alloc, &mut table, facts, book.items())?;
     }
     Ok(table)
 }
 
-/// Adds the place at which an act resolves a wait, if it does.
-fn add_resolution(
+/// Adds the places at which the acts of one book resolve a wait.
+fn add_book(
     alloc: Global,
     table: &mut Table<Resolved>,
     facts: &Table<Facts>,
-    act: Act,
+    notes: &[Item],
 ) -> Result<(), AllocError>
     ensures { OnOk result ((c p : ℕ) (w : WaitId)
         → is_elsewhere c p (value_at table.new w.channel w.place)
         ≡ (is_elsewhere c p (value_at table.old w.channel w.place)
-        || is_resolved_at (λ d q. (value_at facts.now d q).wait) c p w (resolves_at act))) }
+        || is_resolved_elsewhere (λ d q. (value_at facts.now d q).wait) c p w (channel_acts_in notes.now))) }
 {
-    match place_of(act) {
+    for item in notes {
+        add_resolution(alloc, table, facts, *item)?;
+    }
+    Ok(())
+}
+
+/// Adds the place at which an item resolves a wait, if it does.
+fn add_resolution(
+    alloc: Global,
+    table: &mut Table<Resolved>,
+    facts: &Table<Facts>,
+    item: Item,
+) -> Result<(), AllocError>
+    ensures { OnOk result ((c p : ℕ) (w : WaitId)
+        → is_elsewhere c p (value_at table.new w.channel w.place)
+        ≡ (is_elsewhere c p (value_at table.old w.channel w.place)
+        || is_resolved_at (λ d q. (value_at facts.now d q).wait) c p w (resolved_by item))) }
+{
+    match resolved_by(item) {
         Some((c, place)) => match facts.get(c, place).wait {
             Some(w) => add_place(alloc, table, w, c, place),
             None => Ok(()),
@@ -103,6 +125,16 @@ fn add_place(
 {
     let before = table.get(w.channel, w.place);
     table.set(alloc, w.channel, w.place, before.also(c, place))
+}
+
+/// The place whose wait the item resolves, if it does.
+fn resolved_by(item: Item) -> Option<(ChannelId, Place)>
+    ensures { result ≡ resolved_by item }
+{
+    match item {
+        Item::Channel(ChannelNote::Made(act)) => place_of(act),
+        Item::Channel(_) | Item::Job(_) => None,
+    }
 }
 
 /// The place whose wait the act resolves, if it has one.

@@ -4,13 +4,12 @@ ghost use Rattle.std.specs.Prelude.{◌≡◌, ◌<◌, length, map, IfOk, strin
 ghost use Rattle.note_book.specs.Books.{notes_of};
 ghost use Rattle.script_reader.specs.Scripts.{program_of};
 ghost use Rattle.script_reader.specs.Programs.{declared_of};
-ghost use Rattle.run_report.specs.Elements.{report_of, report_text};
+ghost use Rattle.run_report.specs.Elements.{report_of, report_text, elements_text, element_of, channel_acts_noted};
 
 use crate::books::push_books;
 use crate::elements::push_elements;
 use crate::fates::Known;
 use crate::job_lines::push_jobs;
-use crate::noted::channel_acts_noted;
 use co_base::Memory;
 use note_book::Notes;
 use poll_states::Done;
@@ -42,11 +41,34 @@ pub fn report_of(
     requires { length channels.now < 65536 }
     ensures { IfOk result (λ text. string_bytes text ≡ report_of (map declared_of channels.now) jobs (map notes_of books.now)) }
 {
-    let mut out = String::new(alloc);
+    let elements = elements_of(alloc, channels, books)?;
+    let mut out = String::with_capacity(alloc, about_len(books))?;
     push_books(&mut out, channels, books)?;
     push_jobs(alloc, &mut out, jobs, books)?;
-    let acts = channel_acts_noted(alloc, books)?;
-    let known = Known::from_acts(alloc, acts.as_slice())?;
+    out.push_str(elements.as_str())?;
+    Ok(out)
+}
+
+/// About how many bytes a line of a book has.
+const LINE: usize = 24;
+
+/// About how many bytes the lines of these books have. A text that grows to its length would be copied, and keep the memory that it had.
+fn about_len(books: &[Notes]) -> usize {
+    let mut bytes = 0usize;
+    for book in books {
+        bytes = bytes.saturating_add(book.items().len().saturating_mul(LINE));
+    }
+    bytes
+}
+
+/// The lines of the elements. What these take to be found is let go of here, before the books are written.
+fn elements_of(alloc: Global, channels: &[Channel], books: &[Notes]) -> Result<String, Memory>
+    requires { length channels.now < 65536 }
+    ensures { IfOk result (λ text. string_bytes text
+        ≡ elements_text (element_of (channel_acts_noted (map notes_of books.now))) 0 (map declared_of channels.now)) }
+{
+    let known = Known::from_books(alloc, books)?;
+    let mut out = String::new(alloc);
     push_elements(&mut out, channels, &known)?;
     Ok(out)
 }

@@ -11,7 +11,6 @@ ghost use Rattle.run_report.specs.Summaries.{element_counts_text, first_counts_t
 use crate::counts::{ElementCounts, JobCounts, count_elements, count_jobs};
 use crate::fates::Known;
 use crate::job_facts::{JobFacts, job_facts_in};
-use crate::noted::channel_acts_noted;
 use co_base::Memory;
 use job_model::End;
 use note_book::Notes;
@@ -49,8 +48,7 @@ pub(crate) fn summary_of(
     ensures { IfOk result (λ text. string_bytes text ≡ summary_of version (map declared_of channels.now) jobs (map notes_of books.now)) }
 {
     let table = job_facts_in(alloc, jobs, books)?;
-    let acts = channel_acts_noted(alloc, books)?;
-    let known = Known::from_acts(alloc, acts.as_slice())?;
+    let known = Known::from_books(alloc, books)?;
     let text = line(
         alloc,
         version,

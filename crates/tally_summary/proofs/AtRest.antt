@@ -13,7 +13,9 @@ use Rattle.run_report.specs.Summaries.{summary_text}
 use Rattle.rest_laws.specs.LinesTold.{line_of_books}
 use Rattle.rest_laws.proofs.Summarised.{summary_told}
 
-pub summed_up : {T E : Type 0} (r : Result T E) (bytes : T → List ℕ) (p : Program) (books : List (List Item)) (root : Option End) → IsProgram p → IfOk r (λ t. bytes t ≡ line_of_books p.version books root)
+pub summed_up : {T E : Type 0} (r : Result T E) (bytes : T → List ℕ) (p : Program) (books : List (List Item)) (root : Option End)
+    → IsProgram p → IfOk r (λ t. bytes t ≡ line_of_books p.version books root)
     → IfOk r (λ t. (channels : List Entry) (jobs : List JobEntry) → IsRunAtRest p books channels jobs root → bytes t ≡ summary_text p books)
-summed_up (Ok t) bytes p books root ok e = λ channels jobs rests. e ∙ sym (summary_told p books channels jobs root (some_coroutine p ok) rests)
+summed_up (Ok t) bytes p books root ok e = λ channels jobs rests. e
+    ∙ sym (summary_told p books channels jobs root (some_coroutine p ok) rests)
 summed_up (Err e) bytes p books root ok h = tt

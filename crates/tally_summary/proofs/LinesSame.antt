@@ -14,7 +14,9 @@ use Rattle.tally_summary.specs.declared.counted.Fates.{Fates}
 use Rattle.tally_summary.specs.declared.totals.JobTotals.{JobTotals}
 use Rattle.tally_summary.specs.Totals.{job_counts_in, AreFatesIn, line_of}
 
-pub line_same : (version : ℕ) (jobs : JobTotals) (f : Fates) (root : Option End) (books : List (List Item)) (n : Counts) → n ≡ tallied books → AreFatesIn n f → job_counts_in jobs ≡ jobs_tallied books → line_of version jobs f root ≡ line_of_books version books root
+pub line_same : (version : ℕ) (jobs : JobTotals) (f : Fates) (root : Option End) (books : List (List Item)) (n : Counts) → n ≡ tallied books
+    → AreFatesIn n f → job_counts_in jobs ≡ jobs_tallied books → line_of version jobs f root ≡ line_of_books version books root
 line_same version jobs f root books n e h k =
-    (λ i. job_tally_text (k i) ++ numbers_text version (h.0 i) (h.1 i) (h.2 i) (h.3 i) (h.4 i) (h.5 i) ++ codes "result " ++ result_text root ++ codes "\n")
+    (λ i. job_tally_text (k i) ++ numbers_text version (h.0 i) (h.1 i) (h.2 i) (h.3 i) (h.4 i) (h.5 i) ++ codes "result "
+    ++ result_text root ++ codes "\n")
     ∙ ap (λ m. line_of_tallies version (job_tally_text (jobs_tallied books)) m root) e

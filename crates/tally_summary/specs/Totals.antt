@@ -37,7 +37,8 @@ job_counts_in n = record { attached = n.attached; completed = n.completed; cance
 abbrev pub AreActsOf : ℕ → ActTotals → Type 0
 AreActsOf k n =
     (n.hands ≤ k * 4294967296) × (n.puts ≤ k * 4294967296) × (n.offers ≤ k * 4294967296) × (n.takes ≤ k * 4294967296)
-    × (n.drops ≤ k * 4294967296) × (n.spurns ≤ k * 4294967296) × (n.drains ≤ k * 4294967296) × (n.wakes ≤ k * 4294967296) × (n.withdraws ≤ k * 4294967296)
+    × (n.drops ≤ k * 4294967296) × (n.spurns ≤ k * 4294967296) × (n.drains ≤ k * 4294967296) × (n.wakes ≤ k * 4294967296)
+    × (n.withdraws ≤ k * 4294967296)
     × (n.settles ≤ k * 4294967296) × (n.values ≤ k * 4294967296) × (n.given_up ≤ k * 4294967296) × (n.ended ≤ k * 4294967296)
     × (n.taken_back ≤ k * 18446744073709551616)
 

@@ -6,9 +6,7 @@
 #![tactic(auto)]
 
 mod counted;
-#[cfg(test)]
-mod tests;
 mod text;
 mod totals;
 
-pub use text::summary;
+pub use text::{line_of, summary};

@@ -50,7 +50,7 @@ fn bytes_of(
 }
 
 /// The line of these tallies, of a script of this version.
-pub(crate) fn line_of(
+pub fn line_of(
     alloc: Global,
     version: u8,
     tallies: &[Tally],

@@ -7,7 +7,8 @@ use Rattle.run_report.proofs.books.push_books.Given as goal
 abbrev pub invariant-loop-rest : goal.invariant-loop-rest
 invariant-loop-rest l = record {
   counted : l.tag + length l.rest ≡ length l.books;
-  written : string_bytes l.out ++ books_text (map declared_of l.channels) l.tag (map notes_of l.rest) ≡ string_bytes l.fn.out ++ books_text (map declared_of l.channels) 0 (map notes_of l.books);
+  written : string_bytes l.out ++ books_text (map declared_of l.channels) l.tag (map notes_of l.rest) ≡ string_bytes l.fn.out
+      ++ books_text (map declared_of l.channels) 0 (map notes_of l.books);
 }
 
 abbrev pub decreases-loop-rest : goal.decreases-loop-rest

@@ -14,7 +14,8 @@ loop-channel-preserved c =
     let elements = element_in c.args.known.now in
     record {
       numbered = omega (arith, c.loop-channel.invariant.numbered);
-      counted = channels_counted elements c.loop-channel.c c.loop-channel.counts c.with_places-counts.result (with_channels elements 0 no_elements (map declared_of channels)) channel (drop i channels) (drop (i + 1) channels)
+      counted = channels_counted elements c.loop-channel.c c.loop-channel.counts c.with_places-counts.result
+          (with_channels elements 0 no_elements (map declared_of channels)) channel (drop i channels) (drop (i + 1) channels)
           (ap (λ x. x ∷ drop (i + 1) channels) c.channel-item.is ∙ sym (drop_more channels i channel (omega arith)))
           c.with_places-counts.ensures.counts
           c.loop-channel.invariant.counted;

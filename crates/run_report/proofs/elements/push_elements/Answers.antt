@@ -14,7 +14,9 @@ loop-channel-preserved c =
     let elements = element_in c.args.known.now in
     record {
       counted = omega (arith, c.loop-channel.invariant.counted);
-      written = channels_more elements c.loop-channel.c (string_bytes c.loop-channel.out) (string_bytes c.push_places.new.out) (string_bytes c.args.out.now ++ elements_text elements 0 (map declared_of channels)) channel (drop i channels) (drop (i + 1) channels)
+      written = channels_more elements c.loop-channel.c (string_bytes c.loop-channel.out) (string_bytes c.push_places.new.out)
+          (string_bytes c.args.out.now ++ elements_text elements 0 (map declared_of channels)) channel (drop i channels)
+          (drop (i + 1) channels)
           (ap (λ x. x ∷ drop (i + 1) channels) c.channel-item.is ∙ sym (drop_more channels i channel (omega arith)))
           c.in_ok-push_places.ensures
           c.loop-channel.invariant.written;

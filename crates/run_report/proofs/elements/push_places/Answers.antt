@@ -9,7 +9,8 @@ pub loop-place-preserved : goal.loop-place-preserved
 loop-place-preserved c =
     let name = (declared_of c.args.channel.now).name in
     let before = string_bytes c.loop-place.out in
-    places_more (λ p. element_line name p (element_in c.args.known.now c.args.c p)) (string_bytes c.args.out.now) before (string_bytes c.push_element.new.out) c.loop-place.place c.loop-place.invariant
+    places_more (λ p. element_line name p (element_in c.args.known.now c.args.c p)) (string_bytes c.args.out.now) before
+    (string_bytes c.push_element.new.out) c.loop-place.place c.loop-place.invariant
     (c.in_ok-push_element.ensures ∙ ap (λ e. before ++ element_line name c.loop-place.place e) c.element.ensures)
 
 pub returns-then-reach-place : goal.returns-then-reach-place
@@ -18,5 +19,6 @@ returns-then-reach-place c =
     let at_place : ℕ → List ℕ = λ p. element_line name p (element_in c.args.known.now c.args.c p) in
     let place = c.loop-place.place in
     let rest = c.args.channel.now.places - place in
-    let all = places_end at_place place rest c.args.channel.now.places (omega arith) (λ p h. ap (element_line name p) (c.reach-reach.ensures p (omega (arith, h, c.if-reach-place.true)))) in
+    let all = places_end at_place place rest c.args.channel.now.places (omega arith)
+    (λ p h. ap (element_line name p) (c.reach-reach.ensures p (omega (arith, h, c.if-reach-place.true)))) in
     c.loop-place.invariant ∙ ap (λ (l : List ℕ). string_bytes c.args.out.now ++ l) (sym all)

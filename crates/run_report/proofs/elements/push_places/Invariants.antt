@@ -6,4 +6,5 @@ use Rattle.run_report.specs.Known.{element_in}
 use Rattle.run_report.proofs.elements.push_places.Given as goal
 
 abbrev pub invariant-loop-place : goal.invariant-loop-place
-invariant-loop-place l = string_bytes l.out ≡ string_bytes l.fn.out ++ flat_map (λ p. element_line (declared_of l.channel).name p (element_in l.known l.c p)) (range_with_len 0 l.place)
+invariant-loop-place l = string_bytes l.out ≡ string_bytes l.fn.out
+    ++ flat_map (λ p. element_line (declared_of l.channel).name p (element_in l.known l.c p)) (range_with_len 0 l.place)

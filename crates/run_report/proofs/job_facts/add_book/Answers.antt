@@ -17,8 +17,12 @@ loop-item-preserved c = λ r h.
     let before = facts_at c.loop-item.table r in
     let here = facts_at c.match-act_noted.table r in
     let all = both_said (facts_at c.args.table.now r) (job_facts_of r (job_acts_in items)) in
-    let invariant = ap (both_said before) (sym (at_drop_more (λ l. job_facts_of r (job_acts_in l)) items k (item.Channel (note.Made (Hand 0 0 0))) (omega arith))) ∙ c.loop-item.invariant r h in
+    let invariant =
+    ap (both_said before) (sym (at_drop_more (λ l. job_facts_of r (job_acts_in l)) items k (item.Channel (note.Made (Hand 0 0 0)))
+    (omega arith))) ∙ c.loop-item.invariant r h in
     elim c.match-act_noted.branch [
-      | in-Some w ↦ said_one_more before here all r i (drop (k + 1) items) w.in-Some.act w.in-Some.ensures (ap (λ t. facts_at t r) w.table-is ∙ w.add_act.ensures r (omega (arith, h))) invariant
-      | in_default w ↦ said_no_more before here all r i (drop (k + 1) items) w.in_default.ensures (ap (λ t. facts_at t r) w.table-is) invariant
+      | in-Some w ↦ said_one_more before here all r i (drop (k + 1) items) w.in-Some.act w.in-Some.ensures
+          (ap (λ t. facts_at t r) w.table-is ∙ w.add_act.ensures r (omega (arith, h))) invariant
+      | in_default w ↦ said_no_more before here all r i (drop (k + 1) items) w.in_default.ensures (ap (λ t. facts_at t r) w.table-is)
+          invariant
     ]

@@ -15,7 +15,8 @@ loop-book-preserved c = λ r h.
     let book = c.book-item.result in
     let before = facts_at c.loop-book.table r in
     let said_in = λ (l : List Notes). job_facts_of r (job_acts_noted (map notes_of l)) in
-    said_more before (facts_at c.add_book.new.table r) (both_said (facts_at c.args.table.now r) (said_in books)) r (job_acts_in (notes_of book)) (job_acts_noted (map notes_of (drop (k + 1) books)))
+    said_more before (facts_at c.add_book.new.table r) (both_said (facts_at c.args.table.now r) (said_in books)) r
+    (job_acts_in (notes_of book)) (job_acts_noted (map notes_of (drop (k + 1) books)))
     (c.add_book.ensures r (omega (arith, h)) ∙ ap (λ l. both_said before (job_facts_of r (job_acts_in l))) c.items.ensures)
     (ap (λ b. both_said before (said_in (b ∷ drop (k + 1) books))) c.book-item.is
     ∙ ap (both_said before) (sym (at_drop_more said_in books k book (omega arith)))

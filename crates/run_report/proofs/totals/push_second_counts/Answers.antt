@@ -8,7 +8,8 @@ use Rattle.run_report.proofs.totals.push_second_counts.Goals as goal
 pub returns : goal.returns
 returns c =
     let n = c.args.elements in
-    let kept : List (List ℕ) = codes "received " ∷ decimal n.received ∷ codes " undelivered " ∷ decimal n.undelivered ∷ codes " dropped " ∷ decimal n.dropped ∷ codes " spurned " ∷ decimal n.spurned ∷ codes " " ∷ [] in
+    let kept : List (List ℕ) = codes "received " ∷ decimal n.received ∷ codes " undelivered " ∷ decimal n.undelivered ∷ codes " dropped " ∷
+    decimal n.dropped ∷ codes " spurned " ∷ decimal n.spurned ∷ codes " " ∷ [] in
     let more : List (List ℕ) = codes "withdrawn " ∷ decimal n.withdrawn ∷ codes " held " ∷ decimal n.held ∷ codes " " ∷ [] in
     let first = string_bytes c.args.out.now in
     c.in_ok-write-2.ensures.bytes

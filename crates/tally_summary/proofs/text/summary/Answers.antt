@@ -8,4 +8,5 @@ use Rattle.tally_summary.proofs.text.summary.Goals as goal
 pub returns : goal.returns
 returns c =
     summed_up c.bytes_of.result (λ t. t.items) (program_of c.args.script.now) c.args.tallies.now c.args.root c.args.script.now.well_formed
-    (subst (λ (v : ℕ). IfOk c.bytes_of.result (λ t. t.items ≡ line_of_books v c.args.tallies.now c.args.root)) c.version.ensures c.bytes_of.ensures)
+    (subst (λ (v : ℕ). IfOk c.bytes_of.result (λ t. t.items ≡ line_of_books v c.args.tallies.now c.args.root)) c.version.ensures
+    c.bytes_of.ensures)

@@ -1,12 +1,14 @@
+//! The line of the summary, from what a tally was told.
+
 ghost use Rattle.std.specs.Prelude.{◌≡◌};
 
-use crate::text::line_of;
 use channel_model::{Act, ChannelNote, Settled, Why};
 use co_base::{Memory, WaitId};
 use job_model::{End, JobAct, JobNote};
 use note_book::{Item, NoteBook};
 use std::test::Fail;
 use tally_book::Tally;
+use tally_summary::line_of;
 
 /// Makes room in any book and notes an item.
 fn note_one<B: NoteBook>(book: &mut B, item: Item) -> Result<(), Memory> {
