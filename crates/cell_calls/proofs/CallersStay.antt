@@ -33,18 +33,21 @@ got_callers who c a b (got.Waiting p) h = h.same.callers
 got_callers who c a b (got.Closed x) h = h.0.looked.same.callers
 got_callers who c a b got.Spent h = h.0.same.callers
 
-pub withdraw_callers : (who : ℕ) (w : WaitId) (why : Why) (a b : Floor) (r : Withdrawn) → WithdrawAnswer who w why a b r → b.callers ≡ a.callers
+pub withdraw_callers : (who : ℕ) (w : WaitId) (why : Why) (a b : Floor) (r : Withdrawn) → WithdrawAnswer who w why a b r
+    → b.callers ≡ a.callers
 withdraw_callers who w why a b (withdrawn.Done t) h = h.0.same.callers
 withdraw_callers who w why a b withdrawn.Late h = h.0.same.callers
 
-pub register_offer_callers : (who k c v : ℕ) (main : Option WaitId) (a b : Floor) (r : Registered) → RegisterOfferAnswer who main k c v a b r → b.callers ≡ a.callers
+pub register_offer_callers : (who k c v : ℕ) (main : Option WaitId) (a b : Floor) (r : Registered)
+    → RegisterOfferAnswer who main k c v a b r → b.callers ≡ a.callers
 register_offer_callers who k c v main a b (registered.Stands p) h = h.same.callers
 register_offer_callers who k c v main a b (registered.Partner p) h = h.0.same.callers
 register_offer_callers who k c v main a b (registered.Closed x) h = h.looked.same.callers
 register_offer_callers who k c v main a b registered.Spent h = h.0.same.callers
 register_offer_callers who k c v main a b registered.Resolved h = h.0.same.callers
 
-pub register_receive_callers : (who k c : ℕ) (main : Option WaitId) (a b : Floor) (r : Registered) → RegisterReceiveAnswer who main k c a b r → b.callers ≡ a.callers
+pub register_receive_callers : (who k c : ℕ) (main : Option WaitId) (a b : Floor) (r : Registered)
+    → RegisterReceiveAnswer who main k c a b r → b.callers ≡ a.callers
 register_receive_callers who k c main a b (registered.Stands p) h = h.same.callers
 register_receive_callers who k c main a b (registered.Partner p) h = h.0.same.callers
 register_receive_callers who k c main a b (registered.Closed x) h = h.0.looked.same.callers
@@ -52,5 +55,10 @@ register_receive_callers who k c main a b registered.Spent h = h.0.same.callers
 register_receive_callers who k c main a b registered.Resolved h = h.0.same.callers
 
 -- a pass after a call on its desk
-pub stays_own : (a b : Desk) (who : ℕ) → desk_anchor b ≡ desk_anchor a → (desk_floor b).callers ≡ (desk_floor a).callers → (desk_floor a).callers who ≡ true → IsOwn a.hub.now b.pass.now who
-stays_own a b who e s c = (subst (λ (h : Hub). IsOf h b.pass.now) (ap (λ (x : DeskAnchor). x.hub) e) b.of, ap (λ (f : ℕ → Bool). f who) s ∙ c)
+pub stays_own : (a b : Desk) (who : ℕ) → desk_anchor b ≡ desk_anchor a → (desk_floor b).callers ≡ (desk_floor a).callers
+    → (desk_floor a).callers who ≡ true → IsOwn a.hub.now b.pass.now who
+stays_own a b who e s c = (
+  subst (λ (h : Hub). IsOf h b.pass.now) (ap (λ (x : DeskAnchor). x.hub) e) b.of,
+  ap (λ (f : ℕ → Bool). f who) s
+      ∙ c,
+)

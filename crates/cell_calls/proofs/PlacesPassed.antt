@@ -41,7 +41,8 @@ module _ {X : Type 0} (number : X → ℕ) where
     where
       from : (k : ℕ) (ys : List X) → n ≤ k → Ascends number k m ys → list_all (λ x. nat_le n (number x)) ys ≡ true
       from k [] le b = refl
-      from k (y ∷ ys) le b = all_more (λ x. nat_le n (number x)) y ys (at_least n (number y) (let g = b.0 in omega arith)) (from (number y + 1) ys (let g = b.0 in omega arith) b.1)
+      from k (y ∷ ys) le b = all_more (λ x. nat_le n (number x)) y ys (at_least n (number y) (let g = b.0 in omega arith))
+          (from (number y + 1) ys (let g = b.0 in omega arith) b.1)
 
   ends_above : (n m : ℕ) (xs : List X) → Ascends number n m xs → n ≤ m
   ends_above n m [] a = a
@@ -50,7 +51,8 @@ module _ {X : Type 0} (number : X → ℕ) where
 -- ---- the effects on one channel
 
 -- who has a place found nobody of the other side
-past_offer : (p places : ℕ) (b : Bool) (o : Standing) (ch : Channel) → HasPlace places p ch → ch.receivers ≡ [] → NoneBelow (p + 1) 0 (place_offer b o ch)
+past_offer : (p places : ℕ) (b : Bool) (o : Standing) (ch : Channel) → HasPlace places p ch → ch.receivers ≡ []
+    → NoneBelow (p + 1) 0 (place_offer b o ch)
 past_offer p places false o ch h e = record {
   given = let f = h.first in omega arith;
   given_offers = omega arith;
@@ -64,7 +66,8 @@ past_offer p places true o ch h e = record {
   offers = all_from_zero (λ (x : Standing). x.place) (ch.queue ++ o ∷ []);
 }
 
-past_receiver : (p places : ℕ) (b : Bool) (r : Receiver) (ch : Channel) → HasPlace places p ch → ch.queue ≡ [] → NoneBelow 0 (p + 1) (place_receiver b r ch)
+past_receiver : (p places : ℕ) (b : Bool) (r : Receiver) (ch : Channel) → HasPlace places p ch → ch.queue ≡ []
+    → NoneBelow 0 (p + 1) (place_receiver b r ch)
 past_receiver p places false r ch h e = record {
   given = omega arith;
   given_offers = let f = h.first in omega arith;
@@ -83,12 +86,16 @@ past_first : (c p : ℕ) (rs : List Receiver) (how : ℕ → Resolution) (s : St
     → Ascends (λ (r : Receiver). r.place) 0 (s.channels c).next rs → NoneBelow (p + 1) 0 ((resolve_first rs how s).channels c)
 past_first c p [] how s e h a = absurd h
 past_first c p (r ∷ rs) how s e h a =
-    let above : Ascends (λ (x : Receiver). x.place) (p + 1) (s.channels c).next rs = subst (λ (n : ℕ). Ascends (λ (x : Receiver). x.place) (n + 1) (s.channels c).next rs) h a.1 in
+    let above : Ascends (λ (x : Receiver). x.place) (p + 1) (s.channels c).next rs =
+    subst (λ (n : ℕ). Ascends (λ (x : Receiver). x.place) (n + 1) (s.channels c).next rs) h a.1 in
     record {
       given = ends_above (λ (x : Receiver). x.place) (p + 1) (s.channels c).next rs above;
       given_offers = omega arith;
-      receivers = subst (λ (l : List Receiver). list_all high (filter kept l) ≡ true) (sym e) (by_test (same_wait r.party.wait r.party.wait) (same_wait-refl r.party.wait) (all_filter high kept rs (all_above (λ (x : Receiver). x.place) (p + 1) (s.channels c).next rs above)));
-      offers = all_from_zero (λ (x : Standing). x.place) (filter (λ (o : Standing). not (is_held_by r.party.wait o.holder)) (s.channels c).queue);
+      receivers = subst (λ (l : List Receiver). list_all high (filter kept l) ≡ true) (sym e)
+          (by_test (same_wait r.party.wait r.party.wait) (same_wait-refl r.party.wait)
+          (all_filter high kept rs (all_above (λ (x : Receiver). x.place) (p + 1) (s.channels c).next rs above)));
+      offers = all_from_zero (λ (x : Standing). x.place) (filter (λ (o : Standing). not (is_held_by r.party.wait o.holder))
+          (s.channels c).queue);
     }
   where
     high : Receiver → Bool
@@ -97,7 +104,8 @@ past_first c p (r ∷ rs) how s e h a =
     kept : Receiver → Bool
     kept x = not (same_wait r.party.wait x.party.wait)
 
-    by_test : (b : Bool) → b ≡ true → list_all high (filter kept rs) ≡ true → list_all high (cond (not b) (r ∷ filter kept rs) (filter kept rs)) ≡ true
+    by_test : (b : Bool) → b ≡ true → list_all high (filter kept rs) ≡ true
+        → list_all high (cond (not b) (r ∷ filter kept rs) (filter kept rs)) ≡ true
     by_test true f k = k
     by_test false f k = cc
 
@@ -105,7 +113,8 @@ past_first c p (r ∷ rs) how s e h a =
 past_removed_offer : (c p v : ℕ) (q : List Standing) (s : State) → (s.channels c).queue ≡ q → IsFirstOffer p v q
     → Ascends (λ (o : Standing). o.place) 0 (s.channels c).next q → NoneBelow 0 (p + 1) ((remove_first c q s).channels c)
 past_removed_offer c p v [] s e h a = absurd h
-past_removed_offer c p v (o ∷ os) s e h a = subst (NoneBelow 0 (p + 1)) (sym (put_here c (record (s.channels c) { queue = os }) s.channels)) rest
+past_removed_offer c p v (o ∷ os) s e h a = subst (NoneBelow 0 (p + 1)) (sym (put_here c (record (s.channels c) { queue = os }) s.channels))
+    rest
   where
     above : Ascends (λ (x : Standing). x.place) (p + 1) (s.channels c).next os
     above = subst (λ (n : ℕ). Ascends (λ (x : Standing). x.place) (n + 1) (s.channels c).next os) h.0 a.1
@@ -119,7 +128,8 @@ past_removed_offer c p v (o ∷ os) s e h a = subst (NoneBelow 0 (p + 1)) (sym (
     }
 
 -- and whoever waited with it was resolved
-past_taken_offer : (c p v : ℕ) (shape : Shape) (q : List Standing) (how : ℕ → Resolution) (s : State) → (s.channels c).queue ≡ q → IsFirstOffer p v q
+past_taken_offer : (c p v : ℕ) (shape : Shape) (q : List Standing) (how : ℕ → Resolution) (s : State) → (s.channels c).queue ≡ q
+    → IsFirstOffer p v q
     → Ascends (λ (o : Standing). o.place) 0 (s.channels c).next q → NoneBelow 0 (p + 1) ((resolve_offer c q how s).channels c)
 past_taken_offer c p v shape [] how s e h a = absurd h
 past_taken_offer c p v shape (o ∷ os) how s e h a = by_holder o.holder
@@ -149,13 +159,16 @@ FromFront removal.Spurn = ⊥
 FromFront removal.Drain = Unit {0}
 
 module _ (shape : Shape) (who c p : ℕ) (old new : Seen) (l : Legal shape new.seen) where
-  pub held_past : (v k : ℕ) (w : WaitId) → Makes old (record { who = who; act = Offer c p v w k }) new → NoneBelow (p + 1) 0 (at_channel new.seen c)
+  pub held_past : (v k : ℕ) (w : WaitId) → Makes old (record { who = who; act = Offer c p v w k }) new
+      → NoneBelow (p + 1) 0 (at_channel new.seen c)
   held_past v k w m = entry_leaves shape old new _ (λ (s : State). NoneBelow (p + 1) 0 (s.channels c)) m l
-      (λ xs legal n. subst (NoneBelow (p + 1) 0) (sym (put_here c _ (replay xs).channels)) (past_offer p _ _ _ ((replay xs).channels c) n.1 n.2))
+      (λ xs legal n. subst (NoneBelow (p + 1) 0) (sym (put_here c _ (replay xs).channels))
+      (past_offer p _ _ _ ((replay xs).channels c) n.1 n.2))
 
   pub put_past : (v : ℕ) → Makes old (record { who = who; act = Put c p v }) new → NoneBelow (p + 1) 0 (at_channel new.seen c)
   put_past v m = entry_leaves shape old new _ (λ (s : State). NoneBelow (p + 1) 0 (s.channels c)) m l
-      (λ xs legal n. subst (NoneBelow (p + 1) 0) (sym (put_here c _ (replay xs).channels)) (past_offer p _ true _ ((replay xs).channels c) n.1 n.2))
+      (λ xs legal n. subst (NoneBelow (p + 1) 0) (sym (put_here c _ (replay xs).channels))
+      (past_offer p _ true _ ((replay xs).channels c) n.1 n.2))
 
   pub handed_past : (v : ℕ) → Makes old (record { who = who; act = Hand c p v }) new → NoneBelow (p + 1) 0 (at_channel new.seen c)
   handed_past v m = entry_leaves shape old new _ (λ (s : State). NoneBelow (p + 1) 0 (s.channels c)) m l
@@ -165,15 +178,20 @@ module _ (shape : Shape) (who c p : ℕ) (old new : Seen) (l : Legal shape new.s
   woken_past m = entry_leaves shape old new _ (λ (s : State). NoneBelow (p + 1) 0 (s.channels c)) m l
       (λ xs legal n. past_first c p ((replay xs).channels c).receivers _ (replay xs) refl n.2 (replay_in_order shape xs c legal).receivers)
 
-  pub awaited_past : (k : ℕ) (w : WaitId) → Makes old (record { who = who; act = Await c p w k }) new → NoneBelow 0 (p + 1) (at_channel new.seen c)
+  pub awaited_past : (k : ℕ) (w : WaitId) → Makes old (record { who = who; act = Await c p w k }) new
+      → NoneBelow 0 (p + 1) (at_channel new.seen c)
   awaited_past k w m = entry_leaves shape old new _ (λ (s : State). NoneBelow 0 (p + 1) (s.channels c)) m l
-      (λ xs legal n. subst (NoneBelow 0 (p + 1)) (sym (put_here c _ (replay xs).channels)) (past_receiver p _ _ _ ((replay xs).channels c) n.1 n.2))
+      (λ xs legal n. subst (NoneBelow 0 (p + 1)) (sym (put_here c _ (replay xs).channels))
+      (past_receiver p _ _ _ ((replay xs).channels c) n.1 n.2))
 
-  pub removed_past : (by : Removal) → FromFront by → (v : ℕ) (t : Option ℕ) → RemovesFrom by who c p v t old new → NoneBelow 0 (p + 1) (at_channel new.seen c)
+  pub removed_past : (by : Removal) → FromFront by → (v : ℕ) (t : Option ℕ) → RemovesFrom by who c p v t old new
+      → NoneBelow 0 (p + 1) (at_channel new.seen c)
   removed_past removal.Take front v t h = entry_leaves shape old new _ (λ (s : State). NoneBelow 0 (p + 1) (s.channels c)) h.made l
-      (λ xs legal n. past_taken_offer c p v shape ((replay xs).channels c).queue _ (replay xs) refl n.1 (replay_in_order shape xs c legal).offers)
+      (λ xs legal n. past_taken_offer c p v shape ((replay xs).channels c).queue _ (replay xs) refl n.1
+      (replay_in_order shape xs c legal).offers)
   removed_past removal.Drop front v t h = entry_leaves shape old new _ (λ (s : State). NoneBelow 0 (p + 1) (s.channels c)) h.made l
       (λ xs legal n. past_removed_offer c p v ((replay xs).channels c).queue (replay xs) refl n.2 (replay_in_order shape xs c legal).offers)
   removed_past removal.Spurn front v t h = absurd front
   removed_past removal.Drain front v t h = entry_leaves shape old new _ (λ (s : State). NoneBelow 0 (p + 1) (s.channels c)) h.made l
-      (λ xs legal n. past_taken_offer c p v shape ((replay xs).channels c).queue _ (replay xs) refl n.2 (replay_in_order shape xs c legal).offers)
+      (λ xs legal n. past_taken_offer c p v shape ((replay xs).channels c).queue _ (replay xs) refl n.2
+      (replay_in_order shape xs c legal).offers)

@@ -15,7 +15,8 @@ use Rattle.cell_words.proofs.CellsTellFacts.{tied_now}
 use Rattle.cell_words.proofs.LooksAtCells.{named_own}
 
 -- who was placed at a cell to receive is named there for good
-pub receives_later : (shape : Shape) (c p : ℕ) (x : Waiter) (v w : Seen) → Legal shape w.seen → Sees v w → Receives shape c p x v.seen → Receives shape c p x w.seen
+pub receives_later : (shape : Shape) (c p : ℕ) (x : Waiter) (v w : Seen) → Legal shape w.seen → Sees v w → Receives shape c p x v.seen
+    → Receives shape c p x w.seen
 receives_later shape c p x v w l s h =
     let here : cell_of w.seen c p ≡ receiver h.held.who h.held.wait x.clause =
     subst (λ (es : List Entry). cell_of es c p ≡ receiver h.held.who h.held.wait x.clause) (sym s.now)
@@ -26,7 +27,8 @@ receives_later shape c p x v w l s h =
         wait = h.held.wait;
         holder = h.held.holder;
         fits = h.held.fits;
-        owner = named_own h.held.who x.clause ((replay w.seen).waits h.held.wait) (subst (CellNamed (replay w.seen).waits) here ((tied_now shape w.seen l).named c p));
+        owner = named_own h.held.who x.clause ((replay w.seen).waits h.held.wait)
+            (subst (CellNamed (replay w.seen).waits) here ((tied_now shape w.seen l).named c p));
       };
       cell = here;
     }

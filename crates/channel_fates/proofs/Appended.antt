@@ -55,11 +55,13 @@ Found {X} f xs = (x : X) × (f x ≡ true) × ((g : X → Bool) → g x ≡ true
 found_later : {X : Type 0} (f : X → Bool) (x : X) (xs : List X) → Found f xs → Found f (x ∷ xs)
 found_later f x xs r = (r.0, r.1, λ g k. ap (λ b. g x || b) (r.2 g k) ∙ or-true (g x))
 
-found_by : {X : Type 0} (f : X → Bool) (x : X) (xs : List X) (b : Bool) → f x ≡ b → (b || list_any f xs) ≡ true → (list_any f xs ≡ true → Found f xs) → Found f (x ∷ xs)
+found_by : {X : Type 0} (f : X → Bool) (x : X) (xs : List X) (b : Bool) → f x ≡ b → (b || list_any f xs) ≡ true
+    → (list_any f xs ≡ true → Found f xs) → Found f (x ∷ xs)
 found_by f x xs true t e k = (x, t, λ g h. ap (λ b. b || list_any g xs) h)
 found_by f x xs false t e k = found_later f x xs (k e)
 
-pub found : {X : Type 0} (f : X → Bool) (xs : List X) → list_any f xs ≡ true → (x : X) × (f x ≡ true) × ((g : X → Bool) → g x ≡ true → list_any g xs ≡ true)
+pub found : {X : Type 0} (f : X → Bool) (xs : List X) → list_any f xs ≡ true → (x : X) × (f x ≡ true)
+    × ((g : X → Bool) → g x ≡ true → list_any g xs ≡ true)
 found f [] e = cc
 found f (x ∷ xs) e = found_by f x xs (f x) refl e (found f xs)
 
@@ -84,17 +86,21 @@ pub first_last : {A : Type 0} (f : Act → Option A) (xs : List Act) (x : Act) �
 first_last f [] x e = else_nothing (f x)
 first_last f (y ∷ ys) x e = else_none (f y) (first_some f ys) (first_some f (ys ++ x ∷ [])) (f x) e (first_last f ys x)
 
-first_by : {A : Type 0} (f : Act → Option A) (x : Act) (xs : List Act) (v : A) (o : Option A) → f x ≡ o → or_else o (first_some f xs) ≡ Some v
-    → (first_some f xs ≡ Some v → (y : Act) × (f y ≡ Some v) × ((g : Act → Bool) → g y ≡ true → list_any g xs ≡ true)) → (y : Act) × (f y ≡ Some v) × ((g : Act → Bool) → g y ≡ true → (g x || list_any g xs) ≡ true)
+first_by : {A : Type 0} (f : Act → Option A) (x : Act) (xs : List Act) (v : A) (o : Option A) → f x ≡ o
+    → or_else o (first_some f xs) ≡ Some v
+    → (first_some f xs ≡ Some v → (y : Act) × (f y ≡ Some v) × ((g : Act → Bool) → g y ≡ true → list_any g xs ≡ true)) → (y : Act)
+    × (f y ≡ Some v) × ((g : Act → Bool) → g y ≡ true → (g x || list_any g xs) ≡ true)
 first_by f x xs v None t e k = let r = k e in (r.0, r.1, λ g h. ap (λ b. g x || b) (r.2 g h) ∙ or-true (g x))
 first_by f x xs v (Some u) t e k = (x, t ∙ e, λ g h. ap (λ b. b || list_any g xs) h)
 
 -- the act that says it first, with all that it shows of the acts
-pub first_found : {A : Type 0} (f : Act → Option A) (xs : List Act) (v : A) → first_some f xs ≡ Some v → (x : Act) × (f x ≡ Some v) × ((g : Act → Bool) → g x ≡ true → list_any g xs ≡ true)
+pub first_found : {A : Type 0} (f : Act → Option A) (xs : List Act) (v : A) → first_some f xs ≡ Some v → (x : Act) × (f x ≡ Some v)
+    × ((g : Act → Bool) → g x ≡ true → list_any g xs ≡ true)
 first_found f [] v e = cc
 first_found f (x ∷ xs) v e = first_by f x xs v (f x) refl e (first_found f xs v)
 
-there_by : {A : Type 0} (f : Act → Option A) (g : Act → Bool) → ((x : Act) → g x ≡ true → (v : A) × (f x ≡ Some v)) → (x : Act) (xs : List Act) (o : Option A) → f x ≡ o → (g x || list_any g xs) ≡ true
+there_by : {A : Type 0} (f : Act → Option A) (g : Act → Bool) → ((x : Act) → g x ≡ true → (v : A) × (f x ≡ Some v))
+    → (x : Act) (xs : List Act) (o : Option A) → f x ≡ o → (g x || list_any g xs) ≡ true
     → (list_any g xs ≡ true → (v : A) × (first_some f xs ≡ Some v)) → (v : A) × (or_else o (first_some f xs) ≡ Some v)
 there_by f g k x xs (Some u) t e h = (u, refl)
 there_by {A} f g k x xs None t e h = by_test (g x) refl e
@@ -104,7 +110,8 @@ there_by {A} f g k x xs None t e h = by_test (g x) refl e
     by_test false m e = h e
 
 -- where an act passes that says something, something is said
-pub first_there : {A : Type 0} (f : Act → Option A) (g : Act → Bool) → ((x : Act) → g x ≡ true → (v : A) × (f x ≡ Some v)) → (xs : List Act) → list_any g xs ≡ true → (v : A) × (first_some f xs ≡ Some v)
+pub first_there : {A : Type 0} (f : Act → Option A) (g : Act → Bool) → ((x : Act) → g x ≡ true → (v : A) × (f x ≡ Some v)) → (xs : List Act)
+    → list_any g xs ≡ true → (v : A) × (first_some f xs ≡ Some v)
 first_there f g k [] e = cc
 first_there f g k (x ∷ xs) e = there_by f g k x xs (f x) refl e (first_there f g k xs)
 

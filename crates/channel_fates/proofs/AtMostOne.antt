@@ -46,13 +46,15 @@ some_offer f (Some k) e = (k, refl, e)
 abbrev pub HandedAs : (WaitId → Bool) → ℕ → ℕ → List Act → Type 0
 HandedAs f c p acts = (list_any (hands c p) acts ≡ true) × ((w : WaitId) × (wait_at c p acts ≡ Some w) × (f w ≡ true))
 
-handed_as : (f : WaitId → Bool) (c p : ℕ) (acts : List Act) → (list_any (hands c p) acts && of_wait f (wait_at c p acts)) ≡ true → HandedAs f c p acts
+handed_as : (f : WaitId → Bool) (c p : ℕ) (acts : List Act) → (list_any (hands c p) acts && of_wait f (wait_at c p acts)) ≡ true
+    → HandedAs f c p acts
 handed_as f c p acts e = let k = and_both _ _ e in (k.0, some_wait f (wait_at c p acts) k.1)
 
 abbrev pub ends_as : (WaitId → Act → Bool) → List Act → WaitId → Bool
 ends_as test acts w = list_any (test w) acts
 
-pub received_is : (c p : ℕ) (acts : List Act) → is_received c p acts ≡ true → (list_any (takes c p) acts ≡ true) ⊎ HandedAs (ends_as settles_value acts) c p acts
+pub received_is : (c p : ℕ) (acts : List Act) → is_received c p acts ≡ true → (list_any (takes c p) acts ≡ true)
+    ⊎ HandedAs (ends_as settles_value acts) c p acts
 received_is c p acts e = ⊎_elim (λ k. inl k) (λ k. inr (handed_as (ends_as settles_value acts) c p acts k)) (or_either _ _ e)
 
 -- a wait of an offer here was withdrawn, or answered elsewhere
@@ -61,26 +63,31 @@ OtherEnd c p acts w = (list_any (withdraws w) acts ≡ true) ⊎ ((d : ℕ) × (
 
 -- offered at this clause by a wait that ended otherwise
 abbrev pub OfferedAs : (ℕ → Bool) → ℕ → ℕ → List Act → Type 0
-OfferedAs f c p acts = (k : ℕ) × (first_some (offers_at c p) acts ≡ Some k) × (f k ≡ true) × ((w : WaitId) × (wait_at c p acts ≡ Some w) × OtherEnd c p acts w)
+OfferedAs f c p acts = (k : ℕ) × (first_some (offers_at c p) acts ≡ Some k) × (f k ≡ true)
+    × ((w : WaitId) × (wait_at c p acts ≡ Some w) × OtherEnd c p acts w)
 
-taken_back_is : (c p : ℕ) (acts : List Act) → is_taken_back c p acts ≡ true → (w : WaitId) × (wait_at c p acts ≡ Some w) × OtherEnd c p acts w
+taken_back_is : (c p : ℕ) (acts : List Act) → is_taken_back c p acts ≡ true → (w : WaitId) × (wait_at c p acts ≡ Some w)
+    × OtherEnd c p acts w
 taken_back_is c p acts e = let k = some_wait (λ w. list_any (withdraws w) acts) (wait_at c p acts) (and_both _ _ e).1 in (k.0, k.1, inl k.2)
 
 is_wait_some : (w : WaitId) (o : Option WaitId) → is_wait w o ≡ true → o ≡ Some w
 is_wait_some w None e = cc
 is_wait_some w (Some v) e = ap (λ u. Some u) (sym (same_wait-eq w v e))
 
-elsewhere_at : (c p : ℕ) (w : WaitId) (acts : List Act) (o : Option (ℕ × ℕ)) → resolves_elsewhere c p w acts o ≡ true → (d : ℕ) × (q : ℕ) × (o ≡ Some (d, q)) × (is_at c p d q ≡ false) × (wait_at d q acts ≡ Some w)
+elsewhere_at : (c p : ℕ) (w : WaitId) (acts : List Act) (o : Option (ℕ × ℕ)) → resolves_elsewhere c p w acts o ≡ true → (d : ℕ) × (q : ℕ)
+    × (o ≡ Some (d, q)) × (is_at c p d q ≡ false) × (wait_at d q acts ≡ Some w)
 elsewhere_at c p w acts None e = cc
 elsewhere_at c p w acts (Some x) e = let k = and_both _ _ e in (x.0, x.1, refl, not_true _ k.0, is_wait_some w (wait_at x.0 x.1 acts) k.1)
 
-pub elsewhere_is : (c p : ℕ) (w : WaitId) (acts : List Act) → is_chosen_elsewhere c p w acts ≡ true → (d : ℕ) × (q : ℕ) × (is_at c p d q ≡ false) × Chosen acts d q w
+pub elsewhere_is : (c p : ℕ) (w : WaitId) (acts : List Act) → is_chosen_elsewhere c p w acts ≡ true → (d : ℕ) × (q : ℕ)
+    × (is_at c p d q ≡ false) × Chosen acts d q w
 elsewhere_is c p w acts e =
     let f = found (λ a. resolves_elsewhere c p w acts (resolves_at a)) acts e in
     let k = elsewhere_at c p w acts (resolves_at f.0) f.1 in
     (k.0, k.1, k.3, (k.4, f.2 (resolver k.0 k.1) (ap (is_this k.0 k.1) k.2 ∙ here k.0 k.1)))
 
-pub undelivered_is : (c p : ℕ) (acts : List Act) → is_undelivered_at c p acts ≡ true → (list_any (drains c p) acts ≡ true) ⊎ (HandedAs (ends_as settles_undelivered acts) c p acts ⊎ OfferedAs (λ k. k == 0) c p acts)
+pub undelivered_is : (c p : ℕ) (acts : List Act) → is_undelivered_at c p acts ≡ true → (list_any (drains c p) acts ≡ true)
+    ⊎ (HandedAs (ends_as settles_undelivered acts) c p acts ⊎ OfferedAs (λ k. k == 0) c p acts)
 undelivered_is c p acts e =
     ⊎_elim
     (λ k. inl k)
@@ -95,27 +102,32 @@ undelivered_is c p acts e =
 
 pub withdrawn_is : (c p : ℕ) (acts : List Act) → is_withdrawn c p acts ≡ true → OfferedAs (λ k. nat_lt 0 k) c p acts
 withdrawn_is c p acts e =
-    let o = some_offer (λ k. nat_lt 0 k && (is_taken_back c p acts || (not (list_any (admits c p) acts) && of_wait (λ w. is_chosen_elsewhere c p w acts) (wait_at c p acts)))) (first_some (offers_at c p) acts) e in
+    let o = some_offer (λ k. nat_lt 0 k && (is_taken_back c p acts
+    || (not (list_any (admits c p) acts) && of_wait (λ w. is_chosen_elsewhere c p w acts) (wait_at c p acts))))
+    (first_some (offers_at c p) acts) e in
     let b = and_both _ _ o.2 in (
       o.0,
       o.1,
       b.0,
       ⊎_elim
           (λ k. taken_back_is c p acts k)
-          (λ k. let x = some_wait (λ w. is_chosen_elsewhere c p w acts) (wait_at c p acts) (and_both _ _ k).1 in (x.0, x.1, inr (elsewhere_is c p x.0 acts x.2)))
+          (λ k. let x = some_wait (λ w. is_chosen_elsewhere c p w acts) (wait_at c p acts) (and_both _ _ k).1
+          in (x.0, x.1, inr (elsewhere_is c p x.0 acts x.2)))
           (or_either _ _ b.1),
     )
 
 -- ---- counts
 
-one_leaves : (c p : ℕ) (act : Act) → cond (takes c p act) 1 0 + cond (drains c p act) 1 0 + cond (drops_at c p act) 1 0 + cond (spurns_at c p act) 1 0 ≡ cond (removes c p act) 1 0
+one_leaves : (c p : ℕ) (act : Act) → cond (takes c p act) 1 0 + cond (drains c p act) 1 0 + cond (drops_at c p act) 1 0 + cond
+    (spurns_at c p act) 1 0 ≡ cond (removes c p act) 1 0
 one_leaves c p (Take d q v) = omega arith
 one_leaves c p (Drop d q v) = omega arith
 one_leaves c p (Spurn d q v) = omega arith
 one_leaves c p (Drain d q v) = omega arith
 one_leaves c p other = refl
 
-pub leaves_count : (c p : ℕ) (acts : List Act) → how_many (takes c p) acts + how_many (drains c p) acts + how_many (drops_at c p) acts + how_many (spurns_at c p) acts ≡ how_many (removes c p) acts
+pub leaves_count : (c p : ℕ) (acts : List Act) → how_many (takes c p) acts + how_many (drains c p) acts + how_many (drops_at c p) acts +
+    how_many (spurns_at c p) acts ≡ how_many (removes c p) acts
 leaves_count c p [] = refl
 leaves_count c p (a ∷ acts) = let k = one_leaves c p a in let m = leaves_count c p acts in omega arith
 
@@ -139,10 +151,14 @@ apart_sum true false h = omega arith
 apart_sum false true h = omega arith
 apart_sum false false h = omega arith
 
-one_of : (r u d x w : Bool) → (r ≡ true → u ≡ true → ⊥) → (r ≡ true → d ≡ true → ⊥) → (r ≡ true → x ≡ true → ⊥) → (r ≡ true → w ≡ true → ⊥) → (u ≡ true → d ≡ true → ⊥) → (u ≡ true → x ≡ true → ⊥) → (u ≡ true → w ≡ true → ⊥) → (d ≡ true → x ≡ true → ⊥) → (d ≡ true → w ≡ true → ⊥)
+one_of : (r u d x w : Bool) → (r ≡ true → u ≡ true → ⊥) → (r ≡ true → d ≡ true → ⊥) → (r ≡ true → x ≡ true → ⊥) → (r ≡ true → w ≡ true → ⊥)
+    → (u ≡ true → d ≡ true → ⊥) → (u ≡ true → x ≡ true → ⊥) → (u ≡ true → w ≡ true → ⊥) → (d ≡ true → x ≡ true → ⊥)
+    → (d ≡ true → w ≡ true → ⊥)
     → (x ≡ true → w ≡ true → ⊥) → how_many (λ (applies : Bool). applies) (r ∷ u ∷ d ∷ x ∷ w ∷ []) ≤ 1
-one_of true u d x w ru rd rx rw ud ux uw dx dw xw = let a = apart_sum true u ru in let b = apart_sum true d rd in let g = apart_sum true x rx in let e = apart_sum true w rw in omega arith
-one_of false true d x w ru rd rx rw ud ux uw dx dw xw = let b = apart_sum true d ud in let g = apart_sum true x ux in let e = apart_sum true w uw in omega arith
+one_of true u d x w ru rd rx rw ud ux uw dx dw xw = let a = apart_sum true u ru in let b = apart_sum true d rd
+    in let g = apart_sum true x rx in let e = apart_sum true w rw in omega arith
+one_of false true d x w ru rd rx rw ud ux uw dx dw xw = let b = apart_sum true d ud in let g = apart_sum true x ux
+    in let e = apart_sum true w uw in omega arith
 one_of false false true x w ru rd rx rw ud ux uw dx dw xw = let g = apart_sum true x dx in let e = apart_sum true w dw in omega arith
 one_of false false false x w ru rd rx rw ud ux uw dx dw xw = let e = apart_sum x w xw in omega arith
 
@@ -159,7 +175,8 @@ module _ (shape : Shape) (acts : List Act) (s : State) (t : Traced shape acts s)
   pub handed_alone : list_any (hands c p) acts ≡ true → how_many (enters c p) acts ≡ 0
   handed_alone e = let k = handed_answered c p acts e in omega (arith, counted.receivers, counted.given)
 
-  pub handed_or_left : list_any (hands c p) acts ≡ true → 1 ≤ how_many (takes c p) acts + how_many (drains c p) acts + how_many (drops_at c p) acts + how_many (spurns_at c p) acts → ⊥
+  pub handed_or_left : list_any (hands c p) acts ≡ true → 1 ≤ how_many (takes c p) acts + how_many (drains c p) acts + how_many
+      (drops_at c p) acts + how_many (spurns_at c p) acts → ⊥
   handed_or_left e h = let k = handed_alone e in omega (arith, leaves_count c p acts, counted.queue)
 
   pub handed_or_offered : (k : ℕ) → list_any (hands c p) acts ≡ true → first_some (offers_at c p) acts ≡ Some k → ⊥
@@ -194,7 +211,8 @@ module _ (shape : Shape) (acts : List Act) (s : State) (t : Traced shape acts s)
       let d = t.kinds.spurned c p e in
       waits_or_spurns (kind_at shape c) d.0 (t.kinds.offered c p (clause_offered c p k acts f)) d.1
 
-  taken_once : list_any (takes c p) acts ≡ true → 1 ≤ how_many (drains c p) acts + how_many (drops_at c p) acts + how_many (spurns_at c p) acts → ⊥
+  taken_once : list_any (takes c p) acts ≡ true → 1 ≤ how_many (drains c p) acts + how_many (drops_at c p) acts + how_many (spurns_at c p)
+      acts → ⊥
   taken_once e h = let k = any_count (takes c p) acts e in omega (arith, left_once)
 
   handed_one_end : HandedAs (ends_as settles_value acts) c p acts → HandedAs (ends_as settles_undelivered acts) c p acts → ⊥
@@ -209,7 +227,8 @@ module _ (shape : Shape) (acts : List Act) (s : State) (t : Traced shape acts s)
       ⊎_elim
       (λ e. ⊎_elim
       (λ f. let n = any_count (drains c p) acts f in taken_once e (omega arith))
-      (λ m. ⊎_elim (λ h. let n = any_count (takes c p) acts e in handed_or_left h.0 (omega arith)) (λ o. taken_or_otherwise (λ k. k == 0) e o) m)
+      (λ m. ⊎_elim (λ h. let n = any_count (takes c p) acts e
+      in handed_or_left h.0 (omega arith)) (λ o. taken_or_otherwise (λ k. k == 0) e o) m)
       (undelivered_is c p acts u))
       (λ h. ⊎_elim
       (λ f. let n = any_count (drains c p) acts f in handed_or_left h.0 (omega arith))
@@ -270,7 +289,9 @@ module _ (shape : Shape) (acts : List Act) (s : State) (t : Traced shape acts s)
 
   one_fate : IsAtMostOneFate c p acts
   one_fate =
-      one_of (is_received c p acts) (is_undelivered_at c p acts) (is_dropped c p acts) (is_spurned c p acts) (is_withdrawn c p acts) received_or_undelivered received_or_dropped received_or_spurned received_or_withdrawn undelivered_or_dropped undelivered_or_spurned
+      one_of (is_received c p acts) (is_undelivered_at c p acts) (is_dropped c p acts) (is_spurned c p acts) (is_withdrawn c p acts)
+      received_or_undelivered received_or_dropped received_or_spurned received_or_withdrawn undelivered_or_dropped
+      undelivered_or_spurned
       undelivered_or_withdrawn dropped_or_spurned dropped_or_withdrawn spurned_or_withdrawn
 
 pub replay_one_fate : (shape : Shape) (history : List Entry) (c p : ℕ) → Legal shape history → IsAtMostOneFate c p (acts_in history)

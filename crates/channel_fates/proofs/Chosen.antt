@@ -33,27 +33,35 @@ holder_source : (acts : List Act) (c p : ℕ) (h : Option Party) → HolderKnown
 holder_source acts c p None h = inl (refl, h)
 holder_source acts c p (Some x) h = inr (x.wait, refl, h.1)
 
-offer_source : (acts : List Act) (c p v : ℕ) (os : List Standing) → AllByRecursion (OfferKnown acts c) os → IsFirstOffer p v os → Source acts (first_holding os) (c, p)
+offer_source : (acts : List Act) (c p v : ℕ) (os : List Standing) → AllByRecursion (OfferKnown acts c) os → IsFirstOffer p v os
+    → Source acts (first_holding os) (c, p)
 offer_source acts c p v [] h n = absurd n
-offer_source acts c p v (o ∷ os) h n = subst (λ q. Source acts (wait_of_party o.holder) (c, q)) n.0 (holder_source acts c o.place o.holder h.0.0)
+offer_source acts c p v (o ∷ os) h n = subst (λ q. Source acts (wait_of_party o.holder) (c, q)) n.0
+    (holder_source acts c o.place o.holder h.0.0)
 
-receiver_source : (acts : List Act) (c p : ℕ) (rs : List Receiver) → AllByRecursion (ReceiverKnown acts c) rs → IsFirstReceiver p rs → Source acts (first_waiting rs) (c, p)
+receiver_source : (acts : List Act) (c p : ℕ) (rs : List Receiver) → AllByRecursion (ReceiverKnown acts c) rs → IsFirstReceiver p rs
+    → Source acts (first_waiting rs) (c, p)
 receiver_source acts c p [] h n = absurd n
 receiver_source acts c p (r ∷ rs) h n = inr (r.party.wait, refl, subst (λ q. wait_at c q acts ≡ Some r.party.wait) n h.0)
 
-admitted_source : (acts : List Act) (kind : Kind) (c p n : ℕ) (os : List Standing) → AllByRecursion (OfferKnown acts c) os → MayBeAdmitted kind p n os → Source acts (wait_of_party (holder_at p os)) (c, p)
+admitted_source : (acts : List Act) (kind : Kind) (c p n : ℕ) (os : List Standing) → AllByRecursion (OfferKnown acts c) os
+    → MayBeAdmitted kind p n os → Source acts (wait_of_party (holder_at p os)) (c, p)
 admitted_source acts kind c p n [] h m = absurd m
 admitted_source acts kind c p n (o ∷ os) h m = by_test (o.place == p) refl m (admitted_source acts kind c p (n + 1) os h.1)
   where
-    by_test : (b : Bool) → (o.place == p) ≡ b → MatchBool b ((is_some o.holder ≡ true) × (is_full kind n ≡ false)) (MayBeAdmitted kind p (n + 1) os) → (MayBeAdmitted kind p (n + 1) os → Source acts (wait_of_party (holder_at p os)) (c, p))
+    by_test : (b : Bool) → (o.place == p) ≡ b → MatchBool b ((is_some o.holder ≡ true)
+        × (is_full kind n ≡ false)) (MayBeAdmitted kind p (n + 1) os)
+        → (MayBeAdmitted kind p (n + 1) os → Source acts (wait_of_party (holder_at p os)) (c, p))
         → Source acts (wait_of_party (if b then o.holder else holder_at p os)) (c, p)
-    by_test true e m k = subst (λ q. Source acts (wait_of_party o.holder) (c, q)) (eqb-true o.place p e) (holder_source acts c o.place o.holder h.0.0)
+    by_test true e m k = subst (λ q. Source acts (wait_of_party o.holder) (c, q)) (eqb-true o.place p e)
+        (holder_source acts c o.place o.holder h.0.0)
     by_test false e m k = k m
 
 moved : (acts : List Act) (o : Option WaitId) (x y : ℕ × ℕ) → Some x ≡ Some y → Source acts o x → Source acts o y
 moved acts o x y e h = let k : x ≡ y = cc in subst (Source acts o) k h
 
-pub source_of : (shape : Shape) (acts : List Act) (s : State) (who : ℕ) (act : Act) → Needs shape s who act → AllKnown acts s → (x : ℕ × ℕ) → resolves_at act ≡ Some x → Source acts (resolves s act) x
+pub source_of : (shape : Shape) (acts : List Act) (s : State) (who : ℕ) (act : Act) → Needs shape s who act → AllKnown acts s → (x : ℕ × ℕ)
+    → resolves_at act ≡ Some x → Source acts (resolves s act) x
 source_of shape acts s who (Hand c p v) n h x e = moved acts _ (c, p) x e (receiver_source acts c p _ (h c).receivers n.2)
 source_of shape acts s who (Put c p v) n h x e = cc
 source_of shape acts s who (Offer c p v w k) n h x e = cc
@@ -111,7 +119,8 @@ this_place c p (Some x) e = let k = at_both c p x.0 x.1 e in ap (λ y. Some y) (
     pair : (a b m n : ℕ) → a ≡ m → b ≡ n → ◌≡◌ {A = ℕ × ℕ} (a, b) (m, n)
     pair a b m n e f = cc
 
-pub resolver_is : (c p : ℕ) (act : Act) → resolver c p act ≡ true → (answers c p act ≡ true) ⊎ ((removes c p act ≡ true) ⊎ (admits c p act ≡ true))
+pub resolver_is : (c p : ℕ) (act : Act) → resolver c p act ≡ true → (answers c p act ≡ true)
+    ⊎ ((removes c p act ≡ true) ⊎ (admits c p act ≡ true))
 resolver_is c p (Hand d q v) e = inl e
 resolver_is c p (Take d q v) e = inr (inl e)
 resolver_is c p (Admit d q) e = inr (inr e)
@@ -120,7 +129,8 @@ resolver_is c p (WakeClosed d q) e = inl e
 resolver_is c p other e = cc
 
 -- a place at which an act resolved was given out
-pub resolver_given : (c p : ℕ) (acts : List Act) (ch : Channel) → Counted c p acts ch → list_any (resolver c p) acts ≡ true → 1 ≤ how_many (enters c p) acts + how_many (awaits c p) acts
+pub resolver_given : (c p : ℕ) (acts : List Act) (ch : Channel) → Counted c p acts ch → list_any (resolver c p) acts ≡ true
+    → 1 ≤ how_many (enters c p) acts + how_many (awaits c p) acts
 resolver_given c p acts ch h e =
     let f = found (resolver c p) acts e in
     ⊎_elim
@@ -140,7 +150,8 @@ placing c p act w e = by_tests (enters c p act) (awaits c p act) refl refl
     by_tests false false k m = let n = places_none c p act k m in cc
 
 -- the wait of a place that was given out is not named later
-pub wait_before : (c p : ℕ) (acts : List Act) (act : Act) (w : WaitId) → 1 ≤ how_many (enters c p) acts + how_many (awaits c p) acts → how_many (enters c p) (acts ++ act ∷ []) + how_many (awaits c p) (acts ++ act ∷ []) ≤ 1
+pub wait_before : (c p : ℕ) (acts : List Act) (act : Act) (w : WaitId) → 1 ≤ how_many (enters c p) acts + how_many (awaits c p) acts
+    → how_many (enters c p) (acts ++ act ∷ []) + how_many (awaits c p) (acts ++ act ∷ []) ≤ 1
     → wait_at c p (acts ++ act ∷ []) ≡ Some w → wait_at c p acts ≡ Some w
 wait_before c p acts act w g h e = by_wait (wait_at c p acts) refl
   where
@@ -165,13 +176,16 @@ waiting c p (Await d q u k) w e = by_test (is_at c p d q) e
 waiting c p other w e = cc
 
 -- a place that has a wait was offered or awaited
-pub wait_counted : (c p : ℕ) (acts : List Act) (w : WaitId) → wait_at c p acts ≡ Some w → 1 ≤ how_many (offers c p) acts + how_many (awaits c p) acts
+pub wait_counted : (c p : ℕ) (acts : List Act) (w : WaitId) → wait_at c p acts ≡ Some w
+    → 1 ≤ how_many (offers c p) acts + how_many (awaits c p) acts
 wait_counted c p acts w e =
     let f = first_found (places_wait c p) acts w e in
-    ⊎_elim (λ k. let n = any_count (offers c p) acts (f.2 (offers c p) k) in omega arith) (λ k. let n = any_count (awaits c p) acts (f.2 (awaits c p) k) in omega arith) (waiting c p f.0 w f.1)
+    ⊎_elim (λ k. let n = any_count (offers c p) acts (f.2 (offers c p) k)
+    in omega arith) (λ k. let n = any_count (awaits c p) acts (f.2 (awaits c p) k) in omega arith) (waiting c p f.0 w f.1)
 
 -- a place that an element was put at has no wait
-pub put_alone : (c p : ℕ) (acts : List Act) (ch : Channel) (w : WaitId) → Counted c p acts ch → list_any (puts c p) acts ≡ true → wait_at c p acts ≡ Some w → ⊥
+pub put_alone : (c p : ℕ) (acts : List Act) (ch : Channel) (w : WaitId) → Counted c p acts ch → list_any (puts c p) acts ≡ true
+    → wait_at c p acts ≡ Some w → ⊥
 put_alone c p acts ch w h e f =
     let a = any_count (puts c p) acts e in
     let b = wait_counted c p acts w f in

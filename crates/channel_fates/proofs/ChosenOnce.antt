@@ -25,7 +25,8 @@ pub record Told (acts : List Act) (s : State) : Type 0 where
   pub counted : (c p : ℕ) → Counted c p acts (s.channels c)
   pub known : AllKnown acts s
 
-pub told_after : (shape : Shape) (acts : List Act) (s : State) (who : ℕ) (act : Act) → Needs shape s who act → Told acts s → Told (acts ++ act ∷ []) (after s who act)
+pub told_after : (shape : Shape) (acts : List Act) (s : State) (who : ℕ) (act : Act) → Needs shape s who act → Told acts s
+    → Told (acts ++ act ∷ []) (after s who act)
 told_after shape acts s who act n h = record {
   stand = after_open s who act h.stand;
   counted = counted_after shape acts s who act n h.counted;
@@ -46,15 +47,18 @@ admitted_resolved c p acts e = let f = found (admits c p) acts e in f.2 (resolve
 abbrev Now : State → Act → ℕ → ℕ → WaitId → Type 0
 Now s act c p w = (resolves s act ≡ Some w) × (resolves_at act ≡ Some (c, p))
 
-unheld_before : (acts : List Act) (act : Act) (s : State) (c p : ℕ) (w : WaitId) → Counted c p acts (s.channels c) → how_many (enters c p) (acts ++ act ∷ []) + how_many (awaits c p) (acts ++ act ∷ []) ≤ 1
+unheld_before : (acts : List Act) (act : Act) (s : State) (c p : ℕ) (w : WaitId) → Counted c p acts (s.channels c)
+    → how_many (enters c p) (acts ++ act ∷ []) + how_many (awaits c p) (acts ++ act ∷ []) ≤ 1
     → wait_at c p (acts ++ act ∷ []) ≡ Some w → Unheld acts (c, p) → Chosen acts c p w
 unheld_before acts act s c p w h g e u =
     ⊎_elim
-    (λ k. let a = any_count (puts c p) acts k in let b = enters_count c p acts in absurd (put_alone c p acts (s.channels c) w h k (wait_before c p acts act w (omega arith) g e)))
+    (λ k. let a = any_count (puts c p) acts k in let b = enters_count c p acts
+    in absurd (put_alone c p acts (s.channels c) w h k (wait_before c p acts act w (omega arith) g e)))
     (λ k. let r = admitted_resolved c p acts k in (wait_before c p acts act w (resolver_given c p acts (s.channels c) h r) g e, r))
     u
 
-chosen_cases : (shape : Shape) (acts : List Act) (s : State) (who : ℕ) (act : Act) → Needs shape s who act → Told acts s → (c p : ℕ) (w : WaitId) → Chosen (acts ++ act ∷ []) c p w → Chosen acts c p w ⊎ Now s act c p w
+chosen_cases : (shape : Shape) (acts : List Act) (s : State) (who : ℕ) (act : Act) → Needs shape s who act → Told acts s
+    → (c p : ℕ) (w : WaitId) → Chosen (acts ++ act ∷ []) c p w → Chosen acts c p w ⊎ Now s act c p w
 chosen_cases shape acts s who act n t c p w h =
     ⊎_elim
     (λ old. inl (wait_before c p acts act w (resolver_given c p acts (s.channels c) (t.counted c p) old) g h.0, old))
@@ -68,10 +72,12 @@ chosen_cases shape acts s who act n t c p w h =
     by_source x r =
         ⊎_elim
         (λ u. inl (unheld_before acts act s c p w (t.counted c p) g h.0 u.1))
-        (λ k. let m = first_kept (places_wait c p) acts (act ∷ []) k.0 k.2 in let same : k.0 ≡ w = cc in inr (k.1 ∙ ap (λ u. Some u) same, x))
+        (λ k. let m = first_kept (places_wait c p) acts (act ∷ []) k.0 k.2 in let same : k.0 ≡ w = cc
+        in inr (k.1 ∙ ap (λ u. Some u) same, x))
         r
 
-withdrawn_cases : (acts : List Act) (s : State) (act : Act) (w : WaitId) → list_any (withdraws w) (acts ++ act ∷ []) ≡ true → (list_any (withdraws w) acts ≡ true) ⊎ ((resolves s act ≡ Some w) × (resolves_at act ≡ None))
+withdrawn_cases : (acts : List Act) (s : State) (act : Act) (w : WaitId) → list_any (withdraws w) (acts ++ act ∷ []) ≡ true
+    → (list_any (withdraws w) acts ≡ true) ⊎ ((resolves s act ≡ Some w) × (resolves_at act ≡ None))
 withdrawn_cases acts s act w e = ⊎_elim (λ k. inl k) (λ k. inr (withdrawn_now s act w k)) (any_cases (withdraws w) acts act e)
 
 same_pair : (c p d q : ℕ) → ◌≡◌ {A = Option (ℕ × ℕ)} (Some (c, p)) (Some (d, q)) → (c ≡ d) × (p ≡ q)
@@ -85,7 +91,8 @@ pub record ChosenOnce (acts : List Act) (s : State) : Type 0 where
   pub apart : (c p : ℕ) (w : WaitId) → Chosen acts c p w → list_any (withdraws w) acts ≡ true → ⊥
   pub known : (w : WaitId) → IsResolvedWait (s.waits w) → (list_any (withdraws w) acts ≡ true) ⊎ ((c : ℕ) × (p : ℕ) × Chosen acts c p w)
 
-module _ (shape : Shape) (acts : List Act) (s : State) (who : ℕ) (act : Act) (n : Needs shape s who act) (t : Told acts s) (h : ChosenOnce acts s) where
+module _ (shape : Shape) (acts : List Act) (s : State) (who : ℕ) (act : Act) (n : Needs shape s who act) (t : Told acts s)
+    (h : ChosenOnce acts s) where
   turns : (w : WaitId) → resolves s act ≡ Some w → Turns IsResolvedWait w s.waits (after s who act).waits
   turns w e = resolves_turns shape s who act t.stand n w e
 
@@ -105,29 +112,41 @@ module _ (shape : Shape) (acts : List Act) (s : State) (who : ℕ) (act : Act) (
   one_after c p d q w k m =
       ⊎_elim
       (λ old. ⊎_elim (λ older. h.one c p d q w old older) (λ new. absurd ((turns w new.0).before (h.resolved c p w old))) (cases d q w m))
-      (λ new. ⊎_elim (λ old. absurd ((turns w new.0).before (h.resolved d q w old))) (λ now. same_pair c p d q (sym new.1 ∙ now.1)) (cases d q w m))
+      (λ new. ⊎_elim (λ old. absurd ((turns w new.0).before (h.resolved d q w old))) (λ now. same_pair c p d q (sym new.1 ∙ now.1))
+      (cases d q w m))
       (cases c p w k)
 
   apart_after : (c p : ℕ) (w : WaitId) → Chosen (acts ++ act ∷ []) c p w → list_any (withdraws w) (acts ++ act ∷ []) ≡ true → ⊥
   apart_after c p w k m =
       ⊎_elim
-      (λ old. ⊎_elim (λ older. h.apart c p w old older) (λ new. (turns w new.0).before (h.resolved c p w old)) (withdrawn_cases acts s act w m))
-      (λ new. ⊎_elim (λ old. (turns w new.0).before (h.withdrawn w old)) (λ now. let e = new.1 in let f = now.1 in cc) (withdrawn_cases acts s act w m))
+      (λ old. ⊎_elim (λ older. h.apart c p w old older) (λ new. (turns w new.0).before (h.resolved c p w old))
+      (withdrawn_cases acts s act w m))
+      (λ new. ⊎_elim (λ old. (turns w new.0).before (h.withdrawn w old)) (λ now. let e = new.1 in let f = now.1
+      in cc) (withdrawn_cases acts s act w m))
       (cases c p w k)
 
   chosen_more : (c p : ℕ) (w : WaitId) → Chosen acts c p w → Chosen (acts ++ act ∷ []) c p w
   chosen_more c p w k = (first_kept (places_wait c p) acts (act ∷ []) w k.0, any_kept (resolver c p) acts (act ∷ []) k.1)
 
-  known_now : (w : WaitId) (o : Option (ℕ × ℕ)) → resolves_at act ≡ o → resolves s act ≡ Some w → (list_any (withdraws w) (acts ++ act ∷ []) ≡ true) ⊎ ((c : ℕ) × (p : ℕ) × Chosen (acts ++ act ∷ []) c p w)
+  known_now : (w : WaitId) (o : Option (ℕ × ℕ)) → resolves_at act ≡ o → resolves s act ≡ Some w
+      → (list_any (withdraws w) (acts ++ act ∷ []) ≡ true) ⊎ ((c : ℕ) × (p : ℕ) × Chosen (acts ++ act ∷ []) c p w)
   known_now w None e r = inl (any_last (withdraws w) acts act (withdraws_only s act w e r))
   known_now w (Some x) e r =
       ⊎_elim
       (λ u. let f = u.0 in cc)
       (λ k. let same : k.0 ≡ w = (let f = k.1 in cc) in
-      inr (x.0, x.1, (first_kept (places_wait x.0 x.1) acts (act ∷ []) w (k.2 ∙ ap (λ u. Some u) same), any_last (resolver x.0 x.1) acts act (ap (is_this x.0 x.1) e ∙ here x.0 x.1))))
+      inr (
+        x.0,
+        x.1,
+        (
+          first_kept (places_wait x.0 x.1) acts (act ∷ []) w (k.2 ∙ ap (λ u. Some u) same),
+          any_last (resolver x.0 x.1) acts act (ap (is_this x.0 x.1) e ∙ here x.0 x.1),
+        ),
+      ))
       (source_of shape acts s who act n t.known x e)
 
-  known_resolved : (w : WaitId) → IsResolvedWait ((after s who act).waits w) → (list_any (withdraws w) (acts ++ act ∷ []) ≡ true) ⊎ ((c : ℕ) × (p : ℕ) × Chosen (acts ++ act ∷ []) c p w)
+  known_resolved : (w : WaitId) → IsResolvedWait ((after s who act).waits w) → (list_any (withdraws w) (acts ++ act ∷ []) ≡ true)
+      ⊎ ((c : ℕ) × (p : ℕ) × Chosen (acts ++ act ∷ []) c p w)
   known_resolved w k =
       ⊎_elim
       (λ old. ⊎_elim (λ e. inl (any_kept (withdraws w) acts (act ∷ []) e)) (λ x. inr (x.0, x.1, chosen_more x.0 x.1 w x.2)) (h.known w old))
@@ -135,7 +154,14 @@ module _ (shape : Shape) (acts : List Act) (s : State) (who : ℕ) (act : Act) (
       (resolved_before s who act w k)
 
   pub chosen_after : ChosenOnce (acts ++ act ∷ []) (after s who act)
-  chosen_after = record { resolved = resolved_after; withdrawn = withdrawn_after; one = one_after; apart = apart_after; known = known_resolved }
+  chosen_after = record {
+    resolved = resolved_after;
+    withdrawn = withdrawn_after;
+    one = one_after;
+    apart = apart_after;
+    known =
+        known_resolved;
+  }
 
 pub start_chosen : ChosenOnce [] start
 start_chosen = record {

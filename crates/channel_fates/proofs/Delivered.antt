@@ -14,35 +14,11 @@ use Rattle.channel_fates.proofs.Traced.{replay_traced}
 
 takes_remove : (c p : ℕ) (act : Act) → cond (takes c p act) 1 0 ≤ cond (removes c p act) 1 0
 takes_remove c p (Hand d q v) = omega arith
-takes_remove c p (Put d q v) = omega arith
-takes_remove c p (Offer d q v w k) = omega arith
-takes_remove c p (Await d q w k) = omega arith
-takes_remove c p (Take d q v) = omega arith
-takes_remove c p (Admit d q) = omega arith
-takes_remove c p (Drop d q v) = omega arith
-takes_remove c p (Spurn d q v) = omega arith
-takes_remove c p (Close d v) = omega arith
-takes_remove c p (Void d) = omega arith
-takes_remove c p (Drain d q v) = omega arith
-takes_remove c p (WakeClosed d q) = omega arith
-takes_remove c p (Withdraw w why) = omega arith
-takes_remove c p (Settle w outcome) = omega arith
+takes_remove c p other = omega arith
 
 hands_answer : (c p : ℕ) (act : Act) → cond (hands c p act) 1 0 ≤ cond (answers c p act) 1 0
 hands_answer c p (Hand d q v) = omega arith
-hands_answer c p (Put d q v) = omega arith
-hands_answer c p (Offer d q v w k) = omega arith
-hands_answer c p (Await d q w k) = omega arith
-hands_answer c p (Take d q v) = omega arith
-hands_answer c p (Admit d q) = omega arith
-hands_answer c p (Drop d q v) = omega arith
-hands_answer c p (Spurn d q v) = omega arith
-hands_answer c p (Close d v) = omega arith
-hands_answer c p (Void d) = omega arith
-hands_answer c p (Drain d q v) = omega arith
-hands_answer c p (WakeClosed d q) = omega arith
-hands_answer c p (Withdraw w why) = omega arith
-hands_answer c p (Settle w outcome) = omega arith
+hands_answer c p other = omega arith
 
 fewer : (f g : Act → Bool) → ((act : Act) → cond (f act) 1 0 ≤ cond (g act) 1 0) → (acts : List Act) → how_many f acts ≤ how_many g acts
 fewer f g less [] = omega arith

@@ -37,7 +37,8 @@ use Rattle.channel_fates.proofs.AtMostOne.{or_either, some_wait, HandedAs, ends_
 -- ---- a fate is held where no other applies
 
 held_if : (r u d x w : Bool) → (r ≡ true → ⊥) → (u ≡ true → ⊥) → (d ≡ true → ⊥) → (x ≡ true → ⊥) → (w ≡ true → ⊥)
-    → (if r then fate.Received else if u then fate.Undelivered else if d then fate.Dropped else if x then fate.Spurned else if w then fate.Withdrawn else fate.Held) ≡ fate.Held
+    → (if r then fate.Received else if u then fate.Undelivered else if d then fate.Dropped else if x then fate.Spurned else if w then
+    fate.Withdrawn else fate.Held) ≡ fate.Held
 held_if true u d x w a b e g f = absurd (a refl)
 held_if false true d x w a b e g f = absurd (b refl)
 held_if false false true x w a b e g f = absurd (e refl)
@@ -45,7 +46,9 @@ held_if false false false true w a b e g f = absurd (g refl)
 held_if false false false false true a b e g f = absurd (f refl)
 held_if false false false false false a b e g f = refl
 
-held_only : (r u d x w : Bool) → (if r then fate.Received else if u then fate.Undelivered else if d then fate.Dropped else if x then fate.Spurned else if w then fate.Withdrawn else fate.Held) ≡ fate.Held
+held_only : (r u d x w : Bool)
+    → (if r then fate.Received else if u then fate.Undelivered else if d then fate.Dropped else if x then fate.Spurned else if w then
+    fate.Withdrawn else fate.Held) ≡ fate.Held
     → (r ≡ false) × (u ≡ false) × (d ≡ false) × (x ≡ false) × (w ≡ false)
 held_only true u d x w e = cc
 held_only false true d x w e = cc
@@ -62,39 +65,48 @@ place_stands p os = list_any (λ o. o.place == p) os
 
 -- the words of the law, for offers of any value
 abbrev PlaceStands : ℕ → ℕ → List Act → State → Type 0
-PlaceStands c p acts s = (place_stands p (s.channels c).queue || (list_any (hands c p) acts && of_wait (λ w. is_unsettled (s.waits w)) (wait_at c p acts))) ≡ true
+PlaceStands c p acts s = (place_stands p (s.channels c).queue
+    || (list_any (hands c p) acts && of_wait (λ w. is_unsettled (s.waits w)) (wait_at c p acts))) ≡ true
 
 either_holds : (a b r : Bool) → (a ≡ true → b ≡ true) → (a || r) ≡ true → (b || r) ≡ true
 either_holds true b r k e = ap (λ x. x || r) (k refl)
 either_holds false b r k e = ap (λ x. b || x) e ∙ or-true b
 
 place_of_value : (p v : ℕ) (os : List Standing) → stands_in p v os ≡ true → place_stands p os ≡ true
-place_of_value p v os e = let x = found (λ (o : Standing). (o.place == p) && (o.value == v)) os e in x.2 (λ o. o.place == p) (and_both _ _ x.1).0
+place_of_value p v os e = let x = found (λ (o : Standing). (o.place == p) && (o.value == v)) os e
+    in x.2 (λ o. o.place == p) (and_both _ _ x.1).0
 
 -- what stands has the value that came to its place
-value_stands : (acts : List Act) (c p v : ℕ) (os : List Standing) → AllByRecursion (OfferKnown acts c) os → element_at c p acts ≡ Some v → place_stands p os ≡ true → stands_in p v os ≡ true
+value_stands : (acts : List Act) (c p v : ℕ) (os : List Standing) → AllByRecursion (OfferKnown acts c) os → element_at c p acts ≡ Some v
+    → place_stands p os ≡ true → stands_in p v os ≡ true
 value_stands acts c p v [] k e h = cc
 value_stands acts c p v (o ∷ os) k e h = by_test (o.place == p) refl h (value_stands acts c p v os k.1 e)
   where
-    by_test : (b : Bool) → (o.place == p) ≡ b → (b || place_stands p os) ≡ true → (place_stands p os ≡ true → stands_in p v os ≡ true) → ((b && (o.value == v)) || stands_in p v os) ≡ true
+    by_test : (b : Bool) → (o.place == p) ≡ b → (b || place_stands p os) ≡ true → (place_stands p os ≡ true → stands_in p v os ≡ true)
+        → ((b && (o.value == v)) || stands_in p v os) ≡ true
     by_test true t h m =
         let f : element_at c p acts ≡ Some o.value = subst (λ q. element_at c q acts ≡ Some o.value) (eqb-true o.place p t) k.0.1 in
         let same : o.value ≡ v = cc in
         ap (λ b. b || stands_in p v os) (ap (λ x. x == v) same ∙ same_number v)
     by_test false t h m = m h
 
-standing_here : (waits : WaitId → Option Wait) (acts : List Act) (c p : ℕ) (h : Option Party) → HolderStands waits c h → HolderKnown acts c p h → Unheld acts (c, p) ⊎ ((w : WaitId) × (wait_at c p acts ≡ Some w) × IsStandingAt c (waits w))
+standing_here : (waits : WaitId → Option Wait) (acts : List Act) (c p : ℕ) (h : Option Party) → HolderStands waits c h
+    → HolderKnown acts c p h → Unheld acts (c, p) ⊎ ((w : WaitId) × (wait_at c p acts ≡ Some w) × IsStandingAt c (waits w))
 standing_here waits acts c p None h k = inl k
 standing_here waits acts c p (Some x) h k = inr (x.wait, k.1, h)
 
-standing_known : (waits : WaitId → Option Wait) (acts : List Act) (c p : ℕ) (os : List Standing) → OffersStand waits c os → AllByRecursion (OfferKnown acts c) os → place_stands p os ≡ true → Unheld acts (c, p) ⊎ ((w : WaitId) × (wait_at c p acts ≡ Some w) × IsStandingAt c (waits w))
+standing_known : (waits : WaitId → Option Wait) (acts : List Act) (c p : ℕ) (os : List Standing) → OffersStand waits c os
+    → AllByRecursion (OfferKnown acts c) os → place_stands p os ≡ true → Unheld acts (c, p)
+    ⊎ ((w : WaitId) × (wait_at c p acts ≡ Some w) × IsStandingAt c (waits w))
 unfolding OffersStand
 standing_known waits acts c p [] h k e = cc
 standing_known waits acts c p (o ∷ os) h k e = by_test (o.place == p) refl e (standing_known waits acts c p os h.1 k.1)
   where
-    by_test : (b : Bool) → (o.place == p) ≡ b → (b || place_stands p os) ≡ true → (place_stands p os ≡ true → Unheld acts (c, p) ⊎ ((w : WaitId) × (wait_at c p acts ≡ Some w) × IsStandingAt c (waits w)))
+    by_test : (b : Bool) → (o.place == p) ≡ b → (b || place_stands p os) ≡ true
+        → (place_stands p os ≡ true → Unheld acts (c, p) ⊎ ((w : WaitId) × (wait_at c p acts ≡ Some w) × IsStandingAt c (waits w)))
         → Unheld acts (c, p) ⊎ ((w : WaitId) × (wait_at c p acts ≡ Some w) × IsStandingAt c (waits w))
-    by_test true t e m = subst (λ q. Unheld acts (c, q) ⊎ ((w : WaitId) × (wait_at c q acts ≡ Some w) × IsStandingAt c (waits w))) (eqb-true o.place p t) (standing_here waits acts c o.place o.holder h.0 k.0.0)
+    by_test true t e m = subst (λ q. Unheld acts (c, q) ⊎ ((w : WaitId) × (wait_at c q acts ≡ Some w) × IsStandingAt c (waits w)))
+        (eqb-true o.place p t) (standing_here waits acts c o.place o.holder h.0 k.0.0)
     by_test false t e m = m e
 
 some_not_none : (ending : Option Settled) → is_some ending ≡ true → is_none ending ≡ false
@@ -116,10 +128,12 @@ settled_or (Some x) h = by_end x.settled
 -- ---- where an element came from
 
 -- an element was handed, put or offered
-element_came : (c p v : ℕ) (acts : List Act) → element_at c p acts ≡ Some v → (list_any (hands c p) acts ≡ true) ⊎ ((list_any (puts c p) acts ≡ true) ⊎ (list_any (offers c p) acts ≡ true))
+element_came : (c p v : ℕ) (acts : List Act) → element_at c p acts ≡ Some v → (list_any (hands c p) acts ≡ true)
+    ⊎ ((list_any (puts c p) acts ≡ true) ⊎ (list_any (offers c p) acts ≡ true))
 element_came c p v acts e =
     let f = first_found (brings c p) acts v e in
-    ⊎_elim (λ k. inl (f.2 (hands c p) k)) (λ m. ⊎_elim (λ k. inr (inl (f.2 (puts c p) k))) (λ k. inr (inr (f.2 (offers c p) k))) m) (came c p v f.0 f.1)
+    ⊎_elim (λ k. inl (f.2 (hands c p) k)) (λ m. ⊎_elim (λ k. inr (inl (f.2 (puts c p) k))) (λ k. inr (inr (f.2 (offers c p) k))) m)
+    (came c p v f.0 f.1)
 
 offer_waits : (c p : ℕ) (act : Act) → offers c p act ≡ true → (w : WaitId) × (places_wait c p act ≡ Some w)
 offer_waits c p act e = let o = offer_of c p act e in (o.1, ap (places_wait c p) o.3 ∙ ap (λ b. if b then Some o.1 else None) (here c p))
@@ -139,10 +153,12 @@ admit_frees : (c p : ℕ) (act : Act) → admits c p act ≡ true → frees c p 
 admit_frees c p (Admit d q) e = e
 admit_frees c p other e = cc
 
-any_freed : (c p : ℕ) (acts : List Act) (f : Act → Bool) → ((act : Act) → f act ≡ true → frees c p act ≡ true) → list_any f acts ≡ true → 1 ≤ how_many (frees c p) acts
+any_freed : (c p : ℕ) (acts : List Act) (f : Act → Bool) → ((act : Act) → f act ≡ true → frees c p act ≡ true) → list_any f acts ≡ true
+    → 1 ≤ how_many (frees c p) acts
 any_freed c p acts f k e = let x = found f acts e in any_count (frees c p) acts (x.2 (frees c p) (k x.0 x.1))
 
-placed_in : (p : ℕ) (f : Standing → Bool) (os : List Standing) → ((o : Standing) → f o ≡ true → (o.place == p) ≡ true) → 1 ≤ how_many f os → place_stands p os ≡ true
+placed_in : (p : ℕ) (f : Standing → Bool) (os : List Standing) → ((o : Standing) → f o ≡ true → (o.place == p) ≡ true) → 1 ≤ how_many f os
+    → place_stands p os ≡ true
 placed_in p f os k h = let x = found f os (count_any f os h) in x.2 (λ o. o.place == p) (k x.0 x.1)
 
 -- ---- tests, from what they say
@@ -170,12 +186,14 @@ wait_holds f o w e h = ap (of_wait f) e ∙ h
 offer_holds : (f : ℕ → Bool) (o : Option ℕ) (k : ℕ) → o ≡ Some k → f k ≡ true → of_offer f o ≡ true
 offer_holds f o k e h = ap (of_offer f) e ∙ h
 
-chosen_elsewhere : (acts : List Act) (c p d q : ℕ) (w : WaitId) → is_at c p d q ≡ false → Chosen acts d q w → is_chosen_elsewhere c p w acts ≡ true
+chosen_elsewhere : (acts : List Act) (c p d q : ℕ) (w : WaitId) → is_at c p d q ≡ false → Chosen acts d q w
+    → is_chosen_elsewhere c p w acts ≡ true
 chosen_elsewhere acts c p d q w e h =
     let f = found (resolver d q) acts h.1 in
     let at = this_place d q (resolves_at f.0) f.1 in
     let is : is_wait w (wait_at d q acts) ≡ true = ap (is_wait w) h.0 ∙ same_wait-refl w in
-    f.2 (λ a. resolves_elsewhere c p w acts (resolves_at a)) (ap (resolves_elsewhere c p w acts) at ∙ both_hold (not (is_at c p d q)) (is_wait w (wait_at d q acts)) (ap not e) is)
+    f.2 (λ a. resolves_elsewhere c p w acts (resolves_at a)) (ap (resolves_elsewhere c p w acts) at
+    ∙ both_hold (not (is_at c p d q)) (is_wait w (wait_at d q acts)) (ap not e) is)
 
 -- ---- what stands, or is not settled, has no other fate
 
@@ -200,7 +218,8 @@ module _ (shape : Shape) (acts : List Act) (s : State) (t : Traced shape acts s)
       (standing_known s.waits acts c p (s.channels c).queue (t.told.stand c).offers (t.told.known c).offers e)
 
   standing_stays : place_stands p (s.channels c).queue ≡ true → how_many (removes c p) acts ≡ 0
-  standing_stays e = let k = any_count (λ (o : Standing). o.place == p) (s.channels c).queue e in omega (arith, counted.queue, counted.given)
+  standing_stays e = let k = any_count (λ (o : Standing). o.place == p) (s.channels c).queue e
+      in omega (arith, counted.queue, counted.given)
 
   standing_or_handed : place_stands p (s.channels c).queue ≡ true → list_any (hands c p) acts ≡ true → ⊥
   standing_or_handed e h =
@@ -222,13 +241,15 @@ module _ (shape : Shape) (acts : List Act) (s : State) (t : Traced shape acts s)
       (λ k. let m = any_count (spurns_at c p) acts k in omega arith)
       (λ w. standing_or_ended (λ k. nat_lt 0 k) e (withdrawn_is c p acts w))
 
-  handed_as_settled : (test : WaitId → Act → Bool) → ((w : WaitId) → list_any (test w) acts ≡ true → IsSettledWait (s.waits w)) → (w : WaitId) → wait_at c p acts ≡ Some w → is_unsettled (s.waits w) ≡ true → HandedAs (ends_as test acts) c p acts → ⊥
+  handed_as_settled : (test : WaitId → Act → Bool) → ((w : WaitId) → list_any (test w) acts ≡ true → IsSettledWait (s.waits w))
+      → (w : WaitId) → wait_at c p acts ≡ Some w → is_unsettled (s.waits w) ≡ true → HandedAs (ends_as test acts) c p acts → ⊥
   handed_as_settled test settled w e f h =
       let g = h.1.1 in
       let same : h.1.0 ≡ w = cc in
       unsettled_or (s.waits w) (subst (λ u. IsSettledWait (s.waits u)) same (settled h.1.0 h.1.2)) f
 
-  unsettled_held : (w : WaitId) → list_any (hands c p) acts ≡ true → wait_at c p acts ≡ Some w → is_unsettled (s.waits w) ≡ true → fate_at c p acts ≡ fate.Held
+  unsettled_held : (w : WaitId) → list_any (hands c p) acts ≡ true → wait_at c p acts ≡ Some w → is_unsettled (s.waits w) ≡ true
+      → fate_at c p acts ≡ fate.Held
   unsettled_held w h e f =
       held_if (is_received c p acts) (is_undelivered_at c p acts) (is_dropped c p acts) (is_spurned c p acts) (is_withdrawn c p acts)
       (λ r. ⊎_elim
@@ -237,7 +258,8 @@ module _ (shape : Shape) (acts : List Act) (s : State) (t : Traced shape acts s)
       (received_is c p acts r))
       (λ u. ⊎_elim
       (λ k. let m = any_count (drains c p) acts k in handed_or_left shape acts s t c p h (omega arith))
-      (λ x. ⊎_elim (λ y. handed_as_settled settles_undelivered t.ended.undelivered w e f y) (λ o. handed_or_offered shape acts s t c p o.0 h o.1) x)
+      (λ x. ⊎_elim (λ y. handed_as_settled settles_undelivered t.ended.undelivered w e f y)
+      (λ o. handed_or_offered shape acts s t c p o.0 h o.1) x)
       (undelivered_is c p acts u))
       (λ k. let m = any_count (drops_at c p) acts k in handed_or_left shape acts s t c p h (omega arith))
       (λ k. let m = any_count (spurns_at c p) acts k in handed_or_left shape acts s t c p h (omega arith))
@@ -247,13 +269,15 @@ module _ (shape : Shape) (acts : List Act) (s : State) (t : Traced shape acts s)
   held_where_standing h =
       ⊎_elim
       (λ e. standing_held e)
-      (λ e. let k = and_both _ _ e in let x = some_wait (λ w. is_unsettled (s.waits w)) (wait_at c p acts) k.1 in unsettled_held x.0 k.0 x.1 x.2)
+      (λ e. let k = and_both _ _ e in let x = some_wait (λ w. is_unsettled (s.waits w)) (wait_at c p acts) k.1
+      in unsettled_held x.0 k.0 x.1 x.2)
       (or_either _ _ h)
 
 -- ---- what has no other fate stands, or is not settled
 
 module _ (shape : Shape) (acts : List Act) (s : State) (t : Traced shape acts s) (c p : ℕ)
-    (received : is_received c p acts ≡ false) (undelivered : is_undelivered_at c p acts ≡ false) (dropped : is_dropped c p acts ≡ false) (spurned : is_spurned c p acts ≡ false) (withdrawn : is_withdrawn c p acts ≡ false) where
+    (received : is_received c p acts ≡ false) (undelivered : is_undelivered_at c p acts ≡ false) (dropped : is_dropped c p acts ≡ false)
+    (spurned : is_spurned c p acts ≡ false) (withdrawn : is_withdrawn c p acts ≡ false) where
   given : Counted c p acts (s.channels c)
   given = t.told.counted c p
 
@@ -267,17 +291,21 @@ module _ (shape : Shape) (acts : List Act) (s : State) (t : Traced shape acts s)
 
   freed_stands : 1 ≤ how_many (frees c p) acts → PlaceStands c p acts s
   freed_stands h =
-      first_holds _ _ (placed_in p (is_free p) (s.channels c).queue (λ o e. (and_both (o.place == p) _ e).0) (omega (arith, t.kept.kept c p, nothing_left)))
+      first_holds _ _ (placed_in p (is_free p) (s.channels c).queue (λ o e. (and_both (o.place == p) _ e).0)
+      (omega (arith, t.kept.kept c p, nothing_left)))
 
   held_stands : (w : WaitId) → Stands p w (s.channels c) → PlaceStands c p acts s
   held_stands w h = first_holds _ _ (placed_in p (is_held p w) (s.channels c).queue (λ o e. (and_both (o.place == p) _ e).0) h)
 
   -- an end of a handed wait is a fate
-  handed_end : (w : WaitId) → list_any (hands c p) acts ≡ true → wait_at c p acts ≡ Some w → (list_any (settles_value w) acts ≡ true) ⊎ (list_any (settles_undelivered w) acts ≡ true) → ⊥
+  handed_end : (w : WaitId) → list_any (hands c p) acts ≡ true → wait_at c p acts ≡ Some w → (list_any (settles_value w) acts ≡ true)
+      ⊎ (list_any (settles_undelivered w) acts ≡ true) → ⊥
   handed_end w h e x =
       ⊎_elim
-      (λ k. holds_not _ (both_hold _ _ h (wait_holds (λ u. list_any (settles_value u) acts) (wait_at c p acts) w e k)) (neither _ _ received).1)
-      (λ k. holds_not _ (both_hold _ _ h (wait_holds (λ u. list_any (settles_undelivered u) acts) (wait_at c p acts) w e k)) (neither _ _ (neither _ _ undelivered).1).0)
+      (λ k. holds_not _ (both_hold _ _ h (wait_holds (λ u. list_any (settles_value u) acts) (wait_at c p acts) w e k))
+      (neither _ _ received).1)
+      (λ k. holds_not _ (both_hold _ _ h (wait_holds (λ u. list_any (settles_undelivered u) acts) (wait_at c p acts) w e k))
+      (neither _ _ (neither _ _ undelivered).1).0)
       x
 
   handed_unsettled : list_any (hands c p) acts ≡ true → PlaceStands c p acts s
@@ -292,10 +320,14 @@ module _ (shape : Shape) (acts : List Act) (s : State) (t : Traced shape acts s)
       (settled_or (s.waits w.0) (handed_resolved (s.waits w.0) how))
 
   -- at a select's clause
-  select_ended : (k : ℕ) → first_some (offers_at c p) acts ≡ Some k → 1 ≤ k → (is_taken_back c p acts || (not (list_any (admits c p) acts) && of_wait (λ w. is_chosen_elsewhere c p w acts) (wait_at c p acts))) ≡ true → ⊥
+  select_ended : (k : ℕ) → first_some (offers_at c p) acts ≡ Some k → 1 ≤ k
+      → (is_taken_back c p acts || (not (list_any (admits c p) acts) && of_wait (λ w. is_chosen_elsewhere c p w acts) (wait_at c p acts))) ≡
+      true → ⊥
   select_ended k e l h =
       holds_not _
-      (offer_holds (λ j. nat_lt 0 j && (is_taken_back c p acts || (not (list_any (admits c p) acts) && of_wait (λ w. is_chosen_elsewhere c p w acts) (wait_at c p acts)))) (first_some (offers_at c p) acts) k e (both_hold _ _ (grind (arith, nat_tests)) h))
+      (offer_holds (λ j. nat_lt 0 j && (is_taken_back c p acts
+      || (not (list_any (admits c p) acts) && of_wait (λ w. is_chosen_elsewhere c p w acts) (wait_at c p acts))))
+      (first_some (offers_at c p) acts) k e (both_hold _ _ (grind (arith, nat_tests)) h))
       withdrawn
 
   taken_back : (k : ℕ) → first_some (offers_at c p) acts ≡ Some k → is_taken_back c p acts ≡ true → ⊥
@@ -304,7 +336,8 @@ module _ (shape : Shape) (acts : List Act) (s : State) (t : Traced shape acts s)
       (λ l. select_ended k e l (first_holds _ _ h))
       (λ l.
       let z : k ≡ 0 = omega arith in
-      holds_not _ (offer_holds (λ j. (j == 0) && is_taken_back c p acts) (first_some (offers_at c p) acts) k e (both_hold _ _ (ap (λ j. j == 0) z) h)) (neither _ _ (neither _ _ undelivered).1).1)
+      holds_not _ (offer_holds (λ j. (j == 0) && is_taken_back c p acts) (first_some (offers_at c p) acts) k e
+      (both_hold _ _ (ap (λ j. j == 0) z) h)) (neither _ _ (neither _ _ undelivered).1).1)
       (cases_lt 0 k)
 
   -- an act that answered the place is an end of its element
@@ -319,17 +352,20 @@ module _ (shape : Shape) (acts : List Act) (s : State) (t : Traced shape acts s)
       m)
       (resolver_is c p f.0 f.1)
 
-  answered_elsewhere : (k d q : ℕ) (w : WaitId) → first_some (offers_at c p) acts ≡ Some k → wait_at c p acts ≡ Some w → list_any (admits c p) acts ≡ false → is_at c p d q ≡ false → Chosen acts d q w → ⊥
+  answered_elsewhere : (k d q : ℕ) (w : WaitId) → first_some (offers_at c p) acts ≡ Some k → wait_at c p acts ≡ Some w
+      → list_any (admits c p) acts ≡ false → is_at c p d q ≡ false → Chosen acts d q w → ⊥
   answered_elsewhere k d q w e f none away h =
       ⊎_elim
-      (λ l. select_ended k e l (second_holds _ _ (both_hold _ _ (ap not none) (wait_holds (λ u. is_chosen_elsewhere c p u acts) (wait_at c p acts) w f (chosen_elsewhere acts c p d q w away h)))))
+      (λ l. select_ended k e l (second_holds _ _ (both_hold _ _ (ap not none)
+      (wait_holds (λ u. is_chosen_elsewhere c p u acts) (wait_at c p acts) w f (chosen_elsewhere acts c p d q w away h)))))
       (λ l.
       let z : k ≡ 0 = omega arith in
       let m = alone acts s t.own c p d q w (e ∙ ap (λ x. Some x) z) f h.0 in
       holds_not _ (here c p) (subst (λ x. is_at c p c x ≡ false) (sym m.1) (subst (λ x. is_at c p x q ≡ false) (sym m.0) away)))
       (cases_lt 0 k)
 
-  offered_unanswered : (k : ℕ) (w : WaitId) → how_many (enters c p) acts ≡ 1 → first_some (offers_at c p) acts ≡ Some k → wait_at c p acts ≡ Some w → list_any (admits c p) acts ≡ false → IsResolvedWait (s.waits w) → ⊥
+  offered_unanswered : (k : ℕ) (w : WaitId) → how_many (enters c p) acts ≡ 1 → first_some (offers_at c p) acts ≡ Some k
+      → wait_at c p acts ≡ Some w → list_any (admits c p) acts ≡ false → IsResolvedWait (s.waits w) → ⊥
   offered_unanswered k w one e f none h =
       ⊎_elim
       (λ x. taken_back k e (both_hold _ _ (ap not none) (wait_holds (λ u. list_any (withdraws u) acts) (wait_at c p acts) w f x)))
@@ -339,7 +375,8 @@ module _ (shape : Shape) (acts : List Act) (s : State) (t : Traced shape acts s)
       by_place : (d q : ℕ) → Chosen acts d q w → (b : Bool) → is_at c p d q ≡ b → ⊥
       by_place d q x true m =
           let n = at_both c p d q m in
-          answered_here one none (subst (λ j. list_any (resolver c j) acts ≡ true) n.1 (subst (λ j. list_any (resolver j q) acts ≡ true) n.0 x.1))
+          answered_here one none (subst (λ j. list_any (resolver c j) acts ≡ true) n.1
+          (subst (λ j. list_any (resolver j q) acts ≡ true) n.0 x.1))
       by_place d q x false m = answered_elsewhere k d q w e f none m x
 
   offered_stands : list_any (offers c p) acts ≡ true → PlaceStands c p acts s
@@ -363,12 +400,16 @@ module _ (shape : Shape) (acts : List Act) (s : State) (t : Traced shape acts s)
       (λ m. ⊎_elim (λ k. freed_stands (any_freed c p acts (puts c p) (put_frees c p) k)) (λ k. offered_stands k) m)
       (element_came c p v acts e)
 
-pub replay_held : (shape : Shape) (history : List Entry) (c p v : ℕ) → Legal shape history → element_at c p (acts_in history) ≡ Some v → (fate_at c p (acts_in history) ≡ fate.Held) ↔ StandsOrIsUnsettled c p v (acts_in history) (replay history)
+pub replay_held : (shape : Shape) (history : List Entry) (c p v : ℕ) → Legal shape history → element_at c p (acts_in history) ≡ Some v
+    → (fate_at c p (acts_in history) ≡ fate.Held) ↔ StandsOrIsUnsettled c p v (acts_in history) (replay history)
 replay_held shape history c p v l e =
     let acts = acts_in history in
     let s = replay history in
     let t = replay_traced shape history l in (
-      λ f. let k = held_only (is_received c p acts) (is_undelivered_at c p acts) (is_dropped c p acts) (is_spurned c p acts) (is_withdrawn c p acts) f in
-          either_holds (place_stands p (s.channels c).queue) _ _ (value_stands acts c p v (s.channels c).queue (t.told.known c).offers e) (stands_where_held shape acts s t c p k.0 k.1 k.2 k.3 k.4 v e),
-      λ h. held_where_standing shape acts s t c p (either_holds (stands_in p v (s.channels c).queue) _ _ (place_of_value p v (s.channels c).queue) h),
+      λ f. let k = held_only (is_received c p acts) (is_undelivered_at c p acts) (is_dropped c p acts) (is_spurned c p acts)
+          (is_withdrawn c p acts) f in
+          either_holds (place_stands p (s.channels c).queue) _ _ (value_stands acts c p v (s.channels c).queue (t.told.known c).offers e)
+          (stands_where_held shape acts s t c p k.0 k.1 k.2 k.3 k.4 v e),
+      λ h. held_where_standing shape acts s t c p (either_holds (stands_in p v (s.channels c).queue) _ _
+          (place_of_value p v (s.channels c).queue) h),
     )

@@ -43,7 +43,8 @@ StandsOr p w o ch = Stands p w ch ⊎ (o ≡ Some w)
 
 -- ---- a wait that is resolved takes its own offers alone
 
-held_stays : (w v : WaitId) (b : Bool) (h : Option Party) → same_wait v w ≡ false → (b && is_held_by w h) ≡ true → not (is_held_by v h) ≡ true
+held_stays : (w v : WaitId) (b : Bool) (h : Option Party) → same_wait v w ≡ false → (b && is_held_by w h) ≡ true
+    → not (is_held_by v h) ≡ true
 held_stays w v b None k e = refl
 held_stays w v false (Some x) k e = cc
 held_stays w v true (Some x) k e = let m = same_wait-eq w x.wait e in subst (λ u. not (same_wait v u) ≡ true) m (ap not k)
@@ -53,13 +54,16 @@ without_stands p w v ch h = by_test (same_wait v w) refl
   where
     by_test : (b : Bool) → same_wait v w ≡ b → Stands p w (without v ch) ⊎ (Some v ≡ Some w)
     by_test true e = inr (ap (λ u. Some u) (same_wait-eq v w e))
-    by_test false e = inl (let k = filter_keeps (is_held p w) (λ (o : Standing). not (is_held_by v o.holder)) (λ o m. held_stays w v (o.place == p) o.holder e m) ch.queue in omega arith)
+    by_test false e = inl (let k = filter_keeps (is_held p w) (λ (o : Standing). not (is_held_by v o.holder))
+        (λ o m. held_stays w v (o.place == p) o.holder e m) ch.queue in omega arith)
 
-first_stands : (p c : ℕ) (w : WaitId) (rs : List Receiver) (how : ℕ → Resolution) (s : State) → Stands p w (s.channels c) → StandsOr p w (first_waiting rs) ((resolve_first rs how s).channels c)
+first_stands : (p c : ℕ) (w : WaitId) (rs : List Receiver) (how : ℕ → Resolution) (s : State) → Stands p w (s.channels c)
+    → StandsOr p w (first_waiting rs) ((resolve_first rs how s).channels c)
 first_stands p c w [] how s h = inl h
 first_stands p c w (r ∷ rs) how s h = without_stands p w r.party.wait (s.channels c) h
 
-holder_stands : (p c : ℕ) (w : WaitId) (x : Option Party) (how : ℕ → Resolution) (s : State) → StandsOr p w (wait_of_party x) (s.channels c) → StandsOr p w (wait_of_party x) ((resolve_holder x how s).channels c)
+holder_stands : (p c : ℕ) (w : WaitId) (x : Option Party) (how : ℕ → Resolution) (s : State) → StandsOr p w (wait_of_party x) (s.channels c)
+    → StandsOr p w (wait_of_party x) ((resolve_holder x how s).channels c)
 holder_stands p c w None how s h = h
 holder_stands p c w (Some x) how s h = ⊎_elim (λ k. without_stands p w x.wait (s.channels c) k) (λ e. inr e) h
 
@@ -71,65 +75,84 @@ held_party w true (Some x) e = ap (λ u. Some u) (sym (same_wait-eq w x.wait e))
 held_party w false h e = cc
 
 -- it is the wait's, or the wait's stand after it
-first_or_rest : (p : ℕ) (w : WaitId) (o : Standing) (os : List Standing) → 1 ≤ how_many (is_held p w) (o ∷ os) → (1 ≤ how_many (is_held p w) os) ⊎ (wait_of_party o.holder ≡ Some w)
+first_or_rest : (p : ℕ) (w : WaitId) (o : Standing) (os : List Standing) → 1 ≤ how_many (is_held p w) (o ∷ os)
+    → (1 ≤ how_many (is_held p w) os) ⊎ (wait_of_party o.holder ≡ Some w)
 first_or_rest p w o os h = by_test (is_held p w o) refl h
   where
-    by_test : (b : Bool) → is_held p w o ≡ b → 1 ≤ cond b 1 0 + how_many (is_held p w) os → (1 ≤ how_many (is_held p w) os) ⊎ (wait_of_party o.holder ≡ Some w)
+    by_test : (b : Bool) → is_held p w o ≡ b → 1 ≤ cond b 1 0 + how_many (is_held p w) os → (1 ≤ how_many (is_held p w) os)
+        ⊎ (wait_of_party o.holder ≡ Some w)
     by_test true e h = inr (held_party w (o.place == p) o.holder e)
     by_test false e h = inl (omega arith)
 
 -- only the channel of the act changes
-put_stands : (p d c : ℕ) (w : WaitId) (o : Option WaitId) (x : Channel) (s : State) → (Stands p w (s.channels d) → StandsOr p w o x) → Stands p w (s.channels c) → StandsOr p w o (put_channel d x s.channels c)
+put_stands : (p d c : ℕ) (w : WaitId) (o : Option WaitId) (x : Channel) (s : State) → (Stands p w (s.channels d) → StandsOr p w o x)
+    → Stands p w (s.channels c) → StandsOr p w o (put_channel d x s.channels c)
 put_stands p d c w o x s k h = by_test (d == c) refl
   where
     by_test : (b : Bool) → (d == c) ≡ b → StandsOr p w o (if b then x else s.channels c)
     by_test true e = k (subst (λ n. Stands p w (s.channels n)) (sym (eqb-true d c e)) h)
     by_test false e = inl h
 
-popped : (p d c : ℕ) (w : WaitId) (o : Standing) (os : List Standing) (s : State) → (s.channels d).queue ≡ o ∷ os → Stands p w (s.channels c) → StandsOr p w (wait_of_party o.holder) ((with_queue d os s).channels c)
-popped p d c w o os s e h = put_stands p d c w (wait_of_party o.holder) (record (s.channels d) { queue = os }) s (λ k. first_or_rest p w o os (subst (λ q. 1 ≤ how_many (is_held p w) q) e k)) h
+popped : (p d c : ℕ) (w : WaitId) (o : Standing) (os : List Standing) (s : State) → (s.channels d).queue ≡ o ∷ os
+    → Stands p w (s.channels c) → StandsOr p w (wait_of_party o.holder) ((with_queue d os s).channels c)
+popped p d c w o os s e h = put_stands p d c w (wait_of_party o.holder) (record (s.channels d) { queue = os }) s
+    (λ k. first_or_rest p w o os (subst (λ q. 1 ≤ how_many (is_held p w) q) e k)) h
 
-offer_stands : (p d c : ℕ) (w : WaitId) (os : List Standing) (how : ℕ → Resolution) (s : State) → (s.channels d).queue ≡ os → Stands p w (s.channels c) → StandsOr p w (first_holding os) ((resolve_offer d os how s).channels c)
+offer_stands : (p d c : ℕ) (w : WaitId) (os : List Standing) (how : ℕ → Resolution) (s : State) → (s.channels d).queue ≡ os
+    → Stands p w (s.channels c) → StandsOr p w (first_holding os) ((resolve_offer d os how s).channels c)
 offer_stands p d c w [] how s e h = inl h
 offer_stands p d c w (o ∷ os) how s e h = holder_stands p c w o.holder how (with_queue d os s) (popped p d c w o os s e h)
 
 -- an offer that is dropped was held by nobody
-unheld : (shape : Shape) (acts : List Act) (d : ℕ) (w : WaitId) (h : Option Party) (q n : ℕ) → KindsKept shape acts → drops (kind_at shape d) n ≡ true → HolderKnown acts d q h → wait_of_party h ≡ Some w → ⊥
+unheld : (shape : Shape) (acts : List Act) (d : ℕ) (w : WaitId) (h : Option Party) (q n : ℕ) → KindsKept shape acts
+    → drops (kind_at shape d) n ≡ true → HolderKnown acts d q h → wait_of_party h ≡ Some w → ⊥
 unheld shape acts d w None q n k e h f = cc
 unheld shape acts d w (Some x) q n k e h f = waits_or_drops (kind_at shape d) n (k.offered d q h.0) e
 
-drop_stands : (shape : Shape) (acts : List Act) (p d c n : ℕ) (w : WaitId) (os : List Standing) (s : State) → KindsKept shape acts → drops (kind_at shape d) n ≡ true → AllByRecursion (OfferKnown acts d) os → (s.channels d).queue ≡ os → Stands p w (s.channels c) → Stands p w ((remove_first d os s).channels c)
+drop_stands : (shape : Shape) (acts : List Act) (p d c n : ℕ) (w : WaitId) (os : List Standing) (s : State) → KindsKept shape acts
+    → drops (kind_at shape d) n ≡ true → AllByRecursion (OfferKnown acts d) os → (s.channels d).queue ≡ os → Stands p w (s.channels c)
+    → Stands p w ((remove_first d os s).channels c)
 drop_stands shape acts p d c n w [] s k f a e h = h
-drop_stands shape acts p d c n w (o ∷ os) s k f a e h = ⊎_elim (λ x. x) (λ x. absurd (unheld shape acts d w o.holder o.place n k f a.0.0 x)) (popped p d c w o os s e h)
+drop_stands shape acts p d c n w (o ∷ os) s k f a e h =
+    ⊎_elim (λ x. x) (λ x. absurd (unheld shape acts d w o.holder o.place n k f a.0.0 x)) (popped p d c w o os s e h)
 
 -- so was one that is spurned
-unheld_spurned : (shape : Shape) (acts : List Act) (d : ℕ) (w : WaitId) (h : Option Party) (q n : ℕ) → KindsKept shape acts → spurns (kind_at shape d) n ≡ true → HolderKnown acts d q h → wait_of_party h ≡ Some w → ⊥
+unheld_spurned : (shape : Shape) (acts : List Act) (d : ℕ) (w : WaitId) (h : Option Party) (q n : ℕ) → KindsKept shape acts
+    → spurns (kind_at shape d) n ≡ true → HolderKnown acts d q h → wait_of_party h ≡ Some w → ⊥
 unheld_spurned shape acts d w None q n k e h f = cc
 unheld_spurned shape acts d w (Some x) q n k e h f = waits_or_spurns (kind_at shape d) n (k.offered d q h.0) e
 
-none_held : (shape : Shape) (acts : List Act) (p d n : ℕ) (w : WaitId) (os : List Standing) → KindsKept shape acts → spurns (kind_at shape d) n ≡ true → AllByRecursion (OfferKnown acts d) os → 1 ≤ how_many (is_held p w) os → ⊥
+none_held : (shape : Shape) (acts : List Act) (p d n : ℕ) (w : WaitId) (os : List Standing) → KindsKept shape acts
+    → spurns (kind_at shape d) n ≡ true → AllByRecursion (OfferKnown acts d) os → 1 ≤ how_many (is_held p w) os → ⊥
 none_held shape acts p d n w [] k f a h = absurd (omega arith)
-none_held shape acts p d n w (o ∷ os) k f a h = ⊎_elim (λ x. none_held shape acts p d n w os k f a.1 x) (λ x. unheld_spurned shape acts d w o.holder o.place n k f a.0.0 x) (first_or_rest p w o os h)
+none_held shape acts p d n w (o ∷ os) k f a h = ⊎_elim (λ x. none_held shape acts p d n w os k f a.1 x)
+    (λ x. unheld_spurned shape acts d w o.holder o.place n k f a.0.0 x) (first_or_rest p w o os h)
 
-spurn_stands : (shape : Shape) (acts : List Act) (p d c q n : ℕ) (w : WaitId) (s : State) → KindsKept shape acts → spurns (kind_at shape d) n ≡ true → AllByRecursion (OfferKnown acts d) (s.channels d).queue → Stands p w (s.channels c)
+spurn_stands : (shape : Shape) (acts : List Act) (p d c q n : ℕ) (w : WaitId) (s : State) → KindsKept shape acts
+    → spurns (kind_at shape d) n ≡ true → AllByRecursion (OfferKnown acts d) (s.channels d).queue → Stands p w (s.channels c)
     → Stands p w ((with_queue d (spurned q (s.channels d).queue) s).channels c)
 spurn_stands shape acts p d c q n w s k f a h =
     ⊎_elim (λ x. x) (λ e. cc)
-    (put_stands p d c w None (record (s.channels d) { queue = spurned q (s.channels d).queue }) s (λ x. absurd (none_held shape acts p d n w (s.channels d).queue k f a x)) h)
+    (put_stands p d c w None (record (s.channels d) { queue = spurned q (s.channels d).queue }) s
+    (λ x. absurd (none_held shape acts p d n w (s.channels d).queue k f a x)) h)
 
 -- ---- an offer is admitted
 
-admitted_stands : (p q : ℕ) (w : WaitId) (os : List Standing) → 1 ≤ how_many (is_held p w) os → (1 ≤ how_many (is_held p w) (admitted q os)) ⊎ (wait_of_party (holder_at q os) ≡ Some w)
+admitted_stands : (p q : ℕ) (w : WaitId) (os : List Standing) → 1 ≤ how_many (is_held p w) os → (1 ≤ how_many (is_held p w) (admitted q os))
+    ⊎ (wait_of_party (holder_at q os) ≡ Some w)
 admitted_stands p q w [] h = absurd (omega arith)
 admitted_stands p q w (o ∷ os) h = by_test (o.place == q) (first_or_rest p w o os h) (admitted_stands p q w os)
   where
-    by_first : (b : Bool) → is_held p w o ≡ b → 1 ≤ cond b 1 0 + how_many (is_held p w) os → (1 ≤ how_many (is_held p w) os → (1 ≤ how_many (is_held p w) (admitted q os)) ⊎ (wait_of_party (holder_at q os) ≡ Some w))
+    by_first : (b : Bool) → is_held p w o ≡ b → 1 ≤ cond b 1 0 + how_many (is_held p w) os
+        → (1 ≤ how_many (is_held p w) os → (1 ≤ how_many (is_held p w) (admitted q os)) ⊎ (wait_of_party (holder_at q os) ≡ Some w))
         → (1 ≤ cond (is_held p w o) 1 0 + how_many (is_held p w) (admitted q os)) ⊎ (wait_of_party (holder_at q os) ≡ Some w)
     by_first true e h k = let f : ◌≡◌ {A = ℕ} (cond (is_held p w o) 1 0) 1 = ap (λ b. cond b 1 0) e in inl (omega arith)
     by_first false e h k = ⊎_elim (λ m. inl (omega arith)) (λ f. inr f) (k (omega arith))
 
-    by_test : (b : Bool) → (1 ≤ how_many (is_held p w) os) ⊎ (wait_of_party o.holder ≡ Some w) → (1 ≤ how_many (is_held p w) os → (1 ≤ how_many (is_held p w) (admitted q os)) ⊎ (wait_of_party (holder_at q os) ≡ Some w))
-        → (1 ≤ how_many (is_held p w) (if b then record o { holder = None } ∷ os else o ∷ admitted q os)) ⊎ (wait_of_party (if b then o.holder else holder_at q os) ≡ Some w)
+    by_test : (b : Bool) → (1 ≤ how_many (is_held p w) os) ⊎ (wait_of_party o.holder ≡ Some w)
+        → (1 ≤ how_many (is_held p w) os → (1 ≤ how_many (is_held p w) (admitted q os)) ⊎ (wait_of_party (holder_at q os) ≡ Some w))
+        → (1 ≤ how_many (is_held p w) (if b then record o { holder = None } ∷ os else o ∷ admitted q os))
+        ⊎ (wait_of_party (if b then o.holder else holder_at q os) ≡ Some w)
     by_test true x k = ⊎_elim (λ m. inl (omega arith)) (λ e. inr e) x
     by_test false x k = by_first (is_held p w o) refl h k
 
@@ -143,18 +166,25 @@ receiver_comes : (p : ℕ) (w : WaitId) (b : Bool) (r : Receiver) (ch : Channel)
 receiver_comes p w false r ch h = h
 receiver_comes p w true r ch h = h
 
-act_stands : (shape : Shape) (acts : List Act) (s : State) (who : ℕ) (act : Act) → Needs shape s who act → Told acts s → KindsKept shape acts → (c p : ℕ) (w : WaitId) → Stands p w (s.channels c) → StandsOr p w (resolves s act) ((after s who act).channels c)
+act_stands : (shape : Shape) (acts : List Act) (s : State) (who : ℕ) (act : Act) → Needs shape s who act → Told acts s
+    → KindsKept shape acts → (c p : ℕ) (w : WaitId) → Stands p w (s.channels c)
+    → StandsOr p w (resolves s act) ((after s who act).channels c)
 act_stands shape acts s who (Hand d q v) n t k c p w h = first_stands p c w (s.channels d).receivers _ s h
-act_stands shape acts s who (Put d q v) n t k c p w h = put_stands p d c w None _ s (λ x. inl (offer_comes p w true (record { place = q; value = v; holder = None }) (s.channels d) x)) h
+act_stands shape acts s who (Put d q v) n t k c p w h =
+    put_stands p d c w None _ s (λ x. inl (offer_comes p w true (record { place = q; value = v; holder = None }) (s.channels d) x)) h
 act_stands shape acts s who (Offer d q v u j) n t k c p w h =
-    put_stands p d c w None _ s (λ x. inl (offer_comes p w (is_open (s.waits u)) (record { place = q; value = v; holder = Some (record { wait = u; clause = j }) }) (s.channels d) x)) h
+    put_stands p d c w None _ s (λ x. inl (offer_comes p w (is_open (s.waits u))
+    (record { place = q; value = v; holder = Some (record { wait = u; clause = j }) }) (s.channels d) x)) h
 act_stands shape acts s who (Await d q u j) n t k c p w h =
-    put_stands p d c w None _ s (λ x. inl (receiver_comes p w (is_open (s.waits u)) (record { place = q; party = record { wait = u; clause = j } }) (s.channels d) x)) h
+    put_stands p d c w None _ s (λ x. inl (receiver_comes p w (is_open (s.waits u))
+    (record { place = q; party = record { wait = u; clause = j } }) (s.channels d) x)) h
 act_stands shape acts s who (Take d q v) n t k c p w h = offer_stands p d c w (s.channels d).queue _ s refl h
 act_stands shape acts s who (Admit d q) n t k c p w h =
     holder_stands p c w (holder_at q (s.channels d).queue) _ (with_queue d (admitted q (s.channels d).queue) s)
-    (put_stands p d c w (wait_of_party (holder_at q (s.channels d).queue)) (record (s.channels d) { queue = admitted q (s.channels d).queue }) s (λ x. admitted_stands p q w (s.channels d).queue x) h)
-act_stands shape acts s who (Drop d q v) n t k c p w h = inl (drop_stands shape acts p d c _ w (s.channels d).queue s k n.1 (t.known d).offers refl h)
+    (put_stands p d c w (wait_of_party (holder_at q (s.channels d).queue))
+    (record (s.channels d) { queue = admitted q (s.channels d).queue }) s (λ x. admitted_stands p q w (s.channels d).queue x) h)
+act_stands shape acts s who (Drop d q v) n t k c p w h =
+    inl (drop_stands shape acts p d c _ w (s.channels d).queue s k n.1 (t.known d).offers refl h)
 act_stands shape acts s who (Spurn d q v) n t k c p w h = inl (spurn_stands shape acts p d c q _ w s k n.1 (t.known d).offers h)
 act_stands shape acts s who (Close d v) n t k c p w h = put_stands p d c w None _ s (λ x. inl x) h
 act_stands shape acts s who (Void d) n t k c p w h = put_stands p d c w None _ s (λ x. inl x) h
@@ -167,7 +197,8 @@ act_stands shape acts s who (Settle u outcome) n t k c p w h = inl h
 
 -- an offer whose wait is open stands
 pub record OffersHeld (acts : List Act) (s : State) : Type 0 where
-  pub held : (c p : ℕ) (w : WaitId) → list_any (offers c p) acts ≡ true → wait_at c p acts ≡ Some w → IsResolvedWait (s.waits w) ⊎ Stands p w (s.channels c)
+  pub held : (c p : ℕ) (w : WaitId) → list_any (offers c p) acts ≡ true → wait_at c p acts ≡ Some w → IsResolvedWait (s.waits w)
+      ⊎ Stands p w (s.channels c)
 
 -- the act is an Offer at this place
 pub offer_of : (c p : ℕ) (act : Act) → offers c p act ≡ true → (v : ℕ) × (w : WaitId) × (k : ℕ) × (act ≡ Offer c p v w k)
@@ -185,7 +216,8 @@ not_open (Some x) e = by_how x.resolved e
 held_itself : (p : ℕ) (w : WaitId) → ((p == p) && same_wait w w) ≡ true
 held_itself p w = ap (λ b. b && same_wait w w) (same_number p) ∙ same_wait-refl w
 
-offer_placed : (p v k : ℕ) (w : WaitId) (ch : Channel) → Stands p w (place_offer true (record { place = p; value = v; holder = Some (record { wait = w; clause = k }) }) ch)
+offer_placed : (p v k : ℕ) (w : WaitId) (ch : Channel) → Stands p w
+    (place_offer true (record { place = p; value = v; holder = Some (record { wait = w; clause = k }) }) ch)
 offer_placed p v k w ch =
     let o : Standing = record { place = p; value = v; holder = Some (record { wait = w; clause = k }) } in
     let n = count_last (is_held p w) ch.queue o in
@@ -195,41 +227,54 @@ offer_placed p v k w ch =
 at_channel : (c : ℕ) (x : Channel) (channels : ℕ → Channel) → put_channel c x channels c ≡ x
 at_channel c x channels = ap (λ b. if b then x else channels c) (same_number c)
 
-offered_now : (who c p v k : ℕ) (w : WaitId) (s : State) → (IsResolvedWait (s.waits w) → IsResolvedWait ((after s who (Offer c p v w k)).waits w)) → IsResolvedWait ((after s who (Offer c p v w k)).waits w) ⊎ Stands p w ((after s who (Offer c p v w k)).channels c)
+offered_now : (who c p v k : ℕ) (w : WaitId) (s : State)
+    → (IsResolvedWait (s.waits w) → IsResolvedWait ((after s who (Offer c p v w k)).waits w))
+    → IsResolvedWait ((after s who (Offer c p v w k)).waits w) ⊎ Stands p w ((after s who (Offer c p v w k)).channels c)
 offered_now who c p v k w s stays = by_open (is_open (s.waits w)) refl
   where
-    by_open : (b : Bool) → is_open (s.waits w) ≡ b → IsResolvedWait ((after s who (Offer c p v w k)).waits w) ⊎ Stands p w (put_channel c (place_offer b (record { place = p; value = v; holder = Some (record { wait = w; clause = k }) }) (s.channels c)) s.channels c)
+    by_open : (b : Bool) → is_open (s.waits w) ≡ b → IsResolvedWait ((after s who (Offer c p v w k)).waits w)
+        ⊎ Stands p w (put_channel c (place_offer b (record { place = p; value = v; holder = Some (record { wait = w; clause = k }) })
+        (s.channels c)) s.channels c)
     by_open true e = inr (subst (Stands p w) (sym (at_channel c _ s.channels)) (offer_placed p v k w (s.channels c)))
     by_open false e = inl (stays (not_open (s.waits w) e))
 
-module _ (shape : Shape) (acts : List Act) (s : State) (who : ℕ) (act : Act) (n : Needs shape s who act) (t : Told acts s) (kinds : KindsKept shape acts) (h : OffersHeld acts s) where
+module _ (shape : Shape) (acts : List Act) (s : State) (who : ℕ) (act : Act) (n : Needs shape s who act) (t : Told acts s)
+    (kinds : KindsKept shape acts) (h : OffersHeld acts s) where
   stays : (w : WaitId) → IsResolvedWait (s.waits w) → IsResolvedWait ((after s who act).waits w)
   stays w k = always_keeps shape IsResolvedWait resolved_stays who w s act n k
 
-  held_before : (c p : ℕ) (w : WaitId) → IsResolvedWait (s.waits w) ⊎ Stands p w (s.channels c) → IsResolvedWait ((after s who act).waits w) ⊎ Stands p w ((after s who act).channels c)
+  held_before : (c p : ℕ) (w : WaitId) → IsResolvedWait (s.waits w) ⊎ Stands p w (s.channels c) → IsResolvedWait ((after s who act).waits w)
+      ⊎ Stands p w ((after s who act).channels c)
   held_before c p w k =
       ⊎_elim
       (λ r. inl (stays w r))
-      (λ x. ⊎_elim (λ y. inr y) (λ e. inl (resolves_turns shape s who act t.stand n w e).now) (act_stands shape acts s who act n t kinds c p w x))
+      (λ x. ⊎_elim (λ y. inr y) (λ e. inl (resolves_turns shape s who act t.stand n w e).now)
+      (act_stands shape acts s who act n t kinds c p w x))
       k
 
-  held_now : (c p : ℕ) (w : WaitId) → offers c p act ≡ true → wait_at c p (acts ++ act ∷ []) ≡ Some w → IsResolvedWait ((after s who act).waits w) ⊎ Stands p w ((after s who act).channels c)
+  held_now : (c p : ℕ) (w : WaitId) → offers c p act ≡ true → wait_at c p (acts ++ act ∷ []) ≡ Some w
+      → IsResolvedWait ((after s who act).waits w) ⊎ Stands p w ((after s who act).channels c)
   held_now c p w e f =
       let o = offer_of c p act e in
       let m : Needs shape s who (Offer c p o.0 o.1 o.2) = subst (Needs shape s who) o.3 n in
-      let named : wait_at c p (acts ++ act ∷ []) ≡ Some o.1 = wait_placed c p acts act (s.channels c) o.1 (t.counted c p) m.1.first (ap (places_wait c p) o.3 ∙ ap (λ b. if b then Some o.1 else None) (here c p)) in
+      let named : wait_at c p (acts ++ act ∷ []) ≡ Some o.1 =
+      wait_placed c p acts act (s.channels c) o.1 (t.counted c p) m.1.first (ap (places_wait c p) o.3
+      ∙ ap (λ b. if b then Some o.1 else None) (here c p)) in
       let same : o.1 ≡ w = cc in
       subst (λ u. IsResolvedWait ((after s who act).waits u) ⊎ Stands p u ((after s who act).channels c)) same
       (subst (λ a. IsResolvedWait ((after s who a).waits o.1) ⊎ Stands p o.1 ((after s who a).channels c)) (sym o.3)
-      (offered_now who c p o.0 o.2 o.1 s (subst (λ a. IsResolvedWait (s.waits o.1) → IsResolvedWait ((after s who a).waits o.1)) o.3 (stays o.1))))
+      (offered_now who c p o.0 o.2 o.1 s (subst (λ a. IsResolvedWait (s.waits o.1)
+      → IsResolvedWait ((after s who a).waits o.1)) o.3 (stays o.1))))
 
-  held_then : (c p : ℕ) (w : WaitId) → list_any (offers c p) (acts ++ act ∷ []) ≡ true → wait_at c p (acts ++ act ∷ []) ≡ Some w → IsResolvedWait ((after s who act).waits w) ⊎ Stands p w ((after s who act).channels c)
+  held_then : (c p : ℕ) (w : WaitId) → list_any (offers c p) (acts ++ act ∷ []) ≡ true → wait_at c p (acts ++ act ∷ []) ≡ Some w
+      → IsResolvedWait ((after s who act).waits w) ⊎ Stands p w ((after s who act).channels c)
   held_then c p w e f =
       ⊎_elim
       (λ old.
       let k = any_count (offers c p) acts old in
       let m = enters_count c p acts in
-      held_before c p w (h.held c p w old (wait_before c p acts act w (omega arith) (counted_after shape acts s who act n t.counted c p).given f)))
+      held_before c p w (h.held c p w old (wait_before c p acts act w (omega arith)
+      (counted_after shape acts s who act n t.counted c p).given f)))
       (λ new. held_now c p w new f)
       (any_cases (offers c p) acts act e)
 

@@ -50,15 +50,18 @@ plain_more (x ∷ xs) y e = e
 selects_stays : (who : ℕ) → Stays who Selects
 selects_stays who = record {
   resolved = λ how x h. elim x as (λ y. Selects y → Selects (resolved_wait how y)) [ None ↦ λ k. k | Some y ↦ λ k. k ] h;
-  named = λ n k c x h. elim x as (λ y. Selects y → Selects (name_clause n k c y)) [ None ↦ λ f. absurd f | Some y ↦ λ f. select_more y.clauses (k, c) f ] h;
+  named = λ n k c x h. elim x as (λ y. Selects y → Selects (name_clause n k c y))
+      [ None ↦ λ f. absurd f | Some y ↦ λ f. select_more y.clauses (k, c) f ] h;
   settled = λ n outcome x apart m h. elim x as (λ y. Selects y → Selects (settled_wait outcome y)) [ None ↦ λ k. k | Some y ↦ λ k. k ] h;
 }
 
 plain_stays : (who : ℕ) → Stays who IsPlainWait
 plain_stays who = record {
   resolved = λ how x h. elim x as (λ y. IsPlainWait y → IsPlainWait (resolved_wait how y)) [ None ↦ λ k. k | Some y ↦ λ k. k ] h;
-  named = λ n k c x h. elim x as (λ y. IsPlainWait y → IsPlainWait (name_clause n k c y)) [ None ↦ λ f. absurd f | Some y ↦ λ f. plain_more y.clauses (k, c) f ] h;
-  settled = λ n outcome x apart m h. elim x as (λ y. IsPlainWait y → IsPlainWait (settled_wait outcome y)) [ None ↦ λ k. k | Some y ↦ λ k. k ] h;
+  named = λ n k c x h. elim x as (λ y. IsPlainWait y → IsPlainWait (name_clause n k c y))
+      [ None ↦ λ f. absurd f | Some y ↦ λ f. plain_more y.clauses (k, c) f ] h;
+  settled = λ n outcome x apart m h. elim x as (λ y. IsPlainWait y
+      → IsPlainWait (settled_wait outcome y)) [ None ↦ λ k. k | Some y ↦ λ k. k ] h;
 }
 
 -- no clause is that of a plain call and that of a select
@@ -83,12 +86,14 @@ names_of : (c p : ℕ) (w : WaitId) (act : Act) → places_wait c p act ≡ Some
 names_of c p w (Offer d q v u k) e = by_test (is_at c p d q) refl e
   where
     by_test : (b : Bool) → is_at c p d q ≡ b → (if b then Some u else None) ≡ Some w → Names c p w (Offer d q v u k)
-    by_test true t e = let m = at_both c p d q t in let f : u ≡ w = cc in inl (v, k, ap (λ x. Offer x q v u k) m.0 ∙ (ap (λ x. Offer c x v u k) m.1 ∙ ap (λ x. Offer c p v x k) f))
+    by_test true t e = let m = at_both c p d q t in let f : u ≡ w = cc
+        in inl (v, k, ap (λ x. Offer x q v u k) m.0 ∙ (ap (λ x. Offer c x v u k) m.1 ∙ ap (λ x. Offer c p v x k) f))
     by_test false t e = cc
 names_of c p w (Await d q u k) e = by_test (is_at c p d q) refl e
   where
     by_test : (b : Bool) → is_at c p d q ≡ b → (if b then Some u else None) ≡ Some w → Names c p w (Await d q u k)
-    by_test true t e = let m = at_both c p d q t in let f : u ≡ w = cc in inr (k, ap (λ x. Await x q u k) m.0 ∙ (ap (λ x. Await c x u k) m.1 ∙ ap (λ x. Await c p x k) f))
+    by_test true t e = let m = at_both c p d q t in let f : u ≡ w = cc
+        in inr (k, ap (λ x. Await x q u k) m.0 ∙ (ap (λ x. Await c x u k) m.1 ∙ ap (λ x. Await c p x k) f))
     by_test false t e = cc
 names_of c p w other e = cc
 
@@ -100,7 +105,8 @@ joining who k c (Some x) m = m.select
 named_own : (who k c p : ℕ) (w : WaitId) (s : State) → MayName who k c p w s → (w ≡ name_of c p) ⊎ Selects (s.waits w)
 named_own who k c p w s may = by_test (same_wait w (name_of c p)) refl may
   where
-    by_test : (b : Bool) → same_wait w (name_of c p) ≡ b → MatchBool b (k ≤ 7) (JoinsWait who k c (s.waits w)) → (w ≡ name_of c p) ⊎ Selects (s.waits w)
+    by_test : (b : Bool) → same_wait w (name_of c p) ≡ b → MatchBool b (k ≤ 7) (JoinsWait who k c (s.waits w)) → (w ≡ name_of c p)
+        ⊎ Selects (s.waits w)
     by_test true e m = inl (same_wait-eq w (name_of c p) e)
     by_test false e m = inr (joining who k c (s.waits w) m)
 
@@ -142,26 +148,18 @@ pub record OwnPlaces (acts : List Act) (s : State) : Type 0 where
 own_comes : (who : ℕ) → ComesFrom who (IsOwnWait who)
 own_comes who = record {
   resolved = λ how x h. elim x as (λ y. IsOwnWait who (resolved_wait how y) → IsOwnWait who y) [ None ↦ λ k. k | Some y ↦ λ k. k ] h;
-  named = λ n k c x h. elim x as (λ y. IsOwnWait who (name_clause n k c y) → IsOwnWait who y ⊎ (n ≡ who)) [ None ↦ λ f. inr f | Some y ↦ λ f. inl f ] h;
+  named = λ n k c x h. elim x as (λ y. IsOwnWait who (name_clause n k c y) → IsOwnWait who y
+      ⊎ (n ≡ who)) [ None ↦ λ f. inr f | Some y ↦ λ f. inl f ] h;
   settled = λ outcome x h. elim x as (λ y. IsOwnWait who (settled_wait outcome y) → IsOwnWait who y) [ None ↦ λ k. k | Some y ↦ λ k. k ] h;
 }
 
 -- what names a wait that may begin by it
-begins_names : (w : WaitId) (act : Act) → begins act ≡ Some w → ((d : ℕ) × (q : ℕ) × (v : ℕ) × (k : ℕ) × (act ≡ Offer d q v w k)) ⊎ ((d : ℕ) × (q : ℕ) × (k : ℕ) × (act ≡ Await d q w k))
+begins_names : (w : WaitId) (act : Act) → begins act ≡ Some w → ((d : ℕ) × (q : ℕ) × (v : ℕ) × (k : ℕ) × (act ≡ Offer d q v w k))
+    ⊎ ((d : ℕ) × (q : ℕ) × (k : ℕ) × (act ≡ Await d q w k))
 begins_names w (Offer d q v u k) e = let f : u ≡ w = cc in inl (d, q, v, k, ap (λ x. Offer d q v x k) f)
 begins_names w (Await d q u k) e = let f : u ≡ w = cc in inr (d, q, k, ap (λ x. Await d q x k) f)
 begins_names w (Hand d q v) e = cc
-begins_names w (Put d q v) e = cc
-begins_names w (Take d q v) e = cc
-begins_names w (Admit d q) e = cc
-begins_names w (Drop d q v) e = cc
-begins_names w (Spurn d q v) e = cc
-begins_names w (Close d v) e = cc
-begins_names w (Void d) e = cc
-begins_names w (Drain d q v) e = cc
-begins_names w (WakeClosed d q) e = cc
-begins_names w (Withdraw u why) e = cc
-begins_names w (Settle u outcome) e = cc
+begins_names w other e = cc
 
 named_begins : (who k d q : ℕ) (w : WaitId) (s : State) → MayName who k d q w s → (w ≡ name_of d q) ⊎ (s.waits w ≡ None → ⊥)
 named_begins who k d q w s may = by_test (same_wait w (name_of d q)) refl may
@@ -170,7 +168,8 @@ named_begins who k d q w s may = by_test (same_wait w (name_of d q)) refl may
     joins None m e = m
     joins (Some x) m e = cc
 
-    by_test : (b : Bool) → same_wait w (name_of d q) ≡ b → MatchBool b (k ≤ 7) (JoinsWait who k d (s.waits w)) → (w ≡ name_of d q) ⊎ (s.waits w ≡ None → ⊥)
+    by_test : (b : Bool) → same_wait w (name_of d q) ≡ b → MatchBool b (k ≤ 7) (JoinsWait who k d (s.waits w)) → (w ≡ name_of d q)
+        ⊎ (s.waits w ≡ None → ⊥)
     by_test true e m = inl (same_wait-eq w (name_of d q) e)
     by_test false e m = inr (joins (s.waits w) m)
 
@@ -178,7 +177,8 @@ own_there : (who : ℕ) (x : Option Wait) → IsOwnWait who x → x ≡ None →
 own_there who None h e = h
 own_there who (Some x) h e = cc
 
-module _ (shape : Shape) (acts : List Act) (s : State) (who : ℕ) (act : Act) (n : Needs shape s who act) (t : Told acts s) (h : OwnPlaces acts s) where
+module _ (shape : Shape) (acts : List Act) (s : State) (who : ℕ) (act : Act) (n : Needs shape s who act) (t : Told acts s)
+    (h : OwnPlaces acts s) where
   own_now : (c p : ℕ) (w : WaitId) → Names c p w act → (w ≡ name_of c p) ⊎ Selects (s.waits w)
   own_now c p w m =
       ⊎_elim
@@ -187,18 +187,23 @@ module _ (shape : Shape) (acts : List Act) (s : State) (who : ℕ) (act : Act) (
       m
 
   own_after : (c p : ℕ) (w : WaitId) → wait_at c p (acts ++ act ∷ []) ≡ Some w → (w ≡ name_of c p) ⊎ Selects ((after s who act).waits w)
-  own_after c p w e = ⊎_elim (λ k. inl k) (λ k. inr (always_keeps shape Selects selects_stays who w s act n k)) (by_wait (wait_at c p acts) refl)
+  own_after c p w e = ⊎_elim (λ k. inl k) (λ k. inr (always_keeps shape Selects selects_stays who w s act n k))
+      (by_wait (wait_at c p acts) refl)
     where
       by_wait : (o : Option WaitId) → wait_at c p acts ≡ o → (w ≡ name_of c p) ⊎ Selects (s.waits w)
-      by_wait (Some u) k = h.own c p w (let m = first_kept (places_wait c p) acts (act ∷ []) u k in let f : u ≡ w = cc in k ∙ ap (λ x. Some x) f)
+      by_wait (Some u) k = h.own c p w (let m = first_kept (places_wait c p) acts (act ∷ []) u k in let f : u ≡ w = cc in k
+          ∙ ap (λ x. Some x) f)
       by_wait None k = own_now c p w (names_of c p w act (sym (first_last (places_wait c p) acts act k) ∙ e))
 
-  plain_now : (c p : ℕ) (w : WaitId) → offers_at c p act ≡ Some 0 → wait_at c p (acts ++ act ∷ []) ≡ Some w → IsPlainWait ((after s who act).waits w)
+  plain_now : (c p : ℕ) (w : WaitId) → offers_at c p act ≡ Some 0 → wait_at c p (acts ++ act ∷ []) ≡ Some w
+      → IsPlainWait ((after s who act).waits w)
   plain_now c p w e f =
       let o = plain_offer c p act e in
       let m : Needs shape s who (Offer c p o.0 o.1 0) = subst (Needs shape s who) o.2 n in
       let first = m.1.first in
-      let named : wait_at c p (acts ++ act ∷ []) ≡ Some o.1 = wait_placed c p acts act (s.channels c) o.1 (t.counted c p) first (ap (places_wait c p) o.2 ∙ ap (λ b. if b then Some o.1 else None) (here c p)) in
+      let named : wait_at c p (acts ++ act ∷ []) ≡ Some o.1 =
+      wait_placed c p acts act (s.channels c) o.1 (t.counted c p) first (ap (places_wait c p) o.2
+      ∙ ap (λ b. if b then Some o.1 else None) (here c p)) in
       let same : o.1 ≡ w = cc in
       let own : o.1 ≡ name_of c p = named_plain who c p o.1 s m.4 in
       let none : s.waits o.1 ≡ None = ap s.waits own ∙ h.placed (name_of c p) (omega arith) in
@@ -206,7 +211,8 @@ module _ (shape : Shape) (acts : List Act) (s : State) (who : ℕ) (act : Act) (
       (subst (λ a. IsPlainWait ((after s who a).waits o.1)) (sym o.2)
       (subst IsPlainWait (sym (at_wait o.1 (name_clause who 0 c (s.waits o.1)) s.waits)) (begun_plain who c (s.waits o.1) none)))
 
-  plain_after : (c p : ℕ) (w : WaitId) → first_some (offers_at c p) (acts ++ act ∷ []) ≡ Some 0 → wait_at c p (acts ++ act ∷ []) ≡ Some w → IsPlainWait ((after s who act).waits w)
+  plain_after : (c p : ℕ) (w : WaitId) → first_some (offers_at c p) (acts ++ act ∷ []) ≡ Some 0 → wait_at c p (acts ++ act ∷ []) ≡ Some w
+      → IsPlainWait ((after s who act).waits w)
   plain_after c p w e f = by_clause (first_some (offers_at c p) acts) refl
     where
       by_clause : (o : Option ℕ) → first_some (offers_at c p) acts ≡ o → IsPlainWait ((after s who act).waits w)
@@ -216,36 +222,43 @@ module _ (shape : Shape) (acts : List Act) (s : State) (who : ℕ) (act : Act) (
           let o = any_count (offers c p) acts (clause_offered c p j acts k) in
           let l = enters_count c p acts in
           always_keeps shape IsPlainWait plain_stays who w s act n
-          (h.plain c p w (k ∙ ap (λ x. Some x) z) (wait_before c p acts act w (omega arith) (counted_after shape acts s who act n t.counted c p).given f))
+          (h.plain c p w (k ∙ ap (λ x. Some x) z) (wait_before c p acts act w (omega arith)
+          (counted_after shape acts s who act n t.counted c p).given f))
       by_clause None k = plain_now c p w (sym (first_last (offers_at c p) acts act k) ∙ e) f
 
   begun_before : (c p : ℕ) → (s.waits (name_of c p) ≡ None → ⊥) → wait_at c p (acts ++ act ∷ []) ≡ Some (name_of c p)
   begun_before c p there = ⊎_elim (λ e. absurd (there e)) (λ e. first_kept (places_wait c p) acts (act ∷ []) (name_of c p) e) (h.begun c p)
 
-  begun_here : (c p d q : ℕ) → name_of c p ≡ name_of d q → q ≡ (s.channels d).next → places_wait d q act ≡ Some (name_of c p) → wait_at c p (acts ++ act ∷ []) ≡ Some (name_of c p)
+  begun_here : (c p d q : ℕ) → name_of c p ≡ name_of d q → q ≡ (s.channels d).next → places_wait d q act ≡ Some (name_of c p)
+      → wait_at c p (acts ++ act ∷ []) ≡ Some (name_of c p)
   begun_here c p d q e f m =
-      let at : wait_at d q (acts ++ act ∷ []) ≡ Some (name_of c p) = wait_placed d q acts act (s.channels d) (name_of c p) (t.counted d q) f m in
+      let at : wait_at d q (acts ++ act ∷ []) ≡ Some (name_of c p) =
+      wait_placed d q acts act (s.channels d) (name_of c p) (t.counted d q) f m in
       subst (λ (x : WaitId). wait_at x.channel x.place (acts ++ act ∷ []) ≡ Some (name_of c p)) (sym e) at
 
   begun_now : (c p : ℕ) → begins act ≡ Some (name_of c p) → wait_at c p (acts ++ act ∷ []) ≡ Some (name_of c p)
   begun_now c p e =
       ⊎_elim
       (λ o. let m : Needs shape s who (Offer o.0 o.1 o.2 (name_of c p) o.3) = subst (Needs shape s who) o.4 n in
-      ⊎_elim (λ f. begun_here c p o.0 o.1 f m.1.first (ap (places_wait o.0 o.1) o.4 ∙ ap (λ b. if b then Some (name_of c p) else None) (here o.0 o.1))) (λ f. begun_before c p f)
+      ⊎_elim (λ f. begun_here c p o.0 o.1 f m.1.first (ap (places_wait o.0 o.1) o.4
+      ∙ ap (λ b. if b then Some (name_of c p) else None) (here o.0 o.1))) (λ f. begun_before c p f)
       (named_begins who o.3 o.0 o.1 (name_of c p) s m.4))
       (λ a. let m : Needs shape s who (Await a.0 a.1 (name_of c p) a.2) = subst (Needs shape s who) a.3 n in
-      ⊎_elim (λ f. begun_here c p a.0 a.1 f m.1.first (ap (places_wait a.0 a.1) a.3 ∙ ap (λ b. if b then Some (name_of c p) else None) (here a.0 a.1))) (λ f. begun_before c p f)
+      ⊎_elim (λ f. begun_here c p a.0 a.1 f m.1.first (ap (places_wait a.0 a.1) a.3
+      ∙ ap (λ b. if b then Some (name_of c p) else None) (here a.0 a.1))) (λ f. begun_before c p f)
       (named_begins who a.2 a.0 a.1 (name_of c p) s m.3))
       (begins_names (name_of c p) act e)
 
   begun_after : (c p : ℕ) → ((after s who act).waits (name_of c p) ≡ None) ⊎ (wait_at c p (acts ++ act ∷ []) ≡ Some (name_of c p))
   begun_after c p = by_wait ((after s who act).waits (name_of c p)) refl
     where
-      by_wait : (x : Option Wait) → (after s who act).waits (name_of c p) ≡ x → ((after s who act).waits (name_of c p) ≡ None) ⊎ (wait_at c p (acts ++ act ∷ []) ≡ Some (name_of c p))
+      by_wait : (x : Option Wait) → (after s who act).waits (name_of c p) ≡ x → ((after s who act).waits (name_of c p) ≡ None)
+          ⊎ (wait_at c p (acts ++ act ∷ []) ≡ Some (name_of c p))
       by_wait None e = inl e
       by_wait (Some x) e =
           let own : IsOwnWait x.owner ((after s who act).waits (name_of c p)) = subst (IsOwnWait x.owner) (sym e) refl in
-          inr (⊎_elim (λ k. begun_before c p (own_there x.owner (s.waits (name_of c p)) k)) (λ k. begun_now c p k.1) (act_from x.owner (IsOwnWait x.owner) (own_comes x.owner) who (name_of c p) s act own))
+          inr (⊎_elim (λ k. begun_before c p (own_there x.owner (s.waits (name_of c p)) k)) (λ k. begun_now c p k.1)
+          (act_from x.owner (IsOwnWait x.owner) (own_comes x.owner) who (name_of c p) s act own))
 
   pub own_places_after : OwnPlaces (acts ++ act ∷ []) (after s who act)
   own_places_after = record { placed = placed_after shape s who act n h.placed; own = own_after; plain = plain_after; begun = begun_after }
@@ -257,7 +270,8 @@ same_name : (c p d q : ℕ) → name_of c p ≡ name_of d q → (c ≡ d) × (p 
 same_name c p d q e = (ap (λ (w : WaitId). w.channel) e, ap (λ (w : WaitId). w.place) e)
 
 -- the wait of a plain offer has no other place
-pub alone : (acts : List Act) (s : State) → OwnPlaces acts s → (c p d q : ℕ) (w : WaitId) → first_some (offers_at c p) acts ≡ Some 0 → wait_at c p acts ≡ Some w → wait_at d q acts ≡ Some w → (c ≡ d) × (p ≡ q)
+pub alone : (acts : List Act) (s : State) → OwnPlaces acts s → (c p d q : ℕ) (w : WaitId) → first_some (offers_at c p) acts ≡ Some 0
+    → wait_at c p acts ≡ Some w → wait_at d q acts ≡ Some w → (c ≡ d) × (p ≡ q)
 alone acts s h c p d q w e f g = same_name c p d q (sym (its_own c p f) ∙ its_own d q g)
   where
     its_own : (a b : ℕ) → wait_at a b acts ≡ Some w → w ≡ name_of a b

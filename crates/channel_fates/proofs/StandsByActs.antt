@@ -72,7 +72,8 @@ all_of P Q k (x ∷ xs) h = (k x h.0, all_of P Q k xs h.1)
 pub all_filter : {X : Type 0} (P : X → Type 0) (f : X → Bool) (xs : List X) → AllByRecursion P xs → AllByRecursion P (filter f xs)
 all_filter P f [] h = tt
 all_filter P f (x ∷ xs) h =
-    elim (f x) as (λ b. AllByRecursion P (cond b (x ∷ filter f xs) (filter f xs))) [ true ↦ (h.0, all_filter P f xs h.1) | false ↦ all_filter P f xs h.1 ]
+    elim (f x) as (λ b. AllByRecursion P (cond b (x ∷ filter f xs) (filter f xs)))
+    [ true ↦ (h.0, all_filter P f xs h.1) | false ↦ all_filter P f xs h.1 ]
 
 all_push : {X : Type 0} (P : X → Type 0) (xs : List X) (y : X) → AllByRecursion P xs → P y → AllByRecursion P (xs ++ y ∷ [])
 all_push P [] y h k = (k, tt)
@@ -81,13 +82,17 @@ all_push P (x ∷ xs) y h k = (h.0, all_push P xs y h.1 k)
 -- ---- it stays known
 
 holder_more : (acts : List Act) (act : Act) (c p : ℕ) (x : Option Party) → HolderKnown acts c p x → HolderKnown (acts ++ act ∷ []) c p x
-holder_more acts act c p None h = ⊎_elim (λ e. inl (any_kept (puts c p) acts (act ∷ []) e)) (λ e. inr (any_kept (admits c p) acts (act ∷ []) e)) h
+holder_more acts act c p None h = ⊎_elim (λ e. inl (any_kept (puts c p) acts (act ∷ []) e))
+    (λ e. inr (any_kept (admits c p) acts (act ∷ []) e)) h
 holder_more acts act c p (Some x) h = (any_kept (offers c p) acts (act ∷ []) h.0, first_kept (places_wait c p) acts (act ∷ []) x.wait h.1)
 
 known_more : (acts : List Act) (act : Act) (s : State) → AllKnown acts s → AllKnown (acts ++ act ∷ []) s
 known_more acts act s h c = record {
-  offers = all_of (OfferKnown acts c) (OfferKnown (acts ++ act ∷ []) c) (λ o k. (holder_more acts act c o.place o.holder k.0, first_kept (brings c o.place) acts (act ∷ []) o.value k.1)) (s.channels c).queue (h c).offers;
-  receivers = all_of (ReceiverKnown acts c) (ReceiverKnown (acts ++ act ∷ []) c) (λ r k. first_kept (places_wait c r.place) acts (act ∷ []) r.party.wait k) (s.channels c).receivers (h c).receivers;
+  offers = all_of (OfferKnown acts c) (OfferKnown (acts ++ act ∷ []) c)
+      (λ o k. (holder_more acts act c o.place o.holder k.0, first_kept (brings c o.place) acts (act ∷ []) o.value k.1)) (s.channels c).queue
+      (h c).offers;
+  receivers = all_of (ReceiverKnown acts c) (ReceiverKnown (acts ++ act ∷ []) c)
+      (λ r k. first_kept (places_wait c r.place) acts (act ∷ []) r.party.wait k) (s.channels c).receivers (h c).receivers;
 }
 
 resolve_known : (acts : List Act) (w : WaitId) (how : Resolution) (s : State) → AllKnown acts s → AllKnown acts (resolve w how s)
@@ -96,37 +101,45 @@ resolve_known acts w how s h c = record {
   receivers = all_filter (ReceiverKnown acts c) (λ r. not (same_wait w r.party.wait)) (s.channels c).receivers (h c).receivers;
 }
 
-first_known : (acts : List Act) (rs : List Receiver) (how : ℕ → Resolution) (s : State) → AllKnown acts s → AllKnown acts (resolve_first rs how s)
+first_known : (acts : List Act) (rs : List Receiver) (how : ℕ → Resolution) (s : State) → AllKnown acts s
+    → AllKnown acts (resolve_first rs how s)
 first_known acts [] how s h = h
 first_known acts (r ∷ rs) how s h = resolve_known acts r.party.wait (how r.party.clause) s h
 
-holder_known : (acts : List Act) (p : Option Party) (how : ℕ → Resolution) (s : State) → AllKnown acts s → AllKnown acts (resolve_holder p how s)
+holder_known : (acts : List Act) (p : Option Party) (how : ℕ → Resolution) (s : State) → AllKnown acts s
+    → AllKnown acts (resolve_holder p how s)
 holder_known acts None how s h = h
 holder_known acts (Some p) how s h = resolve_known acts p.wait (how p.clause) s h
 
-put_known : (acts : List Act) (c : ℕ) (ch : Channel) (s : State) → AllKnown acts s → Known acts c ch → AllKnown acts (record s { channels = put_channel c ch s.channels })
+put_known : (acts : List Act) (c : ℕ) (ch : Channel) (s : State) → AllKnown acts s → Known acts c ch
+    → AllKnown acts (record s { channels = put_channel c ch s.channels })
 put_known acts c ch s h k d = put_case (c == d) refl
   where
     put_case : (b : Bool) → (c == d) ≡ b → Known acts d (if b then ch else s.channels d)
     put_case true e = subst (λ n. Known acts n ch) (eqb-true c d e) k
     put_case false e = h d
 
-queue_known : (acts : List Act) (c : ℕ) (os : List Standing) (s : State) → AllKnown acts s → AllByRecursion (OfferKnown acts c) os → AllKnown acts (with_queue c os s)
+queue_known : (acts : List Act) (c : ℕ) (os : List Standing) (s : State) → AllKnown acts s → AllByRecursion (OfferKnown acts c) os
+    → AllKnown acts (with_queue c os s)
 queue_known acts c os s h k = put_known acts c _ s h (record { offers = k; receivers = (h c).receivers })
 
-remove_known : (acts : List Act) (c : ℕ) (os : List Standing) (s : State) → AllKnown acts s → AllByRecursion (OfferKnown acts c) os → AllKnown acts (remove_first c os s)
+remove_known : (acts : List Act) (c : ℕ) (os : List Standing) (s : State) → AllKnown acts s → AllByRecursion (OfferKnown acts c) os
+    → AllKnown acts (remove_first c os s)
 remove_known acts c [] s h k = h
 remove_known acts c (o ∷ os) s h k = queue_known acts c os s h k.1
 
-offer_known : (acts : List Act) (c : ℕ) (os : List Standing) (how : ℕ → Resolution) (s : State) → AllKnown acts s → AllByRecursion (OfferKnown acts c) os → AllKnown acts (resolve_offer c os how s)
+offer_known : (acts : List Act) (c : ℕ) (os : List Standing) (how : ℕ → Resolution) (s : State) → AllKnown acts s
+    → AllByRecursion (OfferKnown acts c) os → AllKnown acts (resolve_offer c os how s)
 offer_known acts c [] how s h k = h
 offer_known acts c (o ∷ os) how s h k = holder_known acts o.holder how _ (queue_known acts c os s h k.1)
 
-admitted_known : (acts : List Act) (c p : ℕ) (os : List Standing) → list_any (admits c p) acts ≡ true → AllByRecursion (OfferKnown acts c) os → AllByRecursion (OfferKnown acts c) (admitted p os)
+admitted_known : (acts : List Act) (c p : ℕ) (os : List Standing) → list_any (admits c p) acts ≡ true
+    → AllByRecursion (OfferKnown acts c) os → AllByRecursion (OfferKnown acts c) (admitted p os)
 admitted_known acts c p [] a h = tt
 admitted_known acts c p (o ∷ os) a h = by_test (o.place == p) refl (admitted_known acts c p os a h.1)
   where
-    by_test : (b : Bool) → (o.place == p) ≡ b → AllByRecursion (OfferKnown acts c) (admitted p os) → AllByRecursion (OfferKnown acts c) (if b then record o { holder = None } ∷ os else o ∷ admitted p os)
+    by_test : (b : Bool) → (o.place == p) ≡ b → AllByRecursion (OfferKnown acts c) (admitted p os)
+        → AllByRecursion (OfferKnown acts c) (if b then record o { holder = None } ∷ os else o ∷ admitted p os)
     by_test true e k = ((inr (subst (λ n. list_any (admits c n) acts ≡ true) (sym (eqb-true o.place p e)) a), h.0.1), h.1)
     by_test false e k = (h.0, k)
 
@@ -159,10 +172,12 @@ came c p v (Offer d q x w k) e = inr (inr (is_some_then (is_at c p d q) x v e))
 came c p v other e = cc
 
 -- no element comes to a place before it is given out
-no_element : (c p : ℕ) (acts : List Act) (ch : Channel) → Counted c p acts ch → how_many (enters c p) acts + how_many (awaits c p) acts ≡ 0 → element_at c p acts ≡ None
+no_element : (c p : ℕ) (acts : List Act) (ch : Channel) → Counted c p acts ch → how_many (enters c p) acts + how_many (awaits c p) acts ≡ 0
+    → element_at c p acts ≡ None
 no_element c p acts ch h z = by_element (element_at c p acts) refl
   where
-    none_came : (act : Act) → ((g : Act → Bool) → g act ≡ true → list_any g acts ≡ true) → (hands c p act ≡ true) ⊎ ((puts c p act ≡ true) ⊎ (offers c p act ≡ true)) → ⊥
+    none_came : (act : Act) → ((g : Act → Bool) → g act ≡ true → list_any g acts ≡ true) → (hands c p act ≡ true)
+        ⊎ ((puts c p act ≡ true) ⊎ (offers c p act ≡ true)) → ⊥
     none_came act has x =
         ⊎_elim
         (λ k. let n = handed_answered c p acts (has (hands c p) k) in omega (arith, h.receivers))
@@ -198,38 +213,57 @@ no_wait c p (a ∷ acts) e =
     let x = places_none c p a z.0 z.1 in
     let y = no_wait c p acts z.2 in cc
 
-pub wait_placed : (c p : ℕ) (acts : List Act) (act : Act) (ch : Channel) (w : WaitId) → Counted c p acts ch → p ≡ ch.next → places_wait c p act ≡ Some w → wait_at c p (acts ++ act ∷ []) ≡ Some w
+pub wait_placed : (c p : ℕ) (acts : List Act) (act : Act) (ch : Channel) (w : WaitId) → Counted c p acts ch → p ≡ ch.next
+    → places_wait c p act ≡ Some w → wait_at c p (acts ++ act ∷ []) ≡ Some w
 wait_placed c p acts act ch w h e f = first_last (places_wait c p) acts act (no_wait c p acts (h.fresh (omega arith))) ∙ f
 
-element_placed : (c p : ℕ) (acts : List Act) (act : Act) (ch : Channel) (v : ℕ) → Counted c p acts ch → p ≡ ch.next → brings c p act ≡ Some v → element_at c p (acts ++ act ∷ []) ≡ Some v
+element_placed : (c p : ℕ) (acts : List Act) (act : Act) (ch : Channel) (v : ℕ) → Counted c p acts ch → p ≡ ch.next
+    → brings c p act ≡ Some v → element_at c p (acts ++ act ∷ []) ≡ Some v
 element_placed c p acts act ch v h e f = first_last (brings c p) acts act (no_element c p acts ch h (h.fresh (omega arith))) ∙ f
 
-offer_placed : (acts : List Act) (c : ℕ) (b : Bool) (o : Standing) (ch : Channel) → Known acts c ch → OfferKnown acts c o → Known acts c (place_offer b o ch)
+offer_placed : (acts : List Act) (c : ℕ) (b : Bool) (o : Standing) (ch : Channel) → Known acts c ch → OfferKnown acts c o
+    → Known acts c (place_offer b o ch)
 offer_placed acts c false o ch h k = record { offers = h.offers; receivers = h.receivers }
 offer_placed acts c true o ch h k = record { offers = all_push (OfferKnown acts c) ch.queue o h.offers k; receivers = h.receivers }
 
-receiver_placed : (acts : List Act) (c : ℕ) (b : Bool) (r : Receiver) (ch : Channel) → Known acts c ch → ReceiverKnown acts c r → Known acts c (place_receiver b r ch)
+receiver_placed : (acts : List Act) (c : ℕ) (b : Bool) (r : Receiver) (ch : Channel) → Known acts c ch → ReceiverKnown acts c r
+    → Known acts c (place_receiver b r ch)
 receiver_placed acts c false r ch h k = record { offers = h.offers; receivers = h.receivers }
-receiver_placed acts c true r ch h k = record { offers = h.offers; receivers = all_push (ReceiverKnown acts c) ch.receivers r h.receivers k }
+receiver_placed acts c true r ch h k = record {
+  offers = h.offers;
+  receivers =
+      all_push (ReceiverKnown acts c) ch.receivers r h.receivers k;
+}
 
-known_by : (shape : Shape) (acts : List Act) (s : State) (who : ℕ) (act : Act) → Needs shape s who act → ((c p : ℕ) → Counted c p acts (s.channels c)) → AllKnown (acts ++ act ∷ []) s → AllKnown (acts ++ act ∷ []) (after s who act)
+known_by : (shape : Shape) (acts : List Act) (s : State) (who : ℕ) (act : Act) → Needs shape s who act
+    → ((c p : ℕ) → Counted c p acts (s.channels c)) → AllKnown (acts ++ act ∷ []) s → AllKnown (acts ++ act ∷ []) (after s who act)
 known_by shape acts s who (Hand c p v) n g h = first_known _ (s.channels c).receivers _ s h
 known_by shape acts s who (Put c p v) n g h =
-    put_known _ c _ s h (offer_placed _ c true (record { place = p; value = v; holder = None }) (s.channels c) (h c)
-    (inl (any_last (puts c p) acts (Put c p v) (here c p)), element_placed c p acts (Put c p v) (s.channels c) v (g c p) n.1.first (ap (λ b. if b then Some v else None) (here c p))))
+    put_known _ c _ s h (offer_placed _ c true (record { place = p; value = v; holder = None }) (s.channels c) (h c) (
+      inl (any_last (puts c p) acts (Put c p v) (here c p)),
+      element_placed c p acts (Put c p v) (s.channels c) v (g c p) n.1.first (ap (λ b. if b then Some v else None) (here c p)),
+    ))
 known_by shape acts s who (Offer c p v w k) n g h =
-    put_known _ c _ s h (offer_placed _ c (is_open (s.waits w)) (record { place = p; value = v; holder = Some (record { wait = w; clause = k }) }) (s.channels c) (h c) (
-      (any_last (offers c p) acts (Offer c p v w k) (here c p), wait_placed c p acts (Offer c p v w k) (s.channels c) w (g c p) n.1.first (ap (λ b. if b then Some w else None) (here c p))),
+    put_known _ c _ s h (offer_placed _ c (is_open (s.waits w))
+    (record { place = p; value = v; holder = Some (record { wait = w; clause = k }) }) (s.channels c) (h c) (
+      (
+        any_last (offers c p) acts (Offer c p v w k) (here c p),
+        wait_placed c p acts (Offer c p v w k) (s.channels c) w (g c p) n.1.first (ap (λ b. if b then Some w else None) (here c p)),
+      ),
       element_placed c p acts (Offer c p v w k) (s.channels c) v (g c p) n.1.first (ap (λ b. if b then Some v else None) (here c p)),
     ))
 known_by shape acts s who (Await c p w k) n g h =
-    put_known _ c _ s h (receiver_placed _ c (is_open (s.waits w)) (record { place = p; party = record { wait = w; clause = k } }) (s.channels c) (h c)
+    put_known _ c _ s h (receiver_placed _ c (is_open (s.waits w)) (record { place = p; party = record { wait = w; clause = k } })
+    (s.channels c) (h c)
     (wait_placed c p acts (Await c p w k) (s.channels c) w (g c p) n.1.first (ap (λ b. if b then Some w else None) (here c p))))
 known_by shape acts s who (Take c p v) n g h = offer_known _ c (s.channels c).queue _ s h (h c).offers
 known_by shape acts s who (Admit c p) n g h =
-    holder_known _ (holder_at p (s.channels c).queue) _ _ (queue_known _ c _ s h (admitted_known (acts ++ Admit c p ∷ []) c p (s.channels c).queue (any_last (admits c p) acts (Admit c p) (here c p)) (h c).offers))
+    holder_known _ (holder_at p (s.channels c).queue) _ _
+    (queue_known _ c _ s h (admitted_known (acts ++ Admit c p ∷ []) c p (s.channels c).queue
+    (any_last (admits c p) acts (Admit c p) (here c p)) (h c).offers))
 known_by shape acts s who (Drop c p v) n g h = remove_known _ c (s.channels c).queue s h (h c).offers
-known_by shape acts s who (Spurn c p v) n g h = queue_known _ c _ s h (all_filter (OfferKnown (acts ++ Spurn c p v ∷ []) c) (is_elsewhere p) (s.channels c).queue (h c).offers)
+known_by shape acts s who (Spurn c p v) n g h = queue_known _ c _ s h
+    (all_filter (OfferKnown (acts ++ Spurn c p v ∷ []) c) (is_elsewhere p) (s.channels c).queue (h c).offers)
 known_by shape acts s who (Close c v) n g h = put_known _ c _ s h (record { offers = (h c).offers; receivers = (h c).receivers })
 known_by shape acts s who (Void c) n g h = put_known _ c _ s h (record { offers = (h c).offers; receivers = (h c).receivers })
 known_by shape acts s who (Drain c p v) n g h = offer_known _ c (s.channels c).queue _ s h (h c).offers
@@ -237,7 +271,8 @@ known_by shape acts s who (WakeClosed c p) n g h = first_known _ (s.channels c).
 known_by shape acts s who (Withdraw w why) n g h = resolve_known _ w (resolved.Withdrawn why) s h
 known_by shape acts s who (Settle w outcome) n g h = h
 
-pub known_after : (shape : Shape) (acts : List Act) (s : State) (who : ℕ) (act : Act) → Needs shape s who act → ((c p : ℕ) → Counted c p acts (s.channels c)) → AllKnown acts s → AllKnown (acts ++ act ∷ []) (after s who act)
+pub known_after : (shape : Shape) (acts : List Act) (s : State) (who : ℕ) (act : Act) → Needs shape s who act
+    → ((c p : ℕ) → Counted c p acts (s.channels c)) → AllKnown acts s → AllKnown (acts ++ act ∷ []) (after s who act)
 known_after shape acts s who act n g h = known_by shape acts s who act n g (known_more acts act s h)
 
 pub start_known : AllKnown [] start

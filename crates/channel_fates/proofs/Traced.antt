@@ -23,7 +23,8 @@ pub record Traced (shape : Shape) (acts : List Act) (s : State) : Type 0 where
   pub held : OffersHeld acts s
   pub own : OwnPlaces acts s
 
-traced_after : (shape : Shape) (acts : List Act) (s : State) (who : ℕ) (act : Act) → Needs shape s who act → Traced shape acts s → Traced shape (acts ++ act ∷ []) (after s who act)
+traced_after : (shape : Shape) (acts : List Act) (s : State) (who : ℕ) (act : Act) → Needs shape s who act → Traced shape acts s
+    → Traced shape (acts ++ act ∷ []) (after s who act)
 traced_after shape acts s who act n h = record {
   told = told_after shape acts s who act n h.told;
   chosen = chosen_after shape acts s who act n h.told h.chosen;
@@ -34,7 +35,8 @@ traced_after shape acts s who act n h = record {
   own = own_places_after shape acts s who act n h.told h.own;
 }
 
-from_traced : (shape : Shape) (acts : List Act) (s : State) (es : List Entry) → LegalFrom shape s es → Traced shape acts s → Traced shape (acts ++ acts_in es) (replay_from s es)
+from_traced : (shape : Shape) (acts : List Act) (s : State) (es : List Entry) → LegalFrom shape s es → Traced shape acts s
+    → Traced shape (acts ++ acts_in es) (replay_from s es)
 unfolding LegalFrom replay_from
 from_traced shape acts s [] l h = subst (λ xs. Traced shape xs s) (sym (nothing_more acts)) h
 from_traced shape acts s (e ∷ es) l h =
@@ -42,4 +44,14 @@ from_traced shape acts s (e ∷ es) l h =
     (from_traced shape (acts ++ e.act ∷ []) (after s e.who e.act) es l.1 (traced_after shape acts s e.who e.act l.0 h))
 
 pub replay_traced : (shape : Shape) (history : List Entry) → Legal shape history → Traced shape (acts_in history) (replay history)
-replay_traced shape history l = from_traced shape [] start history l (record { told = start_told; chosen = start_chosen; ended = start_ended; kinds = start_kinds shape; kept = start_kept; held = start_held; own = start_own_places })
+replay_traced shape history l = from_traced shape [] start history l
+    (record {
+      told = start_told;
+      chosen = start_chosen;
+      ended = start_ended;
+      kinds = start_kinds shape;
+      kept = start_kept;
+      held =
+          start_held;
+      own = start_own_places;
+    })

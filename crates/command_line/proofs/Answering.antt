@@ -62,7 +62,8 @@ told TooMany P n h = h
 told Recursive P n h = h
 told Memory P n h = absurd (n refl)
 
-pub refused : (fault : ScriptFault) (input text : List ℕ) → fault.kind ≢ Memory → Unless fault.kind (FirstFault input fault) → ((p : Program) → Spells input p → fault.kind ≡ Memory) → text ≡ fault_text fault → Refuses input text
+pub refused : (fault : ScriptFault) (input text : List ℕ) → fault.kind ≢ Memory → Unless fault.kind (FirstFault input fault)
+    → ((p : Program) → Spells input p → fault.kind ≡ Memory) → text ≡ fault_text fault → Refuses input text
 refused fault input text known read spelled is = record {
   fault = fault;
   refused = told fault.kind (FirstFault input fault) known read;
@@ -74,19 +75,26 @@ refused fault input text known read spelled is = record {
 
 pub children_first : (p : Program) (jobs : List JobEntry) → Legal (job_shape p) jobs → ChildrenEndFirst jobs
 children_first p jobs legal xs ys who row c end e parent =
-    finished_before (job_shape p) xs ys who row c end (subst (Legal (job_shape p)) e legal) (subst (λ h. parent_of (replay h c) ≡ Some row) e parent)
+    finished_before (job_shape p) xs ys who row c end (subst (Legal (job_shape p)) e legal)
+    (subst (λ h. parent_of (replay h c) ≡ Some row) e parent)
 
-served : (p : Program) (books : List (List Item)) (channels : List Entry) (jobs : List JobEntry) (root : Option End) (of : BooksOf p books channels jobs) → IsIdle p books channels jobs of root → AreServed channels
+served : (p : Program) (books : List (List Item)) (channels : List Entry) (jobs : List JobEntry) (root : Option End)
+    (of : BooksOf p books channels jobs) → IsIdle p books channels jobs of root → AreServed channels
 served p books channels jobs root of idle = record {
-  once = λ w. (resolutions_of_bound (floor_shape p) channels w of.legal_channels, settlements_of_bound (floor_shape p) channels w of.legal_channels);
+  once = λ w. (
+    resolutions_of_bound (floor_shape p) channels w of.legal_channels,
+    settlements_of_bound (floor_shape p) channels w of.legal_channels,
+  );
   none_lost = none_lost p books channels jobs of root idle;
   delivered_once = λ c place. replay_delivered_once (floor_shape p) channels c place of.legal_channels;
   one_fate = λ c place. replay_one_fate (floor_shape p) channels c place of.legal_channels;
-  held = λ c place value e. held_stands (floor_shape p) channels c place value of.legal_channels (none_lost p books channels jobs of root idle) e;
+  held = λ c place value e. held_stands (floor_shape p) channels c place value of.legal_channels
+      (none_lost p books channels jobs of root idle) e;
 }
 
 -- a run that came to rest, whose root has ended so, if it has
-abbrev ran : (p : Program) (books : List (List Item)) (channels : List Entry) (jobs : List JobEntry) (root : Option End) (how : Ending) → ending_of root ≡ how → (of : BooksOf p books channels jobs) → IsIdle p books channels jobs of root → RunsTo how p
+abbrev ran : (p : Program) (books : List (List Item)) (channels : List Entry) (jobs : List JobEntry) (root : Option End) (how : Ending)
+    → ending_of root ≡ how → (of : BooksOf p books channels jobs) → IsIdle p books channels jobs of root → RunsTo how p
 ran p books channels jobs root how same of idle = record {
   books = books;
   channels = channels;
@@ -102,30 +110,79 @@ ran p books channels jobs root how same of idle = record {
 }
 
 -- the report of a run answers its script
-reported : (p : Program) (source source' : Stream) (how : Ending) (text : List ℕ) (gave : GaveScript source source' p) (run : RunsTo how p) → text ≡ report_text p run.books → Reports how gave.input text
+reported : (p : Program) (source source' : Stream) (how : Ending) (text : List ℕ) (gave : GaveScript source source' p) (run : RunsTo how p)
+    → text ≡ report_text p run.books → Reports how gave.input text
 reported p source source' how text gave run is = record { program = p; spelled = gave.spelled; run = run; is_report = is }
 
 -- the summary of a run of the generated script is one of its size
-summed : (p : Program) (size : ℕ) (how : Ending) (text : List ℕ) → p ≡ generated size → (run : RunsTo how p) → text ≡ summary_text p run.books → SumsUp size how text
-summed p size how text e = subst (λ q. (run : RunsTo how q) → text ≡ summary_text q run.books → SumsUp size how text) (sym e) (λ run is. record { run = run; is_summary = is })
+summed : (p : Program) (size : ℕ) (how : Ending) (text : List ℕ) → p ≡ generated size → (run : RunsTo how p)
+    → text ≡ summary_text p run.books → SumsUp size how text
+summed p size how text e = subst (λ q. (run : RunsTo how q) → text ≡ summary_text q run.books
+    → SumsUp size how text) (sym e) (λ run is. record { run = run; is_summary = is })
 
-pub answered : (command : Command) (p : Program) (books : List (List Item)) (channels : List Entry) (jobs : List JobEntry) (root : Option End) (made : List ℕ) (source source' : Stream)
-    → (of : BooksOf p books channels jobs) × IsIdle p books channels jobs of root → made ≡ text_of command p books → Asks command source source' p
+pub answered : (command : Command) (p : Program) (books : List (List Item)) (channels : List Entry) (jobs : List JobEntry)
+    (root : Option End) (made : List ℕ) (source source' : Stream)
+    → (of : BooksOf p books channels jobs) × IsIdle p books channels jobs of root → made ≡ text_of command p books
+    → Asks command source source' p
     → Serves command (ending_of root) source source' (λ text. made ≡ text)
 answered (Run workers) p books channels jobs None made source source' of is asks =
-    record { input = asks.input; given = asks.given; all = asks.all; text = made; answers = reported p source source' ending.Unfinished made asks (ran p books channels jobs None _ refl of.0 of.1) is; taken = refl }
+    record {
+      input = asks.input;
+      given = asks.given;
+      all = asks.all;
+      text = made;
+      answers =
+          reported p source source' ending.Unfinished made asks (ran p books channels jobs None _ refl of.0 of.1) is;
+      taken = refl;
+    }
 answered (Run workers) p books channels jobs (Some (ends.Completed v)) made source source' of is asks =
-    record { input = asks.input; given = asks.given; all = asks.all; text = made; answers = reported p source source' ending.Completed made asks (ran p books channels jobs (Some (ends.Completed v)) _ refl of.0 of.1) is; taken = refl }
+    record {
+      input = asks.input;
+      given = asks.given;
+      all = asks.all;
+      text = made;
+      answers =
+          reported p source source' ending.Completed made asks (ran p books channels jobs (Some (ends.Completed v)) _ refl of.0 of.1) is;
+      taken = refl;
+    }
 answered (Run workers) p books channels jobs (Some (ends.Cancelled cause)) made source source' of is asks =
-    record { input = asks.input; given = asks.given; all = asks.all; text = made; answers = reported p source source' ending.Cancelled made asks (ran p books channels jobs (Some (ends.Cancelled cause)) _ refl of.0 of.1) is; taken = refl }
+    record {
+      input = asks.input;
+      given = asks.given;
+      all = asks.all;
+      text = made;
+      answers =
+          reported p source source' ending.Cancelled made asks (ran p books channels jobs (Some (ends.Cancelled cause)) _ refl of.0 of.1)
+          is;
+      taken = refl;
+    }
 answered Check p books channels jobs root made source source' of is asks = absurd asks
 answered (Sum size workers) p books channels jobs None made source source' of is asks =
-    record { unread = asks.1; text = made; answers = summed p size ending.Unfinished made asks.0 (ran p books channels jobs None _ refl of.0 of.1) is; taken = refl }
+    record {
+      unread = asks.1;
+      text = made;
+      answers = summed p size ending.Unfinished made asks.0
+          (ran p books channels jobs None _ refl of.0 of.1) is;
+      taken = refl;
+    }
 answered (Sum size workers) p books channels jobs (Some (ends.Completed v)) made source source' of is asks =
-    record { unread = asks.1; text = made; answers = summed p size ending.Completed made asks.0 (ran p books channels jobs (Some (ends.Completed v)) _ refl of.0 of.1) is; taken = refl }
+    record {
+      unread = asks.1;
+      text = made;
+      answers = summed p size ending.Completed made asks.0
+          (ran p books channels jobs (Some (ends.Completed v)) _ refl of.0 of.1) is;
+      taken = refl;
+    }
 answered (Sum size workers) p books channels jobs (Some (ends.Cancelled cause)) made source source' of is asks =
-    record { unread = asks.1; text = made; answers = summed p size ending.Cancelled made asks.0 (ran p books channels jobs (Some (ends.Cancelled cause)) _ refl of.0 of.1) is; taken = refl }
+    record {
+      unread = asks.1;
+      text = made;
+      answers = summed p size ending.Cancelled made asks.0
+          (ran p books channels jobs (Some (ends.Cancelled cause)) _ refl of.0 of.1) is;
+      taken = refl;
+    }
 
 -- a run whose books are seen as their notes
-pub tallied_rest : (p : Program) (books : List (List Item)) (channels : List Entry) (jobs : List JobEntry) (root : Option End) → IsRunAtRest p (map (λ notes. notes) books) channels jobs root → IsRunAtRest p books channels jobs root
+pub tallied_rest : (p : Program) (books : List (List Item)) (channels : List Entry) (jobs : List JobEntry) (root : Option End)
+    → IsRunAtRest p (map (λ notes. notes) books) channels jobs root → IsRunAtRest p books channels jobs root
 tallied_rest p books channels jobs root h = subst (λ all. IsRunAtRest p all channels jobs root) (map-id books) h

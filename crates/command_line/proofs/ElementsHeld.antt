@@ -28,7 +28,9 @@ or_only : (a b : Bool) → b ≡ false → (a || b) ≡ true → a ≡ true
 or_only true b e h = refl
 or_only false b e h = sym e ∙ h
 
-pub held_stands : (shape : Shape) (history : List Entry) (c p v : ℕ) → Legal shape history → ((w : WaitId) → IsResolvedWait ((replay history).waits w) → IsSettledWait ((replay history).waits w)) → element_at c p (acts_in history) ≡ Some v
+pub held_stands : (shape : Shape) (history : List Entry) (c p v : ℕ) → Legal shape history
+    → ((w : WaitId) → IsResolvedWait ((replay history).waits w) → IsSettledWait ((replay history).waits w))
+    → element_at c p (acts_in history) ≡ Some v
     → (fate_at c p (acts_in history) ≡ fate.Held) ↔ (stands_in p v ((replay history).channels c).queue ≡ true)
 held_stands shape history c p v legal settled e =
     let both = replay_held shape history c p v legal e in
@@ -43,11 +45,14 @@ held_stands shape history c p v legal settled e =
     there : Bool
     there = list_any (hands c p) acts && of_wait (λ w. is_unsettled ((replay history).waits w)) (wait_at c p acts)
 
-    by_wait : list_any (hands c p) acts ≡ true → (o : Option WaitId) → wait_at c p acts ≡ o → of_wait (λ w. is_unsettled ((replay history).waits w)) o ≡ false
+    by_wait : list_any (hands c p) acts ≡ true → (o : Option WaitId) → wait_at c p acts ≡ o
+        → of_wait (λ w. is_unsettled ((replay history).waits w)) o ≡ false
     by_wait h None q = refl
-    by_wait h (Some w) q = is_settled ((replay history).waits w) (settled w (handed_resolved ((replay history).waits w) ((replay_traced shape history legal).ended.handed c p w h q)))
+    by_wait h (Some w) q = is_settled ((replay history).waits w)
+        (settled w (handed_resolved ((replay history).waits w) ((replay_traced shape history legal).ended.handed c p w h q)))
 
-    by_hand : (b : Bool) → list_any (hands c p) acts ≡ b → (b && of_wait (λ w. is_unsettled ((replay history).waits w)) (wait_at c p acts)) ≡ false
+    by_hand : (b : Bool) → list_any (hands c p) acts ≡ b → (b
+        && of_wait (λ w. is_unsettled ((replay history).waits w)) (wait_at c p acts)) ≡ false
     by_hand true h = by_wait h (wait_at c p acts) refl
     by_hand false h = refl
 

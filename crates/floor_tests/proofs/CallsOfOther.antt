@@ -31,7 +31,12 @@ one_of_other who act apart = by_test (other == who) refl
     by_test false e = refl
 
 between_settings : (m n : ℕ) (a f : Floor) → SameSetting a f → SameSetting (seen_between m a) (seen_between n f)
-between_settings m n a f s = record { shape = s.shape; alone = refl; callers = ap (λ (h : ℕ → Bool). λ t. h t && not (t == other)) s.callers }
+between_settings m n a f s = record {
+  shape = s.shape;
+  alone = refl;
+  callers =
+      ap (λ (h : ℕ → Bool). λ t. h t && not (t == other)) s.callers;
+}
 
 module _ (who : ℕ) (apart : who ≢ other) (m n : ℕ) (more : m ≡ n + 1) (a f : Floor) (alone : a.alone ≡ true) where
   looked_other : Looked other a f → Looked who (seen_between m a) (seen_between n f)
@@ -45,11 +50,13 @@ module _ (who : ℕ) (apart : who ≢ other) (m n : ℕ) (more : m ≡ n + 1) (a
 
   made_other : (act : Act) → Made other act a f → Looked who (seen_between m a) (seen_between n f)
   made_other act l =
-      let is : f.seen ≡ a.seen ++ record { who = other; act = act } ∷ [] = l.last ∙ ap (λ xs. xs ++ record { who = other; act = act } ∷ []) (l.alone alone) in
+      let is : f.seen ≡ a.seen ++ record { who = other; act = act } ∷ [] = l.last
+      ∙ ap (λ xs. xs ++ record { who = other; act = act } ∷ []) (l.alone alone) in
       record {
         same = between_settings m n a f l.same;
         longer = (record { who = other; act = act } ∷ [], sym is);
-        mine = ap (acts_of who) is ∙ acts_of-append who a.seen _ ∙ ap (λ xs. acts_of who a.seen ++ xs) (one_of_other who act apart) ∙ nothing_more _;
+        mine = ap (acts_of who) is ∙ acts_of-append who a.seen _ ∙ ap (λ xs. acts_of who a.seen ++ xs) (one_of_other who act apart)
+            ∙ nothing_more _;
         alone = λ e. cc;
         spare = let s = l.spare in omega arith;
       }
@@ -66,7 +73,8 @@ module _ (who : ℕ) (apart : who ≢ other) (m n : ℕ) (more : m ≡ n + 1) (a
   receive_other c tried_got.Empty h = looked_other h.0
   receive_other c (tried_got.Closed x) h = looked_other h.0.looked
 
-  close_other : (c v : ℕ) (r : Result (Unit {0}) AlreadyClosed) → CloseAnswer other c v a f r → Looked who (seen_between m a) (seen_between n f)
+  close_other : (c v : ℕ) (r : Result (Unit {0}) AlreadyClosed) → CloseAnswer other c v a f r
+      → Looked who (seen_between m a) (seen_between n f)
   close_other c v (Ok done) h = made_other _ h
   close_other c v (Err first) h = looked_other h.looked
 
@@ -91,7 +99,8 @@ still who n a = record {
   spare = omega arith;
 }
 
-met_looked : (who : ℕ) (a f : Floor) (calls rest : List OtherCall) → who ≢ other → a.alone ≡ true → HasCalls a calls → FirstCallAnswer calls rest a f
+met_looked : (who : ℕ) (a f : Floor) (calls rest : List OtherCall) → who ≢ other → a.alone ≡ true → HasCalls a calls
+    → FirstCallAnswer calls rest a f
     → Looked who (seen_between (length calls) a) (seen_between (length rest) f)
 met_looked who a f [] rest apart alone has h =
     subst (λ (ts : List OtherCall). Looked who (seen_between 0 a) (seen_between (length ts) f)) (sym h.0)
@@ -100,5 +109,6 @@ met_looked who a f (call ∷ calls) rest apart alone has h =
     subst (λ (ts : List OtherCall). Looked who (seen_between (length (call ∷ calls)) a) (seen_between (length ts) f)) (sym h.0)
     (call_looked who apart (length (call ∷ calls)) (length calls) (omega arith) a f alone call h.1)
 
-pub met_by_users : (a f : Floor) (calls rest : List OtherCall) → a.alone ≡ true → HasCalls a calls → FirstCallAnswer calls rest a f → IsLookToUsers (length calls) (length rest) a f
+pub met_by_users : (a f : Floor) (calls rest : List OtherCall) → a.alone ≡ true → HasCalls a calls → FirstCallAnswer calls rest a f
+    → IsLookToUsers (length calls) (length rest) a f
 met_by_users a f calls rest alone has h who apart = record { look = met_looked who a f calls rest apart alone has h }

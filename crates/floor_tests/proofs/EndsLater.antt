@@ -13,7 +13,8 @@ use Rattle.channel_model.specs.Answers.{outcome_at, outcome_of_some, IsReadyWait
 use Rattle.channel_model.proofs.Sound.{lasts, channel_lasts, closed_keeps}
 use Rattle.channel_model.proofs.ResolvedAs.{resolved_lasts}
 
-ends_so : (cancelled : Bool) (how : Resolution) (x : Option Wait) → IsResolvedAs how x → outcome_at cancelled x ≡ Some (outcome_of how cancelled)
+ends_so : (cancelled : Bool) (how : Resolution) (x : Option Wait) → IsResolvedAs how x
+    → outcome_at cancelled x ≡ Some (outcome_of how cancelled)
 ends_so cancelled how None h = absurd h
 ends_so cancelled how (Some x) h = ap (outcome_of_some cancelled) h
 
@@ -25,7 +26,8 @@ resolved_so who (Some x) h = by_how x.resolved refl h.1
     by_how None e t = cc
     by_how (Some how) e t = (how, e)
 
-pub ends_same : (shape : Shape) (who : ℕ) (w : WaitId) (cancelled : Bool) (xs ys : List Entry) → Legal shape ys → IsPrefix xs ys → IsReadyWait who ((replay xs).waits w)
+pub ends_same : (shape : Shape) (who : ℕ) (w : WaitId) (cancelled : Bool) (xs ys : List Entry) → Legal shape ys → IsPrefix xs ys
+    → IsReadyWait who ((replay xs).waits w)
     → outcome_at cancelled ((replay xs).waits w) ≡ outcome_at cancelled ((replay ys).waits w)
 ends_same shape who w cancelled xs ys l p h =
     let r = resolved_so who ((replay xs).waits w) h in
@@ -36,7 +38,8 @@ some_is : (o : Option ℕ) → is_some o ≡ true → (v : ℕ) × (o ≡ Some v
 some_is None e = cc
 some_is (Some v) e = (v, refl)
 
-pub still_closed : (shape : Shape) (c : ℕ) (xs ys : List Entry) → Legal shape ys → IsPrefix xs ys → is_some ((replay xs).channels c).closed ≡ true → is_some ((replay ys).channels c).closed ≡ true
+pub still_closed : (shape : Shape) (c : ℕ) (xs ys : List Entry) → Legal shape ys → IsPrefix xs ys
+    → is_some ((replay xs).channels c).closed ≡ true → is_some ((replay ys).channels c).closed ≡ true
 still_closed shape c xs ys l p h =
     let s = some_is _ h in
     ap is_some (channel_lasts shape (λ d ch. ch.closed ≡ Some s.0) (closed_keeps shape s.0) c xs ys p l s.1)

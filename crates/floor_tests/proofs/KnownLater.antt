@@ -41,7 +41,11 @@ looked_grows : (who : ℕ) (a b : Floor) → Looked who a b → Grows a b
 looked_grows who a b h = record { same = h.same; longer = h.longer }
 
 made_grows : (who : ℕ) (act : Act) (a b : Floor) → Made who act a b → Grows a b
-made_grows who act a b h = record { same = h.same; longer = subst (IsPrefix a.seen) (sym h.last) (prefix_append a.seen h.before (record { who = who; act = act } ∷ []) h.longer) }
+made_grows who act a b h = record {
+  same = h.same;
+  longer =
+      subst (IsPrefix a.seen) (sym h.last) (prefix_append a.seen h.before (record { who = who; act = act } ∷ []) h.longer);
+}
 
 pub offer_grows : (who c v : ℕ) (a b : Floor) (r : Offered) → OfferAnswer who c v a b r → Grows a b
 offer_grows who c v a b (offered.Handed p t) h = made_grows who _ a b h.made
@@ -136,10 +140,12 @@ closed_grown c a b l p h = by_value ((replay a.seen).channels c).closed refl h
   where
     by_value : (x : Option ℕ) → ((replay a.seen).channels c).closed ≡ x → is_some x ≡ true → IsSeenClosed c b
     by_value None e k = cc
-    by_value (Some v) e k = ap is_some (subst (λ (es : List Entry). ((replay es).channels c).closed ≡ Some v) p.1 (closed_later b.shape a.seen p.0 c v (subst (Legal b.shape) (sym p.1) l) e))
+    by_value (Some v) e k = ap is_some (subst (λ (es : List Entry). ((replay es).channels c).closed ≡ Some v) p.1
+        (closed_later b.shape a.seen p.0 c v (subst (Legal b.shape) (sym p.1) l) e))
 
 voided_grown : (c : ℕ) (a b : Floor) → Legal b.shape b.seen → IsPrefix a.seen b.seen → IsSeenVoided c a → IsSeenVoided c b
-voided_grown c a b l p h = subst (λ (es : List Entry). ((replay es).channels c).voided ≡ true) p.1 (voided_later b.shape a.seen p.0 c (subst (Legal b.shape) (sym p.1) l) h)
+voided_grown c a b l p h = subst (λ (es : List Entry). ((replay es).channels c).voided ≡ true) p.1
+    (voided_later b.shape a.seen p.0 c (subst (Legal b.shape) (sym p.1) l) h)
 
 pub knows_grown : (k : Known) (a b : Floor) → Legal b.shape b.seen → Grows a b → Knows k a → Knows k b
 knows_grown k a b l g h = record {
@@ -152,12 +158,20 @@ knows_grown k a b l g h = record {
 }
 
 with_own : (k : Known) (who p : ℕ) (b : Floor) → b.callers who ≡ true → IsOwn who (wait_at 0 p) b → Knows k b → Knows (with_wait k who p) b
-with_own k who p b may own h = record { channel = h.channel; elements = h.elements; caller = λ e. may; own = λ e. own; closed = h.closed; voided = h.voided }
+with_own k who p b may own h = record {
+  channel = h.channel;
+  elements = h.elements;
+  caller = λ e. may;
+  own = λ e. own;
+  closed = h.closed;
+  voided = h.voided;
+}
 
 caller_grown : (who : ℕ) (a b : Floor) → Grows a b → a.callers who ≡ true → b.callers who ≡ true
 caller_grown who a b g h = ap (λ (f : ℕ → Bool). f who) g.same.callers ∙ h
 
-pub knows_offer : (k : Known) (who v : ℕ) (a b : Floor) → Legal b.shape b.seen → a.callers who ≡ true → Knows k a → (r : Offered) → OfferAnswer who 0 v a b r → Knows (after_offer k who r) b
+pub knows_offer : (k : Known) (who v : ℕ) (a b : Floor) → Legal b.shape b.seen → a.callers who ≡ true → Knows k a → (r : Offered)
+    → OfferAnswer who 0 v a b r → Knows (after_offer k who r) b
 knows_offer k who v a b l may h (offered.Handed p t) m = knows_grown k a b l (offer_grows who 0 v a b (offered.Handed p t) m) h
 knows_offer k who v a b l may h (offered.Put p) m = knows_grown k a b l (offer_grows who 0 v a b (offered.Put p) m) h
 knows_offer k who v a b l may h (offered.Held p) m =
@@ -166,7 +180,8 @@ knows_offer k who v a b l may h (offered.Held p) m =
 knows_offer k who v a b l may h (offered.Closed x) m = knows_grown k a b l (offer_grows who 0 v a b (offered.Closed x) m) h
 knows_offer k who v a b l may h offered.Spent m = knows_grown k a b l (offer_grows who 0 v a b offered.Spent m) h
 
-pub knows_receive : (k : Known) (who : ℕ) (a b : Floor) → Legal b.shape b.seen → a.callers who ≡ true → Knows k a → (r : Got) → GotAnswer who 0 a b r → Knows (after_receive k who r) b
+pub knows_receive : (k : Known) (who : ℕ) (a b : Floor) → Legal b.shape b.seen → a.callers who ≡ true → Knows k a → (r : Got)
+    → GotAnswer who 0 a b r → Knows (after_receive k who r) b
 knows_receive k who a b l may h (got.Taken p v t) m = knows_grown k a b l (receive_grows who 0 a b (got.Taken p v t) m) h
 knows_receive k who a b l may h (got.Waiting p) m =
     let g = receive_grows who 0 a b (got.Waiting p) m in
@@ -175,23 +190,43 @@ knows_receive k who a b l may h (got.Closed x) m = knows_grown k a b l (receive_
 knows_receive k who a b l may h got.Spent m = knows_grown k a b l (receive_grows who 0 a b got.Spent m) h
 
 -- the state after an own act
-last_state : (who : ℕ) (act : Act) (a b : Floor) (P : State → Type 0) → (m : Made who act a b) → P (after (replay m.before) who act) → P (replay b.seen)
-last_state who act a b P m h = subst (λ (es : List Entry). P (replay es)) (sym m.last) (subst P (sym (replay_push m.before (record { who = who; act = act }))) h)
+last_state : (who : ℕ) (act : Act) (a b : Floor) (P : State → Type 0) → (m : Made who act a b) → P (after (replay m.before) who act)
+    → P (replay b.seen)
+last_state who act a b P m h = subst (λ (es : List Entry). P (replay es)) (sym m.last)
+    (subst P (sym (replay_push m.before (record { who = who; act = act }))) h)
 
 seen_closed : (who v : ℕ) (a b : Floor) (r : Result (Unit {0}) AlreadyClosed) → CloseAnswer who 0 v a b r → IsSeenClosed 0 b
 seen_closed who v a b (Ok done) m = last_state who (Close 0 v) a b (λ (s : State). is_some (s.channels 0).closed ≡ true) m refl
 seen_closed who v a b (Err first) m = ap is_some m.is_closed
 
-pub knows_close : (k : Known) (who v : ℕ) (a b : Floor) → Legal b.shape b.seen → Knows k a → (r : Result (Unit {0}) AlreadyClosed) → CloseAnswer who 0 v a b r → Knows (after_close k) b
+pub knows_close : (k : Known) (who v : ℕ) (a b : Floor) → Legal b.shape b.seen → Knows k a → (r : Result (Unit {0}) AlreadyClosed)
+    → CloseAnswer who 0 v a b r → Knows (after_close k) b
 knows_close k who v a b l h r m =
     let n = knows_grown k a b l (close_grows who 0 v a b r m) h in
-    record { channel = n.channel; elements = n.elements; caller = n.caller; own = n.own; closed = λ e. seen_closed who v a b r m; voided = n.voided }
+    record {
+      channel = n.channel;
+      elements = n.elements;
+      caller = n.caller;
+      own = n.own;
+      closed = λ e. seen_closed who v a b r m;
+      voided =
+          n.voided;
+    }
 
 seen_voided : (who : ℕ) (a b : Floor) (r : Bool) → VoidAnswer who 0 a b r → IsSeenVoided 0 b
 seen_voided who a b true m = last_state who (Void 0) a b (λ (s : State). (s.channels 0).voided ≡ true) m refl
 seen_voided who a b false m = m.1
 
-pub knows_void : (k : Known) (who : ℕ) (a b : Floor) → Legal b.shape b.seen → Knows k a → (r : Bool) → VoidAnswer who 0 a b r → Knows (after_void k) b
+pub knows_void : (k : Known) (who : ℕ) (a b : Floor) → Legal b.shape b.seen → Knows k a → (r : Bool) → VoidAnswer who 0 a b r
+    → Knows (after_void k) b
 knows_void k who a b l h r m =
     let n = knows_grown k a b l (void_grows who 0 a b r m) h in
-    record { channel = n.channel; elements = n.elements; caller = n.caller; own = n.own; closed = n.closed; voided = λ e. seen_voided who a b r m }
+    record {
+      channel = n.channel;
+      elements = n.elements;
+      caller = n.caller;
+      own = n.own;
+      closed = n.closed;
+      voided =
+          λ e. seen_voided who a b r m;
+    }

@@ -80,11 +80,18 @@ module _ (who m n : ℕ) (a f g : Floor) (k : IsLookTo who m n a f) where
   }
 
   step_behind : (P : State → Type 0) → AtStep f g P → AtStep (seen_between m a) (seen_between n g) P
-  step_behind P x = record { moment = x.moment; after = prefix_then a.seen f.seen x.moment k.look.longer x.after; before = x.before; holds = x.holds }
+  step_behind P x = record {
+    moment = x.moment;
+    after = prefix_then a.seen f.seen x.moment k.look.longer x.after;
+    before = x.before;
+    holds =
+        x.holds;
+  }
 
   -- a fact that names the kinds and the places of the channels
   shaped_behind : (P : Shape → State → Type 0) → AtStep f g (P f.shape) → AtStep (seen_between m a) (seen_between n g) (P a.shape)
-  shaped_behind P x = subst (λ (shape : Shape). AtStep (seen_between m a) (seen_between n g) (P shape)) k.look.same.shape (step_behind (P f.shape) x)
+  shaped_behind P x = subst (λ (shape : Shape). AtStep (seen_between m a) (seen_between n g) (P shape)) k.look.same.shape
+      (step_behind (P f.shape) x)
 
   moment_behind : (P : State → Type 0) → AtMoment who [] f g P → AtMoment who [] (seen_between m a) (seen_between n g) P
   moment_behind P x = record {
@@ -109,12 +116,14 @@ module _ (who m n : ℕ) (a f g : Floor) (k : IsLookTo who m n a f) where
   offer_behind c v (offered.Put p) h = made_behind _ h
   offer_behind c v (offered.Held p) h = (
     made_behind _ h.0,
-    subst (λ (shape : Shape). AtMoment who [] (seen_between m a) (seen_between n g) (IsFullAt shape c)) k.look.same.shape (moment_behind (IsFullAt f.shape c) h.1),
+    subst (λ (shape : Shape). AtMoment who [] (seen_between m a) (seen_between n g) (IsFullAt shape c)) k.look.same.shape
+        (moment_behind (IsFullAt f.shape c) h.1),
   )
   offer_behind c v (offered.Closed x) h = closed_behind c x h
   offer_behind c v offered.Spent h = (looked_behind h.0, shaped_behind (λ shape. IsSpentForOffers shape c) h.1)
 
-  pub try_offer_behind : (c v : ℕ) (r : TriedOffer) → TriedOfferAnswer who c v f g r → TriedOfferAnswer who c v (seen_between m a) (seen_between n g) r
+  pub try_offer_behind : (c v : ℕ) (r : TriedOffer) → TriedOfferAnswer who c v f g r
+      → TriedOfferAnswer who c v (seen_between m a) (seen_between n g) r
   try_offer_behind c v (tried_offer.Handed p t) h = handed_behind c v p t h
   try_offer_behind c v (tried_offer.Put p) h = made_behind _ h
   try_offer_behind c v tried_offer.Full h = (looked_behind h.0, shaped_behind (λ shape. IsFullToTry shape c) h.1)
@@ -127,7 +136,8 @@ module _ (who m n : ℕ) (a f g : Floor) (k : IsLookTo who m n a f) where
   receive_behind c (got.Closed x) h = (closed_behind c x h.0, step_behind _ h.1)
   receive_behind c got.Spent h = (looked_behind h.0, shaped_behind (λ shape. IsSpentForReceives shape c) h.1)
 
-  pub try_receive_behind : (c : ℕ) (r : TriedGot) → TriedGotAnswer who c f g r → TriedGotAnswer who c (seen_between m a) (seen_between n g) r
+  pub try_receive_behind : (c : ℕ) (r : TriedGot) → TriedGotAnswer who c f g r
+      → TriedGotAnswer who c (seen_between m a) (seen_between n g) r
   try_receive_behind c (tried_got.Taken p v t) h = taken_behind c p v t h
   try_receive_behind c tried_got.Empty h = (looked_behind h.0, step_behind _ h.1)
   try_receive_behind c (tried_got.Closed x) h = (closed_behind c x h.0, step_behind _ h.1)
@@ -136,21 +146,24 @@ module _ (who m n : ℕ) (a f g : Floor) (k : IsLookTo who m n a f) where
   main_behind None h = h
   main_behind (Some w) h = h
 
-  pub register_offer_behind : (main : Option WaitId) (j c v : ℕ) (r : Registered) → RegisterOfferAnswer who main j c v f g r → RegisterOfferAnswer who main j c v (seen_between m a) (seen_between n g) r
+  pub register_offer_behind : (main : Option WaitId) (j c v : ℕ) (r : Registered) → RegisterOfferAnswer who main j c v f g r
+      → RegisterOfferAnswer who main j c v (seen_between m a) (seen_between n g) r
   register_offer_behind main j c v (registered.Stands p) h = made_behind _ h
   register_offer_behind main j c v (registered.Partner p) h = (looked_behind h.0, step_behind _ h.1)
   register_offer_behind main j c v (registered.Closed x) h = closed_behind c x h
   register_offer_behind main j c v registered.Spent h = (looked_behind h.0, shaped_behind (λ shape. IsSpentForOffers shape c) h.1)
   register_offer_behind main j c v registered.Resolved h = (looked_behind h.0, main_behind main h.1)
 
-  pub register_receive_behind : (main : Option WaitId) (j c : ℕ) (r : Registered) → RegisterReceiveAnswer who main j c f g r → RegisterReceiveAnswer who main j c (seen_between m a) (seen_between n g) r
+  pub register_receive_behind : (main : Option WaitId) (j c : ℕ) (r : Registered) → RegisterReceiveAnswer who main j c f g r
+      → RegisterReceiveAnswer who main j c (seen_between m a) (seen_between n g) r
   register_receive_behind main j c (registered.Stands p) h = made_behind _ h
   register_receive_behind main j c (registered.Partner p) h = (looked_behind h.0, step_behind _ h.1)
   register_receive_behind main j c (registered.Closed x) h = (closed_behind c x h.0, step_behind _ h.1)
   register_receive_behind main j c registered.Spent h = (looked_behind h.0, shaped_behind (λ shape. IsSpentForReceives shape c) h.1)
   register_receive_behind main j c registered.Resolved h = (looked_behind h.0, main_behind main h.1)
 
-  pub close_behind : (c v : ℕ) (r : Result (Unit {0}) AlreadyClosed) → CloseAnswer who c v f g r → CloseAnswer who c v (seen_between m a) (seen_between n g) r
+  pub close_behind : (c v : ℕ) (r : Result (Unit {0}) AlreadyClosed) → CloseAnswer who c v f g r
+      → CloseAnswer who c v (seen_between m a) (seen_between n g) r
   close_behind c v (Ok done) h = made_behind _ h
   close_behind c v (Err first) h = closed_behind c first.v h
 
@@ -162,32 +175,38 @@ module _ (who m n : ℕ) (a f g : Floor) (k : IsLookTo who m n a f) where
   void_behind c true h = made_behind _ h
   void_behind c false h = (looked_behind h.0, h.1)
 
-  pub drain_behind : (c : ℕ) (r : Option (ℕ × ℕ × Option ℕ)) → DrainAnswer who c f g r → DrainAnswer who c (seen_between m a) (seen_between n g) r
+  pub drain_behind : (c : ℕ) (r : Option (ℕ × ℕ × Option ℕ)) → DrainAnswer who c f g r
+      → DrainAnswer who c (seen_between m a) (seen_between n g) r
   drain_behind c None h = (looked_behind h.0, step_behind _ h.1)
   drain_behind c (Some x) h = record { made = made_behind _ h.made; from = h.from }
 
   pub look_behind : (w : WaitId) (r : WaitState) → LookAnswer who w f g r → LookAnswer who w (seen_between m a) (seen_between n g) r
   look_behind w r h = (looked_behind h.0, step_behind _ h.1)
 
-  pub settle_behind : (w : WaitId) (cancelled : Bool) (r : Settled) → outcome_at cancelled ((replay a.seen).waits w) ≡ outcome_at cancelled ((replay f.seen).waits w)
+  pub settle_behind : (w : WaitId) (cancelled : Bool) (r : Settled)
+      → outcome_at cancelled ((replay a.seen).waits w) ≡ outcome_at cancelled ((replay f.seen).waits w)
       → SettleAnswer who w cancelled f g r → SettleAnswer who w cancelled (seen_between m a) (seen_between n g) r
   settle_behind w cancelled r e h = (made_behind _ h.0, e ∙ h.1)
 
-  pub withdraw_behind : (w : WaitId) (why : Why) (r : Withdrawn) → WithdrawAnswer who w why f g r → WithdrawAnswer who w why (seen_between m a) (seen_between n g) r
+  pub withdraw_behind : (w : WaitId) (why : Why) (r : Withdrawn) → WithdrawAnswer who w why f g r
+      → WithdrawAnswer who w why (seen_between m a) (seen_between n g) r
   withdraw_behind w why (withdrawn.Done t) h = (made_behind _ h.0, h.1)
   withdraw_behind w why withdrawn.Late h = (looked_behind h.0, h.1)
 
   pub mark_behind : (c r : ℕ) → MarkAnswer who c f g r → MarkAnswer who c (seen_between m a) (seen_between n g) r
   mark_behind c r h = (looked_behind h.0, step_behind _ h.1)
 
-  pub admit_behind : (c mark : ℕ) (r : Option (ℕ × ℕ)) → AdmitAnswer who c mark f g r → AdmitAnswer who c mark (seen_between m a) (seen_between n g) r
+  pub admit_behind : (c mark : ℕ) (r : Option (ℕ × ℕ)) → AdmitAnswer who c mark f g r
+      → AdmitAnswer who c mark (seen_between m a) (seen_between n g) r
   admit_behind c mark None h = (looked_behind h.0, shaped_behind (λ shape. IsAdmittedBelow shape c mark) h.1)
   admit_behind c mark (Some x) h = record { made = made_behind _ h.made; below = h.below; of = h.of }
 
-  pub trim_behind : (c mine : ℕ) (r : Option (ℕ × ℕ)) → TrimAnswer who c mine f g r → TrimAnswer who c mine (seen_between m a) (seen_between n g) r
+  pub trim_behind : (c mine : ℕ) (r : Option (ℕ × ℕ)) → TrimAnswer who c mine f g r
+      → TrimAnswer who c mine (seen_between m a) (seen_between n g) r
   trim_behind c mine None h = (looked_behind h.0, shaped_behind (λ shape. IsTrimmed shape c mine) h.1)
   trim_behind c mine (Some x) h = (made_behind _ h.0, h.1)
 
-  pub spurn_behind : (c mine : ℕ) (r : Option ℕ) → SpurnAnswer who c mine f g r → SpurnAnswer who c mine (seen_between m a) (seen_between n g) r
+  pub spurn_behind : (c mine : ℕ) (r : Option ℕ) → SpurnAnswer who c mine f g r
+      → SpurnAnswer who c mine (seen_between m a) (seen_between n g) r
   spurn_behind c mine None h = (looked_behind h.0, shaped_behind (λ shape. StandsWithRoom shape c mine) h.1)
   spurn_behind c mine (Some v) h = made_behind _ h

@@ -29,7 +29,8 @@ linked_tag tree r (Some j) l e = by_parent j.parent e
         let k : record { parent = p; next = older_sibling tree r; tag = j.tag } ≡ l = cc in
         ap (λ (u : Link). Some u.tag) k
 
-runs : (x : Option Job) (who : ℕ) (v : JobView) → tag_of x ≡ Some who → option_map view_of x ≡ Some v → is_new v.state ≡ false → v.body_ended ≡ false → MayEndBody who x
+runs : (x : Option Job) (who : ℕ) (v : JobView) → tag_of x ≡ Some who → option_map view_of x ≡ Some v → is_new v.state ≡ false
+    → v.body_ended ≡ false → MayEndBody who x
 runs None who v t e s b = cc
 runs (Some j) who v t e s b =
     let k : view_of j ≡ v = cc in
@@ -40,7 +41,8 @@ runs (Some j) who v t e s b =
 abbrev with_seen : Floor → List JobEntry → Floor
 with_seen a seen = record { shape = a.shape; seen = seen; spare = 0; alone = false; callers = a.callers; claims = a.claims }
 
-since : (who : ℕ) (a : Floor) (xs ys : List JobEntry) → IsPrefix xs ys → acts_of who ys ≡ acts_of who xs → Added who [] [] (with_seen a xs) (with_seen a ys)
+since : (who : ℕ) (a : Floor) (xs ys : List JobEntry) → IsPrefix xs ys → acts_of who ys ≡ acts_of who xs
+    → Added who [] [] (with_seen a xs) (with_seen a ys)
 since who a xs ys p e = record {
   same = record { shape = refl; alone = refl; callers = refl };
   longer = p;
@@ -50,14 +52,18 @@ since who a xs ys p e = record {
 }
 
 -- the row is the caller's own, and its body was seen at work
-pub may_end_body : (who row : ℕ) (v : JobView) (l : Link) (a b c : Floor) → Legal c.shape c.seen → LinkAnswer who row a b l → l.tag ≡ who → LookAnswer who row b c (Some v) → is_new v.state ≡ false → v.body_ended ≡ false → MayEndBody who (replay c.seen row)
+pub may_end_body : (who row : ℕ) (v : JobView) (l : Link) (a b c : Floor) → Legal c.shape c.seen → LinkAnswer who row a b l → l.tag ≡ who
+    → LookAnswer who row b c (Some v) → is_new v.state ≡ false → v.body_ended ≡ false → MayEndBody who (replay c.seen row)
 may_end_body who row v l a b c legal k t h s e =
     let m = k.1 in
     let n = h.1 in
-    let tag : tag_of (replay m.moment row) ≡ Some who = linked_tag (replay m.moment) row (replay m.moment row) l m.holds ∙ ap (λ (x : ℕ). Some x) t in
+    let tag : tag_of (replay m.moment row) ≡ Some who = linked_tag (replay m.moment) row (replay m.moment row) l m.holds
+    ∙ ap (λ (x : ℕ). Some x) t in
     let later : tag_of (replay n.moment row) ≡ Some who =
-    prefix_keeps _ (tag_lasts who) c.shape m.moment n.moment row (moment_legal b c _ n legal) (prefix_then m.moment b.seen n.moment m.before n.after) tag in
-    let mine : acts_of who c.seen ≡ acts_of who n.moment = h.0.mine ∙ sym (same_between who b.seen n.moment c.seen n.after n.before h.0.mine) in
+    prefix_keeps _ (tag_lasts who) c.shape m.moment n.moment row (moment_legal b c _ n legal)
+    (prefix_then m.moment b.seen n.moment m.before n.after) tag in
+    let mine : acts_of who c.seen ≡ acts_of who n.moment = h.0.mine
+    ∙ sym (same_between who b.seen n.moment c.seen n.after n.before h.0.mine) in
     own_body_kept who row [] [] (with_seen c n.moment) (with_seen c c.seen) legal (since who c n.moment c.seen n.before mine) refl
     (runs (replay n.moment row) who v later n.holds s e)
 
@@ -71,13 +77,15 @@ above_cancelled : (tree : Tree) (r p : ℕ) → parent_of (tree r) ≡ Some p �
 above_cancelled tree r p e h = subst (λ (o : Option ℕ). IsCancelled (row_of tree o)) (sym e) h
 
 -- the parent was seen cancelled
-pub parent_cancelled : (who row : ℕ) (v : JobView) (l : Link) (a b c : Floor) → Legal c.shape c.seen → LinkAnswer who row a b l → LookAnswer who l.parent b c (Some v) → is_cancelled v.state ≡ true → IsCancelled (parent_row (replay c.seen) row)
+pub parent_cancelled : (who row : ℕ) (v : JobView) (l : Link) (a b c : Floor) → Legal c.shape c.seen → LinkAnswer who row a b l
+    → LookAnswer who l.parent b c (Some v) → is_cancelled v.state ≡ true → IsCancelled (parent_row (replay c.seen) row)
 parent_cancelled who row v l a b c legal k h s =
     let m = k.1 in
     let n = h.1 in
     let at = (link_is (replay m.moment) row (replay m.moment row) l m.holds).0 in
     let later : parent_of (replay n.moment row) ≡ Some l.parent =
-    prefix_keeps _ (parent_lasts l.parent) c.shape m.moment n.moment row (moment_legal b c _ n legal) (prefix_then m.moment b.seen n.moment m.before n.after) at in
+    prefix_keeps _ (parent_lasts l.parent) c.shape m.moment n.moment row (moment_legal b c _ n legal)
+    (prefix_then m.moment b.seen n.moment m.before n.after) at in
     let old : Floor = with_seen c n.moment in
     let new : Floor = with_seen c c.seen in
     holds_later who row reasons.Parent old new (record { shape = refl; alone = refl; callers = refl }) n.before legal

@@ -37,10 +37,12 @@ pub all_admits : (who : ℕ) (a b : Floor) → AdmitsAll who a b → Admits who 
 all_admits who a b x = looked_admits who a x.marked b x.next.0 (admits_looked who x.marked x.below.before b x.below.admits x.below.none.0)
 
 pub admits_made : (who c p : ℕ) (a b d : Floor) → Admits who a b → Made who (Admit c p) b d → Admits who a d
-admits_made who c p a b d x m = admits_then who a b d x (record { acts = Admit c p ∷ []; added = added_made who (Admit c p) b d m; admits = refl })
+admits_made who c p a b d x m = admits_then who a b d x
+    (record { acts = Admit c p ∷ []; added = added_made who (Admit c p) b d m; admits = refl })
 
 -- an admit leaves less to remove
-pub admit_less : (who p : ℕ) (a b d : Floor) → Admits who a b → Legal d.shape d.seen → Made who (Admit 0 p) b d → left_of a.shape 0 d.seen < left_of a.shape 0 b.seen
+pub admit_less : (who p : ℕ) (a b d : Floor) → Admits who a b → Legal d.shape d.seen → Made who (Admit 0 p) b d
+    → left_of a.shape 0 d.seen < left_of a.shape 0 b.seen
 admit_less who p a b d x l m = left_lower who 0 (Admit 0 p) a.shape b d (sym (m.same.shape ∙ x.added.same.shape)) l m refl
 
 -- the desk after others' calls

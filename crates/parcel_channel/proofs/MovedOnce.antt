@@ -47,17 +47,11 @@ module _ {T : Type 0} where
 
   ins_small : (p : Parcel T) → ins p ≤ 1
   ins_small unused = omega arith
-  ins_small (drawn t) = omega arith
-  ins_small (inside v) = omega arith
-  ins_small (outside t) = omega arith
-  ins_small emptied = omega arith
+  ins_small other = omega arith
 
   outs_small : (p : Parcel T) → outs p ≤ ins p
   outs_small unused = omega arith
-  outs_small (drawn t) = omega arith
-  outs_small (inside v) = omega arith
-  outs_small (outside t) = omega arith
-  outs_small emptied = omega arith
+  outs_small other = omega arith
 
   drawn_ins : (t : ℕ) (p : Parcel T) → is_drawn_by t p ≡ true → (ins p ≡ 0) × (outs p ≡ 0)
   drawn_ins t unused h = cc
@@ -81,44 +75,54 @@ module _ {T : Type 0} where
   out_ins t emptied h = cc
 
   -- an act that counts one where it is at k
-  counted : (f : Parcel T → ℕ) (s : State T) (j k : ℕ) (p : Parcel T) → 1 + f (s.parcels j) ≡ f p → one_if (j == k) + f (s.parcels k) ≡ f (put j p s.parcels k)
+  counted : (f : Parcel T → ℕ) (s : State T) (j k : ℕ) (p : Parcel T) → 1 + f (s.parcels j) ≡ f p
+      → one_if (j == k) + f (s.parcels k) ≡ f (put j p s.parcels k)
   counted f s j k p h = dite (ℕ_discrete j k)
-      (λ is. subst (λ i. one_if (j == i) + f (s.parcels i) ≡ f (put j p s.parcels i)) is ((λ i. one_if (eq-eqb j j refl i) + f (s.parcels j)) ∙ h ∙ ap f (sym (put_here j p s.parcels))))
+      (λ is. subst (λ i. one_if (j == i) + f (s.parcels i) ≡ f (put j p s.parcels i)) is
+      ((λ i. one_if (eq-eqb j j refl i) + f (s.parcels j)) ∙ h ∙ ap f (sym (put_here j p s.parcels))))
       (λ ne. (λ i. one_if (ne_eqb j k ne i) + f (s.parcels k)) ∙ zero_plus (f (s.parcels k)) ∙ ap f (sym (put_else j k p s.parcels ne)))
 
   -- an act that counts none, and leaves f of the parcel
-  uncounted : (f : Parcel T → ℕ) (s : State T) (j k : ℕ) (p : Parcel T) → f (s.parcels j) ≡ f p → 0 + f (s.parcels k) ≡ f (put j p s.parcels k)
+  uncounted : (f : Parcel T → ℕ) (s : State T) (j k : ℕ) (p : Parcel T) → f (s.parcels j) ≡ f p
+      → 0 + f (s.parcels k) ≡ f (put j p s.parcels k)
   uncounted f s j k p h = zero_plus (f (s.parcels k)) ∙ dite (ℕ_discrete j k)
       (λ is. ap (λ i. f (s.parcels i)) (sym is) ∙ h ∙ ap f (sym (put_here j p s.parcels)) ∙ ap (λ i. f (put j p s.parcels i)) is)
       (λ ne. ap f (sym (put_else j k p s.parcels ne)))
 
-  ins_step : (n : ℕ) (s : State T) (who : ℕ) (act : ParcelAct T) (k : ℕ) → Sound n s → Needs n s who act → one_if (is_move_in k act) + ins (s.parcels k) ≡ ins ((after s who act).parcels k)
+  ins_step : (n : ℕ) (s : State T) (who : ℕ) (act : ParcelAct T) (k : ℕ) → Sound n s → Needs n s who act
+      → one_if (is_move_in k act) + ins (s.parcels k) ≡ ins ((after s who act).parcels k)
   ins_step n s who (Draw j) k sound q = uncounted ins s j k (drawn who) (ap ins (sound.undrawn j (subst (λ m. m ≤ j) q.0 (le_self j))))
   ins_step n s who Miss k sound q = zero_plus (ins (s.parcels k))
   ins_step n s who (MoveIn j v) k sound q = counted ins s j k (inside v) (ap (λ m. 1 + m) (drawn_ins who (s.parcels j) q).0)
   ins_step n s who (MoveOut j) k sound q = uncounted ins s j k (outside who) (inside_ins (s.parcels j) q).0
   ins_step n s who (PutBack j) k sound q = uncounted ins s j k emptied (out_ins who (s.parcels j) q).0
 
-  outs_step : (n : ℕ) (s : State T) (who : ℕ) (act : ParcelAct T) (k : ℕ) → Sound n s → Needs n s who act → one_if (is_move_out k act) + outs (s.parcels k) ≡ outs ((after s who act).parcels k)
+  outs_step : (n : ℕ) (s : State T) (who : ℕ) (act : ParcelAct T) (k : ℕ) → Sound n s → Needs n s who act
+      → one_if (is_move_out k act) + outs (s.parcels k) ≡ outs ((after s who act).parcels k)
   outs_step n s who (Draw j) k sound q = uncounted outs s j k (drawn who) (ap outs (sound.undrawn j (subst (λ m. m ≤ j) q.0 (le_self j))))
   outs_step n s who Miss k sound q = zero_plus (outs (s.parcels k))
   outs_step n s who (MoveIn j v) k sound q = uncounted outs s j k (inside v) (drawn_ins who (s.parcels j) q).1
   outs_step n s who (MoveOut j) k sound q = counted outs s j k (outside who) (ap (λ m. 1 + m) (inside_ins (s.parcels j) q).1)
   outs_step n s who (PutBack j) k sound q = uncounted outs s j k emptied (out_ins who (s.parcels j) q).1
 
-  first_often : (test : ParcelAct T → Bool) (e : ParcelEntry T) (es : List (ParcelEntry T)) → how_often test (e ∷ es) ≡ one_if (test e.act) + how_often test es
+  first_often : (test : ParcelAct T → Bool) (e : ParcelEntry T) (es : List (ParcelEntry T))
+      → how_often test (e ∷ es) ≡ one_if (test e.act) + how_often test es
   first_often test e es = by_test (test e.act)
     where
       by_test : (b : Bool) → (if b then 1 + how_often test es else how_often test es) ≡ one_if b + how_often test es
       by_test true = refl
       by_test false = sym (zero_plus (how_often test es))
 
-  often_from : (n k : ℕ) (test : ParcelAct T → Bool) (f : Parcel T → ℕ) → ((s : State T) (who : ℕ) (act : ParcelAct T) → Sound n s → Needs n s who act → one_if (test act) + f (s.parcels k) ≡ f ((after s who act).parcels k))
-      → (s : State T) (es : List (ParcelEntry T)) → Sound n s → LegalFrom n s es → how_often test es + f (s.parcels k) ≡ f ((state_from s es).parcels k)
+  often_from : (n k : ℕ) (test : ParcelAct T → Bool) (f : Parcel T → ℕ)
+      → ((s : State T) (who : ℕ) (act : ParcelAct T) → Sound n s → Needs n s who act
+      → one_if (test act) + f (s.parcels k) ≡ f ((after s who act).parcels k))
+      → (s : State T) (es : List (ParcelEntry T)) → Sound n s → LegalFrom n s es
+      → how_often test es + f (s.parcels k) ≡ f ((state_from s es).parcels k)
   unfolding state_from LegalFrom
   often_from n k test f step s [] sound h = zero_plus (f (s.parcels k))
   often_from n k test f step s (e ∷ es) sound h = let t : State T = after s e.who e.act in
-      add_up (one_if (test e.act)) (how_often test es) (f (s.parcels k)) (f (t.parcels k)) (f ((state_from t es).parcels k)) (how_often test (e ∷ es)) (first_often test e es)
+      add_up (one_if (test e.act)) (how_often test es) (f (s.parcels k)) (f (t.parcels k)) (f ((state_from t es).parcels k))
+      (how_often test (e ∷ es)) (first_often test e es)
       (step s e.who e.act sound h.0) (often_from n k test f step t es (sound_step n s e.who e.act sound h.0) h.1)
 
   pub moved_once : (n : ℕ) (log : List (ParcelEntry T)) (k : ℕ) → Legal n log → IsMovedOnce log k

@@ -49,13 +49,15 @@ module _ {T : Type 0} where
   first_views n zero u e = subst (Knows (Legal n) Fits maker [] first_owner 0) (some-injective (first_view n) u e) (mine n)
   first_views n (suc j) u e = absurd (some-ne-none u (sym e))
 
-  first_held : (n t j : ℕ) (b : Bool) → (t == 0) ≡ b → (if b then 1 else 0) ≡ suc j → HasTag {E = ParcelEntry T} {K = ℕ} (first_view n ∷ []) j t
+  first_held : (n t j : ℕ) (b : Bool) → (t == 0) ≡ b → (if b then 1 else 0) ≡ suc j
+      → HasTag {E = ParcelEntry T} {K = ℕ} (first_view n ∷ []) j t
   first_held n t zero true e o = (first_view n, refl, ap (λ (b : Bool). if b then true else false) e)
   first_held n t (suc j) true e o = absurd (zero_not (same_id 0 (suc j) o))
   first_held n t j false e o = absurd (zero_not o)
 
   -- the table at the start
-  pub opens : (n : ℕ) (words : List ℕ) → length words ≡ word_count n → ((i : ℕ) → i < word_count n → get_or words i 0 ≡ 0) → HoldsParcels {T = T} n (opening words (replicate n None) (first_view n))
+  pub opens : (n : ℕ) (words : List ℕ) → length words ≡ word_count n → ((i : ℕ) → i < word_count n → get_or words i 0 ≡ 0)
+      → HoldsParcels {T = T} n (opening words (replicate n None) (first_view n))
   unfolding state_from
   opens n words long zeros = record {
     one = record {

@@ -21,7 +21,9 @@ module _ {T : Type 0} where
   -- entries are made by somebody
   no_one : (es : List (ParcelEntry T)) → ((t : ℕ) → entries_of maker t es ≡ []) → es ≡ []
   no_one [] h = refl
-  no_one (e ∷ es) h = absurd (let z : e ∷ entries_of maker e.who es ≡ [] = ap (λ (b : Bool). if b then e ∷ entries_of maker e.who es else entries_of maker e.who es) (sym (eq-eqb e.who e.who refl)) ∙ h e.who in cc)
+  no_one (e ∷ es) h = absurd (let z : e ∷ entries_of maker e.who es ≡ [] =
+      ap (λ (b : Bool). if b then e ∷ entries_of maker e.who es else entries_of maker e.who es) (sym (eq-eqb e.who e.who refl)) ∙ h e.who
+      in cc)
 
   held_by : Parcel T → ℕ
   held_by unused = 0
@@ -38,9 +40,12 @@ module _ {T : Type 0} where
   at_home (outside t) h = let z : true ≡ false = sym (eq-eqb t t refl) ∙ h t in cc
   at_home emptied h = refl
 
-  pub rest_is : (n id : ℕ) (v : Seen T) (ws : List ℕ) (xs : List (Option T)) → v.chief ≡ true → ((t : ℕ) → has_tag t v.given ≡ true → has_tag t v.tags ≡ true) → IsIdle v → Final (SeenOf (HoldsParcels n) id v) ws xs
+  pub rest_is : (n id : ℕ) (v : Seen T) (ws : List ℕ) (xs : List (Option T)) → v.chief ≡ true
+      → ((t : ℕ) → has_tag t v.given ≡ true → has_tag t v.tags ≡ true) → IsIdle v → Final (SeenOf (HoldsParcels n) id v) ws xs
       → (k : ℕ) → k < n → get_elem? xs k ≡ some (rest_of ((now_in v).parcels k))
-  rest_is n id v ws xs chief ended idle f k lt = f.4 k (rest_of ((now_in v).parcels k)) (r.homes k lt ∙ ap (λ (p : Parcel T). some (home_of p)) (ap (λ l. (state_of l).parcels k) (sym whole)) ∙ ap some (at_home ((now_in v).parcels k) nobody))
+  rest_is n id v ws xs chief ended idle f k lt = f.4 k (rest_of ((now_in v).parcels k)) (r.homes k lt
+      ∙ ap (λ (p : Parcel T). some (home_of p)) (ap (λ l. (state_of l).parcels k) (sym whole))
+      ∙ ap some (at_home ((now_in v).parcels k) nobody))
     where
       s : Table (Option T) (Seen T)
       s = f.0
@@ -73,7 +78,8 @@ module _ {T : Type 0} where
         where
           go : (b : Bool) → has_tag t v.tags ≡ b → entries_of maker t rest ≡ []
           go true is = entries_of_rest maker t v.seen rest log (sym goes) ((r.one.views_fit id v at).owned t is).1
-          go false is = no_rest (entries_of maker t v.seen) (entries_of maker t rest) (sym (entries_of-append maker t v.seen rest) ∙ ap (entries_of maker t) goes ∙ without t is)
+          go false is = no_rest (entries_of maker t v.seen) (entries_of maker t rest) (sym (entries_of-append maker t v.seen rest)
+              ∙ ap (entries_of maker t) goes ∙ without t is)
 
       whole : v.seen ≡ log
       whole = sym (append-nil v.seen) ∙ ap (λ l. v.seen ++ l) (sym (no_one rest none_left)) ∙ goes

@@ -27,7 +27,8 @@ pub sees_both : (a b d : Seen) → Sees a b → Sees b d → Sees a d
 sees_both a b d x y = record {
   others = x.others ++ y.others;
   now = y.now ∙ ap (λ l. l ++ y.others) x.now ∙ append_assoc a.seen x.others y.others;
-  apart = λ t h. entries_of-append maker t x.others y.others ∙ ap (λ l. l ++ entries_of maker t y.others) (x.apart t h) ∙ y.apart t (ap (has_tag t) x.tags ∙ h);
+  apart = λ t h. entries_of-append maker t x.others y.others ∙ ap (λ l. l ++ entries_of maker t y.others) (x.apart t h)
+      ∙ y.apart t (ap (has_tag t) x.tags ∙ h);
   tags = y.tags ∙ x.tags;
   giving = y.giving ∙ x.giving;
 }
@@ -73,31 +74,33 @@ as_withdrawn : (y : Option Wait) → IsResolvedAs (resolved.Withdrawn why.Cancel
 as_withdrawn None h = absurd h
 as_withdrawn (Some x) h = ap is_withdrawn_how h
 
-still_withdrawn : (shape : Shape) (w : WaitId) (v u : Seen) → Sees v u → Legal shape u.seen → is_withdrawn ((replay v.seen).waits w) ≡ true → is_withdrawn ((replay u.seen).waits w) ≡ true
+still_withdrawn : (shape : Shape) (w : WaitId) (v u : Seen) → Sees v u → Legal shape u.seen → is_withdrawn ((replay v.seen).waits w) ≡ true
+    → is_withdrawn ((replay u.seen).waits w) ≡ true
 still_withdrawn shape w v u s l h = as_withdrawn ((replay u.seen).waits w)
     (subst (λ es. IsResolvedAs (resolved.Withdrawn why.Cancelled) ((replay es).waits w)) (sym s.now)
-    (resolved_later shape v.seen s.others w (resolved.Withdrawn why.Cancelled) (subst (Legal shape) s.now l) (withdrawn_as ((replay v.seen).waits w) h)))
+    (resolved_later shape v.seen s.others w (resolved.Withdrawn why.Cancelled) (subst (Legal shape) s.now l)
+    (withdrawn_as ((replay v.seen).waits w) h)))
 
 -- the word of a cell tells the number that was offered there
-word_number : (shape : Shape) (x : Cell) (p : ℕ) (word : CellWord) → word ≡ word_of_cell shape 0 p x → number_of_state word.state word.value ≡ number_in x
+word_number : (shape : Shape) (x : Cell) (p : ℕ) (word : CellWord) → word ≡ word_of_cell shape 0 p x
+    → number_of_state word.state word.value ≡ number_in x
 word_number shape free p word is = ap (λ (z : CellWord). number_of_state z.state z.value) is
-word_number shape (receiver who w k) p word is = ap (λ (z : CellWord). number_of_state z.state z.value) is
-word_number shape (offer v who w k) p word is = ap (λ (z : CellWord). number_of_state z.state z.value) is
-word_number shape (buffered v) p word is = ap (λ (z : CellWord). number_of_state z.state z.value) is
-word_number shape (emptied v) p word is = ap (λ (z : CellWord). number_of_state z.state z.value) is
-word_number shape (closed_by v) p word is = ap (λ (z : CellWord). number_of_state z.state z.value) is
-word_number shape (voided_by v) p word is = ap (λ (z : CellWord). number_of_state z.state z.value) is
+word_number shape other p word is = ap (λ (z : CellWord). number_of_state z.state z.value) is
 
 -- the wait was not withdrawn
-pub none_withdrawn : (w : WaitId) (v : Seen) (word : WaitWord) → IsWaitWord w v.seen word → is_cancel word.by ≡ false → None ≡ withdrawn_at w v.seen
-none_withdrawn w v word is h = ap (λ (b : Bool). if b then number_in (cell_of v.seen 0 w.place) else None) (sym h ∙ word_withdrawn ((replay v.seen).waits w) word is.0)
+pub none_withdrawn : (w : WaitId) (v : Seen) (word : WaitWord) → IsWaitWord w v.seen word → is_cancel word.by ≡ false
+    → None ≡ withdrawn_at w v.seen
+none_withdrawn w v word is h = ap (λ (b : Bool). if b then number_in (cell_of v.seen 0 w.place) else None) (sym h
+    ∙ word_withdrawn ((replay v.seen).waits w) word is.0)
 
 -- it was, and its cell was looked at then
-pub was_withdrawn_at : (shape : Shape) (w : WaitId) (v u : Seen) (word : WaitWord) (cell : CellWord) → Sees v u → Legal shape u.seen → IsWaitWord w v.seen word → is_cancel word.by ≡ true → IsCellWord shape 0 w.place u.seen cell
+pub was_withdrawn_at : (shape : Shape) (w : WaitId) (v u : Seen) (word : WaitWord) (cell : CellWord) → Sees v u → Legal shape u.seen
+    → IsWaitWord w v.seen word → is_cancel word.by ≡ true → IsCellWord shape 0 w.place u.seen cell
     → number_of_state cell.state cell.value ≡ withdrawn_at w u.seen
 was_withdrawn_at shape w v u word cell s l is h at =
     word_number shape (cell_of u.seen 0 w.place) w.place cell at.0
-    ∙ ap (λ (b : Bool). if b then number_in (cell_of u.seen 0 w.place) else None) (sym (still_withdrawn shape w v u s l (sym (word_withdrawn ((replay v.seen).waits w) word is.0) ∙ h)))
+    ∙ ap (λ (b : Bool). if b then number_in (cell_of u.seen 0 w.place) else None)
+    (sym (still_withdrawn shape w v u s l (sym (word_withdrawn ((replay v.seen).waits w) word is.0) ∙ h)))
 
 pub ready_own : (who : ℕ) (x : Option Wait) → IsReadyWait who x → IsOwnWait who x
 ready_own who (Some x) h = h.0

@@ -42,7 +42,8 @@ module _ {T : Type 0} where
   -- it stands in a list that has it
   stands : (k : ℕ) (x : T) (before after : List (ℕ × T)) → 1 ≤ often k (before ++ (k, x) ∷ after)
   stands k x [] after = some_here 1 (often k after) (often k ((k, x) ∷ after)) refl (often_here k x after)
-  stands k x (m ∷ ms) after = some_later (one_if (m.0 == k)) (often k (ms ++ (k, x) ∷ after)) (often k ((m ∷ ms) ++ (k, x) ∷ after)) (stands k x ms after) refl
+  stands k x (m ∷ ms) after = some_later (one_if (m.0 == k)) (often k (ms ++ (k, x) ∷ after)) (often k ((m ∷ ms) ++ (k, x) ∷ after))
+      (stands k x ms after) refl
 
   abbrev value_at : T → List (ℕ × T) → T
   value_at x [] = x
@@ -57,14 +58,18 @@ module _ {T : Type 0} where
   later (m ∷ ms) = ms
 
   -- where it stands once, there is one value
-  same_value : (k : ℕ) (x y : T) (before after before' after' : List (ℕ × T)) → often k (before ++ (k, x) ∷ after) ≤ 1 → before ++ (k, x) ∷ after ≡ before' ++ (k, y) ∷ after' → x ≡ y
+  same_value : (k : ℕ) (x y : T) (before after before' after' : List (ℕ × T)) → often k (before ++ (k, x) ∷ after) ≤ 1 → before
+      ++ (k, x) ∷ after ≡ before' ++ (k, y) ∷ after' → x ≡ y
   same_value k x y [] after [] after' few e = ap (value_at x) e
   same_value k x y [] after (m ∷ ms) after' few e =
-      absurd (one_more 1 (often k after) (often k ((k, x) ∷ after)) refl (subst (λ l. 1 ≤ often k l) (sym (ap later e)) (stands k y ms after')) (often_here k x after) few)
+      absurd (one_more 1 (often k after) (often k ((k, x) ∷ after)) refl
+      (subst (λ l. 1 ≤ often k l) (sym (ap later e)) (stands k y ms after')) (often_here k x after) few)
   same_value k x y (m ∷ ms) after [] after' few e =
-      absurd (one_more (one_if (m.0 == k)) (often k (ms ++ (k, x) ∷ after)) (often k ((m ∷ ms) ++ (k, x) ∷ after)) (ap one_if (eq-eqb m.0 k (ap (key_at k) e))) (stands k x ms after) refl few)
+      absurd (one_more (one_if (m.0 == k)) (often k (ms ++ (k, x) ∷ after)) (often k ((m ∷ ms) ++ (k, x) ∷ after))
+      (ap one_if (eq-eqb m.0 k (ap (key_at k) e))) (stands k x ms after) refl few)
   same_value k x y (m ∷ ms) after (n ∷ ns) after' few e =
-      same_value k x y ms after ns after' (fewer (one_if (m.0 == k)) (often k (ms ++ (k, x) ∷ after)) (often k ((m ∷ ms) ++ (k, x) ∷ after)) refl few) (ap later e)
+      same_value k x y ms after ns after' (fewer (one_if (m.0 == k)) (often k (ms ++ (k, x) ∷ after)) (often k ((m ∷ ms) ++ (k, x) ∷ after))
+      refl few) (ap later e)
 
   -- as many entries move it in
   often-moves : (k : ℕ) (log : List (ParcelEntry T)) → often k (moves log) ≡ how_often (is_move_in k) log
@@ -75,7 +80,8 @@ module _ {T : Type 0} where
       test true n m h = ap (λ i. 1 + i) h
       test false n m h = omega (arith, h)
 
-      by_act : (act : ParcelAct T) → often k (moves es) ≡ how_often (is_move_in k) es → often k (moved_by act ++ moves es) ≡ (if is_move_in k act then 1 + how_often (is_move_in k) es else how_often (is_move_in k) es)
+      by_act : (act : ParcelAct T) → often k (moves es) ≡ how_often (is_move_in k) es
+          → often k (moved_by act ++ moves es) ≡ (if is_move_in k act then 1 + how_often (is_move_in k) es else how_often (is_move_in k) es)
       by_act (Draw j) h = h
       by_act Miss h = h
       by_act (MoveIn j v) h = test (j == k) (often k (moves es)) (how_often (is_move_in k) es) h
@@ -88,16 +94,21 @@ module _ {T : Type 0} where
       (subst (λ (i : ℕ). i ≤ 1) (sym (often-moves k log) ∙ ap (often k) a.at) (moved_once n log k legal).once) (sym a.at ∙ b.at)
 
   -- a value that was moved in before
-  pub only_before : (n k : ℕ) (x : T) (v w : List (ParcelEntry T)) (rest : List (ParcelEntry T)) → w ≡ v ++ rest → Legal n w → IsMove k x w → IsOnly k x v
+  pub only_before : (n k : ℕ) (x : T) (v w : List (ParcelEntry T)) (rest : List (ParcelEntry T)) → w ≡ v ++ rest → Legal n w → IsMove k x w
+      → IsOnly k x v
   only_before n k x v w rest now legal a y b = one_value n k x w legal a y (record {
     before = b.before;
     after = b.after ++ moves rest;
-    at = ap (λ l. moves l) now ∙ moves-append v rest ∙ ap (λ l. l ++ moves rest) b.at ∙ append_assoc b.before ((k, y) ∷ b.after) (moves rest);
+    at = ap (λ l. moves l) now ∙ moves-append v rest ∙ ap (λ l. l ++ moves rest) b.at
+        ∙ append_assoc b.before ((k, y) ∷ b.after) (moves rest);
   })
 
   -- the value that a call moved out
-  pub only_taken : (n k old : ℕ) (v z y : Seen T) (result : Option T) (who : ℕ) → Entered (Legal n) Fits maker (1 + k) old (entry_of (own_tag z) (PutBack k)) z y → TakeAnswer who k v y result → IfSome result (λ x. IsOnly k x v.seen)
-  only_taken n k old v z y (Some x) who e h = only_before n k x v.seen y.seen h.0.rest h.0.now (subst (λ l. Legal n l) (sym (ap (λ (q : Seen T). q.seen) e.now)) e.is_legal) h.1
+  pub only_taken : (n k old : ℕ) (v z y : Seen T) (result : Option T) (who : ℕ)
+      → Entered (Legal n) Fits maker (1 + k) old (entry_of (own_tag z) (PutBack k)) z y → TakeAnswer who k v y result
+      → IfSome result (λ x. IsOnly k x v.seen)
+  only_taken n k old v z y (Some x) who e h = only_before n k x v.seen y.seen h.0.rest h.0.now
+      (subst (λ l. Legal n l) (sym (ap (λ (q : Seen T). q.seen) e.now)) e.is_legal) h.1
   only_taken n k old v z y None who e h = tt
 
   -- ---- the value that a call moved in
@@ -121,13 +132,21 @@ module _ {T : Type 0} where
     at = ap (λ l. moved_by r.act ++ l) m.at ∙ sym (append_assoc (moved_by r.act) m.before ((k, x) ∷ m.after));
   }
 
-  moved_in : (who k : ℕ) (x : T) (log before after : List (ParcelEntry T)) → entries_of maker who log ≡ before ++ entry_of who (MoveIn k x) ∷ after → IsMove k x log
+  moved_in : (who k : ℕ) (x : T) (log before after : List (ParcelEntry T)) → entries_of maker who log ≡ before
+      ++ entry_of who (MoveIn k x) ∷ after → IsMove k x log
   moved_in who k x [] before after q = absurd (no_entry (entry_of who (MoveIn k x)) before after q)
   moved_in who k x (r ∷ rs) before after q = by_test (r.who == who) before q (λ bs p. moved_in who k x rs bs after p)
     where
-      by_test : (b : Bool) (bs : List (ParcelEntry T)) → (if b then r ∷ entries_of maker who rs else entries_of maker who rs) ≡ bs ++ entry_of who (MoveIn k x) ∷ after
-          → ((cs : List (ParcelEntry T)) → entries_of maker who rs ≡ cs ++ entry_of who (MoveIn k x) ∷ after → IsMove k x rs) → IsMove k x (r ∷ rs)
-      by_test true [] p next = record { before = []; after = moves rs; at = ap (λ (e : ParcelEntry T). moved_by e.act ++ moves rs) (ap (first_of r) p) }
+      by_test : (b : Bool) (bs : List (ParcelEntry T)) → (if b then r ∷ entries_of maker who rs else entries_of maker who rs) ≡ bs
+          ++ entry_of who (MoveIn k x) ∷ after
+          → ((cs : List (ParcelEntry T)) → entries_of maker who rs ≡ cs ++ entry_of who (MoveIn k x) ∷ after → IsMove k x rs)
+          → IsMove k x (r ∷ rs)
+      by_test true [] p next = record {
+        before = [];
+        after = moves rs;
+        at =
+            ap (λ (e : ParcelEntry T). moved_by e.act ++ moves rs) (ap (first_of r) p);
+      }
       by_test true (c ∷ cs) p next = move_later k x r rs (next cs (ap rest_of p))
       by_test false cs p next = move_later k x r rs (next cs p)
 
@@ -135,7 +154,8 @@ module _ {T : Type 0} where
   put_move n who k x v w h = let m = moved_in who k x h.0.rest (entry_of who (Draw k) ∷ []) [] h.0.mine in record {
     before = moves v.seen ++ m.before;
     after = m.after;
-    at = ap (λ l. moves l) h.0.now ∙ moves-append v.seen h.0.rest ∙ ap (λ l. moves v.seen ++ l) m.at ∙ sym (append_assoc (moves v.seen) m.before ((k, x) ∷ m.after));
+    at = ap (λ l. moves l) h.0.now ∙ moves-append v.seen h.0.rest ∙ ap (λ l. moves v.seen ++ l) m.at
+        ∙ sym (append_assoc (moves v.seen) m.before ((k, x) ∷ m.after));
   }
 
   -- ---- tags

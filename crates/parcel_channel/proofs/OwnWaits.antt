@@ -29,18 +29,22 @@ use Rattle.parcel_channel.specs.Numbers.{is_admit, Admits, WaitsStill, is_sent}
 -- ---- it was placed, and admits were made
 
 -- a legal history that ends with this entry
-last_legal : (shape : Shape) (es all : List Entry) (e : Entry) → all ≡ es ++ e ∷ [] → Legal shape all → Legal shape es × Needs shape (replay es) e.who e.act
+last_legal : (shape : Shape) (es all : List Entry) (e : Entry) → all ≡ es ++ e ∷ [] → Legal shape all → Legal shape es
+    × Needs shape (replay es) e.who e.act
 last_legal shape es all e is l = Legal-last shape es e (subst (Legal shape) is l)
 
-pub offer_plain : (who c p v : ℕ) (b d : Floor) → Legal d.shape d.seen → Made who (Offer c p v (record { channel = c; place = p }) 0) b d → OffersPlainly who (record { channel = c; place = p }) (replay d.seen)
+pub offer_plain : (who c p v : ℕ) (b d : Floor) → Legal d.shape d.seen → Made who (Offer c p v (record { channel = c; place = p }) 0) b d
+    → OffersPlainly who (record { channel = c; place = p }) (replay d.seen)
 offer_plain who c p v b d l m =
     let w : WaitId = record { channel = c; place = p } in
     let last : Entry = record { who = who; act = Offer c p v w 0 } in
     let r = last_legal d.shape m.before d.seen last m.last l in
-    subst (λ es. OffersPlainly who w (replay es)) (sym m.last) (subst (OffersPlainly who w) (sym (replay_push m.before last)) (offered_plain d.shape who c p v m.before r.0 r.1))
+    subst (λ es. OffersPlainly who w (replay es)) (sym m.last)
+    (subst (OffersPlainly who w) (sym (replay_push m.before last)) (offered_plain d.shape who c p v m.before r.0 r.1))
 
 -- a receive that waits has begun a wait
-pub await_own : (who c p : ℕ) (b d : Floor) → Legal d.shape d.seen → Made who (Await c p (record { channel = c; place = p }) 0) b d → IsUnsettledOf who ((replay d.seen).waits (record { channel = c; place = p }))
+pub await_own : (who c p : ℕ) (b d : Floor) → Legal d.shape d.seen → Made who (Await c p (record { channel = c; place = p }) 0) b d
+    → IsUnsettledOf who ((replay d.seen).waits (record { channel = c; place = p }))
 await_own who c p b d l m =
     let w : WaitId = record { channel = c; place = p } in
     let act : Act = Await c p w 0 in
@@ -59,11 +63,14 @@ quiet [] h = refl
 quiet (Admit c p ∷ acts) h = quiet acts h
 quiet (other ∷ acts) h = cc
 
-pub plain_admits : (who : ℕ) (w : WaitId) (a b : Floor) → Legal b.shape b.seen → OffersPlainly who w (replay a.seen) → Admits who a b → OffersPlainly who w (replay b.seen)
+pub plain_admits : (who : ℕ) (w : WaitId) (a b : Floor) → Legal b.shape b.seen → OffersPlainly who w (replay a.seen) → Admits who a b
+    → OffersPlainly who w (replay b.seen)
 plain_admits who w a b l h m = plain_lasts b.shape who w m.acts a.seen b.seen l m.added.longer m.added.mine (quiet m.acts m.admits) h
 
-pub plain_looked : (who : ℕ) (w : WaitId) (a b : Floor) → Legal b.shape b.seen → OffersPlainly who w (replay a.seen) → Looked who a b → OffersPlainly who w (replay b.seen)
-plain_looked who w a b l h look = plain_lasts b.shape who w [] a.seen b.seen l look.longer (look.mine ∙ sym (nothing_more (acts_of who a.seen))) refl h
+pub plain_looked : (who : ℕ) (w : WaitId) (a b : Floor) → Legal b.shape b.seen → OffersPlainly who w (replay a.seen) → Looked who a b
+    → OffersPlainly who w (replay b.seen)
+plain_looked who w a b l h look = plain_lasts b.shape who w [] a.seen b.seen l look.longer (look.mine
+    ∙ sym (nothing_more (acts_of who a.seen))) refl h
 
 pub plain_own : (who c : ℕ) (b : Bool) (y : Option Wait) → IsPlainOffer who c b y → IsOwnWait who y
 plain_own who c b None h = h
@@ -72,11 +79,13 @@ plain_own who c b (Some x) h = h.0
 -- ---- what its word says
 
 -- it was neither admitted nor received
-pub waits_still : (who c : ℕ) (b : Bool) (y : Option Wait) (word : WaitWord) → IsPlainOffer who c b y → word ≡ word_of_wait y → is_sent word.by ≡ false → WaitsStill who y
+pub waits_still : (who c : ℕ) (b : Bool) (y : Option Wait) (word : WaitWord) → IsPlainOffer who c b y → word ≡ word_of_wait y
+    → is_sent word.by ≡ false → WaitsStill who y
 waits_still who c b None word h is e = h
 waits_still who c b (Some x) word h is e = (h.0, h.1, by_how x.resolved x.settled h.3 (ap (λ (z : WaitWord). is_sent z.by) (sym is) ∙ e))
   where
-    by_how : (how : Option Resolution) (o : Option Settled) → EndsPlainly b how → is_sent (parts_word how o).by ≡ false → (how ≡ None) ⊎ (how ≡ Some resolved.Voided)
+    by_how : (how : Option Resolution) (o : Option Settled) → EndsPlainly b how → is_sent (parts_word how o).by ≡ false → (how ≡ None)
+        ⊎ (how ≡ Some resolved.Voided)
     by_how None o g q = inl refl
     by_how (Some (resolved.Handed k v)) o g q = absurd g
     by_how (Some (resolved.Taken k)) None g q = cc
@@ -92,7 +101,8 @@ waits_holds who None h = h
 waits_holds who (Some x) h = (h.0, h.1)
 
 -- it may be settled
-pub sent_ready : (who c : ℕ) (b : Bool) (y : Option Wait) (word : WaitWord) → IsPlainOffer who c b y → word ≡ word_of_wait y → is_sent word.by ≡ true → IsReadyWait who y
+pub sent_ready : (who c : ℕ) (b : Bool) (y : Option Wait) (word : WaitWord) → IsPlainOffer who c b y → word ≡ word_of_wait y
+    → is_sent word.by ≡ true → IsReadyWait who y
 sent_ready who c b None word h is e = h
 sent_ready who c b (Some x) word h is e = (h.0, by_how x.resolved x.settled (ap (λ (z : WaitWord). is_sent z.by) (sym is) ∙ e), h.1)
   where
@@ -101,11 +111,13 @@ sent_ready who c b (Some x) word h is e = (h.0, by_how x.resolved x.settled (ap 
     by_how (Some how) o q = refl
 
 -- and ends as sent
-pub sent_end : (who c : ℕ) (b : Bool) (y : Option Wait) (word : WaitWord) (outcome : Settled) → IsPlainOffer who c b y → word ≡ word_of_wait y → is_sent word.by ≡ true → outcome_at false y ≡ Some outcome → (k : ℕ) × (outcome ≡ end.Sent k)
+pub sent_end : (who c : ℕ) (b : Bool) (y : Option Wait) (word : WaitWord) (outcome : Settled) → IsPlainOffer who c b y
+    → word ≡ word_of_wait y → is_sent word.by ≡ true → outcome_at false y ≡ Some outcome → (k : ℕ) × (outcome ≡ end.Sent k)
 sent_end who c b None word outcome h is e o = absurd h
 sent_end who c b (Some x) word outcome h is e o = by_how x.resolved x.settled h.3 (ap (λ (z : WaitWord). is_sent z.by) (sym is) ∙ e) o
   where
-    by_how : (how : Option Resolution) (z : Option Settled) → EndsPlainly b how → is_sent (parts_word how z).by ≡ true → outcome_of_some false how ≡ Some outcome → (k : ℕ) × (outcome ≡ end.Sent k)
+    by_how : (how : Option Resolution) (z : Option Settled) → EndsPlainly b how → is_sent (parts_word how z).by ≡ true
+        → outcome_of_some false how ≡ Some outcome → (k : ℕ) × (outcome ≡ end.Sent k)
     by_how None z g q r = cc
     by_how (Some (resolved.Handed k v)) z g q r = absurd g
     by_how (Some (resolved.Taken k)) z g q r = (k, (let s : end.Sent k ≡ outcome = cc in sym s))

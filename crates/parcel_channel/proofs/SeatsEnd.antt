@@ -17,14 +17,17 @@ has_tag-or : (t : ℕ) (xs ys : List ℕ) → has_tag t (xs ++ ys) ≡ (has_tag 
 has_tag-or t [] ys = refl
 has_tag-or t (x ∷ xs) ys = by_test (t == x) (has_tag-or t xs ys)
   where
-    by_test : (b : Bool) → has_tag t (xs ++ ys) ≡ (has_tag t xs || has_tag t ys) → (if b then true else has_tag t (xs ++ ys)) ≡ ((if b then true else has_tag t xs) || has_tag t ys)
+    by_test : (b : Bool) → has_tag t (xs ++ ys) ≡ (has_tag t xs || has_tag t ys)
+        → (if b then true else has_tag t (xs ++ ys)) ≡ ((if b then true else has_tag t xs) || has_tag t ys)
     by_test true h = refl
     by_test false h = h
 
 module _ {T : Type 0} where
   -- others' entries are not the own
-  still_own : (t : ℕ) (xs others : List (ParcelEntry T)) → entries_of maker t others ≡ [] → entries_of maker t (xs ++ others) ≡ entries_of maker t xs
-  still_own t xs others e = entries_of-append maker t xs others ∙ ap (λ (l : List (ParcelEntry T)). entries_of maker t xs ++ l) e ∙ append-nil (entries_of maker t xs)
+  still_own : (t : ℕ) (xs others : List (ParcelEntry T)) → entries_of maker t others ≡ []
+      → entries_of maker t (xs ++ others) ≡ entries_of maker t xs
+  still_own t xs others e = entries_of-append maker t xs others ∙ ap (λ (l : List (ParcelEntry T)). entries_of maker t xs ++ l) e
+      ∙ append-nil (entries_of maker t xs)
 
   pub meet_answer : (n m key : ℕ) (v u w : Seen T) → Loaded (Legal n) Fits maker 0 m (told_by v (untagged key u.seen)) w → MeetAnswer v u w
   meet_answer n m key v u w l = record {

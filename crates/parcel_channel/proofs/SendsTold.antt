@@ -10,13 +10,19 @@ use Rattle.parcel_channel.specs.Hubs.{NumberSent, SendAnswer}
 use Rattle.parcel_channel.proofs.OneMoveEach.{put_move}
 
 module _ {T : Type 0} where
-  pub number_by : (t who k : ℕ) (u w : Seen T) (f old new : Floor) (r : ParcelSent T) → t ≡ who → f ≡ old → NumberSent t k u w f new r → NumberSent who k u w old new r
-  number_by t who k u w f old new r is same h = subst (λ (a : Floor). NumberSent who k u w a new r) same (subst (λ (a : ℕ). NumberSent a k u w f new r) is h)
+  pub number_by : (t who k : ℕ) (u w : Seen T) (f old new : Floor) (r : ParcelSent T) → t ≡ who → f ≡ old → NumberSent t k u w f new r
+      → NumberSent who k u w old new r
+  number_by t who k u w f old new r is same h = subst (λ (a : Floor). NumberSent who k u w a new r) same
+      (subst (λ (a : ℕ). NumberSent a k u w f new r) is h)
 
-  pub send_told : (parcels who k : ℕ) (x : T) (v u w : Seen T) (old new : Floor) (r : ParcelSent T) → PutAnswer parcels who x v u (Ok k) → NumberSent who k u w old new r → SendAnswer parcels who x v w old new r
-  send_told parcels who k x v u w old new (sent.Sent (Some t)) put h = (k, subst (λ (s : Seen T). PutAnswer parcels who x v s (Ok k)) (sym h.1) put, h.0)
-  send_told parcels who k x v u w old new (sent.Sent None) put h = (k, subst (λ (s : Seen T). PutAnswer parcels who x v s (Ok k)) (sym h.1) put, h.0)
-  send_told parcels who k x v u w old new (sent.Waits wait) put h = (k, subst (λ (s : Seen T). PutAnswer parcels who x v s (Ok k)) (sym h.2) put, h.0, h.1, h.3)
+  pub send_told : (parcels who k : ℕ) (x : T) (v u w : Seen T) (old new : Floor) (r : ParcelSent T) → PutAnswer parcels who x v u (Ok k)
+      → NumberSent who k u w old new r → SendAnswer parcels who x v w old new r
+  send_told parcels who k x v u w old new (sent.Sent (Some t)) put h =
+      (k, subst (λ (s : Seen T). PutAnswer parcels who x v s (Ok k)) (sym h.1) put, h.0)
+  send_told parcels who k x v u w old new (sent.Sent None) put h =
+      (k, subst (λ (s : Seen T). PutAnswer parcels who x v s (Ok k)) (sym h.1) put, h.0)
+  send_told parcels who k x v u w old new (sent.Waits wait) put h =
+      (k, subst (λ (s : Seen T). PutAnswer parcels who x v s (Ok k)) (sym h.2) put, h.0, h.1, h.3)
   send_told parcels who k x v u w old new (sent.Closed y c) put h = (k, u, put, h.0, h.1, h.2 x (put_move parcels who k x v u put))
   send_told parcels who k x v u w old new (sent.Spent y) put h = (k, u, put, h.0, h.1, h.2 x (put_move parcels who k x v u put))
   send_told parcels who k x v u w old new (sent.NoParcel y) put h = absurd h

@@ -15,7 +15,9 @@ get_before (x ∷ xs) ys (suc k) lt = get_before xs ys k (omega (arith, lt))
 before_last : (n k m : ℕ) → k < m → m ≡ n + 1 → (k ≡ n → ⊥) → k < n
 before_last n k m lt is ne = omega (arith, lt, is, ne)
 
-pub copied_more : {A : Type 0} (from to : List A) (x : A) (n : ℕ) → n ≡ length to → get_elem? from n ≡ some x → IsCopied from to → IsCopied from (to ++ x ∷ [])
+pub copied_more : {A : Type 0} (from to : List A) (x : A) (n : ℕ) → n ≡ length to → get_elem? from n ≡ some x → IsCopied from to
+    → IsCopied from (to ++ x ∷ [])
 copied_more from to x n is at h = λ k lt. dite (ℕ_discrete k (length to))
     (λ e. at_last to x k (sym e) ∙ sym (ap (get_elem? from) (e ∙ sym is) ∙ at))
-    (λ ne. let l = before_last (length to) k (length (to ++ x ∷ [])) lt (length-append to (x ∷ [])) ne in get_before to (x ∷ []) k l ∙ h k l)
+    (λ ne. let l = before_last (length to) k (length (to ++ x ∷ [])) lt (length-append to (x ∷ [])) ne in get_before to (x ∷ []) k l
+    ∙ h k l)

@@ -33,7 +33,8 @@ count_small f (suc n) = go (f n) (count_small f n)
 count_same : (f : ℕ → Bool) (t n : ℕ) → n ≤ t → count_below (put t true f) n ≡ count_below f n
 unfolding count_below
 count_same f t zero le = refl
-count_same f t (suc n) le = let e : one_if (put t true f n) ≡ one_if (f n) = ap one_if (put_else t n true f (λ is. absurd (omega (arith, le, is)))) in
+count_same f t (suc n) le = let e : one_if (put t true f n) ≡ one_if (f n) =
+    ap one_if (put_else t n true f (λ is. absurd (omega (arith, le, is)))) in
     let h : count_below (put t true f) n ≡ count_below f n = count_same f t n (omega (arith, le)) in omega (arith, e, h)
 
 count_put : (f : ℕ → Bool) (t n : ℕ) → f t ≡ false → t < n → count_below (put t true f) n ≡ suc (count_below f n)
@@ -82,7 +83,8 @@ module _ {T : Type 0} where
     pub undrawn : (k : ℕ) → s.count ≤ k → s.parcels k ≡ unused
 
   -- a parcel that is put was drawn
-  sound_put : (n : ℕ) (s : State T) (k : ℕ) (x : Parcel T) → Sound n s → (s.parcels k ≡ unused → ⊥) → Sound n (record { count = s.count; late = s.late; parcels = put k x s.parcels })
+  sound_put : (n : ℕ) (s : State T) (k : ℕ) (x : Parcel T) → Sound n s → (s.parcels k ≡ unused → ⊥)
+      → Sound n (record { count = s.count; late = s.late; parcels = put k x s.parcels })
   sound_put n s k x h ne = record {
     early = h.early;
     bound = h.bound;
@@ -125,14 +127,16 @@ module _ {T : Type 0} where
   sound_of n log k = sound_from n start log (start_sound n) k
 
   -- what each of others' entries keeps holds after all of them
-  pub others_keep : (n who : ℕ) (P : State T → Type 0) → ((s : State T) (t : ℕ) (act : ParcelAct T) → Sound n s → Needs n s t act → (t ≡ who → ⊥) → P s → P (after s t act))
+  pub others_keep : (n who : ℕ) (P : State T → Type 0) → ((s : State T) (t : ℕ) (act : ParcelAct T) → Sound n s → Needs n s t act
+      → (t ≡ who → ⊥) → P s → P (after s t act))
       → (s : State T) (es : List (ParcelEntry T)) → Sound n s → LegalFrom n s es → entries_of maker who es ≡ [] → P s → P (state_from s es)
   unfolding state_from LegalFrom
   others_keep n who P step s [] sound k apart h = h
   others_keep n who P step s (e ∷ es) sound k apart h = let a = apart_first who e es apart in
       others_keep n who P step (after s e.who e.act) es (sound_step n s e.who e.act sound k.0) k.1 a.1 (step s e.who e.act sound k.0 a.0 h)
 
-  pub late_step : (n : ℕ) (s : State T) (t who : ℕ) (act : ParcelAct T) → (t ≡ who → ⊥) → s.late who ≡ false → (after s t act).late who ≡ false
+  pub late_step : (n : ℕ) (s : State T) (t who : ℕ) (act : ParcelAct T) → (t ≡ who → ⊥) → s.late who ≡ false
+      → (after s t act).late who ≡ false
   late_step n s t who (Draw k) ne h = h
   late_step n s t who Miss ne h = put_else t who true s.late ne ∙ h
   late_step n s t who (MoveIn k v) ne h = h
@@ -162,23 +166,26 @@ module _ {T : Type 0} where
 
   inside_held : (who : ℕ) (p : Parcel T) → is_held who p ≡ true → is_inside p ≡ true → ⊥
   inside_held who unused h k = cc
-  inside_held who (drawn u) h k = cc
-  inside_held who (inside v) h k = cc
-  inside_held who (outside u) h k = cc
-  inside_held who emptied h k = cc
+  inside_held who other h k = cc
 
   unused_held : (who : ℕ) (p : Parcel T) → is_held who p ≡ true → p ≡ unused → ⊥
   unused_held who p h e = let z : true ≡ false = sym h ∙ ap (is_held who) e in cc
 
-  held_step : (n : ℕ) (s : State T) (t : ℕ) (act : ParcelAct T) (who i : ℕ) (p : Parcel T) → Sound n s → Needs n s t act → (t ≡ who → ⊥) → is_held who p ≡ true → s.parcels i ≡ p → (after s t act).parcels i ≡ p
-  held_step n s t (Draw k) who i p sound q ne h is = at_put s i k (drawn t) p is (λ e. unused_held who p h (sym e ∙ sound.undrawn k (subst (λ m. m ≤ k) q.0 (le_self k))))
+  held_step : (n : ℕ) (s : State T) (t : ℕ) (act : ParcelAct T) (who i : ℕ) (p : Parcel T) → Sound n s → Needs n s t act → (t ≡ who → ⊥)
+      → is_held who p ≡ true → s.parcels i ≡ p → (after s t act).parcels i ≡ p
+  held_step n s t (Draw k) who i p sound q ne h is = at_put s i k (drawn t) p is
+      (λ e. unused_held who p h (sym e ∙ sound.undrawn k (subst (λ m. m ≤ k) q.0 (le_self k))))
   held_step n s t Miss who i p sound q ne h is = is
-  held_step n s t (MoveIn k v) who i p sound q ne h is = at_put s i k (inside v) p is (λ e. drawn_by_not t who p ne h (sym (ap (is_drawn_by t) e) ∙ q))
+  held_step n s t (MoveIn k v) who i p sound q ne h is =
+      at_put s i k (inside v) p is (λ e. drawn_by_not t who p ne h (sym (ap (is_drawn_by t) e) ∙ q))
   held_step n s t (MoveOut k) who i p sound q ne h is = at_put s i k (outside t) p is (λ e. inside_held who p h (sym (ap is_inside e) ∙ q))
-  held_step n s t (PutBack k) who i p sound q ne h is = at_put s i k emptied p is (λ e. out_with_not t who p ne h (sym (ap (is_out_with t) e) ∙ q))
+  held_step n s t (PutBack k) who i p sound q ne h is = at_put s i k emptied p is
+      (λ e. out_with_not t who p ne h (sym (ap (is_out_with t) e) ∙ q))
 
-  pub drawn_step : (n : ℕ) (s : State T) (t : ℕ) (act : ParcelAct T) (who i : ℕ) → Sound n s → Needs n s t act → (t ≡ who → ⊥) → is_drawn_by who (s.parcels i) ≡ true → is_drawn_by who ((after s t act).parcels i) ≡ true
-  drawn_step n s t act who i sound q ne h = ap (is_drawn_by who) (held_step n s t act who i (s.parcels i) sound q ne (drawn_held (s.parcels i) h) refl) ∙ h
+  pub drawn_step : (n : ℕ) (s : State T) (t : ℕ) (act : ParcelAct T) (who i : ℕ) → Sound n s → Needs n s t act → (t ≡ who → ⊥)
+      → is_drawn_by who (s.parcels i) ≡ true → is_drawn_by who ((after s t act).parcels i) ≡ true
+  drawn_step n s t act who i sound q ne h = ap (is_drawn_by who)
+      (held_step n s t act who i (s.parcels i) sound q ne (drawn_held (s.parcels i) h) refl) ∙ h
     where
       drawn_held : (p : Parcel T) → is_drawn_by who p ≡ true → is_held who p ≡ true
       drawn_held unused k = cc
@@ -187,8 +194,10 @@ module _ {T : Type 0} where
       drawn_held (outside u) k = cc
       drawn_held emptied k = cc
 
-  pub out_step : (n : ℕ) (s : State T) (t : ℕ) (act : ParcelAct T) (who i : ℕ) → Sound n s → Needs n s t act → (t ≡ who → ⊥) → is_out_with who (s.parcels i) ≡ true → is_out_with who ((after s t act).parcels i) ≡ true
-  out_step n s t act who i sound q ne h = ap (is_out_with who) (held_step n s t act who i (s.parcels i) sound q ne (out_held (s.parcels i) h) refl) ∙ h
+  pub out_step : (n : ℕ) (s : State T) (t : ℕ) (act : ParcelAct T) (who i : ℕ) → Sound n s → Needs n s t act → (t ≡ who → ⊥)
+      → is_out_with who (s.parcels i) ≡ true → is_out_with who ((after s t act).parcels i) ≡ true
+  out_step n s t act who i sound q ne h = ap (is_out_with who)
+      (held_step n s t act who i (s.parcels i) sound q ne (out_held (s.parcels i) h) refl) ∙ h
     where
       out_held : (p : Parcel T) → is_out_with who p ≡ true → is_held who p ≡ true
       out_held unused k = cc

@@ -43,13 +43,16 @@ resolved_state (Some x) e = by_parts x.resolved x.settled e
     by_parts None (Some z) q = cc
     by_parts (Some how) o q = refl
 
-pub look_ready : (who : ℕ) (w : WaitId) (a b : Floor) → Legal b.shape b.seen → LookAnswer who w a b state.Resolved → HoldsWait who w a → IsReady who w b
+pub look_ready : (who : ℕ) (w : WaitId) (a b : Floor) → Legal b.shape b.seen → LookAnswer who w a b state.Resolved → HoldsWait who w a
+    → IsReady who w b
 look_ready who w a b l look h =
     let m = look.1 in
     let t = between who a.seen m.moment b.seen m.after m.before look.0.mine in
     let legal : Legal b.shape m.moment = Legal-prefix b.shape m.moment m.before.0 (rw m.before.1 l) in
-    let held : IsUnsettledOf who ((replay m.moment).waits w) = others_keep b.shape who (IsUnsettledOf who) (unsettled_stays who) w a.seen m.moment legal m.after t.0 h in
-    others_keep b.shape who (IsReadyWait who) (ready_stays who) w m.moment b.seen l m.before t.1 (ready_of who ((replay m.moment).waits w) held (resolved_state ((replay m.moment).waits w) m.holds))
+    let held : IsUnsettledOf who ((replay m.moment).waits w) =
+    others_keep b.shape who (IsUnsettledOf who) (unsettled_stays who) w a.seen m.moment legal m.after t.0 h in
+    others_keep b.shape who (IsReadyWait who) (ready_stays who) w m.moment b.seen l m.before t.1
+    (ready_of who ((replay m.moment).waits w) held (resolved_state ((replay m.moment).waits w) m.holds))
 
 -- ---- after it was withdrawn, or resolved before
 
@@ -57,7 +60,8 @@ withdrawn_ready : (who : ℕ) (why : Why) (y : Option Wait) → IsUnsettledOf wh
 withdrawn_ready who why None h = h
 withdrawn_ready who why (Some x) h = (h.0, refl, h.1)
 
-pub withdraw_ready : (who : ℕ) (w : WaitId) (why : Why) (a b : Floor) (r : Withdrawn) → Legal b.shape b.seen → WithdrawAnswer who w why a b r → HoldsWait who w a → IsReady who w b
+pub withdraw_ready : (who : ℕ) (w : WaitId) (why : Why) (a b : Floor) (r : Withdrawn) → Legal b.shape b.seen
+    → WithdrawAnswer who w why a b r → HoldsWait who w a → IsReady who w b
 withdraw_ready who w why a b (withdrawn.Done t) l h held =
     let m : Made who (Withdraw w why) a b = h.0 in
     let last : Entry = record { who = who; act = Withdraw w why } in
@@ -67,5 +71,6 @@ withdraw_ready who w why a b (withdrawn.Done t) l h held =
     ∙ ap (λ (s : State). s.waits w) (replay_push m.before last)
     ∙ at_wait w (resolved_wait (resolved.Withdrawn why) ((replay m.before).waits w)) (replay m.before).waits in
     subst (IsReadyWait who) (sym at)
-    (withdrawn_ready who why ((replay m.before).waits w) (others_keep b.shape who (IsUnsettledOf who) (unsettled_stays who) w a.seen m.before before.0 m.longer m.mine held))
+    (withdrawn_ready who why ((replay m.before).waits w) (others_keep b.shape who (IsUnsettledOf who) (unsettled_stays who) w a.seen
+    m.before before.0 m.longer m.mine held))
 withdraw_ready who w why a b withdrawn.Late l h held = ready_of who ((replay b.seen).waits w) (look_holds who w a b l h.0 held) h.1

@@ -3,7 +3,8 @@ use Rattle.std.proofs.Common.{◌≡◌, ◌<◌, ℕ, List, [], ◌∷◌, ◌+
 use Rattle.report_picture.specs.declared.picture.Column.{Column}
 use Rattle.report_picture.specs.Pictures.{StandBeside, last_text}
 
-pub beside_more : (edge : ℕ) (cs : List Column) (c : Column) → StandBeside edge cs → last_text edge cs < c.left → c.left < c.text → StandBeside edge (cs ++ c ∷ [])
+pub beside_more : (edge : ℕ) (cs : List Column) (c : Column) → StandBeside edge cs → last_text edge cs < c.left → c.left < c.text
+    → StandBeside edge (cs ++ c ∷ [])
 beside_more edge [] c stand right texts = ((right, texts), tt)
 beside_more edge (x ∷ cs) c stand right texts = (stand.0, beside_more x.text cs c stand.1 right texts)
 

@@ -74,16 +74,20 @@ titled (b ∷ title) words =
     subst Content (regroup_title (codes "<title>") (escaped (b ∷ title)) (codes "</") (codes "title") (codes ">") (escaped words))
     (element_then (codes "title") [] (escaped (b ∷ title)) (escaped words) refl no_more (plain (b ∷ title)) (plain words))
 
-regroup_node : (o name a g t e c g' l n : List ℕ) → o ++ name ++ a ++ g ++ (t ++ e) ++ c ++ name ++ g' ++ (l ++ n) ≡ o ++ name ++ a ++ (g ++ t ++ e ++ c ++ name ++ (g' ++ l)) ++ n
+regroup_node : (o name a g t e c g' l n : List ℕ) → o ++ name ++ a ++ g ++ (t ++ e) ++ c ++ name ++ g' ++ (l ++ n) ≡ o ++ name ++ a
+    ++ (g ++ t ++ e ++ c ++ name ++ (g' ++ l)) ++ n
 regroup_node o name a g t e c g' l n = simp append_assoc
 
 contents : (nodes : List Node) → AllNamed nodes → Content (nodes_text nodes)
 contents [] names = no_content
 contents (node ∷ nodes) names =
     subst Content
-    (regroup_node (codes "<") node.name (attributes_text node.attributes) (codes ">") (title_text node.title) (escaped node.text) (codes "</") (codes ">") (codes "\n") (nodes_text nodes))
-    (element_then node.name (attributes_text node.attributes) (title_text node.title ++ escaped node.text) (codes "\n" ++ nodes_text nodes) names.0.by_name
-    (attributed node.attributes names.0.all) (titled node.title node.text) (words_then (codes "\n") (nodes_text nodes) (contents nodes names.1)))
+    (regroup_node (codes "<") node.name (attributes_text node.attributes) (codes ">") (title_text node.title) (escaped node.text)
+    (codes "</") (codes ">") (codes "\n") (nodes_text nodes))
+    (element_then node.name (attributes_text node.attributes) (title_text node.title ++ escaped node.text) (codes "\n"
+    ++ nodes_text nodes) names.0.by_name
+    (attributed node.attributes names.0.all) (titled node.title node.text)
+    (words_then (codes "\n") (nodes_text nodes) (contents nodes names.1)))
 
 -- ---- the document
 
@@ -97,7 +101,8 @@ is_document p = record {
   is_name = refl;
   well_attributed = attributed (document_attributes p.width p.height) (refl, (refl, (refl, tt)));
   well_formed = words_then (codes "\n") (nodes_text (picture_nodes p)) (contents (picture_nodes p) (named p));
-  is_whole = regroup_whole (codes "<svg") (attributes_text (document_attributes p.width p.height)) (codes ">") (codes "\n") (nodes_text (picture_nodes p)) (codes "</") (codes "svg") (codes ">\n");
+  is_whole = regroup_whole (codes "<svg") (attributes_text (document_attributes p.width p.height)) (codes ">") (codes "\n")
+      (nodes_text (picture_nodes p)) (codes "</") (codes "svg") (codes ">\n");
 }
 
 -- ---- the document from its parts

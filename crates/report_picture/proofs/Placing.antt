@@ -6,7 +6,8 @@ use Rattle.report_picture.specs.Order.{StandFrom}
 use Rattle.report_picture.specs.Pictures.{EndsAbove, StandInColumns, StandInOrder, StandsBelow, column_of, is_target}
 use Rattle.report_reader.specs.Reports.{Line as Told}
 
-pub columns_more : (tags : List ℕ) (ds : List Drawn) (d : Drawn) → StandInColumns tags ds → column_of tags d.line.said ≡ Some d.column → is_target tags d.target ≡ true → StandInColumns tags (ds ++ d ∷ [])
+pub columns_more : (tags : List ℕ) (ds : List Drawn) (d : Drawn) → StandInColumns tags ds → column_of tags d.line.said ≡ Some d.column
+    → is_target tags d.target ≡ true → StandInColumns tags (ds ++ d ∷ [])
 columns_more tags [] d stand is target = ((is, target), tt)
 columns_more tags (x ∷ ds) d stand is target = (stand.0, columns_more tags ds d stand.1 is target)
 
@@ -15,12 +16,14 @@ order_more [] d stand above = (tt, tt)
 order_more (x ∷ []) d stand above = (λ same. above (sym same), (tt, tt))
 order_more (x ∷ (y ∷ ds)) d stand above = (stand.0, order_more (y ∷ ds) d stand.1 above)
 
-last_more : (d e : Drawn) (ds : List Drawn) → slice_get (d ∷ (e ∷ ds)) (length (d ∷ (e ∷ ds)) - 1) ≡ slice_get (e ∷ ds) (length (e ∷ ds) - 1)
+last_more : (d e : Drawn) (ds : List Drawn) → slice_get (d ∷ (e ∷ ds)) (length (d ∷ (e ∷ ds)) - 1) ≡
+    slice_get (e ∷ ds) (length (e ∷ ds) - 1)
 last_more d e ds =
     let at : length (d ∷ (e ∷ ds)) - 1 ≡ suc (length (e ∷ ds) - 1) = omega arith in
     ap (slice_get (d ∷ (e ∷ ds))) at
 
-pub last_above : (column row : ℕ) (ds : List Drawn) → IfSome (slice_get ds (length ds - 1)) (λ d. d.column ≡ column → d.row < row) → EndsAbove column row ds
+pub last_above : (column row : ℕ) (ds : List Drawn) → IfSome (slice_get ds (length ds - 1)) (λ d. d.column ≡ column → d.row < row)
+    → EndsAbove column row ds
 last_above column row [] h = tt
 last_above column row (d ∷ []) h = h
 last_above column row (d ∷ (e ∷ ds)) h =

@@ -43,10 +43,12 @@ refused true false v q = refl
 above : (m n : ℕ) → ((m < n) → ⊥) → nat_lt m n ≡ false
 above m n h = grind (arith, nat_tests)
 
-pub parsed : {E : Type 0} (word : List ℕ) (r : Result ℕ E) → is_number word ≡ true → ParsesUnsigned 32 10 word r → result_ok r ≡ value_at word
+pub parsed : {E : Type 0} (word : List ℕ) (r : Result ℕ E) → is_number word ≡ true → ParsesUnsigned 32 10 word r
+    → result_ok r ≡ value_at word
 parsed {E} word (Ok x) n h =
     let k = parse_digits own {E = E} 32 word (Ok x) h (number_digits word n) in
     chosen (is_number word) (nat_lt (digits_value 10 word) (2 ^ 32)) (digits_value 10 word) x n (lt-true _ _ k.0.1) k.1
 parsed {E} word (Err e) n h =
     let k = parse_digits own {E = E} 32 word (Err e) h (number_digits word n) in
-    refused (is_number word) (nat_lt (digits_value 10 word) (2 ^ 32)) (digits_value 10 word) (above _ _ (λ small. k (number_some word n, small)))
+    refused (is_number word) (nat_lt (digits_value 10 word) (2 ^ 32)) (digits_value 10 word)
+    (above _ _ (λ small. k (number_some word n, small)))

@@ -13,5 +13,7 @@ three_parts c place (part ∷ parts) some = refl
 pub too_many : (c place rest : List ℕ) → are_channel_and_place (c ∷ (place ∷ slice_split (λ b. b == 46) rest)) ≡ false
 too_many c place rest = three_parts c place _ (omega (arith, length-slice_split (λ b. b == 46) rest))
 
-pub some_more : (c place : List ℕ) (more : Option (Bor (List ℕ))) (rest : Bor (List ℕ)) → more ≡ Some rest → false ≡ are_channel_and_place (c ∷ parts 46 place more)
-some_more c place more rest is = subst (λ m. false ≡ are_channel_and_place (c ∷ parts 46 place m)) (sym is) (sym (too_many c place rest.now))
+pub some_more : (c place : List ℕ) (more : Option (Bor (List ℕ))) (rest : Bor (List ℕ)) → more ≡ Some rest
+    → false ≡ are_channel_and_place (c ∷ parts 46 place more)
+some_more c place more rest is = subst (λ m. false ≡ are_channel_and_place (c ∷ parts 46 place m)) (sym is)
+    (sym (too_many c place rest.now))

@@ -82,12 +82,15 @@ finish_less g r (Finish q end) e = by_row (r == q) e
 finish_less g r other e = cc
 
 -- where one act at most ends the Job of the row, as many end it so as its end says
-end_once : (g : End → Bool) (r : ℕ) (acts : List JobAct) → how_many (finishes r) acts ≤ 1 → cond (has_end g (end_noted r acts)) 1 0 ≡ how_many (finishes_as g r) acts
+end_once : (g : End → Bool) (r : ℕ) (acts : List JobAct) → how_many (finishes r) acts ≤ 1
+    → cond (has_end g (end_noted r acts)) 1 0 ≡ how_many (finishes_as g r) acts
 end_once g r [] one = refl
 end_once g r (Finish q end ∷ acts) one = by_row (r == q) one (λ few. end_once g r acts few)
   where
-    by_row : (b : Bool) → cond b 1 0 + how_many (finishes r) acts ≤ 1 → (how_many (finishes r) acts ≤ 1 → cond (has_end g (end_noted r acts)) 1 0 ≡ how_many (finishes_as g r) acts)
-        → cond (has_end g (option_or (if b then Some end else None) (end_noted r acts))) 1 0 ≡ cond (b && g end) 1 0 + how_many (finishes_as g r) acts
+    by_row : (b : Bool) → cond b 1 0 + how_many (finishes r) acts ≤ 1
+        → (how_many (finishes r) acts ≤ 1 → cond (has_end g (end_noted r acts)) 1 0 ≡ how_many (finishes_as g r) acts)
+        → cond (has_end g (option_or (if b then Some end else None) (end_noted r acts))) 1 0 ≡
+        cond (b && g end) 1 0 + how_many (finishes_as g r) acts
     by_row true m k = let less = count_less (finishes_as g r) (finishes r) (finish_less g r) acts in omega (arith, m, less)
     by_row false m k = let few : how_many (finishes r) acts ≤ 1 = omega (arith, m) in let h = k few in omega (arith, h)
 end_once g r (Attach p q kind tag cancelled ∷ acts) one = let h = end_once g r acts (omega (arith, one)) in omega (arith, h)
@@ -102,7 +105,8 @@ counted_as : (acts : ℕ → JobAct → Bool) (r : ℕ) (es : List JobEntry) →
 counted_as acts r [] = refl
 counted_as acts r (e ∷ es) = by_test (acts r e.act) refl (counted_as acts r es)
   where
-    by_test : (b : Bool) → acts r e.act ≡ b → count_of acts r es ≡ how_many (acts r) (acts_in es) → count_of acts r (e ∷ es) ≡ how_many (acts r) (acts_in (e ∷ es))
+    by_test : (b : Bool) → acts r e.act ≡ b → count_of acts r es ≡ how_many (acts r) (acts_in es)
+        → count_of acts r (e ∷ es) ≡ how_many (acts r) (acts_in (e ∷ es))
     by_test true f b =
         let a : count_of acts r (e ∷ es) ≡ 1 + count_of acts r es = count-cons acts r e es true f in
         let c : ◌≡◌ {A = ℕ} (cond (acts r e.act) 1 0) 1 = ap (λ x. cond x 1 0) f in
@@ -115,7 +119,8 @@ counted_as acts r (e ∷ es) = by_test (acts r e.act) refl (counted_as acts r es
 -- ---- sums
 
 -- a field of what the rows below n come to
-rows_field : {N : Type 0} (add : N → Option Job → N) (field : N → ℕ) (f : Option Job → ℕ) → ((n : N) (x : Option Job) → field (add n x) ≡ field n + f x) → (tree : Tree) (n : N) (i k : ℕ)
+rows_field : {N : Type 0} (add : N → Option Job → N) (field : N → ℕ) (f : Option Job → ℕ)
+    → ((n : N) (x : Option Job) → field (add n x) ≡ field n + f x) → (tree : Tree) (n : N) (i k : ℕ)
     → field (fold (λ m r. add m (tree r)) n (range_with_len i k)) ≡ field n + sum_below (λ r. f (tree (i + r))) k
 rows_field add field f step tree n i zero = omega arith
 rows_field add field f step tree n i (suc k) =
@@ -124,7 +129,8 @@ rows_field add field f step tree n i (suc k) =
     let c = sum_first (λ r. f (tree (i + r))) k in
     let z : i + 0 ≡ i = omega arith in
     let d : ◌≡◌ {A = ℕ} (f (tree (i + 0))) (f (tree i)) = ap {B = ℕ} (λ r. f (tree r)) z in
-    let g = sum_same (λ r. f (tree (i + 1 + r))) (λ r. f (tree (i + suc r))) k (λ r l. let q : i + 1 + r ≡ i + suc r = omega arith in ap {B = ℕ} (λ x. f (tree x)) q) in
+    let g = sum_same (λ r. f (tree (i + 1 + r))) (λ r. f (tree (i + suc r))) k (λ r l. let q : i + 1 + r ≡ i + suc r = omega arith
+    in ap {B = ℕ} (λ x. f (tree x)) q) in
     omega arith
 
 attached_step : (n : _) (x : Option Job) → (with_row_of with_job n x).attached ≡ n.attached + cond (is_some x) 1 0
@@ -176,10 +182,13 @@ module _ (shape : Shape) (jobs : List JobEntry) (s : IsShape shape) (l : Legal s
 
   attached_row : (r : ℕ) → cond (is_some (replay jobs r)) 1 0 ≡ cond (r == 0) 1 0 + how_many (attaches r) (acts_in jobs)
   attached_row r =
-      ap (λ b. cond b 1 0) ((by_entries shape jobs r l).attached ∙ ap (λ b. (r == 0) || b) (any_mapped (attaches r) jobs)) ∙ by_root (r == 0) refl
+      ap (λ b. cond b 1 0) ((by_entries shape jobs r l).attached ∙ ap (λ b. (r == 0) || b) (any_mapped (attaches r) jobs))
+      ∙ by_root (r == 0) refl
     where
-      by_root : (b : Bool) → (r == 0) ≡ b → cond (b || list_any (attaches r) (acts_in jobs)) 1 0 ≡ cond b 1 0 + how_many (attaches r) (acts_in jobs)
-      by_root true e = let z : how_many (attaches r) (acts_in jobs) ≡ 0 = ap {B = ℕ} (λ q. how_many (attaches q) (acts_in jobs)) (eqb-true r 0 e) ∙ no_root in omega (arith, z)
+      by_root : (b : Bool) → (r == 0) ≡ b → cond (b || list_any (attaches r) (acts_in jobs)) 1 0 ≡
+          cond b 1 0 + how_many (attaches r) (acts_in jobs)
+      by_root true e = let z : how_many (attaches r) (acts_in jobs) ≡ 0 =
+          ap {B = ℕ} (λ q. how_many (attaches q) (acts_in jobs)) (eqb-true r 0 e) ∙ no_root in omega (arith, z)
       by_root false e = let z = any_one (attaches r) (acts_in jobs) (few_attach r) in omega (arith, z)
 
   attach_low : (r : ℕ) → 1 ≤ how_many (attaches r) (acts_in jobs) → r < shape.rows
@@ -195,7 +204,8 @@ module _ (shape : Shape) (jobs : List JobEntry) (s : IsShape shape) (l : Legal s
 
   finish_low : (g : End → Bool) (r : ℕ) → 1 ≤ how_many (finishes_as g r) (acts_in jobs) → r < shape.rows
   finish_low g r h =
-      attached_within shape jobs r s l (ended_some (replay jobs r) ((by_entries shape jobs r l).ended ∙ (any_mapped (finishes r) jobs ∙ by_any (list_any (finishes r) (acts_in jobs)) refl)))
+      attached_within shape jobs r s l (ended_some (replay jobs r) ((by_entries shape jobs r l).ended
+      ∙ (any_mapped (finishes r) jobs ∙ by_any (list_any (finishes r) (acts_in jobs)) refl)))
     where
       by_any : (b : Bool) → list_any (finishes r) (acts_in jobs) ≡ b → b ≡ true
       by_any true e = refl
@@ -208,11 +218,13 @@ module _ (shape : Shape) (jobs : List JobEntry) (s : IsShape shape) (l : Legal s
   members = record { to = λ x m. m; back = λ x m. m }
 
   ended_row : (g : End → Bool) (r : ℕ) → cond (has_end g (end_at (replay jobs r))) 1 0 ≡ how_many (finishes_as g r) (acts_in jobs)
-  ended_row g r = ap (λ o. cond (has_end g o) 1 0) (sym (end_told shape jobs (acts_in jobs) l members r)) ∙ end_once g r (acts_in jobs) (few_finish r)
+  ended_row g r = ap (λ o. cond (has_end g o) 1 0) (sym (end_told shape jobs (acts_in jobs) l members r))
+      ∙ end_once g r (acts_in jobs) (few_finish r)
 
   attached_rows : sum_below (λ r. cond (is_some (replay jobs (0 + r))) 1 0) shape.rows ≡ 1 + how_many attaches_one (acts_in jobs)
   attached_rows =
-      let a = sum_same (λ r. cond (is_some (replay jobs (0 + r))) 1 0) (λ r. cond (r == 0) 1 0 + how_many (attaches r) (acts_in jobs)) shape.rows
+      let a = sum_same (λ r. cond (is_some (replay jobs (0 + r))) 1 0) (λ r. cond (r == 0) 1 0 + how_many (attaches r) (acts_in jobs))
+      shape.rows
       (λ r m. (let q : 0 + r ≡ r = omega arith in ap {B = ℕ} (λ x. cond (is_some (replay jobs x)) 1 0) q) ∙ attached_row r) in
       let b = sum_add (λ r. cond (r == 0) 1 0) (λ r. how_many (attaches r) (acts_in jobs)) shape.rows in
       let some = s.some in let fit = s.fit in
@@ -220,7 +232,8 @@ module _ (shape : Shape) (jobs : List JobEntry) (s : IsShape shape) (l : Legal s
       let d = by_rows attaches attaches_one attach_at shape.rows (acts_in jobs) attach_low in
       omega (arith, a, b, c, d)
 
-  ended_rows : (g : End → Bool) → sum_below (λ r. cond (has_end g (end_at (replay jobs (0 + r)))) 1 0) shape.rows ≡ how_many (finishes_one g) (acts_in jobs)
+  ended_rows : (g : End → Bool) → sum_below (λ r. cond (has_end g (end_at (replay jobs (0 + r)))) 1 0) shape.rows ≡
+      how_many (finishes_one g) (acts_in jobs)
   ended_rows g =
       sum_same (λ r. cond (has_end g (end_at (replay jobs (0 + r)))) 1 0) (λ r. how_many (finishes_as g r) (acts_in jobs)) shape.rows
       (λ r m. (let q : 0 + r ≡ r = omega arith in ap {B = ℕ} (λ x. cond (has_end g (end_at (replay jobs x))) 1 0) q) ∙ ended_row g r)
@@ -237,11 +250,13 @@ module _ (shape : Shape) (jobs : List JobEntry) (s : IsShape shape) (l : Legal s
     pub completed_counted : (jobs_counted acts shape.rows).completed ≡ how_many (finishes_one is_completed) (acts_in jobs)
     completed_counted =
         ap (λ n. n.completed) ((jobs_told shape jobs acts l same).counts shape.rows)
-        ∙ (rows_field (with_row_of with_job) (λ n. n.completed) (λ x. cond (has_end is_completed (end_at x)) 1 0) completed_step (replay jobs) no_jobs 0 shape.rows
+        ∙ (rows_field (with_row_of with_job) (λ n. n.completed) (λ x. cond (has_end is_completed (end_at x)) 1 0) completed_step
+        (replay jobs) no_jobs 0 shape.rows
         ∙ (let a = ended_rows is_completed in omega (arith, a)))
 
     pub cancelled_counted : (jobs_counted acts shape.rows).cancelled ≡ how_many (finishes_one is_cancelled) (acts_in jobs)
     cancelled_counted =
         ap (λ n. n.cancelled) ((jobs_told shape jobs acts l same).counts shape.rows)
-        ∙ (rows_field (with_row_of with_job) (λ n. n.cancelled) (λ x. cond (has_end is_cancelled (end_at x)) 1 0) cancelled_step (replay jobs) no_jobs 0 shape.rows
+        ∙ (rows_field (with_row_of with_job) (λ n. n.cancelled) (λ x. cond (has_end is_cancelled (end_at x)) 1 0) cancelled_step
+        (replay jobs) no_jobs 0 shape.rows
         ∙ (let a = ended_rows is_cancelled in omega (arith, a)))

@@ -32,16 +32,14 @@ use Rattle.rest_laws.proofs.SameMembers.{Among, SameMembers, same_any}
 
 no_end : (s : JobState) (j : Job) (end : End) → is_cancellable s ≡ true → end_by s j ≡ Some end → ⊥
 no_end New j end c e = cc
-no_end Active j end c e = cc
-no_end Completing j end c e = cc
-no_end Cancelling j end c e = cc
-no_end Cancelled j end c e = cc
-no_end Completed j end c e = cc
+no_end other j end c e = cc
 
 new_cancellable : (s : JobState) → s ≡ New → is_cancellable s ≡ true
 new_cancellable s e = ap is_cancellable e
 
-end_behind_body : (v : ℕ) (s : JobState) (j : Job) (end : End) → end_by s j ≡ Some end → end_by (state_after_body s) (record j { body_ended = true; state = state_after_body s; value = value_after_body s v j.value }) ≡ Some end
+end_behind_body : (v : ℕ) (s : JobState) (j : Job) (end : End) → end_by s j ≡ Some end
+    → end_by (state_after_body s) (record j { body_ended = true; state = state_after_body s; value = value_after_body s v j.value }) ≡
+    Some end
 end_behind_body v New j end e = cc
 end_behind_body v Active j end e = cc
 end_behind_body v Completing j end e = cc
@@ -51,11 +49,7 @@ end_behind_body v Completed j end e = e
 
 none_ends_yet : (s : JobState) (j : Job) (end other : End) → end_of s j ≡ Some end → end_by s j ≡ Some other → ⊥
 none_ends_yet New j end other m e = cc
-none_ends_yet Active j end other m e = cc
-none_ends_yet Completing j end other m e = cc
-none_ends_yet Cancelling j end other m e = cc
-none_ends_yet Cancelled j end other m e = cc
-none_ends_yet Completed j end other m e = cc
+none_ends_yet s j end other m e = cc
 
 -- the end of a Job is in its state, its cause and its value
 same_end : (s : JobState) (j k : Job) → k.cause ≡ j.cause → k.value ≡ j.value → end_by s k ≡ end_by s j
@@ -81,7 +75,8 @@ end_lasts end = record {
     none e = cc
 
 -- a Job that finishes has ended as its Finish says
-finished_as : (who : ℕ) (end : End) (s : JobState) (j : Job) → end_of s j ≡ Some end → end_by (state_of_end end) (ended_by who end j) ≡ Some end
+finished_as : (who : ℕ) (end : End) (s : JobState) (j : Job) → end_of s j ≡ Some end
+    → end_by (state_of_end end) (ended_by who end j) ≡ Some end
 finished_as who (ends.Completed v) New j e = cc
 finished_as who (ends.Completed v) Active j e = cc
 finished_as who (ends.Completed v) Completing j e = e
@@ -104,7 +99,8 @@ ends_by_finish r (Finish q other) end e = by_row (r == q) e
     by_row false k = cc
 ends_by_finish r other end e = cc
 
-step_ends : (shape : Shape) (tree : Tree) (who q : ℕ) (act : JobAct) (x y : Option Job) (end : End) → RowStep shape tree who q act x y → ends_as q act ≡ Some end → end_at y ≡ Some end
+step_ends : (shape : Shape) (tree : Tree) (who q : ℕ) (act : JobAct) (x y : Option Job) (end : End) → RowStep shape tree who q act x y
+    → ends_as q act ≡ Some end → end_at y ≡ Some end
 step_ends shape tree who q _ _ _ end (RowStep.is_attached p kind tag cancelled m i) e = cc
 step_ends shape tree who q _ _ _ end (RowStep.has_child r kind tag cancelled j none m) e = cc
 step_ends shape tree who q _ _ _ end (RowStep.is_started j n) e = cc
@@ -116,11 +112,13 @@ step_ends shape tree who q _ _ _ end (RowStep.is_told d j m p) e = cc
 step_ends shape tree who q _ _ _ end (RowStep.stays act x a b c d f) e = let k : false ≡ true = sym f ∙ ends_by_finish q act end e in cc
 
 -- each Finish of a row in a legal history says how its Job has ended
-ended_as : (shape : Shape) (tree : Tree) (es : List JobEntry) (r : ℕ) (act : JobAct) (end : End) → LegalFrom shape tree es → Among act (acts_in es) → ends_as r act ≡ Some end → end_at (replay_from tree es r) ≡ Some end
+ended_as : (shape : Shape) (tree : Tree) (es : List JobEntry) (r : ℕ) (act : JobAct) (end : End) → LegalFrom shape tree es
+    → Among act (acts_in es) → ends_as r act ≡ Some end → end_at (replay_from tree es r) ≡ Some end
 unfolding LegalFrom replay_from Among
 ended_as shape tree [] r act end l m e = absurd m
 ended_as shape tree (x ∷ xs) r act end l m e =
-    ⊎_elim (λ q. history_keeps _ (end_lasts end) shape (after tree x.who x.act) xs r l.1 (step_ends shape tree x.who r x.act _ _ end (row_step shape tree x.who x.act r l.0) (ap (ends_as r) (sym q) ∙ e)))
+    ⊎_elim (λ q. history_keeps _ (end_lasts end) shape (after tree x.who x.act) xs r l.1
+    (step_ends shape tree x.who r x.act _ _ end (row_step shape tree x.who x.act r l.0) (ap (ends_as r) (sym q) ∙ e)))
     (λ n. ended_as shape (after tree x.who x.act) xs r act end l.1 n e) m
 
 -- ---- how far a Job is
@@ -139,8 +137,10 @@ ShowsRow lazy begun stopped bodiless None = (lazy ≡ false) × (begun ≡ false
 ShowsRow lazy begun stopped bodiless (Some j) = Shows lazy begun stopped bodiless j.state
 
 -- the text of a Job by these tests is that of its state
-text_shown : (s : JobState) (j : Job) (o : Option End) (lazy begun stopped bodiless : Bool) → o ≡ end_by s j → Shows lazy begun stopped bodiless s
-    → end_or o (if stopped then codes "cancelling" else if bodiless then codes "completing" else if lazy && not begun then codes "new" else codes "active") ≡ state_text s j
+text_shown : (s : JobState) (j : Job) (o : Option End) (lazy begun stopped bodiless : Bool) → o ≡ end_by s j
+    → Shows lazy begun stopped bodiless s
+    → end_or o (if stopped then codes "cancelling" else if bodiless then codes "completing" else if lazy
+    && not begun then codes "new" else codes "active") ≡ state_text s j
 text_shown New j o lazy begun stopped bodiless e h = rw (e, h.0, h.1, h.2, h.3) refl
 text_shown Active j o lazy begun stopped bodiless e h = rw (e, h.0, h.1, h.2) refl
 text_shown Completing j o lazy begun stopped bodiless e h = rw (e, h.0, h.1) refl
@@ -153,7 +153,8 @@ first_shown true lazy = refl
 first_shown false true = (refl, refl, refl, refl)
 first_shown false false = (refl, refl, refl)
 
-body_shown : (s : JobState) (lazy begun stopped bodiless : Bool) → is_new s ≡ false → Shows lazy begun stopped bodiless s → Shows lazy begun stopped true (state_after_body s)
+body_shown : (s : JobState) (lazy begun stopped bodiless : Bool) → is_new s ≡ false → Shows lazy begun stopped bodiless s
+    → Shows lazy begun stopped true (state_after_body s)
 body_shown New lazy begun stopped bodiless n h = cc
 body_shown Active lazy begun stopped bodiless n h = (h.1, refl)
 body_shown Completing lazy begun stopped bodiless n h = (h.0, refl)
@@ -161,17 +162,15 @@ body_shown Cancelling lazy begun stopped bodiless n h = h
 body_shown Cancelled lazy begun stopped bodiless n h = h
 body_shown Completed lazy begun stopped bodiless n h = h
 
-started_shown : (s : JobState) (lazy begun stopped bodiless : Bool) → s ≡ New → Shows lazy begun stopped bodiless s → Shows lazy true stopped bodiless Active
+started_shown : (s : JobState) (lazy begun stopped bodiless : Bool) → s ≡ New → Shows lazy begun stopped bodiless s
+    → Shows lazy true stopped bodiless Active
 started_shown New lazy begun stopped bodiless e h = (and_false lazy, h.2, h.3)
   where
     and_false : (b : Bool) → (b && false) ≡ false
     and_false true = refl
     and_false false = refl
 started_shown Active lazy begun stopped bodiless e h = cc
-started_shown Completing lazy begun stopped bodiless e h = cc
-started_shown Cancelling lazy begun stopped bodiless e h = cc
-started_shown Cancelled lazy begun stopped bodiless e h = cc
-started_shown Completed lazy begun stopped bodiless e h = cc
+started_shown other lazy begun stopped bodiless e h = cc
 
 ended_shown : (lazy begun stopped bodiless : Bool) (end : End) → Shows lazy begun stopped bodiless (state_of_end end)
 ended_shown lazy begun stopped bodiless (ends.Completed v) = tt
@@ -179,7 +178,8 @@ ended_shown lazy begun stopped bodiless (ends.Cancelled cause) = tt
 
 -- what the four tests say of a row, with one more act
 abbrev ShowsAlso : ℕ → JobAct → Bool → Bool → Bool → Bool → Option Job → Type 0
-ShowsAlso r act lazy begun stopped bodiless x = ShowsRow (lazy || attaches_lazy r act) (begun || starts r act) (stopped || makes_cancelling r act) (bodiless || ends_body r act) x
+ShowsAlso r act lazy begun stopped bodiless x = ShowsRow (lazy || attaches_lazy r act) (begun || starts r act) (stopped
+    || makes_cancelling r act) (bodiless || ends_body r act) x
 
 or_false : (b : Bool) → (b || false) ≡ b
 or_false true = refl
@@ -199,17 +199,20 @@ not_stopped r (Cancel q reason) e f = f
 not_stopped r other e f = refl
 
 -- an act that leaves the row as it was
-unshown : (r : ℕ) (act : JobAct) (lazy begun stopped bodiless : Bool) (x : Option Job) → attaches_lazy r act ≡ false → starts r act ≡ false → makes_cancelling r act ≡ false → ends_body r act ≡ false
+unshown : (r : ℕ) (act : JobAct) (lazy begun stopped bodiless : Bool) (x : Option Job) → attaches_lazy r act ≡ false → starts r act ≡ false
+    → makes_cancelling r act ≡ false → ends_body r act ≡ false
     → ShowsRow lazy begun stopped bodiless x → ShowsAlso r act lazy begun stopped bodiless x
 unshown r act lazy begun stopped bodiless x l b s e h =
     rw (l, b, s, e, or_false lazy, or_false begun, or_false stopped, or_false bodiless) h
 
-row_shown : (shape : Shape) (tree : Tree) (who q : ℕ) (act : JobAct) (x y : Option Job) (lazy begun stopped bodiless : Bool) → RowStep shape tree who q act x y → tree q ≡ x
+row_shown : (shape : Shape) (tree : Tree) (who q : ℕ) (act : JobAct) (x y : Option Job) (lazy begun stopped bodiless : Bool)
+    → RowStep shape tree who q act x y → tree q ≡ x
     → ShowsRow lazy begun stopped bodiless x → ShowsAlso q act lazy begun stopped bodiless y
 row_shown shape tree who q _ _ _ lazy begun stopped bodiless (RowStep.is_attached p kind tag cancelled m i) is h =
     rw (h.0, h.1, h.2, h.3, same q) (first_shown cancelled kind.lazy)
 row_shown shape tree who q _ _ _ lazy begun stopped bodiless (RowStep.has_child r kind tag cancelled j none m) is h =
-    unshown q (Attach q r kind tag cancelled) lazy begun stopped bodiless (Some j) (ap (λ b. b && kind.lazy) (another (q == r) refl)) refl (ap (λ b. b && cancelled) (another (q == r) refl)) refl h
+    unshown q (Attach q r kind tag cancelled) lazy begun stopped bodiless (Some j) (ap (λ b. b && kind.lazy) (another (q == r) refl)) refl
+    (ap (λ b. b && cancelled) (another (q == r) refl)) refl h
   where
     another : (b : Bool) → (q == r) ≡ b → b ≡ false
     another true e = let k : Some j ≡ None = sym is ∙ ap tree (eqb-true q r e) ∙ none in cc
@@ -218,9 +221,11 @@ row_shown shape tree who q _ _ _ lazy begun stopped bodiless (RowStep.is_started
     rw (or_false lazy, or_false stopped, or_false bodiless, same q, or_true begun) (started_shown j.state lazy begun stopped bodiless n h)
 row_shown shape tree who q _ _ _ lazy begun stopped bodiless (RowStep.body_ends v j m) is h =
     rw (or_false lazy, or_false begun, or_false stopped, same q, or_true bodiless) (body_shown j.state lazy begun stopped bodiless m.1 h)
-row_shown shape tree who q _ _ _ lazy begun stopped bodiless (RowStep.is_cancelled reason j m o) is h = ap (λ b. stopped || b) (same q) ∙ or_true stopped
+row_shown shape tree who q _ _ _ lazy begun stopped bodiless (RowStep.is_cancelled reason j m o) is h = ap (λ b. stopped || b) (same q)
+    ∙ or_true stopped
 row_shown shape tree who q _ _ _ lazy begun stopped bodiless (RowStep.ends end j m) is h = ended_shown _ _ _ _ end
-row_shown shape tree who q _ _ _ lazy begun stopped bodiless (RowStep.is_told c j m p) is h = unshown q (Gone c) lazy begun stopped bodiless (Some j) refl refl refl refl h
+row_shown shape tree who q _ _ _ lazy begun stopped bodiless (RowStep.is_told c j m p) is h =
+    unshown q (Gone c) lazy begun stopped bodiless (Some j) refl refl refl refl h
 row_shown shape tree who q _ _ _ lazy begun stopped bodiless (RowStep.stays act x a b c d f) is h =
     unshown q act lazy begun stopped bodiless x (not_lazy q act a) b (not_stopped q act a d) c h
 
@@ -229,13 +234,22 @@ or_again true b c = refl
 or_again false b c = refl
 
 -- what the four tests say behind a history that goes on
-shown_from : (shape : Shape) (tree : Tree) (es : List JobEntry) (r : ℕ) (lazy begun stopped bodiless : Bool) → LegalFrom shape tree es → ShowsRow lazy begun stopped bodiless (tree r)
-    → ShowsRow (lazy || list_any (attaches_lazy r) (acts_in es)) (begun || list_any (starts r) (acts_in es)) (stopped || list_any (makes_cancelling r) (acts_in es)) (bodiless || list_any (ends_body r) (acts_in es)) (replay_from tree es r)
+shown_from : (shape : Shape) (tree : Tree) (es : List JobEntry) (r : ℕ) (lazy begun stopped bodiless : Bool) → LegalFrom shape tree es
+    → ShowsRow lazy begun stopped bodiless (tree r)
+    → ShowsRow (lazy || list_any (attaches_lazy r) (acts_in es)) (begun || list_any (starts r) (acts_in es)) (stopped
+    || list_any (makes_cancelling r) (acts_in es)) (bodiless || list_any (ends_body r) (acts_in es)) (replay_from tree es r)
 unfolding LegalFrom replay_from
 shown_from shape tree [] r lazy begun stopped bodiless l h = rw (or_false lazy, or_false begun, or_false stopped, or_false bodiless) h
 shown_from shape tree (x ∷ xs) r lazy begun stopped bodiless l h =
-    rw (or_again lazy (attaches_lazy r x.act) (list_any (attaches_lazy r) (acts_in xs)), or_again begun (starts r x.act) (list_any (starts r) (acts_in xs)), or_again stopped (makes_cancelling r x.act) (list_any (makes_cancelling r) (acts_in xs)), or_again bodiless (ends_body r x.act) (list_any (ends_body r) (acts_in xs)))
-    (shown_from shape (after tree x.who x.act) xs r _ _ _ _ l.1 (row_shown shape tree x.who r x.act (tree r) (after tree x.who x.act r) lazy begun stopped bodiless (row_step shape tree x.who x.act r l.0) refl h))
+    rw (
+      or_again lazy (attaches_lazy r x.act) (list_any (attaches_lazy r) (acts_in xs)),
+      or_again begun (starts r x.act) (list_any (starts r) (acts_in xs)),
+      or_again stopped (makes_cancelling r x.act) (list_any (makes_cancelling r) (acts_in xs)),
+      or_again bodiless (ends_body r x.act) (list_any (ends_body r) (acts_in xs)),
+    )
+    (shown_from shape (after tree x.who x.act) xs r _ _ _ _ l.1
+    (row_shown shape tree x.who r x.act (tree r) (after tree x.who x.act r) lazy begun stopped bodiless
+    (row_step shape tree x.who x.act r l.0) refl h))
 
 shown_at_start : (r : ℕ) → ShowsRow false false false false (start r)
 shown_at_start r = by_row (r == 0)
@@ -255,7 +269,8 @@ unfolding Among
 noted_end r [] end e = cc
 noted_end r (a ∷ acts) end e = by_first (ends_as r a) refl (λ k. noted_end r acts end k) e
   where
-    by_first : (o : Option End) → ends_as r a ≡ o → (end_noted r acts ≡ Some end → (b : JobAct) × Among b acts × (ends_as r b ≡ Some end)) → option_or o (end_noted r acts) ≡ Some end
+    by_first : (o : Option End) → ends_as r a ≡ o → (end_noted r acts ≡ Some end → (b : JobAct) × Among b acts × (ends_as r b ≡ Some end))
+        → option_or o (end_noted r acts) ≡ Some end
         → (b : JobAct) × ((b ≡ a) ⊎ Among b acts) × (ends_as r b ≡ Some end)
     by_first None q more h = let m = more h in (m.0, inr m.1, m.2)
     by_first (Some u) q more h = (a, inl refl, q ∙ h)
@@ -272,7 +287,8 @@ none_noted : (r : ℕ) (acts : List JobAct) → end_noted r acts ≡ None → li
 none_noted r [] e = refl
 none_noted r (a ∷ acts) e = by_first (ends_as r a) refl (λ k. none_noted r acts k) e
   where
-    by_first : (o : Option End) → ends_as r a ≡ o → (end_noted r acts ≡ None → list_any (finishes r) acts ≡ false) → option_or o (end_noted r acts) ≡ None → (finishes r a || list_any (finishes r) acts) ≡ false
+    by_first : (o : Option End) → ends_as r a ≡ o → (end_noted r acts ≡ None → list_any (finishes r) acts ≡ false)
+        → option_or o (end_noted r acts) ≡ None → (finishes r a || list_any (finishes r) acts) ≡ false
     by_first None q more h = ap (λ b. b || list_any (finishes r) acts) (ends_nothing r a q) ∙ more h
     by_first (Some u) q more h = cc
 
@@ -292,44 +308,52 @@ fold_same : {A B : Type 0} (f g : A → B → A) → ((a : A) (b : B) → f a b 
 fold_same f g e [] a = refl
 fold_same f g e (b ∷ bs) a = ap (λ x. fold f x bs) (e a b) ∙ fold_same f g e bs (g a b)
 
-row_counted : {N : Type 0} (add : N → Option End → N) (n : N) (b : Bool) (o : Option End) (x : Option Job) → b ≡ is_some x → o ≡ end_at x → (if b then add n o else n) ≡ with_row_of add n x
+row_counted : {N : Type 0} (add : N → Option End → N) (n : N) (b : Bool) (o : Option End) (x : Option Job) → b ≡ is_some x → o ≡ end_at x
+    → (if b then add n o else n) ≡ with_row_of add n x
 row_counted add n b o None a e = ap (λ c. if c then add n o else n) a
 row_counted add n b o (Some j) a e = ap (λ c. if c then add n o else n) a ∙ ap (add n) e
 
-module _ (shape : Shape) (jobs : List JobEntry) (acts : List JobAct) (l : Legal shape jobs) (members : SameMembers (acts_in jobs) acts) where
-  tested : (f : JobAct → Bool) → list_any f acts ≡ list_any f (acts_in jobs)
-  tested f = sym (same_any (acts_in jobs) acts members f)
+module _ (shape : Shape) (jobs : List JobEntry) (acts : List JobAct) (l : Legal shape jobs) (members : SameMembers (acts_in jobs) acts)
+  where
+    tested : (f : JobAct → Bool) → list_any f acts ≡ list_any f (acts_in jobs)
+    tested f = sym (same_any (acts_in jobs) acts members f)
 
-  attached_told : (r : ℕ) → is_attached r acts ≡ is_some (replay jobs r)
-  attached_told r = ap (λ b. (r == 0) || b) (tested (attaches r) ∙ sym (any_mapped (attaches r) jobs)) ∙ sym (by_entries shape jobs r l).attached
+    attached_told : (r : ℕ) → is_attached r acts ≡ is_some (replay jobs r)
+    attached_told r = ap (λ b. (r == 0) || b) (tested (attaches r) ∙ sym (any_mapped (attaches r) jobs))
+        ∙ sym (by_entries shape jobs r l).attached
 
-  pub end_told : (r : ℕ) → end_noted r acts ≡ end_at (replay jobs r)
-  end_told r = by_end (end_noted r acts) refl
-    where
-      by_end : (o : Option End) → end_noted r acts ≡ o → o ≡ end_at (replay jobs r)
-      by_end None e = sym (not_ended (replay jobs r) ((by_entries shape jobs r l).ended ∙ any_mapped (finishes r) jobs ∙ sym (tested (finishes r)) ∙ none_noted r acts e))
-      by_end (Some end) e = let m = noted_end r acts end e in sym (ended_as shape start jobs r m.0 end l (members.back m.0 m.1) m.2)
+    pub end_told : (r : ℕ) → end_noted r acts ≡ end_at (replay jobs r)
+    end_told r = by_end (end_noted r acts) refl
+      where
+        by_end : (o : Option End) → end_noted r acts ≡ o → o ≡ end_at (replay jobs r)
+        by_end None e = sym (not_ended (replay jobs r) ((by_entries shape jobs r l).ended ∙ any_mapped (finishes r) jobs
+            ∙ sym (tested (finishes r)) ∙ none_noted r acts e))
+        by_end (Some end) e = let m = noted_end r acts end e in sym (ended_as shape start jobs r m.0 end l (members.back m.0 m.1) m.2)
 
-  row_told : (r : ℕ) → ShowsRow (list_any (attaches_lazy r) acts) (list_any (starts r) acts) (list_any (makes_cancelling r) acts) (list_any (ends_body r) acts) (replay jobs r)
-  row_told r =
-      rw (tested (attaches_lazy r), tested (starts r), tested (makes_cancelling r), tested (ends_body r))
-      (shown_from shape start jobs r false false false false l (shown_at_start r))
+    row_told : (r : ℕ) → ShowsRow (list_any (attaches_lazy r) acts) (list_any (starts r) acts) (list_any (makes_cancelling r) acts)
+        (list_any (ends_body r) acts) (replay jobs r)
+    row_told r =
+        rw (tested (attaches_lazy r), tested (starts r), tested (makes_cancelling r), tested (ends_body r))
+        (shown_from shape start jobs r false false false false l (shown_at_start r))
 
-  line_told : (r : ℕ) → job_line r acts ≡ row_line r (replay jobs r)
-  line_told r = by_row (replay jobs r) (attached_told r) (end_told r) (row_told r)
-    where
-      by_row : (x : Option Job) → is_attached r acts ≡ is_some x → end_noted r acts ≡ end_at x
-          → ShowsRow (list_any (attaches_lazy r) acts) (list_any (starts r) acts) (list_any (makes_cancelling r) acts) (list_any (ends_body r) acts) x → job_line r acts ≡ row_line r x
-      by_row None a e h = ap (λ b. if b then line_of_job r (job_text r acts) else []) a
-      by_row (Some j) a e h =
-          ap (λ b. if b then line_of_job r (job_text r acts) else []) a
-          ∙ ap (line_of_job r) (text_shown j.state j (end_noted r acts) (list_any (attaches_lazy r) acts) (list_any (starts r) acts) (list_any (makes_cancelling r) acts) (list_any (ends_body r) acts) e h)
+    line_told : (r : ℕ) → job_line r acts ≡ row_line r (replay jobs r)
+    line_told r = by_row (replay jobs r) (attached_told r) (end_told r) (row_told r)
+      where
+        by_row : (x : Option Job) → is_attached r acts ≡ is_some x → end_noted r acts ≡ end_at x
+            → ShowsRow (list_any (attaches_lazy r) acts) (list_any (starts r) acts) (list_any (makes_cancelling r) acts)
+            (list_any (ends_body r) acts) x → job_line r acts ≡ row_line r x
+        by_row None a e h = ap (λ b. if b then line_of_job r (job_text r acts) else []) a
+        by_row (Some j) a e h =
+            ap (λ b. if b then line_of_job r (job_text r acts) else []) a
+            ∙ ap (line_of_job r) (text_shown j.state j (end_noted r acts) (list_any (attaches_lazy r) acts) (list_any (starts r) acts)
+            (list_any (makes_cancelling r) acts) (list_any (ends_body r) acts) e h)
 
-  -- acts that are those of a legal history say of Jobs what its tree says
-  pub jobs_told : AreToldOf acts (replay jobs)
-  jobs_told = record {
-    lines = line_told;
-    counts = λ rows. fold_same (with_row acts) (λ n r. with_row_of with_job n (replay jobs r))
-        (λ n r. row_counted with_job n (is_attached r acts) (end_noted r acts) (replay jobs r) (attached_told r) (end_told r)) (range_with_len 0 rows) no_jobs;
-    root = end_told 0;
-  }
+    -- acts that are those of a legal history say of Jobs what its tree says
+    pub jobs_told : AreToldOf acts (replay jobs)
+    jobs_told = record {
+      lines = line_told;
+      counts = λ rows. fold_same (with_row acts) (λ n r. with_row_of with_job n (replay jobs r))
+          (λ n r. row_counted with_job n (is_attached r acts) (end_noted r acts) (replay jobs r) (attached_told r) (end_told r))
+          (range_with_len 0 rows) no_jobs;
+      root = end_told 0;
+    }

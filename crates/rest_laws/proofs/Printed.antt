@@ -36,15 +36,23 @@ jobs_joined = record { none = refl; more = λ b bs. refl }
 
 -- ---- what is printed
 
-pub printed : (p : Program) (books : List (List Item)) (channels : List Entry) (jobs : List JobEntry) → BooksOf p books channels jobs → (c place : ℕ) → element_of (channel_acts_noted books) c place ≡ element_of (acts_in channels) c place
+pub printed : (p : Program) (books : List (List Item)) (channels : List Entry) (jobs : List JobEntry) → BooksOf p books channels jobs
+    → (c place : ℕ) → element_of (channel_acts_noted books) c place ≡ element_of (acts_in channels) c place
 printed p books channels jobs of c place =
-    let same : SameMembers (acts_in channels) (channel_acts_noted books) = same_members _ _ acts_of channel_acts_in channel_acts_noted [] channel_parts channels_joined refl channels books of.channel_parts in
-    sym (ap (λ o. with_fate o (fate_at c place (acts_in channels))) (same_elements (floor_shape p) channels (channel_acts_noted books) c place of.legal_channels same)
-    ∙ ap (with_fate (element_at c place (channel_acts_noted books))) (same_fates (floor_shape p) channels (channel_acts_noted books) c place of.legal_channels same))
+    let same : SameMembers (acts_in channels) (channel_acts_noted books) =
+    same_members _ _ acts_of channel_acts_in channel_acts_noted [] channel_parts channels_joined refl channels books of.channel_parts in
+    sym (ap (λ o. with_fate o (fate_at c place (acts_in channels)))
+    (same_elements (floor_shape p) channels (channel_acts_noted books) c place of.legal_channels same)
+    ∙ ap (with_fate (element_at c place (channel_acts_noted books)))
+    (same_fates (floor_shape p) channels (channel_acts_noted books) c place of.legal_channels same))
 
 -- the books of a run have the acts on Jobs of its history
-pub jobs_noted : (p : Program) (books : List (List Item)) (channels : List Entry) (jobs : List JobEntry) → BooksOf p books channels jobs → SameMembers (job_acts_in_history jobs) (job_acts_noted books)
-jobs_noted p books channels jobs of = same_members _ _ job_acts_of job_acts_in job_acts_noted [] job_parts jobs_joined refl jobs books of.job_parts
+pub jobs_noted : (p : Program) (books : List (List Item)) (channels : List Entry) (jobs : List JobEntry) → BooksOf p books channels jobs
+    → SameMembers (job_acts_in_history jobs) (job_acts_noted books)
+jobs_noted p books channels jobs of = same_members _ _ job_acts_of job_acts_in job_acts_noted [] job_parts jobs_joined refl jobs books
+    of.job_parts
 
-pub printed_jobs : (p : Program) (books : List (List Item)) (channels : List Entry) (jobs : List JobEntry) → BooksOf p books channels jobs → AreToldOf (job_acts_noted books) (replay_jobs jobs)
-printed_jobs p books channels jobs of = jobs_told (job_shape p) jobs (job_acts_noted books) of.legal_jobs (jobs_noted p books channels jobs of)
+pub printed_jobs : (p : Program) (books : List (List Item)) (channels : List Entry) (jobs : List JobEntry) → BooksOf p books channels jobs
+    → AreToldOf (job_acts_noted books) (replay_jobs jobs)
+printed_jobs p books channels jobs of = jobs_told (job_shape p) jobs (job_acts_noted books) of.legal_jobs
+    (jobs_noted p books channels jobs of)

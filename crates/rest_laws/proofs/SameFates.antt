@@ -22,17 +22,21 @@ unfolding Among
 first_among f [] v e = cc
 first_among f (x ∷ xs) v e = by_first (f x) refl (λ k. first_among f xs v k) e
   where
-    by_first : (o : Option _) → f x ≡ o → (first_some f xs ≡ Some v → (a : Act) × Among a xs × (f a ≡ Some v)) → or_else o (first_some f xs) ≡ Some v → (a : Act) × ((a ≡ x) ⊎ Among a xs) × (f a ≡ Some v)
+    by_first : (o : Option _) → f x ≡ o → (first_some f xs ≡ Some v → (a : Act) × Among a xs × (f a ≡ Some v))
+        → or_else o (first_some f xs) ≡ Some v → (a : Act) × ((a ≡ x) ⊎ Among a xs) × (f a ≡ Some v)
     by_first None q more h = let r = more h in (r.0, inr r.1, r.2)
     by_first (Some u) q more h = (x, inl refl, q ∙ h)
 
 -- where one act at most has something, the first that has it is that act
-first_once : {A : Type 0} (f : Act → Option A) (xs : List Act) (a : Act) (v : A) → how_many (λ x. is_some (f x)) xs ≤ 1 → Among a xs → f a ≡ Some v → first_some f xs ≡ Some v
+first_once : {A : Type 0} (f : Act → Option A) (xs : List Act) (a : Act) (v : A) → how_many (λ x. is_some (f x)) xs ≤ 1 → Among a xs
+    → f a ≡ Some v → first_some f xs ≡ Some v
 unfolding Among
 first_once f [] a v one m e = absurd m
-first_once f (x ∷ xs) a v one m e = ⊎_elim (λ q. ap (λ o. or_else o (first_some f xs)) (ap f (sym q) ∙ e)) (λ n. later n (f x) refl (λ few. first_once f xs a v few n e)) m
+first_once f (x ∷ xs) a v one m e = ⊎_elim (λ q. ap (λ o. or_else o (first_some f xs)) (ap f (sym q) ∙ e))
+    (λ n. later n (f x) refl (λ few. first_once f xs a v few n e)) m
   where
-    later : Among a xs → (o : Option _) → f x ≡ o → (how_many (λ y. is_some (f y)) xs ≤ 1 → first_some f xs ≡ Some v) → first_some f (x ∷ xs) ≡ Some v
+    later : Among a xs → (o : Option _) → f x ≡ o → (how_many (λ y. is_some (f y)) xs ≤ 1 → first_some f xs ≡ Some v)
+        → first_some f (x ∷ xs) ≡ Some v
     later n None q more =
         let few : how_many (λ y. is_some (f y)) xs ≤ 1 = omega (arith, one) in
         ap (λ o. or_else o (first_some f xs)) q ∙ more few
@@ -46,11 +50,13 @@ no_first : {A : Type 0} (f : Act → Option A) (zs : List Act) → first_some f 
 no_first f [] h k = cc
 no_first f (z ∷ zs) h k = by_head (f z) refl (λ a b. no_first f zs a b) h k
   where
-    by_head : (o : Option _) → f z ≡ o → (first_some f zs ≡ None → list_any (λ y. is_some (f y)) zs ≡ true → ⊥) → or_else o (first_some f zs) ≡ None → (is_some o || list_any (λ y. is_some (f y)) zs) ≡ true → ⊥
+    by_head : (o : Option _) → f z ≡ o → (first_some f zs ≡ None → list_any (λ y. is_some (f y)) zs ≡ true → ⊥)
+        → or_else o (first_some f zs) ≡ None → (is_some o || list_any (λ y. is_some (f y)) zs) ≡ true → ⊥
     by_head None q more h k = more h k
     by_head (Some u) q more h k = cc
 
-same_first : {A : Type 0} (f : Act → Option A) (xs ys : List Act) → SameMembers xs ys → how_many (λ x. is_some (f x)) xs ≤ 1 → first_some f xs ≡ first_some f ys
+same_first : {A : Type 0} (f : Act → Option A) (xs ys : List Act) → SameMembers xs ys → how_many (λ x. is_some (f x)) xs ≤ 1
+    → first_some f xs ≡ first_some f ys
 same_first f xs ys same one = by_second (first_some f ys) refl
   where
     none_such : (v : _) → first_some f xs ≡ Some v → first_some f ys ≡ None → ⊥
@@ -72,7 +78,8 @@ some_if : {A : Type 0} (b : Bool) (x : A) → is_some (if b then Some x else Non
 some_if true x = refl
 some_if false x = refl
 
-fewer : (f g h : Act → Bool) → ((a : Act) → cond (f a) 1 0 ≤ cond (g a) 1 0 + cond (h a) 1 0) → (acts : List Act) → how_many f acts ≤ how_many g acts + how_many h acts
+fewer : (f g h : Act → Bool) → ((a : Act) → cond (f a) 1 0 ≤ cond (g a) 1 0 + cond (h a) 1 0) → (acts : List Act)
+    → how_many f acts ≤ how_many g acts + how_many h acts
 fewer f g h less [] = omega arith
 fewer f g h less (a ∷ acts) = omega (arith, less a, fewer f g h less acts)
 
@@ -81,16 +88,7 @@ brings_less c p (Hand d q v) = omega (arith, ap {B = ℕ} (λ b. cond b 1 0) (so
 brings_less c p (Put d q v) = omega (arith, ap {B = ℕ} (λ b. cond b 1 0) (some_if (is_at c p d q) v))
 brings_less c p (Offer d q v w k) = omega (arith, ap {B = ℕ} (λ b. cond b 1 0) (some_if (is_at c p d q) v))
 brings_less c p (Await d q w k) = omega arith
-brings_less c p (Take d q v) = omega arith
-brings_less c p (Admit d q) = omega arith
-brings_less c p (Drop d q v) = omega arith
-brings_less c p (Spurn d q v) = omega arith
-brings_less c p (Close d v) = omega arith
-brings_less c p (Void d) = omega arith
-brings_less c p (Drain d q v) = omega arith
-brings_less c p (WakeClosed d q) = omega arith
-brings_less c p (Withdraw w why) = omega arith
-brings_less c p (Settle w outcome) = omega arith
+brings_less c p other = omega arith
 
 places_less : (c p : ℕ) (a : Act) → cond (is_some (places_wait c p a)) 1 0 ≤ cond (awaits c p a) 1 0 + cond (enters c p a) 1 0
 places_less c p (Hand d q v) = omega arith
@@ -98,31 +96,14 @@ places_less c p (Put d q v) = omega arith
 places_less c p (Offer d q v w k) = omega (arith, ap {B = ℕ} (λ b. cond b 1 0) (some_if (is_at c p d q) w))
 places_less c p (Await d q w k) = omega (arith, ap {B = ℕ} (λ b. cond b 1 0) (some_if (is_at c p d q) w))
 places_less c p (Take d q v) = omega arith
-places_less c p (Admit d q) = omega arith
-places_less c p (Drop d q v) = omega arith
-places_less c p (Spurn d q v) = omega arith
-places_less c p (Close d v) = omega arith
-places_less c p (Void d) = omega arith
-places_less c p (Drain d q v) = omega arith
-places_less c p (WakeClosed d q) = omega arith
-places_less c p (Withdraw w why) = omega arith
-places_less c p (Settle w outcome) = omega arith
+places_less c p other = omega arith
 
 offers_less : (c p : ℕ) (a : Act) → cond (is_some (offers_at c p a)) 1 0 ≤ cond (awaits c p a) 1 0 + cond (enters c p a) 1 0
 offers_less c p (Hand d q v) = omega arith
 offers_less c p (Put d q v) = omega arith
 offers_less c p (Offer d q v w k) = omega (arith, ap {B = ℕ} (λ b. cond b 1 0) (some_if (is_at c p d q) k))
 offers_less c p (Await d q w k) = omega arith
-offers_less c p (Take d q v) = omega arith
-offers_less c p (Admit d q) = omega arith
-offers_less c p (Drop d q v) = omega arith
-offers_less c p (Spurn d q v) = omega arith
-offers_less c p (Close d v) = omega arith
-offers_less c p (Void d) = omega arith
-offers_less c p (Drain d q v) = omega arith
-offers_less c p (WakeClosed d q) = omega arith
-offers_less c p (Withdraw w why) = omega arith
-offers_less c p (Settle w outcome) = omega arith
+offers_less c p other = omega arith
 
 -- ---- the words on fates
 
@@ -158,10 +139,13 @@ record Agree (xs ys : List Act) : Type 0 where
   clauses : (c p : ℕ) → first_some (offers_at c p) xs ≡ first_some (offers_at c p) ys
 
 module _ (xs ys : List Act) (h : Agree xs ys) (c p : ℕ) where
-  ended_same : (f : WaitId → Act → Bool) → of_wait (λ w. list_any (f w) xs) (wait_at c p xs) ≡ of_wait (λ w. list_any (f w) ys) (wait_at c p ys)
-  ended_same f = of_wait_same (λ w. list_any (f w) xs) (λ w. list_any (f w) ys) (wait_at c p xs) (wait_at c p ys) (λ w. h.any (f w)) (h.waits c p)
+  ended_same : (f : WaitId → Act → Bool) → of_wait (λ w. list_any (f w) xs) (wait_at c p xs) ≡
+      of_wait (λ w. list_any (f w) ys) (wait_at c p ys)
+  ended_same f = of_wait_same (λ w. list_any (f w) xs) (λ w. list_any (f w) ys) (wait_at c p xs) (wait_at c p ys) (λ w. h.any (f w))
+      (h.waits c p)
 
-  handed_same : (f : WaitId → Act → Bool) → (list_any (hands c p) xs && of_wait (λ w. list_any (f w) xs) (wait_at c p xs)) ≡ (list_any (hands c p) ys && of_wait (λ w. list_any (f w) ys) (wait_at c p ys))
+  handed_same : (f : WaitId → Act → Bool) → (list_any (hands c p) xs && of_wait (λ w. list_any (f w) xs) (wait_at c p xs)) ≡
+      (list_any (hands c p) ys && of_wait (λ w. list_any (f w) ys) (wait_at c p ys))
   handed_same f = and_same _ _ _ _ (h.any (hands c p)) (ended_same f)
 
   received_same : is_received c p xs ≡ is_received c p ys
@@ -177,7 +161,9 @@ module _ (xs ys : List Act) (h : Agree xs ys) (c p : ℕ) where
   undelivered_same =
       or_same _ _ _ _ (h.any (drains c p))
       (or_same _ _ _ _ (handed_same settles_undelivered)
-      (of_offer_same (λ k. (k == 0) && is_taken_back c p xs) (λ k. (k == 0) && is_taken_back c p ys) (first_some (offers_at c p) xs) (first_some (offers_at c p) ys) (λ k. ap (λ b. (k == 0) && b) taken_back_same) (h.clauses c p)))
+      (of_offer_same (λ k. (k == 0) && is_taken_back c p xs) (λ k. (k == 0)
+      && is_taken_back c p ys) (first_some (offers_at c p) xs) (first_some (offers_at c p) ys)
+      (λ k. ap (λ b. (k == 0) && b) taken_back_same) (h.clauses c p)))
 
   elsewhere_same : (w : WaitId) (o : Option (ℕ × ℕ)) → resolves_elsewhere c p w xs o ≡ resolves_elsewhere c p w ys o
   elsewhere_same w None = refl
@@ -186,24 +172,33 @@ module _ (xs ys : List Act) (h : Agree xs ys) (c p : ℕ) where
   chosen_same : (w : WaitId) → is_chosen_elsewhere c p w xs ≡ is_chosen_elsewhere c p w ys
   chosen_same w =
       h.any (λ a. resolves_elsewhere c p w xs (resolves_at a))
-      ∙ any_same (λ a. resolves_elsewhere c p w xs (resolves_at a)) (λ a. resolves_elsewhere c p w ys (resolves_at a)) ys (λ a. elsewhere_same w (resolves_at a))
+      ∙ any_same (λ a. resolves_elsewhere c p w xs (resolves_at a)) (λ a. resolves_elsewhere c p w ys (resolves_at a)) ys
+      (λ a. elsewhere_same w (resolves_at a))
 
   withdrawn_same : is_withdrawn c p xs ≡ is_withdrawn c p ys
   withdrawn_same = of_offer_same _ _ (first_some (offers_at c p) xs) (first_some (offers_at c p) ys)
       (λ k. ap (λ b. nat_lt 0 k && b)
       (or_same _ _ _ _ taken_back_same
-      (and_same _ _ _ _ not_admitted_same (of_wait_same (λ w. is_chosen_elsewhere c p w xs) (λ w. is_chosen_elsewhere c p w ys) (wait_at c p xs) (wait_at c p ys) chosen_same (h.waits c p)))))
+      (and_same _ _ _ _ not_admitted_same (of_wait_same (λ w. is_chosen_elsewhere c p w xs) (λ w. is_chosen_elsewhere c p w ys)
+      (wait_at c p xs) (wait_at c p ys) chosen_same (h.waits c p)))))
       (h.clauses c p)
 
   fate_same : fate_at c p xs ≡ fate_at c p ys
   fate_same = rw (received_same, undelivered_same, h.any (drops_at c p), h.any (spurns_at c p), withdrawn_same) refl
 
-agree : (shape : Shape) (history : List Entry) (ys : List Act) → Legal shape history → SameMembers (acts_in history) ys → Agree (acts_in history) ys
+agree : (shape : Shape) (history : List Entry) (ys : List Act) → Legal shape history → SameMembers (acts_in history) ys
+    → Agree (acts_in history) ys
 agree shape history ys legal same = record {
   any = same_any xs ys same;
-  elements = λ c p. same_first (brings c p) xs ys same (let n = fewer (λ a. is_some (brings c p a)) (answers c p) (enters c p) (brings_less c p) xs in let k = counted c p in omega (arith, n, k.receivers, k.given));
-  waits = λ c p. same_first (places_wait c p) xs ys same (let n = fewer (λ a. is_some (places_wait c p a)) (awaits c p) (enters c p) (places_less c p) xs in let k = counted c p in omega (arith, n, k.given));
-  clauses = λ c p. same_first (offers_at c p) xs ys same (let n = fewer (λ a. is_some (offers_at c p a)) (awaits c p) (enters c p) (offers_less c p) xs in let k = counted c p in omega (arith, n, k.given));
+  elements = λ c p. same_first (brings c p) xs ys same (let n =
+      fewer (λ a. is_some (brings c p a)) (answers c p) (enters c p) (brings_less c p) xs in let k = counted c p
+      in omega (arith, n, k.receivers, k.given));
+  waits = λ c p. same_first (places_wait c p) xs ys same
+      (let n = fewer (λ a. is_some (places_wait c p a)) (awaits c p) (enters c p) (places_less c p) xs in let k = counted c p
+      in omega (arith, n, k.given));
+  clauses = λ c p. same_first (offers_at c p) xs ys same
+      (let n = fewer (λ a. is_some (offers_at c p a)) (awaits c p) (enters c p) (offers_less c p) xs in let k = counted c p
+      in omega (arith, n, k.given));
 }
   where
     xs : List Act
@@ -212,8 +207,10 @@ agree shape history ys legal same = record {
     counted : (c p : ℕ) → Counted c p xs ((replay history).channels c)
     counted c p = (replay_traced shape history legal).told.counted c p
 
-pub same_elements : (shape : Shape) (history : List Entry) (ys : List Act) (c p : ℕ) → Legal shape history → SameMembers (acts_in history) ys → element_at c p (acts_in history) ≡ element_at c p ys
+pub same_elements : (shape : Shape) (history : List Entry) (ys : List Act) (c p : ℕ) → Legal shape history
+    → SameMembers (acts_in history) ys → element_at c p (acts_in history) ≡ element_at c p ys
 same_elements shape history ys c p legal same = (agree shape history ys legal same).elements c p
 
-pub same_fates : (shape : Shape) (history : List Entry) (ys : List Act) (c p : ℕ) → Legal shape history → SameMembers (acts_in history) ys → fate_at c p (acts_in history) ≡ fate_at c p ys
+pub same_fates : (shape : Shape) (history : List Entry) (ys : List Act) (c p : ℕ) → Legal shape history → SameMembers (acts_in history) ys
+    → fate_at c p (acts_in history) ≡ fate_at c p ys
 same_fates shape history ys c p legal same = fate_same (acts_in history) ys (agree shape history ys legal same) c p

@@ -20,14 +20,16 @@ unfolding Among
 any_among f [] h = cc
 any_among f (x ∷ xs) h = by_test (f x) refl (λ k. any_among f xs k) h
   where
-    by_test : (b : Bool) → f x ≡ b → (list_any f xs ≡ true → (y : _) × Among y xs × (f y ≡ true)) → (b || list_any f xs) ≡ true → (y : _) × ((y ≡ x) ⊎ Among y xs) × (f y ≡ true)
+    by_test : (b : Bool) → f x ≡ b → (list_any f xs ≡ true → (y : _) × Among y xs × (f y ≡ true)) → (b || list_any f xs) ≡ true → (y : _)
+        × ((y ≡ x) ⊎ Among y xs) × (f y ≡ true)
     by_test true e more h = (x, inl refl, e)
     by_test false e more h = let r = more h in (r.0, inr r.1, r.2)
 
 pub among_any : {A : Type 0} (f : A → Bool) (xs : List A) (x : A) → Among x xs → f x ≡ true → list_any f xs ≡ true
 unfolding Among
 among_any f [] x m e = absurd m
-among_any f (y ∷ ys) x m e = ⊎_elim (λ q. ap (λ b. b || list_any f ys) (ap f (sym q) ∙ e)) (λ n. or_true (f y) (list_any f ys) (among_any f ys x n e)) m
+among_any f (y ∷ ys) x m e = ⊎_elim (λ q. ap (λ b. b || list_any f ys) (ap f (sym q) ∙ e))
+    (λ n. or_true (f y) (list_any f ys) (among_any f ys x n e)) m
   where
     or_true : (a b : Bool) → b ≡ true → (a || b) ≡ true
     or_true true b e = refl
@@ -58,7 +60,8 @@ right_among x (y ∷ xs) ys m = inr (right_among x xs ys m)
 split_among : {A : Type 0} (x : A) (xs ys : List A) → Among x (xs ++ ys) → Among x xs ⊎ Among x ys
 unfolding Among
 split_among x [] ys m = inr m
-split_among x (y ∷ xs) ys m = ⊎_elim (λ e. inl (inl e)) (λ n. ⊎_elim (λ here. inl (inr here)) (λ there. inr there) (split_among x xs ys n)) m
+split_among x (y ∷ xs) ys m = ⊎_elim (λ e. inl (inl e)) (λ n. ⊎_elim (λ here. inl (inr here)) (λ there. inr there) (split_among x xs ys n))
+    m
 
 -- ---- the parts of a history
 
@@ -72,14 +75,19 @@ pub record IsJoined {A B : Type 0} (noted : B → List A) (all : List B → List
   pub none : all [] ≡ []
   pub more : (b : B) (bs : List B) → all (b ∷ bs) ≡ noted b ++ all bs
 
-module _ {A E B : Type 0} (who : E → ℕ) (act : E → A) (part : ℕ → List E → List A) (noted : B → List A) (all : List B → List A) (empty : B) (p : IsPart who act part) (j : IsJoined noted all) (nothing : noted empty ≡ []) where
+module _ {A E B : Type 0} (who : E → ℕ) (act : E → A) (part : ℕ → List E → List A) (noted : B → List A) (all : List B
+    → List A) (empty : B) (p : IsPart who act part) (j : IsJoined noted all) (nothing : noted empty ≡ []) where
   by_whom : (x : A) (history : List E) → Among x (map act history) → (k : ℕ) × Among x (part k history)
   unfolding Among
   by_whom x [] m = absurd m
   by_whom x (e ∷ es) m = ⊎_elim here (λ n. later (by_whom x es n)) m
     where
       here : x ≡ act e → (k : ℕ) × Among x (part k (e ∷ es))
-      here q = (who e, subst (Among x) (sym (p.more (who e) e es ∙ ap (λ b. if b then act e ∷ part (who e) es else part (who e) es) (eq-eqb (who e) (who e) refl))) (inl q))
+      here q = (
+        who e,
+        subst (Among x) (sym (p.more (who e) e es ∙ ap (λ b. if b then act e ∷ part (who e) es else part (who e) es)
+            (eq-eqb (who e) (who e) refl))) (inl q),
+      )
 
       more : (k : ℕ) (b : Bool) → Among x (part k es) → Among x (if b then act e ∷ part k es else part k es)
       more k true n = inr n
@@ -93,7 +101,8 @@ module _ {A E B : Type 0} (who : E → ℕ) (act : E → A) (part : ℕ → List
   in_history x k [] m = subst (Among x) (p.none k) m
   in_history x k (e ∷ es) m = by_test (who e == k) (λ n. in_history x k es n) (subst (Among x) (p.more k e es) m)
     where
-      by_test : (b : Bool) → (Among x (part k es) → Among x (map act es)) → Among x (if b then act e ∷ part k es else part k es) → (x ≡ act e) ⊎ Among x (map act es)
+      by_test : (b : Bool) → (Among x (part k es) → Among x (map act es)) → Among x (if b then act e ∷ part k es else part k es)
+          → (x ≡ act e) ⊎ Among x (map act es)
       by_test true rest n = ⊎_elim (λ q. inl q) (λ more. inr (rest more)) n
       by_test false rest n = inr (rest n)
 
@@ -105,10 +114,12 @@ module _ {A E B : Type 0} (who : E → ℕ) (act : E → A) (part : ℕ → List
   in_one : (x : A) (books : List B) → Among x (all books) → (k : ℕ) × Among x (noted (slice_index_or books k empty))
   unfolding Among
   in_one x [] m = absurd (subst (Among x) j.none m)
-  in_one x (b ∷ books) m = ⊎_elim (λ here. (0, here)) (λ there. let r = in_one x books there in (suc r.0, r.1)) (split_among x (noted b) (all books) (subst (Among x) (j.more b books) m))
+  in_one x (b ∷ books) m = ⊎_elim (λ here. (0, here)) (λ there. let r = in_one x books there
+      in (suc r.0, r.1)) (split_among x (noted b) (all books) (subst (Among x) (j.more b books) m))
 
   -- books that are the parts of a history have its acts
-  pub same_members : (history : List E) (books : List B) → ((k : ℕ) → part k history ≡ noted (slice_index_or books k empty)) → SameMembers (map act history) (all books)
+  pub same_members : (history : List E) (books : List B) → ((k : ℕ) → part k history ≡ noted (slice_index_or books k empty))
+      → SameMembers (map act history) (all books)
   same_members history books parts = record {
     to = λ x m. let r = by_whom x history m in in_all x r.0 books (subst (Among x) (parts r.0) r.1);
     back = λ x m. let r = in_one x books m in in_history x r.0 history (subst (Among x) (sym (parts r.0)) r.1);

@@ -54,22 +54,34 @@ cancels_same other = refl
 
 -- the same numbers give the same text
 same_numbers : (a b c a' b' c' : ℕ) → a ≡ a' → b ≡ b' → c ≡ c' → job_numbers_text a b c ≡ job_numbers_text a' b' c'
-same_numbers a b c a' b' c' p q r = ap (λ i. job_numbers_text i b c) p ∙ (ap (λ i. job_numbers_text a' i c) q ∙ ap (λ i. job_numbers_text a' b' i) r)
+same_numbers a b c a' b' c' p q r = ap (λ i. job_numbers_text i b c) p
+    ∙ (ap (λ i. job_numbers_text a' i c) q ∙ ap (λ i. job_numbers_text a' b' i) r)
 
-module _ (p : Program) (books : List (List Item)) (channels : List Entry) (jobs : List JobEntry) (some : 0 < coroutine_count p) (of : BooksOf p books channels jobs) where
+module _ (p : Program) (books : List (List Item)) (channels : List Entry) (jobs : List JobEntry) (some : 0 < coroutine_count p)
+    (of : BooksOf p books channels jobs) where
   over_books : (f : JobAct → Bool) → sum_over (λ b. how_many f (job_acts_in b)) books ≡ how_many f (acts_in jobs)
-  over_books f = by_books (λ (e : JobEntry). e.who) (λ (e : JobEntry). e.act) acts_of job_parts f job_acts_in [] jobs books refl of.job_parts
+  over_books f = by_books (λ (e : JobEntry). e.who) (λ (e : JobEntry). e.act) acts_of job_parts f job_acts_in [] jobs books refl
+      of.job_parts
 
   jobs_told : job_counts_text (jobs_counted (job_acts_noted books) (job_count p)) ≡ job_tally_text (jobs_tallied books)
   jobs_told =
       let same = jobs_noted p books channels jobs of in
       same_numbers _ _ _ _ _ _
-      (attached_counted (job_shape p) jobs (shape_fits p 0 some) of.legal_jobs (job_acts_noted books) same ∙ ap (λ n. 1 + n) (sym (attached_over books ∙ over_books attaches_one)))
-      (completed_counted (job_shape p) jobs (shape_fits p 0 some) of.legal_jobs (job_acts_noted books) same ∙ (count_same (finishes_one is_completed) completes_one completes_same (acts_in jobs) ∙ sym (completed_over books ∙ over_books completes_one)))
-      (cancelled_counted (job_shape p) jobs (shape_fits p 0 some) of.legal_jobs (job_acts_noted books) same ∙ (count_same (finishes_one is_cancelled) cancels_one cancels_same (acts_in jobs) ∙ sym (cancelled_over books ∙ over_books cancels_one)))
+      (attached_counted (job_shape p) jobs (shape_fits p 0 some) of.legal_jobs (job_acts_noted books) same
+      ∙ ap (λ n. 1 + n) (sym (attached_over books ∙ over_books attaches_one)))
+      (completed_counted (job_shape p) jobs (shape_fits p 0 some) of.legal_jobs (job_acts_noted books) same
+      ∙ (count_same (finishes_one is_completed) completes_one completes_same (acts_in jobs)
+      ∙ sym (completed_over books ∙ over_books completes_one)))
+      (cancelled_counted (job_shape p) jobs (shape_fits p 0 some) of.legal_jobs (job_acts_noted books) same
+      ∙ (count_same (finishes_one is_cancelled) cancels_one cancels_same (acts_in jobs)
+      ∙ sym (cancelled_over books ∙ over_books cancels_one)))
 
-pub summary_told : (p : Program) (books : List (List Item)) (channels : List Entry) (jobs : List JobEntry) (root : Option End) → 0 < coroutine_count p → IsRunAtRest p books channels jobs root → summary_text p books ≡ line_of_books p.version books root
+pub summary_told : (p : Program) (books : List (List Item)) (channels : List Entry) (jobs : List JobEntry) (root : Option End)
+    → 0 < coroutine_count p → IsRunAtRest p books channels jobs root → summary_text p books ≡ line_of_books p.version books root
 summary_told p books channels jobs root some rests =
-    summary_tallied p books channels jobs rests.0 (none_lost p books channels jobs rests.0 root rests.1) (λ c q. sym (printed p books channels jobs rests.0 c q))
-    ∙ (ap (λ t. line_of_tallies p.version t (tallied books) (end_noted 0 (job_acts_noted books))) (jobs_told p books channels jobs some rests.0)
-    ∙ ap (line_of_tallies p.version (job_tally_text (jobs_tallied books)) (tallied books)) ((printed_jobs p books channels jobs rests.0).root ∙ rests.1.ended))
+    summary_tallied p books channels jobs rests.0 (none_lost p books channels jobs rests.0 root rests.1)
+    (λ c q. sym (printed p books channels jobs rests.0 c q))
+    ∙ (ap (λ t. line_of_tallies p.version t (tallied books) (end_noted 0 (job_acts_noted books)))
+    (jobs_told p books channels jobs some rests.0)
+    ∙ ap (line_of_tallies p.version (job_tally_text (jobs_tallied books)) (tallied books))
+    ((printed_jobs p books channels jobs rests.0).root ∙ rests.1.ended))

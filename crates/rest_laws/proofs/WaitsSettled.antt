@@ -26,17 +26,20 @@ use Rattle.script_meaning.proofs.OwnUnsettled.{unsettled_after, unsettled_passes
 use Rattle.script_meaning.proofs.JobDebts.{no_book}
 
 -- who made no entry has no wait
-no_wait : (shape : Shape) (history : List Entry) (k : ℕ) (w : WaitId) → Legal shape history → acts_of k history ≡ [] → IsUnsettledOf k ((replay history).waits w) → ⊥
+no_wait : (shape : Shape) (history : List Entry) (k : ℕ) (w : WaitId) → Legal shape history → acts_of k history ≡ []
+    → IsUnsettledOf k ((replay history).waits w) → ⊥
 unfolding unsettled_after
 no_wait shape history k w legal none u =
-    let both_ways : true ≡ false = sym (unsettled_passes k ((replay history).waits w) u) ∙ replay_unsettled shape k w history legal ∙ ap (unsettled_after w false) none in
+    let both_ways : true ≡ false = sym (unsettled_passes k ((replay history).waits w) u) ∙ replay_unsettled shape k w history legal
+    ∙ ap (unsettled_after w false) none in
     cc
 
 the_wait : (k : ℕ) (w v : WaitId) (s : State) → WaitsAlone k v s → IsUnsettledOf k (s.waits w) → IsOpenOf k (s.waits w)
 the_wait k w v s h u = subst (λ z. IsOpenOf k (s.waits z)) (sym (h.only w u)) h.open_now
 
 -- a coroutine that is left so has no unsettled wait but an open one
-left_open : (k : ℕ) (x : Config) (book : List Item) (s : State) (jobs : List JobEntry) (w : WaitId) (stage : Stage) → IsLeft k x book s jobs stage → (book ≡ [] → ⊥) → IsUnsettledOf k (s.waits w) → IsOpenOf k (s.waits w)
+left_open : (k : ℕ) (x : Config) (book : List Item) (s : State) (jobs : List JobEntry) (w : WaitId) (stage : Stage)
+    → IsLeft k x book s jobs stage → (book ≡ [] → ⊥) → IsUnsettledOf k (s.waits w) → IsOpenOf k (s.waits w)
 left_open k x book s jobs w Fresh h noted u = absurd (noted h.1)
 left_open k x book s jobs w Running h noted u = absurd h
 left_open k x book s jobs w (Waiting v) h noted u = the_wait k w v s h.0 u
@@ -46,12 +49,16 @@ left_open k x book s jobs w (Leaving v) h noted u = the_wait k w v s h u
 left_open k x book s jobs w SeesScope h noted u = absurd h
 left_open k x book s jobs w Ended h noted u = absurd (h.1 w u)
 
-pub none_lost : (p : Program) (books : List (List Item)) (channels : List Entry) (jobs : List JobEntry) (of : BooksOf p books channels jobs) (root : Option End) → IsIdle p books channels jobs of root → (w : WaitId) → IsResolvedWait ((replay channels).waits w) → IsSettledWait ((replay channels).waits w)
+pub none_lost : (p : Program) (books : List (List Item)) (channels : List Entry) (jobs : List JobEntry) (of : BooksOf p books channels jobs)
+    (root : Option End) → IsIdle p books channels jobs of root → (w : WaitId) → IsResolvedWait ((replay channels).waits w)
+    → IsSettledWait ((replay channels).waits w)
 none_lost p books channels jobs of root idle w h = by_wait ((replay channels).waits w) refl h
   where
-    open_at : (k : ℕ) (b : Bool) → nat_lt k (coroutine_count p) ≡ b → IsUnsettledOf k ((replay channels).waits w) → IsOpenOf k ((replay channels).waits w)
+    open_at : (k : ℕ) (b : Bool) → nat_lt k (coroutine_count p) ≡ b → IsUnsettledOf k ((replay channels).waits w)
+        → IsOpenOf k ((replay channels).waits w)
     open_at k true e u =
-        left_open k (of.ends_at k) (book_at k books) (replay channels) jobs w (of.ends_at k).stage (idle.left k (lt-from_true k (coroutine_count p) e))
+        left_open k (of.ends_at k) (book_at k books) (replay channels) jobs w (of.ends_at k).stage
+        (idle.left k (lt-from_true k (coroutine_count p) e))
         (λ none. no_wait (floor_shape p) channels k w of.legal_channels (of.channel_parts k ∙ ap channel_acts_in none) u) u
     open_at k false e u =
         let past : length books ≤ k = omega (arith, of.count, le-from_lt_false k (coroutine_count p) e) in
@@ -61,7 +68,8 @@ none_lost p books channels jobs of root idle w h = by_wait ((replay channels).wa
     not_both None e n = cc
     not_both (Some how) e n = cc
 
-    by_settled : (x : Wait) → (replay channels).waits w ≡ Some x → is_some x.resolved ≡ true → (o : Option Settled) → x.settled ≡ o → is_some o ≡ true
+    by_settled : (x : Wait) → (replay channels).waits w ≡ Some x → is_some x.resolved ≡ true → (o : Option Settled) → x.settled ≡ o
+        → is_some o ≡ true
     by_settled x e r (Some outcome) q = refl
     by_settled x e r None q =
         let u : IsUnsettledOf x.owner ((replay channels).waits w) = subst (IsUnsettledOf x.owner) (sym e) (refl, q) in

@@ -49,7 +49,8 @@ brought_itself p f c j k = record {
 }
 
 -- what was brought there stays there
-pub brought_still : (p : Program) (c c' b : ChannelFloor) (j j' i : Floor) (s : Sight) → EndedOnChannels c c' b → EndedOnJobs j j' i → IsBroughtTo p c j s → IsBroughtTo p c' j' s
+pub brought_still : (p : Program) (c c' b : ChannelFloor) (j j' i : Floor) (s : Sight) → EndedOnChannels c c' b → EndedOnJobs j j' i
+    → IsBroughtTo p c j s → IsBroughtTo p c' j' s
 brought_still p c c' b j j' i s calls jobs h = record {
   keeps = h.keeps;
   shape = calls.shape ∙ h.shape;
@@ -63,7 +64,8 @@ brought_still p c c' b j j' i s calls jobs h = record {
 }
 
 -- and that of one more comes there
-pub brought_now : (p : Program) (c c' : ChannelFloor) (j j' : Floor) (root : Sight) (s : Sight) → EndedOnChannels c c' s.channels → EndedOnJobs j j' s.jobs → IsBroughtTo p c j root → Keeps p root → Keeps p s → IsBroughtTo p c' j' s
+pub brought_now : (p : Program) (c c' : ChannelFloor) (j j' : Floor) (root : Sight) (s : Sight) → EndedOnChannels c c' s.channels
+    → EndedOnJobs j j' s.jobs → IsBroughtTo p c j root → Keeps p root → Keeps p s → IsBroughtTo p c' j' s
 brought_now p c c' j j' root s calls jobs there kr k = record {
   keeps = k;
   shape = calls.shape ∙ there.shape ∙ kr.stands.channels ∙ sym k.stands.channels;
@@ -77,18 +79,24 @@ brought_now p c c' j j' root s calls jobs there kr k = record {
 }
 
 module _ {X : Type 0} (at : X → Sight) where
-  pub all_brought : (p : Program) (c c' : ChannelFloor) (j j' : Floor) (xs : List X) (root x : X) → EndedOnChannels c c' (at x).channels → EndedOnJobs j j' (at x).jobs → IsBroughtTo p c j (at root) → Keeps p (at x)
+  pub all_brought : (p : Program) (c c' : ChannelFloor) (j j' : Floor) (xs : List X) (root x : X) → EndedOnChannels c c' (at x).channels
+      → EndedOnJobs j j' (at x).jobs → IsBroughtTo p c j (at root) → Keeps p (at x)
       → All (λ z. IsBroughtTo p c j (at z)) xs → All (λ z. IsBroughtTo p c' j' (at z)) (xs ++ x ∷ [])
   all_brought p c c' j j' xs root x ec ej there k h =
       All-push (λ z. IsBroughtTo p c' j' (at z)) xs x
-      (All-weaker (λ z. IsBroughtTo p c j (at z)) (λ z. IsBroughtTo p c' j' (at z)) (λ z b. brought_still p c c' (at x).channels j j' (at x).jobs (at z) ec ej b) xs h)
+      (All-weaker (λ z. IsBroughtTo p c j (at z)) (λ z. IsBroughtTo p c' j' (at z))
+      (λ z b. brought_still p c c' (at x).channels j j' (at x).jobs (at z) ec ej b) xs h)
       (brought_now p c c' j j' (at root) (at x) ec ej there there.keeps k)
 
-  pub all_still : (p : Program) (c c' b : ChannelFloor) (j j' i : Floor) (xs : List X) → EndedOnChannels c c' b → EndedOnJobs j j' i → All (λ z. IsBroughtTo p c j (at z)) xs → All (λ z. IsBroughtTo p c' j' (at z)) xs
-  all_still p c c' b j j' i xs ec ej h = All-weaker (λ z. IsBroughtTo p c j (at z)) (λ z. IsBroughtTo p c' j' (at z)) (λ z q. brought_still p c c' b j j' i (at z) ec ej q) xs h
+  pub all_still : (p : Program) (c c' b : ChannelFloor) (j j' i : Floor) (xs : List X) → EndedOnChannels c c' b → EndedOnJobs j j' i
+      → All (λ z. IsBroughtTo p c j (at z)) xs → All (λ z. IsBroughtTo p c' j' (at z)) xs
+  all_still p c c' b j j' i xs ec ej h = All-weaker (λ z. IsBroughtTo p c j (at z)) (λ z. IsBroughtTo p c' j' (at z))
+      (λ z q. brought_still p c c' b j j' i (at z) ec ej q) xs h
 
-  pub books_push : (root x : X) (xs : List X) (notes : List (List Item)) (note : List Item) → notes ≡ books_seen at (root ∷ xs) → note ≡ (at x).frame.book → notes ++ note ∷ [] ≡ books_seen at (root ∷ (xs ++ x ∷ []))
-  books_push root x xs notes note e q = ap (λ l. l ++ note ∷ []) e ∙ ap (λ n. books_seen at (root ∷ xs) ++ n ∷ []) q ∙ sym (map-append (λ z. (at z).frame.book) (root ∷ xs) (x ∷ []))
+  pub books_push : (root x : X) (xs : List X) (notes : List (List Item)) (note : List Item) → notes ≡ books_seen at (root ∷ xs)
+      → note ≡ (at x).frame.book → notes ++ note ∷ [] ≡ books_seen at (root ∷ (xs ++ x ∷ []))
+  books_push root x xs notes note e q = ap (λ l. l ++ note ∷ []) e ∙ ap (λ n. books_seen at (root ∷ xs) ++ n ∷ []) q
+      ∙ sym (map-append (λ z. (at z).frame.book) (root ∷ xs) (x ∷ []))
 
   sights : List X → List Sight
   sights xs = map at xs
@@ -102,9 +110,11 @@ module _ {X : Type 0} (at : X → Sight) where
   same_books (x ∷ xs) = ap (λ l. (at x).frame.book ∷ l) (same_books xs)
 
   -- the run is over
-  pub run_over : (p : Program) (root0 root1 : X) (others : List X) (c : ChannelFloor) (j : Floor) (end : Option End) → IsProgram p → length (root0 ∷ others) ≡ coroutine_count p → CountUp 0 (tags_seen at (root0 ∷ others)) → AllRested at p (root0 ∷ others)
+  pub run_over : (p : Program) (root0 root1 : X) (others : List X) (c : ChannelFloor) (j : Floor) (end : Option End) → IsProgram p
+      → length (root0 ∷ others) ≡ coroutine_count p → CountUp 0 (tags_seen at (root0 ∷ others)) → AllRested at p (root0 ∷ others)
       → SawMore (at root0) (at root1) → AtStep (at root0).jobs (at root1).jobs (λ tree. end_at (tree 0) ≡ end)
-      → IsBroughtTo p c j (at root1) → All (λ z. IsBroughtTo p c j (at z)) others → NoOthers p c j → Legal c.shape c.seen → LegalJobs j.shape j.seen → HasClaims j
+      → IsBroughtTo p c j (at root1) → All (λ z. IsBroughtTo p c j (at z)) others → NoOthers p c j → Legal c.shape c.seen
+      → LegalJobs j.shape j.seen → HasClaims j
       → IsRunAtRest p (books_seen at (root1 ∷ others)) c.seen j.seen end
   run_over p root0 root1 others c j end ok count tags rested more look root there none legal legal_jobs claims =
       subst (λ b. IsRunAtRest p b c.seen j.seen end) (same_books (root1 ∷ others))
@@ -113,10 +123,14 @@ module _ {X : Type 0} (at : X → Sight) where
         count = length-map (root1 ∷ others) at ∙ count;
         tags = subst (CountUp 0) (sym (same_tags (root1 ∷ others))) (subst (λ n. CountUp 0 (n ∷ tags_seen at others)) (sym tag) tags);
         rested = All-map (HasRested p rested.first) at (root1 ∷ others)
-            (All-cons (λ z. HasRested p rested.first (at z)) root1 others (rested_still p rested.first (at root0) (at root1) more (All-head (λ z. HasRested p rested.first (at z)) root0 others rested.rested))
+            (All-cons (λ z. HasRested p rested.first (at z)) root1 others
+            (rested_still p rested.first (at root0) (at root1) more
+            (All-head (λ z. HasRested p rested.first (at z)) root0 others rested.rested))
             (All-tail (λ z. HasRested p rested.first (at z)) root0 others rested.rested));
         known = All-map (KnowsAllOf rested.first) at (root1 ∷ others)
-            (All-cons (λ z. KnowsAllOf rested.first (at z)) root1 others (known_still rested.first (at root0) (at root1) more (All-head (λ z. KnowsAllOf rested.first (at z)) root0 others rested.known))
+            (All-cons (λ z. KnowsAllOf rested.first (at z)) root1 others
+            (known_still rested.first (at root0) (at root1) more
+            (All-head (λ z. KnowsAllOf rested.first (at z)) root0 others rested.known))
             (All-tail (λ z. KnowsAllOf rested.first (at z)) root0 others rested.known));
         brought = All-map (IsBroughtTo p c j) at (root1 ∷ others) (All-cons (λ z. IsBroughtTo p c j (at z)) root1 others root there);
         others = none;
@@ -138,12 +152,17 @@ module _ {X : Type 0} (at : X → Sight) where
       was = All-head (λ z. HasRested p rested.first (at z)) root0 others rested.rested
 
 -- nobody else did anything
-pub none_else : (p : Program) (c c' b : ChannelFloor) (j j' i : Floor) (may_call may_act : ℕ → Bool) → EndedOnChannels c c' b → EndedOnJobs j j' i → IsSpare p b i → KnowsTags p 0 may_call may_act
-    → ((k : ℕ) → may_call k ≡ false → acts_of k c'.seen ≡ []) → ((k : ℕ) → may_act k ≡ false → job_acts_of k j'.seen ≡ []) → ((r k : ℕ) → may_act k ≡ false → r ≢ 0 → is_claimed_by k (j'.claims r) ≡ false) → NoOthers p c' j'
+pub none_else : (p : Program) (c c' b : ChannelFloor) (j j' i : Floor) (may_call may_act : ℕ → Bool) → EndedOnChannels c c' b
+    → EndedOnJobs j j' i → IsSpare p b i → KnowsTags p 0 may_call may_act
+    → ((k : ℕ) → may_call k ≡ false → acts_of k c'.seen ≡ []) → ((k : ℕ) → may_act k ≡ false → job_acts_of k j'.seen ≡ [])
+    → ((r k : ℕ) → may_act k ≡ false → r ≢ 0 → is_claimed_by k (j'.claims r) ≡ false) → NoOthers p c' j'
 none_else p c c' b j j' i may_call may_act calls jobs spare tags none none_jobs unclaimed = record {
-  calls = λ k le. by_place k le (λ k. acts_of k c'.seen ≡ []) (calls.theirs (coroutine_count p) spare.caller ∙ spare.calls) (λ lt. none k (tags refl k lt).0);
-  jobs = λ k le. by_place k le (λ k. job_acts_of k j'.seen ≡ []) (jobs.theirs (coroutine_count p) spare.job_caller ∙ spare.jobs) (λ lt. none_jobs k (tags refl k lt).1);
-  claims = λ r k le n. by_place k le (λ k. is_claimed_by k (j'.claims r) ≡ false) (jobs.their_claims (coroutine_count p) spare.job_caller r ∙ spare.claims r n) (λ lt. unclaimed r k (tags refl k lt).1 n);
+  calls = λ k le. by_place k le (λ k. acts_of k c'.seen ≡ []) (calls.theirs (coroutine_count p) spare.caller
+      ∙ spare.calls) (λ lt. none k (tags refl k lt).0);
+  jobs = λ k le. by_place k le (λ k. job_acts_of k j'.seen ≡ []) (jobs.theirs (coroutine_count p) spare.job_caller
+      ∙ spare.jobs) (λ lt. none_jobs k (tags refl k lt).1);
+  claims = λ r k le n. by_place k le (λ k. is_claimed_by k (j'.claims r) ≡ false) (jobs.their_claims (coroutine_count p) spare.job_caller r
+      ∙ spare.claims r n) (λ lt. unclaimed r k (tags refl k lt).1 n);
 }
   where
     by_place : (k : ℕ) → coroutine_count p ≤ k → (P : ℕ → Type 0) → P (coroutine_count p) → (coroutine_count p < k → P k) → P k

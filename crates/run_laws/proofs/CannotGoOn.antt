@@ -52,14 +52,17 @@ use Rattle.run_laws.proofs.Prefixes.{between_same}
 
 -- what was so at a moment is so at the end
 job_now : (j j' : Floor) (P : Tree → Type 0) → j'.seen ≡ j.seen → AtStep j j' P → P (replay_jobs j'.seen)
-job_now j j' P same step = subst (λ es. P (replay_jobs es)) (between_same j.seen step.moment j'.seen step.after step.before same ∙ sym same) step.holds
+job_now j j' P same step = subst (λ es. P (replay_jobs es)) (between_same j.seen step.moment j'.seen step.after step.before same
+    ∙ sym same) step.holds
 
 channel_now : (c c' : ChannelFloor) (P : State → Type 0) → c'.seen ≡ c.seen → AtChannelStep c c' P → P (replay c'.seen)
-channel_now c c' P same step = subst (λ es. P (replay es)) (between_same c.seen step.moment c'.seen step.after step.before same ∙ sym same) step.holds
+channel_now c c' P same step = subst (λ es. P (replay es)) (between_same c.seen step.moment c'.seen step.after step.before same
+    ∙ sym same) step.holds
 
 -- ---- a coroutine that has not begun
 
-after_begun : (p : Program) (k : ℕ) (x : Config) (i : Instruction) (a : Answer) (y : Config) → is_fresh x.stage ≡ false → After p k x i a y → is_fresh y.stage ≡ false
+after_begun : (p : Program) (k : ℕ) (x : Config) (i : Instruction) (a : Answer) (y : Config) → is_fresh x.stage ≡ false → After p k x i a y
+    → is_fresh y.stage ≡ false
 after_begun = after_stage is_fresh (λ w. refl) (λ failure. refl) refl refl
 
 await_begun : (x : Config) (end : End) (y : Config) → AfterAwait x end y → is_fresh y.stage ≡ false
@@ -72,7 +75,8 @@ end_begun k x s _ _ (AtScopeEnd.waits w) = refl
 end_begun k x s _ _ (AtScopeEnd.closed v) = refl
 end_begun k x s _ _ AtScopeEnd.no_place = refl
 
-scope_begun : (p : Program) (k : ℕ) (x : Config) (s : InScope) (end : End) (y : Config) → AfterScope p k x s end y → is_fresh y.stage ≡ false
+scope_begun : (p : Program) (k : ℕ) (x : Config) (s : InScope) (end : End) (y : Config) → AfterScope p k x s end y
+    → is_fresh y.stage ≡ false
 scope_begun p k x s _ _ (AfterScope.completed v e is) = refl
 scope_begun p k x s _ _ AfterScope.cancelled = refl
 scope_begun p k x s _ _ (AfterScope.failed f) = refl
@@ -118,7 +122,8 @@ begins_empty p _ _ _ n (Begins.child k m) = refl
 -- it noted nothing, but for the root
 fresh_empty : (p : Program) (k : ℕ) (told : List Told) (x : Config) → k ≢ 0 → x.stage ≡ Fresh → Reaches p k told x → items_in told ≡ []
 fresh_empty p k _ _ n e (Reaches.begins group x b) = begins_empty p k group x n b
-fresh_empty p k _ _ n e (Reaches.goes_on before group all x y r m q) = absurd (let no_way : ⊥ = let both_ways : true ≡ false = sym (ap is_fresh e) ∙ move_begun p k x group y m in cc in no_way)
+fresh_empty p k _ _ n e (Reaches.goes_on before group all x y r m q) =
+    absurd (let no_way : ⊥ = let both_ways : true ≡ false = sym (ap is_fresh e) ∙ move_begun p k x group y m in cc in no_way)
 
 -- the root may always run
 not_back : (s : JobState) → GoesTo Active s → s ≢ New
@@ -130,11 +135,7 @@ not_back s (then_goes t _ g step) e = before t s step e
       where
         by_state : (t : JobState) → is_step t New ≡ true → ⊥
         by_state New h = cc
-        by_state Active h = cc
-        by_state Completing h = cc
-        by_state Cancelling h = cc
-        by_state Cancelled h = cc
-        by_state Completed h = cc
+        by_state other h = cc
 
 root_started : (shape : Shape) (history : List JobEntry) → LegalJobs shape history → IsNotStarted (replay_jobs history 0) → ⊥
 unfolding replay_from
@@ -160,14 +161,17 @@ abbrev pub IsLeftOn : ChannelFloor → Floor → Frame → Type 0
 IsLeftOn c j f = IsLeft f.tag f.config f.book (replay c.seen) j.seen f.config.stage
 
 -- the waits of one that stands
-stands_waits : (p : Program) (c : ChannelFloor) (j : Floor) (f : Frame) → Legal (floor_shape p) c.seen → StandsOn p c j f → HasJustTheWait f.tag f.config.stage (replay c.seen)
+stands_waits : (p : Program) (c : ChannelFloor) (j : Floor) (f : Frame) → Legal (floor_shape p) c.seen → StandsOn p c j f
+    → HasJustTheWait f.tag f.config.stage (replay c.seen)
 stands_waits p c j f legal h = just_the_wait p f.tag (seen_by c j) f.book f.config legal h.channel_acts h.runs
 
-waits_alone : (p : Program) (c c' : ChannelFloor) (j : Floor) (f : Frame) (w : WaitId) → Legal (floor_shape p) c'.seen → StandsOn p c' j f → wait_of f.config.stage ≡ Some w → c'.seen ≡ c.seen → HasStood c c' w → WaitsAlone f.tag w (replay c'.seen)
+waits_alone : (p : Program) (c c' : ChannelFloor) (j : Floor) (f : Frame) (w : WaitId) → Legal (floor_shape p) c'.seen → StandsOn p c' j f
+    → wait_of f.config.stage ≡ Some w → c'.seen ≡ c.seen → HasStood c c' w → WaitsAlone f.tag w (replay c'.seen)
 waits_alone p c c' j f w legal h e same stood =
     let just = stands_waits p c' j f legal h in
     record {
-      open_now = standing_open f.tag ((replay c'.seen).waits w) ((just w).1 e) (channel_now c c' (λ s. state_of_wait (s.waits w) ≡ Some state.Standing) same stood);
+      open_now = standing_open f.tag ((replay c'.seen).waits w) ((just w).1 e)
+          (channel_now c c' (λ s. state_of_wait (s.waits w) ≡ Some state.Standing) same stood);
       only = λ v u. same_of v (sym ((just v).0 u) ∙ e);
     }
   where
@@ -180,21 +184,28 @@ not_cancelling (Some j) h e = let both_ways : Active ≡ Cancelling = cc in cc
 
 -- ---- one that is not ready
 
-left_by : (p : Program) (c c' : ChannelFloor) (j j' : Floor) (f : Frame) → Legal (floor_shape p) c'.seen → LegalJobs (job_shape p) j'.seen → StandsOn p c' j' f → c'.seen ≡ c.seen → j'.seen ≡ j.seen → WaitsFor c c' j j' f.tag f.config → IsLeftOn c' j' f
+left_by : (p : Program) (c c' : ChannelFloor) (j j' : Floor) (f : Frame) → Legal (floor_shape p) c'.seen → LegalJobs (job_shape p) j'.seen
+    → StandsOn p c' j' f → c'.seen ≡ c.seen → j'.seen ≡ j.seen → WaitsFor c c' j j' f.tag f.config → IsLeftOn c' j' f
 left_by p c c' j j' f legal legal_jobs h same same_jobs (WaitsFor.waits w e stood ran) =
     subst (IsLeft f.tag f.config f.book (replay c'.seen) j'.seen) (sym e) (
       waits_alone p c c' j' f w legal h (ap wait_of e) same stood,
-      not_cancelling (replay_jobs j'.seen (innermost f.tag f.config)) (job_now j j' (λ tree. IsRunning (tree (innermost f.tag f.config))) same_jobs ran),
+      not_cancelling (replay_jobs j'.seen (innermost f.tag f.config))
+          (job_now j j' (λ tree. IsRunning (tree (innermost f.tag f.config))) same_jobs ran),
     )
 left_by p c c' j j' f legal legal_jobs h same same_jobs (WaitsFor.leaves w e stood) =
     subst (IsLeft f.tag f.config f.book (replay c'.seen) j'.seen) (sym e) (waits_alone p c c' j' f w legal h (ap wait_of e) same stood)
 left_by p c c' j j' f legal legal_jobs h same same_jobs (WaitsFor.not_started e step) =
     let now : IsNotStarted (replay_jobs j'.seen f.tag) = job_now j j' (λ tree. IsNotStarted (tree f.tag)) same_jobs step in
     let child : f.tag ≢ 0 = λ z. root_started (job_shape p) j'.seen legal_jobs (subst (λ n. IsNotStarted (replay_jobs j'.seen n)) z now) in
-    subst (IsLeft f.tag f.config f.book (replay c'.seen) j'.seen) (sym e) (now, sym h.runs.written ∙ fresh_empty p f.tag h.runs.told f.config child e h.runs.reaches)
+    subst (IsLeft f.tag f.config f.book (replay c'.seen) j'.seen) (sym e) (
+      now,
+      sym h.runs.written
+          ∙ fresh_empty p f.tag h.runs.told f.config child e h.runs.reaches,
+    )
 
 -- what one did was done
-did_it : (test : JobAct → Bool) (k : ℕ) (history : List JobEntry) → list_any test (job_acts_of k history) ≡ true → list_any (λ (e : JobEntry). test e.act) history ≡ true
+did_it : (test : JobAct → Bool) (k : ℕ) (history : List JobEntry) → list_any test (job_acts_of k history) ≡ true
+    → list_any (λ (e : JobEntry). test e.act) history ≡ true
 unfolding job_acts_of
 did_it test k [] h = h
 did_it test k (e ∷ es) h = by_test (did_it test k es) (e.who == k) h
@@ -207,14 +218,18 @@ did_it test k (e ∷ es) h = by_test (did_it test k es) (e.who == k) h
     later true q = refl
     later false q = q
 
-    by_test : (list_any test (job_acts_of k es) ≡ true → list_any (λ (e : JobEntry). test e.act) es ≡ true) → (b : Bool) → list_any test (if b then e.act ∷ job_acts_of k es else job_acts_of k es) ≡ true → (test e.act || list_any (λ (e : JobEntry). test e.act) es) ≡ true
+    by_test : (list_any test (job_acts_of k es) ≡ true → list_any (λ (e : JobEntry). test e.act) es ≡ true) → (b : Bool)
+        → list_any test (if b then e.act ∷ job_acts_of k es else job_acts_of k es) ≡ true
+        → (test e.act || list_any (λ (e : JobEntry). test e.act) es) ≡ true
     by_test rest true q = either (test e.act) (list_any test (job_acts_of k es)) (list_any (λ (e : JobEntry). test e.act) es) rest q
     by_test rest false q = later (test e.act) (rest q)
 
-ended_left : (p : Program) (c : ChannelFloor) (j : Floor) (f : Frame) → Legal (floor_shape p) c.seen → LegalJobs (job_shape p) j.seen → StandsOn p c j f → f.config.stage ≡ Ended → IsLeftOn c j f
+ended_left : (p : Program) (c : ChannelFloor) (j : Floor) (f : Frame) → Legal (floor_shape p) c.seen → LegalJobs (job_shape p) j.seen
+    → StandsOn p c j f → f.config.stage ≡ Ended → IsLeftOn c j f
 ended_left p c j f legal legal_jobs h e =
     let did : list_any (ends_body f.tag) (job_acts_of f.tag j.seen) ≡ true =
-    runs_ends p f.tag (seen_by c j) f.book f.config (record { legal = legal_jobs; acts = h.job_acts; runs = h.runs; low = h.in_run }) ∙ ap is_over e in
+    runs_ends p f.tag (seen_by c j) f.book f.config (record { legal = legal_jobs; acts = h.job_acts; runs = h.runs; low = h.in_run })
+    ∙ ap is_over e in
     let just = stands_waits p c j f legal h in
     subst (IsLeft f.tag f.config f.book (replay c.seen) j.seen) (sym e)
     (did_it (ends_body f.tag) f.tag j.seen did, λ v u. none v (sym (ap wait_of e) ∙ (just v).0 u))
@@ -222,8 +237,10 @@ ended_left p c j f legal legal_jobs h e =
     none : (v : WaitId) → None ≡ Some v → ⊥
     none v q = cc
 
-pub cannot_go_on : (p : Program) (c c' : ChannelFloor) (j j' : Floor) (f g : Frame) (told : List Told) (answer : Turn) → Legal (floor_shape p) c'.seen → LegalJobs (job_shape p) j'.seen → StandsOn p c' j' g → c'.seen ≡ c.seen → j'.seen ≡ j.seen
+pub cannot_go_on : (p : Program) (c c' : ChannelFloor) (j j' : Floor) (f g : Frame) (told : List Told) (answer : Turn)
+    → Legal (floor_shape p) c'.seen → LegalJobs (job_shape p) j'.seen → StandsOn p c' j' g → c'.seen ≡ c.seen → j'.seen ≡ j.seen
     → TurnAnswer p c c' j j' f g told answer → answer ≢ turn.Ready → IsLeftOn c' j' g
 cannot_go_on p c c' j j' f g told turn.Ended legal legal_jobs h same same_jobs a n = ended_left p c' j' g legal legal_jobs h a
-cannot_go_on p c c' j j' f g told turn.Waits legal legal_jobs h same same_jobs a n = left_by p c c' j j' g legal legal_jobs h same same_jobs a
+cannot_go_on p c c' j j' f g told turn.Waits legal legal_jobs h same same_jobs a n =
+    left_by p c c' j j' g legal legal_jobs h same same_jobs a
 cannot_go_on p c c' j j' f g told turn.Ready legal legal_jobs h same same_jobs a n = absurd (n refl)

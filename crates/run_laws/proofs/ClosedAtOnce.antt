@@ -66,34 +66,17 @@ act_unclosed base row (Close c v) e = apart base row c e
     apart : (base row c : ℕ) → not (nat_le base c) ≡ true → (c == (base + row)) ≡ false
     apart base row c e = grind (arith, nat_tests)
 act_unclosed base row (Hand c q v) e = refl
-act_unclosed base row (Put c q v) e = refl
-act_unclosed base row (Offer c q v w n) e = refl
-act_unclosed base row (Await c q w n) e = refl
-act_unclosed base row (Take c q v) e = refl
-act_unclosed base row (Admit c q) e = refl
-act_unclosed base row (Drop c q v) e = refl
-act_unclosed base row (Spurn c q v) e = refl
-act_unclosed base row (Void c) e = refl
-act_unclosed base row (Drain c q v) e = refl
-act_unclosed base row (WakeClosed c q) e = refl
-act_unclosed base row (Withdraw w why) e = refl
-act_unclosed base row (Settle w outcome) e = refl
+act_unclosed base row other e = refl
 
-note_unclosed : (base row : ℕ) (n : ChannelNote) (more : List Item) → is_gentle_call base n ≡ true → closings (base + row) (item.Channel n ∷ more) ≡ closings (base + row) more
-note_unclosed base row (heard_as.Made act) more e = ap (λ b. cond b 1 0 + closings (base + row) more) (act_unclosed base row act e) ∙ none_here (closings (base + row) more)
+note_unclosed : (base row : ℕ) (n : ChannelNote) (more : List Item) → is_gentle_call base n ≡ true
+    → closings (base + row) (item.Channel n ∷ more) ≡ closings (base + row) more
+note_unclosed base row (heard_as.Made act) more e = ap (λ b. cond b 1 0 + closings (base + row) more) (act_unclosed base row act e)
+    ∙ none_here (closings (base + row) more)
 note_unclosed base row (heard_as.SendClosed c u v) more e = refl
-note_unclosed base row (heard_as.TrySendClosed c u v) more e = refl
-note_unclosed base row (heard_as.ReceiveClosed c v) more e = refl
-note_unclosed base row (heard_as.TryReceiveClosed c v) more e = refl
-note_unclosed base row (heard_as.AlreadyClosed c v) more e = refl
-note_unclosed base row (heard_as.Full c u) more e = refl
-note_unclosed base row (heard_as.Empty c) more e = refl
-note_unclosed base row (heard_as.Spent c) more e = refl
-note_unclosed base row (heard_as.Partner c q) more e = refl
-note_unclosed base row (heard_as.MainResolved w) more e = refl
-note_unclosed base row (heard_as.Late w) more e = refl
+note_unclosed base row other more e = refl
 
-gentle_closings : (base row : ℕ) (i : Item) (more : List Item) → is_gentle base i ≡ true → closings (base + row) (i ∷ more) ≡ closings (base + row) more
+gentle_closings : (base row : ℕ) (i : Item) (more : List Item) → is_gentle base i ≡ true
+    → closings (base + row) (i ∷ more) ≡ closings (base + row) more
 gentle_closings base row (item.Channel n) more e = note_unclosed base row n more e
 gentle_closings base row (item.Job n) more e = refl
 
@@ -105,14 +88,12 @@ act_unfinished row (Cancel q reason) e = refl
 act_unfinished row (Finish q end) e = cc
 act_unfinished row (Gone q) e = refl
 
-note_unfinished : (row : ℕ) (n : JobNote) (more : List Item) → is_gentle_note n ≡ true → finishings row (item.Job n ∷ more) ≡ finishings row more
-note_unfinished row (known.Made act) more e = ap (λ b. cond b 1 0 + finishings row more) (act_unfinished row act e) ∙ none_here (finishings row more)
+note_unfinished : (row : ℕ) (n : JobNote) (more : List Item) → is_gentle_note n ≡ true
+    → finishings row (item.Job n ∷ more) ≡ finishings row more
+note_unfinished row (known.Made act) more e = ap (λ b. cond b 1 0 + finishings row more) (act_unfinished row act e)
+    ∙ none_here (finishings row more)
 note_unfinished row (known.Saw r) more e = refl
-note_unfinished row (known.SawEnd r end) more e = refl
-note_unfinished row (known.Fail code) more e = refl
-note_unfinished row known.NoRow more e = refl
-note_unfinished row known.Used more e = refl
-note_unfinished row known.ParentEnded more e = refl
+note_unfinished row other more e = refl
 
 gentle_finishings : (base row : ℕ) (i : Item) (more : List Item) → is_gentle base i ≡ true → finishings row (i ∷ more) ≡ finishings row more
 gentle_finishings base row (item.Channel n) more e = refl
@@ -131,7 +112,8 @@ few base row _ (ClosesDones.gentle i more e h) =
     omega (arith, c, f, less)
 few base row _ (ClosesDones.closes r end more h) = by_same _ (shifted base r row) (few base row more h)
   where
-    by_same : (b : Bool) → b ≡ (row == r) → closings (base + row) more ≤ finishings row more → cond b 1 0 + closings (base + row) more ≤ cond (row == r) 1 0 + finishings row more
+    by_same : (b : Bool) → b ≡ (row == r) → closings (base + row) more ≤ finishings row more
+        → cond b 1 0 + closings (base + row) more ≤ cond (row == r) 1 0 + finishings row more
     by_same b e less = let same : ◌≡◌ {A = ℕ} (cond b 1 0) (cond (row == r) 1 0) = ap (λ x. cond x 1 0) e in omega (arith, same, less)
 few base row _ (ClosesDones.had_been r end v more h) = let less = few base row more h in omega (arith, less)
 
@@ -177,7 +159,8 @@ closes_or_misses base _ (ClosesDones.gentle i more e h) = ⊎_elim
       before = i ∷ m.before;
       after = m.after;
       parts = ap (λ l. i ∷ l) m.parts;
-      more = let c = gentle_closings base m.row i more e in let f = gentle_finishings base m.row i more e in let less = m.more in omega (arith, c, f, less);
+      more = let c = gentle_closings base m.row i more e in let f = gentle_finishings base m.row i more e in let less = m.more
+          in omega (arith, c, f, less);
     }))
     (λ (c : ClosesAtOnce base more). inr (gentle_next base i more e, c))
     (closes_or_misses base more h)
@@ -194,7 +177,8 @@ closes_or_misses base _ (ClosesDones.closes r end more h) = ⊎_elim
     (λ (c : ClosesAtOnce base more). inr (refl, (tt, c)))
     (closes_or_misses base more h)
   where
-    by_same : (row : ℕ) (b : Bool) → b ≡ (row == r) → closings (base + row) more + 1 ≤ finishings row more → cond b 1 0 + closings (base + row) more + 1 ≤ cond (row == r) 1 0 + finishings row more
+    by_same : (row : ℕ) (b : Bool) → b ≡ (row == r) → closings (base + row) more + 1 ≤ finishings row more
+        → cond b 1 0 + closings (base + row) more + 1 ≤ cond (row == r) 1 0 + finishings row more
     by_same row b e less = let same : ◌≡◌ {A = ℕ} (cond b 1 0) (cond (row == r) 1 0) = ap (λ x. cond x 1 0) e in omega (arith, same, less)
 closes_or_misses base _ (ClosesDones.had_been r end v more h) = inl (record {
   row = r;
@@ -203,7 +187,8 @@ closes_or_misses base _ (ClosesDones.had_been r end v more h) = inl (record {
   before = finish_note r end ∷ [];
   after = more;
   parts = refl;
-  more = let less = few base r more h in let one : ◌≡◌ {A = ℕ} (cond (r == r) 1 0) 1 = ap (λ x. cond x 1 0) (same_row r) in omega (arith, less, one);
+  more = let less = few base r more h in let one : ◌≡◌ {A = ℕ} (cond (r == r) 1 0) 1 = ap (λ x. cond x 1 0) (same_row r)
+      in omega (arith, less, one);
 })
 
 -- ---- who did it
@@ -213,12 +198,14 @@ of_none true n e = absurd (omega (arith, e))
 of_none false n e = refl
 
 -- what nobody did is not in the history
-zero_from_each : (test : Act → Bool) (es : List Entry) → ((u : ℕ) → how_many test (acts_of u es) ≡ 0) → how_many (λ (e : Entry). test e.act) es ≡ 0
+zero_from_each : (test : Act → Bool) (es : List Entry) → ((u : ℕ) → how_many test (acts_of u es) ≡ 0)
+    → how_many (λ (e : Entry). test e.act) es ≡ 0
 unfolding acts_of
 zero_from_each test [] h = refl
 zero_from_each test (e ∷ es) h =
     let rest = zero_from_each test es (λ u. later u (e.who == u) (h u)) in
-    ap (λ b. cond b 1 0 + how_many (λ (x : Entry). test x.act) es) (own (e.who == e.who) (eq-eqb e.who e.who refl) (h e.who)) ∙ none_here _ ∙ rest
+    ap (λ b. cond b 1 0 + how_many (λ (x : Entry). test x.act) es) (own (e.who == e.who) (eq-eqb e.who e.who refl) (h e.who)) ∙ none_here _
+    ∙ rest
   where
     own : (b : Bool) → b ≡ true → how_many test (if b then e.act ∷ acts_of e.who es else acts_of e.who es) ≡ 0 → test e.act ≡ false
     own true f g = of_none (test e.act) (how_many test (acts_of e.who es)) g
@@ -228,22 +215,28 @@ zero_from_each test (e ∷ es) h =
     later u true g = omega (arith, g)
     later u false g = g
 
-one_part : (test : JobAct → Bool) (k : ℕ) (es : List JobEntry) → how_many test (job_acts_of k es) ≤ how_many (λ (e : JobEntry). test e.act) es
+one_part : (test : JobAct → Bool) (k : ℕ) (es : List JobEntry)
+    → how_many test (job_acts_of k es) ≤ how_many (λ (e : JobEntry). test e.act) es
 unfolding job_acts_of
 one_part test k [] = omega arith
 one_part test k (e ∷ es) = by_who (e.who == k) (one_part test k es)
   where
-    by_who : (b : Bool) → how_many test (job_acts_of k es) ≤ how_many (λ (x : JobEntry). test x.act) es → how_many test (if b then e.act ∷ job_acts_of k es else job_acts_of k es) ≤ cond (test e.act) 1 0 + how_many (λ (x : JobEntry). test x.act) es
+    by_who : (b : Bool) → how_many test (job_acts_of k es) ≤ how_many (λ (x : JobEntry). test x.act) es
+        → how_many test (if b then e.act ∷ job_acts_of k es else job_acts_of k es) ≤ cond (test e.act) 1 0 + how_many
+        (λ (x : JobEntry). test x.act) es
     by_who true h = omega (arith, h)
     by_who false h = omega (arith, h)
 
-two_parts : (test : JobAct → Bool) (u k : ℕ) (es : List JobEntry) → u ≢ k → how_many test (job_acts_of u es) + how_many test (job_acts_of k es) ≤ how_many (λ (e : JobEntry). test e.act) es
+two_parts : (test : JobAct → Bool) (u k : ℕ) (es : List JobEntry) → u ≢ k
+    → how_many test (job_acts_of u es) + how_many test (job_acts_of k es) ≤ how_many (λ (e : JobEntry). test e.act) es
 unfolding job_acts_of
 two_parts test u k [] n = omega arith
 two_parts test u k (e ∷ es) n = by_who (e.who == u) refl (e.who == k) refl (two_parts test u k es n)
   where
-    by_who : (a : Bool) → (e.who == u) ≡ a → (b : Bool) → (e.who == k) ≡ b → how_many test (job_acts_of u es) + how_many test (job_acts_of k es) ≤ how_many (λ (x : JobEntry). test x.act) es
-        → how_many test (if a then e.act ∷ job_acts_of u es else job_acts_of u es) + how_many test (if b then e.act ∷ job_acts_of k es else job_acts_of k es) ≤ cond (test e.act) 1 0 + how_many (λ (x : JobEntry). test x.act) es
+    by_who : (a : Bool) → (e.who == u) ≡ a → (b : Bool) → (e.who == k) ≡ b
+        → how_many test (job_acts_of u es) + how_many test (job_acts_of k es) ≤ how_many (λ (x : JobEntry). test x.act) es
+        → how_many test (if a then e.act ∷ job_acts_of u es else job_acts_of u es) + how_many test
+        (if b then e.act ∷ job_acts_of k es else job_acts_of k es) ≤ cond (test e.act) 1 0 + how_many (λ (x : JobEntry). test x.act) es
     by_who true f true g h = absurd (n (sym (eqb-true e.who u f) ∙ eqb-true e.who k g))
     by_who true f false g h = omega (arith, h)
     by_who false f true g h = omega (arith, h)
@@ -253,32 +246,46 @@ counted : (row : ℕ) (es : List JobEntry) → count_of finishes row es ≡ how_
 counted row [] = refl
 counted row (e ∷ es) = by_test (finishes row e.act) refl (counted row es)
   where
-    by_test : (b : Bool) → finishes row e.act ≡ b → count_of finishes row es ≡ how_many (λ (x : JobEntry). finishes row x.act) es → count_of finishes row (e ∷ es) ≡ cond (finishes row e.act) 1 0 + how_many (λ (x : JobEntry). finishes row x.act) es
-    by_test true f h = count-cons finishes row e es true f ∙ ap (λ n. 1 + n) h ∙ ap (λ b. cond b 1 0 + how_many (λ (x : JobEntry). finishes row x.act) es) (sym f)
-    by_test false f h = count-cons finishes row e es false f ∙ ap (λ n. 0 + n) h ∙ ap (λ b. cond b 1 0 + how_many (λ (x : JobEntry). finishes row x.act) es) (sym f)
+    by_test : (b : Bool) → finishes row e.act ≡ b → count_of finishes row es ≡ how_many (λ (x : JobEntry). finishes row x.act) es
+        → count_of finishes row (e ∷ es) ≡ cond (finishes row e.act) 1 0 + how_many (λ (x : JobEntry). finishes row x.act) es
+    by_test true f h = count-cons finishes row e es true f ∙ ap (λ n. 1 + n) h
+        ∙ ap (λ b. cond b 1 0 + how_many (λ (x : JobEntry). finishes row x.act) es) (sym f)
+    by_test false f h = count-cons finishes row e es false f ∙ ap (λ n. 0 + n) h
+        ∙ ap (λ b. cond b 1 0 + how_many (λ (x : JobEntry). finishes row x.act) es) (sym f)
 
-finished_once : (shape : Shape) (jobs : List JobEntry) (row : ℕ) → LegalJobs shape jobs → how_many (λ (e : JobEntry). finishes row e.act) jobs ≤ 1
+finished_once : (shape : Shape) (jobs : List JobEntry) (row : ℕ) → LegalJobs shape jobs
+    → how_many (λ (e : JobEntry). finishes row e.act) jobs ≤ 1
 finished_once shape jobs row l = let once = (each_once shape jobs row l).finish in let same = counted row jobs in omega (arith, once, same)
 
 -- ---- what a note says was so
 
-note_so : (s : Story) (items : List Item) (earlier : Moment) (told : List Told) (i : Item) (before after : List Item) → IsTrue s items earlier told → items_in told ≡ before ++ i ∷ after
+note_so : (s : Story) (items : List Item) (earlier : Moment) (told : List Told) (i : Item) (before after : List Item)
+    → IsTrue s items earlier told → items_in told ≡ before ++ i ∷ after
     → (at : Moment) × IsBy at s.now × NoteHolds s.shape i (replay at.channels) (replay_jobs at.jobs)
 unfolding items_in IsTrue
 note_so s items earlier [] i before after h e = absurd (not_empty before after i e)
-note_so s items earlier (note x ∷ told) i [] after h e = (h.0, h.1.not_after, subst (λ y. NoteHolds s.shape y (replay h.0.channels) (replay_jobs h.0.jobs)) (same_tail x i (items_in told) after e).0 h.1.holds)
-note_so s items earlier (note x ∷ told) i (b ∷ before) after h e = note_so s (items ++ x ∷ []) h.0 told i before after h.2 (same_tail x b (items_in told) (before ++ i ∷ after) e).1
+note_so s items earlier (note x ∷ told) i [] after h e = (
+  h.0,
+  h.1.not_after,
+  subst (λ y. NoteHolds s.shape y (replay h.0.channels) (replay_jobs h.0.jobs))
+      (same_tail x i (items_in told) after e).0 h.1.holds,
+)
+note_so s items earlier (note x ∷ told) i (b ∷ before) after h e =
+    note_so s (items ++ x ∷ []) h.0 told i before after h.2 (same_tail x b (items_in told) (before ++ i ∷ after) e).1
 note_so s items earlier (on_channels fact ∷ told) i before after h e = note_so s items h.0 told i before after h.2 e
 note_so s items earlier (on_jobs fact ∷ told) i before after h e = note_so s items h.0 told i before after h.2 e
 
 -- ---- the run
 
-dones_of : (p : Program) (books : List (List Item)) (channels : List Entry) (jobs : List JobEntry) → IsProgram p → AreParts p books channels jobs → (k : ℕ) → k < coroutine_count p → ClosesDones (base_of p) (book_at k books)
+dones_of : (p : Program) (books : List (List Item)) (channels : List Entry) (jobs : List JobEntry) → IsProgram p
+    → AreParts p books channels jobs → (k : ℕ) → k < coroutine_count p → ClosesDones (base_of p) (book_at k books)
 dones_of p books channels jobs ok parts k lt =
     let runs = parts.runs k lt in
     let now : Moment = record { channels = channels; jobs = jobs } in
     subst (ClosesDones (base_of p)) runs.written
-    (reach_told p k (parents_in jobs) runs.told (parts.ends_at k) ok (all_known (job_shape p) k jobs [] runs.told parts.legal_jobs (true_so (story p k now) [] beginning runs.told runs.is_true)) runs.reaches)
+    (reach_told p k (parents_in jobs) runs.told (parts.ends_at k) ok
+    (all_known (job_shape p) k jobs [] runs.told parts.legal_jobs (true_so (story p k now) [] beginning runs.told runs.is_true))
+    runs.reaches)
 
 -- past the last coroutine there is no book
 pub no_book : (books : List (List Item)) (k : ℕ) → length books ≤ k → book_at k books ≡ []
@@ -289,9 +296,11 @@ no_book (b ∷ books) (suc k) le = no_book books k (omega (arith, le))
 closes_none : (base : ℕ) → ClosesAtOnce base []
 closes_none base = tt
 
-closes_of : (p : Program) (books : List (List Item)) (channels : List Entry) (jobs : List JobEntry) → IsProgram p → AreParts p books channels jobs → (k : ℕ) → k < coroutine_count p → ClosesAtOnce (base_of p) (book_at k books)
+closes_of : (p : Program) (books : List (List Item)) (channels : List Entry) (jobs : List JobEntry) → IsProgram p
+    → AreParts p books channels jobs → (k : ℕ) → k < coroutine_count p → ClosesAtOnce (base_of p) (book_at k books)
 closes_of p books channels jobs ok parts k lt =
-    ⊎_elim (λ (m : Misses (base_of p) (book_at k books)). absurd (never m)) (λ (c : ClosesAtOnce (base_of p) (book_at k books)). c) (closes_or_misses (base_of p) (book_at k books) (dones_of p books channels jobs ok parts k lt))
+    ⊎_elim (λ (m : Misses (base_of p) (book_at k books)). absurd (never m)) (λ (c : ClosesAtOnce (base_of p) (book_at k books)). c)
+    (closes_or_misses (base_of p) (book_at k books) (dones_of p books channels jobs ok parts k lt))
   where
     never : Misses (base_of p) (book_at k books) → ⊥
     never m = contrary
@@ -303,14 +312,16 @@ closes_of p books channels jobs ok parts k lt =
         once = finished_once (job_shape p) jobs m.row parts.legal_jobs
 
         mine : finishings m.row (book_at k books) ≤ 1
-        mine = let part = one_part (finishes m.row) k jobs in let is = ap (how_many (finishes m.row)) (parts.job_parts k) in omega (arith, part, is, once)
+        mine = let part = one_part (finishes m.row) k jobs in let is = ap (how_many (finishes m.row)) (parts.job_parts k)
+            in omega (arith, part, is, once)
 
         -- nobody closed it
         unclosed : (u : ℕ) → how_many (closes d) (acts_of u channels) ≡ 0
         unclosed u = ap (how_many (closes d)) (parts.channel_parts u) ∙ by_range (nat_lt u (coroutine_count p)) refl
           where
             own : u ≡ k → closings d (book_at u books) ≡ 0
-            own e = let more = m.more in let same : closings d (book_at u books) ≡ closings d (book_at k books) = ap (λ n. closings d (book_at n books)) e in omega (arith, more, mine, same)
+            own e = let more = m.more in let same : closings d (book_at u books) ≡ closings d (book_at k books) =
+                ap (λ n. closings d (book_at n books)) e in omega (arith, more, mine, same)
 
             other : u ≢ k → u < coroutine_count p → closings d (book_at u books) ≡ 0
             other n below =
@@ -343,11 +354,13 @@ closes_of p books channels jobs ok parts k lt =
         runs = parts.runs k lt
 
         so : (at : Moment) × IsBy at (record { channels = channels; jobs = jobs }) × IsClosedWith d m.value (replay at.channels)
-        so = note_so (story p k (record { channels = channels; jobs = jobs })) [] beginning runs.told (had_closed d m.value) m.before m.after runs.is_true (runs.written ∙ m.parts)
+        so = note_so (story p k (record { channels = channels; jobs = jobs })) [] beginning runs.told (had_closed d m.value) m.before
+            m.after runs.is_true (runs.written ∙ m.parts)
 
         closed : is_some ((replay channels).channels d).closed ≡ true
         closed = ap is_some (subst (λ es. ((replay es).channels d).closed ≡ Some m.value) so.1.channels.1
-            (closed_later (floor_shape p) so.0.channels so.1.channels.0 d m.value (subst (Legal (floor_shape p)) (sym so.1.channels.1) parts.legal_channels) so.2))
+            (closed_later (floor_shape p) so.0.channels so.1.channels.0 d m.value
+            (subst (Legal (floor_shape p)) (sym so.1.channels.1) parts.legal_channels) so.2))
 
         contrary : ⊥
         contrary =
@@ -356,7 +369,8 @@ closes_of p books channels jobs ok parts k lt =
             omega (arith, one, none)
 
 -- right behind each Finish stands the Close of its done channel
-pub closes_always : (p : Program) (books : List (List Item)) (channels : List Entry) (jobs : List JobEntry) → IsProgram p → AreParts p books channels jobs → (k : ℕ) → ClosesAtOnce (base_of p) (book_at k books)
+pub closes_always : (p : Program) (books : List (List Item)) (channels : List Entry) (jobs : List JobEntry) → IsProgram p
+    → AreParts p books channels jobs → (k : ℕ) → ClosesAtOnce (base_of p) (book_at k books)
 closes_always p books channels jobs ok parts k = by_test (nat_lt k (coroutine_count p)) refl
   where
     by_test : (b : Bool) → nat_lt k (coroutine_count p) ≡ b → ClosesAtOnce (base_of p) (book_at k books)

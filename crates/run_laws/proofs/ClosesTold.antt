@@ -58,7 +58,8 @@ closes_then base _ ys (ClosesDones.had_been row end v more h) k = ClosesDones.ha
 
 gentle_closes : (base : ℕ) (items : List Item) → list_all (is_gentle base) items ≡ true → ClosesDones base items
 gentle_closes base [] h = ClosesDones.none
-gentle_closes base (i ∷ items) h = let two = both (is_gentle base i) (list_all (is_gentle base) items) h in ClosesDones.gentle i items two.0 (gentle_closes base items two.1)
+gentle_closes base (i ∷ items) h = let two = both (is_gentle base i) (list_all (is_gentle base) items) h
+    in ClosesDones.gentle i items two.0 (gentle_closes base items two.1)
 
 -- ---- what is told
 
@@ -110,10 +111,14 @@ wakes_told : (base c : ℕ) (wakes : List Told) → Wakes c wakes → DonesTold 
 wakes_told base c wakes w = gentle_told base wakes (wakes_all (is_gentle base) (gentle_allows base) c wakes w)
 
 -- behind a Finish its done channel is closed
-finish_told : (base row : ℕ) (end : End) (closing more : List Told) → Closes (done_channel base row) (value_of end) closing → DonesTold base more → DonesTold base (did (Finish row end) ∷ (closing ++ more))
+finish_told : (base row : ℕ) (end : End) (closing more : List Told) → Closes (done_channel base row) (value_of end) closing
+    → DonesTold base more → DonesTold base (did (Finish row end) ∷ (closing ++ more))
 unfolding items_in
-finish_told base row end _ more (Closes.now wakes w) k = ClosesDones.closes row end (items_in (wakes ++ more)) (told_then base wakes more (wakes_told base (done_channel base row) wakes w) k)
-finish_told base row end _ more (Closes.before u wakes w) k = ClosesDones.had_been row end u (items_in (wakes ++ more)) (told_then base wakes more (wakes_told base (done_channel base row) wakes w) k)
+finish_told base row end _ more (Closes.now wakes w) k =
+    ClosesDones.closes row end (items_in (wakes ++ more)) (told_then base wakes more (wakes_told base (done_channel base row) wakes w) k)
+finish_told base row end _ more (Closes.before u wakes w) k =
+    ClosesDones.had_been row end u (items_in (wakes ++ more))
+    (told_then base wakes more (wakes_told base (done_channel base row) wakes w) k)
 
 nothing_told : (base : ℕ) → DonesTold base []
 nothing_told base = gentle_told base [] (all_none (is_gentle base))
@@ -132,24 +137,29 @@ no_more xs = append-nil xs
 
 chain_told : (base row : ℕ) (group : List Told) → Chain base row group → DonesTold base group
 chain_told base _ _ (Chain.stops row) = fact_told base _ [] (nothing_told base)
-chain_told base _ _ (Chain.root end closing c) = told_as base _ (did (Finish 0 end) ∷ (closing ++ [])) (ap (λ l. did (Finish 0 end) ∷ l) (sym (no_more closing))) (finish_told base 0 end closing [] c (nothing_told base))
+chain_told base _ _ (Chain.root end closing c) = told_as base _ (did (Finish 0 end) ∷ (closing ++ []))
+    (ap (λ l. did (Finish 0 end) ∷ l) (sym (no_more closing))) (finish_told base 0 end closing [] c (nothing_told base))
 chain_told base row group (Chain.goes_up _ parent end closing more _ n c h e) =
-    told_as base group _ e (finish_told base row end closing (did (Gone row) ∷ on_jobs (ParentIs row parent) ∷ more) c (deed_told base (Gone row) _ refl (fact_told base _ more (chain_told base parent more h))))
+    told_as base group _ e (finish_told base row end closing (did (Gone row) ∷ on_jobs (ParentIs row parent) ∷ more) c
+    (deed_told base (Gone row) _ refl (fact_told base _ more (chain_told base parent more h))))
 
 ends_told : (base row v : ℕ) (group : List Told) → EndsBody base row v group → DonesTold base group
 ends_told base row v _ (EndsBody.ends_body chain c) = deed_told base (EndBody row v) chain refl (chain_told base row chain c)
 
-breaks_told : (base : ℕ) (parents : Parents) (k row : ℕ) (failure : Option ℕ) (group : List Told) → AllKnown parents group → BreaksOff base k row failure group → DonesTold base group
+breaks_told : (base : ℕ) (parents : Parents) (k row : ℕ) (failure : Option ℕ) (group : List Told) → AllKnown parents group
+    → BreaksOff base k row failure group → DonesTold base group
 breaks_told base parents k row failure group known b =
     let parts = subst (AllKnown parents) b.all known in
     told_as base group _ b.all (told_then base b.cancels (on_jobs (IsCancelling row) ∷ b.end)
-    (gentle_told base b.cancels (breaks_all (is_gentle base) (gentle_allows base) parents k row failure b.cancels (known_left parents b.cancels (on_jobs (IsCancelling row) ∷ b.end) parts) b.breaks))
+    (gentle_told base b.cancels (breaks_all (is_gentle base) (gentle_allows base) parents k row failure b.cancels
+    (known_left parents b.cancels (on_jobs (IsCancelling row) ∷ b.end) parts) b.breaks))
     (fact_told base _ b.end (ends_told base row 0 b.end b.ends)))
 
 -- ---- moves
 
 -- a line names a declared channel
-declared : (p : Program) (k i : ℕ) (l : Instruction) → IsProgram p → slice_get (code_of p k) i ≡ Some l → names_channel (length p.channels) l ≡ true
+declared : (p : Program) (k i : ℕ) (l : Instruction) → IsProgram p → slice_get (code_of p k) i ≡ Some l
+    → names_channel (length p.channels) l ≡ true
 declared p k i l ok at = test_at (names_channel (length p.channels)) (code_of p k) i l (channels_known p k ok) at
 
 low : (n c : ℕ) → nat_lt c n ≡ true → c < n
@@ -158,50 +168,79 @@ low n c e = grind (arith, nat_tests)
 plain_told : (base : ℕ) (call : Call) (group : List Told) (a : Answer) → PlainCall call group a → DonesTold base group
 plain_told base call group a h = gentle_told base group (plain_all (is_gentle base) (gentle_allows base) call group a (λ e. refl) h)
 
-line_told : (p : Program) (k : ℕ) (x : Config) (i : Instruction) (group : List Told) (a : Answer) → LineCalls p k x i group a → DonesTold (base_of p) group
+line_told : (p : Program) (k : ℕ) (x : Config) (i : Instruction) (group : List Told) (a : Answer) → LineCalls p k x i group a
+    → DonesTold (base_of p) group
 line_told p k x _ _ _ (LineCalls.send c o g a h) = plain_told (base_of p) _ g a h
 line_told p k x _ _ _ (LineCalls.receive c g a h) = plain_told (base_of p) _ g a h
 line_told p k x _ _ _ (LineCalls.each c g a h) = plain_told (base_of p) _ g a h
-line_told p k x _ _ _ (LineCalls.trysend c o g a h) = gentle_told (base_of p) g (try_all (is_gentle (base_of p)) (gentle_allows (base_of p)) _ g a (λ e. refl) h)
-line_told p k x _ _ _ (LineCalls.tryreceive c g a h) = gentle_told (base_of p) g (try_all (is_gentle (base_of p)) (gentle_allows (base_of p)) _ g a (λ e. refl) h)
-line_told p k x _ _ _ (LineCalls.select g a h) = gentle_told (base_of p) g (select_all (is_gentle (base_of p)) (gentle_allows (base_of p)) _ g a (all_spent (base_of p) (clauses_at p k x)) h)
-line_told p k x _ _ _ (LineCalls.join job row g a n h) = fact_told (base_of p) _ g (gentle_told (base_of p) g (both_all (is_gentle (base_of p)) (gentle_allows (base_of p)) p row g a (λ e. refl) h))
-line_told p k x _ _ _ (LineCalls.await job row g a n h) = gentle_told (base_of p) g (both_all (is_gentle (base_of p)) (gentle_allows (base_of p)) p row g a (λ e. refl) h)
+line_told p k x _ _ _ (LineCalls.trysend c o g a h) = gentle_told (base_of p) g
+    (try_all (is_gentle (base_of p)) (gentle_allows (base_of p)) _ g a (λ e. refl) h)
+line_told p k x _ _ _ (LineCalls.tryreceive c g a h) = gentle_told (base_of p) g
+    (try_all (is_gentle (base_of p)) (gentle_allows (base_of p)) _ g a (λ e. refl) h)
+line_told p k x _ _ _ (LineCalls.select g a h) = gentle_told (base_of p) g
+    (select_all (is_gentle (base_of p)) (gentle_allows (base_of p)) _ g a (all_spent (base_of p) (clauses_at p k x)) h)
+line_told p k x _ _ _ (LineCalls.join job row g a n h) =
+    fact_told (base_of p) _ g (gentle_told (base_of p) g (both_all (is_gentle (base_of p)) (gentle_allows (base_of p)) p row g a (λ e. refl)
+    h))
+line_told p k x _ _ _ (LineCalls.await job row g a n h) =
+    gentle_told (base_of p) g (both_all (is_gentle (base_of p)) (gentle_allows (base_of p)) p row g a (λ e. refl) h)
 
-move_told : (p : Program) (k : ℕ) (parents : Parents) (x : Config) (group : List Told) (y : Config) → IsProgram p → AllKnown parents group → Move p k x group y → DonesTold (base_of p) group
+move_told : (p : Program) (k : ℕ) (parents : Parents) (x : Config) (group : List Told) (y : Config) → IsProgram p → AllKnown parents group
+    → Move p k x group y → DonesTold (base_of p) group
 move_told p k parents _ _ _ ok q (Move.runs x s) = fact_told (base_of p) _ [] (nothing_told (base_of p))
-move_told p k parents _ _ _ ok q (Move.never_runs x s) = gentle_told (base_of p) _ (saw_all (is_gentle (base_of p)) (gentle_allows (base_of p)) _ [] (all_none (is_gentle (base_of p))))
+move_told p k parents _ _ _ ok q (Move.never_runs x s) =
+    gentle_told (base_of p) _ (saw_all (is_gentle (base_of p)) (gentle_allows (base_of p)) _ [] (all_none (is_gentle (base_of p))))
 move_told p k parents _ _ _ ok q (Move.calls x y i g a at h f) = line_told p k x i g a h
-move_told p k parents _ _ _ ok q (Move.resumes x y w i outcome a s at m f) = gentle_told (base_of p) _ (resumed_all (is_gentle (base_of p)) (gentle_allows (base_of p)) w outcome _)
-move_told p k parents _ _ _ ok q (Move.cancelled x w s) = gentle_told (base_of p) _ (taken_back_all (is_gentle (base_of p)) (gentle_allows (base_of p)) w _)
-move_told p k parents _ _ _ ok q (Move.gives_up x w g s h) = gentle_told (base_of p) _ (saw_all (is_gentle (base_of p)) (gentle_allows (base_of p)) _ g (gives_up_all (is_gentle (base_of p)) (gentle_allows (base_of p)) w g h))
-move_told p k parents _ _ _ ok q (Move.sees_job x y job row end s at n f) = gentle_told (base_of p) _ (saw_end_all (is_gentle (base_of p)) (gentle_allows (base_of p)) row end)
-move_told p k parents _ _ _ ok q (Move.closes x c g at h) = gentle_told (base_of p) g (closes_all (is_gentle (base_of p)) (gentle_allows (base_of p)) c 0 g (below_dones (base_of p) c (low (base_of p) c (declared p k x.line (line.Close c) ok at.line_is))) h)
-move_told p k parents _ _ _ ok q (Move.cancels_channel x c g at h) = gentle_told (base_of p) g (cancels_channel_all (is_gentle (base_of p)) (gentle_allows (base_of p)) c g (below_dones (base_of p) c (low (base_of p) c (declared p k x.line (line.CancelChannel c) ok at.line_is))) h)
+move_told p k parents _ _ _ ok q (Move.resumes x y w i outcome a s at m f) =
+    gentle_told (base_of p) _ (resumed_all (is_gentle (base_of p)) (gentle_allows (base_of p)) w outcome _)
+move_told p k parents _ _ _ ok q (Move.cancelled x w s) =
+    gentle_told (base_of p) _ (taken_back_all (is_gentle (base_of p)) (gentle_allows (base_of p)) w _)
+move_told p k parents _ _ _ ok q (Move.gives_up x w g s h) =
+    gentle_told (base_of p) _ (saw_all (is_gentle (base_of p)) (gentle_allows (base_of p)) _ g
+    (gives_up_all (is_gentle (base_of p)) (gentle_allows (base_of p)) w g h))
+move_told p k parents _ _ _ ok q (Move.sees_job x y job row end s at n f) =
+    gentle_told (base_of p) _ (saw_end_all (is_gentle (base_of p)) (gentle_allows (base_of p)) row end)
+move_told p k parents _ _ _ ok q (Move.closes x c g at h) =
+    gentle_told (base_of p) g (closes_all (is_gentle (base_of p)) (gentle_allows (base_of p)) c 0 g
+    (below_dones (base_of p) c (low (base_of p) c (declared p k x.line (line.Close c) ok at.line_is))) h)
+move_told p k parents _ _ _ ok q (Move.cancels_channel x c g at h) =
+    gentle_told (base_of p) g (cancels_channel_all (is_gentle (base_of p)) (gentle_allows (base_of p)) c g
+    (below_dones (base_of p) c (low (base_of p) c (declared p k x.line (line.CancelChannel c) ok at.line_is))) h)
 move_told p k parents _ _ _ ok q (Move.yields x at) = fact_told (base_of p) _ [] (nothing_told (base_of p))
-move_told p k parents _ _ _ ok q (Move.stops_at_yield x at) = gentle_told (base_of p) _ (saw_all (is_gentle (base_of p)) (gentle_allows (base_of p)) _ [] (all_none (is_gentle (base_of p))))
-move_told p k parents _ _ _ ok q (Move.stops_at_join x job at) = gentle_told (base_of p) _ (saw_all (is_gentle (base_of p)) (gentle_allows (base_of p)) _ [] (all_none (is_gentle (base_of p))))
+move_told p k parents _ _ _ ok q (Move.stops_at_yield x at) =
+    gentle_told (base_of p) _ (saw_all (is_gentle (base_of p)) (gentle_allows (base_of p)) _ [] (all_none (is_gentle (base_of p))))
+move_told p k parents _ _ _ ok q (Move.stops_at_join x job at) =
+    gentle_told (base_of p) _ (saw_all (is_gentle (base_of p)) (gentle_allows (base_of p)) _ [] (all_none (is_gentle (base_of p))))
 move_told p k parents _ _ _ ok q (Move.launches x block how job now at) = deed_told (base_of p) _ [] refl (nothing_told (base_of p))
 move_told p k parents _ _ _ ok q (Move.launch_refused x block how job g at h) = refusal_gentle (base_of p) _ false g h
 move_told p k parents _ _ _ ok q (Move.enters x supervisor row now at) = deed_told (base_of p) _ [] refl (nothing_told (base_of p))
 move_told p k parents _ _ _ ok q (Move.enter_refused x supervisor g at h) = refusal_gentle (base_of p) _ true g h
-move_told p k parents _ _ _ ok q (Move.starts x job row g at n h) = gentle_told (base_of p) g (starts_all (is_gentle (base_of p)) (gentle_allows (base_of p)) row g h)
-move_told p k parents _ _ _ ok q (Move.cancels x job row newly g at n h) = gentle_told (base_of p) g (passes_all (is_gentle (base_of p)) (gentle_allows (base_of p)) parents row _ newly g q h)
-move_told p k parents _ _ _ ok q (Move.fails x v at) = gentle_told (base_of p) _ (fail_all (is_gentle (base_of p)) (gentle_allows (base_of p)) v)
+move_told p k parents _ _ _ ok q (Move.starts x job row g at n h) =
+    gentle_told (base_of p) g (starts_all (is_gentle (base_of p)) (gentle_allows (base_of p)) row g h)
+move_told p k parents _ _ _ ok q (Move.cancels x job row newly g at n h) =
+    gentle_told (base_of p) g (passes_all (is_gentle (base_of p)) (gentle_allows (base_of p)) parents row _ newly g q h)
+move_told p k parents _ _ _ ok q (Move.fails x v at) = gentle_told (base_of p) _
+    (fail_all (is_gentle (base_of p)) (gentle_allows (base_of p)) v)
 move_told p k parents _ _ _ ok q (Move.results x o at) = nothing_told (base_of p)
 move_told p k parents _ _ _ ok q (Move.repeats x n at) = nothing_told (base_of p)
 move_told p k parents _ _ _ ok q (Move.turns_again x head n es at e) = nothing_told (base_of p)
 move_told p k parents _ _ _ ok q (Move.turns_no_more x head es at e) = nothing_told (base_of p)
 move_told p k parents _ _ _ ok q (Move.receives_again x head es at e) = nothing_told (base_of p)
-move_told p k parents _ _ _ ok q (Move.ends_scope x y s end g all a at e h c f is) = told_as (base_of p) all _ is (told_then (base_of p) end g (ends_told (base_of p) s.row 0 end h) (plain_told (base_of p) _ g a c))
-move_told p k parents _ _ _ ok q (Move.scope_ended x w n v s) = gentle_told (base_of p) _ (settle_all (is_gentle (base_of p)) (gentle_allows (base_of p)) w _ [] (all_none (is_gentle (base_of p))))
-move_told p k parents _ _ _ ok q (Move.sees_scope x y s end t e f) = gentle_told (base_of p) _ (saw_end_all (is_gentle (base_of p)) (gentle_allows (base_of p)) s.row end)
+move_told p k parents _ _ _ ok q (Move.ends_scope x y s end g all a at e h c f is) =
+    told_as (base_of p) all _ is (told_then (base_of p) end g (ends_told (base_of p) s.row 0 end h) (plain_told (base_of p) _ g a c))
+move_told p k parents _ _ _ ok q (Move.scope_ended x w n v s) =
+    gentle_told (base_of p) _ (settle_all (is_gentle (base_of p)) (gentle_allows (base_of p)) w _ [] (all_none (is_gentle (base_of p))))
+move_told p k parents _ _ _ ok q (Move.sees_scope x y s end t e f) =
+    gentle_told (base_of p) _ (saw_end_all (is_gentle (base_of p)) (gentle_allows (base_of p)) s.row end)
 move_told p k parents _ _ _ ok q (Move.breaks_scope x y s failure break g all a t e h c f is) =
-    told_as (base_of p) all _ is (told_then (base_of p) break g (breaks_told (base_of p) parents k s.row failure break (known_left parents break g (subst (AllKnown parents) is q)) h) (plain_told (base_of p) _ g a c))
+    told_as (base_of p) all _ is (told_then (base_of p) break g
+    (breaks_told (base_of p) parents k s.row failure break (known_left parents break g (subst (AllKnown parents) is q)) h)
+    (plain_told (base_of p) _ g a c))
 move_told p k parents _ _ _ ok q (Move.breaks x failure g s e h) = breaks_told (base_of p) parents k k failure g q h
 move_told p k parents _ _ _ ok q (Move.ends x g s e h) = ends_told (base_of p) k x.result g h
 
-spawns_told : (p : Program) (base : ℕ) (blocks : List ℕ) (x y : Config) (group : List Told) → Spawns p blocks x group y → DonesTold base group
+spawns_told : (p : Program) (base : ℕ) (blocks : List ℕ) (x y : Config) (group : List Told) → Spawns p blocks x group y
+    → DonesTold base group
 spawns_told p base _ _ _ _ (Spawns.done x) = nothing_told base
 spawns_told p base _ _ _ _ (Spawns.attaches block blocks x y now more h) = deed_told base _ more refl (spawns_told p base blocks _ y more h)
 spawns_told p base _ _ _ _ (Spawns.refused block blocks x g h) = refusal_gentle base _ false g h
@@ -211,8 +250,11 @@ begins_told p _ _ _ (Begins.root group x s) = spawns_told p (base_of p) _ _ x gr
 begins_told p _ _ _ (Begins.child k n) = nothing_told (base_of p)
 
 -- so it is of all that a coroutine tells
-pub reach_told : (p : Program) (k : ℕ) (parents : Parents) (told : List Told) (x : Config) → IsProgram p → AllKnown parents told → Reaches p k told x → DonesTold (base_of p) told
+pub reach_told : (p : Program) (k : ℕ) (parents : Parents) (told : List Told) (x : Config) → IsProgram p → AllKnown parents told
+    → Reaches p k told x → DonesTold (base_of p) told
 reach_told p k parents _ _ ok q (Reaches.begins group x b) = begins_told p k group x b
 reach_told p k parents all _ ok q (Reaches.goes_on before group _ x y r m e) =
     let parts = subst (AllKnown parents) e q in
-    told_as (base_of p) all _ e (told_then (base_of p) before group (reach_told p k parents before x ok (known_left parents before group parts) r) (move_told p k parents x group y ok (known_right parents before group parts) m))
+    told_as (base_of p) all _ e (told_then (base_of p) before group
+    (reach_told p k parents before x ok (known_left parents before group parts) r)
+    (move_told p k parents x group y ok (known_right parents before group parts) m))

@@ -50,8 +50,10 @@ claims_yet size j k r h = by_tests (k == 0) refl (r == 0) refl
     roots b e = ap (λ t. is_among r ((if t then 0 ∷ [] else []) ++ rows_in (job_acts_in []))) e
 
     by_tests : (b : Bool) → (k == 0) ≡ b → (t : Bool) → (r == 0) ≡ t → is_claimed_by k (j.claims r) ≡ is_among r (own_rows k [])
-    by_tests true e true f = ap (is_claimed_by k) (claim true f) ∙ e ∙ sym (roots true e ∙ ap (λ t. t || is_among r (rows_in (job_acts_in []))) f)
-    by_tests true e false f = ap (is_claimed_by k) (claim false f) ∙ sym (roots true e ∙ ap (λ t. t || is_among r (rows_in (job_acts_in []))) f ∙ none_among r)
+    by_tests true e true f = ap (is_claimed_by k) (claim true f) ∙ e
+        ∙ sym (roots true e ∙ ap (λ t. t || is_among r (rows_in (job_acts_in []))) f)
+    by_tests true e false f = ap (is_claimed_by k) (claim false f)
+        ∙ sym (roots true e ∙ ap (λ t. t || is_among r (rows_in (job_acts_in []))) f ∙ none_among r)
     by_tests false e true f = ap (is_claimed_by k) (claim true f) ∙ e ∙ sym (roots false e ∙ none_among r)
     by_tests false e false f = ap (is_claimed_by k) (claim false f) ∙ sym (roots false e ∙ none_among r)
 
@@ -63,7 +65,13 @@ nothing_told p k now = tt
 
 pub runs_fresh : (p : Program) (k : ℕ) (now : Moment) → k ≢ 0 → Runs p k now [] (fresh k)
 unfolding items_in
-runs_fresh p k now n = record { told = []; written = refl; reaches = Reaches.begins [] (fresh k) (Begins.child k n); is_true = nothing_told p k now }
+runs_fresh p k now n = record {
+  told = [];
+  written = refl;
+  reaches = Reaches.begins [] (fresh k) (Begins.child k n);
+  is_true =
+      nothing_told p k now;
+}
 
 pub none_owned : (k r : ℕ) → k ≢ 0 → is_among r (own_rows k []) ≡ false
 none_owned k r n = by_test (k == 0) refl
@@ -75,7 +83,8 @@ none_owned k r n = by_test (k == 0) refl
         is_zero k e = grind (arith, nat_tests)
     by_test false e = is_among-rows_in r []
 
-pub keeps_fresh : (p : Program) (k : ℕ) (f : Frame) (c : ChannelFloor) (j : Floor) → k < coroutine_count p → k ≢ 0 → f.tag ≡ k → f.config ≡ fresh k → f.book ≡ [] → IsUntouched p k c j → Keeps p (sight f c j)
+pub keeps_fresh : (p : Program) (k : ℕ) (f : Frame) (c : ChannelFloor) (j : Floor) → k < coroutine_count p → k ≢ 0 → f.tag ≡ k
+    → f.config ≡ fresh k → f.book ≡ [] → IsUntouched p k c j → Keeps p (sight f c j)
 keeps_fresh p k f c j lt n tag config book h = record {
   stands = record {
     channels = h.channels;
@@ -86,8 +95,10 @@ keeps_fresh p k f c j lt n tag config book h = record {
     channel_acts = ap (λ m. acts_of m c.seen) tag ∙ h.no_channel_acts ∙ ap channel_acts_in (sym book);
     job_acts = ap (λ m. job_acts_of m j.seen) tag ∙ h.no_job_acts ∙ ap job_acts_in (sym book);
     runs = subst (λ m. Runs p m (seen_by c j) (f.book) (f.config)) (sym tag)
-        (subst (λ b. Runs p k (seen_by c j) b (f.config)) (sym book) (subst (Runs p k (seen_by c j) []) (sym config) (runs_fresh p k (seen_by c j) n)));
-    claims = λ r. ap (λ m. is_claimed_by m (j.claims r)) tag ∙ h.no_claims r ∙ sym (none_owned k r n) ∙ ap (λ m. is_among r (own_rows m [])) (sym tag) ∙ ap (λ b. is_among r (own_rows f.tag b)) (sym book);
+        (subst (λ b. Runs p k (seen_by c j) b (f.config)) (sym book)
+        (subst (Runs p k (seen_by c j) []) (sym config) (runs_fresh p k (seen_by c j) n)));
+    claims = λ r. ap (λ m. is_claimed_by m (j.claims r)) tag ∙ h.no_claims r ∙ sym (none_owned k r n)
+        ∙ ap (λ m. is_among r (own_rows m [])) (sym tag) ∙ ap (λ b. is_among r (own_rows f.tag b)) (sym book);
   };
   refused = record {
     no_row = λ e. absurd (never (sym (ap (list_any _) book) ∙ e));
@@ -99,7 +110,8 @@ keeps_fresh p k f c j lt n tag config book h = record {
     never : false ≡ true → ⊥
     never e = cc
 
-pub keeps_begun : (p q : Program) (c : ChannelFloor) (j j' : Floor) (f g : Frame) → q ≡ p → IsProgram q → LegalJobs j'.shape j'.seen → StandsOn q c j' g → Begun q j j' f g → Keeps p (sight g c j')
+pub keeps_begun : (p q : Program) (c : ChannelFloor) (j j' : Floor) (f g : Frame) → q ≡ p → IsProgram q → LegalJobs j'.shape j'.seen
+    → StandsOn q c j' g → Begun q j j' f g → Keeps p (sight g c j')
 keeps_begun p q c j j' f g e ok legal on begun =
     subst (λ x. Keeps x (sight g c j')) e
     (record { stands = on; refused = begun_refused q c j j' f g ok (subst (λ z. LegalJobs z j'.seen) on.jobs legal) on begun })

@@ -36,7 +36,8 @@ sight f c j = record { frame = f; channels = c; jobs = j }
 
 -- ---- others went on
 
-pub keeps_later : (p : Program) (f : Frame) (c c' : ChannelFloor) (j j' : Floor) → OthersWentOn f.tag c c' j j' → ((r t : ℕ) → j.claims r ≡ Some t → j'.claims r ≡ Some t) → Keeps p (sight f c j) → Keeps p (sight f c' j')
+pub keeps_later : (p : Program) (f : Frame) (c c' : ChannelFloor) (j j' : Floor) → OthersWentOn f.tag c c' j j'
+    → ((r t : ℕ) → j.claims r ≡ Some t → j'.claims r ≡ Some t) → Keeps p (sight f c j) → Keeps p (sight f c' j')
 keeps_later p f c c' j j' others kept h = record {
   stands = stands_later p c c' j j' f others h.stands;
   refused = refused_later p j j' f kept h.refused;
@@ -50,7 +51,8 @@ saw_later f c c' j j' others = record {
 }
 
 -- a meeting is such
-pub met_others : (who : ℕ) (a a' b b' : ChannelFloor) (i i' k k' : Floor) → a.callers who ≡ true → i.callers who ≡ true → MetOnChannels a a' b b' → MetOnJobs i i' k k' → OthersWentOn who a a' i i'
+pub met_others : (who : ℕ) (a a' b b' : ChannelFloor) (i i' k k' : Floor) → a.callers who ≡ true → i.callers who ≡ true
+    → MetOnChannels a a' b b' → MetOnJobs i i' k k' → OthersWentOn who a a' i i'
 met_others who a a' b b' i i' k k' ca ja calls jobs = record {
   channels = calls.same;
   jobs = jobs.same;
@@ -61,15 +63,19 @@ met_others who a a' b b' i i' k k' ca ja calls jobs = record {
   claims = jobs.my_claims who ja;
 }
 
-pub keeps_met : (p : Program) (f : Frame) (a a' b b' : ChannelFloor) (i i' k k' : Floor) → MetOnChannels a a' b b' → MetOnJobs i i' k k' → Keeps p (sight f a i) → Keeps p (sight f a' i')
+pub keeps_met : (p : Program) (f : Frame) (a a' b b' : ChannelFloor) (i i' k k' : Floor) → MetOnChannels a a' b b' → MetOnJobs i i' k k'
+    → Keeps p (sight f a i) → Keeps p (sight f a' i')
 keeps_met p f a a' b b' i i' k k' calls jobs h =
     keeps_later p f a a' i i' (met_others f.tag a a' b b' i i' k k' h.stands.of_channels h.stands.of_jobs calls jobs) jobs.kept h
 
-pub saw_met : (p : Program) (f : Frame) (a a' b b' : ChannelFloor) (i i' k k' : Floor) → MetOnChannels a a' b b' → MetOnJobs i i' k k' → Keeps p (sight f a i) → SawMore (sight f a i) (sight f a' i')
-saw_met p f a a' b b' i i' k k' calls jobs h = saw_later f a a' i i' (met_others f.tag a a' b b' i i' k k' h.stands.of_channels h.stands.of_jobs calls jobs)
+pub saw_met : (p : Program) (f : Frame) (a a' b b' : ChannelFloor) (i i' k k' : Floor) → MetOnChannels a a' b b' → MetOnJobs i i' k k'
+    → Keeps p (sight f a i) → SawMore (sight f a i) (sight f a' i')
+saw_met p f a a' b b' i i' k k' calls jobs h = saw_later f a a' i i'
+    (met_others f.tag a a' b b' i i' k k' h.stands.of_channels h.stands.of_jobs calls jobs)
 
 -- the other is as it was
-pub keeps_same : (p : Program) (f : Frame) (b b' : ChannelFloor) (k k' : Floor) → b' ≡ b → k' ≡ k → Keeps p (sight f b k) → Keeps p (sight f b' k')
+pub keeps_same : (p : Program) (f : Frame) (b b' : ChannelFloor) (k k' : Floor) → b' ≡ b → k' ≡ k → Keeps p (sight f b k)
+    → Keeps p (sight f b' k')
 keeps_same p f b b' k k' e q h = subst (λ x. Keeps p (sight f x k')) (sym e) (subst (λ y. Keeps p (sight f b y)) (sym q) h)
 
 pub tags_same : (p : Program) (t : ℕ) (f f' g g' : ℕ → Bool) → f' ≡ f → g' ≡ g → KnowsTags p t f g → KnowsTags p t f' g'
@@ -92,7 +98,8 @@ looked_others who c j j' h = record {
     or_none true = refl
     or_none false = refl
 
-pub keeps_looked : (p : Program) (f : Frame) (c : ChannelFloor) (j j' : Floor) → Looked f.tag [] j j' → Keeps p (sight f c j) → Keeps p (sight f c j')
+pub keeps_looked : (p : Program) (f : Frame) (c : ChannelFloor) (j j' : Floor) → Looked f.tag [] j j' → Keeps p (sight f c j)
+    → Keeps p (sight f c j')
 keeps_looked p f c j j' h k = keeps_later p f c c j j' (looked_others f.tag c j j' h) h.claims.kept k
 
 pub saw_looked : (f : Frame) (c : ChannelFloor) (j j' : Floor) → Looked f.tag [] j j' → SawMore (sight f c j) (sight f c j')
@@ -100,17 +107,14 @@ saw_looked f c j j' h = saw_later f c c j j' (looked_others f.tag c j j' h)
 
 by_state : (s : JobState) (j : Job) → end_by s j ≡ end_shown s (view_of j)
 by_state New j = refl
-by_state Active j = refl
-by_state Completing j = refl
-by_state Cancelling j = refl
-by_state Cancelled j = refl
-by_state Completed j = refl
+by_state other j = refl
 
 end_in_view : (x : Option Job) → end_at x ≡ end_looked (option_map view_of x)
 end_in_view None = refl
 end_in_view (Some j) = by_state j.state j
 
-pub looked_end : (who row : ℕ) (old new : Floor) (result : Option JobView) (end : Option End) → end ≡ end_looked result → LookAnswer who row old new result → AtStep old new (λ tree. end_at (tree row) ≡ end)
+pub looked_end : (who row : ℕ) (old new : Floor) (result : Option JobView) (end : Option End) → end ≡ end_looked result
+    → LookAnswer who row old new result → AtStep old new (λ tree. end_at (tree row) ≡ end)
 looked_end who row old new result end e h = record {
   moment = h.1.moment;
   after = h.1.after;
@@ -120,16 +124,24 @@ looked_end who row old new result end e h = record {
 
 -- ---- a poll
 
-pub keeps_polled : (p q : Program) (c c' : ChannelFloor) (j j' : Floor) (f g : Frame) → q ≡ p → IsProgram q → LegalJobs j'.shape j'.seen → StandsOn q c' j' g → Polled q c c' j j' f g → Keeps p (sight f c j) → Keeps p (sight g c' j')
+pub keeps_polled : (p q : Program) (c c' : ChannelFloor) (j j' : Floor) (f g : Frame) → q ≡ p → IsProgram q → LegalJobs j'.shape j'.seen
+    → StandsOn q c' j' g → Polled q c c' j j' f g → Keeps p (sight f c j) → Keeps p (sight g c' j')
 keeps_polled p q c c' j j' f g e ok legal on polled k =
     let was = subst (λ x. Keeps x (sight f c j)) (sym e) k in
     subst (λ x. Keeps x (sight g c' j')) e
-    (record { stands = on; refused = polled_refused q c c' j j' f g ok (subst (λ z. LegalJobs z j'.seen) on.jobs legal) was.stands on polled was.refused })
+    (record {
+      stands = on;
+      refused = polled_refused q c c' j j' f g ok (subst (λ z. LegalJobs z j'.seen) on.jobs legal) was.stands on polled
+          was.refused;
+    })
 
-pub rested : (p : Program) (f g : Frame) (c c' : ChannelFloor) (j j' : Floor) (answer : Turn) → (polled : Polled p c c' j j' f g) → TurnAnswer p c c' j j' f g polled.told answer → answer ≢ turn.Ready → length g.book ≤ length f.book → Rested p (sight f c j) (sight g c' j')
+pub rested : (p : Program) (f g : Frame) (c c' : ChannelFloor) (j j' : Floor) (answer : Turn) → (polled : Polled p c c' j j' f g)
+    → TurnAnswer p c c' j j' f g polled.told answer → answer ≢ turn.Ready → length g.book ≤ length f.book
+    → Rested p (sight f c j) (sight g c' j')
 rested p f g c c' j j' answer polled said n few = record {
   polled = polled;
-  none = nil_from_length (items_in polled.told) (let whole = ap length polled.appended in let parts = length-append f.book (items_in polled.told) in omega (arith, few, whole, parts));
+  none = nil_from_length (items_in polled.told) (let whole = ap length polled.appended
+      in let parts = length-append f.book (items_in polled.told) in omega (arith, few, whole, parts));
   answer = answer;
   said = said;
   not_ready = n;
@@ -138,8 +150,10 @@ rested p f g c c' j j' answer polled said n few = record {
 -- a poll that noted nothing added nothing
 did_nothing : (p : Program) (s s' : Sight) → Rested p s s' → SameOf s'.frame.tag s s'
 did_nothing p s s' h = record {
-  calls = subst (λ n. acts_of n s'.channels.seen ≡ acts_of n s.channels.seen) (sym h.polled.tag) (h.polled.channels.mine ∙ ap (λ l. acts_of s.frame.tag s.channels.seen ++ channel_acts_in l) h.none ∙ append-nil (acts_of s.frame.tag s.channels.seen));
-  jobs = subst (λ n. job_acts_of n s'.jobs.seen ≡ job_acts_of n s.jobs.seen) (sym h.polled.tag) (h.polled.jobs.mine ∙ ap (λ l. job_acts_of s.frame.tag s.jobs.seen ++ job_acts_in l) h.none ∙ append-nil (job_acts_of s.frame.tag s.jobs.seen));
+  calls = subst (λ n. acts_of n s'.channels.seen ≡ acts_of n s.channels.seen) (sym h.polled.tag) (h.polled.channels.mine
+      ∙ ap (λ l. acts_of s.frame.tag s.channels.seen ++ channel_acts_in l) h.none ∙ append-nil (acts_of s.frame.tag s.channels.seen));
+  jobs = subst (λ n. job_acts_of n s'.jobs.seen ≡ job_acts_of n s.jobs.seen) (sym h.polled.tag) (h.polled.jobs.mine
+      ∙ ap (λ l. job_acts_of s.frame.tag s.jobs.seen ++ job_acts_in l) h.none ∙ append-nil (job_acts_of s.frame.tag s.jobs.seen));
 }
 
 more_same : (s s' : Sight) → IsSeenSame s s' → SawMore s s'
@@ -158,7 +172,12 @@ more_same s s' same = record {
 -- ---- what is known of a coroutine goes on to be so
 
 pub known_more : (m m' s : Sight) → IsWithin m m' → KnowsAllOf m s → KnowsAllOf m' s
-known_more m m' s w h = record { past = h.past; within = record { channels = prefix_then _ _ _ h.within.channels w.channels; jobs = prefix_then _ _ _ h.within.jobs w.jobs }; same = h.same }
+known_more m m' s w h = record {
+  past = h.past;
+  within =
+      record { channels = prefix_then _ _ _ h.within.channels w.channels; jobs = prefix_then _ _ _ h.within.jobs w.jobs };
+  same = h.same;
+}
 
 same_then : (k : ℕ) (a b c : Sight) → SameOf k a b → SameOf k b c → SameOf k a c
 same_then k a b c h g = record { calls = g.calls ∙ h.calls; jobs = g.jobs ∙ h.jobs }
@@ -193,7 +212,11 @@ rested_still p first s s' more h = record {
   rested = h.rested;
   kept = h.kept;
   frame = more.frame ∙ h.frame;
-  since = record { channels = prefix_then _ _ _ h.since.channels more.within.channels; jobs = prefix_then _ _ _ h.since.jobs more.within.jobs };
+  since = record {
+    channels = prefix_then _ _ _ h.since.channels more.within.channels;
+    jobs =
+        prefix_then _ _ _ h.since.jobs more.within.jobs;
+  };
   same = subst (λ (f : Frame). SameOf f.tag h.before s') (sym more.frame) (same_then s.frame.tag h.before s s' h.same more.same);
 }
 

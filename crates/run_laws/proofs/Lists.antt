@@ -35,7 +35,8 @@ first_of (y ∷ ys) rest x lt e r = cons_same y x ys rest (sym e) (sym r)
 
 module _ {X : Type 0} (tag : X → ℕ) where
   pub tags_push : (xs ys : List X) (x y : X) → map tag ys ≡ map tag xs → tag y ≡ tag x → map tag (ys ++ y ∷ []) ≡ map tag (xs ++ x ∷ [])
-  tags_push xs ys x y e q = map-append tag ys (y ∷ []) ∙ ap (λ l. l ++ tag y ∷ []) e ∙ ap (λ n. map tag xs ++ n ∷ []) q ∙ sym (map-append tag xs (x ∷ []))
+  tags_push xs ys x y e q = map-append tag ys (y ∷ []) ∙ ap (λ l. l ++ tag y ∷ []) e ∙ ap (λ n. map tag xs ++ n ∷ []) q
+      ∙ sym (map-append tag xs (x ∷ []))
 
   from_counts : (n : ℕ) (xs : List X) → CountUp n (map tag xs) → (t : ℕ) (y : X) → get_elem? xs t ≡ some y → tag y ≡ n + t
   from_counts n [] h t y e = absurd (some-ne-none y (sym e))
@@ -47,7 +48,10 @@ module _ {X : Type 0} (tag : X → ℕ) where
 
   to_counts : (n : ℕ) (xs : List X) → ((t : ℕ) (y : X) → get_elem? xs t ≡ some y → tag y ≡ n + t) → CountUp n (map tag xs)
   to_counts n [] h = tt
-  to_counts n (x ∷ xs) h = (h 0 x refl ∙ (let z : n + 0 ≡ n = omega arith in z), to_counts (suc n) xs (λ t y e. h (suc t) y e ∙ (let z : n + suc t ≡ suc n + t = omega arith in z)))
+  to_counts n (x ∷ xs) h = (
+    h 0 x refl ∙ (let z : n + 0 ≡ n = omega arith in z),
+    to_counts (suc n) xs (λ t y e. h (suc t) y e ∙ (let z : n + suc t ≡ suc n + t = omega arith in z)),
+  )
 
   pub count_up : (xs : List X) → ((t : ℕ) (y : X) → get_elem? xs t ≡ some y → tag y ≡ t) → CountUp 0 (map tag xs)
   count_up xs h = to_counts 0 xs (λ t y e. h t y e ∙ (let z : t ≡ 0 + t = omega arith in z))

@@ -27,13 +27,15 @@ slice_get-get_or (y ∷ xs) zero x d e = cc
 slice_get-get_or (y ∷ xs) (suc k) x d e = slice_get-get_or xs k x d e
 
 -- the sum rises by less than this where one element does
-pub sum_by-set_by : {A : Type 0} (f : A → ℕ) (xs : List A) (k : ℕ) (x y : A) (m : ℕ) → k < length xs → slice_get xs k ≡ Some x → f y < f x + m → sum_by f (set xs k y) < sum_by f xs + m
+pub sum_by-set_by : {A : Type 0} (f : A → ℕ) (xs : List A) (k : ℕ) (x y : A) (m : ℕ) → k < length xs → slice_get xs k ≡ Some x
+    → f y < f x + m → sum_by f (set xs k y) < sum_by f xs + m
 sum_by-set_by f xs k x y m lt at less =
     let sums = sum_by-set f xs k y x lt in
     let here : f (get_or xs k x) ≡ f x = ap f (slice_get-get_or xs k x x at) in
     omega (arith, sums, here, less)
 
-pub sum_by-set_same : {A : Type 0} (f : A → ℕ) (xs : List A) (k : ℕ) (x y : A) → k < length xs → slice_get xs k ≡ Some x → f y ≡ f x → sum_by f (set xs k y) ≡ sum_by f xs
+pub sum_by-set_same : {A : Type 0} (f : A → ℕ) (xs : List A) (k : ℕ) (x y : A) → k < length xs → slice_get xs k ≡ Some x → f y ≡ f x
+    → sum_by f (set xs k y) ≡ sum_by f xs
 sum_by-set_same f xs k x y lt at same =
     let sums = sum_by-set f xs k y x lt in
     let here : f (get_or xs k x) ≡ f x = ap f (slice_get-get_or xs k x x at) in
@@ -45,7 +47,8 @@ within (y ∷ xs) zero x e = omega arith
 within (y ∷ xs) (suc k) x e = let h = within xs k x e in omega (arith, h)
 
 -- what holds of every place holds of every place of a list that has one element more
-pub pushed_at : {A : Type 0} (P : ℕ → Option A → Type 0) (xs : List A) (y : A) → ((k : ℕ) → P k None) → ((k : ℕ) → P k (slice_get xs k)) → P (length xs) (Some y) → (k : ℕ) → P k (slice_get (xs ++ y ∷ []) k)
+pub pushed_at : {A : Type 0} (P : ℕ → Option A → Type 0) (xs : List A) (y : A) → ((k : ℕ) → P k None) → ((k : ℕ) → P k (slice_get xs k))
+    → P (length xs) (Some y) → (k : ℕ) → P k (slice_get (xs ++ y ∷ []) k)
 pushed_at P [] y none all here zero = here
 pushed_at P [] y none all here (suc k) = none (suc k)
 pushed_at P (x ∷ xs) y none all here zero = all zero

@@ -8,7 +8,8 @@ pub prefix_then : {A : Type 0} (xs ys zs : List A) → IsPrefix xs ys → IsPref
 prefix_then xs ys zs (a, e) (b, f) = (a ++ b, sym (append_assoc xs a b) ∙ ap (λ l. l ++ b) e ∙ f)
 
 prefix_length : {A : Type 0} (xs ys : List A) → IsPrefix xs ys → length xs ≤ length ys
-prefix_length xs ys (a, e) = let parts = length-append xs a in let whole : length (xs ++ a) ≡ length ys = ap length e in omega (arith, parts, whole)
+prefix_length xs ys (a, e) = let parts = length-append xs a in let whole : length (xs ++ a) ≡ length ys = ap length e
+    in omega (arith, parts, whole)
 
 prefix_back : {A : Type 0} (xs ys : List A) → IsPrefix xs ys → length ys ≤ length xs → ys ≡ xs
 prefix_back xs ys (a, e) le =

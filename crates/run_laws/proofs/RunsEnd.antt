@@ -48,9 +48,11 @@ use Rattle.run_laws.proofs.Lists.{some_coroutine}
 same_some : {A : Type 0} (x y : A) → Some x ≡ Some y → x ≡ y
 same_some x y e = cc
 
-tag_at : (n : ℕ) (sights : List Sight) (k : ℕ) (s : Sight) → CountUp n (map (λ s. s.frame.tag) sights) → slice_get sights k ≡ Some s → s.frame.tag ≡ n + k
+tag_at : (n : ℕ) (sights : List Sight) (k : ℕ) (s : Sight) → CountUp n (map (λ s. s.frame.tag) sights) → slice_get sights k ≡ Some s
+    → s.frame.tag ≡ n + k
 tag_at n [] k s h e = cc
-tag_at n (x ∷ xs) zero s h e = let same : x ≡ s = same_some x s e in ap (λ (y : Sight). y.frame.tag) (sym same) ∙ h.0 ∙ (let z : n ≡ n + 0 = omega arith in z)
+tag_at n (x ∷ xs) zero s h e = let same : x ≡ s = same_some x s e in ap (λ (y : Sight). y.frame.tag) (sym same) ∙ h.0
+    ∙ (let z : n ≡ n + 0 = omega arith in z)
 tag_at n (x ∷ xs) (suc k) s h e = tag_at (suc n) xs k s h.1 e ∙ (let z : suc n + k ≡ n + suc k = omega arith in z)
 
 below_if : (k n : ℕ) → nat_lt k n ≡ true → k < n
@@ -104,7 +106,8 @@ stands_there p c j s h = record {
     told = on.runs.told;
     written = on.runs.written;
     reaches = on.runs.reaches;
-    is_true = true_later (floor_shape p) s.frame.tag (seen_by s.channels s.jobs) (seen_by c j) [] beginning on.runs.told (record { channels = h.seen.channels; jobs = h.seen.jobs }) on.runs.is_true;
+    is_true = true_later (floor_shape p) s.frame.tag (seen_by s.channels s.jobs) (seen_by c j) [] beginning on.runs.told
+        (record { channels = h.seen.channels; jobs = h.seen.jobs }) on.runs.is_true;
   };
   claims = λ r. h.claims r ∙ on.claims r;
 }
@@ -112,7 +115,8 @@ stands_there p c j s h = record {
     on : StandsOn p s.channels s.jobs (s.frame)
     on = h.keeps.stands
 
-module _ (p : Program) (first : Sight) (sights : List Sight) (c : ChannelFloor) (j : Floor) (root : Option End) (h : IsOver p first sights c j root) where
+module _ (p : Program) (first : Sight) (sights : List Sight) (c : ChannelFloor) (j : Floor) (root : Option End)
+    (h : IsOver p first sights c j root) where
   -- the sight of coroutine k
   the_sight : (k : ℕ) → k < coroutine_count p → (s : Sight) × (slice_get sights k ≡ Some s)
   the_sight k lt = some_at sights k (let count = h.count in omega (arith, lt, count))
@@ -134,7 +138,8 @@ module _ (p : Program) (first : Sight) (sights : List Sight) (c : ChannelFloor) 
     where
       by_test : (b : Bool) → nat_lt k (coroutine_count p) ≡ b → k < coroutine_count p
       by_test true f = below_if k (coroutine_count p) f
-      by_test false f = absurd (let le = past_if k (coroutine_count p) f in let count = h.count in let none = past_none sights k (omega (arith, le, count)) in let q : Some s ≡ None = sym e ∙ none in cc)
+      by_test false f = absurd (let le = past_if k (coroutine_count p) f in let count = h.count
+          in let none = past_none sights k (omega (arith, le, count)) in let q : Some s ≡ None = sym e ∙ none in cc)
 
   -- ---- one history
 
@@ -142,13 +147,15 @@ module _ (p : Program) (first : Sight) (sights : List Sight) (c : ChannelFloor) 
   first_calls =
       let x = the_sight 0 (some_coroutine p h.ok) in
       let r = rested_at 0 x.0 x.1 in
-      prefix_then _ _ _ r.knew.channels (prefix_then _ _ _ r.rested.polled.channels.longer (prefix_then _ _ _ r.since.channels (brought_at 0 x.0 x.1).seen.channels))
+      prefix_then _ _ _ r.knew.channels (prefix_then _ _ _ r.rested.polled.channels.longer
+      (prefix_then _ _ _ r.since.channels (brought_at 0 x.0 x.1).seen.channels))
 
   first_jobs : IsPrefix first.jobs.seen j.seen
   first_jobs =
       let x = the_sight 0 (some_coroutine p h.ok) in
       let r = rested_at 0 x.0 x.1 in
-      prefix_then _ _ _ r.knew.jobs (prefix_then _ _ _ r.rested.polled.jobs.longer (prefix_then _ _ _ r.since.jobs (brought_at 0 x.0 x.1).seen.jobs))
+      prefix_then _ _ _ r.knew.jobs (prefix_then _ _ _ r.rested.polled.jobs.longer
+      (prefix_then _ _ _ r.since.jobs (brought_at 0 x.0 x.1).seen.jobs))
 
   calls_of : (k : ℕ) → acts_of k c.seen ≡ acts_of k first.channels.seen
   unfolding acts_of
@@ -159,11 +166,13 @@ module _ (p : Program) (first : Sight) (sights : List Sight) (c : ChannelFloor) 
           let known = known_at k s e in
           let there = brought_at k s e in
           let all : acts_of s.frame.tag c.seen ≡ acts_of s.frame.tag known.past.channels.seen = there.same.calls ∙ known.same.calls in
-          calls_between k known.past.channels.seen first.channels.seen c.seen known.within.channels first_calls (subst (λ n. acts_of n c.seen ≡ acts_of n known.past.channels.seen) (tag_of k s e) all)
+          calls_between k known.past.channels.seen first.channels.seen c.seen known.within.channels first_calls
+          (subst (λ n. acts_of n c.seen ≡ acts_of n known.past.channels.seen) (tag_of k s e) all)
 
       by_test : (b : Bool) → nat_lt k (coroutine_count p) ≡ b → acts_of k c.seen ≡ acts_of k first.channels.seen
       by_test true f = let x = the_sight k (below_if k (coroutine_count p) f) in own x.0 x.1
-      by_test false f = calls_between k [] first.channels.seen c.seen (first.channels.seen, refl) first_calls (h.others.calls k (past_if k (coroutine_count p) f) ∙ none)
+      by_test false f = calls_between k [] first.channels.seen c.seen (first.channels.seen, refl) first_calls
+          (h.others.calls k (past_if k (coroutine_count p) f) ∙ none)
         where
           none : [] ≡ acts_of k []
           none = refl
@@ -177,11 +186,13 @@ module _ (p : Program) (first : Sight) (sights : List Sight) (c : ChannelFloor) 
           let known = known_at k s e in
           let there = brought_at k s e in
           let all : job_acts_of s.frame.tag j.seen ≡ job_acts_of s.frame.tag known.past.jobs.seen = there.same.jobs ∙ known.same.jobs in
-          jobs_between k known.past.jobs.seen first.jobs.seen j.seen known.within.jobs first_jobs (subst (λ n. job_acts_of n j.seen ≡ job_acts_of n known.past.jobs.seen) (tag_of k s e) all)
+          jobs_between k known.past.jobs.seen first.jobs.seen j.seen known.within.jobs first_jobs
+          (subst (λ n. job_acts_of n j.seen ≡ job_acts_of n known.past.jobs.seen) (tag_of k s e) all)
 
       by_test : (b : Bool) → nat_lt k (coroutine_count p) ≡ b → job_acts_of k j.seen ≡ job_acts_of k first.jobs.seen
       by_test true f = let x = the_sight k (below_if k (coroutine_count p) f) in own x.0 x.1
-      by_test false f = jobs_between k [] first.jobs.seen j.seen (first.jobs.seen, refl) first_jobs (h.others.jobs k (past_if k (coroutine_count p) f) ∙ none)
+      by_test false f = jobs_between k [] first.jobs.seen j.seen (first.jobs.seen, refl) first_jobs
+          (h.others.jobs k (past_if k (coroutine_count p) f) ∙ none)
         where
           none : [] ≡ job_acts_of k []
           none = refl
@@ -237,7 +248,8 @@ module _ (p : Program) (first : Sight) (sights : List Sight) (c : ChannelFloor) 
       let on = stands_there p c j s (brought_at k s e) in
       ap (λ n. job_acts_of n j.seen) (sym (tag_of k s e)) ∙ on.job_acts ∙ ap job_acts_in (sym (book k (Some s) e))
 
-  run_of : (k : ℕ) → k < coroutine_count p → Runs p k (record { channels = c.seen; jobs = j.seen }) (book_at k (books_in sights)) (config_in (slice_get sights k))
+  run_of : (k : ℕ) → k < coroutine_count p → Runs p k (record { channels = c.seen; jobs = j.seen }) (book_at k (books_in sights))
+      (config_in (slice_get sights k))
   run_of k lt =
       let x = the_sight k lt in
       let on = stands_there p c j x.0 (brought_at k x.0 x.1) in
@@ -296,12 +308,14 @@ module _ (p : Program) (first : Sight) (sights : List Sight) (c : ChannelFloor) 
       by_test true f = let x = the_sight t (below_if t (coroutine_count p) f) in inr (here x.0 x.1)
       by_test false f = inl (h.others.calls t (past_if t (coroutine_count p) f))
 
-  unrefused : (k : ℕ) → (o : Option Sight) → slice_get sights k ≡ o → list_any (is_refusal (base_of p)) (book_at k (books_in sights)) ≡ false
+  unrefused : (k : ℕ) → (o : Option Sight) → slice_get sights k ≡ o
+      → list_any (is_refusal (base_of p)) (book_at k (books_in sights)) ≡ false
   unrefused k None e = ap (list_any (is_refusal (base_of p))) (book k None e)
   unrefused k (Some s) e =
       let there = brought_at k s e in
       ap (list_any (is_refusal (base_of p))) (book k (Some s) e)
-      ∙ never_refused p c j (s.frame) h.ok legal legal_jobs (stands_there p c j s there) claimed noted (refused_later p s.jobs j (s.frame) there.kept there.keeps.refused)
+      ∙ never_refused p c j (s.frame) h.ok legal legal_jobs (stands_there p c j s there) claimed noted
+      (refused_later p s.jobs j (s.frame) there.kept there.keeps.refused)
 
   -- these are the books of a run
   the_books : BooksOf p (books_in sights) c.seen j.seen
@@ -319,7 +333,8 @@ module _ (p : Program) (first : Sight) (sights : List Sight) (c : ChannelFloor) 
 
   -- ---- nobody can go on
 
-  left_at : (k : ℕ) → (s : Sight) → slice_get sights k ≡ Some s → IsLeft k (s.frame.config) (s.frame.book) (replay c.seen) j.seen s.frame.config.stage
+  left_at : (k : ℕ) → (s : Sight) → slice_get sights k ≡ Some s
+      → IsLeft k (s.frame.config) (s.frame.book) (replay c.seen) j.seen s.frame.config.stage
   left_at k s e =
       let r = rested_at k s e in
       let there = brought_at k s e in
@@ -327,15 +342,20 @@ module _ (p : Program) (first : Sight) (sights : List Sight) (c : ChannelFloor) 
       let b_jobs = prefix_then _ _ _ r.rested.polled.jobs.longer (prefix_then _ _ _ r.since.jobs there.seen.jobs) in
       let before_calls = between_same _ _ _ r.knew.channels b_calls same_channels in
       let before_jobs = between_same _ _ _ r.knew.jobs b_jobs same_tree in
-      let after_calls = between_same _ _ _ (prefix_then _ _ _ r.knew.channels r.rested.polled.channels.longer) (prefix_then _ _ _ r.since.channels there.seen.channels) same_channels in
-      let after_jobs = between_same _ _ _ (prefix_then _ _ _ r.knew.jobs r.rested.polled.jobs.longer) (prefix_then _ _ _ r.since.jobs there.seen.jobs) same_tree in
+      let after_calls = between_same _ _ _ (prefix_then _ _ _ r.knew.channels r.rested.polled.channels.longer)
+      (prefix_then _ _ _ r.since.channels there.seen.channels) same_channels in
+      let after_jobs = between_same _ _ _ (prefix_then _ _ _ r.knew.jobs r.rested.polled.jobs.longer)
+      (prefix_then _ _ _ r.since.jobs there.seen.jobs) same_tree in
       let now_calls : r.after.channels.seen ≡ c.seen = after_calls ∙ sym same_channels in
       let now_jobs : r.after.jobs.seen ≡ j.seen = after_jobs ∙ sym same_tree in
-      let left = cannot_go_on p r.before.channels r.after.channels r.before.jobs r.after.jobs r.before.frame r.after.frame r.rested.polled.told r.rested.answer
-      (subst (Legal (floor_shape p)) (sym now_calls) legal) (subst (LegalJobs (job_shape p)) (sym now_jobs) legal_jobs) r.kept.stands (after_calls ∙ sym before_calls) (after_jobs ∙ sym before_jobs) r.rested.said r.rested.not_ready in
+      let left = cannot_go_on p r.before.channels r.after.channels r.before.jobs r.after.jobs r.before.frame r.after.frame
+      r.rested.polled.told r.rested.answer
+      (subst (Legal (floor_shape p)) (sym now_calls) legal) (subst (LegalJobs (job_shape p)) (sym now_jobs) legal_jobs) r.kept.stands
+      (after_calls ∙ sym before_calls) (after_jobs ∙ sym before_jobs) r.rested.said r.rested.not_ready in
       of_frame r.after r.frame now_calls now_jobs left
     where
-      of_frame : (a : Sight) → s.frame ≡ a.frame → a.channels.seen ≡ c.seen → a.jobs.seen ≡ j.seen → IsLeft a.frame.tag (a.frame.config) (a.frame.book) (replay a.channels.seen) a.jobs.seen a.frame.config.stage
+      of_frame : (a : Sight) → s.frame ≡ a.frame → a.channels.seen ≡ c.seen → a.jobs.seen ≡ j.seen
+          → IsLeft a.frame.tag (a.frame.config) (a.frame.book) (replay a.channels.seen) a.jobs.seen a.frame.config.stage
           → IsLeft k (s.frame.config) (s.frame.book) (replay c.seen) j.seen s.frame.config.stage
       of_frame a f calls jobs left =
           subst (λ n. IsLeft n (s.frame.config) (s.frame.book) (replay c.seen) j.seen s.frame.config.stage) (tag_of k s e)
@@ -349,10 +369,12 @@ module _ (p : Program) (first : Sight) (sights : List Sight) (c : ChannelFloor) 
     left = λ k lt.
         let x = the_sight k lt in
         subst (λ o. IsLeft k (config_in o) (book_at k (books_in sights)) (replay c.seen) j.seen (config_in o).stage) (sym x.1)
-        (subst (λ b. IsLeft k (x.0.frame.config) b (replay c.seen) j.seen x.0.frame.config.stage) (sym (book k (Some x.0) x.1)) (left_at k x.0 x.1));
+        (subst (λ b. IsLeft k (x.0.frame.config) b (replay c.seen) j.seen x.0.frame.config.stage) (sym (book k (Some x.0) x.1))
+        (left_at k x.0 x.1));
     nothing_owed = nothing_is_owed p (books_in sights) c.seen j.seen the_books;
     rest = at_rest p (books_in sights) c.seen j.seen the_books;
-    ended = subst (λ es. end_at (replay_jobs es 0) ≡ root) (between_same first.jobs.seen h.seen.0 j.seen h.seen.1 h.seen.2 same_tree ∙ sym same_tree) h.seen.3;
+    ended = subst (λ es. end_at (replay_jobs es 0) ≡ root) (between_same first.jobs.seen h.seen.0 j.seen h.seen.1 h.seen.2 same_tree
+        ∙ sym same_tree) h.seen.3;
   }
 
   pub run_rests : IsRunAtRest p (books_in sights) c.seen j.seen root

@@ -7,25 +7,21 @@ use Rattle.run_picture.specs.declared.outcome.Outcome.{Outcome}
 use Rattle.run_picture.specs.declared.outcome.Outcome.TheVariants as outcomes
 use Rattle.run_picture.specs.Outcomes.{Answers, Fails, IsMade, IsMadeOf, IsWritten, Means, Stream}
 
-pub fails_means : (o : Outcome) (asked : Option Asked) (source source' sink : Stream) → Fails o asked source source' → Means o asked source source' sink sink
+pub fails_means : (o : Outcome) (asked : Option Asked) (source source' sink : Stream) → Fails o asked source source'
+    → Means o asked source source' sink sink
 fails_means (outcomes.Drawn shown) asked source source' sink f = absurd f
 fails_means outcomes.WriteFault asked source source' sink f = absurd f
 fails_means outcomes.Refused asked source source' sink f = (f, refl)
-fails_means (outcomes.NoReport line) asked source source' sink f = (f, refl)
-fails_means outcomes.TooLong asked source source' sink f = (f, refl)
-fails_means outcomes.ReadFault asked source source' sink f = (f, refl)
-fails_means outcomes.NoMemory asked source source' sink f = (f, refl)
+fails_means other asked source source' sink f = (f, refl)
 
-pub written_means : (o : Outcome) (asked : Option Asked) (source source' sink sink' : Stream) (answer : Answer) → Answers asked answer.shown source source' answer.text.items → IsWritten o answer sink sink' → Means o asked source source' sink sink'
+pub written_means : (o : Outcome) (asked : Option Asked) (source source' sink sink' : Stream) (answer : Answer)
+    → Answers asked answer.shown source source' answer.text.items → IsWritten o answer sink sink' → Means o asked source source' sink sink'
 written_means (outcomes.Drawn shown) asked source source' sink sink' answer a w =
     record { text = answer.text.items; answers = subst (λ s. Answers asked s source source' answer.text.items) (sym w.0) a; taken = w.1 }
 written_means outcomes.WriteFault asked source source' sink sink' answer a w =
     record { rose = w.0; shown = answer.shown; text = answer.text.items; answers = a; part = w.1 }
 written_means outcomes.Refused asked source source' sink sink' answer a w = absurd w
-written_means (outcomes.NoReport line) asked source source' sink sink' answer a w = absurd w
-written_means outcomes.TooLong asked source source' sink sink' answer a w = absurd w
-written_means outcomes.ReadFault asked source source' sink sink' answer a w = absurd w
-written_means outcomes.NoMemory asked source source' sink sink' answer a w = absurd w
+written_means other asked source source' sink sink' answer a w = absurd w
 
 -- what was made of the input that the source gave
 pub made_of : (r : Result Answer Outcome) (what : Asked) (source source' : Stream) (input : List ℕ) → Gave source.bytes source'.bytes input

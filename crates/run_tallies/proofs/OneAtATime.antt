@@ -27,7 +27,8 @@ use Rattle.tally_laws.proofs.Shares.{and_holds}
 use Rattle.tally_laws.proofs.Summing.{item_past}
 
 -- an act that neither names nor settles a wait leaves the wait that the coroutine has
-waitless : (o : Option WaitId) (a : Option Act) (acts : List Act) → is_waitless a ≡ true → has_one_wait o (act_list a ++ acts) ≡ has_one_wait o acts
+waitless : (o : Option WaitId) (a : Option Act) (acts : List Act) → is_waitless a ≡ true
+    → has_one_wait o (act_list a ++ acts) ≡ has_one_wait o acts
 waitless o None acts e = refl
 waitless o (Some (Offer c q v w n)) acts e = cc
 waitless o (Some (Await c q w n)) acts e = cc
@@ -38,23 +39,29 @@ same_name : (u v : WaitId) → Some u ≡ Some v → u ≡ v
 same_name u v e = cc
 
 -- an act that names the wait, where there is none yet, or this one
-begins_one : (w : WaitId) (a : Act) (acts : List Act) → named_by a ≡ Some w → has_one_wait (Some w) acts ≡ true → has_one_wait None (a ∷ acts) ≡ true
+begins_one : (w : WaitId) (a : Act) (acts : List Act) → named_by a ≡ Some w → has_one_wait (Some w) acts ≡ true
+    → has_one_wait None (a ∷ acts) ≡ true
 begins_one w (Offer c q v u n) acts e h = subst (λ x. has_one_wait (Some x) acts ≡ true) (sym (same_name u w e)) h
 begins_one w (Await c q u n) acts e h = subst (λ x. has_one_wait (Some x) acts ≡ true) (sym (same_name u w e)) h
 begins_one w other acts e h = cc
 
-joins_one : (w : WaitId) (a : Act) (acts : List Act) → named_by a ≡ Some w → has_one_wait (Some w) acts ≡ true → has_one_wait (Some w) (a ∷ acts) ≡ true
-joins_one w (Offer c q v u n) acts e h = subst (λ x. (same_wait x w && has_one_wait (Some x) acts) ≡ true) (sym (same_name u w e)) (and_holds (same_wait w w) _ (same_wait-refl w) h)
-joins_one w (Await c q u n) acts e h = subst (λ x. (same_wait x w && has_one_wait (Some x) acts) ≡ true) (sym (same_name u w e)) (and_holds (same_wait w w) _ (same_wait-refl w) h)
+joins_one : (w : WaitId) (a : Act) (acts : List Act) → named_by a ≡ Some w → has_one_wait (Some w) acts ≡ true
+    → has_one_wait (Some w) (a ∷ acts) ≡ true
+joins_one w (Offer c q v u n) acts e h = subst (λ x. (same_wait x w && has_one_wait (Some x) acts) ≡ true) (sym (same_name u w e))
+    (and_holds (same_wait w w) _ (same_wait-refl w) h)
+joins_one w (Await c q u n) acts e h = subst (λ x. (same_wait x w && has_one_wait (Some x) acts) ≡ true) (sym (same_name u w e))
+    (and_holds (same_wait w w) _ (same_wait-refl w) h)
 joins_one w other acts e h = cc
 
 ends_one : (w : WaitId) (acts : List Act) → has_one_wait None acts ≡ true → (same_wait w w && has_one_wait None acts) ≡ true
 ends_one w acts h = and_holds (same_wait w w) _ (same_wait-refl w) h
 
 -- something told, before what is told later
-told_first : (o : Option WaitId) (t : Told) (more : List Told) → is_waitless (call_told t) ≡ true → has_one_wait o (channel_acts_in (items_in more)) ≡ true → has_one_wait o (channel_acts_in (items_in (t ∷ more))) ≡ true
+told_first : (o : Option WaitId) (t : Told) (more : List Told) → is_waitless (call_told t) ≡ true
+    → has_one_wait o (channel_acts_in (items_in more)) ≡ true → has_one_wait o (channel_acts_in (items_in (t ∷ more))) ≡ true
 unfolding items_in
-told_first o (note (item.Channel n)) more q h = ap (λ l. has_one_wait o (l ++ channel_acts_in (items_in more))) (act_of_note n) ∙ (waitless o (act_in_note n) (channel_acts_in (items_in more)) q ∙ h)
+told_first o (note (item.Channel n)) more q h = ap (λ l. has_one_wait o (l ++ channel_acts_in (items_in more))) (act_of_note n)
+    ∙ (waitless o (act_in_note n) (channel_acts_in (items_in more)) q ∙ h)
 told_first o (note (item.Job n)) more q h = h
 told_first o (on_channels fact) more q h = h
 told_first o (on_jobs fact) more q h = h
@@ -73,10 +80,13 @@ told_one _ _ _ (WaitsTold.withdrawn w row outcome o more h) = ends_one w (channe
 told_one _ _ _ (WaitsTold.late w row outcome o more h) = ends_one w (channel_acts_in (items_in more)) (told_one None o more h)
 
 -- the book of a coroutine
-book_one : (p : Program) (k : ℕ) (now : Moment) (book : List Item) (x : Config) → Runs p k now book x → has_one_wait None (channel_acts_in book) ≡ true
-book_one p k now book x r = subst (λ b. has_one_wait None (channel_acts_in b) ≡ true) r.written (told_one None _ r.told (all_told p k r.told x r.reaches))
+book_one : (p : Program) (k : ℕ) (now : Moment) (book : List Item) (x : Config) → Runs p k now book x
+    → has_one_wait None (channel_acts_in book) ≡ true
+book_one p k now book x r = subst (λ b. has_one_wait None (channel_acts_in b) ≡ true) r.written
+    (told_one None _ r.told (all_told p k r.told x r.reaches))
 
-pub books_of_run : (p : Program) (books : List (List Item)) (channels : List Entry) (jobs : List JobEntry) → BooksOf p books channels jobs → AreBooks books channels
+pub books_of_run : (p : Program) (books : List (List Item)) (channels : List Entry) (jobs : List JobEntry) → BooksOf p books channels jobs
+    → AreBooks books channels
 books_of_run p books channels jobs of = record {
   parts = of.channel_parts;
   one_wait = λ k. ⊎_elim

@@ -18,5 +18,7 @@ done_signals : (n : ℕ) → AreSignals (replicate n (Signal, 1))
 done_signals zero = refl
 done_signals (suc n) = done_signals n
 
-pub run_tallied : (p : Program) (books : List (List Item)) (channels : List Entry) (jobs : List JobEntry) → BooksOf p books channels jobs → ResolvedAreSettled (replay channels) → AreFatesOf (shape_of p) (acts_in channels) (tallied books)
-run_tallied p books channels jobs of rest = declared_books (shape_of p) (replicate (job_count p) (Signal, 1)) channels books (done_signals (job_count p)) of.legal_channels rest (books_of_run p books channels jobs of)
+pub run_tallied : (p : Program) (books : List (List Item)) (channels : List Entry) (jobs : List JobEntry) → BooksOf p books channels jobs
+    → ResolvedAreSettled (replay channels) → AreFatesOf (shape_of p) (acts_in channels) (tallied books)
+run_tallied p books channels jobs of rest = declared_books (shape_of p) (replicate (job_count p) (Signal, 1)) channels books
+    (done_signals (job_count p)) of.legal_channels rest (books_of_run p books channels jobs of)

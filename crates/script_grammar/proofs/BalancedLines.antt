@@ -35,22 +35,31 @@ behind code inner rest more e = ap (λ l. l ++ more) e ∙ append_assoc inner (E
 all_behind : (all js bs cs : List ℕ) → all ≡ js ++ bs → all ++ cs ≡ js ++ (bs ++ cs)
 all_behind all js bs cs e = ap (λ l. l ++ cs) e ∙ append_assoc js bs cs
 
-pub Balanced-append : (xs ys : List Instruction) (js bs : List ℕ) (m n : ℕ) → Balanced xs js m → Balanced ys bs n → Balanced (xs ++ ys) (js ++ bs) (m + n)
+pub Balanced-append : (xs ys : List Instruction) (js bs : List ℕ) (m n : ℕ) → Balanced xs js m → Balanced ys bs n
+    → Balanced (xs ++ ys) (js ++ bs) (m + n)
 Balanced-append _ ys _ bs _ n Balanced.none h = let same : n ≡ 0 + n = omega arith in subst (Balanced ys bs) same h
 Balanced-append _ ys _ bs m n (Balanced.line x code js all _ o e b is) h =
-    Balanced.line x (code ++ ys) (js ++ bs) (all ++ bs) (m + n) o e (Balanced-append code ys js bs m n b h) (all_behind all (listed (launch_of x)) js bs is)
+    Balanced.line x (code ++ ys) (js ++ bs) (all ++ bs) (m + n) o e (Balanced-append code ys js bs m n b h)
+    (all_behind all (listed (launch_of x)) js bs is)
 Balanced-append _ ys _ bs _ n (Balanced.repeats turns inner rest code js cs all m v count b r e is w) h =
-    Balanced.repeats turns inner (rest ++ ys) (code ++ ys) js (cs ++ bs) (all ++ bs) m (v + n) (count + n) b (Balanced-append rest ys cs bs v n r h) (behind code inner rest ys e) (all_behind all (times_over turns js) cs bs is) (omega (arith, w))
+    Balanced.repeats turns inner (rest ++ ys) (code ++ ys) js (cs ++ bs) (all
+    ++ bs) m (v + n) (count + n) b (Balanced-append rest ys cs bs v n r h) (behind code inner rest ys e)
+    (all_behind all (times_over turns js) cs bs is) (omega (arith, w))
 Balanced-append _ ys _ bs m n (Balanced.each c inner rest code cs _ b r e) h =
-    Balanced.each c inner (rest ++ ys) (code ++ ys) (cs ++ bs) (m + n) b (Balanced-append rest ys cs bs m n r h) (behind code inner rest ys e)
+    Balanced.each c inner (rest ++ ys) (code ++ ys) (cs ++ bs) (m + n) b (Balanced-append rest ys cs bs m n r h)
+    (behind code inner rest ys e)
 Balanced-append _ ys _ bs _ n (Balanced.scope supervisor inner rest code js cs all m v count b r e is w) h =
-    Balanced.scope supervisor inner (rest ++ ys) (code ++ ys) js (cs ++ bs) (all ++ bs) m (v + n) (count + n) b (Balanced-append rest ys cs bs v n r h) (behind code inner rest ys e) (all_behind all js cs bs is) (omega (arith, w))
+    Balanced.scope supervisor inner (rest ++ ys) (code ++ ys) js (cs ++ bs) (all
+    ++ bs) m (v + n) (count + n) b (Balanced-append rest ys cs bs v n r h) (behind code inner rest ys e) (all_behind all js cs bs is)
+    (omega (arith, w))
 Balanced-append _ ys _ bs m n (Balanced.select inner rest code cs _ b r e) h =
-    Balanced.select inner (rest ++ ys) (code ++ ys) (cs ++ bs) (m + n) b (Balanced-append rest ys cs bs m n r h) (behind code inner rest ys e)
+    Balanced.select inner (rest ++ ys) (code ++ ys) (cs ++ bs) (m + n) b (Balanced-append rest ys cs bs m n r h)
+    (behind code inner rest ys e)
 
 -- ---- what they launch
 
-line_launches : (outer : List (ℕ × List ℕ)) (blocks : List ℕ) (x : Instruction) (code : List Instruction) → opens_lines x ≡ false → is_end x ≡ false → launched_from outer blocks (x ∷ code) ≡ launched_from outer (blocks ++ listed (launch_of x)) code
+line_launches : (outer : List (ℕ × List ℕ)) (blocks : List ℕ) (x : Instruction) (code : List Instruction) → opens_lines x ≡ false
+    → is_end x ≡ false → launched_from outer blocks (x ∷ code) ≡ launched_from outer (blocks ++ listed (launch_of x)) code
 line_launches outer blocks (Send c v) code o e = ap (λ l. launched_from outer l code) (sym (append-nil blocks))
 line_launches outer blocks (TrySend c v) code o e = ap (λ l. launched_from outer l code) (sym (append-nil blocks))
 line_launches outer blocks (Receive c) code o e = ap (λ l. launched_from outer l code) (sym (append-nil blocks))
@@ -84,7 +93,8 @@ after_none : (blocks : List ℕ) (n : ℕ) → blocks ++ times_over n [] ≡ blo
 after_none blocks n = ap (λ l. blocks ++ l) (times_over-none n) ∙ append-nil blocks
 
 -- the lines behind go on with what these launched
-pub launched_through : (outer : List (ℕ × List ℕ)) (blocks : List ℕ) (xs more : List Instruction) (js : List ℕ) (m : ℕ) → Balanced xs js m → launched_from outer blocks (xs ++ more) ≡ launched_from outer (blocks ++ js) more
+pub launched_through : (outer : List (ℕ × List ℕ)) (blocks : List ℕ) (xs more : List Instruction) (js : List ℕ) (m : ℕ) → Balanced xs js m
+    → launched_from outer blocks (xs ++ more) ≡ launched_from outer (blocks ++ js) more
 launched_through outer blocks _ more _ _ Balanced.none = ap (λ l. launched_from outer l more) (sym (append-nil blocks))
 launched_through outer blocks _ more _ _ (Balanced.line x code js all n o e b is) =
     line_launches outer blocks x (code ++ more) o e
@@ -117,7 +127,8 @@ launched-Balanced xs js m b = ap launched (sym (append-nil xs)) ∙ launched_thr
 
 -- ---- how many scopes they enter
 
-line_scopes : (nest : List ℕ) (x : Instruction) (code : List Instruction) → opens_lines x ≡ false → is_end x ≡ false → scopes_from nest (x ∷ code) ≡ scopes_from nest code
+line_scopes : (nest : List ℕ) (x : Instruction) (code : List Instruction) → opens_lines x ≡ false → is_end x ≡ false
+    → scopes_from nest (x ∷ code) ≡ scopes_from nest code
 line_scopes nest (Send c v) code o e = omega arith
 line_scopes nest (TrySend c v) code o e = omega arith
 line_scopes nest (Receive c) code o e = omega arith
@@ -146,9 +157,11 @@ spread p t m n = omega arith
 nothing : (p n : ℕ) → p * 0 + n ≡ n
 nothing p n = omega arith
 
-pub scopes_through : (nest : List ℕ) (xs more : List Instruction) (js : List ℕ) (m : ℕ) → Balanced xs js m → scopes_from nest (xs ++ more) ≡ product nest * m + scopes_from nest more
+pub scopes_through : (nest : List ℕ) (xs more : List Instruction) (js : List ℕ) (m : ℕ) → Balanced xs js m
+    → scopes_from nest (xs ++ more) ≡ product nest * m + scopes_from nest more
 scopes_through nest _ more _ _ Balanced.none = sym (nothing (product nest) (scopes_from nest more))
-scopes_through nest _ more _ _ (Balanced.line x code js all n o e b is) = line_scopes nest x (code ++ more) o e ∙ scopes_through nest code more js n b
+scopes_through nest _ more _ _ (Balanced.line x code js all n o e b is) = line_scopes nest x (code ++ more) o e
+    ∙ scopes_through nest code more js n b
 scopes_through nest _ more _ _ (Balanced.repeats turns inner rest code js cs all m n count b r e is w) =
     let p = product nest in
     let s = scopes_from nest more in
@@ -194,9 +207,11 @@ scopes_from-Balanced xs js m b = ap (scopes_from []) (sym (append-nil xs)) ∙ s
 
 -- ---- where they are closed
 
-line_closes : (d i : ℕ) (x : Instruction) (code : List Instruction) → opens_lines x ≡ false → is_end x ≡ false → closing_from d i (x ∷ code) ≡ closing_from d (i + 1) code
+line_closes : (d i : ℕ) (x : Instruction) (code : List Instruction) → opens_lines x ≡ false → is_end x ≡ false
+    → closing_from d i (x ∷ code) ≡ closing_from d (i + 1) code
 line_closes d i x code o e =
-    ap (λ t. if t then end_from d i (closing_from (one_less d) (i + 1) code) else closing_from (if opens_lines x then d + 1 else (if t then one_less d else d)) (i + 1) code) e
+    ap (λ t. if t then end_from d i (closing_from (one_less d) (i + 1) code) else closing_from
+    (if opens_lines x then d + 1 else (if t then one_less d else d)) (i + 1) code) e
     ∙ ap (λ t. closing_from (if t then d + 1 else d) (i + 1) code) o
 
 closed_next : (d i : ℕ) (code : List Instruction) → closing_from (d + 1) i (End ∷ code) ≡ closing_from d (i + 1) code
@@ -211,28 +226,37 @@ within : (d i : ℕ) (inner rest code more : List Instruction) → code ≡ inne
     → closing_from d (i + length inner + 1) (rest ++ more) ≡ closing_from d (i + length inner + 1 + length rest) more
     → closing_from (d + 1) i (code ++ more) ≡ closing_from d (i + length code) more
 within d i inner rest code more e first second =
-    let all : length code ≡ length inner + (1 + length rest) = ap length e ∙ length-append inner (End ∷ rest) ∙ behind_end (length inner) (length rest) in
+    let all : length code ≡ length inner + (1 + length rest) = ap length e ∙ length-append inner (End ∷ rest)
+    ∙ behind_end (length inner) (length rest) in
     let same : i + length inner + 1 + length rest ≡ i + length code = omega (arith, all) in
-    ap (closing_from (d + 1) i) (behind code inner rest more e) ∙ first ∙ closed_next d (i + length inner) (rest ++ more) ∙ second ∙ ap (λ n. closing_from d n more) same
+    ap (closing_from (d + 1) i) (behind code inner rest more e) ∙ first ∙ closed_next d (i + length inner) (rest ++ more) ∙ second
+    ∙ ap (λ n. closing_from d n more) same
   where
     behind_end : (a b : ℕ) → a + suc b ≡ a + (1 + b)
     behind_end a b = omega arith
 
-pub closing_through : (d i : ℕ) (xs more : List Instruction) (js : List ℕ) (m : ℕ) → Balanced xs js m → closing_from d i (xs ++ more) ≡ closing_from d (i + length xs) more
+pub closing_through : (d i : ℕ) (xs more : List Instruction) (js : List ℕ) (m : ℕ) → Balanced xs js m
+    → closing_from d i (xs ++ more) ≡ closing_from d (i + length xs) more
 closing_through d i _ more _ _ Balanced.none = let same : i ≡ i + 0 = omega arith in ap (λ n. closing_from d n more) same
 closing_through d i _ more _ _ (Balanced.line x code js all n o e b is) =
-    line_closes d i x (code ++ more) o e ∙ closing_through d (i + 1) code more js n b ∙ ap (λ n. closing_from d n more) (further i (length code))
+    line_closes d i x (code ++ more) o e ∙ closing_through d (i + 1) code more js n b
+    ∙ ap (λ n. closing_from d n more) (further i (length code))
 closing_through d i _ more _ _ (Balanced.repeats turns inner rest code js cs all m n count b r e is w) =
-    within d (i + 1) inner rest code more e (closing_through (d + 1) (i + 1) inner (End ∷ (rest ++ more)) js m b) (closing_through d (i + 1 + length inner + 1) rest more cs n r) ∙ ap (λ n. closing_from d n more) (further i (length code))
+    within d (i + 1) inner rest code more e (closing_through (d + 1) (i + 1) inner (End ∷ (rest ++ more)) js m b)
+    (closing_through d (i + 1 + length inner + 1) rest more cs n r) ∙ ap (λ n. closing_from d n more) (further i (length code))
 closing_through d i _ more _ _ (Balanced.each c inner rest code cs n b r e) =
-    within d (i + 1) inner rest code more e (closing_through (d + 1) (i + 1) inner (End ∷ (rest ++ more)) [] 0 b) (closing_through d (i + 1 + length inner + 1) rest more cs n r) ∙ ap (λ n. closing_from d n more) (further i (length code))
+    within d (i + 1) inner rest code more e (closing_through (d + 1) (i + 1) inner (End ∷ (rest ++ more)) [] 0 b)
+    (closing_through d (i + 1 + length inner + 1) rest more cs n r) ∙ ap (λ n. closing_from d n more) (further i (length code))
 closing_through d i _ more _ _ (Balanced.scope supervisor inner rest code js cs all m n count b r e is w) =
-    within d (i + 1) inner rest code more e (closing_through (d + 1) (i + 1) inner (End ∷ (rest ++ more)) js m b) (closing_through d (i + 1 + length inner + 1) rest more cs n r) ∙ ap (λ n. closing_from d n more) (further i (length code))
+    within d (i + 1) inner rest code more e (closing_through (d + 1) (i + 1) inner (End ∷ (rest ++ more)) js m b)
+    (closing_through d (i + 1 + length inner + 1) rest more cs n r) ∙ ap (λ n. closing_from d n more) (further i (length code))
 closing_through d i _ more _ _ (Balanced.select inner rest code cs n b r e) =
-    within d (i + 1) inner rest code more e (closing_through (d + 1) (i + 1) inner (End ∷ (rest ++ more)) [] 0 b) (closing_through d (i + 1 + length inner + 1) rest more cs n r) ∙ ap (λ n. closing_from d n more) (further i (length code))
+    within d (i + 1) inner rest code more e (closing_through (d + 1) (i + 1) inner (End ∷ (rest ++ more)) [] 0 b)
+    (closing_through d (i + 1 + length inner + 1) rest more cs n r) ∙ ap (λ n. closing_from d n more) (further i (length code))
 
 -- the line at the head of these is closed by the end behind them
-pub closing-Balanced : (i : ℕ) (xs more : List Instruction) (js : List ℕ) (m : ℕ) → Balanced xs js m → closing_from 0 i (xs ++ End ∷ more) ≡ Some (i + length xs)
+pub closing-Balanced : (i : ℕ) (xs more : List Instruction) (js : List ℕ) (m : ℕ) → Balanced xs js m
+    → closing_from 0 i (xs ++ End ∷ more) ≡ Some (i + length xs)
 closing-Balanced i xs more js m b = closing_through 0 i xs (End ∷ more) js m b
 
 drop_more : {A : Type 0} (m n : ℕ) (xs : List A) → drop (m + n) xs ≡ drop n (drop m xs)
@@ -252,9 +276,11 @@ drop_behind code xs more i e =
     ap (λ n. drop n code) same ∙ drop_more i (length xs + 1) code ∙ ap (drop (length xs + 1)) e ∙ drop-append-add xs (End ∷ more) 1
 
 -- behind the line that closes what this line opens stand the lines behind that end
-pub after_closing : (code xs more : List Instruction) (head e : ℕ) (js : List ℕ) (m : ℕ) → Balanced xs js m → drop (head + 1) code ≡ xs ++ End ∷ more → closing_of code head ≡ Some e → drop (e + 1) code ≡ more
+pub after_closing : (code xs more : List Instruction) (head e : ℕ) (js : List ℕ) (m : ℕ) → Balanced xs js m → drop (head + 1) code ≡ xs
+    ++ End ∷ more → closing_of code head ≡ Some e → drop (e + 1) code ≡ more
 after_closing code xs more head e js m b d c =
-    let found : closing_of code head ≡ Some (head + 1 + length xs) = ap (closing_from 0 (head + 1)) d ∙ closing-Balanced (head + 1) xs more js m b in
+    let found : closing_of code head ≡ Some (head + 1 + length xs) = ap (closing_from 0 (head + 1)) d
+    ∙ closing-Balanced (head + 1) xs more js m b in
     let both_some : Some e ≡ Some (head + 1 + length xs) = sym c ∙ found in
     let same : e ≡ head + 1 + length xs = cc in
     ap (λ n. drop (n + 1) code) same ∙ drop_behind code xs more (head + 1) d

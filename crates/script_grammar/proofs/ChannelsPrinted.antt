@@ -18,19 +18,23 @@ SayAll-append s m t (words ∷ xs) ys d e = (d.0, d.1, d.2, SayAll-append (after
 -- ---- channels
 
 abbrev pub between : ℕ → List Declared → List Block → List ℕ → List (ℕ × ℕ) → Read
-between version channels blocks weights spawns = record { version = version; channels = channels; blocks = blocks; spawns = spawns; weights = weights; current = None }
+between version channels blocks weights spawns = record
+    { version = version; channels = channels; blocks = blocks; spawns = spawns; weights = weights; current = None }
 
 places_in-append : (xs ys : List Declared) → places_in (xs ++ ys) ≡ places_in xs + places_in ys
 places_in-append [] ys = omega arith
 places_in-append (x ∷ xs) ys = omega (arith, places_in-append xs ys)
 
-pub channels_said : (version : ℕ) (done rest : List Declared) → all_fresh (channel_names done) (channel_names rest) ≡ true → list_all (is_declared version) rest ≡ true → length (done ++ rest) ≤ 256 → places_in (done ++ rest) ≤ 4194304 → SayAll (between version done [] [] []) (map (λ c. channel_words c true true) rest) (between version (done ++ rest) [] [] [])
+pub channels_said : (version : ℕ) (done rest : List Declared) → all_fresh (channel_names done) (channel_names rest) ≡ true
+    → list_all (is_declared version) rest ≡ true → length (done ++ rest) ≤ 256 → places_in (done ++ rest) ≤ 4194304
+    → SayAll (between version done [] [] []) (map (λ c. channel_words c true true) rest) (between version (done ++ rest) [] [] [])
 channels_said version done [] fresh declared few places = ap (λ cs. between version cs [] [] []) (sym (append-nil done))
 channels_said version done (c ∷ rest) fresh declared few places =
     let two = both_true _ _ fresh in
     let more = both_true _ _ declared in
     let all : (done ++ c ∷ []) ++ rest ≡ done ++ c ∷ rest = append_assoc done (c ∷ []) rest in
-    let names : channel_names done ++ c.name ∷ [] ≡ channel_names (done ++ c ∷ []) = sym (map-append (λ (d : Declared). d.name) done (c ∷ [])) in (
+    let names : channel_names done ++ c.name ∷ [] ≡ channel_names (done ++ c ∷ []) =
+    sym (map-append (λ (d : Declared). d.name) done (c ∷ [])) in (
       channel_is c,
       (true, true, refl, refl, two.0, more.0, full c.kind, refl),
       record {
@@ -39,15 +43,12 @@ channels_said version done (c ∷ rest) fresh declared few places =
         current = tt;
         load = omega arith;
       },
-      subst (λ cs. SayAll (between version (done ++ c ∷ []) [] [] []) (map (λ c. channel_words c true true) rest) (between version cs [] [] [])) all
-          (channels_said version (done ++ c ∷ []) rest (subst (λ ns. all_fresh ns (channel_names rest) ≡ true) names two.1) more.1 (omega (arith, few, ap length all)) (omega (arith, places, ap places_in all))),
+      subst (λ cs. SayAll (between version (done ++ c ∷ []) [] [] []) (map (λ c. channel_words c true true) rest)
+          (between version cs [] [] [])) all
+          (channels_said version (done ++ c ∷ []) rest (subst (λ ns. all_fresh ns (channel_names rest) ≡ true) names two.1) more.1
+          (omega (arith, few, ap length all)) (omega (arith, places, ap places_in all))),
     )
   where
     full : (kind : Kind) → has_capacity kind true ≡ true
     full Rendezvous = refl
-    full (Buffered k) = refl
-    full Unlimited = refl
-    full Conflated = refl
-    full (DropOldest k) = refl
-    full (DropLatest k) = refl
-    full Signal = refl
+    full other = refl

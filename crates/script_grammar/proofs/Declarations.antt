@@ -18,7 +18,8 @@ use Rattle.script_grammar.proofs.Layouts.{test_at, channels_known, block_of_tag-
 
 -- ---- tests of all elements
 
-pub test_below : {X : Type 0} (test : X → Bool) (xs : List X) (i : ℕ) (d : X) → list_all test xs ≡ true → i < length xs → test (get_or xs i d) ≡ true
+pub test_below : {X : Type 0} (test : X → Bool) (xs : List X) (i : ℕ) (d : X) → list_all test xs ≡ true → i < length xs
+    → test (get_or xs i d) ≡ true
 test_below test xs i d all h = test_at test xs i (get_or xs i d) all (slice_get-get_or xs i d h)
 
 -- ---- channels
@@ -29,10 +30,12 @@ length-shape_of p = length-map p.channels (λ c. (c.kind, c.places))
 no_channel : Declared
 no_channel = record { name = []; kind = Signal; places = 0 }
 
-declared_at : (p : Program) → IsProgram p → (c : ℕ) → c < length (shape_of p) → is_declared p.version (get_or p.channels c no_channel) ≡ true
+declared_at : (p : Program) → IsProgram p → (c : ℕ) → c < length (shape_of p)
+    → is_declared p.version (get_or p.channels c no_channel) ≡ true
 declared_at p ok c h = test_below (is_declared p.version) p.channels c no_channel ok.channels (omega (arith, h, length-shape_of p))
 
-shape_at : (p : Program) (c : ℕ) → c < length (shape_of p) → get_or (shape_of p) c (Signal, 0) ≡ ((get_or p.channels c no_channel).kind, (get_or p.channels c no_channel).places)
+shape_at : (p : Program) (c : ℕ) → c < length (shape_of p)
+    → get_or (shape_of p) c (Signal, 0) ≡ ((get_or p.channels c no_channel).kind, (get_or p.channels c no_channel).places)
 shape_at p c h = get_or-map (λ d. (d.kind, d.places)) p.channels c no_channel (Signal, 0) (omega (arith, h, length-shape_of p))
 
 kind_is : (p : Program) (c : ℕ) → c < length (shape_of p) → kind_at (shape_of p) c ≡ (get_or p.channels c no_channel).kind
@@ -59,7 +62,8 @@ is_signal-shape_of p ok c h =
     no_signal (DropLatest k) e = refl
     no_signal Signal e = cc
 
-pub places_at-shape_of : (p : Program) → IsProgram p → (c : ℕ) → c < length (shape_of p) → (1 ≤ places_at (shape_of p) c) × (places_at (shape_of p) c ≤ 1048576)
+pub places_at-shape_of : (p : Program) → IsProgram p → (c : ℕ) → c < length (shape_of p) → (1 ≤ places_at (shape_of p) c)
+    × (places_at (shape_of p) c ≤ 1048576)
 places_at-shape_of p ok c h =
     let d = get_or p.channels c no_channel in
     let same : places_at (shape_of p) c ≡ d.places = ap (λ (x : Kind × ℕ). x.1) (shape_at p c h) in
@@ -71,25 +75,31 @@ places_at-shape_of p ok c h =
 -- ---- lines
 
 -- a line of a coroutine names a channel that is declared, or none
-pub line-within : (p : Program) → IsProgram p → (tag i : ℕ) (x : Instruction) → slice_get (code_of p tag) i ≡ Some x → names_channel (length (shape_of p)) x ≡ true
+pub line-within : (p : Program) → IsProgram p → (tag i : ℕ) (x : Instruction) → slice_get (code_of p tag) i ≡ Some x
+    → names_channel (length (shape_of p)) x ≡ true
 line-within p ok tag i x at =
-    let known : names_channel (length p.channels) x ≡ true = test_at (names_channel (length p.channels)) (code_of p tag) i x (channels_known p tag ok) at in
+    let known : names_channel (length p.channels) x ≡ true =
+    test_at (names_channel (length p.channels)) (code_of p tag) i x (channels_known p tag ok) at in
     ap (λ n. names_channel n x) (length-shape_of p) ∙ known
 
 -- ---- targets
 
-target_from : (from j i : ℕ) (bs : List Block) (b : Block) (x : Instruction) → targets_back from bs ≡ true → slice_get bs j ≡ Some b → slice_get b.code i ≡ Some x → launch_below (from + j) x ≡ true
+target_from : (from j i : ℕ) (bs : List Block) (b : Block) (x : Instruction) → targets_back from bs ≡ true → slice_get bs j ≡ Some b
+    → slice_get b.code i ≡ Some x → launch_below (from + j) x ≡ true
 target_from from j i [] b x e at line = cc
 target_from from zero i (c ∷ bs) b x e at line =
     let same : c ≡ b = cc in
     let here : from ≡ from + zero = omega arith in
-    ap (λ n. launch_below n x) (sym here) ∙ test_at (launch_below from) c.code i x (both_true (list_all (launch_below from) c.code) _ e).0 (ap (λ (d : Block). slice_get d.code i) same ∙ line)
+    ap (λ n. launch_below n x) (sym here) ∙ test_at (launch_below from) c.code i x (both_true (list_all (launch_below from) c.code) _ e).0
+    (ap (λ (d : Block). slice_get d.code i) same ∙ line)
 target_from from (suc j) i (c ∷ bs) b x e at line =
     let here : from + 1 + j ≡ from + suc j = omega arith in
-    ap (λ n. launch_below n x) (sym here) ∙ target_from (from + 1) j i bs b x (both_true (list_all (launch_below from) c.code) _ e).1 at line
+    ap (λ n. launch_below n x) (sym here) ∙ target_from (from + 1) j i bs b x (both_true (list_all (launch_below from) c.code) _ e).1 at
+    line
 
 -- a line launches a block before its own, or none
-pub target-before : (p : Program) → IsProgram p → (n i : ℕ) (b : Block) (x : Instruction) → slice_get p.blocks n ≡ Some b → slice_get b.code i ≡ Some x → launch_below n x ≡ true
+pub target-before : (p : Program) → IsProgram p → (n i : ℕ) (b : Block) (x : Instruction) → slice_get p.blocks n ≡ Some b
+    → slice_get b.code i ≡ Some x → launch_below n x ≡ true
 target-before p ok n i b x at line =
     let here : n ≡ 0 + n = omega arith in
     ap (λ m. launch_below m x) here ∙ target_from 0 n i p.blocks b x (Declares-from_program p ok).targets at line

@@ -33,23 +33,29 @@ sender-weighs weights name value n = no_more (1 + n * 1 * 0) (n * 1) ∙ no_more
 light : (w : ℕ) → w ≡ 1 → nat_le w 16000 ≡ true
 light w e = ap (λ k. nat_le k 16000) e
 
-sender-fits : (before : List (List ℕ)) (weights name : List ℕ) (value n : ℕ) → 1 ≤ n → n ≤ 1000000 → nat_lt value (2 ^ 32) ≡ true → lines_fit 2 before weights [] (opened name) (sender name value n).code ≡ true
+sender-fits : (before : List (List ℕ)) (weights name : List ℕ) (value n : ℕ) → 1 ≤ n → n ≤ 1000000 → nat_lt value (2 ^ 32) ≡ true
+    → lines_fit 2 before weights [] (opened name) (sender name value n).code ≡ true
 sender-fits before weights name value n low high small =
     both _ _ (both _ _ refl (both _ _ (both (nat_le 1 n) (nat_le n 1000000) (le-true 1 n low) (le-true n 1000000 high)) refl))
     (both _ _ refl
     (both _ _ (both _ _ refl (both _ _ small refl))
     (both _ _ (both _ _ refl (both _ _ refl (light (1 + n * 1 * 0) (no_more 1 (n * 1)))))
     (both _ _ refl
-    (both _ _ (both _ _ refl (both _ _ refl (light (1 + n * 1 * 0 + n * 1 * 0) (no_more (1 + n * 1 * 0) (n * 1) ∙ no_more 1 (n * 1))))) refl)))))
+    (both _ _ (both _ _ refl (both _ _ refl (light (1 + n * 1 * 0 + n * 1 * 0) (no_more (1 + n * 1 * 0) (n * 1) ∙ no_more 1 (n * 1)))))
+    refl)))))
 
 -- a sender before other blocks
-before-blocks : (before : List (List ℕ)) (weights name : List ℕ) (value n : ℕ) (bs : List Block) → 1 ≤ n → n ≤ 1000000 → is_fresh before name ≡ true → nat_lt value (2 ^ 32) ≡ true → blocks_fit 2 (before ++ name ∷ []) (weights ++ 1 ∷ []) bs ≡ true → blocks_fit 2 before weights (sender name value n ∷ bs) ≡ true
+before-blocks : (before : List (List ℕ)) (weights name : List ℕ) (value n : ℕ) (bs : List Block) → 1 ≤ n → n ≤ 1000000
+    → is_fresh before name ≡ true → nat_lt value (2 ^ 32) ≡ true → blocks_fit 2 (before ++ name ∷ []) (weights ++ 1 ∷ []) bs ≡ true
+    → blocks_fit 2 before weights (sender name value n ∷ bs) ≡ true
 before-blocks before weights name value n bs low high fresh small rest =
     both (is_fresh before name) _ fresh
-    (both (lines_fit 2 before weights [] (opened name) (sender name value n).code) _ (sender-fits before weights name value n low high small)
+    (both (lines_fit 2 before weights [] (opened name) (sender name value n).code) _
+    (sender-fits before weights name value n low high small)
     (ap (λ w. blocks_fit 2 (before ++ name ∷ []) (weights ++ w ∷ []) bs) (sender-weighs weights name value n) ∙ rest))
 
-before-weights : (weights name : List ℕ) (value n : ℕ) (bs : List Block) → weights_from weights (sender name value n ∷ bs) ≡ weights_from (weights ++ 1 ∷ []) bs
+before-weights : (weights name : List ℕ) (value n : ℕ) (bs : List Block)
+    → weights_from weights (sender name value n ∷ bs) ≡ weights_from (weights ++ 1 ∷ []) bs
 before-weights weights name value n bs = ap (λ w. weights_from (weights ++ w ∷ []) bs) (sender-weighs weights name value n)
 
 -- ---- the program
@@ -79,7 +85,8 @@ generated-weights n =
     ∙ before-weights (1 ∷ 1 ∷ 1 ∷ []) p4 4 n others
 
 few_places : (n : ℕ) → n ≤ 100000 → is_places (places_for n) ≡ true
-few_places n high = both (nat_le 1 (places_for n)) (nat_le (places_for n) 1048576) (le-true 1 (places_for n) (omega arith)) (le-true (places_for n) 1048576 (omega (arith, high)))
+few_places n high = both (nat_le 1 (places_for n)) (nat_le (places_for n) 1048576) (le-true 1 (places_for n) (omega arith))
+    (le-true (places_for n) 1048576 (omega (arith, high)))
 
 pub generated-is_program : (n : ℕ) → 1 ≤ n → n ≤ 100000 → IsProgram (generated n)
 generated-is_program n low high =
@@ -113,7 +120,16 @@ short_decimal n h = length-decimal-le 10 n (omega arith) h (omega (arith, h))
 short_text : (n : ℕ) → n ≤ 100000 → length (generated_text n) ≤ 1048576
 unfolding lengths
 short_text n high =
-    omega (arith, length-concat (text_parts n), short_decimal n (omega (arith, high)), short_decimal (places_for n) (omega (arith, high)), short_decimal 1 (omega arith), short_decimal 2 (omega arith), short_decimal 3 (omega arith), short_decimal 4 (omega arith))
+    omega (
+      arith,
+      length-concat (text_parts n),
+      short_decimal n (omega (arith, high)),
+      short_decimal (places_for n) (omega (arith, high)),
+      short_decimal 1 (omega arith),
+      short_decimal 2 (omega arith),
+      short_decimal 3 (omega arith),
+      short_decimal 4 (omega arith),
+    )
 
 pub Spells-generated_text : (n : ℕ) → 1 ≤ n → n ≤ 100000 → Spells (generated_text n) (generated n)
 Spells-generated_text n low high =
@@ -123,4 +139,5 @@ Spells-generated_text n low high =
 
 pub job_count-generated : (n : ℕ) → 1 ≤ n → n ≤ 100000 → job_count (generated n) ≡ 11
 job_count-generated n low high =
-    sym (whole_load-job_count (generated n) (generated-is_program n low high)) ∙ ap (λ ws. closed_main (generated n).blocks ws + spawned_weight ws []) (generated-weights n)
+    sym (whole_load-job_count (generated n) (generated-is_program n low high))
+    ∙ ap (λ ws. closed_main (generated n).blocks ws + spawned_weight ws []) (generated-weights n)

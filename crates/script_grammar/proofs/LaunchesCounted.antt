@@ -42,16 +42,23 @@ grouped p n t = omega arith
 once : (n : ℕ) → 1 * n ≡ n
 once n = omega arith
 
-worth-append : (count : ℕ → ℕ) (outer : List (ℕ × List ℕ)) (js ks : List ℕ) → worth count outer (js ++ ks) ≡ worth count outer js + product (turns_of outer) * total count ks
+worth-append : (count : ℕ → ℕ) (outer : List (ℕ × List ℕ)) (js ks : List ℕ)
+    → worth count outer (js ++ ks) ≡ worth count outer js + product (turns_of outer) * total count ks
 worth-append count [] js ks = omega (arith, total-append count js ks, once (total count ks))
 worth-append count (o ∷ outer) js ks =
     let p = product (turns_of (o ∷ outer)) in
     omega (arith, ap (λ t. p * t) (total-append count js ks), spread p (total count js) (total count ks))
 
-worth-closed : (count : ℕ → ℕ) (o : ℕ × List ℕ) (outer : List (ℕ × List ℕ)) (js : List ℕ) → worth count outer (o.1 ++ times_over o.0 js) ≡ worth count (o ∷ outer) js
+worth-closed : (count : ℕ → ℕ) (o : ℕ × List ℕ) (outer : List (ℕ × List ℕ)) (js : List ℕ)
+    → worth count outer (o.1 ++ times_over o.0 js) ≡ worth count (o ∷ outer) js
 worth-closed count o outer js =
     let p = product (turns_of outer) in
-    omega (arith, worth-append count outer o.1 (times_over o.0 js), ap (λ t. p * t) (total-times count o.0 js), grouped p o.0 (total count js))
+    omega (
+      arith,
+      worth-append count outer o.1 (times_over o.0 js),
+      ap (λ t. p * t) (total-times count o.0 js),
+      grouped p o.0 (total count js),
+    )
 
 all_closed : (count : ℕ → ℕ) (outer : List (ℕ × List ℕ)) (js : List ℕ) → total count (closed_all outer js) ≡ worth count outer js
 all_closed count [] js = refl
@@ -60,7 +67,8 @@ all_closed count (o ∷ outer) js = all_closed count outer (o.1 ++ times_over o.
 none : (p n : ℕ) → n ≡ p * 0 + n
 none p n = omega arith
 
-opened_worth : (count : ℕ → ℕ) (turns : ℕ) (outer : List (ℕ × List ℕ)) (js : List ℕ) → worth count ((turns, js) ∷ outer) [] ≡ worth count outer js
+opened_worth : (count : ℕ → ℕ) (turns : ℕ) (outer : List (ℕ × List ℕ)) (js : List ℕ)
+    → worth count ((turns, js) ∷ outer) [] ≡ worth count outer js
 opened_worth count turns outer js = sym (none (product (turns_of ((turns, js) ∷ outer))) (worth count outer js))
 
 -- lines that launch nothing
@@ -71,32 +79,64 @@ single : (count : ℕ → ℕ) (b : ℕ) → total count (b ∷ []) ≡ count b
 single count b = omega arith
 
 -- how much is launched in all
-pub total-launched_from : (count : ℕ → ℕ) (outer : List (ℕ × List ℕ)) (js : List ℕ) (code : List Instruction) → total count (launched_from outer js code) ≡ worth count outer js + launches_from count (turns_of outer) code
+pub total-launched_from : (count : ℕ → ℕ) (outer : List (ℕ × List ℕ)) (js : List ℕ) (code : List Instruction)
+    → total count (launched_from outer js code) ≡ worth count outer js + launches_from count (turns_of outer) code
 total-launched_from count outer js [] = omega (arith, all_closed count outer js)
-total-launched_from count outer js (Send c v ∷ code) = total-launched_from count outer js code ∙ plain (product (turns_of outer)) (worth count outer js) (launches_from count (turns_of outer) code)
-total-launched_from count outer js (TrySend c v ∷ code) = total-launched_from count outer js code ∙ plain (product (turns_of outer)) (worth count outer js) (launches_from count (turns_of outer) code)
-total-launched_from count outer js (Receive c ∷ code) = total-launched_from count outer js code ∙ plain (product (turns_of outer)) (worth count outer js) (launches_from count (turns_of outer) code)
-total-launched_from count outer js (TryReceive c ∷ code) = total-launched_from count outer js code ∙ plain (product (turns_of outer)) (worth count outer js) (launches_from count (turns_of outer) code)
-total-launched_from count outer js (Close c ∷ code) = total-launched_from count outer js code ∙ plain (product (turns_of outer)) (worth count outer js) (launches_from count (turns_of outer) code)
-total-launched_from count outer js (CancelChannel c ∷ code) = total-launched_from count outer js code ∙ plain (product (turns_of outer)) (worth count outer js) (launches_from count (turns_of outer) code)
-total-launched_from count outer js (Yield ∷ code) = total-launched_from count outer js code ∙ plain (product (turns_of outer)) (worth count outer js) (launches_from count (turns_of outer) code)
+total-launched_from count outer js (Send c v ∷ code) = total-launched_from count outer js code
+    ∙ plain (product (turns_of outer)) (worth count outer js) (launches_from count (turns_of outer) code)
+total-launched_from count outer js (TrySend c v ∷ code) = total-launched_from count outer js code
+    ∙ plain (product (turns_of outer)) (worth count outer js) (launches_from count (turns_of outer) code)
+total-launched_from count outer js (Receive c ∷ code) = total-launched_from count outer js code
+    ∙ plain (product (turns_of outer)) (worth count outer js) (launches_from count (turns_of outer) code)
+total-launched_from count outer js (TryReceive c ∷ code) = total-launched_from count outer js code
+    ∙ plain (product (turns_of outer)) (worth count outer js) (launches_from count (turns_of outer) code)
+total-launched_from count outer js (Close c ∷ code) = total-launched_from count outer js code
+    ∙ plain (product (turns_of outer)) (worth count outer js) (launches_from count (turns_of outer) code)
+total-launched_from count outer js (CancelChannel c ∷ code) = total-launched_from count outer js code
+    ∙ plain (product (turns_of outer)) (worth count outer js) (launches_from count (turns_of outer) code)
+total-launched_from count outer js (Yield ∷ code) = total-launched_from count outer js code
+    ∙ plain (product (turns_of outer)) (worth count outer js) (launches_from count (turns_of outer) code)
 total-launched_from count outer js (Launch p how job ∷ code) =
     let n = product (turns_of outer) in
-    omega (arith, total-launched_from count outer (js ++ p ∷ []) code, worth-append count outer js (p ∷ []), ap (λ t. n * t) (single count p))
-total-launched_from count outer js (Start j ∷ code) = total-launched_from count outer js code ∙ plain (product (turns_of outer)) (worth count outer js) (launches_from count (turns_of outer) code)
-total-launched_from count outer js (Join j ∷ code) = total-launched_from count outer js code ∙ plain (product (turns_of outer)) (worth count outer js) (launches_from count (turns_of outer) code)
-total-launched_from count outer js (Await j ∷ code) = total-launched_from count outer js code ∙ plain (product (turns_of outer)) (worth count outer js) (launches_from count (turns_of outer) code)
-total-launched_from count outer js (Cancel j ∷ code) = total-launched_from count outer js code ∙ plain (product (turns_of outer)) (worth count outer js) (launches_from count (turns_of outer) code)
-total-launched_from count outer js (Fail k ∷ code) = total-launched_from count outer js code ∙ plain (product (turns_of outer)) (worth count outer js) (launches_from count (turns_of outer) code)
-total-launched_from count outer js (SetResult v ∷ code) = total-launched_from count outer js code ∙ plain (product (turns_of outer)) (worth count outer js) (launches_from count (turns_of outer) code)
-total-launched_from count outer js (Repeat k ∷ code) = total-launched_from count ((k, js) ∷ outer) [] code ∙ ap (λ n. n + launches_from count (k ∷ turns_of outer) code) (opened_worth count k outer js) ∙ plain (product (turns_of outer)) (worth count outer js) (launches_from count (k ∷ turns_of outer) code)
-total-launched_from count outer js (Each c ∷ code) = total-launched_from count ((without_end, js) ∷ outer) [] code ∙ ap (λ n. n + launches_from count (without_end ∷ turns_of outer) code) (opened_worth count without_end outer js) ∙ plain (product (turns_of outer)) (worth count outer js) (launches_from count (without_end ∷ turns_of outer) code)
-total-launched_from count outer js (Scope supervisor ∷ code) = total-launched_from count ((1, js) ∷ outer) [] code ∙ ap (λ n. n + launches_from count (1 ∷ turns_of outer) code) (opened_worth count 1 outer js) ∙ plain (product (turns_of outer)) (worth count outer js) (launches_from count (1 ∷ turns_of outer) code)
-total-launched_from count outer js (Select ∷ code) = total-launched_from count ((1, js) ∷ outer) [] code ∙ ap (λ n. n + launches_from count (1 ∷ turns_of outer) code) (opened_worth count 1 outer js) ∙ plain (product (turns_of outer)) (worth count outer js) (launches_from count (1 ∷ turns_of outer) code)
-total-launched_from count outer js (OnSend c v ∷ code) = total-launched_from count outer js code ∙ plain (product (turns_of outer)) (worth count outer js) (launches_from count (turns_of outer) code)
-total-launched_from count outer js (OnReceive c ∷ code) = total-launched_from count outer js code ∙ plain (product (turns_of outer)) (worth count outer js) (launches_from count (turns_of outer) code)
-total-launched_from count [] js (End ∷ code) = total-launched_from count [] js code ∙ plain (product []) (total count js) (launches_from count [] code)
-total-launched_from count (o ∷ outer) js (End ∷ code) = total-launched_from count outer (o.1 ++ times_over o.0 js) code ∙ ap (λ n. n + launches_from count (turns_of outer) code) (worth-closed count o outer js) ∙ plain (product (turns_of (o ∷ outer))) (worth count (o ∷ outer) js) (launches_from count (turns_of outer) code)
+    omega (
+      arith,
+      total-launched_from count outer (js ++ p ∷ []) code,
+      worth-append count outer js (p ∷ []),
+      ap (λ t. n * t) (single count p),
+    )
+total-launched_from count outer js (Start j ∷ code) = total-launched_from count outer js code
+    ∙ plain (product (turns_of outer)) (worth count outer js) (launches_from count (turns_of outer) code)
+total-launched_from count outer js (Join j ∷ code) = total-launched_from count outer js code
+    ∙ plain (product (turns_of outer)) (worth count outer js) (launches_from count (turns_of outer) code)
+total-launched_from count outer js (Await j ∷ code) = total-launched_from count outer js code
+    ∙ plain (product (turns_of outer)) (worth count outer js) (launches_from count (turns_of outer) code)
+total-launched_from count outer js (Cancel j ∷ code) = total-launched_from count outer js code
+    ∙ plain (product (turns_of outer)) (worth count outer js) (launches_from count (turns_of outer) code)
+total-launched_from count outer js (Fail k ∷ code) = total-launched_from count outer js code
+    ∙ plain (product (turns_of outer)) (worth count outer js) (launches_from count (turns_of outer) code)
+total-launched_from count outer js (SetResult v ∷ code) = total-launched_from count outer js code
+    ∙ plain (product (turns_of outer)) (worth count outer js) (launches_from count (turns_of outer) code)
+total-launched_from count outer js (Repeat k ∷ code) = total-launched_from count ((k, js) ∷ outer) [] code
+    ∙ ap (λ n. n + launches_from count (k ∷ turns_of outer) code) (opened_worth count k outer js)
+    ∙ plain (product (turns_of outer)) (worth count outer js) (launches_from count (k ∷ turns_of outer) code)
+total-launched_from count outer js (Each c ∷ code) = total-launched_from count ((without_end, js) ∷ outer) [] code
+    ∙ ap (λ n. n + launches_from count (without_end ∷ turns_of outer) code) (opened_worth count without_end outer js)
+    ∙ plain (product (turns_of outer)) (worth count outer js) (launches_from count (without_end ∷ turns_of outer) code)
+total-launched_from count outer js (Scope supervisor ∷ code) = total-launched_from count ((1, js) ∷ outer) [] code
+    ∙ ap (λ n. n + launches_from count (1 ∷ turns_of outer) code) (opened_worth count 1 outer js)
+    ∙ plain (product (turns_of outer)) (worth count outer js) (launches_from count (1 ∷ turns_of outer) code)
+total-launched_from count outer js (Select ∷ code) = total-launched_from count ((1, js) ∷ outer) [] code
+    ∙ ap (λ n. n + launches_from count (1 ∷ turns_of outer) code) (opened_worth count 1 outer js)
+    ∙ plain (product (turns_of outer)) (worth count outer js) (launches_from count (1 ∷ turns_of outer) code)
+total-launched_from count outer js (OnSend c v ∷ code) = total-launched_from count outer js code
+    ∙ plain (product (turns_of outer)) (worth count outer js) (launches_from count (turns_of outer) code)
+total-launched_from count outer js (OnReceive c ∷ code) = total-launched_from count outer js code
+    ∙ plain (product (turns_of outer)) (worth count outer js) (launches_from count (turns_of outer) code)
+total-launched_from count [] js (End ∷ code) = total-launched_from count [] js code
+    ∙ plain (product []) (total count js) (launches_from count [] code)
+total-launched_from count (o ∷ outer) js (End ∷ code) = total-launched_from count outer (o.1 ++ times_over o.0 js) code
+    ∙ ap (λ n. n + launches_from count (turns_of outer) code) (worth-closed count o outer js)
+    ∙ plain (product (turns_of (o ∷ outer))) (worth count (o ∷ outer) js) (launches_from count (turns_of outer) code)
 
 pub total-launched : (count : ℕ → ℕ) (code : List Instruction) → total count (launched code) ≡ launches_from count [] code
 total-launched count code = total-launched_from count [] [] code ∙ nothing_before (launches_from count [] code)

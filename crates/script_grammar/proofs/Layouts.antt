@@ -17,22 +17,28 @@ use Rattle.script_grammar.proofs.Truths.{both, both_true, lt-from_true, lt-true,
 
 -- ---- tests of all elements
 
-pub test_at : {X : Type 0} (test : X → Bool) (xs : List X) (i : ℕ) (x : X) → list_all test xs ≡ true → slice_get xs i ≡ Some x → test x ≡ true
+pub test_at : {X : Type 0} (test : X → Bool) (xs : List X) (i : ℕ) (x : X) → list_all test xs ≡ true → slice_get xs i ≡ Some x
+    → test x ≡ true
 test_at test [] i x all at = cc
 test_at test (y ∷ xs) zero x all at = let same : y ≡ x = cc in ap test (sym same) ∙ (both_true (test y) (list_all test xs) all).0
 test_at test (y ∷ xs) (suc i) x all at = test_at test xs i x (both_true (test y) (list_all test xs) all).1 at
 
-pub all_weaker : {X : Type 0} (p q : X → Bool) → ((x : X) → p x ≡ true → q x ≡ true) → (xs : List X) → list_all p xs ≡ true → list_all q xs ≡ true
+pub all_weaker : {X : Type 0} (p q : X → Bool) → ((x : X) → p x ≡ true → q x ≡ true) → (xs : List X) → list_all p xs ≡ true
+    → list_all q xs ≡ true
 all_weaker p q weaker [] all = refl
-all_weaker p q weaker (x ∷ xs) all = let two = both_true (p x) (list_all p xs) all in both (q x) _ (weaker x two.0) (all_weaker p q weaker xs two.1)
+all_weaker p q weaker (x ∷ xs) all = let two = both_true (p x) (list_all p xs) all
+    in both (q x) _ (weaker x two.0) (all_weaker p q weaker xs two.1)
 
-pub all_push : {X : Type 0} (test : X → Bool) (xs : List X) (x : X) → list_all test xs ≡ true → test x ≡ true → list_all test (xs ++ x ∷ []) ≡ true
+pub all_push : {X : Type 0} (test : X → Bool) (xs : List X) (x : X) → list_all test xs ≡ true → test x ≡ true
+    → list_all test (xs ++ x ∷ []) ≡ true
 all_push test [] x all h = both (test x) true h refl
 all_push test (y ∷ ys) x all h = let two = both_true (test y) (list_all test ys) all in both (test y) _ two.0 (all_push test ys x two.1 h)
 
-pub all_append : {X : Type 0} (test : X → Bool) (xs ys : List X) → list_all test xs ≡ true → list_all test ys ≡ true → list_all test (xs ++ ys) ≡ true
+pub all_append : {X : Type 0} (test : X → Bool) (xs ys : List X) → list_all test xs ≡ true → list_all test ys ≡ true
+    → list_all test (xs ++ ys) ≡ true
 all_append test [] ys all more = more
-all_append test (x ∷ xs) ys all more = let two = both_true (test x) (list_all test xs) all in both (test x) _ two.0 (all_append test xs ys two.1 more)
+all_append test (x ∷ xs) ys all more = let two = both_true (test x) (list_all test xs) all
+    in both (test x) _ two.0 (all_append test xs ys two.1 more)
 
 pub below_more : (m n : ℕ) → m ≤ n → (i : ℕ) → nat_lt i m ≡ true → nat_lt i n ≡ true
 below_more m n le i e = let h = lt-from_true i m e in lt-true i n (omega arith)
@@ -60,7 +66,8 @@ pub length-layouts : (bs : List Block) → length (layouts bs) ≡ length bs
 length-layouts bs = omega (arith, length-layouts_from [] bs)
 
 -- the layouts that stand stay
-pub layout-stays : (before : List (List ℕ)) (bs : List Block) (k : ℕ) → k < length before → layout (layouts_from before bs) k ≡ layout before k
+pub layout-stays : (before : List (List ℕ)) (bs : List Block) (k : ℕ) → k < length before
+    → layout (layouts_from before bs) k ≡ layout before k
 unfolding layouts_from
 layout-stays before [] k h = refl
 layout-stays before (b ∷ bs) k h =
@@ -68,21 +75,25 @@ layout-stays before (b ∷ bs) k h =
     ∙ get_or_append_left before (next_layout before b ∷ []) [] k h
 
 -- blocks that have the same layouts are laid out the same
-pub laid_out-same : (before after : List (List ℕ)) (n : ℕ) (js : List ℕ) → ((k : ℕ) → k < n → layout after k ≡ layout before k) → all_below n js ≡ true → laid_out after js ≡ laid_out before js
+pub laid_out-same : (before after : List (List ℕ)) (n : ℕ) (js : List ℕ) → ((k : ℕ) → k < n → layout after k ≡ layout before k)
+    → all_below n js ≡ true → laid_out after js ≡ laid_out before js
 laid_out-same before after n [] same all = refl
 laid_out-same before after n (j ∷ js) same all =
     let two = both_true (nat_lt j n) (all_below n js) all in
-    ap (λ l. l ++ laid_out after js) (same j (lt-from_true j n two.0)) ∙ ap (λ l. layout before j ++ l) (laid_out-same before after n js same two.1)
+    ap (λ l. l ++ laid_out after js) (same j (lt-from_true j n two.0))
+    ∙ ap (λ l. layout before j ++ l) (laid_out-same before after n js same two.1)
 
 pub laid_out-append : (l : List (List ℕ)) (js ks : List ℕ) → laid_out l (js ++ ks) ≡ laid_out l js ++ laid_out l ks
 laid_out-append l [] ks = refl
-laid_out-append l (j ∷ js) ks = ap (λ x. layout l j ++ x) (laid_out-append l js ks) ∙ sym (append_assoc (layout l j) (laid_out l js) (laid_out l ks))
+laid_out-append l (j ∷ js) ks = ap (λ x. layout l j ++ x) (laid_out-append l js ks)
+    ∙ sym (append_assoc (layout l j) (laid_out l js) (laid_out l ks))
 
 back_from : (m n : ℕ) (bs : List Block) → n ≡ m → launch_back n bs ≡ true → launch_back m bs ≡ true
 back_from m n bs e back = subst (λ i. launch_back i bs ≡ true) e back
 
 -- a block that is declared stands first in its layout, before what it launches
-layout-next_from : (before : List (List ℕ)) (bs : List Block) (j i : ℕ) → i ≡ length before + j → launch_back (length before) bs ≡ true → j < length bs → layout (layouts_from before bs) i ≡ i ∷ laid_out (layouts_from before bs) (launched (code_of_block (slice_get bs j)))
+layout-next_from : (before : List (List ℕ)) (bs : List Block) (j i : ℕ) → i ≡ length before + j → launch_back (length before) bs ≡ true
+    → j < length bs → layout (layouts_from before bs) i ≡ i ∷ laid_out (layouts_from before bs) (launched (code_of_block (slice_get bs j)))
 unfolding layouts_from
 layout-next_from before [] j i is back h = absurd (omega (arith, h))
 layout-next_from before (b ∷ bs) zero i is back h =
@@ -101,20 +112,25 @@ layout-next_from before (b ∷ bs) (suc j) i is back h =
     let next = next_layout before b in
     let long : length before + 1 ≡ length (before ++ next ∷ []) = omega (arith, length-append before (next ∷ [])) in
     let more = (both_true (all_below (length before) (launched b.code)) (launch_back (length before + 1) bs) back).1 in
-    layout-next_from (before ++ next ∷ []) bs j i (omega (arith, is, long)) (back_from (length (before ++ next ∷ [])) (length before + 1) bs long more) (omega (arith, h))
+    layout-next_from (before ++ next ∷ []) bs j i (omega (arith, is, long))
+    (back_from (length (before ++ next ∷ [])) (length before + 1) bs long more) (omega (arith, h))
 
-pub layout-next : (bs : List Block) (b : ℕ) → launch_back 0 bs ≡ true → b < length bs → layout (layouts bs) b ≡ b ∷ laid_out (layouts bs) (launched (code_of_block (slice_get bs b)))
+pub layout-next : (bs : List Block) (b : ℕ) → launch_back 0 bs ≡ true → b < length bs
+    → layout (layouts bs) b ≡ b ∷ laid_out (layouts bs) (launched (code_of_block (slice_get bs b)))
 layout-next bs b back h = layout-next_from [] bs b b (omega arith) back h
 
 -- each block takes a tag
-layout-some : (before : List (List ℕ)) (bs : List Block) (j : ℕ) → j < length bs → 1 ≤ length (layout (layouts_from before bs) (length before + j))
+layout-some : (before : List (List ℕ)) (bs : List Block) (j : ℕ) → j < length bs
+    → 1 ≤ length (layout (layouts_from before bs) (length before + j))
 unfolding layouts_from
 layout-some before [] j h = absurd (omega (arith, h))
 layout-some before (b ∷ bs) zero h =
     let next = next_layout before b in
     let long : length before + 0 < length (before ++ next ∷ []) = omega (arith, length-append before (next ∷ [])) in
     let here : length before + 0 ≡ length before = omega arith in
-    let is : layout (layouts_from (before ++ next ∷ []) bs) (length before + 0) ≡ next = layout-stays (before ++ next ∷ []) bs (length before + 0) long ∙ ap (layout (before ++ next ∷ [])) here ∙ get_or-append_seam before next [] [] in
+    let is : layout (layouts_from (before ++ next ∷ []) bs) (length before + 0) ≡ next =
+    layout-stays (before ++ next ∷ []) bs (length before + 0) long ∙ ap (layout (before ++ next ∷ [])) here
+    ∙ get_or-append_seam before next [] [] in
     omega (arith, ap length is)
 layout-some before (b ∷ bs) (suc j) h =
     let next = next_layout before b in
@@ -133,15 +149,22 @@ size_some p b h = size_in-some p.blocks b h
 
 pub length-laid_out : (p : Program) (js : List ℕ) → length (laid_out (layouts p.blocks) js) ≡ sizes_of p js
 length-laid_out p [] = refl
-length-laid_out p (j ∷ js) = omega (arith, length-append (layout (layouts p.blocks) j) (laid_out (layouts p.blocks) js), length-laid_out p js)
+length-laid_out p (j ∷ js) = omega (
+  arith,
+  length-append (layout (layouts p.blocks) j) (laid_out (layouts p.blocks) js),
+  length-laid_out p js,
+)
 
 -- which block a block launches, it launches after it
-pub launched_back : (bs : List Block) (from j : ℕ) → launch_back from bs ≡ true → all_below (from + j) (launched (code_of_block (slice_get bs j))) ≡ true
+pub launched_back : (bs : List Block) (from j : ℕ) → launch_back from bs ≡ true
+    → all_below (from + j) (launched (code_of_block (slice_get bs j))) ≡ true
 launched_back [] from j back = refl
-launched_back (b ∷ bs) from zero back = let same : from ≡ from + 0 = omega arith in subst (λ n. all_below n (launched b.code) ≡ true) same (both_true (all_below from (launched b.code)) _ back).0
+launched_back (b ∷ bs) from zero back = let same : from ≡ from + 0 = omega arith
+    in subst (λ n. all_below n (launched b.code) ≡ true) same (both_true (all_below from (launched b.code)) _ back).0
 launched_back (b ∷ bs) from (suc j) back =
     let same : from + 1 + j ≡ from + suc j = omega arith in
-    subst (λ n. all_below n (launched (code_of_block (slice_get bs j))) ≡ true) same (launched_back bs (from + 1) j (both_true (all_below from (launched b.code)) _ back).1)
+    subst (λ n. all_below n (launched (code_of_block (slice_get bs j))) ≡ true) same
+    (launched_back bs (from + 1) j (both_true (all_below from (launched b.code)) _ back).1)
 
 -- ---- where a block stands in a layout, there is room for all that it launches
 
@@ -154,7 +177,8 @@ slice_get_append_left [] ys k i e = cc
 slice_get_append_left (x ∷ xs) ys zero i e = e
 slice_get_append_left (x ∷ xs) ys (suc k) i e = slice_get_append_left xs ys k i e
 
-slice_get_append_right : (xs ys : List ℕ) (k i : ℕ) → length xs ≤ k → slice_get ys (k - length xs) ≡ Some i → slice_get (xs ++ ys) k ≡ Some i
+slice_get_append_right : (xs ys : List ℕ) (k i : ℕ) → length xs ≤ k → slice_get ys (k - length xs) ≡ Some i
+    → slice_get (xs ++ ys) k ≡ Some i
 slice_get_append_right [] ys k i h e = let same : k - 0 ≡ k = omega arith in ap (slice_get ys) (sym same) ∙ e
 slice_get_append_right (x ∷ xs) ys zero i h e = absurd (omega (arith, h))
 slice_get_append_right (x ∷ xs) ys (suc k) i h e =
@@ -168,7 +192,8 @@ Roomy-append l n xs ys first second k h = by_test (nat_lt k (length xs)) refl
     long : length (xs ++ ys) ≡ length xs + length ys
     long = length-append xs ys
 
-    by_test : (t : Bool) → nat_lt k (length xs) ≡ t → (i : ℕ) × (slice_get (xs ++ ys) k ≡ Some i) × (i < n) × (k + length (layout l i) ≤ length (xs ++ ys))
+    by_test : (t : Bool) → nat_lt k (length xs) ≡ t → (i : ℕ) × (slice_get (xs ++ ys) k ≡ Some i) × (i < n)
+        × (k + length (layout l i) ≤ length (xs ++ ys))
     by_test true e =
         let x = first k (lt-from_true k (length xs) e) in
         (x.0, slice_get_append_left xs ys k x.0 x.1, x.2, omega (arith, x.3, long))
@@ -177,7 +202,8 @@ Roomy-append l n xs ys first second k h = by_test (nat_lt k (length xs)) refl
         let y = second (k - length xs) (omega (arith, h, long, after)) in
         (y.0, slice_get_append_right xs ys k y.0 after y.1, y.2, omega (arith, y.3, long, after))
 
-Roomy-laid_out : (l : List (List ℕ)) (n m : ℕ) (js : List ℕ) → ((j : ℕ) → j < m → Roomy l n (layout l j)) → all_below m js ≡ true → Roomy l n (laid_out l js)
+Roomy-laid_out : (l : List (List ℕ)) (n m : ℕ) (js : List ℕ) → ((j : ℕ) → j < m → Roomy l n (layout l j)) → all_below m js ≡ true
+    → Roomy l n (laid_out l js)
 unfolding Roomy
 Roomy-laid_out l n m [] each all = λ k h. absurd (omega (arith, h))
 Roomy-laid_out l n m (j ∷ js) each all =
@@ -190,7 +216,8 @@ Roomy-first l n i xs h room more zero less = (i, refl, h, omega (arith, room))
 Roomy-first l n i xs h room more (suc k) less = let x = more k (omega (arith, less)) in (x.0, x.1, x.2, omega (arith, x.3))
 
 -- in the layout of each block there is room for what its blocks launch
-Roomy-layout : (bs : List Block) → launch_back 0 bs ≡ true → (m i : ℕ) → i < m → i < length bs → Roomy (layouts bs) (length bs) (layout (layouts bs) i)
+Roomy-layout : (bs : List Block) → launch_back 0 bs ≡ true → (m i : ℕ) → i < m → i < length bs
+    → Roomy (layouts bs) (length bs) (layout (layouts bs) i)
 Roomy-layout bs back zero i h within = absurd (omega (arith, h))
 Roomy-layout bs back (suc m) i h within =
     let l = layouts bs in
@@ -198,11 +225,13 @@ Roomy-layout bs back (suc m) i h within =
     let same : 0 + i ≡ i = omega arith in
     let all : all_below i js ≡ true = subst (λ n. all_below n js ≡ true) same (launched_back bs 0 i back) in
     let is = layout-next bs i back within in
-    let rest : Roomy l (length bs) (laid_out l js) = Roomy-laid_out l (length bs) i js (λ j less. Roomy-layout bs back m j (omega (arith, h, less)) (omega (arith, less, within))) all in
+    let rest : Roomy l (length bs) (laid_out l js) = Roomy-laid_out l (length bs) i js
+    (λ j less. Roomy-layout bs back m j (omega (arith, h, less)) (omega (arith, less, within))) all in
     subst (Roomy l (length bs)) (sym is) (Roomy-first l (length bs) i (laid_out l js) within (omega (arith, ap length is)) rest)
 
 -- from the place of a block in a layout on there is room for all that it launches
-pub layout-room : (bs : List Block) → launch_back 0 bs ≡ true → (j : ℕ) → j < length bs → (x v : ℕ) → x < length (layout (layouts bs) j) → slice_get (layout (layouts bs) j) x ≡ Some v → x + length (layout (layouts bs) v) ≤ length (layout (layouts bs) j)
+pub layout-room : (bs : List Block) → launch_back 0 bs ≡ true → (j : ℕ) → j < length bs → (x v : ℕ) → x < length (layout (layouts bs) j)
+    → slice_get (layout (layouts bs) j) x ≡ Some v → x + length (layout (layouts bs) v) ≤ length (layout (layouts bs) j)
 unfolding Roomy
 layout-room bs back j within x v h at =
     let room = Roomy-layout bs back (suc j) j (omega arith) within x h in
@@ -211,23 +240,29 @@ layout-room bs back j within x v h at =
     omega (arith, room.3, ap (λ n. length (layout (layouts bs) n)) same)
 
 -- the same of blocks that stand side by side
-Roomy-all : (bs : List Block) (js : List ℕ) → launch_back 0 bs ≡ true → all_below (length bs) js ≡ true → Roomy (layouts bs) (length bs) (laid_out (layouts bs) js)
-Roomy-all bs js back all = Roomy-laid_out (layouts bs) (length bs) (length bs) js (λ j less. Roomy-layout bs back (suc j) j (omega arith) less) all
+Roomy-all : (bs : List Block) (js : List ℕ) → launch_back 0 bs ≡ true → all_below (length bs) js ≡ true
+    → Roomy (layouts bs) (length bs) (laid_out (layouts bs) js)
+Roomy-all bs js back all = Roomy-laid_out (layouts bs) (length bs) (length bs) js
+    (λ j less. Roomy-layout bs back (suc j) j (omega arith) less) all
 
 -- ---- what the blocks launch is declared
 
-pub launched_each : (n i : ℕ) (bs : List Block) → i + length bs ≤ n → launch_back i bs ≡ true → list_all (λ b. all_below n (launched b.code)) bs ≡ true
+pub launched_each : (n i : ℕ) (bs : List Block) → i + length bs ≤ n → launch_back i bs ≡ true
+    → list_all (λ b. all_below n (launched b.code)) bs ≡ true
 launched_each n i [] h back = refl
 launched_each n i (b ∷ bs) h back =
     let two = both_true (all_below i (launched b.code)) (launch_back (i + 1) bs) back in
-    both (all_below n (launched b.code)) _ (all_below-more i n (omega (arith, h)) (launched b.code) two.0) (launched_each n (i + 1) bs (omega (arith, h)) two.1)
+    both (all_below n (launched b.code)) _ (all_below-more i n (omega (arith, h)) (launched b.code) two.0)
+    (launched_each n (i + 1) bs (omega (arith, h)) two.1)
 
-pub in_block : (test : List Instruction → Bool) → test [] ≡ true → (bs : List Block) (j : ℕ) (o : Option Block) → list_all (λ b. test b.code) bs ≡ true → slice_get bs j ≡ o → test (code_of_block o) ≡ true
+pub in_block : (test : List Instruction → Bool) → test [] ≡ true → (bs : List Block) (j : ℕ) (o : Option Block)
+    → list_all (λ b. test b.code) bs ≡ true → slice_get bs j ≡ o → test (code_of_block o) ≡ true
 in_block test none bs j None all is = none
 in_block test none bs j (Some b) all is = test_at (λ x. test x.code) bs j b all is
 
 -- what holds of the lines of each block holds of those of each tag
-pub code_known : (test : List Instruction → Bool) → test [] ≡ true → (p : Program) (o : Option ℕ) → list_all (λ b. test b.code) p.blocks ≡ true → test (code_at p o) ≡ true
+pub code_known : (test : List Instruction → Bool) → test [] ≡ true → (p : Program) (o : Option ℕ)
+    → list_all (λ b. test b.code) p.blocks ≡ true → test (code_at p o) ≡ true
 code_known test none p None all = none
 code_known test none p (Some i) all = in_block test none p.blocks i (slice_get p.blocks i) all refl
 
@@ -236,13 +271,15 @@ pub spawned_known : (p : Program) → IsProgram p → all_below (length p.blocks
 spawned_known p ok = (Declares-from_program p ok).spawns
 
 pub launched_known : (p : Program) (k : ℕ) → IsProgram p → list_all (λ j. nat_lt j (length p.blocks)) (launched (code_of p k)) ≡ true
-launched_known p k ok = code_known (λ code. all_below (length p.blocks) (launched code)) refl p (block_of_tag p k) (launched_each (length p.blocks) 0 p.blocks (omega arith) (Declares-from_program p ok).launches)
+launched_known p k ok = code_known (λ code. all_below (length p.blocks) (launched code)) refl p (block_of_tag p k)
+    (launched_each (length p.blocks) 0 p.blocks (omega arith) (Declares-from_program p ok).launches)
 
 pub jobs_known : (p : Program) (k : ℕ) → IsProgram p → knows_jobs 0 (code_of p k) ≡ true
 jobs_known p k ok = code_known (knows_jobs 0) refl p (block_of_tag p k) (Declares-from_program p ok).jobs
 
 pub channels_known : (p : Program) (k : ℕ) → IsProgram p → list_all (names_channel (length p.channels)) (code_of p k) ≡ true
-channels_known p k ok = code_known (list_all (names_channel (length p.channels))) refl p (block_of_tag p k) (Declares-from_program p ok).channels
+channels_known p k ok = code_known (list_all (names_channel (length p.channels))) refl p (block_of_tag p k)
+    (Declares-from_program p ok).channels
 
 -- ---- tags
 
@@ -250,7 +287,8 @@ pub block_named-within : (name : List ℕ) (from : ℕ) (bs : List Block) (n : �
 block_named-within name from [] n e = cc
 block_named-within name from (b ∷ bs) n e = by_test (bytes_eq b.name name) (λ f. block_named-within name (from + 1) bs n f) e
   where
-    by_test : (t : Bool) → (block_named name (from + 1) bs ≡ Some n → n < from + 1 + length bs) → (if t then Some from else block_named name (from + 1) bs) ≡ Some n → n < from + length (b ∷ bs)
+    by_test : (t : Bool) → (block_named name (from + 1) bs ≡ Some n → n < from + 1 + length bs)
+        → (if t then Some from else block_named name (from + 1) bs) ≡ Some n → n < from + length (b ∷ bs)
     by_test true more e = let same : from ≡ n = cc in omega (arith, same)
     by_test false more e = omega (arith, more e)
 
@@ -270,13 +308,21 @@ abbrev pub main_launches : Program → ℕ → List ℕ
 main_launches p main = launched (code_of_block (slice_get p.blocks main))
 
 -- main's tag, those of the spawns, and those of what main launches
-pub tags_of-main : (p : Program) (main : ℕ) → block_named (codes "main") 0 p.blocks ≡ Some main → tags_of p ≡ main ∷ (laid_out (layouts p.blocks) (spawned p) ++ laid_out (layouts p.blocks) (main_launches p main))
+pub tags_of-main : (p : Program) (main : ℕ) → block_named (codes "main") 0 p.blocks ≡ Some main
+    → tags_of p ≡ main ∷ (laid_out (layouts p.blocks) (spawned p) ++ laid_out (layouts p.blocks) (main_launches p main))
 tags_of-main p main is = ap (tags_for p.blocks (spawned p)) is
 
-pub count-main : (p : Program) (main : ℕ) → block_named (codes "main") 0 p.blocks ≡ Some main → coroutine_count p ≡ 1 + sizes_of p (spawned p) + sizes_of p (main_launches p main)
+pub count-main : (p : Program) (main : ℕ) → block_named (codes "main") 0 p.blocks ≡ Some main
+    → coroutine_count p ≡ 1 + sizes_of p (spawned p) + sizes_of p (main_launches p main)
 count-main p main is =
     let l = layouts p.blocks in
-    omega (arith, ap length (tags_of-main p main is), length-append (laid_out l (spawned p)) (laid_out l (main_launches p main)), length-laid_out p (spawned p), length-laid_out p (main_launches p main))
+    omega (
+      arith,
+      ap length (tags_of-main p main is),
+      length-append (laid_out l (spawned p)) (laid_out l (main_launches p main)),
+      length-laid_out p (spawned p),
+      length-laid_out p (main_launches p main),
+    )
 
 pub main_fits : (p : Program) → IsProgram p → 1 + sizes_of p (spawned p) + sizes_of p (launched (code_of p 0)) ≤ coroutine_count p
 main_fits p ok =
@@ -291,18 +337,28 @@ Roomy-tags p ok =
     let l = layouts p.blocks in
     let n = length p.blocks in
     let js = main_launches p m.0 in
-    let all : all_below n js ≡ true = in_block (λ code. all_below n (launched code)) refl p.blocks m.0 (slice_get p.blocks m.0) (launched_each n 0 p.blocks (omega arith) (Declares-from_program p ok).launches) refl in
-    let room : length (layout l m.0) ≤ length (laid_out l (spawned p) ++ laid_out l js) + 1 = omega (arith, ap length (layout-next p.blocks m.0 (Declares-from_program p ok).launches m.2), length-append (laid_out l (spawned p)) (laid_out l js)) in
+    let all : all_below n js ≡ true = in_block (λ code. all_below n (launched code)) refl p.blocks m.0 (slice_get p.blocks m.0)
+    (launched_each n 0 p.blocks (omega arith) (Declares-from_program p ok).launches) refl in
+    let room : length (layout l m.0) ≤ length (laid_out l (spawned p) ++ laid_out l js) + 1 =
+    omega (
+      arith,
+      ap length (layout-next p.blocks m.0 (Declares-from_program p ok).launches m.2),
+      length-append (laid_out l (spawned p)) (laid_out l js),
+    ) in
     subst (Roomy l n) (sym (tags_of-main p m.0 m.1))
     (Roomy-first l n m.0 (laid_out l (spawned p) ++ laid_out l js) m.2 room
-    (Roomy-append l n (laid_out l (spawned p)) (laid_out l js) (Roomy-all p.blocks (spawned p) (Declares-from_program p ok).launches (spawned_known p ok)) (Roomy-all p.blocks js (Declares-from_program p ok).launches all)))
+    (Roomy-append l n (laid_out l (spawned p)) (laid_out l js)
+    (Roomy-all p.blocks (spawned p) (Declares-from_program p ok).launches (spawned_known p ok))
+    (Roomy-all p.blocks js (Declares-from_program p ok).launches all)))
 
 -- the number of the block that a tag runs
-pub block_of_tag-some : (p : Program) → IsProgram p → (tag : ℕ) → tag < coroutine_count p → (i : ℕ) × (block_of_tag p tag ≡ Some i) × (i < length p.blocks)
+pub block_of_tag-some : (p : Program) → IsProgram p → (tag : ℕ) → tag < coroutine_count p → (i : ℕ) × (block_of_tag p tag ≡ Some i)
+    × (i < length p.blocks)
 unfolding Roomy
 block_of_tag-some p ok tag h = let x = Roomy-tags p ok tag h in (x.0, x.1, x.2)
 
-pub launches_fit : (p : Program) (k : ℕ) → IsProgram p → k ≢ 0 → k < coroutine_count p → k + 1 + sizes_of p (launched (code_of p k)) ≤ coroutine_count p
+pub launches_fit : (p : Program) (k : ℕ) → IsProgram p → k ≢ 0 → k < coroutine_count p
+    → k + 1 + sizes_of p (launched (code_of p k)) ≤ coroutine_count p
 unfolding Roomy
 launches_fit p k ok other h =
     let x = Roomy-tags p ok k h in
@@ -312,7 +368,8 @@ launches_fit p k ok other h =
     omega (arith, same, length-laid_out p (main_launches p x.0), ap length is, x.3)
 
 -- the table of tags gives the block of each
-pub tag_at : (p : Program) (tags : List ℕ) (tag x : ℕ) → tags ≡ tags_of p → tag < coroutine_count p → x ≡ get_or tags tag x → block_of_tag p tag ≡ Some x
+pub tag_at : (p : Program) (tags : List ℕ) (tag x : ℕ) → tags ≡ tags_of p → tag < coroutine_count p → x ≡ get_or tags tag x
+    → block_of_tag p tag ≡ Some x
 tag_at p tags tag x is h at =
     let long : tag < length tags = omega (arith, h, ap length is) in
     ap (λ l. slice_get l tag) (sym is) ∙ slice_get_read tags (length tags) tag x refl long at

@@ -20,7 +20,8 @@ is_written [] = false
 is_written (b ∷ rest) = not (b == 35) && list_all is_printed (b ∷ rest)
 
 no_space : (b : ℕ) → is_printed b ≡ true → is_space b ≡ false
-no_space b e = let two = both_true _ _ e in let low : 33 ≤ b = le-from_true 33 b two.0 in apart (b == 9) (b == 13) (b == 32) (grind (arith, nat_tests)) (grind (arith, nat_tests)) (grind (arith, nat_tests))
+no_space b e = let two = both_true _ _ e in let low : 33 ≤ b = le-from_true 33 b two.0
+    in apart (b == 9) (b == 13) (b == 32) (grind (arith, nat_tests)) (grind (arith, nat_tests)) (grind (arith, nat_tests))
   where
     apart : (x y z : Bool) → x ≡ false → y ≡ false → z ≡ false → (x || (y || z)) ≡ false
     apart false false false e f g = refl
@@ -56,18 +57,21 @@ split_words w (v ∷ ws) h =
 
 kept : (ws : List (List ℕ)) → list_all is_written ws ≡ true → filter has_items ws ≡ ws
 kept [] h = refl
-kept (w ∷ ws) h = let two = both_true _ _ h in ap (λ b. if b then w ∷ filter has_items ws else filter has_items ws) (written_some w two.0) ∙ ap (λ l. w ∷ l) (kept ws two.1)
+kept (w ∷ ws) h = let two = both_true _ _ h in ap (λ b. if b then w ∷ filter has_items ws else filter has_items ws) (written_some w two.0)
+    ∙ ap (λ l. w ∷ l) (kept ws two.1)
 
 no_comment : (ws : List (List ℕ)) → list_all is_written ws ≡ true → before_comment ws ≡ ws
 no_comment [] h = refl
-no_comment (w ∷ ws) h = let two = both_true _ _ h in ap (λ b. if b then [] else w ∷ before_comment ws) (written_word w two.0) ∙ ap (λ l. w ∷ l) (no_comment ws two.1)
+no_comment (w ∷ ws) h = let two = both_true _ _ h in ap (λ b. if b then [] else w ∷ before_comment ws) (written_word w two.0)
+    ∙ ap (λ l. w ∷ l) (no_comment ws two.1)
 
 indentation : (n : ℕ) (text : List ℕ) → words_of (replicate n 32 ++ text) ≡ words_of text
 indentation zero text = refl
 indentation (suc n) text = indentation n text
 
 -- a line's words are those that it was made of
-pub words_of-indented : (depth : ℕ) (words : List (List ℕ)) → has_items words ≡ true → list_all is_written words ≡ true → words_of (indented depth words) ≡ words
+pub words_of-indented : (depth : ℕ) (words : List (List ℕ)) → has_items words ≡ true → list_all is_written words ≡ true
+    → words_of (indented depth words) ≡ words
 words_of-indented depth [] some h = cc
 words_of-indented depth (w ∷ ws) some h =
     indentation (2 * depth) (spaced (w ∷ ws))
@@ -78,7 +82,8 @@ words_of-indented depth (w ∷ ws) some h =
 -- ---- plain lines
 
 plain_byte : (b : ℕ) → is_printed b ≡ true → is_plain b ≡ true
-plain_byte b e = let two = both_true _ _ e in let low : 33 ≤ b = le-from_true 33 b two.0 in last (b == 9) (b == 13) (nat_le 32 b && nat_le b 126) (both (nat_le 32 b) (nat_le b 126) (le-true 32 b (omega (arith, low))) two.1)
+plain_byte b e = let two = both_true _ _ e in let low : 33 ≤ b = le-from_true 33 b two.0
+    in last (b == 9) (b == 13) (nat_le 32 b && nat_le b 126) (both (nat_le 32 b) (nat_le b 126) (le-true 32 b (omega (arith, low))) two.1)
   where
     last : (x y z : Bool) → z ≡ true → (x || (y || z)) ≡ true
     last true y z e = refl
@@ -105,7 +110,8 @@ all_plain-spaces zero = refl
 all_plain-spaces (suc n) = all_plain-spaces n
 
 pub all_plain-indented : (depth : ℕ) (ws : List (List ℕ)) → list_all is_written ws ≡ true → all_plain (indented depth ws) ≡ true
-all_plain-indented depth ws e = all_plain-append (replicate (2 * depth) 32) (spaced ws) (all_plain-spaces (2 * depth)) (all_plain-spaced ws e)
+all_plain-indented depth ws e = all_plain-append (replicate (2 * depth) 32) (spaced ws) (all_plain-spaces (2 * depth))
+    (all_plain-spaced ws e)
 
 no_feed : (b : ℕ) → is_plain b ≡ true → is_line_feed b ≡ false
 no_feed b e = by_test (b == 10) refl e
@@ -129,7 +135,8 @@ joined l (m ∷ ls) = l ++ 10 ∷ joined m ls
 
 split_lines : (l : List ℕ) (ls : List (List ℕ)) → list_all all_plain (l ∷ ls) ≡ true → slice_split is_line_feed (joined l ls) ≡ l ∷ ls
 split_lines l [] h = slice_split_none is_line_feed l (no_feeds l (both_true _ _ h).0)
-split_lines l (m ∷ ls) h = let two = both_true _ _ h in slice_split_at is_line_feed l 10 (joined m ls) (no_feeds l two.0) refl ∙ ap (λ x. l ∷ x) (split_lines m ls two.1)
+split_lines l (m ∷ ls) h = let two = both_true _ _ h in slice_split_at is_line_feed l 10 (joined m ls) (no_feeds l two.0) refl
+    ∙ ap (λ x. l ∷ x) (split_lines m ls two.1)
 
 unlines-joined : (l : List ℕ) (ls : List (List ℕ)) → unlines (l ∷ ls) ≡ joined l ls ++ 10 ∷ []
 unlines-joined l [] = refl
@@ -163,8 +170,10 @@ printed_byte b e = by_test (is_lower b) (nat_le 48 b && nat_le b 57) refl refl e
 
     by_test : (x y : Bool) → is_lower b ≡ x → (nat_le 48 b && nat_le b 57) ≡ y → (x || (y || b == 95)) ≡ true → is_printed b ≡ true
     by_test true y f g e = let r = letter b f in range b 97 122 (omega arith) (omega arith) r.0 r.1
-    by_test false true f g e = let two = both_true _ _ g in range b 48 57 (omega arith) (omega arith) (le-from_true 48 b two.0) (le-from_true b 57 two.1)
-    by_test false false f g e = let is : b ≡ 95 = grind (arith, nat_tests) in range b 95 95 (omega arith) (omega arith) (omega (arith, is)) (omega (arith, is))
+    by_test false true f g e = let two = both_true _ _ g in
+        range b 48 57 (omega arith) (omega arith) (le-from_true 48 b two.0) (le-from_true b 57 two.1)
+    by_test false false f g e = let is : b ≡ 95 = grind (arith, nat_tests)
+        in range b 95 95 (omega arith) (omega arith) (omega (arith, is)) (omega (arith, is))
 
 printed_bytes : (w : List ℕ) → list_all is_name_byte w ≡ true → list_all is_printed w ≡ true
 printed_bytes [] e = refl
@@ -179,7 +188,8 @@ name_written (b ∷ w) e =
     let low : 97 ≤ b = r.0 in
     let high : b ≤ 122 = r.1 in
     let apart : not (b == 35) ≡ true = ap not (other b low) in
-    both (not (b == 35)) _ apart (both (is_printed b) _ (both (nat_le 33 b) (nat_le b 126) (le-true 33 b (omega (arith, low))) (le-true b 126 (omega (arith, high)))) (printed_bytes w more.0))
+    both (not (b == 35)) _ apart (both (is_printed b) _ (both (nat_le 33 b) (nat_le b 126) (le-true 33 b (omega (arith, low)))
+    (le-true b 126 (omega (arith, high)))) (printed_bytes w more.0))
   where
     other : (b : ℕ) → 97 ≤ b → (b == 35) ≡ false
     other b h = grind (arith, nat_tests)

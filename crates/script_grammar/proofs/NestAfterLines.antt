@@ -15,7 +15,8 @@ abbrev pub nest_then : ℕ → List ℕ → Instruction → List ℕ
 nest_then turns nest Select = turns ∷ nest
 nest_then turns nest other = nest_with nest other
 
-pub open_nest-line : (turns : ℕ) (o : Option (List ℕ)) (nest : List ℕ) (x : Instruction) → stands o nest x ≡ true → open_nest turns (clauses_after o x) (nest_after o nest x) ≡ nest_then turns (open_nest turns o nest) x
+pub open_nest-line : (turns : ℕ) (o : Option (List ℕ)) (nest : List ℕ) (x : Instruction) → stands o nest x ≡ true
+    → open_nest turns (clauses_after o x) (nest_after o nest x) ≡ nest_then turns (open_nest turns o nest) x
 open_nest-line turns None nest (OnSend c v) e = cc
 open_nest-line turns None nest (OnReceive c) e = cc
 open_nest-line turns None nest other e = refl

@@ -23,7 +23,8 @@ one_less-is : (n : ℕ) → one_less n ≡ n - 1
 one_less-is zero = omega arith
 one_less-is (suc n) = omega arith
 
-depth_step : (o : Option (List ℕ)) (nest : List ℕ) (x : Instruction) → stands o nest x ≡ true → depth_of (nest_after o nest x) (clauses_after o x) ≡ depth_after x (depth_of nest o)
+depth_step : (o : Option (List ℕ)) (nest : List ℕ) (x : Instruction) → stands o nest x ≡ true
+    → depth_of (nest_after o nest x) (clauses_after o x) ≡ depth_after x (depth_of nest o)
 depth_step None nest (Send c v) e = refl
 depth_step (Some cs) nest (Send c v) e = cc
 depth_step None nest (TrySend c v) e = refl
@@ -71,7 +72,8 @@ depth_step (Some cs) nest End e = omega (arith, one_less-is (length nest + 1))
 depth_after-one_less : (x : Instruction) (d n : ℕ) → is_end x ≡ false → d < n → depth_after x d < depth_after x n
 depth_after-one_less x d n e h = by_test (opens_lines x) (is_end x) e
   where
-    by_test : (o t : Bool) → t ≡ false → (if o then d + 1 else (if t then one_less d else d)) < (if o then n + 1 else (if t then one_less n else n))
+    by_test : (o t : Bool) → t ≡ false → (if o then d + 1 else (if t then one_less d else d)) <
+        (if o then n + 1 else (if t then one_less n else n))
     by_test true t f = omega (arith, h)
     by_test false true f = cc
     by_test false false f = h
@@ -92,16 +94,19 @@ none_open jobs b d e h =
     nothing [] (Some cs) e f h = cc
     nothing (n ∷ nest) o e f h = cc
 
-at_line : (x : Instruction) (d i n : ℕ) (code : List Instruction) → d < n → ((e j : ℕ) → e < depth_after x n → is_some (closing_from e j code) ≡ true) → is_some (closing_from d i (x ∷ code)) ≡ true
+at_line : (x : Instruction) (d i n : ℕ) (code : List Instruction) → d < n
+    → ((e j : ℕ) → e < depth_after x n → is_some (closing_from e j code) ≡ true) → is_some (closing_from d i (x ∷ code)) ≡ true
 at_line x d i n code h more = by_test (is_end x) d refl h
   where
-    by_test : (t : Bool) (d : ℕ) → is_end x ≡ t → d < n → is_some (if t then end_from d i (closing_from (one_less d) (i + 1) code) else closing_from (depth_after x d) (i + 1) code) ≡ true
+    by_test : (t : Bool) (d : ℕ) → is_end x ≡ t → d < n → is_some
+        (if t then end_from d i (closing_from (one_less d) (i + 1) code) else closing_from (depth_after x d) (i + 1) code) ≡ true
     by_test true zero e h = refl
     by_test true (suc d) e h = more d (i + 1) (omega (arith, end_deeper x n e, h))
     by_test false d e h = more (depth_after x d) (i + 1) (depth_after-one_less x d n e h)
 
 -- as many lines as are open are closed by the rest of the block
-pub closed_by : (n : ℕ) (blocks : List (List ℕ)) (weights : List ℕ) (jobs : List (List ℕ)) (b : Open) (code : List Instruction) (d i : ℕ) → lines_fit n blocks weights jobs b code ≡ true → d < depth_of b.nest b.clauses → is_some (closing_from d i code) ≡ true
+pub closed_by : (n : ℕ) (blocks : List (List ℕ)) (weights : List ℕ) (jobs : List (List ℕ)) (b : Open) (code : List Instruction) (d i : ℕ)
+    → lines_fit n blocks weights jobs b code ≡ true → d < depth_of b.nest b.clauses → is_some (closing_from d i code) ≡ true
 closed_by n blocks weights jobs b [] d i e h = absurd (none_open jobs b d e h)
 closed_by n blocks weights jobs b (x ∷ code) d i e h =
     let two = both_true _ _ e in
@@ -109,13 +114,16 @@ closed_by n blocks weights jobs b (x ∷ code) d i e h =
     let may = (both_true _ _ two.0).0 in
     let next = with_line weights x (name_given jobs x) b in
     let step = depth_step b.clauses b.nest x may in
-    at_line x d i (depth_of b.nest b.clauses) code h (λ f j g. closed_by n blocks weights jobs next code f j rest.1 (omega (arith, step, g)))
+    at_line x d i (depth_of b.nest b.clauses) code h (λ f j g. closed_by n blocks weights jobs next code f j rest.1
+    (omega (arith, step, g)))
 
 opens_deeper : (x : Instruction) (n : ℕ) → opens_lines x ≡ true → depth_after x n ≡ n + 1
 opens_deeper x n e = ap (λ b. if b then n + 1 else (if is_end x then one_less n else n)) e
 
 -- each line that opens is closed
-pub closes : (n : ℕ) (blocks : List (List ℕ)) (weights : List ℕ) (jobs : List (List ℕ)) (b : Open) (code : List Instruction) (i k : ℕ) → lines_fit n blocks weights jobs b code ≡ true → opens_lines (get_or code i End) ≡ true → is_some (closing_from 0 k (drop (i + 1) code)) ≡ true
+pub closes : (n : ℕ) (blocks : List (List ℕ)) (weights : List ℕ) (jobs : List (List ℕ)) (b : Open) (code : List Instruction) (i k : ℕ)
+    → lines_fit n blocks weights jobs b code ≡ true → opens_lines (get_or code i End) ≡ true
+    → is_some (closing_from 0 k (drop (i + 1) code)) ≡ true
 closes n blocks weights jobs b [] i k e o = cc
 closes n blocks weights jobs b (y ∷ code) zero k e o =
     let two = both_true _ _ e in
@@ -127,11 +135,14 @@ closes n blocks weights jobs b (y ∷ code) (suc i) k e o =
     let two = both_true _ _ e in
     let rest = both_true _ _ two.1 in
     let same : suc i + 1 ≡ suc (i + 1) = omega arith in
-    ap (λ m. is_some (closing_from 0 k (drop m (y ∷ code)))) same ∙ closes n blocks weights jobs (with_line weights y (name_given jobs y) b) code i k rest.1 o
+    ap (λ m. is_some (closing_from 0 k (drop m (y ∷ code)))) same
+    ∙ closes n blocks weights jobs (with_line weights y (name_given jobs y) b) code i k rest.1 o
 
 -- ---- programs
 
-blocks-close : (n : ℕ) (before : List (List ℕ)) (weights : List ℕ) (bs : List Block) (j i : ℕ) (b : Block) → blocks_fit n before weights bs ≡ true → slice_get bs j ≡ Some b → opens_lines (get_or b.code i End) ≡ true → is_some (closing_of b.code i) ≡ true
+blocks-close : (n : ℕ) (before : List (List ℕ)) (weights : List ℕ) (bs : List Block) (j i : ℕ) (b : Block)
+    → blocks_fit n before weights bs ≡ true → slice_get bs j ≡ Some b → opens_lines (get_or b.code i End) ≡ true
+    → is_some (closing_of b.code i) ≡ true
 blocks-close n before weights [] j i b e at o = cc
 blocks-close n before weights (c ∷ bs) zero i b e at o =
     let same : c ≡ b = cc in
@@ -143,8 +154,10 @@ blocks-close n before weights (c ∷ bs) (suc j) i b e at o =
     blocks-close n (before ++ c.name ∷ []) (weights ++ weight_in weights c ∷ []) bs j i b two.1 at o
 
 -- each line of a program that opens others is closed
-pub program-closes : (p : Program) → IsProgram p → (n i : ℕ) (b : Block) (x : Instruction) → slice_get p.blocks n ≡ Some b → slice_get b.code i ≡ Some x → opens_lines x ≡ true → is_some (closing_of b.code i) ≡ true
-program-closes p ok n i b x at line o = blocks-close (length p.channels) [] [] p.blocks n i b ok.blocks at (ap opens_lines (get_or_from_slice_get b.code i x End line) ∙ o)
+pub program-closes : (p : Program) → IsProgram p → (n i : ℕ) (b : Block) (x : Instruction) → slice_get p.blocks n ≡ Some b
+    → slice_get b.code i ≡ Some x → opens_lines x ≡ true → is_some (closing_of b.code i) ≡ true
+program-closes p ok n i b x at line o = blocks-close (length p.channels) [] [] p.blocks n i b ok.blocks at
+    (ap opens_lines (get_or_from_slice_get b.code i x End line) ∙ o)
 
 -- ---- what closes a line is an end behind it
 
@@ -182,7 +195,9 @@ pub closing_from-end : (d from k : ℕ) (code : List Instruction) → closing_fr
 closing_from-end d from k [] e = cc
 closing_from-end d from k (x ∷ code) e = by_test (is_end x) d refl (λ c f. closing_from-end c (from + 1) k code f) e
   where
-    by_test : (t : Bool) (d : ℕ) → is_end x ≡ t → ((c : ℕ) → closing_from c (from + 1) code ≡ Some k → IsEndFrom (from + 1) code k) → (if t then end_from d from (closing_from (one_less d) (from + 1) code) else closing_from (depth_after x d) (from + 1) code) ≡ Some k → IsEndFrom from (x ∷ code) k
+    by_test : (t : Bool) (d : ℕ) → is_end x ≡ t → ((c : ℕ) → closing_from c (from + 1) code ≡ Some k → IsEndFrom (from + 1) code k)
+        → (if t then end_from d from (closing_from (one_less d) (from + 1) code) else closing_from (depth_after x d) (from + 1) code) ≡
+        Some k → IsEndFrom from (x ∷ code) k
     by_test true zero t more f = let here : from ≡ k = cc in (0, omega (arith, here), ap (λ y. Some y) (end_is x t))
     by_test true (suc d) t more f = later_end from k x code (more d f)
     by_test false d t more f = later_end from k x code (more (depth_after x d) f)

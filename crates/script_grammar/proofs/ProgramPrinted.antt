@@ -12,7 +12,8 @@ use Rattle.script_grammar.proofs.Truths.{both_true, le-from_true, same-from_true
 use Rattle.script_grammar.proofs.ChannelsPrinted.{SayAll-append, between, channels_said}
 use Rattle.script_grammar.proofs.BlocksPrinted.{blocks_said, spawns_said}
 
-version_said : (version : ℕ) → (nat_le 1 version && nat_le version 2) ≡ true → SayAll start (version_lines version) (between version [] [] [] [])
+version_said : (version : ℕ) → (nat_le 1 version && nat_le version 2) ≡ true
+    → SayAll start (version_lines version) (between version [] [] [] [])
 version_said version h = by_test (version == 2) refl
   where
     one : (version == 2) ≡ false → 1 ≡ version
@@ -23,7 +24,12 @@ version_said version h = by_test (version == 2) refl
         grind (arith, nat_tests)
 
     by_test : (b : Bool) → (version == 2) ≡ b → SayAll start (if b then version_words ∷ [] else []) (between version [] [] [] [])
-    by_test true e = (version_is, (refl, refl), record { channels = omega arith; places = omega arith; current = tt; load = omega arith }, ap (λ v. between v [] [] [] []) (sym (same-from_true version 2 e)))
+    by_test true e = (
+      version_is,
+      (refl, refl),
+      record { channels = omega arith; places = omega arith; current = tt; load = omega arith },
+      ap (λ v. between v [] [] [] []) (sym (same-from_true version 2 e)),
+    )
     by_test false e = ap (λ v. between v [] [] [] []) (one e)
 
 -- the script as it stands after the canonical lines
@@ -41,6 +47,8 @@ canonical_said p is =
     let declared = between p.version p.channels [] [] [] in
     let blocked = between p.version p.channels p.blocks weights [] in
     SayAll-append start none (last_of p) (version_lines p.version) (channels ++ (blocks ++ spawns)) (version_said p.version is.version)
-    (SayAll-append none declared (last_of p) channels (blocks ++ spawns) (channels_said p.version [] p.channels is.channel_names is.channels is.few_channels is.few_places)
-    (SayAll-append declared blocked (last_of p) blocks spawns (blocks_said p.version p.channels [] p.blocks [] names is.few_channels is.few_places refl refl (omega (arith, is.load)) is.blocks)
+    (SayAll-append none declared (last_of p) channels (blocks
+    ++ spawns) (channels_said p.version [] p.channels is.channel_names is.channels is.few_channels is.few_places)
+    (SayAll-append declared blocked (last_of p) blocks spawns
+    (blocks_said p.version p.channels [] p.blocks [] names is.few_channels is.few_places refl refl (omega (arith, is.load)) is.blocks)
     (spawns_said p.version p.channels p.blocks weights [] p.spawns is.few_channels is.few_places is.load is.spawns)))

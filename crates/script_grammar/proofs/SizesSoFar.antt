@@ -18,5 +18,6 @@ some_jobs all [] = omega arith
 some_jobs all (x ∷ xs) = omega (arith, some_jobs all xs)
 
 -- an instance of a block takes no more tags than the block weighs
-pub size_in-light : (n : ℕ) (bs : List Block) → blocks_fit n [] [] bs ≡ true → (k : ℕ) → k < length bs → size_in bs k ≤ weight_at (weights_from [] bs) k
+pub size_in-light : (n : ℕ) (bs : List Block) → blocks_fit n [] [] bs ≡ true → (k : ℕ) → k < length bs
+    → size_in bs k ≤ weight_at (weights_from [] bs) k
 size_in-light n bs fit k h = omega (arith, some_jobs bs (layout (layouts bs) k), layouts-weigh n bs fit k h)

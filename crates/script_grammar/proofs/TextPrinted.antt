@@ -68,48 +68,94 @@ one w h = both (is_written w) true h refl
 pair_ : (v w : List ℕ) → is_written v ≡ true → is_written w ≡ true → (is_written v && (is_written w && true)) ≡ true
 pair_ v w g h = both (is_written v) _ g (one w h)
 
-channel_written : (s : Read) (c : ℕ) → AreNamed s → nat_lt c (length s.channels) ≡ true → is_written (name_of (channel_names s.channels) c) ≡ true
-channel_written s c is h = let low = lt-from_true c (length s.channels) h in name_written (name_of (channel_names s.channels) c) (is.channels c (omega (arith, low, length-map s.channels (λ (c : Declared). c.name)))).0
+channel_written : (s : Read) (c : ℕ) → AreNamed s → nat_lt c (length s.channels) ≡ true
+    → is_written (name_of (channel_names s.channels) c) ≡ true
+channel_written s c is h = let low = lt-from_true c (length s.channels) h
+    in name_written (name_of (channel_names s.channels) c)
+    (is.channels c (omega (arith, low, length-map s.channels (λ (c : Declared). c.name)))).0
 
 block_written : (s : Read) (p : ℕ) → AreNamed s → p < length (block_names s.blocks) → is_written (name_of (block_names s.blocks) p) ≡ true
 block_written s p is h = name_written (name_of (block_names s.blocks) p) (is.blocks p h).0
 
-job_written : (b : Open) (job : Option (List ℕ)) (j : ℕ) → Distinct b.jobs → nat_lt j (length b.jobs) ≡ true → is_written (name_of (b.jobs ++ listed job) j) ≡ true
-job_written b job j is h = let low = lt-from_true j (length b.jobs) h in ap is_written (name_of-front b.jobs (listed job) j low) ∙ name_written (name_of b.jobs j) (is j low).0
+job_written : (b : Open) (job : Option (List ℕ)) (j : ℕ) → Distinct b.jobs → nat_lt j (length b.jobs) ≡ true
+    → is_written (name_of (b.jobs ++ listed job) j) ≡ true
+job_written b job j is h = let low = lt-from_true j (length b.jobs) h in ap is_written (name_of-front b.jobs (listed job) j low)
+    ∙ name_written (name_of b.jobs j) (is j low).0
 
-new_job_written : (b : Open) (job : Option (List ℕ)) (j : ℕ) → names_job b.jobs (Some j) job ≡ true → is_written (name_of (b.jobs ++ listed job) j) ≡ true
+new_job_written : (b : Open) (job : Option (List ℕ)) (j : ℕ) → names_job b.jobs (Some j) job ≡ true
+    → is_written (name_of (b.jobs ++ listed job) j) ≡ true
 new_job_written b None j e = cc
 new_job_written b (Some name) j e =
     let two = both_true _ _ e in
-    ap is_written (ap (name_of (b.jobs ++ name ∷ [])) (same-from_true j (length b.jobs) two.0) ∙ name_of-last b.jobs name) ∙ name_written name (both_true _ _ two.1).0
+    ap is_written (ap (name_of (b.jobs ++ name ∷ [])) (same-from_true j (length b.jobs) two.0) ∙ name_of-last b.jobs name)
+    ∙ name_written name (both_true _ _ two.1).0
 
-line_written : (s : Read) (b : Open) (x : Instruction) (job : Option (List ℕ)) → AreNamed s → Named s b → fits (length s.channels) (block_names s.blocks) b x ≡ true → names_job b.jobs (job_given x) job ≡ true → Written (line_words (names_for s b job) x)
-line_written s b (Send c v) job is named h gives = let two = both_true _ _ h in (refl, pair_ (name_of (channel_names s.channels) c) (operand_word v) (channel_written s c is two.0) (operand_written v two.1))
-line_written s b (TrySend c v) job is named h gives = let two = both_true _ _ h in (refl, pair_ (name_of (channel_names s.channels) c) (operand_word v) (channel_written s c is two.0) (operand_written v two.1))
+line_written : (s : Read) (b : Open) (x : Instruction) (job : Option (List ℕ)) → AreNamed s → Named s b
+    → fits (length s.channels) (block_names s.blocks) b x ≡ true → names_job b.jobs (job_given x) job ≡ true
+    → Written (line_words (names_for s b job) x)
+line_written s b (Send c v) job is named h gives = let two = both_true _ _ h
+    in (refl, pair_ (name_of (channel_names s.channels) c) (operand_word v) (channel_written s c is two.0) (operand_written v two.1))
+line_written s b (TrySend c v) job is named h gives = let two = both_true _ _ h
+    in (refl, pair_ (name_of (channel_names s.channels) c) (operand_word v) (channel_written s c is two.0) (operand_written v two.1))
 line_written s b (Receive c) job is named h gives = (refl, one (name_of (channel_names s.channels) c) (channel_written s c is h))
 line_written s b (TryReceive c) job is named h gives = (refl, one (name_of (channel_names s.channels) c) (channel_written s c is h))
 line_written s b (Close c) job is named h gives = (refl, one (name_of (channel_names s.channels) c) (channel_written s c is h))
 line_written s b (CancelChannel c) job is named h gives = (refl, one (name_of (channel_names s.channels) c) (channel_written s c is h))
 line_written s b Yield job is named h gives = (refl, refl)
-line_written s b (Launch p Plain None) job is named h gives = (refl, one (name_of (block_names s.blocks) p) (block_written s p is (lt-from_true p (length (block_names s.blocks)) (both_true _ _ h).0)))
-line_written s b (Launch p Plain (Some j)) job is named h gives = (refl, both (is_written (name_of (block_names s.blocks) p)) _ (block_written s p is (lt-from_true p (length (block_names s.blocks)) (both_true _ _ h).0)) (one (name_of (b.jobs ++ listed job) j) (new_job_written b job j gives)))
-line_written s b (Launch p Async None) job is named h gives = (refl, one (name_of (block_names s.blocks) p) (block_written s p is (lt-from_true p (length (block_names s.blocks)) (both_true _ _ h).0)))
-line_written s b (Launch p Async (Some j)) job is named h gives = (refl, both (is_written (name_of (block_names s.blocks) p)) _ (block_written s p is (lt-from_true p (length (block_names s.blocks)) (both_true _ _ h).0)) (one (name_of (b.jobs ++ listed job) j) (new_job_written b job j gives)))
-line_written s b (Launch p Lazy None) job is named h gives = (refl, one (name_of (block_names s.blocks) p) (block_written s p is (lt-from_true p (length (block_names s.blocks)) (both_true _ _ h).0)))
-line_written s b (Launch p Lazy (Some j)) job is named h gives = (refl, both (is_written (name_of (block_names s.blocks) p)) _ (block_written s p is (lt-from_true p (length (block_names s.blocks)) (both_true _ _ h).0)) (one (name_of (b.jobs ++ listed job) j) (new_job_written b job j gives)))
+line_written s b (Launch p Plain None) job is named h gives = (
+  refl,
+  one (name_of (block_names s.blocks) p) (block_written s p is
+      (lt-from_true p (length (block_names s.blocks)) (both_true _ _ h).0)),
+)
+line_written s b (Launch p Plain (Some j)) job is named h gives = (
+  refl,
+  both (is_written (name_of (block_names s.blocks) p)) _
+      (block_written s p is (lt-from_true p (length (block_names s.blocks)) (both_true _ _ h).0))
+      (one (name_of (b.jobs ++ listed job) j) (new_job_written b job j gives)),
+)
+line_written s b (Launch p Async None) job is named h gives = (
+  refl,
+  one (name_of (block_names s.blocks) p) (block_written s p is
+      (lt-from_true p (length (block_names s.blocks)) (both_true _ _ h).0)),
+)
+line_written s b (Launch p Async (Some j)) job is named h gives = (
+  refl,
+  both (is_written (name_of (block_names s.blocks) p)) _
+      (block_written s p is (lt-from_true p (length (block_names s.blocks)) (both_true _ _ h).0))
+      (one (name_of (b.jobs ++ listed job) j) (new_job_written b job j gives)),
+)
+line_written s b (Launch p Lazy None) job is named h gives = (
+  refl,
+  one (name_of (block_names s.blocks) p) (block_written s p is
+      (lt-from_true p (length (block_names s.blocks)) (both_true _ _ h).0)),
+)
+line_written s b (Launch p Lazy (Some j)) job is named h gives = (
+  refl,
+  both (is_written (name_of (block_names s.blocks) p)) _
+      (block_written s p is (lt-from_true p (length (block_names s.blocks)) (both_true _ _ h).0))
+      (one (name_of (b.jobs ++ listed job) j) (new_job_written b job j gives)),
+)
 line_written s b (Start j) job is named h gives = (refl, one (name_of (b.jobs ++ listed job) j) (job_written b job j named.jobs h))
 line_written s b (Join j) job is named h gives = (refl, one (name_of (b.jobs ++ listed job) j) (job_written b job j named.jobs h))
-line_written s b (Await j) job is named h gives = (refl, one (name_of (b.jobs ++ listed job) j) (job_written b job j named.jobs (both_true _ _ h).0))
+line_written s b (Await j) job is named h gives = (
+  refl,
+  one (name_of (b.jobs ++ listed job) j) (job_written b job j named.jobs (both_true _ _ h).0),
+)
 line_written s b (Cancel j) job is named h gives = (refl, one (name_of (b.jobs ++ listed job) j) (job_written b job j named.jobs h))
 line_written s b (Fail n) job is named h gives = (refl, one (decimal n) (decimal_written n (lt-from_true n (2 ^ 32) h)))
 line_written s b (SetResult v) job is named h gives = (refl, one (operand_word v) (operand_written v h))
-line_written s b (Repeat n) job is named h gives = let high : n ≤ 1000000 = le-from_true n 1000000 (both_true _ _ h).1 in (refl, one (decimal n) (decimal_written n (omega (arith, high))))
+line_written s b (Repeat n) job is named h gives = let high : n ≤ 1000000 = le-from_true n 1000000 (both_true _ _ h).1
+    in (refl, one (decimal n) (decimal_written n (omega (arith, high))))
 line_written s b (Each c) job is named h gives = (refl, one (name_of (channel_names s.channels) c) (channel_written s c is h))
 line_written s b (Scope false) job is named h gives = (refl, refl)
 line_written s b (Scope true) job is named h gives = (refl, refl)
 line_written s b Select job is named h gives = (refl, refl)
-line_written s b (OnSend c v) job is named h gives = let two = both_true _ _ h in let more = both_true _ _ two.1 in (refl, pair_ (name_of (channel_names s.channels) c) (operand_word v) (channel_written s c is two.0) (operand_written v more.1))
-line_written s b (OnReceive c) job is named h gives = (refl, one (name_of (channel_names s.channels) c) (channel_written s c is (both_true _ _ h).0))
+line_written s b (OnSend c v) job is named h gives = let two = both_true _ _ h in let more = both_true _ _ two.1
+    in (refl, pair_ (name_of (channel_names s.channels) c) (operand_word v) (channel_written s c is two.0) (operand_written v more.1))
+line_written s b (OnReceive c) job is named h gives = (
+  refl,
+  one (name_of (channel_names s.channels) c) (channel_written s c is (both_true _ _ h).0),
+)
 line_written s b End job is named h gives = (refl, refl)
 
 fresh_written : (names : List (List ℕ)) (name : List ℕ) → is_fresh names name ≡ true → is_written name ≡ true
@@ -144,13 +190,24 @@ form_written s words version_is is says = subst Written (sym says.1) (refl, refl
 form_written s words (channel_is c) is says =
     let two = both_true _ _ says.5 in
     let high : c.places ≤ 1048576 = le-from_true c.places 1048576 (both_true _ _ two.1).1 in
-    subst Written (sym says.3) (refl, both (is_written c.name) _ (fresh_written _ c.name says.4) (all_append (kind_words c.kind says.0) (part says.1 (codes "places" ∷ decimal c.places ∷ [])) (kind_written s.version c.kind says.0 two.0) (places_written says.1 c.places (omega (arith, high)))))
+    subst Written (sym says.3) (
+      refl,
+      both (is_written c.name) _ (fresh_written _ c.name says.4)
+          (all_append (kind_words c.kind says.0) (part says.1 (codes "places" ∷ decimal c.places ∷ []))
+          (kind_written s.version c.kind says.0 two.0) (places_written says.1 c.places (omega (arith, high)))),
+    )
 form_written s words (coroutine_is p) is says = subst Written (sym says.1) (refl, one p (fresh_written _ p says.2))
 form_written s words (spawn_is i n) is says =
     let two = both_true _ _ says.3 in
     let high : n ≤ 16000 = le-from_true n 16000 (both_true _ _ two.1).1 in
-    subst Written (sym says.2) (refl, both (is_written (name_of (block_names s.blocks) i)) _ (block_written s i is (lt-from_true i (length (block_names s.blocks)) (both_true _ _ two.0).0)) (part_written says.0 n (omega (arith, high))))
-form_written s words (line_is x job) is says = subst Written (sym says.2) (line_written s says.0 x job is (of_current s says.0 is says.1) says.4 says.5)
+    subst Written (sym says.2) (
+      refl,
+      both (is_written (name_of (block_names s.blocks) i)) _
+          (block_written s i is (lt-from_true i (length (block_names s.blocks)) (both_true _ _ two.0).0))
+          (part_written says.0 n (omega (arith, high))),
+    )
+form_written s words (line_is x job) is says = subst Written (sym says.2)
+    (line_written s says.0 x job is (of_current s says.0 is says.1) says.4 says.5)
 form_written s words end_is is says = subst Written (sym says.2) (refl, refl)
 
 -- ---- the text
@@ -162,7 +219,8 @@ abbrev pub words_in : List (ℕ × List (List ℕ)) → List (List (List ℕ))
 words_in lines = map (λ l. l.1) lines
 
 -- lines whose words say something are read as those words
-lines_written : (s : Read) (lines : List (ℕ × List (List ℕ))) (t : Read) → AreNamed s → SayAll s (words_in lines) t → (list_all all_plain (texts_of lines) ≡ true) × (with_words (texts_of lines) ≡ words_in lines)
+lines_written : (s : Read) (lines : List (ℕ × List (List ℕ))) (t : Read) → AreNamed s → SayAll s (words_in lines) t
+    → (list_all all_plain (texts_of lines) ≡ true) × (with_words (texts_of lines) ≡ words_in lines)
 lines_written s [] t is said = (refl, refl)
 lines_written s (l ∷ lines) t is said =
     let w = form_written s l.1 said.0 is said.1 in
@@ -173,7 +231,8 @@ lines_written s (l ∷ lines) t is said =
           ∙ ap (λ ls. l.1 ∷ ls) rest.1,
     )
 
-text_lines : (ls : List (List ℕ)) → list_all all_plain ls ≡ true → (list_all all_plain (lines_of (unlines ls)) ≡ true) × (with_words (lines_of (unlines ls)) ≡ with_words ls)
+text_lines : (ls : List (List ℕ)) → list_all all_plain ls ≡ true → (list_all all_plain (lines_of (unlines ls)) ≡ true)
+    × (with_words (lines_of (unlines ls)) ≡ with_words ls)
 text_lines [] h = (refl, refl)
 text_lines (l ∷ ls) h = let same = lines_of-unlines l ls h in (ap (list_all all_plain) same ∙ h, ap with_words same)
 
@@ -193,9 +252,11 @@ words_in-append xs ys = map-append (λ (l : ℕ × List (List ℕ)). l.1) xs ys
 block_words : (channels blocks : List (List ℕ)) (b : Block) → words_in (deep_block channels blocks b) ≡ block_lines channels blocks b
 block_words channels blocks b =
     let names : Names = record { channels = channels; blocks = blocks; jobs = b.jobs } in
-    ap (λ ls. coroutine_words b.name ∷ ls) (words_in-append (code_lines names 1 b.code) ((0, codes "end" ∷ []) ∷ []) ∙ ap (λ ls. ls ++ (codes "end" ∷ []) ∷ []) (code_words names 1 b.code))
+    ap (λ ls. coroutine_words b.name ∷ ls) (words_in-append (code_lines names 1 b.code) ((0, codes "end" ∷ []) ∷ [])
+    ∙ ap (λ ls. ls ++ (codes "end" ∷ []) ∷ []) (code_words names 1 b.code))
 
-blocks_words : (channels blocks : List (List ℕ)) (bs : List Block) → words_in (deep_blocks channels blocks bs) ≡ blocks_lines channels blocks bs
+blocks_words : (channels blocks : List (List ℕ)) (bs : List Block)
+    → words_in (deep_blocks channels blocks bs) ≡ blocks_lines channels blocks bs
 blocks_words channels blocks [] = refl
 blocks_words channels blocks (b ∷ bs) =
     words_in-append (deep_block channels blocks b) (deep_blocks channels blocks bs)
@@ -220,7 +281,8 @@ deep_words p =
 -- the law of print
 pub Spells-canonical_text : (p : Program) → IsProgram p → length (canonical_text p) ≤ 1048576 → Spells (canonical_text p) p
 Spells-canonical_text p is short =
-    let said : SayAll start (words_in (deep_lines p)) (last_of p) = subst (λ ls. SayAll start ls (last_of p)) (sym (deep_words p)) (canonical_said p is) in
+    let said : SayAll start (words_in (deep_lines p)) (last_of p) =
+    subst (λ ls. SayAll start ls (last_of p)) (sym (deep_words p)) (canonical_said p is) in
     let lines = lines_written start (deep_lines p) (last_of p) AreNamed-start said in
     let text = text_lines (texts_of (deep_lines p)) lines.0 in
     record {

@@ -5,7 +5,8 @@ use Rattle.std.proofs.lemmas.Slice.Eq.{bytes_eq-Decides}
 use Rattle.script_grammar.specs.declared.verbs.Verb.{Verb}
 use Rattle.script_grammar.specs.Verbs.{word_of_verb, among, verbs, verb_of}
 
-tested : (b : Bool) (word : List ℕ) (x v : Verb) (rest : Option Verb) → bytes_eq word (word_of_verb x) ≡ b → (rest ≡ Some v → word ≡ word_of_verb v) → (if b then Some x else rest) ≡ Some v → word ≡ word_of_verb v
+tested : (b : Bool) (word : List ℕ) (x v : Verb) (rest : Option Verb) → bytes_eq word (word_of_verb x) ≡ b
+    → (rest ≡ Some v → word ≡ word_of_verb v) → (if b then Some x else rest) ≡ Some v → word ≡ word_of_verb v
 tested true word x v rest t more e = let same : x ≡ v = cc in (bytes_eq-Decides word (word_of_verb x)).0 t ∙ ap word_of_verb same
 tested false word x v rest t more e = more e
 

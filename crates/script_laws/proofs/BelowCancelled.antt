@@ -75,17 +75,31 @@ unfoldable pub AllTakenBy : (JobAct → Type 0) → (JobAct → Told → Type 0)
 AllTakenBy Raises Takes t [] = Unit {0}
 AllTakenBy Raises Takes t (a ∷ acts) = (Raises a → Takes a t) × AllTakenBy Raises Takes t acts
 
-pub paid_by_last : (k : ℕ) (owes : Tree → Bool) (Raises : JobAct → Type 0) (Takes : JobAct → Told → Type 0) (t : Told) (acts : List JobAct) → job_told t ≡ None → AllTakenBy Raises Takes t acts → JobPaid k owes Raises Takes (map did acts ++ t ∷ [])
+pub paid_by_last : (k : ℕ) (owes : Tree → Bool) (Raises : JobAct → Type 0) (Takes : JobAct → Told → Type 0) (t : Told) (acts : List JobAct)
+    → job_told t ≡ None → AllTakenBy Raises Takes t acts → JobPaid k owes Raises Takes (map did acts ++ t ∷ [])
 unfolding AllPaid AllTakenBy
-paid_by_last k owes Raises Takes t [] m h = (subst (λ o. Rattle.script_meaning.proofs.Payments.IsPaid step start who_did deed k job_told JobHolds owes Raises (Rattle.script_meaning.proofs.JobDebts.Off Takes) o []) (sym m) tt, tt)
-paid_by_last k owes Raises Takes t (a ∷ acts) m h = (λ r. exists_right (Takes a) (map did acts) (t ∷ []) (exists_first (Takes a) t [] (h.0 r)), paid_by_last k owes Raises Takes t acts m h.1)
+paid_by_last k owes Raises Takes t [] m h = (
+  subst (λ o. Rattle.script_meaning.proofs.Payments.IsPaid step start who_did deed k job_told JobHolds owes Raises
+      (Rattle.script_meaning.proofs.JobDebts.Off Takes) o []) (sym m) tt,
+  tt,
+)
+paid_by_last k owes Raises Takes t (a ∷ acts) m h = (
+  λ r. exists_right (Takes a) (map did acts) (t ∷ [])
+      (exists_first (Takes a) t [] (h.0 r)),
+  paid_by_last k owes Raises Takes t acts m h.1,
+)
 
-covered : (r : ℕ) (t : Told) (acts : List JobAct) (all : Exists (IsCancelOf r) acts → (a : JobAct) → TakesBelow r a t) → AllTakenBy (IsCancelOf r) (TakesBelow r) t acts
+covered : (r : ℕ) (t : Told) (acts : List JobAct) (all : Exists (IsCancelOf r) acts → (a : JobAct) → TakesBelow r a t)
+    → AllTakenBy (IsCancelOf r) (TakesBelow r) t acts
 unfolding AllTakenBy
 covered r t [] all = tt
-covered r t (a ∷ acts) all = (λ x. all (exists_first (IsCancelOf r) a acts x) a, covered r t acts (λ x b. all (exists_later (IsCancelOf r) a acts x) b))
+covered r t (a ∷ acts) all = (
+  λ x. all (exists_first (IsCancelOf r) a acts x) a,
+  covered r t acts (λ x b. all (exists_later (IsCancelOf r) a acts x) b),
+)
 
-own_or_below : (r row : ℕ) (newly : Bool) (reason : Reason) (below : List JobAct) → Exists (IsCancelOf r) (own_cancel newly row reason ++ below) → (row ≡ r) ⊎ Exists (IsCancelOf r) below
+own_or_below : (r row : ℕ) (newly : Bool) (reason : Reason) (below : List JobAct)
+    → Exists (IsCancelOf r) (own_cancel newly row reason ++ below) → (row ≡ r) ⊎ Exists (IsCancelOf r) below
 unfolding Exists
 own_or_below r row true reason below h = h
 own_or_below r row false reason below h = inr h
@@ -94,13 +108,25 @@ abbrev pub BelowPaid : ℕ → ℕ → ℕ → List Told → Type 0
 BelowPaid k r d told = JobPaid k (owes_below r d) (IsCancelOf r) (TakesBelow r) told
 
 pass_pays : (k r d row : ℕ) (reason : Reason) (newly : Bool) (g : List Told) → Passes row reason newly g → BelowPaid k r d g
-pass_pays k r d row reason newly g s = subst (BelowPaid k r d) (sym s.all) (paid_by_last k (owes_below r d) (IsCancelOf r) (TakesBelow r) (on_jobs (PassedBelow row s.below)) (own_cancel newly row reason ++ s.below) refl (covered r (on_jobs (PassedBelow row s.below)) (own_cancel newly row reason ++ s.below) (λ x a. own_or_below r row newly reason s.below x)))
+pass_pays k r d row reason newly g s = subst (BelowPaid k r d) (sym s.all)
+    (paid_by_last k (owes_below r d) (IsCancelOf r) (TakesBelow r) (on_jobs (PassedBelow row s.below)) (own_cancel newly row reason
+    ++ s.below) refl (covered r (on_jobs (PassedBelow row s.below)) (own_cancel newly row reason
+    ++ s.below) (λ x a. own_or_below r row newly reason s.below x)))
 
 chain_calm : (p : Program) (k r d row : ℕ) (g : List Told) → Chain (base_of p) row g → BelowPaid k r d g
 unfolding AllPaid
 chain_calm p k r d _ _ (Chain.stops row) = (tt, tt)
-chain_calm p k r d _ _ (Chain.root end closes c) = (λ x. absurd x, paid_quiet k (owes_below r d) (IsCancelOf r) (TakesBelow r) closes (quiet_closes _ _ closes c))
-chain_calm p k r d row g (Chain.goes_up _ parent end closes rest _ n c up e) = subst (BelowPaid k r d) (sym e) (λ x. absurd x, paid_then k (owes_below r d) (IsCancelOf r) (TakesBelow r) closes _ (paid_quiet k (owes_below r d) (IsCancelOf r) (TakesBelow r) closes (quiet_closes _ _ closes c)) (λ x. absurd x, (tt, chain_calm p k r d parent rest up)))
+chain_calm p k r d _ _ (Chain.root end closes c) = (
+  λ x. absurd x,
+  paid_quiet k (owes_below r d) (IsCancelOf r) (TakesBelow r) closes (quiet_closes _ _ closes c),
+)
+chain_calm p k r d row g (Chain.goes_up _ parent end closes rest _ n c up e) =
+    subst (BelowPaid k r d) (sym e) (
+      λ x. absurd x,
+      paid_then k (owes_below r d) (IsCancelOf r) (TakesBelow r) closes _
+          (paid_quiet k (owes_below r d) (IsCancelOf r) (TakesBelow r) closes (quiet_closes _ _ closes c))
+          (λ x. absurd x, (tt, chain_calm p k r d parent rest up)),
+    )
 
 below_pieces : (p : Program) (r d k : ℕ) (g : List Told) → JobPiece p k g → BelowPaid k r d g
 unfolding AllPaid
@@ -108,7 +134,10 @@ below_pieces p r d k _ (JobPiece.quiet g q) = paid_quiet k (owes_below r d) (IsC
 below_pieces p r d k _ (JobPiece.attaches parent row kind tag now) = (λ x. absurd x, tt)
 below_pieces p r d k _ (JobPiece.starts row) = (λ x. absurd x, tt)
 below_pieces p r d k g (JobPiece.passes row reason newly _ m o t) = pass_pays k r d row reason newly g t
-below_pieces p r d k g (JobPiece.fails f up pass _ t e) = subst (BelowPaid k r d) (sym e) (paid_then k (owes_below r d) (IsCancelOf r) (TakesBelow r) pass _ (pass_pays k r d k (reasons.Own f) true pass t) (paid_by_last k (owes_below r d) (IsCancelOf r) (TakesBelow r) (on_jobs (FailedUp k up)) up refl (covered r (on_jobs (FailedUp k up)) up (λ x a. x))))
+below_pieces p r d k g (JobPiece.fails f up pass _ t e) =
+    subst (BelowPaid k r d) (sym e) (paid_then k (owes_below r d) (IsCancelOf r) (TakesBelow r) pass _
+    (pass_pays k r d k (reasons.Own f) true pass t) (paid_by_last k (owes_below r d) (IsCancelOf r) (TakesBelow r) (on_jobs (FailedUp k up))
+    up refl (covered r (on_jobs (FailedUp k up)) up (λ x a. x))))
 below_pieces p r d k _ (JobPiece.ends_body row v chain t) = (λ x. absurd x, chain_calm p k r d row chain t)
 
 -- ---- what takes it away
@@ -132,35 +161,43 @@ nothing_below tree r d h = at (cancelled_at (tree r)) (is_row r (parent_of (tree
 among_below : (tree : Tree) (row r : ℕ) (a : JobAct) → IsCancelBelow tree row a → IsCancelOf r a → IsBelow tree row r
 among_below tree row r (Cancel q reason) h e = subst (IsBelow tree row) e h.1
 among_below tree row r (Attach p q kind tag c) h e = absurd h
-among_below tree row r (Start q) h e = absurd h
-among_below tree row r (EndBody q v) h e = absurd h
-among_below tree row r (Finish q end) h e = absurd h
-among_below tree row r (Gone q) h e = absurd h
+among_below tree row r other h e = absurd h
 
-some_below : (tree : Tree) (row r : ℕ) (acts : List JobAct) → AreCancelsBelow tree row acts → Exists (IsCancelOf r) acts → IsBelow tree row r
+some_below : (tree : Tree) (row r : ℕ) (acts : List JobAct) → AreCancelsBelow tree row acts → Exists (IsCancelOf r) acts
+    → IsBelow tree row r
 unfolding Exists
 some_below tree row r [] h x = absurd x
-some_below tree row r (a ∷ acts) h x = ⊎_elim (λ (y : IsCancelOf r a). among_below tree row r a h.0 y) (λ (y : Exists (IsCancelOf r) acts). some_below tree row r acts h.1 y) x
+some_below tree row r (a ∷ acts) h x = ⊎_elim (λ (y : IsCancelOf r a). among_below tree row r a h.0 y)
+    (λ (y : Exists (IsCancelOf r) acts). some_below tree row r acts h.1 y) x
 
 pub exists_parts : (P : JobAct → Type 0) (xs ys : List JobAct) → Exists P (xs ++ ys) → Exists P xs ⊎ Exists P ys
 unfolding Exists
 exists_parts P [] ys h = inr h
-exists_parts P (x ∷ xs) ys h = ⊎_elim (λ (a : P x). inl (inl a)) (λ (b : Exists P (xs ++ ys)). ⊎_elim (λ (c : Exists P xs). inl (inr c)) (λ (c : Exists P ys). inr c) (exists_parts P xs ys b)) h
+exists_parts P (x ∷ xs) ys h = ⊎_elim (λ (a : P x). inl (inl a))
+    (λ (b : Exists P (xs ++ ys)). ⊎_elim (λ (c : Exists P xs). inl (inr c)) (λ (c : Exists P ys). inr c) (exists_parts P xs ys b)) h
 
-up_covers : (tree : Tree) (r d row : ℕ) (acts : List JobAct) → FailsUp tree row acts → Exists (IsCancelOf r) acts → parent_of (tree d) ≡ Some r → IsCancellingOrEnded (tree d)
+up_covers : (tree : Tree) (r d row : ℕ) (acts : List JobAct) → FailsUp tree row acts → Exists (IsCancelOf r) acts
+    → parent_of (tree d) ≡ Some r → IsCancellingOrEnded (tree d)
 unfolding Exists
 up_covers tree r d _ _ (FailsUp.ends row s) x e = absurd x
 up_covers tree r d _ _ (FailsUp.stops row p acts g a b) x e = a.below d (is_further r d (some_below tree p r acts b x) e)
 up_covers tree r d row acts (FailsUp.goes_on _ p these later _ g a b f q) x e =
     let y : Exists (IsCancelOf r) (Cancel p (reasons.Child row) ∷ these ++ later) = subst (Exists (IsCancelOf r)) q x in
-    ⊎_elim (λ (i : p ≡ r). a.below d (is_child d (e ∙ ap (λ n. Some n) (sym i)))) (λ (z : Exists (IsCancelOf r) (these ++ later)). ⊎_elim (λ (u : Exists (IsCancelOf r) these). a.below d (is_further r d (some_below tree p r these b u) e)) (λ (u : Exists (IsCancelOf r) later). up_covers tree r d p later f u e) (exists_parts (IsCancelOf r) these later z)) y
+    ⊎_elim (λ (i : p ≡ r). a.below d (is_child d (e ∙ ap (λ n. Some n) (sym i))))
+    (λ (z : Exists (IsCancelOf r) (these ++ later)). ⊎_elim
+    (λ (u : Exists (IsCancelOf r) these). a.below d (is_further r d (some_below tree p r these b u) e))
+    (λ (u : Exists (IsCancelOf r) later). up_covers tree r d p later f u e) (exists_parts (IsCancelOf r) these later z)) y
 
-below_by_fact : (r d : ℕ) (at : List JobEntry) (fact : JobFact) → JobHolds (on_jobs fact) at → CoversRow r fact → owes_below r d (replay at) ≡ false
-below_by_fact r d at (PassedBelow row acts) h c = nothing_below (replay at) r d (λ e. ⊎_elim (λ (i : row ≡ r). h.1.below d (is_child d (e ∙ ap (λ n. Some n) (sym i)))) (λ (x : Exists (IsCancelOf r) acts). h.1.below d (is_further r d (some_below (replay at) row r acts h.0 x) e)) c)
+below_by_fact : (r d : ℕ) (at : List JobEntry) (fact : JobFact) → JobHolds (on_jobs fact) at → CoversRow r fact
+    → owes_below r d (replay at) ≡ false
+below_by_fact r d at (PassedBelow row acts) h c = nothing_below (replay at) r d
+    (λ e. ⊎_elim (λ (i : row ≡ r). h.1.below d (is_child d (e ∙ ap (λ n. Some n) (sym i))))
+    (λ (x : Exists (IsCancelOf r) acts). h.1.below d (is_further r d (some_below (replay at) row r acts h.0 x) e)) c)
 below_by_fact r d at (FailedUp row acts) h c = nothing_below (replay at) r d (up_covers (replay at) r d row acts h.0 c)
 below_by_fact r d at other h c = absurd c
 
-below_by_told : (r d : ℕ) (a : JobAct) (t : Told) (at : List JobEntry) → JobHolds t at → TakesBelow r a t → owes_below r d (replay at) ≡ false
+below_by_told : (r d : ℕ) (a : JobAct) (t : Told) (at : List JobEntry) → JobHolds t at → TakesBelow r a t
+    → owes_below r d (replay at) ≡ false
 below_by_told r d a (note i) at h t = absurd t
 below_by_told r d a (on_channels fact) at h t = absurd t
 below_by_told r d a (on_jobs fact) at h t = below_by_fact r d at fact h t
@@ -172,39 +209,43 @@ no_act r a (on_jobs fact) b m t = cc
 
 -- ---- which act raises it
 
-newly_cancelled : (shape : _) (tree : Tree) (who r : ℕ) (act : JobAct) (x y : Option Job) → RowStep shape tree who r act x y → cancelled_at x ≡ false → cancelled_at y ≡ true → IsCancelOf r act ⊎ (x ≡ None)
+newly_cancelled : (shape : _) (tree : Tree) (who r : ℕ) (act : JobAct) (x y : Option Job) → RowStep shape tree who r act x y
+    → cancelled_at x ≡ false → cancelled_at y ≡ true → IsCancelOf r act ⊎ (x ≡ None)
 newly_cancelled shape tree who r _ _ _ (RowStep.is_attached p kind tag cancelled m i) f t = inr refl
 newly_cancelled shape tree who r _ _ _ (RowStep.has_child c kind tag cancelled j none m) f t = absurd (contrary (is_cancelled j.state) t f)
 newly_cancelled shape tree who r _ _ _ (RowStep.is_started j n) f t = cc
-newly_cancelled shape tree who r _ _ _ (RowStep.body_ends v j m) f t = absurd (contrary (is_cancelled j.state) (body_cancelled j.state ∙ t) f)
+newly_cancelled shape tree who r _ _ _ (RowStep.body_ends v j m) f t =
+    absurd (contrary (is_cancelled j.state) (body_cancelled j.state ∙ t) f)
 newly_cancelled shape tree who r _ _ _ (RowStep.is_cancelled reason j m o) f t = inl refl
-newly_cancelled shape tree who r _ _ _ (RowStep.ends end j m) f t = absurd (contrary (is_cancelled j.state) (end_cancelled j.state j end m.2 ∙ t) f)
+newly_cancelled shape tree who r _ _ _ (RowStep.ends end j m) f t =
+    absurd (contrary (is_cancelled j.state) (end_cancelled j.state j end m.2 ∙ t) f)
 newly_cancelled shape tree who r _ _ _ (RowStep.is_told c j m p) f t = absurd (contrary (is_cancelled j.state) t f)
 newly_cancelled shape tree who r _ _ _ (RowStep.stays act x a b c d e) f t = absurd (contrary (cancelled_at x) t f)
 
 -- a Job that may have a child which is not cancelled at once is not cancelled
-not_yet : (o : Option Job) (cancelled lazy : Bool) → MayHaveChild cancelled o → is_cancellable (first_state cancelled lazy) ≡ true → cancelled_at o ≡ true → ⊥
+not_yet : (o : Option Job) (cancelled lazy : Bool) → MayHaveChild cancelled o → is_cancellable (first_state cancelled lazy) ≡ true
+    → cancelled_at o ≡ true → ⊥
 not_yet None cancelled lazy m c t = absurd m
 not_yet (Some j) true lazy m c t = cc
 not_yet (Some j) false lazy m c t = at j.state m.0 m.1 t
   where
     at : (s : JobState) → is_ended s ≡ false → is_cancelling s ≡ false → is_cancelled s ≡ true → ⊥
     at New a b d = cc
-    at Active a b d = cc
-    at Completing a b d = cc
-    at Cancelling a b d = cc
-    at Cancelled a b d = cc
-    at Completed a b d = cc
+    at other a b d = cc
 
-new_cancellable : (shape : _) (tree : Tree) (who r q : ℕ) (act : JobAct) (x y : Option Job) (kind : _) (tag : ℕ) (cancelled : Bool) → RowStep shape tree who q act x y → act ≡ Attach r q kind tag cancelled → cancellable_at y ≡ true → x ≡ None → cancelled_at (tree r) ≡ true → ⊥
-new_cancellable shape tree who r q _ _ _ kind tag cancelled (RowStep.is_attached p kind' tag' cancelled' m i) e c n t = not_yet (tree r) cancelled' kind'.lazy (subst (λ u. MayHaveChild cancelled' (tree u)) (let f : p ≡ r = cc in f) m) c t
+new_cancellable : (shape : _) (tree : Tree) (who r q : ℕ) (act : JobAct) (x y : Option Job) (kind : _) (tag : ℕ) (cancelled : Bool)
+    → RowStep shape tree who q act x y → act ≡ Attach r q kind tag cancelled → cancellable_at y ≡ true → x ≡ None
+    → cancelled_at (tree r) ≡ true → ⊥
+new_cancellable shape tree who r q _ _ _ kind tag cancelled (RowStep.is_attached p kind' tag' cancelled' m i) e c n t =
+    not_yet (tree r) cancelled' kind'.lazy (subst (λ u. MayHaveChild cancelled' (tree u)) (let f : p ≡ r = cc in f) m) c t
 new_cancellable shape tree who r q _ _ _ kind tag cancelled (RowStep.has_child d kind' tag' cancelled' j none m) e c n t = cc
 new_cancellable shape tree who r q _ _ _ kind tag cancelled (RowStep.is_started j m) e c n t = cc
 new_cancellable shape tree who r q _ _ _ kind tag cancelled (RowStep.body_ends v j m) e c n t = cc
 new_cancellable shape tree who r q _ _ _ kind tag cancelled (RowStep.is_cancelled reason j m o) e c n t = cc
 new_cancellable shape tree who r q _ _ _ kind tag cancelled (RowStep.ends end j m) e c n t = cc
 new_cancellable shape tree who r q _ _ _ kind tag cancelled (RowStep.is_told d j m p) e c n t = cc
-new_cancellable shape tree who r q _ _ _ kind tag cancelled (RowStep.stays act x a b d f g) e c n t = absurd (let z : cancellable_at x ≡ false = ap cancellable_at n in contrary (cancellable_at x) c z)
+new_cancellable shape tree who r q _ _ _ kind tag cancelled (RowStep.stays act x a b d f g) e c n t =
+    absurd (let z : cancellable_at x ≡ false = ap cancellable_at n in contrary (cancellable_at x) c z)
 
 three : (a b c : Bool) → (a && (b && c)) ≡ true → (a ≡ true) × (b ≡ true) × (c ≡ true)
 three true true true h = (refl, refl, refl)
@@ -233,20 +274,32 @@ no_children : (o : Option Job) (d : ℕ) → o ≡ None → is_among d (children
 no_children None d n h = cc
 no_children (Some j) d n h = cc
 
-below_raised : (shape : _) (tree : Tree) (who r d : ℕ) (act : JobAct) → HasFamilies tree → Needs shape tree who act → owes_below r d tree ≡ false → owes_below r d (after tree who act) ≡ true → IsCancelOf r act
+below_raised : (shape : _) (tree : Tree) (who r d : ℕ) (act : JobAct) → HasFamilies tree → Needs shape tree who act
+    → owes_below r d tree ≡ false → owes_below r d (after tree who act) ≡ true → IsCancelOf r act
 below_raised shape tree who r d act fam needs f t =
-    let q = three (cancelled_at (after tree who act r)) (is_row r (parent_of (after tree who act d))) (cancellable_at (after tree who act d)) t in
+    let q = three (cancelled_at (after tree who act r)) (is_row r (parent_of (after tree who act d)))
+    (cancellable_at (after tree who act d)) t in
     let parent = row_is r (parent_of (after tree who act d)) q.1 in
     at (cancelled_at (tree r)) refl q.0 parent q.2
   where
     child_before : cancelled_at (tree r) ≡ true → cancellable_at (after tree who act d) ≡ true → parent_of (tree d) ≡ Some r → ⊥
     child_before c y e =
-        let now : cancellable_at (tree d) ≡ false = last_false (cancelled_at (tree r)) (is_row r (parent_of (tree d))) (cancellable_at (tree d)) f c (row_same r (parent_of (tree d)) e) in
-        contrary (cancellable_at (after tree who act d)) y (settled (after tree who act d) (act_keeps IsCancellingOrEnded cancelling_lasts shape tree who act d needs (stays_cancelling (tree d) now (some_parent (tree d) r e))))
+        let now : cancellable_at (tree d) ≡ false = last_false (cancelled_at (tree r)) (is_row r (parent_of (tree d)))
+        (cancellable_at (tree d)) f c (row_same r (parent_of (tree d)) e) in
+        contrary (cancellable_at (after tree who act d)) y (settled (after tree who act d)
+        (act_keeps IsCancellingOrEnded cancelling_lasts shape tree who act d needs
+        (stays_cancelling (tree d) now (some_parent (tree d) r e))))
 
-    at : (b : Bool) → cancelled_at (tree r) ≡ b → cancelled_at (after tree who act r) ≡ true → parent_of (after tree who act d) ≡ Some r → cancellable_at (after tree who act d) ≡ true → IsCancelOf r act
-    at true c x parent y = parent_was shape tree who d r act _ _ _ (row_step shape tree who act d needs) parent (λ e. absurd (child_before c y e)) (λ kind tag cancelled e. absurd (new_cancellable shape tree who r d act _ _ kind tag cancelled (row_step shape tree who act d needs) e y (subst (Needs shape tree who) e needs).0 c))
-    at false c x parent y = ⊎_elim (λ (z : IsCancelOf r act). z) (λ (z : tree r ≡ None). absurd (parent_was shape tree who d r act _ _ ⊥ (row_step shape tree who act d needs) parent (λ e. no_children (tree r) d z (fam.listed r d e)) (λ kind tag cancelled e. subst (MayHaveChild cancelled) z (subst (Needs shape tree who) e needs).1))) (newly_cancelled shape tree who r act _ _ (row_step shape tree who act r needs) c x)
+    at : (b : Bool) → cancelled_at (tree r) ≡ b → cancelled_at (after tree who act r) ≡ true → parent_of (after tree who act d) ≡ Some r
+        → cancellable_at (after tree who act d) ≡ true → IsCancelOf r act
+    at true c x parent y = parent_was shape tree who d r act _ _ _ (row_step shape tree who act d needs) parent
+        (λ e. absurd (child_before c y e)) (λ kind tag cancelled e. absurd
+        (new_cancellable shape tree who r d act _ _ kind tag cancelled (row_step shape tree who act d needs) e y
+        (subst (Needs shape tree who) e needs).0 c))
+    at false c x parent y = ⊎_elim (λ (z : IsCancelOf r act). z)
+        (λ (z : tree r ≡ None). absurd (parent_was shape tree who d r act _ _ ⊥ (row_step shape tree who act d needs) parent
+        (λ e. no_children (tree r) d z (fam.listed r d e)) (λ kind tag cancelled e. subst (MayHaveChild cancelled) z
+        (subst (Needs shape tree who) e needs).1))) (newly_cancelled shape tree who r act _ _ (row_step shape tree who act r needs) c x)
 
 of_start : (b x : Bool) → (cancelled_at (if b then Some root else None) && x) ≡ false
 of_start true x = refl
@@ -258,7 +311,9 @@ below_debt p jobs l r d = record {
   Raises = λ n. IsCancelOf r;
   Takes = TakesBelow r;
   first = of_start (r == 0) _;
-  rises = λ before e rest parts f t. below_raised (job_shape p) (replay before) e.who r d e.act (replay_families (job_shape p) before (Legal-prefix (job_shape p) before (e ∷ rest) (subst (Legal (job_shape p)) parts l))) (needs_there (job_shape p) jobs before e rest l parts) f t;
+  rises = λ before e rest parts f t. below_raised (job_shape p) (replay before) e.who r d e.act
+      (replay_families (job_shape p) before (Legal-prefix (job_shape p) before (e ∷ rest) (subst (Legal (job_shape p)) parts l)))
+      (needs_there (job_shape p) jobs before e rest l parts) f t;
   pieces = λ k g h s. below_pieces p r d k g s;
   by_fact = λ a t at more parts h m x. below_by_told r d a t at h x;
   by_act = λ a t b m x before rest e parts is. absurd (no_act r a t b m x);
@@ -295,13 +350,18 @@ either (Some j) h = at j.state h
     at Completed e = inr refl
 
 -- all below a cancelled Job is Cancelling or ended
-pub below : (p : Program) (books : List (List Item)) (channels : List Entry) (jobs : List JobEntry) → BooksOf p books channels jobs → (r : ℕ) → IsCancelled (replay jobs r) → AllBelowCancelled (replay jobs) r
+pub below : (p : Program) (books : List (List Item)) (channels : List Entry) (jobs : List JobEntry) → BooksOf p books channels jobs
+    → (r : ℕ) → IsCancelled (replay jobs r) → AllBelowCancelled (replay jobs) r
 unfolding below_debt
 below p books channels jobs of r cancelled d under = down d under
   where
     one : (q c : ℕ) → cancelled_at (replay jobs q) ≡ true → parent_of (replay jobs c) ≡ Some q → IsCancellingOrEnded (replay jobs c)
-    one q c t e = stays_cancelling (replay jobs c) (last_false (cancelled_at (replay jobs q)) (is_row q (parent_of (replay jobs c))) (cancellable_at (replay jobs c)) (nobody_owes p books channels jobs of (below_debt p jobs of.legal_jobs q c)) t (row_same q (parent_of (replay jobs c)) e)) (some_parent (replay jobs c) q e)
+    one q c t e = stays_cancelling (replay jobs c) (last_false (cancelled_at (replay jobs q)) (is_row q (parent_of (replay jobs c)))
+        (cancellable_at (replay jobs c)) (nobody_owes p books channels jobs of (below_debt p jobs of.legal_jobs q c)) t
+        (row_same q (parent_of (replay jobs c)) e)) (some_parent (replay jobs c) q e)
 
     down : (c : ℕ) → IsBelow (replay jobs) r c → IsCancellingOrEnded (replay jobs c)
     down _ (is_child c e) = one r c (is_cancelled_true (replay jobs r) cancelled) e
-    down _ (is_further q c h e) = ⊎_elim (λ (t : cancelled_at (replay jobs q) ≡ true). one q c t e) (λ (t : IsEnded (replay jobs q)). ended_is (replay jobs c) (child_ended (replay jobs) q c (replay_families (job_shape p) jobs of.legal_jobs) t e)) (either (replay jobs q) (down q h))
+    down _ (is_further q c h e) = ⊎_elim (λ (t : cancelled_at (replay jobs q) ≡ true). one q c t e)
+        (λ (t : IsEnded (replay jobs q)). ended_is (replay jobs c)
+        (child_ended (replay jobs) q c (replay_families (job_shape p) jobs of.legal_jobs) t e)) (either (replay jobs q) (down q h))

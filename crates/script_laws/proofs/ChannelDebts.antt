@@ -32,37 +32,60 @@ pub record HasTold (p : Program) (channels : List Entry) (k : ℕ) : Type 0 wher
   pub so : CallsSo (floor_shape p) k channels [] told
   pub acts : acts_told step start who_did deed k call_told (CallHolds (floor_shape p)) told ≡ part who_did deed k channels
 
-has_told : (p : Program) (books : List (List Item)) (channels : List Entry) (jobs : List JobEntry) → BooksOf p books channels jobs → (k : ℕ) → HasTold p channels k ⊎ (part who_did deed k channels ≡ [])
+has_told : (p : Program) (books : List (List Item)) (channels : List Entry) (jobs : List JobEntry) → BooksOf p books channels jobs → (k : ℕ)
+    → HasTold p channels k ⊎ (part who_did deed k channels ≡ [])
 has_told p books channels jobs of k = by_test (nat_lt k (coroutine_count p)) refl
   where
     by_test : (b : Bool) → nat_lt k (coroutine_count p) ≡ b → HasTold p channels k ⊎ (part who_did deed k channels ≡ [])
     by_test true h =
         let r = of.runs k (grind (arith, nat_tests)) in
-        inl (record { told = r.told; config = of.ends_at k; reaches = r.reaches; so = true_so _ [] _ r.told r.is_true; acts = sym (told_parts (floor_shape p) k r.told) ∙ ap channel_acts_in r.written ∙ sym (of.channel_parts k) ∙ sym (same_part k channels) })
-    by_test false h = inr (same_part k channels ∙ of.channel_parts k ∙ ap channel_acts_in (no_book books k (let n : length books ≡ coroutine_count p = of.count in grind (arith, nat_tests))))
+        inl (record {
+          told = r.told;
+          config = of.ends_at k;
+          reaches = r.reaches;
+          so = true_so _ [] _ r.told r.is_true;
+          acts =
+              sym (told_parts (floor_shape p) k r.told) ∙ ap channel_acts_in r.written ∙ sym (of.channel_parts k)
+              ∙ sym (same_part k channels);
+        })
+    by_test false h = inr (same_part k channels ∙ of.channel_parts k
+        ∙ ap channel_acts_in (no_book books k (let n : length books ≡ coroutine_count p = of.count in grind (arith, nat_tests))))
 
 abbrev pub CallPaidAt : Shape → ℕ → (State → Bool) → (Act → Type 0) → List Entry → List Act → Type 0
 CallPaidAt shape k owes Raises history done = PaidAt step start who_did deed k call_told (CallHolds shape) owes Raises Follows history done
 
 abbrev pub BehindOf : Shape → ℕ → List Entry → List Entry → Act → List Told → Type 0
-BehindOf shape k channels before act ys = (part who_did deed k channels ≡ (part who_did deed k before ++ act ∷ []) ++ acts_told step start who_did deed k call_told (CallHolds shape) ys) × CallsSo shape k channels (part who_did deed k before ++ act ∷ []) ys
+BehindOf shape k channels before act ys = (part who_did deed k channels ≡ (part who_did deed k before ++ act ∷ [])
+    ++ acts_told step start who_did deed k call_told (CallHolds shape) ys)
+    × CallsSo shape k channels (part who_did deed k before ++ act ∷ []) ys
 
 pub record CallDebt (shape : Shape) (channels : List Entry) : Type 1 where
   pub owes : State → Bool
   pub Raises : Act → Type 0
   pub first : owes start ≡ false
-  pub rises : (before : List Entry) (e : Entry) (rest : List Entry) → channels ≡ before ++ e ∷ rest → owes (replay before) ≡ false → owes (after (replay before) e.who e.act) ≡ true → Raises e.act
-  pub pays : (k : ℕ) (before : List Entry) (e : Entry) (rest : List Entry) (ys : List Told) → channels ≡ before ++ e ∷ rest → e.who ≡ k → owes (after (replay before) e.who e.act) ≡ true → BehindOf shape k channels before e.act ys → Raises e.act → Follows e.act ys → CallPaidAt shape k owes Raises channels (part who_did deed k before ++ e.act ∷ [])
+  pub rises : (before : List Entry) (e : Entry) (rest : List Entry) → channels ≡ before ++ e ∷ rest → owes (replay before) ≡ false
+      → owes (after (replay before) e.who e.act) ≡ true → Raises e.act
+  pub pays : (k : ℕ) (before : List Entry) (e : Entry) (rest : List Entry) (ys : List Told) → channels ≡ before ++ e ∷ rest → e.who ≡ k
+      → owes (after (replay before) e.who e.act) ≡ true → BehindOf shape k channels before e.act ys → Raises e.act → Follows e.act ys
+      → CallPaidAt shape k owes Raises channels (part who_did deed k before ++ e.act ∷ [])
 
 -- one told fact that takes the debt away
-pub by_fact : (shape : Shape) (channels : List Entry) (owes : State → Bool) (Raises : Act → Type 0) (k : ℕ) (fact : ChannelFact) → ((s : State) → ChannelFactHolds shape fact s → owes s ≡ false) → (before : List Entry) (act : Act) (ys : List Told) → BehindOf shape k channels before act ys → Exists (IsTold (on_channels fact)) ys → CallPaidAt shape k owes Raises channels (part who_did deed k before ++ act ∷ [])
+pub by_fact : (shape : Shape) (channels : List Entry) (owes : State → Bool) (Raises : Act → Type 0) (k : ℕ) (fact : ChannelFact)
+    → ((s : State) → ChannelFactHolds shape fact s → owes s ≡ false) → (before : List Entry) (act : Act) (ys : List Told)
+    → BehindOf shape k channels before act ys → Exists (IsTold (on_channels fact)) ys
+    → CallPaidAt shape k owes Raises channels (part who_did deed k before ++ act ∷ [])
 by_fact shape channels owes Raises k fact free before act ys behind x =
     takes_off step start who_did deed k call_told (CallHolds shape) owes Raises Follows channels (IsTold (on_channels fact))
-    (λ t at more parts holds m is. subst (λ s. owes s ≡ false) (sym (same_state start at)) (free (replay at) (subst (λ u. CallHolds shape u at) is holds)))
+    (λ t at more parts holds m is. subst (λ s. owes s ≡ false) (sym (same_state start at))
+    (free (replay at) (subst (λ u. CallHolds shape u at) is holds)))
     (λ t b m is before rest e parts q. absurd (let n : None ≡ Some b = ap call_told (sym is) ∙ m in cc))
-    (part who_did deed k before ++ act ∷ []) [] ys (behind.0 ∙ ap (λ l. l ++ acts_told step start who_did deed k call_told (CallHolds shape) ys) (sym (append-nil (part who_did deed k before ++ act ∷ [])))) (subst (λ l. CallsSo shape k channels l ys) (sym (append-nil (part who_did deed k before ++ act ∷ []))) behind.1) x
+    (part who_did deed k before ++ act ∷ []) [] ys (behind.0
+    ∙ ap (λ l. l ++ acts_told step start who_did deed k call_told (CallHolds shape) ys)
+    (sym (append-nil (part who_did deed k before ++ act ∷ []))))
+    (subst (λ l. CallsSo shape k channels l ys) (sym (append-nil (part who_did deed k before ++ act ∷ []))) behind.1) x
 
-all_paid : (shape : Shape) (k : ℕ) (owes : State → Bool) (Raises : Act → Type 0) (told : List Told) → AllFollowed told → AllPaid step start who_did deed k call_told (CallHolds shape) owes Raises Follows told
+all_paid : (shape : Shape) (k : ℕ) (owes : State → Bool) (Raises : Act → Type 0) (told : List Told) → AllFollowed told
+    → AllPaid step start who_did deed k call_told (CallHolds shape) owes Raises Follows told
 unfolding AllFollowed AllPaid
 all_paid shape k owes Raises [] h = tt
 all_paid shape k owes Raises (t ∷ told) h = (at (call_told t) h.0, all_paid shape k owes Raises told h.1)
@@ -71,31 +94,44 @@ all_paid shape k owes Raises (t ∷ told) h = (at (call_told t) h.0, all_paid sh
     at None f = tt
     at (Some a) f = λ r. f
 
-pub nobody_owes : (p : Program) (books : List (List Item)) (channels : List Entry) (jobs : List JobEntry) → BooksOf p books channels jobs → (d : CallDebt (floor_shape p) channels) → d.owes (replay channels) ≡ false
-nobody_owes p books channels jobs of d = subst (λ s. d.owes s ≡ false) (same_state start channels) (nothing_owed step who_did d.owes start channels d.first pays)
+pub nobody_owes : (p : Program) (books : List (List Item)) (channels : List Entry) (jobs : List JobEntry) → BooksOf p books channels jobs
+    → (d : CallDebt (floor_shape p) channels) → d.owes (replay channels) ≡ false
+nobody_owes p books channels jobs of d = subst (λ s. d.owes s ≡ false) (same_state start channels)
+    (nothing_owed step who_did d.owes start channels d.first pays)
   where
     none_of : (k : ℕ) → part who_did deed k channels ≡ [] → Pays step who_did d.owes start k channels
-    none_of k none before e rest parts mine free owed = absurd (not_empty (part who_did deed k before) (part who_did deed k rest) e.act (sym none ∙ ap (part who_did deed k) (parts ∙ sym (append_assoc before (e ∷ []) rest)) ∙ part-append who_did deed k (before ++ e ∷ []) rest ∙ ap (λ l. l ++ part who_did deed k rest) (part_push who_did deed k before e mine) ∙ append_assoc (part who_did deed k before) (e.act ∷ []) (part who_did deed k rest)))
+    none_of k none before e rest parts mine free owed = absurd
+        (not_empty (part who_did deed k before) (part who_did deed k rest) e.act (sym none
+        ∙ ap (part who_did deed k) (parts ∙ sym (append_assoc before (e ∷ []) rest)) ∙ part-append who_did deed k (before ++ e ∷ []) rest
+        ∙ ap (λ l. l ++ part who_did deed k rest) (part_push who_did deed k before e mine)
+        ∙ append_assoc (part who_did deed k before) (e.act ∷ []) (part who_did deed k rest)))
 
     one_of : (k : ℕ) → HasTold p channels k → Pays step who_did d.owes start k channels
-    one_of k h = all_pays step start who_did deed k call_told (CallHolds (floor_shape p)) d.owes d.Raises Follows channels h.told h.so h.acts
+    one_of k h = all_pays step start who_did deed k call_told (CallHolds (floor_shape p)) d.owes d.Raises Follows channels h.told h.so
+        h.acts
         (all_paid (floor_shape p) k d.owes d.Raises h.told (all_followed p k h.told h.config h.reaches))
-        (λ before e rest parts mine free owed. d.rises before e rest parts (subst (λ t. d.owes t ≡ false) (same_state start before) free) (subst (λ t. d.owes (after t e.who e.act) ≡ true) (same_state start before) owed))
-        (λ before e rest ys parts mine owed acts so r x. d.pays k before e rest ys parts mine (subst (λ t. d.owes (after t e.who e.act) ≡ true) (same_state start before) owed) (acts, so) r x)
+        (λ before e rest parts mine free owed. d.rises before e rest parts (subst (λ t. d.owes t ≡ false) (same_state start before) free)
+        (subst (λ t. d.owes (after t e.who e.act) ≡ true) (same_state start before) owed))
+        (λ before e rest ys parts mine owed acts so r x. d.pays k before e rest ys parts mine
+        (subst (λ t. d.owes (after t e.who e.act) ≡ true) (same_state start before) owed) (acts, so) r x)
 
     pays : (k : ℕ) → Pays step who_did d.owes start k channels
-    pays k = ⊎_elim (λ (h : HasTold p channels k). one_of k h) (λ (n : part who_did deed k channels ≡ []). none_of k n) (has_told p books channels jobs of k)
+    pays k = ⊎_elim (λ (h : HasTold p channels k). one_of k h) (λ (n : part who_did deed k channels ≡ []). none_of k n)
+        (has_told p books channels jobs of k)
 
 -- ---- what an entry of the history met
 
-legal_parts : (shape : Shape) (s : State) (xs ys : List Entry) → LegalFrom shape s (xs ++ ys) → LegalFrom shape s xs × LegalFrom shape (Rattle.channel_model.specs.Histories.replay_from s xs) ys
+legal_parts : (shape : Shape) (s : State) (xs ys : List Entry) → LegalFrom shape s (xs ++ ys) → LegalFrom shape s xs
+    × LegalFrom shape (Rattle.channel_model.specs.Histories.replay_from s xs) ys
 unfolding LegalFrom Rattle.channel_model.specs.Histories.replay_from
 legal_parts shape s [] ys h = (tt, h)
 legal_parts shape s (e ∷ es) ys h = let r = legal_parts shape (after s e.who e.act) es ys h.1 in ((h.0, r.0), r.1)
 
-pub needs_there : (shape : Shape) (channels before : List Entry) (e : Entry) (rest : List Entry) → Legal shape channels → channels ≡ before ++ e ∷ rest → Needs shape (replay before) e.who e.act
+pub needs_there : (shape : Shape) (channels before : List Entry) (e : Entry) (rest : List Entry) → Legal shape channels → channels ≡ before
+    ++ e ∷ rest → Needs shape (replay before) e.who e.act
 unfolding LegalFrom
 needs_there shape channels before e rest l q = (legal_parts shape start before (e ∷ rest) (subst (Legal shape) q l)).1.0
 
-pub legal_before : (shape : Shape) (channels before : List Entry) (e : Entry) (rest : List Entry) → Legal shape channels → channels ≡ before ++ e ∷ rest → Legal shape before
+pub legal_before : (shape : Shape) (channels before : List Entry) (e : Entry) (rest : List Entry) → Legal shape channels → channels ≡ before
+    ++ e ∷ rest → Legal shape before
 legal_before shape channels before e rest l q = (legal_parts shape start before (e ∷ rest) (subst (Legal shape) q l)).0

@@ -49,10 +49,7 @@ same_row r (Attach p q kind tag cancelled) = or_nothing (r == q)
     or_nothing true = refl
     or_nothing false = refl
 same_row r (Start q) = refl
-same_row r (EndBody q v) = refl
-same_row r (Cancel q reason) = refl
-same_row r (Finish q end) = refl
-same_row r (Gone q) = refl
+same_row r other = refl
 
 pub is_among-rows_in : (r : ℕ) (acts : List JobAct) → is_among r (rows_in acts) ≡ list_any (attaches r) acts
 unfolding rows_in
@@ -67,12 +64,14 @@ or_either true b e = inl refl
 or_either false b e = inr e
 
 -- an own row is the root's, or was attached
-own_or_attached : (k r : ℕ) (book : List Item) → is_among r (own_rows k book) ≡ true → (r ≡ 0) ⊎ (list_any (attaches r) (job_acts_in book) ≡ true)
+own_or_attached : (k r : ℕ) (book : List Item) → is_among r (own_rows k book) ≡ true → (r ≡ 0)
+    ⊎ (list_any (attaches r) (job_acts_in book) ≡ true)
 own_or_attached k r book e =
     ⊎_elim
     (λ f. inl (first (k == 0) f))
     (λ f. inr (sym (is_among-rows_in r (job_acts_in book)) ∙ f))
-    (or_either (is_among r roots) (is_among r (rows_in (job_acts_in book))) (sym (list_any-append (λ q. r == q) roots (rows_in (job_acts_in book))) ∙ e))
+    (or_either (is_among r roots) (is_among r (rows_in (job_acts_in book)))
+    (sym (list_any-append (λ q. r == q) roots (rows_in (job_acts_in book))) ∙ e))
   where
     roots : List ℕ
     roots = if k == 0 then 0 ∷ [] else []
@@ -83,18 +82,23 @@ own_or_attached k r book e =
 
 -- ---- a coroutine on its floors
 
-pub stands_give : (p : Program) (c : ChannelFloor) (j : Floor) (f : Frame) → IsProgram p → Legal (job_shape p) j.seen → (h : StandsOn p c j f) → ReachGives p f.tag (completed_in j.seen) h.runs.told f.config
+pub stands_give : (p : Program) (c : ChannelFloor) (j : Floor) (f : Frame) → IsProgram p → Legal (job_shape p) j.seen
+    → (h : StandsOn p c j f) → ReachGives p f.tag (completed_in j.seen) h.runs.told f.config
 stands_give p c j f ok legal h = runs_give p f.tag (seen_by c j) f.book f.config ok legal h.runs
 
 -- the row of a coroutine or of a scope that it attached
-launched_there : (p : Program) (c : ChannelFloor) (j : Floor) (f : Frame) (r : ℕ) → (h : StandsOn p c j f) → list_any (launches_row r) (job_acts_in f.book) ≡ true → launched_in r h.runs.told ≡ true
+launched_there : (p : Program) (c : ChannelFloor) (j : Floor) (f : Frame) (r : ℕ) → (h : StandsOn p c j f)
+    → list_any (launches_row r) (job_acts_in f.book) ≡ true → launched_in r h.runs.told ≡ true
 launched_there p c j f r h e = ap (λ items. list_any (launches_row r) (job_acts_in items)) h.runs.written ∙ e
 
-entered_there : (p : Program) (c : ChannelFloor) (j : Floor) (f : Frame) (r : ℕ) → Legal (job_shape p) j.seen → (h : StandsOn p c j f) → list_any (enters_row r) (job_acts_in f.book) ≡ true → coroutine_count p ≤ r
+entered_there : (p : Program) (c : ChannelFloor) (j : Floor) (f : Frame) (r : ℕ) → Legal (job_shape p) j.seen → (h : StandsOn p c j f)
+    → list_any (enters_row r) (job_acts_in f.book) ≡ true → coroutine_count p ≤ r
 entered_there p c j f r legal h e = scope_rows (job_shape p) start j.seen f.tag r legal (ap (list_any (enters_row r)) h.job_acts ∙ e)
 
 -- what a coroutine claimed of the rows of coroutines is the root's, or one that it launched
-pub claimed_below : (p : Program) (c : ChannelFloor) (j : Floor) (g : Frame) (r : ℕ) → IsProgram p → Legal (job_shape p) j.seen → StandsOn p c j g → is_claimed_by g.tag (j.claims r) ≡ true → r < coroutine_count p → (r ≡ 0) ⊎ (LaunchesAt p g.tag r × (r < g.config.free))
+pub claimed_below : (p : Program) (c : ChannelFloor) (j : Floor) (g : Frame) (r : ℕ) → IsProgram p → Legal (job_shape p) j.seen
+    → StandsOn p c j g → is_claimed_by g.tag (j.claims r) ≡ true → r < coroutine_count p → (r ≡ 0)
+    ⊎ (LaunchesAt p g.tag r × (r < g.config.free))
 claimed_below p c j g r ok legal on claimed low =
     ⊎_elim
     (λ root. inl root)
@@ -105,12 +109,15 @@ claimed_below p c j g r ok legal on claimed low =
     (own_or_attached g.tag r g.book (sym (on.claims r) ∙ claimed))
 
 -- what it claimed of the rows of scopes is one that it attached to a scope
-claimed_above : (p : Program) (c : ChannelFloor) (j : Floor) (g : Frame) (r : ℕ) → IsProgram p → Legal (job_shape p) j.seen → StandsOn p c j g → is_claimed_by g.tag (j.claims r) ≡ true → coroutine_count p ≤ r → list_any (enters_row r) (job_acts_in g.book) ≡ true
+claimed_above : (p : Program) (c : ChannelFloor) (j : Floor) (g : Frame) (r : ℕ) → IsProgram p → Legal (job_shape p) j.seen
+    → StandsOn p c j g → is_claimed_by g.tag (j.claims r) ≡ true → coroutine_count p ≤ r
+    → list_any (enters_row r) (job_acts_in g.book) ≡ true
 claimed_above p c j g r ok legal on claimed high =
     ⊎_elim
     (λ root. let some = on.in_run in absurd (omega (arith, root, some, high)))
     (λ attached. ⊎_elim
-    (λ e. let launches = (stands_give p c j g ok legal on).launched r (launched_there p c j g r on e) in let low = launched_in_run p g.tag r ok on.in_run launches.0 in absurd (omega (arith, low, high)))
+    (λ e. let launches = (stands_give p c j g ok legal on).launched r (launched_there p c j g r on e)
+    in let low = launched_in_run p g.tag r ok on.in_run launches.0 in absurd (omega (arith, low, high)))
     (λ e. e)
     (attach_is r (job_acts_in g.book) attached))
     (own_or_attached g.tag r g.book (sym (on.claims r) ∙ claimed))
@@ -122,9 +129,11 @@ some_is (Some x) e = (x, refl)
 -- ---- the rows of scopes
 
 -- those whom one stands for: as many as scopes of its book at most
-pub claims_few : (p : Program) (c : ChannelFloor) (j : Floor) (g : Frame) → IsProgram p → Legal (job_shape p) j.seen → StandsOn p c j g → scopes_claimed p j g.tag ≤ scopes_of_acts (job_acts_in g.book)
+pub claims_few : (p : Program) (c : ChannelFloor) (j : Floor) (g : Frame) → IsProgram p → Legal (job_shape p) j.seen → StandsOn p c j g
+    → scopes_claimed p j g.tag ≤ scopes_of_acts (job_acts_in g.book)
 claims_few p c j g ok legal on =
-    let less = count_more (coroutine_count p) (scope_count p) (λ r. is_claimed_by g.tag (j.claims r)) (λ r. list_any (enters_row r) (job_acts_in g.book)) (λ r high claimed. claimed_above p c j g r ok legal on claimed high) in
+    let less = count_more (coroutine_count p) (scope_count p) (λ r. is_claimed_by g.tag (j.claims r))
+    (λ r. list_any (enters_row r) (job_acts_in g.book)) (λ r high claimed. claimed_above p c j g r ok legal on claimed high) in
     let few = rows_few (coroutine_count p) (scope_count p) (job_acts_in g.book) in
     omega (arith, less, few)
 
@@ -134,7 +143,8 @@ unfolding count_from
 some_or_none from zero test = inl refl
 some_or_none from (suc n) test = by_test (test from) refl (some_or_none (from + 1) n test)
   where
-    by_test : (b : Bool) → test from ≡ b → (count_from (from + 1) n test ≡ 0) ⊎ ((r : ℕ) × (test r ≡ true)) → (one b + count_from (from + 1) n test ≡ 0) ⊎ ((r : ℕ) × (test r ≡ true))
+    by_test : (b : Bool) → test from ≡ b → (count_from (from + 1) n test ≡ 0) ⊎ ((r : ℕ) × (test r ≡ true))
+        → (one b + count_from (from + 1) n test ≡ 0) ⊎ ((r : ℕ) × (test r ≡ true))
     by_test true e rest = inr (from, e)
     by_test false e rest = ⊎_elim (λ f. inl (omega (arith, f))) (λ f. inr f) rest
 
@@ -142,20 +152,24 @@ claimed_is : (t : ℕ) (o : Option ℕ) → is_claimed_by t o ≡ true → o ≡
 claimed_is t None e = cc
 claimed_is t (Some u) e = ap (λ (n : ℕ). Some n) (sym (eqb-true t u e))
 
-entered_in_book : (p : Program) (c : ChannelFloor) (j : Floor) (g : Frame) → IsProgram p → Legal (job_shape p) j.seen → (h : StandsOn p c j g) → scopes_of_acts (job_acts_in g.book) ≤ scopes_at p g.tag
+entered_in_book : (p : Program) (c : ChannelFloor) (j : Floor) (g : Frame) → IsProgram p → Legal (job_shape p) j.seen
+    → (h : StandsOn p c j g) → scopes_of_acts (job_acts_in g.book) ≤ scopes_at p g.tag
 entered_in_book p c j g ok legal h =
     let few = (stands_give p c j g ok legal h).entered in
-    let same : scopes_told h.runs.told ≡ scopes_of_acts (job_acts_in g.book) = ap (λ items. scopes_of_acts (job_acts_in items)) h.runs.written in
+    let same : scopes_told h.runs.told ≡ scopes_of_acts (job_acts_in g.book) =
+    ap (λ items. scopes_of_acts (job_acts_in items)) h.runs.written in
     omega (arith, few, same)
 
-pub claims_fit : (p : Program) (c : ChannelFloor) (j : Floor) (t : ℕ) → IsProgram p → Legal (job_shape p) j.seen → AreClaimed p c j → scopes_claimed p j t ≤ scopes_at p t
+pub claims_fit : (p : Program) (c : ChannelFloor) (j : Floor) (t : ℕ) → IsProgram p → Legal (job_shape p) j.seen → AreClaimed p c j
+    → scopes_claimed p j t ≤ scopes_at p t
 claims_fit p c j t ok legal claimed =
     ⊎_elim
     (λ none. omega (arith, none))
     (λ some. of_frame (claimed some.0 t (claimed_is t (j.claims some.0) some.1)))
     (some_or_none (coroutine_count p) (scope_count p) (λ r. is_claimed_by t (j.claims r)))
   where
-    of_frame : (g : Frame) × StandsOn p c j g × (g.tag ≡ t) → count_from (coroutine_count p) (scope_count p) (λ r. is_claimed_by t (j.claims r)) ≤ scopes_at p t
+    of_frame : (g : Frame) × StandsOn p c j g × (g.tag ≡ t)
+        → count_from (coroutine_count p) (scope_count p) (λ r. is_claimed_by t (j.claims r)) ≤ scopes_at p t
     of_frame g =
         let few = claims_few p c j g.0 ok legal g.1 in
         let fit = entered_in_book p c j g.0 ok legal g.1 in
@@ -172,9 +186,11 @@ or_not : (a b : Bool) → (a || b) ≡ false → (a ≡ false) × (b ≡ false)
 or_not true b e = cc
 or_not false b e = (refl, e)
 
-pub all_refusals : (base : ℕ) (items : List Item) → list_any (is_spent base) items ≡ false → list_any is_no_row items ≡ false → list_any is_used items ≡ false → list_any is_parent_ended items ≡ false → list_any (is_refusal base) items ≡ false
+pub all_refusals : (base : ℕ) (items : List Item) → list_any (is_spent base) items ≡ false → list_any is_no_row items ≡ false
+    → list_any is_used items ≡ false → list_any is_parent_ended items ≡ false → list_any (is_refusal base) items ≡ false
 all_refusals base [] s n u e = refl
-all_refusals base (item.Channel x ∷ items) s n u e = let two = or_not (is_channel_refusal base x) (list_any (is_spent base) items) s in or_from (is_channel_refusal base x) (list_any (is_refusal base) items) two.0 (all_refusals base items two.1 n u e)
+all_refusals base (item.Channel x ∷ items) s n u e = let two = or_not (is_channel_refusal base x) (list_any (is_spent base) items) s
+    in or_from (is_channel_refusal base x) (list_any (is_refusal base) items) two.0 (all_refusals base items two.1 n u e)
 all_refusals base (item.Job (known.Made act) ∷ items) s n u e = all_refusals base items s n u e
 all_refusals base (item.Job (known.Saw row) ∷ items) s n u e = all_refusals base items s n u e
 all_refusals base (item.Job (known.SawEnd row end) ∷ items) s n u e = all_refusals base items s n u e

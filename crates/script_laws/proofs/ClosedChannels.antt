@@ -44,7 +44,8 @@ abbrev pub up : ℕ → Standing → Bool
 up q o = nat_le o.place q
 
 -- one more or none
-more_or_same : (c : Bool) (o o' : Standing) (F G : List Standing) → length F ≤ length G → length (if c then o ∷ F else F) ≤ length (if c then o' ∷ G else G)
+more_or_same : (c : Bool) (o o' : Standing) (F G : List Standing) → length F ≤ length G
+    → length (if c then o ∷ F else F) ≤ length (if c then o' ∷ G else G)
 more_or_same true o o' F G h = omega arith
 more_or_same false o o' F G h = h
 
@@ -56,7 +57,8 @@ pub filtered_up_to : (test : Standing → Bool) (q : ℕ) (os : List Standing) �
 filtered_up_to test q [] = omega arith
 filtered_up_to test q (o ∷ os) = at (filtered_up_to test q os) (test o)
   where
-    at : offers_up_to q (filter test os) ≤ offers_up_to q os → (b : Bool) → offers_up_to q (if b then o ∷ filter test os else filter test os) ≤ offers_up_to q (o ∷ os)
+    at : offers_up_to q (filter test os) ≤ offers_up_to q os → (b : Bool)
+        → offers_up_to q (if b then o ∷ filter test os else filter test os) ≤ offers_up_to q (o ∷ os)
     at h true = more_or_same (up q o) o o (filter (up q) (filter test os)) (filter (up q) os) h
     at h false = not_more (up q o) o (filter (up q) (filter test os)) (filter (up q) os) h
 
@@ -73,7 +75,8 @@ admitted_up_to : (p q : ℕ) (os : List Standing) → offers_up_to q (admitted p
 admitted_up_to p q [] = omega arith
 admitted_up_to p q (o ∷ os) = at (admitted_up_to p q os) (o.place == p)
   where
-    at : offers_up_to q (admitted p os) ≤ offers_up_to q os → (b : Bool) → offers_up_to q (if b then record o { holder = None } ∷ os else o ∷ admitted p os) ≤ offers_up_to q (o ∷ os)
+    at : offers_up_to q (admitted p os) ≤ offers_up_to q os → (b : Bool)
+        → offers_up_to q (if b then record o { holder = None } ∷ os else o ∷ admitted p os) ≤ offers_up_to q (o ∷ os)
     at h true = more_or_same (up q o) (record o { holder = None }) o (filter (up q) os) (filter (up q) os) (omega arith)
     at h false = more_or_same (up q o) o o (filter (up q) (admitted p os)) (filter (up q) os) h
 
@@ -102,22 +105,28 @@ pub more_owes : (kind : Kind) (q m n : ℕ) (os : List Standing) → m ≤ n →
 more_owes kind q m n [] h e = cc
 more_owes kind q m n (o ∷ os) h e = at (o.place == q) (spurns kind m) refl (λ r. more_owes kind q (m + 1) (n + 1) os (omega (arith, h)) r) e
   where
-    at : (b s : Bool) → spurns kind m ≡ s → (owes_spurn_at kind q (m + 1) os ≡ true → owes_spurn_at kind q (n + 1) os ≡ true) → ((b && s) || owes_spurn_at kind q (m + 1) os) ≡ true → ((b && spurns kind n) || owes_spurn_at kind q (n + 1) os) ≡ true
+    at : (b s : Bool) → spurns kind m ≡ s → (owes_spurn_at kind q (m + 1) os ≡ true → owes_spurn_at kind q (n + 1) os ≡ true)
+        → ((b && s) || owes_spurn_at kind q (m + 1) os) ≡ true → ((b && spurns kind n) || owes_spurn_at kind q (n + 1) os) ≡ true
     at true true t later e = ap (λ (x : Bool). x || owes_spurn_at kind q (n + 1) os) (more_spurns kind m n h t)
     at true false t later e = or_right (spurns kind n) _ (later e)
     at false s t later e = later e
 
-filtered_owes : (test : Standing → Bool) (kind : Kind) (q m n : ℕ) (os : List Standing) → m ≤ n → owes_spurn_at kind q m (filter test os) ≡ true → owes_spurn_at kind q n os ≡ true
+filtered_owes : (test : Standing → Bool) (kind : Kind) (q m n : ℕ) (os : List Standing) → m ≤ n
+    → owes_spurn_at kind q m (filter test os) ≡ true → owes_spurn_at kind q n os ≡ true
 filtered_owes test kind q m n [] h e = cc
 filtered_owes test kind q m n (o ∷ os) h e =
-    by_test (test o) (λ r. filtered_owes test kind q (m + 1) (n + 1) os (omega (arith, h)) r) (λ r. filtered_owes test kind q m (n + 1) os (omega (arith, h)) r) e
+    by_test (test o) (λ r. filtered_owes test kind q (m + 1) (n + 1) os (omega (arith, h)) r)
+    (λ r. filtered_owes test kind q m (n + 1) os (omega (arith, h)) r) e
   where
-    at : (b s : Bool) → spurns kind m ≡ s → (owes_spurn_at kind q (m + 1) (filter test os) ≡ true → owes_spurn_at kind q (n + 1) os ≡ true) → ((b && s) || owes_spurn_at kind q (m + 1) (filter test os)) ≡ true → ((b && spurns kind n) || owes_spurn_at kind q (n + 1) os) ≡ true
+    at : (b s : Bool) → spurns kind m ≡ s → (owes_spurn_at kind q (m + 1) (filter test os) ≡ true → owes_spurn_at kind q (n + 1) os ≡ true)
+        → ((b && s) || owes_spurn_at kind q (m + 1) (filter test os)) ≡ true
+        → ((b && spurns kind n) || owes_spurn_at kind q (n + 1) os) ≡ true
     at true true t later e = ap (λ (x : Bool). x || owes_spurn_at kind q (n + 1) os) (more_spurns kind m n h t)
     at true false t later e = or_right (spurns kind n) _ (later e)
     at false s t later e = later e
 
-    by_test : (b : Bool) → (owes_spurn_at kind q (m + 1) (filter test os) ≡ true → owes_spurn_at kind q (n + 1) os ≡ true) → (owes_spurn_at kind q m (filter test os) ≡ true → owes_spurn_at kind q (n + 1) os ≡ true)
+    by_test : (b : Bool) → (owes_spurn_at kind q (m + 1) (filter test os) ≡ true → owes_spurn_at kind q (n + 1) os ≡ true)
+        → (owes_spurn_at kind q m (filter test os) ≡ true → owes_spurn_at kind q (n + 1) os ≡ true)
         → owes_spurn_at kind q m (if b then o ∷ filter test os else filter test os) ≡ true → owes_spurn_at kind q n (o ∷ os) ≡ true
     by_test true later without e = at (o.place == q) (spurns kind m) refl later e
     by_test false later without e = or_right ((o.place == q) && spurns kind n) _ (without e)
@@ -126,12 +135,15 @@ admitted_owes : (p : ℕ) (kind : Kind) (q n : ℕ) (os : List Standing) → owe
 admitted_owes p kind q n [] = refl
 admitted_owes p kind q n (o ∷ os) = by_test (o.place == p) (admitted_owes p kind q (n + 1) os)
   where
-    by_test : (b : Bool) → owes_spurn_at kind q (n + 1) (admitted p os) ≡ owes_spurn_at kind q (n + 1) os → owes_spurn_at kind q n (if b then record o { holder = None } ∷ os else o ∷ admitted p os) ≡ owes_spurn_at kind q n (o ∷ os)
+    by_test : (b : Bool) → owes_spurn_at kind q (n + 1) (admitted p os) ≡ owes_spurn_at kind q (n + 1) os
+        → owes_spurn_at kind q n (if b then record o { holder = None } ∷ os else o ∷ admitted p os) ≡ owes_spurn_at kind q n (o ∷ os)
     by_test true h = refl
     by_test false h = ap (λ (x : Bool). ((o.place == q) && spurns kind n) || x) h
 
-rest_owes : (qs : List Standing) (o : Standing) (os : List Standing) (kind : Kind) (q m n : ℕ) → qs ≡ o ∷ os → m ≤ n → owes_spurn_at kind q m os ≡ true → owes_spurn_at kind q n qs ≡ true
-rest_owes qs o os kind q m n e h t = subst (λ l. owes_spurn_at kind q n l ≡ true) (sym e) (or_right ((o.place == q) && spurns kind n) _ (more_owes kind q m (n + 1) os (omega (arith, h)) t))
+rest_owes : (qs : List Standing) (o : Standing) (os : List Standing) (kind : Kind) (q m n : ℕ) → qs ≡ o ∷ os → m ≤ n
+    → owes_spurn_at kind q m os ≡ true → owes_spurn_at kind q n qs ≡ true
+rest_owes qs o os kind q m n e h t = subst (λ l. owes_spurn_at kind q n l ≡ true) (sym e)
+    (or_right ((o.place == q) && spurns kind n) _ (more_owes kind q m (n + 1) os (omega (arith, h)) t))
 
 pub record Less (a b : Channel) : Type 0 where
   pub closed : b.closed ≡ a.closed
@@ -147,10 +159,33 @@ abbrev pub AllLess : State → State → Type 0
 AllLess s t = (c : ℕ) → Less (s.channels c) (t.channels c)
 
 pub less_same : (a : Channel) → Less a a
-less_same a = record { closed = refl; voided = refl; receivers = λ h. h; queue = λ h. h; next = refl; up_to = λ q. omega arith; places = λ n h. h; spurn = λ kind q m n h e. more_owes kind q m n a.queue h e }
+less_same a = record {
+  closed = refl;
+  voided = refl;
+  receivers = λ h. h;
+  queue = λ h. h;
+  next = refl;
+  up_to = λ q. omega arith;
+  places =
+      λ n h. h;
+  spurn = λ kind q m n h e. more_owes kind q m n a.queue h e;
+}
 
 less_then : (s t u : State) → AllLess s t → AllLess t u → AllLess s u
-less_then s t u f g = λ c. record { closed = (g c).closed ∙ (f c).closed; voided = (g c).voided ∙ (f c).voided; receivers = λ h. (f c).receivers ((g c).receivers h); queue = λ h. (f c).queue ((g c).queue h); next = (g c).next ∙ (f c).next; up_to = λ q. let a = (f c).up_to q in let b = (g c).up_to q in omega arith; places = λ n h. (g c).places n ((f c).places n h); spurn = λ kind q m n h e. (f c).spurn kind q n n (omega arith) ((g c).spurn kind q m n h e) }
+less_then s t u f g = λ c. record {
+  closed = (g c).closed ∙ (f c).closed;
+  voided = (g c).voided
+      ∙ (f c).voided;
+  receivers = λ h. (f c).receivers ((g c).receivers h);
+  queue = λ h. (f c).queue ((g c).queue h);
+  next = (g c).next
+      ∙ (f c).next;
+  up_to = λ q. let a = (f c).up_to q in let b = (g c).up_to q
+      in omega arith;
+  places = λ n h. (g c).places n ((f c).places n h);
+  spurn =
+      λ kind q m n h e. (f c).spurn kind q n n (omega arith) ((g c).spurn kind q m n h e);
+}
 
 fewer : {A : Type 0} (test : A → Bool) (xs : List A) → stands_any (filter test xs) ≡ true → stands_any xs ≡ true
 fewer test [] h = h
@@ -164,7 +199,21 @@ less_put s c ch h = λ d. at d (c == d) refl
     at d false e = less_same (s.channels d)
 
 less_resolve : (w : WaitId) (how : Resolution) (s : State) → AllLess s (resolve w how s)
-less_resolve w how s = λ c. record { closed = refl; voided = refl; receivers = λ h. fewer (λ (r : Receiver). not (same_wait w r.party.wait)) (s.channels c).receivers h; queue = λ h. fewer (λ (o : Standing). not (is_held_by w o.holder)) (s.channels c).queue h; next = refl; up_to = λ q. filtered_up_to (λ (o : Standing). not (is_held_by w o.holder)) q (s.channels c).queue; places = λ n h. filtered_places (λ (o : Standing). not (is_held_by w o.holder)) n (s.channels c).queue h; spurn = λ kind q m n h e. filtered_owes (λ (o : Standing). not (is_held_by w o.holder)) kind q m n (s.channels c).queue h e }
+less_resolve w how s = λ c. record {
+  closed = refl;
+  voided = refl;
+  receivers =
+      λ h. fewer (λ (r : Receiver). not (same_wait w r.party.wait)) (s.channels c).receivers h;
+  queue =
+      λ h. fewer (λ (o : Standing). not (is_held_by w o.holder)) (s.channels c).queue h;
+  next = refl;
+  up_to =
+      λ q. filtered_up_to (λ (o : Standing). not (is_held_by w o.holder)) q (s.channels c).queue;
+  places =
+      λ n h. filtered_places (λ (o : Standing). not (is_held_by w o.holder)) n (s.channels c).queue h;
+  spurn =
+      λ kind q m n h e. filtered_owes (λ (o : Standing). not (is_held_by w o.holder)) kind q m n (s.channels c).queue h e;
+}
 
 less_first : (rs : List Receiver) (how : ℕ → Resolution) (s : State) → AllLess s (resolve_first rs how s)
 less_first [] how s = λ c. less_same (s.channels c)
@@ -174,25 +223,32 @@ less_holder : (p : Option Party) (how : ℕ → Resolution) (s : State) → AllL
 less_holder None how s = λ c. less_same (s.channels c)
 less_holder (Some p) how s = less_resolve p.wait (how p.clause) s
 
-less_queue : (c : ℕ) (os : List Standing) (s : State) → (stands_any os ≡ true → stands_any (s.channels c).queue ≡ true) → ((q : ℕ) → offers_up_to q os ≤ offers_up_to q (s.channels c).queue) → ((n : ℕ) → AllBefore n (s.channels c).queue → AllBefore n os) → ((kind : Kind) (q m n : ℕ) → m ≤ n → owes_spurn_at kind q m os ≡ true → owes_spurn_at kind q n (s.channels c).queue ≡ true) → AllLess s (with_queue c os s)
-less_queue c os s h u b l = less_put s c (record (s.channels c) { queue = os }) (record { closed = refl; voided = refl; receivers = λ h. h; queue = h; next = refl; up_to = u; places = b; spurn = l })
+less_queue : (c : ℕ) (os : List Standing) (s : State) → (stands_any os ≡ true → stands_any (s.channels c).queue ≡ true)
+    → ((q : ℕ) → offers_up_to q os ≤ offers_up_to q (s.channels c).queue) → ((n : ℕ) → AllBefore n (s.channels c).queue → AllBefore n os)
+    → ((kind : Kind) (q m n : ℕ) → m ≤ n → owes_spurn_at kind q m os ≡ true → owes_spurn_at kind q n (s.channels c).queue ≡ true)
+    → AllLess s (with_queue c os s)
+less_queue c os s h u b l = less_put s c (record (s.channels c) { queue = os })
+    (record { closed = refl; voided = refl; receivers = λ h. h; queue = h; next = refl; up_to = u; places = b; spurn = l })
 
 some_stands : (q : List Standing) (o : Standing) (os : List Standing) → q ≡ o ∷ os → stands_any q ≡ true
 some_stands q o os e = ap stands_any e
 
 rest_up_to : (qs : List Standing) (o : Standing) (os : List Standing) (q : ℕ) → qs ≡ o ∷ os → offers_up_to q os ≤ offers_up_to q qs
-rest_up_to qs o os q e = subst (λ l. offers_up_to q os ≤ offers_up_to q l) (sym e) (not_more (up q o) o (filter (up q) os) (filter (up q) os) (omega arith))
+rest_up_to qs o os q e = subst (λ l. offers_up_to q os ≤ offers_up_to q l) (sym e)
+    (not_more (up q o) o (filter (up q) os) (filter (up q) os) (omega arith))
 
 rest_places : (qs : List Standing) (o : Standing) (os : List Standing) (n : ℕ) → qs ≡ o ∷ os → AllBefore n qs → AllBefore n os
 unfolding AllBefore
 rest_places qs o os n e h = let k : AllBefore n (o ∷ os) = subst (AllBefore n) e h in k.1
 
 less_rest : (c : ℕ) (o : Standing) (os : List Standing) (s : State) → (s.channels c).queue ≡ o ∷ os → AllLess s (with_queue c os s)
-less_rest c o os s e = less_queue c os s (λ h. some_stands (s.channels c).queue o os e) (λ q. rest_up_to (s.channels c).queue o os q e) (λ n h. rest_places (s.channels c).queue o os n e h) (λ kind q m n h t. rest_owes (s.channels c).queue o os kind q m n e h t)
+less_rest c o os s e = less_queue c os s (λ h. some_stands (s.channels c).queue o os e) (λ q. rest_up_to (s.channels c).queue o os q e)
+    (λ n h. rest_places (s.channels c).queue o os n e h) (λ kind q m n h t. rest_owes (s.channels c).queue o os kind q m n e h t)
 
 less_offer : (c : ℕ) (q : List Standing) (how : ℕ → Resolution) (s : State) → (s.channels c).queue ≡ q → AllLess s (resolve_offer c q how s)
 less_offer c [] how s e = λ d. less_same (s.channels d)
-less_offer c (o ∷ os) how s e = less_then s (with_queue c os s) (resolve_holder o.holder how (with_queue c os s)) (less_rest c o os s e) (less_holder o.holder how (with_queue c os s))
+less_offer c (o ∷ os) how s e = less_then s (with_queue c os s) (resolve_holder o.holder how (with_queue c os s)) (less_rest c o os s e)
+    (less_holder o.holder how (with_queue c os s))
 
 less_removed : (c : ℕ) (q : List Standing) (s : State) → (s.channels c).queue ≡ q → AllLess s (remove_first c q s)
 less_removed c [] s e = λ d. less_same (s.channels d)
@@ -213,18 +269,21 @@ is_lessening other = true
 pub less_after : (s : State) (who : ℕ) (act : Act) → is_lessening act ≡ true → AllLess s (after s who act)
 less_after s who (Hand c p v) h = less_first (s.channels c).receivers _ s
 less_after s who (Take c p v) h = less_offer c (s.channels c).queue _ s refl
-less_after s who (Admit c p) h = less_then s (with_queue c (admitted p (s.channels c).queue) s) (after s who (Admit c p)) (less_queue c (admitted p (s.channels c).queue) s (λ h. still_stand p (s.channels c).queue h) (λ q. admitted_up_to p q (s.channels c).queue) (λ n h. admitted_places p n (s.channels c).queue h) (λ kind q m n h e. more_owes kind q m n (s.channels c).queue h (sym (admitted_owes p kind q m (s.channels c).queue) ∙ e))) (less_holder _ _ (with_queue c (admitted p (s.channels c).queue) s))
+less_after s who (Admit c p) h = less_then s (with_queue c (admitted p (s.channels c).queue) s) (after s who (Admit c p))
+    (less_queue c (admitted p (s.channels c).queue) s (λ h. still_stand p (s.channels c).queue h)
+    (λ q. admitted_up_to p q (s.channels c).queue) (λ n h. admitted_places p n (s.channels c).queue h)
+    (λ kind q m n h e. more_owes kind q m n (s.channels c).queue h (sym (admitted_owes p kind q m (s.channels c).queue) ∙ e)))
+    (less_holder _ _ (with_queue c (admitted p (s.channels c).queue) s))
 less_after s who (Drop c p v) h = less_removed c (s.channels c).queue s refl
-less_after s who (Spurn c p v) h = less_queue c (spurned p (s.channels c).queue) s (λ h. fewer (is_elsewhere p) (s.channels c).queue h) (λ q. filtered_up_to (is_elsewhere p) q (s.channels c).queue) (λ n h. filtered_places (is_elsewhere p) n (s.channels c).queue h) (λ kind q m n h e. filtered_owes (is_elsewhere p) kind q m n (s.channels c).queue h e)
+less_after s who (Spurn c p v) h = less_queue c (spurned p (s.channels c).queue) s (λ h. fewer (is_elsewhere p) (s.channels c).queue h)
+    (λ q. filtered_up_to (is_elsewhere p) q (s.channels c).queue) (λ n h. filtered_places (is_elsewhere p) n (s.channels c).queue h)
+    (λ kind q m n h e. filtered_owes (is_elsewhere p) kind q m n (s.channels c).queue h e)
 less_after s who (Drain c p v) h = less_offer c (s.channels c).queue _ s refl
 less_after s who (WakeClosed c p) h = less_first (s.channels c).receivers _ s
 less_after s who (Withdraw w why) h = less_resolve w (resolved.Withdrawn why) s
 less_after s who (Settle w outcome) h = λ c. less_same (s.channels c)
 less_after s who (Put c q v) h = cc
-less_after s who (Offer c q v w n) h = cc
-less_after s who (Await c q w n) h = cc
-less_after s who (Close c v) h = cc
-less_after s who (Void c) h = cc
+less_after s who other h = cc
 
 pub contrary : (b : Bool) → b ≡ true → b ≡ false → ⊥
 contrary true p q = cc
@@ -250,17 +309,23 @@ IsCloseOf c other = ⊥
 by_less : (a b : Channel) → Less a b → keeps_receivers a ≡ false → keeps_receivers b ≡ true → ⊥
 by_less a b h f t =
     let q = both_true (is_some b.closed) (stands_any b.receivers) t in
-    contrary (keeps_receivers a) (and_true (is_some a.closed) (stands_any a.receivers) (sym (ap is_some h.closed) ∙ q.0) (h.receivers q.1)) f
+    contrary (keeps_receivers a) (and_true (is_some a.closed) (stands_any a.receivers) (sym (ap is_some h.closed) ∙ q.0) (h.receivers q.1))
+    f
 
-close_raised : (shape : Shape) (s : State) (who c : ℕ) (act : Act) → Needs shape s who act → owes_close c s ≡ false → owes_close c (after s who act) ≡ true → IsCloseOf c act
+close_raised : (shape : Shape) (s : State) (who c : ℕ) (act : Act) → Needs shape s who act → owes_close c s ≡ false
+    → owes_close c (after s who act) ≡ true → IsCloseOf c act
 close_raised shape s who c (Put d q v) n f t = absurd (at (d == c) refl t)
   where
-    at : (b : Bool) → (d == c) ≡ b → keeps_receivers (if b then place_offer true (record { place = q; value = v; holder = None }) (s.channels d) else s.channels c) ≡ true → ⊥
+    at : (b : Bool) → (d == c) ≡ b
+        → keeps_receivers (if b then place_offer true (record { place = q; value = v; holder = None }) (s.channels d) else s.channels c) ≡
+        true → ⊥
     at true e t = contrary (owes_close c s) (subst (λ n. owes_close n s ≡ true) (eqb-true d c e) t) f
     at false e t = contrary (owes_close c s) t f
 close_raised shape s who c (Offer d q v w k) n f t = absurd (at (d == c) refl (is_open (s.waits w)) t)
   where
-    at : (b : Bool) → (d == c) ≡ b → (o : Bool) → keeps_receivers (if b then place_offer o (record { place = q; value = v; holder = Some (record { wait = w; clause = k }) }) (s.channels d) else s.channels c) ≡ true → ⊥
+    at : (b : Bool) → (d == c) ≡ b → (o : Bool) → keeps_receivers
+        (if b then place_offer o (record { place = q; value = v; holder = Some (record { wait = w; clause = k }) }) (s.channels d) else
+        s.channels c) ≡ true → ⊥
     at true e true t = contrary (owes_close c s) (subst (λ n. owes_close n s ≡ true) (eqb-true d c e) t) f
     at true e false t = contrary (owes_close c s) (subst (λ n. owes_close n s ≡ true) (eqb-true d c e) t) f
     at false e o t = contrary (owes_close c s) t f
@@ -270,7 +335,9 @@ close_raised shape s who c (Await d q w k) n f t = absurd (at (d == c) refl (is_
     not_open None y e h = cc
     not_open (Some v) y e h = cc
 
-    at : (b : Bool) → (d == c) ≡ b → (o : Bool) → keeps_receivers (if b then place_receiver o (record { place = q; party = record { wait = w; clause = k } }) (s.channels d) else s.channels c) ≡ true → ⊥
+    at : (b : Bool) → (d == c) ≡ b → (o : Bool) → keeps_receivers
+        (if b then place_receiver o (record { place = q; party = record { wait = w; clause = k } }) (s.channels d) else s.channels c) ≡ true
+        → ⊥
     at true e true t = not_open (s.channels d).closed _ n.1.open_now t
     at true e false t = not_open (s.channels d).closed _ n.1.open_now t
     at false e o t = contrary (owes_close c s) t f
@@ -301,8 +368,12 @@ none_receives c s e = at (is_some (s.channels c).closed) (stands_any (s.channels
     at true b h = h
     at false b h = refl
 
-close_pays : (shape : Shape) (channels : List Entry) (c k : ℕ) (act : Act) (before : List Entry) (ys : List Told) → BehindOf shape k channels before act ys → IsCloseOf c act → Follows act ys → CallPaidAt shape k (owes_close c) (IsCloseOf c) channels (part who_did deed k before ++ act ∷ [])
-close_pays shape channels c k (Close d v) before ys b e f = by_fact shape channels (owes_close c) (IsCloseOf c) k (NoReceiver d) (λ s h. none_receives c s (subst (λ n. (s.channels n).receivers ≡ []) e h)) before (Close d v) ys b f
+close_pays : (shape : Shape) (channels : List Entry) (c k : ℕ) (act : Act) (before : List Entry) (ys : List Told)
+    → BehindOf shape k channels before act ys → IsCloseOf c act → Follows act ys
+    → CallPaidAt shape k (owes_close c) (IsCloseOf c) channels (part who_did deed k before ++ act ∷ [])
+close_pays shape channels c k (Close d v) before ys b e f =
+    by_fact shape channels (owes_close c) (IsCloseOf c) k (NoReceiver d)
+    (λ s h. none_receives c s (subst (λ n. (s.channels n).receivers ≡ []) e h)) before (Close d v) ys b f
 close_pays shape channels c k other before ys b e f = absurd e
 
 close_debt : (shape : Shape) (channels : List Entry) → Legal shape channels → (c : ℕ) → CallDebt shape channels
@@ -310,14 +381,18 @@ close_debt shape channels l c = record {
   owes = owes_close c;
   Raises = IsCloseOf c;
   first = refl;
-  rises = λ before e rest parts f t. close_raised shape (replay before) e.who c e.act (needs_there shape channels before e rest l parts) f t;
+  rises = λ before e rest parts f t. close_raised shape (replay before) e.who c e.act (needs_there shape channels before e rest l parts) f
+      t;
   pays = λ k before e rest ys parts mine owed behind r f. close_pays shape channels c k e.act before ys behind r f;
 }
 
 -- none stands on a closed channel
-pub no_receiver_waits : (p : Program) (books : List (List Item)) (channels : List Entry) (jobs : List JobEntry) → BooksOf p books channels jobs → (c : ℕ) → (is_some ((replay channels).channels c).closed && stands_any ((replay channels).channels c).receivers) ≡ false
+pub no_receiver_waits : (p : Program) (books : List (List Item)) (channels : List Entry) (jobs : List JobEntry)
+    → BooksOf p books channels jobs → (c : ℕ) → (is_some ((replay channels).channels c).closed
+    && stands_any ((replay channels).channels c).receivers) ≡ false
 unfolding close_debt
-no_receiver_waits p books channels jobs of c = nobody_owes p books channels jobs of (close_debt (floor_shape p) channels of.legal_channels c)
+no_receiver_waits p books channels jobs of c = nobody_owes p books channels jobs of
+    (close_debt (floor_shape p) channels of.legal_channels c)
 
 -- ---- offers on voided channels
 
@@ -357,21 +432,28 @@ open_not_voided ch y f e h = at ch.closed e (f (both_true ch.voided y h).0)
     at None e h = cc
     at (Some v) e h = cc
 
-void_raised : (shape : Shape) (s : State) (who c : ℕ) (act : Act) → ClosedIfVoided s → Needs shape s who act → owes_void c s ≡ false → owes_void c (after s who act) ≡ true → IsVoidOf c act
+void_raised : (shape : Shape) (s : State) (who c : ℕ) (act : Act) → ClosedIfVoided s → Needs shape s who act → owes_void c s ≡ false
+    → owes_void c (after s who act) ≡ true → IsVoidOf c act
 void_raised shape s who c (Put d q v) fit n f t = absurd (at (d == c) t)
   where
-    at : (b : Bool) → keeps_offers (if b then place_offer true (record { place = q; value = v; holder = None }) (s.channels d) else s.channels c) ≡ true → ⊥
+    at : (b : Bool)
+        → keeps_offers (if b then place_offer true (record { place = q; value = v; holder = None }) (s.channels d) else s.channels c) ≡ true
+        → ⊥
     at true t = open_not_voided (s.channels d) _ (fit d) n.1.open_now t
     at false t = contrary (owes_void c s) t f
 void_raised shape s who c (Offer d q v w k) fit n f t = absurd (at (d == c) (is_open (s.waits w)) t)
   where
-    at : (b o : Bool) → keeps_offers (if b then place_offer o (record { place = q; value = v; holder = Some (record { wait = w; clause = k }) }) (s.channels d) else s.channels c) ≡ true → ⊥
+    at : (b o : Bool)
+        → keeps_offers (if b then place_offer o (record { place = q; value = v; holder = Some (record { wait = w; clause = k }) })
+        (s.channels d) else s.channels c) ≡ true → ⊥
     at true true t = open_not_voided (s.channels d) _ (fit d) n.1.open_now t
     at true false t = open_not_voided (s.channels d) _ (fit d) n.1.open_now t
     at false o t = contrary (owes_void c s) t f
 void_raised shape s who c (Await d q w k) fit n f t = absurd (at (d == c) (is_open (s.waits w)) t)
   where
-    at : (b o : Bool) → keeps_offers (if b then place_receiver o (record { place = q; party = record { wait = w; clause = k } }) (s.channels d) else s.channels c) ≡ true → ⊥
+    at : (b o : Bool)
+        → keeps_offers (if b then place_receiver o (record { place = q; party = record { wait = w; clause = k } }) (s.channels d) else
+        s.channels c) ≡ true → ⊥
     at true true t = open_not_voided (s.channels d) _ (fit d) n.1.open_now t
     at true false t = open_not_voided (s.channels d) _ (fit d) n.1.open_now t
     at false o t = contrary (owes_void c s) t f
@@ -391,8 +473,10 @@ void_raised shape s who c (Admit d p) fit n f t = absurd (queue_by_less (s.chann
 void_raised shape s who c (Drop d p v) fit n f t = absurd (queue_by_less (s.channels c) _ (less_after s who (Drop d p v) refl c) f t)
 void_raised shape s who c (Spurn d p v) fit n f t = absurd (queue_by_less (s.channels c) _ (less_after s who (Spurn d p v) refl c) f t)
 void_raised shape s who c (Drain d p v) fit n f t = absurd (queue_by_less (s.channels c) _ (less_after s who (Drain d p v) refl c) f t)
-void_raised shape s who c (WakeClosed d p) fit n f t = absurd (queue_by_less (s.channels c) _ (less_after s who (WakeClosed d p) refl c) f t)
-void_raised shape s who c (Withdraw w why) fit n f t = absurd (queue_by_less (s.channels c) _ (less_after s who (Withdraw w why) refl c) f t)
+void_raised shape s who c (WakeClosed d p) fit n f t = absurd
+    (queue_by_less (s.channels c) _ (less_after s who (WakeClosed d p) refl c) f t)
+void_raised shape s who c (Withdraw w why) fit n f t = absurd
+    (queue_by_less (s.channels c) _ (less_after s who (Withdraw w why) refl c) f t)
 void_raised shape s who c (Settle w outcome) fit n f t = absurd (contrary (owes_void c s) t f)
 
 none_queued : (c : ℕ) (s : State) → (s.channels c).queue ≡ [] → owes_void c s ≡ false
@@ -402,8 +486,12 @@ none_queued c s e = at (s.channels c).voided (stands_any (s.channels c).queue) (
     at true b h = h
     at false b h = refl
 
-void_pays : (shape : Shape) (channels : List Entry) (c k : ℕ) (act : Act) (before : List Entry) (ys : List Told) → BehindOf shape k channels before act ys → IsVoidOf c act → Follows act ys → CallPaidAt shape k (owes_void c) (IsVoidOf c) channels (part who_did deed k before ++ act ∷ [])
-void_pays shape channels c k (Void d) before ys b e f = by_fact shape channels (owes_void c) (IsVoidOf c) k (NothingQueued d) (λ s h. none_queued c s (subst (λ n. (s.channels n).queue ≡ []) e h)) before (Void d) ys b f
+void_pays : (shape : Shape) (channels : List Entry) (c k : ℕ) (act : Act) (before : List Entry) (ys : List Told)
+    → BehindOf shape k channels before act ys → IsVoidOf c act → Follows act ys
+    → CallPaidAt shape k (owes_void c) (IsVoidOf c) channels (part who_did deed k before ++ act ∷ [])
+void_pays shape channels c k (Void d) before ys b e f =
+    by_fact shape channels (owes_void c) (IsVoidOf c) k (NothingQueued d)
+    (λ s h. none_queued c s (subst (λ n. (s.channels n).queue ≡ []) e h)) before (Void d) ys b f
 void_pays shape channels c k other before ys b e f = absurd e
 
 void_debt : (shape : Shape) (channels : List Entry) → Legal shape channels → (c : ℕ) → CallDebt shape channels
@@ -411,11 +499,15 @@ void_debt shape channels l c = record {
   owes = owes_void c;
   Raises = IsVoidOf c;
   first = refl;
-  rises = λ before e rest parts f t. void_raised shape (replay before) e.who c e.act (closed_if_voided shape before (legal_before shape channels before e rest l parts)) (needs_there shape channels before e rest l parts) f t;
+  rises = λ before e rest parts f t. void_raised shape (replay before) e.who c e.act
+      (closed_if_voided shape before (legal_before shape channels before e rest l parts)) (needs_there shape channels before e rest l parts)
+      f t;
   pays = λ k before e rest ys parts mine owed behind r f. void_pays shape channels c k e.act before ys behind r f;
 }
 
 -- nothing is queued on one
-pub no_offer_is_left : (p : Program) (books : List (List Item)) (channels : List Entry) (jobs : List JobEntry) → BooksOf p books channels jobs → (c : ℕ) → (((replay channels).channels c).voided && stands_any ((replay channels).channels c).queue) ≡ false
+pub no_offer_is_left : (p : Program) (books : List (List Item)) (channels : List Entry) (jobs : List JobEntry)
+    → BooksOf p books channels jobs → (c : ℕ) → (((replay channels).channels c).voided && stands_any ((replay channels).channels c).queue) ≡
+    false
 unfolding void_debt
 no_offer_is_left p books channels jobs of c = nobody_owes p books channels jobs of (void_debt (floor_shape p) channels of.legal_channels c)

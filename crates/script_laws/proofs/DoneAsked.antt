@@ -71,7 +71,8 @@ unfolding AreLow
 low_first base call calls h = h.0
 
 -- the clause that is chosen of these
-low_of : (base : ℕ) (clauses before : List Call) (call : Call) (later : List Call) → clauses ≡ before ++ call ∷ later → AreLow base clauses → IsLow base call
+low_of : (base : ℕ) (clauses before : List Call) (call : Call) (later : List Call) → clauses ≡ before ++ call ∷ later → AreLow base clauses
+    → IsLow base call
 low_of base clauses before call later e h = low_first base call later (low_right base before (call ∷ later) (subst (AreLow base) e h))
 
 module _ (base : ℕ) where
@@ -83,18 +84,21 @@ module _ (base : ℕ) where
 
   -- ---- channels
 
-  none_made : {X : Type 0} (f : X → Act) (xs : List X) → ((x : X) → gives_place base (f x) ≡ false) → asks_in base (map (λ x. made (f x)) xs) ≡ false
+  none_made : {X : Type 0} (f : X → Act) (xs : List X) → ((x : X) → gives_place base (f x) ≡ false)
+      → asks_in base (map (λ x. made (f x)) xs) ≡ false
   unfolding items_in
   none_made f [] h = refl
   none_made f (x ∷ xs) h = or_from (gives_place base (f x)) (asks_in base (map (λ x. made (f x)) xs)) (h x) (none_made f xs h)
 
   pub admits_none : (c : ℕ) (group : List Told) → Admits c group → asks_in base group ≡ false
   unfolding items_in
-  admits_none c group h = ap (asks_in base) h.all ∙ neither (map (λ q. made (Admit c q)) h.places) (on_channels (NoneToAdmit c h.mark) ∷ []) (none_made (λ q. Admit c q) h.places (λ q. refl)) refl
+  admits_none c group h = ap (asks_in base) h.all ∙ neither (map (λ q. made (Admit c q)) h.places) (on_channels (NoneToAdmit c h.mark) ∷ [])
+      (none_made (λ q. Admit c q) h.places (λ q. refl)) refl
 
   drops_none : (c q : ℕ) (group : List Told) → Drops c q group → asks_in base group ≡ false
   unfolding items_in
-  drops_none c q group h = ap (asks_in base) h.all ∙ neither (map (λ d. made (Drop c d.0 d.1)) h.dropped) (on_channels (FitsUpTo c q) ∷ []) (none_made (λ d. Drop c d.0 d.1) h.dropped (λ d. refl)) refl
+  drops_none c q group h = ap (asks_in base) h.all ∙ neither (map (λ d. made (Drop c d.0 d.1)) h.dropped) (on_channels (FitsUpTo c q) ∷ [])
+      (none_made (λ d. Drop c d.0 d.1) h.dropped (λ d. refl)) refl
 
   spurns_none : (c q : ℕ) (group : List Told) → Spurns c q group → asks_in base group ≡ false
   unfolding items_in
@@ -102,15 +106,18 @@ module _ (base : ℕ) where
   spurns_none c q _ Spurns.stays = refl
 
   overflows_none : (c q : ℕ) (group : List Told) → Overflows c q group → asks_in base group ≡ false
-  overflows_none c q group h = ap (asks_in base) h.all ∙ neither h.drops h.spurns (drops_none c q h.drops h.dropped) (spurns_none c q h.spurns h.spurned)
+  overflows_none c q group h = ap (asks_in base) h.all ∙ neither h.drops h.spurns (drops_none c q h.drops h.dropped)
+      (spurns_none c q h.spurns h.spurned)
 
   drains_none : (c : ℕ) (group : List Told) → Drains c group → asks_in base group ≡ false
   unfolding items_in
-  drains_none c group h = ap (asks_in base) h.all ∙ neither (map (λ d. made (Drain c d.0 d.1)) h.drained) (on_channels (NothingQueued c) ∷ on_channels (IsVoided c) ∷ []) (none_made (λ d. Drain c d.0 d.1) h.drained (λ d. refl)) refl
+  drains_none c group h = ap (asks_in base) h.all ∙ neither (map (λ d. made (Drain c d.0 d.1)) h.drained)
+      (on_channels (NothingQueued c) ∷ on_channels (IsVoided c) ∷ []) (none_made (λ d. Drain c d.0 d.1) h.drained (λ d. refl)) refl
 
   wakes_none : (c : ℕ) (group : List Told) → Wakes c group → asks_in base group ≡ false
   unfolding items_in
-  wakes_none c group h = ap (asks_in base) h.all ∙ neither (map (λ q. made (WakeClosed c q)) h.places) (on_channels (NoReceiver c) ∷ []) (none_made (λ q. WakeClosed c q) h.places (λ q. refl)) refl
+  wakes_none c group h = ap (asks_in base) h.all ∙ neither (map (λ q. made (WakeClosed c q)) h.places) (on_channels (NoReceiver c) ∷ [])
+      (none_made (λ q. WakeClosed c q) h.places (λ q. refl)) refl
 
   pub closes_none : (c v : ℕ) (group : List Told) → Closes c v group → asks_in base group ≡ false
   unfolding items_in
@@ -119,8 +126,10 @@ module _ (base : ℕ) where
 
   pub cancels_channel_none : (c : ℕ) (group : List Told) → CancelsChannel c group → asks_in base group ≡ false
   unfolding items_in
-  cancels_channel_none c group (CancelsChannel.now closes drains _ h d e) = ap (asks_in base) e ∙ neither closes (made (Void c) ∷ drains) (closes_none c 0 closes h) (drains_none c drains d)
-  cancels_channel_none c group (CancelsChannel.before closes drains _ h d e) = ap (asks_in base) e ∙ neither closes drains (closes_none c 0 closes h) (drains_none c drains d)
+  cancels_channel_none c group (CancelsChannel.now closes drains _ h d e) = ap (asks_in base) e
+      ∙ neither closes (made (Void c) ∷ drains) (closes_none c 0 closes h) (drains_none c drains d)
+  cancels_channel_none c group (CancelsChannel.before closes drains _ h d e) = ap (asks_in base) e
+      ∙ neither closes drains (closes_none c 0 closes h) (drains_none c drains d)
 
   at_once_none : (call : Call) (group : List Told) (a : Answer) → IsLow base call → AtOnce call group a → asks_in base group ≡ false
   unfolding items_in
@@ -163,7 +172,8 @@ module _ (base : ℕ) where
   plain_none _ _ _ low (PlainCall.refused call told a h) = refused_none call told a h
   plain_none _ _ _ low (PlainCall.no_place call all e) = ap (asks_in base) e ∙ spent_none call low
   plain_none _ _ _ low (PlainCall.offers c v q admits h) = offer_none c v q admits low h
-  plain_none _ _ _ low (PlainCall.offer_ends c v q admits settles all h s e) = ap (asks_in base) e ∙ neither (offer_told c v q admits) settles (offer_none c v q admits low h) (ended_none (wait_at c q) settles s)
+  plain_none _ _ _ low (PlainCall.offer_ends c v q admits settles all h s e) = ap (asks_in base) e
+      ∙ neither (offer_told c v q admits) settles (offer_none c v q admits low h) (ended_none (wait_at c q) settles s)
   plain_none _ _ _ low (PlainCall.awaits c q) = none_of (nat_le base c) low
 
   pub try_none : (call : Call) (group : List Told) (a : Answer) → IsLow base call → TryCall call group a → asks_in base group ≡ false
@@ -182,15 +192,18 @@ module _ (base : ℕ) where
   placed_none w n q (sends c v) low = none_of (nat_le base c) low
   placed_none w n q (receives c) low = none_of (nat_le base c) low
 
-  places_none : (w : WaitId) (n : ℕ) (calls : List Call) (group : List Told) → AreLow base calls → Places w n calls group → asks_in base group ≡ false
+  places_none : (w : WaitId) (n : ℕ) (calls : List Call) (group : List Told) → AreLow base calls → Places w n calls group
+      → asks_in base group ≡ false
   unfolding items_in AreLow
   places_none w _ _ _ low (Places.none n) = refl
-  places_none w _ _ _ low (Places.one n q call calls more h) = neither (placed w n q call ∷ []) more (placed_none w n q call low.0) (places_none w _ calls more low.1 h)
+  places_none w _ _ _ low (Places.one n q call calls more h) =
+      neither (placed w n q call ∷ []) more (placed_none w n q call low.0) (places_none w _ calls more low.1 h)
 
   admits_in_none : (calls : List Call) (group : List Told) → AdmitsIn calls group → asks_in base group ≡ false
   unfolding items_in
   admits_in_none _ _ AdmitsIn.none = refl
-  admits_in_none _ _ (AdmitsIn.offered c v calls admits more all a h e) = ap (asks_in base) e ∙ neither admits more (admits_none c admits a) (admits_in_none calls more h)
+  admits_in_none _ _ (AdmitsIn.offered c v calls admits more all a h e) = ap (asks_in base) e
+      ∙ neither admits more (admits_none c admits a) (admits_in_none calls more h)
   admits_in_none _ _ (AdmitsIn.awaited c calls all h) = admits_in_none calls all h
 
   stops_none : (call : Call) (group : List Told) (a : Answer) → IsLow base call → Stops call group a → asks_in base group ≡ false
@@ -200,16 +213,35 @@ module _ (base : ℕ) where
   stops_none _ _ _ low (Stops.closed call told a h) = refused_none call told a h
   stops_none _ _ _ low (Stops.no_place call all e) = ap (asks_in base) e ∙ spent_none call low
 
-  pub select_none : (calls : List Call) (group : List Told) (a : Answer) → AreLow base calls → SelectCall calls group a → asks_in base group ≡ false
+  pub select_none : (calls : List Call) (group : List Told) (a : Answer) → AreLow base calls → SelectCall calls group a
+      → asks_in base group ≡ false
   unfolding items_in
-  select_none calls _ _ low (SelectCall.chooses before later call group all a f h e) = ap (asks_in base) e ∙ neither (map blocked before) group (passed_none before) (at_once_none call group a (low_of base calls before call later f low) h)
-  select_none calls _ _ low (SelectCall.meets_close before later call t all a f h e) = ap (asks_in base) e ∙ neither (map blocked before) (t ∷ []) (passed_none before) (refused_none call t a h)
-  select_none calls _ _ low (SelectCall.no_place before later c v all f e) = ap (asks_in base) e ∙ neither (map blocked before) (spent (sends c v)) (passed_none before) (spent_none (sends c v) (low_of base calls before (sends c v) later f low))
-  select_none calls _ _ low (SelectCall.waits w group admits all h d e) = ap (asks_in base) e ∙ neither (map blocked calls) (group ++ admits) (passed_none calls) (neither group admits (places_none w 1 calls group low h.places) (admits_in_none calls admits d))
-  select_none calls _ _ low (SelectCall.resolved w before later call group admits all f h d e) = ap (asks_in base) e ∙ neither (map blocked calls) _ (passed_none calls) (neither group _ (places_none w 1 before group (low_left base before (call ∷ later) (subst (AreLow base) f low)) h.places) (admits_in_none before admits d))
-  select_none calls _ _ low (SelectCall.stops_at_first later call stop all a f h e) = ap (asks_in base) e ∙ neither (map blocked calls) stop (passed_none calls) (stops_none call stop a (low_first base call later (subst (AreLow base) f low)) h)
-  select_none calls _ _ low (SelectCall.stops w before later call group stop admits all a f h s d e) = ap (asks_in base) e ∙ neither (map blocked calls) _ (passed_none calls) (neither ((group ++ stop) ++ revoked w) admits (neither (group ++ stop) (revoked w) (neither group stop (places_none w 1 before group (low_left base before (call ∷ later) (subst (AreLow base) f low)) h.places) (stops_none call stop a (low_of base calls before call later f low) s)) refl) (admits_in_none before admits d))
-  select_none calls _ _ low (SelectCall.stops_late w before later call group stop admits all a f h s d e) = ap (asks_in base) e ∙ neither (map blocked calls) _ (passed_none calls) (neither (group ++ stop) _ (neither group stop (places_none w 1 before group (low_left base before (call ∷ later) (subst (AreLow base) f low)) h.places) (stops_none call stop a (low_of base calls before call later f low) s)) (admits_in_none before admits d))
+  select_none calls _ _ low (SelectCall.chooses before later call group all a f h e) = ap (asks_in base) e
+      ∙ neither (map blocked before) group (passed_none before) (at_once_none call group a (low_of base calls before call later f low) h)
+  select_none calls _ _ low (SelectCall.meets_close before later call t all a f h e) = ap (asks_in base) e
+      ∙ neither (map blocked before) (t ∷ []) (passed_none before) (refused_none call t a h)
+  select_none calls _ _ low (SelectCall.no_place before later c v all f e) = ap (asks_in base) e
+      ∙ neither (map blocked before) (spent (sends c v)) (passed_none before)
+      (spent_none (sends c v) (low_of base calls before (sends c v) later f low))
+  select_none calls _ _ low (SelectCall.waits w group admits all h d e) = ap (asks_in base) e
+      ∙ neither (map blocked calls) (group ++ admits) (passed_none calls)
+      (neither group admits (places_none w 1 calls group low h.places) (admits_in_none calls admits d))
+  select_none calls _ _ low (SelectCall.resolved w before later call group admits all f h d e) = ap (asks_in base) e
+      ∙ neither (map blocked calls) _ (passed_none calls) (neither group _
+      (places_none w 1 before group (low_left base before (call ∷ later) (subst (AreLow base) f low)) h.places)
+      (admits_in_none before admits d))
+  select_none calls _ _ low (SelectCall.stops_at_first later call stop all a f h e) = ap (asks_in base) e
+      ∙ neither (map blocked calls) stop (passed_none calls)
+      (stops_none call stop a (low_first base call later (subst (AreLow base) f low)) h)
+  select_none calls _ _ low (SelectCall.stops w before later call group stop admits all a f h s d e) = ap (asks_in base) e
+      ∙ neither (map blocked calls) _ (passed_none calls) (neither ((group ++ stop)
+      ++ revoked w) admits (neither (group ++ stop) (revoked w)
+      (neither group stop (places_none w 1 before group (low_left base before (call ∷ later) (subst (AreLow base) f low)) h.places)
+      (stops_none call stop a (low_of base calls before call later f low) s)) refl) (admits_in_none before admits d))
+  select_none calls _ _ low (SelectCall.stops_late w before later call group stop admits all a f h s d e) = ap (asks_in base) e
+      ∙ neither (map blocked calls) _ (passed_none calls) (neither (group
+      ++ stop) _ (neither group stop (places_none w 1 before group (low_left base before (call ∷ later) (subst (AreLow base) f low))
+      h.places) (stops_none call stop a (low_of base calls before call later f low) s)) (admits_in_none before admits d))
 
   pub gives_up_none : (w : WaitId) (group : List Told) → GivesUp w group → asks_in base group ≡ false
   unfolding items_in
@@ -239,7 +271,9 @@ module _ (base : ℕ) where
 
   pub passes_none : (row : ℕ) (reason : _) (newly : Bool) (group : List Told) → Passes row reason newly group → asks_in base group ≡ false
   unfolding items_in
-  passes_none row reason newly group g = ap (asks_in base) g.all ∙ neither (map did (own_cancel newly row reason ++ g.below)) (on_jobs (PassedBelow row g.below) ∷ []) (did_none (own_cancel newly row reason ++ g.below)) refl
+  passes_none row reason newly group g = ap (asks_in base) g.all
+      ∙ neither (map did (own_cancel newly row reason ++ g.below)) (on_jobs (PassedBelow row g.below) ∷ [])
+      (did_none (own_cancel newly row reason ++ g.below)) refl
 
   breaks_none : (k row : ℕ) (failure : Option ℕ) (group : List Told) → Breaks k row failure group → asks_in base group ≡ false
   unfolding items_in
@@ -248,7 +282,8 @@ module _ (base : ℕ) where
   breaks_none k row _ _ (Breaks.asked group g) = passes_none row _ true group g
   breaks_none k row _ _ (Breaks.scope_fails f group n g) = passes_none row _ true group g
   breaks_none k row _ _ (Breaks.fails f up pass all is g e) =
-      ap (asks_in base) e ∙ neither pass (map did up ++ on_jobs (FailedUp row up) ∷ []) (passes_none row _ true pass g) (neither (map did up) (on_jobs (FailedUp row up) ∷ []) (did_none up) refl)
+      ap (asks_in base) e ∙ neither pass (map did up ++ on_jobs (FailedUp row up) ∷ []) (passes_none row _ true pass g)
+      (neither (map did up) (on_jobs (FailedUp row up) ∷ []) (did_none up) refl)
 
   chain_none : (done row : ℕ) (group : List Told) → Chain done row group → asks_in base group ≡ false
   unfolding items_in
@@ -261,10 +296,12 @@ module _ (base : ℕ) where
   unfolding items_in
   ends_none done row v _ (EndsBody.ends_body chain c) = chain_none done row chain c
 
-  pub breaks_off_none : (done k row : ℕ) (failure : Option ℕ) (group : List Told) → BreaksOff done k row failure group → asks_in base group ≡ false
+  pub breaks_off_none : (done k row : ℕ) (failure : Option ℕ) (group : List Told) → BreaksOff done k row failure group
+      → asks_in base group ≡ false
   unfolding items_in
   breaks_off_none done k row failure group b =
-      ap (asks_in base) b.all ∙ neither b.cancels (on_jobs (IsCancelling row) ∷ b.end) (breaks_none k row failure b.cancels b.breaks) (ends_none done row 0 b.end b.ends)
+      ap (asks_in base) b.all ∙ neither b.cancels (on_jobs (IsCancelling row) ∷ b.end) (breaks_none k row failure b.cancels b.breaks)
+      (ends_none done row 0 b.end b.ends)
 
 -- ---- lines name declared channels
 
@@ -297,7 +334,8 @@ clauses_low x n (line.OnSend c v ∷ code) e = let two = both_true (nat_lt c n) 
 clauses_low x n (line.OnReceive c ∷ code) e = let two = both_true (nat_lt c n) _ e in (below_low n c two.0, clauses_low x n code two.1)
 clauses_low x n (line.End ∷ code) e = tt
 
-pub all_drop : (n i : ℕ) (code : List Instruction) → list_all (names_channel n) code ≡ true → list_all (names_channel n) (drop i code) ≡ true
+pub all_drop : (n i : ℕ) (code : List Instruction) → list_all (names_channel n) code ≡ true
+    → list_all (names_channel n) (drop i code) ≡ true
 all_drop n zero code h = h
 all_drop n (suc i) [] h = h
 all_drop n (suc i) (x ∷ code) h = all_drop n i code (both_true (names_channel n x) _ h).1

@@ -80,46 +80,67 @@ TakesEnd r a (on_jobs fact) = IsNoEndOf r fact
 chain_begins : (p : Program) (row : ℕ) (g : List Told) (a : JobAct) → Chain (base_of p) row g → Exists (TakesEnd row a) g
 chain_begins p _ _ a (Chain.stops row) = exists_first (TakesEnd row a) _ _ refl
 chain_begins p _ _ a (Chain.root end closes h) = exists_first (TakesEnd 0 a) _ closes refl
-chain_begins p row g a (Chain.goes_up _ parent end closes rest _ n h c e) = subst (Exists (TakesEnd row a)) (sym e) (exists_first (TakesEnd row a) _ _ refl)
+chain_begins p row g a (Chain.goes_up _ parent end closes rest _ n h c e) =
+    subst (Exists (TakesEnd row a)) (sym e) (exists_first (TakesEnd row a) _ _ refl)
 
 abbrev pub EndPaid : List JobEntry → ℕ → ℕ → List Told → Type 0
 EndPaid jobs k r told = JobPaid k (owes_end r) (RaisesEnd (parents_in jobs) r) (TakesEnd r) told
 
-chain_pays : (p : Program) (jobs : List JobEntry) (k r row : ℕ) (g : List Told) → AllKnown (parents_in jobs) g → Chain (base_of p) row g → EndPaid jobs k r g
+chain_pays : (p : Program) (jobs : List JobEntry) (k r row : ℕ) (g : List Told) → AllKnown (parents_in jobs) g → Chain (base_of p) row g
+    → EndPaid jobs k r g
 unfolding AllPaid AllKnown
 chain_pays p jobs k r _ _ h (Chain.stops row) = (tt, tt)
-chain_pays p jobs k r _ _ h (Chain.root end closes c) = (λ x. absurd x, paid_quiet k (owes_end r) (RaisesEnd (parents_in jobs) r) (TakesEnd r) closes (quiet_closes _ _ closes c))
+chain_pays p jobs k r _ _ h (Chain.root end closes c) =
+    (λ x. absurd x, paid_quiet k (owes_end r) (RaisesEnd (parents_in jobs) r) (TakesEnd r) closes (quiet_closes _ _ closes c))
 chain_pays p jobs k r row g h (Chain.goes_up _ parent end closes rest _ n c up e) =
-    let known : AllKnown (parents_in jobs) (did (Finish row end) ∷ (closes ++ did (Gone row) ∷ on_jobs (ParentIs row parent) ∷ rest)) = subst (AllKnown (parents_in jobs)) e h in
-    let behind : AllKnown (parents_in jobs) (did (Gone row) ∷ on_jobs (ParentIs row parent) ∷ rest) = known_right (parents_in jobs) closes _ known.1 in
+    let known : AllKnown (parents_in jobs) (did (Finish row end) ∷ (closes ++ did (Gone row) ∷ on_jobs (ParentIs row parent) ∷ rest)) =
+    subst (AllKnown (parents_in jobs)) e h in
+    let behind : AllKnown (parents_in jobs) (did (Gone row) ∷ on_jobs (ParentIs row parent) ∷ rest) =
+    known_right (parents_in jobs) closes _ known.1 in
     let is : parents_in jobs row ≡ Some parent = behind.1.0 in
     subst (EndPaid jobs k r) (sym e) (
       λ x. absurd x,
-      paid_then k (owes_end r) (RaisesEnd (parents_in jobs) r) (TakesEnd r) closes _ (paid_quiet k (owes_end r) (RaisesEnd (parents_in jobs) r) (TakesEnd r) closes (quiet_closes _ _ closes c)) (
-        λ x. exists_later (TakesEnd r (Gone row)) _ rest (subst (λ q. Exists (TakesEnd q (Gone row)) rest) (the_one parent r (sym is ∙ x)) (chain_begins p parent rest (Gone row) up)),
-        (tt, chain_pays p jobs k r parent rest behind.1.1 up),
-      ),
+      paid_then k (owes_end r) (RaisesEnd (parents_in jobs) r) (TakesEnd r) closes _
+          (paid_quiet k (owes_end r) (RaisesEnd (parents_in jobs) r) (TakesEnd r) closes (quiet_closes _ _ closes c)) (
+            λ x. exists_later (TakesEnd r (Gone row)) _ rest (subst (λ q. Exists (TakesEnd q (Gone row)) rest)
+                (the_one parent r (sym is ∙ x))
+                (chain_begins p parent rest (Gone row) up)),
+            (tt, chain_pays p jobs k r parent rest behind.1.1 up),
+          ),
     )
   where
     the_one : (a b : ℕ) → Some a ≡ Some b → a ≡ b
     the_one a b q = cc
 
-end_pieces_pay : (p : Program) (jobs : List JobEntry) (r k : ℕ) (g : List Told) → AllKnown (parents_in jobs) g → JobPiece p k g → EndPaid jobs k r g
+end_pieces_pay : (p : Program) (jobs : List JobEntry) (r k : ℕ) (g : List Told) → AllKnown (parents_in jobs) g → JobPiece p k g
+    → EndPaid jobs k r g
 unfolding AllPaid AllKnown
 end_pieces_pay p jobs r k _ h (JobPiece.quiet g q) = paid_quiet k (owes_end r) (RaisesEnd (parents_in jobs) r) (TakesEnd r) g q
 end_pieces_pay p jobs r k _ h (JobPiece.attaches parent row kind tag now) = (λ x. absurd x, tt)
 end_pieces_pay p jobs r k _ h (JobPiece.starts row) = (λ x. absurd x, tt)
 end_pieces_pay p jobs r k g h (JobPiece.passes row reason newly _ m o s) =
-    let known = known_right (parents_in jobs) (map did (own_cancel newly row reason ++ s.below)) (on_jobs (PassedBelow row s.below) ∷ []) (subst (AllKnown (parents_in jobs)) s.all h) in
-    subst (EndPaid jobs k r) (sym s.all) (paid_then k (owes_end r) (RaisesEnd (parents_in jobs) r) (TakesEnd r) (map did (own_cancel newly row reason ++ s.below)) _ (paid_cancels k (owes_end r) (RaisesEnd (parents_in jobs) r) (TakesEnd r) _ (cancels_then (own_cancel newly row reason) s.below (own_is_cancel newly row reason) known.0.0) (λ q w x. x)) (tt, tt))
+    let known = known_right (parents_in jobs) (map did (own_cancel newly row reason ++ s.below)) (on_jobs (PassedBelow row s.below) ∷ [])
+    (subst (AllKnown (parents_in jobs)) s.all h) in
+    subst (EndPaid jobs k r) (sym s.all) (paid_then k (owes_end r) (RaisesEnd (parents_in jobs) r) (TakesEnd r)
+    (map did (own_cancel newly row reason ++ s.below)) _
+    (paid_cancels k (owes_end r) (RaisesEnd (parents_in jobs) r) (TakesEnd r) _
+    (cancels_then (own_cancel newly row reason) s.below (own_is_cancel newly row reason) known.0.0) (λ q w x. x)) (tt, tt))
 end_pieces_pay p jobs r k g h (JobPiece.fails f up pass _ s e) =
     let all = subst (AllKnown (parents_in jobs)) e h in
-    let first = known_right (parents_in jobs) (map did (own_cancel true k (reasons.Own f) ++ s.below)) (on_jobs (PassedBelow k s.below) ∷ []) (subst (AllKnown (parents_in jobs)) s.all (known_left (parents_in jobs) pass _ all)) in
+    let first = known_right (parents_in jobs) (map did (own_cancel true k (reasons.Own f) ++ s.below))
+    (on_jobs (PassedBelow k s.below) ∷ []) (subst (AllKnown (parents_in jobs)) s.all (known_left (parents_in jobs) pass _ all)) in
     let second = known_right (parents_in jobs) (map did up) (on_jobs (FailedUp k up) ∷ []) (known_right (parents_in jobs) pass _ all) in
     subst (EndPaid jobs k r) (sym e) (paid_then k (owes_end r) (RaisesEnd (parents_in jobs) r) (TakesEnd r) pass _
-    (subst (EndPaid jobs k r) (sym s.all) (paid_then k (owes_end r) (RaisesEnd (parents_in jobs) r) (TakesEnd r) (map did (own_cancel true k (reasons.Own f) ++ s.below)) _ (paid_cancels k (owes_end r) (RaisesEnd (parents_in jobs) r) (TakesEnd r) _ (cancels_then (own_cancel true k (reasons.Own f)) s.below (own_is_cancel true k (reasons.Own f)) first.0.0) (λ q w x. x)) (tt, tt)))
-    (paid_then k (owes_end r) (RaisesEnd (parents_in jobs) r) (TakesEnd r) (map did up) _ (paid_cancels k (owes_end r) (RaisesEnd (parents_in jobs) r) (TakesEnd r) up second.0.0 (λ q w x. x)) (tt, tt)))
-end_pieces_pay p jobs r k _ h (JobPiece.ends_body row v chain c) = (λ (x : row ≡ r). subst (λ q. Exists (TakesEnd q (EndBody row v)) chain) x (chain_begins p row chain (EndBody row v) c), chain_pays p jobs k r row chain h.1 c)
+    (subst (EndPaid jobs k r) (sym s.all) (paid_then k (owes_end r) (RaisesEnd (parents_in jobs) r) (TakesEnd r)
+    (map did (own_cancel true k (reasons.Own f) ++ s.below)) _
+    (paid_cancels k (owes_end r) (RaisesEnd (parents_in jobs) r) (TakesEnd r) _
+    (cancels_then (own_cancel true k (reasons.Own f)) s.below (own_is_cancel true k (reasons.Own f)) first.0.0) (λ q w x. x)) (tt, tt)))
+    (paid_then k (owes_end r) (RaisesEnd (parents_in jobs) r) (TakesEnd r) (map did up) _
+    (paid_cancels k (owes_end r) (RaisesEnd (parents_in jobs) r) (TakesEnd r) up second.0.0 (λ q w x. x)) (tt, tt)))
+end_pieces_pay p jobs r k _ h (JobPiece.ends_body row v chain c) = (
+  λ (x : row ≡ r). subst (λ q. Exists (TakesEnd q (EndBody row v)) chain) x (chain_begins p row chain (EndBody row v) c),
+  chain_pays p jobs k r row chain h.1 c,
+)
 
 -- which act raises it
 
@@ -127,7 +148,9 @@ fewer_left : (f : ℕ → Bool) (cs : List ℕ) (c : ℕ) → is_none_left (filt
 fewer_left f [] c h = refl
 fewer_left f (d ∷ cs) c h = at (λ g. fewer_left f cs c g) (f d) h
   where
-    at : (is_none_left (filter f (cs ++ c ∷ [])) ≡ true → is_none_left (filter f cs) ≡ true) → (b : Bool) → is_none_left (if b then d ∷ filter f (cs ++ c ∷ []) else filter f (cs ++ c ∷ [])) ≡ true → is_none_left (if b then d ∷ filter f cs else filter f cs) ≡ true
+    at : (is_none_left (filter f (cs ++ c ∷ [])) ≡ true → is_none_left (filter f cs) ≡ true) → (b : Bool)
+        → is_none_left (if b then d ∷ filter f (cs ++ c ∷ []) else filter f (cs ++ c ∷ [])) ≡ true
+        → is_none_left (if b then d ∷ filter f cs else filter f cs) ≡ true
     at g true h = cc
     at g false h = g h
 
@@ -162,18 +185,22 @@ finished_state (ends_as.Cancelled c) = refl
 abbrev pub owes_row : Option Job → Bool
 owes_row x = is_done x && not (has_ended x)
 
-end_raised : (shape : _) (jobs before : List JobEntry) (who r : ℕ) (act : JobAct) (x y : Option Job) → RowStep shape (replay before) who r act x y → owes_row x ≡ false → owes_row y ≡ true → ((c : ℕ) → parent_of (replay before c) ≡ Some r → parents_in jobs c ≡ Some r) → RaisesEnd (parents_in jobs) r act
+end_raised : (shape : _) (jobs before : List JobEntry) (who r : ℕ) (act : JobAct) (x y : Option Job)
+    → RowStep shape (replay before) who r act x y → owes_row x ≡ false → owes_row y ≡ true
+    → ((c : ℕ) → parent_of (replay before c) ≡ Some r → parents_in jobs c ≡ Some r) → RaisesEnd (parents_in jobs) r act
 end_raised shape jobs before who r _ _ _ (RowStep.is_attached p kind tag cancelled m i) f t k = cc
 end_raised shape jobs before who r _ _ _ (RowStep.has_child c kind tag cancelled j none m) f t k =
     let q = three j.body_ended (is_none_left (living (with_child c j))) (is_ended j.state) t in
-    absurd (contrary (owes_row (Some j)) (all_true j.body_ended (is_none_left (living j)) (is_ended j.state) q.0 (fewer_left (λ d. not (is_among d j.told)) j.children c q.1) q.2) f)
+    absurd (contrary (owes_row (Some j)) (all_true j.body_ended (is_none_left (living j)) (is_ended j.state) q.0
+    (fewer_left (λ d. not (is_among d j.told)) j.children c q.1) q.2) f)
 end_raised shape jobs before who r _ _ _ (RowStep.is_started j n) f t k =
     let q = three j.body_ended (is_none_left (living j)) false t in
     absurd (contrary (owes_row (Some j)) (all_true j.body_ended (is_none_left (living j)) (is_ended j.state) q.0 q.1 (ap is_ended n)) f)
 end_raised shape jobs before who r _ _ _ (RowStep.body_ends v j m) f t k = refl
 end_raised shape jobs before who r _ _ _ (RowStep.is_cancelled reason j m o) f t k =
     let q = three j.body_ended (is_none_left (living j)) false t in
-    absurd (contrary (owes_row (Some j)) (all_true j.body_ended (is_none_left (living j)) (is_ended j.state) q.0 q.1 (not_cancelled j.state m)) f)
+    absurd (contrary (owes_row (Some j)) (all_true j.body_ended (is_none_left (living j)) (is_ended j.state) q.0 q.1
+    (not_cancelled j.state m)) f)
 end_raised shape jobs before who r _ _ _ (RowStep.ends end j m) f t k =
     let q = three j.body_ended (is_none_left (living j)) (is_ended (state_of_end end)) t in
     absurd (contrary (is_ended (state_of_end end)) (finished_state end) q.2)
@@ -197,19 +224,26 @@ no_end_owed o (inl e) = not_owed (is_done o) (has_ended o) (has_ended_by o e)
 no_end_owed None (inr n) = absurd n
 no_end_owed (Some j) (inr n) = ap (λ b. b && not (is_ended j.state)) n
 
-end_by_fact : (jobs : List JobEntry) (r : ℕ) (at : List JobEntry) (fact : JobFact) → JobHolds (on_jobs fact) at → IsNoEndOf r fact → owes_end r (replay at) ≡ false
+end_by_fact : (jobs : List JobEntry) (r : ℕ) (at : List JobEntry) (fact : JobFact) → JobHolds (on_jobs fact) at → IsNoEndOf r fact
+    → owes_end r (replay at) ≡ false
 end_by_fact jobs r at (OwesNoEnd q) h e = subst (λ q. owes_row (replay at q) ≡ false) e (no_end_owed (replay at q) h)
 end_by_fact jobs r at other h e = absurd e
 
-end_by_told : (jobs : List JobEntry) (r : ℕ) (a : JobAct) (t : Told) (at : List JobEntry) → JobHolds t at → job_told t ≡ None → TakesEnd r a t → owes_end r (replay at) ≡ false
+end_by_told : (jobs : List JobEntry) (r : ℕ) (a : JobAct) (t : Told) (at : List JobEntry) → JobHolds t at → job_told t ≡ None
+    → TakesEnd r a t → owes_end r (replay at) ≡ false
 end_by_told jobs r a (note i) at h m t = absurd (subst (ActPasses (IsFinishOf r)) m t)
 end_by_told jobs r a (on_channels fact) at h m t = absurd t
 end_by_told jobs r a (on_jobs fact) at h m t = end_by_fact jobs r at fact h t
 
-end_by_act : (jobs : List JobEntry) (shape : _) → Legal shape jobs → (r : ℕ) (b : JobAct) → IsFinishOf r b → (before rest : List JobEntry) (e : JobEntry) → jobs ≡ before ++ e ∷ rest → e.act ≡ b → owes_end r (after (replay before) e.who e.act) ≡ false
+end_by_act : (jobs : List JobEntry) (shape : _) → Legal shape jobs → (r : ℕ) (b : JobAct) → IsFinishOf r b
+    → (before rest : List JobEntry) (e : JobEntry) → jobs ≡ before ++ e ∷ rest → e.act ≡ b
+    → owes_end r (after (replay before) e.who e.act) ≡ false
 end_by_act jobs shape l r (Finish q end) f before rest e parts is =
     let needs = needs_there shape jobs before e rest l parts in
-    let ended : has_ended (after (replay before) e.who e.act r) ≡ true = finish_mark.sets shape (replay before) e.who e.act r (replay_families shape before (Legal-prefix shape before (e ∷ rest) (subst (Legal shape) parts l))) needs (ap (finishes r) is ∙ subst (λ u. (r == u) ≡ true) (sym f) (same r)) in
+    let ended : has_ended (after (replay before) e.who e.act r) ≡ true =
+    finish_mark.sets shape (replay before) e.who e.act r
+    (replay_families shape before (Legal-prefix shape before (e ∷ rest) (subst (Legal shape) parts l))) needs (ap (finishes r) is
+    ∙ subst (λ u. (r == u) ≡ true) (sym f) (same r)) in
     not_owed (is_done (after (replay before) e.who e.act r)) (has_ended (after (replay before) e.who e.act r)) ended
 end_by_act jobs shape l r other f before rest e parts is = absurd f
 
@@ -228,7 +262,9 @@ end_debt p jobs l r = record {
   Raises = λ n. RaisesEnd (parents_in jobs) r;
   Takes = TakesEnd r;
   first = of_start (r == 0);
-  rises = λ before e rest parts f t. end_raised (job_shape p) jobs before e.who r e.act _ _ (row_step (job_shape p) (replay before) e.who e.act r (needs_there (job_shape p) jobs before e rest l parts)) f t (λ c h. prefix_keeps (λ x. parent_of x ≡ Some r) (parent_lasts r) (job_shape p) before jobs c l (e ∷ rest, sym parts) h);
+  rises = λ before e rest parts f t. end_raised (job_shape p) jobs before e.who r e.act _ _
+      (row_step (job_shape p) (replay before) e.who e.act r (needs_there (job_shape p) jobs before e rest l parts)) f t
+      (λ c h. prefix_keeps (λ x. parent_of x ≡ Some r) (parent_lasts r) (job_shape p) before jobs c l (e ∷ rest, sym parts) h);
   pieces = λ k g h q. end_pieces_pay p jobs r k g h q;
   by_fact = λ a t at more parts h m x. end_by_told jobs r a t at h m x;
   by_act = λ a t b m x before rest e parts is. end_by_act jobs (job_shape p) l r b (act_of_told r a t b m x) before rest e parts is;
@@ -240,6 +276,9 @@ other_part true false e h = cc
 other_part false b e h = cc
 
 -- a Job whose body has ended and no child of which lives has ended
-pub finished : (p : Program) (books : List (List Item)) (channels : List Entry) (jobs : List JobEntry) → BooksOf p books channels jobs → (r : ℕ) → is_done (replay jobs r) ≡ true → IsEnded (replay jobs r)
+pub finished : (p : Program) (books : List (List Item)) (channels : List Entry) (jobs : List JobEntry) → BooksOf p books channels jobs
+    → (r : ℕ) → is_done (replay jobs r) ≡ true → IsEnded (replay jobs r)
 unfolding end_debt
-finished p books channels jobs of r done = ended_by (replay jobs r) (other_part (is_done (replay jobs r)) (has_ended (replay jobs r)) (nobody_owes p books channels jobs of (end_debt p jobs of.legal_jobs r)) done)
+finished p books channels jobs of r done = ended_by (replay jobs r)
+    (other_part (is_done (replay jobs r)) (has_ended (replay jobs r))
+    (nobody_owes p books channels jobs of (end_debt p jobs of.legal_jobs r)) done)

@@ -98,7 +98,8 @@ pub launched_attached : (r : ℕ) (acts : List JobAct) → list_any (launches_ro
 launched_attached r [] e = cc
 launched_attached r (Attach p q kind tag cancelled ∷ acts) e = by_tests (r == q) (not kind.scoped) e (launched_attached r acts)
   where
-    by_tests : (a s : Bool) → ((a && s) || list_any (launches_row r) acts) ≡ true → (list_any (launches_row r) acts ≡ true → list_any (attaches r) acts ≡ true) → (a || list_any (attaches r) acts) ≡ true
+    by_tests : (a s : Bool) → ((a && s) || list_any (launches_row r) acts) ≡ true
+        → (list_any (launches_row r) acts ≡ true → list_any (attaches r) acts ≡ true) → (a || list_any (attaches r) acts) ≡ true
     by_tests true s e more = refl
     by_tests false s e more = more e
 launched_attached r (Start q ∷ acts) e = launched_attached r acts e
@@ -111,7 +112,8 @@ pub entered_attached : (r : ℕ) (acts : List JobAct) → list_any (enters_row r
 entered_attached r [] e = cc
 entered_attached r (Attach p q kind tag cancelled ∷ acts) e = by_tests (r == q) kind.scoped e (entered_attached r acts)
   where
-    by_tests : (a s : Bool) → ((a && s) || list_any (enters_row r) acts) ≡ true → (list_any (enters_row r) acts ≡ true → list_any (attaches r) acts ≡ true) → (a || list_any (attaches r) acts) ≡ true
+    by_tests : (a s : Bool) → ((a && s) || list_any (enters_row r) acts) ≡ true
+        → (list_any (enters_row r) acts ≡ true → list_any (attaches r) acts ≡ true) → (a || list_any (attaches r) acts) ≡ true
     by_tests true s e more = refl
     by_tests false s e more = more e
 entered_attached r (Start q ∷ acts) e = entered_attached r acts e
@@ -130,22 +132,16 @@ act_place base c (Put d q v) le e = grind (arith, nat_tests)
 act_place base c (Offer d q v w n) le e = grind (arith, nat_tests)
 act_place base c (Await d q w n) le e = grind (arith, nat_tests)
 act_place base c (Take d q v) le e = refl
-act_place base c (Admit d q) le e = refl
-act_place base c (Drop d q v) le e = refl
-act_place base c (Spurn d q v) le e = refl
-act_place base c (Close d v) le e = refl
-act_place base c (Void d) le e = refl
-act_place base c (Drain d q v) le e = refl
-act_place base c (WakeClosed d q) le e = refl
-act_place base c (Withdraw w why) le e = refl
-act_place base c (Settle w outcome) le e = refl
+act_place base c other le e = refl
 
-pub not_asked : (base c : ℕ) (items : List Item) → base ≤ c → list_any (item_asks base) items ≡ false → list_any (places_on c) (channel_acts_in items) ≡ false
+pub not_asked : (base c : ℕ) (items : List Item) → base ≤ c → list_any (item_asks base) items ≡ false
+    → list_any (places_on c) (channel_acts_in items) ≡ false
 not_asked base c [] le e = refl
 not_asked base c (item.Job n ∷ items) le e = not_asked base c items le e
 not_asked base c (item.Channel (of_channel.Made act) ∷ items) le e =
     let two = or_parts (gives_place base act) (list_any (item_asks base) items) e in
-    or_from (places_on c act) (list_any (places_on c) (channel_acts_in items)) (act_place base c act le two.0) (not_asked base c items le two.1)
+    or_from (places_on c act) (list_any (places_on c) (channel_acts_in items)) (act_place base c act le two.0)
+    (not_asked base c items le two.1)
 not_asked base c (item.Channel (of_channel.SendClosed d u v) ∷ items) le e = not_asked base c items le e
 not_asked base c (item.Channel (of_channel.TrySendClosed d u v) ∷ items) le e = not_asked base c items le e
 not_asked base c (item.Channel (of_channel.ReceiveClosed d v) ∷ items) le e = not_asked base c items le e
@@ -153,7 +149,8 @@ not_asked base c (item.Channel (of_channel.TryReceiveClosed d v) ∷ items) le e
 not_asked base c (item.Channel (of_channel.AlreadyClosed d v) ∷ items) le e = not_asked base c items le e
 not_asked base c (item.Channel (of_channel.Full d v) ∷ items) le e = not_asked base c items le e
 not_asked base c (item.Channel (of_channel.Empty d) ∷ items) le e = not_asked base c items le e
-not_asked base c (item.Channel (of_channel.Spent d) ∷ items) le e = not_asked base c items le (or_parts (nat_le base d) (list_any (item_asks base) items) e).1
+not_asked base c (item.Channel (of_channel.Spent d) ∷ items) le e =
+    not_asked base c items le (or_parts (nat_le base d) (list_any (item_asks base) items) e).1
 not_asked base c (item.Channel (of_channel.Partner d q) ∷ items) le e = not_asked base c items le e
 not_asked base c (item.Channel (of_channel.MainResolved w) ∷ items) le e = not_asked base c items le e
 not_asked base c (item.Channel (of_channel.Late w) ∷ items) le e = not_asked base c items le e
@@ -168,7 +165,8 @@ is_join other = false
 -- a receive on the done channel of this row, with this answer, leads from x to y: at a join or an await, or out of a scope
 pub data Receives (p : Program) (k : ℕ) (x : Config) (row : ℕ) (a : Answer) (y : Config) : Type 0 where
   at_line : (i : Instruction) (job : ℕ) → IsAt p k x i → is_join i ≡ true → Names x job row → After p k x i a y → Receives p k x row a y
-  at_end : (s : InScope) → row ≡ s.row → scope_in x.entered ≡ Some s → AtScopeEnd k x s a y → (x.stage ≡ Running) ⊎ ((failure : Option ℕ) × (x.stage ≡ Unwinding failure)) → Receives p k x row a y
+  at_end : (s : InScope) → row ≡ s.row → scope_in x.entered ≡ Some s → AtScopeEnd k x s a y → (x.stage ≡ Running)
+      ⊎ ((failure : Option ℕ) × (x.stage ≡ Unwinding failure)) → Receives p k x row a y
 
 pub data MoveAsks (p : Program) (k : ℕ) (x : Config) (group : List Told) (y : Config) : Type 0 where
   none : asks_in (base_of p) group ≡ false → MoveAsks p k x group y
@@ -177,23 +175,34 @@ pub data MoveAsks (p : Program) (k : ℕ) (x : Config) (group : List Told) (y : 
       → MoveAsks p k x group y
 
 -- a line names a declared channel
-declared : (p : Program) (k i : ℕ) (l : Instruction) → IsProgram p → slice_get (code_of p k) i ≡ Some l → names_channel (length p.channels) l ≡ true
+declared : (p : Program) (k i : ℕ) (l : Instruction) → IsProgram p → slice_get (code_of p k) i ≡ Some l
+    → names_channel (length p.channels) l ≡ true
 declared p k i l ok at = test_at (names_channel (length p.channels)) (code_of p k) i l (channels_known p k ok) at
 
-line_asks : (p : Program) (k : ℕ) (x : Config) (i : Instruction) (group : List Told) (a : Answer) (y : Config) → IsProgram p → IsAt p k x i → LineCalls p k x i group a → After p k x i a y → MoveAsks p k x group y
+line_asks : (p : Program) (k : ℕ) (x : Config) (i : Instruction) (group : List Told) (a : Answer) (y : Config) → IsProgram p → IsAt p k x i
+    → LineCalls p k x i group a → After p k x i a y → MoveAsks p k x group y
 unfolding items_in
-line_asks p k x _ _ _ y ok at (LineCalls.send c o g a h) f = MoveAsks.none (plain_none (base_of p) _ g a (below_low (base_of p) c (declared p k x.line (line.Send c o) ok at.line_is)) h)
-line_asks p k x _ _ _ y ok at (LineCalls.receive c g a h) f = MoveAsks.none (plain_none (base_of p) _ g a (below_low (base_of p) c (declared p k x.line (line.Receive c) ok at.line_is)) h)
-line_asks p k x _ _ _ y ok at (LineCalls.each c g a h) f = MoveAsks.none (plain_none (base_of p) _ g a (below_low (base_of p) c (declared p k x.line (line.Each c) ok at.line_is)) h)
-line_asks p k x _ _ _ y ok at (LineCalls.trysend c o g a h) f = MoveAsks.none (try_none (base_of p) _ g a (below_low (base_of p) c (declared p k x.line (line.TrySend c o) ok at.line_is)) h)
-line_asks p k x _ _ _ y ok at (LineCalls.tryreceive c g a h) f = MoveAsks.none (try_none (base_of p) _ g a (below_low (base_of p) c (declared p k x.line (line.TryReceive c) ok at.line_is)) h)
-line_asks p k x _ _ _ y ok at (LineCalls.select g a h) f = MoveAsks.none (select_none (base_of p) _ g a (clauses_low x (base_of p) (drop (x.line + 1) (code_of p k)) (all_drop (base_of p) (x.line + 1) (code_of p k) (channels_known p k ok))) h)
+line_asks p k x _ _ _ y ok at (LineCalls.send c o g a h) f =
+    MoveAsks.none (plain_none (base_of p) _ g a (below_low (base_of p) c (declared p k x.line (line.Send c o) ok at.line_is)) h)
+line_asks p k x _ _ _ y ok at (LineCalls.receive c g a h) f =
+    MoveAsks.none (plain_none (base_of p) _ g a (below_low (base_of p) c (declared p k x.line (line.Receive c) ok at.line_is)) h)
+line_asks p k x _ _ _ y ok at (LineCalls.each c g a h) f =
+    MoveAsks.none (plain_none (base_of p) _ g a (below_low (base_of p) c (declared p k x.line (line.Each c) ok at.line_is)) h)
+line_asks p k x _ _ _ y ok at (LineCalls.trysend c o g a h) f =
+    MoveAsks.none (try_none (base_of p) _ g a (below_low (base_of p) c (declared p k x.line (line.TrySend c o) ok at.line_is)) h)
+line_asks p k x _ _ _ y ok at (LineCalls.tryreceive c g a h) f =
+    MoveAsks.none (try_none (base_of p) _ g a (below_low (base_of p) c (declared p k x.line (line.TryReceive c) ok at.line_is)) h)
+line_asks p k x _ _ _ y ok at (LineCalls.select g a h) f =
+    MoveAsks.none (select_none (base_of p) _ g a (clauses_low x (base_of p) (drop (x.line + 1) (code_of p k))
+    (all_drop (base_of p) (x.line + 1) (code_of p k) (channels_known p k ok))) h)
 line_asks p k x _ _ _ y ok at (LineCalls.join job row _ _ n (StartsAndReceives.both starts call all a s c e)) f =
-    MoveAsks.asks row (on_jobs (MayRun (innermost k x)) ∷ starts) call a (starts_none (base_of p) row starts s) (ap (λ l. on_jobs (MayRun (innermost k x)) ∷ l) e) c (Receives.at_line (line.Join job) job at refl n f)
+    MoveAsks.asks row (on_jobs (MayRun (innermost k x)) ∷ starts) call a (starts_none (base_of p) row starts s)
+    (ap (λ l. on_jobs (MayRun (innermost k x)) ∷ l) e) c (Receives.at_line (line.Join job) job at refl n f)
 line_asks p k x _ _ _ y ok at (LineCalls.await job row _ _ n (StartsAndReceives.both starts call all a s c e)) f =
     MoveAsks.asks row starts call a (starts_none (base_of p) row starts s) e c (Receives.at_line (line.Await job) job at refl n f)
 
-pub move_asks : (p : Program) (k : ℕ) (x : Config) (group : List Told) (y : Config) → IsProgram p → Move p k x group y → MoveAsks p k x group y
+pub move_asks : (p : Program) (k : ℕ) (x : Config) (group : List Told) (y : Config) → IsProgram p → Move p k x group y
+    → MoveAsks p k x group y
 unfolding items_in
 move_asks p k _ _ _ ok (Move.runs x s) = MoveAsks.none refl
 move_asks p k _ _ _ ok (Move.never_runs x s) = MoveAsks.none refl
@@ -208,7 +217,8 @@ move_asks p k _ _ _ ok (Move.yields x at) = MoveAsks.none refl
 move_asks p k _ _ _ ok (Move.stops_at_yield x at) = MoveAsks.none refl
 move_asks p k _ _ _ ok (Move.stops_at_join x job at) = MoveAsks.none refl
 move_asks p k _ _ _ ok (Move.launches x block how job now at) = MoveAsks.none refl
-move_asks p k _ _ _ ok (Move.launch_refused x block how job group at g) = MoveAsks.none (refusal_none (base_of p) (innermost k x) false group g)
+move_asks p k _ _ _ ok (Move.launch_refused x block how job group at g) =
+    MoveAsks.none (refusal_none (base_of p) (innermost k x) false group g)
 move_asks p k _ _ _ ok (Move.enters x supervisor row now at) = MoveAsks.none refl
 move_asks p k _ _ _ ok (Move.enter_refused x supervisor group at g) = MoveAsks.none (refusal_none (base_of p) (innermost k x) true group g)
 move_asks p k _ _ _ ok (Move.starts x job row group at n g) = MoveAsks.none (starts_none (base_of p) row group g)
@@ -220,10 +230,12 @@ move_asks p k _ _ _ ok (Move.turns_again x head n es at is) = MoveAsks.none refl
 move_asks p k _ _ _ ok (Move.turns_no_more x head es at is) = MoveAsks.none refl
 move_asks p k _ _ _ ok (Move.receives_again x head es at is) = MoveAsks.none refl
 move_asks p k _ _ _ ok (Move.ends_scope x y s end call all a at is g c f parts) =
-    MoveAsks.asks s.row end call a (ends_none (base_of p) (base_of p) s.row 0 end g) parts c (Receives.at_end s refl (ap scope_in is) f (inl at.stage))
+    MoveAsks.asks s.row end call a (ends_none (base_of p) (base_of p) s.row 0 end g) parts c
+    (Receives.at_end s refl (ap scope_in is) f (inl at.stage))
 move_asks p k _ _ _ ok (Move.scope_ended x w n v s) = MoveAsks.none refl
 move_asks p k _ _ _ ok (Move.sees_scope x y s end at is f) = MoveAsks.none refl
 move_asks p k _ _ _ ok (Move.breaks_scope x y s failure break call all a at is g c f parts) =
-    MoveAsks.asks s.row break call a (breaks_off_none (base_of p) (base_of p) k s.row failure break g) parts c (Receives.at_end s refl is f (inr (failure, at)))
+    MoveAsks.asks s.row break call a (breaks_off_none (base_of p) (base_of p) k s.row failure break g) parts c
+    (Receives.at_end s refl is f (inr (failure, at)))
 move_asks p k _ _ _ ok (Move.breaks x failure group s is g) = MoveAsks.none (breaks_off_none (base_of p) (base_of p) k k failure group g)
 move_asks p k _ _ _ ok (Move.ends x group s is g) = MoveAsks.none (ends_none (base_of p) (base_of p) k x.result group g)

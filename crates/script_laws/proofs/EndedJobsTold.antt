@@ -35,25 +35,34 @@ use Rattle.script_meaning.proofs.JobDebts.{parents_in, AllKnown, known_left, kno
 use Rattle.script_laws.proofs.DoneJobsEnded.{ActPasses, own_is_cancel, contrary, not_owed, has_ended_by, other_part}
 
 -- where only ends of bodies and what follows them raise a debt, only they have to pay
-pub calm_pieces : (p : Program) (jobs : List JobEntry) (k : ℕ) (owes : Tree → Bool) (Raises : JobAct → Type 0) (Takes : JobAct → Told → Type 0)
+pub calm_pieces : (p : Program) (jobs : List JobEntry) (k : ℕ) (owes : Tree → Bool) (Raises : JobAct → Type 0) (Takes : JobAct → Told
+    → Type 0)
     → ((parent row : ℕ) (kind : JobKind) (tag : ℕ) (now : Bool) → Raises (Attach parent row kind tag now) → ⊥)
     → ((row : ℕ) → Raises (Start row) → ⊥)
     → ((row : ℕ) (reason : Reason) → Raises (Cancel row reason) → ⊥)
-    → ((row v : ℕ) (chain : List Told) → AllKnown (parents_in jobs) chain → Chain (base_of p) row chain → JobPaid k owes Raises Takes (did (EndBody row v) ∷ chain))
+    → ((row v : ℕ) (chain : List Told) → AllKnown (parents_in jobs) chain → Chain (base_of p) row chain
+    → JobPaid k owes Raises Takes (did (EndBody row v) ∷ chain))
     → (g : List Told) → AllKnown (parents_in jobs) g → JobPiece p k g → JobPaid k owes Raises Takes g
 unfolding AllPaid AllKnown
 calm_pieces p jobs k owes Raises Takes a s c body _ h (JobPiece.quiet g q) = paid_quiet k owes Raises Takes g q
-calm_pieces p jobs k owes Raises Takes a s c body _ h (JobPiece.attaches parent row kind tag now) = (λ x. absurd (a parent row kind tag now x), tt)
+calm_pieces p jobs k owes Raises Takes a s c body _ h (JobPiece.attaches parent row kind tag now) =
+    (λ x. absurd (a parent row kind tag now x), tt)
 calm_pieces p jobs k owes Raises Takes a s c body _ h (JobPiece.starts row) = (λ x. absurd (s row x), tt)
 calm_pieces p jobs k owes Raises Takes a s c body g h (JobPiece.passes row reason newly _ m o t) =
-    let known = known_right (parents_in jobs) (map did (own_cancel newly row reason ++ t.below)) (on_jobs (PassedBelow row t.below) ∷ []) (subst (AllKnown (parents_in jobs)) t.all h) in
-    subst (JobPaid k owes Raises Takes) (sym t.all) (paid_then k owes Raises Takes (map did (own_cancel newly row reason ++ t.below)) _ (paid_cancels k owes Raises Takes _ (cancels_then (own_cancel newly row reason) t.below (own_is_cancel newly row reason) known.0.0) c) (tt, tt))
+    let known = known_right (parents_in jobs) (map did (own_cancel newly row reason ++ t.below)) (on_jobs (PassedBelow row t.below) ∷ [])
+    (subst (AllKnown (parents_in jobs)) t.all h) in
+    subst (JobPaid k owes Raises Takes) (sym t.all) (paid_then k owes Raises Takes (map did (own_cancel newly row reason ++ t.below)) _
+    (paid_cancels k owes Raises Takes _ (cancels_then (own_cancel newly row reason) t.below (own_is_cancel newly row reason) known.0.0)
+    c) (tt, tt))
 calm_pieces p jobs k owes Raises Takes a s c body g h (JobPiece.fails f up pass _ t e) =
     let all = subst (AllKnown (parents_in jobs)) e h in
-    let first = known_right (parents_in jobs) (map did (own_cancel true k (reasons.Own f) ++ t.below)) (on_jobs (PassedBelow k t.below) ∷ []) (subst (AllKnown (parents_in jobs)) t.all (known_left (parents_in jobs) pass _ all)) in
+    let first = known_right (parents_in jobs) (map did (own_cancel true k (reasons.Own f) ++ t.below))
+    (on_jobs (PassedBelow k t.below) ∷ []) (subst (AllKnown (parents_in jobs)) t.all (known_left (parents_in jobs) pass _ all)) in
     let second = known_right (parents_in jobs) (map did up) (on_jobs (FailedUp k up) ∷ []) (known_right (parents_in jobs) pass _ all) in
     subst (JobPaid k owes Raises Takes) (sym e) (paid_then k owes Raises Takes pass _
-    (subst (JobPaid k owes Raises Takes) (sym t.all) (paid_then k owes Raises Takes (map did (own_cancel true k (reasons.Own f) ++ t.below)) _ (paid_cancels k owes Raises Takes _ (cancels_then (own_cancel true k (reasons.Own f)) t.below (own_is_cancel true k (reasons.Own f)) first.0.0) c) (tt, tt)))
+    (subst (JobPaid k owes Raises Takes) (sym t.all) (paid_then k owes Raises Takes (map did (own_cancel true k (reasons.Own f) ++ t.below))
+    _ (paid_cancels k owes Raises Takes _ (cancels_then (own_cancel true k (reasons.Own f)) t.below
+    (own_is_cancel true k (reasons.Own f)) first.0.0) c) (tt, tt)))
     (paid_then k owes Raises Takes (map did up) _ (paid_cancels k owes Raises Takes up second.0.0 c) (tt, tt)))
 calm_pieces p jobs k owes Raises Takes a s c body _ h (JobPiece.ends_body row v chain t) = body row v chain h.1 t
 
@@ -84,14 +93,20 @@ WordPaid k r told = JobPaid k (owes_word r) (RaisesWord r) (TakesWord r) told
 chain_tells : (p : Program) (k r row : ℕ) (g : List Told) → r ≢ 0 → Chain (base_of p) row g → WordPaid k r g
 unfolding AllPaid
 chain_tells p k r _ _ n (Chain.stops row) = (tt, tt)
-chain_tells p k r _ _ n (Chain.root end closes c) = (λ x. absurd (n (sym x)), paid_quiet k (owes_word r) (RaisesWord r) (TakesWord r) closes (quiet_closes _ _ closes c))
+chain_tells p k r _ _ n (Chain.root end closes c) = (
+  λ x. absurd (n (sym x)),
+  paid_quiet k (owes_word r) (RaisesWord r) (TakesWord r) closes (quiet_closes _ _ closes c),
+)
 chain_tells p k r row g n (Chain.goes_up _ parent end closes rest _ m c up e) =
     subst (WordPaid k r) (sym e) (
       λ x. exists_right (TakesWord r (Finish row end)) closes _ (exists_first (TakesWord r (Finish row end)) (did (Gone row)) _ x),
-      paid_then k (owes_word r) (RaisesWord r) (TakesWord r) closes _ (paid_quiet k (owes_word r) (RaisesWord r) (TakesWord r) closes (quiet_closes _ _ closes c)) (λ x. absurd x, (tt, chain_tells p k r parent rest n up)),
+      paid_then k (owes_word r) (RaisesWord r) (TakesWord r) closes _
+          (paid_quiet k (owes_word r) (RaisesWord r) (TakesWord r) closes (quiet_closes _ _ closes c))
+          (λ x. absurd x, (tt, chain_tells p k r parent rest n up)),
     )
 
-body_tells : (p : Program) (k r row v : ℕ) (chain : List Told) → r ≢ 0 → Chain (base_of p) row chain → WordPaid k r (did (EndBody row v) ∷ chain)
+body_tells : (p : Program) (k r row v : ℕ) (chain : List Told) → r ≢ 0 → Chain (base_of p) row chain
+    → WordPaid k r (did (EndBody row v) ∷ chain)
 unfolding AllPaid
 body_tells p k r row v chain n c = (λ x. absurd x, chain_tells p k r row chain n c)
 
@@ -110,7 +125,8 @@ ended_before_body Cancelling e = cc
 ended_before_body Cancelled e = refl
 ended_before_body Completed e = refl
 
-word_raised : (shape : _) (tree : Tree) (who r : ℕ) (act : JobAct) (x y : Option Job) → RowStep shape tree who r act x y → has_ended x ≡ false → has_ended y ≡ true → RaisesWord r act
+word_raised : (shape : _) (tree : Tree) (who r : ℕ) (act : JobAct) (x y : Option Job) → RowStep shape tree who r act x y
+    → has_ended x ≡ false → has_ended y ≡ true → RaisesWord r act
 word_raised shape tree who r _ _ _ (RowStep.is_attached p kind tag cancelled m i) f t = absurd (not_first cancelled kind.lazy t)
 word_raised shape tree who r _ _ _ (RowStep.has_child c kind tag cancelled j none m) f t = absurd (contrary (is_ended j.state) t f)
 word_raised shape tree who r _ _ _ (RowStep.is_started j n) f t = cc
@@ -140,10 +156,15 @@ act_of_told r a (note i) b m t = subst (ActPasses (IsGoneOf r)) m t
 act_of_told r a (on_channels fact) b m t = absurd t
 act_of_told r a (on_jobs fact) b m t = absurd t
 
-word_by_act : (jobs : List JobEntry) (shape : _) → Legal shape jobs → (r : ℕ) (b : JobAct) → IsGoneOf r b → (before rest : List JobEntry) (e : JobEntry) → jobs ≡ before ++ e ∷ rest → e.act ≡ b → owes_word r (after (replay before) e.who e.act) ≡ false
+word_by_act : (jobs : List JobEntry) (shape : _) → Legal shape jobs → (r : ℕ) (b : JobAct) → IsGoneOf r b
+    → (before rest : List JobEntry) (e : JobEntry) → jobs ≡ before ++ e ∷ rest → e.act ≡ b
+    → owes_word r (after (replay before) e.who e.act) ≡ false
 word_by_act jobs shape l r (Gone q) f before rest e parts is =
     let needs = needs_there shape jobs before e rest l parts in
-    not_owed (has_ended (after (replay before) e.who e.act r)) _ (tell_mark.sets shape (replay before) e.who e.act r (replay_families shape before (Legal-prefix shape before (e ∷ rest) (subst (Legal shape) parts l))) needs (ap (tells r) is ∙ subst (λ u. (r == u) ≡ true) (sym f) (same r)))
+    not_owed (has_ended (after (replay before) e.who e.act r)) _
+    (tell_mark.sets shape (replay before) e.who e.act r (replay_families shape before
+    (Legal-prefix shape before (e ∷ rest) (subst (Legal shape) parts l))) needs (ap (tells r) is
+    ∙ subst (λ u. (r == u) ≡ true) (sym f) (same r)))
 word_by_act jobs shape l r other f before rest e parts is = absurd f
 
 of_start : (b x : Bool) → (has_ended (if b then Some root else None) && x) ≡ false
@@ -158,15 +179,20 @@ word_debt p jobs l r n = record {
   first = of_start (r == 0) _;
   rises = λ before e rest parts f t.
       let needs = needs_there (job_shape p) jobs before e rest l parts in
-      let q = parts_of (has_ended (after (replay before) e.who e.act r)) (was_told r (parent_row (after (replay before) e.who e.act) r)) t in
+      let q = parts_of (has_ended (after (replay before) e.who e.act r)) (was_told r (parent_row (after (replay before) e.who e.act) r)) t
+      in
       word_raised (job_shape p) (replay before) e.who r e.act _ _ (row_step (job_shape p) (replay before) e.who e.act r needs)
-      (not_before (has_ended (replay before r)) (was_told r (parent_row (replay before) r)) f (λ w. contrary _ (tell_mark.kept (job_shape p) (replay before) e.who e.act r needs w) q.1)) q.0;
-  pieces = λ k g h s. calm_pieces p jobs k (owes_word r) (RaisesWord r) (TakesWord r) (λ a b c d e x. x) (λ a x. x) (λ a b x. x) (λ row v chain known c. body_tells p k r row v chain n c) g h s;
+      (not_before (has_ended (replay before r)) (was_told r (parent_row (replay before) r)) f
+      (λ w. contrary _ (tell_mark.kept (job_shape p) (replay before) e.who e.act r needs w) q.1)) q.0;
+  pieces = λ k g h s. calm_pieces p jobs k (owes_word r) (RaisesWord r) (TakesWord r) (λ a b c d e x. x) (λ a x. x) (λ a b x. x)
+      (λ row v chain known c. body_tells p k r row v chain n c) g h s;
   by_fact = λ a t at more parts h m x. word_by_told r a t at m x;
   by_act = λ a t b m x before rest e parts is. word_by_act jobs (job_shape p) l r b (act_of_told r a t b m x) before rest e parts is;
 }
 
 -- the parent of each ended Job was told
-pub told : (p : Program) (books : List (List Item)) (channels : List Entry) (jobs : List JobEntry) → BooksOf p books channels jobs → (r : ℕ) → r ≢ 0 → IsEnded (replay jobs r) → was_told r (parent_row (replay jobs) r) ≡ true
+pub told : (p : Program) (books : List (List Item)) (channels : List Entry) (jobs : List JobEntry) → BooksOf p books channels jobs → (r : ℕ)
+    → r ≢ 0 → IsEnded (replay jobs r) → was_told r (parent_row (replay jobs) r) ≡ true
 unfolding word_debt
-told p books channels jobs of r n ended = other_part (has_ended (replay jobs r)) _ (nobody_owes p books channels jobs of (word_debt p jobs of.legal_jobs r n)) (has_ended_by (replay jobs r) ended)
+told p books channels jobs of r n ended = other_part (has_ended (replay jobs r)) _
+    (nobody_owes p books channels jobs of (word_debt p jobs of.legal_jobs r n)) (has_ended_by (replay jobs r) ended)

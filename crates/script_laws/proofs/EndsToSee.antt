@@ -45,7 +45,8 @@ pub record AwaitsOn (told : List Told) (w : WaitId) (c : ℕ) : Type 0 where
 pub data ToldClosed (told : List Told) (c : ℕ) : Type 0 where
   met : (before : List Told) (u : ℕ) (behind : List Told) → told ≡ before ++ heard (ReceiveClosed c u) ∷ behind → ToldClosed told c
   ended : (before : List Told) (place : ℕ) (between : List Told) (n v : ℕ) (behind : List Told)
-      → told ≡ before ++ made (Await c place (wait_at c place) 0) ∷ (between ++ made (Settle (wait_at c place) (settled.Closed n v)) ∷ behind)
+      → told ≡ before ++ made (Await c place (wait_at c place) 0) ∷ (between
+      ++ made (Settle (wait_at c place) (settled.Closed n v)) ∷ behind)
       → ToldClosed told c
 
 awaits_behind : (before group all : List Told) (w : WaitId) (c : ℕ) → all ≡ before ++ group → AwaitsOn group w c → AwaitsOn all w c
@@ -53,28 +54,35 @@ awaits_behind before group all w c e h = record {
   before = before ++ h.before;
   place = h.place;
   behind = h.behind;
-  told_is = e ∙ ap (λ l. before ++ l) h.told_is ∙ sym (append_assoc before h.before (made (Await c h.place (wait_at c h.place) 0) ∷ h.behind));
+  told_is = e ∙ ap (λ l. before ++ l) h.told_is
+      ∙ sym (append_assoc before h.before (made (Await c h.place (wait_at c h.place) 0) ∷ h.behind));
   wait = h.wait;
 }
 
 closed_behind : (before group all : List Told) (c : ℕ) → all ≡ before ++ group → ToldClosed group c → ToldClosed all c
-closed_behind before group all c e (ToldClosed.met b u behind q) = ToldClosed.met (before ++ b) u behind (e ∙ ap (λ l. before ++ l) q ∙ sym (append_assoc before b (heard (ReceiveClosed c u) ∷ behind)))
+closed_behind before group all c e (ToldClosed.met b u behind q) =
+    ToldClosed.met (before ++ b) u behind (e ∙ ap (λ l. before ++ l) q ∙ sym (append_assoc before b (heard (ReceiveClosed c u) ∷ behind)))
 closed_behind before group all c e (ToldClosed.ended b place between n v behind q) =
     ToldClosed.ended (before ++ b) place between n v behind
-    (e ∙ ap (λ l. before ++ l) q ∙ sym (append_assoc before b (made (Await c place (wait_at c place) 0) ∷ (between ++ made (Settle (wait_at c place) (settled.Closed n v)) ∷ behind))))
+    (e ∙ ap (λ l. before ++ l) q
+    ∙ sym (append_assoc before b (made (Await c place (wait_at c place) 0) ∷ (between
+    ++ made (Settle (wait_at c place) (settled.Closed n v)) ∷ behind))))
 
 -- its wait ended as closed, after some more was told
-ends_closed : (told more all : List Told) (w : WaitId) (c n v : ℕ) → all ≡ told ++ (more ++ made (Settle w (settled.Closed n v)) ∷ []) → AwaitsOn told w c → ToldClosed all c
+ends_closed : (told more all : List Told) (w : WaitId) (c n v : ℕ) → all ≡ told ++ (more ++ made (Settle w (settled.Closed n v)) ∷ [])
+    → AwaitsOn told w c → ToldClosed all c
 ends_closed told more all w c n v e h =
     ToldClosed.ended h.before h.place (h.behind ++ more) n v []
     (e ∙ ap (λ l. l ++ (more ++ made (Settle w (settled.Closed n v)) ∷ [])) h.told_is
     ∙ append_assoc h.before (made (Await c h.place (wait_at c h.place) 0) ∷ h.behind) (more ++ made (Settle w (settled.Closed n v)) ∷ [])
-    ∙ ap (λ l. h.before ++ made (Await c h.place (wait_at c h.place) 0) ∷ l) (sym (append_assoc h.behind more (made (Settle w (settled.Closed n v)) ∷ []))
+    ∙ ap (λ l. h.before ++ made (Await c h.place (wait_at c h.place) 0) ∷ l)
+    (sym (append_assoc h.behind more (made (Settle w (settled.Closed n v)) ∷ []))
     ∙ ap (λ u. (h.behind ++ more) ++ made (Settle u (settled.Closed n v)) ∷ []) h.wait))
 
 -- ---- receives
 
-receive_waits : (call : Call) (c : ℕ) (group : List Told) (a : Answer) (w : WaitId) → PlainCall call group a → call ≡ receives c → a ≡ Waits w → AwaitsOn group w c
+receive_waits : (call : Call) (c : ℕ) (group : List Told) (a : Answer) (w : WaitId) → PlainCall call group a → call ≡ receives c
+    → a ≡ Waits w → AwaitsOn group w c
 receive_waits _ c _ _ w (PlainCall.at_once call group a h) e f = absurd (no_wait call group a h f)
   where
     no_wait : (call : Call) (group : List Told) (a : Answer) → AtOnce call group a → a ≡ Waits w → ⊥
@@ -92,9 +100,11 @@ receive_waits _ c _ _ w (PlainCall.offer_ends d v q admits settles all i j k) e 
 receive_waits _ c _ _ w (PlainCall.awaits d q) e f =
     let same : d ≡ c = cc in
     let is : wait_at d q ≡ w = cc in
-    subst (λ n. AwaitsOn (made (Await d q (wait_at d q) 0) ∷ []) w n) same (record { before = []; place = q; behind = []; told_is = refl; wait = sym is })
+    subst (λ n. AwaitsOn (made (Await d q (wait_at d q) 0) ∷ []) w n) same
+    (record { before = []; place = q; behind = []; told_is = refl; wait = sym is })
 
-receive_closed : (call : Call) (c : ℕ) (group : List Told) (a : Answer) (v : ℕ) → PlainCall call group a → call ≡ receives c → a ≡ Closed v → ToldClosed group c
+receive_closed : (call : Call) (c : ℕ) (group : List Told) (a : Answer) (v : ℕ) → PlainCall call group a → call ≡ receives c → a ≡ Closed v
+    → ToldClosed group c
 receive_closed _ c _ _ v (PlainCall.at_once call group a h) e f = absurd (not_closed call group a h f)
   where
     not_closed : (call : Call) (group : List Told) (a : Answer) → AtOnce call group a → a ≡ Closed v → ⊥
@@ -105,18 +115,20 @@ receive_closed _ c _ _ v (PlainCall.refused call told a h) e f = met call told a
   where
     met : (call : Call) (told : Told) (a : Answer) → Refused call told a → call ≡ receives c → a ≡ Closed v → ToldClosed (told ∷ []) c
     met _ _ _ (Refused.send d x u) e f = cc
-    met _ _ _ (Refused.receive d u) e f = let same : d ≡ c = cc in subst (λ n. ToldClosed (heard (ReceiveClosed d u) ∷ []) n) same (ToldClosed.met [] u [] refl)
+    met _ _ _ (Refused.receive d u) e f = let same : d ≡ c = cc
+        in subst (λ n. ToldClosed (heard (ReceiveClosed d u) ∷ []) n) same (ToldClosed.met [] u [] refl)
 receive_closed _ c _ _ v (PlainCall.no_place call all is) e f = cc
-receive_closed _ c _ _ v (PlainCall.offers d x q admits i) e f = cc
-receive_closed _ c _ _ v (PlainCall.offer_ends d x q admits settles all i j k) e f = cc
-receive_closed _ c _ _ v (PlainCall.awaits d q) e f = cc
+receive_closed _ c _ _ v other e f = cc
 
 -- ---- where a coroutine waits for an end, or has to see one
 
 pub record Sees (p : Program) (k : ℕ) (told : List Told) (x : Config) : Type 0 where
-  pub waits : (w : WaitId) → x.stage ≡ Waiting w → (job row : ℕ) → LineIs p k x (line.Await job) → Names x job row → AwaitsOn told w (done_channel (base_of p) row)
-  pub leaves : (w : WaitId) → x.stage ≡ Leaving w → (s : InScope) → scope_in x.entered ≡ Some s → AwaitsOn told w (done_channel (base_of p) s.row)
-  pub job : x.stage ≡ SeesJob → (job row : ℕ) → LineIs p k x (line.Await job) → Names x job row → ToldClosed told (done_channel (base_of p) row)
+  pub waits : (w : WaitId) → x.stage ≡ Waiting w → (job row : ℕ) → LineIs p k x (line.Await job) → Names x job row
+      → AwaitsOn told w (done_channel (base_of p) row)
+  pub leaves : (w : WaitId) → x.stage ≡ Leaving w → (s : InScope) → scope_in x.entered ≡ Some s
+      → AwaitsOn told w (done_channel (base_of p) s.row)
+  pub job : x.stage ≡ SeesJob → (job row : ℕ) → LineIs p k x (line.Await job) → Names x job row
+      → ToldClosed told (done_channel (base_of p) row)
   pub scope : x.stage ≡ SeesScope → (s : InScope) → scope_in x.entered ≡ Some s → ToldClosed told (done_channel (base_of p) s.row)
 
 abbrev pub asks_end : Stage → Bool
@@ -139,26 +151,33 @@ asks_none p k told x s e a = record {
 }
 
 -- it waits at its line
-waits_so : (p : Program) (k : ℕ) (told : List Told) (x : Config) (w : WaitId) → ((job row : ℕ) → LineIs p k x (line.Await job) → Names x job row → AwaitsOn told w (done_channel (base_of p) row)) → Sees p k told (at_stage (Waiting w) x)
+waits_so : (p : Program) (k : ℕ) (told : List Told) (x : Config) (w : WaitId)
+    → ((job row : ℕ) → LineIs p k x (line.Await job) → Names x job row → AwaitsOn told w (done_channel (base_of p) row))
+    → Sees p k told (at_stage (Waiting w) x)
 waits_so p k told x w h = record {
-  waits = λ v f job row l n. let same : w ≡ v = (let both_ways : Waiting w ≡ Waiting v = f in cc) in subst (λ u. AwaitsOn told u (done_channel (base_of p) row)) same (h job row l n);
+  waits = λ v f job row l n. let same : w ≡ v = (let both_ways : Waiting w ≡ Waiting v = f in cc)
+      in subst (λ u. AwaitsOn told u (done_channel (base_of p) row)) same (h job row l n);
   leaves = λ v f s i. cc;
   job = λ f job row l n. cc;
   scope = λ f s i. cc;
 }
 
-leaves_so : (p : Program) (k : ℕ) (told : List Told) (x : Config) (w : WaitId) (s : InScope) → scope_in x.entered ≡ Some s → AwaitsOn told w (done_channel (base_of p) s.row) → Sees p k told (at_stage (Leaving w) x)
+leaves_so : (p : Program) (k : ℕ) (told : List Told) (x : Config) (w : WaitId) (s : InScope) → scope_in x.entered ≡ Some s
+    → AwaitsOn told w (done_channel (base_of p) s.row) → Sees p k told (at_stage (Leaving w) x)
 leaves_so p k told x w s e h = record {
   waits = λ v f job row l n. cc;
   leaves = λ v f t i.
       let same : w ≡ v = (let both_ways : Leaving w ≡ Leaving v = f in cc) in
       let scope : s ≡ t = (let both_ways : Some s ≡ Some t = sym e ∙ i in cc) in
-      subst (λ (z : InScope). AwaitsOn told v (done_channel (base_of p) z.row)) scope (subst (λ u. AwaitsOn told u (done_channel (base_of p) s.row)) same h);
+      subst (λ (z : InScope). AwaitsOn told v (done_channel (base_of p) z.row)) scope
+      (subst (λ u. AwaitsOn told u (done_channel (base_of p) s.row)) same h);
   job = λ f job row l n. cc;
   scope = λ f t i. cc;
 }
 
-sees_job_so : (p : Program) (k : ℕ) (told : List Told) (x : Config) → ((job row : ℕ) → LineIs p k x (line.Await job) → Names x job row → ToldClosed told (done_channel (base_of p) row)) → Sees p k told (at_stage SeesJob x)
+sees_job_so : (p : Program) (k : ℕ) (told : List Told) (x : Config)
+    → ((job row : ℕ) → LineIs p k x (line.Await job) → Names x job row → ToldClosed told (done_channel (base_of p) row))
+    → Sees p k told (at_stage SeesJob x)
 sees_job_so p k told x h = record {
   waits = λ v f job row l n. cc;
   leaves = λ v f s i. cc;
@@ -166,7 +185,9 @@ sees_job_so p k told x h = record {
   scope = λ f s i. cc;
 }
 
-sees_scope_so : (p : Program) (k : ℕ) (told : List Told) (x : Config) → ((s : InScope) → scope_in x.entered ≡ Some s → ToldClosed told (done_channel (base_of p) s.row)) → Sees p k told (at_stage SeesScope x)
+sees_scope_so : (p : Program) (k : ℕ) (told : List Told) (x : Config)
+    → ((s : InScope) → scope_in x.entered ≡ Some s → ToldClosed told (done_channel (base_of p) s.row))
+    → Sees p k told (at_stage SeesScope x)
 sees_scope_so p k told x h = record {
   waits = λ v f job row l n. cc;
   leaves = λ v f s i. cc;
@@ -180,7 +201,8 @@ same_name : (x : Config) (job row other : ℕ) → Names x job row → Names x j
 same_name x job row other a b = let both_ways : Some row ≡ Some other = sym a ∙ b in cc
 
 -- the call of an await
-await_waits : (p : Program) (k : ℕ) (x : Config) (i : Instruction) (group : List Told) (a : Answer) (w : WaitId) (job row : ℕ) → LineCalls p k x i group a → i ≡ line.Await job → a ≡ Waits w → Names x job row → AwaitsOn group w (done_channel (base_of p) row)
+await_waits : (p : Program) (k : ℕ) (x : Config) (i : Instruction) (group : List Told) (a : Answer) (w : WaitId) (job row : ℕ)
+    → LineCalls p k x i group a → i ≡ line.Await job → a ≡ Waits w → Names x job row → AwaitsOn group w (done_channel (base_of p) row)
 await_waits p k x _ _ _ w job row (LineCalls.send c o group a call) e f n = cc
 await_waits p k x _ _ _ w job row (LineCalls.receive c group a call) e f n = cc
 await_waits p k x _ _ _ w job row (LineCalls.each c group a call) e f n = cc
@@ -191,9 +213,12 @@ await_waits p k x _ _ _ w job row (LineCalls.join j r group a m call) e f n = cc
 await_waits p k x _ _ _ w job row (LineCalls.await j r group a m (StartsAndReceives.both starts told all b s call q)) e f n =
     let same : j ≡ job = (let both_ways : line.Await j ≡ line.Await job = e in cc) in
     let rows : r ≡ row = same_name x j r row m (ap (λ z. slice_get x.rows z) same ∙ n) in
-    subst (λ z. AwaitsOn all w (done_channel (base_of p) z)) rows (awaits_behind starts told all w (done_channel (base_of p) r) q (receive_waits (receives (done_channel (base_of p) r)) (done_channel (base_of p) r) told b w call refl f))
+    subst (λ z. AwaitsOn all w (done_channel (base_of p) z)) rows
+    (awaits_behind starts told all w (done_channel (base_of p) r) q
+    (receive_waits (receives (done_channel (base_of p) r)) (done_channel (base_of p) r) told b w call refl f))
 
-await_closed : (p : Program) (k : ℕ) (x : Config) (i : Instruction) (group : List Told) (a : Answer) (v job row : ℕ) → LineCalls p k x i group a → i ≡ line.Await job → a ≡ Closed v → Names x job row → ToldClosed group (done_channel (base_of p) row)
+await_closed : (p : Program) (k : ℕ) (x : Config) (i : Instruction) (group : List Told) (a : Answer) (v job row : ℕ)
+    → LineCalls p k x i group a → i ≡ line.Await job → a ≡ Closed v → Names x job row → ToldClosed group (done_channel (base_of p) row)
 await_closed p k x _ _ _ v job row (LineCalls.send c o group a call) e f n = cc
 await_closed p k x _ _ _ v job row (LineCalls.receive c group a call) e f n = cc
 await_closed p k x _ _ _ v job row (LineCalls.each c group a call) e f n = cc
@@ -204,7 +229,9 @@ await_closed p k x _ _ _ v job row (LineCalls.join j r group a m call) e f n = c
 await_closed p k x _ _ _ v job row (LineCalls.await j r group a m (StartsAndReceives.both starts told all b s call q)) e f n =
     let same : j ≡ job = (let both_ways : line.Await j ≡ line.Await job = e in cc) in
     let rows : r ≡ row = same_name x j r row m (ap (λ z. slice_get x.rows z) same ∙ n) in
-    subst (λ z. ToldClosed all (done_channel (base_of p) z)) rows (closed_behind starts told all (done_channel (base_of p) r) q (receive_closed (receives (done_channel (base_of p) r)) (done_channel (base_of p) r) told b v call refl f))
+    subst (λ z. ToldClosed all (done_channel (base_of p) z)) rows
+    (closed_behind starts told all (done_channel (base_of p) r) q
+    (receive_closed (receives (done_channel (base_of p) r)) (done_channel (base_of p) r) told b v call refl f))
 
 same_line : (p : Program) (k : ℕ) (x : Config) (i j : Instruction) → LineIs p k x i → LineIs p k x j → i ≡ j
 same_line p k x i j a b = let both_ways : Some i ≡ Some j = sym a ∙ b in cc
@@ -215,7 +242,8 @@ after_sees : (p : Program) (k : ℕ) (all : List Told) (x : Config) (i : Instruc
     → ((v job row : ℕ) → i ≡ line.Await job → a ≡ Closed v → Names x job row → ToldClosed all (done_channel (base_of p) row))
     → (a ≡ LooksAgain → x.stage ≡ Running)
     → After p k x i a y → Sees p k all y
-after_sees p k all x _ _ _ at w c r (After.waits i u) = waits_so p k all x u (λ job row l n. w u job row (same_line p k x i (line.Await job) at l) refl n)
+after_sees p k all x _ _ _ at w c r (After.waits i u) =
+    waits_so p k all x u (λ job row l n. w u job row (same_line p k x i (line.Await job) at l) refl n)
 after_sees p k all x _ _ y at w c r (After.no_place i) = asks_none p k all y (Unwinding (Some k)) refl refl
 after_sees p k all x _ _ y at w c r (After.sent d o) = asks_none p k all y Running refl refl
 after_sees p k all x _ _ y at w c r (After.tried_to_send d o) = asks_none p k all y Running refl refl
@@ -230,7 +258,8 @@ after_sees p k all x _ _ y at w c r (After.chose_got e v f) = asks_none p k all 
 after_sees p k all x _ _ y at w c r (After.chose_closed e v f) = asks_none p k all y Running refl refl
 after_sees p k all x _ _ _ at w c r After.looks_again = asks_none p k all x Running (r refl) refl
 after_sees p k all x _ _ y at w c r (After.joined job v) = asks_none p k all y Running refl refl
-after_sees p k all x _ _ _ at w c r (After.awaited job v) = sees_job_so p k all x (λ j row l n. c v j row (same_line p k x (line.Await job) (line.Await j) at l) refl n)
+after_sees p k all x _ _ _ at w c r (After.awaited job v) =
+    sees_job_so p k all x (λ j row l n. c v j row (same_line p k x (line.Await job) (line.Await j) at l) refl n)
 
 no_wait_then : {A : Type 0} (outcome : Settled) (a : Answer) (w : WaitId) → Resumed outcome a → a ≡ Waits w → A
 no_wait_then _ _ w (Resumed.value n v) e = cc
@@ -238,7 +267,8 @@ no_wait_then _ _ w (Resumed.sent n) e = cc
 no_wait_then _ _ w (Resumed.closed n v) e = cc
 
 -- a wait with this answer ended as closed
-closed_outcome : (outcome : Settled) (a : Answer) (v : ℕ) → Resumed outcome a → a ≡ Closed v → (n : ℕ) × ((u : ℕ) × (outcome ≡ settled.Closed n u))
+closed_outcome : (outcome : Settled) (a : Answer) (v : ℕ) → Resumed outcome a → a ≡ Closed v → (n : ℕ)
+    × ((u : ℕ) × (outcome ≡ settled.Closed n u))
 closed_outcome _ _ v (Resumed.value n u) e = cc
 closed_outcome _ _ v (Resumed.sent n) e = cc
 closed_outcome _ _ v (Resumed.closed n u) e = (n, (u, refl))
@@ -249,7 +279,8 @@ no_select _ _ (Resumed.sent n) e = cc
 no_select _ _ (Resumed.closed n v) e = cc
 
 -- after a wait, a select does not look again
-resumed_sees : (p : Program) (k : ℕ) (all : List Told) (x : Config) (i : Instruction) (outcome : Settled) (a : Answer) (y : Config) → LineIs p k x i → Resumed outcome a
+resumed_sees : (p : Program) (k : ℕ) (all : List Told) (x : Config) (i : Instruction) (outcome : Settled) (a : Answer) (y : Config)
+    → LineIs p k x i → Resumed outcome a
     → ((v job row : ℕ) → i ≡ line.Await job → a ≡ Closed v → Names x job row → ToldClosed all (done_channel (base_of p) row))
     → After p k x i a y → Sees p k all y
 resumed_sees p k all x i outcome a y at m c f =
@@ -260,26 +291,33 @@ after_await_sees p k all x _ y (AfterAwait.completed v) = asks_none p k all y Ru
 after_await_sees p k all x _ y AfterAwait.cancelled = asks_none p k all y (Unwinding None) refl refl
 after_await_sees p k all x _ y (AfterAwait.failed f) = asks_none p k all y (Unwinding (Some f)) refl refl
 
-after_scope_sees : (p : Program) (k : ℕ) (all : List Told) (x : Config) (s : InScope) (end : End) (y : Config) → AfterScope p k x s end y → Sees p k all y
+after_scope_sees : (p : Program) (k : ℕ) (all : List Told) (x : Config) (s : InScope) (end : End) (y : Config) → AfterScope p k x s end y
+    → Sees p k all y
 after_scope_sees p k all x s _ y (AfterScope.completed v e f) = asks_none p k all y Running refl refl
 after_scope_sees p k all x s _ y AfterScope.cancelled = asks_none p k all y (Unwinding None) refl refl
 after_scope_sees p k all x s _ y (AfterScope.failed f) = asks_none p k all y (Unwinding (Some f)) refl refl
 
 -- at the end of a scope
-scope_end_sees : (p : Program) (k : ℕ) (told first group all most : List Told) (x : Config) (s : InScope) (a : Answer) (y : Config) → scope_in x.entered ≡ Some s → all ≡ first ++ group → most ≡ told ++ all
+scope_end_sees : (p : Program) (k : ℕ) (told first group all most : List Told) (x : Config) (s : InScope) (a : Answer) (y : Config)
+    → scope_in x.entered ≡ Some s → all ≡ first ++ group → most ≡ told ++ all
     → PlainCall (receives (done_channel (base_of p) s.row)) group a → AtScopeEnd k x s a y → Sees p k most y
 scope_end_sees p k told first group all most x s _ _ e q r call (AtScopeEnd.waits w) =
-    leaves_so p k most x w s e (awaits_behind told all most w (done_channel (base_of p) s.row) r (awaits_behind first group all w (done_channel (base_of p) s.row) q (receive_waits _ (done_channel (base_of p) s.row) group (Waits w) w call refl refl)))
+    leaves_so p k most x w s e (awaits_behind told all most w (done_channel (base_of p) s.row) r
+    (awaits_behind first group all w (done_channel (base_of p) s.row) q
+    (receive_waits _ (done_channel (base_of p) s.row) group (Waits w) w call refl refl)))
 scope_end_sees p k told first group all most x s _ _ e q r call (AtScopeEnd.closed v) =
     sees_scope_so p k most x (λ t i.
     let same : s ≡ t = (let both_ways : Some s ≡ Some t = sym e ∙ i in cc) in
     subst (λ (z : InScope). ToldClosed most (done_channel (base_of p) z.row)) same
-    (closed_behind told all most (done_channel (base_of p) s.row) r (closed_behind first group all (done_channel (base_of p) s.row) q (receive_closed _ (done_channel (base_of p) s.row) group (Closed v) v call refl refl))))
+    (closed_behind told all most (done_channel (base_of p) s.row) r
+    (closed_behind first group all (done_channel (base_of p) s.row) q
+    (receive_closed _ (done_channel (base_of p) s.row) group (Closed v) v call refl refl))))
 scope_end_sees p k told first group all most x s _ y e q r call AtScopeEnd.no_place = asks_none p k most y (Unwinding (Some k)) refl refl
 
 -- ---- moves
 
-move_sees : (p : Program) (k : ℕ) (told : List Told) (x : Config) (group all : List Told) (y : Config) → all ≡ told ++ group → Sees p k told x → Move p k x group y → Sees p k all y
+move_sees : (p : Program) (k : ℕ) (told : List Told) (x : Config) (group all : List Told) (y : Config) → all ≡ told ++ group
+    → Sees p k told x → Move p k x group y → Sees p k all y
 move_sees p k told _ _ all y r h (Move.runs x s) = asks_none p k all y Running refl refl
 move_sees p k told _ _ all y r h (Move.never_runs x s) = asks_none p k all y (Unwinding None) refl refl
 move_sees p k told _ _ all _ r h (Move.calls x y i group a at c f) =
@@ -291,8 +329,10 @@ move_sees p k told _ _ all _ r h (Move.resumes x y w i outcome a s at m f) =
     resumed_sees p k all x i outcome a y at m
     (λ v job row e q n.
     let o = closed_outcome outcome a v m q in
-    let is : all ≡ told ++ (on_jobs (MayRun (innermost k x)) ∷ [] ++ made (Settle w (settled.Closed o.0 o.1.0)) ∷ []) = r ∙ ap (λ z. told ++ (on_jobs (MayRun (innermost k x)) ∷ made (Settle w z) ∷ [])) o.1.1 in
-    ends_closed told (on_jobs (MayRun (innermost k x)) ∷ []) all w (done_channel (base_of p) row) o.0 o.1.0 is (h.waits w s job row (at ∙ ap (λ l. Some l) e) n)) f
+    let is : all ≡ told ++ (on_jobs (MayRun (innermost k x)) ∷ [] ++ made (Settle w (settled.Closed o.0 o.1.0)) ∷ []) = r
+    ∙ ap (λ z. told ++ (on_jobs (MayRun (innermost k x)) ∷ made (Settle w z) ∷ [])) o.1.1 in
+    ends_closed told (on_jobs (MayRun (innermost k x)) ∷ []) all w (done_channel (base_of p) row) o.0 o.1.0 is
+    (h.waits w s job row (at ∙ ap (λ l. Some l) e) n)) f
 move_sees p k told _ _ all y r h (Move.cancelled x w s) = asks_none p k all y (Unwinding None) refl refl
 move_sees p k told _ _ all y r h (Move.gives_up x w group s g) = asks_none p k all y (Unwinding None) refl refl
 move_sees p k told _ _ all _ r h (Move.sees_job x y job row end s at n f) = after_await_sees p k all x end y f
@@ -313,15 +353,18 @@ move_sees p k told _ _ all y r h (Move.repeats x n at) = asks_none p k all y Run
 move_sees p k told _ _ all y r h (Move.turns_again x head n es at e) = asks_none p k all y Running refl refl
 move_sees p k told _ _ all y r h (Move.turns_no_more x head es at e) = asks_none p k all y Running refl refl
 move_sees p k told _ _ all y r h (Move.receives_again x head es at e) = asks_none p k all y Running refl refl
-move_sees p k told _ _ all _ r h (Move.ends_scope x y s end group told_there a at e b c f j) = scope_end_sees p k told end group told_there all x s a y (ap scope_in e) j r c f
+move_sees p k told _ _ all _ r h (Move.ends_scope x y s end group told_there a at e b c f j) =
+    scope_end_sees p k told end group told_there all x s a y (ap scope_in e) j r c f
 move_sees p k told _ _ all _ r h (Move.scope_ended x w n v s) =
     sees_scope_so p k all x (λ t i. ends_closed told [] all w (done_channel (base_of p) t.row) n v r (h.leaves w s t i))
 move_sees p k told _ _ all _ r h (Move.sees_scope x y s end t e f) = after_scope_sees p k all x s end y f
-move_sees p k told _ _ all _ r h (Move.breaks_scope x y s failure break group told_there a t e b c f j) = scope_end_sees p k told break group told_there all x s a y e j r c f
+move_sees p k told _ _ all _ r h (Move.breaks_scope x y s failure break group told_there a t e b c f j) =
+    scope_end_sees p k told break group told_there all x s a y e j r c f
 move_sees p k told _ _ all y r h (Move.breaks x failure group t e b) = asks_none p k all y Ended refl refl
 move_sees p k told _ _ all y r h (Move.ends x group t e b) = asks_none p k all y Ended refl refl
 
-spawns_see : (p : Program) (told : List Told) (blocks : List ℕ) (x : Config) (group : List Told) (y : Config) → x.stage ≡ Fresh → Spawns p blocks x group y → Sees p 0 told y
+spawns_see : (p : Program) (told : List Told) (blocks : List ℕ) (x : Config) (group : List Told) (y : Config) → x.stage ≡ Fresh
+    → Spawns p blocks x group y → Sees p 0 told y
 spawns_see p told _ _ _ _ s (Spawns.done x) = asks_none p 0 told x Fresh s refl
 spawns_see p told _ _ _ _ s (Spawns.attaches block blocks x y now more f) = spawns_see p told blocks (past_launch p block None x) more y s f
 spawns_see p told _ _ _ y s (Spawns.refused block blocks x group g) = asks_none p 0 told y (Unwinding (Some 0)) refl refl
@@ -336,7 +379,8 @@ reach_sees p k _ _ (Reaches.goes_on before group all x y r m e) = move_sees p k 
 
 -- ---- what was so
 
-told_then : (s : Story) (items : List Item) (earlier : Moment) (before : List Told) (t : Told) (behind : List Told) → IsTrue s items earlier (before ++ t ∷ behind) → (at : Moment) × ((i : List Item) × ((e : Moment) × IsSo s i e t at))
+told_then : (s : Story) (items : List Item) (earlier : Moment) (before : List Told) (t : Told) (behind : List Told)
+    → IsTrue s items earlier (before ++ t ∷ behind) → (at : Moment) × ((i : List Item) × ((e : Moment) × IsSo s i e t at))
 unfolding IsTrue
 told_then s items earlier [] t behind h = (h.0, (items, (earlier, h.1)))
 told_then s items earlier (x ∷ before) t behind h = told_then s (with_told x items) h.0 before t behind h.2
@@ -348,19 +392,31 @@ act_first : (a : Act) (more : List Told) → channel_acts_in (items_in (made a �
 unfolding items_in
 act_first a more = refl
 
-told_closed : (p : Program) (k : ℕ) (now : Moment) (told : List Told) (c : ℕ) → Legal (floor_shape p) now.channels → acts_of k now.channels ≡ channel_acts_in (items_in told) → IsTrue (story p k now) [] beginning told → ToldClosed told c → is_some ((replay now.channels).channels c).closed ≡ true
+told_closed : (p : Program) (k : ℕ) (now : Moment) (told : List Told) (c : ℕ) → Legal (floor_shape p) now.channels
+    → acts_of k now.channels ≡ channel_acts_in (items_in told) → IsTrue (story p k now) [] beginning told → ToldClosed told c
+    → is_some ((replay now.channels).channels c).closed ≡ true
 told_closed p k now told c l acts true_so (ToldClosed.met before u behind e) =
-    let so = told_then (story p k now) [] beginning before (heard (ReceiveClosed c u)) behind (subst (IsTrue (story p k now) [] beginning) e true_so) in
-    ap is_some (channel_lasts (floor_shape p) (λ d ch. ch.closed ≡ Some u) (closed_keeps (floor_shape p) u) c so.0.channels now.channels so.1.1.1.not_after.channels l so.1.1.1.holds.is_closed)
+    let so = told_then (story p k now) [] beginning before (heard (ReceiveClosed c u)) behind
+    (subst (IsTrue (story p k now) [] beginning) e true_so) in
+    ap is_some (channel_lasts (floor_shape p) (λ d ch. ch.closed ≡ Some u) (closed_keeps (floor_shape p) u) c so.0.channels now.channels
+    so.1.1.1.not_after.channels l so.1.1.1.holds.is_closed)
 told_closed p k now told c l acts true_so (ToldClosed.ended before place between n v behind e) =
     let w : WaitId = wait_at c place in
-    closed_by_wait (floor_shape p) now.channels k c place n v (channel_acts_in (items_in before)) (channel_acts_in (items_in between)) (channel_acts_in (items_in behind)) l
+    closed_by_wait (floor_shape p) now.channels k c place n v (channel_acts_in (items_in before)) (channel_acts_in (items_in between))
+    (channel_acts_in (items_in behind)) l
     (acts ∙ ap (λ t. channel_acts_in (items_in t)) e ∙ acts_then before _
-    ∙ ap (λ t. channel_acts_in (items_in before) ++ t) (act_first (Await c place w 0) (between ++ made (Settle w (settled.Closed n v)) ∷ behind)
-    ∙ ap (λ t. Await c place w 0 ∷ t) (acts_then between _ ∙ ap (λ t. channel_acts_in (items_in between) ++ t) (act_first (Settle w (settled.Closed n v)) behind))))
+    ∙ ap (λ t. channel_acts_in (items_in before) ++ t) (act_first (Await c place w 0) (between
+    ++ made (Settle w (settled.Closed n v)) ∷ behind)
+    ∙ ap (λ t. Await c place w 0 ∷ t) (acts_then between _
+    ∙ ap (λ t. channel_acts_in (items_in between) ++ t) (act_first (Settle w (settled.Closed n v)) behind))))
 
 -- the done channel of the Job whose end it has to see is closed
-pub seen_closed : (p : Program) (k : ℕ) (now : Moment) (book : List Item) (x : Config) (row : ℕ) → Legal (floor_shape p) now.channels → acts_of k now.channels ≡ channel_acts_in book → Runs p k now book x → HasToSee p k x row
+pub seen_closed : (p : Program) (k : ℕ) (now : Moment) (book : List Item) (x : Config) (row : ℕ) → Legal (floor_shape p) now.channels
+    → acts_of k now.channels ≡ channel_acts_in book → Runs p k now book x → HasToSee p k x row
     → is_some ((replay now.channels).channels (done_channel (base_of p) row)).closed ≡ true
-seen_closed p k now book _ _ l acts runs (HasToSee.job job row s at n) = told_closed p k now runs.told _ l (acts ∙ ap channel_acts_in (sym runs.written)) runs.is_true ((reach_sees p k runs.told _ runs.reaches).job s job row at n)
-seen_closed p k now book _ _ l acts runs (HasToSee.scope s at e) = told_closed p k now runs.told _ l (acts ∙ ap channel_acts_in (sym runs.written)) runs.is_true ((reach_sees p k runs.told _ runs.reaches).scope at s e)
+seen_closed p k now book _ _ l acts runs (HasToSee.job job row s at n) =
+    told_closed p k now runs.told _ l (acts ∙ ap channel_acts_in (sym runs.written)) runs.is_true
+    ((reach_sees p k runs.told _ runs.reaches).job s job row at n)
+seen_closed p k now book _ _ l acts runs (HasToSee.scope s at e) =
+    told_closed p k now runs.told _ l (acts ∙ ap channel_acts_in (sym runs.written)) runs.is_true
+    ((reach_sees p k runs.told _ runs.reaches).scope at s e)

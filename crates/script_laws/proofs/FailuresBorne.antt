@@ -101,32 +101,38 @@ below_mild r k t (a ∷ acts) h = (one a h.0, below_mild r k t acts h.1)
     one : (b : JobAct) → IsFor IsParent b → RaisesFailure r k b → TakesFailure r a t
     one (Cancel q reason) h x = by_reason q reason h x
     one (Attach p q kind tag c) h x = absurd h
-    one (Start q) h x = absurd h
-    one (EndBody q v) h x = absurd h
-    one (Finish q end) h x = absurd h
-    one (Gone q) h x = absurd h
+    one other h x = absurd h
 
-own_mild : (r k row : ℕ) (reason : Reason) (newly : Bool) → (newly ≡ true → RaisesByReason r k row reason → ⊥) → (t : Told) (below : List JobAct) → AreFor IsParent below → AllTakenBy (RaisesFailure r k) (TakesFailure r) t (own_cancel newly row reason ++ below)
+own_mild : (r k row : ℕ) (reason : Reason) (newly : Bool) → (newly ≡ true → RaisesByReason r k row reason → ⊥)
+    → (t : Told) (below : List JobAct) → AreFor IsParent below
+    → AllTakenBy (RaisesFailure r k) (TakesFailure r) t (own_cancel newly row reason ++ below)
 unfolding AllTakenBy
 own_mild r k row reason true n t below h = (λ x. absurd (n refl x), below_mild r k t below h)
 own_mild r k row reason false n t below h = below_mild r k t below h
 
-mild_reason : (r k row : ℕ) (reason : Reason) (newly : Bool) → IsMild k row reason newly → newly ≡ true → RaisesByReason r k row reason → row ≢ k ⊎ (reason ≡ reasons.Request)
+mild_reason : (r k row : ℕ) (reason : Reason) (newly : Bool) → IsMild k row reason newly → newly ≡ true → RaisesByReason r k row reason
+    → row ≢ k ⊎ (reason ≡ reasons.Request)
 mild_reason r k row reason newly (IsMild.had_been e) t x = absurd (contrary newly t e)
 mild_reason r k row reason newly (IsMild.asked e) t x = inr e
 mild_reason r k row reason newly (IsMild.of_scope n) t x = inl n
 
 -- the own reason of a pass is Request, or Own
-not_raised : (r k row : ℕ) (reason : Reason) (newly : Bool) → IsMild k row reason newly → IsOwnReason reason → newly ≡ true → RaisesByReason r k row reason → ⊥
+not_raised : (r k row : ℕ) (reason : Reason) (newly : Bool) → IsMild k row reason newly → IsOwnReason reason → newly ≡ true
+    → RaisesByReason r k row reason → ⊥
 not_raised r k row reasons.Request newly m o t x = x
 not_raised r k row reasons.Parent newly m o t x = x
 not_raised r k row (reasons.Child c) newly m o t x = o
-not_raised r k row (reasons.Own f) newly m o t x = ⊎_elim (λ (n : row ≢ k). n (x.0 ∙ x.1)) (λ (e : reasons.Own f ≡ reasons.Request). cc) (mild_reason r k row (reasons.Own f) newly m t x)
+not_raised r k row (reasons.Own f) newly m o t x = ⊎_elim (λ (n : row ≢ k). n (x.0 ∙ x.1)) (λ (e : reasons.Own f ≡ reasons.Request). cc)
+    (mild_reason r k row (reasons.Own f) newly m t x)
 
-up_takes : (r k : ℕ) (t : Told) (acts : List JobAct) → (Exists (IsChildCancelOf r) acts → (a : JobAct) → TakesFailure r a t) → AreFor IsUp acts → AllTakenBy (RaisesFailure r k) (TakesFailure r) t acts
+up_takes : (r k : ℕ) (t : Told) (acts : List JobAct) → (Exists (IsChildCancelOf r) acts → (a : JobAct) → TakesFailure r a t)
+    → AreFor IsUp acts → AllTakenBy (RaisesFailure r k) (TakesFailure r) t acts
 unfolding AreFor AllTakenBy
 up_takes r k t [] all h = tt
-up_takes r k t (a ∷ acts) all h = (λ x. all (exists_first (IsChildCancelOf r) a acts (one a h.0 x)) a, up_takes r k t acts (λ x b. all (exists_later (IsChildCancelOf r) a acts x) b) h.1)
+up_takes r k t (a ∷ acts) all h = (
+  λ x. all (exists_first (IsChildCancelOf r) a acts (one a h.0 x)) a,
+  up_takes r k t acts (λ x b. all (exists_later (IsChildCancelOf r) a acts x) b) h.1,
+)
   where
     by_reason : (q : ℕ) (reason : Reason) → IsUp reason → RaisesByReason r k q reason → (q ≡ r) × IsChild reason
     by_reason q reasons.Request h x = absurd x
@@ -137,35 +143,55 @@ up_takes r k t (a ∷ acts) all h = (λ x. all (exists_first (IsChildCancelOf r)
     one : (b : JobAct) → IsFor IsUp b → RaisesFailure r k b → IsChildCancelOf r b
     one (Cancel q reason) h x = by_reason q reason h x
     one (Attach p q kind tag c) h x = absurd h
-    one (Start q) h x = absurd h
-    one (EndBody q v) h x = absurd h
-    one (Finish q end) h x = absurd h
-    one (Gone q) h x = absurd h
+    one other h x = absurd h
 
 chain_calm : (p : Program) (k r q row : ℕ) (g : List Told) → Chain (base_of p) row g → FailurePaid k r q g
 unfolding AllPaid
 chain_calm p k r q _ _ (Chain.stops row) = (tt, tt)
-chain_calm p k r q _ _ (Chain.root end closes c) = (λ x. absurd x, paid_quiet k (owes_failure r q) (RaisesFailure r k) (TakesFailure r) closes (quiet_closes _ _ closes c))
-chain_calm p k r q row g (Chain.goes_up _ parent end closes rest _ n c up e) = subst (FailurePaid k r q) (sym e) (λ x. absurd x, paid_then k (owes_failure r q) (RaisesFailure r k) (TakesFailure r) closes _ (paid_quiet k (owes_failure r q) (RaisesFailure r k) (TakesFailure r) closes (quiet_closes _ _ closes c)) (λ x. absurd x, (tt, chain_calm p k r q parent rest up)))
+chain_calm p k r q _ _ (Chain.root end closes c) = (
+  λ x. absurd x,
+  paid_quiet k (owes_failure r q) (RaisesFailure r k) (TakesFailure r) closes (quiet_closes _ _ closes c),
+)
+chain_calm p k r q row g (Chain.goes_up _ parent end closes rest _ n c up e) =
+    subst (FailurePaid k r q) (sym e) (
+      λ x. absurd x,
+      paid_then k (owes_failure r q) (RaisesFailure r k) (TakesFailure r) closes _
+          (paid_quiet k (owes_failure r q) (RaisesFailure r k) (TakesFailure r) closes (quiet_closes _ _ closes c))
+          (λ x. absurd x, (tt, chain_calm p k r q parent rest up)),
+    )
 
-failure_pieces : (p : Program) (jobs : List JobEntry) (r q k : ℕ) (g : List Told) → AllKnown (parents_in jobs) g → JobPiece p k g → FailurePaid k r q g
+failure_pieces : (p : Program) (jobs : List JobEntry) (r q k : ℕ) (g : List Told) → AllKnown (parents_in jobs) g → JobPiece p k g
+    → FailurePaid k r q g
 unfolding AllPaid AllKnown
 failure_pieces p jobs r q k _ h (JobPiece.quiet g s) = paid_quiet k (owes_failure r q) (RaisesFailure r k) (TakesFailure r) g s
 failure_pieces p jobs r q k _ h (JobPiece.attaches parent row kind tag now) = (λ x. absurd x, tt)
 failure_pieces p jobs r q k _ h (JobPiece.starts row) = (λ x. absurd x, tt)
 failure_pieces p jobs r q k g h (JobPiece.passes row reason newly _ m o t) =
-    let known = known_right (parents_in jobs) (map did (own_cancel newly row reason ++ t.below)) (on_jobs (PassedBelow row t.below) ∷ []) (subst (AllKnown (parents_in jobs)) t.all h) in
-    subst (FailurePaid k r q) (sym t.all) (paid_by_last k (owes_failure r q) (RaisesFailure r k) (TakesFailure r) (on_jobs (PassedBelow row t.below)) (own_cancel newly row reason ++ t.below) refl (own_mild r k row reason newly (not_raised r k row reason newly m o) (on_jobs (PassedBelow row t.below)) t.below known.0.1))
+    let known = known_right (parents_in jobs) (map did (own_cancel newly row reason ++ t.below)) (on_jobs (PassedBelow row t.below) ∷ [])
+    (subst (AllKnown (parents_in jobs)) t.all h) in
+    subst (FailurePaid k r q) (sym t.all) (paid_by_last k (owes_failure r q) (RaisesFailure r k) (TakesFailure r)
+    (on_jobs (PassedBelow row t.below)) (own_cancel newly row reason
+    ++ t.below) refl (own_mild r k row reason newly (not_raised r k row reason newly m o) (on_jobs (PassedBelow row t.below)) t.below
+    known.0.1))
 failure_pieces p jobs r q k g h (JobPiece.fails f up pass _ t e) =
     let all = subst (AllKnown (parents_in jobs)) e h in
-    let first = known_right (parents_in jobs) (map did (own_cancel true k (reasons.Own f) ++ t.below)) (on_jobs (PassedBelow k t.below) ∷ []) (subst (AllKnown (parents_in jobs)) t.all (known_left (parents_in jobs) pass _ all)) in
+    let first = known_right (parents_in jobs) (map did (own_cancel true k (reasons.Own f) ++ t.below))
+    (on_jobs (PassedBelow k t.below) ∷ []) (subst (AllKnown (parents_in jobs)) t.all (known_left (parents_in jobs) pass _ all)) in
     let second = known_right (parents_in jobs) (map did up) (on_jobs (FailedUp k up) ∷ []) (known_right (parents_in jobs) pass _ all) in
-    let rest : FailurePaid k r q (map did up ++ on_jobs (FailedUp k up) ∷ []) = paid_by_last k (owes_failure r q) (RaisesFailure r k) (TakesFailure r) (on_jobs (FailedUp k up)) up refl (up_takes r k (on_jobs (FailedUp k up)) up (λ x a. inr x) second.0.1) in
-    let below : FailurePaid k r q (map did t.below ++ on_jobs (PassedBelow k t.below) ∷ []) = paid_by_last k (owes_failure r q) (RaisesFailure r k) (TakesFailure r) (on_jobs (PassedBelow k t.below)) t.below refl (below_mild r k (on_jobs (PassedBelow k t.below)) t.below first.0.1) in
-    let shape : g ≡ did (Cancel k (reasons.Own f)) ∷ ((map did t.below ++ on_jobs (PassedBelow k t.below) ∷ []) ++ (map did up ++ on_jobs (FailedUp k up) ∷ [])) = e ∙ ap (λ l. l ++ (map did up ++ on_jobs (FailedUp k up) ∷ [])) t.all in
+    let rest : FailurePaid k r q (map did up ++ on_jobs (FailedUp k up) ∷ []) =
+    paid_by_last k (owes_failure r q) (RaisesFailure r k) (TakesFailure r) (on_jobs (FailedUp k up)) up refl
+    (up_takes r k (on_jobs (FailedUp k up)) up (λ x a. inr x) second.0.1) in
+    let below : FailurePaid k r q (map did t.below ++ on_jobs (PassedBelow k t.below) ∷ []) =
+    paid_by_last k (owes_failure r q) (RaisesFailure r k) (TakesFailure r) (on_jobs (PassedBelow k t.below)) t.below refl
+    (below_mild r k (on_jobs (PassedBelow k t.below)) t.below first.0.1) in
+    let shape : g ≡ did (Cancel k (reasons.Own f)) ∷ ((map did t.below ++ on_jobs (PassedBelow k t.below) ∷ [])
+    ++ (map did up ++ on_jobs (FailedUp k up) ∷ [])) = e ∙ ap (λ l. l ++ (map did up ++ on_jobs (FailedUp k up) ∷ [])) t.all in
     subst (FailurePaid k r q) (sym shape) (
-      λ (x : (k ≡ r) × (r ≡ k)). exists_right (TakesFailure r (Cancel k (reasons.Own f))) (map did t.below ++ on_jobs (PassedBelow k t.below) ∷ []) _ (exists_right (TakesFailure r (Cancel k (reasons.Own f))) (map did up) _ (exists_first (TakesFailure r (Cancel k (reasons.Own f))) (on_jobs (FailedUp k up)) [] (inl x.0))),
-      paid_then k (owes_failure r q) (RaisesFailure r k) (TakesFailure r) (map did t.below ++ on_jobs (PassedBelow k t.below) ∷ []) _ below rest,
+      λ (x : (k ≡ r) × (r ≡ k)). exists_right (TakesFailure r (Cancel k (reasons.Own f))) (map did t.below
+          ++ on_jobs (PassedBelow k t.below) ∷ []) _ (exists_right (TakesFailure r (Cancel k (reasons.Own f))) (map did up) _
+          (exists_first (TakesFailure r (Cancel k (reasons.Own f))) (on_jobs (FailedUp k up)) [] (inl x.0))),
+      paid_then k (owes_failure r q) (RaisesFailure r k) (TakesFailure r) (map did t.below
+          ++ on_jobs (PassedBelow k t.below) ∷ []) _ below rest,
     )
 failure_pieces p jobs r q k _ h (JobPiece.ends_body row v chain t) = (λ x. absurd x, chain_calm p k r q row chain t)
 
@@ -233,7 +259,8 @@ alive_bears : (o : Option Job) → IsCancellingOrEnded o → (IsEnded o → ⊥)
 alive_bears None c n = absurd c
 alive_bears (Some j) c n = at j.kind.supervisor j.state c n
   where
-    at : (b : Bool) (s : JobState) → is_cancellable s ≡ false → (is_ended s ≡ true → ⊥) → ((b || is_cancelled s) ≡ true) × (is_ended s ≡ false)
+    at : (b : Bool) (s : JobState) → is_cancellable s ≡ false → (is_ended s ≡ true → ⊥) → ((b || is_cancelled s) ≡ true)
+        × (is_ended s ≡ false)
     at b New c n = cc
     at b Active c n = cc
     at b Completing c n = cc
@@ -252,32 +279,45 @@ same_parent o p q a b = let e : Some p ≡ Some q = sym a ∙ b in cc
 no_child_below : (tree : Tree) (row r : ℕ) (acts : List JobAct) → AreCancelsBelow tree row acts → Exists (IsChildCancelOf r) acts → ⊥
 unfolding Exists
 no_child_below tree row r [] h x = x
-no_child_below tree row r (a ∷ acts) h x = ⊎_elim (λ (y : IsChildCancelOf r a). one a h.0 y) (λ (y : Exists (IsChildCancelOf r) acts). no_child_below tree row r acts h.1 y) x
+no_child_below tree row r (a ∷ acts) h x = ⊎_elim (λ (y : IsChildCancelOf r a). one a h.0 y)
+    (λ (y : Exists (IsChildCancelOf r) acts). no_child_below tree row r acts h.1 y) x
   where
     one : (b : JobAct) → IsCancelBelow tree row b → IsChildCancelOf r b → ⊥
     one (Cancel q reason) h y = subst IsChild h.0 y.1
     one (Attach p q kind tag c) h y = h
-    one (Start q) h y = h
-    one (EndBody q v) h y = h
-    one (Finish q end) h y = h
-    one (Gone q) h y = h
+    one other h y = h
 
 -- where a failure goes up from a Job that has not ended, all to which it comes bear it
-up_bears : (tree : Tree) → HasFamilies tree → (parent_of (tree 0) ≡ None) → (r q row : ℕ) (acts : List JobAct) → FailsUp tree row acts → IsAlive (tree row) → (row ≡ r) ⊎ Exists (IsChildCancelOf r) acts → owes_failure r q tree ≡ false
+up_bears : (tree : Tree) → HasFamilies tree → (parent_of (tree 0) ≡ None) → (r q row : ℕ) (acts : List JobAct) → FailsUp tree row acts
+    → IsAlive (tree row) → (row ≡ r) ⊎ Exists (IsChildCancelOf r) acts → owes_failure r q tree ≡ false
 unfolding Exists
-up_bears tree fam top r q _ _ (FailsUp.ends row s) alive c = ⊎_elim (λ (i : row ≡ r). subst (λ u. owes_failure u q tree ≡ false) i (by_end row s)) (λ (x : Exists (IsChildCancelOf r) []). absurd x) c
+up_bears tree fam top r q _ _ (FailsUp.ends row s) alive c =
+    ⊎_elim (λ (i : row ≡ r). subst (λ u. owes_failure u q tree ≡ false) i (by_end row s)) (λ (x : Exists (IsChildCancelOf r) []). absurd x)
+    c
   where
     by_end : (u : ℕ) → StaysBelow tree u → owes_failure u q tree ≡ false
     by_end _ StaysBelow.root = no_debt tree 0 q (λ f. let e : None ≡ Some q = sym top ∙ failed_parent q (tree 0) f in cc)
     by_end _ (StaysBelow.scope u s) = no_debt tree u q (λ f. absurd (failed_plain q (tree u) f s))
-    by_end _ (StaysBelow.supervised u p e s) = no_debt tree u q (λ f. subst (λ n. bears (tree n) ≡ true) (same_parent (parent_of (tree u)) p q e (failed_parent q (tree u) f)) (supervisor_bears (tree p) s))
+    by_end _ (StaysBelow.supervised u p e s) = no_debt tree u q
+        (λ f. subst (λ n. bears (tree n) ≡ true) (same_parent (parent_of (tree u)) p q e (failed_parent q (tree u) f))
+        (supervisor_bears (tree p) s))
 up_bears tree fam top r q _ _ (FailsUp.stops row p acts g a b) alive c =
     let up = alive_bears (tree p) a.here (λ e. alive_ended (tree row) alive (child_ended tree p row fam e g.parent)) in
-    ⊎_elim (λ (i : row ≡ r). subst (λ u. owes_failure u q tree ≡ false) i (no_debt tree row q (λ f. subst (λ n. bears (tree n) ≡ true) (same_parent (parent_of (tree row)) p q g.parent (failed_parent q (tree row) f)) up.0))) (λ (x : Exists (IsChildCancelOf r) acts). absurd (no_child_below tree p r acts b x)) c
+    ⊎_elim (λ (i : row ≡ r). subst (λ u. owes_failure u q tree ≡ false) i
+    (no_debt tree row q (λ f. subst (λ n. bears (tree n) ≡ true)
+    (same_parent (parent_of (tree row)) p q g.parent (failed_parent q (tree row) f)) up.0)))
+    (λ (x : Exists (IsChildCancelOf r) acts). absurd (no_child_below tree p r acts b x)) c
 up_bears tree fam top r q row acts (FailsUp.goes_on _ p these later _ g a b f e) alive c =
     let up = alive_bears (tree p) a.here (λ n. alive_ended (tree row) alive (child_ended tree p row fam n g.parent)) in
-    ⊎_elim (λ (i : row ≡ r). subst (λ u. owes_failure u q tree ≡ false) i (no_debt tree row q (λ h. subst (λ n. bears (tree n) ≡ true) (same_parent (parent_of (tree row)) p q g.parent (failed_parent q (tree row) h)) up.0)))
-    (λ (x : Exists (IsChildCancelOf r) acts). ⊎_elim (λ (i : (p ≡ r) × IsChild (reasons.Child row)). up_bears tree fam top r q p later f up.1 (inl i.0)) (λ (z : Exists (IsChildCancelOf r) (these ++ later)). ⊎_elim (λ (u : Exists (IsChildCancelOf r) these). absurd (no_child_below tree p r these b u)) (λ (u : Exists (IsChildCancelOf r) later). up_bears tree fam top r q p later f up.1 (inr u)) (exists_parts (IsChildCancelOf r) these later z)) (subst (Exists (IsChildCancelOf r)) e x)) c
+    ⊎_elim (λ (i : row ≡ r). subst (λ u. owes_failure u q tree ≡ false) i
+    (no_debt tree row q (λ h. subst (λ n. bears (tree n) ≡ true)
+    (same_parent (parent_of (tree row)) p q g.parent (failed_parent q (tree row) h)) up.0)))
+    (λ (x : Exists (IsChildCancelOf r) acts). ⊎_elim (λ (i : (p ≡ r)
+    × IsChild (reasons.Child row)). up_bears tree fam top r q p later f up.1 (inl i.0))
+    (λ (z : Exists (IsChildCancelOf r) (these ++ later)). ⊎_elim
+    (λ (u : Exists (IsChildCancelOf r) these). absurd (no_child_below tree p r these b u))
+    (λ (u : Exists (IsChildCancelOf r) later). up_bears tree fam top r q p later f up.1 (inr u))
+    (exists_parts (IsChildCancelOf r) these later z)) (subst (Exists (IsChildCancelOf r)) e x)) c
 
 -- the root has no parent, for good
 abbrev pub IsTop : Option Job → Type 0
@@ -285,7 +325,16 @@ IsTop None = ⊥
 IsTop (Some j) = j.parent ≡ None
 
 top_lasts : Lasts IsTop
-top_lasts = record { child = λ r j n h. h; start = λ j n h. h; body = λ v j h. h; cancel = λ c j n h. h; finish = λ w e j m h. h; told = λ c j h. h; attached = λ h x. absurd h }
+top_lasts = record {
+  child = λ r j n h. h;
+  start = λ j n h. h;
+  body = λ v j h. h;
+  cancel = λ c j n h. h;
+  finish = λ w e j m h. h;
+  told =
+      λ c j h. h;
+  attached = λ h x. absurd h;
+}
 
 top_parent : (o : Option Job) → IsTop o → parent_of o ≡ None
 top_parent None h = absurd h
@@ -294,11 +343,14 @@ top_parent (Some j) h = h
 no_parent : (shape : _) (history : List JobEntry) → Legal shape history → parent_of (replay history 0) ≡ None
 no_parent shape history l = top_parent (replay history 0) (history_keeps IsTop top_lasts shape start history 0 l refl)
 
-failure_by_fact : (shape : _) (r q : ℕ) (at : List JobEntry) → Legal shape at → (fact : JobFact) → JobHolds (on_jobs fact) at → TakenUp r fact → owes_failure r q (replay at) ≡ false
-failure_by_fact shape r q at l (FailedUp row acts) h c = up_bears (replay at) (replay_families shape at l) (no_parent shape at l) r q row acts h.0 h.1 c
+failure_by_fact : (shape : _) (r q : ℕ) (at : List JobEntry) → Legal shape at → (fact : JobFact) → JobHolds (on_jobs fact) at
+    → TakenUp r fact → owes_failure r q (replay at) ≡ false
+failure_by_fact shape r q at l (FailedUp row acts) h c =
+    up_bears (replay at) (replay_families shape at l) (no_parent shape at l) r q row acts h.0 h.1 c
 failure_by_fact shape r q at l other h c = absurd c
 
-failure_by_told : (shape : _) (r q : ℕ) (a : JobAct) (t : Told) (at : List JobEntry) → Legal shape at → JobHolds t at → TakesFailure r a t → owes_failure r q (replay at) ≡ false
+failure_by_told : (shape : _) (r q : ℕ) (a : JobAct) (t : Told) (at : List JobEntry) → Legal shape at → JobHolds t at → TakesFailure r a t
+    → owes_failure r q (replay at) ≡ false
 failure_by_told shape r q a (note i) at l h t = absurd t
 failure_by_told shape r q a (on_channels fact) at l h t = absurd t
 failure_by_told shape r q a (on_jobs fact) at l h t = failure_by_fact shape r q at l fact h t
@@ -319,20 +371,18 @@ no_scope : (A B : Type 0) (b : Bool) → MatchBool b A B → b ≡ false → B
 no_scope A B true m e = cc
 no_scope A B false m e = m
 
-tag_step : (shape : _) (tree : Tree) (who r : ℕ) (act : JobAct) (x y : Option Job) → RowStep shape tree who r act x y → TagFits r x → TagFits r y
+tag_step : (shape : _) (tree : Tree) (who r : ℕ) (act : JobAct) (x y : Option Job) → RowStep shape tree who r act x y → TagFits r x
+    → TagFits r y
 tag_step shape tree who r _ _ _ (RowStep.is_attached p kind tag cancelled m i) h = λ e. no_scope _ _ kind.scoped i e
 tag_step shape tree who r _ _ _ (RowStep.has_child c kind tag cancelled j none m) h = h
-tag_step shape tree who r _ _ _ (RowStep.is_started j n) h = h
-tag_step shape tree who r _ _ _ (RowStep.body_ends v j m) h = h
-tag_step shape tree who r _ _ _ (RowStep.is_cancelled reason j m o) h = h
-tag_step shape tree who r _ _ _ (RowStep.ends end j m) h = h
-tag_step shape tree who r _ _ _ (RowStep.is_told c j m p) h = h
-tag_step shape tree who r _ _ _ (RowStep.stays act x a b c d e) h = h
+tag_step shape tree who r _ _ _ other h = h
 
-tags_from : (shape : _) (tree : Tree) (es : List JobEntry) (r : ℕ) → LegalFrom shape tree es → TagFits r (tree r) → TagFits r (replay_from tree es r)
+tags_from : (shape : _) (tree : Tree) (es : List JobEntry) (r : ℕ) → LegalFrom shape tree es → TagFits r (tree r)
+    → TagFits r (replay_from tree es r)
 unfolding LegalFrom replay_from
 tags_from shape tree [] r l h = h
-tags_from shape tree (e ∷ es) r l h = tags_from shape (after tree e.who e.act) es r l.1 (tag_step shape tree e.who r e.act _ _ (row_step shape tree e.who e.act r l.0) h)
+tags_from shape tree (e ∷ es) r l h = tags_from shape (after tree e.who e.act) es r l.1
+    (tag_step shape tree e.who r e.act _ _ (row_step shape tree e.who e.act r l.0) h)
 
 first_tag : (r : ℕ) (b : Bool) → (r == 0) ≡ b → TagFits r (if b then Some root else None)
 first_tag r true q = λ e. eqb-true r 0 q
@@ -341,7 +391,8 @@ first_tag r false q = tt
 tag_fits : (shape : _) (history : List JobEntry) (r : ℕ) → Legal shape history → TagFits r (replay history r)
 tag_fits shape history r l = tags_from shape start history r l (first_tag r (r == 0) refl)
 
-not_failure : (q : ℕ) (parent : Option ℕ) (cause : Cause) (b : Bool) → is_failure cause ≡ false → (is_row q parent && (is_failure cause && b)) ≡ true → ⊥
+not_failure : (q : ℕ) (parent : Option ℕ) (cause : Cause) (b : Bool) → is_failure cause ≡ false
+    → (is_row q parent && (is_failure cause && b)) ≡ true → ⊥
 not_failure q parent cause b f h = at (is_row q parent) (is_failure cause) f h
   where
     at : (x y : Bool) → y ≡ false → (x && (y && b)) ≡ true → ⊥
@@ -362,15 +413,21 @@ first_is_none false = refl
 tag_is : (j : Job) (o : Option Job) (n : ℕ) → o ≡ Some j → tag_of o ≡ Some n → j.tag ≡ n
 tag_is j o n e t = let k : Some j.tag ≡ Some n = sym (ap tag_of e) ∙ t in cc
 
-failure_raised : (shape : _) (tree : Tree) (who r q : ℕ) (act : JobAct) (x y : Option Job) → RowStep shape tree who r act x y → tree r ≡ x → TagFits r x → failed_at q x ≡ false → failed_at q y ≡ true → RaisesFailure r who act
-failure_raised shape tree who r q _ _ _ (RowStep.is_attached p kind tag cancelled m i) is fits f t = absurd (not_failure q (Some p) (first_cause cancelled) (not kind.scoped) (first_is_none cancelled) t)
-failure_raised shape tree who r q _ _ _ (RowStep.has_child c kind tag cancelled j none m) is fits f t = absurd (contrary (failed_at q (Some j)) t f)
+failure_raised : (shape : _) (tree : Tree) (who r q : ℕ) (act : JobAct) (x y : Option Job) → RowStep shape tree who r act x y → tree r ≡ x
+    → TagFits r x → failed_at q x ≡ false → failed_at q y ≡ true → RaisesFailure r who act
+failure_raised shape tree who r q _ _ _ (RowStep.is_attached p kind tag cancelled m i) is fits f t =
+    absurd (not_failure q (Some p) (first_cause cancelled) (not kind.scoped) (first_is_none cancelled) t)
+failure_raised shape tree who r q _ _ _ (RowStep.has_child c kind tag cancelled j none m) is fits f t =
+    absurd (contrary (failed_at q (Some j)) t f)
 failure_raised shape tree who r q _ _ _ (RowStep.is_started j n) is fits f t = absurd (contrary (failed_at q (Some j)) t f)
 failure_raised shape tree who r q _ _ _ (RowStep.body_ends v j m) is fits f t = absurd (contrary (failed_at q (Some j)) t f)
-failure_raised shape tree who r q _ _ _ (RowStep.is_cancelled reasons.Request j m o) is fits f t = absurd (not_failure q j.parent because.Request (not j.kind.scoped) refl t)
-failure_raised shape tree who r q _ _ _ (RowStep.is_cancelled reasons.Parent j m o) is fits f t = absurd (not_failure q j.parent because.Request (not j.kind.scoped) refl t)
+failure_raised shape tree who r q _ _ _ (RowStep.is_cancelled reasons.Request j m o) is fits f t =
+    absurd (not_failure q j.parent because.Request (not j.kind.scoped) refl t)
+failure_raised shape tree who r q _ _ _ (RowStep.is_cancelled reasons.Parent j m o) is fits f t =
+    absurd (not_failure q j.parent because.Request (not j.kind.scoped) refl t)
 failure_raised shape tree who r q _ _ _ (RowStep.is_cancelled (reasons.Child c) j m o) is fits f t = refl
-failure_raised shape tree who r q _ _ _ (RowStep.is_cancelled (reasons.Own g) j m o) is fits f t = (refl, fits (third (is_row q j.parent) true j.kind.scoped t) ∙ tag_is j (tree r) who is o.0)
+failure_raised shape tree who r q _ _ _ (RowStep.is_cancelled (reasons.Own g) j m o) is fits f t =
+    (refl, fits (third (is_row q j.parent) true j.kind.scoped t) ∙ tag_is j (tree r) who is o.0)
 failure_raised shape tree who r q _ _ _ (RowStep.ends end j m) is fits f t = absurd (contrary (failed_at q (Some j)) t f)
 failure_raised shape tree who r q _ _ _ (RowStep.is_told c j m p) is fits f t = absurd (contrary (failed_at q (Some j)) t f)
 failure_raised shape tree who r q _ _ _ (RowStep.stays act x a b c d e) is fits f t = absurd (contrary (failed_at q x) t f)
@@ -393,10 +450,13 @@ failure_debt p jobs l r q = record {
   rises = λ before e rest parts f t.
       let needs = needs_there (job_shape p) jobs before e rest l parts in
       let now = two (failed_at q (after (replay before) e.who e.act r)) (bears (after (replay before) e.who e.act q)) t in
-      failure_raised (job_shape p) (replay before) e.who r q e.act _ _ (row_step (job_shape p) (replay before) e.who e.act r needs) refl (tag_fits (job_shape p) before r (Legal-prefix (job_shape p) before (e ∷ rest) (subst (Legal (job_shape p)) parts l)))
-      (not_before (failed_at q (replay before r)) (bears (replay before q)) f (λ b. contrary _ (act_keeps (λ x. bears x ≡ true) bears_lasts (job_shape p) (replay before) e.who e.act q needs b) now.1)) now.0;
+      failure_raised (job_shape p) (replay before) e.who r q e.act _ _ (row_step (job_shape p) (replay before) e.who e.act r needs) refl
+      (tag_fits (job_shape p) before r (Legal-prefix (job_shape p) before (e ∷ rest) (subst (Legal (job_shape p)) parts l)))
+      (not_before (failed_at q (replay before r)) (bears (replay before q)) f
+      (λ b. contrary _ (act_keeps (λ x. bears x ≡ true) bears_lasts (job_shape p) (replay before) e.who e.act q needs b) now.1)) now.0;
   pieces = λ k g h s. failure_pieces p jobs r q k g h s;
-  by_fact = λ a t at more parts h m x. failure_by_told (job_shape p) r q a t at (Legal-prefix (job_shape p) at more (subst (Legal (job_shape p)) (sym parts) l)) h x;
+  by_fact = λ a t at more parts h m x. failure_by_told (job_shape p) r q a t at
+      (Legal-prefix (job_shape p) at more (subst (Legal (job_shape p)) (sym parts) l)) h x;
   by_act = λ a t b m x before rest e parts is. absurd (no_act r a t b m x);
 }
 
@@ -419,6 +479,9 @@ borne (Some j) h = at j.kind.supervisor (is_cancelled j.state) h
     at false b h = inr h
 
 -- the parent of a Job that failed and is no scope bears it
-pub failed : (p : Program) (books : List (List Item)) (channels : List Entry) (jobs : List JobEntry) → BooksOf p books channels jobs → (r parent : ℕ) → IsFailedChild parent (replay jobs r) → BearsFailures (replay jobs parent)
+pub failed : (p : Program) (books : List (List Item)) (channels : List Entry) (jobs : List JobEntry) → BooksOf p books channels jobs
+    → (r parent : ℕ) → IsFailedChild parent (replay jobs r) → BearsFailures (replay jobs parent)
 unfolding failure_debt
-failed p books channels jobs of r parent h = borne (replay jobs parent) (bore (failed_at parent (replay jobs r)) (bears (replay jobs parent)) (nobody_owes p books channels jobs of (failure_debt p jobs of.legal_jobs r parent)) (is_failed parent (replay jobs r) h))
+failed p books channels jobs of r parent h = borne (replay jobs parent)
+    (bore (failed_at parent (replay jobs r)) (bears (replay jobs parent))
+    (nobody_owes p books channels jobs of (failure_debt p jobs of.legal_jobs r parent)) (is_failed parent (replay jobs r) h))

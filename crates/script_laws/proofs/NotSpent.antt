@@ -77,7 +77,8 @@ acts_plain c (act ∷ acts) e =
     let two = or_parts (places_on c act) (list_any (places_on c) acts) e in
     and_both (plain_at c act) (list_all (plain_at c) acts) (act_plain c act two.0) (acts_plain c acts two.1)
 
-quiet_plain : (base c : ℕ) (items : List Item) → base ≤ c → list_any (item_asks base) items ≡ false → list_all (plain_at c) (channel_acts_in items) ≡ true
+quiet_plain : (base c : ℕ) (items : List Item) → base ≤ c → list_any (item_asks base) items ≡ false
+    → list_all (plain_at c) (channel_acts_in items) ≡ true
 quiet_plain base c items le e = acts_plain c (channel_acts_in items) (not_asked base c items le e)
 
 abbrev plain_in : ℕ → List Told → Bool
@@ -91,7 +92,8 @@ plain_then c xs ys e f =
 
 call_plain : (base : ℕ) (c d : ℕ) (call : List Told) (a : Answer) → base ≤ c → PlainCall (receives d) call a → plain_in c call ≡ true
 unfolding items_in
-call_plain base c d _ _ le (PlainCall.at_once _ call a (AtOnce.takes _ v q admits h)) = quiet_plain base c (items_in admits) le (admits_none base d admits h)
+call_plain base c d _ _ le (PlainCall.at_once _ call a (AtOnce.takes _ v q admits h)) =
+    quiet_plain base c (items_in admits) le (admits_none base d admits h)
 call_plain base c d _ _ le (PlainCall.refused _ t a (Refused.receive _ u)) = refl
 call_plain base c d _ _ le (PlainCall.no_place _ all is) = ap (plain_in c) is
 call_plain base c d _ _ le (PlainCall.awaits _ q) = by_test (d == c)
@@ -100,19 +102,25 @@ call_plain base c d _ _ le (PlainCall.awaits _ q) = by_test (d == c)
     by_test true = refl
     by_test false = refl
 
-move_plain : (p : Program) (k : ℕ) (x : Config) (group : List Told) (y : Config) (c : ℕ) → base_of p ≤ c → MoveAsks p k x group y → plain_in c group ≡ true
+move_plain : (p : Program) (k : ℕ) (x : Config) (group : List Told) (y : Config) (c : ℕ) → base_of p ≤ c → MoveAsks p k x group y
+    → plain_in c group ≡ true
 move_plain p k x group y c le (MoveAsks.none e) = quiet_plain (base_of p) c (items_in group) le e
 move_plain p k x group y c le (MoveAsks.asks row first call a quiet is h by) =
-    ap (plain_in c) is ∙ plain_then c first call (quiet_plain (base_of p) c (items_in first) le quiet) (call_plain (base_of p) c (base_of p + row) call a le h)
+    ap (plain_in c) is ∙ plain_then c first call (quiet_plain (base_of p) c (items_in first) le quiet)
+    (call_plain (base_of p) c (base_of p + row) call a le h)
 
-told_plain : (p : Program) (k : ℕ) (told : List Told) (x : Config) (c : ℕ) → IsProgram p → base_of p ≤ c → Reaches p k told x → plain_in c told ≡ true
-told_plain p k _ _ c ok le (Reaches.begins group x b) = quiet_plain (base_of p) c (items_in group) le (begins_ask p (base_of p) k group x b).0
-told_plain p k _ _ c ok le (Reaches.goes_on before group all x y r m is) = ap (plain_in c) is ∙ plain_then c before group (told_plain p k before x c ok le r) (move_plain p k x group y c le (move_asks p k x group y ok m))
+told_plain : (p : Program) (k : ℕ) (told : List Told) (x : Config) (c : ℕ) → IsProgram p → base_of p ≤ c → Reaches p k told x
+    → plain_in c told ≡ true
+told_plain p k _ _ c ok le (Reaches.begins group x b) =
+    quiet_plain (base_of p) c (items_in group) le (begins_ask p (base_of p) k group x b).0
+told_plain p k _ _ c ok le (Reaches.goes_on before group all x y r m is) = ap (plain_in c) is
+    ∙ plain_then c before group (told_plain p k before x c ok le r) (move_plain p k x group y c le (move_asks p k x group y ok m))
 
 -- ---- who attached a Job
 
 -- a row that was attached is one of the floor's
-row_within : (shape : JobShape) (tree : Tree) (who r : ℕ) (act : JobAct) → shape.coroutines ≤ shape.rows → Needs shape tree who act → attaches r act ≡ true → r < shape.rows
+row_within : (shape : JobShape) (tree : Tree) (who r : ℕ) (act : JobAct) → shape.coroutines ≤ shape.rows → Needs shape tree who act
+    → attaches r act ≡ true → r < shape.rows
 row_within shape tree who r (Attach p q kind tag cancelled) le n e = by_kind kind.scoped n.3 (eqb-true r q e)
   where
     low : tag < shape.coroutines
@@ -122,21 +130,21 @@ row_within shape tree who r (Attach p q kind tag cancelled) le n e = by_kind kin
     by_kind true m f = let lt = m.2 in omega (arith, lt, f)
     by_kind false m f = omega (arith, low, le, m, f)
 row_within shape tree who r (Start q) le n e = cc
-row_within shape tree who r (EndBody q v) le n e = cc
-row_within shape tree who r (Cancel q reason) le n e = cc
-row_within shape tree who r (Finish q end) le n e = cc
-row_within shape tree who r (Gone q) le n e = cc
+row_within shape tree who r other le n e = cc
 
-rows_within : (shape : JobShape) (tree : Tree) (es : List JobEntry) (who r : ℕ) → shape.coroutines ≤ shape.rows → LegalFrom shape tree es → list_any (attaches r) (job_acts_of who es) ≡ true → r < shape.rows
+rows_within : (shape : JobShape) (tree : Tree) (es : List JobEntry) (who r : ℕ) → shape.coroutines ≤ shape.rows → LegalFrom shape tree es
+    → list_any (attaches r) (job_acts_of who es) ≡ true → r < shape.rows
 unfolding LegalFrom job_acts_of
 rows_within shape tree [] who r le l e = cc
 rows_within shape tree (x ∷ es) who r le l e = by_who (x.who == who) (λ f. rows_within shape (after tree x.who x.act) es who r le l.1 f) e
   where
-    by_act : (b : Bool) → attaches r x.act ≡ b → (list_any (attaches r) (job_acts_of who es) ≡ true → r < shape.rows) → (b || list_any (attaches r) (job_acts_of who es)) ≡ true → r < shape.rows
+    by_act : (b : Bool) → attaches r x.act ≡ b → (list_any (attaches r) (job_acts_of who es) ≡ true → r < shape.rows)
+        → (b || list_any (attaches r) (job_acts_of who es)) ≡ true → r < shape.rows
     by_act true f more e = row_within shape tree x.who r x.act le l.0 f
     by_act false f more e = more e
 
-    by_who : (b : Bool) → (list_any (attaches r) (job_acts_of who es) ≡ true → r < shape.rows) → list_any (attaches r) (if b then x.act ∷ job_acts_of who es else job_acts_of who es) ≡ true → r < shape.rows
+    by_who : (b : Bool) → (list_any (attaches r) (job_acts_of who es) ≡ true → r < shape.rows)
+        → list_any (attaches r) (if b then x.act ∷ job_acts_of who es else job_acts_of who es) ≡ true → r < shape.rows
     by_who true more e = by_act (attaches r x.act) refl more e
     by_who false more e = more e
 
@@ -144,28 +152,31 @@ rows_within shape tree (x ∷ es) who r le l e = by_who (x.who == who) (λ f. ro
 is_fresh : (shape : JobShape) (tree : Tree) (who r : ℕ) (act : JobAct) → Needs shape tree who act → attaches r act ≡ true → tree r ≡ None
 is_fresh shape tree who r (Attach p q kind tag cancelled) n e = ap tree (eqb-true r q e) ∙ n.0
 is_fresh shape tree who r (Start q) n e = cc
-is_fresh shape tree who r (EndBody q v) n e = cc
-is_fresh shape tree who r (Cancel q reason) n e = cc
-is_fresh shape tree who r (Finish q end) n e = cc
-is_fresh shape tree who r (Gone q) n e = cc
+is_fresh shape tree who r other n e = cc
 
-none_later : (shape : JobShape) (tree : Tree) (es : List JobEntry) (who r : ℕ) → LegalFrom shape tree es → is_some (tree r) ≡ true → list_any (attaches r) (job_acts_of who es) ≡ true → ⊥
+none_later : (shape : JobShape) (tree : Tree) (es : List JobEntry) (who r : ℕ) → LegalFrom shape tree es → is_some (tree r) ≡ true
+    → list_any (attaches r) (job_acts_of who es) ≡ true → ⊥
 unfolding LegalFrom job_acts_of
 none_later shape tree [] who r l h e = cc
-none_later shape tree (x ∷ es) who r l h e = by_who (x.who == who) (λ f. none_later shape (after tree x.who x.act) es who r l.1 (act_keeps (λ o. is_some o ≡ true) attached_lasts shape tree x.who x.act r l.0 h) f) e
+none_later shape tree (x ∷ es) who r l h e = by_who (x.who == who)
+    (λ f. none_later shape (after tree x.who x.act) es who r l.1
+    (act_keeps (λ o. is_some o ≡ true) attached_lasts shape tree x.who x.act r l.0 h) f) e
   where
     not_fresh : attaches r x.act ≡ true → ⊥
     not_fresh f = let none = is_fresh shape tree x.who r x.act l.0 f in let both : false ≡ true = sym (ap is_some none) ∙ h in cc
 
-    by_act : (b : Bool) → attaches r x.act ≡ b → (list_any (attaches r) (job_acts_of who es) ≡ true → ⊥) → (b || list_any (attaches r) (job_acts_of who es)) ≡ true → ⊥
+    by_act : (b : Bool) → attaches r x.act ≡ b → (list_any (attaches r) (job_acts_of who es) ≡ true → ⊥)
+        → (b || list_any (attaches r) (job_acts_of who es)) ≡ true → ⊥
     by_act true f more e = not_fresh f
     by_act false f more e = more e
 
-    by_who : (b : Bool) → (list_any (attaches r) (job_acts_of who es) ≡ true → ⊥) → list_any (attaches r) (if b then x.act ∷ job_acts_of who es else job_acts_of who es) ≡ true → ⊥
+    by_who : (b : Bool) → (list_any (attaches r) (job_acts_of who es) ≡ true → ⊥)
+        → list_any (attaches r) (if b then x.act ∷ job_acts_of who es else job_acts_of who es) ≡ true → ⊥
     by_who true more e = by_act (attaches r x.act) refl more e
     by_who false more e = more e
 
-now_attached : (shape : JobShape) (tree : Tree) (who q : ℕ) (act : JobAct) (x y : Option Job) → RowStep shape tree who q act x y → attaches q act ≡ true → is_some y ≡ true
+now_attached : (shape : JobShape) (tree : Tree) (who q : ℕ) (act : JobAct) (x y : Option Job) → RowStep shape tree who q act x y
+    → attaches q act ≡ true → is_some y ≡ true
 now_attached shape tree who q _ _ _ (RowStep.is_attached p kind tag cancelled m i) e = refl
 now_attached shape tree who q _ _ _ (RowStep.has_child r kind tag cancelled j none m) e = refl
 now_attached shape tree who q _ _ _ (RowStep.is_started j n) e = refl
@@ -176,26 +187,34 @@ now_attached shape tree who q _ _ _ (RowStep.is_told d j m p) e = refl
 now_attached shape tree who q _ _ _ (RowStep.stays act x a b d e f) g = absurd (let both : false ≡ true = sym a ∙ g in cc)
 
 -- each Job was attached by one
-attached_once : (shape : JobShape) (tree : Tree) (es : List JobEntry) (u k r : ℕ) → LegalFrom shape tree es → list_any (attaches r) (job_acts_of u es) ≡ true → list_any (attaches r) (job_acts_of k es) ≡ true → u ≡ k
+attached_once : (shape : JobShape) (tree : Tree) (es : List JobEntry) (u k r : ℕ) → LegalFrom shape tree es
+    → list_any (attaches r) (job_acts_of u es) ≡ true → list_any (attaches r) (job_acts_of k es) ≡ true → u ≡ k
 unfolding LegalFrom job_acts_of
 attached_once shape tree [] u k r l e f = cc
-attached_once shape tree (x ∷ es) u k r l e f = by_act (attaches r x.act) refl (λ a b. attached_once shape (after tree x.who x.act) es u k r l.1 a b) (λ w h. none_later shape (after tree x.who x.act) es w r l.1 h)
+attached_once shape tree (x ∷ es) u k r l e f = by_act (attaches r x.act) refl
+    (λ a b. attached_once shape (after tree x.who x.act) es u k r l.1 a b) (λ w h. none_later shape (after tree x.who x.act) es w r l.1 h)
   where
-    later : (w : ℕ) → attaches r x.act ≡ false → list_any (attaches r) (if x.who == w then x.act ∷ job_acts_of w es else job_acts_of w es) ≡ true → list_any (attaches r) (job_acts_of w es) ≡ true
+    later : (w : ℕ) → attaches r x.act ≡ false → list_any (attaches r) (if x.who == w then x.act ∷ job_acts_of w es else job_acts_of w es) ≡
+        true → list_any (attaches r) (job_acts_of w es) ≡ true
     later w g h = by_who (x.who == w) h
       where
-        by_who : (b : Bool) → list_any (attaches r) (if b then x.act ∷ job_acts_of w es else job_acts_of w es) ≡ true → list_any (attaches r) (job_acts_of w es) ≡ true
+        by_who : (b : Bool) → list_any (attaches r) (if b then x.act ∷ job_acts_of w es else job_acts_of w es) ≡ true
+            → list_any (attaches r) (job_acts_of w es) ≡ true
         by_who true i = sym (ap (λ b. b || list_any (attaches r) (job_acts_of w es)) g) ∙ i
         by_who false i = i
 
-    here : (w : ℕ) → (list_any (attaches r) (job_acts_of w es) ≡ true → ⊥) → list_any (attaches r) (if x.who == w then x.act ∷ job_acts_of w es else job_acts_of w es) ≡ true → x.who ≡ w
+    here : (w : ℕ) → (list_any (attaches r) (job_acts_of w es) ≡ true → ⊥)
+        → list_any (attaches r) (if x.who == w then x.act ∷ job_acts_of w es else job_acts_of w es) ≡ true → x.who ≡ w
     here w none h = by_who (x.who == w) refl h
       where
-        by_who : (b : Bool) → (x.who == w) ≡ b → list_any (attaches r) (if b then x.act ∷ job_acts_of w es else job_acts_of w es) ≡ true → x.who ≡ w
+        by_who : (b : Bool) → (x.who == w) ≡ b → list_any (attaches r) (if b then x.act ∷ job_acts_of w es else job_acts_of w es) ≡ true
+            → x.who ≡ w
         by_who true g i = eqb-true x.who w g
         by_who false g i = absurd (none i)
 
-    by_act : (b : Bool) → attaches r x.act ≡ b → (list_any (attaches r) (job_acts_of u es) ≡ true → list_any (attaches r) (job_acts_of k es) ≡ true → u ≡ k) → ((w : ℕ) → is_some (after tree x.who x.act r) ≡ true → list_any (attaches r) (job_acts_of w es) ≡ true → ⊥) → u ≡ k
+    by_act : (b : Bool) → attaches r x.act ≡ b → (list_any (attaches r) (job_acts_of u es) ≡ true
+        → list_any (attaches r) (job_acts_of k es) ≡ true → u ≡ k)
+        → ((w : ℕ) → is_some (after tree x.who x.act r) ≡ true → list_any (attaches r) (job_acts_of w es) ≡ true → ⊥) → u ≡ k
     by_act true g more none =
         let there = now_attached shape tree x.who r x.act (tree r) (after tree x.who x.act r) (row_step shape tree x.who x.act r l.0) g in
         sym (here u (none u there) e) ∙ here k (none k there) f
@@ -205,17 +224,20 @@ attached_once shape tree (x ∷ es) u k r l e f = by_act (attaches r x.act) refl
 
 get_behind : (xs ys : List (Kind × ℕ)) (n : ℕ) (d : Kind × ℕ) → slice_index_or (xs ++ ys) (length xs + n) d ≡ slice_index_or ys n d
 get_behind [] ys n d = let same : 0 + n ≡ n = omega arith in ap (λ i. slice_index_or ys i d) same
-get_behind (x ∷ xs) ys n d = let same : length (x ∷ xs) + n ≡ suc (length xs + n) = omega arith in ap (λ i. slice_index_or (x ∷ (xs ++ ys)) i d) same ∙ get_behind xs ys n d
+get_behind (x ∷ xs) ys n d = let same : length (x ∷ xs) + n ≡ suc (length xs + n) = omega arith
+    in ap (λ i. slice_index_or (x ∷ (xs ++ ys)) i d) same ∙ get_behind xs ys n d
 
 done_places : (p : Program) (row : ℕ) → row < job_count p → places_at (floor_shape p) (base_of p + row) ≡ 1
 done_places p row lt =
     let channels : length (shape_of p) ≡ base_of p = length-map p.channels (λ c. (c.kind, c.places)) in
     ap (λ n. places_at (floor_shape p) (n + row)) (sym channels)
-    ∙ ap (λ (x : Kind × ℕ). x.1) (get_behind (shape_of p) (replicate (job_count p) (Signal, 1)) row (Signal, 0) ∙ get_or-replicate (job_count p) row (Signal, 1) (Signal, 0) lt)
+    ∙ ap (λ (x : Kind × ℕ). x.1) (get_behind (shape_of p) (replicate (job_count p) (Signal, 1)) row (Signal, 0)
+    ∙ get_or-replicate (job_count p) row (Signal, 1) (Signal, 0) lt)
 
 -- ---- a run
 
-stands_apart : (p : Program) (c : ChannelFloor) (j : Floor) (g : Frame) → IsProgram p → LegalJobs (job_shape p) j.seen → (h : StandsOn p c j g) → AreApart h.runs.told
+stands_apart : (p : Program) (c : ChannelFloor) (j : Floor) (g : Frame) → IsProgram p → LegalJobs (job_shape p) j.seen
+    → (h : StandsOn p c j g) → AreApart h.runs.told
 stands_apart p c j g ok legal h = λ row launched entered.
     let own = ((stands_give p c j g ok legal h).launched row launched).0 in
     let low = launched_in_run p g.tag row ok h.in_run own in
@@ -223,11 +245,15 @@ stands_apart p c j g ok legal h = λ row launched entered.
     let high = scope_rows (job_shape p) start j.seen g.tag row legal (ap (list_any (enters_row row)) (sym acts) ∙ entered) in
     omega (arith, low, high)
 
-stands_ask : (p : Program) (c : ChannelFloor) (j : Floor) (g : Frame) → IsProgram p → LegalJobs (job_shape p) j.seen → (h : StandsOn p c j g) → ReachAsks p g.tag (completed_in j.seen) h.runs.told g.config
-stands_ask p c j g ok legal h = reach_asks p g.tag (completed_in j.seen) h.runs.told g.config ok (ends_so (job_shape p) (story p g.tag (seen_by c j)) [] beginning h.runs.told legal h.runs.is_true) (stands_apart p c j g ok legal h) h.runs.reaches
+stands_ask : (p : Program) (c : ChannelFloor) (j : Floor) (g : Frame) → IsProgram p → LegalJobs (job_shape p) j.seen
+    → (h : StandsOn p c j g) → ReachAsks p g.tag (completed_in j.seen) h.runs.told g.config
+stands_ask p c j g ok legal h = reach_asks p g.tag (completed_in j.seen) h.runs.told g.config ok
+    (ends_so (job_shape p) (story p g.tag (seen_by c j)) [] beginning h.runs.told legal h.runs.is_true) (stands_apart p c j g ok legal h)
+    h.runs.reaches
 
 -- an act of a shorter history is one of a longer
-any_longer : (test : Act → Bool) (u : ℕ) (xs ys : List Entry) → IsPrefix xs ys → list_any test (acts_of u xs) ≡ true → list_any test (acts_of u ys) ≡ true
+any_longer : (test : Act → Bool) (u : ℕ) (xs ys : List Entry) → IsPrefix xs ys → list_any test (acts_of u xs) ≡ true
+    → list_any test (acts_of u ys) ≡ true
 any_longer test u xs ys longer e =
     ap (λ l. list_any test (acts_of u l)) (sym longer.1)
     ∙ ap (list_any test) (acts_of-append u xs longer.0)
@@ -238,12 +264,15 @@ all_left : (test : Act → Bool) (xs ys : List Act) → list_all test (xs ++ ys)
 all_left test [] ys h = refl
 all_left test (x ∷ xs) ys h = by_test (test x) refl h (all_left test xs ys)
   where
-    by_test : (b : Bool) → test x ≡ b → (b && list_all test (xs ++ ys)) ≡ true → (list_all test (xs ++ ys) ≡ true → list_all test xs ≡ true) → (test x && list_all test xs) ≡ true
+    by_test : (b : Bool) → test x ≡ b → (b && list_all test (xs ++ ys)) ≡ true → (list_all test (xs ++ ys) ≡ true → list_all test xs ≡ true)
+        → (test x && list_all test xs) ≡ true
     by_test true e h more = and_both (test x) (list_all test xs) e (more h)
     by_test false e h more = cc
 
-all_shorter : (test : Act → Bool) (u : ℕ) (xs ys : List Entry) → IsPrefix xs ys → list_all test (acts_of u ys) ≡ true → list_all test (acts_of u xs) ≡ true
-all_shorter test u xs ys longer e = all_left test (acts_of u xs) (acts_of u longer.0) (sym (ap (λ l. list_all test (acts_of u l)) (sym longer.1) ∙ ap (list_all test) (acts_of-append u xs longer.0)) ∙ e)
+all_shorter : (test : Act → Bool) (u : ℕ) (xs ys : List Entry) → IsPrefix xs ys → list_all test (acts_of u ys) ≡ true
+    → list_all test (acts_of u xs) ≡ true
+all_shorter test u xs ys longer e = all_left test (acts_of u xs) (acts_of u longer.0)
+    (sym (ap (λ l. list_all test (acts_of u l)) (sym longer.1) ∙ ap (list_all test) (acts_of-append u xs longer.0)) ∙ e)
 
 some_not_none : {A : Type 0} (o : Option A) → is_some o ≡ true → o ≡ None → ⊥
 some_not_none None e f = cc
@@ -253,11 +282,14 @@ above : (base row : ℕ) → base ≤ base + row
 above base row = omega arith
 
 -- at no moment of its book it finds a done channel open and without a place
-spent_never : (p : Program) (c : ChannelFloor) (j : Floor) (g : Frame) → IsProgram p → Legal (floor_shape p) c.seen → LegalJobs (job_shape p) j.seen → (on : StandsOn p c j g) → AllNoted p c j → (seen rest : List Told) → on.runs.told ≡ seen ++ rest
-    → (at : List Entry) → IsPrefix at c.seen → acts_of g.tag at ≡ channel_acts_in (items_in seen) → (row : ℕ) → IsSpentNow (floor_shape p) (base_of p + row) (replay at)
+spent_never : (p : Program) (c : ChannelFloor) (j : Floor) (g : Frame) → IsProgram p → Legal (floor_shape p) c.seen
+    → LegalJobs (job_shape p) j.seen → (on : StandsOn p c j g) → AllNoted p c j → (seen rest : List Told) → on.runs.told ≡ seen ++ rest
+    → (at : List Entry) → IsPrefix at c.seen → acts_of g.tag at ≡ channel_acts_in (items_in seen) → (row : ℕ)
+    → IsSpentNow (floor_shape p) (base_of p + row) (replay at)
     → attached_in row seen ≡ true → (placed_in (base_of p + row) seen ≡ true → closed_in (base_of p + row) seen ≡ true) → ⊥
 spent_never p c j g ok legal jobs on noted seen rest parts at before mine row spent own once =
-    some_not_none _ (ended_closed (floor_shape p) d g.tag at legal_at plain (ap (list_any (ends_closed d)) mine ∙ once placed)) spent.is_open
+    some_not_none _ (ended_closed (floor_shape p) d g.tag at legal_at plain (ap (list_any (ends_closed d)) mine ∙ once placed))
+    spent.is_open
   where
     d : ℕ
     d = base_of p + row
@@ -268,7 +300,8 @@ spent_never p c j g ok legal jobs on noted seen rest parts at before mine row sp
     -- who attached it
     attached : list_any (attaches row) (job_acts_of g.tag j.seen) ≡ true
     attached =
-        ap (list_any (attaches row)) (on.job_acts ∙ ap job_acts_in (sym on.runs.written)) ∙ ap (attached_in row) parts ∙ attached_then row seen rest ∙ or_left (attached_in row seen) (attached_in row rest) own
+        ap (list_any (attaches row)) (on.job_acts ∙ ap job_acts_in (sym on.runs.written)) ∙ ap (attached_in row) parts
+        ∙ attached_then row seen rest ∙ or_left (attached_in row seen) (attached_in row rest) own
 
     within : row < job_count p
     within = rows_within (job_shape p) start j.seen g.tag row (omega arith) jobs attached
@@ -279,23 +312,29 @@ spent_never p c j g ok legal jobs on noted seen rest parts at before mine row sp
     -- it is the same who had the place
     of_frame : (h : Frame) → StandsOn p c j h → list_any (places_on d) (acts_of h.tag at) ≡ true → h.tag ≡ g.tag
     of_frame h on_h e =
-        let told_there : placed_in d on_h.runs.told ≡ true = ap (λ items. list_any (places_on d) (channel_acts_in items)) on_h.runs.written ∙ ap (list_any (places_on d)) (sym on_h.channel_acts) ∙ any_longer (places_on d) h.tag at c.seen before e in
+        let told_there : placed_in d on_h.runs.told ≡ true = ap (λ items. list_any (places_on d) (channel_acts_in items)) on_h.runs.written
+        ∙ ap (list_any (places_on d)) (sym on_h.channel_acts) ∙ any_longer (places_on d) h.tag at c.seen before e in
         let own_h = (stands_ask p c j h ok jobs on_h).own row told_there in
-        attached_once (job_shape p) start j.seen h.tag g.tag row jobs (ap (list_any (attaches row)) (on_h.job_acts ∙ ap job_acts_in (sym on_h.runs.written)) ∙ own_h) attached
+        attached_once (job_shape p) start j.seen h.tag g.tag row jobs
+        (ap (list_any (attaches row)) (on_h.job_acts ∙ ap job_acts_in (sym on_h.runs.written)) ∙ own_h) attached
 
     same_one : (u : ℕ) → list_any (places_on d) (acts_of u at) ≡ true → u ≡ g.tag
     same_one u e = ⊎_elim
-        (λ none. absurd (let no : false ≡ true = sym (ap (list_any (places_on d)) none) ∙ any_longer (places_on d) u at c.seen before e in cc))
+        (λ none. absurd (let no : false ≡ true = sym (ap (list_any (places_on d)) none) ∙ any_longer (places_on d) u at c.seen before e
+        in cc))
         (λ h. sym h.2 ∙ of_frame h.0 h.1 (subst (λ t. list_any (places_on d) (acts_of t at) ≡ true) (sym h.2) e))
         (noted u)
 
     placed : placed_in d seen ≡ true
-    placed = sym (ap (list_any (places_on d)) mine) ∙ subst (λ t. list_any (places_on d) (acts_of t at) ≡ true) (same_one given.0 given.1) given.1
+    placed = sym (ap (list_any (places_on d)) mine) ∙ subst (λ t. list_any (places_on d) (acts_of t at) ≡ true) (same_one given.0 given.1)
+        given.1
 
     each_plain : (u : ℕ) → list_all (plain_at d) (acts_of u c.seen) ≡ true
     each_plain u = ⊎_elim
         (λ none. ap (list_all (plain_at d)) none)
-        (λ h. ap (λ t. list_all (plain_at d) (acts_of t c.seen)) (sym h.2) ∙ ap (list_all (plain_at d)) (h.1.channel_acts ∙ ap channel_acts_in (sym h.1.runs.written)) ∙ told_plain p h.0.tag h.1.runs.told h.0.config d ok (above (base_of p) row) h.1.runs.reaches)
+        (λ h. ap (λ t. list_all (plain_at d) (acts_of t c.seen)) (sym h.2)
+        ∙ ap (list_all (plain_at d)) (h.1.channel_acts ∙ ap channel_acts_in (sym h.1.runs.written))
+        ∙ told_plain p h.0.tag h.1.runs.told h.0.config d ok (above (base_of p) row) h.1.runs.reaches)
         (noted u)
 
     plain : list_all (λ (e : Entry). plain_at d e.act) at ≡ true
@@ -310,52 +349,60 @@ push_items seen (on_channels fact) = sym (items_in-append seen (on_channels fact
 push_items seen (on_jobs fact) = sym (items_in-append seen (on_jobs fact ∷ []) ∙ append-nil (items_in seen))
 
 -- a note of channels that is so at its moment
-not_spent_note : (p : Program) (c : ChannelFloor) (j : Floor) (g : Frame) → IsProgram p → Legal (floor_shape p) c.seen → LegalJobs (job_shape p) j.seen → (on : StandsOn p c j g) → AllNoted p c j → (seen rest : List Told) → on.runs.told ≡ seen ++ rest
-    → (earlier at : Moment) (n : ChannelNote) → IsSo (story p g.tag (seen_by c j)) (items_in seen) earlier (note (item.Channel n)) at → NoteAsked (base_of p) seen n → is_channel_refusal (base_of p) n ≡ false
+not_spent_note : (p : Program) (c : ChannelFloor) (j : Floor) (g : Frame) → IsProgram p → Legal (floor_shape p) c.seen
+    → LegalJobs (job_shape p) j.seen → (on : StandsOn p c j g) → AllNoted p c j → (seen rest : List Told) → on.runs.told ≡ seen ++ rest
+    → (earlier at : Moment) (n : ChannelNote) → IsSo (story p g.tag (seen_by c j)) (items_in seen) earlier (note (item.Channel n)) at
+    → NoteAsked (base_of p) seen n → is_channel_refusal (base_of p) n ≡ false
 not_spent_note p c j g ok legal jobs on noted seen rest parts earlier at (of_channel.Spent d) so asked = by_test (nat_le (base_of p) d) refl
   where
     at_row : (row : ℕ) → d ≡ base_of p + row → ⊥
     at_row row e =
         let own = asked row e in
-        spent_never p c j g ok legal jobs on noted seen rest parts at.channels so.not_after.channels so.channel_acts row (subst (λ n. IsSpentNow (floor_shape p) n (replay at.channels)) e so.holds) own.0
+        spent_never p c j g ok legal jobs on noted seen rest parts at.channels so.not_after.channels so.channel_acts row
+        (subst (λ n. IsSpentNow (floor_shape p) n (replay at.channels)) e so.holds) own.0
         (subst (λ n. placed_in n seen ≡ true → closed_in n seen ≡ true) e own.1)
 
     by_test : (b : Bool) → nat_le (base_of p) d ≡ b → b ≡ false
-    by_test true e = let le : base_of p ≤ d = grind (arith, nat_tests) in let row : d ≡ base_of p + (d - base_of p) = omega (arith, le) in absurd (at_row (d - base_of p) row)
+    by_test true e = let le : base_of p ≤ d = grind (arith, nat_tests) in let row : d ≡ base_of p + (d - base_of p) = omega (arith, le)
+        in absurd (at_row (d - base_of p) row)
     by_test false e = refl
 not_spent_note p c j g ok legal jobs on noted seen rest parts earlier at (of_channel.Made act) so asked = refl
-not_spent_note p c j g ok legal jobs on noted seen rest parts earlier at (of_channel.SendClosed d u v) so asked = refl
-not_spent_note p c j g ok legal jobs on noted seen rest parts earlier at (of_channel.TrySendClosed d u v) so asked = refl
-not_spent_note p c j g ok legal jobs on noted seen rest parts earlier at (of_channel.ReceiveClosed d v) so asked = refl
-not_spent_note p c j g ok legal jobs on noted seen rest parts earlier at (of_channel.TryReceiveClosed d v) so asked = refl
-not_spent_note p c j g ok legal jobs on noted seen rest parts earlier at (of_channel.AlreadyClosed d v) so asked = refl
-not_spent_note p c j g ok legal jobs on noted seen rest parts earlier at (of_channel.Full d v) so asked = refl
-not_spent_note p c j g ok legal jobs on noted seen rest parts earlier at (of_channel.Empty d) so asked = refl
-not_spent_note p c j g ok legal jobs on noted seen rest parts earlier at (of_channel.Partner d q) so asked = refl
-not_spent_note p c j g ok legal jobs on noted seen rest parts earlier at (of_channel.MainResolved w) so asked = refl
-not_spent_note p c j g ok legal jobs on noted seen rest parts earlier at (of_channel.Late w) so asked = refl
+not_spent_note p c j g ok legal jobs on noted seen rest parts earlier at other so asked = refl
 
-unspent : (p : Program) (c : ChannelFloor) (j : Floor) (g : Frame) → IsProgram p → Legal (floor_shape p) c.seen → LegalJobs (job_shape p) j.seen → (on : StandsOn p c j g) → AllNoted p c j → (seen told : List Told) → on.runs.told ≡ seen ++ told
-    → (earlier : Moment) → IsTrue (story p g.tag (seen_by c j)) (items_in seen) earlier told → AllAsked (base_of p) seen told → list_any (is_spent (base_of p)) (items_in told) ≡ false
+unspent : (p : Program) (c : ChannelFloor) (j : Floor) (g : Frame) → IsProgram p → Legal (floor_shape p) c.seen
+    → LegalJobs (job_shape p) j.seen → (on : StandsOn p c j g) → AllNoted p c j → (seen told : List Told) → on.runs.told ≡ seen ++ told
+    → (earlier : Moment) → IsTrue (story p g.tag (seen_by c j)) (items_in seen) earlier told → AllAsked (base_of p) seen told
+    → list_any (is_spent (base_of p)) (items_in told) ≡ false
 unfolding IsTrue AllAsked items_in
 unspent p c j g ok legal jobs on noted seen [] parts earlier true_told asked = refl
 unspent p c j g ok legal jobs on noted seen (note (item.Channel n) ∷ told) parts earlier h asked =
     or_from (is_channel_refusal (base_of p) n) (list_any (is_spent (base_of p)) (items_in told))
     (not_spent_note p c j g ok legal jobs on noted seen (note (item.Channel n) ∷ told) parts earlier h.0 n h.1 asked.0)
-    (unspent p c j g ok legal jobs on noted (seen ++ note (item.Channel n) ∷ []) told (parts ∙ sym (append_assoc seen (note (item.Channel n) ∷ []) told)) h.0 (subst (λ l. IsTrue (story p g.tag (seen_by c j)) l h.0 told) (push_items seen (note (item.Channel n))) h.2) asked.1)
+    (unspent p c j g ok legal jobs on noted (seen ++ note (item.Channel n) ∷ []) told (parts
+    ∙ sym (append_assoc seen (note (item.Channel n) ∷ []) told)) h.0
+    (subst (λ l. IsTrue (story p g.tag (seen_by c j)) l h.0 told) (push_items seen (note (item.Channel n))) h.2) asked.1)
 unspent p c j g ok legal jobs on noted seen (note (item.Job n) ∷ told) parts earlier h asked =
-    unspent p c j g ok legal jobs on noted (seen ++ note (item.Job n) ∷ []) told (parts ∙ sym (append_assoc seen (note (item.Job n) ∷ []) told)) h.0 (subst (λ l. IsTrue (story p g.tag (seen_by c j)) l h.0 told) (push_items seen (note (item.Job n))) h.2) asked.1
+    unspent p c j g ok legal jobs on noted (seen ++ note (item.Job n) ∷ []) told (parts
+    ∙ sym (append_assoc seen (note (item.Job n) ∷ []) told)) h.0
+    (subst (λ l. IsTrue (story p g.tag (seen_by c j)) l h.0 told) (push_items seen (note (item.Job n))) h.2) asked.1
 unspent p c j g ok legal jobs on noted seen (on_channels fact ∷ told) parts earlier h asked =
-    unspent p c j g ok legal jobs on noted (seen ++ on_channels fact ∷ []) told (parts ∙ sym (append_assoc seen (on_channels fact ∷ []) told)) h.0 (subst (λ l. IsTrue (story p g.tag (seen_by c j)) l h.0 told) (push_items seen (on_channels fact)) h.2) asked.1
+    unspent p c j g ok legal jobs on noted (seen ++ on_channels fact ∷ []) told (parts
+    ∙ sym (append_assoc seen (on_channels fact ∷ []) told)) h.0
+    (subst (λ l. IsTrue (story p g.tag (seen_by c j)) l h.0 told) (push_items seen (on_channels fact)) h.2) asked.1
 unspent p c j g ok legal jobs on noted seen (on_jobs fact ∷ told) parts earlier h asked =
-    unspent p c j g ok legal jobs on noted (seen ++ on_jobs fact ∷ []) told (parts ∙ sym (append_assoc seen (on_jobs fact ∷ []) told)) h.0 (subst (λ l. IsTrue (story p g.tag (seen_by c j)) l h.0 told) (push_items seen (on_jobs fact)) h.2) asked.1
+    unspent p c j g ok legal jobs on noted (seen ++ on_jobs fact ∷ []) told (parts
+    ∙ sym (append_assoc seen (on_jobs fact ∷ []) told)) h.0
+    (subst (λ l. IsTrue (story p g.tag (seen_by c j)) l h.0 told) (push_items seen (on_jobs fact)) h.2) asked.1
 
-nothing_seen : (p : Program) (c : ChannelFloor) (j : Floor) (g : Frame) (told : List Told) → IsTrue (story p g.tag (seen_by c j)) [] beginning told → IsTrue (story p g.tag (seen_by c j)) (items_in []) beginning told
+nothing_seen : (p : Program) (c : ChannelFloor) (j : Floor) (g : Frame) (told : List Told)
+    → IsTrue (story p g.tag (seen_by c j)) [] beginning told → IsTrue (story p g.tag (seen_by c j)) (items_in []) beginning told
 unfolding items_in
 nothing_seen p c j g told h = h
 
 -- no book of a run says that a done channel has no place left
-pub stands_unspent : (p : Program) (c : ChannelFloor) (j : Floor) (g : Frame) → IsProgram p → Legal (floor_shape p) c.seen → LegalJobs (job_shape p) j.seen → StandsOn p c j g → AllNoted p c j → list_any (is_spent (base_of p)) g.book ≡ false
+pub stands_unspent : (p : Program) (c : ChannelFloor) (j : Floor) (g : Frame) → IsProgram p → Legal (floor_shape p) c.seen
+    → LegalJobs (job_shape p) j.seen → StandsOn p c j g → AllNoted p c j → list_any (is_spent (base_of p)) g.book ≡ false
 stands_unspent p c j g ok legal jobs on noted =
     ap (list_any (is_spent (base_of p))) (sym on.runs.written)
-    ∙ unspent p c j g ok legal jobs on noted [] on.runs.told refl beginning (nothing_seen p c j g on.runs.told on.runs.is_true) (stands_ask p c j g ok jobs on).asked
+    ∙ unspent p c j g ok legal jobs on noted [] on.runs.told refl beginning (nothing_seen p c j g on.runs.told on.runs.is_true)
+    (stands_ask p c j g ok jobs on).asked

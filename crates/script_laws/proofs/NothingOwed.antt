@@ -26,8 +26,11 @@ five false true c d e p q r s t = cc
 five false false true d e p q r s t = cc
 five false false false true e p q r s t = cc
 
-pub nothing_is_owed : (p : Program) (books : List (List Item)) (channels : List Entry) (jobs : List JobEntry) → BooksOf p books channels jobs → OwesNothing (floor_shape p) (replay channels)
+pub nothing_is_owed : (p : Program) (books : List (List Item)) (channels : List Entry) (jobs : List JobEntry)
+    → BooksOf p books channels jobs → OwesNothing (floor_shape p) (replay channels)
 nothing_is_owed p books channels jobs of c lt =
     let ch : Channel = (replay channels).channels c in
-    five (owes_admission (kind_at (floor_shape p) c) 0 ch.queue) (is_some ch.closed && stands_any ch.receivers) (ch.voided && stands_any ch.queue) (drops (kind_at (floor_shape p) c) (length ch.queue)) (owes_spurn (kind_at (floor_shape p) c) 0 ch.queue)
-    (admitted p books channels jobs of c) (no_receiver_waits p books channels jobs of c) (no_offer_is_left p books channels jobs of c) (fits_at_end p books channels jobs of c) (none_to_spurn p books channels jobs of c)
+    five (owes_admission (kind_at (floor_shape p) c) 0 ch.queue) (is_some ch.closed && stands_any ch.receivers) (ch.voided
+    && stands_any ch.queue) (drops (kind_at (floor_shape p) c) (length ch.queue)) (owes_spurn (kind_at (floor_shape p) c) 0 ch.queue)
+    (admitted p books channels jobs of c) (no_receiver_waits p books channels jobs of c) (no_offer_is_left p books channels jobs of c)
+    (fits_at_end p books channels jobs of c) (none_to_spurn p books channels jobs of c)

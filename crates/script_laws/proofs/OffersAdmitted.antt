@@ -49,7 +49,8 @@ MayRaiseAdmit c q other = ⊥
 -- only the Offer at that place, a Take and a Drain raise it; no Withdraw, Hand, WakeClosed or Admit does
 abbrev pub AdmitIsRaised : Type 0
 AdmitIsRaised = (shape : Shape) (es : List Entry) (who c q : ℕ) (act : Act) → Legal shape es → Needs shape (replay es) who act
-    → owes_admit (kind_at shape c) q ((replay es).channels c) ≡ false → owes_admit (kind_at shape c) q ((after (replay es) who act).channels c) ≡ true → MayRaiseAdmit c q act
+    → owes_admit (kind_at shape c) q ((replay es).channels c) ≡ false
+    → owes_admit (kind_at shape c) q ((after (replay es) who act).channels c) ≡ true → MayRaiseAdmit c q act
 
 abbrev pub AdmittedAtEnd : Type 0
 AdmittedAtEnd = (p : Program) (books : List (List Item)) (channels : List Entry) (jobs : List JobEntry) → BooksOf p books channels jobs
@@ -65,39 +66,63 @@ pub record FactAt (shape : Shape) (k : ℕ) (history : List Entry) (done : List 
   pub acts : part who_did deed k at ≡ done ++ later_acts
   pub holds : ChannelFactHolds shape fact (replay at)
 
-fact_at : (shape : Shape) (k : ℕ) (history : List Entry) (fact : ChannelFact) (done later : List Act) (ys : List Told) → CallsSo shape k history (done ++ later) ys → Exists (IsTold (on_channels fact)) ys → FactAt shape k history done fact
+fact_at : (shape : Shape) (k : ℕ) (history : List Entry) (fact : ChannelFact) (done later : List Act) (ys : List Told)
+    → CallsSo shape k history (done ++ later) ys → Exists (IsTold (on_channels fact)) ys → FactAt shape k history done fact
 unfolding AllSo Exists
 fact_at shape k history fact done later [] so x = absurd x
 fact_at shape k history fact done later (y ∷ ys) so x = ⊎_elim
-    (λ (e : y ≡ on_channels fact). record { at = so.0.at; more = so.0.more; later_acts = later; parts = so.0.parts; acts = so.0.acts; holds = subst (λ u. CallHolds shape u so.0.at) e so.0.holds })
-    (λ (u : Exists (IsTold (on_channels fact)) ys). fact_at shape k history fact done (later ++ act_list (call_told y)) ys (subst (λ d. CallsSo shape k history d ys) (append_assoc done later (act_list (call_told y))) so.1) u) x
+    (λ (e : y ≡ on_channels fact). record {
+      at = so.0.at;
+      more = so.0.more;
+      later_acts = later;
+      parts = so.0.parts;
+      acts = so.0.acts;
+      holds = subst (λ u. CallHolds shape u so.0.at) e so.0.holds;
+    })
+    (λ (u : Exists (IsTold (on_channels fact)) ys). fact_at shape k history fact done (later
+    ++ act_list (call_told y)) ys (subst (λ d. CallsSo shape k history d ys) (append_assoc done later (act_list (call_told y))) so.1) u)
+    x
 
 pub record MarkAt (shape : Shape) (k : ℕ) (history : List Entry) (done : List Act) (c : ℕ) : Type 0 where
   pub mark : ℕ
   pub first : FactAt shape k history done (NextIs c mark)
   pub second : FactAt shape k history done (NoneToAdmit c mark)
 
-mark_at : (shape : Shape) (k : ℕ) (history : List Entry) (c : ℕ) (done later : List Act) (ys : List Told) → CallsSo shape k history (done ++ later) ys → HasAdmits c ys → MarkAt shape k history done c
+mark_at : (shape : Shape) (k : ℕ) (history : List Entry) (c : ℕ) (done later : List Act) (ys : List Told)
+    → CallsSo shape k history (done ++ later) ys → HasAdmits c ys → MarkAt shape k history done c
 unfolding AllSo HasAdmits
 mark_at shape k history c done later [] so x = absurd x
 mark_at shape k history c done later (y ∷ ys) so x =
-    let rest : CallsSo shape k history (done ++ (later ++ act_list (call_told y))) ys = subst (λ d. CallsSo shape k history d ys) (append_assoc done later (act_list (call_told y))) so.1 in
+    let rest : CallsSo shape k history (done ++ (later ++ act_list (call_told y))) ys =
+    subst (λ d. CallsSo shape k history d ys) (append_assoc done later (act_list (call_told y))) so.1 in
     ⊎_elim
     (λ (h : (m : ℕ) × (y ≡ on_channels (NextIs c m)) × Exists (IsTold (on_channels (NoneToAdmit c m))) ys). record {
       mark = h.0;
-      first = record { at = so.0.at; more = so.0.more; later_acts = later; parts = so.0.parts; acts = so.0.acts; holds = subst (λ u. CallHolds shape u so.0.at) h.1 so.0.holds };
+      first = record {
+        at = so.0.at;
+        more = so.0.more;
+        later_acts = later;
+        parts = so.0.parts;
+        acts = so.0.acts;
+        holds =
+            subst (λ u. CallHolds shape u so.0.at) h.1 so.0.holds;
+      };
       second = fact_at shape k history (NoneToAdmit c h.0) done (later ++ act_list (call_told y)) ys rest h.2;
     })
     (λ (u : HasAdmits c ys). mark_at shape k history c done (later ++ act_list (call_told y)) ys rest u) x
 
 -- ---- what a lower mark says less
 
-lower_mark : (m q : ℕ) (kind : Kind) (n : ℕ) (os : List Standing) → q < m → owes_below m kind n os ≡ false → owes_below (q + 1) kind n os ≡ false
+lower_mark : (m q : ℕ) (kind : Kind) (n : ℕ) (os : List Standing) → q < m → owes_below m kind n os ≡ false
+    → owes_below (q + 1) kind n os ≡ false
 unfolding owes_below
 lower_mark m q kind n [] h e = refl
-lower_mark m q kind n (o ∷ os) h e = at (is_some o.holder) (nat_lt o.place m) (nat_lt o.place (q + 1)) (is_full kind n) (owes_below m kind (n + 1) os) (owes_below (q + 1) kind (n + 1) os) (λ t. grind (arith, nat_tests)) (λ t. lower_mark m q kind (n + 1) os h t) e
+lower_mark m q kind n (o ∷ os) h e = at (is_some o.holder) (nat_lt o.place m) (nat_lt o.place (q + 1)) (is_full kind n)
+    (owes_below m kind (n + 1) os) (owes_below (q + 1) kind (n + 1) os) (λ t. grind (arith, nat_tests))
+    (λ t. lower_mark m q kind (n + 1) os h t) e
   where
-    at : (a b b' f x y : Bool) → (b' ≡ true → b ≡ true) → (x ≡ false → y ≡ false) → ((a && (b && not f)) || x) ≡ false → ((a && (b' && not f)) || y) ≡ false
+    at : (a b b' f x y : Bool) → (b' ≡ true → b ≡ true) → (x ≡ false → y ≡ false) → ((a && (b && not f)) || x) ≡ false
+        → ((a && (b' && not f)) || y) ≡ false
     at false b b' f x y i j h = j h
     at true true b' true x y i j h = last b' true y (j h)
       where
@@ -113,7 +138,8 @@ unfolding AllBefore
 held_before q n [] h e = cc
 held_before q n (o ∷ os) h e = at (o.place == q) (is_some o.holder) refl (λ t. held_before q n os h.1 t) e
   where
-    at : (b s : Bool) → (o.place == q) ≡ b → (list_any (stands_held q) os ≡ true → q < n) → ((b && s) || list_any (stands_held q) os) ≡ true → q < n
+    at : (b s : Bool) → (o.place == q) ≡ b → (list_any (stands_held q) os ≡ true → q < n) → ((b && s) || list_any (stands_held q) os) ≡ true
+        → q < n
     at true true e f t = subst (λ u. u < n) (eqb-true o.place q e) h.0
     at true false e f t = f t
     at false s e f t = f t
@@ -146,12 +172,19 @@ some_room kind n (o ∷ os) h = at (is_some o.holder) (is_full kind n) refl refl
     all false b c d p q r = cc
 
     now : is_some o.holder ≡ true → is_full kind n ≡ false → HasRoomAt kind n (o ∷ os)
-    now a f = record { place = o.place; stands = ap (λ b. b || list_any (stands_held o.place) os) (and_true (o.place == o.place) (is_some o.holder) here a); owed = all (is_some o.holder) (nat_lt o.place (o.place + 1)) (is_full kind n) _ a below f }
+    now a f = record {
+      place = o.place;
+      stands = ap (λ b. b
+          || list_any (stands_held o.place) os) (and_true (o.place == o.place) (is_some o.holder) here a);
+      owed =
+          all (is_some o.holder) (nat_lt o.place (o.place + 1)) (is_full kind n) _ a below f;
+    }
 
     later : HasRoomAt kind (n + 1) os → HasRoomAt kind n (o ∷ os)
     later r = record { place = r.place; stands = or_right _ _ r.stands; owed = or_right _ _ r.owed }
 
-    at : (a f : Bool) → is_some o.holder ≡ a → is_full kind n ≡ f → (owes_admission kind (n + 1) os ≡ true → HasRoomAt kind (n + 1) os) → ((a && not f) || owes_admission kind (n + 1) os) ≡ true → HasRoomAt kind n (o ∷ os)
+    at : (a f : Bool) → is_some o.holder ≡ a → is_full kind n ≡ f → (owes_admission kind (n + 1) os ≡ true → HasRoomAt kind (n + 1) os)
+        → ((a && not f) || owes_admission kind (n + 1) os) ≡ true → HasRoomAt kind n (o ∷ os)
     at true false a f rec h = now a f
     at true true a f rec h = later (rec h)
     at false f a e rec h = later (rec h)
@@ -170,19 +203,34 @@ one_more [] x ys = refl
 one_more (z ∷ xs) x ys = ap (λ l. z ∷ l) (one_more xs x ys)
 
 -- an act behind which the marks stand
-by_mark : (shape : Shape) (channels : List Entry) → Legal shape channels → (c q k : ℕ) (before : List Entry) (e : Entry) (rest : List Entry) (ys : List Told) → channels ≡ before ++ e ∷ rest → owes_admit (kind_at shape c) q ((after (replay before) e.who e.act).channels c) ≡ true → BehindOf shape k channels before e.act ys → HasAdmits c ys → CallPaidAt shape k (λ s. owes_admit (kind_at shape c) q (s.channels c)) (MayRaiseAdmit c q) channels (part who_did deed k before ++ e.act ∷ [])
+by_mark : (shape : Shape) (channels : List Entry) → Legal shape channels
+    → (c q k : ℕ) (before : List Entry) (e : Entry) (rest : List Entry) (ys : List Told) → channels ≡ before ++ e ∷ rest
+    → owes_admit (kind_at shape c) q ((after (replay before) e.who e.act).channels c) ≡ true → BehindOf shape k channels before e.act ys
+    → HasAdmits c ys → CallPaidAt shape k (λ s. owes_admit (kind_at shape c) q (s.channels c)) (MayRaiseAdmit c q) channels
+    (part who_did deed k before ++ e.act ∷ [])
 by_mark shape channels l c q k before e rest ys parts owed behind has =
     let done : List Act = part who_did deed k before ++ e.act ∷ [] in
-    let m = mark_at shape k channels c (part who_did deed k before ++ e.act ∷ []) [] ys (subst (λ d. CallsSo shape k channels d ys) (sym (append-nil (part who_did deed k before ++ e.act ∷ []))) behind.1) has in
-    let r = reached who_did deed k before e rest m.first.at m.first.more m.first.later_acts (m.first.parts ∙ parts) (m.first.acts ∙ append_assoc (part who_did deed k before) (e.act ∷ []) m.first.later_acts) in
+    let m = mark_at shape k channels c (part who_did deed k before
+    ++ e.act ∷ []) [] ys (subst (λ d. CallsSo shape k channels d ys) (sym (append-nil (part who_did deed k before ++ e.act ∷ [])))
+    behind.1) has in
+    let r = reached who_did deed k before e rest m.first.at m.first.more m.first.later_acts (m.first.parts ∙ parts) (m.first.acts
+    ∙ append_assoc (part who_did deed k before) (e.act ∷ []) m.first.later_acts) in
     let stands = (both_true (list_any (stands_held q) ((after (replay before) e.who e.act).channels c).queue) _ owed).0 in
     let there : replay (before ++ e ∷ []) ≡ after (replay before) e.who e.act = replay_push before e in
     let whole : Legal shape ((before ++ e ∷ []) ++ rest) = subst (Legal shape) (parts ∙ sym (one_more before e rest)) l in
-    let reaches : Legal shape ((before ++ e ∷ []) ++ r.0) = Legal-prefix shape ((before ++ e ∷ []) ++ r.0) m.first.more (subst (Legal shape) (sym (append_assoc (before ++ e ∷ []) r.0 m.first.more ∙ ap (λ u. (before ++ e ∷ []) ++ u) (sym r.1))) whole) in
-    let placed : AllBefore ((after (replay before) e.who e.act).channels c).next ((after (replay before) e.who e.act).channels c).queue = subst (λ (s : State). AllBefore (s.channels c).next (s.channels c).queue) there (all_placed shape (before ++ e ∷ []) (Legal-prefix shape (before ++ e ∷ []) r.0 reaches) c) in
+    let reaches : Legal shape ((before ++ e ∷ []) ++ r.0) =
+    Legal-prefix shape ((before ++ e ∷ []) ++ r.0) m.first.more
+    (subst (Legal shape) (sym (append_assoc (before ++ e ∷ []) r.0 m.first.more ∙ ap (λ u. (before ++ e ∷ []) ++ u) (sym r.1))) whole)
+    in
+    let placed : AllBefore ((after (replay before) e.who e.act).channels c).next ((after (replay before) e.who e.act).channels c).queue =
+    subst (λ (s : State). AllBefore (s.channels c).next (s.channels c).queue) there
+    (all_placed shape (before ++ e ∷ []) (Legal-prefix shape (before ++ e ∷ []) r.0 reaches) c) in
     let low : q < ((after (replay before) e.who e.act).channels c).next = held_before q _ _ placed stands in
-    let grown : ((after (replay before) e.who e.act).channels c).next ≤ ((replay ((before ++ e ∷ []) ++ r.0)).channels c).next = subst (λ (s : State). (s.channels c).next ≤ ((replay ((before ++ e ∷ []) ++ r.0)).channels c).next) there (given_later shape (before ++ e ∷ []) r.0 c reaches) in
-    let is : ((replay ((before ++ e ∷ []) ++ r.0)).channels c).next ≡ m.mark = ap (λ l. ((replay l).channels c).next) (one_more before e r.0 ∙ sym r.2) ∙ m.first.holds in
+    let grown : ((after (replay before) e.who e.act).channels c).next ≤ ((replay ((before ++ e ∷ []) ++ r.0)).channels c).next =
+    subst (λ (s : State). (s.channels c).next ≤ ((replay ((before ++ e ∷ []) ++ r.0)).channels c).next) there
+    (given_later shape (before ++ e ∷ []) r.0 c reaches) in
+    let is : ((replay ((before ++ e ∷ []) ++ r.0)).channels c).next ≡ m.mark =
+    ap (λ l. ((replay l).channels c).next) (one_more before e r.0 ∙ sym r.2) ∙ m.first.holds in
     let below : q < m.mark = omega (arith, low, grown, is) in
     record {
       at = m.second.at;
@@ -190,13 +238,23 @@ by_mark shape channels l c q k before e rest ys parts owed behind has =
       later_acts = m.second.later_acts;
       parts = m.second.parts;
       acts = m.second.acts;
-      paid = subst (λ (s : State). owes_admit (kind_at shape c) q (s.channels c) ≡ false) (sym (same_state start m.second.at)) (no_drop _ _ (lower_mark m.mark q (kind_at shape c) 0 ((replay m.second.at).channels c).queue below m.second.holds));
+      paid = subst (λ (s : State). owes_admit (kind_at shape c) q (s.channels c) ≡ false) (sym (same_state start m.second.at))
+          (no_drop _ _ (lower_mark m.mark q (kind_at shape c) 0 ((replay m.second.at).channels c).queue below m.second.holds));
     }
 
-admit_pays : (shape : Shape) (channels : List Entry) → Legal shape channels → (c q k : ℕ) (before : List Entry) (e : Entry) (rest : List Entry) (ys : List Told) (act : Act) → e.act ≡ act → channels ≡ before ++ e ∷ rest → owes_admit (kind_at shape c) q ((after (replay before) e.who e.act).channels c) ≡ true → BehindOf shape k channels before e.act ys → MayRaiseAdmit c q act → Follows act ys → CallPaidAt shape k (λ s. owes_admit (kind_at shape c) q (s.channels c)) (MayRaiseAdmit c q) channels (part who_did deed k before ++ e.act ∷ [])
-admit_pays shape channels l c q k before e rest ys (Offer d r v w n) is parts owed behind x f = by_mark shape channels l c q k before e rest ys parts owed behind (subst (λ u. HasAdmits u ys) x.0 f)
-admit_pays shape channels l c q k before e rest ys (Take d r v) is parts owed behind x f = by_mark shape channels l c q k before e rest ys parts owed behind (subst (λ u. HasAdmits u ys) x f)
-admit_pays shape channels l c q k before e rest ys (Drain d r v) is parts owed behind x f = by_fact shape channels (λ s. owes_admit (kind_at shape c) q (s.channels c)) (MayRaiseAdmit c q) k (NothingQueued d) (λ s h. of_empty (kind_at shape c) q s c (subst (λ u. (s.channels u).queue ≡ []) x h)) before e.act ys behind f
+admit_pays : (shape : Shape) (channels : List Entry) → Legal shape channels
+    → (c q k : ℕ) (before : List Entry) (e : Entry) (rest : List Entry) (ys : List Told) (act : Act) → e.act ≡ act → channels ≡ before
+    ++ e ∷ rest → owes_admit (kind_at shape c) q ((after (replay before) e.who e.act).channels c) ≡ true
+    → BehindOf shape k channels before e.act ys → MayRaiseAdmit c q act → Follows act ys
+    → CallPaidAt shape k (λ s. owes_admit (kind_at shape c) q (s.channels c)) (MayRaiseAdmit c q) channels (part who_did deed k before
+    ++ e.act ∷ [])
+admit_pays shape channels l c q k before e rest ys (Offer d r v w n) is parts owed behind x f =
+    by_mark shape channels l c q k before e rest ys parts owed behind (subst (λ u. HasAdmits u ys) x.0 f)
+admit_pays shape channels l c q k before e rest ys (Take d r v) is parts owed behind x f =
+    by_mark shape channels l c q k before e rest ys parts owed behind (subst (λ u. HasAdmits u ys) x f)
+admit_pays shape channels l c q k before e rest ys (Drain d r v) is parts owed behind x f =
+    by_fact shape channels (λ s. owes_admit (kind_at shape c) q (s.channels c)) (MayRaiseAdmit c q) k (NothingQueued d)
+    (λ s h. of_empty (kind_at shape c) q s c (subst (λ u. (s.channels u).queue ≡ []) x h)) before e.act ys behind f
 admit_pays shape channels l c q k before e rest ys other is parts owed behind x f = absurd x
 
 admit_debt : AdmitIsRaised → (shape : Shape) (channels : List Entry) → Legal shape channels → (c q : ℕ) → CallDebt shape channels
@@ -204,17 +262,22 @@ admit_debt raised shape channels l c q = record {
   owes = λ s. owes_admit (kind_at shape c) q (s.channels c);
   Raises = MayRaiseAdmit c q;
   first = refl;
-  rises = λ before e rest parts f t. raised shape before e.who c q e.act (legal_before shape channels before e rest l parts) (needs_there shape channels before e rest l parts) f t;
-  pays = λ k before e rest ys parts mine owed behind r f. admit_pays shape channels l c q k before e rest ys e.act refl parts owed behind r f;
+  rises = λ before e rest parts f t. raised shape before e.who c q e.act (legal_before shape channels before e rest l parts)
+      (needs_there shape channels before e rest l parts) f t;
+  pays = λ k before e rest ys parts mine owed behind r f. admit_pays shape channels l c q k before e rest ys e.act refl parts owed behind r
+      f;
 }
 
 -- where only an Offer, a Take and a Drain raise it, no held offer has room at the end
 pub admitted_at_end : AdmitIsRaised → AdmittedAtEnd
 unfolding admit_debt
-admitted_at_end raised p books channels jobs of c = at (owes_admission (kind_at (floor_shape p) c) 0 ((replay channels).channels c).queue) refl
+admitted_at_end raised p books channels jobs of c = at (owes_admission (kind_at (floor_shape p) c) 0 ((replay channels).channels c).queue)
+    refl
   where
-    at : (b : Bool) → owes_admission (kind_at (floor_shape p) c) 0 ((replay channels).channels c).queue ≡ b → owes_admission (kind_at (floor_shape p) c) 0 ((replay channels).channels c).queue ≡ false
+    at : (b : Bool) → owes_admission (kind_at (floor_shape p) c) 0 ((replay channels).channels c).queue ≡ b
+        → owes_admission (kind_at (floor_shape p) c) 0 ((replay channels).channels c).queue ≡ false
     at true e =
         let r = some_room (kind_at (floor_shape p) c) 0 ((replay channels).channels c).queue e in
-        absurd (contrary (owes_admit (kind_at (floor_shape p) c) r.place ((replay channels).channels c)) (and_true _ _ r.stands r.owed) (nobody_owes p books channels jobs of (admit_debt raised (floor_shape p) channels of.legal_channels c r.place)))
+        absurd (contrary (owes_admit (kind_at (floor_shape p) c) r.place ((replay channels).channels c)) (and_true _ _ r.stands r.owed)
+        (nobody_owes p books channels jobs of (admit_debt raised (floor_shape p) channels of.legal_channels c r.place)))
     at false e = e

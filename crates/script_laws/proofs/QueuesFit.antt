@@ -56,7 +56,8 @@ ascending_before n m [] h = tt
 ascending_before n m (o ∷ os) h = (let k = low (o.place + 1) m os h.1 in omega arith, ascending_before (o.place + 1) m os h.1)
 
 pub all_placed : (shape : Shape) (es : List Entry) → Legal shape es → AllPlaced (replay es)
-all_placed shape es l = λ c. ascending_before 0 ((replay es).channels c).next ((replay es).channels c).queue (replay_in_order shape es c l).offers
+all_placed shape es l = λ c. ascending_before 0 ((replay es).channels c).next ((replay es).channels c).queue
+    (replay_in_order shape es c l).offers
 
 -- ---- kinds
 
@@ -80,19 +81,15 @@ none_drops Signal d = cc
 
 waiting_keeps : (kind : Kind) (n : ℕ) → suspends kind ≡ true → drops kind n ≡ true → ⊥
 waiting_keeps Rendezvous n s d = cc
-waiting_keeps (Buffered k) n s d = cc
-waiting_keeps Unlimited n s d = cc
-waiting_keeps Conflated n s d = cc
-waiting_keeps (DropOldest k) n s d = cc
-waiting_keeps (DropLatest k) n s d = cc
-waiting_keeps Signal n s d = cc
+waiting_keeps other n s d = cc
 
 -- ---- which act raises it
 
 drop_by_less : (kind : Kind) (q : ℕ) (a b : Channel) → Less a b → owes_drop kind q a ≡ false → owes_drop kind q b ≡ true → ⊥
 drop_by_less kind q a b h f t =
     let r = both_true (nat_lt q b.next) (drops kind (offers_up_to q b.queue)) t in
-    contrary (owes_drop kind q a) (and_true (nat_lt q a.next) (drops kind (offers_up_to q a.queue)) (ap (λ n. nat_lt q n) (sym h.next) ∙ r.0) (fewer_drop kind (offers_up_to q b.queue) (offers_up_to q a.queue) (h.up_to q) r.1)) f
+    contrary (owes_drop kind q a) (and_true (nat_lt q a.next) (drops kind (offers_up_to q a.queue)) (ap (λ n. nat_lt q n) (sym h.next)
+    ∙ r.0) (fewer_drop kind (offers_up_to q b.queue) (offers_up_to q a.queue) (h.up_to q) r.1)) f
 
 last_up_to : (q : ℕ) (os : List Standing) (o : Standing) → nat_le o.place q ≡ false → offers_up_to q (os ++ o ∷ []) ≡ offers_up_to q os
 last_up_to q [] o h = at (nat_le o.place q) h
@@ -102,11 +99,14 @@ last_up_to q [] o h = at (nat_le o.place q) h
     at false h = refl
 last_up_to q (x ∷ os) o h = at (nat_le x.place q) (last_up_to q os o h)
   where
-    at : (b : Bool) → offers_up_to q (os ++ o ∷ []) ≡ offers_up_to q os → length (if b then x ∷ filter (up q) (os ++ o ∷ []) else filter (up q) (os ++ o ∷ [])) ≡ length (if b then x ∷ filter (up q) os else filter (up q) os)
+    at : (b : Bool) → offers_up_to q (os ++ o ∷ []) ≡ offers_up_to q os
+        → length (if b then x ∷ filter (up q) (os ++ o ∷ []) else filter (up q) (os ++ o ∷ [])) ≡
+        length (if b then x ∷ filter (up q) os else filter (up q) os)
     at true h = ap (λ n. suc n) h
     at false h = h
 
-put_there : (kind : Kind) (q : ℕ) (o : Standing) (ch : Channel) → o.place ≡ ch.next → owes_drop kind q ch ≡ false → owes_drop kind q (place_offer true o ch) ≡ true → o.place ≡ q
+put_there : (kind : Kind) (q : ℕ) (o : Standing) (ch : Channel) → o.place ≡ ch.next → owes_drop kind q ch ≡ false
+    → owes_drop kind q (place_offer true o ch) ≡ true → o.place ≡ q
 put_there kind q o ch e f t = at (o.place == q) refl
   where
     parts : (nat_lt q (ch.next + 1) ≡ true) × (drops kind (offers_up_to q (ch.queue ++ o ∷ [])) ≡ true)
@@ -118,57 +118,86 @@ put_there kind q o ch e f t = at (o.place == q) refl
         let first : nat_lt q (ch.next + 1) ≡ true = parts.0 in
         let low : nat_lt q ch.next ≡ true = grind (arith, nat_tests) in
         let high : nat_le o.place q ≡ false = grind (arith, nat_tests) in
-        absurd (contrary (owes_drop kind q ch) (and_true (nat_lt q ch.next) (drops kind (offers_up_to q ch.queue)) low (ap (λ n. drops kind n) (sym (last_up_to q ch.queue o high)) ∙ parts.1)) f)
+        absurd (contrary (owes_drop kind q ch) (and_true (nat_lt q ch.next) (drops kind (offers_up_to q ch.queue)) low
+        (ap (λ n. drops kind n) (sym (last_up_to q ch.queue o high)) ∙ parts.1)) f)
 
-drop_raised : (shape : Shape) (s : State) (who c q : ℕ) (act : Act) → Needs shape s who act → owes_drop (kind_at shape c) q (s.channels c) ≡ false → owes_drop (kind_at shape c) q ((after s who act).channels c) ≡ true → IsPutAt c q act
+drop_raised : (shape : Shape) (s : State) (who c q : ℕ) (act : Act) → Needs shape s who act
+    → owes_drop (kind_at shape c) q (s.channels c) ≡ false → owes_drop (kind_at shape c) q ((after s who act).channels c) ≡ true
+    → IsPutAt c q act
 drop_raised shape s who c q (Put d r v) n f t = at (d == c) refl t
   where
-    there : (d ≡ c) → owes_drop (kind_at shape c) q (place_offer true (record { place = r; value = v; holder = None }) (s.channels d)) ≡ true → r ≡ q
-    there e t = put_there (kind_at shape c) q (record { place = r; value = v; holder = None }) (s.channels d) n.1.first (subst (λ u. owes_drop (kind_at shape c) q (s.channels u) ≡ false) (sym e) f) t
+    there : (d ≡ c) → owes_drop (kind_at shape c) q (place_offer true (record { place = r; value = v; holder = None }) (s.channels d)) ≡
+        true → r ≡ q
+    there e t = put_there (kind_at shape c) q (record { place = r; value = v; holder = None }) (s.channels d) n.1.first
+        (subst (λ u. owes_drop (kind_at shape c) q (s.channels u) ≡ false) (sym e) f) t
 
-    at : (b : Bool) → (d == c) ≡ b → owes_drop (kind_at shape c) q (if b then place_offer true (record { place = r; value = v; holder = None }) (s.channels d) else s.channels c) ≡ true → (d ≡ c) × (r ≡ q)
+    at : (b : Bool) → (d == c) ≡ b → owes_drop (kind_at shape c) q
+        (if b then place_offer true (record { place = r; value = v; holder = None }) (s.channels d) else s.channels c) ≡ true → (d ≡ c)
+        × (r ≡ q)
     at true e t = (eqb-true d c e, there (eqb-true d c e) t)
     at false e t = absurd (contrary (owes_drop (kind_at shape c) q (s.channels c)) t f)
 drop_raised shape s who c q (Offer d r v w k) n f t = absurd (at (d == c) refl t)
   where
-    at : (b : Bool) → (d == c) ≡ b → owes_drop (kind_at shape c) q (if b then place_offer (is_open (s.waits w)) (record { place = r; value = v; holder = Some (record { wait = w; clause = k }) }) (s.channels d) else s.channels c) ≡ true → ⊥
-    at true e t = waiting_keeps (kind_at shape c) _ (subst (λ u. suspends (kind_at shape u) ≡ true) (eqb-true d c e) n.3) (both_true _ _ t).1
+    at : (b : Bool) → (d == c) ≡ b → owes_drop (kind_at shape c) q
+        (if b then place_offer (is_open (s.waits w)) (record { place = r; value = v; holder = Some (record { wait = w; clause = k }) })
+        (s.channels d) else s.channels c) ≡ true → ⊥
+    at true e t = waiting_keeps (kind_at shape c) _ (subst (λ u. suspends (kind_at shape u) ≡ true) (eqb-true d c e) n.3)
+        (both_true _ _ t).1
     at false e t = contrary (owes_drop (kind_at shape c) q (s.channels c)) t f
 drop_raised shape s who c q (Await d r w k) n f t = absurd (at (d == c) refl (is_open (s.waits w)) t)
   where
     none : (queue : List Standing) → queue ≡ [] → drops (kind_at shape c) (offers_up_to q queue) ≡ true → ⊥
     none queue e h = none_drops (kind_at shape c) (subst (λ l. drops (kind_at shape c) (offers_up_to q l) ≡ true) e h)
 
-    at : (b : Bool) → (d == c) ≡ b → (o : Bool) → owes_drop (kind_at shape c) q (if b then place_receiver o (record { place = r; party = record { wait = w; clause = k } }) (s.channels d) else s.channels c) ≡ true → ⊥
+    at : (b : Bool) → (d == c) ≡ b → (o : Bool) → owes_drop (kind_at shape c) q
+        (if b then place_receiver o (record { place = r; party = record { wait = w; clause = k } }) (s.channels d) else s.channels c) ≡ true
+        → ⊥
     at true e true t = none (s.channels d).queue n.2 (both_true _ _ t).1
     at true e false t = none (s.channels d).queue n.2 (both_true _ _ t).1
     at false e o t = contrary (owes_drop (kind_at shape c) q (s.channels c)) t f
 drop_raised shape s who c q (Close d v) n f t = absurd (at (d == c) refl t)
   where
-    at : (b : Bool) → (d == c) ≡ b → owes_drop (kind_at shape c) q (if b then record (s.channels d) { closed = Some v } else s.channels c) ≡ true → ⊥
-    at true e t = contrary (owes_drop (kind_at shape c) q (s.channels c)) (subst (λ u. owes_drop (kind_at shape c) q (s.channels u) ≡ true) (eqb-true d c e) t) f
+    at : (b : Bool) → (d == c) ≡ b → owes_drop (kind_at shape c) q (if b then record (s.channels d) { closed = Some v } else s.channels c) ≡
+        true → ⊥
+    at true e t = contrary (owes_drop (kind_at shape c) q (s.channels c))
+        (subst (λ u. owes_drop (kind_at shape c) q (s.channels u) ≡ true) (eqb-true d c e) t) f
     at false e t = contrary (owes_drop (kind_at shape c) q (s.channels c)) t f
 drop_raised shape s who c q (Void d) n f t = absurd (at (d == c) refl t)
   where
-    at : (b : Bool) → (d == c) ≡ b → owes_drop (kind_at shape c) q (if b then record (s.channels d) { voided = true } else s.channels c) ≡ true → ⊥
-    at true e t = contrary (owes_drop (kind_at shape c) q (s.channels c)) (subst (λ u. owes_drop (kind_at shape c) q (s.channels u) ≡ true) (eqb-true d c e) t) f
+    at : (b : Bool) → (d == c) ≡ b → owes_drop (kind_at shape c) q (if b then record (s.channels d) { voided = true } else s.channels c) ≡
+        true → ⊥
+    at true e t = contrary (owes_drop (kind_at shape c) q (s.channels c))
+        (subst (λ u. owes_drop (kind_at shape c) q (s.channels u) ≡ true) (eqb-true d c e) t) f
     at false e t = contrary (owes_drop (kind_at shape c) q (s.channels c)) t f
-drop_raised shape s who c q (Hand d p v) n f t = absurd (drop_by_less (kind_at shape c) q (s.channels c) _ (less_after s who (Hand d p v) refl c) f t)
-drop_raised shape s who c q (Take d p v) n f t = absurd (drop_by_less (kind_at shape c) q (s.channels c) _ (less_after s who (Take d p v) refl c) f t)
-drop_raised shape s who c q (Admit d p) n f t = absurd (drop_by_less (kind_at shape c) q (s.channels c) _ (less_after s who (Admit d p) refl c) f t)
-drop_raised shape s who c q (Drop d p v) n f t = absurd (drop_by_less (kind_at shape c) q (s.channels c) _ (less_after s who (Drop d p v) refl c) f t)
-drop_raised shape s who c q (Spurn d p v) n f t = absurd (drop_by_less (kind_at shape c) q (s.channels c) _ (less_after s who (Spurn d p v) refl c) f t)
-drop_raised shape s who c q (Drain d p v) n f t = absurd (drop_by_less (kind_at shape c) q (s.channels c) _ (less_after s who (Drain d p v) refl c) f t)
-drop_raised shape s who c q (WakeClosed d p) n f t = absurd (drop_by_less (kind_at shape c) q (s.channels c) _ (less_after s who (WakeClosed d p) refl c) f t)
-drop_raised shape s who c q (Withdraw w why) n f t = absurd (drop_by_less (kind_at shape c) q (s.channels c) _ (less_after s who (Withdraw w why) refl c) f t)
+drop_raised shape s who c q (Hand d p v) n f t = absurd
+    (drop_by_less (kind_at shape c) q (s.channels c) _ (less_after s who (Hand d p v) refl c) f t)
+drop_raised shape s who c q (Take d p v) n f t = absurd
+    (drop_by_less (kind_at shape c) q (s.channels c) _ (less_after s who (Take d p v) refl c) f t)
+drop_raised shape s who c q (Admit d p) n f t = absurd (drop_by_less (kind_at shape c) q (s.channels c) _
+    (less_after s who (Admit d p) refl c) f t)
+drop_raised shape s who c q (Drop d p v) n f t = absurd
+    (drop_by_less (kind_at shape c) q (s.channels c) _ (less_after s who (Drop d p v) refl c) f t)
+drop_raised shape s who c q (Spurn d p v) n f t = absurd
+    (drop_by_less (kind_at shape c) q (s.channels c) _ (less_after s who (Spurn d p v) refl c) f t)
+drop_raised shape s who c q (Drain d p v) n f t = absurd
+    (drop_by_less (kind_at shape c) q (s.channels c) _ (less_after s who (Drain d p v) refl c) f t)
+drop_raised shape s who c q (WakeClosed d p) n f t = absurd
+    (drop_by_less (kind_at shape c) q (s.channels c) _ (less_after s who (WakeClosed d p) refl c) f t)
+drop_raised shape s who c q (Withdraw w why) n f t = absurd
+    (drop_by_less (kind_at shape c) q (s.channels c) _ (less_after s who (Withdraw w why) refl c) f t)
 drop_raised shape s who c q (Settle w outcome) n f t = absurd (contrary (owes_drop (kind_at shape c) q (s.channels c)) t f)
 
 pub no_drop : (a b : Bool) → b ≡ false → (a && b) ≡ false
 no_drop true b h = h
 no_drop false b h = refl
 
-drop_pays : (shape : Shape) (channels : List Entry) (c q k : ℕ) (act : Act) (before : List Entry) (ys : List Told) → BehindOf shape k channels before act ys → IsPutAt c q act → Follows act ys → CallPaidAt shape k (λ s. owes_drop (kind_at shape c) q (s.channels c)) (IsPutAt c q) channels (part who_did deed k before ++ act ∷ [])
-drop_pays shape channels c q k (Put d r v) before ys b e f = by_fact shape channels (λ s. owes_drop (kind_at shape c) q (s.channels c)) (IsPutAt c q) k (FitsUpTo d r) (λ s h. no_drop (nat_lt q (s.channels c).next) _ (subst (λ u. drops (kind_at shape c) (offers_up_to u (s.channels c).queue) ≡ false) e.1 (subst (λ u. drops (kind_at shape u) (offers_up_to r (s.channels u).queue) ≡ false) e.0 h))) before (Put d r v) ys b f.0
+drop_pays : (shape : Shape) (channels : List Entry) (c q k : ℕ) (act : Act) (before : List Entry) (ys : List Told)
+    → BehindOf shape k channels before act ys → IsPutAt c q act → Follows act ys
+    → CallPaidAt shape k (λ s. owes_drop (kind_at shape c) q (s.channels c)) (IsPutAt c q) channels (part who_did deed k before ++ act ∷ [])
+drop_pays shape channels c q k (Put d r v) before ys b e f =
+    by_fact shape channels (λ s. owes_drop (kind_at shape c) q (s.channels c)) (IsPutAt c q) k (FitsUpTo d r)
+    (λ s h. no_drop (nat_lt q (s.channels c).next) _ (subst (λ u. drops (kind_at shape c) (offers_up_to u (s.channels c).queue) ≡ false) e.1
+    (subst (λ u. drops (kind_at shape u) (offers_up_to r (s.channels u).queue) ≡ false) e.0 h))) before (Put d r v) ys b f.0
 drop_pays shape channels c q k other before ys b e f = absurd e
 
 drops_none : (kind : Kind) → drops kind 0 ≡ false
@@ -183,7 +212,8 @@ drop_debt shape channels l c q = record {
   owes = λ s. owes_drop (kind_at shape c) q (s.channels c);
   Raises = IsPutAt c q;
   first = no_drop (nat_lt q 0) (drops (kind_at shape c) 0) (drops_none (kind_at shape c));
-  rises = λ before e rest parts f t. drop_raised shape (replay before) e.who c q e.act (needs_there shape channels before e rest l parts) f t;
+  rises = λ before e rest parts f t. drop_raised shape (replay before) e.who c q e.act (needs_there shape channels before e rest l parts) f
+      t;
   pays = λ k before e rest ys parts mine owed behind r f. drop_pays shape channels c q k e.act before ys behind r f;
 }
 
@@ -194,7 +224,8 @@ unfolding AllBefore
 all_up_to n [] h = refl
 all_up_to n (o ∷ os) h = at (nat_le o.place n) (let k : o.place < suc n = h.0 in grind (arith, nat_tests)) (all_up_to n os h.1)
   where
-    at : (b : Bool) → b ≡ true → offers_up_to n os ≡ length os → length (if b then o ∷ filter (up n) os else filter (up n) os) ≡ suc (length os)
+    at : (b : Bool) → b ≡ true → offers_up_to n os ≡ length os
+        → length (if b then o ∷ filter (up n) os else filter (up n) os) ≡ suc (length os)
     at true e h = ap (λ m. suc m) h
     at false e h = cc
 
@@ -211,11 +242,13 @@ fits kind ch placed free = at ch.next refl
     is_false false h = refl
 
     at : (n : ℕ) → ch.next ≡ n → drops kind (length ch.queue) ≡ false
-    at zero e = is_false (drops kind (length ch.queue)) (λ d. none_drops kind (subst (λ l. drops kind (length l) ≡ true) (none_placed ch.queue (subst (λ n. AllBefore n ch.queue) e placed)) d))
+    at zero e = is_false (drops kind (length ch.queue)) (λ d. none_drops kind
+        (subst (λ l. drops kind (length l) ≡ true) (none_placed ch.queue (subst (λ n. AllBefore n ch.queue) e placed)) d))
     at (suc n) e =
         let all : offers_up_to n ch.queue ≡ length ch.queue = all_up_to n ch.queue (subst (λ m. AllBefore m ch.queue) e placed) in
         let given : nat_lt n ch.next ≡ true = grind (arith, nat_tests) in
-        is_false (drops kind (length ch.queue)) (λ d. contrary (owes_drop kind n ch) (and_true (nat_lt n ch.next) (drops kind (offers_up_to n ch.queue)) given (ap (λ m. drops kind m) all ∙ d)) (free n))
+        is_false (drops kind (length ch.queue)) (λ d. contrary (owes_drop kind n ch)
+        (and_true (nat_lt n ch.next) (drops kind (offers_up_to n ch.queue)) given (ap (λ m. drops kind m) all ∙ d)) (free n))
 
 abbrev pub FitsAtEnd : Type 0
 FitsAtEnd = (p : Program) (books : List (List Item)) (channels : List Entry) (jobs : List JobEntry) → BooksOf p books channels jobs
@@ -224,4 +257,6 @@ FitsAtEnd = (p : Program) (books : List (List Item)) (channels : List Entry) (jo
 -- each queue fits at the end of a run
 pub fits_at_end : FitsAtEnd
 unfolding drop_debt
-fits_at_end p books channels jobs of c = fits (kind_at (floor_shape p) c) ((replay channels).channels c) (all_placed (floor_shape p) channels of.legal_channels c) (λ q. nobody_owes p books channels jobs of (drop_debt (floor_shape p) channels of.legal_channels c q))
+fits_at_end p books channels jobs of c = fits (kind_at (floor_shape p) c) ((replay channels).channels c)
+    (all_placed (floor_shape p) channels of.legal_channels c)
+    (λ q. nobody_owes p books channels jobs of (drop_debt (floor_shape p) channels of.legal_channels c q))

@@ -59,13 +59,16 @@ front kind m n p (o ∷ os) h t = at (is_some o.holder) (nat_lt o.place m) (is_f
     later : FrontHasRoom kind m (n + 1) p → FrontHasRoom kind m n p
     later r = record { room = one_full kind n r.room; low = r.low }
 
-    at : (a b f : Bool) → nat_lt o.place m ≡ b → is_full kind n ≡ f → (owes_below m kind (n + 1) os ≡ true → FrontHasRoom kind m (n + 1) p) → ((a && (b && not f)) || owes_below m kind (n + 1) os) ≡ true → FrontHasRoom kind m n p
+    at : (a b f : Bool) → nat_lt o.place m ≡ b → is_full kind n ≡ f → (owes_below m kind (n + 1) os ≡ true → FrontHasRoom kind m (n + 1) p)
+        → ((a && (b && not f)) || owes_below m kind (n + 1) os) ≡ true → FrontHasRoom kind m n p
     at true true false b f rec t = record { room = f; low = let k : p < o.place = h.0 in grind (arith, nat_tests) }
     at true true true b f rec t = later (rec t)
     at true false f b e rec t = later (rec t)
     at false b f c e rec t = later (rec t)
 
-filtered_owes : (kind : Kind) (m n : ℕ) (test : Standing → Bool) (os : List Standing) → ((o : Standing) → test o ≡ false → is_some o.holder ≡ true) → Ascends os → owes_below m kind n (filter test os) ≡ true → owes_below m kind n os ≡ true
+filtered_owes : (kind : Kind) (m n : ℕ) (test : Standing → Bool) (os : List Standing)
+    → ((o : Standing) → test o ≡ false → is_some o.holder ≡ true) → Ascends os → owes_below m kind n (filter test os) ≡ true
+    → owes_below m kind n os ≡ true
 unfolding Ascends owes_below
 filtered_owes kind m n test [] only a t = t
 filtered_owes kind m n test (o ∷ os) only a t = at (test o) refl (λ k e. filtered_owes kind m k test os only a.1 e) t
@@ -81,13 +84,17 @@ filtered_owes kind m n test (o ∷ os) only a t = at (test o) refl (λ k e. filt
     all false b f x p q r = cc
 
     by_front : test o ≡ false → FrontHasRoom kind m n o.place → owes_below m kind n (o ∷ os) ≡ true
-    by_front e r = all (is_some o.holder) (nat_lt o.place m) (is_full kind n) (owes_below m kind (n + 1) os) (only o e) (let k : o.place < m = r.low in grind (arith, nat_tests)) r.room
+    by_front e r = all (is_some o.holder) (nat_lt o.place m) (is_full kind n) (owes_below m kind (n + 1) os) (only o e)
+        (let k : o.place < m = r.low in grind (arith, nat_tests)) r.room
 
-    at : (b : Bool) → test o ≡ b → ((k : ℕ) → owes_below m kind k (filter test os) ≡ true → owes_below m kind k os ≡ true) → owes_below m kind n (if b then o ∷ filter test os else filter test os) ≡ true → owes_below m kind n (o ∷ os) ≡ true
-    at true e rec t = same_front (is_some o.holder && (nat_lt o.place m && not (is_full kind n))) (owes_below m kind (n + 1) (filter test os)) (owes_below m kind (n + 1) os) (rec (n + 1)) t
+    at : (b : Bool) → test o ≡ b → ((k : ℕ) → owes_below m kind k (filter test os) ≡ true → owes_below m kind k os ≡ true)
+        → owes_below m kind n (if b then o ∷ filter test os else filter test os) ≡ true → owes_below m kind n (o ∷ os) ≡ true
+    at true e rec t = same_front (is_some o.holder && (nat_lt o.place m && not (is_full kind n)))
+        (owes_below m kind (n + 1) (filter test os)) (owes_below m kind (n + 1) os) (rec (n + 1)) t
     at false e rec t = by_front e (front kind m n o.place os a.0 (rec n t))
 
-filtered_stands : (q : ℕ) (test : Standing → Bool) (os : List Standing) → list_any (stands_held q) (filter test os) ≡ true → list_any (stands_held q) os ≡ true
+filtered_stands : (q : ℕ) (test : Standing → Bool) (os : List Standing) → list_any (stands_held q) (filter test os) ≡ true
+    → list_any (stands_held q) os ≡ true
 filtered_stands q test [] t = t
 filtered_stands q test (o ∷ os) t = at (test o) (λ e. filtered_stands q test os e) t
   where
@@ -95,7 +102,9 @@ filtered_stands q test (o ∷ os) t = at (test o) (λ e. filtered_stands q test 
     same_front true y z h t = refl
     same_front false y z h t = h t
 
-    at : (b : Bool) → (list_any (stands_held q) (filter test os) ≡ true → list_any (stands_held q) os ≡ true) → list_any (stands_held q) (if b then o ∷ filter test os else filter test os) ≡ true → (stands_held q o || list_any (stands_held q) os) ≡ true
+    at : (b : Bool) → (list_any (stands_held q) (filter test os) ≡ true → list_any (stands_held q) os ≡ true)
+        → list_any (stands_held q) (if b then o ∷ filter test os else filter test os) ≡ true
+        → (stands_held q o || list_any (stands_held q) os) ≡ true
     at true rec t = same_front (stands_held q o) (list_any (stands_held q) (filter test os)) (list_any (stands_held q) os) rec t
     at false rec t = or_right (stands_held q o) (list_any (stands_held q) os) (rec t)
 
@@ -109,12 +118,16 @@ admitted_owes kind m n p (o ∷ os) t = at (o.place == p) (λ e. admitted_owes k
     same_front true y z h t = refl
     same_front false y z h t = h t
 
-    at : (b : Bool) → (owes_below m kind (n + 1) (admitted p os) ≡ true → owes_below m kind (n + 1) os ≡ true) → owes_below m kind n (if b then record o { holder = None } ∷ os else o ∷ admitted p os) ≡ true → owes_below m kind n (o ∷ os) ≡ true
+    at : (b : Bool) → (owes_below m kind (n + 1) (admitted p os) ≡ true → owes_below m kind (n + 1) os ≡ true)
+        → owes_below m kind n (if b then record o { holder = None } ∷ os else o ∷ admitted p os) ≡ true
+        → owes_below m kind n (o ∷ os) ≡ true
     at true rec t = or_right _ _ t
-    at false rec t = same_front (is_some o.holder && (nat_lt o.place m && not (is_full kind n))) (owes_below m kind (n + 1) (admitted p os)) (owes_below m kind (n + 1) os) rec t
+    at false rec t = same_front (is_some o.holder && (nat_lt o.place m && not (is_full kind n))) (owes_below m kind (n + 1) (admitted p os))
+        (owes_below m kind (n + 1) os) rec t
 
 -- a last offer that is not held, or stands at the mark or behind it, counts for nothing
-last_owes : (kind : Kind) (m n : ℕ) (os : List Standing) (o : Standing) → (is_some o.holder && nat_lt o.place m) ≡ false → owes_below m kind n (os ++ o ∷ []) ≡ owes_below m kind n os
+last_owes : (kind : Kind) (m n : ℕ) (os : List Standing) (o : Standing) → (is_some o.holder && nat_lt o.place m) ≡ false
+    → owes_below m kind n (os ++ o ∷ []) ≡ owes_below m kind n os
 unfolding owes_below
 last_owes kind m n [] o h = at (is_some o.holder) (nat_lt o.place m) (is_full kind n) h
   where
@@ -122,9 +135,11 @@ last_owes kind m n [] o h = at (is_some o.holder) (nat_lt o.place m) (is_full ki
     at true true f h = cc
     at true false f h = refl
     at false b f h = refl
-last_owes kind m n (x ∷ os) o h = ap (λ b. (is_some x.holder && (nat_lt x.place m && not (is_full kind n))) || b) (last_owes kind m (n + 1) os o h)
+last_owes kind m n (x ∷ os) o h = ap (λ b. (is_some x.holder && (nat_lt x.place m && not (is_full kind n)))
+    || b) (last_owes kind m (n + 1) os o h)
 
-last_stands : (q : ℕ) (os : List Standing) (o : Standing) → stands_held q o ≡ false → list_any (stands_held q) (os ++ o ∷ []) ≡ list_any (stands_held q) os
+last_stands : (q : ℕ) (os : List Standing) (o : Standing) → stands_held q o ≡ false
+    → list_any (stands_held q) (os ++ o ∷ []) ≡ list_any (stands_held q) os
 last_stands q [] o h = ap (λ b. b || false) h
 last_stands q (x ∷ os) o h = ap (λ b. stands_held q x || b) (last_stands q os o h)
 
@@ -225,10 +240,17 @@ held_removed w o e = at o.holder e
 
 tight_without : (kind : Kind) (w : WaitId) (a : Channel) → Tight kind a (Rattle.channel_model.specs.Effects.without w a)
 tight_without kind w a = record {
-  ordered = λ h. record { ascends = ascends_filter (λ (o : Standing). not (is_held_by w o.holder)) a.queue h.ascends; none = λ s. none_filter (λ (o : Standing). not (is_held_by w o.holder)) a.queue (h.none s) };
+  ordered = λ h. record {
+    ascends = ascends_filter (λ (o : Standing). not (is_held_by w o.holder)) a.queue h.ascends;
+    none =
+        λ s. none_filter (λ (o : Standing). not (is_held_by w o.holder)) a.queue (h.none s);
+  };
   owes = λ q h t.
-      let r = both_true (list_any (stands_held q) (filter (λ (o : Standing). not (is_held_by w o.holder)) a.queue)) (owes_below (q + 1) kind 0 (filter (λ (o : Standing). not (is_held_by w o.holder)) a.queue)) t in
-      and_true (list_any (stands_held q) a.queue) (owes_below (q + 1) kind 0 a.queue) (filtered_stands q (λ (o : Standing). not (is_held_by w o.holder)) a.queue r.0) (filtered_owes kind (q + 1) 0 (λ (o : Standing). not (is_held_by w o.holder)) a.queue (held_removed w) h.ascends r.1);
+      let r = both_true (list_any (stands_held q) (filter (λ (o : Standing). not (is_held_by w o.holder)) a.queue))
+      (owes_below (q + 1) kind 0 (filter (λ (o : Standing). not (is_held_by w o.holder)) a.queue)) t in
+      and_true (list_any (stands_held q) a.queue) (owes_below (q + 1) kind 0 a.queue)
+      (filtered_stands q (λ (o : Standing). not (is_held_by w o.holder)) a.queue r.0)
+      (filtered_owes kind (q + 1) 0 (λ (o : Standing). not (is_held_by w o.holder)) a.queue (held_removed w) h.ascends r.1);
 }
 
 admitted_stands : (q p : ℕ) (os : List Standing) → list_any (stands_held q) (admitted p os) ≡ true → list_any (stands_held q) os ≡ true
@@ -243,7 +265,9 @@ admitted_stands q p (o ∷ os) t = at (o.place == p) (λ e. admitted_stands q p 
     same_front true y z h t = refl
     same_front false y z h t = h t
 
-    at : (b : Bool) → (list_any (stands_held q) (admitted p os) ≡ true → list_any (stands_held q) os ≡ true) → list_any (stands_held q) (if b then record o { holder = None } ∷ os else o ∷ admitted p os) ≡ true → (stands_held q o || list_any (stands_held q) os) ≡ true
+    at : (b : Bool) → (list_any (stands_held q) (admitted p os) ≡ true → list_any (stands_held q) os ≡ true)
+        → list_any (stands_held q) (if b then record o { holder = None } ∷ os else o ∷ admitted p os) ≡ true
+        → (stands_held q o || list_any (stands_held q) os) ≡ true
     at true rec t = or_right (stands_held q o) (list_any (stands_held q) os) (none_there (o.place == q) (list_any (stands_held q) os) t)
     at false rec t = same_front (stands_held q o) (list_any (stands_held q) (admitted p os)) (list_any (stands_held q) os) rec t
 
@@ -252,18 +276,22 @@ tight_admitted kind p a = record {
   ordered = λ h. record { ascends = ascends_admitted p a.queue h.ascends; none = λ s. none_admitted p a.queue (h.none s) };
   owes = λ q h t.
       let r = both_true (list_any (stands_held q) (admitted p a.queue)) (owes_below (q + 1) kind 0 (admitted p a.queue)) t in
-      and_true (list_any (stands_held q) a.queue) (owes_below (q + 1) kind 0 a.queue) (admitted_stands q p a.queue r.0) (admitted_owes kind (q + 1) 0 p a.queue r.1);
+      and_true (list_any (stands_held q) a.queue) (owes_below (q + 1) kind 0 a.queue) (admitted_stands q p a.queue r.0)
+      (admitted_owes kind (q + 1) 0 p a.queue r.1);
 }
 
-tight_first : (kind : Kind) (rs : List Receiver) (how : ℕ → Resolution) (s : State) (c : ℕ) → Tight kind (s.channels c) ((resolve_first rs how s).channels c)
+tight_first : (kind : Kind) (rs : List Receiver) (how : ℕ → Resolution) (s : State) (c : ℕ)
+    → Tight kind (s.channels c) ((resolve_first rs how s).channels c)
 tight_first kind [] how s c = tight_same kind (s.channels c)
 tight_first kind (r ∷ rs) how s c = tight_without kind r.party.wait (s.channels c)
 
-tight_holder : (kind : Kind) (p : Option Party) (how : ℕ → Resolution) (s : State) (c : ℕ) → Tight kind (s.channels c) ((resolve_holder p how s).channels c)
+tight_holder : (kind : Kind) (p : Option Party) (how : ℕ → Resolution) (s : State) (c : ℕ)
+    → Tight kind (s.channels c) ((resolve_holder p how s).channels c)
 tight_holder kind None how s c = tight_same kind (s.channels c)
 tight_holder kind (Some p) how s c = tight_without kind p.wait (s.channels c)
 
-tight_put : (kind : Kind) (s : State) (d : ℕ) (ch : Channel) → Tight kind (s.channels d) ch → (c : ℕ) → Tight kind (s.channels c) (put_channel d ch s.channels c)
+tight_put : (kind : Kind) (s : State) (d : ℕ) (ch : Channel) → Tight kind (s.channels d) ch → (c : ℕ)
+    → Tight kind (s.channels c) (put_channel d ch s.channels c)
 tight_put kind s d ch h c = at (d == c) refl
   where
     at : (b : Bool) → (d == c) ≡ b → Tight kind (s.channels c) (if b then ch else s.channels c)
@@ -271,7 +299,9 @@ tight_put kind s d ch h c = at (d == c) refl
     at false e = tight_same kind (s.channels c)
 
 tight_admit : (kind : Kind) (s : State) (who d p c : ℕ) → Tight kind (s.channels c) ((after s who (Admit d p)).channels c)
-tight_admit kind s who d p c = tight_then kind (s.channels c) ((with_queue d (admitted p (s.channels d).queue) s).channels c) _ (tight_put kind s d (record (s.channels d) { queue = admitted p (s.channels d).queue }) (tight_admitted kind p (s.channels d)) c) (tight_holder kind _ _ (with_queue d (admitted p (s.channels d).queue) s) c)
+tight_admit kind s who d p c = tight_then kind (s.channels c) ((with_queue d (admitted p (s.channels d).queue) s).channels c) _
+    (tight_put kind s d (record (s.channels d) { queue = admitted p (s.channels d).queue }) (tight_admitted kind p (s.channels d)) c)
+    (tight_holder kind _ _ (with_queue d (admitted p (s.channels d).queue) s) c)
 
 -- ---- the laws, act by act
 
@@ -291,7 +321,8 @@ ascends_of n m (o ∷ os) h = (behind_of (o.place + 1) m o.place os (omega arith
 none_of : (os : List Standing) → list_all (λ (o : Standing). is_none o.holder) os ≡ true → NoneHeld os
 unfolding NoneHeld
 none_of [] h = tt
-none_of (o ∷ os) h = let r = both_true (is_none o.holder) (list_all (λ (o : Standing). is_none o.holder) os) h in (not_some o.holder r.0, none_of os r.1)
+none_of (o ∷ os) h = let r = both_true (is_none o.holder) (list_all (λ (o : Standing). is_none o.holder) os) h
+    in (not_some o.holder r.0, none_of os r.1)
   where
     not_some : (x : Option Party) → is_none x ≡ true → is_some x ≡ false
     not_some None e = refl
@@ -305,11 +336,14 @@ all_ordered shape es l = λ c. record {
 
 -- ---- which act raises it
 
-same_owes : (shape : Shape) (s : State) (c q d : ℕ) (ch : Channel) → ch.queue ≡ (s.channels d).queue → owes_admit (kind_at shape c) q (s.channels c) ≡ false → owes_admit (kind_at shape c) q (put_channel d ch s.channels c) ≡ true → ⊥
+same_owes : (shape : Shape) (s : State) (c q d : ℕ) (ch : Channel) → ch.queue ≡ (s.channels d).queue
+    → owes_admit (kind_at shape c) q (s.channels c) ≡ false → owes_admit (kind_at shape c) q (put_channel d ch s.channels c) ≡ true → ⊥
 same_owes shape s c q d ch e f t = at (d == c) refl t
   where
     at : (b : Bool) → (d == c) ≡ b → owes_admit (kind_at shape c) q (if b then ch else s.channels c) ≡ true → ⊥
-    at true k t = contrary (owes_admit (kind_at shape c) q (s.channels c)) (subst (λ u. owes_admit (kind_at shape c) q (s.channels u) ≡ true) (eqb-true d c k) (subst (λ l. (list_any (stands_held q) l && owes_below (q + 1) (kind_at shape c) 0 l) ≡ true) e t)) f
+    at true k t = contrary (owes_admit (kind_at shape c) q (s.channels c))
+        (subst (λ u. owes_admit (kind_at shape c) q (s.channels u) ≡ true) (eqb-true d c k)
+        (subst (λ l. (list_any (stands_held q) l && owes_below (q + 1) (kind_at shape c) 0 l) ≡ true) e t)) f
     at false k t = contrary (owes_admit (kind_at shape c) q (s.channels c)) t f
 
 no_holder : (q : ℕ) (o : Standing) → o.holder ≡ None → stands_held q o ≡ false
@@ -320,37 +354,47 @@ no_holder q o e = at (o.place == q) (is_some o.holder) (ap is_some e)
     at false b h = refl
 
 -- an offer that comes last, at another place
-by_last : (kind : Kind) (q : ℕ) (b : Bool) (o : Standing) (ch : Channel) → AllBefore ch.next ch.queue → o.place ≡ ch.next → stands_held q o ≡ false → owes_admit kind q ch ≡ false → owes_admit kind q (place_offer b o ch) ≡ true → ⊥
+by_last : (kind : Kind) (q : ℕ) (b : Bool) (o : Standing) (ch : Channel) → AllBefore ch.next ch.queue → o.place ≡ ch.next
+    → stands_held q o ≡ false → owes_admit kind q ch ≡ false → owes_admit kind q (place_offer b o ch) ≡ true → ⊥
 by_last kind q false o ch p e n f t = contrary (owes_admit kind q ch) t f
 by_last kind q true o ch p e n f t =
     let r = both_true (list_any (stands_held q) (ch.queue ++ o ∷ [])) (owes_below (q + 1) kind 0 (ch.queue ++ o ∷ [])) t in
     let stands : list_any (stands_held q) ch.queue ≡ true = sym (last_stands q ch.queue o n) ∙ r.0 in
     let low : q < ch.next = held_before q ch.next ch.queue p stands in
     let high : nat_lt o.place (q + 1) ≡ false = grind (arith, nat_tests) in
-    contrary (owes_admit kind q ch) (and_true (list_any (stands_held q) ch.queue) (owes_below (q + 1) kind 0 ch.queue) stands (sym (last_owes kind (q + 1) 0 ch.queue o (both_false (is_some o.holder) (nat_lt o.place (q + 1)) high)) ∙ r.1)) f
+    contrary (owes_admit kind q ch) (and_true (list_any (stands_held q) ch.queue) (owes_below (q + 1) kind 0 ch.queue) stands
+    (sym (last_owes kind (q + 1) 0 ch.queue o (both_false (is_some o.holder) (nat_lt o.place (q + 1)) high)) ∙ r.1)) f
   where
     both_false : (a b : Bool) → b ≡ false → (a && b) ≡ false
     both_false true b h = h
     both_false false b h = refl
 
-at_same : (shape : Shape) (s : State) (c q d : ℕ) (ch : Channel) → d ≡ c → owes_admit (kind_at shape c) q (put_channel d ch s.channels c) ≡ true → owes_admit (kind_at shape c) q ch ≡ true
+at_same : (shape : Shape) (s : State) (c q d : ℕ) (ch : Channel) → d ≡ c
+    → owes_admit (kind_at shape c) q (put_channel d ch s.channels c) ≡ true → owes_admit (kind_at shape c) q ch ≡ true
 at_same shape s c q d ch e t = at (d == c) (subst (λ u. (d == u) ≡ true) e (grind (arith, nat_tests))) t
   where
-    at : (b : Bool) → b ≡ true → owes_admit (kind_at shape c) q (if b then ch else s.channels c) ≡ true → owes_admit (kind_at shape c) q ch ≡ true
+    at : (b : Bool) → b ≡ true → owes_admit (kind_at shape c) q (if b then ch else s.channels c) ≡ true
+        → owes_admit (kind_at shape c) q ch ≡ true
     at true k t = t
     at false k t = cc
 
-at_other : (shape : Shape) (s : State) (c q d : ℕ) (ch : Channel) → (d == c) ≡ false → owes_admit (kind_at shape c) q (put_channel d ch s.channels c) ≡ true → owes_admit (kind_at shape c) q (s.channels c) ≡ true
+at_other : (shape : Shape) (s : State) (c q d : ℕ) (ch : Channel) → (d == c) ≡ false
+    → owes_admit (kind_at shape c) q (put_channel d ch s.channels c) ≡ true → owes_admit (kind_at shape c) q (s.channels c) ≡ true
 at_other shape s c q d ch e t = at (d == c) e t
   where
-    at : (b : Bool) → b ≡ false → owes_admit (kind_at shape c) q (if b then ch else s.channels c) ≡ true → owes_admit (kind_at shape c) q (s.channels c) ≡ true
+    at : (b : Bool) → b ≡ false → owes_admit (kind_at shape c) q (if b then ch else s.channels c) ≡ true
+        → owes_admit (kind_at shape c) q (s.channels c) ≡ true
     at true k t = cc
     at false k t = t
 
 -- where the first offer of another channel goes
-elsewhere : (shape : Shape) (s : State) (c q d : ℕ) (qs : List Standing) (how : ℕ → Resolution) → AllOrdered shape s → (d == c) ≡ false → owes_admit (kind_at shape c) q (s.channels c) ≡ false → owes_admit (kind_at shape c) q ((resolve_offer d qs how s).channels c) ≡ true → ⊥
+elsewhere : (shape : Shape) (s : State) (c q d : ℕ) (qs : List Standing) (how : ℕ → Resolution) → AllOrdered shape s → (d == c) ≡ false
+    → owes_admit (kind_at shape c) q (s.channels c) ≡ false → owes_admit (kind_at shape c) q ((resolve_offer d qs how s).channels c) ≡ true
+    → ⊥
 elsewhere shape s c q d [] how h e f t = contrary (owes_admit (kind_at shape c) q (s.channels c)) t f
-elsewhere shape s c q d (o ∷ os) how h e f t = contrary (owes_admit (kind_at shape c) q (s.channels c)) (at_other shape s c q d (record (s.channels d) { queue = os }) e ((tight_holder (kind_at shape c) o.holder how (with_queue d os s) c).owes q (there (d == c) e) t)) f
+elsewhere shape s c q d (o ∷ os) how h e f t = contrary (owes_admit (kind_at shape c) q (s.channels c))
+    (at_other shape s c q d (record (s.channels d) { queue = os }) e
+    ((tight_holder (kind_at shape c) o.holder how (with_queue d os s) c).owes q (there (d == c) e) t)) f
   where
     there : (b : Bool) → b ≡ false → IsOrdered (kind_at shape c) (if b then record (s.channels d) { queue = os } else s.channels c)
     there true k = cc
@@ -364,7 +408,8 @@ by_channel P d c f g = at (d == c) refl
     at false e = f e
 
 none_room : (kind : Kind) (q : ℕ) (ch : Channel) → NoneHeld ch.queue → owes_admit kind q ch ≡ true → ⊥
-none_room kind q ch n t = contrary (list_any (stands_held q) ch.queue) (both_true (list_any (stands_held q) ch.queue) (owes_below (q + 1) kind 0 ch.queue) t).0 (no_stands q ch.queue n)
+none_room kind q ch n t = contrary (list_any (stands_held q) ch.queue)
+    (both_true (list_any (stands_held q) ch.queue) (owes_below (q + 1) kind 0 ch.queue) t).0 (no_stands q ch.queue n)
 
 dropping : (kind : Kind) (n : ℕ) → drops kind n ≡ true → suspends kind ≡ false
 dropping Rendezvous n d = cc
@@ -393,7 +438,9 @@ filtered_none test (o ∷ os) h = at (filtered_none test os h.1) (test o)
     at k true = (h.0, k)
     at k false = k
 
-spurned_room : (shape : Shape) (s : State) (c q d p : ℕ) → NoneHeld (s.channels d).queue → owes_admit (kind_at shape c) q (s.channels c) ≡ false → owes_admit (kind_at shape c) q ((with_queue d (spurned p (s.channels d).queue) s).channels c) ≡ true → ⊥
+spurned_room : (shape : Shape) (s : State) (c q d p : ℕ) → NoneHeld (s.channels d).queue
+    → owes_admit (kind_at shape c) q (s.channels c) ≡ false
+    → owes_admit (kind_at shape c) q ((with_queue d (spurned p (s.channels d).queue) s).channels c) ≡ true → ⊥
 spurned_room shape s c q d p n f t =
     let ch = record (s.channels d) { queue = spurned p (s.channels d).queue } in
     by_channel ⊥ d c
@@ -404,37 +451,66 @@ rest_none : (o : Standing) (os : List Standing) → NoneHeld (o ∷ os) → None
 unfolding NoneHeld
 rest_none o os h = h.1
 
-removed_room : (shape : Shape) (s : State) (c q d : ℕ) (qs : List Standing) → (s.channels d).queue ≡ qs → NoneHeld (s.channels d).queue → owes_admit (kind_at shape c) q (s.channels c) ≡ false → owes_admit (kind_at shape c) q ((remove_first d qs s).channels c) ≡ true → ⊥
+removed_room : (shape : Shape) (s : State) (c q d : ℕ) (qs : List Standing) → (s.channels d).queue ≡ qs → NoneHeld (s.channels d).queue
+    → owes_admit (kind_at shape c) q (s.channels c) ≡ false → owes_admit (kind_at shape c) q ((remove_first d qs s).channels c) ≡ true → ⊥
 removed_room shape s c q d [] e n f t = contrary (owes_admit (kind_at shape c) q (s.channels c)) t f
 removed_room shape s c q d (o ∷ os) e n f t = by_channel ⊥ d c
     (λ k. contrary (owes_admit (kind_at shape c) q (s.channels c)) (at_other shape s c q d (record (s.channels d) { queue = os }) k t) f)
-    (λ k. none_room (kind_at shape c) q (record (s.channels d) { queue = os }) (rest_none o os (subst NoneHeld e n)) (at_same shape s c q d (record (s.channels d) { queue = os }) k t))
+    (λ k. none_room (kind_at shape c) q (record (s.channels d) { queue = os }) (rest_none o os (subst NoneHeld e n))
+    (at_same shape s c q d (record (s.channels d) { queue = os }) k t))
 
-room_raised : (shape : Shape) (s : State) (who c q : ℕ) (act : Act) → ((u : ℕ) → AllBefore (s.channels u).next (s.channels u).queue) → AllOrdered shape s → Needs shape s who act → owes_admit (kind_at shape c) q (s.channels c) ≡ false → owes_admit (kind_at shape c) q ((after s who act).channels c) ≡ true → MayRaiseAdmit c q act
+room_raised : (shape : Shape) (s : State) (who c q : ℕ) (act : Act) → ((u : ℕ) → AllBefore (s.channels u).next (s.channels u).queue)
+    → AllOrdered shape s → Needs shape s who act → owes_admit (kind_at shape c) q (s.channels c) ≡ false
+    → owes_admit (kind_at shape c) q ((after s who act).channels c) ≡ true → MayRaiseAdmit c q act
 room_raised shape s who c q (Put d r v) p h n f t = absurd (by_channel ⊥ d c
-    (λ k. contrary (owes_admit (kind_at shape c) q (s.channels c)) (at_other shape s c q d (place_offer true (record { place = r; value = v; holder = None }) (s.channels d)) k t) f)
-    (λ k. by_last (kind_at shape c) q true (record { place = r; value = v; holder = None }) (s.channels d) (p d) n.1.first (no_holder q (record { place = r; value = v; holder = None }) refl) (subst (λ u. owes_admit (kind_at shape c) q (s.channels u) ≡ false) (sym k) f) (at_same shape s c q d (place_offer true (record { place = r; value = v; holder = None }) (s.channels d)) k t)))
+    (λ k. contrary (owes_admit (kind_at shape c) q (s.channels c))
+    (at_other shape s c q d (place_offer true (record { place = r; value = v; holder = None }) (s.channels d)) k t) f)
+    (λ k. by_last (kind_at shape c) q true (record { place = r; value = v; holder = None }) (s.channels d) (p d) n.1.first
+    (no_holder q (record { place = r; value = v; holder = None }) refl)
+    (subst (λ u. owes_admit (kind_at shape c) q (s.channels u) ≡ false) (sym k) f)
+    (at_same shape s c q d (place_offer true (record { place = r; value = v; holder = None }) (s.channels d)) k t)))
 room_raised shape s who c q (Offer d r v w i) p h n f t = by_channel ((d ≡ c) × (r ≡ q)) d c
-    (λ k. absurd (contrary (owes_admit (kind_at shape c) q (s.channels c)) (at_other shape s c q d (place_offer (is_open (s.waits w)) (record { place = r; value = v; holder = Some (record { wait = w; clause = i }) }) (s.channels d)) k t) f))
+    (λ k. absurd (contrary (owes_admit (kind_at shape c) q (s.channels c))
+    (at_other shape s c q d (place_offer (is_open (s.waits w))
+    (record { place = r; value = v; holder = Some (record { wait = w; clause = i }) }) (s.channels d)) k t) f))
     (λ k. by_channel ((d ≡ c) × (r ≡ q)) r q
-    (λ m. absurd (by_last (kind_at shape c) q (is_open (s.waits w)) (record { place = r; value = v; holder = Some (record { wait = w; clause = i }) }) (s.channels d) (p d) n.1.first (ap (λ b. b && true) m) (subst (λ u. owes_admit (kind_at shape c) q (s.channels u) ≡ false) (sym k) f) (at_same shape s c q d (place_offer (is_open (s.waits w)) (record { place = r; value = v; holder = Some (record { wait = w; clause = i }) }) (s.channels d)) k t)))
+    (λ m. absurd (by_last (kind_at shape c) q (is_open (s.waits w))
+    (record { place = r; value = v; holder = Some (record { wait = w; clause = i }) }) (s.channels d) (p d) n.1.first
+    (ap (λ b. b && true) m) (subst (λ u. owes_admit (kind_at shape c) q (s.channels u) ≡ false) (sym k) f)
+    (at_same shape s c q d (place_offer (is_open (s.waits w))
+    (record { place = r; value = v; holder = Some (record { wait = w; clause = i }) }) (s.channels d)) k t)))
     (λ m. (k, m)))
-room_raised shape s who c q (Await d r w i) p h n f t = absurd (same_owes shape s c q d (place_receiver (is_open (s.waits w)) (record { place = r; party = record { wait = w; clause = i } }) (s.channels d)) (same (is_open (s.waits w))) f t)
+room_raised shape s who c q (Await d r w i) p h n f t =
+    absurd (same_owes shape s c q d (place_receiver (is_open (s.waits w)) (record { place = r; party = record { wait = w; clause = i } })
+    (s.channels d)) (same (is_open (s.waits w))) f t)
   where
-    same : (b : Bool) → (place_receiver b (record { place = r; party = record { wait = w; clause = i } }) (s.channels d)).queue ≡ (s.channels d).queue
+    same : (b : Bool) → (place_receiver b (record { place = r; party = record { wait = w; clause = i } }) (s.channels d)).queue ≡
+        (s.channels d).queue
     same true = refl
     same false = refl
 room_raised shape s who c q (Close d v) p h n f t = absurd (same_owes shape s c q d (record (s.channels d) { closed = Some v }) refl f t)
 room_raised shape s who c q (Void d) p h n f t = absurd (same_owes shape s c q d (record (s.channels d) { voided = true }) refl f t)
-room_raised shape s who c q (Hand d r v) p h n f t = absurd (contrary (owes_admit (kind_at shape c) q (s.channels c)) ((tight_first (kind_at shape c) (s.channels d).receivers (λ k. resolved.Handed k v) s c).owes q (h c) t) f)
-room_raised shape s who c q (WakeClosed d r) p h n f t = absurd (contrary (owes_admit (kind_at shape c) q (s.channels c)) ((tight_first (kind_at shape c) (s.channels d).receivers (λ k. resolved.Closed k (Rattle.channel_model.specs.Effects.close_value (s.channels d).closed)) s c).owes q (h c) t) f)
-room_raised shape s who c q (Withdraw w why) p h n f t = absurd (contrary (owes_admit (kind_at shape c) q (s.channels c)) ((tight_without (kind_at shape c) w (s.channels c)).owes q (h c) t) f)
-room_raised shape s who c q (Admit d r) p h n f t = absurd (contrary (owes_admit (kind_at shape c) q (s.channels c)) ((tight_admit (kind_at shape c) s who d r c).owes q (h c) t) f)
-room_raised shape s who c q (Take d r v) p h n f t = by_channel (d ≡ c) d c (λ k. absurd (elsewhere shape s c q d (s.channels d).queue resolved.Taken h k f t)) (λ k. k)
-room_raised shape s who c q (Drain d r v) p h n f t = by_channel (d ≡ c) d c (λ k. absurd (elsewhere shape s c q d (s.channels d).queue (λ i. resolved.Voided) h k f t)) (λ k. k)
-room_raised shape s who c q (Drop d r v) p h n f t = absurd (removed_room shape s c q d (s.channels d).queue refl ((h d).none (dropping (kind_at shape d) (length (s.channels d).queue) n.1)) f t)
-room_raised shape s who c q (Spurn d r v) p h n f t = absurd (spurned_room shape s c q d r ((h d).none (spurning (kind_at shape d) (s.stood d r) n.1)) f t)
+room_raised shape s who c q (Hand d r v) p h n f t = absurd
+    (contrary (owes_admit (kind_at shape c) q (s.channels c))
+    ((tight_first (kind_at shape c) (s.channels d).receivers (λ k. resolved.Handed k v) s c).owes q (h c) t) f)
+room_raised shape s who c q (WakeClosed d r) p h n f t =
+    absurd (contrary (owes_admit (kind_at shape c) q (s.channels c))
+    ((tight_first (kind_at shape c) (s.channels d).receivers
+    (λ k. resolved.Closed k (Rattle.channel_model.specs.Effects.close_value (s.channels d).closed)) s c).owes q (h c) t) f)
+room_raised shape s who c q (Withdraw w why) p h n f t =
+    absurd (contrary (owes_admit (kind_at shape c) q (s.channels c)) ((tight_without (kind_at shape c) w (s.channels c)).owes q (h c) t) f)
+room_raised shape s who c q (Admit d r) p h n f t = absurd
+    (contrary (owes_admit (kind_at shape c) q (s.channels c)) ((tight_admit (kind_at shape c) s who d r c).owes q (h c) t) f)
+room_raised shape s who c q (Take d r v) p h n f t = by_channel (d ≡ c) d c
+    (λ k. absurd (elsewhere shape s c q d (s.channels d).queue resolved.Taken h k f t)) (λ k. k)
+room_raised shape s who c q (Drain d r v) p h n f t = by_channel (d ≡ c) d c
+    (λ k. absurd (elsewhere shape s c q d (s.channels d).queue (λ i. resolved.Voided) h k f t)) (λ k. k)
+room_raised shape s who c q (Drop d r v) p h n f t = absurd
+    (removed_room shape s c q d (s.channels d).queue refl ((h d).none (dropping (kind_at shape d) (length (s.channels d).queue) n.1)) f t)
+room_raised shape s who c q (Spurn d r v) p h n f t = absurd
+    (spurned_room shape s c q d r ((h d).none (spurning (kind_at shape d) (s.stood d r) n.1)) f t)
 room_raised shape s who c q (Settle w outcome) p h n f t = absurd (contrary (owes_admit (kind_at shape c) q (s.channels c)) t f)
 
 pub admit_is_raised : AdmitIsRaised
-admit_is_raised shape es who c q act l n f t = room_raised shape (replay es) who c q act (all_placed shape es l) (all_ordered shape es l) n f t
+admit_is_raised shape es who c q act l n f t = room_raised shape (replay es) who c q act (all_placed shape es l) (all_ordered shape es l) n
+    f t

@@ -45,7 +45,8 @@ sum_less (suc n) k f g le lt h = by_test (k == n) refl (λ less. sum_less n k f 
   where
     no_more : (m : ℕ) → ((t : ℕ) → t < m → f t ≤ g t) → sum_below m f ≤ sum_below m g
     no_more zero each = omega arith
-    no_more (suc m) each = let here = each m (omega arith) in let rest = no_more m (λ t l. each t (omega (arith, l))) in omega (arith, here, rest)
+    no_more (suc m) each = let here = each m (omega arith) in let rest = no_more m (λ t l. each t (omega (arith, l)))
+        in omega (arith, here, rest)
 
     by_test : (b : Bool) → (k == n) ≡ b → (k < n → sum_below n f < sum_below n g) → f n + sum_below n f < g n + sum_below n g
     by_test true e more =
@@ -78,7 +79,8 @@ count_or from (suc n) f g = let rest = count_or (from + 1) n f g in let here = e
 pub count_more : (from n : ℕ) (f g : ℕ → Bool) → ((r : ℕ) → from ≤ r → f r ≡ true → g r ≡ true) → count_from from n f ≤ count_from from n g
 unfolding count_from
 count_more from zero f g h = omega arith
-count_more from (suc n) f g h = let rest = count_more (from + 1) n f g (λ r le e. h r (omega (arith, le)) e) in let here = less (f from) (g from) (h from (omega arith)) in omega (arith, rest, here)
+count_more from (suc n) f g h = let rest = count_more (from + 1) n f g (λ r le e. h r (omega (arith, le)) e)
+    in let here = less (f from) (g from) (h from (omega arith)) in omega (arith, rest, here)
   where
     less : (a b : Bool) → (a ≡ true → b ≡ true) → one a ≤ one b
     less true true i = omega arith
@@ -100,7 +102,8 @@ count_same from (suc n) q = by_test (from == q) refl (count_same (from + 1) n q)
     by_test false e rest = omega (arith, rest)
 
 -- each of these numbers is one that some t below m passes for
-pub counts_all : (from n m : ℕ) (test : ℕ → ℕ → Bool) → ((r : ℕ) → from ≤ r → r < from + n → (t : ℕ) × (t < m) × (test t r ≡ true)) → n ≤ sum_below m (λ t. count_from from n (test t))
+pub counts_all : (from n m : ℕ) (test : ℕ → ℕ → Bool) → ((r : ℕ) → from ≤ r → r < from + n → (t : ℕ) × (t < m) × (test t r ≡ true))
+    → n ≤ sum_below m (λ t. count_from from n (test t))
 unfolding count_from
 counts_all from zero m test h = omega arith
 counts_all from (suc n) m test h =
@@ -116,10 +119,12 @@ counts_all from (suc n) m test h =
 abbrev pub scopes_at : Program → ℕ → ℕ
 scopes_at p t = scopes_from [] (code_of p t)
 
-scopes_of_tags : (p : Program) (tags : List ℕ) → sum_below (length tags) (λ t. scopes_from [] (code_at p (slice_get tags t))) ≡ scopes_of_all p tags
+scopes_of_tags : (p : Program) (tags : List ℕ) → sum_below (length tags) (λ t. scopes_from [] (code_at p (slice_get tags t))) ≡
+    scopes_of_all p tags
 unfolding sum_below
 scopes_of_tags p [] = refl
-scopes_of_tags p (b ∷ tags) = sum_first (length tags) (λ t. scopes_from [] (code_at p (slice_get (b ∷ tags) t))) ∙ ap (λ n. scopes_of p b + n) (scopes_of_tags p tags)
+scopes_of_tags p (b ∷ tags) = sum_first (length tags) (λ t. scopes_from [] (code_at p (slice_get (b ∷ tags) t)))
+    ∙ ap (λ n. scopes_of p b + n) (scopes_of_tags p tags)
 
 pub scopes_of_all_tags : (p : Program) → sum_below (coroutine_count p) (scopes_at p) ≡ scope_count p
 scopes_of_all_tags p = scopes_of_tags p (tags_of p)
@@ -132,11 +137,13 @@ enters_row r (Attach p q kind tag cancelled) = (r == q) && kind.scoped
 enters_row r other = false
 
 -- an Attach is that of a coroutine, or of a scope
-pub attach_is : (r : ℕ) (acts : List JobAct) → list_any (attaches r) acts ≡ true → (list_any (launches_row r) acts ≡ true) ⊎ (list_any (enters_row r) acts ≡ true)
+pub attach_is : (r : ℕ) (acts : List JobAct) → list_any (attaches r) acts ≡ true → (list_any (launches_row r) acts ≡ true)
+    ⊎ (list_any (enters_row r) acts ≡ true)
 attach_is r [] e = cc
 attach_is r (Attach p q kind tag cancelled ∷ acts) e = by_tests (r == q) kind.scoped e (attach_is r acts)
   where
-    by_tests : (a s : Bool) → (a || list_any (attaches r) acts) ≡ true → (list_any (attaches r) acts ≡ true → (list_any (launches_row r) acts ≡ true) ⊎ (list_any (enters_row r) acts ≡ true))
+    by_tests : (a s : Bool) → (a || list_any (attaches r) acts) ≡ true
+        → (list_any (attaches r) acts ≡ true → (list_any (launches_row r) acts ≡ true) ⊎ (list_any (enters_row r) acts ≡ true))
         → (((a && not s) || list_any (launches_row r) acts) ≡ true) ⊎ (((a && s) || list_any (enters_row r) acts) ≡ true)
     by_tests true true e more = inr refl
     by_tests true false e more = inl refl
@@ -160,7 +167,8 @@ rows_few from n (act ∷ acts) =
     one_row (Attach p q kind tag cancelled) = by_kind kind.scoped
       where
         by_kind : (s : Bool) → count_from from n (λ r. (r == q) && s) ≤ (if s then 1 else 0)
-        by_kind true = let less = count_more from n (λ r. (r == q) && true) (λ r. r == q) (λ r le e. only (r == q) e) in let few = count_same from n q in omega (arith, less, few)
+        by_kind true = let less = count_more from n (λ r. (r == q) && true) (λ r. r == q) (λ r le e. only (r == q) e)
+            in let few = count_same from n q in omega (arith, less, few)
           where
             only : (b : Bool) → (b && true) ≡ true → b ≡ true
             only true e = refl
@@ -171,35 +179,34 @@ rows_few from n (act ∷ acts) =
             off true = refl
             off false = refl
     one_row (Start q) = let none = count_none from n (λ r. false) (λ r le. refl) in omega (arith, none)
-    one_row (EndBody q v) = let none = count_none from n (λ r. false) (λ r le. refl) in omega (arith, none)
-    one_row (Cancel q reason) = let none = count_none from n (λ r. false) (λ r le. refl) in omega (arith, none)
-    one_row (Finish q end) = let none = count_none from n (λ r. false) (λ r le. refl) in omega (arith, none)
-    one_row (Gone q) = let none = count_none from n (λ r. false) (λ r le. refl) in omega (arith, none)
+    one_row other = let none = count_none from n (λ r. false) (λ r le. refl) in omega (arith, none)
 
 -- the row of a scope is behind those of the coroutines
-scope_row : (shape : Shape) (tree : Tree) (who r : ℕ) (act : JobAct) → Needs shape tree who act → enters_row r act ≡ true → shape.coroutines ≤ r
+scope_row : (shape : Shape) (tree : Tree) (who r : ℕ) (act : JobAct) → Needs shape tree who act → enters_row r act ≡ true
+    → shape.coroutines ≤ r
 scope_row shape tree who r (Attach p q kind tag cancelled) n e = by_kind kind.scoped n.3 (r == q) refl e
   where
-    by_kind : (s : Bool) → MatchBool s ((tag ≡ who) × (shape.coroutines ≤ q) × (q < shape.rows)) (q ≡ tag) → (b : Bool) → (r == q) ≡ b → (b && s) ≡ true → shape.coroutines ≤ r
+    by_kind : (s : Bool) → MatchBool s ((tag ≡ who) × (shape.coroutines ≤ q) × (q < shape.rows)) (q ≡ tag) → (b : Bool) → (r == q) ≡ b
+        → (b && s) ≡ true → shape.coroutines ≤ r
     by_kind true m true f e = let same = eqb-true r q f in let low = m.1 in omega (arith, same, low)
     by_kind true m false f e = cc
     by_kind false m true f e = cc
     by_kind false m false f e = cc
 scope_row shape tree who r (Start q) n e = cc
-scope_row shape tree who r (EndBody q v) n e = cc
-scope_row shape tree who r (Cancel q reason) n e = cc
-scope_row shape tree who r (Finish q end) n e = cc
-scope_row shape tree who r (Gone q) n e = cc
+scope_row shape tree who r other n e = cc
 
-pub scope_rows : (shape : Shape) (tree : Tree) (es : List JobEntry) (who r : ℕ) → LegalFrom shape tree es → list_any (enters_row r) (acts_of who es) ≡ true → shape.coroutines ≤ r
+pub scope_rows : (shape : Shape) (tree : Tree) (es : List JobEntry) (who r : ℕ) → LegalFrom shape tree es
+    → list_any (enters_row r) (acts_of who es) ≡ true → shape.coroutines ≤ r
 unfolding LegalFrom acts_of
 scope_rows shape tree [] who r l e = cc
 scope_rows shape tree (x ∷ es) who r l e = by_who (x.who == who) (λ f. scope_rows shape (after tree x.who x.act) es who r l.1 f) e
   where
-    by_act : (b : Bool) → enters_row r x.act ≡ b → (list_any (enters_row r) (acts_of who es) ≡ true → shape.coroutines ≤ r) → (b || list_any (enters_row r) (acts_of who es)) ≡ true → shape.coroutines ≤ r
+    by_act : (b : Bool) → enters_row r x.act ≡ b → (list_any (enters_row r) (acts_of who es) ≡ true → shape.coroutines ≤ r)
+        → (b || list_any (enters_row r) (acts_of who es)) ≡ true → shape.coroutines ≤ r
     by_act true f more e = scope_row shape tree x.who r x.act l.0 f
     by_act false f more e = more e
 
-    by_who : (b : Bool) → (list_any (enters_row r) (acts_of who es) ≡ true → shape.coroutines ≤ r) → list_any (enters_row r) (if b then x.act ∷ acts_of who es else acts_of who es) ≡ true → shape.coroutines ≤ r
+    by_who : (b : Bool) → (list_any (enters_row r) (acts_of who es) ≡ true → shape.coroutines ≤ r)
+        → list_any (enters_row r) (if b then x.act ∷ acts_of who es else acts_of who es) ≡ true → shape.coroutines ≤ r
     by_who true more e = by_act (enters_row r x.act) refl more e
     by_who false more e = more e

@@ -12,7 +12,8 @@ use Rattle.script_laws.proofs.EndedJobsTold as gone
 use Rattle.script_laws.proofs.BelowCancelled as cancelled
 use Rattle.script_laws.proofs.FailuresBorne as upward
 
-pub at_rest : (p : Program) (books : List (List Item)) (channels : List Entry) (jobs : List JobEntry) → BooksOf p books channels jobs → AtRest (replay jobs)
+pub at_rest : (p : Program) (books : List (List Item)) (channels : List Entry) (jobs : List JobEntry) → BooksOf p books channels jobs
+    → AtRest (replay jobs)
 at_rest p books channels jobs of = record {
   finished = λ r h. ended.finished p books channels jobs of r h;
   told = λ r n h. gone.told p books channels jobs of r n h;

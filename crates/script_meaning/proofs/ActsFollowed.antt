@@ -24,16 +24,7 @@ use Rattle.script_meaning.proofs.Debts.{Exists, exists_first, exists_left, exist
 abbrev pub act_in_note : ChannelNote → Option Act
 act_in_note (of_channel.Made act) = Some act
 act_in_note (of_channel.SendClosed c value v) = None
-act_in_note (of_channel.TrySendClosed c value v) = None
-act_in_note (of_channel.ReceiveClosed c v) = None
-act_in_note (of_channel.TryReceiveClosed c v) = None
-act_in_note (of_channel.AlreadyClosed c v) = None
-act_in_note (of_channel.Full c value) = None
-act_in_note (of_channel.Empty c) = None
-act_in_note (of_channel.Spent c) = None
-act_in_note (of_channel.Partner c place) = None
-act_in_note (of_channel.MainResolved w) = None
-act_in_note (of_channel.Late w) = None
+act_in_note other = None
 
 abbrev pub act_in_item : Item → Option Act
 act_in_item (item.Channel n) = act_in_note n
@@ -105,7 +96,9 @@ admits_right c (x ∷ xs) ys h = inr (admits_right c xs ys h)
 pub admits_left : (c : ℕ) (xs ys : List Told) → HasAdmits c xs → HasAdmits c (xs ++ ys)
 unfolding HasAdmits
 admits_left c [] ys h = absurd h
-admits_left c (x ∷ xs) ys h = ⊎_elim (λ (a : (m : ℕ) × (x ≡ on_channels (NextIs c m)) × Exists (IsTold (on_channels (NoneToAdmit c m))) xs). inl (a.0, a.1, exists_left (IsTold (on_channels (NoneToAdmit c a.0))) xs ys a.2)) (λ (b : HasAdmits c xs). inr (admits_left c xs ys b)) h
+admits_left c (x ∷ xs) ys h = ⊎_elim (λ (a : (m : ℕ) × (x ≡ on_channels (NextIs c m))
+    × Exists (IsTold (on_channels (NoneToAdmit c m))) xs). inl (a.0, a.1, exists_left (IsTold (on_channels (NoneToAdmit c a.0))) xs ys a.2))
+    (λ (b : HasAdmits c xs). inr (admits_left c xs ys b)) h
 
 -- the element that was put at this place was found to fit before it, or is gone
 abbrev pub IsSpurned : ℕ → ℕ → Told → Type 0
@@ -119,13 +112,7 @@ Follows (Close c v) ts = Exists (IsTold (on_channels (NoReceiver c))) ts
 Follows (Void c) ts = Exists (IsTold (on_channels (NothingQueued c))) ts
 Follows (Drain c q v) ts = Exists (IsTold (on_channels (NothingQueued c))) ts
 Follows (Hand c q v) ts = Unit {0}
-Follows (Await c q w n) ts = Unit {0}
-Follows (Admit c q) ts = Unit {0}
-Follows (Drop c q v) ts = Unit {0}
-Follows (Spurn c q v) ts = Unit {0}
-Follows (WakeClosed c q) ts = Unit {0}
-Follows (Withdraw w why) ts = Unit {0}
-Follows (Settle w outcome) ts = Unit {0}
+Follows other ts = Unit {0}
 
 abbrev pub IsFollowed : Option Act → List Told → Type 0
 IsFollowed None ts = Unit {0}
@@ -143,13 +130,7 @@ follows_left (Close c v) xs ys h = exists_left (IsTold (on_channels (NoReceiver 
 follows_left (Void c) xs ys h = exists_left (IsTold (on_channels (NothingQueued c))) xs ys h
 follows_left (Drain c q v) xs ys h = exists_left (IsTold (on_channels (NothingQueued c))) xs ys h
 follows_left (Hand c q v) xs ys h = tt
-follows_left (Await c q w n) xs ys h = tt
-follows_left (Admit c q) xs ys h = tt
-follows_left (Drop c q v) xs ys h = tt
-follows_left (Spurn c q v) xs ys h = tt
-follows_left (WakeClosed c q) xs ys h = tt
-follows_left (Withdraw w why) xs ys h = tt
-follows_left (Settle w outcome) xs ys h = tt
+follows_left other xs ys h = tt
 
 pub followed_then : (xs ys : List Told) → AllFollowed xs → AllFollowed ys → AllFollowed (xs ++ ys)
 unfolding AllFollowed
@@ -168,13 +149,7 @@ plain_followed (Close c v) ts h = cc
 plain_followed (Void c) ts h = cc
 plain_followed (Drain c q v) ts h = cc
 plain_followed (Hand c q v) ts h = tt
-plain_followed (Await c q w n) ts h = tt
-plain_followed (Admit c q) ts h = tt
-plain_followed (Drop c q v) ts h = tt
-plain_followed (Spurn c q v) ts h = tt
-plain_followed (WakeClosed c q) ts h = tt
-plain_followed (Withdraw w why) ts h = tt
-plain_followed (Settle w outcome) ts h = tt
+plain_followed other ts h = tt
 
 still_followed : (o : Option Act) (ts : List Told) → is_still o ≡ true → IsFollowed o ts
 still_followed None ts h = tt
@@ -202,11 +177,14 @@ last_of : (t : Told) (xs : List Told) → Exists (IsTold t) (xs ++ t ∷ [])
 last_of t xs = exists_right (IsTold t) xs (t ∷ []) (exists_first (IsTold t) t [] refl)
 
 admits_quiet : (c : ℕ) (g : List Told) → Admits c g → AllFollowed g
-admits_quiet c g h = subst AllFollowed (sym h.all) (quiet_followed _ (cons _ _ refl (quiet_then (map (λ q. made (Admit c q)) h.places) _ (quiet_map (λ q. made (Admit c q)) h.places (λ q. refl)) (one _ refl))))
+admits_quiet c g h = subst AllFollowed (sym h.all) (quiet_followed _
+    (cons _ _ refl (quiet_then (map (λ q. made (Admit c q)) h.places) _ (quiet_map (λ q. made (Admit c q)) h.places (λ q. refl))
+    (one _ refl))))
 
 admits_has : (c : ℕ) (g : List Told) → Admits c g → HasAdmits c g
 unfolding HasAdmits
-admits_has c g h = subst (HasAdmits c) (sym h.all) (inl (h.mark, refl, last_of (on_channels (NoneToAdmit c h.mark)) (map (λ q. made (Admit c q)) h.places)))
+admits_has c g h = subst (HasAdmits c) (sym h.all) (inl
+    (h.mark, refl, last_of (on_channels (NoneToAdmit c h.mark)) (map (λ q. made (Admit c q)) h.places)))
 
 drops_followed : (c q : ℕ) (g : List Told) → Drops c q g → AllFollowed g
 drops_followed c q g h = subst AllFollowed (sym h.all) (all h.dropped)
@@ -216,7 +194,8 @@ drops_followed c q g h = subst AllFollowed (sym h.all) (all h.dropped)
     all (d ∷ ds) = front _ _ tt (all ds)
 
 drops_has : (c q : ℕ) (g : List Told) → Drops c q g → Exists (IsTold (on_channels (FitsUpTo c q))) g
-drops_has c q g h = subst (Exists (IsTold (on_channels (FitsUpTo c q)))) (sym h.all) (last_of _ (map (λ d. made (Drop c d.0 d.1)) h.dropped))
+drops_has c q g h = subst (Exists (IsTold (on_channels (FitsUpTo c q)))) (sym h.all)
+    (last_of _ (map (λ d. made (Drop c d.0 d.1)) h.dropped))
 
 spurns_followed : (c q : ℕ) (g : List Told) → Spurns c q g → AllFollowed g
 spurns_followed c q _ (Spurns.gone v) = lone _ refl
@@ -227,26 +206,33 @@ spurns_has c q _ (Spurns.gone v) = exists_first (IsSpurned c q) _ [] (inr (v, re
 spurns_has c q _ Spurns.stays = exists_first (IsSpurned c q) _ [] (inl refl)
 
 overflows_followed : (c q : ℕ) (g : List Told) → Overflows c q g → AllFollowed g
-overflows_followed c q g h = subst AllFollowed (sym h.all) (followed_then h.drops h.spurns (drops_followed c q h.drops h.dropped) (spurns_followed c q h.spurns h.spurned))
+overflows_followed c q g h = subst AllFollowed (sym h.all)
+    (followed_then h.drops h.spurns (drops_followed c q h.drops h.dropped) (spurns_followed c q h.spurns h.spurned))
 
 overflows_has : (c q v : ℕ) (g : List Told) → Overflows c q g → Follows (Put c q v) g
 overflows_has c q v g h =
-    subst (Follows (Put c q v)) (sym h.all)
-    (exists_left (IsTold (on_channels (FitsUpTo c q))) h.drops h.spurns (drops_has c q h.drops h.dropped), exists_right (IsSpurned c q) h.drops h.spurns (spurns_has c q h.spurns h.spurned))
+    subst (Follows (Put c q v)) (sym h.all) (
+      exists_left (IsTold (on_channels (FitsUpTo c q))) h.drops h.spurns (drops_has c q h.drops h.dropped),
+      exists_right (IsSpurned c q) h.drops h.spurns (spurns_has c q h.spurns h.spurned),
+    )
 
 wakes_followed : (c : ℕ) (g : List Told) → Wakes c g → AllFollowed g
-wakes_followed c g h = subst AllFollowed (sym h.all) (quiet_followed _ (quiet_then (map (λ q. made (WakeClosed c q)) h.places) _ (quiet_map (λ q. made (WakeClosed c q)) h.places (λ q. refl)) (one _ refl)))
+wakes_followed c g h = subst AllFollowed (sym h.all) (quiet_followed _
+    (quiet_then (map (λ q. made (WakeClosed c q)) h.places) _ (quiet_map (λ q. made (WakeClosed c q)) h.places (λ q. refl)) (one _ refl)))
 
 wakes_has : (c : ℕ) (g : List Told) → Wakes c g → Exists (IsTold (on_channels (NoReceiver c))) g
 wakes_has c g h = subst (Exists (IsTold (on_channels (NoReceiver c)))) (sym h.all) (last_of _ (map (λ q. made (WakeClosed c q)) h.places))
 
-drains_has : (c : ℕ) (ds : List (ℕ × ℕ)) → Exists (IsTold (on_channels (NothingQueued c))) (map (λ d. made (Drain c d.0 d.1)) ds ++ on_channels (NothingQueued c) ∷ on_channels (IsVoided c) ∷ [])
-drains_has c ds = exists_right (IsTold (on_channels (NothingQueued c))) (map (λ d. made (Drain c d.0 d.1)) ds) _ (exists_first (IsTold (on_channels (NothingQueued c))) _ _ refl)
+drains_has : (c : ℕ) (ds : List (ℕ × ℕ)) → Exists (IsTold (on_channels (NothingQueued c))) (map (λ d. made (Drain c d.0 d.1)) ds
+    ++ on_channels (NothingQueued c) ∷ on_channels (IsVoided c) ∷ [])
+drains_has c ds = exists_right (IsTold (on_channels (NothingQueued c))) (map (λ d. made (Drain c d.0 d.1)) ds) _
+    (exists_first (IsTold (on_channels (NothingQueued c))) _ _ refl)
 
 drains_followed : (c : ℕ) (g : List Told) → Drains c g → AllFollowed g
 drains_followed c g h = subst AllFollowed (sym h.all) (all h.drained)
   where
-    all : (ds : List (ℕ × ℕ)) → AllFollowed (map (λ d. made (Drain c d.0 d.1)) ds ++ on_channels (NothingQueued c) ∷ on_channels (IsVoided c) ∷ [])
+    all : (ds : List (ℕ × ℕ)) → AllFollowed (map (λ d. made (Drain c d.0 d.1)) ds
+        ++ on_channels (NothingQueued c) ∷ on_channels (IsVoided c) ∷ [])
     all [] = still _ _ refl (lone _ refl)
     all (d ∷ ds) = front _ _ (drains_has c ds) (all ds)
 
@@ -255,8 +241,12 @@ closes_followed c v _ (Closes.now wakes w) = front _ wakes (wakes_has c wakes w)
 closes_followed c v _ (Closes.before u wakes w) = still _ wakes refl (wakes_followed c wakes w)
 
 cancels_followed : (c : ℕ) (g : List Told) → CancelsChannel c g → AllFollowed g
-cancels_followed c g (CancelsChannel.now closes drains _ a d e) = subst AllFollowed (sym e) (followed_then closes _ (closes_followed c 0 closes a) (front (made (Void c)) drains (subst (Exists (IsTold (on_channels (NothingQueued c)))) (sym d.all) (drains_has c d.drained)) (drains_followed c drains d)))
-cancels_followed c g (CancelsChannel.before closes drains _ a d e) = subst AllFollowed (sym e) (followed_then closes drains (closes_followed c 0 closes a) (drains_followed c drains d))
+cancels_followed c g (CancelsChannel.now closes drains _ a d e) =
+    subst AllFollowed (sym e) (followed_then closes _ (closes_followed c 0 closes a)
+    (front (made (Void c)) drains (subst (Exists (IsTold (on_channels (NothingQueued c)))) (sym d.all) (drains_has c d.drained))
+    (drains_followed c drains d)))
+cancels_followed c g (CancelsChannel.before closes drains _ a d e) =
+    subst AllFollowed (sym e) (followed_then closes drains (closes_followed c 0 closes a) (drains_followed c drains d))
 
 at_once_followed : (call : Call) (g : List Told) (a : Answer) → AtOnce call g a → AllFollowed g
 at_once_followed _ _ _ (AtOnce.hands c v q) = lone _ refl
@@ -287,8 +277,12 @@ plain_call_followed : (call : Call) (g : List Told) (a : Answer) → PlainCall c
 plain_call_followed _ _ _ (PlainCall.at_once call g a h) = at_once_followed call g a h
 plain_call_followed _ _ _ (PlainCall.refused call t a h) = lone t (refused_still call t a h)
 plain_call_followed _ _ _ (PlainCall.no_place call all e) = subst AllFollowed (sym e) (spent_followed call)
-plain_call_followed _ _ _ (PlainCall.offers c v q admits h) = still _ _ refl (front _ admits (admits_has c admits h) (admits_quiet c admits h))
-plain_call_followed _ _ _ (PlainCall.offer_ends c v q admits settles all h s e) = subst AllFollowed (sym e) (still _ _ refl (front _ (admits ++ settles) (admits_left c admits settles (admits_has c admits h)) (followed_then admits settles (admits_quiet c admits h) (ends_followed (wait_at c q) settles s))))
+plain_call_followed _ _ _ (PlainCall.offers c v q admits h) =
+    still _ _ refl (front _ admits (admits_has c admits h) (admits_quiet c admits h))
+plain_call_followed _ _ _ (PlainCall.offer_ends c v q admits settles all h s e) =
+    subst AllFollowed (sym e) (still _ _ refl (front _ (admits
+    ++ settles) (admits_left c admits settles (admits_has c admits h))
+    (followed_then admits settles (admits_quiet c admits h) (ends_followed (wait_at c q) settles s))))
 plain_call_followed _ _ _ (PlainCall.awaits c q) = lone _ refl
 
 try_followed : (call : Call) (g : List Told) (a : Answer) → TryCall call g a → AllFollowed g
@@ -300,17 +294,25 @@ try_followed _ _ _ (TryCall.no_place c v) = spent_followed (sends c v)
 admits_in_followed : (calls : List Call) (g : List Told) → AdmitsIn calls g → AllFollowed g
 unfolding AllFollowed
 admits_in_followed _ _ AdmitsIn.none = tt
-admits_in_followed _ _ (AdmitsIn.offered c v calls admits later all a h e) = subst AllFollowed (sym e) (followed_then admits later (admits_quiet c admits a) (admits_in_followed calls later h))
+admits_in_followed _ _ (AdmitsIn.offered c v calls admits later all a h e) =
+    subst AllFollowed (sym e) (followed_then admits later (admits_quiet c admits a) (admits_in_followed calls later h))
 admits_in_followed _ _ (AdmitsIn.awaited c calls all h) = admits_in_followed calls all h
 
 -- clauses that are placed, each of which is admitted behind all that stands between
-places_followed : (w : _) (n : ℕ) (calls : List Call) (g between admits : List Told) → Places w n calls g → AdmitsIn calls admits → AllFollowed (between ++ admits) → AllFollowed (g ++ (between ++ admits))
+places_followed : (w : _) (n : ℕ) (calls : List Call) (g between admits : List Told) → Places w n calls g → AdmitsIn calls admits
+    → AllFollowed (between ++ admits) → AllFollowed (g ++ (between ++ admits))
 places_followed w _ _ _ between admits (Places.none n) a h = h
-places_followed w _ _ _ between admits (Places.one n q (receives c) calls later p) (AdmitsIn.awaited _ _ _ a) h = still _ _ refl (places_followed w _ calls later between admits p a h)
+places_followed w _ _ _ between admits (Places.one n q (receives c) calls later p) (AdmitsIn.awaited _ _ _ a) h =
+    still _ _ refl (places_followed w _ calls later between admits p a h)
 places_followed w _ _ _ between admits (Places.one n q (sends c v) calls later p) (AdmitsIn.offered _ _ _ mine others _ a d e) h =
-    let apart : AllFollowed ((between ++ mine) ++ others) = subst AllFollowed (sym (append_assoc between mine others)) (subst (λ l. AllFollowed (between ++ l)) e h) in
-    let all : AllFollowed (later ++ ((between ++ mine) ++ others)) = places_followed w (n + 1) calls later (between ++ mine) others p d apart in
-    front _ _ (admits_right c later _ (admits_right c between admits (subst (HasAdmits c) (sym e) (admits_left c mine others (admits_has c mine a))))) (subst (λ l. AllFollowed (later ++ (between ++ l))) (sym e) (subst (λ l. AllFollowed (later ++ l)) (append_assoc between mine others) all))
+    let apart : AllFollowed ((between ++ mine) ++ others) =
+    subst AllFollowed (sym (append_assoc between mine others)) (subst (λ l. AllFollowed (between ++ l)) e h) in
+    let all : AllFollowed (later ++ ((between ++ mine) ++ others)) =
+    places_followed w (n + 1) calls later (between ++ mine) others p d apart in
+    front _ _ (admits_right c later _ (admits_right c between admits
+    (subst (HasAdmits c) (sym e) (admits_left c mine others (admits_has c mine a)))))
+    (subst (λ l. AllFollowed (later ++ (between ++ l))) (sym e)
+    (subst (λ l. AllFollowed (later ++ l)) (append_assoc between mine others) all))
 
 stops_followed : (call : Call) (g : List Told) (a : Answer) → Stops call g a → AllFollowed g
 stops_followed _ _ _ (Stops.receiver c v q) = still _ _ refl (lone _ refl)
@@ -322,18 +324,37 @@ passed : (calls : List Call) → AllFollowed (map blocked calls)
 passed calls = quiet_followed _ (quiet_map blocked calls blocked_still)
 
 select_followed : (calls : List Call) (g : List Told) (a : Answer) → SelectCall calls g a → AllFollowed g
-select_followed calls _ _ (SelectCall.chooses before later call group all a f h e) = subst AllFollowed (sym e) (followed_then (map blocked before) group (passed before) (at_once_followed call group a h))
-select_followed calls _ _ (SelectCall.meets_close before later call t all a f h e) = subst AllFollowed (sym e) (followed_then (map blocked before) _ (passed before) (lone t (refused_still call t a h)))
-select_followed calls _ _ (SelectCall.no_place before later c v all f e) = subst AllFollowed (sym e) (followed_then (map blocked before) _ (passed before) (spent_followed (sends c v)))
-select_followed calls _ _ (SelectCall.waits w group admits all h d e) = subst AllFollowed (sym e) (followed_then (map blocked calls) _ (passed calls) (places_followed w 1 calls group [] admits h.places d (admits_in_followed calls admits d)))
-select_followed calls _ _ (SelectCall.resolved w before later call group admits all f h d e) = subst AllFollowed (sym e) (followed_then (map blocked calls) _ (passed calls) (places_followed w 1 before group (_ ∷ []) admits h.places d (still _ admits refl (admits_in_followed before admits d))))
-select_followed calls _ _ (SelectCall.stops_at_first later call stop all a f h e) = subst AllFollowed (sym e) (followed_then (map blocked calls) stop (passed calls) (stops_followed call stop a h))
+select_followed calls _ _ (SelectCall.chooses before later call group all a f h e) =
+    subst AllFollowed (sym e) (followed_then (map blocked before) group (passed before) (at_once_followed call group a h))
+select_followed calls _ _ (SelectCall.meets_close before later call t all a f h e) =
+    subst AllFollowed (sym e) (followed_then (map blocked before) _ (passed before) (lone t (refused_still call t a h)))
+select_followed calls _ _ (SelectCall.no_place before later c v all f e) =
+    subst AllFollowed (sym e) (followed_then (map blocked before) _ (passed before) (spent_followed (sends c v)))
+select_followed calls _ _ (SelectCall.waits w group admits all h d e) =
+    subst AllFollowed (sym e) (followed_then (map blocked calls) _ (passed calls)
+    (places_followed w 1 calls group [] admits h.places d (admits_in_followed calls admits d)))
+select_followed calls _ _ (SelectCall.resolved w before later call group admits all f h d e) =
+    subst AllFollowed (sym e) (followed_then (map blocked calls) _ (passed calls)
+    (places_followed w 1 before group (_ ∷ []) admits h.places d (still _ admits refl (admits_in_followed before admits d))))
+select_followed calls _ _ (SelectCall.stops_at_first later call stop all a f h e) =
+    subst AllFollowed (sym e) (followed_then (map blocked calls) stop (passed calls) (stops_followed call stop a h))
 select_followed calls _ _ (SelectCall.stops w before later call group stop admits all a f h s d e) =
-    let body : AllFollowed (group ++ ((stop ++ revoked w) ++ admits)) = places_followed w 1 before group (stop ++ revoked w) admits h.places d (followed_then (stop ++ revoked w) admits (followed_then stop (revoked w) (stops_followed call stop a s) (still _ _ refl (lone _ refl))) (admits_in_followed before admits d)) in
-    subst AllFollowed (sym e) (followed_then (map blocked calls) _ (passed calls) (subst AllFollowed (sym (append_assoc group (stop ++ revoked w) admits) ∙ ap (λ l. l ++ admits) (sym (append_assoc group stop (revoked w)))) body))
+    let body : AllFollowed (group ++ ((stop ++ revoked w) ++ admits)) =
+    places_followed w 1 before group (stop ++ revoked w) admits h.places d
+    (followed_then (stop ++ revoked w) admits (followed_then stop (revoked w) (stops_followed call stop a s)
+    (still _ _ refl (lone _ refl))) (admits_in_followed before admits d)) in
+    subst AllFollowed (sym e) (followed_then (map blocked calls) _ (passed calls)
+    (subst AllFollowed (sym (append_assoc group (stop ++ revoked w) admits)
+    ∙ ap (λ l. l ++ admits) (sym (append_assoc group stop (revoked w)))) body))
 select_followed calls _ _ (SelectCall.stops_late w before later call group stop admits all a f h s d e) =
-    let body : AllFollowed (group ++ ((stop ++ heard (of_channel.Late w) ∷ []) ++ admits)) = places_followed w 1 before group (stop ++ heard (of_channel.Late w) ∷ []) admits h.places d (followed_then (stop ++ heard (of_channel.Late w) ∷ []) admits (followed_then stop (heard (of_channel.Late w) ∷ []) (stops_followed call stop a s) (lone _ refl)) (admits_in_followed before admits d)) in
-    subst AllFollowed (sym e) (followed_then (map blocked calls) _ (passed calls) (subst AllFollowed (ap (λ l. group ++ l) (append_assoc stop (heard (of_channel.Late w) ∷ []) admits) ∙ sym (append_assoc group stop (heard (of_channel.Late w) ∷ admits))) body))
+    let body : AllFollowed (group ++ ((stop ++ heard (of_channel.Late w) ∷ []) ++ admits)) =
+    places_followed w 1 before group (stop ++ heard (of_channel.Late w) ∷ []) admits h.places d
+    (followed_then (stop ++ heard (of_channel.Late w) ∷ []) admits
+    (followed_then stop (heard (of_channel.Late w) ∷ []) (stops_followed call stop a s) (lone _ refl))
+    (admits_in_followed before admits d)) in
+    subst AllFollowed (sym e) (followed_then (map blocked calls) _ (passed calls)
+    (subst AllFollowed (ap (λ l. group ++ l) (append_assoc stop (heard (of_channel.Late w) ∷ []) admits)
+    ∙ sym (append_assoc group stop (heard (of_channel.Late w) ∷ admits))) body))
 
 gives_up_followed : (w : _) (g : List Told) → GivesUp w g → AllFollowed g
 gives_up_followed w _ GivesUp.dispatched = lone _ refl
@@ -369,21 +390,26 @@ breaks_followed k row _ _ (Breaks.seen failure) = nothing
 breaks_followed k row _ _ (Breaks.had_been failure g h) = passes_followed row _ false g h
 breaks_followed k row _ _ (Breaks.asked g h) = passes_followed row _ true g h
 breaks_followed k row _ _ (Breaks.scope_fails f g n h) = passes_followed row _ true g h
-breaks_followed k row _ _ (Breaks.fails f up pass all e h q) = subst AllFollowed (sym q) (followed_then pass _ (passes_followed row _ true pass h) (deeds_followed up _ refl))
+breaks_followed k row _ _ (Breaks.fails f up pass all e h q) =
+    subst AllFollowed (sym q) (followed_then pass _ (passes_followed row _ true pass h) (deeds_followed up _ refl))
 
 chain_followed : (p : Program) (row : ℕ) (g : List Told) → Chain (base_of p) row g → AllFollowed g
 chain_followed p _ _ (Chain.stops row) = lone _ refl
 chain_followed p _ _ (Chain.root end closes c) = still _ closes refl (closes_followed _ _ closes c)
-chain_followed p row g (Chain.goes_up _ parent end closes rest _ n c up e) = subst AllFollowed (sym e) (still _ _ refl (followed_then closes _ (closes_followed _ _ closes c) (still _ _ refl (still _ rest refl (chain_followed p parent rest up)))))
+chain_followed p row g (Chain.goes_up _ parent end closes rest _ n c up e) =
+    subst AllFollowed (sym e) (still _ _ refl (followed_then closes _ (closes_followed _ _ closes c)
+    (still _ _ refl (still _ rest refl (chain_followed p parent rest up)))))
 
 end_followed : (p : Program) (row v : ℕ) (g : List Told) → EndsBody (base_of p) row v g → AllFollowed g
 end_followed p row v _ (EndsBody.ends_body chain c) = still _ chain refl (chain_followed p row chain c)
 
 off_followed : (p : Program) (k row : ℕ) (failure : Option ℕ) (g : List Told) → BreaksOff (base_of p) k row failure g → AllFollowed g
-off_followed p k row failure g h = subst AllFollowed (sym h.all) (followed_then h.cancels _ (breaks_followed k row failure h.cancels h.breaks) (still _ h.end refl (end_followed p row 0 h.end h.ends)))
+off_followed p k row failure g h = subst AllFollowed (sym h.all)
+    (followed_then h.cancels _ (breaks_followed k row failure h.cancels h.breaks) (still _ h.end refl (end_followed p row 0 h.end h.ends)))
 
 both_followed : (p : Program) (row : ℕ) (g : List Told) (a : Answer) → StartsAndReceives p row g a → AllFollowed g
-both_followed p row g a (StartsAndReceives.both starts group _ _ s c e) = subst AllFollowed (sym e) (followed_then starts group (starts_followed row starts s) (plain_call_followed _ group a c))
+both_followed p row g a (StartsAndReceives.both starts group _ _ s c e) =
+    subst AllFollowed (sym e) (followed_then starts group (starts_followed row starts s) (plain_call_followed _ group a c))
 
 line_followed : (p : Program) (k : ℕ) (x : Config) (i : _) (g : List Told) (a : Answer) → LineCalls p k x i g a → AllFollowed g
 line_followed p k x _ _ _ (LineCalls.send c o g a h) = plain_call_followed _ g a h
@@ -420,10 +446,12 @@ move_followed p k _ _ _ (Move.repeats x n s) = nothing
 move_followed p k _ _ _ (Move.turns_again x head n es s e) = nothing
 move_followed p k _ _ _ (Move.turns_no_more x head es s e) = nothing
 move_followed p k _ _ _ (Move.receives_again x head es s e) = nothing
-move_followed p k _ _ _ (Move.ends_scope x y s end g all a l e h c f q) = subst AllFollowed (sym q) (followed_then end g (end_followed p s.row 0 end h) (plain_call_followed _ g a c))
+move_followed p k _ _ _ (Move.ends_scope x y s end g all a l e h c f q) =
+    subst AllFollowed (sym q) (followed_then end g (end_followed p s.row 0 end h) (plain_call_followed _ g a c))
 move_followed p k _ _ _ (Move.scope_ended x w n v s) = lone _ refl
 move_followed p k _ _ _ (Move.sees_scope x y s end l e f) = lone _ refl
-move_followed p k _ _ _ (Move.breaks_scope x y s failure break g all a l e h c f q) = subst AllFollowed (sym q) (followed_then break g (off_followed p k s.row failure break h) (plain_call_followed _ g a c))
+move_followed p k _ _ _ (Move.breaks_scope x y s failure break g all a l e h c f q) =
+    subst AllFollowed (sym q) (followed_then break g (off_followed p k s.row failure break h) (plain_call_followed _ g a c))
 move_followed p k _ _ _ (Move.breaks x failure g s e h) = off_followed p k k failure g h
 move_followed p k _ _ _ (Move.ends x g s e h) = end_followed p k x.result g h
 
@@ -439,4 +467,5 @@ begin_followed p _ _ _ (Begins.child k n) = nothing
 -- in all that a coroutine tells, from its beginning, each act is followed by what takes away what it may leave owed
 pub all_followed : (p : Program) (k : ℕ) (told : List Told) (x : Config) → Reaches p k told x → AllFollowed told
 all_followed p k _ _ (Reaches.begins g x h) = begin_followed p k g x h
-all_followed p k _ _ (Reaches.goes_on before g all x y r m e) = subst AllFollowed (sym e) (followed_then before g (all_followed p k before x r) (move_followed p k x y g m))
+all_followed p k _ _ (Reaches.goes_on before g all x y r m e) =
+    subst AllFollowed (sym e) (followed_then before g (all_followed p k before x r) (move_followed p k x y g m))

@@ -60,11 +60,13 @@ none_made f (x ∷ xs) = none_made f xs
 
 admits_none : (c : ℕ) (group : List Told) → Admits c group → attach_in group ≡ false
 unfolding items_in
-admits_none c group h = ap attach_in h.all ∙ neither (map (λ q. made (Admit c q)) h.places) (on_channels (NoneToAdmit c h.mark) ∷ []) (none_made (λ q. Admit c q) h.places) refl
+admits_none c group h = ap attach_in h.all ∙ neither (map (λ q. made (Admit c q)) h.places) (on_channels (NoneToAdmit c h.mark) ∷ [])
+    (none_made (λ q. Admit c q) h.places) refl
 
 drops_none : (c q : ℕ) (group : List Told) → Drops c q group → attach_in group ≡ false
 unfolding items_in
-drops_none c q group h = ap attach_in h.all ∙ neither (map (λ d. made (Drop c d.0 d.1)) h.dropped) (on_channels (FitsUpTo c q) ∷ []) (none_made (λ d. Drop c d.0 d.1) h.dropped) refl
+drops_none c q group h = ap attach_in h.all ∙ neither (map (λ d. made (Drop c d.0 d.1)) h.dropped) (on_channels (FitsUpTo c q) ∷ [])
+    (none_made (λ d. Drop c d.0 d.1) h.dropped) refl
 
 spurns_none : (c q : ℕ) (group : List Told) → Spurns c q group → attach_in group ≡ false
 unfolding items_in
@@ -72,15 +74,18 @@ spurns_none c q _ (Spurns.gone v) = refl
 spurns_none c q _ Spurns.stays = refl
 
 overflows_none : (c q : ℕ) (group : List Told) → Overflows c q group → attach_in group ≡ false
-overflows_none c q group h = ap attach_in h.all ∙ neither h.drops h.spurns (drops_none c q h.drops h.dropped) (spurns_none c q h.spurns h.spurned)
+overflows_none c q group h = ap attach_in h.all ∙ neither h.drops h.spurns (drops_none c q h.drops h.dropped)
+    (spurns_none c q h.spurns h.spurned)
 
 drains_none : (c : ℕ) (group : List Told) → Drains c group → attach_in group ≡ false
 unfolding items_in
-drains_none c group h = ap attach_in h.all ∙ neither (map (λ d. made (Drain c d.0 d.1)) h.drained) (on_channels (NothingQueued c) ∷ on_channels (IsVoided c) ∷ []) (none_made (λ d. Drain c d.0 d.1) h.drained) refl
+drains_none c group h = ap attach_in h.all ∙ neither (map (λ d. made (Drain c d.0 d.1)) h.drained)
+    (on_channels (NothingQueued c) ∷ on_channels (IsVoided c) ∷ []) (none_made (λ d. Drain c d.0 d.1) h.drained) refl
 
 wakes_none : (c : ℕ) (group : List Told) → Wakes c group → attach_in group ≡ false
 unfolding items_in
-wakes_none c group h = ap attach_in h.all ∙ neither (map (λ q. made (WakeClosed c q)) h.places) (on_channels (NoReceiver c) ∷ []) (none_made (λ q. WakeClosed c q) h.places) refl
+wakes_none c group h = ap attach_in h.all ∙ neither (map (λ q. made (WakeClosed c q)) h.places) (on_channels (NoReceiver c) ∷ [])
+    (none_made (λ q. WakeClosed c q) h.places) refl
 
 pub closes_none : (c v : ℕ) (group : List Told) → Closes c v group → attach_in group ≡ false
 unfolding items_in
@@ -89,8 +94,10 @@ closes_none c v _ (Closes.before u wakes w) = wakes_none c wakes w
 
 pub cancels_channel_none : (c : ℕ) (group : List Told) → CancelsChannel c group → attach_in group ≡ false
 unfolding items_in
-cancels_channel_none c group (CancelsChannel.now closes drains _ h d e) = ap attach_in e ∙ neither closes (made (Void c) ∷ drains) (closes_none c 0 closes h) (drains_none c drains d)
-cancels_channel_none c group (CancelsChannel.before closes drains _ h d e) = ap attach_in e ∙ neither closes drains (closes_none c 0 closes h) (drains_none c drains d)
+cancels_channel_none c group (CancelsChannel.now closes drains _ h d e) = ap attach_in e
+    ∙ neither closes (made (Void c) ∷ drains) (closes_none c 0 closes h) (drains_none c drains d)
+cancels_channel_none c group (CancelsChannel.before closes drains _ h d e) = ap attach_in e
+    ∙ neither closes drains (closes_none c 0 closes h) (drains_none c drains d)
 
 at_once_none : (call : Call) (group : List Told) (a : Answer) → AtOnce call group a → attach_in group ≡ false
 unfolding items_in
@@ -129,7 +136,8 @@ plain_none _ _ _ (PlainCall.at_once call group a h) = at_once_none call group a 
 plain_none _ _ _ (PlainCall.refused call told a h) = refused_none call told a h
 plain_none _ _ _ (PlainCall.no_place call all e) = ap attach_in e ∙ spent_none call
 plain_none _ _ _ (PlainCall.offers c v q admits h) = admits_none c admits h
-plain_none _ _ _ (PlainCall.offer_ends c v q admits settles all h s e) = ap attach_in e ∙ neither (offer_told c v q admits) settles (admits_none c admits h) (ended_none (wait_at c q) settles s)
+plain_none _ _ _ (PlainCall.offer_ends c v q admits settles all h s e) = ap attach_in e
+    ∙ neither (offer_told c v q admits) settles (admits_none c admits h) (ended_none (wait_at c q) settles s)
 plain_none _ _ _ (PlainCall.awaits c q) = refl
 
 try_none : (call : Call) (group : List Told) (a : Answer) → TryCall call group a → attach_in group ≡ false
@@ -151,12 +159,14 @@ placed_none w n q (receives c) = refl
 places_none : (w : WaitId) (n : ℕ) (calls : List Call) (group : List Told) → Places w n calls group → attach_in group ≡ false
 unfolding items_in
 places_none w _ _ _ (Places.none n) = refl
-places_none w _ _ _ (Places.one n q call calls more h) = neither (placed w n q call ∷ []) more (placed_none w n q call) (places_none w _ calls more h)
+places_none w _ _ _ (Places.one n q call calls more h) =
+    neither (placed w n q call ∷ []) more (placed_none w n q call) (places_none w _ calls more h)
 
 admits_in_none : (calls : List Call) (group : List Told) → AdmitsIn calls group → attach_in group ≡ false
 unfolding items_in
 admits_in_none _ _ AdmitsIn.none = refl
-admits_in_none _ _ (AdmitsIn.offered c v calls admits more all a h e) = ap attach_in e ∙ neither admits more (admits_none c admits a) (admits_in_none calls more h)
+admits_in_none _ _ (AdmitsIn.offered c v calls admits more all a h e) = ap attach_in e
+    ∙ neither admits more (admits_none c admits a) (admits_in_none calls more h)
 admits_in_none _ _ (AdmitsIn.awaited c calls all h) = admits_in_none calls all h
 
 stops_none : (call : Call) (group : List Told) (a : Answer) → Stops call group a → attach_in group ≡ false
@@ -168,14 +178,27 @@ stops_none _ _ _ (Stops.no_place call all e) = ap attach_in e ∙ spent_none cal
 
 select_none : (calls : List Call) (group : List Told) (a : Answer) → SelectCall calls group a → attach_in group ≡ false
 unfolding items_in
-select_none calls _ _ (SelectCall.chooses before later call group all a f h e) = ap attach_in e ∙ neither (map blocked before) group (passed_none before) (at_once_none call group a h)
-select_none calls _ _ (SelectCall.meets_close before later call t all a f h e) = ap attach_in e ∙ neither (map blocked before) (t ∷ []) (passed_none before) (refused_none call t a h)
-select_none calls _ _ (SelectCall.no_place before later c v all f e) = ap attach_in e ∙ neither (map blocked before) (spent (sends c v)) (passed_none before) (spent_none (sends c v))
-select_none calls _ _ (SelectCall.waits w group admits all h d e) = ap attach_in e ∙ neither (map blocked calls) (group ++ admits) (passed_none calls) (neither group admits (places_none w 1 calls group h.places) (admits_in_none calls admits d))
-select_none calls _ _ (SelectCall.resolved w before later call group admits all f h d e) = ap attach_in e ∙ neither (map blocked calls) _ (passed_none calls) (neither group _ (places_none w 1 before group h.places) (admits_in_none before admits d))
-select_none calls _ _ (SelectCall.stops_at_first later call stop all a f h e) = ap attach_in e ∙ neither (map blocked calls) stop (passed_none calls) (stops_none call stop a h)
-select_none calls _ _ (SelectCall.stops w before later call group stop admits all a f h s d e) = ap attach_in e ∙ neither (map blocked calls) _ (passed_none calls) (neither ((group ++ stop) ++ revoked w) admits (neither (group ++ stop) (revoked w) (neither group stop (places_none w 1 before group h.places) (stops_none call stop a s)) refl) (admits_in_none before admits d))
-select_none calls _ _ (SelectCall.stops_late w before later call group stop admits all a f h s d e) = ap attach_in e ∙ neither (map blocked calls) _ (passed_none calls) (neither (group ++ stop) _ (neither group stop (places_none w 1 before group h.places) (stops_none call stop a s)) (admits_in_none before admits d))
+select_none calls _ _ (SelectCall.chooses before later call group all a f h e) = ap attach_in e
+    ∙ neither (map blocked before) group (passed_none before) (at_once_none call group a h)
+select_none calls _ _ (SelectCall.meets_close before later call t all a f h e) = ap attach_in e
+    ∙ neither (map blocked before) (t ∷ []) (passed_none before) (refused_none call t a h)
+select_none calls _ _ (SelectCall.no_place before later c v all f e) = ap attach_in e
+    ∙ neither (map blocked before) (spent (sends c v)) (passed_none before) (spent_none (sends c v))
+select_none calls _ _ (SelectCall.waits w group admits all h d e) = ap attach_in e
+    ∙ neither (map blocked calls) (group ++ admits) (passed_none calls)
+    (neither group admits (places_none w 1 calls group h.places) (admits_in_none calls admits d))
+select_none calls _ _ (SelectCall.resolved w before later call group admits all f h d e) = ap attach_in e
+    ∙ neither (map blocked calls) _ (passed_none calls) (neither group _ (places_none w 1 before group h.places)
+    (admits_in_none before admits d))
+select_none calls _ _ (SelectCall.stops_at_first later call stop all a f h e) = ap attach_in e
+    ∙ neither (map blocked calls) stop (passed_none calls) (stops_none call stop a h)
+select_none calls _ _ (SelectCall.stops w before later call group stop admits all a f h s d e) = ap attach_in e
+    ∙ neither (map blocked calls) _ (passed_none calls) (neither ((group ++ stop)
+    ++ revoked w) admits (neither (group ++ stop) (revoked w)
+    (neither group stop (places_none w 1 before group h.places) (stops_none call stop a s)) refl) (admits_in_none before admits d))
+select_none calls _ _ (SelectCall.stops_late w before later call group stop admits all a f h s d e) = ap attach_in e
+    ∙ neither (map blocked calls) _ (passed_none calls) (neither (group
+    ++ stop) _ (neither group stop (places_none w 1 before group h.places) (stops_none call stop a s)) (admits_in_none before admits d))
 
 pub gives_up_none : (w : WaitId) (group : List Told) → GivesUp w group → attach_in group ≡ false
 unfolding items_in
@@ -193,9 +216,11 @@ starts_none row _ Starts.now = refl
 starts_none row _ Starts.before = refl
 
 both_none : (p : Program) (row : ℕ) (g : List Told) (a : Answer) → StartsAndReceives p row g a → attach_in g ≡ false
-both_none p row g a (StartsAndReceives.both starts group _ _ s c e) = ap attach_in e ∙ neither starts group (starts_none row starts s) (plain_none _ group a c)
+both_none p row g a (StartsAndReceives.both starts group _ _ s c e) = ap attach_in e
+    ∙ neither starts group (starts_none row starts s) (plain_none _ group a c)
 
-pub line_none : (p : Program) (k : ℕ) (x : Config) (i : _) (group : List Told) (a : Answer) → LineCalls p k x i group a → attach_in group ≡ false
+pub line_none : (p : Program) (k : ℕ) (x : Config) (i : _) (group : List Told) (a : Answer) → LineCalls p k x i group a
+    → attach_in group ≡ false
 unfolding items_in
 line_none p k x _ _ _ (LineCalls.send c o g a h) = plain_none _ g a h
 line_none p k x _ _ _ (LineCalls.receive c g a h) = plain_none _ g a h
@@ -221,16 +246,19 @@ unfolding AreCancels
 own_cancels true row reason = (tt, tt)
 own_cancels false row reason = tt
 
-pub passes_none : (parents : Parents) (row : ℕ) (reason : Reason) (newly : Bool) (group : List Told) → AllKnown parents group → Passes row reason newly group → attach_in group ≡ false
+pub passes_none : (parents : Parents) (row : ℕ) (reason : Reason) (newly : Bool) (group : List Told) → AllKnown parents group
+    → Passes row reason newly group → attach_in group ≡ false
 unfolding AllKnown items_in
 passes_none parents row reason newly group h g =
     let acts = own_cancel newly row reason ++ g.below in
     let parts = subst (AllKnown parents) g.all h in
     let below : AreCancels g.below = (known_right parents (map did acts) (on_jobs (PassedBelow row g.below) ∷ []) parts).0.0 in
     ap attach_in g.all
-    ∙ neither (map did acts) (on_jobs (PassedBelow row g.below) ∷ []) (cancels_none acts (cancels_then (own_cancel newly row reason) g.below (own_cancels newly row reason) below)) refl
+    ∙ neither (map did acts) (on_jobs (PassedBelow row g.below) ∷ [])
+    (cancels_none acts (cancels_then (own_cancel newly row reason) g.below (own_cancels newly row reason) below)) refl
 
-breaks_none : (parents : Parents) (k row : ℕ) (failure : Option ℕ) (group : List Told) → AllKnown parents group → Breaks k row failure group → attach_in group ≡ false
+breaks_none : (parents : Parents) (k row : ℕ) (failure : Option ℕ) (group : List Told) → AllKnown parents group → Breaks k row failure group
+    → attach_in group ≡ false
 unfolding AllKnown items_in
 breaks_none parents k row _ _ h (Breaks.seen failure) = refl
 breaks_none parents k row _ _ h (Breaks.had_been failure group g) = passes_none parents row (reason_for failure) false group h g
@@ -241,7 +269,8 @@ breaks_none parents k row _ _ h (Breaks.fails f up pass all is g e) =
     let behind = known_right parents pass (map did up ++ on_jobs (FailedUp row up) ∷ []) parts in
     let cancels : AreCancels up = (known_right parents (map did up) (on_jobs (FailedUp row up) ∷ []) behind).0.0 in
     ap attach_in e
-    ∙ neither pass (map did up ++ on_jobs (FailedUp row up) ∷ []) (passes_none parents row _ true pass (known_left parents pass (map did up ++ on_jobs (FailedUp row up) ∷ []) parts) g)
+    ∙ neither pass (map did up ++ on_jobs (FailedUp row up) ∷ [])
+    (passes_none parents row _ true pass (known_left parents pass (map did up ++ on_jobs (FailedUp row up) ∷ []) parts) g)
     (neither (map did up) (on_jobs (FailedUp row up) ∷ []) (cancels_none up cancels) refl)
 
 chain_none : (done row : ℕ) (group : List Told) → Chain done row group → attach_in group ≡ false
@@ -249,15 +278,19 @@ unfolding items_in
 chain_none done _ _ (Chain.stops row) = refl
 chain_none done _ _ (Chain.root end closes c) = closes_none _ _ closes c
 chain_none done _ _ (Chain.goes_up row parent end closes more all n c m e) =
-    ap attach_in e ∙ neither closes (did (Gone row) ∷ on_jobs (ParentIs row parent) ∷ more) (closes_none _ _ closes c) (chain_none done parent more m)
+    ap attach_in e ∙ neither closes (did (Gone row) ∷ on_jobs (ParentIs row parent) ∷ more) (closes_none _ _ closes c)
+    (chain_none done parent more m)
 
 pub ends_none : (done row v : ℕ) (group : List Told) → EndsBody done row v group → attach_in group ≡ false
 unfolding items_in
 ends_none done row v _ (EndsBody.ends_body chain c) = chain_none done row chain c
 
-pub breaks_off_none : (parents : Parents) (done k row : ℕ) (failure : Option ℕ) (group : List Told) → AllKnown parents group → BreaksOff done k row failure group → attach_in group ≡ false
+pub breaks_off_none : (parents : Parents) (done k row : ℕ) (failure : Option ℕ) (group : List Told) → AllKnown parents group
+    → BreaksOff done k row failure group → attach_in group ≡ false
 unfolding items_in
 breaks_off_none parents done k row failure group h b =
     let parts = subst (AllKnown parents) b.all h in
     let rest = on_jobs (IsCancelling row) ∷ b.end in
-    ap attach_in b.all ∙ neither b.cancels rest (breaks_none parents k row failure b.cancels (known_left parents b.cancels rest parts) b.breaks) (ends_none done row 0 b.end b.ends)
+    ap attach_in b.all
+    ∙ neither b.cancels rest (breaks_none parents k row failure b.cancels (known_left parents b.cancels rest parts) b.breaks)
+    (ends_none done row 0 b.end b.ends)

@@ -58,7 +58,8 @@ pub record IsOwnScope (shape : Shape) (k : ℕ) (told : List Told) (parent row :
 unfoldable pub AreEntered : Shape → ℕ → List Told → Bool → List ℕ → Type 0
 AreEntered shape k told ended [] = ended ≡ false
 AreEntered shape k told ended (row ∷ rows) =
-    IsOwnScope shape k told (first_or k rows) row × (ends_in row told ≡ ended) × (is_among row rows ≡ false) × AreEntered shape k told false rows
+    IsOwnScope shape k told (first_or k rows) row × (ends_in row told ≡ ended) × (is_among row rows ≡ false)
+    × AreEntered shape k told false rows
 
 -- ---- how it began
 

@@ -47,27 +47,19 @@ unfolding part acts_of
 same_part k [] = refl
 same_part k (e ∷ es) = by_test (same_part k es) (e.who == k)
   where
-    by_test : part who_did deed k es ≡ acts_of k es → (b : Bool) → add b e.act (part who_did deed k es) ≡ (if b then e.act ∷ acts_of k es else acts_of k es)
+    by_test : part who_did deed k es ≡ acts_of k es → (b : Bool)
+        → add b e.act (part who_did deed k es) ≡ (if b then e.act ∷ acts_of k es else acts_of k es)
     by_test h true = ap (λ l. e.act ∷ l) h
     by_test h false = h
 
 pub act_of_note : (n : _) → channel_act n ≡ act_list (act_in_note n)
 act_of_note (of_channel.Made act) = refl
-act_of_note (of_channel.SendClosed c value v) = refl
-act_of_note (of_channel.TrySendClosed c value v) = refl
-act_of_note (of_channel.ReceiveClosed c v) = refl
-act_of_note (of_channel.TryReceiveClosed c v) = refl
-act_of_note (of_channel.AlreadyClosed c v) = refl
-act_of_note (of_channel.Full c value) = refl
-act_of_note (of_channel.Empty c) = refl
-act_of_note (of_channel.Spent c) = refl
-act_of_note (of_channel.Partner c place) = refl
-act_of_note (of_channel.MainResolved w) = refl
-act_of_note (of_channel.Late w) = refl
+act_of_note other = refl
 
 told_acts : (t : Told) (items : List Item) → channel_acts_in (with_told t items) ≡ channel_acts_in items ++ act_list (call_told t)
 told_acts (note (item.Job n)) items = channel_acts_in-append items (item.Job n ∷ [])
-told_acts (note (item.Channel n)) items = channel_acts_in-append items (item.Channel n ∷ []) ∙ ap (λ l. channel_acts_in items ++ l) (append-nil (channel_act n) ∙ act_of_note n)
+told_acts (note (item.Channel n)) items = channel_acts_in-append items (item.Channel n ∷ [])
+    ∙ ap (λ l. channel_acts_in items ++ l) (append-nil (channel_act n) ∙ act_of_note n)
 told_acts (on_channels fact) items = sym (append-nil (channel_acts_in items))
 told_acts (on_jobs fact) items = sym (append-nil (channel_acts_in items))
 
@@ -79,18 +71,28 @@ holds_there s items earlier at (on_jobs fact) h = tt
 abbrev pub CallsSo : Shape → ℕ → List Entry → List Act → List Told → Type 0
 CallsSo shape k history done told = AllSo step start who_did deed k call_told (CallHolds shape) history done told
 
-pub true_so : (s : Story) (items : List Item) (earlier : Moment) (told : List Told) → IsTrue s items earlier told → CallsSo s.shape s.tag s.now.channels (channel_acts_in items) told
+pub true_so : (s : Story) (items : List Item) (earlier : Moment) (told : List Told) → IsTrue s items earlier told
+    → CallsSo s.shape s.tag s.now.channels (channel_acts_in items) told
 unfolding IsTrue AllSo
 true_so s items earlier [] h = tt
 true_so s items earlier (t ∷ told) h = (
-  record { at = h.0.channels; more = h.1.not_after.channels.0; parts = h.1.not_after.channels.1; acts = same_part s.tag h.0.channels ∙ h.1.channel_acts; holds = holds_there s items earlier h.0 t h.1 },
+  record {
+    at = h.0.channels;
+    more = h.1.not_after.channels.0;
+    parts = h.1.not_after.channels.1;
+    acts = same_part s.tag h.0.channels
+        ∙ h.1.channel_acts;
+    holds = holds_there s items earlier h.0 t h.1;
+  },
   subst (λ d. CallsSo s.shape s.tag s.now.channels d told) (told_acts t items) (true_so s (with_told t items) h.0 told h.2),
 )
 
-pub told_parts : (shape : Shape) (k : ℕ) (told : List Told) → channel_acts_in (items_in told) ≡ acts_told step start who_did deed k call_told (CallHolds shape) told
+pub told_parts : (shape : Shape) (k : ℕ) (told : List Told)
+    → channel_acts_in (items_in told) ≡ acts_told step start who_did deed k call_told (CallHolds shape) told
 unfolding acts_told items_in
 told_parts shape k [] = refl
 told_parts shape k (note (item.Job n) ∷ told) = told_parts shape k told
-told_parts shape k (note (item.Channel n) ∷ told) = ap (λ l. l ++ channel_acts_in (items_in told)) (act_of_note n) ∙ ap (λ l. act_list (act_in_note n) ++ l) (told_parts shape k told)
+told_parts shape k (note (item.Channel n) ∷ told) = ap (λ l. l ++ channel_acts_in (items_in told)) (act_of_note n)
+    ∙ ap (λ l. act_list (act_in_note n) ++ l) (told_parts shape k told)
 told_parts shape k (on_channels fact ∷ told) = told_parts shape k told
 told_parts shape k (on_jobs fact ∷ told) = told_parts shape k told

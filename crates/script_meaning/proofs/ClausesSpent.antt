@@ -26,30 +26,18 @@ dropped (suc n) test (x ∷ code) h = dropped n test code (both (test x) (list_a
 abbrev pub SpentBelow : (Item → Bool) → ℕ → Type 0
 SpentBelow T base = (c : ℕ) → c < base → T (spent_note c) ≡ true
 
-clauses_pass : (T : Item → Bool) (base : ℕ) (x : Config) (code : List Instruction) → SpentBelow T base → list_all (names_channel base) code ≡ true → AllSpentPass T (clauses_in x code)
+clauses_pass : (T : Item → Bool) (base : ℕ) (x : Config) (code : List Instruction) → SpentBelow T base
+    → list_all (names_channel base) code ≡ true → AllSpentPass T (clauses_in x code)
 unfolding AllSpentPass
 clauses_pass T base x [] s h = tt
-clauses_pass T base x (line.OnSend c o ∷ code) s h = let two = both (names_channel base (line.OnSend c o)) _ h in (s c (lt-from_true c base two.0), clauses_pass T base x code s two.1)
-clauses_pass T base x (line.OnReceive c ∷ code) s h = let two = both (names_channel base (line.OnReceive c)) _ h in (s c (lt-from_true c base two.0), clauses_pass T base x code s two.1)
+clauses_pass T base x (line.OnSend c o ∷ code) s h = let two = both (names_channel base (line.OnSend c o)) _ h
+    in (s c (lt-from_true c base two.0), clauses_pass T base x code s two.1)
+clauses_pass T base x (line.OnReceive c ∷ code) s h = let two = both (names_channel base (line.OnReceive c)) _ h
+    in (s c (lt-from_true c base two.0), clauses_pass T base x code s two.1)
 clauses_pass T base x (line.Send c o ∷ code) s h = tt
-clauses_pass T base x (line.TrySend c o ∷ code) s h = tt
-clauses_pass T base x (line.Receive c ∷ code) s h = tt
-clauses_pass T base x (line.TryReceive c ∷ code) s h = tt
-clauses_pass T base x (line.Close c ∷ code) s h = tt
-clauses_pass T base x (line.CancelChannel c ∷ code) s h = tt
-clauses_pass T base x (line.Yield ∷ code) s h = tt
-clauses_pass T base x (line.Launch block how job ∷ code) s h = tt
-clauses_pass T base x (line.Start job ∷ code) s h = tt
-clauses_pass T base x (line.Join job ∷ code) s h = tt
-clauses_pass T base x (line.Await job ∷ code) s h = tt
-clauses_pass T base x (line.Cancel job ∷ code) s h = tt
-clauses_pass T base x (line.Fail v ∷ code) s h = tt
-clauses_pass T base x (line.SetResult o ∷ code) s h = tt
-clauses_pass T base x (line.Repeat n ∷ code) s h = tt
-clauses_pass T base x (line.Each c ∷ code) s h = tt
-clauses_pass T base x (line.Scope supervisor ∷ code) s h = tt
-clauses_pass T base x (line.Select ∷ code) s h = tt
-clauses_pass T base x (line.End ∷ code) s h = tt
+clauses_pass T base x other s h = tt
 
-pub clauses_spent : (T : Item → Bool) (p : Program) (k : ℕ) (x : Config) → IsProgram p → SpentBelow T (base_of p) → AllSpentPass T (clauses_at p k x)
-clauses_spent T p k x ok s = clauses_pass T (base_of p) x (drop (x.line + 1) (code_of p k)) s (dropped (x.line + 1) (names_channel (base_of p)) (code_of p k) (channels_known p k ok))
+pub clauses_spent : (T : Item → Bool) (p : Program) (k : ℕ) (x : Config) → IsProgram p → SpentBelow T (base_of p)
+    → AllSpentPass T (clauses_at p k x)
+clauses_spent T p k x ok s = clauses_pass T (base_of p) x (drop (x.line + 1) (code_of p k)) s
+    (dropped (x.line + 1) (names_channel (base_of p)) (code_of p k) (channels_known p k ok))

@@ -56,7 +56,8 @@ not_new s e f = let k : is_completed New ≡ true = ap is_completed (sym e) ∙ 
 body_completed : (s : JobState) → is_completed s ≡ true → is_completed (state_after_body s) ≡ true
 body_completed s e = ap (λ t. is_completed (state_after_body t)) (completed_is s e)
 
-end_completed : (s : JobState) (j : Job) (end : End) → end_of s j ≡ Some end → is_completed s ≡ true → is_completed (state_of_end end) ≡ true
+end_completed : (s : JobState) (j : Job) (end : End) → end_of s j ≡ Some end → is_completed s ≡ true
+    → is_completed (state_of_end end) ≡ true
 end_completed s j end m e = let no_way : end_of Completed j ≡ Some end = sym (ap (λ t. end_of t j) (completed_is s e)) ∙ m in cc
 
 completed_lasts : Lasts (λ x. has_completed x ≡ true)
@@ -184,31 +185,39 @@ unfolding EndsSo
 ends_right done [] ys h = h
 ends_right done (x ∷ xs) ys h = ends_right done xs ys h.1
 
-end_so : (shape : _) (jobs at : List JobEntry) (row : ℕ) (end : End) → Legal shape jobs → IsPrefix at jobs → end_at (replay at row) ≡ Some end → SeenAs (completed_in jobs) row end
-end_so shape jobs at row (ended.Completed v) l p h = prefix_keeps (λ x. has_completed x ≡ true) completed_lasts shape at jobs row l p (completed_now (replay at row) v h)
+end_so : (shape : _) (jobs at : List JobEntry) (row : ℕ) (end : End) → Legal shape jobs → IsPrefix at jobs
+    → end_at (replay at row) ≡ Some end → SeenAs (completed_in jobs) row end
+end_so shape jobs at row (ended.Completed v) l p h = prefix_keeps (λ x. has_completed x ≡ true) completed_lasts shape at jobs row l p
+    (completed_now (replay at row) v h)
 end_so shape jobs at row (ended.Cancelled cause) l p h = tt
 
-note_so : (shape channels : _) (jobs at : List JobEntry) (n : JobNote) (s : _) → Legal shape jobs → IsPrefix at jobs → ToldHolds channels (note (item.Job n)) s (replay at) → NoteIsSo (completed_in jobs) n
+note_so : (shape channels : _) (jobs at : List JobEntry) (n : JobNote) (s : _) → Legal shape jobs → IsPrefix at jobs
+    → ToldHolds channels (note (item.Job n)) s (replay at) → NoteIsSo (completed_in jobs) n
 note_so shape channels jobs at (known.Made act) s l p h = tt
 note_so shape channels jobs at (known.Saw row) s l p h = tt
 note_so shape channels jobs at (known.SawEnd row end) s l p h = end_so shape jobs at row end l p h
 note_so shape channels jobs at (known.Fail v) s l p h = tt
-note_so shape channels jobs at known.NoRow s l p h = tt
-note_so shape channels jobs at known.Used s l p h = tt
-note_so shape channels jobs at known.ParentEnded s l p h = tt
+note_so shape channels jobs at other s l p h = tt
 
-fact_so : (shape channels : _) (jobs at : List JobEntry) (fact : JobFact) (s : _) → Legal shape jobs → IsPrefix at jobs → ToldHolds channels (on_jobs fact) s (replay at) → FactIsSo (completed_in jobs) fact
-fact_so shape channels jobs at (IsCancelling row) s l p h = not_completed (replay jobs row) (prefix_keeps IsForCancel cancel_lasts shape at jobs row l p (cancelling_now (replay at row) h))
+fact_so : (shape channels : _) (jobs at : List JobEntry) (fact : JobFact) (s : _) → Legal shape jobs → IsPrefix at jobs
+    → ToldHolds channels (on_jobs fact) s (replay at) → FactIsSo (completed_in jobs) fact
+fact_so shape channels jobs at (IsCancelling row) s l p h =
+    not_completed (replay jobs row) (prefix_keeps IsForCancel cancel_lasts shape at jobs row l p (cancelling_now (replay at row) h))
 fact_so shape channels jobs at other s l p h = tt
 
-told_so : (shape channels : _) (jobs at : List JobEntry) (t : Told) (s : _) → Legal shape jobs → IsPrefix at jobs → ToldHolds channels t s (replay at) → ToldIsSo (completed_in jobs) t
+told_so : (shape channels : _) (jobs at : List JobEntry) (t : Told) (s : _) → Legal shape jobs → IsPrefix at jobs
+    → ToldHolds channels t s (replay at) → ToldIsSo (completed_in jobs) t
 told_so shape channels jobs at (note (item.Channel n)) s l p h = tt
 told_so shape channels jobs at (note (item.Job n)) s l p h = note_so shape channels jobs at n s l p h
 told_so shape channels jobs at (on_channels fact) s l p h = tt
 told_so shape channels jobs at (on_jobs fact) s l p h = fact_so shape channels jobs at fact s l p h
 
 -- what was told in a legal history is so
-pub ends_so : (shape : _) (s : Story) (items : List Item) (earlier : Moment) (told : List Told) → Legal shape s.now.jobs → IsTrue s items earlier told → EndsSo (completed_in s.now.jobs) told
+pub ends_so : (shape : _) (s : Story) (items : List Item) (earlier : Moment) (told : List Told) → Legal shape s.now.jobs
+    → IsTrue s items earlier told → EndsSo (completed_in s.now.jobs) told
 unfolding EndsSo IsTrue
 ends_so shape s items earlier [] l h = tt
-ends_so shape s items earlier (t ∷ told) l h = (told_so shape s.shape s.now.jobs h.0.jobs t _ l h.1.not_after.jobs h.1.holds, ends_so shape s (with_told t items) h.0 told l h.2)
+ends_so shape s items earlier (t ∷ told) l h = (
+  told_so shape s.shape s.now.jobs h.0.jobs t _ l h.1.not_after.jobs h.1.holds,
+  ends_so shape s (with_told t items) h.0 told l h.2,
+)

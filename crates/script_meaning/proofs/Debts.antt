@@ -41,7 +41,8 @@ abbrev pub state_after : {S E : Type 0} → (S → E → S) → S → List E →
 state_after after s [] = s
 state_after after s (e ∷ es) = state_after after (after s e) es
 
-pub state_then : {S E : Type 0} (after : S → E → S) (s : S) (xs ys : List E) → state_after after s (xs ++ ys) ≡ state_after after (state_after after s xs) ys
+pub state_then : {S E : Type 0} (after : S → E → S) (s : S) (xs ys : List E)
+    → state_after after s (xs ++ ys) ≡ state_after after (state_after after s xs) ys
 state_then after s [] ys = refl
 state_then after s (x ∷ xs) ys = state_then after (after s x) xs ys
 
@@ -60,7 +61,8 @@ module _ {S E : Type 0} (after : S → E → S) (who : E → ℕ) (owes : S → 
   -- whoever brings it about sees it paid later
   abbrev pub Pays : S → ℕ → List E → Type 0
   Pays s k es =
-      (before : List E) (e : E) (rest : List E) → es ≡ before ++ e ∷ rest → who e ≡ k → owes (state_after after s before) ≡ false → owes (after (state_after after s before) e) ≡ true
+      (before : List E) (e : E) (rest : List E) → es ≡ before ++ e ∷ rest → who e ≡ k → owes (state_after after s before) ≡ false
+      → owes (after (state_after after s before) e) ≡ true
       → (xs : List E) × (ys : List E) × (rest ≡ xs ++ ys) × (owes (state_after after (after (state_after after s before) e) xs) ≡ false)
 
   later : (s : S) (e : E) (es : List E) → LastRise (after s e) es → LastRise s (e ∷ es)
@@ -85,7 +87,8 @@ module _ {S E : Type 0} (after : S → E → S) (who : E → ℕ) (owes : S → 
 
   pub last_rise : (s : S) (es : List E) → owes (state_after after s es) ≡ true → OwedThroughout s es ⊎ LastRise s es
   last_rise s [] h = inl (no_more s h)
-  last_rise s (e ∷ es) h = ⊎_elim (λ (t : OwedThroughout (after s e) es). here t (owes s) refl) (λ (r : LastRise (after s e) es). inr (later s e es r)) (last_rise (after s e) es h)
+  last_rise s (e ∷ es) h = ⊎_elim (λ (t : OwedThroughout (after s e) es). here t (owes s) refl)
+      (λ (r : LastRise (after s e) es). inr (later s e es r)) (last_rise (after s e) es h)
     where
       here : OwedThroughout (after s e) es → (b : Bool) → owes s ≡ b → OwedThroughout s (e ∷ es) ⊎ LastRise s (e ∷ es)
       here t true q = inl (one_more s e es q t)
@@ -128,7 +131,8 @@ module _ {E A : Type 0} (who : E → ℕ) (act : E → A) (k : ℕ) where
       over false = refl
 
   -- a moment at which the caller had made one act more than before this entry is after it
-  pub reached : (before : List E) (e : E) (rest at more : List E) (zs : List A) → at ++ more ≡ before ++ e ∷ rest → part at ≡ part before ++ act e ∷ zs → (xs : List E) × (rest ≡ xs ++ more) × (at ≡ before ++ e ∷ xs)
+  pub reached : (before : List E) (e : E) (rest at more : List E) (zs : List A) → at ++ more ≡ before ++ e ∷ rest → part at ≡ part before
+      ++ act e ∷ zs → (xs : List E) × (rest ≡ xs ++ more) × (at ≡ before ++ e ∷ xs)
   unfolding part
   reached [] e rest [] more zs p q = absurd (not_empty [] zs (act e) q)
   reached [] e rest (a ∷ at) more zs p q =
@@ -137,7 +141,8 @@ module _ {E A : Type 0} (who : E → ℕ) (act : E → A) (k : ℕ) where
   reached (b ∷ before) e rest [] more zs p q = absurd (not_empty (add (who b == k) (act b) (part before)) zs (act e) q)
   reached (b ∷ before) e rest (a ∷ at) more zs p q =
       let t = same_tail a b (at ++ more) (before ++ e ∷ rest) p in
-      let r = reached before e rest at more zs t.1 (off (who b == k) (subst (λ x. add (who x == k) (act x) (part at) ≡ add (who b == k) (act b) (part before) ++ act e ∷ zs) t.0 q)) in
+      let r = reached before e rest at more zs t.1 (off (who b == k)
+      (subst (λ x. add (who x == k) (act x) (part at) ≡ add (who b == k) (act b) (part before) ++ act e ∷ zs) t.0 q)) in
       (r.0, r.1, ap (λ x. x ∷ at) t.0 ∙ ap (λ l. b ∷ l) r.2)
     where
       off : (c : Bool) → add c (act b) (part at) ≡ add c (act b) (part before) ++ act e ∷ zs → part at ≡ part before ++ act e ∷ zs
@@ -158,15 +163,43 @@ module _ {E A : Type 0} (who : E → ℕ) (act : E → A) (k : ℕ) where
   find [] us bs a q = absurd (not_empty us bs a q)
   find (e ∷ es) us bs a q = by_test (λ vs h. find es vs bs a h) (who e == k) refl us q
     where
-      by_test : ((vs : List A) → part es ≡ vs ++ a ∷ bs → Found es vs a) → (b : Bool) → (who e == k) ≡ b → (us : List A) → add b (act e) (part es) ≡ us ++ a ∷ bs → Found (e ∷ es) us a
-      by_test rec true m [] h = record { before = []; entry = e; rest = es; parts = refl; mine = eqb-true (who e) k m; is = (same_tail (act e) a (part es) bs h).0; acts = refl }
+      by_test : ((vs : List A) → part es ≡ vs ++ a ∷ bs → Found es vs a) → (b : Bool) → (who e == k) ≡ b → (us : List A)
+          → add b (act e) (part es) ≡ us ++ a ∷ bs → Found (e ∷ es) us a
+      by_test rec true m [] h = record {
+        before = [];
+        entry = e;
+        rest = es;
+        parts = refl;
+        mine = eqb-true (who e) k m;
+        is =
+            (same_tail (act e) a (part es) bs h).0;
+        acts = refl;
+      }
       by_test rec true m (x ∷ us) h =
           let t = same_tail (act e) x (part es) (us ++ a ∷ bs) h in
           let f = rec us t.1 in
-          record { before = e ∷ f.before; entry = f.entry; rest = f.rest; parts = ap (λ l. e ∷ l) f.parts; mine = f.mine; is = f.is; acts = ap (λ c. add c (act e) (part f.before)) m ∙ ap (λ y. y ∷ part f.before) t.0 ∙ ap (λ l. x ∷ l) f.acts }
+          record {
+            before = e ∷ f.before;
+            entry = f.entry;
+            rest = f.rest;
+            parts = ap (λ l. e ∷ l) f.parts;
+            mine = f.mine;
+            is = f.is;
+            acts =
+                ap (λ c. add c (act e) (part f.before)) m ∙ ap (λ y. y ∷ part f.before) t.0 ∙ ap (λ l. x ∷ l) f.acts;
+          }
       by_test rec false m us h =
           let f = rec us h in
-          record { before = e ∷ f.before; entry = f.entry; rest = f.rest; parts = ap (λ l. e ∷ l) f.parts; mine = f.mine; is = f.is; acts = ap (λ c. add c (act e) (part f.before)) m ∙ f.acts }
+          record {
+            before = e ∷ f.before;
+            entry = f.entry;
+            rest = f.rest;
+            parts = ap (λ l. e ∷ l) f.parts;
+            mine = f.mine;
+            is = f.is;
+            acts =
+                ap (λ c. add c (act e) (part f.before)) m ∙ f.acts;
+          }
 
   mine_one : (e : E) (b : Bool) → (who e == k) ≡ b → who e ≡ k → part (e ∷ []) ≡ act e ∷ []
   unfolding part

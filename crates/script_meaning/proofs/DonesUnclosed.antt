@@ -17,18 +17,21 @@ use Rattle.channel_model.specs.Floors.{Floor, Added, entries_by}
 use Rattle.channel_model.proofs.Histories.{replay_from-append}
 use Rattle.script_meaning.proofs.GentleNotes.{leaves_dones}
 
-put_closed : (c d : ℕ) (x : Channel) (s : State) → x.closed ≡ (s.channels c).closed → (put_channel c x s.channels d).closed ≡ (s.channels d).closed
+put_closed : (c d : ℕ) (x : Channel) (s : State) → x.closed ≡ (s.channels c).closed
+    → (put_channel c x s.channels d).closed ≡ (s.channels d).closed
 put_closed c d x s e = by_test (c == d) refl
   where
     by_test : (b : Bool) → (c == d) ≡ b → (if b then x else s.channels d).closed ≡ (s.channels d).closed
     by_test true k = e ∙ ap (λ n. (s.channels n).closed) (eqb-true c d k)
     by_test false k = refl
 
-first_closed : (rs : List Receiver) (how : ℕ → Resolution) (s : State) (d : ℕ) → ((resolve_first rs how s).channels d).closed ≡ (s.channels d).closed
+first_closed : (rs : List Receiver) (how : ℕ → Resolution) (s : State) (d : ℕ)
+    → ((resolve_first rs how s).channels d).closed ≡ (s.channels d).closed
 first_closed [] how s d = refl
 first_closed (r ∷ rs) how s d = refl
 
-holder_closed : (p : Option Party) (how : ℕ → Resolution) (s : State) (d : ℕ) → ((resolve_holder p how s).channels d).closed ≡ (s.channels d).closed
+holder_closed : (p : Option Party) (how : ℕ → Resolution) (s : State) (d : ℕ)
+    → ((resolve_holder p how s).channels d).closed ≡ (s.channels d).closed
 holder_closed None how s d = refl
 holder_closed (Some p) how s d = refl
 
@@ -39,7 +42,8 @@ removed_closed : (c d : ℕ) (queue : List Standing) (s : State) → ((remove_fi
 removed_closed c d [] s = refl
 removed_closed c d (o ∷ os) s = queue_closed c d os s
 
-offer_closed : (c d : ℕ) (queue : List Standing) (how : ℕ → Resolution) (s : State) → ((resolve_offer c queue how s).channels d).closed ≡ (s.channels d).closed
+offer_closed : (c d : ℕ) (queue : List Standing) (how : ℕ → Resolution) (s : State)
+    → ((resolve_offer c queue how s).channels d).closed ≡ (s.channels d).closed
 offer_closed c d [] how s = refl
 offer_closed c d (o ∷ os) how s = holder_closed o.holder how (with_queue c os s) d ∙ queue_closed c d os s
 
@@ -58,9 +62,11 @@ other_closed c d x s e = ap (λ b. (if b then x else s.channels d).closed) e
 apart : (base c d : ℕ) → not (nat_le base c) ≡ true → base ≤ d → (c == d) ≡ false
 apart base c d e le = grind (arith, nat_tests)
 
-closed_same : (base : ℕ) (s : State) (who : ℕ) (act : Act) (d : ℕ) → base ≤ d → leaves_dones base act ≡ true → ((after s who act).channels d).closed ≡ (s.channels d).closed
+closed_same : (base : ℕ) (s : State) (who : ℕ) (act : Act) (d : ℕ) → base ≤ d → leaves_dones base act ≡ true
+    → ((after s who act).channels d).closed ≡ (s.channels d).closed
 closed_same base s who (Hand c p v) d le e = first_closed (s.channels c).receivers _ s d
-closed_same base s who (Put c p v) d le e = put_closed c d _ s (placed_offer_closed true (record { place = p; value = v; holder = None }) (s.channels c))
+closed_same base s who (Put c p v) d le e = put_closed c d _ s
+    (placed_offer_closed true (record { place = p; value = v; holder = None }) (s.channels c))
 closed_same base s who (Offer c p v w k) d le e = put_closed c d _ s (placed_offer_closed _ _ (s.channels c))
 closed_same base s who (Await c p w k) d le e = put_closed c d _ s (placed_receiver_closed _ _ (s.channels c))
 closed_same base s who (Take c p v) d le e = offer_closed c d (s.channels c).queue _ s
@@ -74,7 +80,8 @@ closed_same base s who (WakeClosed c p) d le e = first_closed (s.channels c).rec
 closed_same base s who (Withdraw w why) d le e = refl
 closed_same base s who (Settle w outcome) d le e = refl
 
-none_closed : (base who d : ℕ) (s : State) (acts : List Act) → base ≤ d → list_all (leaves_dones base) acts ≡ true → ((replay_from s (entries_by who acts)).channels d).closed ≡ (s.channels d).closed
+none_closed : (base who d : ℕ) (s : State) (acts : List Act) → base ≤ d → list_all (leaves_dones base) acts ≡ true
+    → ((replay_from s (entries_by who acts)).channels d).closed ≡ (s.channels d).closed
 unfolding replay_from
 none_closed base who d s [] le h = refl
 none_closed base who d s (act ∷ acts) le h =
@@ -86,6 +93,9 @@ none_closed base who d s (act ∷ acts) le h =
     both false b k = cc
 
 -- where nobody else calls, a done channel is closed after such calls where it was closed before
-pub added_closes : (base who : ℕ) (acts : List Act) (a b : Floor) → Added who acts a b → list_all (leaves_dones base) acts ≡ true → a.alone ≡ true → (d : ℕ) → base ≤ d → ((replay b.seen).channels d).closed ≡ ((replay a.seen).channels d).closed
+pub added_closes : (base who : ℕ) (acts : List Act) (a b : Floor) → Added who acts a b → list_all (leaves_dones base) acts ≡ true
+    → a.alone ≡ true → (d : ℕ) → base ≤ d → ((replay b.seen).channels d).closed ≡ ((replay a.seen).channels d).closed
 added_closes base who acts a b h e alone d le =
-    ap (λ es. ((replay es).channels d).closed) (h.alone alone) ∙ ap (λ (s : State). (s.channels d).closed) (replay_from-append start a.seen (entries_by who acts)) ∙ none_closed base who d (replay a.seen) acts le e
+    ap (λ es. ((replay es).channels d).closed) (h.alone alone)
+    ∙ ap (λ (s : State). (s.channels d).closed) (replay_from-append start a.seen (entries_by who acts))
+    ∙ none_closed base who d (replay a.seen) acts le e

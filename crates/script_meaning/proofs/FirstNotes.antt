@@ -39,7 +39,8 @@ not_waiting : (x : Config) (w : _) → x.stage ≡ stage.Waiting w → x.stage �
 not_waiting x w e f = let q : stage.Waiting w ≡ stage.Fresh = sym e ∙ f in cc
 
 -- the first move of a coroutine tells one of these
-pub first_told : (p : Program) (k : ℕ) (x y : Config) (g : List Told) → Move p k x g y → x.stage ≡ stage.Fresh → (g ≡ on_jobs (MayRun k) ∷ []) ⊎ (g ≡ saw k ∷ [])
+pub first_told : (p : Program) (k : ℕ) (x y : Config) (g : List Told) → Move p k x g y → x.stage ≡ stage.Fresh
+    → (g ≡ on_jobs (MayRun k) ∷ []) ⊎ (g ≡ saw k ∷ [])
 first_told p k _ _ _ (Move.runs x s) f = inl refl
 first_told p k _ _ _ (Move.never_runs x s) f = inr refl
 first_told p k _ _ _ (Move.calls x y i g a s h z) f = absurd (not_running x s.stage f)
@@ -67,11 +68,13 @@ first_told p k _ _ _ (Move.receives_again x head es s e) f = absurd (not_running
 first_told p k _ _ _ (Move.ends_scope x y s end g all a l e h c z q) f = absurd (not_running x l.stage f)
 first_told p k _ _ _ (Move.scope_ended x w n v s) f = absurd (let q : stage.Leaving w ≡ stage.Fresh = sym s ∙ f in cc)
 first_told p k _ _ _ (Move.sees_scope x y s end l e z) f = absurd (let q : stage.SeesScope ≡ stage.Fresh = sym l ∙ f in cc)
-first_told p k _ _ _ (Move.breaks_scope x y s failure break g all a l e h c z q) f = absurd (let q : stage.Unwinding failure ≡ stage.Fresh = sym l ∙ f in cc)
+first_told p k _ _ _ (Move.breaks_scope x y s failure break g all a l e h c z q) f =
+    absurd (let q : stage.Unwinding failure ≡ stage.Fresh = sym l ∙ f in cc)
 first_told p k _ _ _ (Move.breaks x failure g s e h) f = absurd (let q : stage.Unwinding failure ≡ stage.Fresh = sym s ∙ f in cc)
 first_told p k _ _ _ (Move.ends x g s e h) f = absurd (not_running x s f)
 
-more_told : (k : ℕ) (before g all : List Told) (x y : Config) → all ≡ before ++ g → (x.stage ≡ stage.Fresh → (g ≡ on_jobs (MayRun k) ∷ []) ⊎ (g ≡ saw k ∷ [])) → BeginsBy k before x → BeginsBy k all y
+more_told : (k : ℕ) (before g all : List Told) (x y : Config) → all ≡ before ++ g
+    → (x.stage ≡ stage.Fresh → (g ≡ on_jobs (MayRun k) ∷ []) ⊎ (g ≡ saw k ∷ [])) → BeginsBy k before x → BeginsBy k all y
 more_told k before g all x y e first (BeginsBy.fresh none f) =
     let is : all ≡ g = e ∙ ap (λ l. l ++ g) none in
     ⊎_elim (λ (h : g ≡ on_jobs (MayRun k) ∷ []). BeginsBy.runs [] (is ∙ h)) (λ (h : g ≡ saw k ∷ []). BeginsBy.sees [] (is ∙ h)) (first f)
@@ -84,14 +87,16 @@ at_first p _ _ _ n (Begins.child k m) = BeginsBy.fresh refl refl
 
 pub begins_by : (p : Program) (k : ℕ) (told : List Told) (x : Config) → k ≢ 0 → Reaches p k told x → BeginsBy k told x
 begins_by p k _ _ n (Reaches.begins g x h) = at_first p k g x n h
-begins_by p k _ _ n (Reaches.goes_on before g all x y r m e) = more_told k before g all x y e (first_told p k x y g m) (begins_by p k before x n r)
+begins_by p k _ _ n (Reaches.goes_on before g all x y r m e) =
+    more_told k before g all x y e (first_told p k x y g m) (begins_by p k before x n r)
 
 -- ---- how its Job was attached
 
 legal_at : (shape : Shape) (xs ys : List JobEntry) → IsPrefix xs ys → Legal shape ys → Legal shape xs
 legal_at shape xs ys longer legal = Legal-prefix shape xs longer.0 (subst (Legal shape) (sym longer.1) legal)
 
-ran : (shape : Shape) (k : ℕ) (at jobs : List JobEntry) (book : List Item) → Legal shape jobs → k ≢ 0 → IsPrefix at jobs → IsRunning (replay at k) → BeginsAsAttached k jobs book
+ran : (shape : Shape) (k : ℕ) (at jobs : List JobEntry) (book : List Item) → Legal shape jobs → k ≢ 0 → IsPrefix at jobs
+    → IsRunning (replay at k) → BeginsAsAttached k jobs book
 ran shape k at jobs book l n longer h = by_row (replay at k) refl h
   where
     by_row : (o : Option Job) → replay at k ≡ o → IsRunning o → BeginsAsAttached k jobs book
@@ -101,7 +106,9 @@ ran shape k at jobs book l n longer h = by_row (replay at k) refl h
         record {
           origin = (was.kind, false);
           attached = origin_later k at jobs (was.kind, false) longer was.origin;
-          saw_first = λ never. absurd (⊎_elim (λ (q : false ≡ true). let z : false ≡ true = q in cc) (λ (q : (was.kind.lazy ≡ true) × (has starts_row k jobs ≡ false)). let s = has_later starts_row k at jobs longer (was.started q.0) in let z = q.1 in cc) never);
+          saw_first = λ never. absurd (⊎_elim (λ (q : false ≡ true). let z : false ≡ true = q
+              in cc) (λ (q : (was.kind.lazy ≡ true) × (has starts_row k jobs ≡ false)). let s =
+              has_later starts_row k at jobs longer (was.started q.0) in let z = q.1 in cc) never);
         }
 
 cancelling_there : (o : Option Job) → state_of o ≡ Some Cancelling → is_some o ≡ true
@@ -115,7 +122,8 @@ not_root k b n h = by_test (k == 0) refl h
     by_test true e h = absurd (n (grind (arith, nat_tests)))
     by_test false e h = h
 
-saw_it : (shape : Shape) (k : ℕ) (at jobs : List JobEntry) (book : List Item) → Legal shape jobs → k ≢ 0 → IsPrefix at jobs → state_of (replay at k) ≡ Some Cancelling → IsSawFirst k book → BeginsAsAttached k jobs book
+saw_it : (shape : Shape) (k : ℕ) (at jobs : List JobEntry) (book : List Item) → Legal shape jobs → k ≢ 0 → IsPrefix at jobs
+    → state_of (replay at k) ≡ Some Cancelling → IsSawFirst k book → BeginsAsAttached k jobs book
 saw_it shape k at jobs book l n longer h first =
     let rows = (by_entries shape at k (legal_at shape at jobs longer l)).attached in
     let has_it : has attaches k at ≡ true = not_root k (has attaches k at) n (sym rows ∙ cancelling_there (replay at k) h) in
@@ -126,7 +134,8 @@ no_book : (book : List Item) (told : List Told) → book ≢ [] → items_in tol
 unfolding items_in
 no_book book told n w e = n (sym w ∙ ap items_in e)
 
-pub begins_as_attached : (p : Program) (k : ℕ) (now : Moment) (book : List Item) (x : Config) → Legal (job_shape p) now.jobs → k ≢ 0 → book ≢ [] → Runs p k now book x → BeginsAsAttached k now.jobs book
+pub begins_as_attached : (p : Program) (k : ℕ) (now : Moment) (book : List Item) (x : Config) → Legal (job_shape p) now.jobs → k ≢ 0
+    → book ≢ [] → Runs p k now book x → BeginsAsAttached k now.jobs book
 unfolding IsTrue items_in
 begins_as_attached p k now book x l n some r = by_first (begins_by p k r.told x n r.reaches)
   where
@@ -139,4 +148,5 @@ begins_as_attached p k now book x l n some r = by_first (begins_by p k r.told x 
     by_first : BeginsBy k r.told x → BeginsAsAttached k now.jobs book
     by_first (BeginsBy.fresh none f) = absurd (no_book book r.told some r.written none)
     by_first (BeginsBy.runs more e) = by_runs more (subst (λ l. IsTrue (story p k now) [] beginning l) e r.is_true)
-    by_first (BeginsBy.sees more e) = by_saw more (subst (λ l. IsTrue (story p k now) [] beginning l) e r.is_true) (subst (IsSawFirst k) (ap items_in (sym e) ∙ r.written) refl)
+    by_first (BeginsBy.sees more e) = by_saw more (subst (λ l. IsTrue (story p k now) [] beginning l) e r.is_true)
+        (subst (IsSawFirst k) (ap items_in (sym e) ∙ r.written) refl)

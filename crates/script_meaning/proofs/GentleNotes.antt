@@ -87,15 +87,15 @@ leaves_most base (Drop c p v) e = refl
 leaves_most base (Spurn c p v) e = refl
 leaves_most base (Close c v) e = cc
 leaves_most base (Void c) e = refl
-leaves_most base (Drain c p v) e = refl
-leaves_most base (WakeClosed c p) e = refl
-leaves_most base (Withdraw w why) e = refl
-leaves_most base (Settle w outcome) e = refl
+leaves_most base other e = refl
 
 -- a test that passes each answer of a channel but the two that are none
-answers_pass : (T : ChannelNote → Bool) → ((c value v : ℕ) → T (heard_as.SendClosed c value v) ≡ true) → ((c value v : ℕ) → T (heard_as.TrySendClosed c value v) ≡ true) → ((c v : ℕ) → T (heard_as.ReceiveClosed c v) ≡ true)
-    → ((c v : ℕ) → T (heard_as.TryReceiveClosed c v) ≡ true) → ((c v : ℕ) → T (heard_as.AlreadyClosed c v) ≡ true) → ((c value : ℕ) → T (heard_as.Full c value) ≡ true) → ((c : ℕ) → T (heard_as.Empty c) ≡ true)
-    → ((c q : ℕ) → T (heard_as.Partner c q) ≡ true) → ((w : _) → T (heard_as.MainResolved w) ≡ true) → ((w : _) → T (heard_as.Late w) ≡ true) → (n : ChannelNote) → is_answer n ≡ true → T n ≡ true
+answers_pass : (T : ChannelNote → Bool) → ((c value v : ℕ) → T (heard_as.SendClosed c value v) ≡ true)
+    → ((c value v : ℕ) → T (heard_as.TrySendClosed c value v) ≡ true) → ((c v : ℕ) → T (heard_as.ReceiveClosed c v) ≡ true)
+    → ((c v : ℕ) → T (heard_as.TryReceiveClosed c v) ≡ true) → ((c v : ℕ) → T (heard_as.AlreadyClosed c v) ≡ true)
+    → ((c value : ℕ) → T (heard_as.Full c value) ≡ true) → ((c : ℕ) → T (heard_as.Empty c) ≡ true)
+    → ((c q : ℕ) → T (heard_as.Partner c q) ≡ true) → ((w : _) → T (heard_as.MainResolved w) ≡ true)
+    → ((w : _) → T (heard_as.Late w) ≡ true) → (n : ChannelNote) → is_answer n ≡ true → T n ≡ true
 answers_pass T a b c d e f g h i j (heard_as.Made act) k = cc
 answers_pass T a b c d e f g h i j (heard_as.SendClosed x value v) k = a x value v
 answers_pass T a b c d e f g h i j (heard_as.TrySendClosed x value v) k = b x value v
@@ -112,7 +112,8 @@ answers_pass T a b c d e f g h i j (heard_as.Late w) k = j w
 pub mild_allows : (base : ℕ) → PassesCalls (is_mild base)
 mild_allows base = record {
   acts = λ act e. leaves_most base act e;
-  answers = λ n e. answers_pass (λ m. is_mild_call base m) (λ c u v. refl) (λ c u v. refl) (λ c v. refl) (λ c v. refl) (λ c v. refl) (λ c u. refl) (λ c. refl) (λ c q. refl) (λ w. refl) (λ w. refl) n e;
+  answers = λ n e. answers_pass (λ m. is_mild_call base m) (λ c u v. refl) (λ c u v. refl) (λ c v. refl) (λ c v. refl) (λ c v. refl)
+      (λ c u. refl) (λ c. refl) (λ c q. refl) (λ w. refl) (λ w. refl) n e;
   starts = λ row. refl;
   cancels = λ row reason. refl;
   saw = λ row. refl;
@@ -130,23 +131,16 @@ attach_mild base p q kind tag now = noted_all (is_mild base) (job_note (Attach p
 
 -- ---- what gentle notes are
 
-pub gentle_leaves : (base : ℕ) (items : List Item) → list_all (is_gentle base) items ≡ true → list_all (leaves_dones base) (channel_acts_in items) ≡ true
+pub gentle_leaves : (base : ℕ) (items : List Item) → list_all (is_gentle base) items ≡ true
+    → list_all (leaves_dones base) (channel_acts_in items) ≡ true
 gentle_leaves base [] h = refl
 gentle_leaves base (item.Channel n ∷ items) h = let two = both (is_gentle_call base n) _ h in here n two.0 (gentle_leaves base items two.1)
   where
-    here : (n : ChannelNote) → is_gentle_call base n ≡ true → list_all (leaves_dones base) (channel_acts_in items) ≡ true → list_all (leaves_dones base) (channel_act n ++ channel_acts_in items) ≡ true
+    here : (n : ChannelNote) → is_gentle_call base n ≡ true → list_all (leaves_dones base) (channel_acts_in items) ≡ true
+        → list_all (leaves_dones base) (channel_act n ++ channel_acts_in items) ≡ true
     here (heard_as.Made act) e k = ap (λ b. b && list_all (leaves_dones base) (channel_acts_in items)) e ∙ k
     here (heard_as.SendClosed c value v) e k = k
-    here (heard_as.TrySendClosed c value v) e k = k
-    here (heard_as.ReceiveClosed c v) e k = k
-    here (heard_as.TryReceiveClosed c v) e k = k
-    here (heard_as.AlreadyClosed c v) e k = k
-    here (heard_as.Full c value) e k = k
-    here (heard_as.Empty c) e k = k
-    here (heard_as.Spent c) e k = k
-    here (heard_as.Partner c place) e k = k
-    here (heard_as.MainResolved w) e k = k
-    here (heard_as.Late w) e k = k
+    here other e k = k
 gentle_leaves base (item.Job n ∷ items) h = gentle_leaves base items (both (is_gentle_note n) _ h).1
 
 -- ---- what mild notes are
@@ -161,8 +155,10 @@ note_gentle other e = refl
 
 pub mild_gentle : (base : ℕ) (items : List Item) → list_all (is_mild base) items ≡ true → list_all (is_gentle base) items ≡ true
 mild_gentle base [] h = refl
-mild_gentle base (item.Channel n ∷ items) h = let two = both (is_mild_call base n) _ h in ap (λ b. b && list_all (is_gentle base) items) (call_gentle base n two.0) ∙ mild_gentle base items two.1
-mild_gentle base (item.Job n ∷ items) h = let two = both (is_mild_note n) _ h in ap (λ b. b && list_all (is_gentle base) items) (note_gentle n two.0) ∙ mild_gentle base items two.1
+mild_gentle base (item.Channel n ∷ items) h = let two = both (is_mild_call base n) _ h
+    in ap (λ b. b && list_all (is_gentle base) items) (call_gentle base n two.0) ∙ mild_gentle base items two.1
+mild_gentle base (item.Job n ∷ items) h = let two = both (is_mild_note n) _ h
+    in ap (λ b. b && list_all (is_gentle base) items) (note_gentle n two.0) ∙ mild_gentle base items two.1
 
 flip : (b : Bool) → not b ≡ true → b ≡ false
 flip true k = cc
@@ -185,9 +181,11 @@ mild_unrefused_note other e = refl
 nor : (a b : Bool) → a ≡ false → b ≡ false → (a || b) ≡ false
 nor a b e f = ap (λ x. x || b) e ∙ f
 
-unrefused_items : (base : ℕ) (T : Item → Bool) → ((i : Item) → T i ≡ true → is_refusal base i ≡ false) → (items : List Item) → list_all T items ≡ true → list_any (is_refusal base) items ≡ false
+unrefused_items : (base : ℕ) (T : Item → Bool) → ((i : Item) → T i ≡ true → is_refusal base i ≡ false) → (items : List Item)
+    → list_all T items ≡ true → list_any (is_refusal base) items ≡ false
 unrefused_items base T k [] h = refl
-unrefused_items base T k (i ∷ items) h = let two = both (T i) (list_all T items) h in nor _ _ (k i two.0) (unrefused_items base T k items two.1)
+unrefused_items base T k (i ∷ items) h = let two = both (T i) (list_all T items) h
+    in nor _ _ (k i two.0) (unrefused_items base T k items two.1)
 
 -- ---- no refusal
 

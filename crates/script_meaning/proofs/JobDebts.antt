@@ -69,7 +69,8 @@ pub up_cancels : (tree : Tree) (row : ℕ) (acts : List JobAct) → FailsUp tree
 unfolding AreCancels
 up_cancels tree _ _ (FailsUp.ends row s) = tt
 up_cancels tree _ _ (FailsUp.stops row p acts g a b) = below_cancels tree p acts b
-up_cancels tree _ _ (FailsUp.goes_on row p acts later all g a b f e) = subst AreCancels (sym e) (tt, cancels_then acts later (below_cancels tree p acts b) (up_cancels tree p later f))
+up_cancels tree _ _ (FailsUp.goes_on row p acts later all g a b f e) =
+    subst AreCancels (sym e) (tt, cancels_then acts later (below_cancels tree p acts b) (up_cancels tree p later f))
 
 abbrev pub IsParent : Reason → Type 0
 IsParent reasons.Request = ⊥
@@ -104,7 +105,8 @@ one_for P u tree row (Cancel q reason) h = subst P (sym h.0) u
 one_for P u tree row (Finish q end) h = absurd h
 one_for P u tree row (Gone q) h = absurd h
 
-below_for : (P : Reason → Type 0) → P reasons.Parent → (tree : Tree) (row : ℕ) (acts : List JobAct) → AreCancelsBelow tree row acts → AreFor P acts
+below_for : (P : Reason → Type 0) → P reasons.Parent → (tree : Tree) (row : ℕ) (acts : List JobAct) → AreCancelsBelow tree row acts
+    → AreFor P acts
 unfolding AreFor
 below_for P u tree row [] h = tt
 below_for P u tree row (a ∷ acts) h = (one_for P u tree row a h.0, below_for P u tree row acts h.1)
@@ -113,7 +115,8 @@ up_for : (tree : Tree) (row : ℕ) (acts : List JobAct) → FailsUp tree row act
 unfolding AreFor
 up_for tree _ _ (FailsUp.ends row s) = tt
 up_for tree _ _ (FailsUp.stops row p acts g a b) = below_for IsUp tt tree p acts b
-up_for tree _ _ (FailsUp.goes_on row p acts later all g a b f e) = subst (AreFor IsUp) (sym e) (tt, for_then IsUp acts later (below_for IsUp tt tree p acts b) (up_for tree p later f))
+up_for tree _ _ (FailsUp.goes_on row p acts later all g a b f e) =
+    subst (AreFor IsUp) (sym e) (tt, for_then IsUp acts later (below_for IsUp tt tree p acts b) (up_for tree p later f))
 
 abbrev pub FactIsKnown : Parents → JobFact → Type 0
 FactIsKnown parents (ParentIs row q) = parents row ≡ Some q
@@ -140,21 +143,28 @@ unfolding AllKnown
 known_right parents [] ys h = h
 known_right parents (x ∷ xs) ys h = known_right parents xs ys h.1
 
-fact_known : (shape : _) (jobs at : List JobEntry) (fact : JobFact) → Legal shape jobs → IsPrefix at jobs → JobHolds (on_jobs fact) at → FactIsKnown (parents_in jobs) fact
+fact_known : (shape : _) (jobs at : List JobEntry) (fact : JobFact) → Legal shape jobs → IsPrefix at jobs → JobHolds (on_jobs fact) at
+    → FactIsKnown (parents_in jobs) fact
 fact_known shape jobs at (ParentIs row q) l p h = prefix_keeps (λ x. parent_of x ≡ Some q) (parent_lasts q) shape at jobs row l p h
-fact_known shape jobs at (PassedBelow row acts) l p h = (below_cancels (replay at) row acts h.0, below_for IsParent tt (replay at) row acts h.0)
+fact_known shape jobs at (PassedBelow row acts) l p h =
+    (below_cancels (replay at) row acts h.0, below_for IsParent tt (replay at) row acts h.0)
 fact_known shape jobs at (FailedUp row acts) l p h = (up_cancels (replay at) row acts h.0, up_for (replay at) row acts h.0)
 fact_known shape jobs at other l p h = tt
 
-one_known : (shape : _) (jobs at : List JobEntry) (t : Told) → Legal shape jobs → IsPrefix at jobs → JobHolds t at → IsKnown (parents_in jobs) t
+one_known : (shape : _) (jobs at : List JobEntry) (t : Told) → Legal shape jobs → IsPrefix at jobs → JobHolds t at
+    → IsKnown (parents_in jobs) t
 one_known shape jobs at (note i) l p h = tt
 one_known shape jobs at (on_channels fact) l p h = tt
 one_known shape jobs at (on_jobs fact) l p h = fact_known shape jobs at fact l p h
 
-pub all_known : (shape : _) (k : ℕ) (jobs : List JobEntry) (done : List JobAct) (told : List Told) → Legal shape jobs → JobSo k jobs done told → AllKnown (parents_in jobs) told
+pub all_known : (shape : _) (k : ℕ) (jobs : List JobEntry) (done : List JobAct) (told : List Told) → Legal shape jobs
+    → JobSo k jobs done told → AllKnown (parents_in jobs) told
 unfolding AllKnown AllSo
 all_known shape k jobs done [] l h = tt
-all_known shape k jobs done (t ∷ told) l h = (one_known shape jobs h.0.at t l (h.0.more, h.0.parts) h.0.holds, all_known shape k jobs (done ++ act_list (job_told t)) told l h.1)
+all_known shape k jobs done (t ∷ told) l h = (
+  one_known shape jobs h.0.at t l (h.0.more, h.0.parts) h.0.holds,
+  all_known shape k jobs (done ++ act_list (job_told t)) told l h.1,
+)
 
 -- ---- what a coroutine of the run told
 
@@ -170,14 +180,23 @@ no_book [] k h = refl
 no_book (b ∷ books) zero h = absurd (omega arith)
 no_book (b ∷ books) (suc k) h = no_book books k (omega arith)
 
-pub has_told : (p : Program) (books : List (List Item)) (channels : List Entry) (jobs : List JobEntry) → BooksOf p books channels jobs → (k : ℕ) → HasTold p jobs k ⊎ (part who_did deed k jobs ≡ [])
+pub has_told : (p : Program) (books : List (List Item)) (channels : List Entry) (jobs : List JobEntry) → BooksOf p books channels jobs
+    → (k : ℕ) → HasTold p jobs k ⊎ (part who_did deed k jobs ≡ [])
 has_told p books channels jobs of k = by_test (nat_lt k (coroutine_count p)) refl
   where
     by_test : (b : Bool) → nat_lt k (coroutine_count p) ≡ b → HasTold p jobs k ⊎ (part who_did deed k jobs ≡ [])
     by_test true h =
         let r = of.runs k (grind (arith, nat_tests)) in
-        inl (record { told = r.told; config = of.ends_at k; reaches = r.reaches; so = true_so _ [] _ r.told r.is_true; acts = sym (told_parts k r.told) ∙ ap job_acts_in r.written ∙ sym (of.job_parts k) ∙ sym (same_part k jobs) })
-    by_test false h = inr (same_part k jobs ∙ of.job_parts k ∙ ap job_acts_in (no_book books k (let n : length books ≡ coroutine_count p = of.count in grind (arith, nat_tests))))
+        inl (record {
+          told = r.told;
+          config = of.ends_at k;
+          reaches = r.reaches;
+          so = true_so _ [] _ r.told r.is_true;
+          acts =
+              sym (told_parts k r.told) ∙ ap job_acts_in r.written ∙ sym (of.job_parts k) ∙ sym (same_part k jobs);
+        })
+    by_test false h = inr (same_part k jobs ∙ of.job_parts k
+        ∙ ap job_acts_in (no_book books k (let n : length books ≡ coroutine_count p = of.count in grind (arith, nat_tests))))
 
 -- ---- debts
 
@@ -187,29 +206,34 @@ Off Takes a ts = Exists (Takes a) ts
 abbrev pub JobPaid : ℕ → (Tree → Bool) → (JobAct → Type 0) → (JobAct → Told → Type 0) → List Told → Type 0
 JobPaid k owes Raises Takes told = AllPaid step start who_did deed k job_told JobHolds owes Raises (Off Takes) told
 
-pub paid_then : (k : ℕ) (owes : Tree → Bool) (Raises : JobAct → Type 0) (Takes : JobAct → Told → Type 0) (xs ys : List Told) → JobPaid k owes Raises Takes xs → JobPaid k owes Raises Takes ys → JobPaid k owes Raises Takes (xs ++ ys)
+pub paid_then : (k : ℕ) (owes : Tree → Bool) (Raises : JobAct → Type 0) (Takes : JobAct → Told → Type 0) (xs ys : List Told)
+    → JobPaid k owes Raises Takes xs → JobPaid k owes Raises Takes ys → JobPaid k owes Raises Takes (xs ++ ys)
 unfolding AllPaid
 paid_then k owes Raises Takes [] ys a b = b
 paid_then k owes Raises Takes (x ∷ xs) ys a b = (more (job_told x) a.0, paid_then k owes Raises Takes xs ys a.1 b)
   where
-    more : (o : Option JobAct) → IsPaid step start who_did deed k job_told JobHolds owes Raises (Off Takes) o xs → IsPaid step start who_did deed k job_told JobHolds owes Raises (Off Takes) o (xs ++ ys)
+    more : (o : Option JobAct) → IsPaid step start who_did deed k job_told JobHolds owes Raises (Off Takes) o xs
+        → IsPaid step start who_did deed k job_told JobHolds owes Raises (Off Takes) o (xs ++ ys)
     more None h = tt
     more (Some act) h = λ r. exists_left (Takes act) xs ys (h r)
 
-pub paid_quiet : (k : ℕ) (owes : Tree → Bool) (Raises : JobAct → Type 0) (Takes : JobAct → Told → Type 0) (xs : List Told) → IsQuiet xs → JobPaid k owes Raises Takes xs
+pub paid_quiet : (k : ℕ) (owes : Tree → Bool) (Raises : JobAct → Type 0) (Takes : JobAct → Told → Type 0) (xs : List Told) → IsQuiet xs
+    → JobPaid k owes Raises Takes xs
 unfolding AllPaid IsQuiet
 paid_quiet k owes Raises Takes [] h = tt
-paid_quiet k owes Raises Takes (x ∷ xs) h = (subst (λ o. IsPaid step start who_did deed k job_told JobHolds owes Raises (Off Takes) o xs) (sym h.0) tt, paid_quiet k owes Raises Takes xs h.1)
+paid_quiet k owes Raises Takes (x ∷ xs) h = (
+  subst (λ o. IsPaid step start who_did deed k job_told JobHolds owes Raises (Off Takes) o xs)
+      (sym h.0) tt,
+  paid_quiet k owes Raises Takes xs h.1,
+)
 
-pub paid_cancels : (k : ℕ) (owes : Tree → Bool) (Raises : JobAct → Type 0) (Takes : JobAct → Told → Type 0) (acts : List JobAct) → AreCancels acts → ((q : ℕ) (reason : Reason) → Raises (Cancel q reason) → ⊥) → JobPaid k owes Raises Takes (map did acts)
+pub paid_cancels : (k : ℕ) (owes : Tree → Bool) (Raises : JobAct → Type 0) (Takes : JobAct → Told → Type 0) (acts : List JobAct)
+    → AreCancels acts → ((q : ℕ) (reason : Reason) → Raises (Cancel q reason) → ⊥) → JobPaid k owes Raises Takes (map did acts)
 unfolding AllPaid AreCancels
 paid_cancels k owes Raises Takes [] h n = tt
 paid_cancels k owes Raises Takes (Cancel q reason ∷ acts) h n = (λ r. absurd (n q reason r), paid_cancels k owes Raises Takes acts h.1 n)
 paid_cancels k owes Raises Takes (Attach a b c d e ∷ acts) h n = absurd h.0
-paid_cancels k owes Raises Takes (Start q ∷ acts) h n = absurd h.0
-paid_cancels k owes Raises Takes (EndBody q v ∷ acts) h n = absurd h.0
-paid_cancels k owes Raises Takes (Finish q end ∷ acts) h n = absurd h.0
-paid_cancels k owes Raises Takes (Gone q ∷ acts) h n = absurd h.0
+paid_cancels k owes Raises Takes other h n = absurd h.0
 
 pub record JobDebt (p : Program) (jobs : List JobEntry) : Type 1 where
   pub owes : Tree → Bool
@@ -217,40 +241,63 @@ pub record JobDebt (p : Program) (jobs : List JobEntry) : Type 1 where
   pub Raises : ℕ → JobAct → Type 0
   pub Takes : JobAct → Told → Type 0
   pub first : owes start ≡ false
-  pub rises : (before : List JobEntry) (e : JobEntry) (rest : List JobEntry) → jobs ≡ before ++ e ∷ rest → owes (replay before) ≡ false → owes (after (replay before) e.who e.act) ≡ true → Raises e.who e.act
+  pub rises : (before : List JobEntry) (e : JobEntry) (rest : List JobEntry) → jobs ≡ before ++ e ∷ rest → owes (replay before) ≡ false
+      → owes (after (replay before) e.who e.act) ≡ true → Raises e.who e.act
   pub pieces : (k : ℕ) (g : List Told) → AllKnown (parents_in jobs) g → JobPiece p k g → JobPaid k owes (Raises k) Takes g
-  pub by_fact : (a : JobAct) (t : Told) (at more : List JobEntry) → at ++ more ≡ jobs → JobHolds t at → job_told t ≡ None → Takes a t → owes (replay at) ≡ false
-  pub by_act : (a : JobAct) (t : Told) (b : JobAct) → job_told t ≡ Some b → Takes a t → (before rest : List JobEntry) (e : JobEntry) → jobs ≡ before ++ e ∷ rest → e.act ≡ b → owes (after (replay before) e.who e.act) ≡ false
+  pub by_fact : (a : JobAct) (t : Told) (at more : List JobEntry) → at ++ more ≡ jobs → JobHolds t at → job_told t ≡ None → Takes a t
+      → owes (replay at) ≡ false
+  pub by_act : (a : JobAct) (t : Told) (b : JobAct) → job_told t ≡ Some b → Takes a t → (before rest : List JobEntry) (e : JobEntry)
+      → jobs ≡ before ++ e ∷ rest → e.act ≡ b → owes (after (replay before) e.who e.act) ≡ false
 
-paid_pieces : (p : Program) (jobs : List JobEntry) (d : JobDebt p jobs) (k : ℕ) (told : List Told) → AllKnown (parents_in jobs) told → JobPieces p k told → JobPaid k d.owes (d.Raises k) d.Takes told
+paid_pieces : (p : Program) (jobs : List JobEntry) (d : JobDebt p jobs) (k : ℕ) (told : List Told) → AllKnown (parents_in jobs) told
+    → JobPieces p k told → JobPaid k d.owes (d.Raises k) d.Takes told
 unfolding AllPaid
 paid_pieces p jobs d k _ h JobPieces.none = tt
 paid_pieces p jobs d k told h (JobPieces.more g rest _ a r e) =
     let known : AllKnown (parents_in jobs) (g ++ rest) = subst (AllKnown (parents_in jobs)) e h in
-    subst (JobPaid k d.owes (d.Raises k) d.Takes) (sym e) (paid_then k d.owes (d.Raises k) d.Takes g rest (d.pieces k g (known_left (parents_in jobs) g rest known) a) (paid_pieces p jobs d k rest (known_right (parents_in jobs) g rest known) r))
+    subst (JobPaid k d.owes (d.Raises k) d.Takes) (sym e)
+    (paid_then k d.owes (d.Raises k) d.Takes g rest (d.pieces k g (known_left (parents_in jobs) g rest known) a)
+    (paid_pieces p jobs d k rest (known_right (parents_in jobs) g rest known) r))
 
-pub nobody_owes : (p : Program) (books : List (List Item)) (channels : List Entry) (jobs : List JobEntry) → BooksOf p books channels jobs → (d : JobDebt p jobs) → d.owes (replay jobs) ≡ false
-nobody_owes p books channels jobs of d = subst (λ tree. d.owes tree ≡ false) (same_tree start jobs) (nothing_owed step who_did d.owes start jobs d.first pays)
+pub nobody_owes : (p : Program) (books : List (List Item)) (channels : List Entry) (jobs : List JobEntry) → BooksOf p books channels jobs
+    → (d : JobDebt p jobs) → d.owes (replay jobs) ≡ false
+nobody_owes p books channels jobs of d = subst (λ tree. d.owes tree ≡ false) (same_tree start jobs)
+    (nothing_owed step who_did d.owes start jobs d.first pays)
   where
     none_of : (k : ℕ) → part who_did deed k jobs ≡ [] → Pays step who_did d.owes start k jobs
-    none_of k none before e rest parts mine free owed = absurd (not_empty (part who_did deed k before) (part who_did deed k rest) e.act (sym none ∙ ap (part who_did deed k) (parts ∙ sym (append_assoc before (e ∷ []) rest)) ∙ part-append who_did deed k (before ++ e ∷ []) rest ∙ ap (λ l. l ++ part who_did deed k rest) (part_push who_did deed k before e mine) ∙ append_assoc (part who_did deed k before) (e.act ∷ []) (part who_did deed k rest)))
+    none_of k none before e rest parts mine free owed = absurd
+        (not_empty (part who_did deed k before) (part who_did deed k rest) e.act (sym none
+        ∙ ap (part who_did deed k) (parts ∙ sym (append_assoc before (e ∷ []) rest)) ∙ part-append who_did deed k (before ++ e ∷ []) rest
+        ∙ ap (λ l. l ++ part who_did deed k rest) (part_push who_did deed k before e mine)
+        ∙ append_assoc (part who_did deed k before) (e.act ∷ []) (part who_did deed k rest)))
 
     one_of : (k : ℕ) → HasTold p jobs k → Pays step who_did d.owes start k jobs
     one_of k h = all_pays step start who_did deed k job_told JobHolds d.owes (d.Raises k) (Off d.Takes) jobs h.told h.so h.acts
-        (paid_pieces p jobs d k h.told (all_known (job_shape p) k jobs [] h.told of.legal_jobs h.so) (all_pieces p k h.told h.config h.reaches))
-        (λ before e rest parts mine free owed. subst (λ n. d.Raises n e.act) mine (d.rises before e rest parts (subst (λ t. d.owes t ≡ false) (same_tree start before) free) (subst (λ t. d.owes (after t e.who e.act) ≡ true) (same_tree start before) owed)))
-        (λ bs e rs ys parts mine owed acts so r x. takes_off step start who_did deed k job_told JobHolds d.owes (d.Raises k) (Off d.Takes) jobs (d.Takes e.act)
-        (λ t at more parts holds m takes. subst (λ s. d.owes s ≡ false) (sym (same_tree start at)) (d.by_fact e.act t at more parts holds m takes))
-        (λ t b m takes before rest u parts is. subst (λ s. d.owes (after s u.who u.act) ≡ false) (sym (same_tree start before)) (d.by_act e.act t b m takes before rest u parts is))
-        (part who_did deed k bs ++ e.act ∷ []) [] ys (acts ∙ ap (λ l. l ++ acts_told step start who_did deed k job_told JobHolds ys) (sym (no_more (part who_did deed k bs ++ e.act ∷ [])))) (subst (λ l. JobSo k jobs l ys) (sym (no_more (part who_did deed k bs ++ e.act ∷ []))) so) x)
+        (paid_pieces p jobs d k h.told (all_known (job_shape p) k jobs [] h.told of.legal_jobs h.so)
+        (all_pieces p k h.told h.config h.reaches))
+        (λ before e rest parts mine free owed. subst (λ n. d.Raises n e.act) mine
+        (d.rises before e rest parts (subst (λ t. d.owes t ≡ false) (same_tree start before) free)
+        (subst (λ t. d.owes (after t e.who e.act) ≡ true) (same_tree start before) owed)))
+        (λ bs e rs ys parts mine owed acts so r x. takes_off step start who_did deed k job_told JobHolds d.owes (d.Raises k) (Off d.Takes)
+        jobs (d.Takes e.act)
+        (λ t at more parts holds m takes. subst (λ s. d.owes s ≡ false) (sym (same_tree start at))
+        (d.by_fact e.act t at more parts holds m takes))
+        (λ t b m takes before rest u parts is. subst (λ s. d.owes (after s u.who u.act) ≡ false) (sym (same_tree start before))
+        (d.by_act e.act t b m takes before rest u parts is))
+        (part who_did deed k bs ++ e.act ∷ []) [] ys (acts ∙ ap (λ l. l
+        ++ acts_told step start who_did deed k job_told JobHolds ys) (sym (no_more (part who_did deed k bs ++ e.act ∷ []))))
+        (subst (λ l. JobSo k jobs l ys) (sym (no_more (part who_did deed k bs ++ e.act ∷ []))) so) x)
       where
         no_more : {A : Type 0} (xs : List A) → xs ++ [] ≡ xs
         no_more [] = refl
         no_more (x ∷ xs) = ap (λ l. x ∷ l) (no_more xs)
 
     pays : (k : ℕ) → Pays step who_did d.owes start k jobs
-    pays k = ⊎_elim (λ (h : HasTold p jobs k). one_of k h) (λ (n : part who_did deed k jobs ≡ []). none_of k n) (has_told p books channels jobs of k)
+    pays k = ⊎_elim (λ (h : HasTold p jobs k). one_of k h) (λ (n : part who_did deed k jobs ≡ []). none_of k n)
+        (has_told p books channels jobs of k)
 
 -- what an entry of the history met
-pub needs_there : (shape : _) (jobs before : List JobEntry) (e : JobEntry) (rest : List JobEntry) → Legal shape jobs → jobs ≡ before ++ e ∷ rest → Needs shape (replay before) e.who e.act
-needs_there shape jobs before e rest l q = (LegalFrom-cons shape (replay before) e rest (LegalFrom-parts shape start before (e ∷ rest) (subst (Legal shape) q l)).1).0
+pub needs_there : (shape : _) (jobs before : List JobEntry) (e : JobEntry) (rest : List JobEntry) → Legal shape jobs → jobs ≡ before
+    ++ e ∷ rest → Needs shape (replay before) e.who e.act
+needs_there shape jobs before e rest l q = (LegalFrom-cons shape (replay before) e rest
+    (LegalFrom-parts shape start before (e ∷ rest) (subst (Legal shape) q l)).1).0

@@ -28,11 +28,7 @@ use Rattle.script_meaning.specs.Shapes.{base_of}
 abbrev pub act_in_note : JobNote → Option JobAct
 act_in_note (of_job.Made act) = Some act
 act_in_note (of_job.Saw row) = None
-act_in_note (of_job.SawEnd row end) = None
-act_in_note (of_job.Fail code) = None
-act_in_note of_job.NoRow = None
-act_in_note of_job.Used = None
-act_in_note of_job.ParentEnded = None
+act_in_note other = None
 
 abbrev pub act_in_item : Item → Option JobAct
 act_in_item (item.Channel n) = None
@@ -68,31 +64,38 @@ unfolding IsQuiet
 cons t ts h k = (h, k)
 
 quiet_admits : (c : ℕ) (g : List Told) → Admits c g → IsQuiet g
-quiet_admits c g h = subst IsQuiet (sym h.all) (cons _ _ refl (quiet_then (map (λ q. made (Admit c q)) h.places) _ (quiet_map (λ q. made (Admit c q)) h.places (λ q. refl)) (one _ refl)))
+quiet_admits c g h = subst IsQuiet (sym h.all) (cons _ _ refl
+    (quiet_then (map (λ q. made (Admit c q)) h.places) _ (quiet_map (λ q. made (Admit c q)) h.places (λ q. refl)) (one _ refl)))
 
 quiet_drops : (c q : ℕ) (g : List Told) → Drops c q g → IsQuiet g
-quiet_drops c q g h = subst IsQuiet (sym h.all) (quiet_then (map (λ d. made (Drop c d.0 d.1)) h.dropped) _ (quiet_map (λ d. made (Drop c d.0 d.1)) h.dropped (λ d. refl)) (one _ refl))
+quiet_drops c q g h = subst IsQuiet (sym h.all) (quiet_then (map (λ d. made (Drop c d.0 d.1)) h.dropped) _
+    (quiet_map (λ d. made (Drop c d.0 d.1)) h.dropped (λ d. refl)) (one _ refl))
 
 quiet_spurns : (c q : ℕ) (g : List Told) → Spurns c q g → IsQuiet g
 quiet_spurns c q _ (Spurns.gone v) = one _ refl
 quiet_spurns c q _ Spurns.stays = one _ refl
 
 quiet_overflows : (c q : ℕ) (g : List Told) → Overflows c q g → IsQuiet g
-quiet_overflows c q g h = subst IsQuiet (sym h.all) (quiet_then h.drops h.spurns (quiet_drops c q h.drops h.dropped) (quiet_spurns c q h.spurns h.spurned))
+quiet_overflows c q g h = subst IsQuiet (sym h.all) (quiet_then h.drops h.spurns (quiet_drops c q h.drops h.dropped)
+    (quiet_spurns c q h.spurns h.spurned))
 
 quiet_wakes : (c : ℕ) (g : List Told) → Wakes c g → IsQuiet g
-quiet_wakes c g h = subst IsQuiet (sym h.all) (quiet_then (map (λ q. made (WakeClosed c q)) h.places) _ (quiet_map (λ q. made (WakeClosed c q)) h.places (λ q. refl)) (one _ refl))
+quiet_wakes c g h = subst IsQuiet (sym h.all) (quiet_then (map (λ q. made (WakeClosed c q)) h.places) _
+    (quiet_map (λ q. made (WakeClosed c q)) h.places (λ q. refl)) (one _ refl))
 
 quiet_drains : (c : ℕ) (g : List Told) → Drains c g → IsQuiet g
-quiet_drains c g h = subst IsQuiet (sym h.all) (quiet_then (map (λ d. made (Drain c d.0 d.1)) h.drained) _ (quiet_map (λ d. made (Drain c d.0 d.1)) h.drained (λ d. refl)) (cons _ _ refl (one _ refl)))
+quiet_drains c g h = subst IsQuiet (sym h.all) (quiet_then (map (λ d. made (Drain c d.0 d.1)) h.drained) _
+    (quiet_map (λ d. made (Drain c d.0 d.1)) h.drained (λ d. refl)) (cons _ _ refl (one _ refl)))
 
 pub quiet_closes : (c v : ℕ) (g : List Told) → Closes c v g → IsQuiet g
 quiet_closes c v _ (Closes.now wakes w) = cons _ wakes refl (quiet_wakes c wakes w)
 quiet_closes c v _ (Closes.before u wakes w) = cons _ wakes refl (quiet_wakes c wakes w)
 
 pub quiet_cancels : (c : ℕ) (g : List Told) → CancelsChannel c g → IsQuiet g
-quiet_cancels c g (CancelsChannel.now closes drains _ a d e) = subst IsQuiet (sym e) (quiet_then closes _ (quiet_closes c 0 closes a) (cons _ drains refl (quiet_drains c drains d)))
-quiet_cancels c g (CancelsChannel.before closes drains _ a d e) = subst IsQuiet (sym e) (quiet_then closes drains (quiet_closes c 0 closes a) (quiet_drains c drains d))
+quiet_cancels c g (CancelsChannel.now closes drains _ a d e) =
+    subst IsQuiet (sym e) (quiet_then closes _ (quiet_closes c 0 closes a) (cons _ drains refl (quiet_drains c drains d)))
+quiet_cancels c g (CancelsChannel.before closes drains _ a d e) =
+    subst IsQuiet (sym e) (quiet_then closes drains (quiet_closes c 0 closes a) (quiet_drains c drains d))
 
 quiet_at_once : (call : Call) (g : List Told) (a : Answer) → AtOnce call g a → IsQuiet g
 quiet_at_once _ _ _ (AtOnce.hands c v q) = one _ refl
@@ -124,7 +127,9 @@ quiet_plain _ _ _ (PlainCall.at_once call g a h) = quiet_at_once call g a h
 quiet_plain _ _ _ (PlainCall.refused call t a h) = one t (quiet_refused call t a h)
 quiet_plain _ _ _ (PlainCall.no_place call all e) = subst IsQuiet (sym e) (quiet_spent call)
 quiet_plain _ _ _ (PlainCall.offers c v q admits h) = cons _ _ refl (cons _ admits refl (quiet_admits c admits h))
-quiet_plain _ _ _ (PlainCall.offer_ends c v q admits settles all h s e) = subst IsQuiet (sym e) (cons _ _ refl (cons _ _ refl (quiet_then admits settles (quiet_admits c admits h) (quiet_ends (wait_at c q) settles s))))
+quiet_plain _ _ _ (PlainCall.offer_ends c v q admits settles all h s e) =
+    subst IsQuiet (sym e)
+    (cons _ _ refl (cons _ _ refl (quiet_then admits settles (quiet_admits c admits h) (quiet_ends (wait_at c q) settles s))))
 quiet_plain _ _ _ (PlainCall.awaits c q) = one _ refl
 
 pub quiet_try : (call : Call) (g : List Told) (a : Answer) → TryCall call g a → IsQuiet g
@@ -145,7 +150,8 @@ quiet_places w _ _ _ (Places.one n q call calls more h) = (quiet_placed w n q ca
 quiet_admits_in : (calls : List Call) (g : List Told) → AdmitsIn calls g → IsQuiet g
 unfolding IsQuiet
 quiet_admits_in _ _ AdmitsIn.none = tt
-quiet_admits_in _ _ (AdmitsIn.offered c v calls admits more all a h e) = subst IsQuiet (sym e) (quiet_then admits more (quiet_admits c admits a) (quiet_admits_in calls more h))
+quiet_admits_in _ _ (AdmitsIn.offered c v calls admits more all a h e) =
+    subst IsQuiet (sym e) (quiet_then admits more (quiet_admits c admits a) (quiet_admits_in calls more h))
 quiet_admits_in _ _ (AdmitsIn.awaited c calls all h) = quiet_admits_in calls all h
 
 quiet_stops : (call : Call) (g : List Told) (a : Answer) → Stops call g a → IsQuiet g
@@ -158,14 +164,29 @@ passed : (calls : List Call) → IsQuiet (map blocked calls)
 passed calls = quiet_map blocked calls quiet_blocked
 
 pub quiet_select : (calls : List Call) (g : List Told) (a : Answer) → SelectCall calls g a → IsQuiet g
-quiet_select calls _ _ (SelectCall.chooses before later call group all a f h e) = subst IsQuiet (sym e) (quiet_then (map blocked before) group (passed before) (quiet_at_once call group a h))
-quiet_select calls _ _ (SelectCall.meets_close before later call t all a f h e) = subst IsQuiet (sym e) (quiet_then (map blocked before) _ (passed before) (one t (quiet_refused call t a h)))
-quiet_select calls _ _ (SelectCall.no_place before later c v all f e) = subst IsQuiet (sym e) (quiet_then (map blocked before) _ (passed before) (quiet_spent (sends c v)))
-quiet_select calls _ _ (SelectCall.waits w group admits all h d e) = subst IsQuiet (sym e) (quiet_then (map blocked calls) _ (passed calls) (quiet_then group admits (quiet_places w 1 calls group h.places) (quiet_admits_in calls admits d)))
-quiet_select calls _ _ (SelectCall.resolved w before later call group admits all f h d e) = subst IsQuiet (sym e) (quiet_then (map blocked calls) _ (passed calls) (quiet_then group _ (quiet_places w 1 before group h.places) (cons _ admits refl (quiet_admits_in before admits d))))
-quiet_select calls _ _ (SelectCall.stops_at_first later call stop all a f h e) = subst IsQuiet (sym e) (quiet_then (map blocked calls) stop (passed calls) (quiet_stops call stop a h))
-quiet_select calls _ _ (SelectCall.stops w before later call group stop admits all a f h s d e) = subst IsQuiet (sym e) (quiet_then (map blocked calls) _ (passed calls) (quiet_then ((group ++ stop) ++ revoked w) admits (quiet_then (group ++ stop) (revoked w) (quiet_then group stop (quiet_places w 1 before group h.places) (quiet_stops call stop a s)) (cons _ _ refl (one _ refl))) (quiet_admits_in before admits d)))
-quiet_select calls _ _ (SelectCall.stops_late w before later call group stop admits all a f h s d e) = subst IsQuiet (sym e) (quiet_then (map blocked calls) _ (passed calls) (quiet_then (group ++ stop) _ (quiet_then group stop (quiet_places w 1 before group h.places) (quiet_stops call stop a s)) (cons _ admits refl (quiet_admits_in before admits d))))
+quiet_select calls _ _ (SelectCall.chooses before later call group all a f h e) =
+    subst IsQuiet (sym e) (quiet_then (map blocked before) group (passed before) (quiet_at_once call group a h))
+quiet_select calls _ _ (SelectCall.meets_close before later call t all a f h e) =
+    subst IsQuiet (sym e) (quiet_then (map blocked before) _ (passed before) (one t (quiet_refused call t a h)))
+quiet_select calls _ _ (SelectCall.no_place before later c v all f e) =
+    subst IsQuiet (sym e) (quiet_then (map blocked before) _ (passed before) (quiet_spent (sends c v)))
+quiet_select calls _ _ (SelectCall.waits w group admits all h d e) =
+    subst IsQuiet (sym e) (quiet_then (map blocked calls) _ (passed calls)
+    (quiet_then group admits (quiet_places w 1 calls group h.places) (quiet_admits_in calls admits d)))
+quiet_select calls _ _ (SelectCall.resolved w before later call group admits all f h d e) =
+    subst IsQuiet (sym e) (quiet_then (map blocked calls) _ (passed calls)
+    (quiet_then group _ (quiet_places w 1 before group h.places) (cons _ admits refl (quiet_admits_in before admits d))))
+quiet_select calls _ _ (SelectCall.stops_at_first later call stop all a f h e) =
+    subst IsQuiet (sym e) (quiet_then (map blocked calls) stop (passed calls) (quiet_stops call stop a h))
+quiet_select calls _ _ (SelectCall.stops w before later call group stop admits all a f h s d e) =
+    subst IsQuiet (sym e) (quiet_then (map blocked calls) _ (passed calls)
+    (quiet_then ((group ++ stop) ++ revoked w) admits (quiet_then (group
+    ++ stop) (revoked w) (quiet_then group stop (quiet_places w 1 before group h.places) (quiet_stops call stop a s))
+    (cons _ _ refl (one _ refl))) (quiet_admits_in before admits d)))
+quiet_select calls _ _ (SelectCall.stops_late w before later call group stop admits all a f h s d e) =
+    subst IsQuiet (sym e) (quiet_then (map blocked calls) _ (passed calls)
+    (quiet_then (group ++ stop) _ (quiet_then group stop (quiet_places w 1 before group h.places) (quiet_stops call stop a s))
+    (cons _ admits refl (quiet_admits_in before admits d))))
 
 pub quiet_gives_up : (w : _) (g : List Told) → GivesUp w g → IsQuiet g
 quiet_gives_up w _ GivesUp.dispatched = one _ refl
@@ -197,8 +218,10 @@ pub data JobPiece (p : Program) (k : ℕ) : List Told → Type 0 where
   quiet : (g : List Told) → IsQuiet g → JobPiece p k g
   attaches : (parent row : ℕ) (kind : JobKind) (tag : ℕ) (now : Bool) → JobPiece p k (did (Attach parent row kind tag now) ∷ [])
   starts : (row : ℕ) → JobPiece p k (did (Start row) ∷ [])
-  passes : (row : ℕ) (reason : Reason) (newly : Bool) (g : List Told) → IsMild k row reason newly → IsOwnReason reason → Passes row reason newly g → JobPiece p k g
-  fails : (f : ℕ) (up : List JobAct) (pass all : List Told) → Passes k (reasons.Own f) true pass → all ≡ pass ++ (map did up ++ on_jobs (FailedUp k up) ∷ []) → JobPiece p k all
+  passes : (row : ℕ) (reason : Reason) (newly : Bool) (g : List Told) → IsMild k row reason newly → IsOwnReason reason
+      → Passes row reason newly g → JobPiece p k g
+  fails : (f : ℕ) (up : List JobAct) (pass all : List Told) → Passes k (reasons.Own f) true pass → all ≡ pass
+      ++ (map did up ++ on_jobs (FailedUp k up) ∷ []) → JobPiece p k all
   ends_body : (row v : ℕ) (chain : List Told) → Chain (base_of p) row chain → JobPiece p k (did (EndBody row v) ∷ chain)
 
 pub data JobPieces (p : Program) (k : ℕ) : List Told → Type 0 where
@@ -207,7 +230,8 @@ pub data JobPieces (p : Program) (k : ℕ) : List Told → Type 0 where
 
 pub pieces_then : (p : Program) (k : ℕ) (xs ys : List Told) → JobPieces p k xs → JobPieces p k ys → JobPieces p k (xs ++ ys)
 pieces_then p k _ ys JobPieces.none b = b
-pieces_then p k xs ys (JobPieces.more g rest _ a r e) b = JobPieces.more g (rest ++ ys) (xs ++ ys) a (pieces_then p k rest ys r b) (ap (λ l. l ++ ys) e ∙ append_assoc g rest ys)
+pieces_then p k xs ys (JobPieces.more g rest _ a r e) b =
+    JobPieces.more g (rest ++ ys) (xs ++ ys) a (pieces_then p k rest ys r b) (ap (λ l. l ++ ys) e ∙ append_assoc g rest ys)
 
 alone : (p : Program) (k : ℕ) (g : List Told) → JobPiece p k g → JobPieces p k g
 alone p k g h = JobPieces.more g [] g h JobPieces.none (sym (append-nil g))
@@ -216,11 +240,13 @@ silent : (p : Program) (k : ℕ) (g : List Told) → IsQuiet g → JobPieces p k
 silent p k g h = alone p k g (JobPiece.quiet g h)
 
 start_pieces : (p : Program) (k row : ℕ) (g : List Told) → Starts row g → JobPieces p k g
-start_pieces p k row _ Starts.now = JobPieces.more (did (Start row) ∷ []) (on_jobs (NotNew row) ∷ []) _ (JobPiece.starts row) (silent p k _ (one _ refl)) refl
+start_pieces p k row _ Starts.now = JobPieces.more (did (Start row) ∷ []) (on_jobs (NotNew row) ∷ []) _ (JobPiece.starts row)
+    (silent p k _ (one _ refl)) refl
 start_pieces p k row _ Starts.before = silent p k _ (one _ refl)
 
 both_pieces : (p : Program) (k row : ℕ) (g : List Told) (a : Answer) → StartsAndReceives p row g a → JobPieces p k g
-both_pieces p k row g a (StartsAndReceives.both first group _ _ s c e) = subst (JobPieces p k) (sym e) (pieces_then p k first group (start_pieces p k row first s) (silent p k group (quiet_plain _ group a c)))
+both_pieces p k row g a (StartsAndReceives.both first group _ _ s c e) =
+    subst (JobPieces p k) (sym e) (pieces_then p k first group (start_pieces p k row first s) (silent p k group (quiet_plain _ group a c)))
 
 line_pieces : (p : Program) (k : ℕ) (x : Config) (i : _) (g : List Told) (a : Answer) → LineCalls p k x i g a → JobPieces p k g
 line_pieces p k x _ _ _ (LineCalls.send c o g a h) = silent p k g (quiet_plain _ g a h)
@@ -229,7 +255,8 @@ line_pieces p k x _ _ _ (LineCalls.each c g a h) = silent p k g (quiet_plain _ g
 line_pieces p k x _ _ _ (LineCalls.trysend c o g a h) = silent p k g (quiet_try _ g a h)
 line_pieces p k x _ _ _ (LineCalls.tryreceive c g a h) = silent p k g (quiet_try _ g a h)
 line_pieces p k x _ _ _ (LineCalls.select g a h) = silent p k g (quiet_select _ g a h)
-line_pieces p k x _ _ _ (LineCalls.join job row g a n h) = pieces_then p k (_ ∷ []) g (silent p k _ (one _ refl)) (both_pieces p k row g a h)
+line_pieces p k x _ _ _ (LineCalls.join job row g a n h) =
+    pieces_then p k (_ ∷ []) g (silent p k _ (one _ refl)) (both_pieces p k row g a h)
 line_pieces p k x _ _ _ (LineCalls.await job row g a n h) = both_pieces p k row g a h
 
 own_reason : (failure : Option ℕ) → IsOwnReason (reason_for failure)
@@ -238,16 +265,21 @@ own_reason (Some f) = tt
 
 break_pieces : (p : Program) (k row : ℕ) (failure : Option ℕ) (g : List Told) → Breaks k row failure g → JobPieces p k g
 break_pieces p k row _ _ (Breaks.seen failure) = JobPieces.none
-break_pieces p k row _ _ (Breaks.had_been failure g h) = alone p k g (JobPiece.passes row (reason_for failure) false g (IsMild.had_been refl) (own_reason failure) h)
+break_pieces p k row _ _ (Breaks.had_been failure g h) =
+    alone p k g (JobPiece.passes row (reason_for failure) false g (IsMild.had_been refl) (own_reason failure) h)
 break_pieces p k row _ _ (Breaks.asked g h) = alone p k g (JobPiece.passes row reasons.Request true g (IsMild.asked refl) tt h)
 break_pieces p k row _ _ (Breaks.scope_fails f g n h) = alone p k g (JobPiece.passes row (reasons.Own f) true g (IsMild.of_scope n) tt h)
-break_pieces p k row _ _ (Breaks.fails f up pass all e h q) = alone p k all (JobPiece.fails f up pass all (subst (λ r. Passes r (reasons.Own f) true pass) e h) (subst (λ r. all ≡ pass ++ (map did up ++ on_jobs (FailedUp r up) ∷ [])) e q))
+break_pieces p k row _ _ (Breaks.fails f up pass all e h q) =
+    alone p k all (JobPiece.fails f up pass all (subst (λ r. Passes r (reasons.Own f) true pass) e h)
+    (subst (λ r. all ≡ pass ++ (map did up ++ on_jobs (FailedUp r up) ∷ [])) e q))
 
 end_pieces : (p : Program) (k row v : ℕ) (g : List Told) → EndsBody (base_of p) row v g → JobPieces p k g
 end_pieces p k row v _ (EndsBody.ends_body chain c) = alone p k _ (JobPiece.ends_body row v chain c)
 
 off_pieces : (p : Program) (k row : ℕ) (failure : Option ℕ) (g : List Told) → BreaksOff (base_of p) k row failure g → JobPieces p k g
-off_pieces p k row failure g h = subst (JobPieces p k) (sym h.all) (pieces_then p k h.cancels _ (break_pieces p k row failure h.cancels h.breaks) (pieces_then p k (on_jobs (IsCancelling row) ∷ []) h.end (silent p k _ (one _ refl)) (end_pieces p k row 0 h.end h.ends)))
+off_pieces p k row failure g h = subst (JobPieces p k) (sym h.all)
+    (pieces_then p k h.cancels _ (break_pieces p k row failure h.cancels h.breaks)
+    (pieces_then p k (on_jobs (IsCancelling row) ∷ []) h.end (silent p k _ (one _ refl)) (end_pieces p k row 0 h.end h.ends)))
 
 nothing : (p : Program) (k : ℕ) → JobPieces p k []
 nothing p k = JobPieces.none
@@ -270,23 +302,27 @@ move_pieces p k _ _ _ (Move.launch_refused x block how job g s h) = silent p k g
 move_pieces p k _ _ _ (Move.enters x supervisor row now s) = alone p k _ (JobPiece.attaches _ _ _ _ _)
 move_pieces p k _ _ _ (Move.enter_refused x supervisor g s h) = silent p k g (quiet_refusal _ _ g h)
 move_pieces p k _ _ _ (Move.starts x job row g s n h) = start_pieces p k row g h
-move_pieces p k _ _ _ (Move.cancels x job row newly g s n h) = alone p k g (JobPiece.passes row reasons.Request newly g (IsMild.asked refl) tt h)
+move_pieces p k _ _ _ (Move.cancels x job row newly g s n h) =
+    alone p k g (JobPiece.passes row reasons.Request newly g (IsMild.asked refl) tt h)
 move_pieces p k _ _ _ (Move.fails x v s) = silent p k _ (one _ refl)
 move_pieces p k _ _ _ (Move.results x o s) = nothing p k
 move_pieces p k _ _ _ (Move.repeats x n s) = nothing p k
 move_pieces p k _ _ _ (Move.turns_again x head n es s e) = nothing p k
 move_pieces p k _ _ _ (Move.turns_no_more x head es s e) = nothing p k
 move_pieces p k _ _ _ (Move.receives_again x head es s e) = nothing p k
-move_pieces p k _ _ _ (Move.ends_scope x y s end g all a l e h c f q) = subst (JobPieces p k) (sym q) (pieces_then p k end g (end_pieces p k s.row 0 end h) (silent p k g (quiet_plain _ g a c)))
+move_pieces p k _ _ _ (Move.ends_scope x y s end g all a l e h c f q) =
+    subst (JobPieces p k) (sym q) (pieces_then p k end g (end_pieces p k s.row 0 end h) (silent p k g (quiet_plain _ g a c)))
 move_pieces p k _ _ _ (Move.scope_ended x w n v s) = silent p k _ (one _ refl)
 move_pieces p k _ _ _ (Move.sees_scope x y s end l e f) = silent p k _ (one _ refl)
-move_pieces p k _ _ _ (Move.breaks_scope x y s failure break g all a l e h c f q) = subst (JobPieces p k) (sym q) (pieces_then p k break g (off_pieces p k s.row failure break h) (silent p k g (quiet_plain _ g a c)))
+move_pieces p k _ _ _ (Move.breaks_scope x y s failure break g all a l e h c f q) =
+    subst (JobPieces p k) (sym q) (pieces_then p k break g (off_pieces p k s.row failure break h) (silent p k g (quiet_plain _ g a c)))
 move_pieces p k _ _ _ (Move.breaks x failure g s e h) = off_pieces p k k failure g h
 move_pieces p k _ _ _ (Move.ends x g s e h) = end_pieces p k k x.result g h
 
 spawn_pieces : (p : Program) (k : ℕ) (blocks : List ℕ) (x y : Config) (g : List Told) → Spawns p blocks x g y → JobPieces p k g
 spawn_pieces p k _ _ _ _ (Spawns.done x) = nothing p k
-spawn_pieces p k _ _ _ _ (Spawns.attaches block blocks x y now rest h) = JobPieces.more (_ ∷ []) rest _ (JobPiece.attaches _ _ _ _ _) (spawn_pieces p k blocks _ y rest h) refl
+spawn_pieces p k _ _ _ _ (Spawns.attaches block blocks x y now rest h) =
+    JobPieces.more (_ ∷ []) rest _ (JobPiece.attaches _ _ _ _ _) (spawn_pieces p k blocks _ y rest h) refl
 spawn_pieces p k _ _ _ _ (Spawns.refused block blocks x g h) = silent p k g (quiet_refusal _ _ g h)
 
 begin_pieces : (p : Program) (k : ℕ) (g : List Told) (x : Config) → Begins p k g x → JobPieces p k g
@@ -296,4 +332,5 @@ begin_pieces p _ _ _ (Begins.child k n) = nothing p k
 -- all that a coroutine tells, from its beginning, comes in these pieces
 pub all_pieces : (p : Program) (k : ℕ) (told : List Told) (x : Config) → Reaches p k told x → JobPieces p k told
 all_pieces p k _ _ (Reaches.begins g x h) = begin_pieces p k g x h
-all_pieces p k _ _ (Reaches.goes_on before g all x y r m e) = subst (JobPieces p k) (sym e) (pieces_then p k before g (all_pieces p k before x r) (move_pieces p k x y g m))
+all_pieces p k _ _ (Reaches.goes_on before g all x y r m e) =
+    subst (JobPieces p k) (sym e) (pieces_then p k before g (all_pieces p k before x r) (move_pieces p k x y g m))

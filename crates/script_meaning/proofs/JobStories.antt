@@ -44,22 +44,19 @@ unfolding part acts_of
 same_part k [] = refl
 same_part k (e ∷ es) = by_test (same_part k es) (e.who == k)
   where
-    by_test : part who_did deed k es ≡ acts_of k es → (b : Bool) → add b e.act (part who_did deed k es) ≡ (if b then e.act ∷ acts_of k es else acts_of k es)
+    by_test : part who_did deed k es ≡ acts_of k es → (b : Bool)
+        → add b e.act (part who_did deed k es) ≡ (if b then e.act ∷ acts_of k es else acts_of k es)
     by_test h true = ap (λ l. e.act ∷ l) h
     by_test h false = h
 
 act_of_note : (n : _) → job_act n ≡ act_list (act_in_note n)
 act_of_note (of_job.Made act) = refl
-act_of_note (of_job.Saw row) = refl
-act_of_note (of_job.SawEnd row end) = refl
-act_of_note (of_job.Fail code) = refl
-act_of_note of_job.NoRow = refl
-act_of_note of_job.Used = refl
-act_of_note of_job.ParentEnded = refl
+act_of_note other = refl
 
 told_acts : (t : Told) (items : List Item) → job_acts_in (with_told t items) ≡ job_acts_in items ++ act_list (job_told t)
 told_acts (note (item.Channel n)) items = job_acts_in-append items (item.Channel n ∷ [])
-told_acts (note (item.Job n)) items = job_acts_in-append items (item.Job n ∷ []) ∙ ap (λ l. job_acts_in items ++ l) (append-nil (job_act n) ∙ act_of_note n)
+told_acts (note (item.Job n)) items = job_acts_in-append items (item.Job n ∷ [])
+    ∙ ap (λ l. job_acts_in items ++ l) (append-nil (job_act n) ∙ act_of_note n)
 told_acts (on_channels fact) items = sym (append-nil (job_acts_in items))
 told_acts (on_jobs fact) items = sym (append-nil (job_acts_in items))
 
@@ -71,11 +68,19 @@ holds_there s items earlier at (on_jobs fact) h = h.holds
 abbrev pub JobSo : ℕ → List JobEntry → List JobAct → List Told → Type 0
 JobSo k history done told = AllSo step start who_did deed k job_told JobHolds history done told
 
-pub true_so : (s : Story) (items : List Item) (earlier : Moment) (told : List Told) → IsTrue s items earlier told → JobSo s.tag s.now.jobs (job_acts_in items) told
+pub true_so : (s : Story) (items : List Item) (earlier : Moment) (told : List Told) → IsTrue s items earlier told
+    → JobSo s.tag s.now.jobs (job_acts_in items) told
 unfolding IsTrue AllSo
 true_so s items earlier [] h = tt
 true_so s items earlier (t ∷ told) h = (
-  record { at = h.0.jobs; more = h.1.not_after.jobs.0; parts = h.1.not_after.jobs.1; acts = same_part s.tag h.0.jobs ∙ h.1.job_acts; holds = holds_there s items earlier h.0 t h.1 },
+  record {
+    at = h.0.jobs;
+    more = h.1.not_after.jobs.0;
+    parts = h.1.not_after.jobs.1;
+    acts = same_part s.tag h.0.jobs
+        ∙ h.1.job_acts;
+    holds = holds_there s items earlier h.0 t h.1;
+  },
   subst (λ d. JobSo s.tag s.now.jobs d told) (told_acts t items) (true_so s (with_told t items) h.0 told h.2),
 )
 
@@ -83,6 +88,7 @@ pub told_parts : (k : ℕ) (told : List Told) → job_acts_in (items_in told) �
 unfolding acts_told items_in
 told_parts k [] = refl
 told_parts k (note (item.Channel n) ∷ told) = told_parts k told
-told_parts k (note (item.Job n) ∷ told) = ap (λ l. l ++ job_acts_in (items_in told)) (act_of_note n) ∙ ap (λ l. act_list (act_in_note n) ++ l) (told_parts k told)
+told_parts k (note (item.Job n) ∷ told) = ap (λ l. l ++ job_acts_in (items_in told)) (act_of_note n)
+    ∙ ap (λ l. act_list (act_in_note n) ++ l) (told_parts k told)
 told_parts k (on_channels fact ∷ told) = told_parts k told
 told_parts k (on_jobs fact ∷ told) = told_parts k told

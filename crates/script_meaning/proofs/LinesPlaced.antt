@@ -28,9 +28,12 @@ AreTurns code nest heads = ⊥
 -- the lines are open that run so often, and round a clause a select
 abbrev pub Matches : List Instruction → Option (List ℕ) → List ℕ → List ℕ → Type 0
 Matches code None nest heads = AreTurns code nest heads
-Matches code (Some cs) nest heads = (h : ℕ) × (hs : List ℕ) × (heads ≡ h ∷ hs) × (slice_get code h ≡ Some line.Select) × AreTurns code nest hs
+Matches code (Some cs) nest heads = (h : ℕ) × (hs : List ℕ) × (heads ≡ h ∷ hs) × (slice_get code h ≡ Some line.Select)
+    × AreTurns code nest hs
 
-matches_step : (code : List Instruction) (place : ℕ) (o : Option (List ℕ)) (nest heads : List ℕ) (x : Instruction) → slice_get code place ≡ Some x → ((n : ℕ) → x ≡ line.Repeat n → 1 ≤ n) → stands o nest x ≡ true → Matches code o nest heads → Matches code (clauses_after o x) (nest_after o nest x) (heads_after place heads x)
+matches_step : (code : List Instruction) (place : ℕ) (o : Option (List ℕ)) (nest heads : List ℕ) (x : Instruction)
+    → slice_get code place ≡ Some x → ((n : ℕ) → x ≡ line.Repeat n → 1 ≤ n) → stands o nest x ≡ true → Matches code o nest heads
+    → Matches code (clauses_after o x) (nest_after o nest x) (heads_after place heads x)
 matches_step code place None nest heads (line.Send c v) at r s m = m
 matches_step code place (Some cs) nest heads (line.Send c v) at r s m = cc
 matches_step code place None nest heads (line.TrySend c v) at r s m = m
@@ -94,7 +97,8 @@ some_at [] j h lt = absurd (omega (arith, lt))
 some_at (w ∷ ws) zero h lt = h.0
 some_at (w ∷ ws) (suc j) h lt = let shorter : j < length ws = omega (arith, lt) in some_at ws j h.1 shorter
 
-weight_grows : (weights : List ℕ) (jobs : List (List ℕ)) (b : Open) (code : List Instruction) → b.weight ≤ (with_lines weights jobs b code).weight
+weight_grows : (weights : List ℕ) (jobs : List (List ℕ)) (b : Open) (code : List Instruction)
+    → b.weight ≤ (with_lines weights jobs b code).weight
 weight_grows weights jobs b [] = omega arith
 weight_grows weights jobs b (x ∷ code) =
     let next = with_line weights x (name_given jobs x) b in
@@ -124,8 +128,11 @@ pub record PlacedAt (code : List Instruction) (i : ℕ) (x : Instruction) : Type
   pub weighs : (j : ℕ) → j < length blocks → 1 ≤ get_or weights j 0
   pub matches : Matches code before.clauses before.nest (heads_at code i)
 
-placed_from : (whole : List Instruction) (n : ℕ) (blocks : List (List ℕ)) (weights : List ℕ) (jobs : List (List ℕ)) (b : Open) (code : List Instruction) (place : ℕ) (heads : List ℕ) (i : ℕ) (x : Instruction)
-    → lines_fit n blocks weights jobs b code ≡ true → ((j : ℕ) → j < length blocks → 1 ≤ get_or weights j 0) → Matches whole b.clauses b.nest heads → ((j : ℕ) → slice_get code j ≡ slice_get whole (place + j)) → heads_from place heads code i ≡ heads_at whole (place + i) → slice_get code i ≡ Some x → PlacedAt whole (place + i) x
+placed_from : (whole : List Instruction) (n : ℕ) (blocks : List (List ℕ)) (weights : List ℕ) (jobs : List (List ℕ)) (b : Open)
+    (code : List Instruction) (place : ℕ) (heads : List ℕ) (i : ℕ) (x : Instruction)
+    → lines_fit n blocks weights jobs b code ≡ true → ((j : ℕ) → j < length blocks → 1 ≤ get_or weights j 0)
+    → Matches whole b.clauses b.nest heads → ((j : ℕ) → slice_get code j ≡ slice_get whole (place + j))
+    → heads_from place heads code i ≡ heads_at whole (place + i) → slice_get code i ≡ Some x → PlacedAt whole (place + i) x
 placed_from whole n blocks weights jobs b [] place heads i x fit some m same e at = cc
 placed_from whole n blocks weights jobs b (y ∷ code) place heads zero x fit some m same e at =
     let is : y ≡ x = cc in
@@ -153,12 +160,16 @@ placed_from whole n blocks weights jobs b (y ∷ code) place heads (suc i) x fit
     let may = both_true _ _ two.0 in
     let first : slice_get whole place ≡ Some y = ap (slice_get whole) (sym here) ∙ sym (same 0) in
     subst (λ q. PlacedAt whole q x) up
-    (placed_from whole n blocks weights jobs (with_line weights y (name_given jobs y) b) code (place + 1) (heads_after place heads y) i x rest.1 some
-    (matches_step whole place b.clauses b.nest heads y first (λ t f. turns_there n blocks b t (ap (fits n blocks b) (sym f) ∙ (both_true _ _ may.1).0)) may.0 m)
+    (placed_from whole n blocks weights jobs (with_line weights y (name_given jobs y) b) code (place + 1) (heads_after place heads y) i x
+    rest.1 some
+    (matches_step whole place b.clauses b.nest heads y first
+    (λ t f. turns_there n blocks b t (ap (fits n blocks b) (sym f) ∙ (both_true _ _ may.1).0)) may.0 m)
     (λ j. same (suc j) ∙ ap (slice_get whole) (onward j))
     (e ∙ ap (heads_at whole) (sym up)) at)
 
-in_blocks : (n : ℕ) (before : List (List ℕ)) (weights : List ℕ) (bs : List Block) (j i : ℕ) (x : Instruction) → blocks_fit n before weights bs ≡ true → length before ≡ length weights → AllSome weights → slice_get (code_of_block (slice_get bs j)) i ≡ Some x → PlacedAt (code_of_block (slice_get bs j)) i x
+in_blocks : (n : ℕ) (before : List (List ℕ)) (weights : List ℕ) (bs : List Block) (j i : ℕ) (x : Instruction)
+    → blocks_fit n before weights bs ≡ true → length before ≡ length weights → AllSome weights
+    → slice_get (code_of_block (slice_get bs j)) i ≡ Some x → PlacedAt (code_of_block (slice_get bs j)) i x
 in_blocks n before weights [] zero i x fit same some at = cc
 in_blocks n before weights [] (suc j) i x fit same some at = cc
 in_blocks n before weights (c ∷ bs) zero i x fit same some at =
@@ -166,11 +177,15 @@ in_blocks n before weights (c ∷ bs) zero i x fit same some at =
     let first : (j : ℕ) → j ≡ 0 + j = λ j. omega arith in
     let two = both_true _ _ (both_true _ _ fit).1 in
     subst (λ q. PlacedAt c.code q x) up
-    (placed_from c.code n before weights c.jobs (opened c.name) c.code 0 [] i x two.0 (λ j h. some_at weights j some (omega (arith, h, same))) tt (λ j. ap (slice_get c.code) (first j)) (ap (heads_at c.code) (sym up)) at)
+    (placed_from c.code n before weights c.jobs (opened c.name) c.code 0 [] i x two.0
+    (λ j h. some_at weights j some (omega (arith, h, same))) tt (λ j. ap (slice_get c.code) (first j)) (ap (heads_at c.code) (sym up))
+    at)
 in_blocks n before weights (c ∷ bs) (suc j) i x fit same some at =
-    let longer : length (before ++ c.name ∷ []) ≡ length (weights ++ weight_in weights c ∷ []) = length-append before (c.name ∷ []) ∙ ap (λ n. n + 1) same ∙ sym (length-append weights (weight_in weights c ∷ [])) in
+    let longer : length (before ++ c.name ∷ []) ≡ length (weights ++ weight_in weights c ∷ []) = length-append before (c.name ∷ [])
+    ∙ ap (λ n. n + 1) same ∙ sym (length-append weights (weight_in weights c ∷ [])) in
     let two = both_true _ _ (both_true _ _ fit).1 in
-    in_blocks n (before ++ c.name ∷ []) (weights ++ weight_in weights c ∷ []) bs j i x two.1 longer (all_some_push weights (weight_in weights c) some (weight_some weights c)) at
+    in_blocks n (before ++ c.name ∷ []) (weights ++ weight_in weights c ∷ []) bs j i x two.1 longer
+    (all_some_push weights (weight_in weights c) some (weight_some weights c)) at
 
 no_line : {A : Type 0} (i : ℕ) (x : Instruction) → slice_get [] i ≡ Some x → A
 no_line zero x e = cc
@@ -187,10 +202,12 @@ placed_at p k i x ok at = by_tag (block_of_tag p k) at
 -- ---- what that says
 
 -- a clause stands in a select
-pub clause_in_select : (code : List Instruction) (i : ℕ) (x : Instruction) → PlacedAt code i x → is_clause x ≡ true → (h : ℕ) × (hs : List ℕ) × (heads_at code i ≡ h ∷ hs) × (slice_get code h ≡ Some line.Select)
+pub clause_in_select : (code : List Instruction) (i : ℕ) (x : Instruction) → PlacedAt code i x → is_clause x ≡ true → (h : ℕ)
+    × (hs : List ℕ) × (heads_at code i ≡ h ∷ hs) × (slice_get code h ≡ Some line.Select)
 clause_in_select code i x w c = by_clauses w.before.clauses w.stands w.matches
   where
-    by_clauses : (o : Option (List ℕ)) → stands o w.before.nest x ≡ true → Matches code o w.before.nest (heads_at code i) → (h : ℕ) × (hs : List ℕ) × (heads_at code i ≡ h ∷ hs) × (slice_get code h ≡ Some line.Select)
+    by_clauses : (o : Option (List ℕ)) → stands o w.before.nest x ≡ true → Matches code o w.before.nest (heads_at code i) → (h : ℕ)
+        × (hs : List ℕ) × (heads_at code i ≡ h ∷ hs) × (slice_get code h ≡ Some line.Select)
     by_clauses None s m = absurd (none x c s)
       where
         none : (x : Instruction) → is_clause x ≡ true → stands None w.before.nest x ≡ true → ⊥
@@ -203,7 +220,8 @@ clause_in_select code i x w c = by_clauses w.before.clauses w.stands w.matches
 pub end_in_open : (code : List Instruction) (i : ℕ) → PlacedAt code i line.End → (h : ℕ) × (hs : List ℕ) × (heads_at code i ≡ h ∷ hs)
 end_in_open code i w = by_clauses w.before.clauses w.before.nest (heads_at code i) refl w.stands w.matches
   where
-    by_clauses : (o : Option (List ℕ)) (nest heads : List ℕ) → heads_at code i ≡ heads → stands o nest line.End ≡ true → Matches code o nest heads → (h : ℕ) × (hs : List ℕ) × (heads_at code i ≡ h ∷ hs)
+    by_clauses : (o : Option (List ℕ)) (nest heads : List ℕ) → heads_at code i ≡ heads → stands o nest line.End ≡ true
+        → Matches code o nest heads → (h : ℕ) × (hs : List ℕ) × (heads_at code i ≡ h ∷ hs)
     by_clauses None [] heads e s m = cc
     by_clauses None (n ∷ nest) [] e s m = absurd m
     by_clauses None (n ∷ nest) (h ∷ hs) e s m = (h, hs, e)
@@ -216,10 +234,12 @@ repeat_turns p k i n ok at =
     (le-from_true 1 n two.0, le-from_true n 1000000 two.1)
 
 -- what a line opens is closed
-pub opened_closed : (p : Program) (k i : ℕ) (x : Instruction) → IsProgram p → slice_get (code_of p k) i ≡ Some x → opens_lines x ≡ true → (e : ℕ) × (closing_of (code_of p k) i ≡ Some e) × ClosedAt (code_of p k) i e
+pub opened_closed : (p : Program) (k i : ℕ) (x : Instruction) → IsProgram p → slice_get (code_of p k) i ≡ Some x → opens_lines x ≡ true
+    → (e : ℕ) × (closing_of (code_of p k) i ≡ Some e) × ClosedAt (code_of p k) i e
 opened_closed p k i x ok at o = by_some (closing_of (code_of p k) i) refl (by_tag (block_of_tag p k) at)
   where
-    by_block : (n : ℕ) (b : Option Block) → slice_get p.blocks n ≡ b → slice_get (code_of_block b) i ≡ Some x → is_some (closing_of (code_of_block b) i) ≡ true
+    by_block : (n : ℕ) (b : Option Block) → slice_get p.blocks n ≡ b → slice_get (code_of_block b) i ≡ Some x
+        → is_some (closing_of (code_of_block b) i) ≡ true
     by_block n None f e = no_line i x e
     by_block n (Some b) f e = program-closes p ok n i b x f e o
 
@@ -227,6 +247,7 @@ opened_closed p k i x ok at o = by_some (closing_of (code_of p k) i) refl (by_ta
     by_tag None e = no_line i x e
     by_tag (Some n) e = by_block n (slice_get p.blocks n) refl e
 
-    by_some : (c : Option ℕ) → closing_of (code_of p k) i ≡ c → is_some c ≡ true → (e : ℕ) × (closing_of (code_of p k) i ≡ Some e) × ClosedAt (code_of p k) i e
+    by_some : (c : Option ℕ) → closing_of (code_of p k) i ≡ c → is_some c ≡ true → (e : ℕ) × (closing_of (code_of p k) i ≡ Some e)
+        × ClosedAt (code_of p k) i e
     by_some None f s = cc
     by_some (Some e) f s = (e, f, closed_at (code_of p k) i e x at o f)

@@ -25,7 +25,8 @@ set_or_old (suc n) row [] (suc i) r h = none_there i r h
 set_or_old (suc n) row (q ∷ rows) zero r h = inr h
 set_or_old (suc n) row (q ∷ rows) (suc i) r h = set_or_old n row rows i r h
 
-pub named_or_old : (job : Option ℕ) (row : ℕ) (rows : List ℕ) (i r : ℕ) → slice_get (named job row rows) i ≡ Some r → (r ≡ row) ⊎ (slice_get rows i ≡ Some r)
+pub named_or_old : (job : Option ℕ) (row : ℕ) (rows : List ℕ) (i r : ℕ) → slice_get (named job row rows) i ≡ Some r → (r ≡ row)
+    ⊎ (slice_get rows i ≡ Some r)
 named_or_old None row rows i r h = inr h
 named_or_old (Some n) row rows i r h = set_or_old n row rows i r h
 
@@ -36,21 +37,7 @@ SameNames x y = (y.rows ≡ x.rows) × (y.free ≡ x.free)
 
 pub call_names : (p : Program) (k : ℕ) (x : Config) (i : Instruction) (a : Answer) (y : Config) → After p k x i a y → SameNames x y
 call_names p k x _ _ _ (After.waits i w) = (refl, refl)
-call_names p k x _ _ _ (After.no_place i) = (refl, refl)
-call_names p k x _ _ _ (After.sent c o) = (refl, refl)
-call_names p k x _ _ _ (After.tried_to_send c o) = (refl, refl)
-call_names p k x _ _ _ (After.got c v) = (refl, refl)
-call_names p k x _ _ _ (After.no_more c v) = (refl, refl)
-call_names p k x _ _ _ (After.tried_and_got c v) = (refl, refl)
-call_names p k x _ _ _ (After.tried_to_get c) = (refl, refl)
-call_names p k x _ _ _ (After.got_one_more c v) = (refl, refl)
-call_names p k x _ _ _ (After.got_all c v e is) = (refl, refl)
-call_names p k x _ _ _ (After.chose_send e is) = (refl, refl)
-call_names p k x _ _ _ (After.chose_got e v is) = (refl, refl)
-call_names p k x _ _ _ (After.chose_closed e v is) = (refl, refl)
-call_names p k x _ _ _ After.looks_again = (refl, refl)
-call_names p k x _ _ _ (After.joined job v) = (refl, refl)
-call_names p k x _ _ _ (After.awaited job v) = (refl, refl)
+call_names p k x _ _ _ other = (refl, refl)
 
 pub await_names : (x : Config) (end : End) (y : Config) → AfterAwait x end y → SameNames x y
 await_names x _ _ (AfterAwait.completed v) = (refl, refl)

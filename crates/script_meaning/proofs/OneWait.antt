@@ -35,14 +35,16 @@ by_told w (Some a) b = unsettled_by w a b
 abbrev pub behind : WaitId → Bool → List Told → Bool
 behind w b told = unsettled_after w b (channel_acts_in (items_in told))
 
-by_list : (w : WaitId) (b : Bool) (o : Option Act) (acts : List Act) → unsettled_after w b (act_list o ++ acts) ≡ unsettled_after w (by_told w o b) acts
+by_list : (w : WaitId) (b : Bool) (o : Option Act) (acts : List Act)
+    → unsettled_after w b (act_list o ++ acts) ≡ unsettled_after w (by_told w o b) acts
 unfolding unsettled_after
 by_list w b None acts = refl
 by_list w b (Some a) acts = refl
 
 behind_one : (w : WaitId) (b : Bool) (t : Told) (more : List Told) → behind w b (t ∷ more) ≡ behind w (by_told w (call_told t) b) more
 unfolding items_in
-behind_one w b (note (item.Channel n)) more = ap (λ l. unsettled_after w b (l ++ channel_acts_in (items_in more))) (act_of_note n) ∙ by_list w b (act_in_note n) (channel_acts_in (items_in more))
+behind_one w b (note (item.Channel n)) more = ap (λ l. unsettled_after w b (l ++ channel_acts_in (items_in more))) (act_of_note n)
+    ∙ by_list w b (act_in_note n) (channel_acts_in (items_in more))
 behind_one w b (note (item.Job n)) more = refl
 behind_one w b (on_channels fact) more = refl
 behind_one w b (on_jobs fact) more = refl
@@ -72,21 +74,14 @@ or_it true c h = refl
 or_it false true h = sym (h refl)
 or_it false false h = refl
 
-named_is : (w u : WaitId) (a : Act) (b : Bool) → named_by a ≡ Some u → (b ≡ true → same_wait u w ≡ true) → unsettled_by w a b ≡ same_wait u w
-named_is w u (Offer c q v z n) b e h = subst (λ y. (if same_wait y w then true else b) ≡ same_wait u w) (sym (same_name z u e)) (or_it (same_wait u w) b h)
-named_is w u (Await c q z n) b e h = subst (λ y. (if same_wait y w then true else b) ≡ same_wait u w) (sym (same_name z u e)) (or_it (same_wait u w) b h)
+named_is : (w u : WaitId) (a : Act) (b : Bool) → named_by a ≡ Some u → (b ≡ true → same_wait u w ≡ true)
+    → unsettled_by w a b ≡ same_wait u w
+named_is w u (Offer c q v z n) b e h = subst (λ y. (if same_wait y w then true else b) ≡ same_wait u w) (sym (same_name z u e))
+    (or_it (same_wait u w) b h)
+named_is w u (Await c q z n) b e h = subst (λ y. (if same_wait y w then true else b) ≡ same_wait u w) (sym (same_name z u e))
+    (or_it (same_wait u w) b h)
 named_is w u (Hand c q v) b e h = cc
-named_is w u (Put c q v) b e h = cc
-named_is w u (Take c q v) b e h = cc
-named_is w u (Admit c q) b e h = cc
-named_is w u (Drop c q v) b e h = cc
-named_is w u (Spurn c q v) b e h = cc
-named_is w u (Close c v) b e h = cc
-named_is w u (Void c) b e h = cc
-named_is w u (Drain c q v) b e h = cc
-named_is w u (WakeClosed c q) b e h = cc
-named_is w u (Withdraw z why) b e h = cc
-named_is w u (Settle z outcome) b e h = cc
+named_is w u other b e h = cc
 
 off : (b : Bool) → (if b then false else b) ≡ false
 off true = refl
@@ -96,9 +91,12 @@ off false = refl
 told_is : (w : WaitId) (o o' : Option WaitId) (told : List Told) → WaitsTold o told o' → behind w (is_it w o) told ≡ is_it w o'
 unfolding items_in unsettled_after
 told_is w _ _ _ (WaitsTold.none o) = refl
-told_is w _ _ _ (WaitsTold.other o o' t more q h) = behind_one w (is_it w o) t more ∙ ap (λ b. behind w b more) (waitless_by w (is_it w o) (call_told t) q) ∙ told_is w o o' more h
-told_is w _ _ _ (WaitsTold.begins u o a more q h) = ap (λ b. behind w b more) (named_is w u a false q (λ e. cc)) ∙ told_is w (Some u) o more h
-told_is w _ _ _ (WaitsTold.joins u o a more q h) = ap (λ b. behind w b more) (named_is w u a (same_wait u w) q (λ e. e)) ∙ told_is w (Some u) o more h
+told_is w _ _ _ (WaitsTold.other o o' t more q h) = behind_one w (is_it w o) t more
+    ∙ ap (λ b. behind w b more) (waitless_by w (is_it w o) (call_told t) q) ∙ told_is w o o' more h
+told_is w _ _ _ (WaitsTold.begins u o a more q h) = ap (λ b. behind w b more) (named_is w u a false q (λ e. cc))
+    ∙ told_is w (Some u) o more h
+told_is w _ _ _ (WaitsTold.joins u o a more q h) = ap (λ b. behind w b more) (named_is w u a (same_wait u w) q (λ e. e))
+    ∙ told_is w (Some u) o more h
 told_is w _ _ _ (WaitsTold.ends u outcome o more q h) = ap (λ b. behind w b more) (off (same_wait u w)) ∙ told_is w None o more h
 told_is w _ _ _ (WaitsTold.taken_back u o more h) = ap (λ b. behind w b more) (off (same_wait u w)) ∙ told_is w None o more h
 told_is w _ _ _ (WaitsTold.revokes u o more h) = ap (λ b. behind w b more) (off (same_wait u w)) ∙ told_is w None o more h
@@ -114,12 +112,20 @@ is_of : (w : WaitId) (o : Option WaitId) → o ≡ Some w → is_it w o ≡ true
 is_of w o e = ap (is_it w) e ∙ same_wait-refl w
 
 -- the waits of a coroutine that its book leaves unsettled
-pub just_the_wait : (p : Program) (k : ℕ) (now : Moment) (book : List Item) (x : Config) → Legal (floor_shape p) now.channels → acts_of k now.channels ≡ channel_acts_in book → Runs p k now book x → HasJustTheWait k x.stage (replay now.channels)
-just_the_wait p k now book x l acts r = λ w. (λ h. it_is w (wait_of x.stage) (sym (is w) ∙ unsettled_passes k ((replay now.channels).waits w) h), λ e. unsettled_by_test k ((replay now.channels).waits w) (is w ∙ is_of w (wait_of x.stage) e))
+pub just_the_wait : (p : Program) (k : ℕ) (now : Moment) (book : List Item) (x : Config) → Legal (floor_shape p) now.channels
+    → acts_of k now.channels ≡ channel_acts_in book → Runs p k now book x → HasJustTheWait k x.stage (replay now.channels)
+just_the_wait p k now book x l acts r = λ w. (
+  λ h. it_is w (wait_of x.stage) (sym (is w)
+      ∙ unsettled_passes k ((replay now.channels).waits w) h),
+  λ e. unsettled_by_test k ((replay now.channels).waits w) (is w ∙ is_of w (wait_of x.stage) e),
+)
   where
     is : (w : WaitId) → is_unsettled_of k ((replay now.channels).waits w) ≡ is_it w (wait_of x.stage)
-    is w = replay_unsettled (floor_shape p) k w now.channels l ∙ ap (unsettled_after w false) (acts ∙ ap channel_acts_in (sym r.written)) ∙ told_is w None (wait_of x.stage) r.told (all_told p k r.told x r.reaches)
+    is w = replay_unsettled (floor_shape p) k w now.channels l ∙ ap (unsettled_after w false) (acts ∙ ap channel_acts_in (sym r.written))
+        ∙ told_is w None (wait_of x.stage) r.told (all_told p k r.told x r.reaches)
 
 -- and it is at a channel of the floor
-pub wait_in_floor : (p : Program) (k : ℕ) (now : Moment) (book : List Item) (x : Config) (w : WaitId) → Legal (floor_shape p) now.channels → acts_of k now.channels ≡ channel_acts_in book → Runs p k now book x → wait_of x.stage ≡ Some w → w.channel < length (floor_shape p)
-wait_in_floor p k now book x w l acts r e = unsettled_in_floor (floor_shape p) now.channels k w l ((just_the_wait p k now book x l acts r w).1 e)
+pub wait_in_floor : (p : Program) (k : ℕ) (now : Moment) (book : List Item) (x : Config) (w : WaitId) → Legal (floor_shape p) now.channels
+    → acts_of k now.channels ≡ channel_acts_in book → Runs p k now book x → wait_of x.stage ≡ Some w → w.channel < length (floor_shape p)
+wait_in_floor p k now book x w l acts r e = unsettled_in_floor (floor_shape p) now.channels k w l
+    ((just_the_wait p k now book x l acts r w).1 e)

@@ -44,11 +44,13 @@ pub heads_open : (place : ℕ) (hs : List ℕ) (x : Instruction) → opens_lines
 heads_open place hs x e = ap (λ b. if b then place ∷ hs else (if is_end x then but_first hs else hs)) e
 
 pub heads_other : (place : ℕ) (hs : List ℕ) (x : Instruction) → opens_lines x ≡ false → is_end x ≡ false → heads_after place hs x ≡ hs
-heads_other place hs x o e = ap (λ b. if b then place ∷ hs else (if is_end x then but_first hs else hs)) o ∙ ap (λ b. if b then but_first hs else hs) e
+heads_other place hs x o e = ap (λ b. if b then place ∷ hs else (if is_end x then but_first hs else hs)) o
+    ∙ ap (λ b. if b then but_first hs else hs) e
 
 -- ---- one line more
 
-pub heads_step : (place : ℕ) (hs : List ℕ) (code : List Instruction) (i : ℕ) (x : Instruction) → slice_get code i ≡ Some x → heads_from place hs code (suc i) ≡ heads_after (place + i) (heads_from place hs code i) x
+pub heads_step : (place : ℕ) (hs : List ℕ) (code : List Instruction) (i : ℕ) (x : Instruction) → slice_get code i ≡ Some x
+    → heads_from place hs code (suc i) ≡ heads_after (place + i) (heads_from place hs code i) x
 heads_step place hs [] i x at = cc
 heads_step place hs (y ∷ code) zero x at =
     let same : y ≡ x = cc in
@@ -56,15 +58,18 @@ heads_step place hs (y ∷ code) zero x at =
     ap (heads_after place hs) same ∙ ap (λ n. heads_after n hs x) here
 heads_step place hs (y ∷ code) (suc i) x at =
     let here : place + 1 + i ≡ place + suc i = omega arith in
-    heads_step (place + 1) (heads_after place hs y) code i x at ∙ ap (λ n. heads_after n (heads_from (place + 1) (heads_after place hs y) code i) x) here
+    heads_step (place + 1) (heads_after place hs y) code i x at
+    ∙ ap (λ n. heads_after n (heads_from (place + 1) (heads_after place hs y) code i) x) here
 
-pub heads_next : (code : List Instruction) (i : ℕ) (x : Instruction) → slice_get code i ≡ Some x → heads_at code (i + 1) ≡ heads_after i (heads_at code i) x
+pub heads_next : (code : List Instruction) (i : ℕ) (x : Instruction) → slice_get code i ≡ Some x
+    → heads_at code (i + 1) ≡ heads_after i (heads_at code i) x
 heads_next code i x at =
     let up : i + 1 ≡ suc i = omega arith in
     let here : 0 + i ≡ i = omega arith in
     ap (heads_at code) up ∙ heads_step 0 [] code i x at ∙ ap (λ n. heads_after n (heads_at code i) x) here
 
-pub heads_end : (code : List Instruction) (i h : ℕ) (hs : List ℕ) → slice_get code i ≡ Some line.End → heads_at code i ≡ h ∷ hs → heads_at code (i + 1) ≡ hs
+pub heads_end : (code : List Instruction) (i h : ℕ) (hs : List ℕ) → slice_get code i ≡ Some line.End → heads_at code i ≡ h ∷ hs
+    → heads_at code (i + 1) ≡ hs
 heads_end code i h hs at e = heads_next code i line.End at ∙ ap but_first e
 
 none_more : (place : ℕ) (hs : List ℕ) (j : ℕ) → heads_from place hs [] j ≡ hs
@@ -72,21 +77,25 @@ none_more place hs zero = refl
 none_more place hs (suc j) = refl
 
 -- so many lines more
-heads_more : (place : ℕ) (hs : List ℕ) (code : List Instruction) (i j : ℕ) → heads_from place hs code (i + j) ≡ heads_from (place + i) (heads_from place hs code i) (drop i code) j
+heads_more : (place : ℕ) (hs : List ℕ) (code : List Instruction) (i j : ℕ)
+    → heads_from place hs code (i + j) ≡ heads_from (place + i) (heads_from place hs code i) (drop i code) j
 heads_more place hs code zero j =
     let here : place ≡ place + 0 = omega arith in
     let same : 0 + j ≡ j = omega arith in
     ap (heads_from place hs code) same ∙ ap (λ n. heads_from n hs code j) here
-heads_more place hs [] (suc i) j = let same : suc i + j ≡ suc (i + j) = omega arith in ap (heads_from place hs []) same ∙ sym (none_more (place + suc i) hs j)
+heads_more place hs [] (suc i) j = let same : suc i + j ≡ suc (i + j) = omega arith in ap (heads_from place hs []) same
+    ∙ sym (none_more (place + suc i) hs j)
 heads_more place hs (x ∷ code) (suc i) j =
     let here : place + 1 + i ≡ place + suc i = omega arith in
     let same : suc i + j ≡ suc (i + j) = omega arith in
-    ap (heads_from place hs (x ∷ code)) same ∙ heads_more (place + 1) (heads_after place hs x) code i j ∙ ap (λ n. heads_from n (heads_from (place + 1) (heads_after place hs x) code i) (drop i code) j) here
+    ap (heads_from place hs (x ∷ code)) same ∙ heads_more (place + 1) (heads_after place hs x) code i j
+    ∙ ap (λ n. heads_from n (heads_from (place + 1) (heads_after place hs x) code i) (drop i code) j) here
 
 pub drop_at : (code : List Instruction) (i : ℕ) (l : Instruction) → slice_get code i ≡ Some l → drop i code ≡ l ∷ drop (i + 1) code
 drop_at code i l e =
     let one : suc i ≡ i + 1 = omega arith in
-    drop-cons code i l (slice_get_within code i l e) ∙ ap (λ y. y ∷ drop (suc i) code) (get_or_from_slice_get code i l l e) ∙ ap (λ n. l ∷ drop n code) one
+    drop-cons code i l (slice_get_within code i l e) ∙ ap (λ y. y ∷ drop (suc i) code) (get_or_from_slice_get code i l l e)
+    ∙ ap (λ n. l ∷ drop n code) one
 
 -- the line at a number below the length
 pub line_at : (code : List Instruction) (i : ℕ) → i < length code → (l : Instruction) × (slice_get code i ≡ Some l)
@@ -105,7 +114,14 @@ pub record OpenedAt (code : List Instruction) (i h : ℕ) (hs : List ℕ) : Type
   pub opens : opens_lines opener ≡ true
 
 later : (code : List Instruction) (i h : ℕ) (hs : List ℕ) → OpenedAt code i h hs → OpenedAt code (i + 1) h hs
-later code i h hs o = record { before = omega (arith, o.before); round = o.round; opener = o.opener; opener_is = o.opener_is; opens = o.opens }
+later code i h hs o = record {
+  before = omega (arith, o.before);
+  round = o.round;
+  opener = o.opener;
+  opener_is = o.opener_is;
+  opens =
+      o.opens;
+}
 
 first_of : {A : Type 0} (x y : A) (xs ys : List A) → x ∷ xs ≡ y ∷ ys → (x ≡ y) × (xs ≡ ys)
 first_of x y xs ys e = (cc, cc)
@@ -127,31 +143,43 @@ opened_next code i x at more ds h hs e = by_kind (line_kind x)
     by_list : (ds : List ℕ) → opens_lines x ≡ true → i ∷ heads_at code i ≡ ds ++ h ∷ hs → OpenedAt code (i + 1) h hs
     by_list [] o f =
         let two = first_of i h (heads_at code i) hs f in
-        record { before = omega (arith, two.0); round = ap (heads_at code) (sym two.0) ∙ two.1; opener = x; opener_is = ap (slice_get code) (sym two.0) ∙ at; opens = o }
+        record {
+          before = omega (arith, two.0);
+          round = ap (heads_at code) (sym two.0)
+              ∙ two.1;
+          opener = x;
+          opener_is = ap (slice_get code) (sym two.0) ∙ at;
+          opens = o;
+        }
     by_list (d ∷ ds) o f = later code i h hs (more ds h hs (first_of i d (heads_at code i) (ds ++ h ∷ hs) f).1)
 
     by_kind : LineKind x → OpenedAt code (i + 1) h hs
     by_kind (LineKind.opens o n) = by_list ds o (sym (heads_open i (heads_at code i) x o) ∙ sym (heads_next code i x at) ∙ e)
     by_kind (LineKind.closes c) =
-        let left : but_first (heads_at code i) ≡ ds ++ h ∷ hs = sym (ap (heads_after i (heads_at code i)) c) ∙ sym (heads_next code i x at) ∙ e in
+        let left : but_first (heads_at code i) ≡ ds ++ h ∷ hs = sym (ap (heads_after i (heads_at code i)) c) ∙ sym (heads_next code i x at)
+        ∙ e in
         let w = with_first (heads_at code i) ds h hs left in
         later code i h hs (more (w.0 ∷ ds) h hs w.1)
-    by_kind (LineKind.other o n) = later code i h hs (more ds h hs (sym (heads_other i (heads_at code i) x o n) ∙ sym (heads_next code i x at) ∙ e))
+    by_kind (LineKind.other o n) = later code i h hs (more ds h hs (sym (heads_other i (heads_at code i) x o n)
+        ∙ sym (heads_next code i x at) ∙ e))
 
 -- each line that is open was opened before, where those round it were open
-pub opened_at : (code : List Instruction) (i : ℕ) → i ≤ length code → (ds : List ℕ) (h : ℕ) (hs : List ℕ) → heads_at code i ≡ ds ++ h ∷ hs → OpenedAt code i h hs
+pub opened_at : (code : List Instruction) (i : ℕ) → i ≤ length code → (ds : List ℕ) (h : ℕ) (hs : List ℕ) → heads_at code i ≡ ds ++ h ∷ hs
+    → OpenedAt code i h hs
 opened_at code zero le ds h hs e = none_first ds h hs e
 opened_at code (suc i) le ds h hs e =
     let lt : i < length code = omega (arith, le) in
     let l = line_at code i lt in
     let up : suc i ≡ i + 1 = omega arith in
-    subst (λ n. OpenedAt code n h hs) (sym up) (opened_next code i l.0 l.1 (opened_at code i (omega (arith, le))) ds h hs (sym (ap (heads_at code) up) ∙ e))
+    subst (λ n. OpenedAt code n h hs) (sym up) (opened_next code i l.0 l.1 (opened_at code i (omega (arith, le))) ds h hs
+    (sym (ap (heads_at code) up) ∙ e))
 
 -- ---- what closes each
 
 closes_next : (code : List Instruction) (i : ℕ) (x : Instruction) → slice_get code i ≡ Some x
     → ((ds : List ℕ) (h : ℕ) (hs : List ℕ) → heads_at code i ≡ ds ++ h ∷ hs → closing_of code h ≡ closing_from (length ds) i (drop i code))
-    → (ds : List ℕ) (h : ℕ) (hs : List ℕ) → heads_at code (i + 1) ≡ ds ++ h ∷ hs → closing_of code h ≡ closing_from (length ds) (i + 1) (drop (i + 1) code)
+    → (ds : List ℕ) (h : ℕ) (hs : List ℕ) → heads_at code (i + 1) ≡ ds ++ h ∷ hs
+    → closing_of code h ≡ closing_from (length ds) (i + 1) (drop (i + 1) code)
 closes_next code i x at more ds h hs e = by_kind (line_kind x)
   where
     rest : List Instruction
@@ -161,7 +189,8 @@ closes_next code i x at more ds h hs e = by_kind (line_kind x)
     here d = ap (closing_from d i) (drop_at code i x at)
 
     passes : (d : ℕ) → is_end x ≡ false → closing_from d i (x ∷ rest) ≡ closing_from (depth_after x d) (i + 1) rest
-    passes d n = ap (λ b. if b then end_from d i (closing_from (one_less d) (i + 1) rest) else closing_from (depth_after x d) (i + 1) rest) n
+    passes d n = ap (λ b. if b then end_from d i (closing_from (one_less d) (i + 1) rest) else closing_from (depth_after x d) (i + 1) rest)
+        n
 
     deeper : (d : ℕ) → opens_lines x ≡ true → depth_after x d ≡ d + 1
     deeper d o = ap (λ b. if b then d + 1 else (if is_end x then one_less d else d)) o
@@ -169,58 +198,73 @@ closes_next code i x at more ds h hs e = by_kind (line_kind x)
     as_deep : (d : ℕ) → opens_lines x ≡ false → is_end x ≡ false → depth_after x d ≡ d
     as_deep d o n = ap (λ b. if b then d + 1 else (if is_end x then one_less d else d)) o ∙ ap (λ b. if b then one_less d else d) n
 
-    by_list : (ds : List ℕ) → opens_lines x ≡ true → is_end x ≡ false → i ∷ heads_at code i ≡ ds ++ h ∷ hs → closing_of code h ≡ closing_from (length ds) (i + 1) rest
+    by_list : (ds : List ℕ) → opens_lines x ≡ true → is_end x ≡ false → i ∷ heads_at code i ≡ ds ++ h ∷ hs
+        → closing_of code h ≡ closing_from (length ds) (i + 1) rest
     by_list [] o n f = ap (closing_of code) (sym (first_of i h (heads_at code i) hs f).0)
     by_list (d ∷ ds) o n f =
         let up : length ds + 1 ≡ length (d ∷ ds) = omega arith in
-        more ds h hs (first_of i d (heads_at code i) (ds ++ h ∷ hs) f).1 ∙ here (length ds) ∙ passes (length ds) n ∙ ap (λ m. closing_from m (i + 1) rest) (deeper (length ds) o ∙ up)
+        more ds h hs (first_of i d (heads_at code i) (ds ++ h ∷ hs) f).1 ∙ here (length ds) ∙ passes (length ds) n
+        ∙ ap (λ m. closing_from m (i + 1) rest) (deeper (length ds) o ∙ up)
 
     by_kind : LineKind x → closing_of code h ≡ closing_from (length ds) (i + 1) rest
     by_kind (LineKind.opens o n) = by_list ds o n (sym (heads_open i (heads_at code i) x o) ∙ sym (heads_next code i x at) ∙ e)
     by_kind (LineKind.closes c) =
-        let left : but_first (heads_at code i) ≡ ds ++ h ∷ hs = sym (ap (heads_after i (heads_at code i)) c) ∙ sym (heads_next code i x at) ∙ e in
+        let left : but_first (heads_at code i) ≡ ds ++ h ∷ hs = sym (ap (heads_after i (heads_at code i)) c) ∙ sym (heads_next code i x at)
+        ∙ e in
         let w = with_first (heads_at code i) ds h hs left in
         more (w.0 ∷ ds) h hs w.1 ∙ here (length (w.0 ∷ ds)) ∙ ap (λ y. closing_from (length (w.0 ∷ ds)) i (y ∷ rest)) c
     by_kind (LineKind.other o n) =
-        more ds h hs (sym (heads_other i (heads_at code i) x o n) ∙ sym (heads_next code i x at) ∙ e) ∙ here (length ds) ∙ passes (length ds) n ∙ ap (λ m. closing_from m (i + 1) rest) (as_deep (length ds) o n)
+        more ds h hs (sym (heads_other i (heads_at code i) x o n) ∙ sym (heads_next code i x at) ∙ e) ∙ here (length ds)
+        ∙ passes (length ds) n ∙ ap (λ m. closing_from m (i + 1) rest) (as_deep (length ds) o n)
 
 -- a line that is open is closed by the first end at which one more is closed than opened, where so many are open within it
-pub open_closes : (code : List Instruction) (i : ℕ) → i ≤ length code → (ds : List ℕ) (h : ℕ) (hs : List ℕ) → heads_at code i ≡ ds ++ h ∷ hs → closing_of code h ≡ closing_from (length ds) i (drop i code)
+pub open_closes : (code : List Instruction) (i : ℕ) → i ≤ length code → (ds : List ℕ) (h : ℕ) (hs : List ℕ) → heads_at code i ≡ ds ++ h ∷ hs
+    → closing_of code h ≡ closing_from (length ds) i (drop i code)
 open_closes code zero le ds h hs e = none_first ds h hs e
 open_closes code (suc i) le ds h hs e =
     let lt : i < length code = omega (arith, le) in
     let l = line_at code i lt in
     let up : suc i ≡ i + 1 = omega arith in
-    closes_next code i l.0 l.1 (open_closes code i (omega (arith, le))) ds h hs (sym (ap (heads_at code) up) ∙ e) ∙ ap (λ n. closing_from (length ds) n (drop n code)) (sym up)
+    closes_next code i l.0 l.1 (open_closes code i (omega (arith, le))) ds h hs (sym (ap (heads_at code) up) ∙ e)
+    ∙ ap (λ n. closing_from (length ds) n (drop n code)) (sym up)
 
 -- an end closes the innermost line that is open
-pub end_closes_first : (code : List Instruction) (i h : ℕ) (hs : List ℕ) → slice_get code i ≡ Some line.End → heads_at code i ≡ h ∷ hs → closing_of code h ≡ Some i
+pub end_closes_first : (code : List Instruction) (i h : ℕ) (hs : List ℕ) → slice_get code i ≡ Some line.End → heads_at code i ≡ h ∷ hs
+    → closing_of code h ≡ Some i
 end_closes_first code i h hs at e =
     let lt = slice_get_within code i line.End at in
     open_closes code i (omega (arith, lt)) [] h hs e ∙ ap (closing_from 0 i) (drop_at code i line.End at)
 
 -- a line that is open is closed at this line or later
-pub closed_later : (code : List Instruction) (i : ℕ) → i ≤ length code → (ds : List ℕ) (h : ℕ) (hs : List ℕ) (e : ℕ) → heads_at code i ≡ ds ++ h ∷ hs → closing_of code h ≡ Some e → i ≤ e
-closed_later code i le ds h hs e is c = let f = closing_from-end (length ds) i e (drop i code) (sym (open_closes code i le ds h hs is) ∙ c) in omega (arith, f.1)
+pub closed_later : (code : List Instruction) (i : ℕ) → i ≤ length code → (ds : List ℕ) (h : ℕ) (hs : List ℕ) (e : ℕ) → heads_at code i ≡ ds
+    ++ h ∷ hs → closing_of code h ≡ Some e → i ≤ e
+closed_later code i le ds h hs e is c = let f = closing_from-end (length ds) i e (drop i code) (sym (open_closes code i le ds h hs is) ∙ c)
+    in omega (arith, f.1)
 
 -- ---- what is open at the end that closes a line
 
 -- behind these lines the line h is the innermost that is open, and an end stands there
 abbrev pub ClosesFrom : ℕ → List ℕ → List Instruction → ℕ → ℕ → List ℕ → Type 0
-ClosesFrom place heads code e h hs = (j : ℕ) × (e ≡ place + j) × (slice_get code j ≡ Some line.End) × (heads_from place heads code j ≡ h ∷ hs)
+ClosesFrom place heads code e h hs = (j : ℕ) × (e ≡ place + j) × (slice_get code j ≡ Some line.End)
+    × (heads_from place heads code j ≡ h ∷ hs)
 
-closing_open : (place d e h : ℕ) (hs ds : List ℕ) (code : List Instruction) → length ds ≡ d → closing_from d place code ≡ Some e → ClosesFrom place (ds ++ h ∷ hs) code e h hs
+closing_open : (place d e h : ℕ) (hs ds : List ℕ) (code : List Instruction) → length ds ≡ d → closing_from d place code ≡ Some e
+    → ClosesFrom place (ds ++ h ∷ hs) code e h hs
 closing_open place d e h hs ds [] n is = cc
 closing_open place d e h hs ds (x ∷ code) n is = by_kind (line_kind x) (λ ds d m f. closing_open (place + 1) d e h hs ds code m f)
   where
     More : Type 0
-    More = (ds : List ℕ) (d : ℕ) → length ds ≡ d → closing_from d (place + 1) code ≡ Some e → ClosesFrom (place + 1) (ds ++ h ∷ hs) code e h hs
+    More = (ds : List ℕ) (d : ℕ) → length ds ≡ d → closing_from d (place + 1) code ≡ Some e
+        → ClosesFrom (place + 1) (ds ++ h ∷ hs) code e h hs
 
-    onward : (heads : List ℕ) → heads_after place (ds ++ h ∷ hs) x ≡ heads → ClosesFrom (place + 1) heads code e h hs → ClosesFrom place (ds ++ h ∷ hs) (x ∷ code) e h hs
+    onward : (heads : List ℕ) → heads_after place (ds ++ h ∷ hs) x ≡ heads → ClosesFrom (place + 1) heads code e h hs
+        → ClosesFrom place (ds ++ h ∷ hs) (x ∷ code) e h hs
     onward heads f c = (suc c.0, omega (arith, c.1), c.2, ap (λ l. heads_from (place + 1) l code c.0) f ∙ c.3)
 
     passes : is_end x ≡ false → closing_from (depth_after x d) (place + 1) code ≡ Some e
-    passes f = sym (ap (λ b. if b then end_from d place (closing_from (one_less d) (place + 1) code) else closing_from (depth_after x d) (place + 1) code) f) ∙ is
+    passes f =
+        sym (ap (λ b. if b then end_from d place (closing_from (one_less d) (place + 1) code) else closing_from (depth_after x d)
+        (place + 1) code) f) ∙ is
 
     at_end : (ds : List ℕ) (d : ℕ) → length ds ≡ d → x ≡ line.End → end_from d place (closing_from (one_less d) (place + 1) code) ≡ Some e
         → More
@@ -239,7 +283,8 @@ closing_open place d e h hs ds (x ∷ code) n is = by_kind (line_kind x) (λ ds 
         (more (place ∷ ds) (suc d) (omega (arith, n)) (sym (ap (λ m. closing_from m (place + 1) code) deeper) ∙ passes f))
     by_kind (LineKind.closes c) more = at_end ds d n c (ap (λ y. closing_from d place (y ∷ code)) (sym c) ∙ is) more
     by_kind (LineKind.other o f) more =
-        let as_deep : depth_after x d ≡ d = ap (λ b. if b then d + 1 else (if is_end x then one_less d else d)) o ∙ ap (λ b. if b then one_less d else d) f in
+        let as_deep : depth_after x d ≡ d = ap (λ b. if b then d + 1 else (if is_end x then one_less d else d)) o
+        ∙ ap (λ b. if b then one_less d else d) f in
         onward (ds ++ h ∷ hs) (heads_other place (ds ++ h ∷ hs) x o f)
         (more ds d n (sym (ap (λ m. closing_from m (place + 1) code) as_deep) ∙ passes f))
 
@@ -256,7 +301,8 @@ slice_drop [] (suc i) zero = refl
 slice_drop [] (suc i) (suc j) = refl
 slice_drop (x ∷ code) (suc i) j = let same : suc (i + j) ≡ suc i + j = omega arith in slice_drop code i j ∙ ap (slice_get (x ∷ code)) same
 
-pub closed_at : (code : List Instruction) (i e : ℕ) (x : Instruction) → slice_get code i ≡ Some x → opens_lines x ≡ true → closing_of code i ≡ Some e → ClosedAt code i e
+pub closed_at : (code : List Instruction) (i e : ℕ) (x : Instruction) → slice_get code i ≡ Some x → opens_lines x ≡ true
+    → closing_of code i ≡ Some e → ClosedAt code i e
 closed_at code i e x at o is =
     let c = closing_open (i + 1) 0 e i (heads_at code i) [] (drop (i + 1) code) refl is in
     let place : i + 1 + c.0 ≡ e = sym c.1 in
@@ -264,6 +310,7 @@ closed_at code i e x at o is =
     let end : slice_get code e ≡ Some line.End = ap (slice_get code) (sym place) ∙ sym (slice_drop code (i + 1) c.0) ∙ c.2 in
     let first : heads_at code (i + 1) ≡ i ∷ heads_at code i = heads_next code i x at ∙ heads_open i (heads_at code i) x o in
     let within : heads_at code e ≡ i ∷ heads_at code i =
-    ap (heads_at code) (sym place) ∙ heads_more 0 [] code (i + 1) c.0 ∙ ap (λ n. heads_from n (heads_at code (i + 1)) (drop (i + 1) code) c.0) (sym zero_up)
+    ap (heads_at code) (sym place) ∙ heads_more 0 [] code (i + 1) c.0
+    ∙ ap (λ n. heads_from n (heads_at code (i + 1)) (drop (i + 1) code) c.0) (sym zero_up)
     ∙ ap (λ l. heads_from (i + 1) l (drop (i + 1) code) c.0) first ∙ c.3 in
     record { behind = omega (arith, c.1); is_end = end; open_then = within; open_after = heads_end code e i (heads_at code i) end within }

@@ -32,7 +32,8 @@ unfolding origin_of
 origin_stays k [] more x e = cc
 origin_stays k (y ∷ ys) more x e = by_first (origin_in k y.act) e (origin_stays k ys more x)
   where
-    by_first : (o : Option (JobKind × Bool)) → or_else o (origin_of k ys) ≡ Some x → (origin_of k ys ≡ Some x → origin_of k (ys ++ more) ≡ Some x) → or_else o (origin_of k (ys ++ more)) ≡ Some x
+    by_first : (o : Option (JobKind × Bool)) → or_else o (origin_of k ys) ≡ Some x
+        → (origin_of k ys ≡ Some x → origin_of k (ys ++ more) ≡ Some x) → or_else o (origin_of k (ys ++ more)) ≡ Some x
     by_first None e rest = rest e
     by_first (Some z) e rest = e
 
@@ -84,7 +85,9 @@ not_active (ends.Completed v) P e = cc
 not_active (ends.Cancelled cause) P e = cc
 
 -- what a Job was attached as is not said again
-origin_more : (s t : JobState) (o z : Option (JobKind × Bool)) (b c : Bool) → HasOrigin s o b → (is_cancellable t ≡ true → is_cancellable s ≡ true) → (is_active t ≡ true → (is_active s ≡ true) ⊎ (c ≡ true)) → HasOrigin t (or_else o z) (b || c)
+origin_more : (s t : JobState) (o z : Option (JobKind × Bool)) (b c : Bool) → HasOrigin s o b
+    → (is_cancellable t ≡ true → is_cancellable s ≡ true) → (is_active t ≡ true → (is_active s ≡ true) ⊎ (c ≡ true))
+    → HasOrigin t (or_else o z) (b || c)
 origin_more s t o z b c h live active = record {
   kind = h.kind;
   at_once = h.at_once;
@@ -100,12 +103,10 @@ origin_more s t o z b c h live active = record {
 none_here : (q : ℕ) (act : JobAct) → attaches q act ≡ false → origin_in q act ≡ None
 none_here q (Attach p r kind tag cancelled) e = ap (λ b. if b then Some (kind, cancelled) else None) e
 none_here q (Start r) e = refl
-none_here q (EndBody r v) e = refl
-none_here q (Cancel r reason) e = refl
-none_here q (Finish r end) e = refl
-none_here q (Gone r) e = refl
+none_here q other e = refl
 
-origin_step : (shape : Shape) (tree : Tree) (who q : ℕ) (act : JobAct) (x y : Option Job) (o : Option (JobKind × Bool)) (begun : Bool) → RowStep shape tree who q act x y → RowHasOrigin x o begun → RowHasOrigin y (or_else o (origin_in q act)) (begun || starts q act)
+origin_step : (shape : Shape) (tree : Tree) (who q : ℕ) (act : JobAct) (x y : Option Job) (o : Option (JobKind × Bool)) (begun : Bool)
+    → RowStep shape tree who q act x y → RowHasOrigin x o begun → RowHasOrigin y (or_else o (origin_in q act)) (begun || starts q act)
 origin_step shape tree who q _ _ _ o begun (RowStep.is_attached p kind tag cancelled m i) h = record {
   kind = kind;
   at_once = cancelled;
@@ -113,14 +114,22 @@ origin_step shape tree who q _ _ _ o begun (RowStep.is_attached p kind tag cance
   live = λ e. first_live cancelled kind.lazy e;
   lazy = λ e f. first_lazy cancelled kind.lazy _ e f;
 }
-origin_step shape tree who q _ _ _ o begun (RowStep.has_child r kind tag cancelled j none m) h = origin_more j.state j.state o _ begun false h (λ e. e) (λ e. inl e)
-origin_step shape tree who q _ _ _ o begun (RowStep.is_started j n) h = origin_more j.state Active o None begun (q == q) h (λ e. ap is_cancellable n) (λ e. inr (same q))
-origin_step shape tree who q _ _ _ o begun (RowStep.body_ends v j m) h = origin_more j.state (state_after_body j.state) o None begun false h (body_live j.state) (λ e. inl (body_active j.state e))
-origin_step shape tree who q _ _ _ o begun (RowStep.is_cancelled reason j m k) h = origin_more j.state Cancelling o None begun false h (λ e. cc) (λ e. cc)
-origin_step shape tree who q _ _ _ o begun (RowStep.ends end j m) h = origin_more j.state (state_of_end end) o None begun false h (not_live end _) (not_active end _)
-origin_step shape tree who q _ _ _ o begun (RowStep.is_told c j m p) h = origin_more j.state j.state o None begun false h (λ e. e) (λ e. inl e)
-origin_step shape tree who q _ _ _ o begun (RowStep.stays act None a b c d f) h = ap (λ u. or_else u (origin_in q act)) h ∙ none_here q act a
-origin_step shape tree who q _ _ _ o begun (RowStep.stays act (Some j) a b c d f) h = origin_more j.state j.state o (origin_in q act) begun (starts q act) h (λ e. e) (λ e. inl e)
+origin_step shape tree who q _ _ _ o begun (RowStep.has_child r kind tag cancelled j none m) h =
+    origin_more j.state j.state o _ begun false h (λ e. e) (λ e. inl e)
+origin_step shape tree who q _ _ _ o begun (RowStep.is_started j n) h =
+    origin_more j.state Active o None begun (q == q) h (λ e. ap is_cancellable n) (λ e. inr (same q))
+origin_step shape tree who q _ _ _ o begun (RowStep.body_ends v j m) h =
+    origin_more j.state (state_after_body j.state) o None begun false h (body_live j.state) (λ e. inl (body_active j.state e))
+origin_step shape tree who q _ _ _ o begun (RowStep.is_cancelled reason j m k) h =
+    origin_more j.state Cancelling o None begun false h (λ e. cc) (λ e. cc)
+origin_step shape tree who q _ _ _ o begun (RowStep.ends end j m) h =
+    origin_more j.state (state_of_end end) o None begun false h (not_live end _) (not_active end _)
+origin_step shape tree who q _ _ _ o begun (RowStep.is_told c j m p) h =
+    origin_more j.state j.state o None begun false h (λ e. e) (λ e. inl e)
+origin_step shape tree who q _ _ _ o begun (RowStep.stays act None a b c d f) h = ap (λ u. or_else u (origin_in q act)) h
+    ∙ none_here q act a
+origin_step shape tree who q _ _ _ o begun (RowStep.stays act (Some j) a b c d f) h =
+    origin_more j.state j.state o (origin_in q act) begun (starts q act) h (λ e. e) (λ e. inl e)
 
 or_else_assoc : (x y z : Option (JobKind × Bool)) → or_else (or_else x y) z ≡ or_else x (or_else y z)
 or_else_assoc None y z = refl
@@ -134,13 +143,19 @@ or_else_none : (x : Option (JobKind × Bool)) → or_else x None ≡ x
 or_else_none None = refl
 or_else_none (Some a) = refl
 
-origin_from : (shape : Shape) (tree : Tree) (es : List JobEntry) (k : ℕ) (o : Option (JobKind × Bool)) (begun : Bool) → LegalFrom shape tree es → RowHasOrigin (tree k) o begun → RowHasOrigin (replay_from tree es k) (or_else o (origin_of k es)) (begun || has starts k es)
+origin_from : (shape : Shape) (tree : Tree) (es : List JobEntry) (k : ℕ) (o : Option (JobKind × Bool)) (begun : Bool)
+    → LegalFrom shape tree es → RowHasOrigin (tree k) o begun
+    → RowHasOrigin (replay_from tree es k) (or_else o (origin_of k es)) (begun || has starts k es)
 unfolding LegalFrom replay_from origin_of
-origin_from shape tree [] k o begun l h = subst (λ u. RowHasOrigin (tree k) u (begun || false)) (sym (or_else_none o)) (subst (RowHasOrigin (tree k) o) (sym (or_nothing begun)) h)
+origin_from shape tree [] k o begun l h = subst (λ u. RowHasOrigin (tree k) u (begun || false)) (sym (or_else_none o))
+    (subst (RowHasOrigin (tree k) o) (sym (or_nothing begun)) h)
 origin_from shape tree (e ∷ es) k o begun l h =
-    let rest = origin_from shape (after tree e.who e.act) es k (or_else o (origin_in k e.act)) (begun || starts k e.act) l.1 (origin_step shape tree e.who k e.act _ _ o begun (row_step shape tree e.who e.act k l.0) h) in
-    subst (λ u. RowHasOrigin (replay_from (after tree e.who e.act) es k) u (begun || (starts k e.act || has starts k es))) (or_else_assoc o (origin_in k e.act) (origin_of k es))
-    (subst (RowHasOrigin (replay_from (after tree e.who e.act) es k) (or_else (or_else o (origin_in k e.act)) (origin_of k es))) (or_assoc begun (starts k e.act) (has starts k es)) rest)
+    let rest = origin_from shape (after tree e.who e.act) es k (or_else o (origin_in k e.act)) (begun
+    || starts k e.act) l.1 (origin_step shape tree e.who k e.act _ _ o begun (row_step shape tree e.who e.act k l.0) h) in
+    subst (λ u. RowHasOrigin (replay_from (after tree e.who e.act) es k) u (begun || (starts k e.act || has starts k es)))
+    (or_else_assoc o (origin_in k e.act) (origin_of k es))
+    (subst (RowHasOrigin (replay_from (after tree e.who e.act) es k) (or_else (or_else o (origin_in k e.act)) (origin_of k es)))
+    (or_assoc begun (starts k e.act) (has starts k es)) rest)
 
 -- a Job that is active was not cancelled as it was attached, and was started if it was lazy
 pub record WasAttached (k : ℕ) (J : List JobEntry) : Type 0 where
@@ -163,9 +178,11 @@ none_at_start k z = by_test (k == 0) refl
     by_test true e = absurd (z (eqb-true k 0 e))
     by_test false e = refl
 
-pub active_origin : (shape : Shape) (J : List JobEntry) (k : ℕ) (j : Job) → Legal shape J → replay J k ≡ Some j → is_active j.state ≡ true → k ≢ 0 → WasAttached k J
+pub active_origin : (shape : Shape) (J : List JobEntry) (k : ℕ) (j : Job) → Legal shape J → replay J k ≡ Some j → is_active j.state ≡ true
+    → k ≢ 0 → WasAttached k J
 active_origin shape J k j l e a z =
-    let h : HasOrigin j.state (origin_of k J) (has starts k J) = subst (λ x. RowHasOrigin x (origin_of k J) (has starts k J)) e (origin_from shape start J k None false l (none_at_start k z)) in
+    let h : HasOrigin j.state (origin_of k J) (has starts k J) =
+    subst (λ x. RowHasOrigin x (origin_of k J) (has starts k J)) e (origin_from shape start J k None false l (none_at_start k z)) in
     record {
       kind = h.kind;
       origin = h.is ∙ ap (λ b. Some (h.kind, b)) (h.live (active_live j.state a));
@@ -191,19 +208,19 @@ some_origin k (e ∷ es) h = by_act e.act (either (attaches k e.act) (has attach
         by_test true t = ((kind, now), refl)
         by_test false t = cc
     here (Start q) t = cc
-    here (EndBody q v) t = cc
-    here (Cancel q reason) t = cc
-    here (Finish q end) t = cc
-    here (Gone q) t = cc
+    here other t = cc
 
     first : (x : Option (JobKind × Bool)) (o : JobKind × Bool) → x ≡ Some o → (z : JobKind × Bool) × (or_else x (origin_of k es) ≡ Some z)
     first x o e = (o, subst (λ y. or_else y (origin_of k es) ≡ Some o) (sym e) refl)
 
-    later : (x : Option (JobKind × Bool)) (o : JobKind × Bool) → origin_of k es ≡ Some o → (z : JobKind × Bool) × (or_else x (origin_of k es) ≡ Some z)
+    later : (x : Option (JobKind × Bool)) (o : JobKind × Bool) → origin_of k es ≡ Some o → (z : JobKind × Bool)
+        × (or_else x (origin_of k es) ≡ Some z)
     later None o e = (o, e)
     later (Some z) o e = (z, refl)
 
-    by_act : (act : JobAct) → (attaches k act ≡ true) ⊎ (has attaches k es ≡ true) → (has attaches k es ≡ true → (o : JobKind × Bool) × (origin_of k es ≡ Some o)) → (o : JobKind × Bool) × (or_else (origin_in k act) (origin_of k es) ≡ Some o)
+    by_act : (act : JobAct) → (attaches k act ≡ true) ⊎ (has attaches k es ≡ true)
+        → (has attaches k es ≡ true → (o : JobKind × Bool) × (origin_of k es ≡ Some o)) → (o : JobKind × Bool)
+        × (or_else (origin_in k act) (origin_of k es) ≡ Some o)
     by_act act (inl t) rest = let z = here act t in first (origin_in k act) z.0 z.1
     by_act act (inr t) rest = let z = rest t in later (origin_in k act) z.0 z.1
 

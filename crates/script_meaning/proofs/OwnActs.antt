@@ -40,18 +40,22 @@ unfolding AllMayCome
 placed_left shape who done [] ys h = tt
 placed_left shape who done (x ∷ xs) ys h = (h.0, placed_left shape who (done ++ x ∷ []) xs ys h.1)
 
-pub placed_right : (shape : Shape) (who : ℕ) (done xs ys : List JobAct) → AllMayCome shape who done (xs ++ ys) → AllMayCome shape who (done ++ xs) ys
+pub placed_right : (shape : Shape) (who : ℕ) (done xs ys : List JobAct) → AllMayCome shape who done (xs ++ ys)
+    → AllMayCome shape who (done ++ xs) ys
 unfolding AllMayCome
 placed_right shape who done [] ys h = subst (λ l. AllMayCome shape who l ys) (sym (append-nil done)) h
-placed_right shape who done (x ∷ xs) ys h = subst (λ l. AllMayCome shape who l ys) (append_assoc done (x ∷ []) xs) (placed_right shape who (done ++ x ∷ []) xs ys h.1)
+placed_right shape who done (x ∷ xs) ys h = subst (λ l. AllMayCome shape who l ys) (append_assoc done (x ∷ []) xs)
+    (placed_right shape who (done ++ x ∷ []) xs ys h.1)
 
-pub placed_first : (shape : Shape) (who : ℕ) (done acts : List JobAct) (act : JobAct) → AllMayCome shape who done (act ∷ acts) → MayComeNext shape who done act
+pub placed_first : (shape : Shape) (who : ℕ) (done acts : List JobAct) (act : JobAct) → AllMayCome shape who done (act ∷ acts)
+    → MayComeNext shape who done act
 unfolding AllMayCome
 placed_first shape who done acts act h = h.0
 
 -- ---- a legal history places each caller's acts
 
-none_own : (t : JobAct → Bool) (who : ℕ) (es : List JobEntry) → list_any (λ (e : JobEntry). t e.act) es ≡ false → list_any t (acts_of who es) ≡ false
+none_own : (t : JobAct → Bool) (who : ℕ) (es : List JobEntry) → list_any (λ (e : JobEntry). t e.act) es ≡ false
+    → list_any t (acts_of who es) ≡ false
 unfolding acts_of
 none_own t who [] h = refl
 none_own t who (e ∷ es) h = let two = either (t e.act) _ h in by_test (e.who == who) two.0 (none_own t who es two.1)
@@ -60,11 +64,13 @@ none_own t who (e ∷ es) h = let two = either (t e.act) _ h in by_test (e.who =
     either true b e = cc
     either false b e = (refl, e)
 
-    by_test : (b : Bool) → t e.act ≡ false → list_any t (acts_of who es) ≡ false → list_any t (if b then e.act ∷ acts_of who es else acts_of who es) ≡ false
+    by_test : (b : Bool) → t e.act ≡ false → list_any t (acts_of who es) ≡ false
+        → list_any t (if b then e.act ∷ acts_of who es else acts_of who es) ≡ false
     by_test true k more = ap (λ c. c || list_any t (acts_of who es)) k ∙ more
     by_test false k more = more
 
-unattached : (shape : Shape) (xs : List JobEntry) (r : ℕ) → Legal shape xs → replay xs r ≡ None → (has attaches r xs ≡ false) × (has ends_body r xs ≡ false)
+unattached : (shape : Shape) (xs : List JobEntry) (r : ℕ) → Legal shape xs → replay xs r ≡ None → (has attaches r xs ≡ false)
+    × (has ends_body r xs ≡ false)
 unattached shape xs r l none =
     let m = by_entries shape xs r l in
     ((right (r == 0) (has attaches r xs) (sym m.attached ∙ ap is_some none)), sym m.bodiless ∙ ap has_ended_body none)
@@ -73,15 +79,15 @@ unattached shape xs r l none =
     right true b e = cc
     right false b e = e
 
-one_placed : (shape : Shape) (who : ℕ) (xs : List JobEntry) (act : JobAct) → Legal shape xs → Needs shape (replay xs) who act → MayComeNext shape who (acts_of who xs) act
-one_placed shape who xs (Attach p r kind tag now) l n = let two = unattached shape xs r l n.0 in (none_own (attaches r) who xs two.0, none_own (ends_body r) who xs two.1, n.2, n.3)
+one_placed : (shape : Shape) (who : ℕ) (xs : List JobEntry) (act : JobAct) → Legal shape xs → Needs shape (replay xs) who act
+    → MayComeNext shape who (acts_of who xs) act
+one_placed shape who xs (Attach p r kind tag now) l n = let two = unattached shape xs r l n.0
+    in (none_own (attaches r) who xs two.0, none_own (ends_body r) who xs two.1, n.2, n.3)
 one_placed shape who xs (Start q) l n = tt
-one_placed shape who xs (EndBody q v) l n = tt
-one_placed shape who xs (Cancel q reason) l n = tt
-one_placed shape who xs (Finish q end) l n = tt
-one_placed shape who xs (Gone q) l n = tt
+one_placed shape who xs other l n = tt
 
-placed_from : (shape : Shape) (who : ℕ) (xs es : List JobEntry) → Legal shape (xs ++ es) → AllMayCome shape who (acts_of who xs) (acts_of who es)
+placed_from : (shape : Shape) (who : ℕ) (xs es : List JobEntry) → Legal shape (xs ++ es)
+    → AllMayCome shape who (acts_of who xs) (acts_of who es)
 unfolding acts_of AllMayCome
 placed_from shape who xs [] l = tt
 placed_from shape who xs (e ∷ es) l =
@@ -94,9 +100,11 @@ placed_from shape who xs (e ∷ es) l =
     pushed : (b : Bool) → (e.who == who) ≡ b → acts_of who (xs ++ e ∷ []) ≡ acts_of who xs ++ (if b then e.act ∷ [] else [])
     pushed b k = acts_of-append who xs (e ∷ []) ∙ ap (λ c. acts_of who xs ++ (if c then e.act ∷ [] else [])) k
 
-    by_test : (b : Bool) → (e.who == who) ≡ b → AllMayCome shape who (acts_of who (xs ++ e ∷ [])) (acts_of who es) → AllMayCome shape who (acts_of who xs) (if b then e.act ∷ acts_of who es else acts_of who es)
+    by_test : (b : Bool) → (e.who == who) ≡ b → AllMayCome shape who (acts_of who (xs ++ e ∷ [])) (acts_of who es)
+        → AllMayCome shape who (acts_of who xs) (if b then e.act ∷ acts_of who es else acts_of who es)
     by_test true k more = (
-      one_placed shape who xs e.act (Legal-prefix shape xs (e ∷ es) l) (subst (λ n. Needs shape (replay xs) n e.act) (eqb-true e.who who k) needs),
+      one_placed shape who xs e.act (Legal-prefix shape xs (e ∷ es) l)
+          (subst (λ n. Needs shape (replay xs) n e.act) (eqb-true e.who who k) needs),
       subst (λ d. AllMayCome shape who d (acts_of who es)) (pushed true k) more,
     )
     by_test false k more = subst (λ d. AllMayCome shape who d (acts_of who es)) (pushed false k ∙ append-nil (acts_of who xs)) more
@@ -116,54 +124,78 @@ pub record OwnJobEntry (who : ℕ) (act : JobAct) (es : List JobEntry) : Type 0 
   pub is : entry.act ≡ act
 
 earlier : (who : ℕ) (act : JobAct) (e : JobEntry) (es : List JobEntry) → OwnJobEntry who act es → OwnJobEntry who act (e ∷ es)
-earlier who act e es h = record { before = e ∷ h.before; entry = h.entry; behind = h.behind; parts = ap (λ l. e ∷ l) h.parts; by = h.by; is = h.is }
+earlier who act e es h = record {
+  before = e ∷ h.before;
+  entry = h.entry;
+  behind = h.behind;
+  parts = ap (λ l. e ∷ l) h.parts;
+  by = h.by;
+  is = h.is;
+}
 
-pub own_entry : (who : ℕ) (es : List JobEntry) (before : List JobAct) (act : JobAct) (behind : List JobAct) → acts_of who es ≡ before ++ act ∷ behind → OwnJobEntry who act es
+pub own_entry : (who : ℕ) (es : List JobEntry) (before : List JobAct) (act : JobAct) (behind : List JobAct) → acts_of who es ≡ before
+    ++ act ∷ behind → OwnJobEntry who act es
 unfolding acts_of
 own_entry who [] [] act behind h = cc
 own_entry who [] (b ∷ bs) act behind h = cc
 own_entry who (e ∷ es) before act behind h = by_test (λ b m. own_entry who es b act behind m) (e.who == who) refl before h
   where
-    by_test : ((b : List JobAct) → acts_of who es ≡ b ++ act ∷ behind → OwnJobEntry who act es) → (b : Bool) → (e.who == who) ≡ b → (before : List JobAct) → (if b then e.act ∷ acts_of who es else acts_of who es) ≡ before ++ act ∷ behind → OwnJobEntry who act (e ∷ es)
-    by_test more true k [] h = record { before = []; entry = e; behind = es; parts = refl; by = eqb-true e.who who k; is = (let q : e.act ≡ act = cc in q) }
+    by_test : ((b : List JobAct) → acts_of who es ≡ b ++ act ∷ behind → OwnJobEntry who act es) → (b : Bool) → (e.who == who) ≡ b
+        → (before : List JobAct) → (if b then e.act ∷ acts_of who es else acts_of who es) ≡ before ++ act ∷ behind
+        → OwnJobEntry who act (e ∷ es)
+    by_test more true k [] h = record {
+      before = [];
+      entry = e;
+      behind = es;
+      parts = refl;
+      by = eqb-true e.who who k;
+      is =
+          (let q : e.act ≡ act = cc in q);
+    }
     by_test more true k (b ∷ bs) h = earlier who act e es (more bs (let q : acts_of who es ≡ bs ++ act ∷ behind = cc in q))
     by_test more false k before h = earlier who act e es (more before h)
 
 -- what is so of the Job of an Attach, and lasts
-pub attached_keeps : (P : Option Job → Type 0) → Lasts P → (shape : Shape) (jobs : List JobEntry) (who parent r : ℕ) (kind : JobKind) (tag : ℕ) (now : Bool) → Legal shape jobs → OwnJobEntry who (Attach parent r kind tag now) jobs → P (Some (new_child parent kind tag now)) → P (replay jobs r)
+pub attached_keeps : (P : Option Job → Type 0) → Lasts P
+    → (shape : Shape) (jobs : List JobEntry) (who parent r : ℕ) (kind : JobKind) (tag : ℕ) (now : Bool) → Legal shape jobs
+    → OwnJobEntry who (Attach parent r kind tag now) jobs → P (Some (new_child parent kind tag now)) → P (replay jobs r)
 attached_keeps P lasts shape jobs who parent r kind tag now l h is =
     let here : replay (h.before ++ h.entry ∷ []) r ≡ Some (new_child parent kind tag now) =
-    ap (λ (t : Tree). t r) (replay_push h.before h.entry) ∙ ap (λ a. after (replay h.before) h.entry.who a r) h.is ∙ attached_now (replay h.before) h.entry.who parent r kind tag now in
+    ap (λ (t : Tree). t r) (replay_push h.before h.entry) ∙ ap (λ a. after (replay h.before) h.entry.who a r) h.is
+    ∙ attached_now (replay h.before) h.entry.who parent r kind tag now in
     let longer : IsPrefix (h.before ++ h.entry ∷ []) jobs = (h.behind, append_assoc h.before (h.entry ∷ []) h.behind ∙ sym h.parts) in
     prefix_keeps P lasts shape (h.before ++ h.entry ∷ []) jobs r l longer (subst P (sym here) is)
 
 -- ---- attached rows are rows of the shape
 
-row_within : (shape : Shape) (who : ℕ) (kind : JobKind) (tag r : ℕ) → shape.coroutines ≤ shape.rows → tag < shape.coroutines → IsRowFor shape who kind tag r → r < shape.rows
+row_within : (shape : Shape) (who : ℕ) (kind : JobKind) (tag r : ℕ) → shape.coroutines ≤ shape.rows → tag < shape.coroutines
+    → IsRowFor shape who kind tag r → r < shape.rows
 row_within shape who kind tag r fit lt i = by_kind kind.scoped i
   where
     by_kind : (b : Bool) → MatchBool b ((tag ≡ who) × (shape.coroutines ≤ r) × (r < shape.rows)) (r ≡ tag) → r < shape.rows
     by_kind true m = m.2
     by_kind false m = omega (arith, m, fit, lt)
 
-act_within : (shape : Shape) (tree : Tree) (who r : ℕ) (act : JobAct) → shape.coroutines ≤ shape.rows → Needs shape tree who act → attaches r act ≡ true → r < shape.rows
-act_within shape tree who r (Attach p q kind tag now) fit n e = subst (λ z. z < shape.rows) (sym (eqb-true r q e)) (row_within shape who kind tag q fit n.2 n.3)
+act_within : (shape : Shape) (tree : Tree) (who r : ℕ) (act : JobAct) → shape.coroutines ≤ shape.rows → Needs shape tree who act
+    → attaches r act ≡ true → r < shape.rows
+act_within shape tree who r (Attach p q kind tag now) fit n e =
+    subst (λ z. z < shape.rows) (sym (eqb-true r q e)) (row_within shape who kind tag q fit n.2 n.3)
 act_within shape tree who r (Start q) fit n e = cc
-act_within shape tree who r (EndBody q v) fit n e = cc
-act_within shape tree who r (Cancel q reason) fit n e = cc
-act_within shape tree who r (Finish q end) fit n e = cc
-act_within shape tree who r (Gone q) fit n e = cc
+act_within shape tree who r other fit n e = cc
 
-has_within : (shape : Shape) (tree : Tree) (es : List JobEntry) (r : ℕ) → shape.coroutines ≤ shape.rows → LegalFrom shape tree es → has attaches r es ≡ true → r < shape.rows
+has_within : (shape : Shape) (tree : Tree) (es : List JobEntry) (r : ℕ) → shape.coroutines ≤ shape.rows → LegalFrom shape tree es
+    → has attaches r es ≡ true → r < shape.rows
 unfolding LegalFrom
 has_within shape tree [] r fit l h = cc
 has_within shape tree (e ∷ es) r fit l h = by_test (has_within shape (after tree e.who e.act) es r fit l.1) (attaches r e.act) refl h
   where
-    by_test : (has attaches r es ≡ true → r < shape.rows) → (b : Bool) → attaches r e.act ≡ b → (b || has attaches r es) ≡ true → r < shape.rows
+    by_test : (has attaches r es ≡ true → r < shape.rows) → (b : Bool) → attaches r e.act ≡ b → (b || has attaches r es) ≡ true
+        → r < shape.rows
     by_test more true k m = act_within shape tree e.who r e.act fit l.0 k
     by_test more false k m = more m
 
-pub attached_within : (shape : Shape) (jobs : List JobEntry) (r : ℕ) → IsShape shape → Legal shape jobs → is_some (replay jobs r) ≡ true → r < shape.rows
+pub attached_within : (shape : Shape) (jobs : List JobEntry) (r : ℕ) → IsShape shape → Legal shape jobs → is_some (replay jobs r) ≡ true
+    → r < shape.rows
 attached_within shape jobs r fits l h = by_test (r == 0) refl (sym (by_entries shape jobs r l).attached ∙ h)
   where
     by_test : (b : Bool) → (r == 0) ≡ b → (b || has attaches r jobs) ≡ true → r < shape.rows

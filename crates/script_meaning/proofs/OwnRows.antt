@@ -45,11 +45,7 @@ ended_after_body Completed b e = e
 
 not_both : (s : JobState) (b : Bool) → is_cancellable s ≡ true → (is_ended s && b) ≡ true → ⊥
 not_both New b c e = cc
-not_both Active b c e = cc
-not_both Completing b c e = cc
-not_both Cancelling b c e = cc
-not_both Cancelled b c e = cc
-not_both Completed b c e = cc
+not_both other b c e = cc
 
 new_not_ended : (s : JobState) (b : Bool) → s ≡ New → (is_ended s && b) ≡ true → ⊥
 new_not_ended s b e f = let k : (is_ended New && b) ≡ true = ap (λ t. is_ended t && b) (sym e) ∙ f in cc
@@ -64,11 +60,7 @@ ended_end (ends.Completed v) Cancelled false e = cc
 ended_end (ends.Completed v) Completed false e = cc
 ended_end (ends.Cancelled cause) s true e = refl
 ended_end (ends.Cancelled cause) New false e = cc
-ended_end (ends.Cancelled cause) Active false e = cc
-ended_end (ends.Cancelled cause) Completing false e = cc
-ended_end (ends.Cancelled cause) Cancelling false e = cc
-ended_end (ends.Cancelled cause) Cancelled false e = cc
-ended_end (ends.Cancelled cause) Completed false e = cc
+ended_end (ends.Cancelled cause) other false e = cc
 
 -- that it has ended by the failure of f
 pub failure_lasts : (f : ℕ) → Lasts (λ x. ended_by_failure f x ≡ true)
@@ -106,24 +98,23 @@ abbrev pub IsTagged : ℕ → Option Job → Type 0
 IsTagged q None = Unit {0}
 IsTagged q (Some j) = j.tag ≡ q
 
-row_tag : (shape : Shape) (who tag r : ℕ) (scoped : Bool) → MatchBool scoped ((tag ≡ who) × (shape.coroutines ≤ r) × (r < shape.rows)) (r ≡ tag) → r < shape.coroutines → tag ≡ r
+row_tag : (shape : Shape) (who tag r : ℕ) (scoped : Bool)
+    → MatchBool scoped ((tag ≡ who) × (shape.coroutines ≤ r) × (r < shape.rows)) (r ≡ tag) → r < shape.coroutines → tag ≡ r
 row_tag shape who tag r true h lt = absurd (omega (arith, h.1))
 row_tag shape who tag r false h lt = sym h
 
-tagged_step : (shape : Shape) (tree : Tree) (who q : ℕ) (act : JobAct) (x y : Option Job) → RowStep shape tree who q act x y → q < shape.coroutines → IsTagged q x → IsTagged q y
+tagged_step : (shape : Shape) (tree : Tree) (who q : ℕ) (act : JobAct) (x y : Option Job) → RowStep shape tree who q act x y
+    → q < shape.coroutines → IsTagged q x → IsTagged q y
 tagged_step shape tree who q _ _ _ (RowStep.is_attached p kind tag cancelled m i) lt h = row_tag shape who tag q kind.scoped i lt
 tagged_step shape tree who q _ _ _ (RowStep.has_child r kind tag cancelled j none m) lt h = h
-tagged_step shape tree who q _ _ _ (RowStep.is_started j n) lt h = h
-tagged_step shape tree who q _ _ _ (RowStep.body_ends v j m) lt h = h
-tagged_step shape tree who q _ _ _ (RowStep.is_cancelled reason j m o) lt h = h
-tagged_step shape tree who q _ _ _ (RowStep.ends end j m) lt h = h
-tagged_step shape tree who q _ _ _ (RowStep.is_told d j m p) lt h = h
-tagged_step shape tree who q _ _ _ (RowStep.stays act x a b c d f) lt h = h
+tagged_step shape tree who q _ _ _ other lt h = h
 
-tagged_from : (shape : Shape) (tree : Tree) (es : List JobEntry) (q : ℕ) → q < shape.coroutines → LegalFrom shape tree es → IsTagged q (tree q) → IsTagged q (replay_from tree es q)
+tagged_from : (shape : Shape) (tree : Tree) (es : List JobEntry) (q : ℕ) → q < shape.coroutines → LegalFrom shape tree es
+    → IsTagged q (tree q) → IsTagged q (replay_from tree es q)
 unfolding LegalFrom replay_from
 tagged_from shape tree [] q lt l h = h
-tagged_from shape tree (e ∷ es) q lt l h = tagged_from shape (after tree e.who e.act) es q lt l.1 (tagged_step shape tree e.who q e.act _ _ (row_step shape tree e.who e.act q l.0) lt h)
+tagged_from shape tree (e ∷ es) q lt l h = tagged_from shape (after tree e.who e.act) es q lt l.1
+    (tagged_step shape tree e.who q e.act _ _ (row_step shape tree e.who e.act q l.0) lt h)
 
 start_tagged : (q : ℕ) → IsTagged q (start q)
 start_tagged q = by_test (q == 0) refl
@@ -139,7 +130,8 @@ tag_known : (q : ℕ) (x : Option Job) → IsTagged q x → is_some x ≡ true �
 tag_known q None t a = cc
 tag_known q (Some j) t a = ap (λ n. Some n) t
 
-pub own_tag : (shape : Shape) (es : List JobEntry) (q : ℕ) → q < shape.coroutines → Legal shape es → is_some (replay es q) ≡ true → tag_of (replay es q) ≡ Some q
+pub own_tag : (shape : Shape) (es : List JobEntry) (q : ℕ) → q < shape.coroutines → Legal shape es → is_some (replay es q) ≡ true
+    → tag_of (replay es q) ≡ Some q
 own_tag shape es q lt l a = tag_known q (replay es q) (tag_is_row shape es q lt l) a
 
 -- ---- only the one with its tag ends the body of a Job
@@ -148,7 +140,8 @@ same_tag : (who n : ℕ) (x : Option Job) → MayEndBody n x → tag_of x ≡ So
 same_tag who n None m = absurd m
 same_tag who n (Some j) m = ap (λ t. Some t) m.0
 
-ender : (shape : Shape) (tree : Tree) (who r : ℕ) (act : JobAct) → Needs shape tree who act → ends_body r act ≡ true → tag_of (tree r) ≡ Some who
+ender : (shape : Shape) (tree : Tree) (who r : ℕ) (act : JobAct) → Needs shape tree who act → ends_body r act ≡ true
+    → tag_of (tree r) ≡ Some who
 ender shape tree who r (Attach p q kind tag cancelled) n e = cc
 ender shape tree who r (Start q) n e = cc
 ender shape tree who r (EndBody q v) n e = subst (λ z. tag_of (tree z) ≡ Some who) (sym (eqb-true r q e)) (same_tag who who (tree q) n)
@@ -156,7 +149,8 @@ ender shape tree who r (Cancel q reason) n e = cc
 ender shape tree who r (Finish q end) n e = cc
 ender shape tree who r (Gone q) n e = cc
 
-own_ends_from : (shape : Shape) (tree : Tree) (es : List JobEntry) (r who : ℕ) → LegalFrom shape tree es → tag_of (replay_from tree es r) ≡ Some who → has ends_body r es ≡ true → list_any (ends_body r) (acts_of who es) ≡ true
+own_ends_from : (shape : Shape) (tree : Tree) (es : List JobEntry) (r who : ℕ) → LegalFrom shape tree es
+    → tag_of (replay_from tree es r) ≡ Some who → has ends_body r es ≡ true → list_any (ends_body r) (acts_of who es) ≡ true
 unfolding LegalFrom replay_from acts_of
 own_ends_from shape tree [] r who l t e = cc
 own_ends_from shape tree (x ∷ es) r who l t e =
@@ -168,11 +162,14 @@ own_ends_from shape tree (x ∷ es) r who l t e =
 
     made_by : ends_body r x.act ≡ true → x.who ≡ who
     made_by f =
-        let there : tag_of (after tree x.who x.act r) ≡ Some x.who = act_keeps (λ z. tag_of z ≡ Some x.who) (tag_lasts x.who) shape tree x.who x.act r l.0 (ender shape tree x.who r x.act l.0 f) in
-        let last : tag_of (replay_from (after tree x.who x.act) es r) ≡ Some x.who = history_keeps (λ z. tag_of z ≡ Some x.who) (tag_lasts x.who) shape (after tree x.who x.act) es r l.1 there in
+        let there : tag_of (after tree x.who x.act r) ≡ Some x.who =
+        act_keeps (λ z. tag_of z ≡ Some x.who) (tag_lasts x.who) shape tree x.who x.act r l.0 (ender shape tree x.who r x.act l.0 f) in
+        let last : tag_of (replay_from (after tree x.who x.act) es r) ≡ Some x.who =
+        history_keeps (λ z. tag_of z ≡ Some x.who) (tag_lasts x.who) shape (after tree x.who x.act) es r l.1 there in
         let both : Some x.who ≡ Some who = sym last ∙ t in cc
 
-    by_test : (b : Bool) → ends_body r x.act ≡ b → (c : Bool) → (x.who == who) ≡ c → (b || has ends_body r es) ≡ true → (has ends_body r es ≡ true → list_any (ends_body r) (acts_of who es) ≡ true)
+    by_test : (b : Bool) → ends_body r x.act ≡ b → (c : Bool) → (x.who == who) ≡ c → (b || has ends_body r es) ≡ true
+        → (has ends_body r es ≡ true → list_any (ends_body r) (acts_of who es) ≡ true)
         → list_any (ends_body r) (if c then x.act ∷ acts_of who es else acts_of who es) ≡ true
     by_test true f true g a more = ap (λ d. d || list_any (ends_body r) (acts_of who es)) f
     by_test true f false g a more = absurd (let u : true ≡ false = sym (eq-eqb x.who who (made_by f)) ∙ g in cc)
@@ -180,7 +177,8 @@ own_ends_from shape tree (x ∷ es) r who l t e =
     by_test false f false g a more = more a
 
 -- whose acts do not end the body of its Job, that has not ended
-pub body_unended : (shape : Shape) (es : List JobEntry) (r who : ℕ) → Legal shape es → tag_of (replay es r) ≡ Some who → list_any (ends_body r) (acts_of who es) ≡ false → has_ended_body (replay es r) ≡ false
+pub body_unended : (shape : Shape) (es : List JobEntry) (r who : ℕ) → Legal shape es → tag_of (replay es r) ≡ Some who
+    → list_any (ends_body r) (acts_of who es) ≡ false → has_ended_body (replay es r) ≡ false
 body_unended shape es r who l t none = (by_entries shape es r l).bodiless ∙ by_test (has ends_body r es) refl
   where
     by_test : (b : Bool) → has ends_body r es ≡ b → b ≡ false
@@ -195,10 +193,12 @@ may_end : (who : ℕ) (x : Option Job) → tag_of x ≡ Some who → IsNotNew x 
 may_end who None t n o = cc
 may_end who (Some j) t n o = ((let e : j.tag ≡ who = cc in e), n, o)
 
-pub owns_body : (shape : Shape) (es : List JobEntry) (r who : ℕ) → Legal shape es → tag_of (replay es r) ≡ Some who → list_any (ends_body r) (acts_of who es) ≡ false → OwnsBody who (replay es r)
+pub owns_body : (shape : Shape) (es : List JobEntry) (r who : ℕ) → Legal shape es → tag_of (replay es r) ≡ Some who
+    → list_any (ends_body r) (acts_of who es) ≡ false → OwnsBody who (replay es r)
 owns_body shape es r who l t none = owns who (replay es r) t (body_unended shape es r who l t none)
 
-pub may_end_body : (shape : Shape) (es : List JobEntry) (r who : ℕ) → Legal shape es → tag_of (replay es r) ≡ Some who → IsNotNew (replay es r) → list_any (ends_body r) (acts_of who es) ≡ false → MayEndBody who (replay es r)
+pub may_end_body : (shape : Shape) (es : List JobEntry) (r who : ℕ) → Legal shape es → tag_of (replay es r) ≡ Some who
+    → IsNotNew (replay es r) → list_any (ends_body r) (acts_of who es) ≡ false → MayEndBody who (replay es r)
 may_end_body shape es r who l t n none = may_end who (replay es r) t n (body_unended shape es r who l t none)
 
 -- ---- not New
@@ -210,10 +210,7 @@ running_not_new (Some j) h = by_state j.state h
     by_state : (s : JobState) → is_active s ≡ true → is_new s ≡ false
     by_state New e = cc
     by_state Active e = refl
-    by_state Completing e = refl
-    by_state Cancelling e = refl
-    by_state Cancelled e = refl
-    by_state Completed e = refl
+    by_state other e = refl
 
 pub cancelling_not_new : (x : Option Job) → state_of x ≡ Some Cancelling → IsNotNew x
 cancelling_not_new None h = cc
@@ -238,48 +235,62 @@ front_empty [] ys e = refl
 front_empty (x ∷ xs) ys e = cc
 
 -- what is between two histories with the same acts of the caller has them too
-pub same_between : (who : ℕ) (xs ys zs : List JobEntry) → IsPrefix xs ys → IsPrefix ys zs → acts_of who zs ≡ acts_of who xs → acts_of who ys ≡ acts_of who xs
+pub same_between : (who : ℕ) (xs ys zs : List JobEntry) → IsPrefix xs ys → IsPrefix ys zs → acts_of who zs ≡ acts_of who xs
+    → acts_of who ys ≡ acts_of who xs
 same_between who xs ys zs p q e =
     let a : acts_of who ys ≡ acts_of who xs ++ acts_of who p.0 = ap (acts_of who) (sym p.1) ∙ acts_of-append who xs p.0 in
     let b : acts_of who zs ≡ acts_of who ys ++ acts_of who q.0 = ap (acts_of who) (sym q.1) ∙ acts_of-append who ys q.0 in
-    let c : acts_of who xs ++ (acts_of who p.0 ++ acts_of who q.0) ≡ acts_of who xs = sym (append_assoc (acts_of who xs) (acts_of who p.0) (acts_of who q.0)) ∙ ap (λ l. l ++ acts_of who q.0) (sym a) ∙ sym b ∙ e in
+    let c : acts_of who xs ++ (acts_of who p.0 ++ acts_of who q.0) ≡ acts_of who xs =
+    sym (append_assoc (acts_of who xs) (acts_of who p.0) (acts_of who q.0)) ∙ ap (λ l. l ++ acts_of who q.0) (sym a) ∙ sym b ∙ e in
     let d : acts_of who p.0 ≡ [] = front_empty (acts_of who p.0) (acts_of who q.0) (nothing_left (acts_of who xs) _ c) in
     a ∙ ap (λ l. acts_of who xs ++ l) d ∙ append-nil (acts_of who xs)
 
 -- ---- a body on a floor
 
 -- the body of a row of one's own, which one did not end at this moment
-row_unended : (who row : ℕ) (j : Floor) (shape : Shape) (at : List JobEntry) → shape ≡ j.shape → IsOwnRow who row j → Legal shape at → IsPrefix j.seen at → list_any (ends_body row) (acts_of who at) ≡ false → has_ended_body (replay at row) ≡ false
-row_unended who row j shape at same (IsOwnRow.own e lt) l p none = by_row (replay at row) refl (tag_is_row shape at row (subst (λ (s : Shape). row < s.coroutines) (sym same) (subst (λ z. z < j.shape.coroutines) (sym e) lt)) l)
+row_unended : (who row : ℕ) (j : Floor) (shape : Shape) (at : List JobEntry) → shape ≡ j.shape → IsOwnRow who row j → Legal shape at
+    → IsPrefix j.seen at → list_any (ends_body row) (acts_of who at) ≡ false → has_ended_body (replay at row) ≡ false
+row_unended who row j shape at same (IsOwnRow.own e lt) l p none =
+    by_row (replay at row) refl (tag_is_row shape at row (subst (λ (s : Shape). row < s.coroutines) (sym same)
+    (subst (λ z. z < j.shape.coroutines) (sym e) lt)) l)
   where
     by_row : (x : Option Job) → replay at row ≡ x → IsTagged row x → has_ended_body x ≡ false
     by_row None k t = refl
     by_row (Some q) k t = ap has_ended_body (sym k) ∙ body_unended shape at row who l (ap tag_of k ∙ ap (λ n. Some n) (t ∙ e)) none
-row_unended who row j shape at same (IsOwnRow.scope t) l p none = body_unended shape at row who l (prefix_keeps (λ x. tag_of x ≡ Some who) (tag_lasts who) shape j.seen at row l p t) none
+row_unended who row j shape at same (IsOwnRow.scope t) l p none =
+    body_unended shape at row who l (prefix_keeps (λ x. tag_of x ≡ Some who) (tag_lasts who) shape j.seen at row l p t) none
 
 -- at each moment of a look the body has not ended
-pub body_at_moment : (who row : ℕ) (a b : Floor) (m : List JobEntry) → Legal b.shape b.seen → HasBodyAt who row a → Looked who [] a b → IsPrefix a.seen m → IsPrefix m b.seen → has_ended_body (replay m row) ≡ false
+pub body_at_moment : (who row : ℕ) (a b : Floor) (m : List JobEntry) → Legal b.shape b.seen → HasBodyAt who row a → Looked who [] a b
+    → IsPrefix a.seen m → IsPrefix m b.seen → has_ended_body (replay m row) ≡ false
 body_at_moment who row a b m l h look p q =
     let mine : acts_of who m ≡ acts_of who a.seen = same_between who a.seen m b.seen p q look.mine in
-    row_unended who row a b.shape m look.same.shape h.whose (Legal-prefix b.shape m q.0 (rw q.1 l)) p (ap (list_any (ends_body row)) mine ∙ h.not_ended)
+    row_unended who row a b.shape m look.same.shape h.whose (Legal-prefix b.shape m q.0 (rw q.1 l)) p (ap (list_any (ends_body row)) mine
+    ∙ h.not_ended)
 
 pub body_here : (who row : ℕ) (j : Floor) → Legal j.shape j.seen → HasBodyAt who row j → has_ended_body (replay j.seen row) ≡ false
 body_here who row j l h = row_unended who row j j.shape j.seen refl h.whose l ([], append-nil j.seen) h.not_ended
 
-not_bodiless : (x : Option Job) (v : JobView) → IsSoundRow x → has_ended_body x ≡ false → option_map view_of x ≡ Some v → is_bodiless v.state ≡ true → ⊥
+not_bodiless : (x : Option Job) (v : JobView) → IsSoundRow x → has_ended_body x ≡ false → option_map view_of x ≡ Some v
+    → is_bodiless v.state ≡ true → ⊥
 not_bodiless None v s o e b = cc
-not_bodiless (Some j) v s o e b = let same : view_of j ≡ v = cc in let u : true ≡ false = sym (s.bodiless (ap (λ (w : JobView). is_bodiless w.state) same ∙ b)) ∙ o in cc
+not_bodiless (Some j) v s o e b = let same : view_of j ≡ v = cc
+    in let u : true ≡ false = sym (s.bodiless (ap (λ (w : JobView). is_bodiless w.state) same ∙ b)) ∙ o in cc
 
 -- a Job whose body has not ended is not seen Completing or ended
-pub never_bodiless : (who row : ℕ) (v : JobView) (a b : Floor) → Legal b.shape b.seen → HasBodyAt who row a → LookAnswer who row a b (Some v) → is_bodiless v.state ≡ true → ⊥
+pub never_bodiless : (who row : ℕ) (v : JobView) (a b : Floor) → Legal b.shape b.seen → HasBodyAt who row a
+    → LookAnswer who row a b (Some v) → is_bodiless v.state ≡ true → ⊥
 never_bodiless who row v a b l h look e =
     let m = look.1 in
-    not_bodiless (replay m.moment row) v ((replay_families b.shape m.moment (Legal-prefix b.shape m.moment m.before.0 (rw m.before.1 l))).rows row) (body_at_moment who row a b m.moment l h look.0 m.after m.before) m.holds e
+    not_bodiless (replay m.moment row) v ((replay_families b.shape m.moment
+    (Legal-prefix b.shape m.moment m.before.0 (rw m.before.1 l))).rows row)
+    (body_at_moment who row a b m.moment l h look.0 m.after m.before) m.holds e
 
 bodiless_one : (s : JobState) → (s ≡ Completing) ⊎ ((s ≡ Cancelled) ⊎ (s ≡ Completed)) → is_bodiless s ≡ true
 bodiless_one s h = ⊎_elim (λ e. ap is_bodiless e) (λ q. ⊎_elim (λ e. ap is_bodiless e) (λ e. ap is_bodiless e) q) h
 
-pub never_ended : (who row : ℕ) (v : JobView) (a b : Floor) → Legal b.shape b.seen → HasBodyAt who row a → LookAnswer who row a b (Some v) → (v.state ≡ Completing) ⊎ ((v.state ≡ Cancelled) ⊎ (v.state ≡ Completed)) → ⊥
+pub never_ended : (who row : ℕ) (v : JobView) (a b : Floor) → Legal b.shape b.seen → HasBodyAt who row a → LookAnswer who row a b (Some v)
+    → (v.state ≡ Completing) ⊎ ((v.state ≡ Cancelled) ⊎ (v.state ≡ Completed)) → ⊥
 never_ended who row v a b l h look e = never_bodiless who row v a b l h look (bodiless_one v.state e)
 
 ended_bodiless : (s : JobState) → is_ended s ≡ true → is_bodiless s ≡ true

@@ -38,11 +38,13 @@ none_is (Some outcome) h = cc
 
 pub unsettled_by_test : (who : ℕ) (x : Option Wait) → is_unsettled_of who x ≡ true → IsUnsettledOf who x
 unsettled_by_test who None h = cc
-unsettled_by_test who (Some x) h = let p = both_true (x.owner == who) (is_none x.settled) h in (eqb-true x.owner who p.0, none_is x.settled p.1)
+unsettled_by_test who (Some x) h = let p = both_true (x.owner == who) (is_none x.settled) h
+    in (eqb-true x.owner who p.0, none_is x.settled p.1)
 
 pub unsettled_passes : (who : ℕ) (x : Option Wait) → IsUnsettledOf who x → is_unsettled_of who x ≡ true
 unsettled_passes who None h = absurd h
-unsettled_passes who (Some x) h = and_true (x.owner == who) (is_none x.settled) (subst (λ n. (n == who) ≡ true) (sym h.0) (same_number who)) (ap is_none h.1)
+unsettled_passes who (Some x) h = and_true (x.owner == who) (is_none x.settled) (subst (λ n. (n == who) ≡ true) (sym h.0) (same_number who))
+    (ap is_none h.1)
 
 -- ---- what an act of the owner leaves
 
@@ -69,7 +71,9 @@ unsettled_after w b (a ∷ acts) = unsettled_after w (unsettled_by w a b) acts
 
 -- ---- changes of one wait
 
-same_there : (who : ℕ) (waits : WaitId → Option Wait) (w v : WaitId) (f : Option Wait → Option Wait) → ((x : Option Wait) → is_unsettled_of who (f x) ≡ is_unsettled_of who x) → is_unsettled_of who (put_wait w (f (waits w)) waits v) ≡ is_unsettled_of who (waits v)
+same_there : (who : ℕ) (waits : WaitId → Option Wait) (w v : WaitId) (f : Option Wait → Option Wait)
+    → ((x : Option Wait) → is_unsettled_of who (f x) ≡ is_unsettled_of who x)
+    → is_unsettled_of who (put_wait w (f (waits w)) waits v) ≡ is_unsettled_of who (waits v)
 same_there who waits w v f k = by_test (same_wait w v) refl
   where
     by_test : (b : Bool) → same_wait w v ≡ b → is_unsettled_of who (if b then f (waits w) else waits v) ≡ is_unsettled_of who (waits v)
@@ -80,22 +84,27 @@ resolved_same : (who : ℕ) (how : Resolution) (x : Option Wait) → is_unsettle
 resolved_same who how None = refl
 resolved_same who how (Some x) = refl
 
-by_resolve : (who : ℕ) (w v : WaitId) (how : Resolution) (s : State) → is_unsettled_of who ((resolve w how s).waits v) ≡ is_unsettled_of who (s.waits v)
+by_resolve : (who : ℕ) (w v : WaitId) (how : Resolution) (s : State)
+    → is_unsettled_of who ((resolve w how s).waits v) ≡ is_unsettled_of who (s.waits v)
 by_resolve who w v how s = same_there who s.waits w v (resolved_wait how) (resolved_same who how)
 
-by_first : (who : ℕ) (v : WaitId) (rs : List Receiver) (how : ℕ → Resolution) (s : State) → is_unsettled_of who ((resolve_first rs how s).waits v) ≡ is_unsettled_of who (s.waits v)
+by_first : (who : ℕ) (v : WaitId) (rs : List Receiver) (how : ℕ → Resolution) (s : State)
+    → is_unsettled_of who ((resolve_first rs how s).waits v) ≡ is_unsettled_of who (s.waits v)
 by_first who v [] how s = refl
 by_first who v (r ∷ rs) how s = by_resolve who r.party.wait v (how r.party.clause) s
 
-by_holder : (who : ℕ) (v : WaitId) (p : Option Party) (how : ℕ → Resolution) (s : State) → is_unsettled_of who ((resolve_holder p how s).waits v) ≡ is_unsettled_of who (s.waits v)
+by_holder : (who : ℕ) (v : WaitId) (p : Option Party) (how : ℕ → Resolution) (s : State)
+    → is_unsettled_of who ((resolve_holder p how s).waits v) ≡ is_unsettled_of who (s.waits v)
 by_holder who v None how s = refl
 by_holder who v (Some p) how s = by_resolve who p.wait v (how p.clause) s
 
-by_offer : (who : ℕ) (v : WaitId) (c : ℕ) (os : List Standing) (how : ℕ → Resolution) (s : State) → is_unsettled_of who ((resolve_offer c os how s).waits v) ≡ is_unsettled_of who (s.waits v)
+by_offer : (who : ℕ) (v : WaitId) (c : ℕ) (os : List Standing) (how : ℕ → Resolution) (s : State)
+    → is_unsettled_of who ((resolve_offer c os how s).waits v) ≡ is_unsettled_of who (s.waits v)
 by_offer who v c [] how s = refl
 by_offer who v c (o ∷ os) how s = by_holder who v o.holder how (with_queue c os s)
 
-by_removal : (who : ℕ) (v : WaitId) (c : ℕ) (os : List Standing) (s : State) → is_unsettled_of who ((remove_first c os s).waits v) ≡ is_unsettled_of who (s.waits v)
+by_removal : (who : ℕ) (v : WaitId) (c : ℕ) (os : List Standing) (s : State)
+    → is_unsettled_of who ((remove_first c os s).waits v) ≡ is_unsettled_of who (s.waits v)
 by_removal who v c [] s = refl
 by_removal who v c (o ∷ os) s = refl
 
@@ -115,26 +124,33 @@ named_by_other n who k c (Some x) apart = refl
 -- an earlier wait that gets a clause more is unsettled
 joined : (who k c : ℕ) (x : Option Wait) → JoinsWait who k c x → is_unsettled_of who (name_clause who k c x) ≡ true
 joined who k c None h = absurd h
-joined who k c (Some x) h = and_true (x.owner == who) (is_none x.settled) (subst (λ n. (n == who) ≡ true) (sym h.own) (same_number who)) (ap is_none h.unsettled)
+joined who k c (Some x) h = and_true (x.owner == who) (is_none x.settled) (subst (λ n. (n == who) ≡ true) (sym h.own) (same_number who))
+    (ap is_none h.unsettled)
 
 begun : (who k c : ℕ) (x : Option Wait) → x ≡ None → is_unsettled_of who (name_clause who k c x) ≡ true
 begun who k c None e = ap (λ b. b && true) (same_number who)
 begun who k c (Some x) e = cc
 
-named_by_own : (who k c p places : ℕ) (w : WaitId) (s : State) → Placed s → HasPlace places p (s.channels c) → MayName who k c p w s → is_unsettled_of who (name_clause who k c (s.waits w)) ≡ true
+named_by_own : (who k c p places : ℕ) (w : WaitId) (s : State) → Placed s → HasPlace places p (s.channels c) → MayName who k c p w s
+    → is_unsettled_of who (name_clause who k c (s.waits w)) ≡ true
 named_by_own who k c p places w s placed has may = by_test (same_wait w (record { channel = c; place = p })) refl may
   where
-    by_test : (b : Bool) → same_wait w (record { channel = c; place = p }) ≡ b → MatchBool b (k ≤ 7) (JoinsWait who k c (s.waits w)) → is_unsettled_of who (name_clause who k c (s.waits w)) ≡ true
+    by_test : (b : Bool) → same_wait w (record { channel = c; place = p }) ≡ b → MatchBool b (k ≤ 7) (JoinsWait who k c (s.waits w))
+        → is_unsettled_of who (name_clause who k c (s.waits w)) ≡ true
     by_test true e m =
         let q : w ≡ record { channel = c; place = p } = same_wait-eq w _ e in
         let first : p ≡ (s.channels c).next = has.first in
-        begun who k c (s.waits w) (subst (λ (u : WaitId). s.waits u ≡ None) (sym q) (placed (record { channel = c; place = p }) (omega (arith, first))))
+        begun who k c (s.waits w) (subst (λ (u : WaitId). s.waits u ≡ None) (sym q)
+        (placed (record { channel = c; place = p }) (omega (arith, first))))
     by_test false e m = joined who k c (s.waits w) m
 
-own_named : (who k c p places : ℕ) (w v : WaitId) (s : State) → Placed s → HasPlace places p (s.channels c) → MayName who k c p w s → is_unsettled_of who (put_wait w (name_clause who k c (s.waits w)) s.waits v) ≡ (if same_wait w v then true else is_unsettled_of who (s.waits v))
+own_named : (who k c p places : ℕ) (w v : WaitId) (s : State) → Placed s → HasPlace places p (s.channels c) → MayName who k c p w s
+    → is_unsettled_of who (put_wait w (name_clause who k c (s.waits w)) s.waits v) ≡
+    (if same_wait w v then true else is_unsettled_of who (s.waits v))
 own_named who k c p places w v s placed has may = by_test (same_wait w v)
   where
-    by_test : (b : Bool) → is_unsettled_of who (if b then name_clause who k c (s.waits w) else s.waits v) ≡ (if b then true else is_unsettled_of who (s.waits v))
+    by_test : (b : Bool) → is_unsettled_of who (if b then name_clause who k c (s.waits w) else s.waits v) ≡
+        (if b then true else is_unsettled_of who (s.waits v))
     by_test true = named_by_own who k c p places w s placed has may
     by_test false = refl
 
@@ -144,10 +160,13 @@ settled_by_own : (who : ℕ) (outcome : Settled) (x : Option Wait) → is_unsett
 settled_by_own who outcome None = refl
 settled_by_own who outcome (Some x) = elim (x.owner == who) as (λ b. (b && false) ≡ false) [ true ↦ refl | false ↦ refl ]
 
-own_settled : (who : ℕ) (outcome : Settled) (w v : WaitId) (s : State) → is_unsettled_of who (put_wait w (settled_wait outcome (s.waits w)) s.waits v) ≡ (if same_wait w v then false else is_unsettled_of who (s.waits v))
+own_settled : (who : ℕ) (outcome : Settled) (w v : WaitId) (s : State)
+    → is_unsettled_of who (put_wait w (settled_wait outcome (s.waits w)) s.waits v) ≡
+    (if same_wait w v then false else is_unsettled_of who (s.waits v))
 own_settled who outcome w v s = by_test (same_wait w v)
   where
-    by_test : (b : Bool) → is_unsettled_of who (if b then settled_wait outcome (s.waits w) else s.waits v) ≡ (if b then false else is_unsettled_of who (s.waits v))
+    by_test : (b : Bool) → is_unsettled_of who (if b then settled_wait outcome (s.waits w) else s.waits v) ≡
+        (if b then false else is_unsettled_of who (s.waits v))
     by_test true = settled_by_own who outcome (s.waits w)
     by_test false = refl
 
@@ -155,22 +174,27 @@ not_mine : (n who : ℕ) (outcome : Settled) (x : Option Wait) → n ≢ who →
 not_mine n who outcome None apart m = refl
 not_mine n who outcome (Some x) apart m = not_other x.owner who (is_none x.settled) (λ e. apart (sym m.0 ∙ e))
 
-settled_by_other : (n who : ℕ) (outcome : Settled) (w v : WaitId) (s : State) → n ≢ who → MaySettle n outcome (s.waits w) → is_unsettled_of who (put_wait w (settled_wait outcome (s.waits w)) s.waits v) ≡ is_unsettled_of who (s.waits v)
+settled_by_other : (n who : ℕ) (outcome : Settled) (w v : WaitId) (s : State) → n ≢ who → MaySettle n outcome (s.waits w)
+    → is_unsettled_of who (put_wait w (settled_wait outcome (s.waits w)) s.waits v) ≡ is_unsettled_of who (s.waits v)
 settled_by_other n who outcome w v s apart m = by_test (same_wait w v) refl
   where
-    by_test : (b : Bool) → same_wait w v ≡ b → is_unsettled_of who (if b then settled_wait outcome (s.waits w) else s.waits v) ≡ is_unsettled_of who (s.waits v)
-    by_test true e = settled_by_own who outcome (s.waits w) ∙ sym (not_mine n who outcome (s.waits w) apart m) ∙ ap (λ u. is_unsettled_of who (s.waits u)) (same_wait-eq w v e)
+    by_test : (b : Bool) → same_wait w v ≡ b → is_unsettled_of who (if b then settled_wait outcome (s.waits w) else s.waits v) ≡
+        is_unsettled_of who (s.waits v)
+    by_test true e = settled_by_own who outcome (s.waits w) ∙ sym (not_mine n who outcome (s.waits w) apart m)
+        ∙ ap (λ u. is_unsettled_of who (s.waits u)) (same_wait-eq w v e)
     by_test false e = refl
 
 -- ---- one act
 
-own_act : (shape : Shape) (s : State) (who : ℕ) (act : Act) (v : WaitId) → Placed s → Needs shape s who act → is_unsettled_of who ((after s who act).waits v) ≡ unsettled_by v act (is_unsettled_of who (s.waits v))
+own_act : (shape : Shape) (s : State) (who : ℕ) (act : Act) (v : WaitId) → Placed s → Needs shape s who act
+    → is_unsettled_of who ((after s who act).waits v) ≡ unsettled_by v act (is_unsettled_of who (s.waits v))
 own_act shape s who (Hand c p x) v h n = by_first who v (s.channels c).receivers _ s
 own_act shape s who (Put c p x) v h n = refl
 own_act shape s who (Offer c p x w k) v h n = own_named who k c p _ w v s h n.1 n.4
 own_act shape s who (Await c p w k) v h n = own_named who k c p _ w v s h n.1 n.3
 own_act shape s who (Take c p x) v h n = by_offer who v c (s.channels c).queue _ s
-own_act shape s who (Admit c p) v h n = by_holder who v (holder_at p (s.channels c).queue) _ (with_queue c (admitted p (s.channels c).queue) s)
+own_act shape s who (Admit c p) v h n = by_holder who v (holder_at p (s.channels c).queue) _
+    (with_queue c (admitted p (s.channels c).queue) s)
 own_act shape s who (Drop c p x) v h n = by_removal who v c (s.channels c).queue s
 own_act shape s who (Spurn c p x) v h n = refl
 own_act shape s who (Close c x) v h n = refl
@@ -180,13 +204,15 @@ own_act shape s who (WakeClosed c p) v h n = by_first who v (s.channels c).recei
 own_act shape s who (Withdraw w why) v h n = by_resolve who w v _ s
 own_act shape s who (Settle w outcome) v h n = own_settled who outcome w v s
 
-other_act : (shape : Shape) (s : State) (m who : ℕ) (act : Act) (v : WaitId) → m ≢ who → Needs shape s m act → is_unsettled_of who ((after s m act).waits v) ≡ is_unsettled_of who (s.waits v)
+other_act : (shape : Shape) (s : State) (m who : ℕ) (act : Act) (v : WaitId) → m ≢ who → Needs shape s m act
+    → is_unsettled_of who ((after s m act).waits v) ≡ is_unsettled_of who (s.waits v)
 other_act shape s m who (Hand c p x) v apart n = by_first who v (s.channels c).receivers _ s
 other_act shape s m who (Put c p x) v apart n = refl
 other_act shape s m who (Offer c p x w k) v apart n = same_there who s.waits w v (name_clause m k c) (λ y. named_by_other m who k c y apart)
 other_act shape s m who (Await c p w k) v apart n = same_there who s.waits w v (name_clause m k c) (λ y. named_by_other m who k c y apart)
 other_act shape s m who (Take c p x) v apart n = by_offer who v c (s.channels c).queue _ s
-other_act shape s m who (Admit c p) v apart n = by_holder who v (holder_at p (s.channels c).queue) _ (with_queue c (admitted p (s.channels c).queue) s)
+other_act shape s m who (Admit c p) v apart n = by_holder who v (holder_at p (s.channels c).queue) _
+    (with_queue c (admitted p (s.channels c).queue) s)
 other_act shape s m who (Drop c p x) v apart n = by_removal who v c (s.channels c).queue s
 other_act shape s m who (Spurn c p x) v apart n = refl
 other_act shape s m who (Close c x) v apart n = refl
@@ -198,20 +224,26 @@ other_act shape s m who (Settle w outcome) v apart n = settled_by_other m who ou
 
 -- ---- histories
 
-unsettled_from : (shape : Shape) (who : ℕ) (v : WaitId) (s : State) (es : List Entry) → Placed s → LegalFrom shape s es → is_unsettled_of who ((replay_from s es).waits v) ≡ unsettled_after v (is_unsettled_of who (s.waits v)) (acts_of who es)
+unsettled_from : (shape : Shape) (who : ℕ) (v : WaitId) (s : State) (es : List Entry) → Placed s → LegalFrom shape s es
+    → is_unsettled_of who ((replay_from s es).waits v) ≡ unsettled_after v (is_unsettled_of who (s.waits v)) (acts_of who es)
 unfolding LegalFrom replay_from acts_of unsettled_after
 unsettled_from shape who v s [] h l = refl
-unsettled_from shape who v s (e ∷ es) h l = unsettled_from shape who v (after s e.who e.act) es (placed_after shape s e.who e.act l.0 h) l.1 ∙ by_test (e.who == who) refl
+unsettled_from shape who v s (e ∷ es) h l = unsettled_from shape who v (after s e.who e.act) es (placed_after shape s e.who e.act l.0 h) l.1
+    ∙ by_test (e.who == who) refl
   where
-    by_test : (b : Bool) → (e.who == who) ≡ b → unsettled_after v (is_unsettled_of who ((after s e.who e.act).waits v)) (acts_of who es) ≡ unsettled_after v (is_unsettled_of who (s.waits v)) (if b then e.act ∷ acts_of who es else acts_of who es)
+    by_test : (b : Bool) → (e.who == who) ≡ b → unsettled_after v (is_unsettled_of who ((after s e.who e.act).waits v)) (acts_of who es) ≡
+        unsettled_after v (is_unsettled_of who (s.waits v)) (if b then e.act ∷ acts_of who es else acts_of who es)
     by_test true q =
         let m : e.who ≡ who = eqb-true e.who who q in
-        ap (λ t. unsettled_after v t (acts_of who es)) (subst (λ n. is_unsettled_of n ((after s e.who e.act).waits v) ≡ unsettled_by v e.act (is_unsettled_of n (s.waits v))) m (own_act shape s e.who e.act v h l.0))
+        ap (λ t. unsettled_after v t (acts_of who es)) (subst
+        (λ n. is_unsettled_of n ((after s e.who e.act).waits v) ≡ unsettled_by v e.act (is_unsettled_of n (s.waits v))) m
+        (own_act shape s e.who e.act v h l.0))
     by_test false q = ap (λ t. unsettled_after v t (acts_of who es)) (other_act shape s e.who who e.act v (λ m. apart m) l.0)
       where
         apart : e.who ≡ who → ⊥
         apart m = let t : (who == who) ≡ false = ap (λ n. n == who) (sym m) ∙ q in let u = same_number who in cc
 
 -- after a legal history a wait of who is unsettled exactly where who's acts say so
-pub replay_unsettled : (shape : Shape) (who : ℕ) (v : WaitId) (es : List Entry) → Legal shape es → is_unsettled_of who ((replay es).waits v) ≡ unsettled_after v false (acts_of who es)
+pub replay_unsettled : (shape : Shape) (who : ℕ) (v : WaitId) (es : List Entry) → Legal shape es
+    → is_unsettled_of who ((replay es).waits v) ≡ unsettled_after v false (acts_of who es)
 replay_unsettled shape who v es l = unsettled_from shape who v start es start_placed l

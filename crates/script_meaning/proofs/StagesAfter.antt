@@ -9,8 +9,10 @@ use Rattle.script_meaning.specs.declared.stage.Stage.TheVariants.{Running, Waiti
 use Rattle.script_meaning.specs.Configs.{Config}
 use Rattle.script_meaning.specs.Lines.{After}
 
-pub after_stage : (test : Stage → Bool) → ((w : WaitId) → test (Waiting w) ≡ false) → ((failure : Option ℕ) → test (Unwinding failure) ≡ false) → test Running ≡ false → test SeesJob ≡ false
-    → (p : Program) (k : ℕ) (x : Config) (i : Instruction) (a : Answer) (y : Config) → test x.stage ≡ false → After p k x i a y → test y.stage ≡ false
+pub after_stage : (test : Stage → Bool) → ((w : WaitId) → test (Waiting w) ≡ false)
+    → ((failure : Option ℕ) → test (Unwinding failure) ≡ false) → test Running ≡ false → test SeesJob ≡ false
+    → (p : Program) (k : ℕ) (x : Config) (i : Instruction) (a : Answer) (y : Config) → test x.stage ≡ false → After p k x i a y
+    → test y.stage ≡ false
 after_stage test waits unwinds runs sees p k x _ _ _ o (After.waits i w) = waits w
 after_stage test waits unwinds runs sees p k x _ _ _ o (After.no_place i) = unwinds (Some k)
 after_stage test waits unwinds runs sees p k x _ _ _ o (After.sent c v) = runs

@@ -31,24 +31,22 @@ use Rattle.script_meaning.proofs.ScopesEntered.{attaches_then, AreLegal, legal_l
 
 begun_before : (k : ℕ) (before group all : List Told) → all ≡ before ++ group → HasBegun k before → HasBegun k all
 begun_before k before group all e (HasBegun.root z) = HasBegun.root z
-begun_before k before group all e (HasBegun.might_run xs ys f) = HasBegun.might_run xs (ys ++ group) (e ∙ ap (λ l. l ++ group) f ∙ append_assoc xs (on_jobs (MayRun k) ∷ ys) group)
-begun_before k before group all e (HasBegun.was_cancelling xs ys f) = HasBegun.was_cancelling xs (ys ++ group) (e ∙ ap (λ l. l ++ group) f ∙ append_assoc xs (saw k ∷ ys) group)
+begun_before k before group all e (HasBegun.might_run xs ys f) =
+    HasBegun.might_run xs (ys ++ group) (e ∙ ap (λ l. l ++ group) f ∙ append_assoc xs (on_jobs (MayRun k) ∷ ys) group)
+begun_before k before group all e (HasBegun.was_cancelling xs ys f) =
+    HasBegun.was_cancelling xs (ys ++ group) (e ∙ ap (λ l. l ++ group) f ∙ append_assoc xs (saw k ∷ ys) group)
 
 fresh_or : (s : Stage) → (s ≡ Fresh) ⊎ (is_fresh s ≡ false)
 fresh_or Fresh = inl refl
 fresh_or Running = inr refl
-fresh_or (Waiting w) = inr refl
-fresh_or SeesJob = inr refl
-fresh_or (Unwinding failure) = inr refl
-fresh_or (Leaving w) = inr refl
-fresh_or SeesScope = inr refl
-fresh_or Ended = inr refl
+fresh_or other = inr refl
 
 begins_begun : (p : Program) (k : ℕ) (group : List Told) (x : Config) → Begins p k group x → is_fresh x.stage ≡ false → HasBegun k group
 begins_begun p _ _ _ (Begins.root group x s) e = HasBegun.root refl
 begins_begun p _ _ _ (Begins.child k n) e = absurd (let no_way : ⊥ = cc in no_way)
 
-begun_now : (k : ℕ) (before group all : List Told) → all ≡ before ++ group → (group ≡ on_jobs (MayRun k) ∷ []) ⊎ (group ≡ saw k ∷ []) → HasBegun k all
+begun_now : (k : ℕ) (before group all : List Told) → all ≡ before ++ group → (group ≡ on_jobs (MayRun k) ∷ []) ⊎ (group ≡ saw k ∷ [])
+    → HasBegun k all
 begun_now k before group all e (inl h) = HasBegun.might_run before [] (e ∙ ap (λ l. before ++ l) h)
 begun_now k before group all e (inr h) = HasBegun.was_cancelling before [] (e ∙ ap (λ l. before ++ l) h)
 
@@ -62,7 +60,8 @@ reach_begun p k _ _ (Reaches.goes_on before group all x y r m e) f =
 
 -- ---- a body breaks off by its own failure, by that of a Job which it saw ended, or as cancelled
 
-goes_on_by : (p : Program) (k : ℕ) (x : Config) (i : Instruction) (a : Answer) (y : Config) (group : List Told) → x.stage ≡ Running → After p k x i a y → UnwindsBy k group y.stage
+goes_on_by : (p : Program) (k : ℕ) (x : Config) (i : Instruction) (a : Answer) (y : Config) (group : List Told) → x.stage ≡ Running
+    → After p k x i a y → UnwindsBy k group y.stage
 goes_on_by p k x _ _ _ group s (After.waits i w) = tt
 goes_on_by p k x _ _ _ group s (After.no_place i) = FailedBy.own refl
 goes_on_by p k x _ _ _ group s (After.sent c o) = tt
@@ -80,7 +79,8 @@ goes_on_by p k x _ _ _ group s After.looks_again = subst (UnwindsBy k group) (sy
 goes_on_by p k x _ _ _ group s (After.joined job v) = tt
 goes_on_by p k x _ _ _ group s (After.awaited job v) = tt
 
-resumes_by : (p : Program) (k : ℕ) (x : Config) (w : _) (i : Instruction) (a : Answer) (y : Config) (group : List Told) → x.stage ≡ Waiting w → After p k x i a y → UnwindsBy k group y.stage
+resumes_by : (p : Program) (k : ℕ) (x : Config) (w : _) (i : Instruction) (a : Answer) (y : Config) (group : List Told)
+    → x.stage ≡ Waiting w → After p k x i a y → UnwindsBy k group y.stage
 resumes_by p k x w _ _ _ group s (After.waits i v) = tt
 resumes_by p k x w _ _ _ group s (After.no_place i) = FailedBy.own refl
 resumes_by p k x w _ _ _ group s (After.sent c o) = tt
@@ -103,12 +103,14 @@ await_by k x row _ _ (AfterAwait.completed v) = tt
 await_by k x row _ _ AfterAwait.cancelled = tt
 await_by k x row _ _ (AfterAwait.failed f) = FailedBy.seen row [] [] refl
 
-scope_end_by : (k : ℕ) (x : Config) (s : InScope) (a : Answer) (y : Config) (group : List Told) → AtScopeEnd k x s a y → UnwindsBy k group y.stage
+scope_end_by : (k : ℕ) (x : Config) (s : InScope) (a : Answer) (y : Config) (group : List Told) → AtScopeEnd k x s a y
+    → UnwindsBy k group y.stage
 scope_end_by k x s _ _ group (AtScopeEnd.waits w) = tt
 scope_end_by k x s _ _ group (AtScopeEnd.closed v) = tt
 scope_end_by k x s _ _ group AtScopeEnd.no_place = FailedBy.own refl
 
-scope_by : (p : Program) (k : ℕ) (x : Config) (s : InScope) (end : End) (y : Config) → AfterScope p k x s end y → UnwindsBy k (saw_end s.row end ∷ []) y.stage
+scope_by : (p : Program) (k : ℕ) (x : Config) (s : InScope) (end : End) (y : Config) → AfterScope p k x s end y
+    → UnwindsBy k (saw_end s.row end ∷ []) y.stage
 scope_by p k x s _ _ (AfterScope.completed v e is) = tt
 scope_by p k x s _ _ AfterScope.cancelled = tt
 scope_by p k x s _ _ (AfterScope.failed f) = FailedBy.seen s.row [] [] refl
@@ -145,9 +147,11 @@ move_by p k _ _ _ (Move.breaks_scope x y s failure break g all a l e h c f q) = 
 move_by p k _ _ _ (Move.breaks x failure g s e h) = tt
 move_by p k _ _ _ (Move.ends x g s e h) = tt
 
-spawns_by : (p : Program) (blocks : List ℕ) (x : Config) (group : List Told) (y : Config) → UnwindsBy 0 [] x.stage → (x.stage ≡ Fresh) → Spawns p blocks x group y → (told : List Told) → UnwindsBy 0 told y.stage
+spawns_by : (p : Program) (blocks : List ℕ) (x : Config) (group : List Told) (y : Config) → UnwindsBy 0 [] x.stage → (x.stage ≡ Fresh)
+    → Spawns p blocks x group y → (told : List Told) → UnwindsBy 0 told y.stage
 spawns_by p _ _ _ _ h s (Spawns.done x) told = subst (UnwindsBy 0 told) (sym s) tt
-spawns_by p _ _ _ _ h s (Spawns.attaches block blocks x y now more rest) told = spawns_by p blocks (past_launch p block None x) more y h s rest told
+spawns_by p _ _ _ _ h s (Spawns.attaches block blocks x y now more rest) told =
+    spawns_by p blocks (past_launch p block None x) more y h s rest told
 spawns_by p _ _ _ _ h s (Spawns.refused block blocks x group g) told = FailedBy.own refl
 
 begins_by : (p : Program) (k : ℕ) (group : List Told) (x : Config) → Begins p k group x → UnwindsBy k group x.stage
@@ -156,7 +160,9 @@ begins_by p _ _ _ (Begins.child k n) = tt
 
 failed_later : (k : ℕ) (before group all : List Told) (f : ℕ) → all ≡ before ++ group → FailedBy k group f → FailedBy k all f
 failed_later k before group all f e (FailedBy.own z) = FailedBy.own z
-failed_later k before group all f e (FailedBy.seen row xs ys h) = FailedBy.seen row (before ++ xs) ys (e ∙ ap (λ l. before ++ l) h ∙ sym (append_assoc before xs (saw_end row (ends.Cancelled (because.Failure f)) ∷ ys)))
+failed_later k before group all f e (FailedBy.seen row xs ys h) =
+    FailedBy.seen row (before ++ xs) ys (e ∙ ap (λ l. before ++ l) h
+    ∙ sym (append_assoc before xs (saw_end row (ends.Cancelled (because.Failure f)) ∷ ys)))
 
 unwinds_later : (k : ℕ) (before group all : List Told) (s : Stage) → all ≡ before ++ group → UnwindsBy k group s → UnwindsBy k all s
 unwinds_later k before group all Fresh e h = tt
@@ -190,7 +196,8 @@ OldOrNew k i r x group = (slice_get x.rows i ≡ Some r) ⊎ AttachesForName k r
 old : (k i r : ℕ) (x y : Config) (group : List Told) → y.rows ≡ x.rows → slice_get y.rows i ≡ Some r → OldOrNew k i r x group
 old k i r x y group e h = inl (subst (λ rows. slice_get rows i ≡ Some r) e h)
 
-move_rows : (p : Program) (k i r : ℕ) (x : Config) (group : List Told) (y : Config) → Move p k x group y → slice_get y.rows i ≡ Some r → OldOrNew k i r x group
+move_rows : (p : Program) (k i r : ℕ) (x : Config) (group : List Told) (y : Config) → Move p k x group y → slice_get y.rows i ≡ Some r
+    → OldOrNew k i r x group
 move_rows p k i r _ _ _ (Move.runs x s) z = inl z
 move_rows p k i r _ _ _ (Move.never_runs x s) z = inl z
 move_rows p k i r _ _ _ (Move.calls x y l g a at h f) z = old k i r x y g (call_names p k x l a y f).0 z
@@ -205,7 +212,13 @@ move_rows p k i r _ _ _ (Move.stops_at_yield x at) z = inl z
 move_rows p k i r _ _ _ (Move.stops_at_join x job at) z = inl z
 move_rows p k i r _ _ _ (Move.launches x block how job now at) z =
     ⊎_elim
-    (λ (e : r ≡ x.free). inr (record { parent = innermost k x; lazy = is_lazy how; now = now; is = ap (λ q. did (Attach (innermost k x) q (child_kind (is_lazy how)) q now) ∷ []) (sym e) }))
+    (λ (e : r ≡ x.free). inr (record {
+      parent = innermost k x;
+      lazy = is_lazy how;
+      now = now;
+      is =
+          ap (λ q. did (Attach (innermost k x) q (child_kind (is_lazy how)) q now) ∷ []) (sym e);
+    }))
     (λ (e : slice_get x.rows i ≡ Some r). inl e)
     (named_or_old job x.free x.rows i r z)
 move_rows p k i r _ _ _ (Move.launch_refused x block how job g at h) z = inl z
@@ -244,8 +257,10 @@ unfolding items_in
 launched_now k r group h = ap (attaches_in r) h.is ∙ ap (λ b. b || false) (eq-eqb r r refl)
 
 -- each name means a row that the coroutine attached
-pub reach_rows : (p : Program) (k : ℕ) (told : List Told) (x : Config) (i r : ℕ) → Reaches p k told x → slice_get x.rows i ≡ Some r → attaches_in r told ≡ true
-reach_rows p k _ _ i r (Reaches.begins group x b) h = none_there i r (subst (λ rows. slice_get rows i ≡ Some r) (begins_rows p k group x b) h)
+pub reach_rows : (p : Program) (k : ℕ) (told : List Told) (x : Config) (i r : ℕ) → Reaches p k told x → slice_get x.rows i ≡ Some r
+    → attaches_in r told ≡ true
+reach_rows p k _ _ i r (Reaches.begins group x b) h = none_there i r
+    (subst (λ rows. slice_get rows i ≡ Some r) (begins_rows p k group x b) h)
 reach_rows p k _ _ i r (Reaches.goes_on before group all x y q m e) h =
     ap (attaches_in r) e ∙ attaches_then r before group
     ∙ ⊎_elim
@@ -253,13 +268,17 @@ reach_rows p k _ _ i r (Reaches.goes_on before group all x y q m e) h =
     (λ (f : AttachesForName k r group). or_true (attaches_in r before) (attaches_in r group) (launched_now k r group f))
     (move_rows p k i r x group y m h)
 
-launched_low : (shape : Shape) (k r : ℕ) (before group : List Told) → AttachesForName k r group → AllMayCome shape k (acts_told before) (acts_told group) → r < shape.coroutines
+launched_low : (shape : Shape) (k r : ℕ) (before group : List Told) → AttachesForName k r group
+    → AllMayCome shape k (acts_told before) (acts_told group) → r < shape.coroutines
 unfolding items_in
-launched_low shape k r before group h placed = (placed_first shape k (acts_told before) [] _ (subst (λ g. AllMayCome shape k (acts_told before) (acts_told g)) h.is placed)).2
+launched_low shape k r before group h placed = (placed_first shape k (acts_told before) [] _
+    (subst (λ g. AllMayCome shape k (acts_told before) (acts_told g)) h.is placed)).2
 
 -- and it is that of a coroutine
-pub reach_low : (p : Program) (k : ℕ) (shape : Shape) (told : List Told) (x : Config) (i r : ℕ) → AreLegal shape k told → Reaches p k told x → slice_get x.rows i ≡ Some r → r < shape.coroutines
-reach_low p k shape _ _ i r l (Reaches.begins group x b) h = none_there i r (subst (λ rows. slice_get rows i ≡ Some r) (begins_rows p k group x b) h)
+pub reach_low : (p : Program) (k : ℕ) (shape : Shape) (told : List Told) (x : Config) (i r : ℕ) → AreLegal shape k told → Reaches p k told x
+    → slice_get x.rows i ≡ Some r → r < shape.coroutines
+reach_low p k shape _ _ i r l (Reaches.begins group x b) h =
+    none_there i r (subst (λ rows. slice_get rows i ≡ Some r) (begins_rows p k group x b) h)
 reach_low p k shape _ _ i r l (Reaches.goes_on before group all x y q m e) h =
     let legal = subst (AreLegal shape k) e l in
     ⊎_elim

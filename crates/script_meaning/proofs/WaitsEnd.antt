@@ -47,26 +47,33 @@ signals_only (suc n) (suc c) = signals_only n c
 done_is_signal : (p : Program) (row : ℕ) → is_signal (kind_at (floor_shape p) (done_channel (base_of p) row)) ≡ true
 done_is_signal p row =
     let at : length (shape_of p) ≡ base_of p = length-map p.channels (λ (d : Declared). (d.kind, d.places)) in
-    ap (λ (e : Kind × ℕ). is_signal e.0) (get_or-append-at (shape_of p) (replicate (job_count p) (Signal, 1)) (base_of p) row at) ∙ signals_only (job_count p) row
+    ap (λ (e : Kind × ℕ). is_signal e.0) (get_or-append-at (shape_of p) (replicate (job_count p) (Signal, 1)) (base_of p) row at)
+    ∙ signals_only (job_count p) row
   where
     get_or-append-at : (xs ys : Shape) (n row : ℕ) → length xs ≡ n → get_or (xs ++ ys) (n + row) (Signal, 0) ≡ get_or ys row (Signal, 0)
-    get_or-append-at xs ys n row e = subst (λ m. get_or (xs ++ ys) (m + row) (Signal, 0) ≡ get_or ys row (Signal, 0)) e (get_or-append-add xs ys row (Signal, 0))
+    get_or-append-at xs ys n row e = subst (λ m. get_or (xs ++ ys) (m + row) (Signal, 0) ≡ get_or ys row (Signal, 0)) e
+        (get_or-append-add xs ys row (Signal, 0))
 
 -- ---- how a wait is seen to end
 
 -- the acts of what was told round one that was made
-acts_round : (before behind : List Told) (act : Act) → channel_acts_in (items_in (before ++ made act ∷ behind)) ≡ channel_acts_in (items_in before) ++ act ∷ channel_acts_in (items_in behind)
+acts_round : (before behind : List Told) (act : Act) → channel_acts_in (items_in (before ++ made act ∷ behind)) ≡
+    channel_acts_in (items_in before) ++ act ∷ channel_acts_in (items_in behind)
 unfolding items_in
-acts_round before behind act = ap channel_acts_in (items_in-append before (made act ∷ behind)) ∙ channel_acts_in-append (items_in before) (item.Channel (of_channel.Made act) ∷ items_in behind)
+acts_round before behind act = ap channel_acts_in (items_in-append before (made act ∷ behind))
+    ∙ channel_acts_in-append (items_in before) (item.Channel (of_channel.Made act) ∷ items_in behind)
 
 -- a wait that was told to begin ends at one of the clauses that it was told to have
-ends_as_placed : (shape : Shape) (IsClause : Bool → ℕ → ℕ → Type 0) (k : ℕ) (w : WaitId) (told : List Told) (now : List Entry) (outcome : Settled) → Placing IsClause w told → Legal shape now → acts_of k now ≡ channel_acts_in (items_in told) → outcome_at false ((replay now).waits w) ≡ Some outcome
+ends_as_placed : (shape : Shape) (IsClause : Bool → ℕ → ℕ
+    → Type 0) (k : ℕ) (w : WaitId) (told : List Told) (now : List Entry) (outcome : Settled) → Placing IsClause w told → Legal shape now
+    → acts_of k now ≡ channel_acts_in (items_in told) → outcome_at false ((replay now).waits w) ≡ Some outcome
     → EndsAtClause shape IsClause ⊥ outcome
 unfolding items_in
 ends_as_placed shape IsClause k w told now outcome h l acts e =
     ends_at_clause shape IsClause ⊥ ((replay now).waits w) outcome
     (begun_at_clause shape IsClause ⊥ k w now (channel_acts_in (items_in h.before)) h.first (channel_acts_in (items_in h.behind)) l
-    (acts ∙ ap (λ t. channel_acts_in (items_in t)) h.is ∙ acts_round h.before h.behind h.first) h.begins (acts_allowed IsClause w (made h.first ∷ h.behind) h.allowed))
+    (acts ∙ ap (λ t. channel_acts_in (items_in t)) h.is ∙ acts_round h.before h.behind h.first) h.begins
+    (acts_allowed IsClause w (made h.first ∷ h.behind) h.allowed))
     e
 
 -- ---- at a line
@@ -83,7 +90,8 @@ module _ (p : Program) (k : ℕ) (x : Config) where
   abbrev IsClosed : Instruction → Type 0
   IsClosed i = opens_lines i ≡ true → is_some (closing_of (code_of p k) x.line) ≡ true
 
-  by_value : (i : Instruction) (n c v : ℕ) → IsClosed i → is_signal (kind_at (floor_shape p) c) ≡ false → ClauseOf p k x i false n c → After p k x i (Got v) (after_value p k x v i)
+  by_value : (i : Instruction) (n c v : ℕ) → IsClosed i → is_signal (kind_at (floor_shape p) c) ≡ false → ClauseOf p k x i false n c
+      → After p k x i (Got v) (after_value p k x v i)
   by_value _ _ _ v o s (ClauseOf.receive c) = After.got c v
   by_value _ _ _ v o s (ClauseOf.each c) = After.got_one_more c v
   by_value _ _ _ v o s (ClauseOf.join job row n) = contrary _ (done_is_signal p row) s
@@ -109,10 +117,12 @@ module _ (p : Program) (k : ℕ) (x : Config) where
       let e = some_closing (closing_of (code_of p k) x.line) (o refl) in
       subst (λ m. After p k x line.Select (Closed v) (past m x)) (sym e.1) (After.chose_closed e.0 v e.1)
 
-  ends_by_line : (i : Instruction) (outcome : Settled) → IsClosed i → EndsAtClause (floor_shape p) (ClauseOf p k x i) ⊥ outcome → WaitEnds p k x i outcome
+  ends_by_line : (i : Instruction) (outcome : Settled) → IsClosed i → EndsAtClause (floor_shape p) (ClauseOf p k x i) ⊥ outcome
+      → WaitEnds p k x i outcome
   ends_by_line i (settled.Value n v) o h = WaitEnds.answered (settled.Value n v) (Got v) (Resumed.value n v) (by_value i n h.0 v o h.2 h.1)
   ends_by_line i (settled.Sent n) o h = WaitEnds.answered (settled.Sent n) Done (Resumed.sent n) (by_sent i n h.0 o h.1)
-  ends_by_line i (settled.Closed n v) o h = WaitEnds.answered (settled.Closed n v) (Closed v) (Resumed.closed n v) (by_closed i n h.0 v o h.1)
+  ends_by_line i (settled.Closed n v) o h = WaitEnds.answered (settled.Closed n v) (Closed v) (Resumed.closed n v)
+      (by_closed i n h.0 v o h.1)
   ends_by_line i settled.Cancelled o h = WaitEnds.taken_back
   ends_by_line i (settled.Undelivered v) o h = absurd h
 
@@ -120,21 +130,25 @@ same_some : (i j : Instruction) (o : Option Instruction) → o ≡ Some i → o 
 same_some i j o e f = let k : Some i ≡ Some j = sym e ∙ f in cc
 
 -- the wait ends with an answer of the line at which x is, or it was taken back
-pub wait_ends : (p : Program) (k : ℕ) (told : List Told) (x : Config) (w : WaitId) (i : Instruction) (now : List Entry) (outcome : Settled) → Reaches p k told x → x.stage ≡ Waiting w → LineIs p k x i → (opens_lines i ≡ true → is_some (closing_of (code_of p k) x.line) ≡ true)
-    → Legal (floor_shape p) now → acts_of k now ≡ channel_acts_in (items_in told) → outcome_at false ((replay now).waits w) ≡ Some outcome → WaitEnds p k x i outcome
+pub wait_ends : (p : Program) (k : ℕ) (told : List Told) (x : Config) (w : WaitId) (i : Instruction) (now : List Entry) (outcome : Settled)
+    → Reaches p k told x → x.stage ≡ Waiting w → LineIs p k x i → (opens_lines i ≡ true → is_some (closing_of (code_of p k) x.line) ≡ true)
+    → Legal (floor_shape p) now → acts_of k now ≡ channel_acts_in (items_in told) → outcome_at false ((replay now).waits w) ≡ Some outcome
+    → WaitEnds p k x i outcome
 wait_ends p k told x w i now outcome r s at closed l acts e =
     let h = reach_places p k told x w r s in
     let placing = subst (λ j. Placing (ClauseOf p k x j) w told) (same_some h.line i _ h.is at) h.placing in
     ends_by_line p k x i outcome closed (ends_as_placed (floor_shape p) (ClauseOf p k x i) k w told now outcome placing l acts e)
 
 -- behind it there is no wait
-pub after_wait_none : (p : Program) (k : ℕ) (x : Config) (i : Instruction) (outcome : Settled) → WaitEnds p k x i outcome → wait_of (after_wait p k x i outcome).stage ≡ None
+pub after_wait_none : (p : Program) (k : ℕ) (x : Config) (i : Instruction) (outcome : Settled) → WaitEnds p k x i outcome
+    → wait_of (after_wait p k x i outcome).stage ≡ None
 after_wait_none p k x i _ (WaitEnds.answered outcome a r f) = resumed_none p k x i outcome a (after_wait p k x i outcome) r f
 after_wait_none p k x i _ WaitEnds.taken_back = refl
 
 -- ---- at the end of a scope
 
-scope_ends : (p : Program) (x : Config) (outcome : Settled) → EndsAtClause (floor_shape p) (ScopeClause p x) ⊥ outcome → (v : ℕ) × (outcome ≡ settled.Closed 0 v)
+scope_ends : (p : Program) (x : Config) (outcome : Settled) → EndsAtClause (floor_shape p) (ScopeClause p x) ⊥ outcome → (v : ℕ)
+    × (outcome ≡ settled.Closed 0 v)
 scope_ends p x (settled.Value n v) h = by_clause n h.0 h.1 h.2
   where
     by_clause : {A : Type 0} (n c : ℕ) → ScopeClause p x false n c → is_signal (kind_at (floor_shape p) c) ≡ false → A
@@ -154,6 +168,9 @@ scope_ends p x settled.Cancelled h = ⊎_elim (λ u. absurd u) (λ u. by_clause 
 scope_ends p x (settled.Undelivered v) h = absurd h
 
 -- the wait ends as the done channel was closed
-pub scope_wait_ends : (p : Program) (k : ℕ) (told : List Told) (x : Config) (w : WaitId) (now : List Entry) (outcome : Settled) → Reaches p k told x → x.stage ≡ Leaving w
-    → Legal (floor_shape p) now → acts_of k now ≡ channel_acts_in (items_in told) → outcome_at false ((replay now).waits w) ≡ Some outcome → (v : ℕ) × (outcome ≡ settled.Closed 0 v)
-scope_wait_ends p k told x w now outcome r s l acts e = scope_ends p x outcome (ends_as_placed (floor_shape p) (ScopeClause p x) k w told now outcome (reach_leaves p k told x w r s) l acts e)
+pub scope_wait_ends : (p : Program) (k : ℕ) (told : List Told) (x : Config) (w : WaitId) (now : List Entry) (outcome : Settled)
+    → Reaches p k told x → x.stage ≡ Leaving w
+    → Legal (floor_shape p) now → acts_of k now ≡ channel_acts_in (items_in told) → outcome_at false ((replay now).waits w) ≡ Some outcome
+    → (v : ℕ) × (outcome ≡ settled.Closed 0 v)
+scope_wait_ends p k told x w now outcome r s l acts e =
+    scope_ends p x outcome (ends_as_placed (floor_shape p) (ScopeClause p x) k w told now outcome (reach_leaves p k told x w r s) l acts e)

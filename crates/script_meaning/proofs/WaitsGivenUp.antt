@@ -14,11 +14,7 @@ use Rattle.call_meaning.specs.ChannelCalls.{GivesUp, is_given_up}
 
 up_how : (how : Resolution) → is_given_up (outcome_of how true) ≡ true
 up_how (resolved.Handed n v) = refl
-up_how (resolved.Taken n) = refl
-up_how (resolved.Admitted n) = refl
-up_how (resolved.Closed n v) = refl
-up_how (resolved.Withdrawn why) = refl
-up_how resolved.Voided = refl
+up_how other = refl
 
 up_some : (how : Option Resolution) (outcome : Settled) → outcome_of_some true how ≡ Some outcome → is_given_up outcome ≡ true
 up_some None outcome e = cc

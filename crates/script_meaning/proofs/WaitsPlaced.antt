@@ -69,18 +69,22 @@ module _ (IsClause : Bool → ℕ → ℕ → Type 0) (w : WaitId) where
   one : (t : Told) → AllowsMaybe IsClause w (call_told t) → IsAllowed IsClause w (t ∷ [])
   one t h = cons t [] h nothing
 
-  mapped : {A : Type 0} (f : A → Told) (xs : List A) → ((x : A) → AllowsMaybe IsClause w (call_told (f x))) → IsAllowed IsClause w (map f xs)
+  mapped : {A : Type 0} (f : A → Told) (xs : List A) → ((x : A) → AllowsMaybe IsClause w (call_told (f x)))
+      → IsAllowed IsClause w (map f xs)
   mapped f [] h = nothing
   mapped f (x ∷ xs) h = cons (f x) (map f xs) (h x) (mapped f xs h)
 
   -- ---- groups that give it no clause
 
   of_admits : (c : ℕ) (g : List Told) → Admits c g → IsAllowed IsClause w g
-  of_admits c g h = same g _ h.all (cons _ _ tt (allowed_then (map (λ q. made (Admit c q)) h.places) _ (mapped (λ q. made (Admit c q)) h.places (λ q. tt)) (one _ tt)))
+  of_admits c g h =
+      same g _ h.all (cons _ _ tt (allowed_then (map (λ q. made (Admit c q)) h.places) _ (mapped (λ q. made (Admit c q)) h.places (λ q. tt))
+      (one _ tt)))
 
   of_admits_in : (calls : List Call) (g : List Told) → AdmitsIn calls g → IsAllowed IsClause w g
   of_admits_in _ _ AdmitsIn.none = nothing
-  of_admits_in _ _ (AdmitsIn.offered c v calls admits more all a h e) = same all _ e (allowed_then admits more (of_admits c admits a) (of_admits_in calls more h))
+  of_admits_in _ _ (AdmitsIn.offered c v calls admits more all a h e) =
+      same all _ e (allowed_then admits more (of_admits c admits a) (of_admits_in calls more h))
   of_admits_in _ _ (AdmitsIn.awaited c calls all h) = of_admits_in calls all h
 
   of_refused : (call : Call) (t : Told) (a : Answer) → Refused call t a → AllowsMaybe IsClause w (call_told t)
@@ -99,7 +103,8 @@ module _ (IsClause : Bool → ℕ → ℕ → Type 0) (w : WaitId) where
 
   -- ---- the acts
 
-  acts_then : (act : Option Act) (acts : List Act) → AllowsMaybe IsClause w act → AllAllowed IsClause ⊥ w acts → AllAllowed IsClause ⊥ w (act_list act ++ acts)
+  acts_then : (act : Option Act) (acts : List Act) → AllowsMaybe IsClause w act → AllAllowed IsClause ⊥ w acts
+      → AllAllowed IsClause ⊥ w (act_list act ++ acts)
   unfolding AllAllowed
   acts_then None acts h k = k
   acts_then (Some act) acts h k = (h, k)
@@ -107,7 +112,8 @@ module _ (IsClause : Bool → ℕ → ℕ → Type 0) (w : WaitId) where
   pub acts_allowed : (told : List Told) → IsAllowed IsClause w told → AllAllowed IsClause ⊥ w (channel_acts_in (items_in told))
   unfolding IsAllowed AllAllowed items_in
   acts_allowed [] h = tt
-  acts_allowed (note (item.Channel n) ∷ told) h = subst (λ l. AllAllowed IsClause ⊥ w (l ++ channel_acts_in (items_in told))) (sym (act_of_note n)) (acts_then (act_in_note n) (channel_acts_in (items_in told)) h.0 (acts_allowed told h.1))
+  acts_allowed (note (item.Channel n) ∷ told) h = subst (λ l. AllAllowed IsClause ⊥ w (l ++ channel_acts_in (items_in told)))
+      (sym (act_of_note n)) (acts_then (act_in_note n) (channel_acts_in (items_in told)) h.0 (acts_allowed told h.1))
   acts_allowed (note (item.Job n) ∷ told) h = acts_allowed told h.1
   acts_allowed (on_channels fact ∷ told) h = acts_allowed told h.1
   acts_allowed (on_jobs fact ∷ told) h = acts_allowed told h.1
@@ -152,24 +158,39 @@ refused_not _ _ _ w (Refused.receive c u) e = absurd (let n : ⊥ = cc in n)
 
 stops_not : {A : Type 0} (call : Call) (g : List Told) (a : Answer) (w : WaitId) → Stops call g a → a ≡ Waits w → A
 stops_not _ _ _ w (Stops.receiver c v q) e = absurd (let u : ⊥ = cc in u)
-stops_not _ _ _ w (Stops.offer c q) e = absurd (let u : ⊥ = cc in u)
-stops_not _ _ _ w (Stops.closed call t a h) e = absurd (let u : ⊥ = cc in u)
-stops_not _ _ _ w (Stops.no_place call all h) e = absurd (let u : ⊥ = cc in u)
+stops_not _ _ _ w other e = absurd (let u : ⊥ = cc in u)
 
 module _ (IsClause : Bool → ℕ → ℕ → Type 0) where
-  plain_places : (call : Call) (g : List Told) (a : Answer) (w : WaitId) → PlainCall call g a → a ≡ Waits w → IsOfCall IsClause 0 call → Placing IsClause w g
+  plain_places : (call : Call) (g : List Told) (a : Answer) (w : WaitId) → PlainCall call g a → a ≡ Waits w → IsOfCall IsClause 0 call
+      → Placing IsClause w g
   plain_places _ _ _ w (PlainCall.at_once call g a h) e f = once_not call g a w h e
   plain_places _ _ _ w (PlainCall.refused call t a h) e f = refused_not call t a w h e
   plain_places _ _ _ w (PlainCall.no_place call all h) e f = absurd (let u : ⊥ = cc in u)
   plain_places _ _ _ w (PlainCall.offers c v q admits h) e f =
       let same_w : wait_at c q ≡ w = cc in
       subst (λ u. Placing IsClause u (offer_told c v q admits)) same_w
-      (record { before = on_channels (WasFull c) ∷ []; first = Offer c q v (wait_at c q) 0; behind = admits; is = refl; begins = (refl, refl); allowed = cons IsClause (wait_at c q) _ admits (λ t. f) (of_admits IsClause (wait_at c q) c admits h) })
+      (record {
+        before = on_channels (WasFull c) ∷ [];
+        first = Offer c q v (wait_at c q) 0;
+        behind = admits;
+        is = refl;
+        begins =
+            (refl, refl);
+        allowed = cons IsClause (wait_at c q) _ admits (λ t. f) (of_admits IsClause (wait_at c q) c admits h);
+      })
   plain_places _ _ _ w (PlainCall.offer_ends c v q admits settles all h s is) e f = absurd (let u : ⊥ = cc in u)
   plain_places _ _ _ w (PlainCall.awaits c q) e f =
       let same_w : wait_at c q ≡ w = cc in
       subst (λ u. Placing IsClause u (made (Await c q (wait_at c q) 0) ∷ [])) same_w
-      (record { before = []; first = Await c q (wait_at c q) 0; behind = []; is = refl; begins = (refl, refl); allowed = one IsClause (wait_at c q) _ (λ t. f) })
+      (record {
+        before = [];
+        first = Await c q (wait_at c q) 0;
+        behind = [];
+        is = refl;
+        begins = (refl, refl);
+        allowed =
+            one IsClause (wait_at c q) _ (λ t. f);
+      })
 
   try_not : {A : Type 0} (call : Call) (g : List Told) (a : Answer) (w : WaitId) → TryCall call g a → a ≡ Waits w → A
   try_not _ _ _ w (TryCall.at_once call g a h) e = once_not call g a w h e
@@ -188,7 +209,8 @@ module _ (IsClause : Bool → ℕ → ℕ → Type 0) where
   placed_one w n q (receives c) f = λ t. f
 
   rest_clauses : (n : ℕ) (call : Call) (calls : List Call) → AreClauses n (call ∷ calls) → AreClauses (n + 1) calls
-  rest_clauses n call calls h j other e = subst (λ m. IsOfCall IsClause m other) (let m : n + suc j ≡ (n + 1) + j = omega arith in m) (h (suc j) other e)
+  rest_clauses n call calls h j other e = subst (λ m. IsOfCall IsClause m other) (let m : n + suc j ≡ (n + 1) + j = omega arith
+      in m) (h (suc j) other e)
 
   first_clause : (n : ℕ) (call : Call) (calls : List Call) → AreClauses n (call ∷ calls) → IsOfCall IsClause n call
   first_clause n call calls h = subst (λ m. IsOfCall IsClause m call) (let m : n + 0 ≡ n = omega arith in m) (h 0 call refl)
@@ -196,11 +218,14 @@ module _ (IsClause : Bool → ℕ → ℕ → Type 0) where
   of_places : (w : WaitId) (n : ℕ) (calls : List Call) (g : List Told) → Places w n calls g → AreClauses n calls → IsAllowed IsClause w g
   of_places w _ _ _ (Places.none n) h = nothing IsClause w
   of_places w _ _ _ (Places.one n q call calls more p) h =
-      cons IsClause w _ more (placed_one w n q call (first_clause n call calls h)) (of_places w (n + 1) calls more p (rest_clauses n call calls h))
+      cons IsClause w _ more (placed_one w n q call (first_clause n call calls h))
+      (of_places w (n + 1) calls more p (rest_clauses n call calls h))
 
   first_places : (w : WaitId) (g : List Told) → BeginsPlaces w g → IsAllowed IsClause w g → Placing IsClause w g
-  first_places _ _ (BeginsPlaces.send c v q more) h = record { before = []; first = Offer c q v (wait_at c q) 1; behind = more; is = refl; begins = (refl, refl); allowed = h }
-  first_places _ _ (BeginsPlaces.receive c q more) h = record { before = []; first = Await c q (wait_at c q) 1; behind = more; is = refl; begins = (refl, refl); allowed = h }
+  first_places _ _ (BeginsPlaces.send c v q more) h = record
+      { before = []; first = Offer c q v (wait_at c q) 1; behind = more; is = refl; begins = (refl, refl); allowed = h }
+  first_places _ _ (BeginsPlaces.receive c q more) h = record
+      { before = []; first = Await c q (wait_at c q) 1; behind = more; is = refl; begins = (refl, refl); allowed = h }
 
   of_first : (w : WaitId) (calls : List Call) (g : List Told) → PlacesFirst w calls g → AreClauses 1 calls → Placing IsClause w g
   of_first w calls g p h = first_places w g p.begins (of_places w 1 calls g p.places h)
@@ -213,20 +238,26 @@ module _ (IsClause : Bool → ℕ → ℕ → Type 0) where
   some_clauses : (calls before later : List Call) → calls ≡ before ++ later → AreClauses 1 calls → AreClauses 1 before
   some_clauses calls before later e h j call f = h j call (ap (λ l. slice_get l j) e ∙ there before later j call f)
 
-  behind_passed : (calls : List Call) (g all : List Told) (w : WaitId) → all ≡ map blocked calls ++ g → Placing IsClause w g → Placing IsClause w all
+  behind_passed : (calls : List Call) (g all : List Told) (w : WaitId) → all ≡ map blocked calls ++ g → Placing IsClause w g
+      → Placing IsClause w all
   behind_passed calls g all w e h = placing_behind IsClause w (map blocked calls) g all e h
 
-  select_places : (calls : List Call) (g : List Told) (a : Answer) (w : WaitId) → SelectCall calls g a → a ≡ Waits w → AreClauses 1 calls → Placing IsClause w g
+  select_places : (calls : List Call) (g : List Told) (a : Answer) (w : WaitId) → SelectCall calls g a → a ≡ Waits w → AreClauses 1 calls
+      → Placing IsClause w g
   select_places calls _ _ w (SelectCall.chooses before later call group all a f h e) q k = once_not call group a w h q
   select_places calls _ _ w (SelectCall.meets_close before later call t all a f h e) q k = refused_not call t a w h q
   select_places calls _ _ w (SelectCall.no_place before later c v all f e) q k = absurd (let u : ⊥ = cc in u)
   select_places calls _ _ w (SelectCall.waits u group admits all h d e) q k =
       let same_w : u ≡ w = cc in
-      subst (λ v. Placing IsClause v all) same_w (behind_passed calls (group ++ admits) all u e (placing_then IsClause u group admits _ refl (of_admits_in IsClause u calls admits d) (of_first u calls group h k)))
+      subst (λ v. Placing IsClause v all) same_w (behind_passed calls (group
+      ++ admits) all u e (placing_then IsClause u group admits _ refl (of_admits_in IsClause u calls admits d)
+      (of_first u calls group h k)))
   select_places calls _ _ w (SelectCall.resolved u before later call group admits all f h d e) q k =
       let same_w : u ≡ w = cc in
       subst (λ v. Placing IsClause v all) same_w
-      (behind_passed calls _ all u e (placing_then IsClause u group _ _ refl (cons IsClause u _ admits tt (of_admits_in IsClause u before admits d)) (of_first u before group h (some_clauses calls before (call ∷ later) f k))))
+      (behind_passed calls _ all u e (placing_then IsClause u group _ _ refl
+      (cons IsClause u _ admits tt (of_admits_in IsClause u before admits d))
+      (of_first u before group h (some_clauses calls before (call ∷ later) f k))))
   select_places calls _ _ w (SelectCall.stops_at_first later call stop all a f h e) q k = stops_not call stop a w h q
   select_places calls _ _ w (SelectCall.stops u before later call group stop admits all a f h s d e) q k = stops_not call stop a w s q
   select_places calls _ _ w (SelectCall.stops_late u before later call group stop admits all a f h s d e) q k =
@@ -234,17 +265,21 @@ module _ (IsClause : Bool → ℕ → ℕ → Type 0) where
       subst (λ v. Placing IsClause v all) same_w
       (behind_passed calls _ all u e
       (placing_then IsClause u (group ++ stop) _ _ refl (cons IsClause u _ admits tt (of_admits_in IsClause u before admits d))
-      (placing_then IsClause u group stop _ refl (of_stops IsClause u call stop a s) (of_first u before group h (some_clauses calls before _ f k)))))
+      (placing_then IsClause u group stop _ refl (of_stops IsClause u call stop a s)
+      (of_first u before group h (some_clauses calls before _ f k)))))
 
-  starts_places : (p : Program) (row : ℕ) (g : List Told) (a : Answer) (w : WaitId) → StartsAndReceives p row g a → a ≡ Waits w → IsClause false 0 (done_channel (base_of p) row) → Placing IsClause w g
-  starts_places p row _ _ w (StartsAndReceives.both starts group all a s c e) q k = placing_behind IsClause w starts group all e (plain_places _ group a w c q k)
+  starts_places : (p : Program) (row : ℕ) (g : List Told) (a : Answer) (w : WaitId) → StartsAndReceives p row g a → a ≡ Waits w
+      → IsClause false 0 (done_channel (base_of p) row) → Placing IsClause w g
+  starts_places p row _ _ w (StartsAndReceives.both starts group all a s c e) q k =
+      placing_behind IsClause w starts group all e (plain_places _ group a w c q k)
 
 -- ---- lines
 
 -- x is at another stage
 clause_elsewhere : (s : Stage) (x : Config) (code : List Instruction) → clauses_in (at_stage s x) code ≡ clauses_in x code
 clause_elsewhere s x [] = refl
-clause_elsewhere s x (line.OnSend c o ∷ code) = ap (λ v. sends c v ∷ clauses_in (at_stage s x) code) (same_operand s x o) ∙ ap (λ l. sends c (operand x o) ∷ l) (clause_elsewhere s x code)
+clause_elsewhere s x (line.OnSend c o ∷ code) = ap (λ v. sends c v ∷ clauses_in (at_stage s x) code) (same_operand s x o)
+    ∙ ap (λ l. sends c (operand x o) ∷ l) (clause_elsewhere s x code)
   where
     same_operand : (s : Stage) (x : Config) (o : Operand) → operand (at_stage s x) o ≡ operand x o
     same_operand s x (Number v) = refl
@@ -252,45 +287,33 @@ clause_elsewhere s x (line.OnSend c o ∷ code) = ap (λ v. sends c v ∷ clause
     same_operand s x Sum = refl
 clause_elsewhere s x (line.OnReceive c ∷ code) = ap (λ l. receives c ∷ l) (clause_elsewhere s x code)
 clause_elsewhere s x (line.Send c o ∷ code) = refl
-clause_elsewhere s x (line.Receive c ∷ code) = refl
-clause_elsewhere s x (line.Each c ∷ code) = refl
-clause_elsewhere s x (line.TrySend c o ∷ code) = refl
-clause_elsewhere s x (line.TryReceive c ∷ code) = refl
-clause_elsewhere s x (line.Select ∷ code) = refl
-clause_elsewhere s x (line.Join job ∷ code) = refl
-clause_elsewhere s x (line.Await job ∷ code) = refl
-clause_elsewhere s x (line.Close c ∷ code) = refl
-clause_elsewhere s x (line.CancelChannel c ∷ code) = refl
-clause_elsewhere s x (line.Yield ∷ code) = refl
-clause_elsewhere s x (line.Launch block how job ∷ code) = refl
-clause_elsewhere s x (line.Scope supervisor ∷ code) = refl
-clause_elsewhere s x (line.Start job ∷ code) = refl
-clause_elsewhere s x (line.Cancel job ∷ code) = refl
-clause_elsewhere s x (line.Fail v ∷ code) = refl
-clause_elsewhere s x (line.SetResult o ∷ code) = refl
-clause_elsewhere s x (line.Repeat n ∷ code) = refl
-clause_elsewhere s x (line.End ∷ code) = refl
+clause_elsewhere s x other = refl
 
-select_is : (p : Program) (k : ℕ) (s : Stage) (x : Config) (j : ℕ) (call : Call) → slice_get (clauses_at p k x) j ≡ Some call → IsOfCall (ClauseOf p k (at_stage s x) line.Select) (1 + j) call
+select_is : (p : Program) (k : ℕ) (s : Stage) (x : Config) (j : ℕ) (call : Call) → slice_get (clauses_at p k x) j ≡ Some call
+    → IsOfCall (ClauseOf p k (at_stage s x) line.Select) (1 + j) call
 select_is p k s x j call e = by_call call (ap (λ l. slice_get l j) (clause_elsewhere s x (drop (x.line + 1) (code_of p k))) ∙ e)
   where
     turned : 1 + j ≡ j + 1
     turned = omega arith
 
-    by_call : (call : Call) → slice_get (clauses_at p k (at_stage s x)) j ≡ Some call → IsOfCall (ClauseOf p k (at_stage s x) line.Select) (1 + j) call
+    by_call : (call : Call) → slice_get (clauses_at p k (at_stage s x)) j ≡ Some call
+        → IsOfCall (ClauseOf p k (at_stage s x) line.Select) (1 + j) call
     by_call (sends c v) e = subst (λ m. ClauseOf p k (at_stage s x) line.Select true m c) (sym turned) (ClauseOf.select_send j c v e)
     by_call (receives c) e = subst (λ m. ClauseOf p k (at_stage s x) line.Select false m c) (sym turned) (ClauseOf.select_receive j c e)
 
 -- the call of a line that waits, where x is at another stage afterwards
-line_places : (p : Program) (k : ℕ) (s : Stage) (x : Config) (i : Instruction) (g : List Told) (a : Answer) (w : WaitId) → LineCalls p k x i g a → a ≡ Waits w → Placing (ClauseOf p k (at_stage s x) i) w g
+line_places : (p : Program) (k : ℕ) (s : Stage) (x : Config) (i : Instruction) (g : List Told) (a : Answer) (w : WaitId)
+    → LineCalls p k x i g a → a ≡ Waits w → Placing (ClauseOf p k (at_stage s x) i) w g
 line_places p k s x _ _ _ w (LineCalls.send c o g a h) e = plain_places _ _ g a w h e (ClauseOf.send c o)
 line_places p k s x _ _ _ w (LineCalls.receive c g a h) e = plain_places _ _ g a w h e (ClauseOf.receive c)
 line_places p k s x _ _ _ w (LineCalls.each c g a h) e = plain_places _ _ g a w h e (ClauseOf.each c)
 line_places p k s x _ _ _ w (LineCalls.trysend c o g a h) e = try_not (λ side n d. Unit {0}) _ g a w h e
 line_places p k s x _ _ _ w (LineCalls.tryreceive c g a h) e = try_not (λ side n d. Unit {0}) _ g a w h e
-line_places p k s x _ _ _ w (LineCalls.select g a h) e = select_places _ (clauses_at p k x) g a w h e (λ j call f. select_is p k s x j call f)
+line_places p k s x _ _ _ w (LineCalls.select g a h) e =
+    select_places _ (clauses_at p k x) g a w h e (λ j call f. select_is p k s x j call f)
 line_places p k s x _ _ _ w (LineCalls.join job row g a n h) e =
-    placing_behind _ w (_ ∷ []) g _ refl (starts_places (ClauseOf p k (at_stage s x) (line.Join job)) p row g a w h e (ClauseOf.join job row n))
+    placing_behind _ w (_ ∷ []) g _ refl (starts_places (ClauseOf p k (at_stage s x) (line.Join job)) p row g a w h e
+    (ClauseOf.join job row n))
 line_places p k s x _ _ _ w (LineCalls.await job row g a n h) e = starts_places _ p row g a w h e (ClauseOf.await job row n)
 
 -- ---- moves
@@ -300,7 +323,8 @@ data FromCall (x : Config) (a : Answer) (y : Config) : Type 0 where
   waits : (w : WaitId) → a ≡ Waits w → y ≡ at_stage (Waiting w) x → FromCall x a y
   none : wait_of y.stage ≡ None → FromCall x a y
 
-after_call : (p : Program) (k : ℕ) (x : Config) (i : Instruction) (a : Answer) (y : Config) → (a ≡ LooksAgain → wait_of x.stage ≡ None) → After p k x i a y → FromCall x a y
+after_call : (p : Program) (k : ℕ) (x : Config) (i : Instruction) (a : Answer) (y : Config) → (a ≡ LooksAgain → wait_of x.stage ≡ None)
+    → After p k x i a y → FromCall x a y
 after_call p k x _ _ _ n (After.waits i w) = FromCall.waits w refl refl
 after_call p k x _ _ _ n (After.no_place i) = FromCall.none refl
 after_call p k x _ _ _ n (After.sent c o) = FromCall.none refl
@@ -321,11 +345,14 @@ after_call p k x _ _ _ n (After.awaited job v) = FromCall.none refl
 -- how a move came to a wait, if it did
 data ComesTo (p : Program) (k : ℕ) (g : List Told) (y : Config) : Type 0 where
   none : wait_of y.stage ≡ None → ComesTo p k g y
-  waits : (w : WaitId) (x : Config) (i : Instruction) → y ≡ at_stage (Waiting w) x → LineIs p k x i → LineCalls p k x i g (Waits w) → ComesTo p k g y
-  leaves : (w : WaitId) (x : Config) (s : InScope) (first group : List Told) → y ≡ at_stage (Leaving w) x → scope_in x.entered ≡ Some s → g ≡ first ++ group
+  waits : (w : WaitId) (x : Config) (i : Instruction) → y ≡ at_stage (Waiting w) x → LineIs p k x i → LineCalls p k x i g (Waits w)
+      → ComesTo p k g y
+  leaves : (w : WaitId) (x : Config) (s : InScope) (first group : List Told) → y ≡ at_stage (Leaving w) x → scope_in x.entered ≡ Some s
+      → g ≡ first ++ group
       → PlainCall (receives (done_channel (base_of p) s.row)) group (Waits w) → ComesTo p k g y
 
-by_call : (p : Program) (k : ℕ) (x : Config) (i : Instruction) (g : List Told) (a : Answer) (y : Config) → LineIs p k x i → LineCalls p k x i g a → FromCall x a y → ComesTo p k g y
+by_call : (p : Program) (k : ℕ) (x : Config) (i : Instruction) (g : List Told) (a : Answer) (y : Config) → LineIs p k x i
+    → LineCalls p k x i g a → FromCall x a y → ComesTo p k g y
 by_call p k x i g a y at h (FromCall.waits w e f) = ComesTo.waits w x i f at (subst (LineCalls p k x i g) e h)
 by_call p k x i g a y at h (FromCall.none e) = ComesTo.none e
 
@@ -344,7 +371,8 @@ resumed_call x outcome a y r (FromCall.waits w e f) = resumed_waits outcome a w 
 resumed_call x outcome a y r (FromCall.none e) = e
 
 -- a line that goes on by the answer for which it waited waits no more
-pub resumed_none : (p : Program) (k : ℕ) (x : Config) (i : Instruction) (outcome : _) (a : Answer) (y : Config) → Resumed outcome a → After p k x i a y → wait_of y.stage ≡ None
+pub resumed_none : (p : Program) (k : ℕ) (x : Config) (i : Instruction) (outcome : _) (a : Answer) (y : Config) → Resumed outcome a
+    → After p k x i a y → wait_of y.stage ≡ None
 resumed_none p k x i outcome a y r f = resumed_call x outcome a y r (after_call p k x i a y (λ e. resumed_not outcome a r e) f)
 
 by_await : (p : Program) (k : ℕ) (g : List Told) (x : Config) (end : _) (y : Config) → AfterAwait x end y → ComesTo p k g y
@@ -352,12 +380,15 @@ by_await p k g x _ _ (AfterAwait.completed v) = ComesTo.none refl
 by_await p k g x _ _ AfterAwait.cancelled = ComesTo.none refl
 by_await p k g x _ _ (AfterAwait.failed f) = ComesTo.none refl
 
-by_scope : (p : Program) (k : ℕ) (g : List Told) (x : Config) (s : InScope) (end : _) (y : Config) → AfterScope p k x s end y → ComesTo p k g y
+by_scope : (p : Program) (k : ℕ) (g : List Told) (x : Config) (s : InScope) (end : _) (y : Config) → AfterScope p k x s end y
+    → ComesTo p k g y
 by_scope p k g x s _ _ (AfterScope.completed v e h) = ComesTo.none refl
 by_scope p k g x s _ _ AfterScope.cancelled = ComesTo.none refl
 by_scope p k g x s _ _ (AfterScope.failed f) = ComesTo.none refl
 
-by_end : (p : Program) (k : ℕ) (x : Config) (s : InScope) (first group all : List Told) (a : Answer) (y : Config) → scope_in x.entered ≡ Some s → all ≡ first ++ group → PlainCall (receives (done_channel (base_of p) s.row)) group a → AtScopeEnd k x s a y → ComesTo p k all y
+by_end : (p : Program) (k : ℕ) (x : Config) (s : InScope) (first group all : List Told) (a : Answer) (y : Config)
+    → scope_in x.entered ≡ Some s → all ≡ first ++ group → PlainCall (receives (done_channel (base_of p) s.row)) group a
+    → AtScopeEnd k x s a y → ComesTo p k all y
 by_end p k x s first group all _ _ e q c (AtScopeEnd.waits w) = ComesTo.leaves w x s first group refl e q c
 by_end p k x s first group all _ _ e q c (AtScopeEnd.closed v) = ComesTo.none refl
 by_end p k x s first group all _ _ e q c AtScopeEnd.no_place = ComesTo.none refl
@@ -365,7 +396,8 @@ by_end p k x s first group all _ _ e q c AtScopeEnd.no_place = ComesTo.none refl
 move_comes : (p : Program) (k : ℕ) (x y : Config) (g : List Told) → Move p k x g y → ComesTo p k g y
 move_comes p k _ _ _ (Move.runs x s) = ComesTo.none refl
 move_comes p k _ _ _ (Move.never_runs x s) = ComesTo.none refl
-move_comes p k _ _ _ (Move.calls x y i g a at h f) = by_call p k x i g a y at.line_is h (after_call p k x i a y (λ e. ap wait_of at.stage) f)
+move_comes p k _ _ _ (Move.calls x y i g a at h f) = by_call p k x i g a y at.line_is h
+    (after_call p k x i a y (λ e. ap wait_of at.stage) f)
 move_comes p k _ _ _ (Move.resumes x y w i outcome a s l r f) = ComesTo.none (resumed_none p k x i outcome a y r f)
 move_comes p k _ _ _ (Move.cancelled x w s) = ComesTo.none refl
 move_comes p k _ _ _ (Move.gives_up x w g s h) = ComesTo.none refl
@@ -406,18 +438,28 @@ waiting_move : (p : Program) (k : ℕ) (g : List Told) (y : Config) (w : WaitId)
 waiting_move p k g y w (ComesTo.none e) s = absurd (let u : Some w ≡ None = sym (ap wait_of s) ∙ e in let v : ⊥ = cc in v)
 waiting_move p k g y w (ComesTo.waits u x i e at h) s =
     let same_w : u ≡ w = (let t : Waiting u ≡ Waiting w = sym (ap (λ (z : Config). z.stage) e) ∙ s in cc) in
-    subst (λ z. HasPlaced p k g z w) (sym e) (record { line = i; is = at; placing = line_places p k (Waiting u) x i g (Waits u) w h (ap (λ v. Waits v) same_w) })
-waiting_move p k g y w (ComesTo.leaves u x c first group e i q h) s = absurd (let t : Leaving u ≡ Waiting w = sym (ap (λ (z : Config). z.stage) e) ∙ s in let v : ⊥ = cc in v)
+    subst (λ z. HasPlaced p k g z w) (sym e) (record {
+      line = i;
+      is = at;
+      placing =
+          line_places p k (Waiting u) x i g (Waits u) w h (ap (λ v. Waits v) same_w);
+    })
+waiting_move p k g y w (ComesTo.leaves u x c first group e i q h) s =
+    absurd (let t : Leaving u ≡ Waiting w = sym (ap (λ (z : Config). z.stage) e) ∙ s in let v : ⊥ = cc in v)
 
-leaving_move : (p : Program) (k : ℕ) (g : List Told) (y : Config) (w : WaitId) → ComesTo p k g y → y.stage ≡ Leaving w → Placing (ScopeClause p y) w g
+leaving_move : (p : Program) (k : ℕ) (g : List Told) (y : Config) (w : WaitId) → ComesTo p k g y → y.stage ≡ Leaving w
+    → Placing (ScopeClause p y) w g
 leaving_move p k g y w (ComesTo.none e) s = absurd (let u : Some w ≡ None = sym (ap wait_of s) ∙ e in let v : ⊥ = cc in v)
-leaving_move p k g y w (ComesTo.waits u x i e at h) s = absurd (let t : Waiting u ≡ Leaving w = sym (ap (λ (z : Config). z.stage) e) ∙ s in let v : ⊥ = cc in v)
+leaving_move p k g y w (ComesTo.waits u x i e at h) s =
+    absurd (let t : Waiting u ≡ Leaving w = sym (ap (λ (z : Config). z.stage) e) ∙ s in let v : ⊥ = cc in v)
 leaving_move p k g y w (ComesTo.leaves u x c first group e i q h) s =
     let same_w : u ≡ w = (let t : Leaving u ≡ Leaving w = sym (ap (λ (z : Config). z.stage) e) ∙ s in cc) in
     subst (λ z. Placing (ScopeClause p z) w g) (sym e)
-    (placing_behind (ScopeClause p (at_stage (Leaving u) x)) w first group g q (plain_places (ScopeClause p (at_stage (Leaving u) x)) _ group (Waits u) w h (ap (λ v. Waits v) same_w) (ScopeClause.receive c i)))
+    (placing_behind (ScopeClause p (at_stage (Leaving u) x)) w first group g q
+    (plain_places (ScopeClause p (at_stage (Leaving u) x)) _ group (Waits u) w h (ap (λ v. Waits v) same_w) (ScopeClause.receive c i)))
 
-spawned_none : (p : Program) (blocks : List ℕ) (x : Config) (g : List Told) (y : Config) → wait_of x.stage ≡ None → Spawns p blocks x g y → wait_of y.stage ≡ None
+spawned_none : (p : Program) (blocks : List ℕ) (x : Config) (g : List Told) (y : Config) → wait_of x.stage ≡ None → Spawns p blocks x g y
+    → wait_of y.stage ≡ None
 spawned_none p _ _ _ _ n (Spawns.done x) = n
 spawned_none p _ _ _ _ n (Spawns.attaches block blocks x y now more h) = spawned_none p blocks _ more y n h
 spawned_none p _ _ _ _ n (Spawns.refused block blocks x g h) = refl
@@ -427,13 +469,18 @@ begun_none p _ _ _ (Begins.root g x h) = spawned_none p (spawned p) _ g x refl h
 begun_none p _ _ _ (Begins.child k n) = refl
 
 -- the move by which a coroutine came to its wait is its last
-pub reach_places : (p : Program) (k : ℕ) (told : List Told) (x : Config) (w : WaitId) → Reaches p k told x → x.stage ≡ Waiting w → HasPlaced p k told x w
-reach_places p k _ _ w (Reaches.begins g x b) s = absurd (let u : Some w ≡ None = sym (ap wait_of s) ∙ begun_none p k g x b in let v : ⊥ = cc in v)
+pub reach_places : (p : Program) (k : ℕ) (told : List Told) (x : Config) (w : WaitId) → Reaches p k told x → x.stage ≡ Waiting w
+    → HasPlaced p k told x w
+reach_places p k _ _ w (Reaches.begins g x b) s = absurd (let u : Some w ≡ None = sym (ap wait_of s) ∙ begun_none p k g x b
+    in let v : ⊥ = cc in v)
 reach_places p k _ _ w (Reaches.goes_on before g all x y r m e) s =
     let h = waiting_move p k g y w (move_comes p k x y g m) s in
     record { line = h.line; is = h.is; placing = placing_behind (ClauseOf p k y h.line) w before g all e h.placing }
 
 -- and at the end of its innermost scope, on the done channel of that
-pub reach_leaves : (p : Program) (k : ℕ) (told : List Told) (x : Config) (w : WaitId) → Reaches p k told x → x.stage ≡ Leaving w → Placing (ScopeClause p x) w told
-reach_leaves p k _ _ w (Reaches.begins g x b) s = absurd (let u : Some w ≡ None = sym (ap wait_of s) ∙ begun_none p k g x b in let v : ⊥ = cc in v)
-reach_leaves p k _ _ w (Reaches.goes_on before g all x y r m e) s = placing_behind (ScopeClause p y) w before g all e (leaving_move p k g y w (move_comes p k x y g m) s)
+pub reach_leaves : (p : Program) (k : ℕ) (told : List Told) (x : Config) (w : WaitId) → Reaches p k told x → x.stage ≡ Leaving w
+    → Placing (ScopeClause p x) w told
+reach_leaves p k _ _ w (Reaches.begins g x b) s = absurd (let u : Some w ≡ None = sym (ap wait_of s) ∙ begun_none p k g x b
+    in let v : ⊥ = cc in v)
+reach_leaves p k _ _ w (Reaches.goes_on before g all x y r m e) s =
+    placing_behind (ScopeClause p y) w before g all e (leaving_move p k g y w (move_comes p k x y g m) s)

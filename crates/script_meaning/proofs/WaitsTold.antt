@@ -53,19 +53,28 @@ named_by other = None
 -- from a coroutine that has this wait, or none, to one that has that, or none
 pub data WaitsTold : Option WaitId → List Told → Option WaitId → Type 0 where
   none : (o : Option WaitId) → WaitsTold o [] o
-  other : (o o' : Option WaitId) (t : Told) (more : List Told) → is_waitless (call_told t) ≡ true → WaitsTold o more o' → WaitsTold o (t ∷ more) o'
+  other : (o o' : Option WaitId) (t : Told) (more : List Told) → is_waitless (call_told t) ≡ true → WaitsTold o more o'
+      → WaitsTold o (t ∷ more) o'
   -- a clause is placed
-  begins : (w : WaitId) (o : Option WaitId) (a : Act) (more : List Told) → named_by a ≡ Some w → WaitsTold (Some w) more o → WaitsTold None (made a ∷ more) o
-  joins : (w : WaitId) (o : Option WaitId) (a : Act) (more : List Told) → named_by a ≡ Some w → WaitsTold (Some w) more o → WaitsTold (Some w) (made a ∷ more) o
+  begins : (w : WaitId) (o : Option WaitId) (a : Act) (more : List Told) → named_by a ≡ Some w → WaitsTold (Some w) more o
+      → WaitsTold None (made a ∷ more) o
+  joins : (w : WaitId) (o : Option WaitId) (a : Act) (more : List Told) → named_by a ≡ Some w → WaitsTold (Some w) more o
+      → WaitsTold (Some w) (made a ∷ more) o
   -- the wait ends with an answer
-  ends : (w : WaitId) (outcome : Settled) (o : Option WaitId) (more : List Told) → is_given_up outcome ≡ false → WaitsTold None more o → WaitsTold (Some w) (made (Settle w outcome) ∷ more) o
+  ends : (w : WaitId) (outcome : Settled) (o : Option WaitId) (more : List Told) → is_given_up outcome ≡ false → WaitsTold None more o
+      → WaitsTold (Some w) (made (Settle w outcome) ∷ more) o
   -- or it was taken back
-  taken_back : (w : WaitId) (o : Option WaitId) (more : List Told) → WaitsTold None more o → WaitsTold (Some w) (on_channels (TakenBack w) ∷ made (Settle w settled.Cancelled) ∷ more) o
-  revokes : (w : WaitId) (o : Option WaitId) (more : List Told) → WaitsTold None more o → WaitsTold (Some w) (made (Withdraw w why.Revoked) ∷ made (Settle w settled.Cancelled) ∷ more) o
+  taken_back : (w : WaitId) (o : Option WaitId) (more : List Told) → WaitsTold None more o
+      → WaitsTold (Some w) (on_channels (TakenBack w) ∷ made (Settle w settled.Cancelled) ∷ more) o
+  revokes : (w : WaitId) (o : Option WaitId) (more : List Told) → WaitsTold None more o
+      → WaitsTold (Some w) (made (Withdraw w why.Revoked) ∷ made (Settle w settled.Cancelled) ∷ more) o
   -- or it meets a cancellation that was seen
-  dispatched : (w : WaitId) (row : ℕ) (outcome : Settled) (o : Option WaitId) (more : List Told) → WaitsTold None more o → WaitsTold (Some w) (saw row ∷ made (Settle w outcome) ∷ more) o
-  withdrawn : (w : WaitId) (row : ℕ) (outcome : Settled) (o : Option WaitId) (more : List Told) → WaitsTold None more o → WaitsTold (Some w) (saw row ∷ made (Withdraw w why.Cancelled) ∷ made (Settle w outcome) ∷ more) o
-  late : (w : WaitId) (row : ℕ) (outcome : Settled) (o : Option WaitId) (more : List Told) → WaitsTold None more o → WaitsTold (Some w) (saw row ∷ heard (Late w) ∷ made (Settle w outcome) ∷ more) o
+  dispatched : (w : WaitId) (row : ℕ) (outcome : Settled) (o : Option WaitId) (more : List Told) → WaitsTold None more o
+      → WaitsTold (Some w) (saw row ∷ made (Settle w outcome) ∷ more) o
+  withdrawn : (w : WaitId) (row : ℕ) (outcome : Settled) (o : Option WaitId) (more : List Told) → WaitsTold None more o
+      → WaitsTold (Some w) (saw row ∷ made (Withdraw w why.Cancelled) ∷ made (Settle w outcome) ∷ more) o
+  late : (w : WaitId) (row : ℕ) (outcome : Settled) (o : Option WaitId) (more : List Told) → WaitsTold None more o
+      → WaitsTold (Some w) (saw row ∷ heard (Late w) ∷ made (Settle w outcome) ∷ more) o
 
 pub told_then : (o m o' : Option WaitId) (xs ys : List Told) → WaitsTold o xs m → WaitsTold m ys o' → WaitsTold o (xs ++ ys) o'
 told_then _ _ o' _ ys (WaitsTold.none o) b = b
@@ -75,9 +84,12 @@ told_then _ _ o' _ ys (WaitsTold.joins w m a more q h) b = WaitsTold.joins w o' 
 told_then _ _ o' _ ys (WaitsTold.ends w outcome m more q h) b = WaitsTold.ends w outcome o' (more ++ ys) q (told_then None m o' more ys h b)
 told_then _ _ o' _ ys (WaitsTold.taken_back w m more h) b = WaitsTold.taken_back w o' (more ++ ys) (told_then None m o' more ys h b)
 told_then _ _ o' _ ys (WaitsTold.revokes w m more h) b = WaitsTold.revokes w o' (more ++ ys) (told_then None m o' more ys h b)
-told_then _ _ o' _ ys (WaitsTold.dispatched w row outcome m more h) b = WaitsTold.dispatched w row outcome o' (more ++ ys) (told_then None m o' more ys h b)
-told_then _ _ o' _ ys (WaitsTold.withdrawn w row outcome m more h) b = WaitsTold.withdrawn w row outcome o' (more ++ ys) (told_then None m o' more ys h b)
-told_then _ _ o' _ ys (WaitsTold.late w row outcome m more h) b = WaitsTold.late w row outcome o' (more ++ ys) (told_then None m o' more ys h b)
+told_then _ _ o' _ ys (WaitsTold.dispatched w row outcome m more h) b =
+    WaitsTold.dispatched w row outcome o' (more ++ ys) (told_then None m o' more ys h b)
+told_then _ _ o' _ ys (WaitsTold.withdrawn w row outcome m more h) b =
+    WaitsTold.withdrawn w row outcome o' (more ++ ys) (told_then None m o' more ys h b)
+told_then _ _ o' _ ys (WaitsTold.late w row outcome m more h) b =
+    WaitsTold.late w row outcome o' (more ++ ys) (told_then None m o' more ys h b)
 
 -- ---- groups that say nothing of waits
 
@@ -105,10 +117,13 @@ mapped f [] h = nothing
 mapped f (x ∷ xs) h = cons (f x) (map f xs) (h x) (mapped f xs h)
 
 of_admits : (c : ℕ) (g : List Told) → Admits c g → IsWaitless g
-of_admits c g h = same g _ h.all (cons _ _ refl (both (map (λ q. made (Admit c q)) h.places) _ (mapped (λ q. made (Admit c q)) h.places (λ q. refl)) (one _ refl)))
+of_admits c g h =
+    same g _ h.all (cons _ _ refl (both (map (λ q. made (Admit c q)) h.places) _ (mapped (λ q. made (Admit c q)) h.places (λ q. refl))
+    (one _ refl)))
 
 of_drops : (c q : ℕ) (g : List Told) → Drops c q g → IsWaitless g
-of_drops c q g h = same g _ h.all (both (map (λ d. made (Drop c d.0 d.1)) h.dropped) _ (mapped (λ d. made (Drop c d.0 d.1)) h.dropped (λ d. refl)) (one _ refl))
+of_drops c q g h = same g _ h.all (both (map (λ d. made (Drop c d.0 d.1)) h.dropped) _
+    (mapped (λ d. made (Drop c d.0 d.1)) h.dropped (λ d. refl)) (one _ refl))
 
 of_spurns : (c q : ℕ) (g : List Told) → Spurns c q g → IsWaitless g
 of_spurns c q _ (Spurns.gone v) = one _ refl
@@ -118,18 +133,22 @@ of_overflows : (c q : ℕ) (g : List Told) → Overflows c q g → IsWaitless g
 of_overflows c q g h = same g _ h.all (both h.drops h.spurns (of_drops c q h.drops h.dropped) (of_spurns c q h.spurns h.spurned))
 
 of_wakes : (c : ℕ) (g : List Told) → Wakes c g → IsWaitless g
-of_wakes c g h = same g _ h.all (both (map (λ q. made (WakeClosed c q)) h.places) _ (mapped (λ q. made (WakeClosed c q)) h.places (λ q. refl)) (one _ refl))
+of_wakes c g h = same g _ h.all (both (map (λ q. made (WakeClosed c q)) h.places) _
+    (mapped (λ q. made (WakeClosed c q)) h.places (λ q. refl)) (one _ refl))
 
 of_drains : (c : ℕ) (g : List Told) → Drains c g → IsWaitless g
-of_drains c g h = same g _ h.all (both (map (λ d. made (Drain c d.0 d.1)) h.drained) _ (mapped (λ d. made (Drain c d.0 d.1)) h.drained (λ d. refl)) (cons _ _ refl (one _ refl)))
+of_drains c g h = same g _ h.all (both (map (λ d. made (Drain c d.0 d.1)) h.drained) _
+    (mapped (λ d. made (Drain c d.0 d.1)) h.drained (λ d. refl)) (cons _ _ refl (one _ refl)))
 
 of_closes : (c v : ℕ) (g : List Told) → Closes c v g → IsWaitless g
 of_closes c v _ (Closes.now wakes w) = cons _ wakes refl (of_wakes c wakes w)
 of_closes c v _ (Closes.before u wakes w) = cons _ wakes refl (of_wakes c wakes w)
 
 of_cancels : (c : ℕ) (g : List Told) → CancelsChannel c g → IsWaitless g
-of_cancels c g (CancelsChannel.now closes drains _ a d e) = same g _ e (both closes _ (of_closes c 0 closes a) (cons _ drains refl (of_drains c drains d)))
-of_cancels c g (CancelsChannel.before closes drains _ a d e) = same g _ e (both closes drains (of_closes c 0 closes a) (of_drains c drains d))
+of_cancels c g (CancelsChannel.now closes drains _ a d e) =
+    same g _ e (both closes _ (of_closes c 0 closes a) (cons _ drains refl (of_drains c drains d)))
+of_cancels c g (CancelsChannel.before closes drains _ a d e) =
+    same g _ e (both closes drains (of_closes c 0 closes a) (of_drains c drains d))
 
 of_blocked : (call : Call) → is_waitless (call_told (blocked call)) ≡ true
 of_blocked (sends c v) = refl
@@ -163,7 +182,8 @@ of_stops _ _ _ (Stops.no_place call all e) = same all _ e (of_spent call)
 
 of_admits_in : (calls : List Call) (g : List Told) → AdmitsIn calls g → IsWaitless g
 of_admits_in _ _ AdmitsIn.none = nothing
-of_admits_in _ _ (AdmitsIn.offered c v calls admits more all a h e) = same all _ e (both admits more (of_admits c admits a) (of_admits_in calls more h))
+of_admits_in _ _ (AdmitsIn.offered c v calls admits more all a h e) =
+    same all _ e (both admits more (of_admits c admits a) (of_admits_in calls more h))
 of_admits_in _ _ (AdmitsIn.awaited c calls all h) = of_admits_in calls all h
 
 of_refusal : (parent : ℕ) (b : Bool) (g : List Told) → NotAttached parent b g → IsWaitless g
@@ -179,25 +199,29 @@ of_deeds : (acts : List JobAct) → IsWaitless (map did acts)
 of_deeds acts = mapped did acts (λ a. refl)
 
 of_passes : (row : ℕ) (reason : _) (newly : Bool) (g : List Told) → Passes row reason newly g → IsWaitless g
-of_passes row reason newly g h = same g _ h.all (both (map did (own_cancel newly row reason ++ h.below)) _ (of_deeds (own_cancel newly row reason ++ h.below)) (one _ refl))
+of_passes row reason newly g h = same g _ h.all (both (map did (own_cancel newly row reason ++ h.below)) _
+    (of_deeds (own_cancel newly row reason ++ h.below)) (one _ refl))
 
 of_breaks : (k row : ℕ) (failure : Option ℕ) (g : List Told) → Breaks k row failure g → IsWaitless g
 of_breaks k row _ _ (Breaks.seen failure) = nothing
 of_breaks k row _ _ (Breaks.had_been failure g h) = of_passes row _ false g h
 of_breaks k row _ _ (Breaks.asked g h) = of_passes row _ true g h
 of_breaks k row _ _ (Breaks.scope_fails f g n h) = of_passes row _ true g h
-of_breaks k row _ _ (Breaks.fails f up pass all e h q) = same all _ q (both pass _ (of_passes row _ true pass h) (both (map did up) _ (of_deeds up) (one _ refl)))
+of_breaks k row _ _ (Breaks.fails f up pass all e h q) =
+    same all _ q (both pass _ (of_passes row _ true pass h) (both (map did up) _ (of_deeds up) (one _ refl)))
 
 of_chain : (base row : ℕ) (g : List Told) → Chain base row g → IsWaitless g
 of_chain base _ _ (Chain.stops row) = one _ refl
 of_chain base _ _ (Chain.root end closes c) = cons _ closes refl (of_closes _ _ closes c)
-of_chain base row g (Chain.goes_up _ parent end closes rest _ n c up e) = same g _ e (cons _ _ refl (both closes _ (of_closes _ _ closes c) (cons _ _ refl (cons _ rest refl (of_chain base parent rest up)))))
+of_chain base row g (Chain.goes_up _ parent end closes rest _ n c up e) =
+    same g _ e (cons _ _ refl (both closes _ (of_closes _ _ closes c) (cons _ _ refl (cons _ rest refl (of_chain base parent rest up)))))
 
 of_end : (base row v : ℕ) (g : List Told) → EndsBody base row v g → IsWaitless g
 of_end base row v _ (EndsBody.ends_body chain c) = cons _ chain refl (of_chain base row chain c)
 
 of_off : (base k row : ℕ) (failure : Option ℕ) (g : List Told) → BreaksOff base k row failure g → IsWaitless g
-of_off base k row failure g h = same g _ h.all (both h.cancels _ (of_breaks k row failure h.cancels h.breaks) (cons _ h.end refl (of_end base row 0 h.end h.ends)))
+of_off base k row failure g h = same g _ h.all (both h.cancels _ (of_breaks k row failure h.cancels h.breaks)
+    (cons _ h.end refl (of_end base row 0 h.end h.ends)))
 
 -- ---- calls
 
@@ -221,9 +245,7 @@ refused_by _ _ _ (Refused.receive c u) = refl
 
 stops_by : (call : Call) (g : List Told) (a : Answer) → Stops call g a → wait_by a ≡ None
 stops_by _ _ _ (Stops.receiver c v q) = refl
-stops_by _ _ _ (Stops.offer c q) = refl
-stops_by _ _ _ (Stops.closed call t a h) = refl
-stops_by _ _ _ (Stops.no_place call all e) = refl
+stops_by _ _ _ call = refl
 
 -- a call of one that has no wait
 abbrev pub Leaves : List Told → Answer → Type 0
@@ -240,9 +262,13 @@ plain_leaves : (call : Call) (g : List Told) (a : Answer) → PlainCall call g a
 plain_leaves _ _ _ (PlainCall.at_once call g a h) = leaves_none g a (once_by call g a h) (of_at_once call g a h)
 plain_leaves _ _ _ (PlainCall.refused call t a h) = leaves_none (t ∷ []) a (refused_by call t a h) (one t (of_refused call t a h))
 plain_leaves _ _ _ (PlainCall.no_place call all e) = leaves_none all NoPlace refl (same all _ e (of_spent call))
-plain_leaves _ _ _ (PlainCall.offers c v q admits h) = WaitsTold.other None _ _ _ refl (WaitsTold.begins (wait_at c q) _ _ admits refl (of_admits c admits h (Some (wait_at c q))))
+plain_leaves _ _ _ (PlainCall.offers c v q admits h) = WaitsTold.other None _ _ _ refl
+    (WaitsTold.begins (wait_at c q) _ _ admits refl (of_admits c admits h (Some (wait_at c q))))
 plain_leaves _ _ _ (PlainCall.offer_ends c v q admits settles all h s e) =
-    subst (λ g. WaitsTold None g None) (sym e) (WaitsTold.other None None _ _ refl (WaitsTold.begins (wait_at c q) None _ (admits ++ settles) refl (told_then (Some (wait_at c q)) (Some (wait_at c q)) None admits settles (of_admits c admits h (Some (wait_at c q))) (ends_at_once (wait_at c q) settles s))))
+    subst (λ g. WaitsTold None g None) (sym e) (WaitsTold.other None None _ _ refl
+    (WaitsTold.begins (wait_at c q) None _ (admits ++ settles) refl
+    (told_then (Some (wait_at c q)) (Some (wait_at c q)) None admits settles (of_admits c admits h (Some (wait_at c q)))
+    (ends_at_once (wait_at c q) settles s))))
 plain_leaves _ _ _ (PlainCall.awaits c q) = WaitsTold.begins (wait_at c q) _ _ [] refl (WaitsTold.none (Some (wait_at c q)))
 
 try_leaves : (call : Call) (g : List Told) (a : Answer) → TryCall call g a → Leaves g a
@@ -253,7 +279,8 @@ try_leaves _ _ _ (TryCall.no_place c v) = leaves_none _ NoPlace refl (of_spent (
 
 -- ---- selects
 
-names : (w : WaitId) (n q : ℕ) (call : Call) (more : List Told) → WaitsTold (Some w) more (Some w) → (WaitsTold None (placed w n q call ∷ more) (Some w)) × (WaitsTold (Some w) (placed w n q call ∷ more) (Some w))
+names : (w : WaitId) (n q : ℕ) (call : Call) (more : List Told) → WaitsTold (Some w) more (Some w)
+    → (WaitsTold None (placed w n q call ∷ more) (Some w)) × (WaitsTold (Some w) (placed w n q call ∷ more) (Some w))
 names w n q (sends c v) more h = (WaitsTold.begins w (Some w) _ more refl h, WaitsTold.joins w (Some w) _ more refl h)
 names w n q (receives c) more h = (WaitsTold.begins w (Some w) _ more refl h, WaitsTold.joins w (Some w) _ more refl h)
 
@@ -270,7 +297,8 @@ unfolding is_some_told
 begins_some _ _ (BeginsPlaces.send c v q more) = refl
 begins_some _ _ (BeginsPlaces.receive c q more) = refl
 
-places_first : (w : WaitId) (n : ℕ) (calls : List Call) (g : List Told) → Places w n calls g → is_some_told g ≡ true → WaitsTold None g (Some w)
+places_first : (w : WaitId) (n : ℕ) (calls : List Call) (g : List Told) → Places w n calls g → is_some_told g ≡ true
+    → WaitsTold None g (Some w)
 unfolding is_some_told
 places_first w _ _ _ (Places.none n) e = cc
 places_first w _ _ _ (Places.one n q call calls more h) e = (names w n q call more (places_more w (n + 1) calls more h)).0
@@ -281,33 +309,44 @@ first_placed w calls g h = places_first w 1 calls g h.places (begins_some w g h.
 revoking : (w : WaitId) → WaitsTold (Some w) (revoked w) None
 revoking w = WaitsTold.revokes w None [] (WaitsTold.none None)
 
-behind_passed : (calls : List Call) (g all : List Told) (o : Option WaitId) → all ≡ map blocked calls ++ g → WaitsTold None g o → WaitsTold None all o
-behind_passed calls g all o e h = subst (λ l. WaitsTold None l o) (sym e) (told_then None None o (map blocked calls) g (of_passed calls None) h)
+behind_passed : (calls : List Call) (g all : List Told) (o : Option WaitId) → all ≡ map blocked calls ++ g → WaitsTold None g o
+    → WaitsTold None all o
+behind_passed calls g all o e h = subst (λ l. WaitsTold None l o) (sym e)
+    (told_then None None o (map blocked calls) g (of_passed calls None) h)
 
 select_leaves : (calls : List Call) (g : List Told) (a : Answer) → SelectCall calls g a → Leaves g a
-select_leaves calls _ _ (SelectCall.chooses before later call group all a f h e) = behind_passed before group all (wait_by a) e (leaves_none group a (once_by call group a h) (of_at_once call group a h))
-select_leaves calls _ _ (SelectCall.meets_close before later call t all a f h e) = behind_passed before (t ∷ []) all (wait_by a) e (leaves_none (t ∷ []) a (refused_by call t a h) (one t (of_refused call t a h)))
-select_leaves calls _ _ (SelectCall.no_place before later c v all f e) = behind_passed before (spent (sends c v)) all None e (of_spent (sends c v) None)
+select_leaves calls _ _ (SelectCall.chooses before later call group all a f h e) =
+    behind_passed before group all (wait_by a) e (leaves_none group a (once_by call group a h) (of_at_once call group a h))
+select_leaves calls _ _ (SelectCall.meets_close before later call t all a f h e) =
+    behind_passed before (t ∷ []) all (wait_by a) e (leaves_none (t ∷ []) a (refused_by call t a h) (one t (of_refused call t a h)))
+select_leaves calls _ _ (SelectCall.no_place before later c v all f e) =
+    behind_passed before (spent (sends c v)) all None e (of_spent (sends c v) None)
 select_leaves calls _ _ (SelectCall.waits w group admits all h d e) =
-    behind_passed calls (group ++ admits) all (Some w) e (told_then None (Some w) (Some w) group admits (first_placed w calls group h) (of_admits_in calls admits d (Some w)))
+    behind_passed calls (group ++ admits) all (Some w) e (told_then None (Some w) (Some w) group admits (first_placed w calls group h)
+    (of_admits_in calls admits d (Some w)))
 select_leaves calls _ _ (SelectCall.resolved w before later call group admits all f h d e) =
-    behind_passed calls _ all (Some w) e (told_then None (Some w) (Some w) group _ (first_placed w before group h) (cons _ admits refl (of_admits_in before admits d) (Some w)))
-select_leaves calls _ _ (SelectCall.stops_at_first later call stop all a f h e) = behind_passed calls stop all (wait_by a) e (leaves_none stop a (stops_by call stop a h) (of_stops call stop a h))
+    behind_passed calls _ all (Some w) e (told_then None (Some w) (Some w) group _ (first_placed w before group h)
+    (cons _ admits refl (of_admits_in before admits d) (Some w)))
+select_leaves calls _ _ (SelectCall.stops_at_first later call stop all a f h e) =
+    behind_passed calls stop all (wait_by a) e (leaves_none stop a (stops_by call stop a h) (of_stops call stop a h))
 select_leaves calls _ _ (SelectCall.stops w before later call group stop admits all a f h s d e) =
     behind_passed calls _ all (wait_by a) e
     (subst (λ o. WaitsTold None (((group ++ stop) ++ revoked w) ++ admits) o) (sym (stops_by call stop a s))
     (told_then None None None ((group ++ stop) ++ revoked w) admits
-    (told_then None (Some w) None (group ++ stop) (revoked w) (told_then None (Some w) (Some w) group stop (first_placed w before group h) (of_stops call stop a s (Some w))) (revoking w))
+    (told_then None (Some w) None (group ++ stop) (revoked w)
+    (told_then None (Some w) (Some w) group stop (first_placed w before group h) (of_stops call stop a s (Some w))) (revoking w))
     (of_admits_in before admits d None)))
 select_leaves calls _ _ (SelectCall.stops_late w before later call group stop admits all a f h s d e) =
     behind_passed calls _ all (Some w) e
-    (told_then None (Some w) (Some w) (group ++ stop) _ (told_then None (Some w) (Some w) group stop (first_placed w before group h) (of_stops call stop a s (Some w))) (cons _ admits refl (of_admits_in before admits d) (Some w)))
+    (told_then None (Some w) (Some w) (group ++ stop) _ (told_then None (Some w) (Some w) group stop (first_placed w before group h)
+    (of_stops call stop a s (Some w))) (cons _ admits refl (of_admits_in before admits d) (Some w)))
 
 -- ---- lines
 
 both_leave : (p : Program) (row : ℕ) (g : List Told) (a : Answer) → StartsAndReceives p row g a → Leaves g a
 both_leave p row g a (StartsAndReceives.both starts group _ _ s c e) =
-    subst (λ l. WaitsTold None l (wait_by a)) (sym e) (told_then None None (wait_by a) starts group (of_starts row starts s None) (plain_leaves _ group a c))
+    subst (λ l. WaitsTold None l (wait_by a)) (sym e) (told_then None None (wait_by a) starts group (of_starts row starts s None)
+    (plain_leaves _ group a c))
 
 line_leaves : (p : Program) (k : ℕ) (x : Config) (i : Instruction) (g : List Told) (a : Answer) → LineCalls p k x i g a → Leaves g a
 line_leaves p k x _ _ _ (LineCalls.send c o g a h) = plain_leaves _ g a h
@@ -320,7 +359,8 @@ line_leaves p k x _ _ _ (LineCalls.join job row g a n h) = WaitsTold.other None 
 line_leaves p k x _ _ _ (LineCalls.await job row g a n h) = both_leave p row g a h
 
 -- the stage after an answer has the wait that the call left
-after_answer : (p : Program) (k : ℕ) (x : Config) (i : Instruction) (a : Answer) (y : Config) → (a ≡ LooksAgain → wait_of x.stage ≡ None) → After p k x i a y → wait_of y.stage ≡ wait_by a
+after_answer : (p : Program) (k : ℕ) (x : Config) (i : Instruction) (a : Answer) (y : Config) → (a ≡ LooksAgain → wait_of x.stage ≡ None)
+    → After p k x i a y → wait_of y.stage ≡ wait_by a
 after_answer p k x _ _ _ n (After.waits i w) = refl
 after_answer p k x _ _ _ n (After.no_place i) = refl
 after_answer p k x _ _ _ n (After.sent c o) = refl
@@ -369,11 +409,13 @@ given_up w row _ GivesUp.dispatched = WaitsTold.dispatched w row settled.Cancell
 given_up w row _ (GivesUp.undelivered v) = WaitsTold.dispatched w row (settled.Undelivered v) None [] (WaitsTold.none None)
 given_up w row _ (GivesUp.withdrawn admits h) = WaitsTold.withdrawn w row settled.Cancelled None admits (of_admits w.channel admits h None)
 given_up w row _ (GivesUp.late admits h) = WaitsTold.late w row settled.Cancelled None admits (of_admits w.channel admits h None)
-given_up w row _ (GivesUp.late_undelivered v admits h) = WaitsTold.late w row (settled.Undelivered v) None admits (of_admits w.channel admits h None)
+given_up w row _ (GivesUp.late_undelivered v admits h) =
+    WaitsTold.late w row (settled.Undelivered v) None admits (of_admits w.channel admits h None)
 
 -- ---- moves
 
-from : (x : Config) (s : Stage) (g : List Told) (o : Option WaitId) → x.stage ≡ s → WaitsTold (wait_of s) g o → WaitsTold (wait_of x.stage) g o
+from : (x : Config) (s : Stage) (g : List Told) (o : Option WaitId) → x.stage ≡ s → WaitsTold (wait_of s) g o
+    → WaitsTold (wait_of x.stage) g o
 from x s g o e h = subst (λ u. WaitsTold (wait_of u) g o) (sym e) h
 
 to : (o o' o'' : Option WaitId) (g : List Told) → o'' ≡ o' → WaitsTold o g o' → WaitsTold o g o''
@@ -383,13 +425,17 @@ pub move_told : (p : Program) (k : ℕ) (x y : Config) (g : List Told) → Move 
 move_told p k _ _ _ (Move.runs x s) = from x stage.Fresh _ None s (one _ refl None)
 move_told p k _ _ _ (Move.never_runs x s) = from x stage.Fresh _ None s (one _ refl None)
 move_told p k _ _ _ (Move.calls x y i g a s h f) =
-    to _ _ _ g (after_answer p k x i a y (λ e. ap wait_of s.stage) f) (from x stage.Running g (wait_by a) s.stage (line_leaves p k x i g a h))
+    to _ _ _ g (after_answer p k x i a y (λ e. ap wait_of s.stage) f)
+    (from x stage.Running g (wait_by a) s.stage (line_leaves p k x i g a h))
 move_told p k _ _ _ (Move.resumes x y w i outcome a s l r f) =
     let b = resumed_by outcome a r in
-    to _ _ _ _ (after_answer p k x i a y (λ e. absurd (resumed_not outcome a r e)) f ∙ b.0) (from x (stage.Waiting w) _ None s (WaitsTold.other (Some w) None _ _ refl (WaitsTold.ends w outcome None [] b.1 (WaitsTold.none None))))
+    to _ _ _ _ (after_answer p k x i a y (λ e. absurd (resumed_not outcome a r e)) f
+    ∙ b.0) (from x (stage.Waiting w) _ None s (WaitsTold.other (Some w) None _ _ refl
+    (WaitsTold.ends w outcome None [] b.1 (WaitsTold.none None))))
 move_told p k _ _ _ (Move.cancelled x w s) = from x (stage.Waiting w) _ None s (WaitsTold.taken_back w None [] (WaitsTold.none None))
 move_told p k _ _ _ (Move.gives_up x w g s h) = from x (stage.Waiting w) _ None s (given_up w (innermost k x) g h)
-move_told p k _ _ _ (Move.sees_job x y job row end s l n f) = to _ _ _ _ (after_await x end y f) (from x stage.SeesJob _ None s (one _ refl None))
+move_told p k _ _ _ (Move.sees_job x y job row end s l n f) =
+    to _ _ _ _ (after_await x end y f) (from x stage.SeesJob _ None s (one _ refl None))
 move_told p k _ _ _ (Move.closes x c g s h) = from x stage.Running g None s.stage (of_closes c 0 g h None)
 move_told p k _ _ _ (Move.cancels_channel x c g s h) = from x stage.Running g None s.stage (of_cancels c g h None)
 move_told p k _ _ _ (Move.yields x s) = from x stage.Running _ None s.stage (one _ refl None)
@@ -408,15 +454,22 @@ move_told p k _ _ _ (Move.turns_again x head n es s e) = from x stage.Running _ 
 move_told p k _ _ _ (Move.turns_no_more x head es s e) = from x stage.Running _ None s.stage (nothing None)
 move_told p k _ _ _ (Move.receives_again x head es s e) = from x stage.Running _ None s.stage (nothing None)
 move_told p k _ _ _ (Move.ends_scope x y s end g all a l e h c f q) =
-    to _ _ _ _ (at_scope_end k x s a y f) (from x stage.Running all (wait_by a) l.stage (subst (λ u. WaitsTold None u (wait_by a)) (sym q) (told_then None None (wait_by a) end g (of_end _ s.row 0 end h None) (plain_leaves _ g a c))))
-move_told p k _ _ _ (Move.scope_ended x w n v s) = from x (stage.Leaving w) _ None s (WaitsTold.ends w (settled.Closed n v) None [] refl (WaitsTold.none None))
-move_told p k _ _ _ (Move.sees_scope x y s end l e f) = to _ _ _ _ (after_scope p k x s end y f) (from x stage.SeesScope _ None l (one _ refl None))
+    to _ _ _ _ (at_scope_end k x s a y f) (from x stage.Running all (wait_by a) l.stage
+    (subst (λ u. WaitsTold None u (wait_by a)) (sym q) (told_then None None (wait_by a) end g (of_end _ s.row 0 end h None)
+    (plain_leaves _ g a c))))
+move_told p k _ _ _ (Move.scope_ended x w n v s) = from x (stage.Leaving w) _ None s
+    (WaitsTold.ends w (settled.Closed n v) None [] refl (WaitsTold.none None))
+move_told p k _ _ _ (Move.sees_scope x y s end l e f) =
+    to _ _ _ _ (after_scope p k x s end y f) (from x stage.SeesScope _ None l (one _ refl None))
 move_told p k _ _ _ (Move.breaks_scope x y s failure break g all a l e h c f q) =
-    to _ _ _ _ (at_scope_end k x s a y f) (from x (stage.Unwinding failure) all (wait_by a) l (subst (λ u. WaitsTold None u (wait_by a)) (sym q) (told_then None None (wait_by a) break g (of_off _ k s.row failure break h None) (plain_leaves _ g a c))))
+    to _ _ _ _ (at_scope_end k x s a y f) (from x (stage.Unwinding failure) all (wait_by a) l
+    (subst (λ u. WaitsTold None u (wait_by a)) (sym q) (told_then None None (wait_by a) break g (of_off _ k s.row failure break h None)
+    (plain_leaves _ g a c))))
 move_told p k _ _ _ (Move.breaks x failure g s e h) = from x (stage.Unwinding failure) g None s (of_off _ k k failure g h None)
 move_told p k _ _ _ (Move.ends x g s e h) = from x stage.Running g None s (of_end _ k x.result g h None)
 
-spawn_told : (p : Program) (blocks : List ℕ) (x y : Config) (g : List Told) → wait_of x.stage ≡ None → Spawns p blocks x g y → WaitsTold None g (wait_of y.stage)
+spawn_told : (p : Program) (blocks : List ℕ) (x y : Config) (g : List Told) → wait_of x.stage ≡ None → Spawns p blocks x g y
+    → WaitsTold None g (wait_of y.stage)
 spawn_told p _ _ _ _ n (Spawns.done x) = to _ _ _ [] n (WaitsTold.none None)
 spawn_told p _ _ _ _ n (Spawns.attaches block blocks x y now rest h) = WaitsTold.other None _ _ rest refl (spawn_told p blocks _ y rest n h)
 spawn_told p _ _ _ _ n (Spawns.refused block blocks x g h) = of_refusal _ _ g h None
@@ -428,4 +481,6 @@ begin_told p _ _ _ (Begins.child k n) = WaitsTold.none None
 -- in all that a coroutine tells, from its beginning
 pub all_told : (p : Program) (k : ℕ) (told : List Told) (x : Config) → Reaches p k told x → WaitsTold None told (wait_of x.stage)
 all_told p k _ _ (Reaches.begins g x h) = begin_told p k g x h
-all_told p k _ _ (Reaches.goes_on before g all x y r m e) = subst (λ l. WaitsTold None l (wait_of y.stage)) (sym e) (told_then None (wait_of x.stage) (wait_of y.stage) before g (all_told p k before x r) (move_told p k x y g m))
+all_told p k _ _ (Reaches.goes_on before g all x y r m e) =
+    subst (λ l. WaitsTold None l (wait_of y.stage)) (sym e)
+    (told_then None (wait_of x.stage) (wait_of y.stage) before g (all_told p k before x r) (move_told p k x y g m))

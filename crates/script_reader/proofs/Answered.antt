@@ -26,14 +26,19 @@ pub only_memory : (kind : FaultKind) (P : Type 0) → (P → ⊥) → Unless kin
 only_memory kinds.Memory P never u = refl
 only_memory other P never u = absurd (never u)
 
-pub spelled : (r : Result Script ScriptFault) (bytes : List ℕ) → GivesAt program_of r (reading_of bytes) → IfOk r (λ script. Spells bytes (program_of script))
+pub spelled : (r : Result Script ScriptFault) (bytes : List ℕ) → GivesAt program_of r (reading_of bytes)
+    → IfOk r (λ script. Spells bytes (program_of script))
 spelled (Ok script) bytes exact = Spells-from_read bytes (program_of script) exact
 spelled (Err fault) bytes exact = tt
 
-pub complete : (r : Result Script ScriptFault) (bytes : List ℕ) (p : Program) → GivesAt program_of r (reading_of bytes) → Spells bytes p → MatchResult r (λ script. program_of script ≡ p) (λ fault. fault.kind ≡ kinds.Memory)
+pub complete : (r : Result Script ScriptFault) (bytes : List ℕ) (p : Program) → GivesAt program_of r (reading_of bytes) → Spells bytes p
+    → MatchResult r (λ script. program_of script ≡ p) (λ fault. fault.kind ≡ kinds.Memory)
 complete (Ok script) bytes p exact is = same_ok (program_of script) p (reading_of bytes) exact (read-from_Spells bytes p is)
-complete (Err fault) bytes p exact is = only_memory fault.kind (reading_of bytes ≡ Err fault) (λ bad. not_both p fault (reading_of bytes) (read-from_Spells bytes p is) bad) exact
+complete (Err fault) bytes p exact is = only_memory fault.kind (reading_of bytes ≡ Err fault)
+    (λ bad. not_both p fault (reading_of bytes) (read-from_Spells bytes p is) bad) exact
 
-pub refused : (r : Result Script ScriptFault) (bytes : List ℕ) → GivesAt program_of r (reading_of bytes) → IfErr r (λ fault. Unless fault.kind (FirstFault bytes fault))
+pub refused : (r : Result Script ScriptFault) (bytes : List ℕ) → GivesAt program_of r (reading_of bytes)
+    → IfErr r (λ fault. Unless fault.kind (FirstFault bytes fault))
 refused (Ok script) bytes exact = tt
-refused (Err fault) bytes exact = unless_still fault.kind (reading_of bytes ≡ Err fault) (FirstFault bytes fault) (λ bad. first_fault bytes fault bad) exact
+refused (Err fault) bytes exact = unless_still fault.kind (reading_of bytes ≡ Err fault) (FirstFault bytes fault)
+    (λ bad. first_fault bytes fault bad) exact

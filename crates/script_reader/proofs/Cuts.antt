@@ -8,10 +8,12 @@ use Rattle.std.specs.List.{position_or_len}
 use Rattle.script_grammar.specs.Words.{has_items, before_comment}
 
 -- a text is cut at the first byte that passes
-pub cut_here : (p : ℕ → Bool) (xs : List ℕ) (i : ℕ) → i < length xs → ((k : ℕ) → k < i → p (get_or xs k 0) ≡ false) → p (get_or xs i 0) ≡ true → take i xs ∷ slice_split p (take (length xs - (i + 1)) (drop (i + 1) xs)) ≡ slice_split p xs
+pub cut_here : (p : ℕ → Bool) (xs : List ℕ) (i : ℕ) → i < length xs → ((k : ℕ) → k < i → p (get_or xs k 0) ≡ false)
+    → p (get_or xs i 0) ≡ true → take i xs ∷ slice_split p (take (length xs - (i + 1)) (drop (i + 1) xs)) ≡ slice_split p xs
 cut_here p xs i h none here =
     let at : position_or_len p xs ≡ i = position_or_len_is p xs i 0 (omega arith) none (λ _. here) in
-    let rest : take (length xs - (i + 1)) (drop (i + 1) xs) ≡ drop (i + 1) xs = take_all (length xs - (i + 1)) (drop (i + 1) xs) (omega (arith, length-drop (i + 1) xs)) in
+    let rest : take (length xs - (i + 1)) (drop (i + 1) xs) ≡ drop (i + 1) xs =
+    take_all (length xs - (i + 1)) (drop (i + 1) xs) (omega (arith, length-drop (i + 1) xs)) in
     ap (λ l. take i xs ∷ slice_split p l) rest
     ∙ sym (slice_split_first p xs 0 (omega (arith, at)) ∙ ap (λ n. take n xs ∷ slice_split p (drop (n + 1) xs)) at)
 
@@ -19,7 +21,8 @@ cut_here p xs i h none here =
 pub cut_nowhere : (p : ℕ → Bool) (xs : List ℕ) → ((k : ℕ) → k < length xs → p (get_or xs k 0) ≡ false) → xs ∷ [] ≡ slice_split p xs
 cut_nowhere p [] none = refl
 cut_nowhere p (x ∷ xs) none =
-    sym (slice_split-cons_no p x xs (none 0 (omega arith)) ∙ ap (onto_first x) (sym (cut_nowhere p xs (λ k h. none (suc k) (omega (arith, h))))))
+    sym (slice_split-cons_no p x xs (none 0 (omega arith))
+    ∙ ap (onto_first x) (sym (cut_nowhere p xs (λ k h. none (suc k) (omega (arith, h))))))
 
 -- ---- words so far
 

@@ -24,7 +24,8 @@ use Rattle.script_reader.proofs.Tables.{few_coroutines}
 
 -- ---- sizes
 
-lines_light : (n : ℕ) (blocks : List (List ℕ)) (weights : List ℕ) (jobs : List (List ℕ)) (b : Open) (code : List Instruction) → lines_fit n blocks weights jobs b code ≡ true → b.weight ≤ 16000 → (with_lines weights jobs b code).weight ≤ 16000
+lines_light : (n : ℕ) (blocks : List (List ℕ)) (weights : List ℕ) (jobs : List (List ℕ)) (b : Open) (code : List Instruction)
+    → lines_fit n blocks weights jobs b code ≡ true → b.weight ≤ 16000 → (with_lines weights jobs b code).weight ≤ 16000
 lines_light n blocks weights jobs b [] e light = light
 lines_light n blocks weights jobs b (x ∷ code) e light =
     let next = with_line weights x (name_given jobs x) b in
@@ -34,14 +35,16 @@ lines_light n blocks weights jobs b (x ∷ code) e light =
     let within = both_true (few_clauses next.clauses) (nat_le next.weight 16000) deep.1 in
     lines_light n blocks weights jobs next code more.1 (le-from_true next.weight 16000 within.1)
 
-weights_light : (n : ℕ) (before : List (List ℕ)) (weights : List ℕ) (bs : List Block) → blocks_fit n before weights bs ≡ true → list_all (λ w. nat_le w 16000) weights ≡ true → list_all (λ w. nat_le w 16000) (weights_from weights bs) ≡ true
+weights_light : (n : ℕ) (before : List (List ℕ)) (weights : List ℕ) (bs : List Block) → blocks_fit n before weights bs ≡ true
+    → list_all (λ w. nat_le w 16000) weights ≡ true → list_all (λ w. nat_le w 16000) (weights_from weights bs) ≡ true
 weights_light n before weights [] e light = light
 weights_light n before weights (b ∷ bs) e light =
     let two = both_true _ _ e in
     let more = both_true _ _ two.1 in
     let w = weight_in weights b in
     let new = lines_light n before weights b.jobs (opened b.name) b.code more.0 (omega arith) in
-    weights_light n (before ++ b.name ∷ []) (weights ++ w ∷ []) bs more.1 (all_push (λ v. nat_le v 16000) weights w light (le-true w 16000 new))
+    weights_light n (before ++ b.name ∷ []) (weights ++ w ∷ []) bs more.1
+    (all_push (λ v. nat_le v 16000) weights w light (le-true w 16000 new))
 
 weight_light : (weights : List ℕ) (k : ℕ) → list_all (λ w. nat_le w 16000) weights ≡ true → get_or weights k 0 ≤ 16000
 weight_light [] k e = omega arith
@@ -59,13 +62,16 @@ sizes_light p is k h =
 
 -- ---- tags
 
-pub few_tags : (p : Program) (main : ℕ) → IsProgram p → block_named (codes "main") 0 p.blocks ≡ Some main → length (tags_for p.blocks (spawned p) (Some main)) ≤ 16000
+pub few_tags : (p : Program) (main : ℕ) → IsProgram p → block_named (codes "main") 0 p.blocks ≡ Some main
+    → length (tags_for p.blocks (spawned p) (Some main)) ≤ 16000
 few_tags p main is e = omega (arith, few_coroutines p is, ap (λ o. length (tags_for p.blocks (spawned p) o)) e)
 
-pub tags_are : (p : Program) (main : ℕ) (tags : List ℕ) → block_named (codes "main") 0 p.blocks ≡ Some main → tags ≡ tags_for p.blocks (spawned p) (Some main) → tags ≡ tags_of p
+pub tags_are : (p : Program) (main : ℕ) (tags : List ℕ) → block_named (codes "main") 0 p.blocks ≡ Some main
+    → tags ≡ tags_for p.blocks (spawned p) (Some main) → tags ≡ tags_of p
 tags_are p main tags e is = is ∙ ap (tags_for p.blocks (spawned p)) (sym e)
 
-pub scopes_are : (p : Program) (n count load : ℕ) → IsProgram p → load ≡ whole_load p → count ≡ coroutine_count p → (count ≤ load) × (load ≤ 16000) × (n + count ≡ load → n ≡ scope_count p)
+pub scopes_are : (p : Program) (n count load : ℕ) → IsProgram p → load ≡ whole_load p → count ≡ coroutine_count p → (count ≤ load)
+    × (load ≤ 16000) × (n + count ≡ load → n ≡ scope_count p)
 scopes_are p n count load is whole tags = (
   omega (arith, whole, tags, whole_load-job_count p is),
   omega (arith, whole, is.load),
@@ -82,7 +88,8 @@ has_main-named : (i : ℕ) (bs : List Block) → has_main bs ≡ is_some (block_
 has_main-named i [] = refl
 has_main-named i (b ∷ bs) = by_test (is_main b.name) (has_main-named (i + 1) bs)
   where
-    by_test : (t : Bool) → has_main bs ≡ is_some (block_named (codes "main") (i + 1) bs) → (t || has_main bs) ≡ is_some (if t then Some i else block_named (codes "main") (i + 1) bs)
+    by_test : (t : Bool) → has_main bs ≡ is_some (block_named (codes "main") (i + 1) bs)
+        → (t || has_main bs) ≡ is_some (if t then Some i else block_named (codes "main") (i + 1) bs)
     by_test true e = refl
     by_test false e = e
 
@@ -90,7 +97,8 @@ pub main_there : (bs : List Block) (main : ℕ) → block_named (codes "main") 0
 main_there bs main e = has_main-named 0 bs ∙ ap is_some e
 
 -- a script that is closed and has a main
-pub finish_ok : (s : Read) (main : ℕ) → s.current ≡ None → block_named (codes "main") 0 s.blocks ≡ Some main → finish s ≡ Ok (program_so_far s)
+pub finish_ok : (s : Read) (main : ℕ) → s.current ≡ None → block_named (codes "main") 0 s.blocks ≡ Some main
+    → finish s ≡ Ok (program_so_far s)
 finish_ok s main out e = finish_again s out (main_there s.blocks main e)
 
 pub finish_no_main : (s : Read) → s.current ≡ None → block_named (codes "main") 0 s.blocks ≡ None → finish s ≡ Err kinds.NoMain

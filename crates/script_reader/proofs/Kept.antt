@@ -34,11 +34,17 @@ weight-some [] i e h = absurd (omega (arith, h))
 weight-some (w ∷ weights) zero e h = le-from_true 1 w (both_true (nat_le 1 w) _ e).0
 weight-some (w ∷ weights) (suc i) e h = weight-some weights i (both_true (nat_le 1 w) _ e).1 (omega (arith, h))
 
-own-some : (weights : List ℕ) (n : ℕ) (blocks : List (List ℕ)) (b : Open) (x : Instruction) (name : List ℕ) → list_all (nat_le 1) weights ≡ true → length weights ≡ length blocks → fits n blocks b x ≡ true → names_job b.jobs (job_given x) (Some name) ≡ true → 1 ≤ own_weight weights x
-own-some weights n blocks b (Launch p how job) name some same fit gives = weight-some weights p some (omega (arith, same, lt-from_true p (length blocks) (both_true _ _ fit).0))
+own-some : (weights : List ℕ) (n : ℕ) (blocks : List (List ℕ)) (b : Open) (x : Instruction) (name : List ℕ)
+    → list_all (nat_le 1) weights ≡ true → length weights ≡ length blocks → fits n blocks b x ≡ true
+    → names_job b.jobs (job_given x) (Some name) ≡ true → 1 ≤ own_weight weights x
+own-some weights n blocks b (Launch p how job) name some same fit gives =
+    weight-some weights p some (omega (arith, same, lt-from_true p (length blocks) (both_true _ _ fit).0))
 own-some weights n blocks b other name some same fit gives = cc
 
-jobs-line : (weights : List ℕ) (n : ℕ) (blocks : List (List ℕ)) (b : Open) (x : Instruction) (job : Option (List ℕ)) → list_all (nat_le 1) weights ≡ true → length weights ≡ length blocks → fits n blocks b x ≡ true → names_job b.jobs (job_given x) job ≡ true → list_all (nat_le 1) b.nest ≡ true → length b.jobs < b.weight → length (b.jobs ++ listed job) < b.weight + product b.nest * own_weight weights x
+jobs-line : (weights : List ℕ) (n : ℕ) (blocks : List (List ℕ)) (b : Open) (x : Instruction) (job : Option (List ℕ))
+    → list_all (nat_le 1) weights ≡ true → length weights ≡ length blocks → fits n blocks b x ≡ true
+    → names_job b.jobs (job_given x) job ≡ true → list_all (nat_le 1) b.nest ≡ true → length b.jobs < b.weight
+    → length (b.jobs ++ listed job) < b.weight + product b.nest * own_weight weights x
 jobs-line weights n blocks b x None some same fit gives nest few = omega (arith, few, ap length (append-nil b.jobs))
 jobs-line weights n blocks b x (Some name) some same fit gives nest few =
     let own = own-some weights n blocks b x name some same fit gives in
@@ -48,30 +54,37 @@ but_first-some : (nest : List ℕ) → list_all (nat_le 1) nest ≡ true → lis
 but_first-some [] e = e
 but_first-some (n ∷ nest) e = (both_true (nat_le 1 n) _ e).1
 
-after_end-some : (clauses : Option (List ℕ)) (nest : List ℕ) → list_all (nat_le 1) nest ≡ true → list_all (nat_le 1) (after_end clauses nest) ≡ true
+after_end-some : (clauses : Option (List ℕ)) (nest : List ℕ) → list_all (nat_le 1) nest ≡ true
+    → list_all (nat_le 1) (after_end clauses nest) ≡ true
 after_end-some None nest e = but_first-some nest e
 after_end-some (Some cs) nest e = e
 
-nest-line : (n : ℕ) (blocks : List (List ℕ)) (b : Open) (clauses : Option (List ℕ)) (x : Instruction) → fits n blocks b x ≡ true → list_all (nat_le 1) b.nest ≡ true → list_all (nat_le 1) (nest_after clauses b.nest x) ≡ true
+nest-line : (n : ℕ) (blocks : List (List ℕ)) (b : Open) (clauses : Option (List ℕ)) (x : Instruction) → fits n blocks b x ≡ true
+    → list_all (nat_le 1) b.nest ≡ true → list_all (nat_le 1) (nest_after clauses b.nest x) ≡ true
 nest-line n blocks b clauses (Repeat k) fit e = both (nat_le 1 k) _ (both_true _ _ fit).0 e
 nest-line n blocks b clauses (Each c) fit e = e
 nest-line n blocks b clauses (Scope supervisor) fit e = e
 nest-line n blocks b clauses End fit e = after_end-some clauses b.nest e
 nest-line n blocks b clauses other fit e = e
 
-current-line : (weights : List ℕ) (n : ℕ) (blocks : List (List ℕ)) (o : Option Open) (b : Open) (x : Instruction) (job : Option (List ℕ)) → o ≡ Some b → WeighsJobs o → list_all (nat_le 1) weights ≡ true → length weights ≡ length blocks → fits n blocks b x ≡ true → names_job b.jobs (job_given x) job ≡ true → WeighsJobs (option_map (with_line weights x job) o)
+current-line : (weights : List ℕ) (n : ℕ) (blocks : List (List ℕ)) (o : Option Open) (b : Open) (x : Instruction) (job : Option (List ℕ))
+    → o ≡ Some b → WeighsJobs o → list_all (nat_le 1) weights ≡ true → length weights ≡ length blocks → fits n blocks b x ≡ true
+    → names_job b.jobs (job_given x) job ≡ true → WeighsJobs (option_map (with_line weights x job) o)
 current-line weights n blocks o b x job is h some same fit gives =
     let jobs : WeighsJobs (Some b) = subst WeighsJobs is h in
-    subst (λ c. WeighsJobs (option_map (with_line weights x job) c)) (sym is) (jobs-line weights n blocks b x job some same fit gives jobs.1 jobs.0, nest-line n blocks b b.clauses x fit jobs.1)
+    subst (λ c. WeighsJobs (option_map (with_line weights x job) c)) (sym is)
+    (jobs-line weights n blocks b x job some same fit gives jobs.1 jobs.0, nest-line n blocks b b.clauses x fit jobs.1)
 
-new-line : (weights : List ℕ) (blocks : List Block) (o : Option Open) (x : Instruction) (job : Option (List ℕ)) → IsNewBlock blocks o → IsNewBlock blocks (option_map (with_line weights x job) o)
+new-line : (weights : List ℕ) (blocks : List Block) (o : Option Open) (x : Instruction) (job : Option (List ℕ)) → IsNewBlock blocks o
+    → IsNewBlock blocks (option_map (with_line weights x job) o)
 new-line weights blocks None x job h = tt
 new-line weights blocks (Some b) x job h = h
 
 length-names : (bs : List Block) → length (block_names bs) ≡ length bs
 length-names bs = length-map bs (λ (b : Block). b.name)
 
-known-more : (n m : ℕ) (spawns : List (ℕ × ℕ)) → n ≤ m → list_all (λ t. nat_lt t.0 n) spawns ≡ true → list_all (λ t. nat_lt t.0 m) spawns ≡ true
+known-more : (n m : ℕ) (spawns : List (ℕ × ℕ)) → n ≤ m → list_all (λ t. nat_lt t.0 n) spawns ≡ true
+    → list_all (λ t. nat_lt t.0 m) spawns ≡ true
 known-more n m [] h e = refl
 known-more n m (s ∷ spawns) h e =
     let two = both_true (nat_lt s.0 n) _ e in
@@ -90,8 +103,10 @@ IsKept-start = record {
 }
 
 pub IsKept-after : (s : Read) (words : List (List ℕ)) (f : Form) → IsKept s → Says s words f → Within (after f s) → IsKept (after f s)
-IsKept-after s words version_is is says within = record { within = within; weights = is.weights; some = is.some; spawns = is.spawns; jobs = is.jobs; new = is.new }
-IsKept-after s words (channel_is c) is says within = record { within = within; weights = is.weights; some = is.some; spawns = is.spawns; jobs = is.jobs; new = is.new }
+IsKept-after s words version_is is says within = record
+    { within = within; weights = is.weights; some = is.some; spawns = is.spawns; jobs = is.jobs; new = is.new }
+IsKept-after s words (channel_is c) is says within = record
+    { within = within; weights = is.weights; some = is.some; spawns = is.spawns; jobs = is.jobs; new = is.new }
 IsKept-after s words (coroutine_is p) is says within = record {
   within = within;
   weights = is.weights;
@@ -106,7 +121,8 @@ IsKept-after s words (spawn_is i n) is says within =
       within = within;
       weights = is.weights;
       some = is.some;
-      spawns = all_push (λ t. nat_lt t.0 (length s.weights)) s.spawns (i, n) is.spawns (lt-true i (length s.weights) (omega (arith, known, length-names s.blocks, is.weights)));
+      spawns = all_push (λ t. nat_lt t.0 (length s.weights)) s.spawns (i, n) is.spawns
+          (lt-true i (length s.weights) (omega (arith, known, length-names s.blocks, is.weights)));
       jobs = is.jobs;
       new = is.new;
     }
@@ -115,15 +131,18 @@ IsKept-after s words (line_is x job) is says within = record {
   weights = is.weights;
   some = is.some;
   spawns = is.spawns;
-  jobs = current-line s.weights (length s.channels) (block_names s.blocks) s.current says.0 x job says.1 is.jobs is.some (is.weights ∙ sym (length-names s.blocks)) says.4 says.5;
+  jobs = current-line s.weights (length s.channels) (block_names s.blocks) s.current says.0 x job says.1 is.jobs is.some (is.weights
+      ∙ sym (length-names s.blocks)) says.4 says.5;
   new = new-line s.weights s.blocks s.current x job is.new;
 }
 IsKept-after s words end_is is says within =
     let b = says.0 in
     let jobs : WeighsJobs (Some b) = subst WeighsJobs says.1 is.jobs in
     let weights : s.weights ++ closed_weight s.current ≡ s.weights ++ b.weight ∷ [] = ap (λ o. s.weights ++ closed_weight o) says.1 in
-    let blocks : length (s.blocks ++ closed_block s.current) ≡ length s.blocks + 1 = ap (λ o. length (s.blocks ++ closed_block o)) says.1 ∙ length-append s.blocks (closed_block (Some b)) in
-    let more : length (s.weights ++ closed_weight s.current) ≡ length s.weights + 1 = ap length weights ∙ length-append s.weights (b.weight ∷ []) in
+    let blocks : length (s.blocks ++ closed_block s.current) ≡ length s.blocks + 1 = ap (λ o. length (s.blocks ++ closed_block o)) says.1
+    ∙ length-append s.blocks (closed_block (Some b)) in
+    let more : length (s.weights ++ closed_weight s.current) ≡ length s.weights + 1 = ap length weights
+    ∙ length-append s.weights (b.weight ∷ []) in
     record {
       within = within;
       weights = omega (arith, blocks, more, is.weights);
@@ -146,7 +165,8 @@ CanEnter-from_Says s words version_is is says = tt
 CanEnter-from_Says s words (channel_is c) is says = (fresh_none _ c.name says.4).1
 CanEnter-from_Says s words (coroutine_is p) is says = tt
 CanEnter-from_Says s words (spawn_is i n) is says = tt
-CanEnter-from_Says s words (line_is x job) is says = subst (λ o. IsNewJob o job) (sym says.1) (new-job 0 (says.0).jobs (job_given x) job says.5)
+CanEnter-from_Says s words (line_is x job) is says = subst (λ o. IsNewJob o job) (sym says.1)
+    (new-job 0 (says.0).jobs (job_given x) job says.5)
 CanEnter-from_Says s words end_is is says = is.new
 
 -- ---- how many blocks
@@ -168,7 +188,13 @@ cost-after s words (coroutine_is p) says =
 cost-after s words (spawn_is i n) says = omega arith
 cost-after s words (line_is x job) says =
     let b = says.0 in
-    omega (arith, ap open_cost says.1, ap (λ o. open_cost (option_map (with_line s.weights x job) o)) says.1, length-append b.code (x ∷ []), words-some words x says.2)
+    omega (
+      arith,
+      ap open_cost says.1,
+      ap (λ o. open_cost (option_map (with_line s.weights x job) o)) says.1,
+      length-append b.code (x ∷ []),
+      words-some words x says.2,
+    )
   where
     some_word : (n : Names) (x : Instruction) → 1 ≤ text_length (line_words n x)
     some_word n (Launch p how job) = omega arith
@@ -195,4 +221,5 @@ cost-after s words end_is says =
 -- each of these blocks has no more lines than all have
 pub short_code : (n : ℕ) (cs : List Coroutine) → line_count (map block_of cs) ≤ n → list_all (λ c. nat_le (length c.code.items) n) cs ≡ true
 short_code n [] h = refl
-short_code n (c ∷ cs) h = both (nat_le (length c.code.items) n) _ (le-true (length c.code.items) n (omega (arith, h))) (short_code n cs (omega (arith, h)))
+short_code n (c ∷ cs) h = both (nat_le (length c.code.items) n) _ (le-true (length c.code.items) n (omega (arith, h)))
+    (short_code n cs (omega (arith, h)))

@@ -24,13 +24,16 @@ drop_all (suc n) (x ∷ xs) h = drop_all n xs (omega (arith, h))
 -- nothing stands behind the end, however often
 pub repeat-nothing : (from turns : ℕ) (all : List ℕ) → from ≡ length all → all ≡ take from all ++ times_over turns (drop from all)
 repeat-nothing from turns all h =
-    sym (ap₂ (λ (a b : List ℕ). a ++ b) (take_all from all (omega (arith, h))) (ap (times_over turns) (drop_all from all (omega (arith, h))) ∙ times_over-nil turns) ∙ append-nil all)
+    sym (ap₂ (λ (a b : List ℕ). a ++ b) (take_all from all (omega (arith, h))) (ap (times_over turns) (drop_all from all (omega (arith, h)))
+    ∙ times_over-nil turns) ∙ append-nil all)
 
 -- one copy more
-pub repeat-more : (turn : ℕ) (front part now : List ℕ) → now ≡ front ++ times_over turn part → now ++ part ≡ front ++ times_over (turn + 1) part
+pub repeat-more : (turn : ℕ) (front part now : List ℕ) → now ≡ front ++ times_over turn part → now ++ part ≡ front
+    ++ times_over (turn + 1) part
 repeat-more turn front part now is =
     let next : turn + 1 ≡ suc turn = omega arith in
-    ap (λ l. l ++ part) is ∙ append_assoc front (times_over turn part) part ∙ ap (λ l. front ++ l) (times_over-push turn part ∙ ap (λ n. times_over n part) (sym next))
+    ap (λ l. l ++ part) is ∙ append_assoc front (times_over turn part) part
+    ∙ ap (λ l. front ++ l) (times_over-push turn part ∙ ap (λ n. times_over n part) (sym next))
 
 -- ---- more blocks behind
 
@@ -38,5 +41,6 @@ nested-more : (outer : List Opened) (n m : ℕ) → n ≤ m → AreNested outer 
 nested-more [] n m le h = tt
 nested-more (o ∷ outer) n m le h = (omega (arith, le, h.0), h.1)
 
-pub nested-append : (outer : List Opened) (blocks more : List ℕ) → AreNested outer (length blocks) → AreNested outer (length (blocks ++ more))
+pub nested-append : (outer : List Opened) (blocks more : List ℕ) → AreNested outer (length blocks)
+    → AreNested outer (length (blocks ++ more))
 nested-append outer blocks more h = nested-more outer (length blocks) (length (blocks ++ more)) (omega (arith, length-append blocks more)) h

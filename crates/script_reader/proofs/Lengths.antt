@@ -17,7 +17,8 @@ pub text_length-slice_split : (p : ℕ → Bool) (xs : List ℕ) → text_length
 text_length-slice_split p [] = omega arith
 text_length-slice_split p (x ∷ xs) = by_test (p x) (text_length-slice_split p xs)
   where
-    by_test : (b : Bool) → text_length (slice_split p xs) ≡ length xs + 1 → text_length (if b then [] ∷ slice_split p xs else onto_first x (slice_split p xs)) ≡ length (x ∷ xs) + 1
+    by_test : (b : Bool) → text_length (slice_split p xs) ≡ length xs + 1
+        → text_length (if b then [] ∷ slice_split p xs else onto_first x (slice_split p xs)) ≡ length (x ∷ xs) + 1
     by_test true e = omega (arith, e)
     by_test false e = let more = longer_first x (slice_split p xs) (omega (arith, e)) in omega (arith, e, more)
 
@@ -25,7 +26,8 @@ text_length-filter : (p : List ℕ → Bool) (parts : List (List ℕ)) → text_
 text_length-filter p [] = omega arith
 text_length-filter p (x ∷ xs) = by_test (p x) (text_length-filter p xs)
   where
-    by_test : (b : Bool) → text_length (filter p xs) ≤ text_length xs → text_length (if b then x ∷ filter p xs else filter p xs) ≤ text_length (x ∷ xs)
+    by_test : (b : Bool) → text_length (filter p xs) ≤ text_length xs
+        → text_length (if b then x ∷ filter p xs else filter p xs) ≤ text_length (x ∷ xs)
     by_test true e = omega (arith, e)
     by_test false e = omega (arith, e)
 
@@ -33,14 +35,20 @@ text_length-before_comment : (words : List (List ℕ)) → text_length (before_c
 text_length-before_comment [] = omega arith
 text_length-before_comment (w ∷ ws) = by_test (begins_comment w) (text_length-before_comment ws)
   where
-    by_test : (b : Bool) → text_length (before_comment ws) ≤ text_length ws → text_length (if b then [] else w ∷ before_comment ws) ≤ text_length (w ∷ ws)
+    by_test : (b : Bool) → text_length (before_comment ws) ≤ text_length ws
+        → text_length (if b then [] else w ∷ before_comment ws) ≤ text_length (w ∷ ws)
     by_test true e = omega arith
     by_test false e = omega (arith, e)
 
 -- a line has room for its words
 pub text_length-words_of : (line : List ℕ) → text_length (words_of line) ≤ length line + 1
 text_length-words_of line =
-    omega (arith, text_length-before_comment (filter has_items (slice_split is_space line)), text_length-filter has_items (slice_split is_space line), text_length-slice_split is_space line)
+    omega (
+      arith,
+      text_length-before_comment (filter has_items (slice_split is_space line)),
+      text_length-filter has_items (slice_split is_space line),
+      text_length-slice_split is_space line,
+    )
 
 -- a text has a line feed at its end, or none
 pub length-without_last_feed : (xs : List ℕ) → length (without_last_feed xs) ≤ length xs

@@ -24,11 +24,13 @@ unless_still other P Q f p = f p
 
 -- ---- one line
 
-lines_cons_ok : (n : ℕ) (s t : Read) (line : List ℕ) (more : List (List ℕ)) → line_at s line ≡ Ok t → lines_from n s (line ∷ more) ≡ lines_from (n + 1) t more
+lines_cons_ok : (n : ℕ) (s t : Read) (line : List ℕ) (more : List (List ℕ)) → line_at s line ≡ Ok t
+    → lines_from n s (line ∷ more) ≡ lines_from (n + 1) t more
 unfolding lines_from
 lines_cons_ok n s t line more ok = ap (λ (r : Result Read FaultKind). in_line n r >>> λ u. lines_from (n + 1) u more) ok
 
-lines_cons_err : (n : ℕ) (s : Read) (k : FaultKind) (line : List ℕ) (more : List (List ℕ)) → line_at s line ≡ Err k → lines_from n s (line ∷ more) ≡ Err (record { line = n; kind = k })
+lines_cons_err : (n : ℕ) (s : Read) (k : FaultKind) (line : List ℕ) (more : List (List ℕ)) → line_at s line ≡ Err k
+    → lines_from n s (line ∷ more) ≡ Err (record { line = n; kind = k })
 unfolding lines_from
 lines_cons_err n s k line more bad = ap (λ (r : Result Read FaultKind). in_line n r >>> λ u. lines_from (n + 1) u more) bad
 
@@ -36,15 +38,23 @@ lines_nil : (n : ℕ) (s : Read) → lines_from n s [] ≡ Ok s
 unfolding lines_from
 lines_nil n s = refl
 
-pub lines_fail : (n : ℕ) (s : Read) (k : FaultKind) (rest line : List ℕ) (more : Option (Bor (List ℕ))) (all : Result Read ScriptFault) → lines_from n s (slice_split is_line_feed rest) ≡ all → parts is_line_feed line more ≡ slice_split is_line_feed rest → line_at s line ≡ Err k → all ≡ Err (record { line = n; kind = k })
+pub lines_fail : (n : ℕ) (s : Read) (k : FaultKind) (rest line : List ℕ) (more : Option (Bor (List ℕ))) (all : Result Read ScriptFault)
+    → lines_from n s (slice_split is_line_feed rest) ≡ all → parts is_line_feed line more ≡ slice_split is_line_feed rest
+    → line_at s line ≡ Err k → all ≡ Err (record { line = n; kind = k })
 lines_fail n s k rest line None all inv is bad = sym inv ∙ ap (lines_from n s) (sym is) ∙ lines_cons_err n s k line [] bad
-lines_fail n s k rest line (Some next) all inv is bad = sym inv ∙ ap (lines_from n s) (sym is) ∙ lines_cons_err n s k line (slice_split is_line_feed next.now) bad
+lines_fail n s k rest line (Some next) all inv is bad = sym inv ∙ ap (lines_from n s) (sym is)
+    ∙ lines_cons_err n s k line (slice_split is_line_feed next.now) bad
 
-pub lines_end : (n : ℕ) (s t : Read) (rest line : List ℕ) (all : Result Read ScriptFault) → lines_from n s (slice_split is_line_feed rest) ≡ all → parts is_line_feed line None ≡ slice_split is_line_feed rest → line_at s line ≡ Ok t → all ≡ Ok t
+pub lines_end : (n : ℕ) (s t : Read) (rest line : List ℕ) (all : Result Read ScriptFault)
+    → lines_from n s (slice_split is_line_feed rest) ≡ all → parts is_line_feed line None ≡ slice_split is_line_feed rest
+    → line_at s line ≡ Ok t → all ≡ Ok t
 lines_end n s t rest line all inv is ok = sym inv ∙ ap (lines_from n s) (sym is) ∙ lines_cons_ok n s t line [] ok ∙ lines_nil (n + 1) t
 
-pub lines_more : (n : ℕ) (s t : Read) (rest line : List ℕ) (next : Bor (List ℕ)) (all : Result Read ScriptFault) → lines_from n s (slice_split is_line_feed rest) ≡ all → parts is_line_feed line (Some next) ≡ slice_split is_line_feed rest → line_at s line ≡ Ok t → lines_from (n + 1) t (slice_split is_line_feed next.now) ≡ all
-lines_more n s t rest line next all inv is ok = sym (lines_cons_ok n s t line (slice_split is_line_feed next.now) ok) ∙ ap (lines_from n s) is ∙ inv
+pub lines_more : (n : ℕ) (s t : Read) (rest line : List ℕ) (next : Bor (List ℕ)) (all : Result Read ScriptFault)
+    → lines_from n s (slice_split is_line_feed rest) ≡ all → parts is_line_feed line (Some next) ≡ slice_split is_line_feed rest
+    → line_at s line ≡ Ok t → lines_from (n + 1) t (slice_split is_line_feed next.now) ≡ all
+lines_more n s t rest line next all inv is ok = sym (lines_cons_ok n s t line (slice_split is_line_feed next.now) ok)
+    ∙ ap (lines_from n s) is ∙ inv
 
 -- ---- how many lines there are
 
@@ -53,9 +63,15 @@ length-text_length [] = omega arith
 length-text_length (l ∷ ls) = omega (arith, length-text_length ls)
 
 pub few_lines : (bytes : List ℕ) → length (lines_of bytes) ≤ length bytes + 1
-few_lines bytes = omega (arith, length-text_length (lines_of bytes), text_length-slice_split is_line_feed (without_last_feed bytes), length-without_last_feed bytes)
+few_lines bytes = omega (
+  arith,
+  length-text_length (lines_of bytes),
+  text_length-slice_split is_line_feed (without_last_feed bytes),
+  length-without_last_feed bytes,
+)
 
-pub counted_more : (n : ℕ) (rest line : List ℕ) (next : Bor (List ℕ)) (all : ℕ) → n + length (slice_split is_line_feed rest) ≡ all + 1 → parts is_line_feed line (Some next) ≡ slice_split is_line_feed rest → n + 1 + length (slice_split is_line_feed next.now) ≡ all + 1
+pub counted_more : (n : ℕ) (rest line : List ℕ) (next : Bor (List ℕ)) (all : ℕ) → n + length (slice_split is_line_feed rest) ≡ all + 1
+    → parts is_line_feed line (Some next) ≡ slice_split is_line_feed rest → n + 1 + length (slice_split is_line_feed next.now) ≡ all + 1
 counted_more n rest line next all count is = omega (arith, count, ap length is)
 
 -- ---- how many blocks there are

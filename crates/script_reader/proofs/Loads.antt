@@ -28,29 +28,39 @@ over : (limit n : ℕ) → limit < n → at_most TooMany limit n ≡ Err TooMany
 over limit n h = ap (λ b. if◌then◌else◌ {A = Result (Unit {0}) FaultKind} b (Ok tt) (Err TooMany)) (le-false n limit h)
 
 -- where the open block is within its limits, the limits of all are looked at
-within_block : (s : Read) → IsWithin s.current → limited s ≡ (at_most TooMany 256 (length s.channels) >>= λ u. at_most TooMany 4194304 (places_in s.channels) >>= λ u. at_most TooMany 16000 (load s) >>= λ u. Ok s)
+within_block : (s : Read) → IsWithin s.current → limited s ≡
+    (at_most TooMany 256 (length s.channels) >>= λ u. at_most TooMany 4194304 (places_in s.channels) >>=
+    λ u. at_most TooMany 16000 (load s) >>= λ u. Ok s)
 within_block s h =
-    ap (λ (r : Result (Unit {0}) FaultKind). r >>= λ u. light s.current >>= λ u. at_most TooMany 256 (length s.channels) >>= λ u. at_most TooMany 4194304 (places_in s.channels) >>= λ u. at_most TooMany 16000 (load s) >>= λ u. Ok s) (deep_again s.current h)
-    ∙ ap (λ (r : Result (Unit {0}) FaultKind). r >>= λ u. at_most TooMany 256 (length s.channels) >>= λ u. at_most TooMany 4194304 (places_in s.channels) >>= λ u. at_most TooMany 16000 (load s) >>= λ u. Ok s) (light_again s.current h)
+    ap (λ (r : Result (Unit {0}) FaultKind). r >>= λ u. light s.current >>= λ u. at_most TooMany 256 (length s.channels) >>=
+    λ u. at_most TooMany 4194304 (places_in s.channels) >>= λ u. at_most TooMany 16000 (load s) >>= λ u. Ok s) (deep_again s.current h)
+    ∙ ap (λ (r : Result (Unit {0}) FaultKind). r >>= λ u. at_most TooMany 256 (length s.channels) >>=
+    λ u. at_most TooMany 4194304 (places_in s.channels) >>= λ u. at_most TooMany 16000 (load s) >>= λ u. Ok s) (light_again s.current h)
 
 -- too many places in all
 pub limited-places : (s : Read) → IsWithin s.current → length s.channels ≤ 256 → 4194304 < places_in s.channels → limited s ≡ Err TooMany
 limited-places s h channels many =
     within_block s h
-    ∙ ap (λ (r : Result (Unit {0}) FaultKind). r >>= λ u. at_most TooMany 4194304 (places_in s.channels) >>= λ u. at_most TooMany 16000 (load s) >>= λ u. Ok s) (at_most_again TooMany 256 (length s.channels) channels)
-    ∙ ap (λ (r : Result (Unit {0}) FaultKind). r >>= λ u. at_most TooMany 16000 (load s) >>= λ u. Ok s) (over 4194304 (places_in s.channels) many)
+    ∙ ap (λ (r : Result (Unit {0}) FaultKind). r >>= λ u. at_most TooMany 4194304 (places_in s.channels) >>=
+    λ u. at_most TooMany 16000 (load s) >>= λ u. Ok s) (at_most_again TooMany 256 (length s.channels) channels)
+    ∙ ap (λ (r : Result (Unit {0}) FaultKind). r >>= λ u. at_most TooMany 16000 (load s) >>= λ u. Ok s)
+    (over 4194304 (places_in s.channels) many)
 
 -- too great a load
-pub limited-load : (s : Read) → IsWithin s.current → length s.channels ≤ 256 → places_in s.channels ≤ 4194304 → 16000 < load s → limited s ≡ Err TooMany
+pub limited-load : (s : Read) → IsWithin s.current → length s.channels ≤ 256 → places_in s.channels ≤ 4194304 → 16000 < load s
+    → limited s ≡ Err TooMany
 limited-load s h channels places many =
     within_block s h
-    ∙ ap (λ (r : Result (Unit {0}) FaultKind). r >>= λ u. at_most TooMany 4194304 (places_in s.channels) >>= λ u. at_most TooMany 16000 (load s) >>= λ u. Ok s) (at_most_again TooMany 256 (length s.channels) channels)
-    ∙ ap (λ (r : Result (Unit {0}) FaultKind). r >>= λ u. at_most TooMany 16000 (load s) >>= λ u. Ok s) (at_most_again TooMany 4194304 (places_in s.channels) places)
+    ∙ ap (λ (r : Result (Unit {0}) FaultKind). r >>= λ u. at_most TooMany 4194304 (places_in s.channels) >>=
+    λ u. at_most TooMany 16000 (load s) >>= λ u. Ok s) (at_most_again TooMany 256 (length s.channels) channels)
+    ∙ ap (λ (r : Result (Unit {0}) FaultKind). r >>= λ u. at_most TooMany 16000 (load s) >>= λ u. Ok s)
+    (at_most_again TooMany 4194304 (places_in s.channels) places)
     ∙ ap (λ (r : Result (Unit {0}) FaultKind). r >>= λ u. Ok s) (over 16000 (load s) many)
 
 -- ---- the load
 
-pub spawned_weight-more : (weights : List ℕ) (w : ℕ) (spawns : List (ℕ × ℕ)) → list_all (λ s. nat_lt s.0 (length weights)) spawns ≡ true → spawned_weight (weights ++ w ∷ []) spawns ≡ spawned_weight weights spawns
+pub spawned_weight-more : (weights : List ℕ) (w : ℕ) (spawns : List (ℕ × ℕ)) → list_all (λ s. nat_lt s.0 (length weights)) spawns ≡ true
+    → spawned_weight (weights ++ w ∷ []) spawns ≡ spawned_weight weights spawns
 spawned_weight-more weights w [] known = refl
 spawned_weight-more weights w (s ∷ spawns) known =
     let two = both_true (nat_lt s.0 (length weights)) (list_all (λ s. nat_lt s.0 (length weights)) spawns) known in
@@ -67,11 +77,18 @@ main_weight-plus name v w = by_test (is_main name)
     by_test true = refl
     by_test false = omega arith
 
-pub load-line : (s : Read) (b : Open) (x : Instruction) (job : Option (List ℕ)) → s.current ≡ Some b → load (after (line_is x job) s) ≡ load s + main_weight b.name (product b.nest * own_weight s.weights x)
+pub load-line : (s : Read) (b : Open) (x : Instruction) (job : Option (List ℕ)) → s.current ≡ Some b
+    → load (after (line_is x job) s) ≡ load s + main_weight b.name (product b.nest * own_weight s.weights x)
 load-line s b x job is =
-    omega (arith, ap open_main is, ap (λ o. open_main (option_map (with_line s.weights x job) o)) is, main_weight-plus b.name b.weight (product b.nest * own_weight s.weights x))
+    omega (
+      arith,
+      ap open_main is,
+      ap (λ o. open_main (option_map (with_line s.weights x job) o)) is,
+      main_weight-plus b.name b.weight (product b.nest * own_weight s.weights x),
+    )
 
-pub load-end : (s : Read) → length s.weights ≡ length s.blocks → list_all (λ t. nat_lt t.0 (length s.weights)) s.spawns ≡ true → load (after end_is s) ≡ load s
+pub load-end : (s : Read) → length s.weights ≡ length s.blocks → list_all (λ t. nat_lt t.0 (length s.weights)) s.spawns ≡ true
+    → load (after end_is s) ≡ load s
 load-end s same known = by_open s.current refl
   where
     by_open : (o : Option Open) → s.current ≡ o → load (after end_is s) ≡ load s
@@ -96,8 +113,12 @@ few None h = tt
 few (Some cs) h = h
 
 -- a line with which the load is too great
-pub limited-line : (s : Read) (b : Open) (x : Instruction) (job : Option (List ℕ)) → s.current ≡ Some b → Within s → length (nest_after b.clauses b.nest x) ≤ 8 → clause_count (clauses_after b.clauses x) ≤ 7 → b.weight + product b.nest * own_weight s.weights x ≤ 16000 → 16000 < load s + main_weight b.name (product b.nest * own_weight s.weights x) → limited (after (line_is x job) s) ≡ Err TooMany
+pub limited-line : (s : Read) (b : Open) (x : Instruction) (job : Option (List ℕ)) → s.current ≡ Some b → Within s
+    → length (nest_after b.clauses b.nest x) ≤ 8 → clause_count (clauses_after b.clauses x) ≤ 7
+    → b.weight + product b.nest * own_weight s.weights x ≤ 16000
+    → 16000 < load s + main_weight b.name (product b.nest * own_weight s.weights x) → limited (after (line_is x job) s) ≡ Err TooMany
 limited-line s b x job is h deep_ clauses weight many =
     let t = after (line_is x job) s in
     let within : IsWithin (Some (with_line s.weights x job b)) = (deep_, few (clauses_after b.clauses x) clauses, weight) in
-    limited-load t (subst (λ o. IsWithin (option_map (with_line s.weights x job) o)) (sym is) within) h.channels h.places (omega (arith, many, load-line s b x job is))
+    limited-load t (subst (λ o. IsWithin (option_map (with_line s.weights x job) o)) (sym is) within) h.channels h.places
+    (omega (arith, many, load-line s b x job is))

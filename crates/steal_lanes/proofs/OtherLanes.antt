@@ -23,7 +23,8 @@ nothing_more [] (v ∷ vs) x y n f = absurd n
 nothing_more (u ∷ us) [] x y n f = absurd n
 nothing_more (u ∷ us) (v ∷ vs) x y n f = (n.0, nothing_more us vs x y n.1 f)
 
-took_behind : (t : ℕ) (xs ys back : List OtherLane) (x y : OtherLane) → NothingFrom xs ys → Took t x y → TookFrom t (xs ++ x ∷ back) (ys ++ y ∷ back)
+took_behind : (t : ℕ) (xs ys back : List OtherLane) (x y : OtherLane) → NothingFrom xs ys → Took t x y
+    → TookFrom t (xs ++ x ∷ back) (ys ++ y ∷ back)
 took_behind t [] [] back x y n k = inl (k, refl)
 took_behind t [] (v ∷ vs) back x y n k = absurd n
 took_behind t (u ∷ us) [] back x y n k = absurd n
@@ -38,12 +39,14 @@ same_by_nothing (x ∷ xs) (y ∷ ys) n = λ i. n.0.deque i ∷ same_by_nothing 
 pub same_by_took : (t : ℕ) (xs ys : List OtherLane) → TookFrom t xs ys → map other_deque ys ≡ map other_deque xs
 same_by_took t [] ys k = absurd k
 same_by_took t (x ∷ xs) [] k = absurd k
-same_by_took t (x ∷ xs) (y ∷ ys) k = ⊎_elim (λ (h : Took t x y × (ys ≡ xs)). λ i. h.0.deque i ∷ map other_deque (h.1 i)) (λ (h : TookNothing x y × TookFrom t xs ys). λ i. h.0.deque i ∷ same_by_took t xs ys h.1 i) k
+same_by_took t (x ∷ xs) (y ∷ ys) k = ⊎_elim (λ (h : Took t x y × (ys ≡ xs)). λ i. h.0.deque i ∷ map other_deque (h.1 i))
+    (λ (h : TookNothing x y × TookFrom t xs ys). λ i. h.0.deque i ∷ same_by_took t xs ys h.1 i) k
 
 -- ---- one turn
 
 -- what stands at the place that is looked at next
-there : {A : Type 0} (fs back : List A) (x : A) → x ≡ get_or (fs ++ back) (length fs) x → length fs < length (fs ++ back) → (more : List A) × (back ≡ x ∷ more)
+there : {A : Type 0} (fs back : List A) (x : A) → x ≡ get_or (fs ++ back) (length fs) x → length fs < length (fs ++ back) → (more : List A)
+    × (back ≡ x ∷ more)
 there [] [] x e lt = absurd (omega arith)
 there [] (z ∷ zs) x e lt = (zs, λ i. sym e i ∷ zs)
 there (f ∷ fs) back x e lt = there fs back x e (omega arith)
@@ -52,14 +55,20 @@ put_there : {A : Type 0} (fs more : List A) (x y : A) → set (fs ++ x ∷ more)
 put_there [] more x y = refl
 put_there (f ∷ fs) more x y = ap (λ l. f ∷ l) (put_there fs more x y)
 
-turn : (n : ℕ) (old now : List OtherLane) (x : OtherLane) → (k : LookedAt n old now) → x ≡ get_or now n x → n < length now → (more : List OtherLane) × (k.back ≡ x ∷ more)
+turn : (n : ℕ) (old now : List OtherLane) (x : OtherLane) → (k : LookedAt n old now) → x ≡ get_or now n x → n < length now
+    → (more : List OtherLane) × (k.back ≡ x ∷ more)
 turn n old now x k e lt =
-    there k.front_now k.back x (e ∙ ap (λ (l : List OtherLane). get_or l n x) k.after ∙ ap (λ m. get_or (k.front_now ++ k.back) m x) (sym k.count)) (let c = k.count in let m : length now ≡ length (k.front_now ++ k.back) = ap length k.after in omega arith)
+    there k.front_now k.back x (e ∙ ap (λ (l : List OtherLane). get_or l n x) k.after
+    ∙ ap (λ m. get_or (k.front_now ++ k.back) m x) (sym k.count)) (let c = k.count
+    in let m : length now ≡ length (k.front_now ++ k.back) = ap length k.after in omega arith)
 
-turned : (n : ℕ) (old now : List OtherLane) (x y : OtherLane) (k : LookedAt n old now) (more : List OtherLane) → k.back ≡ x ∷ more → set now n y ≡ k.front_now ++ y ∷ more
-turned n old now x y k more b = ap (λ (l : List OtherLane). set l n y) (k.after ∙ ap (λ l. k.front_now ++ l) b) ∙ ap (λ m. set (k.front_now ++ x ∷ more) m y) (sym k.count) ∙ put_there k.front_now more x y
+turned : (n : ℕ) (old now : List OtherLane) (x y : OtherLane) (k : LookedAt n old now) (more : List OtherLane) → k.back ≡ x ∷ more
+    → set now n y ≡ k.front_now ++ y ∷ more
+turned n old now x y k more b = ap (λ (l : List OtherLane). set l n y) (k.after ∙ ap (λ l. k.front_now ++ l) b)
+    ∙ ap (λ m. set (k.front_now ++ x ∷ more) m y) (sym k.count) ∙ put_there k.front_now more x y
 
-pub looked_next : (n : ℕ) (old now : List OtherLane) (x y : OtherLane) → LookedAt n old now → x ≡ get_or now n x → n < length now → TookNothing x y → LookedAt (n + 1) old (set now n y)
+pub looked_next : (n : ℕ) (old now : List OtherLane) (x y : OtherLane) → LookedAt n old now → x ≡ get_or now n x → n < length now
+    → TookNothing x y → LookedAt (n + 1) old (set now n y)
 looked_next n old now x y k e lt f =
     let b = turn n old now x k e lt in
     record {
@@ -72,10 +81,13 @@ looked_next n old now x y k e lt f =
       count = length-append k.front_now (y ∷ []) ∙ ap (λ m. m + 1) k.count;
     }
 
-pub took_next : (n t : ℕ) (old now : List OtherLane) (x y : OtherLane) → LookedAt n old now → x ≡ get_or now n x → n < length now → Took t x y → TookFrom t old (set now n y)
+pub took_next : (n t : ℕ) (old now : List OtherLane) (x y : OtherLane) → LookedAt n old now → x ≡ get_or now n x → n < length now
+    → Took t x y → TookFrom t old (set now n y)
 took_next n t old now x y k e lt f =
     let b = turn n old now x k e lt in
-    subst (λ (p : List OtherLane × List OtherLane). TookFrom t p.0 p.1) (λ i. (sym (k.before ∙ ap (λ l. k.front ++ l) b.1) i, sym (turned n old now x y k b.0 b.1) i)) (took_behind t k.front k.front_now b.0 x y k.nothing f)
+    subst (λ (p : List OtherLane × List OtherLane). TookFrom t p.0 p.1)
+    (λ i. (sym (k.before ∙ ap (λ l. k.front ++ l) b.1) i, sym (turned n old now x y k b.0 b.1) i))
+    (took_behind t k.front k.front_now b.0 x y k.nothing f)
 
 none_left : (back : List OtherLane) → length back ≤ 0 → back ≡ []
 none_left [] le = refl
@@ -86,7 +98,11 @@ looked_all n old now k le =
     let m : length now ≡ length k.front_now + length k.back = ap length k.after ∙ length-append k.front_now k.back in
     let c = k.count in
     let none = none_left k.back (omega arith) in
-    subst (λ (p : List OtherLane × List OtherLane). NothingFrom p.0 p.1) (λ i. (sym (k.before ∙ ap (λ l. k.front ++ l) none ∙ append-nil k.front) i, sym (k.after ∙ ap (λ l. k.front_now ++ l) none ∙ append-nil k.front_now) i)) k.nothing
+    subst (λ (p : List OtherLane × List OtherLane). NothingFrom p.0 p.1)
+    (λ i. (
+      sym (k.before ∙ ap (λ l. k.front ++ l) none ∙ append-nil k.front) i,
+      sym (k.after ∙ ap (λ l. k.front_now ++ l) none ∙ append-nil k.front_now) i,
+    )) k.nothing
 
 pub same_by_answer : (old new : List OtherLane) (r : Option ℕ) → OthersAnswer old new r → map other_deque new ≡ map other_deque old
 same_by_answer old new None h = same_by_nothing old new h

@@ -37,7 +37,8 @@ fated g (Some x) = cond (number_of x.1 == number_of g) 1 0
 abbrev shape_in : List Declared → Shape
 shape_in channels = map (λ c. (c.kind, c.places)) channels
 
-places_field : (field : _ → ℕ) (g : Fate) → ((n : _) (x : Option (ℕ × Fate)) → field (with_place n x) ≡ field n + fated g x) → (e : ℕ → Option (ℕ × Fate)) (n : _) (i k : ℕ)
+places_field : (field : _ → ℕ) (g : Fate) → ((n : _) (x : Option (ℕ × Fate)) → field (with_place n x) ≡ field n + fated g x)
+    → (e : ℕ → Option (ℕ × Fate)) (n : _) (i k : ℕ)
     → field (fold (λ m p. with_place m (e p)) n (range_with_len i k)) ≡ field n + sum_below (λ p. fated g (e (i + p))) k
 places_field field g step e n i zero = omega arith
 places_field field g step e n i (suc k) =
@@ -46,19 +47,25 @@ places_field field g step e n i (suc k) =
     let c = sum_first (λ p. fated g (e (i + p))) k in
     let z : i + 0 ≡ i = omega arith in
     let d : ◌≡◌ {A = ℕ} (fated g (e (i + 0))) (fated g (e i)) = ap {B = ℕ} (λ p. fated g (e p)) z in
-    let f = sum_same (λ p. fated g (e (i + 1 + p))) (λ p. fated g (e (i + suc p))) k (λ p l. let q : i + 1 + p ≡ i + suc p = omega arith in ap {B = ℕ} (λ x. fated g (e x)) q) in
+    let f = sum_same (λ p. fated g (e (i + 1 + p))) (λ p. fated g (e (i + suc p))) k (λ p l. let q : i + 1 + p ≡ i + suc p = omega arith
+    in ap {B = ℕ} (λ x. fated g (e x)) q) in
     omega arith
 
-channels_field : (field : _ → ℕ) (g : Fate) → ((n : _) (x : Option (ℕ × Fate)) → field (with_place n x) ≡ field n + fated g x) → (e : ℕ → ℕ → Option (ℕ × Fate)) (c : ℕ) (n : _) (channels : List Declared)
-    → field (with_channels e c n channels) ≡ field n + sum_below (λ d. sum_below (λ p. fated g (e (c + d) p)) (places_at (shape_in channels) d)) (length (shape_in channels))
+channels_field : (field : _ → ℕ) (g : Fate) → ((n : _) (x : Option (ℕ × Fate)) → field (with_place n x) ≡ field n + fated g x)
+    → (e : ℕ → ℕ → Option (ℕ × Fate)) (c : ℕ) (n : _) (channels : List Declared)
+    → field (with_channels e c n channels) ≡ field n + sum_below
+    (λ d. sum_below (λ p. fated g (e (c + d) p)) (places_at (shape_in channels) d)) (length (shape_in channels))
 channels_field field g step e c n [] = omega arith
 channels_field field g step e c n (x ∷ channels) =
     let a = channels_field field g step e (c + 1) (with_places e c n x.places) channels in
     let b = places_field field g step (e c) n 0 x.places in
     let h = sum_first (λ d. sum_below (λ p. fated g (e (c + d) p)) (places_at (shape_in (x ∷ channels)) d)) (length (shape_in channels)) in
-    let i = sum_same (λ p. fated g (e c (0 + p))) (λ p. fated g (e (c + 0) p)) x.places (λ p l. let q : c ≡ c + 0 = omega arith in let r : 0 + p ≡ p = omega arith in ap {B = ℕ} (λ y. fated g (e c y)) r ∙ ap {B = ℕ} (λ y. fated g (e y p)) q) in
-    let j = sum_same (λ d. sum_below (λ p. fated g (e (c + 1 + d) p)) (places_at (shape_in channels) d)) (λ d. sum_below (λ p. fated g (e (c + suc d) p)) (places_at (shape_in channels) d)) (length (shape_in channels))
-    (λ d l. let q : c + 1 + d ≡ c + suc d = omega arith in ap {B = ℕ} (λ y. sum_below (λ p. fated g (e y p)) (places_at (shape_in channels) d)) q) in
+    let i = sum_same (λ p. fated g (e c (0 + p))) (λ p. fated g (e (c + 0) p)) x.places (λ p l. let q : c ≡ c + 0 = omega arith
+    in let r : 0 + p ≡ p = omega arith in ap {B = ℕ} (λ y. fated g (e c y)) r ∙ ap {B = ℕ} (λ y. fated g (e y p)) q) in
+    let j = sum_same (λ d. sum_below (λ p. fated g (e (c + 1 + d) p)) (places_at (shape_in channels) d))
+    (λ d. sum_below (λ p. fated g (e (c + suc d) p)) (places_at (shape_in channels) d)) (length (shape_in channels))
+    (λ d l. let q : c + 1 + d ≡ c + suc d = omega arith in
+    ap {B = ℕ} (λ y. sum_below (λ p. fated g (e y p)) (places_at (shape_in channels) d)) q) in
     omega arith
 
 received_step : (n : _) (x : Option (ℕ × Fate)) → (with_place n x).received ≡ n.received + fated fate.Received x
@@ -122,15 +129,20 @@ fated_here g None f = refl
 fated_here g (Some v) f = refl
 
 -- the sum of the elements of one fate, those of these acts
-fate_sum : (g : Fate) (acts : List Act) (e : ℕ → ℕ → Option (ℕ × Fate)) (channels : List Declared) → ((c p : ℕ) → element_of acts c p ≡ e c p)
-    → sum_below (λ d. sum_below (λ p. fated g (e (0 + d) p)) (places_at (shape_in channels) d)) (length (shape_in channels)) ≡ places_where (shape_in channels) (has_fate g acts)
+fate_sum : (g : Fate) (acts : List Act) (e : ℕ → ℕ → Option (ℕ × Fate)) (channels : List Declared)
+    → ((c p : ℕ) → element_of acts c p ≡ e c p)
+    → sum_below (λ d. sum_below (λ p. fated g (e (0 + d) p)) (places_at (shape_in channels) d)) (length (shape_in channels)) ≡
+    places_where (shape_in channels) (has_fate g acts)
 fate_sum g acts e channels same =
-    sum_same (λ d. sum_below (λ p. fated g (e (0 + d) p)) (places_at (shape_in channels) d)) (λ c. sum_below (λ p. cond (has_fate g acts c p) 1 0) (places_at (shape_in channels) c)) (length (shape_in channels))
+    sum_same (λ d. sum_below (λ p. fated g (e (0 + d) p)) (places_at (shape_in channels) d))
+    (λ c. sum_below (λ p. cond (has_fate g acts c p) 1 0) (places_at (shape_in channels) c)) (length (shape_in channels))
     (λ d l. sum_same (λ p. fated g (e (0 + d) p)) (λ p. cond (has_fate g acts d p) 1 0) (places_at (shape_in channels) d)
-    (λ p m. let q : 0 + d ≡ d = omega arith in ap {B = ℕ} (λ y. fated g (e y p)) q ∙ (ap {B = ℕ} (fated g) (sym (same d p)) ∙ fated_here g (element_at d p acts) (fate_at d p acts))))
+    (λ p m. let q : 0 + d ≡ d = omega arith in ap {B = ℕ} (λ y. fated g (e y p)) q
+    ∙ (ap {B = ℕ} (fated g) (sym (same d p)) ∙ fated_here g (element_at d p acts) (fate_at d p acts))))
 
 -- the same numbers give the same text
-same_text : (v a b c d e f a' b' c' d' e' f' : ℕ) → a ≡ a' → b ≡ b' → c ≡ c' → d ≡ d' → e ≡ e' → f ≡ f' → numbers_text v a b c d e f ≡ numbers_text v a' b' c' d' e' f'
+same_text : (v a b c d e f a' b' c' d' e' f' : ℕ) → a ≡ a' → b ≡ b' → c ≡ c' → d ≡ d' → e ≡ e' → f ≡ f'
+    → numbers_text v a b c d e f ≡ numbers_text v a' b' c' d' e' f'
 same_text v a b c d e f a' b' c' d' e' f' p q r s t u =
     ap (λ i. numbers_text v i b c d e f) p
     ∙ (ap (λ i. numbers_text v a' i c d e f) q
@@ -140,19 +152,31 @@ same_text v a b c d e f a' b' c' d' e' f' p q r s t u =
     ∙ ap (λ i. numbers_text v a' b' c' d' e' i) u))))
 
 -- what the folds give where this became of so many elements
-elements_counted : (version : ℕ) (channels : List Declared) (acts : List Act) (e : ℕ → ℕ → Option (ℕ × Fate)) (n : Counts) → ((c p : ℕ) → element_of acts c p ≡ e c p) → AreFatesOf (shape_in channels) acts n
+elements_counted : (version : ℕ) (channels : List Declared) (acts : List Act) (e : ℕ → ℕ → Option (ℕ × Fate)) (n : Counts)
+    → ((c p : ℕ) → element_of acts c p ≡ e c p) → AreFatesOf (shape_in channels) acts n
     → element_counts_text version (with_channels e 0 no_elements channels) ≡ tally_text version n
 elements_counted version channels acts e n same f =
     same_text version _ _ _ _ _ _ _ _ _ _ _ _
-    (let a = channels_field (λ x. x.received) fate.Received received_step e 0 no_elements channels in let b = fate_sum fate.Received acts e channels same in let c = f.received in omega arith)
-    (let a = channels_field (λ x. x.undelivered) fate.Undelivered undelivered_step e 0 no_elements channels in let b = fate_sum fate.Undelivered acts e channels same in let c = f.undelivered in omega arith)
-    (let a = channels_field (λ x. x.dropped) fate.Dropped dropped_step e 0 no_elements channels in let b = fate_sum fate.Dropped acts e channels same in let c = f.dropped in omega arith)
-    (let a = channels_field (λ x. x.spurned) fate.Spurned spurned_step e 0 no_elements channels in let b = fate_sum fate.Spurned acts e channels same in let c = f.spurned in omega arith)
-    (let a = channels_field (λ x. x.withdrawn) fate.Withdrawn withdrawn_step e 0 no_elements channels in let b = fate_sum fate.Withdrawn acts e channels same in let c = f.withdrawn in omega arith)
-    (let a = channels_field (λ x. x.held) fate.Held held_step e 0 no_elements channels in let b = fate_sum fate.Held acts e channels same in let c = f.held in omega arith)
+    (let a = channels_field (λ x. x.received) fate.Received received_step e 0 no_elements channels
+    in let b = fate_sum fate.Received acts e channels same in let c = f.received in omega arith)
+    (let a = channels_field (λ x. x.undelivered) fate.Undelivered undelivered_step e 0 no_elements channels
+    in let b = fate_sum fate.Undelivered acts e channels same in let c = f.undelivered in omega arith)
+    (let a = channels_field (λ x. x.dropped) fate.Dropped dropped_step e 0 no_elements channels
+    in let b = fate_sum fate.Dropped acts e channels same in let c = f.dropped in omega arith)
+    (let a = channels_field (λ x. x.spurned) fate.Spurned spurned_step e 0 no_elements channels
+    in let b = fate_sum fate.Spurned acts e channels same in let c = f.spurned in omega arith)
+    (let a = channels_field (λ x. x.withdrawn) fate.Withdrawn withdrawn_step e 0 no_elements channels
+    in let b = fate_sum fate.Withdrawn acts e channels same in let c = f.withdrawn in omega arith)
+    (let a = channels_field (λ x. x.held) fate.Held held_step e 0 no_elements channels in let b = fate_sum fate.Held acts e channels same
+    in let c = f.held in omega arith)
 
-pub summary_tallied : (p : Program) (books : List (List Item)) (channels : List Entry) (jobs : List JobEntry) → BooksOf p books channels jobs → ResolvedAreSettled (replay channels) → ((c q : ℕ) → element_of (acts_in channels) c q ≡ element_of (channel_acts_noted books) c q)
-    → summary_text p books ≡ line_of_tallies p.version (job_counts_text (jobs_counted (job_acts_noted books) (job_count p))) (tallied books) (end_noted 0 (job_acts_noted books))
+pub summary_tallied : (p : Program) (books : List (List Item)) (channels : List Entry) (jobs : List JobEntry)
+    → BooksOf p books channels jobs → ResolvedAreSettled (replay channels)
+    → ((c q : ℕ) → element_of (acts_in channels) c q ≡ element_of (channel_acts_noted books) c q)
+    → summary_text p books ≡ line_of_tallies p.version (job_counts_text (jobs_counted (job_acts_noted books) (job_count p))) (tallied books)
+    (end_noted 0 (job_acts_noted books))
 summary_tallied p books channels jobs of rest same =
-    ap (λ t. job_counts_text (jobs_counted (job_acts_noted books) (job_count p)) ++ t ++ codes "result " ++ result_text (end_noted 0 (job_acts_noted books)) ++ codes "\n")
-    (elements_counted p.version p.channels (acts_in channels) (element_of (channel_acts_noted books)) (tallied books) same (run_tallied p books channels jobs of rest))
+    ap (λ t. job_counts_text (jobs_counted (job_acts_noted books) (job_count p)) ++ t ++ codes "result "
+    ++ result_text (end_noted 0 (job_acts_noted books)) ++ codes "\n")
+    (elements_counted p.version p.channels (acts_in channels) (element_of (channel_acts_noted books)) (tallied books) same
+    (run_tallied p books channels jobs of rest))

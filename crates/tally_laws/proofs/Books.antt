@@ -37,7 +37,8 @@ own_any f who (e ∷ es) h = by_test (e.who == who) h (own_any f who es)
     later : (b c : Bool) → (b ≡ true → c ≡ true) → (f e.act || b) ≡ true → (f e.act || c) ≡ true
     later b c k = elim (f e.act) as (λ x. (x || b) ≡ true → (x || c) ≡ true) [ true ↦ λ y. refl | false ↦ k ]
 
-    by_test : (b : Bool) → list_any f (if b then e.act ∷ acts_of who es else acts_of who es) ≡ true → (list_any f (acts_of who es) ≡ true → list_any f (acts_in es) ≡ true) → (f e.act || list_any f (acts_in es)) ≡ true
+    by_test : (b : Bool) → list_any f (if b then e.act ∷ acts_of who es else acts_of who es) ≡ true
+        → (list_any f (acts_of who es) ≡ true → list_any f (acts_in es) ≡ true) → (f e.act || list_any f (acts_in es)) ≡ true
     by_test true h k = later _ _ k h
     by_test false h k = ap (λ b. f e.act || b) (k h) ∙ or-true (f e.act)
 
@@ -55,24 +56,29 @@ settled_or_not : (who : ℕ) (x : Option Wait) → IsSettledWait x → IsUnsettl
 settled_or_not who None a b = a
 settled_or_not who (Some x) a b = let d : is_some x.settled ≡ false = ap is_some b.1 in not_both _ a d
 
-module _ (shape : Shape) (history : List Entry) (l : Legal shape history) (who : ℕ) (one : has_one_wait None (acts_of who history) ≡ true) where
-  last_open : (w : WaitId) → waits_after None (acts_of who history) ≡ Some w → ends_in (acts_in history) w ≡ false
-  last_open w e =
-      is_false (ends_in (acts_in history) w)
-      (λ h. settled_or_not who ((replay history).waits w) ((replay_kept shape history l).settled w h) ((replay_tracked shape who history l one).has w e))
+module _ (shape : Shape) (history : List Entry) (l : Legal shape history) (who : ℕ) (one : has_one_wait None (acts_of who history) ≡ true)
+  where
+    last_open : (w : WaitId) → waits_after None (acts_of who history) ≡ Some w → ends_in (acts_in history) w ≡ false
+    last_open w e =
+        is_false (ends_in (acts_in history) w)
+        (λ h. settled_or_not who ((replay history).waits w) ((replay_kept shape history l).settled w h)
+        ((replay_tracked shape who history l one).has w e))
 
-  pub own_ended : (tally_of (acts_of who history)).counts.ended ≡ how_many (offers_settled (acts_in history)) (acts_of who history)
-  own_ended =
-      let a = ended_offers (ends_in (acts_in history)) None empty (acts_of who history) refl one (λ w h. own_any (settles_wait w) who history h) last_open in
-      let b = count_same (offers_as (ends_in (acts_in history))) (offers_settled (acts_in history)) (settled_offer (acts_in history)) (acts_of who history) in
-      omega arith
+    pub own_ended : (tally_of (acts_of who history)).counts.ended ≡ how_many (offers_settled (acts_in history)) (acts_of who history)
+    own_ended =
+        let a = ended_offers (ends_in (acts_in history)) None empty (acts_of who history) refl one
+        (λ w h. own_any (settles_wait w) who history h) last_open in
+        let b = count_same (offers_as (ends_in (acts_in history))) (offers_settled (acts_in history)) (settled_offer (acts_in history))
+        (acts_of who history) in
+        omega arith
 
-  pub own_back : (tally_of (acts_of who history)).counts.taken_back ≡ how_many (takes_back (acts_in history)) (acts_of who history)
-  own_back = (replay_tracked shape who history l one).back
+    pub own_back : (tally_of (acts_of who history)).counts.taken_back ≡ how_many (takes_back (acts_in history)) (acts_of who history)
+    own_back = (replay_tracked shape who history l one).back
 
 -- ---- all books
 
-tallied_field : (field : Counts → ℕ) → ((x y : Counts) → field (added x y) ≡ field x + field y) → field nothing ≡ 0 → (books : List (List Item)) → field (tallied books) ≡ sum_over (λ book. field (tally_of (channel_acts_in book)).counts) books
+tallied_field : (field : Counts → ℕ) → ((x y : Counts) → field (added x y) ≡ field x + field y) → field nothing ≡ 0
+    → (books : List (List Item)) → field (tallied books) ≡ sum_over (λ book. field (tally_of (channel_acts_in book)).counts) books
 tallied_field field add zero_field [] = zero_field
 tallied_field field add zero_field (book ∷ books) =
     let a = add (tally_of (channel_acts_in book)).counts (tallied books) in
@@ -86,18 +92,22 @@ module _ (history : List Entry) (books : List (List Item)) (are : AreBooks books
   own_one : (k : ℕ) → has_one_wait None (acts_of k history) ≡ true
   own_one k = ap (has_one_wait None) (are.parts k) ∙ are.one_wait k
 
-  total : (field : Counts → ℕ) (f : Act → Bool) → ((x y : Counts) → field (added x y) ≡ field x + field y) → field nothing ≡ 0 → ((k : ℕ) → field (tally_of (acts_of k history)).counts ≡ how_many f (acts_of k history))
+  total : (field : Counts → ℕ) (f : Act → Bool) → ((x y : Counts) → field (added x y) ≡ field x + field y) → field nothing ≡ 0
+      → ((k : ℕ) → field (tally_of (acts_of k history)).counts ≡ how_many f (acts_of k history))
       → field (tallied books) ≡ how_many f (acts_in history)
   total field f add zero_field own =
       tallied_field field add zero_field books
       ∙ (sym (by_items (λ book. field (tally_of (channel_acts_in book)).counts) [] books)
-      ∙ (sum_same (λ k. field (tally_of (channel_acts_in (slice_index_or books k []))).counts) (λ k. how_many f (acts_of k history)) (length books) (λ k m. ap (λ acts. field (tally_of acts).counts) (sym (are.parts k)) ∙ own k)
+      ∙ (sum_same (λ k. field (tally_of (channel_acts_in (slice_index_or books k []))).counts) (λ k. how_many f (acts_of k history))
+      (length books) (λ k m. ap (λ acts. field (tally_of acts).counts) (sym (are.parts k)) ∙ own k)
       ∙ by_callers f (length books) history nobody_past))
 
   -- a field to which each act adds what the test says of it
-  plain_total : (field : Counts → ℕ) (f : Act → Bool) → ((x y : Counts) → field (added x y) ≡ field x + field y) → field nothing ≡ 0 → ((t : Tally) (a : Act) → field (count_of t a) ≡ cond (f a) 1 0)
+  plain_total : (field : Counts → ℕ) (f : Act → Bool) → ((x y : Counts) → field (added x y) ≡ field x + field y) → field nothing ≡ 0
+      → ((t : Tally) (a : Act) → field (count_of t a) ≡ cond (f a) 1 0)
       → field (tallied books) ≡ how_many f (acts_in history)
-  plain_total field f add zero_field step = total field f add zero_field (λ k. let a = stateless field f add step empty (acts_of k history) in let z = zero_field in omega arith)
+  plain_total field f add zero_field step = total field f add zero_field (λ k. let a = stateless field f add step empty (acts_of k history)
+      in let z = zero_field in omega arith)
 
 hands_step : (t : Tally) (a : Act) → (count_of t a).hands ≡ cond (is_hand a) 1 0
 hands_step t (Hand c p v) = refl
@@ -147,7 +157,8 @@ given_up_step : (t : Tally) (a : Act) → (count_of t a).given_up ≡ cond (give
 given_up_step t (Settle w outcome) = refl
 given_up_step t other = refl
 
-pub books_counted : (shape : Shape) (history : List Entry) (books : List (List Item)) → Legal shape history → ResolvedAreSettled (replay history) → AreBooks books history → AreFatesOf shape (acts_in history) (tallied books)
+pub books_counted : (shape : Shape) (history : List Entry) (books : List (List Item)) → Legal shape history
+    → ResolvedAreSettled (replay history) → AreBooks books history → AreFatesOf shape (acts_in history) (tallied books)
 books_counted shape history books l rest are =
     let f = fates_counted shape history l rest in
     let a = plain_total history books are (λ x. x.hands) is_hand (λ x y. refl) refl hands_step in
@@ -162,8 +173,10 @@ books_counted shape history books l rest are =
     let j = plain_total history books are (λ x. x.settles) is_settle (λ x y. refl) refl settles_step in
     let k = plain_total history books are (λ x. x.values) gives_value (λ x y. refl) refl values_step in
     let m = plain_total history books are (λ x. x.given_up) gives_up (λ x y. refl) refl given_up_step in
-    let n = total history books are (λ x. x.taken_back) (takes_back (acts_in history)) (λ x y. refl) refl (λ q. own_back shape history l q (own_one history books are q)) in
-    let o = total history books are (λ x. x.ended) (offers_settled (acts_in history)) (λ x y. refl) refl (λ q. own_ended shape history l q (own_one history books are q)) in
+    let n = total history books are (λ x. x.taken_back) (takes_back (acts_in history)) (λ x y. refl) refl
+    (λ q. own_back shape history l q (own_one history books are q)) in
+    let o = total history books are (λ x. x.ended) (offers_settled (acts_in history)) (λ x y. refl) refl
+    (λ q. own_ended shape history l q (own_one history books are q)) in
     let elements_are = f.elements in
     let received_are = f.received in
     let undelivered_are = f.undelivered in
@@ -171,4 +184,12 @@ books_counted shape history books l rest are =
     let spurned_are = f.spurned in
     let withdrawn_are = f.withdrawn in
     let held_are = f.held in
-    record { elements = omega arith; received = omega arith; undelivered = omega arith; dropped = omega arith; spurned = omega arith; withdrawn = omega arith; held = omega arith }
+    record {
+      elements = omega arith;
+      received = omega arith;
+      undelivered = omega arith;
+      dropped = omega arith;
+      spurned = omega arith;
+      withdrawn = omega arith;
+      held = omega arith;
+    }

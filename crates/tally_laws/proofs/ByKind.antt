@@ -55,7 +55,8 @@ either_sum : (b : Bool) → cond (not b) 1 0 + cond b 1 0 ≡ 1
 either_sum true = omega arith
 either_sum false = omega arith
 
-chosen_or_withdrawn : (acts : List Act) (a : Act) → cond (settles_chosen acts a) 1 0 + cond (settles_withdrawn acts a) 1 0 ≡ cond (is_settle a) 1 0
+chosen_or_withdrawn : (acts : List Act) (a : Act) → cond (settles_chosen acts a) 1 0 + cond (settles_withdrawn acts a) 1 0 ≡
+    cond (is_settle a) 1 0
 chosen_or_withdrawn acts (Settle w outcome) = either_sum (list_any (withdraws w) acts)
 chosen_or_withdrawn acts other = omega arith
 
@@ -126,7 +127,8 @@ await_names : (c p : ℕ) (act : Act) → awaits c p act ≡ true → (w : WaitI
 await_names c p (Await d q w k) e = (w, ap (λ b. if b then Some w else None) e)
 await_names c p other e = cc
 
-any_by : (f g : Act → Bool) → ((act : Act) → f act ≡ true → g act ≡ true) → (acts : List Act) → list_any f acts ≡ true → list_any g acts ≡ true
+any_by : (f g : Act → Bool) → ((act : Act) → f act ≡ true → g act ≡ true) → (acts : List Act) → list_any f acts ≡ true
+    → list_any g acts ≡ true
 any_by f g k acts e = let x = found f acts e in x.2 g (k x.0 x.1)
 
 name_is : (w : WaitId) → name_of w.channel w.place ≡ w
@@ -145,29 +147,37 @@ none_offered f c p acts e =
     omega arith
 
 not_offered : (c p : ℕ) (acts : List Act) → how_many (enters c p) acts ≡ 0 → list_any (offers c p) acts ≡ false
-not_offered c p acts e = is_false (list_any (offers c p) acts) (λ h. let n = any_count (offers c p) acts h in let b = enters_count c p acts in absurd (omega arith))
+not_offered c p acts e = is_false (list_any (offers c p) acts) (λ h. let n = any_count (offers c p) acts h in let b = enters_count c p acts
+    in absurd (omega arith))
 
 -- what offers here, if at most one does
 abbrev OfferedOnce : (WaitId → Bool) → ℕ → ℕ → List Act → Type 0
-OfferedOnce f c p acts = how_many (enters c p) acts + how_many (awaits c p) acts ≤ 1 → how_many (offers_here f c p) acts ≡ cond (list_any (offers c p) acts && of_wait f (wait_at c p acts)) 1 0
+OfferedOnce f c p acts = how_many (enters c p) acts + how_many (awaits c p) acts ≤ 1
+    → how_many (offers_here f c p) acts ≡ cond (list_any (offers c p) acts && of_wait f (wait_at c p acts)) 1 0
 
-offer_first : (b : Bool) (f : WaitId → Bool) (w : WaitId) (c p : ℕ) (acts : List Act) → cond b 1 0 + how_many (enters c p) acts + how_many (awaits c p) acts ≤ 1 → OfferedOnce f c p acts
-    → cond (b && f w) 1 0 + how_many (offers_here f c p) acts ≡ cond ((b || list_any (offers c p) acts) && of_wait f (or_else (if b then Some w else None) (wait_at c p acts))) 1 0
+offer_first : (b : Bool) (f : WaitId → Bool) (w : WaitId) (c p : ℕ) (acts : List Act)
+    → cond b 1 0 + how_many (enters c p) acts + how_many (awaits c p) acts ≤ 1 → OfferedOnce f c p acts
+    → cond (b && f w) 1 0 + how_many (offers_here f c p) acts ≡
+    cond ((b || list_any (offers c p) acts) && of_wait f (or_else (if b then Some w else None) (wait_at c p acts))) 1 0
 offer_first true f w c p acts h k = let n = none_offered f c p acts (omega arith) in omega arith
 offer_first false f w c p acts h k = let n = k (omega arith) in omega arith
 
-await_first : (b : Bool) (f : WaitId → Bool) (w : WaitId) (c p : ℕ) (acts : List Act) → how_many (enters c p) acts + (cond b 1 0 + how_many (awaits c p) acts) ≤ 1 → OfferedOnce f c p acts
-    → how_many (offers_here f c p) acts ≡ cond (list_any (offers c p) acts && of_wait f (or_else (if b then Some w else None) (wait_at c p acts))) 1 0
+await_first : (b : Bool) (f : WaitId → Bool) (w : WaitId) (c p : ℕ) (acts : List Act)
+    → how_many (enters c p) acts + (cond b 1 0 + how_many (awaits c p) acts) ≤ 1 → OfferedOnce f c p acts
+    → how_many (offers_here f c p) acts ≡ cond (list_any (offers c p) acts
+    && of_wait f (or_else (if b then Some w else None) (wait_at c p acts))) 1 0
 await_first true f w c p acts h k =
     let n = none_offered f c p acts (omega arith) in
     let a = counts_none (list_any (offers c p) acts && f w) (ap (λ x. x && f w) (not_offered c p acts (omega arith))) in
     omega arith
 await_first false f w c p acts h k = k (omega arith)
 
-pub offered_once : (f : WaitId → Bool) (c p : ℕ) (acts : List Act) → how_many (enters c p) acts + how_many (awaits c p) acts ≤ 1 → how_many (offers_here f c p) acts ≡ cond (list_any (offers c p) acts && of_wait f (wait_at c p acts)) 1 0
+pub offered_once : (f : WaitId → Bool) (c p : ℕ) (acts : List Act) → how_many (enters c p) acts + how_many (awaits c p) acts ≤ 1
+    → how_many (offers_here f c p) acts ≡ cond (list_any (offers c p) acts && of_wait f (wait_at c p acts)) 1 0
 offered_once f c p [] h = refl
 offered_once f c p (Offer d q v w k ∷ acts) h = offer_first (is_at c p d q) f w c p acts (omega arith) (offered_once f c p acts)
-offered_once f c p (Await d q w k ∷ acts) h = let n = await_first (is_at c p d q) f w c p acts (omega arith) (offered_once f c p acts) in omega arith
+offered_once f c p (Await d q w k ∷ acts) h = let n = await_first (is_at c p d q) f w c p acts (omega arith) (offered_once f c p acts)
+    in omega arith
 offered_once f c p (other ∷ acts) h = let n = offered_once f c p acts (omega arith) in omega arith
 
 -- ---- the sums
@@ -197,7 +207,8 @@ module _ (shape : Shape) (acts : List Act) (s : State) (k : Kept shape acts s) w
   handed_here : (c p : ℕ) → list_any (hands c p) acts ≡ true → IsPlace shape c p
   handed_here c p e = answered c p (any_by (hands c p) (answers c p) (hand_answers c p) acts e)
 
-  left_here : (c p : ℕ) → 1 ≤ how_many (takes c p) acts + how_many (drains c p) acts + how_many (drops_at c p) acts + how_many (spurns_at c p) acts → IsPlace shape c p
+  left_here : (c p : ℕ) → 1 ≤ how_many (takes c p) acts + how_many (drains c p) acts + how_many (drops_at c p) acts + how_many
+      (spurns_at c p) acts → IsPlace shape c p
   left_here c p l = let h = counted c p in k.given.range c p (omega (arith, h.queue, leaves_count c p acts))
 
   brought_here : (c p : ℕ) → 1 ≤ how_many (puts c p) acts + how_many (offers c p) acts → IsPlace shape c p
@@ -218,10 +229,12 @@ module _ (shape : Shape) (acts : List Act) (s : State) (k : Kept shape acts s) w
   answer_at other i = λ c p. refl
 
   pub answers_sum : over shape (λ c p. how_many (answers c p) acts) ≡ how_many is_hand acts + how_many is_wake acts
-  answers_sum = by_places (length shape) (places_at shape) (λ a c p. answers c p a) is_answer acts answer_at ∙ sym (count_sum is_hand is_wake is_answer hand_or_wake acts)
+  answers_sum = by_places (length shape) (places_at shape) (λ a c p. answers c p a) is_answer acts answer_at
+      ∙ sym (count_sum is_hand is_wake is_answer hand_or_wake acts)
 
   put_at : (a : Act) → IsIn a acts → AtOne (length shape) (places_at shape) (λ c p. puts c p a) (is_put a)
-  put_at (Put d q v) i = at_its_place (length shape) (places_at shape) d q (brought_here d q (let n = any_count (puts d q) acts (i (puts d q) (here d q)) in omega arith))
+  put_at (Put d q v) i = at_its_place (length shape) (places_at shape) d q
+      (brought_here d q (let n = any_count (puts d q) acts (i (puts d q) (here d q)) in omega arith))
   put_at other i = λ c p. refl
 
   pub puts_sum : over shape (λ c p. how_many (puts c p) acts) ≡ how_many is_put acts
@@ -238,28 +251,32 @@ module _ (shape : Shape) (acts : List Act) (s : State) (k : Kept shape acts s) w
   offers_sum = by_places (length shape) (places_at shape) (λ a c p. offers c p a) is_offer acts offer_at
 
   take_at : (a : Act) → IsIn a acts → AtOne (length shape) (places_at shape) (λ c p. takes c p a) (is_take a)
-  take_at (Take d q v) i = at_its_place (length shape) (places_at shape) d q (left_here d q (let n = any_count (takes d q) acts (i (takes d q) (here d q)) in omega arith))
+  take_at (Take d q v) i = at_its_place (length shape) (places_at shape) d q
+      (left_here d q (let n = any_count (takes d q) acts (i (takes d q) (here d q)) in omega arith))
   take_at other i = λ c p. refl
 
   pub takes_sum : over shape (λ c p. how_many (takes c p) acts) ≡ how_many is_take acts
   takes_sum = by_places (length shape) (places_at shape) (λ a c p. takes c p a) is_take acts take_at
 
   drop_at : (a : Act) → IsIn a acts → AtOne (length shape) (places_at shape) (λ c p. drops_at c p a) (is_drop a)
-  drop_at (Drop d q v) i = at_its_place (length shape) (places_at shape) d q (left_here d q (let n = any_count (drops_at d q) acts (i (drops_at d q) (here d q)) in omega arith))
+  drop_at (Drop d q v) i = at_its_place (length shape) (places_at shape) d q
+      (left_here d q (let n = any_count (drops_at d q) acts (i (drops_at d q) (here d q)) in omega arith))
   drop_at other i = λ c p. refl
 
   pub drops_sum : over shape (λ c p. how_many (drops_at c p) acts) ≡ how_many is_drop acts
   drops_sum = by_places (length shape) (places_at shape) (λ a c p. drops_at c p a) is_drop acts drop_at
 
   spurn_at : (a : Act) → IsIn a acts → AtOne (length shape) (places_at shape) (λ c p. spurns_at c p a) (is_spurn a)
-  spurn_at (Spurn d q v) i = at_its_place (length shape) (places_at shape) d q (left_here d q (let n = any_count (spurns_at d q) acts (i (spurns_at d q) (here d q)) in omega arith))
+  spurn_at (Spurn d q v) i = at_its_place (length shape) (places_at shape) d q
+      (left_here d q (let n = any_count (spurns_at d q) acts (i (spurns_at d q) (here d q)) in omega arith))
   spurn_at other i = λ c p. refl
 
   pub spurns_sum : over shape (λ c p. how_many (spurns_at c p) acts) ≡ how_many is_spurn acts
   spurns_sum = by_places (length shape) (places_at shape) (λ a c p. spurns_at c p a) is_spurn acts spurn_at
 
   drain_at : (a : Act) → IsIn a acts → AtOne (length shape) (places_at shape) (λ c p. drains c p a) (is_drain a)
-  drain_at (Drain d q v) i = at_its_place (length shape) (places_at shape) d q (left_here d q (let n = any_count (drains d q) acts (i (drains d q) (here d q)) in omega arith))
+  drain_at (Drain d q v) i = at_its_place (length shape) (places_at shape) d q
+      (left_here d q (let n = any_count (drains d q) acts (i (drains d q) (here d q)) in omega arith))
   drain_at other i = λ c p. refl
 
   pub drains_sum : over shape (λ c p. how_many (drains c p) acts) ≡ how_many is_drain acts
@@ -270,20 +287,30 @@ module _ (shape : Shape) (acts : List Act) (s : State) (k : Kept shape acts s) w
   open_at : (a : Act) → IsIn a acts → AtOne (length shape) (places_at shape) (λ c p. offers_here (still acts) c p a) (offers_openly acts a)
   open_at (Offer d q v w j) i =
       by_one_test (length shape) (places_at shape) (λ c p. is_at c p d q && still acts w) (still acts w)
-      (λ e. let r = offered_here d q (i (offers d q) (here d q)) in
-      (d, q, r.0, r.1, and_holds (is_at d q d q) (still acts w) (here d q) e, λ c p h. let m = at_both c p d q (and_both (is_at c p d q) (still acts w) h).0 in (sym m.0, sym m.1)))
+      (λ e. let r = offered_here d q (i (offers d q) (here d q)) in (
+        d,
+        q,
+        r.0,
+        r.1,
+        and_holds (is_at d q d q) (still acts w) (here d q) e,
+        λ c p h. let m =
+            at_both c p d q (and_both (is_at c p d q) (still acts w) h).0 in (sym m.0, sym m.1),
+      ))
       (λ e c p. and_not (is_at c p d q) (still acts w) e)
   open_at other i = λ c p. refl
 
   pub open_sum : over shape (λ c p. cond (is_open_at acts c p) 1 0) ≡ how_many (offers_openly acts) acts
   open_sum =
-      places_same (length shape) (places_at shape) (λ c p. cond (is_open_at acts c p) 1 0) (λ c p. how_many (offers_here (still acts) c p) acts) (λ c p l m. sym (offered_once (still acts) c p acts (counted c p).given))
+      places_same (length shape) (places_at shape) (λ c p. cond (is_open_at acts c p) 1 0)
+      (λ c p. how_many (offers_here (still acts) c p) acts) (λ c p l m. sym (offered_once (still acts) c p acts (counted c p).given))
       ∙ by_places (length shape) (places_at shape) (λ a c p. offers_here (still acts) c p a) (offers_openly acts) acts open_at
 
   -- ---- waits that were handed an element
 
-  module _ (test : WaitId → Act → Bool) (kind : Act → Bool) (within : (w : WaitId) (a : Act) → test w a ≡ true → settles_wait w a ≡ true) (gives : (w : WaitId) (a : Act) → test w a ≡ true → kind a ≡ true)
-      (given : (a : Act) → kind a ≡ true → (w : WaitId) × (test w a ≡ true)) (handed : (w : WaitId) → list_any (test w) acts ≡ true → WasHanded (s.waits w)) where
+  module _ (test : WaitId → Act → Bool) (kind : Act → Bool) (within : (w : WaitId) (a : Act) → test w a ≡ true
+      → settles_wait w a ≡ true) (gives : (w : WaitId) (a : Act) → test w a ≡ true → kind a ≡ true)
+      (given : (a : Act) → kind a ≡ true → (w : WaitId) × (test w a ≡ true)) (handed : (w : WaitId) → list_any (test w) acts ≡ true
+      → WasHanded (s.waits w)) where
     handed_at : (a : Act) → IsIn a acts → AtOne (length shape) (places_at shape) (handed_by test acts a) (kind a)
     handed_at a i = by_one_test (length shape) (places_at shape) (handed_by test acts a) (kind a) there nowhere
       where
@@ -294,7 +321,8 @@ module _ (shape : Shape) (acts : List Act) (s : State) (k : Kept shape acts s) w
             let r = handed_here x.0 x.1 x.3 in
             (x.0, x.1, r.0, r.1, and_holds (list_any (hands x.0 x.1) acts) _ x.3 (ap (of_wait (λ w. test w a)) x.2 ∙ g.1), only g.0 g.1 x)
           where
-            only : (w : WaitId) → test w a ≡ true → (x : HandPlace acts w) → (d q : ℕ) → handed_by test acts a d q ≡ true → (d ≡ x.0) × (q ≡ x.1)
+            only : (w : WaitId) → test w a ≡ true → (x : HandPlace acts w) → (d q : ℕ) → handed_by test acts a d q ≡ true → (d ≡ x.0)
+                × (q ≡ x.1)
             only w f x d q h =
                 let b = and_both (list_any (hands d q) acts) (of_wait (λ w. test w a) (wait_at d q acts)) h in
                 let u = some_wait (λ w. test w a) (wait_at d q acts) b.1 in
@@ -304,14 +332,18 @@ module _ (shape : Shape) (acts : List Act) (s : State) (k : Kept shape acts s) w
                 (x.2, any_by (hands x.0 x.1) (resolver x.0 x.1) (hand_resolves x.0 x.1) acts x.3)
 
         nowhere : kind a ≡ false → AtOne (length shape) (places_at shape) (handed_by test acts a) false
-        nowhere e c p = is_false (handed_by test acts a c p) (λ h. let u = some_wait (λ w. test w a) (wait_at c p acts) (and_both (list_any (hands c p) acts) (of_wait (λ w. test w a) (wait_at c p acts)) h).1 in not_both (kind a) (gives u.0 a u.2) e)
+        nowhere e c p = is_false (handed_by test acts a c p)
+            (λ h. let u = some_wait (λ w. test w a) (wait_at c p acts)
+            (and_both (list_any (hands c p) acts) (of_wait (λ w. test w a) (wait_at c p acts)) h).1
+            in not_both (kind a) (gives u.0 a u.2) e)
 
     test_once : (w : WaitId) → how_many (test w) acts ≤ 1
     test_once w = let a = count_less (test w) (settles_wait w) (within w) acts in omega (arith, k.settled_once w)
 
     pub handed_sum : over shape (λ c p. cond (is_handed_as test acts c p) 1 0) ≡ how_many kind acts
     handed_sum =
-        places_same (length shape) (places_at shape) (λ c p. cond (is_handed_as test acts c p) 1 0) (λ c p. how_many (λ a. handed_by test acts a c p) acts)
+        places_same (length shape) (places_at shape) (λ c p. cond (is_handed_as test acts c p) 1 0)
+        (λ c p. how_many (λ a. handed_by test acts a c p) acts)
         (λ c p l m. sym (spread (list_any (hands c p) acts) (wait_at c p acts) test acts test_once))
         ∙ by_places (length shape) (places_at shape) (handed_by test acts) kind acts handed_at
 
@@ -356,20 +388,40 @@ module _ (shape : Shape) (acts : List Act) (s : State) (k : Kept shape acts s) w
       (w.channel, w.place, r.0, r.1, same_wait-refl w, λ c p h. same_name c p w h)
   withdraw_at other i = λ c p. refl
 
-  settle_withdrawn_at : (a : Act) → IsIn a acts → AtOne (length shape) (places_at shape) (λ c p. list_any (withdraws (name_of c p)) acts && settles_wait (name_of c p) a) (settles_withdrawn acts a)
+  settle_withdrawn_at : (a : Act) → IsIn a acts → AtOne (length shape) (places_at shape) (λ c p. list_any (withdraws (name_of c p)) acts
+      && settles_wait (name_of c p) a) (settles_withdrawn acts a)
   settle_withdrawn_at (Settle w outcome) i =
-      by_one_test (length shape) (places_at shape) (λ c p. list_any (withdraws (name_of c p)) acts && same_wait (name_of c p) w) (list_any (withdraws w) acts)
-      (λ e. let r = withdrawn_place w e in
-      (w.channel, w.place, r.0, r.1, and_holds (list_any (withdraws (name_of w.channel w.place)) acts) _ (ap (λ v. list_any (withdraws v) acts) (name_is w) ∙ e) (same_wait-refl w), λ c p h. same_name c p w (and_both _ _ h).1))
-      (λ e c p. is_false _ (λ h. let b = and_both (list_any (withdraws (name_of c p)) acts) (same_wait (name_of c p) w) h in not_both _ b.0 (ap (λ v. list_any (withdraws v) acts) (same_wait-eq (name_of c p) w b.1) ∙ e)))
+      by_one_test (length shape) (places_at shape) (λ c p. list_any (withdraws (name_of c p)) acts
+      && same_wait (name_of c p) w) (list_any (withdraws w) acts)
+      (λ e. let r = withdrawn_place w e in (
+        w.channel,
+        w.place,
+        r.0,
+        r.1,
+        and_holds (list_any (withdraws (name_of w.channel w.place)) acts) _
+            (ap (λ v. list_any (withdraws v) acts) (name_is w) ∙ e) (same_wait-refl w),
+        λ c p h. same_name c p w (and_both _ _ h).1,
+      ))
+      (λ e c p. is_false _ (λ h. let b = and_both (list_any (withdraws (name_of c p)) acts) (same_wait (name_of c p) w) h
+      in not_both _ b.0 (ap (λ v. list_any (withdraws v) acts) (same_wait-eq (name_of c p) w b.1) ∙ e)))
   settle_withdrawn_at other i = λ c p. and_not (list_any (withdraws (name_of c p)) acts) false refl
 
-  taken_at : (a : Act) → IsIn a acts → AtOne (length shape) (places_at shape) (λ c p. is_plain_offer acts (name_of c p) && withdraws (name_of c p) a) (takes_back acts a)
+  taken_at : (a : Act) → IsIn a acts → AtOne (length shape) (places_at shape) (λ c p. is_plain_offer acts (name_of c p)
+      && withdraws (name_of c p) a) (takes_back acts a)
   taken_at (Withdraw w why) i =
-      by_one_test (length shape) (places_at shape) (λ c p. is_plain_offer acts (name_of c p) && same_wait (name_of c p) w) (is_plain_offer acts w)
-      (λ e. let r = withdrawn_place w (i (withdraws w) (same_wait-refl w)) in
-      (w.channel, w.place, r.0, r.1, and_holds (is_plain_offer acts (name_of w.channel w.place)) _ (ap (is_plain_offer acts) (name_is w) ∙ e) (same_wait-refl w), λ c p h. same_name c p w (and_both _ _ h).1))
-      (λ e c p. is_false _ (λ h. let b = and_both (is_plain_offer acts (name_of c p)) (same_wait (name_of c p) w) h in not_both _ b.0 (ap (is_plain_offer acts) (same_wait-eq (name_of c p) w b.1) ∙ e)))
+      by_one_test (length shape) (places_at shape) (λ c p. is_plain_offer acts (name_of c p)
+      && same_wait (name_of c p) w) (is_plain_offer acts w)
+      (λ e. let r = withdrawn_place w (i (withdraws w) (same_wait-refl w)) in (
+        w.channel,
+        w.place,
+        r.0,
+        r.1,
+        and_holds (is_plain_offer acts (name_of w.channel w.place)) _ (ap (is_plain_offer acts) (name_is w)
+            ∙ e) (same_wait-refl w),
+        λ c p h. same_name c p w (and_both _ _ h).1,
+      ))
+      (λ e c p. is_false _ (λ h. let b = and_both (is_plain_offer acts (name_of c p)) (same_wait (name_of c p) w) h
+      in not_both _ b.0 (ap (is_plain_offer acts) (same_wait-eq (name_of c p) w b.1) ∙ e)))
   taken_at other i = λ c p. and_not (is_plain_offer acts (name_of c p)) false refl
 
   -- ---- plain offers that were taken back
@@ -380,16 +432,21 @@ module _ (shape : Shape) (acts : List Act) (s : State) (k : Kept shape acts s) w
       let m = alone acts s k.traced.own c p w.channel w.place w e f (own_wait w (k.given.begun c p w f)) in
       ap (λ x. name_of x p) m.0 ∙ (ap (λ x. name_of w.channel x) m.1 ∙ name_is w)
 
-  back_is : (c p j : ℕ) → first_some (offers_at c p) acts ≡ Some j → (j == 0) ≡ true → is_taken_back c p acts ≡ list_any (withdraws (name_of c p)) acts
+  back_is : (c p j : ℕ) → first_some (offers_at c p) acts ≡ Some j → (j == 0) ≡ true
+      → is_taken_back c p acts ≡ list_any (withdraws (name_of c p)) acts
   back_is c p j e z =
       let w = first_there (places_wait c p) (offers c p) (offer_names c p) acts (clause_offered c p j acts e) in
       let same = plain_name c p w.0 (e ∙ ap (λ x. Some x) (eqb-true j 0 z)) w.1 in
       by_withdrawn w.0 w.1 (list_any (withdraws w.0) acts) refl ∙ ap (λ v. list_any (withdraws v) acts) (sym same)
     where
-      by_withdrawn : (w : WaitId) → wait_at c p acts ≡ Some w → (b : Bool) → list_any (withdraws w) acts ≡ b → is_taken_back c p acts ≡ list_any (withdraws w) acts
+      by_withdrawn : (w : WaitId) → wait_at c p acts ≡ Some w → (b : Bool) → list_any (withdraws w) acts ≡ b
+          → is_taken_back c p acts ≡ list_any (withdraws w) acts
       by_withdrawn w f true h =
-          and_holds (not (list_any (admits c p) acts)) _ (ap not (is_false _ (λ a. k.traced.chosen.apart c p w (f, admitted_resolved c p acts a) h))) (ap (of_wait (λ v. list_any (withdraws v) acts)) f ∙ h) ∙ sym h
-      by_withdrawn w f false h = and_not (not (list_any (admits c p) acts)) _ (ap (of_wait (λ v. list_any (withdraws v) acts)) f ∙ h) ∙ sym h
+          and_holds (not (list_any (admits c p) acts)) _ (ap not
+          (is_false _ (λ a. k.traced.chosen.apart c p w (f, admitted_resolved c p acts a) h)))
+          (ap (of_wait (λ v. list_any (withdraws v) acts)) f ∙ h) ∙ sym h
+      by_withdrawn w f false h = and_not (not (list_any (admits c p) acts)) _ (ap (of_wait (λ v. list_any (withdraws v) acts)) f ∙ h)
+          ∙ sym h
 
   taken_is : (c p : ℕ) → is_taken_offer acts c p ≡ (is_plain_offer acts (name_of c p) && list_any (withdraws (name_of c p)) acts)
   taken_is c p = by_clause (first_some (offers_at c p) acts) refl
@@ -398,33 +455,42 @@ module _ (shape : Shape) (acts : List Act) (s : State) (k : Kept shape acts s) w
       by_zero true x y h = h refl
       by_zero false x y h = refl
 
-      by_clause : (o : Option ℕ) → first_some (offers_at c p) acts ≡ o → of_offer (λ j. (j == 0) && is_taken_back c p acts) o ≡ (of_offer (λ j. j == 0) o && list_any (withdraws (name_of c p)) acts)
+      by_clause : (o : Option ℕ) → first_some (offers_at c p) acts ≡ o
+          → of_offer (λ j. (j == 0) && is_taken_back c p acts) o ≡ (of_offer (λ j. j == 0) o && list_any (withdraws (name_of c p)) acts)
       by_clause None e = refl
       by_clause (Some j) e = by_zero (j == 0) _ _ (λ z. back_is c p j e z)
 
   pub taken_sum : over shape (λ c p. cond (is_taken_offer acts c p) 1 0) ≡ how_many (takes_back acts) acts
   taken_sum =
-      places_same (length shape) (places_at shape) (λ c p. cond (is_taken_offer acts c p) 1 0) (λ c p. how_many (λ a. is_plain_offer acts (name_of c p) && withdraws (name_of c p) a) acts)
-      (λ c p l m. ap (λ b. cond b 1 0) (taken_is c p) ∙ sym (spread (is_plain_offer acts (name_of c p)) (Some (name_of c p)) withdraws acts k.withdrawn_once))
-      ∙ by_places (length shape) (places_at shape) (λ a c p. is_plain_offer acts (name_of c p) && withdraws (name_of c p) a) (takes_back acts) acts taken_at
+      places_same (length shape) (places_at shape) (λ c p. cond (is_taken_offer acts c p) 1 0)
+      (λ c p. how_many (λ a. is_plain_offer acts (name_of c p) && withdraws (name_of c p) a) acts)
+      (λ c p l m. ap (λ b. cond b 1 0) (taken_is c p) ∙ sym
+      (spread (is_plain_offer acts (name_of c p)) (Some (name_of c p)) withdraws acts k.withdrawn_once))
+      ∙ by_places (length shape) (places_at shape) (λ a c p. is_plain_offer acts (name_of c p)
+      && withdraws (name_of c p) a) (takes_back acts) acts taken_at
 
   -- ---- settled waits: withdrawn, or resolved at a place
 
   module _ (rest : ResolvedAreSettled s) where
-    withdrawn_settled : (c p : ℕ) → how_many (λ a. list_any (withdraws (name_of c p)) acts && settles_wait (name_of c p) a) acts ≡ how_many (withdraws (name_of c p)) acts
+    withdrawn_settled : (c p : ℕ) → how_many (λ a. list_any (withdraws (name_of c p)) acts && settles_wait (name_of c p) a) acts ≡
+        how_many (withdraws (name_of c p)) acts
     withdrawn_settled c p =
         spread (list_any (withdraws (name_of c p)) acts) (Some (name_of c p)) settles_wait acts k.settled_once
-        ∙ (ap (λ b. cond b 1 0) (by_test (list_any (withdraws (name_of c p)) acts) refl) ∙ any_one (withdraws (name_of c p)) acts (k.withdrawn_once (name_of c p)))
+        ∙ (ap (λ b. cond b 1 0) (by_test (list_any (withdraws (name_of c p)) acts) refl)
+        ∙ any_one (withdraws (name_of c p)) acts (k.withdrawn_once (name_of c p)))
       where
-        by_test : (b : Bool) → list_any (withdraws (name_of c p)) acts ≡ b → (b && list_any (settles_wait (name_of c p)) acts) ≡ list_any (withdraws (name_of c p)) acts
+        by_test : (b : Bool) → list_any (withdraws (name_of c p)) acts ≡ b
+            → (b && list_any (settles_wait (name_of c p)) acts) ≡ list_any (withdraws (name_of c p)) acts
         by_test true e = k.settles (name_of c p) (rest (name_of c p) (k.traced.chosen.withdrawn (name_of c p) e)) ∙ sym e
         by_test false e = sym e
 
     -- each wait that was withdrawn is settled, once
     pub withdrawn_sum : how_many (settles_withdrawn acts) acts ≡ how_many is_withdraw acts
     withdrawn_sum =
-        sym (by_places (length shape) (places_at shape) (λ a c p. list_any (withdraws (name_of c p)) acts && settles_wait (name_of c p) a) (settles_withdrawn acts) acts settle_withdrawn_at)
-        ∙ (places_same (length shape) (places_at shape) (λ c p. how_many (λ a. list_any (withdraws (name_of c p)) acts && settles_wait (name_of c p) a) acts) (λ c p. how_many (withdraws (name_of c p)) acts) (λ c p l m. withdrawn_settled c p)
+        sym (by_places (length shape) (places_at shape) (λ a c p. list_any (withdraws (name_of c p)) acts
+        && settles_wait (name_of c p) a) (settles_withdrawn acts) acts settle_withdrawn_at)
+        ∙ (places_same (length shape) (places_at shape) (λ c p. how_many (λ a. list_any (withdraws (name_of c p)) acts
+        && settles_wait (name_of c p) a) acts) (λ c p. how_many (withdraws (name_of c p)) acts) (λ c p l m. withdrawn_settled c p)
         ∙ by_places (length shape) (places_at shape) (λ a c p. withdraws (name_of c p) a) is_withdraw acts withdraw_at)
 
     chosen_here : (c p : ℕ) (w : WaitId) → chosen_by acts (Settle w settled.Cancelled) c p ≡ true → Chosen acts c p w
@@ -441,8 +507,15 @@ module _ (shape : Shape) (acts : List Act) (s : State) (k : Kept shape acts s) w
         by_one_test (length shape) (places_at shape) (chosen_by acts (Settle w outcome)) (not (list_any (withdraws w) acts))
         (λ e. ⊎_elim
         (λ h. absurd (not_both _ e (ap not h)))
-        (λ x. let r = chosen_place x.0 x.1 w x.2 in
-        (x.0, x.1, r.0, r.1, and_holds (list_any (resolver x.0 x.1) acts) _ x.2.1 (ap (of_wait (λ v. same_wait v w)) x.2.0 ∙ same_wait-refl w), λ d q h. k.traced.chosen.one d q x.0 x.1 w (chosen_here d q w h) x.2))
+        (λ x. let r = chosen_place x.0 x.1 w x.2 in (
+          x.0,
+          x.1,
+          r.0,
+          r.1,
+          and_holds (list_any (resolver x.0 x.1) acts) _ x.2.1 (ap (of_wait (λ v. same_wait v w)) x.2.0
+              ∙ same_wait-refl w),
+          λ d q h. k.traced.chosen.one d q x.0 x.1 w (chosen_here d q w h) x.2,
+        ))
         (k.traced.chosen.known w (k.traced.ended.resolved w (k.settled w (i (settles_wait w) (same_wait-refl w))))))
         (λ e c p. is_false _ (λ h. by_withdrawn (list_any (withdraws w) acts) refl e (k.traced.chosen.apart c p w (chosen_here c p w h))))
       where
@@ -453,19 +526,22 @@ module _ (shape : Shape) (acts : List Act) (s : State) (k : Kept shape acts s) w
 
     pub chosen_sum : over shape (λ c p. cond (is_chosen_at acts c p) 1 0) ≡ how_many (settles_chosen acts) acts
     chosen_sum =
-        places_same (length shape) (places_at shape) (λ c p. cond (is_chosen_at acts c p) 1 0) (λ c p. how_many (λ a. chosen_by acts a c p) acts)
+        places_same (length shape) (places_at shape) (λ c p. cond (is_chosen_at acts c p) 1 0)
+        (λ c p. how_many (λ a. chosen_by acts a c p) acts)
         (λ c p l m. sym (spread (list_any (resolver c p) acts) (wait_at c p acts) settles_wait acts k.settled_once))
         ∙ by_places (length shape) (places_at shape) (chosen_by acts) (settles_chosen acts) acts chosen_at
 
     -- all that were settled
     pub settles_sum : how_many (settles_chosen acts) acts + how_many is_withdraw acts ≡ how_many is_settle acts
-    settles_sum = let a = count_sum (settles_chosen acts) (settles_withdrawn acts) is_settle (chosen_or_withdrawn acts) acts in let b = withdrawn_sum in omega arith
+    settles_sum = let a = count_sum (settles_chosen acts) (settles_withdrawn acts) is_settle (chosen_or_withdrawn acts) acts
+        in let b = withdrawn_sum in omega arith
 
     -- a place at which its wait was resolved is a receiver's, or an offer's
     pub chosen_share : (c p : ℕ) → cond (is_chosen_at acts c p) 1 0 ≡ how_many (answers c p) acts + cond (is_sent_at acts c p) 1 0
     chosen_share c p = by_answer (list_any (answers c p) acts) refl
       where
-        by_answer : (b : Bool) → list_any (answers c p) acts ≡ b → cond (is_chosen_at acts c p) 1 0 ≡ how_many (answers c p) acts + cond (is_sent_at acts c p) 1 0
+        by_answer : (b : Bool) → list_any (answers c p) acts ≡ b
+            → cond (is_chosen_at acts c p) 1 0 ≡ how_many (answers c p) acts + cond (is_sent_at acts c p) 1 0
         by_answer true e =
             let n = any_count (answers c p) acts e in
             let h = counted c p in
@@ -473,13 +549,15 @@ module _ (shape : Shape) (acts : List Act) (s : State) (k : Kept shape acts s) w
             let w = first_there (places_wait c p) (awaits c p) (await_names c p) acts (count_any (awaits c p) acts m) in
             let r = any_by (answers c p) (resolver c p) (answer_resolves c p) acts e in
             let x = k.settles w.0 (rest w.0 (k.traced.chosen.resolved c p w.0 (w.1, r))) in
-            let a = counts_one (is_chosen_at acts c p) (and_holds (list_any (resolver c p) acts) _ r (ap (of_wait (λ v. list_any (settles_wait v) acts)) w.1 ∙ x)) in
+            let a = counts_one (is_chosen_at acts c p) (and_holds (list_any (resolver c p) acts) _ r
+            (ap (of_wait (λ v. list_any (settles_wait v) acts)) w.1 ∙ x)) in
             let o = not_offered c p acts (omega (arith, h.given)) in
             let b = counts_none (is_sent_at acts c p) (ap (λ y. y && is_chosen_at acts c p) o) in
             omega (arith, h.receivers, h.given)
         by_answer false e =
             let n = none_count (answers c p) acts e in
-            let a : ◌≡◌ {A = ℕ} (cond (is_chosen_at acts c p) 1 0) (cond (is_sent_at acts c p) 1 0) = ap (λ b. cond b 1 0) (by_chosen (is_chosen_at acts c p) refl) in
+            let a : ◌≡◌ {A = ℕ} (cond (is_chosen_at acts c p) 1 0) (cond (is_sent_at acts c p) 1 0) =
+            ap (λ b. cond b 1 0) (by_chosen (is_chosen_at acts c p) refl) in
             omega arith
           where
             offered_at : is_chosen_at acts c p ≡ true → list_any (offers c p) acts ≡ true
@@ -491,13 +569,16 @@ module _ (shape : Shape) (acts : List Act) (s : State) (k : Kept shape acts s) w
                 let entered : 1 ≤ how_many (enters c p) acts =
                 ⊎_elim
                 (λ y. absurd (not_both _ (f.2 (answers c p) y) e))
-                (λ z. ⊎_elim (λ y. let n = any_count (removes c p) acts (f.2 (removes c p) y) in omega (arith, g.queue)) (λ y. g.admitted (f.2 (admits c p) y)) z)
+                (λ z. ⊎_elim (λ y. let n = any_count (removes c p) acts (f.2 (removes c p) y)
+                in omega (arith, g.queue)) (λ y. g.admitted (f.2 (admits c p) y)) z)
                 (resolver_is c p f.0 f.1) in
                 by_put entered u.0 u.1 (list_any (puts c p) acts) refl
               where
-                by_put : 1 ≤ how_many (enters c p) acts → (w : WaitId) → wait_at c p acts ≡ Some w → (b : Bool) → list_any (puts c p) acts ≡ b → list_any (offers c p) acts ≡ true
+                by_put : 1 ≤ how_many (enters c p) acts → (w : WaitId) → wait_at c p acts ≡ Some w → (b : Bool)
+                    → list_any (puts c p) acts ≡ b → list_any (offers c p) acts ≡ true
                 by_put l w f true y = absurd (put_alone c p acts (s.channels c) w (counted c p) y f)
-                by_put l w f false y = let z = none_count (puts c p) acts y in count_any (offers c p) acts (omega (arith, enters_count c p acts))
+                by_put l w f false y = let z = none_count (puts c p) acts y
+                    in count_any (offers c p) acts (omega (arith, enters_count c p acts))
 
             by_chosen : (b : Bool) → is_chosen_at acts c p ≡ b → b ≡ (list_any (offers c p) acts && b)
             by_chosen true h = sym (and_holds (list_any (offers c p) acts) true (offered_at h) refl)

@@ -17,9 +17,11 @@ use Rattle.tally_laws.proofs.Summed.{places_add, places_none, places_at_one}
 
 pub count_same : {X : Type 0} (f g : X → Bool) → ((x : X) → f x ≡ g x) → (xs : List X) → how_many f xs ≡ how_many g xs
 count_same f g h [] = refl
-count_same f g h (x ∷ xs) = let k = count_same f g h xs in let a : ◌≡◌ {A = ℕ} (cond (f x) 1 0) (cond (g x) 1 0) = ap (λ b. cond b 1 0) (h x) in omega arith
+count_same f g h (x ∷ xs) = let k = count_same f g h xs
+    in let a : ◌≡◌ {A = ℕ} (cond (f x) 1 0) (cond (g x) 1 0) = ap (λ b. cond b 1 0) (h x) in omega arith
 
-pub count_sum : {X : Type 0} (f g h : X → Bool) → ((x : X) → cond (f x) 1 0 + cond (g x) 1 0 ≡ cond (h x) 1 0) → (xs : List X) → how_many f xs + how_many g xs ≡ how_many h xs
+pub count_sum : {X : Type 0} (f g h : X → Bool) → ((x : X) → cond (f x) 1 0 + cond (g x) 1 0 ≡ cond (h x) 1 0) → (xs : List X)
+    → how_many f xs + how_many g xs ≡ how_many h xs
 count_sum f g h k [] = refl
 count_sum f g h k (x ∷ xs) = let m = count_sum f g h k xs in let a = k x in omega arith
 
@@ -67,11 +69,13 @@ counts_true true h = refl
 counts_true false h = absurd (h refl)
 
 one_place : (n : ℕ) (m : ℕ → ℕ) (g : ℕ → ℕ → Bool) (b : Bool) → AtOne n m g b → sum_places n m (λ c p. cond (g c p) 1 0) ≡ cond b 1 0
-one_place n m g true h = places_at_one n m (λ c p. cond (g c p) 1 0) h.0 h.1 h.2 h.3 (λ d q x. h.5 d q (counts_true (g d q) x)) ∙ ap (λ b. cond b 1 0) h.4
+one_place n m g true h = places_at_one n m (λ c p. cond (g c p) 1 0) h.0 h.1 h.2 h.3 (λ d q x. h.5 d q (counts_true (g d q) x))
+    ∙ ap (λ b. cond b 1 0) h.4
 one_place n m g false h = places_none n m (λ c p. cond (g c p) 1 0) (λ c p. ap (λ b. cond b 1 0) (h c p))
 
 -- where each act that passes belongs to one place, and no other belongs to any, as many pass as belong to all places
-pub by_places : (n : ℕ) (m : ℕ → ℕ) (g : Act → ℕ → ℕ → Bool) (t : Act → Bool) (xs : List Act) → ((a : Act) → IsIn a xs → AtOne n m (g a) (t a))
+pub by_places : (n : ℕ) (m : ℕ → ℕ) (g : Act → ℕ → ℕ → Bool) (t : Act → Bool) (xs : List Act)
+    → ((a : Act) → IsIn a xs → AtOne n m (g a) (t a))
     → sum_places n m (λ c p. how_many (λ a. g a c p) xs) ≡ how_many t xs
 by_places n m g t [] h = places_none n m (λ c p. 0) (λ c p. refl)
 by_places n m g t (x ∷ xs) h =
@@ -87,6 +91,7 @@ pub at_its_place : (n : ℕ) (m : ℕ → ℕ) (d q : ℕ) → (d < n) × (q < m
 at_its_place n m d q r = (d, q, r.0, r.1, here d q, λ c p e. let k = at_both c p d q e in (sym k.0, sym k.1))
 
 -- a place that passes exactly where this one test does
-pub by_one_test : (n : ℕ) (m : ℕ → ℕ) (g : ℕ → ℕ → Bool) (b : Bool) → (b ≡ true → AtOne n m g true) → (b ≡ false → AtOne n m g false) → AtOne n m g b
+pub by_one_test : (n : ℕ) (m : ℕ → ℕ) (g : ℕ → ℕ → Bool) (b : Bool) → (b ≡ true → AtOne n m g true) → (b ≡ false → AtOne n m g false)
+    → AtOne n m g b
 by_one_test n m g true h k = h refl
 by_one_test n m g false h k = k refl

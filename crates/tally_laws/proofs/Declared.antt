@@ -38,26 +38,32 @@ suspending_kind : (kind : Kind) → suspends kind ≡ true → is_signal kind �
 suspending_kind Signal e = cc
 suspending_kind other e = refl
 
-at_channel : (shape : Shape) (c p d q : ℕ) (b : Bool) (v u : ℕ) → is_at c p d q ≡ b → (if b then Some v else None) ≡ Some u → is_signal (kind_at shape d) ≡ false → is_signal (kind_at shape c) ≡ false
+at_channel : (shape : Shape) (c p d q : ℕ) (b : Bool) (v u : ℕ) → is_at c p d q ≡ b → (if b then Some v else None) ≡ Some u
+    → is_signal (kind_at shape d) ≡ false → is_signal (kind_at shape c) ≡ false
 at_channel shape c p d q true v u e f h = subst (λ x. is_signal (kind_at shape x) ≡ false) (at_both c p d q e).0 h
 at_channel shape c p d q false v u e f h = cc
 
-brought_kind : (shape : Shape) (s : State) (who : ℕ) (act : Act) (c p u : ℕ) → Needs shape s who act → brings c p act ≡ Some u → is_signal (kind_at shape c) ≡ false
+brought_kind : (shape : Shape) (s : State) (who : ℕ) (act : Act) (c p u : ℕ) → Needs shape s who act → brings c p act ≡ Some u
+    → is_signal (kind_at shape c) ≡ false
 brought_kind shape s who (Hand d q v) c p u n e = at_channel shape c p d q (is_at c p d q) v u refl e n.1
 brought_kind shape s who (Put d q v) c p u n e = at_channel shape c p d q (is_at c p d q) v u refl e (full_kind (kind_at shape d) _ n.3)
-brought_kind shape s who (Offer d q v w k) c p u n e = at_channel shape c p d q (is_at c p d q) v u refl e (suspending_kind (kind_at shape d) n.3)
+brought_kind shape s who (Offer d q v w k) c p u n e = at_channel shape c p d q (is_at c p d q) v u refl e
+    (suspending_kind (kind_at shape d) n.3)
 brought_kind shape s who other c p u n e = cc
 
-element_kind : (shape : Shape) (s : State) (es : List Entry) (c p u : ℕ) → LegalFrom shape s es → element_at c p (acts_in es) ≡ Some u → is_signal (kind_at shape c) ≡ false
+element_kind : (shape : Shape) (s : State) (es : List Entry) (c p u : ℕ) → LegalFrom shape s es → element_at c p (acts_in es) ≡ Some u
+    → is_signal (kind_at shape c) ≡ false
 unfolding LegalFrom
 element_kind shape s [] c p u l e = cc
 element_kind shape s (x ∷ es) c p u l e = by_first (brings c p x.act) refl e (element_kind shape (after s x.who x.act) es c p u l.1)
   where
-    by_first : (o : Option ℕ) → brings c p x.act ≡ o → or_else o (element_at c p (acts_in es)) ≡ Some u → (element_at c p (acts_in es) ≡ Some u → is_signal (kind_at shape c) ≡ false) → is_signal (kind_at shape c) ≡ false
+    by_first : (o : Option ℕ) → brings c p x.act ≡ o → or_else o (element_at c p (acts_in es)) ≡ Some u
+        → (element_at c p (acts_in es) ≡ Some u → is_signal (kind_at shape c) ≡ false) → is_signal (kind_at shape c) ≡ false
     by_first (Some v) f h k = brought_kind shape s x.who x.act c p v l.0 f
     by_first None f h k = k h
 
-no_element : (shape : Shape) (history : List Entry) (c p : ℕ) → Legal shape history → is_signal (kind_at shape c) ≡ true → has_element (acts_in history) c p ≡ false
+no_element : (shape : Shape) (history : List Entry) (c p : ℕ) → Legal shape history → is_signal (kind_at shape c) ≡ true
+    → has_element (acts_in history) c p ≡ false
 no_element shape history c p l s = by_element (element_at c p (acts_in history)) refl
   where
     by_element : (o : Option ℕ) → element_at c p (acts_in history) ≡ o → is_some o ≡ false
@@ -99,18 +105,23 @@ same_places : (f : ℕ → ℕ) (m n : ℕ) → m ≡ n → sum_below f m ≡ su
 same_places f m n e = ap (sum_below f) e
 
 -- a test that passes nowhere behind the declared channels passes as often as on these
-declared_alone : (xs ys : Shape) (test : ℕ → ℕ → Bool) → ((c p : ℕ) → length xs ≤ c → test c p ≡ false) → places_where (xs ++ ys) test ≡ places_where xs test
+declared_alone : (xs ys : Shape) (test : ℕ → ℕ → Bool) → ((c p : ℕ) → length xs ≤ c → test c p ≡ false)
+    → places_where (xs ++ ys) test ≡ places_where xs test
 declared_alone xs ys test h =
     sum_cut (λ c. sum_below (λ p. cond (test c p) 1 0) (places_at (xs ++ ys) c)) (length xs) (length (xs ++ ys)) (no_fewer xs ys)
     (λ c l. sum_none (λ p. cond (test c p) 1 0) (places_at (xs ++ ys) c) (λ p k. ap (λ b. cond b 1 0) (h c p l)))
-    ∙ sum_same (λ c. sum_below (λ p. cond (test c p) 1 0) (places_at (xs ++ ys) c)) (λ c. sum_below (λ p. cond (test c p) 1 0) (places_at xs c)) (length xs) (λ c l. same_places (λ p. cond (test c p) 1 0) _ _ (declared_places xs ys c l))
+    ∙ sum_same (λ c. sum_below (λ p. cond (test c p) 1 0) (places_at (xs ++ ys) c))
+    (λ c. sum_below (λ p. cond (test c p) 1 0) (places_at xs c)) (length xs)
+    (λ c l. same_places (λ p. cond (test c p) 1 0) _ _ (declared_places xs ys c l))
 
 -- what holds with the signals holds of the declared channels
-fates_of_declared : (declared signals : Shape) (history : List Entry) (n : Counts) → AreSignals signals → Legal (declared ++ signals) history → AreFatesOf (declared ++ signals) (acts_in history) n → AreFatesOf declared (acts_in history) n
+fates_of_declared : (declared signals : Shape) (history : List Entry) (n : Counts) → AreSignals signals
+    → Legal (declared ++ signals) history → AreFatesOf (declared ++ signals) (acts_in history) n → AreFatesOf declared (acts_in history) n
 fates_of_declared declared signals history n h l f = record {
   elements = sym (declared_alone declared signals (has_element (acts_in history)) none_there) ∙ f.elements;
   received = sym (declared_alone declared signals (has_fate fate.Received (acts_in history)) (no_fate fate.Received)) ∙ f.received;
-  undelivered = sym (declared_alone declared signals (has_fate fate.Undelivered (acts_in history)) (no_fate fate.Undelivered)) ∙ f.undelivered;
+  undelivered = sym (declared_alone declared signals (has_fate fate.Undelivered (acts_in history)) (no_fate fate.Undelivered))
+      ∙ f.undelivered;
   dropped = sym (declared_alone declared signals (has_fate fate.Dropped (acts_in history)) (no_fate fate.Dropped)) ∙ f.dropped;
   spurned = sym (declared_alone declared signals (has_fate fate.Spurned (acts_in history)) (no_fate fate.Spurned)) ∙ f.spurned;
   withdrawn = sym (declared_alone declared signals (has_fate fate.Withdrawn (acts_in history)) (no_fate fate.Withdrawn)) ∙ f.withdrawn;
@@ -123,8 +134,13 @@ fates_of_declared declared signals history n h l f = record {
     no_fate : (g : Fate) (c p : ℕ) → length declared ≤ c → has_fate g (acts_in history) c p ≡ false
     no_fate g c p k = ap (λ b. b && (number_of (fate_at c p (acts_in history)) == number_of g)) (none_there c p k)
 
-pub declared_fates : (declared signals : Shape) (history : List Entry) → AreSignals signals → Legal (declared ++ signals) history → ResolvedAreSettled (replay history) → AreFatesOf declared (acts_in history) (counts_of (acts_in history))
-declared_fates declared signals history h l rest = fates_of_declared declared signals history (counts_of (acts_in history)) h l (fates_counted (declared ++ signals) history l rest)
+pub declared_fates : (declared signals : Shape) (history : List Entry) → AreSignals signals → Legal (declared ++ signals) history
+    → ResolvedAreSettled (replay history) → AreFatesOf declared (acts_in history) (counts_of (acts_in history))
+declared_fates declared signals history h l rest = fates_of_declared declared signals history (counts_of (acts_in history)) h l
+    (fates_counted (declared ++ signals) history l rest)
 
-pub declared_books : (declared signals : Shape) (history : List Entry) (books : List (List Item)) → AreSignals signals → Legal (declared ++ signals) history → ResolvedAreSettled (replay history) → AreBooks books history → AreFatesOf declared (acts_in history) (tallied books)
-declared_books declared signals history books h l rest are = fates_of_declared declared signals history (tallied books) h l (books_counted (declared ++ signals) history books l rest are)
+pub declared_books : (declared signals : Shape) (history : List Entry) (books : List (List Item)) → AreSignals signals
+    → Legal (declared ++ signals) history → ResolvedAreSettled (replay history) → AreBooks books history
+    → AreFatesOf declared (acts_in history) (tallied books)
+declared_books declared signals history books h l rest are =
+    fates_of_declared declared signals history (tallied books) h l (books_counted (declared ++ signals) history books l rest are)

@@ -53,7 +53,8 @@ moved shape c p d q e h =
 next_in_range : (places q n : ℕ) → n < places → q ≡ n → q < places
 next_in_range places q n l e = omega arith
 
-placed_now : (shape : Shape) (s : State) (who : ℕ) (act : Act) (c p : ℕ) → Needs shape s who act → 1 ≤ cond (enters c p act) 1 0 + cond (awaits c p act) 1 0 → IsPlace shape c p
+placed_now : (shape : Shape) (s : State) (who : ℕ) (act : Act) (c p : ℕ) → Needs shape s who act
+    → 1 ≤ cond (enters c p act) 1 0 + cond (awaits c p act) 1 0 → IsPlace shape c p
 placed_now shape s who (Put d q v) c p n h = by_test (is_at c p d q) refl h
   where
     by_test : (b : Bool) → is_at c p d q ≡ b → 1 ≤ cond b 1 0 + 0 → IsPlace shape c p
@@ -71,11 +72,13 @@ placed_now shape s who (Await d q w k) c p n h = by_test (is_at c p d q) refl h
     by_test false e h = absurd (omega arith)
 placed_now shape s who other c p n h = absurd (omega arith)
 
-range_after : (shape : Shape) (acts : List Act) (s : State) (who : ℕ) (act : Act) → Needs shape s who act → GivenInRange shape acts → GivenInRange shape (acts ++ act ∷ [])
+range_after : (shape : Shape) (acts : List Act) (s : State) (who : ℕ) (act : Act) → Needs shape s who act → GivenInRange shape acts
+    → GivenInRange shape (acts ++ act ∷ [])
 range_after shape acts s who act n h c p l =
     let a = count_last (enters c p) acts act in
     let b = count_last (awaits c p) acts act in
-    ⊎_elim (λ k. h c p k) (λ k. placed_now shape s who act c p n (omega arith)) (cases_lt 0 (how_many (enters c p) acts + how_many (awaits c p) acts))
+    ⊎_elim (λ k. h c p k) (λ k. placed_now shape s who act c p n (omega arith))
+    (cases_lt 0 (how_many (enters c p) acts + how_many (awaits c p) acts))
 
 -- ---- what was handed
 
@@ -90,33 +93,34 @@ given_value : (outcome : Settled) (how : Option Resolution) → IsOutcome outcom
 given_value outcome None h e = absurd h
 given_value (settled.Value k v) (Some how) h e = ap (λ x. is_some (value_given x)) h
 given_value (settled.Sent k) (Some how) h e = cc
-given_value (settled.Closed k v) (Some how) h e = cc
-given_value settled.Cancelled (Some how) h e = cc
-given_value (settled.Undelivered v) (Some how) h e = cc
+given_value other (Some how) h e = cc
 
-given_undelivered : (outcome : Settled) (how : Option Resolution) → IsOutcome outcome how → is_undelivered outcome ≡ true → is_handed how ≡ true
+given_undelivered : (outcome : Settled) (how : Option Resolution) → IsOutcome outcome how → is_undelivered outcome ≡ true
+    → is_handed how ≡ true
 given_undelivered outcome None h e = absurd h
 given_undelivered (settled.Undelivered v) (Some how) h e = ap is_some h
 given_undelivered (settled.Value k v) (Some how) h e = cc
-given_undelivered (settled.Sent k) (Some how) h e = cc
-given_undelivered (settled.Closed k v) (Some how) h e = cc
-given_undelivered settled.Cancelled (Some how) h e = cc
+given_undelivered other (Some how) h e = cc
 
-settled_handed : (test : Settled → Bool) → ((outcome : Settled) (how : Option Resolution) → IsOutcome outcome how → test outcome ≡ true → is_handed how ≡ true)
+settled_handed : (test : Settled → Bool) → ((outcome : Settled) (how : Option Resolution) → IsOutcome outcome how → test outcome ≡ true
+    → is_handed how ≡ true)
     → (who : ℕ) (outcome : Settled) (x : Option Wait) → MaySettle who outcome x → test outcome ≡ true → WasHanded x
 settled_handed test k who outcome None n e = absurd n
 settled_handed test k who outcome (Some x) n e = k outcome x.resolved n.2 e
 
-value_now : (shape : Shape) (s : State) (who : ℕ) (act : Act) (w : WaitId) → Needs shape s who act → settles_value w act ≡ true → WasHanded (s.waits w)
+value_now : (shape : Shape) (s : State) (who : ℕ) (act : Act) (w : WaitId) → Needs shape s who act → settles_value w act ≡ true
+    → WasHanded (s.waits w)
 value_now shape s who (Settle v outcome) w n e =
     let k = and_both (same_wait w v) (is_value outcome) e in
     subst (λ u. WasHanded (s.waits u)) (sym (same_wait-eq w v k.0)) (settled_handed is_value given_value who outcome (s.waits v) n k.1)
 value_now shape s who other w n e = cc
 
-undelivered_now : (shape : Shape) (s : State) (who : ℕ) (act : Act) (w : WaitId) → Needs shape s who act → settles_undelivered w act ≡ true → WasHanded (s.waits w)
+undelivered_now : (shape : Shape) (s : State) (who : ℕ) (act : Act) (w : WaitId) → Needs shape s who act → settles_undelivered w act ≡ true
+    → WasHanded (s.waits w)
 undelivered_now shape s who (Settle v outcome) w n e =
     let k = and_both (same_wait w v) (is_undelivered outcome) e in
-    subst (λ u. WasHanded (s.waits u)) (sym (same_wait-eq w v k.0)) (settled_handed is_undelivered given_undelivered who outcome (s.waits v) n k.1)
+    subst (λ u. WasHanded (s.waits u)) (sym (same_wait-eq w v k.0))
+    (settled_handed is_undelivered given_undelivered who outcome (s.waits v) n k.1)
 undelivered_now shape s who other w n e = cc
 
 -- ---- no other act hands
@@ -133,15 +137,20 @@ settled_same : (outcome : Settled) (x : Option Wait) → WasHanded (settled_wait
 settled_same outcome None h = h
 settled_same outcome (Some x) h = h
 
-first_not : (w : WaitId) (rs : List Receiver) (how : ℕ → Resolution) (s : State) → ((k : ℕ) → value_given (how k) ≡ None) → WasHanded ((resolve_first rs how s).waits w) → WasHanded (s.waits w)
+first_not : (w : WaitId) (rs : List Receiver) (how : ℕ → Resolution) (s : State) → ((k : ℕ) → value_given (how k) ≡ None)
+    → WasHanded ((resolve_first rs how s).waits w) → WasHanded (s.waits w)
 first_not w [] how s e h = h
-first_not w (r ∷ rs) how s e h = change_from WasHanded s.waits r.party.wait w (resolved_wait (how r.party.clause)) (not_given (how r.party.clause) (e r.party.clause)) h
+first_not w (r ∷ rs) how s e h = change_from WasHanded s.waits r.party.wait w (resolved_wait (how r.party.clause))
+    (not_given (how r.party.clause) (e r.party.clause)) h
 
-holder_not : (w : WaitId) (p : Option Party) (how : ℕ → Resolution) (s : State) → ((k : ℕ) → value_given (how k) ≡ None) → WasHanded ((resolve_holder p how s).waits w) → WasHanded (s.waits w)
+holder_not : (w : WaitId) (p : Option Party) (how : ℕ → Resolution) (s : State) → ((k : ℕ) → value_given (how k) ≡ None)
+    → WasHanded ((resolve_holder p how s).waits w) → WasHanded (s.waits w)
 holder_not w None how s e h = h
-holder_not w (Some p) how s e h = change_from WasHanded s.waits p.wait w (resolved_wait (how p.clause)) (not_given (how p.clause) (e p.clause)) h
+holder_not w (Some p) how s e h = change_from WasHanded s.waits p.wait w (resolved_wait (how p.clause))
+    (not_given (how p.clause) (e p.clause)) h
 
-offer_not : (w : WaitId) (c : ℕ) (os : List Standing) (how : ℕ → Resolution) (s : State) → ((k : ℕ) → value_given (how k) ≡ None) → WasHanded ((resolve_offer c os how s).waits w) → WasHanded (s.waits w)
+offer_not : (w : WaitId) (c : ℕ) (os : List Standing) (how : ℕ → Resolution) (s : State) → ((k : ℕ) → value_given (how k) ≡ None)
+    → WasHanded ((resolve_offer c os how s).waits w) → WasHanded (s.waits w)
 offer_not w c [] how s e h = h
 offer_not w c (o ∷ os) how s e h = holder_not w o.holder how (with_queue c os s) e h
 
@@ -150,30 +159,38 @@ removed_not w c [] s h = h
 removed_not w c (o ∷ os) s h = h
 
 module _ (shape : Shape) (acts : List Act) (s : State) (t : Told acts s) where
-  handed_now : (c p v : ℕ) (w : WaitId) (who : ℕ) → Needs shape s who (Hand c p v) → resolves s (Hand c p v) ≡ Some w → HandPlace (acts ++ Hand c p v ∷ []) w
+  handed_now : (c p v : ℕ) (w : WaitId) (who : ℕ) → Needs shape s who (Hand c p v) → resolves s (Hand c p v) ≡ Some w
+      → HandPlace (acts ++ Hand c p v ∷ []) w
   handed_now c p v w who n e =
       ⊎_elim
       (λ u. let f = u.0 in cc)
-      (λ k. let same : k.0 ≡ w = (let f = k.1 in cc) in
-      (c, p, first_kept (places_wait c p) acts (Hand c p v ∷ []) w (k.2 ∙ ap (λ u. Some u) same), any_last (hands c p) acts (Hand c p v) (here c p)))
+      (λ k. let same : k.0 ≡ w = (let f = k.1 in cc) in (
+        c,
+        p,
+        first_kept (places_wait c p) acts (Hand c p v ∷ []) w (k.2 ∙ ap (λ u. Some u) same),
+        any_last (hands c p) acts (Hand c p v) (here c p),
+      ))
       (source_of shape acts s who (Hand c p v) n t.known (c, p) refl)
 
   -- a wait that was handed an element was so before, or is so by a Hand at its place
-  handed_from : (who : ℕ) (act : Act) (w : WaitId) → Needs shape s who act → WasHanded ((after s who act).waits w) → WasHanded (s.waits w) ⊎ HandPlace (acts ++ act ∷ []) w
+  handed_from : (who : ℕ) (act : Act) (w : WaitId) → Needs shape s who act → WasHanded ((after s who act).waits w) → WasHanded (s.waits w)
+      ⊎ HandPlace (acts ++ act ∷ []) w
   handed_from who (Hand c p v) w n h =
       ⊎_elim (λ e. inl (ap is_handed (sym e) ∙ h)) (λ e. inr (handed_now c p v w who n e)) (resolution_kept s who (Hand c p v) w)
   handed_from who (Put c p v) w n h = inl h
   handed_from who (Offer c p v u k) w n h = inl (change_from WasHanded s.waits u w (name_clause who k c) (named_same who k c) h)
   handed_from who (Await c p u k) w n h = inl (change_from WasHanded s.waits u w (name_clause who k c) (named_same who k c) h)
   handed_from who (Take c p v) w n h = inl (offer_not w c (s.channels c).queue resolved.Taken s (λ k. refl) h)
-  handed_from who (Admit c p) w n h = inl (holder_not w (holder_at p (s.channels c).queue) resolved.Admitted (with_queue c (admitted p (s.channels c).queue) s) (λ k. refl) h)
+  handed_from who (Admit c p) w n h = inl (holder_not w (holder_at p (s.channels c).queue) resolved.Admitted
+      (with_queue c (admitted p (s.channels c).queue) s) (λ k. refl) h)
   handed_from who (Drop c p v) w n h = inl (removed_not w c (s.channels c).queue s h)
   handed_from who (Spurn c p v) w n h = inl h
   handed_from who (Close c v) w n h = inl h
   handed_from who (Void c) w n h = inl h
   handed_from who (Drain c p v) w n h = inl (offer_not w c (s.channels c).queue (λ k. resolved.Voided) s (λ k. refl) h)
   handed_from who (WakeClosed c p) w n h = inl (first_not w (s.channels c).receivers _ s (λ k. refl) h)
-  handed_from who (Withdraw u why) w n h = inl (change_from WasHanded s.waits u w (resolved_wait (resolved.Withdrawn why)) (not_given (resolved.Withdrawn why) refl) h)
+  handed_from who (Withdraw u why) w n h = inl (change_from WasHanded s.waits u w (resolved_wait (resolved.Withdrawn why))
+      (not_given (resolved.Withdrawn why) refl) h)
   handed_from who (Settle u outcome) w n h = inl (change_from WasHanded s.waits u w (settled_wait outcome) (settled_same outcome) h)
 
 -- ---- named waits
@@ -193,7 +210,8 @@ clause_begins : (who k c : ℕ) (x : Option Wait) → HasBegun (name_clause who 
 clause_begins who k c None = refl
 clause_begins who k c (Some x) = refl
 
-begun_at : (who k c : ℕ) (u w : WaitId) (waits : WaitId → Option Wait) (b : Bool) → (if b then Some u else None) ≡ Some w → HasBegun (put_wait u (name_clause who k c (waits u)) waits w)
+begun_at : (who k c : ℕ) (u w : WaitId) (waits : WaitId → Option Wait) (b : Bool) → (if b then Some u else None) ≡ Some w
+    → HasBegun (put_wait u (name_clause who k c (waits u)) waits w)
 begun_at who k c u w waits true e =
     let same : u ≡ w = cc in
     subst (λ v. HasBegun (put_wait u (name_clause who k c (waits u)) waits v)) same
@@ -214,7 +232,8 @@ pub record Given (shape : Shape) (acts : List Act) (s : State) : Type 0 where
   pub handed : (w : WaitId) → WasHanded (s.waits w) → HandPlace acts w
   pub begun : (c p : ℕ) (w : WaitId) → wait_at c p acts ≡ Some w → HasBegun (s.waits w)
 
-module _ (shape : Shape) (acts : List Act) (s : State) (who : ℕ) (act : Act) (n : Needs shape s who act) (t : Told acts s) (h : Given shape acts s) where
+module _ (shape : Shape) (acts : List Act) (s : State) (who : ℕ) (act : Act) (n : Needs shape s who act) (t : Told acts s)
+    (h : Given shape acts s) where
   stays : (w : WaitId) → WasHanded (s.waits w) → WasHanded ((after s who act).waits w)
   stays w k =
       ⊎_elim
@@ -225,7 +244,12 @@ module _ (shape : Shape) (acts : List Act) (s : State) (who : ℕ) (act : Act) (
   handed_place : (w : WaitId) → WasHanded ((after s who act).waits w) → HandPlace (acts ++ act ∷ []) w
   handed_place w k =
       ⊎_elim
-      (λ old. let x = h.handed w old in (x.0, x.1, first_kept (places_wait x.0 x.1) acts (act ∷ []) w x.2, any_kept (hands x.0 x.1) acts (act ∷ []) x.3))
+      (λ old. let x = h.handed w old in (
+        x.0,
+        x.1,
+        first_kept (places_wait x.0 x.1) acts (act ∷ []) w x.2,
+        any_kept (hands x.0 x.1) acts (act ∷ []) x.3,
+      ))
       (λ new. new)
       (handed_from shape acts s t who act w n k)
 
@@ -242,21 +266,32 @@ module _ (shape : Shape) (acts : List Act) (s : State) (who : ℕ) (act : Act) (
   given_after : Given shape (acts ++ act ∷ []) (after s who act)
   given_after = record {
     range = range_after shape acts s who act n h.range;
-    value = λ w e. stays w (⊎_elim (λ old. h.value w old) (λ new. value_now shape s who act w n new) (any_cases (settles_value w) acts act e));
-    undelivered = λ w e. stays w (⊎_elim (λ old. h.undelivered w old) (λ new. undelivered_now shape s who act w n new) (any_cases (settles_undelivered w) acts act e));
+    value = λ w e. stays w (⊎_elim (λ old. h.value w old) (λ new. value_now shape s who act w n new)
+        (any_cases (settles_value w) acts act e));
+    undelivered = λ w e. stays w (⊎_elim (λ old. h.undelivered w old) (λ new. undelivered_now shape s who act w n new)
+        (any_cases (settles_undelivered w) acts act e));
     handed = handed_place;
     begun = begun_after;
   }
 
 start_given : (shape : Shape) → Given shape [] start
-start_given shape = record { range = λ c p l. absurd (omega arith); value = λ w e. cc; undelivered = λ w e. cc; handed = λ w e. cc; begun = λ c p w e. cc }
+start_given shape = record {
+  range = λ c p l. absurd (omega arith);
+  value = λ w e. cc;
+  undelivered = λ w e. cc;
+  handed = λ w e. cc;
+  begun =
+      λ c p w e. cc;
+}
 
-from_given : (shape : Shape) (acts : List Act) (s : State) (es : List Entry) → LegalFrom shape s es → Told acts s → Given shape acts s → Given shape (acts ++ acts_in es) (replay_from s es)
+from_given : (shape : Shape) (acts : List Act) (s : State) (es : List Entry) → LegalFrom shape s es → Told acts s → Given shape acts s
+    → Given shape (acts ++ acts_in es) (replay_from s es)
 unfolding LegalFrom replay_from
 from_given shape acts s [] l t h = subst (λ xs. Given shape xs s) (sym (nothing_more acts)) h
 from_given shape acts s (e ∷ es) l t h =
     subst (λ xs. Given shape xs (replay_from (after s e.who e.act) es)) (append_assoc acts (e.act ∷ []) (acts_in es))
-    (from_given shape (acts ++ e.act ∷ []) (after s e.who e.act) es l.1 (told_after shape acts s e.who e.act l.0 t) (given_after shape acts s e.who e.act l.0 t h))
+    (from_given shape (acts ++ e.act ∷ []) (after s e.who e.act) es l.1 (told_after shape acts s e.who e.act l.0 t)
+    (given_after shape acts s e.who e.act l.0 t h))
 
 pub replay_given : (shape : Shape) (history : List Entry) → Legal shape history → Given shape (acts_in history) (replay history)
 replay_given shape history l = from_given shape [] start history l start_told (start_given shape)

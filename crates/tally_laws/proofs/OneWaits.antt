@@ -43,20 +43,22 @@ pub act_last : (t : Tally) (xs : List Act) (a : Act) → with_acts t (xs ++ a �
 act_last t [] a = refl
 act_last t (x ∷ xs) a = act_last (with_act t x) xs a
 
-one_by_one : (o : Option WaitId) (a : Act) (acts : List Act) → has_one_wait o (a ∷ acts) ≡ (fits_wait o a && has_one_wait (wait_after o a) acts)
+one_by_one : (o : Option WaitId) (a : Act) (acts : List Act)
+    → has_one_wait o (a ∷ acts) ≡ (fits_wait o a && has_one_wait (wait_after o a) acts)
 one_by_one o (Offer c p v w k) acts = refl
-one_by_one o (Await c p w k) acts = refl
-one_by_one o (Settle w outcome) acts = refl
 one_by_one o other acts = refl
 
 -- behind some acts, the next one fits
-pub fits_next : (o : Option WaitId) (xs : List Act) (a : Act) (ys : List Act) → has_one_wait o (xs ++ a ∷ ys) ≡ true → fits_wait (waits_after o xs) a ≡ true
+pub fits_next : (o : Option WaitId) (xs : List Act) (a : Act) (ys : List Act) → has_one_wait o (xs ++ a ∷ ys) ≡ true
+    → fits_wait (waits_after o xs) a ≡ true
 fits_next o [] a ys h = (and_both (fits_wait o a) (has_one_wait (wait_after o a) ys) (sym (one_by_one o a ys) ∙ h)).0
-fits_next o (x ∷ xs) a ys h = fits_next (wait_after o x) xs a ys (and_both (fits_wait o x) (has_one_wait (wait_after o x) (xs ++ a ∷ ys)) (sym (one_by_one o x (xs ++ a ∷ ys)) ∙ h)).1
+fits_next o (x ∷ xs) a ys h = fits_next (wait_after o x) xs a ys
+    (and_both (fits_wait o x) (has_one_wait (wait_after o x) (xs ++ a ∷ ys)) (sym (one_by_one o x (xs ++ a ∷ ys)) ∙ h)).1
 
 -- ---- counts that need no wait
 
-pub stateless : (field : Counts → ℕ) (f : Act → Bool) → ((x y : Counts) → field (added x y) ≡ field x + field y) → ((t : Tally) (a : Act) → field (count_of t a) ≡ cond (f a) 1 0)
+pub stateless : (field : Counts → ℕ) (f : Act → Bool) → ((x y : Counts) → field (added x y) ≡ field x + field y)
+    → ((t : Tally) (a : Act) → field (count_of t a) ≡ cond (f a) 1 0)
     → (t : Tally) (acts : List Act) → field (with_acts t acts).counts ≡ field t.counts + how_many f acts
 stateless field f add step t [] = omega arith
 stateless field f add step t (a ∷ acts) =
@@ -91,19 +93,22 @@ later ends a acts h w e = h w (ap (λ b. settles_wait w a || b) e ∙ or-true (s
 same_of : (w u : WaitId) → is_wait w (Some u) ≡ true → w ≡ u
 same_of w u e = same_wait-eq w u e
 
-offered_then : (ends : WaitId → Bool) (o : Option WaitId) (w : WaitId) (n : ℕ) → OpenFits o n → may_name w o ≡ true → cond (ends w) (n + 1) 0 ≡ owed ends o n + cond (ends w) 1 0
+offered_then : (ends : WaitId → Bool) (o : Option WaitId) (w : WaitId) (n : ℕ) → OpenFits o n → may_name w o ≡ true
+    → cond (ends w) (n + 1) 0 ≡ owed ends o n + cond (ends w) 1 0
 offered_then ends None w n h e = by_test (ends w)
   where
     by_test : (b : Bool) → cond b (n + 1) 0 ≡ 0 + cond b 1 0
     by_test true = omega arith
     by_test false = omega arith
-offered_then ends (Some u) w n h e = subst (λ x. cond (ends w) (n + 1) 0 ≡ cond (ends x) n 0 + cond (ends w) 1 0) (same_wait-eq w u e) (by_test (ends w))
+offered_then ends (Some u) w n h e = subst (λ x. cond (ends w) (n + 1) 0 ≡ cond (ends x) n 0 + cond (ends w) 1 0) (same_wait-eq w u e)
+    (by_test (ends w))
   where
     by_test : (b : Bool) → cond b (n + 1) 0 ≡ cond b n 0 + cond b 1 0
     by_test true = omega arith
     by_test false = omega arith
 
-awaited_then : (ends : WaitId → Bool) (o : Option WaitId) (w : WaitId) (n : ℕ) → OpenFits o n → may_name w o ≡ true → cond (ends w) n 0 ≡ owed ends o n
+awaited_then : (ends : WaitId → Bool) (o : Option WaitId) (w : WaitId) (n : ℕ) → OpenFits o n → may_name w o ≡ true
+    → cond (ends w) n 0 ≡ owed ends o n
 awaited_then ends None w n h e = by_test (ends w) h
   where
     by_test : (b : Bool) → n ≡ 0 → cond b n 0 ≡ 0
@@ -120,7 +125,8 @@ none_owed ends None n h = refl
 none_owed ends (Some w) n h = ap (λ b. cond b n 0) (h w refl)
 
 -- all offers of waits that end are counted, but for those that are still owed
-pub ended_offers : (ends : WaitId → Bool) (o : Option WaitId) (t : Tally) (acts : List Act) → OpenFits o t.open_offers → has_one_wait o acts ≡ true → SettledEnd ends acts → ((w : WaitId) → waits_after o acts ≡ Some w → ends w ≡ false)
+pub ended_offers : (ends : WaitId → Bool) (o : Option WaitId) (t : Tally) (acts : List Act) → OpenFits o t.open_offers
+    → has_one_wait o acts ≡ true → SettledEnd ends acts → ((w : WaitId) → waits_after o acts ≡ Some w → ends w ≡ false)
     → (with_acts t acts).counts.ended ≡ t.counts.ended + (owed ends o t.open_offers + how_many (offers_as ends) acts)
 ended_offers ends o t [] fits one se last = let k = none_owed ends o t.open_offers last in omega arith
 ended_offers ends o t (Offer c p v w k ∷ acts) fits one se last =

@@ -113,11 +113,13 @@ drain_resolves : (c p : ℕ) (act : Act) → drains c p act ≡ true → resolve
 drain_resolves c p (Drain d q v) e = e
 drain_resolves c p other e = cc
 
-pub resolved_elsewhere : (acts : List Act) (c p d q : ℕ) (w : WaitId) → is_at c p d q ≡ false → Chosen acts d q w → is_chosen_elsewhere c p w acts ≡ true
+pub resolved_elsewhere : (acts : List Act) (c p d q : ℕ) (w : WaitId) → is_at c p d q ≡ false → Chosen acts d q w
+    → is_chosen_elsewhere c p w acts ≡ true
 resolved_elsewhere acts c p d q w e h =
     let f = found (resolver d q) acts h.1 in
     f.2 (λ a. resolves_elsewhere c p w acts (resolves_at a))
-    (ap (resolves_elsewhere c p w acts) (this_place d q (resolves_at f.0) f.1) ∙ and_holds (not (is_at c p d q)) (is_wait w (wait_at d q acts)) (ap not e) (ap (is_wait w) h.0 ∙ same_wait-refl w))
+    (ap (resolves_elsewhere c p w acts) (this_place d q (resolves_at f.0) f.1)
+    ∙ and_holds (not (is_at c p d q)) (is_wait w (wait_at d q acts)) (ap not e) (ap (is_wait w) h.0 ∙ same_wait-refl w))
 
 -- ---- one place
 
@@ -135,17 +137,21 @@ module _ (shape : Shape) (acts : List Act) (s : State) (t : Traced shape acts s)
   left_once = omega (arith, leaves_count c p acts, counted.queue, counted.given)
 
   -- what left was brought
-  left_brought : 1 ≤ how_many (takes c p) acts + how_many (drains c p) acts + how_many (drops_at c p) acts + how_many (spurns_at c p) acts → 1 ≤ how_many (puts c p) acts + how_many (offers c p) acts
+  left_brought : 1 ≤ how_many (takes c p) acts + how_many (drains c p) acts + how_many (drops_at c p) acts + how_many (spurns_at c p) acts
+      → 1 ≤ how_many (puts c p) acts + how_many (offers c p) acts
   left_brought h = omega (arith, leaves_count c p acts, counted.queue, enters_count c p acts)
 
-  there : {f : Act → Bool} → ((act : Act) → f act ≡ true → (v : ℕ) × (brings c p act ≡ Some v)) → list_any f acts ≡ true → is_some (element_at c p acts) ≡ true
+  there : {f : Act → Bool} → ((act : Act) → f act ≡ true → (v : ℕ) × (brings c p act ≡ Some v)) → list_any f acts ≡ true
+      → is_some (element_at c p acts) ≡ true
   there {f} k e = let x = first_there (brings c p) f k acts e in ap is_some x.1
 
   -- where something was brought, there is an element
-  element_there : 1 ≤ how_many (hands c p) acts + (how_many (puts c p) acts + how_many (offers c p) acts) → is_some (element_at c p acts) ≡ true
+  element_there : 1 ≤ how_many (hands c p) acts + (how_many (puts c p) acts + how_many (offers c p) acts)
+      → is_some (element_at c p acts) ≡ true
   element_there h = by_tests (list_any (hands c p) acts) (list_any (puts c p) acts) (list_any (offers c p) acts) refl refl refl
     where
-      by_tests : (a b d : Bool) → list_any (hands c p) acts ≡ a → list_any (puts c p) acts ≡ b → list_any (offers c p) acts ≡ d → is_some (element_at c p acts) ≡ true
+      by_tests : (a b d : Bool) → list_any (hands c p) acts ≡ a → list_any (puts c p) acts ≡ b → list_any (offers c p) acts ≡ d
+          → is_some (element_at c p acts) ≡ true
       by_tests true b d e f g = there (hand_brings c p) e
       by_tests false true d e f g = there (put_brings c p) f
       by_tests false false true e f g = there (offer_brings c p) g
@@ -156,10 +162,12 @@ module _ (shape : Shape) (acts : List Act) (s : State) (t : Traced shape acts s)
           absurd (omega arith)
 
   -- an element is there exactly where one act brought it
-  pub element_share : cond (is_some (element_at c p acts)) 1 0 ≡ how_many (hands c p) acts + (how_many (puts c p) acts + how_many (offers c p) acts)
+  pub element_share : cond (is_some (element_at c p acts)) 1 0 ≡
+      how_many (hands c p) acts + (how_many (puts c p) acts + how_many (offers c p) acts)
   element_share = by_element (element_at c p acts) refl
     where
-      by_element : (o : Option ℕ) → element_at c p acts ≡ o → cond (is_some o) 1 0 ≡ how_many (hands c p) acts + (how_many (puts c p) acts + how_many (offers c p) acts)
+      by_element : (o : Option ℕ) → element_at c p acts ≡ o
+          → cond (is_some o) 1 0 ≡ how_many (hands c p) acts + (how_many (puts c p) acts + how_many (offers c p) acts)
       by_element (Some v) e =
           let f = first_found (brings c p) acts v e in
           ⊎_elim
@@ -208,7 +216,8 @@ module _ (shape : Shape) (acts : List Act) (s : State) (t : Traced shape acts s)
   handed_test : (test : WaitId → Act → Bool) → is_handed_as test acts c p ≡ true → list_any (hands c p) acts ≡ true
   handed_test test e = (and_both _ _ e).0
 
-  taken_offer_is : is_taken_offer acts c p ≡ true → (k : ℕ) × (first_some (offers_at c p) acts ≡ Some k) × ((k == 0) ≡ true) × ((w : WaitId) × (wait_at c p acts ≡ Some w) × (list_any (withdraws w) acts ≡ true))
+  taken_offer_is : is_taken_offer acts c p ≡ true → (k : ℕ) × (first_some (offers_at c p) acts ≡ Some k) × ((k == 0) ≡ true)
+      × ((w : WaitId) × (wait_at c p acts ≡ Some w) × (list_any (withdraws w) acts ≡ true))
   taken_offer_is e =
       let o = offer_some (λ k. (k == 0) && is_taken_back c p acts) (first_some (offers_at c p) acts) e in
       let b = and_both _ _ o.2 in
@@ -224,7 +233,8 @@ module _ (shape : Shape) (acts : List Act) (s : State) (t : Traced shape acts s)
       (λ e h. let n = any_count (takes c p) acts e in handed_or_left shape acts s t c p (handed_test settles_value h) (omega arith)) in
       omega arith
 
-  pub undelivered_share : cond (is_undelivered_at c p acts) 1 0 ≡ how_many (drains c p) acts + (cond (is_handed_as settles_undelivered acts c p) 1 0 + cond (is_taken_offer acts c p) 1 0)
+  pub undelivered_share : cond (is_undelivered_at c p acts) 1 0 ≡
+      how_many (drains c p) acts + (cond (is_handed_as settles_undelivered acts c p) 1 0 + cond (is_taken_offer acts c p) 1 0)
   undelivered_share =
       let one = any_one (drains c p) acts (let m = left_once in omega arith) in
       let two = or_sum (is_handed_as settles_undelivered acts c p) (is_taken_offer acts c p)
@@ -247,7 +257,8 @@ module _ (shape : Shape) (acts : List Act) (s : State) (t : Traced shape acts s)
   module _ (settled : (w : WaitId) → list_any (settles_wait w) acts ≡ true → IsSettledWait (s.waits w))
       (settles : (w : WaitId) → IsSettledWait (s.waits w) → list_any (settles_wait w) acts ≡ true) (rest : ResolvedAreSettled s) where
     -- the wait of the place had another end, or none
-    other_resolved : (w v : WaitId) → wait_at c p acts ≡ Some w → wait_at c p acts ≡ Some v → OtherEnd c p acts v → IsResolvedWait (s.waits w)
+    other_resolved : (w v : WaitId) → wait_at c p acts ≡ Some w → wait_at c p acts ≡ Some v → OtherEnd c p acts v
+        → IsResolvedWait (s.waits w)
     other_resolved w v e f o =
         let same : v ≡ w = cc in
         subst (λ u. IsResolvedWait (s.waits u)) same (⊎_elim (λ k. t.chosen.withdrawn v k) (λ x. t.chosen.resolved x.0 x.1 v x.3) o)
@@ -276,17 +287,24 @@ module _ (shape : Shape) (acts : List Act) (s : State) (t : Traced shape acts s)
       -- not answered here, and withdrawn
       taken_back_here : list_any (resolver c p) acts ≡ false → list_any (withdraws w) acts ≡ true → is_taken_back c p acts ≡ true
       taken_back_here r e =
-          and_holds (not (list_any (admits c p) acts)) _ (ap not (is_false (list_any (admits c p) acts) (λ a. not_both _ (admitted_resolved c p acts a) r)))
+          and_holds (not (list_any (admits c p) acts)) _ (ap not
+          (is_false (list_any (admits c p) acts) (λ a. not_both _ (admitted_resolved c p acts a) r)))
           (ap (of_wait (λ v. list_any (withdraws v) acts)) named ∙ e)
 
-      withdrawn_by : nat_lt 0 k ≡ true → (is_taken_back c p acts || (not (list_any (admits c p) acts) && of_wait (λ v. is_chosen_elsewhere c p v acts) (wait_at c p acts))) ≡ true → is_withdrawn c p acts ≡ true
-      withdrawn_by l h = ap (of_offer (λ j. nat_lt 0 j && (is_taken_back c p acts || (not (list_any (admits c p) acts) && of_wait (λ v. is_chosen_elsewhere c p v acts) (wait_at c p acts))))) clause ∙ and_holds (nat_lt 0 k) _ l h
+      withdrawn_by : nat_lt 0 k ≡ true → (is_taken_back c p acts
+          || (not (list_any (admits c p) acts) && of_wait (λ v. is_chosen_elsewhere c p v acts) (wait_at c p acts))) ≡ true
+          → is_withdrawn c p acts ≡ true
+      withdrawn_by l h =
+          ap (of_offer (λ j. nat_lt 0 j && (is_taken_back c p acts
+          || (not (list_any (admits c p) acts) && of_wait (λ v. is_chosen_elsewhere c p v acts) (wait_at c p acts))))) clause
+          ∙ and_holds (nat_lt 0 k) _ l h
 
       taken_by : (k == 0) ≡ true → is_taken_back c p acts ≡ true → is_taken_offer acts c p ≡ true
       taken_by z h = ap (of_offer (λ j. (j == 0) && is_taken_back c p acts)) clause ∙ and_holds (k == 0) _ z h
 
       -- withdrawn or taken back, one of the two, where its wait had another end
-      ended_otherwise : list_any (resolver c p) acts ≡ false → OtherEnd c p acts w → cond (is_withdrawn c p acts) 1 0 + cond (is_taken_offer acts c p) 1 0 ≡ 1
+      ended_otherwise : list_any (resolver c p) acts ≡ false → OtherEnd c p acts w
+          → cond (is_withdrawn c p acts) 1 0 + cond (is_taken_offer acts c p) 1 0 ≡ 1
       ended_otherwise r o =
           ⊎_elim
           (λ l.
@@ -302,11 +320,14 @@ module _ (shape : Shape) (acts : List Act) (s : State) (t : Traced shape acts s)
           omega arith)
           (cases_lt 0 k)
         where
-          select_end : OtherEnd c p acts w → (is_taken_back c p acts || (not (list_any (admits c p) acts) && of_wait (λ v. is_chosen_elsewhere c p v acts) (wait_at c p acts))) ≡ true
+          select_end : OtherEnd c p acts w → (is_taken_back c p acts
+              || (not (list_any (admits c p) acts) && of_wait (λ v. is_chosen_elsewhere c p v acts) (wait_at c p acts))) ≡ true
           select_end o =
               ⊎_elim
-              (λ e. ap (λ b. b || (not (list_any (admits c p) acts) && of_wait (λ v. is_chosen_elsewhere c p v acts) (wait_at c p acts))) (taken_back_here r e))
-              (λ x. or_second (is_taken_back c p acts) _ (and_holds (not (list_any (admits c p) acts)) _ (ap not (is_false (list_any (admits c p) acts) (λ a. not_both _ (admitted_resolved c p acts a) r)))
+              (λ e. ap (λ b. b || (not (list_any (admits c p) acts) && of_wait (λ v. is_chosen_elsewhere c p v acts) (wait_at c p acts)))
+              (taken_back_here r e))
+              (λ x. or_second (is_taken_back c p acts) _ (and_holds (not (list_any (admits c p) acts)) _
+              (ap not (is_false (list_any (admits c p) acts) (λ a. not_both _ (admitted_resolved c p acts a) r)))
               (ap (of_wait (λ v. is_chosen_elsewhere c p v acts)) named ∙ resolved_elsewhere acts c p x.0 x.1 w x.2 x.3)))
               o
 
@@ -316,20 +337,25 @@ module _ (shape : Shape) (acts : List Act) (s : State) (t : Traced shape acts s)
               (λ e. taken_back_here r e)
               (λ x.
               let m = alone acts s t.own c p x.0 x.1 w (clause ∙ ap (λ j. Some j) z) named x.3.0 in
-              absurd (not_both _ (here c p) (subst (λ d. is_at c p d p ≡ false) (sym m.0) (subst (λ q. is_at c p x.0 q ≡ false) (sym m.1) x.2))))
+              absurd (not_both _ (here c p) (subst (λ d. is_at c p d p ≡ false) (sym m.0)
+              (subst (λ q. is_at c p x.0 q ≡ false) (sym m.1) x.2))))
               o
 
-      open_is : (b : Bool) → list_any (settles_wait w) acts ≡ b → of_wait (λ v. not (list_any (settles_wait v) acts)) (wait_at c p acts) ≡ not b
+      open_is : (b : Bool) → list_any (settles_wait w) acts ≡ b
+          → of_wait (λ v. not (list_any (settles_wait v) acts)) (wait_at c p acts) ≡ not b
       open_is b e = ap (of_wait (λ v. not (list_any (settles_wait v) acts))) named ∙ ap not e
 
       chosen_is : (b : Bool) → list_any (settles_wait w) acts ≡ b → of_wait (λ v. list_any (settles_wait v) acts) (wait_at c p acts) ≡ b
       chosen_is b e = ap (of_wait (λ v. list_any (settles_wait v) acts)) named ∙ e
 
-      pub named_share : 1 ≡ cond (is_withdrawn c p acts) 1 0 + (cond (is_taken_offer acts c p) 1 0 + (cond (is_chosen_at acts c p) 1 0 + cond (of_wait (λ v. not (list_any (settles_wait v) acts)) (wait_at c p acts)) 1 0))
+      pub named_share : 1 ≡ cond (is_withdrawn c p acts) 1 0 +
+          (cond (is_taken_offer acts c p) 1 0 + (cond (is_chosen_at acts c p) 1 0 + cond
+          (of_wait (λ v. not (list_any (settles_wait v) acts)) (wait_at c p acts)) 1 0))
       named_share = by_tests (list_any (settles_wait w) acts) (list_any (resolver c p) acts) refl refl
         where
           by_tests : (b r : Bool) → list_any (settles_wait w) acts ≡ b → list_any (resolver c p) acts ≡ r
-              → 1 ≡ cond (is_withdrawn c p acts) 1 0 + (cond (is_taken_offer acts c p) 1 0 + (cond (is_chosen_at acts c p) 1 0 + cond (of_wait (λ v. not (list_any (settles_wait v) acts)) (wait_at c p acts)) 1 0))
+              → 1 ≡ cond (is_withdrawn c p acts) 1 0 + (cond (is_taken_offer acts c p) 1 0 +
+              (cond (is_chosen_at acts c p) 1 0 + cond (of_wait (λ v. not (list_any (settles_wait v) acts)) (wait_at c p acts)) 1 0))
           by_tests false r e f =
               let no : IsResolvedWait (s.waits w) → ⊥ = λ h. not_both _ (settles w (rest w h)) e in
               let a = counts_none (is_withdrawn c p acts) (is_false _ (λ h. no (withdrawn_resolved w named h))) in
@@ -345,23 +371,29 @@ module _ (shape : Shape) (acts : List Act) (s : State) (t : Traced shape acts s)
               omega arith
           by_tests true false e f =
               let h = t.ended.resolved w (settled w e) in
-              let o : OtherEnd c p acts w = ⊎_elim (λ k. inl k) (λ x. inr (x.0, x.1, is_false _ (λ at. not_here x.0 x.1 at x.2), x.2)) (t.chosen.known w h) in
+              let o : OtherEnd c p acts w = ⊎_elim (λ k. inl k) (λ x. inr (x.0, x.1, is_false _ (λ at. not_here x.0 x.1 at x.2), x.2))
+              (t.chosen.known w h) in
               let a = ended_otherwise f o in
-              let x = counts_none (is_chosen_at acts c p) (ap (λ b. b && of_wait (λ v. list_any (settles_wait v) acts) (wait_at c p acts)) f) in
+              let x = counts_none (is_chosen_at acts c p) (ap (λ b. b
+              && of_wait (λ v. list_any (settles_wait v) acts) (wait_at c p acts)) f) in
               let y = counts_none _ (open_is true e) in
               omega arith
             where
               not_here : (d q : ℕ) → is_at c p d q ≡ true → Chosen acts d q w → ⊥
               not_here d q at x =
                   let m = at_both c p d q at in
-                  not_both _ (subst (λ j. list_any (resolver c j) acts ≡ true) m.1 (subst (λ j. list_any (resolver j q) acts ≡ true) m.0 x.1)) f
+                  not_both _ (subst (λ j. list_any (resolver c j) acts ≡ true) m.1
+                  (subst (λ j. list_any (resolver j q) acts ≡ true) m.0 x.1)) f
 
     -- an offer was withdrawn or taken back, or its wait was resolved at it, or is not settled
-    pub offered_share : how_many (offers c p) acts ≡ cond (is_withdrawn c p acts) 1 0 + (cond (is_taken_offer acts c p) 1 0 + (cond (is_sent_at acts c p) 1 0 + cond (is_open_at acts c p) 1 0))
+    pub offered_share : how_many (offers c p) acts ≡ cond (is_withdrawn c p acts) 1 0 +
+        (cond (is_taken_offer acts c p) 1 0 + (cond (is_sent_at acts c p) 1 0 + cond (is_open_at acts c p) 1 0))
     offered_share = by_test (list_any (offers c p) acts) refl
       where
         Shared : Bool → Type 0
-        Shared b = how_many (offers c p) acts ≡ cond (is_withdrawn c p acts) 1 0 + (cond (is_taken_offer acts c p) 1 0 + (cond (b && is_chosen_at acts c p) 1 0 + cond (b && of_wait (λ w. not (list_any (settles_wait w) acts)) (wait_at c p acts)) 1 0))
+        Shared b = how_many (offers c p) acts ≡ cond (is_withdrawn c p acts) 1 0 +
+            (cond (is_taken_offer acts c p) 1 0 + (cond (b && is_chosen_at acts c p) 1 0 + cond (b
+            && of_wait (λ w. not (list_any (settles_wait w) acts)) (wait_at c p acts)) 1 0))
 
         by_test : (b : Bool) → list_any (offers c p) acts ≡ b → Shared b
         by_test true e =
@@ -373,6 +405,8 @@ module _ (shape : Shape) (acts : List Act) (s : State) (t : Traced shape acts s)
             omega arith
         by_test false e =
             let n = none_count (offers c p) acts e in
-            let a = counts_none (is_withdrawn c p acts) (is_false _ (λ h. let o = withdrawn_is c p acts h in not_both _ (clause_offered c p o.0 acts o.1) e)) in
-            let b = counts_none (is_taken_offer acts c p) (is_false _ (λ h. let o = taken_offer_is h in not_both _ (clause_offered c p o.0 acts o.1) e)) in
+            let a = counts_none (is_withdrawn c p acts) (is_false _ (λ h. let o = withdrawn_is c p acts h
+            in not_both _ (clause_offered c p o.0 acts o.1) e)) in
+            let b = counts_none (is_taken_offer acts c p) (is_false _ (λ h. let o = taken_offer_is h
+            in not_both _ (clause_offered c p o.0 acts o.1) e)) in
             omega arith

@@ -15,11 +15,13 @@ abbrev pub NobodyPast : ℕ → List Entry → Type 0
 NobodyPast n es = (k : ℕ) → n ≤ k → acts_of k es ≡ []
 
 -- what a caller's acts have of one entry more
-first_of : (f : Act → Bool) (a : Act) (acts : List Act) (b : Bool) → how_many f (if b then a ∷ acts else acts) ≡ cond b (cond (f a) 1 0) 0 + how_many f acts
+first_of : (f : Act → Bool) (a : Act) (acts : List Act) (b : Bool)
+    → how_many f (if b then a ∷ acts else acts) ≡ cond b (cond (f a) 1 0) 0 + how_many f acts
 first_of f a acts true = refl
 first_of f a acts false = omega arith
 
-own_first : (f : Act → Bool) (k : ℕ) (e : Entry) (es : List Entry) → how_many f (acts_of k (e ∷ es)) ≡ cond (e.who == k) (cond (f e.act) 1 0) 0 + how_many f (acts_of k es)
+own_first : (f : Act → Bool) (k : ℕ) (e : Entry) (es : List Entry)
+    → how_many f (acts_of k (e ∷ es)) ≡ cond (e.who == k) (cond (f e.act) 1 0) 0 + how_many f (acts_of k es)
 unfolding acts_of
 own_first f k e es = first_of f e.act (acts_of k es) (e.who == k)
 
@@ -28,7 +30,9 @@ none_there a acts e = cc
 
 maker_below : (n : ℕ) (e : Entry) (es : List Entry) → NobodyPast n (e ∷ es) → e.who < n
 unfolding acts_of
-maker_below n e es h = ⊎_elim (λ l. l) (λ l. absurd (none_there e.act (acts_of e.who es) (ap (λ b. if b then e.act ∷ acts_of e.who es else acts_of e.who es) (sym (same_number e.who)) ∙ h e.who l))) (cases_lt e.who n)
+maker_below n e es h =
+    ⊎_elim (λ l. l) (λ l. absurd (none_there e.act (acts_of e.who es)
+    (ap (λ b. if b then e.act ∷ acts_of e.who es else acts_of e.who es) (sym (same_number e.who)) ∙ h e.who l))) (cases_lt e.who n)
 
 later_nobody : (n : ℕ) (e : Entry) (es : List Entry) → NobodyPast n (e ∷ es) → NobodyPast n es
 unfolding acts_of
@@ -47,11 +51,13 @@ one_maker b n who l =
     by_test i false e a = refl
 
 -- the acts of all callers that pass, caller by caller
-pub by_callers : (f : Act → Bool) (n : ℕ) (es : List Entry) → NobodyPast n es → sum_below (λ k. how_many f (acts_of k es)) n ≡ how_many f (acts_in es)
+pub by_callers : (f : Act → Bool) (n : ℕ) (es : List Entry) → NobodyPast n es
+    → sum_below (λ k. how_many f (acts_of k es)) n ≡ how_many f (acts_in es)
 unfolding acts_of
 by_callers f n [] h = sum_none (λ k. 0) n (λ i l. refl)
 by_callers f n (e ∷ es) h =
-    sum_same (λ k. how_many f (acts_of k (e ∷ es))) (λ k. cond (e.who == k) (cond (f e.act) 1 0) 0 + how_many f (acts_of k es)) n (λ k l. own_first f k e es)
+    sum_same (λ k. how_many f (acts_of k (e ∷ es))) (λ k. cond (e.who == k) (cond (f e.act) 1 0) 0 + how_many f (acts_of k es)) n
+    (λ k l. own_first f k e es)
     ∙ (sum_add (λ k. cond (e.who == k) (cond (f e.act) 1 0) 0) (λ k. how_many f (acts_of k es)) n
     ∙ both _ _ _ _ (one_maker (cond (f e.act) 1 0) n e.who (maker_below n e es h)) (by_callers f n es (later_nobody n e es h)))
   where

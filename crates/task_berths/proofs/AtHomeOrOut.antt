@@ -24,5 +24,7 @@ module _ {T : Type 0} (tag_of : T → ℕ) where
         numbered = λ id v at live half. owns id v at h live half;
       })
     where
-      owns : (id : ℕ) (v : SeatView) → get_elem? s.views id ≡ some v → (h : Holder s.views t (get_or s.words t 0)) → v.live ≡ true → get_or s.words t 0 / 2 ≡ suc v.number → id ≡ h.id
-      owns id v at h live half = sym ((r.knows id v at).own live) ∙ ap r.owner (omega (arith, half, h.numbered)) ∙ (r.knows h.id h.v h.at).own h.live
+      owns : (id : ℕ) (v : SeatView) → get_elem? s.views id ≡ some v → (h : Holder s.views t (get_or s.words t 0)) → v.live ≡ true
+          → get_or s.words t 0 / 2 ≡ suc v.number → id ≡ h.id
+      owns id v at h live half = sym ((r.knows id v at).own live) ∙ ap r.owner (omega (arith, half, h.numbered))
+          ∙ (r.knows h.id h.v h.at).own h.live

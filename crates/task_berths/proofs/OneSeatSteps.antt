@@ -29,22 +29,26 @@ module _ {T : Type 0} (tag_of : T → ℕ) where
   Rule = HoldsTasks tag_of
 
   -- what one seat's step leaves
-  pub record Moves (s : St) (r : Rule s) (id : ℕ) (v w : SeatView) (words' : List ℕ) (homes' : Slots T) (log' : List BerthStep) : Type 0 where
-    pub wide : length words' ≡ length s.words
-    pub long : length homes' ≡ length s.homes
-    pub begins : Begins w.seen log'
-    pub grows : Begins r.log log'
-    pub made : takes_in log' + v.takes ≡ takes_in r.log + w.takes
-    pub same : (w.live ≡ v.live) × ((w.number ≡ v.number) × ((w.chief ≡ v.chief) × ((w.splits ≡ v.splits) × (w.ends ≡ v.ends))))
-    pub words : (u : ℕ) → u < length s.homes → get_or words' u 0 ≡ word_of u log'
-    pub home : (u : ℕ) → u < length s.homes → word_of u log' ≡ 0 → IsAtHome tag_of homes' u
-    pub away : (u : ℕ) → u < length s.homes → word_of u log' ≢ 0 → ((v.live ≡ true) × ((has_tag u w.held ≡ true) × (word_of u log' / 2 ≡ suc v.number)))
-        ⊎ ((word_of u r.log ≢ 0) × ((word_of u log' / 2 ≡ word_of u r.log / 2) × (has_tag u v.held ≡ true → has_tag u w.held ≡ true)))
-    pub holds : (u : ℕ) → has_tag u w.held ≡ true → (v.live ≡ true) × ((u < length s.homes) × (word_of u log' / 2 ≡ suc v.number))
-    pub down : (u : ℕ) → has_tag u w.held ≡ true → w.carries ≢ Some u → get_elem? homes' u ≡ some (some None)
-    pub others : (u j : ℕ) (x : SeatView) → j ≢ id → get_elem? s.views j ≡ some x → has_tag u x.held ≡ true → (word_of u log' / 2 ≡ word_of u r.log / 2) × (get_elem? homes' u ≡ get_elem? s.homes u)
+  pub record Moves (s : St) (r : Rule s) (id : ℕ) (v w : SeatView) (words' : List ℕ) (homes' : Slots T) (log' : List BerthStep) : Type 0
+    where
+      pub wide : length words' ≡ length s.words
+      pub long : length homes' ≡ length s.homes
+      pub begins : Begins w.seen log'
+      pub grows : Begins r.log log'
+      pub made : takes_in log' + v.takes ≡ takes_in r.log + w.takes
+      pub same : (w.live ≡ v.live) × ((w.number ≡ v.number) × ((w.chief ≡ v.chief) × ((w.splits ≡ v.splits) × (w.ends ≡ v.ends))))
+      pub words : (u : ℕ) → u < length s.homes → get_or words' u 0 ≡ word_of u log'
+      pub home : (u : ℕ) → u < length s.homes → word_of u log' ≡ 0 → IsAtHome tag_of homes' u
+      pub away : (u : ℕ) → u < length s.homes → word_of u log' ≢ 0
+          → ((v.live ≡ true) × ((has_tag u w.held ≡ true) × (word_of u log' / 2 ≡ suc v.number)))
+          ⊎ ((word_of u r.log ≢ 0) × ((word_of u log' / 2 ≡ word_of u r.log / 2) × (has_tag u v.held ≡ true → has_tag u w.held ≡ true)))
+      pub holds : (u : ℕ) → has_tag u w.held ≡ true → (v.live ≡ true) × ((u < length s.homes) × (word_of u log' / 2 ≡ suc v.number))
+      pub down : (u : ℕ) → has_tag u w.held ≡ true → w.carries ≢ Some u → get_elem? homes' u ≡ some (some None)
+      pub others : (u j : ℕ) (x : SeatView) → j ≢ id → get_elem? s.views j ≡ some x → has_tag u x.held ≡ true
+          → (word_of u log' / 2 ≡ word_of u r.log / 2) × (get_elem? homes' u ≡ get_elem? s.homes u)
 
-  pub moved : (s : St) (r : Rule s) (id : ℕ) (v w : SeatView) (words' : List ℕ) (homes' : Slots T) (log' : List BerthStep) → get_elem? s.views id ≡ some v → Moves s r id v w words' homes' log'
+  pub moved : (s : St) (r : Rule s) (id : ℕ) (v w : SeatView) (words' : List ℕ) (homes' : Slots T) (log' : List BerthStep)
+      → get_elem? s.views id ≡ some v → Moves s r id v w words' homes' log'
       → Rule record { words = words'; homes = homes'; views = set s.views id w }
   moved s r id v w words' homes' log' at m = record {
     log = log';
@@ -54,7 +58,8 @@ module _ {T : Type 0} (tag_of : T → ℕ) where
     words = λ u lu. m.words u (omega (arith, lu, m.long));
     home = λ u lu. m.home u (omega (arith, lu, m.long));
     away = λ u lu ne. ⊎_elim
-        (λ (q : (v.live ≡ true) × ((has_tag u w.held ≡ true) × (word_of u log' / 2 ≡ suc v.number))). record { id = id; v = w; at = here; live = m.same.0 ∙ q.0; has_it = q.1.0; numbered = q.1.1 ∙ ap suc (sym m.same.1.0) })
+        (λ (q : (v.live ≡ true) × ((has_tag u w.held ≡ true) × (word_of u log' / 2 ≡ suc v.number))). record
+        { id = id; v = w; at = here; live = m.same.0 ∙ q.0; has_it = q.1.0; numbered = q.1.1 ∙ ap suc (sym m.same.1.0) })
         (λ (q : (word_of u r.log ≢ 0) × ((word_of u log' / 2 ≡ word_of u r.log / 2) × (has_tag u v.held ≡ true → has_tag u w.held ≡ true))).
         held_still u q.1.0 q.1.1 (r.away u (omega (arith, lu, m.long)) q.0))
         (m.away u (omega (arith, lu, m.long)) ne);
@@ -70,7 +75,8 @@ module _ {T : Type 0} (tag_of : T → ℕ) where
       here : get_elem? (set s.views id w) id ≡ some w
       here = in_views s.views id v w at
 
-      held_still : (u : ℕ) → word_of u log' / 2 ≡ word_of u r.log / 2 → (has_tag u v.held ≡ true → has_tag u w.held ≡ true) → Holder s.views u (word_of u r.log) → Holder views' u (word_of u log')
+      held_still : (u : ℕ) → word_of u log' / 2 ≡ word_of u r.log / 2 → (has_tag u v.held ≡ true → has_tag u w.held ≡ true)
+          → Holder s.views u (word_of u r.log) → Holder views' u (word_of u log')
       held_still u half keep h = dite (ℕ_discrete h.id id)
           (λ is. let e : h.v ≡ v = some-injective h.v v (sym h.at ∙ ap (get_elem? s.views) is ∙ at) in record {
             id = id;
@@ -80,14 +86,24 @@ module _ {T : Type 0} (tag_of : T → ℕ) where
             has_it = keep (ap (λ (z : SeatView). has_tag u z.held) (sym e) ∙ h.has_it);
             numbered = half ∙ h.numbered ∙ ap (λ (z : SeatView). suc z.number) e ∙ ap suc (sym m.same.1.0);
           })
-          (λ ne. record { id = h.id; v = h.v; at = set_else s.views id h.id w ne ∙ h.at; live = h.live; has_it = h.has_it; numbered = half ∙ h.numbered })
+          (λ ne. record {
+            id = h.id;
+            v = h.v;
+            at = set_else s.views id h.id w ne ∙ h.at;
+            live = h.live;
+            has_it = h.has_it;
+            numbered = half
+                ∙ h.numbered;
+          })
 
       counted : live_count views' ≡ live_count s.views
       counted = live_same s.views id v w at m.same.0
 
-      all_numbers : (k : ℕ) → ((j : ℕ) (u : SeatView) → get_elem? s.views j ≡ some u → u.live ≡ true → u.number ≤ k) → (j : ℕ) (u : SeatView) → get_elem? views' j ≡ some u → u.live ≡ true → u.number ≤ k
+      all_numbers : (k : ℕ) → ((j : ℕ) (u : SeatView) → get_elem? s.views j ≡ some u → u.live ≡ true → u.number ≤ k)
+          → (j : ℕ) (u : SeatView) → get_elem? views' j ≡ some u → u.live ≡ true → u.number ≤ k
       all_numbers k old j u e live = ⊎_elim
-          (λ (q : (j ≡ id) × (w ≡ u)). let b = old id v at (sym m.same.0 ∙ ap (λ (z : SeatView). z.live) q.1 ∙ live) in omega (arith, b, m.same.1.0, ap (λ (z : SeatView). z.number) q.1))
+          (λ (q : (j ≡ id) × (w ≡ u)). let b = old id v at (sym m.same.0 ∙ ap (λ (z : SeatView). z.live) q.1 ∙ live)
+          in omega (arith, b, m.same.1.0, ap (λ (z : SeatView). z.number) q.1))
           (λ (q : (j ≢ id) × (get_elem? s.views j ≡ some u)). old j u q.1 live)
           (at_set s.views id j w u e)
 
@@ -100,7 +116,8 @@ module _ {T : Type 0} (tag_of : T → ℕ) where
         own = λ live. ap r.owner m.same.1.0 ∙ kv.own (sym m.same.0 ∙ live);
         holds = λ u h. let q = m.holds u h in (m.same.0 ∙ q.0, (omega (arith, q.1.0, m.long), q.1.1 ∙ ap suc (sym m.same.1.0)));
         down = m.down;
-        numbers = λ chief. let q = kv.numbers (sym m.same.1.1.0 ∙ chief) in (q.0, all_numbers w.splits (λ j u e live. subst (λ k. u.number ≤ k) (sym m.same.1.1.1.0) (q.1 j u e live)));
+        numbers = λ chief. let q = kv.numbers (sym m.same.1.1.0 ∙ chief)
+            in (q.0, all_numbers w.splits (λ j u e live. subst (λ k. u.number ≤ k) (sym m.same.1.1.1.0) (q.1 j u e live)));
         count = λ chief. let q = kv.count (sym m.same.1.1.0 ∙ chief) in omega (arith, q, counted, m.same.1.1.1.0, m.same.1.1.1.1);
       }
 
@@ -115,7 +132,8 @@ module _ {T : Type 0} (tag_of : T → ℕ) where
       }
 
   -- a word was loaded
-  pub looked : (s : St) (r : Rule s) (id t : ℕ) (v : SeatView) (c : List (ℕ × Option T)) → v.live ≡ true → get_elem? s.views id ≡ some v → t < length s.homes
+  pub looked : (s : St) (r : Rule s) (id t : ℕ) (v : SeatView) (c : List (ℕ × Option T)) → v.live ≡ true → get_elem? s.views id ≡ some v
+      → t < length s.homes
       → Rule (stepped s t (get_or s.words t 0) id c (having_seen v r.log) keeps) × Found t (get_or s.words t 0) v (having_seen v r.log)
   looked s r id t v c live at lt = (
     moved s r id v (having_seen v r.log) (set s.words t (get_or s.words t 0)) s.homes r.log at record {

@@ -19,7 +19,8 @@ module _ {T : Type 0} (tag_of : T → ℕ) where
   Rule = HoldsTasks tag_of
 
   -- the main seat alone is left, and has no task: all are at home
-  pub closes : (id : ℕ) (v : SeatView) (ws : List ℕ) (xs : List (Option T)) → v.chief ≡ true → v.live ≡ true → v.ends ≡ v.splits → v.held ≡ []
+  pub closes : (id : ℕ) (v : SeatView) (ws : List ℕ) (xs : List (Option T)) → v.chief ≡ true → v.live ≡ true → v.ends ≡ v.splits
+      → v.held ≡ []
       → Final (Seen Rule id v) ws xs → (t : ℕ) → t < length xs → (y : T) × (get_elem? xs t ≡ some (Some y)) × (tag_of y ≡ t)
   closes id v ws xs chief live ended empty f t lt = let s = f.0 in let r = f.1.0 in let at = f.1.1 in let kv = r.knows id v at in
       let one : live_count s.views ≡ 1 = omega (arith, kv.count chief, ended) in
@@ -30,7 +31,8 @@ module _ {T : Type 0} (tag_of : T → ℕ) where
       absurd (has_none t (ap (has_tag t) (sym empty) ∙ ap (λ (z : SeatView). has_tag t z.held) (sym e) ∙ h.has_it))) in
       let y = r.home t in_homes zero_ in (y.0, f.4 t (Some y.0) y.1, y.2)
 
-  pub opens : (ws : List ℕ) (xs : List (Option T)) → length ws ≡ suc (2 * length xs) → ((i : ℕ) → get_or ws i 0 ≡ 0) → ((t : ℕ) → t < length xs → (y : T) × (get_elem? xs t ≡ some (Some y)) × (tag_of y ≡ t))
+  pub opens : (ws : List ℕ) (xs : List (Option T)) → length ws ≡ suc (2 * length xs) → ((i : ℕ) → get_or ws i 0 ≡ 0)
+      → ((t : ℕ) → t < length xs → (y : T) × (get_elem? xs t ≡ some (Some y)) × (tag_of y ≡ t))
       → Rule (opening ws xs first_view)
   opens ws xs wide zeros tagged = record {
     log = [];

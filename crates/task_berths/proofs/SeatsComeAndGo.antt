@@ -14,7 +14,8 @@ use Rattle.task_berths.proofs.SeatsCounted.{live_same, live_spent, live_added, t
 use Rattle.task_berths.proofs.WordsByStep.{has_none}
 
 -- an element of a list that is one longer
-pub at_more : {A : Type 0} (l : List A) (a b : A) (j : ℕ) → get_elem? (l ++ a ∷ []) j ≡ some b → (get_elem? l j ≡ some b) ⊎ ((j ≡ length l) × (a ≡ b))
+pub at_more : {A : Type 0} (l : List A) (a b : A) (j : ℕ) → get_elem? (l ++ a ∷ []) j ≡ some b → (get_elem? l j ≡ some b)
+    ⊎ ((j ≡ length l) × (a ≡ b))
 at_more [] a b zero e = inr (refl, some-injective a b e)
 at_more [] a b (suc j) e = absurd (some-ne-none b (sym e))
 at_more (x ∷ xs) a b zero e = inl e
@@ -41,13 +42,23 @@ module _ {T : Type 0} (tag_of : T → ℕ) where
           has_it = ap (λ (z : SeatView). has_tag t z.held) (sym e) ∙ h.has_it;
           numbered = h.numbered ∙ ap (λ (z : SeatView). suc z.number) e;
         })
-        (λ apart. record { id = h.id; v = h.v; at = at_longer left (new_seat v ∷ []) h.id h.v (set_else s.views id h.id (having_split v) apart ∙ h.at); live = h.live; has_it = h.has_it; numbered = h.numbered });
+        (λ apart. record {
+          id = h.id;
+          v = h.v;
+          at = at_longer left (new_seat v ∷ []) h.id h.v
+              (set_else s.views id h.id (having_split v) apart ∙ h.at);
+          live = h.live;
+          has_it = h.has_it;
+          numbered = h.numbered;
+        });
     knows = λ j u e. ⊎_elim
         (λ (q : get_elem? left j ≡ some u). ⊎_elim
-        (λ (p : (j ≡ id) × (having_split v ≡ u)). subst (λ (x : ℕ × SeatView). Knows s.homes views' r.log owner' x.0 x.1) (λ i. (sym p.0 i, p.1 i)) mine)
+        (λ (p : (j ≡ id) × (having_split v ≡ u)). subst (λ (x : ℕ × SeatView). Knows s.homes views' r.log owner' x.0 x.1)
+        (λ i. (sym p.0 i, p.1 i)) mine)
         (λ (p : (j ≢ id) × (get_elem? s.views j ≡ some u)). other j u p.0 p.1)
         (at_set s.views id j (having_split v) u q))
-        (λ (q : (j ≡ length left) × (new_seat v ≡ u)). subst (λ (x : ℕ × SeatView). Knows s.homes views' r.log owner' x.0 x.1) (λ i. (sym q.0 i, q.1 i)) fresh)
+        (λ (q : (j ≡ length left) × (new_seat v ≡ u)). subst (λ (x : ℕ × SeatView). Knows s.homes views' r.log owner' x.0 x.1)
+        (λ i. (sym q.0 i, q.1 i)) fresh)
         (at_more left (new_seat v) u j e);
   }
     where
@@ -64,7 +75,8 @@ module _ {T : Type 0} (tag_of : T → ℕ) where
       owner' k = if eqb k (suc v.splits) then length left else r.owner k
 
       owner_old : (k : ℕ) → k ≤ v.splits → owner' k ≡ r.owner k
-      owner_old k le = ap (λ (b : Bool). if b then length left else r.owner k) (ne_eqb k (suc v.splits) (λ e. absurd (omega (arith, e, le))))
+      owner_old k le = ap (λ (b : Bool). if b then length left else r.owner k)
+          (ne_eqb k (suc v.splits) (λ e. absurd (omega (arith, e, le))))
 
       owner_new : owner' (suc v.splits) ≡ length left
       owner_new = ap (λ (b : Bool). if b then length left else r.owner (suc v.splits)) (eq-eqb (suc v.splits) (suc v.splits) refl)
@@ -114,10 +126,12 @@ module _ {T : Type 0} (tag_of : T → ℕ) where
         count = λ c. absurd (ne ((k.numbers c).0 ∙ sym (kv.numbers chief).0));
       }
 
-  pub end_allowed : (id other : ℕ) (v w : SeatView) → v.chief ≡ true → v.live ≡ true → w.live ≡ true → w.held ≡ [] → Joins Rule id v other w (having_ended v w) spent_view
+  pub end_allowed : (id other : ℕ) (v w : SeatView) → v.chief ≡ true → v.live ≡ true → w.live ≡ true → w.held ≡ []
+      → Joins Rule id v other w (having_ended v w) spent_view
   end_allowed id gone v w chief live alive empty s r at apart there = record {
     log = r.log;
-    made = let p = takes_set s.views id v (having_ended v w) at in let q = takes_set left gone w spent_view there in omega (arith, p, q, r.made);
+    made = let p = takes_set s.views id v (having_ended v w) at in let q = takes_set left gone w spent_view there
+        in omega (arith, p, q, r.made);
     owner = r.owner;
     as_long = r.as_long;
     words = r.words;
@@ -133,11 +147,21 @@ module _ {T : Type 0} (tag_of : T → ℕ) where
         })
         (λ far. let stays : h.id ≢ gone = λ q. let e : h.v ≡ w = some-injective h.v w (sym h.at ∙ ap (get_elem? s.views) q ∙ was) in
         has_none t (ap (has_tag t) (sym empty) ∙ ap (λ (z : SeatView). has_tag t z.held) (sym e) ∙ h.has_it) in
-        record { id = h.id; v = h.v; at = set_else left gone h.id spent_view stays ∙ set_else s.views id h.id (having_ended v w) far ∙ h.at; live = h.live; has_it = h.has_it; numbered = h.numbered });
+        record {
+          id = h.id;
+          v = h.v;
+          at = set_else left gone h.id spent_view stays ∙ set_else s.views id h.id (having_ended v w) far
+              ∙ h.at;
+          live = h.live;
+          has_it = h.has_it;
+          numbered = h.numbered;
+        });
     knows = λ j u e. ⊎_elim
-        (λ (q : (j ≡ gone) × (spent_view ≡ u)). subst (λ (x : ℕ × SeatView). Knows s.homes views' r.log r.owner x.0 x.1) (λ i. (sym q.0 i, q.1 i)) spent)
+        (λ (q : (j ≡ gone) × (spent_view ≡ u)). subst (λ (x : ℕ × SeatView). Knows s.homes views' r.log r.owner x.0 x.1)
+        (λ i. (sym q.0 i, q.1 i)) spent)
         (λ (q : (j ≢ gone) × (get_elem? left j ≡ some u)). ⊎_elim
-        (λ (p : (j ≡ id) × (having_ended v w ≡ u)). subst (λ (x : ℕ × SeatView). Knows s.homes views' r.log r.owner x.0 x.1) (λ i. (sym p.0 i, p.1 i)) mine)
+        (λ (p : (j ≡ id) × (having_ended v w ≡ u)). subst (λ (x : ℕ × SeatView). Knows s.homes views' r.log r.owner x.0 x.1)
+        (λ i. (sym p.0 i, p.1 i)) mine)
         (λ (p : (j ≢ id) × (get_elem? s.views j ≡ some u)). other j u p.0 p.1)
         (at_set s.views id j (having_ended v w) u q.1))
         (at_set left gone j spent_view u e);

@@ -40,9 +40,11 @@ module _ {T : Type 0} (tag_of : T → ℕ) where
   Rule = HoldsTasks tag_of
 
   -- 0 became the seat's word
-  pub claim_allowed : (slots id t number : ℕ) (me : Me (Option T) SeatView) → t < slots → me.1 ≡ [] → me.0.carries ≡ None → me.0.live ≡ true → me.0.number ≡ number
+  pub claim_allowed : (slots id t number : ℕ) (me : Me (Option T) SeatView) → t < slots → me.1 ≡ [] → me.0.carries ≡ None → me.0.live ≡ true
+      → me.0.number ≡ number
       → Allows Rule slots id me t (λ n. either (eqb n 0) (out_word number) n) (λ n r. ClaimAnswer tag_of t n me r)
-  claim_allowed slots id t number me lt idle hand live same s r homes at small = dite (ℕ_discrete n 0) (λ is. subst Goal (sym (eq-eqb n 0 is)) (hit is)) (λ ne. subst Goal (sym (ne_eqb n 0 ne)) (miss tt))
+  claim_allowed slots id t number me lt idle hand live same s r homes at small =
+      dite (ℕ_discrete n 0) (λ is. subst Goal (sym (eq-eqb n 0 is)) (hit is)) (λ ne. subst Goal (sym (ne_eqb n 0 ne)) (miss tt))
     where
       n : ℕ
       n = get_or s.words t 0
@@ -88,18 +90,28 @@ module _ {T : Type 0} (tag_of : T → ℕ) where
           made = let q = takes-append r.log (Take t v.number ∷ []) in omega (arith, q);
           same = (refl, (refl, (refl, (refl, refl))));
           words = λ u lu. dite (ℕ_discrete u t)
-              (λ e. ap (λ k. get_or (set s.words t (out_word number)) k 0) e ∙ get_or-set_same s.words t (out_word number) 0 (omega (arith, in_homes, r.as_long)) ∙ ap out_word (sym same) ∙ sym new_word ∙ ap (λ k. word_of k log') (sym e))
+              (λ e. ap (λ k. get_or (set s.words t (out_word number)) k 0) e
+              ∙ get_or-set_same s.words t (out_word number) 0 (omega (arith, in_homes, r.as_long)) ∙ ap out_word (sym same)
+              ∙ sym new_word ∙ ap (λ k. word_of k log') (sym e))
               (λ ne. get_or-set_other s.words t u (out_word number) 0 ne ∙ r.words u lu ∙ sym (same_word u ne));
           home = λ u lu zero_. dite (ℕ_discrete u t)
               (λ e. absurd (omega (arith, sym new_word ∙ ap (λ k. word_of k log') (sym e) ∙ zero_)))
               (λ ne. let z = r.home u lu (sym (same_word u ne) ∙ zero_) in (z.0, set_else s.homes t u none ne ∙ z.1, z.2));
           away = λ u lu ne. dite (ℕ_discrete u t)
-              (λ e. inl (live, (ap (λ k. has_tag k w.held) e ∙ has_here t v.held, ap (λ k. word_of k log' / 2) e ∙ ap (λ k. k / 2) new_word ∙ omega arith)))
+              (λ e. inl (
+                live,
+                (
+                  ap (λ k. has_tag k w.held) e ∙ has_here t v.held,
+                  ap (λ k. word_of k log' / 2) e ∙ ap (λ k. k / 2) new_word
+                      ∙ omega arith,
+                ),
+              ))
               (λ apart. inr ((λ z. ne (same_word u apart ∙ z)), (ap (λ k. k / 2) (same_word u apart), λ h. has_else u t v.held apart ∙ h)));
           holds = λ u h. dite (ℕ_discrete u t)
               (λ e. (live, (omega (arith, e, in_homes), ap (λ k. word_of k log' / 2) e ∙ ap (λ k. k / 2) new_word ∙ omega arith)))
               (λ ne. let q = kv.holds u (sym (has_else u t v.held ne) ∙ h) in (q.0, (q.1.0, ap (λ k. k / 2) (same_word u ne) ∙ q.1.1)));
-          down = λ u h not. let ne : u ≢ t = λ e. not (ap Some (sym e)) in set_else s.homes t u none ne ∙ kv.down u (sym (has_else u t v.held ne) ∙ h) (λ z. some_none (sym z ∙ hand));
+          down = λ u h not. let ne : u ≢ t = λ e. not (ap Some (sym e)) in set_else s.homes t u none ne
+              ∙ kv.down u (sym (has_else u t v.held ne) ∙ h) (λ z. some_none (sym z ∙ hand));
           others = λ u j x ne e h. let q = (r.knows j x e).holds u h in
               let apart : u ≢ t = λ same_. absurd (omega (arith, q.1.1, ap (λ k. word_of k r.log / 2) same_, ap (λ k. k / 2) was)) in
               (ap (λ k. k / 2) (same_word u apart), set_else s.homes t u none apart);
@@ -117,7 +129,8 @@ module _ {T : Type 0} (tag_of : T → ℕ) where
   -- the seat that has the task is asked, or was asked before
   pub ask_allowed : (slots id t word : ℕ) (me : Me (Option T) SeatView) → t < slots → me.0.live ≡ true → word ≢ 0 → word % 2 ≡ 0
       → Allows Rule slots id me t (λ n. either (eqb n word) (word + 1) n) (λ n r. AskAnswer t word n me r)
-  ask_allowed slots id t word me lt live out even s r homes at small = dite (ℕ_discrete n word) (λ is. subst Goal (sym (eq-eqb n word is)) (hit is)) (λ ne. subst Goal (sym (ne_eqb n word ne)) (miss tt))
+  ask_allowed slots id t word me lt live out even s r homes at small =
+      dite (ℕ_discrete n word) (λ is. subst Goal (sym (eq-eqb n word is)) (hit is)) (λ ne. subst Goal (sym (ne_eqb n word ne)) (miss tt))
     where
       n : ℕ
       n = get_or s.words t 0
@@ -152,7 +165,8 @@ module _ {T : Type 0} (tag_of : T → ℕ) where
 
       same_half : (u : ℕ) → word_of u log' / 2 ≡ word_of u r.log / 2
       same_half u = dite (ℕ_discrete u t)
-          (λ e. ap (λ k. word_of k log' / 2) e ∙ ap (λ k. k / 2) new_word ∙ asked-half (word_of t r.log) ∙ ap (λ k. word_of k r.log / 2) (sym e))
+          (λ e. ap (λ k. word_of k log' / 2) e ∙ ap (λ k. k / 2) new_word ∙ asked-half (word_of t r.log)
+          ∙ ap (λ k. word_of k r.log / 2) (sym e))
           (λ ne. ap (λ k. k / 2) (else_word u ne))
 
       still_out : (u : ℕ) → word_of u r.log ≡ 0 → word_of u log' ≡ 0
@@ -176,7 +190,9 @@ module _ {T : Type 0} (tag_of : T → ℕ) where
               made = let q = takes-append r.log (Ask t ∷ []) in omega (arith, q);
               same = (refl, (refl, (refl, (refl, refl))));
               words = λ u lu. dite (ℕ_discrete u t)
-                  (λ e. ap (λ k. get_or (set s.words t (word + 1)) k 0) e ∙ get_or-set_same s.words t (word + 1) 0 (omega (arith, in_homes, r.as_long)) ∙ sym (new_word ∙ ap asked_word was ∙ asked-even word out even) ∙ ap (λ k. word_of k log') (sym e))
+                  (λ e. ap (λ k. get_or (set s.words t (word + 1)) k 0) e
+                  ∙ get_or-set_same s.words t (word + 1) 0 (omega (arith, in_homes, r.as_long))
+                  ∙ sym (new_word ∙ ap asked_word was ∙ asked-even word out even) ∙ ap (λ k. word_of k log') (sym e))
                   (λ ne. get_or-set_other s.words t u (word + 1) 0 ne ∙ r.words u lu ∙ sym (else_word u ne));
               home = λ u lu zero_. r.home u lu (home_before u zero_);
               away = λ u lu ne. inr ((λ z. ne (still_out u z)), (same_half u, λ h. h));
@@ -195,25 +211,31 @@ module _ {T : Type 0} (tag_of : T → ℕ) where
           )
 
   -- a load of a word that is no berth's, at which only the hand and the slot t change
-  handed : (s : St) (r : Rule s) (id t i : ℕ) (hand : Option ℕ) (v : SeatView) (homes' : Slots T) → get_elem? s.views id ≡ some v → has_tag t v.held ≡ true
+  handed : (s : St) (r : Rule s) (id t i : ℕ) (hand : Option ℕ) (v : SeatView) (homes' : Slots T) → get_elem? s.views id ≡ some v
+      → has_tag t v.held ≡ true
       → length homes' ≡ length s.homes
       → ((u : ℕ) → u ≢ t → get_elem? homes' u ≡ get_elem? s.homes u)
       → ((u : ℕ) → has_tag u v.held ≡ true → hand ≢ Some u → get_elem? homes' u ≡ some (some None))
       → Rule record { words = set s.words i (get_or s.words i 0); homes = homes'; views = set s.views id (carrying v hand) }
-  handed s r id t i hand v homes' at has_it long apart down = moved tag_of s r id v (carrying v hand) (set s.words i (get_or s.words i 0)) homes' r.log at record {
-    wide = length-set s.words i _;
-    long = long;
-    begins = kv.begins;
-    grows = begins_all r.log;
-    made = refl;
-    same = (refl, (refl, (refl, (refl, refl))));
-    words = λ u lu. ap (λ (l : List ℕ). get_or l u 0) (set-get_or s.words i 0) ∙ r.words u lu;
-    home = λ u lu zero_. let z = r.home u lu zero_ in (z.0, apart u (λ e. absurd (omega (arith, zero_, (kv.holds t has_it).1.1, ap (λ k. word_of k r.log / 2) e))) ∙ z.1, z.2);
-    away = λ u lu ne. inr (ne, (refl, λ h. h));
-    holds = λ u h. kv.holds u h;
-    down = down;
-    others = λ u j x ne e h. (refl, apart u (λ is. ne (same_seat j x e (ap (λ k. has_tag k x.held) (sym is) ∙ h))));
-  }
+  handed s r id t i hand v homes' at has_it long apart down =
+      moved tag_of s r id v (carrying v hand) (set s.words i (get_or s.words i 0)) homes' r.log at record {
+        wide = length-set s.words i _;
+        long = long;
+        begins = kv.begins;
+        grows = begins_all r.log;
+        made = refl;
+        same = (refl, (refl, (refl, (refl, refl))));
+        words = λ u lu. ap (λ (l : List ℕ). get_or l u 0) (set-get_or s.words i 0) ∙ r.words u lu;
+        home = λ u lu zero_. let z = r.home u lu zero_ in (
+          z.0,
+          apart u (λ e. absurd (omega (arith, zero_, (kv.holds t has_it).1.1, ap (λ k. word_of k r.log / 2) e))) ∙ z.1,
+          z.2,
+        );
+        away = λ u lu ne. inr (ne, (refl, λ h. h));
+        holds = λ u h. kv.holds u h;
+        down = down;
+        others = λ u j x ne e h. (refl, apart u (λ is. ne (same_seat j x e (ap (λ k. has_tag k x.held) (sym is) ∙ h))));
+      }
     where
       kv : Knows s.homes s.views r.log r.owner id v
       kv = r.knows id v at
@@ -223,13 +245,15 @@ module _ {T : Type 0} (tag_of : T → ℕ) where
           let numbers : x.number ≡ v.number = omega (arith, q.1.1, p.1.1) in
           sym ((r.knows j x e).own q.0) ∙ ap r.owner numbers ∙ kv.own p.0
 
-  pub lay_allowed : (slots id i t : ℕ) (me : Me (Option T) SeatView) → t < slots → me.1 ≡ (t, None) ∷ [] → me.0.carries ≡ Some t → has_tag t me.0.held ≡ true
+  pub lay_allowed : (slots id i t : ℕ) (me : Me (Option T) SeatView) → t < slots → me.1 ≡ (t, None) ∷ [] → me.0.carries ≡ Some t
+      → has_tag t me.0.held ≡ true
       → Allows Rule slots id me i (λ n. n) (λ n r. r ≡ (carrying me.0 None, []))
   lay_allowed slots id i t me lt carried hand has_it s r homes at small = (
     carrying v None,
     gives,
     tt,
-    subst (λ (c : List (ℕ × Option T)). Rule (stepped s i (get_or s.words i 0) id c (carrying v None) gives)) (sym carried) (handed s r id t i None v homes' at has_it (length-set s.homes t (some None))
+    subst (λ (c : List (ℕ × Option T)). Rule (stepped s i (get_or s.words i 0) id c (carrying v None) gives)) (sym carried)
+        (handed s r id t i None v homes' at has_it (length-set s.homes t (some None))
         (λ u ne. set_else s.homes t u (some None) ne)
         (λ u h ne. dite (ℕ_discrete u t)
         (λ e. ap (get_elem? homes') e ∙ set_here s.homes t (some None) (omega (arith, lt, homes)))
@@ -246,7 +270,8 @@ module _ {T : Type 0} (tag_of : T → ℕ) where
       homes' : Slots T
       homes' = set s.homes t (some None)
 
-  pub lift_allowed : (slots id t : ℕ) (me : Me (Option T) SeatView) → t < slots → me.1 ≡ [] → me.0.carries ≡ None → has_tag t me.0.held ≡ true
+  pub lift_allowed : (slots id t : ℕ) (me : Me (Option T) SeatView) → t < slots → me.1 ≡ [] → me.0.carries ≡ None
+      → has_tag t me.0.held ≡ true
       → Allows Rule slots id me (slots + t) (λ n. n) (λ n r. LiftAnswer slots (slots + t) me r)
   lift_allowed slots id t me lt idle hand has_it s r homes at small = (
     carrying v (Some t),
@@ -254,8 +279,10 @@ module _ {T : Type 0} (tag_of : T → ℕ) where
     kv.down t has_it (λ z. some_none (sym z ∙ hand)),
     handed s r id t (slots + t) (Some t) v (set s.homes t none) at has_it (length-set s.homes t none)
         (λ u ne. set_else s.homes t u none ne)
-        (λ u h ne. let apart : u ≢ t = λ e. ne (ap Some (sym e)) in set_else s.homes t u none apart ∙ kv.down u h (λ z. some_none (sym z ∙ hand))),
-    λ u e. subst (λ k. ◌≡◌ {A = Me (Option T) SeatView} (carrying v (Some t), (t, None) ∷ me.1) (carrying v (Some k), (k, None) ∷ [])) (omega (arith, e)) (ap (λ l. (carrying v (Some t), (t, None) ∷ l)) idle),
+        (λ u h ne. let apart : u ≢ t = λ e. ne (ap Some (sym e)) in set_else s.homes t u none apart
+        ∙ kv.down u h (λ z. some_none (sym z ∙ hand))),
+    λ u e. subst (λ k. ◌≡◌ {A = Me (Option T) SeatView} (carrying v (Some t), (t, None) ∷ me.1) (carrying v (Some k), (k, None) ∷ []))
+        (omega (arith, e)) (ap (λ l. (carrying v (Some t), (t, None) ∷ l)) idle),
   )
     where
       v : SeatView
@@ -265,33 +292,45 @@ module _ {T : Type 0} (tag_of : T → ℕ) where
       kv = r.knows id v at
 
   -- the seat's word became 0
-  pub leave_allowed : (slots id t : ℕ) (me : Me (Option T) SeatView) (task : T) → t < slots → me.1 ≡ (t, Some task) ∷ [] → tag_of task ≡ t → me.0.carries ≡ Some t → has_tag t me.0.held ≡ true
+  pub leave_allowed : (slots id t : ℕ) (me : Me (Option T) SeatView) (task : T) → t < slots → me.1 ≡ (t, Some task) ∷ [] → tag_of task ≡ t
+      → me.0.carries ≡ Some t → has_tag t me.0.held ≡ true
       → Allows Rule slots id me t (λ _. 0) (λ n r. Left t n me r)
   leave_allowed slots id t me task lt carried tagged hand has_it s r homes at small = (
     w,
     gives,
     tt,
-    subst (λ (c : List (ℕ × Option T)). Rule (stepped s t 0 id c w gives)) (sym carried) (moved tag_of s r id v w (set s.words t 0) homes' log' at record {
-      wide = length-set s.words t _;
-      long = length-set s.homes t (some (Some task));
-      begins = begins_all log';
-      grows = (Leave t ∷ [], refl);
-      made = let q = takes-append r.log (Leave t ∷ []) in omega (arith, q);
-      same = (refl, (refl, (refl, (refl, refl))));
-      words = λ u lu. dite (ℕ_discrete u t)
-          (λ e. ap (λ k. get_or (set s.words t 0) k 0) e ∙ get_or-set_same s.words t 0 0 (omega (arith, in_homes, r.as_long)) ∙ sym (ap (λ k. word_of k log') e ∙ new_word))
-          (λ ne. get_or-set_other s.words t u 0 0 ne ∙ r.words u lu ∙ sym (else_word u ne));
-      home = λ u lu zero_. dite (ℕ_discrete u t)
-          (λ e. (task, ap (get_elem? homes') e ∙ set_here s.homes t (some (Some task)) in_homes, tagged ∙ sym e))
-          (λ ne. let z = r.home u lu (sym (else_word u ne) ∙ zero_) in (z.0, set_else s.homes t u (some (Some task)) ne ∙ z.1, z.2));
-      away = λ u lu ne. dite (ℕ_discrete u t)
-          (λ e. absurd (ne (ap (λ k. word_of k log') e ∙ new_word)))
-          (λ apart. inr ((λ z. ne (else_word u apart ∙ z)), (ap (λ k. k / 2) (else_word u apart), λ h. without_else u t v.held apart ∙ h)));
-      holds = λ u h. let ne : u ≢ t = kept u h in let q = kv.holds u (sym (without_else u t v.held ne) ∙ h) in (q.0, (q.1.0, ap (λ k. k / 2) (else_word u ne) ∙ q.1.1));
-      down = λ u h not. let ne : u ≢ t = kept u h in set_else s.homes t u (some (Some task)) ne ∙ kv.down u (sym (without_else u t v.held ne) ∙ h) (λ z. ne (some_same (sym z ∙ hand)));
-      others = λ u j x ne e h. let apart : u ≢ t = λ is. ne (same_seat j x e (ap (λ k. has_tag k x.held) (sym is) ∙ h)) in
-          (ap (λ k. k / 2) (else_word u apart), set_else s.homes t u (some (Some task)) apart);
-    }),
+    subst (λ (c : List (ℕ × Option T)). Rule (stepped s t 0 id c w gives)) (sym carried)
+        (moved tag_of s r id v w (set s.words t 0) homes' log' at record {
+          wide = length-set s.words t _;
+          long = length-set s.homes t (some (Some task));
+          begins = begins_all log';
+          grows = (Leave t ∷ [], refl);
+          made = let q = takes-append r.log (Leave t ∷ []) in omega (arith, q);
+          same = (refl, (refl, (refl, (refl, refl))));
+          words = λ u lu. dite (ℕ_discrete u t)
+              (λ e. ap (λ k. get_or (set s.words t 0) k 0) e ∙ get_or-set_same s.words t 0 0 (omega (arith, in_homes, r.as_long))
+              ∙ sym (ap (λ k. word_of k log') e ∙ new_word))
+              (λ ne. get_or-set_other s.words t u 0 0 ne ∙ r.words u lu ∙ sym (else_word u ne));
+          home = λ u lu zero_. dite (ℕ_discrete u t)
+              (λ e. (task, ap (get_elem? homes') e ∙ set_here s.homes t (some (Some task)) in_homes, tagged ∙ sym e))
+              (λ ne. let z = r.home u lu (sym (else_word u ne) ∙ zero_) in (z.0, set_else s.homes t u (some (Some task)) ne ∙ z.1, z.2));
+          away = λ u lu ne. dite (ℕ_discrete u t)
+              (λ e. absurd (ne (ap (λ k. word_of k log') e ∙ new_word)))
+              (λ apart. inr (
+                (λ z. ne (else_word u apart ∙ z)),
+                (
+                  ap (λ k. k / 2) (else_word u apart),
+                  λ h. without_else u t v.held apart
+                      ∙ h,
+                ),
+              ));
+          holds = λ u h. let ne : u ≢ t = kept u h in let q = kv.holds u (sym (without_else u t v.held ne) ∙ h)
+              in (q.0, (q.1.0, ap (λ k. k / 2) (else_word u ne) ∙ q.1.1));
+          down = λ u h not. let ne : u ≢ t = kept u h in set_else s.homes t u (some (Some task)) ne
+              ∙ kv.down u (sym (without_else u t v.held ne) ∙ h) (λ z. ne (some_same (sym z ∙ hand)));
+          others = λ u j x ne e h. let apart : u ≢ t = λ is. ne (same_seat j x e (ap (λ k. has_tag k x.held) (sym is) ∙ h)) in
+              (ap (λ k. k / 2) (else_word u apart), set_else s.homes t u (some (Some task)) apart);
+        }),
     record {
       others = kv.begins.0;
       now = λ i. (having_left v t (kv.begins.1 i ++ Leave t ∷ []), rest (carried i));

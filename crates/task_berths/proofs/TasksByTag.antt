@@ -25,17 +25,20 @@ module _ {T : Type 0} (tag_of : T → ℕ) where
   Turned n xs = (t : ℕ) (y : T) → get_elem? xs t ≡ some y → tag_of y + suc t ≡ n
 
   pub tags_more : (xs : List T) (y : T) → HaveTags tag_of xs → tag_of y ≡ length xs → HaveTags tag_of (xs ++ y ∷ [])
-  tags_more xs y h e t z at = ⊎_elim (λ q. h t z q) (λ (q : (t ≡ length xs) × (y ≡ z)). ap tag_of (sym q.1) ∙ e ∙ sym q.0) (at_more xs y z t at)
+  tags_more xs y h e t z at = ⊎_elim (λ q. h t z q) (λ (q : (t ≡ length xs) × (y ≡ z)). ap tag_of (sym q.1) ∙ e
+      ∙ sym q.0) (at_more xs y z t at)
 
   pub home_more : (xs : List (Option T)) (y : T) → AllAtHome tag_of xs → tag_of y ≡ length xs → AllAtHome tag_of (xs ++ Some y ∷ [])
   home_more xs y h e t lt = dite (ℕ_discrete t (length xs))
       (λ is. (y, at_last xs (Some y) t (sym is), e ∙ sym is))
       (λ ne. let z = h t (omega (arith, lt, ne, length-append xs (Some y ∷ []))) in (z.0, at_longer xs (Some y ∷ []) t (Some z.0) z.1, z.2))
 
-  pub in_slot : (xs : List (Option T)) (i : ℕ) (r : Option T) → AllAtHome tag_of xs → get_elem? xs i ≡ some r → (y : T) × (r ≡ Some y) × (tag_of y ≡ i)
+  pub in_slot : (xs : List (Option T)) (i : ℕ) (r : Option T) → AllAtHome tag_of xs → get_elem? xs i ≡ some r → (y : T) × (r ≡ Some y)
+      × (tag_of y ≡ i)
   in_slot xs i r h e = let z = h i (at_less xs i r e) in (z.0, some-injective r (Some z.0) (sym e ∙ z.1), z.2)
 
-  pub turned_first : (xs ys : List T) → HaveTags tag_of xs → length ys ≡ length xs → ((k : ℕ) (d : T) → k < length xs → get_or ys k d ≡ get_or xs (length xs - 1 - k) d) → Turned (length xs) ys
+  pub turned_first : (xs ys : List T) → HaveTags tag_of xs → length ys ≡ length xs
+      → ((k : ℕ) (d : T) → k < length xs → get_or ys k d ≡ get_or xs (length xs - 1 - k) d) → Turned (length xs) ys
   turned_first xs ys h long rev t y e = let lt = at_less ys t y e in
       let i : ℕ = length xs - 1 - t in
       let lt' : i < length xs = omega (arith, lt, long) in

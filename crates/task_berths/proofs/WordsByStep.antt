@@ -67,7 +67,8 @@ without_here t (x ∷ xs) = go (without_here t xs)
     go : has_tag t (without_tag t xs) ≡ false → has_tag t (without_tag t (x ∷ xs)) ≡ false
     go ih = dite (ℕ_discrete t x)
         (λ e. ap (λ (b : Bool). has_tag t (if b then without_tag t xs else x ∷ without_tag t xs)) (eq-eqb t x e) ∙ ih)
-        (λ ne. ap (λ (b : Bool). has_tag t (if b then without_tag t xs else x ∷ without_tag t xs)) (ne_eqb t x ne) ∙ has_else t x (without_tag t xs) ne ∙ ih)
+        (λ ne. ap (λ (b : Bool). has_tag t (if b then without_tag t xs else x ∷ without_tag t xs)) (ne_eqb t x ne)
+        ∙ has_else t x (without_tag t xs) ne ∙ ih)
 
 pub without_else : (u t : ℕ) (xs : List ℕ) → u ≢ t → has_tag u (without_tag t xs) ≡ has_tag u xs
 without_else u t [] ne = refl
@@ -75,27 +76,42 @@ without_else u t (x ∷ xs) ne = go (without_else u t xs ne)
   where
     go : has_tag u (without_tag t xs) ≡ has_tag u xs → has_tag u (without_tag t (x ∷ xs)) ≡ has_tag u (x ∷ xs)
     go ih = dite (ℕ_discrete t x)
-        (λ e. ap (λ (b : Bool). has_tag u (if b then without_tag t xs else x ∷ without_tag t xs)) (eq-eqb t x e) ∙ ih ∙ sym (has_else u x xs (λ same. ne (same ∙ sym e))))
-        (λ apart. ap (λ (b : Bool). has_tag u (if b then without_tag t xs else x ∷ without_tag t xs)) (ne_eqb t x apart) ∙ ap (λ (b : Bool). if eqb u x then true else b) ih)
+        (λ e. ap (λ (b : Bool). has_tag u (if b then without_tag t xs else x ∷ without_tag t xs)) (eq-eqb t x e) ∙ ih
+        ∙ sym (has_else u x xs (λ same. ne (same ∙ sym e))))
+        (λ apart. ap (λ (b : Bool). has_tag u (if b then without_tag t xs else x ∷ without_tag t xs)) (ne_eqb t x apart)
+        ∙ ap (λ (b : Bool). if eqb u x then true else b) ih)
 
 TakeIn : ℕ → List BerthStep → Type 0
 TakeIn t es = (a : List BerthStep) × (b : List BerthStep) × (k : ℕ) × (es ≡ a ++ Take t k ∷ b)
 
-take_later : (t : ℕ) (e : BerthStep) (es : List BerthStep) → (a : List BerthStep) × (b : List BerthStep) × (k : ℕ) × (es ≡ a ++ Take t k ∷ b) → (a : List BerthStep) × (b : List BerthStep) × (k : ℕ) × (e ∷ es ≡ a ++ Take t k ∷ b)
+take_later : (t : ℕ) (e : BerthStep) (es : List BerthStep) → (a : List BerthStep) × (b : List BerthStep) × (k : ℕ)
+    × (es ≡ a ++ Take t k ∷ b) → (a : List BerthStep) × (b : List BerthStep) × (k : ℕ) × (e ∷ es ≡ a ++ Take t k ∷ b)
 take_later t e es h = (e ∷ h.0, h.1, h.2, ap (λ l. e ∷ l) h.3)
 
 -- a take of t is among the steps, or the word is 0 or as before but for the asking
-pub take_or_stays : (t w : ℕ) (es : List BerthStep) → ((a : List BerthStep) × (b : List BerthStep) × (k : ℕ) × (es ≡ a ++ Take t k ∷ b)) ⊎ ((word_after t w es ≡ 0) ⊎ ((w ≢ 0) × (word_after t w es / 2 ≡ w / 2)))
+pub take_or_stays : (t w : ℕ) (es : List BerthStep) → ((a : List BerthStep) × (b : List BerthStep) × (k : ℕ) × (es ≡ a ++ Take t k ∷ b))
+    ⊎ ((word_after t w es ≡ 0) ⊎ ((w ≢ 0) × (word_after t w es / 2 ≡ w / 2)))
 take_or_stays t w [] = dite (ℕ_discrete w 0) (λ e. inr (inl e)) (λ ne. inr (inr (ne, refl)))
 take_or_stays t w (Take u k ∷ es) = dite (ℕ_discrete u t)
     (λ e. inl ([], es, k, ap (λ x. Take x k ∷ es) e))
-    (λ ne. ⊎_elim (λ h. inl (take_later t (Take u k) es h)) (λ h. inr (subst (λ x. (word_after t x es ≡ 0) ⊎ ((w ≢ 0) × (word_after t x es / 2 ≡ w / 2))) (sym (taken_else t u w k ne)) h)) (take_or_stays t w es))
+    (λ ne. ⊎_elim (λ h. inl (take_later t (Take u k) es h))
+    (λ h. inr (subst (λ x. (word_after t x es ≡ 0) ⊎ ((w ≢ 0) × (word_after t x es / 2 ≡ w / 2))) (sym (taken_else t u w k ne)) h))
+    (take_or_stays t w es))
 take_or_stays t w (Ask u ∷ es) = dite (ℕ_discrete u t)
-    (λ e. ⊎_elim (λ h. inl (take_later t (Ask u) es h)) (λ h. inr (subst (λ x. (word_after t x es ≡ 0) ⊎ ((w ≢ 0) × (word_after t x es / 2 ≡ w / 2))) (sym (ap (λ y. word_by t w (Ask y)) e ∙ asked_here t w)) (⊎_elim inl (λ q. inr ((λ z. q.0 (ap asked_word z)), q.1 ∙ asked-half w)) h))) (take_or_stays t (asked_word w) es))
-    (λ ne. ⊎_elim (λ h. inl (take_later t (Ask u) es h)) (λ h. inr (subst (λ x. (word_after t x es ≡ 0) ⊎ ((w ≢ 0) × (word_after t x es / 2 ≡ w / 2))) (sym (asked_else t u w ne)) h)) (take_or_stays t w es))
+    (λ e. ⊎_elim (λ h. inl (take_later t (Ask u) es h)) (λ h. inr
+    (subst (λ x. (word_after t x es ≡ 0) ⊎ ((w ≢ 0) × (word_after t x es / 2 ≡ w / 2)))
+    (sym (ap (λ y. word_by t w (Ask y)) e ∙ asked_here t w))
+    (⊎_elim inl (λ q. inr ((λ z. q.0 (ap asked_word z)), q.1 ∙ asked-half w)) h))) (take_or_stays t (asked_word w) es))
+    (λ ne. ⊎_elim (λ h. inl (take_later t (Ask u) es h)) (λ h. inr
+    (subst (λ x. (word_after t x es ≡ 0) ⊎ ((w ≢ 0) × (word_after t x es / 2 ≡ w / 2))) (sym (asked_else t u w ne)) h))
+    (take_or_stays t w es))
 take_or_stays t w (Leave u ∷ es) = dite (ℕ_discrete u t)
-    (λ e. ⊎_elim (λ h. inl (take_later t (Leave u) es h)) (λ h. inr (subst (λ x. (word_after t x es ≡ 0) ⊎ ((w ≢ 0) × (word_after t x es / 2 ≡ w / 2))) (sym (ap (λ y. word_by t w (Leave y)) e ∙ left_here t w)) (⊎_elim inl (λ q. absurd (q.0 refl)) h))) (take_or_stays t 0 es))
-    (λ ne. ⊎_elim (λ h. inl (take_later t (Leave u) es h)) (λ h. inr (subst (λ x. (word_after t x es ≡ 0) ⊎ ((w ≢ 0) × (word_after t x es / 2 ≡ w / 2))) (sym (left_else t u w ne)) h)) (take_or_stays t w es))
+    (λ e. ⊎_elim (λ h. inl (take_later t (Leave u) es h))
+    (λ h. inr (subst (λ x. (word_after t x es ≡ 0) ⊎ ((w ≢ 0) × (word_after t x es / 2 ≡ w / 2)))
+    (sym (ap (λ y. word_by t w (Leave y)) e ∙ left_here t w)) (⊎_elim inl (λ q. absurd (q.0 refl)) h))) (take_or_stays t 0 es))
+    (λ ne. ⊎_elim (λ h. inl (take_later t (Leave u) es h))
+    (λ h. inr (subst (λ x. (word_after t x es ≡ 0) ⊎ ((w ≢ 0) × (word_after t x es / 2 ≡ w / 2))) (sym (left_else t u w ne)) h))
+    (take_or_stays t w es))
 
 pub takes-append : (xs ys : List BerthStep) → takes_in (xs ++ ys) ≡ takes_in xs + takes_in ys
 takes-append [] ys = omega arith

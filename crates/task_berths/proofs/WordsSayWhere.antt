@@ -62,13 +62,23 @@ longer_with : (t w : ℕ) (e : BerthStep) (es : List BerthStep) → Goes t (word
 longer_with t w e es c = record {
   k = c.k;
   asked = c.asked;
-  with_it = record { before = e ∷ c.with_it.before; after = c.with_it.after; taken = ap (λ l. e ∷ l) c.with_it.taken; still = c.with_it.still; asks = c.with_it.asks };
+  with_it = record {
+    before = e ∷ c.with_it.before;
+    after = c.with_it.after;
+    taken = ap (λ l. e ∷ l) c.with_it.taken;
+    still =
+        c.with_it.still;
+    asks = c.with_it.asks;
+  };
   word = c.word;
 }
 
-longer : (t w : ℕ) (e : BerthStep) (es : List BerthStep) → (Stays t (word_by t w e) es → Stays t w (e ∷ es) ⊎ (Comes t w (e ∷ es) ⊎ Goes t w (e ∷ es)))
-    → Stays t (word_by t w e) es ⊎ (Comes t (word_by t w e) es ⊎ Goes t (word_by t w e) es) → Stays t w (e ∷ es) ⊎ (Comes t w (e ∷ es) ⊎ Goes t w (e ∷ es))
-longer t w e es first rest = ⊎_elim first (λ q. ⊎_elim (λ c. inr (inl (longer_home t w e es c))) (λ c. inr (inr (longer_with t w e es c))) q) rest
+longer : (t w : ℕ) (e : BerthStep) (es : List BerthStep)
+    → (Stays t (word_by t w e) es → Stays t w (e ∷ es) ⊎ (Comes t w (e ∷ es) ⊎ Goes t w (e ∷ es)))
+    → Stays t (word_by t w e) es ⊎ (Comes t (word_by t w e) es ⊎ Goes t (word_by t w e) es) → Stays t w (e ∷ es)
+    ⊎ (Comes t w (e ∷ es) ⊎ Goes t w (e ∷ es))
+longer t w e es first rest = ⊎_elim first (λ q. ⊎_elim (λ c. inr (inl (longer_home t w e es c))) (λ c. inr (inr (longer_with t w e es c)))
+    q) rest
 
 says : (t w : ℕ) (es : List BerthStep) → Stays t w es ⊎ (Comes t w es ⊎ Goes t w es)
 says t w [] = inl record { still = refl; word = refl }

@@ -25,10 +25,15 @@ held_without n t held b h = record {
       (λ ne. ⊎_elim (λ p. absurd (ne (sym p))) inr (h.only u (sym (without_else u t held ne) ∙ e)));
 }
 
-pub held_with : (n t : ℕ) (held : List ℕ) (b : Option ℕ) → AreHeld n held None b → t < n → has_tag t held ≡ false → AreHeld n (t ∷ held) (Some t) b
+pub held_with : (n t : ℕ) (held : List ℕ) (b : Option ℕ) → AreHeld n held None b → t < n → has_tag t held ≡ false
+    → AreHeld n (t ∷ held) (Some t) b
 held_with n t held b h lt not = record {
   first = λ u p. (subst (λ k. has_tag k (t ∷ held) ≡ true) p (has_here t held), subst (λ k. k < n) p lt);
-  second = λ u p. (has_else u t held (λ e. true≢false (sym (h.second u p).0 ∙ ap (λ k. has_tag k held) e ∙ not)) ∙ (h.second u p).0, (h.second u p).1);
+  second = λ u p. (
+    has_else u t held (λ e. true≢false (sym (h.second u p).0 ∙ ap (λ k. has_tag k held) e ∙ not))
+        ∙ (h.second u p).0,
+    (h.second u p).1,
+  );
   apart = λ u p q. true≢false (sym (h.second u q).0 ∙ ap (λ k. has_tag k held) (sym p) ∙ not);
   only = λ u e. dite (ℕ_discrete u t)
       (λ same. inl (sym same))
@@ -48,8 +53,10 @@ pub held_tag : (n t : ℕ) (held : List ℕ) (a b : Option ℕ) → a ≡ Some t
 held_tag n t held a b is h = (h.first t (subst (IsAt t) (sym is) refl)).1
 
 -- a task of this tag is left
-pub held_left : (n t : ℕ) (held new : List ℕ) (a b : Option ℕ) → a ≡ Some t → AreHeld n held a b → new ≡ without_tag t held → AreHeld n new None b
-held_left n t held new a b is h e = held_same n (without_tag t held) new None b e (held_without n t held b (subst (λ o. AreHeld n held o b) is h))
+pub held_left : (n t : ℕ) (held new : List ℕ) (a b : Option ℕ) → a ≡ Some t → AreHeld n held a b → new ≡ without_tag t held
+    → AreHeld n new None b
+held_left n t held new a b is h e = held_same n (without_tag t held) new None b e
+    (held_without n t held b (subst (λ o. AreHeld n held o b) is h))
 
 -- a tag that neither of them has is not held
 pub not_held : (n t : ℕ) (held : List ℕ) (a b : Option ℕ) → AreHeld n held a b → (IsAt t a → ⊥) → (IsAt t b → ⊥) → has_tag t held ≡ false
@@ -60,6 +67,8 @@ not_held n t held a b h neither other = go (has_tag t held) refl
     go false e = e
 
 -- a task of this tag is taken
-pub held_taken : (n t u : ℕ) (held new : List ℕ) (b : Option ℕ) → AreHeld n held None b → t < n → (IsAt t b → ⊥) → new ≡ t ∷ held → u ≡ t → AreHeld n new (Some u) b
+pub held_taken : (n t u : ℕ) (held new : List ℕ) (b : Option ℕ) → AreHeld n held None b → t < n → (IsAt t b → ⊥) → new ≡ t ∷ held → u ≡ t
+    → AreHeld n new (Some u) b
 held_taken n t u held new b h lt lacks e same =
-    held_same n (t ∷ held) new (Some u) b e (subst (λ k. AreHeld n (t ∷ held) (Some k) b) (sym same) (held_with n t held b h lt (not_held n t held None b h (λ p. p) lacks)))
+    held_same n (t ∷ held) new (Some u) b e (subst (λ k. AreHeld n (t ∷ held) (Some k) b) (sym same)
+    (held_with n t held b h lt (not_held n t held None b h (λ p. p) lacks)))

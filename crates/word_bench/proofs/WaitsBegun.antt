@@ -30,16 +30,20 @@ use Rattle.word_bench.specs.Waits.{BeginsOffer, BeginsWait}
 
 -- ---- it was begun
 
-last_legal : (shape : Shape) (es all : List Entry) (e : Entry) → all ≡ es ++ e ∷ [] → Legal shape all → Legal shape es × Needs shape (replay es) e.who e.act
+last_legal : (shape : Shape) (es all : List Entry) (e : Entry) → all ≡ es ++ e ∷ [] → Legal shape all → Legal shape es
+    × Needs shape (replay es) e.who e.act
 last_legal shape es all e is l = Legal-last shape es e (subst (Legal shape) is l)
 
-offer_plain : (who c p v : ℕ) (a b : Floor) → Legal b.shape b.seen → Made who (Offer c p v (spot c p) 0) a b → OffersPlainly who (spot c p) (replay b.seen)
+offer_plain : (who c p v : ℕ) (a b : Floor) → Legal b.shape b.seen → Made who (Offer c p v (spot c p) 0) a b
+    → OffersPlainly who (spot c p) (replay b.seen)
 offer_plain who c p v a b l m =
     let last : Entry = record { who = who; act = Offer c p v (spot c p) 0 } in
     let r = last_legal b.shape m.before b.seen last m.last l in
-    subst (λ es. OffersPlainly who (spot c p) (replay es)) (sym m.last) (subst (OffersPlainly who (spot c p)) (sym (replay_push m.before last)) (offered_plain b.shape who c p v m.before r.0 r.1))
+    subst (λ es. OffersPlainly who (spot c p) (replay es)) (sym m.last)
+    (subst (OffersPlainly who (spot c p)) (sym (replay_push m.before last)) (offered_plain b.shape who c p v m.before r.0 r.1))
 
-await_held : (who c p : ℕ) (a b : Floor) → Legal b.shape b.seen → Made who (Await c p (spot c p) 0) a b → IsUnsettledOf who ((replay b.seen).waits (spot c p))
+await_held : (who c p : ℕ) (a b : Floor) → Legal b.shape b.seen → Made who (Await c p (spot c p) 0) a b
+    → IsUnsettledOf who ((replay b.seen).waits (spot c p))
 await_held who c p a b l m =
     let w : WaitId = spot c p in
     let act : Act = Await c p w 0 in
@@ -69,10 +73,13 @@ module _ (who c : ℕ) (a b : Floor) (pass : Pass) (seen : b.seen ≡ pass.seat.
 
 -- ---- an offer goes on to wait
 
-pub plain_looked : (who : ℕ) (w : WaitId) (a b : Floor) → Legal b.shape b.seen → Looked who a b → OffersPlainly who w (replay a.seen) → OffersPlainly who w (replay b.seen)
-plain_looked who w a b l look h = plain_lasts b.shape who w [] a.seen b.seen l look.longer (look.mine ∙ sym (nothing_more (acts_of who a.seen))) refl h
+pub plain_looked : (who : ℕ) (w : WaitId) (a b : Floor) → Legal b.shape b.seen → Looked who a b → OffersPlainly who w (replay a.seen)
+    → OffersPlainly who w (replay b.seen)
+plain_looked who w a b l look h = plain_lasts b.shape who w [] a.seen b.seen l look.longer (look.mine
+    ∙ sym (nothing_more (acts_of who a.seen))) refl h
 
-pub plain_admit : (who c mark : ℕ) (w : WaitId) (a b : Floor) (r : Option (ℕ × ℕ)) → Legal b.shape b.seen → AdmitAnswer who c mark a b r → OffersPlainly who w (replay a.seen) → OffersPlainly who w (replay b.seen)
+pub plain_admit : (who c mark : ℕ) (w : WaitId) (a b : Floor) (r : Option (ℕ × ℕ)) → Legal b.shape b.seen → AdmitAnswer who c mark a b r
+    → OffersPlainly who w (replay a.seen) → OffersPlainly who w (replay b.seen)
 plain_admit who c mark w a b (Some x) l h plain =
     let added = added_made who (Admit c x.0) a b h.made in
     plain_lasts b.shape who w (Admit c x.0 ∷ []) a.seen b.seen l added.longer added.mine refl plain
@@ -88,14 +95,17 @@ pub wait_own : (who : ℕ) (x : Option Wait) → IsUnsettledOf who x → IsOwnWa
 wait_own who None h = absurd h
 wait_own who (Some x) h = h.0
 
-pub wait_looked : (who : ℕ) (w : WaitId) (a b : Floor) → Legal b.shape b.seen → Looked who a b → IsUnsettledOf who ((replay a.seen).waits w) → IsUnsettledOf who ((replay b.seen).waits w)
+pub wait_looked : (who : ℕ) (w : WaitId) (a b : Floor) → Legal b.shape b.seen → Looked who a b → IsUnsettledOf who ((replay a.seen).waits w)
+    → IsUnsettledOf who ((replay b.seen).waits w)
 wait_looked who w a b l look h = others_keep b.shape who (IsUnsettledOf who) (unsettled_stays who) w a.seen b.seen l look.longer look.mine h
 
-pub ready_looked : (who : ℕ) (w : WaitId) (a b : Floor) → Legal b.shape b.seen → IsUnsettledOf who ((replay a.seen).waits w) → LookAnswer who w a b state.Resolved → IsReadyWait who ((replay b.seen).waits w)
+pub ready_looked : (who : ℕ) (w : WaitId) (a b : Floor) → Legal b.shape b.seen → IsUnsettledOf who ((replay a.seen).waits w)
+    → LookAnswer who w a b state.Resolved → IsReadyWait who ((replay b.seen).waits w)
 ready_looked who w a b l h look =
     let m = look.1 in
     let t = between who a.seen m.moment b.seen m.after m.before look.0.mine in
     let earlier : Legal b.shape m.moment = Legal-prefix b.shape m.moment m.before.0 (rw m.before.1 l) in
-    let held : IsUnsettledOf who ((replay m.moment).waits w) = others_keep b.shape who (IsUnsettledOf who) (unsettled_stays who) w a.seen m.moment earlier m.after t.0 h in
+    let held : IsUnsettledOf who ((replay m.moment).waits w) =
+    others_keep b.shape who (IsUnsettledOf who) (unsettled_stays who) w a.seen m.moment earlier m.after t.0 h in
     others_keep b.shape who (IsReadyWait who) (ready_stays who) w m.moment b.seen l m.before t.1
     (ready_told who ((replay m.moment).waits w) state.Resolved (wait_own who ((replay m.moment).waits w) held) m.holds refl)

@@ -26,7 +26,8 @@ one_tag tag k = by_test (k == tag)
     by_test false = refl
 
 -- where nobody acts from a tag on, and that tag is given out, nobody acts above it
-pub nobody_more : (chief : Bool) (given : List ℕ) (tag : ℕ) → NobodyFrom tag (may_act chief given) → NobodyFrom (tag + 1) (may_act chief (tag ∷ given))
+pub nobody_more : (chief : Bool) (given : List ℕ) (tag : ℕ) → NobodyFrom tag (may_act chief given)
+    → NobodyFrom (tag + 1) (may_act chief (tag ∷ given))
 nobody_more chief given tag none k le =
     let two = ungiven chief given k (none k (omega (arith, le))) in
     ap (λ (b : Bool). may_act b (tag ∷ given) k) two.0 ∙ by_test (k == tag) refl two.1
@@ -37,15 +38,27 @@ nobody_more chief given tag none k le =
 
 -- ---- one seat that is split off
 
-pub same_floor : (h : Hub) (old new : Pass) → (channels_seen_by new).seen ≡ (channels_seen_by old).seen → (channels_seen_by new).tags ≡ (channels_seen_by old).tags → hub_floor h new ≡ hub_floor h old
-same_floor h old new seen tags i = record { shape = shape_of h; seen = seen i; spare = 4294967296; alone = false; callers = λ t. has_tag t (tags i) }
+pub same_floor : (h : Hub) (old new : Pass) → (channels_seen_by new).seen ≡ (channels_seen_by old).seen
+    → (channels_seen_by new).tags ≡ (channels_seen_by old).tags → hub_floor h new ≡ hub_floor h old
+same_floor h old new seen tags i = record {
+  shape = shape_of h;
+  seen = seen i;
+  spare = 4294967296;
+  alone = false;
+  callers =
+      λ t. has_tag t (tags i);
+}
 
-pub hub_gives : (h : Hub) (old new : Pass) (tag : ℕ) → hub_may_act (hub_anchor h old) tag ≡ false → GivesTags (tag ∷ (channels_seen_by old).given) new → hub_anchor h new ≡ record (hub_anchor h old) { given = tag ∷ (hub_anchor h old).given }
+pub hub_gives : (h : Hub) (old new : Pass) (tag : ℕ) → hub_may_act (hub_anchor h old) tag ≡ false
+    → GivesTags (tag ∷ (channels_seen_by old).given) new → hub_anchor h new ≡
+    record (hub_anchor h old) { given = tag ∷ (hub_anchor h old).given }
 hub_gives h old new tag none gives =
     let chief = gives.0 ∙ sym (ungiven (channels_seen_by old).chief (channels_seen_by old).given tag none).0 in
     λ i. record { hub = h; chief = chief i; given = gives.1 i }
 
-pub new_floor : (h : Hub) (old new : Pass) (tag : ℕ) → (channels_seen_by new).tags ≡ tag ∷ [] → (channels_seen_by new).seen ≡ (channels_seen_by old).seen → acts_of tag (channels_seen_by new).seen ≡ [] → IsNewFloor tag (hub_floor h old) (hub_floor h new)
+pub new_floor : (h : Hub) (old new : Pass) (tag : ℕ) → (channels_seen_by new).tags ≡ tag ∷ []
+    → (channels_seen_by new).seen ≡ (channels_seen_by old).seen → acts_of tag (channels_seen_by new).seen ≡ []
+    → IsNewFloor tag (hub_floor h old) (hub_floor h new)
 new_floor h old new tag tags seen none = record {
   shape = refl;
   seen = seen;
@@ -53,12 +66,15 @@ new_floor h old new tag tags seen none = record {
   none = none;
 }
 
-pub forest_gives : (f : Forest) (old new : JobPass) (tag : ℕ) → forest_may_act (forest_anchor f old) tag ≡ false → GivesJobTags (tag ∷ (seen_by old).given) new → forest_anchor f new ≡ record (forest_anchor f old) { given = tag ∷ (forest_anchor f old).given }
+pub forest_gives : (f : Forest) (old new : JobPass) (tag : ℕ) → forest_may_act (forest_anchor f old) tag ≡ false
+    → GivesJobTags (tag ∷ (seen_by old).given) new → forest_anchor f new ≡
+    record (forest_anchor f old) { given = tag ∷ (forest_anchor f old).given }
 forest_gives f old new tag none gives =
     let chief = gives.0 ∙ sym (ungiven (seen_by old).chief (seen_by old).given tag none).0 in
     λ i. record { forest = f; chief = chief i; given = gives.1 i }
 
-pub new_job_floor : (old new : Floor) (tag : ℕ) → new ≡ record old { callers = λ t. has_tag t (tag ∷ []) } → NothingOf tag new → IsNewJobFloor tag old new
+pub new_job_floor : (old new : Floor) (tag : ℕ) → new ≡ record old { callers = λ t. has_tag t (tag ∷ []) } → NothingOf tag new
+    → IsNewJobFloor tag old new
 new_job_floor old new tag sees none = record {
   shape = ap (λ (f : Floor). f.shape) sees;
   seen = ap (λ (f : Floor). f.seen) sees;
@@ -69,7 +85,8 @@ new_job_floor old new tag sees none = record {
 }
 
 -- what holds of every place holds of every place of a list that has one element more
-pub pushed_at : {A : Type 0} (P : ℕ → Option A → Type 0) (xs : List A) (y : A) → ((k : ℕ) → P k None) → ((k : ℕ) → P k (slice_get xs k)) → P (length xs) (Some y) → (k : ℕ) → P k (slice_get (xs ++ y ∷ []) k)
+pub pushed_at : {A : Type 0} (P : ℕ → Option A → Type 0) (xs : List A) (y : A) → ((k : ℕ) → P k None) → ((k : ℕ) → P k (slice_get xs k))
+    → P (length xs) (Some y) → (k : ℕ) → P k (slice_get (xs ++ y ∷ []) k)
 pushed_at P [] y none all here zero = here
 pushed_at P [] y none all here (suc k) = none (suc k)
 pushed_at P (x ∷ xs) y none all here zero = all zero
@@ -84,14 +101,18 @@ module _ {S : Type 0} (old new : List S) (tag : ℕ) (seat : S) where
       let m = ap (λ (l : List S). length l) e in
       omega (arith, n, m, count)
 
-  pub seats_more : (view : S → ChannelFloor) (main : ChannelFloor) → new ≡ old ++ seat ∷ [] → 1 + length old ≡ tag → AreNewSeats view main old → IsNewFloor tag main (view seat) → AreNewSeats view main new
+  pub seats_more : (view : S → ChannelFloor) (main : ChannelFloor) → new ≡ old ++ seat ∷ [] → 1 + length old ≡ tag
+      → AreNewSeats view main old → IsNewFloor tag main (view seat) → AreNewSeats view main new
   seats_more view main e count all here =
       let n : tag ≡ length old + 1 = omega (arith, count) in
       subst (λ (l : List S). AreNewSeats view main l) (sym e)
-      (pushed_at (λ (i : ℕ) (o : Option S). WhereSome (λ s. IsNewFloor (i + 1) main (view s)) o) old seat (λ k. tt) all (subst (λ (m : ℕ). IsNewFloor m main (view seat)) n here))
+      (pushed_at (λ (i : ℕ) (o : Option S). WhereSome (λ s. IsNewFloor (i + 1) main (view s)) o) old seat (λ k. tt) all
+      (subst (λ (m : ℕ). IsNewFloor m main (view seat)) n here))
 
-  pub job_seats_more : (view : S → Floor) (main : Floor) → new ≡ old ++ seat ∷ [] → 1 + length old ≡ tag → AreNewJobSeats view main old → IsNewJobFloor tag main (view seat) → AreNewJobSeats view main new
+  pub job_seats_more : (view : S → Floor) (main : Floor) → new ≡ old ++ seat ∷ [] → 1 + length old ≡ tag → AreNewJobSeats view main old
+      → IsNewJobFloor tag main (view seat) → AreNewJobSeats view main new
   job_seats_more view main e count all here =
       let n : tag ≡ length old + 1 = omega (arith, count) in
       subst (λ (l : List S). AreNewJobSeats view main l) (sym e)
-      (pushed_at (λ (i : ℕ) (o : Option S). WhereSome (λ s. IsNewJobFloor (i + 1) main (view s)) o) old seat (λ k. tt) all (subst (λ (m : ℕ). IsNewJobFloor m main (view seat)) n here))
+      (pushed_at (λ (i : ℕ) (o : Option S). WhereSome (λ s. IsNewJobFloor (i + 1) main (view s)) o) old seat (λ k. tt) all
+      (subst (λ (m : ℕ). IsNewJobFloor m main (view seat)) n here))

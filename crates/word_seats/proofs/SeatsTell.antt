@@ -16,16 +16,25 @@ use Rattle.word_seats.proofs.Given.{ungiven}
 
 -- ---- channels
 
-pub met_on_channels : (h g : Hub) (a b a' b' : Pass) → MeetAnswer (seen_by a) (seen_by b) (seen_by a') → seen_by b' ≡ seen_by b → MetOnChannels (hub_floor h a) (hub_floor h a') (hub_floor g b) (hub_floor g b')
+pub met_on_channels : (h g : Hub) (a b a' b' : Pass) → MeetAnswer (seen_by a) (seen_by b) (seen_by a') → seen_by b' ≡ seen_by b
+    → MetOnChannels (hub_floor h a) (hub_floor h a') (hub_floor g b) (hub_floor g b')
 met_on_channels h g a b a' b' m same = record {
   same = record { shape = refl; alone = refl; callers = ap {B = ℕ → Bool} (λ (tags : List ℕ). λ t. has_tag t tags) m.tags };
-  other = ap (λ (v : Seen). record { shape = shape_of g; seen = v.seen; spare = 4294967296; alone = false; callers = λ t. has_tag t v.tags }) same;
+  other = ap (λ (v : Seen). record {
+    shape = shape_of g;
+    seen = v.seen;
+    spare = 4294967296;
+    alone = false;
+    callers =
+        λ t. has_tag t v.tags;
+  }) same;
   longer = m.goes_on;
   heard = m.told;
   mine = m.own;
 }
 
-pub ended_on_channels : (h g : Hub) (a b a' : Pass) → EndAnswer (seen_by a) (seen_by b) (seen_by a') → EndedOnChannels (hub_floor h a) (hub_floor h a') (hub_floor g b)
+pub ended_on_channels : (h g : Hub) (a b a' : Pass) → EndAnswer (seen_by a) (seen_by b) (seen_by a')
+    → EndedOnChannels (hub_floor h a) (hub_floor h a') (hub_floor g b)
 ended_on_channels h g a b a' m = record {
   shape = refl;
   callers = m.callers;
@@ -35,12 +44,14 @@ ended_on_channels h g a b a' m = record {
   theirs = m.taken;
 }
 
-pub no_calls : (h : Hub) (p : Pass) → NothingUngiven (seen_by p) → NoCallsOfOthers (may_act (seen_by p).chief (seen_by p).given) (hub_floor h p)
+pub no_calls : (h : Hub) (p : Pass) → NothingUngiven (seen_by p)
+    → NoCallsOfOthers (may_act (seen_by p).chief (seen_by p).given) (hub_floor h p)
 no_calls h p none k e = let two = ungiven (seen_by p).chief (seen_by p).given k e in none two.0 k two.1
 
 -- ---- Jobs
 
-pub met_on_jobs : (a b a' b' : JobsSeen) → JobsMet (floor_seen a) (floor_seen b) (floor_seen a') → b' ≡ b → MetOnJobs (floor_seen a) (floor_seen a') (floor_seen b) (floor_seen b')
+pub met_on_jobs : (a b a' b' : JobsSeen) → JobsMet (floor_seen a) (floor_seen b) (floor_seen a') → b' ≡ b
+    → MetOnJobs (floor_seen a) (floor_seen a') (floor_seen b) (floor_seen b')
 met_on_jobs a b a' b' m same = record {
   same = m.same;
   other = ap floor_seen same;
@@ -52,7 +63,8 @@ met_on_jobs a b a' b' m same = record {
   my_claims = λ k own r. (m.own k own).rows r;
 }
 
-pub ended_on_jobs : (a b a' : JobsSeen) → JobsEnded (floor_seen a) (floor_seen b) (floor_seen a') → EndedOnJobs (floor_seen a) (floor_seen a') (floor_seen b)
+pub ended_on_jobs : (a b a' : JobsSeen) → JobsEnded (floor_seen a) (floor_seen b) (floor_seen a')
+    → EndedOnJobs (floor_seen a) (floor_seen a') (floor_seen b)
 ended_on_jobs a b a' m = record {
   shape = m.shape;
   callers = m.callers;

@@ -26,6 +26,4 @@ spurn_callers who c mine a b None h = h.0.same.callers
 pub offer_puts : (who c v : ℕ) (a b : Floor) (r : Offered) → OfferAnswer who c v a b r → (p : ℕ) → r ≡ offered.Put p → HasPut who c p b
 offer_puts who c v a b (offered.Put q) h p e = let same : q ≡ p = cc in subst (λ (z : ℕ). HasPut who c z b) same (put_owned who c q v a b h)
 offer_puts who c v a b (offered.Handed q t) h p e = cc
-offer_puts who c v a b (offered.Held q) h p e = cc
-offer_puts who c v a b (offered.Closed x) h p e = cc
-offer_puts who c v a b offered.Spent h p e = cc
+offer_puts who c v a b other h p e = cc

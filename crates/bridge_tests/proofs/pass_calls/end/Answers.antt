@@ -5,9 +5,11 @@ use Rattle.bridge_tests.proofs.pass_calls.end.Goals as goal
 
 pub wake_closed-told-requires-clause-can : goal.wake_closed-told-requires-clause-can
 wake_closed-told-requires-clause-can c =
-    let same = close_callers c.args.who 0 c.args.v (hub_floor c.args.hub.now c.args.pass.now) (hub_floor c.args.hub.now c.close.new.pass) c.close.result c.close.ensures.answer in
+    let same = close_callers c.args.who 0 c.args.v (hub_floor c.args.hub.now c.args.pass.now) (hub_floor c.args.hub.now c.close.new.pass)
+    c.close.result c.close.ensures.answer in
     record { caller = ap (λ (f : ℕ → Bool). f c.args.who) same ∙ c.requires.own.1; channel = c.requires.channel }
 
 pub wake_closed-told-requires-clause-closed : goal.wake_closed-told-requires-clause-closed
 wake_closed-told-requires-clause-closed c =
-    closed_seen c.args.who 0 c.args.v (hub_floor c.args.hub.now c.args.pass.now) (hub_floor c.args.hub.now c.close.new.pass) c.close.result c.close.ensures.answer
+    closed_seen c.args.who 0 c.args.v (hub_floor c.args.hub.now c.args.pass.now) (hub_floor c.args.hub.now c.close.new.pass) c.close.result
+    c.close.ensures.answer

@@ -5,5 +5,6 @@ use Rattle.bridge_tests.proofs.pass_calls.send.Goals as goal
 
 pub returns : goal.returns
 returns c =
-    let same = offer_callers c.args.who 0 c.args.value (hub_floor c.args.hub.now c.args.pass.now) (hub_floor c.args.hub.now c.offer.new.pass) c.offer.result c.offer.ensures.answer in
+    let same = offer_callers c.args.who 0 c.args.value (hub_floor c.args.hub.now c.args.pass.now)
+    (hub_floor c.args.hub.now c.offer.new.pass) c.offer.result c.offer.ensures.answer in
     record { own = (c.offer.ensures.of, ap (λ (f : ℕ → Bool). f c.args.who) same ∙ c.requires.own.1) }

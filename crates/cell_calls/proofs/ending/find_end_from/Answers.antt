@@ -11,10 +11,16 @@ pub returns-in-Closed-clause-sees : goal.returns-in-Closed-clause-sees
 returns-in-Closed-clause-sees c = sees_then _ _ _ c.loop-place.invariant.sees c.end_at.ensures.sees
 
 pub loop-place-preserved : goal.loop-place-preserved
-loop-place-preserved c = record { own = c.end_at.ensures.own; sees = sees_then _ _ _ c.loop-place.invariant.sees c.end_at.ensures.sees; given = c.in-Used.ensures.end }
+loop-place-preserved c = record {
+  own = c.end_at.ensures.own;
+  sees = sees_then _ _ _ c.loop-place.invariant.sees c.end_at.ensures.sees;
+  given = c.in-Used.ensures.end;
+}
 
 pub unreachable-requires : goal.unreachable-requires
-unreachable-requires c = too_far (shape_of c.args.hub.now) c.loop-place.pass.seat.me.0.seen c.args.c c.loop-place.place c.places_of-places.result (hub_legal c.args.hub.now c.loop-place.pass c.loop-place.invariant.own.0) c.loop-place.invariant.given c.places_of-places.ensures c.loop-place-test.false
+unreachable-requires c = too_far (shape_of c.args.hub.now) c.loop-place.pass.seat.me.0.seen c.args.c c.loop-place.place
+    c.places_of-places.result (hub_legal c.args.hub.now c.loop-place.pass c.loop-place.invariant.own.0) c.loop-place.invariant.given
+    c.places_of-places.ensures c.loop-place-test.false
 
 pub loop-place-init : goal.loop-place-init
 loop-place-init c = record { own = c.requires.own; sees = sees_self c.args.pass.now.seat.me.0; given = c.requires.given }

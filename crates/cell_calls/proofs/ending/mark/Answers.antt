@@ -6,7 +6,9 @@ use Rattle.cell_calls.proofs.ending.mark.Goals as goal
 pub returns-clause-answer : goal.returns-clause-answer
 returns-clause-answer c = (
   looked_of c.args.hub.now c.args.who c.args.pass.now c.find_end.new.pass c.requires.can.caller c.find_end.ensures.sees,
-  step_of c.args.hub.now c.args.who c.args.pass.now c.find_end.new.pass c.find_end.new.pass.seat.me.0 (λ (s : State). (s.channels c.args.c).next ≡ c.find_end.result.0) c.find_end.ensures.sees (prefix_self c.find_end.new.pass.seat.me.0.seen) c.find_end.ensures.end.0,
+  step_of c.args.hub.now c.args.who c.args.pass.now c.find_end.new.pass c.find_end.new.pass.seat.me.0
+      (λ (s : State). (s.channels c.args.c).next ≡ c.find_end.result.0) c.find_end.ensures.sees
+      (prefix_self c.find_end.new.pass.seat.me.0.seen) c.find_end.ensures.end.0,
 )
 
 pub returns-clause-giving : goal.returns-clause-giving

@@ -7,7 +7,8 @@ use Rattle.cell_calls.proofs.receiving.walk.Goals as goal
 
 pub returns-clause-walked : goal.returns-clause-walked
 returns-clause-walked c = same_floor c.args.hub.now c.walk_cells-walked.new.pass c.raise_receives.new.pass
-    (λ f. ReceiveWalked c.args.waits c.args.who c.args.c (hub_floor c.args.hub.now c.args.pass.now) f c.walk_cells-walked.result.0) c.raise_receives.ensures.same c.walk_cells-walked.ensures.walked
+    (λ f. ReceiveWalked c.args.waits c.args.who c.args.c (hub_floor c.args.hub.now c.args.pass.now) f c.walk_cells-walked.result.0)
+    c.raise_receives.ensures.same c.walk_cells-walked.ensures.walked
 
 pub returns-clause-giving : goal.returns-clause-giving
 returns-clause-giving c = ap tags_given c.raise_receives.ensures.same ∙ c.walk_cells-walked.ensures.giving

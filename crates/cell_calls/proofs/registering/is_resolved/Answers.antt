@@ -15,18 +15,25 @@ pub returns-in-None-clause-resolved : goal.returns-in-None-clause-resolved
 returns-in-None-clause-resolved c = no_main c.args.hub.now c.args.pass.now c.args.main c.in-None.is
 
 pub look_at-requires-clause-at : goal.look_at-requires-clause-at
-look_at-requires-clause-at c = (subst (λ (z : Option WaitId). IsOwnMain (shape_of c.args.hub.now) c.args.who z c.args.pass.now.seat.me.0.seen) c.in-Some.is c.requires.main).0
+look_at-requires-clause-at c =
+    (subst (λ (z : Option WaitId). IsOwnMain (shape_of c.args.hub.now) c.args.who z c.args.pass.now.seat.me.0.seen) c.in-Some.is
+    c.requires.main).0
 
 pub look_at-requires-clause-mine : goal.look_at-requires-clause-mine
-look_at-requires-clause-mine c = (subst (λ (z : Option WaitId). IsOwnMain (shape_of c.args.hub.now) c.args.who z c.args.pass.now.seat.me.0.seen) c.in-Some.is c.requires.main).1
+look_at-requires-clause-mine c =
+    (subst (λ (z : Option WaitId). IsOwnMain (shape_of c.args.hub.now) c.args.who z c.args.pass.now.seat.me.0.seen) c.in-Some.is
+    c.requires.main).1
 
 pub returns-in-Standing-clause-resolved : goal.returns-in-Standing-clause-resolved
-returns-in-Standing-clause-resolved c = main_stands c.args.hub.now c.look_at.new.pass c.in-Some.w c.args.main c.in-Some.is c.look_at.result c.look_at.ensures.state c.in-Standing.is
+returns-in-Standing-clause-resolved c = main_stands c.args.hub.now c.look_at.new.pass c.in-Some.w c.args.main c.in-Some.is c.look_at.result
+    c.look_at.ensures.state c.in-Standing.is
 
 pub returns-in-Resolved-clause-resolved : goal.returns-in-Resolved-clause-resolved
-returns-in-Resolved-clause-resolved c = main_resolved c.args.hub.now c.look_at.new.pass c.in-Some.w c.args.main c.in-Some.is c.look_at.result c.look_at.ensures.state (hub_legal c.args.hub.now c.look_at.new.pass c.look_at.ensures.own.0)
+returns-in-Resolved-clause-resolved c = main_resolved c.args.hub.now c.look_at.new.pass c.in-Some.w c.args.main c.in-Some.is
+    c.look_at.result c.look_at.ensures.state (hub_legal c.args.hub.now c.look_at.new.pass c.look_at.ensures.own.0)
     (λ e. let f : state.Resolved ≡ state.Standing = sym c.in-Resolved.is ∙ e in cc)
 
 pub returns-in-Settled-clause-resolved : goal.returns-in-Settled-clause-resolved
-returns-in-Settled-clause-resolved c = main_resolved c.args.hub.now c.look_at.new.pass c.in-Some.w c.args.main c.in-Some.is c.look_at.result c.look_at.ensures.state (hub_legal c.args.hub.now c.look_at.new.pass c.look_at.ensures.own.0)
+returns-in-Settled-clause-resolved c = main_resolved c.args.hub.now c.look_at.new.pass c.in-Some.w c.args.main c.in-Some.is c.look_at.result
+    c.look_at.ensures.state (hub_legal c.args.hub.now c.look_at.new.pass c.look_at.ensures.own.0)
     (λ e. let f : state.Settled ≡ state.Standing = sym c.in-Settled.is ∙ e in cc)

@@ -8,11 +8,13 @@ use Rattle.cell_calls.proofs.registering.register_receive.Goals as goal
 
 pub returns-clause-answer : goal.returns-clause-answer
 returns-clause-answer c = same_floor c.args.hub.now c.walk_to_receive-registered.new.pass c.raise_receives.new.pass
-    (λ f. RegisterReceiveAnswer c.args.who c.args.main c.args.clause c.args.c (hub_floor c.args.hub.now c.args.pass.now) f c.walk_to_receive-registered.result.0) c.raise_receives.ensures.same c.walk_to_receive-registered.ensures.answer
+    (λ f. RegisterReceiveAnswer c.args.who c.args.main c.args.clause c.args.c (hub_floor c.args.hub.now c.args.pass.now) f
+    c.walk_to_receive-registered.result.0) c.raise_receives.ensures.same c.walk_to_receive-registered.ensures.answer
 
 pub returns-clause-first : goal.returns-clause-first
 returns-clause-first c = same_floor c.args.hub.now c.walk_to_receive-registered.new.pass c.raise_receives.new.pass
-    (λ f. StandingFirst c.args.who c.args.main (hub_floor c.args.hub.now c.args.pass.now) f c.walk_to_receive-registered.result.0) c.raise_receives.ensures.same c.walk_to_receive-registered.ensures.first
+    (λ f. StandingFirst c.args.who c.args.main (hub_floor c.args.hub.now c.args.pass.now) f c.walk_to_receive-registered.result.0)
+    c.raise_receives.ensures.same c.walk_to_receive-registered.ensures.first
 
 pub returns-clause-giving : goal.returns-clause-giving
 returns-clause-giving c = ap tags_given c.raise_receives.ensures.same ∙ c.walk_to_receive-registered.ensures.giving

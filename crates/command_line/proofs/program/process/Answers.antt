@@ -5,7 +5,8 @@ use Rattle.command_line.specs.declared.status.Status.TheVariants as statuses
 use Rattle.command_line.proofs.program.process.Goals as goal
 
 -- where nothing is given, nothing is asked
-none_asked : {A B C : Type 0} (f : A → B) (h : B → Option C) (o : Option A) (given : Option B) → o ≡ None → option_map f o ≡ given → option_and_then h given ≡ None
+none_asked : {A B C : Type 0} (f : A → B) (h : B → Option C) (o : Option A) (given : Option B) → o ≡ None → option_map f o ≡ given
+    → option_and_then h given ≡ None
 none_asked f h o given e is = ap (option_and_then h) (sym is) ∙ ap (λ x. option_and_then h (option_map f x)) e
 
 pub returns-in-Ok-None-clause-status : goal.returns-in-Ok-None-clause-status

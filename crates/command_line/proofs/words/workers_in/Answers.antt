@@ -5,4 +5,5 @@ use Rattle.command_line.specs.Commands.{workers_of}
 use Rattle.command_line.proofs.words.workers_in.Goals as goal
 
 pub returns-clause-value : goal.returns-clause-value
-returns-clause-value c = c.workers_of.ensures.value ∙ ap workers_of (c.get_str.ensures ∙ first_value-rows (found_of c.args.matches.now) (codes "workers"))
+returns-clause-value c = c.workers_of.ensures.value ∙ ap workers_of (c.get_str.ensures
+    ∙ first_value-rows (found_of c.args.matches.now) (codes "workers"))

@@ -8,4 +8,6 @@ pub returns-clause-knows : goal.returns-clause-knows
 returns-clause-knows g c =
     let a = g.F.ChannelFloor.view c.args.floor.now in
     let b = g.F.ChannelFloor.view c.offer-answer.new.self in
-    subst (λ (k : Known). Knows k b) (sym c.after_offer.ensures) (knows_offer c.args.known c.args.who c.args.value a b (g.met.F.ChannelFloor.legal c.offer-answer.new.self) c.requires.caller c.requires.knows c.offer-answer.result c.offer-answer.ensures.answer)
+    subst (λ (k : Known). Knows k b) (sym c.after_offer.ensures)
+    (knows_offer c.args.known c.args.who c.args.value a b (g.met.F.ChannelFloor.legal c.offer-answer.new.self) c.requires.caller
+    c.requires.knows c.offer-answer.result c.offer-answer.ensures.answer)

@@ -20,7 +20,8 @@ pub end_body-requires-clause-can : goal.end_body-requires-clause-can
 end_body-requires-clause-can g c =
     let seen = c.if-not-is_attached.ensures in
     let k = added_then c.args.who [] [] [] [] _ _ _ (added_looked _ _ _ _ c.link.ensures.answer.0)
-    (added_then c.args.who [] [] [] [] _ _ _ (added_looked _ _ _ _ c.in-Some.ensures.answer.0) (added_room _ _ _ _ c.in_ok-room.ensures.ok)) in
+    (added_then c.args.who [] [] [] [] _ _ _ (added_looked _ _ _ _ c.in-Some.ensures.answer.0) (added_room _ _ _ _ c.in_ok-room.ensures.ok))
+    in
     may_later _ _ _ _ k.same k.longer (g.met.J.JobFloor.legal c.room.new.self)
     (record { caller = ap (λ (f : ℕ → Bool). f c.args.who) seen.same.callers ∙ c.requires.caller; attached = seen.attached refl })
 

@@ -6,9 +6,11 @@ use Rattle.parcel_channel.specs.Hubs.{IsCopied}
 use Rattle.parcel_channel.proofs.closing.move_rest.Given as goal
 
 abbrev pub invariant-loop-i : goal.invariant-loop-i
-invariant-loop-i g l = (Filled (slots_filled l.closed.slots) l.i (slots_len l.closed.slots) × ((k : ℕ) → k < l.i → get_or (slots_filled l.closed.slots) k false ≡ false))
+invariant-loop-i g l = (Filled (slots_filled l.closed.slots) l.i (slots_len l.closed.slots)
+    × ((k : ℕ) → k < l.i → get_or (slots_filled l.closed.slots) k false ≡ false))
     × (((slots_len l.closed.slots ≡ l.parcels) × (slots_items l.closed.slots ≡ slots_items l.initial.closed.slots))
-    × ((l.i ≤ l.parcels) × ((vec_len l.room ≡ l.i) × ((l.parcels ≤ vec_capacity l.room) × IsCopied (slots_items l.initial.closed.slots) l.room.items))))
+    × ((l.i ≤ l.parcels) × ((vec_len l.room ≡ l.i) × ((l.parcels ≤ vec_capacity l.room)
+    × IsCopied (slots_items l.initial.closed.slots) l.room.items))))
 
 abbrev pub decreases-loop-i : goal.decreases-loop-i
 decreases-loop-i g l = l.parcels - l.i

@@ -5,10 +5,13 @@ use Rattle.channel_model.specs.Answers.{VoidAnswer}
 use Rattle.parcel_channel.proofs.numbers.void_on.Goals as goal
 
 pub returns-clause-own : goal.returns-clause-own
-returns-clause-own c = stays_own c.args.desk.now c.void.new.self c.args.who c.void.ensures.anchor (void_callers c.args.who 0 (desk_floor c.args.desk.now) (desk_floor c.void.new.self) c.void.result c.void.ensures.answer) c.requires.caller
+returns-clause-own c = stays_own c.args.desk.now c.void.new.self c.args.who c.void.ensures.anchor
+    (void_callers c.args.who 0 (desk_floor c.args.desk.now) (desk_floor c.void.new.self) c.void.result c.void.ensures.answer)
+    c.requires.caller
 
 pub returns-clause-answer : goal.returns-clause-answer
-returns-clause-answer c = answer_on c.args.desk.now c.void.new.self c.void.ensures.anchor (λ f. VoidAnswer c.args.who 0 (desk_floor c.args.desk.now) f c.void.result) c.void.ensures.answer
+returns-clause-answer c = answer_on c.args.desk.now c.void.new.self c.void.ensures.anchor
+    (λ f. VoidAnswer c.args.who 0 (desk_floor c.args.desk.now) f c.void.result) c.void.ensures.answer
 
 pub returns-clause-giving : goal.returns-clause-giving
 returns-clause-giving c = giving_on c.args.desk.now c.void.new.self c.void.ensures.anchor

@@ -9,7 +9,8 @@ settle_offer-requires-clause-plain c =
     let hub = c.args.hub.now in
     let old = hub_floor hub c.args.pass.now in
     let new = hub_floor hub c.admit.new.pass in
-    plain_admits c.args.who c.args.w old new (hub_legal hub c.admit.new.pass c.admit.ensures.own.0) c.requires.plain (all_admits c.args.who old new c.admit.ensures.admits)
+    plain_admits c.args.who c.args.w old new (hub_legal hub c.admit.new.pass c.admit.ensures.own.0) c.requires.plain
+    (all_admits c.args.who old new c.admit.ensures.admits)
 
 pub returns-clause-answer : goal.returns-clause-answer
 returns-clause-answer c = (hub_floor c.args.hub.now c.admit.new.pass, c.admit.ensures.admits, c.settle_offer.ensures.answer)

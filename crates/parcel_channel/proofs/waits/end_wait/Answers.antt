@@ -12,5 +12,6 @@ withdrawn_number-requires-clause-at c =
     let p = c.args.pass.now in (
       c.requires.channel.0,
       subst (λ n. c.args.w.place ≤ places_at shape n) c.requires.wait
-          (wait_place shape p.seat.me.0.seen c.args.who c.args.w (hub_legal c.args.hub.now p c.requires.own.0) (ready_own c.args.who _ c.requires.ready)),
+          (wait_place shape p.seat.me.0.seen c.args.who c.args.w (hub_legal c.args.hub.now p c.requires.own.0)
+          (ready_own c.args.who _ c.requires.ready)),
     )

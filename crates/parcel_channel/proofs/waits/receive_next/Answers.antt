@@ -10,4 +10,5 @@ pub returns-in-Waiting-clause-own_wait : goal.returns-in-Waiting-clause-own_wait
 returns-in-Waiting-clause-own_wait c =
     let hub = c.args.hub.now in
     let q = c.receive.new.pass in
-    await_own c.args.who 0 c.in-Waiting.place (hub_floor hub c.args.pass.now) (hub_floor hub q) (hub_legal hub q c.receive.ensures.own.0) c.in-Waiting.ensures.answer
+    await_own c.args.who 0 c.in-Waiting.place (hub_floor hub c.args.pass.now) (hub_floor hub q) (hub_legal hub q c.receive.ensures.own.0)
+    c.in-Waiting.ensures.answer

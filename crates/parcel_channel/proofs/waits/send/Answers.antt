@@ -12,7 +12,8 @@ use Rattle.parcel_channel.proofs.waits.send.Goals as goal
 pub after_held-ended-requires-clause-plain : goal.after_held-ended-requires-clause-plain
 after_held-ended-requires-clause-plain c =
     let hub = c.args.hub.now in
-    offer_plain c.args.who 0 c.in-Held.place c.args.value (hub_floor hub c.args.pass.now) (hub_floor hub c.offer.new.pass) (hub_legal hub c.offer.new.pass c.offer.ensures.own.0) c.in-Held.ensures.answer.0
+    offer_plain c.args.who 0 c.in-Held.place c.args.value (hub_floor hub c.args.pass.now) (hub_floor hub c.offer.new.pass)
+    (hub_legal hub c.offer.new.pass c.offer.ensures.own.0) c.in-Held.ensures.answer.0
 
 pub returns-in-Handed-clause-answer : goal.returns-in-Handed-clause-answer
 returns-in-Handed-clause-answer c = (c.in-Handed.field-0, c.in-Handed.ensures.answer)
@@ -20,7 +21,8 @@ returns-in-Handed-clause-answer c = (c.in-Handed.field-0, c.in-Handed.ensures.an
 pub returns-in-Put-clause-answer : goal.returns-in-Put-clause-answer
 returns-in-Put-clause-answer c = at_once c.in-Put.field-0 c.in-Put.ensures.answer
 
-held_sends : (who k place : ℕ) (old new : Floor) (b : Bool) → Legal new.shape new.seen → HeldThen who k place b old new → Sends who k old new (placed_at b place)
+held_sends : (who k place : ℕ) (old new : Floor) (b : Bool) → Legal new.shape new.seen → HeldThen who k place b old new
+    → Sends who k old new (placed_at b place)
 held_sends who k place old new true l h = by_now place h
 held_sends who k place old new false l h = (h, held_full who k place old new l h)
 
@@ -30,7 +32,9 @@ returns-in-Held-clause-answer c =
     let old = hub_floor hub c.args.pass.now in
     let new = hub_floor hub c.after_held-ended.new.pass in
     let a = c.after_held-ended.ensures.answer in
-    subst (λ (r : Placed). Sends c.args.who c.args.value old new r) (sym c.held_at.ensures) (held_sends c.args.who c.args.value c.in-Held.place old new c.after_held-ended.result (hub_legal hub c.after_held-ended.new.pass c.after_held-ended.ensures.own.0) (record {
+    subst (λ (r : Placed). Sends c.args.who c.args.value old new r) (sym c.held_at.ensures)
+    (held_sends c.args.who c.args.value c.in-Held.place old new c.after_held-ended.result
+    (hub_legal hub c.after_held-ended.new.pass c.after_held-ended.ensures.own.0) (record {
       held = hub_floor hub c.offer.new.pass;
       admitted = a.0;
       offered = c.in-Held.ensures.answer;

@@ -10,19 +10,23 @@ pub wait_word_at-word-requires-clause-at : goal.wait_word_at-word-requires-claus
 wait_word_at-word-requires-clause-at c = subst (λ n. IsCell (shape_of c.args.hub.now) n c.args.w.place) (sym c.requires.wait) c.requires.at
 
 pub returns-then-not-was_withdrawn-clause-looked : goal.returns-then-not-was_withdrawn-clause-looked
-returns-then-not-was_withdrawn-clause-looked c = looked_of c.args.hub.now c.args.who c.args.pass.now c.wait_word_at-word.new.pass c.requires.own.1 c.wait_word_at-word.ensures.sees
+returns-then-not-was_withdrawn-clause-looked c = looked_of c.args.hub.now c.args.who c.args.pass.now c.wait_word_at-word.new.pass
+    c.requires.own.1 c.wait_word_at-word.ensures.sees
 
 pub returns-then-not-was_withdrawn-clause-number : goal.returns-then-not-was_withdrawn-clause-number
 returns-then-not-was_withdrawn-clause-number c =
-    none_withdrawn c.args.w c.wait_word_at-word.new.pass.seat.me.0 c.wait_word_at-word.result c.wait_word_at-word.ensures.word (sym c.was_withdrawn.ensures ∙ c.if-not-was_withdrawn.true)
+    none_withdrawn c.args.w c.wait_word_at-word.new.pass.seat.me.0 c.wait_word_at-word.result c.wait_word_at-word.ensures.word
+    (sym c.was_withdrawn.ensures ∙ c.if-not-was_withdrawn.true)
 
 pub returns-clause-looked : goal.returns-clause-looked
 returns-clause-looked c = looked_of c.args.hub.now c.args.who c.args.pass.now c.load_cell-cell.new.pass c.requires.own.1
-    (sees_then c.args.pass.now.seat.me.0 c.wait_word_at-word.new.pass.seat.me.0 c.load_cell-cell.new.pass.seat.me.0 c.wait_word_at-word.ensures.sees c.load_cell-cell.ensures.sees)
+    (sees_then c.args.pass.now.seat.me.0 c.wait_word_at-word.new.pass.seat.me.0 c.load_cell-cell.new.pass.seat.me.0
+    c.wait_word_at-word.ensures.sees c.load_cell-cell.ensures.sees)
 
 pub returns-clause-number : goal.returns-clause-number
 returns-clause-number c =
     c.number_offered.ensures
-    ∙ was_withdrawn_at (shape_of c.args.hub.now) c.args.w c.wait_word_at-word.new.pass.seat.me.0 c.load_cell-cell.new.pass.seat.me.0 c.wait_word_at-word.result c.load_cell-cell.result
+    ∙ was_withdrawn_at (shape_of c.args.hub.now) c.args.w c.wait_word_at-word.new.pass.seat.me.0 c.load_cell-cell.new.pass.seat.me.0
+    c.wait_word_at-word.result c.load_cell-cell.result
     c.load_cell-cell.ensures.sees (hub_legal c.args.hub.now c.load_cell-cell.new.pass c.load_cell-cell.ensures.own.0)
     c.wait_word_at-word.ensures.word (sym c.was_withdrawn.ensures ∙ c.if-not-was_withdrawn.false) c.load_cell-cell.ensures.word

@@ -10,4 +10,5 @@ void-voided-requires-clause-closed c =
 pub returns-clause-voided : goal.returns-clause-voided
 returns-clause-voided c =
     let hub = c.args.hub.now in
-    voided_seen c.close.new.pass.tag 0 (floor_by hub c.close.new.pass) (floor_by hub c.void-voided.new.pass) c.void-voided.result c.void-voided.ensures.answer
+    voided_seen c.close.new.pass.tag 0 (floor_by hub c.close.new.pass) (floor_by hub c.void-voided.new.pass) c.void-voided.result
+    c.void-voided.ensures.answer

@@ -8,4 +8,5 @@ returns-clause-voided c =
     let hub = c.args.hub.now in
     let old = c.args.pass.now in
     let new = c.drain.new.pass in
-    voided_still hub.parcels old.tag (seen_by old) (seen_by new) (floor_by hub old) (floor_by hub new) c.drain.result (hub_legal hub.hub new.pass c.drain.ensures.of.2.0) c.drain.ensures.answer c.requires.voided
+    voided_still hub.parcels old.tag (seen_by old) (seen_by new) (floor_by hub old) (floor_by hub new) c.drain.result
+    (hub_legal hub.hub new.pass c.drain.ensures.of.2.0) c.drain.ensures.answer c.requires.voided

@@ -10,8 +10,10 @@ look-requires-clause-own g c = holds_own c.args.pass.now.tag _ c.requires.holds
 
 pub returns-clause-holds : goal.returns-clause-holds
 returns-clause-holds g c =
-    subst (λ t. HoldsWait t c.args.wait (floor_by c.args.hub.now c.look.new.pass)) (sym c.look.ensures.same.0.0) (c.look.ensures.holds c.requires.holds)
+    subst (λ t. HoldsWait t c.args.wait (floor_by c.args.hub.now c.look.new.pass)) (sym c.look.ensures.same.0.0)
+    (c.look.ensures.holds c.requires.holds)
 
 pub returns-clause-ready : goal.returns-clause-ready
 returns-clause-ready g c is =
-    subst (λ t. IsReady t c.args.wait (floor_by c.args.hub.now c.look.new.pass)) (sym c.look.ensures.same.0.0) (c.look.ensures.ready c.requires.holds is)
+    subst (λ t. IsReady t c.args.wait (floor_by c.args.hub.now c.look.new.pass)) (sym c.look.ensures.same.0.0)
+    (c.look.ensures.ready c.requires.holds is)

@@ -7,5 +7,7 @@ into_rest-requires-clause-first g c = c.end-2.ensures.first (c.end.ensures.first
 
 pub into_rest-requires-clause-ended : goal.into_rest-requires-clause-ended
 into_rest-requires-clause-ended g c =
-    all_ended c.end-2.new.main.seat.me.0.given c.args.main.seat.me.0.tags c.end.new.main.seat.me.0.tags c.end-2.new.main.seat.me.0.tags c.args.one.seat.me.0.tags c.args.two.seat.me.0.tags
-    (ap (λ x. x.1) c.end-2.ensures.values.giving ∙ ap (λ x. x.1) c.end.ensures.values.giving ∙ c.requires.main.2) c.requires.main.3 c.requires.one.1 c.requires.two.1 c.end.ensures.values.callers c.end-2.ensures.values.callers
+    all_ended c.end-2.new.main.seat.me.0.given c.args.main.seat.me.0.tags c.end.new.main.seat.me.0.tags c.end-2.new.main.seat.me.0.tags
+    c.args.one.seat.me.0.tags c.args.two.seat.me.0.tags
+    (ap (λ x. x.1) c.end-2.ensures.values.giving ∙ ap (λ x. x.1) c.end.ensures.values.giving
+    ∙ c.requires.main.2) c.requires.main.3 c.requires.one.1 c.requires.two.1 c.end.ensures.values.callers c.end-2.ensures.values.callers

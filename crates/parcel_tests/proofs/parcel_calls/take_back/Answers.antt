@@ -9,4 +9,5 @@ withdraw-requires-clause-own g c = holds_own c.args.pass.now.tag _ c.requires.ho
 
 pub returns-clause-ready : goal.returns-clause-ready
 returns-clause-ready g c =
-    subst (λ t. IsReady t c.args.wait (floor_by c.args.hub.now c.withdraw.new.pass)) (sym c.withdraw.ensures.same.0.0) (c.withdraw.ensures.ready c.requires.holds)
+    subst (λ t. IsReady t c.args.wait (floor_by c.args.hub.now c.withdraw.new.pass)) (sym c.withdraw.ensures.same.0.0)
+    (c.withdraw.ensures.ready c.requires.holds)

@@ -11,7 +11,8 @@ asked_given : {A B C : Type 0} (f : A → B) (h : B → Option C) (o o' : Option
     → option_and_then h given ≡ option_and_then h (option_map f o')
 asked_given f h o o' given e is = ap (option_and_then h) (sym is) ∙ ap (λ x. option_and_then h (option_map f x)) e
 
-means_asked : (o : Outcome) (a b : Option Asked) (source source' sink sink' : Stream) → a ≡ b → Means o b source source' sink sink' → Means o a source source' sink sink'
+means_asked : (o : Outcome) (a b : Option Asked) (source source' sink sink' : Stream) → a ≡ b → Means o b source source' sink sink'
+    → Means o a source source' sink sink'
 means_asked o a b source source' sink sink' e m = subst (λ x. Means o x source source' sink sink') (sym e) m
 
 pub returns-in-Ok-Some : goal.returns-in-Ok-Some
@@ -29,7 +30,10 @@ returns-in-Ok-None g c = (
   outcomes.Refused,
   c.leaving-in-Ok-None.ensures.code,
   c.leaving-in-Ok-None.ensures.message,
-  ((asked_given (λ all. all.items) (λ all. asked_of (map string_bytes all)) _ _ _ c.in-Ok-None.field-0-is c.in-Ok-None.ensures, refl), refl),
+  (
+    (asked_given (λ all. all.items) (λ all. asked_of (map string_bytes all)) _ _ _ c.in-Ok-None.field-0-is c.in-Ok-None.ensures, refl),
+    refl,
+  ),
 )
 
 pub returns-in-Err : goal.returns-in-Err

@@ -20,4 +20,5 @@ pub unreachable-requires : goal.unreachable-requires
 unreachable-requires c =
     let read = read_as c.args.n c.deref.result.now c.requires.low c.requires.high (c.deref.ensures.value ∙ c.in_ok-text.ensures) in
     c.in_default.not-Memory
-    (only_memory c.in-Err.fault.kind (reading_of c.deref.result.now ≡ Err c.in-Err.fault) (λ bad. not_both (generated c.args.n) c.in-Err.fault (reading_of c.deref.result.now) read bad) c.in-Err.ensures.exact)
+    (only_memory c.in-Err.fault.kind (reading_of c.deref.result.now ≡ Err c.in-Err.fault)
+    (λ bad. not_both (generated c.args.n) c.in-Err.fault (reading_of c.deref.result.now) read bad) c.in-Err.ensures.exact)

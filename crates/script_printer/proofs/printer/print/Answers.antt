@@ -34,7 +34,8 @@ returns-clause-canonical c =
     c.in_ok-push_channels.ensures ∙ ap₂ (λ (l m : List ℕ). l ++ m) zero (ap channels_text c.channels.ensures) in
     let two : c.push_blocks.new.out.items ≡ (version_text p.version ++ channels_text p.channels) ++ blocks_text p.channels p.blocks =
     c.in_ok-push_blocks.ensures ∙ ap₂ (λ (l m : List ℕ). l ++ m) one (ap₂ blocks_text c.channels-2.ensures c.blocks-2.ensures.blocks) in
-    let three : c.push_spawns.new.out.items ≡ ((version_text p.version ++ channels_text p.channels) ++ blocks_text p.channels p.blocks) ++ spawns_text p.blocks p.spawns =
+    let three : c.push_spawns.new.out.items ≡ ((version_text p.version ++ channels_text p.channels) ++ blocks_text p.channels p.blocks)
+    ++ spawns_text p.blocks p.spawns =
     c.in_ok-push_spawns.ensures ∙ ap₂ (λ (l m : List ℕ). l ++ m) two (ap₂ spawns_text c.blocks-3.ensures.blocks c.spawns.ensures) in
     let vs = flat (version_lines p.version) in
     let xs = flat (map (λ d. channel_words d true true) p.channels) in

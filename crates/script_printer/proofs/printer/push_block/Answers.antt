@@ -22,11 +22,14 @@ returns c =
     let head = (0, coroutine_words (string_bytes b.name)) ∷ [] in
     let code = lines_with channels blocks b.jobs.items b.code.items in
     let end = (0, codes "end" ∷ []) ∷ [] in
-    let one : c.push_head.new.out.items ≡ out ++ text_of head = c.in_ok-push_head.ensures ∙ ap (λ n. out ++ text_of ((0, coroutine_words n) ∷ [])) c.as_bytes.ensures.value in
-    let same : lines_with channels blocks c.deref.result.now c.deref-2.result.now ≡ code = ap₂ (lines_with channels blocks) c.deref.ensures.value c.deref-2.ensures.value in
+    let one : c.push_head.new.out.items ≡ out ++ text_of head = c.in_ok-push_head.ensures
+    ∙ ap (λ n. out ++ text_of ((0, coroutine_words n) ∷ [])) c.as_bytes.ensures.value in
+    let same : lines_with channels blocks c.deref.result.now c.deref-2.result.now ≡ code =
+    ap₂ (lines_with channels blocks) c.deref.ensures.value c.deref-2.ensures.value in
     let two : c.push_code.new.out.items ≡ out ++ text_of (head ++ code) =
     c.in_ok-push_code.ensures
     ∙ ap (λ ls. c.push_head.new.out.items ++ text_of ls) same
     ∙ text_of-more out c.push_head.new.out.items head code one in
-    let three : c.push_end.new.out.items ≡ out ++ text_of ((head ++ code) ++ end) = c.in_ok-push_end.ensures ∙ text_of-more out c.push_code.new.out.items (head ++ code) end two in
+    let three : c.push_end.new.out.items ≡ out ++ text_of ((head ++ code) ++ end) = c.in_ok-push_end.ensures
+    ∙ text_of-more out c.push_code.new.out.items (head ++ code) end two in
     three

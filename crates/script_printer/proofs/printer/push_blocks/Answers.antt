@@ -18,9 +18,11 @@ loop-rest-preserved c =
     let channels = channel_names (map declared_of c.args.channels.now) in
     let blocks = block_names (map block_of c.args.coroutines.now) in
     record {
-      short = (both_true (nat_le (length item.code.items) 1048577) _ (ap (list_all (λ d. nat_le (length d.code.items) 1048577)) (sym parts) ∙ c.loop-rest.invariant.short)).1;
+      short = (both_true (nat_le (length item.code.items) 1048577) _ (ap (list_all (λ d. nat_le (length d.code.items) 1048577)) (sym parts)
+          ∙ c.loop-rest.invariant.short)).1;
       same =
-          text_of-more c.loop-rest.out.items c.push_block.new.out.items (deep_block channels blocks (block_of item)) (deep_blocks channels blocks (map block_of more)) c.in_ok-push_block.ensures
+          text_of-more c.loop-rest.out.items c.push_block.new.out.items (deep_block channels blocks (block_of item))
+          (deep_blocks channels blocks (map block_of more)) c.in_ok-push_block.ensures
           ∙ ap (λ cs. c.loop-rest.out.items ++ text_of (deep_blocks channels blocks (map block_of cs))) (sym parts)
           ∙ c.loop-rest.invariant.same;
     }

@@ -9,8 +9,11 @@ use Rattle.script_printer.proofs.printer.push_blocks.Given as goal
 abbrev pub invariant-loop-rest : goal.invariant-loop-rest
 invariant-loop-rest l = record {
   short : list_all (λ c. nat_le (length c.code.items) 1048577) l.rest ≡ true;
-  same : l.out.items ++ text_of (deep_blocks (channel_names (map declared_of l.channels)) (block_names (map block_of l.coroutines)) (map block_of l.rest))
-      ≡ l.fn.out.items ++ text_of (deep_blocks (channel_names (map declared_of l.channels)) (block_names (map block_of l.coroutines)) (map block_of l.coroutines));
+  same : l.out.items
+      ++ text_of (deep_blocks (channel_names (map declared_of l.channels)) (block_names (map block_of l.coroutines)) (map block_of l.rest))
+      ≡ l.fn.out.items
+      ++ text_of (deep_blocks (channel_names (map declared_of l.channels)) (block_names (map block_of l.coroutines))
+      (map block_of l.coroutines));
 }
 
 abbrev pub decreases-loop-rest : goal.decreases-loop-rest

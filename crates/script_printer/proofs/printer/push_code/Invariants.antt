@@ -6,7 +6,8 @@ use Rattle.script_printer.proofs.printer.push_code.Given as goal
 abbrev pub invariant-loop-rest : goal.invariant-loop-rest
 invariant-loop-rest l = record {
   few : l.depth + length l.rest ≤ length l.code + 1;
-  same : l.out.items ++ text_of (code_lines (names_in l.names) l.depth l.rest) ≡ l.fn.out.items ++ text_of (code_lines (names_in l.names) 1 l.code);
+  same : l.out.items ++ text_of (code_lines (names_in l.names) l.depth l.rest) ≡ l.fn.out.items
+      ++ text_of (code_lines (names_in l.names) 1 l.code);
 }
 
 abbrev pub decreases-loop-rest : goal.decreases-loop-rest

@@ -8,8 +8,10 @@ use Rattle.script_printer.proofs.printer.push_spawns.Given as goal
 
 abbrev pub invariant-loop-rest : goal.invariant-loop-rest
 invariant-loop-rest l =
-    l.out.items ++ text_of (flat (map (λ s. spawn_words (name_of (block_names (map block_of l.coroutines)) s.0) s.1 true) (map spawn_of l.rest)))
-    ≡ l.fn.out.items ++ text_of (flat (map (λ s. spawn_words (name_of (block_names (map block_of l.coroutines)) s.0) s.1 true) (map spawn_of l.spawns)))
+    l.out.items
+    ++ text_of (flat (map (λ s. spawn_words (name_of (block_names (map block_of l.coroutines)) s.0) s.1 true) (map spawn_of l.rest)))
+    ≡ l.fn.out.items
+    ++ text_of (flat (map (λ s. spawn_words (name_of (block_names (map block_of l.coroutines)) s.0) s.1 true) (map spawn_of l.spawns)))
 
 abbrev pub decreases-loop-rest : goal.decreases-loop-rest
 decreases-loop-rest l = length l.rest

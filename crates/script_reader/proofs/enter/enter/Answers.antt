@@ -15,10 +15,13 @@ returns-in-Line c =
     let s = view c.args.reading.now in
     let job = name_in c.in-Line.job in
     let is : said c.args.form ≡ line_is c.in-Line.line job = ap said c.in-Line.is in
-    let weight : c.args.weight ≡ open_weight (option_map (with_line s.weights c.in-Line.line job) s.current) = c.requires.weight ∙ ap (λ f. open_weight (after f s).current) is in
+    let weight : c.args.weight ≡ open_weight (option_map (with_line s.weights c.in-Line.line job) s.current) = c.requires.weight
+    ∙ ap (λ f. open_weight (after f s).current) is in
     record {
       view = on_ok c.enter_open.result _ _
-          (λ h. ap (λ (o : Option Open). let t : Read = record { version = s.version; channels = s.channels; blocks = s.blocks; spawns = s.spawns; weights = s.weights; current = o } in t) (h s.weights weight)
+          (λ h. ap (λ (o : Option Open). let t : Read = record
+          { version = s.version; channels = s.channels; blocks = s.blocks; spawns = s.spawns; weights = s.weights; current = o }
+          in t) (h s.weights weight)
           ∙ ap (λ f. after f s) (sym is))
           c.enter_open.ensures;
     }

@@ -11,11 +11,15 @@ pub returns-in-None : goal.returns-in-None
 returns-in-None c =
     let s = view c.args.reading.now in
     let out : s.current ≡ None = search rules in
-    let none : block_named (codes "main") 0 s.blocks ≡ None = sym (place-named (codes "main") 0 s.blocks) ∙ ap (place_from 0 (codes "main")) (names_of_blocks c.args.reading.now.coroutines.items.items) ∙ sym c.in-None.ensures in
+    let none : block_named (codes "main") 0 s.blocks ≡ None = sym (place-named (codes "main") 0 s.blocks)
+    ∙ ap (place_from 0 (codes "main")) (names_of_blocks c.args.reading.now.coroutines.items.items) ∙ sym c.in-None.ensures in
     finish_no_main s out none
 
 pub returns-in-Some : goal.returns-in-Some
 returns-in-Some c =
     let s = view c.args.reading.now in
-    let out : s.current ≡ None = search rules in
-    (out, sym (place-named (codes "main") 0 s.blocks) ∙ ap (place_from 0 (codes "main")) (names_of_blocks c.args.reading.now.coroutines.items.items) ∙ sym c.in-Some.ensures)
+    let out : s.current ≡ None = search rules in (
+      out,
+      sym (place-named (codes "main") 0 s.blocks) ∙ ap (place_from 0 (codes "main"))
+          (names_of_blocks c.args.reading.now.coroutines.items.items) ∙ sym c.in-Some.ensures,
+    )

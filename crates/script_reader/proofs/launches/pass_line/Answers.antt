@@ -6,4 +6,5 @@ use Rattle.script_reader.proofs.launches.pass_line.Goals as goal
 pub returns-in-Some-clause-nested : goal.returns-in-Some-clause-nested
 returns-in-Some-clause-nested c =
     let pushed : c.push.new.self.items ≡ c.args.blocks.now.items ++ c.in-Some.block ∷ [] = search rules in
-    subst (λ l. AreNested c.args.outer.now.items (length l)) (sym pushed) (nested-append c.args.outer.now.items c.args.blocks.now.items (c.in-Some.block ∷ []) c.requires)
+    subst (λ l. AreNested c.args.outer.now.items (length l)) (sym pushed)
+    (nested-append c.args.outer.now.items c.args.blocks.now.items (c.in-Some.block ∷ []) c.requires)

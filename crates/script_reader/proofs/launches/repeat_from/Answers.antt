@@ -13,5 +13,6 @@ loop-turn-preserved c =
       part = c.loop-turn.invariant.part;
       copies = pushed
           ∙ ap (λ l. c.loop-turn.blocks.items ++ l) (c.deref.ensures.value ∙ c.loop-turn.invariant.part)
-          ∙ repeat-more c.loop-turn._turn (take c.args.from c.args.blocks.now.items) part c.loop-turn.blocks.items c.loop-turn.invariant.copies;
+          ∙ repeat-more c.loop-turn._turn (take c.args.from c.args.blocks.now.items) part c.loop-turn.blocks.items
+          c.loop-turn.invariant.copies;
     }

@@ -13,17 +13,30 @@ returns-then-all-gt-MOST_PLACES c = λ d is.
     let s = view c.args.reading.now in
     let h = c.requires in
     limited-places (after (channel_is d) s) h.kept.within.current
-    (omega (arith, length-append s.channels (d ∷ []), length-map c.args.reading.now.channels.items.items declared_of, c.if-len-ge-MOST_CHANNELS.false, c.len.ensures))
+    (omega (
+      arith,
+      length-append s.channels (d ∷ []),
+      length-map c.args.reading.now.channels.items.items declared_of,
+      c.if-len-ge-MOST_CHANNELS.false,
+      c.len.ensures,
+    ))
     (omega (arith, places_in-push s.channels d, is, h.places, c.if-all-gt-MOST_PLACES.true, c.from.ensures, c.from-2.ensures))
 
 pub returns : goal.returns
 returns c = λ d is.
     let s = view c.args.reading.now in
     let h = c.requires in
-    let places : c.from.result + c.from-2.result ≡ places_in (s.channels ++ d ∷ []) = omega (arith, places_in-push s.channels d, is, h.places, c.from.ensures, c.from-2.ensures) in
+    let places : c.from.result + c.from-2.result ≡ places_in (s.channels ++ d ∷ []) =
+    omega (arith, places_in-push s.channels d, is, h.places, c.from.ensures, c.from-2.ensures) in
     record {
       within = record {
-        channels = omega (arith, length-append s.channels (d ∷ []), length-map c.args.reading.now.channels.items.items declared_of, c.if-len-ge-MOST_CHANNELS.false, c.len.ensures);
+        channels = omega (
+          arith,
+          length-append s.channels (d ∷ []),
+          length-map c.args.reading.now.channels.items.items declared_of,
+          c.if-len-ge-MOST_CHANNELS.false,
+          c.len.ensures,
+        );
         places = omega (arith, places, c.if-all-gt-MOST_PLACES.false);
         current = h.kept.within.current;
         load = h.kept.within.load;

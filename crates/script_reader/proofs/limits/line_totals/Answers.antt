@@ -16,10 +16,14 @@ returns-then-load-gt-MOST_JOBS c = λ job.
     let b = open_of c.args.block.now in
     let h = c.requires.holds in
     let more = product b.nest * own_weight s.weights c.args.line in
-    let selecting : c.is_some.result ≡ is_some b.clauses = c.is_some.ensures ∙ is_some-map (λ (v : Vec ℕ Global). v.items) c.args.block.now.clauses in
-    let deep : c.depth_after.result ≡ length (nest_after b.clauses b.nest c.args.line) = c.depth_after.ensures b.clauses selecting ∙ ap (λ n. length (nest_after b.clauses n c.args.line)) c.deref.ensures.value in
-    let own : c.own_weight.result ≡ own_weight s.weights c.args.line = c.own_weight.ensures ∙ ap (λ w. own_weight w c.args.line) c.deref-2.ensures.value in
-    let grown : c.grown-weight.result ≡ b.weight + more = c.grown-weight.ensures.same c.if-weight-gt-MOST_JOBS.false ∙ ap (λ w. b.weight + product b.nest * w) own in
+    let selecting : c.is_some.result ≡ is_some b.clauses = c.is_some.ensures
+    ∙ is_some-map (λ (v : Vec ℕ Global). v.items) c.args.block.now.clauses in
+    let deep : c.depth_after.result ≡ length (nest_after b.clauses b.nest c.args.line) = c.depth_after.ensures b.clauses selecting
+    ∙ ap (λ n. length (nest_after b.clauses n c.args.line)) c.deref.ensures.value in
+    let own : c.own_weight.result ≡ own_weight s.weights c.args.line = c.own_weight.ensures
+    ∙ ap (λ w. own_weight w c.args.line) c.deref-2.ensures.value in
+    let grown : c.grown-weight.result ≡ b.weight + more = c.grown-weight.ensures.same c.if-weight-gt-MOST_JOBS.false
+    ∙ ap (λ w. b.weight + product b.nest * w) own in
     let added : c.grown-weight.result - c.args.block.now.weight ≡ more = omega (arith, grown) in
     limited-line s b c.args.line job c.requires.current h.kept.within
     (omega (arith, deep, c.if-depth_after-gt-MOST_DEPTH.false))

@@ -5,7 +5,13 @@ returns c =
     let h = c.requires in
     let same = c.same_totals.ensures in
     record {
-      within = record { channels = h.kept.within.channels; places = h.kept.within.places; current = h.kept.within.current; load = h.kept.within.load };
+      within = record {
+        channels = h.kept.within.channels;
+        places = h.kept.within.places;
+        current = h.kept.within.current;
+        load =
+            h.kept.within.load;
+      };
       places = same.places;
       weight = same.weight;
       load = same.load;

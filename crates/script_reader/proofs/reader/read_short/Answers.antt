@@ -16,10 +16,12 @@ returns-in-Err c =
 
 pub returns-in-Ok-finished : goal.returns-in-Ok-finished
 returns-in-Ok-finished c =
-    text_ok c.args.bytes.now (view c.in-Ok.whole.reading) (program_of c.in-Ok-finished.script) c.requires c.in-Ok.ensures.given c.in-Ok-finished.ensures
+    text_ok c.args.bytes.now (view c.in-Ok.whole.reading) (program_of c.in-Ok-finished.script) c.requires c.in-Ok.ensures.given
+    c.in-Ok-finished.ensures
 
 pub returns-in-Err-finished : goal.returns-in-Err-finished
 returns-in-Err-finished c =
     unless_still c.in-Err-finished.kind _ _
-    (λ bad. text_end c.args.bytes.now (view c.in-Ok.whole.reading) c.in-Ok.whole.lines c.in-Err-finished.kind c.requires c.in-Ok.ensures.given bad c.in-Ok.ensures.count)
+    (λ bad. text_end c.args.bytes.now (view c.in-Ok.whole.reading) c.in-Ok.whole.lines c.in-Err-finished.kind c.requires
+    c.in-Ok.ensures.given bad c.in-Ok.ensures.count)
     c.in-Err-finished.ensures

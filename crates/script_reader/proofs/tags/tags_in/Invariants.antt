@@ -8,7 +8,8 @@ use Rattle.script_reader.proofs.tags.tags_in.Given as goal
 abbrev pub invariant-loop-block : goal.invariant-loop-block
 invariant-loop-block l = record {
   lists : AreLists l.lists.items (map block_of l.coroutines);
-  stands : Stands (map block_of l.coroutines) (tags_for (map block_of l.coroutines) (spawned_by (map spawn_of l.spawns)) (Some l.main)) l.tags.items (reverse l.stack.items);
+  stands : Stands (map block_of l.coroutines) (tags_for (map block_of l.coroutines) (spawned_by (map spawn_of l.spawns)) (Some l.main))
+      l.tags.items (reverse l.stack.items);
 }
 
 abbrev pub decreases-loop-block : goal.decreases-loop-block

@@ -16,7 +16,8 @@ lines-init c =
     let empty = c.empty-reading.ensures in
     let text = c.trimmed-rest.ensures in
     record {
-      says = ap (λ s. lines_from 1 s (slice_split is_line_feed c.trimmed-rest.result.now)) empty.view ∙ ap (λ (l : List ℕ). lines_from 1 start (slice_split is_line_feed l)) text;
+      says = ap (λ s. lines_from 1 s (slice_split is_line_feed c.trimmed-rest.result.now)) empty.view
+          ∙ ap (λ (l : List ℕ). lines_from 1 start (slice_split is_line_feed l)) text;
       count = omega (arith, ap (λ (l : List ℕ). length (slice_split is_line_feed l)) text);
       holds = record {
         kept = subst IsKept (sym empty.view) IsKept-start;
@@ -29,13 +30,15 @@ lines-init c =
 pub returns-in-Err-clause-given : goal.returns-in-Err-clause-given
 returns-in-Err-clause-given c =
     unless_still c.in-Err.kind _ _
-    (λ bad. lines_fail c.lines.number (view c.lines.reading) c.in-Err.kind c.lines.rest.now _ _ _ c.lines.invariant.says c.first_line.ensures.cut bad)
+    (λ bad. lines_fail c.lines.number (view c.lines.reading) c.in-Err.kind c.lines.rest.now _ _ _ c.lines.invariant.says
+    c.first_line.ensures.cut bad)
     c.in-Err.ensures.left
 
 pub returns-in_default-more-clause-given : goal.returns-in_default-more-clause-given
 returns-in_default-more-clause-given c =
     let cut = rw c.in_default-more.is at c.first_line.ensures.cut in
-    lines_end c.lines.number (view c.lines.reading) (view c.line_in.new.reading) c.lines.rest.now _ _ c.lines.invariant.says cut c.in_default.ensures.left
+    lines_end c.lines.number (view c.lines.reading) (view c.line_in.new.reading) c.lines.rest.now _ _ c.lines.invariant.says cut
+    c.in_default.ensures.left
 
 pub returns-in_default-more-clause-short : goal.returns-in_default-more-clause-short
 returns-in_default-more-clause-short c =
@@ -45,7 +48,8 @@ returns-in_default-more-clause-short c =
 pub overflow_add-number : goal.overflow_add-number
 overflow_add-number c =
     let cut = rw c.in-Some.is at c.first_line.ensures.cut in
-    let count = counted_more c.lines.number c.lines.rest.now _ c.in-Some.next (length (lines_of c.args.bytes.now)) c.lines.invariant.count cut in
+    let count = counted_more c.lines.number c.lines.rest.now _ c.in-Some.next (length (lines_of c.args.bytes.now)) c.lines.invariant.count
+    cut in
     omega (arith, count, c.requires, few_lines c.args.bytes.now)
 
 pub lines-preserved : goal.lines-preserved
@@ -54,8 +58,10 @@ lines-preserved c =
     let less = rw c.in-Some.is at c.first_line.ensures.less in
     let ok = c.in_default.ensures.left in
     record {
-      says = lines_more c.lines.number (view c.lines.reading) (view c.line_in.new.reading) c.lines.rest.now _ c.in-Some.next _ c.lines.invariant.says cut ok;
-      count = counted_more c.lines.number c.lines.rest.now _ c.in-Some.next (length (lines_of c.args.bytes.now)) c.lines.invariant.count cut;
+      says = lines_more c.lines.number (view c.lines.reading) (view c.line_in.new.reading) c.lines.rest.now _ c.in-Some.next _
+          c.lines.invariant.says cut ok;
+      count = counted_more c.lines.number c.lines.rest.now _ c.in-Some.next (length (lines_of c.args.bytes.now)) c.lines.invariant.count
+          cut;
       holds = c.in_default.ensures.holds;
       short = omega (arith, c.lines.invariant.short, less, line_cost (view c.lines.reading) (view c.line_in.new.reading) _ ok);
     }

@@ -15,7 +15,8 @@ totals_after-requires-clause-said c =
 pub enter-requires-clause-can : goal.enter-requires-clause-can
 enter-requires-clause-can c =
     let s = view c.args.reading.now in
-    CanEnter-from_Says s _ (said c.in_ok-form.form) c.requires.holds.kept (form_found s s.current _ _ (said c.in_ok-form.form) refl c.in_ok-form.ensures)
+    CanEnter-from_Says s _ (said c.in_ok-form.form) c.requires.holds.kept
+    (form_found s s.current _ _ (said c.in_ok-form.form) refl c.in_ok-form.ensures)
 
 pub returns-clause-holds : goal.returns-clause-holds
 returns-clause-holds c =

@@ -8,12 +8,14 @@ lanes-init c = none_looked_at _
 pub lanes-preserved : goal.lanes-preserved
 lanes-preserved c =
     let lt : c.lanes.next < length c.lanes.others.items = omega (arith, c.lanes-test.true, c.len.ensures) in
-    looked_next c.lanes.next c.args.others.now.items c.lanes.others.items c.index_mut.result.now c.take.new.self c.lanes.invariant c.index_mut.ensures.value lt c.in-None.ensures
+    looked_next c.lanes.next c.args.others.now.items c.lanes.others.items c.index_mut.result.now c.take.new.self c.lanes.invariant
+    c.index_mut.ensures.value lt c.in-None.ensures
 
 pub returns-in-Some : goal.returns-in-Some
 returns-in-Some c =
     let lt : c.lanes.next < length c.lanes.others.items = omega (arith, c.lanes-test.true, c.len.ensures) in
-    took_next c.lanes.next c.in-Some.ticket c.args.others.now.items c.lanes.others.items c.index_mut.result.now c.take.new.self c.lanes.invariant c.index_mut.ensures.value lt c.in-Some.ensures
+    took_next c.lanes.next c.in-Some.ticket c.args.others.now.items c.lanes.others.items c.index_mut.result.now c.take.new.self
+    c.lanes.invariant c.index_mut.ensures.value lt c.in-Some.ensures
 
 pub returns : goal.returns
 returns c =

@@ -6,7 +6,8 @@ use Rattle.task_berths.specs.Answers.{HaveTags}
 use Rattle.task_berths.proofs.closing.move_out.Given as goal
 
 abbrev pub invariant-loop-i : goal.invariant-loop-i
-invariant-loop-i g l = (Filled (slots_filled l.closed.slots) l.i (slots_len l.closed.slots) × ((k : ℕ) → k < l.i → get_or (slots_filled l.closed.slots) k false ≡ false))
+invariant-loop-i g l = (Filled (slots_filled l.closed.slots) l.i (slots_len l.closed.slots)
+    × ((k : ℕ) → k < l.i → get_or (slots_filled l.closed.slots) k false ≡ false))
     × (((slots_len l.closed.slots ≡ l.count) × (slots_items l.closed.slots ≡ slots_items l.initial.closed.slots))
     × ((l.i ≤ l.count) × ((vec_len l.room ≡ l.i) × ((l.count ≤ vec_capacity l.room) × HaveTags g.T.Tagged.tag_of l.room.items))))
 

@@ -16,5 +16,6 @@ loop-own-preserved g c =
     record {
       main = (c.split.ensures.main, ap (λ (v : SeatView). v.held) view ∙ i.main.1);
       counts = (omega (arith, whole, more, fewer), omega (arith, splits, before, more), ap (λ (v : SeatView). v.ends) view ∙ i.counts.2);
-      seats = rw c.in_ok-push.ensures.items (All-push (λ hand. IsSeatOf c.args.berths.now hand.seat) c.loop-own.hands.items _ i.seats c.split.ensures.seat);
+      seats = rw c.in_ok-push.ensures.items (All-push (λ hand. IsSeatOf c.args.berths.now hand.seat) c.loop-own.hands.items _ i.seats
+          c.split.ensures.seat);
     }

@@ -10,8 +10,10 @@ leave-requires-clause-tag g c =
 
 pub returns-then-leave-clause-held : goal.returns-then-leave-clause-held
 returns-then-leave-clause-held g c =
-    held_left _ _ _ _ _ _ (ap (λ o. tag_at g.T.Tagged.tag_of o) c.in-Some.is ∙ ap Some (sym c.tag-tag.ensures)) c.requires.held (ap (λ (v : SeatView). v.held) c.leave.ensures.left.now)
+    held_left _ _ _ _ _ _ (ap (λ o. tag_at g.T.Tagged.tag_of o) c.in-Some.is
+    ∙ ap Some (sym c.tag-tag.ensures)) c.requires.held (ap (λ (v : SeatView). v.held) c.leave.ensures.left.now)
 
 pub returns-else-leave-clause-held : goal.returns-else-leave-clause-held
 returns-else-leave-clause-held g c =
-    held_left _ _ _ _ _ _ (ap (λ o. tag_at g.T.Tagged.tag_of o) c.in-Some.is ∙ ap Some (sym c.tag-tag.ensures)) c.requires.held (ap (λ (v : SeatView). v.held) c.leave.ensures.left.now)
+    held_left _ _ _ _ _ _ (ap (λ o. tag_at g.T.Tagged.tag_of o) c.in-Some.is
+    ∙ ap Some (sym c.tag-tag.ensures)) c.requires.held (ap (λ (v : SeatView). v.held) c.leave.ensures.left.now)

@@ -19,5 +19,6 @@ returns c =
     record {
       own = (c.look-state.ensures.of, ap (λ (f : ℕ → Bool). f c.args.who) answer.0.same.callers ∙ c.requires.own.1);
       holds = wait_looked c.args.who w old new legal answer.0 c.requires.holds;
-      ready = λ e. ready_looked c.args.who w old new legal c.requires.holds (subst (λ r. LookAnswer c.args.who w old new r) (c.is_end.ensures e) answer);
+      ready = λ e. ready_looked c.args.who w old new legal c.requires.holds
+          (subst (λ r. LookAnswer c.args.who w old new r) (c.is_end.ensures e) answer);
     }

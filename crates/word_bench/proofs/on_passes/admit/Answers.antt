@@ -13,5 +13,6 @@ returns c =
     let same = admit_callers c.args.who 0 c.args.mark old new c.admit.result c.admit.ensures.answer in
     record {
       own = (c.admit.ensures.of, ap (λ (f : ℕ → Bool). f c.args.who) same ∙ c.requires.own.1);
-      keeps = λ p h. plain_admit c.args.who 0 c.args.mark (spot 0 p) old new c.admit.result (hub_legal c.args.hub.now c.admit.new.pass c.admit.ensures.of) c.admit.ensures.answer h;
+      keeps = λ p h. plain_admit c.args.who 0 c.args.mark (spot 0 p) old new c.admit.result
+          (hub_legal c.args.hub.now c.admit.new.pass c.admit.ensures.of) c.admit.ensures.answer h;
     }

@@ -11,5 +11,6 @@ returns c =
     let new = hub_floor c.args.hub.now c.mark.new.pass in
     record {
       own = (c.mark.ensures.of, ap (λ (f : ℕ → Bool). f c.args.who) c.mark.ensures.answer.0.same.callers ∙ c.requires.own.1);
-      keeps = λ p h. plain_looked c.args.who (spot 0 p) old new (hub_legal c.args.hub.now c.mark.new.pass c.mark.ensures.of) c.mark.ensures.answer.0 h;
+      keeps = λ p h. plain_looked c.args.who (spot 0 p) old new (hub_legal c.args.hub.now c.mark.new.pass c.mark.ensures.of)
+          c.mark.ensures.answer.0 h;
     }

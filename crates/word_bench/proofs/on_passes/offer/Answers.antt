@@ -12,5 +12,6 @@ returns c =
     let same = offer_callers c.args.who c.args.c c.args.value old new c.offer.result c.offer.ensures.answer in
     record {
       own = (c.offer.ensures.of, ap (λ (f : ℕ → Bool). f c.args.who) same ∙ c.requires.own.1);
-      begins = offer_begins c.args.who c.args.c old new c.offer.new.pass refl (hub_legal c.args.hub.now c.offer.new.pass c.offer.ensures.of) c.args.value c.offer.result c.offer.ensures.answer;
+      begins = offer_begins c.args.who c.args.c old new c.offer.new.pass refl (hub_legal c.args.hub.now c.offer.new.pass c.offer.ensures.of)
+          c.args.value c.offer.result c.offer.ensures.answer;
     }

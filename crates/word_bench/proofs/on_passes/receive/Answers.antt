@@ -12,5 +12,6 @@ returns c =
     let same = got_callers c.args.who 0 old new c.receive.result c.receive.ensures.answer in
     record {
       own = (c.receive.ensures.of, ap (λ (f : ℕ → Bool). f c.args.who) same ∙ c.requires.own.1);
-      begins = wait_begins c.args.who 0 old new c.receive.new.pass refl (hub_legal c.args.hub.now c.receive.new.pass c.receive.ensures.of) c.receive.result c.receive.ensures.answer;
+      begins = wait_begins c.args.who 0 old new c.receive.new.pass refl (hub_legal c.args.hub.now c.receive.new.pass c.receive.ensures.of)
+          c.receive.result c.receive.ensures.answer;
     }

@@ -5,5 +5,6 @@ use Rattle.word_bench.proofs.on_passes.try_offer.Goals as goal
 
 pub returns : goal.returns
 returns c =
-    let same = try_offer_callers c.args.who 0 c.args.value (hub_floor c.args.hub.now c.args.pass.now) (hub_floor c.args.hub.now c.try_offer.new.pass) c.try_offer.result c.try_offer.ensures.answer in
+    let same = try_offer_callers c.args.who 0 c.args.value (hub_floor c.args.hub.now c.args.pass.now)
+    (hub_floor c.args.hub.now c.try_offer.new.pass) c.try_offer.result c.try_offer.ensures.answer in
     record { own = (c.try_offer.ensures.of, ap (λ (f : ℕ → Bool). f c.args.who) same ∙ c.requires.own.1) }

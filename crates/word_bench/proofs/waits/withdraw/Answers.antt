@@ -6,5 +6,6 @@ use Rattle.word_bench.proofs.waits.withdraw.Goals as goal
 
 pub returns-then-is_own : goal.returns-then-is_own
 returns-then-is_own c =
-    let same = withdraw_callers c.args.who (spot 0 c.args.place) _ (hub_floor c.args.hub.now c.is_own.new.pass) (hub_floor c.args.hub.now c.withdraw.new.pass) c.withdraw.result c.withdraw.ensures.answer in
+    let same = withdraw_callers c.args.who (spot 0 c.args.place) _ (hub_floor c.args.hub.now c.is_own.new.pass)
+    (hub_floor c.args.hub.now c.withdraw.new.pass) c.withdraw.result c.withdraw.ensures.answer in
     record { own = (c.withdraw.ensures.of, ap (λ (f : ℕ → Bool). f c.args.who) same ∙ c.is_own.ensures.own.1) }

@@ -10,6 +10,10 @@ returns c =
     let b = hub_floor c.args.hub.now c.offer.new.pass in
     let h = c.offer.ensures in
     record {
-      own = (h.of, ap (λ (f : ℕ → Bool). f c.args.who) (offer_callers c.args.who 0 c.args.value a b c.offer.result h.answer) ∙ c.requires.own.1);
+      own = (
+        h.of,
+        ap (λ (f : ℕ → Bool). f c.args.who) (offer_callers c.args.who 0 c.args.value a b c.offer.result h.answer)
+            ∙ c.requires.own.1,
+      );
       put = offer_puts c.args.who 0 c.args.value a b c.offer.result h.answer;
     }

@@ -8,4 +8,10 @@ returns c =
     let a = hub_floor c.args.hub.now c.args.pass.now in
     let b = hub_floor c.args.hub.now c.spurn.new.pass in
     let h = c.spurn.ensures in
-    record { own = (h.of, ap (λ (f : ℕ → Bool). f c.args.who) (spurn_callers c.args.who 0 c.args.place a b c.spurn.result h.answer) ∙ c.requires.own.1) }
+    record {
+      own = (
+        h.of,
+        ap (λ (f : ℕ → Bool). f c.args.who) (spurn_callers c.args.who 0 c.args.place a b c.spurn.result h.answer)
+            ∙ c.requires.own.1,
+      );
+    }

@@ -3,7 +3,9 @@ use Rattle.floor_tests.proofs.SeenBetween.{registers_still, register_offer_behin
 use Rattle.floor_tests.proofs.between_calls.BetweenChannelFloor.register_offer.Goals as goal
 
 pub register_offer-requires-clause-joins : goal.register_offer-requires-clause-joins
-register_offer-requires-clause-joins g c = registers_still _ _ _ _ _ (c.meet.ensures.users _ (not_other _ _ c.requires.can.caller)) (g.met.F.ChannelFloor.legal c.meet.new.self.floor) _ _ c.args.main c.requires.joins
+register_offer-requires-clause-joins g c = registers_still _ _ _ _ _ (c.meet.ensures.users _ (not_other _ _ c.requires.can.caller))
+    (g.met.F.ChannelFloor.legal c.meet.new.self.floor) _ _ c.args.main c.requires.joins
 
 pub returns-clause-answer : goal.returns-clause-answer
-returns-clause-answer g c = register_offer_behind _ _ _ _ _ _ (c.meet.ensures.users _ (not_other _ _ c.requires.can.caller)) c.args.main c.args.clause c.args.c c.args.value _ c.register_offer.ensures.answer
+returns-clause-answer g c = register_offer_behind _ _ _ _ _ _ (c.meet.ensures.users _ (not_other _ _ c.requires.can.caller)) c.args.main
+    c.args.clause c.args.c c.args.value _ c.register_offer.ensures.answer

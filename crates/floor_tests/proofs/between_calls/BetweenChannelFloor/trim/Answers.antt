@@ -12,4 +12,5 @@ trim-requires-clause-own g c =
     subst (λ acts. list_any (is_put_at c.args.c c.args.mine) acts ≡ true) (sym k.look.mine) c.requires.own
 
 pub returns-clause-answer : goal.returns-clause-answer
-returns-clause-answer g c = trim_behind _ _ _ _ _ _ (c.meet.ensures.users _ (not_other _ _ c.requires.can.caller)) _ _ _ c.trim.ensures.answer
+returns-clause-answer g c = trim_behind _ _ _ _ _ _ (c.meet.ensures.users _ (not_other _ _ c.requires.can.caller)) _ _ _
+    c.trim.ensures.answer

@@ -3,7 +3,8 @@ use Rattle.floor_tests.proofs.SeenBetween.{closed_still, void_behind}
 use Rattle.floor_tests.proofs.between_calls.BetweenChannelFloor.void.Goals as goal
 
 pub void-requires-clause-closed : goal.void-requires-clause-closed
-void-requires-clause-closed g c = closed_still c.args.who _ _ _ _ (c.meet.ensures.users c.args.who (not_other _ _ c.requires.can.caller)) (g.met.F.ChannelFloor.legal c.meet.new.self.floor) _ c.requires.closed
+void-requires-clause-closed g c = closed_still c.args.who _ _ _ _ (c.meet.ensures.users c.args.who (not_other _ _ c.requires.can.caller))
+    (g.met.F.ChannelFloor.legal c.meet.new.self.floor) _ c.requires.closed
 
 pub returns-clause-answer : goal.returns-clause-answer
 returns-clause-answer g c = void_behind _ _ _ _ _ _ (c.meet.ensures.users _ (not_other _ _ c.requires.can.caller)) _ _ c.void.ensures.answer

@@ -8,10 +8,13 @@ use Rattle.parcel_channel.proofs.hub.ParcelHub.look.Goals as goal
 pub returns-clause-holds : goal.returns-clause-holds
 returns-clause-holds g c h =
     let hub = c.args.self.now.hub in
-    look_holds c.args.pass.now.tag c.args.wait (hub_floor hub c.args.pass.now.pass) (hub_floor hub c.look.new.pass) (hub_legal hub c.look.new.pass c.look.ensures.own.0) c.look.ensures.answer.0 h
+    look_holds c.args.pass.now.tag c.args.wait (hub_floor hub c.args.pass.now.pass) (hub_floor hub c.look.new.pass)
+    (hub_legal hub c.look.new.pass c.look.ensures.own.0) c.look.ensures.answer.0 h
 
 pub returns-clause-ready : goal.returns-clause-ready
 returns-clause-ready g c h is =
     let hub = c.args.self.now.hub in
-    look_ready c.args.pass.now.tag c.args.wait (hub_floor hub c.args.pass.now.pass) (hub_floor hub c.look.new.pass) (hub_legal hub c.look.new.pass c.look.ensures.own.0)
-    (subst (λ r. LookAnswer c.args.pass.now.tag c.args.wait (hub_floor hub c.args.pass.now.pass) (hub_floor hub c.look.new.pass) r) is c.look.ensures.answer) h
+    look_ready c.args.pass.now.tag c.args.wait (hub_floor hub c.args.pass.now.pass) (hub_floor hub c.look.new.pass)
+    (hub_legal hub c.look.new.pass c.look.ensures.own.0)
+    (subst (λ r. LookAnswer c.args.pass.now.tag c.args.wait (hub_floor hub c.args.pass.now.pass) (hub_floor hub c.look.new.pass) r) is
+    c.look.ensures.answer) h

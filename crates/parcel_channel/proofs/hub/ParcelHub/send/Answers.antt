@@ -11,5 +11,7 @@ returns-in-Ok-clause-answer g c =
     let q = c.put_value.new.pass in
     let r = c.send_number.new.pass in
     let same = c.put_value.ensures.same in
-    send_told hub.parcels p.tag c.in-Ok.number c.args.value p.seat.me.0 q.seat.me.0 r.seat.me.0 (floor_by hub p) (floor_by hub r) c.send_number.result c.in-Ok.ensures.answer
-    (number_by q.tag p.tag c.in-Ok.number q.seat.me.0 r.seat.me.0 (floor_by hub q) (floor_by hub p) (floor_by hub r) c.send_number.result same.0 (ap (λ x. hub_floor hub.hub x) same.1) c.send_number.ensures.answer)
+    send_told hub.parcels p.tag c.in-Ok.number c.args.value p.seat.me.0 q.seat.me.0 r.seat.me.0 (floor_by hub p) (floor_by hub r)
+    c.send_number.result c.in-Ok.ensures.answer
+    (number_by q.tag p.tag c.in-Ok.number q.seat.me.0 r.seat.me.0 (floor_by hub q) (floor_by hub p) (floor_by hub r) c.send_number.result
+    same.0 (ap (λ x. hub_floor hub.hub x) same.1) c.send_number.ensures.answer)

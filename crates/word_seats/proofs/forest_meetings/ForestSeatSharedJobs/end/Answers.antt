@@ -3,7 +3,8 @@ use Rattle.word_seats.proofs.SeatsTell.{ended_on_jobs, no_jobs, no_rows}
 use Rattle.word_seats.proofs.forest_meetings.ForestSeatSharedJobs.end.Goals as goal
 
 pub returns-clause-ended : goal.returns-clause-ended
-returns-clause-ended g c = ended_on_jobs (seen_by c.args.self.now.pass) (seen_by c.args.other.pass) (seen_by c.end.new.main) c.end.ensures.ended
+returns-clause-ended g c = ended_on_jobs (seen_by c.args.self.now.pass) (seen_by c.args.other.pass) (seen_by c.end.new.main)
+    c.end.ensures.ended
 
 pub returns-clause-none : goal.returns-clause-none
 returns-clause-none g c = no_jobs (seen_by c.end.new.main) c.end.new.main.ungiven

@@ -3,4 +3,5 @@ use Rattle.word_seats.proofs.SeatsTell.{met_on_jobs}
 use Rattle.word_seats.proofs.forest_meetings.ForestSeatSharedJobs.meet.Goals as goal
 
 pub returns-clause-met : goal.returns-clause-met
-returns-clause-met g c = met_on_jobs (seen_by c.args.self.now.pass) (seen_by c.args.other.now.pass) (seen_by c.meet.new.a) (seen_by c.meet.new.b) c.meet.ensures.met c.meet.ensures.same
+returns-clause-met g c = met_on_jobs (seen_by c.args.self.now.pass) (seen_by c.args.other.now.pass) (seen_by c.meet.new.a)
+    (seen_by c.meet.new.b) c.meet.ensures.met c.meet.ensures.same

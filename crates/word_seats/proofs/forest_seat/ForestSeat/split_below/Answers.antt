@@ -14,8 +14,10 @@ loop-tag-preserved g c =
     let main = floor_seen (seen_by c.args.self.now.pass) in
     record {
       same = c.split.ensures.same ∙ i.same;
-      rest = subst (λ (a : ForestSeatAnchor). NobodyFrom (c.loop-tag.tag + 1) (forest_may_act a)) (sym c.split.ensures.gives) (nobody_more old.pass.seat.me.0.chief old.pass.seat.me.0.given c.loop-tag.tag i.rest);
+      rest = subst (λ (a : ForestSeatAnchor). NobodyFrom (c.loop-tag.tag + 1) (forest_may_act a)) (sym c.split.ensures.gives)
+          (nobody_more old.pass.seat.me.0.chief old.pass.seat.me.0.given c.loop-tag.tag i.rest);
       count = counted c.loop-tag.seats.items c.push.new.self.items c.loop-tag.tag c.split.result c.in_ok-push.ensures.items i.count;
-      seats = job_seats_more c.loop-tag.seats.items c.push.new.self.items c.loop-tag.tag c.split.result (λ s. floor_seen (seen_by s.pass)) main c.in_ok-push.ensures.items i.count i.seats
+      seats = job_seats_more c.loop-tag.seats.items c.push.new.self.items c.loop-tag.tag c.split.result (λ s. floor_seen (seen_by s.pass))
+          main c.in_ok-push.ensures.items i.count i.seats
           (subst (λ (f : Floor). IsNewJobFloor c.loop-tag.tag f (floor_seen (seen_by c.split.result.pass))) i.same c.split.ensures.seat);
     }

@@ -9,7 +9,9 @@ pub returns-clause-same : goal.returns-clause-same
 returns-clause-same g c = same_floor c.args.self.now.hub.now c.args.self.now.pass c.split.new.pass c.split.ensures.same c.split.ensures.tags
 
 pub returns-clause-gives : goal.returns-clause-gives
-returns-clause-gives g c = hub_gives c.args.self.now.hub.now c.args.self.now.pass c.split.new.pass c.args.tag c.requires c.split.ensures.gives
+returns-clause-gives g c = hub_gives c.args.self.now.hub.now c.args.self.now.pass c.split.new.pass c.args.tag c.requires
+    c.split.ensures.gives
 
 pub returns-clause-seat : goal.returns-clause-seat
-returns-clause-seat g c = new_floor c.args.self.now.hub.now c.args.self.now.pass c.split.result c.args.tag c.split.ensures.callers c.split.ensures.sees c.split.ensures.none
+returns-clause-seat g c = new_floor c.args.self.now.hub.now c.args.self.now.pass c.split.result c.args.tag c.split.ensures.callers
+    c.split.ensures.sees c.split.ensures.none

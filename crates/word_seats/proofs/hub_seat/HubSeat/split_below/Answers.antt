@@ -13,8 +13,11 @@ loop-tag-preserved g c =
     let main = hub_floor c.args.self.now.hub.now c.args.self.now.pass in
     record {
       same = c.split.ensures.same ∙ i.same;
-      rest = subst (λ (a : HubSeatAnchor). NobodyFrom (c.loop-tag.tag + 1) (hub_may_act a)) (sym c.split.ensures.gives) (nobody_more old.pass.seat.me.0.chief old.pass.seat.me.0.given c.loop-tag.tag i.rest);
+      rest = subst (λ (a : HubSeatAnchor). NobodyFrom (c.loop-tag.tag + 1) (hub_may_act a)) (sym c.split.ensures.gives)
+          (nobody_more old.pass.seat.me.0.chief old.pass.seat.me.0.given c.loop-tag.tag i.rest);
       count = counted c.loop-tag.seats.items c.push.new.self.items c.loop-tag.tag c.split.result c.in_ok-push.ensures.items i.count;
-      seats = seats_more c.loop-tag.seats.items c.push.new.self.items c.loop-tag.tag c.split.result (λ s. hub_floor s.hub.now s.pass) main c.in_ok-push.ensures.items i.count i.seats
-          (subst (λ (f : Floor). IsNewFloor c.loop-tag.tag f (hub_floor c.split.result.hub.now c.split.result.pass)) i.same c.split.ensures.seat);
+      seats = seats_more c.loop-tag.seats.items c.push.new.self.items c.loop-tag.tag c.split.result (λ s. hub_floor s.hub.now s.pass) main
+          c.in_ok-push.ensures.items i.count i.seats
+          (subst (λ (f : Floor). IsNewFloor c.loop-tag.tag f (hub_floor c.split.result.hub.now c.split.result.pass)) i.same
+          c.split.ensures.seat);
     }
