@@ -14,6 +14,7 @@ use channel_model::AlreadyClosed;
 use co_base::{ChannelId, Place, Tag, Value};
 
 /// A place that the channel does not end before: the higher of the two counters.
+#[inline(always)]
 fn end_from(hub: &Hub, pass: &mut Pass, who: Tag, c: ChannelId) -> Place
     requires own { IsOwn hub.now pass.old who }
     requires channel { c < length (shape_of hub.now) }
@@ -27,6 +28,7 @@ fn end_from(hub: &Hub, pass: &mut Pass, who: Tag, c: ChannelId) -> Place
 }
 
 /// Where a channel ends, by a walk from a place that it does not end before, and the value with which it was closed.
+#[inline(always)]
 fn find_end_from(
     hub: &Hub,
     pass: &mut Pass,
@@ -65,6 +67,7 @@ pub(crate) fn find_end(hub: &Hub, pass: &mut Pass, who: Tag, c: ChannelId) -> (P
 }
 
 /// The value with which the channel was closed, if it was, looked for from a place that it does not end before.
+#[inline(always)]
 pub(crate) fn find_closed_from(
     hub: &Hub,
     pass: &mut Pass,

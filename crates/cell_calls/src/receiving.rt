@@ -29,6 +29,7 @@ pub(crate) enum ReceiveWalk {
 }
 
 /// What is at a place; the receiver is placed where the channel ends, if it may wait.
+#[inline(always)]
 fn await_here(hub: &Hub, pass: &mut Pass, who: Tag, c: ChannelId, place: Place, waits: bool) -> At
     requires own { IsOwn hub.now pass.old who }
     requires at { IsCell (shape_of hub.now) c place }
@@ -44,6 +45,7 @@ fn await_here(hub: &Hub, pass: &mut Pass, who: Tag, c: ChannelId, place: Place, 
 }
 
 /// Receives the first offer, or places a receiver if the caller may wait; and which places the walk passed.
+#[inline(always)]
 fn walk_cells(hub: &Hub, pass: &mut Pass, who: Tag, c: ChannelId, waits: bool) -> (ReceiveWalk, Way)
     requires of { IsOf hub.now pass.old }
     requires can { MayCall who c (hub_floor hub.now pass.old) }
@@ -94,6 +96,7 @@ fn walk_cells(hub: &Hub, pass: &mut Pass, who: Tag, c: ChannelId, waits: bool) -
 }
 
 /// Receives by a walk, and raises the receive counter past the places where no offer stands any more.
+#[inline(always)]
 fn walk(hub: &Hub, pass: &mut Pass, who: Tag, c: ChannelId, waits: bool) -> ReceiveWalk
     requires of { IsOf hub.now pass.old }
     requires can { MayCall who c (hub_floor hub.now pass.old) }

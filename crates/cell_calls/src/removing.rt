@@ -10,6 +10,7 @@ use cell_words::{Hub, Pass, Removal, Tried, Waiter, remove, remove_admitted};
 use co_base::{ChannelId, Place, Tag};
 
 /// Removes the offer that was placed here, if it stands: `Some(None)` where nobody waited with it any more.
+#[inline(always)]
 pub(crate) fn remove_offer(
     hub: &Hub,
     pass: &mut Pass,

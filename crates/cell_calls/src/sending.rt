@@ -41,6 +41,7 @@ pub(crate) enum OfferWalk {
 }
 
 /// Gives the element to the receiver at a place. It has to know that the channel was open, since a receiver may stand after a close.
+#[inline(always)]
 fn give(
     hub: &Hub,
     pass: &mut Pass,
@@ -72,6 +73,7 @@ fn give(
 
 /// Gives the element to the receiver that stands first, or puts it, or places an offer if the caller may wait; and which places the walk
 /// passed.
+#[inline(always)]
 fn walk_cells(
     hub: &Hub,
     pass: &mut Pass,
@@ -115,6 +117,7 @@ fn walk_cells(
 }
 
 /// Offers by a walk, and raises the send counter past the places where nobody receives any more.
+#[inline(always)]
 fn walk(hub: &Hub, pass: &mut Pass, who: Tag, c: ChannelId, value: Value, waits: bool) -> OfferWalk
     requires of { IsOf hub.now pass.old }
     requires can { MayCall who c (hub_floor hub.now pass.old) }

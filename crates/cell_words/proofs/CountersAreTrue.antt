@@ -21,8 +21,8 @@ max_most n k P a b = dite (dec_le n k) (λ le. let e : k ≡ max n k = omega ari
 same_channel : (shape : Shape) (c d : ℕ) → send_number shape c ≡ send_number shape d → c ≡ d
 same_channel shape c d e = omega arith
 
-same_channel_odd : (shape : Shape) (c d : ℕ) → receive_number shape c ≡ receive_number shape d → c ≡ d
-same_channel_odd shape c d e = omega arith
+same_channel_received : (shape : Shape) (c d : ℕ) → receive_number shape c ≡ receive_number shape d → c ≡ d
+same_channel_received shape c d e = omega arith
 
 send_not_receive : (shape : Shape) (c d : ℕ) → send_number shape c ≡ receive_number shape d → ⊥
 send_not_receive shape c d e = omega arith
@@ -30,11 +30,11 @@ send_not_receive shape c d e = omega arith
 same_channel_run : (shape : Shape) (c d : ℕ) → run_number shape c ≡ run_number shape d → c ≡ d
 same_channel_run shape c d e = omega arith
 
-send_not_run : (shape : Shape) (c d : ℕ) → c < length shape → send_number shape c ≡ run_number shape d → ⊥
-send_not_run shape c d lc e = omega arith
+send_not_run : (shape : Shape) (c d : ℕ) → send_number shape c ≡ run_number shape d → ⊥
+send_not_run shape c d e = omega arith
 
-receive_not_run : (shape : Shape) (c d : ℕ) → c < length shape → receive_number shape c ≡ run_number shape d → ⊥
-receive_not_run shape c d lc e = omega arith
+receive_not_run : (shape : Shape) (c d : ℕ) → receive_number shape c ≡ run_number shape d → ⊥
+receive_not_run shape c d e = omega arith
 
 pub raises_sends : (shape : Shape) (c k : ℕ) (v : Seen) → c < length shape → NoneBelow k 0 (at_channel v.seen c)
     → MayLift (Legal shape) (Fits shape) maker v (send_number shape c) k
@@ -45,19 +45,19 @@ raises_sends shape c k v lc low others n added f = record {
       (subst (λ z. NoneBelow k 0 ((replay (v.seen ++ others)).channels z)) (same_channel shape c d e)
       (below_lasts shape v.seen others c k 0 added.is_legal low));
   receives = λ d ld e. absurd (send_not_receive shape c d e);
-  run = λ d ld e. absurd (send_not_run shape c d lc e);
+  run = λ d ld e. absurd (send_not_run shape c d e);
 }
 
 pub raises_receives : (shape : Shape) (c k : ℕ) (v : Seen) → c < length shape → NoneBelow 0 k (at_channel v.seen c)
     → MayLift (Legal shape) (Fits shape) maker v (receive_number shape c) k
 raises_receives shape c k v lc low others n added f = record {
-  cell = λ d q ld lq e. absurd (cell_not_receive shape d c q (sym e));
-  wait = λ d q ld lq e. absurd (wait_not_receive shape d c q ld lq (sym e));
+  cell = λ d q ld lq e. absurd (cell_not_receive shape d c q ld lq (sym e));
+  wait = λ d q ld lq e. absurd (wait_not_receive shape d c q (sym e));
   sends = λ d ld e. absurd (send_not_receive shape d c (sym e));
   receives = λ d ld e. max_most n k (λ z. NoneBelow 0 z ((replay (v.seen ++ others)).channels d)) (f.receives d ld e)
-      (subst (λ z. NoneBelow 0 k ((replay (v.seen ++ others)).channels z)) (same_channel_odd shape c d e)
+      (subst (λ z. NoneBelow 0 k ((replay (v.seen ++ others)).channels z)) (same_channel_received shape c d e)
       (below_lasts shape v.seen others c 0 k added.is_legal low));
-  run = λ d ld e. absurd (receive_not_run shape c d lc e);
+  run = λ d ld e. absurd (receive_not_run shape c d e);
 }
 
 pub raises_run : (shape : Shape) (c k : ℕ) (v : Seen) → c < length shape → IsKeptRun v.seen c k
@@ -65,8 +65,8 @@ pub raises_run : (shape : Shape) (c k : ℕ) (v : Seen) → c < length shape →
 raises_run shape c k v lc kept others n added f = record {
   cell = λ d q ld lq e. absurd (cell_not_run shape d c q ld lq (sym e));
   wait = λ d q ld lq e. absurd (wait_not_run shape d c q ld lq (sym e));
-  sends = λ d ld e. absurd (send_not_run shape d c ld (sym e));
-  receives = λ d ld e. absurd (receive_not_run shape d c ld (sym e));
+  sends = λ d ld e. absurd (send_not_run shape d c (sym e));
+  receives = λ d ld e. absurd (receive_not_run shape d c (sym e));
   run = λ d ld e. max_most n k (IsKeptRun (v.seen ++ others) d) (f.run d ld e)
       (subst (λ z. IsKeptRun (v.seen ++ others) z k) (same_channel_run shape c d e)
       (were_kept_more shape c (k % 4294967296) (k / 4294967296) v.seen others added.is_legal kept));

@@ -65,7 +65,7 @@ module _ (shape : Shape) (log : List Entry) (e : Entry) (l : Legal shape (log ++
     wait = λ d q ld lq at. let h = number_apart shape c d p q lc ld lp lq (same_number_odd (number shape c p) (number shape d q) at)
         in subst (λ (z : ℕ × ℕ). HasWaitCode n ((replay (log ++ e ∷ [])).waits (spot z.0 z.1))) (λ i. (h.0 i, h.1 i)) is;
     sends = λ d ld at. absurd (wait_not_send shape c d p at);
-    receives = λ d ld at. absurd (wait_not_receive shape c d p lc lp at);
+    receives = λ d ld at. absurd (wait_not_receive shape c d p at);
     run = λ d ld at. absurd (wait_not_run shape c d p lc lp at);
   }
 
@@ -77,7 +77,7 @@ module _ (shape : Shape) (log : List Entry) (e : Entry) (l : Legal shape (log ++
         × CellFits shape (cell_of (log ++ e ∷ []) z.0 z.1)) (λ i. (h.0 i, h.1 i)) is;
     wait = λ d q ld lq at. absurd (cell_not_wait shape c d p q at);
     sends = λ d ld at. absurd (cell_not_send shape c d p lc lp at);
-    receives = λ d ld at. absurd (cell_not_receive shape c d p at);
+    receives = λ d ld at. absurd (cell_not_receive shape c d p lc lp at);
     run = λ d ld at. absurd (cell_not_run shape c d p lc lp at);
   }
 

@@ -54,7 +54,7 @@ base_below (x ∷ xs) (suc i) lt = let h = base_below xs i (omega arith) in let 
 
 -- as many words as are asked for
 pub count_is : (shape kinds : Shape) (cells i : ℕ) → shape ≡ kinds → cells ≡ cells_in kinds → i < word_count shape
-    → i < 2 * cells + 3 * length kinds + 1
+    → i < 2 * cells + 16 * length kinds + 1
 count_is shape kinds cells i same total h = let a = ap cells_in same in let b = ap (λ (s : Shape). length s) same in omega arith
 
 pub no_firsts : (shape : Shape) (firsts : List ℕ) → firsts ≡ [] → AreFirsts shape 0 firsts

@@ -23,15 +23,15 @@ cell_not_wait shape c d p q e = omega arith
 pub wait_not_send : (shape : Shape) (c d p : ℕ) → wait_number shape c p ≡ send_number shape d → ⊥
 wait_not_send shape c d p e = omega arith
 
-pub cell_not_receive : (shape : Shape) (c d p : ℕ) → cell_number shape c p ≡ receive_number shape d → ⊥
-cell_not_receive shape c d p e = omega arith
+pub cell_not_receive : (shape : Shape) (c d p : ℕ) → c < length shape → p ≤ places_at shape c
+    → cell_number shape c p ≡ receive_number shape d → ⊥
+cell_not_receive shape c d p lc lp e = let h = number_within shape c p lc lp in omega arith
 
 pub cell_not_send : (shape : Shape) (c d p : ℕ) → c < length shape → p ≤ places_at shape c → cell_number shape c p ≡ send_number shape d → ⊥
 cell_not_send shape c d p lc lp e = let h = number_within shape c p lc lp in omega arith
 
-pub wait_not_receive : (shape : Shape) (c d p : ℕ) → c < length shape → p ≤ places_at shape c
-    → wait_number shape c p ≡ receive_number shape d → ⊥
-wait_not_receive shape c d p lc lp e = let h = number_within shape c p lc lp in omega arith
+pub wait_not_receive : (shape : Shape) (c d p : ℕ) → wait_number shape c p ≡ receive_number shape d → ⊥
+wait_not_receive shape c d p e = omega arith
 
 pub same_number : (n m : ℕ) → 2 * n ≡ 2 * m → n ≡ m
 same_number n m e = omega arith
@@ -47,7 +47,3 @@ cell_not_run shape c d p lc lp e = let h = number_within shape c p lc lp in omeg
 
 pub wait_not_run : (shape : Shape) (c d p : ℕ) → c < length shape → p ≤ places_at shape c → wait_number shape c p ≡ run_number shape d → ⊥
 wait_not_run shape c d p lc lp e = let h = number_within shape c p lc lp in omega arith
-
-pub channels_few : (shape : Shape) → length shape ≤ cells_in shape
-channels_few [] = omega arith
-channels_few (x ∷ xs) = let h = channels_few xs in omega arith

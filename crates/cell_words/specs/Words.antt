@@ -42,20 +42,19 @@ cell_number shape c p = 2 * number shape c p
 abbrev pub wait_number : Shape → ℕ → ℕ → ℕ
 wait_number shape c p = 2 * number shape c p + 1
 
--- of the two counters of a channel
+-- of the two counters of a channel, and of its run of kept places; a channel has 16 words for them, of which the others say nothing
 abbrev pub send_number : Shape → ℕ → ℕ
-send_number shape c = 2 * cells_in shape + 2 * c
+send_number shape c = 2 * cells_in shape + 16 * c
+
+abbrev pub run_number : Shape → ℕ → ℕ
+run_number shape c = 2 * cells_in shape + 16 * c + 1
 
 abbrev pub receive_number : Shape → ℕ → ℕ
-receive_number shape c = 2 * cells_in shape + 2 * c + 1
-
--- of the run of kept places of a channel
-abbrev pub run_number : Shape → ℕ → ℕ
-run_number shape c = 2 * cells_in shape + 2 * length shape + c
+receive_number shape c = 2 * cells_in shape + 16 * c + 8
 
 -- one word more says nothing, so that even a hub without channels has a word 0 to load where passes meet
 abbrev pub word_count : Shape → ℕ
-word_count shape = 2 * cells_in shape + 3 * length shape + 1
+word_count shape = 2 * cells_in shape + 16 * length shape + 1
 
 -- a place of the channel, or its end
 abbrev pub IsCell : Shape → ℕ → ℕ → Type 0

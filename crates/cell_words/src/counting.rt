@@ -133,6 +133,7 @@ fn count_below(hub: &Hub, pass: &mut Pass, who: Tag, c: ChannelId, end: Place, m
 }
 
 /// Whether the channel keeps one element more: false if it was full at the beginning.
+#[inline(always)]
 pub(crate) fn has_room(hub: &Hub, pass: &mut Pass, who: Tag, c: ChannelId, end: Place) -> bool
     requires own { IsOwn hub.now pass.old who }
     requires at { IsCell (shape_of hub.now) c end }

@@ -76,7 +76,7 @@ impl Hub {
         let layout = layout_of(alloc, kinds)?;
         let firsts = first_cells(alloc, kinds)?;
         let cells = count_cells(kinds);
-        let words = Vec::from_elem(alloc, 0u64, 2 * cells as usize + 3 * kinds.len() + 1)?;
+        let words = Vec::from_elem(alloc, 0u64, 2 * cells as usize + 16 * kinds.len() + 1)?;
         let (table, seat) = new_history::<Entry, Layout, CellHistory, Global>(
             alloc,
             words.as_slice(),

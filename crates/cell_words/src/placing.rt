@@ -21,6 +21,7 @@ use channel_model::{Act, Entry, Kind};
 use co_base::{ChannelId, Place, Tag, Value, WaitId};
 
 // Places an offer that waits.
+#[inline(always)]
 fn hold_at(hub: &Hub, pass: &mut Pass, who: Tag, c: ChannelId, place: Place, value: Value) -> At
     requires own { IsOwn hub.now pass.old who }
     requires at { (c < length (shape_of hub.now)) × (place < places_at (shape_of hub.now) c) }
@@ -48,6 +49,7 @@ fn hold_at(hub: &Hub, pass: &mut Pass, who: Tag, c: ChannelId, place: Place, val
 }
 
 // Puts an element that needs no receiver.
+#[inline(always)]
 fn put_at(hub: &Hub, pass: &mut Pass, who: Tag, c: ChannelId, place: Place, value: Value) -> At
     requires own { IsOwn hub.now pass.old who }
     requires at { (c < length (shape_of hub.now)) × (place < places_at (shape_of hub.now) c) }
@@ -96,6 +98,7 @@ fn say_kept(
 }
 
 // The same as `put_at`, and says that the place was kept, if the channel keeps only so many.
+#[inline(always)]
 fn keep_at(hub: &Hub, pass: &mut Pass, who: Tag, c: ChannelId, place: Place, value: Value) -> At
     requires own { IsOwn hub.now pass.old who }
     requires at { (c < length (shape_of hub.now)) × (place < places_at (shape_of hub.now) c) }
@@ -125,6 +128,7 @@ fn keep_at(hub: &Hub, pass: &mut Pass, who: Tag, c: ChannelId, place: Place, val
 }
 
 /// Puts an element where the channel ends. Where the channel was full, an offer is placed there, if the caller may wait.
+#[inline(always)]
 pub fn offer_at(
     hub: &Hub,
     pass: &mut Pass,
@@ -174,6 +178,7 @@ pub fn try_await_at(hub: &Hub, pass: &mut Pass, who: Tag, c: ChannelId, place: P
 }
 
 /// Places a receiver where the channel ends.
+#[inline(always)]
 pub fn await_at(hub: &Hub, pass: &mut Pass, who: Tag, c: ChannelId, place: Place) -> At
     requires own { IsOwn hub.now pass.old who }
     requires at { IsCell (shape_of hub.now) c place }

@@ -215,6 +215,7 @@ pub(crate) fn is_nobody(word: WaitWord) -> bool
 }
 
 /// Whether the receiver that was placed here stands: its wait says so. Nothing is handed to it.
+#[inline(always)]
 pub fn receiver_stands(
     hub: &Hub,
     pass: &mut Pass,

@@ -61,6 +61,7 @@ fn removed_wait(removal: Removal, clause: u8) -> WaitWord
 }
 
 /// Removes the offer at a place, unless its wait was resolved.
+#[inline(always)]
 pub fn remove(
     hub: &Hub,
     pass: &mut Pass,
@@ -118,6 +119,7 @@ pub(crate) fn offer_cell(waiter: Waiter) -> CellWord
 }
 
 // Empties the cell of a kept element, unless that was done.
+#[inline(always)]
 fn empty(
     hub: &Hub,
     pass: &mut Pass,
@@ -146,6 +148,7 @@ fn empty(
 }
 
 /// Removes the element that was put at a place, unless it was removed before.
+#[inline(always)]
 pub fn remove_kept(
     hub: &Hub,
     pass: &mut Pass,

@@ -30,6 +30,7 @@ pub(crate) fn wait_cell(hub: &Hub, c: ChannelId, place: Place, holder: Holder) -
 }
 
 /// The coroutine of a wait, or `None` where the wait was resolved.
+#[inline(always)]
 pub(crate) fn owner_of(
     hub: &Hub,
     pass: &mut Pass,
@@ -59,6 +60,7 @@ pub(crate) fn owner_of(
 }
 
 /// Gives the element to the receiver at a place, unless its wait was resolved: its coroutine.
+#[inline(always)]
 pub fn hand(
     hub: &Hub,
     pass: &mut Pass,
