@@ -13,7 +13,7 @@ use Rattle.channel_model.specs.Histories.{replay, Legal}
 use Rattle.channel_model.specs.Answers.{IsOwnWait, IsReadyWait, state_of_parts, state_of_wait}
 use Rattle.channel_model.proofs.Waits.{same_wait-eq}
 use Rattle.cell_words.specs.declared.cell_word.CellWord.{CellWord}
-use Rattle.cell_words.specs.Cells.{Cell, free, receiver, offer, buffered, emptied, closed_by, voided_by, spot, cell_of}
+use Rattle.cell_words.specs.Cells.{Cell, free, receiver, offer, buffered, spot, cell_of}
 use Rattle.cell_words.specs.Words.{number, word_of_cell}
 use Rattle.cell_words.specs.Answers.{IsCellWord}
 use Rattle.cell_words.proofs.ListsOfCells.{IsNamed, CellNamed}

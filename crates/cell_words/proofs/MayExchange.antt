@@ -19,7 +19,7 @@ use Rattle.channel_model.proofs.GoneForGood.{below_lasts}
 use Rattle.channel_model.proofs.Later.{resolved_later, voided_later}
 use Rattle.cell_words.specs.declared.cell_word.CellState.TheVariants as state
 use Rattle.cell_words.specs.declared.cell_word.CellWord.{CellWord}
-use Rattle.cell_words.specs.Cells.{Cell, free, receiver, offer, buffered, emptied, closed_by, voided_by, spot, cell_of, standing, offer_of, offer_by, gather, is_used}
+use Rattle.cell_words.specs.Cells.{Cell, free, receiver, offer, buffered, emptied, closed_by, spot, cell_of, standing, offer_of, offer_by, gather, is_used}
 use Rattle.cell_words.specs.Codes.{packed_cell}
 use Rattle.cell_words.specs.Words.{number, cell_number, wait_number, plain_word, PartyFits, CellFits, cell_code, wait_code, how_code}
 use Rattle.cell_words.specs.Seen.{Seen, maker}

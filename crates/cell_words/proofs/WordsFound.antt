@@ -12,7 +12,7 @@ use Rattle.channel_model.specs.Histories.{replay}
 use Rattle.cell_words.specs.declared.cell_word.CellState.{CellState}
 use Rattle.cell_words.specs.declared.cell_word.CellWord.{CellWord}
 use Rattle.cell_words.specs.declared.wait_word.WaitWord.{WaitWord}
-use Rattle.cell_words.specs.Cells.{Cell, free, receiver, offer, buffered, emptied, closed_by, voided_by, spot, cell_of}
+use Rattle.cell_words.specs.Cells.{Cell, free, receiver, offer, buffered, spot, cell_of}
 use Rattle.cell_words.specs.Codes.{packed_cell, IsNarrowCell, packed_wait, IsNarrowWait}
 use Rattle.cell_words.specs.Words.{number, IsCell, PartyFits, party_word, word_of_cell, CellFits, how_word, parts_word, word_of_wait, HowFits, PartsFit, WaitFits, Fits}
 use Rattle.cell_words.specs.Answers.{IsNumber, IsCellWord, IsWaitWord, IsNumberedCell, IsNumberedWait}
