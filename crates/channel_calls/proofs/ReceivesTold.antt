@@ -1,5 +1,5 @@
 -- What a receive tells, by the floor's answer.
-use Rattle.std.specs.Prelude.{◌≡◌, ℕ, true, List, [], ◌∷◌, ◌++◌, Option, Some, None, is_some, Result, Ok, Err, refl}
+use Rattle.std.specs.Prelude.{◌≡◌, ℕ, true, List, [], ◌∷◌, ◌++◌, Option, Some, None, is_some, Ok, Err, refl}
 use Rattle.std.proofs.Common.{sym, ap, ◌∙◌, subst}
 use Rattle.co_base.specs.declared.names.Memory.{Memory}
 use Rattle.channel_model.specs.declared.acts.Act.TheVariants.{Await, Take}
@@ -22,10 +22,8 @@ use Rattle.call_meaning.proofs.ChannelsHeard.{told_then, told_made, told_met, to
 use Rattle.channel_calls.specs.declared.caller.ReceiveAnswer.TheVariants as receive
 use Rattle.channel_calls.specs.declared.caller.TriedAs.{TriedAs}
 use Rattle.channel_calls.specs.declared.caller.TriedAs.TheVariants as tried_as
-use Rattle.channel_calls.specs.declared.caller.TryReceiveAnswer.{TryReceiveAnswer}
-use Rattle.channel_calls.specs.declared.caller.TryReceiveAnswer.TheVariants as try_receive
 use Rattle.channel_calls.specs.Groups.{made_note}
-use Rattle.channel_calls.specs.Calls.{Tells, ToldPart, Goes, GoesSomehow, GoesAtOnce, GoesAtOnceSomehow, closed_note, ReceivedAnswer, TryReceivedAnswer, ReceiveTriedAs, AdmittedAnswer, IsUntouched}
+use Rattle.channel_calls.specs.Calls.{Tells, ToldPart, Goes, GoesSomehow, GoesAtOnce, GoesAtOnceSomehow, closed_note, ReceivedAnswer, AdmittedAnswer, IsUntouched}
 use Rattle.channel_calls.proofs.Begun.{receiver_waits}
 use Rattle.channel_calls.proofs.AdmitsTold.{none_admitted}
 use Rattle.channel_calls.proofs.Untold.{part_none, part_of, part_then}
@@ -135,14 +133,6 @@ module _ {c n : ℕ} {a b d : SeenOnChannels} (h : IsRoomed n a b) where
           → ToldOnChannels (record b { who = a.who }) d (heard (closed_note by (receives c) x) ∷ [])
       noted tried_as.Call m = told_met (TryReceiveClosed c x) refl o.0.looked (drained_at a.who c x b.floor d.floor l o.0 o.1) w m
       noted tried_as.Clause m = told_met (ReceiveClosed c x) refl o.0.looked (drained_at a.who c x b.floor d.floor l o.0 o.1) w m
-
--- what a call told that never waits
-pub received_as_call : (c : ℕ) (a d : SeenOnChannels) (r : Result TryReceiveAnswer Memory) → ReceiveTriedAs tried_as.Call c a d r
-    → TryReceivedAnswer c a d r
-received_as_call c a d (Ok (try_receive.Value v)) t = t
-received_as_call c a d (Ok try_receive.Empty) t = t
-received_as_call c a d (Ok (try_receive.Closed x)) t = t
-received_as_call c a d (Err m) t = t
 
 -- a receive that waits where it must goes so too
 pub received : {c v : ℕ} {a d : SeenOnChannels} → Tells (GoesAtOnce (receives c) (Got v)) a d → Tells (Goes (receives c) (Got v)) a d

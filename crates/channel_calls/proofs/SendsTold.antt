@@ -1,5 +1,5 @@
 -- What a send tells, by the floor's answer to its offer.
-use Rattle.std.specs.Prelude.{◌≡◌, ℕ, [], ◌∷◌, ◌++◌, Result, Ok, Err, refl}
+use Rattle.std.specs.Prelude.{◌≡◌, ℕ, [], ◌∷◌, ◌++◌, Ok, Err, refl}
 use Rattle.std.proofs.Common.{ap, ◌∙◌}
 use Rattle.co_base.specs.declared.names.Memory.{Memory}
 use Rattle.channel_model.specs.declared.acts.Act.TheVariants.{Hand, Put, Offer}
@@ -21,10 +21,8 @@ use Rattle.call_meaning.proofs.ChannelsHeard.{told_then, told_made, told_made_af
 use Rattle.channel_calls.specs.declared.caller.SendAnswer.TheVariants as send
 use Rattle.channel_calls.specs.declared.caller.TriedAs.{TriedAs}
 use Rattle.channel_calls.specs.declared.caller.TriedAs.TheVariants as tried_as
-use Rattle.channel_calls.specs.declared.caller.TrySendAnswer.{TrySendAnswer}
-use Rattle.channel_calls.specs.declared.caller.TrySendAnswer.TheVariants as try_send
 use Rattle.channel_calls.specs.Groups.{made_note}
-use Rattle.channel_calls.specs.Calls.{Tells, ToldPart, GoesSomehow, GoesAtOnce, GoesAtOnceSomehow, FollowsPut, IsSent, IsUnsent, closed_note, SentAnswer, TrySentAnswer, SendTriedAs, AfterPutAnswer, IsUntouched}
+use Rattle.channel_calls.specs.Calls.{Tells, ToldPart, GoesSomehow, GoesAtOnce, GoesAtOnceSomehow, FollowsPut, IsSent, IsUnsent, closed_note, SentAnswer, AfterPutAnswer, IsUntouched}
 use Rattle.channel_calls.proofs.Untold.{part_none, part_of, part_then}
 use Rattle.call_meaning.specs.Seen.{SeenOnChannels}
 use Rattle.channel_calls.proofs.Roomed.{IsRoomed, roomed}
@@ -121,15 +119,6 @@ module _ (v : ℕ) {c n : ℕ} {a b d : SeenOnChannels} (h : IsRoomed n a b) whe
       ++ item.Channel (Spent c) ∷ []
       → ToldOnChannels a d (spent (sends c v))
   try_no_place o w f = spent_told o.0 o.1 w f
-
--- what a call told that never waits
-pub sent_as_call : (c v : ℕ) (a d : SeenOnChannels) (r : Result TrySendAnswer Memory) → SendTriedAs tried_as.Call c v a d r
-    → TrySentAnswer c v a d r
-sent_as_call c v a d (Ok try_send.Sent) t = t
-sent_as_call c v a d (Ok try_send.Full) t = t
-sent_as_call c v a d (Ok (try_send.Closed x)) t = t
-sent_as_call c v a d (Ok try_send.Spent) t = t
-sent_as_call c v a d (Err m) t = t
 
 -- a send that waits where it must is sent so too
 pub sent : {c v : ℕ} {a d : SeenOnChannels} → Tells (GoesAtOnce (sends c v) Done) a d → Tells (IsSent c v) a d

@@ -161,15 +161,7 @@ SentAnswer c v old new (Ok (send.Closed x)) = Tells (IsUnsent c v x) old new × 
 SentAnswer c v old new (Ok send.Spent) = Tells (Goes (sends c v) NoPlace) old new
 SentAnswer c v old new (Err m) = ToldPart (GoesSomehow (sends c v)) old new
 
--- the same without waiting
-abbrev pub TrySentAnswer : ℕ → ℕ → SeenOnChannels → SeenOnChannels → Result TrySendAnswer Memory → Type 0
-TrySentAnswer c v old new (Ok try_send.Sent) = Tells (GoesAtOnce (sends c v) Done) old new
-TrySentAnswer c v old new (Ok try_send.Full) = ToldOnChannels old new (blocked (sends c v) ∷ [])
-TrySentAnswer c v old new (Ok (try_send.Closed x)) = ToldOnChannels old new (heard (TrySendClosed c v x) ∷ [])
-TrySentAnswer c v old new (Ok try_send.Spent) = ToldOnChannels old new (spent (sends c v))
-TrySentAnswer c v old new (Err m) = ToldPart (GoesAtOnceSomehow (sends c v)) old new
-
--- as a call or as a clause
+-- the same without waiting, as a call or as a clause
 abbrev pub SendTriedAs : TriedAs → ℕ → ℕ → SeenOnChannels → SeenOnChannels → Result TrySendAnswer Memory → Type 0
 SendTriedAs by c v old new (Ok try_send.Sent) = Tells (GoesAtOnce (sends c v) Done) old new
 SendTriedAs by c v old new (Ok try_send.Full) = ToldOnChannels old new (blocked (sends c v) ∷ [])
@@ -177,6 +169,10 @@ SendTriedAs by c v old new (Ok (try_send.Closed x)) =
     ToldOnChannels old new (heard (closed_note by (sends c v) x) ∷ [])
 SendTriedAs by c v old new (Ok try_send.Spent) = ToldOnChannels old new (spent (sends c v))
 SendTriedAs by c v old new (Err m) = ToldPart (GoesAtOnceSomehow (sends c v)) old new
+
+-- as a call
+abbrev pub TrySentAnswer : ℕ → ℕ → SeenOnChannels → SeenOnChannels → Result TrySendAnswer Memory → Type 0
+TrySentAnswer c v old new result = SendTriedAs tried_as.Call c v old new result
 
 -- ---- receive
 
@@ -189,20 +185,17 @@ ReceivedAnswer c old new (Ok (receive.Closed x)) = Tells (Goes (receives c) (Clo
 ReceivedAnswer c old new (Ok receive.Spent) = Tells (Goes (receives c) NoPlace) old new
 ReceivedAnswer c old new (Err m) = ToldPart (GoesSomehow (receives c)) old new
 
--- the same without waiting
-abbrev pub TryReceivedAnswer : ℕ → SeenOnChannels → SeenOnChannels → Result TryReceiveAnswer Memory → Type 0
-TryReceivedAnswer c old new (Ok (try_receive.Value v)) = Tells (GoesAtOnce (receives c) (Got v)) old new
-TryReceivedAnswer c old new (Ok try_receive.Empty) = ToldOnChannels old new (blocked (receives c) ∷ [])
-TryReceivedAnswer c old new (Ok (try_receive.Closed x)) = ToldOnChannels old new (heard (TryReceiveClosed c x) ∷ [])
-TryReceivedAnswer c old new (Err m) = ToldPart (GoesAtOnceSomehow (receives c)) old new
-
--- as a call or as a clause
+-- the same without waiting, as a call or as a clause
 abbrev pub ReceiveTriedAs : TriedAs → ℕ → SeenOnChannels → SeenOnChannels → Result TryReceiveAnswer Memory → Type 0
 ReceiveTriedAs by c old new (Ok (try_receive.Value v)) = Tells (GoesAtOnce (receives c) (Got v)) old new
 ReceiveTriedAs by c old new (Ok try_receive.Empty) = ToldOnChannels old new (blocked (receives c) ∷ [])
 ReceiveTriedAs by c old new (Ok (try_receive.Closed x)) =
     ToldOnChannels old new (heard (closed_note by (receives c) x) ∷ [])
 ReceiveTriedAs by c old new (Err m) = ToldPart (GoesAtOnceSomehow (receives c)) old new
+
+-- as a call
+abbrev pub TryReceivedAnswer : ℕ → SeenOnChannels → SeenOnChannels → Result TryReceiveAnswer Memory → Type 0
+TryReceivedAnswer c old new result = ReceiveTriedAs tried_as.Call c old new result
 
 -- ---- what follows an act
 

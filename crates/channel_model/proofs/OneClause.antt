@@ -36,7 +36,8 @@ resolved_on : (c : ℕ) (closed : ℕ → Type 0) (how : Resolution) (x : Option
 resolved_on c closed how None k h = h
 resolved_on c closed how (Some x) k h = (h.0, k)
 
-resolve_on : (c : ℕ) (closed : ℕ → Type 0) (w v : WaitId) (how : Resolution) (s : State) → (same_wait v w ≡ true → ClosedIf closed (Some how))
+resolve_on : (c : ℕ) (closed : ℕ → Type 0) (w v : WaitId) (how : Resolution) (s : State)
+    → (same_wait v w ≡ true → ClosedIf closed (Some how))
     → IsOn c closed (s.waits w) → IsOn c closed ((resolve v how s).waits w)
 resolve_on c closed w v how s k h = by_test (same_wait v w) refl
   where
@@ -81,7 +82,8 @@ first_on c closed w d (r ∷ rs) how s stand k h =
     stand.0)) r.party.clause) h
 
 -- no clause joins it
-named_on : (c : ℕ) (closed : ℕ → Type 0) (who k d p : ℕ) (v w : WaitId) (s : State) → Placed s → (s.channels d).next ≡ p → MayName who k d p v s
+named_on : (c : ℕ) (closed : ℕ → Type 0) (who k d p : ℕ) (v w : WaitId) (s : State) → Placed s → (s.channels d).next ≡ p
+    → MayName who k d p v s
     → IsOn c closed (s.waits w) → IsOn c closed (put_wait v (name_clause who k d (s.waits v)) s.waits w)
 named_on c closed who k d p v w s placed first may h = by_test (same_wait v w) refl
   where
@@ -152,7 +154,8 @@ weaker_on c a b None f h = h
 weaker_on c a b (Some x) f h = (h.0, weaker a b x.resolved f h.1)
 
 -- the wait that a receive has just begun
-pub begun_on : (shape : Shape) (s : State) (who c p : ℕ) → Sound shape s → Needs shape s who (Await c p (record { channel = c; place = p }) 0)
+pub begun_on : (shape : Shape) (s : State) (who c p : ℕ) → Sound shape s
+    → Needs shape s who (Await c p (record { channel = c; place = p }) 0)
     → (closed : ℕ → Type 0)
     → IsOn c closed ((after s who (Await c p (record { channel = c; place = p }) 0)).waits (record { channel = c; place = p }))
 begun_on shape s who c p l n closed =

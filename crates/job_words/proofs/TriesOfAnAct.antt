@@ -1,5 +1,5 @@
 -- What one try of an act comes to, and several.
-use Rattle.std.specs.Prelude.{◌≡◌, ◌≢◌, ℕ, ◌+◌, ◌==◌, ◌<◌, ◌≤◌, Bool, true, false, not, ◌&&◌, ◌||◌, List, [], ◌∷◌, ◌++◌, length, Option, Some, None, option_map, is_some, IsSome, if◌then◌else◌, refl}
+use Rattle.std.specs.Prelude.{◌≡◌, ◌≢◌, ℕ, ◌+◌, ◌==◌, ◌<◌, ◌≤◌, Bool, true, false, ◌&&◌, ◌||◌, List, [], ◌∷◌, ◌++◌, length, Option, Some, None, option_map, is_some, IsSome, if◌then◌else◌, refl}
 use Rattle.std.proofs.Common.{sym, ap, ◌∙◌, subst, arith}
 use Rattle.job_model.specs.declared.acts.JobAct.{JobAct}
 use Rattle.job_model.specs.declared.acts.JobAct.TheVariants.{EndBody, Gone}
@@ -28,7 +28,7 @@ use Rattle.job_model.specs.Effects.{change, change_parent, with_told}
 use Rattle.job_words.proofs.DeedsAddUp.{tree_is, is_legal, store_push}
 use Rattle.job_words.proofs.WordsOfChangedRows.{changed_job}
 use Rattle.job_model.proofs.Siblings.{changed_at}
-use Rattle.job_words.proofs.StepsAsCalls.{sees_goes, goes_trans, looked, made, made_with, at_step}
+use Rattle.job_words.proofs.StepsAsCalls.{sees_goes, goes_trans, looked, made_with, at_step}
 use Rattle.job_words.proofs.LostExchangesGrow.{grew, grew_more, lasts_goes, attached_goes}
 use Rattle.job_words.proofs.MayExchange.{read_word, lasts_more}
 use Rattle.job_model.proofs.Lasting.{Lasts, attached_lasts}

@@ -7,7 +7,7 @@ use Rattle.channel_model.specs.declared.standing.Resolution.{Resolution}
 use Rattle.channel_model.specs.declared.standing.Resolution.TheVariants as resolved
 use Rattle.channel_model.specs.Laws.{IsResolvedAs}
 use Rattle.channel_model.proofs.Later.{resolved_later}
-use Rattle.cell_words.specs.Cells.{Cell, free, receiver, offer, buffered, emptied, closed_by, voided_by, cell_of}
+use Rattle.cell_words.specs.Cells.{Cell, free, cell_of}
 use Rattle.cell_words.specs.Words.{parts_word, word_of_wait, word_of_cell}
 use Rattle.worded.specs.Views.{has_tag}
 use Rattle.worded.specs.Histories.{entries_of}

@@ -9,6 +9,7 @@ use Rattle.worded.specs.Views.{has_tag, having_seen}
 use Rattle.worded.specs.Histories.{entries_of}
 use Rattle.worded.specs.Exchanges.{Loaded, Entered}
 use Rattle.worded.proofs.TagsAndPrefixes.{entries_of-append, entries_of_else}
+use Rattle.worded.proofs.StepsOfSeats as steps
 use Rattle.parcel_channel.specs.declared.parcel.ParcelAct.{ParcelAct}
 use Rattle.parcel_channel.specs.declared.parcel.ParcelAct.TheVariants.{Draw, Miss, MoveIn, MoveOut, PutBack}
 use Rattle.parcel_channel.specs.declared.parcel.ParcelEntry.{ParcelEntry}
@@ -26,23 +27,11 @@ module _ {T : Type 0} where
   -- ---- single steps
 
   pub sees_of : (n word m : ℕ) (v w : Seen T) → v.heard_tags ≡ [] → Loaded (Legal n) Fits maker word m v w → Sees v w
-  sees_of n word m v w idle l = record {
-    others = l.others;
-    now = ap (λ (x : Seen T). x.seen) l.now;
-    apart = l.added.apart;
-    tags = ap (λ (x : Seen T). x.tags) l.now ∙ ap (λ t. v.tags ++ t) idle ∙ append-nil v.tags;
-    giving = ap (λ (x : Seen T). (x.chief, x.given)) l.now;
-  }
+  sees_of n word m v w idle l = steps.sees_of idle l
 
   pub makes_of : (n word old : ℕ) (e : ParcelEntry T) (v w : Seen T) → v.heard_tags ≡ [] → Entered (Legal n) Fits maker word old e v w
       → Makes v e w
-  makes_of n word old e v w idle l = record {
-    others = l.others;
-    now = ap (λ (x : Seen T). x.seen) l.now;
-    apart = l.added.apart;
-    tags = ap (λ (x : Seen T). x.tags) l.now ∙ ap (λ t. v.tags ++ t) idle ∙ append-nil v.tags;
-    giving = ap (λ (x : Seen T). (x.chief, x.given)) l.now;
-  }
+  makes_of n word old e v w idle l = (steps.turns_of idle l).made
 
   pub adds_sees : (who : ℕ) (v w : Seen T) → has_tag who v.tags ≡ true → Sees v w → Adds who [] v w
   adds_sees who v w own s = record {

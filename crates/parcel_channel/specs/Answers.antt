@@ -1,15 +1,15 @@
 -- What the steps on parcels ask, and what the calls answer.
-use Rattle.std.specs.Prelude.{◌≡◌, ◌≢◌, ◌⊎◌, ℕ, ◌<◌, ◌≤◌, true, false, ◌||◌, List, [], ◌∷◌, ◌++◌, Option, Some, None}
+use Rattle.std.specs.Prelude.{◌≡◌, ◌≢◌, ◌⊎◌, ℕ, ◌<◌, ◌≤◌, true, false, List, [], ◌∷◌, ◌++◌, Option, Some, None}
 use Rattle.std.specs.Prelude.{Result, Ok, Err}
-use mathlib.Core.List.{IsPrefix}
 use Rattle.atomic_table.specs.Seated.{TableId}
-use Rattle.worded.specs.Views.{has_tag}
+use Rattle.worded.specs.Views.{has_tag, tags_given}
 use Rattle.worded.specs.Histories.{entries_of}
+use Rattle.worded.specs.Steps as steps
 use Rattle.parcel_channel.specs.declared.parcel.ParcelAct.TheVariants.{Draw, Miss, MoveIn, MoveOut, PutBack}
 use Rattle.parcel_channel.specs.declared.parcel.ParcelEntry.{ParcelEntry}
 use Rattle.parcel_channel.specs.Parcels.{is_inside, moves, maker}
 use Rattle.parcel_channel.specs.Tables.{word_count}
-use Rattle.parcel_channel.specs.Seen.{Seen, Sat, now_in, entry_of, own_tag, tags_given}
+use Rattle.parcel_channel.specs.Seen.{Seen, Sat, now_in, entry_of, own_tag}
 
 -- a table of so many parcels
 pub record IsTable (table : TableId) (parcels : ℕ) : Type 0 where
@@ -26,20 +26,12 @@ module _ {T : Type 0} where
     pub small : own_tag m.0 < 65536
 
   -- others added to what was seen, and nothing under the tags of the seat
-  pub record Sees (v w : Seen T) : Type 0 where
-    pub others : List (ParcelEntry T)
-    pub now : w.seen ≡ v.seen ++ others
-    pub apart : (t : ℕ) → has_tag t v.tags ≡ true → entries_of maker t others ≡ []
-    pub tags : w.tags ≡ v.tags
-    pub giving : tags_given w ≡ tags_given v
+  abbrev pub Sees : Seen T → Seen T → Type 0
+  Sees = steps.Sees maker
 
   -- the entry was made after all that was seen, and is the last that was then seen
-  pub record Makes (v : Seen T) (e : ParcelEntry T) (w : Seen T) : Type 0 where
-    pub others : List (ParcelEntry T)
-    pub now : w.seen ≡ (v.seen ++ others) ++ e ∷ []
-    pub apart : (t : ℕ) → has_tag t v.tags ≡ true → entries_of maker t others ≡ []
-    pub tags : w.tags ≡ v.tags
-    pub giving : tags_given w ≡ tags_given v
+  abbrev pub Makes : Seen T → ParcelEntry T → Seen T → Type 0
+  Makes = steps.Makes maker
 
   -- who made these entries after what was seen, in their order, and nobody else did under a tag of the seat
   pub record Adds (who : ℕ) (made : List (ParcelEntry T)) (v w : Seen T) : Type 0 where
@@ -50,22 +42,17 @@ module _ {T : Type 0} where
     pub tags : w.tags ≡ v.tags
     pub giving : tags_given w ≡ tags_given v
 
+  -- the entries of one tag are the same
+  abbrev pub SameOf : ℕ → List (ParcelEntry T) → List (ParcelEntry T) → Type 0
+  SameOf t old new = entries_of maker t new ≡ entries_of maker t old
+
   -- a seat that had seen `old` met one that had seen `other`
-  pub record MeetAnswer (old other new : Seen T) : Type 0 where
-    pub goes_on : IsPrefix old.seen new.seen
-    pub told : IsPrefix other.seen new.seen
-    pub own : (t : ℕ) → has_tag t old.tags ≡ true → entries_of maker t new.seen ≡ entries_of maker t old.seen
-    pub tags : new.tags ≡ old.tags
-    pub giving : tags_given new ≡ tags_given old
+  abbrev pub MeetAnswer : Seen T → Seen T → Seen T → Type 0
+  MeetAnswer = steps.MeetAnswer SameOf
 
   -- a seat that had seen `old` took in one that had seen `other`, with its tags
-  pub record EndAnswer (old other new : Seen T) : Type 0 where
-    pub goes_on : IsPrefix old.seen new.seen
-    pub told : IsPrefix other.seen new.seen
-    pub own : (t : ℕ) → has_tag t old.tags ≡ true → entries_of maker t new.seen ≡ entries_of maker t old.seen
-    pub taken : (t : ℕ) → has_tag t other.tags ≡ true → entries_of maker t new.seen ≡ entries_of maker t other.seen
-    pub callers : (t : ℕ) → has_tag t new.tags ≡ (has_tag t old.tags || has_tag t other.tags)
-    pub giving : tags_given new ≡ tags_given old
+  abbrev pub EndAnswer : Seen T → Seen T → Seen T → Type 0
+  EndAnswer = steps.EndAnswer SameOf
 
   -- the value was moved in with this number
   pub record IsMove (k : ℕ) (x : T) (log : List (ParcelEntry T)) : Type 0 where

@@ -1,8 +1,8 @@
 -- What was seen of parcels, and what steps add.
-use Rattle.std.specs.Prelude.{◌≡◌, ℕ, ◌+◌, ◌==◌, Bool, true, false, List, [], ◌∷◌, ◌++◌, Option, Some, None, nat_lt}
+use Rattle.std.specs.Prelude.{◌≡◌, ℕ, ◌+◌, ◌==◌, true, false, List, [], ◌∷◌, ◌++◌, Option, Some, None, nat_lt}
 use Rattle.std.specs.Prelude.{MatchBool, if◌then◌else◌}
 use Rattle.atomic_table.specs.Table.{Me}
-use Rattle.worded.specs.Views.{has_tag}
+use Rattle.worded.specs.Views.{has_tag, tags_given}
 use Rattle.worded.specs.Exchanges.{Loaded, Entered}
 use Rattle.worded.specs.declared.view.View.{View}
 use Rattle.parcel_channel.specs.declared.parcel.ParcelAct.{ParcelAct}
@@ -14,11 +14,6 @@ use Rattle.parcel_channel.specs.Tables.{Fits}
 abbrev pub first_tag : List ℕ → ℕ
 first_tag [] = 0
 first_tag (t ∷ ts) = t
-
--- no slot is in hand
-abbrev pub is_bare : {A : Type 0} → List A → Bool
-is_bare [] = true
-is_bare (x ∷ xs) = false
 
 -- what a seat knows of parcels
 abbrev pub Seen : Type 0 → Type 0
@@ -32,10 +27,6 @@ module _ {T : Type 0} where
   -- the tag under which it steps
   abbrev pub own_tag : Seen T → ℕ
   own_tag v = first_tag v.tags
-
-  -- whether it gives out tags, and which it has given out
-  abbrev pub tags_given : Seen T → Bool × List ℕ
-  tags_given v = (v.chief, v.given)
 
   -- it has the same tags, and gives out others as before
   abbrev pub SameTags : Seen T → Seen T → Type 0

@@ -8,7 +8,6 @@ use Rattle.channel_model.specs.declared.acts.ChannelNote.TheVariants.{TrySendClo
 use Rattle.channel_model.specs.Floors.{Floor as ChannelFloor}
 use Rattle.job_model.specs.Histories.{Legal}
 use Rattle.job_model.specs.Floors.{Floor}
-use Rattle.note_book.specs.declared.book.Item.{Item}
 use Rattle.call_meaning.specs.Telling.{Told, heard}
 use Rattle.call_meaning.specs.ChannelCalls.{sends, receives, Answer as AnswerMeant, Done, Got, Closed, TryRefused, blocked, spent, PlainCall, TryCall}
 use Rattle.call_meaning.specs.Seen.{SeenOnChannels}

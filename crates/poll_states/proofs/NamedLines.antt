@@ -1,5 +1,5 @@
 -- The lines of a coroutine that name a Job.
-use Rattle.std.specs.Prelude.{◌≡◌, ℕ, false, List, [], Option, Some, slice_get, refl}
+use Rattle.std.specs.Prelude.{◌≡◌, ℕ, false, [], Option, Some, slice_get, refl}
 use Rattle.std.proofs.Common.{sym, ap, ◌∙◌, subst}
 use Rattle.job_model.specs.Histories.{Legal}
 use Rattle.script_grammar.specs.declared.instructions.Instruction.{Instruction}

@@ -40,7 +40,8 @@ pub fn attach_coroutine<J: JobFloor, B: NoteBook>(
     requires can { MayCall who parent (J.view jobs.old) }
     requires tag { tag < (J.view jobs.old).shape.coroutines }
     ensures jobs_anchor { J.anchor jobs.new ≡ J.anchor jobs.old }
-    ensures answer { LaunchAnswer parent tag lazy (seen_jobs J.view B.items who jobs.old book.old) (seen_jobs J.view B.items who jobs.new book.new) result }
+    ensures answer { LaunchAnswer parent tag lazy (seen_jobs J.view B.items who jobs.old book.old)
+        (seen_jobs J.view B.items who jobs.new book.new) result }
 {
     let kind = JobKind {
         supervisor: false,
@@ -80,7 +81,8 @@ impl<C: ChannelFloor, J: JobFloor, B: NoteBook, W: Wakes> Builder<'_, '_, '_, '_
         requires tag { self.old.who < (J.view self.old.jobs.now).shape.coroutines }
         ensures same { SameBuilder C.anchor J.anchor self.old self.new }
         ensures channels { self.new.channels.now ≡ self.old.channels.now }
-        ensures answer { EnterAnswer parent supervisor (seen_on_jobs J.view B.items self.old) (seen_on_jobs J.view B.items self.new) result }
+        ensures answer { EnterAnswer parent supervisor (seen_on_jobs J.view B.items self.old)
+            (seen_on_jobs J.view B.items self.new) result }
     {
         let kind = JobKind {
             supervisor,
@@ -141,7 +143,8 @@ impl<C: ChannelFloor, J: JobFloor, B: NoteBook, W: Wakes> Builder<'_, '_, '_, '_
         requires may { MayBuild self.old.base (seen C.view J.view B.items self.old) }
         requires own { MayEndBody self.old.who (tree_in (seen_on_jobs J.view B.items self.old) row) }
         ensures same { SameBuilder C.anchor J.anchor self.old self.new }
-        ensures answer { EndedAnswer self.old.base row value (seen C.view J.view B.items self.old) (seen C.view J.view B.items self.new) result }
+        ensures answer { EndedAnswer self.old.base row value (seen C.view J.view B.items self.old)
+            (seen C.view J.view B.items self.new) result }
     {
         if let Err(memory) = make_room(self.jobs, self.book, 1) {
             return Err(memory);
@@ -174,7 +177,8 @@ impl<C: ChannelFloor, J: JobFloor, B: NoteBook, W: Wakes> Builder<'_, '_, '_, '_
         requires own { OwnsBody self.old.who (tree_in (seen_on_jobs J.view B.items self.old) row) }
         requires reason { HoldsFor row (reason_for failure) (seen_on_jobs J.view B.items self.old) }
         ensures same { SameBuilder C.anchor J.anchor self.old self.new }
-        ensures answer { BrokenAnswer self.old.base row failure (seen C.view J.view B.items self.old) (seen C.view J.view B.items self.new) result }
+        ensures answer { BrokenAnswer self.old.base row failure (seen C.view J.view B.items self.old)
+            (seen C.view J.view B.items self.new) result }
     {
         if let Err(memory) = cancel_first(
             self.jobs, self.book, self.wakes, self.who, row, failure,

@@ -82,7 +82,8 @@ fn wake_last<C: ChannelFloor, B: NoteBook, W: Wakes>(
     requires room { 0 < (C.view channels.old).spare }
     requires book { 0 < B.spare book.old }
     ensures channels_anchor { C.anchor channels.new ≡ C.anchor channels.old }
-    ensures woken { WokenLast c (seen_channels C.view B.items who channels.old book.old) (seen_channels C.view B.items who channels.new book.new)
+    ensures woken { WokenLast c (seen_channels C.view B.items who channels.old book.old)
+        (seen_channels C.view B.items who channels.new book.new)
         (B.spare book.old) (B.spare book.new) }
 {
     if let Some((place, tag)) = channels.wake_closed(who, c) {

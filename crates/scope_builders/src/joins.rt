@@ -76,7 +76,8 @@ impl<C: ChannelFloor, J: JobFloor, B: NoteBook, W: Wakes> Builder<'_, '_, '_, '_
         requires own { MayEndBody self.old.who (tree_in (seen_on_jobs J.view B.items self.old) own) }
         requires row { IsAttached row (seen_on_jobs J.view B.items self.old) }
         ensures same { SameBuilder C.anchor J.anchor self.old self.new }
-        ensures answer { JoinAnswer self.old.base own row (seen C.view J.view B.items self.old) (seen C.view J.view B.items self.new) result }
+        ensures answer { JoinAnswer self.old.base own row (seen C.view J.view B.items self.old)
+            (seen C.view J.view B.items self.new) result }
         ensures closed { ClosedIsSeen (done_channel self.old.base row) (C.view self.new.channels.now) result }
     {
         if let Err(memory) = self.book.room(1) {

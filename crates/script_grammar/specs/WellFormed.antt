@@ -74,8 +74,8 @@ abbrev pub all_fresh : List (List ℕ) → List (List ℕ) → Bool
 all_fresh before [] = true
 all_fresh before (name ∷ names) = is_fresh before name && all_fresh (before ++ name ∷ []) names
 
--- the version is 1 or 2, names are formed and distinct, numbers lie in their ranges, what is named is declared, lines stand where they may, there is a
--- main, and the counts are within the limits
+-- the version is 1 or 2, names are formed and distinct, numbers lie in their ranges, what is named is declared, lines stand where they
+-- may, there is a main, and the counts are within the limits
 pub record IsProgram (p : Program) : Type 0 where
   pub version : (nat_le 1 p.version && nat_le p.version 2) ≡ true
   pub few_channels : length p.channels ≤ 256

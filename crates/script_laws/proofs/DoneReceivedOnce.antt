@@ -1,5 +1,5 @@
--- A coroutine that finds no place left on a done channel had attached its Job; and if it had a place of it before, it was told there that the
--- channel is closed.
+-- A coroutine that finds no place left on a done channel had attached its Job; and if it had a place of it before, it was told there that
+-- the channel is closed.
 use Rattle.std.proofs.lemmas.List.{append-nil}
 use Rattle.std.specs.Prelude.{◌≡◌, ℕ, ◌+◌, ◌<◌, ◌≤◌, ◌==◌, nat_le, ◌⊎◌, Bool, true, false, ◌||◌, ◌&&◌, List, [], ◌∷◌, ◌++◌, Option, Some, None, slice_get, refl}
 use Rattle.std.proofs.Common.{sym, ap, ◌∙◌, subst, inl, ⊎_elim, append_assoc, arith}

@@ -1,4 +1,5 @@
--- What a coroutine launches: the tags that it gives to it are those laid out for it, and what is left is what its lines have still to launch.
+-- What a coroutine launches: the tags that it gives to it are those laid out for it, and what is left is what its lines have still to
+-- launch.
 use Rattle.std.specs.Prelude.{◌≡◌, ℕ, zero, suc, ◌+◌, ◌<◌, ◌≤◌, ◌==◌, nat_lt, ◌⊎◌, Bool, true, false, ◌||◌, ◌&&◌, not, List, [], ◌∷◌, ◌++◌, length, take, drop, Option, Some, slice_get, if◌then◌else◌, refl}
 use Rattle.std.specs.List.{list_any}
 use Rattle.std.proofs.Common.{sym, ap, ◌∙◌, subst, inl, inr, ⊎_elim, arith}

@@ -1,5 +1,5 @@
 -- What a send or a receive told that was tried as a clause.
-use Rattle.std.specs.Prelude.{◌≡◌, ℕ, true, [], ◌∷◌, ◌++◌, Ok, refl}
+use Rattle.std.specs.Prelude.{◌≡◌, ℕ, true, [], ◌∷◌, Ok, refl}
 use Rattle.std.proofs.Common.{◌∙◌}
 use Rattle.channel_model.specs.declared.acts.ChannelNote.TheVariants.{Full, Empty}
 use Rattle.channel_model.specs.Histories.{replay}

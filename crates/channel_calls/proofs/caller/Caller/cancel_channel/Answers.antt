@@ -1,4 +1,3 @@
-use Rattle.std.proofs.Common.{◌∙◌}
 use Rattle.channel_calls.proofs.ClosesTold.{cancelled_all, cancel_stopped, cancel_untold, void_stopped}
 use Rattle.channel_calls.proofs.caller.Caller.cancel_channel.Goals as goal
 
