@@ -86,7 +86,8 @@ pub struct Script {
     pub ghost closed: { map (λ places. places.items) closings.items
         ≡ map (λ c. closing_places c.code.items) coroutines.items } by { Prim.hlevel props },
     pub ghost short: { list_all (λ c. nat_le (length c.code.items) 1048577) coroutines.items ≡ true } by { Prim.hlevel props },
-    pub ghost counted: { scopes ≡ scope_count (program_from version channels.items coroutines.items spawns.items) } by { Prim.hlevel props },
+    pub ghost counted: { scopes
+        ≡ scope_count (program_from version channels.items coroutines.items spawns.items) } by { Prim.hlevel props },
 }
 
 impl Script {
