@@ -315,7 +315,8 @@ pub below_seen : (shape : Shape) (n m c : ℕ) (v w : Seen) → Sees v w → Leg
 below_seen shape n m c v w s l h = subst (λ (es : List Entry). NoneBelow n m (at_channel es c)) (sym s.now)
     (below_lasts shape v.seen s.others c n m (subst (Legal shape) s.now l) h)
 
--- what a word says to one who offers, and to one who receives: one that is used, one found in place of a free one, and a free one behind all places
+-- what a word says to one who offers, and to one who receives: one that is used, one found in place of a free one, and a free one behind
+-- all places
 module _ (hub : Hub) (pass : Pass) (of : IsOf hub pass) (c p : ℕ) (v : Seen) (s : Sees v pass.seat.me.0) (word : CellWord)
     (is : IsCellWord (shape_of hub) c p pass.seat.me.0.seen word) where
   pub used_offer : NoneBelow p 0 (at_channel v.seen c) → is_used_state word.state ≡ true → (who value : ℕ)
