@@ -7,6 +7,7 @@ ghost use Rattle.report_picture.specs.Pictures.{StandInColumns, StandInOrder, is
 
 use crate::causes::causes_of;
 use crate::columns::is_among;
+use crate::filled::filled;
 use crate::notes::Note;
 use crate::order::order_of;
 use crate::picture::Drawn;
@@ -53,7 +54,7 @@ fn rows_in(
     tags: &[u32],
     numbers: Vec<usize>,
 ) -> Result<Rows, AllocError> {
-    let mut rows = vec![in alloc; 0u32; notes.len()]?;
+    let mut rows = filled(alloc, 0u32, notes.len())?;
     let mut end = 0u32;
     for number in numbers.as_slice() {
         if let Some(place) = rows.get_mut(*number) {

@@ -2,6 +2,7 @@
 
 use crate::layout::{BAR, INDENT, LEVEL};
 use crate::looks::Look;
+use crate::marks::{push_path, push_text};
 use crate::notes::{Note, Verb};
 use crate::picture::{Mark, Way};
 use crate::sheet::Sheet;
@@ -50,36 +51,9 @@ fn push_bent<'a>(
     push_path(marks, point, looks.1, title)
 }
 
-fn push_path<'a>(
-    marks: &mut Vec<Mark<'a>>,
-    way: Way,
-    look: Look,
-    title: &'a [u8],
-) -> Result<(), AllocError> {
-    marks.push(Mark::Path { way, look, title })?;
-    Ok(())
-}
-
-fn push_label<'a>(
-    marks: &mut Vec<Mark<'a>>,
-    x: u64,
-    y: u64,
-    text: Vec<u8>,
-    title: &'a [u8],
-) -> Result<(), AllocError> {
-    marks.push(Mark::Text {
-        x,
-        y,
-        look: Look::Label,
-        text,
-        title,
-    })?;
-    Ok(())
-}
-
-/// The lane in front of a column for its next way, if there is a column.
-fn lane_to(lanes: &mut Vec<u64>, column: Option<usize>) -> u64 {
-    match column {
+/// The lane for the next way to a line.
+fn lane_to(lanes: &mut Vec<u64>, sheet: &Sheet, number: usize) -> u64 {
+    match sheet.column(sheet.tag_at(number)) {
         Some(column) => next_lane(lanes, column),
         None => 0,
     }
@@ -93,24 +67,14 @@ fn push_way<'a>(
     from: usize,
     to: usize,
     looks: (Look, Look),
-) -> Result<bool, AllocError> {
-    let (Some(source), Some(target)) = (sheet.note(from), sheet.note(to)) else {
-        return Ok(false);
+) -> Result<(), AllocError> {
+    let (Some(left), Some(to_left)) = (sheet.left_at(from), sheet.left_at(to)) else {
+        return Ok(());
     };
-    let (Some(left), Some(to_left)) = (sheet.left(source.tag), sheet.left(target.tag)) else {
-        return Ok(false);
-    };
-    let lane = lane_to(lanes, sheet.column(target.tag));
+    let lane = lane_to(lanes, sheet, to);
     let start = (left.saturating_add(BAR / 2), sheet.y(from));
-    push_bent(
-        marks,
-        start,
-        lane,
-        (to_left, sheet.y(to)),
-        looks,
-        source.text,
-    )?;
-    Ok(true)
+    let end = (to_left, sheet.y(to));
+    push_bent(marks, start, lane, end, looks, sheet.text_at(from))
 }
 
 /// The line that got what this line brought, if one did.
@@ -122,7 +86,7 @@ fn got<'a>(sheet: &Sheet<'_, 'a>, note: &Note<'a>) -> Option<usize> {
     }
 }
 
-/// An element: its channel, its place and what it is.
+/// An element: its channel, its place and what it is, with a text behind it.
 fn element(
     alloc: Global,
     channel: &[u8],
@@ -139,6 +103,24 @@ fn element(
     Ok(text)
 }
 
+/// What the element is that this line brought, if both lines have a column.
+fn push_element_text<'a>(
+    alloc: Global,
+    marks: &mut Vec<Mark<'a>>,
+    sheet: &Sheet<'_, 'a>,
+    number: usize,
+    to: usize,
+    note: &Note<'a>,
+) -> Result<(), AllocError> {
+    let (Some(left), Some(_)) = (sheet.left_at(number), sheet.left_at(to)) else {
+        return Ok(());
+    };
+    let text = element(alloc, note.channel, note.place, note.value, b"")?;
+    let y = sheet.y(number).saturating_add(LEVEL - 5);
+    let x = left.saturating_add(INDENT);
+    push_text(marks, (x, y), Look::Label, text, note.text)
+}
+
 /// The way of the element that this line brought, if another line got it.
 fn push_element<'a>(
     alloc: Global,
@@ -152,15 +134,8 @@ fn push_element<'a>(
         return Ok(());
     };
     let looks = (Look::Brings, Look::BringsEnd);
-    if !push_way(marks, lanes, sheet, number, to, looks)? {
-        return Ok(());
-    }
-    let Some(left) = sheet.left(note.tag) else {
-        return Ok(());
-    };
-    let text = element(alloc, note.channel, note.place, note.value, b"")?;
-    let y = sheet.y(number).saturating_add(LEVEL - 5);
-    push_label(marks, left.saturating_add(INDENT), y, text, note.text)
+    push_way(marks, lanes, sheet, number, to, looks)?;
+    push_element_text(alloc, marks, sheet, number, to, note)
 }
 
 /// The ways of the elements, each from the line that brought it to the line that got it.
@@ -232,27 +207,36 @@ fn push_lost_one<'a>(
     let Some(number) = end_of(sheet, *channel, *place) else {
         return Ok(());
     };
-    let Some(left) = left_at(sheet, number) else {
+    let Some(left) = sheet.left_at(number) else {
         return Ok(());
     };
+    let text = lost_element(alloc, *channel, *place, *value, *fate)?;
     let y = sheet.y(number).saturating_add(LEVEL - 6);
-    let x = left.saturating_add(INDENT + 4);
-    push_path(marks, Way::Cross { x, y }, Look::Lost, title)?;
-    let mut text = element(alloc, *channel, *place, *value, b" ")?;
-    text.extend_from_slice(*fate)?;
-    push_label(
-        marks,
-        x.saturating_add(10),
-        y.saturating_add(4),
-        text,
-        title,
-    )
+    push_cross(marks, left.saturating_add(INDENT + 4), y, text, title)
 }
 
-/// Where the column of this line stands, if its coroutine has one.
-fn left_at(sheet: &Sheet<'_, '_>, number: usize) -> Option<u64> {
-    match sheet.note(number) {
-        Some(note) => sheet.left(note.tag),
-        None => None,
-    }
+/// An element, and what became of it.
+fn lost_element(
+    alloc: Global,
+    channel: &[u8],
+    place: &[u8],
+    value: &[u8],
+    fate: &[u8],
+) -> Result<Vec<u8>, AllocError> {
+    let mut text = element(alloc, channel, place, value, b" ")?;
+    text.extend_from_slice(fate)?;
+    Ok(text)
+}
+
+/// A cross, with a text beside it.
+fn push_cross<'a>(
+    marks: &mut Vec<Mark<'a>>,
+    x: u64,
+    y: u64,
+    text: Vec<u8>,
+    title: &'a [u8],
+) -> Result<(), AllocError> {
+    push_path(marks, Way::Cross { x, y }, Look::Lost, title)?;
+    let place = (x.saturating_add(10), y.saturating_add(4));
+    push_text(marks, place, Look::Label, text, title)
 }

@@ -1,7 +1,7 @@
 //! Which line stands below which other.
 
 use crate::notes::{Note, Verb};
-use crate::tables::{OfPlace, Tables};
+use crate::tables::{OfPlace, OfRow, Tables};
 use std::alloc::{AllocError, Global};
 
 /// That one line stands below another, by their numbers among the lines of the books.
@@ -41,6 +41,28 @@ pub(crate) fn received_by(of: OfPlace) -> Option<usize> {
     }
 }
 
+/// What resolved a wait stands above the lines that tell of it.
+fn push_resolved<'a>(
+    causes: &mut Vec<Cause>,
+    tables: &Tables<'a>,
+    by: Option<usize>,
+    wait: &'a [u8],
+) -> Result<(), AllocError> {
+    let of = tables.wait(wait);
+    push(causes, by, of.settles)?;
+    push(causes, by, of.late)
+}
+
+/// What stands above a line at a place of a channel, if one line does.
+fn above_at<'a>(tables: &Tables<'a>, of: OfPlace, note: &Note<'a>) -> Option<usize> {
+    match note.verb {
+        Verb::Hand | Verb::WakeClosed => of.awaits,
+        Verb::Admit | Verb::Drop | Verb::Spurn | Verb::Drain => of.brings,
+        Verb::Refused => tables.close(note.channel),
+        _ => None,
+    }
+}
+
 /// Those of a line on channels.
 fn push_channel<'a>(
     causes: &mut Vec<Cause>,
@@ -51,29 +73,38 @@ fn push_channel<'a>(
     let of = tables.place(note.channel, note.place);
     let here = Some(number);
     match note.verb {
-        Verb::Hand | Verb::WakeClosed => push(causes, of.awaits, here),
         Verb::Take => {
             push(causes, of.brings, here)?;
             push(causes, of.admits, here)
         }
-        Verb::Admit | Verb::Drop | Verb::Spurn | Verb::Drain => push(causes, of.brings, here),
-        Verb::Offer => {
-            let by = sent_by(of);
-            let wait = tables.wait(note.wait);
-            push(causes, by, wait.settles)?;
-            push(causes, by, wait.late)
-        }
-        Verb::Await => {
-            let by = received_by(of);
-            let wait = tables.wait(note.wait);
-            push(causes, by, wait.settles)?;
-            push(causes, by, wait.late)
-        }
-        Verb::Refused => match tables.closes.get(&note.channel) {
-            Some(line) => push(causes, Some(*line), here),
-            None => Ok(()),
-        },
-        _ => Ok(()),
+        Verb::Offer => push_resolved(causes, tables, sent_by(of), note.wait),
+        Verb::Await => push_resolved(causes, tables, received_by(of), note.wait),
+        _ => push(causes, above_at(tables, of, note), here),
+    }
+}
+
+/// What an `attach` stands above.
+fn push_attached(
+    causes: &mut Vec<Cause>,
+    here: Option<usize>,
+    of: OfRow,
+    launches: bool,
+) -> Result<(), AllocError> {
+    if launches {
+        push(causes, here, of.first)?;
+    }
+    push(causes, here, of.cancels)?;
+    push(causes, here, of.starts)
+}
+
+/// What stands above a line on a Job, if a line does.
+fn above_on<'a>(tables: &Tables<'a>, of: OfRow, note: &Note<'a>) -> Option<usize> {
+    match note.verb {
+        Verb::Cancel if note.how == b"child".as_slice() => tables.row(note.other).cancels,
+        Verb::Cancel if note.how == b"parent".as_slice() => tables.parent(of).cancels,
+        Verb::Saw => of.cancels,
+        Verb::SawEnd => of.finishes,
+        _ => None,
     }
 }
 
@@ -87,29 +118,20 @@ fn push_job<'a>(
     let of = tables.row(note.row);
     let here = Some(number);
     match note.verb {
-        Verb::Attach => {
-            if note.launches() {
-                push(causes, here, of.first)?;
-            }
-            push(causes, here, of.cancels)?;
-            push(causes, here, of.starts)
-        }
+        Verb::Attach => push_attached(causes, here, of, note.launches()),
         Verb::Start => push(causes, here, of.first),
         Verb::EndBody => push(causes, here, of.finishes),
-        Verb::Cancel if note.how == b"child".as_slice() => {
-            push(causes, tables.row(note.other).cancels, here)
-        }
-        Verb::Cancel if note.how == b"parent".as_slice() => match of.parent {
-            Some(parent) => push(causes, tables.row(parent).cancels, here),
-            None => Ok(()),
-        },
-        Verb::Gone => match of.parent {
-            Some(parent) => push(causes, here, tables.row(parent).finishes),
-            None => Ok(()),
-        },
-        Verb::Saw => push(causes, of.cancels, here),
-        Verb::SawEnd => push(causes, of.finishes, here),
-        _ => Ok(()),
+        Verb::Gone => push(causes, here, tables.parent(of).finishes),
+        _ => push(causes, above_on(tables, of, note), here),
+    }
+}
+
+/// The line before this one, if it stands in the same book.
+fn before_in(notes: &[Note], number: usize, tag: u32) -> Option<usize> {
+    let before = number.checked_sub(1)?;
+    match notes.get(before) {
+        Some(note) if note.tag == tag => Some(before),
+        _ => None,
     }
 }
 
@@ -122,19 +144,11 @@ pub(crate) fn causes_of<'a>(
     tables: &Tables<'a>,
 ) -> Result<Vec<Cause>, AllocError> {
     let mut causes = Vec::new(alloc);
-    let mut last: Option<(usize, u32)> = None;
     for (number, note) in notes.iter().enumerate() {
         push_channel(&mut causes, tables, number, note)?;
         push_job(&mut causes, tables, number, note)?;
-        if let Some((before, tag)) = last
-            && tag == note.tag
-        {
-            causes.push(Cause {
-                above: before,
-                below: number,
-            })?;
-        }
-        last = Some((number, note.tag));
+        let before = before_in(notes, number, note.tag);
+        push(&mut causes, before, Some(number))?;
     }
     Ok(causes)
 }

@@ -173,12 +173,11 @@ fn push_number(alloc: Global, out: &mut Vec<u8>, name: &[u8], n: u64) -> Result<
 fn push_title(out: &mut Vec<u8>, title: &[u8]) -> Result<(), AllocError>
     ensures { OnOk result (out.new.items ≡ out.old.items ++ title_text title.now) }
 {
-    if title.is_empty() {
-        return Ok(());
+    if let [_, ..] = title {
+        out.extend_from_slice(b"<title>")?;
+        push_escaped(out, title)?;
+        out.extend_from_slice(b"</title>")?;
     }
-    out.extend_from_slice(b"<title>")?;
-    push_escaped(out, title)?;
-    out.extend_from_slice(b"</title>")?;
     Ok(())
 }
 

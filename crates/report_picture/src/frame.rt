@@ -2,6 +2,7 @@
 
 use crate::layout::{BAR, row_y};
 use crate::looks::{Look, State};
+use crate::marks::{push_box, push_path, push_text};
 use crate::picture::{Mark, Way};
 use crate::sheet::Sheet;
 use report_reader::{Line, Said, cut_at};
@@ -43,13 +44,14 @@ fn push_entries<'a>(
     let mut y = 24u64;
     for (look, name) in entries {
         push_sample(marks, x, y, *look)?;
-        marks.push(Mark::Text {
-            x: x.saturating_add(BAR + 8),
-            y,
-            look: Look::Label,
-            text: Vec::from_slice(alloc, *name)?,
-            title: b"",
-        })?;
+        let text = Vec::from_slice(alloc, *name)?;
+        push_text(
+            marks,
+            (x.saturating_add(BAR + 8), y),
+            Look::Label,
+            text,
+            b"",
+        )?;
         x = x.saturating_add(ENTRY);
         if x >= LEGEND {
             x = 20;
@@ -67,12 +69,12 @@ fn push_sample<'a>(
 ) -> Result<(), AllocError> {
     let middle = y.saturating_sub(4);
     match look {
-        Look::Life(_) => push_sample_box(marks, x, y, look),
+        Look::Life(_) => push_box(marks, (x, y.saturating_sub(13)), (BAR, 18), look, b""),
         Look::Brings => push_sample_way(marks, x, middle, look, Look::BringsEnd),
         Look::Cancels => push_sample_way(marks, x, middle, look, Look::CancelsEnd),
         Look::Lost => {
             let x = x.saturating_add(BAR / 2);
-            push_path(marks, Way::Cross { x, y: middle }, look)
+            push_path(marks, Way::Cross { x, y: middle }, look, b"")
         }
         _ => {
             let way = Way::Down {
@@ -80,35 +82,9 @@ fn push_sample<'a>(
                 from: y.saturating_sub(13),
                 to: y.saturating_add(5),
             };
-            push_path(marks, way, look)
+            push_path(marks, way, look, b"")
         }
     }
-}
-
-fn push_path<'a>(marks: &mut Vec<Mark<'a>>, way: Way, look: Look) -> Result<(), AllocError> {
-    marks.push(Mark::Path {
-        way,
-        look,
-        title: b"",
-    })?;
-    Ok(())
-}
-
-fn push_sample_box<'a>(
-    marks: &mut Vec<Mark<'a>>,
-    x: u64,
-    y: u64,
-    look: Look,
-) -> Result<(), AllocError> {
-    marks.push(Mark::Box {
-        x,
-        y: y.saturating_sub(13),
-        width: BAR,
-        height: 18,
-        look,
-        title: b"",
-    })?;
-    Ok(())
 }
 
 /// A way to the right, with its point.
@@ -127,27 +103,9 @@ fn push_sample_way<'a>(
         to_y: y,
         to_x: x.saturating_add(8),
     };
-    push_path(marks, way, look)?;
+    push_path(marks, way, look, b"")?;
     let x = x.saturating_add(BAR + 4);
-    push_path(marks, Way::Point { x, y }, point)
-}
-
-fn push_text<'a>(
-    marks: &mut Vec<Mark<'a>>,
-    x: u64,
-    y: u64,
-    look: Look,
-    text: Vec<u8>,
-    title: &'a [u8],
-) -> Result<(), AllocError> {
-    marks.push(Mark::Text {
-        x,
-        y,
-        look,
-        text,
-        title,
-    })?;
-    Ok(())
+    push_path(marks, Way::Point { x, y }, point, b"")
 }
 
 /// What is said of a Job behind its row.
@@ -161,29 +119,70 @@ fn said_of_job(text: &[u8]) -> &[u8] {
     }
 }
 
-/// The feet of the columns: how each Job ended, or how far it is. The Jobs without a column stand below. Answers where the picture ends.
+/// The foot of a column: how its Job ended, or how far it is. A Job without a column stands as a line of its own.
+fn push_foot<'a>(
+    alloc: Global,
+    marks: &mut Vec<Mark<'a>>,
+    left: Option<u64>,
+    bottom: u64,
+    y: u64,
+    line: &'a [u8],
+) -> Result<(), AllocError> {
+    match left {
+        Some(left) => {
+            let said = Vec::from_slice(alloc, said_of_job(line))?;
+            push_text(marks, (left, bottom), Look::Foot, said, line)
+        }
+        None => {
+            let said = Vec::from_slice(alloc, line)?;
+            push_text(marks, (36, y), Look::Label, said, line)
+        }
+    }
+}
+
+/// Where the feet of the columns stand.
+fn bottom_of(sheet: &Sheet) -> u64 {
+    row_y(sheet.end).saturating_add(18)
+}
+
+/// Where the first Job without a column stands.
+fn below_feet(sheet: &Sheet) -> u64 {
+    bottom_of(sheet).saturating_add(24)
+}
+
+/// Where what stands below the Job of this row stands, if that stands here.
+fn below_job(sheet: &Sheet, row: u32, y: u64) -> u64 {
+    match sheet.left(row) {
+        Some(_) => y,
+        None => y.saturating_add(18),
+    }
+}
+
+/// Where the picture ends: below the Jobs without a column.
+pub(crate) fn height_of(sheet: &Sheet, lines: &[Line]) -> u64 {
+    let mut y = below_feet(sheet);
+    for line in lines {
+        if let Said::Job(row) = line.said {
+            y = below_job(sheet, row, y);
+        }
+    }
+    y
+}
+
+/// The feet of the columns: how each Job ended, or how far it is. The Jobs without a column stand below.
 pub(crate) fn push_feet<'a>(
     alloc: Global,
     marks: &mut Vec<Mark<'a>>,
     sheet: &Sheet<'_, 'a>,
     lines: &[Line<'a>],
-) -> Result<u64, AllocError> {
-    let bottom = row_y(sheet.end).saturating_add(18);
-    let mut y = bottom.saturating_add(24);
+) -> Result<(), AllocError> {
+    let bottom = bottom_of(sheet);
+    let mut y = below_feet(sheet);
     for line in lines {
         if let Said::Job(row) = line.said {
-            match sheet.left(row) {
-                Some(left) => {
-                    let said = Vec::from_slice(alloc, said_of_job(line.text))?;
-                    push_text(marks, left, bottom, Look::Foot, said, line.text)?;
-                }
-                None => {
-                    let said = Vec::from_slice(alloc, line.text)?;
-                    push_text(marks, 36, y, Look::Label, said, line.text)?;
-                    y = y.saturating_add(18);
-                }
-            }
+            push_foot(alloc, marks, sheet.left(row), bottom, y, line.text)?;
+            y = below_job(sheet, row, y);
         }
     }
-    Ok(y)
+    Ok(())
 }

@@ -4,6 +4,7 @@ ghost use Rattle.std.specs.Prelude.{◌≡◌, ◌≤◌, ◌+◌, ◌++◌, ◌
 ghost use Rattle.report_picture.specs.Elements.{label_of, rest_of, row_y};
 ghost use Rattle.report_picture.specs.Pictures.{StandBeside, last_text};
 
+use crate::filled::filled;
 use crate::picture::{Column, Drawn};
 use co_base::Memory;
 use report_reader::cut_at;
@@ -60,7 +61,7 @@ pub(crate) fn widths_of(
     columns: usize,
     drawn: &[Drawn],
 ) -> Result<Vec<usize>, AllocError> {
-    let mut widths = vec![in alloc; 14usize; columns]?;
+    let mut widths = filled(alloc, 14usize, columns)?;
     for d in drawn {
         let bytes = label_of(d.line.text).len();
         if let Some(width) = widths.get_mut(d.column)

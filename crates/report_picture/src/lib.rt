@@ -23,6 +23,8 @@
 //!
 //! - `layout`: where rows, columns and texts stand.
 //! - `sheet`: what the marks are made of.
+//! - `marks`: marks, added one by one.
+//! - `filled`: vectors of one value.
 //! - `lives`: the lives of the coroutines, and their waits.
 //! - `arrows`: the ways of elements and of cancellations.
 //! - `frame`: the legend, and the feet of the columns.
@@ -40,10 +42,12 @@ mod columns;
 mod diagram;
 mod document;
 mod drawing;
+mod filled;
 mod frame;
 mod layout;
 mod lives;
 mod looks;
+mod marks;
 mod notes;
 mod order;
 mod picture;

@@ -1,7 +1,9 @@
 //! The lives of the coroutines, and their waits.
 
+use crate::filled::filled;
 use crate::layout::{BAR, HALF};
 use crate::looks::{Look, State};
+use crate::marks::{push_box, push_path};
 use crate::notes::{Note, Verb};
 use crate::picture::{Mark, Way};
 use crate::sheet::Sheet;
@@ -46,16 +48,17 @@ fn push_stretch<'a>(
         && let Some(note) = sheet.note(life.since)
     {
         let from = sheet.y(life.since);
-        marks.push(Mark::Box {
-            x: column.left,
-            y: from,
-            width: BAR,
-            height: until.saturating_sub(from),
-            look: Look::Life(life.state),
-            title: note.text,
-        })?;
+        let size = (BAR, until.saturating_sub(from));
+        push_box(
+            marks,
+            (column.left, from),
+            size,
+            Look::Life(life.state),
+            note.text,
+        )
+    } else {
+        Ok(())
     }
-    Ok(())
 }
 
 /// Where the last stretch of a life ends.
@@ -151,8 +154,8 @@ pub(crate) fn push_lives<'a>(
     sheet: &Sheet<'_, 'a>,
     order: &[usize],
 ) -> Result<(), AllocError> {
-    let mut lives: Vec<Option<Life>> = vec![in alloc; None; sheet.columns.len()]?;
-    let mut last = vec![in alloc; 0usize; sheet.columns.len()]?;
+    let mut lives: Vec<Option<Life>> = filled(alloc, None, sheet.columns.len())?;
+    let mut last = filled(alloc, 0usize, sheet.columns.len())?;
     for number in order {
         pass_line(marks, sheet, &mut lives, &mut last, *number)?;
     }
@@ -181,12 +184,7 @@ fn push_wait<'a>(
         from: sheet.y(number),
         to: bottom_of(sheet, note.wait),
     };
-    marks.push(Mark::Path {
-        way,
-        look: Look::Wait,
-        title: note.text,
-    })?;
-    Ok(())
+    push_path(marks, way, Look::Wait, note.text)
 }
 
 /// The waits, each from the line that began it to its settle.

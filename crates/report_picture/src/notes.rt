@@ -33,43 +33,165 @@ pub(crate) enum Verb {
     Other,
 }
 
-const VERBS: [(&[u8], Verb); 26] = [
-    (b"hand", Verb::Hand),
-    (b"put", Verb::Put),
-    (b"offer", Verb::Offer),
-    (b"await", Verb::Await),
-    (b"take", Verb::Take),
-    (b"admit", Verb::Admit),
-    (b"drop", Verb::Drop),
-    (b"spurn", Verb::Spurn),
-    (b"drain", Verb::Drain),
-    (b"wakeclosed", Verb::WakeClosed),
-    (b"close", Verb::Close),
-    (b"sendclosed", Verb::Refused),
-    (b"trysendclosed", Verb::Refused),
-    (b"receiveclosed", Verb::Refused),
-    (b"tryreceiveclosed", Verb::Refused),
-    (b"settle", Verb::Settle),
-    (b"withdraw", Verb::Withdraw),
-    (b"late", Verb::Late),
-    (b"attach", Verb::Attach),
-    (b"start", Verb::Start),
-    (b"endbody", Verb::EndBody),
-    (b"cancel", Verb::Cancel),
-    (b"finish", Verb::Finish),
-    (b"gone", Verb::Gone),
-    (b"saw", Verb::Saw),
-    (b"sawend", Verb::SawEnd),
+/// Which words of a line are what, by their numbers; 0, which is the tag, where its verb has none.
+#[derive(Clone, Copy)]
+struct Parts {
+    channel: usize,
+    place: usize,
+    value: usize,
+    wait: usize,
+    row: usize,
+    other: usize,
+    how: usize,
+}
+
+const NO_PARTS: Parts = Parts {
+    channel: 0,
+    place: 0,
+    value: 0,
+    wait: 0,
+    row: 0,
+    other: 0,
+    how: 0,
+};
+
+const CHANNEL: Parts = Parts {
+    channel: 2,
+    place: 0,
+    value: 0,
+    wait: 0,
+    row: 0,
+    other: 0,
+    how: 0,
+};
+
+const PLACE: Parts = Parts {
+    channel: 2,
+    place: 3,
+    value: 0,
+    wait: 0,
+    row: 0,
+    other: 0,
+    how: 0,
+};
+
+const ELEMENT: Parts = Parts {
+    channel: 2,
+    place: 3,
+    value: 4,
+    wait: 0,
+    row: 0,
+    other: 0,
+    how: 0,
+};
+
+const OFFER: Parts = Parts {
+    channel: 2,
+    place: 3,
+    value: 4,
+    wait: 5,
+    row: 0,
+    other: 0,
+    how: 0,
+};
+
+const AWAIT: Parts = Parts {
+    channel: 2,
+    place: 3,
+    value: 0,
+    wait: 4,
+    row: 0,
+    other: 0,
+    how: 0,
+};
+
+const WAIT: Parts = Parts {
+    channel: 0,
+    place: 0,
+    value: 0,
+    wait: 2,
+    row: 0,
+    other: 0,
+    how: 3,
+};
+
+const ROW: Parts = Parts {
+    channel: 0,
+    place: 0,
+    value: 0,
+    wait: 0,
+    row: 2,
+    other: 0,
+    how: 0,
+};
+
+const FINISH: Parts = Parts {
+    channel: 0,
+    place: 0,
+    value: 0,
+    wait: 0,
+    row: 2,
+    other: 0,
+    how: 3,
+};
+
+const CANCEL: Parts = Parts {
+    channel: 0,
+    place: 0,
+    value: 0,
+    wait: 0,
+    row: 2,
+    other: 4,
+    how: 3,
+};
+
+const ATTACH: Parts = Parts {
+    channel: 0,
+    place: 0,
+    value: 0,
+    wait: 0,
+    row: 2,
+    other: 4,
+    how: 7,
+};
+
+const VERBS: [(&[u8], Verb, Parts); 26] = [
+    (b"hand", Verb::Hand, ELEMENT),
+    (b"put", Verb::Put, ELEMENT),
+    (b"offer", Verb::Offer, OFFER),
+    (b"await", Verb::Await, AWAIT),
+    (b"take", Verb::Take, ELEMENT),
+    (b"admit", Verb::Admit, PLACE),
+    (b"drop", Verb::Drop, ELEMENT),
+    (b"spurn", Verb::Spurn, ELEMENT),
+    (b"drain", Verb::Drain, ELEMENT),
+    (b"wakeclosed", Verb::WakeClosed, PLACE),
+    (b"close", Verb::Close, CHANNEL),
+    (b"sendclosed", Verb::Refused, CHANNEL),
+    (b"trysendclosed", Verb::Refused, CHANNEL),
+    (b"receiveclosed", Verb::Refused, CHANNEL),
+    (b"tryreceiveclosed", Verb::Refused, CHANNEL),
+    (b"settle", Verb::Settle, WAIT),
+    (b"withdraw", Verb::Withdraw, WAIT),
+    (b"late", Verb::Late, WAIT),
+    (b"attach", Verb::Attach, ATTACH),
+    (b"start", Verb::Start, ROW),
+    (b"endbody", Verb::EndBody, ROW),
+    (b"cancel", Verb::Cancel, CANCEL),
+    (b"finish", Verb::Finish, FINISH),
+    (b"gone", Verb::Gone, ROW),
+    (b"saw", Verb::Saw, ROW),
+    (b"sawend", Verb::SawEnd, ROW),
 ];
 
-/// The verb of a word among these.
-fn verb_among(verbs: &[(&[u8], Verb)], word: &[u8]) -> Verb {
-    for (name, verb) in verbs {
+/// The verb of a word among these, and where its parts stand.
+fn verb_among(verbs: &[(&[u8], Verb, Parts)], word: &[u8]) -> (Verb, Parts) {
+    for (name, verb, parts) in verbs {
         if word == *name {
-            return *verb;
+            return (*verb, *parts);
         }
     }
-    Verb::Other
+    (Verb::Other, NO_PARTS)
 }
 
 /// The line of a book, taken apart. What its verb does not have is 0, or empty.
@@ -103,85 +225,32 @@ fn word_at<'a>(words: &[&'a [u8]], i: usize) -> &'a [u8] {
     }
 }
 
+/// The word with this number; none has 0.
+fn part_at<'a>(words: &[&'a [u8]], i: usize) -> &'a [u8] {
+    if i == 0 { b"" } else { word_at(words, i) }
+}
+
 fn number_at(words: &[&[u8]], i: usize) -> u32 {
-    match value_of(word_at(words, i)) {
+    match value_of(part_at(words, i)) {
         Some(n) => n,
         None => 0,
     }
 }
 
 fn note_of<'a>(tag: u32, text: &'a [u8], words: &[&'a [u8]]) -> Note<'a> {
-    let verb = verb_among(&VERBS, word_at(words, 1));
-    let note = Note {
+    let (verb, parts) = verb_among(&VERBS, word_at(words, 1));
+    Note {
         text,
         tag,
         verb,
-        channel: b"",
-        place: b"",
-        value: b"",
-        wait: b"",
-        row: 0,
-        other: 0,
-        how: b"",
-        cancelled: false,
-    };
-    match verb {
-        Verb::Hand | Verb::Put | Verb::Take | Verb::Drop | Verb::Spurn | Verb::Drain => Note {
-            channel: word_at(words, 2),
-            place: word_at(words, 3),
-            value: word_at(words, 4),
-            ..note
-        },
-        Verb::Offer => Note {
-            channel: word_at(words, 2),
-            place: word_at(words, 3),
-            value: word_at(words, 4),
-            wait: word_at(words, 5),
-            ..note
-        },
-        Verb::Await => Note {
-            channel: word_at(words, 2),
-            place: word_at(words, 3),
-            wait: word_at(words, 4),
-            ..note
-        },
-        Verb::Admit | Verb::WakeClosed => Note {
-            channel: word_at(words, 2),
-            place: word_at(words, 3),
-            ..note
-        },
-        Verb::Close | Verb::Refused => Note {
-            channel: word_at(words, 2),
-            ..note
-        },
-        Verb::Settle | Verb::Withdraw | Verb::Late => Note {
-            wait: word_at(words, 2),
-            how: word_at(words, 3),
-            ..note
-        },
-        Verb::Attach => Note {
-            row: number_at(words, 2),
-            other: number_at(words, 4),
-            how: word_at(words, 7),
-            cancelled: words.len() > 8,
-            ..note
-        },
-        Verb::Cancel => Note {
-            row: number_at(words, 2),
-            how: word_at(words, 3),
-            other: number_at(words, 4),
-            ..note
-        },
-        Verb::Finish => Note {
-            row: number_at(words, 2),
-            how: word_at(words, 3),
-            ..note
-        },
-        Verb::Start | Verb::EndBody | Verb::Gone | Verb::Saw | Verb::SawEnd => Note {
-            row: number_at(words, 2),
-            ..note
-        },
-        Verb::Other => note,
+        channel: part_at(words, parts.channel),
+        place: part_at(words, parts.place),
+        value: part_at(words, parts.value),
+        wait: part_at(words, parts.wait),
+        row: number_at(words, parts.row),
+        other: number_at(words, parts.other),
+        how: part_at(words, parts.how),
+        cancelled: matches!(verb, Verb::Attach) && words.len() > 8,
     }
 }
 

@@ -18,20 +18,47 @@ struct Resolved {
     by: usize,
 }
 
+/// Whether the line with this number in the picture has this text.
+fn stands_at(drawn: &[Drawn], number: usize, text: &[u8]) -> bool {
+    match drawn.get(number) {
+        Some(line) => line.line.text == text,
+        None => false,
+    }
+}
+
 /// Of each line of the books its place: in the picture, if it stands there.
 fn places_of(alloc: Global, notes: &[Note], drawn: &[Drawn]) -> Result<Vec<Place>, AllocError> {
     let mut places = Vec::new(alloc);
     let mut next = 0usize;
     for (number, note) in notes.iter().enumerate() {
-        match drawn.get(next) {
-            Some(line) if line.line.text == note.text => {
-                places.push(Place::InPicture(next))?;
-                next = next.saturating_add(1);
-            }
-            _ => places.push(Place::InReport(number))?,
-        }
+        let here = stands_at(drawn, next, note.text);
+        places.push(if here {
+            Place::InPicture(next)
+        } else {
+            Place::InReport(number)
+        })?;
+        next = next.saturating_add(usize::from(here));
     }
     Ok(places)
+}
+
+/// The line that resolved the wait of this line, if it placed or withdrew one and one did.
+fn resolved_by<'a>(tables: &Tables<'a>, number: usize, note: &Note<'a>) -> Option<usize> {
+    let of = tables.place(note.channel, note.place);
+    match note.verb {
+        Verb::Offer => sent_by(of),
+        Verb::Await => received_by(of),
+        Verb::Withdraw => Some(number),
+        _ => None,
+    }
+}
+
+/// Whether a line stands above the one that is known, if one is.
+fn is_first(rows: &[u32], by: usize, known: Option<&Resolved>) -> bool {
+    match known {
+        Some(old) => row_of(rows, by) < row_of(rows, old.by),
+        None => true,
+    }
 }
 
 /// What resolved each wait: of several lines the topmost.
@@ -43,25 +70,11 @@ fn resolved_in<'a>(
 ) -> Result<HashMap<&'a [u8], Resolved>, AllocError> {
     let mut resolved: HashMap<&'a [u8], Resolved> = HashMap::new(alloc);
     for (number, note) in notes.iter().enumerate() {
-        let of = tables.place(note.channel, note.place);
-        let by = match note.verb {
-            Verb::Offer => sent_by(of),
-            Verb::Await => received_by(of),
-            Verb::Withdraw => Some(number),
-            _ => None,
-        };
-        if let Some(by) = by {
-            let new = Resolved {
-                placing: number,
-                by,
-            };
-            let is_first = match resolved.get(&note.wait) {
-                Some(old) => row_of(rows, by) < row_of(rows, old.by),
-                None => true,
-            };
-            if is_first {
-                resolved.insert(note.wait, new)?;
-            }
+        if let Some(by) = resolved_by(tables, number, note)
+            && is_first(rows, by, resolved.get(&note.wait))
+        {
+            let placing = number;
+            resolved.insert(note.wait, Resolved { placing, by })?;
         }
     }
     Ok(resolved)

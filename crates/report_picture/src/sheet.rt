@@ -45,6 +45,30 @@ impl<'s, 'a> Sheet<'s, 'a> {
         }
     }
 
+    /// The coroutine of a line.
+    pub(crate) fn tag_at(&self, number: usize) -> u32 {
+        match self.notes.get(number) {
+            Some(note) => note.tag,
+            None => 0,
+        }
+    }
+
+    /// Where the bar of a line's coroutine begins from the left, if that has a column.
+    pub(crate) fn left_at(&self, number: usize) -> Option<u64> {
+        match self.notes.get(number) {
+            Some(note) => self.left(note.tag),
+            None => None,
+        }
+    }
+
+    /// The text of a line.
+    pub(crate) fn text_at(&self, number: usize) -> &'a [u8] {
+        match self.notes.get(number) {
+            Some(note) => note.text,
+            None => b"",
+        }
+    }
+
     /// Where the middle of a line is from the top.
     pub(crate) fn y(&self, number: usize) -> u64 {
         match self.rows.get(number) {

@@ -155,35 +155,38 @@ impl<'a> Tables<'a> {
         }
     }
 
+    /// The line that closed a channel, if one did.
+    pub(crate) fn close(&self, channel: &'a [u8]) -> Option<usize> {
+        self.closes.get(&channel).copied()
+    }
+
+    /// What is said of the parent of a row, if that has one.
+    pub(crate) fn parent(&self, of: OfRow) -> OfRow {
+        match of.parent {
+            Some(parent) => self.row(parent),
+            None => NO_ROW,
+        }
+    }
+
     fn add_place(&mut self, number: usize, note: &Note<'a>) -> Result<(), AllocError> {
-        let of = self
-            .places
-            .entry((note.channel, note.place))?
-            .or_insert(NO_PLACE);
-        *of = of_place(*of, number, note.verb);
+        let of = of_place(self.place(note.channel, note.place), number, note.verb);
+        self.places.insert((note.channel, note.place), of)?;
         Ok(())
     }
 
     fn add_wait(&mut self, number: usize, note: &Note<'a>) -> Result<(), AllocError> {
-        let of = self.waits.entry(note.wait)?.or_insert(NO_WAIT);
-        *of = of_wait(*of, number, note.verb);
+        let of = of_wait(self.wait(note.wait), number, note.verb);
+        self.waits.insert(note.wait, of)?;
         Ok(())
     }
 
-    fn add_row(&mut self, number: usize, note: &Note<'a>) -> Result<(), AllocError> {
-        let of = self.rows.entry(note.row)?.or_insert(NO_ROW);
-        *of = of_row(*of, number, note);
-        Ok(())
-    }
-
-    fn add_first(&mut self, number: usize, note: &Note<'a>) -> Result<(), AllocError> {
-        let of = self.rows.entry(note.tag)?.or_insert(NO_ROW);
-        *of = of_first(*of, number);
+    fn set_row(&mut self, row: u32, of: OfRow) -> Result<(), AllocError> {
+        self.rows.insert(row, of)?;
         Ok(())
     }
 
     fn add(&mut self, number: usize, note: &Note<'a>) -> Result<(), AllocError> {
-        self.add_first(number, note)?;
+        self.set_row(note.tag, of_first(self.row(note.tag), number))?;
         match note.verb {
             Verb::Hand
             | Verb::Put
@@ -200,7 +203,9 @@ impl<'a> Tables<'a> {
                 self.closes.insert(note.channel, number)?;
                 Ok(())
             }
-            Verb::Attach | Verb::Start | Verb::Cancel | Verb::Finish => self.add_row(number, note),
+            Verb::Attach | Verb::Start | Verb::Cancel | Verb::Finish => {
+                self.set_row(note.row, of_row(self.row(note.row), number, note))
+            }
             _ => Ok(()),
         }
     }
