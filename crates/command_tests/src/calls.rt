@@ -112,6 +112,24 @@ pub(crate) fn push_line(text: &mut String, line: &str) -> Result<(), Memory> {
     Ok(())
 }
 
+/// A text before and behind the first of these characters; all of it before, if there is none.
+pub(crate) fn cut(text: &str, at: char) -> (&str, &str) {
+    match text.split_once(at) {
+        Some(cut) => cut,
+        None => (text, ""),
+    }
+}
+
+/// Whether a text has this character.
+fn has(text: &str, what: char) -> bool {
+    text.split_once(what).is_some()
+}
+
+/// The first so many bytes.
+pub(crate) fn first(bytes: &[u8], count: usize) -> Option<&[u8]> {
+    bytes.get(..count)
+}
+
 /// The second words of the lines that tell of Jobs.
 const OF_JOBS: [&str; 8] = [
     "attach ", "start ", "endbody ", "cancel ", "finish ", "gone ", "sawend ", "fail ",
@@ -129,13 +147,11 @@ fn begins_with_one(text: &str, fronts: &[&str]) -> bool {
 
 /// Whether a line of a report tells of Jobs alone.
 fn tells_of_jobs(line: &str) -> bool {
-    if line.starts_with("job ") || line.contains("@") {
+    if line.starts_with("job ") || has(line, '@') {
         return true;
     }
-    match line.split_once(' ') {
-        Some((_tag, rest)) => begins_with_one(rest, &OF_JOBS),
-        None => false,
-    }
+    let (_tag, rest) = cut(line, ' ');
+    begins_with_one(rest, &OF_JOBS)
 }
 
 /// Whether a row tells of a line, where it tells of these lines.
@@ -162,6 +178,13 @@ fn told_of(alloc: Global, told: &str, text: &str) -> Result<String, Memory> {
         }
     }
     Ok(lines)
+}
+
+/// The word of an answer that says of which lines it tells.
+pub(crate) fn told_by(answer: &str) -> &str {
+    let (words, _lines) = cut(answer, '\n');
+    let (_status, told) = cut(words, ' ');
+    told
 }
 
 /// What a call is answered with, as a row says it: its status, which lines it tells of, and these lines.

@@ -1,6 +1,6 @@
 //! Scripts that are cut off.
 
-use crate::calls::{ONE_WORKER, RENDEZVOUS, found};
+use crate::calls::{ONE_WORKER, RENDEZVOUS, first, found};
 use std::alloc::Global;
 use std::sync::Wait;
 use std::test::Fail;
@@ -51,7 +51,7 @@ fn found_after<R: Threads + Wait + Sync>(
     script: &[u8],
     bytes: usize,
 ) -> Result<String, Fail> {
-    match script.get(..bytes) {
+    match first(script, bytes) {
         Some(script) => found(rt, alloc, ONE_WORKER, script, "report"),
         None => Err(Fail::new("the script is shorter")),
     }

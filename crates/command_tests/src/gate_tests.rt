@@ -1,6 +1,6 @@
 //! The points of the gate that polls pass, in their order.
 
-use crate::calls::push_line;
+use crate::calls::{cut, push_line};
 use co_base::{Gate, Memory, Tag};
 use engine_one::{ListRun, run_one};
 use note_book::Notes;
@@ -158,9 +158,8 @@ fn polls_of(alloc: Global, passed: &[(Tag, u8)], tag: Tag) -> Result<String, Mem
 fn points_in(alloc: Global, table: &str) -> Result<String, Memory> {
     let mut points = String::new(alloc);
     for line in table.lines() {
-        if let Some((_line, passed)) = line.split_once(' ') {
-            push_line(&mut points, passed)?;
-        }
+        let (_line, passed) = cut(line, ' ');
+        push_line(&mut points, passed)?;
     }
     Ok(points)
 }

@@ -1,6 +1,8 @@
 //! A source and a sink of which each call fails once.
 
-use crate::calls::{AT_ONCE, ONE_WORKER, Pace, RENDEZVOUS, RENDEZVOUS_ANSWER, answer, in_a_row};
+use crate::calls::{
+    AT_ONCE, ONE_WORKER, Pace, RENDEZVOUS, RENDEZVOUS_ANSWER, answer, cut, first, in_a_row,
+};
 use co_base::OpenGate;
 use std::alloc::Global;
 use std::sync::Wait;
@@ -67,15 +69,13 @@ fn wanted_where_a_write_fails(call: u32) -> (u8, usize) {
 
 /// The report, which is 331 bytes long.
 fn report() -> &'static [u8] {
-    match RENDEZVOUS_ANSWER.split_once('\n') {
-        Some((_status, report)) => report.as_bytes(),
-        None => b"",
-    }
+    let (_status, report) = cut(RENDEZVOUS_ANSWER, '\n');
+    report.as_bytes()
 }
 
 /// Whether the text is the first so many bytes of the report.
 fn is_part(text: &[u8], held: usize) -> bool {
-    match report().get(..held) {
+    match first(report(), held) {
         Some(part) => text == part,
         None => false,
     }

@@ -5,7 +5,8 @@ ghost use Rattle.std.specs.Prelude.{◌≤◌};
 use crate::await_rows::AWAIT_ROWS;
 use crate::buffer_rows::BUFFER_ROWS;
 use crate::calls::{
-    ONE_WORKER, Pace, RENDEZVOUS, RENDEZVOUS_ANSWER, answer, found, found_alone, in_a_row,
+    ONE_WORKER, Pace, RENDEZVOUS, RENDEZVOUS_ANSWER, answer, cut, found, found_alone, in_a_row,
+    told_by,
 };
 use crate::cancel_rows::CANCEL_ROWS;
 use crate::channel_rows::CHANNEL_ROWS;
@@ -32,13 +33,12 @@ struct Row<'a> {
 }
 
 /// The words of a call, and its script.
-fn words_and_script<'a>(call: &'a str) -> (&'a str, &'a str) {
-    match call.strip_prefix("$ ") {
-        Some(rest) => match rest.split_once('\n') {
-            Some(cut) => cut,
-            None => (rest, ""),
-        },
-        None => (ONE_WORKER, call),
+fn words_and_script(call: &str) -> (&str, &str) {
+    if call.starts_with("$ ") {
+        let (_mark, rest) = cut(call, ' ');
+        cut(rest, '\n')
+    } else {
+        (ONE_WORKER, call)
     }
 }
 
@@ -47,7 +47,7 @@ fn words_and_script<'a>(call: &'a str) -> (&'a str, &'a str) {
 /// A row has a comment that says what it shows, which is its name; a line `$ WORDS`, if its words are not `run --workers 1`; the lines of a
 /// script; a line `= STATUS TOLD`; and the lines that are told of the text. TOLD says which lines these are.
 fn row_of<'a>(text: &'a str) -> Option<Row<'a>> {
-    let (name, rest) = text.split_once('\n')?;
+    let (name, rest) = cut(text, '\n');
     let (call, answer) = rest.split_once("= ")?;
     let (words, script) = words_and_script(call);
     Some(Row {
@@ -56,18 +56,6 @@ fn row_of<'a>(text: &'a str) -> Option<Row<'a>> {
         script,
         answer,
     })
-}
-
-/// The word of an answer that says of which lines it tells.
-fn told_by(answer: &str) -> &str {
-    let words = match answer.split_once('\n') {
-        Some((words, _lines)) => words,
-        None => answer,
-    };
-    match words.split_once(' ') {
-        Some((_status, told)) => told,
-        None => "",
-    }
 }
 
 /// The name and the script of a row that does not hold, with what was found in place of its answer.
@@ -343,10 +331,7 @@ fn the_call_without_threads_refuses_several_workers(rt: HostRuntime) -> Result<(
 
 /// What a script is answered with that is one byte too long.
 fn found_of_too_long<R: Threads + Wait + Sync>(rt: &R, alloc: Global) -> Result<String, Fail> {
-    let mut input = Vec::new(alloc);
-    for _ in 0..1_048_577u32 {
-        input.push(b'\n')?;
-    }
+    let input = vec![in alloc; b'\n'; 1_048_577]?;
     found(rt, alloc, ONE_WORKER, input.as_slice(), "report")
 }
 
