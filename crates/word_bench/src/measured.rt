@@ -5,7 +5,7 @@ ghost use Rattle.channel_model.specs.Channels.{is_signal};
 use channel_model::Kind;
 
 /// A kind of channel that is measured.
-#[derive(Clone, Copy, PartialEq, Eq)]
+#[derive(Clone, Copy)]
 pub(crate) enum Measured {
     Rendezvous,
     Buffered,
