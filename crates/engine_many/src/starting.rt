@@ -7,6 +7,7 @@ ghost use Rattle.poll_states.specs.Steps.{IsOnItsChannels, IsOnItsJobs};
 ghost use Rattle.run_laws.specs.Sights.{KnowsTags};
 ghost use Rattle.run_laws.specs.Starts.{IsUntouched};
 
+use crate::apart::Apart;
 use crate::task::Task;
 use co_base::{Memory, Tag};
 use engine_base::ScriptName;
@@ -32,7 +33,7 @@ impl<N: ScriptName, C: SharedChannels + Drop, J: SharedJobs + Drop, B: Book> Tas
         let mut frame = Frame::new(alloc, script, 0)?;
         let mut jobs = jobs;
         begin(script, &mut frame, &mut jobs)?;
-        let boxed = Box::new(alloc, frame)?;
+        let boxed = Apart::boxed(alloc, frame)?;
         Ok(Task::new(boxed, channels, jobs))
     }
 
@@ -51,7 +52,7 @@ impl<N: ScriptName, C: SharedChannels + Drop, J: SharedJobs + Drop, B: Book> Tas
         ensures tag { IfOk result (λ t. t.0.tag ≡ tag) }
     {
         let frame = Frame::new(alloc, script, tag)?;
-        let boxed = Box::new(alloc, frame)?;
+        let boxed = Apart::boxed(alloc, frame)?;
         Ok(Task::new(boxed, channels, jobs))
     }
 }

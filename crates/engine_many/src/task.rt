@@ -10,6 +10,7 @@ ghost use Rattle.engine_many.specs.Parts.{sight_of, TaskPolled};
 ghost use Rattle.run_laws.specs.Sights.{Keeps, KnowsTags, SawMore, IsSeenSame, IsWithin};
 ghost use Rattle.run_laws.specs.LastRounds.{Did};
 
+use crate::apart::Apart;
 use channel_model::ChannelFloor;
 use co_base::{Gate, Memory, Tag};
 use engine_base::{ScriptName, end_of};
@@ -25,7 +26,7 @@ use task_crew::Tickets;
 /// is moved into its berth and out of it around each few polls.
 #[derive(Drop)]
 pub struct Task<N: ScriptName, C: SharedChannels + Drop, J: SharedJobs + Drop, B: Book> {
-    frame: Box<Frame<B>>,
+    frame: Box<Apart<B>>,
     channels: C,
     jobs: J,
     name: PhantomData<N>,
@@ -39,10 +40,10 @@ impl<N: ScriptName, C: SharedChannels + Drop, J: SharedJobs + Drop, B: Book> Mod
 
     ghost Value = { Frame × C × J };
 
-    ghost view = { λ t. (t.frame.value, t.channels, t.jobs) };
+    ghost view = { λ t. (t.frame.value.frame, t.channels, t.jobs) };
 
-    ghost invariant = { λ t. Keeps N.program (sight_of C.view J.view (t.frame.value, t.channels, t.jobs))
-        × KnowsTags N.program t.frame.value.tag (C.may_act (C.anchor t.channels)) (J.may_act (J.anchor t.jobs)) };
+    ghost invariant = { λ t. Keeps N.program (sight_of C.view J.view (t.frame.value.frame, t.channels, t.jobs))
+        × KnowsTags N.program t.frame.value.frame.tag (C.may_act (C.anchor t.channels)) (J.may_act (J.anchor t.jobs)) };
 }
 
 impl<N: ScriptName, C: SharedChannels + Drop, J: SharedJobs + Drop, B: Book> Tagged
@@ -50,7 +51,7 @@ impl<N: ScriptName, C: SharedChannels + Drop, J: SharedJobs + Drop, B: Book> Tag
     ghost tag_of = { λ t. t.0.tag };
 
     fn tag(&self) -> Tag {
-        self.frame.tag()
+        self.frame.frame.tag()
     }
 }
 
@@ -79,10 +80,10 @@ fn poll_on<B: Book, C: ChannelFloor, J: JobFloor, G: Gate>(
 
 impl<N: ScriptName, C: SharedChannels + Drop, J: SharedJobs + Drop, B: Book> Task<N, C, J, B> {
     /// A coroutine that stands on these floors.
-    pub fn new(frame: Box<Frame<B>>, channels: C, jobs: J) -> Task<N, C, J, B>
-        requires keeps { Keeps N.program (sight_of C.view J.view (frame.value, channels, jobs)) }
-        requires tags { KnowsTags N.program frame.value.tag (C.may_act (C.anchor channels)) (J.may_act (J.anchor jobs)) }
-        ensures { result ≡ (frame.value, channels, jobs) }
+    pub(crate) fn new(frame: Box<Apart<B>>, channels: C, jobs: J) -> Task<N, C, J, B>
+        requires keeps { Keeps N.program (sight_of C.view J.view (frame.value.frame, channels, jobs)) }
+        requires tags { KnowsTags N.program frame.value.frame.tag (C.may_act (C.anchor channels)) (J.may_act (J.anchor jobs)) }
+        ensures { result ≡ (frame.value.frame, channels, jobs) }
     {
         Task {
             frame,
@@ -109,7 +110,14 @@ impl<N: ScriptName, C: SharedChannels + Drop, J: SharedJobs + Drop, B: Book> Tas
             mut jobs,
             name,
         } = self;
-        let turn = poll_on(script, &mut frame, &mut channels, &mut jobs, tickets, gate)?;
+        let turn = poll_on(
+            script,
+            &mut frame.frame,
+            &mut channels,
+            &mut jobs,
+            tickets,
+            gate,
+        )?;
         let task = Task {
             frame,
             channels,
@@ -123,7 +131,7 @@ impl<N: ScriptName, C: SharedChannels + Drop, J: SharedJobs + Drop, B: Book> Tas
     fn notes(&self) -> u64
         ensures { result ≡ length (items_of self.now.0) }
     {
-        self.frame.notes()
+        self.frame.frame.notes()
     }
 
     /// Polls the coroutine. The answer says whether it did anything, and it gets a ticket where it is ready.
@@ -180,6 +188,6 @@ impl<N: ScriptName, C: SharedChannels + Drop, J: SharedJobs + Drop, B: Book> Tas
             jobs,
             name: _,
         } = self;
-        (Box::into_inner(frame), channels, jobs)
+        (Apart::unboxed(frame), channels, jobs)
     }
 }
