@@ -11,26 +11,19 @@ use crate::pass::Pass;
 use crate::steps::{lift_word, load_word};
 use co_base::{ChannelId, Place, Tag};
 
-/// The first of the 16 words of a channel that say from where to look: the send counter, then the run; the receive counter is 8 words on.
-fn first_word(hub: &Hub, c: ChannelId) -> usize
+/// The first of the 16 words of a channel. Its run is the next one, its receive counter 8 words on.
+fn send_word(hub: &Hub, c: ChannelId) -> usize
     requires { c < length (shape_of hub.now) }
     ensures { result ≡ send_number (shape_of hub.now) c }
 {
     2 * (hub.cells as usize) + 16 * (c as usize)
 }
 
-fn send_word(hub: &Hub, c: ChannelId) -> usize
-    requires { c < length (shape_of hub.now) }
-    ensures { result ≡ send_number (shape_of hub.now) c }
-{
-    first_word(hub, c)
-}
-
 fn receive_word(hub: &Hub, c: ChannelId) -> usize
     requires { c < length (shape_of hub.now) }
     ensures { result ≡ receive_number (shape_of hub.now) c }
 {
-    first_word(hub, c) + 8
+    send_word(hub, c) + 8
 }
 
 /// A place below which no receiver stands.
@@ -92,7 +85,7 @@ fn run_word(hub: &Hub, c: ChannelId) -> usize
     requires { c < length (shape_of hub.now) }
     ensures { result ≡ run_number (shape_of hub.now) c }
 {
-    first_word(hub, c) + 1
+    send_word(hub, c) + 1
 }
 
 /// The run as its word has it: `to * 2^32 + from`.
