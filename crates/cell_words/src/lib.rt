@@ -9,7 +9,7 @@
 //! became of its place, a wait word how the wait was resolved that began there (`cell_word` and `wait_word` have the bits). A wait that
 //! stands has the word 0. A select's clauses all name the cell where its wait began. Two counters of each channel say from where to look,
 //! and its run says of which places that follow one another each was kept: an element was put there, or an offer was admitted. A channel
-//! has 16 words for these three, two lines of a cache, so that who works on one channel takes no line from who works on another: one for the
+//! has 16 words for these three, so that who works on one channel takes no line of the cache from who works on another: one line for the
 //! send counter and the run, and one for the receive counter.
 //!
 //! | word | from | to | the step, and who makes it | the exchange decides |

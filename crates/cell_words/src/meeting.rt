@@ -60,6 +60,14 @@ fn layout_of(alloc: Global, kinds: &[(Kind, u32)]) -> Result<Layout, AllocError>
     Ok(Layout { kinds: list })
 }
 
+/// Lets go of the words that a table was made from, with their block made small before: once the C library has freed a large block, it
+/// keeps blocks up to that size in heaps of its own, where books that grow are copied and leave behind what they had.
+fn let_go(words: Vec<u64>) {
+    let mut words = words;
+    words.truncate(1);
+    words.shrink_to_fit();
+}
+
 impl Hub {
     /// A hub of channels of these kinds, with so many places, and the pass of tag 0, which gives out the other tags.
     ///
@@ -82,6 +90,7 @@ impl Hub {
             words.as_slice(),
             &layout,
         )?;
+        let_go(words);
         let kinds = Vec::from_slice(alloc, kinds)?;
         Ok((
             Hub {
