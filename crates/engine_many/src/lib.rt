@@ -10,7 +10,6 @@
 //! there.
 //!
 //! - `task`: a coroutine with the two floors of its own.
-//! - `apart`: its frame, apart from all others.
 //! - `starting`: tasks before their first poll.
 //! - `dealing`: the first tickets.
 //! - `worker`: what a worker does with a coroutine.
@@ -23,7 +22,6 @@
 //! - `word_run`: a whole run over words.
 #![tactic(auto)]
 
-mod apart;
 mod dealing;
 mod ending;
 mod meetings;

@@ -7,7 +7,6 @@ ghost use Rattle.poll_states.specs.Steps.{IsOnItsChannels, IsOnItsJobs};
 ghost use Rattle.run_laws.specs.Sights.{KnowsTags};
 ghost use Rattle.run_laws.specs.Starts.{IsUntouched};
 
-use crate::apart::Apart;
 use crate::task::Task;
 use co_base::{Memory, Tag};
 use engine_base::ScriptName;
@@ -15,6 +14,15 @@ use poll_states::{Book, Frame, begin};
 use script_reader::Script;
 use shared_floors::{SharedChannels, SharedJobs};
 use std::alloc::Global;
+use task_crew::Apart;
+
+/// The frame in a box, apart from all others.
+fn in_box<B: Book>(alloc: Global, frame: Frame<B>) -> Result<Box<Apart<Frame<B>>>, Memory>
+    ensures { IfOk result (λ boxed. boxed.value.value ≡ frame) }
+{
+    let boxed = Box::new(alloc, Apart::new(frame))?;
+    Ok(boxed)
+}
 
 impl<N: ScriptName, C: SharedChannels + Drop, J: SharedJobs + Drop, B: Book> Task<N, C, J, B> {
     /// The root, which attaches what the script spawns.
@@ -33,7 +41,7 @@ impl<N: ScriptName, C: SharedChannels + Drop, J: SharedJobs + Drop, B: Book> Tas
         let mut frame = Frame::new(alloc, script, 0)?;
         let mut jobs = jobs;
         begin(script, &mut frame, &mut jobs)?;
-        let boxed = Apart::boxed(alloc, frame)?;
+        let boxed = in_box(alloc, frame)?;
         Ok(Task::new(boxed, channels, jobs))
     }
 
@@ -52,7 +60,7 @@ impl<N: ScriptName, C: SharedChannels + Drop, J: SharedJobs + Drop, B: Book> Tas
         ensures tag { IfOk result (λ t. t.0.tag ≡ tag) }
     {
         let frame = Frame::new(alloc, script, tag)?;
-        let boxed = Apart::boxed(alloc, frame)?;
+        let boxed = in_box(alloc, frame)?;
         Ok(Task::new(boxed, channels, jobs))
     }
 }

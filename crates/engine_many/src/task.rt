@@ -1,7 +1,6 @@
 //! A coroutine with the two floors of its own.
 
-ghost use Rattle.std.specs.Prelude.{◌≡◌, IfOk, OnOk, length};
-ghost use Rattle.job_model.specs.Trees.{Tree};
+ghost use Rattle.std.specs.Prelude.{◌≡◌, IfOk, length};
 ghost use Rattle.job_model.specs.Floors.{AtStep};
 ghost use Rattle.call_meaning.specs.Facts.{end_at};
 ghost use Rattle.script_reader.specs.Scripts.{program_of};
@@ -10,7 +9,6 @@ ghost use Rattle.engine_many.specs.Parts.{sight_of, TaskPolled};
 ghost use Rattle.run_laws.specs.Sights.{Keeps, KnowsTags, SawMore, IsSeenSame, IsWithin};
 ghost use Rattle.run_laws.specs.LastRounds.{Did};
 
-use crate::apart::Apart;
 use channel_model::ChannelFloor;
 use co_base::{Gate, Memory, Tag};
 use engine_base::{ScriptName, end_of};
@@ -20,13 +18,13 @@ use script_reader::Script;
 use shared_floors::{SharedChannels, SharedJobs};
 use std::marker::{Model, PhantomData};
 use task_berths::Tagged;
-use task_crew::Tickets;
+use task_crew::{Apart, Tickets};
 
 /// A coroutine of the run with the two floors that it alone calls. Contracts see it as these three. The frame lies in a box, since a task
-/// is moved into its berth and out of it around each few polls.
+/// is moved into its berth and out of it around each few polls, and apart from other frames, since each poll writes to it.
 #[derive(Drop)]
 pub struct Task<N: ScriptName, C: SharedChannels + Drop, J: SharedJobs + Drop, B: Book> {
-    frame: Box<Apart<B>>,
+    frame: Box<Apart<Frame<B>>>,
     channels: C,
     jobs: J,
     name: PhantomData<N>,
@@ -40,10 +38,10 @@ impl<N: ScriptName, C: SharedChannels + Drop, J: SharedJobs + Drop, B: Book> Mod
 
     ghost Value = { Frame × C × J };
 
-    ghost view = { λ t. (t.frame.value.frame, t.channels, t.jobs) };
+    ghost view = { λ t. (t.frame.value.value, t.channels, t.jobs) };
 
-    ghost invariant = { λ t. Keeps N.program (sight_of C.view J.view (t.frame.value.frame, t.channels, t.jobs))
-        × KnowsTags N.program t.frame.value.frame.tag (C.may_act (C.anchor t.channels)) (J.may_act (J.anchor t.jobs)) };
+    ghost invariant = { λ t. Keeps N.program (sight_of C.view J.view (t.frame.value.value, t.channels, t.jobs))
+        × KnowsTags N.program t.frame.value.value.tag (C.may_act (C.anchor t.channels)) (J.may_act (J.anchor t.jobs)) };
 }
 
 impl<N: ScriptName, C: SharedChannels + Drop, J: SharedJobs + Drop, B: Book> Tagged
@@ -51,7 +49,7 @@ impl<N: ScriptName, C: SharedChannels + Drop, J: SharedJobs + Drop, B: Book> Tag
     ghost tag_of = { λ t. t.0.tag };
 
     fn tag(&self) -> Tag {
-        self.frame.frame.tag()
+        self.frame.value.tag()
     }
 }
 
@@ -80,10 +78,10 @@ fn poll_on<B: Book, C: ChannelFloor, J: JobFloor, G: Gate>(
 
 impl<N: ScriptName, C: SharedChannels + Drop, J: SharedJobs + Drop, B: Book> Task<N, C, J, B> {
     /// A coroutine that stands on these floors.
-    pub(crate) fn new(frame: Box<Apart<B>>, channels: C, jobs: J) -> Task<N, C, J, B>
-        requires keeps { Keeps N.program (sight_of C.view J.view (frame.value.frame, channels, jobs)) }
-        requires tags { KnowsTags N.program frame.value.frame.tag (C.may_act (C.anchor channels)) (J.may_act (J.anchor jobs)) }
-        ensures { result ≡ (frame.value.frame, channels, jobs) }
+    pub(crate) fn new(frame: Box<Apart<Frame<B>>>, channels: C, jobs: J) -> Task<N, C, J, B>
+        requires keeps { Keeps N.program (sight_of C.view J.view (frame.value.value, channels, jobs)) }
+        requires tags { KnowsTags N.program frame.value.value.tag (C.may_act (C.anchor channels)) (J.may_act (J.anchor jobs)) }
+        ensures { result ≡ (frame.value.value, channels, jobs) }
     {
         Task {
             frame,
@@ -112,7 +110,7 @@ impl<N: ScriptName, C: SharedChannels + Drop, J: SharedJobs + Drop, B: Book> Tas
         } = self;
         let turn = poll_on(
             script,
-            &mut frame.frame,
+            &mut frame.value,
             &mut channels,
             &mut jobs,
             tickets,
@@ -131,7 +129,7 @@ impl<N: ScriptName, C: SharedChannels + Drop, J: SharedJobs + Drop, B: Book> Tas
     fn notes(&self) -> u64
         ensures { result ≡ length (items_of self.now.0) }
     {
-        self.frame.frame.notes()
+        self.frame.value.notes()
     }
 
     /// Polls the coroutine. The answer says whether it did anything, and it gets a ticket where it is ready.
@@ -188,6 +186,6 @@ impl<N: ScriptName, C: SharedChannels + Drop, J: SharedJobs + Drop, B: Book> Tas
             jobs,
             name: _,
         } = self;
-        (Apart::unboxed(frame), channels, jobs)
+        (Box::into_inner(frame).into_inner(), channels, jobs)
     }
 }

@@ -8,6 +8,7 @@
 
 ghost use Rattle.std.specs.Prelude.{◌≡◌, ◌<◌, IfOk, length, vec_len};
 
+use crate::apart::Apart;
 use co_base::{Memory, Tag};
 use std::alloc::Global;
 use std::sync::Arc;
@@ -16,12 +17,8 @@ use std::sync::atomic::{AtomicU64, Ordering};
 /// How many tags a word can have.
 const TAGS: u64 = 65536;
 
-/// The word of a worker's latest ticket: 0, or the number of its put and its tag. No other word stands on its line.
-#[derive(Drop)]
-pub(crate) struct Apart {
-    word: AtomicU64,
-    _rest: [u64; 15],
-}
+/// The word of a worker's latest ticket: 0, or the number of its put and its tag.
+pub(crate) type Word = Apart<AtomicU64>;
 
 /// The tag of a ticket.
 fn tag_of(word: u64) -> Tag {
@@ -29,16 +26,12 @@ fn tag_of(word: u64) -> Tag {
 }
 
 /// The words of so many workers, who have no ticket.
-pub(crate) fn words_of(alloc: Global, workers: u8) -> Result<Vec<Arc<Apart, Global>>, Memory>
+pub(crate) fn words_of(alloc: Global, workers: u8) -> Result<Vec<Arc<Word, Global>>, Memory>
     ensures { IfOk result (λ v. vec_len v ≡ workers) }
 {
     let mut words = Vec::new(alloc);
     for _ in 0..workers {
-        let apart = Apart {
-            word: AtomicU64::new(0),
-            _rest: [0; 15],
-        };
-        words.push(Arc::new(alloc, apart)?)?;
+        words.push(Arc::new(alloc, Apart::new(AtomicU64::new(0)))?)?;
     }
     Ok(words)
 }
@@ -46,12 +39,12 @@ pub(crate) fn words_of(alloc: Global, workers: u8) -> Result<Vec<Arc<Apart, Glob
 /// A worker's own latest ticket.
 #[derive(Drop)]
 pub(crate) struct Latest {
-    own: Arc<Apart, Global>,
+    own: Arc<Word, Global>,
     puts: u32,
 }
 
 impl Latest {
-    pub(crate) fn new(word: &Arc<Apart, Global>) -> Result<Latest, Memory> {
+    pub(crate) fn new(word: &Arc<Word, Global>) -> Result<Latest, Memory> {
         Ok(Latest {
             own: Arc::try_clone(word)?,
             puts: 0,
@@ -62,7 +55,7 @@ impl Latest {
     pub(crate) fn put(&mut self, tag: Tag) -> Option<Tag> {
         self.puts = self.puts.wrapping_add(1);
         let word = (u64::from(self.puts) + 1) * TAGS + u64::from(tag);
-        let before = self.own.word.swap(word, Ordering::SeqCst);
+        let before = self.own.value.swap(word, Ordering::SeqCst);
         if before == 0 || tag_of(before) == tag {
             return None;
         }
@@ -71,10 +64,10 @@ impl Latest {
 
     /// Takes the ticket, if there is one.
     pub(crate) fn take(&mut self) -> Option<Tag> {
-        if self.own.word.load(Ordering::SeqCst) == 0 {
+        if self.own.value.load(Ordering::SeqCst) == 0 {
             return None;
         }
-        let word = self.own.word.swap(0, Ordering::SeqCst);
+        let word = self.own.value.swap(0, Ordering::SeqCst);
         if word == 0 { None } else { Some(tag_of(word)) }
     }
 }
@@ -82,13 +75,13 @@ impl Latest {
 /// Another worker's latest ticket.
 #[derive(Drop)]
 pub(crate) struct OtherLatest {
-    other: Arc<Apart, Global>,
+    other: Arc<Word, Global>,
     /// The word that was seen at the last look.
     seen: u64,
 }
 
 impl OtherLatest {
-    pub(crate) fn new(word: &Arc<Apart, Global>) -> Result<OtherLatest, Memory> {
+    pub(crate) fn new(word: &Arc<Word, Global>) -> Result<OtherLatest, Memory> {
         Ok(OtherLatest {
             other: Arc::try_clone(word)?,
             seen: 0,
@@ -97,7 +90,7 @@ impl OtherLatest {
 
     /// Takes the ticket if it stood there at the last look.
     pub(crate) fn take(&mut self) -> Option<Tag> {
-        let word = self.other.word.load(Ordering::SeqCst);
+        let word = self.other.value.load(Ordering::SeqCst);
         let stood = word == self.seen;
         self.seen = word;
         if word == 0 || !stood {
@@ -105,7 +98,7 @@ impl OtherLatest {
         }
         match self
             .other
-            .word
+            .value
             .compare_exchange(word, 0, Ordering::SeqCst, Ordering::SeqCst)
         {
             Ok(_) => Some(tag_of(word)),
@@ -117,7 +110,7 @@ impl OtherLatest {
 /// The latest tickets of all workers but one, from the next on.
 pub(crate) fn all_but(
     alloc: Global,
-    words: &[Arc<Apart, Global>],
+    words: &[Arc<Word, Global>],
     own: usize,
 ) -> Result<Vec<OtherLatest>, Memory>
     requires { own < length words.now }

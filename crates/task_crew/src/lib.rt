@@ -24,6 +24,7 @@
 //!
 //! **Want of memory.** A poll that finds none has dropped its task. Then all workers end, and the tasks are dropped.
 //!
+//! - `apart`: a value on lines of a cache of its own, for what each worker writes to alone.
 //! - `latest`: the latest ticket of each worker.
 //! - `tickets`: the tickets of a worker, and who is at work.
 //! - `polls`: how tasks are polled.
@@ -31,12 +32,14 @@
 //! - `crew`: all workers, until no ticket is left.
 #![tactic(auto)]
 
+mod apart;
 mod crew;
 mod latest;
 mod polls;
 mod tickets;
 mod worker;
 
+pub use apart::Apart;
 pub use crew::run_crew;
 pub use polls::Polls;
 pub use tickets::{Tickets, no_tickets};

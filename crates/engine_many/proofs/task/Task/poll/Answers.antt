@@ -9,7 +9,7 @@ invariant_of-task g c =
     let p = rw c.deref_mut.ensures.value at c.in_ok-turn.ensures.polled in (
       keeps_polled g.N.ScriptName.program (program_of c.args.script.now) (g.C.ChannelFloor.view c.self.inside.channels)
           (g.C.ChannelFloor.view c.poll_on.new.channels) (g.J.JobFloor.view c.self.inside.jobs) (g.J.JobFloor.view c.poll_on.new.jobs)
-          (frame_of c.self.inside.frame.value.frame) (frame_of c.poll_on.new.frame) c.requires c.args.script.now.well_formed
+          (frame_of c.self.inside.frame.value.value) (frame_of c.poll_on.new.frame) c.requires c.args.script.now.well_formed
           (g.met.J.JobFloor.legal c.poll_on.new.jobs) p.stands.on p.polled c.self.invariant.0,
       tags_polled g.N.ScriptName.program _ _ _ _ _ _ p.polled.tag (ap g.C.SharedChannels.may_act c.poll_on.ensures.channels_anchor)
           (ap g.J.SharedJobs.may_act c.poll_on.ensures.jobs_anchor) c.self.invariant.1,
@@ -20,5 +20,5 @@ returns-clause-keeps g c =
     let p = rw c.deref_mut.ensures.value at c.in_ok-turn.ensures.polled in
     keeps_polled g.N.ScriptName.program (program_of c.args.script.now) (g.C.ChannelFloor.view c.self.inside.channels)
     (g.C.ChannelFloor.view c.poll_on.new.channels) (g.J.JobFloor.view c.self.inside.jobs) (g.J.JobFloor.view c.poll_on.new.jobs)
-    (frame_of c.self.inside.frame.value.frame) (frame_of c.poll_on.new.frame) c.requires c.args.script.now.well_formed
+    (frame_of c.self.inside.frame.value.value) (frame_of c.poll_on.new.frame) c.requires c.args.script.now.well_formed
     (g.met.J.JobFloor.legal c.poll_on.new.jobs) p.stands.on p.polled c.self.invariant.0
