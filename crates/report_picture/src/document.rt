@@ -1,9 +1,9 @@
 //! A picture as an SVG document.
 
-ghost use Rattle.std.specs.Prelude.{◌≡◌, ◌++◌, ◌+◌, List, [], ℕ, map, IfOk, OnOk};
+ghost use Rattle.std.specs.Prelude.{◌≡◌, ◌++◌, ◌+◌, [], map, IfOk, OnOk};
 ghost use Rattle.std.specs.Fmt.{decimal};
 ghost use lib.Chars.{codes};
-ghost use Rattle.report_picture.specs.Elements.{attribute_text, attributes_text, box_node, coroutine_node, document_attributes, escape, escaped, head_node, head_nodes, job_node, left_of, line_node, look_word, mark_node, node_text, nodes_text, path_node, rest_text, style, style_node, svg_text, text_node, title_text, way_text};
+ghost use Rattle.report_picture.specs.Elements.{attribute_text, attributes_text, box_node, coroutine_node, document_attributes, escape, escaped, head_node, head_nodes, job_node, left_of, line_node, mark_node, node_text, nodes_text, path_node, rest_text, style, style_node, svg_text, text_node, title_text, way_text};
 ghost use Rattle.report_picture.specs.WellFormed.{IsDocument};
 
 use crate::layout::{label_of, row_y};

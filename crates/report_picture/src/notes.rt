@@ -57,102 +57,36 @@ const NO_PARTS: Parts = Parts {
 
 const CHANNEL: Parts = Parts {
     channel: 2,
-    place: 0,
-    value: 0,
-    wait: 0,
-    row: 0,
-    other: 0,
-    how: 0,
+    ..NO_PARTS
 };
 
 const PLACE: Parts = Parts {
-    channel: 2,
     place: 3,
-    value: 0,
-    wait: 0,
-    row: 0,
-    other: 0,
-    how: 0,
+    ..CHANNEL
 };
 
-const ELEMENT: Parts = Parts {
-    channel: 2,
-    place: 3,
-    value: 4,
-    wait: 0,
-    row: 0,
-    other: 0,
-    how: 0,
-};
+const ELEMENT: Parts = Parts { value: 4, ..PLACE };
 
-const OFFER: Parts = Parts {
-    channel: 2,
-    place: 3,
-    value: 4,
-    wait: 5,
-    row: 0,
-    other: 0,
-    how: 0,
-};
+const OFFER: Parts = Parts { wait: 5, ..ELEMENT };
 
-const AWAIT: Parts = Parts {
-    channel: 2,
-    place: 3,
-    value: 0,
-    wait: 4,
-    row: 0,
-    other: 0,
-    how: 0,
-};
+const AWAIT: Parts = Parts { wait: 4, ..PLACE };
 
 const WAIT: Parts = Parts {
-    channel: 0,
-    place: 0,
-    value: 0,
     wait: 2,
-    row: 0,
-    other: 0,
     how: 3,
+    ..NO_PARTS
 };
 
-const ROW: Parts = Parts {
-    channel: 0,
-    place: 0,
-    value: 0,
-    wait: 0,
-    row: 2,
-    other: 0,
-    how: 0,
-};
+const ROW: Parts = Parts { row: 2, ..NO_PARTS };
 
-const FINISH: Parts = Parts {
-    channel: 0,
-    place: 0,
-    value: 0,
-    wait: 0,
-    row: 2,
-    other: 0,
-    how: 3,
-};
+const FINISH: Parts = Parts { how: 3, ..ROW };
 
-const CANCEL: Parts = Parts {
-    channel: 0,
-    place: 0,
-    value: 0,
-    wait: 0,
-    row: 2,
-    other: 4,
-    how: 3,
-};
+const CANCEL: Parts = Parts { other: 4, ..FINISH };
 
 const ATTACH: Parts = Parts {
-    channel: 0,
-    place: 0,
-    value: 0,
-    wait: 0,
-    row: 2,
     other: 4,
     how: 7,
+    ..ROW
 };
 
 const VERBS: [(&[u8], Verb, Parts); 26] = [
