@@ -1,5 +1,5 @@
 -- Which texts are reports: the lines of the books, then those of the Jobs, then those of the elements that nobody received.
-use Rattle.std.specs.Prelude.{◌≡◌, ℕ, ◌+◌, List, [], ◌∷◌, ◌++◌, Bool, true, false, ◌==◌, nat_le, nat_lt, Option, Some, None, Result, Ok, Err, option_map, if◌then◌else◌}
+use Rattle.std.specs.Prelude.{ℕ, ◌+◌, List, [], ◌∷◌, ◌++◌, Bool, true, false, ◌==◌, nat_le, nat_lt, Option, Some, None, Result, Ok, Err, if◌then◌else◌}
 use Rattle.report_reader.specs.declared.line.Said.{Said}
 use Rattle.report_reader.specs.declared.line.Said.TheVariants.{Note, Job, Element}
 use Rattle.report_reader.specs.declared.line.Stage.{Stage}

@@ -2,7 +2,7 @@
 
 ghost use Rattle.std.specs.Prelude.{◌≡◌, ◌≤◌, [], IfOk, length};
 ghost use Rattle.report_reader.specs.Forms.{said_of};
-ghost use Rattle.report_reader.specs.Reports.{has_jobs, nothing_read, read_line, lines_from, report_of, stage_after};
+ghost use Rattle.report_reader.specs.Reports.{has_jobs, read_line, lines_from, report_of, stage_after};
 ghost use Rattle.report_reader.specs.Reading.{Gives, Leaves, LeavesAt, view};
 
 use crate::forms::said_by;

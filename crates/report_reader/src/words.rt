@@ -3,7 +3,7 @@
 ghost use Rattle.std.specs.Prelude.{◌≡◌, ◌+◌, ◌≤◌, ◌==◌, OnOk, IfSome, IfNone, length};
 ghost use Rattle.std.specs.List.{list_all, slice_split};
 ghost use Rattle.std.specs.Str.{all_ascii_digits};
-ghost use Rattle.report_reader.specs.Words.{is_lower, is_name, is_name_byte, is_number, parts, texts, value_at, without_last_feed, words_of};
+ghost use Rattle.report_reader.specs.Words.{is_name, is_name_byte, is_number, parts, texts, value_at, without_last_feed, words_of};
 
 use std::alloc::AllocError;
 

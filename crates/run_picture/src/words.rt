@@ -1,9 +1,9 @@
 //! Which words are accepted, and what they ask for.
 
-ghost use Rattle.std.specs.Prelude.{◌≡◌, ◌≢◌, IfOk, Some, false, map, option_map, option_and_then, string_bytes, true};
+ghost use Rattle.std.specs.Prelude.{◌≡◌, ◌≢◌, IfOk, Some, false, map, option_map, string_bytes, true};
 ghost use lib.Chars.{codes};
 ghost use Rattle.clap.specs.Words.{app_of, first_of, found_of, is_simple_and_free, rows_of, rule_of};
-ghost use Rattle.run_picture.specs.Words.{asked_by, asked_of, format_of, matches_by, option, picture_line, range_between, range_of, wanted_of};
+ghost use Rattle.run_picture.specs.Words.{asked_of, format_of, matches_by, option, picture_line, range_between, range_of, wanted_of};
 
 use clap::error::ErrorKind;
 use clap::{Arg, ArgMatches, Error};

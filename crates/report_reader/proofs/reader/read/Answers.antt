@@ -1,6 +1,4 @@
-use Rattle.std.proofs.Common.{ap, sym, subst, arith, ◌==◌, ◌∙◌, length, List, ℕ}
-use Rattle.std.specs.List.{slice_split}
-use Rattle.report_reader.specs.Reports.{lines_from}
+use Rattle.std.proofs.Common.{sym, subst, arith}
 use Rattle.report_reader.specs.Reading.{Gives, view}
 use Rattle.report_reader.proofs.LineLoops.{line_fails, lines_end, lines_more}
 use Rattle.report_reader.proofs.reader.read.Goals as goal
