@@ -83,7 +83,10 @@ pub fn run_tasks<
     requires aside { IsSpare N.program (C.view aside.0) (J.view aside.1) }
     ensures { IfOk result (λ r. IsLeftAtRest B.items C.view J.view N.program r.0 r.1) }
 {
-    let mut lanes = no_tickets(alloc, workers, u32::from(script.coroutines()))?;
+    let count = script.coroutines();
+    // More workers than coroutines would find nothing to do.
+    let workers = workers.min(u8::try_from(count.max(2)).unwrap_or(workers));
+    let mut lanes = no_tickets(alloc, workers, u32::from(count))?;
     deal(&mut lanes, script);
     let mut tasks = tasks;
     let mut aside = aside;
