@@ -1,5 +1,5 @@
 //! What futures of Jobs give. The passes of each table meet before each call.
-ghost use Rattle.std.specs.Prelude.{◌≡◌, ◌∷◌, [], length, IfOk, false};
+ghost use Rattle.std.specs.Prelude.{◌≡◌, ◌∷◌, [], IfOk, false};
 ghost use Rattle.channel_model.specs.declared.acts.Kind.TheVariants.{Signal};
 ghost use Rattle.cell_words.specs.Hubs.{shape_of, IsOwn};
 ghost use Rattle.job_words.specs.Forests.{IsOwn as IsOwnOfJobs};

@@ -1,6 +1,6 @@
 //! How what was told goes on to hold.
 
-ghost use Rattle.std.specs.Prelude.{◌≡◌, ℕ, List, ◌++◌};
+ghost use Rattle.std.specs.Prelude.{ℕ, List, ◌++◌};
 ghost use Rattle.note_book.specs.declared.book.Item.{Item};
 ghost use Rattle.channel_model.specs.Channels.{Shape};
 ghost use Rattle.call_meaning.specs.Telling.{Told, items_in};

@@ -1,5 +1,4 @@
 //! The first offer is received, by a walk along the cells from the receive counter on.
-ghost use Rattle.std.specs.Prelude.{◌≡◌};
 ghost use Rattle.channel_model.specs.Floors.{MayCall};
 ghost use Rattle.channel_model.specs.Answers.{GotAnswer, TriedGotAnswer};
 ghost use Rattle.channel_model.specs.Laws.{NoneBelow};

@@ -1,7 +1,7 @@
 -- A run of kept places: while an offer stands in it all behind stand, so that a walk may begin where the run ends.
 use Rattle.std.proofs.Common.{◌≡◌, ◌⊎◌, ℕ, zero, suc, ◌+◌, ◌-◌, ◌<◌, ◌≤◌, ◌==◌, Bool, true, List, [], ◌∷◌, ◌++◌, length, Option, Some, None, is_some, sym, refl, ap, ◌∙◌, subst, ⊎_elim, arith, eq-eqb, ne_eqb, MatchBool}
 use mathlib.Core.Logic.{dite}
-use native.Mathlib.Decide.{ℕ_discrete, dec_le}
+use native.Mathlib.Decide.{ℕ_discrete}
 use Rattle.channel_model.specs.declared.acts.Act.TheVariants.{Put, Admit}
 use Rattle.channel_model.specs.declared.acts.Entry.{Entry}
 use Rattle.channel_model.specs.declared.acts.Kind.{Kind}
@@ -43,10 +43,6 @@ run_made shape c from to e v w m l h = subst (λ (es : List Entry). WereKept es 
     (were_kept_more shape c from to v.seen m.others (before_legal shape v w e l m) h))
 
 -- ---- one place more
-
-pub run_next : (log : List Entry) (c from to place : ℕ) → to ≡ place → WereKept log c from to → WereKept log c place (place + 1)
-    → WereKept log c from (place + 1)
-run_next log c from to place is h k q le lt = dite (dec_le (q + 1) place) (λ below. h q le (omega arith)) (λ at. k q (omega arith) lt)
 
 pub put_kept : (who c p value : ℕ) (v w : Seen) → Makes v (record { who = who; act = Put c p value }) w → WereKept w.seen c p (p + 1)
 put_kept who c p value v w m = let log = v.seen ++ m.others in let e : Entry = record { who = who; act = Put c p value } in

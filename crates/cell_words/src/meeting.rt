@@ -1,7 +1,7 @@
 //! How a hub is made, and its passes are split, met and ended.
 ghost use Rattle.std.specs.Prelude.{◌≡◌, ◌<◌, ◌≤◌, IfOk, length, true, false, [], ◌∷◌};
 ghost use Rattle.channel_model.specs.Channels.{IsShape, places_at};
-ghost use Rattle.worded.specs.Views.{has_tag, first_view};
+ghost use Rattle.worded.specs.Views.{has_tag};
 ghost use Rattle.channel_model.specs.Histories.{acts_of};
 ghost use Rattle.cell_words.specs.Words.{cells_in};
 ghost use Rattle.cell_words.specs.Sizes.{AreFirsts};

@@ -1,7 +1,7 @@
 //! A pass: what its callers have seen of a hub, and may do there.
 ghost use Rattle.std.proofs.Props.{props};
 ghost use Rattle.channel_model.specs.Histories.{Legal};
-ghost use Rattle.cell_words.specs.Seen.{Seen, NothingUngiven};
+ghost use Rattle.cell_words.specs.Seen.{NothingUngiven};
 ghost use Rattle.channel_model.proofs.Once.{Legal-prop};
 
 use crate::layout::Layout;

@@ -6,7 +6,7 @@ ghost use Rattle.cell_words.specs.declared.found.At.TheVariants as at;
 ghost use Rattle.cell_words.specs.Cells.{gather};
 ghost use Rattle.cell_words.specs.Words.{IsCell, WereKept};
 ghost use Rattle.cell_words.specs.Hubs.{shape_of, seen_by, IsOwn};
-ghost use Rattle.cell_words.specs.Seen.{Sees, at_channel};
+ghost use Rattle.cell_words.specs.Seen.{at_channel};
 ghost use Rattle.cell_words.specs.Answers.{stands, OfferAt, OfferHere, ReceiveAt, TriedReceiveAt};
 
 use crate::cell_word::CellState;

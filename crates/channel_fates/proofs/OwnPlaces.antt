@@ -4,7 +4,7 @@ use Rattle.std.proofs.Common.{sym, ap, ◌∙◌, subst, arith, inl, inr, ⊎_el
 use Rattle.std.proofs.lemmas.Bool.{eqb-true, ltb-true}
 use Rattle.co_base.specs.declared.names.WaitId.{WaitId}
 use Rattle.channel_model.specs.declared.acts.Act.{Act}
-use Rattle.channel_model.specs.declared.acts.Act.TheVariants.{Hand, Put, Offer, Await, Take, Admit, Drop, Spurn, Close, Void, Drain, WakeClosed, Withdraw, Settle}
+use Rattle.channel_model.specs.declared.acts.Act.TheVariants.{Hand, Offer, Await}
 use Rattle.channel_model.specs.Answers.{IsOwnWait}
 use Rattle.channel_model.specs.Channels.{Shape, State, Wait, same_wait, start}
 use Rattle.channel_model.specs.Effects.{after, resolved_wait, name_clause, settled_wait}

@@ -1,10 +1,10 @@
 -- The first receiver and the first offer, and what an act needs of a state.
-use Rattle.std.specs.Prelude.{◌≡◌, ℕ, ◌≤◌, Bool, true, false, List, [], ◌∷◌, Option, Some, None, slice_get, refl, MatchBool, is_none, is_some}
+use Rattle.std.specs.Prelude.{◌≡◌, ℕ, ◌≤◌, Bool, true, false, List, [], ◌∷◌, Option, Some, None, slice_get, refl, MatchBool, is_none}
 use Rattle.std.specs.Option.{option_and_then}
 use Rattle.std.proofs.Common.{sym, ap, ◌∙◌, subst}
 use Rattle.co_base.specs.declared.names.WaitId.{WaitId}
 use Rattle.channel_model.specs.declared.acts.Kind.{Kind}
-use Rattle.channel_model.specs.declared.acts.Kind.TheVariants.{Rendezvous, Buffered, Unlimited, Conflated, DropOldest, DropLatest, Signal}
+use Rattle.channel_model.specs.declared.acts.Kind.TheVariants.{Rendezvous, Buffered, Unlimited}
 use Rattle.channel_model.specs.declared.acts.Settled.{Settled}
 use Rattle.channel_model.specs.declared.standing.Standing.{Standing}
 use Rattle.channel_model.specs.declared.standing.Receiver.{Receiver}
@@ -15,7 +15,7 @@ use Rattle.channel_model.specs.Channels.{State, Wait, same_wait, is_full, suspen
 use Rattle.channel_model.specs.Outcomes.{outcome_of, IsOutcome}
 use Rattle.channel_model.specs.Effects.{resolve, resolve_first, with_queue, is_open}
 use Rattle.channel_model.specs.Needs.{MayName, JoinsWait, IsFirstReceiver, IsFirstOffer, IsOpenOf, MaySettle}
-use Rattle.channel_model.specs.Answers.{first_receiver, first_holder, owner_of, owner_of_holder, outcome_at, outcome_of_some, IsOwnWait, IsReadyWait, IsResolvedWait}
+use Rattle.channel_model.specs.Answers.{first_receiver, first_holder, owner_of, owner_of_holder, outcome_at, outcome_of_some, IsOwnWait, IsReadyWait}
 use Rattle.channel_model.specs.Laws.{AllStandOpen, OffersStand, HolderStands}
 use Rattle.channel_model.proofs.Waits.{same_wait-refl, same_wait-eq}
 use Rattle.channel_model.proofs.OpenWaits.{with_queue_open}
@@ -124,12 +124,3 @@ may_withdraw who (Some x) h e = (h, open_is x.resolved e)
     open_is : (how : Option Resolution) → is_none how ≡ true → how ≡ None
     open_is None e = refl
     open_is (Some r) e = cc
-
--- a wait that is not open was resolved
-pub not_open_resolved : (x : Option Wait) → is_open x ≡ false → IsResolvedWait x
-not_open_resolved None e = cc
-not_open_resolved (Some x) e = some_is x.resolved e
-  where
-    some_is : (how : Option Resolution) → is_none how ≡ false → is_some how ≡ true
-    some_is None e = cc
-    some_is (Some r) e = refl

@@ -1,6 +1,6 @@
 //! The one contract between channels and all above.
 
-ghost use Rattle.std.specs.Prelude.{◌≡◌, ℕ, ◌<◌, true, false, OnOk, OnErr};
+ghost use Rattle.std.specs.Prelude.{◌≡◌, ◌<◌, true, false, OnOk, OnErr};
 ghost use Rattle.channel_model.specs.Channels.{IsShape, kind_at, is_signal, suspends};
 ghost use Rattle.channel_model.specs.Histories.{Legal};
 ghost use Rattle.channel_model.specs.Floors.{Floor, HasRoom, MayCall};

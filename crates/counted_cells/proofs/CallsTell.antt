@@ -267,18 +267,6 @@ not_met cells who i x y z v w own legal s drawer waits apart is ne = (
       ne,
 )
 
--- who meets somebody who waits for the other side
-pub apart_from : (who i : ℕ) (x y : Waiter) (v : Seen) → IsMine (side_of x) who i (now_in v) → cell_in v i ≡ Waits y
-    → same_side (side_of y) (side_of x) ≡ false
-apart_from who i x y v m is = sym (ap (has_come (side_of x)) is) ∙ m.not_yet
-
-pub never_paired : (who i u : ℕ) (x : Waiter) (v : Seen) → IsMine (side_of x) who i (now_in v) → cell_in v i ≡ Paired u → ⊥
-never_paired who i u x v m is = let z : true ≡ false = sym (ap (has_come (side_of x)) is) ∙ m.not_yet in cc
-
-pub left_before : (cells who i : ℕ) (d : Side) (x : Waiter) (v : Seen) → IsMine (side_of x) who i (now_in v) → cell_in v i ≡ Broken d
-    → cell_in v i ≡ Broken (other_side (side_of x))
-left_before cells who i d x v m is = is ∙ ap Broken (other_of d (side_of x) (sym (ap (has_come (side_of x)) is) ∙ m.not_yet))
-
 pub sees_self : (v : Seen) → Sees v v
 sees_self v = record { others = []; now = sym (append-nil v.seen); apart = λ t h. refl; tags = refl; giving = refl }
 

@@ -81,16 +81,9 @@ is_same Send Receive h = cc
 is_same Receive Send h = cc
 is_same Receive Receive h = refl
 
-pub partner_side : (d : Side) (v : ℕ) → same_side (side_of (partner d v)) d ≡ false
-partner_side Send v = refl
-partner_side Receive v = refl
-
 pub put_side_here : {A : Type 0} (d : Side) (x : A) (f : Side → A) → put_side d x f d ≡ x
 put_side_here Send x f = refl
 put_side_here Receive x f = refl
-
-pub put_side_else : {A : Type 0} (d e : Side) (x : A) (f : Side → A) → same_side d e ≡ false → put_side d x f e ≡ f e
-put_side_else d e x f h = ap (λ (b : Bool). if b then x else f e) h
 
 -- ---- what holds
 

@@ -72,15 +72,6 @@ pub record StaysOf (v w : Seen) : Type 0 where
   pub key : w.key ≡ v.key
   pub idle : w.heard_tags ≡ []
 
-pub of_exchanged : (cells word old n : ℕ) (e : CellEntry) (v w : Seen)
-    → MatchBool (n == old) (Entered (Legal cells) Fits maker word old e v w) (Loaded (Legal cells) Fits maker word n v w) → StaysOf v w
-of_exchanged cells word old n e v w told = by_test (n == old) told
-  where
-    by_test : (b : Bool) → MatchBool b (Entered (Legal cells) Fits maker word old e v w) (Loaded (Legal cells) Fits maker word n v w)
-        → StaysOf v w
-    by_test true m = record { key = ap (λ (x : Seen). x.key) m.now; idle = ap (λ (x : Seen). x.heard_tags) m.now }
-    by_test false l = record { key = ap (λ (x : Seen). x.key) l.now; idle = ap (λ (x : Seen). x.heard_tags) l.now }
-
 -- ---- a number was drawn
 
 le_self : (n : ℕ) → n ≤ n
@@ -149,6 +140,3 @@ pub cell_found : (cells p n : ℕ) (x : CellState) (v w : Seen) → Loaded (Lega
     → cell_in w p ≡ x
 cell_found cells p n x v w l is = ap (λ (y : Seen). (state_of y.seen).cells p) l.now
     ∙ sym (cell_code_is x ((state_of (v.seen ++ l.others)).cells p) (is ∙ l.found.cell p refl))
-
-pub other_cell : (old x : CellState) (n word : ℕ) → word ≡ cell_code old → cell_code x ≡ n → (n ≡ word → ⊥) → x ≢ old
-other_cell old x n word is code ne same = ne (sym code ∙ ap cell_code same ∙ sym is)

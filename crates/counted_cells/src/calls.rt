@@ -1,5 +1,5 @@
 //! To send and to receive, to look and to give up.
-ghost use Rattle.std.specs.Prelude.{◌≡◌, ◌≢◌, ℕ, ◌<◌};
+ghost use Rattle.std.specs.Prelude.{◌≢◌, ℕ, ◌<◌};
 ghost use Rattle.counted_cells.specs.Seen.{now_in};
 ghost use Rattle.counted_cells.specs.Passes.{seen_by, IsOf, SamePass};
 ghost use Rattle.counted_cells.specs.Answers.{HasCome, MayGiveUp, SendAnswer, ReceiveAnswer, GiveUpAnswer, LookAnswer, Stays};

@@ -1,5 +1,5 @@
 //! How counted cells are made, and passes are split and ended.
-ghost use Rattle.std.specs.Prelude.{◌≡◌, ◌+◌, ◌<◌, ◌≤◌, IfOk, true, [], ◌∷◌};
+ghost use Rattle.std.specs.Prelude.{◌≡◌, ◌+◌, ◌<◌, ◌≤◌, IfOk, []};
 ghost use Rattle.worded.specs.Histories.{entries_of};
 ghost use Rattle.counted_cells.specs.Cells.{maker};
 ghost use Rattle.counted_cells.specs.Passes.{seen_by, IsOf, IsFirst, EndAnswer};

@@ -1,7 +1,7 @@
 //! What a few tasks in berths come to.
 ghost use Rattle.std.specs.Prelude.{◌≡◌, ◌<◌, [], IfOk, length};
 ghost use Rattle.task_berths.specs.Answers.{HaveTags};
-ghost use Rattle.task_berths.specs.Seats.{count_of, view_of, IsSeatOf, IsMain};
+ghost use Rattle.task_berths.specs.Seats.{count_of, view_of, IsSeatOf};
 
 use co_base::{Memory, Tag};
 use std::alloc::Global;

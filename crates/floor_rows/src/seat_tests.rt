@@ -4,7 +4,7 @@ ghost use Rattle.std.specs.Prelude.{◌≡◌, ◌<◌, true, false, length, [],
 ghost use Rattle.channel_model.specs.Channels.{kind_at, is_signal};
 ghost use Rattle.channel_model.specs.Floors.{MayCall};
 ghost use Rattle.job_model.specs.Floors.{MayCall as MayCallJobs, IsFreshFloor};
-ghost use Rattle.cell_words.specs.Hubs.{shape_of, seen_by, IsOwn, GivesTags};
+ghost use Rattle.cell_words.specs.Hubs.{shape_of, IsOwn, GivesTags};
 ghost use Rattle.job_words.specs.Forests.{seen_by as jobs_seen_by, IsOwn as IsOwnJobs, GivesTags as GivesJobTags};
 ghost use Rattle.job_words.specs.Passes.{floor_seen};
 ghost use Rattle.word_seats.specs.Names.{IsNamedHub, IsNamedForest};

@@ -1,19 +1,19 @@
 -- What a look shows of a later moment.
-use Rattle.std.specs.Prelude.{◌≡◌, ℕ, true, false, List, [], Option, Some, None, is_some, option_map, refl}
+use Rattle.std.specs.Prelude.{◌≡◌, ℕ, true, false, List, [], Option, Some, None, option_map, refl}
 use mathlib.Core.List.{IsPrefix}
 use Rattle.std.proofs.Common.{sym, ap, ◌∙◌, subst}
 use Rattle.job_model.specs.declared.acts.JobEntry.{JobEntry}
 use Rattle.job_model.specs.declared.acts.Reason.TheVariants as reasons
 use Rattle.job_model.specs.declared.floor.JobView.{JobView}
 use Rattle.job_model.specs.declared.floor.Link.{Link}
-use Rattle.job_model.specs.Trees.{Shape, Job, Tree, is_new, is_cancelled, tag_of, parent_of, parent_row, row_of}
+use Rattle.job_model.specs.Trees.{Job, Tree, is_new, is_cancelled, tag_of, parent_of, parent_row, row_of}
 use Rattle.job_model.specs.Needs.{MayEndBody, IsCancelled}
 use Rattle.job_model.specs.Families.{older_sibling}
-use Rattle.job_model.specs.Histories.{replay, replay_from, Legal, acts_of}
+use Rattle.job_model.specs.Histories.{replay, Legal, acts_of}
 use Rattle.job_model.specs.Floors.{Floor, Added}
 use Rattle.job_model.specs.Answers.{view_of, LookAnswer, link_of, link_from, LinkAnswer}
 use Rattle.job_model.proofs.Spans.{nothing_more, same_between, claimed_none, prefix_then}
-use Rattle.job_model.proofs.Lasting.{Lasts, attached_lasts, parent_lasts, tag_lasts}
+use Rattle.job_model.proofs.Lasting.{parent_lasts, tag_lasts}
 use Rattle.job_model.proofs.Own.{prefix_keeps, own_body_kept}
 use Rattle.job_tree.proofs.Looks.{moment_legal, holds_later, link_is}
 

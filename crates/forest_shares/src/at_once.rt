@@ -1,6 +1,6 @@
 //! Four shares, worked on by one, two or four threads at once.
 ghost use Rattle.std.specs.Prelude.{◌≡◌, ◌<◌};
-ghost use Rattle.forest_shares.specs.Shares.{OwnsAll, IsShare};
+ghost use Rattle.forest_shares.specs.Shares.{IsShare};
 
 use crate::shares::{Share, Work, run};
 use job_words::Forest;

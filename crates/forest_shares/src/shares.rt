@@ -1,5 +1,5 @@
 //! The tags of a forest, shared out among four passes.
-ghost use Rattle.std.specs.Prelude.{◌≡◌, ◌+◌, ◌<◌, ◌≤◌};
+ghost use Rattle.std.specs.Prelude.{◌≡◌, ◌+◌, ◌<◌};
 ghost use Rattle.job_model.specs.Floors.{SameSetting};
 ghost use Rattle.job_words.specs.Passes.{floor_seen};
 ghost use Rattle.job_words.specs.Forests.{seen_by, IsOwn};

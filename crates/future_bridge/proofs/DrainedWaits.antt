@@ -1,34 +1,29 @@
 -- A receive's wait that was resolved as closed was so on a channel of which nothing was left, with the value that it was closed with, and
 -- nothing comes after.
-use Rattle.std.specs.Prelude.{◌≡◌, ℕ, ◌≤◌, ◌==◌, Bool, true, false, not, ◌||◌, ◌⊎◌, filter, List, [], ◌∷◌, ◌++◌, Option, Some, None, is_some, refl, MatchBool, if◌then◌else◌}
-use Rattle.std.specs.List.{list_any}
-use Rattle.std.proofs.Common.{sym, ap, ◌∙◌, subst, arith, eqb-true, ⊎_elim}
+use Rattle.std.specs.Prelude.{◌≡◌, ℕ, Bool, true, false, not, ◌⊎◌, filter, List, [], ◌∷◌, ◌++◌, Option, Some, None, is_some, refl, if◌then◌else◌}
+use Rattle.std.proofs.Common.{sym, ap, ◌∙◌, subst, ⊎_elim}
 use Rattle.co_base.specs.declared.names.WaitId.{WaitId}
 use Rattle.channel_model.specs.declared.acts.Act.{Act}
-use Rattle.channel_model.specs.declared.acts.Act.TheVariants.{Hand, Put, Offer, Await, Take, Admit, Drop, Spurn, Close, Void, Drain, WakeClosed, Withdraw, Settle}
+use Rattle.channel_model.specs.declared.acts.Act.TheVariants.{Await, WakeClosed}
 use Rattle.channel_model.specs.declared.acts.Entry.{Entry}
-use Rattle.channel_model.specs.declared.acts.Settled.{Settled}
 use Rattle.channel_model.specs.declared.acts.Settled.TheVariants as settled
-use Rattle.channel_model.specs.declared.standing.Party.{Party}
 use Rattle.channel_model.specs.declared.standing.Standing.{Standing}
 use Rattle.channel_model.specs.declared.standing.Receiver.{Receiver}
 use Rattle.channel_model.specs.declared.standing.Resolution.{Resolution}
 use Rattle.channel_model.specs.declared.standing.Resolution.TheVariants as resolved
 use Rattle.channel_model.specs.Answers.{outcome_at, outcome_of_some}
 use Rattle.channel_model.specs.Steps.{stands_none}
-use Rattle.channel_model.specs.Channels.{Shape, State, Channel, Wait, same_wait, start}
-use Rattle.channel_model.specs.Effects.{after, resolve, resolve_first, resolve_holder, resolve_offer, remove_first, with_queue, resolved_wait, name_clause, settled_wait, put_wait, admitted, spurned, holder_at, is_held_by, close_value}
-use Rattle.channel_model.specs.Needs.{Needs, JoinsWait, MayName, IsFirstReceiver, began_by_select}
-use Rattle.channel_model.specs.Laws.{IsStandingAt, ReceiversStand, StandsInOrder}
+use Rattle.channel_model.specs.Channels.{Shape, State, Channel, Wait, start}
+use Rattle.channel_model.specs.Effects.{after, admitted, spurned, is_held_by, close_value}
+use Rattle.channel_model.specs.Needs.{Needs, IsFirstReceiver}
+use Rattle.channel_model.specs.Laws.{StandsInOrder}
 use Rattle.channel_model.specs.Histories.{replay, replay_from, acts_of, Legal, LegalFrom}
 use Rattle.channel_model.proofs.Histories.{replay_from-append, LegalFrom-parts}
 use Rattle.channel_model.proofs.OneClause.{ClosedIf, IsOn, waits_on, weaker_on, begun_on}
 use Rattle.channel_model.proofs.ClosedWaits.{own_entry}
 use Rattle.channel_model.proofs.EveryAct.{ChannelKeeps, after_keeps}
 use Rattle.channel_model.proofs.InOrder.{order_keeps, replay_in_order}
-use Rattle.channel_model.proofs.Placed.{Placed}
-use Rattle.channel_model.proofs.Sound.{Sound, sound, sound_step, Lasts, lasts_from}
-use Rattle.channel_model.proofs.Waits.{same_wait-eq, at_wait}
+use Rattle.channel_model.proofs.Sound.{sound, sound_step, Lasts, lasts_from}
 
 -- the value that a channel was closed with of which nothing is left
 end_of : Channel → Option ℕ

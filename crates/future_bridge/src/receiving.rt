@@ -1,9 +1,9 @@
 //! A channel as a stream of its elements.
-ghost use Rattle.std.specs.Prelude.{◌≡◌, ◌<◌, ◌↔◌, length, [], None, true, IfSome, OnSome};
+ghost use Rattle.std.specs.Prelude.{◌≡◌, ◌<◌, length, [], None, true, IfSome, OnSome};
 ghost use Rattle.futures.specs.Runs.{After, Within};
 ghost use Rattle.futures.specs.Task.{Covers, Keeps};
 ghost use Rattle.futures.specs.Poll.{IfReady, OnPending};
-ghost use Rattle.cell_words.specs.Hubs.{shape_of, IsOwn, SameGiving};
+ghost use Rattle.cell_words.specs.Hubs.{shape_of, IsOwn};
 ghost use Rattle.future_bridge.specs.Streams.{Stands, IsNew, StreamYields, SameStream, PolledSo, StoppedSo};
 
 use crate::steps::{Step, step_on};

@@ -1,6 +1,5 @@
 //! One receive with what follows it, and one look at a wait.
-ghost use Rattle.std.specs.Prelude.{◌≡◌, ◌<◌, length};
-ghost use Rattle.channel_model.specs.Answers.{IsReady};
+ghost use Rattle.std.specs.Prelude.{◌<◌, length};
 ghost use Rattle.cell_words.specs.Hubs.{shape_of, IsOwn, SameGiving};
 ghost use Rattle.cell_calls.specs.HubFloors.{hub_floor};
 ghost use Rattle.future_bridge.specs.Gains.{Stepped, AdmitsAll, AdmitsBelow, AwaitsLast};

@@ -5,7 +5,7 @@ use Rattle.std.proofs.lemmas.List.Sums.{sum_by-cons}
 use Rattle.std.proofs.lemmas.Bool.{eqb-true}
 use Rattle.job_model.specs.declared.acts.JobKind.{JobKind}
 use Rattle.job_model.specs.declared.acts.JobAct.{JobAct}
-use Rattle.job_model.specs.declared.acts.JobAct.TheVariants.{Attach, Start, EndBody, Cancel, Finish, Gone}
+use Rattle.job_model.specs.declared.acts.JobAct.TheVariants.{Attach, Start}
 use Rattle.job_model.specs.declared.acts.JobEntry.{JobEntry}
 use Rattle.job_model.specs.Trees.{Shape, Job, Tree, is_new, is_cancellable}
 use Rattle.job_model.specs.Acts.{attaches}

@@ -7,7 +7,7 @@ use Rattle.job_model.specs.declared.acts.JobState.TheVariants.{New, Active, Comp
 use Rattle.job_model.specs.declared.acts.End.{End}
 use Rattle.job_model.specs.declared.acts.End.TheVariants as ends
 use Rattle.job_model.specs.declared.acts.JobAct.{JobAct}
-use Rattle.job_model.specs.declared.acts.JobAct.TheVariants.{Attach, Start, EndBody, Cancel, Finish, Gone}
+use Rattle.job_model.specs.declared.acts.JobAct.TheVariants.{Gone}
 use Rattle.job_model.specs.declared.acts.JobEntry.{JobEntry}
 use Rattle.job_model.specs.Trees.{Shape, Job, Tree, start, is_new, is_ended, is_cancellable, is_among, parent_of, parent_row, row_of, was_told}
 use Rattle.job_model.specs.Acts.{attaches, starts, ends_body, cancels, finishes, tells}

@@ -25,7 +25,7 @@ use Rattle.job_model.proofs.Short.{attached_within}
 use Rattle.call_meaning.specs.Seen.{SeenOnJobs}
 use Rattle.job_tree.specs.Notes.{made_note, Noted}
 use Rattle.job_tree.specs.Rooms.{MayCancelAll}
-use Rattle.job_tree.specs.Passes.{IsNewestOf, HasNoneBelow}
+use Rattle.job_tree.specs.Passes.{HasNoneBelow}
 use Rattle.job_tree.proofs.Rooms.{HasRoomNow, seen_room, marked, now_marked}
 
 pub in_rows : (who row : ℕ) (a : Floor) → IsShape a.shape → Legal a.shape a.seen → MayCall who row a → row < a.shape.rows
@@ -151,17 +151,6 @@ noted_one {act} {a} {d} {b} {c} h m k w e =
 
 -- ---- steps of a walk
 
-newest_seen : (x : Option Job) (v : JobView) (c : ℕ) → option_map view_of x ≡ Some v → v.first_child ≡ Some c → is_ended v.state ≡ false
-    → IsNewestOf c x
-newest_seen None v c e f h = cc
-newest_seen (Some j) v c e f h = let k : view_of j ≡ v = cc
-    in (ap (λ (u : JobView). is_ended u.state) k ∙ h, ap (λ (u : JobView). u.first_child) k ∙ f)
-
-pub walk_step_down : (who row c : ℕ) (v : JobView) (a b : Floor) → LookAnswer who row a b (Some v) → v.first_child ≡ Some c
-    → is_ended v.state ≡ false → AtStep a b (λ tree. IsNewestOf c (tree row))
-walk_step_down who row c v a b k f h = let m = k.1 in record
-    { moment = m.moment; after = m.after; before = m.before; holds = newest_seen (replay m.moment row) v c m.holds f h }
-
 no_children : (cs : List ℕ) → newest cs ≡ None → cs ≡ []
 no_children [] e = refl
 no_children (c ∷ cs) e = cc
@@ -188,11 +177,6 @@ link_is tree r (Some j) l e = by_parent j.parent e
     by_parent (Some p) e =
         let k : record { parent = p; next = older_sibling tree r; tag = j.tag } ≡ l = cc in
         (ap (λ (u : Link). Some u.parent) k, ap (λ (u : Link). u.next) k)
-
-pub walk_step_next : (who row c : ℕ) (l : Link) (a b : Floor) → LinkAnswer who row a b l → l.next ≡ Some c
-    → AtStep a b (λ tree. older_sibling tree row ≡ Some c)
-walk_step_next who row c l a b k e = let m = k.1 in record
-    { moment = m.moment; after = m.after; before = m.before; holds = (link_is (replay m.moment) row (replay m.moment row) l m.holds).1 ∙ e }
 
 pub walk_step_up : (who row : ℕ) (l : Link) (a b : Floor) → LinkAnswer who row a b l → l.next ≡ None
     → AtStep a b (λ tree. (parent_of (tree row) ≡ Some l.parent) × (older_sibling tree row ≡ None))

@@ -14,21 +14,13 @@ use Rattle.note_book.specs.Items.{job_acts_in}
 use Rattle.call_meaning.specs.Telling.{Told, on_jobs, PassedBelow, items_in, did}
 use Rattle.call_meaning.specs.Seen.{SeenOnJobs, tree_in}
 use Rattle.call_meaning.specs.Calls.{ToldOnJobs}
-use Rattle.call_meaning.proofs.JobTellings.{items_in-append, items_did, acts_did, told_dids, told_so}
+use Rattle.call_meaning.proofs.JobTellings.{items_in-append, items_did, told_dids, told_so}
 use Rattle.job_tree.specs.Notes.{made_note, Noted}
 use Rattle.job_tree.specs.Passes.{IsPass, is_cancel}
 
 -- acts that were noted are told
 pub told_noted : {acts : List JobAct} {a b : SeenOnJobs} → Noted acts a b → ToldOnJobs [] a b (map did acts)
 told_noted {acts} h = told_dids acts h.who h.appended h.added
-
--- and acts that are told were noted
-pub noted_told : {acts : List JobAct} {a b : SeenOnJobs} → ToldOnJobs [] a b (map did acts) → Noted acts a b
-noted_told {acts} {a} {b} h = record {
-  who = h.who;
-  appended = h.appended ∙ ap (λ (l : List Item). a.items ++ l) (items_did acts);
-  added = subst (λ (l : List JobAct). Added a.who l [] a.floor b.floor) (acts_did acts) h.added;
-}
 
 abbrev pub pass_told : ℕ → Reason → Bool → List JobAct → List Told
 pass_told row reason newly below = map did (own_cancel newly row reason ++ below) ++ on_jobs (PassedBelow row below) ∷ []

@@ -1,5 +1,5 @@
 //! How a forest is made, and its passes are split, met and ended.
-ghost use Rattle.std.specs.Prelude.{◌≡◌, ℕ, ◌+◌, ◌*◌, ◌==◌, ◌<◌, ◌≤◌, IfOk, length, slice_index, if◌then◌else◌, true, false, List, [], ◌∷◌};
+ghost use Rattle.std.specs.Prelude.{◌≡◌, ℕ, ◌+◌, ◌*◌, ◌==◌, ◌<◌, ◌≤◌, IfOk, length, slice_index, if◌then◌else◌, true, false, [], ◌∷◌};
 ghost use Rattle.job_model.specs.Floors.{IsFreshFloor};
 ghost use Rattle.worded.specs.Views.{has_tag};
 ghost use Rattle.job_words.specs.Passes.{floor_seen};

@@ -1,5 +1,5 @@
 //! The three steps on a word of a forest.
-ghost use Rattle.std.specs.Prelude.{◌≡◌, ◌<◌, ◌+◌};
+ghost use Rattle.std.specs.Prelude.{◌≡◌, ◌<◌};
 ghost use Rattle.worded.specs.Exchanges.{MayEnter, MayLift};
 ghost use Rattle.job_words.specs.Deeds.{shape_of, doer, word_count, IsDone, Fits};
 ghost use Rattle.job_words.specs.Passes.{Sees, ExchangeAnswer};

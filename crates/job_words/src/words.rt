@@ -1,5 +1,5 @@
 //! The two words of a row, as steps on them.
-ghost use Rattle.std.specs.Prelude.{◌≡◌, ◌≢◌, ◌<◌};
+ghost use Rattle.std.specs.Prelude.{◌≢◌, ◌<◌};
 ghost use Rattle.job_words.specs.Rows.{link_code, IsNarrow, IsNarrowLink};
 ghost use Rattle.job_words.specs.Deeds.{store_of, MayBeLink};
 ghost use Rattle.job_words.specs.Passes.{Sees};

@@ -9,8 +9,8 @@ use Rattle.job_model.specs.declared.acts.End.{End}
 use Rattle.job_model.specs.declared.acts.End.TheVariants.{Completed}
 use Rattle.job_model.specs.declared.acts.JobNote.TheVariants.{SawEnd}
 use Rattle.job_model.specs.declared.floor.Attached.{Attached}
-use Rattle.job_model.specs.Trees.{Shape, Tree}
-use Rattle.job_model.specs.Histories.{replay, replay_from, Legal}
+use Rattle.job_model.specs.Trees.{Tree}
+use Rattle.job_model.specs.Histories.{replay, Legal}
 use Rattle.job_model.specs.Floors.{Floor, entries_by}
 use Rattle.job_model.proofs.Histories.{replay_push}
 use Rattle.job_model.proofs.Families.{attached_now}

@@ -1,18 +1,13 @@
 -- What a look at a floor of Jobs shows, and that the root is attached.
-use Rattle.std.specs.Prelude.{◌≡◌, ℕ, Bool, true, List, [], Option, Some, None, Result, Ok, Err, is_some, option_map, refl}
+use Rattle.std.specs.Prelude.{◌≡◌, ℕ, Bool, true, Option, Some, None, Result, Ok, Err}
 use Rattle.std.proofs.Common.{ap, ◌∙◌}
-use Rattle.job_model.specs.declared.acts.JobEntry.{JobEntry}
 use Rattle.job_model.specs.declared.acts.JobKind.{JobKind}
 use Rattle.job_model.specs.declared.floor.Attached.{Attached}
 use Rattle.job_model.specs.declared.floor.AttachError.{AttachError}
 use Rattle.job_model.specs.declared.floor.AttachError.TheVariants as error
 use Rattle.job_model.specs.declared.floor.JobView.{JobView}
-use Rattle.job_model.specs.Trees.{Shape, Job}
-use Rattle.job_model.specs.Histories.{replay, replay_from, Legal}
 use Rattle.job_model.specs.Floors.{Floor, SameSetting}
-use Rattle.job_model.specs.Answers.{view_of, AttachAnswer, LookAnswer}
-use Rattle.job_model.proofs.Lasting.{attached_lasts}
-use Rattle.job_model.proofs.Own.{prefix_keeps}
+use Rattle.job_model.specs.Answers.{AttachAnswer, LookAnswer}
 
 pub attach_same : (who parent : ℕ) (kind : JobKind) (tag : ℕ) (a d : Floor) (r : Result Attached AttachError)
     → AttachAnswer who parent kind tag a d r → SameSetting a d

@@ -12,7 +12,7 @@
 //! - `messages`: the same by the kit's channel
 #![tactic(auto)]
 
-ghost use Rattle.std.specs.Prelude.{◌≡◌, ◌≤◌, IfOk};
+ghost use Rattle.std.specs.Prelude.{◌≤◌, IfOk};
 ghost use Rattle.parcel_channel.specs.Numbers.{KeepsAll};
 
 mod boxes;

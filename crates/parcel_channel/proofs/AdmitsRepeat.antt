@@ -6,7 +6,7 @@ use Rattle.std.specs.List.{list_all}
 use Rattle.channel_model.specs.declared.acts.Act.TheVariants.{Admit}
 use Rattle.channel_model.specs.Histories.{Legal}
 use Rattle.channel_model.specs.Floors.{Floor, SameSetting, Looked, Made}
-use Rattle.channel_model.proofs.Spans.{added_none, added_looked, added_made, added_then}
+use Rattle.channel_model.proofs.Spans.{added_looked, added_made, added_then}
 use Rattle.channel_model.proofs.Left.{left_of, left_lower}
 use Rattle.cell_words.specs.declared.hub.Hub.{Hub}
 use Rattle.cell_calls.specs.declared.desk.Desk.{Desk}
@@ -16,9 +16,6 @@ use Rattle.parcel_channel.specs.Numbers.{CarriesNumbers, is_admit, Admits, Admit
 
 same_floor : (a : Floor) → SameSetting a a
 same_floor a = record { shape = refl; alone = refl; callers = refl }
-
-pub no_admits : (who : ℕ) (a : Floor) → Admits who a a
-no_admits who a = record { acts = []; added = added_none who a a (same_floor a) refl; admits = refl }
 
 admits_then : (who : ℕ) (a b c : Floor) → Admits who a b → Admits who b c → Admits who a c
 admits_then who a b c x y = record {

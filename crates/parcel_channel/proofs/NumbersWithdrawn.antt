@@ -1,6 +1,6 @@
 -- The number of an offer that was withdrawn.
-use Rattle.std.specs.Prelude.{◌≡◌, ℕ, Bool, true, false, ◌++◌, Option, Some, None, if◌then◌else◌, refl}
-use Rattle.std.proofs.Common.{ap, sym, ◌∙◌, subst, append_assoc}
+use Rattle.std.specs.Prelude.{◌≡◌, ℕ, Bool, true, false, Option, Some, None, if◌then◌else◌, refl}
+use Rattle.std.proofs.Common.{ap, sym, ◌∙◌, subst}
 use Rattle.channel_model.specs.declared.acts.Settled.{Settled}
 use Rattle.channel_model.specs.declared.acts.Why.TheVariants as why
 use Rattle.channel_model.specs.declared.standing.Resolution.{Resolution}
@@ -9,9 +9,6 @@ use Rattle.channel_model.specs.Laws.{IsResolvedAs}
 use Rattle.channel_model.proofs.Later.{resolved_later}
 use Rattle.cell_words.specs.Cells.{Cell, free, cell_of}
 use Rattle.cell_words.specs.Words.{parts_word, word_of_wait, word_of_cell}
-use Rattle.worded.specs.Views.{has_tag}
-use Rattle.worded.specs.Histories.{entries_of}
-use Rattle.worded.proofs.TagsAndPrefixes.{entries_of-append}
 use Rattle.channel_model.specs.Channels.{Shape}
 use Rattle.channel_model.specs.Histories.{Legal, replay}
 use Rattle.channel_model.specs.Answers.{IsOwnWait, IsReadyWait}
@@ -20,18 +17,8 @@ use Rattle.co_base.specs.declared.names.WaitId.{WaitId}
 use Rattle.cell_words.specs.declared.wait_word.WaitWord.{WaitWord}
 use Rattle.cell_words.specs.declared.cell_word.CellWord.{CellWord}
 use Rattle.cell_words.specs.Answers.{IsCellWord, IsWaitWord}
-use Rattle.cell_words.specs.Seen.{Seen, Sees, maker}
+use Rattle.cell_words.specs.Seen.{Seen, Sees}
 use Rattle.parcel_channel.specs.Numbers.{is_withdrawn_how, is_withdrawn, number_in, withdrawn_at, is_cancel, number_of_state}
-
-pub sees_both : (a b d : Seen) → Sees a b → Sees b d → Sees a d
-sees_both a b d x y = record {
-  others = x.others ++ y.others;
-  now = y.now ∙ ap (λ l. l ++ y.others) x.now ∙ append_assoc a.seen x.others y.others;
-  apart = λ t h. entries_of-append maker t x.others y.others ∙ ap (λ l. l ++ entries_of maker t y.others) (x.apart t h)
-      ∙ y.apart t (ap (has_tag t) x.tags ∙ h);
-  tags = y.tags ∙ x.tags;
-  giving = y.giving ∙ x.giving;
-}
 
 -- the word of a wait tells whether its coroutine withdrew it
 pub word_withdrawn : (y : Option Wait) (word : WaitWord) → word ≡ word_of_wait y → is_cancel word.by ≡ is_withdrawn y

@@ -96,10 +96,6 @@ waits_still who c b (Some x) word h is e = (h.0, h.1, by_how x.resolved x.settle
     by_how (Some (resolved.Withdrawn why)) o g q = absurd g
     by_how (Some resolved.Voided) o g q = inr refl
 
-pub waits_holds : (who : ℕ) (y : Option Wait) → WaitsStill who y → IsUnsettledOf who y
-waits_holds who None h = h
-waits_holds who (Some x) h = (h.0, h.1)
-
 -- it may be settled
 pub sent_ready : (who c : ℕ) (b : Bool) (y : Option Wait) (word : WaitWord) → IsPlainOffer who c b y → word ≡ word_of_wait y
     → is_sent word.by ≡ true → IsReadyWait who y

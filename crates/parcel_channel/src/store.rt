@@ -1,5 +1,5 @@
 //! A value is moved in, and moved out.
-ghost use Rattle.std.specs.Prelude.{◌≡◌, ℕ, ◌<◌, [], IfSome};
+ghost use Rattle.std.specs.Prelude.{◌≡◌, ◌<◌, [], IfSome};
 ghost use Rattle.parcel_channel.specs.Seen.{own_tag};
 ghost use Rattle.parcel_channel.specs.Answers.{IsTable, IsSeated, IsOnly, PutAnswer, TakeAnswer};
 

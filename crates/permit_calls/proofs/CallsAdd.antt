@@ -1,26 +1,22 @@
 -- Each call of one who uses permits adds acts of that one alone.
-use Rattle.std.specs.Prelude.{◌≡◌, ℕ, List, [], ◌++◌, Result, Ok, Err, refl}
+use Rattle.std.specs.Prelude.{ℕ, List, [], ◌++◌, Result, Ok, Err, refl}
 use Rattle.std.proofs.Common.{sym, subst}
 use Rattle.co_base.specs.declared.names.WaitId.{WaitId}
 use Rattle.co_base.specs.declared.names.Memory.{Memory}
-use Rattle.channel_model.specs.Floors.{Floor, Added, Looked}
+use Rattle.channel_model.specs.Floors.{Floor, Looked}
 use Rattle.channel_model.proofs.Spans.{added_none, added_looked, added_then}
 use Rattle.note_book.specs.declared.book.Item.{Item}
 use Rattle.call_meaning.specs.Telling.{Told}
 use Rattle.call_meaning.specs.Seen.{SeenOnChannels}
 use Rattle.call_meaning.specs.Calls.{ToldOnChannels}
 use Rattle.channel_calls.specs.Calls.{IsUntouched}
-use Rattle.permits.specs.declared.permits.Filled.{Filled}
-use Rattle.permits.specs.declared.permits.Filled.TheVariants as filled
 use Rattle.permits.specs.declared.permits.Acquired.{Acquired}
 use Rattle.permits.specs.declared.permits.Acquired.TheVariants as acquired
-use Rattle.permits.specs.declared.permits.TryAcquired.{TryAcquired}
-use Rattle.permits.specs.declared.permits.TryAcquired.TheVariants as try_acquired
 use Rattle.permits.specs.declared.permits.Released.{Released}
 use Rattle.permits.specs.declared.permits.Released.TheVariants as released
 use Rattle.permits.specs.declared.permits.GivenBack.{GivenBack}
 use Rattle.permits.specs.declared.permits.GivenBack.TheVariants as back
-use Rattle.permits.specs.Answers.{FilledAnswer, AcquiredAnswer, TryAcquiredAnswer, TakenUpAnswer, ReleasedAnswer, GivenBackAnswer, StopsEarly}
+use Rattle.permits.specs.Answers.{TakenUpAnswer, ReleasedAnswer, GivenBackAnswer, StopsEarly}
 use Rattle.permit_calls.specs.Known.{Adds}
 
 -- what a caller sees, in parts
@@ -42,29 +38,6 @@ looked_adds who a d h = record { acts = []; added = added_looked who a d h }
 
 pub adds_then : (who : ℕ) (a b d : Floor) → Adds who a b → Adds who b d → Adds who a d
 adds_then who a b d h k = record { acts = h.acts ++ k.acts; added = added_then who h.acts k.acts a b d h.added k.added }
-
-pub fill_adds : (who me c n : ℕ) (a d : Floor) (i k : List Item) (r : Result Filled Memory)
-    → FilledAnswer c n (parts who a i) (parts me d k) r → Adds who a d
-fill_adds who me c n a d i k (Ok filled.Done) h = told_adds who me a d i k _ h.left
-fill_adds who me c n a d i k (Ok (filled.Closed x)) h = told_adds who me a d i k _ h.left
-fill_adds who me c n a d i k (Ok filled.Spent) h = told_adds who me a d i k _ h.left
-fill_adds who me c n a d i k (Err m) h = told_adds who me a d i k _ h.left
-
-pub acquire_adds : (who me c : ℕ) (a d : Floor) (i k : List Item) (r : Result Acquired Memory)
-    → AcquiredAnswer c (parts who a i) (parts me d k) r → Adds who a d
-acquire_adds who me c a d i k (Ok acquired.Held) h = told_adds who me a d i k _ h.takes.told
-acquire_adds who me c a d i k (Ok (acquired.Waits w)) h = told_adds who me a d i k _ h.told
-acquire_adds who me c a d i k (Ok acquired.Cancelled) h = absurd h
-acquire_adds who me c a d i k (Ok (acquired.Closed x)) h = told_adds who me a d i k _ h
-acquire_adds who me c a d i k (Ok acquired.Spent) h = told_adds who me a d i k _ h
-acquire_adds who me c a d i k (Err m) h = untouched_adds who me a d i k h
-
-pub try_acquire_adds : (who me c : ℕ) (a d : Floor) (i k : List Item) (r : Result TryAcquired Memory)
-    → TryAcquiredAnswer c (parts who a i) (parts me d k) r → Adds who a d
-try_acquire_adds who me c a d i k (Ok try_acquired.Held) h = told_adds who me a d i k _ h.takes.told
-try_acquire_adds who me c a d i k (Ok try_acquired.Empty) h = told_adds who me a d i k _ h
-try_acquire_adds who me c a d i k (Ok (try_acquired.Closed x)) h = told_adds who me a d i k _ h
-try_acquire_adds who me c a d i k (Err m) h = untouched_adds who me a d i k h
 
 pub take_up_adds : (who me : ℕ) (w : WaitId) (a d : Floor) (i k : List Item) (r : Result Acquired Memory)
     → TakenUpAnswer w (parts who a i) (parts me d k) r → Adds who a d

@@ -1,5 +1,5 @@
 -- What is known behind a call of the own, and behind one of another.
-use Rattle.std.specs.Prelude.{◌≡◌, ◌≢◌, ℕ, ◌<◌, ◌≤◌, ◌==◌, Bool, true, false, List, [], ◌∷◌, ◌++◌, length, Option, Some, None, Result, Ok, Err, refl, if◌then◌else◌}
+use Rattle.std.specs.Prelude.{◌≡◌, ◌≢◌, ℕ, ◌<◌, ◌==◌, Bool, true, false, List, [], ◌∷◌, ◌++◌, length, Option, Some, None, refl, if◌then◌else◌}
 use Rattle.std.proofs.Common.{sym, ap, ◌∙◌, subst}
 use Rattle.std.proofs.lemmas.Bool.{eqb-true}
 use Rattle.co_base.specs.declared.names.WaitId.{WaitId}
@@ -7,35 +7,15 @@ use Rattle.channel_model.specs.declared.acts.Act.{Act}
 use Rattle.channel_model.specs.Channels.{Shape, kind_at}
 use Rattle.channel_model.specs.Answers.{IsUnsettledOf}
 use Rattle.channel_model.specs.Histories.{acts_of, Legal}
-use Rattle.channel_model.specs.Floors.{Floor, SameSetting, MayCall, Added, entries_by}
+use Rattle.channel_model.specs.Floors.{Floor, SameSetting, entries_by}
 use Rattle.channel_model.specs.Laws.{how_many}
 use Rattle.channel_model.proofs.Histories.{acts_of-append}
 use Rattle.channel_model.proofs.Others.{others_keep, unsettled_stays}
 use Rattle.channel_model.proofs.Spans.{nothing_more}
-use Rattle.note_book.specs.declared.book.Item.{Item}
-use Rattle.permits.specs.declared.permits.Acquired.{Acquired}
-use Rattle.permits.specs.declared.permits.Acquired.TheVariants as acquired
-use Rattle.permits.specs.Parts.{is_on, UsesPermits, MayFill}
-use Rattle.permits.specs.Answers.{AcquiredAnswer}
+use Rattle.permits.specs.Parts.{is_on, MayFill}
 use Rattle.permits.proofs.UsesGo.{uses_kept}
 use Rattle.permit_calls.specs.declared.known_calls.Known.{Known}
-use Rattle.permit_calls.specs.Known.{HoldsWait, Knows, IsOwnWait, Adds, used, after_acquire}
-
-pub knows_used : (c n who held : ℕ) (f : Floor) → UsesPermits c n who held f → Knows c n who (used held) f
-knows_used c n who held f u = record { uses = u; fresh = λ e. cc; wait = tt }
-
-pub knows_acquired : (c n who me held : ℕ) (a d : Floor) (i k : List Item) (answer : Acquired)
-    → AcquiredAnswer c (record { who = who; floor = a; items = i }) (record { who = me; floor = d; items = k }) (Ok answer)
-    → UsesPermits c n who held d → Knows c n who (after_acquire held answer) d
-knows_acquired c n who me held a d i k acquired.Held h u = knows_used c n who held d u
-knows_acquired c n who me held a d i k (acquired.Waits w) h u = record {
-  uses = u;
-  fresh = λ e. cc;
-  wait = (ap (λ (x : WaitId). x.channel) h.is, subst (λ t. HoldsWait t w d) h.told.who h.waits.holds);
-}
-knows_acquired c n who me held a d i k acquired.Cancelled h u = absurd h
-knows_acquired c n who me held a d i k (acquired.Closed x) h u = knows_used c n who held d u
-knows_acquired c n who me held a d i k acquired.Spent h u = knows_used c n who held d u
+use Rattle.permit_calls.specs.Known.{Knows, IsOwnWait, Adds}
 
 -- ---- behind another's call
 

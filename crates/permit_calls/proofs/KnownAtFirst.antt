@@ -1,14 +1,13 @@
 -- What is known of a coroutine that has not called yet.
-use Rattle.std.specs.Prelude.{◌≡◌, ℕ, ◌<◌, ◌≤◌, true, List, [], ◌∷◌, length, Result, Ok, Err, refl}
+use Rattle.std.specs.Prelude.{◌≡◌, ℕ, ◌<◌, ◌≤◌, true, List, [], ◌∷◌, length, Result, Ok, Err}
 use Rattle.std.specs.Result.{IfOk}
-use Rattle.std.proofs.Common.{sym, ap, ◌∙◌, subst, arith}
+use Rattle.std.proofs.Common.{sym, ap, subst, arith}
 use Rattle.co_base.specs.declared.names.Memory.{Memory}
-use Rattle.channel_model.specs.declared.acts.Kind.{Kind}
 use Rattle.channel_model.specs.declared.acts.Kind.TheVariants.{Unlimited}
 use Rattle.channel_model.specs.declared.acts.Entry.{Entry}
 use Rattle.channel_model.specs.Channels.{Shape, kind_at}
 use Rattle.channel_model.specs.Histories.{acts_of}
-use Rattle.channel_model.specs.Floors.{Floor, MayCall}
+use Rattle.channel_model.specs.Floors.{Floor}
 use Rattle.channel_model.specs.Laws.{how_many}
 use Rattle.one_thread_floor.specs.declared.list_floor.ListFloor.{ListFloor}
 use Rattle.one_thread_floor.specs.ListFloors.{floor_of}

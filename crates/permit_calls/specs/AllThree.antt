@@ -1,5 +1,5 @@
 -- What three coroutines know of the one permit of a channel, on one floor or with a pass each.
-use Rattle.std.specs.Prelude.{ℕ, Option, Some, None, Result, Ok, Err}
+use Rattle.std.specs.Prelude.{Option, Some, None, Result, Ok, Err}
 use Rattle.co_base.specs.declared.names.Memory.{Memory}
 use Rattle.channel_model.specs.Floors.{Floor}
 use Rattle.cell_words.specs.declared.hub.Hub.{Hub}

@@ -2,8 +2,6 @@
 
 ghost use Rattle.std.specs.Prelude.{◌≡◌, ℕ, true, IfOk};
 ghost use Rattle.one_thread_floor.specs.ListFloors.{floor_of};
-ghost use Rattle.cell_words.specs.Hubs.{IsOf};
-ghost use Rattle.cell_calls.specs.HubFloors.{hub_floor};
 ghost use Rattle.permits.specs.Parts.{MayFill};
 ghost use Rattle.permit_calls.specs.Known.{fresh};
 ghost use Rattle.permit_calls.specs.AllThree.{AllKnow, AllKnowThen, AreOf, EachKnows, EachKnowsThen, AreFresh};

@@ -153,13 +153,6 @@ holds_none c n who value floor f = record {
   count_is = (let g = f.got_is in omega (arith, g));
 }
 
-pub uses_all : (c n who value : ℕ) (floor : Floor) → n ≤ value → Filling c n who value floor → UsesPermits c n who 0 floor
-uses_all c n who value floor le f = record {
-  holds = holds_none c n who value floor f;
-  filled =
-      λ e. (let g = f.given_is in omega (arith, g, le));
-}
-
 -- who has not called yet uses the permits too, and holds none
 pub uses_fresh : (c n who : ℕ) (floor : Floor) → MayFill c n who floor → UsesPermits c n who 0 floor
 uses_fresh c n who floor m = record {

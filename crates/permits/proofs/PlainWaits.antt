@@ -60,9 +60,6 @@ zero_still n m e le = omega arith
 abbrev MayEnd : ℕ → WaitId → WaitId → Resolution → State → Type 0
 MayEnd who w v how s = v ≡ w → IsOwnWait who (s.waits w) → AwaitEnds (Some how)
 
-own_some : (who : ℕ) (x : Wait) (y : Option Wait) → y ≡ Some x → x.owner ≡ who → IsOwnWait who y
-own_some who x y e o = subst (IsOwnWait who) (sym e) o
-
 own_resolved : (who : ℕ) (how : Resolution) (x : Option Wait) → IsOwnWait who (resolved_wait how x) → IsOwnWait who x
 own_resolved who how None h = h
 own_resolved who how (Some x) h = h

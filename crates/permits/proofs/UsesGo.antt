@@ -14,7 +14,6 @@ use Rattle.channel_model.specs.Histories.{acts_of, Legal}
 use Rattle.channel_model.specs.Floors.{Floor, SameSetting, Added, MayCall}
 use Rattle.channel_model.proofs.Placed.{same_number}
 use Rattle.channel_model.proofs.Spans.{nothing_more}
-use Rattle.note_book.specs.declared.book.Item.{Item}
 use Rattle.note_book.specs.Items.{channel_act}
 use Rattle.call_meaning.specs.Telling.{Told, ChannelFact, on_channels, items_in, made, heard}
 use Rattle.call_meaning.specs.Seen.{SeenOnChannels}
@@ -101,12 +100,6 @@ uses_kept c n who count a d same e u = record {
 pub uses_still : (c n who count : ℕ) (a d : Floor) → Added who [] a d → UsesPermits c n who count a → UsesPermits c n who count d
 uses_still c n who count a d h u = uses_kept c n who count a d h.same (h.mine ∙ nothing_more (acts_of who a.seen)) u
 
--- in parts, as a search finds it
-pub uses_same : (c n who me count : ℕ) (a d : Floor) (i k : List Item)
-    → IsUntouched (record { who = who; floor = a; items = i }) (record { who = me; floor = d; items = k }) → UsesPermits c n who count a
-    → UsesPermits c n who count d
-uses_same c n who me count a d i k h u = subst (UsesPermits c n who count) (sym h.floor) u
-
 -- an act that gives no permit, and gets one or not
 pub uses_getting : (c n who count : ℕ) (act : Act) (b : Bool) (a d : Floor) → Added who (act ∷ []) a d → UsesPermits c n who count a
     → is_permit_act c act ≡ true → gives_permit c act ≡ false → gets_permit c act ≡ b → UsesPermits c n who (count + cond b 1 0) d
@@ -176,12 +169,6 @@ pub uses_settling : (c n who count : ℕ) (w : WaitId) (outcome : Settled) (a d 
 uses_settling c n who count w outcome a d here h u =
     uses_getting c n who count (Settle w outcome) (brings_element outcome) a d h u refl refl
     (ap (λ (x : ℕ). (x == c) && brings_element outcome) here ∙ ap (λ (b : Bool). b && brings_element outcome) (same_number c))
-
-pub uses_withdrawing : (c n who count : ℕ) (w : WaitId) (why : Why) (a d : Floor) → Added who (Withdraw w why ∷ []) a d
-    → UsesPermits c n who count a → UsesPermits c n who count d
-uses_withdrawing c n who count w why a d h u =
-    let r = uses_getting c n who count (Withdraw w why) false a d h u refl refl refl in
-    subst (λ m. UsesPermits c n who m d) (let e : count + 0 ≡ count = omega arith in e) r
 
 -- ---- the number fits
 

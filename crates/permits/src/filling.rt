@@ -1,6 +1,6 @@
 //! To fill a semaphore with its permits.
 
-ghost use Rattle.std.specs.Prelude.{◌≡◌, ◌≤◌, Ok};
+ghost use Rattle.std.specs.Prelude.{◌≡◌, Ok};
 ghost use Rattle.permits.specs.declared.permits.Filled.TheVariants as filled;
 ghost use Rattle.channel_calls.specs.Calls.{SameCaller, seen};
 ghost use Rattle.permits.specs.Parts.{HoldsPermits, UsesPermits, MayFill};

@@ -144,16 +144,6 @@ some_jobs {a} {b} e h = record {
   jobs = h.added;
 }
 
-pub some_told : {base : ℕ} {P : List Told → Type 0} {a b : SeenOnBoth} → TellsBoth base P a b → CutShort a b
-some_told h = record {
-  who = h.noted.who;
-  group = items_in h.told;
-  rows = [];
-  appended = h.noted.appended;
-  channels = h.noted.channels;
-  jobs = h.noted.jobs;
-}
-
 -- of who went on with this tag
 pub cut_as : (w : ℕ) {a b : SeenOnBoth} → b.who ≡ a.who → CutShort a (record b { who = w }) → CutShort a b
 cut_as w t h = record { who = t; group = h.group; rows = h.rows; appended = h.appended; channels = h.channels; jobs = h.jobs }

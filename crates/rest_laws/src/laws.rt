@@ -1,6 +1,6 @@
 //! What the books of a run at rest tell.
 
-ghost use Rattle.std.specs.Prelude.{◌≡◌, ◌<◌, ℕ, List, Option};
+ghost use Rattle.std.specs.Prelude.{◌≡◌, ◌<◌, List, Option};
 ghost use Rattle.channel_model.specs.declared.acts.Entry.{Entry};
 ghost use Rattle.job_model.specs.declared.acts.End.{End};
 ghost use Rattle.job_model.specs.declared.acts.JobEntry.{JobEntry};

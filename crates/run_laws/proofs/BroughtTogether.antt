@@ -1,10 +1,9 @@
 -- The floors of all are ended into those of the root, one after the other.
-use Rattle.std.specs.Prelude.{◌≡◌, ◌≢◌, ℕ, zero, suc, ◌+◌, ◌<◌, ◌≤◌, Bool, true, false, ◌||◌, List, [], ◌∷◌, ◌++◌, length, map, Option, Some, refl}
+use Rattle.std.specs.Prelude.{◌≡◌, ◌≢◌, ℕ, ◌+◌, ◌<◌, ◌≤◌, Bool, true, false, ◌||◌, List, [], ◌∷◌, ◌++◌, length, map, Option, refl}
 use Rattle.std.specs.List.{All}
 use Rattle.std.proofs.Common.{sym, ap, ◌∙◌, subst, arith}
-use Rattle.std.proofs.lemmas.List.{append-nil, map-append, length-map}
+use Rattle.std.proofs.lemmas.List.{map-append, length-map}
 use Rattle.std.proofs.lemmas.List.Elements.{All-head, All-tail, All-cons, All-push, All-weaker, All-map}
-use mathlib.Core.List.{IsPrefix}
 use mathlib.Core.Logic.{dite}
 use native.Mathlib.Decide.{ℕ_discrete}
 use Rattle.channel_model.specs.Histories.{acts_of, Legal}
@@ -18,13 +17,13 @@ use Rattle.script_grammar.specs.Programs.{Program}
 use Rattle.script_grammar.specs.WellFormed.{IsProgram}
 use Rattle.script_grammar.specs.Tags.{coroutine_count}
 use Rattle.script_meaning.specs.Polls.{Frame}
-use Rattle.run_laws.specs.Sights.{Sight, Keeps, KnowsTags, IsWithin, SameOf, SawMore, CountUp}
+use Rattle.run_laws.specs.Sights.{Sight, Keeps, KnowsTags, SawMore, CountUp}
 use Rattle.shared_floors.specs.Meetings.{EndedOnChannels, EndedOnJobs}
 use Rattle.run_laws.specs.LastRounds.{AllRested, HasRested, KnowsAllOf, tags_seen, books_seen}
 use Rattle.run_laws.specs.Ends.{IsBroughtTo, NoOthers, IsSpare, books_in, IsRunAtRest}
-use Rattle.run_laws.proofs.Hearing.{sight, rested_still, known_still}
+use Rattle.run_laws.proofs.Hearing.{rested_still, known_still}
 use Rattle.run_laws.proofs.Prefixes.{prefix_then}
-use Rattle.run_laws.proofs.RunsEnd.{IsOver, run_rests}
+use Rattle.run_laws.proofs.RunsEnd.{run_rests}
 
 or_first : (a b : Bool) → a ≡ true → (a || b) ≡ true
 or_first true b e = refl
@@ -33,20 +32,6 @@ or_first false b e = cc
 or_second : (a b : Bool) → b ≡ true → (a || b) ≡ true
 or_second true b e = refl
 or_second false b e = e
-
--- the root's own floors
-pub brought_itself : (p : Program) (f : Frame) (c : ChannelFloor) (j : Floor) → Keeps p (sight f c j) → IsBroughtTo p c j (sight f c j)
-brought_itself p f c j k = record {
-  keeps = k;
-  shape = refl;
-  job_shape = refl;
-  caller = k.stands.of_channels;
-  job_caller = k.stands.of_jobs;
-  seen = record { channels = ([], append-nil c.seen); jobs = ([], append-nil j.seen) };
-  same = record { calls = refl; jobs = refl };
-  kept = λ r t e. e;
-  claims = λ r. refl;
-}
 
 -- what was brought there stays there
 pub brought_still : (p : Program) (c c' b : ChannelFloor) (j j' i : Floor) (s : Sight) → EndedOnChannels c c' b → EndedOnJobs j j' i

@@ -1,9 +1,7 @@
 -- A coroutine that a poll left where it was, and that was not ready, cannot go on, where nobody made an entry meanwhile.
-use Rattle.std.specs.Prelude.{◌≡◌, ◌≢◌, ℕ, ◌≤◌, ◌==◌, Bool, true, false, ◌||◌, List, [], ◌∷◌, ◌++◌, length, Option, Some, None, refl, if◌then◌else◌}
+use Rattle.std.specs.Prelude.{◌≡◌, ◌≢◌, ℕ, ◌==◌, Bool, true, false, ◌||◌, List, [], ◌∷◌, Option, Some, None, refl, if◌then◌else◌}
 use Rattle.std.specs.List.{list_any}
-use mathlib.Core.List.{IsPrefix}
-use Rattle.std.proofs.Common.{ap, sym, ◌∙◌, subst, arith, length-append}
-use Rattle.std.proofs.lemmas.List.{append-nil, nil_from_length}
+use Rattle.std.proofs.Common.{ap, sym, ◌∙◌, subst}
 use Rattle.co_base.specs.declared.names.WaitId.{WaitId}
 use Rattle.channel_model.specs.declared.acts.Settled.{Settled}
 use Rattle.channel_model.specs.declared.standing.Resolution.{Resolution}
@@ -17,7 +15,7 @@ use Rattle.job_model.specs.declared.acts.End.{End}
 use Rattle.job_model.specs.declared.acts.JobAct.{JobAct}
 use Rattle.job_model.specs.declared.acts.JobEntry.{JobEntry}
 use Rattle.job_model.specs.declared.acts.JobState.{JobState}
-use Rattle.job_model.specs.declared.acts.JobState.TheVariants.{New, Active, Completing, Cancelling, Cancelled, Completed}
+use Rattle.job_model.specs.declared.acts.JobState.TheVariants.{New, Active, Cancelling}
 use Rattle.job_model.specs.Trees.{Shape, Job, Tree, state_of}
 use Rattle.job_model.specs.Acts.{ends_body}
 use Rattle.job_model.specs.Laws.{GoesTo, stays, goes_on as then_goes, is_step, RowGoesTo}
@@ -30,8 +28,7 @@ use Rattle.call_meaning.specs.Calls.{seen_by}
 use Rattle.script_grammar.specs.Programs.{Program}
 use Rattle.script_grammar.specs.declared.instructions.Instruction.{Instruction}
 use Rattle.call_meaning.specs.ChannelCalls.{Answer}
-use Rattle.script_meaning.specs.declared.stage.Stage.TheVariants.{Fresh, Ended, Running, Waiting, SeesJob, Unwinding}
-use Rattle.script_meaning.specs.declared.stage.Stage.{Stage}
+use Rattle.script_meaning.specs.declared.stage.Stage.TheVariants.{Fresh, Ended}
 use Rattle.script_meaning.specs.declared.turn.Turn.{Turn}
 use Rattle.script_meaning.specs.declared.turn.Turn.TheVariants as turn
 use Rattle.script_meaning.specs.Shapes.{floor_shape, job_shape}

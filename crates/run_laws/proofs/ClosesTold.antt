@@ -1,11 +1,10 @@
 -- What a coroutine notes of the ends of Jobs: behind each Finish stands the Close of its done channel, or the note that this had been
 -- closed; and a done channel is closed nowhere else.
-use Rattle.std.specs.Prelude.{◌≡◌, ℕ, ◌<◌, nat_lt, length, Bool, true, false, List, [], ◌∷◌, ◌++◌, Option, Some, slice_get, refl, map}
+use Rattle.std.specs.Prelude.{◌≡◌, ℕ, ◌<◌, nat_lt, length, Bool, true, false, List, [], ◌∷◌, ◌++◌, Option, Some, slice_get, refl}
 use Rattle.std.specs.List.{list_all}
 use Rattle.std.proofs.Common.{sym, ap, subst, arith}
 use Rattle.std.proofs.lemmas.Bool.Decides.{nat_tests}
 use Rattle.std.proofs.lemmas.List.{append-nil}
-use Rattle.channel_model.specs.declared.acts.Act.TheVariants.{WakeClosed}
 use Rattle.channel_model.specs.declared.acts.ChannelNote.{ChannelNote}
 use Rattle.channel_model.specs.declared.acts.ChannelNote.TheVariants as heard_as
 use Rattle.job_model.specs.declared.acts.End.{End}
@@ -14,7 +13,7 @@ use Rattle.job_model.specs.declared.acts.JobAct.TheVariants.{EndBody, Finish, Go
 use Rattle.job_model.specs.Done.{done_channel}
 use Rattle.note_book.specs.declared.book.Item.{Item}
 use Rattle.note_book.specs.declared.book.Item.TheVariants as item
-use Rattle.call_meaning.specs.Telling.{Told, on_channels, on_jobs, JobFact, NoReceiver, IsCancelling, ParentIs, items_in, made, did}
+use Rattle.call_meaning.specs.Telling.{Told, on_jobs, JobFact, IsCancelling, ParentIs, items_in, did}
 use Rattle.call_meaning.specs.ChannelCalls.{Call, Answer, PlainCall, Wakes, Closes}
 use Rattle.call_meaning.specs.JobCalls.{NotAttached, Chain, EndsBody, BreaksOff, value_of}
 use Rattle.call_meaning.proofs.JobTellings.{items_in-append}

@@ -1,5 +1,5 @@
 -- What coroutines keep before their first poll.
-use Rattle.std.specs.Prelude.{◌≡◌, ◌≢◌, ℕ, ◌<◌, ◌==◌, Bool, true, false, ◌||◌, List, [], ◌∷◌, ◌++◌, Option, Some, None, if◌then◌else◌, refl}
+use Rattle.std.specs.Prelude.{◌≡◌, ◌≢◌, ℕ, ◌<◌, ◌==◌, Bool, true, false, ◌||◌, [], ◌∷◌, ◌++◌, Some, None, if◌then◌else◌, refl}
 use Rattle.std.specs.List.{list_any}
 use Rattle.std.proofs.Common.{sym, ap, ◌∙◌, subst, arith}
 use Rattle.std.proofs.lemmas.Bool.Decides.{nat_tests}
@@ -8,7 +8,6 @@ use Rattle.channel_model.specs.Floors.{Floor as ChannelFloor}
 use Rattle.job_model.specs.Trees.{Shape, is_among}
 use Rattle.job_model.specs.Histories.{acts_of as job_acts_of, Legal as LegalJobs}
 use Rattle.job_model.specs.Floors.{Floor, IsFreshFloor, is_claimed_by}
-use Rattle.note_book.specs.declared.book.Item.{Item}
 use Rattle.note_book.specs.Items.{channel_acts_in, job_acts_in}
 use Rattle.call_meaning.specs.Telling.{items_in}
 use Rattle.call_meaning.specs.Stories.{Moment, beginning, IsTrue}
@@ -16,12 +15,11 @@ use Rattle.call_meaning.specs.Calls.{seen_by, rows_in}
 use Rattle.script_grammar.specs.Programs.{Program}
 use Rattle.script_grammar.specs.WellFormed.{IsProgram}
 use Rattle.script_grammar.specs.Tags.{coroutine_count}
-use Rattle.script_meaning.specs.Shapes.{job_shape}
 use Rattle.script_meaning.specs.Configs.{fresh}
 use Rattle.script_meaning.specs.Books.{story, Runs, Reaches, Begins}
 use Rattle.script_meaning.specs.Polls.{Frame, StandsOn, Begun, own_rows}
 use Rattle.script_laws.proofs.ClaimsAttached.{is_among-rows_in}
-use Rattle.run_laws.specs.Sights.{Sight, Keeps}
+use Rattle.run_laws.specs.Sights.{Keeps}
 use Rattle.run_laws.specs.Starts.{IsUntouched}
 use Rattle.run_laws.proofs.RefusalsTold.{begun_refused}
 use Rattle.run_laws.proofs.Hearing.{sight}

@@ -1,5 +1,5 @@
 -- What a coroutine keeps when it is polled, and when it hears of what others did.
-use Rattle.std.specs.Prelude.{◌≡◌, ◌≢◌, ℕ, ◌+◌, ◌<◌, ◌≤◌, Bool, true, false, ◌||◌, List, [], ◌∷◌, ◌++◌, length, Option, Some, None, option_map, refl}
+use Rattle.std.specs.Prelude.{◌≡◌, ◌≢◌, ℕ, ◌+◌, ◌≤◌, Bool, true, false, ◌||◌, [], ◌++◌, length, Option, Some, None, option_map, refl}
 use Rattle.std.proofs.Common.{sym, ap, ◌∙◌, subst, arith, length-append}
 use Rattle.std.proofs.lemmas.List.{append-nil, nil_from_length}
 use mathlib.Core.List.{IsPrefix}
@@ -7,9 +7,9 @@ use Rattle.channel_model.specs.Histories.{acts_of}
 use Rattle.channel_model.specs.Floors.{Floor as ChannelFloor}
 use Rattle.job_model.specs.declared.acts.End.{End}
 use Rattle.job_model.specs.declared.acts.JobState.{JobState}
-use Rattle.job_model.specs.declared.acts.JobState.TheVariants.{New, Active, Completing, Cancelling, Cancelled, Completed}
+use Rattle.job_model.specs.declared.acts.JobState.TheVariants.{New}
 use Rattle.job_model.specs.declared.floor.JobView.{JobView}
-use Rattle.job_model.specs.Trees.{Job, Tree, is_among}
+use Rattle.job_model.specs.Trees.{Job}
 use Rattle.job_model.specs.Histories.{acts_of as job_acts_of, Legal as LegalJobs}
 use Rattle.job_model.specs.Floors.{Floor, Looked, AtStep, is_claimed_by}
 use Rattle.job_model.specs.Answers.{view_of, LookAnswer}
@@ -18,16 +18,14 @@ use Rattle.call_meaning.specs.Telling.{items_in}
 use Rattle.call_meaning.specs.Facts.{end_by, end_at}
 use Rattle.script_grammar.specs.Programs.{Program}
 use Rattle.script_grammar.specs.WellFormed.{IsProgram}
-use Rattle.script_grammar.specs.Tags.{coroutine_count}
 use Rattle.script_meaning.specs.declared.turn.Turn.{Turn}
 use Rattle.script_meaning.specs.declared.turn.Turn.TheVariants as turn
-use Rattle.script_meaning.specs.Shapes.{job_shape}
 use Rattle.script_meaning.specs.Polls.{Frame, StandsOn, Polled, TurnAnswer}
 use Rattle.run_laws.proofs.LaterStands.{OthersWentOn, stands_later}
 use Rattle.run_laws.specs.Sights.{Sight, Keeps, KnowsTags, IsWithin, SameOf, SawMore, IsSeenSame}
 use Rattle.shared_floors.specs.Meetings.{MetOnChannels, MetOnJobs}
-use Rattle.run_laws.specs.LastRounds.{Rested, Did, KnowsAllOf, HasRested}
-use Rattle.run_laws.specs.Looks.{end_shown, end_seen, end_looked}
+use Rattle.run_laws.specs.LastRounds.{Rested, KnowsAllOf, HasRested}
+use Rattle.run_laws.specs.Looks.{end_shown, end_looked}
 use Rattle.run_laws.proofs.RefusalsTold.{refused_later, polled_refused}
 use Rattle.run_laws.proofs.Prefixes.{prefix_then}
 
@@ -41,13 +39,6 @@ pub keeps_later : (p : Program) (f : Frame) (c c' : ChannelFloor) (j j' : Floor)
 keeps_later p f c c' j j' others kept h = record {
   stands = stands_later p c c' j j' f others h.stands;
   refused = refused_later p j j' f kept h.refused;
-}
-
-pub saw_later : (f : Frame) (c c' : ChannelFloor) (j j' : Floor) → OthersWentOn f.tag c c' j j' → SawMore (sight f c j) (sight f c' j')
-saw_later f c c' j j' others = record {
-  frame = refl;
-  within = record { channels = others.more_channels; jobs = others.more_jobs };
-  same = record { calls = others.channel_acts; jobs = others.job_acts };
 }
 
 -- a meeting is such
@@ -67,16 +58,6 @@ pub keeps_met : (p : Program) (f : Frame) (a a' b b' : ChannelFloor) (i i' k k' 
     → Keeps p (sight f a i) → Keeps p (sight f a' i')
 keeps_met p f a a' b b' i i' k k' calls jobs h =
     keeps_later p f a a' i i' (met_others f.tag a a' b b' i i' k k' h.stands.of_channels h.stands.of_jobs calls jobs) jobs.kept h
-
-pub saw_met : (p : Program) (f : Frame) (a a' b b' : ChannelFloor) (i i' k k' : Floor) → MetOnChannels a a' b b' → MetOnJobs i i' k k'
-    → Keeps p (sight f a i) → SawMore (sight f a i) (sight f a' i')
-saw_met p f a a' b b' i i' k k' calls jobs h = saw_later f a a' i i'
-    (met_others f.tag a a' b b' i i' k k' h.stands.of_channels h.stands.of_jobs calls jobs)
-
--- the other is as it was
-pub keeps_same : (p : Program) (f : Frame) (b b' : ChannelFloor) (k k' : Floor) → b' ≡ b → k' ≡ k → Keeps p (sight f b k)
-    → Keeps p (sight f b' k')
-keeps_same p f b b' k k' e q h = subst (λ x. Keeps p (sight f x k')) (sym e) (subst (λ y. Keeps p (sight f b y)) (sym q) h)
 
 pub tags_same : (p : Program) (t : ℕ) (f f' g g' : ℕ → Bool) → f' ≡ f → g' ≡ g → KnowsTags p t f g → KnowsTags p t f' g'
 tags_same p t f f' g g' e q h = subst (λ x. KnowsTags p t x g') (sym e) (subst (λ y. KnowsTags p t f y) (sym q) h)
@@ -101,9 +82,6 @@ looked_others who c j j' h = record {
 pub keeps_looked : (p : Program) (f : Frame) (c : ChannelFloor) (j j' : Floor) → Looked f.tag [] j j' → Keeps p (sight f c j)
     → Keeps p (sight f c j')
 keeps_looked p f c j j' h k = keeps_later p f c c j j' (looked_others f.tag c j j' h) h.claims.kept k
-
-pub saw_looked : (f : Frame) (c : ChannelFloor) (j j' : Floor) → Looked f.tag [] j j' → SawMore (sight f c j) (sight f c j')
-saw_looked f c j j' h = saw_later f c c j j' (looked_others f.tag c j j' h)
 
 by_state : (s : JobState) (j : Job) → end_by s j ≡ end_shown s (view_of j)
 by_state New j = refl

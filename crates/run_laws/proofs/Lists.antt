@@ -11,8 +11,7 @@ use Rattle.script_grammar.specs.WellFormed.{IsProgram}
 use Rattle.script_grammar.specs.Tags.{coroutine_count}
 use Rattle.script_grammar.proofs.Layouts.{main_fits}
 use Rattle.script_grammar.proofs.JobsCounted.{whole_load-job_count}
-use Rattle.run_laws.specs.Sights.{Sight, CountUp}
-use Rattle.run_laws.specs.LastRounds.{tags_seen}
+use Rattle.run_laws.specs.Sights.{CountUp}
 
 -- ---- one more
 

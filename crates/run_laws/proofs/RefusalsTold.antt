@@ -1,15 +1,13 @@
 -- No book of a run has a refusal, whoever claimed rows meanwhile: each coroutine keeps what a refusal in its book says of the claims that
 -- it has seen, and at the end, where all that was claimed was attached, none of it can be.
-use Rattle.std.specs.Prelude.{◌≡◌, ℕ, zero, suc, ◌+◌, ◌<◌, ◌≤◌, ◌==◌, ◌⊎◌, cond, Bool, true, false, ◌||◌, List, [], ◌∷◌, ◌++◌, Option, Some, None, is_some, if◌then◌else◌, refl}
+use Rattle.std.specs.Prelude.{◌≡◌, ℕ, zero, suc, ◌+◌, ◌<◌, ◌≤◌, ◌⊎◌, Bool, true, false, List, [], ◌++◌, Some, is_some, refl}
 use Rattle.std.specs.List.{list_any}
-use Rattle.std.proofs.Common.{sym, ap, ◌∙◌, subst, inl, inr, ⊎_elim, arith}
-use Rattle.std.proofs.lemmas.Bool.{eqb-true, eq-eqb, or_from}
+use Rattle.std.proofs.Common.{sym, ap, ◌∙◌, subst, ⊎_elim, arith}
+use Rattle.std.proofs.lemmas.Bool.{eq-eqb, or_from}
 use Rattle.std.proofs.lemmas.List.{append-nil}
 use Rattle.std.proofs.lemmas.List.Folds.{list_any-append}
 use Rattle.channel_model.specs.Histories.{Legal as LegalCalls}
 use Rattle.channel_model.specs.Floors.{Floor as ChannelFloor}
-use Rattle.job_model.specs.Acts.{attaches}
-use Rattle.job_model.specs.Trees.{is_among, start}
 use Rattle.job_model.specs.Histories.{Legal}
 use Rattle.job_model.specs.Floors.{Floor, is_claimed_by}
 use Rattle.note_book.specs.declared.book.Item.{Item}
@@ -17,19 +15,19 @@ use Rattle.note_book.specs.Items.{job_acts_in}
 use Rattle.note_book.proofs.Appended.{job_acts_in-append}
 use Rattle.call_meaning.specs.Telling.{Told, items_in}
 use Rattle.call_meaning.specs.Stories.{Moment, IsTrue}
-use Rattle.call_meaning.specs.Calls.{seen_by, rows_in}
+use Rattle.call_meaning.specs.Calls.{seen_by}
 use Rattle.script_grammar.specs.Programs.{Program}
 use Rattle.script_grammar.specs.WellFormed.{IsProgram}
 use Rattle.script_grammar.specs.Tags.{coroutine_count, scope_count, LaunchesAt}
 use Rattle.script_grammar.proofs.LaunchedTags.{launched_once}
 use Rattle.script_meaning.specs.Shapes.{base_of, floor_shape, job_shape}
 use Rattle.script_meaning.specs.Books.{story, Runs, is_refusal}
-use Rattle.script_meaning.specs.Polls.{Frame, StandsOn, Begun, Polled, Turned, own_rows, is_no_row, is_used, is_parent_ended}
+use Rattle.script_meaning.specs.Polls.{Frame, StandsOn, Begun, Polled, Turned, is_no_row, is_used, is_parent_ended}
 use Rattle.script_meaning.proofs.BooksGoOn.{runs_then}
 use Rattle.script_meaning.proofs.JobStories.{true_so}
 use Rattle.script_meaning.proofs.JobDebts.{AllKnown, all_known, parents_in}
 use Rattle.script_meaning.proofs.CompletedJobs.{EndsSo, ends_so, completed_in}
-use Rattle.script_meaning.proofs.TagsGiven.{launches_row, launched_in, scopes_told, scopes_of_acts, scopes_of_acts-append, MoveGives}
+use Rattle.script_meaning.proofs.TagsGiven.{scopes_told, scopes_of_acts, scopes_of_acts-append, MoveGives}
 use Rattle.script_meaning.proofs.TagsReached.{BeginGives, ReachGives, runs_give, launched_in_run, begins_give, turn_gives}
 use Rattle.script_laws.specs.Counts.{one, count_from}
 use Rattle.script_laws.specs.Owners.{AreClaimed, AllNoted, scopes_claimed}

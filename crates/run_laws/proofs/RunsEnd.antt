@@ -1,13 +1,11 @@
 -- A run ends at rest where a last round came to nothing and all was brought together after it.
-use Rattle.std.specs.Prelude.{◌≡◌, ◌≢◌, ℕ, zero, suc, ◌+◌, ◌<◌, ◌≤◌, nat_lt, ◌==◌, ◌⊎◌, Bool, true, false, List, [], ◌∷◌, ◌++◌, length, map, Option, Some, None, slice_get, refl}
+use Rattle.std.specs.Prelude.{◌≡◌, ℕ, zero, suc, ◌+◌, ◌<◌, ◌≤◌, nat_lt, ◌==◌, ◌⊎◌, Bool, true, false, List, [], ◌∷◌, length, map, Option, Some, None, slice_get, refl}
 use Rattle.std.specs.List.{All, list_any}
-use Rattle.std.proofs.Common.{sym, ap, ◌∙◌, subst, inl, inr, ⊎_elim, append_assoc, arith, length-append}
+use Rattle.std.proofs.Common.{sym, ap, ◌∙◌, subst, inl, inr, arith}
 use Rattle.std.proofs.lemmas.Bool.{eqb-true, eq-eqb}
 use Rattle.std.proofs.lemmas.Bool.Decides.{nat_tests}
-use Rattle.std.proofs.lemmas.List.{length-map, append-nil, nil_from_length}
-use Rattle.std.proofs.lemmas.List.Elements.{All-head, All-tail}
+use Rattle.std.proofs.lemmas.List.{length-map}
 use mathlib.Core.List.{IsPrefix}
-use Rattle.channel_model.specs.declared.acts.Entry.{Entry}
 use Rattle.channel_model.specs.Histories.{replay, acts_of, Legal}
 use Rattle.channel_model.specs.Floors.{Floor as ChannelFloor}
 use Rattle.job_model.specs.declared.acts.End.{End}
@@ -32,7 +30,7 @@ use Rattle.script_laws.proofs.TreesAtRest.{at_rest}
 use Rattle.script_laws.proofs.NothingOwed.{nothing_is_owed}
 use Rattle.script_laws.specs.Owners.{AreClaimed, AllNoted}
 use Rattle.run_laws.specs.Parts.{AreParts}
-use Rattle.run_laws.specs.Sights.{Sight, Keeps, IsWithin, SameOf, CountUp}
+use Rattle.run_laws.specs.Sights.{Sight, CountUp}
 use Rattle.run_laws.specs.LastRounds.{KnowsAllOf, HasRested}
 use Rattle.run_laws.specs.Ends.{IsBroughtTo, NoOthers, books_in, IsRunAtRest}
 use Rattle.run_laws.proofs.Exact.{same_calls, same_jobs, calls_between, jobs_between}

@@ -1,6 +1,6 @@
 //! What follows from the books of a run before it is known whether it rests.
 
-ghost use Rattle.std.specs.Prelude.{◌≡◌, ◌<◌, ℕ, List, false};
+ghost use Rattle.std.specs.Prelude.{◌≡◌, ℕ, List, false};
 ghost use Rattle.std.specs.List.{list_any};
 ghost use Rattle.channel_model.specs.declared.acts.Entry.{Entry};
 ghost use Rattle.channel_model.specs.Floors.{Floor as ChannelFloor};

@@ -5,7 +5,7 @@ use Rattle.std.specs.List.{list_all}
 use Rattle.std.proofs.lemmas.List.{map-append, append-nil}
 use lib.Chars.{codes}
 use Rattle.script_grammar.specs.declared.instructions.Instruction.{Instruction}
-use Rattle.script_grammar.specs.declared.instructions.Instruction.TheVariants.{Send, TrySend, Receive, TryReceive, Close, CancelChannel, Yield, Launch, Start, Join, Await, Cancel, Fail, SetResult, Repeat, Each, Scope, Select, OnSend, OnReceive, End}
+use Rattle.script_grammar.specs.declared.instructions.Instruction.TheVariants.{Send, TrySend, Receive, TryReceive, Close, CancelChannel, Yield, Launch, Start, Join, Await, Cancel, Fail}
 use Rattle.script_grammar.specs.Words.{has_items}
 use Rattle.script_grammar.specs.Programs.{Declared, Block, channel_names, block_names, name_of, places_in}
 use Rattle.script_grammar.specs.Lines.{spawn_words, line_words, launch_word}

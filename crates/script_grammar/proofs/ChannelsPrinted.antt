@@ -3,7 +3,7 @@ use Rattle.std.proofs.Common.{◌≡◌, ℕ, ◌+◌, ◌≤◌, List, [], ◌�
 use Rattle.std.specs.List.{list_all}
 use Rattle.std.proofs.lemmas.List.{map-append, append-nil}
 use Rattle.channel_model.specs.declared.acts.Kind.{Kind}
-use Rattle.channel_model.specs.declared.acts.Kind.TheVariants.{Rendezvous, Buffered, Unlimited, Conflated, DropOldest, DropLatest, Signal}
+use Rattle.channel_model.specs.declared.acts.Kind.TheVariants.{Rendezvous}
 use Rattle.script_grammar.specs.Programs.{Declared, Block, channel_names, places_in}
 use Rattle.script_grammar.specs.Lines.{channel_words}
 use Rattle.script_grammar.specs.Reads.{Read, channel_is, after}

@@ -8,7 +8,7 @@ use Rattle.std.proofs.lemmas.List.{get_or_append_left, length-map}
 use Rattle.std.proofs.Math.Seq.{get_or-append_seam}
 use lib.Chars.{codes}
 use Rattle.script_grammar.specs.declared.instructions.Instruction.{Instruction}
-use Rattle.script_grammar.specs.declared.instructions.Instruction.TheVariants.{Send, TrySend, Receive, TryReceive, Close, CancelChannel, Yield, Launch, Start, Join, Await, Cancel, Fail, SetResult, Repeat, Each, Scope, Select, OnSend, OnReceive, End}
+use Rattle.script_grammar.specs.declared.instructions.Instruction.TheVariants.{Send, TrySend, Receive, TryReceive, Close, CancelChannel, Yield, Launch, Start}
 use Rattle.script_grammar.specs.Programs.{Block, Program, block_names}
 use Rattle.script_grammar.specs.Blocks.{Open, opened, with_line, is_main, product, own_weight, launch_of}
 use Rattle.script_grammar.specs.Reads.{closed_main, spawned_weight}

@@ -1,14 +1,13 @@
 -- What a coroutine has claimed it attached, whatever the floors: of the rows of coroutines those that it launched, and no more of those for
 -- scopes than its lines enter. And which refusals a book may have.
-use Rattle.std.proofs.lemmas.List.{append-nil}
-use Rattle.std.specs.Prelude.{◌≡◌, ℕ, zero, suc, ◌+◌, ◌<◌, ◌≤◌, ◌==◌, ◌⊎◌, Bool, true, false, ◌||◌, List, [], ◌∷◌, ◌++◌, Option, Some, None, is_some, if◌then◌else◌, refl}
+use Rattle.std.specs.Prelude.{◌≡◌, ℕ, zero, suc, ◌+◌, ◌<◌, ◌≤◌, ◌==◌, ◌⊎◌, Bool, true, false, ◌||◌, List, [], ◌∷◌, Option, Some, None, is_some, if◌then◌else◌, refl}
 use Rattle.std.specs.List.{list_any}
 use Rattle.std.proofs.Common.{sym, ap, ◌∙◌, subst, inl, inr, ⊎_elim, arith}
-use Rattle.std.proofs.lemmas.Bool.{eqb-true, eq-eqb, or_from}
+use Rattle.std.proofs.lemmas.Bool.{eqb-true, or_from}
 use Rattle.std.proofs.lemmas.List.Folds.{list_any-append}
 use Rattle.channel_model.specs.Floors.{Floor as ChannelFloor}
 use Rattle.job_model.specs.declared.acts.JobAct.{JobAct}
-use Rattle.job_model.specs.declared.acts.JobAct.TheVariants.{Attach, Start, EndBody, Cancel, Finish, Gone}
+use Rattle.job_model.specs.declared.acts.JobAct.TheVariants.{Attach, Start}
 use Rattle.job_model.specs.declared.acts.JobNote.TheVariants as known
 use Rattle.job_model.specs.Acts.{attaches}
 use Rattle.job_model.specs.Trees.{is_among, start}
@@ -17,28 +16,19 @@ use Rattle.job_model.specs.Floors.{Floor, is_claimed_by}
 use Rattle.note_book.specs.declared.book.Item.{Item}
 use Rattle.note_book.specs.declared.book.Item.TheVariants as item
 use Rattle.note_book.specs.Items.{job_acts_in}
-use Rattle.note_book.proofs.Appended.{job_acts_in-append}
-use Rattle.call_meaning.specs.Telling.{Told, items_in}
-use Rattle.call_meaning.specs.JobCalls.{NotAttached}
-use Rattle.call_meaning.specs.Stories.{Moment, IsTrue}
 use Rattle.call_meaning.specs.Calls.{seen_by, row_in, rows_in}
 use Rattle.script_grammar.specs.Programs.{Program}
 use Rattle.script_grammar.specs.WellFormed.{IsProgram}
-use Rattle.script_grammar.specs.Tags.{coroutine_count, spawned, scope_count, LaunchesAt}
-use Rattle.script_grammar.proofs.LaunchedTags.{launched_once}
-use Rattle.script_meaning.specs.Shapes.{base_of, job_shape}
-use Rattle.script_meaning.specs.Configs.{Config, fresh, past_launch}
-use Rattle.script_meaning.specs.Books.{Spawns, Begins, story, Runs, is_refusal, is_channel_refusal}
-use Rattle.script_meaning.specs.Polls.{Frame, StandsOn, Begun, Polled, Turned, own_rows, is_no_row, is_used, is_parent_ended}
-use Rattle.script_meaning.proofs.BooksGoOn.{runs_then}
-use Rattle.script_meaning.proofs.JobStories.{true_so}
-use Rattle.script_meaning.proofs.JobDebts.{AllKnown, all_known, parents_in}
-use Rattle.script_meaning.proofs.CompletedJobs.{EndsSo, ends_so, completed_in}
-use Rattle.script_meaning.proofs.TagsGiven.{launches_row, launched_in, scopes_told, scopes_of_acts, scopes_of_acts-append, MoveGives}
-use Rattle.script_meaning.proofs.TagsReached.{ReachGives, runs_give, launched_in_run, begins_give, turn_gives}
+use Rattle.script_grammar.specs.Tags.{coroutine_count, scope_count, LaunchesAt}
+use Rattle.script_meaning.specs.Shapes.{job_shape}
+use Rattle.script_meaning.specs.Books.{is_refusal, is_channel_refusal}
+use Rattle.script_meaning.specs.Polls.{Frame, StandsOn, own_rows, is_no_row, is_used, is_parent_ended}
+use Rattle.script_meaning.proofs.CompletedJobs.{completed_in}
+use Rattle.script_meaning.proofs.TagsGiven.{launches_row, launched_in, scopes_told, scopes_of_acts}
+use Rattle.script_meaning.proofs.TagsReached.{ReachGives, runs_give, launched_in_run}
 use Rattle.script_laws.specs.Counts.{one, count_from}
 use Rattle.script_laws.specs.Owners.{AreClaimed, scopes_claimed}
-use Rattle.script_laws.proofs.RowsEntered.{sum_less, counts_all, scopes_at, scopes_of_all_tags, enters_row, attach_is, rows_few, scope_rows, count_more}
+use Rattle.script_laws.proofs.RowsEntered.{scopes_at, enters_row, attach_is, rows_few, scope_rows, count_more}
 
 -- ---- rows that acts attach
 

@@ -6,7 +6,7 @@ use Rattle.std.proofs.lemmas.Bool.{or_from, or_parts}
 use Rattle.std.proofs.lemmas.Bool.Decides.{nat_tests}
 use Rattle.std.proofs.lemmas.List.Folds.{list_any-append}
 use Rattle.channel_model.specs.declared.acts.Act.{Act}
-use Rattle.channel_model.specs.declared.acts.Act.TheVariants.{Hand, Put, Offer, Await, Take, Admit, Drop, Spurn, Close, Void, Drain, WakeClosed, Withdraw, Settle}
+use Rattle.channel_model.specs.declared.acts.Act.TheVariants.{Hand, Put, Offer, Await, Take, Settle}
 use Rattle.channel_model.specs.declared.acts.Settled.TheVariants as settled
 use Rattle.channel_model.specs.declared.acts.ChannelNote.TheVariants as of_channel
 use Rattle.job_model.specs.declared.acts.JobAct.{JobAct}

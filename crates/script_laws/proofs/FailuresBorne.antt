@@ -10,7 +10,7 @@ use Rattle.job_model.specs.declared.acts.JobState.TheVariants.{New, Active, Comp
 use Rattle.job_model.specs.declared.acts.Reason.{Reason}
 use Rattle.job_model.specs.declared.acts.Reason.TheVariants as reasons
 use Rattle.job_model.specs.declared.acts.JobAct.{JobAct}
-use Rattle.job_model.specs.declared.acts.JobAct.TheVariants.{Attach, Start, EndBody, Cancel, Finish, Gone}
+use Rattle.job_model.specs.declared.acts.JobAct.TheVariants.{Attach, Cancel}
 use Rattle.job_model.specs.declared.acts.JobEntry.{JobEntry}
 use Rattle.job_model.specs.Effects.{after, first_cause}
 use Rattle.job_model.specs.Trees.{Job, Tree, root, start, parent_of, tag_of, is_ended, is_cancelled, is_cancellable, is_failure}

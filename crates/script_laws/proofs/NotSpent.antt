@@ -21,7 +21,7 @@ use Rattle.channel_model.specs.Histories.{replay, acts_of, Legal}
 use Rattle.channel_model.proofs.Histories.{acts_of-append, LegalFrom-parts}
 use Rattle.channel_model.specs.Channels.{start as start_channels}
 use Rattle.job_model.specs.declared.acts.JobAct.{JobAct}
-use Rattle.job_model.specs.declared.acts.JobAct.TheVariants.{Attach, Start, EndBody, Cancel, Finish, Gone}
+use Rattle.job_model.specs.declared.acts.JobAct.TheVariants.{Attach, Start}
 use Rattle.job_model.specs.declared.acts.JobEntry.{JobEntry}
 use Rattle.job_model.specs.Acts.{attaches}
 use Rattle.job_model.specs.Trees.{Shape as JobShape, Job, Tree, start}
@@ -46,12 +46,12 @@ use Rattle.script_grammar.specs.Tags.{job_count}
 use Rattle.script_grammar.proofs.Layouts.{all_append}
 use Rattle.script_meaning.specs.Shapes.{floor_shape, base_of, job_shape}
 use Rattle.script_meaning.specs.Configs.{Config}
-use Rattle.script_meaning.specs.Books.{Reaches, story, is_refusal, is_channel_refusal}
-use Rattle.script_meaning.specs.Polls.{Frame, StandsOn, Polled}
+use Rattle.script_meaning.specs.Books.{Reaches, story, is_channel_refusal}
+use Rattle.script_meaning.specs.Polls.{Frame, StandsOn}
 use Rattle.script_meaning.proofs.BooksGoOn.{items_in-append}
 use Rattle.script_meaning.proofs.CompletedJobs.{ends_so, completed_in}
 use Rattle.script_meaning.proofs.TagsReached.{launched_in_run}
-use Rattle.script_laws.specs.Owners.{AreClaimed, AllNoted}
+use Rattle.script_laws.specs.Owners.{AllNoted}
 use Rattle.script_laws.proofs.RowsEntered.{enters_row, scope_rows}
 use Rattle.script_laws.proofs.DoneAsked.{admits_none, item_asks}
 use Rattle.script_laws.proofs.DonePlacesAsked.{places_on, ends_closed, placed_in, closed_in, attached_in, attached_then, not_asked, MoveAsks, move_asks}

@@ -9,7 +9,7 @@ use Rattle.job_model.specs.declared.acts.JobKind.{JobKind}
 use Rattle.job_model.specs.declared.acts.End.{End}
 use Rattle.job_model.specs.declared.acts.End.TheVariants as ends
 use Rattle.job_model.specs.declared.acts.JobAct.{JobAct}
-use Rattle.job_model.specs.declared.acts.JobAct.TheVariants.{Attach, Start, EndBody, Cancel, Finish, Gone}
+use Rattle.job_model.specs.declared.acts.JobAct.TheVariants.{Attach, Start}
 use Rattle.job_model.specs.declared.acts.JobEntry.{JobEntry}
 use Rattle.job_model.specs.Trees.{Shape, Job, Tree, start, root, is_active, is_cancellable}
 use Rattle.job_model.specs.Acts.{attaches, starts}

@@ -1,6 +1,5 @@
 //! What stands at the places of a line outside blocks.
 
-ghost use Rattle.std.specs.Prelude.{◌≡◌, IfOk, ◌≤◌};
 ghost use Rattle.script_grammar.specs.Words.{texts};
 ghost use Rattle.script_grammar.specs.Places.{places_at, count_at, buffered_at, made, number_at, kind_at};
 ghost use Rattle.channel_model.specs.declared.acts.Kind.TheVariants.{Buffered, DropOldest, DropLatest};

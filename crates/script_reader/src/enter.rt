@@ -1,10 +1,10 @@
 //! What a line adds to the script so far.
 
-ghost use Rattle.std.specs.Prelude.{◌≡◌, ◌<◌, ◌++◌, ◌∷◌, [], ℕ, List, OnOk, IfOk, Some, true, if◌then◌else◌, length, map, option_map, string_bytes};
+ghost use Rattle.std.specs.Prelude.{◌≡◌, ◌<◌, ◌++◌, ◌∷◌, [], ℕ, List, OnOk, IfOk, Some, if◌then◌else◌, length, map, option_map, string_bytes};
 ghost use Rattle.script_grammar.specs.Blocks.{gives_awaitable, listed, opened, with_line};
 ghost use Rattle.script_grammar.specs.Programs.{channel_names};
 ghost use Rattle.script_grammar.specs.Reads.{after, start, end_is};
-ghost use Rattle.script_reader.specs.Programs.{declared_of, block_of};
+ghost use Rattle.script_reader.specs.Programs.{declared_of};
 ghost use Rattle.script_reader.specs.Reading.{view, said, open_of, name_in, HasFewJobs};
 ghost use Rattle.script_reader.specs.Entering.{IsNewName, IsNewJob, HasRoom, CanEnter, weight_with};
 ghost use Rattle.script_reader.specs.Holding.{IsNewBlock};

@@ -1,6 +1,6 @@
 //! The lines outside blocks, and the form of each line.
 
-ghost use Rattle.std.specs.Prelude.{◌≡◌, ◌≤◌};
+ghost use Rattle.std.specs.Prelude.{◌≡◌};
 ghost use Rattle.script_grammar.specs.Words.{texts};
 ghost use Rattle.script_grammar.specs.Forms.{version_line, is_start, channel_line, coroutine_line, spawn_line, outside, form_at};
 ghost use Rattle.script_reader.specs.Answers.{Gives};

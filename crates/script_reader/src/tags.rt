@@ -1,6 +1,6 @@
 //! The block of each tag.
 
-ghost use Rattle.std.specs.Prelude.{◌≡◌, ◌++◌, ◌<◌, ◌≤◌, OnOk, IfOk, IsSome, ℕ, Some, None, true, length, map, replicate, reverse, slice_index_or};
+ghost use Rattle.std.specs.Prelude.{◌≡◌, ◌++◌, ◌<◌, ◌≤◌, OnOk, IfOk, IsSome, Some, None, true, length, map, replicate, reverse, slice_index_or};
 ghost use Rattle.script_grammar.specs.Tags.{spawned_by, tags_for};
 ghost use Rattle.script_grammar.specs.Declarations.{launch_back, all_below};
 ghost use Rattle.script_reader.specs.Programs.{block_of, spawn_of};

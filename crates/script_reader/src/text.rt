@@ -2,12 +2,10 @@
 
 ghost use Rattle.std.specs.Prelude.{◌≡◌, ◌+◌, ◌≤◌, OnOk, IfOk, Ok, length};
 ghost use Rattle.script_grammar.specs.Words.{texts, lines_of};
-ghost use Rattle.script_grammar.specs.Programs.{Program};
 ghost use Rattle.script_grammar.specs.Reads.{start};
-ghost use Rattle.script_grammar.specs.WellFormed.{IsProgram};
 ghost use Rattle.script_grammar.specs.Forms.{step};
-ghost use Rattle.script_grammar.specs.Texts.{line_at, lines_from, finish, reading_of};
-ghost use Rattle.script_reader.specs.Answers.{Gives, Leaves, GivesAt};
+ghost use Rattle.script_grammar.specs.Texts.{line_at, lines_from};
+ghost use Rattle.script_reader.specs.Answers.{Leaves, GivesAt};
 ghost use Rattle.script_reader.specs.Reading.{view};
 ghost use Rattle.script_reader.specs.Holding.{Holds, cost};
 

@@ -1,6 +1,6 @@
 //! The lanes of so many workers.
 ghost use Rattle.std.specs.Prelude.{◌≡◌, ◌<◌, ◌≤◌, length, IfOk, OnOk};
-ghost use Rattle.steal_lanes.specs.Lanes.{IsNewLane, AllNewLanes, AddsWays, AreWays, AreLanes};
+ghost use Rattle.steal_lanes.specs.Lanes.{AllNewLanes, AddsWays, AreWays, AreLanes};
 
 use crate::lane::Lane;
 use crate::other_lane::OtherLane;

@@ -1,7 +1,7 @@
 //! Numbers of acts by kind.
 
 ghost use Rattle.std.specs.Prelude.{◌≡◌, ◌<◌, ◌+◌, ◌==◌, cond};
-ghost use Rattle.tally_book.specs.Numbers.{AreActsUpTo, AreJobsUpTo, AreWithin, jobs_with, with_act_in, with_end_in, with_job_act_in, with_note, with_outcome};
+ghost use Rattle.tally_book.specs.Numbers.{AreActsUpTo, AreJobsUpTo, AreWithin, with_act_in, with_end_in, with_job_act_in, with_note, with_outcome};
 
 use channel_model::{Act, ChannelNote, Settled};
 use job_model::{End, JobAct, JobNote};

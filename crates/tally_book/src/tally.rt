@@ -1,9 +1,6 @@
 //! A book that keeps numbers alone.
 
 ghost use Rattle.std.specs.Prelude.{◌≡◌, []};
-ghost use Rattle.note_book.specs.Items.{channel_acts_in, job_acts_in};
-ghost use Rattle.tally_laws.specs.Tallies.{tally_of};
-ghost use Rattle.tally_laws.specs.JobTallies.{job_tally_of};
 
 use crate::noted::Noted;
 use crate::numbers::{NO_NUMBERS, Numbers};

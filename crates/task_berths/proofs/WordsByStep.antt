@@ -1,14 +1,11 @@
 -- What a step does to the words of the berths, and lists of tags.
-use Rattle.std.proofs.Common.{◌≡◌, ◌≢◌, ℕ, zero, suc, ◌+◌, ◌/◌, ◌%◌, eqb, Bool, true, false, true≢false, if◌then◌else◌, List, [], ◌∷◌, ◌++◌, ◌⊎◌, inl, inr, ⊎_elim, sym, refl, ap, ◌∙◌, subst, arith, eq-eqb, ne_eqb, append_assoc, append-nil}
+use Rattle.std.proofs.Common.{◌≡◌, ◌≢◌, ℕ, zero, suc, ◌+◌, ◌/◌, ◌%◌, eqb, Bool, true, false, true≢false, if◌then◌else◌, List, [], ◌∷◌, ◌++◌, ◌⊎◌, inl, inr, ⊎_elim, sym, refl, ap, ◌∙◌, subst, arith, eq-eqb, ne_eqb, append-nil}
 use mathlib.Core.Logic.{dite}
 use native.Mathlib.Decide.{ℕ_discrete}
 use Rattle.task_berths.specs.declared.rule.BerthStep.{BerthStep}
 use Rattle.task_berths.specs.declared.rule.BerthStep.TheVariants.{Take, Ask, Leave}
 use Rattle.task_berths.specs.Words.{Begins, out_word, asked_word, word_by, word_after, word_of, takes_in}
 use Rattle.task_berths.specs.Views.{has_tag, without_tag}
-
-pub begins_more : (seen log es : List BerthStep) → Begins seen log → Begins seen (log ++ es)
-begins_more seen log es b = (b.0 ++ es, ap (λ l. l ++ es) b.1 ∙ append_assoc seen b.0 es)
 
 pub begins_all : (log : List BerthStep) → Begins log log
 begins_all log = ([], sym (append-nil log))
@@ -80,9 +77,6 @@ without_else u t (x ∷ xs) ne = go (without_else u t xs ne)
         ∙ sym (has_else u x xs (λ same. ne (same ∙ sym e))))
         (λ apart. ap (λ (b : Bool). has_tag u (if b then without_tag t xs else x ∷ without_tag t xs)) (ne_eqb t x apart)
         ∙ ap (λ (b : Bool). if eqb u x then true else b) ih)
-
-TakeIn : ℕ → List BerthStep → Type 0
-TakeIn t es = (a : List BerthStep) × (b : List BerthStep) × (k : ℕ) × (es ≡ a ++ Take t k ∷ b)
 
 take_later : (t : ℕ) (e : BerthStep) (es : List BerthStep) → (a : List BerthStep) × (b : List BerthStep) × (k : ℕ)
     × (es ≡ a ++ Take t k ∷ b) → (a : List BerthStep) × (b : List BerthStep) × (k : ℕ) × (e ∷ es ≡ a ++ Take t k ∷ b)

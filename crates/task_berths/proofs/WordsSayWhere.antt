@@ -1,11 +1,11 @@
 -- A word says who took the task last, and whether it was asked since.
-use Rattle.std.proofs.Common.{◌≡◌, ◌≢◌, ℕ, zero, suc, ◌+◌, ◌*◌, ◌/◌, ◌%◌, Bool, true, false, if◌then◌else◌, List, [], ◌∷◌, ◌++◌, ◌⊎◌, inl, inr, ⊎_elim, sym, refl, ap, ◌∙◌, arith, eq-eqb, ne_eqb}
+use Rattle.std.proofs.Common.{◌≡◌, ◌≢◌, ℕ, zero, suc, ◌+◌, ◌%◌, Bool, true, false, if◌then◌else◌, List, [], ◌∷◌, ◌++◌, ◌⊎◌, inl, inr, ⊎_elim, sym, refl, ap, ◌∙◌, arith, eq-eqb, ne_eqb}
 use mathlib.Core.Logic.{dite}
 use native.Mathlib.Decide.{ℕ_discrete}
 use Rattle.task_berths.specs.declared.rule.BerthStep.{BerthStep}
 use Rattle.task_berths.specs.declared.rule.BerthStep.TheVariants.{Take, Ask, Leave}
 use Rattle.task_berths.specs.Words.{out_word, asked_word, word_by, word_after, word_of}
-use Rattle.task_berths.specs.LastMoves.{is_moved, is_asked, CameHome, IsWith, SaysWhere}
+use Rattle.task_berths.specs.LastMoves.{is_moved, is_asked, IsWith, SaysWhere}
 use Rattle.task_berths.proofs.WordsByStep.{taken_here, taken_else, asked_here, asked_else, left_here, left_else}
 
 -- the word out of these steps, where none moves the task

@@ -2,7 +2,7 @@
 use Rattle.std.specs.Prelude.{◌≡◌, ◌⊎◌, ℕ, suc, ◌==◌, Bool, true, false, List, [], ◌∷◌, ◌++◌, if◌then◌else◌}
 use Rattle.task_berths.specs.declared.rule.BerthStep.{BerthStep}
 use Rattle.task_berths.specs.declared.rule.BerthStep.TheVariants.{Take, Ask, Leave}
-use Rattle.task_berths.specs.Words.{out_word, word_of}
+use Rattle.task_berths.specs.Words.{out_word}
 
 -- the task t was taken or came home in one of these steps
 abbrev pub is_moved : ℕ → List BerthStep → Bool

@@ -1,5 +1,5 @@
 //! Tasks go into slots, and come out of them.
-ghost use Rattle.std.specs.Prelude.{◌≡◌, ℕ, suc, ◌+◌, ◌<◌, ◌≤◌, [], IfOk, OnOk, Some, length, vec_capacity, slice_index};
+ghost use Rattle.std.specs.Prelude.{◌≡◌, ℕ, ◌+◌, ◌<◌, ◌≤◌, [], IfOk, OnOk, Some, length, vec_capacity, slice_index};
 ghost use Rattle.std.specs.Mem.Slots.{slots_items, slots_len, IsFull};
 ghost use Rattle.task_berths.specs.Answers.{HaveTags, AllAtHome};
 

@@ -1,5 +1,5 @@
 //! Four coroutines, at work on one, two or four threads at once.
-ghost use Rattle.std.specs.Prelude.{◌≡◌, [], ◌∷◌};
+ghost use Rattle.std.specs.Prelude.{[], ◌∷◌};
 ghost use Rattle.cell_words.specs.Hubs.{IsOf, IsOwn, GivesTags};
 ghost use Rattle.word_bench.specs.Channels.{CarryElements};
 

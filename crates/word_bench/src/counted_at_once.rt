@@ -1,6 +1,6 @@
 //! Four passes of counted cells, at work on one, two or four threads at once.
-ghost use Rattle.std.specs.Prelude.{◌≡◌, ◌≤◌, ◌<◌, ◌+◌, IfOk};
-ghost use Rattle.counted_cells.specs.Passes.{IsOf, IsFirst};
+ghost use Rattle.std.specs.Prelude.{◌≤◌, ◌<◌, ◌+◌, IfOk};
+ghost use Rattle.counted_cells.specs.Passes.{IsOf};
 
 use co_base::Memory;
 use counted_cells::{Counted, CountedGot, CountedPass, CountedSend};

@@ -1,5 +1,5 @@
 //! Four threads on the same counted cells.
-ghost use Rattle.std.specs.Prelude.{◌≡◌, ◌<◌, ◌≤◌, OnOk, IfOk};
+ghost use Rattle.std.specs.Prelude.{◌<◌, OnOk, IfOk};
 ghost use Rattle.counted_cells.specs.Passes.{IsOf};
 ghost use Rattle.word_tests.specs.CellsDrawn.{AllCame, Waited};
 

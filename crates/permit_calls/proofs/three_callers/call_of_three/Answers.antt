@@ -1,4 +1,4 @@
-use Rattle.std.proofs.Common.{◌≡◌, ℕ, arith}
+use Rattle.std.proofs.Common.{arith}
 use Rattle.permit_calls.proofs.KnownAfterCalls.{others_know}
 use Rattle.permit_calls.proofs.three_callers.call_of_three.Goals as goal
 

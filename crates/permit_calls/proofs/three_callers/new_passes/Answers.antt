@@ -1,4 +1,3 @@
-use Rattle.std.specs.Prelude.{[]}
 use Rattle.std.proofs.Common.{ap, ◌∙◌, arith}
 use Rattle.worded.specs.Views.{has_tag}
 use Rattle.channel_model.specs.Histories.{acts_of}
