@@ -25,7 +25,7 @@ use Rattle.job_model.specs.Cancels.{AreCancelsBelow, IsAllCancelled}
 use Rattle.job_model.specs.Failures.{FailsUp}
 use Rattle.note_book.specs.declared.book.Item.{Item}
 use Rattle.note_book.specs.declared.book.Item.TheVariants as item
-use Rattle.call_meaning.specs.Telling.{ChannelFact, JobFact, Told, note, on_channels, on_jobs, WasFull, SpentForOffers, SpentForReceives, ReceiverAt, OfferAt, NextIs, NoneToAdmit, FitsUpTo, StandsWithRoom, NoReceiver, IsVoided, NothingQueued, TakenBack, MayRun, NotNew, IsCancelling, HasEnded, PassedBelow, FailedUp, ParentIs, OwesNoEnd}
+use Rattle.call_meaning.specs.Telling.{ChannelFact, JobFact, Told, note, on_channels, on_jobs, WasFull, SpentForOffers, SpentForReceives, ReceiverAt, OfferAt, NextIs, NoneToAdmit, FitsUpTo, StandsWithRoom, NoReceiver, IsVoided, NothingQueued, IsResolved, TakenBack, MayRun, NotNew, IsCancelling, HasEnded, PassedBelow, FailedUp, ParentIs, OwesNoEnd}
 
 -- ---- notes of channels
 
@@ -149,6 +149,7 @@ ChannelFactHolds shape (StandsWithRoom c q) s = owes_spurn_at (kind_at shape c) 
 ChannelFactHolds shape (NoReceiver c) s = (s.channels c).receivers ≡ []
 ChannelFactHolds shape (IsVoided c) s = (s.channels c).voided ≡ true
 ChannelFactHolds shape (NothingQueued c) s = (s.channels c).queue ≡ []
+ChannelFactHolds shape (IsResolved w) s = IsResolvedWait (s.waits w)
 -- the wait was withdrawn or voided
 ChannelFactHolds shape (TakenBack w) s = IsTakenBack (s.waits w)
 

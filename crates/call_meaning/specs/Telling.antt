@@ -27,7 +27,8 @@ pub data ChannelFact : Type 0 where
   NoReceiver : (c : ℕ) → ChannelFact
   IsVoided : (c : ℕ) → ChannelFact
   NothingQueued : (c : ℕ) → ChannelFact
-  -- how a wait was resolved
+  -- that a wait was resolved, and how
+  IsResolved : (w : WaitId) → ChannelFact
   TakenBack : (w : WaitId) → ChannelFact
 
 -- what may be said of the Jobs at a moment

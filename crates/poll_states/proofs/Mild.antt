@@ -15,7 +15,7 @@ use Rattle.job_model.specs.Floors.{Floor}
 use Rattle.note_book.specs.declared.book.Item.{Item}
 use Rattle.note_book.specs.declared.book.Item.TheVariants as item
 use Rattle.note_book.specs.Items.{channel_acts_in}
-use Rattle.call_meaning.specs.Telling.{Told, on_channels, on_jobs, JobFact, TakenBack, items_in, made, knew, saw}
+use Rattle.call_meaning.specs.Telling.{Told, on_channels, on_jobs, ChannelFact, JobFact, TakenBack, items_in, made, knew, saw}
 use Rattle.call_meaning.specs.ChannelCalls.{Call, Answer, Closes, CancelsChannel, PlainCall, TryCall, GivesUp, channel_of}
 use Rattle.call_meaning.specs.JobCalls.{Starts, Passes}
 use Rattle.call_meaning.specs.Endings.{ClosesAtOnce, IsClosedNext, finish_of}
@@ -54,7 +54,8 @@ cancels_channel_mild base c g lt = cancels_channel_all (is_mild base) (mild_allo
 pub gives_up_mild : (base : ℕ) (w : WaitId) (g : List Told) → GivesUp w g → AllMild base g
 gives_up_mild base = gives_up_all (is_mild base) (mild_allows base)
 
-pub resumed_mild : (base : ℕ) (w : WaitId) (outcome : Settled) (fact : JobFact) → AllMild base (on_jobs fact ∷ made (Settle w outcome) ∷ [])
+pub resumed_mild : (base : ℕ) (w : WaitId) (outcome : Settled) (seen : ChannelFact) (fact : JobFact)
+    → AllMild base (on_channels seen ∷ on_jobs fact ∷ made (Settle w outcome) ∷ [])
 resumed_mild base = resumed_all (is_mild base) (mild_allows base)
 
 pub taken_back_mild : (base : ℕ) (w : WaitId) (outcome : Settled) → AllMild base (on_channels (TakenBack w) ∷ made (Settle w outcome) ∷ [])

@@ -191,7 +191,7 @@ move_told p k parents _ _ _ ok q (Move.never_runs x s) =
     gentle_told (base_of p) _ (saw_all (is_gentle (base_of p)) (gentle_allows (base_of p)) _ [] (all_none (is_gentle (base_of p))))
 move_told p k parents _ _ _ ok q (Move.calls x y i g a at h f) = line_told p k x i g a h
 move_told p k parents _ _ _ ok q (Move.resumes x y w i outcome a s at m f) =
-    gentle_told (base_of p) _ (resumed_all (is_gentle (base_of p)) (gentle_allows (base_of p)) w outcome _)
+    gentle_told (base_of p) _ (resumed_all (is_gentle (base_of p)) (gentle_allows (base_of p)) w outcome _ _)
 move_told p k parents _ _ _ ok q (Move.cancelled x w s) =
     gentle_told (base_of p) _ (taken_back_all (is_gentle (base_of p)) (gentle_allows (base_of p)) w _)
 move_told p k parents _ _ _ ok q (Move.gives_up x w g s h) =

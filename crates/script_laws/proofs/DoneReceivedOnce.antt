@@ -16,7 +16,7 @@ use Rattle.job_model.specs.declared.acts.JobAct.TheVariants.{Attach}
 use Rattle.note_book.specs.declared.book.Item.{Item}
 use Rattle.note_book.specs.declared.book.Item.TheVariants as item
 use Rattle.note_book.specs.Items.{job_acts_in}
-use Rattle.call_meaning.specs.Telling.{Told, note, on_channels, on_jobs, MayRun, IsCancelling, SpentForReceives, made, did, items_in}
+use Rattle.call_meaning.specs.Telling.{Told, note, on_channels, on_jobs, IsResolved, MayRun, IsCancelling, SpentForReceives, made, did, items_in}
 use Rattle.call_meaning.specs.ChannelCalls.{receives, Answer, Done, Got, Waits, wait_at, AtOnce, Refused, PlainCall}
 use Rattle.call_meaning.specs.JobCalls.{child_kind, scope_kind}
 use Rattle.script_grammar.specs.declared.instructions.Instruction.{Instruction}
@@ -56,7 +56,7 @@ data MoveKind (p : Program) (k : ℕ) (done : ℕ → Bool) (x : Config) (group 
   plain : is_plain x.stage ≡ true → MoveKind p k done x group y
   resumes : (w : WaitId) (i : Instruction) (outcome : Settled) (a : Answer) → x.stage ≡ Waiting w → LineIs p k x i → Resumed outcome a
       → After p k x i a y
-      → group ≡ on_jobs (MayRun (innermost k x)) ∷ made (Settle w outcome) ∷ [] → MoveKind p k done x group y
+      → group ≡ on_channels (IsResolved w) ∷ on_jobs (MayRun (innermost k x)) ∷ made (Settle w outcome) ∷ [] → MoveKind p k done x group y
   stops : (w : WaitId) → x.stage ≡ Waiting w → y.stage ≡ Unwinding None → MoveKind p k done x group y
   leaves : (w : WaitId) (n v : ℕ) → x.stage ≡ Leaving w → y.stage ≡ SeesScope → y.entered ≡ x.entered
       → group ≡ made (Settle w (settled.Closed n v)) ∷ [] → MoveKind p k done x group y
@@ -137,7 +137,7 @@ join_ends p k x i _ _ y j (Resumed.sent n) f = absurd (done_no_join p k x i y j 
 join_ends p k x i _ _ y j (Resumed.closed n v) f = (n, v, refl)
 
 tells_closed : (c n v : ℕ) (w : WaitId) (row : ℕ) → w.channel ≡ c
-    → closed_in c (on_jobs (MayRun row) ∷ made (Settle w (settled.Closed n v)) ∷ []) ≡ true
+    → closed_in c (on_channels (IsResolved w) ∷ on_jobs (MayRun row) ∷ made (Settle w (settled.Closed n v)) ∷ []) ≡ true
 unfolding items_in
 tells_closed c n v w row e = or_left (w.channel == c) false (eq-eqb w.channel c e)
 
@@ -204,8 +204,8 @@ once_step p k done told x group y row (OnceAsked.waits w l e c at j h) (MoveKind
     let same = same_wait x w u e s in
     let line_is = same_line p k x l i at is in
     let ends = join_ends p k x i outcome a y (ap is_join (sym line_is) ∙ j) m f in
-    let told_is : group ≡ on_jobs (MayRun (innermost k x)) ∷ made (Settle u (settled.Closed ends.0 ends.1)) ∷ [] = g
-    ∙ ap (λ o. on_jobs (MayRun (innermost k x)) ∷ made (Settle u o) ∷ []) ends.2 in
+    let told_is : group ≡ on_channels (IsResolved u) ∷ on_jobs (MayRun (innermost k x)) ∷ made (Settle u (settled.Closed ends.0 ends.1)) ∷ []
+    = g ∙ ap (λ o. on_channels (IsResolved u) ∷ on_jobs (MayRun (innermost k x)) ∷ made (Settle u o) ∷ []) ends.2 in
     OnceAsked.closed (closed_more (base_of p + row) told group (ap (closed_in (base_of p + row)) told_is
     ∙ tells_closed (base_of p + row) ends.0 ends.1 u (innermost k x) (ap (λ (z : WaitId). z.channel) (sym same) ∙ c)))
 once_step p k done told x group y row (OnceAsked.waits w l e c at j h) (MoveKind.stops u s f) =

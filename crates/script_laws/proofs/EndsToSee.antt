@@ -15,7 +15,7 @@ use Rattle.job_model.specs.Done.{done_channel}
 use Rattle.note_book.specs.declared.book.Item.{Item}
 use Rattle.note_book.specs.Items.{channel_acts_in}
 use Rattle.note_book.proofs.Appended.{channel_acts_in-append}
-use Rattle.call_meaning.specs.Telling.{Told, on_jobs, MayRun, items_in, made, heard}
+use Rattle.call_meaning.specs.Telling.{Told, on_channels, on_jobs, IsResolved, MayRun, items_in, made, heard}
 use Rattle.call_meaning.specs.ChannelCalls.{Call, receives, Answer, Closed, Waits, LooksAgain, PlainCall, AtOnce, Refused, wait_at}
 use Rattle.call_meaning.specs.Stories.{Moment, Story, IsSo, IsTrue, with_told, beginning}
 use Rattle.call_meaning.proofs.ChannelsHeard.{items_in-append}
@@ -329,9 +329,10 @@ move_sees p k told _ _ all _ r h (Move.resumes x y w i outcome a s at m f) =
     resumed_sees p k all x i outcome a y at m
     (λ v job row e q n.
     let o = closed_outcome outcome a v m q in
-    let is : all ≡ told ++ (on_jobs (MayRun (innermost k x)) ∷ [] ++ made (Settle w (settled.Closed o.0 o.1.0)) ∷ []) = r
-    ∙ ap (λ z. told ++ (on_jobs (MayRun (innermost k x)) ∷ made (Settle w z) ∷ [])) o.1.1 in
-    ends_closed told (on_jobs (MayRun (innermost k x)) ∷ []) all w (done_channel (base_of p) row) o.0 o.1.0 is
+    let looks : List Told = on_channels (IsResolved w) ∷ on_jobs (MayRun (innermost k x)) ∷ [] in
+    let is : all ≡ told ++ (looks ++ made (Settle w (settled.Closed o.0 o.1.0)) ∷ []) = r
+    ∙ ap (λ z. told ++ (on_channels (IsResolved w) ∷ on_jobs (MayRun (innermost k x)) ∷ made (Settle w z) ∷ [])) o.1.1 in
+    ends_closed told looks all w (done_channel (base_of p) row) o.0 o.1.0 is
     (h.waits w s job row (at ∙ ap (λ l. Some l) e) n)) f
 move_sees p k told _ _ all y r h (Move.cancelled x w s) = asks_none p k all y (Unwinding None) refl refl
 move_sees p k told _ _ all y r h (Move.gives_up x w group s g) = asks_none p k all y (Unwinding None) refl refl

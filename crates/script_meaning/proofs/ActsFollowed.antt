@@ -425,7 +425,7 @@ pub move_followed : (p : Program) (k : ℕ) (x y : Config) (g : List Told) → M
 move_followed p k _ _ _ (Move.runs x s) = lone _ refl
 move_followed p k _ _ _ (Move.never_runs x s) = lone _ refl
 move_followed p k _ _ _ (Move.calls x y i g a s h f) = line_followed p k x i g a h
-move_followed p k _ _ _ (Move.resumes x y w i outcome a s l r f) = still _ _ refl (lone _ refl)
+move_followed p k _ _ _ (Move.resumes x y w i outcome a s l r f) = still _ _ refl (still _ _ refl (lone _ refl))
 move_followed p k _ _ _ (Move.cancelled x w s) = still _ _ refl (lone _ refl)
 move_followed p k _ _ _ (Move.gives_up x w g s h) = still _ g refl (gives_up_followed w g h)
 move_followed p k _ _ _ (Move.sees_job x y job row end s l n f) = lone _ refl

@@ -285,9 +285,9 @@ gives_up_all T al w _ (GivesUp.late admits h) = noted_all T _ _ (al.answers (hea
 gives_up_all T al w _ (GivesUp.late_undelivered v admits h) =
     noted_all T _ _ (al.answers (heard_as.Late w) refl) (settle_all T al w _ admits (admits_all T al _ admits h))
 
-pub resumed_all : (T : Item → Bool) → PassesCalls T → (w : WaitId) (outcome : Settled) (fact : JobFact)
-    → AllPass T (on_jobs fact ∷ made (Settle w outcome) ∷ [])
-resumed_all T al w outcome fact = job_fact T fact _ (settle_all T al w outcome [] (all_none T))
+pub resumed_all : (T : Item → Bool) → PassesCalls T → (w : WaitId) (outcome : Settled) (seen : ChannelFact) (fact : JobFact)
+    → AllPass T (on_channels seen ∷ on_jobs fact ∷ made (Settle w outcome) ∷ [])
+resumed_all T al w outcome seen fact = channel_fact T seen _ (job_fact T fact _ (settle_all T al w outcome [] (all_none T)))
 
 pub taken_back_all : (T : Item → Bool) → PassesCalls T → (w : WaitId) (outcome : Settled)
     → AllPass T (on_channels (TakenBack w) ∷ made (Settle w outcome) ∷ [])

@@ -288,7 +288,7 @@ pub move_pieces : (p : Program) (k : ℕ) (x y : Config) (g : List Told) → Mov
 move_pieces p k _ _ _ (Move.runs x s) = silent p k _ (one _ refl)
 move_pieces p k _ _ _ (Move.never_runs x s) = silent p k _ (one _ refl)
 move_pieces p k _ _ _ (Move.calls x y i g a s h f) = line_pieces p k x i g a h
-move_pieces p k _ _ _ (Move.resumes x y w i outcome a s l r f) = silent p k _ (cons _ _ refl (one _ refl))
+move_pieces p k _ _ _ (Move.resumes x y w i outcome a s l r f) = silent p k _ (cons _ _ refl (cons _ _ refl (one _ refl)))
 move_pieces p k _ _ _ (Move.cancelled x w s) = silent p k _ (cons _ _ refl (one _ refl))
 move_pieces p k _ _ _ (Move.gives_up x w g s h) = silent p k _ (cons _ g refl (quiet_gives_up w g h))
 move_pieces p k _ _ _ (Move.sees_job x y job row end s l n f) = silent p k _ (one _ refl)

@@ -317,6 +317,10 @@ two_quiet : (t u : Told) → job_told t ≡ None → job_told u ≡ None → Non
 unfolding IsQuiet
 two_quiet t u h k = quiet_none (t ∷ u ∷ []) (h, (k, tt))
 
+three_quiet : (t u v : Told) → job_told t ≡ None → job_told u ≡ None → job_told v ≡ None → NoneEnds (t ∷ u ∷ v ∷ [])
+unfolding IsQuiet
+three_quiet t u v h k l = quiet_none (t ∷ u ∷ v ∷ []) (h, (k, (l, tt)))
+
 first_quiet : (t : Told) (g : List Told) → job_told t ≡ None → IsQuiet g → NoneEnds (t ∷ g)
 unfolding IsQuiet
 first_quiet t g h k = quiet_none (t ∷ g) (h, k)
@@ -371,7 +375,7 @@ move_step p k parents _ _ _ q (Move.calls x y i g a at h f) =
     stays_in k x g y (line_none p k x i g a h) (ap is_leaving at.stage)
     (after_line p k x i a y (ap is_leaving at.stage) (ap is_over at.stage) f)
 move_step p k parents _ _ _ q (Move.resumes x y w i outcome a s l r f) =
-    stays_in k x _ y (two_quiet _ _ refl refl) (ap is_leaving s) (after_line p k x i a y (ap is_leaving s) (ap is_over s) f)
+    stays_in k x _ y (three_quiet _ _ _ refl refl refl) (ap is_leaving s) (after_line p k x i a y (ap is_leaving s) (ap is_over s) f)
 move_step p k parents _ _ _ q (Move.cancelled x w s) = BodyStep.stays (two_quiet _ _ refl refl) refl (sym (ap is_leaving s)) refl
 move_step p k parents _ _ _ q (Move.gives_up x w g s h) =
     BodyStep.stays (first_quiet _ g refl (quiet_gives_up w g h)) refl (sym (ap is_leaving s)) refl

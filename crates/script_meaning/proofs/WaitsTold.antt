@@ -430,8 +430,8 @@ move_told p k _ _ _ (Move.calls x y i g a s h f) =
 move_told p k _ _ _ (Move.resumes x y w i outcome a s l r f) =
     let b = resumed_by outcome a r in
     to _ _ _ _ (after_answer p k x i a y (λ e. absurd (resumed_not outcome a r e)) f
-    ∙ b.0) (from x (stage.Waiting w) _ None s (WaitsTold.other (Some w) None _ _ refl
-    (WaitsTold.ends w outcome None [] b.1 (WaitsTold.none None))))
+    ∙ b.0) (from x (stage.Waiting w) _ None s (WaitsTold.other (Some w) None _ _ refl (WaitsTold.other (Some w) None _ _ refl
+    (WaitsTold.ends w outcome None [] b.1 (WaitsTold.none None)))))
 move_told p k _ _ _ (Move.cancelled x w s) = from x (stage.Waiting w) _ None s (WaitsTold.taken_back w None [] (WaitsTold.none None))
 move_told p k _ _ _ (Move.gives_up x w g s h) = from x (stage.Waiting w) _ None s (given_up w (innermost k x) g h)
 move_told p k _ _ _ (Move.sees_job x y job row end s l n f) =

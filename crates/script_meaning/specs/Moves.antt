@@ -8,7 +8,7 @@ use Rattle.job_model.specs.declared.acts.End.{End}
 use Rattle.job_model.specs.declared.acts.Reason.TheVariants as reasons
 use Rattle.job_model.specs.declared.acts.JobAct.TheVariants.{Attach}
 use Rattle.job_model.specs.declared.acts.JobNote.TheVariants as known
-use Rattle.call_meaning.specs.Telling.{Told, on_channels, on_jobs, TakenBack, MayRun, made, did, knew, saw, saw_end}
+use Rattle.call_meaning.specs.Telling.{Told, on_channels, on_jobs, IsResolved, TakenBack, MayRun, made, did, knew, saw, saw_end}
 use Rattle.call_meaning.specs.ChannelCalls.{receives, Answer, PlainCall, Closes, CancelsChannel, GivesUp}
 use Rattle.job_model.specs.Done.{done_channel}
 use Rattle.call_meaning.specs.JobCalls.{child_kind, scope_kind, NotAttached, Starts, Passes, EndsBody, BreaksOff}
@@ -41,10 +41,10 @@ pub data Move (p : Program) (k : ℕ) : Config → List Told → Config → Type
       → Move p k x group y
   -- ---- a wait at one of these lines
 
-  -- it ends with an answer of the line, if the innermost Job may run
+  -- it ends with an answer of the line: it was resolved, and then the innermost Job may run
   resumes : (x y : Config) (w : WaitId) (i : Instruction) (outcome : Settled) (a : Answer) → x.stage ≡ Waiting w
       → LineIs p k x i → Resumed outcome a → After p k x i a y
-      → Move p k x (on_jobs (MayRun (innermost k x)) ∷ made (Settle w outcome) ∷ []) y
+      → Move p k x (on_channels (IsResolved w) ∷ on_jobs (MayRun (innermost k x)) ∷ made (Settle w outcome) ∷ []) y
   -- it was taken back
   cancelled : (x : Config) (w : WaitId) → x.stage ≡ Waiting w
       → Move p k x (on_channels (TakenBack w) ∷ made (Settle w settled.Cancelled) ∷ []) (at_stage (Unwinding None) x)
