@@ -22,13 +22,13 @@ use Rattle.note_book.specs.declared.book.Item.{Item}
 use Rattle.note_book.specs.declared.book.Item.TheVariants as item
 use Rattle.note_book.specs.Items.{channel_acts_in, job_acts_in}
 use Rattle.call_meaning.specs.Telling.{Told, on_jobs, on_channels, IsResolved, MayRun, TakenBack, items_in, made, saw}
-use Rattle.call_meaning.specs.ChannelCalls.{Answer}
+use Rattle.call_meaning.specs.ChannelCalls.{Answer, GivesUp}
 use Rattle.call_meaning.specs.Seen.{SeenOnChannels, SeenOnBoth, state_in}
 use Rattle.call_meaning.specs.Calls.{ToldOnChannels, ToldOnBoth, rows_in}
 use Rattle.call_meaning.proofs.JobTellings.{told_nothing, told_fact, told_knew, both_jobs, both_channels, both_then}
-use Rattle.channel_calls.specs.Calls.{IsUntouched, ToldSome, Tells, TakesBack, end_told}
+use Rattle.channel_calls.specs.Calls.{IsUntouched, ToldPart, Tells, TakesBack, TakesBackSomehow, end_told}
 use Rattle.channel_calls.proofs.AnswersGo.{takes_back_goes}
-use Rattle.channel_calls.proofs.Untold.{untouched_some, told_seen}
+use Rattle.channel_calls.proofs.Untold.{told_seen, part_none, part_of}
 use Rattle.script_grammar.specs.Blocks.{opens_lines}
 use Rattle.script_grammar.specs.Nesting.{closing_of}
 use Rattle.script_grammar.specs.Tags.{code_of}
@@ -142,20 +142,22 @@ gave_cancelled {w} {row} {a} {c'} {n} {k} {mid} {i'} outcome e t did = record {
       (told_on_channels_at k i' did.left t refl);
 }
 
-pub told_after : (a : SeenOnChannels) (c' : ChannelFloor) (n k : ℕ) (mid i' : List Item) → mid ≡ a.items → k ≡ a.who
-    → ToldSome (record a { items = mid }) (record { who = n; floor = c'; items = i' })
-    → ToldSome a (record { who = k; floor = c'; items = i' })
-told_after a c' n k mid i' e t h = record {
+-- there was no memory to give it up
+pub part_after : (P : List Told → Type 0) {a : SeenOnChannels} {c' : ChannelFloor} {n k : ℕ} {mid i' : List Item} → mid ≡ a.items
+    → k ≡ a.who → ToldPart P (record a { items = mid }) (record { who = n; floor = c'; items = i' })
+    → ToldPart P a (record { who = k; floor = c'; items = i' })
+part_after P {a} {c'} {n} {k} {mid} {i'} e t h = record {
   told = h.told;
-  goes = tt;
+  goes = h.goes;
   left = subst (λ (l : List Item). ToldOnChannels (record a { items = l }) (record { who = k; floor = c'; items = i' }) h.told) e
       (told_on_channels_at k i' h.left t refl);
 }
 
-pub untouched_after : (a : SeenOnChannels) (c' : ChannelFloor) (n k : ℕ) (mid i' : List Item) → mid ≡ a.items → k ≡ a.who
-    → IsUntouched (record a { items = mid }) (record { who = n; floor = c'; items = i' })
-    → ToldSome a (record { who = k; floor = c'; items = i' })
-untouched_after a c' n k mid i' e t h = told_after a c' n k mid i' e t (untouched_some h)
+pub given_none : (w : WaitId) {a b : SeenOnChannels} → IsUntouched a b → ToldPart (GivesUp w) a b
+given_none w h = part_none (GivesUp w) (made (Settle w settled.Cancelled) ∷ []) GivesUp.dispatched h
+
+pub given_part : (w : WaitId) {a b : SeenOnChannels} → ToldPart (TakesBackSomehow w) a b → ToldPart (GivesUp w) a b
+given_part w h = part_of (TakesBackSomehow w) (GivesUp w) (λ told goes. takes_back_goes w goes.0 told goes.1) h
 
 -- ---- the move
 
@@ -247,7 +249,7 @@ wait_ended p {c} {d} {c'} {a} {b} {f} {m} {g} {w} ok l lj h e look ready s tag c
         → Stepped p (at_poll c a f) (at_poll c' b g)
     by_end (WaitEnds.answered outcome answer r after) k =
         mild_step p c c' a b f g (on_channels (IsResolved w) ∷ on_jobs (MayRun row) ∷ made (Settle w outcome) ∷ [])
-            (after_wait p f.tag x end.line outcome) lj
+        (after_wait p f.tag x end.line outcome) lj
         (Move.resumes x _ w end.line outcome answer e at r after)
         (ended_noted c d c' a b f m g w row _ look ready s tag items
         (subst (ToldOnChannels (channels_at d m) (channels_at c' g)) (answer_told w outcome answer r) (noted outcome k)))
@@ -306,11 +308,12 @@ cut_end {a} {b} d n w mid look s items h t = record {
   jobs = added_looked a.who [] a.jobs b.jobs s;
 }
 
-pub cut_given : {a b : SeenOnBoth} (d : ChannelFloor) (n w : ℕ) (row : ℕ) (mid : List Item) → LookedAtChannels a.who a.channels d
+pub cut_given : {P : List Told → Type 0} {a b : SeenOnBoth} (d : ChannelFloor) (n w : ℕ) (row : ℕ) (mid : List Item)
+    → LookedAtChannels a.who a.channels d
     → Looked a.who [] a.jobs b.jobs → n ≡ a.who → mid ≡ a.items
-    → ToldSome (record { who = n; floor = d; items = mid ++ item.Job (known.Saw row) ∷ [] })
+    → Tells P (record { who = n; floor = d; items = mid ++ item.Job (known.Saw row) ∷ [] })
     (record { who = w; floor = b.channels; items = b.items }) → b.who ≡ a.who → CutShort a b
-cut_given {a} {b} d n w row mid look s e items h t = record {
+cut_given {P} {a} {b} d n w row mid look s e items h t = record {
   who = t;
   group = item.Job (known.Saw row) ∷ items_in h.told;
   rows = [];
