@@ -9,7 +9,7 @@ use Rattle.channel_model.specs.Floors.{Floor as ChannelFloor}
 use Rattle.job_model.specs.Histories.{Legal}
 use Rattle.job_model.specs.Floors.{Floor}
 use Rattle.call_meaning.specs.Telling.{Told, heard}
-use Rattle.call_meaning.specs.ChannelCalls.{sends, receives, Answer as AnswerMeant, Done, Got, Closed, TryRefused, blocked, spent, PlainCall, TryCall}
+use Rattle.call_meaning.specs.ChannelCalls.{Call, sends, receives, Answer as AnswerMeant, Done, Got, Closed, NoPlace, AtOnce, Refused, TryRefused, blocked, spent, wait_at, Closes, CancelsChannel, PlainCall, TryCall}
 use Rattle.call_meaning.specs.Seen.{SeenOnChannels}
 use Rattle.call_meaning.specs.Calls.{ToldOnChannels}
 use Rattle.channel_calls.specs.declared.caller.SendAnswer.{SendAnswer}
@@ -18,8 +18,9 @@ use Rattle.channel_calls.specs.declared.caller.TrySendAnswer.{TrySendAnswer}
 use Rattle.channel_calls.specs.declared.caller.TrySendAnswer.TheVariants as try_send
 use Rattle.channel_calls.specs.declared.caller.TryReceiveAnswer.{TryReceiveAnswer}
 use Rattle.channel_calls.specs.declared.caller.TryReceiveAnswer.TheVariants as try_receive
-use Rattle.channel_calls.specs.Calls.{IsLeftWaiting, SentAnswer, TrySentAnswer, TryReceivedAnswer, ClosedAnswer, CancelledChannelAnswer}
+use Rattle.channel_calls.specs.Calls.{IsLeftWaiting, SentAnswer, TrySentAnswer, TryReceivedAnswer, ClosedAnswer, CancelledChannelAnswer, ToldPart, GoesSomehow, GoesAtOnceSomehow}
 use Rattle.channel_calls.proofs.OwnOffers.{left_seen}
+use Rattle.channel_calls.proofs.Untold.{part_of}
 use Rattle.channel_calls.proofs.AnswersGo.{sent_goes, unsent_goes, closes_goes, cancels_goes}
 use Rattle.script_grammar.specs.declared.instructions.Operand.{Operand}
 use Rattle.script_grammar.specs.declared.instructions.Instruction.{Instruction}
@@ -39,7 +40,7 @@ use Rattle.script_meaning.specs.Polls.{HasStood}
 use Rattle.poll_states.specs.declared.answers.Answer.{Answer}
 use Rattle.poll_states.specs.declared.answers.Answer.TheVariants as came
 use Rattle.poll_states.specs.Frames.{Frame, config_of, items_of, channels_at, at_poll}
-use Rattle.poll_states.specs.Calls.{does_call, channel_in, element_of, answer_of_send, answer_of_try_send, answer_of_try_receive, meant, is_done, is_closed, IsSendEnd, LeftWaiting, Made, after_call}
+use Rattle.poll_states.specs.Calls.{does_call, channel_in, element_of, answer_of_send, answer_of_try_send, answer_of_try_receive, meant, is_done, is_closed, IsSendEnd, CallTellsSomehow, LeftWaiting, Made, after_call}
 use Rattle.poll_states.specs.Steps.{Stepped}
 use Rattle.script_meaning.specs.Laws.{wait_of}
 use Rattle.poll_states.proofs.Mild.{AllMild, plain_mild, try_mild, closes_mild, cancels_channel_mild}
@@ -181,6 +182,81 @@ cancelled_made n v old new first m = record {
   left = m.0.left;
   stood = tt;
 }
+
+-- ---- a call that found no memory
+
+-- a call is answered in one of these ways, at once or in the end
+abbrev AnsweredAtOnce : Call → AnswerMeant → Type 0
+AnsweredAtOnce (sends c v) a = (b : Answer) × IsSendEnd b × (meant b ≡ a)
+AnsweredAtOnce (receives c) a = (b : Answer) × (is_closed b ≡ false) × (meant b ≡ a)
+
+abbrev Answered : Call → AnswerMeant → Type 0
+Answered (sends c v) a = (b : Answer) × IsSendEnd b × (meant b ≡ a)
+Answered (receives c) a = (b : Answer) × (is_done b ≡ false) × (meant b ≡ a)
+
+tried : (call : Call) (told : List Told) (a : AnswerMeant) → AtOnce call told a → AnsweredAtOnce call a
+tried _ _ _ (AtOnce.hands c v q) = (came.Done, (refl, refl), refl)
+tried _ _ _ (AtOnce.puts c v q more h) = (came.Done, (refl, refl), refl)
+tried _ _ _ (AtOnce.takes c v q admits h) = (came.Got v, refl, refl)
+
+found : (call : Call) (told : List Told) (a : AnswerMeant) → AtOnce call told a → Answered call a
+found _ _ _ (AtOnce.hands c v q) = (came.Done, (refl, refl), refl)
+found _ _ _ (AtOnce.puts c v q more h) = (came.Done, (refl, refl), refl)
+found _ _ _ (AtOnce.takes c v q admits h) = (came.Got v, refl, refl)
+
+turned_away : (call : Call) (told : Told) (a : AnswerMeant) → Refused call told a → Answered call a
+turned_away _ _ _ (Refused.send c v u) = (came.Done, (refl, refl), refl)
+turned_away _ _ _ (Refused.receive c u) = (came.Closed u, refl, refl)
+
+without_place : (call : Call) → Answered call NoPlace
+without_place (sends c v) = (came.NoPlace, (refl, refl), refl)
+without_place (receives c) = (came.NoPlace, refl, refl)
+
+answered : (call : Call) (told : List Told) (a : AnswerMeant) → PlainCall call told a → Answered call a
+answered _ _ _ (PlainCall.at_once call group a h) = found call group a h
+answered _ _ _ (PlainCall.refused call told a h) = turned_away call told a h
+answered _ _ _ (PlainCall.no_place call all e) = without_place call
+answered _ _ _ (PlainCall.offers c v q admits h) = (came.Waits (wait_at c q), (refl, refl), refl)
+answered _ _ _ (PlainCall.offer_ends c v q admits settles all h ends e) = (came.Done, (refl, refl), refl)
+answered _ _ _ (PlainCall.awaits c q) = (came.Waits (wait_at c q), refl, refl)
+
+pub send_part : (o : Operand) (n v : ℕ) {a b : SeenOnChannels} → ToldPart (GoesSomehow (sends n v)) a b
+    → ToldPart (CallTellsSomehow v (line.Send n o)) a b
+send_part o n v h = part_of (GoesSomehow (sends n v)) (CallTellsSomehow v (line.Send n o)) (λ told g.
+    let e = answered (sends n v) told g.0 g.1 in
+    (e.0, (e.1, subst (PlainCall (sends n v) told) (sym e.2) g.1))) h
+
+pub try_send_part : (o : Operand) (n v : ℕ) {a b : SeenOnChannels} → ToldPart (GoesAtOnceSomehow (sends n v)) a b
+    → ToldPart (CallTellsSomehow v (line.TrySend n o)) a b
+try_send_part o n v h = part_of (GoesAtOnceSomehow (sends n v)) (CallTellsSomehow v (line.TrySend n o)) (λ told g.
+    let e = tried (sends n v) told g.0 g.1 in
+    (e.0, (e.1, subst (TryCall (sends n v) told) (sym e.2) (TryCall.at_once (sends n v) told g.0 g.1)))) h
+
+received_somehow : (n : ℕ) (told : List Told) → GoesSomehow (receives n) told
+    → (b : Answer) × ((is_done b ≡ false) × PlainCall (receives n) told (meant b))
+received_somehow n told g =
+    let e = answered (receives n) told g.0 g.1 in
+    (e.0, (e.1, subst (PlainCall (receives n) told) (sym e.2) g.1))
+
+pub receive_part : (n v : ℕ) {a b : SeenOnChannels} → ToldPart (GoesSomehow (receives n)) a b
+    → ToldPart (CallTellsSomehow v (line.Receive n)) a b
+receive_part n v h = part_of (GoesSomehow (receives n)) (CallTellsSomehow v (line.Receive n)) (λ told g. received_somehow n told g) h
+
+pub each_part : (n v : ℕ) {a b : SeenOnChannels} → ToldPart (GoesSomehow (receives n)) a b → ToldPart (CallTellsSomehow v (line.Each n)) a b
+each_part n v h = part_of (GoesSomehow (receives n)) (CallTellsSomehow v (line.Each n)) (λ told g. received_somehow n told g) h
+
+pub try_receive_part : (n v : ℕ) {a b : SeenOnChannels} → ToldPart (GoesAtOnceSomehow (receives n)) a b
+    → ToldPart (CallTellsSomehow v (line.TryReceive n)) a b
+try_receive_part n v h = part_of (GoesAtOnceSomehow (receives n)) (CallTellsSomehow v (line.TryReceive n)) (λ told g.
+    let e = tried (receives n) told g.0 g.1 in
+    (e.0, (e.1, subst (TryCall (receives n) told) (sym e.2) (TryCall.at_once (receives n) told g.0 g.1)))) h
+
+pub close_part : (n v : ℕ) {a b : SeenOnChannels} → ToldPart (Closes n 0) a b → ToldPart (CallTellsSomehow v (line.Close n)) a b
+close_part n v h = part_of (Closes n 0) (CallTellsSomehow v (line.Close n)) (λ told g. (came.Done, (refl, g))) h
+
+pub cancel_part : (n v : ℕ) {a b : SeenOnChannels} → ToldPart (CancelsChannel n) a b
+    → ToldPart (CallTellsSomehow v (line.CancelChannel n)) a b
+cancel_part n v h = part_of (CancelsChannel n) (CallTellsSomehow v (line.CancelChannel n)) (λ told g. (came.Done, (refl, g))) h
 
 -- ---- the move of a line that calls
 

@@ -10,7 +10,7 @@ use Rattle.channel_model.specs.declared.floor.WaitState.TheVariants as state
 use Rattle.channel_model.specs.Channels.{State, Wait}
 use Rattle.channel_model.specs.Histories.{replay, Legal as LegalChannels}
 use Rattle.channel_model.specs.Floors.{Floor as ChannelFloor, Added as AddedToChannels, Looked as LookedAtChannels, AtStep as AtChannelStep, MayCall}
-use Rattle.channel_model.specs.Answers.{LookAnswer, IsOwn, IsOwnWait, IsReady, IsReadyWait, IsUnsettledOf, state_of_wait, state_of_parts, outcome_at}
+use Rattle.channel_model.specs.Answers.{LookAnswer, IsOwn, IsOwnWait, IsReady, IsReadyWait, IsResolvedWait, IsUnsettledOf, state_of_wait, state_of_parts, outcome_at}
 use Rattle.channel_model.proofs.Histories.{Legal-prefix}
 use Rattle.channel_model.proofs.Others.{others_keep, between, ready_stays, unsettled_stays}
 use Rattle.channel_model.proofs.Spans as spans
@@ -21,14 +21,14 @@ use Rattle.job_model.proofs.Spans.{added_looked, looked_moment}
 use Rattle.note_book.specs.declared.book.Item.{Item}
 use Rattle.note_book.specs.declared.book.Item.TheVariants as item
 use Rattle.note_book.specs.Items.{channel_acts_in, job_acts_in}
-use Rattle.call_meaning.specs.Telling.{Told, on_jobs, on_channels, MayRun, TakenBack, items_in, made, saw}
-use Rattle.call_meaning.specs.ChannelCalls.{Answer}
+use Rattle.call_meaning.specs.Telling.{Told, on_jobs, on_channels, IsResolved, MayRun, TakenBack, items_in, made, saw}
+use Rattle.call_meaning.specs.ChannelCalls.{Answer, GivesUp}
 use Rattle.call_meaning.specs.Seen.{SeenOnChannels, SeenOnBoth, state_in}
 use Rattle.call_meaning.specs.Calls.{ToldOnChannels, ToldOnBoth, rows_in}
 use Rattle.call_meaning.proofs.JobTellings.{told_nothing, told_fact, told_knew, both_jobs, both_channels, both_then}
-use Rattle.channel_calls.specs.Calls.{IsUntouched, ToldSome, Tells, TakesBack, end_told}
+use Rattle.channel_calls.specs.Calls.{IsUntouched, ToldPart, Tells, TakesBack, TakesBackSomehow, end_told}
 use Rattle.channel_calls.proofs.AnswersGo.{takes_back_goes}
-use Rattle.channel_calls.proofs.Untold.{untouched_some}
+use Rattle.channel_calls.proofs.Untold.{told_seen, part_none, part_of}
 use Rattle.script_grammar.specs.Blocks.{opens_lines}
 use Rattle.script_grammar.specs.Nesting.{closing_of}
 use Rattle.script_grammar.specs.Tags.{code_of}
@@ -52,7 +52,7 @@ use Rattle.poll_states.specs.declared.jobs.OwnState.TheVariants as own
 use Rattle.poll_states.specs.Frames.{Frame, config_of, items_of, Stands, seen_at, channels_at, SeenAtPoll, at_poll, both_of}
 use Rattle.poll_states.specs.Steps.{OwnStateSeen, EndedWait, GaveUp, Stepped, CutShort}
 use Rattle.poll_states.proofs.Mild.{gives_up_mild, saw_mild, resumed_mild, taken_back_mild}
-use Rattle.poll_states.proofs.Stepping.{told_on_channels_at, mild_step, no_wait, self_jobs}
+use Rattle.poll_states.proofs.Stepping.{told_on_channels_at, mild_step, no_wait, self_jobs, self_channels}
 
 -- ---- the look at a wait
 
@@ -142,34 +142,48 @@ gave_cancelled {w} {row} {a} {c'} {n} {k} {mid} {i'} outcome e t did = record {
       (told_on_channels_at k i' did.left t refl);
 }
 
-pub told_after : (a : SeenOnChannels) (c' : ChannelFloor) (n k : ℕ) (mid i' : List Item) → mid ≡ a.items → k ≡ a.who
-    → ToldSome (record a { items = mid }) (record { who = n; floor = c'; items = i' })
-    → ToldSome a (record { who = k; floor = c'; items = i' })
-told_after a c' n k mid i' e t h = record {
+-- there was no memory to give it up
+pub part_after : (P : List Told → Type 0) {a : SeenOnChannels} {c' : ChannelFloor} {n k : ℕ} {mid i' : List Item} → mid ≡ a.items
+    → k ≡ a.who → ToldPart P (record a { items = mid }) (record { who = n; floor = c'; items = i' })
+    → ToldPart P a (record { who = k; floor = c'; items = i' })
+part_after P {a} {c'} {n} {k} {mid} {i'} e t h = record {
   told = h.told;
-  goes = tt;
+  goes = h.goes;
   left = subst (λ (l : List Item). ToldOnChannels (record a { items = l }) (record { who = k; floor = c'; items = i' }) h.told) e
       (told_on_channels_at k i' h.left t refl);
 }
 
-pub untouched_after : (a : SeenOnChannels) (c' : ChannelFloor) (n k : ℕ) (mid i' : List Item) → mid ≡ a.items → k ≡ a.who
-    → IsUntouched (record a { items = mid }) (record { who = n; floor = c'; items = i' })
-    → ToldSome a (record { who = k; floor = c'; items = i' })
-untouched_after a c' n k mid i' e t h = told_after a c' n k mid i' e t (untouched_some h)
+pub given_none : (w : WaitId) {a b : SeenOnChannels} → IsUntouched a b → ToldPart (GivesUp w) a b
+given_none w h = part_none (GivesUp w) (made (Settle w settled.Cancelled) ∷ []) GivesUp.dispatched h
+
+pub given_part : (w : WaitId) {a b : SeenOnChannels} → ToldPart (TakesBackSomehow w) a b → ToldPart (GivesUp w) a b
+given_part w h = part_of (TakesBackSomehow w) (GivesUp w) (λ told goes. takes_back_goes w goes.0 told goes.1) h
 
 -- ---- the move
 
--- what was told of it on both floors, after the looks
-ended_noted : (c d c' : ChannelFloor) (a b : Floor) (f m g : Frame) (row : ℕ) (told : List Told) → LookedAtChannels f.tag c d
-    → OwnStateSeen f.tag row a b own.MayRun → m.tag ≡ f.tag → items_of m ≡ items_of f
+ready_resolved : (who : ℕ) (x : Option Wait) → IsReadyWait who x → IsResolvedWait x
+ready_resolved who None h = h
+ready_resolved who (Some x) h = h.1
+
+-- what was told of it on both floors: the look at the wait, the look at the Job, and the rest
+ended_noted : (c d c' : ChannelFloor) (a b : Floor) (f m g : Frame) (w : WaitId) (row : ℕ) (told : List Told) → LookedAtChannels f.tag c d
+    → IsReady f.tag w d → OwnStateSeen f.tag row a b own.MayRun → m.tag ≡ f.tag → items_of m ≡ items_of f
     → ToldOnChannels (channels_at d m) (channels_at c' g) told
-    → ToldOnBoth [] (seen_at c a f) (seen_at c' b g) (on_jobs (MayRun row) ∷ told)
-ended_noted c d c' a b f m g row told look s t e h =
-    let first : ToldOnBoth [] (seen_at c a f) (seen_at d b m) (on_jobs (MayRun row) ∷ []) =
-    both_jobs (spans.added_looked f.tag c d look) (told_fact (MayRun row) t e (added_looked f.tag [] a b s.looked)
+    → ToldOnBoth [] (seen_at c a f) (seen_at c' b g) (on_channels (IsResolved w) ∷ on_jobs (MayRun row) ∷ told)
+ended_noted c d c' a b f m g w row told look ready s t e h =
+    let was : AtChannelStep c d (λ s. IsResolvedWait (s.waits w)) = record {
+      moment = d.seen;
+      after = look.longer;
+      before = spans.prefix_self d.seen;
+      holds = ready_resolved f.tag ((replay d.seen).waits w) ready;
+    } in
+    let first : ToldOnBoth [] (seen_at c a f) (seen_at d a f) (on_channels (IsResolved w) ∷ []) =
+    both_channels (self_jobs f.tag a) (told_seen (IsResolved w) look was refl refl) in
+    let second : ToldOnBoth [] (seen_at d a f) (seen_at d b m) (on_jobs (MayRun row) ∷ []) =
+    both_jobs (self_channels f.tag d) (told_fact (MayRun row) t e (added_looked f.tag [] a b s.looked)
     (looked_moment f.tag [] a b _ s.looked s.was)) in
-    let second : ToldOnBoth [] (seen_at d b m) (seen_at c' b g) told = both_channels (self_jobs m.tag b) h in
-    both_then first second
+    let third : ToldOnBoth [] (seen_at d b m) (seen_at c' b g) told = both_channels (self_jobs m.tag b) h in
+    both_then first (both_then second third)
 
 taken_noted : (c d c' : ChannelFloor) (a b : Floor) (f m g : Frame) (told : List Told) → LookedAtChannels f.tag c d → Looked f.tag [] a b
     → m.tag ≡ f.tag → items_of m ≡ items_of f → ToldOnChannels (channels_at d m) (channels_at c' g) told
@@ -196,11 +210,11 @@ ends_open p k x i _ o WaitEnds.taken_back = refl
 -- the wait ended as its line says, and the body did not end by it
 pub wait_ended : (p : Program) {c d c' : ChannelFloor} {a b : Floor} {f m g : Frame} {w : WaitId} → IsProgram p
     → LegalChannels d.shape d.seen → Legal b.shape b.seen → Stands p c a f → f.stage ≡ Waiting w → LookedAtChannels f.tag c d
-    → OwnStateSeen f.tag (innermost f.tag (config_of f)) a b own.MayRun
+    → IsReady f.tag w d → OwnStateSeen f.tag (innermost f.tag (config_of f)) a b own.MayRun
     → m.tag ≡ f.tag → config_of m ≡ config_of f → items_of m ≡ items_of f → EndedWait p w (channels_at d m) (channels_at c' g) m g
     → g.tag ≡ m.tag → Stepped p (at_poll c a f) (at_poll c' b g) × (is_over g.stage ≡ false)
 unfolding items_in rows_in
-wait_ended p {c} {d} {c'} {a} {b} {f} {m} {g} {w} ok l lj h e look s tag config items end t =
+wait_ended p {c} {d} {c'} {a} {b} {f} {m} {g} {w} ok l lj h e look ready s tag config items end t =
     (by_end ends refl, ap (λ (x : Config). is_over x.stage) goes ∙ ends_open p f.tag x end.line end.outcome (ap is_over e) ends)
   where
     x : Config
@@ -234,11 +248,12 @@ wait_ended p {c} {d} {c'} {a} {b} {f} {m} {g} {w} ok l lj h e look s tag config 
     by_end : {outcome : Settled} → WaitEnds p f.tag x end.line outcome → end.outcome ≡ outcome
         → Stepped p (at_poll c a f) (at_poll c' b g)
     by_end (WaitEnds.answered outcome answer r after) k =
-        mild_step p c c' a b f g (on_jobs (MayRun row) ∷ made (Settle w outcome) ∷ []) (after_wait p f.tag x end.line outcome) lj
+        mild_step p c c' a b f g (on_channels (IsResolved w) ∷ on_jobs (MayRun row) ∷ made (Settle w outcome) ∷ [])
+        (after_wait p f.tag x end.line outcome) lj
         (Move.resumes x _ w end.line outcome answer e at r after)
-        (ended_noted c d c' a b f m g row _ look s tag items
+        (ended_noted c d c' a b f m g w row _ look ready s tag items
         (subst (ToldOnChannels (channels_at d m) (channels_at c' g)) (answer_told w outcome answer r) (noted outcome k)))
-        (resumed_mild (base_of p) w outcome (MayRun row)) (t ∙ tag) (goes ∙ ap (after_wait p f.tag x end.line) k) none
+        (resumed_mild (base_of p) w outcome (IsResolved w) (MayRun row)) (t ∙ tag) (goes ∙ ap (after_wait p f.tag x end.line) k) none
     by_end WaitEnds.taken_back k =
         mild_step p c c' a b f g (on_channels (TakenBack w) ∷ made (Settle w settled.Cancelled) ∷ []) (at_stage (Unwinding None) x) lj
         (Move.cancelled x w e)
@@ -293,11 +308,12 @@ cut_end {a} {b} d n w mid look s items h t = record {
   jobs = added_looked a.who [] a.jobs b.jobs s;
 }
 
-pub cut_given : {a b : SeenOnBoth} (d : ChannelFloor) (n w : ℕ) (row : ℕ) (mid : List Item) → LookedAtChannels a.who a.channels d
+pub cut_given : {P : List Told → Type 0} {a b : SeenOnBoth} (d : ChannelFloor) (n w : ℕ) (row : ℕ) (mid : List Item)
+    → LookedAtChannels a.who a.channels d
     → Looked a.who [] a.jobs b.jobs → n ≡ a.who → mid ≡ a.items
-    → ToldSome (record { who = n; floor = d; items = mid ++ item.Job (known.Saw row) ∷ [] })
+    → Tells P (record { who = n; floor = d; items = mid ++ item.Job (known.Saw row) ∷ [] })
     (record { who = w; floor = b.channels; items = b.items }) → b.who ≡ a.who → CutShort a b
-cut_given {a} {b} d n w row mid look s e items h t = record {
+cut_given {P} {a} {b} d n w row mid look s e items h t = record {
   who = t;
   group = item.Job (known.Saw row) ∷ items_in h.told;
   rows = [];

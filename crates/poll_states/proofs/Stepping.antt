@@ -13,7 +13,7 @@ use Rattle.call_meaning.specs.Telling.{Told, items_in, did}
 use Rattle.call_meaning.specs.Seen.{SeenOnChannels, SeenOnJobs, SeenOnBoth, jobs_of, channels_of}
 use Rattle.call_meaning.specs.Calls.{ToldOnChannels, ToldOnJobs, ToldOnBoth, seen_by, rows_in}
 use Rattle.call_meaning.proofs.JobTellings.{nobody_called, both_jobs, both_channels}
-use Rattle.channel_calls.specs.Calls.{ToldSome}
+use Rattle.channel_calls.specs.Calls.{Tells}
 use Rattle.scope_builders.specs.Dones.{KeepsDones}
 use Rattle.scope_builders.specs.Calls.{TellsBoth}
 use Rattle.script_grammar.specs.Programs.{Program}
@@ -172,9 +172,9 @@ cut_some base w P t h = record {
   jobs = h.noted.jobs;
 }
 
-pub cut_told : (w : ℕ) {a b : SeenOnBoth} → b.jobs ≡ a.jobs → b.who ≡ a.who
-    → ToldSome (channels_of a) (record { who = w; floor = b.channels; items = b.items }) → CutShort a b
-cut_told w {a} {b} h t did = record {
+pub cut_told : (w : ℕ) {P : List Told → Type 0} {a b : SeenOnBoth} → b.jobs ≡ a.jobs → b.who ≡ a.who
+    → Tells P (channels_of a) (record { who = w; floor = b.channels; items = b.items }) → CutShort a b
+cut_told w {P} {a} {b} h t did = record {
   who = t;
   group = items_in did.told;
   rows = [];

@@ -15,7 +15,7 @@ use Rattle.channel_calls.specs.declared.caller.ReceiveAnswer.{ReceiveAnswer}
 use Rattle.channel_calls.specs.declared.caller.ReceiveAnswer.TheVariants as receive
 use Rattle.channel_calls.specs.declared.caller.TryReceiveAnswer.{TryReceiveAnswer}
 use Rattle.channel_calls.specs.declared.caller.TryReceiveAnswer.TheVariants as try_receive
-use Rattle.channel_calls.specs.Calls.{ToldSome}
+use Rattle.channel_calls.specs.Calls.{ToldPart}
 use Rattle.script_grammar.specs.declared.instructions.Instruction.{Instruction}
 use Rattle.script_grammar.specs.declared.instructions.Instruction.TheVariants as line
 use Rattle.script_grammar.specs.Blocks.{channel_of, is_clause}
@@ -106,6 +106,10 @@ CallTells v (line.Close c) a told = (a ≡ came.Done) × Closes c 0 told
 CallTells v (line.CancelChannel c) a told = (a ≡ came.Done) × CancelsChannel c told
 CallTells v other a told = ⊥
 
+-- or what it may come to
+abbrev pub CallTellsSomehow : ℕ → Instruction → List Told → Type 0
+CallTellsSomehow v i told = (a : Answer) × CallTells v i a told
+
 -- a wait that it left stood at a moment
 abbrev pub LeftWaiting : Answer → Floor → Floor → Type 0
 LeftWaiting (came.Waits w) c c' = HasStood c c' w
@@ -120,7 +124,7 @@ pub record Made (v : ℕ) (i : Instruction) (old new : SeenOnChannels) (a : Answ
 
 abbrev pub MadeAnswer : ℕ → Instruction → SeenOnChannels → SeenOnChannels → Result Answer Memory → Type 0
 MadeAnswer v i old new (Ok a) = Made v i old new a
-MadeAnswer v i old new (Err m) = ToldSome old new
+MadeAnswer v i old new (Err m) = ToldPart (CallTellsSomehow v i) old new
 
 -- ---- where its coroutine goes on
 

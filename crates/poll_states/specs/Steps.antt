@@ -21,7 +21,7 @@ use Rattle.call_meaning.specs.ChannelCalls.{GivesUp}
 use Rattle.call_meaning.specs.JobCalls.{child_kind, NotAttached}
 use Rattle.call_meaning.specs.Seen.{SeenOnChannels, SeenOnJobs, SeenOnBoth, state_in}
 use Rattle.call_meaning.specs.Calls.{ToldOnChannels, ToldOnJobs, ToldOnBoth, rows_in}
-use Rattle.channel_calls.specs.Calls.{IsUntouched, ToldSome, end_told}
+use Rattle.channel_calls.specs.Calls.{IsUntouched, ToldPart, end_told}
 use Rattle.scope_builders.specs.Dones.{KeepsDones}
 use Rattle.script_grammar.specs.declared.instructions.Instruction.{Instruction}
 use Rattle.script_grammar.specs.declared.instructions.Instruction.TheVariants.{Select}
@@ -131,7 +131,7 @@ pub record GaveUp (w : WaitId) (row : ℕ) (old new : SeenOnChannels) : Type 0 w
 
 abbrev pub GaveUpAnswer : WaitId → ℕ → SeenOnChannels → SeenOnChannels → Result (Unit {0}) Memory → Type 0
 GaveUpAnswer w row old new (Ok done) = GaveUp w row old new
-GaveUpAnswer w row old new (Err m) = ToldSome (with_saw row old) new
+GaveUpAnswer w row old new (Err m) = ToldPart (GivesUp w) (with_saw row old) new
 
 -- ---- the line
 

@@ -48,7 +48,7 @@ fn make<B: NoteBook, F: ChannelFloor, W: Wakes>(
     match line {
         Instruction::Send { c, .. } => match caller.send(c, value) {
             Ok(answer) => Ok(Answer::of_send(answer)),
-            Err(memory) => Err(memory),
+            Err(none_left) => Err(none_left),
         },
         Instruction::TrySend { c, .. } => match caller.try_send(c, value) {
             Ok(answer) => Ok(Answer::of_try_send(answer)),

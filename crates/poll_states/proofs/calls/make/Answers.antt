@@ -1,4 +1,4 @@
-use Rattle.poll_states.proofs.ChannelLines.{sent_made, tried_to_send_made, tried_to_receive_made, closed_made, cancelled_made}
+use Rattle.poll_states.proofs.ChannelLines.{sent_made, tried_to_send_made, tried_to_receive_made, closed_made, cancelled_made, send_part, try_send_part, receive_part, each_part, try_receive_part, close_part, cancel_part}
 use Rattle.poll_states.proofs.calls.make.Goals as goal
 
 pub returns-in-Ok-clause-answer : goal.returns-in-Ok-clause-answer
@@ -19,3 +19,25 @@ returns-in-Ok-close-clause-answer g c = rw c.in-Close.is (closed_made _ _ _ _ c.
 pub returns-in-Ok-cancel_channel-clause-answer : goal.returns-in-Ok-cancel_channel-clause-answer
 returns-in-Ok-cancel_channel-clause-answer g c = rw c.in-CancelChannel.is
     (cancelled_made _ _ _ _ c.in-Ok-cancel_channel.field-0 c.in-Ok-cancel_channel.ensures.answer)
+
+pub returns-in-Err-clause-answer : goal.returns-in-Err-clause-answer
+returns-in-Err-clause-answer g c = rw c.in-Send.is (send_part c.in-Send.value _ _ c.in-Err.ensures.answer)
+
+pub returns-in-Err-try_send-clause-answer : goal.returns-in-Err-try_send-clause-answer
+returns-in-Err-try_send-clause-answer g c = rw c.in-TrySend.is
+    (try_send_part c.in-TrySend.value _ _ c.in-Err-try_send.ensures.answer)
+
+pub returns-in-Err-receive-clause-answer : goal.returns-in-Err-receive-clause-answer
+returns-in-Err-receive-clause-answer g c = rw c.in-Receive.is (receive_part _ c.args.value c.in-Err-receive.ensures.answer)
+
+pub returns-in-Err-receive-2-clause-answer : goal.returns-in-Err-receive-2-clause-answer
+returns-in-Err-receive-2-clause-answer g c = rw c.in-Each.is (each_part _ c.args.value c.in-Err-receive-2.ensures.answer)
+
+pub returns-in-Err-try_receive-clause-answer : goal.returns-in-Err-try_receive-clause-answer
+returns-in-Err-try_receive-clause-answer g c = rw c.in-TryReceive.is (try_receive_part _ c.args.value c.in-Err-try_receive.ensures.answer)
+
+pub returns-in-Err-close-clause-answer : goal.returns-in-Err-close-clause-answer
+returns-in-Err-close-clause-answer g c = rw c.in-Close.is (close_part _ c.args.value c.in-Err-close.ensures.answer)
+
+pub returns-in-Err-cancel_channel-clause-answer : goal.returns-in-Err-cancel_channel-clause-answer
+returns-in-Err-cancel_channel-clause-answer g c = rw c.in-CancelChannel.is (cancel_part _ c.args.value c.in-Err-cancel_channel.ensures.answer)

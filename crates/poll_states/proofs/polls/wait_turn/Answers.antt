@@ -80,7 +80,7 @@ go_on-requires g c = step_stands c.requires.stands
     (noted g.B.NoteBook.items c.end_wait.new.frame))) (sym c.end_wait.ensures.jobs)
     (wait_ended (program_of c.args.script.now) c.args.script.now.well_formed
     (g.met.C.ChannelFloor.legal c.was_resolved-resolved.new.channels) (g.met.J.JobFloor.legal c.own_state.new.jobs) c.requires.stands
-    c.requires.waits c.was_resolved-resolved.ensures.seen.looked
+    c.requires.waits c.was_resolved-resolved.ensures.seen.looked (rw c.if-resolved.true at c.was_resolved-resolved.ensures.seen.so)
     (rw c.innermost-row.ensures at (rw c.in-MayRun.is at c.own_state.ensures.seen)) refl refl c.room.ensures.items
     c.in-Ok-end_wait.ensures.answer c.end_wait.ensures.tag).0)
 
@@ -93,7 +93,7 @@ returns-in-Ok-end_wait-clause-polled g c = poll_on c.args.script.now _ c.go_on.r
     (noted g.B.NoteBook.items c.end_wait.new.frame))) (sym c.end_wait.ensures.jobs)
     (wait_ended (program_of c.args.script.now) c.args.script.now.well_formed
     (g.met.C.ChannelFloor.legal c.was_resolved-resolved.new.channels) (g.met.J.JobFloor.legal c.own_state.new.jobs) c.requires.stands
-    c.requires.waits c.was_resolved-resolved.ensures.seen.looked
+    c.requires.waits c.was_resolved-resolved.ensures.seen.looked (rw c.if-resolved.true at c.was_resolved-resolved.ensures.seen.so)
     (rw c.innermost-row.ensures at (rw c.in-MayRun.is at c.own_state.ensures.seen)) refl refl c.room.ensures.items
     c.in-Ok-end_wait.ensures.answer c.end_wait.ensures.tag).0) c.go_on.ensures.went
 
@@ -106,7 +106,7 @@ returns-in-Ok-end_wait-clause-quiet g c = quiet_on _ c.args.script.now _ c.go_on
     (noted g.B.NoteBook.items c.end_wait.new.frame))) (sym c.end_wait.ensures.jobs)
     (wait_ended (program_of c.args.script.now) c.args.script.now.well_formed
     (g.met.C.ChannelFloor.legal c.was_resolved-resolved.new.channels) (g.met.J.JobFloor.legal c.own_state.new.jobs) c.requires.stands
-    c.requires.waits c.was_resolved-resolved.ensures.seen.looked
+    c.requires.waits c.was_resolved-resolved.ensures.seen.looked (rw c.if-resolved.true at c.was_resolved-resolved.ensures.seen.so)
     (rw c.innermost-row.ensures at (rw c.in-MayRun.is at c.own_state.ensures.seen)) refl refl c.room.ensures.items
     c.in-Ok-end_wait.ensures.answer c.end_wait.ensures.tag).0) c.go_on.ensures.went
 

@@ -31,8 +31,7 @@ returns-in-Ok-clause-came g c =
     c.go_on_selected.ensures.items
 
 pub returns-in-Err-clause-came : goal.returns-in-Err-clause-came
-returns-in-Err-clause-came g c = cut_told _ refl refl (record
-    { goes = tt; told = c.in-Err.ensures.answer.told; left = c.in-Err.ensures.answer.left })
+returns-in-Err-clause-came g c = cut_told _ refl refl c.in-Err.ensures.answer
 
 pub returns-in-Ok-clause-moves : goal.returns-in-Ok-clause-moves
 returns-in-Ok-clause-moves g c = moves_on (program_of c.args.script.now) (noted g.B.NoteBook.items c.args.frame.now)

@@ -1,5 +1,5 @@
-use Rattle.channel_calls.proofs.Untold.{part_some}
-use Rattle.poll_states.proofs.EndedWaits.{gave_resolved, gave_cancelled, untouched_after, told_after}
+use Rattle.call_meaning.specs.ChannelCalls.{GivesUp}
+use Rattle.poll_states.proofs.EndedWaits.{gave_resolved, gave_cancelled, part_after, given_none, given_part}
 use Rattle.poll_states.proofs.waits.give_up.Goals as goal
 
 pub returns-in-Ok-clause-answer : goal.returns-in-Ok-clause-answer
@@ -11,9 +11,9 @@ returns-in-Ok-cancel_wait-clause-answer g c = gave_cancelled c.in-Ok-cancel_wait
     c.see_cancelling.ensures.tag c.in-Ok-cancel_wait.ensures.answer
 
 pub returns-in-Err-clause-answer : goal.returns-in-Err-clause-answer
-returns-in-Err-clause-answer g c = untouched_after _ _ _ _ _ _ c.see_cancelling.ensures.items c.see_cancelling.ensures.tag
-    c.in-Err.ensures.answer
+returns-in-Err-clause-answer g c = part_after (GivesUp c.args.w) c.see_cancelling.ensures.items c.see_cancelling.ensures.tag
+    (given_none c.args.w c.in-Err.ensures.answer)
 
 pub returns-in-Err-cancel_wait-clause-answer : goal.returns-in-Err-cancel_wait-clause-answer
-returns-in-Err-cancel_wait-clause-answer g c = told_after _ _ _ _ _ _ c.see_cancelling.ensures.items c.see_cancelling.ensures.tag
-    (part_some c.in-Err-cancel_wait.ensures.answer)
+returns-in-Err-cancel_wait-clause-answer g c = part_after (GivesUp c.args.w) c.see_cancelling.ensures.items c.see_cancelling.ensures.tag
+    (given_part c.args.w c.in-Err-cancel_wait.ensures.answer)
