@@ -12,3 +12,8 @@ pub mod Hearing
 pub mod Meeting
 pub mod FreshTasks
 pub mod BroughtTogether
+pub mod OrderCounts
+pub mod OwnMoments
+pub mod ToldAlong
+pub mod AlongLater
+pub mod PolledAlong

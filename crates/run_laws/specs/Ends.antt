@@ -12,6 +12,7 @@ use Rattle.script_grammar.specs.Programs.{Program}
 use Rattle.script_grammar.specs.Tags.{coroutine_count}
 use Rattle.script_meaning.specs.Books.{BooksOf}
 use Rattle.script_meaning.specs.Idle.{IsIdle}
+use Rattle.run_laws.specs.Orders.{InOneOrder}
 use Rattle.run_laws.specs.Sights.{Sight, Keeps, IsWithin, SameOf}
 
 -- what the coroutine of s has seen and done was brought to these floors
@@ -39,6 +40,11 @@ books_in sights = map (λ s. s.frame.book) sights
 -- these are the books of a run of the script with these histories, which came to rest; the root has ended so, if it has
 abbrev pub IsRunAtRest : Program → List (List Item) → List Entry → List JobEntry → Option End → Type 0
 IsRunAtRest p books channels jobs root = (of : BooksOf p books channels jobs) × IsIdle p books channels jobs of root
+
+-- the same, and both histories have one order, along which each coroutine told its story
+abbrev pub IsRunInOneOrder : Program → List (List Item) → List Entry → List JobEntry → Option End → Type 0
+IsRunInOneOrder p books channels jobs root =
+    (rest : IsRunAtRest p books channels jobs root) × InOneOrder p books channels jobs rest.0
 
 -- floors that are kept aside: their tag, the first past those of the script, did nothing
 pub record IsSpare (p : Program) (c : ChannelFloor) (j : Floor) : Type 0 where

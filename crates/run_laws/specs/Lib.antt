@@ -4,4 +4,5 @@ pub mod Sights
 pub mod Starts
 pub mod Looks
 pub mod LastRounds
+pub mod Orders
 pub mod Ends

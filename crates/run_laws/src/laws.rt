@@ -10,12 +10,15 @@ ghost use Rattle.job_model.specs.Floors.{Floor};
 ghost use Rattle.job_model.specs.Histories.{Legal as LegalJobs};
 ghost use Rattle.note_book.specs.declared.book.Item.{Item};
 ghost use Rattle.call_meaning.specs.Endings.{ClosesAtOnce};
+ghost use Rattle.call_meaning.specs.Stories.{Moment};
 ghost use Rattle.script_grammar.specs.Programs.{Program};
 ghost use Rattle.script_grammar.specs.WellFormed.{IsProgram};
 ghost use Rattle.script_meaning.specs.Shapes.{base_of, floor_shape, job_shape};
-ghost use Rattle.script_meaning.specs.Books.{book_at, is_refusal};
+ghost use Rattle.script_meaning.specs.Configs.{Config};
+ghost use Rattle.script_meaning.specs.Books.{book_at, is_refusal, Runs};
 ghost use Rattle.script_meaning.specs.Polls.{Frame, StandsOn};
 ghost use Rattle.script_laws.specs.Owners.{AreClaimed, AllNoted};
+ghost use Rattle.run_laws.specs.Orders.{Side, RunsAlong};
 ghost use Rattle.run_laws.specs.Parts.{AreParts};
 ghost use Rattle.run_laws.specs.Refusals.{RefusedSo};
 
@@ -31,4 +34,10 @@ pub fn no_refusal_stands_in_a_book()
         → IsProgram p → Legal (floor_shape p) c.seen → LegalJobs (job_shape p) j.seen
         → StandsOn p c j f → AreClaimed p c j → AllNoted p c j → RefusedSo p j f
         → list_any (is_refusal (base_of p)) f.book ≡ false }
+{}
+
+/// A book that a coroutine may write along an order of both histories is one that it may write in them.
+pub fn a_story_along_an_order_is_true()
+    ensures { (p : Program) (k : ℕ) (now : Moment) (order : List Side) (book : List Item) (x : Config)
+        → RunsAlong p k now order book x → Runs p k now book x }
 {}
