@@ -66,25 +66,6 @@ pub(crate) fn find_end(hub: &Hub, pass: &mut Pass, who: Tag, c: ChannelId) -> (P
     find_end_from(hub, pass, who, c, from)
 }
 
-/// The value with which the channel was closed, if it was, looked for from a place that it does not end before.
-#[inline(always)]
-pub(crate) fn find_closed_from(
-    hub: &Hub,
-    pass: &mut Pass,
-    who: Tag,
-    c: ChannelId,
-    from: Place,
-) -> Option<Value>
-    requires own { IsOwn hub.now pass.old who }
-    requires channel { c < length (shape_of hub.now) }
-    requires given { from ≤ (at_channel (seen_by pass.old).seen c).next }
-    ensures own { IsOwn hub.now pass.new who }
-    ensures sees { Sees (seen_by pass.old) (seen_by pass.new) }
-    ensures closed { (at_channel (seen_by pass.new).seen c).closed ≡ result }
-{
-    find_end_from(hub, pass, who, c, from).1
-}
-
 /// The value with which the channel was closed, if it was.
 pub(crate) fn find_closed(hub: &Hub, pass: &mut Pass, who: Tag, c: ChannelId) -> Option<Value>
     requires own { IsOwn hub.now pass.old who }

@@ -11,7 +11,7 @@ ghost use Rattle.cell_words.specs.Answers.{Receives};
 ghost use Rattle.cell_calls.specs.HubFloors.{hub_floor};
 ghost use Rattle.cell_calls.specs.Walks.{GivenAt, OfferWalked};
 
-use crate::ending::find_closed_from;
+use crate::ending::find_closed;
 use crate::way::Way;
 use cell_words::{
     At, Hub, Pass, Waiter, hand, offer_at, places_of, raise_sends, receiver_stands, sends_from,
@@ -62,7 +62,7 @@ fn give(
     if !receiver_stands(hub, pass, who, c, place, waiter) {
         return Given::Gone;
     }
-    match find_closed_from(hub, pass, who, c, place) {
+    match find_closed(hub, pass, who, c) {
         Some(v) => Given::Closed(v),
         None => match hand(hub, pass, who, c, place, value, waiter) {
             Some(owner) => Given::Receiver(owner),
