@@ -1,5 +1,5 @@
 -- How many entries of each history are in an order, and in that of the acts of a book.
-use Rattle.std.specs.Prelude.{◌≡◌, ℕ, suc, ◌+◌, ◌≤◌, List, [], ◌∷◌, ◌++◌, length, map, refl}
+use Rattle.std.specs.Prelude.{◌≡◌, suc, ◌+◌, ◌≤◌, List, [], ◌∷◌, ◌++◌, length, map, refl}
 use Rattle.std.proofs.Common.{ap, sym, ◌∙◌, append_assoc, arith, length-append}
 use mathlib.Core.List.{IsPrefix}
 use Rattle.note_book.specs.declared.book.Item.{Item}

@@ -10,9 +10,8 @@ use Rattle.job_model.specs.declared.acts.JobAct.{JobAct}
 use Rattle.job_model.specs.declared.acts.JobEntry.{JobEntry}
 use Rattle.job_model.specs.Histories.{acts_of as job_acts_of}
 use Rattle.job_model.specs.Floors.{Floor, entries_by as job_entries_by}
-use Rattle.note_book.specs.declared.book.Item.{Item}
 use Rattle.note_book.specs.Items.{channel_acts_in, job_acts_in}
-use Rattle.call_meaning.specs.Telling.{Told, items_in}
+use Rattle.call_meaning.specs.Telling.{items_in}
 use Rattle.call_meaning.specs.Stories.{Moment, IsBy, IsTrue, story_of}
 use Rattle.call_meaning.specs.Calls.{seen_by}
 use Rattle.script_grammar.specs.Programs.{Program}
