@@ -59,3 +59,9 @@ returns-clause-job_tags g c =
             (λ i le. (whole.callers i le).1) (λ i lt. (whole.others i lt).1) k e,
       );
     }
+
+pub returns-clause-job_shape : goal.returns-clause-job_shape
+returns-clause-job_shape g c = c.in_ok-left.ensures.whole.job_shape
+
+pub returns-clause-rest : goal.returns-clause-rest
+returns-clause-rest g c = c.in_ok-left.ensures.rest
