@@ -327,3 +327,38 @@ element a 1 1 held
     assert_eq!(rt; other, None);
     Ok(())
 }
+
+/// A receiver and a sender beside it, whose first tickets lie in one lane.
+const ONE_LANE: &str = "\
+channel a rendezvous
+coroutine p
+receive a
+end
+coroutine x
+yield
+end
+coroutine q
+yield
+end
+coroutine main
+send a 1
+end
+spawn p
+spawn x
+spawn q
+";
+
+const OTHER_GOES_ON: [HoldRule; 2] = [until_come!(0, 2, 3, 2), until_passed!(3, 2, 1, 8, 2)];
+
+#[test]
+fn a_coroutine_goes_on_whose_last_worker_is_held_by_another(rt: HostRuntime) -> Result<(), Fail> {
+    let answer = "0 jobs
+job 0 completed 0
+job 1 completed 0
+job 2 completed 0
+job 3 completed 0
+";
+    let other = other(&rt, rt.alloc(), TWO, ONE_LANE, &OTHER_GOES_ON, answer)?;
+    assert_eq!(rt; other, None);
+    Ok(())
+}

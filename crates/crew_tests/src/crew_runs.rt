@@ -2,7 +2,7 @@
 ghost use Rattle.std.specs.Prelude.{◌≡◌, ◌≤◌, IfOk, length};
 ghost use Rattle.task_berths.specs.Answers.{HaveTags};
 
-use co_base::{Memory, Tag};
+use co_base::{Memory, Tag, Wakes};
 use std::alloc::Global;
 use std::sync::Wait;
 use std::sync::atomic::{AtomicU64, Ordering};
@@ -114,6 +114,134 @@ fn whoever_is_woken_while_it_is_polled_is_polled_again(rt: HostRuntime) -> Resul
 fn a_poll_without_memory_ends_all_workers(rt: HostRuntime) -> Result<(), Fail> {
     for workers in 1..5u8 {
         assert!(rt; seen_by(&rt, rt.alloc(), workers, 3_000, true).is_err());
+    }
+    Ok(())
+}
+
+/// Two tasks wake task 2 and then one another, so long as they have polls left. Each poll of task 2 sees the count.
+#[derive(Drop)]
+struct Passing {
+    count: AtomicU64,
+}
+
+impl Polls<Counter> for Passing {
+    ghost may_poll = { λ s. Unit {0} };
+
+    fn poll(&self, task: Counter, tickets: &mut Tickets) -> Result<(Counter, bool), Memory> {
+        let Counter { tag, left, seen: _ } = task;
+        if left == 0 {
+            let seen = self.count.load(Ordering::SeqCst);
+            return Ok((Counter { tag, left, seen }, false));
+        }
+        let seen = self.count.fetch_add(1, Ordering::SeqCst);
+        tickets.wake(if tag == 0 { 1 } else { 0 });
+        tickets.wake(2);
+        let task = Counter {
+            tag,
+            left: left - 1,
+            seen,
+        };
+        Ok((task, false))
+    }
+}
+
+/// The count that task 2 has seen when so many workers have ended, of which the first began with a ticket for task 0.
+fn passed_by<R: Threads + Wait + Sync>(
+    rt: &R,
+    alloc: Global,
+    workers: u8,
+    left: u32,
+) -> Result<u64, Memory>
+    requires { (1 ≤ workers) × (workers ≤ 16) }
+{
+    let passing = Passing {
+        count: AtomicU64::new(0),
+    };
+    let mut lanes = no_tickets(alloc, workers, 3)?;
+    lanes[0].put(0);
+    let (tasks, _lanes) = run_crew(rt, alloc, &passing, three(alloc, left)?, lanes)?;
+    Ok(tasks[2].seen)
+}
+
+#[test]
+fn no_wake_is_lost_whose_ticket_another_displaces(rt: HostRuntime) -> Result<(), Fail> {
+    for workers in 1..5u8 {
+        assert_eq!(rt; passed_by(&rt, rt.alloc(), workers, 20_000)?, 40_000);
+    }
+    Ok(())
+}
+
+/// How often a poll looks whether another task was polled, before it gives up.
+const LOOKS: u32 = 1_000_000_000;
+
+/// The poll of task 0 lasts until task 1 was polled, which it wakes, if so told, before it waits.
+#[derive(Drop)]
+struct Waiting {
+    polled: AtomicU64,
+    wakes: bool,
+}
+
+impl Polls<Counter> for Waiting {
+    ghost may_poll = { λ s. Unit {0} };
+
+    fn poll(&self, task: Counter, tickets: &mut Tickets) -> Result<(Counter, bool), Memory> {
+        let mut task = task;
+        if task.tag == 1 {
+            self.polled.store(1, Ordering::SeqCst);
+            return Ok((task, false));
+        }
+        if self.wakes {
+            tickets.wake(1);
+        }
+        for _ in 0..LOOKS {
+            task.seen = self.polled.load(Ordering::SeqCst);
+            if task.seen != 0 {
+                break;
+            }
+        }
+        Ok((task, false))
+    }
+}
+
+/// Whether task 1 is polled while the poll of task 0 lasts. The first worker begins with a ticket for task 0, and with one for task 1, if
+/// that is not woken.
+fn polled_meanwhile<R: Threads + Wait + Sync>(
+    rt: &R,
+    alloc: Global,
+    workers: u8,
+    wakes: bool,
+) -> Result<bool, Memory>
+    requires { (1 ≤ workers) × (workers ≤ 16) }
+{
+    let waiting = Waiting {
+        polled: AtomicU64::new(0),
+        wakes,
+    };
+    let mut lanes = no_tickets(alloc, workers, 3)?;
+    lanes[0].put(0);
+    if !wakes {
+        lanes[0].put(1);
+    }
+    let (tasks, _lanes) = run_crew(rt, alloc, &waiting, three(alloc, 0)?, lanes)?;
+    Ok(tasks[0].seen != 0)
+}
+
+#[test]
+fn a_ticket_is_stolen_from_the_lane_of_a_worker_whose_poll_lasts(
+    rt: HostRuntime,
+) -> Result<(), Fail> {
+    for workers in 2..5u8 {
+        assert!(rt; polled_meanwhile(&rt, rt.alloc(), workers, false)?);
+    }
+    Ok(())
+}
+
+#[test]
+fn the_latest_ticket_of_a_worker_whose_poll_lasts_is_taken_by_another(
+    rt: HostRuntime,
+) -> Result<(), Fail> {
+    for workers in 2..5u8 {
+        assert!(rt; polled_meanwhile(&rt, rt.alloc(), workers, true)?);
     }
     Ok(())
 }

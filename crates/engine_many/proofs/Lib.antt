@@ -1,2 +1,3 @@
 pub mod NewTasks
 pub mod TablesOfScripts
+pub mod WholeFloors

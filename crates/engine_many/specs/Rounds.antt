@@ -1,5 +1,5 @@
 -- What a last round comes to.
-use Rattle.std.specs.Prelude.{◌≡◌, List, length}
+use Rattle.std.specs.Prelude.{◌≡◌, ℕ, Bool, List, length}
 use Rattle.channel_model.specs.Floors.{Floor as ChannelFloor}
 use Rattle.job_model.specs.Floors.{Floor}
 use Rattle.note_book.specs.declared.book.Item.{Item}
@@ -14,8 +14,8 @@ use Rattle.engine_many.specs.Endings.{IsLeftAtRest}
 use Rattle.poll_states.specs.Frames.{Frame}
 
 -- a run that is over came to rest; else all tasks are there
-abbrev pub RoundAnswer : {B C J : Type 0} → (B → List Item) → (C → ChannelFloor) → (J → Floor) → Program
+abbrev pub RoundAnswer : {B C J : Type 0} → (B → List Item) → (C → ChannelFloor) → (J → Floor) → (C → ℕ → Bool) → (J → ℕ → Bool) → Program
     → Round (Frame × C × J) C J B → Type 0
-RoundAnswer items calls jobs p (Over left end) = IsLeftAtRest items calls jobs p left end
-RoundAnswer items calls jobs p (GoesOn tasks c j) =
+RoundAnswer items calls jobs may_call may_act p (Over left end) = IsLeftAtRest items calls jobs may_call may_act p left end
+RoundAnswer items calls jobs may_call may_act p (GoesOn tasks c j) =
     (length tasks.items ≡ coroutine_count p) × CountUp 0 (tags_of tasks.items) × IsSpare p (calls c) (jobs j)

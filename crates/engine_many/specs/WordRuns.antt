@@ -1,12 +1,18 @@
 -- A run over words: before it begins, and what it leaves.
-use Rattle.std.specs.Prelude.{◌≡◌, true, List, [], map, is_none}
+use Rattle.std.specs.Prelude.{◌≡◌, ℕ, ◌<◌, true, List, [], map, is_none}
 use Rattle.channel_model.specs.Floors.{Floor}
 use Rattle.note_book.specs.declared.book.Item.{Item}
-use Rattle.cell_words.specs.Hubs.{IsOf, seen_by as channels_seen_by}
-use Rattle.job_words.specs.Forests.{IsOf as IsOfForest, seen_by}
+use Rattle.worded.specs.Views.{has_tag}
+use Rattle.cell_words.specs.declared.hub.Hub.{Hub}
+use Rattle.cell_words.specs.declared.pass.Pass.{Pass}
+use Rattle.cell_words.specs.Hubs.{IsOf, IsOwn, GivesTags, shape_of, seen_by as channels_seen_by}
+use Rattle.job_words.specs.declared.forest.Forest.{Forest}
+use Rattle.job_words.specs.declared.pass.JobPass.{JobPass}
+use Rattle.job_words.specs.Forests.{IsOf as IsOfForest, IsOwn as IsOwnJobs, GivesTags as GivesJobTags, seen_by}
 use Rattle.job_words.specs.Passes.{floor_seen}
 use Rattle.script_grammar.specs.Programs.{Program}
-use Rattle.script_meaning.specs.Shapes.{floor_shape}
+use Rattle.script_grammar.specs.Tags.{coroutine_count}
+use Rattle.script_meaning.specs.Shapes.{floor_shape, job_shape}
 use Rattle.run_laws.specs.Ends.{IsRunAtRest}
 use Rattle.engine_many.specs.declared.word_run.WordRun.{WordRun}
 
@@ -16,11 +22,28 @@ pub record IsFreshHub (p : Program) (c : Floor) : Type 0 where
   pub seen : c.seen ≡ []
   pub caller : c.callers 0 ≡ true
 
--- the passes are of the hub and of the forest; the books are those of a run of the script with the histories that they have seen, which
--- came to rest
+-- the pass of the hub may call for each of so many tags; it gives out tags, and has those that it gave out, so that nobody else can have
+-- made an entry
+pub record HasAllTags (count : ℕ) (hub : Hub) (pass : Pass) : Type 0 where
+  pub callers : (k : ℕ) → k < count → IsOwn hub pass k
+  pub gives : GivesTags (channels_seen_by pass).given pass
+  pub has_given : (k : ℕ) → has_tag k (channels_seen_by pass).given ≡ true → IsOwn hub pass k
+
+-- the same of a pass of a forest
+pub record HasAllJobTags (count : ℕ) (forest : Forest) (pass : JobPass) : Type 0 where
+  pub callers : (k : ℕ) → k < count → IsOwnJobs forest pass k
+  pub gives : GivesJobTags (seen_by pass).given pass
+  pub has_given : (k : ℕ) → has_tag k (seen_by pass).given ≡ true → IsOwnJobs forest pass k
+
+-- the passes are of the hub and of the forest, which are those of the script, and have all tags; the books are those of a run of the script
+-- with the histories that they have seen, which came to rest
 pub record CameToRest {B : Type 0} (items : B → List Item) (p : Program) (run : WordRun B) : Type 0 where
   pub pass : IsOf run.hub run.pass
   pub jobs : IsOfForest run.forest run.jobs
+  pub shape : shape_of run.hub ≡ floor_shape p
+  pub job_shape : (floor_seen (seen_by run.jobs)).shape ≡ job_shape p
+  pub tags : HasAllTags (coroutine_count p) run.hub run.pass
+  pub job_tags : HasAllJobTags (coroutine_count p) run.forest run.jobs
   pub rest : IsRunAtRest p (map items run.done.books.items) (channels_seen_by run.pass).seen
       (floor_seen (seen_by run.jobs)).seen run.done.end
 

@@ -1,9 +1,11 @@
 //! The floors of all coroutines are ended into those of the root.
 
 ghost use Rattle.std.specs.Prelude.{◌≡◌, ◌∷◌, All, IfOk, map};
+ghost use Rattle.script_grammar.specs.Tags.{coroutine_count};
 ghost use Rattle.engine_many.specs.Parts.{sight_of};
-ghost use Rattle.engine_many.specs.Endings.{IsBroughtInto};
+ghost use Rattle.engine_many.specs.Endings.{IsBroughtInto, MayBothCall};
 ghost use Rattle.run_laws.specs.Ends.{NoOthers, IsSpare};
+ghost use Rattle.run_laws.specs.Sights.{KnowsTags};
 ghost use Rattle.run_laws.specs.LastRounds.{books_seen};
 
 use crate::task::Task;
@@ -35,6 +37,8 @@ pub(crate) fn end_floors<N: ScriptName, C: SharedChannels + Drop, J: SharedJobs 
     ensures books { IfOk result (λ left. map B.items left.books.items ≡ books_seen (sight_of C.view J.view) (root ∷ others.items)) }
     ensures root { IfOk result (λ left. IsBroughtInto C.view J.view N.program left root) }
     ensures others { IfOk result (λ left. All (λ x. IsBroughtInto C.view J.view N.program left x) others.items) }
+    ensures aside { IfOk result (λ left. MayBothCall (C.view left.channels) (J.view left.jobs) (coroutine_count N.program)) }
+    ensures tags { IfOk result (λ left. KnowsTags N.program 0 (C.may_act (C.anchor left.channels)) (J.may_act (J.anchor left.jobs))) }
     ensures none { IfOk result (λ left. NoOthers N.program (C.view left.channels) (J.view left.jobs)) }
 {
     let mut books = Vec::with_capacity(alloc, others.len())?;

@@ -45,7 +45,8 @@ pub(crate) fn end_run<N: ScriptName, C: SharedChannels + Drop, J: SharedJobs + D
     requires tags { CountUp 0 (tags_of tasks.items) }
     requires rested { AllRested (sight_of C.view J.view) N.program tasks.items }
     requires aside { IsSpare N.program (C.view aside.0) (J.view aside.1) }
-    ensures { IfOk result (λ r. IsLeftAtRest B.items C.view J.view N.program r.0 r.1) }
+    ensures { IfOk result (λ r. IsLeftAtRest B.items C.view J.view (λ c. C.may_act (C.anchor c)) (λ j. J.may_act (J.anchor j)) N.program r.0
+        r.1) }
 {
     let mut others = tasks;
     let mut root = others.remove(0);
@@ -74,7 +75,8 @@ pub(crate) fn last_round<
     requires count { length tasks.items ≡ coroutine_count N.program }
     requires tags { CountUp 0 (tags_of tasks.items) }
     requires aside { IsSpare N.program (C.view aside.0) (J.view aside.1) }
-    ensures { IfOk result (λ round. RoundAnswer B.items C.view J.view N.program round) }
+    ensures { IfOk result (λ round. RoundAnswer B.items C.view J.view (λ c. C.may_act (C.anchor c)) (λ j. J.may_act (J.anchor j)) N.program
+        round) }
 {
     let met = meet_all(alloc, tasks)?;
     let (polled, moved) = poll_all(alloc, script, met, tickets, gate)?;

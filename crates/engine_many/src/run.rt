@@ -59,7 +59,8 @@ fn run_tickets<
     Ok((left, tickets))
 }
 
-/// Runs the tasks of a script by so many workers until no coroutine can go on: what is left, and how the root has ended, if it has.
+/// Runs the tasks of a script until no coroutine can go on: what is left, and how the root has ended, if it has. It starts so many workers,
+/// but no more than there are coroutines, and two at least.
 pub fn run_tasks<
     N: ScriptName + Send + Sync,
     C: SharedChannels + Drop + Send,
@@ -81,7 +82,8 @@ pub fn run_tasks<
     requires count { length tasks.items ≡ coroutine_count N.program }
     requires tags { CountUp 0 (tags_of tasks.items) }
     requires aside { IsSpare N.program (C.view aside.0) (J.view aside.1) }
-    ensures { IfOk result (λ r. IsLeftAtRest B.items C.view J.view N.program r.0 r.1) }
+    ensures { IfOk result (λ r. IsLeftAtRest B.items C.view J.view (λ c. C.may_act (C.anchor c)) (λ j. J.may_act (J.anchor j)) N.program r.0
+        r.1) }
 {
     let count = script.coroutines();
     // More workers than coroutines would find nothing to do.

@@ -5,11 +5,12 @@ ghost use Rattle.job_model.specs.Floors.{IsFreshFloor};
 ghost use Rattle.cell_words.specs.Hubs.{IsOf, IsOwn, GivesTags, shape_of, seen_by};
 ghost use Rattle.job_words.specs.Forests.{IsOf as IsOfForest, IsOwn as IsOwnJobs, GivesTags as GivesJobTags, seen_by as jobs_seen_by};
 ghost use Rattle.job_words.specs.Passes.{floor_seen};
+ghost use Rattle.script_grammar.specs.Tags.{coroutine_count};
 ghost use Rattle.script_meaning.specs.Shapes.{floor_shape, job_shape};
 ghost use Rattle.script_reader.specs.Scripts.{program_of};
 ghost use Rattle.word_seats.specs.Names.{IsNamedHub, IsNamedForest};
 ghost use Rattle.run_laws.specs.Ends.{IsRunAtRest};
-ghost use Rattle.engine_many.specs.WordRuns.{CameToRest, TellsIdle};
+ghost use Rattle.engine_many.specs.WordRuns.{HasAllTags, HasAllJobTags, CameToRest, TellsIdle};
 
 use crate::ending::Left;
 use crate::run::run_tasks;
@@ -36,13 +37,17 @@ pub struct WordRun<B> {
     pub jobs: JobPass,
 }
 
-/// Runs the script by so many workers until no coroutine can go on. No worker waits for a lock: the channels and Jobs are words that they
-/// change by single steps.
+/// Runs the script until no coroutine can go on. It starts so many workers, but no more than there are coroutines, and two at least. No
+/// worker waits for a lock: the channels and Jobs are words that they change by single steps.
 ///
 /// The first tickets are those of main and of the spawned instances, in their order, dealt to the workers in turn. Which worker polls a
 /// coroutine, and in which order coroutines are polled, is left open.
 ///
-/// The books are those of a run with the histories of its hub and of its forest, which came to rest; nobody can go on.
+/// A worker that is held at the gate in one coroutine keeps at most one other from being polled: the one that it polled last, where it woke
+/// the held one.
+///
+/// The books are those of a run with the histories of its hub and of its forest, which came to rest; nobody can go on. The passes may call
+/// for every coroutine, and nobody else has a tag, so that they have seen the whole of both histories, and no entry is made but by them.
 pub fn run_many<B: Book + Send, R: Threads + Wait + Sync, G: Gate + Sync>(
     rt: &R,
     alloc: Global,
@@ -113,6 +118,9 @@ fn run_seated<
     requires rows { IsFreshFloor (job_shape N.program) (floor_seen (jobs_seen_by jobs)) }
     ensures pass { IfOk result (λ r. IsOf hub.now r.1) }
     ensures jobs { IfOk result (λ r. IsOfForest forest.now r.2) }
+    ensures tags { IfOk result (λ r. HasAllTags (coroutine_count N.program) hub.now r.1) }
+    ensures job_tags { IfOk result (λ r. HasAllJobTags (coroutine_count N.program) forest.now r.2) }
+    ensures job_shape { IfOk result (λ r. (floor_seen (jobs_seen_by r.2)).shape ≡ job_shape N.program) }
     ensures rest { IfOk result (λ r. IsRunAtRest N.program (map B.items r.0.books.items)
         (seen_by r.1).seen (floor_seen (jobs_seen_by r.2)).seen r.0.end) }
     ensures idle { IfOk result (λ r. r.0.idle ≡ is_none r.0.end) }

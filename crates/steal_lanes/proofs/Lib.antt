@@ -1,3 +1,4 @@
 mod LaneMoves
 mod OtherLanes
 mod LanesBesideOthers
+mod TicketsTaken

@@ -45,6 +45,11 @@ abbrev pub tickets_put : List LaneOp → List ℕ
 tickets_put [] = []
 tickets_put (e ∷ es) = if e.is_put then e.ticket ∷ tickets_put es else tickets_put es
 
+-- the tickets that were taken
+abbrev pub tickets_taken : List LaneOp → List ℕ
+tickets_taken [] = []
+tickets_taken (e ∷ es) = if e.is_put then tickets_taken es else e.ticket ∷ tickets_taken es
+
 -- ---- what is known of it
 
 -- the owner of a lane that is made

@@ -15,15 +15,18 @@
 //! - `stealing`: a ticket of any of several other lanes.
 //! - `lane`: a worker's own lane with the ways into the others, `put`, `take` and `next`.
 //! - `all_lanes`: the lanes of so many workers.
+//! - `laws`: what holds of a lane at all times.
 #![tactic(auto)]
 
 mod all_lanes;
 mod lane;
 mod lane_view;
+mod laws;
 mod other_lane;
 mod stealing;
 
 pub use all_lanes::lanes;
 pub use lane::Lane;
 pub use lane_view::{InOrder, LaneOp, LaneView};
+pub use laws::each_ticket_is_taken_once_in_the_order_of_puts;
 pub use other_lane::OtherLane;

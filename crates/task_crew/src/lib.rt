@@ -5,9 +5,11 @@
 //! goes into its lane; so does one for the task itself if it is to be polled again. So a task is never polled by two at once. If another
 //! worker comes for a task that is not in its berth, the task gets a ticket as it is left there, so that no wake is lost.
 //!
-//! **At hand.** A worker keeps the task that it polled last at hand, and the one before while the two take turns. So two that wait for one
-//! another go to and fro without a step on a berth. The one before is left at its berth as soon as a ticket is not its own, and both are
-//! left before the worker looks for tickets of others.
+//! **At hand.** A worker keeps the task that it polled last at hand while it polls one that it woke, and the one before while the two take
+//! turns. So two that wait for one another go to and fro without a step on a berth. Any other is left at its berth before a poll, and both
+//! are left before the worker looks for tickets of others. A task at hand cannot be taken: one that another worker woke meanwhile waits
+//! until the poll beside it ends. So whatever holds a worker in a poll, as a gate may, can hold the task that it polled last too, but only
+//! where the worker woke the one that is held.
 //!
 //! **The order.** A worker takes its latest ticket first, so that whom a poll woke goes on with what is at hand, and two that wait for one
 //! another stay with one worker. After 64 of these one of its lane has its turn.

@@ -120,19 +120,21 @@ impl Tickets {
         self.pause = self.pause.saturating_mul(2).min(LONGEST_PAUSE);
     }
 
-    /// An own ticket: the latest one, or, if many of these came one after another, the first of the lane.
-    fn take(&mut self) -> Option<Tag> {
+    /// An own ticket: the latest one, or, if many of these came one after another, the first of the lane. The answer says too whether it is
+    /// the latest, that of a task which the worker woke.
+    fn take(&mut self) -> Option<(Tag, bool)> {
         if self.in_a_row < LATEST_IN_A_ROW {
             if let Some(tag) = self.latest.take() {
                 self.in_a_row += 1;
-                return Some(tag);
+                return Some((tag, true));
             }
         }
         self.in_a_row = 0;
         if let Some(tag) = self.lane.take() {
-            return Some(tag);
+            return Some((tag, false));
         }
-        self.latest.take()
+        let tag = self.latest.take()?;
+        Some((tag, true))
     }
 
     /// A ticket of any lane, or else the latest of another worker that did not come to it since the last look.
@@ -182,28 +184,29 @@ impl Tickets {
         unreachable!()
     }
 
-    /// An own ticket, unless a poll found no memory.
-    pub(crate) fn own(&mut self) -> Option<Tag> {
+    /// An own ticket, and whether it is the latest one, unless a poll found no memory.
+    pub(crate) fn own(&mut self) -> Option<(Tag, bool)> {
         if self.is_stopped() {
             return None;
         }
-        let tag = self.take()?;
+        let ticket = self.take()?;
         self.ran = self.ran.saturating_add(1);
-        Some(tag)
+        Some(ticket)
     }
 
-    /// The next ticket, one of the own first. The worker is at work. None: nobody has a ticket, or a poll found no memory; then the worker
-    /// is not at work any more.
-    pub(crate) fn next<R: Wait>(&mut self, rt: &R) -> Option<Tag> {
+    /// The next ticket, one of the own first, and whether it is the own latest one. The worker is at work. None: nobody has a ticket, or a
+    /// poll found no memory; then the worker is not at work any more.
+    pub(crate) fn next<R: Wait>(&mut self, rt: &R) -> Option<(Tag, bool)> {
         if self.is_stopped() {
             self.rest();
             return None;
         }
-        if let Some(tag) = self.take() {
+        if let Some(ticket) = self.take() {
             self.ran = self.ran.saturating_add(1);
-            return Some(tag);
+            return Some(ticket);
         }
-        self.seek(rt)
+        let tag = self.seek(rt)?;
+        Some((tag, false))
     }
 
     /// A poll found no memory: all workers are to end.

@@ -115,6 +115,28 @@ fn fetch<T: Tagged + Drop>(
     (task, last)
 }
 
+/// The other task, which stays at hand where the worker woke the one that it polls next: the two may wait for one another. Else it is left,
+/// so that another worker may poll it meanwhile.
+fn keep<T: Tagged + Drop>(
+    berths: &Berths<T>,
+    seat: &mut BerthSeat<T>,
+    other: Option<T>,
+    beside: &Option<T>,
+    woken: bool,
+    tickets: &mut Tickets,
+) -> Option<T>
+    requires seat { IsSeatOf berths.now seat.old }
+    requires held { AreHeld (count_of berths.now) (view_of seat.old).held (tag_at T.tag_of beside.now) (tag_at T.tag_of other) }
+    ensures seat { IsSeatOf berths.now seat.new }
+    ensures held { AreHeld (count_of berths.now) (view_of seat.new).held (tag_at T.tag_of beside.now) (tag_at T.tag_of result) }
+{
+    if woken {
+        return other;
+    }
+    leave(berths, seat, other, beside, tickets);
+    None
+}
+
 /// Polls the task, if there is one. It gets a ticket if it asks for one.
 fn poll<T: Tagged + Drop, P: Polls<T>>(
     polls: &P,
@@ -134,13 +156,14 @@ fn poll<T: Tagged + Drop, P: Polls<T>>(
     Ok(Some(task))
 }
 
-/// Runs a ticket: polls its task, unless another worker has it. The task and another one are at hand then.
+/// Runs a ticket: polls its task, unless another worker has it. The task, and another one if the worker woke the task, are at hand then.
 fn run_ticket<T: Tagged + Drop, P: Polls<T>>(
     polls: &P,
     berths: &Berths<T>,
     seat: &mut BerthSeat<T>,
     count: Tag,
     tag: Tag,
+    woken: bool,
     last: Option<T>,
     before: Option<T>,
     tickets: &mut Tickets,
@@ -156,11 +179,13 @@ fn run_ticket<T: Tagged + Drop, P: Polls<T>>(
         return Ok((last, before));
     }
     let (task, other) = fetch(berths, seat, tag, last, before, tickets);
+    let other = keep(berths, seat, other, &task, woken, tickets);
     let task = poll(polls, task, tickets)?;
     Ok((task, other))
 }
 
-/// The next ticket, and the tasks at hand. Before the worker looks for tickets of others it leaves both. None: nobody has a ticket.
+/// The next ticket, whether it is that of a task which the worker woke, and the tasks at hand. Before the worker looks for tickets of
+/// others it leaves both. None: nobody has a ticket.
 fn next_ticket<T: Tagged + Drop, R: Wait>(
     rt: &R,
     berths: &Berths<T>,
@@ -168,15 +193,15 @@ fn next_ticket<T: Tagged + Drop, R: Wait>(
     last: Option<T>,
     before: Option<T>,
     tickets: &mut Tickets,
-) -> (Option<Tag>, Option<T>, Option<T>)
+) -> (Option<(Tag, bool)>, Option<T>, Option<T>)
     requires seat { IsSeatOf berths.now seat.old }
     requires held { AreHeld (count_of berths.now) (view_of seat.old).held (tag_at T.tag_of last) (tag_at T.tag_of before) }
     ensures seat { IsSeatOf berths.now seat.new }
     ensures held { AreHeld (count_of berths.now) (view_of seat.new).held (tag_at T.tag_of result.1) (tag_at T.tag_of result.2) }
     ensures none { result.0 ≡ None → (view_of seat.new).held ≡ [] }
 {
-    if let Some(tag) = tickets.own() {
-        return (Some(tag), last, before);
+    if let Some(ticket) = tickets.own() {
+        return (Some(ticket), last, before);
     }
     leave_both(berths, seat, last, before, tickets);
     (tickets.next(rt), None, None)
@@ -204,7 +229,7 @@ pub(crate) fn work<T: Tagged + Drop, R: Wait, P: Polls<T>>(
     tickets.begin();
     'turns: for _ in rt.forever() {
         let (next, one, other) = next_ticket(rt, berths, &mut seat, last, before, &mut tickets);
-        let Some(tag) = next else {
+        let Some((tag, woken)) = next else {
             break;
         };
         let ran = run_ticket(
@@ -213,6 +238,7 @@ pub(crate) fn work<T: Tagged + Drop, R: Wait, P: Polls<T>>(
             &mut seat,
             count,
             tag,
+            woken,
             one,
             other,
             &mut tickets,

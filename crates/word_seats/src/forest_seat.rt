@@ -31,6 +31,8 @@ pub struct ForestSeat<'a, N: ForestName> {
 }
 
 impl<N: ForestName> JobFloor for ForestSeat<'_, N> {
+    ghost use Rattle.std.specs.Prelude.{◌≡◌, OnOk, OnErr, IsOk};
+    ghost use Rattle.job_model.specs.Floors.{HasRoom};
     ghost use Rattle.job_words.specs.Forests.{seen_by};
     ghost use Rattle.job_words.specs.Passes.{floor_seen};
     ghost use Rattle.word_seats.specs.Seats.{forest_anchor};
@@ -42,7 +44,12 @@ impl<N: ForestName> JobFloor for ForestSeat<'_, N> {
     ghost anchor = { λ s. forest_anchor s.forest.now s.pass };
 
     // Words need no room, so there always is.
-    fn room(&mut self, _n: u32) -> Result<(), Memory> {
+    fn room(&mut self, n: u32) -> Result<(), Memory>
+        ensures anchor { forest_anchor self.new.forest.now self.new.pass ≡ forest_anchor self.old.forest.now self.old.pass }
+        ensures ok { OnOk result (HasRoom n (floor_seen (seen_by self.old.pass)) (floor_seen (seen_by self.new.pass))) }
+        ensures err { OnErr result (floor_seen (seen_by self.new.pass) ≡ floor_seen (seen_by self.old.pass)) }
+        ensures always { IsOk result }
+    {
         Ok(())
     }
 

@@ -33,6 +33,8 @@ pub struct HubSeat<'a, N: HubName> {
 }
 
 impl<N: HubName> ChannelFloor for HubSeat<'_, N> {
+    ghost use Rattle.std.specs.Prelude.{◌≡◌, OnOk, OnErr, IsOk};
+    ghost use Rattle.channel_model.specs.Floors.{HasRoom};
     ghost use Rattle.cell_words.proofs.LooksAtCells.{hub_legal};
     ghost use Rattle.cell_calls.specs.HubFloors.{hub_floor};
     ghost use Rattle.word_seats.specs.Seats.{hub_anchor};
@@ -44,7 +46,12 @@ impl<N: HubName> ChannelFloor for HubSeat<'_, N> {
     ghost anchor = { λ s. hub_anchor s.hub.now s.pass };
 
     // Entries take no memory, so there always is room.
-    fn room(&mut self, _n: u32) -> Result<(), Memory> {
+    fn room(&mut self, n: u32) -> Result<(), Memory>
+        ensures anchor { hub_anchor self.new.hub.now self.new.pass ≡ hub_anchor self.old.hub.now self.old.pass }
+        ensures ok { OnOk result (HasRoom n (hub_floor self.old.hub.now self.old.pass) (hub_floor self.new.hub.now self.new.pass)) }
+        ensures err { OnErr result (hub_floor self.new.hub.now self.new.pass ≡ hub_floor self.old.hub.now self.old.pass) }
+        ensures always { IsOk result }
+    {
         Ok(())
     }
 

@@ -9,6 +9,7 @@ use Rattle.run_laws.specs.Ends.{IsBroughtTo}
 use Rattle.run_laws.proofs.Hearing.{tags_same}
 use Rattle.run_laws.proofs.BroughtTogether.{brought_still, all_brought, all_still, books_push, none_else}
 use Rattle.engine_many.specs.Parts.{sight_of}
+use Rattle.engine_many.proofs.WholeFloors.{aside_there}
 use Rattle.engine_many.proofs.ending.end_floors.Goals as goal
 
 pub loop-other-preserved : goal.loop-other-preserved
@@ -55,6 +56,13 @@ returns-clause-others g c =
     (sight_of g.C.ChannelFloor.view g.J.JobFloor.view x))) e
     (all_still (sight_of g.C.ChannelFloor.view g.J.JobFloor.view) g.N.ScriptName.program _ _ _ _ _ _ c.loop-other.yielded
     c.end-2.ensures.ended c.end-3.ensures.ended c.loop-other.invariant.others)
+
+pub returns-clause-aside : goal.returns-clause-aside
+returns-clause-aside g c = aside_there g.N.ScriptName.program _ _ _ _ _ _ c.end-2.ensures.ended c.end-3.ensures.ended c.requires.aside
+
+pub returns-clause-tags : goal.returns-clause-tags
+returns-clause-tags g c = tags_same g.N.ScriptName.program _ _ _ _ _ (ap g.C.SharedChannels.may_act c.end-2.ensures.anchor)
+    (ap g.J.SharedJobs.may_act c.end-3.ensures.anchor) c.loop-other.invariant.tags
 
 pub returns-clause-none : goal.returns-clause-none
 returns-clause-none g c =

@@ -1,4 +1,4 @@
-use Rattle.std.proofs.Common.{rules, arith, ◌<◌, length, ap, sym, subst, ◌∙◌}
+use Rattle.std.proofs.Common.{rules, arith, ◌<◌, length, ap, sym, subst, ◌∙◌, ◌∷◌}
 use Rattle.std.proofs.lemmas.Grind.{common_steps}
 use Rattle.run_laws.specs.Sights.{CountUp}
 use Rattle.run_laws.specs.LastRounds.{AllRested}
@@ -6,7 +6,9 @@ use Rattle.run_laws.specs.Ends.{IsRunAtRest}
 use Rattle.run_laws.proofs.Lists.{first_of as taken_first}
 use Rattle.run_laws.proofs.BroughtTogether.{run_over}
 use Rattle.run_laws.proofs.Lists.{some_coroutine}
+use Rattle.script_meaning.specs.Polls.{Frame}
 use Rattle.engine_many.specs.Parts.{sight_of, tags_of}
+use Rattle.engine_many.proofs.WholeFloors.{are_whole}
 use Rattle.engine_many.proofs.rounds.end_run.Goals as goal
 
 pub remove-root-requires : goal.remove-root-requires
@@ -22,12 +24,21 @@ returns g c =
     (subst (λ n. 0 < n) (sym c.requires.count) (some_coroutine p c.requires.script)) c.remove-root.ensures.value
     c.remove-root.ensures.items in
     let left = c.in_ok-left.left in
-    subst (λ b. IsRunAtRest p b (g.C.ChannelFloor.view left.channels).seen (g.J.JobFloor.view left.jobs).seen c.look_at_root-end.result)
-    (sym c.in_ok-left.ensures.books)
-    (run_over at p c.remove-root.result c.look_at_root-end.new.self c.remove-root.new.self.items (g.C.ChannelFloor.view left.channels)
-    (g.J.JobFloor.view left.jobs) c.look_at_root-end.result
-    c.requires.script (ap length (sym whole) ∙ c.requires.count) (subst (λ l. CountUp 0 (tags_of l)) whole c.requires.tags)
-    (subst (AllRested at p) whole c.requires.rested)
-    c.look_at_root-end.ensures.more c.look_at_root-end.ensures.seen c.in_ok-left.ensures.root c.in_ok-left.ensures.others
-    c.in_ok-left.ensures.none
-    (g.met.C.ChannelFloor.legal left.channels) (g.met.J.JobFloor.legal left.jobs) (g.met.J.JobFloor.claimed left.jobs))
+    let count = ap length (sym whole) ∙ c.requires.count in
+    let up = subst (λ l. CountUp 0 (tags_of l)) whole c.requires.tags in
+    record {
+      rest = subst (λ b. IsRunAtRest p b (g.C.ChannelFloor.view left.channels).seen (g.J.JobFloor.view left.jobs).seen
+          c.look_at_root-end.result) (sym c.in_ok-left.ensures.books)
+          (run_over at p c.remove-root.result c.look_at_root-end.new.self c.remove-root.new.self.items (g.C.ChannelFloor.view left.channels)
+          (g.J.JobFloor.view left.jobs) c.look_at_root-end.result
+          c.requires.script count up (subst (AllRested at p) whole c.requires.rested)
+          c.look_at_root-end.ensures.more c.look_at_root-end.ensures.seen c.in_ok-left.ensures.root c.in_ok-left.ensures.others
+          c.in_ok-left.ensures.none
+          (g.met.C.ChannelFloor.legal left.channels) (g.met.J.JobFloor.legal left.jobs) (g.met.J.JobFloor.claimed left.jobs));
+      whole = are_whole at p c.look_at_root-end.new.self c.remove-root.new.self.items (g.C.ChannelFloor.view left.channels)
+          (g.J.JobFloor.view left.jobs) (g.C.SharedChannels.may_act (g.C.ChannelFloor.anchor left.channels))
+          (g.J.SharedJobs.may_act (g.J.JobFloor.anchor left.jobs)) count
+          (ap (λ (f : Frame). f.tag) c.look_at_root-end.ensures.more.frame ∙ up.0, up.1)
+          c.in_ok-left.ensures.root c.in_ok-left.ensures.others c.in_ok-left.ensures.aside c.in_ok-left.ensures.tags
+          c.in_ok-left.ensures.none;
+    }

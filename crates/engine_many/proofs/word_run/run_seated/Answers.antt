@@ -1,7 +1,9 @@
-use Rattle.std.proofs.Common.{◌∙◌, sym}
+use Rattle.std.proofs.Common.{◌∙◌, sym, refl, ◌<◌, ◌≤◌, arith}
+use Rattle.script_grammar.specs.Tags.{coroutine_count}
 use Rattle.job_words.specs.Forests.{seen_by as jobs_seen_by}
 use Rattle.cell_words.specs.Hubs.{seen_by}
 use Rattle.engine_many.proofs.NewTasks.{nobody_first}
+use Rattle.engine_many.proofs.WholeFloors.{gave_these, gives_out}
 use Rattle.engine_many.proofs.word_run.run_seated.Goals as goal
 
 pub seat_tasks-requires-clause-nobody : goal.seat_tasks-requires-clause-nobody
@@ -23,3 +25,43 @@ returns-clause-jobs g c =
     let seat = c.in_ok-left.left.jobs in
     let forest = c.requires.forest.0 in
     (seat.of.0 ∙ seat.named.0 ∙ sym forest.0, seat.of.1 ∙ seat.named.1 ∙ sym forest.1, seat.of.2, seat.of.3)
+
+pub returns-clause-tags : goal.returns-clause-tags
+returns-clause-tags g c =
+    let seat = c.in_ok-left.left.channels in
+    let hub = c.requires.hub.0 in
+    let of = (seat.of.0 ∙ seat.named.0 ∙ sym hub.0, seat.of.1 ∙ seat.named.1 ∙ sym hub.1, seat.of.2, seat.of.3) in
+    let n = coroutine_count g.N.ScriptName.program in
+    let whole = c.in_ok-left.ensures.whole in
+    record {
+      callers = λ k lt. (of, (whole.callers k (omega (arith, lt))).0);
+      gives = (gives_out n (seen_by seat.pass).chief (seen_by seat.pass).given (λ k lt. (whole.others k lt).0), refl);
+      has_given = λ k e. (
+        of,
+        gave_these n (seen_by seat.pass).chief (seen_by seat.pass).given (seen_by seat.pass).tags (λ i le. (whole.callers i le).0)
+            (λ i lt. (whole.others i lt).0) k e,
+      );
+    }
+
+pub returns-clause-job_tags : goal.returns-clause-job_tags
+returns-clause-job_tags g c =
+    let seat = c.in_ok-left.left.jobs in
+    let forest = c.requires.forest.0 in
+    let of = (seat.of.0 ∙ seat.named.0 ∙ sym forest.0, seat.of.1 ∙ seat.named.1 ∙ sym forest.1, seat.of.2, seat.of.3) in
+    let n = coroutine_count g.N.ScriptName.program in
+    let whole = c.in_ok-left.ensures.whole in
+    record {
+      callers = λ k lt. (of, (whole.callers k (omega (arith, lt))).1);
+      gives = (gives_out n (jobs_seen_by seat.pass).chief (jobs_seen_by seat.pass).given (λ k lt. (whole.others k lt).1), refl);
+      has_given = λ k e. (
+        of,
+        gave_these n (jobs_seen_by seat.pass).chief (jobs_seen_by seat.pass).given (jobs_seen_by seat.pass).tags
+            (λ i le. (whole.callers i le).1) (λ i lt. (whole.others i lt).1) k e,
+      );
+    }
+
+pub returns-clause-job_shape : goal.returns-clause-job_shape
+returns-clause-job_shape g c = c.in_ok-left.ensures.whole.job_shape
+
+pub returns-clause-rest : goal.returns-clause-rest
+returns-clause-rest g c = c.in_ok-left.ensures.rest
