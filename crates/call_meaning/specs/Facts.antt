@@ -1,17 +1,15 @@
 -- What each note says of the moment at which it was made, and what else may be told of a moment.
-use Rattle.std.specs.Prelude.{◌≡◌, ℕ, ◌+◌, ◌==◌, nat_lt, nat_le, ◌⊎◌, Bool, true, false, not, ◌&&◌, ◌||◌, List, [], ◌∷◌, length, filter, Option, Some, None, is_some}
+use Rattle.std.specs.Prelude.{◌≡◌, ℕ, ◌==◌, ◌⊎◌, Bool, true, false, ◌||◌, [], Option, Some, None}
 use Rattle.std.specs.List.{list_any}
 use Rattle.channel_model.specs.declared.acts.Act.{Act}
 use Rattle.channel_model.specs.declared.acts.Act.TheVariants.{Hand}
-use Rattle.channel_model.specs.declared.acts.Kind.{Kind}
 use Rattle.channel_model.specs.declared.acts.ChannelNote.{ChannelNote}
 use Rattle.channel_model.specs.declared.acts.ChannelNote.TheVariants as heard
-use Rattle.channel_model.specs.declared.standing.Standing.{Standing}
 use Rattle.channel_model.specs.declared.standing.Resolution.{Resolution}
 use Rattle.channel_model.specs.declared.standing.Resolution.TheVariants.{Withdrawn, Voided}
-use Rattle.channel_model.specs.Channels.{Shape, State, Channel, Wait, kind_at, places_at, is_full, suspends, drops}
-use Rattle.channel_model.specs.Answers.{IsSpentForOffers, IsSpentForReceives, IsFullAt, IsResolvedWait}
-use Rattle.channel_model.specs.Owing.{owes_spurn_at}
+use Rattle.channel_model.specs.Channels.{Shape, State, Channel, Wait, kind_at, places_at, drops}
+use Rattle.channel_model.specs.Answers.{IsSpentForOffers, IsSpentForReceives, IsFullToTry, IsEmptyToTry, IsFullAt, IsResolvedWait}
+use Rattle.channel_model.specs.Owing.{owes_admission_below, owes_spurn_at, offers_up_to}
 use Rattle.job_model.specs.declared.acts.End.{End}
 use Rattle.job_model.specs.declared.acts.End.TheVariants as ends
 use Rattle.job_model.specs.declared.acts.JobState.{JobState}
@@ -37,18 +35,6 @@ pub record IsDrained (c v : ℕ) (s : State) : Type 0 where
   pub is_closed : IsClosedWith c v s
   pub nothing : (s.channels c).queue ≡ []
 
--- a send would have to wait
-pub record IsFullNow (shape : Shape) (c : ℕ) (s : State) : Type 0 where
-  pub waits : suspends (kind_at shape c) ≡ true
-  pub is_open : (s.channels c).closed ≡ None
-  pub nobody : (s.channels c).receivers ≡ []
-  pub full : IsFullAt shape c s
-
--- a receive would have to wait
-pub record IsEmptyNow (c : ℕ) (s : State) : Type 0 where
-  pub is_open : (s.channels c).closed ≡ None
-  pub nothing : (s.channels c).queue ≡ []
-
 -- all places of an open channel are given out
 pub record IsSpentNow (shape : Shape) (c : ℕ) (s : State) : Type 0 where
   pub is_open : (s.channels c).closed ≡ None
@@ -72,8 +58,8 @@ ChannelNoteHolds shape (heard.TrySendClosed c value v) s = IsClosedWith c v s
 ChannelNoteHolds shape (heard.ReceiveClosed c v) s = IsDrained c v s
 ChannelNoteHolds shape (heard.TryReceiveClosed c v) s = IsDrained c v s
 ChannelNoteHolds shape (heard.AlreadyClosed c v) s = IsClosedWith c v s
-ChannelNoteHolds shape (heard.Full c value) s = IsFullNow shape c s
-ChannelNoteHolds shape (heard.Empty c) s = IsEmptyNow c s
+ChannelNoteHolds shape (heard.Full c value) s = IsFullToTry shape c s
+ChannelNoteHolds shape (heard.Empty c) s = IsEmptyToTry c s
 ChannelNoteHolds shape (heard.Spent c) s = IsSpentNow shape c s
 ChannelNoteHolds shape (heard.Partner c q) s =
     (stands_receiver q (s.channels c) || stands_offer q (s.channels c)) ≡ true
@@ -110,25 +96,15 @@ NoteHolds shape (item.Job n) s tree = JobNoteHolds n tree
 
 -- ---- what else is told of the channels
 
--- an offer below the mark is held, with fewer offers before it than the kind keeps; n offers stand before this list
-unfoldable pub owes_below : ℕ → Kind → ℕ → List Standing → Bool
-owes_below mark kind n [] = false
-owes_below mark kind n (o ∷ os) =
-    (is_some o.holder && (nat_lt o.place mark && not (is_full kind n))) || owes_below mark kind (n + 1) os
+abbrev pub is_withdrawn_or_voided : Option Resolution → Bool
+is_withdrawn_or_voided None = false
+is_withdrawn_or_voided (Some (Withdrawn why)) = true
+is_withdrawn_or_voided (Some Voided) = true
+is_withdrawn_or_voided (Some other) = false
 
--- how many offers stand at places up to this one
-abbrev pub offers_up_to : ℕ → List Standing → ℕ
-offers_up_to q queue = length (filter (λ o. nat_le o.place q) queue)
-
-abbrev pub is_taken_back : Option Resolution → Bool
-is_taken_back None = false
-is_taken_back (Some (Withdrawn why)) = true
-is_taken_back (Some Voided) = true
-is_taken_back (Some other) = false
-
-abbrev pub IsTakenBack : Option Wait → Type 0
-IsTakenBack None = ⊥
-IsTakenBack (Some x) = is_taken_back x.resolved ≡ true
+abbrev pub IsWithdrawnOrVoided : Option Wait → Type 0
+IsWithdrawnOrVoided None = ⊥
+IsWithdrawnOrVoided (Some x) = is_withdrawn_or_voided x.resolved ≡ true
 
 abbrev pub ChannelFactHolds : Shape → ChannelFact → State → Type 0
 -- at least capacity offers stood
@@ -141,7 +117,7 @@ ChannelFactHolds shape (ReceiverAt c q) s = stands_receiver q (s.channels c) ≡
 ChannelFactHolds shape (OfferAt c q) s = stands_offer q (s.channels c) ≡ true
 -- the next place is the mark; no offer below the mark is held with fewer than capacity offers before it
 ChannelFactHolds shape (NextIs c mark) s = (s.channels c).next ≡ mark
-ChannelFactHolds shape (NoneToAdmit c mark) s = owes_below mark (kind_at shape c) 0 (s.channels c).queue ≡ false
+ChannelFactHolds shape (NoneToAdmit c mark) s = owes_admission_below (kind_at shape c) mark 0 (s.channels c).queue ≡ false
 -- a kind that drops has at most capacity offers up to this place
 ChannelFactHolds shape (FitsUpTo c q) s = drops (kind_at shape c) (offers_up_to q (s.channels c).queue) ≡ false
 -- no offer stands at this place, or fewer than capacity offers before it, if the kind does not keep its latest
@@ -151,7 +127,7 @@ ChannelFactHolds shape (IsVoided c) s = (s.channels c).voided ≡ true
 ChannelFactHolds shape (NothingQueued c) s = (s.channels c).queue ≡ []
 ChannelFactHolds shape (IsResolved w) s = IsResolvedWait (s.waits w)
 -- the wait was withdrawn or voided
-ChannelFactHolds shape (TakenBack w) s = IsTakenBack (s.waits w)
+ChannelFactHolds shape (TakenBack w) s = IsWithdrawnOrVoided (s.waits w)
 
 -- ---- what else is told of the Jobs
 

@@ -1,34 +1,20 @@
 -- What admitting tells.
 use Rattle.std.specs.Prelude.{◌≡◌, ℕ, [], ◌∷◌, ◌++◌, Ok, Err, Result, refl}
-use Rattle.std.proofs.Common.{ap, ◌∙◌}
+use Rattle.std.proofs.Common.{ap}
 use Rattle.co_base.specs.declared.names.Memory.{Memory}
 use Rattle.channel_model.specs.declared.acts.Act.TheVariants.{Admit}
-use Rattle.channel_model.specs.Channels.{kind_at}
-use Rattle.channel_model.specs.Histories.{replay}
-use Rattle.channel_model.specs.Floors.{Floor, Looked, AtStep}
+use Rattle.channel_model.specs.Floors.{Looked, AtStep}
 use Rattle.channel_model.specs.Answers.{IsAdmittedBelow, MarkAnswer}
 use Rattle.call_meaning.specs.Telling.{on_channels, NextIs, NoneToAdmit}
-use Rattle.call_meaning.specs.Facts.{ChannelFactHolds}
 use Rattle.call_meaning.proofs.ChannelsHeard.{told_then}
 use Rattle.call_meaning.specs.ChannelCalls.{Admits}
 use Rattle.channel_calls.specs.Calls.{AdmittedAnswer, IsUntouched}
 use Rattle.channel_calls.specs.Parts.{AdmitsBelow, AdmittedBelowAnswer}
-use Rattle.channel_calls.proofs.OwedWords.{owed_below}
 use Rattle.channel_calls.proofs.Repeated.{Repeats, all_made, repeated_until, still_repeated}
 use Rattle.channel_calls.proofs.Untold.{told_seen, part_then}
 use Rattle.call_meaning.specs.Seen.{SeenOnChannels}
 use Rattle.channel_calls.proofs.Roomed.{IsRoomed}
 use Rattle.call_meaning.specs.Calls.{ToldOnChannels}
-
-none_below : (c mark : ℕ) (a b : Floor) → AtStep a b (IsAdmittedBelow a.shape c mark)
-    → AtStep a b (ChannelFactHolds a.shape (NoneToAdmit c mark))
-none_below c mark a b m = record {
-  moment = m.moment;
-  after = m.after;
-  before = m.before;
-  holds =
-      owed_below mark (kind_at a.shape c) 0 ((replay m.moment).channels c).queue ∙ m.holds;
-}
 
 pub admitted_below : {c mark n : ℕ} {a b d e : SeenOnChannels} → (h : Repeats (λ q. Admit c q) a b) → IsRoomed n b d
     → Looked b.who d.floor e.floor
@@ -37,7 +23,7 @@ pub admitted_below : {c mark n : ℕ} {a b d e : SeenOnChannels} → (h : Repeat
 admitted_below {c} {mark} {d = d} {e = e} h r look at w g = record {
   told = all_made (λ q. Admit c q) h.of ++ on_channels (NoneToAdmit c mark) ∷ [];
   goes = record { places = h.of; all = refl };
-  left = repeated_until (λ q. Admit c q) (NoneToAdmit c mark) h r look (none_below c mark d.floor e.floor at) w g;
+  left = repeated_until (λ q. Admit c q) (NoneToAdmit c mark) h r look at w g;
 }
 
 -- with the mark before

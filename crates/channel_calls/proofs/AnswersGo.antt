@@ -18,12 +18,10 @@ unsent_goes c v x _ IsUnsent.refused = PlainCall.refused (sends c v) (heard (Sen
 unsent_goes c v x _ (IsUnsent.voided q admits all h is) = PlainCall.offer_ends c v q admits _ all h EndsAtOnce.voided is
 
 pub closes_goes : (c v : ℕ) (first : Bool) (told : List Told) → ClosesBy c v first told → Closes c v told
-closes_goes c v _ _ (ClosesBy.now wakes h) = Closes.now wakes h
-closes_goes c v _ _ (ClosesBy.before u wakes h) = Closes.before u wakes h
+closes_goes c v first told h = h.closes
 
 pub cancels_goes : (c : ℕ) (first : Bool) (told : List Told) → CancelsBy c first told → CancelsChannel c told
-cancels_goes c _ _ (CancelsBy.now closes drains all h k is) = CancelsChannel.now closes drains all h k is
-cancels_goes c _ _ (CancelsBy.before closes drains all h k is) = CancelsChannel.before closes drains all h k is
+cancels_goes c first told h = h.cancels
 
 late_goes : (w : WaitId) (outcome : Settled) (admits : List Told) → is_given_up outcome ≡ true → Admits w.channel admits
     → GivesUp w (heard (Late w) ∷ made (Settle w outcome) ∷ admits)

@@ -81,8 +81,8 @@ none_woken c = record { places = []; all = refl }
 -- ---- close
 
 closes_by : (c v : ℕ) (first : Bool) (xs wakes : List Told) → ClosesOnce c v first xs → Wakes c wakes → ClosesBy c v first (xs ++ wakes)
-closes_by c v _ _ wakes ClosesOnce.now h = ClosesBy.now wakes h
-closes_by c v _ _ wakes (ClosesOnce.before u) h = ClosesBy.before u wakes h
+closes_by c v _ _ wakes ClosesOnce.now h = record { closes = Closes.now wakes h; by_this_call = refl }
+closes_by c v _ _ wakes (ClosesOnce.before u) h = record { closes = Closes.before u wakes h; by_this_call = refl }
 
 pub closed_all : {c v : ℕ} {first : Bool} {a b d : SeenOnChannels} → Legal d.floor.shape d.floor.seen → ClosedOnceAnswer c v a b (Ok first)
     → WokenAnswer c b d (Ok tt) → ClosedAnswer c v a d (Ok first)
@@ -135,8 +135,8 @@ none_drained c = record { drained = []; all = refl }
 
 cancels_by : (c : ℕ) (closed first : Bool) (xs drains : List Told) → ClosesBy c 0 closed xs → Drains c drains
     → CancelsBy c first (xs ++ (void_told c first ++ drains))
-cancels_by c closed true xs drains h m = CancelsBy.now xs drains (xs ++ made (Void c) ∷ drains) (closes_goes c 0 closed xs h) m refl
-cancels_by c closed false xs drains h m = CancelsBy.before xs drains (xs ++ drains) (closes_goes c 0 closed xs h) m refl
+cancels_by c closed true xs drains h m = record { cancels = CancelsChannel.now xs drains _ h.closes m refl; by_this_call = refl }
+cancels_by c closed false xs drains h m = record { cancels = CancelsChannel.before xs drains _ h.closes m refl; by_this_call = refl }
 
 pub cancelled_all : {c : ℕ} {closed first : Bool} {a b d e : SeenOnChannels} → Legal e.floor.shape e.floor.seen
     → ClosedAnswer c 0 a b (Ok closed)

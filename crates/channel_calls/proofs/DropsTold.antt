@@ -7,8 +7,8 @@ use Rattle.channel_model.specs.declared.acts.Act.{Act}
 use Rattle.channel_model.specs.declared.acts.Act.TheVariants.{Drop}
 use Rattle.channel_model.specs.declared.acts.Kind.{Kind}
 use Rattle.channel_model.specs.declared.acts.Kind.TheVariants.{Rendezvous, Buffered, Unlimited, Conflated, DropOldest, DropLatest, Signal}
-use Rattle.channel_model.specs.Channels.{Shape, kind_at, drops}
-use Rattle.channel_model.specs.Histories.{replay, acts_of, Legal}
+use Rattle.channel_model.specs.Channels.{Shape, kind_at}
+use Rattle.channel_model.specs.Histories.{acts_of, Legal}
 use Rattle.channel_model.specs.Floors.{Looked, Made, AtStep, Floor}
 use Rattle.channel_model.specs.Answers.{IsTrimmed, HasPut, is_put_at}
 use Rattle.channel_model.specs.Puts.{follows_put, after_put}
@@ -16,7 +16,6 @@ use Rattle.channel_model.proofs.Puts.{drop_follows, put_lasts}
 use Rattle.note_book.specs.Items.{channel_acts_in}
 use Rattle.call_meaning.specs.Telling.{on_channels, FitsUpTo, items_in}
 use Rattle.channel_calls.specs.Parts.{DropsAfterPut, DroppedAnswer}
-use Rattle.channel_calls.proofs.OwedWords.{up_to}
 use Rattle.channel_calls.proofs.Repeated.{Repeats, all_made, repeated_until, still_repeated}
 use Rattle.call_meaning.specs.Seen.{SeenOnChannels}
 use Rattle.channel_calls.proofs.Roomed.{IsRoomed}
@@ -85,17 +84,14 @@ put_still c place {a = a} {b = b} {d = d} h r put =
 pub dropped_all : {c place n : ℕ} {a b d e : SeenOnChannels} → (h : Repeats (drop_of c) a b) → IsRoomed n b d → Looked b.who d.floor e.floor
     → AtStep d.floor e.floor (IsTrimmed d.floor.shape c place) → e.who ≡ b.who → e.items ≡ d.items
     → AllFollow (kind_at a.floor.shape c) c place h.of → DroppedAnswer c place a e (Ok tt)
-dropped_all {c} {place} {a = a} {d = d} h r look at w g follow =
-    let fits = ap (drops (kind_at d.floor.shape c)) (up_to place ((replay at.moment).channels c).queue) ∙ at.holds in
-    record {
-      told = all_made (drop_of c) h.of ++ on_channels (FitsUpTo c place) ∷ [];
-      goes = record {
-        drops = record { dropped = h.of; all = refl };
-        acts = acts_follow (kind_at a.floor.shape c) c place h.of follow;
-      };
-      left = repeated_until (drop_of c) (FitsUpTo c place) h r look
-          (record { moment = at.moment; after = at.after; before = at.before; holds = fits }) w g;
-    }
+dropped_all {c} {place} {a = a} h r look at w g follow = record {
+  told = all_made (drop_of c) h.of ++ on_channels (FitsUpTo c place) ∷ [];
+  goes = record {
+    drops = record { dropped = h.of; all = refl };
+    acts = acts_follow (kind_at a.floor.shape c) c place h.of follow;
+  };
+  left = repeated_until (drop_of c) (FitsUpTo c place) h r look at w g;
+}
 
 -- no memory was found
 pub drops_stopped : {c place : ℕ} {a b d : SeenOnChannels} (m : Memory) → (h : Repeats (drop_of c) a b)

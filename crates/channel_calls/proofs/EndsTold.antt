@@ -20,7 +20,7 @@ use Rattle.channel_model.proofs.Spans.{prefix_self}
 use Rattle.channel_model.proofs.Others.{others_keep, unsettled_stays}
 use Rattle.note_book.specs.declared.book.Item.TheVariants as item
 use Rattle.call_meaning.specs.Telling.{Told, TakenBack, made, heard}
-use Rattle.call_meaning.specs.Facts.{IsTakenBack, is_taken_back, ChannelNoteHolds}
+use Rattle.call_meaning.specs.Facts.{IsWithdrawnOrVoided, is_withdrawn_or_voided, ChannelNoteHolds}
 use Rattle.call_meaning.specs.Calls.{ToldOnChannels}
 use Rattle.call_meaning.specs.ChannelCalls.{Admits, is_given_up}
 use Rattle.call_meaning.proofs.ChannelsHeard.{told_then, told_made_after, told_met, moment_before}
@@ -38,7 +38,7 @@ use Rattle.note_book.specs.declared.book.Item.{Item}
 -- ---- a wait that is settled
 
 -- a wait that ends as cancelled though its Job was not had been withdrawn or voided
-back_resolution : (how : Resolution) → outcome_of how false ≡ settled.Cancelled → is_taken_back (Some how) ≡ true
+back_resolution : (how : Resolution) → outcome_of how false ≡ settled.Cancelled → is_withdrawn_or_voided (Some how) ≡ true
 back_resolution (resolved.Handed k v) e = cc
 back_resolution (resolved.Taken k) e = cc
 back_resolution (resolved.Admitted k) e = cc
@@ -46,11 +46,11 @@ back_resolution (resolved.Closed k v) e = cc
 back_resolution (resolved.Withdrawn why) e = refl
 back_resolution resolved.Voided e = refl
 
-back_how : (how : Option Resolution) → outcome_of_some false how ≡ Some settled.Cancelled → is_taken_back how ≡ true
+back_how : (how : Option Resolution) → outcome_of_some false how ≡ Some settled.Cancelled → is_withdrawn_or_voided how ≡ true
 back_how None e = cc
 back_how (Some how) e = let k : outcome_of how false ≡ settled.Cancelled = cc in back_resolution how k
 
-back_wait : (x : Option Wait) → outcome_at false x ≡ Some settled.Cancelled → IsTakenBack x
+back_wait : (x : Option Wait) → outcome_at false x ≡ Some settled.Cancelled → IsWithdrawnOrVoided x
 back_wait None e = cc
 back_wait (Some x) e = back_how x.resolved e
 
@@ -59,7 +59,8 @@ pub end_is_told : {w : WaitId} (cancelled : Bool) (outcome : Settled) {a b : See
     → b.who ≡ a.who → b.items ≡ a.items ++ settle_group w outcome → ToldOnChannels a b (end_told w cancelled outcome)
 end_is_told {w} false settled.Cancelled {a} {b} s e f =
     let act : Act = Settle w settled.Cancelled in
-    let at = moment_before a.who act a.floor b.floor (λ t. IsTakenBack (t.waits w)) s.0 (back_wait ((replay a.floor.seen).waits w) s.1) in
+    let at = moment_before a.who act a.floor b.floor (λ t. IsWithdrawnOrVoided (t.waits w)) s.0
+    (back_wait ((replay a.floor.seen).waits w) s.1) in
     told_made_after (TakenBack w) act s.0 (λ t. tt) at e f
 end_is_told false (settled.Value n v) s e f = settle_told s.0 e f
 end_is_told false (settled.Sent n) s e f = settle_told s.0 e f

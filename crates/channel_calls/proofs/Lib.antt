@@ -1,6 +1,5 @@
 pub mod Roomed
 pub mod Untold
-pub mod OwedWords
 pub mod Repeated
 pub mod AdmitsTold
 pub mod DropsTold

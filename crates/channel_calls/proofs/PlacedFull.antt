@@ -5,7 +5,7 @@ use Rattle.std.proofs.Common.{sym, ◌∙◌, subst, arith, ⊎_elim}
 use Rattle.channel_model.specs.declared.acts.Act.TheVariants.{Admit, Offer}
 use Rattle.channel_model.specs.declared.acts.Entry.{Entry}
 use Rattle.channel_model.specs.declared.floor.WaitState.TheVariants as state
-use Rattle.channel_model.specs.Channels.{Shape, Wait, kind_at}
+use Rattle.channel_model.specs.Channels.{Shape, Wait}
 use Rattle.channel_model.specs.Histories.{replay, acts_of, Legal}
 use Rattle.channel_model.specs.Floors.{Floor, Made}
 use Rattle.channel_model.specs.Answers.{LookAnswer, IsFullAt, IsAdmittedBelow}
@@ -26,7 +26,6 @@ use Rattle.call_meaning.proofs.Tellings.{by_then}
 use Rattle.channel_calls.specs.Groups.{made_note}
 use Rattle.channel_calls.proofs.Begun.{offer_plain}
 use Rattle.channel_calls.proofs.HeardMoments.{noted_acts, no_jobs_noted}
-use Rattle.channel_calls.proofs.OwedWords.{owed_below}
 use Rattle.call_meaning.specs.Seen.{SeenOnChannels}
 
 -- ---- the last of what was told
@@ -48,7 +47,7 @@ admitted_after : (shape : Shape) (k c mark : ℕ) (now : Moment) (items : List I
 unfolding IsTrue
 admitted_after shape k c mark now items earlier xs (at, so, rest) =
     let r = last_holds shape k now items at xs (on_channels (NoneToAdmit c mark)) rest in
-    (at, r.0, so.not_before, r.1, r.2, so.holds, sym (owed_below mark (kind_at shape c) 0 ((replay r.0.channels).channels c).queue) ∙ r.3)
+    (at, r.0, so.not_before, r.1, r.2, so.holds, r.3)
 
 -- ---- the own offer was given its place
 

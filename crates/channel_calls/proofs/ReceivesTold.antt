@@ -11,11 +11,11 @@ use Rattle.channel_model.specs.declared.floor.TriedGot.TheVariants as tried
 use Rattle.channel_model.specs.Channels.{Shape}
 use Rattle.channel_model.specs.Histories.{replay, Legal}
 use Rattle.channel_model.specs.Floors.{Floor, AtStep}
-use Rattle.channel_model.specs.Answers.{GotAnswer, TriedGotAnswer, TakenFrom, ClosedWith, IsSpentForReceives, IsDrainedAndClosed, IsEmptyToTry}
+use Rattle.channel_model.specs.Answers.{GotAnswer, TriedGotAnswer, TakenFrom, ClosedWith, IsSpentForReceives, IsDrainedAndClosed}
 use Rattle.channel_model.proofs.Later.{closed_later}
 use Rattle.note_book.specs.declared.book.Item.TheVariants as item
 use Rattle.call_meaning.specs.Telling.{SpentForReceives, items_in, made, heard}
-use Rattle.call_meaning.specs.Facts.{ActHolds, IsDrained, IsEmptyNow}
+use Rattle.call_meaning.specs.Facts.{ActHolds, IsDrained}
 use Rattle.call_meaning.specs.Calls.{ToldOnChannels}
 use Rattle.call_meaning.specs.ChannelCalls.{Got, Closed, Waits, receives, wait_at, blocked, spent, Admits, AtOnce, Refused, PlainCall}
 use Rattle.call_meaning.proofs.ChannelsHeard.{told_then, told_made, told_met, told_met_after, moment_before}
@@ -118,10 +118,7 @@ module _ {c n : ℕ} {a b d : SeenOnChannels} (h : IsRoomed n a b) where
 
   pub empty : TriedGotAnswer a.who c b.floor d.floor tried.Empty → d.who ≡ a.who → d.items ≡ b.items ++ item.Channel (Empty c) ∷ []
       → ToldOnChannels a d (blocked (receives c) ∷ [])
-  empty o w f =
-      let m : AtStep b.floor d.floor (IsEmptyToTry c) = o.1 in
-      let is : IsEmptyNow c (replay m.moment) = record { is_open = m.holds.not_closed; nothing = m.holds.nothing } in
-      roomed h (told_met (Empty c) refl o.0 (record { moment = m.moment; after = m.after; before = m.before; holds = is }) w f)
+  empty o w f = roomed h (told_met (Empty c) refl o.0 o.1 w f)
 
   -- as a call or as a clause
   pub try_closed : (by : TriedAs) {x : ℕ} {note : ChannelNote} → note ≡ closed_note by (receives c) x → Legal d.floor.shape d.floor.seen

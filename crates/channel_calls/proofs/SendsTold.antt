@@ -10,11 +10,11 @@ use Rattle.channel_model.specs.declared.floor.TriedOffer.TheVariants as tried
 use Rattle.channel_model.specs.Channels.{kind_at}
 use Rattle.channel_model.specs.Histories.{replay}
 use Rattle.channel_model.specs.Floors.{Looked, Made, AtStep, Floor}
-use Rattle.channel_model.specs.Answers.{OfferAnswer, TriedOfferAnswer, HandedTo, ClosedWith, IsSpentForOffers, IsFullToTry}
+use Rattle.channel_model.specs.Answers.{OfferAnswer, TriedOfferAnswer, HandedTo, ClosedWith, IsSpentForOffers}
 use Rattle.channel_model.proofs.Spans.{prefix_self}
 use Rattle.note_book.specs.declared.book.Item.TheVariants as item
 use Rattle.call_meaning.specs.Telling.{on_channels, WasFull, SpentForOffers, made, heard}
-use Rattle.call_meaning.specs.Facts.{ActHolds, IsClosedWith, IsFullNow}
+use Rattle.call_meaning.specs.Facts.{ActHolds, IsClosedWith}
 use Rattle.call_meaning.specs.Calls.{ToldOnChannels}
 use Rattle.call_meaning.specs.ChannelCalls.{Done, sends, wait_at, blocked, spent, AtOnce, PlainCall}
 use Rattle.call_meaning.proofs.ChannelsHeard.{told_then, told_made, told_made_after, told_met, told_met_after, moment_before}
@@ -99,11 +99,7 @@ module _ (v : ℕ) {c n : ℕ} {a b d : SeenOnChannels} (h : IsRoomed n a b) whe
 
   pub full : TriedOfferAnswer a.who c v b.floor d.floor tried.Full → d.who ≡ a.who → d.items ≡ b.items ++ item.Channel (Full c v) ∷ []
       → ToldOnChannels a d (blocked (sends c v) ∷ [])
-  full o w f =
-      let m : AtStep b.floor d.floor (IsFullToTry b.floor.shape c) = o.1 in
-      let is : IsFullNow b.floor.shape c (replay m.moment) =
-      record { waits = m.holds.may_wait; is_open = m.holds.not_closed; nobody = m.holds.nobody; full = m.holds.full } in
-      roomed h (told_met (Full c v) refl o.0 (record { moment = m.moment; after = m.after; before = m.before; holds = is }) w f)
+  full o w f = roomed h (told_met (Full c v) refl o.0 o.1 w f)
 
   -- as a call or as a clause
   pub try_refused : (by : TriedAs) {x : ℕ} {note : ChannelNote} → note ≡ closed_note by (sends c v) x → ClosedWith a.who c x b.floor d.floor

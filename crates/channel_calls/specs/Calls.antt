@@ -4,9 +4,9 @@ use mathlib.Core.List.{IsPrefix}
 use Rattle.co_base.specs.declared.names.WaitId.{WaitId}
 use Rattle.co_base.specs.declared.names.Memory.{Memory}
 use Rattle.channel_model.specs.declared.acts.Act.{Act}
-use Rattle.channel_model.specs.declared.acts.Act.TheVariants.{Close, Void, Withdraw, Settle}
+use Rattle.channel_model.specs.declared.acts.Act.TheVariants.{Withdraw, Settle}
 use Rattle.channel_model.specs.declared.acts.ChannelNote.{ChannelNote}
-use Rattle.channel_model.specs.declared.acts.ChannelNote.TheVariants.{SendClosed, TrySendClosed, ReceiveClosed, TryReceiveClosed, AlreadyClosed, Late}
+use Rattle.channel_model.specs.declared.acts.ChannelNote.TheVariants.{SendClosed, TrySendClosed, ReceiveClosed, TryReceiveClosed, Late}
 use Rattle.channel_model.specs.declared.acts.Entry.{Entry}
 use Rattle.channel_model.specs.declared.acts.Kind.{Kind}
 use Rattle.channel_model.specs.declared.acts.Settled.{Settled}
@@ -23,7 +23,7 @@ use Rattle.note_book.specs.declared.book.Item.{Item}
 use Rattle.note_book.specs.Items.{channel_acts_in}
 use Rattle.call_meaning.specs.Telling.{Told, on_channels, TakenBack, items_in, made, heard}
 use Rattle.call_meaning.specs.Facts.{IsClosedWith}
-use Rattle.call_meaning.specs.ChannelCalls.{Answer, Done, Got, Closed, Waits, NoPlace, Call, sends, receives, wait_at, offer_told, blocked, spent, Admits, Overflows, Wakes, Drains, Closes, CancelsChannel, AtOnce, PlainCall, is_given_up}
+use Rattle.call_meaning.specs.ChannelCalls.{Answer, Done, Got, Closed, Waits, NoPlace, Call, sends, receives, wait_at, offer_told, blocked, spent, Admits, Overflows, Closes, CancelsChannel, AtOnce, PlainCall, is_given_up}
 use Rattle.call_meaning.specs.Prefixes.{PrefixOf}
 use Rattle.call_meaning.specs.Seen.{SeenOnChannels, seen_channels, state_in}
 use Rattle.call_meaning.specs.Calls.{ToldOnChannels}
@@ -215,21 +215,29 @@ AfterPutAnswer c place old new (Err m) = ToldPart (FollowsPut (kind_at old.floor
 
 -- ---- close and cancel
 
+-- by this call, not before
+abbrev pub closes_now : (c v : ℕ) (told : List Told) → Closes c v told → Bool
+closes_now c v _ (Closes.now wakes h) = true
+closes_now c v _ (Closes.before u wakes h) = false
+
 -- the channel was closed by this call, or had been closed; then no receiver stands
-pub data ClosesBy (c v : ℕ) : Bool → List Told → Type 0 where
-  now : (wakes : List Told) → Wakes c wakes → ClosesBy c v true (made (Close c v) ∷ wakes)
-  before : (u : ℕ) (wakes : List Told) → Wakes c wakes → ClosesBy c v false (heard (AlreadyClosed c u) ∷ wakes)
+pub record ClosesBy (c v : ℕ) (first : Bool) (told : List Told) : Type 0 where
+  pub closes : Closes c v told
+  pub by_this_call : closes_now c v told closes ≡ first
 
 abbrev pub ClosedAnswer : ℕ → ℕ → SeenOnChannels → SeenOnChannels → Result Bool Memory → Type 0
 ClosedAnswer c v old new (Ok first) = Tells (ClosesBy c v first) old new × IsSeenClosed c new.floor
 ClosedAnswer c v old new (Err m) = ToldPart (Closes c v) old new
 
+-- by this call, not before
+abbrev pub cancels_now : (c : ℕ) (told : List Told) → CancelsChannel c told → Bool
+cancels_now c told (CancelsChannel.now closes drains _ h m is) = true
+cancels_now c told (CancelsChannel.before closes drains _ h m is) = false
+
 -- the channel was closed with 0, or had been; then it was voided by this call, or had been, and no element is left
-pub data CancelsBy (c : ℕ) : Bool → List Told → Type 0 where
-  now : (closes drains all : List Told) → Closes c 0 closes → Drains c drains
-      → all ≡ closes ++ made (Void c) ∷ drains → CancelsBy c true all
-  before : (closes drains all : List Told) → Closes c 0 closes → Drains c drains → all ≡ closes ++ drains
-      → CancelsBy c false all
+pub record CancelsBy (c : ℕ) (first : Bool) (told : List Told) : Type 0 where
+  pub cancels : CancelsChannel c told
+  pub by_this_call : cancels_now c told cancels ≡ first
 
 abbrev pub CancelledChannelAnswer : ℕ → SeenOnChannels → SeenOnChannels → Result Bool Memory → Type 0
 CancelledChannelAnswer c old new (Ok first) = Tells (CancelsBy c first) old new × IsSeenVoided c new.floor

@@ -1,7 +1,7 @@
 -- At the end of a run no receiver stands on a closed channel, and no offer on a voided one.
 use Rattle.script_grammar.proofs.Truths.{both_true}
-use Rattle.std.proofs.Common.{◌≡◌, ℕ, ◌<◌, ◌≤◌, arith, length, Bool, true, false, not, ◌&&◌, List, [], ◌∷◌, ◌++◌, filter, refl, ap, sym, ◌∙◌, subst, Option, Some, None, if◌then◌else◌}
-use Rattle.std.specs.Prelude.{◌==◌, ◌||◌, ◌+◌, is_some, nat_le}
+use Rattle.std.proofs.Common.{◌≡◌, ℕ, ◌<◌, ◌≤◌, arith, Bool, true, false, not, ◌&&◌, List, [], ◌∷◌, ◌++◌, filter, refl, ap, sym, ◌∙◌, subst, Option, Some, None, if◌then◌else◌}
+use Rattle.std.specs.Prelude.{◌==◌, ◌||◌, ◌+◌, is_some, nat_le, cond}
 use Rattle.std.proofs.lemmas.Bool.{eqb-true, or_right}
 use Rattle.std.proofs.lemmas.Bool.Decides.{nat_tests}
 use Rattle.co_base.specs.declared.names.WaitId.{WaitId}
@@ -20,10 +20,9 @@ use Rattle.channel_model.specs.Effects.{after, put_channel, is_held_by, resolve,
 use Rattle.channel_model.specs.Needs.{Needs}
 use Rattle.channel_model.specs.Histories.{replay, Legal}
 use Rattle.channel_model.proofs.Sound.{sound}
-use Rattle.channel_model.specs.Owing.{stands_any, owes_spurn_at}
+use Rattle.channel_model.specs.Owing.{stands_any, owes_spurn_at, offers_up_to}
 use Rattle.job_model.specs.declared.acts.JobEntry.{JobEntry}
 use Rattle.note_book.specs.declared.book.Item.{Item}
-use Rattle.call_meaning.specs.Facts.{offers_up_to}
 use Rattle.call_meaning.specs.Telling.{Told, NoReceiver, NothingQueued}
 use Rattle.script_grammar.specs.Programs.{Program}
 use Rattle.script_meaning.specs.Shapes.{floor_shape}
@@ -40,18 +39,11 @@ unfoldable pub AllBefore : ℕ → List Standing → Type 0
 AllBefore n [] = Unit {0}
 AllBefore n (o ∷ os) = (o.place < n) × AllBefore n os
 
-abbrev pub up : ℕ → Standing → Bool
-up q o = nat_le o.place q
+as_many_more : (n a b : ℕ) → a ≤ b → n + a ≤ n + b
+as_many_more n a b h = omega (arith, h)
 
--- one more or none
-more_or_same : (c : Bool) (o o' : Standing) (F G : List Standing) → length F ≤ length G
-    → length (if c then o ∷ F else F) ≤ length (if c then o' ∷ G else G)
-more_or_same true o o' F G h = omega arith
-more_or_same false o o' F G h = h
-
-not_more : (c : Bool) (o : Standing) (F G : List Standing) → length F ≤ length G → length F ≤ length (if c then o ∷ G else G)
-not_more true o F G h = omega arith
-not_more false o F G h = h
+some_more : (n a b : ℕ) → a ≤ b → a ≤ n + b
+some_more n a b h = omega (arith, h)
 
 pub filtered_up_to : (test : Standing → Bool) (q : ℕ) (os : List Standing) → offers_up_to q (filter test os) ≤ offers_up_to q os
 filtered_up_to test q [] = omega arith
@@ -59,8 +51,8 @@ filtered_up_to test q (o ∷ os) = at (filtered_up_to test q os) (test o)
   where
     at : offers_up_to q (filter test os) ≤ offers_up_to q os → (b : Bool)
         → offers_up_to q (if b then o ∷ filter test os else filter test os) ≤ offers_up_to q (o ∷ os)
-    at h true = more_or_same (up q o) o o (filter (up q) (filter test os)) (filter (up q) os) h
-    at h false = not_more (up q o) o (filter (up q) (filter test os)) (filter (up q) os) h
+    at h true = as_many_more (cond (nat_le o.place q) 1 0) _ _ h
+    at h false = some_more (cond (nat_le o.place q) 1 0) _ _ h
 
 filtered_places : (test : Standing → Bool) (n : ℕ) (os : List Standing) → AllBefore n os → AllBefore n (filter test os)
 unfolding AllBefore
@@ -77,8 +69,8 @@ admitted_up_to p q (o ∷ os) = at (admitted_up_to p q os) (o.place == p)
   where
     at : offers_up_to q (admitted p os) ≤ offers_up_to q os → (b : Bool)
         → offers_up_to q (if b then record o { holder = None } ∷ os else o ∷ admitted p os) ≤ offers_up_to q (o ∷ os)
-    at h true = more_or_same (up q o) (record o { holder = None }) o (filter (up q) os) (filter (up q) os) (omega arith)
-    at h false = more_or_same (up q o) o o (filter (up q) (admitted p os)) (filter (up q) os) h
+    at h true = omega arith
+    at h false = as_many_more (cond (nat_le o.place q) 1 0) _ _ h
 
 admitted_places : (p n : ℕ) (os : List Standing) → AllBefore n os → AllBefore n (admitted p os)
 unfolding AllBefore
@@ -235,7 +227,7 @@ some_stands q o os e = ap stands_any e
 
 rest_up_to : (qs : List Standing) (o : Standing) (os : List Standing) (q : ℕ) → qs ≡ o ∷ os → offers_up_to q os ≤ offers_up_to q qs
 rest_up_to qs o os q e = subst (λ l. offers_up_to q os ≤ offers_up_to q l) (sym e)
-    (not_more (up q o) o (filter (up q) os) (filter (up q) os) (omega arith))
+    (some_more (cond (nat_le o.place q) 1 0) (offers_up_to q os) (offers_up_to q os) (omega arith))
 
 rest_places : (qs : List Standing) (o : Standing) (os : List Standing) (n : ℕ) → qs ≡ o ∷ os → AllBefore n qs → AllBefore n os
 unfolding AllBefore

@@ -19,7 +19,7 @@ use Rattle.note_book.specs.declared.book.Item.TheVariants as item
 use Rattle.note_book.specs.Items.{channel_acts_in}
 use Rattle.note_book.proofs.Appended.{channel_acts_in-append}
 use Rattle.call_meaning.specs.Telling.{Told, note, on_channels, on_jobs, items_in}
-use Rattle.call_meaning.specs.Facts.{IsTakenBack}
+use Rattle.call_meaning.specs.Facts.{IsWithdrawnOrVoided}
 use Rattle.call_meaning.specs.ChannelCalls.{is_given_up}
 use Rattle.call_meaning.specs.Stories.{Moment, beginning, IsTrue, with_told, story_of}
 use Rattle.script_grammar.specs.Programs.{Program}
@@ -79,11 +79,12 @@ module _ (shape : Shape) (k : ℕ) (now : Moment) (l : Legal shape now.channels)
 
   -- where the wait was taken back, it may end as cancelled
   back : (u w : WaitId) (outcome : Settled) (notes : List Item)
-      → item.Channel (of_channel.Made (Settle u settled.Cancelled)) ≡ settle_note w outcome → IsTakenBack ((replay now.channels).waits u)
+      → item.Channel (of_channel.Made (Settle u settled.Cancelled)) ≡ settle_note w outcome
+      → IsWithdrawnOrVoided ((replay now.channels).waits u)
       → Given w outcome notes
   back u w outcome notes e b =
       let s = settled_same w u outcome settled.Cancelled e in
-      subst (λ x. Given w x notes) s.1 (MayGiveUp.taken_back (subst (λ x. IsTakenBack ((replay now.channels).waits x)) s.0 b))
+      subst (λ x. Given w x notes) s.1 (MayGiveUp.taken_back (subst (λ x. IsWithdrawnOrVoided ((replay now.channels).waits x)) s.0 b))
 
   -- where a cancellation was seen, it may end in any way
   seen : (u w : WaitId) (other outcome : Settled) (notes : List Item)

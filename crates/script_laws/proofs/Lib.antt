@@ -20,3 +20,4 @@ pub mod DoneReceivedOnce
 pub mod EndsToSee
 pub mod PlacesGiven
 pub mod NotSpent
+pub mod NobodyGoesOn

@@ -14,12 +14,12 @@ use Rattle.channel_model.specs.Channels.{Shape, State, Channel, start, kind_at, 
 use Rattle.channel_model.specs.Effects.{after}
 use Rattle.channel_model.specs.Needs.{Needs}
 use Rattle.channel_model.specs.Histories.{replay, Legal}
-use Rattle.channel_model.specs.Owing.{owes_admission}
+use Rattle.channel_model.specs.Owing.{owes_admission, owes_admission_below}
 use Rattle.job_model.specs.declared.acts.JobEntry.{JobEntry}
 use Rattle.note_book.specs.declared.book.Item.{Item}
 use Rattle.channel_model.proofs.Histories.{replay_push, Legal-prefix}
 use Rattle.channel_model.proofs.Later.{given_later}
-use Rattle.call_meaning.specs.Facts.{ChannelFactHolds, owes_below}
+use Rattle.call_meaning.specs.Facts.{ChannelFactHolds}
 use Rattle.call_meaning.specs.Telling.{Told, ChannelFact, on_channels, NextIs, NoneToAdmit, NothingQueued}
 use Rattle.script_grammar.specs.Programs.{Program}
 use Rattle.script_meaning.specs.Shapes.{floor_shape}
@@ -38,7 +38,7 @@ abbrev pub stands_held : ℕ → Standing → Bool
 stands_held q o = (o.place == q) && is_some o.holder
 
 abbrev pub owes_admit : Kind → ℕ → Channel → Bool
-owes_admit kind q ch = list_any (stands_held q) ch.queue && owes_below (q + 1) kind 0 ch.queue
+owes_admit kind q ch = list_any (stands_held q) ch.queue && owes_admission_below kind (q + 1) 0 ch.queue
 
 abbrev pub MayRaiseAdmit : ℕ → ℕ → Act → Type 0
 MayRaiseAdmit c q (Offer d r v w n) = (d ≡ c) × (r ≡ q)
@@ -113,12 +113,11 @@ mark_at shape k history c done later (y ∷ ys) so x =
 
 -- ---- what a lower mark says less
 
-lower_mark : (m q : ℕ) (kind : Kind) (n : ℕ) (os : List Standing) → q < m → owes_below m kind n os ≡ false
-    → owes_below (q + 1) kind n os ≡ false
-unfolding owes_below
+lower_mark : (m q : ℕ) (kind : Kind) (n : ℕ) (os : List Standing) → q < m → owes_admission_below kind m n os ≡ false
+    → owes_admission_below kind (q + 1) n os ≡ false
 lower_mark m q kind n [] h e = refl
 lower_mark m q kind n (o ∷ os) h e = at (is_some o.holder) (nat_lt o.place m) (nat_lt o.place (q + 1)) (is_full kind n)
-    (owes_below m kind (n + 1) os) (owes_below (q + 1) kind (n + 1) os) (λ t. grind (arith, nat_tests))
+    (owes_admission_below kind m (n + 1) os) (owes_admission_below kind (q + 1) (n + 1) os) (λ t. grind (arith, nat_tests))
     (λ t. lower_mark m q kind (n + 1) os h t) e
   where
     at : (a b b' f x y : Bool) → (b' ≡ true → b ≡ true) → (x ≡ false → y ≡ false) → ((a && (b && not f)) || x) ≡ false
@@ -148,10 +147,9 @@ held_before q n (o ∷ os) h e = at (o.place == q) (is_some o.holder) refl (λ t
 pub record HasRoomAt (kind : Kind) (n : ℕ) (os : List Standing) : Type 0 where
   pub place : ℕ
   pub stands : list_any (stands_held place) os ≡ true
-  pub owed : owes_below (place + 1) kind n os ≡ true
+  pub owed : owes_admission_below kind (place + 1) n os ≡ true
 
 some_room : (kind : Kind) (n : ℕ) (os : List Standing) → owes_admission kind n os ≡ true → HasRoomAt kind n os
-unfolding owes_below
 some_room kind n [] h = cc
 some_room kind n (o ∷ os) h = at (is_some o.holder) (is_full kind n) refl refl (λ t. some_room kind (n + 1) os t) h
   where
@@ -194,7 +192,7 @@ some_room kind n (o ∷ os) h = at (is_some o.holder) (is_full kind n) refl refl
 of_empty : (kind : Kind) (q : ℕ) (s : State) (c : ℕ) → (s.channels c).queue ≡ [] → owes_admit kind q (s.channels c) ≡ false
 of_empty kind q s c e = at (list_any (stands_held q) (s.channels c).queue) (ap (list_any (stands_held q)) e)
   where
-    at : (b : Bool) → b ≡ false → (b && owes_below (q + 1) kind 0 (s.channels c).queue) ≡ false
+    at : (b : Bool) → b ≡ false → (b && owes_admission_below kind (q + 1) 0 (s.channels c).queue) ≡ false
     at true h = cc
     at false h = refl
 

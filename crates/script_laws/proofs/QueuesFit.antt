@@ -1,6 +1,6 @@
 -- At the end of a run no channel has more elements than its kind keeps.
-use Rattle.std.proofs.Common.{◌≡◌, ℕ, zero, suc, ◌<◌, ◌≤◌, arith, length, Bool, true, false, ◌&&◌, List, [], ◌∷◌, ◌++◌, filter, refl, ap, sym, ◌∙◌, subst, Some, None, if◌then◌else◌}
-use Rattle.std.specs.Prelude.{◌==◌, ◌+◌, nat_le, nat_lt}
+use Rattle.std.proofs.Common.{◌≡◌, ℕ, zero, suc, ◌<◌, ◌≤◌, arith, length, Bool, true, false, ◌&&◌, List, [], ◌∷◌, ◌++◌, refl, ap, sym, ◌∙◌, subst, Some, None, if◌then◌else◌}
+use Rattle.std.specs.Prelude.{◌==◌, ◌+◌, nat_le, nat_lt, cond}
 use Rattle.std.proofs.lemmas.Bool.{eqb-true}
 use Rattle.std.proofs.lemmas.Bool.Decides.{nat_tests}
 use Rattle.channel_model.specs.declared.acts.Act.{Act}
@@ -12,12 +12,12 @@ use Rattle.channel_model.specs.declared.standing.Standing.{Standing}
 use Rattle.channel_model.specs.Channels.{Shape, State, Channel, kind_at, drops, suspends}
 use Rattle.channel_model.specs.Effects.{after, is_open, place_offer, place_receiver}
 use Rattle.channel_model.specs.Needs.{Needs}
+use Rattle.channel_model.specs.Owing.{offers_up_to}
 use Rattle.channel_model.specs.Histories.{replay, Legal}
 use Rattle.channel_model.specs.Laws.{Ascends}
 use Rattle.channel_model.proofs.InOrder.{replay_in_order}
 use Rattle.job_model.specs.declared.acts.JobEntry.{JobEntry}
 use Rattle.note_book.specs.declared.book.Item.{Item}
-use Rattle.call_meaning.specs.Facts.{offers_up_to}
 use Rattle.call_meaning.specs.Telling.{Told, FitsUpTo}
 use Rattle.script_grammar.specs.Programs.{Program}
 use Rattle.script_meaning.specs.Shapes.{floor_shape}
@@ -26,7 +26,7 @@ use Rattle.script_meaning.proofs.Debts.{part}
 use Rattle.script_meaning.proofs.ActsFollowed.{Follows}
 use Rattle.script_meaning.proofs.ChannelStories.{who_did, deed}
 use Rattle.script_laws.proofs.ChannelDebts.{CallDebt, BehindOf, CallPaidAt, by_fact, nobody_owes, needs_there}
-use Rattle.script_laws.proofs.ClosedChannels.{Less, AllBefore, up, less_after, contrary, and_true}
+use Rattle.script_laws.proofs.ClosedChannels.{Less, AllBefore, less_after, contrary, and_true}
 use Rattle.script_grammar.proofs.Truths.{both_true}
 
 -- place q was given out, and up to it more elements stand than the kind keeps
@@ -94,16 +94,10 @@ drop_by_less kind q a b h f t =
 last_up_to : (q : ℕ) (os : List Standing) (o : Standing) → nat_le o.place q ≡ false → offers_up_to q (os ++ o ∷ []) ≡ offers_up_to q os
 last_up_to q [] o h = at (nat_le o.place q) h
   where
-    at : (b : Bool) → b ≡ false → length (if b then o ∷ [] else []) ≡ 0
+    at : (b : Bool) → b ≡ false → cond b 1 0 + 0 ≡ 0
     at true h = cc
     at false h = refl
-last_up_to q (x ∷ os) o h = at (nat_le x.place q) (last_up_to q os o h)
-  where
-    at : (b : Bool) → offers_up_to q (os ++ o ∷ []) ≡ offers_up_to q os
-        → length (if b then x ∷ filter (up q) (os ++ o ∷ []) else filter (up q) (os ++ o ∷ [])) ≡
-        length (if b then x ∷ filter (up q) os else filter (up q) os)
-    at true h = ap (λ n. suc n) h
-    at false h = h
+last_up_to q (x ∷ os) o h = ap (λ n. cond (nat_le x.place q) 1 0 + n) (last_up_to q os o h)
 
 put_there : (kind : Kind) (q : ℕ) (o : Standing) (ch : Channel) → o.place ≡ ch.next → owes_drop kind q ch ≡ false
     → owes_drop kind q (place_offer true o ch) ≡ true → o.place ≡ q
@@ -225,8 +219,8 @@ all_up_to n [] h = refl
 all_up_to n (o ∷ os) h = at (nat_le o.place n) (let k : o.place < suc n = h.0 in grind (arith, nat_tests)) (all_up_to n os h.1)
   where
     at : (b : Bool) → b ≡ true → offers_up_to n os ≡ length os
-        → length (if b then o ∷ filter (up n) os else filter (up n) os) ≡ suc (length os)
-    at true e h = ap (λ m. suc m) h
+        → cond b 1 0 + offers_up_to n os ≡ suc (length os)
+    at true e h = omega (arith, h)
     at false e h = cc
 
 none_placed : (os : List Standing) → AllBefore 0 os → os ≡ []

@@ -18,11 +18,11 @@ use Rattle.channel_model.specs.declared.standing.Resolution.TheVariants as resol
 use Rattle.channel_model.specs.Channels.{Shape, State, Channel, kind_at, is_full, suspends, drops, spurns}
 use Rattle.channel_model.specs.Effects.{after, is_open, is_elsewhere, spurned, is_held_by, admitted, place_offer, place_receiver, put_channel, resolve_first, resolve_holder, with_queue, remove_first, resolve_offer}
 use Rattle.channel_model.specs.Needs.{Needs}
+use Rattle.channel_model.specs.Owing.{owes_admission_below}
 use Rattle.channel_model.specs.Histories.{replay, Legal}
 use Rattle.channel_model.specs.Laws.{Ascends as ChannelAscends}
 use Rattle.channel_model.proofs.InOrder.{replay_in_order}
 use Rattle.channel_model.proofs.Sound.{sound}
-use Rattle.call_meaning.specs.Facts.{owes_below}
 use Rattle.script_laws.proofs.ClosedChannels.{AllBefore, contrary, and_true}
 use Rattle.script_grammar.proofs.Truths.{both_true}
 use Rattle.script_laws.proofs.QueuesFit.{all_placed}
@@ -51,25 +51,26 @@ pub record FrontHasRoom (kind : Kind) (m n p : ℕ) : Type 0 where
   pub room : is_full kind n ≡ false
   pub low : p < m
 
-front : (kind : Kind) (m n p : ℕ) (os : List Standing) → AllBehind p os → owes_below m kind n os ≡ true → FrontHasRoom kind m n p
-unfolding AllBehind owes_below
+front : (kind : Kind) (m n p : ℕ) (os : List Standing) → AllBehind p os → owes_admission_below kind m n os ≡ true → FrontHasRoom kind m n p
+unfolding AllBehind
 front kind m n p [] h t = cc
 front kind m n p (o ∷ os) h t = at (is_some o.holder) (nat_lt o.place m) (is_full kind n) refl refl (λ e. front kind m (n + 1) p os h.1 e) t
   where
     later : FrontHasRoom kind m (n + 1) p → FrontHasRoom kind m n p
     later r = record { room = one_full kind n r.room; low = r.low }
 
-    at : (a b f : Bool) → nat_lt o.place m ≡ b → is_full kind n ≡ f → (owes_below m kind (n + 1) os ≡ true → FrontHasRoom kind m (n + 1) p)
-        → ((a && (b && not f)) || owes_below m kind (n + 1) os) ≡ true → FrontHasRoom kind m n p
+    at : (a b f : Bool) → nat_lt o.place m ≡ b → is_full kind n ≡ f
+        → (owes_admission_below kind m (n + 1) os ≡ true → FrontHasRoom kind m (n + 1) p)
+        → ((a && (b && not f)) || owes_admission_below kind m (n + 1) os) ≡ true → FrontHasRoom kind m n p
     at true true false b f rec t = record { room = f; low = let k : p < o.place = h.0 in grind (arith, nat_tests) }
     at true true true b f rec t = later (rec t)
     at true false f b e rec t = later (rec t)
     at false b f c e rec t = later (rec t)
 
 filtered_owes : (kind : Kind) (m n : ℕ) (test : Standing → Bool) (os : List Standing)
-    → ((o : Standing) → test o ≡ false → is_some o.holder ≡ true) → Ascends os → owes_below m kind n (filter test os) ≡ true
-    → owes_below m kind n os ≡ true
-unfolding Ascends owes_below
+    → ((o : Standing) → test o ≡ false → is_some o.holder ≡ true) → Ascends os → owes_admission_below kind m n (filter test os) ≡ true
+    → owes_admission_below kind m n os ≡ true
+unfolding Ascends
 filtered_owes kind m n test [] only a t = t
 filtered_owes kind m n test (o ∷ os) only a t = at (test o) refl (λ k e. filtered_owes kind m k test os only a.1 e) t
   where
@@ -83,14 +84,16 @@ filtered_owes kind m n test (o ∷ os) only a t = at (test o) refl (λ k e. filt
     all true false f x p q r = cc
     all false b f x p q r = cc
 
-    by_front : test o ≡ false → FrontHasRoom kind m n o.place → owes_below m kind n (o ∷ os) ≡ true
-    by_front e r = all (is_some o.holder) (nat_lt o.place m) (is_full kind n) (owes_below m kind (n + 1) os) (only o e)
+    by_front : test o ≡ false → FrontHasRoom kind m n o.place → owes_admission_below kind m n (o ∷ os) ≡ true
+    by_front e r = all (is_some o.holder) (nat_lt o.place m) (is_full kind n) (owes_admission_below kind m (n + 1) os) (only o e)
         (let k : o.place < m = r.low in grind (arith, nat_tests)) r.room
 
-    at : (b : Bool) → test o ≡ b → ((k : ℕ) → owes_below m kind k (filter test os) ≡ true → owes_below m kind k os ≡ true)
-        → owes_below m kind n (if b then o ∷ filter test os else filter test os) ≡ true → owes_below m kind n (o ∷ os) ≡ true
+    at : (b : Bool) → test o ≡ b → ((k : ℕ) → owes_admission_below kind m k (filter test os) ≡ true
+        → owes_admission_below kind m k os ≡ true)
+        → owes_admission_below kind m n (if b then o ∷ filter test os else filter test os) ≡ true
+        → owes_admission_below kind m n (o ∷ os) ≡ true
     at true e rec t = same_front (is_some o.holder && (nat_lt o.place m && not (is_full kind n)))
-        (owes_below m kind (n + 1) (filter test os)) (owes_below m kind (n + 1) os) (rec (n + 1)) t
+        (owes_admission_below kind m (n + 1) (filter test os)) (owes_admission_below kind m (n + 1) os) (rec (n + 1)) t
     at false e rec t = by_front e (front kind m n o.place os a.0 (rec n t))
 
 filtered_stands : (q : ℕ) (test : Standing → Bool) (os : List Standing) → list_any (stands_held q) (filter test os) ≡ true
@@ -109,8 +112,8 @@ filtered_stands q test (o ∷ os) t = at (test o) (λ e. filtered_stands q test 
     at false rec t = or_right (stands_held q o) (list_any (stands_held q) os) (rec t)
 
 -- an offer that is kept without a wait gives nobody room
-admitted_owes : (kind : Kind) (m n p : ℕ) (os : List Standing) → owes_below m kind n (admitted p os) ≡ true → owes_below m kind n os ≡ true
-unfolding owes_below
+admitted_owes : (kind : Kind) (m n p : ℕ) (os : List Standing) → owes_admission_below kind m n (admitted p os) ≡ true
+    → owes_admission_below kind m n os ≡ true
 admitted_owes kind m n p [] t = t
 admitted_owes kind m n p (o ∷ os) t = at (o.place == p) (λ e. admitted_owes kind m (n + 1) p os e) t
   where
@@ -118,17 +121,17 @@ admitted_owes kind m n p (o ∷ os) t = at (o.place == p) (λ e. admitted_owes k
     same_front true y z h t = refl
     same_front false y z h t = h t
 
-    at : (b : Bool) → (owes_below m kind (n + 1) (admitted p os) ≡ true → owes_below m kind (n + 1) os ≡ true)
-        → owes_below m kind n (if b then record o { holder = None } ∷ os else o ∷ admitted p os) ≡ true
-        → owes_below m kind n (o ∷ os) ≡ true
+    at : (b : Bool) → (owes_admission_below kind m (n + 1) (admitted p os) ≡ true → owes_admission_below kind m (n + 1) os ≡ true)
+        → owes_admission_below kind m n (if b then record o { holder = None } ∷ os else o ∷ admitted p os) ≡ true
+        → owes_admission_below kind m n (o ∷ os) ≡ true
     at true rec t = or_right _ _ t
-    at false rec t = same_front (is_some o.holder && (nat_lt o.place m && not (is_full kind n))) (owes_below m kind (n + 1) (admitted p os))
-        (owes_below m kind (n + 1) os) rec t
+    at false rec t = same_front (is_some o.holder && (nat_lt o.place m && not (is_full kind n)))
+        (owes_admission_below kind m (n + 1) (admitted p os))
+        (owes_admission_below kind m (n + 1) os) rec t
 
 -- a last offer that is not held, or stands at the mark or behind it, counts for nothing
 last_owes : (kind : Kind) (m n : ℕ) (os : List Standing) (o : Standing) → (is_some o.holder && nat_lt o.place m) ≡ false
-    → owes_below m kind n (os ++ o ∷ []) ≡ owes_below m kind n os
-unfolding owes_below
+    → owes_admission_below kind m n (os ++ o ∷ []) ≡ owes_admission_below kind m n os
 last_owes kind m n [] o h = at (is_some o.holder) (nat_lt o.place m) (is_full kind n) h
   where
     at : (a b f : Bool) → (a && b) ≡ false → ((a && (b && not f)) || false) ≡ false
@@ -247,8 +250,8 @@ tight_without kind w a = record {
   };
   owes = λ q h t.
       let r = both_true (list_any (stands_held q) (filter (λ (o : Standing). not (is_held_by w o.holder)) a.queue))
-      (owes_below (q + 1) kind 0 (filter (λ (o : Standing). not (is_held_by w o.holder)) a.queue)) t in
-      and_true (list_any (stands_held q) a.queue) (owes_below (q + 1) kind 0 a.queue)
+      (owes_admission_below kind (q + 1) 0 (filter (λ (o : Standing). not (is_held_by w o.holder)) a.queue)) t in
+      and_true (list_any (stands_held q) a.queue) (owes_admission_below kind (q + 1) 0 a.queue)
       (filtered_stands q (λ (o : Standing). not (is_held_by w o.holder)) a.queue r.0)
       (filtered_owes kind (q + 1) 0 (λ (o : Standing). not (is_held_by w o.holder)) a.queue (held_removed w) h.ascends r.1);
 }
@@ -275,8 +278,8 @@ tight_admitted : (kind : Kind) (p : ℕ) (a : Channel) → Tight kind a (record 
 tight_admitted kind p a = record {
   ordered = λ h. record { ascends = ascends_admitted p a.queue h.ascends; none = λ s. none_admitted p a.queue (h.none s) };
   owes = λ q h t.
-      let r = both_true (list_any (stands_held q) (admitted p a.queue)) (owes_below (q + 1) kind 0 (admitted p a.queue)) t in
-      and_true (list_any (stands_held q) a.queue) (owes_below (q + 1) kind 0 a.queue) (admitted_stands q p a.queue r.0)
+      let r = both_true (list_any (stands_held q) (admitted p a.queue)) (owes_admission_below kind (q + 1) 0 (admitted p a.queue)) t in
+      and_true (list_any (stands_held q) a.queue) (owes_admission_below kind (q + 1) 0 a.queue) (admitted_stands q p a.queue r.0)
       (admitted_owes kind (q + 1) 0 p a.queue r.1);
 }
 
@@ -343,7 +346,7 @@ same_owes shape s c q d ch e f t = at (d == c) refl t
     at : (b : Bool) → (d == c) ≡ b → owes_admit (kind_at shape c) q (if b then ch else s.channels c) ≡ true → ⊥
     at true k t = contrary (owes_admit (kind_at shape c) q (s.channels c))
         (subst (λ u. owes_admit (kind_at shape c) q (s.channels u) ≡ true) (eqb-true d c k)
-        (subst (λ l. (list_any (stands_held q) l && owes_below (q + 1) (kind_at shape c) 0 l) ≡ true) e t)) f
+        (subst (λ l. (list_any (stands_held q) l && owes_admission_below (kind_at shape c) (q + 1) 0 l) ≡ true) e t)) f
     at false k t = contrary (owes_admit (kind_at shape c) q (s.channels c)) t f
 
 no_holder : (q : ℕ) (o : Standing) → o.holder ≡ None → stands_held q o ≡ false
@@ -358,11 +361,11 @@ by_last : (kind : Kind) (q : ℕ) (b : Bool) (o : Standing) (ch : Channel) → A
     → stands_held q o ≡ false → owes_admit kind q ch ≡ false → owes_admit kind q (place_offer b o ch) ≡ true → ⊥
 by_last kind q false o ch p e n f t = contrary (owes_admit kind q ch) t f
 by_last kind q true o ch p e n f t =
-    let r = both_true (list_any (stands_held q) (ch.queue ++ o ∷ [])) (owes_below (q + 1) kind 0 (ch.queue ++ o ∷ [])) t in
+    let r = both_true (list_any (stands_held q) (ch.queue ++ o ∷ [])) (owes_admission_below kind (q + 1) 0 (ch.queue ++ o ∷ [])) t in
     let stands : list_any (stands_held q) ch.queue ≡ true = sym (last_stands q ch.queue o n) ∙ r.0 in
     let low : q < ch.next = held_before q ch.next ch.queue p stands in
     let high : nat_lt o.place (q + 1) ≡ false = grind (arith, nat_tests) in
-    contrary (owes_admit kind q ch) (and_true (list_any (stands_held q) ch.queue) (owes_below (q + 1) kind 0 ch.queue) stands
+    contrary (owes_admit kind q ch) (and_true (list_any (stands_held q) ch.queue) (owes_admission_below kind (q + 1) 0 ch.queue) stands
     (sym (last_owes kind (q + 1) 0 ch.queue o (both_false (is_some o.holder) (nat_lt o.place (q + 1)) high)) ∙ r.1)) f
   where
     both_false : (a b : Bool) → b ≡ false → (a && b) ≡ false
@@ -409,7 +412,7 @@ by_channel P d c f g = at (d == c) refl
 
 none_room : (kind : Kind) (q : ℕ) (ch : Channel) → NoneHeld ch.queue → owes_admit kind q ch ≡ true → ⊥
 none_room kind q ch n t = contrary (list_any (stands_held q) ch.queue)
-    (both_true (list_any (stands_held q) ch.queue) (owes_below (q + 1) kind 0 ch.queue) t).0 (no_stands q ch.queue n)
+    (both_true (list_any (stands_held q) ch.queue) (owes_admission_below kind (q + 1) 0 ch.queue) t).0 (no_stands q ch.queue n)
 
 dropping : (kind : Kind) (n : ℕ) → drops kind n ≡ true → suspends kind ≡ false
 dropping Rendezvous n d = cc

@@ -7,15 +7,17 @@
 //! - `nothing_is_owed_at_the_end`: there `Debts`, `Payments`, `ActsFollowed`, `ChannelStories`; here `ChannelDebts` (what is told of
 //!   channels), `ClosedChannels`, `QueuesFit`, `OffersAdmitted`, `RoomRaised`; `NothingOwed`.
 //! - `a_wait_is_given_up_behind_a_cancellation`: there `WaitsTold`; here `TakenBack`; `GivenUpWaits`.
+//! - `nobody_goes_on`: `NobodyGoesOn`.
 //!
 //! Others show what those who run a script need of all its books: that a coroutine claims what it attached (`RowsEntered`,
 //! `ClaimsAttached`), that a done channel is received from at most once by each coroutine (`DoneAsked`, `DonePlacesAsked`,
 //! `DoneReceivedOnce`, `EndsToSee`), and so has a place for each (`PlacesGiven`, `NotSpent`). `specs` has the words of it: `Counts`,
-//! `Owners`.
+//! `Owners`; and of what it is that a coroutine goes on: `GoingOn`.
 #![tactic(auto)]
 
 mod laws;
 
 pub use laws::{
-    a_run_is_at_rest, a_wait_is_given_up_behind_a_cancellation, nothing_is_owed_at_the_end,
+    a_run_is_at_rest, a_wait_is_given_up_behind_a_cancellation, nobody_goes_on,
+    nothing_is_owed_at_the_end,
 };

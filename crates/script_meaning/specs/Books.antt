@@ -98,6 +98,7 @@ pub record BooksOf (p : Program) (books : List (List Item)) (channels : List Ent
   pub ends_at : ℕ → Config
   pub runs : (k : ℕ) → k < coroutine_count p
       → Runs p k (record { channels = channels; jobs = jobs }) (book_at k books) (ends_at k)
-  -- right after each Finish comes the Close of its done channel
+  -- right after each Finish comes the Close of its done channel; where a script spells the program, this follows from the fields
+  -- above: the law `a_done_channel_is_closed_at_once` of `run_laws`
   pub closes : (k : ℕ) → ClosesAtOnce (base_of p) (book_at k books)
   pub no_refusal : (k : ℕ) → list_any (is_refusal (base_of p)) (book_at k books) ≡ false

@@ -62,6 +62,8 @@ pub record IsIdle (p : Program) (books : List (List Item)) (channels : List Entr
     (of : BooksOf p books channels jobs) (root : Option End) : Type 0 where
   pub left : (k : ℕ) → k < coroutine_count p
       → IsLeft k (of.ends_at k) (book_at k books) (replay channels) jobs (of.ends_at k).stage
+  -- follows from `of`: the law `nothing_is_owed_at_the_end` of `script_laws`
   pub nothing_owed : OwesNothing (floor_shape p) (replay channels)
+  -- follows from `of`: the law `a_run_is_at_rest` of `script_laws`
   pub rest : AtRest (replay_jobs jobs)
   pub ended : end_at (replay_jobs jobs 0) ≡ root

@@ -15,7 +15,7 @@ use Rattle.job_model.specs.Acts.{starts}
 use Rattle.job_model.specs.Laws.{has}
 use Rattle.note_book.specs.declared.book.Item.{Item}
 use Rattle.note_book.specs.declared.book.Item.TheVariants as item
-use Rattle.call_meaning.specs.Facts.{IsTakenBack}
+use Rattle.call_meaning.specs.Facts.{IsWithdrawnOrVoided}
 use Rattle.call_meaning.specs.ChannelCalls.{is_given_up}
 use Rattle.script_meaning.specs.declared.stage.Stage.{Stage}
 use Rattle.script_meaning.specs.declared.stage.Stage.TheVariants.{Fresh, Running, Waiting, SeesJob, Unwinding, Leaving, SeesScope, Ended}
@@ -58,7 +58,7 @@ pub data IsBehindSaw (w : WaitId) (notes : List Item) : Type 0 where
 -- the wait may be given up so after these notes
 pub data MayGiveUp (w : WaitId) (s : State) (notes : List Item) : Settled → Type 0 where
   -- it was withdrawn or voided
-  taken_back : IsTakenBack (s.waits w) → MayGiveUp w s notes Cancelled
+  taken_back : IsWithdrawnOrVoided (s.waits w) → MayGiveUp w s notes Cancelled
   -- a cancellation was seen
   after_saw : (outcome : Settled) → IsBehindSaw w notes → MayGiveUp w s notes outcome
 

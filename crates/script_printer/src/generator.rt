@@ -100,7 +100,7 @@ fn text_for(alloc: Global, n: u32) -> Result<Vec<u8>, AllocError>
 
 /// The script whose run adds up numbers: four coroutines send n elements each, which two others hand on and three add up.
 ///
-/// `n` is 1 to 100,000. The root's result is 10 n.
+/// `n` is 1 to 100,000. The root's expected result is 10 n.
 pub fn generate(alloc: Global, n: u32) -> Result<Script, AllocError>
     requires low { 1 ≤ n }
     requires high { n ≤ 100000 }

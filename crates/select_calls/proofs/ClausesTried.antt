@@ -2,11 +2,9 @@
 use Rattle.std.specs.Prelude.{◌≡◌, ℕ, true, [], ◌∷◌, Ok, refl}
 use Rattle.std.proofs.Common.{◌∙◌}
 use Rattle.channel_model.specs.declared.acts.ChannelNote.TheVariants.{Full, Empty}
-use Rattle.channel_model.specs.Histories.{replay}
 use Rattle.channel_model.specs.Floors.{AtStep}
 use Rattle.channel_model.proofs.Spans.{nothing_more}
 use Rattle.call_meaning.specs.Telling.{items_in}
-use Rattle.call_meaning.specs.Facts.{IsFullNow, IsEmptyNow}
 use Rattle.call_meaning.specs.ChannelCalls.{sends, receives, blocked, spent}
 use Rattle.call_meaning.specs.Seen.{SeenOnChannels}
 use Rattle.call_meaning.specs.Calls.{ToldOnChannels}
@@ -33,17 +31,12 @@ module _ {c : ℕ} {a d : SeenOnChannels} where
 
   pub full : {v : ℕ} → SendTriedAs tried_as.Clause c v a d (Ok try_send.Full) → TriedAnswer (sends c v) a d (Ok tried.Blocked)
   full {v} t =
-      let m : AtStep a.floor d.floor (IsFullNow a.floor.shape c) = heard_at (Full c v) t in
-      let at : IsFullNow a.floor.shape c (replay m.moment) = m.holds in
-      let so : AtStep a.floor d.floor (BlockedAt a.floor.shape (sends c v)) =
-      record {
-        moment = m.moment;
-        after = m.after;
-        before = m.before;
-        holds =
-            record { may_wait = at.waits; not_closed = at.is_open; nobody = at.nobody; full = at.full };
-      } in
-      (t, at.waits, λ alone. let same = full_same t alone in (same, still_so a.floor d.floor (BlockedAt a.floor.shape (sends c v)) so same))
+      let at : AtStep a.floor d.floor (BlockedAt a.floor.shape (sends c v)) = heard_at (Full c v) t in (
+        t,
+        at.holds.may_wait,
+        λ alone. let same = full_same t alone
+            in (same, still_so a.floor d.floor (BlockedAt a.floor.shape (sends c v)) at same),
+      )
 
   pub send_closed : {v x : ℕ} → SendTriedAs tried_as.Clause c v a d (Ok (try_send.Closed x))
       → TriedAnswer (sends c v) a d (Ok (tried.Ready (outcome.Closed x)))
@@ -64,12 +57,8 @@ module _ {c : ℕ} {a d : SeenOnChannels} where
 
   pub empty : ReceiveTriedAs tried_as.Clause c a d (Ok try_receive.Empty) → TriedAnswer (receives c) a d (Ok tried.Blocked)
   empty t =
-      let m : AtStep a.floor d.floor (IsEmptyNow c) = heard_at (Empty c) t in
-      let at : IsEmptyNow c (replay m.moment) = m.holds in
-      let so : AtStep a.floor d.floor (BlockedAt a.floor.shape (receives c)) =
-      record { moment = m.moment; after = m.after; before = m.before; holds = record { not_closed = at.is_open; nothing = at.nothing } }
-      in
-      (t, tt, λ alone. let same = empty_same t alone in (same, still_so a.floor d.floor (BlockedAt a.floor.shape (receives c)) so same))
+      let at : AtStep a.floor d.floor (BlockedAt a.floor.shape (receives c)) = heard_at (Empty c) t in
+      (t, tt, λ alone. let same = empty_same t alone in (same, still_so a.floor d.floor (BlockedAt a.floor.shape (receives c)) at same))
 
   pub receive_closed : {x : ℕ} → ReceiveTriedAs tried_as.Clause c a d (Ok (try_receive.Closed x))
       → TriedAnswer (receives c) a d (Ok (tried.Ready (outcome.Closed x)))

@@ -7,7 +7,7 @@ use Rattle.job_model.specs.declared.acts.End.{End}
 use Rattle.run_report.specs.Summaries.{result_text}
 use Rattle.tally_laws.specs.Counts.{Counts, received, undelivered, dropped, spurned, withdrawn, held}
 
--- so many elements were received, undelivered, dropped, withdrawn and are held
+-- so many elements were received, undelivered, dropped, withdrawn and are held; no kind of the first version spurns one
 abbrev pub first_numbers_text : ℕ → ℕ → ℕ → ℕ → ℕ → List ℕ
 first_numbers_text received undelivered dropped withdrawn held =
     concat (codes "received " ∷ decimal received

@@ -1,3 +1,4 @@
 pub mod Given
 pub mod SeatsTell
 pub mod NewSeats
+pub mod OneFate

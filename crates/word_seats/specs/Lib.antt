@@ -1,2 +1,3 @@
+pub mod HubFates
 pub mod Names
 pub mod Seats

@@ -15,15 +15,18 @@
 //! - `hub_seat`, `forest_seat`: a seat, and its calls.
 //! - `hub_meetings`, `forest_meetings`: how seats are split, met and ended.
 //! - `seating`: a seat for each of many tags.
+//! - `laws`: what holds of a hub between any two steps: that each element has at most one fate, proved in `proofs/OneFate.antt`.
 #![tactic(auto)]
 
 mod forest_meetings;
 mod forest_seat;
 mod hub_meetings;
 mod hub_seat;
+mod laws;
 mod names;
 mod seating;
 
 pub use forest_seat::{ForestSeat, ForestSeatAnchor};
 pub use hub_seat::{HubSeat, HubSeatAnchor};
+pub use laws::an_element_of_a_hub_has_at_most_one_fate;
 pub use names::{ForestName, HubName};
