@@ -275,7 +275,7 @@ drops_holds (DropOldest k) n e = refl
 drops_holds (DropLatest k) n e = cc
 drops_holds Signal n e = refl
 
-drops_keeps : (k : Kind) (n : ℕ) → drops k n ≡ true → (m : ℕ) → spurns k m ≡ false
+pub drops_keeps : (k : Kind) (n : ℕ) → drops k n ≡ true → (m : ℕ) → spurns k m ≡ false
 drops_keeps Rendezvous n e m = refl
 drops_keeps (Buffered k) n e m = refl
 drops_keeps Unlimited n e m = refl

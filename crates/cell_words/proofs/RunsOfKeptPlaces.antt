@@ -1,24 +1,28 @@
 -- A run of kept places: while an offer stands in it all behind stand, so that a walk may begin where the run ends.
-use Rattle.std.proofs.Common.{◌≡◌, ◌⊎◌, ℕ, zero, suc, ◌+◌, ◌-◌, ◌<◌, ◌≤◌, ◌==◌, Bool, true, List, [], ◌∷◌, ◌++◌, length, Option, Some, None, is_some, sym, refl, ap, ◌∙◌, subst, ⊎_elim, arith, eq-eqb, ne_eqb, MatchBool}
+use Rattle.std.proofs.Common.{◌≡◌, ◌⊎◌, ℕ, zero, suc, ◌+◌, ◌-◌, ◌<◌, ◌≤◌, ◌==◌, nat_lt, Bool, true, false, List, [], ◌∷◌, ◌++◌, length, Option, Some, None, is_some, sym, refl, ap, ◌∙◌, subst, ⊎_elim, arith, eq-eqb, ne_eqb, inl, MatchBool}
+use Rattle.std.proofs.lemmas.Bool.Decides.{nat_tests}
 use mathlib.Core.Logic.{dite}
-use native.Mathlib.Decide.{ℕ_discrete}
+use native.Mathlib.Decide.{ℕ_discrete, dec_le}
+use Rattle.co_base.specs.declared.names.WaitId.{WaitId}
 use Rattle.channel_model.specs.declared.acts.Act.TheVariants.{Put, Admit}
 use Rattle.channel_model.specs.declared.acts.Entry.{Entry}
 use Rattle.channel_model.specs.declared.acts.Kind.{Kind}
 use Rattle.channel_model.specs.declared.standing.Party.{Party}
 use Rattle.channel_model.specs.declared.standing.Standing.{Standing}
 use Rattle.channel_model.specs.declared.standing.Resolution.TheVariants as resolved
-use Rattle.channel_model.specs.Channels.{Shape, State, start, kind_at, suspends}
+use Rattle.channel_model.specs.Channels.{Shape, State, Wait, start, kind_at, drops, spurns}
 use Rattle.channel_model.specs.Effects.{after, resolve, resolve_holder, with_queue, put_wait, resolved_wait, admitted, holder_at}
 use Rattle.channel_model.specs.Needs.{MayBeAdmitted}
 use Rattle.channel_model.specs.Histories.{replay, replay_from, Legal, LegalFrom}
 use Rattle.channel_model.specs.Laws.{NoneBelow, IsResolvedAs}
 use Rattle.channel_model.proofs.Histories.{replay_push, LegalFrom-parts}
 use Rattle.channel_model.proofs.Waits.{at_wait}
-use Rattle.cell_words.specs.Cells.{offer, buffered, Board, board_of, cell_of, gather}
-use Rattle.cell_words.specs.Words.{WasKept, WereKept}
+use Rattle.cell_words.specs.declared.cell_word.CellWord.{CellWord}
+use Rattle.cell_words.specs.Cells.{Cell, free, receiver, offer, buffered, emptied, closed_by, voided_by, Board, board_of, cell_of, gather}
+use Rattle.cell_words.specs.Puts.{was_put}
+use Rattle.cell_words.specs.Words.{word_of_cell, WasKept, WereKept}
 use Rattle.cell_words.specs.Seen.{Seen, Sees, Makes, at_channel}
-use Rattle.cell_words.specs.Answers.{stands, Admits}
+use Rattle.cell_words.specs.Answers.{stands, IsCellWord, IsOver, Admits}
 use Rattle.cell_words.proofs.GatheredLists.{gather_in, gather_none}
 use Rattle.cell_words.proofs.ListsOfCells.{Tied, IsOffer, held, kept_here, standing_is, cell_here}
 use Rattle.cell_words.proofs.OffersAdmitted.{HeldAt, held_at}
@@ -26,6 +30,8 @@ use Rattle.cell_words.proofs.CellsTellFacts.{now, tied_now, none_offers}
 use Rattle.cell_words.proofs.CountsOfOffers.{count_next, count_up}
 use Rattle.cell_words.proofs.EntriesOnOneWord.{cells_push}
 use Rattle.cell_words.proofs.ExchangesTell.{before_legal}
+use Rattle.cell_words.proofs.KeptBehind.{drops_keeps}
+use Rattle.cell_words.proofs.OffersUpTo.{over_count}
 use Rattle.cell_words.proofs.PlacesWereKept.{were_kept_more}
 use Rattle.cell_words.proofs.WalksToAdmit.{Walked, one_kept, place_kept, walked_none, walked_kept}
 
@@ -48,6 +54,29 @@ pub put_kept : (who c p value : ℕ) (v w : Seen) → Makes v (record { who = wh
 put_kept who c p value v w m = let log = v.seen ++ m.others in let e : Entry = record { who = who; act = Put c p value } in
     one_kept w.seen c p (subst (λ (es : List Entry). WasKept (replay es).waits (cell_of es c p)) (sym m.now)
     (subst (WasKept (replay (log ++ e ∷ [])).waits) (sym (cells_push log e c p ∙ cell_here (board_of log).cells c p (buffered value))) tt))
+
+-- the cell's word says that an element was put
+put_cell : (waits : WaitId → Option Wait) (shape : Shape) (c p : ℕ) (x : Cell) → was_put (word_of_cell shape c p x).state ≡ true
+    → WasKept waits x
+put_cell waits shape c p free e = cc
+put_cell waits shape c p (receiver who w k) e = cc
+put_cell waits shape c p (offer v who w k) e = cc
+put_cell waits shape c p (buffered v) e = tt
+put_cell waits shape c p (emptied v) e = tt
+put_cell waits shape c p (closed_by v) e = cc
+put_cell waits shape c p (voided_by v) e = cc
+
+pub word_kept : (shape : Shape) (c p : ℕ) (log : List Entry) (word : CellWord) → IsCellWord shape c p log word
+    → was_put word.state ≡ true → WereKept log c p (p + 1)
+word_kept shape c p log word is h = one_kept log c p (put_cell (replay log).waits shape c p (cell_of log c p)
+    (sym (ap (λ (z : CellWord). was_put z.state) is.0) ∙ h))
+
+pub run_longer : (log : List Entry) (c from to : ℕ) → WereKept log c from to → WereKept log c to (to + 1) → WereKept log c from (to + 1)
+run_longer log c from to h one p le lt = dite (dec_le (p + 1) to) (λ before. h p le (omega (arith, before)))
+    (λ beyond. one p (omega (arith, beyond)) lt)
+
+pub run_shorter : (log : List Entry) (c from to n : ℕ) → n ≤ to → WereKept log c from to → WereKept log c from n
+run_shorter log c from to n less h p le lt = h p le (omega arith)
 
 -- an offer that is admitted is kept from then on
 admit_keeps : (b : Board) (kind : Kind) (c p : ℕ) → MayBeAdmitted kind p 0 (b.state.channels c).queue → Tied b
@@ -95,7 +124,7 @@ admit_kept shape who c p t v w l a = one_kept w.seen c p
 
 -- ---- a walk that begins where the run ends
 
-module _ (shape : Shape) (c low from to : ℕ) (kind : suspends (kind_at shape c) ≡ true) (log : List Entry) (l : Legal shape log)
+module _ (shape : Shape) (c low from to : ℕ) (never : (n : ℕ) → spurns (kind_at shape c) n ≡ false) (log : List Entry) (l : Legal shape log)
     (below : NoneBelow 0 low (at_channel log c)) (run : WereKept log c from to) where
   pub walked_run : from ≤ low → (d n : ℕ) → n ≡ low + d → n ≤ to → Walked c low n d log
   walked_run le zero n is within = let e : low ≡ n = omega arith
@@ -105,7 +134,7 @@ module _ (shape : Shape) (c low from to : ℕ) (kind : suspends (kind_at shape c
       let f : d + 1 ≡ suc d = omega arith in
       subst (λ (z : ℕ × ℕ). Walked c low z.0 z.1 log) (λ i. (e i, f i))
       (walked_kept c low (low + d) d log (omega arith) (walked_run le d (low + d) refl (omega arith))
-      (place_kept shape c (low + d) kind log l (cell_of log c (low + d)) refl (run (low + d) (omega arith) (omega arith))))
+      (place_kept shape c (low + d) never log l (cell_of log c (low + d)) refl (run (low + d) (omega arith) (omega arith))))
 
   -- at the run's end, or where it is not one of these places at the place itself
   pub walked_start : (first : ℕ) → low ≤ first → (first ≡ low) ⊎ ((from ≤ low) × (first ≤ to)) → Walked c low first (first - low) log
@@ -123,6 +152,26 @@ module _ (shape : Shape) (c low from to : ℕ) (kind : suspends (kind_at shape c
       let k = w.lower st in
       let m = count_up (stands log c) (low + most) (end - (low + most)) end (omega arith) in
       omega arith
+
+-- a channel that drops its oldest is over where its run has one place more than it keeps, or none stands at the first of these
+pub run_over : (shape : Shape) (c first from to most : ℕ) → ((n : ℕ) → drops (kind_at shape c) n ≡ nat_lt most n) → (log : List Entry)
+    → Legal shape log → NoneBelow 0 first (at_channel log c) → WereKept log c from to → from ≤ first → first + (most + 1) ≤ to
+    → IsOver shape c first log
+run_over shape c first from to most kind log l below run le within = go (stands log c first) refl
+  where
+    more : (n : ℕ) → n ≡ most + 1 → nat_lt most n ≡ true
+    more n e = grind (arith, nat_tests)
+
+    never : (n : ℕ) → spurns (kind_at shape c) n ≡ false
+    never = drops_keeps (kind_at shape c) (most + 1) (kind (most + 1) ∙ more (most + 1) refl)
+
+    go : (x : Option Standing) → stands log c first ≡ x → IsOver shape c first log
+    go None e = inl e
+    go (Some o) e =
+        let w = walked_run shape c first from to never log l below run le (most + 1) (first + (most + 1)) refl within in
+        let last : first + most < (at_channel log c).next = (let g = w.given in omega arith) in
+        over_count shape log l c (first + most) last first most kind
+        (run_stands shape c first from to never log l below run (most + 1) (first + most + 1) le within (omega arith) (ap is_some e))
 
 -- where none stands below, no more stand than there are places
 pub few_from : (shape : Shape) (c low : ℕ) (log : List Entry) → Legal shape log → NoneBelow 0 low (at_channel log c) → (d n : ℕ)

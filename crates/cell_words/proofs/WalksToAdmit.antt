@@ -175,44 +175,47 @@ pub one_kept : (log : List Entry) (c p : ℕ) → WasKept (replay log).waits (ce
 one_kept log c p h q le lt = let is : p ≡ q = omega arith in subst (λ (z : ℕ). WasKept (replay log).waits (cell_of log c z)) is h
 
 -- what a place tells that was kept once
-pub place_kept : (shape : Shape) (c p : ℕ) → suspends (kind_at shape c) ≡ true → (log : List Entry) → Legal shape log → (y : Cell)
-    → cell_of log c p ≡ y → WasKept (replay log).waits y → KeptHere c p log
-place_kept shape c p kind log l free e h = absurd h
-place_kept shape c p kind log l (receiver who w k) e h = absurd h
-place_kept shape c p kind log l (offer v who w k) e h = record {
+pub place_kept : (shape : Shape) (c p : ℕ) → ((n : ℕ) → spurns (kind_at shape c) n ≡ false) → (log : List Entry) → Legal shape log
+    → (y : Cell) → cell_of log c p ≡ y → WasKept (replay log).waits y → KeptHere c p log
+place_kept shape c p never log l free e h = absurd h
+place_kept shape c p never log l (receiver who w k) e h = absurd h
+place_kept shape c p never log l (offer v who w k) e h = record {
   kept = one_kept log c p (subst (WasKept (replay log).waits) (sym e) h);
   given = place_given shape c p log l (ap is_used e);
   nobody = ap (λ (z : Cell). waits_with (standing (replay log).waits p z)) e ∙ admitted_free p v k w ((replay log).waits w) h;
   behind = λ q le st. stands_kept (replay log).waits p (cell_of log c p) (subst (Keeps (replay log).waits) (sym e) h);
 }
-place_kept shape c p kind log l (buffered v) e h = record {
+place_kept shape c p never log l (buffered v) e h = record {
   kept = one_kept log c p (subst (WasKept (replay log).waits) (sym e) h);
   given = place_given shape c p log l (ap is_used e);
   nobody = ap (λ (z : Cell). waits_with (standing (replay log).waits p z)) e;
   behind = λ q le st. ap (λ (z : Cell). is_some (standing (replay log).waits p z)) e;
 }
-place_kept shape c p kind log l (emptied v) e h = record {
+place_kept shape c p never log l (emptied v) e h = record {
   kept = one_kept log c p (subst (WasKept (replay log).waits) (sym e) h);
   given = place_given shape c p log l (ap is_used e);
   nobody = ap (λ (z : Cell). waits_with (standing (replay log).waits p z)) e;
   behind = λ q le st. dite (ℕ_discrete q p) (λ (same : q ≡ p). subst (λ (z : ℕ). is_some (stands log c z) ≡ true) same st)
       (λ ne. absurd
-      (true≢false (sym st ∙ ap is_some (emptied_first shape c q p (omega arith) (waits_keeps (kind_at shape c) kind) log v l e))));
+      (true≢false (sym st ∙ ap is_some (emptied_first shape c q p (omega arith) never log v l e))));
 }
-place_kept shape c p kind log l (closed_by v) e h = absurd h
-place_kept shape c p kind log l (voided_by v) e h = absurd h
+place_kept shape c p never log l (closed_by v) e h = absurd h
+place_kept shape c p never log l (voided_by v) e h = absurd h
 
 pub kept_here : (shape : Shape) (c p v : ℕ) → suspends (kind_at shape c) ≡ true → (log : List Entry) → Legal shape log
     → cell_of log c p ≡ buffered v → KeptHere c p log
-kept_here shape c p v kind log l e = place_kept shape c p kind log l (buffered v) e tt
+kept_here shape c p v kind log l e = place_kept shape c p (waits_keeps (kind_at shape c) kind) log l (buffered v) e tt
 
 pub admitted_here : (shape : Shape) (c p : ℕ) (x : Waiter) → suspends (kind_at shape c) ≡ true → (log : List Entry) → Legal shape log
     → IsAdmitted shape c p x log → KeptHere c p log
 admitted_here shape c p x kind log l a = ⊎_elim
-    (λ (e : cell_of log c p ≡ offer x.value a.who a.wait x.clause). place_kept shape c p kind log l (offer x.value a.who a.wait x.clause) e
+    (λ (e : cell_of log c p ≡ offer x.value a.who a.wait x.clause). place_kept shape c p never log l (offer x.value a.who a.wait x.clause) e
     a.admitted)
-    (λ (e : cell_of log c p ≡ emptied x.value). place_kept shape c p kind log l (emptied x.value) e tt)
+    (λ (e : cell_of log c p ≡ emptied x.value). place_kept shape c p never log l (emptied x.value) e tt)
     a.cell
+  where
+    never : (n : ℕ) → spurns (kind_at shape c) n ≡ false
+    never = waits_keeps (kind_at shape c) kind
 
 -- ---- the walk
 

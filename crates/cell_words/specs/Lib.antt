@@ -5,6 +5,7 @@ pub mod Codes
 pub mod Hubs
 pub mod Looks
 pub mod Meetings
+pub mod Puts
 pub mod Removals
 pub mod Seen
 pub mod Sizes

@@ -125,8 +125,15 @@ pub(crate) fn first_not_kept(run: KeptRun, low: Place, most: u32) -> Place
     low + most
 }
 
-// Says that these places were kept.
-fn lift_run(hub: &Hub, pass: &mut Pass, who: Tag, c: ChannelId, from: Place, to: Place) -> KeptRun
+/// Says that these places were kept.
+pub(crate) fn lift_run(
+    hub: &Hub,
+    pass: &mut Pass,
+    who: Tag,
+    c: ChannelId,
+    from: Place,
+    to: Place,
+) -> KeptRun
     requires own { IsOwn hub.now pass.old who }
     requires channel { c < length (shape_of hub.now) }
     requires kept { WereKept (seen_by pass.old).seen c from to }

@@ -178,6 +178,11 @@ pub fn is_over(
     if mine < most {
         return false;
     }
+    let run = kept_run(hub, pass, who, c);
+    // Kept elements leave from the front alone: while the first stands, so do those of the run behind it.
+    if has_from(run, first, most + 1) {
+        return true;
+    }
     count_from(hub, pass, who, c, first, mine + 1, most + 1)
 }
 

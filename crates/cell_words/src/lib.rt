@@ -62,11 +62,13 @@
 //! seen. It is raised where the walk passed two places or more: each raise takes the counter's line from the other side, and a few places
 //! more to look at cost less than that.
 //!
-//! **The run** spares both walks the places that it has. It is that of a channel on which a send may wait. Kept elements leave it from
-//! the front alone: so while an offer stands in the run, all behind it stand, and nobody waits with one of them. Where the first that
-//! stands is in the run, and the run has as many places from there on as the channel keeps, the channel is full; a walk for an offer to
+//! **The run** spares both walks the places that it has, and the walk that looks whether a channel that drops its oldest keeps too many. It
+//! is that of a channel that is buffered, conflated or drops its oldest. Kept elements leave it from the front alone: so while an offer
+//! stands in the run, all behind it stand, and nobody waits with one of them. Where the first that stands is in the run, and the run has as
+//! many places from there on as the channel keeps, the channel is full; with one place more the oldest is dropped; a walk for an offer to
 //! admit begins where the run ends. A place that somebody gave up ends a run, and until the receivers have passed it the walks go on from
-//! there, or over all.
+//! there, or over all. Who puts an element first goes on with the run over the elements that others put behind it, since who put one may
+//! say so late, or not at all where another has said more.
 //!
 //! **The history.** It is that of the channels, a list of entries; all words are a function of it, except for the counters and the
 //! run (`Words` has it).

@@ -6,12 +6,13 @@ ghost use Rattle.cell_words.specs.declared.found.At.TheVariants as at;
 ghost use Rattle.cell_words.specs.Cells.{gather};
 ghost use Rattle.cell_words.specs.Words.{IsCell, WereKept};
 ghost use Rattle.cell_words.specs.Hubs.{shape_of, seen_by, IsOwn};
-ghost use Rattle.cell_words.specs.Seen.{at_channel};
+ghost use Rattle.cell_words.specs.Puts.{was_put};
+ghost use Rattle.cell_words.specs.Seen.{Sees, at_channel};
 ghost use Rattle.cell_words.specs.Answers.{stands, OfferAt, OfferHere, ReceiveAt, TriedReceiveAt};
 
-use crate::cell_word::CellState;
+use crate::cell_word::{CellState, CellWord};
 use crate::cells::{exchange_cell, kind_of, load_cell, places_of};
-use crate::counters::{KeptRun, kept_run, raise_run, receives_from};
+use crate::counters::{KeptRun, kept_run, lift_run, raise_run, receives_from};
 use crate::counting::has_room;
 use crate::found::At;
 use crate::hub::Hub;
@@ -97,6 +98,77 @@ fn say_kept(
     }
 }
 
+// Whether an element was put in a cell with this word.
+fn was_put(word: CellWord) -> bool
+    ensures { result ≡ was_put word.state }
+{
+    match word.state {
+        CellState::Buffered | CellState::Emptied => true,
+        CellState::Free
+        | CellState::Receiver
+        | CellState::Offer
+        | CellState::Closed
+        | CellState::Voided => false,
+    }
+}
+
+// Up to which place, from the run's end on and no further than this one, elements were put.
+fn put_until(
+    hub: &Hub,
+    pass: &mut Pass,
+    who: Tag,
+    c: ChannelId,
+    run: KeptRun,
+    place: Place,
+) -> Place
+    requires own { IsOwn hub.now pass.old who }
+    requires at { IsCell (shape_of hub.now) c place }
+    requires run { WereKept (seen_by pass.old).seen c run.from run.to }
+    ensures own { IsOwn hub.now pass.new who }
+    ensures sees { Sees (seen_by pass.old) (seen_by pass.new) }
+    ensures kept { WereKept (seen_by pass.new).seen c run.from result }
+{
+    for next in run.to..place {
+        let word = load_cell(hub, pass, who, c, next);
+        if !was_put(word) {
+            return next;
+        }
+    }
+    place
+}
+
+// Says that the run goes on up to a place, if it does.
+fn say_run(hub: &Hub, pass: &mut Pass, who: Tag, c: ChannelId, run: KeptRun, to: Place) -> KeptRun
+    requires own { IsOwn hub.now pass.old who }
+    requires channel { c < length (shape_of hub.now) }
+    requires run { WereKept (seen_by pass.old).seen c run.from run.to }
+    requires kept { WereKept (seen_by pass.old).seen c run.from to }
+    ensures own { IsOwn hub.now pass.new who }
+    ensures same { seen_by pass.new ≡ seen_by pass.old }
+    ensures kept { WereKept (seen_by pass.old).seen c result.from result.to }
+{
+    if to <= run.to {
+        return run;
+    }
+    lift_run(hub, pass, who, c, run.from, to)
+}
+
+// The run up to this place. Who put an element behind it may not have said so yet, so the run goes on where elements were put.
+fn run_up_to(hub: &Hub, pass: &mut Pass, who: Tag, c: ChannelId, place: Place) -> KeptRun
+    requires own { IsOwn hub.now pass.old who }
+    requires at { IsCell (shape_of hub.now) c place }
+    ensures own { IsOwn hub.now pass.new who }
+    ensures sees { Sees (seen_by pass.old) (seen_by pass.new) }
+    ensures kept { WereKept (seen_by pass.new).seen c result.from result.to }
+{
+    let run = kept_run(hub, pass, who, c);
+    if run.to >= place {
+        return run;
+    }
+    let to = put_until(hub, pass, who, c, run, place);
+    say_run(hub, pass, who, c, run, to)
+}
+
 // The same as `put_at`, and says that the place was kept, if the channel keeps only so many.
 #[inline(always)]
 fn keep_at(hub: &Hub, pass: &mut Pass, who: Tag, c: ChannelId, place: Place, value: Value) -> At
@@ -109,18 +181,13 @@ fn keep_at(hub: &Hub, pass: &mut Pass, who: Tag, c: ChannelId, place: Place, val
     ensures not_held { result ≢ at.Placed }
 {
     let counts = match kind_of(hub, c) {
-        Kind::Buffered(_) => true,
-        Kind::Rendezvous
-        | Kind::Unlimited
-        | Kind::Conflated
-        | Kind::DropOldest(_)
-        | Kind::DropLatest(_)
-        | Kind::Signal => false,
+        Kind::Buffered(_) | Kind::Conflated | Kind::DropOldest(_) => true,
+        Kind::Rendezvous | Kind::Unlimited | Kind::DropLatest(_) | Kind::Signal => false,
     };
     if !counts {
         return put_at(hub, pass, who, c, place, value);
     }
-    let run = kept_run(hub, pass, who, c);
+    let run = run_up_to(hub, pass, who, c, place);
     let low = receives_from(hub, pass, who, c);
     let put = put_at(hub, pass, who, c, place, value);
     say_kept(hub, pass, who, c, run, low, place, put);

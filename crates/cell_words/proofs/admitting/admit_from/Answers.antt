@@ -1,7 +1,8 @@
 use Rattle.std.proofs.Common.{◌+◌, sym, ap, subst, arith}
 use Rattle.channel_model.specs.declared.acts.Kind.{Kind}
-use Rattle.channel_model.specs.Channels.{suspends}
+use Rattle.channel_model.specs.Channels.{kind_at, suspends}
 use Rattle.cell_words.specs.Hubs.{shape_of}
+use Rattle.cell_words.proofs.KeptBehind.{waits_keeps}
 use Rattle.cell_words.proofs.LooksAtCells.{hub_legal, sees_then, below_seen}
 use Rattle.cell_words.proofs.RunsOfKeptPlaces.{run_seen, run_made, admit_kept, walked_start}
 use Rattle.cell_words.proofs.WalksToAdmit.{Walked, walked_seen, walked_kept, walked_gone, all_passed, all_given, within_places, sees_self, nothing_now, admits_seen, passed_low, room_by, full_by, search_told}
@@ -23,7 +24,8 @@ loop-place-init c =
     record {
       own = h.own;
       sees = sees_self v;
-      walked = walked_start shape c.args.c c.args.low _ _ (ap (λ (k : Kind). suspends k) c.requires.kind) v.seen l
+      walked = walked_start shape c.args.c c.args.low _ _ (waits_keeps (kind_at shape c.args.c)
+          (ap (λ (k : Kind). suspends k) c.requires.kind)) v.seen l
           (below_seen shape 0 c.args.low c.args.c c.args.pass.now.seat.me.0 v h.sees l c.requires.low) h.kept c.first_not_kept-first.result
           f.least f.run;
       least = f.least;

@@ -1,6 +1,8 @@
 use Rattle.std.proofs.Common.{◌-◌, true, arith}
+use Rattle.channel_model.specs.Channels.{kind_at}
 use Rattle.cell_words.specs.Hubs.{shape_of}
 use Rattle.cell_words.specs.Seen.{at_channel}
+use Rattle.cell_words.proofs.KeptBehind.{waits_keeps}
 use Rattle.cell_words.proofs.LooksAtCells.{hub_legal, sees_then, given_seen, below_seen}
 use Rattle.cell_words.proofs.WalksCount.{count_before, few_places, fewer_below}
 use Rattle.cell_words.proofs.WalksToAdmit.{sees_self, passed_low}
@@ -72,7 +74,8 @@ returns-then-has_from-clause-count c =
     let r = rw c.if-has_from.true at c.has_from.ensures in
     count_before shape c.args.c c.args.end c.args.most u v c.stands_at.new.pass.seat.me.0 s
     (hub_legal c.args.hub.now c.args.pass.now c.requires.own.0) l c.requires.given true
-    (run_stands shape c.args.c c.loop-low.low _ _ c.requires.kind v.seen l i.low i.run c.args.most c.args.end r.0 r.1
+    (run_stands shape c.args.c c.loop-low.low _ _ (waits_keeps (kind_at shape c.args.c) c.requires.kind) v.seen l i.low i.run c.args.most
+    c.args.end r.0 r.1
     (omega (arith, c.if-end-low.false, c.loop-low-test.true)) (rw c.if-stands_at.true at c.stands_at.ensures.stands))
 
 pub count_from-requires-clause-given : goal.count_from-requires-clause-given
