@@ -28,7 +28,8 @@ pub struct ListRun<B> {
 /// A turn polls the coroutine that stands first in a queue of tags, which begins with main and the spawned instances in their order. Who
 /// is woken is appended, and then the coroutine itself where it made a move and has not ended.
 ///
-/// The books are those of a run with these two histories, which came to rest; nobody can go on.
+/// The books are those of a run with these two histories, which came to rest; nobody can go on. Both histories have one order: that of
+/// the polls.
 pub fn run_one<B: Book, G: Gate>(
     alloc: Global,
     script: &Script,

@@ -1,0 +1,2 @@
+pub mod PointsNoted
+pub mod StaleAnswers

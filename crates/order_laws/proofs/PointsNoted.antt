@@ -1,0 +1,69 @@
+-- The point of an order at which a coroutine noted an item of its book; and of two points, one comes first.
+use Rattle.std.specs.Prelude.{◌≡◌, ◌⊎◌, List, [], ◌∷◌, ◌++◌, refl}
+use Rattle.std.proofs.Common.{ap, sym, ◌∙◌, subst, append_assoc, inl, inr, ⊎_elim}
+use Rattle.std.proofs.lemmas.List.{append-nil}
+use mathlib.Core.List.{IsPrefix}
+use Rattle.note_book.specs.declared.book.Item.{Item}
+use Rattle.call_meaning.specs.Telling.{Told, note, on_channels, on_jobs, items_in}
+use Rattle.call_meaning.specs.Stories.{Story}
+use Rattle.run_laws.specs.Orders.{Side, IsSoAlong, IsTrueAlong}
+use Rattle.run_laws.proofs.Prefixes.{prefix_then}
+
+-- ---- two points
+
+same_first : {A : Type 0} (x y : A) (xs ys : List A) → x ∷ xs ≡ y ∷ ys → x ≡ y
+same_first x y xs ys e = cc
+
+same_rest : {A : Type 0} (x y : A) (xs ys : List A) → x ∷ xs ≡ y ∷ ys → xs ≡ ys
+same_rest x y xs ys e = cc
+
+pub either_first : {A : Type 0} (xs ys zs : List A) → IsPrefix xs zs → IsPrefix ys zs → IsPrefix xs ys ⊎ IsPrefix ys xs
+either_first [] ys zs p q = inl (ys, refl)
+either_first (x ∷ xs) [] zs p q = inr (x ∷ xs, refl)
+either_first (x ∷ xs) (y ∷ ys) zs (a, e) (b, f) =
+    let both : x ∷ (xs ++ a) ≡ y ∷ (ys ++ b) = e ∙ sym f in
+    let first : x ≡ y = same_first x y (xs ++ a) (ys ++ b) both in
+    let rest : xs ++ a ≡ ys ++ b = same_rest x y (xs ++ a) (ys ++ b) both in
+    ⊎_elim
+    (λ (p : IsPrefix xs ys). inl (p.0, ap (λ l. x ∷ l) p.1 ∙ ap (λ z. z ∷ ys) first))
+    (λ (p : IsPrefix ys xs). inr (p.0, ap (λ l. y ∷ l) p.1 ∙ ap (λ z. z ∷ xs) (sym first)))
+    (either_first xs ys (ys ++ b) (a, rest) (b, refl))
+
+-- ---- the point of a note
+
+sooner : (s : Story) (order : List Side) (items : List Item) (earliest earlier : List Side) (told : Told) (point : List Side)
+    → IsPrefix earliest earlier → IsSoAlong s order items earlier told point → IsSoAlong s order items earliest told point
+sooner s order items earliest earlier told point p so = record {
+  not_before = prefix_then earliest earlier point p so.not_before;
+  not_after = so.not_after;
+  channel_acts = so.channel_acts;
+  job_acts = so.job_acts;
+  holds = so.holds;
+}
+
+-- what was noted after these items
+pub noted_at : (s : Story) (order : List Side) (items : List Item) (earlier : List Side) (told : List Told) (before : List Item) (i : Item)
+    (after : List Item) → items_in told ≡ before ++ i ∷ after → IsTrueAlong s order items earlier told
+    → (point : List Side) × IsSoAlong s order (items ++ before) earlier (note i) point
+unfolding items_in IsTrueAlong
+noted_at s order items earlier [] [] i after e t = cc
+noted_at s order items earlier [] (b ∷ before) i after e t = cc
+noted_at s order items earlier (note j ∷ told) [] i after e (at, so, rest) = (
+  at,
+  subst (λ l. IsSoAlong s order l earlier (note i) at) (sym (append-nil items))
+      (subst (λ k. IsSoAlong s order items earlier (note k) at) (same_first j i (items_in told) after e) so),
+)
+noted_at s order items earlier (note j ∷ told) (b ∷ before) i after e (at, so, rest) =
+    let r = noted_at s order (items ++ j ∷ []) at told before i after (same_rest j b (items_in told) (before ++ i ∷ after) e) rest in
+    let noted : (items ++ j ∷ []) ++ before ≡ items ++ b ∷ before = append_assoc items (j ∷ []) before
+    ∙ ap (λ k. items ++ k ∷ before) (same_first j b (items_in told) (before ++ i ∷ after) e) in (
+      r.0,
+      subst (λ l. IsSoAlong s order l earlier (note i) r.0) noted
+          (sooner s order ((items ++ j ∷ []) ++ before) earlier at (note i) r.0 so.not_before r.1),
+    )
+noted_at s order items earlier (on_channels fact ∷ told) before i after e (at, so, rest) =
+    let r = noted_at s order items at told before i after e rest in
+    (r.0, sooner s order (items ++ before) earlier at (note i) r.0 so.not_before r.1)
+noted_at s order items earlier (on_jobs fact ∷ told) before i after e (at, so, rest) =
+    let r = noted_at s order items at told before i after e rest in
+    (r.0, sooner s order (items ++ before) earlier at (note i) r.0 so.not_before r.1)
