@@ -1,9 +1,9 @@
 -- What is so of a pass after a whole call.
-use Rattle.std.specs.Prelude.{◌≡◌, ◌≢◌, ℕ, ◌%◌, ◌==◌, Bool, true, false, List, [], ◌∷◌, ◌++◌, MatchBool, refl}
+use Rattle.std.specs.Prelude.{◌≡◌, ℕ, ◌%◌, ◌==◌, Bool, true, false, List, [], MatchBool, refl}
 use Rattle.std.proofs.Common.{sym, ap, ◌∙◌, subst, arith, eq-eqb}
 use Rattle.worded.specs.Views.{has_tag}
 use Rattle.worded.specs.Exchanges.{Loaded, Entered}
-use Rattle.ring_channel.specs.declared.act.RingAct.TheVariants.{Put, Fill, Take, Free, Close}
+use Rattle.ring_channel.specs.declared.act.RingAct.TheVariants.{Close}
 use Rattle.ring_channel.specs.declared.act.RingEntry.{RingEntry}
 use Rattle.ring_channel.specs.declared.answers.RingSent.{RingSent}
 use Rattle.ring_channel.specs.declared.answers.RingSent.TheVariants as sent

@@ -1,8 +1,8 @@
-use Rattle.std.proofs.Common.{rules, false, true, sym, ap, ◌∙◌, subst, arith, get_or, set, get_or-set_other, get_or-set_same, mod-lt, refl, suc, ◌+◌, ◌%◌, ◌<◌, ◌≤◌, ◌≡◌}
+use Rattle.std.proofs.Common.{rules, false, sym, ap, ◌∙◌, subst, arith, get_or, set, get_or-set_other, get_or-set_same, mod-lt, refl, suc, ◌+◌, ◌%◌, ◌<◌, ◌≤◌, ◌≡◌}
 use mathlib.Core.Logic.{dite}
 use native.Mathlib.Decide.{ℕ_discrete}
 use lib.ListN.{get_elem?}
-use Rattle.std.specs.Mem.Slots.{slots_items, slots_filled, slots_counts, slots_len}
+use Rattle.std.specs.Mem.Slots.{slots_items, slots_filled, slots_counts}
 use Rattle.ring_channel.specs.Passes.{values_until}
 use Rattle.ring_channel.proofs.LeftInOrder.{each_slot, two_slots, lap_more}
 use Rattle.ring_channel.proofs.rest.move_rest.Goals as goal

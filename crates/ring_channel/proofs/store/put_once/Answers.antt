@@ -1,9 +1,8 @@
 use Rattle.std.proofs.Common.{ap, sym, ◌∙◌, ◌≡◌, subst, [], Some, None, refl, ◌+◌, ◌%◌, ◌/◌}
 use Rattle.ring_channel.specs.Seen.{own_tag}
 use Rattle.ring_channel.specs.Answers.{Adds, AtMoment, IsFull, WentOn, IsSent}
-use Rattle.ring_channel.specs.Seen.{now_in, entry_of}
-use Rattle.ring_channel.specs.declared.act.RingAct.TheVariants.{Put, Fill}
-use Rattle.ring_channel.proofs.StoreTells.{look, look_again, loaded_idle, idle_now, at_least, seated_same, seated_loaded, seated_made, claimed_of, not_claimed, own_put, put_full, put_passed, put_adds, put_sent, at_place, in_hand, exchanged, same_value}
+use Rattle.ring_channel.specs.Seen.{now_in}
+use Rattle.ring_channel.proofs.StoreTells.{look, look_again, loaded_idle, seated_same, seated_loaded, seated_made, claimed_of, not_claimed, own_put, put_full, put_passed, put_adds, put_sent, at_place, in_hand, exchanged, same_value}
 use Rattle.ring_channel.proofs.store.put_once.Goals as goal
 
 pub returns-then-stamp-place-clause-answer : goal.returns-then-stamp-place-clause-answer

@@ -1,4 +1,4 @@
-use Rattle.std.proofs.Common.{◌∙◌, sym, subst, ap, ◌≤◌, ◌<◌}
+use Rattle.std.proofs.Common.{◌∙◌, sym, subst, ap}
 use Rattle.std.specs.Mem.Slots.{slots_items}
 use Rattle.ring_channel.specs.Seen.{IsIdle, now_in}
 use Rattle.ring_channel.specs.Passes.{values_until, left_in}
