@@ -1,0 +1,13 @@
+//! Tests of rings: call by call, and by threads.
+//!
+//! - `ring_calls`: a ring with three passes, and what is left of it
+//! - `ring_rows`: call by call
+//! - `rings_at_once`: by a thread that sends and one that receives
+#![tactic(auto)]
+
+#[cfg(test)]
+mod ring_calls;
+#[cfg(test)]
+mod ring_rows;
+#[cfg(test)]
+mod rings_at_once;
