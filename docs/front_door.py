@@ -14,6 +14,9 @@ PAGE = "jisthrom runs small scripts"
 # Words that ./try takes.
 TWO_FILES = "run README.md README.md"
 
+# The crates of programs that a word starts where they are there.
+FURTHER = ["explain_run", "run_explore", "judge_run"]
+
 # A status, the words, and how standard output and standard error begin, with nothing built and no toolchain on the path. What follows the
 # words that are refused is the usage line of the program.
 WORDS = [
@@ -105,6 +108,13 @@ class Door:
         shutil.copy(program, os.path.join(out, crate))
         open(os.path.join(out, "built_by_jisthrom"), "w").close()
 
+    def place_all(self, programs):
+        for crate, program in programs.items():
+            if os.path.exists(program):
+                self.place(crate, program)
+            else:
+                self.differs(program, "is not built")
+
     def call(self, words, given=b"", name="jisthrom", environment=PLAIN):
         words = words.split() if isinstance(words, str) else words
         program = name if os.path.isabs(name) else os.path.join(self.folder, name)
@@ -130,9 +140,14 @@ def check_words(door):
         for status, words, written, said in WORDS:
             if name == "try" and words == TWO_FILES:
                 continue
-            begun = seconds()
-            ended, out, error = door.call(words, name=name)
-            took = seconds() - begun
+            took = 1.0
+            # On a machine that is busy a call may seem to take longer than it does.
+            for _ in range(5):
+                begun = seconds()
+                ended, out, error = door.call(words, name=name)
+                took = min(took, seconds() - begun)
+                if took < 0.1:
+                    break
             where = f"./{name} {words}"
             if ended != status or not out.startswith(written) or (out == "") != (written == ""):
                 door.differs(where, f"ends with {ended} and writes {out!r}, and not with {status} and {written!r}")
@@ -164,9 +179,9 @@ def check_version(door, top):
             door.differs("./jisthrom --version", f"says {said!r}, and the toolchain is {kit!r}")
 
 
-def check_programs(door, program, drawer, top):
+def check_programs(door, programs, top):
     """The words that start a program that was built."""
-    door.place("coroutine_cli", program)
+    door.place_all(programs)
     script = open(os.path.join(top, "examples", "rendezvous.co"), "rb").read()
     report = open(os.path.join(top, "examples", "rendezvous.report")).read()
     ran = (0, report, "")
@@ -184,9 +199,6 @@ def check_programs(door, program, drawer, top):
     status, out, error = door.call("run faulty.co")
     if (status, out) != (3, "line 2: UnknownWord\n") or not error.startswith("2 | recieve a\noutside a block"):
         door.differs("./jisthrom run of a faulty script", f"ends with {status}, {out!r} and {error!r}")
-    if drawer is None:
-        return
-    door.place("run_picture", drawer)
     picture = open(os.path.join(top, "examples", "rendezvous.svg")).read()
     drawn = (0, picture, "")
     door.wants("./jisthrom picture FILE", drawn, door.call("picture examples/rendezvous.report"))
@@ -279,11 +291,11 @@ def check_building(top):
         return door.found
 
 
-def differences(top, program, drawer):
+def differences(top, programs):
     with tempfile.TemporaryDirectory() as folder:
         door = Door(top, folder)
         if shutil.which("rt", path=PLAIN["PATH"]) is None:
             check_words(door)
         check_version(door, top)
-        check_programs(door, program, drawer, top)
+        check_programs(door, programs, top)
         return door.found + check_building(top)
