@@ -291,6 +291,18 @@ def check_building(top):
         return door.found
 
 
+def check_scripts(top):
+    """The scripts are `sh`, by the shell and, where it is there, by shellcheck."""
+    found = []
+    for name in ("jisthrom", "try", ".ci/run"):
+        for words in (["sh", "-n"], ["shellcheck", "-s", "sh"]):
+            if shutil.which(words[0]):
+                done = subprocess.run([*words, os.path.join(top, name)], stdout=subprocess.PIPE, stderr=subprocess.STDOUT)
+                if done.returncode or done.stdout:
+                    found.append(f"{' '.join(words)} {name}: {done.stdout.decode().strip()}")
+    return found
+
+
 def differences(top, programs):
     with tempfile.TemporaryDirectory() as folder:
         door = Door(top, folder)
@@ -298,4 +310,4 @@ def differences(top, programs):
             check_words(door)
         check_version(door, top)
         check_programs(door, programs, top)
-        return door.found + check_building(top)
+        return door.found + check_building(top) + check_scripts(top)
