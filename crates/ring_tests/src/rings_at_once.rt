@@ -10,7 +10,7 @@ use std::test::Fail;
 use std::thread::{Threads, join, yield_now};
 
 /// How many boxes are sent.
-const BOXES: u32 = 10_000;
+const BOXES: u32 = 2_000;
 
 /// How often a call is tried before its box is given up as lost.
 const TRIES: u32 = 10_000_000;
