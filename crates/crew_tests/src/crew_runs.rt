@@ -174,6 +174,17 @@ fn no_wake_is_lost_whose_ticket_another_displaces(rt: HostRuntime) -> Result<(),
 /// How often a poll looks whether another task was polled, before it gives up.
 const LOOKS: u32 = 1_000_000_000;
 
+/// What the word becomes, once it is not 0. 0: it did not within so many looks.
+fn set_within_looks(word: &AtomicU64) -> u64 {
+    for _ in 0..LOOKS {
+        let seen = word.load(Ordering::SeqCst);
+        if seen != 0 {
+            return seen;
+        }
+    }
+    0
+}
+
 /// The poll of task 0 lasts until task 1 was polled, which it wakes, if so told, before it waits.
 #[derive(Drop)]
 struct Waiting {
@@ -185,21 +196,17 @@ impl Polls<Counter> for Waiting {
     ghost may_poll = { λ s. Unit {0} };
 
     fn poll(&self, task: Counter, tickets: &mut Tickets) -> Result<(Counter, bool), Memory> {
-        let mut task = task;
-        if task.tag == 1 {
+        let Counter { tag, left, seen: _ } = task;
+        if tag == 1 {
             self.polled.store(1, Ordering::SeqCst);
-            return Ok((task, false));
+            let seen = 1;
+            return Ok((Counter { tag, left, seen }, false));
         }
         if self.wakes {
             tickets.wake(1);
         }
-        for _ in 0..LOOKS {
-            task.seen = self.polled.load(Ordering::SeqCst);
-            if task.seen != 0 {
-                break;
-            }
-        }
-        Ok((task, false))
+        let seen = set_within_looks(&self.polled);
+        Ok((Counter { tag, left, seen }, false))
     }
 }
 
