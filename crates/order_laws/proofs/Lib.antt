@@ -1,2 +1,3 @@
+pub mod PairsAccept
 pub mod PointsNoted
 pub mod StaleAnswers
