@@ -74,16 +74,16 @@ no_script : (s : Status) (command : Command) (source source' sink sink' : Stream
     → (number_of s == 3 || number_of s == 7) ≡ true
 no_script s (Sum size workers) source source' sink sink' m r u n = cc
 no_script status.Completed (Run workers) source source' sink sink' m r u n =
-    absurd (not_read source source' m.input m.answers.program m.given m.all m.answers.spelled n)
+    absurd (not_read source source' m.input m.answers.reports.program m.given m.all m.answers.reports.spelled n)
 no_script status.Completed Check source source' sink sink' m r u n =
     absurd (not_read source source' m.input m.answers.program m.given m.all m.answers.spelled n)
 no_script status.Cancelled (Run workers) source source' sink sink' m r u n =
-    absurd (not_read source source' m.input m.answers.program m.given m.all m.answers.spelled n)
+    absurd (not_read source source' m.input m.answers.reports.program m.given m.all m.answers.reports.spelled n)
 no_script status.Cancelled Check source source' sink sink' m r u n = absurd m.answers
 no_script status.Refused command source source' sink sink' m r u n = cc
 no_script status.NoScript command source source' sink sink' m r u n = refl
 no_script status.Unfinished (Run workers) source source' sink sink' m r u n =
-    absurd (not_read source source' m.input m.answers.program m.given m.all m.answers.spelled n)
+    absurd (not_read source source' m.input m.answers.reports.program m.given m.all m.answers.reports.spelled n)
 no_script status.Unfinished Check source source' sink sink' m r u n = absurd m.answers
 no_script status.ReadFault command source source' sink sink' m r u n = absurd (u.reading m.1)
 no_script status.WriteFault command source source' sink sink' m r u n = absurd (u.writing m.rose)

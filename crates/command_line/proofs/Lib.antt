@@ -1,4 +1,3 @@
-pub mod ElementsHeld
 pub mod Answering
 pub mod Completing
 pub mod Matched

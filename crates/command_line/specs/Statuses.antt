@@ -1,35 +1,18 @@
 -- What each status says of the words, of what was read and of what was written.
-use Rattle.std.specs.Prelude.{◌≡◌, ◌↔◌, ℕ, ◌≤◌, ◌==◌, Bool, true, ◌||◌, List, ◌∷◌, ◌++◌, length, Option, Some, None}
+use Rattle.std.specs.Prelude.{◌≡◌, ℕ, ◌≤◌, ◌==◌, Bool, true, ◌||◌, List, length, Option, Some, None}
 use Rattle.co_base.specs.Streams.{Rose, Gave, IsDrained, Took, TookPart}
-use Rattle.channel_model.specs.declared.acts.Entry.{Entry}
-use Rattle.channel_model.specs.declared.acts.Fate.TheVariants as fate
-use Rattle.channel_model.specs.Answers.{IsResolvedWait, IsSettledWait}
-use Rattle.channel_model.specs.Fates.{element_at, fate_at}
-use Rattle.channel_model.specs.Laws.{resolutions_of, settlements_of}
-use Rattle.channel_model.specs.Histories.{replay, acts_in}
-use Rattle.channel_fates.specs.OneFate.{IsAtMostOneFate, deliveries_of, stands_in}
-use Rattle.co_base.specs.declared.names.WaitId.{WaitId}
 use Rattle.job_model.specs.declared.acts.End.{End}
 use Rattle.job_model.specs.declared.acts.End.TheVariants as ends
-use Rattle.job_model.specs.declared.acts.JobAct.TheVariants.{Finish}
-use Rattle.job_model.specs.declared.acts.JobEntry.{JobEntry}
-use Rattle.job_model.specs.Acts.{finishes}
-use Rattle.job_model.specs.Trees.{parent_of}
-use Rattle.job_model.specs.Laws.{has}
-use Rattle.job_model.specs.Histories.{replay as replay_jobs}
-use Rattle.note_book.specs.declared.book.Item.{Item}
 use Rattle.script_grammar.specs.declared.fault.ScriptFault.{ScriptFault}
 use Rattle.script_grammar.specs.Programs.{Program}
 use Rattle.script_grammar.specs.Grammar.{Spells}
 use Rattle.script_grammar.specs.Faulty.{FirstFault}
 use Rattle.script_grammar.specs.Canonical.{canonical_text}
 use Rattle.script_grammar.specs.Generated.{generated}
-use Rattle.script_meaning.specs.Books.{BooksOf}
-use Rattle.script_meaning.specs.Idle.{IsIdle}
 use Rattle.run_report.specs.Faults.{fault_text}
-use Rattle.run_report.specs.Elements.{channel_acts_noted, element_of, report_text}
-use Rattle.run_report.specs.Jobs.{job_acts_noted}
 use Rattle.run_report.specs.Summaries.{summary_text}
+use Rattle.run_claims.specs.Runs.{RunsTo, HasOneOrder}
+use Rattle.run_claims.specs.Reports.{Reports}
 use Rattle.command_line.specs.declared.words.Command.{Command}
 use Rattle.command_line.specs.declared.words.Command.TheVariants.{Run, Check, Sum}
 use Rattle.command_line.specs.declared.status.Ending.{Ending}
@@ -37,7 +20,6 @@ use Rattle.command_line.specs.declared.status.Ending.TheVariants as ending
 use Rattle.command_line.specs.declared.status.Status.{Status}
 use Rattle.command_line.specs.declared.status.Status.TheVariants as status
 use Rattle.command_line.specs.Commands.{reads}
-use Rattle.rest_laws.specs.JobsTold.{AreToldOf}
 
 -- the number with which the process ends
 abbrev pub number_of : Status → ℕ
@@ -65,54 +47,22 @@ ending_of None = ending.Unfinished
 ending_of (Some (ends.Completed v)) = ending.Completed
 ending_of (Some (ends.Cancelled cause)) = ending.Cancelled
 
--- a Job's Finish in this history comes after that of each child that it ever has
-abbrev pub ChildrenEndFirst : List JobEntry → Type 0
-ChildrenEndFirst jobs = (xs ys : List JobEntry) (who row c : ℕ) (end : End)
-    → jobs ≡ xs ++ record { who = who; act = Finish row end } ∷ ys → parent_of (replay_jobs jobs c) ≡ Some row
-    → has finishes c xs ≡ true
-
--- what becomes of waits and elements in a history
-pub record AreServed (channels : List Entry) : Type 0 where
-  -- each wait is resolved at most once, and settled at most once; one that was resolved is settled
-  pub once : (w : WaitId) → (resolutions_of w channels ≤ 1) × (settlements_of w channels ≤ 1)
-  pub none_lost : (w : WaitId) → IsResolvedWait ((replay channels).waits w) → IsSettledWait ((replay channels).waits w)
-  -- no element is given to a receiver twice
-  pub delivered_once : (c place : ℕ) → deliveries_of c place (acts_in channels) ≤ 1
-  -- of received, undelivered, dropped and withdrawn at most one applies to an element, and none exactly where it is held:
-  -- where it stands in the queue of its channel
-  pub one_fate : (c place : ℕ) → IsAtMostOneFate c place (acts_in channels)
-  pub held : (c place value : ℕ) → element_at c place (acts_in channels) ≡ Some value
-      → (fate_at c place (acts_in channels) ≡ fate.Held) ↔ (stands_in place value ((replay channels).channels c).queue ≡ true)
-
--- a run of the program came to rest, and left the books of its coroutines: the parts of one legal history of channels and of
--- one of Jobs; the ending says how the root has ended
-pub record RunsTo (how : Ending) (program : Program) : Type 0 where
-  pub books : List (List Item)
-  pub channels : List Entry
-  pub jobs : List JobEntry
+-- the input is a script, and the text the report of a run of it by so many workers, which ended so
+pub record ReportsRun (workers : ℕ) (how : Ending) (input text : List ℕ) : Type 0 where
   pub root : Option End
-  pub parts : BooksOf program books channels jobs
-  pub idle : IsIdle program books channels jobs parts root
   pub ending : ending_of root ≡ how
-  pub served : AreServed channels
-  -- no Job ends before its children
-  pub children_first : ChildrenEndFirst jobs
-  -- the books say of each place which element came there in the history, and its fate
-  pub told : (c place : ℕ) → element_of (channel_acts_noted books) c place ≡ element_of (acts_in channels) c place
-  -- and of each Job how far it is, or how it ended, in the tree after the history
-  pub jobs_told : AreToldOf (job_acts_noted books) (replay_jobs jobs)
+  pub reports : Reports root input text
+  -- a run by one worker has one order of all entries
+  pub one_order : workers ≡ 1 → HasOneOrder reports.run
 
--- the input is a script, and the text the report of a run of it
-pub record Reports (how : Ending) (input text : List ℕ) : Type 0 where
-  pub program : Program
-  pub spelled : Spells input program
-  pub run : RunsTo how program
-  pub is_report : text ≡ report_text program run.books
-
--- the text is the summary of a run of the generated script of this size
-pub record SumsUp (size : ℕ) (how : Ending) (text : List ℕ) : Type 0 where
-  pub run : RunsTo how (generated size)
+-- the text is the summary of a run of the generated script of this size by so many workers, which ended so
+pub record SumsUp (size workers : ℕ) (how : Ending) (text : List ℕ) : Type 0 where
+  pub root : Option End
+  pub ending : ending_of root ≡ how
+  pub run : RunsTo root (generated size)
   pub is_summary : text ≡ summary_text (generated size) run.books
+  -- a run by one worker has one order of all entries
+  pub one_order : workers ≡ 1 → HasOneOrder run
 
 -- the input is a script, and the text its canonical form
 pub record Prints (input text : List ℕ) : Type 0 where
@@ -127,12 +77,10 @@ pub record Refuses (input text : List ℕ) : Type 0 where
   pub no_script : (p : Program) → Spells input p → ⊥
   pub is_line : text ≡ fault_text fault
 
--- what a text says that answers an input by a run of it
-abbrev pub Ran : Ending → List ℕ → List ℕ → Type 0
-Ran ending.Completed input text = Reports ending.Completed input text
-Ran ending.Cancelled input text = Reports ending.Cancelled input text
-Ran ending.Unfinished input text = Reports ending.Unfinished input text
-Ran ending.NoScript input text = Refuses input text
+-- what a text says that answers an input by a run of it by so many workers
+abbrev pub Ran : ℕ → Ending → List ℕ → List ℕ → Type 0
+Ran workers ending.NoScript input text = Refuses input text
+Ran workers how input text = ReportsRun workers how input text
 
 -- what a text says that answers an input by its canonical form
 abbrev pub Checked : Ending → List ℕ → List ℕ → Type 0
@@ -141,12 +89,10 @@ Checked ending.Cancelled input text = ⊥
 Checked ending.Unfinished input text = ⊥
 Checked ending.NoScript input text = Refuses input text
 
--- what a text says of a sum
-abbrev pub Added : ℕ → Ending → List ℕ → Type 0
-Added size ending.Completed text = SumsUp size ending.Completed text
-Added size ending.Cancelled text = SumsUp size ending.Cancelled text
-Added size ending.Unfinished text = SumsUp size ending.Unfinished text
-Added size ending.NoScript text = ⊥
+-- what a text says of a sum by so many workers
+abbrev pub Added : ℕ → ℕ → Ending → List ℕ → Type 0
+Added size workers ending.NoScript text = ⊥
+Added size workers how text = SumsUp size workers how text
 
 -- ---- what a status says of the call
 
@@ -177,9 +123,9 @@ pub record ServesAlone (Answers : List ℕ → Type 0) (source source' : Stream)
 
 -- the text that a command makes, where it ends so
 abbrev pub Serves : Command → Ending → Stream → Stream → (List ℕ → Type 0) → Type 0
-Serves (Run workers) how source source' IsTaken = ServesInput (Ran how) source source' IsTaken
+Serves (Run workers) how source source' IsTaken = ServesInput (Ran workers how) source source' IsTaken
 Serves Check how source source' IsTaken = ServesInput (Checked how) source source' IsTaken
-Serves (Sum size workers) how source source' IsTaken = ServesAlone (Added size how) source source' IsTaken
+Serves (Sum size workers) how source source' IsTaken = ServesAlone (Added size workers how) source source' IsTaken
 
 -- the text was written, whole
 abbrev pub Writes : Option Command → Ending → Stream → Stream → Stream → Stream → Type 0

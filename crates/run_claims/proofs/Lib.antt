@@ -1,0 +1,2 @@
+pub mod ElementsHeld
+pub mod RunsAtRest
