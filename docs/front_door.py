@@ -9,7 +9,6 @@ import tempfile
 # The programs of the system, without the toolchain.
 PLAIN = {"PATH": "/usr/bin:/bin", "LC_ALL": "C"}
 USAGE = "usage: coroutine_cli run [--workers N] | check | sum --size N [--workers N]\n"
-USAGE_OF_PICTURE = "usage: run_picture [--format svg|mermaid] [--coroutines A-B]\n"
 PAGE = "jisthrom runs small scripts"
 # Words that ./try takes.
 TWO_FILES = "run README.md README.md"
@@ -134,7 +133,13 @@ def seconds():
     return used.ru_utime + used.ru_stime
 
 
-def check_words(door):
+def usage_of_picture(top):
+    """The usage line of run_picture, as its sources have it."""
+    with open(os.path.join(top, "crates", "run_picture", "src", "outcome.rt"), encoding="utf-8") as file:
+        return re.search(r'"(usage: run_picture [^"]*)"', file.read()).group(1) + "\n"
+
+
+def check_words(door, top):
     """Each word with nothing built: its status, what it says, and that it costs less than a tenth of a second."""
     for name in ("jisthrom", "try"):
         for status, words, written, said in WORDS:
@@ -153,9 +158,8 @@ def check_words(door):
                 door.differs(where, f"ends with {ended} and writes {out!r}, and not with {status} and {written!r}")
             lines = error.splitlines(keepends=True)
             if status == 2:
-                usage = USAGE_OF_PICTURE if words.startswith("picture") else USAGE
-                # The options of pictures are those that their program names.
-                if lines[1:2] != [usage] and not (lines[1:2] and words.startswith("picture") and lines[1].startswith(usage[:18])):
+                usage = usage_of_picture(top) if words.startswith("picture") else USAGE
+                if lines[1:2] != [usage]:
                     door.differs(where, f"says {error!r}, and not the usage line after its first one")
             begins = f"{name}: {said}" if said else ""
             if not error.startswith(begins) or (said == "" and error != ""):
@@ -307,7 +311,7 @@ def differences(top, programs):
     with tempfile.TemporaryDirectory() as folder:
         door = Door(top, folder)
         if shutil.which("rt", path=PLAIN["PATH"]) is None:
-            check_words(door)
+            check_words(door, top)
         check_version(door, top)
         check_programs(door, programs, top)
         return door.found + check_building(top) + check_scripts(top)
