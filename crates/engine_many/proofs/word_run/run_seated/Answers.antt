@@ -1,7 +1,7 @@
 use Rattle.std.proofs.Common.{◌∙◌, sym, refl, ◌<◌, ◌≤◌, arith}
 use Rattle.script_grammar.specs.Tags.{coroutine_count}
-use Rattle.job_words.specs.Forests.{seen_by as jobs_seen_by}
-use Rattle.cell_words.specs.Hubs.{seen_by}
+use Rattle.job_words.specs.Forests.{IsOf as IsOfForest, seen_by as jobs_seen_by}
+use Rattle.cell_words.specs.Hubs.{IsOf, seen_by}
 use Rattle.engine_many.proofs.NewTasks.{nobody_first}
 use Rattle.engine_many.proofs.WholeFloors.{gave_these, gives_out}
 use Rattle.engine_many.proofs.word_run.run_seated.Goals as goal
@@ -30,7 +30,8 @@ pub returns-clause-tags : goal.returns-clause-tags
 returns-clause-tags g c =
     let seat = c.in_ok-left.left.channels in
     let hub = c.requires.hub.0 in
-    let of = (seat.of.0 ∙ seat.named.0 ∙ sym hub.0, seat.of.1 ∙ seat.named.1 ∙ sym hub.1, seat.of.2, seat.of.3) in
+    let of : IsOf c.args.hub.now seat.pass =
+        (seat.of.0 ∙ seat.named.0 ∙ sym hub.0, seat.of.1 ∙ seat.named.1 ∙ sym hub.1, seat.of.2, seat.of.3) in
     let n = coroutine_count g.N.ScriptName.program in
     let whole = c.in_ok-left.ensures.whole in
     record {
@@ -47,7 +48,8 @@ pub returns-clause-job_tags : goal.returns-clause-job_tags
 returns-clause-job_tags g c =
     let seat = c.in_ok-left.left.jobs in
     let forest = c.requires.forest.0 in
-    let of = (seat.of.0 ∙ seat.named.0 ∙ sym forest.0, seat.of.1 ∙ seat.named.1 ∙ sym forest.1, seat.of.2, seat.of.3) in
+    let of : IsOfForest c.args.forest.now seat.pass =
+        (seat.of.0 ∙ seat.named.0 ∙ sym forest.0, seat.of.1 ∙ seat.named.1 ∙ sym forest.1, seat.of.2, seat.of.3) in
     let n = coroutine_count g.N.ScriptName.program in
     let whole = c.in_ok-left.ensures.whole in
     record {
