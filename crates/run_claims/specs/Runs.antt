@@ -35,13 +35,14 @@ ChildrenEndFirst jobs = (xs ys : List JobEntry) (who row c : ℕ) (end : End)
 
 -- what becomes of waits and elements in a history
 pub record AreServed (channels : List Entry) : Type 0 where
-  -- each wait is resolved at most once, and settled at most once; one that was resolved is settled
+  -- each wait is resolved at most once, and settled at most once, which follows from legality
+  -- (`a_wait_is_resolved_and_settled_at_most_once`); one that was resolved is settled
   pub once : (w : WaitId) → (resolutions_of w channels ≤ 1) × (settlements_of w channels ≤ 1)
   pub none_lost : (w : WaitId) → IsResolvedWait ((replay channels).waits w) → IsSettledWait ((replay channels).waits w)
-  -- no element is given to a receiver twice
+  -- no element is given to a receiver twice, which follows from legality (`an_element_is_delivered_at_most_once`)
   pub delivered_once : (c place : ℕ) → deliveries_of c place (acts_in channels) ≤ 1
-  -- of received, undelivered, dropped and withdrawn at most one applies to an element, and none exactly where it is held:
-  -- where it stands in the queue of its channel
+  -- of received, undelivered, dropped, spurned and withdrawn at most one applies to an element (which follows from legality too:
+  -- `an_element_has_at_most_one_fate`), and none exactly where it is held: where it stands in the queue of its channel
   pub one_fate : (c place : ℕ) → IsAtMostOneFate c place (acts_in channels)
   pub held : (c place value : ℕ) → element_at c place (acts_in channels) ≡ Some value
       → (fate_at c place (acts_in channels) ≡ fate.Held) ↔ (stands_in place value ((replay channels).channels c).queue ≡ true)
@@ -54,8 +55,9 @@ pub record RunsTo (root : Option End) (program : Program) : Type 0 where
   pub jobs : List JobEntry
   pub parts : BooksOf program books channels jobs
   pub idle : IsIdle program books channels jobs parts root
+  -- what follows is implied by `parts` and `idle`
   pub served : AreServed channels
-  -- no Job ends before its children
+  -- no Job ends before its children, which follows from legality (`children_finish_before_their_parent`)
   pub children_first : ChildrenEndFirst jobs
   -- the books say of each place which element came there in the history, and its fate
   pub told : (c place : ℕ) → element_of (channel_acts_noted books) c place ≡ element_of (acts_in channels) c place
