@@ -1,5 +1,5 @@
 -- Floors into which those of all were ended have all tags.
-use Rattle.std.specs.Prelude.{◌≡◌, ◌≢◌, ℕ, suc, ◌+◌, ◌<◌, ◌≤◌, Bool, true, false, ◌||◌, List, [], ◌∷◌, length, refl}
+use Rattle.std.specs.Prelude.{◌≡◌, ℕ, suc, ◌+◌, ◌<◌, ◌≤◌, Bool, true, false, ◌||◌, List, [], ◌∷◌, length, refl}
 use Rattle.std.specs.List.{All}
 use Rattle.std.proofs.Common.{sym, ap, ◌∙◌, subst, arith, true≢false}
 use Rattle.std.proofs.lemmas.List.Elements.{All-head, All-tail, All-cons}

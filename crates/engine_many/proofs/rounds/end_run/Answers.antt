@@ -1,4 +1,4 @@
-use Rattle.std.proofs.Common.{rules, arith, ◌<◌, length, ap, sym, subst, ◌∙◌, ◌∷◌}
+use Rattle.std.proofs.Common.{rules, arith, ◌<◌, length, ap, sym, subst, ◌∙◌}
 use Rattle.std.proofs.lemmas.Grind.{common_steps}
 use Rattle.run_laws.specs.Sights.{CountUp}
 use Rattle.run_laws.specs.LastRounds.{AllRested}

@@ -1,4 +1,4 @@
-use Rattle.std.proofs.Common.{◌∙◌, sym, refl, ◌<◌, ◌≤◌, arith}
+use Rattle.std.proofs.Common.{◌∙◌, sym, refl, arith}
 use Rattle.script_grammar.specs.Tags.{coroutine_count}
 use Rattle.job_words.specs.Forests.{IsOf as IsOfForest, seen_by as jobs_seen_by}
 use Rattle.cell_words.specs.Hubs.{IsOf, seen_by}
@@ -31,7 +31,7 @@ returns-clause-tags g c =
     let seat = c.in_ok-left.left.channels in
     let hub = c.requires.hub.0 in
     let of : IsOf c.args.hub.now seat.pass =
-        (seat.of.0 ∙ seat.named.0 ∙ sym hub.0, seat.of.1 ∙ seat.named.1 ∙ sym hub.1, seat.of.2, seat.of.3) in
+    (seat.of.0 ∙ seat.named.0 ∙ sym hub.0, seat.of.1 ∙ seat.named.1 ∙ sym hub.1, seat.of.2, seat.of.3) in
     let n = coroutine_count g.N.ScriptName.program in
     let whole = c.in_ok-left.ensures.whole in
     record {
@@ -49,7 +49,7 @@ returns-clause-job_tags g c =
     let seat = c.in_ok-left.left.jobs in
     let forest = c.requires.forest.0 in
     let of : IsOfForest c.args.forest.now seat.pass =
-        (seat.of.0 ∙ seat.named.0 ∙ sym forest.0, seat.of.1 ∙ seat.named.1 ∙ sym forest.1, seat.of.2, seat.of.3) in
+    (seat.of.0 ∙ seat.named.0 ∙ sym forest.0, seat.of.1 ∙ seat.named.1 ∙ sym forest.1, seat.of.2, seat.of.3) in
     let n = coroutine_count g.N.ScriptName.program in
     let whole = c.in_ok-left.ensures.whole in
     record {
