@@ -105,7 +105,8 @@ answered (Run workers) p books channels jobs (Some (ends.Completed v)) made sour
       given = asks.given;
       all = asks.all;
       text = made;
-      answers = reported workers p source source' (Some (ends.Completed v)) made asks (ran p books channels jobs (Some (ends.Completed v)) of.0) is of.1;
+      answers = reported workers p source source' (Some (ends.Completed v)) made asks
+          (ran p books channels jobs (Some (ends.Completed v)) of.0) is of.1;
       taken = refl;
     }
 answered (Run workers) p books channels jobs (Some (ends.Cancelled cause)) made source source' of is asks =
@@ -114,7 +115,8 @@ answered (Run workers) p books channels jobs (Some (ends.Cancelled cause)) made 
       given = asks.given;
       all = asks.all;
       text = made;
-      answers = reported workers p source source' (Some (ends.Cancelled cause)) made asks (ran p books channels jobs (Some (ends.Cancelled cause)) of.0) is of.1;
+      answers = reported workers p source source' (Some (ends.Cancelled cause)) made asks
+          (ran p books channels jobs (Some (ends.Cancelled cause)) of.0) is of.1;
       taken = refl;
     }
 answered Check p books channels jobs root made source source' of is asks = absurd asks
@@ -129,14 +131,16 @@ answered (Sum size workers) p books channels jobs (Some (ends.Completed v)) made
     record {
       unread = asks.1;
       text = made;
-      answers = summed p size workers (Some (ends.Completed v)) made asks.0 (ran p books channels jobs (Some (ends.Completed v)) of.0) is of.1;
+      answers = summed p size workers (Some (ends.Completed v)) made asks.0 (ran p books channels jobs (Some (ends.Completed v)) of.0) is
+          of.1;
       taken = refl;
     }
 answered (Sum size workers) p books channels jobs (Some (ends.Cancelled cause)) made source source' of is asks =
     record {
       unread = asks.1;
       text = made;
-      answers = summed p size workers (Some (ends.Cancelled cause)) made asks.0 (ran p books channels jobs (Some (ends.Cancelled cause)) of.0) is of.1;
+      answers = summed p size workers (Some (ends.Cancelled cause)) made asks.0
+          (ran p books channels jobs (Some (ends.Cancelled cause)) of.0) is of.1;
       taken = refl;
     }
 
