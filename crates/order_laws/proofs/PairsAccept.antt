@@ -298,7 +298,7 @@ child_true : IsTrue (story program 1 now) [] beginning told_by_child
 unfolding acts_of job_acts_of replay_from replay_jobs_from
 child_true =
     so_then 1 _ (on_jobs (MayRun 1)) _ [] [] channels [] launched after_launch refl refl refl
-    (so_then 1 _ (heard (Empty 0)) _ [] [] channels launched [] after_launch refl refl (record { is_open = refl; nothing = refl })
+    (so_then 1 _ (heard (Empty 0)) _ [] [] channels launched [] after_launch refl refl (record { not_closed = refl; nothing = refl })
     (so_then 1 _ (did (EndBody 1 0)) _ [] sent after_sent launched (done_by 0 (EndBody 0 0) ∷ []) after_main refl refl tt
     (so_then 1 _ (did (Finish 1 (Completed 0))) _ sent [] after_sent main_done (done_by 1 (EndBody 1 0) ∷ []) after_child refl refl tt
     (so_then 1 _ (made (Close 2 0)) _ sent [] after_sent child_done (done_by 1 (Finish 1 (Completed 0)) ∷ []) after_finished refl refl tt

@@ -10,7 +10,8 @@ use Rattle.job_model.specs.Trees.{plain}
 use Rattle.job_model.specs.Histories.{replay as replay_jobs, replay_from as replay_jobs_from, acts_of as job_acts_of}
 use Rattle.note_book.specs.declared.book.Item.TheVariants as item
 use Rattle.call_meaning.specs.Telling.{Told, on_jobs, MayRun, saw, items_in}
-use Rattle.call_meaning.specs.Facts.{IsEmptyNow, IsRunning}
+use Rattle.channel_model.specs.Answers.{IsEmptyToTry}
+use Rattle.call_meaning.specs.Facts.{IsRunning}
 use Rattle.call_meaning.specs.Stories.{Moment}
 use Rattle.script_grammar.specs.Tags.{coroutine_count, layouts_from}
 use Rattle.script_meaning.specs.Configs.{Config}
@@ -38,7 +39,7 @@ not_launched zero e = refl
 not_launched (suc n) e = cc
 
 -- the channel is empty, and the coroutine has done nothing
-none_came : (n : ℕ) → acts_of 1 (take n channels) ≡ [] → IsEmptyNow 0 (replay (take n channels)) → n ≡ 0
+none_came : (n : ℕ) → acts_of 1 (take n channels) ≡ [] → IsEmptyToTry 0 (replay (take n channels)) → n ≡ 0
 unfolding acts_of replay_from
 none_came zero e h = refl
 none_came (suc zero) e h = let none = h.nothing in cc
