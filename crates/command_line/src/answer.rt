@@ -53,7 +53,7 @@ pub fn sum_of(
     requires { LeftBy workers (λ notes. notes) (program_of script.now) done.now }
     ensures { IfOk result (IsAnswerOf (Sum size workers) (program_of script.now)) }
 {
-    let text = tally_summary::summary(alloc, script, done.books.as_slice(), done.end)?;
+    let text = tally_book::summary(alloc, script, done.books.as_slice(), done.end)?;
     let ending = ending_of(done.end);
     Ok(Answer { ending, text })
 }

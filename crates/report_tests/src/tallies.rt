@@ -7,8 +7,7 @@ use co_base::{Memory, WaitId};
 use job_model::{End, JobAct, JobNote};
 use note_book::{Item, NoteBook};
 use std::test::Fail;
-use tally_book::Tally;
-use tally_summary::line_of;
+use tally_book::{Tally, line_of};
 
 /// Makes room in any book and notes an item.
 fn note_one<B: NoteBook>(book: &mut B, item: Item) -> Result<(), Memory> {

@@ -16,8 +16,8 @@ use Rattle.script_meaning.specs.Shapes.{floor_shape, job_shape}
 use Rattle.script_meaning.specs.Books.{BooksOf}
 use Rattle.script_meaning.specs.Idle.{IsIdle}
 use Rattle.run_laws.specs.Ends.{IsRunAtRest}
-use Rattle.rest_laws.proofs.WaitsSettled.{none_lost}
-use Rattle.rest_laws.proofs.Printed.{printed, printed_jobs}
+use Rattle.tally_laws.proofs.WaitsSettled.{none_lost}
+use Rattle.tally_laws.proofs.Printed.{printed, printed_jobs}
 use Rattle.run_claims.specs.Runs.{RunsTo, IsRunOf, AreServed, ChildrenEndFirst}
 use Rattle.run_claims.proofs.ElementsHeld.{held_stands}
 

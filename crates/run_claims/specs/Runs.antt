@@ -23,7 +23,7 @@ use Rattle.run_laws.specs.Orders.{InOneOrder}
 use Rattle.run_laws.specs.Ends.{IsRunAtRest}
 use Rattle.run_report.specs.Elements.{channel_acts_noted, element_of}
 use Rattle.run_report.specs.Jobs.{job_acts_noted}
-use Rattle.rest_laws.specs.JobsTold.{AreToldOf}
+use Rattle.tally_laws.specs.JobsTold.{AreToldOf}
 
 -- ---- a run
 

@@ -10,3 +10,15 @@ pub mod OneWaits
 pub mod Tracked
 pub mod Books
 pub mod Declared
+pub mod OneAtATime
+pub mod Tallied
+pub mod SummaryFolds
+pub mod SameMembers
+pub mod SameFates
+pub mod WaitsSettled
+pub mod JobsTold
+pub mod Printed
+pub mod Parted
+pub mod RowSums
+pub mod JobsCounted
+pub mod Summarised

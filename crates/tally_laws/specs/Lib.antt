@@ -6,3 +6,6 @@ pub mod Tallies
 pub mod JobTallies
 pub mod Settlings
 pub mod Examples
+pub mod TallyTexts
+pub mod JobsTold
+pub mod LinesTold

@@ -1,9 +1,0 @@
-pub mod SameMembers
-pub mod SameFates
-pub mod WaitsSettled
-pub mod JobsTold
-pub mod Printed
-pub mod Parted
-pub mod RowSums
-pub mod JobsCounted
-pub mod Summarised

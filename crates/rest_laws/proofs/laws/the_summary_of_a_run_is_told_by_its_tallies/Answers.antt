@@ -1,5 +1,0 @@
-use Rattle.rest_laws.proofs.Summarised.{summary_told}
-use Rattle.rest_laws.proofs.laws.the_summary_of_a_run_is_told_by_its_tallies.Goals as goal
-
-pub returns : goal.returns
-returns c = summary_told

@@ -1,2 +1,0 @@
-pub mod JobsTold
-pub mod LinesTold

@@ -1,2 +1,0 @@
-pub mod OneAtATime
-pub mod Tallied

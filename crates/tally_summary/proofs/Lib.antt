@@ -1,2 +1,0 @@
-pub mod LinesSame
-pub mod AtRest
