@@ -7,12 +7,14 @@ use Rattle.channel_model.specs.Laws.{NoneBelow}
 use Rattle.channel_model.specs.declared.acts.Entry.{Entry}
 use Rattle.channel_model.specs.Channels.{Shape, places_at}
 use Rattle.channel_model.specs.Histories.{replay, Legal}
-use Rattle.cell_words.specs.Words.{send_number, receive_number, run_number, WereKept, IsKeptRun, Fits}
+use Rattle.cell_words.specs.Words.{send_number, receive_number, run_number, room_number, decided_number, WereKept, IsKeptRun, WerePut, IsRoomCount, WereDecided, AreDecided, Fits}
 use Rattle.cell_words.specs.Seen.{Seen, maker, at_channel}
-use Rattle.cell_words.proofs.OneNumberOneWord.{cell_not_send, cell_not_receive, cell_not_run, wait_not_send, wait_not_receive, wait_not_run}
+use Rattle.cell_words.proofs.OneNumberOneWord.{cell_not_send, cell_not_receive, cell_not_run, wait_not_send, wait_not_receive, wait_not_run, cell_not_room, wait_not_room, cell_not_decided, wait_not_decided}
 use Rattle.channel_model.proofs.GoneForGood.{below_lasts}
 use Rattle.channel_model.proofs.Sound.{sound}
 use Rattle.cell_words.proofs.PlacesWereKept.{were_kept_more}
+use Rattle.cell_words.proofs.PlacesDecided.{were_decided_more}
+use Rattle.cell_words.proofs.PutWithRoom.{were_put_more}
 
 max_most : (n k : ℕ) (P : ℕ → Type 0) → P n → P k → P (max n k)
 max_most n k P a b = dite (dec_le n k) (λ le. let e : k ≡ max n k = omega arith in subst P e b) (λ gt. let e : n ≡ max n k = omega arith
@@ -36,6 +38,33 @@ send_not_run shape c d e = omega arith
 receive_not_run : (shape : Shape) (c d : ℕ) → receive_number shape c ≡ run_number shape d → ⊥
 receive_not_run shape c d e = omega arith
 
+same_channel_room : (shape : Shape) (c d : ℕ) → room_number shape c ≡ room_number shape d → c ≡ d
+same_channel_room shape c d e = omega arith
+
+send_not_room : (shape : Shape) (c d : ℕ) → send_number shape c ≡ room_number shape d → ⊥
+send_not_room shape c d e = omega arith
+
+receive_not_room : (shape : Shape) (c d : ℕ) → receive_number shape c ≡ room_number shape d → ⊥
+receive_not_room shape c d e = omega arith
+
+run_not_room : (shape : Shape) (c d : ℕ) → run_number shape c ≡ room_number shape d → ⊥
+run_not_room shape c d e = omega arith
+
+same_channel_decided : (shape : Shape) (c d : ℕ) → decided_number shape c ≡ decided_number shape d → c ≡ d
+same_channel_decided shape c d e = omega arith
+
+send_not_decided : (shape : Shape) (c d : ℕ) → send_number shape c ≡ decided_number shape d → ⊥
+send_not_decided shape c d e = omega arith
+
+receive_not_decided : (shape : Shape) (c d : ℕ) → receive_number shape c ≡ decided_number shape d → ⊥
+receive_not_decided shape c d e = omega arith
+
+run_not_decided : (shape : Shape) (c d : ℕ) → run_number shape c ≡ decided_number shape d → ⊥
+run_not_decided shape c d e = omega arith
+
+room_not_decided : (shape : Shape) (c d : ℕ) → room_number shape c ≡ decided_number shape d → ⊥
+room_not_decided shape c d e = omega arith
+
 pub raises_sends : (shape : Shape) (c k : ℕ) (v : Seen) → c < length shape → NoneBelow k 0 (at_channel v.seen c)
     → MayLift (Legal shape) (Fits shape) maker v (send_number shape c) k
 raises_sends shape c k v lc low others n added f = record {
@@ -46,6 +75,8 @@ raises_sends shape c k v lc low others n added f = record {
       (below_lasts shape v.seen others c k 0 added.is_legal low));
   receives = λ d ld e. absurd (send_not_receive shape c d e);
   run = λ d ld e. absurd (send_not_run shape c d e);
+  room = λ d ld e. absurd (send_not_room shape c d e);
+  decided = λ d ld e. absurd (send_not_decided shape c d e);
 }
 
 pub raises_receives : (shape : Shape) (c k : ℕ) (v : Seen) → c < length shape → NoneBelow 0 k (at_channel v.seen c)
@@ -58,6 +89,8 @@ raises_receives shape c k v lc low others n added f = record {
       (subst (λ z. NoneBelow 0 k ((replay (v.seen ++ others)).channels z)) (same_channel_received shape c d e)
       (below_lasts shape v.seen others c 0 k added.is_legal low));
   run = λ d ld e. absurd (receive_not_run shape c d e);
+  room = λ d ld e. absurd (receive_not_room shape c d e);
+  decided = λ d ld e. absurd (receive_not_decided shape c d e);
 }
 
 pub raises_run : (shape : Shape) (c k : ℕ) (v : Seen) → c < length shape → IsKeptRun v.seen c k
@@ -70,7 +103,63 @@ raises_run shape c k v lc kept others n added f = record {
   run = λ d ld e. max_most n k (IsKeptRun (v.seen ++ others) d) (f.run d ld e)
       (subst (λ z. IsKeptRun (v.seen ++ others) z k) (same_channel_run shape c d e)
       (were_kept_more shape c (k % 4294967296) (k / 4294967296) v.seen others added.is_legal kept));
+  room = λ d ld e. absurd (run_not_room shape c d e);
+  decided = λ d ld e. absurd (run_not_decided shape c d e);
 }
+
+pub raises_room : (shape : Shape) (c k : ℕ) (v : Seen) → c < length shape → IsRoomCount shape v.seen c k
+    → MayLift (Legal shape) (Fits shape) maker v (room_number shape c) k
+raises_room shape c k v lc put others n added f = record {
+  cell = λ d q ld lq e. absurd (cell_not_room shape d c q ld lq (sym e));
+  wait = λ d q ld lq e. absurd (wait_not_room shape d c q (sym e));
+  sends = λ d ld e. absurd (send_not_room shape d c (sym e));
+  receives = λ d ld e. absurd (receive_not_room shape d c (sym e));
+  run = λ d ld e. absurd (run_not_room shape d c (sym e));
+  room = λ d ld e. max_most n k (IsRoomCount shape (v.seen ++ others) d) (f.room d ld e)
+      (subst (λ z. IsRoomCount shape (v.seen ++ others) z k) (same_channel_room shape c d e)
+      (were_put_more shape c _ _ _ v.seen others added.is_legal put));
+  decided = λ d ld e. absurd (room_not_decided shape c d e);
+}
+
+pub raises_decided : (shape : Shape) (c k : ℕ) (v : Seen) → c < length shape → AreDecided v.seen c k
+    → MayLift (Legal shape) (Fits shape) maker v (decided_number shape c) k
+raises_decided shape c k v lc is others n added f = record {
+  cell = λ d q ld lq e. absurd (cell_not_decided shape d c q ld lq (sym e));
+  wait = λ d q ld lq e. absurd (wait_not_decided shape d c q ld lq (sym e));
+  sends = λ d ld e. absurd (send_not_decided shape d c (sym e));
+  receives = λ d ld e. absurd (receive_not_decided shape d c (sym e));
+  run = λ d ld e. absurd (run_not_decided shape d c (sym e));
+  room = λ d ld e. absurd (room_not_decided shape d c (sym e));
+  decided = λ d ld e. max_most n k (AreDecided (v.seen ++ others) d) (f.decided d ld e)
+      (subst (λ z. AreDecided (v.seen ++ others) z k) (same_channel_decided shape c d e)
+      (were_decided_more shape c _ _ _ v.seen others added.is_legal is));
+}
+
+-- the word that says of which places it is decided
+pub decided_is : (log : List Entry) (c from to count : ℕ) → from < 2097152 → count < 2097152 → WereDecided log c from to count
+    → AreDecided log c (to * 4398046511104 + (from * 2097152 + count))
+decided_is log c from to count lf lc h =
+    is ((n / 2097152) % 2097152) (n / 4398046511104) (n % 2097152) (omega arith) (omega arith) (omega arith)
+  where
+    n : ℕ
+    n = to * 4398046511104 + (from * 2097152 + count)
+
+    is : (f t k : ℕ) → from ≡ f → to ≡ t → count ≡ k → WereDecided log c f t k
+    is f t k ef et ek = subst (λ (z : ℕ). WereDecided log c z t k) ef
+        (subst (λ (z : ℕ). WereDecided log c from z k) et (subst (λ (z : ℕ). WereDecided log c from to z) ek h))
+
+-- the word that says so of a count
+pub count_is : (shape : Shape) (log : List Entry) (c from to count : ℕ) → from < 2097152 → count < 2097152
+    → WerePut shape log c from to count → IsRoomCount shape log c (to * 4398046511104 + (from * 2097152 + count))
+count_is shape log c from to count lf lc h =
+    is ((n / 2097152) % 2097152) (n / 4398046511104) (n % 2097152) (omega arith) (omega arith) (omega arith)
+  where
+    n : ℕ
+    n = to * 4398046511104 + (from * 2097152 + count)
+
+    is : (f t k : ℕ) → from ≡ f → to ≡ t → count ≡ k → WerePut shape log c f t k
+    is f t k ef et ek = subst (λ (z : ℕ). WerePut shape log c z t k) ef
+        (subst (λ (z : ℕ). WerePut shape log c from z k) et (subst (λ (z : ℕ). WerePut shape log c from to z) ek h))
 
 -- the word that says so of a run
 pub run_is : (log : List Entry) (c from to : ℕ) → from < 4294967296 → WereKept log c from to → IsKeptRun log c (to * 4294967296 + from)

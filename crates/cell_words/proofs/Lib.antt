@@ -8,6 +8,8 @@ pub mod CellsGiveLists
 pub mod CellsTellFacts
 pub mod CellsLast
 pub mod PlacesWereKept
+pub mod PutWithRoom
+pub mod PlacesDecided
 pub mod OneNumberOneWord
 pub mod CountsOfOffers
 pub mod KeptBehind
@@ -35,5 +37,7 @@ pub mod LooksFound
 pub mod HeldWhereSendsWait
 pub mod WalksToAdmit
 pub mod RunsOfKeptPlaces
+pub mod ElementsWithRoom
+pub mod CountsOfDecided
 pub mod ClausesPlaced
 pub mod StandsAtPlaces

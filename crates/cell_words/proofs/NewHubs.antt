@@ -1,5 +1,5 @@
 -- A hub as it is made.
-use Rattle.std.specs.Prelude.{◌≡◌, ℕ, zero, suc, ◌+◌, ◌*◌, ◌<◌, ◌≤◌, List, [], ◌∷◌, ◌++◌, length, refl}
+use Rattle.std.specs.Prelude.{◌≡◌, ℕ, zero, suc, ◌+◌, ◌*◌, ◌/◌, ◌%◌, ◌<◌, ◌≤◌, List, [], ◌∷◌, ◌++◌, length, refl}
 use Rattle.std.proofs.Math.ListN.{get_or-append}
 use Rattle.std.proofs.Math.Seq.{get_or-append_seam}
 use mathlib.Core.Logic.{dite}
@@ -11,6 +11,7 @@ use Rattle.channel_model.specs.Histories.{replay_from, Legal, LegalFrom}
 use Rattle.cell_words.specs.Cells.{board_from}
 use Rattle.cell_words.specs.Words.{base, cells_in, word_count, Fits}
 use Rattle.cell_words.proofs.LooksAtCells.{none_below_start}
+use Rattle.cell_words.proofs.PlacesDecided.{decided_none}
 
 pub none_legal : (shape : Shape) → Legal shape []
 unfolding LegalFrom
@@ -24,6 +25,8 @@ all_free shape i = record {
   sends = λ c lc e. none_below_start empty;
   receives = λ c lc e. none_below_start empty;
   run = λ c lc e p le lt. absurd (omega (arith, lt));
+  room = λ c lc e d is. omega arith;
+  decided = λ c lc e. decided_none [] c ((0 / 2097152) % 2097152) (0 / 4398046511104) (0 % 2097152) (omega arith) (omega arith);
 }
 
 -- ---- the numbers of first cells

@@ -25,11 +25,13 @@ use Rattle.channel_model.proofs.EveryAct.{after_keeps}
 use Rattle.channel_model.proofs.GoneForGood.{none_keeps}
 use Rattle.channel_model.proofs.Later.{resolved_later}
 use Rattle.channel_model.proofs.Sound.{Sound, sound}
+use Rattle.cell_words.specs.declared.found.Search.{Search}
+use Rattle.cell_words.specs.declared.found.Search.TheVariants as search
 use Rattle.cell_words.specs.declared.found.Waiter.{Waiter}
 use Rattle.cell_words.specs.Cells.{Cell, free, receiver, offer, buffered, emptied, closed_by, voided_by, set_cell, standing, offer_of, offer_by, emptied_if, mark, Board, step_board, board_from, board_of, blank, cell_of, gather, add_some, is_used}
 use Rattle.cell_words.specs.Words.{WasKept, WereKept}
 use Rattle.cell_words.specs.Seen.{Seen, Sees, at_channel}
-use Rattle.cell_words.specs.Answers.{stands, Offers, IsAdmitted, Admits, NothingToAdmit, waits_with, KeptHere}
+use Rattle.cell_words.specs.Answers.{stands, Offers, IsAdmitted, Admits, NothingToAdmit, SearchAnswer, waits_with, KeptHere}
 use Rattle.cell_words.proofs.GatheredLists.{gather_none}
 use Rattle.cell_words.proofs.ListsOfCells.{Tied, by_spot, standing_is}
 use Rattle.cell_words.proofs.OffersRemoved.{offer_place, first_in_queue}
@@ -97,7 +99,8 @@ is_emptied (closed_by v) = false
 is_emptied (voided_by v) = false
 
 -- where an offer behind p is the first, none stands at p
-none_before : (b : Board) → Tied b → (c p q v : ℕ) → p < q → IsFirstOffer q v (b.state.channels c).queue → NoOffer p (b.state.channels c)
+pub none_before : (b : Board) → Tied b → (c p q v : ℕ) → p < q → IsFirstOffer q v (b.state.channels c).queue
+    → NoOffer p (b.state.channels c)
 none_before b t c p q v lt first = go (b.state.channels c).queue refl first
   where
     go : (os : List Standing) → (b.state.channels c).queue ≡ os → IsFirstOffer q v os → NoOffer p (b.state.channels c)
@@ -463,6 +466,13 @@ admits_seen who c p t u v w s a = record {
   of = subst (λ (es : List Entry). owner_of_holder (replay es) (holder_at p (at_channel es c).queue) ≡ Some t)
       (ap (λ (es : List Entry). es ++ a.made.others) s.now ∙ append_assoc u.seen s.others a.made.others) a.of;
 }
+
+-- after some looks, what the search found
+pub search_seen : (shape : Shape) (who c low mark : ℕ) (u v w : Seen) → Sees u v → (r : Search) → SearchAnswer shape who c low mark v w r
+    → SearchAnswer shape who c low mark u w r
+search_seen shape who c low mark u v w s (search.Done p t) h = (admits_seen who c p t u v w s h.0, h.1)
+search_seen shape who c low mark u v w s search.Nothing h = nothing_seen shape c mark u v w s h
+search_seen shape who c low mark u v w s search.Passed h = (sees_then u v w s h.0, h.1)
 
 -- where an offer was seen, its place was given out
 pub offer_next : (shape : Shape) (c p : ℕ) (x : Waiter) (u v : Seen) → Sees u v → Legal shape u.seen → Legal shape v.seen

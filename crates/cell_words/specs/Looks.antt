@@ -94,6 +94,20 @@ stands_by by.Cancel j k = false
 stands_by by.Revoke j k = false
 stands_by by.Void j k = false
 
+-- whether the offer of clause k was kept, by what its wait says; nothing while it stands
+abbrev pub kept_told_by : ResolvedBy → ℕ → ℕ → Option Bool
+kept_told_by by.Nobody j k = None
+kept_told_by by.Hand j k = Some false
+kept_told_by by.Take j k = Some false
+kept_told_by by.Admit j k = Some (j == k)
+kept_told_by by.Close j k = Some false
+kept_told_by by.Cancel j k = Some false
+kept_told_by by.Revoke j k = Some false
+kept_told_by by.Void j k = Some false
+
+abbrev pub kept_told : WaitWord → ℕ → Option Bool
+kept_told w k = kept_told_by w.by w.clause k
+
 -- nobody resolved it
 abbrev pub is_nobody : ResolvedBy → Bool
 is_nobody by.Nobody = true

@@ -1,5 +1,5 @@
 -- The words that a history gives.
-use Rattle.std.specs.Prelude.{◌≡◌, ℕ, zero, suc, ◌+◌, ◌*◌, ◌/◌, ◌%◌, ◌<◌, ◌≤◌, Bool, true, false, List, [], ◌∷◌, length, if◌then◌else◌, Option, Some, None}
+use Rattle.std.specs.Prelude.{◌≡◌, ℕ, zero, suc, ◌+◌, ◌*◌, ◌/◌, ◌%◌, ◌<◌, ◌≤◌, ◌==◌, Bool, true, false, not, ◌&&◌, List, [], ◌∷◌, length, if◌then◌else◌, Option, Some, None}
 use Rattle.co_base.specs.declared.names.WaitId.{WaitId}
 use Rattle.channel_model.specs.declared.acts.Entry.{Entry}
 use Rattle.channel_model.specs.declared.acts.Settled.{Settled}
@@ -7,7 +7,7 @@ use Rattle.channel_model.specs.declared.acts.Settled.TheVariants as settled
 use Rattle.channel_model.specs.declared.acts.Why.TheVariants.{Cancelled, Revoked}
 use Rattle.channel_model.specs.declared.standing.Resolution.{Resolution}
 use Rattle.channel_model.specs.declared.standing.Resolution.TheVariants as resolved
-use Rattle.channel_model.specs.Channels.{Shape, Wait, places_at, same_wait}
+use Rattle.channel_model.specs.Channels.{Shape, Wait, places_at, kind_at, spurns, same_wait}
 use Rattle.channel_model.specs.Histories.{replay}
 use Rattle.channel_model.specs.Laws.{NoneBelow, IsResolvedAs}
 use Rattle.cell_words.specs.declared.cell_word.CellState.{CellState}
@@ -42,12 +42,19 @@ cell_number shape c p = 2 * number shape c p
 abbrev pub wait_number : Shape → ℕ → ℕ → ℕ
 wait_number shape c p = 2 * number shape c p + 1
 
--- of the two counters of a channel, and of its run of kept places; a channel has 16 words for them, of which the others say nothing
+-- of the two counters of a channel, of its run of kept places, of its count of elements that were put with room, and of the places of
+-- which is decided whether their element was kept; a channel has 16 words for them, of which the others say nothing
 abbrev pub send_number : Shape → ℕ → ℕ
 send_number shape c = 2 * cells_in shape + 16 * c
 
 abbrev pub run_number : Shape → ℕ → ℕ
 run_number shape c = 2 * cells_in shape + 16 * c + 1
+
+abbrev pub room_number : Shape → ℕ → ℕ
+room_number shape c = 2 * cells_in shape + 16 * c + 2
+
+abbrev pub decided_number : Shape → ℕ → ℕ
+decided_number shape c = 2 * cells_in shape + 16 * c + 3
 
 abbrev pub receive_number : Shape → ℕ → ℕ
 receive_number shape c = 2 * cells_in shape + 16 * c + 8
@@ -186,10 +193,95 @@ WereKept log c from to = (p : ℕ) → from ≤ p → p < to → WasKept (replay
 abbrev pub IsKeptRun : List Entry → ℕ → ℕ → Type 0
 IsKeptRun log c n = WereKept log c (n % 4294967296) (n / 4294967296)
 
+-- ---- elements that were put with room
+
+-- an element was put in this cell; it may have been removed since
+abbrev pub holds_put : Cell → Bool
+holds_put free = false
+holds_put (receiver who w k) = false
+holds_put (offer v who w k) = false
+holds_put (buffered v) = true
+holds_put (emptied v) = true
+holds_put (closed_by v) = false
+holds_put (voided_by v) = false
+
+-- and it was not one too many when it was put, so that nobody spurns it
+abbrev pub had_room : Shape → List Entry → ℕ → ℕ → Bool
+had_room shape log c p = holds_put (cell_of log c p) && not (spurns (kind_at shape c) ((replay log).stood c p))
+
+-- what a place adds to a count
+abbrev pub one_if : Bool → ℕ
+one_if true = 1
+one_if false = 0
+
+-- at how many of so many places from one on
+abbrev pub counted : (ℕ → Bool) → ℕ → ℕ → ℕ
+counted f from zero = 0
+counted f from (suc n) = counted f from n + one_if (f (from + n))
+
+-- at least so many elements were put with room at the places from one on, and before another
+abbrev pub WerePut : Shape → List Entry → ℕ → ℕ → ℕ → ℕ → Type 0
+WerePut shape log c from to count = (d : ℕ) → to ≡ from + d → count ≤ counted (had_room shape log c) from d
+
+-- the number n says how many, from which place on, and before which
+abbrev pub IsRoomCount : Shape → List Entry → ℕ → ℕ → Type 0
+IsRoomCount shape log c n = WerePut shape log c ((n / 2097152) % 2097152) (n / 4398046511104) (n % 2097152)
+
+-- ---- places of which is decided whether their element was kept
+
+-- whether an offer was kept, by how its wait was resolved
+abbrev pub kept_after : ℕ → Resolution → Bool
+kept_after k (resolved.Handed j v) = false
+kept_after k (resolved.Taken j) = false
+kept_after k (resolved.Admitted j) = j == k
+kept_after k (resolved.Closed j v) = false
+kept_after k (resolved.Withdrawn why) = false
+kept_after k resolved.Voided = false
+
+abbrev pub kept_by : ℕ → Option Resolution → Option Bool
+kept_by k None = None
+kept_by k (Some how) = Some (kept_after k how)
+
+abbrev pub kept_of : ℕ → Option Wait → Option Bool
+kept_of k None = None
+kept_of k (Some x) = kept_by k x.resolved
+
+-- whether the element of this cell was kept; nothing while its offer waits, or where there is none
+abbrev pub kept_in : (WaitId → Option Wait) → Cell → Option Bool
+kept_in waits free = None
+kept_in waits (receiver who w k) = None
+kept_in waits (offer v who w k) = kept_of k (waits w)
+kept_in waits (buffered v) = Some true
+kept_in waits (emptied v) = Some true
+kept_in waits (closed_by v) = None
+kept_in waits (voided_by v) = None
+
+abbrev pub fate : List Entry → ℕ → ℕ → Option Bool
+fate log c p = kept_in (replay log).waits (cell_of log c p)
+
+-- a count goes on with one place, if both are decided
+abbrev pub add_kept : Option Bool → Option ℕ → Option ℕ
+add_kept None y = None
+add_kept (Some b) None = None
+add_kept (Some b) (Some n) = Some (n + one_if b)
+
+-- at how many of so many places from one on an element was kept, if it is decided of each
+abbrev pub kept_among : (ℕ → Option Bool) → ℕ → ℕ → Option ℕ
+kept_among f from zero = Some 0
+kept_among f from (suc n) = add_kept (f (from + n)) (kept_among f from n)
+
+-- it is decided of all places from one on, and before another, and at so many an element was kept
+abbrev pub WereDecided : List Entry → ℕ → ℕ → ℕ → ℕ → Type 0
+WereDecided log c from to count = (d : ℕ) → to ≡ from + d → kept_among (fate log c) from d ≡ Some count
+
+-- the number n says of which places, and how many
+abbrev pub AreDecided : List Entry → ℕ → ℕ → Type 0
+AreDecided log c n = WereDecided log c ((n / 2097152) % 2097152) (n / 4398046511104) (n % 2097152)
+
 -- ---- all words
 
--- the word i is n after this history; a counter is at most the number of places that were given out, and each place
--- of a run was kept once
+-- the word i is n after this history; a counter is at most the number of places that were given out, each place of a run
+-- was kept once, as many elements as a count says were put with room, and at as many places as a word says an element was kept
 pub record Fits (shape : Shape) (log : List Entry) (i n : ℕ) : Type 0 where
   pub cell : (c p : ℕ) → c < length shape → p ≤ places_at shape c → i ≡ cell_number shape c p
       → (n ≡ cell_code shape c p (cell_of log c p)) × CellFits shape (cell_of log c p)
@@ -198,3 +290,5 @@ pub record Fits (shape : Shape) (log : List Entry) (i n : ℕ) : Type 0 where
   pub sends : (c : ℕ) → c < length shape → i ≡ send_number shape c → NoneBelow n 0 ((replay log).channels c)
   pub receives : (c : ℕ) → c < length shape → i ≡ receive_number shape c → NoneBelow 0 n ((replay log).channels c)
   pub run : (c : ℕ) → c < length shape → i ≡ run_number shape c → IsKeptRun log c n
+  pub room : (c : ℕ) → c < length shape → i ≡ room_number shape c → IsRoomCount shape log c n
+  pub decided : (c : ℕ) → c < length shape → i ≡ decided_number shape c → AreDecided log c n

@@ -9,9 +9,10 @@ ghost use Rattle.cell_words.specs.Hubs.{shape_of, seen_by, IsOwn};
 ghost use Rattle.cell_words.specs.Seen.{at_channel};
 ghost use Rattle.cell_words.specs.Answers.{stands, Offers, SenderAt, AdmitAt, HereAnswer, SearchAnswer, AdmitBelowAnswer};
 
-use crate::cells::{exchange_wait, kind_of, load_cell, load_wait};
+use crate::cells::{exchange_wait, kind_of, load_cell, load_wait, places_of};
 use crate::counters::{first_not_kept, kept_run, raise_run, receives_from};
 use crate::counting::stands_at;
+use crate::decided::{begun_at, decided_up_to, lower_of};
 use crate::found::{Admission, At, Here, Search, Waiter};
 use crate::hub::Hub;
 use crate::looks::{admission_found, found_by_receiver, is_used, standing_wait};
@@ -104,6 +105,73 @@ fn admit_here(hub: &Hub, pass: &mut Pass, who: Tag, c: ChannelId, place: Place) 
     }
 }
 
+// The same while an offer stands at the first place. The places of which is decided whether their element was kept are not looked at.
+fn admit_decided(
+    hub: &Hub,
+    pass: &mut Pass,
+    who: Tag,
+    c: ChannelId,
+    low: Place,
+    mark: Place,
+    most: u32,
+) -> Search
+    requires own { IsOwn hub.now pass.old who }
+    requires at { IsCell (shape_of hub.now) c low }
+    requires kind { kind_at (shape_of hub.now) c ≡ kinds.Buffered most }
+    requires some { 0 < most }
+    requires before { low < mark }
+    requires low { NoneBelow 0 low (at_channel (seen_by pass.old).seen c) }
+    ensures own { IsOwn hub.now pass.new who }
+    ensures search { SearchAnswer (shape_of hub.now) who c low mark (seen_by pass.old) (seen_by pass.new) result }
+{
+    let places = places_of(hub, c);
+    let known = decided_up_to(hub, pass, who, c, low, lower_of(mark, places));
+    let begun = begun_at(known, low, most);
+    let mut count = begun.count;
+    for place in begun.to..mark {
+        if count == most {
+            // While the first still stands, so do the others that were counted.
+            if stands_at(hub, pass, who, c, low) {
+                return Search::Nothing;
+            }
+            return Search::Passed;
+        }
+        match admit_here(hub, pass, who, c, place) {
+            Here::Done(owner) => return Search::Done(place, owner),
+            Here::Kept => count += 1,
+            Here::Gone => {}
+            Here::End => return Search::Nothing,
+        }
+    }
+    Search::Nothing
+}
+
+// The same behind a gap that an offer left. Where the first place has none any more, the walk begins anew behind it.
+fn admit_past(
+    hub: &Hub,
+    pass: &mut Pass,
+    who: Tag,
+    c: ChannelId,
+    low: Place,
+    mark: Place,
+    most: u32,
+) -> Search
+    requires own { IsOwn hub.now pass.old who }
+    requires at { IsCell (shape_of hub.now) c low }
+    requires kind { kind_at (shape_of hub.now) c ≡ kinds.Buffered most }
+    requires some { 0 < most }
+    requires before { low < mark }
+    requires given { low < (at_channel (seen_by pass.old).seen c).next }
+    requires low { NoneBelow 0 low (at_channel (seen_by pass.old).seen c) }
+    ensures own { IsOwn hub.now pass.new who }
+    ensures search { SearchAnswer (shape_of hub.now) who c low mark (seen_by pass.old) (seen_by pass.new) result }
+{
+    if stands_at(hub, pass, who, c, low) {
+        return admit_decided(hub, pass, who, c, low, mark, most);
+    }
+    Search::Passed
+}
+
 // Looks for an offer to admit from a place on, below which none stands. The places of the run of kept ones are not looked at.
 fn admit_from(
     hub: &Hub,
@@ -118,6 +186,7 @@ fn admit_from(
     requires channel { c < length (shape_of hub.now) }
     requires kind { kind_at (shape_of hub.now) c ≡ kinds.Buffered most }
     requires some { 0 < most }
+    requires before { low < mark }
     requires low { NoneBelow 0 low (at_channel (seen_by pass.old).seen c) }
     ensures own { IsOwn hub.now pass.new who }
     ensures search { SearchAnswer (shape_of hub.now) who c low mark (seen_by pass.old) (seen_by pass.new) result }
@@ -142,7 +211,7 @@ fn admit_from(
                 count += 1;
                 run = raise_run(hub, pass, who, c, run, low, place);
             }
-            Here::Gone => {}
+            Here::Gone => return admit_past(hub, pass, who, c, low, mark, most),
             Here::End => return Search::Nothing,
         }
     }

@@ -1,8 +1,8 @@
 //! The two counters of a channel, which say from where to look, and its run of kept places. They are raised by a step that shows
 //! nothing.
-ghost use Rattle.std.specs.Prelude.{◌≡◌, ◌⊎◌, ◌+◌, ◌<◌, ◌≤◌, MatchBool, ⊤, length};
+ghost use Rattle.std.specs.Prelude.{◌≡◌, ◌⊎◌, ◌+◌, ◌<◌, ◌≤◌, MatchBool, ⊤, true, length};
 ghost use Rattle.channel_model.specs.Laws.{NoneBelow};
-ghost use Rattle.cell_words.specs.Words.{send_number, receive_number, run_number, IsCell, WereKept};
+ghost use Rattle.cell_words.specs.Words.{send_number, receive_number, run_number, room_number, IsCell, WereKept, WerePut, had_room};
 ghost use Rattle.cell_words.specs.Hubs.{shape_of, seen_by, IsOwn};
 ghost use Rattle.cell_words.specs.Seen.{Sees, at_channel};
 
@@ -12,7 +12,7 @@ use crate::steps::{lift_word, load_word};
 use co_base::{ChannelId, Place, Tag};
 
 /// The first of the 16 words of a channel. Its run is the next one, its receive counter 8 words on.
-fn send_word(hub: &Hub, c: ChannelId) -> usize
+pub(crate) fn send_word(hub: &Hub, c: ChannelId) -> usize
     requires { c < length (shape_of hub.now) }
     ensures { result ≡ send_number (shape_of hub.now) c }
 {
@@ -172,4 +172,143 @@ pub(crate) fn raise_run(
         return lift_run(hub, pass, who, c, place, place + 1);
     }
     run
+}
+
+/// So many elements at least that were put with room, at the places from the first on, and before the last.
+#[derive(Clone, Copy, Debug, PartialEq, Eq)]
+pub(crate) struct RoomCount {
+    pub(crate) from: Place,
+    pub(crate) to: Place,
+    pub(crate) count: u32,
+}
+
+fn room_word(hub: &Hub, c: ChannelId) -> usize
+    requires { c < length (shape_of hub.now) }
+    ensures { result ≡ room_number (shape_of hub.now) c }
+{
+    send_word(hub, c) + 2
+}
+
+/// The count as its word has it: `to * 2^42 + from * 2^21 + count`.
+pub(crate) fn room_count(hub: &Hub, pass: &mut Pass, who: Tag, c: ChannelId) -> RoomCount
+    requires own { IsOwn hub.now pass.old who }
+    requires channel { c < length (shape_of hub.now) }
+    ensures own { IsOwn hub.now pass.new who }
+    ensures sees { Sees (seen_by pass.old) (seen_by pass.new) }
+    ensures put { WerePut (shape_of hub.now) (seen_by pass.new).seen c result.from result.to result.count }
+{
+    let word = load_word(hub, pass, who, room_word(hub, c));
+    RoomCount {
+        from: (word / 2097152 % 2097152) as Place,
+        to: (word / 4398046511104) as Place,
+        count: (word % 2097152) as u32,
+    }
+}
+
+/// Whether so many of the count stand before `end` while an offer stands at `low`, below which none does.
+pub(crate) fn counts_from(room: RoomCount, low: Place, end: Place, most: u32) -> bool
+    ensures { MatchBool result
+        ((room.from ≤ low) × (room.from ≤ room.to) × (room.to ≤ end) × (most + low ≤ room.count + room.from)) ⊤ }
+{
+    room.from <= low
+        && room.from <= room.to
+        && room.to <= end
+        && low - room.from <= room.count
+        && most <= room.count - (low - room.from)
+}
+
+/// Whether so many stand before `end` with those of the count, which are all behind an offer that stands at `low`.
+pub(crate) fn counts_behind(room: RoomCount, low: Place, end: Place, most: u32) -> bool
+    ensures { MatchBool result
+        ((low < room.from) × (room.from ≤ room.to) × (room.to ≤ end) × (most ≤ room.count + 1)) ⊤ }
+{
+    low < room.from
+        && room.from <= room.to
+        && room.to <= end
+        && (most == 0 || most - 1 <= room.count)
+}
+
+// Whether the count does not tell that any of its elements stands, while an offer stands at `low`.
+fn tells_nothing(room: RoomCount, low: Place) -> bool {
+    room.to <= low || (room.from <= low && room.count <= low - room.from)
+}
+
+// Says that so many elements were put with room.
+fn lift_room(hub: &Hub, pass: &mut Pass, who: Tag, c: ChannelId, from: Place, to: Place, count: u32)
+    requires own { IsOwn hub.now pass.old who }
+    requires channel { c < length (shape_of hub.now) }
+    requires small { (from < 2097152) × (to < 2097152) × (count < 2097152) }
+    requires put { WerePut (shape_of hub.now) (seen_by pass.old).seen c from to count }
+    ensures own { IsOwn hub.now pass.new who }
+    ensures same { seen_by pass.new ≡ seen_by pass.old }
+{
+    let word = to as u64 * 4398046511104 + (from as u64 * 2097152 + count as u64);
+    lift_word(hub, pass, who, room_word(hub, c), word);
+}
+
+// Begins a count with an element that was put with room.
+fn begin_room(hub: &Hub, pass: &mut Pass, who: Tag, c: ChannelId, place: Place)
+    requires own { IsOwn hub.now pass.old who }
+    requires channel { c < length (shape_of hub.now) }
+    requires small { place < 2097151 }
+    requires room { had_room (shape_of hub.now) (seen_by pass.old).seen c place ≡ true }
+    ensures own { IsOwn hub.now pass.new who }
+    ensures same { seen_by pass.new ≡ seen_by pass.old }
+{
+    lift_room(hub, pass, who, c, place, place + 1, 1);
+}
+
+// Counts an element that was put with room behind those of the count.
+fn lengthen_room(hub: &Hub, pass: &mut Pass, who: Tag, c: ChannelId, room: RoomCount, place: Place)
+    requires own { IsOwn hub.now pass.old who }
+    requires channel { c < length (shape_of hub.now) }
+    requires small { (place < 2097151) × (room.from < 2097151) × (room.count < 2097151) }
+    requires behind { (room.from ≤ room.to) × (room.to ≤ place) }
+    requires put { WerePut (shape_of hub.now) (seen_by pass.old).seen c room.from room.to room.count }
+    requires room { had_room (shape_of hub.now) (seen_by pass.old).seen c place ≡ true }
+    ensures own { IsOwn hub.now pass.new who }
+    ensures same { seen_by pass.new ≡ seen_by pass.old }
+{
+    lift_room(hub, pass, who, c, room.from, place + 1, room.count + 1);
+}
+
+/// Counts an element that was put with room; or begins a count there, if no offer stands any more of those that the old one has, or
+/// it does not tell how many.
+pub(crate) fn raise_room(
+    hub: &Hub,
+    pass: &mut Pass,
+    who: Tag,
+    c: ChannelId,
+    room: RoomCount,
+    low: Place,
+    place: Place,
+)
+    requires own { IsOwn hub.now pass.old who }
+    requires channel { c < length (shape_of hub.now) }
+    requires put { WerePut (shape_of hub.now) (seen_by pass.old).seen c room.from room.to room.count }
+    requires room { had_room (shape_of hub.now) (seen_by pass.old).seen c place ≡ true }
+    ensures own { IsOwn hub.now pass.new who }
+    ensures same { seen_by pass.new ≡ seen_by pass.old }
+{
+    // No channel has so many places.
+    if place >= 2097151 {
+        return;
+    }
+    if room.from >= 2097151 {
+        return;
+    }
+    if room.count >= 2097151 {
+        return;
+    }
+    if room.from > room.to {
+        return;
+    }
+    if room.to > place {
+        return;
+    }
+    if tells_nothing(room, low) {
+        begin_room(hub, pass, who, c, place);
+        return;
+    }
+    lengthen_room(hub, pass, who, c, room, place);
 }

@@ -5,14 +5,18 @@ ghost use Rattle.channel_model.specs.Histories.{replay};
 ghost use Rattle.channel_model.specs.Laws.{NoneBelow};
 ghost use Rattle.channel_model.specs.Answers.{IsTrimmed, StandsWithRoom};
 ghost use Rattle.cell_words.specs.Cells.{gather};
-ghost use Rattle.cell_words.specs.Words.{IsCell};
+ghost use Rattle.cell_words.specs.Words.{IsCell, WerePut};
 ghost use Rattle.cell_words.specs.Hubs.{shape_of, seen_by, IsOwn};
 ghost use Rattle.cell_words.specs.Seen.{Sees, at_channel};
 ghost use Rattle.cell_words.specs.Answers.{stands, IsOver, WasTooMany};
 
 use crate::cell_word::CellState;
 use crate::cells::{kind_of, load_cell, load_wait};
-use crate::counters::{has_from, kept_run, receives_from};
+use crate::counters::{
+    RoomCount, counts_behind, counts_from, has_from, kept_run, raise_receives, receives_from,
+    room_count,
+};
+use crate::decided::{decided_up_to, tells_enough, tells_fewer};
 use crate::hub::Hub;
 use crate::looks::{holder_of, lets_stand};
 use crate::pass::Pass;
@@ -98,6 +102,41 @@ fn count_from(
     count >= most
 }
 
+/// The same in a channel on which a send may wait, by the places of which is decided whether their element was kept: so a gap that an offer
+/// left ends no count.
+fn count_decided(
+    hub: &Hub,
+    pass: &mut Pass,
+    who: Tag,
+    c: ChannelId,
+    low: Place,
+    end: Place,
+    most: u32,
+) -> bool
+    requires own { IsOwn hub.now pass.old who }
+    requires at { IsCell (shape_of hub.now) c end }
+    requires kind { suspends (kind_at (shape_of hub.now) c) ≡ true }
+    requires given { end ≤ (at_channel (seen_by pass.old).seen c).next }
+    requires from { low < end }
+    requires low { NoneBelow 0 low (at_channel (seen_by pass.old).seen c) }
+    ensures own { IsOwn hub.now pass.new who }
+    ensures sees { Sees (seen_by pass.old) (seen_by pass.new) }
+    ensures count { MatchBool result
+        (most ≤ length (gather (stands (seen_by pass.old).seen c) end))
+        (length (gather (stands (seen_by pass.new).seen c) end) < most) }
+{
+    let known = decided_up_to(hub, pass, who, c, low, end);
+    if tells_fewer(known, low, end, most) {
+        return false;
+    }
+    let stood = stands_at(hub, pass, who, c, low);
+    // Kept elements leave from the front alone: while the first stands, so do all that were kept behind it.
+    if tells_enough(known, low, end, most, stood) {
+        return true;
+    }
+    count_from(hub, pass, who, c, low, end, most)
+}
+
 /// Whether so many offers stand below a place of a channel on which a send may wait: true if they did at the beginning, false if fewer do
 /// at the end.
 fn count_below(hub: &Hub, pass: &mut Pass, who: Tag, c: ChannelId, end: Place, most: u32) -> bool
@@ -122,8 +161,54 @@ fn count_below(hub: &Hub, pass: &mut Pass, who: Tag, c: ChannelId, end: Place, m
             return false;
         }
         if stands_at(hub, pass, who, c, low) {
+            raise_receives(hub, pass, who, c, from, low);
             // Kept elements leave from the front alone: while the first stands, so do those of the run behind it.
             if has_from(run, low, most) {
+                return true;
+            }
+            return count_decided(hub, pass, who, c, low, end, most);
+        }
+    }
+    most == 0
+}
+
+/// Whether so many offers stand below a place of a channel that does not keep its latest: true if they did at the beginning, false if
+/// fewer do at the end.
+pub(crate) fn count_latest(
+    hub: &Hub,
+    pass: &mut Pass,
+    who: Tag,
+    c: ChannelId,
+    room: RoomCount,
+    end: Place,
+    most: u32,
+) -> bool
+    requires own { IsOwn hub.now pass.old who }
+    requires at { IsCell (shape_of hub.now) c end }
+    requires given { end ≤ (at_channel (seen_by pass.old).seen c).next }
+    requires put { WerePut (shape_of hub.now) (seen_by pass.old).seen c room.from room.to room.count }
+    ensures own { IsOwn hub.now pass.new who }
+    ensures sees { Sees (seen_by pass.old) (seen_by pass.new) }
+    ensures count { MatchBool result
+        (most ≤ length (gather (stands (seen_by pass.old).seen c) end))
+        (length (gather (stands (seen_by pass.new).seen c) end) < most) }
+{
+    // Fewer places: nothing is loaded.
+    if end < most {
+        return false;
+    }
+    let from = offers_from(hub, pass, who, c, end);
+    for low in from..end {
+        if end - low < most {
+            return false;
+        }
+        if stands_at(hub, pass, who, c, low) {
+            raise_receives(hub, pass, who, c, from, low);
+            // Nobody spurns what was put with room: while the first stands, so do those of the count behind it.
+            if counts_from(room, low, end, most) {
+                return true;
+            }
+            if counts_behind(room, low, end, most) {
                 return true;
             }
             return count_from(hub, pass, who, c, low, end, most);
@@ -202,10 +287,6 @@ pub fn was_too_many(hub: &Hub, pass: &mut Pass, who: Tag, c: ChannelId, mine: Pl
         Some(most) => most,
         None => return false,
     };
-    // Fewer places: nothing is loaded.
-    if mine < most {
-        return false;
-    }
-    let from = offers_from(hub, pass, who, c, mine);
-    count_from(hub, pass, who, c, from, mine, most)
+    let room = room_count(hub, pass, who, c);
+    count_latest(hub, pass, who, c, room, mine, most)
 }

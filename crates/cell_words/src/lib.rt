@@ -8,9 +8,10 @@
 //! **The words.** Each place of a channel has a cell and a wait, and the channel's end has one cell and wait more. A cell word says what
 //! became of its place, a wait word how the wait was resolved that began there (`cell_word` and `wait_word` have the bits). A wait that
 //! stands has the word 0. A select's clauses all name the cell where its wait began. Two counters of each channel say from where to look,
-//! and its run says of which places that follow one another each was kept: an element was put there, or an offer was admitted. A channel
-//! has 16 words for these three, so that who works on one channel takes no line of the cache from who works on another: one line for the
-//! send counter and the run, and one for the receive counter.
+//! and its run says of which places that follow one another each was kept: an element was put there, or an offer was admitted. Two more
+//! count where the run ends too soon: its *room* counts elements that were put while fewer stood than the channel keeps, and its
+//! *decided* places are those of which is decided whether their element was kept. A channel has 16 words for these five, so that who works
+//! on one channel takes no line of the cache from who works on another: one line for the receive counter, and one for the others.
 //!
 //! | word | from | to | the step, and who makes it | the exchange decides |
 //! |---|---|---|---|---|
@@ -31,6 +32,8 @@
 //! | wait | resolved | settled | `settle_at`: its coroutine | nothing: nobody else settles it |
 //! | counter | n | at least m | `raise_sends`, `raise_receives`: anybody | nothing: it is a hint |
 //! | run | to * 2^32 + from | at least that | `offer_at`, `admit_below`: who put or admitted | nothing: it is a hint |
+//! | room | to * 2^42 + from * 2^21 + count | at least that | `offer_at`: who put with room | nothing: it is a hint |
+//! | decided | to * 2^42 + from * 2^21 + count | at least that | `offer_at`, `admit_below`: who counted | nothing: it is a hint |
 //!
 //! **What stands.** A receiver stands while its wait has the word 0. An offer stands while its wait has the word 0, and also after its wait
 //! was admitted at its clause, until its cell is emptied. So a held offer's cell stays as it is when its wait is taken, withdrawn or
@@ -66,12 +69,23 @@
 //! is that of a channel that is buffered, conflated or drops its oldest. Kept elements leave it from the front alone: so while an offer
 //! stands in the run, all behind it stand, and nobody waits with one of them. Where the first that stands is in the run, and the run has as
 //! many places from there on as the channel keeps, the channel is full; with one place more the oldest is dropped; a walk for an offer to
-//! admit begins where the run ends. A place that somebody gave up ends a run, and until the receivers have passed it the walks go on from
-//! there, or over all. Who puts an element first goes on with the run over the elements that others put behind it, since who put one may
-//! say so late, or not at all where another has said more.
+//! admit begins where the run ends. A place that somebody gave up ends a run. Who puts an element first goes on with the run over the
+//! elements that others put behind it, since who put one may say so late, or not at all where another has said more.
 //!
-//! **The history.** It is that of the channels, a list of entries; all words are a function of it, except for the counters and the
-//! run (`Words` has it).
+//! **The decided places** spare the walks of a buffered channel the places behind one that somebody gave up. Of a place is decided whether
+//! its element was kept once an element was put there, or the wait of its offer was resolved; then it stays so. The word has places that
+//! follow one another, of each of which it is decided, and at how many an element was kept. Who counts moves its beginning on to the first
+//! place where an offer stands, and its end on as far as it is decided; so each place is looked at about twice, however often is counted.
+//! While the first stands, exactly those stand that were kept.
+//!
+//! **The room** spares both walks of a send on a channel that does not keep its latest the places that they would pass, where they may
+//! answer that as many stand as are kept. Nobody spurns an element that was put while fewer stood; so while an offer stands, those behind
+//! it stand that were put with room. The word has at how many of its places that was so: where the first that stands is among them, all
+//! but as many as there are places before it are left; where it is before them, all are. Where an element that was received had spurned
+//! ones behind it that were counted over, the word may tell too few, until a new count begins; the walks are then as long as before.
+//!
+//! **The history.** It is that of the channels, a list of entries; all words are a function of it, except for the counters, the run, the
+//! room and the decided places (`Words` has it).
 //! A `Pass` has seen a beginning of the history, and all entries of its own tags; the one that gives out tags has seen none of a tag
 //! that it has not given out.
 //!
@@ -80,6 +94,7 @@
 //! - `meeting`: how a hub is made, and its passes are split, met and ended.
 //! - `steps`, `cells`: the three steps on a word, and those on cells and waits.
 //! - `found`, `looks`: what a caller finds at a place, and what the words tell.
+//! - `decided`: of which places is decided whether their element was kept, and at how many it was.
 //! - `counting`, `placing`: whether a channel is full, or keeps too many, or an offer was one too many; a caller is placed where the
 //!   channel ends.
 //! - `registering`: a select's clause is placed where the channel ends; whether the other side stands.
@@ -88,7 +103,7 @@
 //! - `admitting`: a held offer is kept from now on; a walk for one that may be.
 //! - `own_waits`: a coroutine looks at its own wait, withdraws it or settles it.
 //! - `ending`, `counters`: where a channel ends, is closed and cancelled, its receivers are told so; from where to look, and which
-//!   places were kept.
+//!   places were kept, or put with room.
 //! - `laws`: what the words say.
 #![tactic(auto)]
 
@@ -97,6 +112,7 @@ mod cell_word;
 mod cells;
 mod counters;
 mod counting;
+mod decided;
 mod ending;
 mod found;
 mod hub;

@@ -5,12 +5,11 @@ use Rattle.cell_words.specs.Hubs.{shape_of}
 use Rattle.cell_words.proofs.KeptBehind.{waits_keeps}
 use Rattle.cell_words.proofs.LooksAtCells.{hub_legal, sees_then, below_seen}
 use Rattle.cell_words.proofs.RunsOfKeptPlaces.{run_seen, run_made, admit_kept, walked_start}
-use Rattle.cell_words.proofs.WalksToAdmit.{Walked, walked_seen, walked_kept, walked_gone, all_passed, all_given, within_places, sees_self, nothing_now, admits_seen, passed_low, room_by, full_by, search_told}
+use Rattle.cell_words.proofs.WalksToAdmit.{Walked, walked_seen, walked_kept, all_passed, all_given, within_places, sees_self, nothing_now, admits_seen, passed_low, room_by, full_by, search_told, search_seen}
 use Rattle.cell_words.proofs.WalksCount.{less_than}
 use Rattle.cell_words.specs.Seen.{Seen, Sees}
 use Rattle.cell_words.specs.Words.{WereKept}
 use Rattle.cell_words.specs.Answers.{Admits}
-use Rattle.cell_words.proofs.admitting.admit_from.Goals.{in-Kept, in-Gone}
 use Rattle.cell_words.proofs.admitting.admit_from.Goals as goal
 
 pub loop-place-init : goal.loop-place-init
@@ -149,31 +148,50 @@ loop-place-preserved c =
     let l = hub_legal c.args.hub.now c.admit_here.new.pass c.admit_here.ensures.own.0 in
     let more = less_than c.loop-place.count c.args.most i.few c.if-count-most.false in
     let least = i.least in
-    elim c.match-admit_here.branch [
-      | in-Kept x ↦ let t = x.in-Kept.ensures.here in let same = sym x.raise_run-run.ensures.same
-          in rw x.pass-is (rw x.run-is (rw x.count-is (record {
-            own = x.raise_run-run.ensures.own;
-            sees = subst (λ (z : Seen). Sees u z) same (sees_then u v w i.sees t.0);
-            walked = subst (λ (z : Seen). Walked c.args.c c.args.low (c.loop-place.place + 1) (c.loop-place.count + 1) z.seen) same
-                (walked_kept c.args.c c.args.low c.loop-place.place c.loop-place.count w.seen i.least
-                (walked_seen shape c.args.c c.args.low c.loop-place.place c.loop-place.count (ap (λ (k : Kind). suspends k) c.requires.kind)
-                v w t.0 lv l i.walked) t.1);
-            least = omega arith;
-            few = more;
-            run = subst (λ (z : Seen). WereKept z.seen c.args.c x.raise_run-run.result.from x.raise_run-run.result.to) same
-                x.raise_run-run.ensures.kept;
-          })))
-      | in-Gone x ↦ let t = x.in-Gone.ensures.here in rw x.pass-is (rw x.run-is (rw x.count-is (record {
-        own = c.admit_here.ensures.own;
-        sees = sees_then u v w i.sees t.0;
-        walked = walked_gone c.args.c c.args.low c.loop-place.place c.loop-place.count w.seen
-            (walked_seen shape c.args.c c.args.low c.loop-place.place c.loop-place.count (ap (λ (k : Kind). suspends k) c.requires.kind) v w
-            t.0 lv l i.walked) t.1 t.2;
-        least = omega arith;
-        few = i.few;
-        run = run_seen shape c.args.c _ _ v w t.0 l i.run;
-      })))
-    ]
+    let t = c.in-Kept.ensures.here in
+    let same = sym c.raise_run-run.ensures.same in
+    record {
+      own = c.raise_run-run.ensures.own;
+      sees = subst (λ (z : Seen). Sees u z) same (sees_then u v w i.sees t.0);
+      walked = subst (λ (z : Seen). Walked c.args.c c.args.low (c.loop-place.place + 1) (c.loop-place.count + 1) z.seen) same
+          (walked_kept c.args.c c.args.low c.loop-place.place c.loop-place.count w.seen i.least
+          (walked_seen shape c.args.c c.args.low c.loop-place.place c.loop-place.count (ap (λ (k : Kind). suspends k) c.requires.kind)
+          v w t.0 lv l i.walked) t.1);
+      least = omega arith;
+      few = more;
+      run = subst (λ (z : Seen). WereKept z.seen c.args.c c.raise_run-run.result.from c.raise_run-run.result.to) same
+          c.raise_run-run.ensures.kept;
+    }
+
+pub admit_past-requires-clause-at : goal.admit_past-requires-clause-at
+admit_past-requires-clause-at c =
+    let i = c.loop-place.invariant in
+    let w = within_places (shape_of c.args.hub.now) c.args.c c.loop-place.place c.loop-place.pass.seat.me.0.seen
+    (hub_legal c.args.hub.now c.loop-place.pass i.own.0) i.walked.given in
+    let least = i.least in
+    (c.requires.channel, omega arith)
+
+pub admit_past-requires-clause-given : goal.admit_past-requires-clause-given
+admit_past-requires-clause-given c =
+    let least = c.loop-place.invariant.least in
+    let given = c.in-Gone.ensures.here.1 in
+    omega arith
+
+pub admit_past-requires-clause-low : goal.admit_past-requires-clause-low
+admit_past-requires-clause-low c =
+    let i = c.loop-place.invariant in
+    below_seen (shape_of c.args.hub.now) 0 c.args.low c.args.c c.loop-place.pass.seat.me.0 c.admit_here.new.pass.seat.me.0
+    c.in-Gone.ensures.here.0 (hub_legal c.args.hub.now c.admit_here.new.pass c.admit_here.ensures.own.0) i.walked.below
+
+pub returns-in-Gone-clause-search : goal.returns-in-Gone-clause-search
+returns-in-Gone-clause-search c =
+    let u = c.args.pass.now.seat.me.0 in
+    let e = c.kept_run-run.new.pass.seat.me.0 in
+    let v = c.loop-place.pass.seat.me.0 in
+    let w = c.admit_here.new.pass.seat.me.0 in
+    search_seen (shape_of c.args.hub.now) c.args.who c.args.c c.args.low c.args.mark u w c.admit_past.new.pass.seat.me.0
+    (sees_then u v w (sees_then u e v c.kept_run-run.ensures.sees c.loop-place.invariant.sees) c.in-Gone.ensures.here.0)
+    c.admit_past.result c.admit_past.ensures.search
 
 pub raise_run-requires-clause-at : goal.raise_run-requires-clause-at
 raise_run-requires-clause-at c =

@@ -1,7 +1,8 @@
-use Rattle.std.proofs.Common.{◌-◌, true, arith}
+use Rattle.std.proofs.Common.{◌-◌, true, sym, subst, arith}
 use Rattle.channel_model.specs.Channels.{kind_at}
+use Rattle.channel_model.specs.Laws.{NoneBelow}
 use Rattle.cell_words.specs.Hubs.{shape_of}
-use Rattle.cell_words.specs.Seen.{at_channel}
+use Rattle.cell_words.specs.Seen.{Seen, Sees, at_channel}
 use Rattle.cell_words.proofs.KeptBehind.{waits_keeps}
 use Rattle.cell_words.proofs.LooksAtCells.{hub_legal, sees_then, given_seen, below_seen}
 use Rattle.cell_words.proofs.WalksCount.{count_before, few_places, fewer_below}
@@ -58,8 +59,10 @@ returns-then-has_from-clause-sees c =
     let a = c.offers_from-from.new.pass.seat.me.0 in
     let b = c.kept_run-run.new.pass.seat.me.0 in
     let v = c.loop-low.pass.seat.me.0 in
-    sees_then u v c.stands_at.new.pass.seat.me.0 (sees_then u b v
-    (sees_then u a b c.offers_from-from.ensures.sees c.kept_run-run.ensures.sees) c.loop-low.invariant.sees) c.stands_at.ensures.sees
+    sees_then u v c.raise_receives.new.pass.seat.me.0 (sees_then u b v
+    (sees_then u a b c.offers_from-from.ensures.sees c.kept_run-run.ensures.sees) c.loop-low.invariant.sees)
+    (subst (λ (z : Seen). Sees c.loop-low.pass.seat.me.0 z) (sym c.raise_receives.ensures.same)
+    c.stands_at.ensures.sees)
 
 pub returns-then-has_from-clause-count : goal.returns-then-has_from-clause-count
 returns-then-has_from-clause-count c =
@@ -78,22 +81,29 @@ returns-then-has_from-clause-count c =
     c.args.end r.0 r.1
     (omega (arith, c.if-end-low.false, c.loop-low-test.true)) (rw c.if-stands_at.true at c.stands_at.ensures.stands))
 
-pub count_from-requires-clause-given : goal.count_from-requires-clause-given
-count_from-requires-clause-given c =
+pub count_decided-requires-clause-given : goal.count_decided-requires-clause-given
+count_decided-requires-clause-given c =
     let u = c.args.pass.now.seat.me.0 in
     let a = c.offers_from-from.new.pass.seat.me.0 in
     let b = c.kept_run-run.new.pass.seat.me.0 in
     let v = c.loop-low.pass.seat.me.0 in
-    let w = c.stands_at.new.pass.seat.me.0 in
+    let w = c.raise_receives.new.pass.seat.me.0 in
     given_seen (shape_of c.args.hub.now) c.args.end c.args.c u w
     (sees_then u v w (sees_then u b v (sees_then u a b c.offers_from-from.ensures.sees c.kept_run-run.ensures.sees)
-    c.loop-low.invariant.sees) c.stands_at.ensures.sees)
-    (hub_legal c.args.hub.now c.stands_at.new.pass c.stands_at.ensures.own.0) c.requires.given
+    c.loop-low.invariant.sees) (subst (λ (z : Seen). Sees c.loop-low.pass.seat.me.0 z) (sym c.raise_receives.ensures.same)
+    c.stands_at.ensures.sees))
+    (hub_legal c.args.hub.now c.raise_receives.new.pass c.raise_receives.ensures.own.0) c.requires.given
 
-pub count_from-requires-clause-low : goal.count_from-requires-clause-low
-count_from-requires-clause-low c =
+pub raise_receives-requires-clause-low : goal.raise_receives-requires-clause-low
+raise_receives-requires-clause-low c =
     below_seen (shape_of c.args.hub.now) 0 c.loop-low.low c.args.c c.loop-low.pass.seat.me.0 c.stands_at.new.pass.seat.me.0
     c.stands_at.ensures.sees (hub_legal c.args.hub.now c.stands_at.new.pass c.stands_at.ensures.own.0) c.loop-low.invariant.low
+
+pub count_decided-requires-clause-low : goal.count_decided-requires-clause-low
+count_decided-requires-clause-low c =
+    subst (λ (z : Seen). NoneBelow 0 c.loop-low.low (at_channel z.seen c.args.c)) (sym c.raise_receives.ensures.same)
+    (below_seen (shape_of c.args.hub.now) 0 c.loop-low.low c.args.c c.loop-low.pass.seat.me.0 c.stands_at.new.pass.seat.me.0
+    c.stands_at.ensures.sees (hub_legal c.args.hub.now c.stands_at.new.pass c.stands_at.ensures.own.0) c.loop-low.invariant.low)
 
 pub returns-then-stands_at-clause-sees : goal.returns-then-stands_at-clause-sees
 returns-then-stands_at-clause-sees c =
@@ -101,10 +111,11 @@ returns-then-stands_at-clause-sees c =
     let a = c.offers_from-from.new.pass.seat.me.0 in
     let b = c.kept_run-run.new.pass.seat.me.0 in
     let v = c.loop-low.pass.seat.me.0 in
-    let w = c.stands_at.new.pass.seat.me.0 in
-    sees_then u w c.count_from.new.pass.seat.me.0 (sees_then u v w
+    let w = c.raise_receives.new.pass.seat.me.0 in
+    sees_then u w c.count_decided.new.pass.seat.me.0 (sees_then u v w
     (sees_then u b v (sees_then u a b c.offers_from-from.ensures.sees c.kept_run-run.ensures.sees) c.loop-low.invariant.sees)
-    c.stands_at.ensures.sees) c.count_from.ensures.sees
+    (subst (λ (z : Seen). Sees c.loop-low.pass.seat.me.0 z) (sym c.raise_receives.ensures.same)
+    c.stands_at.ensures.sees)) c.count_decided.ensures.sees
 
 pub returns-then-stands_at-clause-count : goal.returns-then-stands_at-clause-count
 returns-then-stands_at-clause-count c =
@@ -112,12 +123,14 @@ returns-then-stands_at-clause-count c =
     let a = c.offers_from-from.new.pass.seat.me.0 in
     let b = c.kept_run-run.new.pass.seat.me.0 in
     let v = c.loop-low.pass.seat.me.0 in
-    let w = c.stands_at.new.pass.seat.me.0 in
-    count_before (shape_of c.args.hub.now) c.args.c c.args.end c.args.most u w c.count_from.new.pass.seat.me.0
+    let w = c.raise_receives.new.pass.seat.me.0 in
+    count_before (shape_of c.args.hub.now) c.args.c c.args.end c.args.most u w c.count_decided.new.pass.seat.me.0
     (sees_then u v w (sees_then u b v (sees_then u a b c.offers_from-from.ensures.sees c.kept_run-run.ensures.sees)
-    c.loop-low.invariant.sees) c.stands_at.ensures.sees)
-    (hub_legal c.args.hub.now c.args.pass.now c.requires.own.0) (hub_legal c.args.hub.now c.stands_at.new.pass c.stands_at.ensures.own.0)
-    c.requires.given c.count_from.result c.count_from.ensures.count
+    c.loop-low.invariant.sees) (subst (λ (z : Seen). Sees c.loop-low.pass.seat.me.0 z) (sym c.raise_receives.ensures.same)
+    c.stands_at.ensures.sees))
+    (hub_legal c.args.hub.now c.args.pass.now c.requires.own.0)
+    (hub_legal c.args.hub.now c.raise_receives.new.pass c.raise_receives.ensures.own.0)
+    c.requires.given c.count_decided.result c.count_decided.ensures.count
 
 pub returns-clause-sees : goal.returns-clause-sees
 returns-clause-sees c =

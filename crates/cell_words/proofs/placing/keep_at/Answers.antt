@@ -1,4 +1,4 @@
-use Rattle.std.proofs.Common.{sym, subst}
+use Rattle.std.proofs.Common.{sym, ◌∙◌, subst}
 use Rattle.cell_words.specs.Hubs.{shape_of}
 use Rattle.cell_words.specs.declared.found.At.{At}
 use Rattle.cell_words.specs.Seen.{Seen}
@@ -57,3 +57,6 @@ returns-clause-at c =
     subst (λ (z : Seen). OfferAt shape c.args.who c.args.c c.args.place c.args.value u z c.put_at-put.result) (sym c.say_kept.ensures.same)
     (offer_at_seen shape c.args.who c.args.c c.args.place c.args.value u w x
     (sees_then u v w c.run_up_to-run.ensures.sees c.receives_from-low.ensures.sees) c.put_at-put.result c.put_at-put.ensures.at)
+
+pub latest_at-requires-clause-kind : goal.latest_at-requires-clause-kind
+latest_at-requires-clause-kind c = sym c.kind_of.ensures ∙ c.in-DropLatest.is

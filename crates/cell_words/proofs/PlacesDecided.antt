@@ -1,0 +1,179 @@
+-- A place of which is decided whether its element was kept stays as it was decided, and so does a count of such places.
+use Rattle.std.proofs.Common.{◌≡◌, ◌⊎◌, ℕ, zero, suc, ◌+◌, ◌==◌, Bool, true, false, List, ◌++◌, if◌then◌else◌, Option, Some, None, sym, refl, ap, ◌∙◌, subst, ⊎_elim, inl, inr, arith, eq-eqb}
+use Rattle.std.proofs.lemmas.Bool.{eqb-true}
+use Rattle.co_base.specs.declared.names.WaitId.{WaitId}
+use Rattle.channel_model.specs.declared.acts.Entry.{Entry}
+use Rattle.channel_model.specs.declared.standing.Resolution.{Resolution}
+use Rattle.channel_model.specs.declared.standing.Resolution.TheVariants as resolved
+use Rattle.channel_model.specs.Channels.{Shape, State, Wait}
+use Rattle.channel_model.specs.Effects.{after}
+use Rattle.channel_model.specs.Needs.{Needs}
+use Rattle.channel_model.specs.Histories.{replay, Legal}
+use Rattle.channel_model.specs.Laws.{IsResolvedAs}
+use Rattle.channel_model.proofs.Later.{resolved_later}
+use Rattle.channel_model.proofs.ResolvedAs.{resolved_lasts}
+use Rattle.channel_model.proofs.Sound.{Sound}
+use Rattle.cell_words.specs.Cells.{Cell, free, receiver, offer, buffered, emptied, closed_by, voided_by, standing, offer_of, offer_by, offer_after, emptied_if, mark, Board, blank, cell_of, is_used}
+use Rattle.cell_words.specs.Words.{one_if, kept_after, kept_by, kept_of, kept_in, fate, add_kept, kept_among, WereDecided}
+use Rattle.cell_words.proofs.ListsOfCells.{Tied}
+use Rattle.cell_words.proofs.CellsGiveLists.{board_lasts, board_state}
+use Rattle.cell_words.proofs.CellsLast.{used_stays, kept_more}
+
+-- ---- a held offer's cell is emptied only after it was admitted
+
+module _ (shape : Shape) (c p v who : ℕ) (w : WaitId) (k : ℕ) where
+  abbrev StaysOrAdmitted : (WaitId → Option Wait) → Cell → Type 0
+  StaysOrAdmitted waits y = (y ≡ offer v who w k) ⊎ ((y ≡ emptied v) × IsResolvedAs (resolved.Admitted k) (waits w))
+
+  of_how : (waits : WaitId → Option Wait) (q : ℕ) (how : Resolution)
+      → (Some how ≡ Some (resolved.Admitted k) → IsResolvedAs (resolved.Admitted k) (waits w))
+      → StaysOrAdmitted waits (emptied_if (offer_after q v k how) (offer v who w k))
+  of_how waits q (resolved.Handed j x) g = inl refl
+  of_how waits q (resolved.Taken j) g = inl refl
+  of_how waits q (resolved.Admitted j) g = go (j == k) refl
+    where
+      go : (b : Bool) → (j == k) ≡ b
+          → StaysOrAdmitted waits (emptied_if (if b then Some (record { place = q; value = v; holder = None }) else None) (offer v who w k))
+      go true e = inr (refl, g (ap (λ (n : ℕ). Some (resolved.Admitted n)) (eqb-true j k e)))
+      go false e = inl refl
+  of_how waits q (resolved.Closed j x) g = inl refl
+  of_how waits q (resolved.Withdrawn why) g = inl refl
+  of_how waits q resolved.Voided g = inl refl
+
+  of_parts : (waits : WaitId → Option Wait) (q : ℕ) (how : Option Resolution)
+      → (how ≡ Some (resolved.Admitted k) → IsResolvedAs (resolved.Admitted k) (waits w))
+      → StaysOrAdmitted waits (emptied_if (offer_by q v w k how) (offer v who w k))
+  of_parts waits q None g = inl refl
+  of_parts waits q (Some how) g = of_how waits q how g
+
+  of_wait : (waits : WaitId → Option Wait) (q : ℕ) (y : Option Wait)
+      → (IsResolvedAs (resolved.Admitted k) y → IsResolvedAs (resolved.Admitted k) (waits w))
+      → StaysOrAdmitted waits (emptied_if (offer_of q v w k y) (offer v who w k))
+  of_wait waits q None g = inl refl
+  of_wait waits q (Some x) g = of_parts waits q x.resolved g
+
+  abbrev StaysOnBoard : Board → Type 0
+  StaysOnBoard b = StaysOrAdmitted b.state.waits (b.cells c p)
+
+  lasts_admitted : (b : Board) (e : Entry) → Sound shape b.state → Needs shape b.state e.who e.act
+      → IsResolvedAs (resolved.Admitted k) (b.state.waits w) → IsResolvedAs (resolved.Admitted k) ((after b.state e.who e.act).waits w)
+  lasts_admitted b e s n h = (resolved_lasts shape (resolved.Admitted k) w).step b.state e.who e.act s n h
+
+  stays : (b : Board) (e : Entry) → Sound shape b.state → Tied b → Needs shape b.state e.who e.act → StaysOnBoard b
+      → StaysOrAdmitted (after b.state e.who e.act).waits (mark b.state b.cells e.who e.act c p)
+  stays b e s t n h = ⊎_elim
+      (λ (x : b.cells c p ≡ offer v who w k). used_stays shape (StaysOrAdmitted (after b.state e.who e.act).waits) b e c p t n
+      (ap is_used x) (inl x)
+      (λ q was. subst (λ (y : Cell). StaysOrAdmitted (after b.state e.who e.act).waits (emptied_if (standing b.state.waits q y) y)) (sym x)
+      (of_wait (after b.state e.who e.act).waits q (b.state.waits w) (lasts_admitted b e s n))))
+      (λ (x : (b.cells c p ≡ emptied v) × IsResolvedAs (resolved.Admitted k) (b.state.waits w)). inr (
+        used_stays shape (λ (y : Cell). y ≡ emptied v) b e c p t n (ap is_used x.0) x.0
+            (λ q is. ap (λ (y : Cell). emptied_if (standing b.state.waits q y) y) x.0),
+        lasts_admitted b e s n x.1,
+      ))
+      h
+
+  pub held_more_admitted : (xs ys : List Entry) → Legal shape (xs ++ ys) → cell_of xs c p ≡ offer v who w k
+      → StaysOrAdmitted (replay (xs ++ ys)).waits (cell_of (xs ++ ys) c p)
+  held_more_admitted xs ys l h = subst (λ (s : State). StaysOrAdmitted s.waits (cell_of (xs ++ ys) c p)) (board_state blank (xs ++ ys))
+      (board_lasts shape StaysOnBoard (record { step = stays }) xs ys l (inl h))
+
+-- ---- what was decided
+
+pub record Resolves (k : ℕ) (b : Bool) (y : Option Wait) : Type 0 where
+  pub how : Resolution
+  pub is : IsResolvedAs how y
+  pub so : kept_after k how ≡ b
+
+some_bool : (a b : Bool) → Some a ≡ Some b → a ≡ b
+some_bool a b e = cc
+
+kept_resolved : (k : ℕ) (b : Bool) (y : Option Wait) → kept_of k y ≡ Some b → Resolves k b y
+kept_resolved k b None e = cc
+kept_resolved k b (Some x) e = go x.resolved refl e
+  where
+    go : (o : Option Resolution) → x.resolved ≡ o → kept_by k o ≡ Some b → Resolves k b (Some x)
+    go None is f = cc
+    go (Some how) is f = record { how = how; is = is; so = some_bool (kept_after k how) b f }
+
+kept_is : (k : ℕ) (how : Resolution) (y : Option Wait) → IsResolvedAs how y → kept_of k y ≡ Some (kept_after k how)
+kept_is k how None h = absurd h
+kept_is k how (Some x) h = ap (kept_by k) h
+
+same_clause : (k : ℕ) → (k == k) ≡ true
+same_clause k = eq-eqb k k refl
+
+-- an offer's cell, and what its wait says later
+pub offer_fate : (shape : Shape) (c p v who k : ℕ) (w : WaitId) (b : Bool) (xs ys : List Entry) → Legal shape (xs ++ ys)
+    → cell_of xs c p ≡ offer v who w k → kept_of k ((replay (xs ++ ys)).waits w) ≡ Some b → fate (xs ++ ys) c p ≡ Some b
+offer_fate shape c p v who k w b xs ys l e h = ⊎_elim
+    (λ (x : cell_of (xs ++ ys) c p ≡ offer v who w k). ap (kept_in (replay (xs ++ ys)).waits) x ∙ h)
+    (λ (x : (cell_of (xs ++ ys) c p ≡ emptied v) × IsResolvedAs (resolved.Admitted k) ((replay (xs ++ ys)).waits w)).
+    ap (kept_in (replay (xs ++ ys)).waits) x.0 ∙ (ap (λ (z : Bool). Some z) (sym (same_clause k))
+    ∙ (sym (kept_is k (resolved.Admitted k) ((replay (xs ++ ys)).waits w) x.1) ∙ h)))
+    (held_more_admitted shape c p v who w k xs ys l e)
+
+fate_more : (shape : Shape) (c p : ℕ) (b : Bool) (xs ys : List Entry) → Legal shape (xs ++ ys) → (y : Cell) → cell_of xs c p ≡ y
+    → kept_in (replay xs).waits y ≡ Some b → fate (xs ++ ys) c p ≡ Some b
+fate_more shape c p b xs ys l free e h = cc
+fate_more shape c p b xs ys l (receiver who w k) e h = cc
+fate_more shape c p b xs ys l (offer v who w k) e h =
+    let r = kept_resolved k b ((replay xs).waits w) h in
+    offer_fate shape c p v who k w b xs ys l e
+    (kept_is k r.how ((replay (xs ++ ys)).waits w) (resolved_later shape xs ys w r.how l r.is) ∙ ap (λ (z : Bool). Some z) r.so)
+fate_more shape c p b xs ys l (buffered v) e h = ⊎_elim
+    (λ (x : cell_of (xs ++ ys) c p ≡ buffered v). ap (kept_in (replay (xs ++ ys)).waits) x ∙ h)
+    (λ (x : cell_of (xs ++ ys) c p ≡ emptied v). ap (kept_in (replay (xs ++ ys)).waits) x ∙ h)
+    (kept_more shape c p v xs ys l (inl e))
+fate_more shape c p b xs ys l (emptied v) e h = ⊎_elim
+    (λ (x : cell_of (xs ++ ys) c p ≡ buffered v). ap (kept_in (replay (xs ++ ys)).waits) x ∙ h)
+    (λ (x : cell_of (xs ++ ys) c p ≡ emptied v). ap (kept_in (replay (xs ++ ys)).waits) x ∙ h)
+    (kept_more shape c p v xs ys l (inr e))
+fate_more shape c p b xs ys l (closed_by v) e h = cc
+fate_more shape c p b xs ys l (voided_by v) e h = cc
+
+-- ---- counts of them
+
+-- the last place, and those before it
+pub record Split (x : Option Bool) (y : Option ℕ) (count : ℕ) : Type 0 where
+  pub kept : Bool
+  pub rest : ℕ
+  pub last : x ≡ Some kept
+  pub before : y ≡ Some rest
+  pub sum : count ≡ rest + one_if kept
+
+pub some_number : (a b : ℕ) → Some a ≡ Some b → a ≡ b
+some_number a b e = cc
+
+pub split : (x : Option Bool) (y : Option ℕ) (count : ℕ) → add_kept x y ≡ Some count → Split x y count
+split None y count h = cc
+split (Some b) None count h = cc
+split (Some b) (Some n) count h = record {
+  kept = b;
+  rest = n;
+  last = refl;
+  before = refl;
+  sum = sym (some_number (n + one_if b) count h);
+}
+
+pub joined : (x : Option Bool) (y : Option ℕ) (b : Bool) (n count : ℕ) → x ≡ Some b → y ≡ Some n → count ≡ n + one_if b
+    → add_kept x y ≡ Some count
+joined x y b n count e f is = ap (λ (z : Option Bool). add_kept z y) e ∙ (ap (add_kept (Some b)) f ∙ ap (λ (z : ℕ). Some z) (sym is))
+
+kept_among_more : (f g : ℕ → Option Bool) → ((q : ℕ) (b : Bool) → f q ≡ Some b → g q ≡ Some b) → (from n count : ℕ)
+    → kept_among f from n ≡ Some count → kept_among g from n ≡ Some count
+kept_among_more f g more from zero count h = h
+kept_among_more f g more from (suc n) count h =
+    let s = split (f (from + n)) (kept_among f from n) count h in
+    joined (g (from + n)) (kept_among g from n) s.kept s.rest count (more (from + n) s.kept s.last)
+    (kept_among_more f g more from n s.rest s.before) s.sum
+
+pub were_decided_more : (shape : Shape) (c from to count : ℕ) (xs ys : List Entry) → Legal shape (xs ++ ys)
+    → WereDecided xs c from to count → WereDecided (xs ++ ys) c from to count
+were_decided_more shape c from to count xs ys l h d e = kept_among_more (fate xs c) (fate (xs ++ ys) c)
+    (λ q b k. fate_more shape c q b xs ys l (cell_of xs c q) refl k) from d count (h d e)
+
+-- nothing is counted yet
+pub decided_none : (log : List Entry) (c from to count : ℕ) → from ≡ to → count ≡ 0 → WereDecided log c from to count
+decided_none log c from to count same none zero e = ap (λ (z : ℕ). Some z) (sym none)
+decided_none log c from to count same none (suc d) e = absurd (omega arith)

@@ -1,0 +1,14 @@
+use Rattle.std.proofs.Common.{◌≤◌}
+use Rattle.cell_words.specs.Hubs.{IsOwn}
+use Rattle.cell_words.specs.Seen.{Sees}
+use Rattle.cell_words.proofs.WalksToAdmit.{Walked}
+use Rattle.cell_words.proofs.admitting.admit_decided.Given as goal
+
+abbrev pub invariant-loop-place : goal.invariant-loop-place
+invariant-loop-place l = record {
+  own : IsOwn l.hub l.pass l.who;
+  sees : Sees l.initial.pass.seat.me.0 l.pass.seat.me.0;
+  walked : Walked l.c l.low l.place l.count l.pass.seat.me.0.seen;
+  least : l.low ≤ l.place;
+  few : l.count ≤ l.most;
+}
