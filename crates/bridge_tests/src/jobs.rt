@@ -5,13 +5,15 @@ ghost use Rattle.cell_words.specs.Hubs.{shape_of, IsOwn};
 ghost use Rattle.job_words.specs.Forests.{IsOwn as IsOwnOfJobs};
 
 use crate::job_calls::sees_job;
-use crate::pass_calls::meet_passes;
+use crate::pass_calls::{end_at, meet_passes};
 use cell_calls::{close, receive};
 use cell_words::{Hub, Pass};
 use channel_model::{Got, Kind};
 use co_base::{Memory, Value};
 use forest_shares::{Answer, Call, make_by, meet_both, new_forest, split_off};
-use future_bridge::{HostDrive, Spent, await_job};
+use future_bridge::{Drive, HostDrive, JobFuture, Spent, await_job};
+use futures::Future;
+use futures::task::{Context, Poll};
 use job_model::{Attached, End, Ended, Finished, JobKind};
 use job_words::{Forest, JobPass};
 use std::alloc::{AllocGlobal, Global};
@@ -139,6 +141,80 @@ fn awaited<R: Wait + RandomSource + AllocGlobal>(
         Ok((_pass, _jobs, result)) => Some(result),
         Err(_failed) => None,
     }
+}
+
+/// Polls a future of a Job once, and gives it back if it was pending, and else what it gave.
+#[derive(Drop)]
+struct PolledOnce<'hub, 'forest> {
+    future: Option<JobFuture<'hub, 'forest>>,
+}
+
+impl<'hub, 'forest> Future for PolledOnce<'hub, 'forest> {
+    ghost use Rattle.std.specs.Prelude.{IfSome, IsSomeAnd};
+    ghost use Rattle.future_bridge.specs.Jobs.{FutureStands};
+
+    type Output = (
+        Option<JobFuture<'hub, 'forest>>,
+        Option<Result<Value, Spent>>,
+    );
+
+    ghost can_poll = { λ f. IsSomeAnd f.future FutureStands };
+
+    ghost gives = { λ f r. IfSome r.0 FutureStands };
+
+    fn poll(&mut self, cx: &mut Context<'_>) -> Poll<Self::Output> {
+        let Some(mut future) = self.future.take() else {
+            unreachable!()
+        };
+        match future.poll(cx) {
+            Poll::Ready((_pass, _jobs, result)) => Poll::Ready((None, Some(result))),
+            Poll::Pending => Poll::Ready((Some(future), None)),
+        }
+    }
+}
+
+#[test]
+fn a_job_that_ends_while_its_future_waits_gives_its_result(rt: HostRuntime) -> Result<(), Fail> {
+    let Family {
+        hub,
+        forest,
+        root,
+        mut root_jobs,
+        mut child,
+        mut child_jobs,
+    } = new_family(rt.alloc())?;
+    let answers = attach_and_end(rt.alloc(), &forest, &mut root_jobs, &mut child_jobs)?;
+    assert!(rt; answers == ATTACHED_AND_ENDED);
+    meet_both(&forest, &mut root_jobs, 0, &mut child_jobs, 1);
+    if !sees_job(&forest, &mut root_jobs, 0, 1) {
+        panic!(rt; "attached");
+    }
+    let future = JobFuture::new(&hub, root, &forest, root_jobs, 0, 0, 1);
+    let mut host = HostDrive::new(&rt);
+    let once = PolledOnce {
+        future: Some(future),
+    };
+    let Ok((Some(future), None)) = host.drive(once) else {
+        panic!(rt; "left waiting");
+    };
+    let again = PolledOnce {
+        future: Some(future),
+    };
+    let Ok((Some(future), None)) = host.drive(again) else {
+        panic!(rt; "left waiting again");
+    };
+    let finish = Call::Finish { row: 1 };
+    let finished = make_by(&forest, 2, &mut child_jobs, rt.alloc(), 1, finish)?;
+    let open = end_at(&hub, &mut child, 1, 1, 9);
+    let last = PolledOnce {
+        future: Some(future),
+    };
+    let Ok((None, result)) = host.drive(last) else {
+        panic!(rt; "ended");
+    };
+    assert!(rt; finished == Answer::Finished(Finished::Now(End::Completed(9))));
+    assert_eq!(rt; (open, result), (true, Some(Ok(9))));
+    Ok(())
 }
 
 #[test]

@@ -1,4 +1,4 @@
-//! Offers, receives and closes of one pass, on channel 0.
+//! Offers, receives and closes of one pass, mostly on channel 0.
 ghost use Rattle.std.specs.Prelude.{◌≡◌, ◌<◌, false, length};
 ghost use Rattle.channel_model.specs.Channels.{kind_at, is_signal};
 ghost use Rattle.cell_words.specs.Hubs.{shape_of, IsOwn};
@@ -6,7 +6,7 @@ ghost use Rattle.cell_words.specs.Hubs.{shape_of, IsOwn};
 use cell_calls::{close, offer, receive, wake_closed};
 use cell_words::{Hub, Pass};
 use channel_model::{Got, Offered};
-use co_base::{Tag, Value};
+use co_base::{ChannelId, Tag, Value};
 
 /// Offers an element.
 pub(crate) fn send(hub: &Hub, pass: &mut Pass, who: Tag, value: Value) -> Offered
@@ -42,8 +42,16 @@ pub(crate) fn end(hub: &Hub, pass: &mut Pass, who: Tag, v: Value) -> bool
     requires own { IsOwn hub.now pass.old who }
     requires channel { 0 < length (shape_of hub.now) }
 {
-    let open = close(hub, pass, who, 0, v).is_ok();
-    let _told = wake_closed(hub, pass, who, 0);
+    end_at(hub, pass, who, 0, v)
+}
+
+/// The same of any channel.
+pub(crate) fn end_at(hub: &Hub, pass: &mut Pass, who: Tag, c: ChannelId, v: Value) -> bool
+    requires own { IsOwn hub.now pass.old who }
+    requires channel { c < length (shape_of hub.now) }
+{
+    let open = close(hub, pass, who, c, v).is_ok();
+    let _told = wake_closed(hub, pass, who, c);
     open
 }
 

@@ -3,7 +3,7 @@
 use crate::pass_calls::{send, send_both, wait};
 use cell_words::Hub;
 use channel_model::{Got, Kind, Offered};
-use co_base::Failed;
+use co_base::{Failed, Value};
 use future_bridge::{Drive, DriveError, HostDrive, ReceiveStream, Spent, Stopped, collect_all};
 use futures::task::{Context, Poll};
 use futures::{Future, Stream};
@@ -24,7 +24,7 @@ impl Drive for Refuses {
     }
 }
 
-/// Polls a stream once, and gives it back.
+/// Polls a stream once, and gives it back, with whether the poll was pending, and the item that it gave.
 #[derive(Drop)]
 struct PolledOnce<'a> {
     stream: Option<ReceiveStream<'a>>,
@@ -34,7 +34,7 @@ impl<'a> Future for PolledOnce<'a> {
     ghost use Rattle.std.specs.Prelude.{IsSomeAnd};
     ghost use Rattle.future_bridge.specs.Streams.{Stands};
 
-    type Output = (ReceiveStream<'a>, bool);
+    type Output = (ReceiveStream<'a>, bool, Option<Result<Value, Spent>>);
 
     ghost can_poll = { λ f. IsSomeAnd f.stream Stands };
 
@@ -44,8 +44,10 @@ impl<'a> Future for PolledOnce<'a> {
         let Some(mut stream) = self.stream.take() else {
             unreachable!()
         };
-        let pending = matches!(stream.poll_next(cx), Poll::Pending);
-        Poll::Ready((stream, pending))
+        match stream.poll_next(cx) {
+            Poll::Ready(item) => Poll::Ready((stream, false, item)),
+            Poll::Pending => Poll::Ready((stream, true, None)),
+        }
     }
 }
 
@@ -92,7 +94,7 @@ fn a_stream_that_is_stopped_gives_its_element_up(rt: HostRuntime) -> Result<(), 
     let once = PolledOnce {
         stream: Some(ReceiveStream::new(&hub, a, 1, 0)),
     };
-    let Ok((stream, pending)) = host.drive(once) else {
+    let Ok((stream, pending, _item)) = host.drive(once) else {
         panic!(rt; "driven");
     };
     let sent = send(&hub, &mut b, 2, 5);
@@ -101,6 +103,38 @@ fn a_stream_that_is_stopped_gives_its_element_up(rt: HostRuntime) -> Result<(), 
     let found = (pending, sent, [stopped, idle]);
     let wanted = [Stopped::Undelivered(5), Stopped::Idle];
     assert_eq!(rt; found, (true, Offered::Handed(0, 1), wanted));
+    Ok(())
+}
+
+#[test]
+fn a_stream_that_waits_stays_at_its_place(rt: HostRuntime) -> Result<(), Fail> {
+    let kinds = [(Kind::Rendezvous, 2u32)];
+    let (hub, mut main) = Hub::new(rt.alloc(), &kinds)?;
+    let a = hub.split(&mut main, 1);
+    let mut b = hub.split(&mut main, 2);
+    let mut host = HostDrive::new(&rt);
+    let once = PolledOnce {
+        stream: Some(ReceiveStream::new(&hub, a, 1, 0)),
+    };
+    let Ok((stream, first, _)) = host.drive(once) else {
+        panic!(rt; "driven");
+    };
+    let again = PolledOnce {
+        stream: Some(stream),
+    };
+    let Ok((stream, second, _)) = host.drive(again) else {
+        panic!(rt; "driven again");
+    };
+    let sent = send(&hub, &mut b, 2, 5);
+    let last = PolledOnce {
+        stream: Some(stream),
+    };
+    let Ok((_stream, third, item)) = host.drive(last) else {
+        panic!(rt; "driven at last");
+    };
+    let found = ([first, second, third], sent, item);
+    let wanted = ([true, true, false], Offered::Handed(0, 1), Some(Ok(5)));
+    assert_eq!(rt; found, wanted);
     Ok(())
 }
 

@@ -14,9 +14,9 @@ use Rattle.cell_words.specs.declared.pass.Pass.{Pass}
 use Rattle.cell_words.specs.Hubs.{IsOwn, SameGiving}
 use Rattle.cell_calls.specs.HubFloors.{hub_floor}
 use Rattle.future_bridge.specs.declared.receiving.Spent.{Spent}
-use Rattle.future_bridge.specs.Gains.{Gained, EndsAs, IsOver, HasNoPlace}
+use Rattle.future_bridge.specs.Gains.{Gained, EndsAs, EndsBy, IsOver, HasNoPlace}
 use Rattle.future_bridge.specs.declared.receiving.ReceiveStream.{ReceiveStream}
-use Rattle.future_bridge.specs.Streams.{RunsSo, elements_of, EndsWith, GoesOn, CollectsSo, Stands, StreamYields, SameStream, GainedBy, PolledSo}
+use Rattle.future_bridge.specs.Streams.{RunsSo, elements_of, EndsWith, GoesOn, CollectsSo, Stands, StreamYields, SameStream, GainedBy, IsOverBy, PolledSo, floor_of}
 use Rattle.future_bridge.proofs.GainsGo.{gained_then}
 
 -- ---- runs
@@ -191,7 +191,24 @@ end_gives old new before st s p =
     (subst (λ (x : ℕ). IsOwn old.hub.now new.pass x) s.who (subst (λ (x : Hub). IsOwn x new.pass new.who) s.hub st.own))
     s.giving
     (subst (λ (x : Hub). Gained old.who old.c [] (hub_floor old.hub.now old.pass) (hub_floor x new.pass)) s.hub p.1)
-    (λ e. subst (λ (x : Hub). IsOver old.c (hub_floor old.hub.now old.pass) (hub_floor x new.pass)) s.hub (p.2 e))
+    (λ e. subst (λ (x : Hub). IsOver old.c (hub_floor old.hub.now old.pass) (hub_floor x new.pass)) s.hub (is_over old.ended e p.2))
+  where
+    is_over : (ended : Bool) → ended ≡ false → IsOverBy ended old new → IsOver old.c (floor_of old) (floor_of new)
+    is_over true e h = cc
+    is_over false e h = (h.0, h.1)
+
+-- ---- one poll
+
+pub over_before : (old new : ReceiveStream) → old.ended ≡ true → new.pass ≡ old.pass → IsOverBy old.ended old new
+over_before old new e h = subst (λ (b : Bool). IsOverBy b old new) (sym e) h
+
+pub left_waiting : (old new : ReceiveStream) (r : Poll (Option (Result ℕ Spent))) → r ≡ Pending → PolledSo old new Pending
+    → PolledSo old new r
+left_waiting old new r e h = subst (λ (x : Poll (Option (Result ℕ Spent))). PolledSo old new x) (sym e) h
+
+pub over_now : (old new : ReceiveStream) → old.ended ≡ false → (value : ℕ) → EndsAs old.c value (floor_of old) (floor_of new)
+    → EndsBy old.wait old.who old.c value (floor_of old) (floor_of new) → IsOverBy old.ended old new
+over_now old new e value h k = subst (λ (b : Bool). IsOverBy b old new) (sym e) (value, h, k)
 
 -- ---- of a future that may have a stream
 

@@ -1,5 +1,5 @@
 -- What one coroutine gained in a span of its calls.
-use Rattle.std.specs.Prelude.{◌≡◌, ℕ, ◌==◌, false, List, [], ◌∷◌, ◌++◌, map, Some, if◌then◌else◌}
+use Rattle.std.specs.Prelude.{◌≡◌, ℕ, ◌==◌, ◌&&◌, Bool, true, false, List, [], ◌∷◌, ◌++◌, map, Option, Some, None, if◌then◌else◌}
 use Rattle.co_base.specs.declared.names.WaitId.{WaitId}
 use Rattle.channel_model.specs.declared.acts.Act.{Act}
 use Rattle.channel_model.specs.declared.acts.Act.TheVariants.{Await, Take, Admit, Settle}
@@ -34,11 +34,25 @@ unfoldable pub received : ℕ → List Act → List ℕ
 received c [] = []
 received c (act ∷ acts) = received_by c act ++ received c acts
 
--- who received just these elements in the span
+-- the act belongs to receiving from channel c: it takes, waits, admits, or ends a wait there
+abbrev pub is_receiving : ℕ → Act → Bool
+is_receiving c (Take d p v) = d == c
+is_receiving c (Await d p w n) = d == c
+is_receiving c (Admit d p) = d == c
+is_receiving c (Settle w outcome) = w.channel == c
+is_receiving c other = false
+
+-- each of these acts does
+unfoldable pub all_receiving : ℕ → List Act → Bool
+all_receiving c [] = true
+all_receiving c (act ∷ acts) = is_receiving c act && all_receiving c acts
+
+-- who received just these elements in the span, and made no act but such as belong to receiving from that channel
 pub record Gained (who c : ℕ) (elements : List ℕ) (old new : Floor) : Type 0 where
   pub acts : List Act
   pub added : Added who acts old new
   pub gets : received c acts ≡ elements
+  pub only : all_receiving c acts ≡ true
 
 -- ---- a receiver that waits
 
@@ -86,16 +100,33 @@ pub record AdmitsAll (who c : ℕ) (old new : Floor) : Type 0 where
   pub next : AtStep old new (λ s. (s.channels c).next ≡ mark)
   pub below : AdmitsBelow who c mark old new
 
--- ---- one step
+-- ---- one step, by the wait that it had
 
--- an element came: it was taken, and then those were admitted for whom there is room; or it was handed to the own wait
-pub data Receives (who c v : ℕ) (old new : Floor) : Type 0 where
-  takes : (place : ℕ) (taken : Floor) → Added who (Take c place v ∷ []) old taken → AdmitsAll who c taken new → Receives who c v old new
-  ends : (place k : ℕ) → Added who (Settle (wait_at c place) (settled.Value k v) ∷ []) old new → Receives who c v old new
+-- an element came: without a wait it was taken, and then those were admitted for whom there is room; with one it was handed to that very
+-- wait
+abbrev pub ReceivesBy : Option ℕ → ℕ → ℕ → ℕ → Floor → Floor → Type 0
+ReceivesBy None who c v old new = (place : ℕ) × (taken : Floor) × Added who (Take c place v ∷ []) old taken × AdmitsAll who c taken new
+ReceivesBy (Some place) who c v old new = (k : ℕ) × Added who (Settle (wait_at c place) (settled.Value k v) ∷ []) old new
+
+-- the channel is closed with this value: without a wait no act was made, and with one that very wait ended so
+abbrev pub EndsBy : Option ℕ → ℕ → ℕ → ℕ → Floor → Floor → Type 0
+EndsBy None who c v old new = Added who [] old new
+EndsBy (Some place) who c v old new = (k : ℕ) × Added who (Settle (wait_at c place) (settled.Closed k v) ∷ []) old new
+
+-- no place is left: that comes of no wait, and no act was made
+abbrev pub SpentBy : Option ℕ → ℕ → Floor → Floor → Type 0
+SpentBy None who old new = Added who [] old new
+SpentBy (Some place) who old new = ⊥
+
+-- it is left waiting here: without a wait a receiver was placed, and with one it is that very wait, and no act was made
+abbrev pub WaitsBy : Option ℕ → ℕ → ℕ → ℕ → Floor → Floor → Type 0
+WaitsBy None who c place old new = Added who (Await c place (wait_at c place) 0 ∷ []) old new
+WaitsBy (Some own) who c place old new = (place ≡ own) × Added who [] old new
 
 -- what it came to; no element comes on a signal
-abbrev pub Stepped : ℕ → ℕ → Floor → Floor → Step → Type 0
-Stepped who c old new (step.Item v) = Gained who c (v ∷ []) old new × Receives who c v old new × (is_signal (kind_at new.shape c) ≡ false)
-Stepped who c old new (step.Ended v) = Gained who c [] old new × EndsAs c v old new
-Stepped who c old new step.Spent = Gained who c [] old new × HasNoPlace c old new
-Stepped who c old new (step.Waits place) = Gained who c [] old new × WaitsAt who c place old new
+abbrev pub Stepped : Option ℕ → ℕ → ℕ → Floor → Floor → Step → Type 0
+Stepped wait who c old new (step.Item v) =
+    Gained who c (v ∷ []) old new × ReceivesBy wait who c v old new × (is_signal (kind_at new.shape c) ≡ false)
+Stepped wait who c old new (step.Ended v) = Gained who c [] old new × EndsAs c v old new × EndsBy wait who c v old new
+Stepped wait who c old new step.Spent = Gained who c [] old new × HasNoPlace c old new × SpentBy wait who old new
+Stepped wait who c old new (step.Waits place) = Gained who c [] old new × WaitsAt who c place old new × WaitsBy wait who c place old new

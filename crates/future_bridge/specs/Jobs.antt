@@ -2,7 +2,9 @@
 use Rattle.std.specs.Prelude.{◌≡◌, ◌⊎◌, ℕ, ◌<◌, true, List, [], ◌∷◌, length, Option, Some, None, Result, Ok, Err, is_some, IsSomeAnd}
 use Rattle.channel_model.specs.declared.acts.Kind.TheVariants.{Signal}
 use Rattle.channel_model.specs.Channels.{kind_at}
-use Rattle.channel_model.specs.Floors.{Floor}
+use Rattle.channel_model.specs.declared.acts.Act.TheVariants.{Await, Settle}
+use Rattle.channel_model.specs.declared.acts.Settled.TheVariants as settled
+use Rattle.channel_model.specs.Floors.{Floor, Added as AddedTo}
 use Rattle.job_model.specs.declared.acts.JobAct.{JobAct}
 use Rattle.job_model.specs.declared.acts.JobAct.TheVariants.{Start}
 use Rattle.job_model.specs.Histories.{replay}
@@ -19,7 +21,7 @@ use Rattle.cell_calls.specs.HubFloors.{hub_floor}
 use Rattle.future_bridge.specs.declared.receiving.Spent.{Spent}
 use Rattle.future_bridge.specs.declared.jobs.JobWait.{JobWait}
 use Rattle.future_bridge.specs.declared.jobs.JobFuture.{JobFuture}
-use Rattle.future_bridge.specs.Gains.{Gained, WaitsAt, EndsAs, HasNoPlace}
+use Rattle.future_bridge.specs.Gains.{Gained, wait_at, WaitsAt, WaitsBy, EndsAs, HasNoPlace}
 use Rattle.future_bridge.specs.Streams.{WaitStands}
 
 -- what a pass of Jobs has seen
@@ -78,6 +80,16 @@ abbrev pub EndsWithResult : ℕ → Floor → Floor → Result ℕ Spent → Typ
 EndsWithResult done old new (Ok v) = EndsAs done v old new
 EndsWithResult done old new (Err spent) = HasNoPlace done old new
 
+-- who's acts in the span: its receiver ended with the close of this value, placed in the span unless it was before; or none, where the
+-- close was seen at once, or where no place was left for it. One whose receiver was placed is never refused for want of a place
+abbrev pub AwaitsBy : Option ℕ → ℕ → ℕ → Floor → Floor → Result ℕ Spent → Type 0
+AwaitsBy None who done old new (Ok v) =
+    AddedTo who [] old new ⊎ ((place : ℕ) × (k : ℕ)
+    × AddedTo who (Await done place (wait_at done place) 0 ∷ Settle (wait_at done place) (settled.Closed k v) ∷ []) old new)
+AwaitsBy None who done old new (Err spent) = AddedTo who [] old new
+AwaitsBy (Some place) who done old new (Ok v) = (k : ℕ) × AddedTo who (Settle (wait_at done place) (settled.Closed k v) ∷ []) old new
+AwaitsBy (Some place) who done old new (Err spent) = ⊥
+
 -- the passes that came back are its coroutine's own, the Job was started by the first poll, nothing was received, and it ended so; wait is
 -- the place of its receiver, if it was placed before
 pub record JobEnds (hub : Hub) (pass : Pass) (forest : Forest) (jobs : JobPass) (who row done : ℕ) (wait : Option ℕ)
@@ -89,6 +101,7 @@ pub record JobEnds (hub : Hub) (pass : Pass) (forest : Forest) (jobs : JobPass) 
   pub starts : StartsFirst wait who row jobs jobs'
   pub gained : Gained who done [] (hub_floor hub pass) (hub_floor hub pass')
   pub ends : EndsWithResult done (hub_floor hub pass) (hub_floor hub pass') result
+  pub awaits : AwaitsBy wait who done (hub_floor hub pass) (hub_floor hub pass') result
 
 -- ---- in the words of the future
 
@@ -104,7 +117,7 @@ FutureGives f r = IsSomeAnd f.state (λ s. JobEnds s.hub.now s.pass s.forest.now
 abbrev pub GivesNoMore : JobFuture → JobFuture → Type 0
 GivesNoMore old new = (r : Pass × JobPass × Result ℕ Spent) → FutureGives new r → FutureGives old r
 
--- its receiver stood on the done channel at a moment of the poll that left it waiting
+-- its receiver stood on the done channel at a moment of the poll that left it waiting: the one that it had, if it had one
 pub record IsLeftAwaiting (old new : JobFuture) : Type 0 where
   pub before : JobWait
   pub after : JobWait
@@ -113,3 +126,4 @@ pub record IsLeftAwaiting (old new : JobFuture) : Type 0 where
   pub place : ℕ
   pub wait : after.wait ≡ Some place
   pub waits : WaitsAt before.who before.done place (hub_floor before.hub.now before.pass) (hub_floor before.hub.now after.pass)
+  pub by : WaitsBy before.wait before.who before.done place (hub_floor before.hub.now before.pass) (hub_floor before.hub.now after.pass)

@@ -11,7 +11,7 @@ use Rattle.future_bridge.specs.declared.receiving.ReceiveStream.{ReceiveStream}
 use Rattle.future_bridge.specs.declared.receiving.Spent.{Spent}
 use Rattle.future_bridge.specs.declared.receiving.Stopped.{Stopped}
 use Rattle.future_bridge.specs.declared.receiving.Stopped.TheVariants as stopped
-use Rattle.future_bridge.specs.Gains.{Gained, Receives, AwaitsLast, WaitsAt, IsOver, HasNoPlace}
+use Rattle.future_bridge.specs.Gains.{Gained, AwaitsLast, WaitsAt, IsOver, HasNoPlace, EndsAs, ReceivesBy, EndsBy, SpentBy, WaitsBy}
 use Rattle.future_bridge.specs.Stops.{EndedSo}
 
 -- ---- where a stream stands
@@ -66,19 +66,28 @@ pub record SameStream (old new : ReceiveStream) : Type 0 where
 abbrev pub GainedBy : ReceiveStream → List ℕ → ReceiveStream → Type 0
 GainedBy old elements new = Gained old.who old.c elements (floor_of old) (floor_of new)
 
--- it stands at a wait that was standing at a moment of this poll
+-- it stands at a wait that was standing at a moment of this poll: the one that it had, if it had one
 pub record IsLeftWaiting (old new : ReceiveStream) : Type 0 where
   pub place : ℕ
   pub wait : new.wait ≡ Some place
   pub waits : WaitsAt old.who old.c place (floor_of old) (floor_of new)
+  pub by : WaitsBy old.wait old.who old.c place (floor_of old) (floor_of new)
 
--- by the answer
+-- it is over: one that had ended made no act, and another saw the close, in which its wait ended, if it had one
+abbrev pub IsOverBy : Bool → ReceiveStream → ReceiveStream → Type 0
+IsOverBy true old new = new.pass ≡ old.pass
+IsOverBy false old new =
+    (value : ℕ) × EndsAs old.c value (floor_of old) (floor_of new) × EndsBy old.wait old.who old.c value (floor_of old) (floor_of new)
+
+-- by the answer, and by the wait that it had
 abbrev pub PolledSo : ReceiveStream → ReceiveStream → Poll (Option (Result ℕ Spent)) → Type 0
 PolledSo old new Pending = (new.ended ≡ old.ended) × GainedBy old [] new × IsLeftWaiting old new
 PolledSo old new (Ready (Some (Ok v))) =
-    (new.ended ≡ false) × GainedBy old (v ∷ []) new × Receives old.who old.c v (floor_of old) (floor_of new)
-PolledSo old new (Ready (Some (Err e))) = (new.ended ≡ true) × GainedBy old [] new × HasNoPlace old.c (floor_of old) (floor_of new)
-PolledSo old new (Ready None) = (new.ended ≡ true) × GainedBy old [] new × (old.ended ≡ false → IsOver old.c (floor_of old) (floor_of new))
+    (new.ended ≡ false) × GainedBy old (v ∷ []) new × ReceivesBy old.wait old.who old.c v (floor_of old) (floor_of new)
+PolledSo old new (Ready (Some (Err e))) =
+    (new.ended ≡ true) × GainedBy old [] new × HasNoPlace old.c (floor_of old) (floor_of new)
+    × SpentBy old.wait old.who (floor_of old) (floor_of new)
+PolledSo old new (Ready None) = (new.ended ≡ true) × GainedBy old [] new × IsOverBy old.ended old new
 
 -- ---- a whole stream
 

@@ -3,7 +3,8 @@
 //!
 //! Each of them owns its pass and gives it back at its end, since nothing is known afterwards of what a future borrowed.
 //! A poll makes calls on the hub, and never waits. It is pending only if its wait was standing at a moment of the
-//! poll, and asks then to be polled again. A future of a whole list takes one element a poll, and yields.
+//! poll, and asks then to be polled again. A poll that has a wait looks at that very wait, settles it if it was resolved,
+//! and places no other receiver. A future of a whole list takes one element a poll, and yields.
 //!
 //! - `drives`: what drives a future to its end
 //! - `steps`: one receive with what follows it, and one look at a wait

@@ -55,7 +55,7 @@ fn receive_next(hub: &Hub, pass: &mut Pass, who: Tag, c: ChannelId) -> Step
     requires channel { c < length (shape_of hub.now) }
     ensures own { IsOwn hub.now pass.new who }
     ensures giving { SameGiving pass.old pass.new }
-    ensures stepped { Stepped who c (hub_floor hub.now pass.old) (hub_floor hub.now pass.new) result }
+    ensures stepped { Stepped None who c (hub_floor hub.now pass.old) (hub_floor hub.now pass.new) result }
 {
     match receive(hub, pass, who, c) {
         Got::Taken(_place, value, _sender) => {
@@ -75,7 +75,7 @@ fn look_again(hub: &Hub, pass: &mut Pass, who: Tag, c: ChannelId, place: Place) 
     requires last { AwaitsLast who c place (hub_floor hub.now pass.old) }
     ensures own { IsOwn hub.now pass.new who }
     ensures giving { SameGiving pass.old pass.new }
-    ensures stepped { Stepped who c (hub_floor hub.now pass.old) (hub_floor hub.now pass.new) result }
+    ensures stepped { Stepped (Some place) who c (hub_floor hub.now pass.old) (hub_floor hub.now pass.new) result }
 {
     let w = WaitId { channel: c, place };
     match look(hub, pass, who, w) {
@@ -104,7 +104,7 @@ pub(crate) fn step_on(
     requires wait { WaitStands who c (hub_floor hub.now pass.old) wait }
     ensures own { IsOwn hub.now pass.new who }
     ensures giving { SameGiving pass.old pass.new }
-    ensures stepped { Stepped who c (hub_floor hub.now pass.old) (hub_floor hub.now pass.new) result }
+    ensures stepped { Stepped wait who c (hub_floor hub.now pass.old) (hub_floor hub.now pass.new) result }
 {
     match wait {
         None => receive_next(hub, pass, who, c),

@@ -6,7 +6,7 @@ ghost use Rattle.channel_model.specs.Answers.{LookAnswer, WithdrawAnswer, CloseA
 ghost use Rattle.channel_model.specs.declared.floor.WaitState.TheVariants as state;
 ghost use Rattle.parcel_channel.specs.Seen.{SameTags};
 ghost use Rattle.parcel_channel.specs.Numbers.{HoldsWait};
-ghost use Rattle.parcel_channel.specs.Answers.{IsOnly, PutAnswer, TakeAnswer};
+ghost use Rattle.parcel_channel.specs.Answers.{IsMove, IsOnly, PutAnswer, TakeAnswer};
 ghost use Rattle.parcel_channel.specs.Hubs.{IsOf, SamePass, seen_by, floor_by, IsLost, NumberSent};
 ghost use Rattle.parcel_channel.specs.Hubs.{SendAnswer, ReceiveAnswer, SettleParcel, WakeParcel, DrainParcel};
 
@@ -57,10 +57,11 @@ fn take_out<T>(hub: &ParcelHub<T>, pass: &mut ParcelPass<T>, number: Value) -> O
     take_value(hub, pass, number)
 }
 
-/// Offers a number whose value was moved in.
+/// Offers a number whose value was moved in, as its sender has seen.
 fn send_number<T>(hub: &ParcelHub<T>, pass: &mut ParcelPass<T>, number: Value) -> ParcelSent<T>
     requires of { IsOf hub.now pass.old }
     requires number { number < hub.now.parcels }
+    requires moved { (x : T) × IsMove number x (seen_by pass.old).seen }
     ensures of { IsOf hub.now pass.new }
     ensures same { SamePass pass.old pass.new }
     ensures answer { NumberSent pass.old.tag number (seen_by pass.old) (seen_by pass.new)

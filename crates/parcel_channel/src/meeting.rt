@@ -2,6 +2,7 @@
 ghost use Rattle.std.specs.Prelude.{◌≡◌, ℕ, ◌≤◌, IfOk, false, [], ◌∷◌, length, slice_index};
 ghost use Rattle.worded.specs.Histories.{entries_of};
 ghost use Rattle.worded.specs.Views.{has_tag};
+ghost use Rattle.cell_words.specs.Hubs.{shape_of};
 ghost use Rattle.cell_words.specs.Meetings.{MeetAnswer as NumbersMeet, EndAnswer as NumbersEnd};
 ghost use Rattle.parcel_channel.specs.Parcels.{maker};
 ghost use Rattle.parcel_channel.specs.Answers.{MeetAnswer, EndAnswer};
@@ -37,6 +38,7 @@ impl<T> ParcelHub<T> {
         requires places { (1 ≤ places) × (places ≤ 1048576) }
         requires parcels { (1 ≤ parcels) × (parcels ≤ 1048576) }
         ensures of { IfOk result (λ r. IsOf r.0 r.1) }
+        ensures shape { IfOk result (λ r. shape_of r.0.hub ≡ (kind, places) ∷ []) }
         ensures parcels { IfOk result (λ r. r.0.parcels ≡ parcels) }
         ensures first { IfOk result (λ r. IsFirst r.1 × ((seen_by r.1).given ≡ 0 ∷ []) × ((seen_by r.1).tags ≡ 0 ∷ [])) }
         ensures tag { IfOk result (λ r. r.1.tag ≡ 0) }

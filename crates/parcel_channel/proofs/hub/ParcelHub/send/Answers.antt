@@ -1,8 +1,16 @@
 use Rattle.std.proofs.Common.{ap}
 use Rattle.cell_calls.specs.HubFloors.{hub_floor}
 use Rattle.parcel_channel.specs.Hubs.{floor_by}
+use Rattle.parcel_channel.proofs.OneMoveEach.{put_move}
 use Rattle.parcel_channel.proofs.SendsTold.{number_by, send_told}
 use Rattle.parcel_channel.proofs.hub.ParcelHub.send.Goals as goal
+
+pub send_number-requires-clause-moved : goal.send_number-requires-clause-moved
+send_number-requires-clause-moved g c = (
+  c.args.value,
+  put_move c.args.self.now.parcels c.args.pass.now.tag c.in-Ok.number c.args.value c.args.pass.now.seat.me.0 c.put_value.new.pass.seat.me.0
+      c.in-Ok.ensures.answer,
+)
 
 pub returns-in-Ok-clause-answer : goal.returns-in-Ok-clause-answer
 returns-in-Ok-clause-answer g c =
