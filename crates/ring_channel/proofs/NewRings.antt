@@ -12,8 +12,10 @@ use Rattle.worded.specs.Views.{first_view}
 use Rattle.worded.specs.Histories.{Knows, HasTag}
 use Rattle.worded.proofs.TagsAndPrefixes.{zero_not, same_id, no_tag, only_one, not_first}
 use Rattle.ring_channel.specs.declared.act.RingEntry.{RingEntry}
+use Rattle.ring_channel.specs.declared.act.RingSide.{RingSide}
+use Rattle.ring_channel.specs.declared.act.RingSide.TheVariants.{Receive, Send}
 use Rattle.ring_channel.specs.Rings.{state_from, LegalFrom, Legal, maker}
-use Rattle.ring_channel.specs.Tables.{first_word, Fits, word_count, HoldsRing}
+use Rattle.ring_channel.specs.Tables.{first_word, wait_word, Fits, word_count, HoldsRing}
 use Rattle.ring_channel.specs.Seen.{Seen}
 
 at_replicate : {A : Type 0} (n k : ℕ) (x : A) → k < n → get_elem? (replicate n x) k ≡ some x
@@ -36,6 +38,10 @@ one_word_more f xs i x long is h k lt = dite (ℕ_discrete k i)
     (λ e. ap (λ j. get_or (xs ++ x ∷ []) j 0) (e ∙ sym long) ∙ get_or-append_seam xs x [] 0 ∙ is ∙ ap f (sym e))
     (λ ne. let l : k < i = before_next k i lt ne in get_or_append_left xs (x ∷ []) 0 k (subst (λ m. k < m) (sym long) l) ∙ h k l)
 
+none_waits : (d : RingSide) → first_word (wait_word d) ≡ 0
+none_waits Receive = refl
+none_waits Send = refl
+
 slot_first : (k : ℕ) → 2 * (32 + k - 32) ≡ 2 * k + 0
 slot_first k = omega arith
 
@@ -53,6 +59,7 @@ module _ {T : Type 0} where
   first_fits n i m is = record {
     tail = λ e. is ∙ ap first_word e;
     head = λ e. is ∙ ap first_word e;
+    waits = λ d e. is ∙ ap first_word e ∙ none_waits d;
     slot = λ k e. is ∙ ap first_word e ∙ slot_first k;
   }
 

@@ -1,5 +1,7 @@
 //! What the calls on a ring answer.
 
+use co_base::Tag;
+
 /// Why no ring was made.
 #[derive(Clone, Copy, Debug, PartialEq)]
 pub enum RingFault {
@@ -37,4 +39,25 @@ pub enum RingGot<T> {
     Closed,
     /// Another received the first value.
     Passed,
+}
+
+/// Whom a call names to be woken.
+#[derive(Clone, Copy, Debug, PartialEq)]
+pub enum Called {
+    Nobody,
+    /// The pass of this tag.
+    One(Tag),
+    /// All who waited: the bit 2^t is that of the tag t.
+    All(u64),
+}
+
+/// What a close answers.
+#[derive(Clone, Copy, Debug, PartialEq)]
+pub struct Closing {
+    /// Whether this call closed the ring.
+    pub closed: bool,
+    /// Those who waited to receive: the bit 2^t is that of the tag t.
+    pub receivers: u64,
+    /// Those who waited to send.
+    pub senders: u64,
 }

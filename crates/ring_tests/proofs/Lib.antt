@@ -1,1 +1,2 @@
 pub mod TagsEnded
+pub mod ThreeKept

@@ -16,3 +16,7 @@ module _ {T : Type 0} where
   -- it is still a pass of this ring, with the same tags
   abbrev pub Keeps : Ring T → RingPass T → RingPass T → Type 0
   Keeps ring old new = IsOf ring new × ((seen_by new).tags ≡ (seen_by old).tags)
+
+  -- the three of them
+  abbrev pub AreThree : Ring T → RingPass T → RingPass T → RingPass T → Type 0
+  AreThree ring main one two = IsMain ring main × IsOther 1 ring one × IsOther 2 ring two

@@ -2,6 +2,7 @@
 //!
 //! - `ring_calls`: a ring with three passes, and what is left of it
 //! - `ring_rows`: call by call
+//! - `wait_rows`: who waits, and who is named, call by call
 //! - `rings_at_once`: by a thread that sends and one that receives
 #![tactic(auto)]
 
@@ -11,3 +12,5 @@ mod ring_calls;
 mod ring_rows;
 #[cfg(test)]
 mod rings_at_once;
+#[cfg(test)]
+mod wait_rows;

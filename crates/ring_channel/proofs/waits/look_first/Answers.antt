@@ -1,0 +1,55 @@
+use Rattle.std.proofs.Common.{rules, arith, ap, sym, subst, ◌∙◌, ◌%◌, ◌*◌, ◌+◌, leb}
+use Rattle.std.proofs.lemmas.Bool.{leb-true}
+use Rattle.ring_channel.specs.declared.act.RingSide.TheVariants.{Receive}
+use Rattle.ring_channel.specs.declared.act.WaitStep.TheVariants.{NothingThere}
+use Rattle.ring_channel.specs.Looks.{MadeIf}
+use Rattle.ring_channel.specs.Seen.{own_tag, now_in}
+use Rattle.ring_channel.proofs.MayWait.{may_see_bare}
+use Rattle.ring_channel.proofs.StatesStaySound.{slot_of}
+use Rattle.ring_channel.proofs.WaitsKeep.{May, looks}
+use Rattle.ring_channel.proofs.WaitsTold.{does_if, seated_does}
+use Rattle.ring_channel.proofs.waits.look_first.Goals as goal
+
+pub load-requires : goal.load-requires
+load-requires g c =
+    let n = c.args.words.now.key in
+    let m = c.args.seat.now.me in
+    let p = c.args.place in
+    let same = c.requires.table.2 in
+    let pos = c.requires.table.0.pos in
+    let near = slot_of n p pos in
+    let key = c.requires.seat.key in
+    let is = c.requires.place ∙ ap (λ k. (now_in k m.0).takes) (sym key) in (
+      search rules,
+      omega (arith, c.requires.table.0.words, near, ap (λ k. p % k) same),
+      looks n _ _ (32 + p % c.args.slots) (λ i. leb i (2 * (now_in m.0.key m.0).takes)) Receive NothingThere m key
+          (omega (arith, near, ap (λ k. p % k) same))
+          (λ old low. subst (λ k. May n (32 + p % k) Receive NothingThere m old old) (sym same)
+          (may_see_bare n (own_tag m.0) old p m.0 pos c.requires.seat.own c.requires.place
+          (leb-true old (2 * p) (ap (λ z. leb old (2 * z)) is ∙ low)))),
+    )
+
+pub returns-clause-did : goal.returns-clause-did
+returns-clause-did g c =
+    let n = c.args.words.now.key in
+    let m = c.args.seat.now.me in
+    let p = c.args.place in
+    let is = c.requires.place ∙ ap (λ k. (now_in k m.0).takes) (sym c.requires.seat.key) in
+    does_if (leb c.load.result (2 * p)) n (32 + p % c.args.slots) c.load.result Receive NothingThere m c.load.new.seat.me c.requires.seat
+    (subst (λ k. MadeIf (leb c.load.result (2 * p)) k (32 + p % c.args.slots) c.load.result Receive NothingThere m c.load.new.seat.me)
+    c.requires.seat.key
+    (subst (λ z. MadeIf (leb c.load.result (2 * z)) m.0.key (32 + p % c.args.slots) c.load.result Receive NothingThere m c.load.new.seat.me)
+    (sym is) c.load.ensures.2))
+
+pub returns-clause-seat : goal.returns-clause-seat
+returns-clause-seat g c =
+    let n = c.args.words.now.key in
+    let m = c.args.seat.now.me in
+    let p = c.args.place in
+    let is = c.requires.place ∙ ap (λ k. (now_in k m.0).takes) (sym c.requires.seat.key) in
+    seated_does n Receive _ m c.load.new.seat.me c.requires.seat
+    (does_if (leb c.load.result (2 * p)) n (32 + p % c.args.slots) c.load.result Receive NothingThere m c.load.new.seat.me c.requires.seat
+    (subst (λ k. MadeIf (leb c.load.result (2 * p)) k (32 + p % c.args.slots) c.load.result Receive NothingThere m c.load.new.seat.me)
+    c.requires.seat.key
+    (subst (λ z. MadeIf (leb c.load.result (2 * z)) m.0.key (32 + p % c.args.slots) c.load.result Receive NothingThere m c.load.new.seat.me)
+    (sym is) c.load.ensures.2)))
