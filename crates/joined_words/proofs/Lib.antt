@@ -1,0 +1,5 @@
+pub mod PartsOfLists
+pub mod PartsOfSteps
+pub mod PartsOfTables
+pub mod PointsOfAnOrder
+mod TwoCounters

@@ -1,0 +1,5 @@
+pub mod JointParts
+pub mod Joints
+pub mod Orders
+pub mod Parts
+pub mod Tables
