@@ -1,6 +1,8 @@
 pub mod Entries
 pub mod ListStands
 pub mod ListFloors
+pub mod ListSteps
+pub mod ListSnapshots
 pub mod TreeRows
 pub mod TreeClaims
 pub mod TreeKept

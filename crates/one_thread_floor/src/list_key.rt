@@ -1,0 +1,124 @@
+//! What calls can tell of a list floor, as numbers: floors with equal numbers answer equal calls alike.
+//!
+//! A wait is named by its coroutine, and a place by the offers and receivers before it. Waits that are settled are left out.
+
+use crate::list_channel::{ListChannel, ListSlot, Progress};
+use crate::list_floor::ListFloor;
+use channel_model::{Party, Resolution, Standing, Why};
+use co_base::{Memory, WaitId};
+
+/// A channel with fewer places tells how many were given out. One with more is taken to have places left.
+const MANY_PLACES: u32 = 16384;
+
+impl ListFloor {
+    /// Adds the numbers of all channels.
+    pub fn push_key(&self, out: &mut Vec<u64>) -> Result<(), Memory> {
+        let channels = self.channels.as_slice();
+        for channel in channels {
+            push_channel(out, channels, channel)?;
+        }
+        Ok(())
+    }
+
+    /// Adds the numbers of a wait: whether it was resolved, and how.
+    pub fn push_wait_key(&self, out: &mut Vec<u64>, w: WaitId) -> Result<(), Memory> {
+        match progress_in(self.channels.as_slice(), w) {
+            Some(Progress::Resolved(how)) => push_resolution(out, how),
+            Some(Progress::Standing) => push_all(out, &[0]),
+            Some(Progress::Settled(_, _)) | None => push_all(out, &[1]),
+        }
+    }
+}
+
+fn push_all(out: &mut Vec<u64>, numbers: &[u64]) -> Result<(), Memory> {
+    for number in numbers {
+        out.push(*number)?;
+    }
+    Ok(())
+}
+
+fn push_resolution(out: &mut Vec<u64>, how: Resolution) -> Result<(), Memory> {
+    match how {
+        Resolution::Handed(clause, value) => push_all(
+            out,
+            &[2, u64::from(clause), u64::from(value)],
+        ),
+        Resolution::Taken(clause) => push_all(out, &[3, u64::from(clause)]),
+        Resolution::Admitted(clause) => push_all(out, &[4, u64::from(clause)]),
+        Resolution::Closed(clause, value) => push_all(
+            out,
+            &[5, u64::from(clause), u64::from(value)],
+        ),
+        Resolution::Withdrawn(Why::Cancelled) => push_all(out, &[6]),
+        Resolution::Withdrawn(Why::Revoked) => push_all(out, &[7]),
+        Resolution::Voided => push_all(out, &[8]),
+    }
+}
+
+/// Adds the numbers of a channel.
+fn push_channel(
+    out: &mut Vec<u64>,
+    channels: &[ListChannel],
+    channel: &ListChannel,
+) -> Result<(), Memory> {
+    match channel.closed {
+        Some(value) => push_all(out, &[1, u64::from(value)])?,
+        None => push_all(out, &[0])?,
+    }
+    out.push(u64::from(channel.voided))?;
+    if channel.places < MANY_PLACES {
+        out.push(channel.slots.len() as u64)?;
+    }
+    out.push(channel.queue.len() as u64)?;
+    for standing in channel.queue.iter() {
+        push_offer(out, channels, *standing)?;
+    }
+    out.push(channel.receivers.len() as u64)?;
+    for receiver in channel.receivers.iter() {
+        push_party(out, channels, receiver.party)?;
+    }
+    Ok(())
+}
+
+/// Adds the numbers of an offer: its value, and who waits with it.
+fn push_offer(
+    out: &mut Vec<u64>,
+    channels: &[ListChannel],
+    standing: Standing,
+) -> Result<(), Memory> {
+    out.push(u64::from(standing.value))?;
+    match standing.holder {
+        Some(party) => push_party(out, channels, party),
+        None => push_all(out, &[0]),
+    }
+}
+
+/// Adds the numbers of one side of a wait: whose it is, and the clause.
+fn push_party(out: &mut Vec<u64>, channels: &[ListChannel], party: Party) -> Result<(), Memory> {
+    let owner = owner_in(channels, party.wait).saturating_add(1);
+    push_all(out, &[owner, u64::from(party.clause)])
+}
+
+/// The slot of a wait, if it is there.
+fn slot_in(channels: &[ListChannel], w: WaitId) -> Option<&ListSlot> {
+    let channel = channels.get(w.channel as usize)?;
+    channel.slots.get(w.place as usize)
+}
+
+/// The coroutine of a wait.
+fn owner_in(channels: &[ListChannel], w: WaitId) -> u64 {
+    match slot_in(channels, w) {
+        Some(ListSlot::One { owner, .. }) => u64::from(*owner),
+        Some(ListSlot::Several(select)) => u64::from(select.owner),
+        Some(ListSlot::Nobody) | None => 0,
+    }
+}
+
+/// How far a wait is.
+fn progress_in(channels: &[ListChannel], w: WaitId) -> Option<Progress> {
+    match slot_in(channels, w) {
+        Some(ListSlot::One { progress, .. }) => Some(*progress),
+        Some(ListSlot::Several(select)) => Some(select.progress),
+        Some(ListSlot::Nobody) | None => None,
+    }
+}
