@@ -1,0 +1,3 @@
+pub mod DeclaredKinds
+pub mod NoteTests
+pub mod Walks

@@ -1,0 +1,4 @@
+mod LineLoops
+mod Parts
+mod Waits
+mod WordCounts

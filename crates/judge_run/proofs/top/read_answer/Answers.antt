@@ -1,0 +1,9 @@
+use Rattle.std.proofs.Common.{subst}
+use Rattle.judge_run.specs.Outcomes.{IsMadeOf}
+use Rattle.judge_run.proofs.Meaning.{made_of}
+use Rattle.judge_run.proofs.top.read_answer.Goals as goal
+
+pub returns-in-Ok : goal.returns-in-Ok
+returns-in-Ok g c =
+    made_of c.answer_of.result _ _ _ c.in-Ok.ensures.all c.in-Ok.ensures.drained
+    (subst (λ b. IsMadeOf b c.answer_of.result) c.as_slice.ensures.value c.answer_of.ensures)

@@ -1,0 +1,177 @@
+-- What each outcome of a call says of the words, of what was read and of what was written.
+use Rattle.std.specs.Prelude.{◌≡◌, ℕ, ◌<◌, Bool, true, false, List, Option, Some, None, Result, Ok, Err, String, length, map, string_bytes}
+use Rattle.std.specs.Global.{Global}
+use Rattle.std.specs.Vec.Iter.{into_iter_items}
+use Rattle.std.specs.declared.vec.IntoIter.{IntoIter}
+use Rattle.co_base.specs.Streams.{Rose, Gave, GaveJust, IsDrained, Took, TookPart}
+use Rattle.script_grammar.specs.Programs.{Program, shape_of}
+use Rattle.script_reader.specs.Scripts.{program_of}
+use Rattle.history_text.specs.declared.input.Input.{Input}
+use Rattle.history_text.specs.declared.line.Line.{Line}
+use Rattle.history_text.specs.Readings.{HasFault, HasHistory}
+use Rattle.history_check.specs.declared.verdict.Verdict.{Verdict}
+use Rattle.history_check.specs.declared.verdict.Verdict.TheVariants as verdict
+use Rattle.history_check.specs.Verdicts.{IsVerdict}
+use Rattle.judge_run.specs.declared.outcome.Said.{Said}
+use Rattle.judge_run.specs.declared.outcome.Said.TheVariants as said
+use Rattle.judge_run.specs.declared.outcome.Outcome.{Outcome}
+use Rattle.judge_run.specs.declared.outcome.Outcome.TheVariants as outcomes
+use Rattle.judge_run.specs.declared.outcome.Message.{Message}
+use Rattle.judge_run.specs.declared.outcome.Message.TheVariants as messages
+use Rattle.judge_run.specs.declared.top.Answer.{Answer}
+use Rattle.judge_run.specs.Texts.{HasLine}
+use Rattle.judge_run.specs.Words.{is_asked}
+
+-- ---- numbers and messages
+
+-- the number with which a process ends that says this
+abbrev pub number_of_said : Said → ℕ
+number_of_said said.Legal = 0
+number_of_said (said.MayNotCome n) = 1
+number_of_said (said.NotSo n) = 1
+number_of_said (said.NotKnown n) = 4
+number_of_said (said.NoItem n) = 1
+number_of_said (said.Fault fault) = 3
+
+-- the number with which the process ends
+abbrev pub number_of : Outcome → ℕ
+number_of (outcomes.Told what) = number_of_said what
+number_of outcomes.Refused = 2
+number_of outcomes.NoHistory = 3
+number_of outcomes.TooLong = 3
+number_of outcomes.ReadFault = 5
+number_of outcomes.WriteFault = 6
+number_of outcomes.NoMemory = 7
+
+-- what standard error says
+abbrev pub message_of : Outcome → Option Message
+message_of (outcomes.Told what) = None
+message_of outcomes.Refused = Some messages.Usage
+message_of outcomes.NoHistory = Some messages.NoHistory
+message_of outcomes.TooLong = Some messages.TooLong
+message_of outcomes.ReadFault = Some messages.ReadFault
+message_of outcomes.WriteFault = Some messages.WriteFault
+message_of outcomes.NoMemory = Some messages.NoMemory
+
+-- ---- what is said
+
+abbrev pub said_of : Verdict → Said
+said_of verdict.Legal = said.Legal
+said_of (verdict.MayNotCome n) = said.MayNotCome n
+said_of (verdict.NotSo n) = said.NotSo n
+said_of (verdict.NotKnown n) = said.NotKnown n
+
+-- the bytes declare channels and have a history of them, of which the verdict is so
+pub record IsOf (v : Verdict) (input : List ℕ) : Type 0 where
+  pub program : Program
+  pub lines : List Line
+  pub has : HasHistory program (Ok lines) input
+  pub verdict : IsVerdict (shape_of program) lines v
+
+-- what is said of the bytes of an input
+abbrev pub Says : Said → List ℕ → Type 0
+Says said.Legal input = IsOf verdict.Legal input
+Says (said.MayNotCome n) input = IsOf (verdict.MayNotCome n) input
+Says (said.NotSo n) input = IsOf (verdict.NotSo n) input
+Says (said.NotKnown n) input = IsOf (verdict.NotKnown n) input
+Says (said.NoItem n) input = (program : Program) × HasHistory program (Err n) input
+Says (said.Fault fault) input = HasFault fault input
+
+-- ---- calls
+
+-- the bytes of a source or a sink, and how often it failed
+pub record Stream : Type 0 where
+  pub bytes : Option (List ℕ)
+  pub faults : ℕ
+
+abbrev pub stream : Option (List ℕ) → ℕ → Stream
+stream bytes faults = record { bytes = bytes; faults = faults }
+
+-- the source gave an input of which this is so, and the text begins with the line that says it
+pub record Answers (what : Said) (source source' : Stream) (text : List ℕ) : Type 0 where
+  pub input : List ℕ
+  pub given : Gave source.bytes source'.bytes input
+  pub drained : IsDrained source'.bytes
+  pub says : Says what input
+  pub line : HasLine what text
+
+-- the answer was written whole
+pub record Tells (asked : Bool) (what : Said) (source source' sink sink' : Stream) : Type 0 where
+  pub is_asked : asked ≡ true
+  pub text : List ℕ
+  pub answers : Answers what source source' text
+  pub taken : Took sink.bytes sink'.bytes text
+
+-- the sink failed after a part of the answer
+pub record BreaksOff (asked : Bool) (source source' sink sink' : Stream) : Type 0 where
+  pub is_asked : asked ≡ true
+  pub rose : Rose sink.faults sink'.faults
+  pub what : Said
+  pub text : List ℕ
+  pub answers : Answers what source source' text
+  pub part : TookPart text sink.bytes sink'.bytes
+
+-- why a call has nothing to write; that no memory was found, or no line `history`, says nothing
+abbrev pub Fails : Outcome → Bool → Stream → Stream → Type 0
+Fails (outcomes.Told what) asked source source' = ⊥
+Fails outcomes.Refused asked source source' = (asked ≡ false) × (source ≡ source')
+Fails outcomes.NoHistory asked source source' = asked ≡ true
+Fails outcomes.TooLong asked source source' = (asked ≡ true) × GaveJust 67108865 source.bytes source'.bytes
+Fails outcomes.ReadFault asked source source' = (asked ≡ true) × Rose source.faults source'.faults
+Fails outcomes.WriteFault asked source source' = ⊥
+Fails outcomes.NoMemory asked source source' = Unit {0}
+
+-- what a call comes to that has this text to write, or none
+abbrev pub IsMade : Result Answer Outcome → Bool → Stream → Stream → Type 0
+IsMade (Ok answer) asked source source' = (asked ≡ true) × Answers answer.said source source' answer.text.items
+IsMade (Err outcome) asked source source' = Fails outcome asked source source'
+
+-- the same of the bytes of the input
+abbrev pub IsMadeOf : List ℕ → Result Answer Outcome → Type 0
+IsMadeOf input (Ok answer) = Says answer.said input × HasLine answer.said answer.text.items
+IsMadeOf input (Err outcomes.NoHistory) = Unit {0}
+IsMadeOf input (Err outcomes.NoMemory) = Unit {0}
+IsMadeOf input (Err other) = ⊥
+
+-- the same of what is said
+abbrev pub IsToldAs : Said → Result Answer Outcome → Type 0
+IsToldAs what (Ok answer) = (answer.said ≡ what) × HasLine what answer.text.items
+IsToldAs what (Err outcomes.NoMemory) = Unit {0}
+IsToldAs what (Err other) = ⊥
+
+-- the answer is the verdict on the history of an input
+pub record IsJudgedAs (input : Input) (answer : Answer) : Type 0 where
+  pub v : Verdict
+  pub said_is : answer.said ≡ said_of v
+  pub verdict : IsVerdict (shape_of (program_of input.script)) input.lines.items v
+  pub line : HasLine answer.said answer.text.items
+
+abbrev pub IsJudged : Input → Result Answer Outcome → Type 0
+IsJudged input (Ok answer) = IsJudgedAs input answer
+IsJudged input (Err outcomes.NoMemory) = Unit {0}
+IsJudged input (Err other) = ⊥
+
+-- what each outcome says: an answer was written whole, or a part of it until a write failed, or nothing was written
+abbrev pub Means : Outcome → Bool → Stream → Stream → Stream → Stream → Type 0
+Means (outcomes.Told what) asked source source' sink sink' = Tells asked what source source' sink sink'
+Means outcomes.WriteFault asked source source' sink sink' = BreaksOff asked source source' sink sink'
+Means other asked source source' sink sink' = Fails other asked source source' × (sink ≡ sink')
+
+-- what a write of an answer came to
+abbrev pub IsWritten : Outcome → Answer → Stream → Stream → Type 0
+IsWritten (outcomes.Told what) answer sink sink' = (what ≡ answer.said) × Took sink.bytes sink'.bytes answer.text.items
+IsWritten outcomes.WriteFault answer sink sink' = Rose sink.faults sink'.faults × TookPart answer.text.items sink.bytes sink'.bytes
+IsWritten other answer sink sink' = ⊥
+
+-- the arguments that the system gives; where one is no text it gives none
+abbrev pub arguments_given : {E : Type 0} → Result (IntoIter (String Global) Global) E → Option (List (String Global))
+arguments_given (Ok arguments) = Some (into_iter_items arguments)
+arguments_given (Err error) = None
+
+abbrev pub asked_by : Option (List (String Global)) → Bool
+asked_by None = false
+asked_by (Some texts) = is_asked (map string_bytes texts)
+
+-- whether the arguments are those of a call
+abbrev pub asked_for : {E : Type 0} → Result (IntoIter (String Global) Global) E → Bool
+asked_for arguments = asked_by (arguments_given arguments)

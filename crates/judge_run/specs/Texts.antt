@@ -1,0 +1,42 @@
+-- The line of what is said.
+use Rattle.std.specs.Prelude.{◌≡◌, ℕ, List, ◌++◌}
+use Rattle.std.specs.Fmt.{decimal}
+use lib.Chars.{codes}
+use Rattle.script_grammar.specs.declared.fault.FaultKind.{FaultKind}
+use Rattle.script_grammar.specs.declared.fault.FaultKind.TheVariants.{NotAscii, UnknownWord, BadNumber, BadName, Duplicate, Undeclared, NoMain, NoEnd, Extra, TooDeep, TooMany, Recursive, Memory}
+use Rattle.script_grammar.specs.declared.fault.ScriptFault.{ScriptFault}
+use Rattle.judge_run.specs.declared.outcome.Said.{Said}
+use Rattle.judge_run.specs.declared.outcome.Said.TheVariants as said
+
+abbrev pub kind_text : FaultKind → List ℕ
+kind_text NotAscii = codes "NotAscii"
+kind_text UnknownWord = codes "UnknownWord"
+kind_text BadNumber = codes "BadNumber"
+kind_text BadName = codes "BadName"
+kind_text Duplicate = codes "Duplicate"
+kind_text Undeclared = codes "Undeclared"
+kind_text NoMain = codes "NoMain"
+kind_text NoEnd = codes "NoEnd"
+kind_text Extra = codes "Extra"
+kind_text TooDeep = codes "TooDeep"
+kind_text TooMany = codes "TooMany"
+kind_text Recursive = codes "Recursive"
+kind_text Memory = codes "Memory"
+
+-- the number of the faulty line, and what is wrong with it
+abbrev pub fault_text : ScriptFault → List ℕ
+fault_text fault = codes "line " ++ decimal fault.line ++ codes ": " ++ kind_text fault.kind ++ codes "\n"
+
+-- the line, with its line feed
+abbrev pub said_text : Said → List ℕ
+said_text said.Legal = codes "legal\n"
+said_text (said.MayNotCome n) = codes "line " ++ decimal n ++ codes ": may not come\n"
+said_text (said.NotSo n) = codes "line " ++ decimal n ++ codes ": not so\n"
+said_text (said.NotKnown n) = codes "line " ++ decimal n ++ codes ": not known\n"
+said_text (said.NoItem n) = codes "line " ++ decimal n ++ codes ": no item\n"
+said_text (said.Fault fault) = fault_text fault
+
+-- the text begins with the line of what is said; of the rest nothing is promised
+pub record HasLine (said : Said) (text : List ℕ) : Type 0 where
+  pub hint : List ℕ
+  pub text_is : text ≡ said_text said ++ hint

@@ -1,0 +1,129 @@
+//! The lines that are written.
+
+ghost use Rattle.std.specs.Prelude.{◌≡◌, ◌++◌, IfOk, Some, string_bytes};
+ghost use Rattle.judge_run.specs.Texts.{HasLine, fault_text, kind_text, said_text};
+
+use crate::outcome::Said;
+use co_base::Memory;
+use history_check::Stood;
+use history_text::{FaultKind, Input, ScriptFault};
+use std::alloc::{AllocError, Global};
+use std::fmt;
+
+/// A kind of fault, as it is printed.
+#[derive(Clone, Copy)]
+struct ShownKind {
+    kind: FaultKind,
+}
+
+impl fmt::Display for ShownKind {
+    ghost output = { λ s. Some (kind_text s.kind) };
+
+    fn fmt<W: fmt::Write>(&self, f: &mut fmt::Formatter<W>) -> fmt::Result {
+        match self.kind {
+            FaultKind::NotAscii => write!(f, "NotAscii"),
+            FaultKind::UnknownWord => write!(f, "UnknownWord"),
+            FaultKind::BadNumber => write!(f, "BadNumber"),
+            FaultKind::BadName => write!(f, "BadName"),
+            FaultKind::Duplicate => write!(f, "Duplicate"),
+            FaultKind::Undeclared => write!(f, "Undeclared"),
+            FaultKind::NoMain => write!(f, "NoMain"),
+            FaultKind::NoEnd => write!(f, "NoEnd"),
+            FaultKind::Extra => write!(f, "Extra"),
+            FaultKind::TooDeep => write!(f, "TooDeep"),
+            FaultKind::TooMany => write!(f, "TooMany"),
+            FaultKind::Recursive => write!(f, "Recursive"),
+            FaultKind::Memory => write!(f, "Memory"),
+        }
+    }
+}
+
+/// The line of a fault.
+fn fault_line(alloc: Global, fault: ScriptFault) -> Result<String, AllocError>
+    ensures { IfOk result (λ line. string_bytes line ≡ fault_text fault) }
+{
+    let line = fault.line;
+    let kind = ShownKind { kind: fault.kind };
+    let text = format!(in alloc; "line {line}: {kind}\n")?;
+    Ok(text)
+}
+
+/// The line of what is said.
+fn line_of(alloc: Global, said: Said) -> Result<String, AllocError>
+    ensures { IfOk result (λ line. string_bytes line ≡ said_text said) }
+{
+    match said {
+        Said::Legal => format!(in alloc; "legal\n"),
+        Said::MayNotCome(line) => format!(in alloc; "line {line}: may not come\n"),
+        Said::NotSo(line) => format!(in alloc; "line {line}: not so\n"),
+        Said::NotKnown(line) => format!(in alloc; "line {line}: not known\n"),
+        Said::NoItem(line) => format!(in alloc; "line {line}: no item\n"),
+        Said::Fault(fault) => fault_line(alloc, fault),
+    }
+}
+
+/// The text of what is said: its line, and then, without any promise, what stood at the channel of the line at fault.
+pub(crate) fn text_of(
+    alloc: Global,
+    said: Said,
+    input: Option<&Input>,
+    stood: Option<Stood>,
+) -> Result<Vec<u8>, Memory>
+    ensures { IfOk result (λ text. HasLine said text.items) }
+{
+    let line = line_of(alloc, said)?;
+    let hint = hint_if_any(alloc, input, stood)?;
+    let text = appended(line, &hint)?;
+    Ok(text)
+}
+
+/// A line, and then a hint.
+fn appended(line: String, hint: &Vec<u8>) -> Result<Vec<u8>, AllocError>
+    ensures { IfOk result (λ text. text.items ≡ string_bytes line ++ hint.now.items) }
+{
+    let mut text = line.into_bytes();
+    text.extend_from_slice(hint.as_slice())?;
+    Ok(text)
+}
+
+fn hint_if_any(
+    alloc: Global,
+    input: Option<&Input>,
+    stood: Option<Stood>,
+) -> Result<Vec<u8>, AllocError> {
+    match (input, stood) {
+        (Some(input), Some(stood)) => hint_of(alloc, input, stood),
+        _ => Ok(Vec::new(alloc)),
+    }
+}
+
+/// What stood at a channel, in words.
+fn hint_of(alloc: Global, input: &Input, stood: Stood) -> Result<Vec<u8>, AllocError> {
+    let mut text = Vec::new(alloc);
+    let channels = input.script.channels();
+    if channels.len() <= stood.c as usize {
+        return Ok(text);
+    }
+    let name = channels[stood.c as usize].name.as_str();
+    let next = stood.at.next;
+    let queued = stood.at.queued;
+    let first = format!(in alloc; "{name}: place {next} is next, {queued} queued")?;
+    text.extend_from_slice(first.as_bytes())?;
+    if let Some(offer) = stood.at.first_offer {
+        let value = offer.value;
+        let place = offer.place;
+        let part = format!(in alloc; ", first {value} at place {place}")?;
+        text.extend_from_slice(part.as_bytes())?;
+    }
+    if let Some(receiver) = stood.at.first_receiver {
+        let place = receiver.place;
+        let part = format!(in alloc; ", a receiver waits at place {place}")?;
+        text.extend_from_slice(part.as_bytes())?;
+    }
+    if let Some(value) = stood.at.closed {
+        let part = format!(in alloc; ", closed with {value}")?;
+        text.extend_from_slice(part.as_bytes())?;
+    }
+    text.extend_from_slice(b"\n")?;
+    Ok(text)
+}
