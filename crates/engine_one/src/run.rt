@@ -8,7 +8,7 @@ ghost use Rattle.engine_one.specs.Progress.{LeftWhere, RoundIsCalm, TurnsFall};
 
 use crate::start::start;
 use crate::state::Run;
-use co_base::{Gate, Memory};
+use co_base::{Gate, Memory, Tag};
 use engine_base::done_of;
 use one_thread_floor::{ListFloor, TreeFloor};
 use poll_states::{Book, Done};
@@ -43,6 +43,27 @@ pub fn run_one<B: Book, G: Gate>(
     run_left(alloc, script, run)
 }
 
+/// Runs the script with polls of these coroutines first, in this order, and then, as `run_one`, until no coroutine can go on.
+///
+/// A tag may stand in the order any number of times, whether or not its coroutine can go on; one past the last coroutine is passed over.
+///
+/// The books are those of a run with these two histories, which came to rest; nobody can go on. Both histories have one order: that of
+/// the polls.
+pub fn run_in_order<B: Book, G: Gate>(
+    alloc: Global,
+    script: &Script,
+    gate: &G,
+    order: &[Tag],
+) -> Result<ListRun<B>, Memory>
+    ensures run { IfOk result (λ run. CameToRest B.items (program_of script.now) run) }
+    ensures idle { IfOk result (λ run. TellsIdle run) }
+{
+    let mut run = start(alloc, script)?;
+    run.poll_in_order(script, gate, order)?;
+    run.run_out(script, gate)?;
+    run_left(alloc, script, run)
+}
+
 /// What a run leaves that is over.
 pub(crate) fn run_left<B: Book>(
     alloc: Global,
@@ -69,6 +90,24 @@ pub(crate) fn run_left<B: Book>(
 }
 
 impl<B: Book> Run<ListFloor, TreeFloor, B> {
+    /// Polls these coroutines, in this order.
+    pub(crate) fn poll_in_order<G: Gate>(
+        &mut self,
+        script: &Script,
+        gate: &G,
+        order: &[Tag],
+    ) -> Result<(), Memory>
+        requires { RunStands (program_of script.now) (list_moment self.old) }
+        ensures { OnOk result (RunStands (program_of script.now) (list_moment self.new)) }
+    {
+        for tag in order {
+            if (*tag as usize) < self.frames.len() {
+                let _moved = self.turn(script, gate, *tag)?;
+            }
+        }
+        Ok(())
+    }
+
     /// Turns, until the run is over.
     pub(crate) fn run_out<G: Gate>(&mut self, script: &Script, gate: &G) -> Result<(), Memory>
         requires { RunStands (program_of script.now) (list_moment self.old) }

@@ -67,6 +67,11 @@ abbrev pub report_of : List Declared → ℕ → List (List Item) → List ℕ
 report_of channels jobs books =
     books_text channels 0 books ++ jobs_text jobs (job_acts_noted books) ++ elements_text (element_of (channel_acts_noted books)) 0 channels
 
+-- its lines behind those of the books
+abbrev pub ends_text : Program → List (List Item) → List ℕ
+ends_text program books =
+    jobs_text (job_count program) (job_acts_noted books) ++ elements_text (element_of (channel_acts_noted books)) 0 program.channels
+
 -- the report of a run of this program with these books
 abbrev pub report_text : Program → List (List Item) → List ℕ
 report_text program books = report_of program.channels (job_count program) books

@@ -37,5 +37,5 @@ mod text;
 mod totals;
 
 pub use fault::fault_line;
-pub use text::{report, report_of};
+pub use text::{ends_of, report, report_of};
 pub use totals::{push_result, summary};

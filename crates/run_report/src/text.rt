@@ -4,7 +4,7 @@ ghost use Rattle.std.specs.Prelude.{◌≡◌, ◌<◌, length, map, IfOk, strin
 ghost use Rattle.note_book.specs.Books.{notes_of};
 ghost use Rattle.script_reader.specs.Scripts.{program_of};
 ghost use Rattle.script_reader.specs.Programs.{declared_of};
-ghost use Rattle.run_report.specs.Elements.{report_of, report_text, elements_text, element_of, channel_acts_noted};
+ghost use Rattle.run_report.specs.Elements.{report_of, report_text, ends_text, elements_text, element_of, channel_acts_noted};
 
 use crate::books::push_books;
 use crate::elements::push_elements;
@@ -45,6 +45,17 @@ pub fn report_of(
     let mut out = String::with_capacity(alloc, about_len(books))?;
     push_books(&mut out, channels, books)?;
     push_jobs(alloc, &mut out, jobs, books)?;
+    out.push_str(elements.as_str())?;
+    Ok(out)
+}
+
+/// The end of the report of a run with these books: a line for each Job, and a line for each element that was not received.
+pub fn ends_of(alloc: Global, script: &Script, books: &[Notes]) -> Result<String, Memory>
+    ensures { IfOk result (λ text. string_bytes text ≡ ends_text (program_of script.now) (map notes_of books.now)) }
+{
+    let elements = elements_of(alloc, script.channels(), books)?;
+    let mut out = String::new(alloc);
+    push_jobs(alloc, &mut out, script.jobs(), books)?;
     out.push_str(elements.as_str())?;
     Ok(out)
 }

@@ -1,0 +1,6 @@
+use Rattle.script_reader.specs.Scripts.{program_of}
+use Rattle.end_search.specs.Blocks.{Blocks}
+use Rattle.end_search.proofs.answers.push_blocks.Given as goal
+
+abbrev pub invariant-loop-way : goal.invariant-loop-way
+invariant-loop-way g l = Blocks (program_of l.script) l.count l.out.items

@@ -1,0 +1,144 @@
+-- What each outcome of a call says of what was read and of what was written.
+use Rattle.std.specs.Prelude.{◌≡◌, ℕ, ◌≤◌, List, length, Option, Some, None, Result, Ok, Err, String, map}
+use Rattle.std.specs.Global.{Global}
+use Rattle.std.specs.Vec.Iter.{into_iter_items}
+use Rattle.std.specs.declared.vec.IntoIter.{IntoIter}
+use Rattle.co_base.specs.Streams.{Rose, Gave, GaveJust, IsDrained, Took, TookPart}
+use Rattle.job_model.specs.declared.acts.End.{End}
+use Rattle.job_model.specs.declared.acts.End.TheVariants as ends
+use Rattle.script_grammar.specs.Programs.{Program}
+use Rattle.script_grammar.specs.Grammar.{Spells}
+use Rattle.run_claims.specs.Runs.{HasOneOrder}
+use Rattle.run_claims.specs.Reports.{Reports}
+use Rattle.end_search.specs.Blocks.{Explores}
+use Rattle.end_search.specs.declared.ways.Verdict.{Verdict}
+use Rattle.end_search.specs.declared.ways.Verdict.TheVariants as verdict
+use Rattle.run_explore.specs.declared.top.Answer.{Answer}
+use Rattle.run_explore.specs.declared.outcome.Ending.{Ending}
+use Rattle.run_explore.specs.declared.outcome.Ending.TheVariants as ending
+use Rattle.run_explore.specs.declared.outcome.Outcome.{Outcome}
+use Rattle.run_explore.specs.declared.outcome.Outcome.TheVariants as outcomes
+use Rattle.run_explore.specs.declared.outcome.Message.{Message}
+use Rattle.run_explore.specs.declared.outcome.Message.TheVariants as messages
+
+-- ---- numbers and messages
+
+-- the number with which a search ends
+abbrev pub number_of_search : Verdict → ℕ
+number_of_search verdict.Exhausted = 0
+number_of_search verdict.Found = 1
+number_of_search verdict.Cut = 4
+
+-- the number with which the report of a run ends, as that of the run itself
+abbrev pub number_of_run : Option End → ℕ
+number_of_run None = 4
+number_of_run (Some (ends.Completed v)) = 0
+number_of_run (Some (ends.Cancelled cause)) = 1
+
+-- the number with which the process ends
+abbrev pub number_of : Outcome → ℕ
+number_of (outcomes.Written (ending.Searched verdict)) = number_of_search verdict
+number_of (outcomes.Written (ending.Ran root)) = number_of_run root
+number_of (outcomes.Written ending.NoScript) = 3
+number_of outcomes.Refused = 2
+number_of outcomes.NoEnd = 2
+number_of outcomes.ReadFault = 5
+number_of outcomes.WriteFault = 6
+number_of outcomes.NoMemory = 7
+
+-- what standard error says
+abbrev pub message_of : Outcome → Option Message
+message_of (outcomes.Written how) = None
+message_of outcomes.Refused = Some messages.Usage
+message_of outcomes.NoEnd = Some messages.NoEnd
+message_of outcomes.ReadFault = Some messages.ReadFault
+message_of outcomes.WriteFault = Some messages.WriteFault
+message_of outcomes.NoMemory = Some messages.NoMemory
+
+-- ---- what a text says of the input
+
+-- the input is a script, and the text shows ends of runs of it
+pub record ShowsEnds (input text : List ℕ) : Type 0 where
+  pub program : Program
+  pub spelled : Spells input program
+  pub explores : Explores program text
+
+-- the input is a script, and the text the report of a run of it, whose root ended so, if it has; both its histories have one order
+pub record ShowsRun (root : Option End) (input text : List ℕ) : Type 0 where
+  pub reports : Reports root input text
+  pub one_order : HasOneOrder reports.run
+
+-- what the text of a call that ends so says of its input
+abbrev pub Tells : Ending → List ℕ → List ℕ → Type 0
+Tells (ending.Searched verdict) input text = ShowsEnds input text
+Tells (ending.Ran root) input text = ShowsRun root input text
+Tells ending.NoScript input text = (p : Program) → Spells input p → ⊥
+
+-- ---- what an outcome says of the call
+
+-- the bytes of a source or a sink, and how often it failed
+pub record Stream : Type 0 where
+  pub bytes : Option (List ℕ)
+  pub faults : ℕ
+
+abbrev pub stream : Option (List ℕ) → ℕ → Stream
+stream bytes faults = record { bytes = bytes; faults = faults }
+
+-- the source gave an input, all that it had unless that is too long for a script, and the text tells of it
+pub record Answers (how : Ending) (source source' : Stream) (text : List ℕ) : Type 0 where
+  pub input : List ℕ
+  pub given : Gave source.bytes source'.bytes input
+  pub all : length input ≤ 1048576 → IsDrained source'.bytes
+  pub tells : Tells how input text
+
+-- the text was written whole
+pub record Writes (how : Ending) (source source' sink sink' : Stream) : Type 0 where
+  pub text : List ℕ
+  pub answers : Answers how source source' text
+  pub taken : Took sink.bytes sink'.bytes text
+
+-- the sink failed after a part of the text
+pub record BreaksOff (source source' sink sink' : Stream) : Type 0 where
+  pub rose : Rose sink.faults sink'.faults
+  pub how : Ending
+  pub text : List ℕ
+  pub answers : Answers how source source' text
+  pub part : TookPart text sink.bytes sink'.bytes
+
+-- why a call has no text to write; that no memory was found, or that no end has the number, says nothing
+abbrev pub Fails : Outcome → Stream → Stream → Type 0
+Fails (outcomes.Written how) source source' = ⊥
+Fails outcomes.Refused source source' = source ≡ source'
+Fails outcomes.NoEnd source source' = Unit {0}
+Fails outcomes.ReadFault source source' = Rose source.faults source'.faults
+Fails outcomes.WriteFault source source' = ⊥
+Fails outcomes.NoMemory source source' = Unit {0}
+
+-- what each outcome says: a text was written whole, or a part of it until a write failed, or nothing was written
+abbrev pub Means : Outcome → Stream → Stream → Stream → Stream → Type 0
+Means (outcomes.Written how) source source' sink sink' = Writes how source source' sink sink'
+Means outcomes.WriteFault source source' sink sink' = BreaksOff source source' sink sink'
+Means other source source' sink sink' = Fails other source source' × (sink ≡ sink')
+
+-- what a call comes to that has this text to write, or none
+abbrev pub IsMade : Result Answer Outcome → Stream → Stream → Type 0
+IsMade (Ok answer) source source' = Answers answer.ending source source' answer.text.items
+IsMade (Err outcome) source source' = Fails outcome source source'
+
+-- the same of the bytes of the input
+abbrev pub IsMadeOf : List ℕ → Result Answer Outcome → Type 0
+IsMadeOf input (Ok answer) = Tells answer.ending input answer.text.items
+IsMadeOf input (Err outcomes.NoEnd) = Unit {0}
+IsMadeOf input (Err outcomes.NoMemory) = Unit {0}
+IsMadeOf input (Err other) = ⊥
+
+-- what a write of an answer came to
+abbrev pub IsWritten : Outcome → Answer → Stream → Stream → Type 0
+IsWritten (outcomes.Written how) answer sink sink' = (how ≡ answer.ending) × Took sink.bytes sink'.bytes answer.text.items
+IsWritten outcomes.WriteFault answer sink sink' = Rose sink.faults sink'.faults × TookPart answer.text.items sink.bytes sink'.bytes
+IsWritten other answer sink sink' = ⊥
+
+-- the arguments that the system gives; where one is no text it gives none
+abbrev pub arguments_given : {E : Type 0} → Result (IntoIter (String Global) Global) E → Option (List (String Global))
+arguments_given (Ok arguments) = Some (into_iter_items arguments)
+arguments_given (Err error) = None
