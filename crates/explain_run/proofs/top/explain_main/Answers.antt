@@ -1,0 +1,8 @@
+use Rattle.explain_run.proofs.Meaning.{fails_means, written_means}
+use Rattle.explain_run.proofs.top.explain_main.Goals as goal
+
+pub returns-in-Ok : goal.returns-in-Ok
+returns-in-Ok g c = written_means c.written.result _ _ _ _ _ c.in-Ok.text.items c.in-Ok.ensures c.written.ensures
+
+pub returns-in-Err : goal.returns-in-Err
+returns-in-Err g c = fails_means c.in-Err.outcome _ _ _ _ c.in-Err.ensures

@@ -1,0 +1,31 @@
+//! The program: a script, a line `report` and a report from standard input, what the report comes to in words on standard output.
+//!
+//! - `words`: which words are accepted.
+//! - `outcome`: what a call comes to.
+//! - `top`: the whole call over any source and sink.
+//! - `process`: the whole process, of which `main` is one call: from the arguments that the system gives to its code.
+#![tactic(auto)]
+
+mod outcome;
+mod process;
+#[cfg(test)]
+mod rows;
+#[cfg(test)]
+mod tests;
+mod top;
+mod words;
+
+use co_base::{StdSink, StdSource};
+use process::process;
+use std::env;
+use std::process::ExitCode;
+
+fn main(rt: HostRuntime) -> ExitCode {
+    let mut source = StdSource::new(rt.stdin());
+    let mut sink = StdSink::new(rt.stdout());
+    let left = process(rt.alloc(), env::args(&rt), &mut source, &mut sink);
+    if let Some(message) = left.message {
+        let _ = eprintln!(rt; "{message}");
+    }
+    left.code
+}

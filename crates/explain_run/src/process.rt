@@ -1,0 +1,75 @@
+//! The whole process, over any source and sink: from the arguments that the system gives to the code that the process ends with.
+
+ghost use Rattle.std.specs.Prelude.{◌≡◌, IfOk, option_map};
+ghost use Rattle.std.specs.Process.{exit_status};
+ghost use Rattle.std.specs.Vec.Iter.{into_iter_items};
+ghost use Rattle.explain_run.specs.Outcomes.{Means, arguments_given, asked_for, message_of, number_of, stream};
+ghost use Rattle.explain_run.specs.declared.outcome.Outcome.{Outcome as Comes};
+
+use crate::outcome::{Message, Outcome, exit_code};
+use crate::top::explain_main;
+use co_base::{Memory, Sink, Source};
+use std::alloc::Global;
+use std::env::Args;
+use std::io;
+use std::process::ExitCode;
+
+/// What a process leaves: its code, and what standard error is to say.
+#[derive(Drop)]
+pub struct Left {
+    pub code: ExitCode,
+    pub message: Option<Message>,
+}
+
+/// Does what the arguments ask for, as `explain_main`, and answers what the process leaves. An argument that is no text is none that
+/// is accepted.
+pub fn process<S: Source, K: Sink>(
+    alloc: Global,
+    arguments: io::Result<Args>,
+    source: &mut S,
+    sink: &mut K,
+) -> Left
+    ensures { (outcome : Comes) × (exit_status result.code ≡ number_of outcome) × (result.message ≡ message_of outcome)
+        × Means outcome (asked_for arguments) (stream (S.left source.old) (S.faults source.old))
+        (stream (S.left source.new) (S.faults source.new)) (stream (K.held sink.old) (K.faults sink.old))
+        (stream (K.held sink.new) (K.faults sink.new)) }
+{
+    match texts_of(alloc, arguments) {
+        Ok(Some(texts)) => leaving(explain_main(alloc, texts.as_slice(), source, sink)),
+        Ok(None) => leaving(Outcome::Refused),
+        Err(_) => leaving(Outcome::NoMemory),
+    }
+}
+
+/// What a process leaves that comes to this.
+fn leaving(outcome: Outcome) -> Left
+    ensures code { exit_status result.code ≡ number_of outcome }
+    ensures message { result.message ≡ message_of outcome }
+{
+    Left {
+        code: exit_code(outcome.number()),
+        message: outcome.message(),
+    }
+}
+
+/// The arguments, if each is a text.
+fn texts_of(alloc: Global, arguments: io::Result<Args>) -> Result<Option<Vec<String>>, Memory>
+    ensures { IfOk result (λ texts. option_map (λ all. all.items) texts ≡ arguments_given arguments) }
+{
+    match arguments {
+        Ok(given) => Ok(Some(all_of(alloc, given)?)),
+        Err(error) if error.kind() == io::ErrorKind::OutOfMemory => Err(Memory),
+        Err(_) => Ok(None),
+    }
+}
+
+/// All arguments, in their order.
+fn all_of(alloc: Global, arguments: Args) -> Result<Vec<String>, Memory>
+    ensures { IfOk result (λ all. all.items ≡ into_iter_items arguments) }
+{
+    let mut all = Vec::new(alloc);
+    for text in arguments {
+        all.push(text)?;
+    }
+    Ok(all)
+}

@@ -1,0 +1,43 @@
+-- The loop over the lines of a text.
+use Rattle.std.proofs.Common.{◌≡◌, ℕ, ◌+◌, ◌==◌, List, [], ◌∷◌, refl, ap, sym, ◌∙◌, Option, Some, None, Bool, true, false, true≢false, if◌then◌else◌}
+use Rattle.std.specs.List.{slice_split}
+use denote.Ref.{Bor}
+use Rattle.script_grammar.specs.Programs.{Program}
+use Rattle.report_reader.specs.Words.{parts}
+use Rattle.run_explanation.specs.Fitting.{fits, misfit_from}
+
+lines_cons : (p : Program) (n : ℕ) (good : Bool) (line : List ℕ) (more : List (List ℕ)) → good ≡ fits p line
+    → misfit_from p n (line ∷ more) ≡ (if good then misfit_from p (n + 1) more else Some n)
+unfolding misfit_from
+lines_cons p n good line more is = ap (λ (g : Bool). if g then misfit_from p (n + 1) more else Some n) (sym is)
+
+nothing_left : (p : Program) (n : ℕ) → misfit_from p n [] ≡ None
+unfolding misfit_from
+nothing_left p n = refl
+
+misfits : (p : Program) (n : ℕ) (rest line : List ℕ) (more : Option (Bor (List ℕ))) (all : Option ℕ)
+    → misfit_from p n (slice_split (λ b. b == 10) rest) ≡ all → parts 10 line more ≡ slice_split (λ b. b == 10) rest
+    → false ≡ fits p line → Some n ≡ all
+misfits p n rest line None all inv is bad = sym (lines_cons p n false line [] bad) ∙ ap (misfit_from p n) is ∙ inv
+misfits p n rest line (Some next) all inv is bad =
+    sym (lines_cons p n false line (slice_split (λ b. b == 10) next.now) bad) ∙ ap (misfit_from p n) is ∙ inv
+
+pub lines_misfit : (good : Bool) (p : Program) (n : ℕ) (rest line : List ℕ) (more : Option (Bor (List ℕ))) (all : Option ℕ)
+    → misfit_from p n (slice_split (λ b. b == 10) rest) ≡ all → parts 10 line more ≡ slice_split (λ b. b == 10) rest
+    → good ≡ fits p line → good ≡ false → Some n ≡ all
+lines_misfit true p n rest line more all inv is fit bad = absurd (true≢false bad)
+lines_misfit false p n rest line more all inv is fit bad = misfits p n rest line more all inv is fit
+
+pub lines_end : (good : Bool) (p : Program) (n : ℕ) (rest line : List ℕ) (all : Option ℕ)
+    → misfit_from p n (slice_split (λ b. b == 10) rest) ≡ all → parts 10 line None ≡ slice_split (λ b. b == 10) rest
+    → good ≡ fits p line → good ≡ true → None ≡ all
+lines_end false p n rest line all inv is fit ok = absurd (true≢false (sym ok))
+lines_end true p n rest line all inv is fit ok =
+    sym (lines_cons p n true line [] fit ∙ nothing_left p (n + 1)) ∙ ap (misfit_from p n) is ∙ inv
+
+pub lines_more : (good : Bool) (p : Program) (n : ℕ) (rest line : List ℕ) (next : Bor (List ℕ)) (all : Option ℕ)
+    → misfit_from p n (slice_split (λ b. b == 10) rest) ≡ all → parts 10 line (Some next) ≡ slice_split (λ b. b == 10) rest
+    → good ≡ fits p line → good ≡ true → misfit_from p (n + 1) (slice_split (λ b. b == 10) next.now) ≡ all
+lines_more false p n rest line next all inv is fit ok = absurd (true≢false (sym ok))
+lines_more true p n rest line next all inv is fit ok =
+    sym (lines_cons p n true line (slice_split (λ b. b == 10) next.now) fit) ∙ ap (misfit_from p n) is ∙ inv

@@ -1,0 +1,4 @@
+pub mod Parts
+pub mod Fitting
+pub mod Waiting
+pub mod Answers

@@ -1,0 +1,177 @@
+//! What a report of a script comes to, in words.
+
+ghost use Rattle.std.specs.Prelude.{◌≡◌, ◌≤◌, ◌++◌, IfOk, OnOk, length};
+ghost use Rattle.script_reader.specs.Scripts.{program_of};
+ghost use Rattle.report_reader.specs.Reading.{told_lines};
+ghost use Rattle.run_explanation.specs.Answers.{Blames, Explains, Gives, GivesFor, calm_text, headed, left_open, texts_from};
+ghost use Rattle.run_explanation.specs.Waiting.{waiting};
+
+use crate::classes::{Class, texts_of};
+use crate::entries::{Entry, push_entries, push_lines, push_waits};
+use crate::fits::lines_for;
+use crate::parts::parts_of;
+use crate::story::{Story, story_of};
+use crate::waiting::waiting;
+use report_reader::{Line, NoReport};
+use script_grammar::{FaultKind, ScriptFault};
+use script_reader::{Script, read};
+use std::alloc::{AllocError, Global};
+
+/// Why an input gets no explanation.
+#[derive(Clone, Copy)]
+pub enum Unexplained {
+    /// The text before the line `report` is no script: its first line at fault.
+    NoScript(ScriptFault),
+    /// What stands behind it is no report of this script: the number of its first line that cannot be one.
+    NoReport(u32),
+    /// No memory was found.
+    Memory,
+}
+
+/// Adds the entries of the lines of this class.
+fn push_class<'a>(
+    alloc: Global,
+    entries: &mut Vec<Entry>,
+    script: &Script,
+    story: &Story<'a>,
+    waits: &[u32],
+    class: Class,
+    lines: &[Line<'a>],
+) -> Result<(), AllocError>
+    ensures { OnOk result (headed entries.new.items
+        ≡ headed entries.old.items ++ texts_from (program_of script.now) waits.now class (told_lines lines.now)) }
+{
+    let found = texts_of(alloc, script, waits, class, lines)?;
+    push_lines(alloc, entries, story, found.as_slice())?;
+    Ok(())
+}
+
+/// The entries of what did not come to its end.
+fn left_open<'a>(
+    alloc: Global,
+    script: &Script,
+    story: &Story<'a>,
+    waits: &[u32],
+    lines: &[Line<'a>],
+) -> Result<Vec<Entry>, AllocError>
+    requires { waits.now ≡ waiting (told_lines lines.now) }
+    ensures { IfOk result (λ entries. headed entries.items ≡ left_open (program_of script.now) (told_lines lines.now)) }
+{
+    let mut entries = Vec::new(alloc);
+    push_waits(alloc, &mut entries, script, story, waits)?;
+    push_class(
+        alloc,
+        &mut entries,
+        script,
+        story,
+        waits,
+        Class::Unfinished,
+        lines,
+    )?;
+    push_class(
+        alloc,
+        &mut entries,
+        script,
+        story,
+        waits,
+        Class::Lost,
+        lines,
+    )?;
+    Ok(entries)
+}
+
+/// The line of a run of which nothing is left open; nothing else.
+fn calm_text(alloc: Global, entries: &[Entry]) -> Result<Vec<u8>, AllocError>
+    ensures { IfOk result (λ text. text.items ≡ calm_text (headed entries.now)) }
+{
+    match entries {
+        [] => Vec::from_slice(
+            alloc,
+            b"all coroutines ended, and every element was received\n",
+        ),
+        [_, ..] => Ok(Vec::new(alloc)),
+    }
+}
+
+/// The explanation of a report with these lines.
+fn explained<'a>(
+    alloc: Global,
+    script: &Script,
+    story: &Story<'a>,
+    waits: &[u32],
+    lines: &[Line<'a>],
+) -> Result<Vec<u8>, AllocError>
+    requires { waits.now ≡ waiting (told_lines lines.now) }
+    ensures { IfOk result (λ text. Explains (program_of script.now) (told_lines lines.now) text.items) }
+{
+    let mut entries = left_open(alloc, script, story, waits, lines)?;
+    let mut text = calm_text(alloc, entries.as_slice())?;
+    push_class(
+        alloc,
+        &mut entries,
+        script,
+        story,
+        waits,
+        Class::Failed,
+        lines,
+    )?;
+    push_entries(&mut text, entries.as_slice())?;
+    Ok(text)
+}
+
+/// The explanation of a report of a script that was read.
+fn explain_report(
+    alloc: Global,
+    script: &Script,
+    source: &[u8],
+    report: &[u8],
+) -> Result<Vec<u8>, Unexplained>
+    requires { length report.now ≤ 1048576 }
+    ensures { GivesFor (program_of script.now) report.now result }
+{
+    match lines_for(alloc, script, report) {
+        Ok(lines) => match told(alloc, script, source, lines.as_slice()) {
+            Ok(text) => Ok(text),
+            Err(_) => Err(Unexplained::Memory),
+        },
+        Err(NoReport::AtLine(line)) => Err(Unexplained::NoReport(line)),
+        Err(NoReport::Memory) => Err(Unexplained::Memory),
+    }
+}
+
+/// The explanation of a report with these lines of a script with this text.
+fn told(
+    alloc: Global,
+    script: &Script,
+    source: &[u8],
+    lines: &[Line],
+) -> Result<Vec<u8>, AllocError>
+    ensures { IfOk result (λ text. Explains (program_of script.now) (told_lines lines.now) text.items) }
+{
+    let story = story_of(alloc, script, source, lines)?;
+    let waits = waiting(alloc, lines)?;
+    let text = explained(alloc, script, &story, waits.as_slice(), lines)?;
+    Ok(text)
+}
+
+/// What a fault of the script is told as.
+fn blamed(fault: ScriptFault) -> Unexplained
+    ensures { Blames fault result }
+{
+    match fault.kind {
+        FaultKind::Memory => Unexplained::Memory,
+        _ => Unexplained::NoScript(fault),
+    }
+}
+
+/// Says in words what a report of a script comes to: the input is the script, a line `report`, and the report.
+pub fn explain(alloc: Global, input: &[u8]) -> Result<Vec<u8>, Unexplained>
+    requires { length input.now ≤ 1048576 }
+    ensures { Gives input.now result }
+{
+    let parts = parts_of(input);
+    match read(alloc, parts.script) {
+        Ok(script) => explain_report(alloc, &script, parts.script, parts.report),
+        Err(fault) => Err(blamed(fault)),
+    }
+}

@@ -1,0 +1,27 @@
+//! Runs in words: of a script and the report of a run of it, who waits for what, and what became of which element.
+//!
+//! - `parts`: where the script ends and the report begins.
+//! - `fits`: which lines can be those of a report of the script.
+//! - `marks`, `waiting`: which coroutines are left waiting.
+//! - `classes`: Jobs that failed or have not ended, and elements that were not received.
+//! - `notes`, `source`, `walk`, `story`, `partners`, `hints`: what an entry says behind its heading, of which nothing is promised.
+//! - `entries`: the entries of an explanation, and its text.
+//! - `answer`: the explanation of an input.
+#![tactic(auto)]
+
+mod answer;
+mod classes;
+mod entries;
+mod fits;
+mod hints;
+mod marks;
+mod notes;
+mod partners;
+mod parts;
+mod source;
+mod story;
+mod waiting;
+mod walk;
+
+pub use answer::{Unexplained, explain};
+pub use script_grammar::{FaultKind, ScriptFault};
